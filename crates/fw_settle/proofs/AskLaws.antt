@@ -1,0 +1,322 @@
+-- What eager nodes ask as they grow.
+use Rattle.std.proofs.Common.{◌≡◌, ℕ, zero, suc, ◌+◌, ◌-◌, ◌<◌, ◌≤◌, Bool, true, false, cond, not, ◌&&◌, ◌||◌, List, [], ◌∷◌, ◌++◌, map, filter, get_or, length, refl, sym, ap, subst, ◌∙◌, inl, inr, arith}
+use Rattle.std.specs.Prelude.{Option, Some, None, option_map, Result, Ok, Err, OnOk}
+use Rattle.std.specs.FinMap as map_of
+use Rattle.std.specs.List.{Contains, range_with_len}
+use Rattle.std.proofs.lemmas.Bool.{and_parts, cases_Bool}
+use Rattle.std.proofs.lemmas.Iterator.Adapters.{option_map_id}
+use Rattle.std.proofs.lemmas.List.{append-nil, append_assoc, map-append}
+use Rattle.std.proofs.lemmas.List.Elements.{Contains-append_left, filter-append}
+use Rattle.std.proofs.lemmas.List.FromFn.{map-range_with_len_more}
+use Rattle.fw_time.proofs.EachLaws.{each-append}
+use Rattle.fw_frontier.specs.Frontier.{Within, join}
+use Rattle.fw_frontier.specs.Front.{Front, frontier_of, same_front, IsFrontOf}
+use Rattle.fw_frontier.proofs.NamesLaws.{names-same}
+use Rattle.fw_flow.specs.declared.choice.Stamps.{Stamps}
+use Rattle.fw_flow.specs.declared.kind.Policy.{Policy}
+use Rattle.fw_flow.specs.declared.kind.Policy.TheVariants as policy
+use Rattle.fw_flow.specs.Dataflow.{System, policy_of, bounds_of, node_frontier}
+use Rattle.fw_model.specs.EventStamps.{AreStampsOf}
+use Rattle.fw_model.specs.Filtering.{events_inside}
+use Rattle.fw_model.specs.Machine.{Machine, Write, family_of, front_of, is_failed}
+use Rattle.fw_model.specs.Steps.{GrowsTo, checkpoint_of, eager_writes, is_eager}
+use Rattle.fw_model.specs.Writes.{takes_checkpoints}
+use Rattle.fw_model.proofs.Decisions.{two_ways}
+use Rattle.fw_record.specs.declared.record.Checkpoint.{Checkpoint}
+use Rattle.fw_record.specs.declared.record.Record.{Record}
+use Rattle.fw_record.specs.declared.record.Record.TheVariants as tagged
+use Rattle.fw_record.specs.Spelling.{spelling, HasCountableLists}
+use Rattle.fw_keep.specs.declared.entry.Entry.{Entry}
+use Rattle.fw_keep.specs.Catalogue.{KeepState, AreInFlight}
+use Rattle.fw_keep.specs.Entry.{asked}
+use Rattle.fw_keep.specs.Stored.{Records, KeepsBytes}
+use Rattle.fw_progress.specs.Settle.{has_more, is_growing, IsGrownAt}
+use Rattle.fw_stands.specs.Written.{AreEntriesOf, AreStored, IsEntryOf, uncollected}
+use Rattle.fw_stands.proofs.GrowthLaws.{settled-holds}
+use Rattle.fw_stands.proofs.KeptLaws.{fronts-grow}
+use Rattle.fw_stands.proofs.SideBySide.{zip-append}
+use Rattle.fw_running.specs.declared.fault.EngineFault.{EngineFault}
+use Rattle.fw_running.specs.declared.running.Running.{Running}
+use Rattle.fw_running.specs.Logging.{with_keep, ChangesKeep, IsAsked, IsNotAsked}
+use Rattle.fw_running.specs.Stands.{Stands}
+use Rattle.fw_settle.specs.Checkpoints.{IsTold, IsMadeAt, AsksCheckpoint, CanBeMadeAt}
+use Rattle.fw_settle.specs.Settling.{grows, NoneGrowsIn, AddsEntries, KeepsEntries, AsksIfEager, HaveAsked}
+use Rattle.fw_settle.proofs.WritesLaws.{asked-entry, asked-stored, can-be_made}
+
+-- ---- entries
+
+map-both : {A : Type 0} (f g : A → A) (o : Option A) → option_map g (option_map f o) ≡ option_map (λ x. g (f x)) o
+map-both f g None = refl
+map-both f g (Some x) = refl
+
+pub adds-none : (entries : List Entry) (records : Option Records) → AddsEntries entries entries records records
+adds-none entries records = record {
+  more = [];
+  entries = sym (append-nil entries);
+  in_flight = tt;
+  change = λ held. held;
+  records = sym (option_map_id records);
+  bytes = λ e c. refl;
+}
+
+pub adds-same : (old mid new : List Entry) (before between after : Option Records) → AddsEntries old mid before between → IsNotAsked mid new between after
+    → AddsEntries old new before after
+adds-same old mid new before between after a n = record {
+  more = a.more;
+  entries = n.entries ∙ a.entries;
+  in_flight = a.in_flight;
+  change = a.change;
+  records = n.records ∙ a.records;
+  bytes = subst (KeepsBytes old before) (sym n.records) a.bytes;
+}
+
+-- one write more is asked
+pub adds-more : (old mid new : List Entry) (before between after : Option Records) → AddsEntries old mid before between
+    → (what : Record) (stamps : Stamps) → IsAsked what stamps mid new between after → AddsEntries old new before after
+adds-more old mid new before between after a what stamps is = record {
+  more = a.more ++ asked is.id what stamps ∷ [];
+  entries = is.entries ∙ ap (λ es. es ++ asked is.id what stamps ∷ []) a.entries ∙ append_assoc old a.more (asked is.id what stamps ∷ []);
+  in_flight = each-append (λ (e : Entry). e.acknowledged ≡ false) a.more (asked is.id what stamps ∷ []) a.in_flight (refl, tt);
+  change = λ held. map_of.insert (a.change held) is.id (spelling what);
+  records = is.records ∙ ap (option_map (λ held. map_of.insert held is.id (spelling what))) a.records
+      ∙ map-both a.change (λ held. map_of.insert held is.id (spelling what)) before;
+  bytes = λ e c. is.bytes e (subst (λ es. Contains es e) (sym a.entries) (Contains-append_left old a.more e c)) ∙ a.bytes e c;
+}
+
+-- where what was added is withdrawn, the entries are kept
+pub kept-withdrawn : (old mid new : List Entry) (before after : Option Records) → AddsEntries old mid before after
+    → ((first more : List Entry) → mid ≡ first ++ more → length first ≡ length old → AreInFlight more → new ≡ first) → KeepsEntries old new before after
+kept-withdrawn old mid new before after a w = record {
+  entries = w old a.more a.entries refl a.in_flight;
+  change = a.change;
+  records = a.records;
+  bytes = a.bytes;
+}
+
+-- what is made is asked where the record of it is
+pub asks-made : (result : Result (Unit {0}) EngineFault) (p : ℕ) (f : Front) (old new : Running) (before after : Option Records) (checkpoint : Checkpoint) (stamps : Stamps)
+    → OnOk result (IsAsked (tagged.State checkpoint) stamps old.parts.keep.entries new.parts.keep.entries before after) → IsMadeAt old p f checkpoint
+    → HasCountableLists checkpoint
+    → IsTold old.flow old.traces p f (λ sys h. AreStampsOf sys (events_inside (node_frontier old.flow p f) h) p (node_frontier old.flow p f) stamps)
+    → OnOk result (AsksCheckpoint p f old new before after)
+asks-made (Ok x) p f old new before after checkpoint stamps a made few held = record { checkpoint = checkpoint; stamps = stamps; made = made; few = few; held = held; asked = a }
+asks-made (Err e) p f old new before after checkpoint stamps a made few held = tt
+
+-- ---- the writes of eager nodes
+
+-- whether an eager node asks as it grows to these fronts
+abbrev asks : System → Machine → List Front → ℕ → Bool
+asks sys state settled p = is_eager (policy_of sys.flow p) && not (same_front (front_of state.settled p) (front_of settled p))
+
+range-more : (n : ℕ) → range_with_len 0 (n + 1) ≡ range_with_len 0 n ++ n ∷ []
+range-more n = sym (map-self (range_with_len 0 (n + 1))) ∙ map-range_with_len_more (λ x. x) 0 n n (omega arith) ∙ ap (λ xs. xs ++ n ∷ []) (map-self (range_with_len 0 n))
+  where
+    map-self : (xs : List ℕ) → map (λ x. x) xs ≡ xs
+    map-self [] = refl
+    map-self (x ∷ xs) = ap (λ ys. x ∷ ys) (map-self xs)
+
+-- what one node more asks
+eager-more : (sys : System) (state : Machine) (settled : List Front) (n : ℕ) → eager_writes sys state settled (range_with_len 0 (n + 1))
+    ≡ eager_writes sys state settled (range_with_len 0 n) ++ cond (asks sys state settled n) (checkpoint_of state n (front_of settled n) ∷ []) []
+eager-more sys state settled n =
+    let f : ℕ → Write = λ p. checkpoint_of state p (front_of settled p) in
+    let test : ℕ → Bool = asks sys state settled in
+    ap (λ ps. map f (filter test ps)) (range-more n)
+    ∙ ap (map f) (filter-append test (range_with_len 0 n) (n ∷ []))
+    ∙ map-append f (filter test (range_with_len 0 n)) (filter test (n ∷ []))
+    ∙ ap (λ ws. map f (filter test (range_with_len 0 n)) ++ ws) (one (test n))
+  where
+    one : (b : Bool) → map (λ p. checkpoint_of state p (front_of settled p)) (cond b (n ∷ []) []) ≡ cond b (checkpoint_of state n (front_of settled n) ∷ []) []
+    one true = refl
+    one false = refl
+
+eager-none : (sys : System) (state : Machine) (settled : List Front) (n : ℕ) → asks sys state settled n ≡ false
+    → eager_writes sys state settled (range_with_len 0 (n + 1)) ≡ eager_writes sys state settled (range_with_len 0 n)
+eager-none sys state settled n e =
+    eager-more sys state settled n
+    ∙ ap (λ b. eager_writes sys state settled (range_with_len 0 n) ++ cond b (checkpoint_of state n (front_of settled n) ∷ []) []) e
+    ∙ append-nil (eager_writes sys state settled (range_with_len 0 n))
+
+eager-some : (sys : System) (state : Machine) (settled : List Front) (n : ℕ) → asks sys state settled n ≡ true
+    → eager_writes sys state settled (range_with_len 0 (n + 1)) ≡ eager_writes sys state settled (range_with_len 0 n) ++ checkpoint_of state n (front_of settled n) ∷ []
+eager-some sys state settled n e =
+    eager-more sys state settled n
+    ∙ ap (λ b. eager_writes sys state settled (range_with_len 0 n) ++ cond b (checkpoint_of state n (front_of settled n) ∷ []) []) e
+
+-- where none from one place up to a later one asks, the writes are the same
+eager-same : (sys : System) (state : Machine) (settled : List Front) (from k : ℕ) → ((p : ℕ) → from ≤ p → p < from + k → asks sys state settled p ≡ false)
+    → eager_writes sys state settled (range_with_len 0 (from + k)) ≡ eager_writes sys state settled (range_with_len 0 from)
+eager-same sys state settled from zero none = ap (λ n. eager_writes sys state settled (range_with_len 0 n)) (let e : from + 0 ≡ from = omega arith in e)
+eager-same sys state settled from (suc k) none =
+    ap (λ n. eager_writes sys state settled (range_with_len 0 n)) (let e : from + suc k ≡ (from + k) + 1 = omega arith in e)
+    ∙ eager-none sys state settled (from + k) (none (from + k) (omega arith) (omega arith))
+    ∙ eager-same sys state settled from k (λ p l m. none p l (omega (arith, m)))
+
+-- ---- where nodes grow
+
+-- what is settled of a node is as it was exactly where it is not to settle
+same-grows : (sys : System) (state : Machine) (settled : List Front) (old : Running) (before : Option Records) → Stands sys old before state
+    → GrowsTo sys state (family_of sys.flow old.progress.kept) settled → (p : ℕ) → p < length sys.flow.nodes
+    → not (same_front (front_of state.settled p) (front_of settled p)) ≡ grows old p
+same-grows sys state settled old before s g p l =
+    ap not (fronts-grow sys s.well_formed state s.reached (family_of sys.flow old.progress.kept) settled g old.progress.kept g.complete p l)
+    ∙ turned (is_failed state p) (has_more (front_of old.progress.kept p) (front_of state.settled p))
+    ∙ ap (λ fs. not (is_failed state p) && has_more (front_of old.progress.kept p) (front_of fs p)) (sym s.settled)
+    ∙ ap (λ fs. not (get_or fs p false) && has_more (front_of old.progress.kept p) (front_of old.progress.settled p)) (sym s.failed)
+  where
+    turned : (a b : Bool) → not (a || not b) ≡ (not a && b)
+    turned true b = refl
+    turned false true = refl
+    turned false false = refl
+
+asks-grows : (sys : System) (state : Machine) (settled : List Front) (old : Running) (before : Option Records) → Stands sys old before state
+    → GrowsTo sys state (family_of sys.flow old.progress.kept) settled → (p : ℕ) → p < length sys.flow.nodes
+    → asks sys state settled p ≡ (is_eager (policy_of sys.flow p) && grows old p)
+asks-grows sys state settled old before s g p l = ap (λ b. is_eager (policy_of sys.flow p) && b) (same-grows sys state settled old before s g p l)
+
+eager-takes : (p : Policy) → is_eager p ≡ true → takes_checkpoints p ≡ true
+eager-takes policy.Eager e = refl
+eager-takes p e = absurd (two_ways (is_eager p) e refl)
+
+-- the front that a node settles is the one that is settled after progress
+grown-front : (sys : System) (state : Machine) (settled : List Front) (old : Running) (before : Option Records) → Stands sys old before state
+    → GrowsTo sys state (family_of sys.flow old.progress.kept) settled → (p : ℕ) → p < length sys.flow.nodes → is_failed state p ≡ false
+    → (f : Front) → IsGrownAt sys.flow old.progress.settled old.progress.kept p (Some f) → f ≡ front_of settled p
+grown-front sys state settled old before s g p l live f grown =
+    let b = bounds_of sys.flow p in
+    names-same b f (front_of settled p) (join (node_frontier sys.flow p (front_of state.settled p)) (family_of sys.flow old.progress.kept p))
+    (subst (λ fs. IsFrontOf b f (join (frontier_of b (front_of fs p)) (frontier_of b (front_of old.progress.kept p)))) s.settled grown.1)
+    (g.each p l live)
+
+live-grows : (failed : List Bool) (settled kept : List Front) (p : ℕ) → is_growing failed settled kept p ≡ true → get_or failed p false ≡ false
+live-grows failed settled kept p e = by (get_or failed p false) (and_parts (not (get_or failed p false)) (has_more (front_of kept p) (front_of settled p)) e).0
+  where
+    by : (b : Bool) → not b ≡ true → b ≡ false
+    by true k = absurd (two_ways false k refl)
+    by false k = refl
+
+-- ---- node after node
+
+pub asked-none : (old : Running) (before : Option Records) → HaveAsked 0 old old before before
+unfolding adds-none
+asked-none old before = record {
+  adds = adds-none old.parts.keep.entries before;
+  writes = λ sys state settled s g. (tt, subst (AreStored sys state before old.parts.keep.entries) (sym (append-nil (uncollected state))) s.stored);
+}
+
+-- where none up to a later place is to settle, those before that have asked
+pub asked-past : (old new : Running) (before after : Option Records) (place later : ℕ) → HaveAsked place old new before after → place ≤ later
+    → later ≤ length old.flow.nodes → NoneGrowsIn old place later → HaveAsked later old new before after
+asked-past old new before after place later a o l none = record {
+  adds = a.adds;
+  writes = λ sys state settled s g.
+      let same : eager_writes sys state settled (range_with_len 0 later) ≡ eager_writes sys state settled (range_with_len 0 place) =
+      ap (λ n. eager_writes sys state settled (range_with_len 0 n)) (let e : later ≡ place + (later - place) = omega (arith, o) in e)
+      ∙ eager-same sys state settled place (later - place) (λ p from until.
+      let there : p < length sys.flow.nodes = subst (λ flow. p < length flow.nodes) s.flow (omega (arith, until, l, o)) in
+      asks-grows sys state settled old before s g p there
+      ∙ ap (λ b. is_eager (policy_of sys.flow p) && b) (none p from (omega (arith, until, o))) ∙ isnt (is_eager (policy_of sys.flow p))) in
+      let known = a.writes sys state settled s g in (
+        subst (AreEntriesOf sys state a.adds.more) (sym same) known.0,
+        subst (λ ws. AreStored sys state after new.parts.keep.entries (uncollected state ++ ws)) (sym same) known.1,
+      );
+}
+  where
+    isnt : (b : Bool) → (b && false) ≡ false
+    isnt true = refl
+    isnt false = refl
+
+-- a node that is not eager asks nothing
+skips : (p : ℕ) (old mid new : Running) (before between after : Option Records) → HaveAsked p old mid before between → p < length old.flow.nodes
+    → is_eager (policy_of old.flow p) ≡ false → IsNotAsked mid.parts.keep.entries new.parts.keep.entries between after → HaveAsked (p + 1) old new before after
+unfolding adds-same
+skips p old mid new before between after a l other n = record {
+  adds = adds-same old.parts.keep.entries mid.parts.keep.entries new.parts.keep.entries before between after a.adds n;
+  writes = λ sys state settled s g.
+      let test : asks sys state settled p ≡ false =
+      ap (λ b. b && not (same_front (front_of state.settled p) (front_of settled p))) (ap (λ flow. is_eager (policy_of flow p)) (sym s.flow) ∙ other) in
+      let same = eager-none sys state settled p test in
+      let known = a.writes sys state settled s g in (
+        subst (AreEntriesOf sys state a.adds.more) (sym same) known.0,
+        subst (λ ws. AreStored sys state after new.parts.keep.entries (uncollected state ++ ws)) (sym same)
+            (subst (λ es. AreStored sys state after es (uncollected state ++ eager_writes sys state settled (range_with_len 0 p))) (sym n.entries)
+            (subst (λ r. AreStored sys state r mid.parts.keep.entries (uncollected state ++ eager_writes sys state settled (range_with_len 0 p))) (sym n.records) known.1)),
+      );
+}
+
+-- what can be taken does not depend on the catalogue
+can-keep : (sys : System) (old : Running) (keep : KeepState) (state : Machine) (p : ℕ) (f : Front) → CanBeMadeAt sys old state p f
+    → CanBeMadeAt sys (with_keep keep old) state p f
+can-keep sys old keep state p f c = record {
+  flow = c.flow;
+  well_formed = c.well_formed;
+  reached = c.reached;
+  live = c.live;
+  takes = c.takes;
+  canonical = c.canonical;
+  settled = c.settled;
+  table = c.table;
+  logs = c.logs;
+  traces = c.traces;
+  counts = c.counts;
+}
+
+-- what an eager node asks is of its write, and stored with the others
+eager-asked : (sys : System) (old mid new : Running) (before between after : Option Records) (state : Machine) (settled : List Front) (p : ℕ) (f : Front)
+    → Stands sys old before state → GrowsTo sys state (family_of sys.flow old.progress.kept) settled → ChangesKeep old mid
+    → p < length sys.flow.nodes → is_eager (policy_of sys.flow p) ≡ true → grows old p ≡ true
+    → IsGrownAt sys.flow old.progress.settled old.progress.kept p (Some f) → (a : AsksCheckpoint p f mid new between after)
+    → (writes : List Write) → AreStored sys state between mid.parts.keep.entries writes
+    → IsEntryOf sys state (asked a.asked.id (tagged.State a.checkpoint) a.stamps) (checkpoint_of state p (front_of settled p))
+    × AreStored sys state after new.parts.keep.entries (writes ++ checkpoint_of state p (front_of settled p) ∷ [])
+eager-asked sys old mid new before between after state settled p f s g c l eager grow grown a writes stored =
+    let live : is_failed state p ≡ false = ap (λ fs. get_or fs p false) (sym s.failed) ∙ live-grows old.failed.items old.progress.settled old.progress.kept p grow in
+    let is : f ≡ front_of settled p = grown-front sys state settled old before s g p l live f grown in
+    let within : Within (family_of sys.flow state.settled p) (node_frontier sys.flow p f) =
+    subst (λ x. Within (family_of sys.flow state.settled p) (node_frontier sys.flow p x)) (sym is)
+    (settled-holds sys state (family_of sys.flow old.progress.kept) settled g p l) in
+    let can : CanBeMadeAt sys mid state p f =
+    subst (λ (r : Running). CanBeMadeAt sys r state p f) (sym c) (can-keep sys old mid.parts.keep state p f
+    (can-be_made sys old before state s p f (eager-takes (policy_of sys.flow p) eager) live grown.1.canonical within)) in (
+      subst (λ x. IsEntryOf sys state (asked a.asked.id (tagged.State a.checkpoint) a.stamps) (checkpoint_of state p x)) is
+          (asked-entry sys mid new between after state p f can a),
+      subst (λ x. AreStored sys state after new.parts.keep.entries (writes ++ checkpoint_of state p x ∷ [])) is
+          (asked-stored sys mid new between after state p f can a writes stored),
+    )
+
+-- an eager one asks its checkpoint
+asks-one : (p : ℕ) (old mid new : Running) (before between after : Option Records) → HaveAsked p old mid before between → ChangesKeep old mid
+    → p < length old.flow.nodes → is_eager (policy_of old.flow p) ≡ true → grows old p ≡ true
+    → (f : Front) → IsGrownAt old.flow old.progress.settled old.progress.kept p (Some f) → AsksCheckpoint p f mid new between after
+    → HaveAsked (p + 1) old new before after
+unfolding adds-more
+asks-one p old mid new before between after h c l eager grow f grown a = record {
+  adds = adds-more old.parts.keep.entries mid.parts.keep.entries new.parts.keep.entries before between after h.adds (tagged.State a.checkpoint) a.stamps a.asked;
+  writes = λ sys state settled s g.
+      let writes = eager_writes sys state settled (range_with_len 0 p) in
+      let there : p < length sys.flow.nodes = subst (λ flow. p < length flow.nodes) s.flow l in
+      let is_eager_there : is_eager (policy_of sys.flow p) ≡ true = ap (λ flow. is_eager (policy_of flow p)) (sym s.flow) ∙ eager in
+      let test : asks sys state settled p ≡ true =
+      asks-grows sys state settled old before s g p there ∙ ap (λ b. b && grows old p) is_eager_there ∙ grow in
+      let more = eager-some sys state settled p test in
+      let known = h.writes sys state settled s g in
+      let one = eager-asked sys old mid new before between after state settled p f s g c there is_eager_there grow
+      (subst (λ flow. IsGrownAt flow old.progress.settled old.progress.kept p (Some f)) s.flow grown) a (uncollected state ++ writes) known.1 in (
+        subst (AreEntriesOf sys state (h.adds.more ++ asked a.asked.id (tagged.State a.checkpoint) a.stamps ∷ [])) (sym more)
+            (zip-append (IsEntryOf sys state) h.adds.more writes (asked a.asked.id (tagged.State a.checkpoint) a.stamps ∷ [])
+            (checkpoint_of state p (front_of settled p) ∷ []) known.0 (one.0, tt)),
+        subst (λ ws. AreStored sys state after new.parts.keep.entries (uncollected state ++ ws)) (sym more)
+            (subst (AreStored sys state after new.parts.keep.entries) (append_assoc (uncollected state) writes (checkpoint_of state p (front_of settled p) ∷ [])) one.1),
+      );
+}
+
+-- the next node that is to settle asks, if it is eager
+pub asked-next : (p : ℕ) (old mid new : Running) (before between after : Option Records) → HaveAsked p old mid before between → ChangesKeep old mid
+    → p < length old.flow.nodes → grows old p ≡ true → AsksIfEager p mid new between after → HaveAsked (p + 1) old new before after
+asked-next p old mid new before between after h c l grow a = elim (cases_Bool (is_eager (policy_of old.flow p))) [
+  | inl eager ↦
+      let asks = a.eager (ap (λ (r : Running). is_eager (policy_of r.flow p)) c ∙ eager) in
+      asks-one p old mid new before between after h c l eager grow asks.front
+      (subst (λ (r : Running). IsGrownAt r.flow r.progress.settled r.progress.kept p (Some asks.front)) c asks.grown) asks.asks
+  | inr other ↦ skips p old mid new before between after h l other (a.other (ap (λ (r : Running). is_eager (policy_of r.flow p)) c ∙ other))
+]

@@ -1,0 +1,91 @@
+-- The newest checkpoint of a node by its entries, and whether nothing is settled.
+use Rattle.std.proofs.Common.{◌≡◌, ◌↔◌, ℕ, ◌==◌, Bool, true, false, cond, not, ◌&&◌, List, [], ◌∷◌, ◌++◌, map, refl, sym, ap, ◌∙◌}
+use Rattle.std.specs.Prelude.{IsTrue}
+use Rattle.std.proofs.lemmas.Bool.{and_parts, false_from_ne_true}
+use Rattle.std.proofs.lemmas.Grind.{flat_map-append}
+use Rattle.std.proofs.lemmas.List.{append-nil}
+use Rattle.fw_time.specs.Stamp.{origin, in_domain}
+use Rattle.fw_time.specs.declared.stamp.Bounds.{Bounds}
+use Rattle.fw_time.proofs.StampLaws.{leq-length, leq-refl, origin-leq}
+use Rattle.fw_frontier.specs.Frontier.{nothing}
+use Rattle.fw_frontier.specs.Front.{Front, inside, frontier_of, IsCanonical, IsFrontOf}
+use Rattle.fw_frontier.proofs.NamesLaws.{frontier-closed, names-nothing, names-same}
+use Rattle.fw_model.specs.Machine.{no_stamps}
+use Rattle.fw_model.specs.Steps.{last_or}
+use Rattle.fw_model.proofs.Decisions.{two_ways}
+use Rattle.fw_keep.specs.declared.entry.Entry.{Entry}
+use Rattle.fw_stands.specs.LawsOfEntries.{entry_front, entry_fronts}
+
+-- ---- nothing is settled
+
+zeros-origin : (s : List ℕ) → origin s ≡ map (λ c. 0) s
+zeros-origin [] = refl
+zeros-origin (c ∷ s) = ap (λ t. 0 ∷ t) (zeros-origin s)
+
+-- a front outside which the least stamp lies has none
+pub none-settled : (b : Bounds) (f : Front) → IsCanonical b f → inside f (origin b.greatest) ≡ false → f ≡ no_stamps b
+none-settled b f c out =
+    let o = origin b.greatest in
+    let none : IsFrontOf b f nothing = record {
+      canonical = c;
+      same = λ t. false_from_ne_true (frontier_of b f t) (λ i.
+          let d = (and_parts (in_domain b t) (inside f t) i).0 in
+          let least = (frontier-closed b f).closed o t (origin-leq b.greatest b.greatest refl) (origin-leq b.greatest t (sym (leq-length t b.greatest d))) i in
+          two_ways (inside f o) (and_parts (in_domain b o) (inside f o) least).1 out);
+    } in
+    names-same b f (o ∷ []) nothing none (names-nothing b) ∙ ap (λ t. t ∷ []) (zeros-origin b.greatest)
+
+-- and one without stamps has it outside
+pub least-outside : (b : Bounds) (f : Front) → f ≡ no_stamps b → inside f (origin b.greatest) ≡ false
+least-outside b f is =
+    ap (λ g. inside g (origin b.greatest)) (is ∙ ap (λ t. t ∷ []) (sym (zeros-origin b.greatest)))
+    ∙ ap (λ k. not k && true) (leq-refl (origin b.greatest))
+
+-- ---- the newest one
+
+last-none : (f : Front) (xs : List Front) → last_or f (xs ++ []) ≡ last_or f xs
+last-none f xs = ap (last_or f) (append-nil xs)
+
+last-one : (f : Front) (xs : List Front) (y : Front) → last_or f (xs ++ y ∷ []) ≡ y
+last-one f [] y = refl
+last-one f (x ∷ xs) y = last-one x xs y
+
+-- the fronts of entries and one more
+fronts-more : (p : ℕ) (entries : List Entry) (e : Entry) → entry_fronts p (entries ++ e ∷ []) ≡ entry_fronts p entries ++ cond (e.node == p) (entry_front e.written) []
+fronts-more p entries e =
+    flat_map-append (λ (x : Entry). cond (x.node == p) (entry_front x.written) []) entries (e ∷ [])
+    ∙ ap (λ fs. entry_fronts p entries ++ fs) (append-nil (cond (e.node == p) (entry_front e.written) []))
+
+-- an entry that is no checkpoint of the node leaves the newest one
+pub newest-before : (p : ℕ) (f : Front) (all rest before : List Entry) (e : Entry) → rest ≡ before ++ e ∷ [] → cond (e.node == p) (entry_front e.written) [] ≡ []
+    → last_or f (entry_fronts p rest) ≡ last_or f (entry_fronts p all) → last_or f (entry_fronts p before) ≡ last_or f (entry_fronts p all)
+newest-before p f all rest before e is none same =
+    sym (last-none f (entry_fronts p before)) ∙ ap (λ fs. last_or f (entry_fronts p before ++ fs)) (sym none)
+    ∙ ap (last_or f) (sym (fronts-more p before e)) ∙ ap (λ es. last_or f (entry_fronts p es)) (sym is) ∙ same
+
+-- one that is gives it
+pub newest-here : (p : ℕ) (f : Front) (all rest before : List Entry) (e : Entry) (g : Front) → rest ≡ before ++ e ∷ []
+    → cond (e.node == p) (entry_front e.written) [] ≡ g ∷ [] → last_or f (entry_fronts p rest) ≡ last_or f (entry_fronts p all)
+    → g ≡ last_or f (entry_fronts p all)
+newest-here p f all rest before e g is here same =
+    sym (last-one f (entry_fronts p before) g) ∙ ap (λ fs. last_or f (entry_fronts p before ++ fs)) (sym here)
+    ∙ ap (last_or f) (sym (fronts-more p before e)) ∙ ap (λ es. last_or f (entry_fronts p es)) (sym is) ∙ same
+
+-- ---- whether it is at what is settled
+
+pub newest-some : (r : Bool) (front settled last : Front) → (IsTrue r ↔ (front ≡ settled)) → front ≡ last → (IsTrue r ↔ (settled ≡ last))
+newest-some r front settled last same is = (λ t. sym (same.0 t) ∙ is, λ e. same.1 (is ∙ sym e))
+
+pub newest-none : (b : Bounds) (f last : Front) (r : Bool) → IsCanonical b f → r ≡ inside f (origin b.greatest) → no_stamps b ≡ last → (IsTrue (not r) ↔ (f ≡ last))
+newest-none b f last r c e is = (
+  λ t. none-settled b f c (sym e ∙ not-true r t) ∙ is,
+  λ same. true-not r (e ∙ least-outside b f (same ∙ sym is)),
+)
+  where
+    not-true : (x : Bool) → IsTrue (not x) → x ≡ false
+    not-true true t = absurd (two_ways (not true) t refl)
+    not-true false t = refl
+
+    true-not : (x : Bool) → x ≡ false → IsTrue (not x)
+    true-not true k = absurd (two_ways true refl k)
+    true-not false k = refl

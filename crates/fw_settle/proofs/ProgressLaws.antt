@@ -1,0 +1,236 @@
+-- The step of progress: what it makes of what is kept stands for the next state.
+use Rattle.std.proofs.Common.{◌≡◌, ℕ, ◌<◌, Bool, true, false, not, ◌&&◌, List, ◌++◌, length, get_or, refl, sym, ap, subst, ◌∙◌, inl, inr, arith}
+use Rattle.std.specs.List.{range_with_len}
+use Rattle.std.specs.Prelude.{Option, Some, None, Ok, Err, nat_lt}
+use Rattle.std.proofs.lemmas.Bool.{and_parts, cases_Bool, cases_lt, lt-ltb}
+use Rattle.fw_frontier.specs.Front.{Front}
+use Rattle.fw_flow.specs.declared.step.Step.TheVariants.{Progress as ProgressStep}
+use Rattle.fw_flow.specs.Dataflow.{System, policy_of, node_ids}
+use Rattle.fw_model.specs.History.{IsComplete}
+use Rattle.fw_model.specs.Machine.{Machine, events, family_of, front_of, AreCanonical}
+use Rattle.fw_model.specs.Steps.{GrowsTo, LeadsTo, did, idle, silent, eager_writes}
+use Rattle.fw_model.specs.Writes.{takes_checkpoints}
+use Rattle.fw_node.specs.declared.node.Node.{Node}
+use Rattle.fw_keep.specs.Catalogue.{KeepState}
+use Rattle.fw_keep.specs.Stored.{Records}
+use Rattle.fw_progress.specs.Settle.{has_more, AreGrownBefore}
+use Rattle.fw_progress.proofs.SettleLaws.{in_turn-settled}
+use Rattle.fw_stands.specs.LawsOfSettling.{settled_state, AreSettledAt}
+use Rattle.fw_stands.specs.Parts.{IsTableIn}
+use Rattle.fw_stands.specs.Written.{AreEntriesOf, AreStored, uncollected}
+use Rattle.fw_stands.proofs.AtReached.{reached-next}
+use Rattle.fw_stands.proofs.EntrySteps.{entries_after_asking, records_after_asking, progress_asks}
+use Rattle.fw_stands.proofs.KeptLaws.{no_more-idle}
+use Rattle.fw_stands.proofs.SettlingLaws.{settled_tables-stand, ungrown_tables-stay, no_tables-stay, all_settled_traces-stand, progress-keeps}
+use Rattle.fw_running.specs.declared.fault.EngineFault.{EngineFault}
+use Rattle.fw_running.specs.declared.fault.EngineFault.TheVariants as fault
+use Rattle.fw_running.specs.declared.running.Running.{Running}
+use Rattle.fw_running.specs.declared.stepped.Effect.TheVariants.{Silent}
+use Rattle.fw_running.specs.declared.stepped.Stepped.TheVariants.{Did, Idle}
+use Rattle.fw_running.specs.BroughtUp.{IsBroughtUp}
+use Rattle.fw_running.proofs.BroughtUpLaws.{brought_up_stands}
+use Rattle.fw_running.specs.Kept.{table_of, source_of}
+use Rattle.fw_running.specs.Logging.{with_keep, ChangesKeep}
+use Rattle.fw_running.specs.Shaped.{IsShaped}
+use Rattle.fw_running.specs.Stands.{Stands}
+use Rattle.fw_running.specs.Steps.{Follows, Answers, TakesStep, IsUndamaged}
+use Rattle.fw_settle.proofs.SettleLaws.{past-grows}
+use Rattle.fw_settle.proofs.WritesLaws.{kept-stands}
+use Rattle.fw_settle.specs.Settling.{grows, NoneGrowsIn, IsNextToSettle, KeepsEntries, HaveAsked, with_settled, ChangesSettled, IsTableSettled, settles_traces, HaveSettled, Progresses}
+
+-- ---- what is settled
+
+-- What is settled of the nodes in the order of their places, as the machine tells it.
+record IsSettledTo (sys : System) (state : Machine) (mid : Running) (settled : List Front) : Type 0 where
+  grown : GrowsTo sys state (family_of sys.flow mid.progress.kept) settled
+  same : (p : ℕ) → grows mid p ≡ false → front_of settled p ≡ front_of state.settled p
+
+settled-to : (sys : System) (state : Machine) (mid : Running) (records : Option Records) (settled : List Front) (p : ℕ) → Stands sys mid records state → IsShaped mid
+    → IsComplete sys (events state.history) (family_of sys.flow mid.progress.kept) → p < length mid.flow.nodes → grows mid p ≡ true
+    → AreGrownBefore mid.flow mid.failed.items mid.progress.settled mid.progress.kept settled (length mid.flow.nodes) → IsSettledTo sys state mid settled
+settled-to sys state mid records settled p s shaped complete l is g =
+    let flow = sys.flow in
+    let nodes : length mid.flow.nodes ≡ length flow.nodes = ap (λ f. length f.nodes) s.flow in
+    let canonical : (fronts : List Front) → AreCanonical mid.flow fronts → AreCanonical flow fronts = λ fronts a. subst (λ f. AreCanonical f fronts) s.flow a in
+    let at : AreGrownBefore flow mid.failed.items mid.progress.settled mid.progress.kept settled (length flow.nodes) =
+    subst (λ f. AreGrownBefore f mid.failed.items mid.progress.settled mid.progress.kept settled (length f.nodes)) s.flow g in
+    record {
+      grown = (in_turn-settled sys state mid.failed.items mid.progress.settled mid.progress.kept settled s.failed s.settled (shaped.one_each.failed ∙ nodes)
+          (shaped.progress.settled_each ∙ nodes) (canonical mid.progress.settled shaped.progress.settled) (canonical mid.progress.kept shaped.progress.kept) complete at).0
+          p (subst (λ n. p < n) nodes l) is;
+      same = λ q isnt. at.others q (λ k. isnt) ∙ ap (λ fs. front_of fs q) s.settled;
+    }
+
+-- ---- tables
+
+-- a table that is settled, or that is not there, is that of the next state
+table-settles : (sys : System) (mid : Running) (records : Option Records) (state : Machine) (settled : List Front) (p : ℕ) (old new : Option Node) → Stands sys mid records state
+    → GrowsTo sys state (family_of sys.flow mid.progress.kept) settled → p < length sys.flow.nodes → IsTableSettled sys.flow p (front_of settled p) old new
+    → IsTableIn sys state p old → IsTableIn sys (settled_state sys state settled) p new
+table-settles sys mid records state settled p None new s g l is t =
+    subst (IsTableIn sys (settled_state sys state settled) p) (sym is) (no_tables-stay sys state settled p t)
+table-settles sys mid records state settled p (Some old) None s g l is t = absurd is
+table-settles sys mid records state settled p (Some old) (Some new) s g l is t =
+    settled_tables-stand sys s.well_formed state s.reached (family_of sys.flow mid.progress.kept) settled g p l old new is t
+
+-- ---- the next state
+
+-- the engine that settled more stands for the state in which so much is settled
+settled-stands : (sys : System) (state : Machine) (mid new : Running) (keep : KeepState) (before after : Option Records) → Stands sys mid before state → IsShaped mid
+    → (settles : IsSettledTo sys state mid new.progress.settled) → HaveSettled (length sys.flow.nodes) mid new
+    → LeadsTo sys state ProgressStep (settled_state sys state new.progress.settled) silent
+    → AreEntriesOf sys (settled_state sys state new.progress.settled) keep.entries (uncollected (settled_state sys state new.progress.settled))
+    → AreStored sys (settled_state sys state new.progress.settled) after keep.entries (uncollected (settled_state sys state new.progress.settled))
+    → Stands sys (with_settled new (with_keep keep mid)) after (settled_state sys state new.progress.settled)
+settled-stands sys state mid new keep before after s shaped to h u entries stored =
+    let settled = new.progress.settled in
+    let next = settled_state sys state settled in
+    let n = length sys.flow.nodes in
+    let k = progress-keeps sys state settled in
+    record {
+      flow = s.flow;
+      well_formed = s.well_formed;
+      reached = reached-next sys state next ProgressStep (did silent) s.reached u;
+      settled = refl;
+      failed = s.failed;
+      low = s.low;
+      epochs = s.epochs;
+      tables = λ p l. elim (cases_Bool (grows mid p)) [
+        | inl is ↦
+            table-settles sys mid before state settled p (table_of mid p) (table_of new p) s to.grown l
+            (subst (λ f. IsTableSettled f p (front_of settled p) (table_of mid p) (table_of new p)) s.flow (h.tables p l is)) (s.tables p l)
+        | inr isnt ↦
+            subst (IsTableIn sys next p) (sym (h.other_tables p (λ m. isnt))) (ungrown_tables-stay sys state settled p (table_of mid p) (to.same p isnt) (s.tables p l))
+      ];
+      queues = λ e l. s.queues e l ∙ sym (k.queues e);
+      logs = λ e l. s.logs e l ∙ sym (k.logs e);
+      outputs = λ o l out.
+          let i = s.outputs o l out in
+          record { bound = i.bound ∙ sym (k.outputs.bound o); recs = λ x. i.recs x ∙ sym (k.outputs.recs o x) };
+      sources = λ p l. k.sources p (source_of mid p) (s.sources p l);
+      progress = record { counts = s.progress.counts; kept = s.progress.kept };
+      traces = λ p l.
+          all_settled_traces-stand sys s.well_formed state s.reached (family_of sys.flow mid.progress.kept) settled to.grown (settles_traces mid n)
+          (λ q i.
+          ap (λ f. takes_checkpoints (policy_of f q)) (sym s.flow)
+          ∙ (and_parts (grows mid q) (takes_checkpoints (policy_of mid.flow q)) (and_parts (nat_lt q n) (grows mid q && takes_checkpoints (policy_of mid.flow q)) i).1).1)
+          (λ q i takes. to.same q (still q i (ap (λ f. takes_checkpoints (policy_of f q)) s.flow ∙ takes)))
+          mid.traces new.traces (subst (λ f. AreSettledAt f (settles_traces mid n) settled mid.traces new.traces) s.flow h.traces) p l (s.traces p l);
+      lost = λ p full t. (
+        λ c. (k.lost p t).1 ((s.lost p full t).0 c),
+        λ i. (s.lost p full t).1 ((k.lost p t).0 i),
+      );
+      entries = entries;
+      stored = stored;
+    }
+  where
+    with-true : (b : Bool) → b ≡ (b && true)
+    with-true true = refl
+    with-true false = refl
+
+    still : (q : ℕ) → settles_traces mid (length sys.flow.nodes) q ≡ false → takes_checkpoints (policy_of mid.flow q) ≡ true → grows mid q ≡ false
+    still q i takes = elim (cases_lt q (length mid.flow.nodes)) [
+      | inl l ↦
+          with-true (grows mid q) ∙ ap (λ b. grows mid q && b) (sym takes)
+          ∙ ap (λ b. b && (grows mid q && takes_checkpoints (policy_of mid.flow q))) (sym (lt-ltb q (length sys.flow.nodes) (subst (λ f. q < length f.nodes) s.flow l))) ∙ i
+      | inr past ↦ past-grows mid shaped q past
+    ]
+
+-- some node is to settle: the step leads to the state in which so much is settled
+pub progress-follows : (sys : System) (state : Machine) (mid new : Running) (before after : Option Records) (p : ℕ) → Stands sys mid before state → IsShaped mid
+    → IsComplete sys (events state.history) (family_of sys.flow mid.progress.kept) → IsNextToSettle mid 0 p → Progresses mid new before after
+    → Follows sys state ProgressStep (did silent) new after
+progress-follows sys state mid new before after p s shaped complete first does =
+    let asked = does.asked in
+    let n = length mid.flow.nodes in
+    let settled = new.progress.settled in
+    let h : HaveSettled n mid new = settled-with mid asked new n does.keeps does.settles in
+    let to = settled-to sys state mid before settled p s shaped complete first.there first.is h.settled in
+    let writes = eager_writes sys state settled (node_ids sys.flow) in
+    let next = settled_state sys state settled in
+    let u : LeadsTo sys state ProgressStep next silent = (family_of sys.flow mid.progress.kept, settled, to.grown, refl, refl) in
+    let fly = (progress_asks sys state next silent u).1 in
+    let known = does.asks.writes sys state settled s to.grown in
+    let nodes : length mid.flow.nodes ≡ length sys.flow.nodes = ap (λ f. length f.nodes) s.flow in
+    let more = does.asks.adds.more in
+    let of_writes : AreEntriesOf sys state more writes =
+    subst (λ k. AreEntriesOf sys state more (eager_writes sys state settled (range_with_len 0 k))) nodes known.0 in
+    let stored : AreStored sys state after (mid.parts.keep.entries ++ more) (uncollected state ++ writes) =
+    subst (λ es. AreStored sys state after es (uncollected state ++ writes)) does.asks.adds.entries
+    (subst (λ k. AreStored sys state after asked.parts.keep.entries (uncollected state ++ eager_writes sys state settled (range_with_len 0 k))) nodes known.1) in
+    let entries_then : AreEntriesOf sys next asked.parts.keep.entries (uncollected next) =
+    subst (λ es. AreEntriesOf sys next es (uncollected next)) (sym does.asks.adds.entries)
+    (entries_after_asking sys s.well_formed state s.reached ProgressStep next silent u writes refl fly mid.parts.keep.entries more s.entries of_writes) in
+    let stored_then : AreStored sys next after asked.parts.keep.entries (uncollected next) =
+    subst (λ es. AreStored sys next after es (uncollected next)) (sym does.asks.adds.entries)
+    (records_after_asking sys s.well_formed state s.reached ProgressStep next silent u writes refl fly mid.parts.keep.entries more after stored) in
+    record {
+      next = next;
+      steps = u;
+      stands = subst (λ (r : Running). Stands sys r after next) (sym (does.others ∙ ap (with_settled new) does.keeps))
+          (settled-stands sys state mid new asked.parts.keep before after s shaped to (subst (λ k. HaveSettled k mid new) nodes h) u entries_then stored_then);
+    }
+  where
+    settled-with : (mid asked new : Running) (n : ℕ) → ChangesKeep mid asked → HaveSettled n asked new → HaveSettled n mid new
+    settled-with mid asked new n c h = by (subst (λ (r : Running). HaveSettled n r new) c h)
+      where
+        by : HaveSettled n (with_keep asked.parts.keep mid) new → HaveSettled n mid new
+        by a = record { settled = a.settled; tables = a.tables; other_tables = a.other_tables; traces = a.traces }
+
+-- no node is to settle: the step is idle
+pub progress-idle : (sys : System) (state : Machine) (mid : Running) (records : Option Records) → Stands sys mid records state
+    → IsComplete sys (events state.history) (family_of sys.flow mid.progress.kept) → NoneGrowsIn mid 0 (length mid.flow.nodes)
+    → Follows sys state ProgressStep idle mid records
+progress-idle sys state mid records s complete none = record {
+  next = state;
+  steps = (
+    no_more-idle sys state mid.progress.kept complete (λ p l live.
+        ap (λ fs. has_more (front_of mid.progress.kept p) (front_of fs p)) (sym s.settled)
+        ∙ sym (ap (λ b. not b && has_more (front_of mid.progress.kept p) (front_of mid.progress.settled p)) (ap (λ fs. get_or fs p false) s.failed ∙ live))
+        ∙ none p (omega arith) (subst (λ f. p < length f.nodes) (sym s.flow) l)),
+    refl,
+  );
+  stands = s;
+}
+
+-- a fault that is no damage leaves the state
+fault-answers : (sys : System) (state : Machine) (e : EngineFault) (new : Running) (before after : Option Records) → IsUndamaged {T = Unit {0}} (Err e)
+    → Stands sys new after state → Answers sys state ProgressStep (Err e) before new after
+fault-answers sys state fault.StoreFault new before after u s = s
+fault-answers sys state (fault.Damaged id) new before after u s = absurd u
+fault-answers sys state fault.NoMemory new before after u s = tt
+
+-- ---- the answers of the step
+
+-- what is kept is complete once it is brought up
+up-complete : (sys : System) (state : Machine) (old mid : Running) (records : Option Records) → Stands sys old records state → IsBroughtUp old mid
+    → IsComplete sys (events state.history) (family_of sys.flow mid.progress.kept)
+up-complete sys state old mid records s up =
+    subst (λ f. IsComplete sys (events state.history) (family_of f mid.progress.kept)) s.flow
+    (up.fresh.complete sys (events state.history) (sym s.flow) s.progress).1
+
+pub idle-takes : (old mid : Running) (before : Option Records) → IsBroughtUp old mid → NoneGrowsIn mid 0 (length mid.flow.nodes)
+    → TakesStep old before ProgressStep (Ok Idle) mid before
+idle-takes old mid before up none = λ sys state s trust.
+    progress-idle sys state mid before (brought_up_stands sys state old mid before s up) (up-complete sys state old mid before s up) none
+
+pub did-takes : (old mid new : Running) (before after : Option Records) (p : ℕ) → IsBroughtUp old mid → IsShaped mid → IsNextToSettle mid 0 p
+    → Progresses mid new before after → TakesStep old before ProgressStep (Ok (Did Silent)) new after
+did-takes old mid new before after p up shaped first does = λ sys state s trust.
+    progress-follows sys state mid new before after p (brought_up_stands sys state old mid before s up) shaped (up-complete sys state old mid before s up) first does
+
+pub fault-takes : (old mid new : Running) (before after : Option Records) (e : EngineFault) → IsBroughtUp old mid → ChangesKeep mid new
+    → KeepsEntries mid.parts.keep.entries new.parts.keep.entries before after → IsUndamaged {T = Unit {0}} (Err e) → TakesStep old before ProgressStep (Err e) new after
+fault-takes old mid new before after e up c k u = λ sys state s.
+    fault-answers sys state e new before after u (kept-stands sys mid new before after state (brought_up_stands sys state old mid before s up) c k)
+
+-- asking and settling are the step
+pub progresses : (mid asked new : Running) (before after : Option Records) → ChangesKeep mid asked → HaveAsked (length mid.flow.nodes) mid asked before after
+    → ChangesSettled asked new → HaveSettled (length asked.flow.nodes) asked new → Progresses mid new before after
+progresses mid asked new before after c a d h = record {
+  asked = asked;
+  keeps = c;
+  asks = a;
+  others = d;
+  settles = subst (λ (r : Running). HaveSettled (length r.flow.nodes) asked new) c h;
+}

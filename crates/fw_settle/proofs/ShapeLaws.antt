@@ -1,0 +1,241 @@
+-- What is kept fits the flow after each change of a step that settles or writes.
+use Rattle.std.proofs.Common.{◌≡◌, ◌≢◌, ℕ, ◌<◌, true, false, List, [], ◌∷◌, length, refl, sym, ap, subst, ◌∙◌, inl, inr, arith}
+use Rattle.std.specs.Prelude.{Option, Some, IfSome, Result, Ok, Err, OnOk, OnErr, slice_set}
+use Rattle.std.specs.List.{AllByRecursion, Contains}
+use Rattle.std.proofs.lemmas.Bool.{cases_eq, both_ways}
+use Rattle.std.proofs.lemmas.List.{get_or-set_other, get_or-set_same}
+use Rattle.fw_time.proofs.EachLaws.{each-append}
+use Rattle.fw_frontier.specs.Front.{Front, inside}
+use Rattle.fw_flow.specs.declared.choice.Stamps.{Stamps}
+use Rattle.fw_flow.specs.Dataflow.{bounds_of}
+use Rattle.fw_model.specs.Machine.{front_of}
+use Rattle.fw_model.specs.Offers.{IsRecordOf}
+use Rattle.fw_node.specs.declared.node.Node.{Node}
+use Rattle.fw_node.specs.NodeOf.{IsNodeOf}
+use Rattle.fw_record.specs.declared.record.Checkpoint.{Checkpoint}
+use Rattle.fw_record.specs.declared.record.Record.TheVariants as tagged
+use Rattle.fw_keep.specs.declared.entry.Entry.{Entry}
+use Rattle.fw_keep.specs.Stored.{Records}
+use Rattle.fw_progress.specs.declared.traces.Traces.{Traces}
+use Rattle.fw_progress.specs.Progress.{Standing, IsOfFlow}
+use Rattle.fw_progress.specs.Settle.{has_more, IsGrownAt}
+use Rattle.fw_progress.specs.Trace.{HaveLists}
+use Rattle.fw_rollback.specs.Tables.{table_at}
+use Rattle.fw_running.specs.declared.fault.EngineFault.{EngineFault}
+use Rattle.fw_running.specs.declared.running.Running.{Running}
+use Rattle.fw_running.specs.Kept.{output_of}
+use Rattle.fw_running.specs.Logging.{ChangesKeep, IsAsked, IsNotAsked}
+use Rattle.fw_running.specs.Places.{IsPut, IsTakenOut}
+use Rattle.fw_running.specs.ReadyState.{ReadyState}
+use Rattle.fw_running.specs.Shaped.{IsShaped, IsWrittenOf}
+use Rattle.fw_running.proofs.KeptShapes.{shaped-keep as keep-shaped}
+use Rattle.fw_settle.specs.Settling.{with_tables, with_traces, IsTableSettled, SettlesTable, SettlesTraces, SettlesTo}
+use Rattle.fw_settle.proofs.JoinLaws.{none-kept}
+
+-- what is kept with other tables and other traces fits the flow as before, where these do
+shaped-with : (old : Running) (tables : List (Option Node)) (traces : Traces) → IsShaped old
+    → length tables ≡ length old.parts.tables → ((p : ℕ) → p < length old.flow.nodes → IfSome (table_at tables p) (IsNodeOf old.flow p))
+    → HaveLists old.flow traces → traces.refused ≡ false
+    → IsShaped (record old { parts = record old.parts { tables = tables }; traces = traces })
+shaped-with old tables traces s each nodes lists live =
+    let ones = s.one_each in
+    record {
+      well_formed = s.well_formed;
+      one_each = record {
+        parts = record { tables = each ∙ ones.parts.tables; queues = ones.parts.queues; logs = ones.parts.logs };
+        sources = ones.sources;
+        outputs = ones.outputs;
+        low = ones.low;
+        failed = ones.failed;
+        lost = ones.lost;
+      };
+      progress = s.progress;
+      traces = lists;
+      low = s.low;
+      tables = nodes;
+      queues = s.queues;
+      logs = s.logs;
+      entries = s.entries;
+      live = s.live;
+      traced = live;
+      ready = record {
+        edges = λ e c. s.ready.edges e (record { there = c.there; live = c.live; some = c.some });
+        owing = λ p c. s.ready.owing p (record { there = c.there; live = c.live; some = c.some });
+        growing = λ p c. s.ready.growing p (record { there = c.there; more = c.more });
+        outputs = λ o c. s.ready.outputs o
+            (record { there = c.there; live = c.live; output = c.output; number = c.number; settled = c.settled; some = c.some });
+        inputs = λ i c. s.ready.inputs i (record { there = c.there; live = c.live; input = c.input; some = c.some });
+      };
+    }
+
+pub shaped-keep : (old new : Running) → IsShaped old → ChangesKeep old new
+    → AllByRecursion (λ (entry : Entry). IsWrittenOf old.flow entry.node entry.written) new.parts.keep.entries → IsShaped new
+shaped-keep old new s c entries =
+    subst IsShaped (sym c) (keep-shaped old new.parts.keep s entries)
+
+-- the same entries
+pub shaped-same : (old new : Running) → IsShaped old → ChangesKeep old new → new.parts.keep.entries ≡ old.parts.keep.entries → IsShaped new
+shaped-same old new s c e =
+    shaped-keep old new s c (subst (AllByRecursion (λ (entry : Entry). IsWrittenOf old.flow entry.node entry.written)) (sym e) s.entries)
+
+-- a checkpoint is asked
+pub shaped-asked : (old new : Running) (checkpoint : Checkpoint) (stamps : Stamps) (before after : Option Records) → IsShaped old → ChangesKeep old new
+    → IsAsked (tagged.State checkpoint) stamps old.parts.keep.entries new.parts.keep.entries before after → IsRecordOf old.flow checkpoint.node checkpoint.recorded
+    → IsShaped new
+shaped-asked old new checkpoint stamps before after s c a r =
+    let P : Entry → Type 0 = λ entry. IsWrittenOf old.flow entry.node entry.written in
+    shaped-keep old new s c (subst (AllByRecursion P) (sym a.entries) (each-append P old.parts.keep.entries _ s.entries (r, tt)))
+
+-- so it does whether it is asked or not
+pub shaped-answer : (result : Result (Unit {0}) EngineFault) (old new : Running) (checkpoint : Checkpoint) (stamps : Stamps) (before after : Option Records) → IsShaped old
+    → ChangesKeep old new → OnOk result (IsAsked (tagged.State checkpoint) stamps old.parts.keep.entries new.parts.keep.entries before after)
+    → OnErr result (IsNotAsked old.parts.keep.entries new.parts.keep.entries before after) → IsRecordOf old.flow checkpoint.node checkpoint.recorded → IsShaped new
+shaped-answer (Ok x) old new checkpoint stamps before after s c a n r = shaped-asked old new checkpoint stamps before after s c a r
+shaped-answer (Err e) old new checkpoint stamps before after s c a n r = shaped-same old new s c n.entries
+
+pub shaped-tables : (old new : Running) → IsShaped old → new ≡ with_tables new.parts.tables old → length new.parts.tables ≡ length old.parts.tables
+    → ((p : ℕ) → p < length old.flow.nodes → IfSome (table_at new.parts.tables p) (IsNodeOf old.flow p)) → IsShaped new
+shaped-tables old new s c each nodes =
+    subst IsShaped (sym c) (shaped-with old new.parts.tables old.traces s each nodes s.traces s.traced)
+
+pub shaped-traces : (old new : Running) → IsShaped old → new ≡ with_traces new.traces old → HaveLists old.flow new.traces → new.traces.refused ≡ false → IsShaped new
+shaped-traces old new s c lists live =
+    subst IsShaped (sym c) (shaped-with old old.parts.tables new.traces s refl s.tables lists live)
+
+-- ---- what is settled
+
+-- more is settled of node p, which is put among the outputs, where no more is kept of it than is settled then
+pub shaped-settled : (old : Running) (settled : List Front) (outputs : List ℕ) (p : ℕ) (f : Front) → IsShaped old
+    → settled ≡ slice_set old.progress.settled p f → IsOfFlow old.flow (record old.progress { settled = settled }) → p < length old.progress.settled
+    → has_more (front_of old.progress.kept p) f ≡ false → IsPut p old.ready.outputs outputs
+    → IsShaped (record old { progress = record old.progress { settled = settled }; ready = record old.ready { outputs = outputs } })
+shaped-settled old settled outputs p f s e of_flow there none put =
+    let ones = s.one_each in
+    let other : (q : ℕ) → q ≢ p → front_of settled q ≡ front_of old.progress.settled q =
+    λ q n. ap (λ fs. front_of fs q) e ∙ get_or-set_other old.progress.settled p q f [] n in
+    let here : front_of settled p ≡ f = ap (λ fs. front_of fs p) e ∙ get_or-set_same old.progress.settled p f [] there in
+    record {
+      well_formed = s.well_formed;
+      one_each = record {
+        parts = record { tables = ones.parts.tables; queues = ones.parts.queues; logs = ones.parts.logs };
+        sources = ones.sources;
+        outputs = ones.outputs;
+        low = ones.low;
+        failed = ones.failed;
+        lost = ones.lost;
+      };
+      progress = of_flow;
+      traces = s.traces;
+      low = s.low;
+      tables = s.tables;
+      queues = s.queues;
+      logs = s.logs;
+      entries = s.entries;
+      live = s.live;
+      traced = s.traced;
+      ready = record {
+        edges = λ e c. s.ready.edges e (record { there = c.there; live = c.live; some = c.some });
+        owing = λ q c. s.ready.owing q (record { there = c.there; live = c.live; some = c.some });
+        growing = λ q c. elim (cases_eq q p) [
+          | inl same ↦
+              absurd (both_ways (has_more (front_of old.progress.kept p) f) none
+              (ap (has_more (front_of old.progress.kept p)) (sym here) ∙ subst (λ n. has_more (front_of old.progress.kept n) (front_of settled n) ≡ true) same c.more))
+          | inr n ↦ s.ready.growing q (record { there = c.there; more = ap (has_more (front_of old.progress.kept q)) (sym (other q n)) ∙ c.more })
+        ];
+        outputs = λ o c. elim (cases_eq o p) [
+          | inl same ↦ subst (Contains outputs) (sym same) put.there
+          | inr n ↦ put.stays o (s.ready.outputs o (record {
+            there = c.there;
+            live = c.live;
+            output = c.output;
+            number = c.number;
+            settled = ap (λ g. inside g ((output_of old o).bound ∷ [])) (sym (other o n)) ∙ c.settled;
+            some = c.some;
+          }))
+        ];
+        inputs = λ i c. s.ready.inputs i (record { there = c.there; live = c.live; input = c.input; some = c.some });
+      };
+    }
+
+-- a node of which no more is kept than settled is taken out of the growing ones
+pub shaped-taken : (old : Running) (growing : List ℕ) (p : ℕ) → IsShaped old → IsTakenOut p old.ready.growing growing
+    → has_more (front_of old.progress.kept p) (front_of old.progress.settled p) ≡ false → IsShaped (record old { ready = record old.ready { growing = growing } })
+shaped-taken old growing p s taken none =
+    let ones = s.one_each in
+    record {
+      well_formed = s.well_formed;
+      one_each = record {
+        parts = record { tables = ones.parts.tables; queues = ones.parts.queues; logs = ones.parts.logs };
+        sources = ones.sources;
+        outputs = ones.outputs;
+        low = ones.low;
+        failed = ones.failed;
+        lost = ones.lost;
+      };
+      progress = s.progress;
+      traces = s.traces;
+      low = s.low;
+      tables = s.tables;
+      queues = s.queues;
+      logs = s.logs;
+      entries = s.entries;
+      live = s.live;
+      traced = s.traced;
+      ready = record {
+        edges = λ e c. s.ready.edges e (record { there = c.there; live = c.live; some = c.some });
+        owing = λ q c. s.ready.owing q (record { there = c.there; live = c.live; some = c.some });
+        growing = λ q c. taken.stays q
+            (λ same. both_ways (has_more (front_of old.progress.kept p) (front_of old.progress.settled p)) none
+            (subst (λ n. has_more (front_of old.progress.kept n) (front_of old.progress.settled n) ≡ true) same c.more))
+            (s.ready.growing q (record { there = c.there; more = c.more }));
+        outputs = λ o c. s.ready.outputs o
+            (record { there = c.there; live = c.live; output = c.output; number = c.number; settled = c.settled; some = c.some });
+        inputs = λ i c. s.ready.inputs i (record { there = c.there; live = c.live; input = c.input; some = c.some });
+      };
+    }
+
+-- a node settles this front of what is kept, and is then no more among the growing ones
+pub shaped-settling : (old mid : Running) (progress : Standing) (put taken : ReadyState) (p : ℕ) (f : Front) → IsShaped mid → mid.progress ≡ old.progress → mid.flow ≡ old.flow
+    → IsGrownAt old.flow old.progress.settled old.progress.kept p (Some f) → p < length old.flow.nodes
+    → progress ≡ record mid.progress { settled = slice_set mid.progress.settled p f } → IsOfFlow mid.flow progress
+    → put ≡ record mid.ready { outputs = put.outputs } → IsPut p mid.ready.outputs put.outputs
+    → taken ≡ record put { growing = taken.growing } → IsTakenOut p put.growing taken.growing
+    → IsShaped (record mid { progress = progress; ready = taken })
+shaped-settling old mid progress put taken p f s same flow grown l e of_flow puts is_put takes is_taken =
+    let settled = slice_set mid.progress.settled p f in
+    let each = s.progress.settled_each in
+    let there : p < length mid.progress.settled = subst (λ w. p < length w.nodes → p < length mid.progress.settled) flow (λ k. omega (arith, k, each)) l in
+    let none : has_more (front_of mid.progress.kept p) f ≡ false =
+    subst (λ (now : Standing). has_more (front_of now.kept p) f ≡ false) (sym same)
+    (none-kept (bounds_of old.flow p) (front_of old.progress.settled p) (front_of old.progress.kept p) f grown.1) in
+    let first : Running = record mid { progress = record mid.progress { settled = settled }; ready = record mid.ready { outputs = put.outputs } } in
+    let shaped : IsShaped first =
+    shaped-settled mid settled put.outputs p f s refl (subst (IsOfFlow mid.flow) e of_flow) there none is_put in
+    let here : front_of settled p ≡ f = get_or-set_same mid.progress.settled p f [] there in
+    let growing : IsTakenOut p mid.ready.growing taken.growing = subst (λ (r : ReadyState). IsTakenOut p r.growing taken.growing) puts is_taken in
+    subst (λ (now : Standing). IsShaped (record mid { progress = now; ready = taken })) (sym e)
+    (subst (λ (r : ReadyState). IsShaped (record mid { progress = record mid.progress { settled = settled }; ready = r })) (sym (takes ∙ ap (λ (r : ReadyState). record r { growing = taken.growing }) puts))
+    (shaped-taken first taken.growing p shaped growing (ap (has_more (front_of mid.progress.kept p)) here ∙ none)))
+
+-- a node of which no more is kept than settled is taken out
+pub shaped-out : (old : Running) (ready : ReadyState) (p : ℕ) → IsShaped old → ready ≡ record old.ready { growing = ready.growing }
+    → IsTakenOut p old.ready.growing ready.growing → has_more (front_of old.progress.kept p) (front_of old.progress.settled p) ≡ false
+    → IsShaped (record old { ready = ready })
+shaped-out old ready p s e t none = subst (λ (r : ReadyState). IsShaped (record old { ready = r })) (sym e) (shaped-taken old ready.growing p s t none)
+
+-- its table and its traces are settled to it
+pub settles-to : (old first second : Running) (progress : Standing) (ready : ReadyState) (p : ℕ) (f : Front) → first ≡ with_tables first.parts.tables old
+    → SettlesTable p f old first → second ≡ with_traces second.traces first → SettlesTraces p f first.flow first.traces second.traces
+    → progress ≡ record second.progress { settled = slice_set second.progress.settled p f }
+    → SettlesTo p f old (record second { progress = progress; ready = ready })
+settles-to old first second progress ready p f c table d traces e =
+    let tables : second.parts.tables ≡ first.parts.tables = ap (λ (r : Running). r.parts.tables) d in
+    let now : second.progress.settled ≡ old.progress.settled = ap (λ (r : Running). r.progress.settled) d ∙ ap (λ (r : Running). r.progress.settled) c in
+    record {
+      settled = ap (λ (x : Standing). x.settled) e ∙ ap (λ fs. slice_set fs p f) now;
+      table = record {
+        here = subst (λ ts. IsTableSettled old.flow p f (table_at old.parts.tables p) (table_at ts p)) (sym tables) table.here;
+        others = λ q n. ap (λ ts. table_at ts q) tables ∙ table.others q n;
+      };
+      traces = subst (λ (r : Running). SettlesTraces p f r.flow r.traces second.traces) c traces;
+    }

@@ -1,0 +1,288 @@
+-- Steps that change what is written alone: a checkpoint is asked, and a write is acknowledged.
+use Rattle.std.proofs.Common.{◌≡◌, ◌≢◌, ℕ, ◌<◌, ◌++◌, Bool, true, false, cond, List, [], ◌∷◌, length, Option, Some, None, refl, sym, ap, subst, ◌∙◌}
+use Rattle.std.specs.Prelude.{Err}
+use Rattle.std.specs.List.{AllByRecursion}
+use Rattle.std.proofs.lemmas.Iterator.Adapters.{option_map_id}
+use Rattle.fw_frontier.specs.Frontier.{Within}
+use Rattle.fw_frontier.specs.Front.{Front, IsCanonical}
+use Rattle.fw_flow.specs.declared.kind.Policy.{Policy}
+use Rattle.fw_flow.specs.declared.kind.Policy.TheVariants as policy
+use Rattle.fw_flow.specs.declared.step.Step.{Step}
+use Rattle.fw_flow.specs.declared.step.Step.TheVariants.{Checkpoint as CheckpointStep, Persist}
+use Rattle.fw_flow.specs.Dataflow.{System, policy_of, bounds_of, node_frontier}
+use Rattle.fw_model.specs.EventStamps.{AreStampsOf}
+use Rattle.fw_model.specs.Filtering.{events_inside}
+use Rattle.fw_model.specs.Machine.{Machine, Write, events, family_of, front_of, is_failed, no_stamps}
+use Rattle.fw_model.specs.Steps.{LeadsTo, did, idle, silent, checkpoint_of, last_or, is_asked_for_checkpoints}
+use Rattle.fw_model.specs.Writes.{takes_checkpoints}
+use Rattle.fw_model.proofs.AskedLaws.{takes-declared}
+use Rattle.fw_model.proofs.Decisions.{two_ways}
+use Rattle.fw_model.proofs.DomainLaws.{has_epochs}
+use Rattle.fw_record.specs.declared.record.Record.TheVariants as tagged
+use Rattle.fw_keep.specs.declared.entry.Entry.{Entry}
+use Rattle.fw_keep.specs.declared.entry.Written.{Written}
+use Rattle.fw_keep.specs.Catalogue.{KeepState, oldest, persisted}
+use Rattle.fw_keep.specs.Entry.{asked}
+use Rattle.fw_keep.specs.Stored.{Records}
+use Rattle.fw_stands.specs.LawsOfEntries.{entry_fronts}
+use Rattle.fw_stands.specs.Written.{AreEntriesOf, AreStored, IsEntryOf, uncollected}
+use Rattle.fw_stands.proofs.AtReached.{reached-next, reached-legal, reached-settled}
+use Rattle.fw_stands.proofs.EntrySteps.{kept_bytes_are_stored, asked_entry_is_of_write, put_record_is_stored, entries_after_asking, records_after_asking, entries_after_persist, records_after_persist, persists_where_in_flight}
+use Rattle.fw_stands.proofs.EntryViews.{takes_checkpoints_by_last_entry}
+use Rattle.fw_stands.proofs.FitLaws.{records_can_be_of_entries}
+use Rattle.fw_stands.proofs.LossLaws.{losses_stay}
+use Rattle.fw_stands.proofs.NumberLaws.{sender-there}
+use Rattle.fw_stands.proofs.StayingLaws.{writes-keep_parts}
+use Rattle.fw_running.proofs.SameStateLaws.{down-failed, idle-follows}
+use Rattle.std.proofs.lemmas.Bool.{cond_both}
+use Rattle.fw_running.specs.declared.running.Running.{Running}
+use Rattle.fw_settle.specs.Checkpoints.{AsksCheckpoint, CanBeMadeAt, MayTakeCheckpoint}
+use Rattle.fw_settle.specs.Settling.{KeepsEntries}
+use Rattle.fw_running.specs.Kept.{table_of, source_of}
+use Rattle.fw_running.specs.Logging.{with_keep, ChangesKeep}
+use Rattle.fw_running.specs.Shaped.{IsShaped, IsWrittenOf}
+use Rattle.fw_running.specs.Stands.{Stands}
+use Rattle.fw_running.specs.declared.fault.EngineFault.{EngineFault}
+use Rattle.fw_running.specs.declared.fault.EngineFault.TheVariants as fault
+use Rattle.fw_running.specs.Steps.{Answers, Follows, IsUndamaged}
+use Rattle.fw_settle.proofs.CheckpointLaws.{within-front}
+use Rattle.fw_settle.proofs.MadeLaws.{made-for, made-sound}
+use Rattle.fw_settle.proofs.ShapeLaws.{shaped-keep}
+
+-- ---- other writes
+
+-- where the writes alone are other ones, and entries and records stand for them, the engine stands for the state with them
+pub writes-stand : (sys : System) (old : Running) (keep : KeepState) (before after : Option Records) (state : Machine) (writes : List Write) (step : Step)
+    → Stands sys old before state → LeadsTo sys state step (record state { writes = writes }) silent
+    → AreEntriesOf sys (record state { writes = writes }) keep.entries (uncollected (record state { writes = writes }))
+    → AreStored sys (record state { writes = writes }) after keep.entries (uncollected (record state { writes = writes }))
+    → Stands sys (with_keep keep old) after (record state { writes = writes })
+writes-stand sys old keep before after state writes step s t entries stored =
+    let next : Machine = record state { writes = writes } in
+    let k = writes-keep_parts sys state writes in
+    record {
+      flow = s.flow;
+      well_formed = s.well_formed;
+      reached = reached-next sys state next step (did silent) s.reached t;
+      settled = s.settled;
+      failed = s.failed;
+      low = s.low;
+      epochs = s.epochs;
+      tables = λ p l. k.tables p (table_of old p) (s.tables p l);
+      queues = λ e l. s.queues e l ∙ sym (k.queues e);
+      logs = λ e l. s.logs e l ∙ sym (k.logs e);
+      outputs = λ o l out.
+          let i = s.outputs o l out in
+          record { bound = i.bound ∙ sym (k.outputs.bound o); recs = λ x. i.recs x ∙ sym (k.outputs.recs o x) };
+      sources = λ p l. k.sources p (source_of old p) (s.sources p l);
+      progress = s.progress;
+      traces = λ p l. k.traces p old.traces (s.traces p l);
+      lost = λ p full u. (
+        λ i. let l = (s.lost p full u).0 i in (losses_stay sys s.well_formed state s.reached step next silent t p l.0 l.0 u).1 l,
+        λ i. (s.lost p full u).1 ((losses_stay sys s.well_formed state s.reached step next silent t p i.0 i.0 u).0 i),
+      );
+      entries = entries;
+      stored = stored;
+    }
+
+-- where the entries are the same and their bytes stay, the engine stands for the same state
+pub kept-stands : (sys : System) (old new : Running) (before after : Option Records) (state : Machine) → Stands sys old before state → ChangesKeep old new
+    → KeepsEntries old.parts.keep.entries new.parts.keep.entries before after → Stands sys new after state
+kept-stands sys old new before after state s c k =
+    subst (λ (r : Running). Stands sys r after state) (sym c) (record {
+      flow = s.flow;
+      well_formed = s.well_formed;
+      reached = s.reached;
+      settled = s.settled;
+      failed = s.failed;
+      low = s.low;
+      epochs = s.epochs;
+      tables = s.tables;
+      queues = s.queues;
+      logs = s.logs;
+      outputs = s.outputs;
+      sources = s.sources;
+      progress = s.progress;
+      traces = s.traces;
+      lost = s.lost;
+      entries = subst (λ es. AreEntriesOf sys state es (uncollected state)) (sym k.entries) s.entries;
+      stored = subst (λ es. AreStored sys state after es (uncollected state)) (sym k.entries)
+          (kept_bytes_are_stored sys state old.parts.keep.entries (uncollected state) before after k.change k.records k.bytes s.stored);
+    })
+
+-- ---- a write is acknowledged
+
+persisted-none : (entries : List Entry) → oldest entries ≡ None → persisted entries ≡ entries
+persisted-none [] e = refl
+persisted-none (x ∷ entries) e = by x.acknowledged e (persisted-none entries)
+  where
+    by : (b : Bool) → cond b (oldest entries) (Some x.id) ≡ None → (oldest entries ≡ None → persisted entries ≡ entries)
+        → cond b (x ∷ persisted entries) (record x { acknowledged = true } ∷ entries) ≡ x ∷ entries
+    by true k h = ap (λ es. x ∷ es) (h k)
+    by false k h = absurd (cc)
+
+-- where a write is in flight, the oldest one is acknowledged
+pub persist-some : (sys : System) (state : Machine) (old : Running) (records : Option Records) → Stands sys old records state
+    → (id : ℕ) → oldest old.parts.keep.entries ≡ Some id
+    → Follows sys state Persist (did silent) (with_keep (record old.parts.keep { entries = persisted old.parts.keep.entries }) old) records
+persist-some sys state old records s id is =
+    let entries = old.parts.keep.entries in
+    let e = (persists_where_in_flight sys state entries s.entries).1 id is in
+    let t = e.1 in
+    let next : Machine = record state { writes = t.0 } in
+    let u : LeadsTo sys state Persist next silent = (t.0, t.1, refl, refl) in
+    record {
+      next = next;
+      steps = u;
+      stands = writes-stand sys old (record old.parts.keep { entries = persisted entries }) records records state t.0 Persist s u
+          (entries_after_persist sys s.well_formed state s.reached next silent u entries s.entries)
+          (records_after_persist sys s.well_formed state s.reached next silent u entries s.entries records s.stored);
+    }
+
+-- where none is, nothing changes
+pub persist-none : (sys : System) (state : Machine) (old : Running) (records : Option Records) → Stands sys old records state
+    → oldest old.parts.keep.entries ≡ None
+    → Follows sys state Persist idle (with_keep (record old.parts.keep { entries = persisted old.parts.keep.entries }) old) records
+persist-none sys state old records s none =
+    let entries = old.parts.keep.entries in
+    record {
+      next = state;
+      steps = (λ other effect t. (persists_where_in_flight sys state entries s.entries).0 none other effect t, refl);
+      stands = kept-stands sys old (with_keep (record old.parts.keep { entries = persisted entries }) old) records records state s refl
+          (record { entries = persisted-none entries none; change = λ held. held; records = sym (option_map_id records); bytes = λ e c. refl });
+    }
+
+-- ---- a checkpoint is asked
+
+-- a node that takes checkpoints and is not failed can take one at a front that holds what is settled
+pub can-be_made : (sys : System) (old : Running) (records : Option Records) (state : Machine) → Stands sys old records state
+    → (p : ℕ) (f : Front) → takes_checkpoints (policy_of sys.flow p) ≡ true → is_failed state p ≡ false → IsCanonical (bounds_of sys.flow p) f
+    → Within (family_of sys.flow state.settled p) (node_frontier sys.flow p f) → CanBeMadeAt sys old state p f
+can-be_made sys old records state s p f takes live c within =
+    let l = takes-declared sys.flow p takes in
+    record {
+      flow = s.flow;
+      well_formed = s.well_formed;
+      reached = s.reached;
+      live = live;
+      takes = takes;
+      canonical = c;
+      settled = within;
+      table = s.tables p l;
+      logs = λ e k. s.logs e (sender-there sys.flow p e l k);
+      traces = s.traces p l;
+      counts = s.progress.counts;
+    }
+
+-- what is asked is an entry of the write
+pub asked-entry : (sys : System) (old new : Running) (before after : Option Records) (state : Machine) (p : ℕ) (f : Front) → CanBeMadeAt sys old state p f
+    → (a : AsksCheckpoint p f old new before after) → IsEntryOf sys state (asked a.asked.id (tagged.State a.checkpoint) a.stamps) (checkpoint_of state p f)
+asked-entry sys old new before after state p f can a =
+    let h = events state.history in
+    asked_entry_is_of_write sys state (checkpoint_of state p f) refl a.asked.id (tagged.State a.checkpoint) a.stamps (made-for sys old state p f a.checkpoint can a.made)
+    (subst (λ flow. AreStampsOf sys (events_inside (node_frontier flow p f) h) p (node_frontier flow p f) a.stamps) can.flow
+    (a.held sys h (sym can.flow) (has_epochs sys can.well_formed) (reached-legal sys state can.well_formed can.reached)
+    (within-front sys state p f old.traces can.takes can.settled can.traces)))
+
+-- and its record is stored with those of the other writes
+pub asked-stored : (sys : System) (old new : Running) (before after : Option Records) (state : Machine) (p : ℕ) (f : Front) → CanBeMadeAt sys old state p f
+    → (a : AsksCheckpoint p f old new before after) (writes : List Write) → AreStored sys state before old.parts.keep.entries writes
+    → AreStored sys state after new.parts.keep.entries (writes ++ checkpoint_of state p f ∷ [])
+asked-stored sys old new before after state p f can a writes stored =
+    let r = tagged.State a.checkpoint in
+    let is = made-for sys old state p f a.checkpoint can a.made in
+    let sound = made-sound sys old state p f a.checkpoint can a.made a.few in
+    subst (λ es. AreStored sys state after es (writes ++ checkpoint_of state p f ∷ [])) (sym a.asked.entries)
+    (put_record_is_stored sys state old.parts.keep.entries writes (checkpoint_of state p f) a.asked.id r a.stamps before after stored a.asked.bytes a.asked.records sound is
+    (records_can_be_of_entries sys can.well_formed state can.reached p f state.low a.checkpoint can.takes sound is a.asked.id a.stamps))
+
+pub asked-takes : (p : Policy) → is_asked_for_checkpoints p ≡ true → takes_checkpoints p ≡ true
+asked-takes policy.None e = absurd (two_ways false e refl)
+asked-takes policy.Lazy e = refl
+asked-takes policy.Logged e = refl
+asked-takes policy.Eager e = absurd (two_ways false e refl)
+asked-takes policy.Full e = absurd (two_ways false e refl)
+
+-- a node that is asked for checkpoints takes one where what is settled is not the frontier of its last one
+pub checkpoint-follows : (sys : System) (state : Machine) (old new : Running) (before after : Option Records) → Stands sys old before state → ChangesKeep old new
+    → (p : ℕ) → is_asked_for_checkpoints (policy_of sys.flow p) ≡ true → is_failed state p ≡ false
+    → front_of state.settled p ≢ last_or (no_stamps (bounds_of sys.flow p)) (entry_fronts p old.parts.keep.entries)
+    → AsksCheckpoint p (front_of state.settled p) old new before after → Follows sys state (CheckpointStep p) (did silent) new after
+checkpoint-follows sys state old new before after s changes p asks live other a =
+    let f = front_of state.settled p in
+    let takes = asked-takes (policy_of sys.flow p) asks in
+    let l = takes-declared sys.flow p takes in
+    let entries = old.parts.keep.entries in
+    let e = (takes_checkpoints_by_last_entry sys s.well_formed state s.reached entries s.entries p asks live).0 other in
+    let t = e.1 in
+    let writes = state.writes ++ checkpoint_of state p f ∷ [] in
+    let next : Machine = record state { writes = writes } in
+    let u : LeadsTo sys state (CheckpointStep p) next silent = (t.0, t.1, t.2, refl, refl) in
+    let can = can-be_made sys old before state s p f takes live (reached-settled sys state s.well_formed s.reached p l) (λ v i. i) in
+    let more = checkpoint_of state p f ∷ [] in
+    let entry = asked a.asked.id (tagged.State a.checkpoint) a.stamps in
+    let held : AreEntriesOf sys next new.parts.keep.entries (uncollected next) =
+    subst (λ es. AreEntriesOf sys next es (uncollected next)) (sym a.asked.entries)
+    (entries_after_asking sys s.well_formed state s.reached (CheckpointStep p) next silent u more refl (refl, tt) entries (entry ∷ []) s.entries
+    (asked-entry sys old new before after state p f can a, tt)) in
+    let stored : AreStored sys next after new.parts.keep.entries (uncollected next) =
+    subst (λ es. AreStored sys next after es (uncollected next)) (sym a.asked.entries)
+    (records_after_asking sys s.well_formed state s.reached (CheckpointStep p) next silent u more refl (refl, tt) entries (entry ∷ []) after
+    (subst (λ es. AreStored sys state after es (uncollected state ++ more)) a.asked.entries (asked-stored sys old new before after state p f can a (uncollected state) s.stored))) in
+    record {
+      next = next;
+      steps = u;
+      stands = subst (λ r. Stands sys r after next) (sym changes) (writes-stand sys old new.parts.keep before after state writes (CheckpointStep p) s u held stored);
+    }
+
+-- so it does where the engine says that it may
+pub may-follows : (sys : System) (state : Machine) (old new : Running) (before after : Option Records) → Stands sys old before state → ChangesKeep old new
+    → (p : ℕ) → MayTakeCheckpoint old p → AsksCheckpoint p (front_of old.progress.settled p) old new before after
+    → Follows sys state (CheckpointStep p) (did silent) new after
+may-follows sys state old new before after s c p m a =
+    checkpoint-follows sys state old new before after s c p (ap (λ f. is_asked_for_checkpoints (policy_of f p)) (sym s.flow) ∙ m.asks)
+    (sym (down-failed sys old before state s p) ∙ m.live)
+    (λ e. m.other (ap (λ fs. front_of fs p) s.settled ∙ e ∙ ap (λ f. last_or (no_stamps (bounds_of f p)) (entry_fronts p old.parts.keep.entries)) (sym s.flow)))
+    (subst (λ fs. AsksCheckpoint p (front_of fs p) old new before after) s.settled a)
+
+-- and else nothing happens
+pub may_not-idle : (sys : System) (state : Machine) (old : Running) (records : Option Records) → Stands sys old records state
+    → (p : ℕ) → (MayTakeCheckpoint old p → ⊥) → Follows sys state (CheckpointStep p) idle old records
+may_not-idle sys state old records s p isnt =
+    idle-follows sys old records state (CheckpointStep p) s (
+      λ next effect t. isnt (record {
+        asks = ap (λ f. is_asked_for_checkpoints (policy_of f p)) s.flow ∙ t.0;
+        live = down-failed sys old records state s p ∙ t.1;
+        other = λ e.
+            (takes_checkpoints_by_last_entry sys s.well_formed state s.reached old.parts.keep.entries s.entries p t.0 t.1).1 (next, (t.0, t.1, t.2, t.3, refl))
+            (ap (λ fs. front_of fs p) (sym s.settled) ∙ e ∙ ap (λ f. last_or (no_stamps (bounds_of f p)) (entry_fronts p old.parts.keep.entries)) s.flow);
+      }),
+      refl,
+    )
+
+-- what is persisted is written as it was
+persisted-each : (P : ℕ → Written → Type 0) (entries : List Entry) → AllByRecursion (λ (e : Entry). P e.node e.written) entries
+    → AllByRecursion (λ (e : Entry). P e.node e.written) (persisted entries)
+persisted-each P [] a = tt
+persisted-each P (x ∷ entries) a =
+    cond_both x.acknowledged (x ∷ persisted entries) (record x { acknowledged = true } ∷ entries) (AllByRecursion (λ (e : Entry). P e.node e.written))
+    (λ k. (a.0, persisted-each P entries a.1)) (λ k. a)
+
+-- and fits the flow
+pub persisted-shaped : (old : Running) (keep : KeepState) → IsShaped old → keep ≡ record old.parts.keep { entries = persisted old.parts.keep.entries }
+    → IsShaped (with_keep keep old)
+persisted-shaped old keep s e =
+    shaped-keep old (with_keep keep old) s refl
+    (subst (λ (k : KeepState). AllByRecursion (λ (entry : Entry). IsWrittenOf old.flow entry.node entry.written) k.entries) (sym e)
+    (persisted-each (IsWrittenOf old.flow) old.parts.keep.entries s.entries))
+
+-- a node that may take a checkpoint is there
+pub may-there : (running : Running) (p : ℕ) → MayTakeCheckpoint running p → p < length running.flow.nodes
+may-there running p m = takes-declared running.flow p (asked-takes (policy_of running.flow p) m.asks)
+
+-- a fault leaves the state
+pub fault-leaves : (sys : System) (state : Machine) (p : ℕ) (e : EngineFault) (new : Running) (before after : Option Records) → IsUndamaged {T = Unit {0}} (Err e)
+    → Stands sys new after state → Answers sys state (CheckpointStep p) (Err e) before new after
+fault-leaves sys state p fault.StoreFault new before after u s = s
+fault-leaves sys state p (fault.Damaged id) new before after u s = absurd u
+fault-leaves sys state p fault.NoMemory new before after u s = tt

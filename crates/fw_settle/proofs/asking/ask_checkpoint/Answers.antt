@@ -1,0 +1,19 @@
+use Rattle.std.proofs.Common.{sym, subst}
+use Rattle.fw_model.specs.Offers.{IsRecordOf}
+use Rattle.fw_settle.proofs.AskLaws.{asks-made}
+use Rattle.fw_settle.proofs.ShapeLaws.{shaped-answer}
+use Rattle.fw_settle.proofs.asking.ask_checkpoint.Goals as goal
+
+pub returns-clause-shaped : goal.returns-clause-shaped
+returns-clause-shaped g c =
+    let running = c.args.running.now in
+    let checkpoint = c.in_ok-checkpoint.checkpoint in
+    shaped-answer c.ask.result running c.ask.new.self checkpoint c.in_ok-stamps.stamps (g.K.Store.records c.args.store.now) (g.K.Store.records c.ask.new.store)
+    c.requires.shaped c.ask.ensures.others c.ask.ensures.asked c.ask.ensures.stays
+    (subst (λ n. IsRecordOf running.flow n checkpoint.recorded) (sym c.in_ok-checkpoint.ensures.node) (c.is_of_domains.ensures c.if-not-is_of_domains.false))
+
+pub returns-clause-asked : goal.returns-clause-asked
+returns-clause-asked g c =
+    asks-made c.ask.result c.args.node c.args.front.now c.args.running.now c.ask.new.self (g.K.Store.records c.args.store.now) (g.K.Store.records c.ask.new.store)
+    c.in_ok-checkpoint.checkpoint c.in_ok-stamps.stamps c.ask.ensures.asked c.in_ok-checkpoint.ensures (c.is_countable.ensures c.if-not-is_countable.false)
+    (λ sys h e epochs legal t. c.in_ok-stamps.ensures.stamps sys h e epochs legal t)

@@ -1,0 +1,64 @@
+use Rattle.std.proofs.Common.{◌≡◌, [], length, arith, rules, sym, ap, subst, ◌∙◌, Err}
+use Rattle.std.proofs.lemmas.Bool.{both_ways}
+use Rattle.fw_frontier.specs.Front.{Front, IsCanonical}
+use Rattle.fw_flow.specs.declared.step.Step.TheVariants.{Checkpoint}
+use Rattle.fw_flow.specs.Dataflow.{bounds_of}
+use Rattle.fw_model.specs.Machine.{front_of}
+use Rattle.fw_progress.proofs.TargetLaws.{read_at}
+use Rattle.fw_running.specs.Steps.{Answers}
+use Rattle.fw_running.proofs.SameStateLaws.{unasked-stands}
+use Rattle.fw_settle.specs.Checkpoints.{AsksCheckpoint}
+use Rattle.fw_settle.proofs.WritesLaws.{may-follows, may_not-idle, may-there, fault-leaves}
+use Rattle.fw_settle.proofs.checkpoints.checkpoint.Goals as goal
+
+pub returns-then-not-may_take-clause-takes : goal.returns-then-not-may_take-clause-takes
+returns-then-not-may_take-clause-takes g c = λ sys state s trust.
+    may_not-idle sys state c.args.running.now (g.K.Store.records c.args.store.now) s c.args.node
+    (λ m. both_ways c.may_take.result c.if-not-may_take.true (c.may_take.ensures.1 m))
+
+pub bounds-settled-place : goal.bounds-settled-place
+bounds-settled-place g c =
+    let there = may-there c.args.running.now c.args.node (c.may_take.ensures.0 c.if-not-may_take.false) in
+    let each = c.requires.shaped.progress.settled_each in
+    let long = ap length c.settled.ensures in
+    omega (arith, there, each, long, c.place.ensures)
+
+pub ask_checkpoint-requires-clause-there : goal.ask_checkpoint-requires-clause-there
+ask_checkpoint-requires-clause-there g c = may-there c.args.running.now c.args.node (c.may_take.ensures.0 c.if-not-may_take.false)
+
+pub ask_checkpoint-requires-clause-front : goal.ask_checkpoint-requires-clause-front
+ask_checkpoint-requires-clause-front g c =
+    let running = c.args.running.now in
+    let there = may-there running c.args.node (c.may_take.ensures.0 c.if-not-may_take.false) in
+    let each = c.requires.shaped.progress.settled_each in
+    let long = ap length c.settled.ensures in
+    let here : c.index-settled-place.result ≡ front_of running.progress.settled c.args.node =
+    subst (λ fs. c.index-settled-place.result ≡ front_of fs c.args.node) c.settled.ensures
+    (read_at c.settled.result.now c.args.node c.place.result c.index-settled-place.result [] c.place.ensures (omega (arith, there, each, long, c.place.ensures)) c.index-settled-place.is) in
+    subst (IsCanonical (bounds_of running.flow c.args.node)) (sym (c.in_ok-front.ensures ∙ here)) (c.requires.shaped.progress.settled c.args.node)
+
+pub returns-in_err-ask_checkpoint-clause-takes : goal.returns-in_err-ask_checkpoint-clause-takes
+returns-in_err-ask_checkpoint-clause-takes g c = λ sys state s.
+    let old = c.args.running.now in
+    let new = c.ask_checkpoint.new.running in
+    let before = g.K.Store.records c.args.store.now in
+    let after = g.K.Store.records c.ask_checkpoint.new.store in
+    let is : c.from_residual-in_err-ask_checkpoint.result ≡ Err c.in_err-ask_checkpoint.field-0.0 = search rules in
+    subst (λ r. Answers sys state (Checkpoint c.args.node) r before new after) (sym is)
+    (fault-leaves sys state c.args.node c.in_err-ask_checkpoint.field-0.0 new before after c.in_err-ask_checkpoint.ensures.undamaged
+    (unasked-stands sys old new before after state s c.ask_checkpoint.ensures.others c.in_err-ask_checkpoint.ensures.stays))
+
+pub returns-clause-takes : goal.returns-clause-takes
+returns-clause-takes g c = λ sys state s trust.
+    let old = c.args.running.now in
+    let new = c.ask_checkpoint.new.running in
+    let before = g.K.Store.records c.args.store.now in
+    let after = g.K.Store.records c.ask_checkpoint.new.store in
+    let there = may-there old c.args.node (c.may_take.ensures.0 c.if-not-may_take.false) in
+    let each = c.requires.shaped.progress.settled_each in
+    let long = ap length c.settled.ensures in
+    let here : c.index-settled-place.result ≡ front_of old.progress.settled c.args.node =
+    subst (λ fs. c.index-settled-place.result ≡ front_of fs c.args.node) c.settled.ensures
+    (read_at c.settled.result.now c.args.node c.place.result c.index-settled-place.result [] c.place.ensures (omega (arith, there, each, long, c.place.ensures)) c.index-settled-place.is) in
+    may-follows sys state old new before after s c.ask_checkpoint.ensures.others c.args.node (c.may_take.ensures.0 c.if-not-may_take.false)
+    (subst (λ (f : Front). AsksCheckpoint c.args.node f old new before after) (c.in_ok-front.ensures ∙ here) c.in_ok-ask_checkpoint.ensures.asked)

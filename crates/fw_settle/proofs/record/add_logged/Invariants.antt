@@ -1,0 +1,12 @@
+use Rattle.std.proofs.Common.{◌≡◌, ◌++◌, map}
+use Rattle.std.specs.List.{AllByRecursion}
+use Rattle.fw_flow.specs.declared.event.Message.{Message}
+use Rattle.fw_record.specs.Sound.{IsRec}
+use Rattle.fw_record.specs.declared.logged.Logged.{Logged}
+use Rattle.fw_settle.proofs.record.add_logged.Given as goal
+
+abbrev pub invariant-loop-message : goal.invariant-loop-message
+invariant-loop-message l = record {
+  added : l.all.items ≡ l.fn.all.items ++ map (λ (m : Message). record { edge = l.edge; message = m }) l.yielded;
+  small : AllByRecursion (λ (x : Logged). IsRec x.message.rec) l.fn.all.items → AllByRecursion (λ (x : Logged). IsRec x.message.rec) l.all.items;
+}

@@ -1,0 +1,42 @@
+use Rattle.std.proofs.Common.{◌≡◌, ◌+◌, rules, arith, Some, None, refl, subst}
+use Rattle.fw_settle.specs.Settling.{IsFoundToSettle}
+use Rattle.fw_settle.proofs.SearchLaws.{HaveAskedUpTo, asking-first, asking-next, asking-all, keep-both}
+use Rattle.fw_settle.proofs.settling.ask_each.Goals as goal
+
+pub loop-next-init : goal.loop-next-init
+loop-next-init g c = record {
+  others = refl;
+  shaped = c.requires.shaped;
+  stored = c.requires.stored;
+  asked = asking-first c.args.running.now (g.K.Store.records c.args.store.now) c.grown_from-next.result c.grown_from-next.ensures;
+  never_falls = omega arith;
+}
+
+pub loop-next-preserved : goal.loop-next-preserved
+loop-next-preserved g c =
+    let old = c.args.running.now in
+    let mid = c.loop-next.running in
+    let new = c.ask_if_eager.new.running in
+    let before = g.K.Store.records c.args.store.now in
+    let between = g.K.Store.records c.loop-next.store in
+    let after = g.K.Store.records c.ask_if_eager.new.store in
+    let node = c.in-Some.node in
+    let next : c.loop-next.next ≡ Some node = search rules in
+    record {
+      others = keep-both old mid new c.loop-next.invariant.others c.ask_if_eager.ensures.others;
+      shaped = c.ask_if_eager.ensures.shaped;
+      stored = c.ask_if_eager.ensures.stored;
+      asked = asking-next old mid new before between after node c.grown_from-next-in-Some.result c.loop-next.invariant.others
+          (subst (HaveAskedUpTo old mid before between) next c.loop-next.invariant.asked) c.in_ok-ask_if_eager.ensures.asked
+          (subst (λ n. IsFoundToSettle new (n + 1) c.grown_from-next-in-Some.result) c.place.ensures c.grown_from-next-in-Some.ensures);
+      never_falls = omega (arith, c.loop-next.invariant.never_falls, c.ask_if_eager.ensures.never_falls);
+    }
+
+pub returns-clause-asked : goal.returns-clause-asked
+returns-clause-asked g c =
+    let old = c.args.running.now in
+    let before = g.K.Store.records c.args.store.now in
+    let after = g.K.Store.records c.loop-next.store in
+    let next : c.loop-next.next ≡ None = search rules in
+    asking-all old c.loop-next.running before after c.loop-next.invariant.others
+    (subst (HaveAskedUpTo old c.loop-next.running before after) next c.loop-next.invariant.asked)

@@ -1,0 +1,18 @@
+use Rattle.std.proofs.Common.{◌≤◌}
+use Rattle.fw_keep.specs.Stored.{IsStored}
+use Rattle.fw_running.specs.Logging.{ChangesKeep}
+use Rattle.fw_running.specs.Shaped.{IsShaped}
+use Rattle.fw_settle.proofs.SearchLaws.{HaveAskedUpTo, left}
+use Rattle.fw_settle.proofs.settling.ask_each.Given as goal
+
+abbrev pub invariant-loop-next : goal.invariant-loop-next
+invariant-loop-next g l = record {
+  others : ChangesKeep l.fn.running l.running;
+  shaped : IsShaped l.running;
+  stored : IsStored l.running.parts.keep (g.K.Store.records l.store);
+  asked : HaveAskedUpTo l.fn.running l.running (g.K.Store.records l.fn.store) (g.K.Store.records l.store) l.next;
+  never_falls : g.K.Store.fault_count l.fn.store ≤ g.K.Store.fault_count l.store;
+}
+
+abbrev pub decreases-loop-next : goal.decreases-loop-next
+decreases-loop-next g l = left l.next

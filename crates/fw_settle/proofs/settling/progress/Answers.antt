@@ -1,0 +1,47 @@
+use Rattle.std.proofs.Common.{◌≡◌, rules, None, Some, sym, subst, Err}
+use Rattle.fw_flow.specs.declared.step.Step.TheVariants.{Progress}
+use Rattle.fw_keep.specs.Catalogue.{KeepState}
+use Rattle.fw_keep.specs.Stored.{IsStored}
+use Rattle.fw_running.specs.Steps.{TakesStep}
+use Rattle.fw_settle.specs.Settling.{IsFoundToSettle}
+use Rattle.fw_settle.proofs.ProgressLaws.{idle-takes, did-takes, fault-takes, progresses}
+use Rattle.fw_settle.proofs.settling.progress.Goals as goal
+
+pub returns-in_default-clause-takes : goal.returns-in_default-clause-takes
+returns-in_default-clause-takes g c =
+    let mid = c.refresh.new.self in
+    let none : c.grown_from.result ≡ None = search rules in
+    idle-takes c.args.running.now mid (g.K.Store.records c.args.store.now) c.in_ok-refresh.ensures.up (subst (IsFoundToSettle mid 0) none c.grown_from.ensures)
+
+pub returns-in_err-settle_grown-clause-stored : goal.returns-in_err-settle_grown-clause-stored
+returns-in_err-settle_grown-clause-stored g c =
+    subst (λ (k : KeepState). IsStored k (g.K.Store.records c.ask_eager.new.store)) (sym c.settle_grown.ensures.keep) c.ask_eager.ensures.stored
+
+pub returns-clause-stored : goal.returns-clause-stored
+returns-clause-stored g c =
+    subst (λ (k : KeepState). IsStored k (g.K.Store.records c.ask_eager.new.store)) (sym c.settle_grown.ensures.keep) c.ask_eager.ensures.stored
+
+pub returns-in_err-ask_eager-clause-takes : goal.returns-in_err-ask_eager-clause-takes
+returns-in_err-ask_eager-clause-takes g c =
+    let old = c.args.running.now in
+    let mid = c.refresh.new.self in
+    let new = c.ask_eager.new.running in
+    let before = g.K.Store.records c.args.store.now in
+    let after = g.K.Store.records c.ask_eager.new.store in
+    let e = c.in_err-ask_eager.field-0.0 in
+    let is : c.from_residual-in_err-ask_eager.result ≡ Err e = search rules in
+    subst (λ r. TakesStep old before Progress r new after) (sym is)
+    (fault-takes old mid new before after e c.in_ok-refresh.ensures.up c.ask_eager.ensures.others c.in_err-ask_eager.ensures.stays c.in_err-ask_eager.ensures.undamaged)
+
+pub returns-clause-takes : goal.returns-clause-takes
+returns-clause-takes g c =
+    let old = c.args.running.now in
+    let mid = c.refresh.new.self in
+    let asked = c.ask_eager.new.running in
+    let new = c.settle_grown.new.running in
+    let before = g.K.Store.records c.args.store.now in
+    let after = g.K.Store.records c.ask_eager.new.store in
+    let first = c.in-Some._first in
+    let found : c.grown_from.result ≡ Some first = search rules in
+    did-takes old mid new before after first c.in_ok-refresh.ensures.up c.in_ok-refresh.ensures.shaped (subst (IsFoundToSettle mid 0) found c.grown_from.ensures)
+    (progresses mid asked new before after c.ask_eager.ensures.others c.in_ok-ask_eager.ensures.asked c.in_ok-settle_grown.ensures.others c.in_ok-settle_grown.ensures.settled)

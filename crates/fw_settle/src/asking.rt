@@ -1,0 +1,68 @@
+//! Writes are asked.
+ghost use Rattle.std.specs.Prelude.{◌≡◌, ◌<◌, ◌≤◌, ◌++◌, List, Option, length, IsErrOf, OnOk, OnErr};
+ghost use Rattle.fw_outside.specs.Outside.{Rose};
+ghost use Rattle.fw_frontier.specs.Front.{IsCanonical};
+ghost use Rattle.fw_flow.specs.Dataflow.{bounds_of};
+ghost use Rattle.fw_keep.specs.declared.entry.Entry.{Entry as Write};
+ghost use Rattle.fw_keep.specs.Catalogue.{AreInFlight};
+ghost use Rattle.fw_keep.specs.Stored.{Records, IsStored};
+ghost use Rattle.fw_settle.specs.Checkpoints.{AsksCheckpoint};
+ghost use Rattle.fw_running.specs.Shaped.{IsShaped};
+ghost use Rattle.fw_running.specs.Steps.{IsUndamaged};
+ghost use Rattle.fw_running.specs.Logging.{ChangesKeep, IsAsked, IsNotAsked};
+
+use crate::checking::{is_countable, is_of_domains};
+use crate::record::checkpoint_at;
+use fw_flow::NodeId;
+use fw_frontier::Front;
+use fw_outside::Store;
+use fw_record::Record;
+use fw_running::{EngineFault, Running};
+
+/// A node asks a checkpoint at a frontier, which holds what is settled. A fault leaves all as it was. A checkpoint of more
+/// parts than its record can count, or with a front that is not the one list of its frontier, as traces of events never give,
+/// is answered as want of memory.
+pub(crate) fn ask_checkpoint<K: Store>(
+    running: &mut Running,
+    node: NodeId,
+    front: &Front,
+    store: &mut K,
+) -> Result<(), EngineFault>
+    requires shaped { IsShaped running.old }
+    requires stored { IsStored running.old.parts.keep (K.records store.old) }
+    requires there { node < length running.old.flow.nodes }
+    requires front { IsCanonical (bounds_of running.old.flow node) front.now }
+    ensures others { ChangesKeep running.old running.new }
+    ensures shaped { IsShaped running.new }
+    ensures stored { IsStored running.new.parts.keep (K.records store.new) }
+    ensures asked { OnOk result (AsksCheckpoint node front.now running.old running.new (K.records store.old) (K.records store.new)) }
+    ensures stays { OnErr result (IsNotAsked running.old.parts.keep.entries running.new.parts.keep.entries
+        (K.records store.old) (K.records store.new)) }
+    ensures fault { IsErrOf result EngineFault.StoreFault → Rose (K.fault_count store.old) (K.fault_count store.new) }
+    ensures never_falls { K.fault_count store.old ≤ K.fault_count store.new }
+    ensures undamaged { IsUndamaged result }
+{
+    let checkpoint = checkpoint_at(running, node, front)?;
+    if !is_countable(&checkpoint) || !is_of_domains(&running.flow, node, &checkpoint.recorded) {
+        return Err(EngineFault::NoMemory);
+    }
+    let stamps = running
+        .traces
+        .stamps_inside(running.alloc, &running.flow, node, front)?;
+    running.ask(&Record::State(checkpoint), stamps, store)
+}
+
+/// The writes in flight behind the first so many are withdrawn.
+pub(crate) fn withdraw_from(running: &mut Running, count: usize)
+    ensures others { ChangesKeep running.old running.new }
+    ensures stored { (records : Option Records) → IsStored running.old.parts.keep records → IsStored running.new.parts.keep records }
+    ensures withdrawn { (before more : List Write) → running.old.parts.keep.entries ≡ before ++ more → length before ≡ count → AreInFlight more
+        → running.new.parts.keep.entries ≡ before }
+{
+    let entries = running.parts.keep.entries();
+    if count >= entries.len() {
+        return;
+    }
+    let first = entries[count].id;
+    running.parts.keep.withdraw(first);
+}

@@ -1,0 +1,111 @@
+//! The steps of writes: a checkpoint is asked, and a write is acknowledged.
+ghost use Rattle.std.specs.Prelude.{◌≡◌, ◌↔◌, ◌<◌, ◌≤◌, ℕ, List, length, Option, Ok, IsTrue, IsErrOf, unwrap_or};
+ghost use Rattle.std.specs.Option.{option_copied};
+ghost use Rattle.fw_frontier.specs.Front.{IsCanonical};
+ghost use Rattle.fw_flow.specs.Dataflow.{bounds_of};
+ghost use Rattle.fw_model.specs.Machine.{front_of, no_stamps};
+ghost use Rattle.fw_model.specs.Steps as steps_of;
+ghost use Rattle.fw_model.specs.Steps.{last_or};
+ghost use Rattle.fw_outside.specs.Outside.{Rose};
+ghost use Rattle.fw_flow.specs.declared.step.Step.TheVariants as steps;
+ghost use Rattle.fw_keep.specs.Stored.{Records, IsStored};
+ghost use Rattle.fw_stands.specs.LawsOfEntries.{entry_fronts};
+ghost use Rattle.fw_running.specs.Shaped.{IsShaped};
+ghost use Rattle.fw_settle.specs.Checkpoints.{MayTakeCheckpoint};
+ghost use Rattle.fw_running.specs.Steps.{TakesStep, StaysShaped, IsUndamaged};
+
+use crate::asking::ask_checkpoint;
+use fw_flow::{NodeId, Policy};
+use fw_frontier::Front;
+use fw_keep::{Entry, Written};
+use fw_outside::Store;
+use fw_running::{Effect, EngineFault, Running, Stepped};
+
+/// The node asks a checkpoint of what is settled.
+pub fn checkpoint<K: Store>(
+    running: &mut Running,
+    node: NodeId,
+    store: &mut K,
+) -> Result<Stepped, EngineFault>
+    requires shaped { IsShaped running.old }
+    requires stored { IsStored running.old.parts.keep (K.records store.old) }
+    ensures shaped { StaysShaped result running.new }
+    ensures stored { IsStored running.new.parts.keep (K.records store.new) }
+    ensures flow { running.new.flow ≡ running.old.flow }
+    ensures takes { TakesStep running.old (K.records store.old) (steps.Checkpoint node) result running.new (K.records store.new) }
+    ensures fault { IsErrOf result EngineFault.StoreFault → Rose (K.fault_count store.old) (K.fault_count store.new) }
+    ensures never_falls { K.fault_count store.old ≤ K.fault_count store.new }
+    ensures undamaged { IsUndamaged result }
+{
+    if !may_take(running, node) {
+        return Ok(Stepped::Idle);
+    }
+    let front = running.progress.settled()[node.place() as usize].copy()?;
+    ask_checkpoint(running, node, &front, store)?;
+    Ok(Stepped::Did(Effect::Silent))
+}
+
+// Whether a node takes checkpoints when asked, is not failed, and has not taken the newest one at what is settled.
+fn may_take(running: &Running, node: NodeId) -> bool
+    requires shaped { IsShaped running.now }
+    ensures { IsTrue result ↔ MayTakeCheckpoint running.now node }
+{
+    if !is_asked_for_checkpoints(running.flow.policy(node)) {
+        return false;
+    }
+    if running.is_failed(node) {
+        return false;
+    }
+    !is_newest_settled(running, node)
+}
+
+// Whether the newest checkpoint of a node is at what is settled; where it has none, whether nothing is settled.
+fn is_newest_settled(running: &Running, node: NodeId) -> bool
+    requires there { node < length running.now.progress.settled }
+    requires settled { IsCanonical (bounds_of running.now.flow node) (front_of running.now.progress.settled node) }
+    ensures { IsTrue result ↔ (front_of running.now.progress.settled node
+        ≡ last_or (no_stamps (bounds_of running.now.flow node)) (entry_fronts node running.now.parts.keep.entries)) }
+{
+    let settled = &running.progress.settled()[node.place() as usize];
+    match newest_checkpoint(running.parts.keep.entries(), node) {
+        Some(front) => front.same(settled),
+        None => !settled.contains(&running.flow.domain(node).origin()),
+    }
+}
+
+/// The oldest write in flight is acknowledged.
+pub fn persist(running: &mut Running) -> Stepped
+    requires shaped { IsShaped running.old }
+    ensures shaped { IsShaped running.new }
+    ensures stored { (records : Option Records) → IsStored running.old.parts.keep records → IsStored running.new.parts.keep records }
+    ensures flow { running.new.flow ≡ running.old.flow }
+    ensures takes { (records : Option Records) → TakesStep running.old records steps.Persist (Ok result) running.new records }
+{
+    match running.parts.keep.persist_one() {
+        Some(_id) => Stepped::Did(Effect::Silent),
+        None => Stepped::Idle,
+    }
+}
+
+// Whether a node of the policy takes checkpoints when asked.
+fn is_asked_for_checkpoints(policy: Policy) -> bool
+    ensures { result ≡ steps_of.is_asked_for_checkpoints policy }
+{
+    matches!(policy, Policy::Lazy | Policy::Logged)
+}
+
+// The frontier of the newest checkpoint of a node.
+fn newest_checkpoint(entries: &[Entry], node: NodeId) -> Option<&Front>
+    ensures { (f : List (List ℕ)) → unwrap_or (option_copied result) f ≡ last_or f (entry_fronts node entries.now) }
+{
+    let mut rest = entries;
+    while let Some((entry, before)) = rest.split_last() {
+        if entry.node == node {
+            if let Written::Checkpoint { recorded, .. } = &entry.written {
+                return Some(&recorded.front);
+            }
+        }
+        rest = before;
+    }
+    None
+}

@@ -1,0 +1,11 @@
+//! The steps of an engine that settle and write: progress, a checkpoint that is asked, a write that is acknowledged.
+#![tactic(auto)]
+
+mod asking;
+mod checking;
+mod checkpoints;
+mod record;
+mod settling;
+
+pub use checkpoints::{checkpoint, persist};
+pub use settling::progress;

@@ -1,0 +1,279 @@
+//! The record of a checkpoint, made of the parts.
+ghost use Rattle.std.specs.Prelude.{◌≡◌, ◌<◌, ◌^◌, ◌++◌, ◌∷◌, [], ℕ, List, true, length, map, Option, None, IsTrue, IfOk, OnOk, IfSome};
+ghost use Rattle.std.specs.List.{AllByRecursion, AllZip};
+ghost use Rattle.fw_time.specs.Stamp.{in_domain};
+ghost use Rattle.fw_frontier.specs.Front.{IsCanonical, inside};
+ghost use Rattle.fw_flow.specs.declared.event.Message.{Message as Sent};
+ghost use Rattle.fw_flow.specs.Dataflow.{kind_of, policy_of, in_edges, out_edges, bounds_of, is_sequence_kind};
+ghost use Rattle.fw_flow.specs.Restoring.{can_resend};
+ghost use Rattle.fw_node.specs.declared.node.Node.{Node as Table};
+ghost use Rattle.fw_progress.specs.Counts.{sent_of};
+ghost use Rattle.fw_progress.specs.Trace.{HaveLists};
+ghost use Rattle.fw_record.specs.Sound.{IsRec};
+ghost use Rattle.fw_settle.specs.Checkpoints.{IsDelivered, IsDiscarded, IsOfEdge, IsRecordedAt, AreTotalsAt, AreSendsOf, AreSendsAt, IsStateAt, logged_from, logged_at, IsLogAt, IsMadeAt};
+ghost use Rattle.fw_settle.specs.Sends.{is_last_of, HasTaken, HasCount, HasSends};
+ghost use Rattle.fw_running.specs.Kept.{log_at, table_of};
+ghost use Rattle.fw_running.specs.Shaped.{IsShaped};
+
+use fw_bag::{Rec, Recs};
+use fw_flow::{EdgeId, Message, NodeId, OfEdge, OfEdges, Recorded, SentTable};
+use fw_frontier::{Entries, Front, SentCount, SentCounts, State};
+use fw_record::{Checkpoint, Log, Logged};
+use fw_running::Running;
+use fw_time::Stamp;
+use std::alloc::{AllocError, Global};
+
+/// What a node's events inside a frontier made, which holds what is settled. The error is want of memory.
+pub(crate) fn checkpoint_at(
+    running: &Running,
+    node: NodeId,
+    front: &Front,
+) -> Result<Checkpoint, AllocError>
+    requires shaped { IsShaped running.now }
+    requires there { node < length running.now.flow.nodes }
+    requires front { IsCanonical (bounds_of running.now.flow node) front.now }
+    ensures { IfOk result (IsMadeAt running.now node front.now) }
+{
+    Ok(Checkpoint {
+        node,
+        recorded: recorded_at(running, node, front)?,
+        state: state_at(running, node, front)?,
+        log: log_at(running, node, front)?,
+    })
+}
+
+// The frontier, with the covers of the node's events inside.
+fn recorded_at(running: &Running, node: NodeId, front: &Front) -> Result<Recorded, AllocError>
+    requires shaped { IsShaped running.now }
+    requires there { node < length running.now.flow.nodes }
+    ensures { IfOk result (IsRecordedAt running.now.flow running.now.traces node front.now) }
+{
+    Ok(Recorded {
+        front: front.copy()?,
+        notified: running.traces.notified_cover(&running.flow, node, front)?,
+        delivered: OfEdges::of(delivered_at(running, node, front)?),
+        discarded: OfEdges::of(discarded_at(running, node, front)?),
+    })
+}
+
+// For each in-edge the cover of what was delivered inside.
+fn delivered_at(running: &Running, node: NodeId, front: &Front) -> Result<Vec<OfEdge>, AllocError>
+    requires { HaveLists running.now.flow running.now.traces }
+    ensures { IfOk result (λ xs. AllZip (IsOfEdge (IsDelivered running.now.flow running.now.traces front.now))
+        (in_edges running.now.flow node) xs.items) }
+{
+    let mut delivered = Vec::new(running.alloc);
+    for edge in running.flow.in_edges(node) {
+        let front = running.traces.delivered_cover(&running.flow, *edge, front)?;
+        delivered.push(OfEdge { edge: *edge, front })?;
+    }
+    Ok(delivered)
+}
+
+// For each out-edge the cover of what the events inside sent and can not be sent again.
+fn discarded_at(running: &Running, node: NodeId, front: &Front) -> Result<Vec<OfEdge>, AllocError>
+    requires { HaveLists running.now.flow running.now.traces }
+    ensures { IfOk result (λ xs. AllZip
+        (IsOfEdge (IsDiscarded running.now.flow running.now.traces front.now (can_resend (policy_of running.now.flow node))))
+        (out_edges running.now.flow node) xs.items) }
+{
+    let resends = running.flow.policy(node).can_resend();
+    let mut discarded = Vec::new(running.alloc);
+    for edge in running.flow.out_edges(node) {
+        let front = discarded_on(running, resends, *edge, front)?;
+        discarded.push(OfEdge { edge: *edge, front })?;
+    }
+    Ok(discarded)
+}
+
+// The cover of what the events inside sent on an edge; nothing where it can be sent again.
+fn discarded_on(
+    running: &Running,
+    resends: bool,
+    edge: EdgeId,
+    front: &Front,
+) -> Result<Front, AllocError>
+    requires lists { HaveLists running.now.flow running.now.traces }
+    requires there { edge < length running.now.flow.edges }
+    ensures { IfOk result (IsDiscarded running.now.flow running.now.traces front.now resends edge) }
+{
+    if resends {
+        let bounds = running.flow.domain(running.flow.dst(edge));
+        return Front::empty(running.alloc, &bounds);
+    }
+    running
+        .traces
+        .sent_cover(running.alloc, &running.flow, edge, front)
+}
+
+// What the node holds of what came inside, and how many messages it sent.
+fn state_at(running: &Running, node: NodeId, front: &Front) -> Result<State, AllocError>
+    requires shaped { IsShaped running.now }
+    requires there { node < length running.now.flow.nodes }
+    requires front { IsCanonical (bounds_of running.now.flow node) front.now }
+    ensures { IfOk result (IsStateAt running.now node front.now) }
+{
+    let totals = totals_at(running, node, front)?;
+    have_numbers(totals.as_slice());
+    Ok(State {
+        sent: running.traces.sent_count(&running.flow, node, front)?,
+        sends: SentCounts::of(sends_at(running, node, front)?),
+        entries: Entries::Totals(totals),
+    })
+}
+
+// What the node's table holds of what came inside; nothing where it has none.
+fn totals_at(running: &Running, node: NodeId, front: &Front) -> Result<Recs, AllocError>
+    requires table { IfSome (table_of running.now node) (λ (table : Table). AllByRecursion (λ o. in_domain table.bounds o ≡ true) front.now) }
+    ensures { IfOk result (AreTotalsAt running.now.flow (table_of running.now node) node front.now) }
+{
+    match running.parts.tables.get(node) {
+        Some(table) => table.totals_at(front),
+        None => Ok(Recs::of(Vec::new(running.alloc))),
+    }
+}
+
+// How many messages a sequence sent in each epoch inside; of other nodes nothing is told.
+fn sends_at(running: &Running, node: NodeId, front: &Front) -> Result<Vec<SentCount>, AllocError>
+    requires { node < length running.now.progress.counts.sent.items }
+    ensures { IfOk result (λ sends. AreSendsAt (is_sequence_kind (kind_of running.now.flow node)) front.now
+        (sent_of running.now.progress.counts node) sends.items) }
+{
+    if !running.flow.kind(node).is_sequence() {
+        return Ok(Vec::new(running.alloc));
+    }
+    let table = &running.progress.counts().sent[node.place() as usize];
+    sends_inside(running.alloc, table, front)
+}
+
+// What the events inside sent and may have to be sent again, in order.
+fn log_at(running: &Running, node: NodeId, front: &Front) -> Result<Log, AllocError>
+    requires { length running.now.parts.logs ≡ length running.now.flow.edges }
+    ensures { IfOk result (IsLogAt running.now.flow (log_at running.now) node front.now) }
+{
+    Ok(Log::sorted(logged_at(running, node, front)?))
+}
+
+// The same, edge by edge.
+fn logged_at(running: &Running, node: NodeId, front: &Front) -> Result<Vec<Logged>, AllocError>
+    requires { length running.now.parts.logs ≡ length running.now.flow.edges }
+    ensures all { IfOk result (λ all. all.items ≡ logged_at running.now.flow (log_at running.now) node front.now) }
+    ensures small { IfOk result (λ all. AllByRecursion (λ l. IsRec l.message.rec) all.items) }
+{
+    let mut all = Vec::new(running.alloc);
+    if !running.flow.policy(node).can_resend() {
+        return Ok(all);
+    }
+    for edge in running.flow.out_edges(node) {
+        if let Some(log) = running.parts.logs.get(*edge) {
+            add_logged(&mut all, *edge, log.caused_in(front)?)?;
+        }
+    }
+    Ok(all)
+}
+
+// What a sequence sent in each epoch of its table that is inside. The error is want of memory, or that a sum would not fit 64
+// bits.
+fn sends_inside(
+    alloc: Global,
+    table: &SentTable,
+    front: &Front,
+) -> Result<Vec<SentCount>, AllocError>
+    ensures { IfOk result (λ sends. AreSendsOf front.now table.now sends.items) }
+{
+    let mut sends = Vec::new(alloc);
+    for place in 0..table.len() {
+        if let Some((epoch, count)) = table.get(place) {
+            add_sends(&mut sends, front, epoch, count)?;
+        }
+    }
+    Ok(sends)
+}
+
+// Adds what was sent in an epoch, if that is inside; nothing is not told.
+fn add_sends(
+    sends: &mut Vec<SentCount>,
+    front: &Front,
+    epoch: u32,
+    count: u64,
+) -> Result<(), AllocError>
+    ensures { OnOk result (HasSends front.now epoch count sends.old.items sends.new.items) }
+{
+    let cause = Stamp::new(&[epoch]);
+    if count == 0 || !front.contains(&cause) {
+        return Ok(());
+    }
+    add_count(sends, cause, count)
+}
+
+// Adds what was sent from a stamp: what is already told of the stamp, if that is the last one, is counted with it.
+fn add_count(sends: &mut Vec<SentCount>, cause: Stamp, count: u64) -> Result<(), AllocError>
+    ensures { OnOk result (HasCount cause count sends.old.items sends.new.items) }
+{
+    let before = take_count(sends, &cause);
+    let count = before.checked_add(count).ok_or(AllocError)?;
+    sends.push(SentCount { cause, count })?;
+    Ok(())
+}
+
+// Takes the last count out, if it is of a stamp, and answers it; 0 where it is of another one.
+fn take_count(sends: &mut Vec<SentCount>, cause: &Stamp) -> u64
+    ensures { HasTaken cause.now result sends.old.items sends.new.items }
+{
+    if !is_last(sends, cause) {
+        return 0;
+    }
+    match sends.pop() {
+        Some(last) => last.count,
+        None => 0,
+    }
+}
+
+// Whether the last count is of a stamp.
+fn is_last(sends: &[SentCount], cause: &Stamp) -> bool
+    ensures { result ≡ is_last_of cause.now sends.now }
+{
+    match sends.last() {
+        Some(last) => last.cause.leq(cause) && cause.leq(&last.cause),
+        None => false,
+    }
+}
+
+// Adds messages on an edge.
+fn add_logged(all: &mut Vec<Logged>, edge: EdgeId, messages: Vec<Message>) -> Result<(), AllocError>
+    ensures added { OnOk result (all.new.items ≡ all.old.items ++ map (λ (m : Sent). record { edge = edge; message = m }) messages.items) }
+    ensures small { OnOk result (AllByRecursion (λ l. IsRec l.message.rec) all.old.items
+        → AllByRecursion (λ l. IsRec l.message.rec) all.new.items) }
+{
+    all.reserve(messages.len())?;
+    for message in messages {
+        all.push(logged(edge, message))?;
+    }
+    Ok(())
+}
+
+// A message on an edge, with a rec of two numbers of 64 bits.
+fn logged(edge: EdgeId, message: Message) -> Logged
+    ensures is { result ≡ record { edge = edge; message = message } }
+    ensures small { IsRec message.rec }
+{
+    has_numbers(message.rec);
+    Logged { edge, message }
+}
+
+// Each of the recs has two numbers of 64 bits: of one that is read a contract sees it.
+fn have_numbers(recs: &[Rec])
+    ensures each { AllByRecursion IsRec recs.now }
+    ensures few { length recs.now < 2 ^ 64 }
+{
+    for rec in recs {
+        has_numbers(*rec);
+    }
+}
+
+// The rec has two numbers of 64 bits.
+fn has_numbers(rec: Rec)
+    ensures { IsRec rec }
+{
+    let _ = rec;
+}

@@ -1,0 +1,394 @@
+-- What an engine knows of its nodes is so in each state for which it stands, and of its flow.
+use Rattle.std.proofs.Common.{◌≡◌, ◌↔◌, ◌⊎◌, inl, inr, ℕ, zero, suc, ◌+◌, ◌<◌, ◌≤◌, Bool, true, false, not, cond, ◌||◌, ◌==◌, List, [], ◌∷◌, ◌++◌, length, map, filter, get_or, slice_index_or, Option, Result, Ok, Err, IfOk, refl, sym, ◌∙◌, ap, subst, arith}
+use Rattle.std.specs.List.{AllByRecursion, Contains, flat_map}
+use Rattle.std.proofs.lemmas.Bool.{and_parts, and_from, eqb-true, both_ways}
+use Rattle.std.proofs.lemmas.List.{get_or_default, length-append}
+use Rattle.fw_time.specs.Stamp.{Stamp, in_domain}
+use Rattle.fw_time.proofs.EachLaws.{each-kept, each-weaker, each-both, each-filter, each-one}
+use Rattle.fw_frontier.specs.Frontier.{Frontier}
+use Rattle.fw_frontier.specs.Front.{Front, IsCanonical}
+use Rattle.fw_flow.specs.declared.choice.Choice.{Choice}
+use Rattle.fw_flow.specs.declared.choice.Counted.{Counted}
+use Rattle.fw_flow.specs.declared.choice.Offer.{Offer}
+use Rattle.fw_flow.specs.declared.choice.Stamps.{Stamps}
+use Rattle.fw_flow.specs.declared.event.Event.{Event}
+use Rattle.fw_flow.specs.declared.event.Message.{Message}
+use Rattle.fw_flow.specs.declared.kind.Kind.{Kind}
+use Rattle.fw_flow.specs.declared.kind.Kind.TheVariants.{Input, OutputEpoch, OutputNumber, Sequence}
+use Rattle.fw_flow.specs.Dataflow.{System, Dataflow, kind_of, sender, receiver, bounds_of, is_input_kind, is_output_kind, is_sequence_kind, greatest_number, HasEpochs}
+use Rattle.fw_flow.specs.NodeFunction.{event_node, event_stamp}
+use Rattle.fw_flow.specs.Projection.{IsSentTable}
+use Rattle.fw_model.specs.Choice.{kept, IsCandidate, IsConsistentBy, IsLargestBy, IsLargest}
+use Rattle.fw_model.specs.Choosing.{CanChoose}
+use Rattle.fw_model.specs.Covers.{stamp_of_notice}
+use Rattle.fw_model.specs.Thinned.{IsThinned}
+use Rattle.fw_model.specs.EventStamps.{StandForSent, StandForNumbered, AreStampsOf, IsOfCause}
+use Rattle.fw_model.specs.History.{injected_count, delivered_messages, IsLegal}
+use Rattle.fw_model.specs.Machine.{Machine, SerialEvent, events, front_of}
+use Rattle.fw_model.specs.Offers.{AreOnEdges, HasOneCause, IsOffered, AreOffersIn, AreAscending, covers_of, on_edge, stamps_on}
+use Rattle.fw_model.proofs.AskedLaws.{reached-all}
+use Rattle.fw_model.proofs.ChoosingLaws.{recovery-has_choice}
+use Rattle.fw_model.proofs.DomainLaws.{has_epochs}
+use Rattle.fw_model.proofs.FilterLaws.{filter-all}
+use Rattle.fw_model.proofs.InputLaws.{injected-few}
+use Rattle.fw_model.proofs.LegalLaws.{legal-in_domain}
+use Rattle.fw_model.proofs.OfferLaws.{consistent-same, largest-same}
+use Rattle.fw_model.proofs.ThinnedLaws.{each-contained}
+use Rattle.fw_policy.specs.declared.view.Border.{Border}
+use Rattle.fw_policy.specs.declared.view.Border.TheVariants.{Inner, Source, Output}
+use Rattle.fw_policy.specs.declared.view.NodeView.{NodeView}
+use Rattle.fw_policy.specs.declared.view.Entry.{Entry as Told}
+use Rattle.fw_policy.specs.Shaped.{FitsKind, AreStampsAt, IsViewFor, AreViewsFrom, FitsFlow}
+use Rattle.fw_policy.specs.Shaped as shaped
+use Rattle.fw_policy.specs.View.{IsBorderOf, IsLostAt, IsNodeViewOf, AreNodeViewsFrom, IsViewOf, AreEntriesOf, base_of}
+use Rattle.fw_keep.specs.declared.entry.Entry.{Entry}
+use Rattle.fw_keep.specs.declared.entry.Written.{Written}
+use Rattle.fw_keep.specs.declared.entry.Written.TheVariants as written
+use Rattle.fw_keep.specs.Stored.{Records}
+use Rattle.fw_progress.specs.Counts.{sent_of}
+use Rattle.fw_progress.specs.Trace.{IsTraceOf}
+use Rattle.fw_border.specs.Outputs.{OutputState}
+use Rattle.fw_border.specs.Sources.{SourceState}
+use Rattle.fw_stands.specs.LawsOfEntries.{told_entry, told_written}
+use Rattle.fw_stands.specs.Parts.{IsOutputOf, IsSourceOf}
+use Rattle.fw_stands.specs.Written.{uncollected}
+use Rattle.fw_stands.proofs.EntryViews.{told_entries_are_of_writes}
+use Rattle.fw_running.specs.declared.running.Running.{Running}
+use Rattle.fw_choose.specs.declared.viewing.Lost.{Lost}
+use Rattle.fw_choose.specs.declared.viewing.Lost.TheVariants.{Failed, All}
+use Rattle.fw_choose.specs.Chosen.{is_lost, counts_as_failed, IsChosen, IsChosenBy, IsViewBy, AreViewsBy, IsBorderBy, is_on_its_edge, of_domains}
+use Rattle.fw_running.specs.Kept.{source_of, output_of, lost_at, is_down}
+use Rattle.fw_running.specs.Shaped.{IsShaped, IsWrittenOf}
+use Rattle.fw_running.specs.Stands.{Stands}
+
+-- ---- the choice
+
+if_ok_also : {A E : Type 0} (r : Result A E) (P Q : A → Type 0) → ((x : A) → P x → Q x) → IfOk r P → IfOk r Q
+if_ok_also (Ok x) P Q h p = h x p
+if_ok_also (Err e) P Q h p = tt
+
+-- some choice is consistent in each reached state, so the largest of what is offered is the machine's
+largest-in : {E : Type 0} (sys : System) (records : Option Records) (state : Machine) (running : Running) (lost : ℕ → Bool) (os : List Offer) (r : Result Choice E)
+    → Stands sys running records state → AreOffersIn sys state lost os
+    → ((some : Choice) → AreAscending sys.flow os → IsConsistentBy sys.flow (covers_of sys.flow os) (IsOffered sys.flow os) some
+    → IfOk r (IsLargestBy sys.flow (covers_of sys.flow os) (IsOffered sys.flow os)))
+    → IfOk r (λ choice. IsLargest sys state (IsCandidate sys state lost kept) choice)
+largest-in sys records state running lost os r s a give =
+    let w = s.well_formed in
+    let reached = s.reached in
+    let can : CanChoose sys state lost = recovery-has_choice sys w reached.0 reached.1 state reached.2 lost in
+    let some = can.choice in
+    let by_offers = (consistent-same sys state lost os some w.flow a).1 can.consistent in
+    if_ok_also r (IsLargestBy sys.flow (covers_of sys.flow os) (IsOffered sys.flow os)) (λ choice. IsLargest sys state (IsCandidate sys state lost kept) choice)
+    (λ choice g. (largest-same sys state lost os choice w.flow a).0 g) (give some a.ascending by_offers)
+
+chosen-is : (lost : Lost) (sys : System) (state : Machine) (choice : Choice) → IsLargest sys state (IsCandidate sys state (is_lost lost state) kept) choice → IsChosen lost sys state choice
+chosen-is Failed sys state choice k = k
+chosen-is All sys state choice k = k
+
+-- the views and entries are what is known in the state
+view-of : (sys : System) (records : Option Records) (state : Machine) (running : Running) (lost : Lost) (view : List NodeView) (entries : List Told)
+    → AreViewsBy running lost (length running.flow.nodes) view → entries ≡ map told_entry running.parts.keep.entries → Stands sys running records state
+    → IsViewOf sys state (is_lost lost state) view entries
+view-of sys records state running lost view entries v e s = record {
+  well_formed = s.well_formed;
+  reached = s.reached;
+  one_each = v.one_each ∙ ap (λ (f : Dataflow). length f.nodes) s.flow;
+  nodes = v.of_state sys records state s;
+  written = subst (λ es. AreEntriesOf sys state es (uncollected state)) (sym e) (told_entries_are_of_writes sys state running.parts.keep.entries (uncollected state) s.entries);
+}
+
+-- so the choice is the one of each state
+pub chosen-by : {E : Type 0} (running : Running) (lost : Lost) (view : List NodeView) (entries : List Told) (os : List Offer) (r : Result Choice E)
+    → AreViewsBy running lost (length running.flow.nodes) view → entries ≡ map told_entry running.parts.keep.entries
+    → ((sys : System) (state : Machine) (failed : ℕ → Bool) → sys.flow ≡ running.flow → IsViewOf sys state failed view entries → AreOffersIn sys state failed os)
+    → ((some : Choice) → AreAscending running.flow os → IsConsistentBy running.flow (covers_of running.flow os) (IsOffered running.flow os) some
+    → IfOk r (IsLargestBy running.flow (covers_of running.flow os) (IsOffered running.flow os)))
+    → IfOk r (IsChosenBy running lost)
+chosen-by running lost view entries os (Err x) v e exact give = tt
+chosen-by running lost view entries os (Ok choice) v e exact give = λ sys records state s.
+    let a : AreOffersIn sys state (is_lost lost state) os = exact sys state (is_lost lost state) (sym s.flow) (view-of sys records state running lost view entries v e s) in
+    let given : (some : Choice) → AreAscending sys.flow os → IsConsistentBy sys.flow (covers_of sys.flow os) (IsOffered sys.flow os) some
+    → IsLargestBy sys.flow (covers_of sys.flow os) (IsOffered sys.flow os) choice =
+    subst (λ f. (some : Choice) → AreAscending f os → IsConsistentBy f (covers_of f os) (IsOffered f os) some → IsLargestBy f (covers_of f os) (IsOffered f os) choice) s.flow give in
+    let r : Result Choice ℕ = Ok choice in
+    chosen-is lost sys state choice (largest-in sys records state running (is_lost lost state) os r s a given)
+
+-- ---- what fits the flow
+
+written-fits : (flow : Dataflow) (p : ℕ) (w : Written) → IsWrittenOf flow p w → shaped.IsWrittenOf flow p (told_written w)
+written-fits flow p (written.Checkpoint recorded stamps sent) k = k
+written-fits flow p (written.Event event) k = k
+
+entries-fit : (flow : Dataflow) (entries : List Entry) → AllByRecursion (λ (e : Entry). IsWrittenOf flow e.node e.written) entries
+    → AllByRecursion (λ (e : Told). shaped.IsWrittenOf flow e.node e.written) (map told_entry entries)
+entries-fit flow [] a = tt
+entries-fit flow (e ∷ es) a = (written-fits flow e.node e.written a.0, entries-fit flow es a.1)
+
+pub all-fit : (running : Running) (lost : Lost) (view : List NodeView) (entries : List Told) → IsShaped running → AreViewsBy running lost (length running.flow.nodes) view
+    → entries ≡ map told_entry running.parts.keep.entries → FitsFlow running.flow view entries
+all-fit running lost view entries s v e = record {
+  views = v.of_flow;
+  written = subst (λ es. AllByRecursion (λ (t : Told). shaped.IsWrittenOf running.flow t.node t.written) es) (sym e)
+      (entries-fit running.flow running.parts.keep.entries s.entries);
+}
+
+-- ---- one view more
+
+fit-more : (flow : Dataflow) (n m : ℕ) (view : List NodeView) (node : NodeView) → AreViewsFrom flow n view → n + length view ≡ m → IsViewFor flow m node
+    → AreViewsFrom flow n (view ++ node ∷ [])
+fit-more flow n m [] node a e i =
+    let same : m ≡ n = omega arith in (subst (λ k. IsViewFor flow k node) same i, tt)
+fit-more flow n m (v ∷ view) node a e i = (a.0, fit-more flow (suc n) m view node a.1 (omega arith) i)
+
+known-more : (sys : System) (state : Machine) (lost : ℕ → Bool) (n m : ℕ) (view : List NodeView) (node : NodeView) → AreNodeViewsFrom sys state lost n view
+    → n + length view ≡ m → IsNodeViewOf sys state lost m node → AreNodeViewsFrom sys state lost n (view ++ node ∷ [])
+known-more sys state lost n m [] node a e i =
+    let same : m ≡ n = omega arith in (subst (λ k. IsNodeViewOf sys state lost k node) same i, tt)
+known-more sys state lost n m (v ∷ view) node a e i = (a.0, known-more sys state lost (suc n) m view node a.1 (omega arith) i)
+
+pub views_none : (running : Running) (lost : Lost) → AreViewsBy running lost 0 []
+views_none running lost = record { one_each = refl; of_flow = tt; of_state = λ sys records state s. tt }
+
+pub views_more : (running : Running) (lost : Lost) (n p : ℕ) (view next : List NodeView) (node : NodeView) → AreViewsBy running lost n view → p ≡ n
+    → IsViewFor running.flow p node → IsViewBy running lost p node → next ≡ view ++ node ∷ [] → AreViewsBy running lost (n + 1) next
+views_more running lost n p view next node v at fits known is =
+    subst (AreViewsBy running lost (n + 1)) (sym is) (record {
+      one_each = length-append view (node ∷ []) ∙ ap (λ k. k + 1) v.one_each;
+      of_flow = fit-more running.flow 0 p view node v.of_flow (omega (arith, v.one_each, at)) fits;
+      of_state = λ sys records state s. known-more sys state (is_lost lost state) 0 p view node (v.of_state sys records state s) (omega (arith, v.one_each, at)) (known sys records state s);
+    })
+
+-- ---- what is of the domains
+
+passes-edge : (flow : Dataflow) (single : Bool) (m : Counted) → is_on_its_edge flow single m ≡ true → in_domain (bounds_of flow (receiver flow m.edge)) m.at ≡ true
+passes-edge flow single m e = (and_parts (in_domain (bounds_of flow (receiver flow m.edge)) m.at) (not single || length m.causes == 1) e).0
+
+edges-fit : (flow : Dataflow) (single : Bool) (ms : List Counted) → AreOnEdges flow (filter (is_on_its_edge flow single) ms)
+edges-fit flow single ms =
+    each-filter (λ (m : Counted). in_domain (bounds_of flow (receiver flow m.edge)) m.at ≡ true) (is_on_its_edge flow single) ms
+    (each-one (λ (m : Counted). is_on_its_edge flow single m ≡ true → in_domain (bounds_of flow (receiver flow m.edge)) m.at ≡ true) ms (λ m e. passes-edge flow single m e))
+
+stamps-fit : (flow : Dataflow) (p : ℕ) (ts : List Stamp) → AreStampsAt flow p (filter (in_domain (bounds_of flow p)) ts)
+stamps-fit flow p ts =
+    each-filter (λ t. in_domain (bounds_of flow p) t ≡ true) (in_domain (bounds_of flow p)) ts
+    (each-one (λ t. in_domain (bounds_of flow p) t ≡ true → in_domain (bounds_of flow p) t ≡ true) ts (λ t e. e))
+
+one-cause : (ts : List Stamp) → (length ts == 1) ≡ true → (t : Stamp) × (ts ≡ t ∷ [])
+one-cause [] e = absurd (both_ways false refl e)
+one-cause (t ∷ []) e = (t, refl)
+one-cause (t ∷ u ∷ ts) e = absurd (let k : length (t ∷ u ∷ ts) ≡ 1 = eqb-true (length (t ∷ u ∷ ts)) 1 e in omega (arith, k))
+
+causes-fit : (flow : Dataflow) (single : Bool) (ms : List Counted) → single ≡ true → AllByRecursion HasOneCause (filter (is_on_its_edge flow single) ms)
+causes-fit flow single ms is =
+    each-filter HasOneCause (is_on_its_edge flow single) ms
+    (each-one (λ (m : Counted). is_on_its_edge flow single m ≡ true → HasOneCause m) ms (λ m e.
+    let here = in_domain (bounds_of flow (receiver flow m.edge)) m.at in
+    let k : (not single || length m.causes == 1) ≡ true = (and_parts here (not single || length m.causes == 1) e).1 in
+    one-cause m.causes (ap (λ b. not b || length m.causes == 1) (sym is) ∙ k)))
+
+border-fits : (source : SourceState) (output : OutputState) (kind : Kind) (x : Border) → IsBorderBy source output kind x → FitsKind kind x
+border-fits source output Input Inner k = absurd k
+border-fits source output Input (Source n y) k = k.0
+border-fits source output Input (Output n) k = absurd k
+border-fits source output OutputEpoch Inner k = absurd k
+border-fits source output OutputEpoch (Source n y) k = absurd k
+border-fits source output OutputEpoch (Output n) k = tt
+border-fits source output OutputNumber Inner k = absurd k
+border-fits source output OutputNumber (Source n y) k = absurd k
+border-fits source output OutputNumber (Output n) k = tt
+border-fits source output kind x k = tt
+
+is-input : (kind : Kind) → kind ≡ Input → is_input_kind kind ≡ true
+is-input kind e = ap is_input_kind e
+
+-- what is known of a node fits the flow
+pub view-fits : (running : Running) (p : ℕ) (raw : Stamps) (node : NodeView) → IsShaped running → node.stamps ≡ of_domains running.flow p raw
+    → node.settled ≡ front_of running.progress.settled p → node.low ≡ front_of running.parts.low p → IsBorderBy (source_of running p) (output_of running p) (kind_of running.flow p) node.border
+    → node.lost ≡ filter (in_domain (bounds_of running.flow p)) (lost_at running p) → IsViewFor running.flow p node
+view-fits running p raw node s stamps settled low border lost =
+    let flow = running.flow in
+    let single = is_input_kind (kind_of flow p) in
+    record {
+      settled = subst (λ (f : Front). IsCanonical (bounds_of flow p) f) (sym settled) (s.progress.settled p);
+      low = subst (λ (f : Front). IsCanonical (bounds_of flow p) f) (sym low) (s.low p);
+      border = border-fits (source_of running p) (output_of running p) (kind_of flow p) node.border border;
+      lost = subst (λ (ts : List Stamp). AreStampsAt flow p ts) (sym lost) (stamps-fit flow p (lost_at running p));
+      delivered = subst (λ (all : Stamps). AreOnEdges flow all.delivered) (sym stamps) (edges-fit flow false raw.delivered);
+      notified = subst (λ (all : Stamps). AreStampsAt flow p all.notified) (sym stamps) (stamps-fit flow p raw.notified);
+      sent = subst (λ (all : Stamps). AreOnEdges flow all.sent) (sym stamps) (edges-fit flow single raw.sent);
+      of_batches = λ e. subst (λ (all : Stamps). AllByRecursion HasOneCause all.sent) (sym stamps) (causes-fit flow single raw.sent (is-input (kind_of flow p) e));
+    }
+
+-- ---- which they all are in each state for which the engine stands
+
+filters-turn : {A : Type 0} (f g : A → Bool) (xs : List A) → filter f (filter g xs) ≡ filter g (filter f xs)
+filters-turn f g [] = refl
+filters-turn {A = A} f g (x ∷ xs) = by (f x) (g x) refl refl (filters-turn f g xs)
+  where
+    by : (a b : Bool) → f x ≡ a → g x ≡ b → filter f (filter g xs) ≡ filter g (filter f xs)
+        → filter f (cond b (x ∷ filter g xs) (filter g xs)) ≡ filter g (cond a (x ∷ filter f xs) (filter f xs))
+    by true true e k ih =
+        ap (λ c. cond c (x ∷ filter f (filter g xs)) (filter f (filter g xs))) e ∙ ap (λ ys. x ∷ ys) ih
+        ∙ sym (ap (λ c. cond c (x ∷ filter g (filter f xs)) (filter g (filter f xs))) k)
+    by true false e k ih = ih ∙ sym (ap (λ c. cond c (x ∷ filter g (filter f xs)) (filter g (filter f xs))) k)
+    by false true e k ih = ap (λ c. cond c (x ∷ filter f (filter g xs)) (filter f (filter g xs))) e ∙ ih
+    by false false e k ih = ih
+
+-- a test that the messages of an edge pass leaves them
+same-on_edge : (test : Counted → Bool) (e : ℕ) (ms : List Counted) → AllByRecursion (λ m. test m ≡ true) (on_edge e ms) → on_edge e (filter test ms) ≡ on_edge e ms
+same-on_edge test e ms a = filters-turn (λ (m : Counted). m.edge == e) test ms ∙ filter-all test (on_edge e ms) a
+
+all-on_edges : (flow : Dataflow) (ms : List Counted) → AreOnEdges flow ms → filter (is_on_its_edge flow false) ms ≡ ms
+all-on_edges flow ms a =
+    filter-all (is_on_its_edge flow false) ms
+    (each-weaker (λ (m : Counted). in_domain (bounds_of flow (receiver flow m.edge)) m.at ≡ true) (λ m. is_on_its_edge flow false m ≡ true) ms
+    (λ m k. and_from (in_domain (bounds_of flow (receiver flow m.edge)) m.at) true k refl) a)
+
+passes-single : (flow : Dataflow) (m : Counted) (t : Stamp) → in_domain (bounds_of flow (receiver flow m.edge)) m.at ≡ true → m.causes ≡ t ∷ [] → is_on_its_edge flow true m ≡ true
+passes-single flow m t k c =
+    and_from (in_domain (bounds_of flow (receiver flow m.edge)) m.at) (length m.causes == 1) k (ap (λ ts. length ts == 1) c)
+
+no-both : (kind : Kind) → is_input_kind kind ≡ true → is_sequence_kind kind ≡ true → ⊥
+no-both Input i s = both_ways false refl s
+no-both kind i s = both_ways false refl i
+
+pub stamps-stay : (sys : System) (h : List Event) (p : ℕ) (base : Frontier) (raw : Stamps) → AreStampsOf sys h p base raw → AreStampsOf sys h p base (of_domains sys.flow p raw)
+stamps-stay sys h p base raw s = record {
+  on_edges = (edges-fit flow false raw.delivered, edges-fit flow single raw.sent);
+  in_domain = stamps-fit flow p raw.notified;
+  delivered = λ d e. subst (λ (ms : List Counted). IsThinned base (map (λ (m : Message). m.at) (delivered_messages h d)) (stamps_on d ms))
+      (sym (all-on_edges flow raw.delivered s.on_edges.0)) (s.delivered d e);
+  notified = subst (λ (ts : List Stamp). IsThinned base (flat_map (stamp_of_notice p) h) ts)
+      (sym (filter-all (in_domain (bounds_of flow p)) raw.notified s.in_domain)) s.notified;
+  sent = λ n e l k. subst (λ (ms : List Counted). StandForSent sys h p base e ms) (sym (by single refl e l k n)) (s.sent n e l k);
+  numbered = λ q e l k. subst (λ (ms : List Counted). StandForNumbered sys h e ms) (sym (whole single refl q)) (s.numbered q e l k);
+}
+  where
+    flow : Dataflow
+    flow = sys.flow
+
+    single : Bool
+    single = is_input_kind (kind_of flow p)
+
+    by : (b : Bool) → single ≡ b → (e : ℕ) → e < length sys.flow.edges → sender sys.flow e ≡ p → is_sequence_kind (kind_of sys.flow p) ≡ false
+        → on_edge e (filter (is_on_its_edge flow single) raw.sent) ≡ on_edge e raw.sent
+    by false i e l k n = ap (λ b. on_edge e (filter (is_on_its_edge flow b) raw.sent)) i ∙ ap (λ ms. on_edge e ms) (all-on_edges flow raw.sent s.on_edges.1)
+    by true i e l k n =
+        ap (λ b. on_edge e (filter (is_on_its_edge flow b) raw.sent)) i
+        ∙ same-on_edge (is_on_its_edge flow true) e raw.sent
+        (each-weaker (λ (m : Counted). (in_domain (bounds_of flow (receiver flow m.edge)) m.at ≡ true) × IsOfCause flow p m) (λ m. is_on_its_edge flow true m ≡ true) (on_edge e raw.sent)
+        (λ m x. passes-single flow m x.1.0 x.0 x.1.2)
+        (each-both (λ (m : Counted). in_domain (bounds_of flow (receiver flow m.edge)) m.at ≡ true) (IsOfCause flow p) (on_edge e raw.sent)
+        (each-kept (λ (m : Counted). in_domain (bounds_of flow (receiver flow m.edge)) m.at ≡ true) (λ (m : Counted). m.edge == e) raw.sent s.on_edges.1)
+        (s.sent n e l k).of_cause))
+
+    whole : (b : Bool) → single ≡ b → is_sequence_kind (kind_of sys.flow p) ≡ true → filter (is_on_its_edge flow single) raw.sent ≡ raw.sent
+    whole false i q = ap (λ b. filter (is_on_its_edge flow b) raw.sent) i ∙ all-on_edges flow raw.sent s.on_edges.1
+    whole true i q = absurd (no-both (kind_of flow p) i q)
+
+border-is : (sys : System) (state : Machine) (p : ℕ) (source : SourceState) (output : OutputState) (kind : Kind) (x : Border) → IsBorderBy source output kind x → IsSourceOf sys state p source
+    → (is_output_kind kind ≡ true → IsOutputOf sys state p output) → injected_count p (events state.history) ≤ greatest_number → IsBorderOf sys state p kind x
+border-is sys state p source output Input Inner k s o l = absurd k
+border-is sys state p source output Input (Source n y) k s o l = (
+  k.1 (subst (λ c. c ≤ greatest_number) (sym s.injected) l) ∙ s.injected,
+  k.2 ∙ ap (λ c. c == source.given) s.injected ∙ ap (λ c. injected_count p (events state.history) == c) s.given,
+)
+border-is sys state p source output Input (Output n) k s o l = absurd k
+border-is sys state p source output OutputEpoch Inner k s o l = absurd k
+border-is sys state p source output OutputEpoch (Source n y) k s o l = absurd k
+border-is sys state p source output OutputEpoch (Output n) k s o l = k ∙ (o refl).bound
+border-is sys state p source output OutputNumber Inner k s o l = absurd k
+border-is sys state p source output OutputNumber (Source n y) k s o l = absurd k
+border-is sys state p source output OutputNumber (Output n) k s o l = k ∙ (o refl).bound
+border-is sys state p source output kind x k s o l = k
+
+is-sequence : (kind : Kind) → is_sequence_kind kind ≡ true → kind ≡ Sequence
+is-sequence Sequence k = refl
+is-sequence kind k = absurd (cc)
+
+contains-later : {A : Type 0} (x q : A) (xs : List A) → Contains xs q → Contains (x ∷ xs) q
+contains-later x q xs h = (suc h.0, omega (arith, h.1), h.2)
+
+contains-which : {A : Type 0} (x q : A) (xs : List A) → Contains (x ∷ xs) q → (x ≡ q) ⊎ Contains xs q
+contains-which {A = A} x q xs h = by h.0 h.1 h.2
+  where
+    by : (k : ℕ) → k < length (x ∷ xs) → slice_index_or (x ∷ xs) k q ≡ q → (x ≡ q) ⊎ Contains xs q
+    by zero l e = inl e
+    by (suc k) l e = inr (k, omega (arith, l), e)
+
+filtered-contains : {A : Type 0} (f : A → Bool) (xs : List A) (q : A) → Contains (filter f xs) q → Contains xs q
+filtered-contains f [] q h = h
+filtered-contains {A = A} f (x ∷ xs) q h = by (f x) (filtered-contains f xs q) h
+  where
+    by : (b : Bool) → (Contains (filter f xs) q → Contains xs q) → Contains (cond b (x ∷ filter f xs) (filter f xs)) q → Contains (x ∷ xs) q
+    by true ih k = elim (contains-which x q (filter f xs) k) [
+      | inl e ↦ (0, omega arith, e)
+      | inr c ↦ contains-later x q xs (ih c)
+    ]
+    by false ih k = contains-later x q xs (ih k)
+
+contains-filtered : {A : Type 0} (f : A → Bool) (xs : List A) (q : A) → f q ≡ true → Contains xs q → Contains (filter f xs) q
+contains-filtered f [] q e h = h
+contains-filtered {A = A} f (x ∷ xs) q e h = elim (contains-which x q xs h) [
+  | inl k ↦ subst (λ b. Contains (cond b (x ∷ filter f xs) (filter f xs)) q) (sym (ap f k ∙ e)) (0, omega arith, k)
+  | inr c ↦ by (f x) (contains-filtered f xs q e c)
+]
+  where
+    by : (b : Bool) → Contains (filter f xs) q → Contains (cond b (x ∷ filter f xs) (filter f xs)) q
+    by true k = contains-later x q (filter f xs) k
+    by false k = k
+
+each-numbered : (P : Event → Type 0) (h : List SerialEvent) → AllByRecursion P (events h) → AllByRecursion (λ (v : SerialEvent). P v.event) h
+each-numbered P [] a = tt
+each-numbered P (v ∷ h) a = (a.0, each-numbered P h a.1)
+
+legal-of : (sys : System) (records : Option Records) (state : Machine) (running : Running) → Stands sys running records state → IsLegal sys (events state.history)
+legal-of sys records state running s =
+    let r = s.reached in (reached-all sys s.well_formed r.0 r.1 state r.2).recover.holds.legal
+
+-- a stamp at which an event was lost is of the node's domain
+lost-in_domain : (sys : System) (records : Option Records) (state : Machine) (running : Running) (p : ℕ) (t : Stamp) → Stands sys running records state → IsLostAt sys state p t
+    → in_domain (bounds_of sys.flow p) t ≡ true
+lost-in_domain sys records state running p t s lost =
+    let w = s.well_formed in
+    let inside = each-numbered (λ u. in_domain (bounds_of sys.flow (event_node sys.flow u)) (event_stamp u) ≡ true) state.history
+    (legal-in_domain sys (events state.history) w.flow (has_epochs sys w) (legal-of sys records state running s)) in
+    let u = lost.1 in
+    subst (λ x. in_domain (bounds_of sys.flow p) x ≡ true) u.is.stamp
+    (subst (λ q. in_domain (bounds_of sys.flow q) (event_stamp u.event.event) ≡ true) u.is.node
+    (each-contained (λ (x : SerialEvent). in_domain (bounds_of sys.flow (event_node sys.flow x.event)) (event_stamp x.event) ≡ true) u.event state.history u.there inside))
+
+-- what is known of a node is so in each state for which the engine stands
+pub view-known : (running : Running) (lost : Lost) (p : ℕ) (raw : Stamps) (node : NodeView) → p < length running.flow.nodes
+    → ((sys : System) (h : List Event) (base : Frontier) → sys.flow ≡ running.flow → HasEpochs sys → IsLegal sys h → IsTraceOf sys h p base running.traces → AreStampsOf sys h p base raw)
+    → node.stamps ≡ of_domains running.flow p raw → node.table ≡ sent_of running.progress.counts p
+    → node.settled ≡ front_of running.progress.settled p → node.low ≡ front_of running.parts.low p → IsBorderBy (source_of running p) (output_of running p) (kind_of running.flow p) node.border
+    → node.lost ≡ filter (in_domain (bounds_of running.flow p)) (lost_at running p) → node.failed ≡ counts_as_failed lost (is_down running p) → IsViewBy running lost p node
+view-known running lost p raw node there given stamps table settled low border losses failed sys records state s =
+    let h = events state.history in
+    let w = s.well_formed in
+    let legal = legal-of sys records state running s in
+    let l : p < length sys.flow.nodes = subst (λ (f : Dataflow). p < length f.nodes) s.flow there in
+    let few : injected_count p h ≤ greatest_number = omega (arith, injected-few sys h legal p, w.few p) in
+    record {
+      stamps = subst (λ (all : Stamps). AreStampsOf sys h p (base_of sys state p) all) (sym (stamps ∙ ap (λ f. of_domains f p raw) s.flow))
+          (stamps-stay sys h p (base_of sys state p) raw (given sys h (base_of sys state p) (sym s.flow) (has_epochs sys w) legal (s.traces p l)));
+      table = λ k. subst (λ t. IsSentTable sys h p t) (sym table) (s.progress.counts.sent p l (is-sequence (kind_of sys.flow p) k));
+      settled = settled ∙ ap (λ fs. front_of fs p) s.settled;
+      low = low ∙ ap (λ fs. front_of fs p) s.low;
+      border = border-is sys state p (source_of running p) (output_of running p) (kind_of sys.flow p) node.border
+          (subst (λ f. IsBorderBy (source_of running p) (output_of running p) (kind_of f p) node.border) s.flow border) (s.sources p l) (s.outputs p l) few;
+      losses = λ full t.
+          let is : node.lost ≡ filter (in_domain (bounds_of sys.flow p)) (lost_at running p) = losses ∙ ap (λ f. filter (in_domain (bounds_of f p)) (lost_at running p)) s.flow in
+          let known = s.lost p full t in
+          subst (λ (ts : List Stamp). Contains ts t ↔ IsLostAt sys state p t) (sym is) (
+            (λ c. known.0 (filtered-contains (in_domain (bounds_of sys.flow p)) (lost_at running p) t c)),
+            (λ x. contains-filtered (in_domain (bounds_of sys.flow p)) (lost_at running p) t (lost-in_domain sys records state running p t s x) (known.1 x)),
+          );
+      failed = failed ∙ ap (λ bs. counts_as_failed lost (slice_index_or bs p false)) s.failed;
+    }
+
+-- what stands at a node's place
+pub at_place : {A : Type 0} (xs : List A) (q p : ℕ) (x d : A) → x ≡ get_or xs q x → q ≡ p → p < length xs → x ≡ get_or xs p d
+at_place xs q p x d e s l = e ∙ ap (λ k. get_or xs k x) s ∙ get_or_default xs p x d l

@@ -1,0 +1,151 @@
+//! The step of a collection.
+ghost use Rattle.std.specs.Prelude.{◌≡◌, ◌≤◌, ◌↔◌, ◌<◌, ◌≢◌, ℕ, false, length, Option, IsErrOf, IsTrue, IfOk, OnOk};
+ghost use Rattle.fw_outside.specs.Outside.{Rose};
+ghost use Rattle.fw_collect.specs.Drops.{watermark};
+ghost use Rattle.fw_collect.specs.Dropped.{log_outside};
+ghost use Rattle.fw_flow.specs.declared.step.Step.TheVariants as steps;
+ghost use Rattle.fw_frontier.specs.Front.{same_front};
+ghost use Rattle.fw_keep.specs.Stored.{Records, IsStored};
+ghost use Rattle.fw_model.specs.Machine as machine;
+ghost use Rattle.fw_progress.specs.Trace.{HaveLists};
+ghost use Rattle.fw_rollback.specs.Edges.{on_edge};
+ghost use Rattle.fw_choose.specs.Collecting.{AreLeft, AreGivenUp, IsRaised, AreRaised, IsCollected};
+ghost use Rattle.fw_running.specs.Shaped.{HasOneEach, IsShaped};
+ghost use Rattle.fw_running.specs.Steps.{TakesStep, StaysShaped, IsUndamaged};
+
+use crate::viewing::{Lost, choose, fronts_of};
+use fw_collect::{Drops, apply, plan};
+use fw_flow::{Choice, Flow, Fronts, NodeId, OfEdge};
+use fw_frontier::Front;
+use fw_outside::Store;
+use fw_progress::Traces;
+use fw_rollback::{Logs, Parts};
+use fw_running::{Effect, EngineFault, Running, Stepped, takes_checkpoints};
+use std::alloc::AllocError;
+
+/// The low watermark is taken anew, and what lies below it is given up. After a fault of the store it is given up too, and
+/// its bytes wait for the next collection.
+pub fn collect<K: Store>(running: &mut Running, store: &mut K) -> Result<Stepped, EngineFault>
+    requires shaped { IsShaped running.old }
+    requires stored { IsStored running.old.parts.keep (K.records store.old) }
+    ensures shaped { StaysShaped result running.new }
+    ensures stored { IsStored running.new.parts.keep (K.records store.new) }
+    ensures flow { running.new.flow ≡ running.old.flow }
+    ensures takes { TakesStep running.old (K.records store.old) steps.Collect result running.new (K.records store.new) }
+    ensures fault { IsErrOf result EngineFault.StoreFault → Rose (K.fault_count store.old) (K.fault_count store.new) }
+    ensures never_falls { K.fault_count store.old ≤ K.fault_count store.new }
+    ensures undamaged { IsUndamaged result }
+{
+    let choice = choose(running, Lost::All)?;
+    let low = fronts_of(running.alloc, &choice)?;
+    if are_same(&low, running.parts.low.as_slice()) {
+        return Ok(Stepped::Idle);
+    }
+    give_up(running, &choice, low)?;
+    running.parts.keep.sweep(store)?;
+    Ok(Stepped::Did(Effect::Lows(choice)))
+}
+
+// The low watermark rises to the fronts of the choice, and what is not needed again is given up.
+fn give_up(running: &mut Running, choice: &Choice, low: Vec<Front>) -> Result<(), AllocError>
+    requires one_each { HasOneEach running.old }
+    requires lists { HaveLists running.old.flow running.old.traces }
+    requires live { running.old.traces.refused ≡ false }
+    requires low { low.items ≡ watermark choice.now }
+    requires low_each { length low.items ≡ length running.old.flow.nodes }
+    ensures collected { IfOk result (λ u. IsCollected (watermark choice.now) running.old running.new) }
+    ensures flow { running.new.flow ≡ running.old.flow }
+    ensures stored { (records : Option Records) → IsStored running.old.parts.keep records → IsStored running.new.parts.keep records }
+{
+    let drops = plan(
+        running.alloc,
+        &running.flow,
+        choice,
+        running.parts.keep.entries(),
+    )?;
+    raise_bases(&running.flow, &low, &mut running.traces)?;
+    drop_from(&drops, &mut running.parts);
+    running.parts.low = Fronts::of(low);
+    Ok(())
+}
+
+// The traces of the nodes whose base is the low watermark are thinned inside the new one.
+fn raise_bases(flow: &Flow, low: &[Front], traces: &mut Traces) -> Result<(), AllocError>
+    requires lists { HaveLists flow.now traces.old }
+    requires live { traces.old.refused ≡ false }
+    requires low { length low.now ≡ length flow.now.nodes }
+    ensures { OnOk result (AreRaised flow.now (length flow.now.nodes) low.now traces.old traces.new) }
+{
+    for place in 0..flow.nodes() {
+        raise_base(flow, NodeId::at(place as u32), &low[place], traces)?;
+    }
+    Ok(())
+}
+
+// The same of a node.
+fn raise_base(
+    flow: &Flow,
+    node: NodeId,
+    base: &Front,
+    traces: &mut Traces,
+) -> Result<(), AllocError>
+    requires lists { HaveLists flow.now traces.old }
+    requires live { traces.old.refused ≡ false }
+    requires there { node < length flow.now.nodes }
+    ensures { OnOk result (IsRaised flow.now node base.now traces.old traces.new) }
+{
+    if takes_checkpoints(flow.policy(node)) {
+        return Ok(());
+    }
+    traces.settle(flow, node, base)
+}
+
+// What is given up goes.
+fn drop_from(drops: &Drops, parts: &mut Parts)
+    ensures { AreGivenUp drops.now parts.old parts.new }
+{
+    apply(drops, &mut parts.keep, &mut [], &mut parts.sources);
+    drop_messages(&drops.messages, &mut parts.logs);
+}
+
+// The messages of the logs of these edges go that are inside the front beside them.
+fn drop_messages(fronts: &[OfEdge], logs: &mut Logs)
+    ensures { AreLeft fronts.now logs.old logs.new }
+{
+    for front in fronts {
+        drop_inside(front, logs);
+    }
+}
+
+// The messages of an edge's log go that are inside a front.
+fn drop_inside(of_edge: &OfEdge, logs: &mut Logs)
+    ensures one_each { length logs.new ≡ length logs.old }
+    ensures here { on_edge logs.new of_edge.now.edge ≡ log_outside of_edge.now.front (on_edge logs.old of_edge.now.edge) }
+    ensures others { (e : ℕ) → e ≢ of_edge.now.edge → on_edge logs.new e ≡ on_edge logs.old e }
+{
+    if let Some(log) = logs.get_mut(of_edge.edge) {
+        log.drop_inside(&of_edge.front);
+    }
+}
+
+// Whether the frontiers are the same ones, each in its place.
+fn are_same(fronts: &[Front], others: &[Front]) -> bool
+    requires { length fronts.now ≡ length others.now }
+    ensures { IsTrue result ↔ fronts.now ≡ others.now }
+{
+    for place in 0..fronts.len() {
+        if !is_same_at(fronts, others, place) {
+            return false;
+        }
+    }
+    true
+}
+
+// Whether they are at a place.
+fn is_same_at(fronts: &[Front], others: &[Front], place: usize) -> bool
+    requires fronts { place < length fronts.now }
+    requires others { place < length others.now }
+    ensures { result ≡ same_front (machine.front_of fronts.now place) (machine.front_of others.now place) }
+{
+    fronts[place].same(&others[place])
+}

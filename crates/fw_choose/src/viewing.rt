@@ -1,0 +1,274 @@
+//! What is known of the nodes and their writes, to say what they offer to a recovery.
+ghost use Rattle.std.specs.Prelude.{◌≡◌, ◌<◌, ◌≤◌, filter, length, map, IfOk};
+ghost use Rattle.fw_time.specs.Stamp.{in_domain};
+ghost use Rattle.fw_flow.specs.Dataflow.{kind_of, bounds_of, greatest_number};
+ghost use Rattle.fw_collect.specs.Drops.{watermark};
+ghost use Rattle.fw_model.specs.Machine as machine;
+ghost use Rattle.fw_model.specs.Steps.{front_of_cut};
+ghost use Rattle.fw_monitor.specs.Chosen.{IsChoiceOf};
+ghost use Rattle.fw_policy.specs.Shaped.{IsViewFor};
+ghost use Rattle.fw_progress.specs.Counts.{sent_of};
+ghost use Rattle.fw_stands.specs.LawsOfEntries.{told_entry, told_written};
+ghost use Rattle.fw_choose.specs.Chosen as chosen;
+ghost use Rattle.fw_choose.specs.Chosen.{IsChosenBy, IsViewBy, AreViewsBy, IsBorderBy, is_on_its_edge, of_domains};
+ghost use Rattle.fw_running.specs.Kept.{source_of, output_of, lost_at, is_down};
+ghost use Rattle.fw_running.specs.Shaped.{IsShaped};
+
+use fw_flow::{
+    Choice, Counted, CountedMessages, Cut, Flow, Kind, NodeId, Notices, SentTable, Stamps,
+};
+use fw_frontier::Front;
+use fw_keep as keep;
+use fw_monitor::largest;
+use fw_policy::{Border, Entry, NodeView, Written, candidates};
+use fw_running::{Running, stamp_of};
+use fw_time::Bounds;
+use std::alloc::{AllocError, Global};
+
+/// Which nodes count as failed.
+#[derive(Clone, Copy)]
+pub enum Lost {
+    /// Those that failed.
+    Failed,
+    /// All.
+    All,
+}
+
+/// The largest choice where these nodes count as failed. The error is want of memory.
+pub fn choose(running: &Running, lost: Lost) -> Result<Choice, AllocError>
+    requires { IsShaped running.now }
+    ensures of_flow { IfOk result (IsChoiceOf running.now.flow) }
+    ensures of_state { IfOk result (IsChosenBy running.now lost) }
+{
+    let view = views(running, lost)?;
+    let entries = entries_of(running.alloc, running.parts.keep.entries())?;
+    let offers = candidates(running.alloc, &running.flow, &view, &entries)?;
+    largest(running.alloc, &running.flow, &offers)
+}
+
+// What is known of each node, in order of the nodes.
+fn views(running: &Running, lost: Lost) -> Result<Vec<NodeView>, AllocError>
+    requires { IsShaped running.now }
+    ensures { IfOk result (λ view. AreViewsBy running.now lost (length running.now.flow.nodes) view.items) }
+{
+    let mut views = Vec::with_capacity(running.alloc, running.flow.nodes())?;
+    for place in 0..running.flow.nodes() {
+        views.push(view(running, NodeId::at(place as u32), lost)?)?;
+    }
+    Ok(views)
+}
+
+// What is known of a node.
+fn view(running: &Running, node: NodeId, lost: Lost) -> Result<NodeView, AllocError>
+    requires shaped { IsShaped running.now }
+    requires there { node < length running.now.flow.nodes }
+    ensures of_flow { IfOk result (IsViewFor running.now.flow node) }
+    ensures of_state { IfOk result (IsViewBy running.now lost node) }
+{
+    let stamps = running.traces.stamps(running.alloc, &running.flow, node)?;
+    Ok(NodeView {
+        stamps: of_domains(running.alloc, &running.flow, node, &stamps)?,
+        table: sent_by_epoch(running, node)?,
+        settled: settled_front(running, node)?,
+        low: low_front(running, node)?,
+        border: border(running, node),
+        lost: lost_stamps(running, node)?,
+        failed: counts_as_failed(running, node, lost),
+    })
+}
+
+// How many messages a node sent, by epoch, if it is a sequence.
+fn sent_by_epoch(running: &Running, node: NodeId) -> Result<SentTable, AllocError>
+    requires shaped { IsShaped running.now }
+    requires there { node < length running.now.flow.nodes }
+    ensures { IfOk result (λ table. table ≡ sent_of running.now.progress.counts node) }
+{
+    running.progress.counts().sent[node.place() as usize].copy()
+}
+
+// What is settled of a node.
+fn settled_front(running: &Running, node: NodeId) -> Result<Front, AllocError>
+    requires shaped { IsShaped running.now }
+    requires there { node < length running.now.flow.nodes }
+    ensures { IfOk result (λ front. front ≡ machine.front_of running.now.progress.settled node) }
+{
+    running.progress.settled()[node.place() as usize].copy()
+}
+
+// The low watermark of a node.
+fn low_front(running: &Running, node: NodeId) -> Result<Front, AllocError>
+    requires shaped { IsShaped running.now }
+    requires there { node < length running.now.flow.nodes }
+    ensures { IfOk result (λ front. front ≡ machine.front_of running.now.parts.low node) }
+{
+    running.parts.low.as_slice()[node.place() as usize].copy()
+}
+
+// At which stamps of its domain events of a node were lost in flight.
+fn lost_stamps(running: &Running, node: NodeId) -> Result<Notices, AllocError>
+    requires shaped { IsShaped running.now }
+    requires there { node < length running.now.flow.nodes }
+    ensures { IfOk result (λ lost. lost ≡ filter (in_domain (bounds_of running.now.flow node)) (lost_at running.now node)) }
+{
+    let domain = running.flow.domain(node);
+    of_domain(running.alloc, &domain, &running.lost[node.place() as usize])
+}
+
+// Whether a node counts as failed.
+fn counts_as_failed(running: &Running, node: NodeId, lost: Lost) -> bool
+    ensures { result ≡ chosen.counts_as_failed lost (is_down running.now node) }
+{
+    match lost {
+        Lost::Failed => running.is_failed(node),
+        Lost::All => true,
+    }
+}
+
+// Where a node meets what is outside.
+fn border(running: &Running, node: NodeId) -> Border
+    ensures { IsBorderBy (source_of running.now node) (output_of running.now node) (kind_of running.now.flow node) result }
+{
+    match running.flow.kind(node) {
+        Kind::Input => source(running, node),
+        Kind::OutputEpoch | Kind::OutputNumber => Border::Output {
+            bound: running.parts.outputs.bound(node),
+        },
+        _ => Border::Inner,
+    }
+}
+
+// What an input injected.
+fn source(running: &Running, node: NodeId) -> Border
+    ensures { IsBorderBy (source_of running.now node) (output_of running.now node) Kind.Input result }
+{
+    let injected = running.parts.sources.injected(node);
+    Border::Source {
+        injected: number_at_most(injected),
+        exhausted: injected == running.parts.sources.batches(node),
+    }
+}
+
+// The count, or the greatest number if that is less: no input has more batches than there are numbers.
+fn number_at_most(count: u64) -> u64
+    ensures few { result ≤ greatest_number }
+    ensures same { count ≤ greatest_number → result ≡ count }
+{
+    if count < u64::from(u32::MAX) {
+        count
+    } else {
+        u64::from(u32::MAX)
+    }
+}
+
+// The stamps that are of the domains of a node and its edges, as all are in every state for which an engine stands.
+fn of_domains(
+    alloc: Global,
+    flow: &Flow,
+    node: NodeId,
+    stamps: &Stamps,
+) -> Result<Stamps, AllocError>
+    ensures { IfOk result (λ all. all ≡ chosen.of_domains flow.now node stamps.now) }
+{
+    let single = flow.kind(node).is_input();
+    Ok(Stamps {
+        delivered: on_their_edges(alloc, flow, false, &stamps.delivered)?,
+        notified: of_domain(alloc, &flow.domain(node), &stamps.notified)?,
+        sent: on_their_edges(alloc, flow, single, &stamps.sent)?,
+    })
+}
+
+// The messages that are at stamps of their edges, and of one cause where they are to be.
+fn on_their_edges(
+    alloc: Global,
+    flow: &Flow,
+    single: bool,
+    messages: &CountedMessages,
+) -> Result<CountedMessages, AllocError>
+    ensures { IfOk result (λ all. all ≡ filter (is_on_its_edge flow.now single) messages.now) }
+{
+    let messages = messages.as_slice();
+    let mut all = Vec::new(alloc);
+    for message in messages {
+        if on_its_edge(flow, single, message) {
+            all.push(message.copy())?;
+        }
+    }
+    Ok(CountedMessages::of(all))
+}
+
+// Whether a message is at a stamp of its edge, and of one cause where it is to be.
+fn on_its_edge(flow: &Flow, single: bool, message: &Counted) -> bool
+    ensures { result ≡ is_on_its_edge flow.now single message.now }
+{
+    let domain = flow.domain(flow.dst(message.edge));
+    message.at.in_domain(&domain) && (!single || message.causes.stamps().len() == 1)
+}
+
+// The stamps that are of a domain.
+fn of_domain(alloc: Global, domain: &Bounds, stamps: &Notices) -> Result<Notices, AllocError>
+    ensures { IfOk result (λ all. all ≡ filter (in_domain domain.now) stamps.now) }
+{
+    let stamps = stamps.as_slice();
+    let mut all = Vec::new(alloc);
+    for stamp in stamps {
+        if stamp.in_domain(domain) {
+            all.push(stamp.copy())?;
+        }
+    }
+    Ok(Notices::of(all))
+}
+
+// The writes as the offers ask for them.
+fn entries_of(alloc: Global, entries: &[keep::Entry]) -> Result<Vec<Entry>, AllocError>
+    ensures { IfOk result (λ all. all.items ≡ map told_entry entries.now) }
+{
+    let mut all = Vec::with_capacity(alloc, entries.len())?;
+    for entry in entries {
+        all.push(told(alloc, entry)?)?;
+    }
+    Ok(all)
+}
+
+// A write as the offers ask for it.
+fn told(alloc: Global, entry: &keep::Entry) -> Result<Entry, AllocError>
+    ensures { IfOk result (λ told. told ≡ told_entry entry.now) }
+{
+    Ok(Entry {
+        id: entry.id,
+        node: entry.node,
+        written: written_of(alloc, &entry.written)?,
+        acknowledged: entry.acknowledged,
+    })
+}
+
+// What a write holds, as the offers ask for it.
+fn written_of(alloc: Global, written: &keep::Written) -> Result<Written, AllocError>
+    ensures { IfOk result (λ told. told ≡ told_written written.now) }
+{
+    match written {
+        keep::Written::Checkpoint { recorded, .. } => { Ok(Written::Checkpoint(recorded.copy()?)) }
+        keep::Written::Event(event) => Ok(Written::Event(stamp_of(event).copy())),
+    }
+}
+
+/// The frontiers of the choice's cuts. The error is want of memory.
+pub(crate) fn fronts_of(alloc: Global, choice: &Choice) -> Result<Vec<Front>, AllocError>
+    ensures { IfOk result (λ fronts. fronts.items ≡ watermark choice.now) }
+{
+    let cuts = choice.cuts.as_slice();
+    let mut fronts = Vec::with_capacity(alloc, cuts.len())?;
+    for cut in cuts {
+        fronts.push(front_of(alloc, cut)?)?;
+    }
+    Ok(fronts)
+}
+
+// The frontier of a cut. The error is want of memory.
+fn front_of(alloc: Global, cut: &Cut) -> Result<Front, AllocError>
+    ensures { IfOk result (λ front. front ≡ front_of_cut cut.now) }
+{
+    match cut {
+        Cut::Present => Ok(Front::all(alloc)),
+        Cut::At(front) => front.copy(),
+    }
+}

@@ -1,0 +1,11 @@
+pub mod CountedLaws
+pub mod CutLaws
+pub mod CutProgressLaws
+pub mod FollowedLaws
+pub mod LogsFitLaws
+pub mod PartsLaws
+pub mod ReadingLaws
+pub mod RecoverLaws
+pub mod RecoverStepLaws
+pub mod RecoveredShapeLaws
+pub mod TracesAfterLaws

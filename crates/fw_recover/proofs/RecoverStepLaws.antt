@@ -1,0 +1,148 @@
+-- The step of a recovery, by what its calls answer.
+use Rattle.std.proofs.Common.{◌≡◌, ℕ, zero, suc, ◌<◌, Bool, true, false, List, [], ◌∷◌, length, slice_index_or, Option, Some, None, Result, Ok, Err, refl, sym, ap, subst, ◌∙◌, arith}
+use Rattle.std.specs.Prelude.{IsErrAnd}
+use Rattle.std.specs.List.{AllByRecursion, AllZip, list_any}
+use Rattle.fw_flow.specs.declared.choice.Choice.{Choice}
+use Rattle.fw_flow.specs.declared.step.Step.TheVariants.{Recover}
+use Rattle.fw_flow.specs.Dataflow.{System, Dataflow}
+use Rattle.fw_model.specs.Machine.{Machine, Write, is_failed}
+use Rattle.fw_model.proofs.Decisions.{two_ways}
+use Rattle.fw_record.specs.declared.record.Record.{Record}
+use Rattle.fw_record.specs.Spelling.{spelling}
+use Rattle.fw_keep.specs.declared.entry.Entry.{Entry}
+use Rattle.fw_keep.specs.declared.fault.KeepFault.{KeepFault}
+use Rattle.fw_keep.specs.declared.fault.KeepFault.TheVariants as keep
+use Rattle.fw_keep.specs.Stored.{Records, HoldsAs, bytes_under}
+use Rattle.fw_rollback.specs.declared.parts.Parts.{Parts}
+use Rattle.fw_rollback.specs.Asked.{IsDamaged, IsDamagedIfSaid}
+use Rattle.fw_stands.specs.Written.{AreStored, IsHeldAs, uncollected}
+use Rattle.fw_stands.proofs.RecoveredFacts.{each-contained}
+use Rattle.fw_running.specs.declared.fault.EngineFault.{EngineFault}
+use Rattle.fw_running.specs.declared.fault.EngineFault.TheVariants as fault
+use Rattle.fw_running.specs.declared.running.Running.{Running}
+use Rattle.fw_running.specs.declared.stepped.Effect.TheVariants.{Cuts}
+use Rattle.fw_running.specs.declared.stepped.Stepped.{Stepped}
+use Rattle.fw_running.specs.declared.stepped.Stepped.TheVariants.{Did, Idle}
+use Rattle.fw_choose.specs.declared.viewing.Lost.TheVariants.{Failed}
+use Rattle.fw_choose.specs.Chosen.{IsChosenBy}
+use Rattle.fw_running.specs.Faults.{fault_of}
+use Rattle.fw_running.specs.Shaped.{IsShaped}
+use Rattle.fw_running.specs.Steps.{IsDamage, StaysShaped, TakesStep}
+use Rattle.fw_recover.proofs.RecoverLaws.{IsRecovered, recovered-stands}
+
+-- ---- whether a node is failed
+
+some-any : (bs : List Bool) → list_any (λ b. b) bs ≡ true → (q : ℕ) × (q < length bs) × (slice_index_or bs q false ≡ true)
+some-any [] e = absurd (two_ways false e refl)
+some-any (true ∷ bs) e = (0, omega arith, refl)
+some-any (false ∷ bs) e = let rest = some-any bs e in (suc rest.0, omega (arith, rest.1), rest.2)
+
+none-any : (bs : List Bool) → list_any (λ b. b) bs ≡ false → (q : ℕ) → slice_index_or bs q false ≡ false
+none-any [] e q = refl
+none-any (true ∷ bs) e q = absurd (two_ways true refl e)
+none-any (false ∷ bs) e zero = refl
+none-any (false ∷ bs) e (suc q) = none-any bs e q
+
+-- where no node is failed a recovery is idle
+pub recovery-idle : (old : Running) (records : Option Records) → list_any (λ down. down) old.failed.items ≡ false
+    → TakesStep old records Recover (Ok Idle) old records
+recovery-idle old records none sys state s = λ trust. record {
+  next = state;
+  steps = (
+    λ other effect t. two_ways (is_failed state t.0) t.4 (ap (λ down. slice_index_or down t.0 false) (sym s.failed) ∙ none-any old.failed.items none t.0),
+    refl,
+  );
+  stands = s;
+}
+
+-- where one is, the engine recovers to its choice
+pub recovery-done : (old new : Running) (records : Option Records) (choice : Choice) → IsShaped old → list_any (λ down. down) old.failed.items ≡ true
+    → IsChosenBy old Failed choice → IsRecovered choice records old new → TakesStep old records Recover (Ok (Did (Cuts choice))) new records
+recovery-done old new records choice shaped some chosen made sys state s = λ trust.
+    let q = some-any old.failed.items some in
+    let there : q.0 < length sys.flow.nodes =
+    subst (λ (flow : Dataflow). q.0 < length flow.nodes) s.flow (subst (λ n. q.0 < n) shaped.one_each.failed q.1) in
+    recovered-stands sys records state choice old new s (chosen sys records state s) trust q.0 there
+    (ap (λ down. slice_index_or down q.0 false) (sym s.failed) ∙ q.2) made
+
+-- ---- damage
+
+-- the store holds a record as that of each entry
+record HasRecord (flow : Dataflow) (held : Records) (e : Entry) : Type 0 where
+  pub what : Record
+  pub of_entry : HoldsAs flow (Some held) e what
+
+each-held : (sys : System) (state : Machine) (held : Records) (es : List Entry) (ws : List Write) → AllZip (IsHeldAs sys state held) es ws
+    → AllByRecursion (HasRecord sys.flow held) es
+each-held sys state held [] ws a = tt
+each-held sys state held (e ∷ es) [] a = absurd a
+each-held sys state held (e ∷ es) (w ∷ ws) a = (record { what = a.0.what; of_entry = a.0.of_entry }, each-held sys state held es ws a.1)
+
+some-is : (a b : List ℕ) → Some a ≡ Some b → a ≡ b
+some-is a b e = cc
+
+untold : (sys : System) (state : Machine) (choice : Choice) (records : Option Records) (es : List Entry) (got : Option (ℕ × List ℕ)) (id : ℕ) (bytes : List ℕ)
+    → AreStored sys state records es (uncollected state) → IsDamaged sys.flow choice records es got id bytes → records ≡ None
+untold sys state choice None es got id bytes st d = refl
+untold sys state choice (Some held) es got id bytes st d =
+    let has = each-contained (HasRecord sys.flow held) es d.entry (each-held sys state held es (uncollected state) (st held refl)) d.there in
+    let under = ap (λ n. bytes_under n (Some held)) d.named in
+    let same : bytes ≡ spelling has.what = some-is bytes (spelling has.what) (sym (d.told held refl) ∙ sym under ∙ has.of_entry.bytes) in
+    absurd (d.none has.what has.of_entry.sound same has.of_entry.of_entry)
+
+damaged-stands : (old : Running) (choice : Choice) (records : Option Records) (got : Option (ℕ × List ℕ)) (id : ℕ) (bytes : List ℕ)
+    → IsDamaged old.flow choice records old.parts.keep.entries got id bytes → TakesStep old records Recover (Err (fault.Damaged id)) old records
+damaged-stands old choice records got id bytes d sys state s = (
+  untold sys state choice records old.parts.keep.entries got id bytes s.stored
+      (subst (λ flow. IsDamaged flow choice records old.parts.keep.entries got id bytes) s.flow d),
+  s,
+)
+
+-- what a refusal of the catalogue leaves
+pub refusal-stands : (old : Running) (choice : Choice) (records : Option Records) (got : Option (ℕ × List ℕ)) (why : KeepFault)
+    → IsDamagedIfSaid {T = Unit {0}} old.flow choice records old.parts.keep.entries got (Err why)
+    → TakesStep old records Recover (Err (fault_of why)) old records
+refusal-stands old choice records got keep.StoreFault d sys state s = s
+refusal-stands old choice records got (keep.Damaged id bytes) d sys state s = damaged-stands old choice records got id bytes.items d sys state s
+refusal-stands old choice records got keep.NoMemory d sys state s = tt
+
+pub refusal-shaped : (T : Type 0) (old : Running) (why : KeepFault) → IsShaped old → StaysShaped {T = T} (Err (fault_of why)) old
+refusal-shaped T old keep.StoreFault s = s
+refusal-shaped T old (keep.Damaged id bytes) s = s
+refusal-shaped T old keep.NoMemory s = tt
+
+-- the damage that a recovery tells
+pub refusal-damage : (old : Running) (choice : Choice) (records : Option Records) (got : Option (ℕ × List ℕ)) (why : KeepFault)
+    → IsDamagedIfSaid {T = Unit {0}} old.flow choice records old.parts.keep.entries got (Err why) → (id : ℕ) → fault_of why ≡ fault.Damaged id → IsDamage old id got
+refusal-damage old choice records got keep.StoreFault d id e = absurd (cc e)
+refusal-damage old choice records got (keep.Damaged at bytes) d id e =
+    let same : at ≡ id = cc in
+    subst (λ n. IsDamage old n got) same
+    (record { entry = d.entry; there = d.there; named = d.named; bytes = bytes.items; gave = d.given; spells_none = d.none })
+refusal-damage old choice records got keep.NoMemory d id e = absurd (cc e)
+
+-- ---- by what the call to the catalogue answered
+
+-- what is kept where the parts were not restored
+pub refused-stands : (old : Running) (parts : Parts) (choice : Choice) (records after : Option Records) (got : Option (ℕ × List ℕ)) (why : KeepFault)
+    (r : Result Stepped EngineFault) → parts ≡ old.parts → after ≡ records → IsErrAnd r (λ e. e ≡ fault_of why)
+    → IsDamagedIfSaid {T = Unit {0}} old.flow choice records old.parts.keep.entries got (Err why)
+    → TakesStep old records Recover r (record old { parts = parts }) after
+refused-stands old parts choice records after got why (Ok x) same told is d = absurd is
+refused-stands old parts choice records after got why (Err e) same told is d =
+    subst (λ x. TakesStep old records Recover (Err e) (record old { parts = x }) after) (sym same)
+    (subst (λ x. TakesStep old records Recover (Err e) old x) (sym told)
+    (subst (λ x. TakesStep old records Recover (Err x) old records) (sym is) (refusal-stands old choice records got why d)))
+
+-- the damage that is told then
+pub refused-damage : (old : Running) (choice : Choice) (records : Option Records) (got : Option (ℕ × List ℕ)) (why : KeepFault) (r : Result Stepped EngineFault)
+    → IsErrAnd r (λ e. e ≡ fault_of why) → IsDamagedIfSaid {T = Unit {0}} old.flow choice records old.parts.keep.entries got (Err why)
+    → (id : ℕ) → r ≡ Err (fault.Damaged id) → IsDamage old id got
+refused-damage old choice records got why (Ok x) is d id e = absurd is
+refused-damage old choice records got why (Err y) is d id e =
+    let same : y ≡ fault.Damaged id = cc in
+    refusal-damage old choice records got why d id (sym is ∙ same)
+
+-- some node is failed, where it is not so that none is
+pub some-down : (bs : List Bool) (any : Bool) → any ≡ list_any (λ down. down) bs → any ≡ true → list_any (λ down. down) bs ≡ true
+some-down bs any e n = sym e ∙ n

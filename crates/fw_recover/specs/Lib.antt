@@ -1,0 +1,3 @@
+pub mod CutProgress
+pub mod CutTraces
+pub mod Recovered

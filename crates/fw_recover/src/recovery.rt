@@ -1,0 +1,82 @@
+//! The step of a recovery.
+ghost use Rattle.std.specs.Prelude.{◌≡◌, ◌≤◌, ℕ, IsErrOf, OnOk};
+ghost use Rattle.std.specs.List.{list_any};
+ghost use Rattle.fw_outside.specs.Outside.{Rose};
+ghost use Rattle.fw_flow.specs.declared.step.Step.TheVariants as steps;
+ghost use Rattle.fw_keep.specs.Stored.{IsStored};
+ghost use Rattle.fw_monitor.specs.Chosen.{IsChoiceOf};
+ghost use Rattle.fw_recover.specs.CutProgress.{AreAtReceivers};
+ghost use Rattle.fw_recover.specs.Recovered.{HasPlaces, IsFollowed};
+ghost use Rattle.fw_running.specs.Shaped.{IsShaped};
+ghost use Rattle.fw_running.specs.Steps.{TakesStep, StaysShaped, IsDamage};
+
+use crate::rebuild::{cut_progress, cut_traces};
+use fw_choose::{Lost, choose};
+use fw_flow::Choice;
+use fw_outside::Store;
+use fw_rollback::restore;
+use fw_running::{Effect, EngineFault, Running, Stepped, no_stamps};
+use std::alloc::AllocError;
+
+/// The failed nodes are restored, and others as far as they have to be: what is outside its node's cut is undone, also of
+/// what is settled and written, and no node is failed any more. A fault of the store leaves all as it was.
+pub fn recover<K: Store>(running: &mut Running, store: &mut K) -> Result<Stepped, EngineFault>
+    requires shaped { IsShaped running.old }
+    requires stored { IsStored running.old.parts.keep (K.records store.old) }
+    ensures shaped { StaysShaped result running.new }
+    ensures stored { IsStored running.new.parts.keep (K.records store.new) }
+    ensures flow { running.new.flow ≡ running.old.flow }
+    ensures takes { TakesStep running.old (K.records store.old) steps.Recover result running.new (K.records store.new) }
+    ensures fault { IsErrOf result EngineFault.StoreFault → Rose (K.fault_count store.old) (K.fault_count store.new) }
+    ensures never_falls { K.fault_count store.old ≤ K.fault_count store.new }
+    ensures damaged { (id : ℕ) → IsErrOf result (EngineFault.Damaged id) → IsDamage running.old id (K.given store.new) }
+{
+    if !any_of(&running.failed) {
+        return Ok(Stepped::Idle);
+    }
+    let choice = choose(running, Lost::Failed)?;
+    restore(
+        running.alloc,
+        &running.flow,
+        &choice,
+        &mut running.parts,
+        store,
+    )?;
+    follow(running, &choice)?;
+    Ok(Stepped::Did(Effect::Cuts(choice)))
+}
+
+// What is beside the parts follows the choice to which these were restored.
+fn follow(running: &mut Running, choice: &Choice) -> Result<(), AllocError>
+    requires choice { IsChoiceOf running.old.flow choice.now }
+    requires places { HasPlaces running.old }
+    requires queues { AreAtReceivers running.old.flow running.old.parts.queues }
+    ensures parts { running.new.parts ≡ running.old.parts }
+    ensures flow { running.new.flow ≡ running.old.flow }
+    ensures followed { OnOk result (IsFollowed choice.now running.old running.new) }
+{
+    cut_traces(
+        running.alloc,
+        &running.flow,
+        choice,
+        running.parts.keep.entries(),
+        &mut running.traces,
+    )?;
+    cut_progress(
+        running.alloc,
+        &running.flow,
+        choice,
+        &running.parts.queues,
+        &mut running.progress,
+    )?;
+    running.failed = vec![in running.alloc; false; running.flow.nodes()]?;
+    running.lost = no_stamps(running.alloc, running.flow.nodes())?;
+    running.ready.put_all(&running.flow)
+}
+
+// Whether one of these is.
+fn any_of(failed: &[bool]) -> bool
+    ensures { result ≡ list_any (λ down. down) failed.now }
+{
+    failed.iter().any(|down| *down)
+}

@@ -1,0 +1,6 @@
+pub mod AckLaws
+pub mod FirstStepLaws
+pub mod LookLaws
+pub mod SearchLaws
+pub mod StableLaws
+pub mod TakenFirstLaws

@@ -1,0 +1,31 @@
+use Rattle.std.proofs.Common.{Ok, subst}
+use Rattle.fw_flow.specs.declared.step.Step.TheVariants.{Persist}
+use Rattle.fw_stands.proofs.TakingLaws.{writes-first}
+use Rattle.fw_running.specs.declared.stepped.Stepped.{Stepped}
+use Rattle.fw_running.specs.Steps.{TakesStep}
+use Rattle.fw_engine.specs.Searching.{NoneToPersist}
+use Rattle.fw_engine.proofs.TakenFirstLaws.{did-first, idle-later}
+use Rattle.fw_engine.proofs.auto.take_first.Goals as goal
+
+pub returns-in-Did-clause-takes : goal.returns-in-Did-clause-takes
+returns-in-Did-clause-takes g c = λ sys state s.
+    let before = g.K.Store.records c.args.store.now in
+    did-first (λ sys state. Unit {0}) Persist c.args.running.now c.persist.new.running before before c.in-Did.effect
+    (λ sys state next effect earlier leads. writes-first sys state next effect leads) (λ sys state records. tt)
+    (subst (λ (stepped : Stepped). TakesStep c.args.running.now before Persist (Ok stepped) c.persist.new.running before) c.in-Did.is (c.persist.ensures.takes before))
+    sys state s tt
+
+pub returns-in-Idle-clause-takes : goal.returns-in-Idle-clause-takes
+returns-in-Idle-clause-takes g c = λ sys state s.
+    let before = g.K.Store.records c.args.store.now in
+    let after = g.K.Store.records c.deliver_first.new.store in
+    idle-later (λ sys state. Unit {0}) NoneToPersist Persist c.args.running.now c.persist.new.running c.deliver_first.new.running before before after c.deliver_first.result
+    (λ sys state earlier idle. idle) (λ sys state records. tt)
+    (subst (λ (stepped : Stepped). TakesStep c.args.running.now before Persist (Ok stepped) c.persist.new.running before) c.in-Idle.is (c.persist.ensures.takes before))
+    c.deliver_first.ensures.takes sys state s tt
+
+pub deliver_first-requires-clause-stored : goal.deliver_first-requires-clause-stored
+deliver_first-requires-clause-stored g c = c.persist.ensures.stored (g.K.Store.records c.args.store.now) c.requires.stored
+
+pub returns-in-Did-clause-stored : goal.returns-in-Did-clause-stored
+returns-in-Did-clause-stored g c = c.persist.ensures.stored (g.K.Store.records c.args.store.now) c.requires.stored

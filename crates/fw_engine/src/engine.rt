@@ -1,0 +1,133 @@
+//! The engine.
+ghost use Rattle.std.specs.Prelude.{◌≡◌, ◌≤◌, ℕ, Option, true, false, None, IsTrue, IfOk, IsErrOf};
+ghost use Rattle.fw_outside.specs.Outside.{Rose};
+ghost use Rattle.fw_flow.specs.declared.step.Step.TheVariants.{Recover};
+ghost use Rattle.fw_flow.specs.Dataflow.{system_of};
+ghost use Rattle.fw_flow.specs.WellFormed.{IsWellFormedSystem};
+ghost use Rattle.fw_model.specs.Machine.{first_state};
+ghost use Rattle.fw_keep.specs.Stored.{Records, IsEmptyStore, IsStored};
+ghost use Rattle.fw_running.specs.Faults as faults;
+ghost use Rattle.fw_running.specs.Shaped.{IsShaped};
+ghost use Rattle.fw_running.specs.Steps.{Trusts, MayCallStore, IsLeftBy};
+
+use crate::auto::take_first;
+use crate::taking::take;
+use fw_flow::laws::flow_is_well_formed;
+use fw_flow::{Flow, Step};
+use fw_lines::Batches;
+use fw_outside::Store;
+use fw_running::{EngineFault, Running, Stepped};
+use std::alloc::{AllocError, Global};
+
+/// An engine that keeps no list of events. What nodes write is in a store that is lent to each step: always the same one, which
+/// at first holds no record. Contracts see what it keeps, and relate it to states of the machine (`Stands`).
+#[derive(Drop)]
+pub struct Engine {
+    pub(crate) running: Running,
+    pub(crate) refused: bool,
+    // What it keeps has its shape, unless memory was refused.
+    ghost shaped: { ∥ (refused ≡ false → IsShaped running) ∥₁ },
+}
+
+impl Engine {
+    ghost use Rattle.fw_engine.specs.Engine.{flow_of, keep_of, was_refused, StandsFor, ForEachState, FollowsStep, FollowsFirstStep, IsDamaged};
+
+    /// An engine to which nothing has happened. The error is want of memory.
+    pub fn new(alloc: Global, flow: Flow, batches: &Batches) -> Result<Self, AllocError>
+        requires { IsWellFormedSystem (system_of flow batches.now) }
+        ensures stands { (records : Option Records) → let sys = system_of flow batches.now in
+            IfOk result (λ engine. StandsFor sys engine records (first_state sys)) }
+        ensures stored { (records : Option Records) → IsEmptyStore records → IfOk result (λ engine. IsStored (keep_of engine) records) }
+        ensures flow { IfOk result (λ engine. flow_of engine ≡ flow) }
+        ensures told { IfOk result (λ engine. was_refused engine ≡ false) }
+    {
+        let running = Running::new(alloc, flow, batches)?;
+        Ok(Engine {
+            running,
+            refused: false,
+        })
+    }
+
+    /// The flow that it runs.
+    pub fn flow(&self) -> &Flow
+        ensures { result.now ≡ flow_of self.now }
+    {
+        &self.running.flow
+    }
+
+    /// Takes a step, and tells what it shows: Idle exactly where it is not enabled, and then nothing changes.
+    ///
+    /// # Errors
+    ///
+    /// `StoreFault` where the store fails; only a step that asks a write, a recovery and a collection call it. The engine stands
+    /// where it stood, but after a collection: what is given up is gone, and its bytes wait for the next sweep. `Damaged` where
+    /// the bytes that the store gives to a recovery spell no record of a write; the engine stands where it stood. `NoMemory`
+    /// where memory is refused, now or earlier.
+    pub fn step<K: Store>(&mut self, step: &Step, store: &mut K) -> Result<Stepped, EngineFault>
+        requires stored { IsStored (keep_of self.old) (K.records store.old) }
+        ensures stored { IsStored (keep_of self.new) (K.records store.new) }
+        ensures flow { flow_of self.new ≡ flow_of self.old }
+        ensures ok { ForEachState self.old (K.records store.old) (λ sys state. Trusts sys state step.now (K.records store.old)
+            → IfOk result (λ stepped. FollowsStep sys state step.now stepped self.new (K.records store.new))) }
+
+        // A fault of the store comes where it failed, in a step that calls it. Then the engine stands where it stood, or after the
+        // collection.
+        ensures fault { IsErrOf result EngineFault.StoreFault → Rose (K.fault_count store.old) (K.fault_count store.new) }
+        ensures calls { IsErrOf result EngineFault.StoreFault → MayCallStore (flow_of self.old) step.now }
+        ensures faulted { ForEachState self.old (K.records store.old) (λ sys state. IsErrOf result EngineFault.StoreFault
+            → IsLeftBy sys state step.now (λ next. StandsFor sys self.new (K.records store.new) next)) }
+        ensures never_falls { K.fault_count store.old ≤ K.fault_count store.new }
+
+        // A record is damaged in a recovery alone, over a store that does not tell its records.
+        ensures damaged { (id : ℕ) → IsErrOf result (EngineFault.Damaged id) → IsDamaged self.old id (K.given store.new) }
+        ensures in_recovery { (id : ℕ) → IsErrOf result (EngineFault.Damaged id) → step.now ≡ Recover }
+        ensures unharmed { (id : ℕ) → ForEachState self.old (K.records store.old) (λ sys state. IsErrOf result (EngineFault.Damaged id)
+            → (K.records store.old ≡ None) × StandsFor sys self.new (K.records store.new) state) }
+
+        ensures refused { IsErrOf result EngineFault.NoMemory → was_refused self.new ≡ true }
+        ensures told { was_refused self.new ≡ faults.is_refusal result }
+        ensures stays { IsTrue (was_refused self.old) → IsErrOf result EngineFault.NoMemory }
+    {
+        if self.refused {
+            return Err(EngineFault::NoMemory);
+        }
+        flow_is_well_formed(&self.running.flow);
+        let stepped = take(&mut self.running, step, store);
+        self.refused = is_refusal(&stepped);
+        stepped
+    }
+
+    /// Takes the first step that is enabled: the oldest write is acknowledged; a message is delivered, edge by edge; a node
+    /// is notified, node by node; what is complete is settled; an output acknowledges; an input injects. Idle exactly where
+    /// none of these is enabled, and then nothing changes. The errors are those of `step`; no record is damaged.
+    pub fn auto_step<K: Store>(&mut self, store: &mut K) -> Result<Stepped, EngineFault>
+        requires stored { IsStored (keep_of self.old) (K.records store.old) }
+        ensures stored { IsStored (keep_of self.new) (K.records store.new) }
+        ensures flow { flow_of self.new ≡ flow_of self.old }
+        ensures ok { ForEachState self.old (K.records store.old)
+            (λ sys state. IfOk result (λ stepped. FollowsFirstStep sys state stepped self.new (K.records store.new))) }
+        ensures fault { IsErrOf result EngineFault.StoreFault → Rose (K.fault_count store.old) (K.fault_count store.new) }
+        ensures faulted { ForEachState self.old (K.records store.old)
+            (λ sys state. IsErrOf result EngineFault.StoreFault → StandsFor sys self.new (K.records store.new) state) }
+        ensures never_falls { K.fault_count store.old ≤ K.fault_count store.new }
+        ensures unharmed { (id : ℕ) → IsErrOf result (EngineFault.Damaged id) → ⊥ }
+        ensures refused { IsErrOf result EngineFault.NoMemory → was_refused self.new ≡ true }
+        ensures told { was_refused self.new ≡ faults.is_refusal result }
+        ensures stays { IsTrue (was_refused self.old) → IsErrOf result EngineFault.NoMemory }
+    {
+        if self.refused {
+            return Err(EngineFault::NoMemory);
+        }
+        flow_is_well_formed(&self.running.flow);
+        let stepped = take_first(&mut self.running, store);
+        self.refused = is_refusal(&stepped);
+        stepped
+    }
+}
+
+// Whether memory was refused.
+fn is_refusal(stepped: &Result<Stepped, EngineFault>) -> bool
+    ensures { result ≡ faults.is_refusal stepped.now }
+{
+    matches!(stepped, Err(EngineFault::NoMemory))
+}

@@ -1,0 +1,16 @@
+//! The engine that keeps what it knows: of each node its table, of each edge what is pending and what may have to be sent
+//! again, a catalogue of what was written, batches and outputs, and up to where everything has come. It keeps no list of
+//! events, so that a step costs what it changes, whatever came before.
+//!
+//! The store of what nodes write is lent to each step. A step first asks whether it is enabled, then puts what it writes, and
+//! then changes: so a fault of the store leaves everything as it was, but for a collection, which sweeps last.
+#![tactic(auto)]
+
+mod acknowledgement;
+mod auto;
+mod engine;
+mod looks;
+mod taking;
+
+pub use engine::Engine;
+pub use fw_running::{Effect, EngineFault, Shown, Stepped};

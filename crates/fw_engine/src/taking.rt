@@ -1,0 +1,49 @@
+//! A step is taken.
+ghost use Rattle.std.specs.Prelude.{◌≡◌, ◌≤◌, ℕ, IsErrOf};
+ghost use Rattle.fw_outside.specs.Outside.{Rose};
+ghost use Rattle.fw_flow.specs.declared.step.Step.TheVariants.{Recover};
+ghost use Rattle.fw_keep.specs.Stored.{IsStored};
+ghost use Rattle.fw_running.specs.Shaped.{IsShaped};
+ghost use Rattle.fw_running.specs.Steps.{TakesStep, StaysShaped, MayCallStore, IsDamage};
+
+use crate::acknowledgement::acknowledge;
+use fw_choose::collect;
+use fw_events::{deliver, inject, notify};
+use fw_fail::fail;
+use fw_flow::Step;
+use fw_outside::Store;
+use fw_recover::recover;
+use fw_running::{EngineFault, Running, Stepped};
+use fw_settle::{checkpoint, persist, progress};
+
+/// Takes a step, and tells what it shows.
+pub(crate) fn take<K: Store>(
+    running: &mut Running,
+    step: &Step,
+    store: &mut K,
+) -> Result<Stepped, EngineFault>
+    requires shaped { IsShaped running.old }
+    requires stored { IsStored running.old.parts.keep (K.records store.old) }
+    ensures shaped { StaysShaped result running.new }
+    ensures stored { IsStored running.new.parts.keep (K.records store.new) }
+    ensures flow { running.new.flow ≡ running.old.flow }
+    ensures takes { TakesStep running.old (K.records store.old) step.now result running.new (K.records store.new) }
+    ensures fault { IsErrOf result EngineFault.StoreFault → Rose (K.fault_count store.old) (K.fault_count store.new) }
+    ensures never_falls { K.fault_count store.old ≤ K.fault_count store.new }
+    ensures calls { IsErrOf result EngineFault.StoreFault → MayCallStore running.old.flow step.now }
+    ensures damaged { (id : ℕ) → IsErrOf result (EngineFault.Damaged id) → IsDamage running.old id (K.given store.new) }
+    ensures in_recovery { (id : ℕ) → IsErrOf result (EngineFault.Damaged id) → step.now ≡ Recover }
+{
+    match step {
+        Step::Inject(source) => inject(running, *source),
+        Step::Deliver(edge, at) => deliver(running, *edge, at.as_ref(), store),
+        Step::Notify(node, at) => notify(running, *node, at.as_ref(), store),
+        Step::Progress => progress(running, store),
+        Step::Checkpoint(node) => checkpoint(running, *node, store),
+        Step::Persist => Ok(persist(running)),
+        Step::Fail(nodes) => fail(running, nodes.as_slice()),
+        Step::Recover => recover(running, store),
+        Step::Collect => collect(running, store),
+        Step::Ack(output) => acknowledge(running, *output),
+    }
+}

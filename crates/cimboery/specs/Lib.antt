@@ -1,3 +1,4 @@
+pub use Rattle.fw_outside.specs.Outside
 pub use Rattle.fw_time.specs.Stamp
 pub use Rattle.fw_bag.specs.Bag
 pub use Rattle.fw_bag.specs.Select
@@ -13,4 +14,7 @@ pub use Rattle.fw_model.specs.Denotation
 pub use Rattle.fw_model.specs.History
 pub use Rattle.fw_model.specs.Machine
 pub use Rattle.fw_model.specs.Steps
-pub use Rattle.fw_plain.specs.Engine
+pub use Rattle.fw_keep.specs.Stored
+pub use Rattle.fw_running.specs.Stands
+pub use Rattle.fw_running.specs.Steps as EngineSteps
+pub use Rattle.fw_engine.specs.Engine

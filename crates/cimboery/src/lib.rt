@@ -5,8 +5,9 @@
 //!   `read_batches`; `Selection`, what a select does to a rec.
 //! - A schedule: `read_schedule` reads one from a text; an `Item` of it is a step, or `auto` and how many steps it may take.
 //! - A run: `Engine::new` takes a flow and batches of which `Flow::accepts` is true; `Engine::step` takes a `Step` and answers
-//!   `Stepped`, with the `Effect` that it shows; `Engine::auto_step` takes the first step that is enabled.
-//! - Looks at an engine: `Engine::settled`, `is_failed`, `acknowledged`, `pending` and `low_watermark`.
+//!   `Stepped`, with the `Effect` that it shows, or an `EngineFault`; `Engine::auto_step` takes the first step that is enabled.
+//!   Each call is lent the `Store` of what nodes write, always the same one, which at first holds no record.
+//! - Looks at an engine: `Engine::settled`, `is_failed`, `acknowledged`, `pending`, which shows a `Queue`, and `low_watermark`.
 //! - Times: `Stamp`; `Front`, a frontier; `Cut` and `Choice`, to what a recovery restores the nodes.
 //! - The command over texts: `falkirk`, with its `Folder`, `Store` and `Sink` in memory, over files or of your own.
 #![tactic(auto)]
@@ -14,6 +15,8 @@
 pub use fw_bag::{
     Assignment, Bag, Comparison, Condition, Field, NewValue, Rec, Recs, Selection, Term,
 };
+pub use fw_edge::Queue;
+pub use fw_engine::{Effect, Engine, EngineFault, Shown, Stepped};
 pub use fw_flow::{
     BuildFault, Causes, Choice, Cut, Cuts, Domain, Edge, EdgeId, Flow, FlowBuilder, Fronts, Kind,
     Loop, LoopId, Message, Name, Node, NodeId, Nodes, Policy, RawKind, Step,
@@ -25,7 +28,6 @@ pub use fw_outside::{
     FetchFault, FileFolder, Folder, MemFolder, MemSink, MemStore, MemText, OutFault, Sink, Store,
     StreamSink,
 };
-pub use fw_plain::{Effect, Engine, Shown, Stepped};
 pub use fw_run::{Status, falkirk};
 pub use fw_schedule::{Item, SCHEDULE_LIMIT, STEP_LIMIT, Schedule, read_schedule};
 pub use fw_time::{Bounds, Stamp};

@@ -1,11 +1,14 @@
 //! A program that embeds the engine: a flow and batches are made in code; in the run a total asks a checkpoint, fails and is
-//! restored.
+//! restored. What its nodes write is kept in a store in memory.
 #![tactic(auto)]
+
+ghost use Rattle.cimboery.specs.Stored.{IsStored};
+ghost use Rattle.cimboery.specs.Engine.{keep_of};
 
 use anyhow::{Context, Result, ensure};
 use cimboery::{
-    Batches, BuildFault, Comparison, Condition, EdgeId, Engine, Field, Flow, FlowBuilder, NodeId,
-    Nodes, Policy, RawKind, Rec, Selection, Step, Stepped, Term,
+    Batches, BuildFault, Comparison, Condition, EdgeId, Engine, Field, Flow, FlowBuilder, MemStore,
+    NodeId, Nodes, Policy, RawKind, Rec, Selection, Step, Stepped, Store, Term,
 };
 use std::alloc::{AllocError, Global};
 
@@ -54,18 +57,89 @@ fn edge(flow: &Flow, name: &str) -> Result<EdgeId> {
     flow.edge_named(name.as_bytes()).context("no such edge")
 }
 
-// An engine of that flow and those batches, which are such as it asks for.
-fn shop_engine(alloc: Global, flow: Flow) -> Result<Engine> {
-    let orders = node(&flow, "orders")?;
-    let batches = two_batches(alloc, orders)?;
-    ensure!(flow.accepts(&batches), "no engine runs this");
-    Ok(Engine::new(alloc, flow, batches)?)
+// An engine, with the store of what its nodes write.
+#[derive(Drop)]
+struct Shop {
+    engine: Engine,
+    store: MemStore,
+    ghost stored: { IsStored (keep_of engine) (⟦<MemStore as Store>⟧.records store) },
 }
 
-// Takes a step, and prints what it shows.
-fn take<R: Print>(rt: &R, engine: &mut Engine, step: &Step) -> Result<()> {
-    let stepped = engine.step(step)?;
-    show(rt, engine.flow(), &stepped)
+impl Shop {
+    // Of that flow and those batches, which are such as an engine asks for.
+    fn new(alloc: Global, flow: Flow) -> Result<Self> {
+        let orders = node(&flow, "orders")?;
+        let batches = two_batches(alloc, orders)?;
+        ensure!(flow.accepts(&batches), "no engine runs this");
+        let engine = Engine::new(alloc, flow, &batches)?;
+        let store = MemStore::new(alloc, Vec::new(alloc));
+        Ok(Shop { engine, store })
+    }
+
+    // Takes a step, and prints what it shows.
+    fn take<R: Print>(&mut self, rt: &R, step: &Step) -> Result<()> {
+        let stepped = self.engine.step(step, &mut self.store)?;
+        show(rt, self.engine.flow(), &stepped)
+    }
+
+    // Delivers what is pending on these edges, one after the other, of each a hundred messages at most.
+    fn deliver<R: Print>(&mut self, rt: &R, edges: &[&str]) -> Result<()> {
+        for name in edges {
+            let edge = edge(self.engine.flow(), name)?;
+            for _ in 0..100 {
+                if self.is_delivered(edge)? {
+                    break;
+                }
+                self.take(rt, &Step::Deliver(edge, None))?;
+            }
+        }
+        Ok(())
+    }
+
+    // Whether nothing is pending on an edge.
+    fn is_delivered(&self, edge: EdgeId) -> Result<bool> {
+        let pending = self.engine.pending(edge).context("no such edge")?;
+        Ok(pending.is_empty())
+    }
+
+    // Takes the first step that is enabled, a hundred times at most, and prints what the steps show.
+    fn go_on<R: Print>(&mut self, rt: &R) -> Result<()> {
+        for _ in 0..100 {
+            let stepped = self.engine.auto_step(&mut self.store)?;
+            if let Stepped::Idle = &stepped {
+                return Ok(());
+            }
+            show(rt, self.engine.flow(), &stepped)?;
+        }
+        Ok(())
+    }
+
+    // The first batch goes through, and the total has a checkpoint of it.
+    fn first_batch<R: Print>(&mut self, rt: &R) -> Result<()> {
+        let flow = self.engine.flow();
+        let (orders, sums) = (node(flow, "orders")?, node(flow, "sums")?);
+        let (shop, archive) = (node(flow, "shop")?, node(flow, "archive")?);
+        self.take(rt, &Step::Inject(orders))?;
+        self.deliver(rt, &["to_cheap", "to_sums"])?;
+        self.take(rt, &Step::Notify(sums, None))?;
+        self.deliver(rt, &["to_shop", "to_archive"])?;
+        self.take(rt, &Step::Progress)?;
+        self.take(rt, &Step::Ack(shop))?;
+        self.take(rt, &Step::Ack(archive))?;
+        self.take(rt, &Step::Checkpoint(sums))?;
+        self.take(rt, &Step::Persist)
+    }
+
+    // The total fails while the second batch is under way, and is restored to its checkpoint.
+    fn failure<R: Print>(&mut self, rt: &R, alloc: Global) -> Result<()> {
+        let flow = self.engine.flow();
+        let (orders, sums) = (node(flow, "orders")?, node(flow, "sums")?);
+        self.take(rt, &Step::Inject(orders))?;
+        self.deliver(rt, &["to_cheap", "to_sums"])?;
+        let failed = Nodes::new(vec![in alloc; sums]?);
+        self.take(rt, &Step::Fail(failed))?;
+        self.take(rt, &Step::Recover)
+    }
 }
 
 fn show<R: Print>(rt: &R, flow: &Flow, stepped: &Stepped) -> Result<()> {
@@ -74,64 +148,14 @@ fn show<R: Print>(rt: &R, flow: &Flow, stepped: &Stepped) -> Result<()> {
     Ok(())
 }
 
-// Delivers what is pending on these edges, one after the other.
-fn deliver<R: Print>(rt: &R, engine: &mut Engine, edges: &[&str]) -> Result<()> {
-    for name in edges {
-        let edge = edge(engine.flow(), name)?;
-        for _ in 0..engine.pending(edge)?.len() {
-            take(rt, engine, &Step::Deliver(edge, None))?;
-        }
-    }
-    Ok(())
-}
-
-// Takes the first step that is enabled, a hundred times at most, and prints what the steps show.
-fn go_on<R: Print>(rt: &R, engine: &mut Engine) -> Result<()> {
-    for _ in 0..100 {
-        let stepped = engine.auto_step()?;
-        if let Stepped::Idle = &stepped {
-            return Ok(());
-        }
-        show(rt, engine.flow(), &stepped)?;
-    }
-    Ok(())
-}
-
-// The first batch goes through, and the total has a checkpoint of it.
-fn first_batch<R: Print>(rt: &R, engine: &mut Engine) -> Result<()> {
-    let flow = engine.flow();
-    let (orders, sums) = (node(flow, "orders")?, node(flow, "sums")?);
-    let (shop, archive) = (node(flow, "shop")?, node(flow, "archive")?);
-    take(rt, engine, &Step::Inject(orders))?;
-    deliver(rt, engine, &["to_cheap", "to_sums"])?;
-    take(rt, engine, &Step::Notify(sums, None))?;
-    deliver(rt, engine, &["to_shop", "to_archive"])?;
-    take(rt, engine, &Step::Progress)?;
-    take(rt, engine, &Step::Ack(shop))?;
-    take(rt, engine, &Step::Ack(archive))?;
-    take(rt, engine, &Step::Checkpoint(sums))?;
-    take(rt, engine, &Step::Persist)
-}
-
-// The total fails while the second batch is under way, and is restored to its checkpoint.
-fn failure<R: Print>(rt: &R, alloc: Global, engine: &mut Engine) -> Result<()> {
-    let flow = engine.flow();
-    let (orders, sums) = (node(flow, "orders")?, node(flow, "sums")?);
-    take(rt, engine, &Step::Inject(orders))?;
-    deliver(rt, engine, &["to_cheap", "to_sums"])?;
-    let failed = Nodes::new(vec![in alloc; sums]?);
-    take(rt, engine, &Step::Fail(failed))?;
-    take(rt, engine, &Step::Recover)
-}
-
-fn run<R: Print>(rt: &R, alloc: Global, engine: &mut Engine) -> Result<()> {
-    first_batch(rt, engine)?;
-    failure(rt, alloc, engine)?;
-    go_on(rt, engine)
+fn run<R: Print>(rt: &R, alloc: Global, shop: &mut Shop) -> Result<()> {
+    shop.first_batch(rt)?;
+    shop.failure(rt, alloc)?;
+    shop.go_on(rt)
 }
 
 fn main(rt: HostRuntime) -> Result<()> {
     let alloc = rt.alloc();
-    let mut engine = shop_engine(alloc, shop_flow(alloc)?)?;
-    run(&rt, alloc, &mut engine)
+    let mut shop = Shop::new(alloc, shop_flow(alloc)?)?;
+    run(&rt, alloc, &mut shop)
 }

@@ -1,7 +1,7 @@
 //! The command `falkirk`: the top call over real files, standard output, standard error and a store in memory.
 #![tactic(auto)]
 
-use fw_outside::{FileFolder, MemStore, Sink, StreamSink};
+use fw_outside::{FaultlessStore, FileFolder, Sink, StreamSink};
 use fw_run::{Status, falkirk};
 use std::io::ErrorKind;
 use std::process::ExitCode;
@@ -33,7 +33,7 @@ fn run_words<N: Sink>(rt: &HostRuntime, words: &[String], notes: &mut N) -> Stat
         return out_of_memory(notes);
     };
     let mut folder = FileFolder::new(rt);
-    let mut store = MemStore::new(alloc, Vec::new(alloc));
+    let mut store = FaultlessStore::new(alloc);
     let mut out = StreamSink::new(rt.stdout());
     falkirk(alloc, &words, &mut folder, &mut store, &mut out, notes)
 }

@@ -10,14 +10,14 @@ use Rattle.fw_bag.specs.RecText.{rec_text}
 use Rattle.fw_lines.specs.Batches.{batches_at}
 use Rattle.fw_flow.specs.Dataflow.{Dataflow, System, system_of, batches_of, batches_of_nodes}
 use Rattle.fw_flow.specs.WholeBags.{Timed, recs_where}
-use Rattle.fw_plain.specs.EffectText.{recs_text}
+use Rattle.fw_running.specs.EffectText.{recs_text}
 use Rattle.fw_flow.specs.WellFormed.{IsWellFormedSystem}
 use Rattle.fw_model.specs.Denotation.{rounds}
 use Rattle.fw_model.specs.Measure.{enough_rounds}
 use Rattle.fw_model.proofs.DenotationLaws.{denotation-exists}
 use Rattle.fw_outside.specs.declared.fault.OutFault.TheVariants.{NoMemory}
 use Rattle.fw_outside.specs.Outside.{SinkView}
-use Rattle.fw_run.proofs.RunLaws.{cut_nothing}
+use Rattle.fw_run.proofs.WritingLaws.{cut_nothing}
 use Rattle.fw_run.specs.DenotationText.{rec_at_text, greatest, denotation_text, PrintsDenotation}
 use Rattle.fw_run.specs.Writing.{IsCutOff, WritesText}
 

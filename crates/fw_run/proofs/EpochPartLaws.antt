@@ -17,7 +17,7 @@ use Rattle.fw_flow.specs.WholeBags.{Timed, timed_cmp, recs_where, in_order}
 use Rattle.fw_model.proofs.FilterLaws.{filter-dropped, filter-none_at}
 use Rattle.fw_model.proofs.TimedLaws.{IsAscendingTimed}
 use Rattle.fw_model.proofs.DependenceLaws.{ascending-from_in_order}
-use Rattle.fw_plain.specs.EffectText.{recs_text}
+use Rattle.fw_running.specs.EffectText.{recs_text}
 use Rattle.fw_run.specs.DenotationText.{after_epoch, epoch_line}
 
 -- ---- the order by epochs

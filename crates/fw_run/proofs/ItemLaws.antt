@@ -1,17 +1,15 @@
 -- Items come to one list of steps, which has one run.
-use Rattle.std.proofs.Common.{◌≡◌, ℕ, zero, suc, ◌≤◌, List, [], ◌∷◌, ◌++◌, map, length, refl, sym, ◌∙◌, ap, subst, arith, append_assoc}
+use Rattle.std.proofs.Common.{◌≡◌, List, [], ◌∷◌, ◌++◌, map, refl, sym, ◌∙◌, ap, subst, append_assoc}
 use Rattle.std.proofs.lemmas.List.{append-nil}
 use Rattle.fw_flow.specs.declared.step.Step.{Step}
 use Rattle.fw_flow.specs.Dataflow.{System}
 use Rattle.fw_flow.specs.WellFormed.{IsWellFormedSystem}
 use Rattle.fw_schedule.specs.declared.item.Item.{Item}
 use Rattle.fw_schedule.specs.declared.item.Item.TheVariants.{One, Auto}
-use Rattle.fw_schedule.specs.Schedule.{steps_in}
 use Rattle.fw_model.proofs.AutoLaws.{auto-one, auto-runs}
 use Rattle.fw_model.proofs.ChoosingLaws.{reached-one_next}
 use Rattle.fw_model.proofs.GoingOn.{runs-go_on}
 use Rattle.fw_model.proofs.OneNextLaws.{one_next}
-use Rattle.fw_model.specs.Auto.{IsAutoRun}
 use Rattle.fw_model.specs.Machine.{Machine, first_state}
 use Rattle.fw_model.specs.Steps.{Outcome, did, Run}
 use Rattle.fw_run.specs.Items.{ItemComesTo, ComesTo}
@@ -41,17 +39,6 @@ item_once sys w before earlier state r (Auto most) one other last final c d =
     let first = a.3 one last c in
     let second = a.3 other final d in
     (second.0 ∙ sym first.0, second.1 ∙ sym first.1)
-
--- no more steps come of an item than it asks for
-auto-few : (sys : System) (state last : Machine) (most : ℕ) (steps : List Step) → IsAutoRun sys state most steps last → length steps ≤ most
-auto-few sys state last zero [] c = omega arith
-auto-few sys state last zero (step ∷ steps) c = absurd c
-auto-few sys state last (suc most) [] c = omega arith
-auto-few sys state last (suc most) (step ∷ steps) c = omega (arith, auto-few sys c.0 last most steps c.3)
-
-pub item-few : (sys : System) (state last : Machine) (item : Item) (steps : List Step) → ItemComesTo sys state item steps last → length steps ≤ steps_in item
-item-few sys state last (One step) steps c = omega (arith, ap (λ (s : List Step). length s) c.2)
-item-few sys state last (Auto most) steps c = auto-few sys state last most steps c
 
 -- ---- items
 

@@ -10,7 +10,7 @@ use Rattle.fw_flow.specs.declared.kind.Kind.TheVariants.{OutputEpoch, OutputNumb
 use Rattle.fw_flow.specs.Dataflow.{System, node_at, kind_of, node_ids, in_edges, batches_of}
 use Rattle.fw_flow.specs.WholeBags.{Timed, recs_where}
 use Rattle.fw_model.specs.Denotation.{Family, IsDenotation}
-use Rattle.fw_plain.specs.EffectText.{recs_text}
+use Rattle.fw_running.specs.EffectText.{recs_text}
 
 -- ` KEY:VALUE`, if the timed rec is of the epoch
 abbrev pub rec_at_text : ℕ → Timed → List ℕ

@@ -1,5 +1,6 @@
 pub mod Call
 pub mod DenotationText
+pub mod Fault
 pub mod Forms
 pub mod Headline
 pub mod Items
@@ -8,7 +9,9 @@ pub mod Performing
 pub mod Printed
 pub mod Reading
 pub mod Status
+pub mod Stopping
 pub mod Texts
+pub mod Trusting
 pub mod Words
 pub mod Work
 pub mod Writing

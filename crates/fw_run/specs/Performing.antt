@@ -1,32 +1,59 @@
 -- What was printed of an item of a schedule, and how far it led.
-use Rattle.std.specs.Prelude.{◌≡◌, ℕ, List, [], length, Option, Some, None, Result, Ok, Err}
+use Rattle.std.specs.Prelude.{◌≡◌, ℕ, ◌≤◌, List, [], ◌++◌, length, Option, Some, None, Result, Ok, Err}
 use Rattle.std.specs.declared.alloc.Global.{Global}
 use Rattle.std.specs.declared.vec.Vec.{Vec}
 use Rattle.fw_outside.specs.declared.fault.OutFault.{OutFault}
-use Rattle.fw_outside.specs.Outside.{SinkView}
+use Rattle.fw_outside.specs.declared.fault.OutFault.TheVariants.{Failed}
+use Rattle.fw_outside.specs.Outside.{SinkView, Rose, Takes}
 use Rattle.fw_flow.specs.declared.step.Step.{Step}
 use Rattle.fw_flow.specs.Dataflow.{System}
-use Rattle.fw_flow.specs.WellFormed.{IsWellFormedSystem}
 use Rattle.fw_schedule.specs.declared.item.Item.{Item}
+use Rattle.fw_schedule.specs.declared.item.Item.TheVariants.{One, Auto}
+use Rattle.fw_schedule.specs.Schedule.{steps_in}
 use Rattle.fw_model.specs.Machine.{Machine}
-use Rattle.fw_model.specs.Reached.{IsReached}
 use Rattle.fw_model.specs.Steps.{Outcome, Run}
-use Rattle.fw_plain.specs.Engine.{Standing}
+use Rattle.fw_keep.specs.Stored.{Records}
+use Rattle.fw_running.specs.declared.fault.EngineFault.{EngineFault}
+use Rattle.fw_running.specs.declared.fault.EngineFault.TheVariants as fault
+use Rattle.fw_running.specs.Steps.{Trusts}
+use Rattle.fw_engine.specs.declared.engine.Engine.{Engine}
+use Rattle.fw_engine.specs.Engine.{StandsFor}
+use Rattle.fw_run.specs.declared.fault.RunFault.{RunFault}
+use Rattle.fw_run.specs.declared.fault.RunFault.TheVariants as stop
 use Rattle.fw_run.specs.declared.perform.Taken.{Taken}
-use Rattle.fw_run.specs.Headline.{PrintsRun}
+use Rattle.fw_run.specs.Fault.{out_fault}
 use Rattle.fw_run.specs.Items.{ItemComesTo}
 use Rattle.fw_run.specs.Printed.{outcomes_text, idle_count}
-use Rattle.fw_run.specs.Writing.{IsWritten, IsCutOff, Writes, WritesText}
+use Rattle.fw_run.specs.Stopping.{ItemBegins, IsLeftIn}
+use Rattle.fw_run.specs.Trusting.{PrintsKnown}
+use Rattle.fw_run.specs.Writing.{NeverFall, IsWritten, IsCutOff, WritesText}
 
 -- the bytes of a line, none where there is no line
 abbrev pub shown_bytes : Option (Vec ℕ Global) → List ℕ
 shown_bytes None = []
 shown_bytes (Some line) = line.items
 
--- an engine runs a well-formed system, and steps led to where it stands from the first state
-pub record IsUnderWay (standing : Standing) : Type 0 where
-  pub well_formed : IsWellFormedSystem standing.sys
-  pub reached : IsReached standing.sys standing.state
+-- ---- what the sink took
+
+-- the sink took these bytes and no more; if it failed behind them, its counts of faults and of refusals rose
+pub record IsCutAfter (bytes : List ℕ) (fault : OutFault) (before after : SinkView) : Type 0 where
+  pub taken : Takes before.taken bytes after.taken
+  pub failed : fault ≡ Failed → Rose before.faults after.faults
+  pub refused : fault ≡ Failed → Rose before.refusals after.refusals
+  pub never_fall : NeverFall before after
+
+-- what an answer says of the bytes: they were written, and then the output failed, if that is the fault
+abbrev pub IsTaken : {T : Type 0} → List ℕ → Result T RunFault → SinkView → SinkView → Type 0
+IsTaken bytes (Ok value) before after = IsWritten bytes before after
+IsTaken bytes (Err (stop.Out fault)) before after = IsCutAfter bytes fault before after
+IsTaken bytes (Err (stop.Engine fault)) before after = IsWritten bytes before after
+
+-- all of the bytes were written, or they were cut off by the fault, as the output knows it
+abbrev pub WritesUntil : {T : Type 0} → List ℕ → Result T RunFault → SinkView → SinkView → Type 0
+WritesUntil bytes (Ok value) before after = IsWritten bytes before after
+WritesUntil bytes (Err fault) before after = IsCutOff bytes (out_fault fault) before after
+
+-- ---- an item
 
 -- From the state the item comes to these steps, which the machine takes to the last one, with these outcomes.
 pub record ItemRun (sys : System) (state : Machine) (item : Item) : Type 0 where
@@ -36,24 +63,67 @@ pub record ItemRun (sys : System) (state : Machine) (item : Item) : Type 0 where
   pub comes : ItemComesTo sys state item steps last
   pub run : Run sys state steps outcomes last
 
--- the item led from one standing to another, and the lines of its steps were written, which are so many, and so many idle
-pub record IsItemPrinted (old new : Standing) (item : Item) (taken : Taken) (before after : SinkView) : Type 0 where
-  pub of_item : ItemRun old.sys old.state item
-  pub last : new.state ≡ of_item.last
+-- the item reads what was put
+abbrev pub TrustsItem : System → Machine → Item → Option Records → Type 0
+TrustsItem sys state (One step) records = Trusts sys state step records
+TrustsItem sys state (Auto most) records = Unit {0}
+
+-- The machine takes the item from the state; these are its lines, so many steps, and so many idle; and the engine then stands for
+-- the state to which it leads.
+pub record IsItemTaken (sys : System) (state : Machine) (item : Item) (taken : Taken) (bytes : List ℕ) (engine : Engine) (records : Option Records)
+    : Type 0 where
+  pub of_item : ItemRun sys state item
   pub steps : taken.steps ≡ length of_item.steps
   pub idle : taken.idle ≡ idle_count of_item.outcomes
-  pub written : IsWritten (outcomes_text old.sys.flow of_item.outcomes) before after
+  pub text : bytes ≡ outcomes_text sys.flow of_item.outcomes
+  pub stands : StandsFor sys engine records of_item.last
 
--- the lines of the steps to which the item comes were cut off
-pub record IsItemCutOff (old : Standing) (item : Item) (fault : OutFault) (before after : SinkView) : Type 0 where
-  pub of_item : ItemRun old.sys old.state item
-  pub part : IsCutOff (outcomes_text old.sys.flow of_item.outcomes) fault before after
+-- the machine takes the item from the state, and these are first bytes of its lines
+pub record IsItemBegun (sys : System) (state : Machine) (item : Item) (bytes : List ℕ) : Type 0 where
+  pub of_item : ItemRun sys state item
+  pub others : List ℕ
+  pub text : outcomes_text sys.flow of_item.outcomes ≡ bytes ++ others
 
--- what an answer to an item says: how many steps it came to, and that they were printed, or by which fault their lines were cut off
-abbrev pub PrintsItem : Standing → Standing → Item → Result Taken OutFault → SinkView → SinkView → Type 0
-PrintsItem old new item (Ok taken) before after = IsItemPrinted old new item taken before after
-PrintsItem old new item (Err fault) before after = IsItemCutOff old item fault before after
+-- the machine begins the item and comes to a state of which this is true, and these are the lines of its steps so far
+pub record IsItemStopped (sys : System) (state : Machine) (item : Item) (bytes : List ℕ) (IsSo : Machine → Type 0) : Type 0 where
+  pub begun : List Step
+  pub now : Machine
+  pub begins : ItemBegins sys state item begun now
+  pub outcomes : List Outcome
+  pub run : Run sys state begun outcomes now
+  pub text : bytes ≡ outcomes_text sys.flow outcomes
+  pub so : IsSo now
 
--- the items come to steps that have a run from the first state, and its text was written, or cut off by the fault that was answered
-abbrev pub Performs : {T : Type 0} → System → List Item → Result T OutFault → SinkView → SinkView → Type 0
-Performs sys items answer before after = WritesText (PrintsRun sys items) (λ printed. Writes printed answer before after)
+-- what an engine's fault in the item leaves, where it stood for the state: after a fault of the store what that leaves; a record is
+-- damaged only where the store does not tell its records
+abbrev pub IsLeftAfter : System → Item → EngineFault → Option Records → Engine → Option Records → Machine → Type 0
+IsLeftAfter sys item fault.StoreFault before new after state = IsLeftIn sys state item (StandsFor sys new after)
+IsLeftAfter sys item (fault.Damaged id) before new after state = before ≡ None
+IsLeftAfter sys item fault.NoMemory before new after state = Unit {0}
+
+-- what an answer to an item says of the bytes that were written, where the engine stood for the state
+abbrev pub DoesItem : System → Machine → Item → List ℕ → Result Taken RunFault → Option Records → Engine → Option Records → Type 0
+DoesItem sys state item bytes (Ok taken) before new after =
+    TrustsItem sys state item before → IsItemTaken sys state item taken bytes new after
+DoesItem sys state item bytes (Err (stop.Out fault)) before new after = TrustsItem sys state item before → IsItemBegun sys state item bytes
+DoesItem sys state item bytes (Err (stop.Engine fault)) before new after =
+    IsItemStopped sys state item bytes (IsLeftAfter sys item fault before new after)
+
+-- What an answer to an item says: some bytes were written, and from each state for which the engine stood they are the lines of the
+-- item, or first bytes of these.
+pub record PrintsItem (old : Engine) (before : Option Records) (item : Item) (answer : Result Taken RunFault) (new : Engine) (after : Option Records)
+    (first last : SinkView) : Type 0 where
+  pub bytes : List ℕ
+  pub taken : IsTaken bytes answer first last
+  pub does : (sys : System) (state : Machine) → StandsFor sys old before state → DoesItem sys state item bytes answer before new after
+
+-- no more steps were taken than the item asks for, and no more of them idle
+pub record AreFew (item : Item) (taken : Taken) : Type 0 where
+  pub steps : taken.steps ≤ steps_in item
+  pub idle : taken.idle ≤ steps_in item
+
+-- ---- items
+
+-- the text of the run over the items, as far as it is known, was written, or cut off by the fault that was answered
+abbrev pub Performs : {T : Type 0} → Type 0 → System → List Item → Result T RunFault → SinkView → SinkView → Type 0
+Performs Tells sys items answer before after = WritesText (PrintsKnown Tells sys items) (λ printed. WritesUntil printed answer before after)

@@ -5,7 +5,7 @@ use Rattle.std.specs.List.{flat_map}
 use Rattle.fw_flow.specs.Counting.{how_many}
 use Rattle.fw_flow.specs.Dataflow.{Dataflow}
 use Rattle.fw_model.specs.Steps.{Outcome, did, idle}
-use Rattle.fw_plain.specs.EffectText.{outcome_text}
+use Rattle.fw_running.specs.EffectText.{outcome_text}
 
 -- the lines of what comes of steps, in order
 abbrev pub outcomes_text : Dataflow → List Outcome → List ℕ

@@ -1,12 +1,13 @@
 -- The status of a command, and the line that stands for it.
 use Rattle.std.specs.Prelude.{◌≡◌, ◌⊎◌, ℕ, List, [], ◌∷◌, ◌++◌, codes}
+use Rattle.std.specs.Fmt.{decimal}
 use Rattle.fw_outside.specs.Outside.{SinkView, Rose, Takes, TakesPrefix}
 use Rattle.fw_lines.specs.declared.refusal.Code.{Code}
 use Rattle.fw_lines.specs.declared.refusal.Code.TheVariants.{F1, F2, F3, F4, F5, F6, F7, F8, F9, F10, F11, F12, I1, I2, I3, I4, I5, S1, S2, S3, S4}
 use Rattle.fw_lines.specs.declared.refusal.Refusal.{Refusal}
 use Rattle.fw_lines.specs.Refusal.{refusal_text}
 use Rattle.fw_run.specs.declared.status.Status.{Status}
-use Rattle.fw_run.specs.declared.status.Status.TheVariants.{Done, BadWords, Refused, ReadFault, WriteFault, NoMemory}
+use Rattle.fw_run.specs.declared.status.Status.TheVariants.{Done, BadWords, Refused, ReadFault, WriteFault, StoreFault, Damaged, NoMemory}
 
 -- 3 for a flow that is refused, 4 for inputs, 5 for a schedule
 abbrev pub refusal_number : Code → ℕ
@@ -39,6 +40,8 @@ status_number BadWords = 2
 status_number (Refused refusal) = refusal_number refusal.code
 status_number ReadFault = 6
 status_number WriteFault = 7
+status_number StoreFault = 8
+status_number (Damaged id) = 9
 status_number NoMemory = 10
 
 -- the line on the notes, ended by a line feed; none where all went well
@@ -48,6 +51,8 @@ note_line BadWords = codes "bad words\n"
 note_line (Refused refusal) = refusal_text refusal ++ codes "\n"
 note_line ReadFault = codes "read fault\n"
 note_line WriteFault = codes "write fault\n"
+note_line StoreFault = codes "store fault\n"
+note_line (Damaged id) = codes "damaged record " ++ decimal id ++ codes "\n"
 note_line NoMemory = codes "no memory\n"
 
 -- a sink has taken the whole line, and its count of refusals stayed; or first bytes of it, and that count rose or stands at its end
@@ -58,8 +63,12 @@ IsTold line before after =
 
 -- the numbers that a status may have
 abbrev pub status_numbers : List ℕ
-status_numbers = 0 ∷ 2 ∷ 3 ∷ 4 ∷ 5 ∷ 6 ∷ 7 ∷ 10 ∷ []
+status_numbers = 0 ∷ 2 ∷ 3 ∷ 4 ∷ 5 ∷ 6 ∷ 7 ∷ 8 ∷ 9 ∷ 10 ∷ []
 
--- the status that is answered is the one that was, or that of want of memory where this was a refusal
+-- the line of the status has a word of its own, so that it takes memory
+abbrev pub HasWord : Status → Type 0
+HasWord status = ((refusal : Refusal) × (status ≡ Refused refusal)) ⊎ ((id : ℕ) × (status ≡ Damaged id))
+
+-- the status that is answered is the one that was, or that of want of memory where its line takes memory
 abbrev pub IsTellingOf : Status → Status → Type 0
-IsTellingOf status result = (result ≡ status) ⊎ (((refusal : Refusal) × (status ≡ Refused refusal)) × (result ≡ NoMemory))
+IsTellingOf status result = (result ≡ status) ⊎ (HasWord status × (result ≡ NoMemory))

@@ -1,27 +1,29 @@
 //! The top call.
-ghost use Rattle.std.specs.Prelude.{◌≡◌, ◌⊎◌, ◌≤◌, ◌↔◌, None};
+ghost use Rattle.std.specs.Prelude.{◌≡◌, ◌⊎◌, ◌≤◌, ◌↔◌, ℕ, None};
 ghost use Rattle.fw_lines.specs.declared.refusal.Refusal as lines;
 ghost use Rattle.fw_flow.specs.Dataflow.{Dataflow};
 ghost use Rattle.fw_outside.specs.declared.fault.OutFault.TheVariants as OutFault;
 ghost use Rattle.fw_outside.specs.Outside.{Rose};
-ghost use Rattle.fw_run.specs.Call.{call_of, PrintsAll, PrintsPart, HasRefused, KeepsFolder, TellsNotes, AnswersTexts};
+ghost use Rattle.fw_keep.specs.Stored.{IsEmptyStore};
+ghost use Rattle.fw_run.specs.Call.{call_of, PrintsAll, PrintsPart, LeavesStore, StopsAtStore, StopsAtDamage, HasRefused, KeepsFolder, KeepsStore, TellsNotes, AnswersTexts};
 ghost use Rattle.fw_run.specs.Headline.{Headline};
 ghost use Rattle.fw_run.specs.Status.{status_number, IsTold, IsTellingOf};
 ghost use Rattle.fw_run.specs.Texts.{Texts, AreAccepted, spelled_system, spelled_items};
+ghost use Rattle.fw_run.specs.Trusting.{StoresTell};
 ghost use Rattle.fw_run.specs.Words.{words_in, command_of};
 ghost use Rattle.fw_run.specs.Writing.{NeverFall};
 
 use crate::Status;
 use crate::run::run;
-use crate::text::refused_line;
+use crate::text::{damaged_line, refused_line};
 use fw_outside::{Folder, Sink, Store};
 use std::alloc::Global;
 
 /// Runs a command: `words` are those after the program's name. `run FLOW INPUTS SCHEDULE` fetches and reads the
 /// three texts from the folder, takes the steps of the schedule and prints their effects to `out`; `denote FLOW INPUTS` reads
 /// the texts of a flow and its inputs and prints its denotation at the outputs; `check FLOW` reads the text of a flow and
-/// prints its nodes. Where that does not end well, one line on `notes` says why. The store is for records of
-/// what nodes write; the engine of today keeps the writes in its state and makes no records.
+/// prints its nodes. Where that does not end well, one line on `notes` says why. The store is for records of what the nodes of
+/// a run write, and holds none at first.
 pub fn falkirk<F: Folder, K: Store, O: Sink, N: Sink>(
     alloc: Global,
     words: &[&str],
@@ -30,9 +32,15 @@ pub fn falkirk<F: Folder, K: Store, O: Sink, N: Sink>(
     out: &mut O,
     notes: &mut N,
 ) -> Status
-    // 0: all that the command prints of accepted texts was written, and no write was refused.
+    requires { IsEmptyStore (K.records store.old) }
+
+    // 0: all that the command prints of accepted texts was written, and no write was refused; and a run left in the store the
+    // records of what its nodes wrote. What a run prints is known where the store tells its records, and else up to the first
+    // recovery that reads a checkpoint.
     ensures done { result ≡ Status.Done
-        → PrintsAll (call_of words.now (F.texts folder.old)) (O.view out.old) (O.view out.new) }
+        → PrintsAll (StoresTell K.records) (call_of words.now (F.texts folder.old)) (O.view out.old) (O.view out.new) }
+    ensures stored { result ≡ Status.Done
+        → LeavesStore (StoresTell K.records) (call_of words.now (F.texts folder.old)) (K.records store.new) }
     // 2: exactly where the words are no command.
     ensures bad_words { (result ≡ Status.BadWords) ↔ (command_of (words_in words.now) ≡ None) }
     // 3 to 5: the first of the texts that is not accepted breaks this rule first, on this line.
@@ -42,26 +50,34 @@ pub fn falkirk<F: Folder, K: Store, O: Sink, N: Sink>(
     ensures read_fault { result ≡ Status.ReadFault → Rose (F.fault_count folder.old) (F.fault_count folder.new) }
     // 7: the output failed, and first bytes of what is printed were written.
     ensures write_fault { result ≡ Status.WriteFault
-        → PrintsPart (call_of words.now (F.texts folder.old)) OutFault.Failed (O.view out.old) (O.view out.new) }
+        → PrintsPart (StoresTell K.records) (call_of words.now (F.texts folder.old)) OutFault.Failed (O.view out.old) (O.view out.new) }
+    // 8: the store failed, in a step that may call it; the lines of the steps before were written, and the store holds the
+    // records of what this step leaves.
+    ensures store_fault { result ≡ Status.StoreFault → Rose (K.fault_count store.old) (K.fault_count store.new)
+        × StopsAtStore (StoresTell K.records) (call_of words.now (F.texts folder.old)) (K.records store.new) (O.view out.old) (O.view out.new) }
+    // 9: the store, which does not tell its records, gave under this id bytes that spell no record of the write; the lines of the
+    // steps before were written.
+    ensures damaged { (id : ℕ) → result ≡ Status.Damaged id
+        → StopsAtDamage (StoresTell K.records) (call_of words.now (F.texts folder.old)) id (K.given store.new) (O.view out.old) (O.view out.new) }
     // 10: at any time; nothing was written, or first bytes.
     ensures no_memory { result ≡ Status.NoMemory → (out.new ≡ out.old)
-        ⊎ PrintsPart (call_of words.now (F.texts folder.old)) OutFault.NoMemory (O.view out.old) (O.view out.new) }
+        ⊎ PrintsPart (StoresTell K.records) (call_of words.now (F.texts folder.old)) OutFault.NoMemory (O.view out.old) (O.view out.new) }
 
-    // At 2 to 6 nothing was written. Whatever the status: what was asked of the folder, what the notes took, that the store
-    // stays and that no count of faults or of refusals falls.
+    // At 2 to 6 nothing was written. Whatever the status: what was asked of the folder, what the notes took, that only a run
+    // changes the store and that no count of faults or of refusals falls.
     ensures nothing_out { 2 ≤ status_number result → status_number result ≤ 6 → out.new ≡ out.old }
     ensures folder { KeepsFolder F.texts F.fetch_count (command_of (words_in words.now)) result folder.old folder.new }
+    ensures store { KeepsStore (command_of (words_in words.now)) result store.old store.new }
     ensures notes { TellsNotes N.view result notes.old notes.new }
-    ensures store { store.new ≡ store.old }
-    ensures never_fall { (F.fault_count folder.old ≤ F.fault_count folder.new)
+    ensures never_fall { (F.fault_count folder.old ≤ F.fault_count folder.new) × (K.fault_count store.old ≤ K.fault_count store.new)
         × NeverFall (O.view out.old) (O.view out.new) × NeverFall (N.view notes.old) (N.view notes.new) }
 
     // Which texts are refused and of which all is printed; and what the machine does with accepted texts of a run.
-    ensures answer { AnswersTexts (call_of words.now (F.texts folder.old)) result }
+    ensures answer { AnswersTexts (StoresTell K.records) (call_of words.now (F.texts folder.old)) result }
     ensures headline { (texts : Texts) (flow : Dataflow) → AreAccepted texts flow
         → Headline (spelled_system flow texts) (spelled_items flow texts) }
 {
-    let status = run(alloc, words, folder, out);
+    let status = run(alloc, words, folder, store, out);
     tell(alloc, status, notes)
 }
 
@@ -76,8 +92,16 @@ fn tell<N: Sink>(alloc: Global, status: Status, notes: &mut N) -> Status
         Status::BadWords => note(notes, b"bad words\n"),
         Status::ReadFault => note(notes, b"read fault\n"),
         Status::WriteFault => note(notes, b"write fault\n"),
+        Status::StoreFault => note(notes, b"store fault\n"),
         Status::NoMemory => note(notes, b"no memory\n"),
         Status::Refused(refusal) => match refused_line(alloc, refusal) {
+            Ok(line) => note(notes, line.as_bytes()),
+            Err(_) => {
+                note(notes, b"no memory\n");
+                return Status::NoMemory;
+            }
+        },
+        Status::Damaged { id } => match damaged_line(alloc, id) {
             Ok(line) => note(notes, line.as_bytes()),
             Err(_) => {
                 note(notes, b"no memory\n");

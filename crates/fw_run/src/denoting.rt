@@ -265,7 +265,7 @@ impl<'a> fmt::Display for RecsOf<'a> {
     ghost use Rattle.std.specs.Prelude.{Some, [], ◌∷◌};
     ghost use Rattle.fw_time.specs.Stamp.{same};
     ghost use Rattle.fw_flow.specs.WholeBags.{recs_where};
-    ghost use Rattle.fw_plain.specs.EffectText.{recs_text};
+    ghost use Rattle.fw_running.specs.EffectText.{recs_text};
 
     ghost output = { λ l. Some (recs_text (recs_where (same (l.epoch ∷ [])) l.bag.now)) };
 

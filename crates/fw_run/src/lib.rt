@@ -3,6 +3,7 @@
 
 mod command;
 mod denoting;
+mod fault;
 mod listing;
 mod perform;
 mod reading;

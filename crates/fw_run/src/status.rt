@@ -18,12 +18,16 @@ pub enum Status {
     ReadFault,
     /// The output failed.
     WriteFault,
+    /// The store failed.
+    StoreFault,
+    /// The bytes that the store gave under this id spell no record of what was written under it.
+    Damaged { id: u64 },
     /// Memory was refused.
     NoMemory,
 }
 
 impl Status {
-    /// The number that a program ends with: 0, 2 to 7 or 10.
+    /// The number that a program ends with: 0 or 2 to 10.
     pub fn number(&self) -> u8
         ensures value { result ≡ status_number self.now }
         ensures among { Contains status_numbers result }
@@ -34,6 +38,8 @@ impl Status {
             Status::Refused(refusal) => refusal_number(refusal.code),
             Status::ReadFault => 6,
             Status::WriteFault => 7,
+            Status::StoreFault => 8,
+            Status::Damaged { .. } => 9,
             Status::NoMemory => 10,
         }
     }

@@ -1,15 +1,15 @@
 //! The lines that are printed.
 ghost use Rattle.std.specs.Prelude.{◌≡◌, IfOk, string_bytes};
-ghost use Rattle.fw_plain.specs.EffectText.{outcome_text};
-ghost use Rattle.fw_plain.specs.Engine.{outcome_of};
+ghost use Rattle.fw_running.specs.EffectText.{outcome_text};
+ghost use Rattle.fw_running.specs.Steps.{outcome_of};
 ghost use Rattle.fw_run.specs.Printed as spec;
 ghost use Rattle.fw_run.specs.Performing.{shown_bytes};
 ghost use Rattle.fw_run.specs.Status.{note_line};
 ghost use Rattle.fw_run.specs.declared.status.Status.TheVariants as Status;
 
+use fw_engine::Stepped;
 use fw_flow::Flow;
 use fw_lines::Refusal;
-use fw_plain::Stepped;
 use std::alloc::{AllocError, Global};
 
 /// The lines of what came of a step of the flow, as bytes; none stands for no line.
@@ -37,4 +37,11 @@ pub fn refused_line(alloc: Global, refusal: Refusal) -> Result<String, AllocErro
     ensures { IfOk result (λ text. string_bytes text ≡ note_line (Status.Refused refusal)) }
 {
     format!(in alloc; "{refusal}\n")
+}
+
+/// The line `damaged record ID`, ended by LF.
+pub fn damaged_line(alloc: Global, id: u64) -> Result<String, AllocError>
+    ensures { IfOk result (λ text. string_bytes text ≡ note_line (Status.Damaged id)) }
+{
+    format!(in alloc; "damaged record {id}\n")
 }

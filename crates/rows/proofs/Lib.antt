@@ -1,3 +1,2 @@
-pub mod AtNodes
 pub mod Kept
 pub mod Written

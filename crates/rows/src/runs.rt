@@ -2,6 +2,7 @@
 //! and what was printed.
 
 mod directive;
+mod noted;
 mod outcome;
 mod reading;
 mod row;

@@ -1,12 +1,11 @@
-//! Values of the parts: whether declarations are a flow, projections through its edges, records of its nodes, notices and choices;
-//! stamps and frontiers of a domain; bags.
+//! Values of the parts: whether declarations are a flow, projections through its edges, records of its nodes and choices; stamps and
+//! frontiers of a domain; bags.
 
 mod bags;
 mod choices;
 mod domain;
 mod flow;
 mod node_records;
-mod notices;
 mod sent;
 mod spell;
 mod texts;

@@ -21,6 +21,13 @@ pub enum Directive<'a> {
     Words(&'a str),
     /// The calls of these numbers fail.
     Failing { object: Object, calls: &'a str },
+    /// The row stands for runs in which the first call of the store fails, then the second, and so on up to one in which none
+    /// does.
+    FailingEach,
+    /// The store tells nothing, and gives these bytes at this call of `get`, counted from 1.
+    Foul { call: u64, bytes: &'a str },
+    /// The records that are left in the store are told too.
+    Records,
     /// So often this line, in which `%i` is the number of the time, from 0.
     Repeat { times: u32, line: &'a str },
     /// In place of a line of the text, counted from 1.
@@ -36,7 +43,10 @@ pub fn said(line: &str) -> Option<Directive<'_>> {
         "flow" | "inputs" | "schedule" => text(word, rest),
         "text" => Some(Directive::Text(rest)),
         "words" => Some(Directive::Words(rest)),
+        "failing" if rest == "store each" => Some(Directive::FailingEach),
         "failing" => failing(rest),
+        "foul" => foul(rest),
+        "records" => Some(Directive::Records),
         "repeat" => repeat(rest),
         "line" => line_at(rest),
         "before" => before(rest),
@@ -62,6 +72,12 @@ fn failing(rest: &str) -> Option<Directive<'_>> {
         _ => return None,
     };
     Some(Directive::Failing { object, calls })
+}
+
+fn foul(rest: &str) -> Option<Directive<'_>> {
+    let (number, bytes) = part(rest);
+    let call = number.parse::<u64>().ok()?;
+    Some(Directive::Foul { call, bytes })
 }
 
 fn repeat(rest: &str) -> Option<Directive<'_>> {

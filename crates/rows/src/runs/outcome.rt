@@ -1,7 +1,12 @@
 //! Runs rows, and tells what became of them.
+ghost use Rattle.fw_keep.specs.Stored.{IsEmptyStore};
+
 use crate::escape::{show, show_lines};
+use crate::runs::noted::NotedStore;
 use crate::runs::row::{Row, with_line};
-use fw_outside::{Folder, MemFolder, MemSink, MemStore, MemText, Sink, Store};
+use fw_outside::{
+    Folder, FoulBytes, FoulStore, MemFolder, MemSink, MemStore, MemText, Sink, Store,
+};
 use fw_run::falkirk;
 use row_words::tell_name;
 use std::alloc::{AllocError, Global};
@@ -9,11 +14,13 @@ use std::alloc::{AllocError, Global};
 /// The words of a row that has none.
 const RUN: &str = "run flow inputs schedule";
 
-/// The objects over which the commands of a row run, one after the other.
+/// How often the calls of a store fail, each in a run of its own, at most.
+const MOST_CALLS: u64 = 1000;
+
+/// The objects over which the commands of a row run, one after the other; each command has a store of its own.
 #[derive(Drop)]
 struct Outside {
     folder: MemFolder,
-    store: MemStore,
     out: MemSink,
     notes: MemSink,
 }
@@ -24,7 +31,6 @@ impl Outside {
         let failing = &row.failing;
         Ok(Outside {
             folder: MemFolder::new(texts, failing.folder.clone()?),
-            store: MemStore::new(alloc, failing.store.clone()?),
             out: MemSink::new(alloc, failing.out.clone()?),
             notes: MemSink::new(alloc, failing.notes.clone()?),
         })
@@ -41,8 +47,27 @@ pub fn tell_row(alloc: Global, row: &Row, told: &mut String) -> Result<(), Alloc
     if let Some(more) = &row.before_each {
         return tell_family(alloc, row, more, told);
     }
+    if row.fails_each {
+        return tell_each_failure(alloc, row, told);
+    }
     tell_name(&row.name, told)?;
-    tell_runs(alloc, row, copies(alloc, row)?, told)
+    let texts = copies(alloc, row)?;
+    tell_runs(alloc, row, texts, &row.failing.store, told)?;
+    Ok(())
+}
+
+/// Tells the runs in which the first call of the store fails, the second, and so on, up to one in which none fails.
+fn tell_each_failure(alloc: Global, row: &Row, told: &mut String) -> Result<(), AllocError> {
+    for call in 0..MOST_CALLS {
+        let name = row.name.as_str();
+        let line = format!(in alloc; "== {name}, store call {call} fails\n")?;
+        told.push_str(&line)?;
+        let texts = copies(alloc, row)?;
+        if !tell_runs(alloc, row, texts, &[call], told)? {
+            break;
+        }
+    }
+    Ok(())
 }
 
 /// Tells the runs with more before one line of the schedule, a run for each line.
@@ -58,7 +83,7 @@ fn tell_family(alloc: Global, row: &Row, more: &[u8], told: &mut String) -> Resu
         let mut texts = copies(alloc, row)?;
         // the first text of a name is the one that is fetched
         texts.insert(0, MemText::new(alloc, "schedule", &longer)?)?;
-        tell_runs(alloc, row, texts, told)?;
+        tell_runs(alloc, row, texts, &row.failing.store, told)?;
     }
     Ok(())
 }
@@ -72,41 +97,73 @@ fn copies(alloc: Global, row: &Row) -> Result<Vec<MemText>, AllocError> {
     Ok(texts)
 }
 
-/// Tells the commands of a row over these texts.
+/// Tells the commands of a row over these texts, and over stores whose calls of these numbers fail; whether one failed.
 fn tell_runs(
     alloc: Global,
     row: &Row,
     texts: Vec<MemText>,
+    failing: &[u64],
     told: &mut String,
-) -> Result<(), AllocError> {
+) -> Result<bool, AllocError> {
     let mut outside = Outside::new(alloc, row, texts)?;
     if row.commands.is_empty() {
-        return tell_run(alloc, RUN, &mut outside, told);
+        return tell_run(alloc, row, RUN, &mut outside, failing, told);
     }
+    let mut failed = false;
     for words in row.commands.iter() {
-        tell_run(alloc, words, &mut outside, told)?;
+        failed |= tell_run(alloc, row, words, &mut outside, failing, told)?;
     }
-    Ok(())
+    Ok(failed)
 }
 
-/// Runs a command, and tells its status, what the notes and the output took of it, and all faults so far.
+/// Tells a command over a store of its own; whether the store failed.
 fn tell_run(
     alloc: Global,
+    row: &Row,
     words: &str,
     outside: &mut Outside,
+    failing: &[u64],
     told: &mut String,
-) -> Result<(), AllocError> {
+) -> Result<bool, AllocError> {
+    if row.foul.is_empty() {
+        let store = MemStore::new(alloc, failing.to_vec(alloc)?);
+        return tell_over(alloc, row, words, outside, store, told);
+    }
+    let mut foul = Vec::new(alloc);
+    for listed in row.foul.iter() {
+        foul.push(FoulBytes {
+            call: listed.call,
+            bytes: listed.bytes.clone()?,
+        })?;
+    }
+    let store = FoulStore::new(alloc, foul);
+    tell_over(alloc, row, words, outside, store, told)
+}
+
+/// Runs a command over a store, and tells its status, what the notes and the output took of it, all faults so far, and the
+/// records if they are asked for; whether the store failed.
+fn tell_over<K: Store + Drop>(
+    alloc: Global,
+    row: &Row,
+    words: &str,
+    outside: &mut Outside,
+    store: K,
+    told: &mut String,
+) -> Result<bool, AllocError>
+    requires { IsEmptyStore (K.records store) }
+{
     let mut list = Vec::new(alloc);
     for word in words.split_whitespace() {
         list.push(if word == "\"\"" { "" } else { word })?;
     }
     let printed = outside.out.taken().len();
     let noted = outside.notes.taken().len();
+    let mut store = NotedStore::new(alloc, store);
     let status = falkirk(
         alloc,
         &list,
         &mut outside.folder,
-        &mut outside.store,
+        &mut store,
         &mut outside.out,
         &mut outside.notes,
     );
@@ -114,9 +171,13 @@ fn tell_run(
     let line = format!(in alloc; "status {number}")?;
     told.push_str(&line)?;
     tell_note(alloc, after(outside.notes.taken(), noted), told)?;
-    tell_faults(alloc, outside, told)?;
+    tell_faults(alloc, outside, store.faults(), told)?;
     told.push('\n')?;
-    show_lines(alloc, after(outside.out.taken(), printed), told)
+    show_lines(alloc, after(outside.out.taken(), printed), told)?;
+    if row.tells_records {
+        store.tell(told)?;
+    }
+    Ok(store.faults() > 0)
 }
 
 /// What a sink took after so many bytes.
@@ -140,10 +201,15 @@ fn tell_note(alloc: Global, note: &[u8], told: &mut String) -> Result<(), AllocE
 }
 
 /// Tells how often each object failed, if it did.
-fn tell_faults(alloc: Global, outside: &Outside, told: &mut String) -> Result<(), AllocError> {
+fn tell_faults(
+    alloc: Global,
+    outside: &Outside,
+    store_faults: u64,
+    told: &mut String,
+) -> Result<(), AllocError> {
     let counts = [
         ("folder", outside.folder.faults()),
-        ("store", outside.store.faults()),
+        ("store", store_faults),
         ("out", outside.out.faults()),
         ("notes", outside.notes.faults()),
     ];

@@ -92,6 +92,15 @@ impl Reader {
                 Ok(true)
             }
             Directive::Failing { object, calls } => row.add_failing(object, calls),
+            Directive::FailingEach => {
+                row.fail_each();
+                Ok(true)
+            }
+            Directive::Foul { call, bytes } => row.add_foul(alloc, call, bytes),
+            Directive::Records => {
+                row.tell_records();
+                Ok(true)
+            }
             Directive::Repeat { times, line } => row.add_lines(alloc, times, line),
             Directive::Line { place, line } => row.replace_line(alloc, place, line),
             Directive::BeforeEach(line) => row.put_before_each(alloc, line),

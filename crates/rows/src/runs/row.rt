@@ -1,7 +1,8 @@
 //! A row: the texts of a folder, the commands that are run over them, and which calls fail.
 use crate::escape::spelled;
 use crate::runs::directive::Object;
-use fw_outside::MemText;
+use fw_outside::{FoulBytes, MemText};
+use row_words::{NoAnswer, bytes_of};
 use std::alloc::{AllocError, Global};
 
 /// Which calls fail, by number from 0, of each object of the outside.
@@ -21,6 +22,12 @@ pub struct Row {
     /// The words of each command; where there is none, a run of the texts `flow`, `inputs` and `schedule` is meant.
     pub commands: Vec<String>,
     pub failing: Failing,
+    /// Whether the row stands for a run with each call of the store failing.
+    pub fails_each: bool,
+    /// What a store gives that tells nothing; with none the store tells its records.
+    pub foul: Vec<FoulBytes>,
+    /// Whether the records are told that are left in the store.
+    pub tells_records: bool,
     /// What stands before one line of the schedule, in a run for each.
     pub before_each: Option<Vec<u8>>,
     /// Whether the lines that follow go on with the last text.
@@ -42,6 +49,9 @@ impl Row {
                 out: Vec::new(alloc),
                 notes: Vec::new(alloc),
             },
+            fails_each: false,
+            foul: Vec::new(alloc),
+            tells_records: false,
             before_each: None,
             is_open: false,
             mistake: None,
@@ -154,6 +164,31 @@ impl Row {
             failing.push(call)?;
         }
         Ok(true)
+    }
+
+    /// Adds the bytes that the store gives at a call of `get`; whether they are spelled right.
+    pub fn add_foul(&mut self, alloc: Global, call: u64, bytes: &str) -> Result<bool, AllocError> {
+        self.is_open = false;
+        match bytes_of(alloc, bytes) {
+            Ok(bytes) => {
+                self.foul.push(FoulBytes { call, bytes })?;
+                Ok(true)
+            }
+            Err(NoAnswer::NotSpelled) => Ok(false),
+            Err(NoAnswer::NoMemory) => Err(AllocError),
+        }
+    }
+
+    /// Notes that each call of the store is to fail, in a run of its own.
+    pub fn fail_each(&mut self) {
+        self.is_open = false;
+        self.fails_each = true;
+    }
+
+    /// Notes that the records are told that are left.
+    pub fn tell_records(&mut self) {
+        self.is_open = false;
+        self.tells_records = true;
     }
 }
 

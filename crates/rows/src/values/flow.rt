@@ -1,7 +1,6 @@
 //! What declarations are as a flow, and what its edges make of frontiers.
 use crate::values::choices::tell_choice;
 use crate::values::node_records::of_node;
-use crate::values::notices::tell_notices;
 use crate::values::sent::sent_table;
 use crate::values::spell::front_of;
 use fw_flow::{Flow, SentTable};
@@ -41,8 +40,8 @@ fn declarations(alloc: Global, lines: &str) -> Result<String, AllocError> {
     Ok(text)
 }
 
-/// Tells the answers to the lines that ask something of the flow: first of projections and records, then of notices, then of
-/// the choice to which it is restored.
+/// Tells the answers to the lines that ask something of the flow: first of projections and records, then of the choice
+/// to which it is restored.
 fn tell_answers(
     alloc: Global,
     flow: &Flow,
@@ -62,9 +61,6 @@ fn tell_answers(
             }
             _ => {}
         }
-    }
-    if lines.lines().any(|line| part(line).0 == "notice") {
-        tell_notices(alloc, flow, lines, told)?;
     }
     if lines.lines().any(|line| part(line).0 == "offer") {
         tell_choice(alloc, flow, lines, told)?;

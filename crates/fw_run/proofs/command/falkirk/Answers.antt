@@ -1,20 +1,27 @@
-use Rattle.fw_run.proofs.CallLaws.{told_refused, texts-answered, folder_told}
+use Rattle.fw_run.proofs.CallLaws.{told_refused, told_damaged, texts-answered, folder_told, store_told, accepted_of-run}
 use Rattle.fw_run.proofs.HeadlineLaws.{texts-headline}
 use Rattle.fw_run.specs.Call.{call_of}
+use Rattle.fw_run.specs.Trusting.{StoresTell}
 use Rattle.fw_run.specs.Words.{command_of, words_in}
 use Rattle.fw_run.proofs.command.falkirk.Goals as goal
 
 pub returns-clause-refused : goal.returns-clause-refused
 returns-clause-refused g c refusal e = c.run-status.ensures.refused refusal (told_refused c.run-status.result c.tell.result refusal c.tell.ensures.status e)
 
+pub returns-clause-damaged : goal.returns-clause-damaged
+returns-clause-damaged g c id e = c.run-status.ensures.damaged id (told_damaged c.run-status.result c.tell.result id c.tell.ensures.status e)
+
 pub returns-clause-answer : goal.returns-clause-answer
 returns-clause-answer g c =
     let e = c.run-status.ensures in
-    texts-answered (call_of c.args.words.now (g.F.Folder.texts c.args.folder.now)) c.run-status.result c.tell.result c.tell.ensures.status (record {
+    let call = call_of c.args.words.now (g.F.Folder.texts c.args.folder.now) in
+    texts-answered (StoresTell g.K.Store.records) call c.run-status.result c.tell.result c.tell.ensures.status (record {
       bad_words = e.bad_words.0;
       refused = e.refused;
       done = λ h. let p = e.done h in (p.text.texts, p.text.accepted);
       cut_off = λ h. let p = e.write_fault h in (p.text.texts, p.text.accepted);
+      store = λ h. accepted_of-run call _ (e.store_fault h);
+      damaged = λ id h. let r = e.damaged id h in (accepted_of-run call _ r, r.so.untold);
     })
 
 pub returns-clause-headline : goal.returns-clause-headline
@@ -24,3 +31,7 @@ pub returns-clause-folder : goal.returns-clause-folder
 returns-clause-folder g c =
     folder_told g.F.Folder.texts g.F.Folder.fetch_count (command_of (words_in c.args.words.now)) c.run-status.result c.tell.result c.args.folder.now c.run-status.new.folder
     c.tell.ensures.status c.run-status.ensures.folder
+
+pub returns-clause-store : goal.returns-clause-store
+returns-clause-store g c =
+    store_told (command_of (words_in c.args.words.now)) c.run-status.result c.tell.result c.args.store.now c.run-status.new.store c.tell.ensures.status c.run-status.ensures.store

@@ -1,5 +1,5 @@
 use Rattle.std.proofs.lemmas.Result.{err_from_is_err_and}
-use Rattle.fw_run.proofs.RunLaws.{cut_nothing}
+use Rattle.fw_run.proofs.WritingLaws.{cut_nothing}
 use Rattle.fw_run.proofs.denoting.print_family.Goals as goal
 
 pub returns-in_err-text : goal.returns-in_err-text

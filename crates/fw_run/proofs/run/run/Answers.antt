@@ -1,9 +1,13 @@
-use Rattle.std.proofs.Common.{inr, sym}
+use Rattle.std.proofs.Common.{inr, sym, ◌∙◌, ap, Err}
 use Rattle.fw_outside.specs.declared.fault.OutFault.TheVariants.{Failed, NoMemory}
-use Rattle.fw_run.proofs.CallLaws.{same_refusal, keeps_folder, prints}
+use Rattle.fw_run.proofs.CallLaws.{same_refusal, prints, prints_part, run_of-call, left_of-call}
+use Rattle.fw_run.proofs.FaultLaws.{write_of, store_of, damage_of, memory_of}
 use Rattle.fw_run.specs.Call.{call_of, Refuses}
-use Rattle.fw_run.specs.Words.{command_of, command_in, words_in}
-use Rattle.fw_run.specs.Writing.{IsWritten, IsCutOff}
+use Rattle.fw_run.specs.Fault.{out_fault}
+use Rattle.fw_run.specs.Stopping.{LeavesWrites, IsStoppedByStore, IsStoppedByDamage}
+use Rattle.fw_run.specs.Trusting.{AreKnown, StoresTell}
+use Rattle.fw_run.specs.Words.{command_in}
+use Rattle.fw_run.specs.Writing.{IsWritten}
 use Rattle.fw_run.proofs.run.run.Goals as goal
 
 pub returns-in-Err-Refused-clause-refused : goal.returns-in-Err-Refused-clause-refused
@@ -17,28 +21,52 @@ returns-in-Err-Refused-clause-refused g c refusal e =
       first = same_refusal (Refuses (g.F.Folder.texts c.args.folder.now) command) c.in-Err-Refused.refusal refusal one first;
     }
 
-pub returns-in-Err-Failed-print_work-clause-folder : goal.returns-in-Err-Failed-print_work-clause-folder
-returns-in-Err-Failed-print_work-clause-folder g c =
-    keeps_folder g.F.Folder.texts g.F.Folder.fetch_count (command_of (words_in c.args.words.now)) _ (command_in c.in-Ok-Some.command) c.args.folder.now c.read_work.new.folder
-    (sym (rw c.in-Ok-Some.field-0-is at c.in-Ok-Some.ensures.command)) c.in-Ok.ensures.texts_stay c.in-Ok.ensures.asked_no_more
-
 pub returns-in-Ok-print_work-clause-done : goal.returns-in-Ok-print_work-clause-done
 returns-in-Ok-print_work-clause-done g c e =
     let told = g.F.Folder.texts c.args.folder.now in
     let view = g.O.Sink.view in
-    prints (call_of c.args.words.now told) (command_in c.in-Ok-Some.command) c.in-Ok.work (λ printed. IsWritten printed (view c.args.out.now) (view c.print_work.new.out)) (sym (rw c.in-Ok-Some.field-0-is at c.in-Ok-Some.ensures.command))
-    c.in-Ok.ensures.work c.in-Ok-print_work.ensures
+    prints (StoresTell g.K.Store.records) (call_of c.args.words.now told) (command_in c.in-Ok-Some.command) c.in-Ok.work (λ printed. IsWritten printed (view c.args.out.now) (view c.print_work.new.out)) (sym (rw c.in-Ok-Some.field-0-is at c.in-Ok-Some.ensures.command))
+    c.in-Ok.ensures.work c.in-Ok-print_work.ensures.printed
 
-pub returns-in-Err-Failed-print_work-clause-write_fault : goal.returns-in-Err-Failed-print_work-clause-write_fault
-returns-in-Err-Failed-print_work-clause-write_fault g c e =
-    let told = g.F.Folder.texts c.args.folder.now in
-    let view = g.O.Sink.view in
-    prints (call_of c.args.words.now told) (command_in c.in-Ok-Some.command) c.in-Ok.work (λ printed. IsCutOff printed Failed (view c.args.out.now) (view c.print_work.new.out)) (sym (rw c.in-Ok-Some.field-0-is at c.in-Ok-Some.ensures.command))
-    c.in-Ok.ensures.work (rw c.in-Err-Failed-print_work.field-0-is at c.in-Err-Failed-print_work.ensures)
+pub returns-in-Ok-print_work-clause-stored : goal.returns-in-Ok-print_work-clause-stored
+returns-in-Ok-print_work-clause-stored g c e =
+    let records = g.K.Store.records in
+    left_of-call (call_of c.args.words.now (g.F.Folder.texts c.args.folder.now)) (command_in c.in-Ok-Some.command) c.in-Ok.work (λ sys items. AreKnown (StoresTell records) sys items → LeavesWrites sys items (records c.print_work.new.store))
+    (sym (rw c.in-Ok-Some.field-0-is at c.in-Ok-Some.ensures.command)) c.in-Ok.ensures.work c.in-Ok-print_work.ensures.left
 
-pub returns-in-Err-NoMemory-print_work-clause-no_memory : goal.returns-in-Err-NoMemory-print_work-clause-no_memory
-returns-in-Err-NoMemory-print_work-clause-no_memory g c e =
-    let told = g.F.Folder.texts c.args.folder.now in
+pub returns-in-Err-print_work-clause-write_fault : goal.returns-in-Err-print_work-clause-write_fault
+returns-in-Err-print_work-clause-write_fault g c e =
     let view = g.O.Sink.view in
-    inr (prints (call_of c.args.words.now told) (command_in c.in-Ok-Some.command) c.in-Ok.work (λ printed. IsCutOff printed NoMemory (view c.args.out.now) (view c.print_work.new.out)) (sym (rw c.in-Ok-Some.field-0-is at c.in-Ok-Some.ensures.command))
-    c.in-Ok.ensures.work (rw c.in-Err-NoMemory-print_work.field-0-is at c.in-Err-NoMemory-print_work.ensures))
+    let fault = c.in-Err-print_work.fault in
+    prints_part (Unit {0}) (StoresTell g.K.Store.records) (call_of c.args.words.now (g.F.Folder.texts c.args.folder.now)) (command_in c.in-Ok-Some.command) c.in-Ok.work fault Failed (view c.args.out.now) (view c.print_work.new.out)
+    (sym (rw c.in-Ok-Some.field-0-is at c.in-Ok-Some.ensures.command)) c.in-Ok.ensures.work (ap out_fault (write_of fault (sym c.status_of.ensures ∙ e))) c.in-Err-print_work.ensures.printed
+
+pub returns-in-Err-print_work-clause-no_memory : goal.returns-in-Err-print_work-clause-no_memory
+returns-in-Err-print_work-clause-no_memory g c e =
+    let view = g.O.Sink.view in
+    let fault = c.in-Err-print_work.fault in
+    inr (prints_part (Unit {0}) (StoresTell g.K.Store.records) (call_of c.args.words.now (g.F.Folder.texts c.args.folder.now)) (command_in c.in-Ok-Some.command) c.in-Ok.work fault NoMemory (view c.args.out.now) (view c.print_work.new.out)
+    (sym (rw c.in-Ok-Some.field-0-is at c.in-Ok-Some.ensures.command)) c.in-Ok.ensures.work (memory_of fault (sym c.status_of.ensures ∙ e)) c.in-Err-print_work.ensures.printed)
+
+pub returns-in-Err-print_work-clause-damaged_part : goal.returns-in-Err-print_work-clause-damaged_part
+returns-in-Err-print_work-clause-damaged_part g c id e =
+    let view = g.O.Sink.view in
+    let fault = c.in-Err-print_work.fault in
+    prints_part (Unit {0}) (StoresTell g.K.Store.records) (call_of c.args.words.now (g.F.Folder.texts c.args.folder.now)) (command_in c.in-Ok-Some.command) c.in-Ok.work fault NoMemory (view c.args.out.now) (view c.print_work.new.out)
+    (sym (rw c.in-Ok-Some.field-0-is at c.in-Ok-Some.ensures.command)) c.in-Ok.ensures.work (ap out_fault (damage_of fault id (sym c.status_of.ensures ∙ e))) c.in-Err-print_work.ensures.printed
+
+pub returns-in-Err-print_work-clause-store_fault : goal.returns-in-Err-print_work-clause-store_fault
+returns-in-Err-print_work-clause-store_fault g c e =
+    let records = g.K.Store.records in
+    let view = g.O.Sink.view in
+    run_of-call (call_of c.args.words.now (g.F.Folder.texts c.args.folder.now)) (command_in c.in-Ok-Some.command) c.in-Ok.work
+    (λ sys items. IsStoppedByStore (StoresTell records) sys items (records c.print_work.new.store) (view c.args.out.now) (view c.print_work.new.out))
+    (sym (rw c.in-Ok-Some.field-0-is at c.in-Ok-Some.ensures.command)) c.in-Ok.ensures.work (c.in-Err-print_work.ensures.store_fault (ap (λ f. Err f) (store_of c.in-Err-print_work.fault (sym c.status_of.ensures ∙ e))))
+
+pub returns-in-Err-print_work-clause-damaged : goal.returns-in-Err-print_work-clause-damaged
+returns-in-Err-print_work-clause-damaged g c id e =
+    let records = g.K.Store.records in
+    let view = g.O.Sink.view in
+    run_of-call (call_of c.args.words.now (g.F.Folder.texts c.args.folder.now)) (command_in c.in-Ok-Some.command) c.in-Ok.work
+    (λ sys items. IsStoppedByDamage (StoresTell records) sys items id (g.K.Store.given c.print_work.new.store) (view c.args.out.now) (view c.print_work.new.out))
+    (sym (rw c.in-Ok-Some.field-0-is at c.in-Ok-Some.ensures.command)) c.in-Ok.ensures.work (c.in-Err-print_work.ensures.damaged id (ap (λ f. Err f) (damage_of c.in-Err-print_work.fault id (sym c.status_of.ensures ∙ e))))

@@ -11,3 +11,12 @@ returns-in-ReadFault-clause-among c = (5, lit< tt, refl)
 
 pub returns-in-WriteFault-clause-among : goal.returns-in-WriteFault-clause-among
 returns-in-WriteFault-clause-among c = (6, lit< tt, refl)
+
+pub returns-in-StoreFault-clause-among : goal.returns-in-StoreFault-clause-among
+returns-in-StoreFault-clause-among c = (7, lit< tt, refl)
+
+pub returns-in-Damaged-clause-among : goal.returns-in-Damaged-clause-among
+returns-in-Damaged-clause-among c = (8, lit< tt, refl)
+
+pub returns-in-NoMemory-clause-among : goal.returns-in-NoMemory-clause-among
+returns-in-NoMemory-clause-among c = (9, lit< tt, refl)

@@ -1,6 +1,0 @@
-use Rattle.std.proofs.Common.{◌≡◌, map, take}
-use Rattle.fw_model.specs.Steps.{front_of_cut}
-use Rattle.fw_plain.proofs.fronts.fronts_of_cuts.Given as goal
-
-abbrev pub invariant-loop-cut : goal.invariant-loop-cut
-invariant-loop-cut l = l.fronts.items ≡ map front_of_cut (take l.cut-index l.cuts)

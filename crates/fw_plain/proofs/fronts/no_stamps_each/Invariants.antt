@@ -1,8 +1,0 @@
-use Rattle.std.proofs.Common.{◌≡◌, map}
-use Rattle.std.specs.List.{range_with_len}
-use Rattle.fw_flow.specs.Dataflow.{bounds_of}
-use Rattle.fw_model.specs.Machine.{no_stamps}
-use Rattle.fw_plain.proofs.fronts.no_stamps_each.Given as goal
-
-abbrev pub invariant-loop-place : goal.invariant-loop-place
-invariant-loop-place l = l.fronts.items ≡ map (λ p. no_stamps (bounds_of l.flow p)) (range_with_len 0 l.place)

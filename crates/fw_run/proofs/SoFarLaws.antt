@@ -1,0 +1,511 @@
+-- What was printed of items so far, and how a run ends.
+use Rattle.std.proofs.Common.{◌≡◌, inl, inr, ℕ, zero, suc, get_or, ◌+◌, ◌-◌, ◌<◌, ◌≤◌, List, [], ◌∷◌, ◌++◌, length, take, drop, Option, Some, None, Result, Ok, Err, refl, sym, ◌∙◌, ap, subst, arith, append_assoc}
+use Rattle.std.proofs.lemmas.Bool.{cases_lt, false≢true}
+use Rattle.std.proofs.lemmas.List.{append-nil, length-append, take-append-drop, drop_more, take_more, take_all}
+use Rattle.std.specs.List.{AllZip, Contains}
+use Rattle.std.specs.Prelude.{IsSome}
+use Rattle.std.specs.Result.{IsErrOf}
+use Rattle.fw_outside.specs.declared.fault.OutFault.{OutFault}
+use Rattle.fw_outside.specs.declared.fault.OutFault.TheVariants.{NoMemory}
+use Rattle.fw_outside.specs.Outside.{SinkView}
+use Rattle.fw_flow.specs.declared.step.Step.{Step}
+use Rattle.fw_flow.specs.declared.step.Step.TheVariants.{Inject, Deliver, Notify, Progress, Checkpoint, Persist, Fail, Recover, Collect, Ack}
+use Rattle.fw_flow.specs.Dataflow.{Dataflow, System}
+use Rattle.fw_flow.specs.WellFormed.{IsWellFormedSystem}
+use Rattle.fw_schedule.specs.declared.item.Item.{Item}
+use Rattle.fw_schedule.specs.declared.item.Item.TheVariants.{One, Auto}
+use Rattle.fw_schedule.specs.Schedule.{steps_in, step_count}
+use Rattle.fw_model.proofs.GoingOn.{runs-go_on}
+use Rattle.fw_model.specs.Machine.{Machine, first_state}
+use Rattle.fw_model.specs.Steps.{Outcome, Run}
+use Rattle.fw_keep.specs.declared.entry.Entry.{Entry}
+use Rattle.fw_keep.specs.Stored.{Records, SpellsNone}
+use Rattle.fw_stands.specs.Written.{IsEntryOf, uncollected}
+use Rattle.fw_running.specs.declared.fault.EngineFault.TheVariants as fault
+use Rattle.fw_running.specs.Steps.{IsLeftBy}
+use Rattle.fw_engine.specs.declared.engine.Engine.{Engine}
+use Rattle.fw_engine.specs.Engine.{flow_of, StandsFor, IsDamaged}
+use Rattle.fw_run.proofs.ItemLaws.{item-run, comes-on, comes-next, items-run}
+use Rattle.fw_run.proofs.ItemPrintLaws.{auto_on}
+use Rattle.fw_run.proofs.KnownLaws.{known_before, IsPartOf, cut_known}
+use Rattle.fw_run.proofs.RunLaws.{run_length, idle-append, text-append, printed_run, begins_more}
+use Rattle.fw_run.proofs.WritingLaws.{written_nothing, written_more, taken_part, taken_nothing, taken_more, taken_until}
+use Rattle.fw_run.specs.declared.fault.RunFault.{RunFault}
+use Rattle.fw_run.specs.declared.fault.RunFault.TheVariants as stop
+use Rattle.fw_run.specs.declared.perform.Taken.{Taken}
+use Rattle.fw_run.specs.Fault.{out_fault}
+use Rattle.fw_run.specs.Headline.{PrintsRun}
+use Rattle.fw_run.specs.Items.{ComesTo}
+use Rattle.fw_run.specs.Performing.{TrustsItem, IsItemTaken, IsItemBegun, IsItemStopped, IsLeftAfter, DoesItem, PrintsItem, Performs}
+use Rattle.fw_run.specs.Printed.{outcomes_text, idle_count, done_line, text_of}
+use Rattle.fw_run.specs.Stopping.{HoldsWrites, LeavesWrites, StopsIn, MayCallIn, IsLeftIn, IsStoppedByStore, IsEntryIn, IsStoppedByDamage}
+use Rattle.fw_run.specs.Trusting.{AreKnown, BeginsWith}
+use Rattle.fw_run.specs.Writing.{IsWritten, IsCutOff}
+
+-- ---- what was printed so far
+
+-- The engine stands for the state to which the items lead; their steps are so many, so many of them idle, and these are their lines.
+pub record IsSoFar (sys : System) (items : List Item) (engine : Engine) (records : Option Records) (taken idle_steps : ℕ) (bytes : List ℕ) : Type 0 where
+  pub steps : List Step
+  pub state : Machine
+  pub comes : ComesTo sys (first_state sys) items steps state
+  pub outcomes : List Outcome
+  pub run : Run sys (first_state sys) steps outcomes state
+  pub count : taken ≡ length steps
+  pub idle : idle_steps ≡ idle_count outcomes
+  pub text : bytes ≡ outcomes_text sys.flow outcomes
+  pub stands : StandsFor sys engine records state
+
+-- What was written of so many first items is their lines, as far as it is known what comes of them.
+pub record IsUpTo (Tells : Type 0) (sys : System) (items : List Item) (count : ℕ) (engine : Engine) (records : Option Records) (taken idle_steps : ℕ)
+    (first last : SinkView) : Type 0 where
+  pub bytes : List ℕ
+  pub written : IsWritten bytes first last
+  pub so_far : AreKnown Tells sys (take count items) → IsSoFar sys (take count items) engine records taken idle_steps bytes
+  pub begins : (n : ℕ) → n ≤ count → AreKnown Tells sys (take n items) → BeginsWith sys (take n items) bytes
+
+-- no items
+begins_with-none : (sys : System) (items : List Item) (n : ℕ) → n ≤ 0 → BeginsWith sys (take n items) []
+begins_with-none sys items zero h = record { steps = []; last = first_state sys; comes = (refl, refl); outcomes = []; run = refl; others = []; text = refl }
+begins_with-none sys items (suc n) h = absurd (omega (arith, h))
+
+pub up_to-none : (Tells : Type 0) (sys : System) (items : List Item) (engine : Engine) (records : Option Records) (view : SinkView) → StandsFor sys engine records (first_state sys)
+    → IsUpTo Tells sys items 0 engine records 0 0 view view
+up_to-none Tells sys items engine records view st = record {
+  bytes = [];
+  written = written_nothing view;
+  so_far = λ k. record {
+    steps = [];
+    state = first_state sys;
+    comes = (refl, refl);
+    outcomes = [];
+    run = refl;
+    count = refl;
+    idle = refl;
+    text = refl;
+    stands = st;
+  };
+  begins = λ n h k. begins_with-none sys items n h;
+}
+
+-- ---- one item more
+
+-- an item stands between those before it and those after it
+parts_at : (items : List Item) (i : ℕ) (item : Item) → i < length items → item ≡ get_or items i item → items ≡ take i items ++ item ∷ drop (i + 1) items
+parts_at items i item below e =
+    sym (ap (λ (xs : List Item). take i items ++ xs) (sym (drop_more items i item below ∙ ap (λ (s : Item). s ∷ drop (i + 1) items) (sym e))) ∙ take-append-drop i items)
+
+one_more-item : (items : List Item) (i : ℕ) (item : Item) → i < length items → item ≡ get_or items i item → take (i + 1) items ≡ take i items ++ item ∷ []
+one_more-item items i item below e = take_more items i item below ∙ ap (λ (s : Item). take i items ++ s ∷ []) (sym e)
+
+-- a step of known items reads what was put
+trusts_step : (Tells : Type 0) (sys : System) (items : List Item) (step : Step) (steps : List Step) (state : Machine) (records : Option Records) → (Tells → IsSome records)
+    → AreKnown Tells sys (items ++ One step ∷ []) → ComesTo sys (first_state sys) items steps state → TrustsItem sys state (One step) records
+trusts_step Tells sys items (Inject s) steps state records told k c = tt
+trusts_step Tells sys items (Deliver e at) steps state records told k c = tt
+trusts_step Tells sys items (Notify p at) steps state records told k c = tt
+trusts_step Tells sys items Progress steps state records told k c = tt
+trusts_step Tells sys items (Checkpoint p) steps state records told k c = tt
+trusts_step Tells sys items Persist steps state records told k c = tt
+trusts_step Tells sys items (Fail ps) steps state records told k c = tt
+trusts_step Tells sys items Recover steps state (Some held) told k c = tt
+trusts_step Tells sys items Recover steps state None told (inl tells) c = absurd (false≢true (told tells))
+trusts_step Tells sys items Recover steps state None told (inr none) c = none items [] steps state refl c
+trusts_step Tells sys items Collect steps state records told k c = tt
+trusts_step Tells sys items (Ack o) steps state records told k c = tt
+
+trusts_item : (Tells : Type 0) (sys : System) (items : List Item) (item : Item) (steps : List Step) (state : Machine) (records : Option Records) → (Tells → IsSome records)
+    → AreKnown Tells sys (items ++ item ∷ []) → ComesTo sys (first_state sys) items steps state → TrustsItem sys state item records
+trusts_item Tells sys items (One step) steps state records told k c = trusts_step Tells sys items step steps state records told k c
+trusts_item Tells sys items (Auto most) steps state records told k c = tt
+
+-- an item was taken after others
+so_far-more : (sys : System) (items : List Item) (old new : Engine) (before after : Option Records) (item : Item) (taken idle_steps : ℕ) (of_item : Taken) (bytes others : List ℕ)
+    → (s : IsSoFar sys items old before taken idle_steps bytes) → IsItemTaken sys s.state item of_item others new after
+    → IsSoFar sys (items ++ item ∷ []) new after (taken + of_item.steps) (idle_steps + of_item.idle) (bytes ++ others)
+so_far-more sys items old new before after item taken idle_steps of_item bytes others s t =
+    let r = t.of_item in
+    record {
+      steps = s.steps ++ r.steps;
+      state = r.last;
+      comes = comes-next sys (first_state sys) s.state r.last items item s.steps r.steps s.comes r.comes;
+      outcomes = s.outcomes ++ r.outcomes;
+      run = runs-go_on sys (first_state sys) s.state r.last s.steps r.steps s.outcomes r.outcomes s.run r.run;
+      count = omega (arith, s.count, t.steps, length-append s.steps r.steps);
+      idle = omega (arith, s.idle, t.idle, idle-append s.outcomes r.outcomes);
+      text = ap (λ (b : List ℕ). b ++ others) s.text ∙ ap (λ (b : List ℕ). outcomes_text sys.flow s.outcomes ++ b) t.text ∙ sym (text-append sys.flow s.outcomes r.outcomes);
+      stands = t.stands;
+    }
+
+-- what is so far printed begins with it
+begins_with-all : (sys : System) (items : List Item) (engine : Engine) (records : Option Records) (taken idle_steps : ℕ) (bytes : List ℕ) → IsSoFar sys items engine records taken idle_steps bytes
+    → BeginsWith sys items bytes
+begins_with-all sys items engine records taken idle_steps bytes s = record {
+  steps = s.steps;
+  last = s.state;
+  comes = s.comes;
+  outcomes = s.outcomes;
+  run = s.run;
+  others = [];
+  text = s.text ∙ sym (append-nil (outcomes_text sys.flow s.outcomes));
+}
+
+pub up_to-more : (Tells : Type 0) (sys : System) (items : List Item) (i : ℕ) (old new : Engine) (before after : Option Records) (item : Item) (taken idle_steps : ℕ) (of_item : Taken)
+    (first middle last : SinkView) → (Tells → IsSome before) → IsUpTo Tells sys items i old before taken idle_steps first middle → i < length items → item ≡ get_or items i item
+    → PrintsItem old before item (Ok of_item) new after middle last
+    → IsUpTo Tells sys items (i + 1) new after (taken + of_item.steps) (idle_steps + of_item.idle) first last
+up_to-more Tells sys items i old new before after item taken idle_steps of_item first middle last told u below e p = record {
+  bytes = u.bytes ++ p.bytes;
+  written = written_more u.bytes p.bytes first middle last u.written p.taken;
+  so_far = so_far;
+  begins = begins;
+}
+  where
+    so_far : AreKnown Tells sys (take (i + 1) items)
+        → IsSoFar sys (take (i + 1) items) new after (taken + of_item.steps) (idle_steps + of_item.idle) (u.bytes ++ p.bytes)
+    so_far k =
+        let at = one_more-item items i item below e in
+        let s = u.so_far (known_before Tells sys i (i + 1) items (omega arith) k) in
+        let trusts = trusts_item Tells sys (take i items) item s.steps s.state before told (subst (AreKnown Tells sys) at k) s.comes in
+        subst (λ (xs : List Item). IsSoFar sys xs new after (taken + of_item.steps) (idle_steps + of_item.idle) (u.bytes ++ p.bytes)) (sym at)
+        (so_far-more sys (take i items) old new before after item taken idle_steps of_item u.bytes p.bytes s (p.does sys s.state s.stands trusts))
+
+    begins : (n : ℕ) → n ≤ i + 1 → AreKnown Tells sys (take n items) → BeginsWith sys (take n items) (u.bytes ++ p.bytes)
+    begins n h k = elim (cases_lt i n) [
+      | inl later ↦
+          let same : n ≡ i + 1 = omega (arith, h, later) in
+          let s = so_far (subst (λ (m : ℕ). AreKnown Tells sys (take m items)) same k) in
+          subst (λ (m : ℕ). BeginsWith sys (take m items) (u.bytes ++ p.bytes)) (sym same)
+          (begins_with-all sys (take (i + 1) items) new after (taken + of_item.steps) (idle_steps + of_item.idle) (u.bytes ++ p.bytes) s)
+      | inr among ↦ begins_more sys (take n items) u.bytes p.bytes (u.begins n among k)
+    ]
+
+-- ---- a run that stops in an item
+
+-- where an item was stopped it goes on
+stopped_begun : (sys : System) (item : Item) (state : Machine) (steps : List Step) (outcomes : List Outcome) (bytes : List ℕ) (IsSo : Machine → Type 0) → IsWellFormedSystem sys
+    → Run sys (first_state sys) steps outcomes state → IsItemStopped sys state item bytes IsSo → IsItemBegun sys state item bytes
+stopped_begun sys (One step) state steps outcomes bytes IsSo w r t =
+    let found = item-run sys w steps outcomes state r (One step) in
+    let none : t.outcomes ≡ [] = no_outcomes t.begun t.outcomes t.begins.0 t.run in
+    record {
+      of_item = found;
+      others = outcomes_text sys.flow found.outcomes;
+      text = sym (ap (λ (b : List ℕ). b ++ outcomes_text sys.flow found.outcomes) (t.text ∙ ap (λ (o : List Outcome). outcomes_text sys.flow o) none));
+    }
+  where
+    no_outcomes : (begun : List Step) (others : List Outcome) → begun ≡ [] → Run sys state begun others t.now → others ≡ []
+    no_outcomes [] [] e run = refl
+    no_outcomes [] (o ∷ others) e run = absurd run
+    no_outcomes (s ∷ begun) others e run = absurd (cc)
+stopped_begun sys (Auto most) state steps outcomes bytes IsSo w r t =
+    let reached = runs-go_on sys (first_state sys) state t.now steps t.begun outcomes t.outcomes r t.run in
+    let rest = item-run sys w (steps ++ t.begun) (outcomes ++ t.outcomes) t.now reached (Auto (most - length t.begun)) in
+    let all : length t.begun + (most - length t.begun) ≡ most = omega (arith, t.begins.0) in
+    record {
+      of_item = record {
+        steps = t.begun ++ rest.steps;
+        outcomes = t.outcomes ++ rest.outcomes;
+        last = rest.last;
+        comes = auto_on sys state t.now rest.last t.begun rest.steps (most - length t.begun) most t.begins.1 rest.comes all;
+        run = runs-go_on sys state t.now rest.last t.begun rest.steps t.outcomes rest.outcomes t.run rest.run;
+      };
+      others = outcomes_text sys.flow rest.outcomes;
+      text = text-append sys.flow t.outcomes rest.outcomes ∙ ap (λ (b : List ℕ). b ++ outcomes_text sys.flow rest.outcomes) (sym t.text);
+    }
+
+-- first bytes of an item's lines, behind the lines of those before it, are part of the whole text
+part_of-item : (sys : System) (items others : List Item) (item : Item) (engine : Engine) (records : Option Records) (taken idle_steps : ℕ) (bytes more : List ℕ) → IsWellFormedSystem sys
+    → (s : IsSoFar sys items engine records taken idle_steps bytes) → IsItemBegun sys s.state item more → IsPartOf sys (items ++ item ∷ others) (bytes ++ more)
+part_of-item sys items others item engine records taken idle_steps bytes more w s b =
+    let r = b.of_item in
+    let further = runs-go_on sys (first_state sys) s.state r.last s.steps r.steps s.outcomes r.outcomes s.run r.run in
+    let rest = items-run sys w (s.steps ++ r.steps) (s.outcomes ++ r.outcomes) r.last further others in
+    let outcomes = s.outcomes ++ (r.outcomes ++ rest.outcomes) in
+    let last = done_line (length outcomes) (idle_count outcomes) in
+    let behind = outcomes_text sys.flow rest.outcomes in
+    let of_item : outcomes_text sys.flow (r.outcomes ++ rest.outcomes) ≡ more ++ (b.others ++ behind) =
+    text-append sys.flow r.outcomes rest.outcomes ∙ ap (λ (t : List ℕ). t ++ behind) b.text ∙ append_assoc more b.others behind in
+    let lines : outcomes_text sys.flow outcomes ≡ (bytes ++ more) ++ (b.others ++ behind) =
+    text-append sys.flow s.outcomes (r.outcomes ++ rest.outcomes) ∙ ap (λ (t : List ℕ). t ++ outcomes_text sys.flow (r.outcomes ++ rest.outcomes)) (sym s.text)
+    ∙ ap (λ (t : List ℕ). bytes ++ t) of_item ∙ sym (append_assoc bytes more (b.others ++ behind)) in
+    record {
+      whole = text_of sys.flow outcomes;
+      prints = record {
+        steps = s.steps ++ (r.steps ++ rest.steps);
+        last = rest.last;
+        comes = comes-on sys (first_state sys) s.state rest.last items (item ∷ others) s.steps (r.steps ++ rest.steps) s.comes
+            (r.steps, r.last, rest.steps, r.comes, rest.comes, refl);
+        outcomes = outcomes;
+        run = runs-go_on sys (first_state sys) s.state rest.last s.steps (r.steps ++ rest.steps) s.outcomes (r.outcomes ++ rest.outcomes) s.run
+            (runs-go_on sys s.state r.last rest.last r.steps rest.steps r.outcomes rest.outcomes r.run rest.run);
+        text = refl;
+      };
+      others = (b.others ++ behind) ++ last;
+      parts = ap (λ (t : List ℕ). t ++ last) lines ∙ append_assoc (bytes ++ more) (b.others ++ behind) last;
+    }
+
+-- what a fault in an item says of its lines
+fault_begun : (sys : System) (item : Item) (state : Machine) (steps : List Step) (outcomes : List Outcome) (bytes : List ℕ) (f : RunFault) (before : Option Records) (new : Engine)
+    (after : Option Records) → IsWellFormedSystem sys → Run sys (first_state sys) steps outcomes state → TrustsItem sys state item before
+    → DoesItem sys state item bytes (Err f) before new after → IsItemBegun sys state item bytes
+fault_begun sys item state steps outcomes bytes (stop.Out f) before new after w r trusts d = d trusts
+fault_begun sys item state steps outcomes bytes (stop.Engine f) before new after w r trusts d =
+    stopped_begun sys item state steps outcomes bytes (IsLeftAfter sys item f before new after) w r d
+
+-- the run stops in the item of this place
+pub stops_at : (T : Type 0) (Tells : Type 0) (sys : System) (items : List Item) (i : ℕ) (old new : Engine) (before after : Option Records) (item : Item) (taken idle_steps : ℕ) (f : RunFault)
+    (first middle last : SinkView) → IsWellFormedSystem sys → (Tells → IsSome before) → IsUpTo Tells sys items i old before taken idle_steps first middle → i < length items
+    → item ≡ get_or items i item → PrintsItem old before item (Err f) new after middle last → Performs {T = T} Tells sys items (Err f) first last
+stops_at T Tells sys items i old new before after item taken idle_steps f first middle last w told u below e p =
+    cut_known Tells sys w items i (u.bytes ++ p.bytes) (out_fault f) first last (λ n h k. begins_more sys (take n items) u.bytes p.bytes (u.begins n h k)) part
+    (taken_more u.bytes p.bytes (out_fault f) first middle last u.written (taken_until Taken p.bytes f middle last p.taken))
+  where
+    part : AreKnown Tells sys (take (i + 1) items) → IsPartOf sys items (u.bytes ++ p.bytes)
+    part k =
+        let at = one_more-item items i item below e in
+        let s = u.so_far (known_before Tells sys i (i + 1) items (omega arith) k) in
+        let trusts = trusts_item Tells sys (take i items) item s.steps s.state before told (subst (AreKnown Tells sys) at k) s.comes in
+        let begun = fault_begun sys item s.state s.steps s.outcomes p.bytes f before new after w s.run trusts (p.does sys s.state s.stands) in
+        subst (λ (xs : List Item). IsPartOf sys xs (u.bytes ++ p.bytes)) (sym (parts_at items i item below e))
+        (part_of-item sys (take i items) (drop (i + 1) items) item old before taken idle_steps u.bytes p.bytes w s begun)
+
+-- ---- what the store holds
+
+holds_writes : (sys : System) (engine : Engine) (records : Option Records) (state : Machine) → StandsFor sys engine records state → HoldsWrites sys records state
+holds_writes sys engine records state st = record { entries = engine.running.parts.keep.entries; of_writes = st.entries; held = st.stored }
+
+-- what is left, of states of which something is true, as states of which more is
+left_by : (sys : System) (state : Machine) (step : Step) (P Q : Machine → Type 0) → ((m : Machine) → P m → Q m) → IsLeftBy sys state step P → IsLeftBy sys state step Q
+left_by sys state (Inject s) P Q f l = f state l
+left_by sys state (Deliver e at) P Q f l = f state l
+left_by sys state (Notify p at) P Q f l = f state l
+left_by sys state Progress P Q f l = f state l
+left_by sys state (Checkpoint p) P Q f l = f state l
+left_by sys state Persist P Q f l = f state l
+left_by sys state (Fail ps) P Q f l = f state l
+left_by sys state Recover P Q f l = f state l
+left_by sys state Collect P Q f l = (l.0, l.1, l.2, f l.0 l.3)
+left_by sys state (Ack o) P Q f l = f state l
+
+left_in : (sys : System) (state : Machine) (item : Item) (P Q : Machine → Type 0) → ((m : Machine) → P m → Q m) → IsLeftIn sys state item P → IsLeftIn sys state item Q
+left_in sys state (One step) P Q f l = left_by sys state step P Q f l
+left_in sys state (Auto most) P Q f l = f state l
+
+-- an item that was stopped, behind those before it
+stops_in : (sys : System) (items : List Item) (item : Item) (engine : Engine) (records : Option Records) (taken idle_steps : ℕ) (bytes more : List ℕ) (P Q : Machine → Type 0)
+    → (s : IsSoFar sys items engine records taken idle_steps bytes) → (t : IsItemStopped sys s.state item more P) → (P t.now → Q t.now) → StopsIn sys items item (bytes ++ more) Q
+stops_in sys items item engine records taken idle_steps bytes more P Q s t f = record {
+  steps = s.steps;
+  before = s.state;
+  comes = s.comes;
+  begun = t.begun;
+  state = t.now;
+  begins = t.begins;
+  outcomes = s.outcomes ++ t.outcomes;
+  run = runs-go_on sys (first_state sys) s.state t.now s.steps t.begun s.outcomes t.outcomes s.run t.run;
+  text = ap (λ (b : List ℕ). b ++ more) s.text ∙ ap (λ (b : List ℕ). outcomes_text sys.flow s.outcomes ++ b) t.text ∙ sym (text-append sys.flow s.outcomes t.outcomes);
+  so = f t.so;
+}
+
+-- the store stops the run in the item of this place
+store_stops : (Tells : Type 0) (sys : System) (items : List Item) (i : ℕ) (old new : Engine) (before after : Option Records) (item : Item) (taken idle_steps : ℕ) (first middle last : SinkView)
+    → IsUpTo Tells sys items i old before taken idle_steps first middle → i < length items → item ≡ get_or items i item → MayCallIn sys.flow item
+    → PrintsItem old before item (Err (stop.Engine fault.StoreFault)) new after middle last → IsStoppedByStore Tells sys items after first last
+store_stops Tells sys items i old new before after item taken idle_steps first middle last u below e calls p = record {
+  printed = u.bytes ++ p.bytes;
+  written = written_more u.bytes p.bytes first middle last u.written p.taken;
+  earlier = take i items;
+  item = item;
+  later = drop (i + 1) items;
+  parts = parts_at items i item below e;
+  may_call = calls;
+  stops = λ k.
+      let s = u.so_far k in
+      let t = p.does sys s.state s.stands in
+      stops_in sys (take i items) item old before taken idle_steps u.bytes p.bytes (IsLeftAfter sys item fault.StoreFault before new after)
+      (λ state. IsLeftIn sys state item (HoldsWrites sys after)) s t (left_in sys t.now item (StandsFor sys new after) (HoldsWrites sys after) (holds_writes sys new after));
+}
+
+-- the fault of an answer
+same_fault : {A : Type 0} (P : RunFault → Type 0) (f g : RunFault) → IsErrOf {T = A} (Err f) g → P f → P g
+same_fault {A} P f g e p = subst P (ap fault_in e) p
+  where
+    fault_in : Result A RunFault → RunFault
+    fault_in (Ok a) = f
+    fault_in (Err h) = h
+
+pub store_stops-at : {A : Type 0} (Tells : Type 0) (sys : System) (items : List Item) (i : ℕ) (start old new : Engine) (begun before after : Option Records) (item : Item) (taken idle_steps : ℕ)
+    (f : RunFault) (first middle last : SinkView) → StandsFor sys start begun (first_state sys) → flow_of old ≡ flow_of start
+    → IsUpTo Tells sys items i old before taken idle_steps first middle → i < length items → item ≡ get_or items i item
+    → MayCallIn (flow_of old) item → PrintsItem old before item (Err f) new after middle last
+    → IsErrOf {T = A} (Err f) (stop.Engine fault.StoreFault) → IsStoppedByStore Tells sys items after first last
+store_stops-at Tells sys items i start old new begun before after item taken idle_steps f first middle last st same u below e calls p is =
+    store_stops Tells sys items i old new before after item taken idle_steps first middle last u below e
+    (subst (λ (flow : Dataflow). MayCallIn flow item) (same ∙ st.flow) calls)
+    (same_fault (λ g. PrintsItem old before item (Err g) new after middle last) f (stop.Engine fault.StoreFault) is p)
+
+-- ---- a damaged record
+
+-- what stands beside an element
+beside : {A B : Type 0} (R : A → B → Type 0) (xs : List A) (ys : List B) (x : A) (k : ℕ) → AllZip R xs ys → k < length xs → get_or xs k x ≡ x → (y : B) × Contains ys y × R x y
+beside R [] ys x k z h e = absurd (omega (arith, h))
+beside R (a ∷ xs) [] x k z h e = absurd z
+beside R (a ∷ xs) (b ∷ ys) x zero z h e = (b, (0, omega arith, refl), subst (λ c. R c b) e z.0)
+beside R (a ∷ xs) (b ∷ ys) x (suc k) z h e =
+    let rest = beside R xs ys x k z.1 (omega (arith, h)) e in
+    (rest.0, (suc rest.1.0, omega (arith, rest.1.1), rest.1.2), rest.2)
+
+entry_in : (sys : System) (engine : Engine) (records : Option Records) (state : Machine) (entry : Entry) → StandsFor sys engine records state
+    → Contains engine.running.parts.keep.entries entry → IsEntryIn sys entry state
+entry_in sys engine records state entry st c =
+    beside (IsEntryOf sys state) engine.running.parts.keep.entries (uncollected state) entry c.0 st.entries c.1 c.2
+
+-- an item that was stopped at a recovery was stopped where it began
+stopped_first : (sys : System) (state : Machine) (step : Step) (bytes : List ℕ) (P Q : Machine → Type 0) → (t : IsItemStopped sys state (One step) bytes P) → Q state → Q t.now
+stopped_first sys state step bytes P Q t q = subst Q (sym t.begins.1) q
+
+damage_stops : (Tells : Type 0) (sys : System) (items : List Item) (i id : ℕ) (old new : Engine) (before after : Option Records) (given : Option (ℕ × List ℕ)) (taken idle_steps : ℕ)
+    (first middle last : SinkView) → (Tells → IsSome before) → IsUpTo Tells sys items i old before taken idle_steps first middle
+    → items ≡ take i items ++ One Recover ∷ drop (i + 1) items → flow_of old ≡ sys.flow
+    → PrintsItem old before (One Recover) (Err (stop.Engine (fault.Damaged id))) new after middle last → IsDamaged old id given
+    → IsStoppedByDamage Tells sys items id given first last
+damage_stops Tells sys items i id old new before after given taken idle_steps first middle last told u parts same p d = record {
+  printed = u.bytes ++ p.bytes;
+  written = written_more u.bytes p.bytes first middle last u.written p.taken;
+  earlier = take i items;
+  later = drop (i + 1) items;
+  parts = parts;
+  untold = λ tells.
+      let s = u.so_far (inl tells) in
+      let t = p.does sys s.state s.stands in
+      none_told before t.so (told tells);
+  entry = d.entry;
+  named = d.named;
+  bytes = d.bytes;
+  gave = d.gave;
+  spells_none = subst (λ (flow : Dataflow). SpellsNone flow d.entry d.bytes) same d.spells_none;
+  stops = λ k.
+      let s = u.so_far k in
+      let t = p.does sys s.state s.stands in
+      stops_in sys (take i items) (One Recover) old before taken idle_steps u.bytes p.bytes (IsLeftAfter sys (One Recover) (fault.Damaged id) before new after) (IsEntryIn sys d.entry) s t
+      (λ untold. stopped_first sys s.state Recover p.bytes (IsLeftAfter sys (One Recover) (fault.Damaged id) before new after) (IsEntryIn sys d.entry) t
+      (entry_in sys old before s.state d.entry s.stands d.there));
+}
+  where
+    none_told : (records : Option Records) → records ≡ None → IsSome records → ⊥
+    none_told None e told = absurd (false≢true told)
+    none_told (Some held) e told = absurd (cc)
+
+pub damage_stops-at : {A : Type 0} (Tells : Type 0) (sys : System) (items : List Item) (i id : ℕ) (start old new : Engine) (begun before after : Option Records) (given : Option (ℕ × List ℕ))
+    (item : Item) (taken idle_steps : ℕ) (f : RunFault) (first middle last : SinkView) → StandsFor sys start begun (first_state sys) → flow_of old ≡ flow_of start
+    → (Tells → IsSome before) → IsUpTo Tells sys items i old before taken idle_steps first middle → i < length items → item ≡ get_or items i item
+    → item ≡ One Recover → PrintsItem old before item (Err f) new after middle last → IsDamaged old id given
+    → IsErrOf {T = A} (Err f) (stop.Engine (fault.Damaged id)) → IsStoppedByDamage Tells sys items id given first last
+damage_stops-at Tells sys items i id start old new begun before after given item taken idle_steps f first middle last st same told u below e recovers p d is =
+    let one = same_fault (λ g. PrintsItem old before item (Err g) new after middle last) f (stop.Engine (fault.Damaged id)) is p in
+    damage_stops Tells sys items i id old new before after given taken idle_steps first middle last told u
+    (subst (λ (x : Item). items ≡ take i items ++ x ∷ drop (i + 1) items) recovers (parts_at items i item below e)) (same ∙ st.flow)
+    (subst (λ (x : Item). PrintsItem old before x (Err (stop.Engine (fault.Damaged id))) new after middle last) recovers one) d
+
+-- ---- the last line
+
+-- all items were taken and printed
+all_so_far : (Tells : Type 0) (sys : System) (items : List Item) (i : ℕ) (engine : Engine) (records : Option Records) (taken idle_steps : ℕ) (first last : SinkView)
+    → (u : IsUpTo Tells sys items i engine records taken idle_steps first last) → length items ≤ i → AreKnown Tells sys items → IsSoFar sys items engine records taken idle_steps u.bytes
+all_so_far Tells sys items i engine records taken idle_steps first last u h k =
+    let all = take_all i items h in
+    subst (λ (xs : List Item). IsSoFar sys xs engine records taken idle_steps u.bytes) all (u.so_far (subst (AreKnown Tells sys) (sym all) k))
+
+-- the line is the last one of their run
+last_line : (sys : System) (items : List Item) (engine : Engine) (records : Option Records) (taken idle_steps : ℕ) (bytes : List ℕ) → IsSoFar sys items engine records taken idle_steps bytes
+    → PrintsRun sys items (bytes ++ done_line taken idle_steps)
+last_line sys items engine records taken idle_steps bytes s =
+    let counted : done_line taken idle_steps ≡ done_line (length s.outcomes) (idle_count s.outcomes) =
+    ap (λ (n : ℕ). done_line n idle_steps) (s.count ∙ sym (run_length sys (first_state sys) s.state s.steps s.outcomes s.run)) ∙ ap (done_line (length s.outcomes)) s.idle in
+    record {
+      steps = s.steps;
+      last = s.state;
+      comes = s.comes;
+      outcomes = s.outcomes;
+      run = s.run;
+      text = ap (λ (t : List ℕ). t ++ done_line taken idle_steps) s.text ∙ ap (λ (t : List ℕ). outcomes_text sys.flow s.outcomes ++ t) counted;
+    }
+
+pub ends : {T : Type 0} (Tells : Type 0) (sys : System) (items : List Item) (i : ℕ) (engine : Engine) (records : Option Records) (taken idle_steps : ℕ) (first middle last : SinkView) (value : T)
+    → IsUpTo Tells sys items i engine records taken idle_steps first middle → length items ≤ i → IsWritten (done_line taken idle_steps) middle last
+    → Performs {T = T} Tells sys items (Ok value) first last
+ends Tells sys items i engine records taken idle_steps first middle last value u h w = record {
+  printed = u.bytes ++ line;
+  text = record {
+    whole = λ k. last_line sys items engine records taken idle_steps u.bytes (all_so_far Tells sys items i engine records taken idle_steps first middle u h k);
+    first = begins;
+  };
+  written = written_more u.bytes line first middle last u.written w;
+}
+  where
+    line : List ℕ
+    line = done_line taken idle_steps
+
+    begins : (n : ℕ) → AreKnown Tells sys (take n items) → BeginsWith sys (take n items) (u.bytes ++ line)
+    begins n k = elim (cases_lt i n) [
+      | inl later ↦
+          let same : take n items ≡ take i items = take_all n items (omega (arith, h, later)) ∙ sym (take_all i items h) in
+          subst (λ (xs : List Item). BeginsWith sys xs (u.bytes ++ line)) (sym same)
+          (begins_more sys (take i items) u.bytes line (u.begins i (omega arith) (subst (AreKnown Tells sys) same k)))
+      | inr among ↦ begins_more sys (take n items) u.bytes line (u.begins n among k)
+    ]
+
+-- the last line was cut off
+pub ends_cut : (T : Type 0) (Tells : Type 0) (sys : System) (items : List Item) (i : ℕ) (engine : Engine) (records : Option Records) (taken idle_steps : ℕ) (f : OutFault)
+    (first middle last : SinkView) → IsWellFormedSystem sys → IsUpTo Tells sys items i engine records taken idle_steps first middle → length items ≤ i
+    → IsCutOff (done_line taken idle_steps) f middle last → Performs {T = T} Tells sys items (Err (stop.Out f)) first last
+ends_cut T Tells sys items i engine records taken idle_steps f first middle last w u h c =
+    let at = taken_part (done_line taken idle_steps) f middle last c in
+    cut_known Tells sys w items i (u.bytes ++ at.one) f first last (λ n among k. begins_more sys (take n items) u.bytes at.one (u.begins n among k))
+    (λ k.
+    let all : take (i + 1) items ≡ items = take_all (i + 1) items (omega (arith, h)) in
+    let s = all_so_far Tells sys items i engine records taken idle_steps first middle u h (subst (AreKnown Tells sys) all k) in
+    record {
+      whole = u.bytes ++ done_line taken idle_steps;
+      prints = last_line sys items engine records taken idle_steps u.bytes s;
+      others = at.other;
+      parts = ap (λ (t : List ℕ). u.bytes ++ t) at.parts ∙ sym (append_assoc u.bytes at.one at.other);
+    })
+    (taken_more u.bytes at.one f first middle last u.written at.taken)
+
+-- the store then holds the writes of the last state
+pub leaves_writes : (Tells : Type 0) (sys : System) (items : List Item) (i : ℕ) (engine : Engine) (records : Option Records) (taken idle_steps : ℕ) (first last : SinkView)
+    → IsUpTo Tells sys items i engine records taken idle_steps first last → length items ≤ i → AreKnown Tells sys items → LeavesWrites sys items records
+leaves_writes Tells sys items i engine records taken idle_steps first last u h k =
+    let s = all_so_far Tells sys items i engine records taken idle_steps first last u h k in
+    record { steps = s.steps; last = s.state; comes = s.comes; holds = holds_writes sys engine records s.state s.stands }
+
+-- the run is not begun
+pub stops_at_start : (T : Type 0) (Tells : Type 0) (sys : System) (items : List Item) (view : SinkView) → IsWellFormedSystem sys → Performs {T = T} Tells sys items (Err (stop.Out NoMemory)) view view
+stops_at_start T Tells sys items view w =
+    let run = printed_run sys w items in
+    cut_known Tells sys w items 0 [] NoMemory view view (λ n h k. begins_with-none sys items n h)
+    (λ k. record { whole = run.0; prints = run.1; others = run.0; parts = refl }) (taken_nothing view)
+
+-- ---- how many steps were taken
+
+count-more : (xs : List Item) (i : ℕ) → i < length xs → (item : Item) → item ≡ get_or xs i item → step_count (take (i + 1) xs) ≡ step_count (take i xs) + steps_in item
+count-more xs i below item e = ap step_count (one_more-item xs i item below e) ∙ behind (take i xs)
+  where
+    behind : (ys : List Item) → step_count (ys ++ item ∷ []) ≡ step_count ys + steps_in item
+    behind [] = omega arith
+    behind (y ∷ ys) = omega (arith, behind ys)
+
+count-first : (xs : List Item) (i : ℕ) → step_count (take i xs) ≤ step_count xs
+count-first xs zero = omega arith
+count-first [] (suc i) = omega arith
+count-first (x ∷ xs) (suc i) = omega (arith, count-first xs i)
+
+-- so the counts of steps stay within what all items ask for
+pub counts-next : (xs : List Item) (i count taken : ℕ) (item : Item) → i < length xs → item ≡ get_or xs i item → count ≤ step_count (take i xs) → taken ≤ steps_in item
+    → count + taken ≤ step_count (take (i + 1) xs)
+counts-next xs i count taken item below e h k = omega (arith, count-more xs i below item e, h, k)
+
+pub counts-fit : (xs : List Item) (i count : ℕ) → count ≤ step_count (take i xs) → count ≤ step_count xs
+counts-fit xs i count h = omega (arith, count-first xs i, h)

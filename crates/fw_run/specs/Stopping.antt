@@ -1,0 +1,100 @@
+-- What a run leaves in its store, and where a store may stop it.
+use Rattle.std.specs.Prelude.{◌≡◌, ℕ, ◌<◌, List, [], ◌∷◌, ◌++◌, length, Option, Some}
+use Rattle.std.specs.List.{Contains}
+use Rattle.fw_outside.specs.Outside.{SinkView}
+use Rattle.fw_flow.specs.declared.step.Step.{Step}
+use Rattle.fw_flow.specs.declared.step.Step.TheVariants.{Recover}
+use Rattle.fw_flow.specs.Dataflow.{Dataflow, System}
+use Rattle.fw_schedule.specs.declared.item.Item.{Item}
+use Rattle.fw_schedule.specs.declared.item.Item.TheVariants.{One, Auto}
+use Rattle.fw_model.specs.Auto.{IsAutoRun}
+use Rattle.fw_model.specs.Machine.{Machine, Write, first_state}
+use Rattle.fw_model.specs.Steps.{Outcome, Run}
+use Rattle.fw_keep.specs.declared.entry.Entry.{Entry}
+use Rattle.fw_keep.specs.Stored.{Records, SpellsNone}
+use Rattle.fw_stands.specs.Written.{IsEntryOf, AreEntriesOf, AreStored, uncollected}
+use Rattle.fw_running.specs.Steps.{MayCallStore, IsLeftBy}
+use Rattle.fw_run.specs.Items.{ComesTo}
+use Rattle.fw_run.specs.Printed.{outcomes_text}
+use Rattle.fw_run.specs.Trusting.{AreKnown}
+use Rattle.fw_run.specs.Writing.{IsWritten}
+
+-- ---- what a store holds
+
+-- Of each write of the state that was not collected there is an entry with an id, and the store holds under the id the record of
+-- the write, where it tells its records.
+pub record HoldsWrites (sys : System) (records : Option Records) (state : Machine) : Type 0 where
+  pub entries : List Entry
+  pub of_writes : AreEntriesOf sys state entries (uncollected state)
+  pub held : AreStored sys state records entries (uncollected state)
+
+-- the store holds the writes of the state to which the items lead
+pub record LeavesWrites (sys : System) (items : List Item) (records : Option Records) : Type 0 where
+  pub steps : List Step
+  pub last : Machine
+  pub comes : ComesTo sys (first_state sys) items steps last
+  pub holds : HoldsWrites sys records last
+
+-- ---- where a run stops
+
+-- From a state an item was begun and led to another one: of a step nothing was taken yet, of `auto` fewer steps than it may take.
+abbrev pub ItemBegins : System → Machine → Item → List Step → Machine → Type 0
+ItemBegins sys state (One step) steps now = (steps ≡ []) × (now ≡ state)
+ItemBegins sys state (Auto most) steps now = (length steps < most) × IsAutoRun sys state (length steps) steps now
+
+-- The machine took the items and began one more, and came to a state of which this is true; these are the lines of its steps.
+pub record StopsIn (sys : System) (items : List Item) (item : Item) (printed : List ℕ) (IsSo : Machine → Type 0) : Type 0 where
+  pub steps : List Step
+  pub before : Machine
+  pub comes : ComesTo sys (first_state sys) items steps before
+  pub begun : List Step
+  pub state : Machine
+  pub begins : ItemBegins sys before item begun state
+  pub outcomes : List Outcome
+  pub run : Run sys (first_state sys) (steps ++ begun) outcomes state
+  pub text : printed ≡ outcomes_text sys.flow outcomes
+  pub so : IsSo state
+
+-- the item's step may call the store; of `auto` each may that writes
+abbrev pub MayCallIn : Dataflow → Item → Type 0
+MayCallIn flow (One step) = MayCallStore flow step
+MayCallIn flow (Auto most) = Unit {0}
+
+-- what a fault of the store in the item's step leaves: a step of `auto` leaves the state
+abbrev pub IsLeftIn : System → Machine → Item → (Machine → Type 0) → Type 0
+IsLeftIn sys state (One step) P = IsLeftBy sys state step P
+IsLeftIn sys state (Auto most) P = P state
+
+-- The run was stopped by its store in this one of the items: in a step that may call it. What was printed is the lines of the
+-- steps before, and the store holds the writes of what this step leaves.
+pub record IsStoppedByStore (Tells : Type 0) (sys : System) (items : List Item) (records : Option Records) (before after : SinkView) : Type 0 where
+  pub printed : List ℕ
+  pub written : IsWritten printed before after
+  pub earlier : List Item
+  pub item : Item
+  pub later : List Item
+  pub parts : items ≡ earlier ++ item ∷ later
+  pub may_call : MayCallIn sys.flow item
+  pub stops : AreKnown Tells sys earlier
+      → StopsIn sys earlier item printed (λ state. IsLeftIn sys state item (HoldsWrites sys records))
+
+-- the entry is that of a write of the state that was not collected
+abbrev pub IsEntryIn : System → Entry → Machine → Type 0
+IsEntryIn sys entry state = (write : Write) × Contains (uncollected state) write × IsEntryOf sys state entry write
+
+-- The run was stopped by a damaged record in this recovery among the items: the store, which does not tell its records, gave under
+-- the id of a write bytes that spell no record of it. What was printed is the lines of the steps before.
+pub record IsStoppedByDamage (Tells : Type 0) (sys : System) (items : List Item) (id : ℕ) (given : Option (ℕ × List ℕ)) (before after : SinkView)
+    : Type 0 where
+  pub printed : List ℕ
+  pub written : IsWritten printed before after
+  pub earlier : List Item
+  pub later : List Item
+  pub parts : items ≡ earlier ++ One Recover ∷ later
+  pub untold : Tells → ⊥
+  pub entry : Entry
+  pub named : entry.id ≡ id
+  pub bytes : List ℕ
+  pub gave : given ≡ Some (id, bytes)
+  pub spells_none : SpellsNone sys.flow entry bytes
+  pub stops : AreKnown Tells sys earlier → StopsIn sys earlier (One Recover) printed (IsEntryIn sys entry)

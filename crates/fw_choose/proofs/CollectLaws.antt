@@ -1,5 +1,5 @@
 -- What a collection makes of what an engine keeps and stands for.
-use Rattle.std.proofs.Common.{◌≡◌, ◌≢◌, ◌↔◌, inl, inr, ℕ, zero, suc, ◌+◌, ◌<◌, Bool, true, false, not, cond, ◌&&◌, ◌||◌, ◌==◌, nat_lt, List, [], ◌∷◌, length, take, get_or, set, slice_get, filter, Option, Some, None, Ok, Err, IsTrue, refl, sym, ◌∙◌, ap, subst, arith}
+use Rattle.std.proofs.Common.{◌≡◌, ◌≢◌, ◌↔◌, inl, inr, is_some, ℕ, zero, suc, ◌+◌, ◌<◌, Bool, true, false, not, cond, ◌&&◌, ◌||◌, ◌==◌, nat_lt, List, [], ◌∷◌, length, take, get_or, set, slice_get, filter, Option, Some, None, Ok, Err, IsTrue, refl, sym, ◌∙◌, ap, subst, arith}
 use Rattle.std.specs.List.{AllByRecursion, enumerate_from}
 use Rattle.std.proofs.lemmas.Bool.{cases_eq, cases_lt, cases_Bool, eqb-true}
 use Rattle.std.proofs.lemmas.Bool.Decides.{nat_tests}
@@ -64,7 +64,7 @@ use Rattle.fw_running.specs.declared.stepped.Stepped.TheVariants.{Did, Idle}
 use Rattle.fw_choose.specs.declared.viewing.Lost.TheVariants.{All}
 use Rattle.fw_choose.specs.Chosen.{IsChosenBy}
 use Rattle.fw_running.specs.Faults.{fault_of}
-use Rattle.fw_running.specs.Steps.{TakesStep, StaysShaped}
+use Rattle.fw_running.specs.Steps.{TakesStep, StaysShaped, outcome_of}
 use Rattle.fw_choose.specs.Collecting.{AreLeft, AreGivenUp, IsRaised, AreRaised, IsCollected, has_low_base}
 use Rattle.fw_running.specs.Kept.{source_of}
 use Rattle.fw_running.specs.Logging.{with_keep}
@@ -374,51 +374,52 @@ are-same b fs gs low now h e f g = sym f ∙ h.0 e ∙ g
 pub not-same : (b : Bool) (fs gs low now : List Front) → IsTrue b ↔ fs ≡ gs → b ≡ false → fs ≡ low → gs ≡ now → low ≢ now
 not-same b fs gs low now h e f g k = two_ways b (h.1 (f ∙ k ∙ sym g)) e
 
-collect-stands : (sys : System) (state : Machine) (old mid : Running) (keep : KeepState) (before after : Option Records) (choice : Choice) → IsChosenBy old All choice
-    → watermark choice ≢ old.parts.low → IsCollected (watermark choice) old mid → keep.entries ≡ mid.parts.keep.entries → Sweeps mid.parts.keep.waiting before keep.waiting after
-    → KeepsBytes mid.parts.keep.entries before after → Stands sys old before state → Stands sys (with_keep keep mid) after (collected_state sys state (watermark choice))
-collect-stands sys state old mid keep before after choice chosen differ c same sweeps bytes s =
-    swept-stands sys (collected_state sys state (watermark choice)) mid keep before after same sweeps bytes
-    (collected-stands sys state before choice old mid c (chosen sys before state s) differ s)
-
 collect-leads : (sys : System) (state : Machine) (old : Running) (records : Option Records) (choice : Choice) → IsChosenBy old All choice → watermark choice ≢ old.parts.low
     → Stands sys old records state → LeadsTo sys state Collect (collected_state sys state (watermark choice)) (lows choice)
 collect-leads sys state old records choice chosen differ s = other_low-collected sys state choice (chosen sys records state s) (λ e. differ (e ∙ sym s.low))
 
--- where what waited is swept, the step follows the machine's
-pub collect-follows : (old mid : Running) (keep : KeepState) (before after : Option Records) (choice : Choice) → IsChosenBy old All choice → watermark choice ≢ old.parts.low
-    → IsCollected (watermark choice) old mid → keep.entries ≡ mid.parts.keep.entries → Sweeps mid.parts.keep.waiting before keep.waiting after
-    → KeepsBytes mid.parts.keep.entries before after → TakesStep old before Collect (Ok (Did (Lows choice))) (with_keep keep mid) after
-collect-follows old mid keep before after choice chosen differ c same sweeps bytes sys state s trusts = record {
+-- where they are others, the step follows the machine's
+pub raise-follows : (old new : Running) (choice : Choice) → IsChosenBy old All choice → watermark choice ≢ old.parts.low → IsCollected (watermark choice) old new
+    → (records : Option Records) → TakesStep old records Collect (Ok (Did (Lows choice))) new records
+raise-follows old new choice chosen differ c records sys state s trusts = record {
   next = collected_state sys state (watermark choice);
-  steps = collect-leads sys state old before choice chosen differ s;
-  stands = collect-stands sys state old mid keep before after choice chosen differ c same sweeps bytes s;
+  steps = collect-leads sys state old records choice chosen differ s;
+  stands = collected-stands sys state records choice old new c (chosen sys records state s) differ s;
 }
 
--- where the store fails, the engine stands for the next state
-pub collect-left : (old mid : Running) (keep : KeepState) (before after : Option Records) (choice : Choice) → IsChosenBy old All choice → watermark choice ≢ old.parts.low
-    → IsCollected (watermark choice) old mid → keep.entries ≡ mid.parts.keep.entries → Sweeps mid.parts.keep.waiting before keep.waiting after
-    → KeepsBytes mid.parts.keep.entries before after → TakesStep old before Collect (Err fault.StoreFault) (with_keep keep mid) after
-collect-left old mid keep before after choice chosen differ c same sweeps bytes sys state s = (
-  collected_state sys state (watermark choice),
-  lows choice,
-  collect-leads sys state old before choice chosen differ s,
-  collect-stands sys state old mid keep before after choice chosen differ c same sweeps bytes s,
-)
+-- ---- the sweep
 
--- ---- where nothing was swept
+-- a store that is swept tells its records as before
+pub swept-tells : (waiting left : List ℕ) (before after : Option Records) → Sweeps waiting before left after → is_some after ≡ is_some before
+swept-tells waiting left None after s = ap (λ (r : Option Records). is_some r) s.records
+swept-tells waiting left (Some held) after s = ap (λ (r : Option Records). is_some r) s.records
+
+-- what a step follows it follows when what waits is swept
+pub swept-follows : (old mid : Running) (keep : KeepState) (before after : Option Records) (stepped : Stepped) → TakesStep old before Collect (Ok stepped) mid before
+    → keep.entries ≡ mid.parts.keep.entries → Sweeps mid.parts.keep.waiting before keep.waiting after → KeepsBytes mid.parts.keep.entries before after
+    → TakesStep old before Collect (Ok stepped) (with_keep keep mid) after
+swept-follows old mid keep before after stepped t same sweeps bytes sys state s trusts =
+    let f = t sys state s trusts in
+    record { next = f.next; steps = f.steps; stands = swept-stands sys f.next mid keep before after same sweeps bytes f.stands }
+
+-- where the store fails, the engine stands for the state to which the step led
+sweep-left : (old mid : Running) (keep : KeepState) (before after : Option Records) (stepped : Stepped) → TakesStep old before Collect (Ok stepped) mid before
+    → keep.entries ≡ mid.parts.keep.entries → Sweeps mid.parts.keep.waiting before keep.waiting after → KeepsBytes mid.parts.keep.entries before after
+    → TakesStep old before Collect (Err fault.StoreFault) (with_keep keep mid) after
+sweep-left old mid keep before after stepped t same sweeps bytes sys state s =
+    let f = t sys state s tt in
+    (f.next, outcome_of stepped, f.steps, swept-stands sys f.next mid keep before after same sweeps bytes f.stands)
 
 abbrev pub UndamagedSweep : KeepFault → Type 0
 UndamagedSweep f = stored.IsUndamaged {T = Unit {0}} (Err f)
 
 -- whatever the fault of a sweep is, the answer is right
-pub collect-fails : (f : KeepFault) → UndamagedSweep f → (old mid : Running) (keep : KeepState) (before after : Option Records) (choice : Choice) → IsChosenBy old All choice
-    → watermark choice ≢ old.parts.low → IsCollected (watermark choice) old mid → keep.entries ≡ mid.parts.keep.entries → Sweeps mid.parts.keep.waiting before keep.waiting after
+pub sweep-fails : (f : KeepFault) → UndamagedSweep f → (old mid : Running) (keep : KeepState) (before after : Option Records) (stepped : Stepped)
+    → TakesStep old before Collect (Ok stepped) mid before → keep.entries ≡ mid.parts.keep.entries → Sweeps mid.parts.keep.waiting before keep.waiting after
     → KeepsBytes mid.parts.keep.entries before after → TakesStep old before Collect (Err (fault_of f)) (with_keep keep mid) after
-collect-fails keep_fault.StoreFault u old mid keep before after choice chosen differ c same sweeps bytes =
-    collect-left old mid keep before after choice chosen differ c same sweeps bytes
-collect-fails (keep_fault.Damaged id given) u old mid keep before after choice chosen differ c same sweeps bytes = absurd u
-collect-fails keep_fault.NoMemory u old mid keep before after choice chosen differ c same sweeps bytes = λ sys state s. tt
+sweep-fails keep_fault.StoreFault u old mid keep before after stepped t same sweeps bytes = sweep-left old mid keep before after stepped t same sweeps bytes
+sweep-fails (keep_fault.Damaged id given) u old mid keep before after stepped t same sweeps bytes = absurd u
+sweep-fails keep_fault.NoMemory u old mid keep before after stepped t same sweeps bytes = λ sys state s. tt
 
 pub fault-shaped : (f : KeepFault) (running : Running) → IsShaped running → StaysShaped {T = Stepped} (Err (fault_of f)) running
 fault-shaped keep_fault.StoreFault running s = s

@@ -1,5 +1,5 @@
 //! The step of a collection.
-ghost use Rattle.std.specs.Prelude.{◌≡◌, ◌≤◌, ◌↔◌, ◌<◌, ◌≢◌, ℕ, false, length, Option, IsErrOf, IsTrue, IfOk, OnOk};
+ghost use Rattle.std.specs.Prelude.{◌≡◌, ◌≤◌, ◌↔◌, ◌<◌, ◌≢◌, ℕ, false, [], length, Option, Ok, is_some, IsErrOf, IsTrue, IfOk, OnOk};
 ghost use Rattle.fw_outside.specs.Outside.{Rose};
 ghost use Rattle.fw_collect.specs.Drops.{watermark};
 ghost use Rattle.fw_collect.specs.Dropped.{log_outside};
@@ -23,8 +23,8 @@ use fw_rollback::{Logs, Parts};
 use fw_running::{Effect, EngineFault, Running, Stepped, takes_checkpoints};
 use std::alloc::AllocError;
 
-/// The low watermark is taken anew, and what lies below it is given up. After a fault of the store it is given up too, and
-/// its bytes wait for the next collection.
+/// The low watermark is taken anew, and what lies below it is given up. Then the bytes that wait are swept, also where the low
+/// watermark stays: after a fault of the store they wait for the next collection.
 pub fn collect<K: Store>(running: &mut Running, store: &mut K) -> Result<Stepped, EngineFault>
     requires shaped { IsShaped running.old }
     requires stored { IsStored running.old.parts.keep (K.records store.old) }
@@ -35,6 +35,22 @@ pub fn collect<K: Store>(running: &mut Running, store: &mut K) -> Result<Stepped
     ensures fault { IsErrOf result EngineFault.StoreFault → Rose (K.fault_count store.old) (K.fault_count store.new) }
     ensures never_falls { K.fault_count store.old ≤ K.fault_count store.new }
     ensures undamaged { IsUndamaged result }
+    ensures tells { is_some (K.records store.new) ≡ is_some (K.records store.old) }
+    ensures swept { OnOk result (running.new.parts.keep.waiting ≡ []) }
+{
+    let stepped = raise_low(running)?;
+    running.parts.keep.sweep(store)?;
+    Ok(stepped)
+}
+
+// The low watermark is taken anew, and what lies below it is given up. Nothing changes where it stays.
+fn raise_low(running: &mut Running) -> Result<Stepped, AllocError>
+    requires shaped { IsShaped running.old }
+    ensures shaped { OnOk result (IsShaped running.new) }
+    ensures stored { (records : Option Records) → IsStored running.old.parts.keep records → IsStored running.new.parts.keep records }
+    ensures flow { running.new.flow ≡ running.old.flow }
+    ensures takes { IfOk result (λ stepped. (records : Option Records)
+        → TakesStep running.old records steps.Collect (Ok stepped) running.new records) }
 {
     let choice = choose(running, Lost::All)?;
     let low = fronts_of(running.alloc, &choice)?;
@@ -42,7 +58,6 @@ pub fn collect<K: Store>(running: &mut Running, store: &mut K) -> Result<Stepped
         return Ok(Stepped::Idle);
     }
     give_up(running, &choice, low)?;
-    running.parts.keep.sweep(store)?;
     Ok(Stepped::Did(Effect::Lows(choice)))
 }
 

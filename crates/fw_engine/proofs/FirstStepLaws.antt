@@ -1,5 +1,5 @@
 -- The first step that is enabled.
-use Rattle.std.proofs.Common.{Result, Ok, Err, Option, sym, subst}
+use Rattle.std.proofs.Common.{Result, Ok, Err, IsErrOf, Option, refl, sym, subst}
 use Rattle.fw_flow.specs.declared.step.Step.{Step}
 use Rattle.fw_flow.specs.Dataflow.{System}
 use Rattle.fw_model.specs.Auto.{auto_steps, TakesFirst}
@@ -13,7 +13,7 @@ use Rattle.fw_running.specs.declared.running.Running.{Running}
 use Rattle.fw_running.specs.declared.stepped.Stepped.{Stepped}
 use Rattle.fw_running.specs.ReadyState.{ReadyState}
 use Rattle.fw_running.specs.Stands.{Stands}
-use Rattle.fw_running.specs.Steps.{outcome_of, Answers, AnswersFirst, IsLeftBy, IsUndamaged, Trusts}
+use Rattle.fw_running.specs.Steps.{outcome_of, Answers, AnswersFirst, FirstMayCall, IsLeftBy, IsUndamaged, Trusts}
 
 -- which places are kept as ready is nothing that a state tells
 pub ready_stands : (sys : System) (state : Machine) (running : Running) (records : Option Records) (ready : ReadyState) → Stands sys running records state
@@ -43,8 +43,8 @@ pub first_answers : EnabledStepsAreTaken → (sys : System) (state other : Machi
     → (new : Running) (before after : Option Records) → LeadsTo sys state step other effect
     → ((next : Machine) (shown : Effect) → LeadsTo sys state step next shown → TakesFirst sys state (auto_steps sys.flow) next (did shown))
     → Trusts sys state step before → ((P : Machine → Type 0) → IsLeftBy sys state step P → P state) → IsUndamaged result
-    → Answers sys state step result before new after → AnswersFirst sys state result new after
-first_answers taken sys state other step effect (Ok stepped) new before after leads first trusts left sound answers =
+    → (IsErrOf result fault.StoreFault → FirstMayCall sys state) → Answers sys state step result before new after → AnswersFirst sys state result new after
+first_answers taken sys state other step effect (Ok stepped) new before after leads first trusts left sound calls answers =
     let f = answers trusts in
     let t = taken sys state f.next step (outcome_of stepped) f.steps other effect leads in
     record {
@@ -52,7 +52,7 @@ first_answers taken sys state other step effect (Ok stepped) new before after le
       takes = subst (λ (o : Outcome). TakesFirst sys state (auto_steps sys.flow) f.next o) (sym t.1) (first f.next t.0 t.2);
       stands = f.stands;
     }
-first_answers taken sys state other step effect (Err fault.StoreFault) new before after leads first trusts left sound answers =
-    left (λ next. Stands sys new after next) answers
-first_answers taken sys state other step effect (Err (fault.Damaged id)) new before after leads first trusts left sound answers = sound
-first_answers taken sys state other step effect (Err fault.NoMemory) new before after leads first trusts left sound answers = tt
+first_answers taken sys state other step effect (Err fault.StoreFault) new before after leads first trusts left sound calls answers =
+    (calls refl, left (λ next. Stands sys new after next) answers)
+first_answers taken sys state other step effect (Err (fault.Damaged id)) new before after leads first trusts left sound calls answers = sound
+first_answers taken sys state other step effect (Err fault.NoMemory) new before after leads first trusts left sound calls answers = tt

@@ -1,4 +1,5 @@
 pub mod AckLaws
+pub mod FirstCallLaws
 pub mod FirstStepLaws
 pub mod LookLaws
 pub mod SearchLaws

@@ -1,13 +1,14 @@
 -- The first step that is enabled is the one that the engine takes.
-use Rattle.std.proofs.Common.{◌≡◌, ◌≢◌, ℕ, ◌<◌, true, false, List, [], ◌∷◌, length, slice_index_or, Result, Ok, Err, Option, Some, None, refl, sym, ap, subst, ◌∙◌, arith}
+use Rattle.std.proofs.Common.{◌≡◌, ◌≢◌, ℕ, ◌<◌, true, false, List, [], ◌∷◌, length, slice_index_or, Result, Ok, Err, IsErrOf, Option, Some, None, refl, sym, ap, subst, ◌∙◌, arith}
 use Rattle.std.specs.Result.{IsErrAnd}
 use Rattle.fw_time.specs.Stamp.{Stamp}
 use Rattle.fw_bag.specs.declared.rec.Rec.{Rec}
 use Rattle.fw_flow.specs.declared.event.Event.TheVariants.{Notify as Notified}
 use Rattle.fw_flow.specs.declared.event.Message.{Message}
+use Rattle.fw_flow.specs.declared.kind.Policy.TheVariants as policy
 use Rattle.fw_flow.specs.declared.step.Step.{Step}
 use Rattle.fw_flow.specs.declared.step.Step.TheVariants.{Inject, Deliver, Notify, Ack}
-use Rattle.fw_flow.specs.Dataflow.{Dataflow, System, kind_of, receiver, is_input_kind}
+use Rattle.fw_flow.specs.Dataflow.{Dataflow, System, kind_of, policy_of, receiver, is_input_kind}
 use Rattle.fw_model.specs.Auto.{auto_steps, IsIdle, TakesFirst}
 use Rattle.fw_model.specs.Machine.{Machine, events, is_failed}
 use Rattle.fw_model.specs.Steps.{Effect, silent, did, LeadsTo, with_event}
@@ -30,10 +31,11 @@ use Rattle.fw_running.specs.Places.{IsFirstWhere}
 use Rattle.fw_running.specs.Ready.{CanAcknowledge, CanDeliver, CanInject, IsOwing}
 use Rattle.fw_running.specs.ReadyState.{ReadyState}
 use Rattle.fw_running.specs.Stands.{Stands}
-use Rattle.fw_running.specs.Steps.{AnswersFirst, IsLeftBy, IsUndamaged, TakesStep, Trusts, effect_of}
+use Rattle.fw_running.specs.Steps.{AnswersFirst, FirstMayCall, IsLeftBy, IsUndamaged, TakesStep, Trusts, effect_of}
 use Rattle.fw_events.specs.Noticing.{AnswersNotice, TakesNotice}
 use Rattle.fw_engine.specs.Searching.{with_ready, HasNoNotice, HasNotice, IsFirstNotified, IsSearched, NoneToPersist, TakesFirstAfter}
 use Rattle.fw_engine.proofs.AckLaws.{acknowledges, idle-acknowledges}
+use Rattle.fw_engine.proofs.FirstCallLaws.{delivery-calls, notification-calls}
 use Rattle.fw_engine.proofs.FirstStepLaws.{first_answers, ready_stands}
 
 -- ---- any step
@@ -66,11 +68,12 @@ idle-later Earlier Later step old mid new before between after result more trust
 -- a fault of the step is one of the first
 pub err-first : (Earlier : System → Machine → Type 0) (step : Step) (old new : Running) (before after : Option Records) (e : EngineFault)
     → ((sys : System) (state : Machine) → IsLeftBy sys state step (λ next. Stands sys new after next) → Stands sys new after state)
+    → ((sys : System) (state : Machine) → Stands sys old before state → Earlier sys state → IsErrOf {T = Stepped} (Err e) fault.StoreFault → FirstMayCall sys state)
     → IsUndamaged {T = Stepped} (Err e) → TakesStep old before step (Err e) new after → TakesFirstAfter Earlier old before (Err e) new after
-err-first Earlier step old new before after fault.StoreFault left sound t = λ sys state s earlier.
-    left sys state (t sys state s)
-err-first Earlier step old new before after (fault.Damaged id) left sound t = λ sys state s earlier. sound
-err-first Earlier step old new before after fault.NoMemory left sound t = λ sys state s earlier. tt
+err-first Earlier step old new before after fault.StoreFault left calls sound t = λ sys state s earlier.
+    (calls sys state s earlier refl, left sys state (t sys state s))
+err-first Earlier step old new before after (fault.Damaged id) left calls sound t = λ sys state s earlier. sound
+err-first Earlier step old new before after fault.NoMemory left calls sound t = λ sys state s earlier. tt
 
 -- what is handed on of a fault
 pub from-err : (r : Result Stepped EngineFault) (e : EngineFault) (P : Result Stepped EngineFault → Type 0) → IsErrAnd r (λ x. x ≡ e) → P (Err e) → P r
@@ -108,15 +111,18 @@ delivered sys running records state s e l (m ∷ ms) is some =
     (_, silent, first_queued-delivered sys s.well_formed state s.reached e m ms is)
 
 pub deliver-first : (old mid : Running) (ready : ReadyState) (new : Running) (before after : Option Records) (e : ℕ) (result : Result Stepped EngineFault)
-    → mid ≡ with_ready ready old → IsFirstWhere (CanDeliver old) (Some e) → IsUndamaged result → TakesStep mid before (Deliver e None) result new after
+    → mid ≡ with_ready ready old → IsFirstWhere (CanDeliver old) (Some e) → IsUndamaged result
+    → (IsErrOf result fault.StoreFault → policy_of mid.flow (receiver mid.flow e) ≡ policy.Full) → TakesStep mid before (Deliver e None) result new after
     → TakesFirstAfter NoneToPersist old before result new after
-deliver-first old mid ready new before after e result is first sound t = λ sys state s none.
+deliver-first old mid ready new before after e result is first sound full t = λ sys state s none.
     let can = first.0 in
     let l : e < length sys.flow.edges = subst (λ (flow : Dataflow). e < length flow.edges) s.flow can.there in
     let d = delivered sys old before state s e l (queued sys state e) refl (λ nothing. can.some (s.queues e l ∙ nothing)) in
     let below : AreIdleBelow sys state delivery e = λ i k. no_delivery sys old before state s i (omega (arith, k, l)) (first.1 i k) in
     first_answers enabled_steps-taken sys state d.0 (Deliver e None) d.1 result new before after d.2
     (λ next shown leads. deliveries-next sys state none e l below next shown leads) tt (λ P p. p) sound
+    (λ failed. delivery-calls sys state none e l below d.0 d.1 d.2
+    (subst (λ (flow : Dataflow). policy_of flow (receiver flow e) ≡ policy.Full) (ap (λ (r : Running). r.flow) is ∙ s.flow) (full failed)))
     (t sys state (with_ready_stands sys state old mid before ready is s))
 
 pub deliver-later : (old mid : Running) (ready : ReadyState) (new : Running) (before after : Option Records) (result : Result Stepped EngineFault)
@@ -169,10 +175,11 @@ notified sys running records state s p t n =
 
 -- the answer to a notification is that of the first step
 notice-answers : (T : Type 0) (sys : System) (state : Machine) (p : ℕ) (t : Stamp) (e : EngineFault) (new : Running) (after : Option Records)
-    → AnswersNotice {T = T} sys state p t (Err e) new after → AnswersFirst sys state (Err e) new after
-notice-answers T sys state p t fault.StoreFault new after a = a
-notice-answers T sys state p t (fault.Damaged id) new after a = a
-notice-answers T sys state p t fault.NoMemory new after a = a
+    → (IsErrOf {T = T} (Err e) fault.StoreFault → FirstMayCall sys state) → AnswersNotice {T = T} sys state p t (Err e) new after
+    → AnswersFirst sys state (Err e) new after
+notice-answers T sys state p t fault.StoreFault new after calls a = (calls refl, a)
+notice-answers T sys state p t (fault.Damaged id) new after calls a = a
+notice-answers T sys state p t fault.NoMemory new after calls a = a
 
 pub notify-first : (T : Type 0) (old mid new : Running) (before after : Option Records) (p : ℕ) (t : Stamp) (x : T) → IsSearched old mid
     → HasNotice old p t → ((q : ℕ) → q < p → HasNoNotice old q) → TakesNotice {T = T} mid before p t (Ok x) new after
@@ -189,12 +196,17 @@ notify-first T old mid new before after p t x found n earlier taken = λ sys sta
     }
 
 pub notify-err : (T : Type 0) (old mid new : Running) (before after : Option Records) (p : ℕ) (t : Stamp) (e : EngineFault) → IsSearched old mid
-    → HasNotice old p t → TakesNotice {T = T} mid before p t (Err e) new after
-    → TakesFirstAfter NoneToDeliver old before (Err e) new after
+    → HasNotice old p t → ((q : ℕ) → q < p → HasNoNotice old q) → (IsErrOf {T = T} (Err e) fault.StoreFault → policy_of mid.flow p ≡ policy.Full)
+    → TakesNotice {T = T} mid before p t (Err e) new after → TakesFirstAfter NoneToDeliver old before (Err e) new after
 unfolding notified
-notify-err T old mid new before after p t e found n taken = λ sys state s none.
+notify-err T old mid new before after p t e found n earlier full taken = λ sys state s none.
     let leads = notified sys old before state s p t n in
-    notice-answers T sys state p t e new after (taken sys state (searched_stands sys state old mid before found s) leads.2 leads.1.enabled)
+    let l : p < length sys.flow.nodes = subst (λ (flow : Dataflow). p < length flow.nodes) s.flow n.owing.there in
+    let below : AreIdleBelow sys state notification p = λ i k. no_notification sys old before state s i (omega (arith, k, l)) (earlier i k) in
+    notice-answers T sys state p t e new after
+    (λ failed. notification-calls sys state none p l below (with_event sys state (Notified p t)) silent leads
+    (subst (λ (flow : Dataflow). policy_of flow p ≡ policy.Full) (ap (λ (r : Running). r.flow) found.others ∙ s.flow) (full failed)))
+    (taken sys state (searched_stands sys state old mid before found s) leads.2 leads.1.enabled)
 
 pub notify-later : (old mid new : Running) (before after : Option Records) (result : Result Stepped EngineFault) → IsSearched old mid
     → IsFirstNotified old None → TakesFirstAfter NoneToNotify mid before result new after → TakesFirstAfter NoneToDeliver old before result new after
@@ -206,13 +218,14 @@ notify-later old mid new before after result found first later = λ sys state s 
 
 pub acknowledge-first : (old mid : Running) (ready : ReadyState) (new : Running) (records : Option Records) (o : ℕ) (result : Result Stepped EngineFault)
     → mid ≡ with_ready ready old → IsFirstWhere (CanAcknowledge old) (Some o) → AreByNumber (output_of old o).recs → IsUndamaged result
-    → TakesStep mid records (Ack o) result new records → TakesFirstAfter NoneToSettle old records result new records
-acknowledge-first old mid ready new records o result is first numbered sound t = λ sys state s none.
+    → (IsErrOf result fault.StoreFault → ⊥) → TakesStep mid records (Ack o) result new records → TakesFirstAfter NoneToSettle old records result new records
+acknowledge-first old mid ready new records o result is first numbered sound unfaulted t = λ sys state s none.
     let can = first.0 in
     let l : o < length sys.flow.nodes = subst (λ (flow : Dataflow). o < length flow.nodes) s.flow can.there in
     let below : AreIdleBelow sys state Ack o = λ i k. idle-acknowledges sys state old records i s (first.1 i k) in
     first_answers enabled_steps-taken sys state _ (Ack o) _ result new records records (acknowledges sys state old records o s numbered can)
     (λ next shown leads. acknowledgements-next sys state none o l below next shown leads) tt (λ P p. p) sound
+    (λ failed. absurd (unfaulted failed))
     (t sys state (with_ready_stands sys state old mid records ready is s))
 
 pub acknowledge-later : (old mid : Running) (ready : ReadyState) (new : Running) (records : Option Records) (result : Result Stepped EngineFault)
@@ -245,9 +258,10 @@ injected sys running records state s p l input live (Some batch) is some =
     (_, silent, next_batch-injected sys s.well_formed state s.reached p (source_of running p) (s.sources p l) input live batch is)
 
 pub inject-first : (old mid : Running) (ready : ReadyState) (new : Running) (records : Option Records) (p : ℕ) (result : Result Stepped EngineFault)
-    → mid ≡ with_ready ready old → IsFirstWhere (CanInject old) (Some p) → IsUndamaged result → TakesStep mid records (Inject p) result new records
+    → mid ≡ with_ready ready old → IsFirstWhere (CanInject old) (Some p) → IsUndamaged result → (IsErrOf result fault.StoreFault → ⊥)
+    → TakesStep mid records (Inject p) result new records
     → TakesFirstAfter NoneToAcknowledge old records result new records
-inject-first old mid ready new records p result is first sound t = λ sys state s none.
+inject-first old mid ready new records p result is first sound unfaulted t = λ sys state s none.
     let can = first.0 in
     let l : p < length sys.flow.nodes = subst (λ (flow : Dataflow). p < length flow.nodes) s.flow can.there in
     let input : is_input_kind (kind_of sys.flow p) ≡ true = ap (λ (flow : Dataflow). is_input_kind (kind_of flow p)) (sym s.flow) ∙ can.input in
@@ -256,6 +270,7 @@ inject-first old mid ready new records p result is first sound t = λ sys state 
     let below : AreIdleBelow sys state Inject p = λ i k. no_injection sys old records state s i (omega (arith, k, l)) (first.1 i k) in
     first_answers enabled_steps-taken sys state d.0 (Inject p) d.1 result new records records d.2
     (λ next shown leads. injections-last sys state none p l below next shown leads) tt (λ P p. p) sound
+    (λ failed. absurd (unfaulted failed))
     (t sys state (with_ready_stands sys state old mid records ready is s))
 
 pub nothing-first : (old new : Running) (ready : ReadyState) (records : Option Records) → new ≡ with_ready ready old → IsFirstWhere (CanInject old) None

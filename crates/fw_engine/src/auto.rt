@@ -1,5 +1,5 @@
 //! Steps that are taken by themselves: each is the first that is enabled.
-ghost use Rattle.std.specs.Prelude.{◌≡◌, ◌≤◌, ◌↔◌, Option, IsErrOf, IsTrue, IfOk, IfSome, OnOk};
+ghost use Rattle.std.specs.Prelude.{◌≡◌, ◌≤◌, ◌↔◌, Option, IsErrOf, IsTrue, IfOk, IfSome, OnOk, is_some};
 ghost use Rattle.fw_outside.specs.Outside.{Rose};
 ghost use Rattle.fw_border.specs.Outputs.{AreByNumber};
 ghost use Rattle.fw_keep.specs.Stored.{Records, IsStored};
@@ -41,6 +41,7 @@ pub(crate) fn take_first<K: Store>(
     ensures fault { IsErrOf result EngineFault.StoreFault → Rose (K.fault_count store.old) (K.fault_count store.new) }
     ensures never_falls { K.fault_count store.old ≤ K.fault_count store.new }
     ensures undamaged { IsUndamaged result }
+    ensures tells { is_some (K.records store.new) ≡ is_some (K.records store.old) }
 {
     match persist(running) {
         Stepped::Did(effect) => Ok(Stepped::Did(effect)),
@@ -59,6 +60,7 @@ fn deliver_first<K: Store>(running: &mut Running, store: &mut K) -> Result<Stepp
     ensures fault { IsErrOf result EngineFault.StoreFault → Rose (K.fault_count store.old) (K.fault_count store.new) }
     ensures never_falls { K.fault_count store.old ≤ K.fault_count store.new }
     ensures undamaged { IsUndamaged result }
+    ensures tells { is_some (K.records store.new) ≡ is_some (K.records store.old) }
 {
     match first_deliverable(running) {
         Some(edge) => deliver(running, edge, None, store),
@@ -77,6 +79,7 @@ fn notify_first<K: Store>(running: &mut Running, store: &mut K) -> Result<Steppe
     ensures fault { IsErrOf result EngineFault.StoreFault → Rose (K.fault_count store.old) (K.fault_count store.new) }
     ensures never_falls { K.fault_count store.old ≤ K.fault_count store.new }
     ensures undamaged { IsUndamaged result }
+    ensures tells { is_some (K.records store.new) ≡ is_some (K.records store.old) }
 {
     let Some(notice) = first_notice(running)? else {
         return settle_first(running, store);
@@ -96,6 +99,7 @@ fn settle_first<K: Store>(running: &mut Running, store: &mut K) -> Result<Steppe
     ensures fault { IsErrOf result EngineFault.StoreFault → Rose (K.fault_count store.old) (K.fault_count store.new) }
     ensures never_falls { K.fault_count store.old ≤ K.fault_count store.new }
     ensures undamaged { IsUndamaged result }
+    ensures tells { is_some (K.records store.new) ≡ is_some (K.records store.old) }
 {
     match progress(running, store)? {
         Stepped::Did(effect) => Ok(Stepped::Did(effect)),

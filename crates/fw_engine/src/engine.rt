@@ -1,14 +1,15 @@
 //! The engine.
-ghost use Rattle.std.specs.Prelude.{◌≡◌, ◌≤◌, ℕ, Option, true, false, None, IsTrue, IfOk, IsErrOf};
+ghost use Rattle.std.specs.Prelude.{◌≡◌, ◌≤◌, ℕ, Option, true, false, None, IsTrue, IfOk, IsErrOf, is_some, OnOk, []};
 ghost use Rattle.fw_outside.specs.Outside.{Rose};
-ghost use Rattle.fw_flow.specs.declared.step.Step.TheVariants.{Recover};
+ghost use Rattle.fw_flow.specs.declared.step.Step.TheVariants.{Collect, Recover};
 ghost use Rattle.fw_flow.specs.Dataflow.{system_of};
 ghost use Rattle.fw_flow.specs.WellFormed.{IsWellFormedSystem};
 ghost use Rattle.fw_model.specs.Machine.{first_state};
+ghost use Rattle.fw_keep.specs.Catalogue.{AreAscending, ids_of};
 ghost use Rattle.fw_keep.specs.Stored.{Records, IsEmptyStore, IsStored};
 ghost use Rattle.fw_running.specs.Faults as faults;
 ghost use Rattle.fw_running.specs.Shaped.{IsShaped};
-ghost use Rattle.fw_running.specs.Steps.{Trusts, MayCallStore, IsLeftBy};
+ghost use Rattle.fw_running.specs.Steps.{Trusts, MayCallStore, FirstMayCall, IsLeftBy};
 
 use crate::auto::take_first;
 use crate::taking::take;
@@ -40,8 +41,10 @@ impl Engine {
         ensures stored { (records : Option Records) → IsEmptyStore records → IfOk result (λ engine. IsStored (keep_of engine) records) }
         ensures flow { IfOk result (λ engine. flow_of engine ≡ flow) }
         ensures told { IfOk result (λ engine. was_refused engine ≡ false) }
+        ensures in_order { IfOk result (λ engine. AreAscending (ids_of (keep_of engine).entries)) }
     {
         let running = Running::new(alloc, flow, batches)?;
+        ids_ascend(&running);
         Ok(Engine {
             running,
             refused: false,
@@ -55,12 +58,14 @@ impl Engine {
         &self.running.flow
     }
 
-    /// Takes a step, and tells what it shows: Idle exactly where it is not enabled, and then nothing changes.
+    /// Takes a step, and tells what it shows: Idle exactly where it is not enabled, and then nothing changes, but that a
+    /// collection sweeps what waits.
     ///
     /// # Errors
     ///
     /// `StoreFault` where the store fails; only a step that asks a write, a recovery and a collection call it. The engine stands
-    /// where it stood, but after a collection: what is given up is gone, and its bytes wait for the next sweep. `Damaged` where
+    /// where it stood, but after a collection: what is given up is gone, and its bytes wait for the next collection, which sweeps
+    /// also where it is idle. `Damaged` where
     /// the bytes that the store gives to a recovery spell no record of a write; the engine stands where it stood. `NoMemory`
     /// where memory is refused, now or earlier.
     pub fn step<K: Store>(&mut self, step: &Step, store: &mut K) -> Result<Stepped, EngineFault>
@@ -70,8 +75,18 @@ impl Engine {
         ensures ok { ForEachState self.old (K.records store.old) (λ sys state. Trusts sys state step.now (K.records store.old)
             → IfOk result (λ stepped. FollowsStep sys state step.now stepped self.new (K.records store.new))) }
 
-        // A fault of the store comes where it failed, in a step that calls it. Then the engine stands where it stood, or after the
-        // collection.
+        // After a collection nothing waits for a sweep.
+        ensures swept { step.now ≡ Collect → OnOk result ((keep_of self.new).waiting ≡ []) }
+
+        // The ids of what is written ascend.
+        ensures in_order { AreAscending (ids_of (keep_of self.new).entries) }
+
+        // A store that tells its records goes on telling them. A step that does not call it leaves it as it is.
+        ensures tells { is_some (K.records store.new) ≡ is_some (K.records store.old) }
+        ensures quiet { (MayCallStore (flow_of self.old) step.now → ⊥) → store.new ≡ store.old }
+
+        // A fault of the store comes where it failed, in a step that calls it. Then the engine stands where it stood, or where the
+        // collection led.
         ensures fault { IsErrOf result EngineFault.StoreFault → Rose (K.fault_count store.old) (K.fault_count store.new) }
         ensures calls { IsErrOf result EngineFault.StoreFault → MayCallStore (flow_of self.old) step.now }
         ensures faulted { ForEachState self.old (K.records store.old) (λ sys state. IsErrOf result EngineFault.StoreFault
@@ -88,11 +103,13 @@ impl Engine {
         ensures told { was_refused self.new ≡ faults.is_refusal result }
         ensures stays { IsTrue (was_refused self.old) → IsErrOf result EngineFault.NoMemory }
     {
+        ids_ascend(&self.running);
         if self.refused {
             return Err(EngineFault::NoMemory);
         }
         flow_is_well_formed(&self.running.flow);
         let stepped = take(&mut self.running, step, store);
+        ids_ascend(&self.running);
         self.refused = is_refusal(&stepped);
         stepped
     }
@@ -106,7 +123,11 @@ impl Engine {
         ensures flow { flow_of self.new ≡ flow_of self.old }
         ensures ok { ForEachState self.old (K.records store.old)
             (λ sys state. IfOk result (λ stepped. FollowsFirstStep sys state stepped self.new (K.records store.new))) }
+        ensures in_order { AreAscending (ids_of (keep_of self.new).entries) }
+        ensures tells { is_some (K.records store.new) ≡ is_some (K.records store.old) }
         ensures fault { IsErrOf result EngineFault.StoreFault → Rose (K.fault_count store.old) (K.fault_count store.new) }
+        ensures calls { ForEachState self.old (K.records store.old)
+            (λ sys state. IsErrOf result EngineFault.StoreFault → FirstMayCall sys state) }
         ensures faulted { ForEachState self.old (K.records store.old)
             (λ sys state. IsErrOf result EngineFault.StoreFault → StandsFor sys self.new (K.records store.new) state) }
         ensures never_falls { K.fault_count store.old ≤ K.fault_count store.new }
@@ -115,14 +136,23 @@ impl Engine {
         ensures told { was_refused self.new ≡ faults.is_refusal result }
         ensures stays { IsTrue (was_refused self.old) → IsErrOf result EngineFault.NoMemory }
     {
+        ids_ascend(&self.running);
         if self.refused {
             return Err(EngineFault::NoMemory);
         }
         flow_is_well_formed(&self.running.flow);
         let stepped = take_first(&mut self.running, store);
+        ids_ascend(&self.running);
         self.refused = is_refusal(&stepped);
         stepped
     }
+}
+
+// The ids of what is written ascend.
+fn ids_ascend(running: &Running)
+    ensures { AreAscending (ids_of running.now.parts.keep.entries) }
+{
+    let _entries = running.parts.keep.entries();
 }
 
 // Whether memory was refused.

@@ -1,7 +1,7 @@
 //! A step is taken.
-ghost use Rattle.std.specs.Prelude.{◌≡◌, ◌≤◌, ℕ, IsErrOf};
+ghost use Rattle.std.specs.Prelude.{◌≡◌, ◌≤◌, ℕ, IsErrOf, is_some, OnOk, []};
 ghost use Rattle.fw_outside.specs.Outside.{Rose};
-ghost use Rattle.fw_flow.specs.declared.step.Step.TheVariants.{Recover};
+ghost use Rattle.fw_flow.specs.declared.step.Step.TheVariants.{Collect, Recover};
 ghost use Rattle.fw_keep.specs.Stored.{IsStored};
 ghost use Rattle.fw_running.specs.Shaped.{IsShaped};
 ghost use Rattle.fw_running.specs.Steps.{TakesStep, StaysShaped, MayCallStore, IsDamage};
@@ -33,6 +33,9 @@ pub(crate) fn take<K: Store>(
     ensures calls { IsErrOf result EngineFault.StoreFault → MayCallStore running.old.flow step.now }
     ensures damaged { (id : ℕ) → IsErrOf result (EngineFault.Damaged id) → IsDamage running.old id (K.given store.new) }
     ensures in_recovery { (id : ℕ) → IsErrOf result (EngineFault.Damaged id) → step.now ≡ Recover }
+    ensures tells { is_some (K.records store.new) ≡ is_some (K.records store.old) }
+    ensures swept { step.now ≡ Collect → OnOk result (running.new.parts.keep.waiting ≡ []) }
+    ensures quiet { (MayCallStore running.old.flow step.now → ⊥) → store.new ≡ store.old }
 {
     match step {
         Step::Inject(source) => inject(running, *source),

@@ -1,5 +1,5 @@
 //! The step of a delivery.
-ghost use Rattle.std.specs.Prelude.{◌≡◌, ◌≢◌, ◌≤◌, ◌<◌, ◌↔◌, ℕ, true, false, None, Some, find, length, IsTrue, IsErrOf, IfOk, IfSome, IfNone, OnOk, OnErr};
+ghost use Rattle.std.specs.Prelude.{◌≡◌, ◌≢◌, ◌≤◌, ◌<◌, ◌↔◌, ℕ, true, false, None, Some, find, length, IsTrue, IsErrOf, IfOk, IfSome, IfNone, OnOk, OnErr, is_some};
 ghost use Rattle.std.specs.Option.{option_copied, option_map};
 ghost use Rattle.std.specs.List.{Contains};
 ghost use Rattle.fw_outside.specs.Outside.{Rose};
@@ -68,6 +68,8 @@ pub fn deliver<K: Store>(
     ensures never_falls { K.fault_count store.old ≤ K.fault_count store.new }
     ensures undamaged { IsUndamaged result }
     ensures calls { IsErrOf result EngineFault.StoreFault → policy_of running.old.flow (receiver running.old.flow edge) ≡ policy.Full }
+    ensures tells { is_some (K.records store.new) ≡ is_some (K.records store.old) }
+    ensures quiet { (policy_of running.old.flow (receiver running.old.flow edge) ≡ policy.Full → ⊥) → store.new ≡ store.old }
 {
     let node = running.flow.dst(edge);
     if running.is_failed(node) {
@@ -146,6 +148,8 @@ fn log_delivery<K: Store>(
     ensures calls { IsErrOf result EngineFault.StoreFault → policy_of running.old.flow node ≡ policy.Full }
     ensures never_falls { K.fault_count store.old ≤ K.fault_count store.new }
     ensures undamaged { IsUndamaged result }
+    ensures tells { is_some (K.records store.new) ≡ is_some (K.records store.old) }
+    ensures quiet { (policy_of running.old.flow node ≡ policy.Full → ⊥) → store.new ≡ store.old }
 {
     if !logs_events(running, node) {
         return Ok(());

@@ -1,5 +1,5 @@
 //! Events are logged.
-ghost use Rattle.std.specs.Prelude.{◌≡◌, ◌↔◌, ◌≤◌, ◌<◌, ◌^◌, true, IsTrue, IsErrOf, OnOk, OnErr};
+ghost use Rattle.std.specs.Prelude.{◌≡◌, ◌↔◌, ◌≤◌, ◌<◌, ◌^◌, true, IsTrue, IsErrOf, OnOk, OnErr, is_some};
 ghost use Rattle.fw_outside.specs.Outside.{Rose};
 ghost use Rattle.fw_time.specs.Stamp.{in_domain};
 ghost use Rattle.fw_flow.specs.declared.kind.Policy.TheVariants as policy;
@@ -45,6 +45,7 @@ pub(crate) fn log_event<K: Store>(
     ensures fault { IsErrOf result EngineFault.StoreFault → Rose (K.fault_count store.old) (K.fault_count store.new) }
     ensures never_falls { K.fault_count store.old ≤ K.fault_count store.new }
     ensures undamaged { IsUndamaged result }
+    ensures tells { is_some (K.records store.new) ≡ is_some (K.records store.old) }
 {
     rec_has_64_bits(&event);
     let what = Record::Event { node, event };

@@ -1,5 +1,5 @@
 //! The step of a notification.
-ghost use Rattle.std.specs.Prelude.{◌≡◌, ◌≢◌, ◌<◌, ◌≤◌, ℕ, true, None, Some, length, IsErrOf, IfNone, IfOk, IfSome, OnErr, OnOk};
+ghost use Rattle.std.specs.Prelude.{◌≡◌, ◌≢◌, ◌<◌, ◌≤◌, ℕ, true, None, Some, length, IsErrOf, IfNone, IfOk, IfSome, OnErr, OnOk, is_some};
 ghost use Rattle.std.specs.Option.{option_copied};
 ghost use Rattle.fw_outside.specs.Outside.{Rose};
 ghost use Rattle.fw_time.specs.Stamp.{in_domain};
@@ -52,6 +52,8 @@ pub fn notify<K: Store>(
     ensures never_falls { K.fault_count store.old ≤ K.fault_count store.new }
     ensures undamaged { IsUndamaged result }
     ensures calls { IsErrOf result EngineFault.StoreFault → policy_of running.old.flow node ≡ policy.Full }
+    ensures tells { is_some (K.records store.new) ≡ is_some (K.records store.old) }
+    ensures quiet { (policy_of running.old.flow node ≡ policy.Full → ⊥) → store.new ≡ store.old }
 {
     if running.is_failed(node) || !running.flow.kind(node).is_notified() {
         return Ok(Stepped::Idle);
@@ -143,6 +145,8 @@ pub fn notify_of<K: Store>(
     ensures never_falls { K.fault_count store.old ≤ K.fault_count store.new }
     ensures undamaged { IsUndamaged result }
     ensures calls { IsErrOf result EngineFault.StoreFault → policy_of running.old.flow node ≡ policy.Full }
+    ensures tells { is_some (K.records store.new) ≡ is_some (K.records store.old) }
+    ensures quiet { (policy_of running.old.flow node ≡ policy.Full → ⊥) → store.new ≡ store.old }
 {
     log_notice(running, node, at, store)?;
     hear(running, node, at)?;
@@ -170,6 +174,8 @@ fn log_notice<K: Store>(
     ensures calls { IsErrOf result EngineFault.StoreFault → policy_of running.old.flow node ≡ policy.Full }
     ensures never_falls { K.fault_count store.old ≤ K.fault_count store.new }
     ensures undamaged { IsUndamaged result }
+    ensures tells { is_some (K.records store.new) ≡ is_some (K.records store.old) }
+    ensures quiet { (policy_of running.old.flow node ≡ policy.Full → ⊥) → store.new ≡ store.old }
 {
     if !logs_events(running, node) {
         return Ok(());

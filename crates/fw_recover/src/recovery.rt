@@ -1,5 +1,5 @@
 //! The step of a recovery.
-ghost use Rattle.std.specs.Prelude.{◌≡◌, ◌≤◌, ℕ, IsErrOf, OnOk};
+ghost use Rattle.std.specs.Prelude.{◌≡◌, ◌≤◌, ℕ, IsErrOf, OnOk, is_some};
 ghost use Rattle.std.specs.List.{list_any};
 ghost use Rattle.fw_outside.specs.Outside.{Rose};
 ghost use Rattle.fw_flow.specs.declared.step.Step.TheVariants as steps;
@@ -30,6 +30,7 @@ pub fn recover<K: Store>(running: &mut Running, store: &mut K) -> Result<Stepped
     ensures fault { IsErrOf result EngineFault.StoreFault → Rose (K.fault_count store.old) (K.fault_count store.new) }
     ensures never_falls { K.fault_count store.old ≤ K.fault_count store.new }
     ensures damaged { (id : ℕ) → IsErrOf result (EngineFault.Damaged id) → IsDamage running.old id (K.given store.new) }
+    ensures tells { is_some (K.records store.new) ≡ is_some (K.records store.old) }
 {
     if !any_of(&running.failed) {
         return Ok(Stepped::Idle);

@@ -1,18 +1,24 @@
 -- What follows from what a step answers.
-use Rattle.std.proofs.Common.{◌≡◌, ℕ, Bool, true, false, Option, None, Result, Ok, Err, subst, sym, ap, ◌∙◌}
-use Rattle.std.specs.Prelude.{IfOk, IsErrOf}
+use Rattle.std.proofs.Common.{◌≡◌, ℕ, Bool, true, false, List, Option, Some, None, Result, Ok, Err, subst, sym, ap, ◌∙◌}
+use Rattle.std.specs.FinMap as map_of
+use Rattle.std.specs.Prelude.{IfOk, IsErrOf, OnOk, OnErr, is_some, option_map}
+use Rattle.fw_flow.specs.declared.choice.Stamps.{Stamps}
 use Rattle.fw_flow.specs.declared.step.Step.{Step}
 use Rattle.fw_flow.specs.Dataflow.{System}
 use Rattle.fw_model.specs.Machine.{Machine}
+use Rattle.fw_keep.specs.declared.entry.Entry.{Entry}
 use Rattle.fw_keep.specs.Stored.{Records}
+use Rattle.fw_record.specs.declared.record.Record.{Record}
+use Rattle.fw_record.specs.Spelling.{spelling}
 use Rattle.fw_running.specs.declared.fault.EngineFault.{EngineFault}
 use Rattle.fw_running.specs.declared.fault.EngineFault.TheVariants as fault
 use Rattle.fw_running.specs.declared.running.Running.{Running}
 use Rattle.fw_running.specs.declared.stepped.Stepped.{Stepped}
 use Rattle.fw_running.specs.Faults.{is_refusal}
+use Rattle.fw_running.specs.Logging.{IsAsked, IsNotAsked}
 use Rattle.fw_running.specs.Shaped.{IsShaped}
 use Rattle.fw_running.specs.Stands.{Stands}
-use Rattle.fw_running.specs.Steps.{Follows, FollowsFirst, Trusts, IsLeftBy, Answers, AnswersFirst, TakesStep, TakesFirstStep, StaysShaped, IsUndamaged, outcome_of}
+use Rattle.fw_running.specs.Steps.{Follows, FollowsFirst, FirstMayCall, Trusts, IsLeftBy, Answers, AnswersFirst, TakesStep, TakesFirstStep, StaysShaped, IsUndamaged, outcome_of}
 
 -- ---- the shape
 
@@ -57,10 +63,21 @@ first-taken old before (Err e) new after t sys state s = tt
 
 pub first-left : (old : Running) (before : Option Records) (result : Result Stepped EngineFault) (new : Running) (after : Option Records)
     → TakesFirstStep old before result new after → (sys : System) (state : Machine) → Stands sys old before state → IsErrOf result fault.StoreFault
-    → Stands sys new after state
+    → FirstMayCall sys state × Stands sys new after state
 first-left old before result new after t sys state s e = subst (λ (r : Result Stepped EngineFault). AnswersFirst sys state r new after) e (t sys state s)
 
 -- ---- no damage
 
 pub no_damage : {T : Type 0} (result : Result T EngineFault) (id : ℕ) → IsUndamaged result → IsErrOf result (fault.Damaged id) → ⊥
 no_damage {T} result id u e = subst (λ (r : Result T EngineFault). IsUndamaged r) e u
+
+-- ---- a store that tells its records goes on telling them
+
+pub mapped-tells : (change : Records → Records) (before after : Option Records) → after ≡ option_map change before → is_some after ≡ is_some before
+mapped-tells change None after e = ap (λ (r : Option Records). is_some r) e
+mapped-tells change (Some held) after e = ap (λ (r : Option Records). is_some r) e
+
+pub asking-tells : {T : Type 0} (result : Result T EngineFault) (what : Record) (stamps : Stamps) (old new : List Entry) (before after : Option Records)
+    → OnOk result (IsAsked what stamps old new before after) → OnErr result (IsNotAsked old new before after) → is_some after ≡ is_some before
+asking-tells (Ok x) what stamps old new before after a n = mapped-tells (λ held. map_of.insert held a.id (spelling what)) before after a.records
+asking-tells (Err e) what stamps old new before after a n = ap (λ (r : Option Records). is_some r) n.records

@@ -1,5 +1,5 @@
 -- What the steps of an engine promise.
-use Rattle.std.specs.Prelude.{◌≡◌, ℕ, false, List, Option, Some, None, Result, Ok, Err}
+use Rattle.std.specs.Prelude.{◌≡◌, ℕ, true, false, List, Option, Some, None, Result, Ok, Err}
 use Rattle.std.specs.List.{Contains}
 use Rattle.fw_time.specs.Stamp.{Stamp}
 use Rattle.fw_frontier.specs.Frontier.{Frontier}
@@ -11,10 +11,10 @@ use Rattle.fw_flow.specs.declared.step.Step.{Step}
 use Rattle.fw_flow.specs.declared.step.Step.TheVariants.{Deliver, Notify, Progress as ProgressStep, Checkpoint, Recover, Collect}
 use Rattle.fw_flow.specs.Dataflow.{System, Dataflow, policy_of, receiver, node_frontier}
 use Rattle.fw_flow.specs.Restoring.{way_of}
-use Rattle.fw_model.specs.Auto.{auto_steps, TakesFirst}
+use Rattle.fw_model.specs.Auto.{auto_steps, IsFirstEnabled, TakesFirst}
 use Rattle.fw_model.specs.Choice.{cut_of, IsLargest}
 use Rattle.fw_model.specs.Machine.{Machine}
-use Rattle.fw_model.specs.Steps.{Effect, silent, acked, cuts, lows, Outcome, did, idle, LeadsTo, StepsTo, offers}
+use Rattle.fw_model.specs.Steps.{Effect, silent, acked, cuts, lows, Outcome, did, idle, LeadsTo, StepsTo, offers, is_eager, is_asked_for_checkpoints}
 use Rattle.fw_keep.specs.declared.entry.Entry.{Entry}
 use Rattle.fw_keep.specs.Stored.{Records, SpellsNone}
 use Rattle.fw_running.specs.declared.fault.EngineFault.{EngineFault}
@@ -67,19 +67,23 @@ abbrev pub Trusts : System → Machine → Step → Option Records → Type 0
 Trusts sys state Recover None = ReadsNoCheckpoint sys state
 Trusts sys state step records = Unit {0}
 
+-- some node asks a checkpoint whenever more is settled
+abbrev pub HasEager : Dataflow → Type 0
+HasEager flow = (p : ℕ) × (is_eager (policy_of flow p) ≡ true)
+
 -- the step may call the store: it asks a write, reads or sweeps
 abbrev pub MayCallStore : Dataflow → Step → Type 0
 MayCallStore flow (Deliver e at) = policy_of flow (receiver flow e) ≡ policy.Full
 MayCallStore flow (Notify p at) = policy_of flow p ≡ policy.Full
-MayCallStore flow ProgressStep = Unit {0}
-MayCallStore flow (Checkpoint p) = Unit {0}
+MayCallStore flow ProgressStep = HasEager flow
+MayCallStore flow (Checkpoint p) = is_asked_for_checkpoints (policy_of flow p) ≡ true
 MayCallStore flow Recover = Unit {0}
 MayCallStore flow Collect = Unit {0}
 MayCallStore flow step = ⊥
 
--- What a fault of the store leaves: the state, but that after which a collection was made.
+-- What a fault of the store leaves: the state, but that after a collection, which sweeps last, also where it is idle.
 abbrev pub IsLeftBy : System → Machine → Step → (Machine → Type 0) → Type 0
-IsLeftBy sys state Collect P = (next : Machine) × (effect : Effect) × LeadsTo sys state Collect next effect × P next
+IsLeftBy sys state Collect P = (next : Machine) × (outcome : Outcome) × StepsTo sys state Collect next outcome × P next
 IsLeftBy sys state step P = P state
 
 -- What a step answers, and what the engine stands for then, where it stood for a state: the machine's outcome and next state, if it
@@ -96,10 +100,23 @@ abbrev pub TakesStep : Running → Option Records → Step → Result Stepped En
 TakesStep old before step result new after =
     (sys : System) (state : Machine) → Stands sys old before state → Answers sys state step result before new after
 
--- the same of the first step that is enabled: no record is damaged
+-- the step is enabled from each state for which the engine stood
+abbrev pub IsEnabledFrom : Running → Option Records → Step → Type 0
+IsEnabledFrom running records step =
+    (sys : System) (state : Machine) → Stands sys running records state → (next : Machine) × (effect : Effect) × LeadsTo sys state step next effect
+
+-- Of the steps that are taken by themselves the first that is enabled may call the store.
+pub record FirstMayCall (sys : System) (state : Machine) : Type 0 where
+  pub step : Step
+  pub next : Machine
+  pub effect : Effect
+  pub first : IsFirstEnabled sys state (auto_steps sys.flow) step next effect
+  pub may_call : MayCallStore sys.flow step
+
+-- the same of the first step that is enabled: it may call the store, where the store fails, and no record is damaged
 abbrev pub AnswersFirst : System → Machine → Result Stepped EngineFault → Running → Option Records → Type 0
 AnswersFirst sys state (Ok stepped) new after = FollowsFirst sys state (outcome_of stepped) new after
-AnswersFirst sys state (Err fault.StoreFault) new after = Stands sys new after state
+AnswersFirst sys state (Err fault.StoreFault) new after = FirstMayCall sys state × Stands sys new after state
 AnswersFirst sys state (Err (fault.Damaged id)) new after = ⊥
 AnswersFirst sys state (Err fault.NoMemory) new after = Unit {0}
 

@@ -1,11 +1,17 @@
 -- The step of progress: what it makes of what is kept stands for the next state.
-use Rattle.std.proofs.Common.{◌≡◌, ℕ, ◌<◌, Bool, true, false, not, ◌&&◌, List, ◌++◌, length, get_or, refl, sym, ap, subst, ◌∙◌, inl, inr, arith}
+use Rattle.std.proofs.Common.{◌≡◌, ℕ, ◌<◌, Bool, true, false, not, cond, ◌&&◌, List, [], ◌++◌, map, length, get_or, refl, sym, ap, subst, ◌∙◌, inl, inr, arith}
 use Rattle.std.specs.List.{range_with_len}
 use Rattle.std.specs.Prelude.{Option, Some, None, Ok, Err, nat_lt}
-use Rattle.std.proofs.lemmas.Bool.{and_parts, cases_Bool, cases_lt, lt-ltb}
-use Rattle.fw_frontier.specs.Front.{Front}
+use Rattle.std.proofs.lemmas.Bool.{and_parts, both_ways, cases_Bool, cases_lt, lt-ltb}
+use Rattle.std.proofs.lemmas.List.{get_or_past}
+use Rattle.std.proofs.lemmas.List.FromFn.{get_or-map-range_with_len, length-map-range_with_len}
+use Rattle.fw_frontier.specs.Front.{Front, IsFrontOf, frontier_of}
+use Rattle.fw_frontier.specs.Frontier.{join}
+use Rattle.fw_frontier.proofs.Pairs.{excluding_pairs}
+use Rattle.fw_frontier.proofs.CanonicalLaws.{in_domain-canonical}
+use Rattle.fw_frontier.proofs.NamesLaws.{names-join}
 use Rattle.fw_flow.specs.declared.step.Step.TheVariants.{Progress as ProgressStep}
-use Rattle.fw_flow.specs.Dataflow.{System, policy_of, node_ids}
+use Rattle.fw_flow.specs.Dataflow.{System, policy_of, bounds_of, node_ids}
 use Rattle.fw_model.specs.History.{IsComplete}
 use Rattle.fw_model.specs.Machine.{Machine, events, family_of, front_of, AreCanonical}
 use Rattle.fw_model.specs.Steps.{GrowsTo, LeadsTo, did, idle, silent, eager_writes}
@@ -33,7 +39,7 @@ use Rattle.fw_running.specs.Kept.{table_of, source_of}
 use Rattle.fw_running.specs.Logging.{with_keep, ChangesKeep}
 use Rattle.fw_running.specs.Shaped.{IsShaped}
 use Rattle.fw_running.specs.Stands.{Stands}
-use Rattle.fw_running.specs.Steps.{Follows, Answers, TakesStep, IsUndamaged}
+use Rattle.fw_running.specs.Steps.{Follows, Answers, TakesStep, IsEnabledFrom, IsUndamaged}
 use Rattle.fw_settle.proofs.SettleLaws.{past-grows}
 use Rattle.fw_settle.proofs.WritesLaws.{kept-stands}
 use Rattle.fw_settle.specs.Settling.{grows, NoneGrowsIn, IsNextToSettle, KeepsEntries, HaveAsked, with_settled, ChangesSettled, IsTableSettled, settles_traces, HaveSettled, Progresses}
@@ -234,3 +240,59 @@ progresses mid asked new before after c a d h = record {
   others = d;
   settles = subst (λ (r : Running). HaveSettled (length r.flow.nodes) asked new) c h;
 }
+
+-- ---- where the step is enabled
+
+-- what node p settles, where it is to settle, and else what is settled of it
+abbrev settles_at : Running → ℕ → Front
+settles_at mid p = cond (grows mid p) (excluding_pairs (front_of mid.progress.settled p) (front_of mid.progress.kept p) []) (front_of mid.progress.settled p)
+
+-- the same of all nodes
+abbrev all_settled : Running → List Front
+all_settled mid = map (settles_at mid) (range_with_len 0 (length mid.progress.settled))
+
+settles-none : (mid : Running) (p : ℕ) → grows mid p ≡ false → settles_at mid p ≡ front_of mid.progress.settled p
+settles-none mid p n = ap (λ b. cond b (excluding_pairs (front_of mid.progress.settled p) (front_of mid.progress.kept p) []) (front_of mid.progress.settled p)) n
+
+settles-joined : (mid : Running) (p : ℕ) → grows mid p ≡ true → settles_at mid p ≡ excluding_pairs (front_of mid.progress.settled p) (front_of mid.progress.kept p) []
+settles-joined mid p g = ap (λ b. cond b (excluding_pairs (front_of mid.progress.settled p) (front_of mid.progress.kept p) []) (front_of mid.progress.settled p)) g
+
+settled-there : (mid : Running) → IsShaped mid → (p : ℕ) → front_of (all_settled mid) p ≡ settles_at mid p
+settled-there mid shaped p = elim (cases_lt p (length mid.progress.settled)) [
+  | inl l ↦ get_or-map-range_with_len (settles_at mid) 0 (length mid.progress.settled) p p [] l (omega arith)
+  | inr past ↦
+      let each = shaped.progress.settled_each in
+      let long = length-map-range_with_len (settles_at mid) 0 (length mid.progress.settled) in
+      get_or_past (all_settled mid) p [] (omega (arith, past, long)) ∙ sym (get_or_past mid.progress.settled p [] past)
+      ∙ sym (settles-none mid p (past-grows mid shaped p (omega (arith, past, each))))
+]
+
+all-grown : (mid : Running) → IsShaped mid
+    → AreGrownBefore mid.flow mid.failed.items mid.progress.settled mid.progress.kept (all_settled mid) (length mid.flow.nodes)
+all-grown mid shaped = record {
+  one_each = length-map-range_with_len (settles_at mid) 0 (length mid.progress.settled);
+  grown = λ p l g.
+      let b = bounds_of mid.flow p in
+      let old = front_of mid.progress.settled p in
+      let kept = front_of mid.progress.kept p in (
+        (and_parts (not (get_or mid.failed.items p false)) (has_more kept old) g).1,
+        subst (λ (f : Front). IsFrontOf b f (join (frontier_of b old) (frontier_of b kept))) (sym (settled-there mid shaped p ∙ settles-joined mid p g))
+            (names-join b old kept (in_domain-canonical b old (shaped.progress.settled p)) (in_domain-canonical b kept (shaped.progress.kept p))),
+      );
+  others = λ p none. elim (cases_Bool (grows mid p)) [
+    | inl g ↦ elim (cases_lt p (length mid.flow.nodes)) [
+      | inl l ↦ absurd (both_ways (grows mid p) (none l) g)
+      | inr past ↦ absurd (both_ways (grows mid p) (past-grows mid shaped p past) g)
+    ]
+    | inr n ↦ settled-there mid shaped p ∙ settles-none mid p n
+  ];
+}
+
+-- where some node is to settle, the step is enabled
+pub progress-enabled : (old mid : Running) (before : Option Records) (p : ℕ) → IsBroughtUp old mid → IsShaped mid → IsNextToSettle mid 0 p
+    → IsEnabledFrom old before ProgressStep
+progress-enabled old mid before p up shaped first = λ sys state s.
+    let settled = all_settled mid in
+    let to = settled-to sys state mid before settled p (brought_up_stands sys state old mid before s up) shaped (up-complete sys state old mid before s up)
+    first.there first.is (all-grown mid shaped) in
+    (settled_state sys state settled, silent, (family_of sys.flow mid.progress.kept, settled, to.grown, refl, refl))

@@ -1,9 +1,11 @@
 -- The search for the next node that is to settle.
 use Rattle.std.proofs.Common.{◌≡◌, ℕ, ◌+◌, ◌-◌, ◌<◌, ◌≤◌, ◌^◌, true, false, not, ◌&&◌, List, length, get_or, sym, ap, subst, ◌∙◌, inl, inr, arith}
-use Rattle.std.specs.Prelude.{Option, Some, None}
+use Rattle.std.specs.Prelude.{Option, Some, None, Result, Ok, Err, IsErrOf}
 use Rattle.std.specs.List.{Contains}
 use Rattle.std.proofs.lemmas.Bool.{and_parts, both_ways, cases_Bool, cases_lt}
+use Rattle.fw_flow.specs.Dataflow.{policy_of}
 use Rattle.fw_model.specs.Machine.{front_of}
+use Rattle.fw_model.specs.Steps.{is_eager}
 use Rattle.fw_keep.specs.Stored.{Records}
 use Rattle.fw_outside.specs.Outside.{Rose}
 use Rattle.fw_progress.specs.Settle.{has_more}
@@ -12,6 +14,7 @@ use Rattle.fw_running.specs.Kept.{is_down}
 use Rattle.fw_running.specs.Logging.{with_keep, ChangesKeep}
 use Rattle.fw_running.specs.Places.{IsFirstPlaceFrom, place_limit}
 use Rattle.fw_running.specs.Shaped.{IsShaped}
+use Rattle.fw_running.specs.Steps.{HasEager}
 use Rattle.fw_settle.specs.Settling.{grows, NoneGrowsIn, IsNextToSettle, IsFoundToSettle, IsNextLive, IsFoundLive, AsksIfEager, HaveAsked, ChangesSettled, SettlesKept, HaveSettled}
 use Rattle.fw_settle.proofs.AskLaws.{asked-none, asked-past, asked-next}
 use Rattle.fw_settle.proofs.SettleLaws.{none-joined, none-more, past-grows, settled-none, settled-past, settled-next}
@@ -193,3 +196,22 @@ pub settling-all : (old new : Running) → ChangesSettled old new → HaveSettle
 settling-all old new c h =
     settled-past old new h.place (length old.flow.nodes) h.settled h.there
     (unsettled-none old new h.place (length old.flow.nodes) c h.settled (subst (λ flow. NoneGrowsIn new h.place (length flow.nodes)) (ap (λ (r : Running). r.flow) c) h.found))
+
+-- ---- eager nodes
+
+-- a node that is eager among what is kept, where the catalogue alone was changed, is one of the flow
+pub has_eager : (old mid : Running) (p : ℕ) → ChangesKeep old mid → is_eager (policy_of mid.flow p) ≡ true → HasEager old.flow
+has_eager old mid p c is = (p, ap (λ (r : Running). is_eager (policy_of r.flow p)) (sym c) ∙ is)
+
+-- ---- faults
+
+-- a result of another type with the same fault has it too
+pub same_fault : (A B E : Type 0) (fault other : E) → IsErrOf {T = A} {E = E} (Err fault) other → IsErrOf {T = B} {E = E} (Err fault) other
+same_fault A B E fault other e = ap with_fault (ap fault_in e)
+  where
+    fault_in : Result A E → E
+    fault_in (Ok a) = fault
+    fault_in (Err f) = f
+
+    with_fault : E → Result B E
+    with_fault f = Err f

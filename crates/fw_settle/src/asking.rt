@@ -1,5 +1,5 @@
 //! Writes are asked.
-ghost use Rattle.std.specs.Prelude.{◌≡◌, ◌<◌, ◌≤◌, ◌++◌, List, Option, length, IsErrOf, OnOk, OnErr};
+ghost use Rattle.std.specs.Prelude.{◌≡◌, ◌<◌, ◌≤◌, ◌++◌, List, Option, length, IsErrOf, OnOk, OnErr, is_some};
 ghost use Rattle.fw_outside.specs.Outside.{Rose};
 ghost use Rattle.fw_frontier.specs.Front.{IsCanonical};
 ghost use Rattle.fw_flow.specs.Dataflow.{bounds_of};
@@ -41,6 +41,7 @@ pub(crate) fn ask_checkpoint<K: Store>(
     ensures fault { IsErrOf result EngineFault.StoreFault → Rose (K.fault_count store.old) (K.fault_count store.new) }
     ensures never_falls { K.fault_count store.old ≤ K.fault_count store.new }
     ensures undamaged { IsUndamaged result }
+    ensures tells { is_some (K.records store.new) ≡ is_some (K.records store.old) }
 {
     let checkpoint = checkpoint_at(running, node, front)?;
     if !is_countable(&checkpoint) || !is_of_domains(&running.flow, node, &checkpoint.recorded) {

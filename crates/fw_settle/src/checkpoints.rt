@@ -1,8 +1,8 @@
 //! The steps of writes: a checkpoint is asked, and a write is acknowledged.
-ghost use Rattle.std.specs.Prelude.{◌≡◌, ◌↔◌, ◌<◌, ◌≤◌, ℕ, List, length, Option, Ok, IsTrue, IsErrOf, unwrap_or};
+ghost use Rattle.std.specs.Prelude.{◌≡◌, ◌↔◌, ◌<◌, ◌≤◌, ℕ, List, length, Option, Ok, IsTrue, IsErrOf, unwrap_or, is_some, true};
 ghost use Rattle.std.specs.Option.{option_copied};
 ghost use Rattle.fw_frontier.specs.Front.{IsCanonical};
-ghost use Rattle.fw_flow.specs.Dataflow.{bounds_of};
+ghost use Rattle.fw_flow.specs.Dataflow.{bounds_of, policy_of};
 ghost use Rattle.fw_model.specs.Machine.{front_of, no_stamps};
 ghost use Rattle.fw_model.specs.Steps as steps_of;
 ghost use Rattle.fw_model.specs.Steps.{last_or};
@@ -36,6 +36,9 @@ pub fn checkpoint<K: Store>(
     ensures fault { IsErrOf result EngineFault.StoreFault → Rose (K.fault_count store.old) (K.fault_count store.new) }
     ensures never_falls { K.fault_count store.old ≤ K.fault_count store.new }
     ensures undamaged { IsUndamaged result }
+    ensures tells { is_some (K.records store.new) ≡ is_some (K.records store.old) }
+    ensures calls { IsErrOf result EngineFault.StoreFault → steps_of.is_asked_for_checkpoints (policy_of running.old.flow node) ≡ true }
+    ensures quiet { (steps_of.is_asked_for_checkpoints (policy_of running.old.flow node) ≡ true → ⊥) → store.new ≡ store.old }
 {
     if !may_take(running, node) {
         return Ok(Stepped::Idle);

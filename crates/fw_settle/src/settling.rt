@@ -1,16 +1,16 @@
 //! The step of progress.
-ghost use Rattle.std.specs.Prelude.{◌≡◌, ◌↔◌, ◌<◌, ◌≤◌, Some, true, length, IsTrue, IsErrOf, OnOk, OnErr};
+ghost use Rattle.std.specs.Prelude.{◌≡◌, ◌↔◌, ◌<◌, ◌≤◌, Some, true, length, IsTrue, IsErrOf, OnOk, OnErr, is_some};
 ghost use Rattle.fw_outside.specs.Outside.{Rose};
 ghost use Rattle.fw_flow.specs.declared.step.Step.TheVariants as steps;
 ghost use Rattle.fw_frontier.specs.Front.{IsCanonical};
-ghost use Rattle.fw_flow.specs.Dataflow.{bounds_of};
+ghost use Rattle.fw_flow.specs.Dataflow.{bounds_of, policy_of};
 ghost use Rattle.fw_model.specs.Machine.{front_of};
 ghost use Rattle.fw_model.specs.Steps as steps_of;
 ghost use Rattle.fw_keep.specs.Stored.{IsStored};
 ghost use Rattle.fw_progress.specs.Settle.{IsGrownAt, has_more};
 ghost use Rattle.fw_running.specs.Logging.{ChangesKeep, IsNotAsked};
 ghost use Rattle.fw_running.specs.Shaped.{IsShaped};
-ghost use Rattle.fw_running.specs.Steps.{TakesStep, StaysShaped, IsUndamaged};
+ghost use Rattle.fw_running.specs.Steps.{TakesStep, StaysShaped, IsUndamaged, HasEager, IsEnabledFrom};
 ghost use Rattle.fw_settle.specs.Settling.{grows, IsFoundToSettle, IsFoundLive, AddsEntries, KeepsEntries, AsksIfEager, HaveAsked, with_tables, with_traces, ChangesSettled, SettlesTable, SettlesTraces, SettlesTo, SettlesKept, HaveSettled};
 
 use crate::asking::{ask_checkpoint, withdraw_from};
@@ -31,6 +31,10 @@ pub fn progress<K: Store>(running: &mut Running, store: &mut K) -> Result<Steppe
     ensures fault { IsErrOf result EngineFault.StoreFault → Rose (K.fault_count store.old) (K.fault_count store.new) }
     ensures never_falls { K.fault_count store.old ≤ K.fault_count store.new }
     ensures undamaged { IsUndamaged result }
+    ensures tells { is_some (K.records store.new) ≡ is_some (K.records store.old) }
+    ensures calls { IsErrOf result EngineFault.StoreFault → HasEager running.old.flow }
+    ensures quiet { (HasEager running.old.flow → ⊥) → store.new ≡ store.old }
+    ensures enabled { IsErrOf result EngineFault.StoreFault → IsEnabledFrom running.old (K.records store.old) steps.Progress }
 {
     running.refresh()?;
     let Some(_first) = grown_from(running, 0) else {
@@ -85,6 +89,9 @@ fn ask_eager<K: Store>(running: &mut Running, store: &mut K) -> Result<(), Engin
     ensures fault { IsErrOf result EngineFault.StoreFault → Rose (K.fault_count store.old) (K.fault_count store.new) }
     ensures never_falls { K.fault_count store.old ≤ K.fault_count store.new }
     ensures undamaged { IsUndamaged result }
+    ensures tells { is_some (K.records store.new) ≡ is_some (K.records store.old) }
+    ensures calls { IsErrOf result EngineFault.StoreFault → HasEager running.old.flow }
+    ensures quiet { (HasEager running.old.flow → ⊥) → store.new ≡ store.old }
 {
     let count = running.parts.keep.entries().len();
     match ask_each(running, store) {
@@ -108,6 +115,9 @@ fn ask_each<K: Store>(running: &mut Running, store: &mut K) -> Result<(), Engine
     ensures fault { IsErrOf result EngineFault.StoreFault → Rose (K.fault_count store.old) (K.fault_count store.new) }
     ensures never_falls { K.fault_count store.old ≤ K.fault_count store.new }
     ensures undamaged { IsUndamaged result }
+    ensures tells { is_some (K.records store.new) ≡ is_some (K.records store.old) }
+    ensures calls { IsErrOf result EngineFault.StoreFault → HasEager running.old.flow }
+    ensures quiet { (HasEager running.old.flow → ⊥) → store.new ≡ store.old }
 {
     let mut next = grown_from(running, 0);
     while let Some(node) = next {
@@ -136,6 +146,9 @@ fn ask_if_eager<K: Store>(
     ensures fault { IsErrOf result EngineFault.StoreFault → Rose (K.fault_count store.old) (K.fault_count store.new) }
     ensures never_falls { K.fault_count store.old ≤ K.fault_count store.new }
     ensures undamaged { IsUndamaged result }
+    ensures tells { is_some (K.records store.new) ≡ is_some (K.records store.old) }
+    ensures calls { IsErrOf result EngineFault.StoreFault → steps_of.is_eager (policy_of running.old.flow node) ≡ true }
+    ensures quiet { (steps_of.is_eager (policy_of running.old.flow node) ≡ true → ⊥) → store.new ≡ store.old }
 {
     if !is_eager(running.flow.policy(node)) {
         return Ok(());

@@ -17,7 +17,7 @@ returns-in-Some-clause-takes c = λ records.
     c.first_acknowledging.ensures.others
     (subst (λ (found : Option ℕ). IsFirstWhere (CanAcknowledge old) found) c.in-Some.is c.first_acknowledging.ensures.first)
     (subst (λ (found : Option ℕ). IfSome found (λ o. AreByNumber (output_of old o).recs)) c.in-Some.is c.first_acknowledging.ensures.by_number)
-    c.acknowledge.ensures.undamaged (c.acknowledge.ensures.takes records)
+    c.acknowledge.ensures.undamaged c.acknowledge.ensures.unfaulted (c.acknowledge.ensures.takes records)
 
 pub returns-in-None-clause-takes : goal.returns-in-None-clause-takes
 returns-in-None-clause-takes c = λ records.

@@ -11,7 +11,7 @@ returns-in-Some-clause-takes g c =
     deliver-first old mid (record old.ready { edges = mid.ready.edges }) c.deliver.new.running (g.K.Store.records c.args.store.now)
     (g.K.Store.records c.deliver.new.store) c.in-Some.edge c.deliver.result c.first_deliverable.ensures.others
     (subst (λ (found : Option ℕ). IsFirstWhere (CanDeliver old) found) c.in-Some.is c.first_deliverable.ensures.first)
-    c.deliver.ensures.undamaged c.deliver.ensures.takes
+    c.deliver.ensures.undamaged c.deliver.ensures.calls c.deliver.ensures.takes
 
 pub returns-in-None-clause-takes : goal.returns-in-None-clause-takes
 returns-in-None-clause-takes g c =

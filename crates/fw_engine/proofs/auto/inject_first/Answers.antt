@@ -13,7 +13,7 @@ returns-in-Some-clause-takes c = λ records.
     inject-first old mid (record old.ready { inputs = mid.ready.inputs }) c.inject.new.running records c.in-Some.source c.inject.result
     c.first_injecting.ensures.others
     (subst (λ (found : Option ℕ). IsFirstWhere (CanInject old) found) c.in-Some.is c.first_injecting.ensures.first)
-    c.inject.ensures.undamaged (c.inject.ensures.takes records)
+    c.inject.ensures.undamaged c.inject.ensures.unfaulted (c.inject.ensures.takes records)
 
 pub returns-in-None-clause-takes : goal.returns-in-None-clause-takes
 returns-in-None-clause-takes c = λ records.

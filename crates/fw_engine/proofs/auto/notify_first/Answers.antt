@@ -29,7 +29,7 @@ returns-in_err-notify_of-clause-takes g c = λ sys state s none.
     from-err c.from_residual-in_err-notify_of.result c.in_err-notify_of.field-0.0 (λ (r : Result Stepped EngineFault). AnswersFirst sys state r new after)
     c.from_residual-in_err-notify_of.ensures.1
     (notify-err (Unit {0}) old c.first_notice.new.running new (g.K.Store.records c.args.store.now) after c.in-Some.notice.node c.in-Some.notice.at
-    c.in_err-notify_of.field-0.0 c.in_ok-notice.ensures.searched first.0 c.in_err-notify_of.ensures.takes sys state s none)
+    c.in_err-notify_of.field-0.0 c.in_ok-notice.ensures.searched first.0 first.1 c.in_err-notify_of.ensures.calls c.in_err-notify_of.ensures.takes sys state s none)
 
 pub returns-clause-takes : goal.returns-clause-takes
 returns-clause-takes g c =

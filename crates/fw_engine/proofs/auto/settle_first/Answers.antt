@@ -1,10 +1,14 @@
-use Rattle.std.proofs.Common.{Ok, subst}
+use Rattle.std.proofs.Common.{Ok, Result, subst}
 use Rattle.fw_flow.specs.declared.step.Step.TheVariants.{Progress}
 use Rattle.fw_stands.specs.LawsOfFirstSteps.{NoneToNotify, NoneToSettle}
 use Rattle.fw_stands.proofs.TakingLaws.{progress-next}
+use Rattle.fw_flow.specs.Dataflow.{Dataflow}
+use Rattle.fw_running.specs.declared.fault.EngineFault.{EngineFault}
 use Rattle.fw_running.specs.declared.stepped.Stepped.{Stepped}
-use Rattle.fw_running.specs.Steps.{TakesStep}
-use Rattle.fw_engine.proofs.TakenFirstLaws.{did-first, idle-later}
+use Rattle.fw_running.specs.Steps.{HasEager, TakesStep}
+use Rattle.fw_engine.specs.Searching.{TakesFirstAfter}
+use Rattle.fw_engine.proofs.FirstCallLaws.{progress-calls}
+use Rattle.fw_engine.proofs.TakenFirstLaws.{did-first, err-first, from-err, idle-later}
 use Rattle.fw_engine.proofs.auto.settle_first.Goals as goal
 
 pub returns-in-Did-clause-takes : goal.returns-in-Did-clause-takes
@@ -27,3 +31,20 @@ returns-in-Idle-clause-takes g c =
     (λ sys state none idle. record { earlier = none; progress = idle }) (λ sys state records. tt)
     (subst (λ (stepped : Stepped). TakesStep old before Progress (Ok stepped) mid after) c.in-Idle.is c.in_ok-effect.ensures.takes)
     (c.acknowledge_first.ensures.takes after)
+
+pub returns-in_err-effect-clause-takes : goal.returns-in_err-effect-clause-takes
+returns-in_err-effect-clause-takes g c =
+    let old = c.args.running.now in
+    let new = c.progress.new.running in
+    let before = g.K.Store.records c.args.store.now in
+    let after = g.K.Store.records c.progress.new.store in
+    from-err c.from_residual.result c.in_err-effect.field-0.0 (λ (r : Result Stepped EngineFault). TakesFirstAfter NoneToNotify old before r new after)
+    c.from_residual.ensures.1
+    (err-first NoneToNotify Progress old new before after c.in_err-effect.field-0.0 (λ sys state left. left)
+    (λ sys state s none failed.
+    let d = c.in_err-effect.ensures.enabled failed sys state s in
+    progress-calls sys state none d.0 d.1 d.2 (subst (λ (f : Dataflow). HasEager f) s.flow (c.in_err-effect.ensures.calls failed)))
+    c.in_err-effect.ensures.undamaged c.in_err-effect.ensures.takes)
+
+pub returns-in-Idle-clause-stored : goal.returns-in-Idle-clause-stored
+returns-in-Idle-clause-stored g c = c.acknowledge_first.ensures.stored (g.K.Store.records c.progress.new.store) c.progress.ensures.stored

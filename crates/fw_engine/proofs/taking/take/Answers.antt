@@ -95,10 +95,10 @@ pub returns-in-Notify-clause-calls : goal.returns-in-Notify-clause-calls
 returns-in-Notify-clause-calls g c = rw c.in-Notify.is c.notify.ensures.calls
 
 pub returns-in-Progress-clause-calls : goal.returns-in-Progress-clause-calls
-returns-in-Progress-clause-calls g c = rw c.in-Progress.is (λ e. tt)
+returns-in-Progress-clause-calls g c = rw c.in-Progress.is c.progress.ensures.calls
 
 pub returns-in-Checkpoint-clause-calls : goal.returns-in-Checkpoint-clause-calls
-returns-in-Checkpoint-clause-calls g c = rw c.in-Checkpoint.is (λ e. tt)
+returns-in-Checkpoint-clause-calls g c = rw c.in-Checkpoint.is c.checkpoint.ensures.calls
 
 pub returns-in-Recover-clause-calls : goal.returns-in-Recover-clause-calls
 returns-in-Recover-clause-calls g c = rw c.in-Recover.is (λ e. tt)
@@ -108,3 +108,21 @@ returns-in-Collect-clause-calls g c = rw c.in-Collect.is (λ e. tt)
 
 pub returns-in-Persist-clause-stored : goal.returns-in-Persist-clause-stored
 returns-in-Persist-clause-stored g c = c.persist.ensures.stored (g.K.Store.records c.args.store.now) c.requires.stored
+
+pub returns-in-Deliver-clause-quiet : goal.returns-in-Deliver-clause-quiet
+returns-in-Deliver-clause-quiet g c = rw c.in-Deliver.is c.deliver.ensures.quiet
+
+pub returns-in-Notify-clause-quiet : goal.returns-in-Notify-clause-quiet
+returns-in-Notify-clause-quiet g c = rw c.in-Notify.is c.notify.ensures.quiet
+
+pub returns-in-Progress-clause-quiet : goal.returns-in-Progress-clause-quiet
+returns-in-Progress-clause-quiet g c = rw c.in-Progress.is c.progress.ensures.quiet
+
+pub returns-in-Checkpoint-clause-quiet : goal.returns-in-Checkpoint-clause-quiet
+returns-in-Checkpoint-clause-quiet g c = rw c.in-Checkpoint.is c.checkpoint.ensures.quiet
+
+pub returns-in-Recover-clause-quiet : goal.returns-in-Recover-clause-quiet
+returns-in-Recover-clause-quiet g c = rw c.in-Recover.is (λ none. absurd (none tt))
+
+pub returns-in-Collect-clause-quiet : goal.returns-in-Collect-clause-quiet
+returns-in-Collect-clause-quiet g c = rw c.in-Collect.is (λ none. absurd (none tt))

@@ -1,3 +1,5 @@
+use Rattle.fw_record.specs.declared.record.Record.TheVariants as tagged
+use Rattle.fw_running.proofs.AnswerLaws.{asking-tells}
 use Rattle.fw_events.proofs.TakenShapes.{shaped-asked}
 use Rattle.fw_events.proofs.logging.log_event.Goals as goal
 
@@ -6,3 +8,8 @@ returns-clause-shaped g c =
     shaped-asked c.ask.result c.args.running.now c.ask.new.self c.args.node c.args.event c.no_stamps.result
     (g.K.Store.records c.args.store.now) (g.K.Store.records c.ask.new.store)
     c.requires.shaped c.ask.ensures.others c.requires.stamp c.ask.ensures.asked c.ask.ensures.stays
+
+pub returns-clause-tells : goal.returns-clause-tells
+returns-clause-tells g c =
+    asking-tells c.ask.result (tagged.Event c.args.node c.args.event) c.no_stamps.result c.args.running.now.parts.keep.entries c.ask.new.self.parts.keep.entries
+    (g.K.Store.records c.args.store.now) (g.K.Store.records c.ask.new.store) c.ask.ensures.asked c.ask.ensures.stays

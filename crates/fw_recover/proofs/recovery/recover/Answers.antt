@@ -1,6 +1,7 @@
-use Rattle.std.proofs.Common.{Ok, sym, ap, subst, ◌∙◌}
+use Rattle.std.proofs.Common.{Ok, Option, is_some, sym, ap, subst, ◌∙◌}
 use Rattle.std.specs.List.{list_any}
 use Rattle.fw_flow.specs.declared.step.Step.TheVariants as steps
+use Rattle.fw_keep.specs.Stored.{Records}
 use Rattle.fw_running.specs.declared.stepped.Effect.TheVariants.{Cuts}
 use Rattle.fw_running.specs.declared.stepped.Stepped.TheVariants.{Did}
 use Rattle.fw_running.specs.Steps.{TakesStep}
@@ -37,3 +38,12 @@ returns-clause-takes g c =
     let some = some-down c.args.running.now.failed.items c.any_of.result (c.any_of.ensures ∙ ap (list_any (λ down. down)) c.deref.ensures.value) c.if-not-any_of.false in
     subst (TakesStep c.args.running.now records steps.Recover (Ok (Did (Cuts c.in_ok-choice.choice))) c.follow.new.running) (sym c.restore.ensures.stays)
     (recovery-done c.args.running.now c.follow.new.running records c.in_ok-choice.choice c.requires.shaped some c.in_ok-choice.ensures.of_state made)
+
+pub returns-in_err-restore-clause-tells : goal.returns-in_err-restore-clause-tells
+returns-in_err-restore-clause-tells g c = ap (λ (r : Option Records). is_some r) c.restore.ensures.stays
+
+pub returns-in_err-follow-clause-tells : goal.returns-in_err-follow-clause-tells
+returns-in_err-follow-clause-tells g c = ap (λ (r : Option Records). is_some r) c.restore.ensures.stays
+
+pub returns-clause-tells : goal.returns-clause-tells
+returns-clause-tells g c = ap (λ (r : Option Records). is_some r) c.restore.ensures.stays

@@ -1,5 +1,7 @@
 use Rattle.std.proofs.Common.{sym, subst}
 use Rattle.fw_model.specs.Offers.{IsRecordOf}
+use Rattle.fw_record.specs.declared.record.Record.TheVariants as tagged
+use Rattle.fw_running.proofs.AnswerLaws.{asking-tells}
 use Rattle.fw_settle.proofs.AskLaws.{asks-made}
 use Rattle.fw_settle.proofs.ShapeLaws.{shaped-answer}
 use Rattle.fw_settle.proofs.asking.ask_checkpoint.Goals as goal
@@ -17,3 +19,8 @@ returns-clause-asked g c =
     asks-made c.ask.result c.args.node c.args.front.now c.args.running.now c.ask.new.self (g.K.Store.records c.args.store.now) (g.K.Store.records c.ask.new.store)
     c.in_ok-checkpoint.checkpoint c.in_ok-stamps.stamps c.ask.ensures.asked c.in_ok-checkpoint.ensures (c.is_countable.ensures c.if-not-is_countable.false)
     (λ sys h e epochs legal t. c.in_ok-stamps.ensures.stamps sys h e epochs legal t)
+
+pub returns-clause-tells : goal.returns-clause-tells
+returns-clause-tells g c =
+    asking-tells c.ask.result (tagged.State c.in_ok-checkpoint.checkpoint) c.in_ok-stamps.stamps c.args.running.now.parts.keep.entries
+    c.ask.new.self.parts.keep.entries (g.K.Store.records c.args.store.now) (g.K.Store.records c.ask.new.store) c.ask.ensures.asked c.ask.ensures.stays

@@ -1,6 +1,6 @@
-use Rattle.std.proofs.Common.{◌≡◌, ◌+◌, rules, arith, Some, None, refl, subst}
+use Rattle.std.proofs.Common.{◌≡◌, ◌+◌, rules, arith, Some, None, Err, refl, sym, subst, ◌∙◌}
 use Rattle.fw_settle.specs.Settling.{IsFoundToSettle}
-use Rattle.fw_settle.proofs.SearchLaws.{HaveAskedUpTo, asking-first, asking-next, asking-all, keep-both}
+use Rattle.fw_settle.proofs.SearchLaws.{HaveAskedUpTo, asking-first, asking-next, asking-all, has_eager, keep-both}
 use Rattle.fw_settle.proofs.settling.ask_each.Goals as goal
 
 pub loop-next-init : goal.loop-next-init
@@ -9,6 +9,8 @@ loop-next-init g c = record {
   shaped = c.requires.shaped;
   stored = c.requires.stored;
   asked = asking-first c.args.running.now (g.K.Store.records c.args.store.now) c.grown_from-next.result c.grown_from-next.ensures;
+  tells = refl;
+  quiet = λ none. refl;
   never_falls = omega arith;
 }
 
@@ -29,6 +31,8 @@ loop-next-preserved g c =
       asked = asking-next old mid new before between after node c.grown_from-next-in-Some.result c.loop-next.invariant.others
           (subst (HaveAskedUpTo old mid before between) next c.loop-next.invariant.asked) c.in_ok-ask_if_eager.ensures.asked
           (subst (λ n. IsFoundToSettle new (n + 1) c.grown_from-next-in-Some.result) c.place.ensures c.grown_from-next-in-Some.ensures);
+      tells = c.ask_if_eager.ensures.tells ∙ c.loop-next.invariant.tells;
+      quiet = λ none. c.ask_if_eager.ensures.quiet (λ is. none (has_eager old mid node c.loop-next.invariant.others is)) ∙ c.loop-next.invariant.quiet none;
       never_falls = omega (arith, c.loop-next.invariant.never_falls, c.ask_if_eager.ensures.never_falls);
     }
 
@@ -40,3 +44,16 @@ returns-clause-asked g c =
     let next : c.loop-next.next ≡ None = search rules in
     asking-all old c.loop-next.running before after c.loop-next.invariant.others
     (subst (HaveAskedUpTo old c.loop-next.running before after) next c.loop-next.invariant.asked)
+
+pub returns-in_err-ask_if_eager-clause-tells : goal.returns-in_err-ask_if_eager-clause-tells
+returns-in_err-ask_if_eager-clause-tells g c = c.ask_if_eager.ensures.tells ∙ c.loop-next.invariant.tells
+
+pub returns-in_err-ask_if_eager-clause-calls : goal.returns-in_err-ask_if_eager-clause-calls
+returns-in_err-ask_if_eager-clause-calls g c = λ e.
+    let is : c.from_residual.result ≡ Err c.in_err-ask_if_eager.field-0.0 = search rules in
+    has_eager c.args.running.now c.loop-next.running c.in-Some.node c.loop-next.invariant.others (c.in_err-ask_if_eager.ensures.calls (sym is ∙ e))
+
+pub returns-in_err-ask_if_eager-clause-quiet : goal.returns-in_err-ask_if_eager-clause-quiet
+returns-in_err-ask_if_eager-clause-quiet g c = λ none.
+    c.ask_if_eager.ensures.quiet (λ is. none (has_eager c.args.running.now c.loop-next.running c.in-Some.node c.loop-next.invariant.others is))
+    ∙ c.loop-next.invariant.quiet none

@@ -1,7 +1,8 @@
-use Rattle.std.proofs.Common.{◌≤◌}
+use Rattle.std.proofs.Common.{◌≡◌, ◌≤◌, is_some}
 use Rattle.fw_keep.specs.Stored.{IsStored}
 use Rattle.fw_running.specs.Logging.{ChangesKeep}
 use Rattle.fw_running.specs.Shaped.{IsShaped}
+use Rattle.fw_running.specs.Steps.{HasEager}
 use Rattle.fw_settle.proofs.SearchLaws.{HaveAskedUpTo, left}
 use Rattle.fw_settle.proofs.settling.ask_each.Given as goal
 
@@ -11,6 +12,8 @@ invariant-loop-next g l = record {
   shaped : IsShaped l.running;
   stored : IsStored l.running.parts.keep (g.K.Store.records l.store);
   asked : HaveAskedUpTo l.fn.running l.running (g.K.Store.records l.fn.store) (g.K.Store.records l.store) l.next;
+  tells : is_some (g.K.Store.records l.store) ≡ is_some (g.K.Store.records l.fn.store);
+  quiet : (HasEager l.fn.running.flow → ⊥) → l.store ≡ l.fn.store;
   never_falls : g.K.Store.fault_count l.fn.store ≤ g.K.Store.fault_count l.store;
 }
 

@@ -21,7 +21,15 @@ pub returns-clause-faulted : goal.returns-clause-faulted
 returns-clause-faulted g c =
     let before = g.K.Store.records c.args.store.now in
     let after = g.K.Store.records c.take_first-stepped.new.store in
-    (first-left c.args.self.now.running before c.take_first-stepped.result c.take_first-stepped.new.running after c.take_first-stepped.ensures.takes)
+    (λ sys state s failed.
+    (first-left c.args.self.now.running before c.take_first-stepped.result c.take_first-stepped.new.running after c.take_first-stepped.ensures.takes sys state s failed).1)
+
+pub returns-clause-calls : goal.returns-clause-calls
+returns-clause-calls g c =
+    let before = g.K.Store.records c.args.store.now in
+    let after = g.K.Store.records c.take_first-stepped.new.store in
+    (λ sys state s failed.
+    (first-left c.args.self.now.running before c.take_first-stepped.result c.take_first-stepped.new.running after c.take_first-stepped.ensures.takes sys state s failed).0)
 
 pub returns-clause-unharmed : goal.returns-clause-unharmed
 returns-clause-unharmed g c = λ id. no_damage c.take_first-stepped.result id c.take_first-stepped.ensures.undamaged

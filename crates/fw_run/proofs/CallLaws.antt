@@ -1,112 +1,235 @@
 -- From the work of a command and what was printed of it to what a call promises.
-use Rattle.std.proofs.Common.{◌≡◌, inl, inr, ◌⊎◌, ℕ, ◌<◌, ◌≤◌, List, [], Option, Some, None, Err, refl, sym, ◌∙◌, ap, subst, arith, lit<}
-use Rattle.std.proofs.lemmas.Bool.{false≢true}
+use Rattle.std.proofs.Common.{◌≡◌, inl, inr, ◌⊎◌, ℕ, ◌<◌, ◌≤◌, false, List, [], Option, Some, None, Err, refl, sym, ◌∙◌, ap, subst, arith, lit<}
+use Rattle.std.proofs.lemmas.Bool.{cases_Bool, false≢true}
 use Rattle.std.proofs.lemmas.Option.{same_Some}
-use Rattle.std.specs.Prelude.{IsSome}
+use Rattle.std.specs.Prelude.{IsSome, option_map, option_and_then}
 use Rattle.fw_outside.specs.declared.fault.OutFault.{OutFault}
+use Rattle.fw_outside.specs.declared.fault.OutFault.TheVariants as output
 use Rattle.fw_outside.specs.Outside.{SinkView}
 use Rattle.fw_lines.specs.declared.refusal.Refusal.{Refusal}
 use Rattle.fw_flow.specs.Dataflow.{Dataflow, System, system_of}
 use Rattle.fw_schedule.specs.declared.item.Item.{Item}
+use Rattle.fw_generate.specs.Laws.{AreAccepted, size_limit}
+use Rattle.fw_generate.specs.Texts.{Texts}
+use Rattle.fw_running.specs.declared.fault.EngineFault.TheVariants as engine
 use Rattle.fw_run.proofs.DecidedLaws.{texts-decided}
+use Rattle.fw_run.proofs.Numbers.{few_refusal_numbers}
 use Rattle.fw_run.proofs.TextLaws.{one_first_refusal, one_first_of_two, accepted_or_refused, accepted_or_first_of_two, flow_or_refused, one_flow_refusal}
 use Rattle.fw_run.specs.declared.fault.RunFault.{RunFault}
+use Rattle.fw_run.specs.declared.fault.RunFault.TheVariants.{Out, Engine}
+use Rattle.fw_run.specs.declared.reading.Fed.{Fed}
 use Rattle.fw_run.specs.declared.reading.Job.{Job}
 use Rattle.fw_run.specs.declared.status.Status.{Status}
 use Rattle.fw_run.specs.declared.status.Status.TheVariants.{Done, BadWords, Refused, ReadFault, WriteFault, StoreFault, Damaged, NoMemory}
+use Rattle.fw_run.specs.declared.words.GenerateWords.{GenerateWords}
 use Rattle.fw_run.specs.declared.work.Work.{Work}
-use Rattle.fw_run.specs.declared.work.Work.TheVariants.{Run, Denote, Check}
-use Rattle.fw_run.specs.Call.{Call, HasTexts, Accepts, Refuses, Prints, HasAccepted, HasRefused, IsPrintout, PrintsPart, IsRunOf, KeepsFolder, KeepsStore, AnswersTexts, IsRunEnd, IsRefusalEnd}
+use Rattle.fw_run.specs.declared.work.Work.TheVariants.{Run, Endure, Generate, Denote, Check}
+use Rattle.fw_run.specs.Call.{Call, HasTexts, Accepts, Refuses, Prints, AsksNoMore, HasAccepted, HasRefused, IsPrintout, PrintsPart, IsRunOf, KeepsFolder, KeepsStore, AnswersTexts, IsRunEnd, IsRefusalEnd}
 use Rattle.fw_run.specs.DenotationText.{PrintsDenotation}
-use Rattle.fw_run.specs.Fault.{out_fault}
-use Rattle.fw_run.specs.Reading.{IsJob}
+use Rattle.fw_run.specs.Enduring.{PrintsEndured, RoseBy}
+use Rattle.fw_run.specs.Fault.{out_fault, status_of}
+use Rattle.fw_run.specs.Reading.{IsJob, IsGenerated, IsFed}
 use Rattle.fw_run.specs.Status.{IsTellingOf, status_number}
-use Rattle.fw_run.specs.Texts.{Texts, spelled_system, spelled_items}
-use Rattle.fw_run.specs.Trusting.{PrintsKnown}
-use Rattle.fw_run.specs.Words.{Command, TextNames, run, denote, check}
-use Rattle.fw_run.specs.Work.{IsWork, IsRun, IfRun, IsTextOfWork, PrintsWork}
+use Rattle.fw_run.specs.Tallies.{PrintsSummary}
+use Rattle.fw_run.specs.Texts.{HasFlow, spelled_system, spelled_items}
+use Rattle.fw_run.specs.Trusting.{AreKnown, PrintsKnown}
+use Rattle.fw_run.specs.Words.{Command, TextNames, SystemNames, Seeded, run, endure, generate, denote, check, Manner, by_lines, through_faults, in_one_line, manner_of, asks_folder, seeded_in}
+use Rattle.fw_run.specs.Work.{IsWork, IsRun, IfRun, IsTextOfWork, PrintsWork, IsDamageIn, StaysUnlessRun}
 use Rattle.fw_run.specs.Writing.{IsCutOff, WritesText}
 
 -- words are one command
 same_command : (command : Option Command) (one other : Command) → command ≡ Some one → command ≡ Some other → one ≡ other
 same_command command one other e f = same_Some one other (sym e ∙ f)
 
+-- ---- the work of a command
+
+-- what is true of each work with its command is true of a work of a command
+by_work : (told : Option (List ℕ → Option (List ℕ))) (P : Command → Work → Type 0)
+    → ((names : TextNames) (job : Job) → IsJob told names job → P (run names) (Run job))
+    → ((names : TextNames) (job : Job) → IsJob told names job → P (endure names) (Endure job))
+    → ((seeded : Seeded) (words : GenerateWords) (job : Job) → seeded ≡ seeded_in words → seeded.size ≤ size_limit → IsGenerated seeded job → P (generate seeded) (Generate words job))
+    → ((names : SystemNames) (fed : Fed) → IsFed told names fed → P (denote names) (Denote fed))
+    → ((name : List ℕ) (flow : Dataflow) → HasFlow told name flow → P (check name) (Check flow))
+    → (command : Command) (work : Work) → IsWork told command work → P command work
+by_work told P runs endures generates denotes checks (run names) (Run job) j = runs names job j
+by_work told P runs endures generates denotes checks (run names) (Endure job) j = absurd j
+by_work told P runs endures generates denotes checks (run names) (Generate words job) j = absurd j
+by_work told P runs endures generates denotes checks (run names) (Denote fed) j = absurd j
+by_work told P runs endures generates denotes checks (run names) (Check flow) j = absurd j
+by_work told P runs endures generates denotes checks (endure names) (Run job) j = absurd j
+by_work told P runs endures generates denotes checks (endure names) (Endure job) j = endures names job j
+by_work told P runs endures generates denotes checks (endure names) (Generate words job) j = absurd j
+by_work told P runs endures generates denotes checks (endure names) (Denote fed) j = absurd j
+by_work told P runs endures generates denotes checks (endure names) (Check flow) j = absurd j
+by_work told P runs endures generates denotes checks (generate seeded) (Run job) j = absurd j
+by_work told P runs endures generates denotes checks (generate seeded) (Endure job) j = absurd j
+by_work told P runs endures generates denotes checks (generate seeded) (Generate words job) j = generates seeded words job j.0 j.1 j.2
+by_work told P runs endures generates denotes checks (generate seeded) (Denote fed) j = absurd j
+by_work told P runs endures generates denotes checks (generate seeded) (Check flow) j = absurd j
+by_work told P runs endures generates denotes checks (denote names) (Run job) j = absurd j
+by_work told P runs endures generates denotes checks (denote names) (Endure job) j = absurd j
+by_work told P runs endures generates denotes checks (denote names) (Generate words job) j = absurd j
+by_work told P runs endures generates denotes checks (denote names) (Denote fed) j = denotes names fed j
+by_work told P runs endures generates denotes checks (denote names) (Check flow) j = absurd j
+by_work told P runs endures generates denotes checks (check name) (Run job) j = absurd j
+by_work told P runs endures generates denotes checks (check name) (Endure job) j = absurd j
+by_work told P runs endures generates denotes checks (check name) (Generate words job) j = absurd j
+by_work told P runs endures generates denotes checks (check name) (Denote fed) j = absurd j
+by_work told P runs endures generates denotes checks (check name) (Check flow) j = checks name flow j
+
+-- what is true of a system and items is true of those that texts spell, if they do
+of_texts : (flow : Dataflow) (texts : Texts) (sys : System) (items : List Item) (P : System → List Item → Type 0) → sys ≡ spelled_system flow texts → items ≡ spelled_items flow texts
+    → P sys items → P (spelled_system flow texts) (spelled_items flow texts)
+of_texts flow texts sys items P e f p = subst (λ (i : List Item). P (spelled_system flow texts) i) f (subst (λ (s : System). P s items) e p)
+
 -- ---- what was printed
 
--- what is true of a job's system and items is true of those that its texts spell
-of_texts : (told : Option (List ℕ → Option (List ℕ))) (names : TextNames) (job : Job) (j : IsJob told names job) (P : System → List Item → Type 0) → P (system_of job.flow job.batches) job.items
-    → P (spelled_system job.flow j.texts) (spelled_items job.flow j.texts)
-of_texts told names job j P p =
-    subst (λ (items : List Item). P (spelled_system job.flow j.texts) items) j.items (subst (λ (sys : System). P sys job.items) j.system p)
+-- a command has texts that are there and accepted, and prints of them what its work prints
+record IsOfTexts (Tells : Type 0) (IsSo : ℕ → List ℕ → Type 0) (told : Option (List ℕ → Option (List ℕ))) (command : Command) (work : Work) : Type 0 where
+  pub texts : Texts
+  pub flow : Dataflow
+  pub there : HasTexts told command texts
+  pub accepted : Accepts command texts flow
+  pub prints : (printed : List ℕ) → IsTextOfWork Tells IsSo work printed → Prints Tells IsSo command texts flow printed
 
--- what a command does of texts that are there and accepted
-told_of_work : (Tells : Type 0) (told : Option (List ℕ → Option (List ℕ))) (command : Command) (work : Work) → IsWork told command work
-    → (texts : Texts) × (flow : Dataflow) × HasTexts told command texts × Accepts command texts flow × ((printed : List ℕ) → IsTextOfWork Tells work printed → Prints Tells command texts flow printed)
-told_of_work Tells told (run names) (Run job) j = (
-  j.texts,
-  job.flow,
-  j.there,
-  j.accepted,
-  λ printed p. of_texts told names job j (λ sys items. PrintsKnown Tells sys items printed) p,
-)
-told_of_work Tells told (run names) (Denote fed) j = absurd j
-told_of_work Tells told (run names) (Check flow) j = absurd j
-told_of_work Tells told (denote names) (Run job) j = absurd j
-told_of_work Tells told (denote names) (Denote fed) j = (j.texts, fed.flow, j.there, j.accepted, λ printed p. subst (λ sys. PrintsDenotation sys printed) j.system p)
-told_of_work Tells told (denote names) (Check flow) j = absurd j
-told_of_work Tells told (check name) (Run job) j = absurd j
-told_of_work Tells told (check name) (Denote fed) j = absurd j
-told_of_work Tells told (check name) (Check flow) h =
-    let texts : Texts = record { flow = h.text; inputs = []; schedule = [] } in
-    (texts, flow, h.there, h.so, λ printed p. p)
+texts_of_work : (Tells : Type 0) (IsSo : ℕ → List ℕ → Type 0) (told : Option (List ℕ → Option (List ℕ))) (command : Command) (work : Work) → IsWork told command work
+    → IsOfTexts Tells IsSo told command work
+texts_of_work Tells IsSo told = by_work told (λ command work. IsOfTexts Tells IsSo told command work)
+    (λ names job j. record {
+      texts = j.texts;
+      flow = job.flow;
+      there = j.there;
+      accepted = j.accepted;
+      prints = λ printed. of_texts job.flow j.texts (system_of job.flow job.batches) job.items (λ sys items. PrintsKnown Tells sys items printed) j.system j.items;
+    })
+    (λ names job j. record {
+      texts = j.texts;
+      flow = job.flow;
+      there = j.there;
+      accepted = j.accepted;
+      prints = λ printed. of_texts job.flow j.texts (system_of job.flow job.batches) job.items (λ sys items. PrintsEndured Tells IsSo sys items printed) j.system j.items;
+    })
+    (λ seeded words job e size j. record {
+      texts = j.texts;
+      flow = job.flow;
+      there = record { drawn = j.drawn; size = size };
+      accepted = j.accepted;
+      prints = λ printed p. of_texts job.flow j.texts (system_of job.flow job.batches) job.items
+          (λ sys items. AreKnown Tells sys items → PrintsSummary sys items seeded printed) j.system j.items
+          (subst (λ (s : Seeded). AreKnown Tells (system_of job.flow job.batches) job.items → PrintsSummary (system_of job.flow job.batches) job.items s printed) (sym e) p);
+    })
+    (λ names fed j. record {
+      texts = j.texts;
+      flow = fed.flow;
+      there = j.there;
+      accepted = j.accepted;
+      prints = λ printed p. subst (λ (sys : System). PrintsDenotation sys printed) j.system p;
+    })
+    (λ name flow h. record {
+      texts = record { flow = h.text; inputs = []; schedule = [] };
+      flow = flow;
+      there = h.there;
+      accepted = h.so;
+      prints = λ printed p. p;
+    })
 
 -- what a work prints is what the call prints that asked for it
-printout_of_work : (Tells : Type 0) (call : Call) (command : Command) (work : Work) (printed : List ℕ) → call.command ≡ Some command → IsWork call.told command work → IsTextOfWork Tells work printed
-    → IsPrintout Tells call printed
-printout_of_work Tells call command work printed e j p =
-    let t = told_of_work Tells call.told command work j in
+printout_of_work : (Tells : Type 0) (IsSo : ℕ → List ℕ → Type 0) (call : Call) (command : Command) (work : Work) (printed : List ℕ) → call.command ≡ Some command → IsWork call.told command work
+    → IsTextOfWork Tells IsSo work printed → IsPrintout Tells IsSo call printed
+printout_of_work Tells IsSo call command work printed e j p =
+    let t = texts_of_work Tells IsSo call.told command work j in
     record {
-      texts = t.0;
-      accepted = record { command = command; words = e; there = t.2; flow = t.1; accepted = t.3 };
-      text = t.4 printed p;
+      texts = t.texts;
+      accepted = record { command = command; words = e; there = t.there; flow = t.flow; accepted = t.accepted };
+      text = t.prints printed p;
     }
 
 -- and so is what was written of it
-pub prints : (Tells : Type 0) (call : Call) (command : Command) (work : Work) (IsPut : List ℕ → Type 0) → call.command ≡ Some command → IsWork call.told command work
-    → WritesText (IsTextOfWork Tells work) IsPut → WritesText (IsPrintout Tells call) IsPut
-prints Tells call command work IsPut e j p = record { printed = p.printed; text = printout_of_work Tells call command work p.printed e j p.text; written = p.written }
+pub prints : (Tells : Type 0) (IsSo : ℕ → List ℕ → Type 0) (call : Call) (command : Command) (work : Work) (IsPut : List ℕ → Type 0) → call.command ≡ Some command → IsWork call.told command work
+    → WritesText (IsTextOfWork Tells IsSo work) IsPut → WritesText (IsPrintout Tells IsSo call) IsPut
+prints Tells IsSo call command work IsPut e j p =
+    record { printed = p.printed; text = printout_of_work Tells IsSo call command work p.printed e j p.text; written = p.written }
 
 -- what was cut off by a fault, as the output knows it
-pub prints_part : (T : Type 0) (Tells : Type 0) (call : Call) (command : Command) (work : Work) (fault : RunFault) (of_output : OutFault) (before after : SinkView) → call.command ≡ Some command
-    → IsWork call.told command work → out_fault fault ≡ of_output → PrintsWork {T = T} Tells work (Err fault) before after → PrintsPart Tells call of_output before after
-prints_part T Tells call command work fault of_output before after e j f p =
-    subst (λ (out : OutFault). PrintsPart Tells call out before after) f (prints Tells call command work (λ printed. IsCutOff printed (out_fault fault) before after) e j p)
+pub prints_part : (T : Type 0) (Tells : Type 0) (call : Call) (command : Command) (work : Work) (count last : ℕ) (fault : RunFault) (of_output : OutFault) (before after : SinkView) → call.command ≡ Some command
+    → IsWork call.told command work → out_fault fault ≡ of_output → PrintsWork {T = T} Tells (λ faults others. RoseBy count last faults) work (Err fault) before after
+    → PrintsPart Tells call count last of_output before after
+prints_part T Tells call command work count last fault of_output before after e j f p =
+    subst (λ (out : OutFault). PrintsPart Tells call count last out before after) f
+    (prints Tells (λ faults others. RoseBy count last faults) call command work (λ printed. IsCutOff printed (out_fault fault) before after) e j p)
 
--- what is true of a run is true of the call that asked for it
-pub run_of-call : (call : Call) (command : Command) (work : Work) (P : System → List Item → Type 0) → call.command ≡ Some command → IsWork call.told command work → IsRun work P → IsRunOf call P
-run_of-call call (run names) (Run job) P e j p =
-    record { names = names; words = e; texts = j.texts; there = j.there; flow = job.flow; accepted = j.accepted; so = of_texts call.told names job j P p }
-run_of-call call (run names) (Denote fed) P e j p = absurd p
-run_of-call call (run names) (Check flow) P e j p = absurd p
-run_of-call call (denote names) (Run job) P e j p = absurd j
-run_of-call call (denote names) (Denote fed) P e j p = absurd p
-run_of-call call (denote names) (Check flow) P e j p = absurd p
-run_of-call call (check name) (Run job) P e j p = absurd j
-run_of-call call (check name) (Denote fed) P e j p = absurd p
-run_of-call call (check name) (Check flow) P e j p = absurd p
+-- ---- runs
 
--- and where the call is a run, this is true of it if it is of each run
-left_of-command : (call : Call) (command : Command) (work : Work) (P : System → List Item → Type 0) (names : TextNames) → call.command ≡ Some command → command ≡ run names
-    → IsWork call.told command work → IfRun work P → IsRunOf call P
-left_of-command call (run others) (Run job) P names e f j p = run_of-call call (run others) (Run job) P e j p
-left_of-command call (run others) (Denote fed) P names e f j p = absurd j
-left_of-command call (run others) (Check flow) P names e f j p = absurd j
-left_of-command call (denote others) work P names e f j p = absurd (cc)
-left_of-command call (check other) work P names e f j p = absurd (cc)
+-- what is true of a work that takes steps is true of the call that asked for it
+pub run_of-call : (call : Call) (command : Command) (work : Work) (P : Manner → System → List Item → Type 0) → call.command ≡ Some command → IsWork call.told command work → IsRun work P → IsRunOf call P
+run_of-call call command work P e j = by_work call.told (λ command work. call.command ≡ Some command → IsRun work P → IsRunOf call P)
+    (λ names job j e p. record {
+      command = run names;
+      words = e;
+      manner = by_lines;
+      takes = refl;
+      texts = j.texts;
+      there = j.there;
+      flow = job.flow;
+      accepted = j.accepted;
+      so = of_texts job.flow j.texts (system_of job.flow job.batches) job.items (P by_lines) j.system j.items p;
+    })
+    (λ names job j e p. record {
+      command = endure names;
+      words = e;
+      manner = through_faults;
+      takes = refl;
+      texts = j.texts;
+      there = j.there;
+      flow = job.flow;
+      accepted = j.accepted;
+      so = of_texts job.flow j.texts (system_of job.flow job.batches) job.items (P through_faults) j.system j.items p;
+    })
+    (λ seeded words job same size j e p. record {
+      command = generate seeded;
+      words = e;
+      manner = in_one_line seeded;
+      takes = refl;
+      texts = j.texts;
+      there = record { drawn = j.drawn; size = size };
+      flow = job.flow;
+      accepted = j.accepted;
+      so = of_texts job.flow j.texts (system_of job.flow job.batches) job.items (P (in_one_line seeded)) j.system j.items
+          (subst (λ (s : Seeded). P (in_one_line s) (system_of job.flow job.batches) job.items) (sym same) p);
+    })
+    (λ names fed j e p. absurd p)
+    (λ name flow h e p. absurd p)
+    command work j e
 
-pub left_of-call : (call : Call) (command : Command) (work : Work) (P : System → List Item → Type 0) → call.command ≡ Some command → IsWork call.told command work → IfRun work P
-    → (names : TextNames) → call.command ≡ Some (run names) → IsRunOf call P
-left_of-call call command work P e j p names f = left_of-command call command work P names e (same_command call.command command (run names) e f) j p
+-- what a work leaves that takes steps it leaves in the call
+left_of-command : (call : Call) (command : Command) (work : Work) (P : Manner → System → List Item → Type 0) → IsWork call.told command work → call.command ≡ Some command
+    → IsSome (manner_of command) → IfRun work P → IsRunOf call P
+left_of-command call command work P = by_work call.told (λ command work. call.command ≡ Some command → IsSome (manner_of command) → IfRun work P → IsRunOf call P)
+    (λ names job j e s. run_of-call call (run names) (Run job) P e j)
+    (λ names job j e s. run_of-call call (endure names) (Endure job) P e j)
+    (λ seeded words job same size j e s. run_of-call call (generate seeded) (Generate words job) P e (same, size, j))
+    (λ names fed j e s p. absurd (false≢true s))
+    (λ name flow h e s p. absurd (false≢true s))
+    command work
+
+pub left_of-call : (call : Call) (command : Command) (work : Work) (P : Manner → System → List Item → Type 0) → call.command ≡ Some command → IsWork call.told command work → IfRun work P
+    → (asked : Command) → call.command ≡ Some asked → IsSome (manner_of asked) → IsRunOf call P
+left_of-call call command work P e j p asked f s =
+    left_of-command call command work P j e (subst (λ (c : Command). IsSome (manner_of c)) (same_command call.command asked command f e) s) p
+
+-- work that takes no steps leaves the store as it is
+stays_unless_run : {K : Type 0} (told : Option (List ℕ → Option (List ℕ))) (command : Command) (work : Work) (before after : K) → IsWork told command work
+    → manner_of command ≡ None → StaysUnlessRun work before after → after ≡ before
+stays_unless_run told command work before after = by_work told (λ command work. manner_of command ≡ None → StaysUnlessRun work before after → after ≡ before)
+    (λ names job j n s. absurd (some by_lines n))
+    (λ names job j n s. absurd (some through_faults n))
+    (λ seeded words job same size j n s. absurd (some (in_one_line seeded) n))
+    (λ names fed j n s. s)
+    (λ name flow h n s. s)
+    command work
+  where
+    some : (manner : Manner) → Some manner ≡ None → ⊥
+    some manner e = absurd (cc)
 
 -- a status that is not one of those before a run
 abbrev pub IsNotBefore : Status → Type 0
@@ -116,6 +239,35 @@ not_before : (n : ℕ) → (n < 2) ⊎ (6 < n) → 2 ≤ n → n ≤ 6 → ⊥
 not_before n (inl less) least most = absurd (omega (arith, less, least))
 not_before n (inr more) least most = absurd (omega (arith, more, most))
 
+-- the store, once the work was printed
+pub store_kept : {K : Type 0} (told : Option (List ℕ → Option (List ℕ))) (command : Option Command) (asked : Command) (work : Work) (status : Status) (before after : K)
+    → command ≡ Some asked → IsWork told asked work → StaysUnlessRun work before after → IsNotBefore status → KeepsStore command status before after
+store_kept told command asked work status before after e j s late = record {
+  no_run = λ n. stays_unless_run told asked work before after j (sym (ap (λ c. option_and_then manner_of c) e) ∙ n) s;
+  not_begun = λ least most. absurd (not_before (status_number status) late least most);
+}
+
+-- a status that tells a fault is not one of those before a run
+pub late_fault : (f : RunFault) → 6 < status_number (status_of f)
+late_fault (Out output.Failed) = lit< tt
+late_fault (Out output.NoMemory) = lit< tt
+late_fault (Engine engine.StoreFault) = lit< tt
+late_fault (Engine (engine.Damaged id)) = lit< tt
+late_fault (Engine engine.NoMemory) = lit< tt
+
+-- the folder, once the texts were read
+pub folder_read : {F : Type 0} (texts : F → Option (List ℕ → Option (List ℕ))) (fetch_count : F → ℕ) (command : Option Command) (asked : Command) (status : Status) (before after : F)
+    → command ≡ Some asked → texts after ≡ texts before → (asks_folder asked ≡ false → after ≡ before) → AsksNoMore (texts before) asked (fetch_count before) (fetch_count after)
+    → KeepsFolder texts fetch_count command status before after
+folder_read texts fetch_count command asked status before after e stay stays more = record {
+  texts_stay = stay;
+  nothing_read = λ not_asked. elim (cases_Bool (asks_folder asked)) [
+    | inl asks ↦ absurd (not_asked (ap (λ c. option_map asks_folder c) e ∙ ap Some asks))
+    | inr asks_not ↦ stays asks_not
+  ];
+  asked_no_more = λ other f. inr (subst (λ (c : Command). AsksNoMore (texts before) c (fetch_count before) (fetch_count after)) (same_command command asked other e f) more);
+}
+
 -- ---- one answer
 
 -- where the folder tells its texts, a command does not accept some and refuse one
@@ -123,6 +275,8 @@ accepts_and_refuses : (told : Option (List ℕ → Option (List ℕ))) (command 
     → Refuses told command refusal → ⊥
 accepts_and_refuses None command texts flow refusal s t a f = absurd (false≢true s)
 accepts_and_refuses (Some folder) (run names) texts flow refusal s t a f = accepted_or_refused folder names texts flow refusal t a f
+accepts_and_refuses (Some folder) (endure names) texts flow refusal s t a f = accepted_or_refused folder names texts flow refusal t a f
+accepts_and_refuses (Some folder) (generate seeded) texts flow refusal s t a f = absurd f
 accepts_and_refuses (Some folder) (denote names) texts flow refusal s t a f = accepted_or_first_of_two folder names texts flow refusal t a f
 accepts_and_refuses (Some folder) (check name) texts flow refusal s t a f = flow_or_refused folder name texts.flow flow refusal t a f
 
@@ -130,6 +284,8 @@ accepts_and_refuses (Some folder) (check name) texts flow refusal s t a f = flow
 refuses_once : (told : Option (List ℕ → Option (List ℕ))) (command : Command) (one other : Refusal) → IsSome told → Refuses told command one → Refuses told command other → one ≡ other
 refuses_once None command one other s f g = absurd (false≢true s)
 refuses_once (Some folder) (run names) one other s f g = one_first_refusal folder names one other f g
+refuses_once (Some folder) (endure names) one other s f g = one_first_refusal folder names one other f g
+refuses_once (Some folder) (generate seeded) one other s f g = absurd f
 refuses_once (Some folder) (denote names) one other s f g = one_first_of_two folder names one other f g
 refuses_once (Some folder) (check name) one other s f g = one_flow_refusal folder name one other f g
 
@@ -176,9 +332,25 @@ pub record IsToldOf (Tells : Type 0) (call : Call) (status : Status) : Type 0 wh
   pub store : status ≡ StoreFault → (texts : Texts) × HasAccepted call texts
   pub damaged : (id : ℕ) → status ≡ Damaged id → ((texts : Texts) × HasAccepted call texts) × (Tells → ⊥)
 
+-- a command that takes steps of accepted texts accepts them
+accepts_run : (command : Command) (manner : Manner) (texts : Texts) (flow : Dataflow) → manner_of command ≡ Some manner → AreAccepted texts flow → Accepts command texts flow
+accepts_run (run names) manner texts flow e a = a
+accepts_run (endure names) manner texts flow e a = a
+accepts_run (generate seeded) manner texts flow e a = a
+accepts_run (denote names) manner texts flow e a = absurd (cc)
+accepts_run (check name) manner texts flow e a = absurd (cc)
+
 -- a run has accepted texts
-pub accepted_of-run : (call : Call) (P : System → List Item → Type 0) → IsRunOf call P → (texts : Texts) × HasAccepted call texts
-accepted_of-run call P r = (r.texts, record { command = run r.names; words = r.words; there = r.there; flow = r.flow; accepted = r.accepted })
+pub accepted_of-run : (call : Call) (P : Manner → System → List Item → Type 0) → IsRunOf call P → (texts : Texts) × HasAccepted call texts
+accepted_of-run call P r =
+    (r.texts, record { command = r.command; words = r.words; there = r.there; flow = r.flow; accepted = accepts_run r.command r.manner r.texts r.flow r.takes r.accepted })
+
+-- a damaged record ends a run only where the store does not tell its records
+pub untold_of-damage : (Tells : Type 0) (count last id : ℕ) (given : Option (ℕ × List ℕ)) (before after : SinkView) (manner : Manner) (sys : System) (items : List Item)
+    → IsDamageIn Tells count last id given before after manner sys items → Tells → ⊥
+untold_of-damage Tells count last id given before after by_lines sys items d = d.untold
+untold_of-damage Tells count last id given before after through_faults sys items d = d.untold
+untold_of-damage Tells count last id given before after (in_one_line seeded) sys items d = d.untold
 
 refuses : (Tells : Type 0) (call : Call) (status : Status) → IsToldOf Tells call status → (refusal : Refusal) → IsSome call.told → HasRefused call refusal → IsRefusalEnd refusal status
 refuses Tells call Done s refusal tells first = let p = s.done refl in absurd (accepted_and_refused call p.0 refusal tells p.1 first)
@@ -214,21 +386,55 @@ texts-answered Tells call status result told s = record { decided = texts-decide
 
 -- ---- what was told
 
--- a refusal that is answered is the one that was
-pub told_refused : (status result : Status) (refusal : Refusal) → IsTellingOf status result → result ≡ Refused refusal → status ≡ Refused refusal
-told_refused status result refusal (inl e) f = sym e ∙ f
-told_refused status result refusal (inr t) f = absurd (memory (sym t.1 ∙ f))
-  where
-    memory : NoMemory ≡ Refused refusal → ⊥
-    memory e = absurd (cc)
+-- a status that is answered is the one that was, unless it is that of want of memory
+told_other : (status result wanted : Status) → (wanted ≡ NoMemory → ⊥) → IsTellingOf status result → result ≡ wanted → status ≡ wanted
+told_other status result wanted other (inl e) f = sym e ∙ f
+told_other status result wanted other (inr t) f = absurd (other (sym f ∙ t.1))
 
--- and so is damage
-pub told_damaged : (status result : Status) (id : ℕ) → IsTellingOf status result → result ≡ Damaged id → status ≡ Damaged id
-told_damaged status result id (inl e) f = sym e ∙ f
-told_damaged status result id (inr t) f = absurd (memory (sym t.1 ∙ f))
+pub told_done : (status result : Status) → IsTellingOf status result → result ≡ Done → status ≡ Done
+told_done status result = told_other status result Done other
   where
-    memory : NoMemory ≡ Damaged id → ⊥
-    memory e = absurd (cc)
+    other : Done ≡ NoMemory → ⊥
+    other e = absurd (cc)
+
+pub told_write_fault : (status result : Status) → IsTellingOf status result → result ≡ WriteFault → status ≡ WriteFault
+told_write_fault status result = told_other status result WriteFault other
+  where
+    other : WriteFault ≡ NoMemory → ⊥
+    other e = absurd (cc)
+
+pub told_store_fault : (status result : Status) → IsTellingOf status result → result ≡ StoreFault → status ≡ StoreFault
+told_store_fault status result = told_other status result StoreFault other
+  where
+    other : StoreFault ≡ NoMemory → ⊥
+    other e = absurd (cc)
+
+pub told_refused : (status result : Status) (refusal : Refusal) → IsTellingOf status result → result ≡ Refused refusal → status ≡ Refused refusal
+told_refused status result refusal = told_other status result (Refused refusal) other
+  where
+    other : Refused refusal ≡ NoMemory → ⊥
+    other e = absurd (cc)
+
+pub told_damaged : (status result : Status) (id : ℕ) → IsTellingOf status result → result ≡ Damaged id → status ≡ Damaged id
+told_damaged status result id = told_other status result (Damaged id) other
+  where
+    other : Damaged id ≡ NoMemory → ⊥
+    other e = absurd (cc)
+
+-- where there was no memory, for the run or for its line, nothing was written or first bytes
+pub told_no_memory : {O : Type 0} (P : Type 0) (status result : Status) (before after : O) → IsTellingOf status result → result ≡ NoMemory
+    → (status ≡ NoMemory → (after ≡ before) ⊎ P) → (status_number status ≤ 6 → (status ≡ Done) ⊎ (after ≡ before)) → ((id : ℕ) → status ≡ Damaged id → P)
+    → (after ≡ before) ⊎ P
+told_no_memory P status result before after (inl e) f of_memory nothing_out of_damage = of_memory (sym e ∙ f)
+told_no_memory P status result before after (inr (inl (refusal, e), t)) f of_memory nothing_out of_damage =
+    elim (nothing_out (subst (λ (s : Status). status_number s ≤ 6) (sym e) (omega (arith, few_refusal_numbers refusal.code)))) [
+      | inl done ↦ absurd (refused (sym e ∙ done))
+      | inr same ↦ inl same
+    ]
+  where
+    refused : Refused refusal ≡ Done → ⊥
+    refused h = absurd (cc)
+told_no_memory P status result before after (inr (inr (id, e), t)) f of_memory nothing_out of_damage = inr (of_damage id e)
 
 -- the store, once the status is told
 pub store_told : {K : Type 0} (command : Option Command) (status result : Status) (before after : K) → IsTellingOf status result → KeepsStore command status before after

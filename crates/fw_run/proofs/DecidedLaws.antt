@@ -1,5 +1,5 @@
 -- Texts that are there are accepted, or one of them is the first that is refused.
-use Rattle.std.proofs.Common.{List, Option, subst, ◌⊎◌, inl, inr}
+use Rattle.std.proofs.Common.{List, Option, sym, subst, ◌⊎◌, inl, inr}
 use Rattle.std.specs.Prelude.{ℕ}
 use Rattle.fw_lines.specs.declared.refusal.Refusal.{Refusal}
 use Rattle.fw_lines.proofs.ReadLaws.{some_answer as some_inputs}
@@ -10,9 +10,13 @@ use Rattle.fw_flow_text.proofs.ReadLaws.{some_answer as some_flow}
 use Rattle.fw_schedule.specs.Grammar as schedules
 use Rattle.fw_schedule.proofs.ReadLaws.{some_answer as some_schedule}
 use Rattle.fw_outside.specs.Outside.{IsText}
+use Rattle.fw_generate.specs.Draws.{words_from}
+use Rattle.fw_run.proofs.TextLaws.{generated-accepted}
 use Rattle.fw_run.specs.Call.{HasTexts, Accepts, Refuses}
-use Rattle.fw_run.specs.Texts.{Texts, AreAccepted, AreOfSystem, AreThere, HasTwo, HasFlow, IsFlowRefused, IsFirstRefusal, IsFirstOfTwoRefused}
-use Rattle.fw_run.specs.Words.{Command, run, denote, check, TextNames, SystemNames}
+use Rattle.fw_generate.specs.Laws.{AreAccepted}
+use Rattle.fw_generate.specs.Texts.{Texts}
+use Rattle.fw_run.specs.Texts.{AreOfSystem, AreThere, HasTwo, HasFlow, IsFlowRefused, IsFirstRefusal, IsFirstOfTwoRefused}
+use Rattle.fw_run.specs.Words.{Command, run, endure, generate, denote, check, TextNames, SystemNames}
 
 -- where the flow is accepted
 decided_inputs : (told : Option (List ℕ → Option (List ℕ))) (names : TextNames) (texts : Texts) (flow : Dataflow) → AreThere told names texts → flows.IsAccepted texts.flow flow
@@ -61,5 +65,9 @@ flow-decided told name text t = elim (some_flow text) [
 pub texts-decided : (told : Option (List ℕ → Option (List ℕ))) (command : Command) (texts : Texts) → HasTexts told command texts
     → ((flow : Dataflow) × Accepts command texts flow) ⊎ ((refusal : Refusal) × Refuses told command refusal)
 texts-decided told (run names) texts t = run-decided told names texts t
+texts-decided told (endure names) texts t = run-decided told names texts t
+texts-decided told (generate seeded) texts t =
+    let law = generated-accepted seeded.size (words_from seeded.seed) t.size in
+    inl (law.0, subst (λ (three : Texts). AreAccepted three law.0) (sym t.drawn) law.1)
 texts-decided told (denote names) texts t = two-decided told names texts t
 texts-decided told (check name) texts t = flow-decided told name texts.flow t

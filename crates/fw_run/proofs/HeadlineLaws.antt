@@ -21,7 +21,9 @@ use Rattle.fw_run.proofs.ItemLaws.{items-one}
 use Rattle.fw_run.proofs.RunLaws.{one_run}
 use Rattle.fw_run.proofs.TextLaws.{well_formed_system}
 use Rattle.fw_run.specs.Headline.{HasOneRun, CutsToLargest, ShowsWatermark, KeepsWhatIsNeeded, Headline}
-use Rattle.fw_run.specs.Texts.{Texts, AreAccepted, spelled_system, spelled_items}
+use Rattle.fw_generate.specs.Laws.{AreAccepted}
+use Rattle.fw_generate.specs.Texts.{Texts}
+use Rattle.fw_run.specs.Texts.{spelled_system}
 
 -- what a recovery shows is what it chose
 cuts-one : (one other : Choice) → cuts one ≡ cuts other → one ≡ other
@@ -82,12 +84,12 @@ items-one_run sys w items =
       runs = λ count. one_run sys w (take count one.0);
     }
 
-pub texts-headline : (texts : Texts) (flow : Dataflow) → AreAccepted texts flow → Headline (spelled_system flow texts) (spelled_items flow texts)
-texts-headline texts flow a =
+pub texts-headline : (texts : Texts) (flow : Dataflow) (items : List Item) → AreAccepted texts flow → Headline (spelled_system flow texts) items
+texts-headline texts flow items a =
     let sys = spelled_system flow texts in
     let w = well_formed_system texts flow a in
     record {
-      one_run = items-one_run sys w (spelled_items flow texts);
+      one_run = items-one_run sys w items;
       legal = λ steps last c count outcomes state r. runs-legal sys (take count steps) outcomes state w.flow (has_epochs sys w) r;
       in_order = λ steps last c. acknowledgements-in_order sys steps;
       denotation = (rounds sys (enough_rounds sys.flow), denotation-exists sys w.flow);

@@ -1,5 +1,5 @@
 -- Runs of the machine and their text.
-use Rattle.std.proofs.Common.{◌≡◌, ℕ, suc, ◌+◌, Bool, true, false, List, [], ◌∷◌, ◌++◌, length, map, refl, sym, ◌∙◌, ap, subst, arith, append_assoc, cond}
+use Rattle.std.proofs.Common.{◌≡◌, ℕ, ◌+◌, List, [], ◌∷◌, ◌++◌, length, map, refl, sym, ◌∙◌, ap, subst, append_assoc}
 use Rattle.std.proofs.lemmas.Grind.{flat_map-append}
 use Rattle.std.proofs.lemmas.List.{append-nil}
 use Rattle.fw_flow.specs.declared.step.Step.{Step}
@@ -15,19 +15,13 @@ use Rattle.fw_model.specs.Machine.{Machine, first_state}
 use Rattle.fw_model.specs.Steps.{Outcome, did, Run}
 use Rattle.fw_running.specs.EffectText.{outcome_text}
 use Rattle.fw_run.proofs.ItemLaws.{items-run, items-one}
+use Rattle.fw_run.proofs.TallyLaws.{how_many-append}
 use Rattle.fw_run.specs.Headline.{PrintsRun}
 use Rattle.fw_run.specs.Items.{ItemComesTo, ComesTo}
 use Rattle.fw_run.specs.Printed.{outcomes_text, is_idle, idle_count, done_line, text_of}
 use Rattle.fw_run.specs.Trusting.{BeginsWith}
 
 -- ---- runs
-
--- a run has an outcome for each step
-pub run_length : (sys : System) (state last : Machine) (steps : List Step) (outcomes : List Outcome) → Run sys state steps outcomes last → length outcomes ≡ length steps
-run_length sys state last [] [] r = refl
-run_length sys state last [] (o ∷ outcomes) r = absurd r
-run_length sys state last (step ∷ steps) [] r = absurd r
-run_length sys state last (step ∷ steps) (o ∷ outcomes) r = ap suc (run_length sys r.0 last steps outcomes r.2)
 
 -- steps are a run from each state to which steps lead from the first one
 run_exists : (sys : System) → IsWellFormedSystem sys → (before : List Step) (earlier : List Outcome) (state : Machine) → Run sys (first_state sys) before earlier state → (steps : List Step)
@@ -62,12 +56,7 @@ one_run sys w steps =
 -- ---- texts
 
 pub idle-append : (outcomes others : List Outcome) → idle_count (outcomes ++ others) ≡ idle_count outcomes + idle_count others
-idle-append [] others = omega arith
-idle-append (x ∷ outcomes) others = both (is_idle x) (idle_count (outcomes ++ others)) (idle_count outcomes) (idle_count others) (idle-append outcomes others)
-  where
-    both : (b : Bool) (n m k : ℕ) → n ≡ m + k → cond b (n + 1) n ≡ cond b (m + 1) m + k
-    both true n m k e = omega (arith, e)
-    both false n m k e = e
+idle-append outcomes others = how_many-append is_idle outcomes others
 
 pub text-append : (flow : Dataflow) (outcomes others : List Outcome) → outcomes_text flow (outcomes ++ others) ≡ outcomes_text flow outcomes ++ outcomes_text flow others
 text-append flow outcomes others = flat_map-append (outcome_text flow) outcomes others

@@ -1,7 +1,7 @@
 -- What was printed of items so far, and how a run ends.
 use Rattle.std.proofs.Common.{◌≡◌, inl, inr, ℕ, zero, suc, get_or, ◌+◌, ◌-◌, ◌<◌, ◌≤◌, List, [], ◌∷◌, ◌++◌, length, take, drop, Option, Some, None, Result, Ok, Err, refl, sym, ◌∙◌, ap, subst, arith, append_assoc}
 use Rattle.std.proofs.lemmas.Bool.{cases_lt, false≢true}
-use Rattle.std.proofs.lemmas.List.{append-nil, length-append, take-append-drop, drop_more, take_more, take_all}
+use Rattle.std.proofs.lemmas.List.{append-nil, take-append-drop, drop_more, take_more, take_all}
 use Rattle.std.specs.List.{AllZip, Contains}
 use Rattle.std.specs.Prelude.{IsSome}
 use Rattle.std.specs.Result.{IsErrOf}
@@ -14,54 +14,45 @@ use Rattle.fw_flow.specs.Dataflow.{Dataflow, System}
 use Rattle.fw_flow.specs.WellFormed.{IsWellFormedSystem}
 use Rattle.fw_schedule.specs.declared.item.Item.{Item}
 use Rattle.fw_schedule.specs.declared.item.Item.TheVariants.{One, Auto}
-use Rattle.fw_schedule.specs.Schedule.{steps_in, step_count}
+use Rattle.fw_schedule.specs.Schedule.{steps_in, step_count, step_limit}
 use Rattle.fw_model.proofs.GoingOn.{runs-go_on}
 use Rattle.fw_model.specs.Machine.{Machine, first_state}
 use Rattle.fw_model.specs.Steps.{Outcome, Run}
 use Rattle.fw_keep.specs.declared.entry.Entry.{Entry}
+use Rattle.fw_keep.specs.Catalogue.{AreAscending, ids_of}
 use Rattle.fw_keep.specs.Stored.{Records, SpellsNone}
 use Rattle.fw_stands.specs.Written.{IsEntryOf, uncollected}
 use Rattle.fw_running.specs.declared.fault.EngineFault.TheVariants as fault
 use Rattle.fw_running.specs.Steps.{IsLeftBy}
 use Rattle.fw_engine.specs.declared.engine.Engine.{Engine}
-use Rattle.fw_engine.specs.Engine.{flow_of, StandsFor, IsDamaged}
+use Rattle.fw_engine.specs.Engine.{flow_of, StandsFor, IsDamaged, keep_of}
 use Rattle.fw_run.proofs.ItemLaws.{item-run, comes-on, comes-next, items-run}
 use Rattle.fw_run.proofs.ItemPrintLaws.{auto_on}
 use Rattle.fw_run.proofs.KnownLaws.{known_before, IsPartOf, cut_known}
-use Rattle.fw_run.proofs.RunLaws.{run_length, idle-append, text-append, printed_run, begins_more}
+use Rattle.fw_run.proofs.RunLaws.{text-append, printed_run, begins_more}
+use Rattle.fw_run.proofs.TallyLaws.{tally-append}
 use Rattle.fw_run.proofs.WritingLaws.{written_nothing, written_more, taken_part, taken_nothing, taken_more, taken_until}
 use Rattle.fw_run.specs.declared.fault.RunFault.{RunFault}
 use Rattle.fw_run.specs.declared.fault.RunFault.TheVariants as stop
-use Rattle.fw_run.specs.declared.perform.Taken.{Taken}
+use Rattle.fw_run.specs.declared.tally.Tally.{Tally}
 use Rattle.fw_run.specs.Fault.{out_fault}
 use Rattle.fw_run.specs.Headline.{PrintsRun}
 use Rattle.fw_run.specs.Items.{ComesTo}
-use Rattle.fw_run.specs.Performing.{TrustsItem, IsItemTaken, IsItemBegun, IsItemStopped, IsLeftAfter, DoesItem, PrintsItem, Performs}
+use Rattle.fw_run.specs.Performing.{TrustsItem, IsItemTaken, IsItemBegun, IsItemStopped, IsLeftAfter, DoesItem, PrintsItem, IsSoFar, AreTaken, HasRoom, Performs}
 use Rattle.fw_run.specs.Printed.{outcomes_text, idle_count, done_line, text_of}
 use Rattle.fw_run.specs.Stopping.{HoldsWrites, LeavesWrites, StopsIn, MayCallIn, IsLeftIn, IsStoppedByStore, IsEntryIn, IsStoppedByDamage}
+use Rattle.fw_run.specs.Tallies.{AreOfSteps, tally_of, with_tally}
 use Rattle.fw_run.specs.Trusting.{AreKnown, BeginsWith}
 use Rattle.fw_run.specs.Writing.{IsWritten, IsCutOff}
 
 -- ---- what was printed so far
 
--- The engine stands for the state to which the items lead; their steps are so many, so many of them idle, and these are their lines.
-pub record IsSoFar (sys : System) (items : List Item) (engine : Engine) (records : Option Records) (taken idle_steps : ℕ) (bytes : List ℕ) : Type 0 where
-  pub steps : List Step
-  pub state : Machine
-  pub comes : ComesTo sys (first_state sys) items steps state
-  pub outcomes : List Outcome
-  pub run : Run sys (first_state sys) steps outcomes state
-  pub count : taken ≡ length steps
-  pub idle : idle_steps ≡ idle_count outcomes
-  pub text : bytes ≡ outcomes_text sys.flow outcomes
-  pub stands : StandsFor sys engine records state
-
 -- What was written of so many first items is their lines, as far as it is known what comes of them.
-pub record IsUpTo (Tells : Type 0) (sys : System) (items : List Item) (count : ℕ) (engine : Engine) (records : Option Records) (taken idle_steps : ℕ)
+pub record IsUpTo (Tells : Type 0) (sys : System) (items : List Item) (count : ℕ) (engine : Engine) (records : Option Records) (tally : Tally)
     (first last : SinkView) : Type 0 where
   pub bytes : List ℕ
   pub written : IsWritten bytes first last
-  pub so_far : AreKnown Tells sys (take count items) → IsSoFar sys (take count items) engine records taken idle_steps bytes
+  pub so_far : AreKnown Tells sys (take count items) → IsSoFar sys (take count items) engine records tally bytes
   pub begins : (n : ℕ) → n ≤ count → AreKnown Tells sys (take n items) → BeginsWith sys (take n items) bytes
 
 -- no items
@@ -70,7 +61,7 @@ begins_with-none sys items zero h = record { steps = []; last = first_state sys;
 begins_with-none sys items (suc n) h = absurd (omega (arith, h))
 
 pub up_to-none : (Tells : Type 0) (sys : System) (items : List Item) (engine : Engine) (records : Option Records) (view : SinkView) → StandsFor sys engine records (first_state sys)
-    → IsUpTo Tells sys items 0 engine records 0 0 view view
+    → IsUpTo Tells sys items 0 engine records (tally_of []) view view
 up_to-none Tells sys items engine records view st = record {
   bytes = [];
   written = written_nothing view;
@@ -80,8 +71,7 @@ up_to-none Tells sys items engine records view st = record {
     comes = (refl, refl);
     outcomes = [];
     run = refl;
-    count = refl;
-    idle = refl;
+    counted = refl;
     text = refl;
     stands = st;
   };
@@ -120,10 +110,10 @@ trusts_item Tells sys items (One step) steps state records told k c = trusts_ste
 trusts_item Tells sys items (Auto most) steps state records told k c = tt
 
 -- an item was taken after others
-so_far-more : (sys : System) (items : List Item) (old new : Engine) (before after : Option Records) (item : Item) (taken idle_steps : ℕ) (of_item : Taken) (bytes others : List ℕ)
-    → (s : IsSoFar sys items old before taken idle_steps bytes) → IsItemTaken sys s.state item of_item others new after
-    → IsSoFar sys (items ++ item ∷ []) new after (taken + of_item.steps) (idle_steps + of_item.idle) (bytes ++ others)
-so_far-more sys items old new before after item taken idle_steps of_item bytes others s t =
+so_far-more : (sys : System) (items : List Item) (old new : Engine) (before after : Option Records) (item : Item) (tally counts : Tally) (bytes others : List ℕ)
+    → (s : IsSoFar sys items old before tally bytes) → IsItemTaken sys s.state item tally counts others new after
+    → IsSoFar sys (items ++ item ∷ []) new after counts (bytes ++ others)
+so_far-more sys items old new before after item tally counts bytes others s t =
     let r = t.of_item in
     record {
       steps = s.steps ++ r.steps;
@@ -131,16 +121,15 @@ so_far-more sys items old new before after item taken idle_steps of_item bytes o
       comes = comes-next sys (first_state sys) s.state r.last items item s.steps r.steps s.comes r.comes;
       outcomes = s.outcomes ++ r.outcomes;
       run = runs-go_on sys (first_state sys) s.state r.last s.steps r.steps s.outcomes r.outcomes s.run r.run;
-      count = omega (arith, s.count, t.steps, length-append s.steps r.steps);
-      idle = omega (arith, s.idle, t.idle, idle-append s.outcomes r.outcomes);
+      counted = t.counted ∙ ap (λ (before_it : Tally). with_tally before_it (tally_of r.outcomes)) s.counted ∙ tally-append s.outcomes r.outcomes;
       text = ap (λ (b : List ℕ). b ++ others) s.text ∙ ap (λ (b : List ℕ). outcomes_text sys.flow s.outcomes ++ b) t.text ∙ sym (text-append sys.flow s.outcomes r.outcomes);
       stands = t.stands;
     }
 
 -- what is so far printed begins with it
-begins_with-all : (sys : System) (items : List Item) (engine : Engine) (records : Option Records) (taken idle_steps : ℕ) (bytes : List ℕ) → IsSoFar sys items engine records taken idle_steps bytes
+begins_with-all : (sys : System) (items : List Item) (engine : Engine) (records : Option Records) (tally : Tally) (bytes : List ℕ) → IsSoFar sys items engine records tally bytes
     → BeginsWith sys items bytes
-begins_with-all sys items engine records taken idle_steps bytes s = record {
+begins_with-all sys items engine records tally bytes s = record {
   steps = s.steps;
   last = s.state;
   comes = s.comes;
@@ -150,25 +139,23 @@ begins_with-all sys items engine records taken idle_steps bytes s = record {
   text = s.text ∙ sym (append-nil (outcomes_text sys.flow s.outcomes));
 }
 
-pub up_to-more : (Tells : Type 0) (sys : System) (items : List Item) (i : ℕ) (old new : Engine) (before after : Option Records) (item : Item) (taken idle_steps : ℕ) (of_item : Taken)
-    (first middle last : SinkView) → (Tells → IsSome before) → IsUpTo Tells sys items i old before taken idle_steps first middle → i < length items → item ≡ get_or items i item
-    → PrintsItem old before item (Ok of_item) new after middle last
-    → IsUpTo Tells sys items (i + 1) new after (taken + of_item.steps) (idle_steps + of_item.idle) first last
-up_to-more Tells sys items i old new before after item taken idle_steps of_item first middle last told u below e p = record {
+pub up_to-more : {T : Type 0} (Tells : Type 0) (sys : System) (items : List Item) (i : ℕ) (old new : Engine) (before after : Option Records) (item : Item) (tally counts : Tally) (value : T)
+    (first middle last : SinkView) → (Tells → IsSome before) → IsUpTo Tells sys items i old before tally first middle → i < length items → item ≡ get_or items i item
+    → PrintsItem {T = T} old before item tally (Ok value) new after counts middle last → IsUpTo Tells sys items (i + 1) new after counts first last
+up_to-more Tells sys items i old new before after item tally counts value first middle last told u below e p = record {
   bytes = u.bytes ++ p.bytes;
   written = written_more u.bytes p.bytes first middle last u.written p.taken;
   so_far = so_far;
   begins = begins;
 }
   where
-    so_far : AreKnown Tells sys (take (i + 1) items)
-        → IsSoFar sys (take (i + 1) items) new after (taken + of_item.steps) (idle_steps + of_item.idle) (u.bytes ++ p.bytes)
+    so_far : AreKnown Tells sys (take (i + 1) items) → IsSoFar sys (take (i + 1) items) new after counts (u.bytes ++ p.bytes)
     so_far k =
         let at = one_more-item items i item below e in
         let s = u.so_far (known_before Tells sys i (i + 1) items (omega arith) k) in
         let trusts = trusts_item Tells sys (take i items) item s.steps s.state before told (subst (AreKnown Tells sys) at k) s.comes in
-        subst (λ (xs : List Item). IsSoFar sys xs new after (taken + of_item.steps) (idle_steps + of_item.idle) (u.bytes ++ p.bytes)) (sym at)
-        (so_far-more sys (take i items) old new before after item taken idle_steps of_item u.bytes p.bytes s (p.does sys s.state s.stands trusts))
+        subst (λ (xs : List Item). IsSoFar sys xs new after counts (u.bytes ++ p.bytes)) (sym at)
+        (so_far-more sys (take i items) old new before after item tally counts u.bytes p.bytes s (p.does sys s.state s.stands trusts))
 
     begins : (n : ℕ) → n ≤ i + 1 → AreKnown Tells sys (take n items) → BeginsWith sys (take n items) (u.bytes ++ p.bytes)
     begins n h k = elim (cases_lt i n) [
@@ -176,16 +163,16 @@ up_to-more Tells sys items i old new before after item taken idle_steps of_item 
           let same : n ≡ i + 1 = omega (arith, h, later) in
           let s = so_far (subst (λ (m : ℕ). AreKnown Tells sys (take m items)) same k) in
           subst (λ (m : ℕ). BeginsWith sys (take m items) (u.bytes ++ p.bytes)) (sym same)
-          (begins_with-all sys (take (i + 1) items) new after (taken + of_item.steps) (idle_steps + of_item.idle) (u.bytes ++ p.bytes) s)
+          (begins_with-all sys (take (i + 1) items) new after counts (u.bytes ++ p.bytes) s)
       | inr among ↦ begins_more sys (take n items) u.bytes p.bytes (u.begins n among k)
     ]
 
 -- ---- a run that stops in an item
 
 -- where an item was stopped it goes on
-stopped_begun : (sys : System) (item : Item) (state : Machine) (steps : List Step) (outcomes : List Outcome) (bytes : List ℕ) (IsSo : Machine → Type 0) → IsWellFormedSystem sys
-    → Run sys (first_state sys) steps outcomes state → IsItemStopped sys state item bytes IsSo → IsItemBegun sys state item bytes
-stopped_begun sys (One step) state steps outcomes bytes IsSo w r t =
+stopped_begun : (sys : System) (item : Item) (state : Machine) (steps : List Step) (outcomes : List Outcome) (tally counts : Tally) (bytes : List ℕ) (IsSo : Machine → Type 0)
+    → IsWellFormedSystem sys → Run sys (first_state sys) steps outcomes state → IsItemStopped sys state item tally counts bytes IsSo → IsItemBegun sys state item bytes
+stopped_begun sys (One step) state steps outcomes tally counts bytes IsSo w r t =
     let found = item-run sys w steps outcomes state r (One step) in
     let none : t.outcomes ≡ [] = no_outcomes t.begun t.outcomes t.begins.0 t.run in
     record {
@@ -198,7 +185,7 @@ stopped_begun sys (One step) state steps outcomes bytes IsSo w r t =
     no_outcomes [] [] e run = refl
     no_outcomes [] (o ∷ others) e run = absurd run
     no_outcomes (s ∷ begun) others e run = absurd (cc)
-stopped_begun sys (Auto most) state steps outcomes bytes IsSo w r t =
+stopped_begun sys (Auto most) state steps outcomes tally counts bytes IsSo w r t =
     let reached = runs-go_on sys (first_state sys) state t.now steps t.begun outcomes t.outcomes r t.run in
     let rest = item-run sys w (steps ++ t.begun) (outcomes ++ t.outcomes) t.now reached (Auto (most - length t.begun)) in
     let all : length t.begun + (most - length t.begun) ≡ most = omega (arith, t.begins.0) in
@@ -215,9 +202,9 @@ stopped_begun sys (Auto most) state steps outcomes bytes IsSo w r t =
     }
 
 -- first bytes of an item's lines, behind the lines of those before it, are part of the whole text
-part_of-item : (sys : System) (items others : List Item) (item : Item) (engine : Engine) (records : Option Records) (taken idle_steps : ℕ) (bytes more : List ℕ) → IsWellFormedSystem sys
-    → (s : IsSoFar sys items engine records taken idle_steps bytes) → IsItemBegun sys s.state item more → IsPartOf sys (items ++ item ∷ others) (bytes ++ more)
-part_of-item sys items others item engine records taken idle_steps bytes more w s b =
+part_of-item : (sys : System) (items others : List Item) (item : Item) (engine : Engine) (records : Option Records) (tally : Tally) (bytes more : List ℕ) → IsWellFormedSystem sys
+    → (s : IsSoFar sys items engine records tally bytes) → IsItemBegun sys s.state item more → IsPartOf sys (items ++ item ∷ others) (bytes ++ more)
+part_of-item sys items others item engine records tally bytes more w s b =
     let r = b.of_item in
     let further = runs-go_on sys (first_state sys) s.state r.last s.steps r.steps s.outcomes r.outcomes s.run r.run in
     let rest = items-run sys w (s.steps ++ r.steps) (s.outcomes ++ r.outcomes) r.last further others in
@@ -246,34 +233,35 @@ part_of-item sys items others item engine records taken idle_steps bytes more w 
     }
 
 -- what a fault in an item says of its lines
-fault_begun : (sys : System) (item : Item) (state : Machine) (steps : List Step) (outcomes : List Outcome) (bytes : List ℕ) (f : RunFault) (before : Option Records) (new : Engine)
-    (after : Option Records) → IsWellFormedSystem sys → Run sys (first_state sys) steps outcomes state → TrustsItem sys state item before
-    → DoesItem sys state item bytes (Err f) before new after → IsItemBegun sys state item bytes
-fault_begun sys item state steps outcomes bytes (stop.Out f) before new after w r trusts d = d trusts
-fault_begun sys item state steps outcomes bytes (stop.Engine f) before new after w r trusts d =
-    stopped_begun sys item state steps outcomes bytes (IsLeftAfter sys item f before new after) w r d
+fault_begun : (T : Type 0) (sys : System) (item : Item) (state : Machine) (steps : List Step) (outcomes : List Outcome) (tally counts : Tally) (bytes : List ℕ) (f : RunFault)
+    (before : Option Records) (new : Engine) (after : Option Records) → IsWellFormedSystem sys → Run sys (first_state sys) steps outcomes state
+    → TrustsItem sys state item before → DoesItem {T = T} sys state item tally counts bytes (Err f) before new after → IsItemBegun sys state item bytes
+fault_begun T sys item state steps outcomes tally counts bytes (stop.Out f) before new after w r trusts d = d trusts
+fault_begun T sys item state steps outcomes tally counts bytes (stop.Engine f) before new after w r trusts d =
+    stopped_begun sys item state steps outcomes tally counts bytes (IsLeftAfter sys item f before new after) w r d
 
 -- the run stops in the item of this place
-pub stops_at : (T : Type 0) (Tells : Type 0) (sys : System) (items : List Item) (i : ℕ) (old new : Engine) (before after : Option Records) (item : Item) (taken idle_steps : ℕ) (f : RunFault)
-    (first middle last : SinkView) → IsWellFormedSystem sys → (Tells → IsSome before) → IsUpTo Tells sys items i old before taken idle_steps first middle → i < length items
-    → item ≡ get_or items i item → PrintsItem old before item (Err f) new after middle last → Performs {T = T} Tells sys items (Err f) first last
-stops_at T Tells sys items i old new before after item taken idle_steps f first middle last w told u below e p =
+pub stops_at : {A : Type 0} (T : Type 0) (Tells : Type 0) (sys : System) (items : List Item) (i : ℕ) (old new : Engine) (before after : Option Records) (item : Item) (tally counts : Tally)
+    (f : RunFault) (first middle last : SinkView) → IsWellFormedSystem sys → (Tells → IsSome before) → IsUpTo Tells sys items i old before tally first middle → i < length items
+    → item ≡ get_or items i item → PrintsItem {T = A} old before item tally (Err f) new after counts middle last → Performs {T = T} Tells sys items (Err f) first last
+stops_at {A} T Tells sys items i old new before after item tally counts f first middle last w told u below e p =
     cut_known Tells sys w items i (u.bytes ++ p.bytes) (out_fault f) first last (λ n h k. begins_more sys (take n items) u.bytes p.bytes (u.begins n h k)) part
-    (taken_more u.bytes p.bytes (out_fault f) first middle last u.written (taken_until Taken p.bytes f middle last p.taken))
+    (taken_more u.bytes p.bytes (out_fault f) first middle last u.written (taken_until A p.bytes f middle last p.taken))
   where
     part : AreKnown Tells sys (take (i + 1) items) → IsPartOf sys items (u.bytes ++ p.bytes)
     part k =
         let at = one_more-item items i item below e in
         let s = u.so_far (known_before Tells sys i (i + 1) items (omega arith) k) in
         let trusts = trusts_item Tells sys (take i items) item s.steps s.state before told (subst (AreKnown Tells sys) at k) s.comes in
-        let begun = fault_begun sys item s.state s.steps s.outcomes p.bytes f before new after w s.run trusts (p.does sys s.state s.stands) in
+        let begun = fault_begun A sys item s.state s.steps s.outcomes tally counts p.bytes f before new after w s.run trusts (p.does sys s.state s.stands) in
         subst (λ (xs : List Item). IsPartOf sys xs (u.bytes ++ p.bytes)) (sym (parts_at items i item below e))
-        (part_of-item sys (take i items) (drop (i + 1) items) item old before taken idle_steps u.bytes p.bytes w s begun)
+        (part_of-item sys (take i items) (drop (i + 1) items) item old before tally u.bytes p.bytes w s begun)
 
 -- ---- what the store holds
 
-holds_writes : (sys : System) (engine : Engine) (records : Option Records) (state : Machine) → StandsFor sys engine records state → HoldsWrites sys records state
-holds_writes sys engine records state st = record { entries = engine.running.parts.keep.entries; of_writes = st.entries; held = st.stored }
+holds_writes : (sys : System) (engine : Engine) → AreAscending (ids_of (keep_of engine).entries) → (records : Option Records) (state : Machine)
+    → StandsFor sys engine records state → HoldsWrites sys records state
+holds_writes sys engine ordered records state st = record { entries = engine.running.parts.keep.entries; ascending = ordered; of_writes = st.entries; held = st.stored }
 
 -- what is left, of states of which something is true, as states of which more is
 left_by : (sys : System) (state : Machine) (step : Step) (P Q : Machine → Type 0) → ((m : Machine) → P m → Q m) → IsLeftBy sys state step P → IsLeftBy sys state step Q
@@ -290,12 +278,13 @@ left_by sys state (Ack o) P Q f l = f state l
 
 left_in : (sys : System) (state : Machine) (item : Item) (P Q : Machine → Type 0) → ((m : Machine) → P m → Q m) → IsLeftIn sys state item P → IsLeftIn sys state item Q
 left_in sys state (One step) P Q f l = left_by sys state step P Q f l
-left_in sys state (Auto most) P Q f l = f state l
+left_in sys state (Auto most) P Q f l = (l.0, f state l.1)
 
 -- an item that was stopped, behind those before it
-stops_in : (sys : System) (items : List Item) (item : Item) (engine : Engine) (records : Option Records) (taken idle_steps : ℕ) (bytes more : List ℕ) (P Q : Machine → Type 0)
-    → (s : IsSoFar sys items engine records taken idle_steps bytes) → (t : IsItemStopped sys s.state item more P) → (P t.now → Q t.now) → StopsIn sys items item (bytes ++ more) Q
-stops_in sys items item engine records taken idle_steps bytes more P Q s t f = record {
+stops_in : (sys : System) (items : List Item) (item : Item) (engine : Engine) (records : Option Records) (tally counts : Tally) (bytes more : List ℕ) (P Q : Machine → Type 0)
+    → (s : IsSoFar sys items engine records tally bytes) → (t : IsItemStopped sys s.state item tally counts more P) → (P t.now → Q t.now)
+    → StopsIn sys items item (bytes ++ more) Q
+stops_in sys items item engine records tally counts bytes more P Q s t f = record {
   steps = s.steps;
   before = s.state;
   comes = s.comes;
@@ -309,10 +298,11 @@ stops_in sys items item engine records taken idle_steps bytes more P Q s t f = r
 }
 
 -- the store stops the run in the item of this place
-store_stops : (Tells : Type 0) (sys : System) (items : List Item) (i : ℕ) (old new : Engine) (before after : Option Records) (item : Item) (taken idle_steps : ℕ) (first middle last : SinkView)
-    → IsUpTo Tells sys items i old before taken idle_steps first middle → i < length items → item ≡ get_or items i item → MayCallIn sys.flow item
-    → PrintsItem old before item (Err (stop.Engine fault.StoreFault)) new after middle last → IsStoppedByStore Tells sys items after first last
-store_stops Tells sys items i old new before after item taken idle_steps first middle last u below e calls p = record {
+store_stops : {A : Type 0} (Tells : Type 0) (sys : System) (items : List Item) (i : ℕ) (old new : Engine) (before after : Option Records) (item : Item) (tally counts : Tally)
+    (first middle last : SinkView) → IsUpTo Tells sys items i old before tally first middle → i < length items → item ≡ get_or items i item → MayCallIn sys.flow item
+    → AreAscending (ids_of (keep_of new).entries) → PrintsItem {T = A} old before item tally (Err (stop.Engine fault.StoreFault)) new after counts middle last
+    → IsStoppedByStore Tells sys items after (λ printed. IsWritten printed first last)
+store_stops Tells sys items i old new before after item tally counts first middle last u below e calls ordered p = record {
   printed = u.bytes ++ p.bytes;
   written = written_more u.bytes p.bytes first middle last u.written p.taken;
   earlier = take i items;
@@ -323,8 +313,8 @@ store_stops Tells sys items i old new before after item taken idle_steps first m
   stops = λ k.
       let s = u.so_far k in
       let t = p.does sys s.state s.stands in
-      stops_in sys (take i items) item old before taken idle_steps u.bytes p.bytes (IsLeftAfter sys item fault.StoreFault before new after)
-      (λ state. IsLeftIn sys state item (HoldsWrites sys after)) s t (left_in sys t.now item (StandsFor sys new after) (HoldsWrites sys after) (holds_writes sys new after));
+      stops_in sys (take i items) item old before tally counts u.bytes p.bytes (IsLeftAfter sys item fault.StoreFault before new after)
+      (λ state. IsLeftIn sys state item (HoldsWrites sys after)) s t (left_in sys t.now item (StandsFor sys new after) (HoldsWrites sys after) (holds_writes sys new ordered after));
 }
 
 -- the fault of an answer
@@ -335,15 +325,15 @@ same_fault {A} P f g e p = subst P (ap fault_in e) p
     fault_in (Ok a) = f
     fault_in (Err h) = h
 
-pub store_stops-at : {A : Type 0} (Tells : Type 0) (sys : System) (items : List Item) (i : ℕ) (start old new : Engine) (begun before after : Option Records) (item : Item) (taken idle_steps : ℕ)
+pub store_stops-at : {A B : Type 0} (Tells : Type 0) (sys : System) (items : List Item) (i : ℕ) (start old new : Engine) (begun before after : Option Records) (item : Item) (tally counts : Tally)
     (f : RunFault) (first middle last : SinkView) → StandsFor sys start begun (first_state sys) → flow_of old ≡ flow_of start
-    → IsUpTo Tells sys items i old before taken idle_steps first middle → i < length items → item ≡ get_or items i item
-    → MayCallIn (flow_of old) item → PrintsItem old before item (Err f) new after middle last
-    → IsErrOf {T = A} (Err f) (stop.Engine fault.StoreFault) → IsStoppedByStore Tells sys items after first last
-store_stops-at Tells sys items i start old new begun before after item taken idle_steps f first middle last st same u below e calls p is =
-    store_stops Tells sys items i old new before after item taken idle_steps first middle last u below e
-    (subst (λ (flow : Dataflow). MayCallIn flow item) (same ∙ st.flow) calls)
-    (same_fault (λ g. PrintsItem old before item (Err g) new after middle last) f (stop.Engine fault.StoreFault) is p)
+    → IsUpTo Tells sys items i old before tally first middle → i < length items → item ≡ get_or items i item
+    → MayCallIn (flow_of old) item → AreAscending (ids_of (keep_of new).entries) → PrintsItem {T = A} old before item tally (Err f) new after counts middle last
+    → IsErrOf {T = B} (Err f) (stop.Engine fault.StoreFault) → IsStoppedByStore Tells sys items after (λ printed. IsWritten printed first last)
+store_stops-at {A} {B} Tells sys items i start old new begun before after item tally counts f first middle last st same u below e calls ordered p is =
+    store_stops {A = A} Tells sys items i old new before after item tally counts first middle last u below e
+    (subst (λ (flow : Dataflow). MayCallIn flow item) (same ∙ st.flow) calls) ordered
+    (same_fault (λ g. PrintsItem {T = A} old before item tally (Err g) new after counts middle last) f (stop.Engine fault.StoreFault) is p)
 
 -- ---- a damaged record
 
@@ -362,15 +352,16 @@ entry_in sys engine records state entry st c =
     beside (IsEntryOf sys state) engine.running.parts.keep.entries (uncollected state) entry c.0 st.entries c.1 c.2
 
 -- an item that was stopped at a recovery was stopped where it began
-stopped_first : (sys : System) (state : Machine) (step : Step) (bytes : List ℕ) (P Q : Machine → Type 0) → (t : IsItemStopped sys state (One step) bytes P) → Q state → Q t.now
-stopped_first sys state step bytes P Q t q = subst Q (sym t.begins.1) q
+stopped_first : (sys : System) (state : Machine) (step : Step) (tally counts : Tally) (bytes : List ℕ) (P Q : Machine → Type 0) → (t : IsItemStopped sys state (One step) tally counts bytes P)
+    → Q state → Q t.now
+stopped_first sys state step tally counts bytes P Q t q = subst Q (sym t.begins.1) q
 
-damage_stops : (Tells : Type 0) (sys : System) (items : List Item) (i id : ℕ) (old new : Engine) (before after : Option Records) (given : Option (ℕ × List ℕ)) (taken idle_steps : ℕ)
-    (first middle last : SinkView) → (Tells → IsSome before) → IsUpTo Tells sys items i old before taken idle_steps first middle
+damage_stops : {A : Type 0} (Tells : Type 0) (sys : System) (items : List Item) (i id : ℕ) (old new : Engine) (before after : Option Records) (given : Option (ℕ × List ℕ)) (tally counts : Tally)
+    (first middle last : SinkView) → (Tells → IsSome before) → IsUpTo Tells sys items i old before tally first middle
     → items ≡ take i items ++ One Recover ∷ drop (i + 1) items → flow_of old ≡ sys.flow
-    → PrintsItem old before (One Recover) (Err (stop.Engine (fault.Damaged id))) new after middle last → IsDamaged old id given
-    → IsStoppedByDamage Tells sys items id given first last
-damage_stops Tells sys items i id old new before after given taken idle_steps first middle last told u parts same p d = record {
+    → PrintsItem {T = A} old before (One Recover) tally (Err (stop.Engine (fault.Damaged id))) new after counts middle last → IsDamaged old id given
+    → IsStoppedByDamage Tells sys items id given (λ printed. IsWritten printed first last)
+damage_stops Tells sys items i id old new before after given tally counts first middle last told u parts same p d = record {
   printed = u.bytes ++ p.bytes;
   written = written_more u.bytes p.bytes first middle last u.written p.taken;
   earlier = take i items;
@@ -388,8 +379,8 @@ damage_stops Tells sys items i id old new before after given taken idle_steps fi
   stops = λ k.
       let s = u.so_far k in
       let t = p.does sys s.state s.stands in
-      stops_in sys (take i items) (One Recover) old before taken idle_steps u.bytes p.bytes (IsLeftAfter sys (One Recover) (fault.Damaged id) before new after) (IsEntryIn sys d.entry) s t
-      (λ untold. stopped_first sys s.state Recover p.bytes (IsLeftAfter sys (One Recover) (fault.Damaged id) before new after) (IsEntryIn sys d.entry) t
+      stops_in sys (take i items) (One Recover) old before tally counts u.bytes p.bytes (IsLeftAfter sys (One Recover) (fault.Damaged id) before new after) (IsEntryIn sys d.entry) s t
+      (λ untold. stopped_first sys s.state Recover tally counts p.bytes (IsLeftAfter sys (One Recover) (fault.Damaged id) before new after) (IsEntryIn sys d.entry) t
       (entry_in sys old before s.state d.entry s.stands d.there));
 }
   where
@@ -397,89 +388,92 @@ damage_stops Tells sys items i id old new before after given taken idle_steps fi
     none_told None e told = absurd (false≢true told)
     none_told (Some held) e told = absurd (cc)
 
-pub damage_stops-at : {A : Type 0} (Tells : Type 0) (sys : System) (items : List Item) (i id : ℕ) (start old new : Engine) (begun before after : Option Records) (given : Option (ℕ × List ℕ))
-    (item : Item) (taken idle_steps : ℕ) (f : RunFault) (first middle last : SinkView) → StandsFor sys start begun (first_state sys) → flow_of old ≡ flow_of start
-    → (Tells → IsSome before) → IsUpTo Tells sys items i old before taken idle_steps first middle → i < length items → item ≡ get_or items i item
-    → item ≡ One Recover → PrintsItem old before item (Err f) new after middle last → IsDamaged old id given
-    → IsErrOf {T = A} (Err f) (stop.Engine (fault.Damaged id)) → IsStoppedByDamage Tells sys items id given first last
-damage_stops-at Tells sys items i id start old new begun before after given item taken idle_steps f first middle last st same told u below e recovers p d is =
-    let one = same_fault (λ g. PrintsItem old before item (Err g) new after middle last) f (stop.Engine (fault.Damaged id)) is p in
-    damage_stops Tells sys items i id old new before after given taken idle_steps first middle last told u
+pub damage_stops-at : {A B : Type 0} (Tells : Type 0) (sys : System) (items : List Item) (i id : ℕ) (start old new : Engine) (begun before after : Option Records) (given : Option (ℕ × List ℕ))
+    (item : Item) (tally counts : Tally) (f : RunFault) (first middle last : SinkView) → StandsFor sys start begun (first_state sys) → flow_of old ≡ flow_of start
+    → (Tells → IsSome before) → IsUpTo Tells sys items i old before tally first middle → i < length items → item ≡ get_or items i item
+    → item ≡ One Recover → PrintsItem {T = A} old before item tally (Err f) new after counts middle last → IsDamaged old id given
+    → IsErrOf {T = B} (Err f) (stop.Engine (fault.Damaged id)) → IsStoppedByDamage Tells sys items id given (λ printed. IsWritten printed first last)
+damage_stops-at {A} {B} Tells sys items i id start old new begun before after given item tally counts f first middle last st same told u below e recovers p d is =
+    let one = same_fault (λ g. PrintsItem {T = A} old before item tally (Err g) new after counts middle last) f (stop.Engine (fault.Damaged id)) is p in
+    damage_stops {A = A} Tells sys items i id old new before after given tally counts first middle last told u
     (subst (λ (x : Item). items ≡ take i items ++ x ∷ drop (i + 1) items) recovers (parts_at items i item below e)) (same ∙ st.flow)
-    (subst (λ (x : Item). PrintsItem old before x (Err (stop.Engine (fault.Damaged id))) new after middle last) recovers one) d
+    (subst (λ (x : Item). PrintsItem {T = A} old before x tally (Err (stop.Engine (fault.Damaged id))) new after counts middle last) recovers one) d
 
--- ---- the last line
+-- ---- all items
 
 -- all items were taken and printed
-all_so_far : (Tells : Type 0) (sys : System) (items : List Item) (i : ℕ) (engine : Engine) (records : Option Records) (taken idle_steps : ℕ) (first last : SinkView)
-    → (u : IsUpTo Tells sys items i engine records taken idle_steps first last) → length items ≤ i → AreKnown Tells sys items → IsSoFar sys items engine records taken idle_steps u.bytes
-all_so_far Tells sys items i engine records taken idle_steps first last u h k =
-    let all = take_all i items h in
-    subst (λ (xs : List Item). IsSoFar sys xs engine records taken idle_steps u.bytes) all (u.so_far (subst (AreKnown Tells sys) (sym all) k))
+pub are_taken : (Tells : Type 0) (sys : System) (items : List Item) (i : ℕ) (engine : Engine) (records : Option Records) (tally : Tally) (first last : SinkView)
+    → IsUpTo Tells sys items i engine records tally first last → length items ≤ i → AreTaken Tells sys items engine records tally first last
+are_taken Tells sys items i engine records tally first last u h = record {
+  bytes = u.bytes;
+  written = u.written;
+  so_far = λ k. subst (λ (xs : List Item). IsSoFar sys xs engine records tally u.bytes) all (u.so_far (subst (AreKnown Tells sys) (sym all) k));
+  begins = begins;
+}
+  where
+    all : take i items ≡ items
+    all = take_all i items h
+
+    begins : (n : ℕ) → AreKnown Tells sys (take n items) → BeginsWith sys (take n items) u.bytes
+    begins n k = elim (cases_lt i n) [
+      | inl later ↦
+          let same : take n items ≡ take i items = take_all n items (omega (arith, h, later)) ∙ sym all in
+          subst (λ (xs : List Item). BeginsWith sys xs u.bytes) (sym same) (u.begins i (omega arith) (subst (AreKnown Tells sys) same k))
+      | inr among ↦ u.begins n among k
+    ]
 
 -- the line is the last one of their run
-last_line : (sys : System) (items : List Item) (engine : Engine) (records : Option Records) (taken idle_steps : ℕ) (bytes : List ℕ) → IsSoFar sys items engine records taken idle_steps bytes
-    → PrintsRun sys items (bytes ++ done_line taken idle_steps)
-last_line sys items engine records taken idle_steps bytes s =
-    let counted : done_line taken idle_steps ≡ done_line (length s.outcomes) (idle_count s.outcomes) =
-    ap (λ (n : ℕ). done_line n idle_steps) (s.count ∙ sym (run_length sys (first_state sys) s.state s.steps s.outcomes s.run)) ∙ ap (done_line (length s.outcomes)) s.idle in
+last_line : (sys : System) (items : List Item) (engine : Engine) (records : Option Records) (tally : Tally) (bytes : List ℕ) → IsSoFar sys items engine records tally bytes
+    → PrintsRun sys items (bytes ++ done_line tally.steps tally.idle)
+last_line sys items engine records tally bytes s =
     record {
       steps = s.steps;
       last = s.state;
       comes = s.comes;
       outcomes = s.outcomes;
       run = s.run;
-      text = ap (λ (t : List ℕ). t ++ done_line taken idle_steps) s.text ∙ ap (λ (t : List ℕ). outcomes_text sys.flow s.outcomes ++ t) counted;
+      text = ap (λ (t : List ℕ). t ++ done_line tally.steps tally.idle) s.text
+          ∙ ap (λ (counts : Tally). outcomes_text sys.flow s.outcomes ++ done_line counts.steps counts.idle) s.counted;
     }
 
-pub ends : {T : Type 0} (Tells : Type 0) (sys : System) (items : List Item) (i : ℕ) (engine : Engine) (records : Option Records) (taken idle_steps : ℕ) (first middle last : SinkView) (value : T)
-    → IsUpTo Tells sys items i engine records taken idle_steps first middle → length items ≤ i → IsWritten (done_line taken idle_steps) middle last
-    → Performs {T = T} Tells sys items (Ok value) first last
-ends Tells sys items i engine records taken idle_steps first middle last value u h w = record {
-  printed = u.bytes ++ line;
-  text = record {
-    whole = λ k. last_line sys items engine records taken idle_steps u.bytes (all_so_far Tells sys items i engine records taken idle_steps first middle u h k);
-    first = begins;
-  };
-  written = written_more u.bytes line first middle last u.written w;
-}
-  where
-    line : List ℕ
-    line = done_line taken idle_steps
-
-    begins : (n : ℕ) → AreKnown Tells sys (take n items) → BeginsWith sys (take n items) (u.bytes ++ line)
-    begins n k = elim (cases_lt i n) [
-      | inl later ↦
-          let same : take n items ≡ take i items = take_all n items (omega (arith, h, later)) ∙ sym (take_all i items h) in
-          subst (λ (xs : List Item). BeginsWith sys xs (u.bytes ++ line)) (sym same)
-          (begins_more sys (take i items) u.bytes line (u.begins i (omega arith) (subst (AreKnown Tells sys) same k)))
-      | inr among ↦ begins_more sys (take n items) u.bytes line (u.begins n among k)
-    ]
+pub ends : {T : Type 0} (Tells : Type 0) (sys : System) (items : List Item) (engine : Engine) (records : Option Records) (tally : Tally) (first middle last : SinkView) (value : T)
+    → AreTaken Tells sys items engine records tally first middle → IsWritten (done_line tally.steps tally.idle) middle last → Performs {T = T} Tells sys items (Ok value) first last
+ends Tells sys items engine records tally first middle last value u w =
+    let line = done_line tally.steps tally.idle in
+    record {
+      printed = u.bytes ++ line;
+      text = record {
+        whole = λ k. last_line sys items engine records tally u.bytes (u.so_far k);
+        first = λ n k. begins_more sys (take n items) u.bytes line (u.begins n k);
+      };
+      written = written_more u.bytes line first middle last u.written w;
+    }
 
 -- the last line was cut off
-pub ends_cut : (T : Type 0) (Tells : Type 0) (sys : System) (items : List Item) (i : ℕ) (engine : Engine) (records : Option Records) (taken idle_steps : ℕ) (f : OutFault)
-    (first middle last : SinkView) → IsWellFormedSystem sys → IsUpTo Tells sys items i engine records taken idle_steps first middle → length items ≤ i
-    → IsCutOff (done_line taken idle_steps) f middle last → Performs {T = T} Tells sys items (Err (stop.Out f)) first last
-ends_cut T Tells sys items i engine records taken idle_steps f first middle last w u h c =
-    let at = taken_part (done_line taken idle_steps) f middle last c in
-    cut_known Tells sys w items i (u.bytes ++ at.one) f first last (λ n among k. begins_more sys (take n items) u.bytes at.one (u.begins n among k))
+pub ends_cut : (T : Type 0) (Tells : Type 0) (sys : System) (items : List Item) (engine : Engine) (records : Option Records) (tally : Tally) (f : OutFault)
+    (first middle last : SinkView) → IsWellFormedSystem sys → AreTaken Tells sys items engine records tally first middle
+    → IsCutOff (done_line tally.steps tally.idle) f middle last → Performs {T = T} Tells sys items (Err (stop.Out f)) first last
+ends_cut T Tells sys items engine records tally f first middle last w u c =
+    let line = done_line tally.steps tally.idle in
+    let at = taken_part line f middle last c in
+    cut_known Tells sys w items (length items) (u.bytes ++ at.one) f first last (λ n among k. begins_more sys (take n items) u.bytes at.one (u.begins n k))
     (λ k.
-    let all : take (i + 1) items ≡ items = take_all (i + 1) items (omega (arith, h)) in
-    let s = all_so_far Tells sys items i engine records taken idle_steps first middle u h (subst (AreKnown Tells sys) all k) in
+    let all : take (length items + 1) items ≡ items = take_all (length items + 1) items (omega arith) in
+    let s = u.so_far (subst (AreKnown Tells sys) all k) in
     record {
-      whole = u.bytes ++ done_line taken idle_steps;
-      prints = last_line sys items engine records taken idle_steps u.bytes s;
+      whole = u.bytes ++ line;
+      prints = last_line sys items engine records tally u.bytes s;
       others = at.other;
       parts = ap (λ (t : List ℕ). u.bytes ++ t) at.parts ∙ sym (append_assoc u.bytes at.one at.other);
     })
     (taken_more u.bytes at.one f first middle last u.written at.taken)
 
 -- the store then holds the writes of the last state
-pub leaves_writes : (Tells : Type 0) (sys : System) (items : List Item) (i : ℕ) (engine : Engine) (records : Option Records) (taken idle_steps : ℕ) (first last : SinkView)
-    → IsUpTo Tells sys items i engine records taken idle_steps first last → length items ≤ i → AreKnown Tells sys items → LeavesWrites sys items records
-leaves_writes Tells sys items i engine records taken idle_steps first last u h k =
-    let s = all_so_far Tells sys items i engine records taken idle_steps first last u h k in
-    record { steps = s.steps; last = s.state; comes = s.comes; holds = holds_writes sys engine records s.state s.stands }
+pub leaves_writes : (Tells : Type 0) (sys : System) (items : List Item) (engine : Engine) (records : Option Records) (tally : Tally) (first last : SinkView)
+    → AreAscending (ids_of (keep_of engine).entries) → AreTaken Tells sys items engine records tally first last → AreKnown Tells sys items → LeavesWrites sys items records
+leaves_writes Tells sys items engine records tally first last ordered u k =
+    let s = u.so_far k in
+    record { steps = s.steps; last = s.state; comes = s.comes; holds = holds_writes sys engine ordered records s.state s.stands }
 
 -- the run is not begun
 pub stops_at_start : (T : Type 0) (Tells : Type 0) (sys : System) (items : List Item) (view : SinkView) → IsWellFormedSystem sys → Performs {T = T} Tells sys items (Err (stop.Out NoMemory)) view view
@@ -502,10 +496,12 @@ count-first xs zero = omega arith
 count-first [] (suc i) = omega arith
 count-first (x ∷ xs) (suc i) = omega (arith, count-first xs i)
 
--- so the counts of steps stay within what all items ask for
-pub counts-next : (xs : List Item) (i count taken : ℕ) (item : Item) → i < length xs → item ≡ get_or xs i item → count ≤ step_count (take i xs) → taken ≤ steps_in item
-    → count + taken ≤ step_count (take (i + 1) xs)
-counts-next xs i count taken item below e h k = omega (arith, count-more xs i below item e, h, k)
+-- so there is room for the steps of the next one
+pub room_at : (xs : List Item) (i : ℕ) (tally : Tally) (item : Item) → i < length xs → item ≡ get_or xs i item → AreOfSteps tally → tally.steps ≤ step_count (take i xs)
+    → step_count xs ≤ step_limit → HasRoom tally item
+room_at xs i tally item below e are h fits = record { of_steps = are; few = omega (arith, count-more xs i below item e, count-first xs (i + 1), h, fits) }
 
-pub counts-fit : (xs : List Item) (i count : ℕ) → count ≤ step_count (take i xs) → count ≤ step_count xs
-counts-fit xs i count h = omega (arith, count-first xs i, h)
+-- and no more steps are counted than the items ask for
+pub counts-next : (xs : List Item) (i : ℕ) (tally counts : Tally) (item : Item) → i < length xs → item ≡ get_or xs i item → tally.steps ≤ step_count (take i xs)
+    → counts.steps ≤ tally.steps + steps_in item → counts.steps ≤ step_count (take (i + 1) xs)
+counts-next xs i tally counts item below e h k = omega (arith, count-more xs i below item e, h, k)

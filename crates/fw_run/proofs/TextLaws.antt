@@ -1,9 +1,12 @@
 -- What accepted texts spell is a well-formed system, and texts have one answer.
-use Rattle.std.proofs.Common.{◌≡◌, ◌⊎◌, inl, inr, ℕ, List, [], ◌∷◌, map, Option, Some, refl, sym, ◌∙◌, ap, subst}
+use Rattle.std.proofs.Common.{◌≡◌, ◌⊎◌, inl, inr, ℕ, ◌≤◌, List, [], ◌∷◌, map, Option, Some, refl, sym, ◌∙◌, ap, subst}
 use Rattle.std.proofs.lemmas.Option.{same_Some}
 use Rattle.fw_outside.specs.Outside.{IsText, one_more}
 use Rattle.fw_bag.specs.declared.rec.Rec.{Rec}
+use Rattle.fw_lines.specs.declared.fault.ReadFault.{ReadFault}
+use Rattle.fw_lines.specs.declared.fault.ReadFault.TheVariants as not_read
 use Rattle.fw_lines.specs.declared.refusal.Refusal.{Refusal}
+use Rattle.fw_lines.specs.Faults as faults
 use Rattle.fw_lines.specs.Batches.{batches_at}
 use Rattle.fw_lines.specs.Inputs as inputs
 use Rattle.fw_lines.specs.Lines.{said_lines}
@@ -23,9 +26,16 @@ use Rattle.fw_run.specs.declared.reading.Fed.{Fed}
 use Rattle.fw_run.specs.declared.reading.Job.{Job}
 use Rattle.fw_run.specs.declared.reading.JobFault.{JobFault}
 use Rattle.fw_run.specs.declared.reading.JobFault.TheVariants.{Failed, Refused, NoMemory}
-use Rattle.fw_run.specs.Reading.{IfRefused, IsJob, IsFed}
-use Rattle.fw_run.specs.Texts.{Texts, spelled_batches, spelled_system, spelled_items, AreAccepted, AreOfSystem, HasText, AreThere, HasTwo, HasFlow, IsFlowRefused, AreInputsRefused, IsScheduleRefused, IsFirstRefusal, IsFirstOfTwoRefused, IsAskedTwice, IsAskedNoMore}
-use Rattle.fw_run.specs.Words.{TextNames, SystemNames}
+use Rattle.fw_run.specs.Reading.{IfRefused, IsJob, IsGenerated, IsFed, job_fault}
+use Rattle.fw_generate.specs.Draws.{words_from}
+use Rattle.fw_generate.specs.Laws.{AreAccepted, GeneratedTextsAreAccepted, size_limit}
+use Rattle.fw_generate.specs.Texts.{Texts, batch_lines, texts_of}
+use Rattle.fw_generate.proofs.FlowLaws.{the_flow}
+use Rattle.fw_generate.proofs.InputLaws.{inputs_accepted}
+use Rattle.fw_generate.proofs.ScheduleLaws.{schedule_accepted}
+use Rattle.fw_generate.proofs.WellFormed.{flow_accepted}
+use Rattle.fw_run.specs.Texts.{spelled_batches, spelled_system, spelled_items, AreOfSystem, HasText, AreThere, HasTwo, HasFlow, IsFlowRefused, AreInputsRefused, IsScheduleRefused, IsFirstRefusal, IsFirstOfTwoRefused, IsAskedTwice, IsAskedNoMore}
+use Rattle.fw_run.specs.Words.{TextNames, SystemNames, Seeded}
 
 -- ---- what accepted texts spell
 
@@ -75,6 +85,19 @@ job_read_in_turn told second third names job e h f i s =
     job_read told names job f
     (subst (λ t. HasText t names.inputs (λ text. inputs.IsAccepted text (sources_of job.flow) job.batches)) e i)
     (subst (λ t. HasText t names.schedule (λ text. schedules.IsAccepted text job.flow job.items)) (h ∙ e) s)
+
+-- and so is what generated texts spell
+pub generated_read : (seeded : Seeded) (texts : Texts) (job : Job) → texts ≡ texts_of seeded.size (words_from seeded.seed)
+    → flows.IsAccepted texts.flow job.flow → inputs.IsAccepted texts.inputs (sources_of job.flow) job.batches → schedules.IsAccepted texts.schedule job.flow job.items
+    → IsGenerated seeded job
+generated_read seeded texts job e f i s =
+    record {
+      texts = texts;
+      drawn = e;
+      accepted = record { declared = f; inputs = i.sound; schedule = subst (schedules.IsAccepted texts.schedule job.flow) s.value s };
+      system = system_read texts.inputs job.flow job.batches i;
+      items = s.value;
+    }
 
 -- so is what the texts of a flow and its inputs spell
 pub fed_read : (told second : Option (List ℕ → Option (List ℕ))) (names : SystemNames) (fed : Fed) → second ≡ told
@@ -199,3 +222,44 @@ flow_or_refused texts name text flow r t a p =
 -- and refused by one rule
 pub one_flow_refusal : (texts : List ℕ → Option (List ℕ)) (name : List ℕ) (r s : Refusal) → IsFlowRefused (Some texts) name r → IsFlowRefused (Some texts) name s → r ≡ s
 one_flow_refusal texts name r s a b = both_true texts name (λ text. flows.IsRefused text r) (λ text. flows.IsRefused text s) (r ≡ s) a b (λ text p q. flow_texts.one_refusal text r s p q)
+
+-- ---- generated texts
+
+-- those of each size up to the greatest are accepted, whatever is drawn for them
+pub generated-accepted : GeneratedTextsAreAccepted
+generated-accepted size words h =
+    (the_flow, record { declared = flow_accepted; inputs = inputs_accepted size words h; schedule = schedule_accepted size (batch_lines size words).1 h })
+
+-- a text that cannot be refused is not read only for want of memory
+only_memory : (P : Refusal → Type 0) (fault : ReadFault) → ((refusal : Refusal) → P refusal → ⊥) → faults.IfRefused P fault → job_fault fault ≡ NoMemory
+only_memory P (not_read.Refused refusal) never p = absurd (never refusal p)
+only_memory P not_read.NoMemory never p = refl
+
+-- so it is with the flow of generated texts
+pub flow_not_refused : (seeded : Seeded) (three : Texts) (fault : ReadFault) → seeded.size ≤ size_limit → three ≡ texts_of seeded.size (words_from seeded.seed)
+    → faults.IfRefused (flows.IsRefused three.flow) fault → job_fault fault ≡ NoMemory
+flow_not_refused seeded three fault h e =
+    let law = generated-accepted seeded.size (words_from seeded.seed) h in
+    let a = subst (λ (texts : Texts). AreAccepted texts law.0) (sym e) law.1 in
+    only_memory (flows.IsRefused three.flow) fault (λ refusal. flow_texts.accepted_or_refused three.flow law.0 refusal a.declared)
+
+-- what is accepted of generated texts, of the flow that was read
+accepted_as_read : (seeded : Seeded) (three : Texts) (flow : Dataflow) → seeded.size ≤ size_limit → three ≡ texts_of seeded.size (words_from seeded.seed)
+    → flows.IsAccepted three.flow flow → AreAccepted three flow
+accepted_as_read seeded three flow h e f =
+    let law = generated-accepted seeded.size (words_from seeded.seed) h in
+    let a = subst (λ (texts : Texts). AreAccepted texts law.0) (sym e) law.1 in
+    subst (AreAccepted three) (flow_texts.one_flow three.flow law.0 flow a.declared f) a
+
+-- with their inputs
+pub inputs_not_refused : (seeded : Seeded) (three : Texts) (flow : Dataflow) (fault : ReadFault) → seeded.size ≤ size_limit → three ≡ texts_of seeded.size (words_from seeded.seed)
+    → flows.IsAccepted three.flow flow → faults.IfRefused (inputs.IsRefused three.inputs (sources_of flow)) fault → job_fault fault ≡ NoMemory
+inputs_not_refused seeded three flow fault h e f =
+    only_memory (inputs.IsRefused three.inputs (sources_of flow)) fault (λ refusal. inputs_or_refused flow three.inputs refusal (accepted_as_read seeded three flow h e f).inputs)
+
+-- and with their schedule
+pub schedule_not_refused : (seeded : Seeded) (three : Texts) (flow : Dataflow) (fault : ReadFault) → seeded.size ≤ size_limit → three ≡ texts_of seeded.size (words_from seeded.seed)
+    → flows.IsAccepted three.flow flow → faults.IfRefused (schedules.IsRefused three.schedule flow) fault → job_fault fault ≡ NoMemory
+schedule_not_refused seeded three flow fault h e f =
+    only_memory (schedules.IsRefused three.schedule flow) fault
+    (λ refusal. schedule_texts.accepted_or_refused three.schedule flow (spelled_items flow three) refusal (accepted_as_read seeded three flow h e f).schedule)

@@ -20,12 +20,12 @@ takes_more : (before mid after : Option (List ℕ)) (one other : List ℕ) → T
 takes_more None mid after one other e f = f ∙ ap (option_map (λ t. t ++ other)) e
 takes_more (Some taken) mid after one other e f = f ∙ ap (option_map (λ t. t ++ other)) e ∙ ap Some (append_assoc taken one other)
 
-takes_none : (before : Option (List ℕ)) → Takes before [] before
+pub takes_none : (before : Option (List ℕ)) → Takes before [] before
 takes_none None = refl
 takes_none (Some taken) = ap Some (sym (append-nil taken))
 
 -- memory is not the sink's own fault
-memory : NoMemory ≡ Failed → ⊥
+pub memory : NoMemory ≡ Failed → ⊥
 memory e = absurd (cc)
 
 -- ---- what was written

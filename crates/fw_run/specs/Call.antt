@@ -1,5 +1,5 @@
 -- What a call of `falkirk` promises of its words, its texts and what is outside.
-use Rattle.std.specs.Prelude.{◌≡◌, ◌⊎◌, ◌≤◌, ℕ, List, Option, Some, None, IsSome}
+use Rattle.std.specs.Prelude.{◌≡◌, ◌≢◌, ◌⊎◌, ◌≤◌, ℕ, true, List, [], Option, Some, None, IsSome, option_map, option_and_then}
 use Rattle.std.specs.Borrow.{Bor}
 use Rattle.fw_flow.specs.Dataflow.{Dataflow, System}
 use Rattle.fw_flow_text.specs.Grammar as flows
@@ -11,12 +11,16 @@ use Rattle.fw_keep.specs.Stored.{Records}
 use Rattle.fw_run.specs.declared.status.Status.{Status}
 use Rattle.fw_run.specs.declared.status.Status.TheVariants.{Done, Refused, ReadFault, WriteFault, StoreFault, Damaged, NoMemory}
 use Rattle.fw_run.specs.DenotationText.{PrintsDenotation}
+use Rattle.fw_run.specs.Enduring.{PrintsEndured, RoseBy}
 use Rattle.fw_run.specs.Listing.{check_text}
 use Rattle.fw_run.specs.Status.{IsTold, note_line, status_number}
-use Rattle.fw_run.specs.Stopping.{LeavesWrites, IsStoppedByStore, IsStoppedByDamage}
-use Rattle.fw_run.specs.Texts.{Texts, AreThere, HasTwo, AreAccepted, AreOfSystem, IsFlowRefused, IsFirstOfTwoRefused, IsFirstRefusal, IsAskedTwice, IsAskedNoMore, spelled_system, spelled_items}
+use Rattle.fw_generate.specs.Laws.{AreAccepted}
+use Rattle.fw_generate.specs.Texts.{Texts}
+use Rattle.fw_run.specs.Tallies.{PrintsSummary}
+use Rattle.fw_run.specs.Texts.{AreThere, AreGenerated, HasTwo, AreOfSystem, IsFlowRefused, IsFirstOfTwoRefused, IsFirstRefusal, IsAskedTwice, IsAskedNoMore, spelled_system, spelled_items}
 use Rattle.fw_run.specs.Trusting.{AreKnown, PrintsKnown}
-use Rattle.fw_run.specs.Words.{Command, TextNames, run, denote, check, command_of, words_in}
+use Rattle.fw_run.specs.Words.{Command, Manner, manner_of, asks_folder, run, endure, generate, denote, check, command_of, words_in}
+use Rattle.fw_run.specs.Work.{IsWholeRun, IsStoreFault, IsDamageIn}
 use Rattle.fw_run.specs.Writing.{IsWritten, IsCutOff, WritesText}
 
 -- what a call is given: the command that its words are, if they are one, and the folder's texts, where it tells them
@@ -30,39 +34,52 @@ call_of words told = record { command = command_of (words_in words); told = told
 
 -- ---- the commands; of the texts of a check the flow alone counts, of those of a denotation the flow and the inputs
 
--- the folder has these texts under the names of the command, where it tells its texts
+-- the folder has these texts under the names of the command, where it tells its texts; or they are generated
 abbrev pub HasTexts : Option (List ℕ → Option (List ℕ)) → Command → Texts → Type 0
 HasTexts told (run names) texts = AreThere told names texts
+HasTexts told (endure names) texts = AreThere told names texts
+HasTexts told (generate seeded) texts = AreGenerated seeded texts
 HasTexts told (denote names) texts = HasTwo told names texts
 HasTexts told (check name) texts = IsText told name texts.flow
 
 -- the command accepts the texts, of which the flow's declares this dataflow
 abbrev pub Accepts : Command → Texts → Dataflow → Type 0
 Accepts (run names) texts flow = AreAccepted texts flow
+Accepts (endure names) texts flow = AreAccepted texts flow
+Accepts (generate seeded) texts flow = AreAccepted texts flow
 Accepts (denote names) texts flow = AreOfSystem texts flow
 Accepts (check name) texts flow = flows.IsAccepted texts.flow flow
 
--- the first of its texts that the command does not accept is refused so
+-- the first of its texts that the command does not accept is refused so; generated texts are accepted
 abbrev pub Refuses : Option (List ℕ → Option (List ℕ)) → Command → Refusal → Type 0
 Refuses told (run names) refusal = IsFirstRefusal told names refusal
+Refuses told (endure names) refusal = IsFirstRefusal told names refusal
+Refuses told (generate seeded) refusal = ⊥
 Refuses told (denote names) refusal = IsFirstOfTwoRefused told names refusal
 Refuses told (check name) refusal = IsFlowRefused told name refusal
 
--- this is all that the command prints of the texts, of which the flow's declares this dataflow, of a run as far as it is known
-abbrev pub Prints : Type 0 → Command → Texts → Dataflow → List ℕ → Type 0
-Prints Tells (run names) texts flow printed = PrintsKnown Tells (spelled_system flow texts) (spelled_items flow texts) printed
-Prints Tells (denote names) texts flow printed = PrintsDenotation (spelled_system flow texts) printed
-Prints Tells (check name) texts flow printed = printed ≡ check_text flow
+-- This is what the command prints of the texts, of which the flow's declares this dataflow, of a run as far as it is known. Through
+-- faults of the store it is first bytes of that, and this is true of how many faults there are, and of the bytes that are left.
+abbrev pub Prints : Type 0 → (ℕ → List ℕ → Type 0) → Command → Texts → Dataflow → List ℕ → Type 0
+Prints Tells IsSo (run names) texts flow printed = PrintsKnown Tells (spelled_system flow texts) (spelled_items flow texts) printed
+Prints Tells IsSo (endure names) texts flow printed = PrintsEndured Tells IsSo (spelled_system flow texts) (spelled_items flow texts) printed
+Prints Tells IsSo (generate seeded) texts flow printed = AreKnown Tells (spelled_system flow texts) (spelled_items flow texts)
+    → PrintsSummary (spelled_system flow texts) (spelled_items flow texts) seeded printed
+Prints Tells IsSo (denote names) texts flow printed = PrintsDenotation (spelled_system flow texts) printed
+Prints Tells IsSo (check name) texts flow printed = printed ≡ check_text flow
 
--- the command asked a folder no more often than this, if its calls were counted from the first number to the second: a check once
+-- the command asked a folder no more often than this, if its calls were counted from the first number to the second: a check once,
+-- and never for generated texts
 abbrev pub AsksNoMore : Option (List ℕ → Option (List ℕ)) → Command → ℕ → ℕ → Type 0
 AsksNoMore told (run names) before after = IsAskedNoMore told names before after
+AsksNoMore told (endure names) before after = IsAskedNoMore told names before after
+AsksNoMore told (generate seeded) before after = after ≡ before
 AsksNoMore told (denote names) before after = IsAskedTwice told names.flow before after
 AsksNoMore told (check name) before after = after ≡ one_more before
 
 -- ---- the texts
 
--- the words are a command, which accepts these texts, which the folder has
+-- the words are a command, which accepts these texts, which are there
 pub record HasAccepted (call : Call) (texts : Texts) : Type 0 where
   pub command : Command
   pub words : call.command ≡ Some command
@@ -99,55 +116,62 @@ pub record AnswersTexts (Tells : Type 0) (call : Call) (status : Status) : Type 
 
 -- ---- what is outside
 
--- the whole text that the call prints of the texts that it accepts: that of the machine's run, as far as it is known, that of the
+-- the text that the call prints of the texts that it accepts: that of the machine's run, as far as it is known, that of the
 -- denotation, or the list of the flow's nodes
-pub record IsPrintout (Tells : Type 0) (call : Call) (printed : List ℕ) : Type 0 where
+pub record IsPrintout (Tells : Type 0) (IsSo : ℕ → List ℕ → Type 0) (call : Call) (printed : List ℕ) : Type 0 where
   pub texts : Texts
   pub accepted : HasAccepted call texts
-  pub text : Prints Tells accepted.command texts accepted.flow printed
+  pub text : Prints Tells IsSo accepted.command texts accepted.flow printed
 
--- all that the call prints was written
+-- all that the call prints was written, and the store did not fail
 abbrev pub PrintsAll : Type 0 → Call → SinkView → SinkView → Type 0
-PrintsAll Tells call before after = WritesText (IsPrintout Tells call) (λ printed. IsWritten printed before after)
+PrintsAll Tells call before after =
+    WritesText (IsPrintout Tells (λ faults others. (faults ≡ 0) × (others ≡ [])) call) (λ printed. IsWritten printed before after)
 
--- what the call prints was cut off by a fault: first bytes of it were written
-abbrev pub PrintsPart : Type 0 → Call → OutFault → SinkView → SinkView → Type 0
-PrintsPart Tells call fault before after = WritesText (IsPrintout Tells call) (λ printed. IsCutOff printed fault before after)
+-- What the call prints was cut off by a fault: first bytes of it were written. As often as it tells that the store failed the store's
+-- count rose, from the first number to the second.
+abbrev pub PrintsPart : Type 0 → Call → ℕ → ℕ → OutFault → SinkView → SinkView → Type 0
+PrintsPart Tells call count last fault before after =
+    WritesText (IsPrintout Tells (λ faults others. RoseBy count last faults) call) (λ printed. IsCutOff printed fault before after)
 
--- the call is a run of accepted texts, and this is true of the system and the items that they spell
-pub record IsRunOf (call : Call) (IsSo : System → List Item → Type 0) : Type 0 where
-  pub names : TextNames
-  pub words : call.command ≡ Some (run names)
+-- the call takes the steps of accepted texts, and this is true of how it tells them, and of the system and the items that the texts
+-- spell
+pub record IsRunOf (call : Call) (IsSo : Manner → System → List Item → Type 0) : Type 0 where
+  pub command : Command
+  pub words : call.command ≡ Some command
+  pub manner : Manner
+  pub takes : manner_of command ≡ Some manner
   pub texts : Texts
-  pub there : AreThere call.told names texts
+  pub there : HasTexts call.told command texts
   pub flow : Dataflow
   pub accepted : AreAccepted texts flow
-  pub so : IsSo (spelled_system flow texts) (spelled_items flow texts)
+  pub so : IsSo manner (spelled_system flow texts) (spelled_items flow texts)
 
--- a run left the writes of its last state in the store, if it is known what comes of its items
-abbrev pub LeavesStore : Type 0 → Call → Option Records → Type 0
-LeavesStore Tells call records = (names : TextNames) → call.command ≡ Some (run names)
-    → IsRunOf call (λ sys items. AreKnown Tells sys items → LeavesWrites sys items records)
+-- a run left the writes of its last state in the store
+abbrev pub LeavesStore : Type 0 → Call → Option Records → SinkView → SinkView → Type 0
+LeavesStore Tells call records before after =
+    (command : Command) → call.command ≡ Some command → IsSome (manner_of command) → IsRunOf call (IsWholeRun Tells records before after)
 
--- the call is a run, and was stopped by its store
-abbrev pub StopsAtStore : Type 0 → Call → Option Records → SinkView → SinkView → Type 0
-StopsAtStore Tells call records before after = IsRunOf call (λ sys items. IsStoppedByStore Tells sys items records before after)
+-- the call is a run, and its store failed
+abbrev pub StopsAtStore : Type 0 → Call → ℕ → ℕ → Option Records → SinkView → SinkView → Type 0
+StopsAtStore Tells call count last records before after = IsRunOf call (IsStoreFault Tells count last records before after)
 
--- the call is a run, and was stopped by a damaged record
-abbrev pub StopsAtDamage : Type 0 → Call → ℕ → Option (ℕ × List ℕ) → SinkView → SinkView → Type 0
-StopsAtDamage Tells call id given before after = IsRunOf call (λ sys items. IsStoppedByDamage Tells sys items id given before after)
+-- the call is a run, and was ended by a damaged record; the store's count rose from the first number to the second
+abbrev pub StopsAtDamage : Type 0 → Call → ℕ → ℕ → ℕ → Option (ℕ × List ℕ) → SinkView → SinkView → Type 0
+StopsAtDamage Tells call count last id given before after = IsRunOf call (IsDamageIn Tells count last id given before after)
 
 -- only a run changes the store, and none that was not begun
 pub record KeepsStore {K : Type 0} (command : Option Command) (status : Status) (before after : K) : Type 0 where
-  pub no_run : ((names : TextNames) → command ≡ Some (run names) → ⊥) → after ≡ before
+  pub no_run : option_and_then manner_of command ≡ None → after ≡ before
   pub not_begun : 2 ≤ status_number status → status_number status ≤ 6 → after ≡ before
 
--- The folder keeps its texts. It was not asked where the words are no command, nor perhaps where memory was refused. Else it was asked
--- once; by a run or for a denotation a second time only where the flow is accepted; by a run a third time only where the inputs are
--- too, and no fourth.
-pub record KeepsFolder {F : Type 0} (texts : F → Option (List ℕ → Option (List ℕ))) (fetch_count : F → ℕ) (command : Option Command) (status : Status) (before after : F) : Type 0 where
+-- The folder keeps its texts. It was not asked where the words are no command or texts are generated, nor perhaps where memory was
+-- refused. Else it was asked once; by a run or for a denotation a second time only where the flow is accepted; by a run a third time only
+-- where the inputs are too, and no fourth.
+pub record KeepsFolder {F : Type 0} (texts : F → Option (List ℕ → Option (List ℕ))) (fetch_count : F → ℕ) (command : Option Command) (status : Status)
+    (before after : F) : Type 0 where
   pub texts_stay : texts after ≡ texts before
-  pub nothing_read : command ≡ None → after ≡ before
+  pub nothing_read : option_map asks_folder command ≢ Some true → after ≡ before
   pub asked_no_more : (asked : Command) → command ≡ Some asked
       → ((status ≡ NoMemory) × (after ≡ before)) ⊎ AsksNoMore (texts before) asked (fetch_count before) (fetch_count after)
 

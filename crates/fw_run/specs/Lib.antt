@@ -1,5 +1,6 @@
 pub mod Call
 pub mod DenotationText
+pub mod Enduring
 pub mod Fault
 pub mod Forms
 pub mod Headline
@@ -10,6 +11,7 @@ pub mod Printed
 pub mod Reading
 pub mod Status
 pub mod Stopping
+pub mod Tallies
 pub mod Texts
 pub mod Trusting
 pub mod Words

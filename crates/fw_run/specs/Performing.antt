@@ -1,5 +1,5 @@
 -- What was printed of an item of a schedule, and how far it led.
-use Rattle.std.specs.Prelude.{◌≡◌, ℕ, ◌≤◌, List, [], ◌++◌, length, Option, Some, None, Result, Ok, Err}
+use Rattle.std.specs.Prelude.{◌≡◌, ℕ, ◌+◌, ◌<◌, ◌≤◌, List, [], ◌++◌, take, Option, Some, None, Result, Ok, Err}
 use Rattle.std.specs.declared.alloc.Global.{Global}
 use Rattle.std.specs.declared.vec.Vec.{Vec}
 use Rattle.fw_outside.specs.declared.fault.OutFault.{OutFault}
@@ -9,8 +9,8 @@ use Rattle.fw_flow.specs.declared.step.Step.{Step}
 use Rattle.fw_flow.specs.Dataflow.{System}
 use Rattle.fw_schedule.specs.declared.item.Item.{Item}
 use Rattle.fw_schedule.specs.declared.item.Item.TheVariants.{One, Auto}
-use Rattle.fw_schedule.specs.Schedule.{steps_in}
-use Rattle.fw_model.specs.Machine.{Machine}
+use Rattle.fw_schedule.specs.Schedule.{steps_in, step_limit}
+use Rattle.fw_model.specs.Machine.{Machine, first_state}
 use Rattle.fw_model.specs.Steps.{Outcome, Run}
 use Rattle.fw_keep.specs.Stored.{Records}
 use Rattle.fw_running.specs.declared.fault.EngineFault.{EngineFault}
@@ -20,12 +20,13 @@ use Rattle.fw_engine.specs.declared.engine.Engine.{Engine}
 use Rattle.fw_engine.specs.Engine.{StandsFor}
 use Rattle.fw_run.specs.declared.fault.RunFault.{RunFault}
 use Rattle.fw_run.specs.declared.fault.RunFault.TheVariants as stop
-use Rattle.fw_run.specs.declared.perform.Taken.{Taken}
+use Rattle.fw_run.specs.declared.tally.Tally.{Tally}
 use Rattle.fw_run.specs.Fault.{out_fault}
-use Rattle.fw_run.specs.Items.{ItemComesTo}
-use Rattle.fw_run.specs.Printed.{outcomes_text, idle_count}
+use Rattle.fw_run.specs.Items.{ComesTo, ItemComesTo}
+use Rattle.fw_run.specs.Printed.{outcomes_text}
 use Rattle.fw_run.specs.Stopping.{ItemBegins, IsLeftIn}
-use Rattle.fw_run.specs.Trusting.{PrintsKnown}
+use Rattle.fw_run.specs.Tallies.{AreOfSteps, tally_of, with_tally}
+use Rattle.fw_run.specs.Trusting.{AreKnown, BeginsWith, PrintsKnown}
 use Rattle.fw_run.specs.Writing.{NeverFall, IsWritten, IsCutOff, WritesText}
 
 -- the bytes of a line, none where there is no line
@@ -68,13 +69,12 @@ abbrev pub TrustsItem : System → Machine → Item → Option Records → Type 
 TrustsItem sys state (One step) records = Trusts sys state step records
 TrustsItem sys state (Auto most) records = Unit {0}
 
--- The machine takes the item from the state; these are its lines, so many steps, and so many idle; and the engine then stands for
--- the state to which it leads.
-pub record IsItemTaken (sys : System) (state : Machine) (item : Item) (taken : Taken) (bytes : List ℕ) (engine : Engine) (records : Option Records)
+-- The machine takes the item from the state; these are its lines, and so it is counted; and the engine then stands for the state to
+-- which it leads.
+pub record IsItemTaken (sys : System) (state : Machine) (item : Item) (old new : Tally) (bytes : List ℕ) (engine : Engine) (records : Option Records)
     : Type 0 where
   pub of_item : ItemRun sys state item
-  pub steps : taken.steps ≡ length of_item.steps
-  pub idle : taken.idle ≡ idle_count of_item.outcomes
+  pub counted : new ≡ with_tally old (tally_of of_item.outcomes)
   pub text : bytes ≡ outcomes_text sys.flow of_item.outcomes
   pub stands : StandsFor sys engine records of_item.last
 
@@ -84,13 +84,15 @@ pub record IsItemBegun (sys : System) (state : Machine) (item : Item) (bytes : L
   pub others : List ℕ
   pub text : outcomes_text sys.flow of_item.outcomes ≡ bytes ++ others
 
--- the machine begins the item and comes to a state of which this is true, and these are the lines of its steps so far
-pub record IsItemStopped (sys : System) (state : Machine) (item : Item) (bytes : List ℕ) (IsSo : Machine → Type 0) : Type 0 where
+-- The machine begins the item and comes to a state of which this is true; these are the lines of its steps so far, and so they are
+-- counted.
+pub record IsItemStopped (sys : System) (state : Machine) (item : Item) (old new : Tally) (bytes : List ℕ) (IsSo : Machine → Type 0) : Type 0 where
   pub begun : List Step
   pub now : Machine
   pub begins : ItemBegins sys state item begun now
   pub outcomes : List Outcome
   pub run : Run sys state begun outcomes now
+  pub counted : new ≡ with_tally old (tally_of outcomes)
   pub text : bytes ≡ outcomes_text sys.flow outcomes
   pub so : IsSo now
 
@@ -102,27 +104,52 @@ IsLeftAfter sys item (fault.Damaged id) before new after state = before ≡ None
 IsLeftAfter sys item fault.NoMemory before new after state = Unit {0}
 
 -- what an answer to an item says of the bytes that were written, where the engine stood for the state
-abbrev pub DoesItem : System → Machine → Item → List ℕ → Result Taken RunFault → Option Records → Engine → Option Records → Type 0
-DoesItem sys state item bytes (Ok taken) before new after =
-    TrustsItem sys state item before → IsItemTaken sys state item taken bytes new after
-DoesItem sys state item bytes (Err (stop.Out fault)) before new after = TrustsItem sys state item before → IsItemBegun sys state item bytes
-DoesItem sys state item bytes (Err (stop.Engine fault)) before new after =
-    IsItemStopped sys state item bytes (IsLeftAfter sys item fault before new after)
+abbrev pub DoesItem : {T : Type 0} → System → Machine → Item → Tally → Tally → List ℕ → Result T RunFault → Option Records → Engine → Option Records
+    → Type 0
+DoesItem sys state item old new bytes (Ok value) before engine after =
+    TrustsItem sys state item before → IsItemTaken sys state item old new bytes engine after
+DoesItem sys state item old new bytes (Err (stop.Out fault)) before engine after = TrustsItem sys state item before → IsItemBegun sys state item bytes
+DoesItem sys state item old new bytes (Err (stop.Engine fault)) before engine after =
+    IsItemStopped sys state item old new bytes (IsLeftAfter sys item fault before engine after)
 
 -- What an answer to an item says: some bytes were written, and from each state for which the engine stood they are the lines of the
 -- item, or first bytes of these.
-pub record PrintsItem (old : Engine) (before : Option Records) (item : Item) (answer : Result Taken RunFault) (new : Engine) (after : Option Records)
-    (first last : SinkView) : Type 0 where
+pub record PrintsItem {T : Type 0} (old : Engine) (before : Option Records) (item : Item) (counted : Tally) (answer : Result T RunFault)
+    (new : Engine) (after : Option Records) (counts : Tally) (first last : SinkView) : Type 0 where
   pub bytes : List ℕ
   pub taken : IsTaken bytes answer first last
-  pub does : (sys : System) (state : Machine) → StandsFor sys old before state → DoesItem sys state item bytes answer before new after
+  pub does : (sys : System) (state : Machine) → StandsFor sys old before state → DoesItem sys state item counted counts bytes answer before new after
 
--- no more steps were taken than the item asks for, and no more of them idle
-pub record AreFew (item : Item) (taken : Taken) : Type 0 where
-  pub steps : taken.steps ≤ steps_in item
-  pub idle : taken.idle ≤ steps_in item
+-- the tally has room for the steps of the item
+pub record HasRoom (tally : Tally) (item : Item) : Type 0 where
+  pub of_steps : AreOfSteps tally
+  pub few : tally.steps + steps_in item ≤ step_limit
+
+-- no more steps were counted than the item asks for; fewer, where the store failed in one
+abbrev pub AreFew : {T : Type 0} → Item → Result T RunFault → Tally → Tally → Type 0
+AreFew item (Err (stop.Engine fault.StoreFault)) before after = AreOfSteps after × (after.steps < before.steps + steps_in item)
+AreFew item answer before after = AreOfSteps after × (after.steps ≤ before.steps + steps_in item)
 
 -- ---- items
+
+-- The engine stands for the state to which the items lead; so their steps are counted, and these are their lines.
+pub record IsSoFar (sys : System) (items : List Item) (engine : Engine) (records : Option Records) (tally : Tally) (bytes : List ℕ) : Type 0 where
+  pub steps : List Step
+  pub state : Machine
+  pub comes : ComesTo sys (first_state sys) items steps state
+  pub outcomes : List Outcome
+  pub run : Run sys (first_state sys) steps outcomes state
+  pub counted : tally ≡ tally_of outcomes
+  pub text : bytes ≡ outcomes_text sys.flow outcomes
+  pub stands : StandsFor sys engine records state
+
+-- What was written of the items is their lines, as far as it is known what comes of them, or of first ones.
+pub record AreTaken (Tells : Type 0) (sys : System) (items : List Item) (engine : Engine) (records : Option Records) (tally : Tally)
+    (first last : SinkView) : Type 0 where
+  pub bytes : List ℕ
+  pub written : IsWritten bytes first last
+  pub so_far : AreKnown Tells sys items → IsSoFar sys items engine records tally bytes
+  pub begins : (count : ℕ) → AreKnown Tells sys (take count items) → BeginsWith sys (take count items) bytes
 
 -- the text of the run over the items, as far as it is known, was written, or cut off by the fault that was answered
 abbrev pub Performs : {T : Type 0} → Type 0 → System → List Item → Result T RunFault → SinkView → SinkView → Type 0

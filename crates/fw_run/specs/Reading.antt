@@ -13,8 +13,11 @@ use Rattle.fw_run.specs.declared.reading.JobFault.{JobFault}
 use Rattle.fw_run.specs.declared.reading.JobFault.TheVariants.{Failed, Refused, NoMemory}
 use Rattle.fw_run.specs.declared.reading.Fed.{Fed}
 use Rattle.fw_run.specs.declared.reading.Job.{Job}
-use Rattle.fw_run.specs.Texts.{HasText, Texts, AreThere, HasTwo, AreAccepted, AreOfSystem, spelled_system, spelled_items}
-use Rattle.fw_run.specs.Words.{TextNames, SystemNames}
+use Rattle.fw_generate.specs.Laws.{AreAccepted}
+use Rattle.fw_generate.specs.Draws.{words_from}
+use Rattle.fw_generate.specs.Texts.{Texts, texts_of}
+use Rattle.fw_run.specs.Texts.{HasText, AreThere, HasTwo, AreOfSystem, spelled_system, spelled_items}
+use Rattle.fw_run.specs.Words.{TextNames, SystemNames, Seeded}
 
 -- where the fault is a refusal it is one of these; the other faults say nothing here
 abbrev pub IfRefused : (Refusal → Type 0) → JobFault → Type 0
@@ -35,6 +38,14 @@ IsTooLarge told name limit code refusal = HasText told name (λ text. (limit < l
 pub record IsJob (told : Option (List ℕ → Option (List ℕ))) (names : TextNames) (job : Job) : Type 0 where
   pub texts : Texts
   pub there : AreThere told names texts
+  pub accepted : AreAccepted texts job.flow
+  pub system : system_of job.flow job.batches ≡ spelled_system job.flow texts
+  pub items : job.items ≡ spelled_items job.flow texts
+
+-- the same of the generated texts of a seed and a size
+pub record IsGenerated (seeded : Seeded) (job : Job) : Type 0 where
+  pub texts : Texts
+  pub drawn : texts ≡ texts_of seeded.size (words_from seeded.seed)
   pub accepted : AreAccepted texts job.flow
   pub system : system_of job.flow job.batches ≡ spelled_system job.flow texts
   pub items : job.items ≡ spelled_items job.flow texts

@@ -1,7 +1,6 @@
 -- What a run leaves in its store, and where a store may stop it.
 use Rattle.std.specs.Prelude.{◌≡◌, ℕ, ◌<◌, List, [], ◌∷◌, ◌++◌, length, Option, Some}
 use Rattle.std.specs.List.{Contains}
-use Rattle.fw_outside.specs.Outside.{SinkView}
 use Rattle.fw_flow.specs.declared.step.Step.{Step}
 use Rattle.fw_flow.specs.declared.step.Step.TheVariants.{Recover}
 use Rattle.fw_flow.specs.Dataflow.{Dataflow, System}
@@ -11,20 +10,21 @@ use Rattle.fw_model.specs.Auto.{IsAutoRun}
 use Rattle.fw_model.specs.Machine.{Machine, Write, first_state}
 use Rattle.fw_model.specs.Steps.{Outcome, Run}
 use Rattle.fw_keep.specs.declared.entry.Entry.{Entry}
+use Rattle.fw_keep.specs.Catalogue.{AreAscending, ids_of}
 use Rattle.fw_keep.specs.Stored.{Records, SpellsNone}
 use Rattle.fw_stands.specs.Written.{IsEntryOf, AreEntriesOf, AreStored, uncollected}
-use Rattle.fw_running.specs.Steps.{MayCallStore, IsLeftBy}
+use Rattle.fw_running.specs.Steps.{FirstMayCall, MayCallStore, IsLeftBy}
 use Rattle.fw_run.specs.Items.{ComesTo}
 use Rattle.fw_run.specs.Printed.{outcomes_text}
 use Rattle.fw_run.specs.Trusting.{AreKnown}
-use Rattle.fw_run.specs.Writing.{IsWritten}
 
 -- ---- what a store holds
 
--- Of each write of the state that was not collected there is an entry with an id, and the store holds under the id the record of
--- the write, where it tells its records.
+-- Of each write of the state that was not collected there is an entry with an id of its own, and the store holds under the id the
+-- record of the write, where it tells its records.
 pub record HoldsWrites (sys : System) (records : Option Records) (state : Machine) : Type 0 where
   pub entries : List Entry
+  pub ascending : AreAscending (ids_of entries)
   pub of_writes : AreEntriesOf sys state entries (uncollected state)
   pub held : AreStored sys state records entries (uncollected state)
 
@@ -55,21 +55,21 @@ pub record StopsIn (sys : System) (items : List Item) (item : Item) (printed : L
   pub text : printed ≡ outcomes_text sys.flow outcomes
   pub so : IsSo state
 
--- the item's step may call the store; of `auto` each may that writes
+-- a step that the item names may call the store
 abbrev pub MayCallIn : Dataflow → Item → Type 0
 MayCallIn flow (One step) = MayCallStore flow step
 MayCallIn flow (Auto most) = Unit {0}
 
--- what a fault of the store in the item's step leaves: a step of `auto` leaves the state
+-- what a fault of the store in the item's step leaves: of `auto` the first that is enabled, which may call the store, leaves the state
 abbrev pub IsLeftIn : System → Machine → Item → (Machine → Type 0) → Type 0
 IsLeftIn sys state (One step) P = IsLeftBy sys state step P
-IsLeftIn sys state (Auto most) P = P state
+IsLeftIn sys state (Auto most) P = FirstMayCall sys state × P state
 
--- The run was stopped by its store in this one of the items: in a step that may call it. What was printed is the lines of the
--- steps before, and the store holds the writes of what this step leaves.
-pub record IsStoppedByStore (Tells : Type 0) (sys : System) (items : List Item) (records : Option Records) (before after : SinkView) : Type 0 where
+-- The run was stopped by its store in this one of the items: in a step that may call it. Of the lines of the steps before this is
+-- true, and the store holds the writes of what this step leaves.
+pub record IsStoppedByStore (Tells : Type 0) (sys : System) (items : List Item) (records : Option Records) (IsPut : List ℕ → Type 0) : Type 0 where
   pub printed : List ℕ
-  pub written : IsWritten printed before after
+  pub written : IsPut printed
   pub earlier : List Item
   pub item : Item
   pub later : List Item
@@ -83,11 +83,11 @@ abbrev pub IsEntryIn : System → Entry → Machine → Type 0
 IsEntryIn sys entry state = (write : Write) × Contains (uncollected state) write × IsEntryOf sys state entry write
 
 -- The run was stopped by a damaged record in this recovery among the items: the store, which does not tell its records, gave under
--- the id of a write bytes that spell no record of it. What was printed is the lines of the steps before.
-pub record IsStoppedByDamage (Tells : Type 0) (sys : System) (items : List Item) (id : ℕ) (given : Option (ℕ × List ℕ)) (before after : SinkView)
+-- the id of a write bytes that spell no record of it. Of the lines of the steps before this is true.
+pub record IsStoppedByDamage (Tells : Type 0) (sys : System) (items : List Item) (id : ℕ) (given : Option (ℕ × List ℕ)) (IsPut : List ℕ → Type 0)
     : Type 0 where
   pub printed : List ℕ
-  pub written : IsWritten printed before after
+  pub written : IsPut printed
   pub earlier : List Item
   pub later : List Item
   pub parts : items ≡ earlier ++ One Recover ∷ later

@@ -1,5 +1,5 @@
 -- What the three texts of a run spell, and which of them is refused.
-use Rattle.std.specs.Prelude.{◌≡◌, ◌⊎◌, ℕ, List, map, Option}
+use Rattle.std.specs.Prelude.{◌≡◌, ◌⊎◌, ℕ, ◌≤◌, List, map, Option}
 use Rattle.fw_bag.specs.declared.rec.Rec.{Rec}
 use Rattle.fw_outside.specs.Outside.{IsText, one_more}
 use Rattle.fw_lines.specs.declared.refusal.Refusal.{Refusal}
@@ -11,14 +11,10 @@ use Rattle.fw_flow_text.specs.Grammar as flows
 use Rattle.fw_schedule.specs.declared.item.Item.{Item}
 use Rattle.fw_schedule.specs.Grammar.{items_of}
 use Rattle.fw_schedule.specs.Grammar as schedules
-use Rattle.fw_schedule.specs.Texts.{IsScheduleOf}
-use Rattle.fw_run.specs.Words.{TextNames, SystemNames}
-
--- the three texts of a run
-pub record Texts : Type 0 where
-  pub flow : List ℕ
-  pub inputs : List ℕ
-  pub schedule : List ℕ
+use Rattle.fw_generate.specs.Draws.{words_from}
+use Rattle.fw_generate.specs.Laws.{size_limit}
+use Rattle.fw_generate.specs.Texts.{Texts, texts_of}
+use Rattle.fw_run.specs.Words.{TextNames, SystemNames, Seeded}
 
 -- for each node of a dataflow the batches that a text gives it, by epoch
 abbrev pub spelled_batches : Dataflow → List ℕ → List (List (List Rec))
@@ -31,12 +27,6 @@ spelled_system flow texts = record { flow = flow; batches = spelled_batches flow
 -- the items of the schedule of a dataflow
 abbrev pub spelled_items : Dataflow → Texts → List Item
 spelled_items flow texts = items_of flow (said_lines texts.schedule)
-
--- the three texts are accepted: of a flow, which declares this dataflow, its inputs and its schedule
-pub record AreAccepted (texts : Texts) (flow : Dataflow) : Type 0 where
-  pub declared : flows.IsAccepted texts.flow flow
-  pub inputs : AreInputsOf flow texts.inputs
-  pub schedule : IsScheduleOf flow texts.schedule
 
 -- the first two texts are accepted: of a flow, which declares this dataflow, and its inputs
 pub record AreOfSystem (texts : Texts) (flow : Dataflow) : Type 0 where
@@ -75,6 +65,11 @@ AreInputsRefused told name flow refusal = HasText told name (λ text. inputs.IsR
 -- the text under the name is refused as a schedule of the dataflow
 abbrev pub IsScheduleRefused : Option (List ℕ → Option (List ℕ)) → List ℕ → Dataflow → Refusal → Type 0
 IsScheduleRefused told name flow refusal = HasText told name (λ text. schedules.IsRefused text flow refusal)
+
+-- these are the generated texts of the seed and the size
+pub record AreGenerated (seeded : Seeded) (texts : Texts) : Type 0 where
+  pub drawn : texts ≡ texts_of seeded.size (words_from seeded.seed)
+  pub size : seeded.size ≤ size_limit
 
 -- Of the texts of a flow and its inputs, in this order, the first that is not accepted is refused so.
 abbrev pub IsFirstOfTwoRefused : Option (List ℕ → Option (List ℕ)) → SystemNames → Refusal → Type 0

@@ -1,5 +1,5 @@
 -- How far what a run prints is that of the machine, by what the store tells.
-use Rattle.std.specs.Prelude.{◌≡◌, ◌⊎◌, ℕ, List, ◌∷◌, ◌++◌, take, Option, IsSome}
+use Rattle.std.specs.Prelude.{◌≡◌, ◌⊎◌, ℕ, List, ◌∷◌, ◌++◌, take}
 use Rattle.fw_flow.specs.declared.step.Step.{Step}
 use Rattle.fw_flow.specs.declared.step.Step.TheVariants.{Recover}
 use Rattle.fw_flow.specs.Dataflow.{System}
@@ -7,15 +7,10 @@ use Rattle.fw_schedule.specs.declared.item.Item.{Item}
 use Rattle.fw_schedule.specs.declared.item.Item.TheVariants.{One}
 use Rattle.fw_model.specs.Machine.{Machine, first_state}
 use Rattle.fw_model.specs.Steps.{Outcome, Run}
-use Rattle.fw_keep.specs.Stored.{Records}
 use Rattle.fw_running.specs.Steps.{ReadsNoCheckpoint}
 use Rattle.fw_run.specs.Headline.{PrintsRun}
 use Rattle.fw_run.specs.Items.{ComesTo}
 use Rattle.fw_run.specs.Printed.{outcomes_text}
-
--- stores of this type tell their records
-abbrev pub StoresTell : {K : Type 0} → (K → Option Records) → Type 0
-StoresTell {K} records = (store : K) → IsSome (records store)
 
 -- no recovery among the items reads a checkpoint: each is from a state to which the items before it lead
 abbrev pub NoneReadsCheckpoint : System → List Item → Type 0

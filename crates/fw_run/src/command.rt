@@ -1,15 +1,17 @@
 //! The top call.
-ghost use Rattle.std.specs.Prelude.{◌≡◌, ◌⊎◌, ◌≤◌, ◌↔◌, ℕ, None};
+ghost use Rattle.std.specs.Prelude.{◌≡◌, ◌⊎◌, ◌≤◌, ◌↔◌, ℕ, List, None, IsSome};
 ghost use Rattle.fw_lines.specs.declared.refusal.Refusal as lines;
 ghost use Rattle.fw_flow.specs.Dataflow.{Dataflow};
+ghost use Rattle.fw_schedule.specs.declared.item.Item.{Item};
 ghost use Rattle.fw_outside.specs.declared.fault.OutFault.TheVariants as OutFault;
 ghost use Rattle.fw_outside.specs.Outside.{Rose};
 ghost use Rattle.fw_keep.specs.Stored.{IsEmptyStore};
 ghost use Rattle.fw_run.specs.Call.{call_of, PrintsAll, PrintsPart, LeavesStore, StopsAtStore, StopsAtDamage, HasRefused, KeepsFolder, KeepsStore, TellsNotes, AnswersTexts};
 ghost use Rattle.fw_run.specs.Headline.{Headline};
 ghost use Rattle.fw_run.specs.Status.{status_number, IsTold, IsTellingOf};
-ghost use Rattle.fw_run.specs.Texts.{Texts, AreAccepted, spelled_system, spelled_items};
-ghost use Rattle.fw_run.specs.Trusting.{StoresTell};
+ghost use Rattle.fw_generate.specs.Laws.{AreAccepted};
+ghost use Rattle.fw_generate.specs.Texts.{Texts};
+ghost use Rattle.fw_run.specs.Texts.{spelled_system, spelled_items};
 ghost use Rattle.fw_run.specs.Words.{words_in, command_of};
 ghost use Rattle.fw_run.specs.Writing.{NeverFall};
 
@@ -20,7 +22,9 @@ use fw_outside::{Folder, Sink, Store};
 use std::alloc::Global;
 
 /// Runs a command: `words` are those after the program's name. `run FLOW INPUTS SCHEDULE` fetches and reads the
-/// three texts from the folder, takes the steps of the schedule and prints their effects to `out`; `denote FLOW INPUTS` reads
+/// three texts from the folder, takes the steps of the schedule and prints their effects to `out`; `endure FLOW INPUTS SCHEDULE`
+/// does the same, and goes on where the store fails in a step; `gen SEED SIZE` generates three texts, takes the steps and prints
+/// one line on what came of them; `denote FLOW INPUTS` reads
 /// the texts of a flow and its inputs and prints its denotation at the outputs; `check FLOW` reads the text of a flow and
 /// prints its nodes. Where that does not end well, one line on `notes` says why. The store is for records of what the nodes of
 /// a run write, and holds none at first.
@@ -38,9 +42,9 @@ pub fn falkirk<F: Folder, K: Store, O: Sink, N: Sink>(
     // records of what its nodes wrote. What a run prints is known where the store tells its records, and else up to the first
     // recovery that reads a checkpoint.
     ensures done { result ≡ Status.Done
-        → PrintsAll (StoresTell K.records) (call_of words.now (F.texts folder.old)) (O.view out.old) (O.view out.new) }
+        → PrintsAll (IsSome (K.records store.old)) (call_of words.now (F.texts folder.old)) (O.view out.old) (O.view out.new) }
     ensures stored { result ≡ Status.Done
-        → LeavesStore (StoresTell K.records) (call_of words.now (F.texts folder.old)) (K.records store.new) }
+        → LeavesStore (IsSome (K.records store.old)) (call_of words.now (F.texts folder.old)) (K.records store.new) (O.view out.old) (O.view out.new) }
     // 2: exactly where the words are no command.
     ensures bad_words { (result ≡ Status.BadWords) ↔ (command_of (words_in words.now) ≡ None) }
     // 3 to 5: the first of the texts that is not accepted breaks this rule first, on this line.
@@ -50,18 +54,23 @@ pub fn falkirk<F: Folder, K: Store, O: Sink, N: Sink>(
     ensures read_fault { result ≡ Status.ReadFault → Rose (F.fault_count folder.old) (F.fault_count folder.new) }
     // 7: the output failed, and first bytes of what is printed were written.
     ensures write_fault { result ≡ Status.WriteFault
-        → PrintsPart (StoresTell K.records) (call_of words.now (F.texts folder.old)) OutFault.Failed (O.view out.old) (O.view out.new) }
-    // 8: the store failed, in a step that may call it; the lines of the steps before were written, and the store holds the
-    // records of what this step leaves.
+        → PrintsPart (IsSome (K.records store.old)) (call_of words.now (F.texts folder.old)) (K.fault_count store.old) (K.fault_count store.new)
+        OutFault.Failed (O.view out.old) (O.view out.new) }
+    // 8: the store failed, in a step that may call it. A run ends there: the lines of the steps before were written (of generated
+    // texts nothing), and the store holds the records of what this step leaves. `endure` goes on to its end: all was written, with
+    // a line for each step in which the store failed, and the store holds the records of what its nodes wrote.
     ensures store_fault { result ≡ Status.StoreFault → Rose (K.fault_count store.old) (K.fault_count store.new)
-        × StopsAtStore (StoresTell K.records) (call_of words.now (F.texts folder.old)) (K.records store.new) (O.view out.old) (O.view out.new) }
+        × StopsAtStore (IsSome (K.records store.old)) (call_of words.now (F.texts folder.old)) (K.fault_count store.old) (K.fault_count store.new)
+        (K.records store.new) (O.view out.old) (O.view out.new) }
     // 9: the store, which does not tell its records, gave under this id bytes that spell no record of the write; the lines of the
     // steps before were written.
     ensures damaged { (id : ℕ) → result ≡ Status.Damaged id
-        → StopsAtDamage (StoresTell K.records) (call_of words.now (F.texts folder.old)) id (K.given store.new) (O.view out.old) (O.view out.new) }
+        → StopsAtDamage (IsSome (K.records store.old)) (call_of words.now (F.texts folder.old)) (K.fault_count store.old) (K.fault_count store.new) id
+        (K.given store.new) (O.view out.old) (O.view out.new) }
     // 10: at any time; nothing was written, or first bytes.
     ensures no_memory { result ≡ Status.NoMemory → (out.new ≡ out.old)
-        ⊎ PrintsPart (StoresTell K.records) (call_of words.now (F.texts folder.old)) OutFault.NoMemory (O.view out.old) (O.view out.new) }
+        ⊎ PrintsPart (IsSome (K.records store.old)) (call_of words.now (F.texts folder.old)) (K.fault_count store.old) (K.fault_count store.new)
+        OutFault.NoMemory (O.view out.old) (O.view out.new) }
 
     // At 2 to 6 nothing was written. Whatever the status: what was asked of the folder, what the notes took, that only a run
     // changes the store and that no count of faults or of refusals falls.
@@ -73,9 +82,8 @@ pub fn falkirk<F: Folder, K: Store, O: Sink, N: Sink>(
         × NeverFall (O.view out.old) (O.view out.new) × NeverFall (N.view notes.old) (N.view notes.new) }
 
     // Which texts are refused and of which all is printed; and what the machine does with accepted texts of a run.
-    ensures answer { AnswersTexts (StoresTell K.records) (call_of words.now (F.texts folder.old)) result }
-    ensures headline { (texts : Texts) (flow : Dataflow) → AreAccepted texts flow
-        → Headline (spelled_system flow texts) (spelled_items flow texts) }
+    ensures answer { AnswersTexts (IsSome (K.records store.old)) (call_of words.now (F.texts folder.old)) result }
+    ensures headline { (texts : Texts) (flow : Dataflow) (items : List Item) → AreAccepted texts flow → Headline (spelled_system flow texts) items }
 {
     let status = run(alloc, words, folder, store, out);
     tell(alloc, status, notes)

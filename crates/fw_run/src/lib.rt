@@ -3,12 +3,15 @@
 
 mod command;
 mod denoting;
+mod enduring;
 mod fault;
 mod listing;
 mod perform;
 mod reading;
 mod run;
 mod status;
+mod summary;
+mod tally;
 mod text;
 mod words;
 mod work;

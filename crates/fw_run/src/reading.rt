@@ -1,5 +1,5 @@
 //! The three texts are fetched and read, each before the next one is fetched.
-ghost use Rattle.std.specs.Prelude.{◌≡◌, ◌^◌, ◌<◌, ◌≤◌, IfOk, IfErr, IsErrOf};
+ghost use Rattle.std.specs.Prelude.{◌≡◌, ◌^◌, ◌<◌, ◌≤◌, IfOk, IfErr, IsErr, IsErrOf};
 ghost use Rattle.fw_outside.specs.Outside.{Rose, IsText, one_more};
 ghost use Rattle.fw_lines.specs.Inputs as inputs;
 ghost use Rattle.fw_flow.specs.Dataflow.{system_of};
@@ -7,14 +7,16 @@ ghost use Rattle.fw_flow.specs.Sources.{sources_of};
 ghost use Rattle.fw_flow.specs.WellFormed.{IsWellFormedSystem};
 ghost use Rattle.fw_schedule.specs.Grammar as schedules;
 ghost use Rattle.fw_schedule.specs.Schedule.{step_count, step_limit};
-ghost use Rattle.fw_run.specs.Reading.{IfRefused, IsTooLarge, IsJob, IsFed, IsReady};
-ghost use Rattle.fw_run.specs.Words.{text_names_in, system_names_in};
+ghost use Rattle.fw_generate.specs.Laws.{size_limit};
+ghost use Rattle.fw_run.specs.Reading.{IfRefused, IsTooLarge, IsJob, IsGenerated, IsFed, IsReady};
+ghost use Rattle.fw_run.specs.Words.{seeded_in, text_names_in, system_names_in};
 ghost use Rattle.fw_run.specs.Texts.{HasText, HasFlow, IsFlowRefused, AreInputsRefused, IsScheduleRefused, IsFirstRefusal, IsFirstOfTwoRefused, IsAskedTwice, IsAskedNoMore};
 
-use crate::words::{DenoteWords, RunWords};
+use crate::words::{DenoteWords, GenerateWords, RunWords};
 use fw_flow::Flow;
 use fw_flow::laws::system_is_well_formed;
 use fw_flow_text::{FLOW_LIMIT, read_flow};
+use fw_generate::generate;
 use fw_lines::{Batches, Code, INPUTS_LIMIT, ReadFault, Refusal, read_batches};
 use fw_outside::{FetchFault, Folder};
 use fw_schedule::{SCHEDULE_LIMIT, Schedule, read_schedule};
@@ -110,6 +112,25 @@ pub(crate) fn read_fed<F: Folder>(
     let flow = fetch_flow(alloc, folder, names.flow)?;
     let batches = fetch_inputs(alloc, folder, names.inputs, &flow)?;
     Ok(Fed { flow, batches })
+}
+
+/// Generates the three texts of a seed and a size, and reads them. The error is want of memory.
+pub(crate) fn read_generated(alloc: Global, words: GenerateWords) -> Result<Job, JobFault>
+    ensures job { IfOk result (IsGenerated (seeded_in words)) }
+    ensures ready { IfOk result (λ job. IsReady (system_of job.flow job.batches) job.items) }
+    ensures accepted { words.size ≤ size_limit → IsErr result → IsErrOf result JobFault.NoMemory }
+{
+    let texts = generate(alloc, words.seed, words.size)?;
+    let flow = read_flow(alloc, texts.flow().as_bytes())?;
+    let sources = flow.source_names(alloc)?;
+    let batches = read_batches(alloc, texts.inputs().as_bytes(), &sources)?;
+    system_is_well_formed(&flow, &batches);
+    let items = read_schedule(alloc, texts.schedule().as_bytes(), &flow)?;
+    Ok(Job {
+        flow,
+        batches,
+        items,
+    })
 }
 
 /// The flow of the text under a name.

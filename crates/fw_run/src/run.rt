@@ -1,12 +1,11 @@
 //! A command is run: its texts are read, and then what they ask for is printed.
-ghost use Rattle.std.specs.Prelude.{◌≡◌, ◌⊎◌, ◌≤◌, ◌↔◌, ℕ, None};
+ghost use Rattle.std.specs.Prelude.{◌≡◌, ◌⊎◌, ◌≤◌, ◌↔◌, ℕ, None, IsSome};
 ghost use Rattle.fw_lines.specs.declared.refusal.Refusal as lines;
 ghost use Rattle.fw_outside.specs.declared.fault.OutFault.TheVariants as OutFault;
 ghost use Rattle.fw_outside.specs.Outside.{Rose};
 ghost use Rattle.fw_keep.specs.Stored.{IsEmptyStore};
 ghost use Rattle.fw_run.specs.Call.{call_of, PrintsAll, PrintsPart, LeavesStore, StopsAtStore, StopsAtDamage, HasRefused, KeepsFolder, KeepsStore};
 ghost use Rattle.fw_run.specs.Status.{status_number};
-ghost use Rattle.fw_run.specs.Trusting.{StoresTell};
 ghost use Rattle.fw_run.specs.Words.{words_in, command_of};
 ghost use Rattle.fw_run.specs.Writing.{NeverFall};
 
@@ -28,24 +27,29 @@ pub(crate) fn run<F: Folder, K: Store, O: Sink>(
 ) -> Status
     requires { IsEmptyStore (K.records store.old) }
     ensures done { result ≡ Status.Done
-        → PrintsAll (StoresTell K.records) (call_of words.now (F.texts folder.old)) (O.view out.old) (O.view out.new) }
+        → PrintsAll (IsSome (K.records store.old)) (call_of words.now (F.texts folder.old)) (O.view out.old) (O.view out.new) }
     ensures stored { result ≡ Status.Done
-        → LeavesStore (StoresTell K.records) (call_of words.now (F.texts folder.old)) (K.records store.new) }
+        → LeavesStore (IsSome (K.records store.old)) (call_of words.now (F.texts folder.old)) (K.records store.new) (O.view out.old) (O.view out.new) }
     ensures bad_words { (result ≡ Status.BadWords) ↔ (command_of (words_in words.now) ≡ None) }
     ensures refused { (refusal : lines.Refusal) → result ≡ Status.Refused refusal
         → HasRefused (call_of words.now (F.texts folder.old)) refusal }
     ensures read_fault { result ≡ Status.ReadFault → Rose (F.fault_count folder.old) (F.fault_count folder.new) }
     ensures write_fault { result ≡ Status.WriteFault
-        → PrintsPart (StoresTell K.records) (call_of words.now (F.texts folder.old)) OutFault.Failed (O.view out.old) (O.view out.new) }
+        → PrintsPart (IsSome (K.records store.old)) (call_of words.now (F.texts folder.old)) (K.fault_count store.old) (K.fault_count store.new)
+        OutFault.Failed (O.view out.old) (O.view out.new) }
     ensures store_fault { result ≡ Status.StoreFault
-        → StopsAtStore (StoresTell K.records) (call_of words.now (F.texts folder.old)) (K.records store.new) (O.view out.old) (O.view out.new) }
+        → StopsAtStore (IsSome (K.records store.old)) (call_of words.now (F.texts folder.old)) (K.fault_count store.old) (K.fault_count store.new)
+        (K.records store.new) (O.view out.old) (O.view out.new) }
     ensures store_rose { result ≡ Status.StoreFault → Rose (K.fault_count store.old) (K.fault_count store.new) }
     ensures damaged { (id : ℕ) → result ≡ Status.Damaged id
-        → StopsAtDamage (StoresTell K.records) (call_of words.now (F.texts folder.old)) id (K.given store.new) (O.view out.old) (O.view out.new) }
+        → StopsAtDamage (IsSome (K.records store.old)) (call_of words.now (F.texts folder.old)) (K.fault_count store.old) (K.fault_count store.new) id
+        (K.given store.new) (O.view out.old) (O.view out.new) }
     ensures damaged_part { (id : ℕ) → result ≡ Status.Damaged id
-        → PrintsPart (StoresTell K.records) (call_of words.now (F.texts folder.old)) OutFault.NoMemory (O.view out.old) (O.view out.new) }
+        → PrintsPart (IsSome (K.records store.old)) (call_of words.now (F.texts folder.old)) (K.fault_count store.old) (K.fault_count store.new)
+        OutFault.NoMemory (O.view out.old) (O.view out.new) }
     ensures no_memory { result ≡ Status.NoMemory → (out.new ≡ out.old)
-        ⊎ PrintsPart (StoresTell K.records) (call_of words.now (F.texts folder.old)) OutFault.NoMemory (O.view out.old) (O.view out.new) }
+        ⊎ PrintsPart (IsSome (K.records store.old)) (call_of words.now (F.texts folder.old)) (K.fault_count store.old) (K.fault_count store.new)
+        OutFault.NoMemory (O.view out.old) (O.view out.new) }
     ensures nothing_out { status_number result ≤ 6 → (result ≡ Status.Done) ⊎ (out.new ≡ out.old) }
     ensures folder { KeepsFolder F.texts F.fetch_count (command_of (words_in words.now)) result folder.old folder.new }
     ensures folder_count { F.fault_count folder.old ≤ F.fault_count folder.new }

@@ -2,11 +2,16 @@
 ghost use Rattle.std.specs.Prelude.{◌≡◌, IfOk, string_bytes};
 ghost use Rattle.fw_running.specs.EffectText.{outcome_text};
 ghost use Rattle.fw_running.specs.Steps.{outcome_of};
+ghost use Rattle.fw_run.specs.Enduring as enduring;
 ghost use Rattle.fw_run.specs.Printed as spec;
 ghost use Rattle.fw_run.specs.Performing.{shown_bytes};
 ghost use Rattle.fw_run.specs.Status.{note_line};
+ghost use Rattle.fw_run.specs.Tallies as tallies;
+ghost use Rattle.fw_run.specs.Words.{seeded_in};
 ghost use Rattle.fw_run.specs.declared.status.Status.TheVariants as Status;
 
+use crate::tally::Tally;
+use crate::words::GenerateWords;
 use fw_engine::Stepped;
 use fw_flow::Flow;
 use fw_lines::Refusal;
@@ -30,6 +35,32 @@ pub fn done_line(alloc: Global, steps: u64, idle: u64) -> Result<String, AllocEr
     ensures { IfOk result (λ text. string_bytes text ≡ spec.done_line steps idle) }
 {
     format!(in alloc; "done steps {steps} idle {idle}\n")
+}
+
+/// The line `fault step NUMBER`, ended by LF.
+pub fn fault_line(alloc: Global, number: u64) -> Result<String, AllocError>
+    ensures { IfOk result (λ text. string_bytes text ≡ enduring.fault_line number) }
+{
+    format!(in alloc; "fault step {number}\n")
+}
+
+/// The line `done steps STEPS idle IDLE faults FAULTS`, ended by LF.
+pub fn endured_line(alloc: Global, steps: u64, idle: u64, faults: u64) -> Result<String, AllocError>
+    ensures { IfOk result (λ text. string_bytes text ≡ enduring.endured_line steps idle faults) }
+{
+    format!(in alloc; "done steps {steps} idle {idle} faults {faults}\n")
+}
+
+/// The line `gen seed SEED size SIZE steps STEPS idle IDLE cuts CUTS acks ACKS sum SUM`, ended by LF.
+pub(crate) fn summary_line(
+    alloc: Global,
+    words: GenerateWords,
+    tally: Tally,
+) -> Result<String, AllocError>
+    ensures { IfOk result (λ text. string_bytes text ≡ tallies.summary_line (seeded_in words) tally) }
+{
+    let GenerateWords { seed, size } = words;
+    format!(in alloc; "gen seed {seed} size {size} {tally}\n")
 }
 
 /// The line `refused CODE line LINE`, ended by LF.

@@ -1,16 +1,20 @@
 //! The words of a command.
-ghost use Rattle.std.specs.Prelude.{◌≡◌, ◌≢◌, [], ◌∷◌, codes, is_some, None, false, option_map, IfOk, IsErr};
+ghost use Rattle.std.specs.Prelude.{◌≡◌, ◌≢◌, ◌≤◌, [], ◌∷◌, codes, is_some, None, false, option_map, IfOk, IfSome, IsErr};
 ghost use Rattle.clap.specs.Matches.{found_of};
 ghost use Rattle.clap.specs.Simple.{app_of, shape_of, subcommand_rows_of};
 ghost use Rattle.clap.specs.Values.{kind_of};
 ghost use Rattle.clap.specs.Walk.{rule_of, rows_of, first_of};
 ghost use Rattle.fw_run.specs.Forms as spec;
 ghost use Rattle.fw_run.specs.Forms.{forms, matched_command};
-ghost use Rattle.fw_run.specs.Words.{is_operand, check_of, denote_of, run_of, command_of, command_in, text_names_in, system_names_in, words_in};
+ghost use Rattle.fw_run.specs.Words.{IsOfSize, is_operand, check_of, denote_of, gen_of, run_of, endure_of, command_of, command_in, generate, generate_by, seeded_in, text_names_in, system_names_in, words_in};
+ghost use Rattle.fw_lines.specs.Spelling.{number_of};
+ghost use Rattle.fw_generate.specs.Laws.{size_limit as greatest_size};
 ghost use Rattle.clap.specs.declared.builder.command.Command.TheViews.{out-Command as fields_of};
 
 use clap::error::ErrorKind;
 use clap::{Arg, ArgMatches, Command, Error};
+use fw_generate::size_limit;
+use fw_lines::{Number, number};
 use std::alloc::{AllocError, Global};
 
 /// The names of the three texts of a run.
@@ -28,11 +32,22 @@ pub(crate) struct DenoteWords<'a> {
     pub inputs: &'a str,
 }
 
+/// The seed and the size of generated texts.
+#[derive(Clone, Copy, Debug)]
+pub(crate) struct GenerateWords {
+    pub seed: u64,
+    pub size: u32,
+}
+
 /// A command with its operands.
 #[derive(Clone, Copy, Debug)]
 pub(crate) enum CommandWords<'a> {
     /// The three texts are run.
     Run(RunWords<'a>),
+    /// They are run through faults of the store.
+    Endure(RunWords<'a>),
+    /// Generated texts are run, and it is told what came of them.
+    Generate(GenerateWords),
     /// It is told what the flow denotes of its inputs.
     Denote(DenoteWords<'a>),
     /// The flow of this name is checked.
@@ -45,6 +60,7 @@ pub(crate) fn parse<'a>(
     words: &'a [&'a str],
 ) -> Result<Option<CommandWords<'a>>, AllocError>
     ensures command { IfOk result (λ parsed. option_map command_in parsed ≡ command_of (words_in words.now)) }
+    ensures size { IfOk result (λ parsed. IfSome parsed IsOfSize) }
     ensures no_memory { IsErr result → command_of (words_in words.now) ≢ None }
 {
     if !is_command(words) {
@@ -72,7 +88,7 @@ fn refused<'a>(error: &Error) -> Result<Option<CommandWords<'a>>, AllocError>
 fn is_command(words: &[&str]) -> bool
     ensures { result ≡ is_some (command_of (words_in words.now)) }
 {
-    is_check(words) || is_denote(words) || is_run(words)
+    is_check(words) || is_denote(words) || is_gen(words) || is_run(words) || is_endure(words)
 }
 
 // Whether the words are `check` and an operand.
@@ -95,6 +111,16 @@ fn is_denote(words: &[&str]) -> bool
     *command == "denote" && is_operand(flow) && is_operand(inputs)
 }
 
+// Whether the words are `gen`, a number and a size.
+fn is_gen(words: &[&str]) -> bool
+    ensures { result ≡ is_some (gen_of (words_in words.now)) }
+{
+    let [command, seed, size] = words else {
+        return false;
+    };
+    *command == "gen" && generate_words(seed, size).is_some()
+}
+
 // Whether the words are `run` and three operands.
 fn is_run(words: &[&str]) -> bool
     ensures { result ≡ is_some (run_of (words_in words.now)) }
@@ -103,6 +129,16 @@ fn is_run(words: &[&str]) -> bool
         return false;
     };
     *command == "run" && is_operand(flow) && is_operand(inputs) && is_operand(schedule)
+}
+
+// Whether the words are `endure` and three operands.
+fn is_endure(words: &[&str]) -> bool
+    ensures { result ≡ is_some (endure_of (words_in words.now)) }
+{
+    let [command, flow, inputs, schedule] = words else {
+        return false;
+    };
+    *command == "endure" && is_operand(flow) && is_operand(inputs) && is_operand(schedule)
 }
 
 // An operand is not empty, and no option.
@@ -120,7 +156,9 @@ fn commands<'a>(alloc: Global) -> Result<Command<'a>, AllocError>
     ensures { IfOk result (λ command. app_of command ≡ forms) }
 {
     program(alloc)
-        .subcommand(run_form(alloc)?)?
+        .subcommand(run_form(alloc, "run")?)?
+        .subcommand(run_form(alloc, "endure")?)?
+        .subcommand(gen_form(alloc)?)?
         .subcommand(denote_form(alloc)?)?
         .subcommand(check_form(alloc)?)
 }
@@ -135,15 +173,25 @@ fn program<'a>(alloc: Global) -> Command<'a>
         .disable_help_subcommand(true)
 }
 
-// The form `run FLOW INPUTS SCHEDULE`.
-fn run_form<'a>(alloc: Global) -> Result<Command<'a>, AllocError>
-    ensures shape { IfOk result (λ form. shape_of form ≡ spec.form (codes "run") (codes "flow" ∷ codes "inputs" ∷ codes "schedule" ∷ [])) }
+// The form `WORD FLOW INPUTS SCHEDULE`.
+fn run_form<'a>(alloc: Global, word: &'a str) -> Result<Command<'a>, AllocError>
+    ensures shape { IfOk result (λ form. shape_of form ≡ spec.form word.entry.now spec.three_names) }
     ensures local { IfOk result (λ form. (fields_of form).has_globals ≡ false) }
 {
-    Command::new(alloc, "run")
+    Command::new(alloc, word)
         .arg(operand(alloc, "flow"))?
         .arg(operand(alloc, "inputs"))?
         .arg(operand(alloc, "schedule"))
+}
+
+// The form `gen SEED SIZE`.
+fn gen_form<'a>(alloc: Global) -> Result<Command<'a>, AllocError>
+    ensures shape { IfOk result (λ form. shape_of form ≡ spec.form (codes "gen") (codes "seed" ∷ codes "size" ∷ [])) }
+    ensures local { IfOk result (λ form. (fields_of form).has_globals ≡ false) }
+{
+    Command::new(alloc, "gen")
+        .arg(operand(alloc, "seed"))?
+        .arg(operand(alloc, "size"))
 }
 
 // The form `denote FLOW INPUTS`.
@@ -174,11 +222,17 @@ fn operand<'a>(alloc: Global, name: &'a str) -> Arg<'a>
 
 // The command that the matches name.
 fn named<'a>(matches: &ArgMatches<'a>) -> Option<CommandWords<'a>>
-    ensures { option_map command_in result ≡ matched_command (subcommand_rows_of matches.now) }
+    ensures command { option_map command_in result ≡ matched_command (subcommand_rows_of matches.now) }
+    ensures size { IfSome result IsOfSize }
 {
     let (word, operands) = matches.subcommand()?;
     match word {
         "run" => Some(CommandWords::Run(run_words(operands)?)),
+        "endure" => Some(CommandWords::Endure(run_words(operands)?)),
+        "gen" => Some(CommandWords::Generate(generate_words(
+            given(operands, "seed")?,
+            given(operands, "size")?,
+        )?)),
         "denote" => Some(CommandWords::Denote(denote_words(operands)?)),
         "check" => Some(CommandWords::Check(given(operands, "flow")?)),
         _ => None,
@@ -193,6 +247,26 @@ fn run_words<'a>(operands: &ArgMatches<'a>) -> Option<RunWords<'a>>
         flow: given(operands, "flow")?,
         inputs: given(operands, "inputs")?,
         schedule: given(operands, "schedule")?,
+    })
+}
+
+// A seed and a size, if the words spell them.
+fn generate_words(seed: &str, size: &str) -> Option<GenerateWords>
+    ensures command { option_map (λ words. generate (seeded_in words)) result ≡ generate_by (number_of seed.now) (number_of size.now) }
+    ensures size { IfSome result (λ words. words.size ≤ greatest_size) }
+{
+    let Number::Value(seed) = number(seed.as_bytes()) else {
+        return None;
+    };
+    let Number::Value(size) = number(size.as_bytes()) else {
+        return None;
+    };
+    if size == 0 || size > u64::from(size_limit()) {
+        return None;
+    }
+    Some(GenerateWords {
+        seed,
+        size: size as u32,
     })
 }
 

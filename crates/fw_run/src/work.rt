@@ -1,21 +1,22 @@
 //! What a command does with its texts: they are read, and then it is printed what they ask for.
-ghost use Rattle.std.specs.Prelude.{◌≡◌, ◌≤◌, ℕ, IfOk, IfErr, IsErrOf, OnOk};
+ghost use Rattle.std.specs.Prelude.{◌≡◌, ◌≤◌, ℕ, false, [], IfOk, IfErr, IsErrOf, IsSome, OnOk, OnErr};
 ghost use Rattle.fw_outside.specs.Outside.{Rose};
 ghost use Rattle.fw_keep.specs.Stored.{IsEmptyStore};
 ghost use Rattle.fw_running.specs.declared.fault.EngineFault.TheVariants as EngineFault;
 ghost use Rattle.fw_run.specs.Call.{Refuses, AsksNoMore};
 ghost use Rattle.fw_run.specs.Reading.{IfRefused};
-ghost use Rattle.fw_run.specs.Stopping.{LeavesWrites, IsStoppedByStore, IsStoppedByDamage};
-ghost use Rattle.fw_run.specs.Trusting.{AreKnown, StoresTell};
-ghost use Rattle.fw_run.specs.Words.{command_in};
-ghost use Rattle.fw_run.specs.Work.{IsWork, IsReadyWork, IsRun, IfRun, StaysUnlessRun, PrintsWork};
+ghost use Rattle.fw_run.specs.Enduring.{RoseBy};
+ghost use Rattle.fw_run.specs.Words.{IsOfSize, asks_folder, command_in};
+ghost use Rattle.fw_run.specs.Work.{IsWork, IsReadyWork, IsRun, IfRun, IsWholeRun, IsStoreFault, IsDamageIn, StaysUnlessRun, PrintsWork};
 
 use crate::denoting::print_denotation;
+use crate::enduring::endure;
 use crate::fault::RunFault;
 use crate::listing::list;
 use crate::perform::perform;
-use crate::reading::{Fed, Job, JobFault, fetch_flow, read_fed, read_job};
-use crate::words::CommandWords;
+use crate::reading::{Fed, Job, JobFault, fetch_flow, read_fed, read_generated, read_job};
+use crate::summary::summarize;
+use crate::words::{CommandWords, GenerateWords};
 use fw_flow::Flow;
 use fw_outside::{Folder, Sink, Store};
 use std::alloc::Global;
@@ -25,6 +26,10 @@ use std::alloc::Global;
 pub enum Work {
     /// The job is run.
     Run(Job),
+    /// It is run through faults of the store.
+    Endure(Job),
+    /// It is run, and it is told in one line what came of it.
+    Generate(GenerateWords, Job),
     /// It is told what the flow denotes of its inputs.
     Denote(Fed),
     /// The nodes of the flow are listed.
@@ -37,6 +42,7 @@ pub(crate) fn read_work<F: Folder>(
     command: &CommandWords,
     folder: &mut F,
 ) -> Result<Work, JobFault>
+    requires size { IsOfSize command.now }
     ensures work { IfOk result (IsWork (F.texts folder.old) (command_in command.now)) }
     ensures ready { IfOk result IsReadyWork }
     ensures refused { IfErr result (IfRefused (Refuses (F.texts folder.old) (command_in command.now))) }
@@ -44,10 +50,19 @@ pub(crate) fn read_work<F: Folder>(
     ensures never_falls { F.fault_count folder.old ≤ F.fault_count folder.new }
     ensures asked_no_more { AsksNoMore (F.texts folder.old) (command_in command.now) (F.fetch_count folder.old) (F.fetch_count folder.new) }
     ensures texts_stay { F.texts folder.new ≡ F.texts folder.old }
+    ensures stays { asks_folder (command_in command.now) ≡ false → folder.new ≡ folder.old }
 {
     match command {
         CommandWords::Run(names) => match read_job(alloc, names, folder) {
             Ok(job) => Ok(Work::Run(job)),
+            Err(fault) => Err(fault),
+        },
+        CommandWords::Endure(names) => match read_job(alloc, names, folder) {
+            Ok(job) => Ok(Work::Endure(job)),
+            Err(fault) => Err(fault),
+        },
+        CommandWords::Generate(words) => match read_generated(alloc, *words) {
+            Ok(job) => Ok(Work::Generate(*words, job)),
             Err(fault) => Err(fault),
         },
         CommandWords::Denote(names) => match read_fed(alloc, names, folder) {
@@ -70,18 +85,23 @@ pub(crate) fn print_work<K: Store, O: Sink>(
 ) -> Result<(), RunFault>
     requires ready { IsReadyWork work }
     requires empty { IsEmptyStore (K.records store.old) }
-    ensures printed { PrintsWork (StoresTell K.records) work result (O.view out.old) (O.view out.new) }
-    ensures left { OnOk result (IfRun work (λ sys items. AreKnown (StoresTell K.records) sys items → LeavesWrites sys items (K.records store.new))) }
+    ensures printed { OnOk result
+        (PrintsWork (IsSome (K.records store.old)) (λ faults others. (faults ≡ 0) × (others ≡ [])) work result (O.view out.old) (O.view out.new)) }
+    ensures cut_off { OnErr result (PrintsWork (IsSome (K.records store.old))
+        (λ faults others. RoseBy (K.fault_count store.old) (K.fault_count store.new) faults) work result (O.view out.old) (O.view out.new)) }
+    ensures left { OnOk result (IfRun work (IsWholeRun (IsSome (K.records store.old)) (K.records store.new) (O.view out.old) (O.view out.new))) }
     ensures store_fault { IsErrOf result (RunFault.Engine EngineFault.StoreFault) → IsRun work
-        (λ sys items. IsStoppedByStore (StoresTell K.records) sys items (K.records store.new) (O.view out.old) (O.view out.new)) }
+        (IsStoreFault (IsSome (K.records store.old)) (K.fault_count store.old) (K.fault_count store.new) (K.records store.new) (O.view out.old) (O.view out.new)) }
     ensures damaged { (id : ℕ) → IsErrOf result (RunFault.Engine (EngineFault.Damaged id)) → IsRun work
-        (λ sys items. IsStoppedByDamage (StoresTell K.records) sys items id (K.given store.new) (O.view out.old) (O.view out.new)) }
+        (IsDamageIn (IsSome (K.records store.old)) (K.fault_count store.old) (K.fault_count store.new) id (K.given store.new) (O.view out.old) (O.view out.new)) }
     ensures store_stays { StaysUnlessRun work store.old store.new }
     ensures rose { IsErrOf result (RunFault.Engine EngineFault.StoreFault) → Rose (K.fault_count store.old) (K.fault_count store.new) }
     ensures never_falls { K.fault_count store.old ≤ K.fault_count store.new }
 {
     match work {
         Work::Run(job) => perform(alloc, job, store, out),
+        Work::Endure(job) => endure(alloc, job, store, out),
+        Work::Generate(words, job) => summarize(alloc, words, job, store, out),
         Work::Denote(fed) => match print_denotation(alloc, &fed, out) {
             Ok(()) => Ok(()),
             Err(fault) => Err(RunFault::Out(fault)),

@@ -1,9 +1,28 @@
-use Rattle.fw_run.proofs.CallLaws.{told_refused, told_damaged, texts-answered, folder_told, store_told, accepted_of-run}
+use Rattle.fw_run.proofs.CallLaws.{told_done, told_write_fault, told_store_fault, told_no_memory, told_refused, told_damaged, texts-answered, folder_told, store_told, accepted_of-run, untold_of-damage}
 use Rattle.fw_run.proofs.HeadlineLaws.{texts-headline}
 use Rattle.fw_run.specs.Call.{call_of}
-use Rattle.fw_run.specs.Trusting.{StoresTell}
+use Rattle.std.specs.Prelude.{IsSome}
 use Rattle.fw_run.specs.Words.{command_of, words_in}
 use Rattle.fw_run.proofs.command.falkirk.Goals as goal
+
+pub returns-clause-done : goal.returns-clause-done
+returns-clause-done g c e = c.run-status.ensures.done (told_done c.run-status.result c.tell.result c.tell.ensures.status e)
+
+pub returns-clause-stored : goal.returns-clause-stored
+returns-clause-stored g c e = c.run-status.ensures.stored (told_done c.run-status.result c.tell.result c.tell.ensures.status e)
+
+pub returns-clause-write_fault : goal.returns-clause-write_fault
+returns-clause-write_fault g c e = c.run-status.ensures.write_fault (told_write_fault c.run-status.result c.tell.result c.tell.ensures.status e)
+
+pub returns-clause-store_fault : goal.returns-clause-store_fault
+returns-clause-store_fault g c e =
+    let h = told_store_fault c.run-status.result c.tell.result c.tell.ensures.status e in
+    (c.run-status.ensures.store_rose h, c.run-status.ensures.store_fault h)
+
+pub returns-clause-no_memory : goal.returns-clause-no_memory
+returns-clause-no_memory g c e =
+    told_no_memory _ c.run-status.result c.tell.result c.args.out.now c.run-status.new.out c.tell.ensures.status e
+    c.run-status.ensures.no_memory c.run-status.ensures.nothing_out c.run-status.ensures.damaged_part
 
 pub returns-clause-refused : goal.returns-clause-refused
 returns-clause-refused g c refusal e = c.run-status.ensures.refused refusal (told_refused c.run-status.result c.tell.result refusal c.tell.ensures.status e)
@@ -15,13 +34,13 @@ pub returns-clause-answer : goal.returns-clause-answer
 returns-clause-answer g c =
     let e = c.run-status.ensures in
     let call = call_of c.args.words.now (g.F.Folder.texts c.args.folder.now) in
-    texts-answered (StoresTell g.K.Store.records) call c.run-status.result c.tell.result c.tell.ensures.status (record {
+    texts-answered (IsSome (g.K.Store.records c.args.store.now)) call c.run-status.result c.tell.result c.tell.ensures.status (record {
       bad_words = e.bad_words.0;
       refused = e.refused;
       done = λ h. let p = e.done h in (p.text.texts, p.text.accepted);
       cut_off = λ h. let p = e.write_fault h in (p.text.texts, p.text.accepted);
       store = λ h. accepted_of-run call _ (e.store_fault h);
-      damaged = λ id h. let r = e.damaged id h in (accepted_of-run call _ r, r.so.untold);
+      damaged = λ id h. let r = e.damaged id h in (accepted_of-run call _ r, untold_of-damage _ _ _ _ _ _ _ r.manner _ _ r.so);
     })
 
 pub returns-clause-headline : goal.returns-clause-headline

@@ -1,26 +1,40 @@
-use Rattle.std.proofs.Common.{◌≡◌, ◌∙◌, refl, sym, arith}
+use Rattle.std.proofs.Common.{◌≡◌, ◌+◌, ◌∙◌, refl, sym, arith}
 use Rattle.std.proofs.lemmas.Result.{err_from_is_err_and}
-use Rattle.fw_run.proofs.ItemPrintLaws.{auto-none, auto-more, auto-ends, auto-full, auto_begun, auto_stopped}
+use Rattle.fw_schedule.specs.declared.item.Item.TheVariants.{Auto}
+use Rattle.fw_running.specs.Steps.{outcome_of}
+use Rattle.fw_run.proofs.ItemPrintLaws.{auto-none, auto-more, auto-ends, auto-full, auto_begun, auto_stopped, few_stopped, few_taken, few_cut}
+use Rattle.fw_run.proofs.TallyLaws.{of_steps-more, steps-more}
 use Rattle.fw_run.proofs.perform.perform_auto.Goals as goal
 
-pub loop-steps-init : goal.loop-steps-init
-loop-steps-init g c = record {
+pub loop-init : goal.loop-init
+loop-init g c = record {
   stored = c.requires.stored;
+  in_order = c.requires.in_order;
+  tells = refl;
   flow = refl;
   never_falls = omega arith;
-  auto = auto-none c.args.engine.now (g.K.Store.records c.args.store.now) (g.O.Sink.view c.args.out.now);
+  of_steps = c.requires.room.of_steps;
+  counted = omega arith;
+  auto = auto-none c.args.engine.now (g.K.Store.records c.args.store.now) c.args.tally.now (g.O.Sink.view c.args.out.now) c.requires.room.of_steps.sum;
 }
 
-pub loop-steps-preserved : goal.loop-steps-preserved
-loop-steps-preserved g c =
+pub count-requires-clause-steps : goal.count-requires-clause-steps
+count-requires-clause-steps g c = omega (arith, c.loop-test.true, c.loop.invariant.counted, c.requires.room.few)
+
+pub loop-preserved : goal.loop-preserved
+loop-preserved g c =
     let records = g.K.Store.records in
     let view = g.O.Sink.view in
     record {
       stored = c.auto_step.ensures.stored;
-      flow = c.auto_step.ensures.flow ∙ c.loop-steps.invariant.flow;
-      never_falls = omega (arith, c.loop-steps.invariant.never_falls, c.auto_step.ensures.never_falls);
-      auto = auto-more c.args.engine.now c.loop-steps.engine c.auto_step.new.self (records c.args.store.now) (records c.loop-steps.store) (records c.auto_step.new.store) c.flow.result.now c.in_ok-stepped.stepped c.loop-steps.steps
-          (view c.args.out.now) (view c.loop-steps.out) (view c.print.new.out) c.loop-steps.invariant.auto c.flow.ensures c.in_ok-stepped.ensures.ok (sym c.is_idle.ensures ∙ c.if-is_idle.false) c.in_ok-print.ensures;
+      in_order = c.auto_step.ensures.in_order;
+      tells = c.auto_step.ensures.tells ∙ c.loop.invariant.tells;
+      flow = c.auto_step.ensures.flow ∙ c.loop.invariant.flow;
+      never_falls = omega (arith, c.loop.invariant.never_falls, c.auto_step.ensures.never_falls);
+      of_steps = of_steps-more c.loop.tally c.count.new.self (outcome_of c.in_ok-stepped.stepped) c.loop.invariant.of_steps c.count.ensures;
+      counted = omega (arith, c.loop.invariant.counted, steps-more c.loop.tally c.count.new.self (outcome_of c.in_ok-stepped.stepped) c.count.ensures);
+      auto = auto-more c.args.engine.now c.loop.engine c.auto_step.new.self (records c.args.store.now) (records c.loop.store) (records c.auto_step.new.store) c.flow.result.now c.in_ok-stepped.stepped c.loop.counter
+          c.args.tally.now c.loop.tally c.count.new.self (view c.args.out.now) (view c.loop.out) (view c.print.new.out) c.loop.invariant.auto c.count.ensures c.flow.ensures c.in_ok-stepped.ensures.ok (sym c.is_idle.ensures ∙ c.if-is_idle.false) c.in_ok-print.ensures;
     }
 
 pub returns-in_err-stepped-clause-printed : goal.returns-in_err-stepped-clause-printed
@@ -28,27 +42,48 @@ returns-in_err-stepped-clause-printed g c =
     let p = err_from_is_err_and c.from_residual.result c.from_residual.ensures.1 in
     let records = g.K.Store.records in
     let view = g.O.Sink.view in
-    rw (p.1, p.2) (auto_stopped c.args.engine.now c.loop-steps.engine c.auto_step.new.self (records c.args.store.now) (records c.loop-steps.store) (records c.auto_step.new.store) c.loop-steps.steps c.args.most _ (view c.args.out.now) (view c.loop-steps.out)
-    c.loop-steps.invariant.auto c.loop-steps-test.true c.in_err-stepped.ensures.faulted c.in_err-stepped.ensures.unharmed)
+    rw (p.1, p.2) (auto_stopped (Unit {0}) c.args.engine.now c.loop.engine c.auto_step.new.self (records c.args.store.now) (records c.loop.store) (records c.auto_step.new.store) c.loop.counter c.args.most c.args.tally.now c.loop.tally _ (view c.args.out.now) (view c.loop.out)
+    c.loop.invariant.auto c.loop-test.true c.in_err-stepped.ensures.calls c.in_err-stepped.ensures.faulted c.in_err-stepped.ensures.unharmed)
+
+pub returns-in_err-stepped-clause-few : goal.returns-in_err-stepped-clause-few
+returns-in_err-stepped-clause-few g c =
+    let p = err_from_is_err_and c.from_residual.result c.from_residual.ensures.1 in
+    rw (p.1, p.2) (few_stopped (Unit {0}) (Auto c.args.most) c.loop.counter c.args.tally.now c.loop.tally _ c.loop.invariant.of_steps c.loop.invariant.counted c.loop-test.true)
 
 pub returns-then-is_idle-clause-printed : goal.returns-then-is_idle-clause-printed
 returns-then-is_idle-clause-printed g c =
     let records = g.K.Store.records in
     let view = g.O.Sink.view in
-    auto-ends c.args.engine.now c.loop-steps.engine c.auto_step.new.self (records c.args.store.now) (records c.loop-steps.store) (records c.auto_step.new.store) c.in_ok-stepped.stepped c.loop-steps.steps c.args.most (view c.args.out.now) (view c.loop-steps.out)
-    c.loop-steps.invariant.auto c.loop-steps-test.true c.in_ok-stepped.ensures.ok (sym c.is_idle.ensures ∙ c.if-is_idle.true)
+    auto-ends c.args.engine.now c.loop.engine c.auto_step.new.self (records c.args.store.now) (records c.loop.store) (records c.auto_step.new.store) c.in_ok-stepped.stepped c.loop.counter c.args.most c.args.tally.now c.loop.tally tt (view c.args.out.now) (view c.loop.out)
+    c.loop.invariant.auto c.loop-test.true c.in_ok-stepped.ensures.ok (sym c.is_idle.ensures ∙ c.if-is_idle.true)
 
 pub returns-in_err-print-clause-printed : goal.returns-in_err-print-clause-printed
 returns-in_err-print-clause-printed g c =
     let p = err_from_is_err_and c.from_residual-in_err-print.result c.from_residual-in_err-print.ensures.1 in
     let records = g.K.Store.records in
     let view = g.O.Sink.view in
-    rw (p.1, p.2) (auto_begun c.args.engine.now c.loop-steps.engine c.auto_step.new.self (records c.args.store.now) (records c.loop-steps.store) (records c.auto_step.new.store) c.flow.result.now c.in_ok-stepped.stepped c.loop-steps.steps c.args.most _ (view c.args.out.now) (view c.loop-steps.out) (view c.print.new.out)
-    c.loop-steps.invariant.auto c.loop-steps-test.true c.flow.ensures c.in_ok-stepped.ensures.ok (sym c.is_idle.ensures ∙ c.if-is_idle.false) c.in_err-print.ensures)
+    rw (p.1, p.2) (auto_begun (Unit {0}) c.args.engine.now c.loop.engine c.auto_step.new.self (records c.args.store.now) (records c.loop.store) (records c.auto_step.new.store) c.flow.result.now c.in_ok-stepped.stepped c.loop.counter c.args.most c.args.tally.now c.loop.tally c.count.new.self _
+    (view c.args.out.now) (view c.loop.out) (view c.print.new.out)
+    c.loop.invariant.auto c.loop-test.true c.count.ensures c.flow.ensures c.in_ok-stepped.ensures.ok (sym c.is_idle.ensures ∙ c.if-is_idle.false) c.in_err-print.ensures)
+
+pub returns-in_err-print-clause-few : goal.returns-in_err-print-clause-few
+returns-in_err-print-clause-few g c =
+    let p = err_from_is_err_and c.from_residual-in_err-print.result c.from_residual-in_err-print.ensures.1 in
+    let one = outcome_of c.in_ok-stepped.stepped in
+    rw (p.1, p.2) (few_cut (Unit {0}) (Auto c.args.most) (c.loop.counter + 1) c.args.tally.now c.count.new.self c.in_err-print.field-0.0 (of_steps-more c.loop.tally c.count.new.self one c.loop.invariant.of_steps c.count.ensures)
+    (omega (arith, c.loop.invariant.counted, steps-more c.loop.tally c.count.new.self one c.count.ensures)) (omega (arith, c.loop-test.true)))
 
 pub returns-clause-printed : goal.returns-clause-printed
 returns-clause-printed g c =
     let records = g.K.Store.records in
     let view = g.O.Sink.view in
-    let all : c.loop-steps.steps ≡ c.args.most = omega (arith, c.loop-steps-test.false, c.loop-steps.auto.steps-end) in
-    auto-full c.args.engine.now c.loop-steps.engine (records c.args.store.now) (records c.loop-steps.store) c.loop-steps.steps c.args.most (view c.args.out.now) (view c.loop-steps.out) c.loop-steps.invariant.auto all
+    let all : c.loop.counter ≡ c.args.most = omega (arith, c.loop-test.false, c.loop.auto.counter-end) in
+    auto-full c.args.engine.now c.loop.engine (records c.args.store.now) (records c.loop.store) c.loop.counter c.args.most c.args.tally.now c.loop.tally tt (view c.args.out.now) (view c.loop.out) c.loop.invariant.auto all
+
+pub returns-clause-few : goal.returns-clause-few
+returns-clause-few g c =
+    few_taken {T = Unit {0}} (Auto c.args.most) c.loop.counter c.args.tally.now c.loop.tally tt c.loop.invariant.of_steps c.loop.invariant.counted (omega (arith, c.loop.auto.counter-end))
+
+pub returns-then-is_idle-clause-few : goal.returns-then-is_idle-clause-few
+returns-then-is_idle-clause-few g c =
+    few_taken {T = Unit {0}} (Auto c.args.most) c.loop.counter c.args.tally.now c.loop.tally tt c.loop.invariant.of_steps c.loop.invariant.counted (omega (arith, c.loop-test.true))

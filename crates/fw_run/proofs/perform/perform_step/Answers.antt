@@ -1,5 +1,9 @@
+use Rattle.std.proofs.Common.{arith}
 use Rattle.std.proofs.lemmas.Result.{err_from_is_err_and}
-use Rattle.fw_run.proofs.ItemPrintLaws.{step_stopped, step_begun, step_taken}
+use Rattle.fw_schedule.specs.declared.item.Item.TheVariants.{One}
+use Rattle.fw_running.specs.Steps.{outcome_of}
+use Rattle.fw_run.proofs.ItemPrintLaws.{step_stopped, step_begun, step_taken, few_stopped, few_taken, few_cut}
+use Rattle.fw_run.proofs.TallyLaws.{of_steps-more, steps-more}
 use Rattle.fw_run.proofs.perform.perform_step.Goals as goal
 
 pub returns-in_err-stepped-clause-printed : goal.returns-in_err-stepped-clause-printed
@@ -7,17 +11,35 @@ returns-in_err-stepped-clause-printed g c =
     let p = err_from_is_err_and c.from_residual.result c.from_residual.ensures.1 in
     let records = g.K.Store.records in
     let view = g.O.Sink.view in
-    rw (p.1, p.2) (step_stopped c.args.engine.now c.step.new.self (records c.args.store.now) (records c.step.new.store) c.args.step.now _ (view c.args.out.now) c.in_err-stepped.ensures.faulted c.in_err-stepped.ensures.unharmed)
+    rw (p.1, p.2) (step_stopped (Unit {0}) c.args.engine.now c.step.new.self (records c.args.store.now) (records c.step.new.store) c.args.step.now c.args.tally.now _ (view c.args.out.now) c.requires.room.of_steps.sum c.in_err-stepped.ensures.faulted c.in_err-stepped.ensures.unharmed)
+
+pub returns-in_err-stepped-clause-few : goal.returns-in_err-stepped-clause-few
+returns-in_err-stepped-clause-few g c =
+    let p = err_from_is_err_and c.from_residual.result c.from_residual.ensures.1 in
+    rw (p.1, p.2) (few_stopped (Unit {0}) (One c.args.step.now) 0 c.args.tally.now c.args.tally.now _ c.requires.room.of_steps (omega arith) (omega arith))
 
 pub returns-in_err-print-clause-printed : goal.returns-in_err-print-clause-printed
 returns-in_err-print-clause-printed g c =
     let p = err_from_is_err_and c.from_residual-in_err-print.result c.from_residual-in_err-print.ensures.1 in
     let records = g.K.Store.records in
     let view = g.O.Sink.view in
-    rw (p.1, p.2) (step_begun c.args.engine.now c.step.new.self (records c.args.store.now) (records c.step.new.store) c.args.step.now c.flow.result.now c.in_ok-stepped.stepped _ (view c.args.out.now) (view c.print.new.out) c.flow.ensures c.in_ok-stepped.ensures.ok c.in_err-print.ensures)
+    rw (p.1, p.2) (step_begun (Unit {0}) c.args.engine.now c.step.new.self (records c.args.store.now) (records c.step.new.store) c.args.step.now c.args.tally.now c.count.new.self c.flow.result.now c.in_ok-stepped.stepped _ (view c.args.out.now) (view c.print.new.out) c.flow.ensures c.in_ok-stepped.ensures.ok c.in_err-print.ensures)
+
+pub returns-in_err-print-clause-few : goal.returns-in_err-print-clause-few
+returns-in_err-print-clause-few g c =
+    let p = err_from_is_err_and c.from_residual-in_err-print.result c.from_residual-in_err-print.ensures.1 in
+    let one = outcome_of c.in_ok-stepped.stepped in
+    rw (p.1, p.2) (few_cut (Unit {0}) (One c.args.step.now) 1 c.args.tally.now c.count.new.self c.in_err-print.field-0.0 (of_steps-more c.args.tally.now c.count.new.self one c.requires.room.of_steps c.count.ensures)
+    (steps-more c.args.tally.now c.count.new.self one c.count.ensures) (omega arith))
 
 pub returns-clause-printed : goal.returns-clause-printed
 returns-clause-printed g c =
     let records = g.K.Store.records in
     let view = g.O.Sink.view in
-    step_taken c.args.engine.now c.step.new.self (records c.args.store.now) (records c.step.new.store) c.args.step.now c.flow.result.now c.in_ok-stepped.stepped c.idle_steps-idle.result (view c.args.out.now) (view c.print.new.out) c.flow.ensures c.in_ok-stepped.ensures.ok c.idle_steps-idle.ensures.count c.in_ok-print.ensures
+    step_taken c.args.engine.now c.step.new.self (records c.args.store.now) (records c.step.new.store) c.args.step.now c.args.tally.now c.count.new.self c.flow.result.now c.in_ok-stepped.stepped tt (view c.args.out.now) (view c.print.new.out) c.flow.ensures c.in_ok-stepped.ensures.ok c.count.ensures c.in_ok-print.ensures
+
+pub returns-clause-few : goal.returns-clause-few
+returns-clause-few g c =
+    let one = outcome_of c.in_ok-stepped.stepped in
+    few_taken {T = Unit {0}} (One c.args.step.now) 1 c.args.tally.now c.count.new.self tt (of_steps-more c.args.tally.now c.count.new.self one c.requires.room.of_steps c.count.ensures)
+    (steps-more c.args.tally.now c.count.new.self one c.count.ensures) (omega arith)

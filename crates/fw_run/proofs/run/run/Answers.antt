@@ -1,12 +1,14 @@
-use Rattle.std.proofs.Common.{inr, sym, ◌∙◌, ap, Err}
+use Rattle.std.proofs.Common.{◌≡◌, ℕ, List, [], inl, inr, sym, ◌∙◌, ap, subst, lit<, ◌<◌, Err}
+use Rattle.std.specs.Prelude.{IsSome}
 use Rattle.fw_outside.specs.declared.fault.OutFault.TheVariants.{Failed, NoMemory}
-use Rattle.fw_run.proofs.CallLaws.{same_refusal, prints, prints_part, run_of-call, left_of-call}
+use Rattle.fw_run.proofs.CallLaws.{same_refusal, prints, prints_part, run_of-call, left_of-call, store_kept, late_fault, folder_read}
 use Rattle.fw_run.proofs.FaultLaws.{write_of, store_of, damage_of, memory_of}
+use Rattle.fw_run.specs.declared.status.Status.{Status}
 use Rattle.fw_run.specs.Call.{call_of, Refuses}
 use Rattle.fw_run.specs.Fault.{out_fault}
-use Rattle.fw_run.specs.Stopping.{LeavesWrites, IsStoppedByStore, IsStoppedByDamage}
-use Rattle.fw_run.specs.Trusting.{AreKnown, StoresTell}
-use Rattle.fw_run.specs.Words.{command_in}
+use Rattle.fw_run.specs.Status.{status_number}
+use Rattle.fw_run.specs.Words.{command_in, command_of, words_in}
+use Rattle.fw_run.specs.Work.{IsWholeRun, IsStoreFault, IsDamageIn}
 use Rattle.fw_run.specs.Writing.{IsWritten}
 use Rattle.fw_run.proofs.run.run.Goals as goal
 
@@ -25,42 +27,52 @@ pub returns-in-Ok-print_work-clause-done : goal.returns-in-Ok-print_work-clause-
 returns-in-Ok-print_work-clause-done g c e =
     let told = g.F.Folder.texts c.args.folder.now in
     let view = g.O.Sink.view in
-    prints (StoresTell g.K.Store.records) (call_of c.args.words.now told) (command_in c.in-Ok-Some.command) c.in-Ok.work (λ printed. IsWritten printed (view c.args.out.now) (view c.print_work.new.out)) (sym (rw c.in-Ok-Some.field-0-is at c.in-Ok-Some.ensures.command))
+    prints (IsSome (g.K.Store.records c.args.store.now)) (λ faults others. (faults ≡ 0) × (others ≡ [])) (call_of c.args.words.now told) (command_in c.in-Ok-Some.command) c.in-Ok.work
+    (λ printed. IsWritten printed (view c.args.out.now) (view c.print_work.new.out)) (sym (rw c.in-Ok-Some.field-0-is at c.in-Ok-Some.ensures.command))
     c.in-Ok.ensures.work c.in-Ok-print_work.ensures.printed
 
 pub returns-in-Ok-print_work-clause-stored : goal.returns-in-Ok-print_work-clause-stored
 returns-in-Ok-print_work-clause-stored g c e =
     let records = g.K.Store.records in
-    left_of-call (call_of c.args.words.now (g.F.Folder.texts c.args.folder.now)) (command_in c.in-Ok-Some.command) c.in-Ok.work (λ sys items. AreKnown (StoresTell records) sys items → LeavesWrites sys items (records c.print_work.new.store))
+    let view = g.O.Sink.view in
+    left_of-call (call_of c.args.words.now (g.F.Folder.texts c.args.folder.now)) (command_in c.in-Ok-Some.command) c.in-Ok.work
+    (IsWholeRun (IsSome (records c.args.store.now)) (records c.print_work.new.store) (view c.args.out.now) (view c.print_work.new.out))
     (sym (rw c.in-Ok-Some.field-0-is at c.in-Ok-Some.ensures.command)) c.in-Ok.ensures.work c.in-Ok-print_work.ensures.left
 
 pub returns-in-Err-print_work-clause-write_fault : goal.returns-in-Err-print_work-clause-write_fault
 returns-in-Err-print_work-clause-write_fault g c e =
     let view = g.O.Sink.view in
+    let count = g.K.Store.fault_count in
     let fault = c.in-Err-print_work.fault in
-    prints_part (Unit {0}) (StoresTell g.K.Store.records) (call_of c.args.words.now (g.F.Folder.texts c.args.folder.now)) (command_in c.in-Ok-Some.command) c.in-Ok.work fault Failed (view c.args.out.now) (view c.print_work.new.out)
-    (sym (rw c.in-Ok-Some.field-0-is at c.in-Ok-Some.ensures.command)) c.in-Ok.ensures.work (ap out_fault (write_of fault (sym c.status_of.ensures ∙ e))) c.in-Err-print_work.ensures.printed
+    prints_part (Unit {0}) (IsSome (g.K.Store.records c.args.store.now)) (call_of c.args.words.now (g.F.Folder.texts c.args.folder.now)) (command_in c.in-Ok-Some.command) c.in-Ok.work
+    (count c.args.store.now) (count c.print_work.new.store) fault Failed (view c.args.out.now) (view c.print_work.new.out)
+    (sym (rw c.in-Ok-Some.field-0-is at c.in-Ok-Some.ensures.command)) c.in-Ok.ensures.work (ap out_fault (write_of fault (sym c.status_of.ensures ∙ e))) c.in-Err-print_work.ensures.cut_off
 
 pub returns-in-Err-print_work-clause-no_memory : goal.returns-in-Err-print_work-clause-no_memory
 returns-in-Err-print_work-clause-no_memory g c e =
     let view = g.O.Sink.view in
+    let count = g.K.Store.fault_count in
     let fault = c.in-Err-print_work.fault in
-    inr (prints_part (Unit {0}) (StoresTell g.K.Store.records) (call_of c.args.words.now (g.F.Folder.texts c.args.folder.now)) (command_in c.in-Ok-Some.command) c.in-Ok.work fault NoMemory (view c.args.out.now) (view c.print_work.new.out)
-    (sym (rw c.in-Ok-Some.field-0-is at c.in-Ok-Some.ensures.command)) c.in-Ok.ensures.work (memory_of fault (sym c.status_of.ensures ∙ e)) c.in-Err-print_work.ensures.printed)
+    inr (prints_part (Unit {0}) (IsSome (g.K.Store.records c.args.store.now)) (call_of c.args.words.now (g.F.Folder.texts c.args.folder.now)) (command_in c.in-Ok-Some.command) c.in-Ok.work
+    (count c.args.store.now) (count c.print_work.new.store) fault NoMemory (view c.args.out.now) (view c.print_work.new.out)
+    (sym (rw c.in-Ok-Some.field-0-is at c.in-Ok-Some.ensures.command)) c.in-Ok.ensures.work (memory_of fault (sym c.status_of.ensures ∙ e)) c.in-Err-print_work.ensures.cut_off)
 
 pub returns-in-Err-print_work-clause-damaged_part : goal.returns-in-Err-print_work-clause-damaged_part
 returns-in-Err-print_work-clause-damaged_part g c id e =
     let view = g.O.Sink.view in
+    let count = g.K.Store.fault_count in
     let fault = c.in-Err-print_work.fault in
-    prints_part (Unit {0}) (StoresTell g.K.Store.records) (call_of c.args.words.now (g.F.Folder.texts c.args.folder.now)) (command_in c.in-Ok-Some.command) c.in-Ok.work fault NoMemory (view c.args.out.now) (view c.print_work.new.out)
-    (sym (rw c.in-Ok-Some.field-0-is at c.in-Ok-Some.ensures.command)) c.in-Ok.ensures.work (ap out_fault (damage_of fault id (sym c.status_of.ensures ∙ e))) c.in-Err-print_work.ensures.printed
+    prints_part (Unit {0}) (IsSome (g.K.Store.records c.args.store.now)) (call_of c.args.words.now (g.F.Folder.texts c.args.folder.now)) (command_in c.in-Ok-Some.command) c.in-Ok.work
+    (count c.args.store.now) (count c.print_work.new.store) fault NoMemory (view c.args.out.now) (view c.print_work.new.out)
+    (sym (rw c.in-Ok-Some.field-0-is at c.in-Ok-Some.ensures.command)) c.in-Ok.ensures.work (ap out_fault (damage_of fault id (sym c.status_of.ensures ∙ e))) c.in-Err-print_work.ensures.cut_off
 
 pub returns-in-Err-print_work-clause-store_fault : goal.returns-in-Err-print_work-clause-store_fault
 returns-in-Err-print_work-clause-store_fault g c e =
     let records = g.K.Store.records in
+    let count = g.K.Store.fault_count in
     let view = g.O.Sink.view in
     run_of-call (call_of c.args.words.now (g.F.Folder.texts c.args.folder.now)) (command_in c.in-Ok-Some.command) c.in-Ok.work
-    (λ sys items. IsStoppedByStore (StoresTell records) sys items (records c.print_work.new.store) (view c.args.out.now) (view c.print_work.new.out))
+    (IsStoreFault (IsSome (records c.args.store.now)) (count c.args.store.now) (count c.print_work.new.store) (records c.print_work.new.store) (view c.args.out.now) (view c.print_work.new.out))
     (sym (rw c.in-Ok-Some.field-0-is at c.in-Ok-Some.ensures.command)) c.in-Ok.ensures.work (c.in-Err-print_work.ensures.store_fault (ap (λ f. Err f) (store_of c.in-Err-print_work.fault (sym c.status_of.ensures ∙ e))))
 
 pub returns-in-Err-print_work-clause-damaged : goal.returns-in-Err-print_work-clause-damaged
@@ -68,5 +80,43 @@ returns-in-Err-print_work-clause-damaged g c id e =
     let records = g.K.Store.records in
     let view = g.O.Sink.view in
     run_of-call (call_of c.args.words.now (g.F.Folder.texts c.args.folder.now)) (command_in c.in-Ok-Some.command) c.in-Ok.work
-    (λ sys items. IsStoppedByDamage (StoresTell records) sys items id (g.K.Store.given c.print_work.new.store) (view c.args.out.now) (view c.print_work.new.out))
+    (IsDamageIn (IsSome (records c.args.store.now)) (g.K.Store.fault_count c.args.store.now) (g.K.Store.fault_count c.print_work.new.store) id (g.K.Store.given c.print_work.new.store) (view c.args.out.now) (view c.print_work.new.out))
     (sym (rw c.in-Ok-Some.field-0-is at c.in-Ok-Some.ensures.command)) c.in-Ok.ensures.work (c.in-Err-print_work.ensures.damaged id (ap (λ f. Err f) (damage_of c.in-Err-print_work.fault id (sym c.status_of.ensures ∙ e))))
+
+-- ---- what is outside
+
+pub returns-in-Err-Failed-clause-folder : goal.returns-in-Err-Failed-clause-folder
+returns-in-Err-Failed-clause-folder g c =
+    folder_read g.F.Folder.texts g.F.Folder.fetch_count (command_of (words_in c.args.words.now)) (command_in c.in-Ok-Some.command) _ c.args.folder.now c.read_work.new.folder
+    (sym (rw c.in-Ok-Some.field-0-is at c.in-Ok-Some.ensures.command)) c.read_work.ensures.texts_stay c.read_work.ensures.stays c.read_work.ensures.asked_no_more
+
+pub returns-in-Err-Refused-clause-folder : goal.returns-in-Err-Refused-clause-folder
+returns-in-Err-Refused-clause-folder g c =
+    folder_read g.F.Folder.texts g.F.Folder.fetch_count (command_of (words_in c.args.words.now)) (command_in c.in-Ok-Some.command) _ c.args.folder.now c.read_work.new.folder
+    (sym (rw c.in-Ok-Some.field-0-is at c.in-Ok-Some.ensures.command)) c.read_work.ensures.texts_stay c.read_work.ensures.stays c.read_work.ensures.asked_no_more
+
+pub returns-in-Err-NoMemory-clause-folder : goal.returns-in-Err-NoMemory-clause-folder
+returns-in-Err-NoMemory-clause-folder g c =
+    folder_read g.F.Folder.texts g.F.Folder.fetch_count (command_of (words_in c.args.words.now)) (command_in c.in-Ok-Some.command) _ c.args.folder.now c.read_work.new.folder
+    (sym (rw c.in-Ok-Some.field-0-is at c.in-Ok-Some.ensures.command)) c.read_work.ensures.texts_stay c.read_work.ensures.stays c.read_work.ensures.asked_no_more
+
+pub returns-in-Ok-print_work-clause-folder : goal.returns-in-Ok-print_work-clause-folder
+returns-in-Ok-print_work-clause-folder g c =
+    folder_read g.F.Folder.texts g.F.Folder.fetch_count (command_of (words_in c.args.words.now)) (command_in c.in-Ok-Some.command) _ c.args.folder.now c.read_work.new.folder
+    (sym (rw c.in-Ok-Some.field-0-is at c.in-Ok-Some.ensures.command)) c.read_work.ensures.texts_stay c.read_work.ensures.stays c.read_work.ensures.asked_no_more
+
+pub returns-in-Err-print_work-clause-folder : goal.returns-in-Err-print_work-clause-folder
+returns-in-Err-print_work-clause-folder g c =
+    folder_read g.F.Folder.texts g.F.Folder.fetch_count (command_of (words_in c.args.words.now)) (command_in c.in-Ok-Some.command) _ c.args.folder.now c.read_work.new.folder
+    (sym (rw c.in-Ok-Some.field-0-is at c.in-Ok-Some.ensures.command)) c.read_work.ensures.texts_stay c.read_work.ensures.stays c.read_work.ensures.asked_no_more
+
+pub returns-in-Ok-print_work-clause-store : goal.returns-in-Ok-print_work-clause-store
+returns-in-Ok-print_work-clause-store g c =
+    store_kept (g.F.Folder.texts c.args.folder.now) (command_of (words_in c.args.words.now)) (command_in c.in-Ok-Some.command) c.in-Ok.work _ c.args.store.now c.print_work.new.store
+    (sym (rw c.in-Ok-Some.field-0-is at c.in-Ok-Some.ensures.command)) c.in-Ok.ensures.work c.print_work.ensures.store_stays (inl (lit< tt))
+
+pub returns-in-Err-print_work-clause-store : goal.returns-in-Err-print_work-clause-store
+returns-in-Err-print_work-clause-store g c =
+    store_kept (g.F.Folder.texts c.args.folder.now) (command_of (words_in c.args.words.now)) (command_in c.in-Ok-Some.command) c.in-Ok.work c.status_of.result c.args.store.now c.print_work.new.store
+    (sym (rw c.in-Ok-Some.field-0-is at c.in-Ok-Some.ensures.command)) c.in-Ok.ensures.work c.print_work.ensures.store_stays
+    (inr (subst (λ (s : Status). 6 < status_number s) (sym c.status_of.ensures) (late_fault c.in-Err-print_work.fault)))

@@ -6,7 +6,7 @@ use Rattle.fw_run.proofs.words.parse.Goals as goal
 
 pub returns-in-Ok-clause-command : goal.returns-in-Ok-clause-command
 returns-in-Ok-clause-command c =
-    c.named.ensures
+    c.named.ensures.command
     ∙ parsed (app_of c.in_ok-forms.forms) (words_in c.args.words.now) (subcommand_rows_of c.in-Ok.matches) c.in_ok-forms.ensures
     (sym c.is_command.ensures ∙ c.if-not-is_command.false) (λ s. (c.in-Ok.ensures.matches s).1)
 

@@ -1,0 +1,248 @@
+-- An item that is taken through a fault of the store, where an engine takes its steps.
+use Rattle.std.proofs.Common.{◌≡◌, inl, inr, ℕ, ◌+◌, ◌<◌, ◌≤◌, List, [], ◌∷◌, ◌++◌, length, map, Option, Result, Ok, Err, refl, sym, ◌∙◌, ap, subst, arith, append_assoc}
+use Rattle.std.proofs.lemmas.List.{append-nil, length-append, length-map}
+use Rattle.std.specs.Result.{IsErrOf}
+use Rattle.fw_outside.specs.declared.fault.OutFault.{OutFault}
+use Rattle.fw_outside.specs.declared.fault.OutFault.TheVariants.{NoMemory}
+use Rattle.fw_outside.specs.Outside.{SinkView, Rose}
+use Rattle.fw_flow.specs.declared.step.Step.{Step}
+use Rattle.fw_flow.specs.declared.step.Step.TheVariants.{Inject, Deliver, Notify, Progress, Checkpoint, Persist, Fail, Recover, Collect, Ack}
+use Rattle.fw_flow.specs.Dataflow.{Dataflow, System}
+use Rattle.fw_schedule.specs.declared.item.Item.{Item}
+use Rattle.fw_schedule.specs.declared.item.Item.TheVariants.{One, Auto}
+use Rattle.fw_model.specs.Machine.{Machine}
+use Rattle.fw_model.specs.Steps.{Outcome, StepsTo, Run}
+use Rattle.fw_keep.specs.Stored.{Records}
+use Rattle.fw_running.specs.declared.fault.EngineFault.{EngineFault}
+use Rattle.fw_running.specs.declared.fault.EngineFault.TheVariants as fault
+use Rattle.fw_running.specs.Steps.{FirstMayCall, MayCallStore, IsLeftBy}
+use Rattle.fw_engine.specs.declared.engine.Engine.{Engine}
+use Rattle.fw_engine.specs.Engine.{StandsFor}
+use Rattle.fw_run.proofs.EnduringLaws.{outcomes_in-append, shown_in-append, faults-append, reports_text-append, outcomes_in-came, shown_in-came, faults-came, reports_text-came, endured-taken}
+use Rattle.fw_run.proofs.WritingLaws.{written_more, taken_part, taken_more}
+use Rattle.fw_run.specs.declared.fault.RunFault.{RunFault}
+use Rattle.fw_run.specs.declared.fault.RunFault.TheVariants as stop
+use Rattle.fw_run.specs.declared.tally.Tally.{Tally}
+use Rattle.fw_run.specs.Enduring.{Report, came, not_taken, unswept, faults_in, outcomes_in, shown_in, Endures, ItemEndures, fault_line, reports_text, RoseBy, EnduredItem, IsItemEndured, IsItemBroken, EnduresItem, PrintsThrough}
+use Rattle.fw_run.specs.Performing.{ItemRun, IsItemTaken, IsItemBegun, IsItemStopped, IsLeftAfter, PrintsItem, IsCutAfter}
+use Rattle.fw_run.specs.Printed.{outcomes_text, idle_count}
+use Rattle.fw_run.specs.Stopping.{MayCallIn, IsLeftIn}
+use Rattle.fw_run.specs.Tallies.{tally_of, with_tally}
+use Rattle.fw_run.specs.Writing.{IsWritten, IsCutOff}
+
+-- ---- where the store fails
+
+-- The store failed in a step of the item; these are the lines of the steps, the last of which tells the fault, and so they are
+-- counted; and of the state to which the item leads this is true.
+pub record IsItemFaulted (sys : System) (state : Machine) (item : Item) (old counts : Tally) (bytes : List ℕ) (IsSo : Machine → Type 0) : Type 0 where
+  pub of_item : EnduredItem sys state item
+  pub text : reports_text sys.flow old.steps of_item.reports ≡ bytes ++ fault_line (counts.steps + 1)
+  pub counted : counts.steps + 1 ≡ old.steps + length of_item.reports
+  pub idle : counts.idle ≡ old.idle + idle_count (shown_in of_item.reports)
+  pub once : faults_in of_item.reports ≡ 1
+  pub so : IsSo of_item.last
+
+-- a step in which the store fails leads where it leaves the engine
+pub record IsStepFaulted (sys : System) (state : Machine) (step : Step) (IsSo : Machine → Type 0) : Type 0 where
+  pub steps : List Step
+  pub report : Report
+  pub last : Machine
+  pub endures : Endures sys state step steps report last
+  pub run : Run sys state steps (outcomes_in (report ∷ [])) last
+  pub line : (flow : Dataflow) (before : ℕ) → reports_text flow before (report ∷ []) ≡ fault_line (before + 1)
+  pub unseen : shown_in (report ∷ []) ≡ []
+  pub once : faults_in (report ∷ []) ≡ 1
+  pub so : IsSo last
+
+-- a step that is not done
+step_failed : (sys : System) (state : Machine) (step : Step) (IsSo : Machine → Type 0) → MayCallStore sys.flow step → (step ≡ Collect → ⊥) → IsSo state → IsStepFaulted sys state step IsSo
+step_failed sys state step IsSo calls other so = record {
+  steps = [];
+  report = not_taken;
+  last = state;
+  endures = (calls, other, refl, refl);
+  run = refl;
+  line = λ flow before. append-nil (fault_line (before + 1));
+  unseen = refl;
+  once = refl;
+  so = so;
+}
+
+step_faulted : (sys : System) (state : Machine) (step : Step) (IsSo : Machine → Type 0) → MayCallStore sys.flow step → IsLeftBy sys state step IsSo → IsStepFaulted sys state step IsSo
+step_faulted sys state (Inject s) IsSo calls l = absurd calls
+step_faulted sys state (Deliver e at) IsSo calls l = step_failed sys state (Deliver e at) IsSo calls (λ e. absurd (cc)) l
+step_faulted sys state (Notify p at) IsSo calls l = step_failed sys state (Notify p at) IsSo calls (λ e. absurd (cc)) l
+step_faulted sys state Progress IsSo calls l = step_failed sys state Progress IsSo calls (λ e. absurd (cc)) l
+step_faulted sys state (Checkpoint p) IsSo calls l = step_failed sys state (Checkpoint p) IsSo calls (λ e. absurd (cc)) l
+step_faulted sys state Persist IsSo calls l = absurd calls
+step_faulted sys state (Fail ps) IsSo calls l = absurd calls
+step_faulted sys state Recover IsSo calls l = step_failed sys state Recover IsSo calls (λ e. absurd (cc)) l
+step_faulted sys state Collect IsSo calls l = record {
+  steps = Collect ∷ [];
+  report = unswept l.1;
+  last = l.0;
+  endures = (refl, l.2, refl);
+  run = (l.0, l.2, refl);
+  line = λ flow before. append-nil (fault_line (before + 1));
+  unseen = refl;
+  once = refl;
+  so = l.3;
+}
+step_faulted sys state (Ack o) IsSo calls l = absurd calls
+
+-- of no steps there are no outcomes
+pub no_outcomes : (sys : System) (state now : Machine) (begun : List Step) (outcomes : List Outcome) → begun ≡ [] → Run sys state begun outcomes now → outcomes ≡ []
+no_outcomes sys state now [] [] e run = refl
+no_outcomes sys state now [] (o ∷ outcomes) e run = absurd run
+no_outcomes sys state now (s ∷ begun) outcomes e run = absurd (cc)
+
+item_faulted : (sys : System) (state : Machine) (item : Item) (old counts : Tally) (bytes : List ℕ) (P : Machine → Type 0) → MayCallIn sys.flow item
+    → (t : IsItemStopped sys state item old counts bytes (λ now. IsLeftIn sys now item P)) → IsItemFaulted sys state item old counts bytes P
+item_faulted sys state (One step) old counts bytes P calls t =
+    let left : IsLeftBy sys state step P = subst (λ (m : Machine). IsLeftBy sys m step P) t.begins.1 t.so in
+    let f = step_faulted sys state step P calls left in
+    let none : t.outcomes ≡ [] = no_outcomes sys state t.now t.begun t.outcomes t.begins.0 t.run in
+    let steps : counts.steps ≡ old.steps + 0 = ap (λ (c : Tally). c.steps) t.counted ∙ ap (λ (os : List Outcome). old.steps + length os) none in
+    let idle : counts.idle ≡ old.idle + 0 = ap (λ (c : Tally). c.idle) t.counted ∙ ap (λ (os : List Outcome). old.idle + idle_count os) none in
+    let nothing : bytes ≡ [] = t.text ∙ ap (λ (os : List Outcome). outcomes_text sys.flow os) none in
+    let number : old.steps + 1 ≡ counts.steps + 1 = omega (arith, steps) in
+    record {
+      of_item = record { steps = f.steps; reports = f.report ∷ []; last = f.last; endures = (f.report, f.endures, refl); run = f.run };
+      text = f.line sys.flow old.steps ∙ ap fault_line number ∙ ap (λ (b : List ℕ). b ++ fault_line (counts.steps + 1)) (sym nothing);
+      counted = omega (arith, steps);
+      idle = idle ∙ ap (λ (os : List Outcome). old.idle + idle_count os) (sym f.unseen);
+      once = f.once;
+      so = f.so;
+    }
+item_faulted sys state (Auto most) old counts bytes P calls t =
+    let steps : counts.steps ≡ old.steps + length t.outcomes = ap (λ (c : Tally). c.steps) t.counted in
+    let idle : counts.idle ≡ old.idle + idle_count t.outcomes = ap (λ (c : Tally). c.idle) t.counted in
+    let all : List Report = map came t.outcomes ++ not_taken ∷ [] in
+    let taken : outcomes_in all ≡ t.outcomes = outcomes_in-append (map came t.outcomes) (not_taken ∷ []) ∙ append-nil (outcomes_in (map came t.outcomes)) ∙ outcomes_in-came t.outcomes in
+    let seen : shown_in all ≡ t.outcomes = shown_in-append (map came t.outcomes) (not_taken ∷ []) ∙ append-nil (shown_in (map came t.outcomes)) ∙ shown_in-came t.outcomes in
+    let number : (old.steps + length (map came t.outcomes)) + 1 ≡ counts.steps + 1 = omega (arith, steps, length-map t.outcomes came) in
+    let last : reports_text sys.flow (old.steps + length (map came t.outcomes)) (not_taken ∷ []) ≡ fault_line (counts.steps + 1) = append-nil (fault_line ((old.steps + length (map came t.outcomes)) + 1)) ∙ ap fault_line number in
+    record {
+      of_item = record {
+        steps = t.begun;
+        reports = all;
+        last = t.now;
+        endures = (t.outcomes, t.run, inr (t.begins.0, t.begins.1, t.so.0, refl));
+        run = subst (λ (os : List Outcome). Run sys state t.begun os t.now) (sym taken) t.run;
+      };
+      text = reports_text-append sys.flow old.steps (map came t.outcomes) (not_taken ∷ [])
+          ∙ ap (λ (b : List ℕ). b ++ reports_text sys.flow (old.steps + length (map came t.outcomes)) (not_taken ∷ [])) (reports_text-came sys.flow old.steps t.outcomes ∙ sym t.text)
+          ∙ ap (λ (b : List ℕ). bytes ++ b) last;
+      counted = omega (arith, steps, length-map t.outcomes came, length-append (map came t.outcomes) (not_taken ∷ []));
+      idle = idle ∙ ap (λ (os : List Outcome). old.idle + idle_count os) (sym seen);
+      once = faults-append (map came t.outcomes) (not_taken ∷ []) ∙ ap (λ (n : ℕ). n + 1) (faults-came t.outcomes);
+      so = t.so.1;
+    }
+
+-- ---- counts of faults
+
+-- a count that rose and did not fall rose by one
+pub rose_once : (a b : ℕ) → Rose a b → a ≤ b → RoseBy a b 1
+rose_once a b (inl less) h = inl (omega (arith, less))
+rose_once a b (inr most) h = inr (omega (arith, most, h))
+
+-- ---- what is printed of an item
+
+-- an answer with a fault that is the same
+pub fault_of_answer : (f g : RunFault) → f ≡ g → IsErrOf {T = Unit {0}} (Err f) g
+fault_of_answer f g e = ap with_fault e
+  where
+    with_fault : RunFault → Result (Unit {0}) RunFault
+    with_fault x = Err x
+
+-- the item was taken, and the store did not fail
+item_taken : (sys : System) (state : Machine) (item : Item) (old new : Tally) (bytes : List ℕ) (engine : Engine) (records : Option Records)
+    → IsItemTaken sys state item old new bytes engine records → IsItemEndured sys state item old new 0 bytes engine records
+item_taken sys state item old new bytes engine records t =
+    let r = t.of_item in
+    let all : List Report = map came r.outcomes in
+    record {
+      of_item = endured-taken sys state item r;
+      text = t.text ∙ sym (reports_text-came sys.flow old.steps r.outcomes);
+      counted = ap (λ (c : Tally). c.steps) t.counted ∙ ap (λ (n : ℕ). old.steps + n) (sym (length-map r.outcomes came));
+      idle = ap (λ (c : Tally). c.idle) t.counted ∙ ap (λ (os : List Outcome). old.idle + idle_count os) (sym (shown_in-came r.outcomes));
+      faults = sym (faults-came r.outcomes);
+      stands = t.stands;
+    }
+
+pub through-taken : (old new : Engine) (before after : Option Records) (item : Item) (counted counts : Tally) (IsCount : ℕ → Type 0) (first last : SinkView)
+    → PrintsItem {T = Unit {0}} old before item counted (Ok tt) new after counts first last → PrintsThrough old before item counted IsCount (Ok 0) new after counts first last
+through-taken old new before after item counted counts IsCount first last p = record {
+  bytes = p.bytes;
+  taken = p.taken;
+  does = λ sys state st trusts. item_taken sys state item counted counts p.bytes new after (p.does sys state st trusts);
+}
+
+-- its lines were cut off, and it is completed by a run in which the store does not fail
+pub item_broken : (sys : System) (state : Machine) (item : Item) (old : Tally) (bytes : List ℕ) (IsCount : ℕ → Type 0) → IsCount 0
+    → IsItemBegun sys state item bytes → IsItemBroken sys state item old bytes IsCount
+item_broken sys state item old bytes IsCount none b =
+    let r = b.of_item in
+    record {
+      of_item = endured-taken sys state item r;
+      others = b.others;
+      text = reports_text-came sys.flow old.steps r.outcomes ∙ b.text;
+      faults = subst IsCount (sym (faults-came r.outcomes)) none;
+    }
+
+-- a fault that is not one of the store
+abbrev pub IsOther : RunFault → Type 0
+IsOther f = f ≡ stop.Engine fault.StoreFault → ⊥
+
+through_stopped : (f : RunFault) (old new : Engine) (before after : Option Records) (item : Item) (counted counts : Tally) (IsCount : ℕ → Type 0) (first last : SinkView) → IsCount 0
+    → PrintsItem {T = Unit {0}} old before item counted (Err f) new after counts first last → PrintsThrough old before item counted IsCount (Err f) new after counts first last
+through_stopped (stop.Out f) old new before after item counted counts IsCount first last none p = record {
+  bytes = p.bytes;
+  taken = p.taken;
+  does = λ sys state st trusts. item_broken sys state item counted p.bytes IsCount none (p.does sys state st trusts);
+}
+through_stopped (stop.Engine f) old new before after item counted counts IsCount first last none p = record {
+  bytes = p.bytes;
+  taken = p.taken;
+  does = λ sys state st. p.does sys state st;
+}
+
+pub through-stopped : (f : RunFault) (old new : Engine) (before after : Option Records) (item : Item) (counted counts : Tally) (a b : ℕ) (first last : SinkView) → a ≤ b
+    → PrintsItem {T = Unit {0}} old before item counted (Err f) new after counts first last → PrintsThrough old before item counted (RoseBy a b) (Err f) new after counts first last
+through-stopped f old new before after item counted counts a b first last h p =
+    through_stopped f old new before after item counted counts (RoseBy a b) first last (inl (omega (arith, h))) p
+
+-- the store failed in the item, and the line that tells it was written
+pub through-fault : (old new : Engine) (before after : Option Records) (item : Item) (counted counts : Tally) (IsCount : ℕ → Type 0) (first mid last : SinkView)
+    → ((sys : System) (state : Machine) → StandsFor sys old before state → MayCallIn sys.flow item)
+    → PrintsItem {T = Unit {0}} old before item counted (Err (stop.Engine fault.StoreFault)) new after counts first mid → IsWritten (fault_line (counts.steps + 1)) mid last
+    → PrintsThrough old before item counted IsCount (Ok 1) new after
+    (record { steps = counts.steps + 1; idle = counts.idle; cuts = counts.cuts; acks = counts.acks; sum = counts.sum }) first last
+through-fault old new before after item counted counts IsCount first mid last calls p w = record {
+  bytes = p.bytes ++ fault_line (counts.steps + 1);
+  taken = written_more p.bytes (fault_line (counts.steps + 1)) first mid last p.taken w;
+  does = λ sys state st trusts.
+      let f = item_faulted sys state item counted counts p.bytes (StandsFor sys new after) (calls sys state st) (p.does sys state st) in
+      record { of_item = f.of_item; text = sym f.text; counted = f.counted; idle = f.idle; faults = sym f.once; stands = f.so };
+}
+
+-- or the line was cut off
+pub through-fault_cut : (old new : Engine) (before after : Option Records) (item : Item) (counted counts : Tally) (a b : ℕ) (f : OutFault) (first mid last : SinkView)
+    → ((sys : System) (state : Machine) → StandsFor sys old before state → MayCallIn sys.flow item)
+    → PrintsItem {T = Unit {0}} old before item counted (Err (stop.Engine fault.StoreFault)) new after counts first mid → IsCutOff (fault_line (counts.steps + 1)) f mid last
+    → Rose a b → a ≤ b → (now : Tally) → PrintsThrough old before item counted (RoseBy a b) (Err (stop.Out f)) new after now first last
+through-fault_cut old new before after item counted counts a b f first mid last calls p c rose never now =
+    let line = fault_line (counts.steps + 1) in
+    let at = taken_part line f mid last c in
+    record {
+      bytes = p.bytes ++ at.one;
+      taken = taken_more p.bytes at.one f first mid last p.taken at.taken;
+      does = λ sys state st trusts.
+          let g = item_faulted sys state item counted counts p.bytes (StandsFor sys new after) (calls sys state st) (p.does sys state st) in
+          record {
+            of_item = g.of_item;
+            others = at.other;
+            text = g.text ∙ ap (λ (t : List ℕ). p.bytes ++ t) at.parts ∙ sym (append_assoc p.bytes at.one at.other);
+            faults = subst (RoseBy a b) (sym g.once) (rose_once a b rose never);
+          };
+    }

@@ -1,0 +1,119 @@
+-- What came of a run, in one line.
+use Rattle.std.proofs.Common.{◌≡◌, inl, inr, ℕ, List, [], Option, None, Ok, Err, refl, ap, arith}
+use Rattle.fw_outside.specs.declared.fault.OutFault.{OutFault}
+use Rattle.fw_outside.specs.declared.fault.OutFault.TheVariants.{Failed}
+use Rattle.fw_outside.specs.Outside.{SinkView, Rose}
+use Rattle.fw_flow.specs.Dataflow.{System}
+use Rattle.fw_flow.specs.WellFormed.{IsWellFormedSystem}
+use Rattle.fw_schedule.specs.declared.item.Item.{Item}
+use Rattle.fw_model.specs.Machine.{first_state}
+use Rattle.fw_keep.specs.Stored.{Records}
+use Rattle.fw_engine.specs.declared.engine.Engine.{Engine}
+use Rattle.fw_run.proofs.ItemLaws.{items-run}
+use Rattle.fw_run.proofs.WritingLaws.{takes_none}
+use Rattle.fw_run.specs.declared.fault.RunFault.{RunFault}
+use Rattle.fw_run.specs.declared.fault.RunFault.TheVariants as stop
+use Rattle.fw_run.specs.declared.tally.Tally.{Tally}
+use Rattle.fw_run.specs.Fault.{out_fault}
+use Rattle.fw_run.specs.Performing.{AreTaken, Performs, WritesUntil}
+use Rattle.fw_run.specs.Stopping.{IsStoppedByStore, IsStoppedByDamage}
+use Rattle.fw_run.specs.Tallies.{summary_line, tally_of, PrintsSummary}
+use Rattle.fw_run.specs.Trusting.{AreKnown}
+use Rattle.fw_run.specs.Words.{Seeded}
+use Rattle.fw_run.specs.Writing.{IsWritten, IsCutOff, WritesText}
+
+-- what is known of a sink that nobody reads, before and after each write
+abbrev pub nowhere : SinkView
+nowhere = record { taken = None; refusals = 0; faults = 0 }
+
+-- it never fails
+never_rose : Rose 0 0 → ⊥
+never_rose (inl less) = absurd (omega (arith, less))
+never_rose (inr most) = absurd (omega (arith, most))
+
+pub never_failed : (T : Type 0) (Tells : Type 0) (sys : System) (items : List Item) (fault : RunFault) → Performs {T = T} Tells sys items (Err fault) nowhere nowhere → out_fault fault ≡ Failed → ⊥
+never_failed T Tells sys items fault p e = never_rose (p.written.failed e)
+
+-- ---- the line
+
+-- the items have a line
+summary_of : (sys : System) → IsWellFormedSystem sys → (items : List Item) (seeded : Seeded) → (printed : List ℕ) × PrintsSummary sys items seeded printed
+summary_of sys w items seeded =
+    let r = items-run sys w [] [] (first_state sys) refl items in
+    (summary_line seeded (tally_of r.outcomes), record { steps = r.steps; last = r.last; comes = r.comes; outcomes = r.outcomes; run = r.run; text = refl })
+
+-- nothing of it was written
+pub summary_stopped : (T : Type 0) (Tells : Type 0) (sys : System) (items : List Item) (seeded : Seeded) (fault : RunFault) (view : SinkView) → IsWellFormedSystem sys
+    → (out_fault fault ≡ Failed → ⊥)
+    → WritesText (λ printed. AreKnown Tells sys items → PrintsSummary sys items seeded printed) (λ printed. WritesUntil {T = T} printed (Err fault) view view)
+summary_stopped T Tells sys items seeded fault view w never =
+    let line = summary_of sys w items seeded in
+    record {
+      printed = line.0;
+      text = λ k. line.1;
+      written = record {
+        taken = (0, omega arith, takes_none view.taken);
+        failed = λ e. absurd (never e);
+        refused = λ e. absurd (never e);
+        never_fall = record { faults = omega arith; refusals = omega arith };
+      };
+    }
+
+-- the line is theirs
+summary_told : (IsPut : List ℕ → Type 0) (Tells : Type 0) (sys : System) (items : List Item) (seeded : Seeded) (engine : Engine) (records : Option Records) (tally : Tally)
+    (first last : SinkView) → AreTaken Tells sys items engine records tally first last → IsPut (summary_line seeded tally)
+    → WritesText (λ printed. AreKnown Tells sys items → PrintsSummary sys items seeded printed) IsPut
+summary_told IsPut Tells sys items seeded engine records tally first last u put = record {
+  printed = summary_line seeded tally;
+  text = λ k.
+      let s = u.so_far k in
+      record { steps = s.steps; last = s.state; comes = s.comes; outcomes = s.outcomes; run = s.run; text = ap (summary_line seeded) s.counted };
+  written = put;
+}
+
+-- it was written
+pub summary_written : {T : Type 0} (Tells : Type 0) (sys : System) (items : List Item) (seeded : Seeded) (engine : Engine) (records : Option Records) (tally : Tally) (value : T)
+    (first last before after : SinkView) → AreTaken Tells sys items engine records tally first last → IsWritten (summary_line seeded tally) before after
+    → WritesText (λ printed. AreKnown Tells sys items → PrintsSummary sys items seeded printed) (λ printed. WritesUntil {T = T} printed (Ok value) before after)
+summary_written {T} Tells sys items seeded engine records tally value first last before after u w =
+    summary_told (λ printed. WritesUntil {T = T} printed (Ok value) before after) Tells sys items seeded engine records tally first last u w
+
+-- or cut off
+pub summary_cut : (T : Type 0) (Tells : Type 0) (sys : System) (items : List Item) (seeded : Seeded) (engine : Engine) (records : Option Records) (tally : Tally) (f : OutFault)
+    (first last before after : SinkView) → AreTaken Tells sys items engine records tally first last → IsCutOff (summary_line seeded tally) f before after
+    → WritesText (λ printed. AreKnown Tells sys items → PrintsSummary sys items seeded printed) (λ printed. WritesUntil {T = T} printed (Err (stop.Out f)) before after)
+summary_cut T Tells sys items seeded engine records tally f first last before after u c =
+    summary_told (λ printed. WritesUntil {T = T} printed (Err (stop.Out f)) before after) Tells sys items seeded engine records tally first last u c
+
+-- ---- a run that stops
+
+-- what was put may be told otherwise
+pub store_put : (Tells : Type 0) (sys : System) (items : List Item) (records : Option Records) (P Q : List ℕ → Type 0) → ((printed : List ℕ) → Q printed)
+    → IsStoppedByStore Tells sys items records P → IsStoppedByStore Tells sys items records Q
+store_put Tells sys items records P Q put s = record {
+  printed = s.printed;
+  written = put s.printed;
+  earlier = s.earlier;
+  item = s.item;
+  later = s.later;
+  parts = s.parts;
+  may_call = s.may_call;
+  stops = s.stops;
+}
+
+pub damage_put : (Tells : Type 0) (sys : System) (items : List Item) (id : ℕ) (given : Option (ℕ × List ℕ)) (P Q : List ℕ → Type 0) → ((printed : List ℕ) → Q printed)
+    → IsStoppedByDamage Tells sys items id given P → IsStoppedByDamage Tells sys items id given Q
+damage_put Tells sys items id given P Q put s = record {
+  printed = s.printed;
+  written = put s.printed;
+  earlier = s.earlier;
+  later = s.later;
+  parts = s.parts;
+  untold = s.untold;
+  entry = s.entry;
+  named = s.named;
+  bytes = s.bytes;
+  gave = s.gave;
+  spells_none = s.spells_none;
+  stops = s.stops;
+}

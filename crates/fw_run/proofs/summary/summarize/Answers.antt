@@ -1,0 +1,107 @@
+use Rattle.std.proofs.Common.{◌≡◌, ◌∙◌, refl, subst, Ok, Err}
+use Rattle.std.specs.Prelude.{IsSome}
+use Rattle.std.proofs.lemmas.Result.{err_from_is_err_and}
+use Rattle.fw_outside.specs.declared.fault.OutFault.TheVariants.{NoMemory}
+use Rattle.fw_flow.specs.Dataflow.{system_of}
+use Rattle.fw_run.specs.declared.fault.RunFault.{RunFault}
+use Rattle.fw_run.specs.declared.fault.RunFault.TheVariants as stop
+use Rattle.fw_run.specs.declared.tally.Tally.{Tally}
+use Rattle.fw_run.specs.Performing.{AreTaken}
+use Rattle.fw_run.specs.Stopping.{IsStoppedByStore, IsStoppedByDamage}
+use Rattle.fw_run.specs.Tallies.{summary_line}
+use Rattle.fw_run.specs.Words.{seeded_in}
+use Rattle.fw_run.specs.Writing.{IsWritten, Writes}
+use Rattle.fw_run.proofs.Roses.{same_fault}
+use Rattle.fw_run.proofs.SoFarLaws.{leaves_writes}
+use Rattle.fw_run.proofs.SummaryLaws.{nowhere, never_failed, summary_stopped, summary_written, summary_cut, store_put, damage_put}
+use Rattle.fw_run.proofs.WritingLaws.{memory, writes, cut_nothing}
+use Rattle.fw_run.proofs.summary.summarize.Goals as goal
+
+pub returns-in_err-engine-clause-printed : goal.returns-in_err-engine-clause-printed
+returns-in_err-engine-clause-printed g c =
+    let p = err_from_is_err_and c.from_residual.result c.from_residual.ensures.1 in
+    rw (p.1, p.2) (summary_stopped (Unit {0}) (IsSome (g.K.Store.records c.args.store.now)) (system_of c.args.job.flow c.args.job.batches) c.args.job.items (seeded_in c.args.words) (stop.Out NoMemory) (g.O.Sink.view c.args.out.now)
+    c.requires.ready.well_formed memory)
+
+pub returns-in_err-tally-clause-printed : goal.returns-in_err-tally-clause-printed
+returns-in_err-tally-clause-printed g c =
+    let p = err_from_is_err_and c.from_residual-in_err-tally.result c.from_residual-in_err-tally.ensures.1 in
+    let tells = IsSome (g.K.Store.records c.args.store.now) in
+    let sys = system_of c.args.job.flow c.args.job.batches in
+    let fault = c.in_err-tally.field-0.0 in
+    let never = never_failed Tally tells sys c.as_slice.result.now fault (c.in_err-tally.ensures.cut_off sys (c.in_ok-engine.ensures.stands (g.K.Store.records c.args.store.now))) in
+    rw (p.1, p.2) (summary_stopped (Unit {0}) tells sys c.args.job.items (seeded_in c.args.words) fault (g.O.Sink.view c.args.out.now) c.requires.ready.well_formed never)
+
+pub returns-in_err-tally-clause-store_fault : goal.returns-in_err-tally-clause-store_fault
+returns-in_err-tally-clause-store_fault g c e =
+    let p = err_from_is_err_and c.from_residual-in_err-tally.result c.from_residual-in_err-tally.ensures.1 in
+    let records = g.K.Store.records in
+    let sys = system_of c.args.job.flow c.args.job.batches in
+    let is = same_fault _ Tally RunFault _ _ (rw (p.1, p.2) at e) in
+    let stopped = c.in_err-tally.ensures.store_fault sys (c.in_ok-engine.ensures.stands (records c.args.store.now)) is in
+    subst (λ items. IsStoppedByStore (IsSome (records c.args.store.now)) sys items (records c.take_items.new.store) (λ printed. c.args.out.now ≡ c.args.out.now)) c.as_slice.ensures
+    (store_put (IsSome (records c.args.store.now)) sys c.as_slice.result.now (records c.take_items.new.store) (λ printed. IsWritten printed nowhere nowhere) (λ printed. c.args.out.now ≡ c.args.out.now) (λ printed. refl) stopped)
+
+pub returns-in_err-tally-clause-damaged : goal.returns-in_err-tally-clause-damaged
+returns-in_err-tally-clause-damaged g c id e =
+    let p = err_from_is_err_and c.from_residual-in_err-tally.result c.from_residual-in_err-tally.ensures.1 in
+    let records = g.K.Store.records in
+    let given = g.K.Store.given c.take_items.new.store in
+    let sys = system_of c.args.job.flow c.args.job.batches in
+    let is = same_fault _ Tally RunFault _ _ (rw (p.1, p.2) at e) in
+    let stopped = c.in_err-tally.ensures.damaged id sys (c.in_ok-engine.ensures.stands (records c.args.store.now)) is in
+    subst (λ items. IsStoppedByDamage (IsSome (records c.args.store.now)) sys items id given (λ printed. c.args.out.now ≡ c.args.out.now)) c.as_slice.ensures
+    (damage_put (IsSome (records c.args.store.now)) sys c.as_slice.result.now id given (λ printed. IsWritten printed nowhere nowhere) (λ printed. c.args.out.now ≡ c.args.out.now) (λ printed. refl) stopped)
+
+pub returns-in_err-line-clause-printed : goal.returns-in_err-line-clause-printed
+returns-in_err-line-clause-printed g c =
+    let p = err_from_is_err_and c.from_residual-in_err-line.result c.from_residual-in_err-line.ensures.1 in
+    let records = g.K.Store.records in
+    let view = g.O.Sink.view in
+    let sys = system_of c.args.job.flow c.args.job.batches in
+    let tally = c.in_ok-tally.tally in
+    let seeded = seeded_in c.args.words in
+    let taken = subst (λ items. AreTaken (IsSome (records c.args.store.now)) sys items c.take_items.new.engine (records c.take_items.new.store) tally nowhere nowhere) c.as_slice.ensures
+    (c.in_ok-tally.ensures.taken sys (c.in_ok-engine.ensures.stands (records c.args.store.now))) in
+    rw (p.1, p.2) (summary_cut (Unit {0}) (IsSome (records c.args.store.now)) sys c.args.job.items seeded c.take_items.new.engine (records c.take_items.new.store) tally _ nowhere nowhere (view c.args.out.now) (view c.args.out.now)
+    taken (cut_nothing (summary_line seeded tally) (view c.args.out.now)))
+
+pub returns-in_err-write-clause-printed : goal.returns-in_err-write-clause-printed
+returns-in_err-write-clause-printed g c =
+    let p = err_from_is_err_and c.from_residual-in_err-write.result c.from_residual-in_err-write.ensures.1 in
+    let records = g.K.Store.records in
+    let view = g.O.Sink.view in
+    let sys = system_of c.args.job.flow c.args.job.batches in
+    let tally = c.in_ok-tally.tally in
+    let seeded = seeded_in c.args.words in
+    let taken = subst (λ items. AreTaken (IsSome (records c.args.store.now)) sys items c.take_items.new.engine (records c.take_items.new.store) tally nowhere nowhere) c.as_slice.ensures
+    (c.in_ok-tally.ensures.taken sys (c.in_ok-engine.ensures.stands (records c.args.store.now))) in
+    let line : c.as_bytes.result.now ≡ summary_line seeded tally = c.as_bytes.ensures.value ∙ c.in_ok-line.ensures in
+    let e = c.in_err-write.ensures in
+    let written = writes {T = Unit {0}} c.as_bytes.result.now (Err c.in_err-write.field-0.0) (view c.args.out.now) (view c.write.new.self) e.whole e.refused e.refusals_stay e.refusal_counted e.failed (record { faults = e.never_falls; refusals = e.refusals_never_fall }) in
+    rw (p.1, p.2) (summary_cut (Unit {0}) (IsSome (records c.args.store.now)) sys c.args.job.items seeded c.take_items.new.engine (records c.take_items.new.store) tally _ nowhere nowhere (view c.args.out.now) (view c.write.new.self)
+    taken (subst (λ t. Writes {T = Unit {0}} t (Err c.in_err-write.field-0.0) (view c.args.out.now) (view c.write.new.self)) line written))
+
+pub returns-clause-printed : goal.returns-clause-printed
+returns-clause-printed g c =
+    let records = g.K.Store.records in
+    let view = g.O.Sink.view in
+    let sys = system_of c.args.job.flow c.args.job.batches in
+    let tally = c.in_ok-tally.tally in
+    let seeded = seeded_in c.args.words in
+    let taken = subst (λ items. AreTaken (IsSome (records c.args.store.now)) sys items c.take_items.new.engine (records c.take_items.new.store) tally nowhere nowhere) c.as_slice.ensures
+    (c.in_ok-tally.ensures.taken sys (c.in_ok-engine.ensures.stands (records c.args.store.now))) in
+    let line : c.as_bytes.result.now ≡ summary_line seeded tally = c.as_bytes.ensures.value ∙ c.in_ok-line.ensures in
+    let e = c.in_ok-write.ensures in
+    let written = writes {T = Unit {0}} c.as_bytes.result.now (Ok tt) (view c.args.out.now) (view c.write.new.self) e.whole e.refused e.refusals_stay e.refusal_counted e.failed (record { faults = e.never_falls; refusals = e.refusals_never_fall }) in
+    summary_written {T = Unit {0}} (IsSome (records c.args.store.now)) sys c.args.job.items seeded c.take_items.new.engine (records c.take_items.new.store) tally tt nowhere nowhere (view c.args.out.now) (view c.write.new.self)
+    taken (subst (λ t. Writes {T = Unit {0}} t (Ok tt) (view c.args.out.now) (view c.write.new.self)) line written)
+
+pub returns-clause-left : goal.returns-clause-left
+returns-clause-left g c =
+    let records = g.K.Store.records in
+    let sys = system_of c.args.job.flow c.args.job.batches in
+    let tally = c.in_ok-tally.tally in
+    let taken = subst (λ items. AreTaken (IsSome (records c.args.store.now)) sys items c.take_items.new.engine (records c.take_items.new.store) tally nowhere nowhere) c.as_slice.ensures
+    (c.in_ok-tally.ensures.taken sys (c.in_ok-engine.ensures.stands (records c.args.store.now))) in
+    leaves_writes (IsSome (records c.args.store.now)) sys c.args.job.items c.take_items.new.engine (records c.take_items.new.store) tally nowhere nowhere c.take_items.ensures.in_order taken

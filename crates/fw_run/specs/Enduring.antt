@@ -1,0 +1,239 @@
+-- What comes of the items of a schedule where a fault of the store does not end the run.
+use Rattle.std.specs.Prelude.{◌≡◌, ◌⊎◌, ℕ, ◌+◌, ◌-◌, ◌^◌, ◌<◌, ◌≤◌, Bool, true, false, List, [], ◌∷◌, ◌++◌, length, map, Option, Some, Result, Ok, Err, codes}
+use Rattle.std.specs.Fmt.{decimal}
+use Rattle.fw_outside.specs.Outside.{SinkView}
+use Rattle.fw_flow.specs.Counting.{how_many}
+use Rattle.fw_flow.specs.declared.step.Step.{Step}
+use Rattle.fw_flow.specs.declared.step.Step.TheVariants.{Collect, Recover}
+use Rattle.fw_flow.specs.Dataflow.{Dataflow, System}
+use Rattle.fw_schedule.specs.declared.item.Item.{Item}
+use Rattle.fw_schedule.specs.declared.item.Item.TheVariants.{One, Auto}
+use Rattle.fw_model.specs.Auto.{IsAutoRun}
+use Rattle.fw_model.specs.Machine.{Machine, first_state}
+use Rattle.fw_model.specs.Steps.{Outcome, StepsTo, Run}
+use Rattle.fw_keep.specs.declared.entry.Entry.{Entry}
+use Rattle.fw_keep.specs.Stored.{Records, SpellsNone}
+use Rattle.fw_running.specs.declared.fault.EngineFault.TheVariants as fault
+use Rattle.fw_running.specs.EffectText.{outcome_text}
+use Rattle.fw_running.specs.Steps.{FirstMayCall, MayCallStore, ReadsNoCheckpoint}
+use Rattle.fw_engine.specs.declared.engine.Engine.{Engine}
+use Rattle.fw_engine.specs.Engine.{StandsFor}
+use Rattle.fw_run.specs.declared.fault.RunFault.{RunFault}
+use Rattle.fw_run.specs.declared.fault.RunFault.TheVariants as stop
+use Rattle.fw_run.specs.declared.tally.Tally.{Tally}
+use Rattle.fw_run.specs.Performing.{IsTaken, TrustsItem, IsItemStopped, IsLeftAfter}
+use Rattle.fw_run.specs.Printed.{idle_count}
+use Rattle.fw_run.specs.Stopping.{HoldsWrites, IsEntryIn}
+use Rattle.fw_run.specs.Writing.{IsWritten}
+
+-- ---- reports
+
+-- What came of a step: what the machine shows; that the store failed and the step was not taken; or that the store failed in the
+-- sweep of a collection, of which all else was done, and its outcome is not shown.
+pub data Report : Type 0 where
+  came : Outcome → Report
+  not_taken : Report
+  unswept : Outcome → Report
+
+-- the store failed
+abbrev pub is_fault : Report → Bool
+is_fault (came outcome) = false
+is_fault not_taken = true
+is_fault (unswept outcome) = true
+
+-- how often it did
+abbrev pub faults_in : List Report → ℕ
+faults_in reports = how_many is_fault reports
+
+-- what came of the steps that the machine took
+abbrev pub outcomes_in : List Report → List Outcome
+outcomes_in [] = []
+outcomes_in (came outcome ∷ reports) = outcome ∷ outcomes_in reports
+outcomes_in (not_taken ∷ reports) = outcomes_in reports
+outcomes_in (unswept outcome ∷ reports) = outcome ∷ outcomes_in reports
+
+-- what of it is shown
+abbrev pub shown_in : List Report → List Outcome
+shown_in [] = []
+shown_in (came outcome ∷ reports) = outcome ∷ shown_in reports
+shown_in (not_taken ∷ reports) = shown_in reports
+shown_in (unswept outcome ∷ reports) = shown_in reports
+
+-- ---- steps
+
+-- The step leads from a state to the next one, with this report; these are the steps that the machine takes. The store fails only in
+-- a step that may call it.
+abbrev pub Endures : System → Machine → Step → List Step → Report → Machine → Type 0
+Endures sys state step steps (came outcome) next = StepsTo sys state step next outcome × (steps ≡ step ∷ [])
+Endures sys state step steps not_taken next = MayCallStore sys.flow step × (step ≡ Collect → ⊥) × (steps ≡ []) × (next ≡ state)
+Endures sys state step steps (unswept outcome) next = (step ≡ Collect) × StepsTo sys state Collect next outcome × (steps ≡ Collect ∷ [])
+
+-- `auto` led to these steps: as far as it may, or until the store failed, in the first step that was enabled
+abbrev pub AutoEndures : System → Machine → ℕ → List Step → List Report → Machine → Type 0
+AutoEndures sys state most steps reports next = (outcomes : List Outcome) × Run sys state steps outcomes next
+    × ((IsAutoRun sys state most steps next × (reports ≡ map came outcomes))
+    ⊎ ((length steps < most) × IsAutoRun sys state (length steps) steps next × FirstMayCall sys next × (reports ≡ map came outcomes ++ not_taken ∷ [])))
+
+-- an item leads from a state to the next one
+abbrev pub ItemEndures : System → Machine → Item → List Step → List Report → Machine → Type 0
+ItemEndures sys state (One step) steps reports next = (report : Report) × Endures sys state step steps report next × (reports ≡ report ∷ [])
+ItemEndures sys state (Auto most) steps reports next = AutoEndures sys state most steps reports next
+
+-- items lead from a state to the last one, each from where those before it led
+abbrev pub ItemsEndure : System → Machine → List Item → List Step → List Report → Machine → Type 0
+ItemsEndure sys state [] steps reports last = (steps ≡ []) × (reports ≡ []) × (last ≡ state)
+ItemsEndure sys state (item ∷ items) steps reports last =
+    (first : List Step) × (shown : List Report) × (next : Machine) × (others : List Step) × (more : List Report)
+    × ItemEndures sys state item first shown next × ItemsEndure sys next items others more last
+    × (steps ≡ first ++ others) × (reports ≡ shown ++ more)
+
+-- ---- what is printed
+
+-- `fault step NUMBER`
+abbrev pub fault_line : ℕ → List ℕ
+fault_line number = codes "fault step " ++ (decimal number ++ codes "\n")
+
+-- the lines of a step of this number
+abbrev pub report_text : Dataflow → ℕ → Report → List ℕ
+report_text flow number (came outcome) = outcome_text flow outcome
+report_text flow number not_taken = fault_line number
+report_text flow number (unswept outcome) = fault_line number
+
+-- the lines of steps that come after so many others
+abbrev pub reports_text : Dataflow → ℕ → List Report → List ℕ
+reports_text flow before [] = []
+reports_text flow before (report ∷ reports) = report_text flow (before + 1) report ++ reports_text flow (before + 1) reports
+
+-- `done steps STEPS idle IDLE faults FAULTS`
+abbrev pub endured_line : ℕ → ℕ → ℕ → List ℕ
+endured_line steps idle_steps faults =
+    codes "done steps " ++ (decimal steps ++ (codes " idle " ++ (decimal idle_steps ++ (codes " faults " ++ (decimal faults ++ codes "\n")))))
+
+-- the whole text: the lines of the steps, and how many there were, how many were idle and in how many the store failed
+abbrev pub endured_text : Dataflow → List Report → List ℕ
+endured_text flow reports = reports_text flow 0 reports ++ endured_line (length reports) (idle_count (shown_in reports)) (faults_in reports)
+
+-- ---- a run
+
+-- Items lead to these reports, through steps that the machine takes from its first state to the last one.
+pub record EnduredRun (sys : System) (items : List Item) : Type 0 where
+  pub steps : List Step
+  pub reports : List Report
+  pub last : Machine
+  pub endured : ItemsEndure sys (first_state sys) items steps reports last
+  pub run : Run sys (first_state sys) steps (outcomes_in reports) last
+
+-- No recovery among the items reads a checkpoint, wherever the store fails before it.
+abbrev pub NoneEnduredReads : System → List Item → Type 0
+NoneEnduredReads sys items = (earlier later : List Item) → items ≡ earlier ++ One Recover ∷ later
+    → (of_earlier : EnduredRun sys earlier) → ReadsNoCheckpoint sys of_earlier.last
+
+-- what comes of the items is known, but for where the store fails
+abbrev pub IsEndureKnown : Type 0 → System → List Item → Type 0
+IsEndureKnown Tells sys items = Tells ⊎ NoneEnduredReads sys items
+
+-- a count rose by as many at least, or stands at its end
+abbrev pub RoseBy : ℕ → ℕ → ℕ → Type 0
+RoseBy before after times = (before + times ≤ after) ⊎ (2 ^ 64 - 1 ≤ after)
+
+-- The text of a run through faults, or first bytes of it, as far as it is known; and this is true of the number of its faults and of
+-- the bytes that are left.
+abbrev pub PrintsEndured : Type 0 → (ℕ → List ℕ → Type 0) → System → List Item → List ℕ → Type 0
+PrintsEndured Tells IsSo sys items printed = IsEndureKnown Tells sys items
+    → (of_items : EnduredRun sys items) × (others : List ℕ) × (endured_text sys.flow of_items.reports ≡ printed ++ others)
+    × IsSo (faults_in of_items.reports) others
+
+-- The run came to its end; of the number of its faults this is true. Its text was written, and the store holds the writes of the last
+-- state.
+pub record IsEndured (Tells : Type 0) (IsCount : ℕ → Type 0) (sys : System) (items : List Item) (records : Option Records)
+    (before after : SinkView) : Type 0 where
+  pub printed : List ℕ
+  pub written : IsWritten printed before after
+  pub endured : IsEndureKnown Tells sys items
+      → (of_items : EnduredRun sys items) × (printed ≡ endured_text sys.flow of_items.reports) × IsCount (faults_in of_items.reports)
+      × HoldsWrites sys records of_items.last
+
+-- The run was ended by a damaged record in this recovery among the items. What was printed is the lines of the steps before, and of the
+-- number of their faults this is true.
+pub record IsEnduredToDamage (Tells : Type 0) (IsCount : ℕ → Type 0) (sys : System) (items : List Item) (id : ℕ) (given : Option (ℕ × List ℕ))
+    (before after : SinkView) : Type 0 where
+  pub printed : List ℕ
+  pub written : IsWritten printed before after
+  pub earlier : List Item
+  pub later : List Item
+  pub parts : items ≡ earlier ++ One Recover ∷ later
+  pub untold : Tells → ⊥
+  pub entry : Entry
+  pub named : entry.id ≡ id
+  pub bytes : List ℕ
+  pub gave : given ≡ Some (id, bytes)
+  pub spells_none : SpellsNone sys.flow entry bytes
+  pub stops : IsEndureKnown Tells sys earlier
+      → (of_earlier : EnduredRun sys earlier) × (printed ≡ reports_text sys.flow 0 of_earlier.reports)
+      × IsCount (faults_in of_earlier.reports) × IsEntryIn sys entry of_earlier.last
+
+-- ---- an item
+
+-- From the state the item leads to these steps, which the machine takes to the last one, with these reports.
+pub record EnduredItem (sys : System) (state : Machine) (item : Item) : Type 0 where
+  pub steps : List Step
+  pub reports : List Report
+  pub last : Machine
+  pub endures : ItemEndures sys state item steps reports last
+  pub run : Run sys state steps (outcomes_in reports) last
+
+-- The item was taken from the state, through so many faults of the store; these are the lines of its steps, and so they are counted;
+-- and the engine then stands for the state to which it leads.
+pub record IsItemEndured (sys : System) (state : Machine) (item : Item) (old new : Tally) (count : ℕ) (bytes : List ℕ)
+    (engine : Engine) (records : Option Records) : Type 0 where
+  pub of_item : EnduredItem sys state item
+  pub text : bytes ≡ reports_text sys.flow old.steps of_item.reports
+  pub counted : new.steps ≡ old.steps + length of_item.reports
+  pub idle : new.idle ≡ old.idle + idle_count (shown_in of_item.reports)
+  pub faults : count ≡ faults_in of_item.reports
+  pub stands : StandsFor sys engine records of_item.last
+
+-- The item is taken from the state, and these are first bytes of the lines of its steps; of the number of its faults this is true.
+pub record IsItemBroken (sys : System) (state : Machine) (item : Item) (old : Tally) (bytes : List ℕ) (IsCount : ℕ → Type 0) : Type 0 where
+  pub of_item : EnduredItem sys state item
+  pub others : List ℕ
+  pub text : reports_text sys.flow old.steps of_item.reports ≡ bytes ++ others
+  pub faults : IsCount (faults_in of_item.reports)
+
+-- what an answer to an item says of the bytes that were written, where the engine stood for the state: no fault of the store ends it
+abbrev pub EnduresItem : System → Machine → Item → Tally → Tally → List ℕ → (ℕ → Type 0) → Result ℕ RunFault
+    → Option Records → Engine → Option Records → Type 0
+EnduresItem sys state item old new bytes IsCount (Ok count) before engine after =
+    TrustsItem sys state item before → IsItemEndured sys state item old new count bytes engine after
+EnduresItem sys state item old new bytes IsCount (Err (stop.Out f)) before engine after =
+    TrustsItem sys state item before → IsItemBroken sys state item old bytes IsCount
+EnduresItem sys state item old new bytes IsCount (Err (stop.Engine f)) before engine after =
+    IsItemStopped sys state item old new bytes (IsLeftAfter sys item f before engine after)
+
+-- What an answer to an item says: some bytes were written, and from each state for which the engine stood they are the lines of the
+-- item's steps, or first bytes of these.
+pub record PrintsThrough (old : Engine) (before : Option Records) (item : Item) (counted : Tally) (IsCount : ℕ → Type 0)
+    (answer : Result ℕ RunFault) (new : Engine) (after : Option Records) (counts : Tally) (first last : SinkView) : Type 0 where
+  pub bytes : List ℕ
+  pub taken : IsTaken bytes answer first last
+  pub does : (sys : System) (state : Machine) → StandsFor sys old before state
+      → EnduresItem sys state item counted counts bytes IsCount answer before new after
+
+-- ---- items
+
+-- The engine stands for the state to which the items lead; so their steps and their faults are counted, and these are their lines.
+pub record IsEnduredSoFar (sys : System) (items : List Item) (engine : Engine) (records : Option Records) (tally : Tally)
+    (count : ℕ) (bytes : List ℕ) : Type 0 where
+  pub of_items : EnduredRun sys items
+  pub text : bytes ≡ reports_text sys.flow 0 of_items.reports
+  pub counted : tally.steps ≡ length of_items.reports
+  pub idle : tally.idle ≡ idle_count (shown_in of_items.reports)
+  pub faults : count ≡ faults_in of_items.reports
+  pub stands : StandsFor sys engine records of_items.last
+
+-- What was written of the items is the lines of their steps, as far as it is known what comes of them.
+pub record AreEndured (Tells : Type 0) (sys : System) (items : List Item) (engine : Engine) (records : Option Records)
+    (tally : Tally) (count : ℕ) (first last : SinkView) : Type 0 where
+  pub bytes : List ℕ
+  pub written : IsWritten bytes first last
+  pub so_far : IsEndureKnown Tells sys items → IsEnduredSoFar sys items engine records tally count bytes

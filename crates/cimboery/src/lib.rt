@@ -9,12 +9,14 @@
 //!   Each call is lent the `Store` of what nodes write, always the same one, which at first holds no record.
 //! - Looks at an engine: `Engine::settled`, `is_failed`, `acknowledged`, `pending`, which shows a `Queue`, and `low_watermark`.
 //! - Times: `Stamp`; `Front`, a frontier; `Cut` and `Choice`, to what a recovery restores the nodes.
-//! - The command over texts: `falkirk`, with its `Folder`, `Store` and `Sink` in memory, over files or of your own.
+//! - The command over texts: `falkirk`, with its `Folder`, `Store` and `Sink` in memory, over files (`FileFolder`, `DiskStore`,
+//!   `StreamSink`) or of your own.
 #![tactic(auto)]
 
 pub use fw_bag::{
     Assignment, Bag, Comparison, Condition, Field, NewValue, Rec, Recs, Selection, Term,
 };
+pub use fw_disk::DiskStore;
 pub use fw_edge::Queue;
 pub use fw_engine::{Effect, Engine, EngineFault, Shown, Stepped};
 pub use fw_flow::{

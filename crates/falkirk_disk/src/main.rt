@@ -1,0 +1,63 @@
+//! The command `falkirk_disk`: the top call over real files, standard output, standard error and a store in a folder of real files.
+//! The first word is the folder's name; it is there, and empty at first.
+#![tactic(auto)]
+
+use fw_disk::DiskStore;
+use fw_outside::{FileFolder, Sink, StreamSink};
+use fw_run::{Status, falkirk};
+use std::io::ErrorKind;
+use std::process::ExitCode;
+use std::{env, io};
+
+fn main(rt: HostRuntime) -> ExitCode {
+    ExitCode::from(run(&rt).number())
+}
+
+// Words that are not UTF-8 are bad words, as no words are.
+fn run(rt: &HostRuntime) -> Status {
+    let mut notes = StreamSink::new(rt.stderr());
+    match arguments(rt) {
+        Ok(words) => run_words(rt, &words, &mut notes),
+        Err(error) if error.kind() == ErrorKind::OutOfMemory => out_of_memory(&mut notes),
+        Err(_) => run_words(rt, &[], &mut notes),
+    }
+}
+
+// The words after the program's name.
+fn arguments(rt: &HostRuntime) -> io::Result<Vec<String>> {
+    Ok(env::args(rt)?.skip(1).collect(rt.alloc())?)
+}
+
+// Runs the words behind the first one, which names the store's folder; none, where that is no name.
+fn run_words<N: Sink>(rt: &HostRuntime, words: &[String], notes: &mut N) -> Status {
+    match words {
+        [folder, others @ ..] if is_name(folder) => run_over(rt, folder, others, notes),
+        _ => run_over(rt, ".", &[], notes),
+    }
+}
+
+// As an operand a folder's name is not empty and does not begin with a dash.
+fn is_name(word: &str) -> bool {
+    match word.as_bytes() {
+        [] => false,
+        [first, ..] => *first != b'-',
+    }
+}
+
+// Runs the words over the store of a folder.
+fn run_over<N: Sink>(rt: &HostRuntime, name: &str, words: &[String], notes: &mut N) -> Status {
+    let alloc = rt.alloc();
+    let words: Result<Vec<&str>, _> = words.iter().map(|word| word.as_str()).collect(alloc);
+    let (Ok(words), Ok(name)) = (words, String::from_str(alloc, name)) else {
+        return out_of_memory(notes);
+    };
+    let mut folder = FileFolder::new(rt);
+    let mut store = DiskStore::new(alloc, rt, name);
+    let mut out = StreamSink::new(rt.stdout());
+    falkirk(alloc, &words, &mut folder, &mut store, &mut out, notes)
+}
+
+fn out_of_memory<N: Sink>(notes: &mut N) -> Status {
+    let _ = notes.write(b"no memory\n");
+    Status::NoMemory
+}

@@ -61,7 +61,7 @@ target-same flow counts old p q f other =
     (λ e l r t i. subst (λ g. come_by flow counts e (node_frontier flow (sender flow e) g) t ≡ true) (front_old old p (sender flow e) f (other e l r)) i)
 
 -- no sender of a node that does not wait grew
-no_sender : (flow : Dataflow) (p q : ℕ) (work rest : List ℕ) → ArePut flow (out_edges flow p) work rest → is_in rest q ≡ false
+pub no_sender : (flow : Dataflow) (p q : ℕ) (work rest : List ℕ) → ArePut flow (out_edges flow p) work rest → is_in rest q ≡ false
     → (e : ℕ) → e < length flow.edges → receiver flow e ≡ q → sender flow e ≢ p
 no_sender flow p q work rest put out e k r s =
     let j : is_in rest (receiver flow e) ≡ true = out_edges-at (λ d. is_in rest (receiver flow d) ≡ true) flow p put.there e k s in
@@ -83,7 +83,7 @@ widened-admissible flow counts old p f l n w a =
       ];
     }
 
-receivers-nodes : (flow : Dataflow) → IsWellFormed flow → (p : ℕ) → list_all (λ e. nat_lt (receiver flow e) (length flow.nodes)) (out_edges flow p) ≡ true
+pub receivers-nodes : (flow : Dataflow) → IsWellFormed flow → (p : ℕ) → list_all (λ e. nat_lt (receiver flow e) (length flow.nodes)) (out_edges flow p) ≡ true
 receivers-nodes flow w p =
     all-of_each (λ e. nat_lt (receiver flow e) (length flow.nodes)) (out_edges flow p)
     (out_edges-from (λ e. nat_lt (receiver flow e) (length flow.nodes) ≡ true) flow p (λ e l r. lt-ltb (receiver flow e) (length flow.nodes) (w.receivers_declared e l)))

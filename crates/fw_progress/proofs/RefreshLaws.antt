@@ -48,7 +48,7 @@ first_node flow work rest p e n =
     (ltb-true p (length flow.nodes) both.0, both.1)
 
 -- a node that is not among the others and is not the first one
-not_in-first : (xs : List ℕ) (x q : ℕ) → q ≢ x → is_in xs q ≡ false → is_in (x ∷ xs) q ≡ false
+pub not_in-first : (xs : List ℕ) (x q : ℕ) → q ≢ x → is_in xs q ≡ false → is_in (x ∷ xs) q ≡ false
 not_in-first xs x q n k = ap (λ b. b || is_in xs q) (false_from_ne_true (x == q) (λ e. n (sym (eqb-true x q e)))) ∙ k
 
 -- where no node waits, none is taken
@@ -81,7 +81,7 @@ taken_step flow counts first start begun fronts new work mid rest p growths more
       still = λ k. none_taken (r.still k).0 e;
     }
 
-falls : (m k a b r q d : ℕ) → a + k ≤ b → r ≤ q + d → d ≤ k * m → a * (m + 1) + r < b * (m + 1) + (q + 1)
+pub falls : (m k a b r q d : ℕ) → a + k ≤ b → r ≤ q + d → d ≤ k * m → a * (m + 1) + r < b * (m + 1) + (q + 1)
 falls m k a b r q d h i j =
     let x : (a + k) * (m + 1) ≤ b * (m + 1) = times (m + 1) (a + k) b h in
     omega arith

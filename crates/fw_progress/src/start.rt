@@ -1,16 +1,19 @@
 //! Counts of nothing, and the largest frontiers by counts.
-ghost use Rattle.std.specs.Prelude.{◌≡◌, ◌<◌, ◌↔◌, ℕ, [], length, map, slice_index_or, IsTrue, IfOk};
+ghost use Rattle.std.specs.Prelude.{◌≡◌, ◌<◌, ◌↔◌, ℕ, [], true, length, map, slice_index_or, IsTrue, IfOk};
 ghost use Rattle.std.specs.List.{AllByRecursion};
 ghost use Rattle.fw_lines.specs.Batches.{batches_at};
 ghost use Rattle.fw_frontier.specs.Frontier.{Within};
-ghost use Rattle.fw_flow.specs.Dataflow.{bounds_of, node_ids};
+ghost use Rattle.fw_frontier.specs.Front.{IsCanonical};
+ghost use Rattle.fw_flow.specs.Dataflow.{bounds_of, node_frontier, node_ids};
 ghost use Rattle.fw_model.specs.Machine.{no_stamps, family_of, AreCanonical};
-ghost use Rattle.fw_progress.specs.Counts.{AreCounts};
-ghost use Rattle.fw_progress.specs.Start.{AreTargets, AreLargest, AreOfNothing};
+ghost use Rattle.fw_progress.specs.Counts.{is_in, AreCounts, AreNodes};
+ghost use Rattle.fw_progress.specs.Start.{AreLargest, AreOfNothing, IsLowered, IsShrunk};
 
 use crate::counts::Counts;
 use crate::tally::Tally;
 use crate::target::target;
+use crate::worklist::Worklist;
+use fw_flow::laws::flow_is_well_formed;
 use fw_flow::{Flow, NodeId, SentTable};
 use fw_frontier::Front;
 use fw_lines::Batches;
@@ -91,55 +94,79 @@ fn all_each(alloc: Global, flow: &Flow) -> Result<Vec<Front>, AllocError>
     Ok(fronts)
 }
 
-/// For each node the largest frontier that it can have, the others as they are. The error is want of memory.
-fn targets(
+/// All nodes wait. The error is want of memory.
+fn all_wait(alloc: Global, flow: &Flow) -> Result<Worklist, AllocError>
+    ensures each { IfOk result (λ work. (p : ℕ) → p < length flow.now.nodes → is_in work p ≡ true) }
+    ensures nodes { IfOk result (λ work. AreNodes flow.now work) }
+{
+    let mut work = Worklist::new(alloc);
+    for place in 0..flow.nodes() {
+        work.put(NodeId::at(place as u32))?;
+    }
+    Ok(work)
+}
+
+/// Whether the frontier of a node lies within another one.
+fn lies_within(flow: &Flow, fronts: &[Front], node: NodeId, front: &Front) -> bool
+    requires there { node < length flow.now.nodes }
+    requires one_each { length fronts.now ≡ length flow.now.nodes }
+    requires front { IsCanonical (bounds_of flow.now node) front.now }
+    ensures { IsTrue result ↔ Within (family_of flow.now fronts.now node) (node_frontier flow.now node front.now) }
+{
+    let _ = flow;
+    fronts[node.place() as usize].subset(front)
+}
+
+/// Gives a node a smaller frontier, and the receivers of its out-edges wait. The error is want of memory.
+fn shrink(
+    flow: &Flow,
+    fronts: &mut Vec<Front>,
+    work: &mut Worklist,
+    node: NodeId,
+    front: Front,
+) -> Result<(), AllocError>
+    requires there { node < length fronts.old.items }
+    ensures { IfOk result (λ u. IsShrunk flow.now node front fronts.old.items fronts.new.items work.old work.new) }
+{
+    fronts[node.place() as usize] = front;
+    work.put_receivers(flow, node)
+}
+
+/// If a node has more than it can have by the others, it gets what it can have, and the receivers of its out-edges wait. The
+/// error is want of memory.
+fn lower(
     alloc: Global,
     flow: &Flow,
     counts: &Counts,
-    fronts: &[Front],
-) -> Result<Vec<Front>, AllocError>
+    fronts: &mut Vec<Front>,
+    work: &mut Worklist,
+    node: NodeId,
+) -> Result<(), AllocError>
+    requires there { node < length flow.now.nodes }
     requires counts { AreCounts flow.now counts.now }
-    requires one_each { length fronts.now ≡ length flow.now.nodes }
-    requires canonical { AreCanonical flow.now fronts.now }
-    ensures one_each { IfOk result (λ targets. length targets.items ≡ length flow.now.nodes) }
-    ensures each { IfOk result (λ targets. AreTargets flow.now counts.now fronts.now targets.items) }
+    requires one_each { length fronts.old.items ≡ length flow.now.nodes }
+    requires canonical { AreCanonical flow.now fronts.old.items }
+    ensures { IfOk result (λ u. IsLowered flow.now counts.now node fronts.old.items fronts.new.items work.old work.new) }
 {
-    let mut targets = Vec::new(alloc);
-    for place in 0..flow.nodes() {
-        let node = NodeId::at(place as u32);
-        targets.push(target(alloc, flow, counts, fronts, node)?)?;
+    let front = target(alloc, flow, counts, fronts, node)?;
+    if lies_within(flow, fronts, node, &front) {
+        return Ok(());
     }
-    Ok(targets)
-}
-
-/// Whether each of the frontiers lies within the other one of its node.
-fn are_within(flow: &Flow, fronts: &[Front], others: &[Front]) -> bool
-    requires one_each { length fronts.now ≡ length flow.now.nodes }
-    requires others_each { length others.now ≡ length flow.now.nodes }
-    requires others_canonical { AreCanonical flow.now others.now }
-    ensures { IsTrue result ↔ ((p : ℕ) → p < length flow.now.nodes
-        → Within (family_of flow.now fronts.now p) (family_of flow.now others.now p)) }
-{
-    let _ = flow;
-    for place in 0..fronts.len() {
-        if !fronts[place].subset(&others[place]) {
-            return false;
-        }
-    }
-    true
+    shrink(flow, fronts, work, node, front)
 }
 
 /// The largest frontiers by the counts: it begins with all stamps at each node, and takes away what its node can not have,
-/// until nothing is taken. The error is want of memory.
+/// until nothing is taken. A node is looked at once, and again where one that sends to it lost something. The error is want
+/// of memory.
 pub(crate) fn largest(alloc: Global, flow: &Flow, counts: &Counts) -> Result<Vec<Front>, AllocError>
     requires { AreCounts flow.now counts.now }
     ensures { IfOk result (λ fronts. AreLargest flow.now counts.now fronts.items) }
 {
+    flow_is_well_formed(flow);
     let mut fronts = all_each(alloc, flow)?;
-    let mut lower = targets(alloc, flow, counts, &fronts)?;
-    'pass: while !are_within(flow, &fronts, &lower) {
-        fronts = lower;
-        lower = targets(alloc, flow, counts, &fronts)?;
+    let mut work = all_wait(alloc, flow)?;
+    'take: while let Some(node) = work.take() {
+        lower(alloc, flow, counts, &mut fronts, &mut work, node)?;
     }
     Ok(fronts)
 }

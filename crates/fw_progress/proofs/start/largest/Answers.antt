@@ -1,29 +1,20 @@
-use Rattle.std.proofs.Common.{◌↔◌, ◌≡◌, ◌<◌, ℕ, true, length, subst}
-use Rattle.std.proofs.lemmas.Bool.{both_ways}
-use Rattle.fw_frontier.specs.Frontier.{Within}
-use Rattle.fw_model.specs.Machine.{family_of}
-use Rattle.fw_progress.specs.Start.{AreTargets}
-use Rattle.fw_progress.proofs.StartLaws.{descends, falls, ended}
+use Rattle.fw_progress.proofs.StartLaws.{begun, descends, lowered_falls, ended}
 use Rattle.fw_progress.proofs.start.largest.Goals as goal
 
-pub pass-smaller : goal.pass-smaller
-pass-smaller c =
-    let flow = c.args.flow.now in
-    let r = c.are_within.result in
-    let test = subst (λ ys. (r ≡ true) ↔ ((p : ℕ) → p < length flow.nodes → Within (family_of flow c.pass.fronts.items p) (family_of flow ys p))) c.deref-in-pass-2.ensures.value
-    (subst (λ xs. (r ≡ true) ↔ ((p : ℕ) → p < length flow.nodes → Within (family_of flow xs p) (family_of flow c.deref-in-pass-2.result.now p))) c.deref-in-pass.ensures.value c.are_within.ensures) in
-    falls flow c.args.counts.now c.pass.fronts.items c.pass.lower.items r c.pass.invariant test (λ k. both_ways r c.pass-test.true k)
+pub take-init : goal.take-init
+take-init c =
+    begun c.args.flow.now c.args.counts.now c.in_ok-fronts.fronts.items c.in_ok-work.work c.in_ok-fronts.ensures.one_each c.in_ok-fronts.ensures.all c.in_ok-work.ensures.each
+    c.in_ok-work.ensures.nodes
 
-pub pass-preserved : goal.pass-preserved
-pass-preserved c =
-    let flow = c.args.flow.now in
-    descends flow c.args.counts.now c.pass.fronts.items c.pass.lower.items c.in_ok-lower-2.lower.items c.pass.invariant c.in_ok-lower-2.ensures.one_each
-    (subst (λ xs. AreTargets flow c.args.counts.now xs c.in_ok-lower-2.lower.items) c.deref-in-pass-3.ensures.value c.in_ok-lower-2.ensures.each)
+pub take-smaller : goal.take-smaller
+take-smaller c =
+    lowered_falls c.args.flow.now c.args.counts.now c.take.fronts.items c.lower.new.fronts.items c.take.work c.take-in-take.new.self c.lower.new.work c.in-Some.node
+    c.in-Some.ensures.some c.take.invariant c.in_ok-lower.ensures
+
+pub take-preserved : goal.take-preserved
+take-preserved c =
+    descends c.args.flow.now c.args.counts.now c.take.fronts.items c.lower.new.fronts.items c.take.work c.take-in-take.new.self c.lower.new.work c.in-Some.node
+    c.flow_is_well_formed.ensures c.in-Some.ensures.some c.take.invariant c.in_ok-lower.ensures
 
 pub returns : goal.returns
-returns c =
-    let flow = c.args.flow.now in
-    let r = c.are_within.result in
-    let test = subst (λ ys. (r ≡ true) ↔ ((p : ℕ) → p < length flow.nodes → Within (family_of flow c.pass.fronts.items p) (family_of flow ys p))) c.deref-in-pass-2.ensures.value
-    (subst (λ xs. (r ≡ true) ↔ ((p : ℕ) → p < length flow.nodes → Within (family_of flow xs p) (family_of flow c.deref-in-pass-2.result.now p))) c.deref-in-pass.ensures.value c.are_within.ensures) in
-    ended flow c.args.counts.now c.pass.fronts.items c.pass.lower.items c.pass.invariant (test.0 c.pass-test.false)
+returns c = ended c.args.flow.now c.args.counts.now c.take.fronts.items c.take.work c.in_default.ensures.none c.take.invariant

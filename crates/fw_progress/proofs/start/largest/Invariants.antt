@@ -1,8 +1,8 @@
-use Rattle.fw_progress.proofs.StartLaws.{IsDescending, inside_count}
+use Rattle.fw_progress.proofs.StartLaws.{IsDescending, left_inside}
 use Rattle.fw_progress.proofs.start.largest.Given as goal
 
-abbrev pub invariant-pass : goal.invariant-pass
-invariant-pass l = IsDescending l.flow l.counts l.fronts.items l.lower.items
+abbrev pub invariant-take : goal.invariant-take
+invariant-take l = IsDescending l.flow l.counts l.fronts.items l.work
 
-abbrev pub decreases-pass : goal.decreases-pass
-decreases-pass l = inside_count l.flow l.fronts.items
+abbrev pub decreases-take : goal.decreases-take
+decreases-take l = left_inside l.flow l.fronts.items l.work

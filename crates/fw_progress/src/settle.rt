@@ -40,12 +40,15 @@ pub(crate) fn any_has_more(failed: &[bool], kept: &[Front], settled: &[Front]) -
     false
 }
 
-/// What is settled of a node once it settles what it keeps, unless it is failed. The error is want of memory.
+/// What is settled of a node once it settles what it keeps, unless it is failed: what it keeps, where that holds what is settled.
+/// The error is want of memory.
 fn joined(failed: bool, settled: &Front, kept: &Front) -> Result<Front, AllocError>
     ensures { IfOk result (λ both. IsJoined failed settled.now kept.now both) }
 {
     if failed {
         settled.copy()
+    } else if settled.subset(kept) {
+        kept.copy()
     } else {
         settled.join(kept)
     }
@@ -89,6 +92,6 @@ pub(crate) fn grown_at(
     if !has_more(now, before) {
         return Ok(None);
     }
-    let both = before.join(now)?;
+    let both = joined(false, before, now)?;
     Ok(Some(both))
 }

@@ -1,7 +1,9 @@
 //! How far a node's frontier can go, the others as they are.
 ghost use Rattle.std.specs.Prelude.{◌≡◌, ◌<◌, length, true, IfOk};
 ghost use Rattle.std.specs.Map.{keys_of};
-ghost use Rattle.fw_frontier.specs.Front.{frontier_of, IsFrontOf};
+ghost use Rattle.fw_time.specs.declared.stamp.Bounds.{Bounds as Domain};
+ghost use Rattle.fw_frontier.specs.Frontier.{meet};
+ghost use Rattle.fw_frontier.specs.Front.{frontier_of, IsCanonical, IsFrontOf};
 ghost use Rattle.fw_flow.specs.Dataflow.{sender, receiver, bounds_of};
 ghost use Rattle.fw_model.specs.Machine.{family_of, AreCanonical};
 ghost use Rattle.fw_progress.specs.Counts as spec;
@@ -31,6 +33,20 @@ fn given(alloc: Global, flow: &Flow, counts: &Counts, node: NodeId) -> Result<Fr
     }
 }
 
+/// What is inside both; where one has all stamps it is the other. The error is want of memory.
+fn met(one: Front, other: Front) -> Result<Front, AllocError>
+    ensures { (bounds : Domain) → IsCanonical bounds one → IsCanonical bounds other
+        → IfOk result (λ f. IsFrontOf bounds f (meet (frontier_of bounds one) (frontier_of bounds other))) }
+{
+    if one.outside().is_empty() {
+        return Ok(other);
+    }
+    if other.outside().is_empty() {
+        return Ok(one);
+    }
+    one.meet(&other)
+}
+
 /// Up to where nothing is owed to a node and an input injected all. The error is want of memory.
 fn clear(alloc: Global, flow: &Flow, counts: &Counts, node: NodeId) -> Result<Front, AllocError>
     requires there { node < length flow.now.nodes }
@@ -39,7 +55,7 @@ fn clear(alloc: Global, flow: &Flow, counts: &Counts, node: NodeId) -> Result<Fr
 {
     let given = given(alloc, flow, counts, node)?;
     let paid = counts.owed[node.place() as usize].until(alloc)?;
-    given.meet(&paid)
+    met(given, paid)
 }
 
 /// Up to where nothing is pending on an edge, and all came that can come by the frontier of its sender. The error is want
@@ -62,7 +78,7 @@ pub(crate) fn come(
     let place = flow.src(edge).place() as usize;
     let quiet = counts.pending[edge.place() as usize].until(alloc)?;
     let arrived = flow.phi(alloc, edge, &fronts[place], &counts.sent[place])?;
-    quiet.meet(&arrived)
+    met(quiet, arrived)
 }
 
 /// The largest frontier that a node can have, the others as they are. The error is want of memory.
@@ -85,7 +101,7 @@ pub(crate) fn target(
     let edges = flow.in_edges(node);
     for edge in edges {
         let come = come(alloc, flow, counts, fronts, *edge)?;
-        left = left.meet(&come)?;
+        left = met(left, come)?;
     }
     Ok(left)
 }

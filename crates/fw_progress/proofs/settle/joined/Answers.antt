@@ -6,8 +6,8 @@ use Rattle.fw_progress.specs.Settle.{IsJoined}
 use Rattle.fw_progress.proofs.SettleLaws.{in_each_domain}
 use Rattle.fw_progress.proofs.settle.joined.Goals as goal
 
-pub returns-else-failed : goal.returns-else-failed
-returns-else-failed c =
+pub returns-else-subset : goal.returns-else-subset
+returns-else-subset c =
     let f = c.args.settled.now in
     let g = c.args.kept.now in
     subst (λ b. IfOk c.join.result (λ both. IsJoined b f g both)) (sym c.if-failed.false)

@@ -21,5 +21,5 @@ returns c =
     let paid = c.in_ok-paid.paid in
     let q = subst (λ es. IsFrontOf b paid (frontier_of b (keys_of es))) n (c.in_ok-paid.ensures b (subst (IsTallyOf b) (sym n) (c.requires.counts.owed p there))) in
     let g = c.in_ok-given.ensures in
-    IfOk-weaker c.meet.result _ _ (λ f m. met b c.in_ok-given.given paid f (given_by flow counts p) (node_frontier flow p (keys_of (owed_of counts p))) g q m)
-    (c.meet.ensures.names b g.canonical q.canonical)
+    IfOk-weaker c.met.result _ _ (λ f m. met b c.in_ok-given.given paid f (given_by flow counts p) (node_frontier flow p (keys_of (owed_of counts p))) g q m)
+    (c.met.ensures b g.canonical q.canonical)

@@ -32,6 +32,6 @@ returns c =
     let arrived = c.in_ok-arrived.arrived in
     let a = subst (λ t. IsFrontOf b arrived (phi_by_count flow (table_count (family_of flow c.args.fronts.now s) t) e (family_of flow c.args.fronts.now s))) y
     (subst (λ f. IsFrontOf b arrived (phi_by_count flow (table_count (node_frontier flow s f) c.index-2.result.now) e (node_frontier flow s f))) x c.in_ok-arrived.ensures.by_table) in
-    IfOk-weaker c.meet.result _ _
+    IfOk-weaker c.met.result _ _
     (λ f m. met b quiet arrived f (node_frontier flow (receiver flow e) (keys_of (pending_of counts e))) (phi_by_count flow (table_count (family_of flow c.args.fronts.now s) (sent_of counts s)) e (family_of flow c.args.fronts.now s)) q a m)
-    (c.meet.ensures.names b q.canonical a.canonical)
+    (c.met.ensures b q.canonical a.canonical)

@@ -29,4 +29,4 @@ loop-edge-preserved c =
     let comes : ℕ → Frontier = λ d. come_by flow counts d (family_of flow c.args.fronts.now (sender flow d)) in
     let come = subst (λ q. IsFrontOf (bounds_of flow q) c.in_ok-come.come (comes e)) on.1 c.in_ok-come.ensures in
     left_more b (clear_by flow counts p) comes c.loop-edge.left c.in_ok-come.come c.in_ok-left-2.left c.in_edges-edges.result.now c.loop-edge.edge-index e c.loop-edge-test.true c.edge-item.is
-    c.loop-edge.invariant come (c.in_ok-left-2.ensures.names b c.loop-edge.invariant.canonical come.canonical)
+    c.loop-edge.invariant come (c.in_ok-left-2.ensures b c.loop-edge.invariant.canonical come.canonical)

@@ -1,5 +1,5 @@
 -- What counts of messages say.
-use Rattle.std.proofs.Common.{◌≡◌, ◌≢◌, ℕ, zero, suc, ◌+◌, ◌-◌, ◌<◌, Bool, true, false, cond, List, [], ◌∷◌, ◌++◌, length, filter, replicate, drop, Option, Some, unwrap_or, refl, sym, ap, subst, ◌∙◌, arith, add-one}
+use Rattle.std.proofs.Common.{◌≡◌, ◌≢◌, ℕ, zero, suc, ◌+◌, ◌-◌, ◌<◌, ◌≤◌, Bool, true, false, cond, List, [], ◌∷◌, ◌++◌, length, filter, replicate, drop, Option, Some, unwrap_or, refl, sym, ap, subst, ◌∙◌, inl, inr, arith, add-one}
 use Rattle.std.specs.Prelude.{slice_get}
 use Rattle.std.specs.BTreeMap.{insert_entry, is_at}
 use Rattle.std.specs.List.{AllByRecursion}
@@ -8,7 +8,7 @@ use Rattle.std.specs.Map.{keys_of, lookup, set_value}
 use Rattle.std.specs.declared.cmp.Ordering.{Ordering}
 use Rattle.std.specs.declared.cmp.Ordering.TheVariants.{Less, Equal, Greater}
 use Rattle.std.specs.Ordering.{is_eq, is_le, is_gt, match_ordering}
-use Rattle.std.proofs.lemmas.Bool.{cond_both, cond-true, cond-false}
+use Rattle.std.proofs.lemmas.Bool.{cases_Bool, cond_both, cond-true, cond-false}
 use Rattle.std.proofs.lemmas.List.{append_assoc}
 use Rattle.std.proofs.lemmas.List.Elements.{filter-append}
 use Rattle.std.proofs.lemmas.Map.{lookup-none}
@@ -217,3 +217,14 @@ length-counted e es = by e.1
     by : (n : ℕ) → length (replicate n e.0 ++ counted_messages es) ≡ n + length (counted_messages es)
     by zero = omega arith
     by (suc n) = let h = by n in omega arith
+
+-- a message is there no more often than there are messages
+pub count-few : (m : Message) (es : List (Message × ℕ)) → unwrap_or (lookup (is_at (message_cmp m)) es) 0 ≤ length (counted_messages es)
+count-few m [] = omega arith
+count-few m (e ∷ es) =
+    let long = length-counted e es in
+    let rest = count-few m es in
+    elim (cases_Bool (is_at (message_cmp m) e.0)) [
+      | inl k ↦ subst (λ b. unwrap_or (cond b (Some e.1) (lookup (is_at (message_cmp m)) es)) 0 ≤ length (counted_messages (e ∷ es))) (sym k) (omega arith)
+      | inr k ↦ subst (λ b. unwrap_or (cond b (Some e.1) (lookup (is_at (message_cmp m)) es)) 0 ≤ length (counted_messages (e ∷ es))) (sym k) (omega arith)
+    ]

@@ -1,7 +1,8 @@
 //! The messages at one stamp.
-ghost use Rattle.std.specs.Prelude.{◌≡◌, ◌<◌, ◌≤◌, ◌++◌, [], length, drop, slice_get, replicate, unwrap_or, Some, OnOk, OnErr};
+ghost use Rattle.std.specs.Prelude.{◌≡◌, ◌+◌, ◌^◌, ◌<◌, ◌≤◌, ◌++◌, [], length, drop, slice_get, replicate, unwrap_or, Some, OnOk, OnErr};
 ghost use Rattle.std.specs.Option.{option_copied};
 ghost use Rattle.std.specs.BTreeMap as tree;
+ghost use Rattle.std.specs.BTreeMap.{insert_entry};
 ghost use Rattle.fw_frontier.specs.Front.{inside};
 ghost use Rattle.fw_flow.specs.Message.{message_cmp};
 ghost use Rattle.fw_model.specs.SortedMessages.{with_message, sorted_messages};
@@ -100,22 +101,27 @@ impl Pile {
     }
 }
 
-// How often the counts have this message.
-fn count_of(counts: &BTreeMap<Message, usize>, message: &Message) -> usize
-    ensures { result ≡ unwrap_or (tree.get message_cmp counts.now message.now) 0 }
+// The count of a message is one more from now on, by one look-up.
+fn count_one(counts: &mut BTreeMap<Message, usize>, message: Message) -> Result<(), AllocError>
+    requires { unwrap_or (tree.get message_cmp counts.old message) 0 + 1 < 2 ^ 64 }
+    ensures ok { OnOk result (counts.new.entries
+        ≡ insert_entry message_cmp counts.old.entries message (unwrap_or (tree.get message_cmp counts.old message) 0 + 1)) }
+    ensures ordered { OnOk result (tree.IsOrdered message_cmp counts.new) }
+    ensures err { OnErr result (counts.new.entries ≡ counts.old.entries) }
 {
-    counts.get(message).copied().unwrap_or(0)
+    *counts.entry(message)?.or_insert(0) += 1;
+    Ok(())
 }
 
 // Raises the count of a message by one.
 fn raise(counts: &mut BTreeMap<Message, usize>, message: Message) -> Result<(), AllocError>
-    requires { IsTally counts.old.entries }
+    requires tally { IsTally counts.old.entries }
+    requires room { length (counted_messages counts.old.entries) + 1 < 2 ^ 64 }
     ensures tally { IsTally counts.new.entries }
     ensures ok { OnOk result (counted_messages counts.new.entries ≡ with_message message (counted_messages counts.old.entries)) }
     ensures err { OnErr result (counts.new.entries ≡ counts.old.entries) }
 {
-    let raised = count_of(counts, &message).checked_add(1).ok_or(AllocError)?;
-    counts.insert(message, raised)?;
+    count_one(counts, message)?;
     Ok(())
 }
 

@@ -205,6 +205,15 @@ pub fn outside(
     Ok(messages)
 }
 
+// How many messages there are, for which memory is asked at once.
+fn len(piles: &BTreeMap<Stamp, Pile>) -> usize {
+    let mut len: usize = 0;
+    for (_, pile) in piles {
+        len = len.saturating_add(pile.len());
+    }
+    len
+}
+
 /// Copies of the messages all of whose causes are inside.
 pub fn caused_in(
     alloc: Global,
@@ -214,7 +223,7 @@ pub fn caused_in(
     ensures { IfOk result
         (λ ms. ms.items ≡ messages_from (inside f.now) (piled_messages piles.now.entries)) }
 {
-    let mut messages = Vec::new(alloc);
+    let mut messages = Vec::with_capacity(alloc, len(piles))?;
     for (_, pile) in piles {
         pile.copy_caused(f, &mut messages)?;
     }

@@ -1,6 +1,6 @@
 -- The laws of bags as lists of recs.
-use Rattle.std.proofs.Common.{◌≡◌, ℕ, zero, suc, ◌+◌, ◌<◌, Bool, true, false, cond, List, [], ◌∷◌, length, refl, sym, ap, ◌∙◌, subst, arith}
-use Rattle.std.proofs.lemmas.Bool.{false≢true}
+use Rattle.std.proofs.Common.{◌≡◌, ℕ, zero, suc, ◌+◌, ◌<◌, ◌≤◌, Bool, true, false, cond, List, [], ◌∷◌, length, refl, sym, ap, ◌∙◌, subst, inl, inr, arith}
+use Rattle.std.proofs.lemmas.Bool.{cases_Bool, false≢true}
 use Rattle.std.specs.declared.cmp.Ordering.{Ordering}
 use Rattle.std.specs.declared.cmp.Ordering.TheVariants.{Less, Equal, Greater}
 use Rattle.std.specs.List.{AllByRecursion}
@@ -72,6 +72,16 @@ how_often-here r x xs h = ap (λ b. cond b (how_often r xs + 1) (how_often r xs)
 -- the first is not counted, where it is not equal
 pub how_often-later : (r x : Rec) (xs : List Rec) → is_eq (rec_cmp r x) ≡ false → how_often r (x ∷ xs) ≡ how_often r xs
 how_often-later r x xs h = ap (λ b. cond b (how_often r xs + 1) (how_often r xs)) h
+
+-- a rec is there no more often than there are recs
+pub how_often-few : (r : Rec) (xs : List Rec) → how_often r xs ≤ length xs
+how_often-few r [] = omega arith
+how_often-few r (x ∷ xs) =
+    let few = how_often-few r xs in
+    elim (cases_Bool (is_eq (rec_cmp r x))) [
+      | inl e ↦ let here = how_often-here r x xs e in omega arith
+      | inr e ↦ let later = how_often-later r x xs e in omega arith
+    ]
 
 -- ---- lengths
 

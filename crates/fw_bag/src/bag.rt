@@ -1,6 +1,8 @@
 //! Bags of recs.
-ghost use Rattle.std.specs.Prelude.{◌≡◌, ◌<◌, ◌↔◌, [], ◌∷◌, length, true, false, IsTrue, IsNone, IfSome, IfNone, IfOk, IsErr, OnOk, OnErr, OnSome};
-ghost use Rattle.fw_bag.specs.Rec.{IsAscending};
+ghost use Rattle.std.specs.Prelude.{◌≡◌, ◌+◌, ◌^◌, ◌<◌, ◌↔◌, [], ◌∷◌, length, unwrap_or, true, false, IsTrue, IsNone, IfSome, IfNone, IfOk, IsErr, OnOk, OnErr, OnSome};
+ghost use Rattle.std.specs.BTreeMap as tree;
+ghost use Rattle.std.specs.BTreeMap.{insert_entry};
+ghost use Rattle.fw_bag.specs.Rec.{rec_cmp, IsAscending};
 ghost use Rattle.fw_bag.specs.Bag.{with_rec, without_rec, how_often, bag_sum, with_copies, expand, IsTally};
 
 use crate::{Iter, Rec};
@@ -171,6 +173,30 @@ fn add_copies(counts: &mut BTreeMap<Rec, usize>, rec: Rec, copies: usize) -> Res
     Ok(())
 }
 
+// The count of a rec is one more from now on, by one look-up.
+fn count_one(counts: &mut BTreeMap<Rec, usize>, rec: Rec) -> Result<(), AllocError>
+    requires { unwrap_or (tree.get rec_cmp counts.old rec) 0 + 1 < 2 ^ 64 }
+    ensures ok { OnOk result (counts.new.entries
+        ≡ insert_entry rec_cmp counts.old.entries rec (unwrap_or (tree.get rec_cmp counts.old rec) 0 + 1)) }
+    ensures ordered { OnOk result (tree.IsOrdered rec_cmp counts.new) }
+    ensures err { OnErr result (counts.new.entries ≡ counts.old.entries) }
+{
+    *counts.entry(rec)?.or_insert(0) += 1;
+    Ok(())
+}
+
+// Raises the count of a rec by one.
+fn raise(counts: &mut BTreeMap<Rec, usize>, rec: Rec) -> Result<(), AllocError>
+    requires tally { IsTally counts.old.entries }
+    requires room { length (expand counts.old.entries) + 1 < 2 ^ 64 }
+    ensures tally { IsTally counts.new.entries }
+    ensures ok { OnOk result (expand counts.new.entries ≡ with_rec rec (expand counts.old.entries)) }
+    ensures err { OnErr result (counts.new.entries ≡ counts.old.entries) }
+{
+    count_one(counts, rec)?;
+    Ok(())
+}
+
 // Puts a rec in, where `len` is the number of recs.
 fn add_one(counts: &mut BTreeMap<Rec, usize>, len: &mut usize, rec: Rec) -> Result<(), AllocError>
     requires tally { IsTally counts.old.entries }
@@ -182,7 +208,7 @@ fn add_one(counts: &mut BTreeMap<Rec, usize>, len: &mut usize, rec: Rec) -> Resu
     ensures err { OnErr result (expand counts.new.entries ≡ expand counts.old.entries) }
 {
     let total = len.checked_add(1).ok_or(AllocError)?;
-    add_copies(counts, rec, 1)?;
+    raise(counts, rec)?;
     *len = total;
     Ok(())
 }

@@ -7,4 +7,4 @@ pub returns-clause-len : goal.returns-clause-len
 returns-clause-len c =
     let xs = expand c.args.counts.now.entries in
     let total : c.in_ok-total.total ≡ length xs + 1 = search rules in
-    total ∙ sym (length-with_rec c.args.rec xs) ∙ sym (ap length c.in_ok-add_copies.ensures.ok)
+    total ∙ sym (length-with_rec c.args.rec xs) ∙ sym (ap length c.in_ok-raise.ensures.ok)

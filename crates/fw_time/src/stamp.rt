@@ -1,5 +1,7 @@
 //! Stamps and the bounds of their domains.
-ghost use Rattle.std.specs.Prelude.{◌≡◌, ◌+◌, ◌^◌, ◌≤◌, ◌<◌, replicate, length, slice_index};
+ghost use Rattle.std.specs.Prelude.{◌≡◌, ◌+◌, ◌^◌, ◌≤◌, ◌<◌, Some, nat_eq, refl, replicate, length, slice_index};
+ghost use Rattle.std.specs.Cmp.{partial_equiv_from_equiv};
+ghost use Rattle.std.specs.Cmp.Lexicographic.{pointwise, nat_list_eq_equiv, nat_list_cmp_total, texts_po, texts_ties};
 ghost use Rattle.fw_time.specs.StampText.{stamp_text, dots_text};
 ghost use Rattle.fw_time.specs.Stamp.{leq, lub, stamp_raised_at, in_domain, nest, outer, counter, stamp_cmp};
 
@@ -11,7 +13,7 @@ use std::marker::Model;
 /// A logical time of any domain: its coordinates, up to four, outermost first. Contracts see it as their list.
 ///
 /// It holds its coordinates in itself, so that no call takes memory.
-#[derive(Debug, Default, PartialEq, Eq, PartialOrd, Ord, Drop)]
+#[derive(Debug, Default, Drop)]
 pub struct Stamp {
     coords: ArrayVec<u32, 4>,
 }
@@ -24,6 +26,45 @@ impl Model for Stamp {
     ghost view = { λ stamp. stamp.coords.items };
 
     ghost inverse = { λ coords. record { coords = record { items = coords } } };
+}
+
+impl PartialEq for Stamp {
+    ghost eq = { pointwise nat_eq };
+
+    ghost laws = { partial_equiv_from_equiv nat_list_eq_equiv };
+
+    fn eq(&self, other: &Stamp) -> bool {
+        self.coords == other.coords
+    }
+}
+
+impl Eq for Stamp {
+    ghost laws = { nat_list_eq_equiv };
+}
+
+impl PartialOrd for Stamp {
+    ghost partial_cmp = { λ s t. Some (stamp_cmp s t) };
+
+    ghost laws = { texts_po };
+
+    fn partial_cmp(&self, other: &Stamp) -> Option<Ordering> {
+        Some(self.cmp(other))
+    }
+}
+
+// Written out, since maps of stamps compare most of their time: the derived order looks at groups of coordinates.
+impl Ord for Stamp {
+    ghost cmp = { stamp_cmp };
+
+    ghost total = { nat_list_cmp_total };
+
+    ghost matches_partial_cmp = { λ s t. refl };
+
+    ghost matches_eq = { texts_ties };
+
+    fn cmp(&self, other: &Stamp) -> Ordering {
+        order(self.coords.as_slice(), other.coords.as_slice())
+    }
 }
 
 impl Stamp {
@@ -161,6 +202,18 @@ fn copied(coords: &[u32]) -> ArrayVec<u32, 4>
         all.push(*coord);
     }
     all
+}
+
+// The order by the coordinates from the outermost; where one begins with the other, by how many there are.
+fn order(coords: &[u32], others: &[u32]) -> Ordering
+    ensures { result ≡ stamp_cmp coords.now others.now }
+{
+    for i in 0..coords.len().min(others.len()) {
+        if coords[i] != others[i] {
+            return coords[i].cmp(&others[i]);
+        }
+    }
+    coords.len().cmp(&others.len())
 }
 
 // Whether each coordinate is at most the other one at its place.

@@ -198,6 +198,11 @@ fn copied(coords: &[u32]) -> ArrayVec<u32, 4>
     ensures { result.items ≡ coords.now }
 {
     let mut all = ArrayVec::new();
+    // Most stamps are of one coordinate, for which a loop costs more than the coordinate.
+    if let [only] = coords {
+        all.push(*only);
+        return all;
+    }
     for coord in coords {
         all.push(*coord);
     }

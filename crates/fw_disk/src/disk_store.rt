@@ -1,6 +1,6 @@
 //! The store.
-ghost use Rattle.std.specs.Prelude.{◌≡◌, ◌≤◌, ℕ, List, [], None, Some, IsOk, IsErr, IsErrOf, OnOk, OnErr, option_map};
-ghost use Rattle.fw_outside.specs.Outside.{Rose};
+ghost use Rattle.std.specs.Prelude.{◌≡◌, ℕ, List, [], None, Some, IsOk, IsErr, OnOk, OnErr, option_map};
+ghost use Rattle.fw_outside.specs.Outside.{faults_after};
 
 use crate::contents::{contents_of, record_in};
 use fw_outside::{OutFault, Store};
@@ -146,8 +146,7 @@ impl<R: Files> DiskStore<'_, R> {
 
     // The answer of a call; a failure is counted.
     fn answer(&mut self, done: Result<(), Refusal>) -> Result<(), OutFault>
-        ensures failed { IsErrOf result OutFault.Failed → Rose self.old.faults self.new.faults }
-        ensures later { self.old.faults ≤ self.new.faults }
+        ensures faults { self.new.faults ≡ faults_after result self.old.faults }
         ensures given_stays { option_map {U = ℕ × List ℕ} (λ given. (given.id, given.bytes.items)) self.new.given ≡ option_map {U = ℕ × List ℕ} (λ given. (given.id, given.bytes.items)) self.old.given }
         ensures ok { IsOk result → IsOk done }
         ensures err { IsErr result → IsErr done }

@@ -9,6 +9,7 @@ use Rattle.fw_keep.specs.declared.fault.KeepFault.{KeepFault}
 use Rattle.fw_keep.specs.declared.fault.KeepFault.TheVariants as fault
 use Rattle.fw_keep.specs.declared.keep.Keep.TheInside.{Inside}
 use Rattle.fw_keep.specs.Catalogue.{IsCatalogue, IsAcknowledgedUpTo, IsOnly}
+use Rattle.fw_keep.specs.Faults.{faults_after}
 use Rattle.fw_keep.specs.Inside.{state_of, IsSoundInside}
 use Rattle.fw_keep.specs.Stored.{Records, Sweeps, ReadsAs, Fetches}
 use Rattle.fw_keep.proofs.InFlightLaws.{added}
@@ -61,3 +62,10 @@ pub fetched : (flow : Dataflow) (es : List Entry) (id : ℕ) (e : Entry) (bytes 
     → given ≡ Some (id, bytes) → ReadsAs flow e bytes result → (other : Entry) → Contains es other → other.id ≡ id → Fetches flow other given result
 fetched flow es id e bytes given result only g read other there named =
     subst (λ (x : Entry). Fetches flow x given result) (sym (only.only other there named)) (from_read flow e bytes given result (g ∙ ap (λ (n : ℕ). Some (n, bytes)) (sym only.named)) read)
+
+-- what bytes are read as leaves the count of a store's faults
+pub count-read : (flow : Dataflow) (e : Entry) (bytes : List ℕ) (result : Result Record KeepFault) (count : ℕ) → ReadsAs flow e bytes result → faults_after result count ≡ count
+count-read flow e bytes (Ok r) count read = refl
+count-read flow e bytes (Err (fault.Damaged at kept)) count read = refl
+count-read flow e bytes (Err fault.StoreFault) count read = absurd read
+count-read flow e bytes (Err fault.NoMemory) count read = refl

@@ -2,3 +2,4 @@ pub mod Entry
 pub mod Catalogue
 pub mod Stored
 pub mod Inside
+pub mod Faults

@@ -7,7 +7,7 @@ use thiserror::Error;
 /// Why a call of the catalogue gives nothing.
 #[derive(Debug, Drop, Error)]
 pub enum KeepFault {
-    /// The store failed; its count of faults rose, or stands at 2^64 - 1.
+    /// The store failed; its count of faults rose by one, or stands at 2^64 - 1.
     #[error("the store failed")]
     StoreFault,
     /// The bytes that the store gave under an id spell no record of the write.

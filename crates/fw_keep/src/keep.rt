@@ -1,7 +1,7 @@
 //! The catalogue.
-ghost use Rattle.std.specs.Prelude.{◌≡◌, ◌↔◌, ◌+◌, ◌^◌, ◌<◌, ◌≤◌, ◌++◌, [], ◌∷◌, ℕ, List, Option, true, false, None, IsTrue, IsErrOf, IfOk, OnOk, OnErr, option_map, Contains};
+ghost use Rattle.std.specs.Prelude.{◌≡◌, ◌↔◌, ◌+◌, ◌^◌, ◌<◌, ◌++◌, [], ◌∷◌, Option, true, false, IsTrue, IsErrOf, IfOk, OnOk, OnErr, option_map, Contains};
 ghost use Rattle.std.specs.FinMap as map;
-ghost use Rattle.fw_outside.specs.Outside.{Rose};
+ghost use Rattle.fw_keep.specs.Faults.{faults_after};
 ghost use Rattle.fw_record.specs.Spelling.{spelling, FitsItsCounts};
 ghost use Rattle.fw_record.specs.declared.record.Record.{Record as Spelled};
 ghost use Rattle.fw_keep.specs.declared.entry.Entry.{Entry as Write};
@@ -127,8 +127,7 @@ impl Keep {
         ensures stored { IsStored self.new (K.records store.new) }
         ensures given { K.given store.new ≡ K.given store.old }
 
-        ensures failed { IsErrOf result KeepFault.StoreFault → Rose (K.fault_count store.old) (K.fault_count store.new) }
-        ensures never_falls { K.fault_count store.old ≤ K.fault_count store.new }
+        ensures faults { K.fault_count store.new ≡ faults_after result (K.fault_count store.old) }
         ensures undamaged { IsUndamaged result }
         ensures refused { IsTrue self.new.refused ↔ IsErrOf result KeepFault.NoMemory }
         ensures refused_stays { IsTrue self.old.refused → IsErrOf result KeepFault.NoMemory }
@@ -236,8 +235,7 @@ impl Keep {
             → HoldsAs flow.now (K.records store.old) entry what → GivesOnly what result }
         ensures stays { K.records store.new ≡ K.records store.old }
         ensures given_stays { IsErrOf result KeepFault.StoreFault → K.given store.new ≡ K.given store.old }
-        ensures failed { IsErrOf result KeepFault.StoreFault → Rose (K.fault_count store.old) (K.fault_count store.new) }
-        ensures never_falls { K.fault_count store.old ≤ K.fault_count store.new }
+        ensures faults { K.fault_count store.new ≡ faults_after result (K.fault_count store.old) }
         ensures refused { IsTrue self.now.refused → IsErrOf result KeepFault.NoMemory }
     {
         if self.refused {
@@ -269,8 +267,7 @@ impl Keep {
         ensures drawn { self.new.next ≡ self.old.next }
         ensures stored { IsStored self.new (K.records store.new) }
         ensures given { K.given store.new ≡ K.given store.old }
-        ensures failed { IsErrOf result KeepFault.StoreFault → Rose (K.fault_count store.old) (K.fault_count store.new) }
-        ensures never_falls { K.fault_count store.old ≤ K.fault_count store.new }
+        ensures faults { K.fault_count store.new ≡ faults_after result (K.fault_count store.old) }
         ensures undamaged { IsUndamaged result }
         ensures refused { IsTrue self.new.refused ↔ IsErrOf result KeepFault.NoMemory }
         ensures refused_stays { IsTrue self.old.refused → IsErrOf result KeepFault.NoMemory }

@@ -1,9 +1,9 @@
 //! A record is put into a store, with its entry.
-ghost use Rattle.std.specs.Prelude.{◌≡◌, ◌+◌, ◌≤◌, ◌++◌, [], ◌∷◌, None, vec_len, IfOk, OnOk, OnErr, IsErrOf, option_map};
+ghost use Rattle.std.specs.Prelude.{◌≡◌, ◌+◌, ◌≤◌, ◌++◌, [], ◌∷◌, None, vec_len, IfOk, OnOk, OnErr, option_map};
 ghost use Rattle.std.specs.Vec.{vec_capacity};
 ghost use Rattle.std.specs.Option.{ForSome};
 ghost use Rattle.std.specs.FinMap as map;
-ghost use Rattle.fw_outside.specs.Outside.{Rose};
+ghost use Rattle.fw_outside.specs.Outside.{faults_after};
 ghost use Rattle.fw_record.specs.Spelling.{spelling, FitsItsCounts};
 ghost use Rattle.fw_keep.specs.Entry.{asked};
 
@@ -62,8 +62,7 @@ pub(crate) fn put_new<K: Store>(
     ensures counted { OnOk result (FitsItsCounts what.now) }
     ensures stays { OnErr result (K.records store.new ≡ K.records store.old) }
     ensures given { K.given store.new ≡ K.given store.old }
-    ensures failed { IsErrOf result OutFault.Failed → Rose (K.fault_count store.old) (K.fault_count store.new) }
-    ensures never_falls { K.fault_count store.old ≤ K.fault_count store.new }
+    ensures faults { K.fault_count store.new ≡ faults_after result (K.fault_count store.old) }
 {
     let bytes = encode(alloc, what)?;
     let entry = entry_of(id, what, stamps)?;

@@ -1,7 +1,7 @@
 //! The bytes of what is without an entry are removed from a store.
-ghost use Rattle.std.specs.Prelude.{◌≡◌, ◌≤◌, [], OnOk, IsErrOf};
+ghost use Rattle.std.specs.Prelude.{◌≡◌, [], OnOk};
 ghost use Rattle.std.specs.Vec.{vec_capacity};
-ghost use Rattle.fw_outside.specs.Outside.{Rose};
+ghost use Rattle.fw_outside.specs.Outside.{faults_after};
 ghost use Rattle.fw_keep.specs.Catalogue.{AreDistinct};
 ghost use Rattle.fw_keep.specs.Stored.{AreThere, Sweeps};
 
@@ -18,8 +18,7 @@ pub(crate) fn remove_waiting<K: Store>(
     ensures clean { OnOk result (waiting.new.items ≡ []) }
     ensures capacity { vec_capacity waiting.new ≡ vec_capacity waiting.old }
     ensures given { K.given store.new ≡ K.given store.old }
-    ensures failed { IsErrOf result OutFault.Failed → Rose (K.fault_count store.old) (K.fault_count store.new) }
-    ensures never_falls { K.fault_count store.old ≤ K.fault_count store.new }
+    ensures faults { K.fault_count store.new ≡ faults_after result (K.fault_count store.old) }
 {
     while let Some(id) = waiting.last() {
         store.remove(*id)?;

@@ -1,5 +1,7 @@
 -- What the calls of a folder, a store and a sink promise.
-use Rattle.std.specs.Prelude.{◌≡◌, ◌⊎◌, ℕ, ◌+◌, ◌-◌, ◌^◌, ◌<◌, ◌≤◌, min, Option, List, ◌++◌, length, take, IfSome, IsSomeAnd, option_map}
+use Rattle.std.specs.Prelude.{◌≡◌, ◌⊎◌, ℕ, ◌+◌, ◌-◌, ◌^◌, ◌<◌, ◌≤◌, min, Option, Result, Ok, Err, List, ◌++◌, length, take, IfSome, IsSomeAnd, option_map}
+use Rattle.fw_outside.specs.declared.fault.OutFault.{OutFault}
+use Rattle.fw_outside.specs.declared.fault.OutFault.TheVariants.{Failed, NoMemory}
 
 -- a count of faults or of refusals rose, or stood at the end of its type before
 abbrev pub Rose : ℕ → ℕ → Type 0
@@ -8,6 +10,12 @@ Rose before after = (before < after) ⊎ (before ≡ 2 ^ 64 - 1)
 -- a count with one more; at the end of its type it stays there
 abbrev pub one_more : ℕ → ℕ
 one_more count = min (count + 1) (2 ^ 64 - 1)
+
+-- how often a store has failed after a call that answered so: once more where it failed, and else as often as before
+abbrev pub faults_after : {T : Type 0} → Result T OutFault → ℕ → ℕ
+faults_after (Ok x) count = count
+faults_after (Err Failed) count = one_more count
+faults_after (Err NoMemory) count = count
 
 -- these bytes are the text under a name, where the folder tells its texts
 abbrev pub IsText : Option (List ℕ → Option (List ℕ)) → List ℕ → List ℕ → Type 0

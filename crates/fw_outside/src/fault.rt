@@ -1,5 +1,5 @@
 //! What a call to the outside answers when it is refused, and the list of calls that are to fail.
-ghost use Rattle.std.specs.Prelude.{◌≡◌, ◌+◌, ◌-◌, ◌^◌, ◌≤◌, ◌↔◌, IsTrue, Contains};
+ghost use Rattle.std.specs.Prelude.{◌≡◌, ◌+◌, ◌-◌, ◌^◌, ◌≤◌, ◌↔◌, IsTrue, IsFalse, Contains};
 ghost use Rattle.fw_outside.specs.Outside.{Rose};
 ghost use Rattle.fw_outside.specs.Outside as spec;
 ghost use Rattle.fw_outside.specs.declared.fault.FetchFault.TheVariants.{NoMemory as FetchNoMemory};
@@ -57,17 +57,11 @@ impl<T: Drop> From<AllocFailed<T>> for OutFault {
     }
 }
 
-/// One more fault or refusal; a count at the end of its type stays there.
-pub(crate) fn raised(before: u64) -> u64
-    ensures rose { Rose before result }
-    ensures later { before ≤ result }
-{
-    before.saturating_add(1)
-}
-
 /// One more; a count at the end of its type stays there.
 pub(crate) fn one_more(count: u64) -> u64
-    ensures { result ≡ spec.one_more count }
+    ensures exact { result ≡ spec.one_more count }
+    ensures rose { Rose count result }
+    ensures later { count ≤ result }
 {
     count.saturating_add(1)
 }
@@ -95,6 +89,8 @@ impl FaultPlan {
     /// Counts a call, and says whether it is to fail.
     pub(crate) fn next_fails(&mut self) -> bool
         ensures failing { IsTrue result ↔ Contains self.old.failing.items self.old.calls }
+        ensures more { IsTrue result → self.new.faults ≡ spec.one_more self.old.faults }
+        ensures faults_stay { IsFalse result → self.new.faults ≡ self.old.faults }
         ensures rose { IsTrue result → Rose self.old.faults self.new.faults }
         ensures later { self.old.faults ≤ self.new.faults }
         ensures counted { self.new.calls ≡ spec.one_more self.old.calls }
@@ -103,7 +99,7 @@ impl FaultPlan {
         let fails = self.failing.contains(&self.calls);
         self.calls = one_more(self.calls);
         if fails {
-            self.faults = raised(self.faults);
+            self.faults = one_more(self.faults);
         }
         fails
     }

@@ -1,7 +1,7 @@
 //! A folder of real files.
 ghost use Rattle.std.specs.Prelude.{◌≡◌, None};
 
-use crate::fault::{one_more, raised};
+use crate::fault::one_more;
 use crate::{FetchFault, Folder};
 use std::io::{ErrorKind, Read};
 use std::rt::Files;
@@ -51,7 +51,7 @@ impl<R: Files> Folder for FileFolder<'_, R> {
             if error.kind() == ErrorKind::OutOfMemory {
                 return Err(FetchFault::NoMemory);
             }
-            self.faults = raised(self.faults);
+            self.faults = one_more(self.faults);
             return Err(FetchFault::Failed);
         }
         if into.len() > limit {

@@ -1,7 +1,7 @@
 //! Stores in memory that tell nothing of what they hold.
 ghost use Rattle.std.specs.Prelude.{◌≡◌, None, option_map};
 
-use crate::fault::{one_more, raised};
+use crate::fault::one_more;
 use crate::{OutFault, Store};
 use std::alloc::Global;
 use std::collections::BTreeMap;
@@ -62,7 +62,7 @@ impl Store for FoulStore {
 
     fn put(&mut self, id: u64, bytes: &[u8]) -> Result<(), OutFault> {
         if self.records.contains_key(&id) {
-            self.faults = raised(self.faults);
+            self.faults = one_more(self.faults);
             return Err(OutFault::Failed);
         }
         let copy = bytes.to_vec(self.alloc)?;
@@ -76,7 +76,7 @@ impl Store for FoulStore {
         into.clear();
         self.gets = one_more(self.gets);
         let Some(bytes) = bytes_at(&self.records, &self.foul, self.gets, id) else {
-            self.faults = raised(self.faults);
+            self.faults = one_more(self.faults);
             return Err(OutFault::Failed);
         };
         let copy = bytes.to_vec(self.alloc)?;
@@ -87,7 +87,7 @@ impl Store for FoulStore {
 
     fn remove(&mut self, id: u64) -> Result<(), OutFault> {
         if self.records.remove(&id).is_none() {
-            self.faults = raised(self.faults);
+            self.faults = one_more(self.faults);
             return Err(OutFault::Failed);
         }
         Ok(())

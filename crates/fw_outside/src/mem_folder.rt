@@ -3,7 +3,7 @@ ghost use Rattle.std.specs.Prelude.{◌≡◌, ◌+◌, ◌^◌, ◌<◌, ◌≤
 ghost use Rattle.std.specs.Option.{option_copied};
 ghost use Rattle.fw_outside.specs.Memory.{text_under, text_or_empty};
 
-use crate::fault::{FaultPlan, one_more, raised};
+use crate::fault::{FaultPlan, one_more};
 use crate::{FetchFault, Folder};
 use std::alloc::{AllocError, Global};
 
@@ -90,7 +90,7 @@ impl Folder for MemFolder {
             if let Some(text) = find_text(&self.entries, name) {
                 return hand_over(text, limit, into);
             }
-            self.plan.faults = raised(self.plan.faults);
+            self.plan.faults = one_more(self.plan.faults);
         }
         into.clear();
         Err(FetchFault::Failed)

@@ -1,7 +1,7 @@
 //! Sinks in memory.
 ghost use Rattle.std.specs.Prelude.{◌≡◌, [], Some};
 
-use crate::fault::{FaultPlan, raised};
+use crate::fault::{FaultPlan, one_more};
 use crate::{OutFault, Sink};
 use std::alloc::{AllocError, Global};
 
@@ -36,7 +36,7 @@ impl Sink for FaultlessSink {
 
     fn write(&mut self, piece: &[u8]) -> Result<(), OutFault> {
         if self.taken.extend_from_slice(piece).is_err() {
-            self.refusals = raised(self.refusals);
+            self.refusals = one_more(self.refusals);
             return Err(OutFault::NoMemory);
         }
         Ok(())
@@ -78,7 +78,7 @@ impl Sink for MemSink {
 
     fn write(&mut self, piece: &[u8]) -> Result<(), OutFault> {
         if self.plan.next_fails() {
-            self.sink.refusals = raised(self.sink.refusals);
+            self.sink.refusals = one_more(self.sink.refusals);
             return Err(OutFault::Failed);
         }
         self.sink.write(piece)

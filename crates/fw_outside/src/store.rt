@@ -1,9 +1,9 @@
 //! Where records are kept.
-ghost use Rattle.std.specs.Prelude.{◌≡◌, ◌≤◌, [], ℕ, List, Option, Some, None, OnOk, OnErr, IfSome, IsSome, IsErrOf, option_map};
+ghost use Rattle.std.specs.Prelude.{◌≡◌, [], ℕ, List, Option, Some, None, OnOk, OnErr, IfSome, IsSome, option_map};
 ghost use Rattle.std.specs.Option.{ForSome};
 ghost use Rattle.std.specs.Ordering.{nat_cmp};
 ghost use Rattle.std.specs.FinMap as map;
-ghost use Rattle.fw_outside.specs.Outside.{Rose};
+ghost use Rattle.fw_outside.specs.Outside.{faults_after};
 
 use crate::OutFault;
 
@@ -15,7 +15,7 @@ pub trait Store {
     /// The id and the bytes of the last `get` that was Ok, if there was one.
     ghost given: { Self → Option (ℕ × List ℕ) };
 
-    /// How often the store failed.
+    /// How often the store failed: once for each call that answers `Failed`.
     ghost fault_count: { Self → ℕ };
 
     /// Adds a record under a new id.
@@ -29,8 +29,7 @@ pub trait Store {
         ensures added { OnOk result (records self.new ≡ option_map (λ held. map.insert held id bytes.now) (records self.old)) }
         ensures refused { OnErr result (records self.new ≡ records self.old) }
         ensures given_stays { given self.new ≡ given self.old }
-        ensures failed { IsErrOf result OutFault.Failed → Rose (fault_count self.old) (fault_count self.new) }
-        ensures never_falls { fault_count self.old ≤ fault_count self.new };
+        ensures faults { fault_count self.new ≡ faults_after result (fault_count self.old) };
 
     /// Puts the bytes of a record into `into`, in place of what was there.
     ///
@@ -45,8 +44,7 @@ pub trait Store {
         ensures refused { OnErr result (given self.new ≡ given self.old) }
         ensures empty { OnErr result (into.new.items ≡ []) }
         ensures records_stay { records self.new ≡ records self.old }
-        ensures failed { IsErrOf result OutFault.Failed → Rose (fault_count self.old) (fault_count self.new) }
-        ensures never_falls { fault_count self.old ≤ fault_count self.new };
+        ensures faults { fault_count self.new ≡ faults_after result (fault_count self.old) };
 
     /// Takes a record out.
     ///
@@ -59,8 +57,7 @@ pub trait Store {
         ensures removed { OnOk result (records self.new ≡ option_map (λ held. map.remove held id) (records self.old)) }
         ensures refused { OnErr result (records self.new ≡ records self.old) }
         ensures given_stays { given self.new ≡ given self.old }
-        ensures failed { IsErrOf result OutFault.Failed → Rose (fault_count self.old) (fault_count self.new) }
-        ensures never_falls { fault_count self.old ≤ fault_count self.new };
+        ensures faults { fault_count self.new ≡ faults_after result (fault_count self.old) };
 
     /// How often the store failed; a count of 2^64 - 1 stands for that many or more.
     fn faults(&self) -> u64

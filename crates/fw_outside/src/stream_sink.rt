@@ -1,7 +1,7 @@
 //! A sink over a real stream.
 ghost use Rattle.std.specs.Prelude.{◌≡◌, None};
 
-use crate::fault::raised;
+use crate::fault::one_more;
 use crate::{OutFault, Sink};
 use std::io;
 use std::io::Write;
@@ -34,7 +34,7 @@ impl<W: Write> Sink for StreamSink<W> {
     /// Writes the piece and flushes the stream. An error of either is a fault, want of memory too.
     fn write(&mut self, piece: &[u8]) -> Result<(), OutFault> {
         if write_and_flush(&mut self.stream, piece).is_err() {
-            self.faults = raised(self.faults);
+            self.faults = one_more(self.faults);
             return Err(OutFault::Failed);
         }
         Ok(())

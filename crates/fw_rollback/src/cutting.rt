@@ -1,6 +1,6 @@
 //! The parts of an engine are cut to a choice.
-ghost use Rattle.std.specs.Prelude.{◌≡◌, ◌≤◌, OnOk, OnErr, IsErrOf};
-ghost use Rattle.fw_outside.specs.Outside.{Rose};
+ghost use Rattle.std.specs.Prelude.{◌≡◌, OnOk, OnErr};
+ghost use Rattle.fw_keep.specs.Faults.{faults_after};
 ghost use Rattle.fw_keep.specs.Stored.{IsStored};
 ghost use Rattle.fw_rollback.specs.Asked.{IsDamagedIfSaid};
 ghost use Rattle.fw_rollback.specs.Restored.{AreOfFlow, AreOfNodes, Restores};
@@ -46,8 +46,7 @@ pub fn restore<K: Store>(
     // After a refusal the parts are as they were.
     ensures kept { OnErr result (parts.new ≡ parts.old) }
     ensures damaged { IsDamagedIfSaid flow.now choice.now (K.records store.old) parts.old.keep.entries (K.given store.new) result }
-    ensures failed { IsErrOf result KeepFault.StoreFault → Rose (K.fault_count store.old) (K.fault_count store.new) }
-    ensures never_falls { K.fault_count store.old ≤ K.fault_count store.new }
+    ensures faults { K.fault_count store.new ≡ faults_after result (K.fault_count store.old) }
 {
     let given = read(alloc, flow, choice, &parts.keep, store)?;
     let built = build(alloc, flow, choice, parts, &given)?;

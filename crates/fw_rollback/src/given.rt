@@ -1,6 +1,6 @@
 //! The records of the writes that the cuts of a choice ask for.
-ghost use Rattle.std.specs.Prelude.{◌≡◌, ◌++◌, ◌∷◌, [], ◌≤◌, length, replicate, slice_set, IfOk, OnOk, IsTrue, IsErrOf};
-ghost use Rattle.fw_outside.specs.Outside.{Rose};
+ghost use Rattle.std.specs.Prelude.{◌≡◌, ◌++◌, ◌∷◌, [], length, replicate, slice_set, IfOk, OnOk};
+ghost use Rattle.fw_keep.specs.Faults.{faults_after};
 ghost use Rattle.fw_keep.specs.Stored.{IsStored};
 ghost use Rattle.fw_rollback.specs.Asked.{given_of, AreFetched, IsDamagedIfSaid};
 
@@ -113,8 +113,7 @@ pub(crate) fn read<K: Store>(
     ensures fetched { IfOk result (AreFetched flow.now choice.now (K.records store.old) keep.now.entries) }
     ensures damaged { IsDamagedIfSaid flow.now choice.now (K.records store.old) keep.now.entries (K.given store.new) result }
     ensures stays { K.records store.new ≡ K.records store.old }
-    ensures failed { IsErrOf result KeepFault.StoreFault → Rose (K.fault_count store.old) (K.fault_count store.new) }
-    ensures never_falls { K.fault_count store.old ≤ K.fault_count store.new }
+    ensures faults { K.fault_count store.new ≡ faults_after result (K.fault_count store.old) }
 {
     let mut given = Given::none(alloc, flow.nodes())?;
     fetch_all(flow, choice, keep, store, &mut given)?;
@@ -134,8 +133,7 @@ fn fetch_all<K: Store>(
     ensures fetched { OnOk result (AreFetched flow.now choice.now (K.records store.old) keep.now.entries given.new) }
     ensures damaged { IsDamagedIfSaid flow.now choice.now (K.records store.old) keep.now.entries (K.given store.new) result }
     ensures stays { K.records store.new ≡ K.records store.old }
-    ensures failed { IsErrOf result KeepFault.StoreFault → Rose (K.fault_count store.old) (K.fault_count store.new) }
-    ensures never_falls { K.fault_count store.old ≤ K.fault_count store.new }
+    ensures faults { K.fault_count store.new ≡ faults_after result (K.fault_count store.old) }
 {
     let entries = keep.entries();
     for entry in entries {

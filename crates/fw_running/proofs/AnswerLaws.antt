@@ -48,6 +48,13 @@ pub left : (old : Running) (before : Option Records) (step : Step) (result : Res
     → IsLeftBy sys state step (λ next. Stands sys new after next)
 left old before step result new after t sys state s e = subst (λ (r : Result Stepped EngineFault). Answers sys state step r before new after) e (t sys state s)
 
+-- what a fault of the store leaves is answered at each fault that is no damage
+pub left-answers : (T : Type 0) (sys : System) (state : Machine) (step : Step) (e : EngineFault) (new : Running) (before after : Option Records)
+    → IsUndamaged {T = T} (Err e) → IsLeftBy sys state step (λ next. Stands sys new after next) → Answers sys state step (Err e) before new after
+left-answers T sys state step fault.StoreFault new before after u l = l
+left-answers T sys state step (fault.Damaged id) new before after u l = absurd u
+left-answers T sys state step fault.NoMemory new before after u l = tt
+
 pub unharmed : (old : Running) (before : Option Records) (step : Step) (result : Result Stepped EngineFault) (new : Running) (after : Option Records) (id : ℕ)
     → TakesStep old before step result new after → (sys : System) (state : Machine) → Stands sys old before state → IsErrOf result (fault.Damaged id)
     → (before ≡ None) × Stands sys new after state

@@ -1,5 +1,6 @@
 -- Why a step is not taken.
-use Rattle.std.specs.Prelude.{Bool, true, false, Result, Ok, Err}
+use Rattle.std.specs.Prelude.{ℕ, Bool, true, false, Result, Ok, Err}
+use Rattle.fw_outside.specs.Outside.{one_more}
 use Rattle.fw_keep.specs.declared.fault.KeepFault.{KeepFault}
 use Rattle.fw_keep.specs.declared.fault.KeepFault.TheVariants as keep
 use Rattle.fw_running.specs.declared.fault.EngineFault.{EngineFault}
@@ -17,3 +18,10 @@ is_refusal (Ok x) = false
 is_refusal (Err fault.StoreFault) = false
 is_refusal (Err (fault.Damaged id)) = false
 is_refusal (Err fault.NoMemory) = true
+
+-- how often a store has failed after a step that answered so: once more where it failed, and else as often as before
+abbrev pub faults_after : {T : Type 0} → Result T EngineFault → ℕ → ℕ
+faults_after (Ok x) count = count
+faults_after (Err fault.StoreFault) count = one_more count
+faults_after (Err (fault.Damaged id)) count = count
+faults_after (Err fault.NoMemory) count = count

@@ -81,10 +81,19 @@ MayCallStore flow Recover = Unit {0}
 MayCallStore flow Collect = Unit {0}
 MayCallStore flow step = ⊥
 
--- What a fault of the store leaves: the state, but that after a collection, which sweeps last, also where it is idle.
+-- some step that is taken by itself may call the store
+abbrev pub MayCallByItself : Dataflow → Type 0
+MayCallByItself flow = (step : Step) × Contains (auto_steps flow) step × MayCallStore flow step
+
+-- the machine may take the step
+abbrev pub IsStepEnabled : System → Machine → Step → Type 0
+IsStepEnabled sys state step = (next : Machine) × (effect : Effect) × LeadsTo sys state step next effect
+
+-- What a fault of the store leaves: the state, in which the step is enabled, but that after a collection, which sweeps last, also where
+-- it is idle.
 abbrev pub IsLeftBy : System → Machine → Step → (Machine → Type 0) → Type 0
 IsLeftBy sys state Collect P = (next : Machine) × (outcome : Outcome) × StepsTo sys state Collect next outcome × P next
-IsLeftBy sys state step P = P state
+IsLeftBy sys state step P = IsStepEnabled sys state step × P state
 
 -- What a step answers, and what the engine stands for then, where it stood for a state: the machine's outcome and next state, if it
 -- read what was put; after a fault of the store what that leaves; after damage, which no store gives that tells its records, the
@@ -99,11 +108,6 @@ Answers sys state step (Err fault.NoMemory) records new after = Unit {0}
 abbrev pub TakesStep : Running → Option Records → Step → Result Stepped EngineFault → Running → Option Records → Type 0
 TakesStep old before step result new after =
     (sys : System) (state : Machine) → Stands sys old before state → Answers sys state step result before new after
-
--- the step is enabled from each state for which the engine stood
-abbrev pub IsEnabledFrom : Running → Option Records → Step → Type 0
-IsEnabledFrom running records step =
-    (sys : System) (state : Machine) → Stands sys running records state → (next : Machine) × (effect : Effect) × LeadsTo sys state step next effect
 
 -- Of the steps that are taken by themselves the first that is enabled may call the store.
 pub record FirstMayCall (sys : System) (state : Machine) : Type 0 where

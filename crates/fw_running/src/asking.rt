@@ -1,6 +1,6 @@
 //! A write is asked.
-ghost use Rattle.std.specs.Prelude.{◌≡◌, ◌≤◌, IsErrOf, OnOk, OnErr};
-ghost use Rattle.fw_outside.specs.Outside.{Rose};
+ghost use Rattle.std.specs.Prelude.{◌≡◌, OnOk, OnErr};
+ghost use Rattle.fw_running.specs.Faults.{faults_after};
 ghost use Rattle.fw_keep.specs.Entry as entries;
 ghost use Rattle.fw_keep.specs.Stored.{IsStored};
 ghost use Rattle.fw_running.specs.Steps.{IsUndamaged};
@@ -31,8 +31,7 @@ impl Running {
         ensures stays { OnErr result (IsNotAsked self.old.parts.keep.entries self.new.parts.keep.entries
             (K.records store.old) (K.records store.new)) }
         ensures given { K.given store.new ≡ K.given store.old }
-        ensures fault { IsErrOf result EngineFault.StoreFault → Rose (K.fault_count store.old) (K.fault_count store.new) }
-        ensures never_falls { K.fault_count store.old ≤ K.fault_count store.new }
+        ensures faults { K.fault_count store.new ≡ faults_after result (K.fault_count store.old) }
         ensures undamaged { IsUndamaged result }
     {
         if self.parts.keep.next_id() >= IDS {

@@ -10,7 +10,7 @@ use thiserror::Error;
 /// Why a step is not taken.
 #[derive(Clone, Copy, Debug, PartialEq, Eq, Error)]
 pub enum EngineFault {
-    /// The store failed; its count of faults rose, or stands at 2^64 - 1.
+    /// The store failed; its count of faults rose by one, or stands at 2^64 - 1.
     #[error("the store failed")]
     StoreFault,
     /// The bytes that the store gave under an id spell no record of the write.

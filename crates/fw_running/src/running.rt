@@ -1,13 +1,11 @@
 //! What an engine keeps.
-ghost use Rattle.std.specs.Prelude.{◌≡◌, ◌≤◌, ℕ, Option, [], false, replicate, slice_index_or, IfOk, IsErrOf};
+ghost use Rattle.std.specs.Prelude.{◌≡◌, Option, [], false, replicate, slice_index_or, IfOk};
 ghost use Rattle.fw_flow.specs.Dataflow.{system_of};
 ghost use Rattle.fw_model.specs.Writes as writes;
 ghost use Rattle.fw_keep.specs.Stored.{Records, IsEmptyStore, IsStored};
 ghost use Rattle.fw_stands.specs.LawsOfAcknowledging.{IsGreatestCount};
 ghost use Rattle.fw_running.specs.Kept.{is_down};
-ghost use Rattle.fw_running.specs.Shaped.{IsShaped};
 ghost use Rattle.fw_running.specs.Starting.{IsFirst, no_stamps_each};
-ghost use Rattle.fw_running.specs.Steps.{TakesStep, StaysShaped, MayCallStore, IsDamage};
 
 use crate::Ready;
 use fw_flow::{Flow, Fronts, NodeId, Notices, Policy};

@@ -1,6 +1,6 @@
 //! A store that does not tell its records.
-ghost use Rattle.std.specs.Prelude.{◌≤◌, IsTrue, None, option_map};
-ghost use Rattle.fw_outside.specs.Outside.{Rose};
+ghost use Rattle.std.specs.Prelude.{◌≡◌, IsTrue, IsFalse, None, option_map};
+ghost use Rattle.fw_outside.specs.Outside.{one_more};
 
 use fw_outside::{OutFault, Store};
 use std::alloc::{AllocError, Global};
@@ -34,8 +34,8 @@ struct Plan {
 impl Plan {
     /// Counts a call, and says whether it is to fail.
     fn next_fails(&mut self) -> bool
-        ensures rose { IsTrue result → Rose self.old.faults self.new.faults }
-        ensures later { self.old.faults ≤ self.new.faults }
+        ensures more { IsTrue result → self.new.faults ≡ one_more self.old.faults }
+        ensures faults_stay { IsFalse result → self.new.faults ≡ self.old.faults }
     {
         let fails = self.failing.contains(&self.calls);
         self.calls = self.calls.saturating_add(1);
@@ -47,8 +47,7 @@ impl Plan {
 
     /// Counts a fault.
     fn fail(&mut self)
-        ensures rose { Rose self.old.faults self.new.faults }
-        ensures later { self.old.faults ≤ self.new.faults }
+        ensures { self.new.faults ≡ one_more self.old.faults }
     {
         self.faults = self.faults.saturating_add(1);
     }

@@ -29,5 +29,5 @@ loop-id-preserved g c =
           (subst (λ (ids : List ℕ). Sweeps c.args.waiting.now.items (g.K.Store.records c.args.store.now) ids before) parts c.loop-id.invariant.swept) c.in_ok-remove.ensures.removed;
       capacity = c.pop.ensures.capacity ∙ c.loop-id.invariant.capacity;
       given = c.remove.ensures.given_stays ∙ c.loop-id.invariant.given;
-      never_falls = omega (arith, c.remove.ensures.never_falls, c.loop-id.invariant.never_falls);
+      faults = c.in_ok-remove.ensures.faults ∙ c.loop-id.invariant.faults;
     }

@@ -1,4 +1,4 @@
-use Rattle.std.proofs.Common.{◌≡◌, ◌≤◌, vec_len}
+use Rattle.std.proofs.Common.{◌≡◌, vec_len}
 use Rattle.std.specs.Vec.{vec_capacity}
 use Rattle.fw_keep.specs.Catalogue.{AreDistinct}
 use Rattle.fw_keep.specs.Stored.{AreThere, Sweeps}
@@ -11,7 +11,7 @@ invariant-loop-id g l = record {
   swept : Sweeps l.initial.waiting.items (g.K.Store.records l.initial.store) l.waiting.items (g.K.Store.records l.store);
   capacity : vec_capacity l.waiting ≡ vec_capacity l.initial.waiting;
   given : g.K.Store.given l.store ≡ g.K.Store.given l.initial.store;
-  never_falls : g.K.Store.fault_count l.initial.store ≤ g.K.Store.fault_count l.store;
+  faults : g.K.Store.fault_count l.store ≡ g.K.Store.fault_count l.initial.store;
 }
 
 abbrev pub decreases-loop-id : goal.decreases-loop-id

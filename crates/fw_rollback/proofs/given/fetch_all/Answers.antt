@@ -1,4 +1,4 @@
-use Rattle.std.proofs.Common.{◌≡◌, ◌+◌, true, List, take, Ok, Err, Option, refl, sym, ap, subst, ◌∙◌, arith}
+use Rattle.std.proofs.Common.{◌≡◌, ◌+◌, true, List, take, Ok, Err, Option, refl, sym, ap, subst, ◌∙◌}
 use Rattle.std.proofs.lemmas.Result.{err_from_is_err_and}
 use Rattle.fw_keep.specs.declared.entry.Entry.{Entry}
 use Rattle.fw_keep.specs.declared.fault.KeepFault.{KeepFault}
@@ -55,7 +55,7 @@ loop-entry-preserved g c =
                 (sym c.is_asked_for.ensures ∙ w.if-is_asked_for.true) c.loop-entry.invariant.fetched one w.in_ok-add.ensures);
             stays = ap g.K.Store.records w.store-is ∙ stays;
             stored = subst Q (sym (ap g.K.Store.records w.store-is ∙ w.fetch.ensures.stays)) c.loop-entry.invariant.stored;
-            never_falls = let s = ap g.K.Store.fault_count w.store-is in omega (arith, s, w.fetch.ensures.never_falls, c.loop-entry.invariant.never_falls);
+            faults = ap g.K.Store.fault_count w.store-is ∙ (w.in_ok-fetch.ensures.faults ∙ c.loop-entry.invariant.faults);
           }
       | else-is_asked_for w ↦
           let Q : Option Records → Type 0 = λ held. IsStored c.args.keep.now held in
@@ -65,6 +65,6 @@ loop-entry-preserved g c =
                 (sym c.is_asked_for.ensures ∙ w.if-is_asked_for.false) c.loop-entry.invariant.fetched);
             stays = ap g.K.Store.records w.store-is ∙ c.loop-entry.invariant.stays;
             stored = subst Q (sym (ap g.K.Store.records w.store-is)) c.loop-entry.invariant.stored;
-            never_falls = let s = ap g.K.Store.fault_count w.store-is in omega (arith, s, c.loop-entry.invariant.never_falls);
+            faults = ap g.K.Store.fault_count w.store-is ∙ c.loop-entry.invariant.faults;
           }
     ]

@@ -1,6 +1,6 @@
 //! The step of a collection.
-ghost use Rattle.std.specs.Prelude.{◌≡◌, ◌≤◌, ◌↔◌, ◌<◌, ◌≢◌, ℕ, false, [], length, Option, Ok, is_some, IsErrOf, IsTrue, IfOk, OnOk};
-ghost use Rattle.fw_outside.specs.Outside.{Rose};
+ghost use Rattle.std.specs.Prelude.{◌≡◌, ◌↔◌, ◌<◌, ◌≢◌, ℕ, false, [], length, Option, Ok, is_some, IsTrue, IfOk, OnOk};
+ghost use Rattle.fw_running.specs.Faults.{faults_after};
 ghost use Rattle.fw_collect.specs.Drops.{watermark};
 ghost use Rattle.fw_collect.specs.Dropped.{log_outside};
 ghost use Rattle.fw_flow.specs.declared.step.Step.TheVariants as steps;
@@ -32,8 +32,7 @@ pub fn collect<K: Store>(running: &mut Running, store: &mut K) -> Result<Stepped
     ensures stored { IsStored running.new.parts.keep (K.records store.new) }
     ensures flow { running.new.flow ≡ running.old.flow }
     ensures takes { TakesStep running.old (K.records store.old) steps.Collect result running.new (K.records store.new) }
-    ensures fault { IsErrOf result EngineFault.StoreFault → Rose (K.fault_count store.old) (K.fault_count store.new) }
-    ensures never_falls { K.fault_count store.old ≤ K.fault_count store.new }
+    ensures faults { K.fault_count store.new ≡ faults_after result (K.fault_count store.old) }
     ensures undamaged { IsUndamaged result }
     ensures tells { is_some (K.records store.new) ≡ is_some (K.records store.old) }
     ensures swept { OnOk result (running.new.parts.keep.waiting ≡ []) }

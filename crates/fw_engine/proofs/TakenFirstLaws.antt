@@ -7,7 +7,7 @@ use Rattle.fw_flow.specs.declared.event.Event.TheVariants.{Notify as Notified}
 use Rattle.fw_flow.specs.declared.event.Message.{Message}
 use Rattle.fw_flow.specs.declared.kind.Policy.TheVariants as policy
 use Rattle.fw_flow.specs.declared.step.Step.{Step}
-use Rattle.fw_flow.specs.declared.step.Step.TheVariants.{Inject, Deliver, Notify, Ack}
+use Rattle.fw_flow.specs.declared.step.Step.TheVariants.{Inject, Deliver, Notify, Progress, Ack}
 use Rattle.fw_flow.specs.Dataflow.{Dataflow, System, kind_of, policy_of, receiver, is_input_kind}
 use Rattle.fw_model.specs.Auto.{auto_steps, IsIdle, TakesFirst}
 use Rattle.fw_model.specs.Machine.{Machine, events, is_failed}
@@ -31,11 +31,11 @@ use Rattle.fw_running.specs.Places.{IsFirstWhere}
 use Rattle.fw_running.specs.Ready.{CanAcknowledge, CanDeliver, CanInject, IsOwing}
 use Rattle.fw_running.specs.ReadyState.{ReadyState}
 use Rattle.fw_running.specs.Stands.{Stands}
-use Rattle.fw_running.specs.Steps.{AnswersFirst, FirstMayCall, IsLeftBy, IsUndamaged, TakesStep, Trusts, effect_of}
+use Rattle.fw_running.specs.Steps.{AnswersFirst, FirstMayCall, HasEager, IsUndamaged, TakesStep, Trusts, effect_of}
 use Rattle.fw_events.specs.Noticing.{AnswersNotice, TakesNotice}
 use Rattle.fw_engine.specs.Searching.{with_ready, HasNoNotice, HasNotice, IsFirstNotified, IsSearched, NoneToPersist, TakesFirstAfter}
 use Rattle.fw_engine.proofs.AckLaws.{acknowledges, idle-acknowledges}
-use Rattle.fw_engine.proofs.FirstCallLaws.{delivery-calls, notification-calls}
+use Rattle.fw_engine.proofs.FirstCallLaws.{delivery-calls, notification-calls, progress-calls}
 use Rattle.fw_engine.proofs.FirstStepLaws.{first_answers, ready_stands}
 
 -- ---- any step
@@ -65,15 +65,15 @@ idle-later Earlier Later step old mid new before between after result more trust
     let f = t sys state s (trusted sys state before) in
     later sys state (subst (λ (m : Machine). Stands sys mid between m) f.steps.1 f.stands) (more sys state earlier f.steps.0)
 
--- a fault of the step is one of the first
-pub err-first : (Earlier : System → Machine → Type 0) (step : Step) (old new : Running) (before after : Option Records) (e : EngineFault)
-    → ((sys : System) (state : Machine) → IsLeftBy sys state step (λ next. Stands sys new after next) → Stands sys new after state)
-    → ((sys : System) (state : Machine) → Stands sys old before state → Earlier sys state → IsErrOf {T = Stepped} (Err e) fault.StoreFault → FirstMayCall sys state)
-    → IsUndamaged {T = Stepped} (Err e) → TakesStep old before step (Err e) new after → TakesFirstAfter Earlier old before (Err e) new after
-err-first Earlier step old new before after fault.StoreFault left calls sound t = λ sys state s earlier.
-    (calls sys state s earlier refl, left sys state (t sys state s))
-err-first Earlier step old new before after (fault.Damaged id) left calls sound t = λ sys state s earlier. sound
-err-first Earlier step old new before after fault.NoMemory left calls sound t = λ sys state s earlier. tt
+-- a fault of progress is one of the first step
+pub settle-err : (old new : Running) (before after : Option Records) (e : EngineFault) → (IsErrOf {T = Stepped} (Err e) fault.StoreFault → HasEager old.flow)
+    → IsUndamaged {T = Stepped} (Err e) → TakesStep old before Progress (Err e) new after → TakesFirstAfter NoneToNotify old before (Err e) new after
+settle-err old new before after fault.StoreFault eager sound t = λ sys state s none.
+    let left = t sys state s in
+    let enabled = left.0 in
+    (progress-calls sys state none enabled.0 enabled.1 enabled.2 (subst (λ (f : Dataflow). HasEager f) s.flow (eager refl)), left.1)
+settle-err old new before after (fault.Damaged id) eager sound t = λ sys state s none. sound
+settle-err old new before after fault.NoMemory eager sound t = λ sys state s none. tt
 
 -- what is handed on of a fault
 pub from-err : (r : Result Stepped EngineFault) (e : EngineFault) (P : Result Stepped EngineFault → Type 0) → IsErrAnd r (λ x. x ≡ e) → P (Err e) → P r
@@ -120,7 +120,7 @@ deliver-first old mid ready new before after e result is first sound full t = λ
     let d = delivered sys old before state s e l (queued sys state e) refl (λ nothing. can.some (s.queues e l ∙ nothing)) in
     let below : AreIdleBelow sys state delivery e = λ i k. no_delivery sys old before state s i (omega (arith, k, l)) (first.1 i k) in
     first_answers enabled_steps-taken sys state d.0 (Deliver e None) d.1 result new before after d.2
-    (λ next shown leads. deliveries-next sys state none e l below next shown leads) tt (λ P p. p) sound
+    (λ next shown leads. deliveries-next sys state none e l below next shown leads) tt (λ P left. left.1) sound
     (λ failed. delivery-calls sys state none e l below d.0 d.1 d.2
     (subst (λ (flow : Dataflow). policy_of flow (receiver flow e) ≡ policy.Full) (ap (λ (r : Running). r.flow) is ∙ s.flow) (full failed)))
     (t sys state (with_ready_stands sys state old mid before ready is s))
@@ -224,7 +224,7 @@ acknowledge-first old mid ready new records o result is first numbered sound unf
     let l : o < length sys.flow.nodes = subst (λ (flow : Dataflow). o < length flow.nodes) s.flow can.there in
     let below : AreIdleBelow sys state Ack o = λ i k. idle-acknowledges sys state old records i s (first.1 i k) in
     first_answers enabled_steps-taken sys state _ (Ack o) _ result new records records (acknowledges sys state old records o s numbered can)
-    (λ next shown leads. acknowledgements-next sys state none o l below next shown leads) tt (λ P p. p) sound
+    (λ next shown leads. acknowledgements-next sys state none o l below next shown leads) tt (λ P left. left.1) sound
     (λ failed. absurd (unfaulted failed))
     (t sys state (with_ready_stands sys state old mid records ready is s))
 
@@ -269,7 +269,7 @@ inject-first old mid ready new records p result is first sound unfaulted t = λ 
     let d = injected sys old records state s p l input live (next_batch (source_of old p)) refl can.some in
     let below : AreIdleBelow sys state Inject p = λ i k. no_injection sys old records state s i (omega (arith, k, l)) (first.1 i k) in
     first_answers enabled_steps-taken sys state d.0 (Inject p) d.1 result new records records d.2
-    (λ next shown leads. injections-last sys state none p l below next shown leads) tt (λ P p. p) sound
+    (λ next shown leads. injections-last sys state none p l below next shown leads) tt (λ P left. left.1) sound
     (λ failed. absurd (unfaulted failed))
     (t sys state (with_ready_stands sys state old mid records ready is s))
 

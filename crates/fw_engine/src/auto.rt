@@ -1,6 +1,6 @@
 //! Steps that are taken by themselves: each is the first that is enabled.
-ghost use Rattle.std.specs.Prelude.{◌≡◌, ◌≤◌, ◌↔◌, Option, IsErrOf, IsTrue, IfOk, IfSome, OnOk, is_some};
-ghost use Rattle.fw_outside.specs.Outside.{Rose};
+ghost use Rattle.std.specs.Prelude.{◌≡◌, ◌↔◌, Option, IsErrOf, IsTrue, IfOk, IfSome, OnOk, is_some};
+ghost use Rattle.fw_running.specs.Faults.{faults_after};
 ghost use Rattle.fw_border.specs.Outputs.{AreByNumber};
 ghost use Rattle.fw_keep.specs.Stored.{Records, IsStored};
 ghost use Rattle.fw_stands.specs.LawsOfFirstSteps.{NoneToDeliver, NoneToNotify, NoneToSettle, NoneToAcknowledge};
@@ -9,7 +9,7 @@ ghost use Rattle.fw_running.specs.Places.{IsFirstWhere};
 ghost use Rattle.fw_running.specs.Ready.{CanAcknowledge, CanDeliver, CanInject, IsOwing};
 ghost use Rattle.fw_engine.specs.Searching.{with_ready_edges, with_ready_outputs, with_ready_inputs, IsSearched, IsNoticeOf, IsFirstNotified, NoneToPersist, TakesFirstAfter};
 ghost use Rattle.fw_running.specs.Shaped.{IsShaped};
-ghost use Rattle.fw_running.specs.Steps.{TakesFirstStep, StaysShaped, IsUndamaged};
+ghost use Rattle.fw_running.specs.Steps.{TakesFirstStep, StaysShaped, IsUndamaged, MayCallByItself};
 
 use crate::acknowledgement::{acknowledge, next_acknowledged};
 use fw_events::{can_deliver, deliver, inject, may_inject, next_notice, notify_of};
@@ -38,10 +38,10 @@ pub(crate) fn take_first<K: Store>(
     ensures stored { IsStored running.new.parts.keep (K.records store.new) }
     ensures flow { running.new.flow ≡ running.old.flow }
     ensures takes { TakesFirstStep running.old (K.records store.old) result running.new (K.records store.new) }
-    ensures fault { IsErrOf result EngineFault.StoreFault → Rose (K.fault_count store.old) (K.fault_count store.new) }
-    ensures never_falls { K.fault_count store.old ≤ K.fault_count store.new }
+    ensures faults { K.fault_count store.new ≡ faults_after result (K.fault_count store.old) }
     ensures undamaged { IsUndamaged result }
     ensures tells { is_some (K.records store.new) ≡ is_some (K.records store.old) }
+    ensures quiet { (MayCallByItself running.old.flow → ⊥) → store.new ≡ store.old }
 {
     match persist(running) {
         Stepped::Did(effect) => Ok(Stepped::Did(effect)),
@@ -57,10 +57,10 @@ fn deliver_first<K: Store>(running: &mut Running, store: &mut K) -> Result<Stepp
     ensures stored { IsStored running.new.parts.keep (K.records store.new) }
     ensures flow { running.new.flow ≡ running.old.flow }
     ensures takes { TakesFirstAfter NoneToPersist running.old (K.records store.old) result running.new (K.records store.new) }
-    ensures fault { IsErrOf result EngineFault.StoreFault → Rose (K.fault_count store.old) (K.fault_count store.new) }
-    ensures never_falls { K.fault_count store.old ≤ K.fault_count store.new }
+    ensures faults { K.fault_count store.new ≡ faults_after result (K.fault_count store.old) }
     ensures undamaged { IsUndamaged result }
     ensures tells { is_some (K.records store.new) ≡ is_some (K.records store.old) }
+    ensures quiet { (MayCallByItself running.old.flow → ⊥) → store.new ≡ store.old }
 {
     match first_deliverable(running) {
         Some(edge) => deliver(running, edge, None, store),
@@ -76,10 +76,10 @@ fn notify_first<K: Store>(running: &mut Running, store: &mut K) -> Result<Steppe
     ensures stored { IsStored running.new.parts.keep (K.records store.new) }
     ensures flow { running.new.flow ≡ running.old.flow }
     ensures takes { TakesFirstAfter NoneToDeliver running.old (K.records store.old) result running.new (K.records store.new) }
-    ensures fault { IsErrOf result EngineFault.StoreFault → Rose (K.fault_count store.old) (K.fault_count store.new) }
-    ensures never_falls { K.fault_count store.old ≤ K.fault_count store.new }
+    ensures faults { K.fault_count store.new ≡ faults_after result (K.fault_count store.old) }
     ensures undamaged { IsUndamaged result }
     ensures tells { is_some (K.records store.new) ≡ is_some (K.records store.old) }
+    ensures quiet { (MayCallByItself running.old.flow → ⊥) → store.new ≡ store.old }
 {
     let Some(notice) = first_notice(running)? else {
         return settle_first(running, store);
@@ -96,10 +96,10 @@ fn settle_first<K: Store>(running: &mut Running, store: &mut K) -> Result<Steppe
     ensures stored { IsStored running.new.parts.keep (K.records store.new) }
     ensures flow { running.new.flow ≡ running.old.flow }
     ensures takes { TakesFirstAfter NoneToNotify running.old (K.records store.old) result running.new (K.records store.new) }
-    ensures fault { IsErrOf result EngineFault.StoreFault → Rose (K.fault_count store.old) (K.fault_count store.new) }
-    ensures never_falls { K.fault_count store.old ≤ K.fault_count store.new }
+    ensures faults { K.fault_count store.new ≡ faults_after result (K.fault_count store.old) }
     ensures undamaged { IsUndamaged result }
     ensures tells { is_some (K.records store.new) ≡ is_some (K.records store.old) }
+    ensures quiet { (MayCallByItself running.old.flow → ⊥) → store.new ≡ store.old }
 {
     match progress(running, store)? {
         Stepped::Did(effect) => Ok(Stepped::Did(effect)),

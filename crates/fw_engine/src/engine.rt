@@ -1,6 +1,5 @@
 //! The engine.
-ghost use Rattle.std.specs.Prelude.{◌≡◌, ◌≤◌, ℕ, Option, true, false, None, IsTrue, IfOk, IsErrOf, is_some, OnOk, []};
-ghost use Rattle.fw_outside.specs.Outside.{Rose};
+ghost use Rattle.std.specs.Prelude.{◌≡◌, ℕ, Option, true, false, None, IsTrue, IfOk, IsErrOf, is_some, OnOk, []};
 ghost use Rattle.fw_flow.specs.declared.step.Step.TheVariants.{Collect, Recover};
 ghost use Rattle.fw_flow.specs.Dataflow.{system_of};
 ghost use Rattle.fw_flow.specs.WellFormed.{IsWellFormedSystem};
@@ -8,8 +7,9 @@ ghost use Rattle.fw_model.specs.Machine.{first_state};
 ghost use Rattle.fw_keep.specs.Catalogue.{AreAscending, ids_of};
 ghost use Rattle.fw_keep.specs.Stored.{Records, IsEmptyStore, IsStored};
 ghost use Rattle.fw_running.specs.Faults as faults;
+ghost use Rattle.fw_running.specs.Faults.{faults_after};
 ghost use Rattle.fw_running.specs.Shaped.{IsShaped};
-ghost use Rattle.fw_running.specs.Steps.{Trusts, MayCallStore, FirstMayCall, IsLeftBy};
+ghost use Rattle.fw_running.specs.Steps.{Trusts, MayCallStore, MayCallByItself, FirstMayCall, IsLeftBy};
 
 use crate::auto::take_first;
 use crate::taking::take;
@@ -63,11 +63,11 @@ impl Engine {
     ///
     /// # Errors
     ///
-    /// `StoreFault` where the store fails; only a step that asks a write, a recovery and a collection call it. The engine stands
-    /// where it stood, but after a collection: what is given up is gone, and its bytes wait for the next collection, which sweeps
-    /// also where it is idle. `Damaged` where
-    /// the bytes that the store gives to a recovery spell no record of a write; the engine stands where it stood. `NoMemory`
-    /// where memory is refused, now or earlier.
+    /// `StoreFault` exactly where the store fails, in a step that is enabled or in a collection; only a step that asks a write, a
+    /// recovery and a collection call it. The engine stands where it stood, but after a collection: what is given up is gone,
+    /// and its bytes wait for the next collection, which sweeps also where it is idle. `Damaged` where the bytes that the store
+    /// gives to a recovery spell no record of a write; the engine stands where it stood. `NoMemory` where memory is refused,
+    /// now or earlier.
     pub fn step<K: Store>(&mut self, step: &Step, store: &mut K) -> Result<Stepped, EngineFault>
         requires stored { IsStored (keep_of self.old) (K.records store.old) }
         ensures stored { IsStored (keep_of self.new) (K.records store.new) }
@@ -85,13 +85,13 @@ impl Engine {
         ensures tells { is_some (K.records store.new) ≡ is_some (K.records store.old) }
         ensures quiet { (MayCallStore (flow_of self.old) step.now → ⊥) → store.new ≡ store.old }
 
-        // A fault of the store comes where it failed, in a step that calls it. Then the engine stands where it stood, or where the
-        // collection led.
-        ensures fault { IsErrOf result EngineFault.StoreFault → Rose (K.fault_count store.old) (K.fault_count store.new) }
+        // The store's count of faults rises by one at StoreFault (at 2^64 - 1 it stays), and at no other answer. StoreFault comes
+        // only in a step that may call the store, and that is enabled or a collection. Then the engine stands where it stood, or
+        // where the collection led.
+        ensures faults { K.fault_count store.new ≡ faults_after result (K.fault_count store.old) }
         ensures calls { IsErrOf result EngineFault.StoreFault → MayCallStore (flow_of self.old) step.now }
         ensures faulted { ForEachState self.old (K.records store.old) (λ sys state. IsErrOf result EngineFault.StoreFault
             → IsLeftBy sys state step.now (λ next. StandsFor sys self.new (K.records store.new) next)) }
-        ensures never_falls { K.fault_count store.old ≤ K.fault_count store.new }
 
         // A record is damaged in a recovery alone, over a store that does not tell its records.
         ensures damaged { (id : ℕ) → IsErrOf result (EngineFault.Damaged id) → IsDamaged self.old id (K.given store.new) }
@@ -124,13 +124,19 @@ impl Engine {
         ensures ok { ForEachState self.old (K.records store.old)
             (λ sys state. IfOk result (λ stepped. FollowsFirstStep sys state stepped self.new (K.records store.new))) }
         ensures in_order { AreAscending (ids_of (keep_of self.new).entries) }
+
+        // A store that tells its records goes on telling them. Where no step that is taken by itself may call it, it is left as it is.
         ensures tells { is_some (K.records store.new) ≡ is_some (K.records store.old) }
-        ensures fault { IsErrOf result EngineFault.StoreFault → Rose (K.fault_count store.old) (K.fault_count store.new) }
+        ensures quiet { (MayCallByItself (flow_of self.old) → ⊥) → store.new ≡ store.old }
+
+        // The store's count of faults rises as in `step`. StoreFault comes only where the first step that is enabled may call the
+        // store. Then the engine stands where it stood.
+        ensures faults { K.fault_count store.new ≡ faults_after result (K.fault_count store.old) }
         ensures calls { ForEachState self.old (K.records store.old)
             (λ sys state. IsErrOf result EngineFault.StoreFault → FirstMayCall sys state) }
         ensures faulted { ForEachState self.old (K.records store.old)
             (λ sys state. IsErrOf result EngineFault.StoreFault → StandsFor sys self.new (K.records store.new) state) }
-        ensures never_falls { K.fault_count store.old ≤ K.fault_count store.new }
+
         ensures unharmed { (id : ℕ) → IsErrOf result (EngineFault.Damaged id) → ⊥ }
         ensures refused { IsErrOf result EngineFault.NoMemory → was_refused self.new ≡ true }
         ensures told { was_refused self.new ≡ faults.is_refusal result }

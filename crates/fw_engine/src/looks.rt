@@ -14,6 +14,13 @@ use fw_flow::{EdgeId, NodeId};
 use fw_frontier::Front;
 
 impl Engine {
+    /// Whether memory was refused to a step; if so, every later one answers want of memory.
+    pub fn is_refused(&self) -> bool
+        ensures { result ≡ was_refused self.now }
+    {
+        self.refused
+    }
+
     /// What is settled at a node; none past the last node.
     pub fn settled(&self, node: NodeId) -> Option<&Front>
         ensures front { (records : Option Records)
@@ -39,7 +46,7 @@ impl Engine {
         self.running.parts.outputs.bound(output)
     }
 
-    /// The low watermark of a node: what lies in it is not needed any more; none past the last node.
+    /// The low watermark of a node, below which no recovery cuts it; none past the last node.
     pub fn low_watermark(&self, node: NodeId) -> Option<&Front>
         ensures front { (records : Option Records)
             → ForEachState self.now records (λ sys state. option_copied result ≡ slice_get state.low node) }

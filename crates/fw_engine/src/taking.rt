@@ -1,6 +1,6 @@
 //! A step is taken.
-ghost use Rattle.std.specs.Prelude.{◌≡◌, ◌≤◌, ℕ, IsErrOf, is_some, OnOk, []};
-ghost use Rattle.fw_outside.specs.Outside.{Rose};
+ghost use Rattle.std.specs.Prelude.{◌≡◌, ℕ, IsErrOf, is_some, OnOk, []};
+ghost use Rattle.fw_running.specs.Faults.{faults_after};
 ghost use Rattle.fw_flow.specs.declared.step.Step.TheVariants.{Collect, Recover};
 ghost use Rattle.fw_keep.specs.Stored.{IsStored};
 ghost use Rattle.fw_running.specs.Shaped.{IsShaped};
@@ -28,8 +28,7 @@ pub(crate) fn take<K: Store>(
     ensures stored { IsStored running.new.parts.keep (K.records store.new) }
     ensures flow { running.new.flow ≡ running.old.flow }
     ensures takes { TakesStep running.old (K.records store.old) step.now result running.new (K.records store.new) }
-    ensures fault { IsErrOf result EngineFault.StoreFault → Rose (K.fault_count store.old) (K.fault_count store.new) }
-    ensures never_falls { K.fault_count store.old ≤ K.fault_count store.new }
+    ensures faults { K.fault_count store.new ≡ faults_after result (K.fault_count store.old) }
     ensures calls { IsErrOf result EngineFault.StoreFault → MayCallStore running.old.flow step.now }
     ensures damaged { (id : ℕ) → IsErrOf result (EngineFault.Damaged id) → IsDamage running.old id (K.given store.new) }
     ensures in_recovery { (id : ℕ) → IsErrOf result (EngineFault.Damaged id) → step.now ≡ Recover }

@@ -1,5 +1,5 @@
 -- A delivery of an engine is the machine's.
-use Rattle.std.proofs.Common.{◌≡◌, ◌≢◌, ℕ, true, false, not, ◌||◌, length, Option, Some, None, Err, refl, sym, ap, subst, ◌∙◌, inl, inr, arith}
+use Rattle.std.proofs.Common.{◌≡◌, ◌≢◌, ℕ, true, false, not, ◌||◌, length, Option, Some, None, refl, sym, ap, subst, ◌∙◌, inl, inr, arith}
 use Rattle.std.specs.Prelude.{find, is_some, option_map}
 use Rattle.std.proofs.lemmas.Bool.{cases_lt, false≢true}
 use Rattle.std.proofs.lemmas.List.{get_or_past}
@@ -7,12 +7,11 @@ use Rattle.fw_time.specs.Stamp.{Stamp}
 use Rattle.fw_flow.specs.declared.event.Event.{Event}
 use Rattle.fw_flow.specs.declared.event.Event.TheVariants.{Deliver as Delivered}
 use Rattle.fw_flow.specs.declared.event.Message.{Message}
-use Rattle.fw_flow.specs.declared.step.Step.{Step}
 use Rattle.fw_flow.specs.declared.step.Step.TheVariants.{Deliver}
 use Rattle.fw_flow.specs.Dataflow.{System, Dataflow, kind_of, receiver, is_output_kind}
 use Rattle.fw_model.specs.History.{IsEnabled}
 use Rattle.fw_model.specs.Machine.{Machine, events, is_failed}
-use Rattle.fw_model.specs.Steps.{is_asked, silent, did, idle, StepsTo, with_event}
+use Rattle.fw_model.specs.Steps.{is_asked, silent, did, idle, LeadsTo, with_event}
 use Rattle.fw_record.specs.declared.record.Event.TheVariants as logged
 use Rattle.fw_keep.specs.Catalogue.{KeepState}
 use Rattle.fw_keep.specs.Stored.{Records}
@@ -26,12 +25,10 @@ use Rattle.fw_stands.proofs.EventTableLaws.{deliveries-can_be_taken_in, failed-i
 use Rattle.fw_running.specs.declared.running.Running.{Running}
 use Rattle.fw_running.specs.Shaped.{IsShaped}
 use Rattle.fw_running.specs.Kept.{queue_at, table_of, is_down}
-use Rattle.fw_running.specs.Logging.{with_keep, ChangesKeep, IsNotAsked, LogsEvent}
+use Rattle.fw_running.specs.Logging.{with_keep, ChangesKeep, LogsEvent}
 use Rattle.fw_running.specs.Stands.{Stands}
-use Rattle.fw_running.specs.declared.fault.EngineFault.{EngineFault}
-use Rattle.fw_running.specs.declared.fault.EngineFault.TheVariants as fault
-use Rattle.fw_running.specs.Steps.{Follows, Answers, IsLeftBy, IsUndamaged}
-use Rattle.fw_running.proofs.SameStateLaws.{down-failed, unasked-stands, idle-follows}
+use Rattle.fw_running.specs.Steps.{Follows, IsStepEnabled}
+use Rattle.fw_running.proofs.SameStateLaws.{down-failed, idle-follows}
 use Rattle.fw_events.specs.AfterEvent.{TakesEvent}
 use Rattle.fw_events.specs.declared.delivery.Next.{Next}
 use Rattle.fw_events.proofs.AskedLaws.{is_next, next_of, next-first}
@@ -48,15 +45,6 @@ queue-is sys running records state s each e = elim (cases_lt e (length sys.flow.
       let edges : length running.flow.edges ≡ length sys.flow.edges = ap (λ (f : Dataflow). length f.edges) s.flow in
       ap (λ (q : MessagesState). q.messages) (get_or_past running.parts.queues e nothing_there (omega arith)) ∙ sym (nothing-queued_past sys state e past)
 ]
-
--- a fault of the store while a write is asked leaves the state
-pub fault-leaves : (T : Type 0) (sys : System) (old new : Running) (before after : Option Records) (state : Machine) (step : Step) (e : EngineFault)
-    → Stands sys old before state → ChangesKeep old new → IsNotAsked old.parts.keep.entries new.parts.keep.entries before after
-    → IsUndamaged {T = T} (Err e) → ((P : Machine → Type 0) → P state → IsLeftBy sys state step P) → Answers sys state step (Err e) before new after
-fault-leaves T sys old new before after state step fault.StoreFault s c n u left =
-    left (λ next. Stands sys new after next) (unasked-stands sys old new before after state s c n)
-fault-leaves T sys old new before after state step (fault.Damaged id) s c n u left = absurd u
-fault-leaves T sys old new before after state step fault.NoMemory s c n u left = tt
 
 -- what takes an event after a write was asked takes it from before
 pub taken-from : (v : Event) (old mid new : Running) → ChangesKeep old mid → TakesEvent v mid new → TakesEvent v old new
@@ -129,6 +117,21 @@ receiver-has_table sys running records state e m s k live no_output none =
     ∙ ap (λ b. not (b || is_failed state p)) no_output ∙ ap not live in
     false≢true (sym (ap is_some none) ∙ there)
 
+-- what the queue has next the machine delivers
+delivery-leads : (sys : System) (state : Machine) (e : ℕ) (at : Option Stamp) (m : Message) (old : Running) (before : Option Records)
+    → Stands sys old before state → length old.parts.queues ≡ length old.flow.edges → next_queued old.flow e at (queue_at old e) ≡ Some m
+    → LeadsTo sys state (Deliver e at) (with_event sys state (Delivered e m)) silent
+delivery-leads sys state e at m old before s each k =
+    subst (IsDeliveryOf sys state e at) (next-is sys old before state e at (Some m) s each k) (deliveries-take_next sys state s.well_formed s.reached e at)
+
+-- where it is found, the step is enabled
+pub found-enabled : (sys : System) (state : Machine) (e : ℕ) (asked : Option Stamp) (n : Next) (old : Running) (before : Option Records)
+    → Stands sys old before state → IsShaped old → Some n ≡ option_map next_of (next_queued old.flow e asked (queue_at old e))
+    → IsStepEnabled sys state (Deliver e asked)
+found-enabled sys state e asked n old before s shaped some =
+    let next = is_next old e asked n some in
+    (with_event sys state (Delivered e next.m), silent, delivery-leads sys state e asked next.m old before s shaped.one_each.parts.queues next.next)
+
 -- an engine that takes what is next in and logs it, if its node logs each event, follows the machine
 pub delivery-follows : (sys : System) (state : Machine) (e : ℕ) (at : Option Stamp) (m : Message) (old new : Running) (before after : Option Records)
     → Stands sys old before state → length old.parts.queues ≡ length old.flow.edges
@@ -141,8 +144,7 @@ delivery-follows sys state e at m old new before after s each live k taken logs 
     sym (down-failed sys old before state s (receiver sys.flow e)) ∙ ap (λ f. is_down old (receiver f e)) (sym s.flow) ∙ live in
     let v = Delivered e m in
     let enabled = next-enabled sys old before state e at m s each k alive in
-    let steps : StepsTo sys state (Deliver e at) (with_event sys state v) (did silent) =
-    subst (IsDeliveryOf sys state e at) (next-is sys old before state e at (Some m) s each k) (deliveries-take_next sys state s.well_formed s.reached e at) in
+    let steps = delivery-leads sys state e at m old before s each k in
     let logs_it = subst (λ f. LogsEvent f (receiver f e) (logged.Deliver e m.at m.rec) old.parts.keep.entries new.parts.keep.entries before after) s.flow logs in
     record {
       next = with_event sys state v;

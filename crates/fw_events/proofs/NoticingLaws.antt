@@ -161,14 +161,21 @@ notice_stands sys state p t old new before after s live enabled taken logs =
     this_next : (sys : System) (h : List Event) (p : ℕ) (t : Stamp) → IsNotifiable sys h p t → IsNextNotice sys h p (Some t) t
     this_next sys h p t n = notice-asked sys h p t n
 
--- so it follows the machine
+-- the machine notifies of the one that is found
+notice-leads : (sys : System) (state : Machine) (p : ℕ) (at : Option Stamp) (t : Stamp) (old : Running) (before : Option Records)
+    → Stands sys old before state → is_down old p ≡ false → FindsNotice old.flow old.progress p at (Some t)
+    → LeadsTo sys state (Notify p at) (with_event sys state (Notified p t)) silent
+notice-leads sys state p at t old before s live found =
+    (t, found_enabled sys old before state p at t s found, sym (down-failed sys old before state s p) ∙ live, refl, refl)
+
+-- so the engine follows the machine
 pub notice_follows : (sys : System) (state : Machine) (p : ℕ) (at : Option Stamp) (t : Stamp) (old up new : Running) (before after : Option Records)
     → Stands sys old before state → is_down old p ≡ false → FindsNotice old.flow old.progress p at (Some t)
     → Stands sys new after (with_event sys state (Notified p t))
     → Follows sys state (Notify p at) (did silent) new after
 notice_follows sys state p at t old up new before after s live found stands = record {
   next = with_event sys state (Notified p t);
-  steps = (t, found_enabled sys old before state p at t s found, sym (down-failed sys old before state s p) ∙ live, refl, refl);
+  steps = notice-leads sys state p at t old before s live found;
   stands = stands;
 }
 
@@ -180,12 +187,14 @@ notice-leaves T sys old new before after state p t fault.StoreFault s c n u = un
 notice-leaves T sys old new before after state p t (fault.Damaged id) s c n u = absurd u
 notice-leaves T sys old new before after state p t fault.NoMemory s c n u = tt
 
--- what a notification answers at a fault the step answers
-pub fault-answers : (T : Type 0) (sys : System) (state : Machine) (p : ℕ) (t : Stamp) (at : Option Stamp) (e : EngineFault) (new : Running) (before after : Option Records)
+-- what a notification answers at a fault the step answers, where it is enabled
+pub fault-answers : (T : Type 0) (sys : System) (state : Machine) (p : ℕ) (t : Stamp) (at : Option Stamp) (e : EngineFault) (old new : Running) (before after : Option Records)
+    → Stands sys old before state → is_down old p ≡ false → FindsNotice old.flow old.progress p at (Some t)
     → AnswersNotice {T = T} sys state p t (Err e) new after → Answers sys state (Notify p at) (Err e) before new after
-fault-answers T sys state p t at fault.StoreFault new before after a = a
-fault-answers T sys state p t at (fault.Damaged id) new before after a = absurd a
-fault-answers T sys state p t at fault.NoMemory new before after a = tt
+fault-answers T sys state p t at fault.StoreFault old new before after s live found a =
+    ((with_event sys state (Notified p t), silent, notice-leads sys state p at t old before s live found), a)
+fault-answers T sys state p t at (fault.Damaged id) old new before after s live found a = absurd a
+fault-answers T sys state p t at fault.NoMemory old new before after s live found a = tt
 
 -- where the engine is asked of a stamp of which the node may be notified, after the kept frontiers are brought up
 pub notice-taken_up : {T : Type 0} (sys : System) (state : Machine) (p : ℕ) (at : Option Stamp) (t : Stamp) (old up new : Running) (before after : Option Records)

@@ -1,8 +1,8 @@
 //! The step of a delivery.
-ghost use Rattle.std.specs.Prelude.{◌≡◌, ◌≢◌, ◌≤◌, ◌<◌, ◌↔◌, ℕ, true, false, None, Some, find, length, IsTrue, IsErrOf, IfOk, IfSome, IfNone, OnOk, OnErr, is_some};
+ghost use Rattle.std.specs.Prelude.{◌≡◌, ◌≢◌, ◌<◌, ◌↔◌, ℕ, true, false, None, Some, find, length, IsTrue, IsErrOf, IfOk, IfSome, IfNone, OnOk, OnErr, is_some};
 ghost use Rattle.std.specs.Option.{option_copied, option_map};
 ghost use Rattle.std.specs.List.{Contains};
-ghost use Rattle.fw_outside.specs.Outside.{Rose};
+ghost use Rattle.fw_running.specs.Faults.{faults_after};
 ghost use Rattle.fw_time.specs.Stamp.{in_domain};
 ghost use Rattle.fw_flow.specs.declared.event.Event.TheVariants as events;
 ghost use Rattle.fw_flow.specs.declared.event.Message.{Message as Sent};
@@ -64,8 +64,7 @@ pub fn deliver<K: Store>(
     ensures stored { IsStored running.new.parts.keep (K.records store.new) }
     ensures flow { running.new.flow ≡ running.old.flow }
     ensures takes { TakesStep running.old (K.records store.old) (steps.Deliver edge (option_copied at.entry)) result running.new (K.records store.new) }
-    ensures fault { IsErrOf result EngineFault.StoreFault → Rose (K.fault_count store.old) (K.fault_count store.new) }
-    ensures never_falls { K.fault_count store.old ≤ K.fault_count store.new }
+    ensures faults { K.fault_count store.new ≡ faults_after result (K.fault_count store.old) }
     ensures undamaged { IsUndamaged result }
     ensures calls { IsErrOf result EngineFault.StoreFault → policy_of running.old.flow (receiver running.old.flow edge) ≡ policy.Full }
     ensures tells { is_some (K.records store.new) ≡ is_some (K.records store.old) }
@@ -144,9 +143,8 @@ fn log_delivery<K: Store>(
         running.old.parts.keep.entries running.new.parts.keep.entries (K.records store.old) (K.records store.new)) }
     ensures stays { OnErr result (IsNotAsked running.old.parts.keep.entries running.new.parts.keep.entries
         (K.records store.old) (K.records store.new)) }
-    ensures fault { IsErrOf result EngineFault.StoreFault → Rose (K.fault_count store.old) (K.fault_count store.new) }
+    ensures faults { K.fault_count store.new ≡ faults_after result (K.fault_count store.old) }
     ensures calls { IsErrOf result EngineFault.StoreFault → policy_of running.old.flow node ≡ policy.Full }
-    ensures never_falls { K.fault_count store.old ≤ K.fault_count store.new }
     ensures undamaged { IsUndamaged result }
     ensures tells { is_some (K.records store.new) ≡ is_some (K.records store.old) }
     ensures quiet { (policy_of running.old.flow node ≡ policy.Full → ⊥) → store.new ≡ store.old }

@@ -6,6 +6,8 @@ use Rattle.fw_flow.specs.declared.choice.Choice.{Choice}
 use Rattle.fw_flow.specs.declared.step.Step.TheVariants.{Recover}
 use Rattle.fw_flow.specs.Dataflow.{System, Dataflow}
 use Rattle.fw_model.specs.Machine.{Machine, Write, is_failed}
+use Rattle.fw_model.specs.Steps.{cuts}
+use Rattle.fw_model.proofs.ChoosingLaws.{failed-recovered}
 use Rattle.fw_model.proofs.Decisions.{two_ways}
 use Rattle.fw_record.specs.declared.record.Record.{Record}
 use Rattle.fw_record.specs.Spelling.{spelling}
@@ -27,7 +29,8 @@ use Rattle.fw_choose.specs.declared.viewing.Lost.TheVariants.{Failed}
 use Rattle.fw_choose.specs.Chosen.{IsChosenBy}
 use Rattle.fw_running.specs.Faults.{fault_of}
 use Rattle.fw_running.specs.Shaped.{IsShaped}
-use Rattle.fw_running.specs.Steps.{IsDamage, StaysShaped, TakesStep}
+use Rattle.fw_running.specs.Stands.{Stands}
+use Rattle.fw_running.specs.Steps.{IsDamage, IsStepEnabled, StaysShaped, TakesStep}
 use Rattle.fw_recover.proofs.RecoverLaws.{IsRecovered, recovered-stands}
 
 -- ---- whether a node is failed
@@ -55,15 +58,31 @@ recovery-idle old records none sys state s = λ trust. record {
   stands = s;
 }
 
--- where one is, the engine recovers to its choice
+-- where one is, it is so in each state for which the engine stands
+down-there : (old : Running) (records : Option Records) → IsShaped old → list_any (λ down. down) old.failed.items ≡ true
+    → (sys : System) (state : Machine) → Stands sys old records state → (q : ℕ) × (q < length sys.flow.nodes) × (is_failed state q ≡ true)
+down-there old records shaped some sys state s =
+    let q = some-any old.failed.items some in (
+      q.0,
+      subst (λ (flow : Dataflow). q.0 < length flow.nodes) s.flow (subst (λ n. q.0 < n) shaped.one_each.failed q.1),
+      ap (λ down. slice_index_or down q.0 false) (sym s.failed) ∙ q.2,
+    )
+
+-- a recovery is enabled there
+pub recovery-enabled : (old : Running) (records : Option Records) → IsShaped old → list_any (λ down. down) old.failed.items ≡ true
+    → (sys : System) (state : Machine) → Stands sys old records state → IsStepEnabled sys state Recover
+recovery-enabled old records shaped some sys state s =
+    let q = down-there old records shaped some sys state s in
+    let reached = s.reached in
+    let r = failed-recovered sys s.well_formed reached.0 reached.1 state reached.2 q.0 q.1 q.2 in
+    (r.0, cuts r.1, r.2)
+
+-- and the engine recovers to its choice
 pub recovery-done : (old new : Running) (records : Option Records) (choice : Choice) → IsShaped old → list_any (λ down. down) old.failed.items ≡ true
     → IsChosenBy old Failed choice → IsRecovered choice records old new → TakesStep old records Recover (Ok (Did (Cuts choice))) new records
 recovery-done old new records choice shaped some chosen made sys state s = λ trust.
-    let q = some-any old.failed.items some in
-    let there : q.0 < length sys.flow.nodes =
-    subst (λ (flow : Dataflow). q.0 < length flow.nodes) s.flow (subst (λ n. q.0 < n) shaped.one_each.failed q.1) in
-    recovered-stands sys records state choice old new s (chosen sys records state s) trust q.0 there
-    (ap (λ down. slice_index_or down q.0 false) (sym s.failed) ∙ q.2) made
+    let q = down-there old records shaped some sys state s in
+    recovered-stands sys records state choice old new s (chosen sys records state s) trust q.0 q.1 q.2 made
 
 -- ---- damage
 
@@ -98,13 +117,13 @@ damaged-stands old choice records got id bytes d sys state s = (
   s,
 )
 
--- what a refusal of the catalogue leaves
+-- what a refusal of the catalogue leaves, where a node is failed
 pub refusal-stands : (old : Running) (choice : Choice) (records : Option Records) (got : Option (ℕ × List ℕ)) (why : KeepFault)
-    → IsDamagedIfSaid {T = Unit {0}} old.flow choice records old.parts.keep.entries got (Err why)
+    → IsShaped old → list_any (λ down. down) old.failed.items ≡ true → IsDamagedIfSaid {T = Unit {0}} old.flow choice records old.parts.keep.entries got (Err why)
     → TakesStep old records Recover (Err (fault_of why)) old records
-refusal-stands old choice records got keep.StoreFault d sys state s = s
-refusal-stands old choice records got (keep.Damaged id bytes) d sys state s = damaged-stands old choice records got id bytes.items d sys state s
-refusal-stands old choice records got keep.NoMemory d sys state s = tt
+refusal-stands old choice records got keep.StoreFault shaped some d sys state s = (recovery-enabled old records shaped some sys state s, s)
+refusal-stands old choice records got (keep.Damaged id bytes) shaped some d sys state s = damaged-stands old choice records got id bytes.items d sys state s
+refusal-stands old choice records got keep.NoMemory shaped some d sys state s = tt
 
 pub refusal-shaped : (T : Type 0) (old : Running) (why : KeepFault) → IsShaped old → StaysShaped {T = T} (Err (fault_of why)) old
 refusal-shaped T old keep.StoreFault s = s
@@ -125,14 +144,14 @@ refusal-damage old choice records got keep.NoMemory d id e = absurd (cc e)
 
 -- what is kept where the parts were not restored
 pub refused-stands : (old : Running) (parts : Parts) (choice : Choice) (records after : Option Records) (got : Option (ℕ × List ℕ)) (why : KeepFault)
-    (r : Result Stepped EngineFault) → parts ≡ old.parts → after ≡ records → IsErrAnd r (λ e. e ≡ fault_of why)
+    (r : Result Stepped EngineFault) → IsShaped old → list_any (λ down. down) old.failed.items ≡ true → parts ≡ old.parts → after ≡ records → IsErrAnd r (λ e. e ≡ fault_of why)
     → IsDamagedIfSaid {T = Unit {0}} old.flow choice records old.parts.keep.entries got (Err why)
     → TakesStep old records Recover r (record old { parts = parts }) after
-refused-stands old parts choice records after got why (Ok x) same told is d = absurd is
-refused-stands old parts choice records after got why (Err e) same told is d =
+refused-stands old parts choice records after got why (Ok x) shaped some same told is d = absurd is
+refused-stands old parts choice records after got why (Err e) shaped some same told is d =
     subst (λ x. TakesStep old records Recover (Err e) (record old { parts = x }) after) (sym same)
     (subst (λ x. TakesStep old records Recover (Err e) old x) (sym told)
-    (subst (λ x. TakesStep old records Recover (Err x) old records) (sym is) (refusal-stands old choice records got why d)))
+    (subst (λ x. TakesStep old records Recover (Err x) old records) (sym is) (refusal-stands old choice records got why shaped some d)))
 
 -- the damage that is told then
 pub refused-damage : (old : Running) (choice : Choice) (records : Option Records) (got : Option (ℕ × List ℕ)) (why : KeepFault) (r : Result Stepped EngineFault)

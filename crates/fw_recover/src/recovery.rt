@@ -1,7 +1,7 @@
 //! The step of a recovery.
-ghost use Rattle.std.specs.Prelude.{◌≡◌, ◌≤◌, ℕ, IsErrOf, OnOk, is_some};
+ghost use Rattle.std.specs.Prelude.{◌≡◌, ℕ, IsErrOf, OnOk, is_some};
 ghost use Rattle.std.specs.List.{list_any};
-ghost use Rattle.fw_outside.specs.Outside.{Rose};
+ghost use Rattle.fw_running.specs.Faults.{faults_after};
 ghost use Rattle.fw_flow.specs.declared.step.Step.TheVariants as steps;
 ghost use Rattle.fw_keep.specs.Stored.{IsStored};
 ghost use Rattle.fw_monitor.specs.Chosen.{IsChoiceOf};
@@ -27,8 +27,7 @@ pub fn recover<K: Store>(running: &mut Running, store: &mut K) -> Result<Stepped
     ensures stored { IsStored running.new.parts.keep (K.records store.new) }
     ensures flow { running.new.flow ≡ running.old.flow }
     ensures takes { TakesStep running.old (K.records store.old) steps.Recover result running.new (K.records store.new) }
-    ensures fault { IsErrOf result EngineFault.StoreFault → Rose (K.fault_count store.old) (K.fault_count store.new) }
-    ensures never_falls { K.fault_count store.old ≤ K.fault_count store.new }
+    ensures faults { K.fault_count store.new ≡ faults_after result (K.fault_count store.old) }
     ensures damaged { (id : ℕ) → IsErrOf result (EngineFault.Damaged id) → IsDamage running.old id (K.given store.new) }
     ensures tells { is_some (K.records store.new) ≡ is_some (K.records store.old) }
 {

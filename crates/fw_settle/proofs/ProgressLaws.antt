@@ -29,17 +29,17 @@ use Rattle.fw_stands.proofs.EntrySteps.{entries_after_asking, records_after_aski
 use Rattle.fw_stands.proofs.KeptLaws.{no_more-idle}
 use Rattle.fw_stands.proofs.SettlingLaws.{settled_tables-stand, ungrown_tables-stay, no_tables-stay, all_settled_traces-stand, progress-keeps}
 use Rattle.fw_running.specs.declared.fault.EngineFault.{EngineFault}
-use Rattle.fw_running.specs.declared.fault.EngineFault.TheVariants as fault
 use Rattle.fw_running.specs.declared.running.Running.{Running}
 use Rattle.fw_running.specs.declared.stepped.Effect.TheVariants.{Silent}
 use Rattle.fw_running.specs.declared.stepped.Stepped.TheVariants.{Did, Idle}
 use Rattle.fw_running.specs.BroughtUp.{IsBroughtUp}
+use Rattle.fw_running.proofs.AnswerLaws.{left-answers}
 use Rattle.fw_running.proofs.BroughtUpLaws.{brought_up_stands}
 use Rattle.fw_running.specs.Kept.{table_of, source_of}
 use Rattle.fw_running.specs.Logging.{with_keep, ChangesKeep}
 use Rattle.fw_running.specs.Shaped.{IsShaped}
 use Rattle.fw_running.specs.Stands.{Stands}
-use Rattle.fw_running.specs.Steps.{Follows, Answers, TakesStep, IsEnabledFrom, IsUndamaged}
+use Rattle.fw_running.specs.Steps.{Follows, TakesStep, IsStepEnabled, IsUndamaged}
 use Rattle.fw_settle.proofs.SettleLaws.{past-grows}
 use Rattle.fw_settle.proofs.WritesLaws.{kept-stands}
 use Rattle.fw_settle.specs.Settling.{grows, NoneGrowsIn, IsNextToSettle, KeepsEntries, HaveAsked, with_settled, ChangesSettled, IsTableSettled, settles_traces, HaveSettled, Progresses}
@@ -199,13 +199,6 @@ progress-idle sys state mid records s complete none = record {
   stands = s;
 }
 
--- a fault that is no damage leaves the state
-fault-answers : (sys : System) (state : Machine) (e : EngineFault) (new : Running) (before after : Option Records) → IsUndamaged {T = Unit {0}} (Err e)
-    → Stands sys new after state → Answers sys state ProgressStep (Err e) before new after
-fault-answers sys state fault.StoreFault new before after u s = s
-fault-answers sys state (fault.Damaged id) new before after u s = absurd u
-fault-answers sys state fault.NoMemory new before after u s = tt
-
 -- ---- the answers of the step
 
 -- what is kept is complete once it is brought up
@@ -224,11 +217,6 @@ pub did-takes : (old mid new : Running) (before after : Option Records) (p : ℕ
     → Progresses mid new before after → TakesStep old before ProgressStep (Ok (Did Silent)) new after
 did-takes old mid new before after p up shaped first does = λ sys state s trust.
     progress-follows sys state mid new before after p (brought_up_stands sys state old mid before s up) shaped (up-complete sys state old mid before s up) first does
-
-pub fault-takes : (old mid new : Running) (before after : Option Records) (e : EngineFault) → IsBroughtUp old mid → ChangesKeep mid new
-    → KeepsEntries mid.parts.keep.entries new.parts.keep.entries before after → IsUndamaged {T = Unit {0}} (Err e) → TakesStep old before ProgressStep (Err e) new after
-fault-takes old mid new before after e up c k u = λ sys state s.
-    fault-answers sys state e new before after u (kept-stands sys mid new before after state (brought_up_stands sys state old mid before s up) c k)
 
 -- asking and settling are the step
 pub progresses : (mid asked new : Running) (before after : Option Records) → ChangesKeep mid asked → HaveAsked (length mid.flow.nodes) mid asked before after
@@ -289,10 +277,18 @@ all-grown mid shaped = record {
 }
 
 -- where some node is to settle, the step is enabled
-pub progress-enabled : (old mid : Running) (before : Option Records) (p : ℕ) → IsBroughtUp old mid → IsShaped mid → IsNextToSettle mid 0 p
-    → IsEnabledFrom old before ProgressStep
-progress-enabled old mid before p up shaped first = λ sys state s.
+progress-enabled : (sys : System) (state : Machine) (mid : Running) (records : Option Records) (p : ℕ) → Stands sys mid records state → IsShaped mid
+    → IsComplete sys (events state.history) (family_of sys.flow mid.progress.kept) → IsNextToSettle mid 0 p → IsStepEnabled sys state ProgressStep
+progress-enabled sys state mid records p s shaped complete first =
     let settled = all_settled mid in
-    let to = settled-to sys state mid before settled p (brought_up_stands sys state old mid before s up) shaped (up-complete sys state old mid before s up)
-    first.there first.is (all-grown mid shaped) in
+    let to = settled-to sys state mid records settled p s shaped complete first.there first.is (all-grown mid shaped) in
     (settled_state sys state settled, silent, (family_of sys.flow mid.progress.kept, settled, to.grown, refl, refl))
+
+-- so it is where asking fails, and what was asked is withdrawn
+pub fault-takes : (old mid new : Running) (before after : Option Records) (p : ℕ) (e : EngineFault) → IsBroughtUp old mid → IsShaped mid → IsNextToSettle mid 0 p
+    → ChangesKeep mid new → KeepsEntries mid.parts.keep.entries new.parts.keep.entries before after → IsUndamaged {T = Unit {0}} (Err e)
+    → TakesStep old before ProgressStep (Err e) new after
+fault-takes old mid new before after p e up shaped first c k u = λ sys state s.
+    let stands = brought_up_stands sys state old mid before s up in
+    left-answers (Unit {0}) sys state ProgressStep e new before after u
+    (progress-enabled sys state mid before p stands shaped (up-complete sys state old mid before s up) first, kept-stands sys mid new before after state stands c k)

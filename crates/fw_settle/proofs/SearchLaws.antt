@@ -7,7 +7,6 @@ use Rattle.fw_flow.specs.Dataflow.{policy_of}
 use Rattle.fw_model.specs.Machine.{front_of}
 use Rattle.fw_model.specs.Steps.{is_eager}
 use Rattle.fw_keep.specs.Stored.{Records}
-use Rattle.fw_outside.specs.Outside.{Rose}
 use Rattle.fw_progress.specs.Settle.{has_more}
 use Rattle.fw_running.specs.declared.running.Running.{Running}
 use Rattle.fw_running.specs.Kept.{is_down}
@@ -111,13 +110,6 @@ down-none running p e = ap (λ b. not b && has_more (front_of running.progress.k
 
 pub keep-both : (old mid new : Running) → ChangesKeep old mid → ChangesKeep mid new → ChangesKeep old new
 keep-both old mid new a b = b ∙ ap (with_keep new.parts.keep) a
-
-pub rose-later : (a b c : ℕ) → a ≤ b → b ≤ c → Rose b c → Rose a c
-rose-later a b c l m (inl r) = inl (omega (arith, l, r))
-rose-later a b c l m (inr e) = elim (cases_lt a b) [
-  | inl k ↦ inl (omega (arith, k, m))
-  | inr k ↦ inr (omega (arith, k, l, e))
-]
 
 -- ---- node after node: what is asked
 

@@ -1,6 +1,5 @@
 -- Steps that change what is written alone: a checkpoint is asked, and a write is acknowledged.
-use Rattle.std.proofs.Common.{◌≡◌, ◌≢◌, ℕ, ◌<◌, ◌++◌, Bool, true, false, cond, List, [], ◌∷◌, length, Option, Some, None, refl, sym, ap, subst, ◌∙◌}
-use Rattle.std.specs.Prelude.{Err}
+use Rattle.std.proofs.Common.{◌≡◌, ℕ, ◌<◌, ◌++◌, Bool, true, false, cond, List, [], ◌∷◌, length, Option, Some, None, refl, sym, ap, subst, ◌∙◌}
 use Rattle.std.specs.List.{AllByRecursion}
 use Rattle.std.proofs.lemmas.Iterator.Adapters.{option_map_id}
 use Rattle.fw_frontier.specs.Frontier.{Within}
@@ -42,9 +41,7 @@ use Rattle.fw_running.specs.Kept.{table_of, source_of}
 use Rattle.fw_running.specs.Logging.{with_keep, ChangesKeep}
 use Rattle.fw_running.specs.Shaped.{IsShaped, IsWrittenOf}
 use Rattle.fw_running.specs.Stands.{Stands}
-use Rattle.fw_running.specs.declared.fault.EngineFault.{EngineFault}
-use Rattle.fw_running.specs.declared.fault.EngineFault.TheVariants as fault
-use Rattle.fw_running.specs.Steps.{Answers, Follows, IsUndamaged}
+use Rattle.fw_running.specs.Steps.{Follows, IsStepEnabled}
 use Rattle.fw_settle.proofs.CheckpointLaws.{within-front}
 use Rattle.fw_settle.proofs.MadeLaws.{made-for, made-sound}
 use Rattle.fw_settle.proofs.ShapeLaws.{shaped-keep}
@@ -203,22 +200,33 @@ asked-takes policy.Logged e = refl
 asked-takes policy.Eager e = absurd (two_ways false e refl)
 asked-takes policy.Full e = absurd (two_ways false e refl)
 
--- a node that is asked for checkpoints takes one where what is settled is not the frontier of its last one
+-- where the engine says that a node may take a checkpoint, the machine takes it
+checkpoint-leads : (sys : System) (state : Machine) (old : Running) (records : Option Records) → Stands sys old records state
+    → (p : ℕ) → MayTakeCheckpoint old p → (next : Machine) × LeadsTo sys state (CheckpointStep p) next silent
+checkpoint-leads sys state old records s p m =
+    (takes_checkpoints_by_last_entry sys s.well_formed state s.reached old.parts.keep.entries s.entries p
+    (ap (λ f. is_asked_for_checkpoints (policy_of f p)) (sym s.flow) ∙ m.asks) (sym (down-failed sys old records state s p) ∙ m.live)).0
+    (λ e. m.other (ap (λ fs. front_of fs p) s.settled ∙ e ∙ ap (λ f. last_or (no_stamps (bounds_of f p)) (entry_fronts p old.parts.keep.entries)) (sym s.flow)))
+
+-- so the step is enabled there
+pub checkpoint-enabled : (sys : System) (state : Machine) (old : Running) (records : Option Records) → Stands sys old records state
+    → (p : ℕ) → MayTakeCheckpoint old p → IsStepEnabled sys state (CheckpointStep p)
+checkpoint-enabled sys state old records s p m = let e = checkpoint-leads sys state old records s p m in (e.0, silent, e.1)
+
+-- a node that takes a checkpoint, as the machine does, follows it
 pub checkpoint-follows : (sys : System) (state : Machine) (old new : Running) (before after : Option Records) → Stands sys old before state → ChangesKeep old new
-    → (p : ℕ) → is_asked_for_checkpoints (policy_of sys.flow p) ≡ true → is_failed state p ≡ false
-    → front_of state.settled p ≢ last_or (no_stamps (bounds_of sys.flow p)) (entry_fronts p old.parts.keep.entries)
+    → (p : ℕ) → ((next : Machine) × LeadsTo sys state (CheckpointStep p) next silent)
     → AsksCheckpoint p (front_of state.settled p) old new before after → Follows sys state (CheckpointStep p) (did silent) new after
-checkpoint-follows sys state old new before after s changes p asks live other a =
+checkpoint-follows sys state old new before after s changes p e a =
     let f = front_of state.settled p in
-    let takes = asked-takes (policy_of sys.flow p) asks in
+    let t = e.1 in
+    let takes = asked-takes (policy_of sys.flow p) t.0 in
     let l = takes-declared sys.flow p takes in
     let entries = old.parts.keep.entries in
-    let e = (takes_checkpoints_by_last_entry sys s.well_formed state s.reached entries s.entries p asks live).0 other in
-    let t = e.1 in
     let writes = state.writes ++ checkpoint_of state p f ∷ [] in
     let next : Machine = record state { writes = writes } in
     let u : LeadsTo sys state (CheckpointStep p) next silent = (t.0, t.1, t.2, refl, refl) in
-    let can = can-be_made sys old before state s p f takes live (reached-settled sys state s.well_formed s.reached p l) (λ v i. i) in
+    let can = can-be_made sys old before state s p f takes t.1 (reached-settled sys state s.well_formed s.reached p l) (λ v i. i) in
     let more = checkpoint_of state p f ∷ [] in
     let entry = asked a.asked.id (tagged.State a.checkpoint) a.stamps in
     let held : AreEntriesOf sys next new.parts.keep.entries (uncollected next) =
@@ -240,9 +248,7 @@ pub may-follows : (sys : System) (state : Machine) (old new : Running) (before a
     → (p : ℕ) → MayTakeCheckpoint old p → AsksCheckpoint p (front_of old.progress.settled p) old new before after
     → Follows sys state (CheckpointStep p) (did silent) new after
 may-follows sys state old new before after s c p m a =
-    checkpoint-follows sys state old new before after s c p (ap (λ f. is_asked_for_checkpoints (policy_of f p)) (sym s.flow) ∙ m.asks)
-    (sym (down-failed sys old before state s p) ∙ m.live)
-    (λ e. m.other (ap (λ fs. front_of fs p) s.settled ∙ e ∙ ap (λ f. last_or (no_stamps (bounds_of f p)) (entry_fronts p old.parts.keep.entries)) (sym s.flow)))
+    checkpoint-follows sys state old new before after s c p (checkpoint-leads sys state old before s p m)
     (subst (λ fs. AsksCheckpoint p (front_of fs p) old new before after) s.settled a)
 
 -- and else nothing happens
@@ -279,10 +285,3 @@ persisted-shaped old keep s e =
 -- a node that may take a checkpoint is there
 pub may-there : (running : Running) (p : ℕ) → MayTakeCheckpoint running p → p < length running.flow.nodes
 may-there running p m = takes-declared running.flow p (asked-takes (policy_of running.flow p) m.asks)
-
--- a fault leaves the state
-pub fault-leaves : (sys : System) (state : Machine) (p : ℕ) (e : EngineFault) (new : Running) (before after : Option Records) → IsUndamaged {T = Unit {0}} (Err e)
-    → Stands sys new after state → Answers sys state (CheckpointStep p) (Err e) before new after
-fault-leaves sys state p fault.StoreFault new before after u s = s
-fault-leaves sys state p (fault.Damaged id) new before after u s = absurd u
-fault-leaves sys state p fault.NoMemory new before after u s = tt

@@ -1,6 +1,6 @@
 //! Writes are asked.
-ghost use Rattle.std.specs.Prelude.{◌≡◌, ◌<◌, ◌≤◌, ◌++◌, List, Option, length, IsErrOf, OnOk, OnErr, is_some};
-ghost use Rattle.fw_outside.specs.Outside.{Rose};
+ghost use Rattle.std.specs.Prelude.{◌≡◌, ◌<◌, ◌++◌, List, Option, length, OnOk, OnErr, is_some};
+ghost use Rattle.fw_running.specs.Faults.{faults_after};
 ghost use Rattle.fw_frontier.specs.Front.{IsCanonical};
 ghost use Rattle.fw_flow.specs.Dataflow.{bounds_of};
 ghost use Rattle.fw_keep.specs.declared.entry.Entry.{Entry as Write};
@@ -9,7 +9,7 @@ ghost use Rattle.fw_keep.specs.Stored.{Records, IsStored};
 ghost use Rattle.fw_settle.specs.Checkpoints.{AsksCheckpoint};
 ghost use Rattle.fw_running.specs.Shaped.{IsShaped};
 ghost use Rattle.fw_running.specs.Steps.{IsUndamaged};
-ghost use Rattle.fw_running.specs.Logging.{ChangesKeep, IsAsked, IsNotAsked};
+ghost use Rattle.fw_running.specs.Logging.{ChangesKeep, IsNotAsked};
 
 use crate::checking::{is_countable, is_of_domains};
 use crate::record::checkpoint_at;
@@ -38,8 +38,7 @@ pub(crate) fn ask_checkpoint<K: Store>(
     ensures asked { OnOk result (AsksCheckpoint node front.now running.old running.new (K.records store.old) (K.records store.new)) }
     ensures stays { OnErr result (IsNotAsked running.old.parts.keep.entries running.new.parts.keep.entries
         (K.records store.old) (K.records store.new)) }
-    ensures fault { IsErrOf result EngineFault.StoreFault → Rose (K.fault_count store.old) (K.fault_count store.new) }
-    ensures never_falls { K.fault_count store.old ≤ K.fault_count store.new }
+    ensures faults { K.fault_count store.new ≡ faults_after result (K.fault_count store.old) }
     ensures undamaged { IsUndamaged result }
     ensures tells { is_some (K.records store.new) ≡ is_some (K.records store.old) }
 {

@@ -1,12 +1,12 @@
 //! The steps of writes: a checkpoint is asked, and a write is acknowledged.
-ghost use Rattle.std.specs.Prelude.{◌≡◌, ◌↔◌, ◌<◌, ◌≤◌, ℕ, List, length, Option, Ok, IsTrue, IsErrOf, unwrap_or, is_some, true};
+ghost use Rattle.std.specs.Prelude.{◌≡◌, ◌↔◌, ◌<◌, ℕ, List, length, Option, Ok, IsTrue, IsErrOf, unwrap_or, is_some, true};
 ghost use Rattle.std.specs.Option.{option_copied};
 ghost use Rattle.fw_frontier.specs.Front.{IsCanonical};
 ghost use Rattle.fw_flow.specs.Dataflow.{bounds_of, policy_of};
 ghost use Rattle.fw_model.specs.Machine.{front_of, no_stamps};
 ghost use Rattle.fw_model.specs.Steps as steps_of;
 ghost use Rattle.fw_model.specs.Steps.{last_or};
-ghost use Rattle.fw_outside.specs.Outside.{Rose};
+ghost use Rattle.fw_running.specs.Faults.{faults_after};
 ghost use Rattle.fw_flow.specs.declared.step.Step.TheVariants as steps;
 ghost use Rattle.fw_keep.specs.Stored.{Records, IsStored};
 ghost use Rattle.fw_stands.specs.LawsOfEntries.{entry_fronts};
@@ -33,8 +33,7 @@ pub fn checkpoint<K: Store>(
     ensures stored { IsStored running.new.parts.keep (K.records store.new) }
     ensures flow { running.new.flow ≡ running.old.flow }
     ensures takes { TakesStep running.old (K.records store.old) (steps.Checkpoint node) result running.new (K.records store.new) }
-    ensures fault { IsErrOf result EngineFault.StoreFault → Rose (K.fault_count store.old) (K.fault_count store.new) }
-    ensures never_falls { K.fault_count store.old ≤ K.fault_count store.new }
+    ensures faults { K.fault_count store.new ≡ faults_after result (K.fault_count store.old) }
     ensures undamaged { IsUndamaged result }
     ensures tells { is_some (K.records store.new) ≡ is_some (K.records store.old) }
     ensures calls { IsErrOf result EngineFault.StoreFault → steps_of.is_asked_for_checkpoints (policy_of running.old.flow node) ≡ true }

@@ -1,6 +1,6 @@
 //! The step of progress.
-ghost use Rattle.std.specs.Prelude.{◌≡◌, ◌↔◌, ◌<◌, ◌≤◌, Some, true, length, IsTrue, IsErrOf, OnOk, OnErr, is_some};
-ghost use Rattle.fw_outside.specs.Outside.{Rose};
+ghost use Rattle.std.specs.Prelude.{◌≡◌, ◌↔◌, ◌<◌, Some, true, length, IsTrue, IsErrOf, OnOk, OnErr, is_some};
+ghost use Rattle.fw_running.specs.Faults.{faults_after};
 ghost use Rattle.fw_flow.specs.declared.step.Step.TheVariants as steps;
 ghost use Rattle.fw_frontier.specs.Front.{IsCanonical};
 ghost use Rattle.fw_flow.specs.Dataflow.{bounds_of, policy_of};
@@ -10,7 +10,7 @@ ghost use Rattle.fw_keep.specs.Stored.{IsStored};
 ghost use Rattle.fw_progress.specs.Settle.{IsGrownAt, has_more};
 ghost use Rattle.fw_running.specs.Logging.{ChangesKeep, IsNotAsked};
 ghost use Rattle.fw_running.specs.Shaped.{IsShaped};
-ghost use Rattle.fw_running.specs.Steps.{TakesStep, StaysShaped, IsUndamaged, HasEager, IsEnabledFrom};
+ghost use Rattle.fw_running.specs.Steps.{TakesStep, StaysShaped, IsUndamaged, HasEager};
 ghost use Rattle.fw_settle.specs.Settling.{grows, IsFoundToSettle, IsFoundLive, AddsEntries, KeepsEntries, AsksIfEager, HaveAsked, with_tables, with_traces, ChangesSettled, SettlesTable, SettlesTraces, SettlesTo, SettlesKept, HaveSettled};
 
 use crate::asking::{ask_checkpoint, withdraw_from};
@@ -28,13 +28,11 @@ pub fn progress<K: Store>(running: &mut Running, store: &mut K) -> Result<Steppe
     ensures stored { IsStored running.new.parts.keep (K.records store.new) }
     ensures flow { running.new.flow ≡ running.old.flow }
     ensures takes { TakesStep running.old (K.records store.old) steps.Progress result running.new (K.records store.new) }
-    ensures fault { IsErrOf result EngineFault.StoreFault → Rose (K.fault_count store.old) (K.fault_count store.new) }
-    ensures never_falls { K.fault_count store.old ≤ K.fault_count store.new }
+    ensures faults { K.fault_count store.new ≡ faults_after result (K.fault_count store.old) }
     ensures undamaged { IsUndamaged result }
     ensures tells { is_some (K.records store.new) ≡ is_some (K.records store.old) }
     ensures calls { IsErrOf result EngineFault.StoreFault → HasEager running.old.flow }
     ensures quiet { (HasEager running.old.flow → ⊥) → store.new ≡ store.old }
-    ensures enabled { IsErrOf result EngineFault.StoreFault → IsEnabledFrom running.old (K.records store.old) steps.Progress }
 {
     running.refresh()?;
     let Some(_first) = grown_from(running, 0) else {
@@ -86,8 +84,7 @@ fn ask_eager<K: Store>(running: &mut Running, store: &mut K) -> Result<(), Engin
     ensures asked { OnOk result (HaveAsked (length running.old.flow.nodes) running.old running.new (K.records store.old) (K.records store.new)) }
     ensures stays { OnErr result (KeepsEntries running.old.parts.keep.entries running.new.parts.keep.entries
         (K.records store.old) (K.records store.new)) }
-    ensures fault { IsErrOf result EngineFault.StoreFault → Rose (K.fault_count store.old) (K.fault_count store.new) }
-    ensures never_falls { K.fault_count store.old ≤ K.fault_count store.new }
+    ensures faults { K.fault_count store.new ≡ faults_after result (K.fault_count store.old) }
     ensures undamaged { IsUndamaged result }
     ensures tells { is_some (K.records store.new) ≡ is_some (K.records store.old) }
     ensures calls { IsErrOf result EngineFault.StoreFault → HasEager running.old.flow }
@@ -112,8 +109,7 @@ fn ask_each<K: Store>(running: &mut Running, store: &mut K) -> Result<(), Engine
     ensures stored { IsStored running.new.parts.keep (K.records store.new) }
     ensures asked { OnOk result (HaveAsked (length running.old.flow.nodes) running.old running.new (K.records store.old) (K.records store.new)) }
     ensures adds { AddsEntries running.old.parts.keep.entries running.new.parts.keep.entries (K.records store.old) (K.records store.new) }
-    ensures fault { IsErrOf result EngineFault.StoreFault → Rose (K.fault_count store.old) (K.fault_count store.new) }
-    ensures never_falls { K.fault_count store.old ≤ K.fault_count store.new }
+    ensures faults { K.fault_count store.new ≡ faults_after result (K.fault_count store.old) }
     ensures undamaged { IsUndamaged result }
     ensures tells { is_some (K.records store.new) ≡ is_some (K.records store.old) }
     ensures calls { IsErrOf result EngineFault.StoreFault → HasEager running.old.flow }
@@ -143,8 +139,7 @@ fn ask_if_eager<K: Store>(
     ensures asked { OnOk result (AsksIfEager node running.old running.new (K.records store.old) (K.records store.new)) }
     ensures stays { OnErr result (IsNotAsked running.old.parts.keep.entries running.new.parts.keep.entries
         (K.records store.old) (K.records store.new)) }
-    ensures fault { IsErrOf result EngineFault.StoreFault → Rose (K.fault_count store.old) (K.fault_count store.new) }
-    ensures never_falls { K.fault_count store.old ≤ K.fault_count store.new }
+    ensures faults { K.fault_count store.new ≡ faults_after result (K.fault_count store.old) }
     ensures undamaged { IsUndamaged result }
     ensures tells { is_some (K.records store.new) ≡ is_some (K.records store.old) }
     ensures calls { IsErrOf result EngineFault.StoreFault → steps_of.is_eager (policy_of running.old.flow node) ≡ true }

@@ -1,6 +1,8 @@
-use Rattle.std.proofs.Common.{Option, subst, ℕ}
+use Rattle.std.proofs.Common.{Option, ap, subst, ℕ}
+use Rattle.fw_running.specs.declared.running.Running.{Running}
 use Rattle.fw_running.specs.Places.{IsFirstWhere}
 use Rattle.fw_running.specs.Ready.{CanDeliver}
+use Rattle.fw_engine.proofs.QuietLaws.{delivery-quiet, quiet-later}
 use Rattle.fw_engine.proofs.TakenFirstLaws.{deliver-first, deliver-later}
 use Rattle.fw_engine.proofs.auto.deliver_first.Goals as goal
 
@@ -20,3 +22,16 @@ returns-in-None-clause-takes g c =
     deliver-later old mid (record old.ready { edges = mid.ready.edges }) c.notify_first.new.running (g.K.Store.records c.args.store.now)
     (g.K.Store.records c.notify_first.new.store) c.notify_first.result c.first_deliverable.ensures.others
     (subst (λ (found : Option ℕ). IsFirstWhere (CanDeliver old) found) c.in-None.is c.first_deliverable.ensures.first) c.notify_first.ensures.takes
+
+pub returns-in-Some-clause-quiet : goal.returns-in-Some-clause-quiet
+returns-in-Some-clause-quiet g c = λ none.
+    let old = c.args.running.now in
+    let mid = c.first_deliverable.new.running in
+    let first = subst (λ (found : Option ℕ). IsFirstWhere (CanDeliver old) found) c.in-Some.is c.first_deliverable.ensures.first in
+    c.deliver.ensures.quiet (delivery-quiet old mid (record old.ready { edges = mid.ready.edges }) c.in-Some.edge c.first_deliverable.ensures.others first.0 none)
+
+pub returns-in-None-clause-quiet : goal.returns-in-None-clause-quiet
+returns-in-None-clause-quiet g c = λ none.
+    let old = c.args.running.now in
+    let mid = c.first_deliverable.new.running in
+    c.notify_first.ensures.quiet (quiet-later old.flow mid.flow (ap (λ (r : Running). r.flow) c.first_deliverable.ensures.others) none)

@@ -1,11 +1,13 @@
-use Rattle.std.proofs.Common.{Option, Result, sym, subst}
+use Rattle.std.proofs.Common.{◌≡◌, Option, Result, sym, subst}
 use Rattle.fw_keep.specs.Stored.{IsStored}
 use Rattle.fw_rollback.specs.declared.parts.Parts.{Parts}
 use Rattle.fw_running.specs.declared.fault.EngineFault.{EngineFault}
 use Rattle.fw_running.specs.declared.stepped.Stepped.{Stepped}
+use Rattle.fw_running.specs.Faults.{faults_after}
 use Rattle.fw_running.specs.Steps.{AnswersFirst}
 use Rattle.fw_engine.specs.declared.auto.Notice.{Notice}
 use Rattle.fw_engine.specs.Searching.{IsFirstNotified}
+use Rattle.fw_engine.proofs.QuietLaws.{notification-quiet, quiet-later}
 use Rattle.fw_engine.proofs.TakenFirstLaws.{from-err, notify-err, notify-first, notify-later}
 use Rattle.fw_engine.proofs.auto.notify_first.Goals as goal
 
@@ -37,3 +39,26 @@ returns-clause-takes g c =
     let first = subst (λ (found : Option Notice). IsFirstNotified old found) c.in-Some.is c.in_ok-notice.ensures.first in
     notify-first _ old c.first_notice.new.running c.notify_of.new.running (g.K.Store.records c.args.store.now) (g.K.Store.records c.notify_of.new.store)
     c.in-Some.notice.node c.in-Some.notice.at c.in_ok-notify_of.field-0 c.in_ok-notice.ensures.searched first.0 first.1 c.in_ok-notify_of.ensures.takes
+
+pub returns-in_default-clause-quiet : goal.returns-in_default-clause-quiet
+returns-in_default-clause-quiet g c = λ none.
+    c.settle_first.ensures.quiet (quiet-later c.args.running.now.flow c.first_notice.new.running.flow c.first_notice.ensures.flow none)
+
+pub returns-in_err-notify_of-clause-quiet : goal.returns-in_err-notify_of-clause-quiet
+returns-in_err-notify_of-clause-quiet g c = λ none.
+    let old = c.args.running.now in
+    let first = subst (λ (found : Option Notice). IsFirstNotified old found) c.in-Some.is c.in_ok-notice.ensures.first in
+    c.notify_of.ensures.quiet (notification-quiet old.flow c.first_notice.new.running.flow c.in-Some.notice.node c.first_notice.ensures.flow first.0.owing.there none)
+
+pub returns-clause-quiet : goal.returns-clause-quiet
+returns-clause-quiet g c = λ none.
+    let old = c.args.running.now in
+    let first = subst (λ (found : Option Notice). IsFirstNotified old found) c.in-Some.is c.in_ok-notice.ensures.first in
+    c.notify_of.ensures.quiet (notification-quiet old.flow c.first_notice.new.running.flow c.in-Some.notice.node c.first_notice.ensures.flow first.0.owing.there none)
+
+pub returns-in_err-notify_of-clause-faults : goal.returns-in_err-notify_of-clause-faults
+returns-in_err-notify_of-clause-faults g c =
+    let before = g.K.Store.fault_count c.args.store.now in
+    from-err c.from_residual-in_err-notify_of.result c.in_err-notify_of.field-0.0
+    (λ (r : Result Stepped EngineFault). g.K.Store.fault_count c.notify_of.new.store ≡ faults_after r before)
+    c.from_residual-in_err-notify_of.ensures.1 c.in_err-notify_of.ensures.faults

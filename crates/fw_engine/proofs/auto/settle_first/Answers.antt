@@ -1,14 +1,14 @@
-use Rattle.std.proofs.Common.{Ok, Result, subst}
+use Rattle.std.proofs.Common.{◌≡◌, Ok, Result, subst, ◌∙◌}
 use Rattle.fw_flow.specs.declared.step.Step.TheVariants.{Progress}
 use Rattle.fw_stands.specs.LawsOfFirstSteps.{NoneToNotify, NoneToSettle}
 use Rattle.fw_stands.proofs.TakingLaws.{progress-next}
-use Rattle.fw_flow.specs.Dataflow.{Dataflow}
 use Rattle.fw_running.specs.declared.fault.EngineFault.{EngineFault}
 use Rattle.fw_running.specs.declared.stepped.Stepped.{Stepped}
-use Rattle.fw_running.specs.Steps.{HasEager, TakesStep}
+use Rattle.fw_running.specs.Faults.{faults_after}
+use Rattle.fw_running.specs.Steps.{TakesStep}
 use Rattle.fw_engine.specs.Searching.{TakesFirstAfter}
-use Rattle.fw_engine.proofs.FirstCallLaws.{progress-calls}
-use Rattle.fw_engine.proofs.TakenFirstLaws.{did-first, err-first, from-err, idle-later}
+use Rattle.fw_engine.proofs.QuietLaws.{progress-may_call, unfaulted-counts}
+use Rattle.fw_engine.proofs.TakenFirstLaws.{did-first, from-err, idle-later, settle-err}
 use Rattle.fw_engine.proofs.auto.settle_first.Goals as goal
 
 pub returns-in-Did-clause-takes : goal.returns-in-Did-clause-takes
@@ -40,11 +40,26 @@ returns-in_err-effect-clause-takes g c =
     let after = g.K.Store.records c.progress.new.store in
     from-err c.from_residual.result c.in_err-effect.field-0.0 (λ (r : Result Stepped EngineFault). TakesFirstAfter NoneToNotify old before r new after)
     c.from_residual.ensures.1
-    (err-first NoneToNotify Progress old new before after c.in_err-effect.field-0.0 (λ sys state left. left)
-    (λ sys state s none failed.
-    let d = c.in_err-effect.ensures.enabled failed sys state s in
-    progress-calls sys state none d.0 d.1 d.2 (subst (λ (f : Dataflow). HasEager f) s.flow (c.in_err-effect.ensures.calls failed)))
-    c.in_err-effect.ensures.undamaged c.in_err-effect.ensures.takes)
+    (settle-err old new before after c.in_err-effect.field-0.0 c.in_err-effect.ensures.calls c.in_err-effect.ensures.undamaged c.in_err-effect.ensures.takes)
 
 pub returns-in-Idle-clause-stored : goal.returns-in-Idle-clause-stored
 returns-in-Idle-clause-stored g c = c.acknowledge_first.ensures.stored (g.K.Store.records c.progress.new.store) c.progress.ensures.stored
+
+pub returns-in_err-effect-clause-quiet : goal.returns-in_err-effect-clause-quiet
+returns-in_err-effect-clause-quiet g c = λ none. c.progress.ensures.quiet (λ eager. none (progress-may_call c.args.running.now.flow eager))
+
+pub returns-in-Did-clause-quiet : goal.returns-in-Did-clause-quiet
+returns-in-Did-clause-quiet g c = λ none. c.progress.ensures.quiet (λ eager. none (progress-may_call c.args.running.now.flow eager))
+
+pub returns-in-Idle-clause-quiet : goal.returns-in-Idle-clause-quiet
+returns-in-Idle-clause-quiet g c = λ none. c.progress.ensures.quiet (λ eager. none (progress-may_call c.args.running.now.flow eager))
+
+pub returns-in_err-effect-clause-faults : goal.returns-in_err-effect-clause-faults
+returns-in_err-effect-clause-faults g c =
+    let before = g.K.Store.fault_count c.args.store.now in
+    from-err c.from_residual.result c.in_err-effect.field-0.0 (λ (r : Result Stepped EngineFault). g.K.Store.fault_count c.progress.new.store ≡ faults_after r before)
+    c.from_residual.ensures.1 c.in_err-effect.ensures.faults
+
+pub returns-in-Idle-clause-faults : goal.returns-in-Idle-clause-faults
+returns-in-Idle-clause-faults g c =
+    c.in_ok-effect.ensures.faults ∙ unfaulted-counts c.acknowledge_first.result (g.K.Store.fault_count c.args.store.now) c.acknowledge_first.ensures.unfaulted

@@ -4,6 +4,7 @@ use Rattle.fw_stands.proofs.TakingLaws.{writes-first}
 use Rattle.fw_running.specs.declared.stepped.Stepped.{Stepped}
 use Rattle.fw_running.specs.Steps.{TakesStep}
 use Rattle.fw_engine.specs.Searching.{NoneToPersist}
+use Rattle.fw_engine.proofs.QuietLaws.{quiet-later}
 use Rattle.fw_engine.proofs.TakenFirstLaws.{did-first, idle-later}
 use Rattle.fw_engine.proofs.auto.take_first.Goals as goal
 
@@ -29,3 +30,7 @@ deliver_first-requires-clause-stored g c = c.persist.ensures.stored (g.K.Store.r
 
 pub returns-in-Did-clause-stored : goal.returns-in-Did-clause-stored
 returns-in-Did-clause-stored g c = c.persist.ensures.stored (g.K.Store.records c.args.store.now) c.requires.stored
+
+pub returns-in-Idle-clause-quiet : goal.returns-in-Idle-clause-quiet
+returns-in-Idle-clause-quiet g c = λ none.
+    c.deliver_first.ensures.quiet (quiet-later c.args.running.now.flow c.persist.new.running.flow c.persist.ensures.flow none)

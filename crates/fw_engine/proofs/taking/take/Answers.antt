@@ -1,4 +1,5 @@
 use Rattle.fw_running.proofs.AnswerLaws.{no_damage}
+use Rattle.fw_engine.proofs.QuietLaws.{unfaulted-counts}
 use Rattle.fw_engine.proofs.taking.take.Goals as goal
 
 pub returns-in-Inject-clause-takes : goal.returns-in-Inject-clause-takes
@@ -126,3 +127,12 @@ returns-in-Recover-clause-quiet g c = rw c.in-Recover.is (λ none. absurd (none 
 
 pub returns-in-Collect-clause-quiet : goal.returns-in-Collect-clause-quiet
 returns-in-Collect-clause-quiet g c = rw c.in-Collect.is (λ none. absurd (none tt))
+
+pub returns-in-Inject-clause-faults : goal.returns-in-Inject-clause-faults
+returns-in-Inject-clause-faults g c = unfaulted-counts c.inject.result (g.K.Store.fault_count c.args.store.now) c.inject.ensures.unfaulted
+
+pub returns-in-Fail-clause-faults : goal.returns-in-Fail-clause-faults
+returns-in-Fail-clause-faults g c = unfaulted-counts c.fail.result (g.K.Store.fault_count c.args.store.now) c.fail.ensures.unfaulted
+
+pub returns-in-Ack-clause-faults : goal.returns-in-Ack-clause-faults
+returns-in-Ack-clause-faults g c = unfaulted-counts c.acknowledge.result (g.K.Store.fault_count c.args.store.now) c.acknowledge.ensures.unfaulted

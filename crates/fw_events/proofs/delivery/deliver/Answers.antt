@@ -6,8 +6,10 @@ use Rattle.fw_keep.specs.Catalogue.{KeepState}
 use Rattle.fw_keep.specs.Stored.{IsStored}
 use Rattle.fw_running.specs.declared.running.Running.{Running}
 use Rattle.fw_running.specs.Kept.{is_down}
+use Rattle.fw_running.proofs.AnswerLaws.{left-answers}
+use Rattle.fw_running.proofs.SameStateLaws.{unasked-stands}
 use Rattle.fw_events.proofs.AskedLaws.{next-at, none_next}
-use Rattle.fw_events.proofs.DeliverLaws.{delivery-done, fault-leaves, none-delivers}
+use Rattle.fw_events.proofs.DeliverLaws.{delivery-done, found-enabled, none-delivers}
 use Rattle.fw_events.proofs.delivery.deliver.Goals as goal
 
 pub returns-in_default-clause-takes : goal.returns-in_default-clause-takes
@@ -35,8 +37,10 @@ returns-in_err-log_delivery-clause-takes g c = λ sys state s.
     let step = Deliver c.args.edge (option_copied c.args.at) in
     let p = err_from_is_err_and c.from_residual.result c.from_residual.ensures.1 in
     let e = c.in_err-log_delivery.field-0.0 in
-    rw (p.1, p.2) (fault-leaves (Unit {0}) sys old new before after state step e s c.log_delivery.ensures.others c.in_err-log_delivery.ensures.stays
-    c.in_err-log_delivery.ensures.undamaged (λ P x. x))
+    rw (p.1, p.2) (left-answers (Unit {0}) sys state step e new before after c.in_err-log_delivery.ensures.undamaged (
+      found-enabled sys state c.args.edge (option_copied c.args.at) c.in-Some.field-0 old before s c.requires.shaped c.in-Some.ensures,
+      unasked-stands sys old new before after state s c.log_delivery.ensures.others c.in_err-log_delivery.ensures.stays,
+    ))
 
 pub returns-in_err-take_in-clause-stored : goal.returns-in_err-take_in-clause-stored
 returns-in_err-take_in-clause-stored g c =

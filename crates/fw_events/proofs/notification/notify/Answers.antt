@@ -45,7 +45,7 @@ returns-in_err-notify_of-clause-takes g c = λ sys state s.
     let live : is_down old c.args.node ≡ false = sym c.is_failed.ensures ∙ c.if-is_failed.false in
     let found = subst (λ (o : Option Stamp). FindsNotice old.flow old.progress c.args.node (option_copied c.args.at) o) c.in-Some.is c.in_ok-at.ensures.found in
     let p = err_from_is_err_and c.from_residual-in_err-notify_of.result c.from_residual-in_err-notify_of.ensures.1 in
-    rw (p.1, p.2) (fault-answers (Unit {0}) sys state c.args.node t (option_copied c.args.at) e new before after
+    rw (p.1, p.2) (fault-answers (Unit {0}) sys state c.args.node t (option_copied c.args.at) e old new before after s live found
     (notice-taken_up {T = Unit {0}} sys state c.args.node (option_copied c.args.at) t old up new before after (Err e) s live c.in_ok-at.ensures.up found
     c.in_err-notify_of.ensures.takes))
 

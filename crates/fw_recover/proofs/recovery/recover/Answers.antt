@@ -11,8 +11,9 @@ use Rattle.fw_recover.proofs.recovery.recover.Goals as goal
 
 pub returns-in_err-restore-clause-takes : goal.returns-in_err-restore-clause-takes
 returns-in_err-restore-clause-takes g c =
+    let some = some-down c.args.running.now.failed.items c.any_of.result (c.any_of.ensures ∙ ap (list_any (λ down. down)) c.deref.ensures.value) c.if-not-any_of.false in
     refused-stands c.args.running.now c.restore.new.parts c.in_ok-choice.choice (g.K.Store.records c.args.store.now) (g.K.Store.records c.restore.new.store)
-    (g.K.Store.given c.restore.new.store) c.in_err-restore.field-0.0 c.from_residual-in_err-restore.result c.in_err-restore.ensures.kept c.restore.ensures.stays
+    (g.K.Store.given c.restore.new.store) c.in_err-restore.field-0.0 c.from_residual-in_err-restore.result c.requires.shaped some c.in_err-restore.ensures.kept c.restore.ensures.stays
     c.from_residual-in_err-restore.ensures.1 c.in_err-restore.ensures.damaged
 
 pub returns-in_err-restore-clause-damaged : goal.returns-in_err-restore-clause-damaged

@@ -6,9 +6,10 @@ use Rattle.fw_flow.specs.Dataflow.{bounds_of}
 use Rattle.fw_model.specs.Machine.{front_of}
 use Rattle.fw_progress.proofs.TargetLaws.{read_at}
 use Rattle.fw_running.specs.Steps.{Answers}
+use Rattle.fw_running.proofs.AnswerLaws.{left-answers}
 use Rattle.fw_running.proofs.SameStateLaws.{unasked-stands}
 use Rattle.fw_settle.specs.Checkpoints.{AsksCheckpoint}
-use Rattle.fw_settle.proofs.WritesLaws.{may-follows, may_not-idle, may-there, fault-leaves}
+use Rattle.fw_settle.proofs.WritesLaws.{checkpoint-enabled, may-follows, may_not-idle, may-there}
 use Rattle.fw_settle.proofs.checkpoints.checkpoint.Goals as goal
 
 pub returns-then-not-may_take-clause-takes : goal.returns-then-not-may_take-clause-takes
@@ -45,8 +46,10 @@ returns-in_err-ask_checkpoint-clause-takes g c = λ sys state s.
     let after = g.K.Store.records c.ask_checkpoint.new.store in
     let is : c.from_residual-in_err-ask_checkpoint.result ≡ Err c.in_err-ask_checkpoint.field-0.0 = search rules in
     subst (λ r. Answers sys state (Checkpoint c.args.node) r before new after) (sym is)
-    (fault-leaves sys state c.args.node c.in_err-ask_checkpoint.field-0.0 new before after c.in_err-ask_checkpoint.ensures.undamaged
-    (unasked-stands sys old new before after state s c.ask_checkpoint.ensures.others c.in_err-ask_checkpoint.ensures.stays))
+    (left-answers (Unit {0}) sys state (Checkpoint c.args.node) c.in_err-ask_checkpoint.field-0.0 new before after c.in_err-ask_checkpoint.ensures.undamaged (
+      checkpoint-enabled sys state old before s c.args.node (c.may_take.ensures.0 c.if-not-may_take.false),
+      unasked-stands sys old new before after state s c.ask_checkpoint.ensures.others c.in_err-ask_checkpoint.ensures.stays,
+    ))
 
 pub returns-clause-takes : goal.returns-clause-takes
 returns-clause-takes g c = λ sys state s trust.

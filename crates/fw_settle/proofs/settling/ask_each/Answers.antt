@@ -1,4 +1,4 @@
-use Rattle.std.proofs.Common.{◌≡◌, ◌+◌, rules, arith, Some, None, Err, refl, sym, subst, ◌∙◌}
+use Rattle.std.proofs.Common.{◌≡◌, ◌+◌, rules, Some, None, Err, refl, sym, subst, ◌∙◌}
 use Rattle.fw_settle.specs.Settling.{IsFoundToSettle}
 use Rattle.fw_settle.proofs.SearchLaws.{HaveAskedUpTo, asking-first, asking-next, asking-all, has_eager, keep-both}
 use Rattle.fw_settle.proofs.settling.ask_each.Goals as goal
@@ -11,7 +11,7 @@ loop-next-init g c = record {
   asked = asking-first c.args.running.now (g.K.Store.records c.args.store.now) c.grown_from-next.result c.grown_from-next.ensures;
   tells = refl;
   quiet = λ none. refl;
-  never_falls = omega arith;
+  faults = refl;
 }
 
 pub loop-next-preserved : goal.loop-next-preserved
@@ -33,7 +33,7 @@ loop-next-preserved g c =
           (subst (λ n. IsFoundToSettle new (n + 1) c.grown_from-next-in-Some.result) c.place.ensures c.grown_from-next-in-Some.ensures);
       tells = c.ask_if_eager.ensures.tells ∙ c.loop-next.invariant.tells;
       quiet = λ none. c.ask_if_eager.ensures.quiet (λ is. none (has_eager old mid node c.loop-next.invariant.others is)) ∙ c.loop-next.invariant.quiet none;
-      never_falls = omega (arith, c.loop-next.invariant.never_falls, c.ask_if_eager.ensures.never_falls);
+      faults = c.in_ok-ask_if_eager.ensures.faults ∙ c.loop-next.invariant.faults;
     }
 
 pub returns-clause-asked : goal.returns-clause-asked

@@ -1,4 +1,4 @@
-use Rattle.std.proofs.Common.{◌≡◌, ◌≤◌, is_some}
+use Rattle.std.proofs.Common.{◌≡◌, is_some}
 use Rattle.fw_keep.specs.Stored.{IsStored}
 use Rattle.fw_running.specs.Logging.{ChangesKeep}
 use Rattle.fw_running.specs.Shaped.{IsShaped}
@@ -14,7 +14,7 @@ invariant-loop-next g l = record {
   asked : HaveAskedUpTo l.fn.running l.running (g.K.Store.records l.fn.store) (g.K.Store.records l.store) l.next;
   tells : is_some (g.K.Store.records l.store) ≡ is_some (g.K.Store.records l.fn.store);
   quiet : (HasEager l.fn.running.flow → ⊥) → l.store ≡ l.fn.store;
-  never_falls : g.K.Store.fault_count l.fn.store ≤ g.K.Store.fault_count l.store;
+  faults : g.K.Store.fault_count l.store ≡ g.K.Store.fault_count l.fn.store;
 }
 
 abbrev pub decreases-loop-next : goal.decreases-loop-next

@@ -7,7 +7,7 @@ use Rattle.fw_keep.specs.Catalogue.{KeepState}
 use Rattle.fw_keep.specs.Stored.{IsStored}
 use Rattle.fw_running.specs.Steps.{HasEager, TakesStep}
 use Rattle.fw_settle.specs.Settling.{IsFoundToSettle}
-use Rattle.fw_settle.proofs.ProgressLaws.{idle-takes, did-takes, fault-takes, progress-enabled, progresses}
+use Rattle.fw_settle.proofs.ProgressLaws.{idle-takes, did-takes, fault-takes, progresses}
 use Rattle.fw_settle.proofs.SearchLaws.{same_fault}
 use Rattle.fw_settle.proofs.settling.progress.Goals as goal
 
@@ -33,9 +33,12 @@ returns-in_err-ask_eager-clause-takes g c =
     let before = g.K.Store.records c.args.store.now in
     let after = g.K.Store.records c.ask_eager.new.store in
     let e = c.in_err-ask_eager.field-0.0 in
+    let first = c.in-Some._first in
+    let found : c.grown_from.result ≡ Some first = search rules in
     let is : c.from_residual-in_err-ask_eager.result ≡ Err e = search rules in
     subst (λ r. TakesStep old before Progress r new after) (sym is)
-    (fault-takes old mid new before after e c.in_ok-refresh.ensures.up c.ask_eager.ensures.others c.in_err-ask_eager.ensures.stays c.in_err-ask_eager.ensures.undamaged)
+    (fault-takes old mid new before after first e c.in_ok-refresh.ensures.up c.in_ok-refresh.ensures.shaped (subst (IsFoundToSettle mid 0) found c.grown_from.ensures)
+    c.ask_eager.ensures.others c.in_err-ask_eager.ensures.stays c.in_err-ask_eager.ensures.undamaged)
 
 pub returns-clause-takes : goal.returns-clause-takes
 returns-clause-takes g c =
@@ -49,14 +52,6 @@ returns-clause-takes g c =
     let found : c.grown_from.result ≡ Some first = search rules in
     did-takes old mid new before after first c.in_ok-refresh.ensures.up c.in_ok-refresh.ensures.shaped (subst (IsFoundToSettle mid 0) found c.grown_from.ensures)
     (progresses mid asked new before after c.ask_eager.ensures.others c.in_ok-ask_eager.ensures.asked c.in_ok-settle_grown.ensures.others c.in_ok-settle_grown.ensures.settled)
-
-pub returns-in_err-ask_eager-clause-enabled : goal.returns-in_err-ask_eager-clause-enabled
-returns-in_err-ask_eager-clause-enabled g c = λ e.
-    let mid = c.refresh.new.self in
-    let first = c.in-Some._first in
-    let found : c.grown_from.result ≡ Some first = search rules in
-    progress-enabled c.args.running.now mid (g.K.Store.records c.args.store.now) first c.in_ok-refresh.ensures.up c.in_ok-refresh.ensures.shaped
-    (subst (IsFoundToSettle mid 0) found c.grown_from.ensures)
 
 pub returns-in_err-ask_eager-clause-calls : goal.returns-in_err-ask_eager-clause-calls
 returns-in_err-ask_eager-clause-calls g c = λ e.

@@ -1,8 +1,9 @@
 -- From the work of a command and what was printed of it to what a call promises.
-use Rattle.std.proofs.Common.{◌≡◌, inl, inr, ◌⊎◌, ℕ, ◌<◌, ◌≤◌, false, List, [], Option, Some, None, Err, refl, sym, ◌∙◌, ap, subst, arith, lit<}
+use Rattle.std.proofs.Common.{◌≡◌, inl, inr, ◌⊎◌, ℕ, ◌<◌, ◌≤◌, true, false, List, [], Option, Some, None, Err, refl, sym, ◌∙◌, ap, subst, arith, lit<}
 use Rattle.std.proofs.lemmas.Bool.{cases_Bool, false≢true}
 use Rattle.std.proofs.lemmas.Option.{same_Some}
 use Rattle.std.specs.Prelude.{IsSome, option_map, option_and_then}
+use Rattle.std.specs.Result.{IsErrOf}
 use Rattle.fw_outside.specs.declared.fault.OutFault.{OutFault}
 use Rattle.fw_outside.specs.declared.fault.OutFault.TheVariants as output
 use Rattle.fw_outside.specs.Outside.{SinkView}
@@ -11,8 +12,10 @@ use Rattle.fw_flow.specs.Dataflow.{Dataflow, System, system_of}
 use Rattle.fw_schedule.specs.declared.item.Item.{Item}
 use Rattle.fw_generate.specs.Laws.{AreAccepted, size_limit}
 use Rattle.fw_generate.specs.Texts.{Texts}
+use Rattle.fw_running.specs.declared.fault.EngineFault.{EngineFault}
 use Rattle.fw_running.specs.declared.fault.EngineFault.TheVariants as engine
 use Rattle.fw_run.proofs.DecidedLaws.{texts-decided}
+use Rattle.fw_run.proofs.FaultLaws.{store_of}
 use Rattle.fw_run.proofs.Numbers.{few_refusal_numbers}
 use Rattle.fw_run.proofs.TextLaws.{one_first_refusal, one_first_of_two, accepted_or_refused, accepted_or_first_of_two, flow_or_refused, one_flow_refusal}
 use Rattle.fw_run.specs.declared.fault.RunFault.{RunFault}
@@ -24,17 +27,17 @@ use Rattle.fw_run.specs.declared.status.Status.TheVariants.{Done, BadWords, Refu
 use Rattle.fw_run.specs.declared.words.GenerateWords.{GenerateWords}
 use Rattle.fw_run.specs.declared.work.Work.{Work}
 use Rattle.fw_run.specs.declared.work.Work.TheVariants.{Run, Endure, Generate, Denote, Check}
-use Rattle.fw_run.specs.Call.{Call, HasTexts, Accepts, Refuses, Prints, AsksNoMore, HasAccepted, HasRefused, IsPrintout, PrintsPart, IsRunOf, KeepsFolder, KeepsStore, AnswersTexts, IsRunEnd, IsRefusalEnd}
+use Rattle.fw_run.specs.Call.{Call, CountsFaults, HasTexts, Accepts, Refuses, Prints, AsksNoMore, HasAccepted, HasRefused, IsPrintout, PrintsPart, IsRunOf, KeepsFolder, KeepsStore, AnswersTexts, IsRunEnd, IsRefusalEnd}
 use Rattle.fw_run.specs.DenotationText.{PrintsDenotation}
-use Rattle.fw_run.specs.Enduring.{PrintsEndured, RoseBy}
-use Rattle.fw_run.specs.Fault.{out_fault, status_of}
+use Rattle.fw_run.specs.Enduring.{PrintsEndured, RoseBy, RoseByFaults, StaysOrRose}
+use Rattle.fw_run.specs.Fault.{faults_after, out_fault, status_of}
 use Rattle.fw_run.specs.Reading.{IsJob, IsGenerated, IsFed}
-use Rattle.fw_run.specs.Status.{IsTellingOf, status_number}
+use Rattle.fw_run.specs.Status.{HasWord, IsTellingOf, faults_told, status_number}
 use Rattle.fw_run.specs.Tallies.{PrintsSummary}
 use Rattle.fw_run.specs.Texts.{HasFlow, spelled_system, spelled_items}
 use Rattle.fw_run.specs.Trusting.{AreKnown, PrintsKnown}
-use Rattle.fw_run.specs.Words.{Command, TextNames, SystemNames, Seeded, run, endure, generate, denote, check, Manner, by_lines, through_faults, in_one_line, manner_of, asks_folder, seeded_in}
-use Rattle.fw_run.specs.Work.{IsWork, IsRun, IfRun, IsTextOfWork, PrintsWork, IsDamageIn, StaysUnlessRun}
+use Rattle.fw_run.specs.Words.{Command, TextNames, SystemNames, Seeded, run, endure, generate, denote, check, Manner, by_lines, through_faults, in_one_line, manner_of, IsInOneLine, asks_folder, seeded_in}
+use Rattle.fw_run.specs.Work.{IsWork, EndsAtFault, IsRun, IfRun, IsTextOfWork, PrintsWork, IsDamageIn, StaysUnlessRun, StaysIfInOneLine}
 use Rattle.fw_run.specs.Writing.{IsCutOff, WritesText}
 
 -- words are one command
@@ -270,10 +273,14 @@ folder_read texts fetch_count command asked status before after e stay stays mor
 
 -- ---- one answer
 
--- where the folder tells its texts, a command does not accept some and refuse one
-accepts_and_refuses : (told : Option (List ℕ → Option (List ℕ))) (command : Command) (texts : Texts) (flow : Dataflow) (refusal : Refusal) → IsSome told → HasTexts told command texts → Accepts command texts flow
-    → Refuses told command refusal → ⊥
-accepts_and_refuses None command texts flow refusal s t a f = absurd (false≢true s)
+-- where the folder tells its texts, if it is asked, a command does not accept some and refuse one
+accepts_and_refuses : (told : Option (List ℕ → Option (List ℕ))) (command : Command) (texts : Texts) (flow : Dataflow) (refusal : Refusal) → (asks_folder command ≡ true → IsSome told)
+    → HasTexts told command texts → Accepts command texts flow → Refuses told command refusal → ⊥
+accepts_and_refuses None (run names) texts flow refusal s t a f = absurd (false≢true (s refl))
+accepts_and_refuses None (endure names) texts flow refusal s t a f = absurd (false≢true (s refl))
+accepts_and_refuses None (generate seeded) texts flow refusal s t a f = absurd f
+accepts_and_refuses None (denote names) texts flow refusal s t a f = absurd (false≢true (s refl))
+accepts_and_refuses None (check name) texts flow refusal s t a f = absurd (false≢true (s refl))
 accepts_and_refuses (Some folder) (run names) texts flow refusal s t a f = accepted_or_refused folder names texts flow refusal t a f
 accepts_and_refuses (Some folder) (endure names) texts flow refusal s t a f = accepted_or_refused folder names texts flow refusal t a f
 accepts_and_refuses (Some folder) (generate seeded) texts flow refusal s t a f = absurd f
@@ -290,8 +297,8 @@ refuses_once (Some folder) (denote names) one other s f g = one_first_of_two fol
 refuses_once (Some folder) (check name) one other s f g = one_flow_refusal folder name one other f g
 
 -- no call has texts that are accepted and one that is refused
-accepted_and_refused : (call : Call) (texts : Texts) (refusal : Refusal) → IsSome call.told → HasAccepted call texts → HasRefused call refusal → ⊥
-accepted_and_refused call texts refusal tells a f =
+accepted_and_refused : (call : Call) (texts : Texts) (refusal : Refusal) → (a : HasAccepted call texts) → (asks_folder a.command ≡ true → IsSome call.told) → HasRefused call refusal → ⊥
+accepted_and_refused call texts refusal a tells f =
     accepts_and_refuses call.told a.command texts a.flow refusal tells a.there a.accepted
     (subst (λ command. Refuses call.told command refusal) (same_command call.command f.command a.command f.words a.words) f.first)
 
@@ -353,24 +360,25 @@ untold_of-damage Tells count last id given before after through_faults sys items
 untold_of-damage Tells count last id given before after (in_one_line seeded) sys items d = d.untold
 
 refuses : (Tells : Type 0) (call : Call) (status : Status) → IsToldOf Tells call status → (refusal : Refusal) → IsSome call.told → HasRefused call refusal → IsRefusalEnd refusal status
-refuses Tells call Done s refusal tells first = let p = s.done refl in absurd (accepted_and_refused call p.0 refusal tells p.1 first)
+refuses Tells call Done s refusal tells first = let p = s.done refl in absurd (accepted_and_refused call p.0 refusal p.1 (λ asks. tells) first)
 refuses Tells call BadWords s refusal tells first = absurd (not_none call.command first.command first.words (s.bad_words refl))
 refuses Tells call (Refused other) s refusal tells first = inl (ap Refused (one_refusal call other refusal tells (s.refused other refl) first))
 refuses Tells call ReadFault s refusal tells first = inr (inl refl)
-refuses Tells call WriteFault s refusal tells first = let p = s.cut_off refl in absurd (accepted_and_refused call p.0 refusal tells p.1 first)
-refuses Tells call StoreFault s refusal tells first = let p = s.store refl in absurd (accepted_and_refused call p.0 refusal tells p.1 first)
-refuses Tells call (Damaged id) s refusal tells first = let p = (s.damaged id refl).0 in absurd (accepted_and_refused call p.0 refusal tells p.1 first)
+refuses Tells call WriteFault s refusal tells first = let p = s.cut_off refl in absurd (accepted_and_refused call p.0 refusal p.1 (λ asks. tells) first)
+refuses Tells call StoreFault s refusal tells first = let p = s.store refl in absurd (accepted_and_refused call p.0 refusal p.1 (λ asks. tells) first)
+refuses Tells call (Damaged id) s refusal tells first = let p = (s.damaged id refl).0 in absurd (accepted_and_refused call p.0 refusal p.1 (λ asks. tells) first)
 refuses Tells call NoMemory s refusal tells first = inr (inr refl)
 
-completes : (Tells : Type 0) (call : Call) (status : Status) → IsToldOf Tells call status → (texts : Texts) → IsSome call.told → HasAccepted call texts → IsRunEnd Tells status
-completes Tells call Done s texts tells a = inl refl
-completes Tells call BadWords s texts tells a = absurd (not_none call.command a.command a.words (s.bad_words refl))
-completes Tells call (Refused refusal) s texts tells a = absurd (accepted_and_refused call texts refusal tells a (s.refused refusal refl))
-completes Tells call ReadFault s texts tells a = inr (inl refl)
-completes Tells call WriteFault s texts tells a = inr (inr (inl refl))
-completes Tells call StoreFault s texts tells a = inr (inr (inr (inl refl)))
-completes Tells call (Damaged id) s texts tells a = inr (inr (inr (inr (inl ((id, refl), (s.damaged id refl).1)))))
-completes Tells call NoMemory s texts tells a = inr (inr (inr (inr (inr refl))))
+completes : (Tells : Type 0) (call : Call) (status : Status) → IsToldOf Tells call status → (texts : Texts) → (a : HasAccepted call texts)
+    → (asks_folder a.command ≡ true → IsSome call.told) → IsRunEnd Tells status
+completes Tells call Done s texts a tells = inl refl
+completes Tells call BadWords s texts a tells = absurd (not_none call.command a.command a.words (s.bad_words refl))
+completes Tells call (Refused refusal) s texts a tells = absurd (accepted_and_refused call texts refusal a tells (s.refused refusal refl))
+completes Tells call ReadFault s texts a tells = inr (inl refl)
+completes Tells call WriteFault s texts a tells = inr (inr (inl refl))
+completes Tells call StoreFault s texts a tells = inr (inr (inr (inl refl)))
+completes Tells call (Damaged id) s texts a tells = inr (inr (inr (inr (inl ((id, refl), (s.damaged id refl).1)))))
+completes Tells call NoMemory s texts a tells = inr (inr (inr (inr (inr refl))))
 
 -- what the texts bring about, once the status is told
 pub texts-answered : (Tells : Type 0) (call : Call) (status result : Status) → IsTellingOf status result → IsToldOf Tells call status → AnswersTexts Tells call result
@@ -380,9 +388,9 @@ texts-answered Tells call status result told s = record { decided = texts-decide
     by_refusal (inl e) refusal tells first = subst (IsRefusalEnd refusal) (sym e) (refuses Tells call status s refusal tells first)
     by_refusal (inr t) refusal tells first = inr (inr t.1)
 
-    by_run : IsTellingOf status result → (texts : Texts) → IsSome call.told → HasAccepted call texts → IsRunEnd Tells result
-    by_run (inl e) texts tells a = subst (IsRunEnd Tells) (sym e) (completes Tells call status s texts tells a)
-    by_run (inr t) texts tells a = inr (inr (inr (inr (inr t.1))))
+    by_run : IsTellingOf status result → (texts : Texts) → (a : HasAccepted call texts) → (asks_folder a.command ≡ true → IsSome call.told) → IsRunEnd Tells result
+    by_run (inl e) texts a tells = subst (IsRunEnd Tells) (sym e) (completes Tells call status s texts a tells)
+    by_run (inr t) texts a tells = inr (inr (inr (inr (inr t.1))))
 
 -- ---- what was told
 
@@ -456,3 +464,110 @@ same_refusal P one other e p = subst P (ap refusal_in e) p
 -- damage is no good end
 pub damaged_not_done : (id : ℕ) → Damaged id ≡ Done → ⊥
 damaged_not_done id e = absurd (cc)
+
+-- ---- how often the store failed
+
+-- it did not
+pub counts_none : (command : Option Command) (status : Status) (before after : ℕ) → after ≡ before → (status ≡ StoreFault → ⊥) → CountsFaults command status before after
+counts_none command status before after same other = record { none = λ e. same; first = λ once. same ∙ sym (none status other); some = λ e. absurd (other e); rises = (0, same) }
+  where
+    none : (s : Status) → (s ≡ StoreFault → ⊥) → faults_told s before ≡ before
+    none Done o = refl
+    none BadWords o = refl
+    none (Refused refusal) o = refl
+    none ReadFault o = refl
+    none WriteFault o = refl
+    none StoreFault o = absurd (o refl)
+    none (Damaged id) o = refl
+    none NoMemory o = refl
+
+-- the status tells what the answer does
+count_told : (T : Type 0) (f : RunFault) (before after : ℕ) → after ≡ faults_after {T = T} (Err f) before → after ≡ faults_told (status_of f) before
+count_told T (Out output.Failed) before after e = e
+count_told T (Out output.NoMemory) before after e = e
+count_told T (Engine engine.StoreFault) before after e = e
+count_told T (Engine (engine.Damaged id)) before after e = e
+count_told T (Engine engine.NoMemory) before after e = e
+
+fault_not_done : (f : RunFault) → status_of f ≡ Done → ⊥
+fault_not_done (Out output.Failed) e = absurd (cc)
+fault_not_done (Out output.NoMemory) e = absurd (cc)
+fault_not_done (Engine engine.StoreFault) e = absurd (cc)
+fault_not_done (Engine (engine.Damaged id)) e = absurd (cc)
+fault_not_done (Engine engine.NoMemory) e = absurd (cc)
+
+-- the work of a command that does not go on through faults ended at the first
+ends_at_fault : (T : Type 0) (told : Option (List ℕ → Option (List ℕ))) (f : RunFault) (before after : ℕ) (command : Command) (work : Work) → IsWork told command work
+    → (manner_of command ≡ Some through_faults → ⊥) → EndsAtFault {T = T} work (Err f) before after → after ≡ faults_told (status_of f) before
+ends_at_fault T told f before after = by_work told (λ command work. (manner_of command ≡ Some through_faults → ⊥) → EndsAtFault {T = T} work (Err f) before after → after ≡ faults_told (status_of f) before)
+    (λ names job j once ends. count_told T f before after ends)
+    (λ names job j once ends. absurd (once refl))
+    (λ seeded words job same size j once ends. count_told T f before after ends)
+    (λ names fed j once ends. count_told T f before after ends)
+    (λ name flow h once ends. count_told T f before after ends)
+
+pub counts_fault : (T : Type 0) (told : Option (List ℕ → Option (List ℕ))) (command : Option Command) (asked : Command) (work : Work) (f : RunFault) (before after : ℕ) → command ≡ Some asked
+    → IsWork told asked work → EndsAtFault {T = T} work (Err f) before after → (IsErrOf {T = T} (Err f) (Engine engine.StoreFault) → RoseByFaults before after)
+    → StaysOrRose before after → CountsFaults command (status_of f) before after
+counts_fault T told command asked work f before after e j ends some rises = record {
+  none = λ done. absurd (fault_not_done f done);
+  first = λ once. ends_at_fault T told f before after asked work j (λ through. once (ap (λ c. option_and_then manner_of c) e ∙ through)) ends;
+  some = λ is. some (ap (λ (g : RunFault). Err g) (store_of f is));
+  rises = rises;
+}
+
+-- and so once the status is told
+pub counts_told : (command : Option Command) (status result : Status) (before after : ℕ) → IsTellingOf status result → CountsFaults command status before after
+    → CountsFaults command result before after
+counts_told command status result before after (inl e) k = subst (λ (s : Status). CountsFaults command s before after) (sym e) k
+counts_told command status result before after (inr t) k = record {
+  none = λ done. absurd (not_done (sym t.1 ∙ done));
+  first = λ once. k.first once ∙ quiet t.0 ∙ sym (ap (λ (s : Status). faults_told s before) t.1);
+  some = λ fault. absurd (not_fault (sym t.1 ∙ fault));
+  rises = k.rises;
+}
+  where
+    not_done : NoMemory ≡ Done → ⊥
+    not_done h = absurd (cc)
+
+    not_fault : NoMemory ≡ StoreFault → ⊥
+    not_fault h = absurd (cc)
+
+    quiet : HasWord status → faults_told status before ≡ before
+    quiet (inl (refusal, e)) = ap (λ (s : Status). faults_told s before) e
+    quiet (inr (id, e)) = ap (λ (s : Status). faults_told s before) e
+
+-- ---- a run that is told in one line
+
+-- where the engine took no step more, it was told nothing
+pub nothing_told : {O : Type 0} (told : Option (List ℕ → Option (List ℕ))) (command : Option Command) (asked : Command) (work : Work) (f : RunFault) (before after : O) → command ≡ Some asked
+    → IsWork told asked work → ((fault : EngineFault) → IsErrOf {T = Unit {0}} (Err f) (Engine fault) → StaysIfInOneLine work before after) → IsInOneLine command
+    → 8 ≤ status_number (status_of f) → status_number (status_of f) ≤ 9 → after ≡ before
+nothing_told {O} told command asked work f before after e j stays one least most = stays_there f stays least most
+  where
+    seeded : asked ≡ generate one.0
+    seeded = same_Some asked (generate one.0) (sym e ∙ one.1)
+
+    of_work : (other : Command) (w : Work) → IsWork told other w → other ≡ generate one.0 → StaysIfInOneLine w before after → after ≡ before
+    of_work = by_work told (λ other w. other ≡ generate one.0 → StaysIfInOneLine w before after → after ≡ before)
+        (λ names job j h s. absurd (cc))
+        (λ names job j h s. absurd (cc))
+        (λ words given job same size j h s. s)
+        (λ names fed j h s. absurd (cc))
+        (λ name flow k h s. absurd (cc))
+
+    stays_there : (g : RunFault) → ((fault : EngineFault) → IsErrOf {T = Unit {0}} (Err g) (Engine fault) → StaysIfInOneLine work before after)
+        → 8 ≤ status_number (status_of g) → status_number (status_of g) ≤ 9 → after ≡ before
+    stays_there (Out output.Failed) s l m = absurd (omega (arith, l))
+    stays_there (Out output.NoMemory) s l m = absurd (omega (arith, m))
+    stays_there (Engine fault) s l m = of_work asked work j seeded (s fault refl)
+
+-- and so once the status is told
+pub nothing_told_on : {O : Type 0} (One : Type 0) (status result : Status) (before after : O) → IsTellingOf status result
+    → (One → 8 ≤ status_number status → status_number status ≤ 9 → after ≡ before) → One → 8 ≤ status_number result → status_number result ≤ 9 → after ≡ before
+nothing_told_on One status result before after (inl e) f one least most =
+    f one (subst (λ (s : Status). 8 ≤ status_number s) e least) (subst (λ (s : Status). status_number s ≤ 9) e most)
+nothing_told_on One status result before after (inr t) f one least most = absurd (late (subst (λ (s : Status). status_number s ≤ 9) t.1 most))
+  where
+    late : status_number NoMemory ≤ 9 → ⊥
+    late m = absurd (omega (arith, m))

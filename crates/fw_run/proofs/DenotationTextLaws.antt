@@ -1,7 +1,6 @@
 -- The text of a denotation, piece by piece.
-use Rattle.std.proofs.Common.{◌≡◌, ℕ, ◌+◌, ◌<◌, ◌≤◌, max, get_or, Bool, true, false, cond, List, [], ◌∷◌, ◌++◌, length, map, filter, take, refl, sym, ◌∙◌, ap, arith, codes}
-use Rattle.std.proofs.lemmas.Grind.{flat_map-append}
-use Rattle.std.proofs.lemmas.List.{append-nil, take_all, take_more}
+use Rattle.std.proofs.Common.{◌≡◌, ℕ, ◌+◌, ◌<◌, ◌≤◌, max, Bool, true, false, cond, List, [], ◌∷◌, ◌++◌, length, map, filter, take, refl, sym, ◌∙◌, ap, arith, codes}
+use Rattle.std.proofs.lemmas.List.{take_all}
 use Rattle.std.proofs.lemmas.List.FromFn.{map-range_with_len_more, get_or-map-range_with_len}
 use Rattle.std.specs.List.{flat_map, range_with_len}
 use Rattle.fw_time.specs.Stamp.{same}
@@ -20,13 +19,6 @@ use Rattle.fw_outside.specs.Outside.{SinkView}
 use Rattle.fw_run.proofs.WritingLaws.{cut_nothing}
 use Rattle.fw_run.specs.DenotationText.{rec_at_text, greatest, denotation_text, PrintsDenotation}
 use Rattle.fw_run.specs.Writing.{IsCutOff, WritesText}
-
--- what is made of one element more stands at the end
-pub made_more : {A B : Type 0} (make : A → List B) (xs : List A) (i : ℕ) (x : A) → i < length xs → x ≡ get_or xs i x → flat_map make (take (i + 1) xs) ≡ flat_map make (take i xs) ++ make x
-made_more make xs i x l e =
-    ap (flat_map make) (take_more xs i x l ∙ ap (λ y. take i xs ++ y ∷ []) (sym e))
-    ∙ flat_map-append make (take i xs) (x ∷ [])
-    ∙ ap (λ t. flat_map make (take i xs) ++ t) (append-nil (make x))
 
 -- the recs of an epoch, each as it comes
 pub recs_made : (x : ℕ) (bag : List Timed) → flat_map (rec_at_text x) bag ≡ recs_text (recs_where (same (x ∷ [])) bag)

@@ -1,33 +1,32 @@
 -- An item that is taken through a fault of the store, where an engine takes its steps.
-use Rattle.std.proofs.Common.{◌≡◌, inl, inr, ℕ, ◌+◌, ◌<◌, ◌≤◌, List, [], ◌∷◌, ◌++◌, length, map, Option, Result, Ok, Err, refl, sym, ◌∙◌, ap, subst, arith, append_assoc}
+use Rattle.std.proofs.Common.{◌≡◌, inr, ℕ, ◌+◌, List, [], ◌∷◌, ◌++◌, length, map, Option, Result, Ok, Err, refl, sym, ◌∙◌, ap, subst, arith, append_assoc}
 use Rattle.std.proofs.lemmas.List.{append-nil, length-append, length-map}
 use Rattle.std.specs.Result.{IsErrOf}
 use Rattle.fw_outside.specs.declared.fault.OutFault.{OutFault}
-use Rattle.fw_outside.specs.declared.fault.OutFault.TheVariants.{NoMemory}
-use Rattle.fw_outside.specs.Outside.{SinkView, Rose}
+use Rattle.fw_outside.specs.Outside.{SinkView}
 use Rattle.fw_flow.specs.declared.step.Step.{Step}
 use Rattle.fw_flow.specs.declared.step.Step.TheVariants.{Inject, Deliver, Notify, Progress, Checkpoint, Persist, Fail, Recover, Collect, Ack}
 use Rattle.fw_flow.specs.Dataflow.{Dataflow, System}
 use Rattle.fw_schedule.specs.declared.item.Item.{Item}
 use Rattle.fw_schedule.specs.declared.item.Item.TheVariants.{One, Auto}
 use Rattle.fw_model.specs.Machine.{Machine}
-use Rattle.fw_model.specs.Steps.{Outcome, StepsTo, Run}
+use Rattle.fw_model.specs.Steps.{Outcome, Run}
 use Rattle.fw_keep.specs.Stored.{Records}
-use Rattle.fw_running.specs.declared.fault.EngineFault.{EngineFault}
 use Rattle.fw_running.specs.declared.fault.EngineFault.TheVariants as fault
-use Rattle.fw_running.specs.Steps.{FirstMayCall, MayCallStore, IsLeftBy}
+use Rattle.fw_running.specs.Steps.{MayCallStore, IsStepEnabled, IsLeftBy}
 use Rattle.fw_engine.specs.declared.engine.Engine.{Engine}
 use Rattle.fw_engine.specs.Engine.{StandsFor}
 use Rattle.fw_run.proofs.EnduringLaws.{outcomes_in-append, shown_in-append, faults-append, reports_text-append, outcomes_in-came, shown_in-came, faults-came, reports_text-came, endured-taken}
+use Rattle.fw_run.proofs.StoppedLaws.{no_outcomes}
 use Rattle.fw_run.proofs.WritingLaws.{written_more, taken_part, taken_more}
 use Rattle.fw_run.specs.declared.fault.RunFault.{RunFault}
 use Rattle.fw_run.specs.declared.fault.RunFault.TheVariants as stop
 use Rattle.fw_run.specs.declared.tally.Tally.{Tally}
-use Rattle.fw_run.specs.Enduring.{Report, came, not_taken, unswept, faults_in, outcomes_in, shown_in, Endures, ItemEndures, fault_line, reports_text, RoseBy, EnduredItem, IsItemEndured, IsItemBroken, EnduresItem, PrintsThrough}
-use Rattle.fw_run.specs.Performing.{ItemRun, IsItemTaken, IsItemBegun, IsItemStopped, IsLeftAfter, PrintsItem, IsCutAfter}
+use Rattle.fw_run.specs.EnduredItems.{EnduredItem, IsItemEndured, IsItemBroken, PrintsThrough}
+use Rattle.fw_run.specs.Enduring.{Report, came, not_taken, unswept, faults_in, outcomes_in, shown_in, Endures, fault_line, reports_text, RoseBy}
+use Rattle.fw_run.specs.Performing.{IsItemTaken, IsItemBegun, IsItemStopped, PrintsItem}
 use Rattle.fw_run.specs.Printed.{outcomes_text, idle_count}
 use Rattle.fw_run.specs.Stopping.{MayCallIn, IsLeftIn}
-use Rattle.fw_run.specs.Tallies.{tally_of, with_tally}
 use Rattle.fw_run.specs.Writing.{IsWritten, IsCutOff}
 
 -- ---- where the store fails
@@ -55,12 +54,13 @@ pub record IsStepFaulted (sys : System) (state : Machine) (step : Step) (IsSo : 
   pub so : IsSo last
 
 -- a step that is not done
-step_failed : (sys : System) (state : Machine) (step : Step) (IsSo : Machine → Type 0) → MayCallStore sys.flow step → (step ≡ Collect → ⊥) → IsSo state → IsStepFaulted sys state step IsSo
-step_failed sys state step IsSo calls other so = record {
+step_failed : (sys : System) (state : Machine) (step : Step) (IsSo : Machine → Type 0) → MayCallStore sys.flow step → IsStepEnabled sys state step → (step ≡ Collect → ⊥) → IsSo state
+    → IsStepFaulted sys state step IsSo
+step_failed sys state step IsSo calls enabled other so = record {
   steps = [];
   report = not_taken;
   last = state;
-  endures = (calls, other, refl, refl);
+  endures = (calls, enabled, other, refl, refl);
   run = refl;
   line = λ flow before. append-nil (fault_line (before + 1));
   unseen = refl;
@@ -70,13 +70,13 @@ step_failed sys state step IsSo calls other so = record {
 
 step_faulted : (sys : System) (state : Machine) (step : Step) (IsSo : Machine → Type 0) → MayCallStore sys.flow step → IsLeftBy sys state step IsSo → IsStepFaulted sys state step IsSo
 step_faulted sys state (Inject s) IsSo calls l = absurd calls
-step_faulted sys state (Deliver e at) IsSo calls l = step_failed sys state (Deliver e at) IsSo calls (λ e. absurd (cc)) l
-step_faulted sys state (Notify p at) IsSo calls l = step_failed sys state (Notify p at) IsSo calls (λ e. absurd (cc)) l
-step_faulted sys state Progress IsSo calls l = step_failed sys state Progress IsSo calls (λ e. absurd (cc)) l
-step_faulted sys state (Checkpoint p) IsSo calls l = step_failed sys state (Checkpoint p) IsSo calls (λ e. absurd (cc)) l
+step_faulted sys state (Deliver e at) IsSo calls l = step_failed sys state (Deliver e at) IsSo calls l.0 (λ e. absurd (cc)) l.1
+step_faulted sys state (Notify p at) IsSo calls l = step_failed sys state (Notify p at) IsSo calls l.0 (λ e. absurd (cc)) l.1
+step_faulted sys state Progress IsSo calls l = step_failed sys state Progress IsSo calls l.0 (λ e. absurd (cc)) l.1
+step_faulted sys state (Checkpoint p) IsSo calls l = step_failed sys state (Checkpoint p) IsSo calls l.0 (λ e. absurd (cc)) l.1
 step_faulted sys state Persist IsSo calls l = absurd calls
 step_faulted sys state (Fail ps) IsSo calls l = absurd calls
-step_faulted sys state Recover IsSo calls l = step_failed sys state Recover IsSo calls (λ e. absurd (cc)) l
+step_faulted sys state Recover IsSo calls l = step_failed sys state Recover IsSo calls l.0 (λ e. absurd (cc)) l.1
 step_faulted sys state Collect IsSo calls l = record {
   steps = Collect ∷ [];
   report = unswept l.1;
@@ -89,12 +89,6 @@ step_faulted sys state Collect IsSo calls l = record {
   so = l.3;
 }
 step_faulted sys state (Ack o) IsSo calls l = absurd calls
-
--- of no steps there are no outcomes
-pub no_outcomes : (sys : System) (state now : Machine) (begun : List Step) (outcomes : List Outcome) → begun ≡ [] → Run sys state begun outcomes now → outcomes ≡ []
-no_outcomes sys state now [] [] e run = refl
-no_outcomes sys state now [] (o ∷ outcomes) e run = absurd run
-no_outcomes sys state now (s ∷ begun) outcomes e run = absurd (cc)
 
 item_faulted : (sys : System) (state : Machine) (item : Item) (old counts : Tally) (bytes : List ℕ) (P : Machine → Type 0) → MayCallIn sys.flow item
     → (t : IsItemStopped sys state item old counts bytes (λ now. IsLeftIn sys now item P)) → IsItemFaulted sys state item old counts bytes P
@@ -138,13 +132,6 @@ item_faulted sys state (Auto most) old counts bytes P calls t =
       once = faults-append (map came t.outcomes) (not_taken ∷ []) ∙ ap (λ (n : ℕ). n + 1) (faults-came t.outcomes);
       so = t.so.1;
     }
-
--- ---- counts of faults
-
--- a count that rose and did not fall rose by one
-pub rose_once : (a b : ℕ) → Rose a b → a ≤ b → RoseBy a b 1
-rose_once a b (inl less) h = inl (omega (arith, less))
-rose_once a b (inr most) h = inr (omega (arith, most, h))
 
 -- ---- what is printed of an item
 
@@ -190,10 +177,6 @@ item_broken sys state item old bytes IsCount none b =
       faults = subst IsCount (sym (faults-came r.outcomes)) none;
     }
 
--- a fault that is not one of the store
-abbrev pub IsOther : RunFault → Type 0
-IsOther f = f ≡ stop.Engine fault.StoreFault → ⊥
-
 through_stopped : (f : RunFault) (old new : Engine) (before after : Option Records) (item : Item) (counted counts : Tally) (IsCount : ℕ → Type 0) (first last : SinkView) → IsCount 0
     → PrintsItem {T = Unit {0}} old before item counted (Err f) new after counts first last → PrintsThrough old before item counted IsCount (Err f) new after counts first last
 through_stopped (stop.Out f) old new before after item counted counts IsCount first last none p = record {
@@ -204,13 +187,13 @@ through_stopped (stop.Out f) old new before after item counted counts IsCount fi
 through_stopped (stop.Engine f) old new before after item counted counts IsCount first last none p = record {
   bytes = p.bytes;
   taken = p.taken;
-  does = λ sys state st. p.does sys state st;
+  does = λ sys state st. (p.does sys state st, none);
 }
 
-pub through-stopped : (f : RunFault) (old new : Engine) (before after : Option Records) (item : Item) (counted counts : Tally) (a b : ℕ) (first last : SinkView) → a ≤ b
+pub through-stopped : (f : RunFault) (old new : Engine) (before after : Option Records) (item : Item) (counted counts : Tally) (a b : ℕ) (first last : SinkView) → RoseBy a b 0
     → PrintsItem {T = Unit {0}} old before item counted (Err f) new after counts first last → PrintsThrough old before item counted (RoseBy a b) (Err f) new after counts first last
-through-stopped f old new before after item counted counts a b first last h p =
-    through_stopped f old new before after item counted counts (RoseBy a b) first last (inl (omega (arith, h))) p
+through-stopped f old new before after item counted counts a b first last none p =
+    through_stopped f old new before after item counted counts (RoseBy a b) first last none p
 
 -- the store failed in the item, and the line that tells it was written
 pub through-fault : (old new : Engine) (before after : Option Records) (item : Item) (counted counts : Tally) (IsCount : ℕ → Type 0) (first mid last : SinkView)
@@ -230,8 +213,8 @@ through-fault old new before after item counted counts IsCount first mid last ca
 pub through-fault_cut : (old new : Engine) (before after : Option Records) (item : Item) (counted counts : Tally) (a b : ℕ) (f : OutFault) (first mid last : SinkView)
     → ((sys : System) (state : Machine) → StandsFor sys old before state → MayCallIn sys.flow item)
     → PrintsItem {T = Unit {0}} old before item counted (Err (stop.Engine fault.StoreFault)) new after counts first mid → IsCutOff (fault_line (counts.steps + 1)) f mid last
-    → Rose a b → a ≤ b → (now : Tally) → PrintsThrough old before item counted (RoseBy a b) (Err (stop.Out f)) new after now first last
-through-fault_cut old new before after item counted counts a b f first mid last calls p c rose never now =
+    → RoseBy a b 1 → (now : Tally) → PrintsThrough old before item counted (RoseBy a b) (Err (stop.Out f)) new after now first last
+through-fault_cut old new before after item counted counts a b f first mid last calls p c once now =
     let line = fault_line (counts.steps + 1) in
     let at = taken_part line f mid last c in
     record {
@@ -243,6 +226,6 @@ through-fault_cut old new before after item counted counts a b f first mid last 
             of_item = g.of_item;
             others = at.other;
             text = g.text ∙ ap (λ (t : List ℕ). p.bytes ++ t) at.parts ∙ sym (append_assoc p.bytes at.one at.other);
-            faults = subst (RoseBy a b) (sym g.once) (rose_once a b rose never);
+            faults = subst (RoseBy a b) (sym g.once) once;
           };
     }

@@ -17,7 +17,8 @@ use Rattle.fw_keep.specs.Stored.{Records}
 use Rattle.fw_running.specs.EffectText.{outcome_text}
 use Rattle.fw_run.proofs.ItemLaws.{item-run}
 use Rattle.fw_run.proofs.RunLaws.{idle-append}
-use Rattle.fw_run.specs.Enduring.{Report, came, not_taken, unswept, is_fault, faults_in, outcomes_in, shown_in, ItemEndures, ItemsEndure, reports_text, report_text, EnduredRun, NoneEnduredReads, IsEndureKnown, EnduredItem}
+use Rattle.fw_run.specs.EnduredItems.{EnduredItem}
+use Rattle.fw_run.specs.Enduring.{Report, came, not_taken, unswept, is_fault, faults_in, outcomes_in, shown_in, ItemEndures, ItemsEndure, reports_text, report_text, EnduredRun, NoneEnduredReads, IsEndureKnown}
 use Rattle.fw_run.specs.Performing.{ItemRun, TrustsItem}
 use Rattle.fw_run.specs.Printed.{outcomes_text, idle_count}
 

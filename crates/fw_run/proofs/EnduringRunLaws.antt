@@ -1,22 +1,17 @@
 -- A run that goes on through faults of the store, item by item, and how it ends.
-use Rattle.std.proofs.Common.{◌≡◌, inl, inr, ℕ, zero, suc, get_or, ◌+◌, ◌-◌, ◌^◌, ◌<◌, ◌≤◌, List, [], ◌∷◌, ◌++◌, length, map, take, drop, Option, Some, None, Result, Ok, Err, refl, sym, ◌∙◌, ap, subst, arith, append_assoc}
-use Rattle.std.proofs.lemmas.Bool.{cases_lt, false≢true}
-use Rattle.std.proofs.lemmas.List.{append-nil, length-append, take-append-drop, drop_more, take_more, take_all}
+use Rattle.std.proofs.Common.{◌≡◌, inl, ℕ, get_or, ◌+◌, ◌-◌, ◌<◌, ◌≤◌, List, [], ◌∷◌, ◌++◌, length, map, take, drop, Option, Ok, Err, refl, sym, ◌∙◌, ap, subst, arith, append_assoc}
+use Rattle.std.proofs.lemmas.List.{append-nil, length-append, take_all}
 use Rattle.std.specs.Prelude.{IsSome}
 use Rattle.std.specs.Result.{IsErrOf}
 use Rattle.fw_outside.specs.declared.fault.OutFault.{OutFault}
 use Rattle.fw_outside.specs.declared.fault.OutFault.TheVariants.{NoMemory}
-use Rattle.fw_outside.specs.Outside.{SinkView, Rose}
+use Rattle.fw_outside.specs.Outside.{SinkView}
 use Rattle.fw_flow.specs.declared.step.Step.{Step}
 use Rattle.fw_flow.specs.declared.step.Step.TheVariants.{Recover}
 use Rattle.fw_flow.specs.Dataflow.{Dataflow, System}
 use Rattle.fw_flow.specs.WellFormed.{IsWellFormedSystem}
 use Rattle.fw_schedule.specs.declared.item.Item.{Item}
-use Rattle.fw_schedule.specs.declared.item.Item.TheVariants.{One, Auto}
-use Rattle.fw_schedule.specs.Schedule.{steps_in, step_count}
-use Rattle.fw_model.proofs.AutoLaws.{auto-goes_on}
-use Rattle.fw_model.proofs.GoingOn.{runs-go_on}
-use Rattle.fw_model.specs.Auto.{IsAutoRun}
+use Rattle.fw_schedule.specs.declared.item.Item.TheVariants.{One}
 use Rattle.fw_model.specs.Machine.{Machine, first_state}
 use Rattle.fw_model.specs.Steps.{Outcome, Run}
 use Rattle.fw_keep.specs.Catalogue.{AreAscending, ids_of}
@@ -24,76 +19,26 @@ use Rattle.fw_keep.specs.Stored.{Records, SpellsNone}
 use Rattle.fw_running.specs.declared.fault.EngineFault.TheVariants as fault
 use Rattle.fw_engine.specs.declared.engine.Engine.{Engine}
 use Rattle.fw_engine.specs.Engine.{flow_of, StandsFor, IsDamaged, keep_of}
-use Rattle.fw_run.proofs.EnduringLaws.{faults-append, idle_shown-append, reports_text-append, faults-came, endured-taken, endured-next, endured-none, goes-on, endure_known-less, endure_known-take, endure_trusts}
-use Rattle.fw_run.proofs.EnduringItemLaws.{rose_once, no_outcomes, item_broken}
-use Rattle.fw_run.proofs.ItemLaws.{item-run}
-use Rattle.fw_run.proofs.Roses.{rose_last}
-use Rattle.fw_run.proofs.RunLaws.{text-append}
+use Rattle.fw_run.proofs.EnduringLaws.{faults-append, idle_shown-append, reports_text-append, faults-came, endured-next, endured-none, goes-on, endure_known-less, endure_known-take, endure_trusts}
+use Rattle.fw_run.proofs.EnduringItemLaws.{item_broken}
+use Rattle.fw_run.proofs.FaultCounts.{rose_more}
+use Rattle.fw_run.proofs.PlaceLaws.{parts_at, one_more-item}
+use Rattle.fw_run.proofs.Roses.{of_same_fault}
 use Rattle.fw_run.proofs.StandingLaws.{holds-writes, entry-in}
+use Rattle.fw_run.proofs.StoppedLaws.{no_outcomes, stopped_begun, none_told}
 use Rattle.fw_run.proofs.WritingLaws.{written_nothing, written_more, taken_part, taken_nothing, taken_more, taken_written, taken_until, cut_of-taken}
 use Rattle.fw_run.specs.declared.fault.RunFault.{RunFault}
 use Rattle.fw_run.specs.declared.fault.RunFault.TheVariants as stop
 use Rattle.fw_run.specs.declared.tally.Tally.{Tally}
-use Rattle.fw_run.specs.Enduring.{Report, came, faults_in, outcomes_in, shown_in, reports_text, endured_line, endured_text, EnduredRun, IsEndureKnown, RoseBy, PrintsEndured, IsEndured, IsEnduredToDamage, IsItemEndured, IsItemBroken, EnduresItem, PrintsThrough, IsEnduredSoFar, AreEndured}
+use Rattle.fw_run.specs.EnduredItems.{IsItemEndured, IsItemBroken, EnduresItem, PrintsThrough, IsEnduredSoFar, AreEndured}
+use Rattle.fw_run.specs.Enduring.{Report, came, faults_in, outcomes_in, shown_in, reports_text, endured_line, endured_text, EnduredRun, IsEndureKnown, RoseBy, PrintsEndured, IsEndured, IsEnduredToDamage}
 use Rattle.fw_run.specs.Fault.{out_fault}
-use Rattle.fw_run.specs.Performing.{WritesUntil, IsCutAfter, TrustsItem, IsItemBegun, IsItemStopped, IsLeftAfter}
+use Rattle.fw_run.specs.Performing.{WritesUntil, IsCutAfter, TrustsItem, IsLeftAfter}
 use Rattle.fw_run.specs.Printed.{outcomes_text, idle_count}
 use Rattle.fw_run.specs.Tallies.{tally_of}
 use Rattle.fw_run.specs.Writing.{IsWritten, IsCutOff, WritesText}
 
 -- ---- counts
-
--- a count that rose by so many, and then by so many more
-pub rose_more : (a b c n k : ℕ) → RoseBy a b n → RoseBy b c k → RoseBy a c (n + k)
-rose_more a b c n k (inl h) (inl g) = inl (omega (arith, h, g))
-rose_more a b c n k (inr h) (inl g) = inr (omega (arith, h, g))
-rose_more a b c n k h (inr g) = inr g
-
--- a count that rose by so many, and did not fall since
-pub rose_still : (a b c n : ℕ) → b ≤ c → RoseBy a b n → RoseBy a c n
-rose_still a b c n h (inl r) = inl (omega (arith, h, r))
-rose_still a b c n h (inr r) = inr (omega (arith, h, r))
-
--- an item in which it rose once, or not
-pub rose_by_on : (a b c n k : ℕ) → b ≤ c → k ≤ 1 → RoseBy a b n → (1 ≤ k → Rose b c) → RoseBy a c (n + k)
-rose_by_on a b c n k h once r f = elim (cases_lt 0 k) [
-  | inl some ↦
-      let same : k ≡ 1 = omega (arith, once, some) in
-      subst (λ (m : ℕ). RoseBy a c (n + m)) (sym same) (rose_more a b c n 1 r (rose_once b c (f (omega (arith, some))) h))
-  | inr none ↦ rose_more a b c n k r (inl (omega (arith, none, h)))
-]
-
--- so the count rose in one of them, if it did
-pub rose_on : (a b c n k : ℕ) → a ≤ b → b ≤ c → k ≤ 1 → (1 ≤ n → Rose a b) → (1 ≤ k → Rose b c) → 1 ≤ n + k → Rose a c
-rose_on a b c n k h g once r f some = elim (cases_lt 0 k) [
-  | inl last ↦ rose_last a b c h g (f (omega (arith, last)))
-  | inr none ↦ rose_first a b c g (r (omega (arith, none, some)))
-]
-  where
-    rose_first : (x y z : ℕ) → y ≤ z → Rose x y → Rose x z
-    rose_first x y z l (inl less) = inl (omega (arith, l, less))
-    rose_first x y z l (inr most) = inr most
-
--- the items so far and one more
-next_count : (xs : List Item) (i : ℕ) (item : Item) → i < length xs → item ≡ get_or xs i item → step_count (take (i + 1) xs) ≡ step_count (take i xs) + steps_in item
-next_count xs i item below e = ap step_count (take_more xs i item below ∙ ap (λ (s : Item). take i xs ++ s ∷ []) (sym e)) ∙ behind (take i xs)
-  where
-    behind : (ys : List Item) → step_count (ys ++ item ∷ []) ≡ step_count ys + steps_in item
-    behind [] = omega arith
-    behind (y ∷ ys) = omega (arith, behind ys)
-
-first_count : (xs : List Item) (i : ℕ) → step_count (take i xs) ≤ step_count xs
-first_count xs zero = omega arith
-first_count [] (suc i) = omega arith
-first_count (x ∷ xs) (suc i) = omega (arith, first_count xs i)
-
--- the steps so far and those of one item more are no more than all
-pub counts-room : (xs : List Item) (i n : ℕ) (item : Item) → i < length xs → item ≡ get_or xs i item → n ≤ step_count (take i xs) → n + steps_in item ≤ step_count xs
-counts-room xs i n item below e h = omega (arith, next_count xs i item below e, first_count xs (i + 1), h)
-
-pub counts-more : (xs : List Item) (i n m : ℕ) (item : Item) → i < length xs → item ≡ get_or xs i item → n ≤ step_count (take i xs) → m ≤ n + steps_in item
-    → m ≤ step_count (take (i + 1) xs)
-counts-more xs i n m item below e h k = omega (arith, next_count xs i item below e, h, k)
 
 -- ---- what was printed so far
 
@@ -132,20 +77,12 @@ so_far_next sys items item old new before after tally counts count more bytes ot
       stands = t.stands;
     }
 
--- an item stands between those before it and those after it
-parts_at : (items : List Item) (i : ℕ) (item : Item) → i < length items → item ≡ get_or items i item → items ≡ take i items ++ item ∷ drop (i + 1) items
-parts_at items i item below e =
-    sym (ap (λ (xs : List Item). take i items ++ xs) (sym (drop_more items i item below ∙ ap (λ (s : Item). s ∷ drop (i + 1) items) (sym e))) ∙ take-append-drop i items)
-
-one_more : (items : List Item) (i : ℕ) (item : Item) → i < length items → item ≡ get_or items i item → take (i + 1) items ≡ take i items ++ item ∷ []
-one_more items i item below e = take_more items i item below ∙ ap (λ (s : Item). take i items ++ s ∷ []) (sym e)
-
 pub endured_so_far-more : (Tells : Type 0) (sys : System) (items : List Item) (i : ℕ) (old new : Engine) (before after : Option Records) (item : Item) (tally counts : Tally) (count more : ℕ)
     (IsCount : ℕ → Type 0) (first middle last : SinkView) → (Tells → IsSome before) → AreEndured Tells sys (take i items) old before tally count first middle
     → i < length items → item ≡ get_or items i item → PrintsThrough old before item tally IsCount (Ok more) new after counts middle last
     → AreEndured Tells sys (take (i + 1) items) new after counts (count + more) first last
 endured_so_far-more Tells sys items i old new before after item tally counts count more IsCount first middle last told u below e p =
-    let at = one_more items i item below e in
+    let at = one_more-item items i item below e in
     subst (λ (xs : List Item). AreEndured Tells sys xs new after counts (count + more) first last) (sym at) (record {
       bytes = u.bytes ++ p.bytes;
       written = written_more u.bytes p.bytes first middle last u.written p.taken;
@@ -183,41 +120,13 @@ part_of-first sys w items others r bytes more e =
       faults = omega (arith, count, faults-came g.outcomes);
     }
 
--- where an item was stopped it goes on, and the store does not fail in it
-stopped_begun : (sys : System) (item : Item) (state : Machine) (steps : List Step) (outcomes : List Outcome) (old new : Tally) (bytes : List ℕ) (IsSo : Machine → Type 0)
-    → IsWellFormedSystem sys → Run sys (first_state sys) steps outcomes state → IsItemStopped sys state item old new bytes IsSo → IsItemBegun sys state item bytes
-stopped_begun sys (One step) state steps outcomes old new bytes IsSo w r t =
-    let found = item-run sys w steps outcomes state r (One step) in
-    let none : t.outcomes ≡ [] = no_outcomes sys state t.now t.begun t.outcomes t.begins.0 t.run in
-    record {
-      of_item = found;
-      others = outcomes_text sys.flow found.outcomes;
-      text = sym (ap (λ (b : List ℕ). b ++ outcomes_text sys.flow found.outcomes) (t.text ∙ ap (λ (o : List Outcome). outcomes_text sys.flow o) none));
-    }
-stopped_begun sys (Auto most) state steps outcomes old new bytes IsSo w r t =
-    let reached = runs-go_on sys (first_state sys) state t.now steps t.begun outcomes t.outcomes r t.run in
-    let rest = item-run sys w (steps ++ t.begun) (outcomes ++ t.outcomes) t.now reached (Auto (most - length t.begun)) in
-    let all : length t.begun + (most - length t.begun) ≡ most = omega (arith, t.begins.0) in
-    record {
-      of_item = record {
-        steps = t.begun ++ rest.steps;
-        outcomes = t.outcomes ++ rest.outcomes;
-        last = rest.last;
-        comes = subst (λ (n : ℕ). IsAutoRun sys state n (t.begun ++ rest.steps) rest.last) all
-            (auto-goes_on sys state t.now rest.last t.begun rest.steps (most - length t.begun) t.begins.1 rest.comes);
-        run = runs-go_on sys state t.now rest.last t.begun rest.steps t.outcomes rest.outcomes t.run rest.run;
-      };
-      others = outcomes_text sys.flow rest.outcomes;
-      text = text-append sys.flow t.outcomes rest.outcomes ∙ ap (λ (b : List ℕ). b ++ outcomes_text sys.flow rest.outcomes) (sym t.text);
-    }
-
 -- what a fault in an item says of its lines
 fault_broken : (sys : System) (item : Item) (state : Machine) (steps : List Step) (outcomes : List Outcome) (old counts : Tally) (bytes : List ℕ) (IsCount : ℕ → Type 0) (f : RunFault)
-    (before : Option Records) (new : Engine) (after : Option Records) → IsWellFormedSystem sys → Run sys (first_state sys) steps outcomes state → IsCount 0
+    (before : Option Records) (new : Engine) (after : Option Records) → IsWellFormedSystem sys → Run sys (first_state sys) steps outcomes state
     → TrustsItem sys state item before → EnduresItem sys state item old counts bytes IsCount (Err f) before new after → IsItemBroken sys state item old bytes IsCount
-fault_broken sys item state steps outcomes old counts bytes IsCount (stop.Out f) before new after w r none trusts d = d trusts
-fault_broken sys item state steps outcomes old counts bytes IsCount (stop.Engine f) before new after w r none trusts d =
-    item_broken sys state item old bytes IsCount none (stopped_begun sys item state steps outcomes old counts bytes (IsLeftAfter sys item f before new after) w r d)
+fault_broken sys item state steps outcomes old counts bytes IsCount (stop.Out f) before new after w r trusts d = d trusts
+fault_broken sys item state steps outcomes old counts bytes IsCount (stop.Engine f) before new after w r trusts d =
+    item_broken sys state item old bytes IsCount d.1 (stopped_begun sys item state steps outcomes old counts bytes (IsLeftAfter sys item f before new after) w r d.0)
 
 -- all of the bytes that were taken
 cut_all : (bytes : List ℕ) (f : OutFault) (first last : SinkView) → IsCutAfter bytes f first last → IsCutOff bytes f first last
@@ -227,9 +136,9 @@ cut_all bytes f first last c = subst (λ (b : List ℕ). IsCutOff b f first last
 pub endure_stops : (T : Type 0) (Tells : Type 0) (sys : System) (items : List Item) (i : ℕ) (old new : Engine) (before after : Option Records) (item : Item) (tally counts : Tally)
     (count a b c : ℕ) (f : RunFault) (first middle last : SinkView) → IsWellFormedSystem sys → (Tells → IsSome before)
     → AreEndured Tells sys (take i items) old before tally count first middle → i < length items → item ≡ get_or items i item
-    → PrintsThrough old before item tally (RoseBy b c) (Err f) new after counts middle last → RoseBy a b count → b ≤ c
+    → PrintsThrough old before item tally (RoseBy b c) (Err f) new after counts middle last → RoseBy a b count
     → WritesText (PrintsEndured Tells (λ faults others. RoseBy a c faults) sys items) (λ printed. WritesUntil {T = T} printed (Err f) first last)
-endure_stops T Tells sys items i old new before after item tally counts count a b c f first middle last w told u below e p rose never = record {
+endure_stops T Tells sys items i old new before after item tally counts count a b c f first middle last w told u below e p rose = record {
   printed = u.bytes ++ p.bytes;
   text = λ known.
       let found = part (endure_known-take Tells sys (i + 1) items known) in
@@ -239,11 +148,11 @@ endure_stops T Tells sys items i old new before after item tally counts count a 
   where
     part : IsEndureKnown Tells sys (take (i + 1) items) → (n : ℕ) × IsPart sys items (u.bytes ++ p.bytes) n × RoseBy a c n
     part k =
-        let known = subst (IsEndureKnown Tells sys) (one_more items i item below e) k in
+        let known = subst (IsEndureKnown Tells sys) (one_more-item items i item below e) k in
         let s = u.so_far (endure_known-less Tells sys (take i items) (item ∷ []) known) in
         let r = s.of_items in
         let trusts = endure_trusts Tells sys (take i items) item before told known r in
-        let broken = fault_broken sys item r.last r.steps (outcomes_in r.reports) tally counts p.bytes (RoseBy b c) f before new after w r.run (inl (omega (arith, never))) trusts (p.does sys r.last s.stands) in
+        let broken = fault_broken sys item r.last r.steps (outcomes_in r.reports) tally counts p.bytes (RoseBy b c) f before new after w r.run trusts (p.does sys r.last s.stands) in
         let next = endured-next sys (take i items) item r broken.of_item in
         let number : tally.steps ≡ 0 + length r.reports = omega (arith, s.counted) in
         let lines : reports_text sys.flow 0 next.reports ≡ (u.bytes ++ p.bytes) ++ broken.others =
@@ -261,15 +170,10 @@ endure_stops T Tells sys items i old new before after item tally counts count a 
 
 -- ---- a damaged record
 
--- nothing is told where no records are
-untold : (records : Option Records) → records ≡ None → IsSome records → ⊥
-untold None e told = absurd (false≢true told)
-untold (Some held) e told = absurd (cc)
-
 damage_stops : (Tells : Type 0) (Told : ℕ → Type 0) (sys : System) (items : List Item) (i id : ℕ) (old new : Engine) (before after : Option Records) (given : Option (ℕ × List ℕ)) (tally counts : Tally)
     (count : ℕ) (IsCount : ℕ → Type 0) (first middle last : SinkView) → (Tells → IsSome before) → AreEndured Tells sys (take i items) old before tally count first middle
     → items ≡ take i items ++ One Recover ∷ drop (i + 1) items → flow_of old ≡ sys.flow
-    → PrintsThrough old before (One Recover) tally IsCount (Err (stop.Engine (fault.Damaged id))) new after counts middle last → IsDamaged old id given → Told count
+    → PrintsThrough old before (One Recover) tally IsCount (Err (stop.Engine (fault.Damaged id))) new after counts middle last → IsDamaged old id given → (IsCount 0 → Told count)
     → IsEnduredToDamage Tells Told sys items id given first last
 damage_stops Tells Told sys items i id old new before after given tally counts count IsCount first middle last told u parts same p d rose = record {
   printed = u.bytes ++ p.bytes;
@@ -279,8 +183,8 @@ damage_stops Tells Told sys items i id old new before after given tally counts c
   parts = parts;
   untold = λ tells.
       let s = u.so_far (inl tells) in
-      let t = p.does sys s.of_items.last s.stands in
-      untold before t.so (told tells);
+      let t = (p.does sys s.of_items.last s.stands).0 in
+      none_told before t.so (told tells);
   entry = d.entry;
   named = d.named;
   bytes = d.bytes;
@@ -289,29 +193,22 @@ damage_stops Tells Told sys items i id old new before after given tally counts c
   stops = λ k.
       let s = u.so_far k in
       let state = s.of_items.last in
-      let t = p.does sys state s.stands in
+      let found = p.does sys state s.stands in
+      let t = found.0 in
       let none : t.outcomes ≡ [] = no_outcomes sys state t.now t.begun t.outcomes t.begins.0 t.run in
       let nothing : p.bytes ≡ [] = t.text ∙ ap (λ (o : List Outcome). outcomes_text sys.flow o) none in
       let text : u.bytes ++ p.bytes ≡ reports_text sys.flow 0 s.of_items.reports = ap (λ (b : List ℕ). u.bytes ++ b) nothing ∙ append-nil u.bytes ∙ s.text in
-      (s.of_items, text, subst Told s.faults rose, entry-in sys old before state d.entry s.stands d.there);
+      (s.of_items, text, subst Told s.faults (rose found.1), entry-in sys old before state d.entry s.stands d.there);
 }
-
--- the fault of an answer
-same_fault : {A : Type 0} (P : RunFault → Type 0) (f g : RunFault) → IsErrOf {T = A} (Err f) g → P f → P g
-same_fault {A} P f g e p = subst P (ap fault_in e) p
-  where
-    fault_in : Result A RunFault → RunFault
-    fault_in (Ok a) = f
-    fault_in (Err h) = h
 
 -- a damaged record stops the run in the item of this place
 pub endure_damaged : {A : Type 0} (Tells : Type 0) (Told : ℕ → Type 0) (sys : System) (items : List Item) (i id : ℕ) (start old new : Engine) (begun before after : Option Records)
     (given : Option (ℕ × List ℕ)) (item : Item) (tally counts : Tally) (count : ℕ) (IsCount : ℕ → Type 0) (f : RunFault) (first middle last : SinkView)
     → StandsFor sys start begun (first_state sys) → flow_of old ≡ flow_of start → (Tells → IsSome before) → AreEndured Tells sys (take i items) old before tally count first middle
     → i < length items → item ≡ get_or items i item → item ≡ One Recover → PrintsThrough old before item tally IsCount (Err f) new after counts middle last → IsDamaged old id given
-    → Told count → IsErrOf {T = A} (Err f) (stop.Engine (fault.Damaged id)) → IsEnduredToDamage Tells Told sys items id given first last
+    → (IsCount 0 → Told count) → IsErrOf {T = A} (Err f) (stop.Engine (fault.Damaged id)) → IsEnduredToDamage Tells Told sys items id given first last
 endure_damaged Tells Told sys items i id start old new begun before after given item tally counts count IsCount f first middle last st same told u below e recovers p d rose is =
-    let one = same_fault (λ g. PrintsThrough old before item tally IsCount (Err g) new after counts middle last) f (stop.Engine (fault.Damaged id)) is p in
+    let one = of_same_fault (λ g. PrintsThrough old before item tally IsCount (Err g) new after counts middle last) f (stop.Engine (fault.Damaged id)) is p in
     damage_stops Tells Told sys items i id old new before after given tally counts count IsCount first middle last told u
     (subst (λ (x : Item). items ≡ take i items ++ x ∷ drop (i + 1) items) recovers (parts_at items i item below e)) (same ∙ st.flow)
     (subst (λ (x : Item). PrintsThrough old before x tally IsCount (Err (stop.Engine (fault.Damaged id))) new after counts middle last) recovers one) d rose
@@ -398,6 +295,6 @@ endure_not_begun T Tells sys items count view w =
     let part = part_of-first sys w [] items (endured-none sys) [] [] refl in
     record {
       printed = [];
-      text = λ k. (part.of_items, part.others, part.text, subst (RoseBy count count) (sym part.faults) (inl (omega arith)));
+      text = λ k. (part.of_items, part.others, part.text, subst (RoseBy count count) (sym part.faults) refl);
       written = cut_all [] NoMemory view view (taken_nothing view);
     }

@@ -1,8 +1,7 @@
--- Counts of faults, over several calls.
-use Rattle.std.proofs.Common.{ℕ, ◌≤◌, inl, inr, arith}
+-- Counts of refusals over several calls, and one fault in answers of several types.
+use Rattle.std.proofs.Common.{ℕ, ◌≤◌, inl, inr, Result, Ok, Err, ap, subst, arith}
 use Rattle.std.proofs.lemmas.Bool.{cases_lt}
 use Rattle.fw_outside.specs.Outside.{Rose}
-use Rattle.std.proofs.Common.{Result, Ok, Err, ap}
 use Rattle.std.specs.Result.{IsErrOf}
 
 -- a count that rose in the last call rose in all of them
@@ -23,3 +22,11 @@ same_fault A B E fault other e = ap with_fault (ap fault_in e)
 
     with_fault : E → Result B E
     with_fault f = Err f
+
+-- and what is true of the one is true of the other
+pub of_same_fault : {A E : Type 0} (P : E → Type 0) (fault other : E) → IsErrOf {T = A} {E = E} (Err fault) other → P fault → P other
+of_same_fault {A} {E} P fault other e p = subst P (ap fault_in e) p
+  where
+    fault_in : Result A E → E
+    fault_in (Ok a) = fault
+    fault_in (Err f) = f

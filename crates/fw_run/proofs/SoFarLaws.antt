@@ -1,8 +1,7 @@
 -- What was printed of items so far, and how a run ends.
-use Rattle.std.proofs.Common.{◌≡◌, inl, inr, ℕ, zero, suc, get_or, ◌+◌, ◌-◌, ◌<◌, ◌≤◌, List, [], ◌∷◌, ◌++◌, length, take, drop, Option, Some, None, Result, Ok, Err, refl, sym, ◌∙◌, ap, subst, arith, append_assoc}
+use Rattle.std.proofs.Common.{◌≡◌, inl, inr, ℕ, zero, suc, get_or, ◌+◌, ◌-◌, ◌<◌, ◌≤◌, List, [], ◌∷◌, ◌++◌, length, take, drop, Option, Some, None, Ok, Err, refl, sym, ◌∙◌, ap, subst, arith, append_assoc}
 use Rattle.std.proofs.lemmas.Bool.{cases_lt, false≢true}
-use Rattle.std.proofs.lemmas.List.{append-nil, take-append-drop, drop_more, take_more, take_all}
-use Rattle.std.specs.List.{AllZip, Contains}
+use Rattle.std.proofs.lemmas.List.{append-nil, take_all}
 use Rattle.std.specs.Prelude.{IsSome}
 use Rattle.std.specs.Result.{IsErrOf}
 use Rattle.fw_outside.specs.declared.fault.OutFault.{OutFault}
@@ -14,22 +13,22 @@ use Rattle.fw_flow.specs.Dataflow.{Dataflow, System}
 use Rattle.fw_flow.specs.WellFormed.{IsWellFormedSystem}
 use Rattle.fw_schedule.specs.declared.item.Item.{Item}
 use Rattle.fw_schedule.specs.declared.item.Item.TheVariants.{One, Auto}
-use Rattle.fw_schedule.specs.Schedule.{steps_in, step_count, step_limit}
 use Rattle.fw_model.proofs.GoingOn.{runs-go_on}
 use Rattle.fw_model.specs.Machine.{Machine, first_state}
 use Rattle.fw_model.specs.Steps.{Outcome, Run}
-use Rattle.fw_keep.specs.declared.entry.Entry.{Entry}
 use Rattle.fw_keep.specs.Catalogue.{AreAscending, ids_of}
 use Rattle.fw_keep.specs.Stored.{Records, SpellsNone}
-use Rattle.fw_stands.specs.Written.{IsEntryOf, uncollected}
 use Rattle.fw_running.specs.declared.fault.EngineFault.TheVariants as fault
 use Rattle.fw_running.specs.Steps.{IsLeftBy}
 use Rattle.fw_engine.specs.declared.engine.Engine.{Engine}
 use Rattle.fw_engine.specs.Engine.{flow_of, StandsFor, IsDamaged, keep_of}
-use Rattle.fw_run.proofs.ItemLaws.{item-run, comes-on, comes-next, items-run}
-use Rattle.fw_run.proofs.ItemPrintLaws.{auto_on}
+use Rattle.fw_run.proofs.ItemLaws.{comes-on, comes-next, items-run}
 use Rattle.fw_run.proofs.KnownLaws.{known_before, IsPartOf, cut_known}
+use Rattle.fw_run.proofs.PlaceLaws.{parts_at, one_more-item}
+use Rattle.fw_run.proofs.Roses.{of_same_fault}
 use Rattle.fw_run.proofs.RunLaws.{text-append, printed_run, begins_more}
+use Rattle.fw_run.proofs.StandingLaws.{holds-writes, entry-in}
+use Rattle.fw_run.proofs.StoppedLaws.{stopped_begun, none_told}
 use Rattle.fw_run.proofs.TallyLaws.{tally-append}
 use Rattle.fw_run.proofs.WritingLaws.{written_nothing, written_more, taken_part, taken_nothing, taken_more, taken_until}
 use Rattle.fw_run.specs.declared.fault.RunFault.{RunFault}
@@ -38,10 +37,10 @@ use Rattle.fw_run.specs.declared.tally.Tally.{Tally}
 use Rattle.fw_run.specs.Fault.{out_fault}
 use Rattle.fw_run.specs.Headline.{PrintsRun}
 use Rattle.fw_run.specs.Items.{ComesTo}
-use Rattle.fw_run.specs.Performing.{TrustsItem, IsItemTaken, IsItemBegun, IsItemStopped, IsLeftAfter, DoesItem, PrintsItem, IsSoFar, AreTaken, HasRoom, Performs}
+use Rattle.fw_run.specs.Performing.{TrustsItem, IsItemTaken, IsItemBegun, IsItemStopped, IsLeftAfter, DoesItem, PrintsItem, IsSoFar, AreTaken, Performs}
 use Rattle.fw_run.specs.Printed.{outcomes_text, idle_count, done_line, text_of}
 use Rattle.fw_run.specs.Stopping.{HoldsWrites, LeavesWrites, StopsIn, MayCallIn, IsLeftIn, IsStoppedByStore, IsEntryIn, IsStoppedByDamage}
-use Rattle.fw_run.specs.Tallies.{AreOfSteps, tally_of, with_tally}
+use Rattle.fw_run.specs.Tallies.{tally_of, with_tally}
 use Rattle.fw_run.specs.Trusting.{AreKnown, BeginsWith}
 use Rattle.fw_run.specs.Writing.{IsWritten, IsCutOff}
 
@@ -79,14 +78,6 @@ up_to-none Tells sys items engine records view st = record {
 }
 
 -- ---- one item more
-
--- an item stands between those before it and those after it
-parts_at : (items : List Item) (i : ℕ) (item : Item) → i < length items → item ≡ get_or items i item → items ≡ take i items ++ item ∷ drop (i + 1) items
-parts_at items i item below e =
-    sym (ap (λ (xs : List Item). take i items ++ xs) (sym (drop_more items i item below ∙ ap (λ (s : Item). s ∷ drop (i + 1) items) (sym e))) ∙ take-append-drop i items)
-
-one_more-item : (items : List Item) (i : ℕ) (item : Item) → i < length items → item ≡ get_or items i item → take (i + 1) items ≡ take i items ++ item ∷ []
-one_more-item items i item below e = take_more items i item below ∙ ap (λ (s : Item). take i items ++ s ∷ []) (sym e)
 
 -- a step of known items reads what was put
 trusts_step : (Tells : Type 0) (sys : System) (items : List Item) (step : Step) (steps : List Step) (state : Machine) (records : Option Records) → (Tells → IsSome records)
@@ -169,38 +160,6 @@ up_to-more Tells sys items i old new before after item tally counts value first 
 
 -- ---- a run that stops in an item
 
--- where an item was stopped it goes on
-stopped_begun : (sys : System) (item : Item) (state : Machine) (steps : List Step) (outcomes : List Outcome) (tally counts : Tally) (bytes : List ℕ) (IsSo : Machine → Type 0)
-    → IsWellFormedSystem sys → Run sys (first_state sys) steps outcomes state → IsItemStopped sys state item tally counts bytes IsSo → IsItemBegun sys state item bytes
-stopped_begun sys (One step) state steps outcomes tally counts bytes IsSo w r t =
-    let found = item-run sys w steps outcomes state r (One step) in
-    let none : t.outcomes ≡ [] = no_outcomes t.begun t.outcomes t.begins.0 t.run in
-    record {
-      of_item = found;
-      others = outcomes_text sys.flow found.outcomes;
-      text = sym (ap (λ (b : List ℕ). b ++ outcomes_text sys.flow found.outcomes) (t.text ∙ ap (λ (o : List Outcome). outcomes_text sys.flow o) none));
-    }
-  where
-    no_outcomes : (begun : List Step) (others : List Outcome) → begun ≡ [] → Run sys state begun others t.now → others ≡ []
-    no_outcomes [] [] e run = refl
-    no_outcomes [] (o ∷ others) e run = absurd run
-    no_outcomes (s ∷ begun) others e run = absurd (cc)
-stopped_begun sys (Auto most) state steps outcomes tally counts bytes IsSo w r t =
-    let reached = runs-go_on sys (first_state sys) state t.now steps t.begun outcomes t.outcomes r t.run in
-    let rest = item-run sys w (steps ++ t.begun) (outcomes ++ t.outcomes) t.now reached (Auto (most - length t.begun)) in
-    let all : length t.begun + (most - length t.begun) ≡ most = omega (arith, t.begins.0) in
-    record {
-      of_item = record {
-        steps = t.begun ++ rest.steps;
-        outcomes = t.outcomes ++ rest.outcomes;
-        last = rest.last;
-        comes = auto_on sys state t.now rest.last t.begun rest.steps (most - length t.begun) most t.begins.1 rest.comes all;
-        run = runs-go_on sys state t.now rest.last t.begun rest.steps t.outcomes rest.outcomes t.run rest.run;
-      };
-      others = outcomes_text sys.flow rest.outcomes;
-      text = text-append sys.flow t.outcomes rest.outcomes ∙ ap (λ (b : List ℕ). b ++ outcomes_text sys.flow rest.outcomes) (sym t.text);
-    }
-
 -- first bytes of an item's lines, behind the lines of those before it, are part of the whole text
 part_of-item : (sys : System) (items others : List Item) (item : Item) (engine : Engine) (records : Option Records) (tally : Tally) (bytes more : List ℕ) → IsWellFormedSystem sys
     → (s : IsSoFar sys items engine records tally bytes) → IsItemBegun sys s.state item more → IsPartOf sys (items ++ item ∷ others) (bytes ++ more)
@@ -259,22 +218,18 @@ stops_at {A} T Tells sys items i old new before after item tally counts f first 
 
 -- ---- what the store holds
 
-holds_writes : (sys : System) (engine : Engine) → AreAscending (ids_of (keep_of engine).entries) → (records : Option Records) (state : Machine)
-    → StandsFor sys engine records state → HoldsWrites sys records state
-holds_writes sys engine ordered records state st = record { entries = engine.running.parts.keep.entries; ascending = ordered; of_writes = st.entries; held = st.stored }
-
 -- what is left, of states of which something is true, as states of which more is
 left_by : (sys : System) (state : Machine) (step : Step) (P Q : Machine → Type 0) → ((m : Machine) → P m → Q m) → IsLeftBy sys state step P → IsLeftBy sys state step Q
-left_by sys state (Inject s) P Q f l = f state l
-left_by sys state (Deliver e at) P Q f l = f state l
-left_by sys state (Notify p at) P Q f l = f state l
-left_by sys state Progress P Q f l = f state l
-left_by sys state (Checkpoint p) P Q f l = f state l
-left_by sys state Persist P Q f l = f state l
-left_by sys state (Fail ps) P Q f l = f state l
-left_by sys state Recover P Q f l = f state l
+left_by sys state (Inject s) P Q f l = (l.0, f state l.1)
+left_by sys state (Deliver e at) P Q f l = (l.0, f state l.1)
+left_by sys state (Notify p at) P Q f l = (l.0, f state l.1)
+left_by sys state Progress P Q f l = (l.0, f state l.1)
+left_by sys state (Checkpoint p) P Q f l = (l.0, f state l.1)
+left_by sys state Persist P Q f l = (l.0, f state l.1)
+left_by sys state (Fail ps) P Q f l = (l.0, f state l.1)
+left_by sys state Recover P Q f l = (l.0, f state l.1)
 left_by sys state Collect P Q f l = (l.0, l.1, l.2, f l.0 l.3)
-left_by sys state (Ack o) P Q f l = f state l
+left_by sys state (Ack o) P Q f l = (l.0, f state l.1)
 
 left_in : (sys : System) (state : Machine) (item : Item) (P Q : Machine → Type 0) → ((m : Machine) → P m → Q m) → IsLeftIn sys state item P → IsLeftIn sys state item Q
 left_in sys state (One step) P Q f l = left_by sys state step P Q f l
@@ -314,16 +269,8 @@ store_stops Tells sys items i old new before after item tally counts first middl
       let s = u.so_far k in
       let t = p.does sys s.state s.stands in
       stops_in sys (take i items) item old before tally counts u.bytes p.bytes (IsLeftAfter sys item fault.StoreFault before new after)
-      (λ state. IsLeftIn sys state item (HoldsWrites sys after)) s t (left_in sys t.now item (StandsFor sys new after) (HoldsWrites sys after) (holds_writes sys new ordered after));
+      (λ state. IsLeftIn sys state item (HoldsWrites sys after)) s t (left_in sys t.now item (StandsFor sys new after) (HoldsWrites sys after) (holds-writes sys new ordered after));
 }
-
--- the fault of an answer
-same_fault : {A : Type 0} (P : RunFault → Type 0) (f g : RunFault) → IsErrOf {T = A} (Err f) g → P f → P g
-same_fault {A} P f g e p = subst P (ap fault_in e) p
-  where
-    fault_in : Result A RunFault → RunFault
-    fault_in (Ok a) = f
-    fault_in (Err h) = h
 
 pub store_stops-at : {A B : Type 0} (Tells : Type 0) (sys : System) (items : List Item) (i : ℕ) (start old new : Engine) (begun before after : Option Records) (item : Item) (tally counts : Tally)
     (f : RunFault) (first middle last : SinkView) → StandsFor sys start begun (first_state sys) → flow_of old ≡ flow_of start
@@ -333,23 +280,9 @@ pub store_stops-at : {A B : Type 0} (Tells : Type 0) (sys : System) (items : Lis
 store_stops-at {A} {B} Tells sys items i start old new begun before after item tally counts f first middle last st same u below e calls ordered p is =
     store_stops {A = A} Tells sys items i old new before after item tally counts first middle last u below e
     (subst (λ (flow : Dataflow). MayCallIn flow item) (same ∙ st.flow) calls) ordered
-    (same_fault (λ g. PrintsItem {T = A} old before item tally (Err g) new after counts middle last) f (stop.Engine fault.StoreFault) is p)
+    (of_same_fault (λ g. PrintsItem {T = A} old before item tally (Err g) new after counts middle last) f (stop.Engine fault.StoreFault) is p)
 
 -- ---- a damaged record
-
--- what stands beside an element
-beside : {A B : Type 0} (R : A → B → Type 0) (xs : List A) (ys : List B) (x : A) (k : ℕ) → AllZip R xs ys → k < length xs → get_or xs k x ≡ x → (y : B) × Contains ys y × R x y
-beside R [] ys x k z h e = absurd (omega (arith, h))
-beside R (a ∷ xs) [] x k z h e = absurd z
-beside R (a ∷ xs) (b ∷ ys) x zero z h e = (b, (0, omega arith, refl), subst (λ c. R c b) e z.0)
-beside R (a ∷ xs) (b ∷ ys) x (suc k) z h e =
-    let rest = beside R xs ys x k z.1 (omega (arith, h)) e in
-    (rest.0, (suc rest.1.0, omega (arith, rest.1.1), rest.1.2), rest.2)
-
-entry_in : (sys : System) (engine : Engine) (records : Option Records) (state : Machine) (entry : Entry) → StandsFor sys engine records state
-    → Contains engine.running.parts.keep.entries entry → IsEntryIn sys entry state
-entry_in sys engine records state entry st c =
-    beside (IsEntryOf sys state) engine.running.parts.keep.entries (uncollected state) entry c.0 st.entries c.1 c.2
 
 -- an item that was stopped at a recovery was stopped where it began
 stopped_first : (sys : System) (state : Machine) (step : Step) (tally counts : Tally) (bytes : List ℕ) (P Q : Machine → Type 0) → (t : IsItemStopped sys state (One step) tally counts bytes P)
@@ -381,12 +314,8 @@ damage_stops Tells sys items i id old new before after given tally counts first 
       let t = p.does sys s.state s.stands in
       stops_in sys (take i items) (One Recover) old before tally counts u.bytes p.bytes (IsLeftAfter sys (One Recover) (fault.Damaged id) before new after) (IsEntryIn sys d.entry) s t
       (λ untold. stopped_first sys s.state Recover tally counts p.bytes (IsLeftAfter sys (One Recover) (fault.Damaged id) before new after) (IsEntryIn sys d.entry) t
-      (entry_in sys old before s.state d.entry s.stands d.there));
+      (entry-in sys old before s.state d.entry s.stands d.there));
 }
-  where
-    none_told : (records : Option Records) → records ≡ None → IsSome records → ⊥
-    none_told None e told = absurd (false≢true told)
-    none_told (Some held) e told = absurd (cc)
 
 pub damage_stops-at : {A B : Type 0} (Tells : Type 0) (sys : System) (items : List Item) (i id : ℕ) (start old new : Engine) (begun before after : Option Records) (given : Option (ℕ × List ℕ))
     (item : Item) (tally counts : Tally) (f : RunFault) (first middle last : SinkView) → StandsFor sys start begun (first_state sys) → flow_of old ≡ flow_of start
@@ -394,7 +323,7 @@ pub damage_stops-at : {A B : Type 0} (Tells : Type 0) (sys : System) (items : Li
     → item ≡ One Recover → PrintsItem {T = A} old before item tally (Err f) new after counts middle last → IsDamaged old id given
     → IsErrOf {T = B} (Err f) (stop.Engine (fault.Damaged id)) → IsStoppedByDamage Tells sys items id given (λ printed. IsWritten printed first last)
 damage_stops-at {A} {B} Tells sys items i id start old new begun before after given item tally counts f first middle last st same told u below e recovers p d is =
-    let one = same_fault (λ g. PrintsItem {T = A} old before item tally (Err g) new after counts middle last) f (stop.Engine (fault.Damaged id)) is p in
+    let one = of_same_fault (λ g. PrintsItem {T = A} old before item tally (Err g) new after counts middle last) f (stop.Engine (fault.Damaged id)) is p in
     damage_stops {A = A} Tells sys items i id old new before after given tally counts first middle last told u
     (subst (λ (x : Item). items ≡ take i items ++ x ∷ drop (i + 1) items) recovers (parts_at items i item below e)) (same ∙ st.flow)
     (subst (λ (x : Item). PrintsItem {T = A} old before x tally (Err (stop.Engine (fault.Damaged id))) new after counts middle last) recovers one) d
@@ -473,7 +402,7 @@ pub leaves_writes : (Tells : Type 0) (sys : System) (items : List Item) (engine 
     → AreAscending (ids_of (keep_of engine).entries) → AreTaken Tells sys items engine records tally first last → AreKnown Tells sys items → LeavesWrites sys items records
 leaves_writes Tells sys items engine records tally first last ordered u k =
     let s = u.so_far k in
-    record { steps = s.steps; last = s.state; comes = s.comes; holds = holds_writes sys engine ordered records s.state s.stands }
+    record { steps = s.steps; last = s.state; comes = s.comes; holds = holds-writes sys engine ordered records s.state s.stands }
 
 -- the run is not begun
 pub stops_at_start : (T : Type 0) (Tells : Type 0) (sys : System) (items : List Item) (view : SinkView) → IsWellFormedSystem sys → Performs {T = T} Tells sys items (Err (stop.Out NoMemory)) view view
@@ -481,27 +410,3 @@ stops_at_start T Tells sys items view w =
     let run = printed_run sys w items in
     cut_known Tells sys w items 0 [] NoMemory view view (λ n h k. begins_with-none sys items n h)
     (λ k. record { whole = run.0; prints = run.1; others = run.0; parts = refl }) (taken_nothing view)
-
--- ---- how many steps were taken
-
-count-more : (xs : List Item) (i : ℕ) → i < length xs → (item : Item) → item ≡ get_or xs i item → step_count (take (i + 1) xs) ≡ step_count (take i xs) + steps_in item
-count-more xs i below item e = ap step_count (one_more-item xs i item below e) ∙ behind (take i xs)
-  where
-    behind : (ys : List Item) → step_count (ys ++ item ∷ []) ≡ step_count ys + steps_in item
-    behind [] = omega arith
-    behind (y ∷ ys) = omega (arith, behind ys)
-
-count-first : (xs : List Item) (i : ℕ) → step_count (take i xs) ≤ step_count xs
-count-first xs zero = omega arith
-count-first [] (suc i) = omega arith
-count-first (x ∷ xs) (suc i) = omega (arith, count-first xs i)
-
--- so there is room for the steps of the next one
-pub room_at : (xs : List Item) (i : ℕ) (tally : Tally) (item : Item) → i < length xs → item ≡ get_or xs i item → AreOfSteps tally → tally.steps ≤ step_count (take i xs)
-    → step_count xs ≤ step_limit → HasRoom tally item
-room_at xs i tally item below e are h fits = record { of_steps = are; few = omega (arith, count-more xs i below item e, count-first xs (i + 1), h, fits) }
-
--- and no more steps are counted than the items ask for
-pub counts-next : (xs : List Item) (i : ℕ) (tally counts : Tally) (item : Item) → i < length xs → item ≡ get_or xs i item → tally.steps ≤ step_count (take i xs)
-    → counts.steps ≤ tally.steps + steps_in item → counts.steps ≤ step_count (take (i + 1) xs)
-counts-next xs i tally counts item below e h k = omega (arith, count-more xs i below item e, h, k)

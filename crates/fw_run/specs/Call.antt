@@ -11,15 +11,15 @@ use Rattle.fw_keep.specs.Stored.{Records}
 use Rattle.fw_run.specs.declared.status.Status.{Status}
 use Rattle.fw_run.specs.declared.status.Status.TheVariants.{Done, Refused, ReadFault, WriteFault, StoreFault, Damaged, NoMemory}
 use Rattle.fw_run.specs.DenotationText.{PrintsDenotation}
-use Rattle.fw_run.specs.Enduring.{PrintsEndured, RoseBy}
+use Rattle.fw_run.specs.Enduring.{PrintsEndured, RoseBy, RoseByFaults, StaysOrRose}
 use Rattle.fw_run.specs.Listing.{check_text}
-use Rattle.fw_run.specs.Status.{IsTold, note_line, status_number}
+use Rattle.fw_run.specs.Status.{IsTold, faults_told, note_line, status_number}
 use Rattle.fw_generate.specs.Laws.{AreAccepted}
 use Rattle.fw_generate.specs.Texts.{Texts}
 use Rattle.fw_run.specs.Tallies.{PrintsSummary}
 use Rattle.fw_run.specs.Texts.{AreThere, AreGenerated, HasTwo, AreOfSystem, IsFlowRefused, IsFirstOfTwoRefused, IsFirstRefusal, IsAskedTwice, IsAskedNoMore, spelled_system, spelled_items}
 use Rattle.fw_run.specs.Trusting.{AreKnown, PrintsKnown}
-use Rattle.fw_run.specs.Words.{Command, Manner, manner_of, asks_folder, run, endure, generate, denote, check, command_of, words_in}
+use Rattle.fw_run.specs.Words.{Command, Manner, through_faults, manner_of, asks_folder, run, endure, generate, denote, check, command_of, words_in}
 use Rattle.fw_run.specs.Work.{IsWholeRun, IsStoreFault, IsDamageIn}
 use Rattle.fw_run.specs.Writing.{IsWritten, IsCutOff, WritesText}
 
@@ -106,24 +106,25 @@ IsRunEnd Tells status = (status ≡ Done)
 abbrev pub IsRefusalEnd : Refusal → Status → Type 0
 IsRefusalEnd refusal status = (status ≡ Refused refusal) ⊎ ((status ≡ ReadFault) ⊎ (status ≡ NoMemory))
 
--- Texts that are there are accepted by a command, or one of them is the first that it refuses. Where the folder tells its texts,
--- that one is refused and of accepted ones all is printed, unless what is outside fails or memory is refused.
+-- Texts that are there are accepted by a command, or one of them is the first that it refuses. Where the folder tells its texts, that
+-- one is refused, and of accepted ones all is printed, also where the folder is not asked; unless what is outside fails or memory is
+-- refused.
 pub record AnswersTexts (Tells : Type 0) (call : Call) (status : Status) : Type 0 where
   pub decided : (command : Command) (texts : Texts) → HasTexts call.told command texts
       → ((flow : Dataflow) × Accepts command texts flow) ⊎ ((refusal : Refusal) × Refuses call.told command refusal)
   pub refuses : (refusal : Refusal) → IsSome call.told → HasRefused call refusal → IsRefusalEnd refusal status
-  pub completes : (texts : Texts) → IsSome call.told → HasAccepted call texts → IsRunEnd Tells status
+  pub completes : (texts : Texts) → (accepted : HasAccepted call texts) → (asks_folder accepted.command ≡ true → IsSome call.told) → IsRunEnd Tells status
 
 -- ---- what is outside
 
--- the text that the call prints of the texts that it accepts: that of the machine's run, as far as it is known, that of the
--- denotation, or the list of the flow's nodes
+-- the text that the call prints of the texts that it accepts: that of the machine's run, as far as it is known, step by step, with
+-- the faults of the store or in one line; that of the denotation; or the list of the flow's nodes
 pub record IsPrintout (Tells : Type 0) (IsSo : ℕ → List ℕ → Type 0) (call : Call) (printed : List ℕ) : Type 0 where
   pub texts : Texts
   pub accepted : HasAccepted call texts
   pub text : Prints Tells IsSo accepted.command texts accepted.flow printed
 
--- all that the call prints was written, and the store did not fail
+-- all that the call prints was written, and it tells no fault of the store
 abbrev pub PrintsAll : Type 0 → Call → SinkView → SinkView → Type 0
 PrintsAll Tells call before after =
     WritesText (IsPrintout Tells (λ faults others. (faults ≡ 0) × (others ≡ [])) call) (λ printed. IsWritten printed before after)
@@ -159,6 +160,15 @@ StopsAtStore Tells call count last records before after = IsRunOf call (IsStoreF
 -- the call is a run, and was ended by a damaged record; the store's count rose from the first number to the second
 abbrev pub StopsAtDamage : Type 0 → Call → ℕ → ℕ → ℕ → Option (ℕ × List ℕ) → SinkView → SinkView → Type 0
 StopsAtDamage Tells call count last id given before after = IsRunOf call (IsDamageIn Tells count last id given before after)
+
+-- How often the store failed: where all went well, never; in a call that does not go on through faults, once where the status tells it,
+-- and else never; in one that does, once at least where the status tells it. How often that was stands with what is printed. Whatever
+-- the status, the count stays or rises by faults.
+pub record CountsFaults (command : Option Command) (status : Status) (before after : ℕ) : Type 0 where
+  pub none : status ≡ Done → after ≡ before
+  pub first : option_and_then manner_of command ≢ Some through_faults → after ≡ faults_told status before
+  pub some : status ≡ StoreFault → RoseByFaults before after
+  pub rises : StaysOrRose before after
 
 -- only a run changes the store, and none that was not begun
 pub record KeepsStore {K : Type 0} (command : Option Command) (status : Status) (before after : K) : Type 0 where

@@ -1,7 +1,7 @@
 -- What comes of the items of a schedule where a fault of the store does not end the run.
-use Rattle.std.specs.Prelude.{◌≡◌, ◌⊎◌, ℕ, ◌+◌, ◌-◌, ◌^◌, ◌<◌, ◌≤◌, Bool, true, false, List, [], ◌∷◌, ◌++◌, length, map, Option, Some, Result, Ok, Err, codes}
+use Rattle.std.specs.Prelude.{◌≡◌, ◌⊎◌, ℕ, zero, suc, ◌+◌, ◌<◌, ◌≤◌, Bool, true, false, List, [], ◌∷◌, ◌++◌, length, map, Option, Some, codes}
 use Rattle.std.specs.Fmt.{decimal}
-use Rattle.fw_outside.specs.Outside.{SinkView}
+use Rattle.fw_outside.specs.Outside.{SinkView, one_more}
 use Rattle.fw_flow.specs.Counting.{how_many}
 use Rattle.fw_flow.specs.declared.step.Step.{Step}
 use Rattle.fw_flow.specs.declared.step.Step.TheVariants.{Collect, Recover}
@@ -13,15 +13,8 @@ use Rattle.fw_model.specs.Machine.{Machine, first_state}
 use Rattle.fw_model.specs.Steps.{Outcome, StepsTo, Run}
 use Rattle.fw_keep.specs.declared.entry.Entry.{Entry}
 use Rattle.fw_keep.specs.Stored.{Records, SpellsNone}
-use Rattle.fw_running.specs.declared.fault.EngineFault.TheVariants as fault
 use Rattle.fw_running.specs.EffectText.{outcome_text}
-use Rattle.fw_running.specs.Steps.{FirstMayCall, MayCallStore, ReadsNoCheckpoint}
-use Rattle.fw_engine.specs.declared.engine.Engine.{Engine}
-use Rattle.fw_engine.specs.Engine.{StandsFor}
-use Rattle.fw_run.specs.declared.fault.RunFault.{RunFault}
-use Rattle.fw_run.specs.declared.fault.RunFault.TheVariants as stop
-use Rattle.fw_run.specs.declared.tally.Tally.{Tally}
-use Rattle.fw_run.specs.Performing.{IsTaken, TrustsItem, IsItemStopped, IsLeftAfter}
+use Rattle.fw_running.specs.Steps.{FirstMayCall, MayCallStore, IsStepEnabled, ReadsNoCheckpoint}
 use Rattle.fw_run.specs.Printed.{idle_count}
 use Rattle.fw_run.specs.Stopping.{HoldsWrites, IsEntryIn}
 use Rattle.fw_run.specs.Writing.{IsWritten}
@@ -62,10 +55,11 @@ shown_in (unswept outcome ∷ reports) = shown_in reports
 -- ---- steps
 
 -- The step leads from a state to the next one, with this report; these are the steps that the machine takes. The store fails only in
--- a step that may call it.
+-- a step that may call it and is enabled; in a collection, which sweeps last, also where that is idle.
 abbrev pub Endures : System → Machine → Step → List Step → Report → Machine → Type 0
 Endures sys state step steps (came outcome) next = StepsTo sys state step next outcome × (steps ≡ step ∷ [])
-Endures sys state step steps not_taken next = MayCallStore sys.flow step × (step ≡ Collect → ⊥) × (steps ≡ []) × (next ≡ state)
+Endures sys state step steps not_taken next =
+    MayCallStore sys.flow step × IsStepEnabled sys state step × (step ≡ Collect → ⊥) × (steps ≡ []) × (next ≡ state)
 Endures sys state step steps (unswept outcome) next = (step ≡ Collect) × StepsTo sys state Collect next outcome × (steps ≡ Collect ∷ [])
 
 -- `auto` led to these steps: as far as it may, or until the store failed, in the first step that was enabled
@@ -132,9 +126,22 @@ NoneEnduredReads sys items = (earlier later : List Item) → items ≡ earlier +
 abbrev pub IsEndureKnown : Type 0 → System → List Item → Type 0
 IsEndureKnown Tells sys items = Tells ⊎ NoneEnduredReads sys items
 
--- a count rose by as many at least, or stands at its end
+-- a count after so many faults more
+abbrev pub with_faults : ℕ → ℕ → ℕ
+with_faults zero count = count
+with_faults (suc times) count = one_more (with_faults times count)
+
+-- a count rose by exactly so many, at most to the end of its type
 abbrev pub RoseBy : ℕ → ℕ → ℕ → Type 0
-RoseBy before after times = (before + times ≤ after) ⊎ (2 ^ 64 - 1 ≤ after)
+RoseBy before after times = after ≡ with_faults times before
+
+-- a count rose by faults, by one or by more
+abbrev pub RoseByFaults : ℕ → ℕ → Type 0
+RoseByFaults before after = (times : ℕ) × (1 ≤ times) × RoseBy before after times
+
+-- a count stayed, or rose by faults
+abbrev pub StaysOrRose : ℕ → ℕ → Type 0
+StaysOrRose before after = (times : ℕ) × RoseBy before after times
 
 -- The text of a run through faults, or first bytes of it, as far as it is known; and this is true of the number of its faults and of
 -- the bytes that are left.
@@ -171,69 +178,3 @@ pub record IsEnduredToDamage (Tells : Type 0) (IsCount : ℕ → Type 0) (sys : 
   pub stops : IsEndureKnown Tells sys earlier
       → (of_earlier : EnduredRun sys earlier) × (printed ≡ reports_text sys.flow 0 of_earlier.reports)
       × IsCount (faults_in of_earlier.reports) × IsEntryIn sys entry of_earlier.last
-
--- ---- an item
-
--- From the state the item leads to these steps, which the machine takes to the last one, with these reports.
-pub record EnduredItem (sys : System) (state : Machine) (item : Item) : Type 0 where
-  pub steps : List Step
-  pub reports : List Report
-  pub last : Machine
-  pub endures : ItemEndures sys state item steps reports last
-  pub run : Run sys state steps (outcomes_in reports) last
-
--- The item was taken from the state, through so many faults of the store; these are the lines of its steps, and so they are counted;
--- and the engine then stands for the state to which it leads.
-pub record IsItemEndured (sys : System) (state : Machine) (item : Item) (old new : Tally) (count : ℕ) (bytes : List ℕ)
-    (engine : Engine) (records : Option Records) : Type 0 where
-  pub of_item : EnduredItem sys state item
-  pub text : bytes ≡ reports_text sys.flow old.steps of_item.reports
-  pub counted : new.steps ≡ old.steps + length of_item.reports
-  pub idle : new.idle ≡ old.idle + idle_count (shown_in of_item.reports)
-  pub faults : count ≡ faults_in of_item.reports
-  pub stands : StandsFor sys engine records of_item.last
-
--- The item is taken from the state, and these are first bytes of the lines of its steps; of the number of its faults this is true.
-pub record IsItemBroken (sys : System) (state : Machine) (item : Item) (old : Tally) (bytes : List ℕ) (IsCount : ℕ → Type 0) : Type 0 where
-  pub of_item : EnduredItem sys state item
-  pub others : List ℕ
-  pub text : reports_text sys.flow old.steps of_item.reports ≡ bytes ++ others
-  pub faults : IsCount (faults_in of_item.reports)
-
--- what an answer to an item says of the bytes that were written, where the engine stood for the state: no fault of the store ends it
-abbrev pub EnduresItem : System → Machine → Item → Tally → Tally → List ℕ → (ℕ → Type 0) → Result ℕ RunFault
-    → Option Records → Engine → Option Records → Type 0
-EnduresItem sys state item old new bytes IsCount (Ok count) before engine after =
-    TrustsItem sys state item before → IsItemEndured sys state item old new count bytes engine after
-EnduresItem sys state item old new bytes IsCount (Err (stop.Out f)) before engine after =
-    TrustsItem sys state item before → IsItemBroken sys state item old bytes IsCount
-EnduresItem sys state item old new bytes IsCount (Err (stop.Engine f)) before engine after =
-    IsItemStopped sys state item old new bytes (IsLeftAfter sys item f before engine after)
-
--- What an answer to an item says: some bytes were written, and from each state for which the engine stood they are the lines of the
--- item's steps, or first bytes of these.
-pub record PrintsThrough (old : Engine) (before : Option Records) (item : Item) (counted : Tally) (IsCount : ℕ → Type 0)
-    (answer : Result ℕ RunFault) (new : Engine) (after : Option Records) (counts : Tally) (first last : SinkView) : Type 0 where
-  pub bytes : List ℕ
-  pub taken : IsTaken bytes answer first last
-  pub does : (sys : System) (state : Machine) → StandsFor sys old before state
-      → EnduresItem sys state item counted counts bytes IsCount answer before new after
-
--- ---- items
-
--- The engine stands for the state to which the items lead; so their steps and their faults are counted, and these are their lines.
-pub record IsEnduredSoFar (sys : System) (items : List Item) (engine : Engine) (records : Option Records) (tally : Tally)
-    (count : ℕ) (bytes : List ℕ) : Type 0 where
-  pub of_items : EnduredRun sys items
-  pub text : bytes ≡ reports_text sys.flow 0 of_items.reports
-  pub counted : tally.steps ≡ length of_items.reports
-  pub idle : tally.idle ≡ idle_count (shown_in of_items.reports)
-  pub faults : count ≡ faults_in of_items.reports
-  pub stands : StandsFor sys engine records of_items.last
-
--- What was written of the items is the lines of their steps, as far as it is known what comes of them.
-pub record AreEndured (Tells : Type 0) (sys : System) (items : List Item) (engine : Engine) (records : Option Records)
-    (tally : Tally) (count : ℕ) (first last : SinkView) : Type 0 where
-  pub bytes : List ℕ
-  pub written : IsWritten bytes first last
-  pub so_far : IsEndureKnown Tells sys items → IsEnduredSoFar sys items engine records tally count bytes

@@ -1,5 +1,6 @@
 pub mod Call
 pub mod DenotationText
+pub mod EnduredItems
 pub mod Enduring
 pub mod Fault
 pub mod Forms

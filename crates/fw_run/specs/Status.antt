@@ -1,7 +1,7 @@
 -- The status of a command, and the line that stands for it.
 use Rattle.std.specs.Prelude.{◌≡◌, ◌⊎◌, ℕ, List, [], ◌∷◌, ◌++◌, codes}
 use Rattle.std.specs.Fmt.{decimal}
-use Rattle.fw_outside.specs.Outside.{SinkView, Rose, Takes, TakesPrefix}
+use Rattle.fw_outside.specs.Outside.{SinkView, one_more, Rose, Takes, TakesPrefix}
 use Rattle.fw_lines.specs.declared.refusal.Code.{Code}
 use Rattle.fw_lines.specs.declared.refusal.Code.TheVariants.{F1, F2, F3, F4, F5, F6, F7, F8, F9, F10, F11, F12, I1, I2, I3, I4, I5, S1, S2, S3, S4}
 use Rattle.fw_lines.specs.declared.refusal.Refusal.{Refusal}
@@ -43,6 +43,11 @@ status_number WriteFault = 7
 status_number StoreFault = 8
 status_number (Damaged id) = 9
 status_number NoMemory = 10
+
+-- how often a store has failed that fails once where the status tells it, and else never
+abbrev pub faults_told : Status → ℕ → ℕ
+faults_told StoreFault count = one_more count
+faults_told status count = count
 
 -- the line on the notes, ended by a line feed; none where all went well
 abbrev pub note_line : Status → List ℕ

@@ -1,5 +1,5 @@
 -- The words of a command.
-use Rattle.std.specs.Prelude.{ℕ, ◌≤◌, nat_le, Bool, true, false, not, ◌&&◌, ◌==◌, if◌then◌else◌, List, [], ◌∷◌, map, Option, Some, None, codes}
+use Rattle.std.specs.Prelude.{◌≡◌, ℕ, ◌≤◌, nat_le, Bool, true, false, not, ◌&&◌, ◌==◌, if◌then◌else◌, List, [], ◌∷◌, map, Option, Some, None, codes}
 use Rattle.std.specs.Option.{option_or}
 use Rattle.std.specs.Str.{bytes_eq}
 use Rattle.std.specs.Borrow.{Bor}
@@ -60,6 +60,10 @@ manner_of (endure names) = Some through_faults
 manner_of (generate seeded) = Some (in_one_line seeded)
 manner_of (denote names) = None
 manner_of (check name) = None
+
+-- the command tells in one line what came of a run
+abbrev pub IsInOneLine : Option Command → Type 0
+IsInOneLine command = (seeded : Seeded) × (command ≡ Some (generate seeded))
 
 -- the command asks the folder for a text
 abbrev pub asks_folder : Command → Bool

@@ -11,6 +11,7 @@ use Rattle.fw_run.specs.declared.work.Work.TheVariants.{Run, Endure, Generate, D
 use Rattle.fw_generate.specs.Laws.{size_limit}
 use Rattle.fw_run.specs.DenotationText.{PrintsDenotation}
 use Rattle.fw_run.specs.Enduring.{PrintsEndured, RoseBy, IsEndured, IsEnduredToDamage}
+use Rattle.fw_run.specs.Fault.{faults_after}
 use Rattle.fw_run.specs.Listing.{check_text}
 use Rattle.fw_run.specs.Performing.{WritesUntil}
 use Rattle.fw_run.specs.Reading.{IsJob, IsGenerated, IsFed, IsReady}
@@ -89,6 +90,16 @@ abbrev pub IfRun : Work → (Manner → System → List Item → Type 0) → Typ
 IfRun (Denote fed) IsSo = Unit {0}
 IfRun (Check flow) IsSo = Unit {0}
 IfRun work IsSo = IsRun work IsSo
+
+-- Work that does not go on through faults of its store ends at the first: it failed once if that is the answer, and else never.
+abbrev pub EndsAtFault : {T : Type 0} → Work → Result T RunFault → ℕ → ℕ → Type 0
+EndsAtFault (Endure job) answer before after = Unit {0}
+EndsAtFault work answer before after = after ≡ faults_after answer before
+
+-- this stays in work that is told in one line
+abbrev pub StaysIfInOneLine : {O : Type 0} → Work → O → O → Type 0
+StaysIfInOneLine (Generate words job) before after = after ≡ before
+StaysIfInOneLine work before after = Unit {0}
 
 -- only work that takes steps changes its store
 abbrev pub StaysUnlessRun : {K : Type 0} → Work → K → K → Type 0

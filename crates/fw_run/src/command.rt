@@ -6,13 +6,13 @@ ghost use Rattle.fw_schedule.specs.declared.item.Item.{Item};
 ghost use Rattle.fw_outside.specs.declared.fault.OutFault.TheVariants as OutFault;
 ghost use Rattle.fw_outside.specs.Outside.{Rose};
 ghost use Rattle.fw_keep.specs.Stored.{IsEmptyStore};
-ghost use Rattle.fw_run.specs.Call.{call_of, PrintsAll, PrintsPart, LeavesStore, StopsAtStore, StopsAtDamage, HasRefused, KeepsFolder, KeepsStore, TellsNotes, AnswersTexts};
+ghost use Rattle.fw_run.specs.Call.{call_of, CountsFaults, PrintsAll, PrintsPart, LeavesStore, StopsAtStore, StopsAtDamage, HasRefused, KeepsFolder, KeepsStore, TellsNotes, AnswersTexts};
 ghost use Rattle.fw_run.specs.Headline.{Headline};
 ghost use Rattle.fw_run.specs.Status.{status_number, IsTold, IsTellingOf};
 ghost use Rattle.fw_generate.specs.Laws.{AreAccepted};
 ghost use Rattle.fw_generate.specs.Texts.{Texts};
 ghost use Rattle.fw_run.specs.Texts.{spelled_system, spelled_items};
-ghost use Rattle.fw_run.specs.Words.{words_in, command_of};
+ghost use Rattle.fw_run.specs.Words.{IsInOneLine, words_in, command_of};
 ghost use Rattle.fw_run.specs.Writing.{NeverFall};
 
 use crate::Status;
@@ -39,8 +39,9 @@ pub fn falkirk<F: Folder, K: Store, O: Sink, N: Sink>(
     requires { IsEmptyStore (K.records store.old) }
 
     // 0: all that the command prints of accepted texts was written, and no write was refused; and a run left in the store the
-    // records of what its nodes wrote. What a run prints is known where the store tells its records, and else up to the first
-    // recovery that reads a checkpoint.
+    // records of what its nodes wrote. What a run prints is known where the store tells its records, or no recovery reads a
+    // checkpoint; else `run` promises the lines up to the first recovery that reads one, and `endure` and `gen` promise nothing of
+    // what they print.
     ensures done { result ≡ Status.Done
         → PrintsAll (IsSome (K.records store.old)) (call_of words.now (F.texts folder.old)) (O.view out.old) (O.view out.new) }
     ensures stored { result ≡ Status.Done
@@ -56,11 +57,13 @@ pub fn falkirk<F: Folder, K: Store, O: Sink, N: Sink>(
     ensures write_fault { result ≡ Status.WriteFault
         → PrintsPart (IsSome (K.records store.old)) (call_of words.now (F.texts folder.old)) (K.fault_count store.old) (K.fault_count store.new)
         OutFault.Failed (O.view out.old) (O.view out.new) }
-    // 8: the store failed, in a step that may call it. A run ends there: the lines of the steps before were written (of generated
-    // texts nothing), and the store holds the records of what this step leaves. `endure` goes on to its end: all was written, with
-    // a line for each step in which the store failed, and the store holds the records of what its nodes wrote.
-    ensures store_fault { result ≡ Status.StoreFault → Rose (K.fault_count store.old) (K.fault_count store.new)
-        × StopsAtStore (IsSome (K.records store.old)) (call_of words.now (F.texts folder.old)) (K.fault_count store.old) (K.fault_count store.new)
+    // 8: the store failed, in a step that may call it. A run ends there: the step was enabled (a collection sweeps where it is idle
+    // too), the lines of the steps before were written (of generated texts nothing), and the store holds the records of what this
+    // step leaves. `endure` goes on to its end: all was written, with a line for each step in which the store failed, and the store
+    // holds the records of what its nodes wrote. That is known where the store tells its records, or no recovery before that step
+    // reads a checkpoint; and which records the store holds is said only where it tells them.
+    ensures store_fault { result ≡ Status.StoreFault
+        → StopsAtStore (IsSome (K.records store.old)) (call_of words.now (F.texts folder.old)) (K.fault_count store.old) (K.fault_count store.new)
         (K.records store.new) (O.view out.old) (O.view out.new) }
     // 9: the store, which does not tell its records, gave under this id bytes that spell no record of the write; the lines of the
     // steps before were written.
@@ -72,14 +75,17 @@ pub fn falkirk<F: Folder, K: Store, O: Sink, N: Sink>(
         ⊎ PrintsPart (IsSome (K.records store.old)) (call_of words.now (F.texts folder.old)) (K.fault_count store.old) (K.fault_count store.new)
         OutFault.NoMemory (O.view out.old) (O.view out.new) }
 
-    // At 2 to 6 nothing was written. Whatever the status: what was asked of the folder, what the notes took, that only a run
-    // changes the store and that no count of faults or of refusals falls.
+    // At 2 to 6 nothing was written, nor at 8 and 9 by a command that tells a run in one line. Whatever the status: what was asked
+    // of the folder, what the notes took, that only a run changes the store, how often the store failed, and that no other count of
+    // faults, nor one of refusals, falls.
     ensures nothing_out { 2 ≤ status_number result → status_number result ≤ 6 → out.new ≡ out.old }
+    ensures nothing_told { IsInOneLine (command_of (words_in words.now)) → 8 ≤ status_number result → status_number result ≤ 9 → out.new ≡ out.old }
     ensures folder { KeepsFolder F.texts F.fetch_count (command_of (words_in words.now)) result folder.old folder.new }
     ensures store { KeepsStore (command_of (words_in words.now)) result store.old store.new }
+    ensures store_count { CountsFaults (command_of (words_in words.now)) result (K.fault_count store.old) (K.fault_count store.new) }
     ensures notes { TellsNotes N.view result notes.old notes.new }
-    ensures never_fall { (F.fault_count folder.old ≤ F.fault_count folder.new) × (K.fault_count store.old ≤ K.fault_count store.new)
-        × NeverFall (O.view out.old) (O.view out.new) × NeverFall (N.view notes.old) (N.view notes.new) }
+    ensures never_fall { (F.fault_count folder.old ≤ F.fault_count folder.new) × NeverFall (O.view out.old) (O.view out.new)
+        × NeverFall (N.view notes.old) (N.view notes.new) }
 
     // Which texts are refused and of which all is printed; and what the machine does with accepted texts of a run.
     ensures answer { AnswersTexts (IsSome (K.records store.old)) (call_of words.now (F.texts folder.old)) result }

@@ -1,6 +1,5 @@
 //! A schedule is run through faults of the store.
 ghost use Rattle.std.specs.Prelude.{◌≡◌, ◌+◌, ◌≤◌, ℕ, IfOk, IsErrOf, IsSome, OnOk, is_some};
-ghost use Rattle.fw_outside.specs.Outside.{Rose};
 ghost use Rattle.fw_flow.specs.declared.step.Step.TheVariants.{Recover};
 ghost use Rattle.fw_flow.specs.Dataflow.{System, system_of};
 ghost use Rattle.fw_schedule.specs.Schedule.{steps_in, step_count, step_limit};
@@ -9,7 +8,8 @@ ghost use Rattle.fw_keep.specs.Catalogue.{AreAscending, ids_of};
 ghost use Rattle.fw_keep.specs.Stored.{IsEmptyStore, IsStored};
 ghost use Rattle.fw_running.specs.declared.fault.EngineFault.TheVariants as EngineFault;
 ghost use Rattle.fw_engine.specs.Engine.{flow_of, keep_of, StandsFor, IsDamaged};
-ghost use Rattle.fw_run.specs.Enduring.{IsEndured, IsEnduredToDamage, PrintsEndured, PrintsThrough, RoseBy};
+ghost use Rattle.fw_run.specs.EnduredItems.{PrintsThrough};
+ghost use Rattle.fw_run.specs.Enduring.{IsEndured, IsEnduredToDamage, PrintsEndured, RoseBy, RoseByFaults, StaysOrRose};
 ghost use Rattle.fw_run.specs.Performing.{HasRoom, WritesUntil};
 ghost use Rattle.fw_run.specs.Reading.{IsReady};
 ghost use Rattle.fw_run.specs.Tallies.{AreOfSteps};
@@ -48,8 +48,9 @@ pub(crate) fn endure<K: Store, O: Sink>(
     ensures damaged { (id : ℕ) → IsErrOf result (RunFault.Engine (EngineFault.Damaged id))
         → IsEnduredToDamage (IsSome (K.records store.old)) (RoseBy (K.fault_count store.old) (K.fault_count store.new))
         (system_of job.flow job.batches) job.items id (K.given store.new) (O.view out.old) (O.view out.new) }
-    ensures rose { IsErrOf result (RunFault.Engine EngineFault.StoreFault) → Rose (K.fault_count store.old) (K.fault_count store.new) }
-    ensures never_falls { K.fault_count store.old ≤ K.fault_count store.new }
+    ensures none { OnOk result (K.fault_count store.new ≡ K.fault_count store.old) }
+    ensures some { IsErrOf result (RunFault.Engine EngineFault.StoreFault) → RoseByFaults (K.fault_count store.old) (K.fault_count store.new) }
+    ensures rises { StaysOrRose (K.fault_count store.old) (K.fault_count store.new) }
 {
     let Job {
         flow,
@@ -84,8 +85,9 @@ fn endure_items<K: Store, O: Sink>(
     ensures damaged { (id : ℕ) (sys : System) → StandsFor sys engine.old (K.records store.old) (first_state sys)
         → IsErrOf result (RunFault.Engine (EngineFault.Damaged id))
         → IsEnduredToDamage (IsSome (K.records store.old)) (RoseBy (K.fault_count store.old) (K.fault_count store.new)) sys items.now id (K.given store.new) (O.view out.old) (O.view out.new) }
-    ensures rose { IsErrOf result (RunFault.Engine EngineFault.StoreFault) → Rose (K.fault_count store.old) (K.fault_count store.new) }
-    ensures never_falls { K.fault_count store.old ≤ K.fault_count store.new }
+    ensures none { OnOk result (K.fault_count store.new ≡ K.fault_count store.old) }
+    ensures some { IsErrOf result (RunFault.Engine EngineFault.StoreFault) → RoseByFaults (K.fault_count store.old) (K.fault_count store.new) }
+    ensures rises { StaysOrRose (K.fault_count store.old) (K.fault_count store.new) }
 {
     let mut tally = Tally::new();
     let mut faults = 0u64;
@@ -122,9 +124,9 @@ fn endure_item<K: Store, O: Sink>(
     ensures printed { PrintsThrough engine.old (K.records store.old) item.now tally.old (RoseBy (K.fault_count store.old) (K.fault_count store.new))
         result engine.new (K.records store.new) tally.new (O.view out.old) (O.view out.new) }
     ensures once { IfOk result (λ count. count ≤ 1) }
-    ensures rose { IfOk result (λ count. 1 ≤ count → Rose (K.fault_count store.old) (K.fault_count store.new)) }
+    ensures faults { IfOk result (RoseBy (K.fault_count store.old) (K.fault_count store.new)) }
     ensures goes_on { IsErrOf result (RunFault.Engine EngineFault.StoreFault) → ⊥ }
-    ensures never_falls { K.fault_count store.old ≤ K.fault_count store.new }
+    ensures rises { StaysOrRose (K.fault_count store.old) (K.fault_count store.new) }
     ensures damaged { (id : ℕ) → IsErrOf result (RunFault.Engine (EngineFault.Damaged id)) → IsDamaged engine.old id (K.given store.new) }
     ensures in_recovery { (id : ℕ) → IsErrOf result (RunFault.Engine (EngineFault.Damaged id)) → item.now ≡ Item.One Recover }
 {

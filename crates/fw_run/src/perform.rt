@@ -1,6 +1,5 @@
 //! The steps of a schedule are taken and what comes of them is printed.
 ghost use Rattle.std.specs.Prelude.{◌≡◌, ◌≤◌, ℕ, IfOk, IsErrOf, IsSome, OnOk, OnErr, is_some};
-ghost use Rattle.fw_outside.specs.Outside.{Rose};
 ghost use Rattle.fw_flow.specs.declared.step.Step.TheVariants.{Recover};
 ghost use Rattle.fw_flow.specs.Dataflow.{System, system_of};
 ghost use Rattle.fw_schedule.specs.Schedule.{step_count, step_limit};
@@ -11,6 +10,7 @@ ghost use Rattle.fw_running.specs.declared.fault.EngineFault.TheVariants as Engi
 ghost use Rattle.fw_running.specs.EffectText.{outcome_text};
 ghost use Rattle.fw_running.specs.Steps.{outcome_of};
 ghost use Rattle.fw_engine.specs.Engine.{flow_of, keep_of, StandsFor, IsDamaged};
+ghost use Rattle.fw_run.specs.Fault.{faults_after};
 ghost use Rattle.fw_run.specs.Performing.{PrintsItem, HasRoom, AreFew, AreTaken, Performs};
 ghost use Rattle.fw_run.specs.Printed as spec;
 ghost use Rattle.fw_run.specs.Reading.{IsReady};
@@ -47,8 +47,7 @@ pub(crate) fn perform<K: Store, O: Sink>(
     ensures damaged { (id : ℕ) → IsErrOf result (RunFault.Engine (EngineFault.Damaged id))
         → IsStoppedByDamage (IsSome (K.records store.old)) (system_of job.flow job.batches) job.items id (K.given store.new)
         (λ printed. IsWritten printed (O.view out.old) (O.view out.new)) }
-    ensures rose { IsErrOf result (RunFault.Engine EngineFault.StoreFault) → Rose (K.fault_count store.old) (K.fault_count store.new) }
-    ensures never_falls { K.fault_count store.old ≤ K.fault_count store.new }
+    ensures faults { K.fault_count store.new ≡ faults_after result (K.fault_count store.old) }
 {
     let Job {
         flow,
@@ -87,8 +86,7 @@ pub(crate) fn take_items<K: Store, O: Sink>(
         → IsErrOf result (RunFault.Engine (EngineFault.Damaged id))
         → IsStoppedByDamage (IsSome (K.records store.old)) sys items.now id (K.given store.new)
         (λ printed. IsWritten printed (O.view out.old) (O.view out.new)) }
-    ensures rose { IsErrOf result (RunFault.Engine EngineFault.StoreFault) → Rose (K.fault_count store.old) (K.fault_count store.new) }
-    ensures never_falls { K.fault_count store.old ≤ K.fault_count store.new }
+    ensures faults { K.fault_count store.new ≡ faults_after result (K.fault_count store.old) }
 {
     let mut tally = Tally::new();
     for item in items {
@@ -116,9 +114,8 @@ pub(crate) fn perform_item<K: Store, O: Sink>(
     ensures few { AreFew item.now result tally.old tally.new }
     ensures printed { PrintsItem engine.old (K.records store.old) item.now tally.old result engine.new (K.records store.new) tally.new
         (O.view out.old) (O.view out.new) }
-    ensures rose { IsErrOf result (RunFault.Engine EngineFault.StoreFault) → Rose (K.fault_count store.old) (K.fault_count store.new) }
+    ensures faults { K.fault_count store.new ≡ faults_after result (K.fault_count store.old) }
     ensures calls { IsErrOf result (RunFault.Engine EngineFault.StoreFault) → MayCallIn (flow_of engine.old) item.now }
-    ensures never_falls { K.fault_count store.old ≤ K.fault_count store.new }
     ensures damaged { (id : ℕ) → IsErrOf result (RunFault.Engine (EngineFault.Damaged id)) → IsDamaged engine.old id (K.given store.new) }
     ensures in_recovery { (id : ℕ) → IsErrOf result (RunFault.Engine (EngineFault.Damaged id)) → item.now ≡ Item.One Recover }
 {
@@ -146,9 +143,8 @@ fn perform_step<K: Store, O: Sink>(
     ensures few { AreFew (Item.One step.now) result tally.old tally.new }
     ensures printed { PrintsItem engine.old (K.records store.old) (Item.One step.now) tally.old result engine.new (K.records store.new) tally.new
         (O.view out.old) (O.view out.new) }
-    ensures rose { IsErrOf result (RunFault.Engine EngineFault.StoreFault) → Rose (K.fault_count store.old) (K.fault_count store.new) }
+    ensures faults { K.fault_count store.new ≡ faults_after result (K.fault_count store.old) }
     ensures calls { IsErrOf result (RunFault.Engine EngineFault.StoreFault) → MayCallIn (flow_of engine.old) (Item.One step.now) }
-    ensures never_falls { K.fault_count store.old ≤ K.fault_count store.new }
     ensures damaged { (id : ℕ) → IsErrOf result (RunFault.Engine (EngineFault.Damaged id)) → IsDamaged engine.old id (K.given store.new) }
     ensures in_recovery { (id : ℕ) → IsErrOf result (RunFault.Engine (EngineFault.Damaged id)) → step.now ≡ Recover }
 {
@@ -177,8 +173,7 @@ fn perform_auto<K: Store, O: Sink>(
     ensures few { AreFew (Item.Auto most) result tally.old tally.new }
     ensures printed { PrintsItem engine.old (K.records store.old) (Item.Auto most) tally.old result engine.new (K.records store.new) tally.new
         (O.view out.old) (O.view out.new) }
-    ensures rose { IsErrOf result (RunFault.Engine EngineFault.StoreFault) → Rose (K.fault_count store.old) (K.fault_count store.new) }
-    ensures never_falls { K.fault_count store.old ≤ K.fault_count store.new }
+    ensures faults { K.fault_count store.new ≡ faults_after result (K.fault_count store.old) }
     ensures undamaged { (id : ℕ) → IsErrOf result (RunFault.Engine (EngineFault.Damaged id)) → ⊥ }
 {
     for _ in 0..most {

@@ -4,9 +4,9 @@ ghost use Rattle.fw_lines.specs.declared.refusal.Refusal as lines;
 ghost use Rattle.fw_outside.specs.declared.fault.OutFault.TheVariants as OutFault;
 ghost use Rattle.fw_outside.specs.Outside.{Rose};
 ghost use Rattle.fw_keep.specs.Stored.{IsEmptyStore};
-ghost use Rattle.fw_run.specs.Call.{call_of, PrintsAll, PrintsPart, LeavesStore, StopsAtStore, StopsAtDamage, HasRefused, KeepsFolder, KeepsStore};
+ghost use Rattle.fw_run.specs.Call.{call_of, CountsFaults, PrintsAll, PrintsPart, LeavesStore, StopsAtStore, StopsAtDamage, HasRefused, KeepsFolder, KeepsStore};
 ghost use Rattle.fw_run.specs.Status.{status_number};
-ghost use Rattle.fw_run.specs.Words.{words_in, command_of};
+ghost use Rattle.fw_run.specs.Words.{IsInOneLine, words_in, command_of};
 ghost use Rattle.fw_run.specs.Writing.{NeverFall};
 
 use crate::Status;
@@ -40,7 +40,6 @@ pub(crate) fn run<F: Folder, K: Store, O: Sink>(
     ensures store_fault { result ≡ Status.StoreFault
         → StopsAtStore (IsSome (K.records store.old)) (call_of words.now (F.texts folder.old)) (K.fault_count store.old) (K.fault_count store.new)
         (K.records store.new) (O.view out.old) (O.view out.new) }
-    ensures store_rose { result ≡ Status.StoreFault → Rose (K.fault_count store.old) (K.fault_count store.new) }
     ensures damaged { (id : ℕ) → result ≡ Status.Damaged id
         → StopsAtDamage (IsSome (K.records store.old)) (call_of words.now (F.texts folder.old)) (K.fault_count store.old) (K.fault_count store.new) id
         (K.given store.new) (O.view out.old) (O.view out.new) }
@@ -51,10 +50,11 @@ pub(crate) fn run<F: Folder, K: Store, O: Sink>(
         ⊎ PrintsPart (IsSome (K.records store.old)) (call_of words.now (F.texts folder.old)) (K.fault_count store.old) (K.fault_count store.new)
         OutFault.NoMemory (O.view out.old) (O.view out.new) }
     ensures nothing_out { status_number result ≤ 6 → (result ≡ Status.Done) ⊎ (out.new ≡ out.old) }
+    ensures nothing_told { IsInOneLine (command_of (words_in words.now)) → 8 ≤ status_number result → status_number result ≤ 9 → out.new ≡ out.old }
     ensures folder { KeepsFolder F.texts F.fetch_count (command_of (words_in words.now)) result folder.old folder.new }
     ensures folder_count { F.fault_count folder.old ≤ F.fault_count folder.new }
     ensures store { KeepsStore (command_of (words_in words.now)) result store.old store.new }
-    ensures store_count { K.fault_count store.old ≤ K.fault_count store.new }
+    ensures store_count { CountsFaults (command_of (words_in words.now)) result (K.fault_count store.old) (K.fault_count store.new) }
     ensures out_counts { NeverFall (O.view out.old) (O.view out.new) }
 {
     let command = match parse(alloc, words) {

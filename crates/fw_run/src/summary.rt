@@ -1,9 +1,10 @@
 //! Generated texts are run, and it is told in one line what came of them.
-ghost use Rattle.std.specs.Prelude.{◌≡◌, ◌≤◌, ℕ, None, IsErrOf, IsSome, OnOk};
-ghost use Rattle.fw_outside.specs.Outside.{Rose};
+ghost use Rattle.std.specs.Prelude.{◌≡◌, ℕ, None, IsErrOf, IsSome, OnOk};
 ghost use Rattle.fw_flow.specs.Dataflow.{system_of};
 ghost use Rattle.fw_keep.specs.Stored.{IsEmptyStore};
+ghost use Rattle.fw_running.specs.declared.fault.EngineFault.{EngineFault as Fault};
 ghost use Rattle.fw_running.specs.declared.fault.EngineFault.TheVariants as EngineFault;
+ghost use Rattle.fw_run.specs.Fault.{faults_after};
 ghost use Rattle.fw_run.specs.Performing.{WritesUntil};
 ghost use Rattle.fw_run.specs.Reading.{IsReady};
 ghost use Rattle.fw_run.specs.Stopping.{LeavesWrites, IsStoppedByStore, IsStoppedByDamage};
@@ -44,8 +45,8 @@ pub(crate) fn summarize<K: Store, O: Sink>(
     ensures damaged { (id : ℕ) → IsErrOf result (RunFault.Engine (EngineFault.Damaged id))
         → IsStoppedByDamage (IsSome (K.records store.old)) (system_of job.flow job.batches) job.items id (K.given store.new)
         (λ printed. out.new ≡ out.old) }
-    ensures rose { IsErrOf result (RunFault.Engine EngineFault.StoreFault) → Rose (K.fault_count store.old) (K.fault_count store.new) }
-    ensures never_falls { K.fault_count store.old ≤ K.fault_count store.new }
+    ensures nothing_told { (fault : Fault) → IsErrOf result (RunFault.Engine fault) → out.new ≡ out.old }
+    ensures faults { K.fault_count store.new ≡ faults_after result (K.fault_count store.old) }
 {
     let Job {
         flow,

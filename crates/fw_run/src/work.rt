@@ -2,12 +2,13 @@
 ghost use Rattle.std.specs.Prelude.{◌≡◌, ◌≤◌, ℕ, false, [], IfOk, IfErr, IsErrOf, IsSome, OnOk, OnErr};
 ghost use Rattle.fw_outside.specs.Outside.{Rose};
 ghost use Rattle.fw_keep.specs.Stored.{IsEmptyStore};
+ghost use Rattle.fw_running.specs.declared.fault.EngineFault.{EngineFault as Fault};
 ghost use Rattle.fw_running.specs.declared.fault.EngineFault.TheVariants as EngineFault;
 ghost use Rattle.fw_run.specs.Call.{Refuses, AsksNoMore};
 ghost use Rattle.fw_run.specs.Reading.{IfRefused};
-ghost use Rattle.fw_run.specs.Enduring.{RoseBy};
+ghost use Rattle.fw_run.specs.Enduring.{RoseBy, RoseByFaults, StaysOrRose};
 ghost use Rattle.fw_run.specs.Words.{IsOfSize, asks_folder, command_in};
-ghost use Rattle.fw_run.specs.Work.{IsWork, IsReadyWork, IsRun, IfRun, IsWholeRun, IsStoreFault, IsDamageIn, StaysUnlessRun, PrintsWork};
+ghost use Rattle.fw_run.specs.Work.{IsWork, IsReadyWork, EndsAtFault, IsRun, IfRun, IsWholeRun, IsStoreFault, IsDamageIn, StaysUnlessRun, StaysIfInOneLine, PrintsWork};
 
 use crate::denoting::print_denotation;
 use crate::enduring::endure;
@@ -95,8 +96,11 @@ pub(crate) fn print_work<K: Store, O: Sink>(
     ensures damaged { (id : ℕ) → IsErrOf result (RunFault.Engine (EngineFault.Damaged id)) → IsRun work
         (IsDamageIn (IsSome (K.records store.old)) (K.fault_count store.old) (K.fault_count store.new) id (K.given store.new) (O.view out.old) (O.view out.new)) }
     ensures store_stays { StaysUnlessRun work store.old store.new }
-    ensures rose { IsErrOf result (RunFault.Engine EngineFault.StoreFault) → Rose (K.fault_count store.old) (K.fault_count store.new) }
-    ensures never_falls { K.fault_count store.old ≤ K.fault_count store.new }
+    ensures nothing_told { (fault : Fault) → IsErrOf result (RunFault.Engine fault) → StaysIfInOneLine work out.old out.new }
+    ensures none { OnOk result (K.fault_count store.new ≡ K.fault_count store.old) }
+    ensures first { EndsAtFault work result (K.fault_count store.old) (K.fault_count store.new) }
+    ensures some { IsErrOf result (RunFault.Engine EngineFault.StoreFault) → RoseByFaults (K.fault_count store.old) (K.fault_count store.new) }
+    ensures rises { StaysOrRose (K.fault_count store.old) (K.fault_count store.new) }
 {
     match work {
         Work::Run(job) => perform(alloc, job, store, out),

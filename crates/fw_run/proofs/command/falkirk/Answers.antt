@@ -1,8 +1,8 @@
-use Rattle.fw_run.proofs.CallLaws.{told_done, told_write_fault, told_store_fault, told_no_memory, told_refused, told_damaged, texts-answered, folder_told, store_told, accepted_of-run, untold_of-damage}
+use Rattle.fw_run.proofs.CallLaws.{told_done, told_write_fault, told_store_fault, told_no_memory, told_refused, told_damaged, texts-answered, folder_told, store_told, counts_told, nothing_told_on, accepted_of-run, untold_of-damage}
 use Rattle.fw_run.proofs.HeadlineLaws.{texts-headline}
 use Rattle.fw_run.specs.Call.{call_of}
 use Rattle.std.specs.Prelude.{IsSome}
-use Rattle.fw_run.specs.Words.{command_of, words_in}
+use Rattle.fw_run.specs.Words.{IsInOneLine, command_of, words_in}
 use Rattle.fw_run.proofs.command.falkirk.Goals as goal
 
 pub returns-clause-done : goal.returns-clause-done
@@ -15,9 +15,7 @@ pub returns-clause-write_fault : goal.returns-clause-write_fault
 returns-clause-write_fault g c e = c.run-status.ensures.write_fault (told_write_fault c.run-status.result c.tell.result c.tell.ensures.status e)
 
 pub returns-clause-store_fault : goal.returns-clause-store_fault
-returns-clause-store_fault g c e =
-    let h = told_store_fault c.run-status.result c.tell.result c.tell.ensures.status e in
-    (c.run-status.ensures.store_rose h, c.run-status.ensures.store_fault h)
+returns-clause-store_fault g c e = c.run-status.ensures.store_fault (told_store_fault c.run-status.result c.tell.result c.tell.ensures.status e)
 
 pub returns-clause-no_memory : goal.returns-clause-no_memory
 returns-clause-no_memory g c e =
@@ -54,3 +52,12 @@ returns-clause-folder g c =
 pub returns-clause-store : goal.returns-clause-store
 returns-clause-store g c =
     store_told (command_of (words_in c.args.words.now)) c.run-status.result c.tell.result c.args.store.now c.run-status.new.store c.tell.ensures.status c.run-status.ensures.store
+
+pub returns-clause-store_count : goal.returns-clause-store_count
+returns-clause-store_count g c =
+    counts_told (command_of (words_in c.args.words.now)) c.run-status.result c.tell.result (g.K.Store.fault_count c.args.store.now) (g.K.Store.fault_count c.run-status.new.store) c.tell.ensures.status
+    c.run-status.ensures.store_count
+
+pub returns-clause-nothing_told : goal.returns-clause-nothing_told
+returns-clause-nothing_told g c =
+    nothing_told_on (IsInOneLine (command_of (words_in c.args.words.now))) c.run-status.result c.tell.result c.args.out.now c.run-status.new.out c.tell.ensures.status c.run-status.ensures.nothing_told

@@ -8,6 +8,7 @@ use Rattle.fw_run.specs.Performing.{AreTaken, Performs}
 use Rattle.fw_run.specs.Printed.{done_line}
 use Rattle.fw_run.specs.Stopping.{IsStoppedByStore, IsStoppedByDamage}
 use Rattle.fw_run.specs.Writing.{IsWritten, Writes}
+use Rattle.fw_run.proofs.FaultCounts.{passed_after}
 use Rattle.fw_run.proofs.Roses.{same_fault}
 use Rattle.fw_run.proofs.SoFarLaws.{ends, ends_cut, leaves_writes, stops_at_start}
 use Rattle.fw_run.proofs.WritingLaws.{writes, cut_nothing}
@@ -26,6 +27,12 @@ returns-in_err-tally-clause-printed g c =
     let sys = system_of c.args.job.flow c.args.job.batches in
     rw (p.1, p.2) (subst (λ items. Performs {T = Tally} (IsSome (records c.args.store.now)) sys items (Err c.in_err-tally.field-0.0) (view c.args.out.now) (view c.take_items.new.out)) c.as_slice.ensures
     (c.in_err-tally.ensures.cut_off sys (c.in_ok-engine.ensures.stands (records c.args.store.now))))
+
+pub returns-in_err-tally-clause-faults : goal.returns-in_err-tally-clause-faults
+returns-in_err-tally-clause-faults g c =
+    let p = err_from_is_err_and c.from_residual-in_err-tally.result c.from_residual-in_err-tally.ensures.1 in
+    let count = g.K.Store.fault_count in
+    rw (p.1, p.2) (passed_after Tally (Unit {0}) _ (count c.args.store.now) (count c.take_items.new.store) c.in_err-tally.ensures.faults)
 
 pub returns-in_err-tally-clause-store_fault : goal.returns-in_err-tally-clause-store_fault
 returns-in_err-tally-clause-store_fault g c e =

@@ -1,7 +1,10 @@
-use Rattle.std.proofs.Common.{◌≡◌, ◌+◌, ◌∙◌, refl, sym, arith}
+use Rattle.std.proofs.Common.{◌≡◌, ℕ, ◌+◌, ◌∙◌, Err, refl, sym, subst, arith}
 use Rattle.std.proofs.lemmas.Result.{err_from_is_err_and}
 use Rattle.fw_schedule.specs.declared.item.Item.TheVariants.{Auto}
+use Rattle.fw_running.specs.declared.stepped.Stepped.{Stepped}
+use Rattle.fw_running.specs.Faults as engine
 use Rattle.fw_running.specs.Steps.{outcome_of}
+use Rattle.fw_run.proofs.FaultCounts.{told_after}
 use Rattle.fw_run.proofs.ItemPrintLaws.{auto-none, auto-more, auto-ends, auto-full, auto_begun, auto_stopped, few_stopped, few_taken, few_cut}
 use Rattle.fw_run.proofs.TallyLaws.{of_steps-more, steps-more}
 use Rattle.fw_run.proofs.perform.perform_auto.Goals as goal
@@ -12,7 +15,7 @@ loop-init g c = record {
   in_order = c.requires.in_order;
   tells = refl;
   flow = refl;
-  never_falls = omega arith;
+  faults = refl;
   of_steps = c.requires.room.of_steps;
   counted = omega arith;
   auto = auto-none c.args.engine.now (g.K.Store.records c.args.store.now) c.args.tally.now (g.O.Sink.view c.args.out.now) c.requires.room.of_steps.sum;
@@ -30,7 +33,7 @@ loop-preserved g c =
       in_order = c.auto_step.ensures.in_order;
       tells = c.auto_step.ensures.tells ∙ c.loop.invariant.tells;
       flow = c.auto_step.ensures.flow ∙ c.loop.invariant.flow;
-      never_falls = omega (arith, c.loop.invariant.never_falls, c.auto_step.ensures.never_falls);
+      faults = c.in_ok-stepped.ensures.faults ∙ c.loop.invariant.faults;
       of_steps = of_steps-more c.loop.tally c.count.new.self (outcome_of c.in_ok-stepped.stepped) c.loop.invariant.of_steps c.count.ensures;
       counted = omega (arith, c.loop.invariant.counted, steps-more c.loop.tally c.count.new.self (outcome_of c.in_ok-stepped.stepped) c.count.ensures);
       auto = auto-more c.args.engine.now c.loop.engine c.auto_step.new.self (records c.args.store.now) (records c.loop.store) (records c.auto_step.new.store) c.flow.result.now c.in_ok-stepped.stepped c.loop.counter
@@ -49,6 +52,13 @@ pub returns-in_err-stepped-clause-few : goal.returns-in_err-stepped-clause-few
 returns-in_err-stepped-clause-few g c =
     let p = err_from_is_err_and c.from_residual.result c.from_residual.ensures.1 in
     rw (p.1, p.2) (few_stopped (Unit {0}) (Auto c.args.most) c.loop.counter c.args.tally.now c.loop.tally _ c.loop.invariant.of_steps c.loop.invariant.counted c.loop-test.true)
+
+pub returns-in_err-stepped-clause-faults : goal.returns-in_err-stepped-clause-faults
+returns-in_err-stepped-clause-faults g c =
+    let p = err_from_is_err_and c.from_residual.result c.from_residual.ensures.1 in
+    let count = g.K.Store.fault_count in
+    rw (p.1, p.2) (told_after Stepped (Unit {0}) _ (count c.args.store.now) (count c.auto_step.new.store)
+    (subst (λ (before : ℕ). count c.auto_step.new.store ≡ engine.faults_after {T = Stepped} (Err c.in_err-stepped.field-0.0) before) c.loop.invariant.faults c.in_err-stepped.ensures.faults))
 
 pub returns-then-is_idle-clause-printed : goal.returns-then-is_idle-clause-printed
 returns-then-is_idle-clause-printed g c =

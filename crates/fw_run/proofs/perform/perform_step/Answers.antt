@@ -1,7 +1,9 @@
 use Rattle.std.proofs.Common.{arith}
 use Rattle.std.proofs.lemmas.Result.{err_from_is_err_and}
 use Rattle.fw_schedule.specs.declared.item.Item.TheVariants.{One}
+use Rattle.fw_running.specs.declared.stepped.Stepped.{Stepped}
 use Rattle.fw_running.specs.Steps.{outcome_of}
+use Rattle.fw_run.proofs.FaultCounts.{told_after}
 use Rattle.fw_run.proofs.ItemPrintLaws.{step_stopped, step_begun, step_taken, few_stopped, few_taken, few_cut}
 use Rattle.fw_run.proofs.TallyLaws.{of_steps-more, steps-more}
 use Rattle.fw_run.proofs.perform.perform_step.Goals as goal
@@ -17,6 +19,12 @@ pub returns-in_err-stepped-clause-few : goal.returns-in_err-stepped-clause-few
 returns-in_err-stepped-clause-few g c =
     let p = err_from_is_err_and c.from_residual.result c.from_residual.ensures.1 in
     rw (p.1, p.2) (few_stopped (Unit {0}) (One c.args.step.now) 0 c.args.tally.now c.args.tally.now _ c.requires.room.of_steps (omega arith) (omega arith))
+
+pub returns-in_err-stepped-clause-faults : goal.returns-in_err-stepped-clause-faults
+returns-in_err-stepped-clause-faults g c =
+    let p = err_from_is_err_and c.from_residual.result c.from_residual.ensures.1 in
+    let count = g.K.Store.fault_count in
+    rw (p.1, p.2) (told_after Stepped (Unit {0}) _ (count c.args.store.now) (count c.step.new.store) c.in_err-stepped.ensures.faults)
 
 pub returns-in_err-print-clause-printed : goal.returns-in_err-print-clause-printed
 returns-in_err-print-clause-printed g c =

@@ -18,7 +18,7 @@ invariant-loop-item g l = record {
   in_order : AreAscending (ids_of (keep_of l.engine).entries);
   tells : is_some (g.K.Store.records l.store) ≡ is_some (g.K.Store.records l.fn.store);
   flow : flow_of l.engine ≡ flow_of l.fn.engine;
-  never_falls : g.K.Store.fault_count l.fn.store ≤ g.K.Store.fault_count l.store;
+  faults : g.K.Store.fault_count l.store ≡ g.K.Store.fault_count l.fn.store;
   of_steps : AreOfSteps l.tally;
   few : l.tally.steps ≤ step_count (take l.item-index l.items);
   up_to : (sys : System) → StandsFor sys l.fn.engine (g.K.Store.records l.fn.store) (first_state sys)

@@ -1,10 +1,10 @@
-use Rattle.std.proofs.Common.{◌≡◌, ℕ, List, [], inl, inr, sym, ◌∙◌, ap, subst, lit<, ◌<◌, Err}
+use Rattle.std.proofs.Common.{◌≡◌, ℕ, List, [], inl, inr, sym, ◌∙◌, ap, subst, arith, lit<, ◌<◌, ◌≤◌, Err}
 use Rattle.std.specs.Prelude.{IsSome}
 use Rattle.fw_outside.specs.declared.fault.OutFault.TheVariants.{Failed, NoMemory}
-use Rattle.fw_run.proofs.CallLaws.{same_refusal, prints, prints_part, run_of-call, left_of-call, store_kept, late_fault, folder_read}
+use Rattle.fw_run.proofs.CallLaws.{same_refusal, prints, prints_part, run_of-call, left_of-call, store_kept, late_fault, folder_read, counts_none, counts_fault, nothing_told}
 use Rattle.fw_run.proofs.FaultLaws.{write_of, store_of, damage_of, memory_of}
 use Rattle.fw_run.specs.declared.status.Status.{Status}
-use Rattle.fw_run.specs.Call.{call_of, Refuses}
+use Rattle.fw_run.specs.Call.{call_of, CountsFaults, Refuses}
 use Rattle.fw_run.specs.Fault.{out_fault}
 use Rattle.fw_run.specs.Status.{status_number}
 use Rattle.fw_run.specs.Words.{command_in, command_of, words_in}
@@ -120,3 +120,26 @@ returns-in-Err-print_work-clause-store g c =
     store_kept (g.F.Folder.texts c.args.folder.now) (command_of (words_in c.args.words.now)) (command_in c.in-Ok-Some.command) c.in-Ok.work c.status_of.result c.args.store.now c.print_work.new.store
     (sym (rw c.in-Ok-Some.field-0-is at c.in-Ok-Some.ensures.command)) c.in-Ok.ensures.work c.print_work.ensures.store_stays
     (inr (subst (λ (s : Status). 6 < status_number s) (sym c.status_of.ensures) (late_fault c.in-Err-print_work.fault)))
+
+pub returns-in-Err-print_work-clause-store_count : goal.returns-in-Err-print_work-clause-store_count
+returns-in-Err-print_work-clause-store_count g c =
+    let count = g.K.Store.fault_count in
+    let command = command_of (words_in c.args.words.now) in
+    subst (λ (status : Status). CountsFaults command status (count c.args.store.now) (count c.print_work.new.store)) (sym c.status_of.ensures)
+    (counts_fault (Unit {0}) (g.F.Folder.texts c.args.folder.now) command (command_in c.in-Ok-Some.command) c.in-Ok.work c.in-Err-print_work.fault (count c.args.store.now) (count c.print_work.new.store)
+    (sym (rw c.in-Ok-Some.field-0-is at c.in-Ok-Some.ensures.command)) c.in-Ok.ensures.work c.in-Err-print_work.ensures.first c.in-Err-print_work.ensures.some c.print_work.ensures.rises)
+
+pub returns-in-Ok-print_work-clause-store_count : goal.returns-in-Ok-print_work-clause-store_count
+returns-in-Ok-print_work-clause-store_count g c =
+    let count = g.K.Store.fault_count in
+    counts_none (command_of (words_in c.args.words.now)) _ (count c.args.store.now) (count c.print_work.new.store) c.in-Ok-print_work.ensures.none (λ e. absurd (cc))
+
+pub returns-in-Err-print_work-clause-nothing_told : goal.returns-in-Err-print_work-clause-nothing_told
+returns-in-Err-print_work-clause-nothing_told g c one least most =
+    let fault = c.in-Err-print_work.fault in
+    nothing_told (g.F.Folder.texts c.args.folder.now) (command_of (words_in c.args.words.now)) (command_in c.in-Ok-Some.command) c.in-Ok.work fault c.args.out.now c.print_work.new.out
+    (sym (rw c.in-Ok-Some.field-0-is at c.in-Ok-Some.ensures.command)) c.in-Ok.ensures.work c.in-Err-print_work.ensures.nothing_told one
+    (subst (λ (s : Status). 8 ≤ status_number s) c.status_of.ensures least) (subst (λ (s : Status). status_number s ≤ 9) c.status_of.ensures most)
+
+pub returns-in-Ok-print_work-clause-nothing_told : goal.returns-in-Ok-print_work-clause-nothing_told
+returns-in-Ok-print_work-clause-nothing_told g c one least most = absurd (omega (arith, least))

@@ -11,6 +11,7 @@ use Rattle.fw_run.specs.Stopping.{IsStoppedByStore, IsStoppedByDamage}
 use Rattle.fw_run.specs.Tallies.{summary_line}
 use Rattle.fw_run.specs.Words.{seeded_in}
 use Rattle.fw_run.specs.Writing.{IsWritten, Writes}
+use Rattle.fw_run.proofs.FaultCounts.{passed_after}
 use Rattle.fw_run.proofs.Roses.{same_fault}
 use Rattle.fw_run.proofs.SoFarLaws.{leaves_writes}
 use Rattle.fw_run.proofs.SummaryLaws.{nowhere, never_failed, summary_stopped, summary_written, summary_cut, store_put, damage_put}
@@ -31,6 +32,12 @@ returns-in_err-tally-clause-printed g c =
     let fault = c.in_err-tally.field-0.0 in
     let never = never_failed Tally tells sys c.as_slice.result.now fault (c.in_err-tally.ensures.cut_off sys (c.in_ok-engine.ensures.stands (g.K.Store.records c.args.store.now))) in
     rw (p.1, p.2) (summary_stopped (Unit {0}) tells sys c.args.job.items (seeded_in c.args.words) fault (g.O.Sink.view c.args.out.now) c.requires.ready.well_formed never)
+
+pub returns-in_err-tally-clause-faults : goal.returns-in_err-tally-clause-faults
+returns-in_err-tally-clause-faults g c =
+    let p = err_from_is_err_and c.from_residual-in_err-tally.result c.from_residual-in_err-tally.ensures.1 in
+    let count = g.K.Store.fault_count in
+    rw (p.1, p.2) (passed_after Tally (Unit {0}) _ (count c.args.store.now) (count c.take_items.new.store) c.in_err-tally.ensures.faults)
 
 pub returns-in_err-tally-clause-store_fault : goal.returns-in_err-tally-clause-store_fault
 returns-in_err-tally-clause-store_fault g c e =
@@ -105,3 +112,8 @@ returns-clause-left g c =
     let taken = subst (λ items. AreTaken (IsSome (records c.args.store.now)) sys items c.take_items.new.engine (records c.take_items.new.store) tally nowhere nowhere) c.as_slice.ensures
     (c.in_ok-tally.ensures.taken sys (c.in_ok-engine.ensures.stands (records c.args.store.now))) in
     leaves_writes (IsSome (records c.args.store.now)) sys c.args.job.items c.take_items.new.engine (records c.take_items.new.store) tally nowhere nowhere c.take_items.ensures.in_order taken
+
+pub returns-in_err-write-clause-faults : goal.returns-in_err-write-clause-faults
+returns-in_err-write-clause-faults g c =
+    let p = err_from_is_err_and c.from_residual-in_err-write.result c.from_residual-in_err-write.ensures.1 in
+    rw (p.1, p.2) c.in_ok-tally.ensures.faults

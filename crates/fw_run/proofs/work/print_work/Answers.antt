@@ -10,6 +10,7 @@ use Rattle.fw_run.specs.Enduring.{PrintsEndured, IsEndured}
 use Rattle.fw_run.specs.Performing.{WritesUntil}
 use Rattle.fw_run.specs.Stopping.{IsStoppedByStore, IsStoppedByDamage}
 use Rattle.fw_run.specs.Writing.{WritesText}
+use Rattle.fw_run.proofs.FaultCounts.{none_after, some_after, rises_after}
 use Rattle.fw_run.proofs.work.print_work.Goals as goal
 
 -- what is true is so whatever the answer
@@ -119,3 +120,41 @@ returns-in-Generate-clause-damaged g c id e = rw c.in-Generate.is (put_at_damage
 
 pub returns-in-Generate-clause-store_stays : goal.returns-in-Generate-clause-store_stays
 returns-in-Generate-clause-store_stays g c = rw c.in-Generate.is tt
+
+pub returns-in-Run-clause-nothing_told : goal.returns-in-Run-clause-nothing_told
+returns-in-Run-clause-nothing_told g c fault e = rw c.in-Run.is tt
+
+pub returns-in-Endure-clause-nothing_told : goal.returns-in-Endure-clause-nothing_told
+returns-in-Endure-clause-nothing_told g c fault e = rw c.in-Endure.is tt
+
+pub returns-in-Generate-clause-nothing_told : goal.returns-in-Generate-clause-nothing_told
+returns-in-Generate-clause-nothing_told g c fault e = rw c.in-Generate.is (c.summarize.ensures.nothing_told fault e)
+
+-- ---- how often the store failed
+
+pub returns-in-Run-clause-none : goal.returns-in-Run-clause-none
+returns-in-Run-clause-none g c = none_after c.perform.result (g.K.Store.fault_count c.args.store.now) (g.K.Store.fault_count c.perform.new.store) c.perform.ensures.faults
+
+pub returns-in-Run-clause-first : goal.returns-in-Run-clause-first
+returns-in-Run-clause-first g c = rw c.in-Run.is c.perform.ensures.faults
+
+pub returns-in-Run-clause-some : goal.returns-in-Run-clause-some
+returns-in-Run-clause-some g c e = some_after c.perform.result (g.K.Store.fault_count c.args.store.now) (g.K.Store.fault_count c.perform.new.store) c.perform.ensures.faults e
+
+pub returns-in-Run-clause-rises : goal.returns-in-Run-clause-rises
+returns-in-Run-clause-rises g c = rises_after c.perform.result (g.K.Store.fault_count c.args.store.now) (g.K.Store.fault_count c.perform.new.store) c.perform.ensures.faults
+
+pub returns-in-Generate-clause-none : goal.returns-in-Generate-clause-none
+returns-in-Generate-clause-none g c = none_after c.summarize.result (g.K.Store.fault_count c.args.store.now) (g.K.Store.fault_count c.summarize.new.store) c.summarize.ensures.faults
+
+pub returns-in-Generate-clause-first : goal.returns-in-Generate-clause-first
+returns-in-Generate-clause-first g c = rw c.in-Generate.is c.summarize.ensures.faults
+
+pub returns-in-Generate-clause-some : goal.returns-in-Generate-clause-some
+returns-in-Generate-clause-some g c e = some_after c.summarize.result (g.K.Store.fault_count c.args.store.now) (g.K.Store.fault_count c.summarize.new.store) c.summarize.ensures.faults e
+
+pub returns-in-Generate-clause-rises : goal.returns-in-Generate-clause-rises
+returns-in-Generate-clause-rises g c = rises_after c.summarize.result (g.K.Store.fault_count c.args.store.now) (g.K.Store.fault_count c.summarize.new.store) c.summarize.ensures.faults
+
+pub returns-in-Endure-clause-first : goal.returns-in-Endure-clause-first
+returns-in-Endure-clause-first g c = rw c.in-Endure.is tt

@@ -7,8 +7,9 @@ ghost use Rattle.cimboery.specs.Engine.{keep_of};
 
 use anyhow::{Context, Result, ensure};
 use cimboery::{
-    Batches, BuildFault, Comparison, Condition, EdgeId, Engine, Field, Flow, FlowBuilder, MemStore,
-    NodeId, Nodes, Policy, RawKind, Rec, Selection, Step, Stepped, Store, Term,
+    Batches, BuildFault, Comparison, Condition, EdgeId, Engine, EngineFault, Field, Flow,
+    FlowBuilder, MemStore, NodeId, Nodes, Policy, RawKind, Rec, Selection, Step, Stepped, Store,
+    Term,
 };
 use std::alloc::{AllocError, Global};
 
@@ -154,8 +155,18 @@ fn run<R: Print>(rt: &R, alloc: Global, shop: &mut Shop) -> Result<()> {
     shop.go_on(rt)
 }
 
+// After want of memory no step is taken any more.
+fn stays_refused(shop: &mut Shop) -> bool {
+    let next = shop.engine.auto_step(&mut shop.store);
+    matches!(next, Err(EngineFault::NoMemory))
+}
+
 fn main(rt: HostRuntime) -> Result<()> {
     let alloc = rt.alloc();
     let mut shop = Shop::new(alloc, shop_flow(alloc)?)?;
-    run(&rt, alloc, &mut shop)
+    let ended = run(&rt, alloc, &mut shop);
+    if shop.engine.is_refused() {
+        ensure!(stays_refused(&mut shop), "a step after want of memory");
+    }
+    ended
 }

@@ -152,22 +152,10 @@ fn tell_over<K: Store + Drop>(
 ) -> Result<bool, AllocError>
     requires { IsEmptyStore (K.records store) }
 {
-    let mut list = Vec::new(alloc);
-    for word in words.split_whitespace() {
-        list.push(if word == "\"\"" { "" } else { word })?;
-    }
     let printed = outside.out.taken().len();
     let noted = outside.notes.taken().len();
     let mut store = NotedStore::new(alloc, store);
-    let status = falkirk(
-        alloc,
-        &list,
-        &mut outside.folder,
-        &mut store,
-        &mut outside.out,
-        &mut outside.notes,
-    );
-    let number = status.number();
+    let number = run_over(alloc, words, outside, &mut store)?;
     let line = format!(in alloc; "status {number}")?;
     told.push_str(&line)?;
     tell_note(alloc, after(outside.notes.taken(), noted), told)?;
@@ -178,6 +166,30 @@ fn tell_over<K: Store + Drop>(
         store.tell(told)?;
     }
     Ok(store.faults() > 0)
+}
+
+/// Runs a command over a store; the number of its status.
+fn run_over<K: Store>(
+    alloc: Global,
+    words: &str,
+    outside: &mut Outside,
+    store: &mut K,
+) -> Result<u8, AllocError>
+    requires { IsEmptyStore (K.records store.old) }
+{
+    let mut list = Vec::new(alloc);
+    for word in words.split_whitespace() {
+        list.push(if word == "\"\"" { "" } else { word })?;
+    }
+    let status = falkirk(
+        alloc,
+        &list,
+        &mut outside.folder,
+        store,
+        &mut outside.out,
+        &mut outside.notes,
+    );
+    Ok(status.number())
 }
 
 /// What a sink took after so many bytes.

@@ -1,5 +1,5 @@
 -- What the calls of a folder, a store and a sink promise.
-use Rattle.std.specs.Prelude.{◌≡◌, ◌⊎◌, ℕ, ◌+◌, ◌-◌, ◌^◌, ◌<◌, ◌≤◌, min, Option, Result, Ok, Err, List, ◌++◌, length, take, IfSome, IsSomeAnd, option_map}
+use Rattle.std.specs.Prelude.{◌≡◌, ◌⊎◌, ℕ, ◌+◌, ◌-◌, ◌^◌, ◌<◌, ◌≤◌, min, max, Option, Result, Ok, Err, List, ◌++◌, length, take, IfSome, IsSomeAnd, option_map}
 use Rattle.fw_outside.specs.declared.fault.OutFault.{OutFault}
 use Rattle.fw_outside.specs.declared.fault.OutFault.TheVariants.{Failed, NoMemory}
 
@@ -7,9 +7,9 @@ use Rattle.fw_outside.specs.declared.fault.OutFault.TheVariants.{Failed, NoMemor
 abbrev pub Rose : ℕ → ℕ → Type 0
 Rose before after = (before < after) ⊎ (before ≡ 2 ^ 64 - 1)
 
--- a count with one more; at the end of its type it stays there
+-- a count with one more; at the end of its type, or above, it stays where it is
 abbrev pub one_more : ℕ → ℕ
-one_more count = min (count + 1) (2 ^ 64 - 1)
+one_more count = max count (min (count + 1) (2 ^ 64 - 1))
 
 -- how often a store has failed after a call that answered so: once more where it failed, and else as often as before
 abbrev pub faults_after : {T : Type 0} → Result T OutFault → ℕ → ℕ

@@ -3,6 +3,7 @@ pub mod InsideLaws
 pub mod AntichainLaws
 pub mod CanonicalLaws
 pub mod NamesLaws
+pub mod FewLaws
 pub mod TextLaws
 pub mod GenericLaws
 pub mod BelowLaws

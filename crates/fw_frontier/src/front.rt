@@ -7,6 +7,7 @@ ghost use Rattle.fw_frontier.specs.Frontier.{nothing, meet, join, cover, without
 ghost use Rattle.fw_frontier.specs.Front.{inside, frontier_of, same_front, is_within, IsCanonical, IsFrontOf};
 ghost use Rattle.fw_frontier.specs.Least.{AreLeastOf};
 
+use crate::few::Few;
 use crate::outside;
 use fw_time::{Bounds, Stamp};
 use std::alloc::{AllocError, Global};
@@ -21,18 +22,20 @@ use std::marker::Model;
 /// of all that are to be outside, from a front whose list has the least of its own. `join` and `cover_of` speak of stamps
 /// of one domain alone; there all lists have the least of their own.
 ///
-/// The calls that make a frontier need memory for its outside stamps, and fail where memory is refused.
+/// The calls that make a frontier need memory for its outside stamps, and fail where memory is refused. One outside stamp
+/// alone takes no memory.
 #[derive(Debug, Drop)]
 pub struct Front {
-    outside: Vec<Stamp>,
+    outside: Few,
 }
 
 impl Model for Front {
     ghost use Rattle.std.specs.Prelude.{ℕ, List};
+    ghost use Rattle.fw_frontier.specs.Few.{stamps_of};
 
     ghost Value = { List (List ℕ) };
 
-    ghost view = { λ front. front.outside.items };
+    ghost view = { λ front. stamps_of front.outside };
 }
 
 impl Front {
@@ -41,7 +44,7 @@ impl Front {
         ensures { result ≡ [] }
     {
         Front {
-            outside: Vec::new(alloc),
+            outside: Few::Many(Vec::new(alloc)),
         }
     }
 
@@ -49,15 +52,16 @@ impl Front {
     pub fn of_outside(outside: Vec<Stamp>) -> Self
         ensures { result ≡ outside.items }
     {
-        Front { outside }
+        Front {
+            outside: Few::Many(outside),
+        }
     }
 
     /// The frontier without stamps.
     pub fn empty(alloc: Global, bounds: &Bounds) -> Result<Self, AllocError>
         ensures { IfOk result (λ f. IsFrontOf bounds.now f nothing) }
     {
-        let mut outside = Vec::new(alloc);
-        outside.push(bounds.origin())?;
+        let outside = Few::One(alloc, bounds.origin());
         Ok(Front { outside })
     }
 
@@ -67,8 +71,7 @@ impl Front {
             → IfOk result (λ f. IsFrontOf bounds f (frontier_of bounds stamps.now)) }
         ensures list { IfOk result (λ f. AreLeastOf stamps.now f) }
     {
-        let mut outside = Vec::new(alloc);
-        outside::exclude_all(&mut outside, stamps)?;
+        let outside = Few::until(alloc, stamps)?;
         Ok(Front { outside })
     }
 
@@ -95,7 +98,7 @@ impl Front {
         ensures { AllByRecursion (λ s. in_domain bounds.now s ≡ true) stamps.now
             → IfOk result (λ f. IsFrontOf bounds.now f (cover bounds.now stamps.now)) }
     {
-        let outside = outside::covering(alloc, stamps, bounds)?;
+        let outside = Few::covering(alloc, stamps, bounds)?;
         Ok(Front { outside })
     }
 
@@ -103,7 +106,7 @@ impl Front {
     pub fn copy(&self) -> Result<Self, AllocError>
         ensures { IfOk result (λ f. f ≡ self.now) }
     {
-        let outside = outside::copied(*self.outside.allocator(), &self.outside)?;
+        let outside = self.outside.copy()?;
         Ok(Front { outside })
     }
 
@@ -111,21 +114,21 @@ impl Front {
     pub fn outside(&self) -> &[Stamp]
         ensures { result.now ≡ self.now }
     {
-        &self.outside
+        self.outside.as_slice()
     }
 
     /// Whether its outside stamps are the domain's.
     pub fn is_in_domain(&self, bounds: &Bounds) -> bool
         ensures { IsTrue result ↔ AllByRecursion (λ o. in_domain bounds.now o ≡ true) self.now }
     {
-        outside::are_in_domain(&self.outside, bounds)
+        outside::are_in_domain(self.outside(), bounds)
     }
 
     /// Whether a stamp of the domain is inside.
     pub fn contains(&self, t: &Stamp) -> bool
         ensures { result ≡ inside self.now t.now }
     {
-        outside::has_inside(&self.outside, t)
+        outside::has_inside(self.outside(), t)
     }
 
     /// Whether it has the same outside stamps as the other frontier.
@@ -133,7 +136,7 @@ impl Front {
         ensures test { result ≡ same_front self.now other.now }
         ensures one { IsTrue result ↔ (self.now ≡ other.now) }
     {
-        self.outside.cmp(&other.outside).is_eq()
+        self.outside().cmp(other.outside()).is_eq()
     }
 
     /// Whether each stamp inside is inside the other frontier.
@@ -143,7 +146,7 @@ impl Front {
         ensures domain { (bounds : Domain) → IsCanonical bounds other.now
             → (IsTrue result ↔ Within (frontier_of bounds self.now) (frontier_of bounds other.now)) }
     {
-        outside::has_none_inside(&self.outside, &other.outside)
+        outside::has_none_inside(self.outside(), other.outside())
     }
 
     /// What is inside both.
@@ -156,8 +159,7 @@ impl Front {
         ensures list { AreLeastOf self.now self.now
             → IfOk result (λ f. AreLeastOf (self.now ++ other.now) f) }
     {
-        let mut outside = outside::copied(*self.outside.allocator(), &self.outside)?;
-        outside::exclude_all(&mut outside, &other.outside)?;
+        let outside = self.outside.without_all(other.outside())?;
         Ok(Front { outside })
     }
 
@@ -167,7 +169,7 @@ impl Front {
             → IfOk result (λ f. IsFrontOf bounds f
             (join (frontier_of bounds self.now) (frontier_of bounds other.now))) }
     {
-        let outside = outside::joined(*self.outside.allocator(), &self.outside, &other.outside)?;
+        let outside = self.outside.joined(&other.outside)?;
         Ok(Front { outside })
     }
 
@@ -180,8 +182,7 @@ impl Front {
         ensures list { AreLeastOf self.now self.now
             → IfOk result (λ f. AreLeastOf (t.now ∷ self.now) f) }
     {
-        let mut outside = outside::copied(*self.outside.allocator(), &self.outside)?;
-        outside::exclude(&mut outside, t.copy())?;
+        let outside = self.outside.without(t)?;
         Ok(Front { outside })
     }
 }
@@ -193,11 +194,12 @@ impl fmt::Display for Front {
     ghost output = { λ front. Some (front_text front) };
 
     fn fmt<W: fmt::Write>(&self, f: &mut fmt::Formatter<W>) -> fmt::Result {
-        if self.outside.is_empty() {
+        let stamps = self.outside();
+        if stamps.is_empty() {
             return write!(f, "all");
         }
         write!(f, "until")?;
-        for o in &self.outside {
+        for o in stamps {
             write!(f, " {o}")?;
         }
         Ok(())

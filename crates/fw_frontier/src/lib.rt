@@ -2,6 +2,7 @@
 #![tactic(auto)]
 
 mod below;
+mod few;
 mod front;
 mod frontier;
 pub mod laws;

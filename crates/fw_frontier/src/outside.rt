@@ -4,7 +4,7 @@ ghost use Rattle.std.specs.List.{AllByRecursion};
 ghost use Rattle.fw_time.specs.declared.stamp.Bounds.{Bounds as Domain};
 ghost use Rattle.fw_time.specs.Stamp.{leq, lub, stamp_raised_at, in_domain};
 ghost use Rattle.fw_frontier.specs.Front.{inside, is_within, all_in_domain, frontier_of, IsFrontOf};
-ghost use Rattle.fw_frontier.specs.Frontier.{join, cover};
+ghost use Rattle.fw_frontier.specs.Frontier.{join};
 ghost use Rattle.fw_frontier.specs.Outside.{place_among, with_stamp, front_without, front_without_all, rise_count, front_without_near, front_without_all_near, below_at};
 
 use crate::planes;
@@ -203,27 +203,13 @@ fn exclude_raised(
 }
 
 // What of a domain is at most `s`, a stamp of it.
-fn below(alloc: Global, s: &Stamp, greatest: &Stamp) -> Result<Vec<Stamp>, AllocError>
+pub fn below(alloc: Global, s: &Stamp, greatest: &Stamp) -> Result<Vec<Stamp>, AllocError>
     ensures { IfOk result
         (λ outside. outside.items ≡ below_at s.now greatest.now (length s.now)) }
 {
     let mut outside = Vec::new(alloc);
     for place in 0..s.len() {
         exclude_raised(&mut outside, s, greatest, place)?;
-    }
-    Ok(outside)
-}
-
-// What of a domain is at most one of the stamps, which are the domain's.
-pub fn covering(alloc: Global, stamps: &[Stamp], bounds: &Bounds) -> Result<Vec<Stamp>, AllocError>
-    ensures { AllByRecursion (λ s. in_domain bounds.now s ≡ true) stamps.now
-        → IfOk result (λ outside. IsFrontOf bounds.now outside.items (cover bounds.now stamps.now)) }
-{
-    let mut outside = Vec::new(alloc);
-    outside.push(bounds.origin())?;
-    for s in stamps {
-        let under = below(alloc, s, &bounds.greatest)?;
-        outside = joined(alloc, &outside, &under)?;
     }
     Ok(outside)
 }

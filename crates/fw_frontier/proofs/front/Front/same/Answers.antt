@@ -9,5 +9,5 @@ use Rattle.fw_frontier.proofs.front.Front.same.Goals as goal
 pub returns-clause-one : goal.returns-clause-one
 returns-clause-one c =
     let test : c.is_eq.result ≡ same_front c.args.self.now c.args.other.now =
-    c.is_eq.ensures ∙ ap is_eq (c.cmp.ensures ∙ (λ i. slice_cmp stamp_cmp (c.self.view_is i) (c.other.view_is i))) in
+    c.is_eq.ensures ∙ ap is_eq (c.cmp.ensures ∙ (λ i. slice_cmp stamp_cmp (c.outside.ensures i) (c.outside-2.ensures i))) in
     (λ t. same_front-is c.args.self.now c.args.other.now (sym test ∙ t), λ e. test ∙ same_front-from c.args.self.now c.args.other.now e)

@@ -5,10 +5,7 @@ use Rattle.fw_frontier.proofs.front.Front.subset.Goals as goal
 use Rattle.fw_frontier.proofs.front.Front.subset.Goals.{After-has_none_inside}
 
 answer : (c : After-has_none_inside) → c.has_none_inside.result ≡ is_within c.args.self.now c.args.other.now
-answer c =
-    let mine : c.deref.result.now ≡ c.args.self.now = c.deref.ensures.value ∙ c.self.view_is in
-    let others : c.deref-2.result.now ≡ c.args.other.now = c.deref-2.ensures.value ∙ c.other.view_is in
-    c.has_none_inside.ensures ∙ (λ i. is_within (mine i) (others i))
+answer c = c.has_none_inside.ensures ∙ (λ i. is_within (c.outside.ensures i) (c.outside-2.ensures i))
 
 pub returns-clause-within : goal.returns-clause-within
 returns-clause-within c =

@@ -5,4 +5,4 @@ use Rattle.fw_frontier.proofs.front.FrontDisplay.fmt.Given as goal
 
 abbrev pub invariant-loop-o : goal.invariant-loop-o
 invariant-loop-o g l =
-    IsPlainFormatter l.initial.f → HasWritten g.W.Write.write_str_gives l.initial.f (spaces_text (take l.o-index l.o-items)) l.f
+    IsPlainFormatter l.initial.f → HasWritten g.W.Write.write_str_gives l.initial.f (spaces_text (take l.o-index l.stamps)) l.f

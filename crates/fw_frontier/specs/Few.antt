@@ -1,0 +1,10 @@
+-- Outside stamps of which one alone stands in place.
+use Rattle.std.specs.Prelude.{[], ◌∷◌}
+use Rattle.fw_frontier.specs.Front.{Front}
+use Rattle.fw_frontier.specs.declared.few.Few.{Few}
+use Rattle.fw_frontier.specs.declared.few.Few.TheVariants.{One, Many}
+
+-- the stamps, in order
+abbrev pub stamps_of : Few → Front
+stamps_of (One alloc s) = s ∷ []
+stamps_of (Many ss) = ss.items

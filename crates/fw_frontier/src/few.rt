@@ -1,0 +1,153 @@
+//! The outside stamps of a front, of which one alone takes no memory.
+ghost use Rattle.std.specs.Prelude.{◌≡◌, true, [], ◌∷◌, length, IfSome, IfOk};
+ghost use Rattle.std.specs.List.{AllByRecursion};
+ghost use Rattle.fw_time.specs.declared.stamp.Bounds.{Bounds as Domain};
+ghost use Rattle.fw_time.specs.Stamp.{in_domain};
+ghost use Rattle.fw_frontier.specs.Few.{stamps_of};
+ghost use Rattle.fw_frontier.specs.Front.{frontier_of, IsFrontOf};
+ghost use Rattle.fw_frontier.specs.Frontier.{join, cover};
+ghost use Rattle.fw_frontier.specs.Outside.{front_without, front_without_all, below_at};
+
+use crate::outside;
+use fw_time::{Bounds, Stamp};
+use std::alloc::{AllocError, Global};
+use std::slice;
+
+// The stamps: one in place, or any number in a vector.
+#[derive(Debug, Drop)]
+pub enum Few {
+    One(Global, Stamp),
+    Many(Vec<Stamp>),
+}
+
+impl Few {
+    // These stamps made outside ones.
+    pub fn until(alloc: Global, stamps: &[Stamp]) -> Result<Self, AllocError>
+        ensures { IfOk result (λ few. stamps_of few ≡ front_without_all stamps.now []) }
+    {
+        if let [only] = stamps {
+            return Ok(Few::One(alloc, only.copy()));
+        }
+        let mut outside = Vec::new(alloc);
+        outside::exclude_all(&mut outside, stamps)?;
+        Ok(Few::Many(outside))
+    }
+
+    // The outside stamps of what is at most one of these stamps of a domain.
+    pub fn covering(alloc: Global, stamps: &[Stamp], bounds: &Bounds) -> Result<Self, AllocError>
+        ensures { AllByRecursion (λ s. in_domain bounds.now s ≡ true) stamps.now
+            → IfOk result (λ few. IsFrontOf bounds.now (stamps_of few) (cover bounds.now stamps.now)) }
+    {
+        let mut covered = Few::One(alloc, bounds.origin());
+        for s in stamps {
+            let under = Few::below(alloc, s, &bounds.greatest)?;
+            covered = covered.joined(&under)?;
+        }
+        Ok(covered)
+    }
+
+    // The same of one stamp. In a domain of one coordinate there is one at most.
+    #[tactic(auto, using(crate::proofs::FewLaws::below_one, crate::proofs::FewLaws::below_greatest))]
+    fn below(alloc: Global, s: &Stamp, greatest: &Stamp) -> Result<Self, AllocError>
+        ensures { IfOk result
+            (λ few. stamps_of few ≡ below_at s.now greatest.now (length s.now)) }
+    {
+        if s.len() != 1 || greatest.len() != 1 {
+            let outside = outside::below(alloc, s, greatest)?;
+            return Ok(Few::Many(outside));
+        }
+        if s.at(0) < greatest.at(0) {
+            return Ok(Few::One(alloc, s.raised(0)));
+        }
+        Ok(Few::Many(Vec::new(alloc)))
+    }
+
+    // The same stamps once more.
+    pub fn copy(&self) -> Result<Self, AllocError>
+        ensures { IfOk result (λ few. stamps_of few ≡ stamps_of self.now) }
+    {
+        match self {
+            Few::One(alloc, stamp) => Ok(Few::One(*alloc, stamp.copy())),
+            Few::Many(stamps) => {
+                let stamps = outside::copied(*stamps.allocator(), stamps)?;
+                Ok(Few::Many(stamps))
+            }
+        }
+    }
+
+    // The stamps, in order.
+    pub fn as_slice(&self) -> &[Stamp]
+        ensures { result.now ≡ stamps_of self.now }
+    {
+        match self {
+            Few::One(_, stamp) => slice::from_ref(stamp),
+            Few::Many(stamps) => stamps,
+        }
+    }
+
+    // With these stamps made outside ones too.
+    pub fn without_all(&self, stamps: &[Stamp]) -> Result<Self, AllocError>
+        ensures { IfOk result
+            (λ few. stamps_of few ≡ front_without_all stamps.now (stamps_of self.now)) }
+    {
+        if let [only] = stamps {
+            return self.without(only);
+        }
+        let mut outside = outside::copied(self.allocator(), self.as_slice())?;
+        outside::exclude_all(&mut outside, stamps)?;
+        Ok(Few::Many(outside))
+    }
+
+    // With one stamp more made an outside one.
+    pub fn without(&self, stamp: &Stamp) -> Result<Self, AllocError>
+        ensures { IfOk result (λ few. stamps_of few ≡ front_without stamp.now (stamps_of self.now)) }
+    {
+        if let Few::One(alloc, mine) = self {
+            if let Some(least) = least_of_two(mine, stamp) {
+                return Ok(Few::One(*alloc, least));
+            }
+        }
+        let mut outside = outside::copied(self.allocator(), self.as_slice())?;
+        outside::exclude(&mut outside, stamp.copy())?;
+        Ok(Few::Many(outside))
+    }
+
+    // The outside stamps of what is inside one of two frontiers.
+    #[tactic(auto, using(crate::proofs::FewLaws::one_join))]
+    pub fn joined(&self, other: &Self) -> Result<Self, AllocError>
+        ensures { (bounds : Domain) → AllByRecursion (λ s. in_domain bounds s ≡ true) (stamps_of self.now)
+            → AllByRecursion (λ s. in_domain bounds s ≡ true) (stamps_of other.now)
+            → IfOk result (λ few. IsFrontOf bounds (stamps_of few)
+            (join (frontier_of bounds (stamps_of self.now)) (frontier_of bounds (stamps_of other.now)))) }
+    {
+        if let Few::One(alloc, mine) = self {
+            if let Few::One(_, others) = other {
+                return Ok(Few::One(*alloc, mine.lub(others)));
+            }
+        }
+        let outside = outside::joined(self.allocator(), self.as_slice(), other.as_slice())?;
+        Ok(Few::Many(outside))
+    }
+
+    // Where more of them are kept.
+    fn allocator(&self) -> Global {
+        match self {
+            Few::One(alloc, _) => *alloc,
+            Few::Many(stamps) => *stamps.allocator(),
+        }
+    }
+}
+
+// The stamp that is outside of both, if one of the two is at most the other.
+#[tactic(auto, using(crate::proofs::FewLaws::one_stays, crate::proofs::FewLaws::one_goes))]
+fn least_of_two(mine: &Stamp, stamp: &Stamp) -> Option<Stamp>
+    ensures { IfSome result (λ least. least ∷ [] ≡ front_without stamp.now (mine.now ∷ [])) }
+{
+    if mine.leq(stamp) {
+        return Some(mine.copy());
+    }
+    if stamp.leq(mine) {
+        return Some(stamp.copy());
+    }
+    None
+}

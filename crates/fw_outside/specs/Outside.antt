@@ -1,5 +1,7 @@
 -- What the calls of a folder, a store and a sink promise.
 use Rattle.std.specs.Prelude.{◌≡◌, ◌⊎◌, ℕ, ◌+◌, ◌-◌, ◌^◌, ◌<◌, ◌≤◌, min, max, Option, Result, Ok, Err, List, ◌++◌, length, take, IfSome, IsSomeAnd, option_map}
+use Rattle.fw_outside.specs.declared.fault.FetchFault.{FetchFault}
+use Rattle.fw_outside.specs.declared.fault.FetchFault.TheVariants as fetch
 use Rattle.fw_outside.specs.declared.fault.OutFault.{OutFault}
 use Rattle.fw_outside.specs.declared.fault.OutFault.TheVariants.{Failed, NoMemory}
 
@@ -11,11 +13,23 @@ Rose before after = (before < after) ⊎ (before ≡ 2 ^ 64 - 1)
 abbrev pub one_more : ℕ → ℕ
 one_more count = max count (min (count + 1) (2 ^ 64 - 1))
 
--- how often a store has failed after a call that answered so: once more where it failed, and else as often as before
+-- how often a store or a sink has failed after a call that answered so: once more where it failed, and else as often as before
 abbrev pub faults_after : {T : Type 0} → Result T OutFault → ℕ → ℕ
 faults_after (Ok x) count = count
 faults_after (Err Failed) count = one_more count
 faults_after (Err NoMemory) count = count
+
+-- how often a sink has refused after a call that answered so: once more where it refused, and else as often as before
+abbrev pub refusals_after : {T : Type 0} → Result T OutFault → ℕ → ℕ
+refusals_after (Ok x) count = count
+refusals_after (Err fault) count = one_more count
+
+-- how often a folder has failed after a call that answered so: once more where it failed, and else as often as before
+abbrev pub fetch_faults_after : {T : Type 0} → Result T FetchFault → ℕ → ℕ
+fetch_faults_after (Ok x) count = count
+fetch_faults_after (Err fetch.Failed) count = one_more count
+fetch_faults_after (Err fetch.TooLarge) count = count
+fetch_faults_after (Err fetch.NoMemory) count = count
 
 -- these bytes are the text under a name, where the folder tells its texts
 abbrev pub IsText : Option (List ℕ → Option (List ℕ)) → List ℕ → List ℕ → Type 0

@@ -11,7 +11,7 @@ use thiserror::Error;
 /// Why a text was not fetched.
 #[derive(Clone, Copy, Debug, PartialEq, Eq, Error)]
 pub enum FetchFault {
-    /// The folder failed; its count of faults rose, or stands at 2^64 - 1.
+    /// The folder failed, and counts it.
     #[error("the folder failed")]
     Failed,
     /// The text has more bytes than the limit.
@@ -33,7 +33,7 @@ impl From<AllocError> for FetchFault {
 /// Why a store or a sink refused a call.
 #[derive(Clone, Copy, Debug, PartialEq, Eq, Error)]
 pub enum OutFault {
-    /// The store or the sink failed; its count of faults rose, or stands at 2^64 - 1.
+    /// The store or the sink failed, and counts it.
     #[error("the store or the sink failed")]
     Failed,
     /// There was no memory for the call.

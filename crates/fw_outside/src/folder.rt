@@ -1,6 +1,6 @@
 //! Where texts come from.
 ghost use Rattle.std.specs.Prelude.{◌≡◌, ◌+◌, ◌^◌, ◌<◌, ◌≤◌, [], ℕ, List, Option, OnOk, IsErrOf, vec_len};
-ghost use Rattle.fw_outside.specs.Outside.{Rose, IsText, IsCutText, one_more};
+ghost use Rattle.fw_outside.specs.Outside.{IsText, IsCutText, one_more, fetch_faults_after};
 
 use crate::FetchFault;
 
@@ -12,7 +12,7 @@ pub trait Folder {
     /// How often a text was asked for; a count of 2^64 - 1 stands for that many or more.
     ghost fetch_count: { Self → ℕ };
 
-    /// How often the folder failed.
+    /// How often the folder failed: once for each call that answers `Failed`.
     ghost fault_count: { Self → ℕ };
 
     /// Puts all bytes of a text into `into`, in place of what was there, where they are at most `limit`.
@@ -29,11 +29,10 @@ pub trait Folder {
         ensures within { OnOk result (vec_len into.new ≤ limit) }
         ensures too_large { IsErrOf result FetchFault.TooLarge → IsCutText (texts self.old) name.now limit into.new.items }
         ensures cut { IsErrOf result FetchFault.TooLarge → vec_len into.new ≡ limit + 1 }
-        ensures failed { IsErrOf result FetchFault.Failed → Rose (fault_count self.old) (fault_count self.new) }
         ensures failed_empty { IsErrOf result FetchFault.Failed → into.new.items ≡ [] }
         ensures no_memory_empty { IsErrOf result FetchFault.NoMemory → into.new.items ≡ [] }
-        ensures never_falls { fault_count self.old ≤ fault_count self.new }
         ensures counted { fetch_count self.new ≡ one_more (fetch_count self.old) }
+        ensures faults { fault_count self.new ≡ fetch_faults_after result (fault_count self.old) }
         ensures texts_stay { texts self.new ≡ texts self.old };
 
     /// How often the folder failed; a count of 2^64 - 1 stands for that many or more.

@@ -4,14 +4,14 @@ ghost use Rattle.fw_progress.specs.Growths.{IsPut, ArePut};
 ghost use Rattle.fw_flow.specs.Dataflow.{out_edges};
 
 use fw_flow::{Flow, NodeId};
+use fw_places::Places;
 use std::alloc::{AllocError, Global};
-use std::collections::BTreeSet;
 use std::marker::Model;
 
 /// The nodes that wait to be widened, each once. Contracts see their places, in order.
 #[derive(Debug, Drop)]
 pub(crate) struct Worklist {
-    places: BTreeSet<u32>,
+    places: Places,
 }
 
 impl Model for Worklist {
@@ -19,7 +19,7 @@ impl Model for Worklist {
 
     ghost Value = { List ℕ };
 
-    ghost view = { λ work. work.places.keys };
+    ghost view = { λ work. work.places };
 }
 
 impl Worklist {
@@ -28,7 +28,7 @@ impl Worklist {
         ensures { result ≡ [] }
     {
         Worklist {
-            places: BTreeSet::new(alloc),
+            places: Places::new(alloc),
         }
     }
 

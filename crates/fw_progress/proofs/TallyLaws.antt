@@ -1,5 +1,5 @@
 -- Tallies: what one more and one less of a stamp leave, and up to where there is none.
-use Rattle.std.proofs.Common.{◌≡◌, ℕ, ◌+◌, ◌-◌, ◌<◌, ◌≤◌, Bool, true, false, not, ◌&&◌, nat_le, nat_lt, cond, drop, List, [], ◌∷◌, ◌++◌, length, get_or, take, Option, Some, None, unwrap_or, refl, sym, ap, subst, ◌∙◌, inl, inr, arith}
+use Rattle.std.proofs.Common.{◌≡◌, ℕ, ◌+◌, ◌-◌, ◌^◌, ◌<◌, ◌≤◌, Bool, true, false, not, ◌&&◌, nat_le, nat_lt, cond, drop, List, [], ◌∷◌, ◌++◌, length, get_or, take, Option, Some, None, unwrap_or, refl, sym, ap, subst, ◌∙◌, inl, inr, arith}
 use Rattle.std.specs.Prelude.{IsSome}
 use Rattle.std.specs.List.{AllByRecursion}
 use Rattle.std.specs.Map.{keys_of, lookup, set_value, remove_entry}
@@ -14,7 +14,7 @@ use Rattle.std.proofs.lemmas.Bool.{and_parts, and_from, cases_Bool, false_from_n
 use Rattle.std.proofs.lemmas.Bool.Decides.{nat_tests}
 use Rattle.std.proofs.lemmas.Cmp.{nat_list_cmp_total, tied_itself}
 use Rattle.std.proofs.lemmas.Map.{lookup-none}
-use Rattle.std.proofs.lemmas.Map.Entries.{none_below_head}
+use Rattle.std.proofs.lemmas.Map.Entries.{none_below_head, lookup_head, lookup_tail}
 use Rattle.std.proofs.lemmas.List.{take_more}
 use Rattle.fw_time.specs.Stamp.{Stamp, leq, same, in_domain, stamp_cmp}
 use Rattle.fw_time.specs.declared.stamp.Bounds.{Bounds}
@@ -371,6 +371,25 @@ counts-below f at n (e ∷ es) o = by (stamp_cmp at e.0) refl (counts-below f at
         let past : times_in at (e ∷ es) ≡ times_in at es = found false 0 (ap is_eq k) in
         ap (λ m. cond (f e.0) (e.1 + count_inside f (insert_entry stamp_cmp es at n)) (count_inside f (insert_entry stamp_cmp es at n)) + cond (f at) m 0) past
         ∙ later (f at) (f e.0) e.1 (count_inside f (insert_entry stamp_cmp es at n)) (count_inside f es) (times_in at es) ih
+
+-- a number that is written over itself
+pub insert-same : (es : Entries) (at : Stamp) (n : ℕ) → IsStrictlySortedBy stamp_cmp (keys_of es) → lookup (is_at (stamp_cmp at)) es ≡ Some n → insert_entry stamp_cmp es at n ≡ es
+insert-same [] at n o h = absurd (cc)
+insert-same (e ∷ es) at n o h = by (stamp_cmp at e.0) refl (insert-same es at n (tail-sorted e es o))
+  where
+    by : (c : Ordering) → stamp_cmp at e.0 ≡ c → (lookup (is_at (stamp_cmp at)) es ≡ Some n → insert_entry stamp_cmp es at n ≡ es)
+        → match_ordering c ((at, n) ∷ e ∷ es) ((e.0, n) ∷ es) (e ∷ insert_entry stamp_cmp es at n) ≡ e ∷ es
+    by Less k ih = let none = lookup-none (is_at (stamp_cmp at)) (e ∷ es) (none_below_head nat_list_cmp_total at e es o k) in absurd (cc)
+    by Equal k ih =
+        let there : Some e.1 ≡ Some n = sym (lookup_head (is_at (stamp_cmp at)) e es (ap is_eq k)) ∙ h in
+        let same : e.1 ≡ n = cc in
+        ap (λ m. (e.0, m) ∷ es) (sym same)
+    by Greater k ih = ap (λ fs. e ∷ fs) (ih (sym (lookup_tail (is_at (stamp_cmp at)) e es (ap is_eq k)) ∙ h))
+
+-- a number that cannot be raised is one that is there
+pub held-over : (o : Option ℕ) (n more : ℕ) → n ≡ unwrap_or o 0 → more < 2 ^ 64 → 2 ^ 64 ≤ n + more → o ≡ Some n
+held-over (Some m) n more e f l = ap Some (sym e)
+held-over None n more e f l = absurd (omega (arith, e, f, l))
 
 -- so many more of a stamp
 pub many_more : (old new : Entries) (at : Stamp) (count n : ℕ) → 0 < count → n ≡ times_in at old + count → IsStrictlySortedBy stamp_cmp (keys_of old) → IsWith old at (Some n) new

@@ -1,5 +1,6 @@
 //! How many there are of each stamp.
-ghost use Rattle.std.specs.Prelude.{◌≡◌, ◌↔◌, [], not, drop, filter, find, IsTrue, IfOk, OnErr};
+ghost use Rattle.std.specs.Prelude.{◌≡◌, ◌↔◌, ◌+◌, [], not, drop, filter, find, Some, IsTrue, IfOk, OnOk, OnErr};
+ghost use Rattle.std.specs.BTreeMap.{insert_entry, IsOrdered, Updates};
 ghost use Rattle.std.specs.List.{AllByRecursion, list_any};
 ghost use Rattle.std.specs.List.Sorted.{IsStrictlySortedBy};
 ghost use Rattle.std.specs.Map.{keys_of};
@@ -156,13 +157,26 @@ fn has_lesser(counts: &BTreeMap<Stamp, u64>, at: &Stamp) -> bool
     counts.keys().any(|stamp| stamp.leq(at) && !at.leq(stamp))
 }
 
+// The number of a stamp is so much greater from now on, by one look-up; all is as it was after an error.
+fn raise(counts: &mut BTreeMap<Stamp, u64>, at: &Stamp, more: u64) -> Result<(), AllocError>
+    ensures ok { OnOk result
+        (Updates stamp_cmp counts.old counts.new at.now (Some (times_in at.now counts.old.entries + more))) }
+    ensures entries { OnOk result (counts.new.entries
+        ≡ insert_entry stamp_cmp counts.old.entries at.now (times_in at.now counts.old.entries + more)) }
+    ensures err { OnErr result (counts.new.entries ≡ counts.old.entries) }
+    ensures ordered { IsOrdered stamp_cmp counts.old }
+{
+    let count = counts.entry(at.copy())?.or_insert(0);
+    *count = count.checked_add(more).ok_or(AllocError)?;
+    Ok(())
+}
+
 // One more of a stamp; all is as it was after an error.
 fn add_one(counts: &mut BTreeMap<Stamp, u64>, at: &Stamp) -> Result<(), AllocError>
     ensures ok { IfOk result (λ u. HasOneMore at.now counts.old.entries counts.new.entries) }
     ensures err { OnErr result (counts.new.entries ≡ counts.old.entries) }
 {
-    let more = times_of(counts, at).checked_add(1).ok_or(AllocError)?;
-    counts.insert(at.copy(), more)?;
+    raise(counts, at, 1)?;
     Ok(())
 }
 
@@ -174,8 +188,7 @@ fn add_many(counts: &mut BTreeMap<Stamp, u64>, at: &Stamp, count: u64) -> Result
     if count == 0 {
         return Ok(());
     }
-    let more = times_of(counts, at).checked_add(count).ok_or(AllocError)?;
-    counts.insert(at.copy(), more)?;
+    raise(counts, at, count)?;
     Ok(())
 }
 

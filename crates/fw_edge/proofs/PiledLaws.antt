@@ -15,6 +15,7 @@ use Rattle.std.proofs.lemmas.Cmp.{tied_itself, eq_by_cmp_equiv}
 use Rattle.std.proofs.lemmas.List.{append_assoc, append-nil, nil_from_length}
 use Rattle.std.proofs.lemmas.List.Elements.{filter-append}
 use Rattle.std.proofs.lemmas.Map.{lookup-none}
+use Rattle.std.proofs.lemmas.Map.Steps.{set_value_same}
 use Rattle.std.proofs.lemmas.Map.Entries.{none_below_head, none_past_head}
 use Rattle.std.proofs.lemmas.Map.Keys.{sorted_head, sorted_tail, IsDistinct-from_sorted}
 use Rattle.fw_time.specs.Stamp.{Stamp, same, stamp_cmp}
@@ -149,6 +150,22 @@ pile_found t v (e ∷ es) a h = elim (cases_Bool (at_stamp t e.0)) [
       subst (λ w. IsPile t w) same (subst (λ s. IsPile s e.1) (sym (stamp_cmp-equal t e.0 q)) a.0)
   | inr q ↦ pile_found t v es a.1 (sym (cond-false (at_stamp t e.0) (Some e.1) (lookup (at_stamp t) es) q) ∙ h)
 ]
+
+-- what is inserted at a stamp that has a pile is written in its place
+pub insert-found : (t : Stamp) (v w : List Message) (es : Piles) → IsStrictlySortedBy stamp_cmp (keys_of es) → lookup (at_stamp t) es ≡ Some v → insert_entry stamp_cmp es t w ≡ set_value (at_stamp t) es w
+insert-found t v w [] o h = absurd (cc)
+insert-found t v w (e ∷ es) o h = by (stamp_cmp t e.0) refl (insert-found t v w es (sorted_tail stamp_cmp e.0 (keys_of es) o))
+  where
+    by : (c : Ordering) → stamp_cmp t e.0 ≡ c → (lookup (at_stamp t) es ≡ Some v → insert_entry stamp_cmp es t w ≡ set_value (at_stamp t) es w)
+        → match_ordering c ((t, w) ∷ e ∷ es) ((e.0, w) ∷ es) (e ∷ insert_entry stamp_cmp es t w) ≡ set_value (at_stamp t) (e ∷ es) w
+    by Less k ih = let none = not_found t e es o k in absurd (cc)
+    by Equal k ih = sym (cond-true (at_stamp t e.0) ((e.0, w) ∷ es) (e ∷ set_value (at_stamp t) es w) (ap is_eq k))
+    by Greater k ih =
+        ap (λ fs. e ∷ fs) (ih (sym (found_later t e es k) ∙ h)) ∙ sym (cond-false (at_stamp t e.0) ((e.0, w) ∷ es) (e ∷ set_value (at_stamp t) es w) (ap is_eq k))
+
+-- a pile that is written over itself
+pub insert-same : (t : Stamp) (v : List Message) (es : Piles) → IsStrictlySortedBy stamp_cmp (keys_of es) → lookup (at_stamp t) es ≡ Some v → insert_entry stamp_cmp es t v ≡ es
+insert-same t v es o h = insert-found t v v es o h ∙ set_value_same (at_stamp t) es v h
 
 -- ---- a message put into a pile
 

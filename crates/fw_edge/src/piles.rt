@@ -1,9 +1,7 @@
 //! Messages by their stamps.
-ghost use Rattle.std.specs.Prelude.{◌≡◌, ◌↔◌, [], find, true, None, IsTrue, IsSome, IfSome, IfNone, IfOk, OnOk, OnErr};
+ghost use Rattle.std.specs.Prelude.{◌≡◌, ◌↔◌, [], ◌∷◌, find, true, IsTrue, IfSome, IfNone, IfOk, OnOk, OnErr};
 ghost use Rattle.std.specs.Option.{option_copied};
-ghost use Rattle.std.specs.Map.{lookup};
-ghost use Rattle.std.specs.BTreeMap.{is_at};
-ghost use Rattle.fw_time.specs.Stamp.{same, stamp_cmp};
+ghost use Rattle.fw_time.specs.Stamp.{same};
 ghost use Rattle.fw_frontier.specs.Front.{inside};
 ghost use Rattle.fw_flow.specs.Counting.{how_many};
 ghost use Rattle.fw_flow.specs.Message.{messages_without};
@@ -18,6 +16,7 @@ use fw_frontier::Front;
 use fw_time::Stamp;
 use std::alloc::{AllocError, Global};
 use std::collections::BTreeMap;
+use std::collections::btree_map::Entry;
 
 /// Puts a message in. It fails where memory is refused, and where the number at its stamp would not fit a `usize`.
 pub fn put(
@@ -30,44 +29,23 @@ pub fn put(
     ensures ok { OnOk result (piled_messages piles.new.entries ≡ with_message message (piled_messages piles.old.entries)) }
     ensures err { OnErr result (piles.new.entries ≡ piles.old.entries) }
 {
-    if piles.contains_key(&message.at) {
-        return put_more(piles, message);
+    match piles.entry(message.at.copy())? {
+        Entry::Occupied(pile) => pile.into_mut().put(message)?,
+        Entry::Vacant(place) => {
+            let pile = single(alloc, message)?;
+            place.insert(pile);
+        }
     }
-    put_new(alloc, piles, message)
-}
-
-// Puts a message into the pile of its stamp.
-fn put_more(piles: &mut BTreeMap<Stamp, Pile>, message: Message) -> Result<(), AllocError>
-    requires piles { ArePiles piles.old.entries }
-    requires there { IsSome (lookup (is_at (stamp_cmp message.at)) piles.old.entries) }
-    ensures piles { ArePiles piles.new.entries }
-    ensures ok { OnOk result (piled_messages piles.new.entries ≡ with_message message (piled_messages piles.old.entries)) }
-    ensures err { OnErr result (piles.new.entries ≡ piles.old.entries) }
-{
-    let Some(pile) = piles.get_mut(&message.at) else {
-        unreachable!()
-    };
-    pile.put(message)?;
     Ok(())
 }
 
-// Makes the pile of the message's stamp.
-fn put_new(
-    alloc: Global,
-    piles: &mut BTreeMap<Stamp, Pile>,
-    message: Message,
-) -> Result<(), AllocError>
-    requires piles { ArePiles piles.old.entries }
-    requires absent { lookup (is_at (stamp_cmp message.at)) piles.old.entries ≡ None }
-    ensures piles { ArePiles piles.new.entries }
-    ensures ok { OnOk result (piled_messages piles.new.entries ≡ with_message message (piled_messages piles.old.entries)) }
-    ensures err { OnErr result (piles.new.entries ≡ piles.old.entries) }
+// The pile of one message.
+fn single(alloc: Global, message: Message) -> Result<Pile, AllocError>
+    ensures { IfOk result (λ pile. pile ≡ message ∷ []) }
 {
-    let at = message.at.copy();
     let mut pile = Pile::new(alloc);
     pile.put(message)?;
-    piles.insert(at, pile)?;
-    Ok(())
+    Ok(pile)
 }
 
 /// Takes the first message at a stamp out.

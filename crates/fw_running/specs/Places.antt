@@ -1,14 +1,9 @@
 -- What becomes of places that are kept, and which is the first of them.
-use Rattle.std.specs.Prelude.{◌≡◌, ◌≢◌, ◌⊎◌, ℕ, ◌<◌, ◌≤◌, ◌-◌, ◌^◌, List, length, Option, Some, None}
+pub use Rattle.fw_places.specs.Places.{IsPut, IsTakenOut, IsFirstFrom, HasNoneBetween, IsFirstPlace}
+use Rattle.std.specs.Prelude.{◌≡◌, ℕ, ◌<◌, ◌-◌, ◌^◌, List, length, Option, Some, None}
 use Rattle.std.specs.List.{Contains}
 use Rattle.fw_flow.specs.Dataflow.{Dataflow}
 use Rattle.fw_running.specs.ReadyState.{ReadyState}
-
--- p is put among the places.
-pub record IsPut (p : ℕ) (old new : List ℕ) : Type 0 where
-  pub there : Contains new p
-  pub stays : (q : ℕ) → Contains old q → Contains new q
-  pub only : (q : ℕ) → Contains new q → (q ≡ p) ⊎ Contains old q
 
 -- Node p is put among the nodes of each sort, and the edges stay.
 pub record IsNodePut (p : ℕ) (old new : ReadyState) : Type 0 where
@@ -18,23 +13,6 @@ pub record IsNodePut (p : ℕ) (old new : ReadyState) : Type 0 where
   pub outputs : IsPut p old.outputs new.outputs
   pub inputs : IsPut p old.inputs new.inputs
 
--- p is taken out of the places.
-pub record IsTakenOut (p : ℕ) (old new : List ℕ) : Type 0 where
-  pub gone : Contains new p → ⊥
-  pub stays : (q : ℕ) → q ≢ p → Contains old q → Contains new q
-  pub only : (q : ℕ) → Contains new q → Contains old q
-  pub fewer : Contains old p → length new < length old
-
--- p is the first of the places from k on.
-pub record IsFirstFrom (k : ℕ) (places : List ℕ) (p : ℕ) : Type 0 where
-  pub there : Contains places p
-  pub from : k ≤ p
-  pub least : (q : ℕ) → Contains places q → k ≤ q → p ≤ q
-
--- none of the places is from k on and below the limit
-abbrev pub HasNoneBetween : ℕ → ℕ → List ℕ → Type 0
-HasNoneBetween k limit places = (q : ℕ) → Contains places q → k ≤ q → q < limit → ⊥
-
 -- no number of a node or edge is as great
 abbrev pub place_limit : ℕ
 place_limit = 2 ^ 32 - 1
@@ -43,11 +21,6 @@ place_limit = 2 ^ 32 - 1
 abbrev pub IsFirstPlaceFrom : ℕ → List ℕ → Option ℕ → Type 0
 IsFirstPlaceFrom k places None = HasNoneBetween k place_limit places
 IsFirstPlaceFrom k places (Some p) = IsFirstFrom k places p × (p < place_limit)
-
--- the answer is the first of the places, and none where there is none
-abbrev pub IsFirstPlace : List ℕ → Option ℕ → Type 0
-IsFirstPlace places None = (q : ℕ) → Contains places q → ⊥
-IsFirstPlace places (Some p) = IsFirstFrom 0 places p
 
 -- the answer is the first place for which this holds, and none where it holds for none
 abbrev pub IsFirstWhere : (ℕ → Type 0) → Option ℕ → Type 0

@@ -3,8 +3,8 @@ ghost use Rattle.std.specs.Prelude.{◌≡◌, [], OnOk};
 ghost use Rattle.fw_running.specs.Places.{IsPut, IsNodePut, IsTakenOut, IsFirstPlace, IsFirstPlaceFrom, HasAllPlaces};
 
 use fw_flow::{EdgeId, Flow, NodeId};
+use fw_places::Places;
 use std::alloc::{AllocError, Global};
-use std::collections::BTreeSet;
 use std::marker::Model;
 
 /// Places among which are all where something may be done, so that a step that is taken by itself is found without trying
@@ -13,15 +13,15 @@ use std::marker::Model;
 #[derive(Drop)]
 pub struct Ready {
     /// Among these are the edges on which something is pending for a receiver that is not failed.
-    edges: BTreeSet<u32>,
+    edges: Places,
     /// Among these are the nodes that are owed a notification, and are not failed.
-    owing: BTreeSet<u32>,
+    owing: Places,
     /// Among these are the nodes at which more is kept as complete than is settled.
-    growing: BTreeSet<u32>,
+    growing: Places,
     /// Among these are the outputs that may acknowledge.
-    outputs: BTreeSet<u32>,
+    outputs: Places,
     /// Among these are the inputs that have a batch to inject, and are not failed.
-    inputs: BTreeSet<u32>,
+    inputs: Places,
 }
 
 impl Model for Ready {
@@ -30,11 +30,11 @@ impl Model for Ready {
     ghost Value = { ReadyState };
 
     ghost view = { λ ready. record {
-      edges = ready.edges.keys;
-      owing = ready.owing.keys;
-      growing = ready.growing.keys;
-      outputs = ready.outputs.keys;
-      inputs = ready.inputs.keys;
+      edges = ready.edges;
+      owing = ready.owing;
+      growing = ready.growing;
+      outputs = ready.outputs;
+      inputs = ready.inputs;
     } };
 }
 
@@ -44,11 +44,11 @@ impl Ready {
         ensures { result ≡ record { edges = []; owing = []; growing = []; outputs = []; inputs = [] } }
     {
         Ready {
-            edges: BTreeSet::new(alloc),
-            owing: BTreeSet::new(alloc),
-            growing: BTreeSet::new(alloc),
-            outputs: BTreeSet::new(alloc),
-            inputs: BTreeSet::new(alloc),
+            edges: Places::new(alloc),
+            owing: Places::new(alloc),
+            growing: Places::new(alloc),
+            outputs: Places::new(alloc),
+            inputs: Places::new(alloc),
         }
     }
 
@@ -89,7 +89,7 @@ impl Ready {
         ensures taken { IsTakenOut edge self.old.edges self.new.edges }
         ensures others { self.new ≡ record self.old { edges = self.new.edges } }
     {
-        self.edges.remove(&edge.place());
+        self.edges.remove(edge.place());
     }
 
     /// The first of the edges.
@@ -97,7 +97,7 @@ impl Ready {
         ensures { IsFirstPlace self.now.edges result }
     {
         let place = self.edges.first()?;
-        Some(EdgeId::at(*place))
+        Some(EdgeId::at(place))
     }
 
     /// A node is owed a notification. The error is want of memory.
@@ -114,15 +114,15 @@ impl Ready {
         ensures taken { IsTakenOut node self.old.owing self.new.owing }
         ensures others { self.new ≡ record self.old { owing = self.new.owing } }
     {
-        self.owing.remove(&node.place());
+        self.owing.remove(node.place());
     }
 
     /// The first node from a place on that may be owed a notification.
     pub fn owing_from(&self, place: u32) -> Option<NodeId>
         ensures { IsFirstPlaceFrom place self.now.owing result }
     {
-        let place = self.owing.range(place..u32::MAX).next()?;
-        Some(NodeId::at(*place))
+        let place = self.owing.first_between(place, u32::MAX)?;
+        Some(NodeId::at(place))
     }
 
     /// The kept frontier of a node grew. The error is want of memory.
@@ -139,15 +139,15 @@ impl Ready {
         ensures taken { IsTakenOut node self.old.growing self.new.growing }
         ensures others { self.new ≡ record self.old { growing = self.new.growing } }
     {
-        self.growing.remove(&node.place());
+        self.growing.remove(node.place());
     }
 
     /// The first node from a place on whose kept frontier may have more than is settled.
     pub fn growing_from(&self, place: u32) -> Option<NodeId>
         ensures { IsFirstPlaceFrom place self.now.growing result }
     {
-        let place = self.growing.range(place..u32::MAX).next()?;
-        Some(NodeId::at(*place))
+        let place = self.growing.first_between(place, u32::MAX)?;
+        Some(NodeId::at(place))
     }
 
     /// A node may acknowledge, if it is an output. The error is want of memory.
@@ -164,7 +164,7 @@ impl Ready {
         ensures taken { IsTakenOut node self.old.outputs self.new.outputs }
         ensures others { self.new ≡ record self.old { outputs = self.new.outputs } }
     {
-        self.outputs.remove(&node.place());
+        self.outputs.remove(node.place());
     }
 
     /// The first of the outputs.
@@ -172,7 +172,7 @@ impl Ready {
         ensures { IsFirstPlace self.now.outputs result }
     {
         let place = self.outputs.first()?;
-        Some(NodeId::at(*place))
+        Some(NodeId::at(place))
     }
 
     /// A node may inject, if it is an input. The error is want of memory.
@@ -189,7 +189,7 @@ impl Ready {
         ensures taken { IsTakenOut node self.old.inputs self.new.inputs }
         ensures others { self.new ≡ record self.old { inputs = self.new.inputs } }
     {
-        self.inputs.remove(&node.place());
+        self.inputs.remove(node.place());
     }
 
     /// The first of the inputs.
@@ -197,6 +197,6 @@ impl Ready {
         ensures { IsFirstPlace self.now.inputs result }
     {
         let place = self.inputs.first()?;
-        Some(NodeId::at(*place))
+        Some(NodeId::at(place))
     }
 }

@@ -2,11 +2,12 @@
 use Rattle.std.proofs.Common.{◌≡◌, ◌⊎◌, inl, inr, Bool, true, false, not, ◌&&◌, ◌||◌, cond, List, [], ◌∷◌, ◌++◌, refl, sym, ap, subst, ◌∙◌, arith}
 use Rattle.std.specs.Prelude.{filter}
 use Rattle.std.specs.List.{AllByRecursion, Contains, list_any}
+use Rattle.std.specs.BTreeMap.{is_at}
 use Rattle.std.specs.BTreeSet.{insert_key}
 use Rattle.std.specs.declared.cmp.Ordering.{Ordering}
 use Rattle.std.specs.declared.cmp.Ordering.TheVariants.{Less, Equal, Greater}
-use Rattle.std.specs.Ordering.{is_eq, match_ordering}
-use Rattle.std.proofs.lemmas.Bool.{and_parts, and_from, or_cases, or_left, or_right, cases_Bool, both_ways, false_from_ne_true, not-true}
+use Rattle.std.specs.Ordering.{is_eq, is_lt, match_ordering}
+use Rattle.std.proofs.lemmas.Bool.{and_parts, and_from, or_cases, or_left, or_right, cases_Bool, both_ways, false_from_ne_true, false≢true, not-true}
 use Rattle.std.proofs.lemmas.List.Elements.{Contains-append_right}
 use Rattle.fw_time.specs.Stamp.{Stamp, leq, lesser, in_domain, stamp_cmp}
 use Rattle.fw_time.specs.declared.stamp.Bounds.{Bounds}
@@ -64,6 +65,17 @@ each_of-insert P (s ∷ ss) at a = by (stamp_cmp at s) refl a (λ b. each_of-ins
 -- a kept stamp that is greater stays so in a longer list
 keeps-below : (base : Frontier) (kept new : List Stamp) → ((s : Stamp) → Contains kept s → base s ≡ true → Contains new s) → (t : Stamp) → IsBelowKept base kept t → IsBelowKept base new t
 keeps-below base kept new f t k = record { above = k.above; is_kept = f k.above k.is_kept k.inside; inside = k.inside; below = k.below }
+
+-- a stamp that is there, and that none is after, is inserted without change
+pub insert_key-there : (ss : List Stamp) (at : Stamp) → AllByRecursion (λ s. is_lt (stamp_cmp at s) ≡ false) ss → list_any (is_at (stamp_cmp at)) ss ≡ true → insert_key stamp_cmp ss at ≡ ss
+insert_key-there [] at a h = absurd (false≢true h)
+insert_key-there (s ∷ ss) at a h = by (stamp_cmp at s) refl (insert_key-there ss at a.1)
+  where
+    by : (c : Ordering) → stamp_cmp at s ≡ c → (list_any (is_at (stamp_cmp at)) ss ≡ true → insert_key stamp_cmp ss at ≡ ss)
+        → match_ordering c (at ∷ s ∷ ss) (s ∷ ss) (s ∷ insert_key stamp_cmp ss at) ≡ s ∷ ss
+    by Less k ih = absurd (both_ways (is_lt (stamp_cmp at s)) a.0 (ap is_lt k))
+    by Equal k ih = refl
+    by Greater k ih = ap (λ xs. s ∷ xs) (ih (sym (ap (λ c. is_eq c || list_any (is_at (stamp_cmp at)) ss) k) ∙ h))
 
 pub thinned-add : (base : Frontier) (all kept : List Stamp) (at : Stamp) → IsThinned base all kept → IsThinned base (at ∷ all) (insert_key stamp_cmp kept at)
 thinned-add base all kept at h =

@@ -1,5 +1,5 @@
 //! Stamps that are kept thinned inside a base.
-ghost use Rattle.std.specs.Prelude.{◌≡◌, ◌||◌, ◌&&◌, not, [], ◌∷◌, ◌++◌, List, ℕ, filter, IfOk, OnErr};
+ghost use Rattle.std.specs.Prelude.{◌≡◌, ◌||◌, ◌&&◌, not, [], ◌∷◌, ◌++◌, List, ℕ, filter, IsTrue, IfOk, OnErr};
 ghost use Rattle.std.specs.List.{list_any};
 ghost use Rattle.std.specs.BTreeSet.{insert_key};
 ghost use Rattle.fw_time.specs.Stamp.{lesser, leq, stamp_cmp};
@@ -57,6 +57,9 @@ impl KeptStamps {
         ensures value { IfOk result (λ u. self.new ≡ insert_key stamp_cmp self.old at.now) }
         ensures err { OnErr result (self.new ≡ self.old) }
     {
+        if is_last(&self.stamps, at) {
+            return Ok(());
+        }
         self.stamps.insert(at.copy())?;
         Ok(())
     }
@@ -137,6 +140,16 @@ impl KeptStamps {
             }
         }
         Ok(stamps)
+    }
+}
+
+/// Whether this is the last of the stamps, which needs no search among them.
+fn is_last(stamps: &BTreeSet<Stamp>, at: &Stamp) -> bool
+    ensures { IsTrue result → insert_key stamp_cmp stamps.now.keys at.now ≡ stamps.now.keys }
+{
+    match stamps.last() {
+        Some(last) => last == at,
+        None => false,
     }
 }
 

@@ -1,4 +1,4 @@
-//! A dataflow engine whose recovery undoes as little as possible: all that a program which embeds it wants, in one crate.
+//! A dataflow engine whose recovery undoes no more than its rules of consistency ask: all that a program which embeds it wants, in one crate.
 //!
 //! - A flow: `FlowBuilder` makes one in code, `read_flow` reads one from a text; `Flow` answers what its nodes and edges are.
 //! - What flows: `Rec`, a key and a value; `Batches`, for each input its batches by epoch, made by `Batches::add` or read by

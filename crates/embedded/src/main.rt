@@ -1,54 +1,23 @@
 //! A program that embeds the engine: a flow and batches are made in code; in the run a total asks a checkpoint, fails and is
-//! restored. What its nodes write is kept in a store in memory.
+//! restored. With the names of three files it takes its flow, batches and schedule from their texts instead. What nodes write is
+//! kept in a store in memory.
 #![tactic(auto)]
 
 ghost use Rattle.cimboery.specs.Stored.{IsStored};
 ghost use Rattle.cimboery.specs.Engine.{keep_of};
 
-use anyhow::{Context, Result, ensure};
+mod files;
+mod shop;
+
+use crate::files::run_of_files;
+use crate::shop::shop;
+use anyhow::{Context, Result, bail, ensure};
 use cimboery::{
-    Batches, BuildFault, Comparison, Condition, EdgeId, Engine, EngineFault, Field, Flow,
-    FlowBuilder, MemStore, NodeId, Nodes, Policy, RawKind, Rec, Selection, Step, Stepped, Store,
-    Term,
+    Batches, EdgeId, Engine, EngineFault, Flow, Item, MemStore, NodeId, Nodes, Schedule, Step,
+    Stepped, Store,
 };
-use std::alloc::{AllocError, Global};
-
-// Orders below 100 are added up by customer for the shop; each order goes to the archive.
-fn shop_flow(alloc: Global) -> Result<Flow, BuildFault> {
-    let below_100 = Selection {
-        condition: Condition {
-            field: Field::Value,
-            comparison: Comparison::Less,
-            term: Term::Number(100),
-        },
-        assignment: None,
-    };
-    FlowBuilder::new(alloc)
-        .input("orders")?
-        .select("cheap", below_100)?
-        .node("sums", RawKind::Total, Policy::Lazy)?
-        .output("shop")?
-        .output("archive")?
-        .edge("to_cheap", "orders", "cheap")?
-        .edge("to_sums", "cheap", "sums")?
-        .edge("to_shop", "sums", "shop")?
-        .edge("to_archive", "orders", "archive")?
-        .build()
-}
-
-fn order(customer: u64, price: u64) -> Rec {
-    Rec {
-        key: customer,
-        value: price,
-    }
-}
-
-fn two_batches(alloc: Global, orders: NodeId) -> Result<Batches, AllocError> {
-    let mut batches = Batches::new(alloc);
-    batches.add(orders.place(), &[order(1, 20), order(2, 150)])?;
-    batches.add(orders.place(), &[order(1, 70), order(4, 300)])?;
-    Ok(batches)
-}
+use std::alloc::Global;
+use std::env;
 
 fn node(flow: &Flow, name: &str) -> Result<NodeId> {
     flow.node_named(name.as_bytes()).context("no such node")
@@ -60,21 +29,19 @@ fn edge(flow: &Flow, name: &str) -> Result<EdgeId> {
 
 // An engine, with the store of what its nodes write.
 #[derive(Drop)]
-struct Shop {
+struct Run {
     engine: Engine,
     store: MemStore,
     ghost stored: { IsStored (keep_of engine) (⟦<MemStore as Store>⟧.records store) },
 }
 
-impl Shop {
-    // Of that flow and those batches, which are such as an engine asks for.
-    fn new(alloc: Global, flow: Flow) -> Result<Self> {
-        let orders = node(&flow, "orders")?;
-        let batches = two_batches(alloc, orders)?;
-        ensure!(flow.accepts(&batches), "no engine runs this");
-        let engine = Engine::new(alloc, flow, &batches)?;
+impl Run {
+    // Of a flow and batches, which are such as an engine asks for.
+    fn of(alloc: Global, flow: Flow, batches: &Batches) -> Result<Self> {
+        ensure!(flow.accepts(batches), "no engine runs this");
+        let engine = Engine::new(alloc, flow, batches)?;
         let store = MemStore::new(alloc, Vec::new(alloc));
-        Ok(Shop { engine, store })
+        Ok(Run { engine, store })
     }
 
     // Takes a step, and prints what it shows.
@@ -103,9 +70,9 @@ impl Shop {
         Ok(pending.is_empty())
     }
 
-    // Takes the first step that is enabled, a hundred times at most, and prints what the steps show.
-    fn go_on<R: Print>(&mut self, rt: &R) -> Result<()> {
-        for _ in 0..100 {
+    // Takes the first step that is enabled, so many times at most, and prints what the steps show.
+    fn go_on<R: Print>(&mut self, rt: &R, most: u64) -> Result<()> {
+        for _ in 0..most {
             let stepped = self.engine.auto_step(&mut self.store)?;
             if let Stepped::Idle = &stepped {
                 return Ok(());
@@ -113,6 +80,23 @@ impl Shop {
             show(rt, self.engine.flow(), &stepped)?;
         }
         Ok(())
+    }
+
+    // Takes the steps of a schedule, and prints what they show.
+    fn follow<R: Print>(&mut self, rt: &R, schedule: &Schedule) -> Result<()> {
+        for item in schedule.as_slice() {
+            match item {
+                Item::One(step) => self.take(rt, step)?,
+                Item::Auto(most) => self.go_on(rt, *most)?,
+            }
+        }
+        Ok(())
+    }
+
+    // After want of memory no step is taken any more.
+    fn stays_refused(&mut self) -> bool {
+        let next = self.engine.auto_step(&mut self.store);
+        matches!(next, Err(EngineFault::NoMemory))
     }
 
     // The first batch goes through, and the total has a checkpoint of it.
@@ -149,24 +133,35 @@ fn show<R: Print>(rt: &R, flow: &Flow, stepped: &Stepped) -> Result<()> {
     Ok(())
 }
 
-fn run<R: Print>(rt: &R, alloc: Global, shop: &mut Shop) -> Result<()> {
-    shop.first_batch(rt)?;
-    shop.failure(rt, alloc)?;
-    shop.go_on(rt)
+// The run of the shop.
+fn run_shop<R: Print>(rt: &R, alloc: Global, run: &mut Run) -> Result<()> {
+    run.first_batch(rt)?;
+    run.failure(rt, alloc)?;
+    run.go_on(rt, 100)
 }
 
-// After want of memory no step is taken any more.
-fn stays_refused(shop: &mut Shop) -> bool {
-    let next = shop.engine.auto_step(&mut shop.store);
-    matches!(next, Err(EngineFault::NoMemory))
+// How a run ended. If memory was refused in a step, one more is tried, which has to be refused too.
+fn ended(run: &mut Run, came: Result<()>) -> Result<()> {
+    if run.engine.is_refused() {
+        ensure!(run.stays_refused(), "a step after want of memory");
+    }
+    came
 }
 
 fn main(rt: HostRuntime) -> Result<()> {
     let alloc = rt.alloc();
-    let mut shop = Shop::new(alloc, shop_flow(alloc)?)?;
-    let ended = run(&rt, alloc, &mut shop);
-    if shop.engine.is_refused() {
-        ensure!(stays_refused(&mut shop), "a step after want of memory");
+    let words: Vec<String> = env::args(&rt)?.skip(1).collect(alloc)?;
+    match words.as_slice() {
+        [] => {
+            let mut run = shop(alloc)?;
+            let came = run_shop(&rt, alloc, &mut run);
+            ended(&mut run, came)
+        }
+        [flow, inputs, schedule] => {
+            let (mut run, schedule) = run_of_files(&rt, alloc, flow, inputs, schedule)?;
+            let came = run.follow(&rt, &schedule);
+            ended(&mut run, came)
+        }
+        _ => bail!("no words, or the files of a flow, of inputs and of a schedule"),
     }
-    ended
 }

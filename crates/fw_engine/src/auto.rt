@@ -1,5 +1,5 @@
 //! Steps that are taken by themselves: each is the first that is enabled.
-ghost use Rattle.std.specs.Prelude.{◌≡◌, ◌↔◌, Option, IsErrOf, IsTrue, IfOk, IfSome, OnOk, is_some};
+ghost use Rattle.std.specs.Prelude.{◌≡◌, ◌↔◌, Option, Ok, IsErrOf, IsTrue, IfOk, IfSome, OnOk, is_some};
 ghost use Rattle.fw_running.specs.Faults.{faults_after};
 ghost use Rattle.fw_border.specs.Outputs.{AreByNumber};
 ghost use Rattle.fw_keep.specs.Stored.{Records, IsStored};
@@ -8,6 +8,7 @@ ghost use Rattle.fw_running.specs.Kept.{output_of};
 ghost use Rattle.fw_running.specs.Places.{IsFirstWhere};
 ghost use Rattle.fw_running.specs.Ready.{CanAcknowledge, CanDeliver, CanInject, IsOwing};
 ghost use Rattle.fw_engine.specs.Searching.{with_ready_edges, with_ready_outputs, with_ready_inputs, IsSearched, IsNoticeOf, IsFirstNotified, NoneToPersist, TakesFirstAfter};
+ghost use Rattle.fw_running.specs.declared.stepped.Stepped.TheVariants.{Idle};
 ghost use Rattle.fw_running.specs.Shaped.{IsShaped};
 ghost use Rattle.fw_running.specs.Steps.{TakesFirstStep, StaysShaped, IsUndamaged, MayCallByItself};
 
@@ -42,6 +43,7 @@ pub(crate) fn take_first<K: Store>(
     ensures undamaged { IsUndamaged result }
     ensures tells { is_some (K.records store.new) ≡ is_some (K.records store.old) }
     ensures quiet { (MayCallByItself running.old.flow → ⊥) → store.new ≡ store.old }
+    ensures idle { result ≡ Ok Idle → store.new ≡ store.old }
 {
     match persist(running) {
         Stepped::Did(effect) => Ok(Stepped::Did(effect)),
@@ -61,6 +63,7 @@ fn deliver_first<K: Store>(running: &mut Running, store: &mut K) -> Result<Stepp
     ensures undamaged { IsUndamaged result }
     ensures tells { is_some (K.records store.new) ≡ is_some (K.records store.old) }
     ensures quiet { (MayCallByItself running.old.flow → ⊥) → store.new ≡ store.old }
+    ensures idle { result ≡ Ok Idle → store.new ≡ store.old }
 {
     match first_deliverable(running) {
         Some(edge) => deliver(running, edge, None, store),
@@ -80,6 +83,7 @@ fn notify_first<K: Store>(running: &mut Running, store: &mut K) -> Result<Steppe
     ensures undamaged { IsUndamaged result }
     ensures tells { is_some (K.records store.new) ≡ is_some (K.records store.old) }
     ensures quiet { (MayCallByItself running.old.flow → ⊥) → store.new ≡ store.old }
+    ensures idle { result ≡ Ok Idle → store.new ≡ store.old }
 {
     let Some(notice) = first_notice(running)? else {
         return settle_first(running, store);
@@ -100,6 +104,7 @@ fn settle_first<K: Store>(running: &mut Running, store: &mut K) -> Result<Steppe
     ensures undamaged { IsUndamaged result }
     ensures tells { is_some (K.records store.new) ≡ is_some (K.records store.old) }
     ensures quiet { (MayCallByItself running.old.flow → ⊥) → store.new ≡ store.old }
+    ensures idle { result ≡ Ok Idle → store.new ≡ store.old }
 {
     match progress(running, store)? {
         Stepped::Did(effect) => Ok(Stepped::Did(effect)),

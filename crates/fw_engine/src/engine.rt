@@ -1,5 +1,5 @@
 //! The engine.
-ghost use Rattle.std.specs.Prelude.{◌≡◌, ℕ, Option, true, false, None, IsTrue, IfOk, IsErrOf, is_some, OnOk, []};
+ghost use Rattle.std.specs.Prelude.{◌≡◌, ◌≢◌, ℕ, Option, true, false, None, Ok, IsTrue, IfOk, IsErrOf, is_some, OnOk, []};
 ghost use Rattle.fw_flow.specs.declared.step.Step.TheVariants.{Collect, Recover};
 ghost use Rattle.fw_flow.specs.Dataflow.{system_of};
 ghost use Rattle.fw_flow.specs.WellFormed.{IsWellFormedSystem};
@@ -8,8 +8,9 @@ ghost use Rattle.fw_keep.specs.Catalogue.{AreAscending, ids_of};
 ghost use Rattle.fw_keep.specs.Stored.{Records, IsEmptyStore, IsStored};
 ghost use Rattle.fw_running.specs.Faults as faults;
 ghost use Rattle.fw_running.specs.Faults.{faults_after};
+ghost use Rattle.fw_running.specs.declared.stepped.Stepped.TheVariants.{Idle};
 ghost use Rattle.fw_running.specs.Shaped.{IsShaped};
-ghost use Rattle.fw_running.specs.Steps.{Trusts, MayCallStore, MayCallByItself, FirstMayCall, IsLeftBy};
+ghost use Rattle.fw_running.specs.Steps.{Trusts, HasOutcome, MayCallStore, MayCallByItself, FirstMayCall, IsLeftBy, IsStepEnabled, outcome_of};
 
 use crate::auto::take_first;
 use crate::taking::take;
@@ -58,8 +59,8 @@ impl Engine {
         &self.running.flow
     }
 
-    /// Takes a step, and tells what it shows: Idle exactly where it is not enabled, and then nothing changes, but that a
-    /// collection sweeps what waits.
+    /// Takes a step, and tells what it shows: Idle exactly where it is not enabled, and then it stands where it stood, and the
+    /// store is as it was, but that a collection sweeps what waits.
     ///
     /// # Errors
     ///
@@ -75,15 +76,21 @@ impl Engine {
         ensures ok { ForEachState self.old (K.records store.old) (λ sys state. Trusts sys state step.now (K.records store.old)
             → IfOk result (λ stepped. FollowsStep sys state step.now stepped self.new (K.records store.new))) }
 
+        // What is told is the machine's outcome whatever the store gave, also of a recovery that can not trust what it reads.
+        ensures shows { ForEachState self.old (K.records store.old)
+            (λ sys state. IfOk result (λ stepped. HasOutcome sys state step.now (outcome_of stepped))) }
+
         // After a collection nothing waits for a sweep.
         ensures swept { step.now ≡ Collect → OnOk result ((keep_of self.new).waiting ≡ []) }
 
         // The ids of what is written ascend.
         ensures in_order { AreAscending (ids_of (keep_of self.new).entries) }
 
-        // A store that tells its records goes on telling them. A step that does not call it leaves it as it is.
+        // A store that tells its records goes on telling them. A step that does not call it leaves it as it is, and so does an idle
+        // one that is no collection.
         ensures tells { is_some (K.records store.new) ≡ is_some (K.records store.old) }
         ensures quiet { (MayCallStore (flow_of self.old) step.now → ⊥) → store.new ≡ store.old }
+        ensures idle { step.now ≢ Collect → result ≡ Ok Idle → store.new ≡ store.old }
 
         // The store's count of faults rises by one at StoreFault (at 2^64 - 1 it stays), and at no other answer. StoreFault comes
         // only in a step that may call the store, and that is enabled or a collection. Then the engine stands where it stood, or
@@ -97,7 +104,7 @@ impl Engine {
         ensures damaged { (id : ℕ) → IsErrOf result (EngineFault.Damaged id) → IsDamaged self.old id (K.given store.new) }
         ensures in_recovery { (id : ℕ) → IsErrOf result (EngineFault.Damaged id) → step.now ≡ Recover }
         ensures unharmed { (id : ℕ) → ForEachState self.old (K.records store.old) (λ sys state. IsErrOf result (EngineFault.Damaged id)
-            → (K.records store.old ≡ None) × StandsFor sys self.new (K.records store.new) state) }
+            → (K.records store.old ≡ None) × IsStepEnabled sys state Recover × StandsFor sys self.new (K.records store.new) state) }
 
         ensures refused { IsErrOf result EngineFault.NoMemory → was_refused self.new ≡ true }
         ensures told { was_refused self.new ≡ faults.is_refusal result }
@@ -116,7 +123,7 @@ impl Engine {
 
     /// Takes the first step that is enabled: the oldest write is acknowledged; a message is delivered, edge by edge; a node
     /// is notified, node by node; what is complete is settled; an output acknowledges; an input injects. Idle exactly where
-    /// none of these is enabled, and then nothing changes. The errors are those of `step`; no record is damaged.
+    /// none of these is enabled, and then it stands where it stood, and the store is as it was. The errors are those of `step`; no record is damaged.
     pub fn auto_step<K: Store>(&mut self, store: &mut K) -> Result<Stepped, EngineFault>
         requires stored { IsStored (keep_of self.old) (K.records store.old) }
         ensures stored { IsStored (keep_of self.new) (K.records store.new) }
@@ -125,9 +132,11 @@ impl Engine {
             (λ sys state. IfOk result (λ stepped. FollowsFirstStep sys state stepped self.new (K.records store.new))) }
         ensures in_order { AreAscending (ids_of (keep_of self.new).entries) }
 
-        // A store that tells its records goes on telling them. Where no step that is taken by itself may call it, it is left as it is.
+        // A store that tells its records goes on telling them. Where no step that is taken by itself may call it, and where none is
+        // taken, it is left as it is.
         ensures tells { is_some (K.records store.new) ≡ is_some (K.records store.old) }
         ensures quiet { (MayCallByItself (flow_of self.old) → ⊥) → store.new ≡ store.old }
+        ensures idle { result ≡ Ok Idle → store.new ≡ store.old }
 
         // The store's count of faults rises as in `step`. StoreFault comes only where the first step that is enabled may call the
         // store. Then the engine stands where it stood.

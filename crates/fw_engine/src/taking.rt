@@ -1,10 +1,11 @@
 //! A step is taken.
-ghost use Rattle.std.specs.Prelude.{◌≡◌, ℕ, IsErrOf, is_some, OnOk, []};
+ghost use Rattle.std.specs.Prelude.{◌≡◌, ◌≢◌, ℕ, Ok, IsErrOf, is_some, OnOk, []};
 ghost use Rattle.fw_running.specs.Faults.{faults_after};
 ghost use Rattle.fw_flow.specs.declared.step.Step.TheVariants.{Collect, Recover};
 ghost use Rattle.fw_keep.specs.Stored.{IsStored};
+ghost use Rattle.fw_running.specs.declared.stepped.Stepped.TheVariants.{Idle};
 ghost use Rattle.fw_running.specs.Shaped.{IsShaped};
-ghost use Rattle.fw_running.specs.Steps.{TakesStep, StaysShaped, MayCallStore, IsDamage};
+ghost use Rattle.fw_running.specs.Steps.{TakesStep, ShowsOutcome, StaysShaped, MayCallStore, IsDamage};
 
 use crate::acknowledgement::acknowledge;
 use fw_choose::collect;
@@ -28,6 +29,7 @@ pub(crate) fn take<K: Store>(
     ensures stored { IsStored running.new.parts.keep (K.records store.new) }
     ensures flow { running.new.flow ≡ running.old.flow }
     ensures takes { TakesStep running.old (K.records store.old) step.now result running.new (K.records store.new) }
+    ensures shows { step.now ≡ Recover → ShowsOutcome running.old (K.records store.old) step.now result }
     ensures faults { K.fault_count store.new ≡ faults_after result (K.fault_count store.old) }
     ensures calls { IsErrOf result EngineFault.StoreFault → MayCallStore running.old.flow step.now }
     ensures damaged { (id : ℕ) → IsErrOf result (EngineFault.Damaged id) → IsDamage running.old id (K.given store.new) }
@@ -35,6 +37,7 @@ pub(crate) fn take<K: Store>(
     ensures tells { is_some (K.records store.new) ≡ is_some (K.records store.old) }
     ensures swept { step.now ≡ Collect → OnOk result (running.new.parts.keep.waiting ≡ []) }
     ensures quiet { (MayCallStore running.old.flow step.now → ⊥) → store.new ≡ store.old }
+    ensures idle { step.now ≢ Collect → result ≡ Ok Idle → store.new ≡ store.old }
 {
     match step {
         Step::Inject(source) => inject(running, *source),

@@ -1,5 +1,5 @@
 //! The step of a delivery.
-ghost use Rattle.std.specs.Prelude.{◌≡◌, ◌≢◌, ◌<◌, ◌↔◌, ℕ, true, false, None, Some, find, length, IsTrue, IsErrOf, IfOk, IfSome, IfNone, OnOk, OnErr, is_some};
+ghost use Rattle.std.specs.Prelude.{◌≡◌, ◌≢◌, ◌<◌, ◌↔◌, ℕ, true, false, None, Some, Ok, find, length, IsTrue, IsErrOf, IfOk, IfSome, IfNone, OnOk, OnErr, is_some};
 ghost use Rattle.std.specs.Option.{option_copied, option_map};
 ghost use Rattle.std.specs.List.{Contains};
 ghost use Rattle.fw_running.specs.Faults.{faults_after};
@@ -24,6 +24,7 @@ ghost use Rattle.fw_rollback.specs.Edges.{on_edge};
 ghost use Rattle.fw_stands.specs.LawsOfEvents.{asked_of, next_queued};
 ghost use Rattle.fw_running.specs.Kept.{queue_at, table_of, is_down};
 ghost use Rattle.fw_running.specs.Logging.{ChangesKeep, IsNotAsked, LogsEvent};
+ghost use Rattle.fw_running.specs.declared.stepped.Stepped.TheVariants.{Idle};
 ghost use Rattle.fw_running.specs.Shaped.{IsShaped};
 ghost use Rattle.fw_running.specs.Steps.{TakesStep, StaysShaped, IsUndamaged};
 ghost use Rattle.fw_running.specs.Ready.{CanDeliver};
@@ -69,6 +70,7 @@ pub fn deliver<K: Store>(
     ensures calls { IsErrOf result EngineFault.StoreFault → policy_of running.old.flow (receiver running.old.flow edge) ≡ policy.Full }
     ensures tells { is_some (K.records store.new) ≡ is_some (K.records store.old) }
     ensures quiet { (policy_of running.old.flow (receiver running.old.flow edge) ≡ policy.Full → ⊥) → store.new ≡ store.old }
+    ensures idle { result ≡ Ok Idle → store.new ≡ store.old }
 {
     let node = running.flow.dst(edge);
     if running.is_failed(node) {

@@ -1,5 +1,5 @@
 //! The step of a notification.
-ghost use Rattle.std.specs.Prelude.{◌≡◌, ◌≢◌, ◌<◌, ℕ, true, None, Some, length, IsErrOf, IfNone, IfOk, IfSome, OnErr, OnOk, is_some};
+ghost use Rattle.std.specs.Prelude.{◌≡◌, ◌≢◌, ◌<◌, ℕ, true, None, Some, Ok, length, IsErrOf, IfNone, IfOk, IfSome, OnErr, OnOk, is_some};
 ghost use Rattle.std.specs.Option.{option_copied};
 ghost use Rattle.fw_running.specs.Faults.{faults_after};
 ghost use Rattle.fw_time.specs.Stamp.{in_domain};
@@ -17,6 +17,7 @@ ghost use Rattle.fw_rollback.specs.Tables.{table_at};
 ghost use Rattle.fw_running.specs.BroughtUp.{IsBroughtUp};
 ghost use Rattle.fw_running.specs.Kept.{table_of};
 ghost use Rattle.fw_running.specs.Logging.{ChangesKeep, IsNotAsked, LogsEvent};
+ghost use Rattle.fw_running.specs.declared.stepped.Stepped.TheVariants.{Idle};
 ghost use Rattle.fw_running.specs.Shaped.{IsShaped};
 ghost use Rattle.fw_running.specs.Steps.{TakesStep, StaysShaped, IsUndamaged};
 ghost use Rattle.fw_events.specs.AfterEvent.{TakesEvent};
@@ -53,6 +54,7 @@ pub fn notify<K: Store>(
     ensures calls { IsErrOf result EngineFault.StoreFault → policy_of running.old.flow node ≡ policy.Full }
     ensures tells { is_some (K.records store.new) ≡ is_some (K.records store.old) }
     ensures quiet { (policy_of running.old.flow node ≡ policy.Full → ⊥) → store.new ≡ store.old }
+    ensures idle { result ≡ Ok Idle → store.new ≡ store.old }
 {
     if running.is_failed(node) || !running.flow.kind(node).is_notified() {
         return Ok(Stepped::Idle);

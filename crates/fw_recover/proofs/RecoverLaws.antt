@@ -160,6 +160,16 @@ pub record IsRecovered (choice : Choice) (records : Option Records) (old new : R
   pub failed : new.failed.items ≡ replicate (length old.flow.nodes) false
   pub lost : (p : ℕ) → slice_index_or new.lost.items p [] ≡ []
 
+-- the machine takes the step there, whatever was read
+pub recovered-leads : (sys : System) (records : Option Records) (state : Machine) (choice : Choice) (old new : Running)
+    → Stands sys old records state → IsLargest sys state (offers sys state) choice
+    → (q : ℕ) → q < length sys.flow.nodes → is_failed state q ≡ true → IsRecovered choice records old new
+    → LeadsTo sys state Recover (recovered_state sys state choice new.progress.settled) (cuts choice)
+recovered-leads sys records state choice old new s largest q there failed made =
+    let progress = subst (λ flow. IsProgressCut flow choice new.parts.queues old.progress new.progress) s.flow made.progress in
+    recovers-by_step sys state choice new.progress.settled
+    (recovers sys state choice new.parts.queues old.progress new.progress s.well_formed s.reached s.settled largest progress) q there failed
+
 pub recovered-stands : (sys : System) (records : Option Records) (state : Machine) (choice : Choice) (old new : Running)
     → Stands sys old records state → IsLargest sys state (offers sys state) choice → Trusts sys state Recover records
     → (q : ℕ) → q < length sys.flow.nodes → is_failed state q ≡ true → IsRecovered choice records old new
@@ -172,7 +182,7 @@ recovered-stands sys records state choice old new s largest trust q there failed
     let settled = new.progress.settled in
     let next = recovered_state sys state choice settled in
     let r = recovers sys state choice new.parts.queues old.progress new.progress w s.reached s.settled largest progress in
-    let leads : LeadsTo sys state Recover next (cuts choice) = recovers-by_step sys state choice settled r q there failed in
+    let leads : LeadsTo sys state Recover next (cuts choice) = recovered-leads sys records state choice old new s largest q there failed made in
     let before = parts-stand sys old records state s in
     let parts = parts-recovered sys records state choice settled old.parts new.parts r leads trust before restores in
     let gone : new.parts.keep.entries ≡ filter (λ e. not (is_undone choice e)) old.parts.keep.entries = ap (λ (keep : KeepState). keep.entries) restores.restored.entries in

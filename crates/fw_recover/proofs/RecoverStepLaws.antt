@@ -6,7 +6,7 @@ use Rattle.fw_flow.specs.declared.choice.Choice.{Choice}
 use Rattle.fw_flow.specs.declared.step.Step.TheVariants.{Recover}
 use Rattle.fw_flow.specs.Dataflow.{System, Dataflow}
 use Rattle.fw_model.specs.Machine.{Machine, Write, is_failed}
-use Rattle.fw_model.specs.Steps.{cuts}
+use Rattle.fw_model.specs.Steps.{cuts, idle, StepsTo, recovered_state}
 use Rattle.fw_model.proofs.ChoosingLaws.{failed-recovered}
 use Rattle.fw_model.proofs.Decisions.{two_ways}
 use Rattle.fw_record.specs.declared.record.Record.{Record}
@@ -30,8 +30,8 @@ use Rattle.fw_choose.specs.Chosen.{IsChosenBy}
 use Rattle.fw_running.specs.Faults.{fault_of}
 use Rattle.fw_running.specs.Shaped.{IsShaped}
 use Rattle.fw_running.specs.Stands.{Stands}
-use Rattle.fw_running.specs.Steps.{IsDamage, IsStepEnabled, StaysShaped, TakesStep}
-use Rattle.fw_recover.proofs.RecoverLaws.{IsRecovered, recovered-stands}
+use Rattle.fw_running.specs.Steps.{IsDamage, IsStepEnabled, ShowsOutcome, StaysShaped, TakesStep}
+use Rattle.fw_recover.proofs.RecoverLaws.{IsRecovered, recovered-leads, recovered-stands}
 
 -- ---- whether a node is failed
 
@@ -46,17 +46,23 @@ none-any (true ∷ bs) e q = absurd (two_ways true refl e)
 none-any (false ∷ bs) e zero = refl
 none-any (false ∷ bs) e (suc q) = none-any bs e q
 
--- where no node is failed a recovery is idle
+-- where no node is failed the machine is idle at a recovery
+none-down : (old : Running) (records : Option Records) → list_any (λ down. down) old.failed.items ≡ false
+    → (sys : System) (state : Machine) → Stands sys old records state → StepsTo sys state Recover state idle
+none-down old records none sys state s = (
+  λ other effect t. two_ways (is_failed state t.0) t.4 (ap (λ down. slice_index_or down t.0 false) (sym s.failed) ∙ none-any old.failed.items none t.0),
+  refl,
+)
+
+-- and so is the engine
 pub recovery-idle : (old : Running) (records : Option Records) → list_any (λ down. down) old.failed.items ≡ false
     → TakesStep old records Recover (Ok Idle) old records
-recovery-idle old records none sys state s = λ trust. record {
-  next = state;
-  steps = (
-    λ other effect t. two_ways (is_failed state t.0) t.4 (ap (λ down. slice_index_or down t.0 false) (sym s.failed) ∙ none-any old.failed.items none t.0),
-    refl,
-  );
-  stands = s;
-}
+recovery-idle old records none sys state s = λ trust. record { next = state; steps = none-down old records none sys state s; stands = s }
+
+-- which it shows
+pub idle-shows : (old : Running) (records : Option Records) → list_any (λ down. down) old.failed.items ≡ false
+    → ShowsOutcome old records Recover (Ok Idle)
+idle-shows old records none sys state s = (state, none-down old records none sys state s)
 
 -- where one is, it is so in each state for which the engine stands
 down-there : (old : Running) (records : Option Records) → IsShaped old → list_any (λ down. down) old.failed.items ≡ true
@@ -84,6 +90,15 @@ recovery-done old new records choice shaped some chosen made sys state s = λ tr
     let q = down-there old records shaped some sys state s in
     recovered-stands sys records state choice old new s (chosen sys records state s) trust q.0 q.1 q.2 made
 
+-- and shows that choice, whatever it read
+pub recovery-shows : (old new : Running) (records : Option Records) (choice : Choice) → IsShaped old → list_any (λ down. down) old.failed.items ≡ true
+    → IsChosenBy old Failed choice → IsRecovered choice records old new → ShowsOutcome old records Recover (Ok (Did (Cuts choice)))
+recovery-shows old new records choice shaped some chosen made sys state s =
+    let q = down-there old records shaped some sys state s in (
+      recovered_state sys state choice new.progress.settled,
+      recovered-leads sys records state choice old new s (chosen sys records state s) q.0 q.1 q.2 made,
+    )
+
 -- ---- damage
 
 -- the store holds a record as that of each entry
@@ -110,10 +125,12 @@ untold sys state choice (Some held) es got id bytes st d =
     absurd (d.none has.what has.of_entry.sound same has.of_entry.of_entry)
 
 damaged-stands : (old : Running) (choice : Choice) (records : Option Records) (got : Option (ℕ × List ℕ)) (id : ℕ) (bytes : List ℕ)
+    → IsShaped old → list_any (λ down. down) old.failed.items ≡ true
     → IsDamaged old.flow choice records old.parts.keep.entries got id bytes → TakesStep old records Recover (Err (fault.Damaged id)) old records
-damaged-stands old choice records got id bytes d sys state s = (
+damaged-stands old choice records got id bytes shaped some d sys state s = (
   untold sys state choice records old.parts.keep.entries got id bytes s.stored
       (subst (λ flow. IsDamaged flow choice records old.parts.keep.entries got id bytes) s.flow d),
+  recovery-enabled old records shaped some sys state s,
   s,
 )
 
@@ -122,7 +139,7 @@ pub refusal-stands : (old : Running) (choice : Choice) (records : Option Records
     → IsShaped old → list_any (λ down. down) old.failed.items ≡ true → IsDamagedIfSaid {T = Unit {0}} old.flow choice records old.parts.keep.entries got (Err why)
     → TakesStep old records Recover (Err (fault_of why)) old records
 refusal-stands old choice records got keep.StoreFault shaped some d sys state s = (recovery-enabled old records shaped some sys state s, s)
-refusal-stands old choice records got (keep.Damaged id bytes) shaped some d sys state s = damaged-stands old choice records got id bytes.items d sys state s
+refusal-stands old choice records got (keep.Damaged id bytes) shaped some d sys state s = damaged-stands old choice records got id bytes.items shaped some d sys state s
 refusal-stands old choice records got keep.NoMemory shaped some d sys state s = tt
 
 pub refusal-shaped : (T : Type 0) (old : Running) (why : KeepFault) → IsShaped old → StaysShaped {T = T} (Err (fault_of why)) old

@@ -1,5 +1,5 @@
 //! The step of a recovery.
-ghost use Rattle.std.specs.Prelude.{◌≡◌, ℕ, IsErrOf, OnOk, is_some};
+ghost use Rattle.std.specs.Prelude.{◌≡◌, ℕ, Ok, IsErrOf, OnOk, is_some};
 ghost use Rattle.std.specs.List.{list_any};
 ghost use Rattle.fw_running.specs.Faults.{faults_after};
 ghost use Rattle.fw_flow.specs.declared.step.Step.TheVariants as steps;
@@ -7,8 +7,9 @@ ghost use Rattle.fw_keep.specs.Stored.{IsStored};
 ghost use Rattle.fw_monitor.specs.Chosen.{IsChoiceOf};
 ghost use Rattle.fw_recover.specs.CutProgress.{AreAtReceivers};
 ghost use Rattle.fw_recover.specs.Recovered.{HasPlaces, IsFollowed};
+ghost use Rattle.fw_running.specs.declared.stepped.Stepped.TheVariants.{Idle};
 ghost use Rattle.fw_running.specs.Shaped.{IsShaped};
-ghost use Rattle.fw_running.specs.Steps.{TakesStep, StaysShaped, IsDamage};
+ghost use Rattle.fw_running.specs.Steps.{TakesStep, ShowsOutcome, StaysShaped, IsDamage};
 
 use crate::rebuild::{cut_progress, cut_traces};
 use fw_choose::{Lost, choose};
@@ -27,6 +28,8 @@ pub fn recover<K: Store>(running: &mut Running, store: &mut K) -> Result<Stepped
     ensures stored { IsStored running.new.parts.keep (K.records store.new) }
     ensures flow { running.new.flow ≡ running.old.flow }
     ensures takes { TakesStep running.old (K.records store.old) steps.Recover result running.new (K.records store.new) }
+    ensures shows { ShowsOutcome running.old (K.records store.old) steps.Recover result }
+    ensures idle { result ≡ Ok Idle → store.new ≡ store.old }
     ensures faults { K.fault_count store.new ≡ faults_after result (K.fault_count store.old) }
     ensures damaged { (id : ℕ) → IsErrOf result (EngineFault.Damaged id) → IsDamage running.old id (K.given store.new) }
     ensures tells { is_some (K.records store.new) ≡ is_some (K.records store.old) }

@@ -1,9 +1,10 @@
 -- What follows from what a step answers.
-use Rattle.std.proofs.Common.{◌≡◌, ℕ, Bool, true, false, List, Option, Some, None, Result, Ok, Err, subst, sym, ap, ◌∙◌}
+use Rattle.std.proofs.Common.{◌≡◌, ℕ, Bool, true, false, List, Option, Some, None, Result, Ok, Err, refl, subst, sym, ap, ◌∙◌}
 use Rattle.std.specs.FinMap as map_of
 use Rattle.std.specs.Prelude.{IfOk, IsErrOf, OnOk, OnErr, is_some, option_map}
 use Rattle.fw_flow.specs.declared.choice.Stamps.{Stamps}
 use Rattle.fw_flow.specs.declared.step.Step.{Step}
+use Rattle.fw_flow.specs.declared.step.Step.TheVariants.{Inject, Deliver, Notify, Progress as ProgressStep, Checkpoint, Persist, Fail, Recover, Collect, Ack}
 use Rattle.fw_flow.specs.Dataflow.{System}
 use Rattle.fw_model.specs.Machine.{Machine}
 use Rattle.fw_keep.specs.declared.entry.Entry.{Entry}
@@ -18,7 +19,7 @@ use Rattle.fw_running.specs.Faults.{is_refusal}
 use Rattle.fw_running.specs.Logging.{IsAsked, IsNotAsked}
 use Rattle.fw_running.specs.Shaped.{IsShaped}
 use Rattle.fw_running.specs.Stands.{Stands}
-use Rattle.fw_running.specs.Steps.{Follows, FollowsFirst, FirstMayCall, Trusts, IsLeftBy, Answers, AnswersFirst, TakesStep, TakesFirstStep, StaysShaped, IsUndamaged, outcome_of}
+use Rattle.fw_running.specs.Steps.{Follows, FollowsFirst, FirstMayCall, Trusts, HasOutcome, IsLeftBy, IsStepEnabled, ShowsOutcome, Answers, AnswersFirst, TakesStep, TakesFirstStep, StaysShaped, IsUndamaged, outcome_of}
 
 -- ---- the shape
 
@@ -43,6 +44,22 @@ pub taken : (old : Running) (before : Option Records) (step : Step) (result : Re
 taken old before step (Ok stepped) new after t sys state s trust = t sys state s trust
 taken old before step (Err e) new after t sys state s trust = tt
 
+-- what is answered is the machine's outcome, also of a recovery that can not trust what it reads
+pub shown : (old : Running) (before : Option Records) (step : Step) (result : Result Stepped EngineFault) (new : Running) (after : Option Records)
+    → TakesStep old before step result new after → (step ≡ Recover → ShowsOutcome old before step result) → (sys : System) (state : Machine)
+    → Stands sys old before state → IfOk result (λ stepped. HasOutcome sys state step (outcome_of stepped))
+shown old before step (Err e) new after t r sys state s = tt
+shown old before Recover (Ok stepped) new after t r sys state s = r refl sys state s
+shown old before (Inject i) (Ok stepped) new after t r sys state s = let f = t sys state s tt in (f.next, f.steps)
+shown old before (Deliver e at) (Ok stepped) new after t r sys state s = let f = t sys state s tt in (f.next, f.steps)
+shown old before (Notify p at) (Ok stepped) new after t r sys state s = let f = t sys state s tt in (f.next, f.steps)
+shown old before ProgressStep (Ok stepped) new after t r sys state s = let f = t sys state s tt in (f.next, f.steps)
+shown old before (Checkpoint p) (Ok stepped) new after t r sys state s = let f = t sys state s tt in (f.next, f.steps)
+shown old before Persist (Ok stepped) new after t r sys state s = let f = t sys state s tt in (f.next, f.steps)
+shown old before (Fail ps) (Ok stepped) new after t r sys state s = let f = t sys state s tt in (f.next, f.steps)
+shown old before Collect (Ok stepped) new after t r sys state s = let f = t sys state s tt in (f.next, f.steps)
+shown old before (Ack o) (Ok stepped) new after t r sys state s = let f = t sys state s tt in (f.next, f.steps)
+
 pub left : (old : Running) (before : Option Records) (step : Step) (result : Result Stepped EngineFault) (new : Running) (after : Option Records)
     → TakesStep old before step result new after → (sys : System) (state : Machine) → Stands sys old before state → IsErrOf result fault.StoreFault
     → IsLeftBy sys state step (λ next. Stands sys new after next)
@@ -57,7 +74,7 @@ left-answers T sys state step fault.NoMemory new before after u l = tt
 
 pub unharmed : (old : Running) (before : Option Records) (step : Step) (result : Result Stepped EngineFault) (new : Running) (after : Option Records) (id : ℕ)
     → TakesStep old before step result new after → (sys : System) (state : Machine) → Stands sys old before state → IsErrOf result (fault.Damaged id)
-    → (before ≡ None) × Stands sys new after state
+    → (before ≡ None) × IsStepEnabled sys state step × Stands sys new after state
 unharmed old before step result new after id t sys state s e = subst (λ (r : Result Stepped EngineFault). Answers sys state step r before new after) e (t sys state s)
 
 -- ---- those of the first step that is enabled

@@ -1,5 +1,5 @@
 -- What the steps of an engine promise.
-use Rattle.std.specs.Prelude.{◌≡◌, ℕ, true, false, List, Option, Some, None, Result, Ok, Err}
+use Rattle.std.specs.Prelude.{◌≡◌, ℕ, true, false, List, Option, Some, None, Result, Ok, Err, IfOk}
 use Rattle.std.specs.List.{Contains}
 use Rattle.fw_time.specs.Stamp.{Stamp}
 use Rattle.fw_frontier.specs.Frontier.{Frontier}
@@ -89,6 +89,10 @@ MayCallByItself flow = (step : Step) × Contains (auto_steps flow) step × MayCa
 abbrev pub IsStepEnabled : System → Machine → Step → Type 0
 IsStepEnabled sys state step = (next : Machine) × (effect : Effect) × LeadsTo sys state step next effect
 
+-- the machine takes the step, or is idle at it, with this outcome
+abbrev pub HasOutcome : System → Machine → Step → Outcome → Type 0
+HasOutcome sys state step outcome = (next : Machine) × StepsTo sys state step next outcome
+
 -- What a fault of the store leaves: the state, in which the step is enabled, but that after a collection, which sweeps last, also where
 -- it is idle.
 abbrev pub IsLeftBy : System → Machine → Step → (Machine → Type 0) → Type 0
@@ -97,17 +101,22 @@ IsLeftBy sys state step P = IsStepEnabled sys state step × P state
 
 -- What a step answers, and what the engine stands for then, where it stood for a state: the machine's outcome and next state, if it
 -- read what was put; after a fault of the store what that leaves; after damage, which no store gives that tells its records, the
--- state still.
+-- state still, in which the step is enabled.
 abbrev pub Answers : System → Machine → Step → Result Stepped EngineFault → Option Records → Running → Option Records → Type 0
 Answers sys state step (Ok stepped) records new after = Trusts sys state step records → Follows sys state step (outcome_of stepped) new after
 Answers sys state step (Err fault.StoreFault) records new after = IsLeftBy sys state step (λ next. Stands sys new after next)
-Answers sys state step (Err (fault.Damaged id)) records new after = (records ≡ None) × Stands sys new after state
+Answers sys state step (Err (fault.Damaged id)) records new after = (records ≡ None) × IsStepEnabled sys state step × Stands sys new after state
 Answers sys state step (Err fault.NoMemory) records new after = Unit {0}
 
 -- so a step does from each state for which the engine stood
 abbrev pub TakesStep : Running → Option Records → Step → Result Stepped EngineFault → Running → Option Records → Type 0
 TakesStep old before step result new after =
     (sys : System) (state : Machine) → Stands sys old before state → Answers sys state step result before new after
+
+-- What is answered of a step is the machine's outcome in each state for which the engine stood, whatever the store gave.
+abbrev pub ShowsOutcome : Running → Option Records → Step → Result Stepped EngineFault → Type 0
+ShowsOutcome old before step result =
+    (sys : System) (state : Machine) → Stands sys old before state → IfOk result (λ stepped. HasOutcome sys state step (outcome_of stepped))
 
 -- Of the steps that are taken by themselves the first that is enabled may call the store.
 pub record FirstMayCall (sys : System) (state : Machine) : Type 0 where

@@ -10,6 +10,7 @@ ghost use Rattle.fw_running.specs.Faults.{faults_after};
 ghost use Rattle.fw_flow.specs.declared.step.Step.TheVariants as steps;
 ghost use Rattle.fw_keep.specs.Stored.{Records, IsStored};
 ghost use Rattle.fw_stands.specs.LawsOfEntries.{entry_fronts};
+ghost use Rattle.fw_running.specs.declared.stepped.Stepped.TheVariants.{Idle};
 ghost use Rattle.fw_running.specs.Shaped.{IsShaped};
 ghost use Rattle.fw_settle.specs.Checkpoints.{MayTakeCheckpoint};
 ghost use Rattle.fw_running.specs.Steps.{TakesStep, StaysShaped, IsUndamaged};
@@ -38,6 +39,7 @@ pub fn checkpoint<K: Store>(
     ensures tells { is_some (K.records store.new) ≡ is_some (K.records store.old) }
     ensures calls { IsErrOf result EngineFault.StoreFault → steps_of.is_asked_for_checkpoints (policy_of running.old.flow node) ≡ true }
     ensures quiet { (steps_of.is_asked_for_checkpoints (policy_of running.old.flow node) ≡ true → ⊥) → store.new ≡ store.old }
+    ensures idle { result ≡ Ok Idle → store.new ≡ store.old }
 {
     if !may_take(running, node) {
         return Ok(Stepped::Idle);

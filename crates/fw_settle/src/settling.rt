@@ -1,5 +1,5 @@
 //! The step of progress.
-ghost use Rattle.std.specs.Prelude.{◌≡◌, ◌↔◌, ◌<◌, Some, true, length, IsTrue, IsErrOf, OnOk, OnErr, is_some};
+ghost use Rattle.std.specs.Prelude.{◌≡◌, ◌↔◌, ◌<◌, Some, Ok, true, length, IsTrue, IsErrOf, OnOk, OnErr, is_some};
 ghost use Rattle.fw_running.specs.Faults.{faults_after};
 ghost use Rattle.fw_flow.specs.declared.step.Step.TheVariants as steps;
 ghost use Rattle.fw_frontier.specs.Front.{IsCanonical};
@@ -9,6 +9,7 @@ ghost use Rattle.fw_model.specs.Steps as steps_of;
 ghost use Rattle.fw_keep.specs.Stored.{IsStored};
 ghost use Rattle.fw_progress.specs.Settle.{IsGrownAt, has_more};
 ghost use Rattle.fw_running.specs.Logging.{ChangesKeep, IsNotAsked};
+ghost use Rattle.fw_running.specs.declared.stepped.Stepped.TheVariants.{Idle};
 ghost use Rattle.fw_running.specs.Shaped.{IsShaped};
 ghost use Rattle.fw_running.specs.Steps.{TakesStep, StaysShaped, IsUndamaged, HasEager};
 ghost use Rattle.fw_settle.specs.Settling.{grows, IsFoundToSettle, IsFoundLive, AddsEntries, KeepsEntries, AsksIfEager, HaveAsked, with_tables, with_traces, ChangesSettled, SettlesTable, SettlesTraces, SettlesTo, SettlesKept, HaveSettled};
@@ -33,6 +34,7 @@ pub fn progress<K: Store>(running: &mut Running, store: &mut K) -> Result<Steppe
     ensures tells { is_some (K.records store.new) ≡ is_some (K.records store.old) }
     ensures calls { IsErrOf result EngineFault.StoreFault → HasEager running.old.flow }
     ensures quiet { (HasEager running.old.flow → ⊥) → store.new ≡ store.old }
+    ensures idle { result ≡ Ok Idle → store.new ≡ store.old }
 {
     running.refresh()?;
     let Some(_first) = grown_from(running, 0) else {

@@ -2,9 +2,8 @@ use Rattle.std.proofs.Common.{ℕ, List, Some, nat_cmp, subst, sym}
 use Rattle.std.specs.FinMap.{empty}
 use Rattle.cimboery.specs.Stored.{IsStored}
 use Rattle.cimboery.specs.Engine.{keep_of}
-use Rattle.embedded.proofs.Shop.new.Goals as goal
+use Rattle.embedded.proofs.Run.of.Goals as goal
 
--- src/main.rt:76:9
 pub invariant_of-result : goal.invariant_of-result
 invariant_of-result c = record {
   stored = subst (λ records. IsStored (keep_of c.in_ok-engine.engine) records) (sym c.new-store.ensures.records)

@@ -6,7 +6,7 @@ use Rattle.fw_running.specs.declared.stepped.Effect.TheVariants.{Cuts}
 use Rattle.fw_running.specs.declared.stepped.Stepped.TheVariants.{Did}
 use Rattle.fw_running.specs.Steps.{TakesStep}
 use Rattle.fw_recover.proofs.FollowedLaws.{followed-recovered, followed-shaped, queues-at_receivers}
-use Rattle.fw_recover.proofs.RecoverStepLaws.{recovery-done, refused-damage, refused-stands, some-down}
+use Rattle.fw_recover.proofs.RecoverStepLaws.{recovery-done, recovery-shows, refused-damage, refused-stands, some-down}
 use Rattle.fw_recover.proofs.recovery.recover.Goals as goal
 
 pub returns-in_err-restore-clause-takes : goal.returns-in_err-restore-clause-takes
@@ -48,3 +48,11 @@ returns-in_err-follow-clause-tells g c = ap (λ (r : Option Records). is_some r)
 
 pub returns-clause-tells : goal.returns-clause-tells
 returns-clause-tells g c = ap (λ (r : Option Records). is_some r) c.restore.ensures.stays
+
+pub returns-clause-shows : goal.returns-clause-shows
+returns-clause-shows g c =
+    let records = g.K.Store.records c.args.store.now in
+    let made = followed-recovered c.in_ok-choice.choice records c.args.running.now c.follow.new.running c.restore.new.parts c.in_ok-restore.ensures.restored
+    c.in_ok-follow.ensures.followed c.follow.ensures.flow c.follow.ensures.parts in
+    let some = some-down c.args.running.now.failed.items c.any_of.result (c.any_of.ensures ∙ ap (list_any (λ down. down)) c.deref.ensures.value) c.if-not-any_of.false in
+    recovery-shows c.args.running.now c.follow.new.running records c.in_ok-choice.choice c.requires.shaped some c.in_ok-choice.ensures.of_state made

@@ -1,5 +1,5 @@
 use Rattle.std.proofs.Math.Logic.{∥∥₁_map}
-use Rattle.fw_running.proofs.AnswerLaws.{sound-after, refused-after, taken, left, unharmed}
+use Rattle.fw_running.proofs.AnswerLaws.{sound-after, refused-after, taken, shown, left, unharmed}
 use Rattle.fw_engine.proofs.StableLaws.{shaped-stable}
 use Rattle.fw_engine.proofs.engine.Engine.step.Goals as goal
 
@@ -32,3 +32,8 @@ returns-clause-unharmed g c =
 
 pub returns-clause-refused : goal.returns-clause-refused
 returns-clause-refused g c = refused-after c.take-stepped.result c.is_refusal-self.result c.is_refusal-self.ensures
+
+pub returns-clause-shows : goal.returns-clause-shows
+returns-clause-shows g c =
+    shown c.args.self.now.running (g.K.Store.records c.args.store.now) c.args.step.now c.take-stepped.result c.take-stepped.new.running
+    (g.K.Store.records c.take-stepped.new.store) c.take-stepped.ensures.takes (λ is. c.take-stepped.ensures.shows is)

@@ -1,6 +1,6 @@
 -- What a sequence sent is told epoch by epoch, as its table has it.
 use Rattle.std.proofs.Common.{◌≡◌, ℕ, suc, ◌+◌, ◌-◌, ◌<◌, ◌≤◌, ◌^◌, ◌&&◌, Bool, true, false, cond, List, [], ◌∷◌, ◌++◌, length, get_or, take, Some, None, refl, sym, ◌∙◌, ap, subst, inl, inr, arith}
-use Rattle.std.specs.Prelude.{slice_get, nat_lt}
+use Rattle.std.specs.Prelude.{slice_get, nat_lt, nat_le}
 use Rattle.std.specs.List.{AllByRecursion}
 use Rattle.std.specs.Option.{option_map_or}
 use Rattle.std.specs.Ordering.{is_lt}
@@ -10,7 +10,7 @@ use Rattle.std.proofs.lemmas.List.{length-append, get_or_append_left, take_more}
 use Rattle.std.proofs.lemmas.List.Elements.{recursion_from_All}
 use Rattle.std.proofs.lemmas.Option.{slice_get-get_or}
 use Rattle.std.proofs.Math.Seq.{get_or-append_seam}
-use Rattle.fw_time.specs.Stamp.{Stamp, same, stamp_cmp}
+use Rattle.fw_time.specs.Stamp.{Stamp, leq, same, stamp_cmp}
 use Rattle.fw_time.proofs.StampLaws.{same-is}
 use Rattle.fw_time.proofs.EachLaws.{each-append, each-prefix, each-suffix, each-weaker}
 use Rattle.fw_frontier.specs.Frontier.{Frontier}
@@ -22,7 +22,7 @@ use Rattle.fw_model.proofs.Decisions.{two_ways}
 use Rattle.fw_record.specs.Sound.{IsStamp, IsSentCount, each_may_follow, may_follow_counts}
 use Rattle.fw_stands.specs.Written.{told_inside}
 use Rattle.fw_settle.specs.Checkpoints.{AreSendsOf}
-use Rattle.fw_settle.specs.Sends.{is_last_of, HasTaken, HasCount, HasSends}
+use Rattle.fw_settle.specs.Sends.{IsLimitOf, is_last_of, HasTaken, HasCount, HasSends}
 use Rattle.fw_settle.proofs.EachEdgeLaws.{last_of}
 
 -- the last of a list is that of its rest, if there is one
@@ -254,7 +254,7 @@ below-up : (x y : ℕ) (ss : List SentCount) → x ≤ y → AreBelow x ss → A
 below-up x y ss l a = each-weaker (IsBelow x) (IsBelow y) ss (λ s k. (k.0, k.1, (let m = k.2 in omega (arith, l, m)))) a
 
 -- one entry more is told
-pub told-more : (f : Front) (table : List (ℕ × ℕ)) (x count : ℕ) (old new : List SentCount) → AreToldOf f table old → HasSends f x count old new
+pub told-more : (f : Front) (table : List (ℕ × ℕ)) (x count : ℕ) (old new : List SentCount) → AreToldOf f table old → HasSends (inside f (x ∷ [])) x count old new
     → AreToldOf f (table ++ (x, count) ∷ []) new
 told-more f table x count old new a h = elim (cases_eq count 0) [
   | inl none ↦ stays (h.none none) (λ g. ap (λ n. cond (inside f (x ∷ []) && g (x ∷ [])) n 0) none ∙ zero (inside f (x ∷ []) && g (x ∷ [])))
@@ -304,12 +304,24 @@ taken-last cause old new x last is =
     sym (ap (λ o. option_map_or (λ (s : SentCount). same s.cause cause) o false) (last_of new x)) ∙ ap (is_last_of cause) (sym is) ∙ last in
     inl (subst (λ c. old ≡ new ++ record { cause = c; count = x.count } ∷ []) (same-is x.cause cause of_stamp) is)
 
-pub told-next : (f : Front) (table : List (ℕ × ℕ)) (i x count : ℕ) (old new : List SentCount) → i < length table → slice_get table i ≡ Some (x, count)
-    → AreToldOf f (take i table) old → HasSends f x count old new → AreToldOf f (take (i + 1) table) new
-told-next f table i x count old new l is a h =
+pub told-next : (f : Front) (table : List (ℕ × ℕ)) (limit i x count : ℕ) (old new : List SentCount) → IsLimitOf f limit → i < length table
+    → slice_get table i ≡ Some (x, count) → AreToldOf f (take i table) old → HasSends (nat_lt x limit) x count old new → AreToldOf f (take (i + 1) table) new
+told-next f table limit i x count old new to l is a h =
     let there : Some (get_or table i (x, count)) ≡ Some (x, count) = sym (slice_get-get_or table i (x, count) l) ∙ is in
     let here : get_or table i (x, count) ≡ (x, count) = cc in
-    subst (λ t. AreToldOf f t new) (sym (take_more table i (x, count) l ∙ ap (λ e. take i table ++ e ∷ []) here)) (told-more f (take i table) x count old new a h)
+    subst (λ t. AreToldOf f t new) (sym (take_more table i (x, count) l ∙ ap (λ e. take i table ++ e ∷ []) here)) (told-more f (take i table) x count old new a (subst (λ b. HasSends b x count old new) (to x h.small) h))
 
 pub told-there : (table : List (ℕ × ℕ)) (i : ℕ) → i < length table → slice_get table i ≡ None → ⊥
 told-there table i l is = let c : Some (get_or table i (0, 0)) ≡ None = sym (slice_get-get_or table i (0, 0) l) ∙ is in absurd (cc)
+
+-- ---- the limit
+
+-- a stamp of another length is at most no epoch
+pub leq-other : (o : Stamp) (x : ℕ) → (length o ≡ 1 → ⊥) → leq o (x ∷ []) ≡ false
+leq-other [] x d = refl
+leq-other (y ∷ []) x d = absurd (d refl)
+leq-other (y ∷ z ∷ o) x d = by (nat_le y x)
+  where
+    by : (b : Bool) → (b && false) ≡ false
+    by true = refl
+    by false = refl

@@ -1,5 +1,5 @@
 -- How what a sequence sent is told stamp by stamp.
-use Rattle.std.specs.Prelude.{◌≡◌, ◌⊎◌, ℕ, ◌+◌, ◌-◌, ◌<◌, ◌^◌, Bool, true, false, List, [], ◌∷◌, ◌++◌, length, slice_get}
+use Rattle.std.specs.Prelude.{◌≡◌, ◌⊎◌, ℕ, ◌+◌, ◌-◌, ◌<◌, ◌^◌, Bool, true, false, List, [], ◌∷◌, ◌++◌, length, slice_get, nat_lt}
 use Rattle.std.specs.Option.{option_map_or}
 use Rattle.fw_time.specs.Stamp.{Stamp, same}
 use Rattle.fw_frontier.specs.Front.{Front, inside}
@@ -23,8 +23,12 @@ pub record HasCount (cause : Stamp) (count : ℕ) (old new : List SentCount) : T
   pub put : new ≡ left ++ record { cause = cause; count = before + count } ∷ []
 
 -- So many are told of an epoch, if it is inside and there are some.
-pub record HasSends (f : Front) (epoch count : ℕ) (old new : List SentCount) : Type 0 where
+pub record HasSends (is_inside : Bool) (epoch count : ℕ) (old new : List SentCount) : Type 0 where
   pub small : epoch < 2 ^ 32
   pub none : count ≡ 0 → new ≡ old
-  pub out : inside f (epoch ∷ []) ≡ false → new ≡ old
-  pub some : (count ≡ 0 → ⊥) → inside f (epoch ∷ []) ≡ true → HasCount (epoch ∷ []) count old new
+  pub out : is_inside ≡ false → new ≡ old
+  pub some : (count ≡ 0 → ⊥) → is_inside ≡ true → HasCount (epoch ∷ []) count old new
+
+-- the epochs inside are those below the limit
+abbrev pub IsLimitOf : Front → ℕ → Type 0
+IsLimitOf f limit = (epoch : ℕ) → epoch < 2 ^ 32 → nat_lt epoch limit ≡ inside f (epoch ∷ [])

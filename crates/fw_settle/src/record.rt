@@ -1,7 +1,7 @@
 //! The record of a checkpoint, made of the parts.
-ghost use Rattle.std.specs.Prelude.{◌≡◌, ◌<◌, ◌^◌, ◌++◌, ◌∷◌, [], ℕ, List, true, length, map, Option, None, IsTrue, IfOk, OnOk, IfSome};
+ghost use Rattle.std.specs.Prelude.{◌≡◌, ◌<◌, ◌^◌, ◌&&◌, ◌++◌, ◌∷◌, [], ℕ, List, true, not, nat_lt, length, map, Option, None, IsTrue, IfOk, OnOk, IfSome};
 ghost use Rattle.std.specs.List.{AllByRecursion, AllZip};
-ghost use Rattle.fw_time.specs.Stamp.{in_domain};
+ghost use Rattle.fw_time.specs.Stamp.{in_domain, leq, same};
 ghost use Rattle.fw_frontier.specs.Front.{IsCanonical, inside};
 ghost use Rattle.fw_flow.specs.declared.event.Message.{Message as Sent};
 ghost use Rattle.fw_flow.specs.Dataflow.{kind_of, policy_of, in_edges, out_edges, bounds_of, is_sequence_kind};
@@ -11,7 +11,7 @@ ghost use Rattle.fw_progress.specs.Counts.{sent_of};
 ghost use Rattle.fw_progress.specs.Trace.{HaveLists};
 ghost use Rattle.fw_record.specs.Sound.{IsRec};
 ghost use Rattle.fw_settle.specs.Checkpoints.{IsDelivered, IsDiscarded, IsOfEdge, IsRecordedAt, AreTotalsAt, AreSendsOf, AreSendsAt, IsStateAt, logged_from, logged_at, IsLogAt, IsMadeAt};
-ghost use Rattle.fw_settle.specs.Sends.{is_last_of, HasTaken, HasCount, HasSends};
+ghost use Rattle.fw_settle.specs.Sends.{IsLimitOf, is_last_of, HasTaken, HasCount, HasSends};
 ghost use Rattle.fw_running.specs.Kept.{log_at, table_of};
 ghost use Rattle.fw_running.specs.Shaped.{IsShaped};
 
@@ -172,8 +172,8 @@ fn logged_at(running: &Running, node: NodeId, front: &Front) -> Result<Vec<Logge
     Ok(all)
 }
 
-// What a sequence sent in each epoch of its table that is inside. The error is want of memory, or that a sum would not fit 64
-// bits.
+// What a sequence sent in each epoch of its table that is inside. The front is looked at once; of each epoch numbers are
+// compared alone. The error is want of memory, or that a sum would not fit 64 bits.
 fn sends_inside(
     alloc: Global,
     table: &SentTable,
@@ -181,46 +181,68 @@ fn sends_inside(
 ) -> Result<Vec<SentCount>, AllocError>
     ensures { IfOk result (λ sends. AreSendsOf front.now table.now sends.items) }
 {
-    let mut sends = Vec::new(alloc);
+    let limit = limit_of(front);
+    let mut sends = Vec::with_capacity(alloc, table.len())?;
     for place in 0..table.len() {
         if let Some((epoch, count)) = table.get(place) {
-            add_sends(&mut sends, front, epoch, count)?;
+            add_sends(&mut sends, limit, epoch, count)?;
         }
     }
     Ok(sends)
 }
 
-// Adds what was sent in an epoch, if that is inside; nothing is not told.
+// The least epoch outside, or a number greater than any epoch where all are inside.
+fn limit_of(front: &Front) -> u64
+    ensures { IsLimitOf front.now result }
+{
+    let mut limit = 1 << 32;
+    for o in front.outside() {
+        limit = lowered(limit, o);
+    }
+    limit
+}
+
+// The lesser of a limit and the epoch of an outside stamp, if it has one coordinate.
+fn lowered(limit: u64, o: &Stamp) -> u64
+    ensures { (epoch : ℕ) → nat_lt epoch result ≡ (not (leq o.now (epoch ∷ [])) && nat_lt epoch limit) }
+{
+    if o.len() != 1 {
+        return limit;
+    }
+    limit.min(u64::from(o.at(0)))
+}
+
+// Adds what was sent in an epoch, if that is below the limit; nothing is not told.
 fn add_sends(
     sends: &mut Vec<SentCount>,
-    front: &Front,
+    limit: u64,
     epoch: u32,
     count: u64,
 ) -> Result<(), AllocError>
-    ensures { OnOk result (HasSends front.now epoch count sends.old.items sends.new.items) }
+    ensures { OnOk result (HasSends (nat_lt epoch limit) epoch count sends.old.items sends.new.items) }
 {
-    let cause = Stamp::new(&[epoch]);
-    if count == 0 || !front.contains(&cause) {
+    if count == 0 || u64::from(epoch) >= limit {
         return Ok(());
     }
-    add_count(sends, cause, count)
+    add_count(sends, epoch, count)
 }
 
-// Adds what was sent from a stamp: what is already told of the stamp, if that is the last one, is counted with it.
-fn add_count(sends: &mut Vec<SentCount>, cause: Stamp, count: u64) -> Result<(), AllocError>
-    ensures { OnOk result (HasCount cause count sends.old.items sends.new.items) }
+// Adds what was sent in an epoch: what is already told of it, if it is the last one, is counted with it.
+fn add_count(sends: &mut Vec<SentCount>, epoch: u32, count: u64) -> Result<(), AllocError>
+    ensures { OnOk result (HasCount (epoch ∷ []) count sends.old.items sends.new.items) }
 {
-    let before = take_count(sends, &cause);
+    let before = take_count(sends, epoch);
     let count = before.checked_add(count).ok_or(AllocError)?;
+    let cause = Stamp::new(&[epoch]);
     sends.push(SentCount { cause, count })?;
     Ok(())
 }
 
-// Takes the last count out, if it is of a stamp, and answers it; 0 where it is of another one.
-fn take_count(sends: &mut Vec<SentCount>, cause: &Stamp) -> u64
-    ensures { HasTaken cause.now result sends.old.items sends.new.items }
+// Takes the last count out, if it is of an epoch, and answers it; 0 where it is of another one.
+fn take_count(sends: &mut Vec<SentCount>, epoch: u32) -> u64
+    ensures { HasTaken (epoch ∷ []) result sends.old.items sends.new.items }
 {
-    if !is_last(sends, cause) {
+    if !is_last(sends, epoch) {
         return 0;
     }
     match sends.pop() {
@@ -229,14 +251,21 @@ fn take_count(sends: &mut Vec<SentCount>, cause: &Stamp) -> u64
     }
 }
 
-// Whether the last count is of a stamp.
-fn is_last(sends: &[SentCount], cause: &Stamp) -> bool
-    ensures { result ≡ is_last_of cause.now sends.now }
+// Whether the last count is of an epoch.
+fn is_last(sends: &[SentCount], epoch: u32) -> bool
+    ensures { result ≡ is_last_of (epoch ∷ []) sends.now }
 {
     match sends.last() {
-        Some(last) => last.cause.leq(cause) && cause.leq(&last.cause),
+        Some(last) => is_epoch(&last.cause, epoch),
         None => false,
     }
+}
+
+// Whether a stamp is an epoch.
+fn is_epoch(stamp: &Stamp, epoch: u32) -> bool
+    ensures { result ≡ same stamp.now (epoch ∷ []) }
+{
+    stamp.len() == 1 && stamp.at(0) == epoch
 }
 
 // Adds messages on an edge.

@@ -10,8 +10,8 @@ loop-place-preserved c = elim c.match-get.branch [
   | in-Some+in_ok-add_sends w ↦
       let got : slice_get c.args.table.now c.loop-place.place ≡ Some (w.in-Some.epoch, w.in-Some.count) = search rules in
       subst (λ v. AreToldOf c.args.front.now (take (c.loop-place.place + 1) c.args.table.now) v.items) (sym w.sends-is)
-      (told-next c.args.front.now c.args.table.now c.loop-place.place w.in-Some.epoch w.in-Some.count c.loop-place.sends.items w.add_sends.new.sends.items
-      (omega arith) got c.loop-place.invariant w.in_ok-add_sends.ensures)
+      (told-next c.args.front.now c.args.table.now c.limit_of-limit.result c.loop-place.place w.in-Some.epoch w.in-Some.count c.loop-place.sends.items w.add_sends.new.sends.items
+      c.limit_of-limit.ensures (omega arith) got c.loop-place.invariant w.in_ok-add_sends.ensures)
   | in_default w ↦
       let got : slice_get c.args.table.now c.loop-place.place ≡ None = search rules in
       absurd (told-there c.args.table.now c.loop-place.place (omega arith) got)

@@ -2,7 +2,7 @@
 ghost use Rattle.std.specs.Prelude.{◌≡◌, ◌<◌, ◌^◌, ◌&&◌, ◌++◌, ◌∷◌, [], ℕ, List, true, not, nat_lt, length, map, Option, None, IsTrue, IfOk, OnOk, IfSome};
 ghost use Rattle.std.specs.List.{AllByRecursion, AllZip};
 ghost use Rattle.fw_time.specs.Stamp.{in_domain, leq, same};
-ghost use Rattle.fw_frontier.specs.Front.{IsCanonical, inside};
+ghost use Rattle.fw_frontier.specs.Front.{IsCanonical};
 ghost use Rattle.fw_flow.specs.declared.event.Message.{Message as Sent};
 ghost use Rattle.fw_flow.specs.Dataflow.{kind_of, policy_of, in_edges, out_edges, bounds_of, is_sequence_kind};
 ghost use Rattle.fw_flow.specs.Restoring.{can_resend};

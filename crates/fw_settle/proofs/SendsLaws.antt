@@ -309,7 +309,8 @@ pub told-next : (f : Front) (table : List (ℕ × ℕ)) (limit i x count : ℕ) 
 told-next f table limit i x count old new to l is a h =
     let there : Some (get_or table i (x, count)) ≡ Some (x, count) = sym (slice_get-get_or table i (x, count) l) ∙ is in
     let here : get_or table i (x, count) ≡ (x, count) = cc in
-    subst (λ t. AreToldOf f t new) (sym (take_more table i (x, count) l ∙ ap (λ e. take i table ++ e ∷ []) here)) (told-more f (take i table) x count old new a (subst (λ b. HasSends b x count old new) (to x h.small) h))
+    subst (λ t. AreToldOf f t new) (sym (take_more table i (x, count) l ∙ ap (λ e. take i table ++ e ∷ []) here))
+    (told-more f (take i table) x count old new a (subst (λ b. HasSends b x count old new) (to x h.small) h))
 
 pub told-there : (table : List (ℕ × ℕ)) (i : ℕ) → i < length table → slice_get table i ≡ None → ⊥
 told-there table i l is = let c : Some (get_or table i (0, 0)) ≡ None = sym (slice_get-get_or table i (0, 0) l) ∙ is in absurd (cc)

@@ -1,5 +1,5 @@
 -- A leap leaves a family admissible, and what its calls keep.
-use Rattle.std.proofs.Common.{◌↔◌, ◌≡◌, ℕ, ◌+◌, ◌<◌, ◌≤◌, Bool, true, List, [], length, get_or, set, sym, ap, subst, ◌∙◌, inl, inr, arith}
+use Rattle.std.proofs.Common.{◌↔◌, ◌≡◌, ◌⊎◌, ℕ, zero, suc, ◌+◌, ◌<◌, ◌≤◌, Bool, true, List, [], ◌∷◌, ◌++◌, length, get_or, set, refl, sym, ap, subst, ◌∙◌, inl, inr, arith}
 use Rattle.std.proofs.lemmas.Bool.{and_parts, cases_eq, cases_lt}
 use Rattle.fw_time.specs.Stamp.{in_domain}
 use Rattle.fw_time.specs.declared.stamp.Bounds.{Bounds}
@@ -167,3 +167,30 @@ one_can_leap flow counts old next n p e before here q l = elim (cases_eq q p) [
   | inl s ↦ subst (CanLeapAt flow counts old next) (sym s) here
   | inr s ↦ before q (omega (arith, l, s, e))
 ]
+
+-- ---- the marked nodes are raised
+
+pushed-each : (P : ℕ → Front → Type 0) (fronts : List Front) (f : Front) → ((p : ℕ) → P p (front_of fronts p)) → P (length fronts) f
+    → (p : ℕ) → P p (front_of (fronts ++ f ∷ []) p)
+pushed-each P [] f all one zero = one
+pushed-each P [] f all one (suc p) = all (suc p)
+pushed-each P (x ∷ fronts) f all one zero = all zero
+pushed-each P (x ∷ fronts) f all one (suc p) = pushed-each (λ q. P (suc q)) fronts f (λ q. all (suc q)) one p
+
+pushed-length : (fronts : List Front) (f : Front) → length (fronts ++ f ∷ []) ≡ length fronts + 1
+pushed-length [] f = refl
+pushed-length (x ∷ fronts) f = omega (arith, pushed-length fronts f)
+
+raised-front : (flow : Dataflow) (fronts : List Front) (p : ℕ) (f : Front) → AreCanonical flow fronts → (f ≡ []) ⊎ (f ≡ front_of fronts p)
+    → IsCanonical (bounds_of flow p) f
+raised-front flow fronts p f all (inl none) = subst (IsCanonical (bounds_of flow p)) (sym none) tt
+raised-front flow fronts p f all (inr same) = subst (IsCanonical (bounds_of flow p)) (sym same) (all p)
+
+-- one front more, with all stamps or as it was
+pub raised-one : (flow : Dataflow) (fronts old new : List Front) (p : ℕ) (f : Front) → AreCanonical flow fronts → length old ≡ p → AreCanonical flow old
+    → new ≡ old ++ f ∷ [] → (f ≡ []) ⊎ (f ≡ front_of fronts p) → (length new ≡ p + 1) × AreCanonical flow new
+raised-one flow fronts old new p f all at before is what = (
+  ap (λ (fs : List Front). length fs) is ∙ pushed-length old f ∙ ap (λ n. n + 1) at,
+  subst (AreCanonical flow) (sym is)
+      (pushed-each (λ q. IsCanonical (bounds_of flow q)) old f before (subst (λ q. IsCanonical (bounds_of flow q) f) (sym at) (raised-front flow fronts p f all what))),
+)

@@ -16,8 +16,10 @@ use Rattle.fw_running.specs.declared.fault.EngineFault.{EngineFault}
 use Rattle.fw_running.specs.declared.fault.EngineFault.TheVariants as engine
 use Rattle.fw_run.proofs.DecidedLaws.{texts-decided}
 use Rattle.fw_run.proofs.FaultLaws.{store_of}
+use Rattle.fw_run.proofs.FaultCounts.{rose_by}
 use Rattle.fw_run.proofs.Numbers.{few_refusal_numbers}
 use Rattle.fw_run.proofs.TextLaws.{one_first_refusal, one_first_of_two, accepted_or_refused, accepted_or_first_of_two, flow_or_refused, one_flow_refusal}
+use Rattle.fw_run.proofs.WritingLaws.{cut_of-part}
 use Rattle.fw_run.specs.declared.fault.RunFault.{RunFault}
 use Rattle.fw_run.specs.declared.fault.RunFault.TheVariants.{Out, Engine}
 use Rattle.fw_run.specs.declared.reading.Fed.{Fed}
@@ -27,18 +29,18 @@ use Rattle.fw_run.specs.declared.status.Status.TheVariants.{Done, BadWords, Refu
 use Rattle.fw_run.specs.declared.words.GenerateWords.{GenerateWords}
 use Rattle.fw_run.specs.declared.work.Work.{Work}
 use Rattle.fw_run.specs.declared.work.Work.TheVariants.{Run, Endure, Generate, Denote, Check}
-use Rattle.fw_run.specs.Call.{Call, CountsFaults, HasTexts, Accepts, Refuses, Prints, AsksNoMore, HasAccepted, HasRefused, IsPrintout, PrintsPart, IsRunOf, KeepsFolder, KeepsStore, AnswersTexts, IsRunEnd, IsRefusalEnd}
+use Rattle.fw_run.specs.Call.{Call, CountsFaults, HasTexts, Accepts, Refuses, Prints, AsksNoMore, HasAccepted, HasRefused, IsPrintout, PrintsPart, PrintsFirst, IsRunOf, KeepsFolder, KeepsStore, AnswersTexts, IsRunEnd, IsRefusalEnd}
 use Rattle.fw_run.specs.DenotationText.{PrintsDenotation}
 use Rattle.fw_run.specs.Enduring.{PrintsEndured, RoseBy, RoseByFaults, StaysOrRose}
-use Rattle.fw_run.specs.Fault.{faults_after, out_fault, status_of}
+use Rattle.fw_run.specs.Fault.{faults_after, status_of}
 use Rattle.fw_run.specs.Reading.{IsJob, IsGenerated, IsFed}
-use Rattle.fw_run.specs.Status.{HasWord, IsTellingOf, faults_told, status_number}
+use Rattle.fw_run.specs.Status.{HasWord, IsTellingOf, store_faults_told, status_number}
 use Rattle.fw_run.specs.Tallies.{PrintsSummary}
 use Rattle.fw_run.specs.Texts.{HasFlow, spelled_system, spelled_items}
 use Rattle.fw_run.specs.Trusting.{AreKnown, PrintsKnown}
 use Rattle.fw_run.specs.Words.{Command, TextNames, SystemNames, Seeded, run, endure, generate, denote, check, Manner, by_lines, through_faults, in_one_line, manner_of, IsInOneLine, asks_folder, seeded_in}
 use Rattle.fw_run.specs.Work.{IsWork, EndsAtFault, IsRun, IfRun, IsTextOfWork, PrintsWork, IsDamageIn, StaysUnlessRun, StaysIfInOneLine}
-use Rattle.fw_run.specs.Writing.{IsCutOff, WritesText}
+use Rattle.fw_run.specs.Writing.{IsPartWritten, IsCutOff, WritesText}
 
 -- words are one command
 same_command : (command : Option Command) (one other : Command) → command ≡ Some one → command ≡ Some other → one ≡ other
@@ -153,13 +155,40 @@ pub prints : (Tells : Type 0) (IsSo : ℕ → List ℕ → Type 0) (call : Call)
 prints Tells IsSo call command work IsPut e j p =
     record { printed = p.printed; text = printout_of_work Tells IsSo call command work p.printed e j p.text; written = p.written }
 
--- what was cut off by a fault, as the output knows it
+-- what was cut off by a fault of the output
 pub prints_part : (T : Type 0) (Tells : Type 0) (call : Call) (command : Command) (work : Work) (count last : ℕ) (fault : RunFault) (of_output : OutFault) (before after : SinkView) → call.command ≡ Some command
-    → IsWork call.told command work → out_fault fault ≡ of_output → PrintsWork {T = T} Tells (λ faults others. RoseBy count last faults) work (Err fault) before after
+    → IsWork call.told command work → fault ≡ Out of_output → PrintsWork {T = T} Tells (λ faults others. RoseBy count last faults) work (Err fault) before after
     → PrintsPart Tells call count last of_output before after
 prints_part T Tells call command work count last fault of_output before after e j f p =
-    subst (λ (out : OutFault). PrintsPart Tells call count last out before after) f
-    (prints Tells (λ faults others. RoseBy count last faults) call command work (λ printed. IsCutOff printed (out_fault fault) before after) e j p)
+    prints Tells (λ faults others. RoseBy count last faults) call command work (λ printed. IsCutOff printed of_output before after) e j
+    (subst (λ (g : RunFault). PrintsWork {T = T} Tells (λ faults others. RoseBy count last faults) work (Err g) before after) f p)
+
+-- what was cut off where memory was refused
+pub prints_no_memory : (T : Type 0) (Tells : Type 0) (call : Call) (command : Command) (work : Work) (count last : ℕ) (fault : RunFault) (before after : SinkView) → call.command ≡ Some command
+    → IsWork call.told command work → status_of fault ≡ NoMemory → PrintsWork {T = T} Tells (λ faults others. RoseBy count last faults) work (Err fault) before after
+    → PrintsPart Tells call count last output.NoMemory before after
+prints_no_memory T Tells call command work count last (Out output.Failed) before after e j f p = absurd (cc)
+prints_no_memory T Tells call command work count last (Out output.NoMemory) before after e j f p =
+    prints Tells (λ faults others. RoseBy count last faults) call command work (λ printed. IsCutOff printed output.NoMemory before after) e j p
+prints_no_memory T Tells call command work count last (Engine engine.StoreFault) before after e j f p = absurd (cc)
+prints_no_memory T Tells call command work count last (Engine (engine.Damaged id)) before after e j f p = absurd (cc)
+prints_no_memory T Tells call command work count last (Engine engine.NoMemory) before after e j f p =
+    prints Tells (λ faults others. RoseBy count last faults) call command work (λ printed. IsCutOff printed output.NoMemory before after) e j
+    (record { printed = p.printed; text = p.text; written = cut_of-part p.printed before after p.written })
+
+-- what was written where the store ended the run
+pub prints_first : (T : Type 0) (Tells : Type 0) (call : Call) (command : Command) (work : Work) (count last : ℕ) (fault : RunFault) (before after : SinkView) → call.command ≡ Some command
+    → IsWork call.told command work → 8 ≤ status_number (status_of fault) → status_number (status_of fault) ≤ 9
+    → PrintsWork {T = T} Tells (λ faults others. RoseBy count last faults) work (Err fault) before after → PrintsFirst Tells call count last before after
+prints_first T Tells call command work count last (Out output.Failed) before after e j least most p = absurd (omega (arith, least))
+prints_first T Tells call command work count last (Out output.NoMemory) before after e j least most p = absurd (omega (arith, most))
+prints_first T Tells call command work count last (Engine fault) before after e j least most p =
+    prints Tells (λ faults others. RoseBy count last faults) call command work (λ printed. IsPartWritten printed before after) e j p
+
+-- so it is where memory was refused to tell it
+pub part_of-first : (Tells : Type 0) (call : Call) (count last : ℕ) (before after : SinkView) → PrintsFirst Tells call count last before after
+    → PrintsPart Tells call count last output.NoMemory before after
+part_of-first Tells call count last before after p = record { printed = p.printed; text = p.text; written = cut_of-part p.printed before after p.written }
 
 -- ---- runs
 
@@ -431,8 +460,8 @@ told_damaged status result id = told_other status result (Damaged id) other
 
 -- where there was no memory, for the run or for its line, nothing was written or first bytes
 pub told_no_memory : {O : Type 0} (P : Type 0) (status result : Status) (before after : O) → IsTellingOf status result → result ≡ NoMemory
-    → (status ≡ NoMemory → (after ≡ before) ⊎ P) → (status_number status ≤ 6 → (status ≡ Done) ⊎ (after ≡ before)) → ((id : ℕ) → status ≡ Damaged id → P)
-    → (after ≡ before) ⊎ P
+    → (status ≡ NoMemory → (after ≡ before) ⊎ P) → (status_number status ≤ 6 → (status ≡ Done) ⊎ (after ≡ before))
+    → (8 ≤ status_number status → status_number status ≤ 9 → P) → (after ≡ before) ⊎ P
 told_no_memory P status result before after (inl e) f of_memory nothing_out of_damage = of_memory (sym e ∙ f)
 told_no_memory P status result before after (inr (inl (refusal, e), t)) f of_memory nothing_out of_damage =
     elim (nothing_out (subst (λ (s : Status). status_number s ≤ 6) (sym e) (omega (arith, few_refusal_numbers refusal.code)))) [
@@ -442,7 +471,8 @@ told_no_memory P status result before after (inr (inl (refusal, e), t)) f of_mem
   where
     refused : Refused refusal ≡ Done → ⊥
     refused h = absurd (cc)
-told_no_memory P status result before after (inr (inr (id, e), t)) f of_memory nothing_out of_damage = inr (of_damage id e)
+told_no_memory P status result before after (inr (inr (id, e), t)) f of_memory nothing_out of_damage =
+    inr (of_damage (subst (λ (s : Status). 8 ≤ status_number s) (sym e) (omega arith)) (subst (λ (s : Status). status_number s ≤ 9) (sym e) (omega arith)))
 
 -- the store, once the status is told
 pub store_told : {K : Type 0} (command : Option Command) (status result : Status) (before after : K) → IsTellingOf status result → KeepsStore command status before after
@@ -469,9 +499,15 @@ damaged_not_done id e = absurd (cc)
 
 -- it did not
 pub counts_none : (command : Option Command) (status : Status) (before after : ℕ) → after ≡ before → (status ≡ StoreFault → ⊥) → CountsFaults command status before after
-counts_none command status before after same other = record { none = λ e. same; first = λ once. same ∙ sym (none status other); some = λ e. absurd (other e); rises = (0, same) }
+counts_none command status before after same other = record {
+  none = λ e. same;
+  first = λ once. same ∙ sym (none status other);
+  some = λ e. absurd (other e);
+  rose = λ e. absurd (other e);
+  rises = (0, same);
+}
   where
-    none : (s : Status) → (s ≡ StoreFault → ⊥) → faults_told s before ≡ before
+    none : (s : Status) → (s ≡ StoreFault → ⊥) → store_faults_told s before ≡ before
     none Done o = refl
     none BadWords o = refl
     none (Refused refusal) o = refl
@@ -482,7 +518,7 @@ counts_none command status before after same other = record { none = λ e. same;
     none NoMemory o = refl
 
 -- the status tells what the answer does
-count_told : (T : Type 0) (f : RunFault) (before after : ℕ) → after ≡ faults_after {T = T} (Err f) before → after ≡ faults_told (status_of f) before
+count_told : (T : Type 0) (f : RunFault) (before after : ℕ) → after ≡ faults_after {T = T} (Err f) before → after ≡ store_faults_told (status_of f) before
 count_told T (Out output.Failed) before after e = e
 count_told T (Out output.NoMemory) before after e = e
 count_told T (Engine engine.StoreFault) before after e = e
@@ -498,8 +534,8 @@ fault_not_done (Engine engine.NoMemory) e = absurd (cc)
 
 -- the work of a command that does not go on through faults ended at the first
 ends_at_fault : (T : Type 0) (told : Option (List ℕ → Option (List ℕ))) (f : RunFault) (before after : ℕ) (command : Command) (work : Work) → IsWork told command work
-    → (manner_of command ≡ Some through_faults → ⊥) → EndsAtFault {T = T} work (Err f) before after → after ≡ faults_told (status_of f) before
-ends_at_fault T told f before after = by_work told (λ command work. (manner_of command ≡ Some through_faults → ⊥) → EndsAtFault {T = T} work (Err f) before after → after ≡ faults_told (status_of f) before)
+    → (manner_of command ≡ Some through_faults → ⊥) → EndsAtFault {T = T} work (Err f) before after → after ≡ store_faults_told (status_of f) before
+ends_at_fault T told f before after = by_work told (λ command work. (manner_of command ≡ Some through_faults → ⊥) → EndsAtFault {T = T} work (Err f) before after → after ≡ store_faults_told (status_of f) before)
     (λ names job j once ends. count_told T f before after ends)
     (λ names job j once ends. absurd (once refl))
     (λ seeded words job same size j once ends. count_told T f before after ends)
@@ -513,6 +549,7 @@ counts_fault T told command asked work f before after e j ends some rises = reco
   none = λ done. absurd (fault_not_done f done);
   first = λ once. ends_at_fault T told f before after asked work j (λ through. once (ap (λ c. option_and_then manner_of c) e ∙ through)) ends;
   some = λ is. some (ap (λ (g : RunFault). Err g) (store_of f is));
+  rose = λ is. rose_by before after (some (ap (λ (g : RunFault). Err g) (store_of f is)));
   rises = rises;
 }
 
@@ -522,8 +559,9 @@ pub counts_told : (command : Option Command) (status result : Status) (before af
 counts_told command status result before after (inl e) k = subst (λ (s : Status). CountsFaults command s before after) (sym e) k
 counts_told command status result before after (inr t) k = record {
   none = λ done. absurd (not_done (sym t.1 ∙ done));
-  first = λ once. k.first once ∙ quiet t.0 ∙ sym (ap (λ (s : Status). faults_told s before) t.1);
+  first = λ once. k.first once ∙ quiet t.0 ∙ sym (ap (λ (s : Status). store_faults_told s before) t.1);
   some = λ fault. absurd (not_fault (sym t.1 ∙ fault));
+  rose = λ fault. absurd (not_fault (sym t.1 ∙ fault));
   rises = k.rises;
 }
   where
@@ -533,9 +571,9 @@ counts_told command status result before after (inr t) k = record {
     not_fault : NoMemory ≡ StoreFault → ⊥
     not_fault h = absurd (cc)
 
-    quiet : HasWord status → faults_told status before ≡ before
-    quiet (inl (refusal, e)) = ap (λ (s : Status). faults_told s before) e
-    quiet (inr (id, e)) = ap (λ (s : Status). faults_told s before) e
+    quiet : HasWord status → store_faults_told status before ≡ before
+    quiet (inl (refusal, e)) = ap (λ (s : Status). store_faults_told s before) e
+    quiet (inr (id, e)) = ap (λ (s : Status). store_faults_told s before) e
 
 -- ---- a run that is told in one line
 
@@ -562,12 +600,19 @@ nothing_told {O} told command asked work f before after e j stays one least most
     stays_there (Out output.NoMemory) s l m = absurd (omega (arith, m))
     stays_there (Engine fault) s l m = of_work asked work j seeded (s fault refl)
 
--- and so once the status is told
-pub nothing_told_on : {O : Type 0} (One : Type 0) (status result : Status) (before after : O) → IsTellingOf status result
-    → (One → 8 ≤ status_number status → status_number status ≤ 9 → after ≡ before) → One → 8 ≤ status_number result → status_number result ≤ 9 → after ≡ before
-nothing_told_on One status result before after (inl e) f one least most =
-    f one (subst (λ (s : Status). 8 ≤ status_number s) e least) (subst (λ (s : Status). status_number s ≤ 9) e most)
-nothing_told_on One status result before after (inr t) f one least most = absurd (late (subst (λ (s : Status). status_number s ≤ 9) t.1 most))
+-- what is so where the store ended a run is so once the status is told
+pub told_store_part : (P : Type 0) (status result : Status) → IsTellingOf status result → (8 ≤ status_number status → status_number status ≤ 9 → P)
+    → 8 ≤ status_number result → status_number result ≤ 9 → P
+told_store_part P status result told f least most = at told
   where
     late : status_number NoMemory ≤ 9 → ⊥
     late m = absurd (omega (arith, m))
+
+    at : IsTellingOf status result → P
+    at (inl e) = f (subst (λ (s : Status). 8 ≤ status_number s) e least) (subst (λ (s : Status). status_number s ≤ 9) e most)
+    at (inr t) = absurd (late (subst (λ (s : Status). status_number s ≤ 9) t.1 most))
+
+-- and so once the status is told
+pub nothing_told_on : {O : Type 0} (One : Type 0) (status result : Status) (before after : O) → IsTellingOf status result
+    → (One → 8 ≤ status_number status → status_number status ≤ 9 → after ≡ before) → One → 8 ≤ status_number result → status_number result ≤ 9 → after ≡ before
+nothing_told_on One status result before after told f one = told_store_part (after ≡ before) status result told (f one)

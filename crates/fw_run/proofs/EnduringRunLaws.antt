@@ -23,17 +23,16 @@ use Rattle.fw_run.proofs.EnduringLaws.{faults-append, idle_shown-append, reports
 use Rattle.fw_run.proofs.EnduringItemLaws.{item_broken}
 use Rattle.fw_run.proofs.FaultCounts.{rose_more}
 use Rattle.fw_run.proofs.PlaceLaws.{parts_at, one_more-item}
-use Rattle.fw_run.proofs.Roses.{of_same_fault}
+use Rattle.fw_run.proofs.SameFaults.{of_same_fault}
 use Rattle.fw_run.proofs.StandingLaws.{holds-writes, entry-in}
 use Rattle.fw_run.proofs.StoppedLaws.{no_outcomes, stopped_begun, none_told}
-use Rattle.fw_run.proofs.WritingLaws.{written_nothing, written_more, taken_part, taken_nothing, taken_more, taken_written, taken_until, cut_of-taken}
+use Rattle.fw_run.proofs.WritingLaws.{written_nothing, written_more, taken_part, taken_nothing, taken_more, taken_on, until_all}
 use Rattle.fw_run.specs.declared.fault.RunFault.{RunFault}
 use Rattle.fw_run.specs.declared.fault.RunFault.TheVariants as stop
 use Rattle.fw_run.specs.declared.tally.Tally.{Tally}
 use Rattle.fw_run.specs.EnduredItems.{IsItemEndured, IsItemBroken, EnduresItem, PrintsThrough, IsEnduredSoFar, AreEndured}
 use Rattle.fw_run.specs.Enduring.{Report, came, faults_in, outcomes_in, shown_in, reports_text, endured_line, endured_text, EnduredRun, IsEndureKnown, RoseBy, PrintsEndured, IsEndured, IsEnduredToDamage}
-use Rattle.fw_run.specs.Fault.{out_fault}
-use Rattle.fw_run.specs.Performing.{WritesUntil, IsCutAfter, TrustsItem, IsLeftAfter}
+use Rattle.fw_run.specs.Performing.{WritesUntil, TrustsItem, IsLeftAfter}
 use Rattle.fw_run.specs.Printed.{outcomes_text, idle_count}
 use Rattle.fw_run.specs.Tallies.{tally_of}
 use Rattle.fw_run.specs.Writing.{IsWritten, IsCutOff, WritesText}
@@ -128,10 +127,6 @@ fault_broken sys item state steps outcomes old counts bytes IsCount (stop.Out f)
 fault_broken sys item state steps outcomes old counts bytes IsCount (stop.Engine f) before new after w r trusts d =
     item_broken sys state item old bytes IsCount d.1 (stopped_begun sys item state steps outcomes old counts bytes (IsLeftAfter sys item f before new after) w r d.0)
 
--- all of the bytes that were taken
-cut_all : (bytes : List ℕ) (f : OutFault) (first last : SinkView) → IsCutAfter bytes f first last → IsCutOff bytes f first last
-cut_all bytes f first last c = subst (λ (b : List ℕ). IsCutOff b f first last) (append-nil bytes) (cut_of-taken bytes [] f first last c)
-
 -- the run stops in the item of this place
 pub endure_stops : (T : Type 0) (Tells : Type 0) (sys : System) (items : List Item) (i : ℕ) (old new : Engine) (before after : Option Records) (item : Item) (tally counts : Tally)
     (count a b c : ℕ) (f : RunFault) (first middle last : SinkView) → IsWellFormedSystem sys → (Tells → IsSome before)
@@ -143,7 +138,7 @@ endure_stops T Tells sys items i old new before after item tally counts count a 
   text = λ known.
       let found = part (endure_known-take Tells sys (i + 1) items known) in
       (found.1.of_items, found.1.others, found.1.text, subst (RoseBy a c) (sym found.1.faults) found.2);
-  written = cut_all (u.bytes ++ p.bytes) (out_fault f) first last (taken_more u.bytes p.bytes (out_fault f) first middle last u.written (taken_until ℕ p.bytes f middle last p.taken));
+  written = until_all T ℕ (u.bytes ++ p.bytes) f first last (taken_on ℕ u.bytes p.bytes f first middle last u.written p.taken);
 }
   where
     part : IsEndureKnown Tells sys (take (i + 1) items) → (n : ℕ) × IsPart sys items (u.bytes ++ p.bytes) n × RoseBy a c n
@@ -264,7 +259,7 @@ pub endure_whole_fault : (T : Type 0) (Tells : Type 0) (sys : System) (items : L
 endure_whole_fault T Tells sys items records IsCount first last e = record {
   printed = e.printed;
   text = λ k. let r = e.endured k in (r.0, [], sym r.1 ∙ sym (append-nil e.printed), r.2);
-  written = cut_all e.printed NoMemory first last (taken_written e.printed first last e.written);
+  written = until_all T T e.printed (stop.Engine fault.StoreFault) first last e.written;
 }
 
 -- the last line was cut off
@@ -285,7 +280,7 @@ endure_ends_cut T Tells sys items i engine records tally count IsCount f first m
             last_line sys items engine records tally count all.bytes s ∙ ap (λ (t : List ℕ). all.bytes ++ t) at.parts ∙ sym (append_assoc all.bytes at.one at.other),
             subst IsCount s.faults is,
           );
-      written = cut_all (all.bytes ++ at.one) f first last (taken_more all.bytes at.one f first middle last all.written at.taken);
+      written = until_all T T (all.bytes ++ at.one) (stop.Out f) first last (taken_more all.bytes at.one f first middle last all.written at.taken);
     }
 
 -- the run is not begun
@@ -296,5 +291,5 @@ endure_not_begun T Tells sys items count view w =
     record {
       printed = [];
       text = λ k. (part.of_items, part.others, part.text, subst (RoseBy count count) (sym part.faults) refl);
-      written = cut_all [] NoMemory view view (taken_nothing view);
+      written = until_all T T [] (stop.Out NoMemory) view view (taken_nothing view);
     }

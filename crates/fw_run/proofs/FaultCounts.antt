@@ -1,15 +1,21 @@
--- How often a store failed, over several calls.
-use Rattle.std.proofs.Common.{◌≡◌, ℕ, zero, suc, ◌+◌, ◌≤◌, Result, Ok, Err, refl, sym, ◌∙◌, ap, subst, arith}
+-- How often a store or a folder failed, over several calls.
+use Rattle.std.proofs.Common.{◌≡◌, inl, inr, ℕ, zero, suc, ◌+◌, ◌-◌, ◌^◌, ◌<◌, ◌≤◌, Result, Ok, Err, refl, sym, ◌∙◌, ap, subst, arith}
+use Rattle.std.proofs.lemmas.Bool.{cases_lt}
 use Rattle.std.specs.Prelude.{OnOk}
 use Rattle.std.specs.Result.{IsErrOf}
 use Rattle.fw_outside.specs.Outside.{one_more}
 use Rattle.fw_running.specs.declared.fault.EngineFault.{EngineFault}
 use Rattle.fw_running.specs.declared.fault.EngineFault.TheVariants as fault
 use Rattle.fw_running.specs.Faults as engine
+use Rattle.fw_lines.specs.declared.fault.ReadFault.{ReadFault}
+use Rattle.fw_lines.specs.declared.fault.ReadFault.TheVariants as lines
 use Rattle.fw_run.specs.declared.fault.RunFault.{RunFault}
 use Rattle.fw_run.specs.declared.fault.RunFault.TheVariants as stop
-use Rattle.fw_run.specs.Enduring.{with_faults, RoseBy, RoseByFaults, StaysOrRose}
+use Rattle.fw_run.specs.declared.reading.JobFault.{JobFault}
+use Rattle.fw_run.specs.declared.reading.JobFault.TheVariants as job
+use Rattle.fw_run.specs.Enduring.{with_faults, RoseBy, RoseByFaults, RoseOrFull, StaysOrRose}
 use Rattle.fw_run.specs.Fault.{faults_after}
+use Rattle.fw_run.specs.Reading.{job_fault, read_faults_after}
 
 -- ---- counts
 
@@ -19,6 +25,28 @@ with_more count n zero = let same : n ≡ n + zero = omega arith in ap (λ (m : 
 with_more count n (suc k) =
     let same : suc (n + k) ≡ n + suc k = omega arith in
     ap one_more (with_more count n k) ∙ ap (λ (m : ℕ). with_faults m count) same
+
+-- no fault makes a count fall
+pub never_falls-one : (count : ℕ) → count ≤ one_more count
+never_falls-one count = omega arith
+
+never_falls-many : (times count : ℕ) → count ≤ with_faults times count
+never_falls-many zero count = omega arith
+never_falls-many (suc times) count = omega (arith, never_falls-many times count, never_falls-one (with_faults times count))
+
+pub never_falls-store : (before after : ℕ) → StaysOrRose before after → before ≤ after
+never_falls-store before after r = subst (λ (n : ℕ). before ≤ n) (sym r.1) (never_falls-many r.0 before)
+
+-- and one makes it rise, if it is not at its end
+rose_or_full : (times count : ℕ) → 1 ≤ times → RoseOrFull count (with_faults times count)
+rose_or_full zero count some = absurd (omega (arith, some))
+rose_or_full (suc times) count some = elim (cases_lt count (2 ^ 64 - 1)) [
+  | inl less ↦ inl (omega (arith, less, never_falls-many times count))
+  | inr full ↦ inr full
+]
+
+pub rose_by : (before after : ℕ) → RoseByFaults before after → RoseOrFull before after
+rose_by before after r = subst (RoseOrFull before) (sym r.2) (rose_or_full r.0 before r.1)
 
 pub rose_more : (a b c n k : ℕ) → RoseBy a b n → RoseBy b c k → RoseBy a c (n + k)
 rose_more a b c n k e f = f ∙ ap (with_faults k) e ∙ with_more a n k
@@ -64,3 +92,16 @@ passed_after A B (stop.Out f) before after e = e
 passed_after A B (stop.Engine fault.StoreFault) before after e = e
 passed_after A B (stop.Engine (fault.Damaged id)) before after e = e
 passed_after A B (stop.Engine fault.NoMemory) before after e = e
+
+-- ---- a folder
+
+-- a fault in a later text is told as it was, if the folder did not fail before
+pub read_passed : (A B : Type 0) (f : JobFault) (first mid last : ℕ) → mid ≡ first → last ≡ read_faults_after {T = A} (Err f) mid → last ≡ read_faults_after {T = B} (Err f) first
+read_passed A B job.Failed first mid last same e = e ∙ ap one_more same
+read_passed A B (job.Refused refusal) first mid last same e = e ∙ same
+read_passed A B job.NoMemory first mid last same e = e ∙ same
+
+-- where a text was fetched and refused, the folder did not fail
+pub read_refused : (B : Type 0) (f : ReadFault) (before after : ℕ) → after ≡ before → after ≡ read_faults_after {T = B} (Err (job_fault f)) before
+read_refused B (lines.Refused refusal) before after e = e
+read_refused B lines.NoMemory before after e = e

@@ -5,8 +5,8 @@ use Rattle.fw_running.specs.declared.fault.EngineFault.TheVariants as engine
 use Rattle.fw_run.specs.declared.fault.RunFault.{RunFault}
 use Rattle.fw_run.specs.declared.fault.RunFault.TheVariants.{Out, Engine}
 use Rattle.fw_run.specs.declared.status.Status.{Status}
-use Rattle.fw_run.specs.declared.status.Status.TheVariants.{WriteFault, StoreFault, Damaged, NoMemory}
-use Rattle.fw_run.specs.Fault.{out_fault, status_of}
+use Rattle.fw_run.specs.declared.status.Status.TheVariants.{WriteFault, StoreFault, Damaged}
+use Rattle.fw_run.specs.Fault.{status_of}
 
 -- the fault of a status
 pub write_of : (f : RunFault) → status_of f ≡ WriteFault → f ≡ Out output.Failed
@@ -33,8 +33,3 @@ damage_of (Engine (engine.Damaged other)) id e = ap (λ n. Engine (engine.Damage
     id_in (Damaged n) = n
     id_in status = other
 damage_of (Engine engine.NoMemory) id e = absurd (cc)
-
-pub memory_of : (f : RunFault) → status_of f ≡ NoMemory → out_fault f ≡ output.NoMemory
-memory_of (Out output.Failed) e = absurd (cc)
-memory_of (Out output.NoMemory) e = refl
-memory_of (Engine f) e = refl

@@ -1,9 +1,8 @@
 -- Of which items it is known what comes of them, and what is printed then.
-use Rattle.std.proofs.Common.{◌≡◌, inl, inr, ℕ, zero, suc, ◌+◌, ◌≤◌, List, [], ◌∷◌, ◌++◌, length, take, drop, refl, sym, ◌∙◌, ap, subst, arith, append_assoc}
+use Rattle.std.proofs.Common.{◌≡◌, inl, inr, ℕ, zero, suc, ◌+◌, ◌≤◌, List, [], ◌∷◌, ◌++◌, length, take, drop, Err, refl, sym, ◌∙◌, ap, subst, arith, append_assoc}
 use Rattle.std.proofs.Math.Seq.{drop-append_seam}
 use Rattle.std.proofs.lemmas.Bool.{cases_lt}
 use Rattle.std.proofs.lemmas.List.{take-append-drop}
-use Rattle.fw_outside.specs.declared.fault.OutFault.{OutFault}
 use Rattle.fw_outside.specs.Outside.{SinkView}
 use Rattle.fw_flow.specs.declared.step.Step.TheVariants.{Recover}
 use Rattle.fw_flow.specs.Dataflow.{System}
@@ -11,11 +10,11 @@ use Rattle.fw_flow.specs.WellFormed.{IsWellFormedSystem}
 use Rattle.fw_schedule.specs.declared.item.Item.{Item}
 use Rattle.fw_schedule.specs.declared.item.Item.TheVariants.{One}
 use Rattle.fw_run.proofs.RunLaws.{printed_run, printed_once, begins_of-run, begins_more}
-use Rattle.fw_run.proofs.WritingLaws.{cut_of-taken}
+use Rattle.fw_run.proofs.WritingLaws.{until_of-taken}
+use Rattle.fw_run.specs.declared.fault.RunFault.{RunFault}
 use Rattle.fw_run.specs.Headline.{PrintsRun}
-use Rattle.fw_run.specs.Performing.{IsCutAfter}
-use Rattle.fw_run.specs.Trusting.{AreKnown, BeginsWith, PrintsKnown}
-use Rattle.fw_run.specs.Writing.{IsCutOff, WritesText}
+use Rattle.fw_run.specs.Performing.{IsTaken, Performs}
+use Rattle.fw_run.specs.Trusting.{AreKnown, BeginsWith}
 
 -- ---- first items of known ones
 
@@ -47,14 +46,14 @@ pub record IsPartOf (sys : System) (items : List Item) (bytes : List ℕ) : Type
   pub parts : whole ≡ bytes ++ others
 
 -- What was cut off is known: so many items, and one more, if these bytes are then part of the text.
-pub cut_known : (Tells : Type 0) (sys : System) → IsWellFormedSystem sys → (items : List Item) (count : ℕ) (bytes : List ℕ) (fault : OutFault) (before after : SinkView)
+pub cut_known : (T A : Type 0) (Tells : Type 0) (sys : System) → IsWellFormedSystem sys → (items : List Item) (count : ℕ) (bytes : List ℕ) (fault : RunFault) (before after : SinkView)
     → ((n : ℕ) → n ≤ count → AreKnown Tells sys (take n items) → BeginsWith sys (take n items) bytes)
     → (AreKnown Tells sys (take (count + 1) items) → IsPartOf sys items bytes)
-    → IsCutAfter bytes fault before after → WritesText (PrintsKnown Tells sys items) (λ printed. IsCutOff printed fault before after)
-cut_known Tells sys w items count bytes fault before after begins part c = record {
+    → IsTaken {T = A} bytes (Err fault) before after → Performs {T = T} Tells sys items (Err fault) before after
+cut_known T A Tells sys w items count bytes fault before after begins part t = record {
   printed = printed;
   text = record { whole = λ k. in_whole (known_take Tells sys (count + 1) items k); first = first };
-  written = cut_of-taken bytes (drop (length bytes) whole) fault before after c;
+  written = until_of-taken T A bytes (drop (length bytes) whole) fault before after t;
 }
   where
     run : (printed : List ℕ) × PrintsRun sys items printed

@@ -1,7 +1,7 @@
 -- What was printed of items so far, and how a run ends.
 use Rattle.std.proofs.Common.{◌≡◌, inl, inr, ℕ, zero, suc, get_or, ◌+◌, ◌-◌, ◌<◌, ◌≤◌, List, [], ◌∷◌, ◌++◌, length, take, drop, Option, Some, None, Ok, Err, refl, sym, ◌∙◌, ap, subst, arith, append_assoc}
 use Rattle.std.proofs.lemmas.Bool.{cases_lt, false≢true}
-use Rattle.std.proofs.lemmas.List.{append-nil, take_all}
+use Rattle.std.proofs.lemmas.List.{append-nil, length-take-le, take_all}
 use Rattle.std.specs.Prelude.{IsSome}
 use Rattle.std.specs.Result.{IsErrOf}
 use Rattle.fw_outside.specs.declared.fault.OutFault.{OutFault}
@@ -25,16 +25,15 @@ use Rattle.fw_engine.specs.Engine.{flow_of, StandsFor, IsDamaged, keep_of}
 use Rattle.fw_run.proofs.ItemLaws.{comes-on, comes-next, items-run}
 use Rattle.fw_run.proofs.KnownLaws.{known_before, IsPartOf, cut_known}
 use Rattle.fw_run.proofs.PlaceLaws.{parts_at, one_more-item}
-use Rattle.fw_run.proofs.Roses.{of_same_fault}
+use Rattle.fw_run.proofs.SameFaults.{of_same_fault}
 use Rattle.fw_run.proofs.RunLaws.{text-append, printed_run, begins_more}
 use Rattle.fw_run.proofs.StandingLaws.{holds-writes, entry-in}
 use Rattle.fw_run.proofs.StoppedLaws.{stopped_begun, none_told}
 use Rattle.fw_run.proofs.TallyLaws.{tally-append}
-use Rattle.fw_run.proofs.WritingLaws.{written_nothing, written_more, taken_part, taken_nothing, taken_more, taken_until}
+use Rattle.fw_run.proofs.WritingLaws.{written_nothing, written_more, taken_part, taken_nothing, taken_more, taken_on}
 use Rattle.fw_run.specs.declared.fault.RunFault.{RunFault}
 use Rattle.fw_run.specs.declared.fault.RunFault.TheVariants as stop
 use Rattle.fw_run.specs.declared.tally.Tally.{Tally}
-use Rattle.fw_run.specs.Fault.{out_fault}
 use Rattle.fw_run.specs.Headline.{PrintsRun}
 use Rattle.fw_run.specs.Items.{ComesTo}
 use Rattle.fw_run.specs.Performing.{TrustsItem, IsItemTaken, IsItemBegun, IsItemStopped, IsLeftAfter, DoesItem, PrintsItem, IsSoFar, AreTaken, Performs}
@@ -204,8 +203,8 @@ pub stops_at : {A : Type 0} (T : Type 0) (Tells : Type 0) (sys : System) (items 
     (f : RunFault) (first middle last : SinkView) → IsWellFormedSystem sys → (Tells → IsSome before) → IsUpTo Tells sys items i old before tally first middle → i < length items
     → item ≡ get_or items i item → PrintsItem {T = A} old before item tally (Err f) new after counts middle last → Performs {T = T} Tells sys items (Err f) first last
 stops_at {A} T Tells sys items i old new before after item tally counts f first middle last w told u below e p =
-    cut_known Tells sys w items i (u.bytes ++ p.bytes) (out_fault f) first last (λ n h k. begins_more sys (take n items) u.bytes p.bytes (u.begins n h k)) part
-    (taken_more u.bytes p.bytes (out_fault f) first middle last u.written (taken_until A p.bytes f middle last p.taken))
+    cut_known T A Tells sys w items i (u.bytes ++ p.bytes) f first last (λ n h k. begins_more sys (take n items) u.bytes p.bytes (u.begins n h k)) part
+    (taken_on A u.bytes p.bytes f first middle last u.written p.taken)
   where
     part : AreKnown Tells sys (take (i + 1) items) → IsPartOf sys items (u.bytes ++ p.bytes)
     part k =
@@ -265,6 +264,7 @@ store_stops Tells sys items i old new before after item tally counts first middl
   later = drop (i + 1) items;
   parts = parts_at items i item below e;
   may_call = calls;
+  first = λ n h k. begins_more sys (take n items) u.bytes p.bytes (u.begins n (omega (arith, h, length-take-le i items (omega (arith, below)))) k);
   stops = λ k.
       let s = u.so_far k in
       let t = p.does sys s.state s.stands in
@@ -290,11 +290,11 @@ stopped_first : (sys : System) (state : Machine) (step : Step) (tally counts : T
 stopped_first sys state step tally counts bytes P Q t q = subst Q (sym t.begins.1) q
 
 damage_stops : {A : Type 0} (Tells : Type 0) (sys : System) (items : List Item) (i id : ℕ) (old new : Engine) (before after : Option Records) (given : Option (ℕ × List ℕ)) (tally counts : Tally)
-    (first middle last : SinkView) → (Tells → IsSome before) → IsUpTo Tells sys items i old before tally first middle
+    (first middle last : SinkView) → (Tells → IsSome before) → IsUpTo Tells sys items i old before tally first middle → i < length items
     → items ≡ take i items ++ One Recover ∷ drop (i + 1) items → flow_of old ≡ sys.flow
     → PrintsItem {T = A} old before (One Recover) tally (Err (stop.Engine (fault.Damaged id))) new after counts middle last → IsDamaged old id given
     → IsStoppedByDamage Tells sys items id given (λ printed. IsWritten printed first last)
-damage_stops Tells sys items i id old new before after given tally counts first middle last told u parts same p d = record {
+damage_stops Tells sys items i id old new before after given tally counts first middle last told u below parts same p d = record {
   printed = u.bytes ++ p.bytes;
   written = written_more u.bytes p.bytes first middle last u.written p.taken;
   earlier = take i items;
@@ -309,6 +309,7 @@ damage_stops Tells sys items i id old new before after given tally counts first 
   bytes = d.bytes;
   gave = d.gave;
   spells_none = subst (λ (flow : Dataflow). SpellsNone flow d.entry d.bytes) same d.spells_none;
+  first = λ n h k. begins_more sys (take n items) u.bytes p.bytes (u.begins n (omega (arith, h, length-take-le i items (omega (arith, below)))) k);
   stops = λ k.
       let s = u.so_far k in
       let t = p.does sys s.state s.stands in
@@ -324,7 +325,7 @@ pub damage_stops-at : {A B : Type 0} (Tells : Type 0) (sys : System) (items : Li
     → IsErrOf {T = B} (Err f) (stop.Engine (fault.Damaged id)) → IsStoppedByDamage Tells sys items id given (λ printed. IsWritten printed first last)
 damage_stops-at {A} {B} Tells sys items i id start old new begun before after given item tally counts f first middle last st same told u below e recovers p d is =
     let one = of_same_fault (λ g. PrintsItem {T = A} old before item tally (Err g) new after counts middle last) f (stop.Engine (fault.Damaged id)) is p in
-    damage_stops {A = A} Tells sys items i id old new before after given tally counts first middle last told u
+    damage_stops {A = A} Tells sys items i id old new before after given tally counts first middle last told u below
     (subst (λ (x : Item). items ≡ take i items ++ x ∷ drop (i + 1) items) recovers (parts_at items i item below e)) (same ∙ st.flow)
     (subst (λ (x : Item). PrintsItem {T = A} old before x tally (Err (stop.Engine (fault.Damaged id))) new after counts middle last) recovers one) d
 
@@ -385,7 +386,7 @@ pub ends_cut : (T : Type 0) (Tells : Type 0) (sys : System) (items : List Item) 
 ends_cut T Tells sys items engine records tally f first middle last w u c =
     let line = done_line tally.steps tally.idle in
     let at = taken_part line f middle last c in
-    cut_known Tells sys w items (length items) (u.bytes ++ at.one) f first last (λ n among k. begins_more sys (take n items) u.bytes at.one (u.begins n k))
+    cut_known T T Tells sys w items (length items) (u.bytes ++ at.one) (stop.Out f) first last (λ n among k. begins_more sys (take n items) u.bytes at.one (u.begins n k))
     (λ k.
     let all : take (length items + 1) items ≡ items = take_all (length items + 1) items (omega arith) in
     let s = u.so_far (subst (AreKnown Tells sys) all k) in
@@ -408,5 +409,5 @@ leaves_writes Tells sys items engine records tally first last ordered u k =
 pub stops_at_start : (T : Type 0) (Tells : Type 0) (sys : System) (items : List Item) (view : SinkView) → IsWellFormedSystem sys → Performs {T = T} Tells sys items (Err (stop.Out NoMemory)) view view
 stops_at_start T Tells sys items view w =
     let run = printed_run sys w items in
-    cut_known Tells sys w items 0 [] NoMemory view view (λ n h k. begins_with-none sys items n h)
+    cut_known T T Tells sys w items 0 [] (stop.Out NoMemory) view view (λ n h k. begins_with-none sys items n h)
     (λ k. record { whole = run.0; prints = run.1; others = run.0; parts = refl }) (taken_nothing view)

@@ -1,8 +1,8 @@
 -- What came of a run, in one line.
-use Rattle.std.proofs.Common.{◌≡◌, inl, inr, ℕ, List, [], Option, None, Ok, Err, refl, ap, arith}
+use Rattle.std.proofs.Common.{◌≡◌, ℕ, List, [], Option, None, Ok, Err, refl, ap, arith}
 use Rattle.fw_outside.specs.declared.fault.OutFault.{OutFault}
-use Rattle.fw_outside.specs.declared.fault.OutFault.TheVariants.{Failed}
-use Rattle.fw_outside.specs.Outside.{SinkView, Rose}
+use Rattle.fw_outside.specs.declared.fault.OutFault.TheVariants.{Failed, NoMemory}
+use Rattle.fw_outside.specs.Outside.{SinkView}
 use Rattle.fw_flow.specs.Dataflow.{System}
 use Rattle.fw_flow.specs.WellFormed.{IsWellFormedSystem}
 use Rattle.fw_schedule.specs.declared.item.Item.{Item}
@@ -10,11 +10,10 @@ use Rattle.fw_model.specs.Machine.{first_state}
 use Rattle.fw_keep.specs.Stored.{Records}
 use Rattle.fw_engine.specs.declared.engine.Engine.{Engine}
 use Rattle.fw_run.proofs.ItemLaws.{items-run}
-use Rattle.fw_run.proofs.WritingLaws.{takes_none}
+use Rattle.fw_run.proofs.WritingLaws.{cut_nothing, part_nothing}
 use Rattle.fw_run.specs.declared.fault.RunFault.{RunFault}
 use Rattle.fw_run.specs.declared.fault.RunFault.TheVariants as stop
 use Rattle.fw_run.specs.declared.tally.Tally.{Tally}
-use Rattle.fw_run.specs.Fault.{out_fault}
 use Rattle.fw_run.specs.Performing.{AreTaken, Performs, WritesUntil}
 use Rattle.fw_run.specs.Stopping.{IsStoppedByStore, IsStoppedByDamage}
 use Rattle.fw_run.specs.Tallies.{summary_line, tally_of, PrintsSummary}
@@ -27,12 +26,10 @@ abbrev pub nowhere : SinkView
 nowhere = record { taken = None; refusals = 0; faults = 0 }
 
 -- it never fails
-never_rose : Rose 0 0 → ⊥
-never_rose (inl less) = absurd (omega (arith, less))
-never_rose (inr most) = absurd (omega (arith, most))
-
-pub never_failed : (T : Type 0) (Tells : Type 0) (sys : System) (items : List Item) (fault : RunFault) → Performs {T = T} Tells sys items (Err fault) nowhere nowhere → out_fault fault ≡ Failed → ⊥
-never_failed T Tells sys items fault p e = never_rose (p.written.failed e)
+pub never_failed : (T : Type 0) (Tells : Type 0) (sys : System) (items : List Item) (fault : RunFault) → Performs {T = T} Tells sys items (Err fault) nowhere nowhere → fault ≡ stop.Out Failed → ⊥
+never_failed T Tells sys items (stop.Out Failed) p e = absurd (omega (arith, p.written.faults))
+never_failed T Tells sys items (stop.Out NoMemory) p e = absurd (cc)
+never_failed T Tells sys items (stop.Engine f) p e = absurd (cc)
 
 -- ---- the line
 
@@ -42,22 +39,23 @@ summary_of sys w items seeded =
     let r = items-run sys w [] [] (first_state sys) refl items in
     (summary_line seeded (tally_of r.outcomes), record { steps = r.steps; last = r.last; comes = r.comes; outcomes = r.outcomes; run = r.run; text = refl })
 
--- nothing of it was written
+-- nothing of bytes was written, if the fault is not one of the output
+until_nothing : (T : Type 0) (bytes : List ℕ) (fault : RunFault) (view : SinkView) → (fault ≡ stop.Out Failed → ⊥) → WritesUntil {T = T} bytes (Err fault) view view
+until_nothing T bytes (stop.Out Failed) view never = absurd (never refl)
+until_nothing T bytes (stop.Out NoMemory) view never = cut_nothing bytes view
+until_nothing T bytes (stop.Engine f) view never = part_nothing bytes view
+
+-- nothing of the line was
 pub summary_stopped : (T : Type 0) (Tells : Type 0) (sys : System) (items : List Item) (seeded : Seeded) (fault : RunFault) (view : SinkView) → IsWellFormedSystem sys
-    → (out_fault fault ≡ Failed → ⊥)
+    → (fault ≡ stop.Out Failed → ⊥)
     → WritesText (λ printed. AreKnown Tells sys items → PrintsSummary sys items seeded printed) (λ printed. WritesUntil {T = T} printed (Err fault) view view)
 summary_stopped T Tells sys items seeded fault view w never =
     let line = summary_of sys w items seeded in
-    record {
-      printed = line.0;
-      text = λ k. line.1;
-      written = record {
-        taken = (0, omega arith, takes_none view.taken);
-        failed = λ e. absurd (never e);
-        refused = λ e. absurd (never e);
-        never_fall = record { faults = omega arith; refusals = omega arith };
-      };
-    }
+    record { printed = line.0; text = λ k. line.1; written = until_nothing T line.0 fault view never }
+
+-- want of memory is no fault of the output
+pub memory : stop.Out NoMemory ≡ stop.Out Failed → ⊥
+memory e = absurd (cc)
 
 -- the line is theirs
 summary_told : (IsPut : List ℕ → Type 0) (Tells : Type 0) (sys : System) (items : List Item) (seeded : Seeded) (engine : Engine) (records : Option Records) (tally : Tally)
@@ -98,6 +96,7 @@ store_put Tells sys items records P Q put s = record {
   later = s.later;
   parts = s.parts;
   may_call = s.may_call;
+  first = s.first;
   stops = s.stops;
 }
 
@@ -115,5 +114,6 @@ damage_put Tells sys items id given P Q put s = record {
   bytes = s.bytes;
   gave = s.gave;
   spells_none = s.spells_none;
+  first = s.first;
   stops = s.stops;
 }

@@ -11,9 +11,9 @@ use Rattle.fw_keep.specs.Stored.{Records}
 use Rattle.fw_run.specs.declared.status.Status.{Status}
 use Rattle.fw_run.specs.declared.status.Status.TheVariants.{Done, Refused, ReadFault, WriteFault, StoreFault, Damaged, NoMemory}
 use Rattle.fw_run.specs.DenotationText.{PrintsDenotation}
-use Rattle.fw_run.specs.Enduring.{PrintsEndured, RoseBy, RoseByFaults, StaysOrRose}
+use Rattle.fw_run.specs.Enduring.{PrintsEndured, RoseBy, RoseByFaults, RoseOrFull, StaysOrRose}
 use Rattle.fw_run.specs.Listing.{check_text}
-use Rattle.fw_run.specs.Status.{IsTold, faults_told, note_line, status_number}
+use Rattle.fw_run.specs.Status.{IsTold, write_faults_told, store_faults_told, note_line, status_number}
 use Rattle.fw_generate.specs.Laws.{AreAccepted}
 use Rattle.fw_generate.specs.Texts.{Texts}
 use Rattle.fw_run.specs.Tallies.{PrintsSummary}
@@ -21,7 +21,7 @@ use Rattle.fw_run.specs.Texts.{AreThere, AreGenerated, HasTwo, AreOfSystem, IsFl
 use Rattle.fw_run.specs.Trusting.{AreKnown, PrintsKnown}
 use Rattle.fw_run.specs.Words.{Command, Manner, through_faults, manner_of, asks_folder, run, endure, generate, denote, check, command_of, words_in}
 use Rattle.fw_run.specs.Work.{IsWholeRun, IsStoreFault, IsDamageIn}
-use Rattle.fw_run.specs.Writing.{IsWritten, IsCutOff, WritesText}
+use Rattle.fw_run.specs.Writing.{IsWritten, IsPartWritten, IsCutOff, WritesText}
 
 -- what a call is given: the command that its words are, if they are one, and the folder's texts, where it tells them
 pub record Call : Type 0 where
@@ -135,6 +135,12 @@ abbrev pub PrintsPart : Type 0 → Call → ℕ → ℕ → OutFault → SinkVie
 PrintsPart Tells call count last fault before after =
     WritesText (IsPrintout Tells (λ faults others. RoseBy count last faults) call) (λ printed. IsCutOff printed fault before after)
 
+-- First bytes of what the call prints were written, and no write was refused. As often as it tells that the store failed the store's
+-- count rose, from the first number to the second.
+abbrev pub PrintsFirst : Type 0 → Call → ℕ → ℕ → SinkView → SinkView → Type 0
+PrintsFirst Tells call count last before after =
+    WritesText (IsPrintout Tells (λ faults others. RoseBy count last faults) call) (λ printed. IsPartWritten printed before after)
+
 -- the call takes the steps of accepted texts, and this is true of how it tells them, and of the system and the items that the texts
 -- spell
 pub record IsRunOf (call : Call) (IsSo : Manner → System → List Item → Type 0) : Type 0 where
@@ -162,13 +168,21 @@ abbrev pub StopsAtDamage : Type 0 → Call → ℕ → ℕ → ℕ → Option (�
 StopsAtDamage Tells call count last id given before after = IsRunOf call (IsDamageIn Tells count last id given before after)
 
 -- How often the store failed: where all went well, never; in a call that does not go on through faults, once where the status tells it,
--- and else never; in one that does, once at least where the status tells it. How often that was stands with what is printed. Whatever
--- the status, the count stays or rises by faults.
+-- and else never; in one that does, once at least where the status tells it. How often that was stands with what is printed. There the
+-- count rose, or stands at its end. Whatever the status, it stays or rises by faults.
 pub record CountsFaults (command : Option Command) (status : Status) (before after : ℕ) : Type 0 where
   pub none : status ≡ Done → after ≡ before
-  pub first : option_and_then manner_of command ≢ Some through_faults → after ≡ faults_told status before
+  pub first : option_and_then manner_of command ≢ Some through_faults → after ≡ store_faults_told status before
   pub some : status ≡ StoreFault → RoseByFaults before after
+  pub rose : status ≡ StoreFault → RoseOrFull before after
   pub rises : StaysOrRose before after
+
+-- How often the output failed: once where the status tells it, and else never. Then it refused a write once; where memory was refused,
+-- once or never; and else never.
+pub record CountsWrites (status : Status) (before after : SinkView) : Type 0 where
+  pub faults : after.faults ≡ write_faults_told status before.faults
+  pub refusals : status ≢ NoMemory → after.refusals ≡ write_faults_told status before.refusals
+  pub no_memory : status ≡ NoMemory → (after.refusals ≡ before.refusals) ⊎ (after.refusals ≡ one_more before.refusals)
 
 -- only a run changes the store, and none that was not begun
 pub record KeepsStore {K : Type 0} (command : Option Command) (status : Status) (before after : K) : Type 0 where
@@ -185,7 +199,7 @@ pub record KeepsFolder {F : Type 0} (texts : F → Option (List ℕ → Option (
   pub asked_no_more : (asked : Command) → command ≡ Some asked
       → ((status ≡ NoMemory) × (after ≡ before)) ⊎ AsksNoMore (texts before) asked (fetch_count before) (fetch_count after)
 
--- The notes took the status's line, or first bytes of it where they refused it; they are as they were where all went well.
+-- The notes took the status's line, or first bytes of it where they refused it, once; they are as they were where all went well.
 pub record TellsNotes {N : Type 0} (view : N → SinkView) (status : Status) (before after : N) : Type 0 where
   pub told : IsTold (note_line status) (view before) (view after)
   pub no_notes : status ≡ Done → after ≡ before

@@ -1,5 +1,5 @@
 -- What comes of the items of a schedule where a fault of the store does not end the run.
-use Rattle.std.specs.Prelude.{◌≡◌, ◌⊎◌, ℕ, zero, suc, ◌+◌, ◌<◌, ◌≤◌, Bool, true, false, List, [], ◌∷◌, ◌++◌, length, map, Option, Some, codes}
+use Rattle.std.specs.Prelude.{◌≡◌, ◌⊎◌, ℕ, zero, suc, ◌+◌, ◌-◌, ◌^◌, ◌<◌, ◌≤◌, Bool, true, false, List, [], ◌∷◌, ◌++◌, length, map, Option, Some, codes}
 use Rattle.std.specs.Fmt.{decimal}
 use Rattle.fw_outside.specs.Outside.{SinkView, one_more}
 use Rattle.fw_flow.specs.Counting.{how_many}
@@ -135,9 +135,13 @@ with_faults (suc times) count = one_more (with_faults times count)
 abbrev pub RoseBy : ℕ → ℕ → ℕ → Type 0
 RoseBy before after times = after ≡ with_faults times before
 
--- a count rose by faults, by one or by more
+-- a count rose by faults, by one or by more, at most to the end of its type
 abbrev pub RoseByFaults : ℕ → ℕ → Type 0
 RoseByFaults before after = (times : ℕ) × (1 ≤ times) × RoseBy before after times
+
+-- a count rose, or stood at the end of its type
+abbrev pub RoseOrFull : ℕ → ℕ → Type 0
+RoseOrFull before after = (before < after) ⊎ (2 ^ 64 - 1 ≤ before)
 
 -- a count stayed, or rose by faults
 abbrev pub StaysOrRose : ℕ → ℕ → Type 0

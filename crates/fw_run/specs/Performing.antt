@@ -3,8 +3,7 @@ use Rattle.std.specs.Prelude.{◌≡◌, ℕ, ◌+◌, ◌<◌, ◌≤◌, List,
 use Rattle.std.specs.declared.alloc.Global.{Global}
 use Rattle.std.specs.declared.vec.Vec.{Vec}
 use Rattle.fw_outside.specs.declared.fault.OutFault.{OutFault}
-use Rattle.fw_outside.specs.declared.fault.OutFault.TheVariants.{Failed}
-use Rattle.fw_outside.specs.Outside.{SinkView, Rose, Takes}
+use Rattle.fw_outside.specs.Outside.{SinkView, Takes}
 use Rattle.fw_flow.specs.declared.step.Step.{Step}
 use Rattle.fw_flow.specs.Dataflow.{System}
 use Rattle.fw_schedule.specs.declared.item.Item.{Item}
@@ -21,13 +20,12 @@ use Rattle.fw_engine.specs.Engine.{StandsFor}
 use Rattle.fw_run.specs.declared.fault.RunFault.{RunFault}
 use Rattle.fw_run.specs.declared.fault.RunFault.TheVariants as stop
 use Rattle.fw_run.specs.declared.tally.Tally.{Tally}
-use Rattle.fw_run.specs.Fault.{out_fault}
 use Rattle.fw_run.specs.Items.{ComesTo, ItemComesTo}
 use Rattle.fw_run.specs.Printed.{outcomes_text}
 use Rattle.fw_run.specs.Stopping.{ItemBegins, IsLeftIn}
 use Rattle.fw_run.specs.Tallies.{AreOfSteps, tally_of, with_tally}
 use Rattle.fw_run.specs.Trusting.{AreKnown, BeginsWith, PrintsKnown}
-use Rattle.fw_run.specs.Writing.{NeverFall, IsWritten, IsCutOff, WritesText}
+use Rattle.fw_run.specs.Writing.{faults_by, IsRefusedBy, IsWritten, IsPartWritten, IsCutOff, WritesText}
 
 -- the bytes of a line, none where there is no line
 abbrev pub shown_bytes : Option (Vec ℕ Global) → List ℕ
@@ -36,23 +34,23 @@ shown_bytes (Some line) = line.items
 
 -- ---- what the sink took
 
--- the sink took these bytes and no more; if it failed behind them, its counts of faults and of refusals rose
+-- the sink took these bytes and no more, until this fault, which its counts tell
 pub record IsCutAfter (bytes : List ℕ) (fault : OutFault) (before after : SinkView) : Type 0 where
   pub taken : Takes before.taken bytes after.taken
-  pub failed : fault ≡ Failed → Rose before.faults after.faults
-  pub refused : fault ≡ Failed → Rose before.refusals after.refusals
-  pub never_fall : NeverFall before after
+  pub faults : after.faults ≡ faults_by fault before.faults
+  pub refusals : IsRefusedBy fault before.refusals after.refusals
 
--- what an answer says of the bytes: they were written, and then the output failed, if that is the fault
+-- what an answer says of the bytes: they were written, and then the output failed or memory was refused, if that is the fault
 abbrev pub IsTaken : {T : Type 0} → List ℕ → Result T RunFault → SinkView → SinkView → Type 0
 IsTaken bytes (Ok value) before after = IsWritten bytes before after
 IsTaken bytes (Err (stop.Out fault)) before after = IsCutAfter bytes fault before after
 IsTaken bytes (Err (stop.Engine fault)) before after = IsWritten bytes before after
 
--- all of the bytes were written, or they were cut off by the fault, as the output knows it
+-- all of the bytes were written, or they were cut off by the fault; or first bytes were, before a fault that is not the output's
 abbrev pub WritesUntil : {T : Type 0} → List ℕ → Result T RunFault → SinkView → SinkView → Type 0
 WritesUntil bytes (Ok value) before after = IsWritten bytes before after
-WritesUntil bytes (Err fault) before after = IsCutOff bytes (out_fault fault) before after
+WritesUntil bytes (Err (stop.Out fault)) before after = IsCutOff bytes fault before after
+WritesUntil bytes (Err (stop.Engine fault)) before after = IsPartWritten bytes before after
 
 -- ---- an item
 

@@ -1,5 +1,6 @@
 -- What is read before a run begins.
-use Rattle.std.specs.Prelude.{◌≡◌, ℕ, ◌<◌, ◌≤◌, List, length, Option}
+use Rattle.std.specs.Prelude.{◌≡◌, ℕ, ◌<◌, ◌≤◌, List, length, Option, Result, Ok, Err}
+use Rattle.fw_outside.specs.Outside.{one_more}
 use Rattle.fw_lines.specs.declared.fault.ReadFault.{ReadFault}
 use Rattle.fw_lines.specs.declared.fault.ReadFault.TheVariants as lines
 use Rattle.fw_lines.specs.declared.refusal.Code.{Code}
@@ -24,6 +25,13 @@ abbrev pub IfRefused : (Refusal → Type 0) → JobFault → Type 0
 IfRefused P Failed = Unit {0}
 IfRefused P (Refused refusal) = P refusal
 IfRefused P NoMemory = Unit {0}
+
+-- how often a folder has failed after an answer of this kind: once more where it failed, and else as often as before
+abbrev pub read_faults_after : {T : Type 0} → Result T JobFault → ℕ → ℕ
+read_faults_after (Ok value) count = count
+read_faults_after (Err Failed) count = one_more count
+read_faults_after (Err (Refused refusal)) count = count
+read_faults_after (Err NoMemory) count = count
 
 -- the fault of a text as the fault of a job
 abbrev pub job_fault : ReadFault → JobFault

@@ -1,13 +1,14 @@
 -- The status of a command, and the line that stands for it.
 use Rattle.std.specs.Prelude.{◌≡◌, ◌⊎◌, ℕ, List, [], ◌∷◌, ◌++◌, codes}
 use Rattle.std.specs.Fmt.{decimal}
-use Rattle.fw_outside.specs.Outside.{SinkView, one_more, Rose, Takes, TakesPrefix}
+use Rattle.fw_outside.specs.Outside.{SinkView, one_more, TakesPrefix}
 use Rattle.fw_lines.specs.declared.refusal.Code.{Code}
 use Rattle.fw_lines.specs.declared.refusal.Code.TheVariants.{F1, F2, F3, F4, F5, F6, F7, F8, F9, F10, F11, F12, I1, I2, I3, I4, I5, S1, S2, S3, S4}
 use Rattle.fw_lines.specs.declared.refusal.Refusal.{Refusal}
 use Rattle.fw_lines.specs.Refusal.{refusal_text}
 use Rattle.fw_run.specs.declared.status.Status.{Status}
 use Rattle.fw_run.specs.declared.status.Status.TheVariants.{Done, BadWords, Refused, ReadFault, WriteFault, StoreFault, Damaged, NoMemory}
+use Rattle.fw_run.specs.Writing.{IsWritten}
 
 -- 3 for a flow that is refused, 4 for inputs, 5 for a schedule
 abbrev pub refusal_number : Code → ℕ
@@ -44,10 +45,20 @@ status_number StoreFault = 8
 status_number (Damaged id) = 9
 status_number NoMemory = 10
 
--- how often a store has failed that fails once where the status tells it, and else never
-abbrev pub faults_told : Status → ℕ → ℕ
-faults_told StoreFault count = one_more count
-faults_told status count = count
+-- how often a folder has failed that fails once where the status tells it, and else never
+abbrev pub read_faults_told : Status → ℕ → ℕ
+read_faults_told ReadFault count = one_more count
+read_faults_told status count = count
+
+-- the same of the output
+abbrev pub write_faults_told : Status → ℕ → ℕ
+write_faults_told WriteFault count = one_more count
+write_faults_told status count = count
+
+-- the same of the store
+abbrev pub store_faults_told : Status → ℕ → ℕ
+store_faults_told StoreFault count = one_more count
+store_faults_told status count = count
 
 -- the line on the notes, ended by a line feed; none where all went well
 abbrev pub note_line : Status → List ℕ
@@ -60,11 +71,12 @@ note_line StoreFault = codes "store fault\n"
 note_line (Damaged id) = codes "damaged record " ++ decimal id ++ codes "\n"
 note_line NoMemory = codes "no memory\n"
 
--- a sink has taken the whole line, and its count of refusals stayed; or first bytes of it, and that count rose or stands at its end
+-- The line was written, or cut off by one refusal: the sink took first bytes of it, refused once more, and failed once more too or
+-- refused for want of memory.
 abbrev pub IsTold : List ℕ → SinkView → SinkView → Type 0
-IsTold line before after =
-    (Takes before.taken line after.taken × (after.refusals ≡ before.refusals))
-    ⊎ (TakesPrefix before.taken line after.taken × Rose before.refusals after.refusals)
+IsTold line before after = IsWritten line before after
+    ⊎ (TakesPrefix before.taken line after.taken × (after.refusals ≡ one_more before.refusals)
+    × ((after.faults ≡ one_more before.faults) ⊎ (after.faults ≡ before.faults)))
 
 -- the numbers that a status may have
 abbrev pub status_numbers : List ℕ

@@ -1,5 +1,5 @@
 -- What a run leaves in its store, and where a store may stop it.
-use Rattle.std.specs.Prelude.{◌≡◌, ℕ, ◌<◌, List, [], ◌∷◌, ◌++◌, length, Option, Some}
+use Rattle.std.specs.Prelude.{◌≡◌, ℕ, ◌<◌, ◌≤◌, List, [], ◌∷◌, ◌++◌, length, take, Option, Some}
 use Rattle.std.specs.List.{Contains}
 use Rattle.fw_flow.specs.declared.step.Step.{Step}
 use Rattle.fw_flow.specs.declared.step.Step.TheVariants.{Recover}
@@ -16,7 +16,7 @@ use Rattle.fw_stands.specs.Written.{IsEntryOf, AreEntriesOf, AreStored, uncollec
 use Rattle.fw_running.specs.Steps.{FirstMayCall, MayCallStore, IsLeftBy}
 use Rattle.fw_run.specs.Items.{ComesTo}
 use Rattle.fw_run.specs.Printed.{outcomes_text}
-use Rattle.fw_run.specs.Trusting.{AreKnown}
+use Rattle.fw_run.specs.Trusting.{AreKnown, BeginsWith}
 
 -- ---- what a store holds
 
@@ -65,8 +65,9 @@ abbrev pub IsLeftIn : System → Machine → Item → (Machine → Type 0) → T
 IsLeftIn sys state (One step) P = IsLeftBy sys state step P
 IsLeftIn sys state (Auto most) P = FirstMayCall sys state × P state
 
--- The run was stopped by its store in this one of the items: in a step that may call it. Of the lines of the steps before this is
--- true, and the store holds the writes of what this step leaves.
+-- The run was stopped by its store in this one of the items: in a step that may call it. If it is known what comes of the items before,
+-- these are the lines of the steps before, and the store holds the writes of what this step leaves; if that is known of first items
+-- alone, their lines come first. Of these lines this is true.
 pub record IsStoppedByStore (Tells : Type 0) (sys : System) (items : List Item) (records : Option Records) (IsPut : List ℕ → Type 0) : Type 0 where
   pub printed : List ℕ
   pub written : IsPut printed
@@ -75,6 +76,7 @@ pub record IsStoppedByStore (Tells : Type 0) (sys : System) (items : List Item) 
   pub later : List Item
   pub parts : items ≡ earlier ++ item ∷ later
   pub may_call : MayCallIn sys.flow item
+  pub first : (count : ℕ) → count ≤ length earlier → AreKnown Tells sys (take count items) → BeginsWith sys (take count items) printed
   pub stops : AreKnown Tells sys earlier
       → StopsIn sys earlier item printed (λ state. IsLeftIn sys state item (HoldsWrites sys records))
 
@@ -82,8 +84,9 @@ pub record IsStoppedByStore (Tells : Type 0) (sys : System) (items : List Item) 
 abbrev pub IsEntryIn : System → Entry → Machine → Type 0
 IsEntryIn sys entry state = (write : Write) × Contains (uncollected state) write × IsEntryOf sys state entry write
 
--- The run was stopped by a damaged record in this recovery among the items: the store, which does not tell its records, gave under
--- the id of a write bytes that spell no record of it. Of the lines of the steps before this is true.
+-- The run was stopped by a damaged record in this recovery among the items: the store, which does not tell its records, gave under the id
+-- of an entry bytes that spell no record of it. If it is known what comes of the items before, the entry is that of a write, and these
+-- are the lines of the steps before; if that is known of first items alone, their lines come first. Of these lines this is true.
 pub record IsStoppedByDamage (Tells : Type 0) (sys : System) (items : List Item) (id : ℕ) (given : Option (ℕ × List ℕ)) (IsPut : List ℕ → Type 0)
     : Type 0 where
   pub printed : List ℕ
@@ -97,4 +100,5 @@ pub record IsStoppedByDamage (Tells : Type 0) (sys : System) (items : List Item)
   pub bytes : List ℕ
   pub gave : given ≡ Some (id, bytes)
   pub spells_none : SpellsNone sys.flow entry bytes
+  pub first : (count : ℕ) → count ≤ length earlier → AreKnown Tells sys (take count items) → BeginsWith sys (take count items) printed
   pub stops : AreKnown Tells sys earlier → StopsIn sys earlier (One Recover) printed (IsEntryIn sys entry)

@@ -1,27 +1,42 @@
 -- What was written to a sink.
-use Rattle.std.specs.Prelude.{◌≡◌, ℕ, ◌≤◌, List, Result, Ok, Err}
+use Rattle.std.specs.Prelude.{◌≡◌, ◌⊎◌, ℕ, ◌≤◌, List, Result, Ok, Err}
 use Rattle.fw_outside.specs.declared.fault.OutFault.{OutFault}
-use Rattle.fw_outside.specs.declared.fault.OutFault.TheVariants.{Failed}
-use Rattle.fw_outside.specs.Outside.{SinkView, Rose, Takes, TakesPrefix}
+use Rattle.fw_outside.specs.declared.fault.OutFault.TheVariants.{Failed, NoMemory}
+use Rattle.fw_outside.specs.Outside.{SinkView, Takes, TakesPrefix, one_more}
 
 -- neither the sink's count of faults nor that of refusals fell
 pub record NeverFall (before after : SinkView) : Type 0 where
   pub faults : before.faults ≤ after.faults
   pub refusals : before.refusals ≤ after.refusals
 
+-- how often a sink has failed after what this fault ended: once more where the fault is its own, and else as often as before
+abbrev pub faults_by : OutFault → ℕ → ℕ
+faults_by Failed count = one_more count
+faults_by NoMemory count = count
+
+-- how often it has refused a write then: once more where it failed; where memory was refused once more, or, if it was not asked, as
+-- often as before
+abbrev pub IsRefusedBy : OutFault → ℕ → ℕ → Type 0
+IsRefusedBy Failed before after = after ≡ one_more before
+IsRefusedBy NoMemory before after = (after ≡ before) ⊎ (after ≡ one_more before)
+
 -- the sink took all of these bytes, and refused no write
 pub record IsWritten (bytes : List ℕ) (before after : SinkView) : Type 0 where
   pub taken : Takes before.taken bytes after.taken
   pub none_refused : after.refusals ≡ before.refusals
-  pub never_falls : before.faults ≤ after.faults
+  pub none_failed : after.faults ≡ before.faults
 
--- the sink took first of these bytes, none of them or all perhaps; if that is because it failed, its counts of faults and of
--- refusals rose
+-- the sink took first of these bytes, none of them or all perhaps, and refused no write
+pub record IsPartWritten (bytes : List ℕ) (before after : SinkView) : Type 0 where
+  pub taken : TakesPrefix before.taken bytes after.taken
+  pub none_refused : after.refusals ≡ before.refusals
+  pub none_failed : after.faults ≡ before.faults
+
+-- the sink took first of these bytes, none of them or all perhaps, until this fault, which its counts tell
 pub record IsCutOff (bytes : List ℕ) (fault : OutFault) (before after : SinkView) : Type 0 where
   pub taken : TakesPrefix before.taken bytes after.taken
-  pub failed : fault ≡ Failed → Rose before.faults after.faults
-  pub refused : fault ≡ Failed → Rose before.refusals after.refusals
-  pub never_fall : NeverFall before after
+  pub faults : after.faults ≡ faults_by fault before.faults
+  pub refusals : IsRefusedBy fault before.refusals after.refusals
 
 -- what an answer says of the bytes: they were written, or cut off by a fault
 abbrev pub Writes : {T : Type 0} → List ℕ → Result T OutFault → SinkView → SinkView → Type 0

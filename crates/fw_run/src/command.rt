@@ -4,11 +4,10 @@ ghost use Rattle.fw_lines.specs.declared.refusal.Refusal as lines;
 ghost use Rattle.fw_flow.specs.Dataflow.{Dataflow};
 ghost use Rattle.fw_schedule.specs.declared.item.Item.{Item};
 ghost use Rattle.fw_outside.specs.declared.fault.OutFault.TheVariants as OutFault;
-ghost use Rattle.fw_outside.specs.Outside.{Rose};
 ghost use Rattle.fw_keep.specs.Stored.{IsEmptyStore};
-ghost use Rattle.fw_run.specs.Call.{call_of, CountsFaults, PrintsAll, PrintsPart, LeavesStore, StopsAtStore, StopsAtDamage, HasRefused, KeepsFolder, KeepsStore, TellsNotes, AnswersTexts};
+ghost use Rattle.fw_run.specs.Call.{call_of, CountsFaults, CountsWrites, PrintsAll, PrintsPart, PrintsFirst, LeavesStore, StopsAtStore, StopsAtDamage, HasRefused, KeepsFolder, KeepsStore, TellsNotes, AnswersTexts};
 ghost use Rattle.fw_run.specs.Headline.{Headline};
-ghost use Rattle.fw_run.specs.Status.{status_number, IsTold, IsTellingOf};
+ghost use Rattle.fw_run.specs.Status.{read_faults_told, status_number, IsTold, IsTellingOf};
 ghost use Rattle.fw_generate.specs.Laws.{AreAccepted};
 ghost use Rattle.fw_generate.specs.Texts.{Texts};
 ghost use Rattle.fw_run.specs.Texts.{spelled_system, spelled_items};
@@ -51,8 +50,8 @@ pub fn falkirk<F: Folder, K: Store, O: Sink, N: Sink>(
     // 3 to 5: the first of the texts that is not accepted breaks this rule first, on this line.
     ensures refused { (refusal : lines.Refusal) → result ≡ Status.Refused refusal
         → HasRefused (call_of words.now (F.texts folder.old)) refusal }
-    // 6: the folder failed.
-    ensures read_fault { result ≡ Status.ReadFault → Rose (F.fault_count folder.old) (F.fault_count folder.new) }
+    // 6: the folder failed. Its count of faults is one more there, and at no other status.
+    ensures read_fault { F.fault_count folder.new ≡ read_faults_told result (F.fault_count folder.old) }
     // 7: the output failed, and first bytes of what is printed were written.
     ensures write_fault { result ≡ Status.WriteFault
         → PrintsPart (IsSome (K.records store.old)) (call_of words.now (F.texts folder.old)) (K.fault_count store.old) (K.fault_count store.new)
@@ -70,22 +69,27 @@ pub fn falkirk<F: Folder, K: Store, O: Sink, N: Sink>(
     ensures damaged { (id : ℕ) → result ≡ Status.Damaged id
         → StopsAtDamage (IsSome (K.records store.old)) (call_of words.now (F.texts folder.old)) (K.fault_count store.old) (K.fault_count store.new) id
         (K.given store.new) (O.view out.old) (O.view out.new) }
+    // 8 and 9, whatever the store tells: first bytes of what is printed were written, and no write was refused.
+    ensures store_part { 8 ≤ status_number result → status_number result ≤ 9
+        → PrintsFirst (IsSome (K.records store.old)) (call_of words.now (F.texts folder.old)) (K.fault_count store.old) (K.fault_count store.new)
+        (O.view out.old) (O.view out.new) }
     // 10: at any time; nothing was written, or first bytes.
     ensures no_memory { result ≡ Status.NoMemory → (out.new ≡ out.old)
         ⊎ PrintsPart (IsSome (K.records store.old)) (call_of words.now (F.texts folder.old)) (K.fault_count store.old) (K.fault_count store.new)
         OutFault.NoMemory (O.view out.old) (O.view out.new) }
 
     // At 2 to 6 nothing was written, nor at 8 and 9 by a command that tells a run in one line. Whatever the status: what was asked
-    // of the folder, what the notes took, that only a run changes the store, how often the store failed, and that no other count of
-    // faults, nor one of refusals, falls.
+    // of the folder, what the notes took, that only a run changes the store, how often the store and the output failed, and that no
+    // count of faults, nor one of refusals, falls.
     ensures nothing_out { 2 ≤ status_number result → status_number result ≤ 6 → out.new ≡ out.old }
     ensures nothing_told { IsInOneLine (command_of (words_in words.now)) → 8 ≤ status_number result → status_number result ≤ 9 → out.new ≡ out.old }
     ensures folder { KeepsFolder F.texts F.fetch_count (command_of (words_in words.now)) result folder.old folder.new }
     ensures store { KeepsStore (command_of (words_in words.now)) result store.old store.new }
     ensures store_count { CountsFaults (command_of (words_in words.now)) result (K.fault_count store.old) (K.fault_count store.new) }
+    ensures out_count { CountsWrites result (O.view out.old) (O.view out.new) }
     ensures notes { TellsNotes N.view result notes.old notes.new }
-    ensures never_fall { (F.fault_count folder.old ≤ F.fault_count folder.new) × NeverFall (O.view out.old) (O.view out.new)
-        × NeverFall (N.view notes.old) (N.view notes.new) }
+    ensures never_fall { (F.fault_count folder.old ≤ F.fault_count folder.new) × (K.fault_count store.old ≤ K.fault_count store.new)
+        × NeverFall (O.view out.old) (O.view out.new) × NeverFall (N.view notes.old) (N.view notes.new) }
 
     // Which texts are refused and of which all is printed; and what the machine does with accepted texts of a run.
     ensures answer { AnswersTexts (IsSome (K.records store.old)) (call_of words.now (F.texts folder.old)) result }
@@ -99,7 +103,6 @@ pub fn falkirk<F: Folder, K: Store, O: Sink, N: Sink>(
 fn tell<N: Sink>(alloc: Global, status: Status, notes: &mut N) -> Status
     ensures status { IsTellingOf status result }
     ensures notes { TellsNotes N.view result notes.old notes.new }
-    ensures never_fall { NeverFall (N.view notes.old) (N.view notes.new) }
 {
     match status {
         Status::Done => {}
@@ -129,7 +132,6 @@ fn tell<N: Sink>(alloc: Global, status: Status, notes: &mut N) -> Status
 // Writes a line; a refused write changes nothing else.
 fn note<N: Sink>(notes: &mut N, line: &[u8])
     ensures told { IsTold line.now (N.view notes.old) (N.view notes.new) }
-    ensures never_fall { NeverFall (N.view notes.old) (N.view notes.new) }
 {
     let _ = notes.write(line);
 }

@@ -1,6 +1,6 @@
 //! The three texts are fetched and read, each before the next one is fetched.
 ghost use Rattle.std.specs.Prelude.{◌≡◌, ◌^◌, ◌<◌, ◌≤◌, IfOk, IfErr, IsErr, IsErrOf};
-ghost use Rattle.fw_outside.specs.Outside.{Rose, IsText, one_more};
+ghost use Rattle.fw_outside.specs.Outside.{IsText, one_more};
 ghost use Rattle.fw_lines.specs.Inputs as inputs;
 ghost use Rattle.fw_flow.specs.Dataflow.{system_of};
 ghost use Rattle.fw_flow.specs.Sources.{sources_of};
@@ -8,7 +8,7 @@ ghost use Rattle.fw_flow.specs.WellFormed.{IsWellFormedSystem};
 ghost use Rattle.fw_schedule.specs.Grammar as schedules;
 ghost use Rattle.fw_schedule.specs.Schedule.{step_count, step_limit};
 ghost use Rattle.fw_generate.specs.Laws.{size_limit};
-ghost use Rattle.fw_run.specs.Reading.{IfRefused, IsTooLarge, IsJob, IsGenerated, IsFed, IsReady};
+ghost use Rattle.fw_run.specs.Reading.{IfRefused, IsTooLarge, IsJob, IsGenerated, IsFed, IsReady, read_faults_after};
 ghost use Rattle.fw_run.specs.Words.{seeded_in, text_names_in, system_names_in};
 ghost use Rattle.fw_run.specs.Texts.{HasText, HasFlow, IsFlowRefused, AreInputsRefused, IsScheduleRefused, IsFirstRefusal, IsFirstOfTwoRefused, IsAskedTwice, IsAskedNoMore};
 
@@ -80,8 +80,7 @@ pub(crate) fn read_job<F: Folder>(
     ensures job { IfOk result (IsJob (F.texts folder.old) (text_names_in words.now)) }
     ensures ready { IfOk result (λ job. IsReady (system_of job.flow job.batches) job.items) }
     ensures refused { IfErr result (IfRefused (IsFirstRefusal (F.texts folder.old) (text_names_in words.now))) }
-    ensures failed { IsErrOf result JobFault.Failed → Rose (F.fault_count folder.old) (F.fault_count folder.new) }
-    ensures never_falls { F.fault_count folder.old ≤ F.fault_count folder.new }
+    ensures faults { F.fault_count folder.new ≡ read_faults_after result (F.fault_count folder.old) }
     ensures asked_no_more { IsAskedNoMore (F.texts folder.old) (text_names_in words.now) (F.fetch_count folder.old) (F.fetch_count folder.new) }
     ensures texts_stay { F.texts folder.new ≡ F.texts folder.old }
 {
@@ -104,8 +103,7 @@ pub(crate) fn read_fed<F: Folder>(
     ensures fed { IfOk result (IsFed (F.texts folder.old) (system_names_in names.now)) }
     ensures well_formed { IfOk result (λ fed. IsWellFormedSystem (system_of fed.flow fed.batches)) }
     ensures refused { IfErr result (IfRefused (IsFirstOfTwoRefused (F.texts folder.old) (system_names_in names.now))) }
-    ensures failed { IsErrOf result JobFault.Failed → Rose (F.fault_count folder.old) (F.fault_count folder.new) }
-    ensures never_falls { F.fault_count folder.old ≤ F.fault_count folder.new }
+    ensures faults { F.fault_count folder.new ≡ read_faults_after result (F.fault_count folder.old) }
     ensures asked_no_more { IsAskedTwice (F.texts folder.old) (system_names_in names.now).flow (F.fetch_count folder.old) (F.fetch_count folder.new) }
     ensures texts_stay { F.texts folder.new ≡ F.texts folder.old }
 {
@@ -141,8 +139,7 @@ pub(crate) fn fetch_flow<F: Folder>(
 ) -> Result<Flow, JobFault>
     ensures flow { IfOk result (HasFlow (F.texts folder.old) name.now) }
     ensures refused { IfErr result (IfRefused (IsFlowRefused (F.texts folder.old) name.now)) }
-    ensures failed { IsErrOf result JobFault.Failed → Rose (F.fault_count folder.old) (F.fault_count folder.new) }
-    ensures never_falls { F.fault_count folder.old ≤ F.fault_count folder.new }
+    ensures faults { F.fault_count folder.new ≡ read_faults_after result (F.fault_count folder.old) }
     ensures counted { F.fetch_count folder.new ≡ one_more (F.fetch_count folder.old) }
     ensures texts_stay { F.texts folder.new ≡ F.texts folder.old }
 {
@@ -161,8 +158,7 @@ fn fetch_inputs<F: Folder>(
         (λ text. inputs.IsAccepted text (sources_of flow.now) batches)) }
     ensures well_formed { IfOk result (λ batches. IsWellFormedSystem (system_of flow.now batches)) }
     ensures refused { IfErr result (IfRefused (AreInputsRefused (F.texts folder.old) name.now flow.now)) }
-    ensures failed { IsErrOf result JobFault.Failed → Rose (F.fault_count folder.old) (F.fault_count folder.new) }
-    ensures never_falls { F.fault_count folder.old ≤ F.fault_count folder.new }
+    ensures faults { F.fault_count folder.new ≡ read_faults_after result (F.fault_count folder.old) }
     ensures counted { F.fetch_count folder.new ≡ one_more (F.fetch_count folder.old) }
     ensures texts_stay { F.texts folder.new ≡ F.texts folder.old }
 {
@@ -184,8 +180,7 @@ fn fetch_schedule<F: Folder>(
         (λ text. schedules.IsAccepted text flow.now items)) }
     ensures few { IfOk result (λ items. step_count items ≤ step_limit) }
     ensures refused { IfErr result (IfRefused (IsScheduleRefused (F.texts folder.old) name.now flow.now)) }
-    ensures failed { IsErrOf result JobFault.Failed → Rose (F.fault_count folder.old) (F.fault_count folder.new) }
-    ensures never_falls { F.fault_count folder.old ≤ F.fault_count folder.new }
+    ensures faults { F.fault_count folder.new ≡ read_faults_after result (F.fault_count folder.old) }
     ensures counted { F.fetch_count folder.new ≡ one_more (F.fetch_count folder.old) }
     ensures texts_stay { F.texts folder.new ≡ F.texts folder.old }
 {
@@ -204,8 +199,7 @@ fn fetch<F: Folder>(
     requires { limit < 2 ^ 32 }
     ensures text { IfOk result (λ text. IsText (F.texts folder.old) name.now text.items) }
     ensures refused { IfErr result (IfRefused (IsTooLarge (F.texts folder.old) name.now limit too_large)) }
-    ensures failed { IsErrOf result JobFault.Failed → Rose (F.fault_count folder.old) (F.fault_count folder.new) }
-    ensures never_falls { F.fault_count folder.old ≤ F.fault_count folder.new }
+    ensures faults { F.fault_count folder.new ≡ read_faults_after result (F.fault_count folder.old) }
     ensures counted { F.fetch_count folder.new ≡ one_more (F.fetch_count folder.old) }
     ensures texts_stay { F.texts folder.new ≡ F.texts folder.old }
 {

@@ -2,12 +2,10 @@
 ghost use Rattle.std.specs.Prelude.{◌≡◌, ◌⊎◌, ◌≤◌, ◌↔◌, ℕ, None, IsSome};
 ghost use Rattle.fw_lines.specs.declared.refusal.Refusal as lines;
 ghost use Rattle.fw_outside.specs.declared.fault.OutFault.TheVariants as OutFault;
-ghost use Rattle.fw_outside.specs.Outside.{Rose};
 ghost use Rattle.fw_keep.specs.Stored.{IsEmptyStore};
-ghost use Rattle.fw_run.specs.Call.{call_of, CountsFaults, PrintsAll, PrintsPart, LeavesStore, StopsAtStore, StopsAtDamage, HasRefused, KeepsFolder, KeepsStore};
-ghost use Rattle.fw_run.specs.Status.{status_number};
+ghost use Rattle.fw_run.specs.Call.{call_of, CountsFaults, CountsWrites, PrintsAll, PrintsPart, PrintsFirst, LeavesStore, StopsAtStore, StopsAtDamage, HasRefused, KeepsFolder, KeepsStore};
+ghost use Rattle.fw_run.specs.Status.{read_faults_told, status_number};
 ghost use Rattle.fw_run.specs.Words.{IsInOneLine, words_in, command_of};
-ghost use Rattle.fw_run.specs.Writing.{NeverFall};
 
 use crate::Status;
 use crate::fault::status_of;
@@ -33,7 +31,7 @@ pub(crate) fn run<F: Folder, K: Store, O: Sink>(
     ensures bad_words { (result ≡ Status.BadWords) ↔ (command_of (words_in words.now) ≡ None) }
     ensures refused { (refusal : lines.Refusal) → result ≡ Status.Refused refusal
         → HasRefused (call_of words.now (F.texts folder.old)) refusal }
-    ensures read_fault { result ≡ Status.ReadFault → Rose (F.fault_count folder.old) (F.fault_count folder.new) }
+    ensures read_fault { F.fault_count folder.new ≡ read_faults_told result (F.fault_count folder.old) }
     ensures write_fault { result ≡ Status.WriteFault
         → PrintsPart (IsSome (K.records store.old)) (call_of words.now (F.texts folder.old)) (K.fault_count store.old) (K.fault_count store.new)
         OutFault.Failed (O.view out.old) (O.view out.new) }
@@ -43,19 +41,18 @@ pub(crate) fn run<F: Folder, K: Store, O: Sink>(
     ensures damaged { (id : ℕ) → result ≡ Status.Damaged id
         → StopsAtDamage (IsSome (K.records store.old)) (call_of words.now (F.texts folder.old)) (K.fault_count store.old) (K.fault_count store.new) id
         (K.given store.new) (O.view out.old) (O.view out.new) }
-    ensures damaged_part { (id : ℕ) → result ≡ Status.Damaged id
-        → PrintsPart (IsSome (K.records store.old)) (call_of words.now (F.texts folder.old)) (K.fault_count store.old) (K.fault_count store.new)
-        OutFault.NoMemory (O.view out.old) (O.view out.new) }
+    ensures store_part { 8 ≤ status_number result → status_number result ≤ 9
+        → PrintsFirst (IsSome (K.records store.old)) (call_of words.now (F.texts folder.old)) (K.fault_count store.old) (K.fault_count store.new)
+        (O.view out.old) (O.view out.new) }
     ensures no_memory { result ≡ Status.NoMemory → (out.new ≡ out.old)
         ⊎ PrintsPart (IsSome (K.records store.old)) (call_of words.now (F.texts folder.old)) (K.fault_count store.old) (K.fault_count store.new)
         OutFault.NoMemory (O.view out.old) (O.view out.new) }
     ensures nothing_out { status_number result ≤ 6 → (result ≡ Status.Done) ⊎ (out.new ≡ out.old) }
     ensures nothing_told { IsInOneLine (command_of (words_in words.now)) → 8 ≤ status_number result → status_number result ≤ 9 → out.new ≡ out.old }
     ensures folder { KeepsFolder F.texts F.fetch_count (command_of (words_in words.now)) result folder.old folder.new }
-    ensures folder_count { F.fault_count folder.old ≤ F.fault_count folder.new }
     ensures store { KeepsStore (command_of (words_in words.now)) result store.old store.new }
     ensures store_count { CountsFaults (command_of (words_in words.now)) result (K.fault_count store.old) (K.fault_count store.new) }
-    ensures out_counts { NeverFall (O.view out.old) (O.view out.new) }
+    ensures out_count { CountsWrites result (O.view out.old) (O.view out.new) }
 {
     let command = match parse(alloc, words) {
         Ok(Some(command)) => command,

@@ -1,11 +1,10 @@
 //! What a command does with its texts: they are read, and then it is printed what they ask for.
-ghost use Rattle.std.specs.Prelude.{◌≡◌, ◌≤◌, ℕ, false, [], IfOk, IfErr, IsErrOf, IsSome, OnOk, OnErr};
-ghost use Rattle.fw_outside.specs.Outside.{Rose};
+ghost use Rattle.std.specs.Prelude.{◌≡◌, ℕ, false, [], IfOk, IfErr, IsErrOf, IsSome, OnOk, OnErr};
 ghost use Rattle.fw_keep.specs.Stored.{IsEmptyStore};
 ghost use Rattle.fw_running.specs.declared.fault.EngineFault.{EngineFault as Fault};
 ghost use Rattle.fw_running.specs.declared.fault.EngineFault.TheVariants as EngineFault;
 ghost use Rattle.fw_run.specs.Call.{Refuses, AsksNoMore};
-ghost use Rattle.fw_run.specs.Reading.{IfRefused};
+ghost use Rattle.fw_run.specs.Reading.{IfRefused, read_faults_after};
 ghost use Rattle.fw_run.specs.Enduring.{RoseBy, RoseByFaults, StaysOrRose};
 ghost use Rattle.fw_run.specs.Words.{IsOfSize, asks_folder, command_in};
 ghost use Rattle.fw_run.specs.Work.{IsWork, IsReadyWork, EndsAtFault, IsRun, IfRun, IsWholeRun, IsStoreFault, IsDamageIn, StaysUnlessRun, StaysIfInOneLine, PrintsWork};
@@ -47,8 +46,7 @@ pub(crate) fn read_work<F: Folder>(
     ensures work { IfOk result (IsWork (F.texts folder.old) (command_in command.now)) }
     ensures ready { IfOk result IsReadyWork }
     ensures refused { IfErr result (IfRefused (Refuses (F.texts folder.old) (command_in command.now))) }
-    ensures failed { IsErrOf result JobFault.Failed → Rose (F.fault_count folder.old) (F.fault_count folder.new) }
-    ensures never_falls { F.fault_count folder.old ≤ F.fault_count folder.new }
+    ensures faults { F.fault_count folder.new ≡ read_faults_after result (F.fault_count folder.old) }
     ensures asked_no_more { AsksNoMore (F.texts folder.old) (command_in command.now) (F.fetch_count folder.old) (F.fetch_count folder.new) }
     ensures texts_stay { F.texts folder.new ≡ F.texts folder.old }
     ensures stays { asks_folder (command_in command.now) ≡ false → folder.new ≡ folder.old }

@@ -1,4 +1,6 @@
-use Rattle.fw_run.proofs.CallLaws.{told_done, told_write_fault, told_store_fault, told_no_memory, told_refused, told_damaged, texts-answered, folder_told, store_told, counts_told, nothing_told_on, accepted_of-run, untold_of-damage}
+use Rattle.fw_run.proofs.CallLaws.{told_done, told_write_fault, told_store_fault, told_no_memory, told_refused, told_damaged, told_store_part, part_of-first, texts-answered, folder_told, store_told, counts_told, nothing_told_on, accepted_of-run, untold_of-damage}
+use Rattle.fw_run.proofs.CountLaws.{read_told, writes_told, never_falls-read, never_fall-out, never_fall-notes}
+use Rattle.fw_run.proofs.FaultCounts.{never_falls-store}
 use Rattle.fw_run.proofs.HeadlineLaws.{texts-headline}
 use Rattle.fw_run.specs.Call.{call_of}
 use Rattle.std.specs.Prelude.{IsSome}
@@ -19,8 +21,11 @@ returns-clause-store_fault g c e = c.run-status.ensures.store_fault (told_store_
 
 pub returns-clause-no_memory : goal.returns-clause-no_memory
 returns-clause-no_memory g c e =
-    told_no_memory _ c.run-status.result c.tell.result c.args.out.now c.run-status.new.out c.tell.ensures.status e
-    c.run-status.ensures.no_memory c.run-status.ensures.nothing_out c.run-status.ensures.damaged_part
+    let count = g.K.Store.fault_count in
+    let view = g.O.Sink.view in
+    told_no_memory _ c.run-status.result c.tell.result c.args.out.now c.run-status.new.out c.tell.ensures.status e c.run-status.ensures.no_memory c.run-status.ensures.nothing_out
+    (λ least most. part_of-first (IsSome (g.K.Store.records c.args.store.now)) (call_of c.args.words.now (g.F.Folder.texts c.args.folder.now)) (count c.args.store.now) (count c.run-status.new.store)
+    (view c.args.out.now) (view c.run-status.new.out) (c.run-status.ensures.store_part least most))
 
 pub returns-clause-refused : goal.returns-clause-refused
 returns-clause-refused g c refusal e = c.run-status.ensures.refused refusal (told_refused c.run-status.result c.tell.result refusal c.tell.ensures.status e)
@@ -61,3 +66,27 @@ returns-clause-store_count g c =
 pub returns-clause-nothing_told : goal.returns-clause-nothing_told
 returns-clause-nothing_told g c =
     nothing_told_on (IsInOneLine (command_of (words_in c.args.words.now))) c.run-status.result c.tell.result c.args.out.now c.run-status.new.out c.tell.ensures.status c.run-status.ensures.nothing_told
+
+pub returns-clause-store_part : goal.returns-clause-store_part
+returns-clause-store_part g c = told_store_part _ c.run-status.result c.tell.result c.tell.ensures.status c.run-status.ensures.store_part
+
+-- ---- counts
+
+pub returns-clause-read_fault : goal.returns-clause-read_fault
+returns-clause-read_fault g c =
+    let count = g.F.Folder.fault_count in
+    read_told c.run-status.result c.tell.result (count c.args.folder.now) (count c.run-status.new.folder) c.tell.ensures.status c.run-status.ensures.read_fault
+
+pub returns-clause-out_count : goal.returns-clause-out_count
+returns-clause-out_count g c =
+    let view = g.O.Sink.view in
+    writes_told c.run-status.result c.tell.result (view c.args.out.now) (view c.run-status.new.out) c.tell.ensures.status c.run-status.ensures.out_count
+
+pub returns-clause-never_fall : goal.returns-clause-never_fall
+returns-clause-never_fall g c =
+    let view = g.N.Sink.view in (
+      never_falls-read c.run-status.result (g.F.Folder.fault_count c.args.folder.now) (g.F.Folder.fault_count c.run-status.new.folder) c.run-status.ensures.read_fault,
+      never_falls-store (g.K.Store.fault_count c.args.store.now) (g.K.Store.fault_count c.run-status.new.store) c.run-status.ensures.store_count.rises,
+      never_fall-out c.run-status.result (g.O.Sink.view c.args.out.now) (g.O.Sink.view c.run-status.new.out) c.run-status.ensures.out_count,
+      never_fall-notes _ (view c.args.notes.now) (view c.tell.new.notes) c.tell.ensures.notes.told,
+    )

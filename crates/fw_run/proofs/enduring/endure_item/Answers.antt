@@ -29,7 +29,7 @@ returns-in_err-write-in-Err-Engine-StoreFault-clause-printed g c =
     let line : c.as_bytes.result.now ≡ fault_line (counts.steps + 1) = c.as_bytes.ensures.value ∙ c.in_ok-line-in-Err-Engine-StoreFault.ensures in
     let e = c.in_err-write-in-Err-Engine-StoreFault.ensures in
     let f = c.in_err-write-in-Err-Engine-StoreFault.field-0.0 in
-    let written = writes {T = Unit {0}} c.as_bytes.result.now (Err f) (view c.perform_item.new.out) (view c.write.new.self) e.whole e.refused e.refusals_stay e.refusal_counted e.failed (record { faults = e.never_falls; refusals = e.refusals_never_fall }) in
+    let written = writes {T = Unit {0}} c.as_bytes.result.now (Err f) (view c.perform_item.new.out) (view c.write.new.self) e.whole e.refused e.refusals e.faults in
     rw (p.1, p.2) (through-fault_cut c.args.engine.now c.perform_item.new.engine (records c.args.store.now) (records c.perform_item.new.store) c.args.item.now c.args.tally.now counts
     (g.K.Store.fault_count c.args.store.now) (g.K.Store.fault_count c.perform_item.new.store) _ (view c.args.out.now) (view c.perform_item.new.out) (view c.write.new.self)
     (λ sys state st. subst (λ (flow : Dataflow). MayCallIn flow c.args.item.now) st.flow (faulted.calls is)) printed
@@ -47,7 +47,7 @@ returns-in_ok-write-in-Err-Engine-StoreFault-clause-printed g c =
     let counts = c.perform_item.new.tally in
     let line : c.as_bytes.result.now ≡ fault_line (counts.steps + 1) = c.as_bytes.ensures.value ∙ c.in_ok-line-in-Err-Engine-StoreFault.ensures in
     let e = c.in_ok-write-in-Err-Engine-StoreFault.ensures in
-    let written = writes {T = Unit {0}} c.as_bytes.result.now (Ok tt) (view c.perform_item.new.out) (view c.write.new.self) e.whole e.refused e.refusals_stay e.refusal_counted e.failed (record { faults = e.never_falls; refusals = e.refusals_never_fall }) in
+    let written = writes {T = Unit {0}} c.as_bytes.result.now (Ok tt) (view c.perform_item.new.out) (view c.write.new.self) e.whole e.refused e.refusals e.faults in
     through-fault c.args.engine.now c.perform_item.new.engine (records c.args.store.now) (records c.perform_item.new.store) c.args.item.now c.args.tally.now counts
     (RoseBy (g.K.Store.fault_count c.args.store.now) (g.K.Store.fault_count c.perform_item.new.store)) (view c.args.out.now) (view c.perform_item.new.out) (view c.write.new.self)
     (λ sys state st. subst (λ (flow : Dataflow). MayCallIn flow c.args.item.now) st.flow (faulted.calls is)) printed

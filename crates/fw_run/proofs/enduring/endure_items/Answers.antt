@@ -3,7 +3,7 @@ use Rattle.std.proofs.lemmas.Result.{err_from_is_err_and}
 use Rattle.std.specs.Prelude.{IsSome}
 use Rattle.fw_run.specs.declared.fault.RunFault.{RunFault}
 use Rattle.fw_run.proofs.PlaceLaws.{room_at, counts-next}
-use Rattle.fw_run.proofs.Roses.{same_fault}
+use Rattle.fw_run.proofs.SameFaults.{same_fault}
 use Rattle.fw_run.proofs.FaultCounts.{rose_more, rises_more}
 use Rattle.fw_run.proofs.EnduringRunLaws.{endured_so_far-none, endured_so_far-more, endure_stops, endure_damaged, endure_ends, endure_whole, endure_whole_fault, endure_ends_cut}
 use Rattle.fw_run.proofs.TallyLaws.{of_steps-none}
@@ -107,7 +107,7 @@ returns-in_err-write-clause-printed g c sys st =
     let inv = c.loop-item.invariant in
     let line : c.as_bytes.result.now ≡ endured_line c.loop-item.tally.steps c.loop-item.tally.idle c.loop-item.faults = c.as_bytes.ensures.value ∙ c.in_ok-line.ensures in
     let e = c.in_err-write.ensures in
-    let written = writes {T = Unit {0}} c.as_bytes.result.now (Err c.in_err-write.field-0.0) (view c.loop-item.out) (view c.write.new.self) e.whole e.refused e.refusals_stay e.refusal_counted e.failed (record { faults = e.never_falls; refusals = e.refusals_never_fall }) in
+    let written = writes {T = Unit {0}} c.as_bytes.result.now (Err c.in_err-write.field-0.0) (view c.loop-item.out) (view c.write.new.self) e.whole e.refused e.refusals e.faults in
     rw (p.1, p.2) (endure_ends_cut (Unit {0}) (IsSome (records c.args.store.now)) sys c.args.items.now c.loop-item.item-index c.loop-item.engine (records c.loop-item.store) c.loop-item.tally c.loop-item.faults (RoseBy (count c.args.store.now) (count c.loop-item.store)) _
     (view c.args.out.now) (view c.loop-item.out) (view c.write.new.self) (inv.endured sys st) c.loop-item-test.false
     (subst (λ t. Writes {T = Unit {0}} t (Err c.in_err-write.field-0.0) (view c.loop-item.out) (view c.write.new.self)) line written) inv.rose_by)
@@ -120,7 +120,7 @@ returns-then-faults-gt0-clause-printed g c sys st =
     let inv = c.loop-item.invariant in
     let line : c.as_bytes.result.now ≡ endured_line c.loop-item.tally.steps c.loop-item.tally.idle c.loop-item.faults = c.as_bytes.ensures.value ∙ c.in_ok-line.ensures in
     let e = c.in_ok-write.ensures in
-    let written = writes {T = Unit {0}} c.as_bytes.result.now (Ok tt) (view c.loop-item.out) (view c.write.new.self) e.whole e.refused e.refusals_stay e.refusal_counted e.failed (record { faults = e.never_falls; refusals = e.refusals_never_fall }) in
+    let written = writes {T = Unit {0}} c.as_bytes.result.now (Ok tt) (view c.loop-item.out) (view c.write.new.self) e.whole e.refused e.refusals e.faults in
     endure_whole_fault (Unit {0}) (IsSome (records c.args.store.now)) sys c.args.items.now (records c.loop-item.store) (RoseBy (count c.args.store.now) (count c.loop-item.store)) (view c.args.out.now) (view c.write.new.self)
     (endure_ends (IsSome (records c.args.store.now)) sys c.args.items.now c.loop-item.item-index c.loop-item.engine (records c.loop-item.store) c.loop-item.tally c.loop-item.faults (RoseBy (count c.args.store.now) (count c.loop-item.store))
     (view c.args.out.now) (view c.loop-item.out) (view c.write.new.self) inv.in_order (inv.endured sys st) c.loop-item-test.false
@@ -134,7 +134,7 @@ returns-then-faults-gt0-clause-store_fault g c sys st is =
     let inv = c.loop-item.invariant in
     let line : c.as_bytes.result.now ≡ endured_line c.loop-item.tally.steps c.loop-item.tally.idle c.loop-item.faults = c.as_bytes.ensures.value ∙ c.in_ok-line.ensures in
     let e = c.in_ok-write.ensures in
-    let written = writes {T = Unit {0}} c.as_bytes.result.now (Ok tt) (view c.loop-item.out) (view c.write.new.self) e.whole e.refused e.refusals_stay e.refusal_counted e.failed (record { faults = e.never_falls; refusals = e.refusals_never_fall }) in
+    let written = writes {T = Unit {0}} c.as_bytes.result.now (Ok tt) (view c.loop-item.out) (view c.write.new.self) e.whole e.refused e.refusals e.faults in
     endure_ends (IsSome (records c.args.store.now)) sys c.args.items.now c.loop-item.item-index c.loop-item.engine (records c.loop-item.store) c.loop-item.tally c.loop-item.faults (λ faults. (1 ≤ faults) × RoseBy (count c.args.store.now) (count c.loop-item.store) faults)
     (view c.args.out.now) (view c.loop-item.out) (view c.write.new.self) inv.in_order (inv.endured sys st) c.loop-item-test.false
     (subst (λ t. Writes {T = Unit {0}} t (Ok tt) (view c.loop-item.out) (view c.write.new.self)) line written) (omega (arith, c.if-faults-gt0.true), inv.rose_by)
@@ -150,7 +150,7 @@ returns-clause-printed g c sys st =
     let inv = c.loop-item.invariant in
     let line : c.as_bytes.result.now ≡ endured_line c.loop-item.tally.steps c.loop-item.tally.idle c.loop-item.faults = c.as_bytes.ensures.value ∙ c.in_ok-line.ensures in
     let e = c.in_ok-write.ensures in
-    let written = writes {T = Unit {0}} c.as_bytes.result.now (Ok tt) (view c.loop-item.out) (view c.write.new.self) e.whole e.refused e.refusals_stay e.refusal_counted e.failed (record { faults = e.never_falls; refusals = e.refusals_never_fall }) in
+    let written = writes {T = Unit {0}} c.as_bytes.result.now (Ok tt) (view c.loop-item.out) (view c.write.new.self) e.whole e.refused e.refusals e.faults in
     endure_whole (Unit {0}) (IsSome (records c.args.store.now)) sys c.args.items.now (records c.loop-item.store) (RoseBy (count c.args.store.now) (count c.loop-item.store)) (view c.args.out.now) (view c.write.new.self) tt
     (endure_ends (IsSome (records c.args.store.now)) sys c.args.items.now c.loop-item.item-index c.loop-item.engine (records c.loop-item.store) c.loop-item.tally c.loop-item.faults (RoseBy (count c.args.store.now) (count c.loop-item.store))
     (view c.args.out.now) (view c.loop-item.out) (view c.write.new.self) inv.in_order (inv.endured sys st) c.loop-item-test.false
@@ -164,7 +164,7 @@ returns-clause-whole g c sys st =
     let inv = c.loop-item.invariant in
     let line : c.as_bytes.result.now ≡ endured_line c.loop-item.tally.steps c.loop-item.tally.idle c.loop-item.faults = c.as_bytes.ensures.value ∙ c.in_ok-line.ensures in
     let e = c.in_ok-write.ensures in
-    let written = writes {T = Unit {0}} c.as_bytes.result.now (Ok tt) (view c.loop-item.out) (view c.write.new.self) e.whole e.refused e.refusals_stay e.refusal_counted e.failed (record { faults = e.never_falls; refusals = e.refusals_never_fall }) in
+    let written = writes {T = Unit {0}} c.as_bytes.result.now (Ok tt) (view c.loop-item.out) (view c.write.new.self) e.whole e.refused e.refusals e.faults in
     endure_ends (IsSome (records c.args.store.now)) sys c.args.items.now c.loop-item.item-index c.loop-item.engine (records c.loop-item.store) c.loop-item.tally c.loop-item.faults (λ faults. faults ≡ 0)
     (view c.args.out.now) (view c.loop-item.out) (view c.write.new.self) inv.in_order (inv.endured sys st) c.loop-item-test.false
     (subst (λ t. Writes {T = Unit {0}} t (Ok tt) (view c.loop-item.out) (view c.write.new.self)) line written) (omega (arith, c.if-faults-gt0.false))

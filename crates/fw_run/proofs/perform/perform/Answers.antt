@@ -9,7 +9,7 @@ use Rattle.fw_run.specs.Printed.{done_line}
 use Rattle.fw_run.specs.Stopping.{IsStoppedByStore, IsStoppedByDamage}
 use Rattle.fw_run.specs.Writing.{IsWritten, Writes}
 use Rattle.fw_run.proofs.FaultCounts.{passed_after}
-use Rattle.fw_run.proofs.Roses.{same_fault}
+use Rattle.fw_run.proofs.SameFaults.{same_fault}
 use Rattle.fw_run.proofs.SoFarLaws.{ends, ends_cut, leaves_writes, stops_at_start}
 use Rattle.fw_run.proofs.WritingLaws.{writes, cut_nothing}
 use Rattle.fw_run.proofs.perform.perform.Goals as goal
@@ -77,7 +77,7 @@ returns-in_err-write-clause-printed g c =
     (c.in_ok-tally.ensures.taken sys (c.in_ok-engine.ensures.stands (records c.args.store.now))) in
     let line : c.as_bytes.result.now ≡ done_line tally.steps tally.idle = c.as_bytes.ensures.value ∙ c.in_ok-line.ensures in
     let e = c.in_err-write.ensures in
-    let written = writes {T = Unit {0}} c.as_bytes.result.now (Err c.in_err-write.field-0.0) (view c.take_items.new.out) (view c.write.new.self) e.whole e.refused e.refusals_stay e.refusal_counted e.failed (record { faults = e.never_falls; refusals = e.refusals_never_fall }) in
+    let written = writes {T = Unit {0}} c.as_bytes.result.now (Err c.in_err-write.field-0.0) (view c.take_items.new.out) (view c.write.new.self) e.whole e.refused e.refusals e.faults in
     rw (p.1, p.2) (ends_cut (Unit {0}) (IsSome (records c.args.store.now)) sys c.args.job.items c.take_items.new.engine (records c.take_items.new.store) tally _ (view c.args.out.now) (view c.take_items.new.out) (view c.write.new.self)
     c.requires.ready.well_formed taken (subst (λ t. Writes {T = Unit {0}} t (Err c.in_err-write.field-0.0) (view c.take_items.new.out) (view c.write.new.self)) line written))
 
@@ -91,7 +91,7 @@ returns-clause-printed g c =
     (c.in_ok-tally.ensures.taken sys (c.in_ok-engine.ensures.stands (records c.args.store.now))) in
     let line : c.as_bytes.result.now ≡ done_line tally.steps tally.idle = c.as_bytes.ensures.value ∙ c.in_ok-line.ensures in
     let e = c.in_ok-write.ensures in
-    let written = writes {T = Unit {0}} c.as_bytes.result.now (Ok tt) (view c.take_items.new.out) (view c.write.new.self) e.whole e.refused e.refusals_stay e.refusal_counted e.failed (record { faults = e.never_falls; refusals = e.refusals_never_fall }) in
+    let written = writes {T = Unit {0}} c.as_bytes.result.now (Ok tt) (view c.take_items.new.out) (view c.write.new.self) e.whole e.refused e.refusals e.faults in
     ends {T = Unit {0}} (IsSome (records c.args.store.now)) sys c.args.job.items c.take_items.new.engine (records c.take_items.new.store) tally (view c.args.out.now) (view c.take_items.new.out) (view c.write.new.self) tt
     taken (subst (λ t. Writes {T = Unit {0}} t (Ok tt) (view c.take_items.new.out) (view c.write.new.self)) line written)
 

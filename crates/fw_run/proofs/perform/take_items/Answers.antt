@@ -7,7 +7,7 @@ use Rattle.fw_run.specs.Fault.{faults_after}
 use Rattle.fw_run.specs.Tallies.{AreOfSteps}
 use Rattle.fw_run.proofs.FaultCounts.{passed_after}
 use Rattle.fw_run.proofs.PlaceLaws.{room_at, counts-next}
-use Rattle.fw_run.proofs.Roses.{same_fault}
+use Rattle.fw_run.proofs.SameFaults.{same_fault}
 use Rattle.fw_run.proofs.SoFarLaws.{IsUpTo, up_to-none, up_to-more, stops_at, store_stops-at, damage_stops-at, are_taken}
 use Rattle.fw_run.proofs.TallyLaws.{of_steps-none}
 use Rattle.fw_run.proofs.perform.take_items.Goals as goal

@@ -1,15 +1,24 @@
+use Rattle.std.proofs.Common.{ℕ, List, refl}
 use Rattle.std.proofs.lemmas.Result.{err_from_is_err_and}
-use Rattle.fw_run.proofs.Roses.{rose_last, same_fault}
+use Rattle.fw_bag.specs.declared.rec.Rec.{Rec}
+use Rattle.fw_flow.specs.Dataflow.{Dataflow}
+use Rattle.fw_run.specs.declared.reading.Fed.{Fed}
+use Rattle.fw_run.proofs.FaultCounts.{read_passed}
 use Rattle.fw_run.proofs.TextLaws.{fed_read, fetched_twice}
-use Rattle.fw_run.specs.declared.reading.JobFault.TheVariants.{Failed}
 use Rattle.fw_run.specs.Words.{system_names_in}
 use Rattle.fw_run.proofs.reading.read_fed.Goals as goal
 
-pub returns-in_err-batches-clause-failed : goal.returns-in_err-batches-clause-failed
-returns-in_err-batches-clause-failed g c =
+pub returns-in_err-flow-clause-faults : goal.returns-in_err-flow-clause-faults
+returns-in_err-flow-clause-faults g c =
+    let p = err_from_is_err_and c.from_residual.result c.from_residual.ensures.1 in
+    let count = g.F.Folder.fault_count in
+    rw (p.1, p.2) (read_passed Dataflow Fed _ (count c.args.folder.now) (count c.args.folder.now) (count c.fetch_flow.new.folder) refl c.in_err-flow.ensures.faults)
+
+pub returns-in_err-batches-clause-faults : goal.returns-in_err-batches-clause-faults
+returns-in_err-batches-clause-faults g c =
     let p = err_from_is_err_and c.from_residual-in_err-batches.result c.from_residual-in_err-batches.ensures.1 in
     let count = g.F.Folder.fault_count in
-    rw (p.1, p.2) (λ e. rose_last (count c.args.folder.now) (count c.fetch_flow.new.folder) (count c.fetch_inputs.new.folder) c.fetch_flow.ensures.never_falls c.fetch_inputs.ensures.never_falls (c.in_err-batches.ensures.failed (same_fault _ _ _ _ Failed e)))
+    rw (p.1, p.2) (read_passed (List (ℕ × List (List Rec))) Fed _ (count c.args.folder.now) (count c.fetch_flow.new.folder) (count c.fetch_inputs.new.folder) c.in_ok-flow.ensures.faults c.in_err-batches.ensures.faults)
 
 pub returns-clause-fed : goal.returns-clause-fed
 returns-clause-fed g c =

@@ -1,22 +1,31 @@
-use Rattle.std.proofs.Common.{arith}
+use Rattle.std.proofs.Common.{ℕ, List, refl, ◌∙◌}
 use Rattle.std.proofs.lemmas.Result.{err_from_is_err_and}
-use Rattle.fw_run.proofs.Roses.{rose_last, same_fault}
+use Rattle.fw_bag.specs.declared.rec.Rec.{Rec}
+use Rattle.fw_flow.specs.Dataflow.{Dataflow}
+use Rattle.fw_schedule.specs.declared.item.Item.{Item}
+use Rattle.fw_run.specs.declared.reading.Job.{Job}
+use Rattle.fw_run.proofs.FaultCounts.{read_passed}
 use Rattle.fw_run.proofs.TextLaws.{job_read_in_turn, fetched_second, fetched_third, refused_third}
-use Rattle.fw_run.specs.declared.reading.JobFault.TheVariants.{Failed}
 use Rattle.fw_run.specs.Words.{text_names_in}
 use Rattle.fw_run.proofs.reading.read_job.Goals as goal
 
-pub returns-in_err-batches-clause-failed : goal.returns-in_err-batches-clause-failed
-returns-in_err-batches-clause-failed g c =
+pub returns-in_err-flow-clause-faults : goal.returns-in_err-flow-clause-faults
+returns-in_err-flow-clause-faults g c =
+    let p = err_from_is_err_and c.from_residual.result c.from_residual.ensures.1 in
+    let count = g.F.Folder.fault_count in
+    rw (p.1, p.2) (read_passed Dataflow Job _ (count c.args.folder.now) (count c.args.folder.now) (count c.fetch_flow.new.folder) refl c.in_err-flow.ensures.faults)
+
+pub returns-in_err-batches-clause-faults : goal.returns-in_err-batches-clause-faults
+returns-in_err-batches-clause-faults g c =
     let p = err_from_is_err_and c.from_residual-in_err-batches.result c.from_residual-in_err-batches.ensures.1 in
     let count = g.F.Folder.fault_count in
-    rw (p.1, p.2) (λ e. rose_last (count c.args.folder.now) (count c.fetch_flow.new.folder) (count c.fetch_inputs.new.folder) c.fetch_flow.ensures.never_falls c.fetch_inputs.ensures.never_falls (c.in_err-batches.ensures.failed (same_fault _ _ _ _ Failed e)))
+    rw (p.1, p.2) (read_passed (List (ℕ × List (List Rec))) Job _ (count c.args.folder.now) (count c.fetch_flow.new.folder) (count c.fetch_inputs.new.folder) c.in_ok-flow.ensures.faults c.in_err-batches.ensures.faults)
 
-pub returns-in_err-items-clause-failed : goal.returns-in_err-items-clause-failed
-returns-in_err-items-clause-failed g c =
+pub returns-in_err-items-clause-faults : goal.returns-in_err-items-clause-faults
+returns-in_err-items-clause-faults g c =
     let p = err_from_is_err_and c.from_residual-in_err-items.result c.from_residual-in_err-items.ensures.1 in
     let count = g.F.Folder.fault_count in
-    rw (p.1, p.2) (λ e. rose_last (count c.args.folder.now) (count c.fetch_inputs.new.folder) (count c.fetch_schedule.new.folder) (omega (arith, c.fetch_flow.ensures.never_falls, c.fetch_inputs.ensures.never_falls)) c.fetch_schedule.ensures.never_falls (c.in_err-items.ensures.failed (same_fault _ _ _ _ Failed e)))
+    rw (p.1, p.2) (read_passed (List Item) Job _ (count c.args.folder.now) (count c.fetch_inputs.new.folder) (count c.fetch_schedule.new.folder) (c.in_ok-batches.ensures.faults ∙ c.in_ok-flow.ensures.faults) c.in_err-items.ensures.faults)
 
 pub returns-clause-job : goal.returns-clause-job
 returns-clause-job g c =

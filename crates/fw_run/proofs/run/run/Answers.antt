@@ -1,12 +1,13 @@
 use Rattle.std.proofs.Common.{◌≡◌, ℕ, List, [], inl, inr, sym, ◌∙◌, ap, subst, arith, lit<, ◌<◌, ◌≤◌, Err}
 use Rattle.std.specs.Prelude.{IsSome}
-use Rattle.fw_outside.specs.declared.fault.OutFault.TheVariants.{Failed, NoMemory}
-use Rattle.fw_run.proofs.CallLaws.{same_refusal, prints, prints_part, run_of-call, left_of-call, store_kept, late_fault, folder_read, counts_none, counts_fault, nothing_told}
-use Rattle.fw_run.proofs.FaultLaws.{write_of, store_of, damage_of, memory_of}
+use Rattle.fw_outside.specs.declared.fault.OutFault.TheVariants.{Failed}
+use Rattle.fw_run.proofs.CallLaws.{same_refusal, prints, prints_part, prints_no_memory, prints_first, run_of-call, left_of-call, store_kept, late_fault, folder_read, counts_none, counts_fault, nothing_told}
+use Rattle.fw_run.proofs.FaultLaws.{write_of, store_of, damage_of}
+use Rattle.fw_run.proofs.CountLaws.{read_told-none, writes_none, writes_all, writes_until}
+use Rattle.fw_run.proofs.Numbers.{few_refusal_numbers}
 use Rattle.fw_run.specs.declared.status.Status.{Status}
-use Rattle.fw_run.specs.Call.{call_of, CountsFaults, Refuses}
-use Rattle.fw_run.specs.Fault.{out_fault}
-use Rattle.fw_run.specs.Status.{status_number}
+use Rattle.fw_run.specs.Call.{call_of, CountsFaults, CountsWrites, Refuses}
+use Rattle.fw_run.specs.Status.{read_faults_told, status_number}
 use Rattle.fw_run.specs.Words.{command_in, command_of, words_in}
 use Rattle.fw_run.specs.Work.{IsWholeRun, IsStoreFault, IsDamageIn}
 use Rattle.fw_run.specs.Writing.{IsWritten}
@@ -46,25 +47,40 @@ returns-in-Err-print_work-clause-write_fault g c e =
     let fault = c.in-Err-print_work.fault in
     prints_part (Unit {0}) (IsSome (g.K.Store.records c.args.store.now)) (call_of c.args.words.now (g.F.Folder.texts c.args.folder.now)) (command_in c.in-Ok-Some.command) c.in-Ok.work
     (count c.args.store.now) (count c.print_work.new.store) fault Failed (view c.args.out.now) (view c.print_work.new.out)
-    (sym (rw c.in-Ok-Some.field-0-is at c.in-Ok-Some.ensures.command)) c.in-Ok.ensures.work (ap out_fault (write_of fault (sym c.status_of.ensures ∙ e))) c.in-Err-print_work.ensures.cut_off
+    (sym (rw c.in-Ok-Some.field-0-is at c.in-Ok-Some.ensures.command)) c.in-Ok.ensures.work (write_of fault (sym c.status_of.ensures ∙ e)) c.in-Err-print_work.ensures.cut_off
 
 pub returns-in-Err-print_work-clause-no_memory : goal.returns-in-Err-print_work-clause-no_memory
 returns-in-Err-print_work-clause-no_memory g c e =
     let view = g.O.Sink.view in
     let count = g.K.Store.fault_count in
     let fault = c.in-Err-print_work.fault in
-    inr (prints_part (Unit {0}) (IsSome (g.K.Store.records c.args.store.now)) (call_of c.args.words.now (g.F.Folder.texts c.args.folder.now)) (command_in c.in-Ok-Some.command) c.in-Ok.work
-    (count c.args.store.now) (count c.print_work.new.store) fault NoMemory (view c.args.out.now) (view c.print_work.new.out)
-    (sym (rw c.in-Ok-Some.field-0-is at c.in-Ok-Some.ensures.command)) c.in-Ok.ensures.work (memory_of fault (sym c.status_of.ensures ∙ e)) c.in-Err-print_work.ensures.cut_off)
+    inr (prints_no_memory (Unit {0}) (IsSome (g.K.Store.records c.args.store.now)) (call_of c.args.words.now (g.F.Folder.texts c.args.folder.now)) (command_in c.in-Ok-Some.command) c.in-Ok.work
+    (count c.args.store.now) (count c.print_work.new.store) fault (view c.args.out.now) (view c.print_work.new.out)
+    (sym (rw c.in-Ok-Some.field-0-is at c.in-Ok-Some.ensures.command)) c.in-Ok.ensures.work (sym c.status_of.ensures ∙ e) c.in-Err-print_work.ensures.cut_off)
 
-pub returns-in-Err-print_work-clause-damaged_part : goal.returns-in-Err-print_work-clause-damaged_part
-returns-in-Err-print_work-clause-damaged_part g c id e =
+pub returns-in-Err-print_work-clause-store_part : goal.returns-in-Err-print_work-clause-store_part
+returns-in-Err-print_work-clause-store_part g c least most =
     let view = g.O.Sink.view in
     let count = g.K.Store.fault_count in
     let fault = c.in-Err-print_work.fault in
-    prints_part (Unit {0}) (IsSome (g.K.Store.records c.args.store.now)) (call_of c.args.words.now (g.F.Folder.texts c.args.folder.now)) (command_in c.in-Ok-Some.command) c.in-Ok.work
-    (count c.args.store.now) (count c.print_work.new.store) fault NoMemory (view c.args.out.now) (view c.print_work.new.out)
-    (sym (rw c.in-Ok-Some.field-0-is at c.in-Ok-Some.ensures.command)) c.in-Ok.ensures.work (ap out_fault (damage_of fault id (sym c.status_of.ensures ∙ e))) c.in-Err-print_work.ensures.cut_off
+    prints_first (Unit {0}) (IsSome (g.K.Store.records c.args.store.now)) (call_of c.args.words.now (g.F.Folder.texts c.args.folder.now)) (command_in c.in-Ok-Some.command) c.in-Ok.work
+    (count c.args.store.now) (count c.print_work.new.store) fault (view c.args.out.now) (view c.print_work.new.out)
+    (sym (rw c.in-Ok-Some.field-0-is at c.in-Ok-Some.ensures.command)) c.in-Ok.ensures.work (subst (λ (s : Status). 8 ≤ status_number s) c.status_of.ensures least)
+    (subst (λ (s : Status). status_number s ≤ 9) c.status_of.ensures most) c.in-Err-print_work.ensures.cut_off
+
+pub returns-in-Ok-print_work-clause-store_part : goal.returns-in-Ok-print_work-clause-store_part
+returns-in-Ok-print_work-clause-store_part g c least most = absurd (omega (arith, least))
+
+pub returns-in-Err-Refused-clause-store_part : goal.returns-in-Err-Refused-clause-store_part
+returns-in-Err-Refused-clause-store_part g c least most =
+    let late = rw c.in-Err-Refused.field-0-is at least in
+    absurd (omega (arith, late, few_refusal_numbers c.in-Err-Refused.refusal.code))
+
+pub returns-in-Err-NoMemory-clause-store_part : goal.returns-in-Err-NoMemory-clause-store_part
+returns-in-Err-NoMemory-clause-store_part g c least most = absurd (omega (arith, most))
+
+pub returns-in-Err-Failed-clause-store_part : goal.returns-in-Err-Failed-clause-store_part
+returns-in-Err-Failed-clause-store_part g c least most = absurd (omega (arith, least))
 
 pub returns-in-Err-print_work-clause-store_fault : goal.returns-in-Err-print_work-clause-store_fault
 returns-in-Err-print_work-clause-store_fault g c e =
@@ -143,3 +159,24 @@ returns-in-Err-print_work-clause-nothing_told g c one least most =
 
 pub returns-in-Ok-print_work-clause-nothing_told : goal.returns-in-Ok-print_work-clause-nothing_told
 returns-in-Ok-print_work-clause-nothing_told g c one least most = absurd (omega (arith, least))
+
+-- ---- how often the folder and the output failed
+
+pub returns-in-Err-print_work-clause-read_fault : goal.returns-in-Err-print_work-clause-read_fault
+returns-in-Err-print_work-clause-read_fault g c =
+    let count = g.F.Folder.fault_count in
+    subst (λ (status : Status). count c.read_work.new.folder ≡ read_faults_told status (count c.args.folder.now)) (sym c.status_of.ensures)
+    (c.in-Ok.ensures.faults ∙ sym (read_told-none c.in-Err-print_work.fault (count c.args.folder.now)))
+
+pub returns-in-Ok-print_work-clause-out_count : goal.returns-in-Ok-print_work-clause-out_count
+returns-in-Ok-print_work-clause-out_count g c =
+    let view = g.O.Sink.view in
+    let p = c.in-Ok-print_work.ensures.printed in
+    writes_all p.printed (view c.args.out.now) (view c.print_work.new.out) p.written
+
+pub returns-in-Err-print_work-clause-out_count : goal.returns-in-Err-print_work-clause-out_count
+returns-in-Err-print_work-clause-out_count g c =
+    let view = g.O.Sink.view in
+    let p = c.in-Err-print_work.ensures.cut_off in
+    subst (λ (status : Status). CountsWrites status (view c.args.out.now) (view c.print_work.new.out)) (sym c.status_of.ensures)
+    (writes_until (Unit {0}) p.printed c.in-Err-print_work.fault (view c.args.out.now) (view c.print_work.new.out) p.written)

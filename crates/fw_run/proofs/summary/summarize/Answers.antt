@@ -12,10 +12,10 @@ use Rattle.fw_run.specs.Tallies.{summary_line}
 use Rattle.fw_run.specs.Words.{seeded_in}
 use Rattle.fw_run.specs.Writing.{IsWritten, Writes}
 use Rattle.fw_run.proofs.FaultCounts.{passed_after}
-use Rattle.fw_run.proofs.Roses.{same_fault}
+use Rattle.fw_run.proofs.SameFaults.{same_fault}
 use Rattle.fw_run.proofs.SoFarLaws.{leaves_writes}
-use Rattle.fw_run.proofs.SummaryLaws.{nowhere, never_failed, summary_stopped, summary_written, summary_cut, store_put, damage_put}
-use Rattle.fw_run.proofs.WritingLaws.{memory, writes, cut_nothing}
+use Rattle.fw_run.proofs.SummaryLaws.{nowhere, memory, never_failed, summary_stopped, summary_written, summary_cut, store_put, damage_put}
+use Rattle.fw_run.proofs.WritingLaws.{writes, cut_nothing}
 use Rattle.fw_run.proofs.summary.summarize.Goals as goal
 
 pub returns-in_err-engine-clause-printed : goal.returns-in_err-engine-clause-printed
@@ -85,7 +85,7 @@ returns-in_err-write-clause-printed g c =
     (c.in_ok-tally.ensures.taken sys (c.in_ok-engine.ensures.stands (records c.args.store.now))) in
     let line : c.as_bytes.result.now ≡ summary_line seeded tally = c.as_bytes.ensures.value ∙ c.in_ok-line.ensures in
     let e = c.in_err-write.ensures in
-    let written = writes {T = Unit {0}} c.as_bytes.result.now (Err c.in_err-write.field-0.0) (view c.args.out.now) (view c.write.new.self) e.whole e.refused e.refusals_stay e.refusal_counted e.failed (record { faults = e.never_falls; refusals = e.refusals_never_fall }) in
+    let written = writes {T = Unit {0}} c.as_bytes.result.now (Err c.in_err-write.field-0.0) (view c.args.out.now) (view c.write.new.self) e.whole e.refused e.refusals e.faults in
     rw (p.1, p.2) (summary_cut (Unit {0}) (IsSome (records c.args.store.now)) sys c.args.job.items seeded c.take_items.new.engine (records c.take_items.new.store) tally _ nowhere nowhere (view c.args.out.now) (view c.write.new.self)
     taken (subst (λ t. Writes {T = Unit {0}} t (Err c.in_err-write.field-0.0) (view c.args.out.now) (view c.write.new.self)) line written))
 
@@ -100,7 +100,7 @@ returns-clause-printed g c =
     (c.in_ok-tally.ensures.taken sys (c.in_ok-engine.ensures.stands (records c.args.store.now))) in
     let line : c.as_bytes.result.now ≡ summary_line seeded tally = c.as_bytes.ensures.value ∙ c.in_ok-line.ensures in
     let e = c.in_ok-write.ensures in
-    let written = writes {T = Unit {0}} c.as_bytes.result.now (Ok tt) (view c.args.out.now) (view c.write.new.self) e.whole e.refused e.refusals_stay e.refusal_counted e.failed (record { faults = e.never_falls; refusals = e.refusals_never_fall }) in
+    let written = writes {T = Unit {0}} c.as_bytes.result.now (Ok tt) (view c.args.out.now) (view c.write.new.self) e.whole e.refused e.refusals e.faults in
     summary_written {T = Unit {0}} (IsSome (records c.args.store.now)) sys c.args.job.items seeded c.take_items.new.engine (records c.take_items.new.store) tally tt nowhere nowhere (view c.args.out.now) (view c.write.new.self)
     taken (subst (λ t. Writes {T = Unit {0}} t (Ok tt) (view c.args.out.now) (view c.write.new.self)) line written)
 

@@ -44,6 +44,7 @@ put_by_store f s = record {
   later = s.later;
   parts = s.parts;
   may_call = s.may_call;
+  first = s.first;
   stops = s.stops;
 }
 
@@ -61,6 +62,7 @@ put_at_damage f s = record {
   bytes = s.bytes;
   gave = s.gave;
   spells_none = s.spells_none;
+  first = s.first;
   stops = s.stops;
 }
 

@@ -1,16 +1,6 @@
--- Counts of refusals over several calls, and one fault in answers of several types.
-use Rattle.std.proofs.Common.{ℕ, ◌≤◌, inl, inr, Result, Ok, Err, ap, subst, arith}
-use Rattle.std.proofs.lemmas.Bool.{cases_lt}
-use Rattle.fw_outside.specs.Outside.{Rose}
+-- One fault in answers of several types.
+use Rattle.std.proofs.Common.{Result, Ok, Err, ap, subst}
 use Rattle.std.specs.Result.{IsErrOf}
-
--- a count that rose in the last call rose in all of them
-pub rose_last : (first mid last : ℕ) → first ≤ mid → mid ≤ last → Rose mid last → Rose first last
-rose_last first mid last h k (inl less) = inl (omega (arith, h, less))
-rose_last first mid last h k (inr most) = elim (cases_lt first mid) [
-  | inl less ↦ inl (omega (arith, less, k))
-  | inr not_less ↦ inr (omega (arith, h, not_less, most))
-]
 
 -- a result of another type with the same fault has it too
 pub same_fault : (A B E : Type 0) (fault other : E) → IsErrOf {T = A} {E = E} (Err fault) other → IsErrOf {T = B} {E = E} (Err fault) other

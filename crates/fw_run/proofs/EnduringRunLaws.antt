@@ -17,6 +17,7 @@ use Rattle.fw_model.specs.Steps.{Outcome, Run}
 use Rattle.fw_keep.specs.Catalogue.{AreAscending, ids_of}
 use Rattle.fw_keep.specs.Stored.{Records, SpellsNone}
 use Rattle.fw_running.specs.declared.fault.EngineFault.TheVariants as fault
+use Rattle.fw_running.specs.Steps.{IsStepEnabled}
 use Rattle.fw_engine.specs.declared.engine.Engine.{Engine}
 use Rattle.fw_engine.specs.Engine.{flow_of, StandsFor, IsDamaged, keep_of}
 use Rattle.fw_run.proofs.EnduringLaws.{faults-append, idle_shown-append, reports_text-append, faults-came, endured-next, endured-none, goes-on, endure_known-less, endure_known-take, endure_trusts}
@@ -179,7 +180,7 @@ damage_stops Tells Told sys items i id old new before after given tally counts c
   untold = λ tells.
       let s = u.so_far (inl tells) in
       let t = (p.does sys s.of_items.last s.stands).0 in
-      none_told before t.so (told tells);
+      none_told before t.so.0 (told tells);
   entry = d.entry;
   named = d.named;
   bytes = d.bytes;
@@ -193,7 +194,8 @@ damage_stops Tells Told sys items i id old new before after given tally counts c
       let none : t.outcomes ≡ [] = no_outcomes sys state t.now t.begun t.outcomes t.begins.0 t.run in
       let nothing : p.bytes ≡ [] = t.text ∙ ap (λ (o : List Outcome). outcomes_text sys.flow o) none in
       let text : u.bytes ++ p.bytes ≡ reports_text sys.flow 0 s.of_items.reports = ap (λ (b : List ℕ). u.bytes ++ b) nothing ∙ append-nil u.bytes ∙ s.text in
-      (s.of_items, text, subst Told s.faults (rose found.1), entry-in sys old before state d.entry s.stands d.there);
+      let enabled : IsStepEnabled sys state Recover = subst (λ (m : Machine). IsStepEnabled sys m Recover) t.begins.1 t.so.1 in
+      (s.of_items, text, subst Told s.faults (rose found.1), (enabled, entry-in sys old before state d.entry s.stands d.there));
 }
 
 -- a damaged record stops the run in the item of this place

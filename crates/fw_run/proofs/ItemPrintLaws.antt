@@ -6,6 +6,7 @@ use Rattle.std.specs.Result.{IsErrOf}
 use Rattle.fw_outside.specs.declared.fault.OutFault.{OutFault}
 use Rattle.fw_outside.specs.Outside.{SinkView}
 use Rattle.fw_flow.specs.declared.step.Step.{Step}
+use Rattle.fw_flow.specs.declared.step.Step.TheVariants.{Recover}
 use Rattle.fw_flow.specs.Dataflow.{Dataflow, System}
 use Rattle.fw_schedule.specs.declared.item.Item.{Item}
 use Rattle.fw_schedule.specs.declared.item.Item.TheVariants.{One, Auto}
@@ -21,7 +22,7 @@ use Rattle.fw_running.specs.declared.fault.EngineFault.TheVariants as fault
 use Rattle.fw_running.specs.declared.stepped.Stepped.{Stepped}
 use Rattle.fw_running.specs.declared.stepped.Stepped.TheVariants.{Did, Idle}
 use Rattle.fw_running.specs.EffectText.{outcome_text}
-use Rattle.fw_running.specs.Steps.{effect_of, outcome_of, FirstMayCall, Trusts, IsLeftBy}
+use Rattle.fw_running.specs.Steps.{effect_of, outcome_of, FirstMayCall, IsStepEnabled, Trusts, IsLeftBy}
 use Rattle.fw_engine.specs.declared.engine.Engine.{Engine}
 use Rattle.fw_engine.specs.Engine.{flow_of, StandsFor, FollowsStep, FollowsFirstStep}
 use Rattle.fw_run.proofs.ItemLaws.{item-run}
@@ -40,16 +41,18 @@ use Rattle.fw_run.specs.Writing.{IsWritten, IsCutOff}
 -- what a fault of the engine in a step leaves
 step_left : (old new : Engine) (before after : Option Records) (step : Step) (f : EngineFault)
     → ((sys : System) (state : Machine) → StandsFor sys old before state → IsErrOf {T = Stepped} (Err f) fault.StoreFault → IsLeftBy sys state step (λ next. StandsFor sys new after next))
-    → ((id : ℕ) (sys : System) (state : Machine) → StandsFor sys old before state → IsErrOf {T = Stepped} (Err f) (fault.Damaged id) → (before ≡ None) × StandsFor sys new after state)
+    → ((id : ℕ) (sys : System) (state : Machine) → StandsFor sys old before state → IsErrOf {T = Stepped} (Err f) (fault.Damaged id) → (before ≡ None) × IsStepEnabled sys state Recover × StandsFor sys new after state)
     → (sys : System) (state : Machine) → StandsFor sys old before state → IsLeftAfter sys (One step) f before new after state
 step_left old new before after step fault.StoreFault faulted unharmed sys state st = faulted sys state st refl
-step_left old new before after step (fault.Damaged id) faulted unharmed sys state st = (unharmed id sys state st refl).0
+step_left old new before after step (fault.Damaged id) faulted unharmed sys state st =
+    let h = unharmed id sys state st refl in
+    (h.0, h.1)
 step_left old new before after step fault.NoMemory faulted unharmed sys state st = tt
 
 -- the engine took no step
 pub step_stopped : (T : Type 0) (old new : Engine) (before after : Option Records) (step : Step) (tally : Tally) (f : EngineFault) (view : SinkView) → tally.sum < 2 ^ 64
     → ((sys : System) (state : Machine) → StandsFor sys old before state → IsErrOf {T = Stepped} (Err f) fault.StoreFault → IsLeftBy sys state step (λ next. StandsFor sys new after next))
-    → ((id : ℕ) (sys : System) (state : Machine) → StandsFor sys old before state → IsErrOf {T = Stepped} (Err f) (fault.Damaged id) → (before ≡ None) × StandsFor sys new after state)
+    → ((id : ℕ) (sys : System) (state : Machine) → StandsFor sys old before state → IsErrOf {T = Stepped} (Err f) (fault.Damaged id) → (before ≡ None) × IsStepEnabled sys state Recover × StandsFor sys new after state)
     → PrintsItem {T = T} old before (One step) tally (Err (stop.Engine f)) new after tally view view
 step_stopped T old new before after step tally f view fits faulted unharmed = record {
   bytes = [];

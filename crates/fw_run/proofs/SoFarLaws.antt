@@ -38,7 +38,7 @@ use Rattle.fw_run.specs.Headline.{PrintsRun}
 use Rattle.fw_run.specs.Items.{ComesTo}
 use Rattle.fw_run.specs.Performing.{TrustsItem, IsItemTaken, IsItemBegun, IsItemStopped, IsLeftAfter, DoesItem, PrintsItem, IsSoFar, AreTaken, Performs}
 use Rattle.fw_run.specs.Printed.{outcomes_text, idle_count, done_line, text_of}
-use Rattle.fw_run.specs.Stopping.{HoldsWrites, LeavesWrites, StopsIn, MayCallIn, IsLeftIn, IsStoppedByStore, IsEntryIn, IsStoppedByDamage}
+use Rattle.fw_run.specs.Stopping.{HoldsWrites, LeavesWrites, StopsIn, MayCallIn, IsLeftIn, IsStoppedByStore, IsEntryIn, MayBeRead, IsStoppedByDamage}
 use Rattle.fw_run.specs.Tallies.{tally_of, with_tally}
 use Rattle.fw_run.specs.Trusting.{AreKnown, BeginsWith}
 use Rattle.fw_run.specs.Writing.{IsWritten, IsCutOff}
@@ -303,7 +303,7 @@ damage_stops Tells sys items i id old new before after given tally counts first 
   untold = λ tells.
       let s = u.so_far (inl tells) in
       let t = p.does sys s.state s.stands in
-      none_told before t.so (told tells);
+      none_told before t.so.0 (told tells);
   entry = d.entry;
   named = d.named;
   bytes = d.bytes;
@@ -313,9 +313,12 @@ damage_stops Tells sys items i id old new before after given tally counts first 
   stops = λ k.
       let s = u.so_far k in
       let t = p.does sys s.state s.stands in
-      stops_in sys (take i items) (One Recover) old before tally counts u.bytes p.bytes (IsLeftAfter sys (One Recover) (fault.Damaged id) before new after) (IsEntryIn sys d.entry) s t
-      (λ untold. stopped_first sys s.state Recover tally counts p.bytes (IsLeftAfter sys (One Recover) (fault.Damaged id) before new after) (IsEntryIn sys d.entry) t
-      (entry-in sys old before s.state d.entry s.stands d.there));
+      stops_in sys (take i items) (One Recover) old before tally counts u.bytes p.bytes (IsLeftAfter sys (One Recover) (fault.Damaged id) before new after) (MayBeRead sys d.entry) s t
+      (λ left. (
+        left.1,
+        stopped_first sys s.state Recover tally counts p.bytes (IsLeftAfter sys (One Recover) (fault.Damaged id) before new after) (IsEntryIn sys d.entry) t
+            (entry-in sys old before s.state d.entry s.stands d.there),
+      ));
 }
 
 pub damage_stops-at : {A B : Type 0} (Tells : Type 0) (sys : System) (items : List Item) (i id : ℕ) (start old new : Engine) (begun before after : Option Records) (given : Option (ℕ × List ℕ))

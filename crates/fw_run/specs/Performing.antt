@@ -5,6 +5,7 @@ use Rattle.std.specs.declared.vec.Vec.{Vec}
 use Rattle.fw_outside.specs.declared.fault.OutFault.{OutFault}
 use Rattle.fw_outside.specs.Outside.{SinkView, Takes}
 use Rattle.fw_flow.specs.declared.step.Step.{Step}
+use Rattle.fw_flow.specs.declared.step.Step.TheVariants.{Recover}
 use Rattle.fw_flow.specs.Dataflow.{System}
 use Rattle.fw_schedule.specs.declared.item.Item.{Item}
 use Rattle.fw_schedule.specs.declared.item.Item.TheVariants.{One, Auto}
@@ -14,7 +15,7 @@ use Rattle.fw_model.specs.Steps.{Outcome, Run}
 use Rattle.fw_keep.specs.Stored.{Records}
 use Rattle.fw_running.specs.declared.fault.EngineFault.{EngineFault}
 use Rattle.fw_running.specs.declared.fault.EngineFault.TheVariants as fault
-use Rattle.fw_running.specs.Steps.{Trusts}
+use Rattle.fw_running.specs.Steps.{IsStepEnabled, Trusts}
 use Rattle.fw_engine.specs.declared.engine.Engine.{Engine}
 use Rattle.fw_engine.specs.Engine.{StandsFor}
 use Rattle.fw_run.specs.declared.fault.RunFault.{RunFault}
@@ -95,10 +96,10 @@ pub record IsItemStopped (sys : System) (state : Machine) (item : Item) (old new
   pub so : IsSo now
 
 -- what an engine's fault in the item leaves, where it stood for the state: after a fault of the store what that leaves; a record is
--- damaged only where the store does not tell its records
+-- damaged only where the store does not tell its records, and a recovery is enabled
 abbrev pub IsLeftAfter : System → Item → EngineFault → Option Records → Engine → Option Records → Machine → Type 0
 IsLeftAfter sys item fault.StoreFault before new after state = IsLeftIn sys state item (StandsFor sys new after)
-IsLeftAfter sys item (fault.Damaged id) before new after state = before ≡ None
+IsLeftAfter sys item (fault.Damaged id) before new after state = (before ≡ None) × IsStepEnabled sys state Recover
 IsLeftAfter sys item fault.NoMemory before new after state = Unit {0}
 
 -- what an answer to an item says of the bytes that were written, where the engine stood for the state

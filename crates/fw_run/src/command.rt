@@ -60,12 +60,14 @@ pub fn falkirk<F: Folder, K: Store, O: Sink, N: Sink>(
     // too), the lines of the steps before were written (of generated texts nothing), and the store holds the records of what this
     // step leaves. `endure` goes on to its end: all was written, with a line for each step in which the store failed, and the store
     // holds the records of what its nodes wrote. That is known where the store tells its records, or no recovery before that step
-    // reads a checkpoint; and which records the store holds is said only where it tells them.
+    // reads a checkpoint; else `run` promises the lines up to the first recovery that reads one. Which records the store holds is
+    // said only where it tells them.
     ensures store_fault { result ≡ Status.StoreFault
         → StopsAtStore (IsSome (K.records store.old)) (call_of words.now (F.texts folder.old)) (K.fault_count store.old) (K.fault_count store.new)
         (K.records store.new) (O.view out.old) (O.view out.new) }
-    // 9: the store, which does not tell its records, gave under this id bytes that spell no record of the write; the lines of the
-    // steps before were written.
+    // 9: in a recovery the store, which does not tell its records, gave under this id bytes that spell no record of the entry with
+    // the id. Where no recovery before reads a checkpoint, this one is enabled, the entry is that of a write, and the lines of the
+    // steps before were written (of generated texts nothing); else `run` promises the lines up to the first that reads one.
     ensures damaged { (id : ℕ) → result ≡ Status.Damaged id
         → StopsAtDamage (IsSome (K.records store.old)) (call_of words.now (F.texts folder.old)) (K.fault_count store.old) (K.fault_count store.new) id
         (K.given store.new) (O.view out.old) (O.view out.new) }

@@ -34,6 +34,16 @@ returns-in_err-tally-clause-faults g c =
     let count = g.K.Store.fault_count in
     rw (p.1, p.2) (passed_after Tally (Unit {0}) _ (count c.args.store.now) (count c.take_items.new.store) c.in_err-tally.ensures.faults)
 
+pub returns-in_err-line-clause-faults : goal.returns-in_err-line-clause-faults
+returns-in_err-line-clause-faults g c =
+    let p = err_from_is_err_and c.from_residual-in_err-line.result c.from_residual-in_err-line.ensures.1 in
+    rw (p.1, p.2) c.in_ok-tally.ensures.faults
+
+pub returns-in_err-write-clause-faults : goal.returns-in_err-write-clause-faults
+returns-in_err-write-clause-faults g c =
+    let p = err_from_is_err_and c.from_residual-in_err-write.result c.from_residual-in_err-write.ensures.1 in
+    rw (p.1, p.2) c.in_ok-tally.ensures.faults
+
 pub returns-in_err-tally-clause-store_fault : goal.returns-in_err-tally-clause-store_fault
 returns-in_err-tally-clause-store_fault g c e =
     let p = err_from_is_err_and c.from_residual-in_err-tally.result c.from_residual-in_err-tally.ensures.1 in

@@ -1,4 +1,4 @@
-use Rattle.std.proofs.Common.{ℕ, List, refl, ◌∙◌}
+use Rattle.std.proofs.Common.{◌≡◌, ℕ, List, refl, ◌∙◌}
 use Rattle.std.proofs.lemmas.Result.{err_from_is_err_and}
 use Rattle.fw_bag.specs.declared.rec.Rec.{Rec}
 use Rattle.fw_flow.specs.Dataflow.{Dataflow}
@@ -25,7 +25,8 @@ pub returns-in_err-items-clause-faults : goal.returns-in_err-items-clause-faults
 returns-in_err-items-clause-faults g c =
     let p = err_from_is_err_and c.from_residual-in_err-items.result c.from_residual-in_err-items.ensures.1 in
     let count = g.F.Folder.fault_count in
-    rw (p.1, p.2) (read_passed (List Item) Job _ (count c.args.folder.now) (count c.fetch_inputs.new.folder) (count c.fetch_schedule.new.folder) (c.in_ok-batches.ensures.faults ∙ c.in_ok-flow.ensures.faults) c.in_err-items.ensures.faults)
+    let same : count c.fetch_inputs.new.folder ≡ count c.args.folder.now = c.in_ok-batches.ensures.faults ∙ c.in_ok-flow.ensures.faults in
+    rw (p.1, p.2) (read_passed (List Item) Job _ (count c.args.folder.now) (count c.fetch_inputs.new.folder) (count c.fetch_schedule.new.folder) same c.in_err-items.ensures.faults)
 
 pub returns-clause-job : goal.returns-clause-job
 returns-clause-job g c =

@@ -1,4 +1,6 @@
+use Rattle.std.proofs.Common.{subst}
 use Rattle.std.proofs.Math.Logic.{∥∥₁_map}
+use Rattle.fw_running.specs.Steps.{IsStepEnabled}
 use Rattle.fw_running.proofs.AnswerLaws.{sound-after, refused-after, taken, shown, left, unharmed}
 use Rattle.fw_engine.proofs.StableLaws.{shaped-stable}
 use Rattle.fw_engine.proofs.engine.Engine.step.Goals as goal
@@ -24,11 +26,10 @@ returns-clause-faulted g c =
     (left c.args.self.now.running before c.args.step.now c.take-stepped.result c.take-stepped.new.running after c.take-stepped.ensures.takes)
 
 pub returns-clause-unharmed : goal.returns-clause-unharmed
-returns-clause-unharmed g c =
-    let before = g.K.Store.records c.args.store.now in
-    let after = g.K.Store.records c.take-stepped.new.store in
-    (λ id.
-    unharmed c.args.self.now.running before c.args.step.now c.take-stepped.result c.take-stepped.new.running after id c.take-stepped.ensures.takes)
+returns-clause-unharmed g c = λ id sys state s e.
+    let u = unharmed c.args.self.now.running (g.K.Store.records c.args.store.now) c.args.step.now c.take-stepped.result c.take-stepped.new.running
+    (g.K.Store.records c.take-stepped.new.store) id c.take-stepped.ensures.takes sys state s e in
+    (u.0, subst (λ step. IsStepEnabled sys state step) (c.take-stepped.ensures.in_recovery id e) u.1, u.2)
 
 pub returns-clause-refused : goal.returns-clause-refused
 returns-clause-refused g c = refused-after c.take-stepped.result c.is_refusal-self.result c.is_refusal-self.ensures

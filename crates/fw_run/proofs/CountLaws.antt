@@ -36,20 +36,6 @@ read_told status result before after (inr (inr (id, e), m)) k = k ∙ ap (λ (s 
 write_not_memory : WriteFault ≡ NoMemory → ⊥
 write_not_memory e = absurd (cc)
 
--- it was not written to
-pub writes_none : (status : Status) (view : SinkView) → (status ≡ WriteFault → ⊥) → CountsWrites status view view
-writes_none status view other = record { faults = sym (none status view.faults other); refusals = λ m. sym (none status view.refusals other); no_memory = λ m. inl refl }
-  where
-    none : (s : Status) (count : ℕ) → (s ≡ WriteFault → ⊥) → write_faults_told s count ≡ count
-    none Done count o = refl
-    none BadWords count o = refl
-    none (Refused refusal) count o = refl
-    none ReadFault count o = refl
-    none WriteFault count o = absurd (o refl)
-    none StoreFault count o = refl
-    none (Damaged id) count o = refl
-    none NoMemory count o = refl
-
 -- all was written
 pub writes_all : (bytes : List ℕ) (before after : SinkView) → IsWritten bytes before after → CountsWrites Done before after
 writes_all bytes before after w = record { faults = w.none_failed; refusals = λ m. w.none_refused; no_memory = λ m. inl w.none_refused }

@@ -1,9 +1,8 @@
 -- Runs through faults of the store: their reports, one item more, and how they go on.
-use Rattle.std.proofs.Common.{◌≡◌, inl, inr, ℕ, ◌+◌, ◌-◌, ◌<◌, ◌≤◌, Bool, true, false, List, [], ◌∷◌, ◌++◌, length, map, take, drop, Option, Some, None, refl, sym, ◌∙◌, ap, subst, arith, append_assoc, cond}
+use Rattle.std.proofs.Common.{◌≡◌, inl, inr, ℕ, ◌+◌, Bool, true, false, List, [], ◌∷◌, ◌++◌, length, map, take, drop, Option, Some, None, refl, sym, ◌∙◌, ap, subst, arith, append_assoc, cond}
 use Rattle.std.proofs.lemmas.Bool.{false≢true}
-use Rattle.std.proofs.lemmas.List.{append-nil, length-append, length-map, map-append, take-append-drop}
+use Rattle.std.proofs.lemmas.List.{append-nil, map-append, take-append-drop}
 use Rattle.std.specs.Prelude.{IsSome}
-use Rattle.fw_flow.specs.Counting.{how_many}
 use Rattle.fw_flow.specs.declared.step.Step.{Step}
 use Rattle.fw_flow.specs.declared.step.Step.TheVariants.{Inject, Deliver, Notify, Progress, Checkpoint, Persist, Fail, Recover, Collect, Ack}
 use Rattle.fw_flow.specs.Dataflow.{Dataflow, System}
@@ -18,7 +17,7 @@ use Rattle.fw_running.specs.EffectText.{outcome_text}
 use Rattle.fw_run.proofs.ItemLaws.{item-run}
 use Rattle.fw_run.proofs.RunLaws.{idle-append}
 use Rattle.fw_run.specs.EnduredItems.{EnduredItem}
-use Rattle.fw_run.specs.Enduring.{Report, came, not_taken, unswept, is_fault, faults_in, outcomes_in, shown_in, ItemEndures, ItemsEndure, reports_text, report_text, EnduredRun, NoneEnduredReads, IsEndureKnown}
+use Rattle.fw_run.specs.Enduring.{Report, came, not_taken, unswept, is_fault, faults_in, outcomes_in, shown_in, ItemEndures, ItemsEndure, reports_text, report_text, EnduredRun, IsEndureKnown}
 use Rattle.fw_run.specs.Performing.{ItemRun, TrustsItem}
 use Rattle.fw_run.specs.Printed.{outcomes_text, idle_count}
 

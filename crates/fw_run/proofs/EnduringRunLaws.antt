@@ -1,5 +1,5 @@
 -- A run that goes on through faults of the store, item by item, and how it ends.
-use Rattle.std.proofs.Common.{◌≡◌, inl, ℕ, get_or, ◌+◌, ◌-◌, ◌<◌, ◌≤◌, List, [], ◌∷◌, ◌++◌, length, map, take, drop, Option, Ok, Err, refl, sym, ◌∙◌, ap, subst, arith, append_assoc}
+use Rattle.std.proofs.Common.{◌≡◌, inl, ℕ, get_or, ◌+◌, ◌<◌, ◌≤◌, List, [], ◌∷◌, ◌++◌, length, map, take, drop, Option, Ok, Err, refl, sym, ◌∙◌, ap, subst, arith, append_assoc}
 use Rattle.std.proofs.lemmas.List.{append-nil, length-append, take_all}
 use Rattle.std.specs.Prelude.{IsSome}
 use Rattle.std.specs.Result.{IsErrOf}

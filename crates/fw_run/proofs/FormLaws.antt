@@ -23,7 +23,7 @@ use Rattle.fw_lines.specs.declared.numeral.Number.{Number}
 use Rattle.fw_lines.specs.declared.numeral.Number.TheVariants.{Value, TooLarge, NotANumber}
 use Rattle.fw_lines.specs.Spelling.{is_numeral, number_of}
 use Rattle.fw_run.specs.Forms.{form, forms, three_names, matched_command}
-use Rattle.fw_run.specs.Words.{Command, TextNames, SystemNames, run, endure, generate, denote, check, is_operand, check_of, denote_of, gen_of, run_of, endure_of, generate_by, command_of}
+use Rattle.fw_run.specs.Words.{Command, TextNames, SystemNames, run, endure, denote, check, is_operand, check_of, denote_of, gen_of, run_of, endure_of, generate_by, command_of}
 
 -- ---- a word that is an operand
 

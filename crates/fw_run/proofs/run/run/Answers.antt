@@ -1,9 +1,9 @@
-use Rattle.std.proofs.Common.{◌≡◌, ℕ, List, [], inl, inr, sym, ◌∙◌, ap, subst, arith, lit<, ◌<◌, ◌≤◌, Err}
+use Rattle.std.proofs.Common.{◌≡◌, [], inl, inr, sym, ◌∙◌, ap, subst, arith, lit<, ◌<◌, ◌≤◌, Err}
 use Rattle.std.specs.Prelude.{IsSome}
 use Rattle.fw_outside.specs.declared.fault.OutFault.TheVariants.{Failed}
 use Rattle.fw_run.proofs.CallLaws.{same_refusal, prints, prints_part, prints_no_memory, prints_first, run_of-call, left_of-call, store_kept, late_fault, folder_read, counts_none, counts_fault, nothing_told}
 use Rattle.fw_run.proofs.FaultLaws.{write_of, store_of, damage_of}
-use Rattle.fw_run.proofs.CountLaws.{read_told-none, writes_none, writes_all, writes_until}
+use Rattle.fw_run.proofs.CountLaws.{read_told-none, writes_all, writes_until}
 use Rattle.fw_run.proofs.Numbers.{few_refusal_numbers}
 use Rattle.fw_run.specs.declared.status.Status.{Status}
 use Rattle.fw_run.specs.Call.{call_of, CountsFaults, CountsWrites, Refuses}

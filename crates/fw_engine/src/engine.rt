@@ -76,7 +76,8 @@ impl Engine {
         ensures ok { ForEachState self.old (K.records store.old) (λ sys state. Trusts sys state step.now (K.records store.old)
             → IfOk result (λ stepped. FollowsStep sys state step.now stepped self.new (K.records store.new))) }
 
-        // What is told is the machine's outcome whatever the store gave, also of a recovery that can not trust what it reads.
+        // What is told is the machine's outcome, also of a recovery that can not trust what it reads. For which state the engine then
+        // stands is not said.
         ensures shows { ForEachState self.old (K.records store.old)
             (λ sys state. IfOk result (λ stepped. HasOutcome sys state step.now (outcome_of stepped))) }
 
@@ -86,8 +87,8 @@ impl Engine {
         // The ids of what is written ascend.
         ensures in_order { AreAscending (ids_of (keep_of self.new).entries) }
 
-        // A store that tells its records goes on telling them. A step that does not call it leaves it as it is, and so does an idle
-        // one that is no collection.
+        // A store that tells its records goes on telling them. A step that by the flow's policies never calls it leaves it as it is,
+        // and so does an idle one that is no collection.
         ensures tells { is_some (K.records store.new) ≡ is_some (K.records store.old) }
         ensures quiet { (MayCallStore (flow_of self.old) step.now → ⊥) → store.new ≡ store.old }
         ensures idle { step.now ≢ Collect → result ≡ Ok Idle → store.new ≡ store.old }

@@ -1,4 +1,4 @@
-//! The outside stamps of a front, of which one alone takes no memory.
+//! The outside stamps of a front. One alone takes no memory where it is made alone.
 ghost use Rattle.std.specs.Prelude.{◌≡◌, true, [], ◌∷◌, length, IfSome, IfOk};
 ghost use Rattle.std.specs.List.{AllByRecursion};
 ghost use Rattle.fw_time.specs.declared.stamp.Bounds.{Bounds as Domain};

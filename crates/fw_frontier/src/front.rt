@@ -23,7 +23,7 @@ use std::marker::Model;
 /// of one domain alone; there all lists have the least of their own.
 ///
 /// The calls that make a frontier need memory for its outside stamps, and fail where memory is refused. One outside stamp
-/// alone takes no memory.
+/// alone, as `until` and `empty` make it of a domain of one coordinate, takes no memory.
 #[derive(Debug, Drop)]
 pub struct Front {
     outside: Few,

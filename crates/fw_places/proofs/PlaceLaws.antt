@@ -119,9 +119,6 @@ here ls us k = Contains-append_right ls (k ∷ us) k (0, omega arith, refl)
 pub is_put_new : (ls us : List ℕ) (k : ℕ) → IsPut k (ls ++ us) (ls ++ k ∷ us)
 is_put_new ls us k = record { there = here ls us k; stays = around ls us k; only = middle ls us k }
 
-pub is_put_old : (ls us : List ℕ) (k : ℕ) → IsPut k (ls ++ k ∷ us) (ls ++ k ∷ us)
-is_put_old ls us k = record { there = here ls us k; stays = λ q c. c; only = λ q c. inr c }
-
 absent : (ls us : List ℕ) (k : ℕ) → AllByRecursion (λ q. q < k) ls → AllByRecursion (λ q. k < q) us → Contains (ls ++ us) k → ⊥
 absent ls us k a b c =
     one_of (λ h. irreflexive k (each_of (λ q. q < k) ls k a h)) (λ h. irreflexive k (each_of (λ q. k < q) us k b h)) (Contains-append_cases ls us k c)
@@ -275,9 +272,6 @@ insert_puts xs i k f = subst (λ ys. IsPut k ys (insert xs i k)) (take-append-dr
 
 pub insert_is_key : (xs : List ℕ) (i k : ℕ) → IsAbsentAt k i xs → insert xs i k ≡ insert_key nat_cmp xs k
 insert_is_key xs i k f = put_new (take i xs) (drop i xs) k f.before f.after ∙ ap (λ ys. insert_key nat_cmp ys k) (take-append-drop i xs)
-
-pub found_puts : (xs : List ℕ) (i k : ℕ) → IsFoundAt k i xs → IsPut k xs xs
-found_puts xs i k f = subst (λ ys. IsPut k ys ys) (split xs i k f) (is_put_old (take i xs) (drop (suc i) xs) k)
 
 pub found_is_key : (xs : List ℕ) (i k : ℕ) → IsFoundAt k i xs → xs ≡ insert_key nat_cmp xs k
 found_is_key xs i k f = subst (λ ys. ys ≡ insert_key nat_cmp ys k) (split xs i k f) (put_old (take i xs) (drop (suc i) xs) k f.before)

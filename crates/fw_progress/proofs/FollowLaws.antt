@@ -42,7 +42,7 @@ use Rattle.fw_progress.specs.declared.counts.Counts.{Counts}
 use Rattle.fw_progress.specs.Counts.{pending_of, owed_of, injected_in, sent_of, is_in}
 use Rattle.fw_progress.specs.History.{count_at, IsCountOf, IsKept, stamps_sent}
 use Rattle.fw_progress.specs.Progress.{AreSent, IsDelivered, IsNotified, IsInjected}
-use Rattle.fw_progress.specs.Growths.{IsPut}
+use Rattle.fw_progress.specs.Growths.{IsEnlisted}
 use Rattle.fw_progress.specs.Tally.{times_in, has_one}
 use Rattle.fw_progress.proofs.HistoryLaws.{count-some}
 
@@ -408,7 +408,7 @@ notified-counts sys h p t sent old new w b l there is c d =
 
 -- an event leaves the kept frontiers, where its node waits from then on
 pub kept-event : (sys : System) (h : List Event) (v : Event) → IsWellFormed sys.flow → HasEpochs sys → IsLegal sys (v ∷ h) → (kept : List Front) (work more : List ℕ)
-    → IsPut (event_node sys.flow v) work more → IsKept sys h kept work → IsKept sys (v ∷ h) kept more
+    → IsEnlisted (event_node sys.flow v) work more → IsKept sys h kept work → IsKept sys (v ∷ h) kept more
 kept-event sys h v w b l kept work more put k = record {
   admissible = admissible-stays sys h w b l.1 (family_of sys.flow kept) k.admissible v l.0;
   stuck = λ p there out.

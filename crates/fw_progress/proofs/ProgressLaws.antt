@@ -18,7 +18,7 @@ use Rattle.fw_model.specs.Machine.{front_of, family_of, no_stamps, AreCanonical}
 use Rattle.fw_progress.specs.declared.counts.Counts.{Counts}
 use Rattle.fw_progress.specs.declared.growth.Growth.{Growth}
 use Rattle.fw_progress.specs.Counts.{owed_of, AreCounts, AreNodes, AreStuckOutside}
-use Rattle.fw_progress.specs.Growths.{IsPut, IsRefreshed}
+use Rattle.fw_progress.specs.Growths.{IsEnlisted, IsRefreshed}
 use Rattle.fw_progress.specs.History.{IsCountOf, IsKept, StandsFor, Follows}
 use Rattle.fw_progress.specs.Progress.{Standing, IsOfFlow, CanSend, IsDelivered, IsNotified, IsInjected}
 use Rattle.fw_progress.specs.Tally.{IsTallyOf}
@@ -80,10 +80,10 @@ counts-injected flow p sent old new a can d = record {
 }
 
 -- a node that is put among those of the flow leaves them of the flow
-nodes-put : (flow : Dataflow) (p : ℕ) (old new : List ℕ) → p < length flow.nodes → IsPut p old new → AreNodes flow old → AreNodes flow new
+nodes-put : (flow : Dataflow) (p : ℕ) (old new : List ℕ) → p < length flow.nodes → IsEnlisted p old new → AreNodes flow old → AreNodes flow new
 nodes-put flow p old new l put n = put.nodes (λ q. nat_lt q (length flow.nodes)) (lt-ltb p (length flow.nodes) l) n
 
-of_flow : (flow : Dataflow) (p : ℕ) (old new : Standing) → IsOfFlow flow old → p < length flow.nodes → AreCounts flow new.counts → IsPut p old.work new.work
+of_flow : (flow : Dataflow) (p : ℕ) (old new : Standing) → IsOfFlow flow old → p < length flow.nodes → AreCounts flow new.counts → IsEnlisted p old.work new.work
     → new.settled ≡ old.settled → new.kept ≡ old.kept → IsOfFlow flow new
 of_flow flow p old new o l a put s k = record {
   counts = a;
@@ -95,30 +95,30 @@ of_flow flow p old new o l a put s k = record {
 }
 
 pub delivered_of : (flow : Dataflow) (e : ℕ) (at : Stamp) (sent : List Stamp) (old new : Standing) → IsWellFormed flow → IsOfFlow flow old → e < length flow.edges → in_domain (bounds_of flow (receiver flow e)) at ≡ true
-    → CanSend flow (receiver flow e) sent → IsDelivered flow e at sent old.counts new.counts → IsPut (receiver flow e) old.work new.work
+    → CanSend flow (receiver flow e) sent → IsDelivered flow e at sent old.counts new.counts → IsEnlisted (receiver flow e) old.work new.work
     → new.settled ≡ old.settled → new.kept ≡ old.kept → IsOfFlow flow new
 delivered_of flow e at sent old new w o l i can d put s k =
     of_flow flow (receiver flow e) old new o (w.receivers_declared e l) (counts-delivered flow e at sent old.counts new.counts o.counts l i can d) put s k
 
 pub notified_of : (flow : Dataflow) (p : ℕ) (at : Stamp) (sent : List Stamp) (old new : Standing) → IsOfFlow flow old → p < length flow.nodes → CanSend flow p sent
-    → IsNotified flow p at sent old.counts new.counts → IsPut p old.work new.work
+    → IsNotified flow p at sent old.counts new.counts → IsEnlisted p old.work new.work
     → new.settled ≡ old.settled → new.kept ≡ old.kept → IsOfFlow flow new
 notified_of flow p at sent old new o l can d put s k = of_flow flow p old new o l (counts-notified flow p at sent old.counts new.counts o.counts can d) put s k
 
 pub injected_of : (flow : Dataflow) (p : ℕ) (sent : List Stamp) (old new : Standing) → IsOfFlow flow old → p < length flow.nodes → CanSend flow p sent
-    → IsInjected flow p sent old.counts new.counts → IsPut p old.work new.work → new.settled ≡ old.settled → new.kept ≡ old.kept → IsOfFlow flow new
+    → IsInjected flow p sent old.counts new.counts → IsEnlisted p old.work new.work → new.settled ≡ old.settled → new.kept ≡ old.kept → IsOfFlow flow new
 injected_of flow p sent old new o l can d put s k = of_flow flow p old new o l (counts-injected flow p sent old.counts new.counts o.counts can d) put s k
 
 -- ---- progress follows an event
 
 kept-on : (sys : System) (h : List Event) (v : Event) (flow : Dataflow) (old new : Standing) → sys.flow ≡ flow → IsWellFormed flow → HasEpochs sys → IsLegal sys (v ∷ h)
-    → IsPut (event_node flow v) old.work new.work → new.kept ≡ old.kept → IsKept sys h old.kept old.work → IsKept sys (v ∷ h) new.kept new.work
+    → IsEnlisted (event_node flow v) old.work new.work → new.kept ≡ old.kept → IsKept sys h old.kept old.work → IsKept sys (v ∷ h) new.kept new.work
 kept-on sys h v flow old new e w b l put k s =
     subst (λ fronts. IsKept sys (v ∷ h) fronts new.work) (sym k)
-    (kept-event sys h v (subst IsWellFormed (sym e) w) b l old.kept old.work new.work (subst (λ f. IsPut (event_node f v) old.work new.work) (sym e) put) s)
+    (kept-event sys h v (subst IsWellFormed (sym e) w) b l old.kept old.work new.work (subst (λ f. IsEnlisted (event_node f v) old.work new.work) (sym e) put) s)
 
 pub delivered_follows : (flow : Dataflow) (e : ℕ) (m : Message) (at : Stamp) (sent : List Stamp) (old new : Standing) → IsWellFormed flow → m.at ≡ at → IsDelivered flow e at sent old.counts new.counts
-    → IsPut (receiver flow e) old.work new.work → new.kept ≡ old.kept → Follows flow (Deliver e m) sent old new
+    → IsEnlisted (receiver flow e) old.work new.work → new.kept ≡ old.kept → Follows flow (Deliver e m) sent old new
 delivered_follows flow e m at sent old new w i d put k sys h same b l is s = record {
   counts = delivered-counts sys h e m sent old.counts new.counts (subst IsWellFormed (sym same) w) b l is s.counts
       (subst (λ f. IsDelivered f e m.at sent old.counts new.counts) (sym same) (subst (λ t. IsDelivered flow e t sent old.counts new.counts) (sym i) d));
@@ -126,7 +126,7 @@ delivered_follows flow e m at sent old new w i d put k sys h same b l is s = rec
 }
 
 pub notified_follows : (flow : Dataflow) (p : ℕ) (at : Stamp) (sent : List Stamp) (old new : Standing) → IsWellFormed flow → p < length flow.nodes → IsNotified flow p at sent old.counts new.counts
-    → IsPut p old.work new.work → new.kept ≡ old.kept → Follows flow (Notify p at) sent old new
+    → IsEnlisted p old.work new.work → new.kept ≡ old.kept → Follows flow (Notify p at) sent old new
 notified_follows flow p at sent old new w there d put k sys h same b l is s = record {
   counts = notified-counts sys h p at sent old.counts new.counts (subst IsWellFormed (sym same) w) b l (subst (λ f. p < length f.nodes) (sym same) there) is s.counts
       (subst (λ f. IsNotified f p at sent old.counts new.counts) (sym same) d);
@@ -134,7 +134,7 @@ notified_follows flow p at sent old new w there d put k sys h same b l is s = re
 }
 
 pub injected_follows : (flow : Dataflow) (p x : ℕ) (sent : List Stamp) (old new : Standing) → IsWellFormed flow → IsInjected flow p sent old.counts new.counts
-    → IsPut p old.work new.work → new.kept ≡ old.kept → Follows flow (Inject p x) sent old new
+    → IsEnlisted p old.work new.work → new.kept ≡ old.kept → Follows flow (Inject p x) sent old new
 injected_follows flow p x sent old new w d put k sys h same b l is s = record {
   counts = injected-counts sys h p x sent old.counts new.counts b l is s.counts (subst (λ f. IsInjected f p sent old.counts new.counts) (sym same) d);
   kept = kept-on sys h (Inject p x) flow old new same w b l put k s.kept;

@@ -24,7 +24,7 @@ use Rattle.fw_model.proofs.DescentLaws.{total, total-less, covers-at}
 use Rattle.fw_model.proofs.TableLaws.{table-follows}
 use Rattle.fw_progress.specs.declared.counts.Counts.{Counts}
 use Rattle.fw_progress.specs.Counts.{batches_in, injected_in, owed_of, given_by, clear_by, come_by, target_by, is_in, AreCounts, AreNodes, IsStuckBy}
-use Rattle.fw_progress.specs.Growths.{out_degrees, IsPut, ArePut}
+use Rattle.fw_progress.specs.Growths.{out_degrees, IsEnlisted, ArePut}
 use Rattle.fw_progress.specs.History.{IsCountOf, IsKept}
 use Rattle.fw_progress.specs.Tally.{times_in}
 use Rattle.fw_progress.specs.Start.{AreLargest, AreOfNothing, IsLowered, IsShrunk}
@@ -63,7 +63,7 @@ pub record WaitUpTo (flow : Dataflow) (place : ℕ) (work : List ℕ) : Type 0 w
 pub none-waits : (flow : Dataflow) (work : List ℕ) → work ≡ [] → WaitUpTo flow 0 work
 none-waits flow work e = record { each = λ p l. absurd (omega arith); nodes = ap (list_all (λ p. nat_lt p (length flow.nodes))) e }
 
-pub one-waits : (flow : Dataflow) (place node : ℕ) (old new : List ℕ) → node ≡ place → place < length flow.nodes → WaitUpTo flow place old → IsPut node old new → WaitUpTo flow (place + 1) new
+pub one-waits : (flow : Dataflow) (place node : ℕ) (old new : List ℕ) → node ≡ place → place < length flow.nodes → WaitUpTo flow place old → IsEnlisted node old new → WaitUpTo flow (place + 1) new
 one-waits flow place node old new e l w put = record {
   each = λ p m. elim (cases_lt p place) [
     | inl k ↦ put.stays p (w.each p k)

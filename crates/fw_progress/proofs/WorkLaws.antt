@@ -10,14 +10,14 @@ use Rattle.std.proofs.lemmas.List.{take_more, length-append}
 use Rattle.fw_time.proofs.EachLaws.{each-append, each-weaker}
 use Rattle.fw_flow.specs.Dataflow.{Dataflow, receiver}
 use Rattle.fw_progress.specs.Counts.{is_in}
-use Rattle.fw_progress.specs.Growths.{IsPut, ArePut}
+use Rattle.fw_progress.specs.Growths.{IsEnlisted, ArePut}
 use Rattle.fw_progress.proofs.TargetLaws.{all-append}
 
 nat_cmp-equal : (m n : ℕ) → nat_cmp m n ≡ Equal → n ≡ m
 nat_cmp-equal m n e = grind (arith)
 
-put-more : (k x : ℕ) (xs : List ℕ) → IsPut k xs (insert_key nat_cmp xs k) → (o : Ordering) → nat_cmp k x ≡ o
-    → IsPut k (x ∷ xs) (match_ordering o (k ∷ x ∷ xs) (x ∷ xs) (x ∷ insert_key nat_cmp xs k))
+put-more : (k x : ℕ) (xs : List ℕ) → IsEnlisted k xs (insert_key nat_cmp xs k) → (o : Ordering) → nat_cmp k x ≡ o
+    → IsEnlisted k (x ∷ xs) (match_ordering o (k ∷ x ∷ xs) (x ∷ xs) (x ∷ insert_key nat_cmp xs k))
 put-more k x xs p Less e = record {
   there = or_left (k == k) (is_in (x ∷ xs) k) (eq-eqb k k refl);
   stays = λ q j. or_right (k == q) (is_in (x ∷ xs) q) j;
@@ -44,7 +44,7 @@ put-more k x xs p Greater e =
     rest q false j = p.stays q j
 
 -- a node that is put among others in order
-pub put-key : (k : ℕ) (xs : List ℕ) → IsPut k xs (insert_key nat_cmp xs k)
+pub put-key : (k : ℕ) (xs : List ℕ) → IsEnlisted k xs (insert_key nat_cmp xs k)
 put-key k [] = record { there = or_left (k == k) false (eq-eqb k k refl); stays = λ q j. or_right (k == q) false j; nodes = λ P i j. and_from (P k) true i refl; few = omega arith }
 put-key k (x ∷ xs) = put-more k x xs (put-key k xs) (nat_cmp k x) refl
 
@@ -52,7 +52,7 @@ pub put_none : (flow : Dataflow) (work : List ℕ) → ArePut flow [] work work
 put_none flow work = record { there = tt; stays = λ q k. k; nodes = λ P e k. k; few = omega arith }
 
 pub put_one : (flow : Dataflow) (edges : List ℕ) (i e node : ℕ) (old mid new : List ℕ) → i < length edges → e ≡ get_or edges i e → node ≡ receiver flow e
-    → ArePut flow (take i edges) old mid → IsPut node mid new → ArePut flow (take (i + 1) edges) old new
+    → ArePut flow (take i edges) old mid → IsEnlisted node mid new → ArePut flow (take (i + 1) edges) old new
 put_one flow edges i e node old mid new l is at before put =
     let some : take (i + 1) edges ≡ take i edges ++ e ∷ [] = take_more edges i e l ∙ ap (λ d. take i edges ++ d ∷ []) (sym is) in
     let test : ℕ → Type 0 = λ d. is_in new (receiver flow d) ≡ true in

@@ -25,7 +25,7 @@ out_degrees flow [] = 0
 out_degrees flow (g ∷ gs) = length (out_edges flow g.node) + out_degrees flow gs
 
 -- the node is in the list, and what was there is; nothing else is, and it is longer by one at most
-pub record IsPut (node : ℕ) (old new : List ℕ) : Type 0 where
+pub record IsEnlisted (node : ℕ) (old new : List ℕ) : Type 0 where
   pub there : is_in new node ≡ true
   pub stays : (q : ℕ) → is_in old q ≡ true → is_in new q ≡ true
   pub nodes : (P : ℕ → Bool) → P node ≡ true → list_all P old ≡ true → list_all P new ≡ true

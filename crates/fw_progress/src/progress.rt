@@ -11,7 +11,7 @@ ghost use Rattle.fw_model.specs.Machine.{front_of, family_of, no_stamps, AreCano
 ghost use Rattle.fw_model.specs.Steps.{IsNextNotice};
 ghost use Rattle.fw_progress.specs.Counts.{owed_of, AreCounts};
 ghost use Rattle.fw_progress.specs.Cut.{events_left, AreTallies, ArePendingAfter, AreTablesAfter};
-ghost use Rattle.fw_progress.specs.Growths.{AreGrowths, out_degrees, IsPut};
+ghost use Rattle.fw_progress.specs.Growths.{AreGrowths, out_degrees, IsEnlisted};
 ghost use Rattle.fw_progress.specs.History.{IsCountOf, StandsFor, Follows, IsFresh};
 ghost use Rattle.fw_progress.specs.Notices.{IsFirstNotice};
 ghost use Rattle.fw_progress.specs.Settle as settling;
@@ -192,7 +192,7 @@ impl Progress {
         requires sent { CanSend flow.now (receiver flow.now edge) sent.now }
         ensures progress { IsProgressOf flow.now self.new }
         ensures counts { IfOk result (λ u. IsDelivered flow.now edge at.now sent.now self.old.counts self.new.counts) }
-        ensures work { IfOk result (λ u. IsPut (receiver flow.now edge) self.old.work self.new.work) }
+        ensures work { IfOk result (λ u. IsEnlisted (receiver flow.now edge) self.old.work self.new.work) }
         ensures settled { self.new.settled ≡ self.old.settled }
         ensures kept { self.new.kept ≡ self.old.kept }
         ensures follows { (m : Message) → m.at ≡ at.now
@@ -224,7 +224,7 @@ impl Progress {
         requires sent { CanSend flow.now node sent.now }
         ensures progress { IsProgressOf flow.now self.new }
         ensures counts { IfOk result (λ u. IsNotified flow.now node at.now sent.now self.old.counts self.new.counts) }
-        ensures work { IfOk result (λ u. IsPut node self.old.work self.new.work) }
+        ensures work { IfOk result (λ u. IsEnlisted node self.old.work self.new.work) }
         ensures settled { self.new.settled ≡ self.old.settled }
         ensures kept { self.new.kept ≡ self.old.kept }
         ensures follows { IfOk result (λ u. Follows flow.now (events.Notify node at.now) sent.now self.old self.new) }
@@ -249,7 +249,7 @@ impl Progress {
         requires sent { CanSend flow.now node sent.now }
         ensures progress { IsProgressOf flow.now self.new }
         ensures counts { IfOk result (λ u. IsInjected flow.now node sent.now self.old.counts self.new.counts) }
-        ensures work { IfOk result (λ u. IsPut node self.old.work self.new.work) }
+        ensures work { IfOk result (λ u. IsEnlisted node self.old.work self.new.work) }
         ensures settled { self.new.settled ≡ self.old.settled }
         ensures kept { self.new.kept ≡ self.old.kept }
         ensures follows { (epoch : ℕ)
@@ -532,7 +532,7 @@ fn deliver(
     requires counts { AreCounts flow.now counts.old }
     requires there { edge < length flow.now.edges }
     ensures counts { IfOk result (λ u. IsDelivered flow.now edge at.now sent.now counts.old counts.new) }
-    ensures work { IfOk result (λ u. IsPut (receiver flow.now edge) work.old work.new) }
+    ensures work { IfOk result (λ u. IsEnlisted (receiver flow.now edge) work.old work.new) }
 {
     events::delivered(flow, counts, edge, at, sent)?;
     work.put(flow.dst(edge))
@@ -550,7 +550,7 @@ fn notify(
     requires counts { AreCounts flow.now counts.old }
     requires there { node < length flow.now.nodes }
     ensures counts { IfOk result (λ u. IsNotified flow.now node at.now sent.now counts.old counts.new) }
-    ensures work { IfOk result (λ u. IsPut node work.old work.new) }
+    ensures work { IfOk result (λ u. IsEnlisted node work.old work.new) }
 {
     events::notified(flow, counts, node, at, sent)?;
     work.put(node)
@@ -567,7 +567,7 @@ fn inject(
     requires counts { AreCounts flow.now counts.old }
     requires there { node < length flow.now.nodes }
     ensures counts { IfOk result (λ u. IsInjected flow.now node sent.now counts.old counts.new) }
-    ensures work { IfOk result (λ u. IsPut node work.old work.new) }
+    ensures work { IfOk result (λ u. IsEnlisted node work.old work.new) }
 {
     events::injected(flow, counts, node, sent)?;
     work.put(node)

@@ -1,6 +1,6 @@
 //! The nodes that wait.
 ghost use Rattle.std.specs.Prelude.{◌≡◌, [], ◌∷◌, IfSome, IfNone, IfOk};
-ghost use Rattle.fw_progress.specs.Growths.{IsPut, ArePut};
+ghost use Rattle.fw_progress.specs.Growths.{IsEnlisted, ArePut};
 ghost use Rattle.fw_flow.specs.Dataflow.{out_edges};
 
 use fw_flow::{Flow, NodeId};
@@ -34,7 +34,7 @@ impl Worklist {
 
     /// The node waits from now on. The error is want of memory.
     pub(crate) fn put(&mut self, node: NodeId) -> Result<(), AllocError>
-        ensures { IfOk result (λ u. IsPut node self.old self.new) }
+        ensures { IfOk result (λ u. IsEnlisted node self.old self.new) }
     {
         self.places.insert(node.place())?;
         Ok(())

@@ -501,7 +501,7 @@ damaged_not_done id e = absurd (cc)
 pub counts_none : (command : Option Command) (status : Status) (before after : ℕ) → after ≡ before → (status ≡ StoreFault → ⊥) → CountsFaults command status before after
 counts_none command status before after same other = record {
   none = λ e. same;
-  first = λ once. same ∙ sym (none status other);
+  once = λ once. same ∙ sym (none status other);
   some = λ e. absurd (other e);
   rose = λ e. absurd (other e);
   rises = (0, same);
@@ -547,7 +547,7 @@ pub counts_fault : (T : Type 0) (told : Option (List ℕ → Option (List ℕ)))
     → StaysOrRose before after → CountsFaults command (status_of f) before after
 counts_fault T told command asked work f before after e j ends some rises = record {
   none = λ done. absurd (fault_not_done f done);
-  first = λ once. ends_at_fault T told f before after asked work j (λ through. once (ap (λ c. option_and_then manner_of c) e ∙ through)) ends;
+  once = λ once. ends_at_fault T told f before after asked work j (λ through. once (ap (λ c. option_and_then manner_of c) e ∙ through)) ends;
   some = λ is. some (ap (λ (g : RunFault). Err g) (store_of f is));
   rose = λ is. rose_by before after (some (ap (λ (g : RunFault). Err g) (store_of f is)));
   rises = rises;
@@ -559,7 +559,7 @@ pub counts_told : (command : Option Command) (status result : Status) (before af
 counts_told command status result before after (inl e) k = subst (λ (s : Status). CountsFaults command s before after) (sym e) k
 counts_told command status result before after (inr t) k = record {
   none = λ done. absurd (not_done (sym t.1 ∙ done));
-  first = λ once. k.first once ∙ quiet t.0 ∙ sym (ap (λ (s : Status). store_faults_told s before) t.1);
+  once = λ once. k.once once ∙ quiet t.0 ∙ sym (ap (λ (s : Status). store_faults_told s before) t.1);
   some = λ fault. absurd (not_fault (sym t.1 ∙ fault));
   rose = λ fault. absurd (not_fault (sym t.1 ∙ fault));
   rises = k.rises;

@@ -168,17 +168,17 @@ abbrev pub StopsAtDamage : Type 0 → Call → ℕ → ℕ → ℕ → Option (�
 StopsAtDamage Tells call count last id given before after = IsRunOf call (IsDamageIn Tells count last id given before after)
 
 -- How often the store failed: where all went well, never; in a call that does not go on through faults, once where the status tells it,
--- and else never; in one that does, once at least where the status tells it. How often that was stands with what is printed. There the
--- count rose, or stands at its end. Whatever the status, it stays or rises by faults.
+-- and else never; in one that does, once at least where the status tells it. How often that was stands with what is printed, as far as
+-- that is known. Where the status tells a fault the count rose, or stood at its end. Whatever the status, it stays or rises by faults.
 pub record CountsFaults (command : Option Command) (status : Status) (before after : ℕ) : Type 0 where
   pub none : status ≡ Done → after ≡ before
-  pub first : option_and_then manner_of command ≢ Some through_faults → after ≡ store_faults_told status before
+  pub once : option_and_then manner_of command ≢ Some through_faults → after ≡ store_faults_told status before
   pub some : status ≡ StoreFault → RoseByFaults before after
   pub rose : status ≡ StoreFault → RoseOrFull before after
   pub rises : StaysOrRose before after
 
--- How often the output failed: once where the status tells it, and else never. Then it refused a write once; where memory was refused,
--- once or never; and else never.
+-- How often the output failed: once where the status tells it, and else never. How often it refused a write: once where the status
+-- tells that it failed, once or never where memory was refused, and else never.
 pub record CountsWrites (status : Status) (before after : SinkView) : Type 0 where
   pub faults : after.faults ≡ write_faults_told status before.faults
   pub refusals : status ≢ NoMemory → after.refusals ≡ write_faults_told status before.refusals

@@ -35,7 +35,7 @@ shown_bytes (Some line) = line.items
 
 -- ---- what the sink took
 
--- the sink took these bytes and no more, until this fault, which its counts tell
+-- the sink took these bytes and no more, until this fault; its counts tell one of its own
 pub record IsCutAfter (bytes : List ℕ) (fault : OutFault) (before after : SinkView) : Type 0 where
   pub taken : Takes before.taken bytes after.taken
   pub faults : after.faults ≡ faults_by fault before.faults

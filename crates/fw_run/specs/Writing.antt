@@ -32,7 +32,7 @@ pub record IsPartWritten (bytes : List ℕ) (before after : SinkView) : Type 0 w
   pub none_refused : after.refusals ≡ before.refusals
   pub none_failed : after.faults ≡ before.faults
 
--- the sink took first of these bytes, none of them or all perhaps, until this fault, which its counts tell
+-- the sink took first of these bytes, none of them or all perhaps, until this fault; its counts tell one of its own
 pub record IsCutOff (bytes : List ℕ) (fault : OutFault) (before after : SinkView) : Type 0 where
   pub taken : TakesPrefix before.taken bytes after.taken
   pub faults : after.faults ≡ faults_by fault before.faults

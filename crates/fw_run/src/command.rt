@@ -60,8 +60,8 @@ pub fn falkirk<F: Folder, K: Store, O: Sink, N: Sink>(
     // too), the lines of the steps before were written (of generated texts nothing), and the store holds the records of what this
     // step leaves. `endure` goes on to its end: all was written, with a line for each step in which the store failed, and the store
     // holds the records of what its nodes wrote. That is known where the store tells its records, or no recovery before that step
-    // reads a checkpoint; else `run` promises the lines up to the first recovery that reads one. Which records the store holds is
-    // said only where it tells them.
+    // (of `endure`: none at all) reads a checkpoint; else `run` promises the lines up to the first recovery that reads one. Which
+    // records the store holds is said only where it tells them.
     ensures store_fault { result ≡ Status.StoreFault
         → StopsAtStore (IsSome (K.records store.old)) (call_of words.now (F.texts folder.old)) (K.fault_count store.old) (K.fault_count store.new)
         (K.records store.new) (O.view out.old) (O.view out.new) }
@@ -71,7 +71,8 @@ pub fn falkirk<F: Folder, K: Store, O: Sink, N: Sink>(
     ensures damaged { (id : ℕ) → result ≡ Status.Damaged id
         → StopsAtDamage (IsSome (K.records store.old)) (call_of words.now (F.texts folder.old)) (K.fault_count store.old) (K.fault_count store.new) id
         (K.given store.new) (O.view out.old) (O.view out.new) }
-    // 8 and 9, whatever the store tells: first bytes of what is printed were written, and no write was refused.
+    // 8 and 9: no write was refused, whatever the store tells; and first bytes of what is printed were written, as far as that is
+    // known.
     ensures store_part { 8 ≤ status_number result → status_number result ≤ 9
         → PrintsFirst (IsSome (K.records store.old)) (call_of words.now (F.texts folder.old)) (K.fault_count store.old) (K.fault_count store.new)
         (O.view out.old) (O.view out.new) }

@@ -238,7 +238,7 @@ fn add_count(sends: &mut Vec<SentCount>, epoch: u32, count: u64) -> Result<(), A
     Ok(())
 }
 
-// Takes the last count out, if it is of an epoch, and answers it; 0 where it is of another one.
+// Takes the last count out, if it is of this epoch, and answers it; 0 where it is of another one.
 fn take_count(sends: &mut Vec<SentCount>, epoch: u32) -> u64
     ensures { HasTaken (epoch ∷ []) result sends.old.items sends.new.items }
 {
@@ -251,7 +251,7 @@ fn take_count(sends: &mut Vec<SentCount>, epoch: u32) -> u64
     }
 }
 
-// Whether the last count is of an epoch.
+// Whether the last count is of this epoch.
 fn is_last(sends: &[SentCount], epoch: u32) -> bool
     ensures { result ≡ is_last_of (epoch ∷ []) sends.now }
 {
@@ -261,7 +261,7 @@ fn is_last(sends: &[SentCount], epoch: u32) -> bool
     }
 }
 
-// Whether a stamp is an epoch.
+// Whether a stamp is this epoch.
 fn is_epoch(stamp: &Stamp, epoch: u32) -> bool
     ensures { result ≡ same stamp.now (epoch ∷ []) }
 {

@@ -34,10 +34,6 @@ pub struct Entry {
     pub written: Written,
     /// Whether the write is acknowledged, and not in flight.
     pub acknowledged: bool,
-    /// The id of the write from which its record tells the changes; none, since each record is whole.
-    pub base: Option<u64>,
-    /// How many records lie between it and a whole one.
-    pub depth: u32,
 }
 
 /// No stamps: of an event they are not kept.

@@ -23,8 +23,6 @@ fn entry_of(id: u64, what: &Record, stamps: Stamps) -> Result<Entry, AllocError>
         node: node_of(what),
         written: written_of(what, stamps)?,
         acknowledged: false,
-        base: None,
-        depth: 0,
     })
 }
 

@@ -118,7 +118,7 @@ fn raise_base(
 fn drop_from(drops: &Drops, parts: &mut Parts)
     ensures { AreGivenUp drops.now parts.old parts.new }
 {
-    apply(drops, &mut parts.keep, &mut [], &mut parts.sources);
+    apply(drops, &mut parts.keep, &mut parts.sources);
     drop_messages(&drops.messages, &mut parts.logs);
 }
 

@@ -1,7 +1,8 @@
 //! Collections: what is given up when the low watermark rises, and giving it up.
 //!
 //! `plan` says from a dataflow, the choice that the monitor made of what acknowledged writes alone carry, and the catalogue's
-//! entries what is not needed again, as plain data. `apply` takes that out of the catalogue, the logs and the inputs.
+//! entries what is not needed again, as plain data. `apply` takes that out of the catalogue and the inputs; from the
+//! logs its caller does.
 #![tactic(auto)]
 
 mod applying;

@@ -1,5 +1,5 @@
 //! What is known of the nodes and their writes, to say what they offer to a recovery.
-ghost use Rattle.std.specs.Prelude.{◌≡◌, ◌<◌, ◌≤◌, filter, length, map, IfOk};
+ghost use Rattle.std.specs.Prelude.{◌≡◌, ◌<◌, ◌≤◌, filter, length, map, IsTrue, IfOk};
 ghost use Rattle.fw_time.specs.Stamp.{in_domain};
 ghost use Rattle.fw_flow.specs.Dataflow.{kind_of, bounds_of, greatest_number};
 ghost use Rattle.fw_collect.specs.Drops.{watermark};
@@ -67,7 +67,7 @@ fn view(running: &Running, node: NodeId, lost: Lost) -> Result<NodeView, AllocEr
 {
     let stamps = running.traces.stamps(running.alloc, &running.flow, node)?;
     Ok(NodeView {
-        stamps: of_domains(running.alloc, &running.flow, node, &stamps)?,
+        stamps: of_domains(running.alloc, &running.flow, node, stamps)?,
         table: sent_by_epoch(running, node)?,
         settled: settled_front(running, node)?,
         low: low_front(running, node)?,
@@ -165,28 +165,55 @@ fn of_domains(
     alloc: Global,
     flow: &Flow,
     node: NodeId,
-    stamps: &Stamps,
+    stamps: Stamps,
 ) -> Result<Stamps, AllocError>
-    ensures { IfOk result (λ all. all ≡ chosen.of_domains flow.now node stamps.now) }
+    ensures { IfOk result (λ all. all ≡ chosen.of_domains flow.now node stamps) }
 {
     let single = flow.kind(node).is_input();
+    let notified = of_domain(alloc, &flow.domain(node), &stamps.notified)?;
     Ok(Stamps {
-        delivered: on_their_edges(alloc, flow, false, &stamps.delivered)?,
-        notified: of_domain(alloc, &flow.domain(node), &stamps.notified)?,
-        sent: on_their_edges(alloc, flow, single, &stamps.sent)?,
+        delivered: on_their_edges(alloc, flow, false, stamps.delivered)?,
+        notified,
+        sent: on_their_edges(alloc, flow, single, stamps.sent)?,
     })
 }
 
-// The messages that are at stamps of their edges, and of one cause where they are to be.
+// The messages that are at stamps of their edges, and of one cause where they are to be. Where all are, none is copied.
 fn on_their_edges(
     alloc: Global,
     flow: &Flow,
     single: bool,
-    messages: &CountedMessages,
+    messages: CountedMessages,
+) -> Result<CountedMessages, AllocError>
+    ensures { IfOk result (λ all. all ≡ filter (is_on_its_edge flow.now single) messages) }
+{
+    if are_on_their_edges(flow, single, messages.as_slice()) {
+        return Ok(messages);
+    }
+    those_on_their_edges(alloc, flow, single, messages.as_slice())
+}
+
+// Whether each message is at a stamp of its edge, and of one cause where it is to be.
+fn are_on_their_edges(flow: &Flow, single: bool, messages: &[Counted]) -> bool
+    ensures { IsTrue result → filter (is_on_its_edge flow.now single) messages.now ≡ messages.now }
+{
+    for message in messages {
+        if !on_its_edge(flow, single, message) {
+            return false;
+        }
+    }
+    true
+}
+
+// Copies of the messages that are at stamps of their edges, and of one cause where they are to be.
+fn those_on_their_edges(
+    alloc: Global,
+    flow: &Flow,
+    single: bool,
+    messages: &[Counted],
 ) -> Result<CountedMessages, AllocError>
     ensures { IfOk result (λ all. all ≡ filter (is_on_its_edge flow.now single) messages.now) }
 {
-    let messages = messages.as_slice();
     let mut all = Vec::new(alloc);
     for message in messages {
         if on_its_edge(flow, single, message) {

@@ -1,5 +1,5 @@
 //! What an engine shows between steps.
-ghost use Rattle.std.specs.Prelude.{◌≡◌, ◌<◌, ◌≤◌, Option, true, false, length, nat_lt, is_some, IfSome, slice_get};
+ghost use Rattle.std.specs.Prelude.{◌≡◌, ◌≤◌, ◌&&◌, Option, false, length, nat_lt, is_some, IfSome, slice_get};
 ghost use Rattle.std.specs.Option.{option_copied};
 ghost use Rattle.fw_flow.specs.Dataflow.{kind_of, is_output_kind};
 ghost use Rattle.fw_model.specs.Machine as machine;
@@ -38,12 +38,19 @@ impl Engine {
         self.running.is_failed(node)
     }
 
-    /// How many stamps an output acknowledged.
-    pub fn acknowledged(&self, output: NodeId) -> u64
-        ensures { (records : Option Records) → output < length (flow_of self.now).nodes → is_output_kind (kind_of (flow_of self.now) output) ≡ true
-            → ForEachState self.now records (λ sys state. result ≡ ack_count_of state output) }
+    /// How many stamps an output acknowledged; none where the node is no output, and past the last node.
+    pub fn acknowledged(&self, output: NodeId) -> Option<u64>
+        ensures count { (records : Option Records)
+            → ForEachState self.now records (λ sys state. IfSome result (λ count. count ≡ ack_count_of state output)) }
+        ensures declared { is_some result
+            ≡ (nat_lt output (length (flow_of self.now).nodes) && is_output_kind (kind_of (flow_of self.now) output)) }
     {
-        self.running.parts.outputs.bound(output)
+        let flow = &self.running.flow;
+        if (output.place() as usize) < flow.nodes() && flow.kind(output).is_output() {
+            Some(self.running.parts.outputs.bound(output))
+        } else {
+            None
+        }
     }
 
     /// The low watermark of a node, below which no recovery cuts it; none past the last node.

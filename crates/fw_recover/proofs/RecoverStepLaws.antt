@@ -16,7 +16,7 @@ use Rattle.fw_keep.specs.declared.fault.KeepFault.{KeepFault}
 use Rattle.fw_keep.specs.declared.fault.KeepFault.TheVariants as keep
 use Rattle.fw_keep.specs.Stored.{Records, HoldsAs, bytes_under}
 use Rattle.fw_rollback.specs.declared.parts.Parts.{Parts}
-use Rattle.fw_rollback.specs.Asked.{IsDamaged, IsDamagedIfSaid}
+use Rattle.fw_rollback.specs.Asked.{is_asked_for, IsDamaged, IsDamagedIfSaid}
 use Rattle.fw_stands.specs.Written.{AreStored, IsHeldAs, uncollected}
 use Rattle.fw_stands.proofs.RecoveredFacts.{each-contained}
 use Rattle.fw_running.specs.declared.fault.EngineFault.{EngineFault}
@@ -30,7 +30,7 @@ use Rattle.fw_choose.specs.Chosen.{IsChosenBy}
 use Rattle.fw_running.specs.Faults.{fault_of}
 use Rattle.fw_running.specs.Shaped.{IsShaped}
 use Rattle.fw_running.specs.Stands.{Stands}
-use Rattle.fw_running.specs.Steps.{IsDamage, IsStepEnabled, ShowsOutcome, StaysShaped, TakesStep}
+use Rattle.fw_running.specs.Steps.{IsAskedIn, IsDamage, IsStepEnabled, ShowsOutcome, StaysShaped, TakesStep}
 use Rattle.fw_recover.proofs.RecoverLaws.{IsRecovered, recovered-leads, recovered-stands}
 
 -- ---- whether a node is failed
@@ -147,15 +147,29 @@ refusal-shaped T old keep.StoreFault s = s
 refusal-shaped T old (keep.Damaged id bytes) s = s
 refusal-shaped T old keep.NoMemory s = tt
 
+-- the largest choice asks for the entry
+asked-in : (old : Running) (choice : Choice) (entry : Entry) → IsChosenBy old Failed choice → is_asked_for old.flow choice entry ≡ true
+    → (sys : System) (records : Option Records) (state : Machine) → Stands sys old records state → IsAskedIn sys entry state
+asked-in old choice entry chosen asked sys records state s =
+    (choice, chosen sys records state s, subst (λ flow. is_asked_for flow choice entry ≡ true) s.flow asked)
+
 -- the damage that a recovery tells
-pub refusal-damage : (old : Running) (choice : Choice) (records : Option Records) (got : Option (ℕ × List ℕ)) (why : KeepFault)
+pub refusal-damage : (old : Running) (choice : Choice) (records : Option Records) (got : Option (ℕ × List ℕ)) (why : KeepFault) → IsChosenBy old Failed choice
     → IsDamagedIfSaid {T = Unit {0}} old.flow choice records old.parts.keep.entries got (Err why) → (id : ℕ) → fault_of why ≡ fault.Damaged id → IsDamage old id got
-refusal-damage old choice records got keep.StoreFault d id e = absurd (cc e)
-refusal-damage old choice records got (keep.Damaged at bytes) d id e =
+refusal-damage old choice records got keep.StoreFault chosen d id e = absurd (cc e)
+refusal-damage old choice records got (keep.Damaged at bytes) chosen d id e =
     let same : at ≡ id = cc in
     subst (λ n. IsDamage old n got) same
-    (record { entry = d.entry; there = d.there; named = d.named; bytes = bytes.items; gave = d.given; spells_none = d.none })
-refusal-damage old choice records got keep.NoMemory d id e = absurd (cc e)
+    (record {
+      entry = d.entry;
+      there = d.there;
+      named = d.named;
+      bytes = bytes.items;
+      gave = d.given;
+      spells_none = d.none;
+      asked = asked-in old choice d.entry chosen d.asked;
+    })
+refusal-damage old choice records got keep.NoMemory chosen d id e = absurd (cc e)
 
 -- ---- by what the call to the catalogue answered
 
@@ -172,12 +186,12 @@ refused-stands old parts choice records after got why (Err e) shaped some same t
 
 -- the damage that is told then
 pub refused-damage : (old : Running) (choice : Choice) (records : Option Records) (got : Option (ℕ × List ℕ)) (why : KeepFault) (r : Result Stepped EngineFault)
-    → IsErrAnd r (λ e. e ≡ fault_of why) → IsDamagedIfSaid {T = Unit {0}} old.flow choice records old.parts.keep.entries got (Err why)
+    → IsChosenBy old Failed choice → IsErrAnd r (λ e. e ≡ fault_of why) → IsDamagedIfSaid {T = Unit {0}} old.flow choice records old.parts.keep.entries got (Err why)
     → (id : ℕ) → r ≡ Err (fault.Damaged id) → IsDamage old id got
-refused-damage old choice records got why (Ok x) is d id e = absurd is
-refused-damage old choice records got why (Err y) is d id e =
+refused-damage old choice records got why (Ok x) chosen is d id e = absurd is
+refused-damage old choice records got why (Err y) chosen is d id e =
     let same : y ≡ fault.Damaged id = cc in
-    refusal-damage old choice records got why d id (sym is ∙ same)
+    refusal-damage old choice records got why chosen d id (sym is ∙ same)
 
 -- some node is failed, where it is not so that none is
 pub some-down : (bs : List Bool) (any : Bool) → any ≡ list_any (λ down. down) bs → any ≡ true → list_any (λ down. down) bs ≡ true

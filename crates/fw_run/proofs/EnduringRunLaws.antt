@@ -195,7 +195,7 @@ damage_stops Tells Told sys items i id old new before after given tally counts c
       let nothing : p.bytes ≡ [] = t.text ∙ ap (λ (o : List Outcome). outcomes_text sys.flow o) none in
       let text : u.bytes ++ p.bytes ≡ reports_text sys.flow 0 s.of_items.reports = ap (λ (b : List ℕ). u.bytes ++ b) nothing ∙ append-nil u.bytes ∙ s.text in
       let enabled : IsStepEnabled sys state Recover = subst (λ (m : Machine). IsStepEnabled sys m Recover) t.begins.1 t.so.1 in
-      (s.of_items, text, subst Told s.faults (rose found.1), (enabled, entry-in sys old before state d.entry s.stands d.there));
+      (s.of_items, text, subst Told s.faults (rose found.1), (enabled, d.asked sys before state s.stands, entry-in sys old before state d.entry s.stands d.there));
 }
 
 -- a damaged record stops the run in the item of this place

@@ -19,7 +19,7 @@ use Rattle.fw_model.specs.Steps.{Outcome, Run}
 use Rattle.fw_keep.specs.Catalogue.{AreAscending, ids_of}
 use Rattle.fw_keep.specs.Stored.{Records, SpellsNone}
 use Rattle.fw_running.specs.declared.fault.EngineFault.TheVariants as fault
-use Rattle.fw_running.specs.Steps.{IsLeftBy}
+use Rattle.fw_running.specs.Steps.{IsLeftBy, IsAskedIn}
 use Rattle.fw_engine.specs.declared.engine.Engine.{Engine}
 use Rattle.fw_engine.specs.Engine.{flow_of, StandsFor, IsDamaged, keep_of}
 use Rattle.fw_run.proofs.ItemLaws.{comes-on, comes-next, items-run}
@@ -38,7 +38,7 @@ use Rattle.fw_run.specs.Headline.{PrintsRun}
 use Rattle.fw_run.specs.Items.{ComesTo}
 use Rattle.fw_run.specs.Performing.{TrustsItem, IsItemTaken, IsItemBegun, IsItemStopped, IsLeftAfter, DoesItem, PrintsItem, IsSoFar, AreTaken, Performs}
 use Rattle.fw_run.specs.Printed.{outcomes_text, idle_count, done_line, text_of}
-use Rattle.fw_run.specs.Stopping.{HoldsWrites, LeavesWrites, StopsIn, MayCallIn, IsLeftIn, IsStoppedByStore, IsEntryIn, MayBeRead, IsStoppedByDamage}
+use Rattle.fw_run.specs.Stopping.{HoldsWrites, LeavesWrites, StopsIn, MayCallIn, IsLeftIn, IsStoppedByStore, IsEntryIn, IsReadIn, IsStoppedByDamage}
 use Rattle.fw_run.specs.Tallies.{tally_of, with_tally}
 use Rattle.fw_run.specs.Trusting.{AreKnown, BeginsWith}
 use Rattle.fw_run.specs.Writing.{IsWritten, IsCutOff}
@@ -313,11 +313,12 @@ damage_stops Tells sys items i id old new before after given tally counts first 
   stops = λ k.
       let s = u.so_far k in
       let t = p.does sys s.state s.stands in
-      stops_in sys (take i items) (One Recover) old before tally counts u.bytes p.bytes (IsLeftAfter sys (One Recover) (fault.Damaged id) before new after) (MayBeRead sys d.entry) s t
+      stops_in sys (take i items) (One Recover) old before tally counts u.bytes p.bytes (IsLeftAfter sys (One Recover) (fault.Damaged id) before new after) (IsReadIn sys d.entry) s t
       (λ left. (
         left.1,
-        stopped_first sys s.state Recover tally counts p.bytes (IsLeftAfter sys (One Recover) (fault.Damaged id) before new after) (IsEntryIn sys d.entry) t
-            (entry-in sys old before s.state d.entry s.stands d.there),
+        stopped_first sys s.state Recover tally counts p.bytes (IsLeftAfter sys (One Recover) (fault.Damaged id) before new after)
+            (λ state. IsAskedIn sys d.entry state × IsEntryIn sys d.entry state) t
+            (d.asked sys before s.state s.stands, entry-in sys old before s.state d.entry s.stands d.there),
       ));
 }
 

@@ -16,7 +16,7 @@ use Rattle.fw_keep.specs.Stored.{Records, SpellsNone}
 use Rattle.fw_running.specs.EffectText.{outcome_text}
 use Rattle.fw_running.specs.Steps.{FirstMayCall, MayCallStore, IsStepEnabled, ReadsNoCheckpoint}
 use Rattle.fw_run.specs.Printed.{idle_count}
-use Rattle.fw_run.specs.Stopping.{HoldsWrites, MayBeRead}
+use Rattle.fw_run.specs.Stopping.{HoldsWrites, IsReadIn}
 use Rattle.fw_run.specs.Writing.{IsWritten}
 
 -- ---- reports
@@ -165,7 +165,7 @@ pub record IsEndured (Tells : Type 0) (IsCount : ℕ → Type 0) (sys : System) 
       × HoldsWrites sys records of_items.last
 
 -- The run was ended by a damaged record in this recovery among the items. If it is known what comes of the items before, the recovery is
--- enabled, and what was printed is the lines of the steps before, of the number of whose faults this is true.
+-- enabled and asks for the entry, and what was printed is the lines of the steps before, of the number of whose faults this is true.
 pub record IsEnduredToDamage (Tells : Type 0) (IsCount : ℕ → Type 0) (sys : System) (items : List Item) (id : ℕ) (given : Option (ℕ × List ℕ))
     (before after : SinkView) : Type 0 where
   pub printed : List ℕ
@@ -181,4 +181,4 @@ pub record IsEnduredToDamage (Tells : Type 0) (IsCount : ℕ → Type 0) (sys : 
   pub spells_none : SpellsNone sys.flow entry bytes
   pub stops : IsEndureKnown Tells sys earlier
       → (of_earlier : EnduredRun sys earlier) × (printed ≡ reports_text sys.flow 0 of_earlier.reports)
-      × IsCount (faults_in of_earlier.reports) × MayBeRead sys entry of_earlier.last
+      × IsCount (faults_in of_earlier.reports) × IsReadIn sys entry of_earlier.last

@@ -13,7 +13,7 @@ use Rattle.fw_keep.specs.declared.entry.Entry.{Entry}
 use Rattle.fw_keep.specs.Catalogue.{AreAscending, ids_of}
 use Rattle.fw_keep.specs.Stored.{Records, SpellsNone}
 use Rattle.fw_stands.specs.Written.{IsEntryOf, AreEntriesOf, AreStored, uncollected}
-use Rattle.fw_running.specs.Steps.{FirstMayCall, MayCallStore, IsStepEnabled, IsLeftBy}
+use Rattle.fw_running.specs.Steps.{FirstMayCall, MayCallStore, IsStepEnabled, IsLeftBy, IsAskedIn}
 use Rattle.fw_run.specs.Items.{ComesTo}
 use Rattle.fw_run.specs.Printed.{outcomes_text}
 use Rattle.fw_run.specs.Trusting.{AreKnown, BeginsWith}
@@ -84,13 +84,14 @@ pub record IsStoppedByStore (Tells : Type 0) (sys : System) (items : List Item) 
 abbrev pub IsEntryIn : System → Entry → Machine → Type 0
 IsEntryIn sys entry state = (write : Write) × Contains (uncollected state) write × IsEntryOf sys state entry write
 
--- a recovery is enabled in the state, and the entry is that of a write of it that was not collected
-abbrev pub MayBeRead : System → Entry → Machine → Type 0
-MayBeRead sys entry state = IsStepEnabled sys state Recover × IsEntryIn sys entry state
+-- a recovery is enabled in the state, its largest choice asks for the record of the entry, and the entry is that of a write of the state
+-- that was not collected
+abbrev pub IsReadIn : System → Entry → Machine → Type 0
+IsReadIn sys entry state = IsStepEnabled sys state Recover × IsAskedIn sys entry state × IsEntryIn sys entry state
 
 -- The run was stopped by a damaged record in this recovery among the items: the store, which does not tell its records, gave under the id
--- of an entry bytes that spell no record of it. If it is known what comes of the items before, the recovery is enabled, the entry is that
--- of a write, and these are the lines of the steps before; if that is known of first items alone, their lines come first. Of these lines
+-- of an entry bytes that spell no record of it. If it is known what comes of the items before, the recovery is enabled and asks for the
+-- entry, which is that of a write, and these are the lines of the steps before; if that is known of first items alone, their lines come first. Of these lines
 -- this is true.
 pub record IsStoppedByDamage (Tells : Type 0) (sys : System) (items : List Item) (id : ℕ) (given : Option (ℕ × List ℕ)) (IsPut : List ℕ → Type 0)
     : Type 0 where
@@ -106,4 +107,4 @@ pub record IsStoppedByDamage (Tells : Type 0) (sys : System) (items : List Item)
   pub gave : given ≡ Some (id, bytes)
   pub spells_none : SpellsNone sys.flow entry bytes
   pub first : (count : ℕ) → count ≤ length earlier → AreKnown Tells sys (take count items) → BeginsWith sys (take count items) printed
-  pub stops : AreKnown Tells sys earlier → StopsIn sys earlier (One Recover) printed (MayBeRead sys entry)
+  pub stops : AreKnown Tells sys earlier → StopsIn sys earlier (One Recover) printed (IsReadIn sys entry)

@@ -17,6 +17,7 @@ use Rattle.fw_model.specs.Machine.{Machine}
 use Rattle.fw_model.specs.Steps.{Effect, silent, acked, cuts, lows, Outcome, did, idle, LeadsTo, StepsTo, offers, is_eager, is_asked_for_checkpoints}
 use Rattle.fw_keep.specs.declared.entry.Entry.{Entry}
 use Rattle.fw_keep.specs.Stored.{Records, SpellsNone}
+use Rattle.fw_rollback.specs.Asked.{is_asked_for}
 use Rattle.fw_running.specs.declared.fault.EngineFault.{EngineFault}
 use Rattle.fw_running.specs.declared.fault.EngineFault.TheVariants as fault
 use Rattle.fw_running.specs.declared.running.Running.{Running}
@@ -151,7 +152,12 @@ IsUndamaged (Err fault.StoreFault) = Unit {0}
 IsUndamaged (Err (fault.Damaged id)) = ⊥
 IsUndamaged (Err fault.NoMemory) = Unit {0}
 
--- The store gave under the id bytes that spell no record of the entry.
+-- the largest choice of a recovery from the state asks for the record of the entry
+abbrev pub IsAskedIn : System → Entry → Machine → Type 0
+IsAskedIn sys entry state = (choice : Choice) × IsLargest sys state (offers sys state) choice × (is_asked_for sys.flow choice entry ≡ true)
+
+-- The store gave under the id bytes that spell no record of the entry, for which the largest choice asks in each state for which what is
+-- kept stands.
 pub record IsDamage (running : Running) (id : ℕ) (given : Option (ℕ × List ℕ)) : Type 0 where
   pub entry : Entry
   pub there : Contains running.parts.keep.entries entry
@@ -159,3 +165,4 @@ pub record IsDamage (running : Running) (id : ℕ) (given : Option (ℕ × List 
   pub bytes : List ℕ
   pub gave : given ≡ Some (id, bytes)
   pub spells_none : SpellsNone running.flow entry bytes
+  pub asked : (sys : System) (records : Option Records) (state : Machine) → Stands sys running records state → IsAskedIn sys entry state

@@ -19,7 +19,7 @@ returns-in_err-restore-clause-takes g c =
 pub returns-in_err-restore-clause-damaged : goal.returns-in_err-restore-clause-damaged
 returns-in_err-restore-clause-damaged g c =
     refused-damage c.args.running.now c.in_ok-choice.choice (g.K.Store.records c.args.store.now) (g.K.Store.given c.restore.new.store) c.in_err-restore.field-0.0
-    c.from_residual-in_err-restore.result c.from_residual-in_err-restore.ensures.1 c.in_err-restore.ensures.damaged
+    c.from_residual-in_err-restore.result c.in_ok-choice.ensures.of_state c.from_residual-in_err-restore.ensures.1 c.in_err-restore.ensures.damaged
 
 pub follow-requires-clause-queues : goal.follow-requires-clause-queues
 follow-requires-clause-queues g c =

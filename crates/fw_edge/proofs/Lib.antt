@@ -1,2 +1,3 @@
+pub mod LogLaws
 pub mod PileLaws
 pub mod PiledLaws

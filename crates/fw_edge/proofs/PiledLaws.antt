@@ -403,7 +403,7 @@ piles-filter p es a = each-kept (λ pile. IsPile pile.0 pile.1) (λ e. p e.0) es
 -- ---- in order, and without messages
 
 -- what is in order ascends
-ascending_from : (xs : List Message) → sorted_messages xs ≡ xs → IsAscendingMessages xs
+pub ascending_from : (xs : List Message) → sorted_messages xs ≡ xs → IsAscendingMessages xs
 ascending_from xs e = subst IsAscendingMessages e (ascending-sorted_messages xs)
 
 ascending-append : (xs ys : List Message) → IsAscendingMessages xs → IsAscendingMessages ys

@@ -1,10 +1,10 @@
 //! What a node may have to send again on an edge.
-ghost use Rattle.std.specs.Prelude.{◌≡◌, ◌↔◌, [], false, true, IsTrue, IsErr, IfOk, OnOk, OnErr};
+ghost use Rattle.std.specs.Prelude.{◌≡◌, ◌↔◌, [], ◌∷◌, ◌++◌, false, true, IsTrue, IsErr, IfOk, OnOk, OnErr};
 ghost use Rattle.fw_frontier.specs.Front.{inside};
 ghost use Rattle.fw_model.specs.Filtering.{messages_from, messages_outside};
 ghost use Rattle.fw_model.specs.SortedMessages.{with_message, sorted_messages};
 
-use crate::bag::MessageBag;
+use crate::message::comes_from;
 use fw_flow::Message;
 use fw_frontier::Front;
 use std::alloc::{AllocError, Global};
@@ -16,16 +16,23 @@ use std::marker::Model;
 /// memory was once refused takes no more messages, and says so by an error each time.
 #[derive(Debug, Drop)]
 pub struct MsgLog {
-    messages: MessageBag,
+    // In the order of appending.
+    messages: Vec<Message>,
+    // Whether the messages are known to ascend.
+    ascends: bool,
     refused: bool,
 }
 
 impl Model for MsgLog {
+    ghost use Rattle.std.specs.Prelude.{◌≡◌, IsTrue};
+    ghost use Rattle.fw_model.specs.SortedMessages.{sorted_messages};
     ghost use Rattle.fw_edge.specs.Messages.{MessagesState};
 
     ghost Value = { MessagesState };
 
-    ghost view = { λ log. record { messages = log.messages; refused = log.refused } };
+    ghost view = { λ log. record { messages = sorted_messages log.messages.items; refused = log.refused } };
+
+    ghost invariant = { λ log. IsTrue log.ascends → sorted_messages log.messages.items ≡ log.messages.items };
 }
 
 impl MsgLog {
@@ -34,15 +41,13 @@ impl MsgLog {
         ensures { result ≡ record { messages = []; refused = false } }
     {
         MsgLog {
-            messages: MessageBag::new(alloc),
+            messages: Vec::new(alloc),
+            ascends: true,
             refused: false,
         }
     }
 
-    /// Appends a message.
-    ///
-    /// It fails where memory is refused, now or earlier, and where the number of messages at one stamp would not fit a
-    /// `usize`.
+    /// Appends a message. It fails where memory is refused, now or earlier.
     pub fn append(&mut self, message: Message) -> Result<(), AllocError>
         ensures ok { OnOk result (self.new ≡ record { messages = with_message message self.old.messages; refused = false }) }
         ensures err { OnErr result (self.new ≡ record { messages = self.old.messages; refused = true }) }
@@ -51,23 +56,39 @@ impl MsgLog {
         if self.refused {
             return Err(AllocError);
         }
-        let put = self.messages.put(message);
-        self.refused = put.is_err();
-        put
+        let ascends = ascend_with(&self.messages, self.ascends, &message);
+        if self.messages.push(message).is_err() {
+            self.refused = true;
+            return Err(AllocError);
+        }
+        self.ascends = ascends;
+        Ok(())
     }
 
     /// Copies of the messages at stamps outside, in order. The only error is want of memory.
     pub fn outside(&self, f: &Front) -> Result<Vec<Message>, AllocError>
         ensures { IfOk result (λ ms. ms.items ≡ messages_outside (inside f.now) self.now.messages) }
     {
-        self.messages.outside(f)
+        let mut copies = Vec::with_capacity(*self.messages.allocator(), self.messages.len())?;
+        for message in &self.messages {
+            if !f.contains(&message.at) {
+                copies.push(message.copy())?;
+            }
+        }
+        Ok(in_order(copies, self.ascends))
     }
 
     /// Copies of the messages all of whose causes are inside, in order. The only error is want of memory.
     pub fn caused_in(&self, f: &Front) -> Result<Vec<Message>, AllocError>
         ensures { IfOk result (λ ms. ms.items ≡ messages_from (inside f.now) self.now.messages) }
     {
-        self.messages.caused_in(f)
+        let mut copies = Vec::with_capacity(*self.messages.allocator(), self.messages.len())?;
+        for message in &self.messages {
+            if comes_from(message, f) {
+                copies.push(message.copy())?;
+            }
+        }
+        Ok(in_order(copies, self.ascends))
     }
 
     /// Whether the log has no message.
@@ -89,13 +110,36 @@ impl MsgLog {
     pub fn keep_causes(&mut self, f: &Front)
         ensures { self.new ≡ record self.old { messages = messages_from (inside f.now) self.old.messages } }
     {
-        self.messages.keep_causes(f);
+        self.messages.retain(|message| comes_from(message, f));
     }
 
-    /// Drops the messages at stamps inside: of what stays nothing is copied or looked at. It takes no memory.
+    /// Drops the messages at stamps inside: of what stays nothing is copied. It takes no memory.
     pub fn drop_inside(&mut self, f: &Front)
         ensures { self.new ≡ record self.old { messages = messages_outside (inside f.now) self.old.messages } }
     {
-        self.messages.drop_inside(f);
+        self.messages.retain(|message| !f.contains(&message.at));
     }
+}
+
+// Whether messages are known to ascend with one more after them, where `ascend` tells whether they are known to.
+fn ascend_with(messages: &[Message], ascend: bool, message: &Message) -> bool
+    requires { IsTrue ascend → sorted_messages messages.now ≡ messages.now }
+    ensures { IsTrue result → sorted_messages (messages.now ++ message.now ∷ []) ≡ messages.now ++ message.now ∷ [] }
+{
+    match messages.last() {
+        Some(last) => ascend && last.cmp(message).is_le(),
+        None => true,
+    }
+}
+
+// The messages in ascending order, where `ascend` tells whether they are known to ascend.
+fn in_order(messages: Vec<Message>, ascend: bool) -> Vec<Message>
+    requires { IsTrue ascend → sorted_messages messages.items ≡ messages.items }
+    ensures { result.items ≡ sorted_messages messages.items }
+{
+    let mut messages = messages;
+    if !ascend {
+        messages.sort_unstable();
+    }
+    messages
 }

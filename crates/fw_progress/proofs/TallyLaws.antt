@@ -1,12 +1,12 @@
 -- Tallies: what one more and one less of a stamp leave, and up to where there is none.
 use Rattle.std.proofs.Common.{◌≡◌, ℕ, ◌+◌, ◌-◌, ◌^◌, ◌<◌, ◌≤◌, Bool, true, false, not, ◌&&◌, nat_le, nat_lt, cond, drop, List, [], ◌∷◌, ◌++◌, length, get_or, take, Option, Some, None, unwrap_or, refl, sym, ap, subst, ◌∙◌, inl, inr, arith}
-use Rattle.std.specs.Prelude.{IsSome}
+use Rattle.std.specs.Prelude.{IsSome, slice_get}
 use Rattle.std.specs.List.{AllByRecursion}
 use Rattle.std.specs.Map.{keys_of, lookup, set_value, remove_entry}
 use Rattle.std.specs.BTreeMap.{insert_entry, is_at}
 use Rattle.std.specs.declared.cmp.Ordering.{Ordering}
 use Rattle.std.specs.declared.cmp.Ordering.TheVariants.{Less, Equal, Greater}
-use Rattle.std.specs.Ordering.{is_eq, is_lt, match_ordering, nat_cmp, ordering_reverse, ordering_then}
+use Rattle.std.specs.Ordering.{is_eq, is_gt, match_ordering, nat_cmp, ordering_reverse, ordering_then}
 use Rattle.std.specs.Cmp.Lexicographic.{slice_cmp}
 use Rattle.std.specs.List.Sorted.{IsStrictlySortedBy}
 use Rattle.std.proofs.Math.Bool.{and_assoc}
@@ -21,7 +21,7 @@ use Rattle.fw_time.specs.declared.stamp.Bounds.{Bounds}
 use Rattle.fw_time.proofs.EachLaws.{each-append, each-both, each-prefix, each-suffix, each-weaker}
 use Rattle.fw_time.proofs.StampLaws.{leq-length, leq-trans, same-is, same-refl}
 use Rattle.fw_frontier.specs.Frontier.{Frontier}
-use Rattle.fw_frontier.specs.Front.{Front, inside, frontier_of, IsFrontOf}
+use Rattle.fw_frontier.specs.Front.{Front, inside, frontier_of, IsCanonical, IsFrontOf}
 use Rattle.fw_flow.specs.Counting.{how_many}
 use Rattle.fw_model.proofs.CmpLaws.{stamp_cmp-equal, stamp_total}
 use Rattle.fw_progress.specs.Tally.{times_in, has_one, count_inside, IsPositive, IsTallyOf, HasOneMore, HasManyMore, HasOneLess, HasNoMore, HasEachMore, AreLowest}
@@ -258,14 +258,14 @@ zeros-leq (z ∷ zs) (y ∷ ys) e a = and_from (nat_le z y) (leq zs ys) (zero-le
     zero-le : (m n : ℕ) → m ≡ 0 → nat_le m n ≡ true
     zero-le m n k = grind (arith, nat_tests)
 
--- a stamp that begins an epoch is at most each one of as many coordinates that comes after it in order
-begins-leq : (s t : Stamp) → length s ≡ length t → AllByRecursion (λ n. n ≡ 0) (drop 1 s) → stamp_cmp s t ≡ Less → leq s t ≡ true
+-- a stamp that begins an epoch is at most each one of as many coordinates that does not come before it in order
+begins-leq : (s t : Stamp) → length s ≡ length t → AllByRecursion (λ n. n ≡ 0) (drop 1 s) → is_gt (stamp_cmp s t) ≡ false → leq s t ≡ true
 begins-leq [] [] e a o = refl
 begins-leq [] (y ∷ ys) e a o = absurd (omega arith)
 begins-leq (x ∷ xs) [] e a o = absurd (omega arith)
-begins-leq (x ∷ xs) (y ∷ ys) e a o = and_from (nat_le x y) (leq xs ys) (first x y (slice_cmp nat_cmp xs ys) (ap is_lt o)) (zeros-leq xs ys (omega arith) a)
+begins-leq (x ∷ xs) (y ∷ ys) e a o = and_from (nat_le x y) (leq xs ys) (first x y (slice_cmp nat_cmp xs ys) o) (zeros-leq xs ys (omega arith) a)
   where
-    first : (m n : ℕ) (p : Ordering) → is_lt (ordering_then (nat_cmp m n) p) ≡ true → nat_le m n ≡ true
+    first : (m n : ℕ) (p : Ordering) → is_gt (ordering_then (nat_cmp m n) p) ≡ false → nat_le m n ≡ true
     first m n p k = grind (arith, nat_tests)
 
 inside-append : (xs ys : List Stamp) (t : Stamp) → inside (xs ++ ys) t ≡ (inside xs t && inside ys t)
@@ -273,9 +273,9 @@ inside-append [] ys t = refl
 inside-append (x ∷ xs) ys t = ap (λ b. not (leq x t) && b) (inside-append xs ys t) ∙ sym (and_assoc (not (leq x t)) (inside xs t) (inside ys t))
 
 -- what comes after a stamp in order
-sorted-after : (xs : List Stamp) (s : Stamp) (ys : List Stamp) → IsStrictlySortedBy stamp_cmp (xs ++ s ∷ ys) → AllByRecursion (λ y. stamp_cmp s y ≡ Less) ys
+pub sorted-after : (xs : List Stamp) (s : Stamp) (ys : List Stamp) → IsStrictlySortedBy stamp_cmp (xs ++ s ∷ ys) → AllByRecursion (λ y. is_gt (stamp_cmp s y) ≡ false) ys
 unfolding IsStrictlySortedBy
-sorted-after [] s ys o = o.0
+sorted-after [] s ys o = each-weaker (λ y. stamp_cmp s y ≡ Less) (λ y. is_gt (stamp_cmp s y) ≡ false) ys (λ y k. ap is_gt k) o.0
 sorted-after (x ∷ xs) s ys o = sorted-after xs s ys o.1
 
 above-outside : (s t : Stamp) (ys : List Stamp) → leq s t ≡ false → AllByRecursion (λ y. leq s y ≡ true) ys → inside ys t ≡ true
@@ -291,14 +291,14 @@ lowest-all stamps all e = record {
 }
 
 -- those up to one that begins an epoch are the lowest
-pub lowest-begun : (xs : List Stamp) (s : Stamp) (ys all : List Stamp) → all ≡ xs ++ s ∷ ys → IsStrictlySortedBy stamp_cmp all → AllByRecursion (λ n. n ≡ 0) (drop 1 s) → AreLowest (xs ++ s ∷ []) all
+pub lowest-begun : (xs : List Stamp) (s : Stamp) (ys all : List Stamp) → all ≡ xs ++ s ∷ ys → AllByRecursion (λ y. is_gt (stamp_cmp s y) ≡ false) ys → AllByRecursion (λ n. n ≡ 0) (drop 1 s) → AreLowest (xs ++ s ∷ []) all
 lowest-begun xs s ys all e o z = record {
   among = λ b a. (parts b a).0;
   same = λ b a t.
       let rest : AllByRecursion (λ y. leq s y ≡ true) ys =
-      each-weaker (λ y. (stamp_cmp s y ≡ Less) × (in_domain b y ≡ true)) (λ y. leq s y ≡ true) ys
+      each-weaker (λ y. (is_gt (stamp_cmp s y) ≡ false) × (in_domain b y ≡ true)) (λ y. leq s y ≡ true) ys
       (λ y k. begins-leq s y (leq-length s b.greatest (here b a) ∙ sym (leq-length y b.greatest k.1)) z k.0)
-      (each-both (λ y. stamp_cmp s y ≡ Less) (λ y. in_domain b y ≡ true) ys (sorted-after xs s ys (subst (IsStrictlySortedBy stamp_cmp) e o)) (parts b a).1) in
+      (each-both (λ y. is_gt (stamp_cmp s y) ≡ false) (λ y. in_domain b y ≡ true) ys o (parts b a).1) in
       ap (λ c. in_domain b t && c) (by t rest (inside xs t) (leq s t) refl ∙ sym (ap (λ os. inside os t) e ∙ inside-append xs (s ∷ ys) t));
 }
   where
@@ -315,6 +315,18 @@ lowest-begun xs s ys all e o z = record {
     by : (t : Stamp) → AllByRecursion (λ y. leq s y ≡ true) ys → (i l : Bool) → leq s t ≡ l → inside (xs ++ s ∷ []) t ≡ (inside xs t && (not (leq s t) && inside ys t))
     by t rest i true k = inside-append xs (s ∷ []) t ∙ ap (λ c. inside xs t && (not c && true)) k ∙ sym (ap (λ c. inside xs t && (not c && inside ys t)) k)
     by t rest i false k = inside-append xs (s ∷ []) t ∙ sym (ap (λ c. inside xs t && (not (leq s t) && c)) (above-outside s t ys k rest))
+
+-- a first one that begins an epoch is the lowest
+pub lowest-first : (entries : Entries) (s : Stamp) (n : ℕ) → slice_get entries 0 ≡ Some (s, n) → AllByRecursion (λ y. is_gt (stamp_cmp s y) ≡ false) (keys_of entries)
+    → AllByRecursion (λ n. n ≡ 0) (drop 1 s) → AreLowest (s ∷ []) (keys_of entries)
+lowest-first [] s n f o z = absurd (cc)
+lowest-first (e ∷ es) s n f o z =
+    let first : e.0 ≡ s = ap (λ (w : Option (Stamp × ℕ)). (unwrap_or w e).0) f in
+    lowest-begun [] s (keys_of es) (e.0 ∷ keys_of es) (ap (λ k. k ∷ keys_of es) first) o.1 z
+
+-- of no stamps no front is wanted
+pub until-none : (b : Bounds) (entries : Entries) (f : Front) → entries ≡ [] → f ≡ [] → IsFrontOf b f (frontier_of b (keys_of entries))
+until-none b entries f e n = record { canonical = subst (IsCanonical b) (sym n) tt; same = λ t. ap (λ os. frontier_of b os t) n ∙ ap (λ es. frontier_of b (keys_of es) t) (sym e) }
 
 -- a front of the lowest stamps is one of all
 pub until-lowest : (b : Bounds) (stamps all : List Stamp) (f : Front) → AreLowest stamps all → AllByRecursion (λ s. in_domain b s ≡ true) all → IsFrontOf b f (frontier_of b stamps)

@@ -1,5 +1,5 @@
 -- Kept stamps: one more of them, thinned inside a larger base, and those inside a cut.
-use Rattle.std.proofs.Common.{◌≡◌, ◌⊎◌, inl, inr, Bool, true, false, not, ◌&&◌, ◌||◌, cond, List, [], ◌∷◌, ◌++◌, refl, sym, ap, subst, ◌∙◌, arith}
+use Rattle.std.proofs.Common.{◌≡◌, ◌⊎◌, inl, inr, ◌<◌, Bool, true, false, not, ◌&&◌, ◌||◌, cond, List, [], ◌∷◌, ◌++◌, length, refl, sym, ap, subst, ◌∙◌, arith}
 use Rattle.std.specs.Prelude.{filter}
 use Rattle.std.specs.List.{AllByRecursion, Contains, list_any}
 use Rattle.std.specs.BTreeMap.{is_at}
@@ -256,6 +256,22 @@ any-raised (t ∷ tops) at s = by (leq t at) refl (any-raised tops at s)
         → list_any (lesser s) (cond (not b) (t ∷ left) left ++ at ∷ []) ≡ ((lesser s t || list_any (lesser s) tops) || lesser s at)
     by true e ih = ih ∙ raise-dropped (lesser s t) (list_any (lesser s) tops) (lesser s at) (λ k. lesser-above s t at k e)
     by false e ih = ap (λ b. lesser s t || b) ih ∙ or-assoc (lesser s t) (list_any (lesser s) tops) (lesser s at)
+
+-- a stamp taken up in place of a top that is at or below it
+pub top-raised : (top at s : Stamp) → leq top at ≡ true → lesser s at ≡ (lesser s top || lesser s at)
+top-raised top at s l = by (lesser s top) (λ k. lesser-above s top at k l)
+  where
+    by : (a : Bool) → (a ≡ true → lesser s at ≡ true) → lesser s at ≡ (a || lesser s at)
+    by true f = f refl
+    by false f = refl
+
+-- of one stamp at most none goes
+pub thinned-few : (f : Front) (ss : List Stamp) → length ss < 2 → thinned f ss ≡ ss
+thinned-few f [] l = refl
+thinned-few f (s ∷ []) l =
+    let none : (inside f s && lesser s s) ≡ false = false_from_ne_true (inside f s && lesser s s) (λ b. both_ways (lesser s s) (lesser-irrefl s) (and_parts (inside f s) (lesser s s) b).1) in
+    ap (λ b. cond (not (b || false)) (s ∷ []) []) none
+thinned-few f (s ∷ t ∷ ss) l = absurd (omega (arith, l))
 
 -- ---- filters
 

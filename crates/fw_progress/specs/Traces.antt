@@ -1,5 +1,5 @@
 -- Stamps that are kept thinned inside a base.
-use Rattle.std.specs.Prelude.{◌≡◌, ◌≢◌, ℕ, ◌<◌, Bool, true, not, ◌&&◌, List, [], ◌∷◌, length, slice_index_or, filter}
+use Rattle.std.specs.Prelude.{◌≡◌, ◌≢◌, ℕ, ◌<◌, Bool, true, false, not, ◌&&◌, List, [], ◌∷◌, length, slice_index_or, filter, Option, Some, None}
 use Rattle.std.specs.List.{AllByRecursion, list_any}
 use Rattle.fw_time.specs.Stamp.{Stamp, lesser, in_domain}
 use Rattle.fw_time.specs.declared.stamp.Bounds.{Bounds}
@@ -47,3 +47,10 @@ pub record ChangesInto (flow : Dataflow) (p : ℕ) (R : List Stamp → List Stam
   pub one_each : length new ≡ length old
   pub here : (d : ℕ) → d < length flow.edges → receiver flow d ≡ p → R (slice_index_or old d []) (slice_index_or new d [])
   pub others : (d : ℕ) → receiver flow d ≢ p → slice_index_or new d [] ≡ slice_index_or old d []
+
+-- ---- for the proofs
+
+-- whether a stamp is lesser than the top, if there is one
+abbrev pub is_below : Option Stamp → Stamp → Bool
+is_below None s = false
+is_below (Some top) s = lesser s top

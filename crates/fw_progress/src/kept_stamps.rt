@@ -1,5 +1,5 @@
 //! Stamps that are kept thinned inside a base.
-ghost use Rattle.std.specs.Prelude.{◌≡◌, ◌||◌, ◌&&◌, not, [], ◌∷◌, ◌++◌, List, ℕ, filter, IsTrue, IfOk, OnErr};
+ghost use Rattle.std.specs.Prelude.{◌≡◌, ◌||◌, ◌&&◌, not, [], ◌∷◌, ◌++◌, List, ℕ, filter, IsTrue, IfSome, IfOk, OnErr};
 ghost use Rattle.std.specs.List.{list_any};
 ghost use Rattle.std.specs.BTreeSet.{insert_key};
 ghost use Rattle.fw_time.specs.Stamp.{lesser, leq, stamp_cmp};
@@ -7,7 +7,7 @@ ghost use Rattle.fw_frontier.specs.Frontier.{Frontier, Within, cover};
 ghost use Rattle.fw_frontier.specs.Front.{inside, frontier_of, IsFrontOf};
 ghost use Rattle.fw_model.specs.Thinned.{IsThinned};
 ghost use Rattle.fw_progress.specs.StampData.{AreTheSame, HaveAdded};
-ghost use Rattle.fw_progress.specs.Traces.{has_greater_inside, thinned, AreOf, StandForOneMore, IsSettledTo, IsCutTo, IsThinnedTo};
+ghost use Rattle.fw_progress.specs.Traces.{has_greater_inside, is_below, thinned, AreOf, StandForOneMore, IsSettledTo, IsCutTo, IsThinnedTo};
 
 use fw_frontier::Front;
 use fw_time::{Bounds, Stamp};
@@ -81,6 +81,13 @@ impl KeptStamps {
         ensures value { IfOk result (λ u. self.new ≡ thinned base.now self.old) }
         ensures err { OnErr result (self.new ≡ self.old) }
     {
+        if self.stamps.len() < 2 {
+            return Ok(());
+        }
+        if let Some(top) = top_of_chain(&self.stamps, base) {
+            self.stamps.retain(|stamp| !is_lesser(stamp, &top));
+            return Ok(());
+        }
         let tops = greatest_inside(self.alloc, &self.stamps, base)?;
         self.stamps.retain(|stamp| !has_greater(&tops, stamp));
         Ok(())
@@ -100,8 +107,11 @@ impl KeptStamps {
         ensures thinned { IfOk result (λ kept. IsThinnedTo f.now self.now kept.items) }
         ensures value { IfOk result (λ kept. kept.items ≡ thinned f.now (filter (inside f.now) self.now)) }
     {
-        let tops = greatest_inside(self.alloc, &self.stamps, f)?;
         let mut kept = self.stamps_inside(f)?;
+        if kept.len() < 2 {
+            return Ok(kept);
+        }
+        let tops = greatest_inside(self.alloc, &self.stamps, f)?;
         kept.retain(|stamp| !has_greater(&tops, stamp));
         Ok(kept)
     }
@@ -153,11 +163,43 @@ fn is_last(stamps: &BTreeSet<Stamp>, at: &Stamp) -> bool
     }
 }
 
+/// Whether the first stamp is lesser.
+fn is_lesser(stamp: &Stamp, top: &Stamp) -> bool
+    ensures { result ≡ lesser stamp.now top.now }
+{
+    stamp.leq(top) && !top.leq(stamp)
+}
+
 /// Whether one of these stamps is greater.
 fn has_greater(tops: &[Stamp], stamp: &Stamp) -> bool
     ensures { result ≡ list_any (lesser stamp.now) tops.now }
 {
-    tops.iter().any(|top| stamp.leq(top) && !top.leq(stamp))
+    tops.iter().any(|top| is_lesser(stamp, top))
+}
+
+/// The last of the stamps inside a frontier, where each that is inside is at or above the one before it. It takes no memory.
+fn top_of_chain(stamps: &BTreeSet<Stamp>, base: &Front) -> Option<Stamp>
+    ensures { IfSome result (λ top. (s : List ℕ) → lesser s top ≡ has_greater_inside base.now stamps.now.keys s) }
+{
+    let mut top = None;
+    for stamp in stamps {
+        if base.contains(stamp) {
+            let next = raised(&top, stamp)?;
+            top = Some(next);
+        }
+    }
+    top
+}
+
+/// The stamp, where it is at or above the top so far.
+fn raised(top: &Option<Stamp>, stamp: &Stamp) -> Option<Stamp>
+    ensures { IfSome result
+        (λ next. (s : List ℕ) → lesser s next ≡ (is_below top.now s || lesser s stamp.now)) }
+{
+    match top {
+        Some(top) if !top.leq(stamp) => None,
+        _ => Some(stamp.copy()),
+    }
 }
 
 /// Those of the stamps inside a frontier that are at or below no later one. The error is want of memory.

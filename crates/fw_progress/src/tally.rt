@@ -14,6 +14,7 @@ use fw_time::Stamp;
 use std::alloc::{AllocError, Global};
 use std::collections::BTreeMap;
 use std::marker::Model;
+use std::slice;
 
 /// How many there are of each stamp. Contracts see the stamps, in order, each with its number.
 #[derive(Debug, Drop)]
@@ -250,11 +251,17 @@ fn first_inside(counts: &BTreeMap<Stamp, u64>, f: &Front) -> Option<Stamp>
     None
 }
 
-// Up to where there is none.
+// Up to where there is none. Where the first stamp begins an epoch, it says so alone, and no list is made.
 fn until(alloc: Global, counts: &BTreeMap<Stamp, u64>) -> Result<Front, AllocError>
     ensures { (bounds : Domain) → IsTallyOf bounds counts.now.entries
         → IfOk result (λ f. IsFrontOf bounds f (frontier_of bounds (keys_of counts.now.entries))) }
 {
+    let Some((first, _)) = counts.first_key_value() else {
+        return Ok(Front::all(alloc));
+    };
+    if begins_epoch(first) {
+        return Front::until(alloc, slice::from_ref(first));
+    }
     let stamps = lowest(alloc, counts)?;
     Front::until(alloc, &stamps)
 }

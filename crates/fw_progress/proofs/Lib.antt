@@ -1,4 +1,5 @@
 pub mod TallyLaws
+pub mod AloneLaws
 pub mod TargetLaws
 pub mod GrowLaws
 pub mod RefreshLaws

@@ -62,7 +62,7 @@ unfolding times_in
 times-absent entries at e = ap (λ (o : Option ℕ). unwrap_or o 0) e
 
 -- a number of the same stamp
-times-same : (entries : Entries) (at t : Stamp) → same at t ≡ true → times_in at entries ≡ times_in t entries
+pub times-same : (entries : Entries) (at t : Stamp) → same at t ≡ true → times_in at entries ≡ times_in t entries
 unfolding times_in
 times-same entries at t k = ap (λ s. unwrap_or (lookup (is_at (stamp_cmp s)) entries) 0) (same-one at t k)
   where
@@ -123,12 +123,6 @@ cond-one : (b : Bool) (m n o : ℕ) → (b ≡ true → m ≡ n) → cond b m o 
 cond-one true m n o e = e refl
 cond-one false m n o e = refl
 
-pub one_more : (old new : Entries) (at : Stamp) (n : ℕ) → n ≡ times_in at old + 1 → IsWith old at (Some n) new → new ≡ insert_entry stamp_cmp old at n → HasOneMore at old new
-one_more old new at n e is entries = record {
-  times = λ t. times-with old new at (Some n) is t ∙ cond-one (same at t) n (times_in t old + 1) (times_in t old) (λ k. e ∙ ap (λ m. m + 1) (times-same old at t k));
-  domain = λ b a d. subst (IsTallyOf b) (sym entries) (tally-insert b at n d (omega (arith, e)) old a);
-}
-
 pub one_less : (old new : Entries) (at : Stamp) (n m : ℕ) → lookup (is_at (stamp_cmp at)) old ≡ Some n → 1 < n → m ≡ n - 1 → IsWith old at (Some m) new
     → new ≡ set_value (is_at (stamp_cmp at)) old m → HasOneLess at old new
 one_less old new at n m found more e is entries = record {
@@ -180,7 +174,7 @@ how_many-last test (y ∷ ys) x = by (test y) (how_many-last test ys x)
     by true e = omega (arith, e)
     by false e = e
 
-same-flip : (s t : Stamp) → same s t ≡ same t s
+pub same-flip : (s t : Stamp) → same s t ≡ same t s
 same-flip s t = swap (leq s t) (leq t s)
   where
     swap : (a b : Bool) → (a && b) ≡ (b && a)

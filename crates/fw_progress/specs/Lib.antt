@@ -1,6 +1,7 @@
 pub mod Counts
 pub mod Covers
 pub mod Cut
+pub mod Few
 pub mod Growths
 pub mod History
 pub mod Laws

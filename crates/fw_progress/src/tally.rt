@@ -1,5 +1,5 @@
 //! How many there are of each stamp.
-ghost use Rattle.std.specs.Prelude.{◌≡◌, ◌↔◌, ◌+◌, [], not, drop, filter, find, Some, IsTrue, IfOk, OnOk, OnErr};
+ghost use Rattle.std.specs.Prelude.{◌≡◌, ◌↔◌, ◌+◌, [], ◌∷◌, not, drop, filter, find, Some, IsTrue, IfOk, OnOk, OnErr};
 ghost use Rattle.std.specs.BTreeMap.{insert_entry, IsOrdered, Updates};
 ghost use Rattle.std.specs.List.{AllByRecursion, list_any};
 ghost use Rattle.std.specs.List.Sorted.{IsStrictlySortedBy};
@@ -7,6 +7,7 @@ ghost use Rattle.std.specs.Map.{keys_of};
 ghost use Rattle.fw_time.specs.Stamp.{lesser, stamp_cmp};
 ghost use Rattle.fw_time.specs.declared.stamp.Bounds.{Bounds as Domain};
 ghost use Rattle.fw_frontier.specs.Front.{inside, frontier_of, IsFrontOf};
+ghost use Rattle.fw_progress.specs.Few.{entries_of};
 ghost use Rattle.fw_progress.specs.Tally.{times_in, count_inside, IsTallyOf, HasOneMore, HasManyMore, HasOneLess, HasNoMore, AreLowest};
 
 use fw_frontier::Front;
@@ -16,19 +17,29 @@ use std::collections::BTreeMap;
 use std::marker::Model;
 use std::slice;
 
-/// How many there are of each stamp. Contracts see the stamps, in order, each with its number.
+/// How many there are of each stamp. One stamp alone takes no memory. Contracts see the stamps, in order, each with its
+/// number.
 #[derive(Debug, Drop)]
 pub struct Tally {
-    counts: BTreeMap<Stamp, u64>,
+    alloc: Global,
+    few: Few,
+}
+
+// The stamps with their numbers: one in place, or any number in a map.
+#[derive(Debug, Drop)]
+enum Few {
+    One(Stamp, u64),
+    Many(BTreeMap<Stamp, u64>),
 }
 
 impl Model for Tally {
     ghost use Rattle.std.specs.Prelude.{ℕ, List};
     ghost use Rattle.fw_time.specs.Stamp.{Stamp};
+    ghost use Rattle.fw_progress.specs.Few.{entries_of};
 
     ghost Value = { List (Stamp × ℕ) };
 
-    ghost view = { λ tally. tally.counts.entries };
+    ghost view = { λ tally. entries_of tally.few };
 }
 
 impl Tally {
@@ -37,7 +48,8 @@ impl Tally {
         ensures { result ≡ [] }
     {
         Tally {
-            counts: BTreeMap::new(alloc),
+            alloc,
+            few: Few::Many(BTreeMap::new(alloc)),
         }
     }
 
@@ -45,14 +57,21 @@ impl Tally {
     pub fn times(&self, at: &Stamp) -> u64
         ensures { result ≡ times_in at.now self.now }
     {
-        times_of(&self.counts, at)
+        match &self.few {
+            Few::One(stamp, count) if at.compare(stamp).is_eq() => *count,
+            Few::One(..) => 0,
+            Few::Many(counts) => times_of(counts, at),
+        }
     }
 
     /// Whether there is one of a lesser stamp.
     pub fn has_lesser(&self, at: &Stamp) -> bool
         ensures { result ≡ list_any (λ s. lesser s at.now) (keys_of self.now) }
     {
-        has_lesser(&self.counts, at)
+        match &self.few {
+            Few::One(stamp, _) => is_lesser(stamp, at),
+            Few::Many(counts) => has_lesser(counts, at),
+        }
     }
 
     /// One more of a stamp. The error is want of memory, or that the number would not fit 64 bits; after it all is as it was.
@@ -60,7 +79,7 @@ impl Tally {
         ensures ok { IfOk result (λ u. HasOneMore at.now self.old self.new) }
         ensures err { OnErr result (self.new ≡ self.old) }
     {
-        add_one(&mut self.counts, at)
+        self.add_many(at, 1)
     }
 
     /// So many more of a stamp. The error is want of memory, or that the number would not fit 64 bits; after it all is as it
@@ -69,58 +88,134 @@ impl Tally {
         ensures ok { IfOk result (λ u. HasManyMore at.now count self.old self.new) }
         ensures err { OnErr result (self.new ≡ self.old) }
     {
-        add_many(&mut self.counts, at, count)
+        if count == 0 {
+            return Ok(());
+        }
+        let more = match &mut self.few {
+            Few::Many(counts) => {
+                if !counts.is_empty() {
+                    return add_many(counts, at, count);
+                }
+                Few::One(at.copy(), count)
+            }
+            Few::One(stamp, times) => {
+                if at.compare(stamp).is_eq() {
+                    *times = times.checked_add(count).ok_or(AllocError)?;
+                    return Ok(());
+                }
+                with_more(self.alloc, stamp, *times, at, count)?
+            }
+        };
+        self.few = more;
+        Ok(())
     }
 
     /// How many there are at stamps inside a frontier. The error is that the number would not fit 64 bits.
     pub fn count_inside(&self, f: &Front) -> Result<u64, AllocError>
         ensures { IfOk result (λ n. n ≡ count_inside (inside f.now) self.now) }
     {
-        count_inside(&self.counts, f)
+        match &self.few {
+            Few::One(stamp, count) if f.contains(stamp) => Ok(*count),
+            Few::One(..) => Ok(0),
+            Few::Many(counts) => count_inside(counts, f),
+        }
     }
 
     /// Leaves what is at stamps inside a frontier. It takes no memory.
     pub fn keep_inside(&mut self, f: &Front)
         ensures { self.new ≡ filter (λ entry. inside f.now entry.0) self.old }
     {
-        self.counts.retain(|stamp, _| f.contains(stamp));
+        match &mut self.few {
+            Few::Many(counts) => {
+                counts.retain(|stamp, _| f.contains(stamp));
+                return;
+            }
+            Few::One(stamp, _) => {
+                if f.contains(stamp) {
+                    return;
+                }
+            }
+        }
+        self.few = Few::Many(BTreeMap::new(self.alloc));
     }
 
     /// Leaves what is at stamps outside a frontier. It takes no memory.
     pub fn keep_outside(&mut self, f: &Front)
         ensures { self.new ≡ filter (λ entry. not (inside f.now entry.0)) self.old }
     {
-        self.counts.retain(|stamp, _| !f.contains(stamp));
+        match &mut self.few {
+            Few::Many(counts) => {
+                counts.retain(|stamp, _| !f.contains(stamp));
+                return;
+            }
+            Few::One(stamp, _) => {
+                if !f.contains(stamp) {
+                    return;
+                }
+            }
+        }
+        self.few = Few::Many(BTreeMap::new(self.alloc));
     }
 
     /// One less of a stamp, if there is one. It takes no memory.
     pub fn take(&mut self, at: &Stamp)
         ensures { HasOneLess at.now self.old self.new }
     {
-        take_one(&mut self.counts, at);
+        match &mut self.few {
+            Few::Many(counts) => {
+                take_one(counts, at);
+                return;
+            }
+            Few::One(stamp, count) => {
+                if !at.compare(stamp).is_eq() {
+                    return;
+                }
+                if *count > 1 {
+                    *count -= 1;
+                    return;
+                }
+            }
+        }
+        self.few = Few::Many(BTreeMap::new(self.alloc));
     }
 
     /// None of a stamp from now on. It takes no memory.
     pub fn clear(&mut self, at: &Stamp)
         ensures { HasNoMore at.now self.old self.new }
     {
-        clear_one(&mut self.counts, at);
+        match &mut self.few {
+            Few::Many(counts) => {
+                clear_one(counts, at);
+                return;
+            }
+            Few::One(stamp, _) => {
+                if !at.compare(stamp).is_eq() {
+                    return;
+                }
+            }
+        }
+        self.few = Few::Many(BTreeMap::new(self.alloc));
     }
 
     /// Whether there is none of any stamp.
     pub fn is_empty(&self) -> bool
         ensures { IsTrue result ↔ (self.now ≡ []) }
     {
-        self.counts.is_empty()
+        match &self.few {
+            Few::One(..) => false,
+            Few::Many(counts) => counts.is_empty(),
+        }
     }
 
     /// A copy. The error is want of memory.
     pub fn copy(&self, alloc: Global) -> Result<Self, AllocError>
         ensures { IfOk result (λ tally. tally ≡ self.now) }
     {
-        Ok(Tally {
-            counts: copied(alloc, &self.counts)?,
-        })
+        let few = match &self.few {
+            Few::One(stamp, count) => Few::One(stamp.copy(), *count),
+            Few::Many(counts) => Few::Many(copied(alloc, counts)?),
+        };
+        Ok(Tally { alloc, few })
     }
 
     /// The first of its stamps inside a frontier, by the coordinates from the outermost on.
@@ -128,7 +223,11 @@ impl Tally {
         ensures first { result ≡ find (inside f.now) (keys_of self.now) }
         ensures in_order { IsStrictlySortedBy stamp_cmp (keys_of self.now) }
     {
-        first_inside(&self.counts, f)
+        match &self.few {
+            Few::One(stamp, _) if f.contains(stamp) => Some(stamp.copy()),
+            Few::One(..) => None,
+            Few::Many(counts) => first_inside(counts, f),
+        }
     }
 
     /// Up to where there is none: the frontier that has these stamps outside. The error is want of memory.
@@ -136,7 +235,10 @@ impl Tally {
         ensures { (bounds : Domain) → IsTallyOf bounds self.now
             → IfOk result (λ f. IsFrontOf bounds f (frontier_of bounds (keys_of self.now))) }
     {
-        until(alloc, &self.counts)
+        match &self.few {
+            Few::One(stamp, _) => Front::until(alloc, slice::from_ref(stamp)),
+            Few::Many(counts) => until(alloc, counts),
+        }
     }
 }
 
@@ -155,7 +257,14 @@ fn times_of(counts: &BTreeMap<Stamp, u64>, at: &Stamp) -> u64
 fn has_lesser(counts: &BTreeMap<Stamp, u64>, at: &Stamp) -> bool
     ensures { result ≡ list_any (λ s. lesser s at.now) (keys_of counts.now.entries) }
 {
-    counts.keys().any(|stamp| stamp.leq(at) && !at.leq(stamp))
+    counts.keys().any(|stamp| is_lesser(stamp, at))
+}
+
+// Whether the first stamp is lesser.
+fn is_lesser(stamp: &Stamp, at: &Stamp) -> bool
+    ensures { result ≡ lesser stamp.now at.now }
+{
+    stamp.leq(at) && !at.leq(stamp)
 }
 
 // The number of a stamp is so much greater from now on, by one look-up; all is as it was after an error.
@@ -172,15 +281,6 @@ fn raise(counts: &mut BTreeMap<Stamp, u64>, at: &Stamp, more: u64) -> Result<(),
     Ok(())
 }
 
-// One more of a stamp; all is as it was after an error.
-fn add_one(counts: &mut BTreeMap<Stamp, u64>, at: &Stamp) -> Result<(), AllocError>
-    ensures ok { IfOk result (λ u. HasOneMore at.now counts.old.entries counts.new.entries) }
-    ensures err { OnErr result (counts.new.entries ≡ counts.old.entries) }
-{
-    raise(counts, at, 1)?;
-    Ok(())
-}
-
 // So many more of a stamp; all is as it was after an error.
 fn add_many(counts: &mut BTreeMap<Stamp, u64>, at: &Stamp, count: u64) -> Result<(), AllocError>
     ensures ok { IfOk result (λ u. HasManyMore at.now count counts.old.entries counts.new.entries) }
@@ -191,6 +291,22 @@ fn add_many(counts: &mut BTreeMap<Stamp, u64>, at: &Stamp, count: u64) -> Result
     }
     raise(counts, at, count)?;
     Ok(())
+}
+
+// So many of one stamp in a map, and so many more of another one.
+fn with_more(
+    alloc: Global,
+    stamp: &Stamp,
+    times: u64,
+    at: &Stamp,
+    count: u64,
+) -> Result<Few, AllocError>
+    ensures { IfOk result (λ few. HasManyMore at.now count ((stamp.now, times) ∷ []) (entries_of few)) }
+{
+    let mut counts = BTreeMap::new(alloc);
+    counts.insert(stamp.copy(), times)?;
+    add_many(&mut counts, at, count)?;
+    Ok(Few::Many(counts))
 }
 
 // How many there are at stamps inside a frontier.

@@ -1,4 +1,6 @@
-use Rattle.std.proofs.Common.{◌≡◌, true, sym, ◌∙◌}
+use Rattle.std.proofs.Common.{◌≡◌, true, sym, subst, ◌∙◌}
+use Rattle.std.proofs.lemmas.List.{take_all}
+use Rattle.std.specs.List.{AllByRecursion}
 use Rattle.fw_flow.specs.declared.choice.Counted.{Counted}
 use Rattle.fw_model.proofs.FilterLaws.{filter-all}
 use Rattle.fw_progress.proofs.EventLaws.{each-taken}
@@ -10,3 +12,9 @@ loop-message-preserved c =
     let P : Counted → Type 0 = λ m. is_on_its_edge c.args.flow.now c.args.single m ≡ true in
     each-taken P c.args.messages.now c.loop-message.message-index c.message-item.result c.loop-message-test.true c.message-item.is c.loop-message.invariant
     (sym c.on_its_edge.ensures ∙ c.if-not-on_its_edge.false)
+
+pub returns : goal.returns
+returns c =
+    let P : Counted → Type 0 = λ m. is_on_its_edge c.args.flow.now c.args.single m ≡ true in
+    λ yes. filter-all (is_on_its_edge c.args.flow.now c.args.single) c.args.messages.now
+    (subst (AllByRecursion P) (take_all c.loop-message.message-index c.args.messages.now c.loop-message-test.false) c.loop-message.invariant)

@@ -147,22 +147,6 @@ counted-filter p (e ∷ es) =
     (λ t. ap (λ ys. replicate e.1 e.0 ++ ys) rest ∙ sym (here ∙ ap (λ ys. ys ++ filter p (counted_messages es)) (cond-true (p e.0) (replicate e.1 e.0) [] t)))
     (λ t. rest ∙ sym (here ∙ ap (λ ys. ys ++ filter p (counted_messages es)) (cond-false (p e.0) (replicate e.1 e.0) [] t)))
 
--- copies of one entry more are added to what passes
-pub copied_more : (p : Message → Bool) (e : Message × ℕ) (es left : List (Message × ℕ)) (old new all : List Message) → left ≡ e ∷ es → p e.0 ≡ true
-    → new ≡ old ++ replicate e.1 e.0 → old ++ filter p (counted_messages left) ≡ all → new ++ filter p (counted_messages es) ≡ all
-copied_more p e es left old new all more t put h =
-    let rest = filter p (counted_messages es) in
-    let here = ap (λ fs. filter p (counted_messages fs)) more ∙ kept-entry p e es ∙ ap (λ ys. ys ++ rest) (cond-true (p e.0) (replicate e.1 e.0) [] t) in
-    ap (λ ys. ys ++ rest) put ∙ append_assoc old (replicate e.1 e.0) rest ∙ ap (λ ys. old ++ ys) (sym here) ∙ h
-
--- an entry that does not pass adds nothing
-pub copied_none : (p : Message → Bool) (e : Message × ℕ) (es left : List (Message × ℕ)) (old all : List Message) → left ≡ e ∷ es → p e.0 ≡ false
-    → old ++ filter p (counted_messages left) ≡ all → old ++ filter p (counted_messages es) ≡ all
-copied_none p e es left old all more t h =
-    let rest = filter p (counted_messages es) in
-    let here = ap (λ fs. filter p (counted_messages fs)) more ∙ kept-entry p e es ∙ ap (λ ys. ys ++ rest) (cond-false (p e.0) (replicate e.1 e.0) [] t) in
-    ap (λ ys. old ++ ys) (sym here) ∙ h
-
 -- ---- in order
 
 each-copies : (P : Message → Type 0) (n : ℕ) (x : Message) (ys : List Message) → P x → AllByRecursion P ys → AllByRecursion P (replicate n x ++ ys)

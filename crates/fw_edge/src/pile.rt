@@ -1,5 +1,5 @@
 //! The messages at one stamp.
-ghost use Rattle.std.specs.Prelude.{◌≡◌, ◌+◌, ◌^◌, ◌<◌, ◌≤◌, ◌++◌, [], length, drop, slice_get, replicate, unwrap_or, Some, OnOk, OnErr};
+ghost use Rattle.std.specs.Prelude.{◌≡◌, ◌+◌, ◌^◌, ◌<◌, ◌≤◌, [], length, drop, slice_get, unwrap_or, Some, OnOk, OnErr};
 ghost use Rattle.std.specs.Option.{option_copied};
 ghost use Rattle.std.specs.BTreeMap as tree;
 ghost use Rattle.std.specs.BTreeMap.{insert_entry};
@@ -84,20 +84,6 @@ impl Pile {
         ensures ascending { sorted_messages self.now ≡ self.now }
     {
         self.len
-    }
-
-    /// Adds copies of its messages to these.
-    pub fn copy_all(&self, messages: &mut Vec<Message>) -> Result<(), AllocError>
-        ensures { OnOk result (messages.new.items ≡ messages.old.items ++ self.now) }
-    {
-        copy_counted(&self.counts, messages)
-    }
-
-    /// Adds copies of its messages all of whose causes are inside to these.
-    pub fn copy_caused(&self, f: &Front, messages: &mut Vec<Message>) -> Result<(), AllocError>
-        ensures { OnOk result (messages.new.items ≡ messages.old.items ++ messages_from (inside f.now) self.now) }
-    {
-        copy_counted_from(&self.counts, f, messages)
     }
 }
 
@@ -215,48 +201,4 @@ fn total(counts: &BTreeMap<Message, usize>, most: usize) -> usize
         sum += *count;
     }
     sum
-}
-
-// Adds copies of a message to these.
-fn push_copies(
-    messages: &mut Vec<Message>,
-    message: &Message,
-    count: usize,
-) -> Result<(), AllocError>
-    ensures { OnOk result (messages.new.items ≡ messages.old.items ++ replicate count message.now) }
-{
-    for _made in 0..count {
-        messages.push(message.copy())?;
-    }
-    Ok(())
-}
-
-// Adds copies of the messages to these.
-fn copy_counted(
-    counts: &BTreeMap<Message, usize>,
-    messages: &mut Vec<Message>,
-) -> Result<(), AllocError>
-    ensures { OnOk result (messages.new.items ≡ messages.old.items ++ counted_messages counts.now.entries) }
-{
-    for (message, count) in counts {
-        push_copies(messages, message, *count)?;
-    }
-    Ok(())
-}
-
-// Adds copies of the messages all of whose causes are inside to these.
-fn copy_counted_from(
-    counts: &BTreeMap<Message, usize>,
-    f: &Front,
-    messages: &mut Vec<Message>,
-) -> Result<(), AllocError>
-    ensures { OnOk result (messages.new.items
-        ≡ messages.old.items ++ messages_from (inside f.now) (counted_messages counts.now.entries)) }
-{
-    for (message, count) in counts {
-        if comes_from(message, f) {
-            push_copies(messages, message, *count)?;
-        }
-    }
-    Ok(())
 }

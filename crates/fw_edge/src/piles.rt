@@ -5,7 +5,7 @@ ghost use Rattle.fw_time.specs.Stamp.{same};
 ghost use Rattle.fw_frontier.specs.Front.{inside};
 ghost use Rattle.fw_flow.specs.Counting.{how_many};
 ghost use Rattle.fw_flow.specs.Message.{messages_without};
-ghost use Rattle.fw_model.specs.Filtering.{messages_from, messages_outside};
+ghost use Rattle.fw_model.specs.Filtering.{messages_from};
 ghost use Rattle.fw_model.specs.SortedMessages.{with_message, sorted_messages};
 ghost use Rattle.fw_model.specs.Steps.{is_asked};
 ghost use Rattle.fw_edge.specs.Piles.{piled_messages, ArePiles};
@@ -153,57 +153,4 @@ pub fn keep_causes(piles: &mut BTreeMap<Stamp, Pile>, f: &Front)
         pile.keep_causes(f);
         pile.len() > 0
     });
-}
-
-/// Drops the messages at stamps inside. What stays is not looked at.
-pub fn drop_inside(piles: &mut BTreeMap<Stamp, Pile>, f: &Front)
-    requires { ArePiles piles.old.entries }
-    ensures piles { ArePiles piles.new.entries }
-    ensures left { piled_messages piles.new.entries ≡ messages_outside (inside f.now) (piled_messages piles.old.entries) }
-{
-    piles.retain(|at, _| !f.contains(at));
-}
-
-/// Copies of the messages at stamps outside.
-pub fn outside(
-    alloc: Global,
-    piles: &BTreeMap<Stamp, Pile>,
-    f: &Front,
-) -> Result<Vec<Message>, AllocError>
-    requires { ArePiles piles.now.entries }
-    ensures { IfOk result
-        (λ ms. ms.items ≡ messages_outside (inside f.now) (piled_messages piles.now.entries)) }
-{
-    let mut messages = Vec::new(alloc);
-    for (at, pile) in piles {
-        if !f.contains(at) {
-            pile.copy_all(&mut messages)?;
-        }
-    }
-    Ok(messages)
-}
-
-// How many messages there are, for which memory is asked at once.
-fn len(piles: &BTreeMap<Stamp, Pile>) -> usize {
-    let mut len: usize = 0;
-    for (_, pile) in piles {
-        len = len.saturating_add(pile.len());
-    }
-    len
-}
-
-/// Copies of the messages all of whose causes are inside.
-pub fn caused_in(
-    alloc: Global,
-    piles: &BTreeMap<Stamp, Pile>,
-    f: &Front,
-) -> Result<Vec<Message>, AllocError>
-    ensures { IfOk result
-        (λ ms. ms.items ≡ messages_from (inside f.now) (piled_messages piles.now.entries)) }
-{
-    let mut messages = Vec::with_capacity(alloc, len(piles))?;
-    for (_, pile) in piles {
-        pile.copy_caused(f, &mut messages)?;
-    }
-    Ok(messages)
 }

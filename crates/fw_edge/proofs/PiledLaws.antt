@@ -1,6 +1,6 @@
 -- What piles of messages say.
-use Rattle.std.proofs.Common.{◌≡◌, ◌≢◌, ℕ, ◌+◌, ◌<◌, Bool, true, false, cond, List, [], ◌∷◌, ◌++◌, length, filter, map, drop, Option, Some, None, unwrap_or, Result, Ok, Err, nat_lt, refl, sym, ap, subst, ◌∙◌, inl, inr, arith}
-use Rattle.std.specs.Prelude.{slice_get, find, IfSome, IfNone, OnErr}
+use Rattle.std.proofs.Common.{◌≡◌, ◌≢◌, ℕ, ◌+◌, ◌<◌, Bool, true, false, cond, List, [], ◌∷◌, ◌++◌, length, filter, map, drop, Option, Some, None, unwrap_or, nat_lt, refl, sym, ap, subst, ◌∙◌, inl, inr, arith}
+use Rattle.std.specs.Prelude.{slice_get, find, IfSome, IfNone}
 use Rattle.std.specs.BTreeMap.{insert_entry, is_at}
 use Rattle.std.specs.List.{AllByRecursion}
 use Rattle.std.specs.List.Sorted.{IsStrictlySortedBy}
@@ -26,7 +26,7 @@ use Rattle.fw_flow.specs.declared.event.Message.{Message}
 use Rattle.fw_flow.specs.Counting.{how_many}
 use Rattle.fw_flow.specs.Message.{message_cmp, messages_without}
 use Rattle.fw_flow.proofs.MessageLaws.{message_cmp-self, without-here, without-later}
-use Rattle.fw_model.specs.SortedMessages.{with_message, with_messages, sorted_messages}
+use Rattle.fw_model.specs.SortedMessages.{with_message, sorted_messages}
 use Rattle.fw_model.proofs.CmpLaws.{stamp_total, stamp_cmp-same, stamp_cmp-equal}
 use Rattle.fw_model.proofs.SortedLaws.{IsAscendingMessages, ascending-sorted_messages, sorted_messages-ascending, sorted_messages-filter, sorted_messages-twice, each-with_message}
 use Rattle.fw_edge.specs.Messages.{ArePutAfter}
@@ -476,10 +476,6 @@ front_of t v (e ∷ es) a h =
           ∙ sym (find-first (λ m. true) e.1 (piled_messages es) a.0.some (each-weaker (λ m. m.at ≡ e.0) (λ m. true ≡ true) e.1 (λ m k. refl) a.0.there)),
     )
 
-pub on_err : {A E : Type 0} (r : Result A E) (P : Type 0) → P → OnErr r P
-on_err (Ok a) P p = tt
-on_err (Err e) P p = p
-
 -- ---- messages put in one after the other
 
 -- ---- many are put in
@@ -496,10 +492,6 @@ put_after-more rest left messages old between m new is n a = record {
   split = a.split ∙ ap (λ xs. xs ++ a.put) is ∙ append_assoc left (m ∷ []) a.put;
   there = n ∙ ap (with_message m) a.there;
 }
-
--- all are
-pub put_after-all : (left messages old new : List Message) → left ≡ [] → ArePutAfter left messages old new → new ≡ with_messages messages old
-put_after-all left messages old new e a = a.there ∙ ap (λ xs. with_messages xs old) (sym (a.split ∙ ap (λ xs. xs ++ a.put) e))
 
 -- ---- the stamps
 

@@ -1,5 +1,5 @@
 //! Messages by their stamps.
-ghost use Rattle.std.specs.Prelude.{◌≡◌, ◌↔◌, [], ◌∷◌, find, true, IsTrue, IfSome, IfNone, IfOk, OnOk, OnErr};
+ghost use Rattle.std.specs.Prelude.{◌≡◌, ◌↔◌, [], find, true, IsTrue, IfSome, IfNone, OnOk, OnErr};
 ghost use Rattle.std.specs.Option.{option_copied};
 ghost use Rattle.fw_time.specs.Stamp.{same};
 ghost use Rattle.fw_frontier.specs.Front.{inside};
@@ -30,22 +30,12 @@ pub fn put(
     ensures err { OnErr result (piles.new.entries ≡ piles.old.entries) }
 {
     match piles.entry(message.at.copy())? {
-        Entry::Occupied(pile) => pile.into_mut().put(message)?,
+        Entry::Occupied(pile) => pile.into_mut().put(alloc, message)?,
         Entry::Vacant(place) => {
-            let pile = single(alloc, message)?;
-            place.insert(pile);
+            place.insert(Pile::of(message));
         }
     }
     Ok(())
-}
-
-// The pile of one message.
-fn single(alloc: Global, message: Message) -> Result<Pile, AllocError>
-    ensures { IfOk result (λ pile. pile ≡ message ∷ []) }
-{
-    let mut pile = Pile::new(alloc);
-    pile.put(message)?;
-    Ok(pile)
 }
 
 /// Takes the first message at a stamp out.

@@ -1,7 +1,7 @@
 -- Messages in the order of appending, and in order.
 use Rattle.std.proofs.Common.{◌≡◌, ℕ, zero, suc, ◌+◌, ◌-◌, ◌≤◌, Bool, false, List, [], ◌∷◌, ◌++◌, length, filter, take, take_all, Some, refl, sym, ap, subst, ◌∙◌, get_or, arith}
 use Rattle.std.specs.Prelude.{slice_get}
-use Rattle.std.specs.List.{AllByRecursion, fold}
+use Rattle.std.specs.List.{fold}
 use Rattle.std.specs.List.Sorted.{IsPermutation, IsSorted}
 use Rattle.std.specs.declared.cmp.Ordering.{Ordering}
 use Rattle.std.specs.declared.cmp.Ordering.TheVariants.{Less, Equal, Greater}
@@ -14,7 +14,7 @@ use Rattle.fw_flow.specs.Message.{message_cmp}
 use Rattle.fw_flow.proofs.MessageLaws.{message_total}
 use Rattle.fw_model.specs.SortedMessages.{with_message, sorted_messages}
 use Rattle.fw_model.proofs.SentLaws.{copy}
-use Rattle.fw_model.proofs.SortedLaws.{IsAscendingMessages, same_sorted_messages, sorted_messages-ascending, sorted_messages-filter, sorted_messages-weigh}
+use Rattle.fw_model.proofs.SortedLaws.{IsAscendingMessages, same_sorted_messages, sorted_messages-ascending, sorted_messages-filter}
 use Rattle.fw_model.proofs.WeightLaws.{weigh, weigh-append}
 use Rattle.fw_edge.proofs.PileLaws.{with_message-some}
 use Rattle.fw_edge.proofs.PiledLaws.{ascending_from}

@@ -9,7 +9,7 @@ use Rattle.std.specs.declared.cmp.Ordering.{Ordering}
 use Rattle.std.specs.declared.cmp.Ordering.TheVariants.{Less, Equal, Greater}
 use Rattle.std.specs.Ordering.{is_eq, is_le, is_gt, match_ordering}
 use Rattle.std.proofs.lemmas.Bool.{cases_Bool, cond_both, cond-true, cond-false}
-use Rattle.std.proofs.lemmas.List.{append_assoc}
+use Rattle.std.proofs.lemmas.List.{append-nil}
 use Rattle.std.proofs.lemmas.List.Elements.{filter-append}
 use Rattle.std.proofs.lemmas.Map.{lookup-none}
 use Rattle.std.proofs.lemmas.Map.Entries.{none_below_head}
@@ -17,10 +17,12 @@ use Rattle.std.proofs.lemmas.Map.Keys.{sorted_head, sorted_tail}
 use Rattle.fw_time.proofs.EachLaws.{each_of-map, each-weaker}
 use Rattle.fw_flow.specs.declared.event.Message.{Message}
 use Rattle.fw_flow.specs.Message.{message_cmp}
-use Rattle.fw_flow.proofs.MessageLaws.{message_total, message_cmp-same, message_cmp-self}
+use Rattle.fw_flow.proofs.MessageLaws.{message_total, message_cmp-same, message_cmp-equal, message_cmp-self}
 use Rattle.fw_model.specs.SortedMessages.{with_message, sorted_messages}
 use Rattle.fw_model.proofs.SortedLaws.{IsAscendingMessages, sorted_messages-ascending}
-use Rattle.fw_edge.specs.Piles.{counted_messages, IsTally}
+use Rattle.fw_edge.specs.declared.pile.Held.{Held}
+use Rattle.fw_edge.specs.declared.pile.Held.TheVariants.{One, Many}
+use Rattle.fw_edge.specs.Piles.{counted_messages, messages_held, IsHeld, IsTally}
 
 -- ---- a message put in
 
@@ -119,13 +121,10 @@ positive-set_value test n [] p a = tt
 positive-set_value test n (e ∷ es) p a =
     cond_both (test e.0) ((e.0, n) ∷ es) (e ∷ set_value test es n) (AllByRecursion (λ e. 0 < e.1)) (λ q. (p, a.1)) (λ q. (a.0, positive-set_value test n es p a.1))
 
--- an entry of one message
-pub single_entry : (m : Message) (n : ℕ) (es : List (Message × ℕ)) → n ≡ 1 → counted_messages ((m, n) ∷ es) ≡ m ∷ counted_messages es
-single_entry m n es e = ap (λ k. counted_messages ((m, k) ∷ es)) e
-
 -- ---- what is kept
 
-filter-copies : (p : Message → Bool) (n : ℕ) (x : Message) → filter p (replicate n x) ≡ cond (p x) (replicate n x) []
+-- of copies of one message all pass a test, or none
+pub filter-copies : (p : Message → Bool) (n : ℕ) (x : Message) → filter p (replicate n x) ≡ cond (p x) (replicate n x) []
 filter-copies p zero x = cond_both (p x) [] [] (λ ys. [] ≡ ys) (λ e. refl) (λ e. refl)
 filter-copies p (suc n) x =
     cond_both (p x) (x ∷ filter p (replicate n x)) (filter p (replicate n x)) (λ ys. ys ≡ cond (p x) (x ∷ replicate n x) [])
@@ -146,22 +145,6 @@ counted-filter p (e ∷ es) =
     cond_both (p e.0) (e ∷ filter (λ e. p e.0) es) (filter (λ e. p e.0) es) (λ fs. counted_messages fs ≡ filter p (counted_messages (e ∷ es)))
     (λ t. ap (λ ys. replicate e.1 e.0 ++ ys) rest ∙ sym (here ∙ ap (λ ys. ys ++ filter p (counted_messages es)) (cond-true (p e.0) (replicate e.1 e.0) [] t)))
     (λ t. rest ∙ sym (here ∙ ap (λ ys. ys ++ filter p (counted_messages es)) (cond-false (p e.0) (replicate e.1 e.0) [] t)))
-
--- copies of one entry more are added to what passes
-pub copied_more : (p : Message → Bool) (e : Message × ℕ) (es left : List (Message × ℕ)) (old new all : List Message) → left ≡ e ∷ es → p e.0 ≡ true
-    → new ≡ old ++ replicate e.1 e.0 → old ++ filter p (counted_messages left) ≡ all → new ++ filter p (counted_messages es) ≡ all
-copied_more p e es left old new all more t put h =
-    let rest = filter p (counted_messages es) in
-    let here = ap (λ fs. filter p (counted_messages fs)) more ∙ kept-entry p e es ∙ ap (λ ys. ys ++ rest) (cond-true (p e.0) (replicate e.1 e.0) [] t) in
-    ap (λ ys. ys ++ rest) put ∙ append_assoc old (replicate e.1 e.0) rest ∙ ap (λ ys. old ++ ys) (sym here) ∙ h
-
--- an entry that does not pass adds nothing
-pub copied_none : (p : Message → Bool) (e : Message × ℕ) (es left : List (Message × ℕ)) (old all : List Message) → left ≡ e ∷ es → p e.0 ≡ false
-    → old ++ filter p (counted_messages left) ≡ all → old ++ filter p (counted_messages es) ≡ all
-copied_none p e es left old all more t h =
-    let rest = filter p (counted_messages es) in
-    let here = ap (λ fs. filter p (counted_messages fs)) more ∙ kept-entry p e es ∙ ap (λ ys. ys ++ rest) (cond-false (p e.0) (replicate e.1 e.0) [] t) in
-    ap (λ ys. old ++ ys) (sym here) ∙ h
 
 -- ---- in order
 
@@ -199,6 +182,38 @@ ascending-counted (e ∷ es) s =
 -- the messages of counts are in order
 pub counted-in_order : (es : List (Message × ℕ)) → IsTally es → sorted_messages (counted_messages es) ≡ counted_messages es
 counted-in_order es t = sorted_messages-ascending (counted_messages es) (ascending-counted es t.ordered)
+
+-- ---- copies of one message
+
+le_self : (m : Message) → is_le (message_cmp m m) ≡ true
+le_self m = by (message_cmp m m) (message_cmp-self m)
+  where
+    by : (o : Ordering) → is_eq o ≡ true → is_le o ≡ true
+    by Less e = refl
+    by Equal e = refl
+    by Greater e = absurd (cc)
+
+-- one more of the same
+pub copies-more : (m x : Message) (n : ℕ) → is_eq (message_cmp x m) ≡ true → with_message m (replicate n x) ≡ replicate (n + 1) m
+copies-more m x n e = subst (λ y. with_message m (replicate n y) ≡ replicate (n + 1) m) (sym (message_cmp-equal x m e)) (by n)
+  where
+    by : (k : ℕ) → with_message m (replicate k m) ≡ replicate (k + 1) m
+    by zero = refl
+    by (suc k) =
+        let e : suc (suc k) ≡ suc k + 1 = omega arith in
+        cond-true (is_le (message_cmp m m)) (m ∷ m ∷ replicate k m) (m ∷ with_message m (replicate k m)) (le_self m) ∙ ap (λ j. replicate j m) e
+
+-- the counts of copies of one message
+pub counted-one : (m : Message) (n : ℕ) (es : List (Message × ℕ)) → es ≡ (m, n) ∷ [] → counted_messages es ≡ replicate n m
+counted-one m n es e = ap counted_messages e ∙ append-nil (replicate n m)
+
+-- what is held is in order
+pub held-in_order : (held : Held) → IsHeld held → sorted_messages (messages_held held) ≡ messages_held held
+unfolding IsAscendingMessages
+held-in_order (One m n) h =
+    subst (λ (xs : List Message). sorted_messages xs ≡ xs) (append-nil (replicate n m))
+    (sorted_messages-ascending (replicate n m ++ []) (ascending-copies n m [] tt tt))
+held-in_order (Many counts len) h = counted-in_order counts.entries h.0
 
 -- ---- how many
 

@@ -1,6 +1,6 @@
 -- What piles of messages say.
-use Rattle.std.proofs.Common.{◌≡◌, ◌≢◌, ℕ, ◌+◌, ◌<◌, Bool, true, false, cond, List, [], ◌∷◌, ◌++◌, length, filter, map, drop, Option, Some, None, unwrap_or, Result, Ok, Err, nat_lt, refl, sym, ap, subst, ◌∙◌, inl, inr, arith}
-use Rattle.std.specs.Prelude.{slice_get, find, IfSome, IfNone, OnErr}
+use Rattle.std.proofs.Common.{◌≡◌, ◌≢◌, ℕ, ◌+◌, ◌<◌, Bool, true, false, cond, List, [], ◌∷◌, ◌++◌, length, filter, map, drop, Option, Some, None, unwrap_or, nat_lt, refl, sym, ap, subst, ◌∙◌, inl, inr, arith}
+use Rattle.std.specs.Prelude.{slice_get, find, IfSome, IfNone}
 use Rattle.std.specs.BTreeMap.{insert_entry, is_at}
 use Rattle.std.specs.List.{AllByRecursion}
 use Rattle.std.specs.List.Sorted.{IsStrictlySortedBy}
@@ -26,9 +26,8 @@ use Rattle.fw_flow.specs.declared.event.Message.{Message}
 use Rattle.fw_flow.specs.Counting.{how_many}
 use Rattle.fw_flow.specs.Message.{message_cmp, messages_without}
 use Rattle.fw_flow.proofs.MessageLaws.{message_cmp-self, without-here, without-later}
-use Rattle.fw_model.specs.SortedMessages.{with_message, with_messages, sorted_messages}
+use Rattle.fw_model.specs.SortedMessages.{with_message, sorted_messages}
 use Rattle.fw_model.proofs.CmpLaws.{stamp_total, stamp_cmp-same, stamp_cmp-equal}
-use Rattle.fw_model.proofs.FilterLaws.{filter-all, filter-none}
 use Rattle.fw_model.proofs.SortedLaws.{IsAscendingMessages, ascending-sorted_messages, sorted_messages-ascending, sorted_messages-filter, sorted_messages-twice, each-with_message}
 use Rattle.fw_edge.specs.Messages.{ArePutAfter}
 use Rattle.fw_edge.specs.Piles.{piled_messages, IsPile, ArePiles}
@@ -386,20 +385,6 @@ piled-kept p (e ∷ es) =
     let nothing : filter p e.1 ≡ [] = nil_from_length (filter p e.1) (let l = ltb-false 0 (length (filter p e.1)) q in omega arith) in
     rest ∙ sym (here ∙ ap (λ xs. xs ++ filter p (piled_messages es)) nothing))
 
--- the messages of the piles at stamps that pass are those at such stamps
-pub piled-filter : (p : Stamp → Bool) (es : Piles) → EachIsPile es → piled_messages (filter (λ e. p e.0) es) ≡ filter (λ m. p m.at) (piled_messages es)
-piled-filter p [] a = refl
-piled-filter p (e ∷ es) a =
-    let rest = piled-filter p es a.1 in
-    let both = filter-append (λ (m : Message). p m.at) e.1 (piled_messages es) in
-    let alike : (b : Bool) → p e.0 ≡ b → AllByRecursion (λ (m : Message). p m.at ≡ b) e.1 = λ b q. each-weaker (λ m. m.at ≡ e.0) (λ m. p m.at ≡ b) e.1 (λ m k. ap p k ∙ q) a.0.there in
-    cond_both (p e.0) (e ∷ filter (λ e. p e.0) es) (filter (λ e. p e.0) es) (λ fs. piled_messages fs ≡ filter (λ m. p m.at) (piled_messages (e ∷ es)))
-    (λ q. ap (λ ys. e.1 ++ ys) rest ∙ sym (both ∙ ap (λ xs. xs ++ filter (λ m. p m.at) (piled_messages es)) (filter-all (λ m. p m.at) e.1 (alike true q))))
-    (λ q. rest ∙ sym (both ∙ ap (λ xs. xs ++ filter (λ m. p m.at) (piled_messages es)) (filter-none (λ m. p m.at) e.1 (alike false q))))
-
-pub piles-filter : (p : Stamp → Bool) (es : Piles) → EachIsPile es → EachIsPile (filter (λ e. p e.0) es)
-piles-filter p es a = each-kept (λ pile. IsPile pile.0 pile.1) (λ e. p e.0) es a
-
 -- ---- in order, and without messages
 
 -- what is in order ascends
@@ -491,25 +476,6 @@ front_of t v (e ∷ es) a h =
           ∙ sym (find-first (λ m. true) e.1 (piled_messages es) a.0.some (each-weaker (λ m. m.at ≡ e.0) (λ m. true ≡ true) e.1 (λ m k. refl) a.0.there)),
     )
 
-pub on_err : {A E : Type 0} (r : Result A E) (P : Type 0) → P → OnErr r P
-on_err (Ok a) P p = tt
-on_err (Err e) P p = p
-
--- ---- copies of what is kept
-
--- the copies of one pile more are added
-pub copied_pile : (p : Message → Bool) (e : Stamp × List Message) (es left : Piles) (old new all : List Message) → left ≡ e ∷ es
-    → new ≡ old ++ filter p e.1 → old ++ filter p (piled_messages left) ≡ all → new ++ filter p (piled_messages es) ≡ all
-copied_pile p e es left old new all more put h =
-    let rest = filter p (piled_messages es) in
-    let here = ap (λ fs. filter p (piled_messages fs)) more ∙ filter-append p e.1 (piled_messages es) in
-    ap (λ ys. ys ++ rest) put ∙ append_assoc old (filter p e.1) rest ∙ ap (λ ys. old ++ ys) (sym here) ∙ h
-
--- of a pile whose stamp passes a test all pass, and else none
-pub pile_passes : (p : Stamp → Bool) (t : Stamp) (v : List Message) → IsPile t v → (b : Bool) → p t ≡ b → filter (λ m. p m.at) v ≡ cond b v []
-pile_passes p t v a true h = filter-all (λ m. p m.at) v (each-weaker (λ m. m.at ≡ t) (λ m. p m.at ≡ true) v (λ m k. ap p k ∙ h) a.there)
-pile_passes p t v a false h = filter-none (λ m. p m.at) v (each-weaker (λ m. m.at ≡ t) (λ m. p m.at ≡ false) v (λ m k. ap p k ∙ h) a.there)
-
 -- ---- messages put in one after the other
 
 -- ---- many are put in
@@ -526,10 +492,6 @@ put_after-more rest left messages old between m new is n a = record {
   split = a.split ∙ ap (λ xs. xs ++ a.put) is ∙ append_assoc left (m ∷ []) a.put;
   there = n ∙ ap (with_message m) a.there;
 }
-
--- all are
-pub put_after-all : (left messages old new : List Message) → left ≡ [] → ArePutAfter left messages old new → new ≡ with_messages messages old
-put_after-all left messages old new e a = a.there ∙ ap (λ xs. with_messages xs old) (sym (a.split ∙ ap (λ xs. xs ++ a.put) e))
 
 -- ---- the stamps
 

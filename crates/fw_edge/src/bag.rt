@@ -1,11 +1,11 @@
 //! Bags of messages.
-ghost use Rattle.std.specs.Prelude.{◌≡◌, ◌↔◌, [], find, IsTrue, IfSome, IfNone, IfOk, OnOk, OnErr};
+ghost use Rattle.std.specs.Prelude.{◌≡◌, ◌↔◌, [], find, IsTrue, IfSome, IfNone, OnOk, OnErr};
 ghost use Rattle.std.specs.Option.{option_copied};
 ghost use Rattle.fw_time.specs.Stamp.{same};
 ghost use Rattle.fw_frontier.specs.Front.{inside};
 ghost use Rattle.fw_flow.specs.Counting.{how_many};
 ghost use Rattle.fw_flow.specs.Message.{messages_without};
-ghost use Rattle.fw_model.specs.Filtering.{messages_from, messages_outside};
+ghost use Rattle.fw_model.specs.Filtering.{messages_from};
 ghost use Rattle.fw_model.specs.SortedMessages.{with_message, sorted_messages};
 ghost use Rattle.fw_model.specs.Steps.{is_asked};
 ghost use Rattle.fw_edge.specs.Stamps.{counted_stamps};
@@ -108,26 +108,5 @@ impl MessageBag {
         ensures { self.new ≡ messages_from (inside f.now) self.old }
     {
         piles::keep_causes(&mut self.piles, f);
-    }
-
-    /// Drops the messages at stamps inside. What stays is not looked at.
-    pub fn drop_inside(&mut self, f: &Front)
-        ensures { self.new ≡ messages_outside (inside f.now) self.old }
-    {
-        piles::drop_inside(&mut self.piles, f);
-    }
-
-    /// Copies of the messages at stamps outside.
-    pub fn outside(&self, f: &Front) -> Result<Vec<Message>, AllocError>
-        ensures { IfOk result (λ ms. ms.items ≡ messages_outside (inside f.now) self.now) }
-    {
-        piles::outside(self.alloc, &self.piles, f)
-    }
-
-    /// Copies of the messages all of whose causes are inside.
-    pub fn caused_in(&self, f: &Front) -> Result<Vec<Message>, AllocError>
-        ensures { IfOk result (λ ms. ms.items ≡ messages_from (inside f.now) self.now) }
-    {
-        piles::caused_in(self.alloc, &self.piles, f)
     }
 }

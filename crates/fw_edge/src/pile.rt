@@ -1,5 +1,5 @@
 //! The messages at one stamp.
-ghost use Rattle.std.specs.Prelude.{◌≡◌, ◌+◌, ◌^◌, ◌<◌, ◌≤◌, ◌++◌, [], length, drop, slice_get, replicate, unwrap_or, Some, OnOk, OnErr};
+ghost use Rattle.std.specs.Prelude.{◌≡◌, ◌+◌, ◌^◌, ◌<◌, ◌≤◌, [], ◌∷◌, false, length, drop, slice_get, replicate, unwrap_or, Some, IsTrue, IfOk, OnOk, OnErr};
 ghost use Rattle.std.specs.Option.{option_copied};
 ghost use Rattle.std.specs.BTreeMap as tree;
 ghost use Rattle.std.specs.BTreeMap.{insert_entry};
@@ -7,7 +7,7 @@ ghost use Rattle.fw_frontier.specs.Front.{inside};
 ghost use Rattle.fw_flow.specs.Message.{message_cmp};
 ghost use Rattle.fw_model.specs.SortedMessages.{with_message, sorted_messages};
 ghost use Rattle.fw_model.specs.Filtering.{messages_from};
-ghost use Rattle.fw_edge.specs.Piles.{counted_messages, IsTally};
+ghost use Rattle.fw_edge.specs.Piles.{counted_messages, messages_held, IsHeld, IsTally};
 
 use crate::message::comes_from;
 use fw_flow::Message;
@@ -16,42 +16,54 @@ use std::alloc::{AllocError, Global};
 use std::collections::BTreeMap;
 use std::marker::Model;
 
-/// Messages, each any number of times, given out in ascending order. Contracts see their ascending list.
+/// Messages, each any number of times, given out in ascending order. Contracts see their ascending list. Copies of one message
+/// take no memory.
 #[derive(Debug, Drop)]
 pub struct Pile {
-    counts: BTreeMap<Message, usize>,
-    len: usize,
+    held: Held,
+}
+
+// Copies of one message in place, or different messages with their counts.
+#[derive(Debug, Drop)]
+enum Held {
+    One {
+        message: Message,
+        count: usize,
+    },
+    Many {
+        counts: BTreeMap<Message, usize>,
+        len: usize,
+    },
 }
 
 impl Model for Pile {
-    ghost use Rattle.std.specs.Prelude.{◌≡◌, List, length};
+    ghost use Rattle.std.specs.Prelude.{List};
     ghost use Rattle.fw_flow.specs.declared.event.Message.{Message};
-    ghost use Rattle.fw_edge.specs.Piles.{counted_messages, IsTally};
+    ghost use Rattle.fw_edge.specs.Piles.{messages_held, IsHeld};
 
     ghost Value = { List Message };
 
-    ghost view = { λ pile. counted_messages pile.counts.entries };
+    ghost view = { λ pile. messages_held pile.held };
 
-    ghost invariant = { λ pile. IsTally pile.counts.entries × (pile.len ≡ length (counted_messages pile.counts.entries)) };
+    ghost invariant = { λ pile. IsHeld pile.held };
 }
 
 impl Pile {
-    /// No message, in memory from `alloc`.
-    pub fn new(alloc: Global) -> Self
-        ensures { result ≡ [] }
+    /// One message. It takes no memory.
+    pub fn of(message: Message) -> Self
+        ensures { result ≡ message ∷ [] }
     {
         Pile {
-            counts: BTreeMap::new(alloc),
-            len: 0,
+            held: Held::One { message, count: 1 },
         }
     }
 
     /// Puts a message in. It fails where memory is refused, and where the number would not fit a `usize`.
-    pub fn put(&mut self, message: Message) -> Result<(), AllocError>
+    pub fn put(&mut self, alloc: Global, message: Message) -> Result<(), AllocError>
         ensures ok { OnOk result (self.new ≡ with_message message self.old) }
         ensures err { OnErr result (self.new ≡ self.old) }
     {
-        put_one(&mut self.counts, &mut self.len, message)
+        put_held(alloc, &mut self.held, message)
     }
 
     /// Takes the first message out.
@@ -59,23 +71,21 @@ impl Pile {
         ensures value { result ≡ slice_get self.old 0 }
         ensures rest { self.new ≡ drop 1 self.old }
     {
-        let message = take_one(&mut self.counts)?;
-        self.len -= 1;
-        Some(message)
+        take_held(&mut self.held)
     }
 
     /// The first message.
     pub fn first(&self) -> Option<&Message>
         ensures { option_copied result ≡ slice_get self.now 0 }
     {
-        first_of(&self.counts)
+        first_held(&self.held)
     }
 
     /// Keeps the messages all of whose causes are inside.
     pub fn keep_causes(&mut self, f: &Front)
         ensures { self.new ≡ messages_from (inside f.now) self.old }
     {
-        keep_counts(&mut self.counts, &mut self.len, f);
+        keep_held(&mut self.held, f);
     }
 
     /// How many messages there are, in constant time.
@@ -83,21 +93,131 @@ impl Pile {
         ensures len { result ≡ length self.now }
         ensures ascending { sorted_messages self.now ≡ self.now }
     {
-        self.len
+        len_held(&self.held)
     }
+}
 
-    /// Adds copies of its messages to these.
-    pub fn copy_all(&self, messages: &mut Vec<Message>) -> Result<(), AllocError>
-        ensures { OnOk result (messages.new.items ≡ messages.old.items ++ self.now) }
-    {
-        copy_counted(&self.counts, messages)
+// Puts a message in.
+fn put_held(alloc: Global, held: &mut Held, message: Message) -> Result<(), AllocError>
+    requires { IsHeld held.old }
+    ensures held { IsHeld held.new }
+    ensures ok { OnOk result (messages_held held.new ≡ with_message message (messages_held held.old)) }
+    ensures err { OnErr result (messages_held held.new ≡ messages_held held.old) }
+{
+    let more = match held {
+        Held::Many { counts, len } => return put_one(counts, len, message),
+        Held::One {
+            message: only,
+            count,
+        } => one_more(alloc, only, *count, message)?,
+    };
+    *held = more;
+    Ok(())
+}
+
+// Copies of one message, and one message more.
+fn one_more(
+    alloc: Global,
+    only: &Message,
+    count: usize,
+    message: Message,
+) -> Result<Held, AllocError>
+    ensures held { IfOk result (λ held. IsHeld held) }
+    ensures messages { IfOk result (λ held. messages_held held ≡ with_message message (replicate count only.now)) }
+{
+    let len = count.checked_add(1).ok_or(AllocError)?;
+    if are_same(only, count, &message) {
+        return Ok(Held::One {
+            message,
+            count: len,
+        });
     }
+    let mut counts = counts_of(alloc, only, count)?;
+    raise(&mut counts, message)?;
+    Ok(Held::Many { counts, len })
+}
 
-    /// Adds copies of its messages all of whose causes are inside to these.
-    pub fn copy_caused(&self, f: &Front, messages: &mut Vec<Message>) -> Result<(), AllocError>
-        ensures { OnOk result (messages.new.items ≡ messages.old.items ++ messages_from (inside f.now) self.now) }
-    {
-        copy_counted_from(&self.counts, f, messages)
+// Whether copies of one message are copies of one with a message more.
+fn are_same(only: &Message, count: usize, message: &Message) -> bool
+    ensures same { IsTrue result → with_message message.now (replicate count only.now) ≡ replicate (count + 1) message.now }
+    ensures some { result ≡ false → 0 < count }
+{
+    count == 0 || only.cmp(message).is_eq()
+}
+
+// The counts of copies of one message.
+fn counts_of(
+    alloc: Global,
+    only: &Message,
+    count: usize,
+) -> Result<BTreeMap<Message, usize>, AllocError>
+    ensures { IfOk result (λ counts. counts.entries ≡ (only.now, count) ∷ []) }
+{
+    let mut counts = BTreeMap::new(alloc);
+    counts.insert(only.copy(), count)?;
+    Ok(counts)
+}
+
+// Takes the first message out.
+fn take_held(held: &mut Held) -> Option<Message>
+    requires { IsHeld held.old }
+    ensures held { IsHeld held.new }
+    ensures value { result ≡ slice_get (messages_held held.old) 0 }
+    ensures rest { messages_held held.new ≡ drop 1 (messages_held held.old) }
+{
+    match held {
+        Held::One { message, count } => {
+            *count = count.checked_sub(1)?;
+            Some(message.copy())
+        }
+        Held::Many { counts, len } => {
+            let message = take_one(counts)?;
+            *len -= 1;
+            Some(message)
+        }
+    }
+}
+
+// The first message.
+fn first_held(held: &Held) -> Option<&Message>
+    requires { IsHeld held.now }
+    ensures { option_copied result ≡ slice_get (messages_held held.now) 0 }
+{
+    match held {
+        Held::One { message, count } => {
+            if *count == 0 {
+                return None;
+            }
+            Some(message)
+        }
+        Held::Many { counts, .. } => first_of(counts),
+    }
+}
+
+// Keeps the messages all of whose causes are inside.
+fn keep_held(held: &mut Held, f: &Front)
+    requires { IsHeld held.old }
+    ensures held { IsHeld held.new }
+    ensures kept { messages_held held.new ≡ messages_from (inside f.now) (messages_held held.old) }
+{
+    match held {
+        Held::One { message, count } => {
+            if !comes_from(message, f) {
+                *count = 0;
+            }
+        }
+        Held::Many { counts, len } => keep_counts(counts, len, f),
+    }
+}
+
+// How many messages there are.
+fn len_held(held: &Held) -> usize
+    requires { IsHeld held.now }
+    ensures { result ≡ length (messages_held held.now) }
+{
+    match held {
+        Held::One { count, .. } => *count,
+        Held::Many { len, .. } => *len,
     }
 }
 
@@ -215,48 +335,4 @@ fn total(counts: &BTreeMap<Message, usize>, most: usize) -> usize
         sum += *count;
     }
     sum
-}
-
-// Adds copies of a message to these.
-fn push_copies(
-    messages: &mut Vec<Message>,
-    message: &Message,
-    count: usize,
-) -> Result<(), AllocError>
-    ensures { OnOk result (messages.new.items ≡ messages.old.items ++ replicate count message.now) }
-{
-    for _made in 0..count {
-        messages.push(message.copy())?;
-    }
-    Ok(())
-}
-
-// Adds copies of the messages to these.
-fn copy_counted(
-    counts: &BTreeMap<Message, usize>,
-    messages: &mut Vec<Message>,
-) -> Result<(), AllocError>
-    ensures { OnOk result (messages.new.items ≡ messages.old.items ++ counted_messages counts.now.entries) }
-{
-    for (message, count) in counts {
-        push_copies(messages, message, *count)?;
-    }
-    Ok(())
-}
-
-// Adds copies of the messages all of whose causes are inside to these.
-fn copy_counted_from(
-    counts: &BTreeMap<Message, usize>,
-    f: &Front,
-    messages: &mut Vec<Message>,
-) -> Result<(), AllocError>
-    ensures { OnOk result (messages.new.items
-        ≡ messages.old.items ++ messages_from (inside f.now) (counted_messages counts.now.entries)) }
-{
-    for (message, count) in counts {
-        if comes_from(message, f) {
-            push_copies(messages, message, *count)?;
-        }
-    }
-    Ok(())
 }

@@ -1,11 +1,11 @@
 //! Messages by their stamps.
-ghost use Rattle.std.specs.Prelude.{◌≡◌, ◌↔◌, [], ◌∷◌, find, true, IsTrue, IfSome, IfNone, IfOk, OnOk, OnErr};
+ghost use Rattle.std.specs.Prelude.{◌≡◌, ◌↔◌, [], find, true, IsTrue, IfSome, IfNone, OnOk, OnErr};
 ghost use Rattle.std.specs.Option.{option_copied};
 ghost use Rattle.fw_time.specs.Stamp.{same};
 ghost use Rattle.fw_frontier.specs.Front.{inside};
 ghost use Rattle.fw_flow.specs.Counting.{how_many};
 ghost use Rattle.fw_flow.specs.Message.{messages_without};
-ghost use Rattle.fw_model.specs.Filtering.{messages_from, messages_outside};
+ghost use Rattle.fw_model.specs.Filtering.{messages_from};
 ghost use Rattle.fw_model.specs.SortedMessages.{with_message, sorted_messages};
 ghost use Rattle.fw_model.specs.Steps.{is_asked};
 ghost use Rattle.fw_edge.specs.Piles.{piled_messages, ArePiles};
@@ -30,22 +30,12 @@ pub fn put(
     ensures err { OnErr result (piles.new.entries ≡ piles.old.entries) }
 {
     match piles.entry(message.at.copy())? {
-        Entry::Occupied(pile) => pile.into_mut().put(message)?,
+        Entry::Occupied(pile) => pile.into_mut().put(alloc, message)?,
         Entry::Vacant(place) => {
-            let pile = single(alloc, message)?;
-            place.insert(pile);
+            place.insert(Pile::of(message));
         }
     }
     Ok(())
-}
-
-// The pile of one message.
-fn single(alloc: Global, message: Message) -> Result<Pile, AllocError>
-    ensures { IfOk result (λ pile. pile ≡ message ∷ []) }
-{
-    let mut pile = Pile::new(alloc);
-    pile.put(message)?;
-    Ok(pile)
 }
 
 /// Takes the first message at a stamp out.
@@ -153,57 +143,4 @@ pub fn keep_causes(piles: &mut BTreeMap<Stamp, Pile>, f: &Front)
         pile.keep_causes(f);
         pile.len() > 0
     });
-}
-
-/// Drops the messages at stamps inside. What stays is not looked at.
-pub fn drop_inside(piles: &mut BTreeMap<Stamp, Pile>, f: &Front)
-    requires { ArePiles piles.old.entries }
-    ensures piles { ArePiles piles.new.entries }
-    ensures left { piled_messages piles.new.entries ≡ messages_outside (inside f.now) (piled_messages piles.old.entries) }
-{
-    piles.retain(|at, _| !f.contains(at));
-}
-
-/// Copies of the messages at stamps outside.
-pub fn outside(
-    alloc: Global,
-    piles: &BTreeMap<Stamp, Pile>,
-    f: &Front,
-) -> Result<Vec<Message>, AllocError>
-    requires { ArePiles piles.now.entries }
-    ensures { IfOk result
-        (λ ms. ms.items ≡ messages_outside (inside f.now) (piled_messages piles.now.entries)) }
-{
-    let mut messages = Vec::new(alloc);
-    for (at, pile) in piles {
-        if !f.contains(at) {
-            pile.copy_all(&mut messages)?;
-        }
-    }
-    Ok(messages)
-}
-
-// How many messages there are, for which memory is asked at once.
-fn len(piles: &BTreeMap<Stamp, Pile>) -> usize {
-    let mut len: usize = 0;
-    for (_, pile) in piles {
-        len = len.saturating_add(pile.len());
-    }
-    len
-}
-
-/// Copies of the messages all of whose causes are inside.
-pub fn caused_in(
-    alloc: Global,
-    piles: &BTreeMap<Stamp, Pile>,
-    f: &Front,
-) -> Result<Vec<Message>, AllocError>
-    ensures { IfOk result
-        (λ ms. ms.items ≡ messages_from (inside f.now) (piled_messages piles.now.entries)) }
-{
-    let mut messages = Vec::with_capacity(alloc, len(piles))?;
-    for (_, pile) in piles {
-        pile.copy_caused(f, &mut messages)?;
-    }
-    Ok(messages)
 }

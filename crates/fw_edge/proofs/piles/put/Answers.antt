@@ -63,26 +63,26 @@ returns-in_ok-put-in-Occupied-clause-ok c =
     let all = subst (λ d. piled_messages (map_with_value d left).entries ≡ with_message m (piled_messages es)) c.in-Occupied.is put in
     search (rules, all)
 
-pub returns-in_ok-pile-in-Vacant-clause-piles : goal.returns-in_ok-pile-in-Vacant-clause-piles
-returns-in_ok-pile-in-Vacant-clause-piles c =
+pub returns-in-Vacant-clause-piles : goal.returns-in-Vacant-clause-piles
+returns-in-Vacant-clause-piles c =
     let m = c.args.message in
     let es = c.args.piles.now.entries in
-    let made = c.in_ok-pile-in-Vacant.pile in
+    let made = c.of.result in
     let written = c.in_ok-pile.ensures.update.1 made ∙ ap (λ s. insert_entry stamp_cmp es s made) c.copy.ensures in
-    let pile = subst (IsPile m.at) (sym c.in_ok-pile-in-Vacant.ensures) (single_pile m) in
+    let pile = subst (IsPile m.at) (sym c.of.ensures) (single_pile m) in
     let each = subst EachIsPile (sym written) (piles-insert_entry m.at made es pile c.requires.each) in
     let all : ArePiles (map_with_value c.in_ok-pile.field-0 made).entries = record { ordered = c.in_ok-pile.ensures.update.2 made; each = each } in
     let piles = subst (λ d. ArePiles (map_with_value d made).entries) c.in-Vacant.is all in
     search (rules, piles)
 
-pub returns-in_ok-pile-in-Vacant-clause-ok : goal.returns-in_ok-pile-in-Vacant-clause-ok
-returns-in_ok-pile-in-Vacant-clause-ok c =
+pub returns-in-Vacant-clause-ok : goal.returns-in-Vacant-clause-ok
+returns-in-Vacant-clause-ok c =
     let m = c.args.message in
     let es = c.args.piles.now.entries in
-    let made = c.in_ok-pile-in-Vacant.pile in
+    let made = c.of.result in
     let none : lookup (at_stamp c.copy.result) es ≡ None = rw c.in-Vacant.is at c.in_ok-pile.ensures.found in
     let absent = ap (λ (s : Stamp). lookup (at_stamp s) es) (sym c.copy.ensures) ∙ none in
     let written = c.in_ok-pile.ensures.update.1 made ∙ ap (λ s. insert_entry stamp_cmp es s made) c.copy.ensures in
-    let put = ap piled_messages written ∙ ap (λ w. piled_messages (insert_entry stamp_cmp es m.at w)) c.in_ok-pile-in-Vacant.ensures ∙ piled-put_new m es c.requires absent in
+    let put = ap piled_messages written ∙ ap (λ w. piled_messages (insert_entry stamp_cmp es m.at w)) c.of.ensures ∙ piled-put_new m es c.requires absent in
     let all = subst (λ d. piled_messages (map_with_value d made).entries ≡ with_message m (piled_messages es)) c.in-Vacant.is put in
     search (rules, all)

@@ -103,6 +103,19 @@ pub met : (b : Bounds) (x y f : Front) (one other : Frontier) → IsFrontOf b x 
     → IsFrontOf b f (meet one other)
 met b x y f one other p q n = record { canonical = n.canonical; same = λ t. n.same t ∙ ap (λ c. c && frontier_of b y t) (p.same t) ∙ ap (λ c. one t && c) (q.same t) }
 
+-- where there are no stamps a front is met with all
+pub all-met : (b : Bounds) (x : Front) (one : Frontier) (entries : List (Stamp × ℕ)) → entries ≡ [] → IsFrontOf b x one → IsFrontOf b x (meet (frontier_of b (keys_of entries)) one)
+all-met b x one entries e n = record {
+  canonical = n.canonical;
+  same = λ t.
+      by (in_domain b t) (inside x t) ∙ ap (λ c. (in_domain b t && true) && c) (n.same t)
+      ∙ ap (λ es. frontier_of b (keys_of es) t && one t) (sym e);
+}
+  where
+    by : (d i : Bool) → (d && i) ≡ ((d && true) && (d && i))
+    by true i = refl
+    by false i = refl
+
 -- ---- targets, edge by edge
 
 pub all-append : (test : ℕ → Bool) (xs : List ℕ) (x : ℕ) → list_all test (xs ++ x ∷ []) ≡ (list_all test xs && test x)

@@ -54,7 +54,11 @@ fn clear(alloc: Global, flow: &Flow, counts: &Counts, node: NodeId) -> Result<Fr
     ensures { IfOk result (λ f. IsFrontOf (bounds_of flow.now node) f (spec.clear_by flow.now counts.now node)) }
 {
     let given = given(alloc, flow, counts, node)?;
-    let paid = counts.owed[node.place() as usize].until(alloc)?;
+    let owed = &counts.owed[node.place() as usize];
+    if owed.is_empty() {
+        return Ok(given);
+    }
+    let paid = owed.until(alloc)?;
     met(given, paid)
 }
 
@@ -76,8 +80,12 @@ pub(crate) fn come(
         (spec.come_by flow.now counts.now edge (family_of flow.now fronts.now (sender flow.now edge)))) }
 {
     let place = flow.src(edge).place() as usize;
-    let quiet = counts.pending[edge.place() as usize].until(alloc)?;
     let arrived = flow.phi(alloc, edge, &fronts[place], &counts.sent[place])?;
+    let pending = &counts.pending[edge.place() as usize];
+    if pending.is_empty() {
+        return Ok(arrived);
+    }
+    let quiet = pending.until(alloc)?;
     met(quiet, arrived)
 }
 

@@ -1,6 +1,7 @@
 pub mod Applied
 pub mod Choosing
 pub mod Fronts
+pub mod InTurn
 pub mod LeavingOut
 pub mod Logs
 pub mod Loop
@@ -13,5 +14,6 @@ pub mod Records
 pub mod Settling
 pub mod Told
 pub mod TotalRuns
+pub mod Trails
 pub mod WellFormed
 pub mod Witnesses

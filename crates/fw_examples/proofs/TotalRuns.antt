@@ -17,6 +17,7 @@ use Rattle.fw_model.specs.Steps.{Outcome, Run, StepsTo, acked, collected_writes,
 use Rattle.fw_model.specs.Unions.{IsUnionOfChoices}
 use Rattle.fw_model.proofs.GoingOn.{runs-go_on}
 use Rattle.fw_examples.specs.Flows.{out}
+use Rattle.fw_examples.specs.InTurn.{outcomes_to_unsettled, steps_to_unsettled, steps_unsettled, unsettled}
 use Rattle.fw_examples.specs.RunningTotal.{alike, at_epoch, come_back, epoch_kept, outcomes_of_failure, outcomes_of_sum, outcomes_through_recovery, outcomes_to_failure, outcomes_up_to_two, outcomes_without_failure, output_failed, run, steps_of_failure, steps_of_sum, steps_through_recovery, steps_to_failure, steps_up_to_two, steps_without_failure, total_flow, totals, two_epochs_kept, two_kept_noting}
 use Rattle.fw_examples.proofs.Choosing.{above_by, consistent_by, largest_by, lies, offered_by, offered_within, recovers_to, sender_within}
 use Rattle.fw_examples.proofs.Fronts.{by_three, canonical_by, join_by, join_other}
@@ -128,6 +129,16 @@ runs_to_failure =
       ),
     )
 
+-- with no step in between that settles
+runs_unsettled : Run totals two_collected steps_unsettled (replicate 5 (did silent)) unsettled
+unfolding kind_of receiver sender sends batches_of bounds_of policy_of phi
+runs_unsettled =
+    plays totals five_moves two_collected (drop 2 steps_unsettled) (replicate 3 (did silent)) unsettled refl (
+      five_summed,
+      notifies totals five_taken 1 (2 ∷ []) (until 3 ∷ until 0 ∷ until 0 ∷ []) totals_formed (lit< tt) refl refl refl,
+      plays totals (inject 0 3 ∷ fail 2 [] ∷ []) five_summed [] [] unsettled refl refl,
+    )
+
 -- epoch 2 is summed, comes through and is settled, from a state with epochs 0 and 1 alone
 abbrev summed : Machine → Machine
 summed state = with_event totals (after_all totals state five_moves) (Notified 1 (2 ∷ []))
@@ -235,6 +246,11 @@ pub failed_run : Run totals (first_state totals) steps_to_failure outcomes_to_fa
 failed_run =
     runs-go_on totals (first_state totals) ten_acknowledged output_failed steps_up_to_two (Collect ∷ steps_of_failure) outcomes_up_to_two (did (lows two_epochs_kept) ∷ outcomes_of_failure) runs_to_two
     (two_collected, collects, runs_to_failure)
+
+pub unsettled_run : Run totals (first_state totals) steps_to_unsettled outcomes_to_unsettled unsettled
+unsettled_run =
+    runs-go_on totals (first_state totals) ten_acknowledged unsettled steps_up_to_two (Collect ∷ steps_unsettled) outcomes_up_to_two (did (lows two_epochs_kept) ∷ replicate 5 (did silent)) runs_to_two
+    (two_collected, collects, runs_unsettled)
 
 -- what follows the failure
 pub after_failure : (steps : List Step) (outcomes : List Outcome) (last : Machine) → Run totals come_back steps outcomes last

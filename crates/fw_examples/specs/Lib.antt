@@ -1,5 +1,6 @@
 pub mod Applied
 pub mod Flows
+pub mod InTurn
 pub mod Inclusions
 pub mod KindsSend
 pub mod Logs
@@ -9,4 +10,5 @@ pub mod OffersOfTotals
 pub mod Records
 pub mod RunningTotal
 pub mod Told
+pub mod Trails
 pub mod Witnesses

@@ -36,10 +36,11 @@ pub use nested_loops::{
 pub use what_was_told::{one_more_may_be_told, tables_apply};
 pub use witnesses_of_laws::{
     an_epoch_is_closed, checkpoints_are_offered, choices_unite, cuts_unite,
-    each_step_has_its_choice, epochs_are_thinned, failure_is_reached, fronts_are_spelled,
-    join_is_a_frontier, less_is_consistent, loop_is_filtered, loop_is_reached, low_watermark_rises,
-    more_is_complete, no_step_is_taken, notified_and_goes_on, numbers_are_delivered,
-    one_is_on_its_way, records_are_spelled, recovery_is_reached, sequence_is_filtered,
-    some_is_settled, something_is_chosen, totals_are_filtered, totals_are_well_formed,
-    two_epochs_are_complete, two_epochs_are_the_same, two_runs_meet, two_steps_are_taken,
+    each_step_has_its_choice, epochs_are_thinned, epochs_settle_in_turn, failure_is_reached,
+    fronts_are_spelled, join_is_a_frontier, less_is_consistent, loop_is_filtered, loop_is_reached,
+    low_watermark_rises, more_is_complete, no_step_is_taken, notified_and_goes_on,
+    numbers_are_delivered, one_is_on_its_way, records_are_spelled, recovery_is_reached,
+    sequence_is_filtered, some_is_settled, something_is_chosen, totals_are_filtered,
+    totals_are_well_formed, trail_leads_to_largest, two_epochs_are_complete,
+    two_epochs_are_the_same, two_runs_meet, two_steps_are_taken,
 };

@@ -1,7 +1,9 @@
 //! That the laws say something: where what they ask holds.
 ghost use Rattle.fw_examples.specs.Witnesses.{EachStepHasItsChoice, FailureIsReached, LoopIsReached, LowWatermarkRises, MoreIsComplete, RecoveryIsReached, SomeIsSettled, SomethingIsChosen, TotalsAreWellFormed, TwoRunsMeet, ChoicesUnite, CutsUnite, JoinIsAFrontier, LessIsConsistent, AnEpochIsClosed, NotifiedAndGoesOn, OneIsOnItsWay, TwoEpochsAreComplete, LoopIsFiltered, NumbersAreDelivered, SequenceIsFiltered, TotalsAreFiltered, EpochsAreThinned, NoStepIsTaken, TwoEpochsAreTheSame, TwoStepsAreTaken};
+ghost use Rattle.fw_examples.specs.InTurn.{EpochsSettleInTurn};
 ghost use Rattle.fw_examples.specs.OffersOfTotals.{CheckpointsAreOffered};
 ghost use Rattle.fw_examples.specs.Records.{FrontsAreSpelled, RecordsAreSpelled};
+ghost use Rattle.fw_examples.specs.Trails.{TrailLeadsToLargest};
 
 /// The running total is a system that the laws are about.
 #[tactic(auto, using(crate::proofs::Witnesses::totals_are_well_formed))]
@@ -140,6 +142,18 @@ pub fn numbers_are_delivered()
 #[tactic(auto, using(crate::proofs::OffersOfTotals::checkpoints_are_offered))]
 pub fn checkpoints_are_offered()
     ensures { CheckpointsAreOffered }
+{}
+
+/// The trail of the descent from these data, of four lowerings, and what the laws of trails say of it.
+#[tactic(auto, using(crate::proofs::Trails::trail_leads_to_largest))]
+pub fn trail_leads_to_largest()
+    ensures { TrailLeadsToLargest }
+{}
+
+/// A state in which two of three nodes have more to settle, and what the laws say of how they settle it one after the other.
+#[tactic(auto, using(crate::proofs::InTurn::epochs_settle_in_turn))]
+pub fn epochs_settle_in_turn()
+    ensures { EpochsSettleInTurn }
 {}
 
 /// Records that have a spelling, two of them checkpoints of their nodes, and what the laws of records say of them.

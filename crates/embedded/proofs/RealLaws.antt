@@ -1,20 +1,20 @@
--- A step of the engine leads from a state for which it stands to one for which it stands.
-use Rattle.std.proofs.Common.{Bool, List, None, Option, Ok, Err, Result, Some, false, inl, inr, refl, sym, true, ℕ, ◌∙◌, ◌≡◌}
+-- A step leads an engine that stands for a state of a machine to one that does.
+use Rattle.std.proofs.Common.{Bool, Err, None, Ok, Option, Result, Some, false, refl, sym, true, ℕ, ◌∙◌, ◌≡◌}
 use Rattle.std.proofs.lemmas.Bool.{false≢true}
 use Rattle.std.specs.Prelude.{IfOk, IsErrOf, IsTrue}
-use Rattle.fw_flow.specs.Dataflow.{System}
-use Rattle.fw_flow.specs.declared.step.Step.{Step}
-use Rattle.fw_flow.specs.declared.step.Step.TheVariants.{Collect, Recover}
-use Rattle.fw_keep.specs.Stored.{Records}
-use Rattle.fw_model.specs.Machine.{Machine}
-use Rattle.fw_running.specs.Steps.{IsLeftBy, IsStepEnabled, Trusts}
-use Rattle.fw_running.specs.declared.fault.EngineFault.{EngineFault}
-use Rattle.fw_running.specs.declared.fault.EngineFault.TheVariants as fault
-use Rattle.fw_running.specs.declared.stepped.Stepped.{Stepped}
-use Rattle.fw_engine.specs.Engine.{FollowsFirstStep, FollowsStep, ForEachState, StandsFor, was_refused}
-use Rattle.fw_engine.specs.declared.engine.Engine.{Engine}
+use Rattle.cimboery.specs.Dataflow.{System}
+use Rattle.cimboery.specs.Engine.{FollowsFirstStep, FollowsStep, ForEachState, StandsFor, was_refused}
+use Rattle.cimboery.specs.EngineSteps.{IsLeftBy, IsStepEnabled, Trusts}
+use Rattle.cimboery.specs.Machine.{Machine}
+use Rattle.cimboery.specs.Stored.{Records}
+use Rattle.cimboery.specs.declared.Engine.{Engine}
+use Rattle.cimboery.specs.declared.EngineFault.{EngineFault}
+use Rattle.cimboery.specs.declared.EngineFault.TheVariants as fault
+use Rattle.cimboery.specs.declared.Step.{Step}
+use Rattle.cimboery.specs.declared.Step.TheVariants.{Collect, Recover}
+use Rattle.cimboery.specs.declared.Stepped.{Stepped}
 
--- unless memory was refused, the engine stands for a state of a machine
+-- unless memory was refused, the engine stands for a state that a machine reaches
 abbrev pub IsReal : Engine → Option Records → Type 0
 IsReal engine records = was_refused engine ≡ false → (sys : System) × (state : Machine) × StandsFor sys engine records state
 

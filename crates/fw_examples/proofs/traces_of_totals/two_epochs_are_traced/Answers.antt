@@ -10,11 +10,11 @@ pub returns : goal.returns
 returns c =
     let flow = c.args.flow.now in
     let none = c.in_ok-traces.traces in
-    let empty = c.injected.new.traces in
-    let sent = c.injected-2.new.traces in
-    let came = c.delivered.new.traces in
-    let told = c.notified.new.traces in
-    let out = c.delivered-2.new.traces in
+    let empty = c.injected.new.self in
+    let sent = c.injected-2.new.self in
+    let came = c.delivered.new.self in
+    let told = c.notified.new.self in
+    let out = c.delivered-2.new.self in
     traces_of_two flow none empty sent came told out (sym c.requires) c.in_ok-traces.ensures.none
     (subst (λ p. TracesFollow flow (Inject p 0) [] none empty) c.at-source.ensures c.in_ok-injected.ensures.follows)
     (subst (λ t. TracesFollow flow (Inject 0 1) (t ∷ []) empty sent) c.new.ensures

@@ -1,10 +1,13 @@
-//! A program that embeds the engine: a flow and batches are made in code; in the run a total asks a checkpoint, fails and is
-//! restored. With the names of three files it takes its flow, batches and schedule from their texts instead. What nodes write is
-//! kept in a store in memory.
+//! A program that embeds the engine: a flow and batches are made in code; in the run nodes write events and checkpoints, some of
+//! that is collected, and two nodes fail and are restored. With the names of three files it takes its flow, batches and schedule
+//! from their texts instead. What nodes write is kept in a store in memory.
 #![tactic(auto)]
 
+ghost use Rattle.std.specs.Prelude.{◌≡◌, false};
+ghost use Rattle.cimboery.specs.Dataflow.{System};
+ghost use Rattle.cimboery.specs.Engine.{keep_of, was_refused, StandsFor};
+ghost use Rattle.cimboery.specs.Machine.{Machine};
 ghost use Rattle.cimboery.specs.Stored.{IsStored};
-ghost use Rattle.cimboery.specs.Engine.{keep_of};
 
 mod files;
 mod shop;
@@ -13,8 +16,8 @@ use crate::files::run_of_files;
 use crate::shop::shop;
 use anyhow::{Context, Result, bail, ensure};
 use cimboery::{
-    Batches, EdgeId, Engine, EngineFault, Flow, Item, MemStore, NodeId, Nodes, Schedule, Step,
-    Stepped, Store,
+    Batches, EdgeId, Engine, EngineFault, Flow, Item, MemStore, NodeId, Nodes, Schedule, Stamp,
+    Step, Stepped, Store,
 };
 use std::alloc::Global;
 use std::env;
@@ -32,7 +35,11 @@ fn edge(flow: &Flow, name: &str) -> Result<EdgeId> {
 struct Run {
     engine: Engine,
     store: MemStore,
+    // The store holds what the engine's catalogue names.
     ghost stored: { IsStored (keep_of engine) (⟦<MemStore as Store>⟧.records store) },
+    // It is a real run: unless memory was refused, the engine stands for a state that the machine reaches.
+    ghost stands: { ∥ (was_refused engine ≡ false
+        → (sys : System) × (state : Machine) × StandsFor sys engine (⟦<MemStore as Store>⟧.records store) state) ∥₁ },
 }
 
 impl Run {
@@ -44,9 +51,19 @@ impl Run {
         Ok(Run { engine, store })
     }
 
+    // Takes a step.
+    fn step(&mut self, step: &Step) -> Result<Stepped, EngineFault> {
+        self.engine.step(step, &mut self.store)
+    }
+
+    // Takes the first step that is enabled.
+    fn auto_step(&mut self) -> Result<Stepped, EngineFault> {
+        self.engine.auto_step(&mut self.store)
+    }
+
     // Takes a step, and prints what it shows.
     fn take<R: Print>(&mut self, rt: &R, step: &Step) -> Result<()> {
-        let stepped = self.engine.step(step, &mut self.store)?;
+        let stepped = self.step(step)?;
         show(rt, self.engine.flow(), &stepped)
     }
 
@@ -73,7 +90,7 @@ impl Run {
     // Takes the first step that is enabled, so many times at most, and prints what the steps show.
     fn go_on<R: Print>(&mut self, rt: &R, most: u64) -> Result<()> {
         for _ in 0..most {
-            let stepped = self.engine.auto_step(&mut self.store)?;
+            let stepped = self.auto_step()?;
             if let Stepped::Idle = &stepped {
                 return Ok(());
             }
@@ -95,33 +112,73 @@ impl Run {
 
     // After want of memory no step is taken any more.
     fn stays_refused(&mut self) -> bool {
-        let next = self.engine.auto_step(&mut self.store);
+        let next = self.auto_step();
         matches!(next, Err(EngineFault::NoMemory))
     }
 
-    // The first batch goes through, and the total has a checkpoint of it.
-    fn first_batch<R: Print>(&mut self, rt: &R) -> Result<()> {
-        let flow = self.engine.flow();
-        let (orders, sums) = (node(flow, "orders")?, node(flow, "sums")?);
-        let (shop, archive) = (node(flow, "shop")?, node(flow, "archive")?);
-        self.take(rt, &Step::Inject(orders))?;
-        self.deliver(rt, &["to_cheap", "to_sums"])?;
-        self.take(rt, &Step::Notify(sums, None))?;
-        self.deliver(rt, &["to_shop", "to_archive"])?;
-        self.take(rt, &Step::Progress)?;
-        self.take(rt, &Step::Ack(shop))?;
-        self.take(rt, &Step::Ack(archive))?;
-        self.take(rt, &Step::Checkpoint(sums))?;
-        self.take(rt, &Step::Persist)
+    // Acknowledges the oldest writes, so many.
+    fn persist<R: Print>(&mut self, rt: &R, count: u64) -> Result<()> {
+        for _ in 0..count {
+            self.take(rt, &Step::Persist)?;
+        }
+        Ok(())
     }
 
-    // The total fails while the second batch is under way, and is restored to its checkpoint.
+    // The first batch goes through. What the nodes write of it is acknowledged, two events and two checkpoints, and the events
+    // are collected.
+    fn first_batch<R: Print>(&mut self, rt: &R) -> Result<()> {
+        let flow = self.engine.flow();
+        let (orders, dear, sums) = (
+            node(flow, "orders")?,
+            node(flow, "dear")?,
+            node(flow, "sums")?,
+        );
+        let (shop, audit) = (node(flow, "shop")?, node(flow, "audit")?);
+        self.take(rt, &Step::Inject(orders))?;
+        self.deliver(rt, &["to_cheap", "to_dear", "to_sums"])?;
+        self.take(rt, &Step::Notify(sums, None))?;
+        self.deliver(rt, &["to_shop", "to_audit"])?;
+        self.take(rt, &Step::Progress)?;
+        self.take(rt, &Step::Ack(shop))?;
+        self.take(rt, &Step::Ack(audit))?;
+        self.take(rt, &Step::Checkpoint(dear))?;
+        self.take(rt, &Step::Checkpoint(sums))?;
+        self.persist(rt, 4)?;
+        self.take(rt, &Step::Collect)
+    }
+
+    // The second batch is under way: of two events one write is acknowledged, the other one in flight, as is a checkpoint, and a
+    // message that is logged is pending.
+    fn second_batch<R: Print>(&mut self, rt: &R) -> Result<()> {
+        let flow = self.engine.flow();
+        let (orders, dear) = (node(flow, "orders")?, node(flow, "dear")?);
+        self.take(rt, &Step::Inject(orders))?;
+        self.deliver(rt, &["to_cheap", "to_dear", "to_sums"])?;
+        self.persist(rt, 1)?;
+        self.take(rt, &Step::Progress)?;
+        self.take(rt, &Step::Checkpoint(dear))
+    }
+
+    // Prints what can be seen of the orders from 100 on.
+    fn look<R: Print>(&self, rt: &R) -> Result<()> {
+        let flow = self.engine.flow();
+        let (dear, audit) = (node(flow, "dear")?, node(flow, "audit")?);
+        let settled = self.engine.settled(dear).context("no such node")?;
+        let low = self.engine.low_watermark(dear).context("no such node")?;
+        let queue = self.engine.pending(edge(flow, "to_audit")?);
+        let pending = queue.context("no such edge")?.pending_at(&Stamp::new(&[1]));
+        let acknowledged = self.engine.acknowledged(audit).context("no such output")?;
+        print!(rt;
+            "dear settled {settled} low {low} to_audit pending {pending} audit acknowledged {acknowledged}\n"
+        )?;
+        Ok(())
+    }
+
+    // Two nodes fail, one with a write of an event in flight, and are restored.
     fn failure<R: Print>(&mut self, rt: &R, alloc: Global) -> Result<()> {
         let flow = self.engine.flow();
-        let (orders, sums) = (node(flow, "orders")?, node(flow, "sums")?);
-        self.take(rt, &Step::Inject(orders))?;
-        self.deliver(rt, &["to_cheap", "to_sums"])?;
-        let failed = Nodes::new(vec![in alloc; sums]?);
+        let (cheap, sums) = (node(flow, "cheap")?, node(flow, "sums")?);
+        let failed = Nodes::new(vec![in alloc; cheap, sums]?);
         self.take(rt, &Step::Fail(failed))?;
         self.take(rt, &Step::Recover)
     }
@@ -136,6 +193,8 @@ fn show<R: Print>(rt: &R, flow: &Flow, stepped: &Stepped) -> Result<()> {
 // The run of the shop.
 fn run_shop<R: Print>(rt: &R, alloc: Global, run: &mut Run) -> Result<()> {
     run.first_batch(rt)?;
+    run.second_batch(rt)?;
+    run.look(rt)?;
     run.failure(rt, alloc)?;
     run.go_on(rt, 100)
 }

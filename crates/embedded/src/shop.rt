@@ -8,26 +8,36 @@ use cimboery::{
 };
 use std::alloc::{AllocError, Global};
 
-// Orders below 100 are added up by customer for the shop; each order goes to the archive.
-fn shop_flow(alloc: Global) -> Result<Flow, BuildFault> {
-    let below_100 = Selection {
+// The orders whose price is so.
+fn priced(comparison: Comparison, price: u64) -> RawKind {
+    let selection = Selection {
         condition: Condition {
             field: Field::Value,
-            comparison: Comparison::Less,
-            term: Term::Number(100),
+            comparison,
+            term: Term::Number(price),
         },
         assignment: None,
     };
+    let within = None;
+    RawKind::Select { selection, within }
+}
+
+// Orders below 100 are added up by customer for the shop; each order from 100 on is audited.
+fn shop_flow(alloc: Global) -> Result<Flow, BuildFault> {
+    let below = priced(Comparison::Less, 100);
+    let from = priced(Comparison::GreaterOrEqual, 100);
     FlowBuilder::new(alloc)
         .input("orders")?
-        .select("cheap", below_100)?
+        .node("cheap", below, Policy::Full)?
+        .node("dear", from, Policy::Logged)?
         .node("sums", RawKind::Total, Policy::Lazy)?
         .output("shop")?
-        .output("archive")?
+        .output("audit")?
         .edge("to_cheap", "orders", "cheap")?
+        .edge("to_dear", "orders", "dear")?
         .edge("to_sums", "cheap", "sums")?
         .edge("to_shop", "sums", "shop")?
-        .edge("to_archive", "orders", "archive")?
+        .edge("to_audit", "dear", "audit")?
         .build()
 }
 

@@ -14,6 +14,7 @@ pub mod Records
 pub mod Settling
 pub mod Told
 pub mod TotalRuns
+pub mod Traced
 pub mod Trails
 pub mod WellFormed
 pub mod Witnesses

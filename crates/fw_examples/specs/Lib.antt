@@ -10,5 +10,6 @@ pub mod OffersOfTotals
 pub mod Records
 pub mod RunningTotal
 pub mod Told
+pub mod Traced
 pub mod Trails
 pub mod Witnesses

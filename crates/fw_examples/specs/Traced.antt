@@ -1,0 +1,26 @@
+-- The traces of the running total after two epochs came through, told event by event.
+use Rattle.std.specs.Prelude.{List, [], ℕ, ◌∷◌, ◌≡◌}
+use Rattle.std.specs.List.{Contains}
+use Rattle.fw_frontier.specs.Frontier.{Frontier}
+use Rattle.fw_flow.specs.Projection.{events_at}
+use Rattle.fw_flow.specs.declared.event.Event.{Event}
+use Rattle.fw_flow.specs.declared.event.Event.TheVariants.{Inject as Injected}
+use Rattle.fw_progress.specs.Laws.{TracesAreOfTheNode}
+use Rattle.fw_progress.specs.Trace.{IsTraceOf, delivered_on, notified_of, sent_at}
+use Rattle.fw_progress.specs.declared.traces.Traces.{Traces}
+use Rattle.fw_examples.specs.Flows.{src}
+use Rattle.fw_examples.specs.RunningTotal.{run, src_to_run, total_flow, totals, two_epochs}
+
+-- two epochs came through, and the input sent two more
+abbrev pub two_more_sent : List Event
+two_more_sent = Injected src 3 ∷ Injected src 2 ∷ two_epochs
+
+-- These are the traces of the running total once two epochs came through, with the epoch that was delivered to it, of which it was
+-- notified, and at which it sent. So they are its traces once the input sent two more.
+pub record AreTracesOfTwo (traces : Traces) : Type 0 where
+  pub two : (base : Frontier) → IsTraceOf totals two_epochs run base traces
+  pub came : Contains (delivered_on traces src_to_run) (1 ∷ [])
+  pub told : Contains (notified_of traces run) (1 ∷ [])
+  pub sent : Contains (sent_at traces run) (1 ∷ [])
+  pub same : events_at total_flow run two_more_sent ≡ events_at total_flow run two_epochs
+  pub two_more : TracesAreOfTheNode → (base : Frontier) → IsTraceOf totals two_more_sent run base traces

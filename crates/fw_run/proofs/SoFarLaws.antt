@@ -316,9 +316,10 @@ damage_stops Tells sys items i id old new before after given tally counts first 
       stops_in sys (take i items) (One Recover) old before tally counts u.bytes p.bytes (IsLeftAfter sys (One Recover) (fault.Damaged id) before new after) (IsReadIn sys d.entry) s t
       (λ left. (
         left.1,
-        stopped_first sys s.state Recover tally counts p.bytes (IsLeftAfter sys (One Recover) (fault.Damaged id) before new after)
-            (λ state. IsAskedIn sys d.entry state × IsEntryIn sys d.entry state) t
-            (d.asked sys before s.state s.stands, entry-in sys old before s.state d.entry s.stands d.there),
+        stopped_first sys s.state Recover tally counts p.bytes (IsLeftAfter sys (One Recover) (fault.Damaged id) before new after) (IsAskedIn sys d.entry) t
+            (d.asked sys before s.state s.stands),
+        stopped_first sys s.state Recover tally counts p.bytes (IsLeftAfter sys (One Recover) (fault.Damaged id) before new after) (IsEntryIn sys d.entry) t
+            (entry-in sys old before s.state d.entry s.stands d.there),
       ));
 }
 

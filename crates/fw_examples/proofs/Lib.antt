@@ -1,6 +1,9 @@
+pub mod Answers
 pub mod Applied
 pub mod Choosing
+pub mod Collected
 pub mod Fronts
+pub mod Generated
 pub mod InTurn
 pub mod LeavingOut
 pub mod Logs

@@ -1,5 +1,8 @@
+pub mod Answers
 pub mod Applied
+pub mod Collected
 pub mod Flows
+pub mod Generated
 pub mod InTurn
 pub mod Inclusions
 pub mod KindsSend

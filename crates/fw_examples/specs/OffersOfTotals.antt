@@ -1,5 +1,6 @@
 -- What the nodes of the running total offer to the recovery after the output failed, as data, with its checkpoint as a record.
 use Rattle.std.specs.Prelude.{List, [], false, true, ℕ, ◌∷◌, ◌≡◌}
+use Rattle.fw_frontier.specs.Front.{Front}
 use Rattle.fw_flow.specs.Restoring.{way_of}
 use Rattle.fw_flow.specs.declared.choice.Counted.{Counted}
 use Rattle.fw_flow.specs.declared.choice.Cut.TheVariants.{At, Present}
@@ -17,15 +18,18 @@ use Rattle.fw_examples.specs.RunningTotal.{output_failed, run, run_to_out, src_t
 abbrev pub alone_at : ℕ → ℕ → Counted
 alone_at e x = record { edge = e; at = x ∷ []; causes = (x ∷ []) ∷ []; count = 1 }
 
--- The record of the checkpoint that is acknowledged: of epochs 0 and 1, up to which the running total received, was notified
--- and sent.
-abbrev pub record_of_checkpoint : Recorded
-record_of_checkpoint = record {
-  front = until 2;
-  notified = until 2;
-  delivered = record { edge = src_to_run; front = until 2 } ∷ [];
-  discarded = record { edge = run_to_out; front = until 2 } ∷ [];
+-- the record of a checkpoint of the running total: of what frontier, and up to where it received and sent recs
+abbrev pub recorded_up_to : Front → Front → Recorded
+recorded_up_to front recs = record {
+  front = front;
+  notified = front;
+  delivered = record { edge = src_to_run; front = recs } ∷ [];
+  discarded = record { edge = run_to_out; front = recs } ∷ [];
 }
+
+-- that of the checkpoint that is acknowledged: of epochs 0 and 1
+abbrev pub record_of_checkpoint : Recorded
+record_of_checkpoint = recorded_up_to (until 2) (until 2)
 
 -- The input offers the four batches that it injected, from the low watermark on.
 abbrev pub offer_of_input : Offer

@@ -1,4 +1,7 @@
 //! What the laws say of what meets what they ask.
+ghost use Rattle.fw_examples.specs.Answers.{AnswersApply};
+ghost use Rattle.fw_examples.specs.Collected.{CollectionsApply};
+ghost use Rattle.fw_examples.specs.Generated.{GenerationApplies};
 ghost use Rattle.fw_examples.specs.Applied.{ChoicesApply, ChoosingApplies, DeliveriesApply, FilteringApplies, LegalHistoriesApply, RunsApply, StepsApply, CollectionRestored, LogsRestored, RestoringApplies, DenotationApplies, ProjectionsApply, SendingApplies, AutoApplies, EventsApply, ProgressApplies, ReplayApplies, ThinnedApplies, WritesApply};
 
 /// The laws of runs and of recoveries.
@@ -113,4 +116,22 @@ pub fn thinned_applies()
 #[tactic(auto, using(crate::proofs::Applied::auto_applies))]
 pub fn auto_applies()
     ensures { AutoApplies }
+{}
+
+/// The laws of answers.
+#[tactic(auto, using(crate::proofs::Answers::answers_apply))]
+pub fn answers_apply()
+    ensures { AnswersApply }
+{}
+
+/// The laws of collections.
+#[tactic(auto, using(crate::proofs::Collected::collections_apply))]
+pub fn collections_apply()
+    ensures { CollectionsApply }
+{}
+
+/// The laws of generated texts.
+#[tactic(auto, using(crate::proofs::Generated::generation_applies))]
+pub fn generation_applies()
+    ensures { GenerationApplies }
 {}

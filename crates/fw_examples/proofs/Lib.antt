@@ -2,6 +2,7 @@ pub mod Answers
 pub mod Applied
 pub mod Choosing
 pub mod Collected
+pub mod Declared
 pub mod Fronts
 pub mod Generated
 pub mod InTurn

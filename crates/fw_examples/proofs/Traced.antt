@@ -1,12 +1,12 @@
 -- The traces of the running total follow its events.
-use Rattle.std.proofs.Common.{List, [], drop, lit<, refl, ℕ, ◌∷◌, ◌≡◌}
+use Rattle.std.proofs.Common.{[], drop, lit<, refl, ℕ, ◌∷◌, ◌≡◌}
 use Rattle.fw_frontier.specs.Frontier.{Frontier, nothing}
 use Rattle.fw_flow.specs.Dataflow.{Dataflow, System, batches_of, bounds_of, kind_of, receiver, sender}
 use Rattle.fw_flow.specs.NodeFunction.{sends}
 use Rattle.fw_flow.specs.declared.event.Event.TheVariants.{Deliver as Delivered, Inject as Injected, Notify as Notified}
 use Rattle.fw_progress.specs.Trace.{IsTraceOf, TracesFollow}
 use Rattle.fw_progress.specs.declared.traces.Traces.{Traces}
-use Rattle.fw_examples.specs.RunningTotal.{at_epoch, total_flow, totals, two_epochs}
+use Rattle.fw_examples.specs.RunningTotal.{at_epoch, totals, two_epochs}
 use Rattle.fw_examples.specs.Traced.{AreTracesOfTwo, two_more_sent}
 
 two_traced : (flow : Dataflow) (none empty sent came told out : Traces) → totals.flow ≡ flow → ((sys : System) (p : ℕ) (base : Frontier) → IsTraceOf sys [] p base none)

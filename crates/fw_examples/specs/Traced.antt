@@ -1,5 +1,5 @@
 -- The traces of the running total after two epochs came through, told event by event.
-use Rattle.std.specs.Prelude.{List, [], ℕ, ◌∷◌, ◌≡◌}
+use Rattle.std.specs.Prelude.{List, [], ◌∷◌, ◌≡◌}
 use Rattle.std.specs.List.{Contains}
 use Rattle.fw_frontier.specs.Frontier.{Frontier}
 use Rattle.fw_flow.specs.Projection.{events_at}

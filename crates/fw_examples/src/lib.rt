@@ -35,7 +35,7 @@ pub use nested_loops::{
     first_rounds_are_projected, nested_loops_are_well_formed, one_rec_counts_up,
     recovers_inside_the_inner_loop,
 };
-pub use traces_of_totals::two_epochs_are_traced;
+pub use traces_of_totals::{totals_are_declared, two_epochs_are_traced};
 pub use what_was_told::{one_more_may_be_told, tables_apply};
 pub use witnesses_of_laws::{
     an_epoch_is_closed, checkpoints_are_offered, choices_unite, cuts_unite,

@@ -1,5 +1,4 @@
-use Rattle.std.proofs.Common.{List, [], ◌∷◌, subst, sym, ℕ}
-use Rattle.fw_time.specs.Stamp.{Stamp}
+use Rattle.std.proofs.Common.{[], ◌∷◌, subst, sym}
 use Rattle.fw_flow.specs.declared.event.Event.TheVariants.{Deliver, Inject, Notify}
 use Rattle.fw_progress.specs.Trace.{TracesFollow}
 use Rattle.fw_examples.specs.RunningTotal.{at_epoch}
@@ -8,14 +7,14 @@ use Rattle.fw_examples.proofs.traces_of_totals.two_epochs_are_traced.Goals as go
 
 pub returns : goal.returns
 returns c =
-    let flow = c.args.flow.now in
+    let flow = c.in_ok-flow.field-0 in
     let none = c.in_ok-traces.traces in
     let empty = c.injected.new.self in
     let sent = c.injected-2.new.self in
     let came = c.delivered.new.self in
     let told = c.notified.new.self in
     let out = c.delivered-2.new.self in
-    traces_of_two flow none empty sent came told out (sym c.requires) c.in_ok-traces.ensures.none
+    traces_of_two flow none empty sent came told out (sym c.in_ok-flow.ensures) c.in_ok-traces.ensures.none
     (subst (λ p. TracesFollow flow (Inject p 0) [] none empty) c.at-source.ensures c.in_ok-injected.ensures.follows)
     (subst (λ t. TracesFollow flow (Inject 0 1) (t ∷ []) empty sent) c.new.ensures
     (subst (λ p. TracesFollow flow (Inject p 1) (c.new.result ∷ []) empty sent) c.at-source.ensures c.in_ok-injected-2.ensures.follows))

@@ -18,29 +18,29 @@ use Rattle.fw_run.proofs.DecidedLaws.{texts-decided}
 use Rattle.fw_run.proofs.FaultLaws.{store_of}
 use Rattle.fw_run.proofs.FaultCounts.{rose_by}
 use Rattle.fw_run.proofs.Numbers.{few_refusal_numbers}
-use Rattle.fw_run.proofs.TextLaws.{one_first_refusal, one_first_of_two, accepted_or_refused, accepted_or_first_of_two, flow_or_refused, one_flow_refusal}
-use Rattle.fw_run.proofs.WritingLaws.{cut_of-part}
+use Rattle.fw_command.proofs.TextLaws.{one_first_refusal, one_first_of_two, accepted_or_refused, accepted_or_first_of_two, flow_or_refused, one_flow_refusal}
+use Rattle.fw_command.proofs.WritingLaws.{cut_of-part}
 use Rattle.fw_run.specs.declared.fault.RunFault.{RunFault}
 use Rattle.fw_run.specs.declared.fault.RunFault.TheVariants.{Out, Engine}
-use Rattle.fw_run.specs.declared.reading.Fed.{Fed}
-use Rattle.fw_run.specs.declared.reading.Job.{Job}
+use Rattle.fw_command.specs.declared.reading.Fed.{Fed}
+use Rattle.fw_command.specs.declared.reading.Job.{Job}
 use Rattle.fw_run.specs.declared.status.Status.{Status}
 use Rattle.fw_run.specs.declared.status.Status.TheVariants.{Done, BadWords, Refused, ReadFault, WriteFault, StoreFault, Damaged, NoMemory}
-use Rattle.fw_run.specs.declared.words.GenerateWords.{GenerateWords}
+use Rattle.fw_command.specs.declared.words.GenerateWords.{GenerateWords}
 use Rattle.fw_run.specs.declared.work.Work.{Work}
 use Rattle.fw_run.specs.declared.work.Work.TheVariants.{Run, Endure, Generate, Denote, Check}
 use Rattle.fw_run.specs.Call.{Call, CountsFaults, HasTexts, Accepts, Refuses, Prints, AsksNoMore, HasAccepted, HasRefused, IsPrintout, PrintsPart, PrintsFirst, IsRunOf, KeepsFolder, KeepsStore, AnswersTexts, IsRunEnd, IsRefusalEnd}
-use Rattle.fw_run.specs.DenotationText.{PrintsDenotation}
+use Rattle.fw_command.specs.DenotationText.{PrintsDenotation}
 use Rattle.fw_run.specs.Enduring.{PrintsEndured, RoseBy, RoseByFaults, StaysOrRose}
 use Rattle.fw_run.specs.Fault.{faults_after, status_of}
-use Rattle.fw_run.specs.Reading.{IsJob, IsGenerated, IsFed}
+use Rattle.fw_command.specs.Reading.{IsJob, IsGenerated, IsFed}
 use Rattle.fw_run.specs.Status.{HasWord, IsTellingOf, store_faults_told, status_number}
 use Rattle.fw_run.specs.Tallies.{PrintsSummary}
-use Rattle.fw_run.specs.Texts.{HasFlow, spelled_system, spelled_items}
+use Rattle.fw_command.specs.Texts.{HasFlow, spelled_system, spelled_items}
 use Rattle.fw_run.specs.Trusting.{AreKnown, PrintsKnown}
-use Rattle.fw_run.specs.Words.{Command, TextNames, SystemNames, Seeded, run, endure, generate, denote, check, Manner, by_lines, through_faults, in_one_line, manner_of, IsInOneLine, asks_folder, seeded_in}
+use Rattle.fw_command.specs.Words.{Command, TextNames, SystemNames, Seeded, run, endure, generate, denote, check, Manner, by_lines, through_faults, in_one_line, manner_of, IsInOneLine, asks_folder, seeded_in}
 use Rattle.fw_run.specs.Work.{IsWork, EndsAtFault, IsRun, IfRun, IsTextOfWork, PrintsWork, IsDamageIn, StaysUnlessRun, StaysIfInOneLine}
-use Rattle.fw_run.specs.Writing.{IsPartWritten, IsCutOff, WritesText}
+use Rattle.fw_command.specs.Writing.{IsPartWritten, IsCutOff, WritesText}
 
 -- words are one command
 same_command : (command : Option Command) (one other : Command) → command ≡ Some one → command ≡ Some other → one ≡ other

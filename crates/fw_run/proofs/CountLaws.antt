@@ -13,7 +13,7 @@ use Rattle.fw_run.specs.Call.{CountsWrites}
 use Rattle.fw_run.specs.Fault.{status_of}
 use Rattle.fw_run.specs.Performing.{WritesUntil}
 use Rattle.fw_run.specs.Status.{HasWord, IsTellingOf, IsTold, read_faults_told, write_faults_told}
-use Rattle.fw_run.specs.Writing.{NeverFall, IsWritten}
+use Rattle.fw_command.specs.Writing.{NeverFall, IsWritten}
 
 -- ---- how often the folder failed
 

@@ -11,12 +11,12 @@ use Rattle.fw_schedule.specs.Grammar as schedules
 use Rattle.fw_schedule.proofs.ReadLaws.{some_answer as some_schedule}
 use Rattle.fw_outside.specs.Outside.{IsText}
 use Rattle.fw_generate.specs.Draws.{words_from}
-use Rattle.fw_run.proofs.TextLaws.{generated-accepted}
+use Rattle.fw_command.proofs.TextLaws.{generated-accepted}
 use Rattle.fw_run.specs.Call.{HasTexts, Accepts, Refuses}
 use Rattle.fw_generate.specs.Laws.{AreAccepted}
 use Rattle.fw_generate.specs.Texts.{Texts}
-use Rattle.fw_run.specs.Texts.{AreOfSystem, AreThere, HasTwo, HasFlow, IsFlowRefused, IsFirstRefusal, IsFirstOfTwoRefused}
-use Rattle.fw_run.specs.Words.{Command, run, endure, generate, denote, check, TextNames, SystemNames}
+use Rattle.fw_command.specs.Texts.{AreOfSystem, AreThere, HasTwo, HasFlow, IsFlowRefused, IsFirstRefusal, IsFirstOfTwoRefused}
+use Rattle.fw_command.specs.Words.{Command, run, endure, generate, denote, check, TextNames, SystemNames}
 
 -- where the flow is accepted
 decided_inputs : (told : Option (List ℕ → Option (List ℕ))) (names : TextNames) (texts : Texts) (flow : Dataflow) → AreThere told names texts → flows.IsAccepted texts.flow flow

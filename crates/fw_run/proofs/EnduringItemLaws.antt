@@ -18,7 +18,8 @@ use Rattle.fw_engine.specs.declared.engine.Engine.{Engine}
 use Rattle.fw_engine.specs.Engine.{StandsFor}
 use Rattle.fw_run.proofs.EnduringLaws.{outcomes_in-append, shown_in-append, faults-append, reports_text-append, outcomes_in-came, shown_in-came, faults-came, reports_text-came, endured-taken}
 use Rattle.fw_run.proofs.StoppedLaws.{no_outcomes}
-use Rattle.fw_run.proofs.WritingLaws.{written_more, taken_part, taken_more}
+use Rattle.fw_command.proofs.WritingLaws.{written_more}
+use Rattle.fw_run.proofs.TakenLaws.{taken_part, taken_more}
 use Rattle.fw_run.specs.declared.fault.RunFault.{RunFault}
 use Rattle.fw_run.specs.declared.fault.RunFault.TheVariants as stop
 use Rattle.fw_run.specs.declared.tally.Tally.{Tally}
@@ -27,7 +28,7 @@ use Rattle.fw_run.specs.Enduring.{Report, came, not_taken, unswept, faults_in, o
 use Rattle.fw_run.specs.Performing.{IsItemTaken, IsItemBegun, IsItemStopped, PrintsItem}
 use Rattle.fw_run.specs.Printed.{outcomes_text, idle_count}
 use Rattle.fw_run.specs.Stopping.{MayCallIn, IsLeftIn}
-use Rattle.fw_run.specs.Writing.{IsWritten, IsCutOff}
+use Rattle.fw_command.specs.Writing.{IsWritten, IsCutOff}
 
 -- ---- where the store fails
 

@@ -27,7 +27,8 @@ use Rattle.fw_run.proofs.PlaceLaws.{parts_at, one_more-item}
 use Rattle.fw_run.proofs.SameFaults.{of_same_fault}
 use Rattle.fw_run.proofs.StandingLaws.{holds-writes, entry-in}
 use Rattle.fw_run.proofs.StoppedLaws.{no_outcomes, stopped_begun, none_told}
-use Rattle.fw_run.proofs.WritingLaws.{written_nothing, written_more, taken_part, taken_nothing, taken_more, taken_on, until_all}
+use Rattle.fw_command.proofs.WritingLaws.{written_nothing, written_more}
+use Rattle.fw_run.proofs.TakenLaws.{taken_part, taken_nothing, taken_more, taken_on, until_all}
 use Rattle.fw_run.specs.declared.fault.RunFault.{RunFault}
 use Rattle.fw_run.specs.declared.fault.RunFault.TheVariants as stop
 use Rattle.fw_run.specs.declared.tally.Tally.{Tally}
@@ -36,7 +37,7 @@ use Rattle.fw_run.specs.Enduring.{Report, came, faults_in, outcomes_in, shown_in
 use Rattle.fw_run.specs.Performing.{WritesUntil, TrustsItem, IsLeftAfter}
 use Rattle.fw_run.specs.Printed.{outcomes_text, idle_count}
 use Rattle.fw_run.specs.Tallies.{tally_of}
-use Rattle.fw_run.specs.Writing.{IsWritten, IsCutOff, WritesText}
+use Rattle.fw_command.specs.Writing.{IsWritten, IsCutOff, WritesText}
 
 -- ---- counts
 

@@ -1,4 +1,4 @@
--- How often a store or a folder failed, over several calls.
+-- How often a store failed, over several calls.
 use Rattle.std.proofs.Common.{◌≡◌, inl, inr, ℕ, zero, suc, ◌+◌, ◌-◌, ◌^◌, ◌≤◌, Result, Ok, Err, refl, sym, ◌∙◌, ap, subst, arith}
 use Rattle.std.proofs.lemmas.Bool.{cases_lt}
 use Rattle.std.specs.Prelude.{OnOk}
@@ -7,15 +7,10 @@ use Rattle.fw_outside.specs.Outside.{one_more}
 use Rattle.fw_running.specs.declared.fault.EngineFault.{EngineFault}
 use Rattle.fw_running.specs.declared.fault.EngineFault.TheVariants as fault
 use Rattle.fw_running.specs.Faults as engine
-use Rattle.fw_lines.specs.declared.fault.ReadFault.{ReadFault}
-use Rattle.fw_lines.specs.declared.fault.ReadFault.TheVariants as lines
 use Rattle.fw_run.specs.declared.fault.RunFault.{RunFault}
 use Rattle.fw_run.specs.declared.fault.RunFault.TheVariants as stop
-use Rattle.fw_run.specs.declared.reading.JobFault.{JobFault}
-use Rattle.fw_run.specs.declared.reading.JobFault.TheVariants as job
 use Rattle.fw_run.specs.Enduring.{with_faults, RoseBy, RoseByFaults, RoseOrFull, StaysOrRose}
 use Rattle.fw_run.specs.Fault.{faults_after}
-use Rattle.fw_run.specs.Reading.{job_fault, read_faults_after}
 
 -- ---- counts
 
@@ -92,16 +87,3 @@ passed_after A B (stop.Out f) before after e = e
 passed_after A B (stop.Engine fault.StoreFault) before after e = e
 passed_after A B (stop.Engine (fault.Damaged id)) before after e = e
 passed_after A B (stop.Engine fault.NoMemory) before after e = e
-
--- ---- a folder
-
--- a fault in a later text is told as it was, if the folder did not fail before
-pub read_passed : (A B : Type 0) (f : JobFault) (first mid last : ℕ) → mid ≡ first → last ≡ read_faults_after {T = A} (Err f) mid → last ≡ read_faults_after {T = B} (Err f) first
-read_passed A B job.Failed first mid last same e = e ∙ ap one_more same
-read_passed A B (job.Refused refusal) first mid last same e = e ∙ same
-read_passed A B job.NoMemory first mid last same e = e ∙ same
-
--- where a text was fetched and refused, the folder did not fail
-pub read_refused : (B : Type 0) (f : ReadFault) (before after : ℕ) → after ≡ before → after ≡ read_faults_after {T = B} (Err (job_fault f)) before
-read_refused B (lines.Refused refusal) before after e = e
-read_refused B lines.NoMemory before after e = e

@@ -19,11 +19,11 @@ use Rattle.fw_model.specs.Machine.{Machine, is_failed}
 use Rattle.fw_model.specs.Steps.{Effect, cuts, lows, front_of_cut}
 use Rattle.fw_run.proofs.ItemLaws.{items-one}
 use Rattle.fw_run.proofs.RunLaws.{one_run}
-use Rattle.fw_run.proofs.TextLaws.{well_formed_system}
+use Rattle.fw_command.proofs.TextLaws.{well_formed_system}
 use Rattle.fw_run.specs.Headline.{HasOneRun, CutsToLargest, ShowsWatermark, KeepsWhatIsNeeded, Headline}
 use Rattle.fw_generate.specs.Laws.{AreAccepted}
 use Rattle.fw_generate.specs.Texts.{Texts}
-use Rattle.fw_run.specs.Texts.{spelled_system}
+use Rattle.fw_command.specs.Texts.{spelled_system}
 
 -- what a recovery shows is what it chose
 cuts-one : (one other : Choice) → cuts one ≡ cuts other → one ≡ other

@@ -28,13 +28,14 @@ use Rattle.fw_engine.specs.Engine.{flow_of, StandsFor, FollowsStep, FollowsFirst
 use Rattle.fw_run.proofs.ItemLaws.{item-run}
 use Rattle.fw_run.proofs.RunLaws.{text-append, text_of_one}
 use Rattle.fw_run.proofs.TallyLaws.{counted-none, counted-more}
-use Rattle.fw_run.proofs.WritingLaws.{written_nothing, written_more, taken_part, taken_more}
+use Rattle.fw_command.proofs.WritingLaws.{written_nothing, written_more}
+use Rattle.fw_run.proofs.TakenLaws.{taken_part, taken_more}
 use Rattle.fw_run.specs.declared.fault.RunFault.TheVariants as stop
 use Rattle.fw_run.specs.declared.tally.Tally.{Tally}
 use Rattle.fw_run.specs.Performing.{ItemRun, IsLeftAfter, PrintsItem, AreFew}
 use Rattle.fw_run.specs.Printed.{outcomes_text, is_idle}
 use Rattle.fw_run.specs.Tallies.{tally_of, with_tally, AreOfSteps}
-use Rattle.fw_run.specs.Writing.{IsWritten, IsCutOff}
+use Rattle.fw_command.specs.Writing.{IsWritten, IsCutOff}
 
 -- ---- a step
 

@@ -10,7 +10,7 @@ use Rattle.fw_flow.specs.WellFormed.{IsWellFormedSystem}
 use Rattle.fw_schedule.specs.declared.item.Item.{Item}
 use Rattle.fw_schedule.specs.declared.item.Item.TheVariants.{One}
 use Rattle.fw_run.proofs.RunLaws.{printed_run, printed_once, begins_of-run, begins_more}
-use Rattle.fw_run.proofs.WritingLaws.{until_of-taken}
+use Rattle.fw_run.proofs.TakenLaws.{until_of-taken}
 use Rattle.fw_run.specs.declared.fault.RunFault.{RunFault}
 use Rattle.fw_run.specs.Headline.{PrintsRun}
 use Rattle.fw_run.specs.Performing.{IsTaken, Performs}

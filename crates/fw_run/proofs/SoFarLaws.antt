@@ -30,7 +30,8 @@ use Rattle.fw_run.proofs.RunLaws.{text-append, printed_run, begins_more}
 use Rattle.fw_run.proofs.StandingLaws.{holds-writes, entry-in}
 use Rattle.fw_run.proofs.StoppedLaws.{stopped_begun, none_told}
 use Rattle.fw_run.proofs.TallyLaws.{tally-append}
-use Rattle.fw_run.proofs.WritingLaws.{written_nothing, written_more, taken_part, taken_nothing, taken_more, taken_on}
+use Rattle.fw_command.proofs.WritingLaws.{written_nothing, written_more}
+use Rattle.fw_run.proofs.TakenLaws.{taken_part, taken_nothing, taken_more, taken_on}
 use Rattle.fw_run.specs.declared.fault.RunFault.{RunFault}
 use Rattle.fw_run.specs.declared.fault.RunFault.TheVariants as stop
 use Rattle.fw_run.specs.declared.tally.Tally.{Tally}
@@ -41,7 +42,7 @@ use Rattle.fw_run.specs.Printed.{outcomes_text, idle_count, done_line, text_of}
 use Rattle.fw_run.specs.Stopping.{HoldsWrites, LeavesWrites, StopsIn, MayCallIn, IsLeftIn, IsStoppedByStore, IsEntryIn, IsReadIn, IsStoppedByDamage}
 use Rattle.fw_run.specs.Tallies.{tally_of, with_tally}
 use Rattle.fw_run.specs.Trusting.{AreKnown, BeginsWith}
-use Rattle.fw_run.specs.Writing.{IsWritten, IsCutOff}
+use Rattle.fw_command.specs.Writing.{IsWritten, IsCutOff}
 
 -- ---- what was printed so far
 

@@ -10,7 +10,7 @@ use Rattle.fw_model.specs.Machine.{first_state}
 use Rattle.fw_keep.specs.Stored.{Records}
 use Rattle.fw_engine.specs.declared.engine.Engine.{Engine}
 use Rattle.fw_run.proofs.ItemLaws.{items-run}
-use Rattle.fw_run.proofs.WritingLaws.{cut_nothing, part_nothing}
+use Rattle.fw_command.proofs.WritingLaws.{cut_nothing, part_nothing}
 use Rattle.fw_run.specs.declared.fault.RunFault.{RunFault}
 use Rattle.fw_run.specs.declared.fault.RunFault.TheVariants as stop
 use Rattle.fw_run.specs.declared.tally.Tally.{Tally}
@@ -18,8 +18,8 @@ use Rattle.fw_run.specs.Performing.{AreTaken, Performs, WritesUntil}
 use Rattle.fw_run.specs.Stopping.{IsStoppedByStore, IsStoppedByDamage}
 use Rattle.fw_run.specs.Tallies.{summary_line, tally_of, PrintsSummary}
 use Rattle.fw_run.specs.Trusting.{AreKnown}
-use Rattle.fw_run.specs.Words.{Seeded}
-use Rattle.fw_run.specs.Writing.{IsWritten, IsCutOff, WritesText}
+use Rattle.fw_command.specs.Words.{Seeded}
+use Rattle.fw_command.specs.Writing.{IsWritten, IsCutOff, WritesText}
 
 -- what is known of a sink that nobody reads, before and after each write
 abbrev pub nowhere : SinkView

@@ -10,18 +10,18 @@ use Rattle.fw_schedule.specs.declared.item.Item.{Item}
 use Rattle.fw_keep.specs.Stored.{Records}
 use Rattle.fw_run.specs.declared.status.Status.{Status}
 use Rattle.fw_run.specs.declared.status.Status.TheVariants.{Done, Refused, ReadFault, WriteFault, StoreFault, Damaged, NoMemory}
-use Rattle.fw_run.specs.DenotationText.{PrintsDenotation}
+use Rattle.fw_command.specs.DenotationText.{PrintsDenotation}
 use Rattle.fw_run.specs.Enduring.{PrintsEndured, RoseBy, RoseByFaults, RoseOrFull, StaysOrRose}
-use Rattle.fw_run.specs.Listing.{check_text}
+use Rattle.fw_command.specs.Listing.{check_text}
 use Rattle.fw_run.specs.Status.{IsTold, write_faults_told, store_faults_told, note_line, status_number}
 use Rattle.fw_generate.specs.Laws.{AreAccepted}
 use Rattle.fw_generate.specs.Texts.{Texts}
 use Rattle.fw_run.specs.Tallies.{PrintsSummary}
-use Rattle.fw_run.specs.Texts.{AreThere, AreGenerated, HasTwo, AreOfSystem, IsFlowRefused, IsFirstOfTwoRefused, IsFirstRefusal, IsAskedTwice, IsAskedNoMore, spelled_system, spelled_items}
+use Rattle.fw_command.specs.Texts.{AreThere, AreGenerated, HasTwo, AreOfSystem, IsFlowRefused, IsFirstOfTwoRefused, IsFirstRefusal, IsAskedTwice, IsAskedNoMore, spelled_system, spelled_items}
 use Rattle.fw_run.specs.Trusting.{AreKnown, PrintsKnown}
-use Rattle.fw_run.specs.Words.{Command, Manner, through_faults, manner_of, asks_folder, run, endure, generate, denote, check, command_of, words_in}
+use Rattle.fw_command.specs.Words.{Command, Manner, through_faults, manner_of, asks_folder, run, endure, generate, denote, check, command_of, words_in}
 use Rattle.fw_run.specs.Work.{IsWholeRun, IsStoreFault, IsDamageIn}
-use Rattle.fw_run.specs.Writing.{IsWritten, IsPartWritten, IsCutOff, WritesText}
+use Rattle.fw_command.specs.Writing.{IsWritten, IsPartWritten, IsCutOff, WritesText}
 
 -- what a call is given: the command that its words are, if they are one, and the folder's texts, where it tells them
 pub record Call : Type 0 where

@@ -15,7 +15,7 @@ use Rattle.fw_run.specs.declared.tally.Tally.{Tally}
 use Rattle.fw_run.specs.Enduring.{Report, faults_in, outcomes_in, shown_in, ItemEndures, reports_text, EnduredRun, IsEndureKnown}
 use Rattle.fw_run.specs.Performing.{IsTaken, TrustsItem, IsItemStopped, IsLeftAfter}
 use Rattle.fw_run.specs.Printed.{idle_count}
-use Rattle.fw_run.specs.Writing.{IsWritten}
+use Rattle.fw_command.specs.Writing.{IsWritten}
 
 -- ---- an item
 

@@ -17,7 +17,7 @@ use Rattle.fw_running.specs.EffectText.{outcome_text}
 use Rattle.fw_running.specs.Steps.{FirstMayCall, MayCallStore, IsStepEnabled, ReadsNoCheckpoint}
 use Rattle.fw_run.specs.Printed.{idle_count}
 use Rattle.fw_run.specs.Stopping.{HoldsWrites, IsReadIn}
-use Rattle.fw_run.specs.Writing.{IsWritten}
+use Rattle.fw_command.specs.Writing.{IsWritten}
 
 -- ---- reports
 

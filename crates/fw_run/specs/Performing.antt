@@ -26,7 +26,7 @@ use Rattle.fw_run.specs.Printed.{outcomes_text}
 use Rattle.fw_run.specs.Stopping.{ItemBegins, IsLeftIn}
 use Rattle.fw_run.specs.Tallies.{AreOfSteps, tally_of, with_tally}
 use Rattle.fw_run.specs.Trusting.{AreKnown, BeginsWith, PrintsKnown}
-use Rattle.fw_run.specs.Writing.{faults_by, IsRefusedBy, IsWritten, IsPartWritten, IsCutOff, WritesText}
+use Rattle.fw_command.specs.Writing.{faults_by, IsRefusedBy, IsWritten, IsPartWritten, IsCutOff, WritesText}
 
 -- the bytes of a line, none where there is no line
 abbrev pub shown_bytes : Option (Vec ℕ Global) → List ℕ

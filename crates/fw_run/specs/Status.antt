@@ -8,7 +8,7 @@ use Rattle.fw_lines.specs.declared.refusal.Refusal.{Refusal}
 use Rattle.fw_lines.specs.Refusal.{refusal_text}
 use Rattle.fw_run.specs.declared.status.Status.{Status}
 use Rattle.fw_run.specs.declared.status.Status.TheVariants.{Done, BadWords, Refused, ReadFault, WriteFault, StoreFault, Damaged, NoMemory}
-use Rattle.fw_run.specs.Writing.{IsWritten}
+use Rattle.fw_command.specs.Writing.{IsWritten}
 
 -- 3 for a flow that is refused, 4 for inputs, 5 for a schedule
 abbrev pub refusal_number : Code → ℕ

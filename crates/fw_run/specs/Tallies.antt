@@ -12,7 +12,7 @@ use Rattle.fw_model.specs.Steps.{acked, cuts, Outcome, did, Run}
 use Rattle.fw_run.specs.declared.tally.Tally.{Tally}
 use Rattle.fw_run.specs.Items.{ComesTo}
 use Rattle.fw_run.specs.Printed.{idle_count}
-use Rattle.fw_run.specs.Words.{Seeded}
+use Rattle.fw_command.specs.Words.{Seeded}
 
 -- nodes were restored
 abbrev pub is_recovery : Outcome → Bool

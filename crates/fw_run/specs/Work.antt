@@ -9,18 +9,18 @@ use Rattle.fw_run.specs.declared.fault.RunFault.{RunFault}
 use Rattle.fw_run.specs.declared.work.Work.{Work}
 use Rattle.fw_run.specs.declared.work.Work.TheVariants.{Run, Endure, Generate, Denote, Check}
 use Rattle.fw_generate.specs.Laws.{size_limit}
-use Rattle.fw_run.specs.DenotationText.{PrintsDenotation}
+use Rattle.fw_command.specs.DenotationText.{PrintsDenotation}
 use Rattle.fw_run.specs.Enduring.{PrintsEndured, RoseBy, IsEndured, IsEnduredToDamage}
 use Rattle.fw_run.specs.Fault.{faults_after}
-use Rattle.fw_run.specs.Listing.{check_text}
+use Rattle.fw_command.specs.Listing.{check_text}
 use Rattle.fw_run.specs.Performing.{WritesUntil}
-use Rattle.fw_run.specs.Reading.{IsJob, IsGenerated, IsFed, IsReady}
-use Rattle.fw_run.specs.Texts.{HasFlow}
+use Rattle.fw_command.specs.Reading.{IsJob, IsGenerated, IsFed, IsReady}
+use Rattle.fw_command.specs.Texts.{HasFlow}
 use Rattle.fw_run.specs.Trusting.{AreKnown, PrintsKnown}
 use Rattle.fw_run.specs.Stopping.{LeavesWrites, IsStoppedByStore, IsStoppedByDamage}
 use Rattle.fw_run.specs.Tallies.{PrintsSummary}
-use Rattle.fw_run.specs.Words.{Command, Manner, by_lines, through_faults, in_one_line, run, endure, generate, denote, check, seeded_in}
-use Rattle.fw_run.specs.Writing.{IsWritten, WritesText}
+use Rattle.fw_command.specs.Words.{Command, Manner, by_lines, through_faults, in_one_line, run, endure, generate, denote, check, seeded_in}
+use Rattle.fw_command.specs.Writing.{IsWritten, WritesText}
 
 -- the work is that of the command, with what the accepted texts under its names spell
 abbrev pub IsWork : Option (List ℕ → Option (List ℕ)) → Command → Work → Type 0

@@ -10,9 +10,9 @@ ghost use Rattle.fw_run.specs.Headline.{Headline};
 ghost use Rattle.fw_run.specs.Status.{read_faults_told, status_number, IsTold, IsTellingOf};
 ghost use Rattle.fw_generate.specs.Laws.{AreAccepted};
 ghost use Rattle.fw_generate.specs.Texts.{Texts};
-ghost use Rattle.fw_run.specs.Texts.{spelled_system, spelled_items};
-ghost use Rattle.fw_run.specs.Words.{IsInOneLine, words_in, command_of};
-ghost use Rattle.fw_run.specs.Writing.{NeverFall};
+ghost use Rattle.fw_command.specs.Texts.{spelled_system, spelled_items};
+ghost use Rattle.fw_command.specs.Words.{IsInOneLine, words_in, command_of};
+ghost use Rattle.fw_command.specs.Writing.{NeverFall};
 
 use crate::Status;
 use crate::run::run;

@@ -11,15 +11,15 @@ ghost use Rattle.fw_engine.specs.Engine.{flow_of, keep_of, StandsFor, IsDamaged}
 ghost use Rattle.fw_run.specs.EnduredItems.{PrintsThrough};
 ghost use Rattle.fw_run.specs.Enduring.{IsEndured, IsEnduredToDamage, PrintsEndured, RoseBy, RoseByFaults, StaysOrRose};
 ghost use Rattle.fw_run.specs.Performing.{HasRoom, WritesUntil};
-ghost use Rattle.fw_run.specs.Reading.{IsReady};
+ghost use Rattle.fw_command.specs.Reading.{IsReady};
 ghost use Rattle.fw_run.specs.Tallies.{AreOfSteps};
-ghost use Rattle.fw_run.specs.Writing.{WritesText};
+ghost use Rattle.fw_command.specs.Writing.{WritesText};
 
 use crate::fault::RunFault;
 use crate::perform::perform_item;
-use crate::reading::Job;
 use crate::tally::Tally;
 use crate::text::{endured_line, fault_line};
+use fw_command::Job;
 use fw_engine::{Engine, EngineFault};
 use fw_outside::{Sink, Store};
 use fw_schedule::Item;

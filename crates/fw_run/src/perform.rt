@@ -13,15 +13,15 @@ ghost use Rattle.fw_engine.specs.Engine.{flow_of, keep_of, StandsFor, IsDamaged}
 ghost use Rattle.fw_run.specs.Fault.{faults_after};
 ghost use Rattle.fw_run.specs.Performing.{PrintsItem, HasRoom, AreFew, AreTaken, Performs};
 ghost use Rattle.fw_run.specs.Printed as spec;
-ghost use Rattle.fw_run.specs.Reading.{IsReady};
+ghost use Rattle.fw_command.specs.Reading.{IsReady};
 ghost use Rattle.fw_run.specs.Stopping.{LeavesWrites, MayCallIn, IsStoppedByStore, IsStoppedByDamage};
 ghost use Rattle.fw_run.specs.Trusting.{AreKnown};
-ghost use Rattle.fw_run.specs.Writing.{IsWritten, Writes};
+ghost use Rattle.fw_command.specs.Writing.{IsWritten, Writes};
 
 use crate::fault::RunFault;
-use crate::reading::Job;
 use crate::tally::Tally;
 use crate::text::{done_line, line_of};
+use fw_command::Job;
 use fw_engine::{Engine, Stepped};
 use fw_flow::{Flow, Step};
 use fw_outside::{OutFault, Sink, Store};

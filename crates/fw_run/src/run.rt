@@ -5,13 +5,12 @@ ghost use Rattle.fw_outside.specs.declared.fault.OutFault.TheVariants as OutFaul
 ghost use Rattle.fw_keep.specs.Stored.{IsEmptyStore};
 ghost use Rattle.fw_run.specs.Call.{call_of, CountsFaults, CountsWrites, PrintsAll, PrintsPart, PrintsFirst, LeavesStore, StopsAtStore, StopsAtDamage, HasRefused, KeepsFolder, KeepsStore};
 ghost use Rattle.fw_run.specs.Status.{read_faults_told, status_number};
-ghost use Rattle.fw_run.specs.Words.{IsInOneLine, words_in, command_of};
+ghost use Rattle.fw_command.specs.Words.{IsInOneLine, words_in, command_of};
 
 use crate::Status;
 use crate::fault::status_of;
-use crate::reading::JobFault;
-use crate::words::parse;
 use crate::work::{print_work, read_work};
+use fw_command::{JobFault, parse};
 use fw_outside::{Folder, Sink, Store};
 use std::alloc::Global;
 

@@ -6,18 +6,17 @@ ghost use Rattle.fw_running.specs.declared.fault.EngineFault.{EngineFault as Fau
 ghost use Rattle.fw_running.specs.declared.fault.EngineFault.TheVariants as EngineFault;
 ghost use Rattle.fw_run.specs.Fault.{faults_after};
 ghost use Rattle.fw_run.specs.Performing.{WritesUntil};
-ghost use Rattle.fw_run.specs.Reading.{IsReady};
+ghost use Rattle.fw_command.specs.Reading.{IsReady};
 ghost use Rattle.fw_run.specs.Stopping.{LeavesWrites, IsStoppedByStore, IsStoppedByDamage};
 ghost use Rattle.fw_run.specs.Tallies.{PrintsSummary};
 ghost use Rattle.fw_run.specs.Trusting.{AreKnown};
-ghost use Rattle.fw_run.specs.Words.{seeded_in};
-ghost use Rattle.fw_run.specs.Writing.{WritesText};
+ghost use Rattle.fw_command.specs.Words.{seeded_in};
+ghost use Rattle.fw_command.specs.Writing.{WritesText};
 
 use crate::fault::RunFault;
 use crate::perform::take_items;
-use crate::reading::Job;
 use crate::text::summary_line;
-use crate::words::GenerateWords;
+use fw_command::{GenerateWords, Job};
 use fw_engine::Engine;
 use fw_outside::{OutFault, Sink, Store};
 use std::alloc::Global;

@@ -7,11 +7,11 @@ ghost use Rattle.fw_run.specs.Printed as spec;
 ghost use Rattle.fw_run.specs.Performing.{shown_bytes};
 ghost use Rattle.fw_run.specs.Status.{note_line};
 ghost use Rattle.fw_run.specs.Tallies as tallies;
-ghost use Rattle.fw_run.specs.Words.{seeded_in};
+ghost use Rattle.fw_command.specs.Words.{seeded_in};
 ghost use Rattle.fw_run.specs.declared.status.Status.TheVariants as Status;
 
 use crate::tally::Tally;
-use crate::words::GenerateWords;
+use fw_command::GenerateWords;
 use fw_engine::Stepped;
 use fw_flow::Flow;
 use fw_lines::Refusal;

@@ -4,19 +4,19 @@ ghost use Rattle.fw_keep.specs.Stored.{IsEmptyStore};
 ghost use Rattle.fw_running.specs.declared.fault.EngineFault.{EngineFault as Fault};
 ghost use Rattle.fw_running.specs.declared.fault.EngineFault.TheVariants as EngineFault;
 ghost use Rattle.fw_run.specs.Call.{Refuses, AsksNoMore};
-ghost use Rattle.fw_run.specs.Reading.{IfRefused, read_faults_after};
+ghost use Rattle.fw_command.specs.Reading.{IfRefused, read_faults_after};
 ghost use Rattle.fw_run.specs.Enduring.{RoseBy, RoseByFaults, StaysOrRose};
-ghost use Rattle.fw_run.specs.Words.{IsOfSize, asks_folder, command_in};
+ghost use Rattle.fw_command.specs.Words.{IsOfSize, asks_folder, command_in};
 ghost use Rattle.fw_run.specs.Work.{IsWork, IsReadyWork, EndsAtFault, IsRun, IfRun, IsWholeRun, IsStoreFault, IsDamageIn, StaysUnlessRun, StaysIfInOneLine, PrintsWork};
 
-use crate::denoting::print_denotation;
 use crate::enduring::endure;
 use crate::fault::RunFault;
-use crate::listing::list;
 use crate::perform::perform;
-use crate::reading::{Fed, Job, JobFault, fetch_flow, read_fed, read_generated, read_job};
 use crate::summary::summarize;
-use crate::words::{CommandWords, GenerateWords};
+use fw_command::{
+    CommandWords, Fed, GenerateWords, Job, JobFault, fetch_flow, list, print_denotation, read_fed,
+    read_generated, read_job,
+};
 use fw_flow::Flow;
 use fw_outside::{Folder, Sink, Store};
 use std::alloc::Global;

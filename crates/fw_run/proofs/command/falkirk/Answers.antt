@@ -4,7 +4,7 @@ use Rattle.fw_run.proofs.FaultCounts.{never_falls-store}
 use Rattle.fw_run.proofs.HeadlineLaws.{texts-headline}
 use Rattle.fw_run.specs.Call.{call_of}
 use Rattle.std.specs.Prelude.{IsSome}
-use Rattle.fw_run.specs.Words.{IsInOneLine, command_of, words_in}
+use Rattle.fw_command.specs.Words.{IsInOneLine, command_of, words_in}
 use Rattle.fw_run.proofs.command.falkirk.Goals as goal
 
 pub returns-clause-done : goal.returns-clause-done

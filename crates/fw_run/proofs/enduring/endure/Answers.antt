@@ -5,7 +5,7 @@ use Rattle.fw_flow.specs.Dataflow.{system_of}
 use Rattle.fw_run.proofs.EnduringRunLaws.{endure_not_begun}
 use Rattle.fw_run.specs.Enduring.{PrintsEndured, IsEndured, IsEnduredToDamage, RoseBy}
 use Rattle.fw_run.specs.Performing.{WritesUntil}
-use Rattle.fw_run.specs.Writing.{WritesText}
+use Rattle.fw_command.specs.Writing.{WritesText}
 use Rattle.fw_run.proofs.enduring.endure.Goals as goal
 
 pub returns-in_err-engine-clause-printed : goal.returns-in_err-engine-clause-printed

@@ -2,7 +2,7 @@ use Rattle.std.proofs.Common.{rules, ◌≡◌, ◌+◌, ◌∙◌, ap, subst, O
 use Rattle.std.proofs.lemmas.Result.{err_from_is_err_and}
 use Rattle.fw_flow.specs.Dataflow.{Dataflow}
 use Rattle.fw_run.proofs.EnduringItemLaws.{through-taken, through-stopped, through-fault, through-fault_cut, fault_of_answer}
-use Rattle.fw_run.proofs.WritingLaws.{writes, cut_nothing}
+use Rattle.fw_command.proofs.WritingLaws.{writes, cut_nothing}
 use Rattle.fw_running.specs.declared.fault.EngineFault.TheVariants as fault
 use Rattle.fw_run.specs.declared.fault.RunFault.{RunFault}
 use Rattle.fw_run.specs.declared.fault.RunFault.TheVariants as stop
@@ -10,7 +10,7 @@ use Rattle.fw_run.specs.Performing.{PrintsItem}
 use Rattle.fw_run.specs.Enduring.{RoseBy, fault_line}
 use Rattle.fw_run.specs.Fault.{faults_after}
 use Rattle.fw_run.specs.Stopping.{MayCallIn}
-use Rattle.fw_run.specs.Writing.{Writes}
+use Rattle.fw_command.specs.Writing.{Writes}
 use Rattle.fw_run.proofs.FaultCounts.{stays_after}
 use Rattle.fw_run.proofs.enduring.endure_item.Given as given
 use Rattle.fw_run.proofs.enduring.endure_item.Goals as goal

@@ -7,11 +7,11 @@ use Rattle.fw_run.proofs.SameFaults.{same_fault}
 use Rattle.fw_run.proofs.FaultCounts.{rose_more, rises_more}
 use Rattle.fw_run.proofs.EnduringRunLaws.{endured_so_far-none, endured_so_far-more, endure_stops, endure_damaged, endure_ends, endure_whole, endure_whole_fault, endure_ends_cut}
 use Rattle.fw_run.proofs.TallyLaws.{of_steps-none}
-use Rattle.fw_run.proofs.WritingLaws.{writes, cut_nothing}
+use Rattle.fw_command.proofs.WritingLaws.{writes, cut_nothing}
 use Rattle.fw_run.specs.Enduring.{with_faults, RoseBy, endured_line}
 use Rattle.fw_run.specs.declared.tally.Tally.{Tally}
 use Rattle.fw_run.specs.Tallies.{AreOfSteps}
-use Rattle.fw_run.specs.Writing.{Writes}
+use Rattle.fw_command.specs.Writing.{Writes}
 use Rattle.fw_run.proofs.enduring.endure_items.Goals as goal
 
 pub endure_item-requires-clause-room : goal.endure_item-requires-clause-room

@@ -7,11 +7,11 @@ use Rattle.fw_run.specs.declared.tally.Tally.{Tally}
 use Rattle.fw_run.specs.Performing.{AreTaken, Performs}
 use Rattle.fw_run.specs.Printed.{done_line}
 use Rattle.fw_run.specs.Stopping.{IsStoppedByStore, IsStoppedByDamage}
-use Rattle.fw_run.specs.Writing.{IsWritten, Writes}
+use Rattle.fw_command.specs.Writing.{IsWritten, Writes}
 use Rattle.fw_run.proofs.FaultCounts.{passed_after}
 use Rattle.fw_run.proofs.SameFaults.{same_fault}
 use Rattle.fw_run.proofs.SoFarLaws.{ends, ends_cut, leaves_writes, stops_at_start}
-use Rattle.fw_run.proofs.WritingLaws.{writes, cut_nothing}
+use Rattle.fw_command.proofs.WritingLaws.{writes, cut_nothing}
 use Rattle.fw_run.proofs.perform.perform.Goals as goal
 
 pub returns-in_err-engine-clause-printed : goal.returns-in_err-engine-clause-printed

@@ -8,9 +8,9 @@ use Rattle.fw_run.proofs.Numbers.{few_refusal_numbers}
 use Rattle.fw_run.specs.declared.status.Status.{Status}
 use Rattle.fw_run.specs.Call.{call_of, CountsFaults, CountsWrites, Refuses}
 use Rattle.fw_run.specs.Status.{read_faults_told, status_number}
-use Rattle.fw_run.specs.Words.{command_in, command_of, words_in}
+use Rattle.fw_command.specs.Words.{command_in, command_of, words_in}
 use Rattle.fw_run.specs.Work.{IsWholeRun, IsStoreFault, IsDamageIn}
-use Rattle.fw_run.specs.Writing.{IsWritten}
+use Rattle.fw_command.specs.Writing.{IsWritten}
 use Rattle.fw_run.proofs.run.run.Goals as goal
 
 pub returns-in-Err-Refused-clause-refused : goal.returns-in-Err-Refused-clause-refused

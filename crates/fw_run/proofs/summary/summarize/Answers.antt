@@ -9,13 +9,13 @@ use Rattle.fw_run.specs.declared.tally.Tally.{Tally}
 use Rattle.fw_run.specs.Performing.{AreTaken}
 use Rattle.fw_run.specs.Stopping.{IsStoppedByStore, IsStoppedByDamage}
 use Rattle.fw_run.specs.Tallies.{summary_line}
-use Rattle.fw_run.specs.Words.{seeded_in}
-use Rattle.fw_run.specs.Writing.{IsWritten, Writes}
+use Rattle.fw_command.specs.Words.{seeded_in}
+use Rattle.fw_command.specs.Writing.{IsWritten, Writes}
 use Rattle.fw_run.proofs.FaultCounts.{passed_after}
 use Rattle.fw_run.proofs.SameFaults.{same_fault}
 use Rattle.fw_run.proofs.SoFarLaws.{leaves_writes}
 use Rattle.fw_run.proofs.SummaryLaws.{nowhere, memory, never_failed, summary_stopped, summary_written, summary_cut, store_put, damage_put}
-use Rattle.fw_run.proofs.WritingLaws.{writes, cut_nothing}
+use Rattle.fw_command.proofs.WritingLaws.{writes, cut_nothing}
 use Rattle.fw_run.proofs.summary.summarize.Goals as goal
 
 pub returns-in_err-engine-clause-printed : goal.returns-in_err-engine-clause-printed

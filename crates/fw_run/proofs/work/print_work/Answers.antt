@@ -9,7 +9,7 @@ use Rattle.fw_run.specs.declared.fault.RunFault.{RunFault}
 use Rattle.fw_run.specs.Enduring.{PrintsEndured, IsEndured}
 use Rattle.fw_run.specs.Performing.{WritesUntil}
 use Rattle.fw_run.specs.Stopping.{IsStoppedByStore, IsStoppedByDamage}
-use Rattle.fw_run.specs.Writing.{WritesText}
+use Rattle.fw_command.specs.Writing.{WritesText}
 use Rattle.fw_run.proofs.FaultCounts.{none_after, some_after, rises_after}
 use Rattle.fw_run.proofs.work.print_work.Goals as goal
 

@@ -1,0 +1,16 @@
+use Rattle.std.proofs.Common.{◌++◌, sym, ◌∙◌, ap, rules}
+use Rattle.std.proofs.Output.{has_written_of_eq, has_written_append}
+use Rattle.std.specs.List.{flat_map, range_with_len}
+use Rattle.fw_flow.proofs.Ranges.{joined_more}
+use Rattle.fw_flow.specs.Dataflow.{system_of}
+use Rattle.fw_denote.specs.Holding.{family_on}
+use Rattle.fw_command.specs.DenotationText.{node_text}
+use Rattle.fw_command.proofs.denoting.DenotationDisplay.fmt.Goals as goal
+
+pub loop-place-preserved : goal.loop-place-preserved
+loop-place-preserved g c = λ p.
+    let fed = c.args.self.now.fed.now in
+    let make = node_text (system_of fed.flow fed.batches) (family_on c.args.self.now.family.now) in
+    let place = c.loop-place.place in
+    let before = flat_map make (range_with_len 0 place) in
+    has_written_of_eq _ _ _ _ _ (ap (λ q. before ++ make q) c.at.ensures ∙ sym (joined_more make place)) (has_written_append _ _ _ _ _ _ (c.loop-place.invariant p) (search rules))

@@ -1,0 +1,139 @@
+-- The words of a command.
+use Rattle.std.specs.Prelude.{◌≡◌, ℕ, ◌≤◌, nat_le, Bool, true, false, not, ◌&&◌, ◌==◌, if◌then◌else◌, List, [], ◌∷◌, map, Option, Some, None, codes}
+use Rattle.std.specs.Option.{option_or}
+use Rattle.std.specs.Str.{bytes_eq}
+use Rattle.std.specs.Borrow.{Bor}
+use Rattle.fw_lines.specs.declared.numeral.Number.{Number}
+use Rattle.fw_lines.specs.declared.numeral.Number.TheVariants.{Value}
+use Rattle.fw_lines.specs.Spelling.{number_of}
+use Rattle.fw_generate.specs.Laws.{size_limit}
+use Rattle.fw_command.specs.declared.words.DenoteWords.{DenoteWords}
+use Rattle.fw_command.specs.declared.words.GenerateWords.{GenerateWords}
+use Rattle.fw_command.specs.declared.words.RunWords.{RunWords}
+use Rattle.fw_command.specs.declared.words.CommandWords.{CommandWords}
+use Rattle.fw_command.specs.declared.words.CommandWords.TheVariants.{Run, Endure, Generate, Denote, Check}
+
+-- the bytes of the words
+abbrev pub words_in : List (Bor (List ℕ)) → List (List ℕ)
+words_in words = map (λ word. word.now) words
+
+-- an operand is not empty and does not begin with a dash
+abbrev pub is_operand : List ℕ → Bool
+is_operand [] = false
+is_operand (byte ∷ bytes) = not (byte == 45)
+
+-- the names of the three texts of a run
+pub record TextNames : Type 0 where
+  pub flow : List ℕ
+  pub inputs : List ℕ
+  pub schedule : List ℕ
+
+-- the names of the texts of a flow and its inputs
+pub record SystemNames : Type 0 where
+  pub flow : List ℕ
+  pub inputs : List ℕ
+
+-- the seed and the size of generated texts
+pub record Seeded : Type 0 where
+  pub seed : ℕ
+  pub size : ℕ
+
+-- A command with its operands: to run three texts, to run them through faults of the store, to run generated texts and tell what
+-- came of them, to tell what a flow denotes of its inputs, or to check the text of a flow.
+pub data Command : Type 0 where
+  run : TextNames → Command
+  endure : TextNames → Command
+  generate : Seeded → Command
+  denote : SystemNames → Command
+  check : List ℕ → Command
+
+-- how steps are told: each by its lines; the same, and faults of the store by theirs; or what came of all in one line
+pub data Manner : Type 0 where
+  by_lines : Manner
+  through_faults : Manner
+  in_one_line : Seeded → Manner
+
+-- how a command tells the steps that it takes, if it takes some
+abbrev pub manner_of : Command → Option Manner
+manner_of (run names) = Some by_lines
+manner_of (endure names) = Some through_faults
+manner_of (generate seeded) = Some (in_one_line seeded)
+manner_of (denote names) = None
+manner_of (check name) = None
+
+-- the command tells in one line what came of a run
+abbrev pub IsInOneLine : Option Command → Type 0
+IsInOneLine command = (seeded : Seeded) × (command ≡ Some (generate seeded))
+
+-- the command asks the folder for a text
+abbrev pub asks_folder : Command → Bool
+asks_folder (generate seeded) = false
+asks_folder command = true
+
+-- a check, if the words are `check` and an operand
+abbrev pub check_of : List (List ℕ) → Option Command
+check_of (word ∷ flow ∷ []) = if bytes_eq word (codes "check") && is_operand flow then Some (check flow) else None
+check_of words = None
+
+-- the size is one of those of which texts are generated
+abbrev pub is_size : ℕ → Bool
+is_size size = nat_le 1 size && nat_le size size_limit
+
+-- generated texts, if these are a seed and a size
+abbrev pub generate_by : Number → Number → Option Command
+generate_by (Value seed) (Value size) = if is_size size then Some (generate (record { seed = seed; size = size })) else None
+generate_by seed size = None
+
+-- they are run, if the words are `gen`, a number and a size
+abbrev pub gen_of : List (List ℕ) → Option Command
+gen_of (word ∷ seed ∷ size ∷ []) = if bytes_eq word (codes "gen") then generate_by (number_of seed) (number_of size) else None
+gen_of words = None
+
+-- a denotation, if the words are `denote` and two operands
+abbrev pub denote_of : List (List ℕ) → Option Command
+denote_of (word ∷ flow ∷ inputs ∷ []) =
+    if bytes_eq word (codes "denote") && is_operand flow && is_operand inputs then Some (denote (record { flow = flow; inputs = inputs })) else None
+denote_of words = None
+
+-- a run, if the words are `run` and three operands
+abbrev pub run_of : List (List ℕ) → Option Command
+run_of (word ∷ flow ∷ inputs ∷ schedule ∷ []) =
+    if bytes_eq word (codes "run") && is_operand flow && is_operand inputs && is_operand schedule
+    then Some (run (record { flow = flow; inputs = inputs; schedule = schedule }))
+    else None
+run_of words = None
+
+-- the same through faults of the store, if the words are `endure` and three operands
+abbrev pub endure_of : List (List ℕ) → Option Command
+endure_of (word ∷ flow ∷ inputs ∷ schedule ∷ []) =
+    if bytes_eq word (codes "endure") && is_operand flow && is_operand inputs && is_operand schedule
+    then Some (endure (record { flow = flow; inputs = inputs; schedule = schedule }))
+    else None
+endure_of words = None
+
+-- the command that words are, if they are one
+abbrev pub command_of : List (List ℕ) → Option Command
+command_of words = option_or (check_of words) (option_or (denote_of words) (option_or (gen_of words) (option_or (run_of words) (endure_of words))))
+
+-- the names that parsed words give
+abbrev pub text_names_in : RunWords → TextNames
+text_names_in words = record { flow = words.flow.now; inputs = words.inputs.now; schedule = words.schedule.now }
+
+abbrev pub system_names_in : DenoteWords → SystemNames
+system_names_in words = record { flow = words.flow.now; inputs = words.inputs.now }
+
+abbrev pub seeded_in : GenerateWords → Seeded
+seeded_in words = record { seed = words.seed; size = words.size }
+
+-- the size of what is generated, if texts are, is one of those that there are
+abbrev pub IsOfSize : CommandWords → Type 0
+IsOfSize (Generate words) = words.size ≤ size_limit
+IsOfSize words = Unit {0}
+
+-- the command that parsed words give
+abbrev pub command_in : CommandWords → Command
+command_in (Run names) = run (text_names_in names)
+command_in (Endure names) = endure (text_names_in names)
+command_in (Generate words) = generate (seeded_in words)
+command_in (Denote names) = denote (system_names_in names)
+command_in (Check flow) = check flow.now

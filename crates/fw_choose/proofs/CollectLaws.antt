@@ -71,6 +71,7 @@ use Rattle.fw_running.specs.Logging.{with_keep}
 use Rattle.fw_running.specs.Shaped.{IsWrittenOf, IsShaped}
 use Rattle.fw_running.specs.Stands.{Stands}
 use Rattle.fw_running.proofs.KeptShapes.{shaped-keep}
+use Rattle.fw_running.proofs.SameStateLaws.{keep-stands}
 
 -- ---- fronts
 
@@ -315,26 +316,8 @@ collected-stands sys state records choice old new c is differ s =
 pub swept-stands : (sys : System) (state : Machine) (old : Running) (keep : KeepState) (before after : Option Records) → keep.entries ≡ old.parts.keep.entries
     → Sweeps old.parts.keep.waiting before keep.waiting after → KeepsBytes old.parts.keep.entries before after → Stands sys old before state
     → Stands sys (with_keep keep old) after state
-swept-stands sys state old keep before after same sweeps bytes s = record {
-  flow = s.flow;
-  well_formed = s.well_formed;
-  reached = s.reached;
-  settled = s.settled;
-  failed = s.failed;
-  low = s.low;
-  epochs = s.epochs;
-  tables = s.tables;
-  queues = s.queues;
-  logs = s.logs;
-  outputs = s.outputs;
-  sources = s.sources;
-  progress = s.progress;
-  traces = s.traces;
-  lost = s.lost;
-  entries = subst (λ es. AreEntriesOf sys state es (uncollected state)) (sym same) s.entries;
-  stored = subst (λ es. AreStored sys state after es (uncollected state)) (sym same)
-      (kept_bytes_are_stored sys state old.parts.keep.entries (uncollected state) before after (without_ids sweeps.removed) sweeps.records bytes s.stored);
-}
+swept-stands sys state old keep before after same sweeps bytes s = keep-stands sys old keep before after state s same
+    (kept_bytes_are_stored sys state old.parts.keep.entries (uncollected state) before after (without_ids sweeps.removed) sweeps.records bytes s.stored)
 
 pub swept-shaped : (old : Running) (keep : KeepState) → keep.entries ≡ old.parts.keep.entries → IsShaped old → IsShaped (with_keep keep old)
 swept-shaped old keep same s =

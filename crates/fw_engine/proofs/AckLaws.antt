@@ -20,12 +20,13 @@ use Rattle.fw_stands.proofs.EntrySteps.{entries_after_step, records_after_step}
 use Rattle.fw_stands.proofs.StayingLaws.{steps-stay_reached}
 use Rattle.fw_stands.specs.Parts.{IsOutputOf}
 use Rattle.fw_running.specs.declared.running.Running.{Running}
-use Rattle.fw_running.specs.Kept.{output_of}
+use Rattle.fw_running.specs.Kept.{is_down, output_of}
 use Rattle.fw_running.specs.Places.{IsPut}
-use Rattle.fw_running.specs.Ready.{HasSomething, CanAcknowledge}
+use Rattle.fw_running.specs.Ready.{HasSomething, CanAcknowledge, IsAcknowledgeable}
 use Rattle.fw_running.specs.ReadyState.{ReadyState}
 use Rattle.fw_running.specs.Shaped.{IsShaped}
 use Rattle.fw_running.specs.Stands.{Stands}
+use Rattle.fw_running.proofs.KeptShapes.{logs-fit, progress-fits, queues-fit, shaped-changed, tables-fit, traces-fit}
 
 -- ---- when
 
@@ -99,48 +100,25 @@ output-other : (running : Running) (o q : ℕ) (places : List ℕ) → q ≢ o �
 output-other running o q places n = get_or-set_other running.parts.outputs.outputs o q (acknowledged (output_of running o)) new_output n
 
 may-other : (running : Running) (o q : ℕ) (places : List ℕ) → q ≢ o → CanAcknowledge (after_ack running o places) q → CanAcknowledge running q
-may-other running o q places n c =
-    let e = output-other running o q places n in
-    record {
-      there = c.there;
-      live = c.live;
-      output = c.output;
-      number = subst (λ (out : OutputState). out.bound < 2 ^ 32) e c.number;
-      settled = subst (λ (out : OutputState). inside (front_of running.progress.settled q) (out.bound ∷ []) ≡ true) e c.settled;
-      some = subst (λ (out : OutputState). HasSomething running.epochs out (kind_of running.flow q) out.bound) e c.some;
-    }
+may-other running o q places n =
+    subst (λ out. IsAcknowledgeable running.flow q (is_down running q) running.epochs out (front_of running.progress.settled q)) (output-other running o q places n)
 
 after-shaped : (running : Running) (o : ℕ) (places : List ℕ) → IsPut o running.ready.outputs places → IsShaped running → IsShaped (after_ack running o places)
-after-shaped running o places put s = record {
-  well_formed = s.well_formed;
-  one_each = record {
-    parts = record { tables = s.one_each.parts.tables; queues = s.one_each.parts.queues; logs = s.one_each.parts.logs };
-    sources = s.one_each.sources;
-    outputs = length-set running.parts.outputs.outputs o (acknowledged (output_of running o)) ∙ s.one_each.outputs;
-    low = s.one_each.low;
-    failed = s.one_each.failed;
-    lost = s.one_each.lost;
-  };
-  progress = s.progress;
-  traces = s.traces;
-  low = s.low;
-  tables = s.tables;
-  queues = s.queues;
-  logs = s.logs;
-  entries = s.entries;
-  live = s.live;
-  traced = s.traced;
-  ready = record {
-    edges = λ e c. s.ready.edges e (record { there = c.there; live = c.live; some = c.some });
-    owing = λ p c. s.ready.owing p (record { there = c.there; live = c.live; some = c.some });
-    growing = λ p c. s.ready.growing p (record { there = c.there; more = c.more });
-    outputs = λ q c. elim (cases_eq q o) [
-      | inl e ↦ subst (Contains places) (sym e) put.there
-      | inr n ↦ put.stays q (s.ready.outputs q (may-other running o q places n c))
-    ];
-    inputs = λ i c. s.ready.inputs i (record { there = c.there; live = c.live; input = c.input; some = c.some });
-  };
-}
+after-shaped running o places put s =
+    let all = running.parts.outputs in
+    shaped-changed running (record running.parts { outputs = with_ack all o }) running.progress running.traces (record running.ready { outputs = places }) s
+    (tables-fit running s) (queues-fit running s) (logs-fit running s) s.entries s.one_each.sources
+    (length-set all.outputs o (acknowledged (output_of running o)) ∙ s.one_each.outputs) refl (progress-fits running s) (traces-fit running s)
+    (record {
+      edges = s.ready.edges;
+      owing = s.ready.owing;
+      growing = s.ready.growing;
+      outputs = λ q c. elim (cases_eq q o) [
+        | inl e ↦ subst (Contains places) (sym e) put.there
+        | inr n ↦ put.stays q (s.ready.outputs q (may-other running o q places n c))
+      ];
+      inputs = s.ready.inputs;
+    })
 
 after-stands : (sys : System) (state : Machine) (running : Running) (records : Option Records) (o : ℕ) (places : List ℕ)
     → o < length running.parts.outputs.outputs → AreByNumber (output_of running o).recs → CanAcknowledge running o → Stands sys running records state

@@ -14,29 +14,13 @@ use Rattle.fw_running.specs.declared.stepped.Stepped.{Stepped}
 use Rattle.fw_running.specs.ReadyState.{ReadyState}
 use Rattle.fw_running.specs.Stands.{Stands}
 use Rattle.fw_running.specs.Steps.{outcome_of, Answers, AnswersFirst, FirstMayCall, IsLeftBy, IsUndamaged, Trusts}
+use Rattle.fw_running.proofs.SameStateLaws.{same-stands}
 
 -- which places are kept as ready is nothing that a state tells
 pub ready_stands : (sys : System) (state : Machine) (running : Running) (records : Option Records) (ready : ReadyState) → Stands sys running records state
     → Stands sys (record running { ready = ready }) records state
-ready_stands sys state running records ready s = record {
-  flow = s.flow;
-  well_formed = s.well_formed;
-  reached = s.reached;
-  settled = s.settled;
-  failed = s.failed;
-  low = s.low;
-  epochs = s.epochs;
-  tables = s.tables;
-  queues = s.queues;
-  logs = s.logs;
-  outputs = s.outputs;
-  sources = s.sources;
-  progress = s.progress;
-  traces = s.traces;
-  lost = s.lost;
-  entries = s.entries;
-  stored = s.stored;
-}
+ready_stands sys state running records ready s =
+    same-stands sys running running.parts.keep running.progress ready records records state s s.settled s.progress s.entries s.stored
 
 -- a step that is enabled, and where it is the first one, answers as the first one does
 pub first_answers : EnabledStepsAreTaken → (sys : System) (state other : Machine) (step : Step) (effect : Effect) (result : Result Stepped EngineFault)

@@ -10,9 +10,11 @@ use Rattle.fw_progress.specs.Counts.{owed_of}
 use Rattle.fw_running.specs.declared.running.Running.{Running}
 use Rattle.fw_running.specs.BroughtUp.{IsBroughtUp}
 use Rattle.fw_running.specs.Places.{IsTakenOut, IsFirstPlace, IsFirstPlaceFrom, IsFirstWhere}
-use Rattle.fw_running.specs.Ready.{CanAcknowledge, CanDeliver, CanInject, IsOwing}
+use Rattle.fw_running.specs.Kept.{is_down}
+use Rattle.fw_running.specs.Ready.{CanAcknowledge, CanDeliver, CanInject, IsNotifiable, IsOwing}
 use Rattle.fw_running.specs.ReadyState.{ReadyState}
 use Rattle.fw_running.specs.Shaped.{IsReady, IsShaped}
+use Rattle.fw_running.proofs.KeptShapes.{progress-fits, shaped-standing, traces-fit}
 use Rattle.fw_events.specs.Noticing.{FindsNotice}
 use Rattle.fw_engine.specs.Searching.{with_ready, with_notices, HasNoNotice, HasNotice, HasNoneBefore, IsNoticeOf, IsSearched}
 
@@ -63,68 +65,32 @@ on_ok (Err e) P Q f h = tt
 
 -- ---- where something may be done does not hang on the places that are kept
 
-deliver-out : (old : Running) (ready : ReadyState) (e : ℕ) → CanDeliver (with_ready ready old) e → CanDeliver old e
-deliver-out old ready e c = record { there = c.there; live = c.live; some = c.some }
-
-acknowledge-out : (old : Running) (ready : ReadyState) (o : ℕ) → CanAcknowledge (with_ready ready old) o → CanAcknowledge old o
-acknowledge-out old ready o c = record { there = c.there; live = c.live; output = c.output; number = c.number; settled = c.settled; some = c.some }
-
-inject-out : (old : Running) (ready : ReadyState) (s : ℕ) → CanInject (with_ready ready old) s → CanInject old s
-inject-out old ready s c = record { there = c.there; live = c.live; input = c.input; some = c.some }
-
 pub same-deliverable : (old new : Running) (ready : ReadyState) → new ≡ with_ready ready old → (e : ℕ)
     → (CanDeliver old e → CanDeliver new e) × (CanDeliver new e → CanDeliver old e)
 same-deliverable old new ready is e = (
-  λ c. subst (λ (r : Running). CanDeliver r e) (sym is) (record { there = c.there; live = c.live; some = c.some }),
-  λ c. deliver-out old ready e (subst (λ (r : Running). CanDeliver r e) is c),
+  subst (λ (r : Running). CanDeliver r e) (sym is),
+  subst (λ (r : Running). CanDeliver r e) is,
 )
 
 pub same-acknowledgeable : (old new : Running) (ready : ReadyState) → new ≡ with_ready ready old → (o : ℕ)
     → (CanAcknowledge old o → CanAcknowledge new o) × (CanAcknowledge new o → CanAcknowledge old o)
 same-acknowledgeable old new ready is o = (
-  λ c. subst (λ (r : Running). CanAcknowledge r o) (sym is)
-      (record { there = c.there; live = c.live; output = c.output; number = c.number; settled = c.settled; some = c.some }),
-  λ c. acknowledge-out old ready o (subst (λ (r : Running). CanAcknowledge r o) is c),
+  subst (λ (r : Running). CanAcknowledge r o) (sym is),
+  subst (λ (r : Running). CanAcknowledge r o) is,
 )
 
 pub same-injectable : (old new : Running) (ready : ReadyState) → new ≡ with_ready ready old → (s : ℕ)
     → (CanInject old s → CanInject new s) × (CanInject new s → CanInject old s)
 same-injectable old new ready is s = (
-  λ c. subst (λ (r : Running). CanInject r s) (sym is) (record { there = c.there; live = c.live; input = c.input; some = c.some }),
-  λ c. inject-out old ready s (subst (λ (r : Running). CanInject r s) is c),
+  subst (λ (r : Running). CanInject r s) (sym is),
+  subst (λ (r : Running). CanInject r s) is,
 )
 
 -- what is kept keeps its shape with other places, where among these are all where something may be done
 pub ready-shaped : (old : Running) (ready : ReadyState) → IsShaped old → IsReady old ready → IsShaped (with_ready ready old)
 ready-shaped old ready s r =
-    let each = s.one_each in
-    record {
-      well_formed = s.well_formed;
-      one_each = record {
-        parts = record { tables = each.parts.tables; queues = each.parts.queues; logs = each.parts.logs };
-        sources = each.sources;
-        outputs = each.outputs;
-        low = each.low;
-        failed = each.failed;
-        lost = each.lost;
-      };
-      progress = s.progress;
-      traces = s.traces;
-      low = s.low;
-      tables = s.tables;
-      queues = s.queues;
-      logs = s.logs;
-      entries = s.entries;
-      live = s.live;
-      traced = s.traced;
-      ready = record {
-        edges = λ e c. r.edges e (deliver-out old ready e c);
-        owing = λ p c. r.owing p (record { there = c.there; live = c.live; some = c.some });
-        growing = λ p c. r.growing p (record { there = c.there; more = c.more });
-        outputs = λ o c. r.outputs o (acknowledge-out old ready o c);
-        inputs = λ s c. r.inputs s (inject-out old ready s c);
-      };
-    }
+    shaped-standing old old.progress old.traces ready s (progress-fits old s) (traces-fit old s)
+    (record { edges = r.edges; owing = r.owing; growing = r.growing; outputs = r.outputs; inputs = r.inputs })
 
 -- ---- a place that is taken out
 
@@ -220,16 +186,12 @@ searched-taken old ready is = record {
 
 -- the nodes that are owed a notification stay these
 owing-on : (old new : Running) (p : ℕ) → IsSearched old new → IsOwing old p → IsOwing new p
-owing-on old new p s c = subst (λ (r : Running). IsOwing r p) (sym s.others) (record {
-  there = c.there;
-  live = c.live;
-  some = λ none. c.some (ap (λ (counts : Counts). owed_of counts p) (sym s.counts) ∙ none);
-})
+owing-on old new p s c =
+    subst (λ (r : Running). IsOwing r p) (sym s.others) (subst (λ (counts : Counts). IsNotifiable old.flow p (is_down old p) (owed_of counts p)) (sym s.counts) c)
 
 owing-back : (old new : Running) (p : ℕ) → IsSearched old new → IsOwing new p → IsOwing old p
 owing-back old new p s c =
-    let d : IsOwing (with_notices new old) p = subst (λ (r : Running). IsOwing r p) s.others c in
-    record { there = d.there; live = d.live; some = λ none. d.some (ap (λ (counts : Counts). owed_of counts p) s.counts ∙ none) }
+    subst (λ (counts : Counts). IsNotifiable old.flow p (is_down old p) (owed_of counts p)) s.counts (subst (λ (r : Running). IsOwing r p) s.others c)
 
 -- where a node may not be notified after a search, it might not before
 pub no_notice-before : (old new : Running) (p : ℕ) → IsSearched old new → HasNoNotice new p → HasNoNotice old p

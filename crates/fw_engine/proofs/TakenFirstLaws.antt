@@ -25,7 +25,7 @@ use Rattle.fw_running.specs.declared.stepped.Effect.{Effect as Shown}
 use Rattle.fw_running.specs.declared.stepped.Effect.TheVariants.{Silent}
 use Rattle.fw_running.specs.declared.stepped.Stepped.{Stepped}
 use Rattle.fw_running.specs.declared.stepped.Stepped.TheVariants.{Did, Idle}
-use Rattle.fw_running.proofs.SameStateLaws.{down-failed}
+use Rattle.fw_running.proofs.SameStateLaws.{down-failed, same-stands}
 use Rattle.fw_running.specs.Kept.{output_of, source_of}
 use Rattle.fw_running.specs.Places.{IsFirstWhere}
 use Rattle.fw_running.specs.Ready.{CanAcknowledge, CanDeliver, CanInject, IsOwing}
@@ -137,25 +137,9 @@ deliver-later old mid ready new before after result is first later = λ sys stat
 -- a search leaves what an engine stands for
 pub searched_stands : (sys : System) (state : Machine) (old new : Running) (records : Option Records) → IsSearched old new → Stands sys old records state
     → Stands sys new records state
-searched_stands sys state old new records found s = subst (λ (r : Running). Stands sys r records state) (sym found.others) (record {
-  flow = s.flow;
-  well_formed = s.well_formed;
-  reached = s.reached;
-  settled = found.settled ∙ s.settled;
-  failed = s.failed;
-  low = s.low;
-  epochs = s.epochs;
-  tables = s.tables;
-  queues = s.queues;
-  logs = s.logs;
-  outputs = s.outputs;
-  sources = s.sources;
-  progress = found.stands sys (events state.history) (sym s.flow) s.progress;
-  traces = s.traces;
-  lost = s.lost;
-  entries = s.entries;
-  stored = s.stored;
-})
+searched_stands sys state old new records found s = subst (λ (r : Running). Stands sys r records state) (sym found.others)
+    (same-stands sys old old.parts.keep new.progress (record old.ready { growing = new.ready.growing; owing = new.ready.owing }) records records state s
+    (found.settled ∙ s.settled) (found.stands sys (events state.history) (sym s.flow) s.progress) s.entries s.stored)
 
 -- a node that may not be notified is idle
 no_notification : (sys : System) (running : Running) (records : Option Records) (state : Machine) → Stands sys running records state

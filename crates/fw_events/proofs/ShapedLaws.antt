@@ -28,8 +28,9 @@ use Rattle.fw_rollback.specs.Edges.{on_edge}
 use Rattle.fw_rollback.specs.Tables.{table_at}
 use Rattle.fw_running.specs.declared.running.Running.{Running}
 use Rattle.fw_running.specs.Kept.{queue_at, log_at, output_of, is_down}
-use Rattle.fw_running.specs.Ready.{CanAcknowledge, CanDeliver, CanInject, IsOwing}
+use Rattle.fw_running.specs.Ready.{CanAcknowledge, CanDeliver, CanInject, IsAcknowledgeable, IsGrown, IsOwing}
 use Rattle.fw_running.specs.Shaped.{IsOnEdge, IsShaped}
+use Rattle.fw_running.proofs.KeptShapes.{logs-fit, progress-fits, queues-fit, shaped-changed, shaped-parts, shaped-standing, tables-fit, traces-fit}
 use Rattle.fw_events.specs.Sending.{with_queues, with_logs, sent_to, ChangesEdges, SendsOn}
 use Rattle.fw_events.specs.Taking.{with_owing, with_outputs, with_sources, with_tables, with_told}
 
@@ -47,35 +48,10 @@ pub shaped-edges : (old : Running) (queues logs : List MessagesState) (edges : L
     → ((e : ℕ) → CanDeliver (with_queues queues edges (with_logs logs old)) e → Contains edges e)
     → IsShaped (with_queues queues edges (with_logs logs old))
 shaped-edges old queues logs edges s queues_each logs_each pending logged ready =
-    let each = s.one_each in
-    record {
-      well_formed = s.well_formed;
-      one_each = record {
-        parts = record { tables = each.parts.tables; queues = queues_each ∙ each.parts.queues; logs = logs_each ∙ each.parts.logs };
-        sources = each.sources;
-        outputs = each.outputs;
-        low = each.low;
-        failed = each.failed;
-        lost = each.lost;
-      };
-      progress = s.progress;
-      traces = s.traces;
-      low = s.low;
-      tables = s.tables;
-      queues = pending;
-      logs = logged;
-      entries = s.entries;
-      live = s.live;
-      traced = s.traced;
-      ready = record {
-        edges = ready;
-        owing = λ p c. s.ready.owing p (record { there = c.there; live = c.live; some = c.some });
-        growing = λ p c. s.ready.growing p (record { there = c.there; more = c.more });
-        outputs = λ o c. s.ready.outputs o
-            (record { there = c.there; live = c.live; output = c.output; number = c.number; settled = c.settled; some = c.some });
-        inputs = λ i c. s.ready.inputs i (record { there = c.there; live = c.live; input = c.input; some = c.some });
-      };
-    }
+    shaped-changed old (record old.parts { queues = queues; logs = logs }) old.progress old.traces (record old.ready { edges = edges }) s (tables-fit old s)
+    (queues_each ∙ s.one_each.parts.queues, pending) (logs_each ∙ s.one_each.parts.logs, logged) s.entries s.one_each.sources s.one_each.outputs refl
+    (progress-fits old s) (traces-fit old s)
+    (record { edges = ready; owing = s.ready.owing; growing = s.ready.growing; outputs = s.ready.outputs; inputs = s.ready.inputs })
 
 -- what is sent on these edges fits them: so do the queues and logs then
 pub shaped-sent : (old new : Running) (es : List ℕ) (again : Bool) (ms : List Message) → IsShaped old → ChangesEdges old new → SendsOn es again ms old new
@@ -130,35 +106,9 @@ pub shaped-tables : (old : Running) (tables : List (Option Node)) → IsShaped o
     → ((p : ℕ) → p < length old.flow.nodes → IfSome (table_at tables p) (IsNodeOf old.flow p))
     → IsShaped (with_tables tables old)
 shaped-tables old tables s n a =
-    let each = s.one_each in
-    record {
-      well_formed = s.well_formed;
-      one_each = record {
-        parts = record { tables = n ∙ each.parts.tables; queues = each.parts.queues; logs = each.parts.logs };
-        sources = each.sources;
-        outputs = each.outputs;
-        low = each.low;
-        failed = each.failed;
-        lost = each.lost;
-      };
-      progress = s.progress;
-      traces = s.traces;
-      low = s.low;
-      tables = a;
-      queues = s.queues;
-      logs = s.logs;
-      entries = s.entries;
-      live = s.live;
-      traced = s.traced;
-      ready = record {
-        edges = λ e c. s.ready.edges e (record { there = c.there; live = c.live; some = c.some });
-        owing = λ p c. s.ready.owing p (record { there = c.there; live = c.live; some = c.some });
-        growing = λ p c. s.ready.growing p (record { there = c.there; more = c.more });
-        outputs = λ o c. s.ready.outputs o
-            (record { there = c.there; live = c.live; output = c.output; number = c.number; settled = c.settled; some = c.some });
-        inputs = λ i c. s.ready.inputs i (record { there = c.there; live = c.live; input = c.input; some = c.some });
-      };
-    }
+    shaped-parts old (record old.parts { tables = tables }) s (n ∙ s.one_each.parts.tables, a) (queues-fit old s) (logs-fit old s) s.entries
+    s.one_each.sources s.one_each.outputs refl
+    (record { edges = s.ready.edges; owing = s.ready.owing; growing = s.ready.growing; outputs = s.ready.outputs; inputs = s.ready.inputs })
 
 -- and with other inputs
 pub shaped-sources : (old : Running) (sources : List SourceState) → IsShaped old
@@ -166,35 +116,9 @@ pub shaped-sources : (old : Running) (sources : List SourceState) → IsShaped o
     → ((i : ℕ) → CanInject (with_sources sources old) i → Contains old.ready.inputs i)
     → IsShaped (with_sources sources old)
 shaped-sources old sources s n a =
-    let each = s.one_each in
-    record {
-      well_formed = s.well_formed;
-      one_each = record {
-        parts = record { tables = each.parts.tables; queues = each.parts.queues; logs = each.parts.logs };
-        sources = n ∙ each.sources;
-        outputs = each.outputs;
-        low = each.low;
-        failed = each.failed;
-        lost = each.lost;
-      };
-      progress = s.progress;
-      traces = s.traces;
-      low = s.low;
-      tables = s.tables;
-      queues = s.queues;
-      logs = s.logs;
-      entries = s.entries;
-      live = s.live;
-      traced = s.traced;
-      ready = record {
-        edges = λ e c. s.ready.edges e (record { there = c.there; live = c.live; some = c.some });
-        owing = λ p c. s.ready.owing p (record { there = c.there; live = c.live; some = c.some });
-        growing = λ p c. s.ready.growing p (record { there = c.there; more = c.more });
-        outputs = λ o c. s.ready.outputs o
-            (record { there = c.there; live = c.live; output = c.output; number = c.number; settled = c.settled; some = c.some });
-        inputs = a;
-      };
-    }
+    shaped-parts old (record old.parts { sources = sources }) s (tables-fit old s) (queues-fit old s) (logs-fit old s) s.entries
+    (n ∙ s.one_each.sources) s.one_each.outputs refl
+    (record { edges = s.ready.edges; owing = s.ready.owing; growing = s.ready.growing; outputs = s.ready.outputs; inputs = a })
 
 -- and with other outputs
 pub shaped-outputs : (old : Running) (outputs : OutputsState) (places : List ℕ) → IsShaped old
@@ -202,69 +126,17 @@ pub shaped-outputs : (old : Running) (outputs : OutputsState) (places : List ℕ
     → ((o : ℕ) → CanAcknowledge (with_outputs outputs places old) o → Contains places o)
     → IsShaped (with_outputs outputs places old)
 shaped-outputs old outputs places s n a =
-    let each = s.one_each in
-    record {
-      well_formed = s.well_formed;
-      one_each = record {
-        parts = record { tables = each.parts.tables; queues = each.parts.queues; logs = each.parts.logs };
-        sources = each.sources;
-        outputs = n ∙ each.outputs;
-        low = each.low;
-        failed = each.failed;
-        lost = each.lost;
-      };
-      progress = s.progress;
-      traces = s.traces;
-      low = s.low;
-      tables = s.tables;
-      queues = s.queues;
-      logs = s.logs;
-      entries = s.entries;
-      live = s.live;
-      traced = s.traced;
-      ready = record {
-        edges = λ e c. s.ready.edges e (record { there = c.there; live = c.live; some = c.some });
-        owing = λ p c. s.ready.owing p (record { there = c.there; live = c.live; some = c.some });
-        growing = λ p c. s.ready.growing p (record { there = c.there; more = c.more });
-        outputs = a;
-        inputs = λ i c. s.ready.inputs i (record { there = c.there; live = c.live; input = c.input; some = c.some });
-      };
-    }
+    shaped-changed old (record old.parts { outputs = outputs }) old.progress old.traces (record old.ready { outputs = places }) s (tables-fit old s)
+    (queues-fit old s) (logs-fit old s) s.entries s.one_each.sources (n ∙ s.one_each.outputs) refl (progress-fits old s) (traces-fit old s)
+    (record { edges = s.ready.edges; owing = s.ready.owing; growing = s.ready.growing; outputs = a; inputs = s.ready.inputs })
 
 -- and with more nodes that may be owed a notification
 pub shaped-owing : (old : Running) (owing : List ℕ) → IsShaped old
     → ((p : ℕ) → Contains old.ready.owing p → Contains owing p)
     → IsShaped (with_owing owing old)
 shaped-owing old owing s a =
-    let each = s.one_each in
-    record {
-      well_formed = s.well_formed;
-      one_each = record {
-        parts = each.parts;
-        sources = each.sources;
-        outputs = each.outputs;
-        low = each.low;
-        failed = each.failed;
-        lost = each.lost;
-      };
-      progress = s.progress;
-      traces = s.traces;
-      low = s.low;
-      tables = s.tables;
-      queues = s.queues;
-      logs = s.logs;
-      entries = s.entries;
-      live = s.live;
-      traced = s.traced;
-      ready = record {
-        edges = λ e c. s.ready.edges e (record { there = c.there; live = c.live; some = c.some });
-        owing = λ p c. a p (s.ready.owing p (record { there = c.there; live = c.live; some = c.some }));
-        growing = λ p c. s.ready.growing p (record { there = c.there; more = c.more });
-        outputs = λ o c. s.ready.outputs o
-            (record { there = c.there; live = c.live; output = c.output; number = c.number; settled = c.settled; some = c.some });
-        inputs = λ i c. s.ready.inputs i (record { there = c.there; live = c.live; input = c.input; some = c.some });
-      };
-    }
+    shaped-standing old old.progress old.traces (record old.ready { owing = owing }) s (progress-fits old s) (traces-fit old s)
+    (record { edges = s.ready.edges; owing = λ p c. a p (s.ready.owing p c); growing = s.ready.growing; outputs = s.ready.outputs; inputs = s.ready.inputs })
 
 -- and with other traces and other progress
 pub shaped-told : (old : Running) (traces : Traces) (progress : Standing) → IsShaped old
@@ -277,44 +149,15 @@ pub shaped-told : (old : Running) (traces : Traces) (progress : Standing) → Is
     → ((q : ℕ) → IsOwing (with_told traces progress old) q → Contains old.ready.owing q)
     → IsShaped (with_told traces progress old)
 shaped-told old traces progress s p t live traced settled kept owing =
-    let each = s.one_each in
-    record {
-      well_formed = s.well_formed;
-      one_each = record {
-        parts = each.parts;
-        sources = each.sources;
-        outputs = each.outputs;
-        low = each.low;
-        failed = each.failed;
-        lost = each.lost;
-      };
-      progress = p;
-      traces = t;
-      low = s.low;
-      tables = s.tables;
-      queues = s.queues;
-      logs = s.logs;
-      entries = s.entries;
-      live = live;
-      traced = traced;
-      ready = record {
-        edges = λ e c. s.ready.edges e (record { there = c.there; live = c.live; some = c.some });
-        owing = owing;
-        growing = λ q c. s.ready.growing q (record {
-          there = c.there;
-          more = ap (λ fs. has_more (front_of fs q) (front_of old.progress.settled q)) (sym kept) ∙ ap (λ fs. has_more (front_of progress.kept q) (front_of fs q)) (sym settled) ∙ c.more;
-        });
-        outputs = λ o c. s.ready.outputs o (record {
-          there = c.there;
-          live = c.live;
-          output = c.output;
-          number = c.number;
-          settled = ap (λ fs. inside (front_of fs o) ((output_of old o).bound ∷ [])) (sym settled) ∙ c.settled;
-          some = c.some;
-        });
-        inputs = λ i c. s.ready.inputs i (record { there = c.there; live = c.live; input = c.input; some = c.some });
-      };
-    }
+    shaped-standing old progress traces old.ready s (p, live) (t, traced) (record {
+      edges = s.ready.edges;
+      owing = owing;
+      growing = λ q c. s.ready.growing q
+          (subst (λ fs. IsGrown old.flow q (front_of fs q) (front_of old.progress.settled q)) kept (subst (λ fs. IsGrown old.flow q (front_of progress.kept q) (front_of fs q)) settled c));
+      outputs = λ o c. s.ready.outputs o
+          (subst (λ fs. IsAcknowledgeable old.flow o (is_down old o) old.epochs (output_of old o) (front_of fs o)) settled c);
+      inputs = s.ready.inputs;
+    })
 
 -- what is kept with other queues fits the flow, where these do
 pub shaped-queues : (old : Running) (queues : List MessagesState) (edges : List ℕ) → IsShaped old
@@ -323,32 +166,4 @@ pub shaped-queues : (old : Running) (queues : List MessagesState) (edges : List 
     → ((e : ℕ) → CanDeliver (with_queues queues edges old) e → Contains edges e)
     → IsShaped (with_queues queues edges old)
 shaped-queues old queues edges s n a r =
-    let each = s.one_each in
-    record {
-      well_formed = s.well_formed;
-      one_each = record {
-        parts = record { tables = each.parts.tables; queues = n ∙ each.parts.queues; logs = each.parts.logs };
-        sources = each.sources;
-        outputs = each.outputs;
-        low = each.low;
-        failed = each.failed;
-        lost = each.lost;
-      };
-      progress = s.progress;
-      traces = s.traces;
-      low = s.low;
-      tables = s.tables;
-      queues = a;
-      logs = s.logs;
-      entries = s.entries;
-      live = s.live;
-      traced = s.traced;
-      ready = record {
-        edges = r;
-        owing = λ p c. s.ready.owing p (record { there = c.there; live = c.live; some = c.some });
-        growing = λ p c. s.ready.growing p (record { there = c.there; more = c.more });
-        outputs = λ o c. s.ready.outputs o
-            (record { there = c.there; live = c.live; output = c.output; number = c.number; settled = c.settled; some = c.some });
-        inputs = λ i c. s.ready.inputs i (record { there = c.there; live = c.live; input = c.input; some = c.some });
-      };
-    }
+    shaped-edges old queues old.parts.logs edges s n refl a s.logs r

@@ -17,12 +17,14 @@ use Rattle.fw_progress.specs.Progress.{Standing, IsOfFlow}
 use Rattle.fw_progress.specs.Settle.{has_more}
 use Rattle.fw_running.specs.declared.running.Running.{Running}
 use Rattle.fw_running.specs.BroughtUp.{ChangesProgress, KeepsGrowing, AreNoted, IsBroughtUp}
-use Rattle.fw_running.specs.Kept.{output_of}
+use Rattle.fw_running.specs.Kept.{is_down, output_of}
 use Rattle.fw_running.specs.Places.{IsPut}
-use Rattle.fw_running.specs.Ready.{HasGrown}
+use Rattle.fw_running.specs.Ready.{HasGrown, IsAcknowledgeable, IsNotifiable}
 use Rattle.fw_running.specs.ReadyState.{ReadyState}
 use Rattle.fw_running.specs.Shaped.{IsShaped}
 use Rattle.fw_running.specs.Stands.{Stands}
+use Rattle.fw_running.proofs.KeptShapes.{shaped-standing, traces-fit}
+use Rattle.fw_running.proofs.SameStateLaws.{same-stands}
 
 -- no growth is noted yet
 pub none_noted : (growths : List Growth) (places : List ℕ) → AreNoted (take 0 growths) places places
@@ -105,53 +107,19 @@ pub brought_up_stands : (sys : System) (state : Machine) (old new : Running) (re
     → Stands sys new records state
 brought_up_stands sys state old new records s up =
     let progress : StandsFor sys (events state.history) new.progress = (up.fresh.complete sys (events state.history) (sym s.flow) s.progress).0 in
-    let settled : new.progress.settled ≡ state.settled = up.fresh.settled ∙ s.settled in
-    subst (λ (r : Running). Stands sys r records state) (sym up.others) (record {
-      flow = s.flow;
-      well_formed = s.well_formed;
-      reached = s.reached;
-      settled = settled;
-      failed = s.failed;
-      low = s.low;
-      epochs = s.epochs;
-      tables = s.tables;
-      queues = s.queues;
-      logs = s.logs;
-      outputs = s.outputs;
-      sources = s.sources;
-      progress = progress;
-      traces = s.traces;
-      lost = s.lost;
-      entries = s.entries;
-      stored = s.stored;
-    })
+    subst (λ (r : Running). Stands sys r records state) (sym up.others)
+    (same-stands sys old old.parts.keep new.progress (record old.ready { growing = new.ready.growing }) records records state s (up.fresh.settled ∙ s.settled) progress s.entries s.stored)
 
 -- and keeps its shape
 pub brought_up_shaped : (old new : Running) → IsShaped old → IsBroughtUp old new → IsShaped new
-brought_up_shaped old new s up = subst (λ (r : Running). IsShaped r) (sym up.others) (record {
-  well_formed = s.well_formed;
-  one_each = record { parts = s.one_each.parts; sources = s.one_each.sources; outputs = s.one_each.outputs; low = s.one_each.low; failed = s.one_each.failed; lost = s.one_each.lost };
-  progress = up.progress;
-  traces = s.traces;
-  low = s.low;
-  tables = s.tables;
-  queues = s.queues;
-  logs = s.logs;
-  entries = s.entries;
-  live = up.fresh.ready;
-  traced = s.traced;
-  ready = record {
-    edges = λ e c. s.ready.edges e (record { there = c.there; live = c.live; some = c.some });
-    owing = λ p c. s.ready.owing p (record { there = c.there; live = c.live; some = λ none. c.some (ap (λ counts. owed_of counts p) up.fresh.counts ∙ none) });
-    growing = λ p c. up.growing s.ready.growing p (subst (λ (r : Running). HasGrown r p) (sym up.others) c);
-    outputs = λ o c. s.ready.outputs o (record {
-      there = c.there;
-      live = c.live;
-      output = c.output;
-      number = c.number;
-      some = c.some;
-      settled = ap (λ fs. inside (front_of fs o) ((output_of old o).bound ∷ [])) (sym up.fresh.settled) ∙ c.settled;
-    });
-    inputs = λ p c. s.ready.inputs p (record { there = c.there; live = c.live; input = c.input; some = c.some });
-  };
-})
+brought_up_shaped old new s up =
+    subst (λ (r : Running). IsShaped r) (sym up.others) (shaped-standing old new.progress old.traces (record old.ready { growing = new.ready.growing }) s
+    (up.progress, up.fresh.ready) (traces-fit old s)
+    (record {
+      edges = s.ready.edges;
+      owing = λ p c. s.ready.owing p (subst (λ counts. IsNotifiable old.flow p (is_down old p) (owed_of counts p)) up.fresh.counts c);
+      growing = λ p c. up.growing s.ready.growing p (subst (λ (r : Running). HasGrown r p) (sym up.others) c);
+      outputs = λ o c. s.ready.outputs o
+          (subst (λ fs. IsAcknowledgeable old.flow o (is_down old o) old.epochs (output_of old o) (front_of fs o)) up.fresh.settled c);
+      inputs = s.ready.inputs;
+    }))

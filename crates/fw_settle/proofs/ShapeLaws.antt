@@ -23,12 +23,13 @@ use Rattle.fw_progress.specs.Trace.{HaveLists}
 use Rattle.fw_rollback.specs.Tables.{table_at}
 use Rattle.fw_running.specs.declared.fault.EngineFault.{EngineFault}
 use Rattle.fw_running.specs.declared.running.Running.{Running}
-use Rattle.fw_running.specs.Kept.{output_of}
+use Rattle.fw_running.specs.Kept.{is_down, output_of}
 use Rattle.fw_running.specs.Logging.{ChangesKeep, IsAsked, IsNotAsked}
 use Rattle.fw_running.specs.Places.{IsPut, IsTakenOut}
+use Rattle.fw_running.specs.Ready.{IsAcknowledgeable, IsGrown}
 use Rattle.fw_running.specs.ReadyState.{ReadyState}
 use Rattle.fw_running.specs.Shaped.{IsShaped, IsWrittenOf}
-use Rattle.fw_running.proofs.KeptShapes.{shaped-keep as keep-shaped}
+use Rattle.fw_running.proofs.KeptShapes.{logs-fit, progress-fits, queues-fit, shaped-changed, shaped-keep as keep-shaped, shaped-standing, traces-fit}
 use Rattle.fw_settle.specs.Settling.{with_tables, with_traces, IsTableSettled, SettlesTable, SettlesTraces, SettlesTo}
 use Rattle.fw_settle.proofs.JoinLaws.{none-kept}
 
@@ -38,35 +39,9 @@ shaped-with : (old : Running) (tables : List (Option Node)) (traces : Traces) �
     → HaveLists old.flow traces → traces.refused ≡ false
     → IsShaped (record old { parts = record old.parts { tables = tables }; traces = traces })
 shaped-with old tables traces s each nodes lists live =
-    let ones = s.one_each in
-    record {
-      well_formed = s.well_formed;
-      one_each = record {
-        parts = record { tables = each ∙ ones.parts.tables; queues = ones.parts.queues; logs = ones.parts.logs };
-        sources = ones.sources;
-        outputs = ones.outputs;
-        low = ones.low;
-        failed = ones.failed;
-        lost = ones.lost;
-      };
-      progress = s.progress;
-      traces = lists;
-      low = s.low;
-      tables = nodes;
-      queues = s.queues;
-      logs = s.logs;
-      entries = s.entries;
-      live = s.live;
-      traced = live;
-      ready = record {
-        edges = λ e c. s.ready.edges e (record { there = c.there; live = c.live; some = c.some });
-        owing = λ p c. s.ready.owing p (record { there = c.there; live = c.live; some = c.some });
-        growing = λ p c. s.ready.growing p (record { there = c.there; more = c.more });
-        outputs = λ o c. s.ready.outputs o
-            (record { there = c.there; live = c.live; output = c.output; number = c.number; settled = c.settled; some = c.some });
-        inputs = λ i c. s.ready.inputs i (record { there = c.there; live = c.live; input = c.input; some = c.some });
-      };
-    }
+    shaped-changed old (record old.parts { tables = tables }) old.progress traces old.ready s (each ∙ s.one_each.parts.tables, nodes)
+    (queues-fit old s) (logs-fit old s) s.entries s.one_each.sources s.one_each.outputs refl (progress-fits old s) (lists, live)
+    (record { edges = s.ready.edges; owing = s.ready.owing; growing = s.ready.growing; outputs = s.ready.outputs; inputs = s.ready.inputs })
 
 pub shaped-keep : (old new : Running) → IsShaped old → ChangesKeep old new
     → AllByRecursion (λ (entry : Entry). IsWrittenOf old.flow entry.node entry.written) new.parts.keep.entries → IsShaped new
@@ -110,89 +85,42 @@ pub shaped-settled : (old : Running) (settled : List Front) (outputs : List ℕ)
     → has_more (front_of old.progress.kept p) f ≡ false → IsPut p old.ready.outputs outputs
     → IsShaped (record old { progress = record old.progress { settled = settled }; ready = record old.ready { outputs = outputs } })
 shaped-settled old settled outputs p f s e of_flow there none put =
-    let ones = s.one_each in
     let other : (q : ℕ) → q ≢ p → front_of settled q ≡ front_of old.progress.settled q =
     λ q n. ap (λ fs. front_of fs q) e ∙ get_or-set_other old.progress.settled p q f [] n in
     let here : front_of settled p ≡ f = ap (λ fs. front_of fs p) e ∙ get_or-set_same old.progress.settled p f [] there in
-    record {
-      well_formed = s.well_formed;
-      one_each = record {
-        parts = record { tables = ones.parts.tables; queues = ones.parts.queues; logs = ones.parts.logs };
-        sources = ones.sources;
-        outputs = ones.outputs;
-        low = ones.low;
-        failed = ones.failed;
-        lost = ones.lost;
-      };
-      progress = of_flow;
-      traces = s.traces;
-      low = s.low;
-      tables = s.tables;
-      queues = s.queues;
-      logs = s.logs;
-      entries = s.entries;
-      live = s.live;
-      traced = s.traced;
-      ready = record {
-        edges = λ e c. s.ready.edges e (record { there = c.there; live = c.live; some = c.some });
-        owing = λ q c. s.ready.owing q (record { there = c.there; live = c.live; some = c.some });
-        growing = λ q c. elim (cases_eq q p) [
-          | inl same ↦
-              absurd (both_ways (has_more (front_of old.progress.kept p) f) none
-              (ap (has_more (front_of old.progress.kept p)) (sym here) ∙ subst (λ n. has_more (front_of old.progress.kept n) (front_of settled n) ≡ true) same c.more))
-          | inr n ↦ s.ready.growing q (record { there = c.there; more = ap (has_more (front_of old.progress.kept q)) (sym (other q n)) ∙ c.more })
-        ];
-        outputs = λ o c. elim (cases_eq o p) [
-          | inl same ↦ subst (Contains outputs) (sym same) put.there
-          | inr n ↦ put.stays o (s.ready.outputs o (record {
-            there = c.there;
-            live = c.live;
-            output = c.output;
-            number = c.number;
-            settled = ap (λ g. inside g ((output_of old o).bound ∷ [])) (sym (other o n)) ∙ c.settled;
-            some = c.some;
-          }))
-        ];
-        inputs = λ i c. s.ready.inputs i (record { there = c.there; live = c.live; input = c.input; some = c.some });
-      };
-    }
+    shaped-standing old (record old.progress { settled = settled }) old.traces (record old.ready { outputs = outputs }) s (of_flow, s.live) (traces-fit old s)
+    (record {
+      edges = s.ready.edges;
+      owing = s.ready.owing;
+      growing = λ q c. elim (cases_eq q p) [
+        | inl same ↦
+            absurd (both_ways (has_more (front_of old.progress.kept p) f) none
+            (ap (has_more (front_of old.progress.kept p)) (sym here) ∙ subst (λ n. has_more (front_of old.progress.kept n) (front_of settled n) ≡ true) same c.more))
+        | inr n ↦ s.ready.growing q (subst (λ g. IsGrown old.flow q (front_of old.progress.kept q) g) (other q n) c)
+      ];
+      outputs = λ o c. elim (cases_eq o p) [
+        | inl same ↦ subst (Contains outputs) (sym same) put.there
+        | inr n ↦ put.stays o (s.ready.outputs o
+            (subst (λ g. IsAcknowledgeable old.flow o (is_down old o) old.epochs (output_of old o) g) (other o n) c))
+      ];
+      inputs = s.ready.inputs;
+    })
 
 -- a node of which no more is kept than settled is taken out of the growing ones
 pub shaped-taken : (old : Running) (growing : List ℕ) (p : ℕ) → IsShaped old → IsTakenOut p old.ready.growing growing
     → has_more (front_of old.progress.kept p) (front_of old.progress.settled p) ≡ false → IsShaped (record old { ready = record old.ready { growing = growing } })
 shaped-taken old growing p s taken none =
-    let ones = s.one_each in
-    record {
-      well_formed = s.well_formed;
-      one_each = record {
-        parts = record { tables = ones.parts.tables; queues = ones.parts.queues; logs = ones.parts.logs };
-        sources = ones.sources;
-        outputs = ones.outputs;
-        low = ones.low;
-        failed = ones.failed;
-        lost = ones.lost;
-      };
-      progress = s.progress;
-      traces = s.traces;
-      low = s.low;
-      tables = s.tables;
-      queues = s.queues;
-      logs = s.logs;
-      entries = s.entries;
-      live = s.live;
-      traced = s.traced;
-      ready = record {
-        edges = λ e c. s.ready.edges e (record { there = c.there; live = c.live; some = c.some });
-        owing = λ q c. s.ready.owing q (record { there = c.there; live = c.live; some = c.some });
-        growing = λ q c. taken.stays q
-            (λ same. both_ways (has_more (front_of old.progress.kept p) (front_of old.progress.settled p)) none
-            (subst (λ n. has_more (front_of old.progress.kept n) (front_of old.progress.settled n) ≡ true) same c.more))
-            (s.ready.growing q (record { there = c.there; more = c.more }));
-        outputs = λ o c. s.ready.outputs o
-            (record { there = c.there; live = c.live; output = c.output; number = c.number; settled = c.settled; some = c.some });
-        inputs = λ i c. s.ready.inputs i (record { there = c.there; live = c.live; input = c.input; some = c.some });
-      };
-    }
+    shaped-standing old old.progress old.traces (record old.ready { growing = growing }) s (progress-fits old s) (traces-fit old s)
+    (record {
+      edges = s.ready.edges;
+      owing = s.ready.owing;
+      growing = λ q c. taken.stays q
+          (λ same. both_ways (has_more (front_of old.progress.kept p) (front_of old.progress.settled p)) none
+          (subst (λ n. has_more (front_of old.progress.kept n) (front_of old.progress.settled n) ≡ true) same c.more))
+          (s.ready.growing q c);
+      outputs = s.ready.outputs;
+      inputs = s.ready.inputs;
+    })
 
 -- a node settles this front of what is kept, and is then no more among the growing ones
 pub shaped-settling : (old mid : Running) (progress : Standing) (put taken : ReadyState) (p : ℕ) (f : Front) → IsShaped mid → mid.progress ≡ old.progress → mid.flow ≡ old.flow

@@ -32,7 +32,7 @@ use Rattle.fw_stands.proofs.FitLaws.{records_can_be_of_entries}
 use Rattle.fw_stands.proofs.LossLaws.{losses_stay}
 use Rattle.fw_stands.proofs.NumberLaws.{sender-there}
 use Rattle.fw_stands.proofs.StayingLaws.{writes-keep_parts}
-use Rattle.fw_running.proofs.SameStateLaws.{down-failed, idle-follows}
+use Rattle.fw_running.proofs.SameStateLaws.{down-failed, idle-follows, keep-stands}
 use Rattle.std.proofs.lemmas.Bool.{cond_both}
 use Rattle.fw_running.specs.declared.running.Running.{Running}
 use Rattle.fw_settle.specs.Checkpoints.{AsksCheckpoint, CanBeMadeAt, MayTakeCheckpoint}
@@ -86,26 +86,8 @@ writes-stand sys old keep before after state writes step s t entries stored =
 pub kept-stands : (sys : System) (old new : Running) (before after : Option Records) (state : Machine) → Stands sys old before state → ChangesKeep old new
     → KeepsEntries old.parts.keep.entries new.parts.keep.entries before after → Stands sys new after state
 kept-stands sys old new before after state s c k =
-    subst (λ (r : Running). Stands sys r after state) (sym c) (record {
-      flow = s.flow;
-      well_formed = s.well_formed;
-      reached = s.reached;
-      settled = s.settled;
-      failed = s.failed;
-      low = s.low;
-      epochs = s.epochs;
-      tables = s.tables;
-      queues = s.queues;
-      logs = s.logs;
-      outputs = s.outputs;
-      sources = s.sources;
-      progress = s.progress;
-      traces = s.traces;
-      lost = s.lost;
-      entries = subst (λ es. AreEntriesOf sys state es (uncollected state)) (sym k.entries) s.entries;
-      stored = subst (λ es. AreStored sys state after es (uncollected state)) (sym k.entries)
-          (kept_bytes_are_stored sys state old.parts.keep.entries (uncollected state) before after k.change k.records k.bytes s.stored);
-    })
+    subst (λ (r : Running). Stands sys r after state) (sym c) (keep-stands sys old new.parts.keep before after state s k.entries
+    (kept_bytes_are_stored sys state old.parts.keep.entries (uncollected state) before after k.change k.records k.bytes s.stored))
 
 -- ---- a write is acknowledged
 

@@ -3,14 +3,14 @@ use Rattle.std.proofs.Common.{◌≡◌, ℕ, ◌+◌, Bool, false, cond, List, 
 use Rattle.std.specs.Prelude.{filter}
 use Rattle.std.specs.List.{AllByRecursion}
 use Rattle.std.specs.Ordering.{is_eq, is_gt}
-use Rattle.std.proofs.lemmas.Bool.{cond_both, cases_Bool, cases_lt}
+use Rattle.std.proofs.lemmas.Bool.{cond_both, cases_Bool}
 use Rattle.fw_time.proofs.EachLaws.{each-kept}
 use Rattle.fw_flow.specs.declared.event.Message.{Message}
 use Rattle.fw_flow.specs.Message.{message_cmp, messages_without, messages_less}
 use Rattle.fw_flow.proofs.MessageLaws.{message_total, message_cmp-same, message_cmp-equal}
 use Rattle.fw_model.proofs.AscentLaws.{IsAscentOf, ascending-put, each-put, put-weigh, same_by_copies}
 use Rattle.fw_model.proofs.WeightLaws.{weigh}
-use Rattle.fw_model.proofs.SentLaws.{copy, without-weigh}
+use Rattle.fw_model.proofs.SentLaws.{copy}
 use Rattle.fw_model.specs.SortedMessages.{with_message, sorted_messages, with_messages}
 
 -- ---- ascending lists
@@ -123,35 +123,6 @@ sorted_messages-append [] ys = refl
 sorted_messages-append (x ∷ xs) ys = ap (with_message x) (sorted_messages-append xs ys)
 
 -- ---- in order without some messages
-
-none-without : (m : Message) (xs : List Message) → weigh (copy m) xs ≡ 0 → messages_without m xs ≡ xs
-unfolding weigh
-none-without m [] z = refl
-none-without m (x ∷ xs) z = elim (cases_Bool (is_eq (message_cmp m x))) [
-  | inl e ↦ let one : copy m x ≡ 1 = ap (λ b. cond b 1 0) e in absurd (omega arith)
-  | inr e ↦ ap (λ b. cond b xs (x ∷ messages_without m xs)) e ∙ ap (λ ys. x ∷ ys) (none-without m xs (omega arith))
-]
-
--- a list without a message, in order, is the list in order without it
-pub sorted_messages-without : (m : Message) (xs : List Message) → sorted_messages (messages_without m xs) ≡ messages_without m (sorted_messages xs)
-sorted_messages-without m xs = elim (cases_lt 0 (weigh (copy m) xs)) [
-  | inl l ↦
-      let there = sorted_messages-weigh (copy m) xs in
-      same_from_copies (sorted_messages (messages_without m xs)) (messages_without m (sorted_messages xs)) (ascending-sorted_messages (messages_without m xs)) (ascending-without m (sorted_messages xs) (ascending-sorted_messages xs))
-      (λ q.
-      let a = sorted_messages-weigh (copy q) (messages_without m xs) in
-      let b = without-weigh (copy q) m xs l in
-      let c = without-weigh (copy q) m (sorted_messages xs) (omega arith) in
-      let d = sorted_messages-weigh (copy q) xs in
-      omega arith)
-  | inr l ↦
-      let there = sorted_messages-weigh (copy m) xs in
-      ap sorted_messages (none-without m xs (omega arith)) ∙ sym (none-without m (sorted_messages xs) (omega arith))
-]
-
-pub sorted_messages-less : (xs ds : List Message) → sorted_messages (messages_less xs ds) ≡ messages_less (sorted_messages xs) ds
-sorted_messages-less xs [] = refl
-sorted_messages-less xs (d ∷ ds) = sorted_messages-without d (messages_less xs ds) ∙ ap (messages_without d) (sorted_messages-less xs ds)
 
 -- ---- in order, what passes a test
 

@@ -82,7 +82,7 @@ notified-told flow p s (Notify q t ∷ h) n =
     ])
 
 -- where something was delivered and nothing is owed, it was told
-paid-told : (sys : System) (h : List Event) (p : ℕ) (s : Stamp) → is_notified_kind (kind_of sys.flow p) ≡ true → was_delivered_to sys.flow p s h ≡ true
+pub paid-told : (sys : System) (h : List Event) (p : ℕ) (s : Stamp) → is_notified_kind (kind_of sys.flow p) ≡ true → was_delivered_to sys.flow p s h ≡ true
     → is_owed_notice sys h p s ≡ false → is_told (events_at sys.flow p h) s ≡ true
 paid-told sys h p s n d o = elim (cases_Bool (was_notified p s h)) [
   | inl i ↦ notified-told sys.flow p s h i
@@ -123,7 +123,7 @@ settled-told sys w steps outcomes last r p n =
     (λ s d i. paid-told sys h p s n d (full.paid p s i))
 
 -- recs by tests that find the same of each delivery
-same-recs : (test other : Stamp → Bool) (vs : List Event) → EachDelivery (λ s. test s ≡ other s) vs
+pub same-recs : (test other : Stamp → Bool) (vs : List Event) → EachDelivery (λ s. test s ≡ other s) vs
     → delivered_recs (λ d s. test s) vs ≡ delivered_recs (λ d s. other s) vs
 same-recs test other [] a = refl
 same-recs test other (Inject s x ∷ vs) a = same-recs test other vs a
@@ -134,7 +134,7 @@ same-recs test other (Notify q t ∷ vs) a = same-recs test other vs a
 
 -- ---- totals
 
-bounds-total : (flow : Dataflow) (p : ℕ) → kind_of flow p ≡ Total → bounds_of flow p ≡ record { greatest = greatest_number ∷ [] }
+pub bounds-total : (flow : Dataflow) (p : ℕ) → kind_of flow p ≡ Total → bounds_of flow p ≡ record { greatest = greatest_number ∷ [] }
 unfolding bounds_of
 bounds-total flow p is = ap (λ k. bounds_of_domain flow (domain_of_kind flow k)) is
 
@@ -159,7 +159,7 @@ both-tests false false true d f g h k = k (h refl)
 both-tests false false false true f g h k = k refl
 both-tests false false false false f g h k = refl
 
-lesser-from : (s t : Stamp) → leq s t ≡ true → same s t ≡ false → lesser s t ≡ true
+pub lesser-from : (s t : Stamp) → leq s t ≡ true → same s t ≡ false → lesser s t ≡ true
 lesser-from s t i j =
     let o : leq t s ≡ false = sym (ap (λ b. b && leq t s) i) ∙ j in
     and_from (leq s t) (not (leq t s)) i (ap not o)

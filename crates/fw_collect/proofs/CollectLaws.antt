@@ -258,7 +258,7 @@ written-same sys h low p q (written.Event event) (logged_event serial) e is =
 
 -- ---- lists side by side
 
-zip-one : {A B : Type 0} (R : A → B → Type 0) (x y : Bool) (a : A) (b : B) (xs : List A) (ys : List B) → x ≡ y → R a b → AllZip R xs ys
+pub zip-one : {A B : Type 0} (R : A → B → Type 0) (x y : Bool) (a : A) (b : B) (xs : List A) (ys : List B) → x ≡ y → R a b → AllZip R xs ys
     → AllZip R (cond x (a ∷ xs) xs) (cond y (b ∷ ys) ys)
 zip-one R true true a b xs ys e r rest = (r, rest)
 zip-one R true false a b xs ys e r rest = absurd (true≢false e)

@@ -7,12 +7,12 @@ use Rattle.fw_time.specs.Stamp.{Stamp, in_domain, leq, same}
 use Rattle.fw_time.specs.declared.stamp.Bounds.{Bounds}
 use Rattle.fw_time.proofs.StampLaws.{same-is}
 use Rattle.fw_frontier.specs.Front.{Front, IsCanonical, IsFrontOf, frontier_of, is_within, same_front}
-use Rattle.fw_frontier.specs.Frontier.{Frontier, IsFrontier, Within, cover, meet, nothing, some_above}
+use Rattle.fw_frontier.specs.Frontier.{Frontier, IsFrontier, Within, cover, everything, meet, nothing, some_above}
 use Rattle.fw_frontier.proofs.NamesLaws.{frontier-closed, is_within-holds}
 use Rattle.fw_frontier.proofs.SameLaws.{same_front-is}
 use Rattle.fw_flow.specs.Dataflow.{System, bounds_of, kind_of, policy_of, receiver, sender}
 use Rattle.fw_flow.specs.NodeFunction.{event_node, event_stamp}
-use Rattle.fw_flow.specs.Projection.{all_inside}
+use Rattle.fw_flow.specs.Projection.{all_inside, phi}
 use Rattle.fw_flow.specs.Restoring.{can_resend, way_of}
 use Rattle.fw_flow.specs.WellFormed.{IsWellFormed}
 use Rattle.fw_flow.specs.declared.choice.Choice.{Choice}
@@ -23,7 +23,7 @@ use Rattle.fw_flow.specs.declared.event.Message.{Message}
 use Rattle.fw_flow.specs.declared.restoring.Restoring.{Restoring}
 use Rattle.fw_flow.specs.declared.restoring.Restoring.TheVariants.{Anything, Batches, Bound, Checkpoints, Events}
 use Rattle.fw_flow.specs.declared.step.Step.TheVariants.{Recover}
-use Rattle.fw_model.specs.Choice.{AllLogged, ComesFromSender, HasCheckpoint, HasItsNotices, HoldsLow, IsCandidate, IsChoiceWithin, IsConsistent, IsCutWithin, IsLargest, IsLogged, IsNoticeKept, IsRestorable, LiesInReceiver, NoticeComesFromSender, View, is_counted, cut_of, ever, kept, kept_of, until}
+use Rattle.fw_model.specs.Choice.{AllLogged, ComesFromSender, HasCheckpoint, HasItsNotices, HoldsLow, IsCandidate, IsChoiceWithin, IsConsistent, IsCutWithin, IsLargest, IsLogged, IsNoticeKept, IsRestorable, LiesInReceiver, NoticeComesFromSender, View, is_counted, cut_of, ever, kept, kept_of, until, notice_of}
 use Rattle.fw_model.specs.Covers.{covers_in, discarded_at, notified_inside, set_of, stamps_from, stamps_inside, takes_its_cut, takes_its_notices, tallies_in}
 use Rattle.fw_model.specs.History.{delivered_messages, injected_count, is_exhausted, sent_messages}
 use Rattle.fw_model.specs.Machine.{Machine, SerialEvent, Write, Written, ack_count_of, checkpoint, events, front_of, is_failed, logged_event, no_stamps}
@@ -31,8 +31,9 @@ use Rattle.fw_model.specs.Steps.{IsSettledCut, StepsTo, checkpoint_front, cuts, 
 use Rattle.fw_model.proofs.Decisions.{two_ways}
 use Rattle.fw_model.proofs.FilteredLaws.{set-frontier}
 use Rattle.fw_model.proofs.LowLaws.{none-within}
+use Rattle.fw_model.proofs.PhiLaws.{phi-monotone}
 use Rattle.fw_examples.proofs.Fronts.{canonical_by, cover_within_by, each_below, each_below-at, is_canonical, meet_by, meet_other, within_outside}
-use Rattle.fw_examples.proofs.Settling.{from_psi, from_sender, into_phi, is_from_sender, is_plain, one_domain}
+use Rattle.fw_examples.proofs.Settling.{everything_from, from_psi, from_sender, into_phi, is_from_sender, is_plain, one_domain}
 
 -- where no outside stamp of the second list is inside the first, the first lies within the second
 pub lies : (b : Bounds) (xs ys : Front) → is_within xs ys ≡ true → Within (frontier_of b xs) (frontier_of b ys)
@@ -77,18 +78,43 @@ delivered_in sys state d (At f) from same_bounds h = go (takes_its_cut (way_of s
         (stamps_inside (set_of sys.flow (receiver sys.flow d) (At f)) (delivered_messages (events state.history) d))
         (set_at sys (sender sys.flow d) (receiver sys.flow d) from same_bounds) k
 
--- whether the first inclusion holds on edge d, out of a node that sends at the stamps of its events
+-- what counts as delivered is of the domain of the receiver
+delivered_domain : (sys : System) (state : Machine) (d : ℕ) (cut : Cut) → Within ((covers_in sys state).delivered d cut) (everything (bounds_of sys.flow (receiver sys.flow d)))
+delivered_domain sys state d Present = λ t i. (and_parts _ _ i).0
+delivered_domain sys state d (At f) = go (takes_its_cut (way_of sys.flow (receiver sys.flow d)))
+  where
+    go : (b : Bool)
+        → Within (if b then frontier_of (bounds_of sys.flow (receiver sys.flow d)) f else (tallies_in sys state).delivered d (At f)) (everything (bounds_of sys.flow (receiver sys.flow d)))
+    go true = λ t i. (and_parts _ _ i).0
+    go false = λ t i. (and_parts _ _ i).0
+
+-- whether a node stays as it is
+abbrev pub is_present : Cut → Bool
+is_present Present = true
+is_present (At f) = false
+
+-- what comes from a node that stays as it is
+from_present : (sys : System) (h : List Event) → IsWellFormed sys.flow → (d : ℕ) → d < length sys.flow.edges → (cut : Cut) → is_present cut ≡ true
+    → Within (everything (bounds_of sys.flow (receiver sys.flow d))) (phi sys h d (set_of sys.flow (sender sys.flow d) cut))
+from_present sys h formed d l Present k = everything_from sys h formed d l
+from_present sys h formed d l (At f) k = absurd (false≢true k)
+
+-- whether the first inclusion holds on edge d, out of a node that stays as it is or that sends at the stamps of its events
 abbrev pub is_delivered_kept : System → Machine → Choice → ℕ → Bool
 is_delivered_kept sys state choice d =
-    is_plain (kind_of sys.flow (sender sys.flow d))
-    && is_delivered_in sys state d (cut_of choice (receiver sys.flow d)) (cut_of choice (sender sys.flow d))
+    is_present (cut_of choice (sender sys.flow d))
+    || (is_plain (kind_of sys.flow (sender sys.flow d)) && is_delivered_in sys state d (cut_of choice (receiver sys.flow d)) (cut_of choice (sender sys.flow d)))
 
 pub delivered_by : (sys : System) (state : Machine) (choice : Choice) → IsWellFormed sys.flow → each_below (is_delivered_kept sys state choice) (length sys.flow.edges) ≡ true
     → (d : ℕ) → d < length sys.flow.edges → ComesFromSender sys.flow (covers_in sys state) choice d
 delivered_by sys state choice formed h d l t i =
-    let a = and_parts _ _ (each_below-at (is_delivered_kept sys state choice) (length sys.flow.edges) h d l) in
+    ⊎_elim
+    (λ k. from_present sys (events state.history) formed d l (cut_of choice (sender sys.flow d)) k t (delivered_domain sys state d (cut_of choice (receiver sys.flow d)) t i))
+    (λ k.
+    let a = and_parts _ _ k in
     into_phi sys (events state.history) d _ a.0 (set-frontier sys (sender sys.flow d) (cut_of choice (sender sys.flow d))) t
-    (delivered_in sys state d (cut_of choice (receiver sys.flow d)) (cut_of choice (sender sys.flow d)) (one_domain sys.flow formed d l a.0) a.1 t i)
+    (delivered_in sys state d (cut_of choice (receiver sys.flow d)) (cut_of choice (sender sys.flow d)) (one_domain sys.flow formed d l a.0) a.1 t i))
+    (or_cases _ _ (each_below-at (is_delivered_kept sys state choice) (length sys.flow.edges) h d l))
 
 -- whether what node p sent on edge e inside a set, by the way in which it is restored, lies in what the receiver q keeps by a cut
 abbrev pub is_discarded_at : System → Machine → ℕ → Restoring → Front → ℕ → Cut → Bool
@@ -342,6 +368,11 @@ consistent_by sys state lost view choice formed one_cut one_notice o h =
 -- the epochs below fewer lie within those below more
 pub until_more : (b : Bounds) (k n : ℕ) → k ≤ n → Within (frontier_of b (until k)) (frontier_of b (until n))
 until_more b k n l = lies b (until k) (until n) (grind (arith, nat_tests))
+
+-- a notice lies within at the receiver of an edge, where what that of its sender lies within projects to within
+pub next_notice : (sys : System) (state : Machine) (offered : ℕ → Cut → Type 0) (other : Choice) → IsConsistent sys state offered other → (d : ℕ) → d < length sys.flow.edges → (f g : Frontier)
+    → Within (phi sys (events state.history) d f) g → Within (notice_of sys.flow other (sender sys.flow d)) f → Within (notice_of sys.flow other (receiver sys.flow d)) g
+next_notice sys state offered other is d l f g along w t i = along t (phi-monotone sys (events state.history) d (notice_of sys.flow other (sender sys.flow d)) f w t (is.notices d l t i))
 
 -- whether each checkpoint of node p that counts lies within
 abbrev pub are_checkpoints_within : View → ℕ → Front → List Write → Bool

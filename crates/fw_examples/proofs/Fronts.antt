@@ -244,12 +244,3 @@ within_three m n k f g h (x ∷ []) l = grind (arith, nat_tests)
 within_three m n k f g h (x ∷ y ∷ []) l = grind (arith, nat_tests)
 within_three m n k f g h (x ∷ y ∷ z ∷ []) l = grind (arith, nat_tests, h x y z)
 within_three m n k f g h (x ∷ y ∷ z ∷ w ∷ t) l = grind (arith, nat_tests)
-
--- what holds behind a test, where what held there brings it
-pub and_more : (a b c : Bool) → (b ≡ true → c ≡ true) → (a && b) ≡ true → (a && c) ≡ true
-and_more true b c f h = f h
-and_more false b c f h = h
-
--- the same of two
-pub both_more : (a b c d : Bool) → (a ≡ true → c ≡ true) → (b ≡ true → d ≡ true) → (a && b) ≡ true → (c && d) ≡ true
-both_more a b c d f g h = let k : (a ≡ true) × (b ≡ true) = and_parts a b h in and_from c d (f k.0) (g k.1)

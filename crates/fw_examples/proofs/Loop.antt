@@ -4,12 +4,12 @@ use Rattle.std.proofs.Common.{List, None, Some, [], ap, arith, drop, false, get_
 use Rattle.std.proofs.lemmas.Bool.{and_from, and_parts}
 use Rattle.std.proofs.lemmas.Bool.Decides.{nat_tests}
 use Rattle.fw_bag.specs.declared.rec.Rec.{Rec}
-use Rattle.fw_time.specs.Stamp.{Stamp, counter, in_domain, leq, nest, outer, same}
+use Rattle.fw_time.specs.Stamp.{Stamp, in_domain, leq, same}
 use Rattle.fw_frontier.specs.Front.{inside}
 use Rattle.fw_frontier.specs.Frontier.{Frontier, Within}
 use Rattle.fw_flow.specs.Dataflow.{batches_of, bounds_of, declared_parent, in_edges, kind_of, loops_of, max_of, parent_of, policy_of, receiver, sender}
 use Rattle.fw_flow.specs.NodeFunction.{sends}
-use Rattle.fw_flow.specs.Projection.{phi, psi}
+use Rattle.fw_flow.specs.Projection.{phi}
 use Rattle.fw_flow.specs.WellFormed.{IsWellFormedSystem}
 use Rattle.fw_flow.specs.WholeBags.{Timed, recs_where, timed_recs}
 use Rattle.fw_flow.specs.declared.choice.Choice.{Choice}
@@ -18,8 +18,7 @@ use Rattle.fw_flow.specs.declared.choice.Cut.TheVariants.{At}
 use Rattle.fw_flow.specs.declared.step.Step.{Step}
 use Rattle.fw_flow.specs.declared.step.Step.TheVariants.{Recover}
 use Rattle.fw_flow.proofs.MessageLaws.{less-none}
-use Rattle.fw_model.specs.Choice.{IsConsistent, IsCutWithin, IsLargest, cut_of, kept, kept_of, notice_of}
-use Rattle.fw_model.specs.Covers.{covers_in}
+use Rattle.fw_model.specs.Choice.{IsConsistent, IsCutWithin, IsLargest, cut_of, kept, notice_of}
 use Rattle.fw_model.specs.Denotation.{IsDenotation, bag_at, rounds}
 use Rattle.fw_model.specs.History.{IsAdmissible, IsComplete, IsLegal, delivered_messages, pending_messages, some_at}
 use Rattle.fw_model.specs.Machine.{Machine, events, first_state, is_failed}
@@ -27,15 +26,14 @@ use Rattle.fw_model.specs.Steps.{Outcome, Run, StepsTo, cuts, did, offers, silen
 use Rattle.fw_model.proofs.Decisions.{two_ways}
 use Rattle.fw_model.proofs.DomainLaws.{has_epochs}
 use Rattle.fw_model.proofs.GoingOn.{runs-go_on}
-use Rattle.fw_model.proofs.PhiLaws.{or_monotone}
 use Rattle.fw_model.proofs.RecoveryLaws.{runs-legal}
 use Rattle.fw_examples.specs.Flows.{loop_counts_up, pair, two_batches}
 use Rattle.fw_examples.specs.Loop.{IsRestored, IsUnderWay, TwoBatchesCountUp, complete_at, complete_fronts, counted_rounds, counting_failed, message, outcomes_left, outcomes_shown, restored, round, steps_left, steps_taken, still_pending, under_way, with_serials, without_the_second}
 use Rattle.fw_examples.specs.Witnesses.{LoopIsReached}
-use Rattle.fw_examples.proofs.Choosing.{canonical_notices, notified_by, offered_by, offered_within, own_by, recovers_to, set_within}
-use Rattle.fw_examples.proofs.Fronts.{all_seven, and_more, both_more, by_seven, not_above, within_one, within_two}
+use Rattle.fw_examples.proofs.Choosing.{canonical_notices, delivered_by, discarded_by, next_notice, notified_by, offered_by, offered_within, own_by, recovers_to, set_within}
+use Rattle.fw_examples.proofs.Fronts.{all_seven, by_seven, not_above, within_one, within_two}
 use Rattle.fw_examples.proofs.Plays.{Move, acknowledge, after_all, deliver, fail, inject, plays}
-use Rattle.fw_examples.proofs.Settling.{admissible_with, settles, settles_complete}
+use Rattle.fw_examples.proofs.Settling.{admissible_with, next_within, settles, settles_complete}
 use Rattle.fw_examples.proofs.WellFormed.{is_well_formed, system_by}
 use Rattle.fw_flow.specs.declared.step.Step.TheVariants as step
 
@@ -109,19 +107,10 @@ most_feedback other adm t h =
     (and_from _ _ (above (0 ∷ 2 ∷ []) refl (kept_out other adm 3 (0 ∷ 2 ∷ []) refl))
     (and_from _ _ (above (1 ∷ 0 ∷ []) refl (kept_out other adm 3 (1 ∷ 0 ∷ []) refl)) refl))
 
--- phi of the feedback grows with its frontier
-pub feeds_more : (f g : Frontier) → Within f g → (t : Stamp) → phi two_batches under_way 4 f t ≡ true → phi two_batches under_way 4 g t ≡ true
-unfolding phi kind_of sender receiver bounds_of max_of parent_of declared_parent loops_of
-feeds_more f g w t h = and_more _ _ _ (or_monotone _ _ _ (w (nest (outer t) (counter t - 1)))) h
-
-fed_back : Within (phi two_batches under_way 4 (complete_at 4)) (complete_at 2)
-unfolding phi kind_of sender receiver bounds_of max_of parent_of declared_parent loops_of
-fed_back = within_two 4294967295 3 _ _ (λ x y hx hy k. grind (arith, nat_tests))
-
 most_mixing : (other : ℕ → Frontier) → IsAdmissible two_batches under_way other → Within (other 2) (complete_at 2)
-unfolding kind_of sender receiver bounds_of max_of parent_of declared_parent loops_of
-most_mixing other adm t h =
-    fed_back t (feeds_more (other 4) (complete_at 4) (most_feedback other adm) t (adm.follows 4 t h))
+unfolding phi kind_of sender receiver bounds_of max_of parent_of declared_parent loops_of
+most_mixing other adm =
+    next_within two_batches under_way other adm 4 (complete_at 4) (complete_at 2) (within_two 4294967295 3 _ _ (λ x y hx hy k. grind (arith, nat_tests))) (most_feedback other adm)
 
 most_counting : (other : ℕ → Frontier) → IsAdmissible two_batches under_way other → Within (other 3) (complete_at 3)
 unfolding phi kind_of sender receiver bounds_of max_of sends batches_of parent_of declared_parent loops_of
@@ -140,21 +129,9 @@ most_leaving other adm t h =
     and_from _ _ ((adm.frontier 5).inside_domain t h)
     (and_from _ _ (not_above (bounds_of loop_counts_up 5) (other 5) (adm.frontier 5) (0 ∷ 0 ∷ []) refl (kept_out other adm 5 (0 ∷ 0 ∷ []) refl) t h) refl)
 
--- phi of the leave grows with its frontier
-pub leaves_more : (f g : Frontier) → Within f g → (t : Stamp) → phi two_batches under_way 6 f t ≡ true → phi two_batches under_way 6 g t ≡ true
-unfolding phi kind_of sender receiver bounds_of max_of parent_of declared_parent loops_of
-leaves_more f g w t h =
-    and_more _ _ _
-    (both_more _ _ _ _ (w (nest t 3)) (both_more _ _ _ _ (w (nest t 2)) (both_more _ _ _ _ (w (nest t 1)) (w (nest t 0))))) h
-
-left : Within (phi two_batches under_way 6 (complete_at 5)) (complete_at 6)
-unfolding phi kind_of sender receiver bounds_of max_of parent_of declared_parent loops_of
-left = within_one 4294967295 _ _ (λ x hx k. grind (arith, nat_tests))
-
 most_output : (other : ℕ → Frontier) → IsAdmissible two_batches under_way other → Within (other 6) (complete_at 6)
-unfolding kind_of sender receiver bounds_of max_of parent_of declared_parent loops_of
-most_output other adm t h =
-    left t (leaves_more (other 5) (complete_at 5) (most_leaving other adm) t (adm.follows 6 t h))
+unfolding phi kind_of sender receiver bounds_of max_of parent_of declared_parent loops_of
+most_output other adm = next_within two_batches under_way other adm 6 (complete_at 5) (complete_at 6) (within_one 4294967295 _ _ (λ x hx k. grind (arith, nat_tests))) (most_leaving other adm)
 
 most : (other : ℕ → Frontier) → IsAdmissible two_batches under_way other → (p : ℕ) → Within (other p) (complete_at p)
 most other adm = all_seven _
@@ -173,30 +150,6 @@ under_way_is_complete = record { admissible = admissible_with two_batches under_
 
 -- ---- the choice of the recovery is the largest
 
-delivered_kept : (d : ℕ) → d < 7
-    → Within ((covers_in two_batches counting_failed).delivered d (cut_of restored (receiver loop_counts_up d))) (phi two_batches (events (with_serials under_way)) d (kept_of two_batches.flow restored (sender loop_counts_up d)))
-unfolding phi kind_of policy_of sender receiver bounds_of max_of parent_of declared_parent loops_of
-delivered_kept = by_seven _
-    (within_one 4294967295 _ _ (λ x hx k. grind (arith, nat_tests)))
-    (within_two 4294967295 3 _ _ (λ x y hx hy k. grind (arith, nat_tests)))
-    (within_two 4294967295 3 _ _ (λ x y hx hy k. grind (arith, nat_tests)))
-    (within_two 4294967295 3 _ _ (λ x y hx hy k. grind (arith, nat_tests)))
-    (within_two 4294967295 3 _ _ (λ x y hx hy k. grind (arith, nat_tests)))
-    (within_two 4294967295 3 _ _ (λ x y hx hy k. grind (arith, nat_tests)))
-    (within_one 4294967295 _ _ (λ x hx k. grind (arith, nat_tests)))
-
-discarded_kept : (e : ℕ) → e < 7
-    → Within ((covers_in two_batches counting_failed).discarded e (cut_of restored (sender loop_counts_up e))) (kept_of two_batches.flow restored (receiver loop_counts_up e))
-unfolding psi kind_of policy_of sender receiver bounds_of max_of parent_of declared_parent loops_of
-discarded_kept = by_seven _
-    (λ t k. (and_parts _ _ k).0)
-    (λ t k. (and_parts _ _ k).0)
-    (λ t k. cc)
-    (λ t k. (and_parts _ _ k).0)
-    (λ t k. (and_parts _ _ k).0)
-    (λ t k. (and_parts _ _ k).0)
-    (λ t k. (and_parts _ _ k).0)
-
 notices_kept : (d : ℕ) → d < 7
     → Within (notice_of two_batches.flow restored (receiver loop_counts_up d)) (phi two_batches (events (with_serials under_way)) d (notice_of two_batches.flow restored (sender loop_counts_up d)))
 unfolding phi kind_of policy_of sender receiver bounds_of max_of parent_of declared_parent loops_of
@@ -210,14 +163,14 @@ notices_kept = by_seven _
     (within_one 4294967295 _ _ (λ x hx k. grind (arith, nat_tests)))
 
 consistent : IsConsistent two_batches counting_failed (offers two_batches counting_failed) restored
-unfolding kind_of policy_of sender receiver bounds_of max_of parent_of declared_parent loops_of
+unfolding kind_of policy_of sender receiver bounds_of max_of parent_of declared_parent loops_of batches_of sends
 consistent = record {
   one_cut_each = refl;
   one_notice_each = refl;
   offered = offered_by two_batches counting_failed (is_failed counting_failed) kept restored refl;
   canonical = canonical_notices two_batches restored refl;
-  delivered = delivered_kept;
-  discarded = discarded_kept;
+  delivered = delivered_by two_batches counting_failed restored is_well_formed refl;
+  discarded = discarded_by two_batches counting_failed restored is_well_formed refl;
   notified = notified_by two_batches counting_failed restored refl;
   own = own_by two_batches restored refl;
   notices = notices_kept;
@@ -247,25 +200,19 @@ leaving_notice : (other : Choice) → IsConsistent two_batches counting_failed (
 unfolding phi kind_of policy_of sender receiver bounds_of max_of parent_of declared_parent loops_of
 leaving_notice other ok t h = counting_notice other ok t (and_parts (in_domain (bounds_of loop_counts_up 5) t) (notice_of two_batches.flow other 3 t) (ok.notices 5 (lit< tt) t h)).1
 
-fed_back_within : Within (phi two_batches under_way 4 (notice_of two_batches.flow restored 4)) (notice_of two_batches.flow restored 2)
-unfolding phi kind_of policy_of sender receiver bounds_of max_of parent_of declared_parent loops_of
-fed_back_within = within_two 4294967295 3 _ _ (λ x y hx hy k. grind (arith, nat_tests))
-
-left_within : Within (phi two_batches under_way 6 (notice_of two_batches.flow restored 5)) (notice_of two_batches.flow restored 6)
-unfolding phi kind_of policy_of sender receiver bounds_of max_of parent_of declared_parent loops_of
-left_within = within_one 4294967295 _ _ (λ x hx k. grind (arith, nat_tests))
-
 mixing_notice : (other : Choice) → IsConsistent two_batches counting_failed (offers two_batches counting_failed) other
     → Within (notice_of two_batches.flow other 2) (notice_of two_batches.flow restored 2)
-unfolding kind_of policy_of sender receiver bounds_of max_of parent_of declared_parent loops_of
-mixing_notice other ok t h =
-    fed_back_within t (feeds_more (notice_of two_batches.flow other 4) (notice_of two_batches.flow restored 4) (feedback_notice other ok) t (ok.notices 4 (lit< tt) t h))
+unfolding phi kind_of policy_of sender receiver bounds_of max_of parent_of declared_parent loops_of
+mixing_notice other ok =
+    next_notice two_batches counting_failed (offers two_batches counting_failed) other ok 4 (lit< tt) (notice_of two_batches.flow restored 4) (notice_of two_batches.flow restored 2)
+    (within_two 4294967295 3 _ _ (λ x y hx hy k. grind (arith, nat_tests))) (feedback_notice other ok)
 
 output_notice : (other : Choice) → IsConsistent two_batches counting_failed (offers two_batches counting_failed) other
     → Within (notice_of two_batches.flow other 6) (notice_of two_batches.flow restored 6)
-unfolding kind_of policy_of sender receiver bounds_of max_of parent_of declared_parent loops_of
-output_notice other ok t h =
-    left_within t (leaves_more (notice_of two_batches.flow other 5) (notice_of two_batches.flow restored 5) (leaving_notice other ok) t (ok.notices 6 (lit< tt) t h))
+unfolding phi kind_of policy_of sender receiver bounds_of max_of parent_of declared_parent loops_of
+output_notice other ok =
+    next_notice two_batches counting_failed (offers two_batches counting_failed) other ok 6 (lit< tt) (notice_of two_batches.flow restored 5) (notice_of two_batches.flow restored 6)
+    (within_one 4294967295 _ _ (λ x hx k. grind (arith, nat_tests))) (leaving_notice other ok)
 
 notices_within : (other : Choice) → IsConsistent two_batches counting_failed (offers two_batches counting_failed) other
     → (p : ℕ) → p < 7 → Within (notice_of two_batches.flow other p) (notice_of two_batches.flow restored p)

@@ -13,8 +13,7 @@ use Rattle.fw_flow.specs.declared.choice.Cut.{Cut}
 use Rattle.fw_flow.specs.declared.choice.Cut.TheVariants.{At}
 use Rattle.fw_flow.specs.declared.step.Step.{Step}
 use Rattle.fw_flow.specs.declared.step.Step.TheVariants as step
-use Rattle.fw_model.specs.Choice.{IsConsistent, IsCutWithin, IsLargest, cut_of, kept, kept_of, notice_of}
-use Rattle.fw_model.specs.Covers.{covers_in}
+use Rattle.fw_model.specs.Choice.{IsConsistent, IsCutWithin, IsLargest, cut_of, kept, notice_of}
 use Rattle.fw_model.specs.History.{IsAdmissible, IsComplete, pending_messages, some_at}
 use Rattle.fw_model.specs.Machine.{Machine, events, first_state, front_of, is_failed}
 use Rattle.fw_model.specs.Steps.{Outcome, Run, StepsTo, cuts, did, offers, recovered_state, silent}
@@ -24,11 +23,11 @@ use Rattle.fw_model.proofs.PhiLaws.{phi-monotone}
 use Rattle.fw_examples.specs.Flows.{pair}
 use Rattle.fw_examples.specs.Loop.{message, with_serials}
 use Rattle.fw_examples.specs.Nested.{RecoversInsideInnerLoop, complete_once, counted_once, cut_inside, first_round, nested_loops, nested_steps, one_rec, second_count_failed, second_round}
-use Rattle.fw_examples.proofs.Choosing.{canonical_notices, notified_by, offered_by, offered_within, own_by, recovers_to, set_within}
+use Rattle.fw_examples.proofs.Choosing.{canonical_notices, delivered_by, discarded_by, next_notice, notified_by, offered_by, offered_within, own_by, recovers_to, set_within}
 use Rattle.fw_examples.proofs.Fronts.{all_eleven, by_eleven, by_twelve, not_above, within_one, within_three, within_two}
 use Rattle.fw_examples.proofs.Nested.{nested_is_well_formed}
 use Rattle.fw_examples.proofs.Plays.{Move, after_all, deliver, fail, inject, plays}
-use Rattle.fw_examples.proofs.Settling.{admissible_with, settles_complete}
+use Rattle.fw_examples.proofs.Settling.{admissible_with, next_within, settles_complete}
 
 -- ---- what is complete after the first round
 
@@ -62,9 +61,9 @@ most_before : (other : ℕ → Frontier) → IsAdmissible one_rec first_round ot
 most_before other adm p e t h = and_from _ _ ((adm.frontier p).inside_domain t h) (ap (λ os. inside os t) e)
 
 -- what lies within at the sender of an edge projects to within at its receiver
-projected : (other : ℕ → Frontier) → IsAdmissible one_rec first_round other → (e : ℕ) → e < 12 → Within (other (sender nested_loops e)) (complete_at (sender nested_loops e))
+projected : (other : ℕ → Frontier) → IsAdmissible one_rec first_round other → (e : ℕ) → Within (other (sender nested_loops e)) (complete_at (sender nested_loops e))
     → Within (other (receiver nested_loops e)) (phi one_rec first_round e (complete_at (sender nested_loops e)))
-projected other adm e lt w t h = phi-monotone one_rec first_round e (other (sender nested_loops e)) (complete_at (sender nested_loops e)) w t (adm.follows e t h)
+projected other adm e w t h = phi-monotone one_rec first_round e (other (sender nested_loops e)) (complete_at (sender nested_loops e)) w t (adm.follows e t h)
 
 most_feedback : (other : ℕ → Frontier) → IsAdmissible one_rec first_round other → Within (other 6) (complete_at 6)
 unfolding kind_of policy_of sender receiver bounds_of max_of parent_of declared_parent loops_of batches_of sends
@@ -78,30 +77,6 @@ most_leaving other adm t h =
     and_from _ _ ((adm.frontier 7).inside_domain t h)
     (and_from _ _ (not_above (bounds_of nested_loops 7) (other 7) (adm.frontier 7) (0 ∷ 0 ∷ 0 ∷ []) refl (kept_out other adm 8 (0 ∷ 0 ∷ 0 ∷ []) refl) t h) refl)
 
-left_outer : Within (phi one_rec first_round 9 (complete_at 7)) (complete_at 8)
-unfolding phi psi kind_of policy_of sender receiver bounds_of max_of parent_of declared_parent loops_of batches_of sends
-left_outer = within_two 4294967295 1 _ _ (λ x y hx hy h. grind (arith, nat_tests))
-
-left_last : Within (phi one_rec first_round 10 (complete_at 7)) (complete_at 9)
-unfolding phi psi kind_of policy_of sender receiver bounds_of max_of parent_of declared_parent loops_of batches_of sends
-left_last = within_two 4294967295 1 _ _ (λ x y hx hy h. grind (arith, nat_tests))
-
-fed_back_outer : Within (phi one_rec first_round 2 (complete_at 8)) (complete_at 2)
-unfolding phi psi kind_of policy_of sender receiver bounds_of max_of parent_of declared_parent loops_of batches_of sends
-fed_back_outer = within_two 4294967295 1 _ _ (λ x y hx hy h. grind (arith, nat_tests))
-
-entering : Within (phi one_rec first_round 3 (complete_at 2)) (complete_at 3)
-unfolding phi psi kind_of policy_of sender receiver bounds_of max_of parent_of declared_parent loops_of batches_of sends
-entering = within_two 4294967295 1 _ _ (λ x y hx hy h. grind (arith, nat_tests))
-
-counting : Within (phi one_rec first_round 6 (complete_at 4)) (complete_at 5)
-unfolding phi psi kind_of policy_of sender receiver bounds_of max_of parent_of declared_parent loops_of batches_of sends
-counting = within_three 4294967295 1 1 _ _ (λ x y z hx hy hz h. grind (arith, nat_tests))
-
-out_last : Within (phi one_rec first_round 11 (complete_at 9)) (complete_at 10)
-unfolding phi psi kind_of policy_of sender receiver bounds_of max_of parent_of declared_parent loops_of batches_of sends
-out_last = within_one 4294967295 _ _ (λ x hx h. grind (arith, nat_tests))
-
 -- where rounds of the inner loop meet, both edges count
 meeting : (t : Stamp) → phi one_rec first_round 4 (complete_at 3) t ≡ true → phi one_rec first_round 5 (complete_at 6) t ≡ true → complete_at 4 t ≡ true
 unfolding phi psi kind_of policy_of sender receiver bounds_of max_of parent_of declared_parent loops_of batches_of sends
@@ -111,47 +86,20 @@ meeting (x ∷ y ∷ []) a b = grind (arith, nat_tests)
 meeting (x ∷ y ∷ z ∷ []) a b = grind (arith, nat_tests)
 meeting (x ∷ y ∷ z ∷ w ∷ t) a b = grind (arith, nat_tests)
 
-most_left : (other : ℕ → Frontier) → IsAdmissible one_rec first_round other → Within (other 8) (complete_at 8)
-unfolding kind_of policy_of sender receiver bounds_of max_of parent_of declared_parent loops_of batches_of sends
-most_left other adm t h = left_outer t (projected other adm 9 (lit< tt) (most_leaving other adm) t h)
-
-most_last : (other : ℕ → Frontier) → IsAdmissible one_rec first_round other → Within (other 9) (complete_at 9)
-unfolding kind_of policy_of sender receiver bounds_of max_of parent_of declared_parent loops_of batches_of sends
-most_last other adm t h = left_last t (projected other adm 10 (lit< tt) (most_leaving other adm) t h)
-
-most_mixing : (other : ℕ → Frontier) → IsAdmissible one_rec first_round other → Within (other 2) (complete_at 2)
-unfolding kind_of policy_of sender receiver bounds_of max_of parent_of declared_parent loops_of batches_of sends
-most_mixing other adm t h = fed_back_outer t (projected other adm 2 (lit< tt) (most_left other adm) t h)
-
-most_entering : (other : ℕ → Frontier) → IsAdmissible one_rec first_round other → Within (other 3) (complete_at 3)
-unfolding kind_of policy_of sender receiver bounds_of max_of parent_of declared_parent loops_of batches_of sends
-most_entering other adm t h = entering t (projected other adm 3 (lit< tt) (most_mixing other adm) t h)
-
-most_meeting : (other : ℕ → Frontier) → IsAdmissible one_rec first_round other → Within (other 4) (complete_at 4)
-unfolding kind_of policy_of sender receiver bounds_of max_of parent_of declared_parent loops_of batches_of sends
-most_meeting other adm t h = meeting t (projected other adm 4 (lit< tt) (most_entering other adm) t h) (projected other adm 5 (lit< tt) (most_feedback other adm) t h)
-
-most_counting : (other : ℕ → Frontier) → IsAdmissible one_rec first_round other → Within (other 5) (complete_at 5)
-unfolding kind_of policy_of sender receiver bounds_of max_of parent_of declared_parent loops_of batches_of sends
-most_counting other adm t h = counting t (projected other adm 6 (lit< tt) (most_meeting other adm) t h)
-
-most_out : (other : ℕ → Frontier) → IsAdmissible one_rec first_round other → Within (other 10) (complete_at 10)
-unfolding kind_of policy_of sender receiver bounds_of max_of parent_of declared_parent loops_of batches_of sends
-most_out other adm t h = out_last t (projected other adm 11 (lit< tt) (most_last other adm) t h)
-
 most : (other : ℕ → Frontier) → IsAdmissible one_rec first_round other → (p : ℕ) → Within (other p) (complete_at p)
-most other adm = all_eleven _
-    (most_before other adm 0 refl)
-    (most_before other adm 1 refl)
-    (most_mixing other adm)
-    (most_entering other adm)
-    (most_meeting other adm)
-    (most_counting other adm)
-    (most_feedback other adm)
-    (most_leaving other adm)
-    (most_left other adm)
-    (most_last other adm)
-    (most_out other adm)
+unfolding phi psi kind_of policy_of sender receiver bounds_of max_of parent_of declared_parent loops_of batches_of sends
+most other adm =
+    let leaving : Within (other 7) (complete_at 7) = most_leaving other adm in
+    let left : Within (other 8) (complete_at 8) = next_within one_rec first_round other adm 9 (complete_at 7) (complete_at 8) (within_two 4294967295 1 _ _ (λ x y hx hy h. grind (arith, nat_tests))) leaving in
+    let last : Within (other 9) (complete_at 9) = next_within one_rec first_round other adm 10 (complete_at 7) (complete_at 9) (within_two 4294967295 1 _ _ (λ x y hx hy h. grind (arith, nat_tests))) leaving in
+    let mixing : Within (other 2) (complete_at 2) = next_within one_rec first_round other adm 2 (complete_at 8) (complete_at 2) (within_two 4294967295 1 _ _ (λ x y hx hy h. grind (arith, nat_tests))) left in
+    let entering : Within (other 3) (complete_at 3) = next_within one_rec first_round other adm 3 (complete_at 2) (complete_at 3) (within_two 4294967295 1 _ _ (λ x y hx hy h. grind (arith, nat_tests))) mixing in
+    let feedback : Within (other 6) (complete_at 6) = most_feedback other adm in
+    let met : Within (other 4) (complete_at 4) =
+    λ t h. meeting t (projected other adm 4 entering t h) (projected other adm 5 feedback t h) in
+    let counting : Within (other 5) (complete_at 5) = next_within one_rec first_round other adm 6 (complete_at 4) (complete_at 5) (within_three 4294967295 1 1 _ _ (λ x y z hx hy hz h. grind (arith, nat_tests))) met in
+    let out : Within (other 10) (complete_at 10) = next_within one_rec first_round other adm 11 (complete_at 9) (complete_at 10) (within_one 4294967295 _ _ (λ x hx h. grind (arith, nat_tests))) last in
+    all_eleven _ (most_before other adm 0 refl) (most_before other adm 1 refl) mixing entering met counting feedback leaving left last out
     (λ p. most_before other adm (suc (suc (suc (suc (suc (suc (suc (suc (suc (suc (suc p))))))))))) refl)
 
 first_round_is_complete : IsComplete one_rec first_round complete_at
@@ -159,40 +107,6 @@ unfolding kind_of policy_of sender receiver bounds_of max_of parent_of declared_
 first_round_is_complete = record { admissible = admissible_with one_rec first_round complete_once nested_is_well_formed refl follows; largest = most }
 
 -- ---- the choice of the recovery is the largest
-
-delivered_kept : (d : ℕ) → d < 12
-    → Within ((covers_in one_rec second_count_failed).delivered d (cut_of cut_inside (receiver nested_loops d))) (phi one_rec (events (with_serials (second_round ++ first_round))) d (kept_of one_rec.flow cut_inside (sender nested_loops d)))
-unfolding phi psi kind_of policy_of sender receiver bounds_of max_of parent_of declared_parent loops_of batches_of sends
-delivered_kept = by_twelve _
-    (within_one 4294967295 _ _ (λ x hx h. grind (arith, nat_tests)))
-    (within_two 4294967295 1 _ _ (λ x y hx hy h. grind (arith, nat_tests)))
-    (within_two 4294967295 1 _ _ (λ x y hx hy h. grind (arith, nat_tests)))
-    (within_two 4294967295 1 _ _ (λ x y hx hy h. grind (arith, nat_tests)))
-    (within_three 4294967295 1 1 _ _ (λ x y z hx hy hz h. grind (arith, nat_tests)))
-    (within_three 4294967295 1 1 _ _ (λ x y z hx hy hz h. grind (arith, nat_tests)))
-    (within_three 4294967295 1 1 _ _ (λ x y z hx hy hz h. grind (arith, nat_tests)))
-    (within_three 4294967295 1 1 _ _ (λ x y z hx hy hz h. grind (arith, nat_tests)))
-    (within_three 4294967295 1 1 _ _ (λ x y z hx hy hz h. grind (arith, nat_tests)))
-    (within_two 4294967295 1 _ _ (λ x y hx hy h. grind (arith, nat_tests)))
-    (within_two 4294967295 1 _ _ (λ x y hx hy h. grind (arith, nat_tests)))
-    (within_one 4294967295 _ _ (λ x hx h. grind (arith, nat_tests)))
-
-discarded_kept : (e : ℕ) → e < 12
-    → Within ((covers_in one_rec second_count_failed).discarded e (cut_of cut_inside (sender nested_loops e))) (kept_of one_rec.flow cut_inside (receiver nested_loops e))
-unfolding phi psi kind_of policy_of sender receiver bounds_of max_of parent_of declared_parent loops_of batches_of sends
-discarded_kept = by_twelve _
-    (λ t k. (and_parts _ _ k).0)
-    (λ t k. (and_parts _ _ k).0)
-    (λ t k. (and_parts _ _ k).0)
-    (λ t k. (and_parts _ _ k).0)
-    (λ t k. (and_parts _ _ k).0)
-    (λ t k. (and_parts _ _ k).0)
-    (λ t k. cc)
-    (λ t k. (and_parts _ _ k).0)
-    (λ t k. (and_parts _ _ k).0)
-    (λ t k. (and_parts _ _ k).0)
-    (λ t k. (and_parts _ _ k).0)
-    (λ t k. (and_parts _ _ k).0)
 
 notices_kept : (d : ℕ) → d < 12
     → Within (notice_of one_rec.flow cut_inside (receiver nested_loops d)) (phi one_rec (events (with_serials (second_round ++ first_round))) d (notice_of one_rec.flow cut_inside (sender nested_loops d)))
@@ -218,8 +132,8 @@ consistent = record {
   one_notice_each = refl;
   offered = offered_by one_rec second_count_failed (is_failed second_count_failed) kept cut_inside refl;
   canonical = canonical_notices one_rec cut_inside refl;
-  delivered = delivered_kept;
-  discarded = discarded_kept;
+  delivered = delivered_by one_rec second_count_failed cut_inside nested_is_well_formed refl;
+  discarded = discarded_by one_rec second_count_failed cut_inside nested_is_well_formed refl;
   notified = notified_by one_rec second_count_failed cut_inside refl;
   own = own_by one_rec cut_inside refl;
   notices = notices_kept;
@@ -239,100 +153,22 @@ counting_notice : (other : Choice) → IsConsistent one_rec second_count_failed 
     → Within (notice_of one_rec.flow other 5) (notice_of one_rec.flow cut_inside 5)
 counting_notice other ok t h = set_within one_rec 5 (cut_of other 5) counted_once (cut_within (cut_of other 5) (ok.offered 5 (lit< tt))) t (ok.own 5 (lit< tt) t h)
 
--- a notice projects along an edge
-projected_notice : (other : Choice) → IsConsistent one_rec second_count_failed (offers one_rec second_count_failed) other → (d : ℕ) → d < 12
-    → Within (notice_of one_rec.flow other (sender nested_loops d)) (notice_of one_rec.flow cut_inside (sender nested_loops d))
-    → Within (notice_of one_rec.flow other (receiver nested_loops d)) (phi one_rec (events (with_serials (second_round ++ first_round))) d (notice_of one_rec.flow cut_inside (sender nested_loops d)))
-projected_notice other ok d lt w t h =
-    phi-monotone one_rec (events (with_serials (second_round ++ first_round))) d (notice_of one_rec.flow other (sender nested_loops d)) (notice_of one_rec.flow cut_inside (sender nested_loops d)) w t
-    (ok.notices d lt t h)
-
-along_h : Within (phi one_rec (events (with_serials (second_round ++ first_round))) 7 (notice_of one_rec.flow cut_inside 5)) (notice_of one_rec.flow cut_inside 6)
-unfolding phi psi kind_of policy_of sender receiver bounds_of max_of parent_of declared_parent loops_of batches_of sends
-along_h = within_three 4294967295 1 1 _ _ (λ x y z hx hy hz h. grind (arith, nat_tests))
-
-along_i : Within (phi one_rec (events (with_serials (second_round ++ first_round))) 8 (notice_of one_rec.flow cut_inside 5)) (notice_of one_rec.flow cut_inside 7)
-unfolding phi psi kind_of policy_of sender receiver bounds_of max_of parent_of declared_parent loops_of batches_of sends
-along_i = within_three 4294967295 1 1 _ _ (λ x y z hx hy hz h. grind (arith, nat_tests))
-
-along_j : Within (phi one_rec (events (with_serials (second_round ++ first_round))) 9 (notice_of one_rec.flow cut_inside 7)) (notice_of one_rec.flow cut_inside 8)
-unfolding phi psi kind_of policy_of sender receiver bounds_of max_of parent_of declared_parent loops_of batches_of sends
-along_j = within_two 4294967295 1 _ _ (λ x y hx hy h. grind (arith, nat_tests))
-
-along_k : Within (phi one_rec (events (with_serials (second_round ++ first_round))) 10 (notice_of one_rec.flow cut_inside 7)) (notice_of one_rec.flow cut_inside 9)
-unfolding phi psi kind_of policy_of sender receiver bounds_of max_of parent_of declared_parent loops_of batches_of sends
-along_k = within_two 4294967295 1 _ _ (λ x y hx hy h. grind (arith, nat_tests))
-
-along_c : Within (phi one_rec (events (with_serials (second_round ++ first_round))) 2 (notice_of one_rec.flow cut_inside 8)) (notice_of one_rec.flow cut_inside 2)
-unfolding phi psi kind_of policy_of sender receiver bounds_of max_of parent_of declared_parent loops_of batches_of sends
-along_c = within_two 4294967295 1 _ _ (λ x y hx hy h. grind (arith, nat_tests))
-
-along_d : Within (phi one_rec (events (with_serials (second_round ++ first_round))) 3 (notice_of one_rec.flow cut_inside 2)) (notice_of one_rec.flow cut_inside 3)
-unfolding phi psi kind_of policy_of sender receiver bounds_of max_of parent_of declared_parent loops_of batches_of sends
-along_d = within_two 4294967295 1 _ _ (λ x y hx hy h. grind (arith, nat_tests))
-
-along_e : Within (phi one_rec (events (with_serials (second_round ++ first_round))) 4 (notice_of one_rec.flow cut_inside 3)) (notice_of one_rec.flow cut_inside 4)
-unfolding phi psi kind_of policy_of sender receiver bounds_of max_of parent_of declared_parent loops_of batches_of sends
-along_e = within_three 4294967295 1 1 _ _ (λ x y z hx hy hz h. grind (arith, nat_tests))
-
-along_m : Within (phi one_rec (events (with_serials (second_round ++ first_round))) 11 (notice_of one_rec.flow cut_inside 9)) (notice_of one_rec.flow cut_inside 10)
-unfolding phi psi kind_of policy_of sender receiver bounds_of max_of parent_of declared_parent loops_of batches_of sends
-along_m = within_one 4294967295 _ _ (λ x hx h. grind (arith, nat_tests))
-
-feedback_notice : (other : Choice) → IsConsistent one_rec second_count_failed (offers one_rec second_count_failed) other
-    → Within (notice_of one_rec.flow other 6) (notice_of one_rec.flow cut_inside 6)
-unfolding kind_of policy_of sender receiver bounds_of max_of parent_of declared_parent loops_of batches_of sends
-feedback_notice other ok t h = along_h t (projected_notice other ok 7 (lit< tt) (counting_notice other ok) t h)
-
-leaving_notice : (other : Choice) → IsConsistent one_rec second_count_failed (offers one_rec second_count_failed) other
-    → Within (notice_of one_rec.flow other 7) (notice_of one_rec.flow cut_inside 7)
-unfolding kind_of policy_of sender receiver bounds_of max_of parent_of declared_parent loops_of batches_of sends
-leaving_notice other ok t h = along_i t (projected_notice other ok 8 (lit< tt) (counting_notice other ok) t h)
-
-left_notice : (other : Choice) → IsConsistent one_rec second_count_failed (offers one_rec second_count_failed) other
-    → Within (notice_of one_rec.flow other 8) (notice_of one_rec.flow cut_inside 8)
-unfolding kind_of policy_of sender receiver bounds_of max_of parent_of declared_parent loops_of batches_of sends
-left_notice other ok t h = along_j t (projected_notice other ok 9 (lit< tt) (leaving_notice other ok) t h)
-
-last_notice : (other : Choice) → IsConsistent one_rec second_count_failed (offers one_rec second_count_failed) other
-    → Within (notice_of one_rec.flow other 9) (notice_of one_rec.flow cut_inside 9)
-unfolding kind_of policy_of sender receiver bounds_of max_of parent_of declared_parent loops_of batches_of sends
-last_notice other ok t h = along_k t (projected_notice other ok 10 (lit< tt) (leaving_notice other ok) t h)
-
-mixing_notice : (other : Choice) → IsConsistent one_rec second_count_failed (offers one_rec second_count_failed) other
-    → Within (notice_of one_rec.flow other 2) (notice_of one_rec.flow cut_inside 2)
-unfolding kind_of policy_of sender receiver bounds_of max_of parent_of declared_parent loops_of batches_of sends
-mixing_notice other ok t h = along_c t (projected_notice other ok 2 (lit< tt) (left_notice other ok) t h)
-
-entering_notice : (other : Choice) → IsConsistent one_rec second_count_failed (offers one_rec second_count_failed) other
-    → Within (notice_of one_rec.flow other 3) (notice_of one_rec.flow cut_inside 3)
-unfolding kind_of policy_of sender receiver bounds_of max_of parent_of declared_parent loops_of batches_of sends
-entering_notice other ok t h = along_d t (projected_notice other ok 3 (lit< tt) (mixing_notice other ok) t h)
-
-meeting_notice : (other : Choice) → IsConsistent one_rec second_count_failed (offers one_rec second_count_failed) other
-    → Within (notice_of one_rec.flow other 4) (notice_of one_rec.flow cut_inside 4)
-unfolding kind_of policy_of sender receiver bounds_of max_of parent_of declared_parent loops_of batches_of sends
-meeting_notice other ok t h = along_e t (projected_notice other ok 4 (lit< tt) (entering_notice other ok) t h)
-
-out_notice : (other : Choice) → IsConsistent one_rec second_count_failed (offers one_rec second_count_failed) other
-    → Within (notice_of one_rec.flow other 10) (notice_of one_rec.flow cut_inside 10)
-unfolding kind_of policy_of sender receiver bounds_of max_of parent_of declared_parent loops_of batches_of sends
-out_notice other ok t h = along_m t (projected_notice other ok 11 (lit< tt) (last_notice other ok) t h)
-
 notices_within : (other : Choice) → IsConsistent one_rec second_count_failed (offers one_rec second_count_failed) other
     → (p : ℕ) → p < 11 → Within (notice_of one_rec.flow other p) (notice_of one_rec.flow cut_inside p)
-notices_within other ok = by_eleven _
-    (λ t k. and_from _ _ (and_parts (in_domain (bounds_of nested_loops 0) t) _ k).0 refl)
-    (λ t k. and_from _ _ (and_parts (in_domain (bounds_of nested_loops 1) t) _ k).0 refl)
-    (mixing_notice other ok)
-    (entering_notice other ok)
-    (meeting_notice other ok)
-    (counting_notice other ok)
-    (feedback_notice other ok)
-    (leaving_notice other ok)
-    (left_notice other ok)
-    (last_notice other ok)
-    (out_notice other ok)
+unfolding phi psi kind_of policy_of sender receiver bounds_of max_of parent_of declared_parent loops_of batches_of sends
+notices_within other ok =
+    let Lies : ℕ → Type 0 = λ p. Within (notice_of one_rec.flow other p) (notice_of one_rec.flow cut_inside p) in
+    let counting : Lies 5 = counting_notice other ok in
+    let feedback : Lies 6 = next_notice one_rec second_count_failed (offers one_rec second_count_failed) other ok 7 (lit< tt) (notice_of one_rec.flow cut_inside 5) (notice_of one_rec.flow cut_inside 6) (within_three 4294967295 1 1 _ _ (λ x y z hx hy hz h. grind (arith, nat_tests))) counting in
+    let leaving : Lies 7 = next_notice one_rec second_count_failed (offers one_rec second_count_failed) other ok 8 (lit< tt) (notice_of one_rec.flow cut_inside 5) (notice_of one_rec.flow cut_inside 7) (within_three 4294967295 1 1 _ _ (λ x y z hx hy hz h. grind (arith, nat_tests))) counting in
+    let left : Lies 8 = next_notice one_rec second_count_failed (offers one_rec second_count_failed) other ok 9 (lit< tt) (notice_of one_rec.flow cut_inside 7) (notice_of one_rec.flow cut_inside 8) (within_two 4294967295 1 _ _ (λ x y hx hy h. grind (arith, nat_tests))) leaving in
+    let last : Lies 9 = next_notice one_rec second_count_failed (offers one_rec second_count_failed) other ok 10 (lit< tt) (notice_of one_rec.flow cut_inside 7) (notice_of one_rec.flow cut_inside 9) (within_two 4294967295 1 _ _ (λ x y hx hy h. grind (arith, nat_tests))) leaving in
+    let mixing : Lies 2 = next_notice one_rec second_count_failed (offers one_rec second_count_failed) other ok 2 (lit< tt) (notice_of one_rec.flow cut_inside 8) (notice_of one_rec.flow cut_inside 2) (within_two 4294967295 1 _ _ (λ x y hx hy h. grind (arith, nat_tests))) left in
+    let entering : Lies 3 = next_notice one_rec second_count_failed (offers one_rec second_count_failed) other ok 3 (lit< tt) (notice_of one_rec.flow cut_inside 2) (notice_of one_rec.flow cut_inside 3) (within_two 4294967295 1 _ _ (λ x y hx hy h. grind (arith, nat_tests))) mixing in
+    let met : Lies 4 = next_notice one_rec second_count_failed (offers one_rec second_count_failed) other ok 4 (lit< tt) (notice_of one_rec.flow cut_inside 3) (notice_of one_rec.flow cut_inside 4) (within_three 4294967295 1 1 _ _ (λ x y z hx hy hz h. grind (arith, nat_tests))) entering in
+    let out : Lies 10 = next_notice one_rec second_count_failed (offers one_rec second_count_failed) other ok 11 (lit< tt) (notice_of one_rec.flow cut_inside 9) (notice_of one_rec.flow cut_inside 10) (within_one 4294967295 _ _ (λ x hx h. grind (arith, nat_tests))) last in
+    by_eleven _ (λ t k. and_from _ _ (and_parts (in_domain (bounds_of nested_loops 0) t) _ k).0 refl) (λ t k. and_from _ _ (and_parts (in_domain (bounds_of nested_loops 1) t) _ k).0 refl)
+    mixing entering met counting feedback leaving left last out
 
 inside_is_largest : IsLargest one_rec second_count_failed (offers one_rec second_count_failed) cut_inside
 inside_is_largest = record { consistent = consistent; largest = λ other ok. record { cuts = cuts_within other ok; notices = notices_within other ok } }

@@ -97,14 +97,18 @@ is_from_sender flow at_receiver at_sender e =
     is_within at_receiver (no_stamps (bounds_of flow (receiver flow e)))
     || (is_within [] at_sender || (is_plain (kind_of flow (sender flow e)) && is_within at_receiver at_sender))
 
+-- all comes from all
+pub everything_from : (sys : System) (h : List Event) → IsWellFormed sys.flow → (e : ℕ) → e < length sys.flow.edges
+    → Within (everything (bounds_of sys.flow (receiver sys.flow e))) (phi sys h e (everything (bounds_of sys.flow (sender sys.flow e))))
+unfolding bounds_of
+everything_from sys h formed e l t d = phi-everything sys h e t ∙ ap (λ domain. in_domain (bounds_of_domain sys.flow domain) t) (formed.domains e l) ∙ d
+
 -- what is inside no outside stamp comes from all
 all_from : (sys : System) (h : List Event) → IsWellFormed sys.flow → (e : ℕ) → e < length sys.flow.edges → (os : Front) → is_within [] os ≡ true → (t : Stamp)
     → in_domain (bounds_of sys.flow (receiver sys.flow e)) t ≡ true → phi sys h e (frontier_of (bounds_of sys.flow (sender sys.flow e)) os) t ≡ true
-unfolding bounds_of
 all_from sys h formed e l os n t d =
     phi-monotone sys h e (everything (bounds_of sys.flow (sender sys.flow e))) (frontier_of (bounds_of sys.flow (sender sys.flow e)) os)
-    (λ u i. is_within-holds (bounds_of sys.flow (sender sys.flow e)) [] os n u (and_from _ _ i refl)) t
-    (phi-everything sys h e t ∙ ap (λ domain. in_domain (bounds_of_domain sys.flow domain) t) (formed.domains e l) ∙ d)
+    (λ u i. is_within-holds (bounds_of sys.flow (sender sys.flow e)) [] os n u (and_from _ _ i refl)) t (everything_from sys h formed e l t d)
 
 pub from_sender : (sys : System) (h : List Event) → IsWellFormed sys.flow → (e : ℕ) → e < length sys.flow.edges → (at_receiver at_sender : Front)
     → is_from_sender sys.flow at_receiver at_sender e ≡ true
@@ -123,6 +127,11 @@ from_sender sys h formed e l x y k t i =
     (or_cases _ _ k)
 
 -- ---- admissible families
+
+-- what lies within at the sender of an edge lies within at its receiver, where what that projects to does
+pub next_within : (sys : System) (h : List Event) (other : ℕ → Frontier) → IsAdmissible sys h other → (e : ℕ) (f g : Frontier) → Within (phi sys h e f) g
+    → Within (other (sender sys.flow e)) f → Within (other (receiver sys.flow e)) g
+next_within sys h other adm e f g along w t i = along t (phi-monotone sys h e (other (sender sys.flow e)) f w t (adm.follows e t i))
 
 -- whether a delivery to node p at a stamp that passes the test was followed by its notification
 abbrev pub is_paid_at : Dataflow → List Event → ℕ → (Stamp → Bool) → Event → Bool

@@ -19,6 +19,7 @@ use Rattle.fw_flow.specs.Dataflow.{System, Dataflow, idle_node, kind_of, sender,
 use Rattle.fw_flow.specs.WellFormed.{IsWellFormed, IsGroupSize}
 use Rattle.fw_flow.specs.Projection.{phi_of_kind, psi_of_kind, psi_back_of_kind, phi, phi_by_count, psi, psi_back, table_count, IsSentTable}
 use Rattle.fw_flow.specs.ProjectedStamps.{AreEndsOf}
+use Rattle.fw_flow.proofs.PickedEdges.{picked-at, picked-from}
 use Rattle.fw_flow.proofs.ProjectionLaws.{phi-by_table}
 
 -- past the last node stand idle outputs
@@ -128,35 +129,15 @@ psi_back-named {flow = flow} {e} is os res =
 
 -- ---- the in-edges of a node are the edges that it receives on
 
-into-at : (P : ℕ → Type 0) (n : ℕ) (es : List Edge) (p : ℕ) (d : Edge) → AllByRecursion P (edges_into n es p) → (i : ℕ) → i < length es
-    → (get_or es i d).receiver ≡ p → P (n + i)
-into-at P n [] p d a i l r = absurd (omega arith)
-into-at P n (e ∷ es) p d a zero l r =
-    let b : AllByRecursion P (n ∷ edges_into (n + 1) es p) = subst (λ x. AllByRecursion P (cond x (n ∷ edges_into (n + 1) es p) (edges_into (n + 1) es p))) (eq-eqb e.receiver p r) a in
-    subst P (omega arith) b.0
-into-at P n (e ∷ es) p d a (suc i) l r =
-    subst P (omega arith) (into-at P (n + 1) es p d (rest (e.receiver == p) a) i (omega arith) r)
-  where
-    rest : (b : Bool) → AllByRecursion P (cond b (n ∷ edges_into (n + 1) es p) (edges_into (n + 1) es p)) → AllByRecursion P (edges_into (n + 1) es p)
-    rest true k = k.1
-    rest false k = k
-
 pub into-from : (P : ℕ → Type 0) (n : ℕ) (es : List Edge) (p : ℕ) (d : Edge) → ((i : ℕ) → i < length es → (get_or es i d).receiver ≡ p → P (n + i))
     → AllByRecursion P (edges_into n es p)
-into-from P n [] p d h = tt
-into-from P n (e ∷ es) p d h =
-    let rest : AllByRecursion P (edges_into (n + 1) es p) = into-from P (n + 1) es p d (λ i l r. subst P (omega arith) (h (suc i) (omega arith) r)) in
-    both (e.receiver == p) refl rest
-  where
-    both : (b : Bool) → e.receiver == p ≡ b → AllByRecursion P (edges_into (n + 1) es p) → AllByRecursion P (cond b (n ∷ edges_into (n + 1) es p) (edges_into (n + 1) es p))
-    both true k a = (subst P (omega arith) (h 0 (omega arith) (eqb-true e.receiver p k)), a)
-    both false k a = a
+into-from P n es p d h = picked-from (λ k fs. edges_into k fs p) (λ e. e.receiver) p (λ k. refl) (λ k e fs. refl) P n es d h
 
 -- what holds of each in-edge of a node holds of each edge that it receives on
 pub in_edges-at : (P : ℕ → Type 0) (flow : Dataflow) (p : ℕ) → AllByRecursion P (in_edges flow p) → (e : ℕ) → e < length flow.edges → receiver flow e ≡ p → P e
 unfolding in_edges receiver
 in_edges-at P flow p a e l r =
-    let at : P (0 + e) = into-at P 0 flow.edges p (record { name = []; sender = length flow.nodes; receiver = length flow.nodes }) a e l r in
+    let at : P (0 + e) = picked-at (λ k fs. edges_into k fs p) (λ d. d.receiver) p (λ k d fs. refl) P 0 flow.edges (record { name = []; sender = length flow.nodes; receiver = length flow.nodes }) a e l r in
     subst P (omega arith) at
 
 pub in_edges-from : (P : ℕ → Type 0) (flow : Dataflow) (p : ℕ) → ((e : ℕ) → e < length flow.edges → receiver flow e ≡ p → P e) → AllByRecursion P (in_edges flow p)

@@ -17,6 +17,7 @@ pub mod MessageLaws
 pub mod NameLaws
 pub mod Named
 pub mod Parents
+pub mod PickedEdges
 pub mod PremiseLaws
 pub mod OutEdgeLaws
 pub mod ProjectionLaws

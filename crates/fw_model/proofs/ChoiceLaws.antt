@@ -140,36 +140,37 @@ flag-divides false h f g k m n v w = w
 union-within : (b : Bounds) (u : Front) (f : Frontier) → IsFrontOf b u f → Within (frontier_of b u) f
 union-within b u f n t k = sym (n.same t) ∙ k
 
+-- what counts inside the union of two cuts counts inside one of them, if it does so where all three are at frontiers
+union_by : (sys : System) (p : ℕ) (counts : Cut → Frontier)
+    → ((f g u : Front) → IsUnionOfCuts sys p (At f) (At g) (At u) → Within (counts (At u)) (join (counts (At f)) (counts (At g))))
+    → (one other union : Cut) → IsUnionOfCuts sys p one other union → Within (counts union) (join (counts one) (counts other))
+union_by sys p counts at Present y z w t k = or_left (counts Present t) (counts y t) (sym (ap (λ c. counts c t) w) ∙ k)
+union_by sys p counts at (At f) Present z w t k = or_right (counts (At f) t) (counts Present t) (sym (ap (λ c. counts c t) w) ∙ k)
+union_by sys p counts at (At f) (At g) Present w t k = absurd w
+union_by sys p counts at (At f) (At g) (At u) w t k = at f g u w t k
+
 pub delivered-union : DeliveredOfUnion
-delivered-union sys state d Present y z w t k =
-    or_left ((covers_in sys state).delivered d Present t) ((covers_in sys state).delivered d y t) (sym (ap (λ c. (covers_in sys state).delivered d c t) w) ∙ k)
-delivered-union sys state d (At f) Present z w t k =
-    or_right ((covers_in sys state).delivered d (At f) t) ((covers_in sys state).delivered d Present t) (sym (ap (λ c. (covers_in sys state).delivered d c t) w) ∙ k)
-delivered-union sys state d (At f) (At g) Present w t k = absurd w
-delivered-union sys state d (At f) (At g) (At u) w t k =
+delivered-union sys state d =
     let p = receiver sys.flow d in
     let b = bounds_of sys.flow p in
     let ss = map (λ m. m.at) (delivered_messages (events state.history) d) in
+    union_by sys p ((covers_in sys state).delivered d) (λ f g u w.
     let v = union-within b u (join (frontier_of b f) (frontier_of b g)) w in
     flag-divides (takes_its_cut (way_of sys.flow p)) (frontier_of b u) (frontier_of b f) (frontier_of b g)
     (cover b (filter (frontier_of b u) ss)) (cover b (filter (frontier_of b f) ss)) (cover b (filter (frontier_of b g) ss))
-    v (cover-divides b (frontier_of b u) (frontier_of b f) (frontier_of b g) ss v) t k
+    v (cover-divides b (frontier_of b u) (frontier_of b f) (frontier_of b g) ss v))
 
 pub notified-union : NotifiedOfUnion
-notified-union sys state p Present y z w t k =
-    or_left ((covers_in sys state).notified p Present t) ((covers_in sys state).notified p y t) (sym (ap (λ c. (covers_in sys state).notified p c t) w) ∙ k)
-notified-union sys state p (At f) Present z w t k =
-    or_right ((covers_in sys state).notified p (At f) t) ((covers_in sys state).notified p Present t) (sym (ap (λ c. (covers_in sys state).notified p c t) w) ∙ k)
-notified-union sys state p (At f) (At g) Present w t k = absurd w
-notified-union sys state p (At f) (At g) (At u) w t k =
+notified-union sys state p =
     let b = bounds_of sys.flow p in
     let ss = flat_map (stamp_of_notice p) (events state.history) in
+    union_by sys p ((covers_in sys state).notified p) (λ f g u w.
     let v = union-within b u (join (frontier_of b f) (frontier_of b g)) w in
     flag-divides (takes_its_notices (kind_of sys.flow p) (policy_of sys.flow p)) (frontier_of b u) (frontier_of b f) (frontier_of b g)
     (cover b (filter (frontier_of b u) ss)) (cover b (filter (frontier_of b f) ss)) (cover b (filter (frontier_of b g) ss))
-    v (cover-divides b (frontier_of b u) (frontier_of b f) (frontier_of b g) ss v) t k
+    v (cover-divides b (frontier_of b u) (frontier_of b f) (frontier_of b g) ss v))
 
-is_sequence : (kind : Kind) → is_sequence_kind kind ≡ true → kind ≡ Sequence
+pub is_sequence : (kind : Kind) → is_sequence_kind kind ≡ true → kind ≡ Sequence
 is_sequence Sequence e = refl
 is_sequence kind e = absurd (cc)
 
@@ -230,18 +231,14 @@ discarded_at-divides sys state e Anything h f g w t k =
 discarded_at-divides sys state e way h f g w t k = sent-divides_cover sys state e h f g w t k
 
 pub discarded-union : DiscardedOfUnion
-discarded-union sys state e Present y z w t k =
-    or_left ((covers_in sys state).discarded e Present t) ((covers_in sys state).discarded e y t) (sym (ap (λ c. (covers_in sys state).discarded e c t) w) ∙ k)
-discarded-union sys state e (At f) Present z w t k =
-    or_right ((covers_in sys state).discarded e (At f) t) ((covers_in sys state).discarded e Present t) (sym (ap (λ c. (covers_in sys state).discarded e c t) w) ∙ k)
-discarded-union sys state e (At f) (At g) Present w t k = absurd w
-discarded-union sys state e (At f) (At g) (At u) w t k =
+discarded-union sys state e =
     let p = sender sys.flow e in
     let b = bounds_of sys.flow p in
     let way = way_of sys.flow p in
     let at : Front → Frontier = λ x. discarded_at sys.flow e way ((tallies_in sys state).sent e (At x)) x in
+    union_by sys p ((covers_in sys state).discarded e) (λ f g u w.
     flag-divides (can_resend (policy_of sys.flow p)) nothing nothing nothing (at u) (at f) (at g) (λ s i. i)
-    (discarded_at-divides sys state e way u f g (union-within b u (join (frontier_of b f) (frontier_of b g)) w)) t k
+    (discarded_at-divides sys state e way u f g (union-within b u (join (frontier_of b f) (frontier_of b g)) w)))
 
 -- ---- the union of two candidates
 

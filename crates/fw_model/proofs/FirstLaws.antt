@@ -42,7 +42,7 @@ first-among : (m : Message) (ms : List Message) → is_among m (m ∷ ms) ≡ tr
 first-among m ms = or_left (is_eq (message_cmp m m)) (is_among m ms) (ap is_eq (tied_itself message_total m))
 
 -- what is among the messages is among them in order, and the other way round
-among-same : (m : Message) (xs ys : List Message) → weigh (copy m) xs ≡ weigh (copy m) ys → is_among m xs ≡ true → is_among m ys ≡ true
+pub among-same : (m : Message) (xs ys : List Message) → weigh (copy m) xs ≡ weigh (copy m) ys → is_among m xs ≡ true → is_among m ys ≡ true
 among-same m xs ys e i = let a = is_among-copies m xs i in copies-among m ys (omega arith)
 
 -- some message at the stamp
@@ -76,7 +76,7 @@ least-number m x k n i j g = elim (cases_lt n k) [
 ]
 
 -- the first of ascending messages is not greater than any
-first-least : (m : Message) (ms : List Message) → IsAscendingMessages (m ∷ ms) → (x : Message) → is_among x (m ∷ ms) ≡ true → is_gt (message_cmp m x) ≡ false
+pub first-least : (m : Message) (ms : List Message) → IsAscendingMessages (m ∷ ms) → (x : Message) → is_among x (m ∷ ms) ≡ true → is_gt (message_cmp m x) ≡ false
 unfolding IsAscendingMessages
 first-least m ms a x i = among-each (λ y. is_gt (message_cmp m y) ≡ false) x (m ∷ ms) i (ap is_gt (tied_itself message_total m), a.0)
 

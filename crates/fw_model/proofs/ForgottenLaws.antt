@@ -65,7 +65,7 @@ order-acknowledged (x ∷ xs) y ys n a =
     ((λ e. absurd (two_ways (is_in_flight x.stage) e b.0)), order-acknowledged xs y ys b.1 a.1)
 
 -- a collection changes no write in flight
-still-flies : (below : Bool) (far : Stage) → is_in_flight (after_collection below far) ≡ is_in_flight far
+pub still-flies : (below : Bool) (far : Stage) → is_in_flight (after_collection below far) ≡ is_in_flight far
 still-flies below in_flight = refl
 still-flies true acknowledged = refl
 still-flies false acknowledged = refl

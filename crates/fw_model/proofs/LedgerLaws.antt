@@ -31,7 +31,7 @@ abbrev pub AreNumbered : List Timed → Type 0
 AreNumbered [] = Unit {0}
 AreNumbered (r ∷ rs) = (r.at ≡ length rs ∷ []) × AreNumbered rs
 
-length-timed_of : (ms : List Message) → length (timed_of ms) ≡ length ms
+pub length-timed_of : (ms : List Message) → length (timed_of ms) ≡ length ms
 length-timed_of [] = refl
 length-timed_of (m ∷ ms) = ap suc (length-timed_of ms)
 

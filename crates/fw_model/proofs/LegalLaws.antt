@@ -59,8 +59,6 @@ sent_by-in_domain sys p (v ∷ vs) d =
     each-append (λ (m : Message). out_bounds sys.flow p m.at ≡ true) (sends sys p vs v) (sent_by sys p vs)
     (sends_of_kind-in_domain sys (kind_of sys.flow p) vs v d.0) (sent_by-in_domain sys p vs d.1)
 
--- ---- what is pending was sent
-
 -- ---- edges join equal domains
 
 past_edges : (flow : Dataflow) (e : ℕ) → length flow.edges ≤ e → out_domain_of flow (sender flow e) ≡ domain_of flow (receiver flow e)
@@ -77,7 +75,7 @@ past_edges flow e l =
 pub edge_domains : (flow : Dataflow) → IsWellFormed flow → (e : ℕ) → out_domain_of flow (sender flow e) ≡ domain_of flow (receiver flow e)
 edge_domains flow w e = elim (cases_lt e (length flow.edges)) [ inl l ↦ w.domains e l | inr l ↦ past_edges flow e l ]
 
-edge-receiver : (flow : Dataflow) → IsWellFormed flow → (e : ℕ) (t : Stamp) → in_domain (bounds_of_edge flow e) t ≡ true
+pub edge-receiver : (flow : Dataflow) → IsWellFormed flow → (e : ℕ) (t : Stamp) → in_domain (bounds_of_edge flow e) t ≡ true
     → in_domain (bounds_of flow (receiver flow e)) t ≡ true
 unfolding bounds_of
 edge-receiver flow w e t i = sym (ap (λ d. in_domain (bounds_of_domain flow d) t) (edge_domains flow w e)) ∙ i

@@ -1,4 +1,5 @@
 pub mod ArrivalLaws
+pub mod AscentLaws
 pub mod AscendingLaws
 pub mod AskedLaws
 pub mod AskedStateLaws

@@ -58,7 +58,7 @@ pub input-is : (kind : Kind) → is_input_kind kind ≡ true → kind ≡ Input
 input-is Input e = refl
 input-is kind e = absurd (cc)
 
-no_weight : (g : ℕ → ℕ) (xs : List ℕ) → length xs ≡ 0 → weigh g xs ≡ 0
+pub no_weight : (g : ℕ → ℕ) (xs : List ℕ) → length xs ≡ 0 → weigh g xs ≡ 0
 unfolding weigh
 no_weight g [] e = refl
 no_weight g (x ∷ xs) e = absurd (omega arith)

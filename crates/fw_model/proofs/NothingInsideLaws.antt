@@ -32,7 +32,7 @@ kind-declared flow p test k n = elim (cases_lt p (length flow.nodes)) [
 ]
 
 -- a node that is idle sends nothing
-idle-sent : (sys : System) (q : ℕ) → kind_of sys.flow q ≡ OutputEpoch → (vs : List Event) → sent_by sys q vs ≡ []
+pub idle-sent : (sys : System) (q : ℕ) → kind_of sys.flow q ≡ OutputEpoch → (vs : List Event) → sent_by sys q vs ≡ []
 unfolding sends
 idle-sent sys q is [] = refl
 idle-sent sys q is (v ∷ vs) = ap (λ k. sends_of_kind sys k vs v ++ sent_by sys q vs) is ∙ idle-sent sys q is vs

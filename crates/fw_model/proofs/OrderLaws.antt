@@ -1,5 +1,5 @@
 -- In a legal history a sequence is notified in the order of stamps.
-use Rattle.std.proofs.Common.{◌≡◌, ℕ, Bool, true, false, not, ◌&&◌, ◌||◌, ◌==◌, List, [], ◌∷◌, Some, None, refl, sym, ap, ◌∙◌, inl, inr, ◌⊎◌, arith}
+use Rattle.std.proofs.Common.{◌≡◌, ℕ, Bool, true, false, not, ◌&&◌, ◌||◌, ◌==◌, List, [], ◌∷◌, Some, None, refl, sym, ap, subst, ◌∙◌, inl, inr, ◌⊎◌, arith}
 use Rattle.std.proofs.Math.Bool.{and-false}
 use Rattle.std.specs.List.{AllByRecursion}
 use Rattle.std.proofs.lemmas.Bool.{and_parts, and_from, or_cases, or_left, or_right, cond_both, eqb-true, eq-eqb, cases_lt, cases_Bool}
@@ -162,30 +162,33 @@ notified-now sys h w b l p t is k =
       or_right (c.0 p t) (raised sys.flow p t p t) (raised-from sys.flow p t t d (leq-refl t)),
     )
 
-notified-inside : (sys : System) (h : List Event) → IsWellFormed sys.flow → HasEpochs sys → IsLegal sys h
-    → (p : ℕ) → kind_of sys.flow p ≡ Sequence → AllByRecursion (IsInside sys h p) (notified_stamps (events_at sys.flow p h))
-notified-inside sys [] w b l p is = tt
-notified-inside sys (v ∷ h) w b l p is =
-    after v l.0
-    (each-weaker (IsInside sys h p) (IsInside sys (v ∷ h) p) (notified_stamps (events_at sys.flow p h))
-    (λ s x. (x.0, admissible-stays sys h w b l.1 x.0 x.1 v l.0, x.2)) (notified-inside sys h w b l.1 p is))
+-- what holds of a stamp once the node is notified of it, and goes on holding, holds of each of which it was notified
+pub each-notified : (sys : System) (p : ℕ) (P : List Event → Stamp → Type 0)
+    → ((h : List Event) (v : Event) → IsLegal sys h → IsEnabled sys h v → (s : Stamp) → P h s → P (v ∷ h) s)
+    → ((h : List Event) (t : Stamp) → IsLegal sys h → IsEnabled sys h (Notify p t) → P (Notify p t ∷ h) t)
+    → (h : List Event) → IsLegal sys h → AllByRecursion (P h) (notified_stamps (events_at sys.flow p h))
+each-notified sys p P step now [] l = tt
+each-notified sys p P step now (v ∷ h) l =
+    after v l.0 (each-weaker (P h) (P (v ∷ h)) (notified_stamps (events_at sys.flow p h)) (step h v l.1 l.0) (each-notified sys p P step now h l.1))
   where
-    after : (v : Event) → IsEnabled sys h v → AllByRecursion (IsInside sys (v ∷ h) p) (notified_stamps (events_at sys.flow p h))
-        → AllByRecursion (IsInside sys (v ∷ h) p) (notified_stamps (events_at sys.flow p (v ∷ h)))
+    after : (v : Event) → IsEnabled sys h v → AllByRecursion (P (v ∷ h)) (notified_stamps (events_at sys.flow p h))
+        → AllByRecursion (P (v ∷ h)) (notified_stamps (events_at sys.flow p (v ∷ h)))
     after (Inject s x) k a =
         let vs = events_at sys.flow p h in
-        cond_both (s == p) (Inject s x ∷ vs) vs (λ ws. AllByRecursion (IsInside sys (Inject s x ∷ h) p) (notified_stamps ws)) (λ e. a) (λ e. a)
+        cond_both (s == p) (Inject s x ∷ vs) vs (λ ws. AllByRecursion (P (Inject s x ∷ h)) (notified_stamps ws)) (λ e. a) (λ e. a)
     after (Deliver d m) k a =
         let vs = events_at sys.flow p h in
-        cond_both (receiver sys.flow d == p) (Deliver d m ∷ vs) vs (λ ws. AllByRecursion (IsInside sys (Deliver d m ∷ h) p) (notified_stamps ws)) (λ e. a) (λ e. a)
+        cond_both (receiver sys.flow d == p) (Deliver d m ∷ vs) vs (λ ws. AllByRecursion (P (Deliver d m ∷ h)) (notified_stamps ws)) (λ e. a) (λ e. a)
     after (Notify q t) k a =
         let vs = events_at sys.flow p h in
-        cond_both (q == p) (Notify q t ∷ vs) vs (λ ws. AllByRecursion (IsInside sys (Notify q t ∷ h) p) (notified_stamps ws))
-        (λ e.
-        let here = eqb-true q p e in
-        let x = notified-now sys h w b l.1 q t (ap (kind_of sys.flow) here ∙ is) k in
-        ((x.0, x.1, sym (ap (λ n. x.0 n t) here) ∙ x.2), a))
+        cond_both (q == p) (Notify q t ∷ vs) vs (λ ws. AllByRecursion (P (Notify q t ∷ h)) (notified_stamps ws))
+        (λ e. (subst (λ n. IsEnabled sys h (Notify n t) → P (Notify n t ∷ h) t) (sym (eqb-true q p e)) (now h t l.1) k, a))
         (λ e. a)
+
+notified-inside : (sys : System) (h : List Event) → IsWellFormed sys.flow → HasEpochs sys → IsLegal sys h
+    → (p : ℕ) → kind_of sys.flow p ≡ Sequence → AllByRecursion (IsInside sys h p) (notified_stamps (events_at sys.flow p h))
+notified-inside sys h w b l p is =
+    each-notified sys p (λ g. IsInside sys g p) (λ g v m k s x. (x.0, admissible-stays sys g w b m x.0 x.1 v k, x.2)) (λ g t m k. notified-now sys g w b m p t is k) h l
 
 -- ---- in order
 

@@ -27,7 +27,7 @@ use Rattle.fw_model.proofs.ClosedLaws.{numbered-ascend}
 use Rattle.fw_model.proofs.DomainLaws.{output-sent}
 use Rattle.fw_model.proofs.InputLaws.{timed_of-append}
 use Rattle.fw_model.proofs.KindLaws.{ledger_edge, ledger-numbered}
-use Rattle.fw_model.proofs.LedgerLaws.{AreNumbered, numbered-timed, ledger-sent}
+use Rattle.fw_model.proofs.LedgerLaws.{AreNumbered, numbered-timed, ledger-sent, length-timed_of}
 use Rattle.fw_model.proofs.LegalLaws.{edge_domains, only_inputs_inject}
 use Rattle.fw_model.proofs.OncePerNumberLaws.{any_at}
 use Rattle.fw_model.proofs.SentLaws.{copy, is_among-copies, less-weigh, delivered-was_sent, timed_message, timed_of, timed_of-weigh}
@@ -321,10 +321,6 @@ alone-at ms o h t (suc n) e =
     let a = weigh-lighter (of_message (any_at t)) (of_message off_number) ms (each-one (λ x. of_message (any_at t) x ≤ of_message off_number x) ms (off-lighter t n e)) in
     omega arith
 
-length-timed : (ms : List Message) → length (timed_of ms) ≡ length ms
-length-timed [] = refl
-length-timed (m ∷ ms) = ap suc (length-timed ms)
-
 -- The messages have the numbers from n on below another, one at each.
 record AreNumbersBetween (n top : ℕ) (ms : List Message) : Type 0 where
   at_each : (k : ℕ) → weigh (of_message (any_at (k ∷ []))) ms + below k n ≡ below k top
@@ -391,7 +387,7 @@ pending-between sys h w l e k =
     let all = sent-to sys h w l e k in
     let came = numbered-to (timed_of gone) (numbered-timed gone (numbered-ascend sys h l e k)) in (
       all.0,
-      between-left (length gone) all.0 (sent_messages sys h e) gone (pending_messages sys h e) all.1 (subst (λ n. HasNumbersTo n (timed_of gone)) (length-timed gone) came)
+      between-left (length gone) all.0 (sent_messages sys h e) gone (pending_messages sys h e) all.1 (subst (λ n. HasNumbersTo n (timed_of gone)) (length-timed_of gone) came)
           (λ u. less-weigh u (sent_messages sys h e) gone (delivered-was_sent sys h l e)),
     )
 

@@ -11,7 +11,7 @@ use Rattle.fw_flow.specs.declared.event.Event.{Event}
 use Rattle.fw_flow.specs.declared.event.Event.TheVariants.{Inject, Deliver, Notify}
 use Rattle.fw_flow.specs.declared.event.Message.{Message}
 use Rattle.fw_flow.specs.declared.kind.Kind.{Kind}
-use Rattle.fw_flow.specs.declared.kind.Kind.TheVariants.{Input, Sequence}
+use Rattle.fw_flow.specs.declared.kind.Kind.TheVariants.{Input}
 use Rattle.fw_flow.specs.Dataflow.{greatest_of_kind, System, Dataflow, kind_of, sender, receiver, greatest_number, domain_of_kind, out_domain_of_kind, bounds_of, bounds_of_domain, batches_of, is_input_kind, is_sequence_kind}
 use Rattle.fw_flow.specs.NodeFunction.{event_node, event_stamp, sends, sent_by}
 use Rattle.fw_flow.specs.Projection.{events_at, all_inside, first_coordinate, count_from, sent_count, phi_of_kind, phi}
@@ -29,6 +29,7 @@ use Rattle.fw_model.proofs.LocalityLaws.{sends-causes, phi-same}
 use Rattle.fw_model.proofs.KeptLaws.{IsFiltering, filtering-before, kept-causes, kept-quiet, kept-owed, inject-enabled, deliver-enabled, causes-now, legal-with}
 use Rattle.fw_model.proofs.SettleLaws.{meet-frontier}
 use Rattle.fw_model.specs.Filtering.{AreFrontiers, kept_events, HaveKeptCauses}
+use Rattle.fw_model.proofs.ChoiceLaws.{is_sequence}
 
 -- ---- which injections are kept
 
@@ -156,10 +157,6 @@ rewriting-before sys v h keep notice c =
     }
 
 -- ---- complete frontiers of the kept events
-
-is_sequence : (kind : Kind) → is_sequence_kind kind ≡ true → kind ≡ Sequence
-is_sequence Sequence e = refl
-is_sequence kind e = absurd (cc)
 
 -- what comes from complete and comes from noted, comes from both of the kept events
 kept-follows : (sys : System) (h : List Event) (keep notice : ℕ → Frontier) → IsRewriting sys h keep notice → (done : ℕ → Frontier) → IsAdmissible sys h done

@@ -1,8 +1,8 @@
 -- Bags of timed recs as their ascending lists.
-use Rattle.std.proofs.Common.{◌≡◌, ℕ, ◌+◌, true, false, cond, List, [], ◌∷◌, map, refl, sym, ap, subst, ◌∙◌, inl, inr, arith}
+use Rattle.std.proofs.Common.{◌≡◌, ℕ, true, false, cond, List, [], ◌∷◌, map, refl, sym, ap, subst, ◌∙◌, inl, inr, arith}
 use Rattle.std.specs.List.{AllByRecursion}
 use Rattle.std.specs.Prelude.{filter}
-use Rattle.std.specs.Ordering.{is_le, is_gt, ordering_then}
+use Rattle.std.specs.Ordering.{is_gt, ordering_then}
 use Rattle.std.specs.declared.cmp.Ordering.{Ordering}
 use Rattle.std.specs.declared.cmp.Ordering.TheVariants.{Equal}
 use Rattle.std.proofs.lemmas.Bool.{cases_Bool, cond_both}
@@ -13,11 +13,12 @@ use Rattle.fw_bag.specs.Rec.{rec_cmp, IsAscending}
 use Rattle.fw_bag.specs.Bag.{how_often}
 use Rattle.fw_bag.specs.Keyed.{sorted_recs}
 use Rattle.fw_bag.proofs.BagLaws.{how_often-bag_sum, IsAscending-bag_sum, same_from_how_often}
-use Rattle.fw_flow.specs.WholeBags.{Timed, timed_cmp, with_timed, in_order, recs_where, outputs_of, outputs_of_kind}
+use Rattle.fw_flow.specs.WholeBags.{Timed, timed_cmp, in_order, recs_where, outputs_of, outputs_of_kind}
 use Rattle.fw_flow.specs.declared.event.Message.{Message}
 use Rattle.fw_flow.specs.Dataflow.{System, sender, kind_of, in_edges, batches_of}
 use Rattle.fw_model.specs.Denotation.{Family, IsDenotation, bag_at}
-use Rattle.fw_model.proofs.TimedLaws.{IsAscendingTimed, ascending-in_order}
+use Rattle.fw_model.proofs.AscentLaws.{put-weigh}
+use Rattle.fw_model.proofs.TimedLaws.{IsAscendingTimed, ascending-in_order, timed_ascent}
 use Rattle.fw_model.proofs.WeightLaws.{weigh, one, how_often-where}
 use Rattle.fw_model.proofs.SentLaws.{timed_message, timed_of}
 use Rattle.fw_model.proofs.StampLaws.{same-is}
@@ -25,18 +26,10 @@ use Rattle.fw_model.specs.History.{recs_at}
 
 -- ---- the same recs
 
-with_timed-weigh : (w : Timed → ℕ) (r : Timed) (xs : List Timed) → weigh w (with_timed r xs) ≡ w r + weigh w xs
-unfolding weigh
-with_timed-weigh w r [] = refl
-with_timed-weigh w r (x ∷ xs) =
-    let h = with_timed-weigh w r xs in
-    cond_both (is_le (timed_cmp r x)) (r ∷ x ∷ xs) (x ∷ with_timed r xs) (λ ys. weigh w ys ≡ w r + weigh w (x ∷ xs))
-    (λ e. refl) (λ e. omega arith)
-
 pub in_order-weigh : (w : Timed → ℕ) (xs : List Timed) → weigh w (in_order xs) ≡ weigh w xs
 unfolding weigh
 in_order-weigh w [] = refl
-in_order-weigh w (x ∷ xs) = let h = in_order-weigh w xs in let a = with_timed-weigh w x (in_order xs) in omega arith
+in_order-weigh w (x ∷ xs) = let h = in_order-weigh w xs in let a = put-weigh timed_ascent w x (in_order xs) in omega arith
 
 -- ---- in order
 

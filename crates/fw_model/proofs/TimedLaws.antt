@@ -1,21 +1,22 @@
 -- The order of timed recs: a bag has one list in order, which the counts of its timed recs decide.
-use Rattle.std.proofs.Common.{◌≡◌, ℕ, ◌+◌, Bool, true, false, cond, List, [], ◌∷◌, filter, refl, ap, ◌∙◌, subst, arith}
+use Rattle.std.proofs.Common.{◌≡◌, ℕ, ◌+◌, Bool, true, false, cond, List, [], ◌∷◌, filter, refl, sym, ap, ◌∙◌, arith}
 use Rattle.std.proofs.lemmas.Bool.{cond_both}
-use Rattle.std.proofs.lemmas.Cmp.{nat_list_cmp_total, on_total, then_total, tied_itself, upto}
+use Rattle.std.proofs.lemmas.Cmp.{nat_list_cmp_total, on_total, then_total, tied_itself}
 use Rattle.std.specs.Cmp.{IsTotalOrder}
-use Rattle.std.specs.declared.cmp.Ordering.{Ordering}
-use Rattle.std.specs.declared.cmp.Ordering.TheVariants.{Less, Equal, Greater}
+use Rattle.std.specs.declared.cmp.Ordering.TheVariants.{Equal}
 use Rattle.std.specs.List.{AllByRecursion}
-use Rattle.std.specs.Ordering.{ordering_reverse, is_eq, is_le, is_gt}
+use Rattle.std.specs.Ordering.{is_eq, is_gt}
 use Rattle.fw_bag.specs.declared.rec.Rec.{Rec}
 use Rattle.fw_bag.specs.Rec.{rec_cmp}
 use Rattle.fw_bag.proofs.RecLaws.{rec_order, rec_cmp-same}
-use Rattle.fw_bag.proofs.OrderingLaws.{then_equal, equal_from_is_eq, gt_of, le_not_gt}
+use Rattle.fw_bag.proofs.OrderingLaws.{then_equal, equal_from_is_eq}
 use Rattle.fw_time.specs.Stamp.{Stamp, stamp_cmp}
 use Rattle.fw_time.proofs.EachLaws.{each-kept}
 use Rattle.fw_flow.specs.Counting.{how_many}
 use Rattle.fw_flow.specs.WholeBags.{Timed, timed_cmp, with_timed, in_order}
+use Rattle.fw_model.proofs.AscentLaws.{IsAscentOf, ascending-put, copy_by, each-put, not_above, put-weigh, same_by_copies}
 use Rattle.fw_model.proofs.CmpLaws.{stamp_cmp-same}
+use Rattle.fw_model.proofs.WeightLaws.{weigh}
 
 -- ---- the order
 
@@ -54,39 +55,33 @@ pub ascending-cons : (x : Timed) (xs : List Timed) → AllByRecursion (λ y. is_
 unfolding IsAscendingTimed
 ascending-cons x xs a b = (a, b)
 
--- what holds of each timed rec and of one more holds of each with that put in
-pub each-with_timed : (P : Timed → Type 0) (r : Timed) (xs : List Timed) → P r → AllByRecursion P xs → AllByRecursion P (with_timed r xs)
-each-with_timed P r [] p a = (p, tt)
-each-with_timed P r (x ∷ xs) p a =
-    cond_both (is_le (timed_cmp r x)) (r ∷ x ∷ xs) (x ∷ with_timed r xs) (AllByRecursion P)
-    (λ e. (p, a)) (λ e. (a.0, each-with_timed P r xs p a.1))
+pub timed_ascent : IsAscentOf timed_cmp with_timed IsAscendingTimed
+unfolding IsAscendingTimed
+timed_ascent = record {
+  order = timed_order;
+  equal = timed_cmp-same;
+  alone = λ r. refl;
+  among = λ r x xs. refl;
+  none = tt;
+  more = λ x xs above rest. (above, rest);
+  parts = λ x xs a. a;
+}
 
 -- what holds of each timed rec holds of each in order
 pub each-in_order : (P : Timed → Type 0) (xs : List Timed) → AllByRecursion P xs → AllByRecursion P (in_order xs)
 each-in_order P [] a = tt
-each-in_order P (x ∷ xs) a = each-with_timed P x (in_order xs) a.0 (each-in_order P xs a.1)
+each-in_order P (x ∷ xs) a = each-put timed_ascent P x (in_order xs) a.0 (each-in_order P xs a.1)
 
 -- a timed rec that is not greater than another is not greater than what that one is not greater than
 pub above-weaker : (r x : Timed) (xs : List Timed) → is_gt (timed_cmp r x) ≡ false → AllByRecursion (λ y. is_gt (timed_cmp x y) ≡ false) xs
     → AllByRecursion (λ y. is_gt (timed_cmp r y) ≡ false) xs
-above-weaker r x [] h a = tt
-above-weaker r x (y ∷ ys) h a = (upto timed_order r x y h a.0, above-weaker r x ys h a.1)
-
-ascending-with_timed : (r : Timed) (xs : List Timed) → IsAscendingTimed xs → IsAscendingTimed (with_timed r xs)
-unfolding IsAscendingTimed
-ascending-with_timed r [] a = (tt, tt)
-ascending-with_timed r (x ∷ xs) a =
-    cond_both (is_le (timed_cmp r x)) (r ∷ x ∷ xs) (x ∷ with_timed r xs) IsAscendingTimed
-    (λ e. let g = le_not_gt (timed_cmp r x) e in ((g, above-weaker r x xs g a.0), a))
-    (λ e.
-    let g : is_gt (timed_cmp x r) ≡ false = ap is_gt (timed_order.antisymm x r ∙ ap ordering_reverse (gt_of (timed_cmp r x) e)) in
-    (each-with_timed (λ y. is_gt (timed_cmp x y) ≡ false) r xs g a.0, ascending-with_timed r xs a.1))
+above-weaker r x xs h a = not_above timed_ascent r x xs h a
 
 -- what is in order ascends
 pub ascending-in_order : (xs : List Timed) → IsAscendingTimed (in_order xs)
 unfolding IsAscendingTimed
 ascending-in_order [] = tt
-ascending-in_order (x ∷ xs) = ascending-with_timed x (in_order xs) (ascending-in_order xs)
+ascending-in_order (x ∷ xs) = ascending-put timed_ascent x (in_order xs) (ascending-in_order xs)
 
 -- what passes a test ascends
 pub ascending-filter : (test : Timed → Bool) (xs : List Timed) → IsAscendingTimed xs → IsAscendingTimed (filter test xs)
@@ -117,63 +112,23 @@ counted false n = omega arith
 how_often-cons : (q x : Timed) (xs : List Timed) → how_often_timed q (x ∷ xs) ≡ how_often_timed q xs + one_if_same q x
 how_often-cons q x xs = counted (is_eq (timed_cmp q x)) (how_often_timed q xs)
 
-how_often-with_timed : (q r : Timed) (xs : List Timed) → how_often_timed q (with_timed r xs) ≡ how_often_timed q xs + one_if_same q r
-how_often-with_timed q r [] = how_often-cons q r []
-how_often-with_timed q r (x ∷ xs) =
-    cond_both (is_le (timed_cmp r x)) (r ∷ x ∷ xs) (x ∷ with_timed r xs) (λ ys. how_often_timed q ys ≡ how_often_timed q (x ∷ xs) + one_if_same q r)
-    (λ e. how_often-cons q r (x ∷ xs))
-    (λ e. omega (arith, how_often-cons q x (with_timed r xs), how_often-cons q x xs, how_often-with_timed q r xs))
+-- how often is what the list weighs by it
+how_often-weigh : (q : Timed) (xs : List Timed) → how_often_timed q xs ≡ weigh (copy_by timed_cmp q) xs
+unfolding weigh
+how_often-weigh q [] = refl
+how_often-weigh q (x ∷ xs) = omega (arith, how_often-cons q x xs, how_often-weigh q xs)
 
 -- in order each timed rec is as often as before
 pub how_often-in_order : (q : Timed) (xs : List Timed) → how_often_timed q (in_order xs) ≡ how_often_timed q xs
 how_often-in_order q [] = refl
 how_often-in_order q (x ∷ xs) =
-    omega (arith, how_often-with_timed q x (in_order xs), how_often-cons q x xs, how_often-in_order q xs)
-
-one_if-self : (x : Timed) → one_if_same x x ≡ 1
-one_if-self x = ap (λ o. one_if (is_eq o)) (timed_cmp-refl x)
-
-is_eq-from_less : (q x y : Timed) → timed_cmp q x ≡ Less → is_gt (timed_cmp x y) ≡ false → is_eq (timed_cmp q y) ≡ false
-is_eq-from_less q x y l g = by (timed_cmp x y) refl g
-  where
-    by : (o : Ordering) → timed_cmp x y ≡ o → is_gt o ≡ false → is_eq (timed_cmp q y) ≡ false
-    by Less e g = ap is_eq (timed_order.trans q x y l e)
-    by Equal e g = let P : Timed → Type 0 = λ z. is_eq (timed_cmp q z) ≡ false in subst P (timed_cmp-same x y e) (ap is_eq l)
-    by Greater e g = cc
-
-how_often-below : (q x : Timed) (xs : List Timed) → timed_cmp q x ≡ Less → AllByRecursion (λ y. is_gt (timed_cmp x y) ≡ false) xs → how_often_timed q xs ≡ 0
-how_often-below q x [] l a = refl
-how_often-below q x (y ∷ ys) l a =
-    omega (arith, how_often-cons q y ys, how_often-below q x ys l a.1, ap one_if (is_eq-from_less q x y l a.0))
-
--- what is less than the first of an ascending list is not in it
-how_often-less : (q x : Timed) (xs : List Timed) → timed_cmp q x ≡ Less → AllByRecursion (λ y. is_gt (timed_cmp x y) ≡ false) xs → how_often_timed q (x ∷ xs) ≡ 0
-how_often-less q x xs l a =
-    omega (arith, how_often-cons q x xs, how_often-below q x xs l a, ap (λ o. one_if (is_eq o)) l)
-
-same_cases : (x y : Timed) (xs ys : List Timed) → IsAscendingTimed (x ∷ xs) → IsAscendingTimed (y ∷ ys)
-    → ((q : Timed) → how_often_timed q (x ∷ xs) ≡ how_often_timed q (y ∷ ys))
-    → (((q : Timed) → how_often_timed q xs ≡ how_often_timed q ys) → xs ≡ ys)
-    → (o : Ordering) → timed_cmp x y ≡ o → x ∷ xs ≡ y ∷ ys
-unfolding IsAscendingTimed
-same_cases x y xs ys s t h ih Less e =
-    absurd (omega (arith, h x, how_often-cons x x xs, one_if-self x, how_often-less x y ys e t.0))
-same_cases x y xs ys s t h ih Greater e =
-    let less : timed_cmp y x ≡ Less = timed_order.antisymm y x ∙ ap ordering_reverse e in
-    absurd (omega (arith, h y, how_often-cons y y ys, one_if-self y, how_often-less y x xs less s.0))
-same_cases x y xs ys s t h ih Equal e =
-    let same : x ≡ y = timed_cmp-same x y e in
-    let rest : (q : Timed) → how_often_timed q xs ≡ how_often_timed q ys = λ q. omega (arith, h q, how_often-cons q x xs, how_often-cons q y ys, ap (one_if_same q) same) in
-    ap (λ q. q ∷ xs) same ∙ ap (λ qs. y ∷ qs) (ih rest)
+    how_often-weigh q (with_timed x (in_order xs))
+    ∙ omega (arith, put-weigh timed_ascent (copy_by timed_cmp q) x (in_order xs), how_often-weigh q (in_order xs), how_often-cons q x xs, how_often-in_order q xs)
 
 -- two ascending lists that have each timed rec equally often are the same list
 pub same_from_how_often : (xs ys : List Timed) → IsAscendingTimed xs → IsAscendingTimed ys
     → ((q : Timed) → how_often_timed q xs ≡ how_often_timed q ys) → xs ≡ ys
-unfolding IsAscendingTimed
-same_from_how_often [] [] s t h = refl
-same_from_how_often [] (y ∷ ys) s t h = absurd (omega (arith, h y, how_often-cons y y ys, one_if-self y))
-same_from_how_often (x ∷ xs) [] s t h = absurd (omega (arith, h x, how_often-cons x x xs, one_if-self x))
-same_from_how_often (x ∷ xs) (y ∷ ys) s t h = same_cases x y xs ys s t h (same_from_how_often xs ys s.1 t.1) (timed_cmp x y) refl
+same_from_how_often xs ys s t h = same_by_copies timed_ascent xs ys s t (λ q. sym (how_often-weigh q xs) ∙ h q ∙ how_often-weigh q ys)
 
 -- what ascends is in order
 pub in_order-ascending : (xs : List Timed) → IsAscendingTimed xs → in_order xs ≡ xs

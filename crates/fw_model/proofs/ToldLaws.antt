@@ -1,7 +1,7 @@
 -- Of which stamps a node was notified, where it may be notified of one more.
-use Rattle.std.proofs.Common.{◌≡◌, ℕ, Bool, true, false, cond, not, ◌&&◌, ◌||◌, ◌==◌, List, [], ◌∷◌, ◌++◌, refl, sym, ap, subst, ◌∙◌, inl, inr}
+use Rattle.std.proofs.Common.{◌≡◌, ℕ, Bool, true, false, cond, not, ◌&&◌, ◌||◌, ◌==◌, List, [], ◌∷◌, ◌++◌, refl, sym, ap, ◌∙◌, inl, inr}
 use Rattle.std.specs.List.{AllByRecursion, list_any}
-use Rattle.std.proofs.lemmas.Bool.{and_parts, and_from, or_cases, or_left, or_right, cond_both, eqb-true, eq-eqb, cases_Bool, false_from_ne_true}
+use Rattle.std.proofs.lemmas.Bool.{and_parts, and_from, or_cases, or_left, or_right, cond_both, eq-eqb, cases_Bool, false_from_ne_true}
 use Rattle.fw_time.specs.declared.stamp.Bounds.{Bounds}
 use Rattle.fw_time.specs.Stamp.{Stamp, leq, lesser, same, in_domain}
 use Rattle.fw_time.proofs.EachLaws.{each-weaker}
@@ -24,7 +24,7 @@ use Rattle.fw_model.proofs.DomainLaws.{has_epochs}
 use Rattle.fw_model.proofs.RecoveryLaws.{runs-legal}
 use Rattle.fw_model.proofs.LegalLaws.{enabled-in_domain, legal-in_domain, legal_events-in_domain}
 use Rattle.fw_model.proofs.SequenceLaws.{notified_in_domain}
-use Rattle.fw_model.proofs.OrderLaws.{either_way}
+use Rattle.fw_model.proofs.OrderLaws.{each-notified, either_way}
 use Rattle.fw_model.proofs.ClosedLaws.{IsSettled, settled-outside, settled-step, settled-now}
 use Rattle.fw_model.proofs.Decisions.{two_ways}
 use Rattle.fw_model.proofs.RestoringLaws.{full-reached}
@@ -35,28 +35,8 @@ use Rattle.fw_model.proofs.AskedLaws.{reached-all}
 -- each stamp of which the node was notified is settled after all events
 told-settled : (sys : System) (h : List Event) → IsWellFormed sys.flow → HasEpochs sys → IsLegal sys h → (p : ℕ)
     → AllByRecursion (IsSettled sys h p) (notified_stamps (events_at sys.flow p h))
-told-settled sys [] w b l p = tt
-told-settled sys (v ∷ h) w b l p =
-    after v l.0
-    (each-weaker (IsSettled sys h p) (IsSettled sys (v ∷ h) p) (notified_stamps (events_at sys.flow p h))
-    (λ t s. settled-step sys h w b l.1 p t s v l.0) (told-settled sys h w b l.1 p))
-  where
-    after : (v : Event) → IsEnabled sys h v → AllByRecursion (IsSettled sys (v ∷ h) p) (notified_stamps (events_at sys.flow p h))
-        → AllByRecursion (IsSettled sys (v ∷ h) p) (notified_stamps (events_at sys.flow p (v ∷ h)))
-    after (Inject s x) k a =
-        let vs = events_at sys.flow p h in
-        cond_both (s == p) (Inject s x ∷ vs) vs (λ ws. AllByRecursion (IsSettled sys (Inject s x ∷ h) p) (notified_stamps ws)) (λ e. a) (λ e. a)
-    after (Deliver d m) k a =
-        let vs = events_at sys.flow p h in
-        cond_both (receiver sys.flow d == p) (Deliver d m ∷ vs) vs (λ ws. AllByRecursion (IsSettled sys (Deliver d m ∷ h) p) (notified_stamps ws)) (λ e. a) (λ e. a)
-    after (Notify q t) k a =
-        let vs = events_at sys.flow p h in
-        cond_both (q == p) (Notify q t ∷ vs) vs (λ ws. AllByRecursion (IsSettled sys (Notify q t ∷ h) p) (notified_stamps ws))
-        (λ e. (subst-node q p (eqb-true q p e) t (settled-now sys h w b l.1 q t k), a))
-        (λ e. a)
-      where
-        subst-node : (q p : ℕ) → q ≡ p → (t : Stamp) → IsSettled sys (Notify q t ∷ h) q t → IsSettled sys (Notify q t ∷ h) p t
-        subst-node q p e t s = subst (λ n. IsSettled sys (Notify q t ∷ h) n t) e s
+told-settled sys h w b l p =
+    each-notified sys p (λ g. IsSettled sys g p) (λ g v m k t s. settled-step sys g w b m p t s v k) (λ g t m k. settled-now sys g w b m p t k) h l
 
 -- an event that may come next is not up to a stamp that was told
 next-above : (sys : System) (h : List Event) → IsWellFormed sys.flow → HasEpochs sys → IsLegal sys h
@@ -78,7 +58,7 @@ pub after-notice : NothingComesAfterItsNotice
 after-notice sys h w b l p n v k e = not-among (event_stamp v) (notified_stamps (events_at sys.flow p h)) (next-above sys h w b l p n v k e)
 
 -- a node that was notified was told
-notified-told : (flow : Dataflow) (p : ℕ) (s : Stamp) (h : List Event) → was_notified p s h ≡ true → is_told (events_at flow p h) s ≡ true
+pub notified-told : (flow : Dataflow) (p : ℕ) (s : Stamp) (h : List Event) → was_notified p s h ≡ true → is_told (events_at flow p h) s ≡ true
 notified-told flow p s [] n = n
 notified-told flow p s (Inject q x ∷ h) n =
     let vs = events_at flow p h in
@@ -102,7 +82,7 @@ notified-told flow p s (Notify q t ∷ h) n =
     ])
 
 -- where something was delivered and nothing is owed, it was told
-paid-told : (sys : System) (h : List Event) (p : ℕ) (s : Stamp) → is_notified_kind (kind_of sys.flow p) ≡ true → was_delivered_to sys.flow p s h ≡ true
+pub paid-told : (sys : System) (h : List Event) (p : ℕ) (s : Stamp) → is_notified_kind (kind_of sys.flow p) ≡ true → was_delivered_to sys.flow p s h ≡ true
     → is_owed_notice sys h p s ≡ false → is_told (events_at sys.flow p h) s ≡ true
 paid-told sys h p s n d o = elim (cases_Bool (was_notified p s h)) [
   | inl i ↦ notified-told sys.flow p s h i
@@ -143,7 +123,7 @@ settled-told sys w steps outcomes last r p n =
     (λ s d i. paid-told sys h p s n d (full.paid p s i))
 
 -- recs by tests that find the same of each delivery
-same-recs : (test other : Stamp → Bool) (vs : List Event) → EachDelivery (λ s. test s ≡ other s) vs
+pub same-recs : (test other : Stamp → Bool) (vs : List Event) → EachDelivery (λ s. test s ≡ other s) vs
     → delivered_recs (λ d s. test s) vs ≡ delivered_recs (λ d s. other s) vs
 same-recs test other [] a = refl
 same-recs test other (Inject s x ∷ vs) a = same-recs test other vs a
@@ -154,7 +134,7 @@ same-recs test other (Notify q t ∷ vs) a = same-recs test other vs a
 
 -- ---- totals
 
-bounds-total : (flow : Dataflow) (p : ℕ) → kind_of flow p ≡ Total → bounds_of flow p ≡ record { greatest = greatest_number ∷ [] }
+pub bounds-total : (flow : Dataflow) (p : ℕ) → kind_of flow p ≡ Total → bounds_of flow p ≡ record { greatest = greatest_number ∷ [] }
 unfolding bounds_of
 bounds-total flow p is = ap (λ k. bounds_of_domain flow (domain_of_kind flow k)) is
 
@@ -179,7 +159,7 @@ both-tests false false true d f g h k = k (h refl)
 both-tests false false false true f g h k = k refl
 both-tests false false false false f g h k = refl
 
-lesser-from : (s t : Stamp) → leq s t ≡ true → same s t ≡ false → lesser s t ≡ true
+pub lesser-from : (s t : Stamp) → leq s t ≡ true → same s t ≡ false → lesser s t ≡ true
 lesser-from s t i j =
     let o : leq t s ≡ false = sym (ap (λ b. b && leq t s) i) ∙ j in
     and_from (leq s t) (not (leq t s)) i (ap not o)

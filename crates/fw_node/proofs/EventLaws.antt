@@ -54,9 +54,6 @@ suc_zero n = grind (arith, nat_tests)
 suc_suc : (m n : ℕ) → (m + 1 == n + 1) ≡ (m == n)
 suc_suc m n = grind (arith, nat_tests)
 
-eq_self : (n : ℕ) → (n == n) ≡ true
-eq_self n = grind (arith, nat_tests)
-
 eq_swap : (m n : ℕ) → (m == n) ≡ (n == m)
 eq_swap m n = grind (arith, nat_tests)
 

@@ -3,7 +3,7 @@ use Rattle.std.proofs.Common.{◌≡◌, ℕ, ◌+◌, Bool, true, false, cond, 
 use Rattle.std.specs.Prelude.{◌&&◌, ◌||◌, slice_index_or}
 use Rattle.std.specs.List.{AllByRecursion}
 use Rattle.std.proofs.lemmas.List.{length-append}
-use Rattle.std.proofs.lemmas.Bool.{and_from}
+use Rattle.std.proofs.lemmas.Bool.{and_from, and_parts}
 use Rattle.fw_time.specs.declared.stamp.Bounds.{Bounds}
 use Rattle.fw_time.specs.Stamp.{Stamp, leq, same, in_domain}
 use Rattle.fw_time.proofs.StampLaws.{leq-length}
@@ -11,6 +11,7 @@ use Rattle.fw_bag.specs.declared.rec.Rec.{Rec}
 use Rattle.fw_bag.specs.Arrivals.{Arrival}
 use Rattle.fw_bag.specs.Keyed.{sorted_recs}
 use Rattle.fw_frontier.specs.Front.{Front, inside}
+use Rattle.fw_frontier.specs.Frontier.{Within}
 use Rattle.fw_flow.specs.declared.event.Event.{Event}
 use Rattle.fw_flow.specs.declared.event.Event.TheVariants.{Inject, Deliver, Notify}
 use Rattle.fw_flow.specs.declared.event.Message.{Message}
@@ -26,6 +27,7 @@ use Rattle.fw_node.specs.Arrived.{arrived, place_in, AreOnEdges, IsOneOf}
 use Rattle.fw_node.specs.Past.{past_of, notice_list, IsSumOfTaken, IsToldWhereNotified}
 use Rattle.fw_node.specs.Sends.{notice_sends}
 use Rattle.fw_node.proofs.EventLaws.{answers_notice, by_stamp, deliveries_answer, plain_messages}
+use Rattle.fw_node.proofs.SameTable.{AreAlike}
 
 -- ---- stamps
 
@@ -59,9 +61,17 @@ weaker_arrived P R f [] p = tt
 weaker_arrived P R f (a ∷ came) p = (f a.at p.0, weaker_arrived P R f came p.1)
 
 -- a test within the domain finds the same where all lies in the domain
-pub in_the_domain_alike : (d b : Bool) → d ≡ true → b ≡ (d && b)
+in_the_domain_alike : (d b : Bool) → d ≡ true → b ≡ (d && b)
 in_the_domain_alike true b e = refl
 in_the_domain_alike false b e = cc
+
+pub domain_alike : (d test : Stamp → Bool) (ins : List ℕ) (vs : List Event) → EachDelivery (λ s. d s ≡ true) vs → AreAlike test (λ s. d s && test s) (arrived ins vs)
+domain_alike d test ins vs h =
+    weaker_arrived (λ s. d s ≡ true) (λ s. test s ≡ (d s && test s)) (λ s e. in_the_domain_alike (d s) (test s) e) (arrived ins vs) (each_arrived ins (λ s. d s ≡ true) vs h)
+
+-- what lies within a test in the domain lies there within the test
+pub within_domain : (d settled test : Stamp → Bool) → Within settled (λ s. d s && test s) → Within (λ s. d s && settled s) test
+within_domain d settled test sub s h = (and_parts (d s) (test s) (sub s (and_parts (d s) (settled s) h).1)).1
 
 -- ---- deliveries
 

@@ -1,5 +1,5 @@
 -- What is kept of a node's past, as it goes on.
-use Rattle.std.proofs.Common.{◌≡◌, ℕ, ◌+◌, length, arith, Result, Ok, Err, OnOk, OnErr, Bool, true, false, cond, not, List, [], ◌∷◌, Some, refl, sym, ap, ◌∙◌}
+use Rattle.std.proofs.Common.{◌≡◌, ℕ, ◌+◌, length, map, arith, Result, Ok, Err, OnOk, OnErr, Bool, true, false, cond, not, List, [], ◌∷◌, Some, refl, sym, ap, ◌∙◌}
 use Rattle.std.specs.Prelude.{◌||◌}
 use Rattle.std.specs.List.{AllByRecursion}
 use Rattle.fw_time.specs.Stamp.{Stamp}
@@ -13,7 +13,9 @@ use Rattle.fw_frontier.specs.Frontier.{Within}
 use Rattle.fw_table.specs.Sent.{sent_at}
 use Rattle.fw_numbered.specs.Numbers.{at_numbers}
 use Rattle.fw_node.specs.Answers.{recs_at_notice}
+use Rattle.fw_node.specs.LawsOfAnswers.{IsPerTime}
 use Rattle.fw_node.specs.Past.{Past, unsettled, with_arrival, notice_list}
+use Rattle.fw_node.proofs.ForgettingLaws.{notifications_need_their_time}
 
 -- an arrival outside what is settled is kept
 pub unsettled_more : (past : Past) (a : Arrival) → past.settled a.at ≡ false → unsettled (with_arrival a past) ≡ a ∷ unsettled past
@@ -56,6 +58,13 @@ pub notice_plain : (k : Kind) (past : Past) (t : Stamp) → is_sequence_kind k �
     → notice_list k past t ≡ sent_at (Some t) (sorted_recs (recs_at_notice k past.came t))
 notice_plain kind.Sequence past t h = cc
 notice_plain _ past t h = refl
+
+-- and where its stamp is not settled, and what it makes send needs its own time alone, it needs only what is not settled
+pub notice_unsettled : (k : Kind) (past : Past) (t : Stamp) → IsPerTime k → is_sequence_kind k ≡ false → past.settled t ≡ false
+    → map (λ (r : Rec). (t, r)) (sorted_recs (recs_at_notice k (unsettled past) t)) ≡ notice_list k past t
+notice_unsettled k past t i plain out =
+    ap (λ rs. map (λ (r : Rec). (t, r)) (sorted_recs rs)) (notifications_need_their_time k i (λ s. not (past.settled s)) past.came t (ap not out))
+    ∙ sym (notice_plain k past t plain)
 
 -- where it is no error, it holds
 pub any_ok : {T E : Type 0} (r : Result T E) (P : Type 0) → P → OnOk r P

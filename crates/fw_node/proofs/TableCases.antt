@@ -1,4 +1,5 @@
 -- Of which kind the node of a table is, where the kind looks past one time.
+use Rattle.std.proofs.Common.{◌≡◌, subst}
 use Rattle.fw_flow.specs.declared.kind.Kind.{Kind}
 use Rattle.fw_flow.specs.declared.kind.Kind.TheVariants as kind
 use Rattle.fw_flow.specs.Dataflow.{Dataflow}
@@ -8,9 +9,14 @@ use Rattle.fw_totals.specs.Total.{IsTotal}
 use Rattle.fw_totals.specs.Ledger.{IsLedger}
 use Rattle.fw_numbered.specs.declared.sequence.Sequence.{Sequence}
 use Rattle.fw_numbered.specs.Sequence.{IsSequence}
+use Rattle.fw_node.specs.declared.table.Table.{Table}
 use Rattle.fw_node.specs.declared.table.Table.TheVariants as table
 use Rattle.fw_node.specs.NodeTable.{IsNodeTable}
 use Rattle.fw_node.specs.Past.{Past, is_taken}
+
+-- what a table says, said of the same table
+pub of_variant : (flow : Dataflow) (k : Kind) (past : Past) {s t : Table} → s ≡ t → IsNodeTable flow s k past → IsNodeTable flow t k past
+of_variant flow k past e r = let P : Table → Type 0 = λ x. IsNodeTable flow x k past in subst P e r
 
 module _ (flow : Dataflow) (past : Past) (P : Kind → Type 0) where
   -- a total's table is that of a total

@@ -18,7 +18,7 @@ alone-times s t n = ap (λ b. unwrap_or (cond b (Some n) None) 0) (is_eq-same t 
     by true = refl
     by false = refl
 
-none-times : (t : Stamp) → times_in t [] ≡ 0
+pub none-times : (t : Stamp) → times_in t [] ≡ 0
 unfolding times_in
 none-times t = refl
 

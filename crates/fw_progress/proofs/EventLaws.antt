@@ -99,26 +99,38 @@ sending_more stamps edges i x old mid new l is a c =
     still : (o k n h : ℕ) → n ≡ k + 0 → o + k * h ≡ o + n * h
     still o k n h b = rw b (omega arith)
 
-none-from : (n m : ℕ) (es : List Edge) (p : ℕ) → m < n → how_often (edges_from n es p) m ≡ 0
-none-from n m [] p l = refl
-none-from n m (e ∷ es) p l = by (e.sender == p) (none-from (n + 1) m es p (omega arith)) (false_from_ne_true (n == m) (λ k. let z = eqb-true n m k in absurd (omega arith)))
+-- the places of edges that are picked from a list by one of their ends
+pub record ArePicked (places : ℕ → List Edge → List ℕ) (end : Edge → ℕ) (p : ℕ) : Type 0 where
+  pub none : (n : ℕ) → places n [] ≡ []
+  pub more : (n : ℕ) (e : Edge) (es : List Edge) → places n (e ∷ es) ≡ cond (end e == p) (n ∷ places (n + 1) es) (places (n + 1) es)
+
+none-picked : {places : ℕ → List Edge → List ℕ} {end : Edge → ℕ} {p : ℕ} → ArePicked places end p → (n m : ℕ) (es : List Edge) → m < n → how_often (places n es) m ≡ 0
+none-picked {places} {end} {p} picked n m [] l = ap (λ xs. how_often xs m) (picked.none n)
+none-picked {places} {end} {p} picked n m (e ∷ es) l =
+    ap (λ xs. how_often xs m) (picked.more n e es)
+    ∙ by (end e == p) (none-picked picked (n + 1) m es (omega arith)) (false_from_ne_true (n == m) (λ k. let z = eqb-true n m k in absurd (omega arith)))
   where
-    by : (b : Bool) → how_often (edges_from (n + 1) es p) m ≡ 0 → (n == m) ≡ false → how_often (cond b (n ∷ edges_from (n + 1) es p) (edges_from (n + 1) es p)) m ≡ 0
-    by true k j = ap (λ c. cond c (how_often (edges_from (n + 1) es p) m + 1) (how_often (edges_from (n + 1) es p) m)) j ∙ k
+    by : (b : Bool) → how_often (places (n + 1) es) m ≡ 0 → (n == m) ≡ false → how_often (cond b (n ∷ places (n + 1) es) (places (n + 1) es)) m ≡ 0
+    by true k j = ap (λ c. cond c (how_often (places (n + 1) es) m + 1) (how_often (places (n + 1) es) m)) j ∙ k
     by false k j = k
 
-once-from : (n i e : ℕ) (es : List Edge) (p : ℕ) (d : Edge) → e ≡ n + i → i < length es → how_often (edges_from n es p) e ≡ cond ((get_or es i d).sender == p) 1 0
-once-from n i e [] p d k l = absurd (omega arith)
-once-from n zero e (x ∷ es) p d k l = by (x.sender == p) (none-from (n + 1) e es p (omega arith)) (eq-eqb n e (omega arith))
+-- each of them is picked once, if it has that end
+pub once-picked : {places : ℕ → List Edge → List ℕ} {end : Edge → ℕ} {p : ℕ} → ArePicked places end p → (n i e : ℕ) (es : List Edge) (d : Edge) → e ≡ n + i → i < length es
+    → how_often (places n es) e ≡ cond (end (get_or es i d) == p) 1 0
+once-picked {places} {end} {p} picked n i e [] d k l = absurd (omega arith)
+once-picked {places} {end} {p} picked n zero e (x ∷ es) d k l =
+    ap (λ xs. how_often xs e) (picked.more n x es) ∙ by (end x == p) (none-picked picked (n + 1) e es (omega arith)) (eq-eqb n e (omega arith))
   where
-    by : (b : Bool) → how_often (edges_from (n + 1) es p) e ≡ 0 → (n == e) ≡ true → how_often (cond b (n ∷ edges_from (n + 1) es p) (edges_from (n + 1) es p)) e ≡ cond b 1 0
-    by true z j = ap (λ c. cond c (how_often (edges_from (n + 1) es p) e + 1) (how_often (edges_from (n + 1) es p) e)) j ∙ ap (λ m. m + 1) z
+    by : (b : Bool) → how_often (places (n + 1) es) e ≡ 0 → (n == e) ≡ true → how_often (cond b (n ∷ places (n + 1) es) (places (n + 1) es)) e ≡ cond b 1 0
+    by true z j = ap (λ c. cond c (how_often (places (n + 1) es) e + 1) (how_often (places (n + 1) es) e)) j ∙ ap (λ m. m + 1) z
     by false z j = z
-once-from n (suc i) e (x ∷ es) p d k l = by (x.sender == p) (once-from (n + 1) i e es p d (omega arith) (omega arith)) (false_from_ne_true (n == e) (λ j. let z = eqb-true n e j in absurd (omega arith)))
+once-picked {places} {end} {p} picked n (suc i) e (x ∷ es) d k l =
+    ap (λ xs. how_often xs e) (picked.more n x es)
+    ∙ by (end x == p) (once-picked picked (n + 1) i e es d (omega arith) (omega arith)) (false_from_ne_true (n == e) (λ j. let z = eqb-true n e j in absurd (omega arith)))
   where
-    by : (b : Bool) → how_often (edges_from (n + 1) es p) e ≡ cond ((get_or es i d).sender == p) 1 0 → (n == e) ≡ false
-        → how_often (cond b (n ∷ edges_from (n + 1) es p) (edges_from (n + 1) es p)) e ≡ cond ((get_or es i d).sender == p) 1 0
-    by true z j = ap (λ c. cond c (how_often (edges_from (n + 1) es p) e + 1) (how_often (edges_from (n + 1) es p) e)) j ∙ z
+    by : (b : Bool) → how_often (places (n + 1) es) e ≡ cond (end (get_or es i d) == p) 1 0 → (n == e) ≡ false
+        → how_often (cond b (n ∷ places (n + 1) es) (places (n + 1) es)) e ≡ cond (end (get_or es i d) == p) 1 0
+    by true z j = ap (λ c. cond c (how_often (places (n + 1) es) e + 1) (how_often (places (n + 1) es) e)) j ∙ z
     by false z j = z
 
 -- an out-edge by its place among them
@@ -130,7 +142,9 @@ out_edge flow p edges i e es l is =
 -- each edge is once among the out-edges of its sender
 pub once : (flow : Dataflow) (p e : ℕ) → e < length flow.edges → how_often (out_edges flow p) e ≡ cond (sender flow e == p) 1 0
 unfolding out_edges sender
-once flow p e l = once-from 0 e e flow.edges p (record { name = []; sender = length flow.nodes; receiver = length flow.nodes }) (omega arith) l
+once flow p e l =
+    let picked : ArePicked (λ n es. edges_from n es p) (λ d. d.sender) p = record { none = λ n. refl; more = λ n d es. refl } in
+    once-picked picked 0 e e flow.edges (record { name = []; sender = length flow.nodes; receiver = length flow.nodes }) (omega arith) l
 
 often-in : (xs : List ℕ) (e : ℕ) → is_in xs e ≡ true → how_often xs e ≡ 0 → ⊥
 often-in [] e k z = cc

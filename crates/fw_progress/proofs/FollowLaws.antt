@@ -68,7 +68,7 @@ pending-balance sys h l e t =
     let z = many-weigh t (sent_messages sys h e) in
     omega arith
 
-sent-more : (sys : System) (h : List Event) (v : Event) (e : ℕ) → sent_messages sys (v ∷ h) e ≡ sent_on sys h e v ++ sent_messages sys h e
+pub sent-more : (sys : System) (h : List Event) (v : Event) (e : ℕ) → sent_messages sys (v ∷ h) e ≡ sent_on sys h e v ++ sent_messages sys h e
 sent-more sys h v e = by (event_node sys.flow v == sender sys.flow e)
   where
     q : ℕ

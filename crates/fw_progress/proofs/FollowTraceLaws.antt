@@ -24,9 +24,8 @@ use Rattle.fw_progress.specs.declared.traces.Traces.{Traces}
 use Rattle.fw_progress.specs.Progress.{ChangesAt}
 use Rattle.fw_model.specs.EventStamps.{causes_in}
 use Rattle.fw_progress.specs.SentTally.{IsSentTally, CountsMore}
-use Rattle.fw_progress.specs.Trace.{delivered_on, notified_of, sent_at, counted_of, no_tally, counts_sent, IsTraceOf, TracesFollow, StandForManyMore, SentMore, CountedMore, HasSent}
+use Rattle.fw_progress.specs.Trace.{delivered_on, notified_of, sent_at, counted_of, no_tally, counts_sent, TracesFollow, StandForManyMore, SentMore, CountedMore, HasSent}
 use Rattle.fw_progress.specs.Traces.{StandForOneMore}
-use Rattle.fw_progress.proofs.StartLaws.{all-alike}
 use Rattle.fw_progress.proofs.TraceLaws.{contains-head, contains-tail, each-had}
 
 -- ---- the same stamps, however often
@@ -190,18 +189,3 @@ counted-none flow p at count old none = record { one_each = refl; here = λ k. a
 pub counted-some : (flow : Dataflow) (p : ℕ) (at : Stamp) (count : ℕ) (old new : List SentTally) → ChangesAt p no_tally (CountsMore at count) old new
     → ChangesAt p no_tally (CountedMore flow p at count) old new
 counted-some flow p at count old new c = record { one_each = c.one_each; here = λ k. c.here; others = c.others }
-
--- ---- of no event
-
--- the traces of no event
-pub no-trace : (sys : System) (p : ℕ) (base : Frontier) (traces : Traces) → AllByRecursion (λ kept. kept ≡ []) traces.delivered.items → AllByRecursion (λ kept. kept ≡ []) traces.notified.items
-    → AllByRecursion (λ kept. kept ≡ []) traces.sent.items → AllByRecursion (λ tally. tally ≡ no_tally) traces.counted.items → IsTraceOf sys [] p base traces
-no-trace sys p base traces d n s c = record {
-  delivered = λ x l r. none (delivered_on traces x) (all-alike [] traces.delivered.items d x);
-  notified = none (notified_of traces p) (all-alike [] traces.notified.items n p);
-  sent = λ o k. none (sent_at traces p) (all-alike [] traces.sent.items s p);
-  counted = λ k. subst (IsSentTally base []) (sym (all-alike no_tally traces.counted.items c p)) (λ f w. refl);
-}
-  where
-    none : (kept : List Stamp) → kept ≡ [] → IsThinned base [] kept
-    none kept e = subst (IsThinned base []) (sym e) (record { among = tt; outside = tt; inside = tt })

@@ -189,16 +189,6 @@ more_read flow fronts p i f x r s c k e l is above one below other =
       strictly = λ w. both_ways s other ((below b (subst (IsCanonical b) (sym here) (c p))).1 (λ t j. ap (λ g. frontier_of b g t) here ∙ w t j));
     }
 
-pub same_read : (flow : Dataflow) (fronts : List Front) (p i : ℕ) (f x : Front) (r s : Bool) → AreCanonical flow fronts → IsCanonical (bounds_of flow p) f → i ≡ p → i < length fronts → x ≡ get_or fronts i x
-    → ((b : Bounds) → IsCanonical b f → (r ≡ true) ↔ Within (frontier_of b x) (frontier_of b f))
-    → ((b : Bounds) → IsCanonical b x → (s ≡ true) ↔ Within (frontier_of b f) (frontier_of b x)) → (r ≡ true → s ≡ true)
-    → Within (family_of flow fronts p) (node_frontier flow p f) → Within (node_frontier flow p f) (family_of flow fronts p)
-same_read flow fronts p i f x r s c k e l is above below both w t j =
-    let b = bounds_of flow p in
-    let here : x ≡ front_of fronts p = read_at fronts p i x [] e l is in
-    let yes : r ≡ true = (above b k).1 (λ u m. w u (sym (ap (λ g. frontier_of b g u) here) ∙ m)) in
-    sym (ap (λ g. frontier_of b g t) here) ∙ (below b (subst (IsCanonical b) (sym here) (c p))).0 (both yes) t j
-
 pub not_within_read : (flow : Dataflow) (fronts : List Front) (p i : ℕ) (f x : Front) (r : Bool) → IsCanonical (bounds_of flow p) f → i ≡ p → i < length fronts → x ≡ get_or fronts i x
     → ((b : Bounds) → IsCanonical b f → (r ≡ true) ↔ Within (frontier_of b x) (frontier_of b f)) → r ≡ false → Within (family_of flow fronts p) (node_frontier flow p f) → ⊥
 not_within_read flow fronts p i f x r k e l is above none w =

@@ -21,7 +21,7 @@ use Rattle.fw_model.specs.History.{some_at, pending_messages, injected_epochs, I
 use Rattle.fw_model.specs.LawsOfProgress.{IsOpen}
 use Rattle.fw_model.specs.Machine.{front_of, family_of}
 use Rattle.fw_model.proofs.CompleteLaws.{not_past}
-use Rattle.fw_model.proofs.DescentLaws.{past_edges-joined, past_edges-quiet, past_edges-phi}
+use Rattle.fw_model.proofs.DescentLaws.{past_edges-joined, past_edges-quiet, past_edges-phi, implies-from}
 use Rattle.fw_model.proofs.ProgressLaws.{stuck-complete}
 use Rattle.fw_progress.specs.declared.counts.Counts.{Counts}
 use Rattle.fw_progress.specs.Counts.{pending_of, owed_of, batches_in, injected_in, sent_of, AreCounts, given_by, clear_by, come_by, target_by, IsAdmissibleBy, is_in, AreStuckOutside}
@@ -50,10 +50,6 @@ pub phi-is : (sys : System) (h : List Event) (counts : Counts) → IsWellFormed 
     → phi_by_count sys.flow (table_count f (sent_of counts (sender sys.flow e))) e f u ≡ phi sys h e f u
 unfolding phi_by_count
 phi-is sys h counts w c e l f u = sym (phi-by_table sys h e f (sent_of counts (sender sys.flow e)) (c.sent (sender sys.flow e) (w.senders_declared e l)) u)
-
-implied : (a b : Bool) → (a ≡ true → b ≡ true) → (not a || b) ≡ true
-implied true b h = h refl
-implied false b h = refl
 
 -- what was injected by the counts and by the history
 injected-is : (sys : System) (h : List Event) (counts : Counts) → IsCountOf sys h counts → (p : ℕ) → p < length sys.flow.nodes → (t : Stamp)
@@ -94,7 +90,7 @@ open-target sys h counts w a c done p l t is =
     let test : ℕ → Bool = λ e. come_by flow counts e (done (sender flow e)) t in
     let d = is.of_domain in
     let given = and_from (in_domain b t) (not (is_input_kind (kind_of flow p)) || (injected_in counts p == batches_in counts p || nat_lt (first_coordinate t) (injected_in counts p))) d
-    (implied (is_input_kind (kind_of flow p)) (injected_in counts p == batches_in counts p || nat_lt (first_coordinate t) (injected_in counts p))
+    (implies-from (is_input_kind (kind_of flow p)) (injected_in counts p == batches_in counts p || nat_lt (first_coordinate t) (injected_in counts p))
     (λ k. (and_parts (in_domain b t) (injected_in counts p == batches_in counts p || nat_lt (first_coordinate t) (injected_in counts p)) (injected-is sys h counts c p l t ∙ is.source k)).1)) in
     let paid = and_from (in_domain b t) (inside (keys_of (owed_of counts p)) t) d
     (inside-none (owed_of counts p) (a.owed p l).positive t (λ s k. has_one-none s (owed_of counts p) (c.owed p l s ∙ is.paid s k))) in

@@ -36,7 +36,7 @@ use Rattle.fw_progress.specs.Notices.{has_come, CanNotify, IsFirstNotice, IsFirs
 use Rattle.fw_progress.specs.Tally.{times_in, has_one, IsPositive}
 use Rattle.fw_progress.proofs.HistoryLaws.{some-count, count-some, phi-is}
 use Rattle.fw_progress.proofs.TallyLaws.{is_eq-same, none-inside, inside-none}
-use Rattle.fw_progress.proofs.TargetLaws.{all-append}
+use Rattle.fw_progress.proofs.TargetLaws.{all-append, in_edge}
 
 -- ---- the stamps of a tally
 
@@ -262,5 +262,12 @@ pub come-not : (test : ℕ → Bool) (edges : List ℕ) (i e : ℕ) → i < leng
 come-not test edges i e l is k = false_from_ne_true (list_all test edges) (λ a.
     both_ways (test e) k (ap test is ∙ each-at (λ d. test d ≡ true) edges i e l (each-of_all test edges a)))
 
-pub contains-read : (flow : Dataflow) (q p : ℕ) (f : Front) (g : Stamp → Bool) (t : Stamp) → q ≡ p → in_domain (bounds_of flow p) t ≡ true → IsFrontOf (bounds_of flow q) f g → g t ≡ inside f t
+contains-read : (flow : Dataflow) (q p : ℕ) (f : Front) (g : Stamp → Bool) (t : Stamp) → q ≡ p → in_domain (bounds_of flow p) t ≡ true → IsFrontOf (bounds_of flow q) f g → g t ≡ inside f t
 contains-read flow q p f g t e d n = sym (n.same t) ∙ ap (λ b. b && inside f t) (ap (λ x. in_domain (bounds_of flow x) t) e ∙ d)
+
+-- what is read of what can come on an in-edge
+pub come-read : (flow : Dataflow) (counts : Counts) (fronts : List Front) (p : ℕ) (edges : List ℕ) (i e : ℕ) → edges ≡ in_edges flow p → i < length edges → e ≡ get_or edges i e
+    → (come : Front) (t : Stamp) → in_domain (bounds_of flow p) t ≡ true → IsFrontOf (bounds_of flow (receiver flow e)) come (come_by flow counts e (family_of flow fronts (sender flow e)))
+    → come_by flow counts e (family_of flow fronts (sender flow e)) t ≡ inside come t
+come-read flow counts fronts p edges i e es l is come t d n =
+    contains-read flow (receiver flow e) p come (come_by flow counts e (family_of flow fronts (sender flow e))) t (in_edge flow p edges i e es l is).1 d n

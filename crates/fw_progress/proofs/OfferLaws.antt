@@ -1,8 +1,8 @@
 -- The stamps of a node's traces, as they are offered to a recovery.
-use Rattle.std.proofs.Common.{◌≡◌, ℕ, zero, suc, ◌+◌, ◌<◌, Bool, true, false, ◌&&◌, ◌==◌, cond, List, [], ◌∷◌, ◌++◌, length, get_or, map, Option, Some, None, refl, sym, ap, subst, ◌∙◌, arith}
+use Rattle.std.proofs.Common.{◌≡◌, ℕ, ◌+◌, ◌<◌, Bool, true, false, ◌&&◌, ◌==◌, cond, List, [], ◌∷◌, ◌++◌, length, map, Option, Some, None, refl, sym, ap, subst, ◌∙◌, arith}
 use Rattle.std.specs.Prelude.{filter, option_to_list}
 use Rattle.std.specs.List.{AllByRecursion, Contains, flat_map}
-use Rattle.std.proofs.lemmas.Bool.{eq-eqb, eqb-true, false_from_ne_true}
+use Rattle.std.proofs.lemmas.Bool.{eq-eqb, eqb-true}
 use Rattle.std.proofs.lemmas.List.Elements.{filter-append}
 use Rattle.fw_time.specs.Stamp.{Stamp, in_domain}
 use Rattle.fw_time.proofs.EachLaws.{each-weaker, each-append, each-map, each-both}
@@ -10,12 +10,10 @@ use Rattle.fw_frontier.specs.Frontier.{Frontier}
 use Rattle.fw_flow.specs.declared.choice.Counted.{Counted}
 use Rattle.fw_flow.specs.declared.event.Event.{Event}
 use Rattle.fw_flow.specs.declared.event.Message.{Message}
-use Rattle.fw_flow.specs.declared.node.Edge.{Edge}
 use Rattle.fw_flow.specs.Dataflow.{System, Dataflow, kind_of, sender, receiver, bounds_of, bounds_of_edge, bounds_of_domain, edges_into, in_edges, out_edges, send_stamp, is_sequence_kind}
 use Rattle.fw_flow.specs.NodeFunction.{sent_by}
 use Rattle.fw_flow.specs.Projection.{events_at, all_inside}
 use Rattle.fw_flow.specs.WellFormed.{IsWellFormed}
-use Rattle.fw_flow.proofs.OutEdgeLaws.{out_edges-from}
 use Rattle.fw_model.specs.Offers.{AreOnEdges, on_edge, stamps_on}
 use Rattle.fw_model.specs.Thinned.{IsThinned}
 use Rattle.fw_model.proofs.DependenceLaws.{in_edges-each}
@@ -29,7 +27,7 @@ use Rattle.fw_model.specs.EventStamps.{IsOfCause as IsCounted}
 use Rattle.fw_progress.specs.Covers.{sends_at, send_stamps}
 use Rattle.fw_progress.specs.StampData.{message_at, message_of, messages_of, all_delivered}
 use Rattle.fw_progress.specs.Traces.{AreOf}
-use Rattle.fw_progress.proofs.EventLaws.{how_often, once}
+use Rattle.fw_progress.proofs.EventLaws.{ArePicked, how_often, once, once-picked}
 
 -- ---- lists that are joined
 
@@ -75,32 +73,11 @@ on-once g own (x ∷ edges) e z = by (x == e) refl z (on-once g own edges e)
 
 -- ---- each edge is once among the in-edges of its receiver
 
-none-into : (n m : ℕ) (es : List Edge) (p : ℕ) → m < n → how_often (edges_into n es p) m ≡ 0
-none-into n m [] p l = refl
-none-into n m (e ∷ es) p l = by (e.receiver == p) (none-into (n + 1) m es p (omega arith)) (false_from_ne_true (n == m) (λ k. let z = eqb-true n m k in absurd (omega arith)))
-  where
-    by : (b : Bool) → how_often (edges_into (n + 1) es p) m ≡ 0 → (n == m) ≡ false → how_often (cond b (n ∷ edges_into (n + 1) es p) (edges_into (n + 1) es p)) m ≡ 0
-    by true k j = ap (λ c. cond c (how_often (edges_into (n + 1) es p) m + 1) (how_often (edges_into (n + 1) es p) m)) j ∙ k
-    by false k j = k
-
-once-into : (n i e : ℕ) (es : List Edge) (p : ℕ) (d : Edge) → e ≡ n + i → i < length es → how_often (edges_into n es p) e ≡ cond ((get_or es i d).receiver == p) 1 0
-once-into n i e [] p d k l = absurd (omega arith)
-once-into n zero e (x ∷ es) p d k l = by (x.receiver == p) (none-into (n + 1) e es p (omega arith)) (eq-eqb n e (omega arith))
-  where
-    by : (b : Bool) → how_often (edges_into (n + 1) es p) e ≡ 0 → (n == e) ≡ true → how_often (cond b (n ∷ edges_into (n + 1) es p) (edges_into (n + 1) es p)) e ≡ cond b 1 0
-    by true z j = ap (λ c. cond c (how_often (edges_into (n + 1) es p) e + 1) (how_often (edges_into (n + 1) es p) e)) j ∙ ap (λ m. m + 1) z
-    by false z j = z
-once-into n (suc i) e (x ∷ es) p d k l = by (x.receiver == p) (once-into (n + 1) i e es p d (omega arith) (omega arith)) (false_from_ne_true (n == e) (λ j. let z = eqb-true n e j in absurd (omega arith)))
-  where
-    by : (b : Bool) → how_often (edges_into (n + 1) es p) e ≡ cond ((get_or es i d).receiver == p) 1 0 → (n == e) ≡ false
-        → how_often (cond b (n ∷ edges_into (n + 1) es p) (edges_into (n + 1) es p)) e ≡ cond ((get_or es i d).receiver == p) 1 0
-    by true z j = ap (λ c. cond c (how_often (edges_into (n + 1) es p) e + 1) (how_often (edges_into (n + 1) es p) e)) j ∙ z
-    by false z j = z
-
 once-in : (flow : Dataflow) (d : ℕ) → d < length flow.edges → how_often (in_edges flow (receiver flow d)) d ≡ 1
 unfolding in_edges receiver
 once-in flow d l =
-    once-into 0 d d flow.edges (receiver flow d) (record { name = []; sender = length flow.nodes; receiver = length flow.nodes }) (omega arith) l
+    let picked : ArePicked (λ n es. edges_into n es (receiver flow d)) (λ e. e.receiver) (receiver flow d) = record { none = λ n. refl; more = λ n e es. refl } in
+    once-picked picked 0 d d flow.edges (record { name = []; sender = length flow.nodes; receiver = length flow.nodes }) (omega arith) l
     ∙ ap (λ b. cond b 1 0) (eq-eqb (receiver flow d) (receiver flow d) refl)
 
 pub once-out : (flow : Dataflow) (e : ℕ) → e < length flow.edges → how_often (out_edges flow (sender flow e)) e ≡ 1
@@ -230,12 +207,6 @@ messages-inside flow p (s ∷ ss) e f = by (f s) refl (messages-inside flow p ss
 
 pub sent-on : (flow : Dataflow) (p : ℕ) (ss : List Stamp) (e : ℕ) → e < length flow.edges → sender flow e ≡ p → on_edge e (flat_map (messages_of flow p ss) (out_edges flow p)) ≡ messages_of flow p ss e
 sent-on flow p ss e l r = on-once (messages_of flow p ss) (messages-own flow p ss) (out_edges flow p) e (subst (λ q. how_often (out_edges flow q) e ≡ 1) r (once-out flow e l))
-
-pub sent-on_edges : (flow : Dataflow) → IsWellFormed flow → (p : ℕ) (ss : List Stamp) → AllByRecursion (Sends flow p) ss → AreOnEdges flow (flat_map (messages_of flow p ss) (out_edges flow p))
-sent-on_edges flow well p ss a =
-    each-joined (λ (m : Counted). in_domain (bounds_of flow (receiver flow m.edge)) m.at ≡ true) (messages_of flow p ss) (out_edges flow p)
-    (out_edges-from (λ e. AllByRecursion (λ (m : Counted). in_domain (bounds_of flow (receiver flow m.edge)) m.at ≡ true) (messages_of flow p ss e)) flow p
-    (λ e l r. messages-on_edges flow well p ss e r a))
 
 -- what stands for what a node sent on an edge
 pub stands-for_sent : (sys : System) (h : List Event) (p : ℕ) (base : Frontier) (ss : List Stamp) (e : ℕ) → e < length sys.flow.edges → sender sys.flow e ≡ p

@@ -1,11 +1,10 @@
 -- Data as a node's traces.
-use Rattle.std.proofs.Common.{◌≡◌, ◌≢◌, inl, inr, ℕ, suc, ◌+◌, ◌<◌, Bool, true, false, not, ◌==◌, nat_eq, cond, List, [], ◌∷◌, ◌++◌, length, get_or, take, map, refl, sym, ap, subst, ◌∙◌, arith}
+use Rattle.std.proofs.Common.{◌≡◌, inl, inr, ℕ, suc, ◌+◌, ◌<◌, Bool, true, false, not, ◌==◌, nat_eq, cond, List, [], ◌∷◌, ◌++◌, length, get_or, take, map, refl, sym, ap, subst, ◌∙◌, arith}
 use Rattle.std.specs.List.{AllByRecursion, Contains, flat_map}
 use Rattle.std.specs.BTreeSet.{insert_key}
 use Rattle.std.proofs.lemmas.Bool.{cases_eq, eq-eqb, eqb-true, false_from_ne_true}
-use Rattle.std.proofs.lemmas.Grind.{flat_map-append}
-use Rattle.std.proofs.lemmas.List.{map-append, take_more}
-use Rattle.std.proofs.lemmas.List.Elements.{filter-append, Contains-append_left, Contains-append_right}
+use Rattle.std.proofs.lemmas.List.{take_more}
+use Rattle.std.proofs.lemmas.List.Elements.{Contains-append_left, Contains-append_right}
 use Rattle.fw_time.specs.Stamp.{Stamp, stamp_cmp}
 use Rattle.fw_time.proofs.EachLaws.{each-weaker, each-append}
 use Rattle.fw_frontier.specs.Frontier.{Frontier}
@@ -100,22 +99,6 @@ equal-places x y ne e f = eqb-true x y (by (nat_eq x y) (sym e ∙ f))
     by true k = refl
     by false k = absurd (cc)
 
-on-append : (d : ℕ) (ms more : List Counted) → stamps_on d (ms ++ more) ≡ stamps_on d ms ++ stamps_on d more
-on-append d ms more = ap (map (λ (m : Counted). m.at)) (filter-append (λ (m : Counted). m.edge == d) ms more) ∙ map-append (λ (m : Counted). m.at) (on_edge d ms) (on_edge d more)
-
-pub taken-none : (flow : Dataflow) (p : ℕ) (old : Lists) → TakeUp flow p [] old old
-taken-none flow p old = record { one_each = refl; here = λ d r. added-none (get_or old d []); others = λ d n. refl }
-
--- a message that is not on an in-edge
-pub taken-other : (flow : Dataflow) (p : ℕ) (m : Counted) (old : Lists) → receiver flow m.edge ≢ p → TakeUp flow p (m ∷ []) old old
-taken-other flow p m old n = record {
-  one_each = refl;
-  here = λ d r. subst (λ ss. HaveAdded ss (get_or old d []) (get_or old d []))
-      (sym (ap (λ b. map (λ (x : Counted). x.at) (cond b (m ∷ []) [])) (false_from_ne_true (m.edge == d) (λ k. n (ap (receiver flow) (eqb-true m.edge d k) ∙ r)))))
-      (added-none (get_or old d []));
-  others = λ d k. refl;
-}
-
 -- a message that is on one
 pub taken-one : (flow : Dataflow) (p : ℕ) (m : Counted) (old new : Lists) → receiver flow m.edge ≡ p → ChangesAt m.edge [] (HaveAdded (m.at ∷ [])) old new → TakeUp flow p (m ∷ []) old new
 taken-one flow p m old new e c = record {
@@ -129,17 +112,6 @@ taken-one flow p m old new e c = record {
   others = λ d n. c.others d (λ i. n (ap (receiver flow) i ∙ e));
 }
 
-pub taken-next : (flow : Dataflow) (p : ℕ) (ms : List Counted) (i : ℕ) (m : Counted) (old mid new : Lists) → i < length ms → m ≡ get_or ms i m
-    → TakeUp flow p (take i ms) old mid → TakeUp flow p (m ∷ []) mid new → TakeUp flow p (take (i + 1) ms) old new
-taken-next flow p ms i m old mid new l is a b =
-    let front = take i ms in
-    subst (λ xs. TakeUp flow p xs old new) (sym (take_more ms i m l ∙ ap (λ y. front ++ y ∷ []) (sym is))) (record {
-      one_each = b.one_each ∙ a.one_each;
-      here = λ d r. subst (λ ss. HaveAdded ss (get_or old d []) (get_or new d [])) (sym (on-append d front (m ∷ [])))
-          (added-more (stamps_on d front) (stamps_on d (m ∷ [])) (get_or old d []) (get_or mid d []) (get_or new d []) (a.here d r) (b.here d r));
-      others = λ d n. b.others d n ∙ a.others d n;
-    })
-
 -- of lists that were made empty
 pub taken-delivered : (flow : Dataflow) (p : ℕ) (ms : List Counted) (old mid new : Lists) → ChangesInto flow p (λ x y. y ≡ []) old mid → TakeUp flow p ms mid new → AreDelivered flow p ms old new
 taken-delivered flow p ms old mid new a b = record {
@@ -147,21 +119,6 @@ taken-delivered flow p ms old mid new a b = record {
   here = λ d l r. added-to_none (stamps_on d ms) (get_or new d []) (subst (λ ss. HaveAdded (stamps_on d ms) ss (get_or new d [])) (a.here d l r) (b.here d r));
   others = λ d n. b.others d n ∙ a.others d n;
 }
-
--- the causes of the messages on an edge so far
-pub causes-next : (e : ℕ) (ms : List Counted) (i : ℕ) (m : Counted) (kept new : List Stamp) → i < length ms → m ≡ get_or ms i m → AreTheSame (causes_of (on_edge e (take i ms))) kept
-    → HaveAdded (cond (m.edge == e) m.causes []) kept new → AreTheSame (causes_of (on_edge e (take (i + 1) ms))) new
-causes-next e ms i m kept new l is a b =
-    let front = take i ms in
-    subst (λ xs. AreTheSame (causes_of (on_edge e xs)) new) (sym (take_more ms i m l ∙ ap (λ y. front ++ y ∷ []) (sym is)))
-    (subst (λ ss. AreTheSame ss new)
-    (sym (ap causes_of (filter-append (λ (x : Counted). x.edge == e) front (m ∷ [])) ∙ flat_map-append (λ (x : Counted). x.causes) (on_edge e front) (on_edge e (m ∷ []))
-    ∙ ap (λ ss. causes_of (on_edge e front) ++ ss) (one (m.edge == e))))
-    (b (causes_of (on_edge e front)) a))
-  where
-    one : (c : Bool) → causes_of (cond c (m ∷ []) []) ≡ cond c m.causes []
-    one true = append-none m.causes
-    one false = refl
 
 -- ---- the traces
 

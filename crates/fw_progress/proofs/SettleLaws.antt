@@ -153,13 +153,6 @@ no-more b c s n k = record { canonical = k; same = λ t. sym (by t (inside s t) 
     by t true e = absorbs (in_domain b t) (inside s t) (inside c t) (λ i. e)
     by t false e = absorbs (in_domain b t) (inside s t) (inside c t) (λ i. absurd (both_ways (has_more c s) n (more-at c s t i e)))
 
--- the fronts of a flow's nodes, where one is another canonical one
-pub canonical-set : (flow : Dataflow) (fronts : List Front) (p : ℕ) (f : Front) → p < length fronts → AreCanonical flow fronts → IsCanonical (bounds_of flow p) f → AreCanonical flow (set fronts p f)
-canonical-set flow fronts p f l a k = λ q. elim (cases_eq q p) [
-  | inl e ↦ subst (λ x. IsCanonical (bounds_of flow x) (front_of (set fronts p f) x)) (sym e) (subst (IsCanonical (bounds_of flow p)) (sym (get_or-set_same fronts p f [] l)) k)
-  | inr n ↦ subst (IsCanonical (bounds_of flow q)) (sym (get_or-set_other fronts p q f [] n)) (a q)
-]
-
 pub none_settled-first : (flow : Dataflow) (failed : List Bool) (old kept : List Front) → AreGrownBefore flow failed old kept old 0
 none_settled-first flow failed old kept = record { one_each = refl; grown = λ p l g. absurd (omega (arith, l)); others = λ p n. refl }
 

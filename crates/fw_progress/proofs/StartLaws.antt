@@ -24,7 +24,7 @@ use Rattle.fw_model.proofs.DescentLaws.{total, total-less, covers-at}
 use Rattle.fw_model.proofs.TableLaws.{table-follows}
 use Rattle.fw_progress.specs.declared.counts.Counts.{Counts}
 use Rattle.fw_progress.specs.Counts.{batches_in, injected_in, owed_of, given_by, clear_by, come_by, target_by, is_in, AreCounts, AreNodes, IsStuckBy}
-use Rattle.fw_progress.specs.Growths.{out_degrees, IsEnlisted, ArePut}
+use Rattle.fw_progress.specs.Growths.{IsEnlisted, ArePut}
 use Rattle.fw_progress.specs.History.{IsCountOf, IsKept}
 use Rattle.fw_progress.specs.Tally.{times_in}
 use Rattle.fw_progress.specs.Start.{AreLargest, AreOfNothing, IsLowered, IsShrunk}
@@ -32,6 +32,7 @@ use Rattle.fw_progress.proofs.GrowLaws.{degrees-few, family_new, family_old, fro
 use Rattle.fw_progress.proofs.HistoryLaws.{by-kept, kept-complete}
 use Rattle.fw_progress.proofs.RefreshLaws.{falls, first_node, not_in-first}
 use Rattle.fw_progress.proofs.TargetLaws.{read_at, target-less, target-monotone}
+use Rattle.fw_progress.proofs.AloneLaws.{none-times}
 
 -- ---- lists of one for each
 
@@ -259,10 +260,6 @@ none-owed sys p t = by (is_notified_kind (kind_of sys.flow p))
     by : (b : Bool) → (b && false && true) ≡ false
     by true = refl
     by false = refl
-
-none-times : (t : Stamp) → times_in t [] ≡ 0
-unfolding times_in
-none-times t = refl
 
 batches-are : (flow : Dataflow) (given : List (ℕ × List (List Rec))) (p : ℕ) → p < length flow.nodes → batches_of (system_of flow given) p ≡ batches_at given p
 unfolding batches_of batches_of_nodes

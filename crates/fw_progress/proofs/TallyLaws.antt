@@ -21,7 +21,7 @@ use Rattle.fw_time.specs.declared.stamp.Bounds.{Bounds}
 use Rattle.fw_time.proofs.EachLaws.{each-append, each-both, each-prefix, each-suffix, each-weaker}
 use Rattle.fw_time.proofs.StampLaws.{leq-length, leq-trans, same-is, same-refl}
 use Rattle.fw_frontier.specs.Frontier.{Frontier}
-use Rattle.fw_frontier.specs.Front.{Front, inside, frontier_of, IsCanonical, IsFrontOf}
+use Rattle.fw_frontier.specs.Front.{Front, inside, frontier_of, IsFrontOf}
 use Rattle.fw_flow.specs.Counting.{how_many}
 use Rattle.fw_model.proofs.CmpLaws.{stamp_cmp-equal, stamp_total}
 use Rattle.fw_progress.specs.Tally.{times_in, has_one, count_inside, IsPositive, IsTallyOf, HasOneMore, HasManyMore, HasOneLess, HasNoMore, HasEachMore, AreLowest}
@@ -69,13 +69,6 @@ times-same entries at t k = ap (λ s. unwrap_or (lookup (is_at (stamp_cmp s)) en
     same-one : (s u : Stamp) → same s u ≡ true → s ≡ u
     same-one s u e = same-is s u e
 
-cond_twice : (b : Bool) (v w o : Option ℕ) → cond b v (cond b w o) ≡ cond b v o
-cond_twice true v w o = refl
-cond_twice false v w o = refl
-
-pub with-twice : (old mid new : Entries) (at : Stamp) (w v : Option ℕ) → IsWith old at w mid → IsWith mid at v new → IsWith old at v new
-with-twice old mid new at w v a b q = b q ∙ ap (λ (o : Option ℕ). cond (is_at (stamp_cmp at) q) v o) (a q) ∙ cond_twice (is_at (stamp_cmp at) q) v w (lookup (is_at (stamp_cmp q)) old)
-
 pub is_there : (entries : Entries) (at : Stamp) (n : ℕ) → lookup (is_at (stamp_cmp at)) entries ≡ Some n → IsSome (lookup (is_at (stamp_cmp at)) entries)
 is_there entries at n e = rw e refl
 
@@ -111,11 +104,6 @@ tally-remove b test (e ∷ es) a =
     by : (c : Bool) → IsTallyOf b (remove_entry test es) → IsTallyOf b (cond c es (e ∷ remove_entry test es))
     by true k = record { of_domain = a.of_domain.1; positive = a.positive.1 }
     by false k = record { of_domain = (a.of_domain.0, k.of_domain); positive = (a.positive.0, k.positive) }
-
-remove_set : (test : Stamp → Bool) (e : Stamp × ℕ) (es : Entries) (w : ℕ) → remove_entry test (set_value test es w) ≡ remove_entry test es
-    → (b : Bool) → test e.0 ≡ b → remove_entry test (cond b ((e.0, w) ∷ es) (e ∷ set_value test es w)) ≡ cond b es (e ∷ remove_entry test es)
-remove_set test e es w ih true h = ap (λ (b : Bool). cond b es ((e.0, w) ∷ remove_entry test es)) h
-remove_set test e es w ih false h = ap (λ (b : Bool). cond b (set_value test es w) (e ∷ remove_entry test (set_value test es w))) h ∙ ap (λ (fs : Entries). e ∷ fs) ih
 
 -- ---- one more and one less
 
@@ -277,13 +265,6 @@ above-outside s t [] k a = refl
 above-outside s t (y ∷ ys) k a =
     and_from (not (leq y t)) (inside ys t) (ap not (false_from_ne_true (leq y t) (λ l. both_ways (leq s t) k (leq-trans s y t a.0 l)))) (above-outside s t ys k a.1)
 
--- all of them are their own lowest
-pub lowest-all : (stamps all : List Stamp) → stamps ≡ all → AreLowest stamps all
-lowest-all stamps all e = record {
-  among = λ b a. subst (AllByRecursion (λ s. in_domain b s ≡ true)) (sym e) a;
-  same = λ b a t. ap (λ os. frontier_of b os t) e;
-}
-
 -- those up to one that begins an epoch are the lowest
 pub lowest-begun : (xs : List Stamp) (s : Stamp) (ys all : List Stamp) → all ≡ xs ++ s ∷ ys → AllByRecursion (λ y. is_gt (stamp_cmp s y) ≡ false) ys → AllByRecursion (λ n. n ≡ 0) (drop 1 s) → AreLowest (xs ++ s ∷ []) all
 lowest-begun xs s ys all e o z = record {
@@ -317,10 +298,6 @@ lowest-first [] s n f o z = absurd (cc)
 lowest-first (e ∷ es) s n f o z =
     let first : e.0 ≡ s = ap (λ (w : Option (Stamp × ℕ)). (unwrap_or w e).0) f in
     lowest-begun [] s (keys_of es) (e.0 ∷ keys_of es) (ap (λ k. k ∷ keys_of es) first) o.1 z
-
--- of no stamps no front is wanted
-pub until-none : (b : Bounds) (entries : Entries) (f : Front) → entries ≡ [] → f ≡ [] → IsFrontOf b f (frontier_of b (keys_of entries))
-until-none b entries f e n = record { canonical = subst (IsCanonical b) (sym n) tt; same = λ t. ap (λ os. frontier_of b os t) n ∙ ap (λ es. frontier_of b (keys_of es) t) (sym e) }
 
 -- a front of the lowest stamps is one of all
 pub until-lowest : (b : Bounds) (stamps all : List Stamp) (f : Front) → AreLowest stamps all → AllByRecursion (λ s. in_domain b s ≡ true) all → IsFrontOf b f (frontier_of b stamps)

@@ -14,6 +14,7 @@ use Rattle.fw_frontier.specs.Front.{Front, inside, frontier_of, IsCanonical, IsF
 use Rattle.fw_flow.specs.Dataflow.{Dataflow, kind_of, sender, receiver, in_edges, bounds_of, greatest_number, is_input_kind, node_frontier}
 use Rattle.fw_flow.specs.Projection.{first_coordinate, phi_by_count, table_count}
 use Rattle.fw_flow.proofs.EdgeLaws.{in_edges-at, in_edges-from}
+use Rattle.fw_model.specs.Machine.{family_of}
 use Rattle.fw_model.proofs.InputLaws.{input-bounds}
 use Rattle.fw_model.proofs.PhiLaws.{phi_by_count-monotone}
 use Rattle.fw_model.proofs.StampLaws.{in_line}
@@ -37,21 +38,6 @@ epoch-before : (n m : ℕ) (t : Stamp) → in_domain (record { greatest = m ∷ 
 epoch-before n m [] d = absurd (cc)
 epoch-before n m (x ∷ []) d = grind (arith, nat_tests)
 epoch-before n m (x ∷ y ∷ t) d = absurd (false≢true (and_parts (nat_le x m) false d).1)
-
--- every other node gives all
-pub given-all : (flow : Dataflow) (counts : Counts) (p : ℕ) (f : Front) → f ≡ [] → (not (is_input_kind (kind_of flow p)) || (injected_in counts p == batches_in counts p)) ≡ true
-    → IsFrontOf (bounds_of flow p) f (given_by flow counts p)
-given-all flow counts p f e k =
-    let b = bounds_of flow p in
-    record {
-      canonical = subst (IsCanonical b) (sym e) tt;
-      same = λ t. ap (λ os. frontier_of b os t) e ∙ all (in_domain b t) (not (is_input_kind (kind_of flow p))) (injected_in counts p == batches_in counts p) (nat_lt (first_coordinate t) (injected_in counts p)) k;
-    }
-  where
-    all : (d i x n : Bool) → (i || x) ≡ true → (d && true) ≡ (d && (i || (x || n)))
-    all d true x n z = refl
-    all d false true n z = refl
-    all d false false n z = absurd (cc)
 
 pub given-until : (flow : Dataflow) (counts : Counts) (p n : ℕ) (s : Stamp) (f : Front) → is_input_kind (kind_of flow p) ≡ true → (injected_in counts p ≡ batches_in counts p → ⊥)
     → n ≡ injected_in counts p → s ≡ n ∷ [] → IsFrontOf (bounds_of flow p) f (frontier_of (bounds_of flow p) (s ∷ [])) → IsFrontOf (bounds_of flow p) f (given_by flow counts p)
@@ -123,7 +109,7 @@ all-append test [] x = and-true (test x)
 all-append test (y ∷ xs) x = ap (λ b. test y && b) (all-append test xs x) ∙ sym (and_assoc (test y) (list_all test xs) (test x))
 
 -- one edge more
-pub left_more : (b : Bounds) (f : Frontier) (comes : ℕ → Frontier) (old come new : Front) (edges : List ℕ) (i e : ℕ) → i < length edges → e ≡ get_or edges i e
+left_more : (b : Bounds) (f : Frontier) (comes : ℕ → Frontier) (old come new : Front) (edges : List ℕ) (i e : ℕ) → i < length edges → e ≡ get_or edges i e
     → IsFrontOf b old (λ t. f t && list_all (λ d. comes d t) (take i edges)) → IsFrontOf b come (comes e)
     → IsFrontOf b new (meet (frontier_of b old) (frontier_of b come))
     → IsFrontOf b new (λ t. f t && list_all (λ d. comes d t) (take (i + 1) edges))
@@ -147,6 +133,18 @@ pub in_edge : (flow : Dataflow) (p : ℕ) (edges : List ℕ) (i e : ℕ) → edg
 in_edge flow p edges i e es l is =
     let P : ℕ → Type 0 = λ d. (d < length flow.edges) × (receiver flow d ≡ p) in
     subst P (sym is) (each-at P edges i e l (subst (AllByRecursion P) (sym es) (in_edges-from P flow p (λ d m r. (m, r)))))
+
+-- one in-edge more, by what can have come on it
+pub left_come : (flow : Dataflow) (counts : Counts) (fronts : List Front) (p : ℕ) (f : Frontier) (old come new : Front) (edges : List ℕ) (i e : ℕ)
+    → edges ≡ in_edges flow p → i < length edges → e ≡ get_or edges i e
+    → IsFrontOf (bounds_of flow p) old (λ t. f t && list_all (λ d. come_by flow counts d (family_of flow fronts (sender flow d)) t) (take i edges))
+    → IsFrontOf (bounds_of flow (receiver flow e)) come (come_by flow counts e (family_of flow fronts (sender flow e)))
+    → (IsCanonical (bounds_of flow p) come → IsFrontOf (bounds_of flow p) new (meet (frontier_of (bounds_of flow p) old) (frontier_of (bounds_of flow p) come)))
+    → IsFrontOf (bounds_of flow p) new (λ t. f t && list_all (λ d. come_by flow counts d (family_of flow fronts (sender flow d)) t) (take (i + 1) edges))
+left_come flow counts fronts p f old come new edges i e es l is o a n =
+    let comes : ℕ → Frontier = λ d. come_by flow counts d (family_of flow fronts (sender flow d)) in
+    let here = subst (λ q. IsFrontOf (bounds_of flow q) come (comes e)) (in_edge flow p edges i e es l is).1 a in
+    left_more (bounds_of flow p) f comes old come new edges i e l is o here (n here.canonical)
 
 -- ---- larger families
 

@@ -171,16 +171,23 @@ stamps = record { takes = stamp_takes; again = stamp_again }
 
 -- ---- recs, counts and logged messages
 
+-- two fields, one after the other, and what is made of both
+two_take : {A B C : Type 0} {first : List ℕ → Field A} {first_text : A → List ℕ} {FitsFirst : A → Type 0} (one : IsForm first first_text FitsFirst)
+    {second : List ℕ → Field B} {second_text : B → List ℕ} {FitsSecond : B → Type 0} (two : IsForm second second_text FitsSecond) (make : A → B → C)
+    (bytes : List ℕ) (x : C × List ℕ) → IsBytes bytes → (first bytes >>= λ a. second a.1 >>= λ b. Some (make a.0 b.0, b.1)) ≡ Some x → (P : C × List ℕ → Type 0)
+    → ((a : A) (b : B) (rest : List ℕ) → Takes bytes (first_text a ++ second_text b) rest → FitsFirst a → FitsSecond b → P (make a b, rest)) → P x
+two_take {first = first} {first_text} one {second} {second_text} two make bytes x fits e P go =
+    let a = bind_some (first bytes) (λ a. second a.1 >>= λ b. Some (make a.0 b.0, b.1)) x e in
+    let b = bind_some (second a.0.1) (λ b. Some (make a.0.0 b.0, b.1)) x a.2 in
+    let t0 = one.takes bytes a.0 fits a.1 in
+    let t1 = two.takes a.0.1 b.0 t0.0.rest_fits b.1 in
+    subst P (some_is (make a.0.0 b.0.0, b.0.1) x b.2) (go a.0.0 b.0.0 b.0.1 (Takes-then bytes (first_text a.0.0) a.0.1 (second_text b.0.0) b.0.1 t0.0 t1.0) t0.1 t1.1)
+
 rec_takes : (bytes : List ℕ) (x : Rec × List ℕ) → IsBytes bytes → rec_of bytes ≡ Some x → Takes bytes (rec_bytes x.0) x.1 × IsRec x.0
 unfolding rec_of
 rec_takes bytes x fits e =
-    let a = bind_some (number_of w64 bytes) (λ key. number_of w64 key.1 >>= λ value. Some (record { key = key.0; value = value.0 }, value.1)) x e in
-    let b = bind_some (number_of w64 a.0.1) (λ value. Some (record { key = a.0.0; value = value.0 }, value.1)) x a.2 in
-    let t0 = form64.takes bytes a.0 fits a.1 in
-    let t1 = form64.takes a.0.1 b.0 t0.0.rest_fits b.1 in
-    let both = Takes-then bytes (u64_bytes a.0.0) a.0.1 (u64_bytes b.0.0) b.0.1 t0.0 t1.0 in
-    let made : Rec × List ℕ = (record { key = a.0.0; value = b.0.0 }, b.0.1) in
-    subst (λ (y : Rec × List ℕ). Takes bytes (rec_bytes y.0) y.1 × IsRec y.0) (some_is made x b.2) (both, record { key = t0.1; value = t1.1 })
+    two_take form64 form64 (λ key value. record { key = key; value = value }) bytes x fits e (λ y. Takes bytes (rec_bytes y.0) y.1 × IsRec y.0)
+    (λ key value rest t f g. (t, record { key = f; value = g }))
 
 rec_again : (r : Rec) (rest : List ℕ) → IsRec r → rec_of (rec_bytes r ++ rest) ≡ Some (r, rest)
 unfolding rec_of
@@ -193,13 +200,8 @@ recs = record { takes = rec_takes; again = rec_again }
 count_takes : (bytes : List ℕ) (x : SentCount × List ℕ) → IsBytes bytes → sent_count_of bytes ≡ Some x → Takes bytes (sent_count_bytes x.0) x.1 × IsSentCount x.0
 unfolding sent_count_of
 count_takes bytes x fits e =
-    let a = bind_some (stamp_of bytes) (λ cause. number_of w64 cause.1 >>= λ count. Some (record { cause = cause.0; count = count.0 }, count.1)) x e in
-    let b = bind_some (number_of w64 a.0.1) (λ count. Some (record { cause = a.0.0; count = count.0 }, count.1)) x a.2 in
-    let t0 = stamps.takes bytes a.0 fits a.1 in
-    let t1 = form64.takes a.0.1 b.0 t0.0.rest_fits b.1 in
-    let both = Takes-then bytes (stamp_bytes a.0.0) a.0.1 (u64_bytes b.0.0) b.0.1 t0.0 t1.0 in
-    let made : SentCount × List ℕ = (record { cause = a.0.0; count = b.0.0 }, b.0.1) in
-    subst (λ (y : SentCount × List ℕ). Takes bytes (sent_count_bytes y.0) y.1 × IsSentCount y.0) (some_is made x b.2) (both, record { cause = t0.1; count = t1.1 })
+    two_take stamps form64 (λ cause count. record { cause = cause; count = count }) bytes x fits e (λ y. Takes bytes (sent_count_bytes y.0) y.1 × IsSentCount y.0)
+    (λ cause count rest t f g. (t, record { cause = f; count = g }))
 
 count_again : (s : SentCount) (rest : List ℕ) → IsSentCount s → sent_count_of (sent_count_bytes s ++ rest) ≡ Some (s, rest)
 unfolding sent_count_of

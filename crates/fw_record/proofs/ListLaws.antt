@@ -1,20 +1,17 @@
 -- The lists of a checkpoint, its state and its log are read as they are spelled.
 use Rattle.std.proofs.Common.{◌≡◌, ℕ, ◌^◌, ◌<◌, true, List, [], ◌++◌, Ok, refl, ap, ◌∙◌, append_assoc, subst}
 use Rattle.std.specs.Int.{w32, w64}
-use Rattle.fw_bag.specs.declared.rec.Rec.{Rec}
-use Rattle.fw_frontier.specs.Front.{Front}
 use Rattle.fw_frontier.specs.declared.state.SentCount.{SentCount}
 use Rattle.fw_frontier.specs.declared.state.Entries.{Entries}
 use Rattle.fw_frontier.specs.declared.state.Entries.TheVariants.{Totals}
 use Rattle.fw_frontier.specs.declared.state.State.{State}
 use Rattle.fw_flow.specs.declared.choice.OfEdge.{OfEdge}
-use Rattle.fw_record.specs.declared.logged.Logged.{Logged}
 use Rattle.fw_record.specs.Fields.{number_of, stamp_of, rec_of, sent_count_of, logged_of}
 use Rattle.fw_record.specs.Spelling.{u32_bytes, u64_bytes, stamp_bytes, rec_bytes, front_bytes, of_edge_bytes, of_edges_bytes, sent_count_bytes, sent_counts_bytes, recs_bytes, entries_bytes, state_bytes, logged_bytes, log_bytes}
 use Rattle.fw_record.specs.Sound.{may_follow_stamps, may_follow_edges, may_follow_counts, may_follow_totals, may_follow_logged, IsStamp, IsRec, IsFront, IsOfEdge, AreOfEdges, IsSentCount, AreSentCounts, AreTotals, AreEntries, IsState, IsLogged, IsLog}
 use Rattle.fw_record.specs.Reading.{◌>>=◌, kept_if, any, next_stamp_of, next_count_of, next_total_of, next_logged_of, front_of, of_edge_of, of_edges_of, sent_counts_of, totals_of, state_of, log_of}
 use Rattle.fw_record.proofs.FieldLaws.{IsBytes, Takes, Takes-then, form32, form64, stamps, recs, counts, logged}
-use Rattle.fw_record.proofs.PartLaws.{IsPartForm, IsWhole, bind_ok, ok_is, kept, one_field, any_field, counted_takes, counted_again, step, starts}
+use Rattle.fw_record.proofs.PartLaws.{IsPartForm, IsWhole, bind_ok, ok_is, kept, one_field, any_field, counted_whole, step, starts}
 
 pub any32 : IsWhole (λ bytes. any bytes (number_of w32 bytes)) u32_bytes (λ n. n < 2 ^ 32)
 any32 = any_field (number_of w32) u32_bytes (λ n. n < 2 ^ 32) form32
@@ -39,82 +36,47 @@ logged_parts = one_field logged_of logged_bytes IsLogged may_follow_logged logge
 
 -- ---- lists
 
-pub fronts_takes : (bytes : List ℕ) (x : Front × List ℕ) → IsBytes bytes → front_of bytes ≡ Ok x → Takes bytes (front_bytes x.0) x.1 × IsFront x.0
+pub front : IsWhole front_of front_bytes IsFront
 unfolding front_of
-fronts_takes = counted_takes (number_of w32) u32_bytes (2 ^ 32) form32 next_stamp_of stamp_bytes IsStamp may_follow_stamps stamp_parts
-
-pub fronts_again : (f : Front) (rest : List ℕ) → IsFront f → front_of (front_bytes f ++ rest) ≡ Ok (f, rest)
-unfolding front_of
-fronts_again = counted_again (number_of w32) u32_bytes (2 ^ 32) form32 next_stamp_of stamp_bytes IsStamp may_follow_stamps stamp_parts front_of (λ bytes. refl)
+front = counted_whole (number_of w32) u32_bytes (2 ^ 32) form32 next_stamp_of stamp_bytes IsStamp may_follow_stamps stamp_parts front_of (λ bytes. refl)
 
 -- ---- an edge and its front
 
-pub edge_takes : (before : List OfEdge) (bytes : List ℕ) (x : OfEdge × List ℕ) → IsBytes bytes → of_edge_of before bytes ≡ Ok x → Takes bytes (of_edge_bytes x.0) x.1 × IsOfEdge x.0 × (may_follow_edges before x.0.edge ≡ true)
+edge_takes : (before : List OfEdge) (bytes : List ℕ) (x : OfEdge × List ℕ) → IsBytes bytes → of_edge_of before bytes ≡ Ok x → Takes bytes (of_edge_bytes x.0) x.1 × IsOfEdge x.0 × (may_follow_edges before x.0.edge ≡ true)
 unfolding of_edge_of
 edge_takes before bytes x fits e =
     let a = bind_ok (kept_if (may_follow_edges before) bytes (number_of w32 bytes)) (λ edge. front_of edge.1 >>= λ front. Ok (record { edge = edge.0; front = front.0 }, front.1)) x e in
     let b = bind_ok (front_of a.0.1) (λ front. Ok (record { edge = a.0.0; front = front.0 }, front.1)) x a.2 in
     let k = kept (may_follow_edges before) bytes (number_of w32 bytes) a.0 a.1 in
     let t0 = form32.takes bytes a.0 fits k.0 in
-    let t1 = fronts_takes a.0.1 b.0 t0.0.rest_fits b.1 in
+    let t1 = front.takes a.0.1 b.0 t0.0.rest_fits b.1 in
     let both = Takes-then bytes (u32_bytes a.0.0) a.0.1 (front_bytes b.0.0) b.0.1 t0.0 t1.0 in
     let made : OfEdge × List ℕ = (record { edge = a.0.0; front = b.0.0 }, b.0.1) in
     subst (λ (y : OfEdge × List ℕ). Takes bytes (of_edge_bytes y.0) y.1 × IsOfEdge y.0 × (may_follow_edges before y.0.edge ≡ true)) (ok_is made x b.2) (both, record { edge = t0.1; front = t1.1 }, k.1)
 
-pub edge_again : (before : List OfEdge) (e : OfEdge) (rest : List ℕ) → IsOfEdge e → may_follow_edges before e.edge ≡ true → of_edge_of before (of_edge_bytes e ++ rest) ≡ Ok (e, rest)
+edge_again : (before : List OfEdge) (e : OfEdge) (rest : List ℕ) → IsOfEdge e → may_follow_edges before e.edge ≡ true → of_edge_of before (of_edge_bytes e ++ rest) ≡ Ok (e, rest)
 unfolding of_edge_of
 edge_again before e rest sound allowed =
-    ap (of_edge_of before) (append_assoc (u32_bytes e.edge) (front_bytes e.front) rest) ∙ rw (form32.again e.edge (front_bytes e.front ++ rest) sound.edge, allowed, fronts_again e.front rest sound.front) refl
+    ap (of_edge_of before) (append_assoc (u32_bytes e.edge) (front_bytes e.front) rest) ∙ rw (form32.again e.edge (front_bytes e.front ++ rest) sound.edge, allowed, front.again e.front rest sound.front) refl
 
 pub edge_parts : IsPartForm of_edge_of of_edge_bytes IsOfEdge (λ before e. may_follow_edges before e.edge)
 edge_parts = record { takes = edge_takes; again = edge_again }
 
-pub of_edges_takes : (bytes : List ℕ) (x : List OfEdge × List ℕ) → IsBytes bytes → of_edges_of bytes ≡ Ok x → Takes bytes (of_edges_bytes x.0) x.1 × AreOfEdges x.0
-unfolding of_edges_of
-of_edges_takes = counted_takes (number_of w32) u32_bytes (2 ^ 32) form32 of_edge_of of_edge_bytes IsOfEdge (λ before e. may_follow_edges before e.edge) edge_parts
-
-pub of_edges_again : (xs : List OfEdge) (rest : List ℕ) → AreOfEdges xs → of_edges_of (of_edges_bytes xs ++ rest) ≡ Ok (xs, rest)
-unfolding of_edges_of
-of_edges_again = counted_again (number_of w32) u32_bytes (2 ^ 32) form32 of_edge_of of_edge_bytes IsOfEdge (λ before e. may_follow_edges before e.edge) edge_parts of_edges_of (λ bytes. refl)
-
 pub of_edges : IsWhole of_edges_of of_edges_bytes AreOfEdges
-of_edges = record { takes = of_edges_takes; again = of_edges_again }
-
-pub sends_takes : (bytes : List ℕ) (x : List SentCount × List ℕ) → IsBytes bytes → sent_counts_of bytes ≡ Ok x → Takes bytes (sent_counts_bytes x.0) x.1 × AreSentCounts x.0
-unfolding sent_counts_of
-sends_takes = counted_takes (number_of w32) u32_bytes (2 ^ 32) form32 next_count_of sent_count_bytes IsSentCount may_follow_counts count_parts
-
-pub sends_again : (xs : List SentCount) (rest : List ℕ) → AreSentCounts xs → sent_counts_of (sent_counts_bytes xs ++ rest) ≡ Ok (xs, rest)
-unfolding sent_counts_of
-sends_again = counted_again (number_of w32) u32_bytes (2 ^ 32) form32 next_count_of sent_count_bytes IsSentCount may_follow_counts count_parts sent_counts_of (λ bytes. refl)
+unfolding of_edges_of
+of_edges = counted_whole (number_of w32) u32_bytes (2 ^ 32) form32 of_edge_of of_edge_bytes IsOfEdge (λ before e. may_follow_edges before e.edge) edge_parts of_edges_of (λ bytes. refl)
 
 pub sends : IsWhole sent_counts_of sent_counts_bytes AreSentCounts
-sends = record { takes = sends_takes; again = sends_again }
-
-pub totals_takes : (bytes : List ℕ) (x : List Rec × List ℕ) → IsBytes bytes → totals_of bytes ≡ Ok x → Takes bytes (recs_bytes x.0) x.1 × AreTotals x.0
-unfolding totals_of
-totals_takes = counted_takes (number_of w64) u64_bytes (2 ^ 64) form64 next_total_of rec_bytes IsRec may_follow_totals rec_parts
-
-pub totals_again : (xs : List Rec) (rest : List ℕ) → AreTotals xs → totals_of (recs_bytes xs ++ rest) ≡ Ok (xs, rest)
-unfolding totals_of
-totals_again = counted_again (number_of w64) u64_bytes (2 ^ 64) form64 next_total_of rec_bytes IsRec may_follow_totals rec_parts totals_of (λ bytes. refl)
+unfolding sent_counts_of
+sends = counted_whole (number_of w32) u32_bytes (2 ^ 32) form32 next_count_of sent_count_bytes IsSentCount may_follow_counts count_parts sent_counts_of (λ bytes. refl)
 
 pub totals : IsWhole totals_of recs_bytes AreTotals
-totals = record { takes = totals_takes; again = totals_again }
-
-pub logs_takes : (bytes : List ℕ) (x : List Logged × List ℕ) → IsBytes bytes → log_of bytes ≡ Ok x → Takes bytes (log_bytes x.0) x.1 × IsLog x.0
-unfolding log_of
-logs_takes = counted_takes (number_of w64) u64_bytes (2 ^ 64) form64 next_logged_of logged_bytes IsLogged may_follow_logged logged_parts
-
-pub logs_again : (xs : List Logged) (rest : List ℕ) → IsLog xs → log_of (log_bytes xs ++ rest) ≡ Ok (xs, rest)
-unfolding log_of
-logs_again = counted_again (number_of w64) u64_bytes (2 ^ 64) form64 next_logged_of logged_bytes IsLogged may_follow_logged logged_parts log_of (λ bytes. refl)
+unfolding totals_of
+totals = counted_whole (number_of w64) u64_bytes (2 ^ 64) form64 next_total_of rec_bytes IsRec may_follow_totals rec_parts totals_of (λ bytes. refl)
 
 pub logs : IsWhole log_of log_bytes IsLog
-logs = record { takes = logs_takes; again = logs_again }
-
-pub front : IsWhole front_of front_bytes IsFront
-front = record { takes = fronts_takes; again = fronts_again }
+unfolding log_of
+logs = counted_whole (number_of w64) u64_bytes (2 ^ 64) form64 next_logged_of logged_bytes IsLogged may_follow_logged logged_parts log_of (λ bytes. refl)
 
 -- ---- a node's table
 

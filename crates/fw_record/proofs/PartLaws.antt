@@ -88,7 +88,7 @@ any_field read text Fits form = record {
 }
 
 -- a count and that many parts
-pub counted_takes : {A : Type 0} (count : List ℕ → Field ℕ) (count_text : ℕ → List ℕ) (limit : ℕ) (counted : IsForm count count_text (λ n. n < limit))
+counted_takes : {A : Type 0} (count : List ℕ → Field ℕ) (count_text : ℕ → List ℕ) (limit : ℕ) (counted : IsForm count count_text (λ n. n < limit))
     (part : List A → List ℕ → Reading A) (text : A → List ℕ) (Fits : A → Type 0) (rule : List A → A → Bool) (form : IsPartForm part text Fits rule)
     (bytes : List ℕ) (x : List A × List ℕ) → IsBytes bytes → (any bytes (count bytes) >>= λ n. many_of part n.0 [] n.1) ≡ Ok x
     → Takes bytes (count_text (length x.0) ++ flat_map text x.0) x.1 × IsList limit Fits rule x.0
@@ -102,7 +102,7 @@ counted_takes count count_text limit counted part text Fits rule form bytes x fi
     let sized : Takes bytes (count_text (length r.0) ++ flat_map text r.0) x.1 = subst (λ (k : ℕ). Takes bytes (count_text k ++ flat_map text r.0) x.1) (sym len) both in
     subst (λ (xs : List _). Takes bytes (count_text (length xs) ++ flat_map text xs) x.1 × IsList limit Fits rule xs) (sym same) (sized, record { few = omega (arith, t0.1, len); parts = r.4; follow = r.5 })
 
-pub counted_again : {A : Type 0} (count : List ℕ → Field ℕ) (count_text : ℕ → List ℕ) (limit : ℕ) (counted : IsForm count count_text (λ n. n < limit))
+counted_again : {A : Type 0} (count : List ℕ → Field ℕ) (count_text : ℕ → List ℕ) (limit : ℕ) (counted : IsForm count count_text (λ n. n < limit))
     (part : List A → List ℕ → Reading A) (text : A → List ℕ) (Fits : A → Type 0) (rule : List A → A → Bool) (form : IsPartForm part text Fits rule)
     (read : List ℕ → Reading (List A)) (same : (bytes : List ℕ) → read bytes ≡ (any bytes (count bytes) >>= λ n. many_of part n.0 [] n.1))
     (xs : List A) (rest : List ℕ) → IsList limit Fits rule xs → read ((count_text (length xs) ++ flat_map text xs) ++ rest) ≡ Ok (xs, rest)
@@ -110,6 +110,16 @@ counted_again count count_text limit counted part text Fits rule form read same 
     let regrouped = append_assoc (count_text (length xs)) (flat_map text xs) rest in
     let first = counted.again (length xs) (flat_map text xs ++ rest) sound.few in
     ap read regrouped ∙ same (count_text (length xs) ++ (flat_map text xs ++ rest)) ∙ rw first (many_again part text Fits rule form xs [] rest sound.parts sound.follow)
+
+-- so a count and that many parts are read as they are spelled
+pub counted_whole : {A : Type 0} (count : List ℕ → Field ℕ) (count_text : ℕ → List ℕ) (limit : ℕ) (counted : IsForm count count_text (λ n. n < limit))
+    (part : List A → List ℕ → Reading A) (text : A → List ℕ) (Fits : A → Type 0) (rule : List A → A → Bool) (form : IsPartForm part text Fits rule)
+    (read : List ℕ → Reading (List A)) → ((bytes : List ℕ) → read bytes ≡ (any bytes (count bytes) >>= λ n. many_of part n.0 [] n.1))
+    → IsWhole read (λ xs. count_text (length xs) ++ flat_map text xs) (IsList limit Fits rule)
+counted_whole count count_text limit counted part text Fits rule form read same = record {
+  takes = λ bytes x fits e. counted_takes count count_text limit counted part text Fits rule form bytes x fits (sym (same bytes) ∙ e);
+  again = counted_again count count_text limit counted part text Fits rule form read same;
+}
 
 -- one step of a sequence: what it read, and the rest of the sequence
 pub step : {A B : Type 0} {read : List ℕ → Reading A} {text : A → List ℕ} {Fits : A → Type 0} (w : IsWhole read text Fits) (whole front bytes : List ℕ) (k : A × List ℕ → Reading B) (x : B × List ℕ) (Goal : Type 0)

@@ -127,10 +127,15 @@ next_total_inside before n bytes le = kept_inside (may_follow_totals before) n b
 next_logged_inside : (before : List Logged) → ReadsInside (next_logged_of before)
 next_logged_inside before n bytes le = kept_inside (may_follow_logged before) n bytes (logged_of bytes) le (logged_inside n bytes le)
 
+-- a count and that many parts
+counted_inside : {A : Type 0} (count : List ℕ → Field ℕ) → ReadsInside (λ bytes. any bytes (count bytes)) → (part : List A → List ℕ → Reading A)
+    → ((before : List A) → ReadsInside (part before)) → ReadsInside (λ bytes. any bytes (count bytes) >>= λ n. many_of part n.0 [] n.1)
+counted_inside count counted part each n bytes le =
+    inside_then n (any bytes (count bytes)) (λ k. many_of part k.0 [] k.1) (counted n bytes le) (λ k le'. many_inside part each k.0 [] n k.1 le')
+
 front_inside : ReadsInside front_of
 unfolding front_of
-front_inside n bytes le =
-    inside_then n (any bytes (number_of w32 bytes)) (λ count. many_of next_stamp_of count.0 [] count.1) (any32_inside n bytes le) (λ count le'. many_inside next_stamp_of next_stamp_inside count.0 [] n count.1 le')
+front_inside = counted_inside (number_of w32) any32_inside next_stamp_of next_stamp_inside
 
 of_edge_inside : (before : List OfEdge) → ReadsInside (of_edge_of before)
 unfolding of_edge_of
@@ -140,23 +145,19 @@ of_edge_inside before n bytes le =
 
 of_edges_inside : ReadsInside of_edges_of
 unfolding of_edges_of
-of_edges_inside n bytes le =
-    inside_then n (any bytes (number_of w32 bytes)) (λ count. many_of of_edge_of count.0 [] count.1) (any32_inside n bytes le) (λ count le'. many_inside of_edge_of of_edge_inside count.0 [] n count.1 le')
+of_edges_inside = counted_inside (number_of w32) any32_inside of_edge_of of_edge_inside
 
 sent_counts_inside : ReadsInside sent_counts_of
 unfolding sent_counts_of
-sent_counts_inside n bytes le =
-    inside_then n (any bytes (number_of w32 bytes)) (λ count. many_of next_count_of count.0 [] count.1) (any32_inside n bytes le) (λ count le'. many_inside next_count_of next_count_inside count.0 [] n count.1 le')
+sent_counts_inside = counted_inside (number_of w32) any32_inside next_count_of next_count_inside
 
 totals_inside : ReadsInside totals_of
 unfolding totals_of
-totals_inside n bytes le =
-    inside_then n (any bytes (number_of w64 bytes)) (λ count. many_of next_total_of count.0 [] count.1) (any64_inside n bytes le) (λ count le'. many_inside next_total_of next_total_inside count.0 [] n count.1 le')
+totals_inside = counted_inside (number_of w64) any64_inside next_total_of next_total_inside
 
 log_inside : ReadsInside log_of
 unfolding log_of
-log_inside n bytes le =
-    inside_then n (any bytes (number_of w64 bytes)) (λ count. many_of next_logged_of count.0 [] count.1) (any64_inside n bytes le) (λ count le'. many_inside next_logged_of next_logged_inside count.0 [] n count.1 le')
+log_inside = counted_inside (number_of w64) any64_inside next_logged_of next_logged_inside
 
 state_inside : ReadsInside state_of
 unfolding state_of

@@ -72,10 +72,6 @@ reached-each : (sys : System) (state : Machine) → IsReached sys state → HasO
 reached-each sys state r = run-each sys r.0 r.1 (first_state sys) state r.2
     (length-map-range_with_len (λ p. false) 0 (length sys.flow.nodes), length-map-range_with_len (λ p. 0) 0 (length sys.flow.nodes))
 
--- of each node it is told whether it is failed
-pub reached-failed : (sys : System) (state : Machine) → IsReached sys state → length state.failed ≡ length sys.flow.nodes
-reached-failed sys state r = (reached-each sys state r).0
-
 -- each node has a bound
 pub reached-bounds : (sys : System) (state : Machine) → IsReached sys state → length state.ack_counts ≡ length sys.flow.nodes
 reached-bounds sys state r = (reached-each sys state r).1

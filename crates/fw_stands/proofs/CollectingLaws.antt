@@ -1,5 +1,5 @@
 -- What is left of each part where the low watermark rises.
-use Rattle.std.proofs.Common.{Bool, List, [], ap, arith, cond, false, filter, inl, inr, length, map, nat_le, nat_lt, not, refl, subst, sym, true, ℕ, ◌&&◌, ◌+◌, ◌∙◌, ◌∷◌, ◌≡◌, ◌≤◌}
+use Rattle.std.proofs.Common.{Bool, List, [], ap, arith, cond, filter, inl, inr, length, map, nat_le, nat_lt, not, refl, subst, sym, true, ℕ, ◌&&◌, ◌+◌, ◌∙◌, ◌∷◌, ◌≡◌, ◌≤◌}
 use Rattle.std.proofs.lemmas.Bool.{cases_Bool, cond-true, cond-false, and_right, lt-ltb, and_from, and_parts, le-leb}
 use Rattle.std.proofs.lemmas.List.{length-map}
 use Rattle.std.specs.List.{AllByRecursion, enumerate_from}
@@ -19,7 +19,7 @@ use Rattle.fw_flow.specs.WellFormed.{IsWellFormedSystem}
 use Rattle.fw_model.specs.Choice.{kept, ever, is_counted, IsLogged, IsCutWithin}
 use Rattle.fw_model.specs.Filtering.{messages_outside}
 use Rattle.fw_model.specs.History.{sent_messages}
-use Rattle.fw_model.specs.Machine.{Machine, Write, Written, checkpoint, logged_event, Stage, in_flight, acknowledged, collected, events, family_of, front_of, is_failed}
+use Rattle.fw_model.specs.Machine.{Machine, Write, Written, checkpoint, logged_event, Stage, events, family_of, front_of, is_failed}
 use Rattle.fw_model.specs.Reached.{IsReached}
 use Rattle.fw_model.specs.Writes.{takes_checkpoints}
 use Rattle.fw_policy.specs.View.{base_of}
@@ -38,6 +38,7 @@ use Rattle.fw_progress.specs.Trace.{IsTraceOf}
 use Rattle.fw_stands.specs.LawsOfCollecting.{collected_state, SameLowIsIdle, OtherLowIsCollected, LowRises, FrontsAreOneEach, CollectedLogsStand, CollectedSourcesStand, CollectedTracesStand, TracesWithCheckpointsStay, AllCollectedTracesStand, CollectionKeepsTheRest}
 use Rattle.fw_stands.proofs.AtReached.{reached-legal}
 use Rattle.fw_stands.proofs.SettlingLaws.{base-low, base-settled, settled_to-base, trace-settled}
+use Rattle.fw_stands.proofs.LossLaws.{counts-collected}
 
 -- ---- the step
 
@@ -153,12 +154,6 @@ all_collected_traces-stand sys w state r low rises old new a p l t =
 
 -- ---- what is lost
 
-after-counts : (below : Bool) (far : Stage) → is_counted ever (after_collection below far) ≡ is_counted ever far
-after-counts below in_flight = refl
-after-counts true acknowledged = refl
-after-counts false acknowledged = refl
-after-counts below collected = refl
-
 -- writes log the same where they count the same
 staged : (Write → Stage) → Write → Write
 staged stage write = record write { stage = stage write }
@@ -190,7 +185,7 @@ unfolding staged
 collection-keeps sys state low =
     let stage : Write → Stage = λ write. after_collection (lies_below sys low state.history write.node write.written) write.stage in
     let same : (write : Write) → is_counted ever (stage write) ≡ is_counted ever write.stage =
-    λ write. after-counts (lies_below sys low state.history write.node write.written) write.stage in
+    λ write. counts-collected (lies_below sys low state.history write.node write.written) write.stage in
     record {
       tables = λ p table t. record { there = t.there; of_events = t.of_events };
       queues = λ e. refl;

@@ -205,7 +205,7 @@ records_after_step sys w state r step next effect t e es all a =
 
 -- ---- an event
 
-event-flies : (asks : Policy) (p serial : ℕ) → AllByRecursion (λ (x : Write). x.stage ≡ in_flight) (write_of_event asks p serial)
+pub event-flies : (asks : Policy) (p serial : ℕ) → AllByRecursion (λ (x : Write). x.stage ≡ in_flight) (write_of_event asks p serial)
 event-flies policy.Full p serial = (refl, tt)
 event-flies asks p serial = tt
 

@@ -234,7 +234,7 @@ next-both sys h w l e at m =
 
 -- ---- the laws
 
-queued-live : (sys : System) (state : Machine) (e : ℕ) → is_failed state (receiver sys.flow e) ≡ false
+pub queued-live : (sys : System) (state : Machine) (e : ℕ) → is_failed state (receiver sys.flow e) ≡ false
     → queued sys state e ≡ sorted_messages (pending_messages sys (events state.history) e)
 queued-live sys state e f = cond-false (is_failed state (receiver sys.flow e)) [] (sorted_messages (pending_messages sys (events state.history) e)) f
 

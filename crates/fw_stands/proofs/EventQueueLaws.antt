@@ -1,5 +1,5 @@
 -- What becomes of queues and logs as events come.
-use Rattle.std.proofs.Common.{◌≡◌, ℕ, ◌≤◌, Bool, true, false, not, ◌&&◌, ◌==◌, cond, List, [], ◌∷◌, ◌++◌, length, refl, sym, ap, subst, ◌∙◌, inl, inr, arith}
+use Rattle.std.proofs.Common.{◌≡◌, ℕ, ◌≤◌, Bool, true, not, ◌&&◌, ◌==◌, cond, List, [], ◌∷◌, ◌++◌, length, refl, sym, ap, subst, ◌∙◌, inl, inr, arith}
 use Rattle.std.specs.Prelude.{filter}
 use Rattle.std.specs.List.{AllByRecursion}
 use Rattle.std.proofs.lemmas.Bool.{cases_Bool, cond-true, cond-false, cond_both, eqb-true}
@@ -9,10 +9,9 @@ use Rattle.fw_bag.specs.declared.rec.Rec.{Rec}
 use Rattle.fw_frontier.specs.Front.{Front, inside, frontier_of}
 use Rattle.fw_flow.specs.declared.event.Event.{Event}
 use Rattle.fw_flow.specs.declared.event.Message.{Message}
-use Rattle.fw_flow.specs.declared.kind.Kind.TheVariants.{OutputEpoch}
-use Rattle.fw_flow.specs.Dataflow.{System, Dataflow, kind_of, sender, receiver, bounds_of, bounds_of_domain, bounds_of_edge, HasEpochs}
+use Rattle.fw_flow.specs.Dataflow.{System, Dataflow, sender, receiver, bounds_of, bounds_of_domain, bounds_of_edge, HasEpochs}
 use Rattle.fw_flow.specs.Message.{messages_less}
-use Rattle.fw_flow.specs.NodeFunction.{event_node, event_stamp, sends, sends_of_kind, sent_by}
+use Rattle.fw_flow.specs.NodeFunction.{event_node, event_stamp, sends}
 use Rattle.fw_flow.specs.Projection.{events_at}
 use Rattle.fw_flow.specs.WellFormed.{IsWellFormed}
 use Rattle.fw_flow.proofs.MessageLaws.{less-none}
@@ -28,10 +27,12 @@ use Rattle.fw_model.proofs.LegalLaws.{edge_domains, legal_messages-in_domain}
 use Rattle.fw_model.proofs.SentLaws.{copy}
 use Rattle.fw_model.proofs.SortedLaws.{IsAscendingMessages, ascending-sorted_messages, ascending-less, ascending-with_messages, same_from_copies, sorted_messages-append, sorted_messages-filter, sorted_messages-weigh, with_messages-weigh}
 use Rattle.fw_model.proofs.WeightLaws.{weigh, weigh-append}
+use Rattle.fw_model.proofs.NothingInsideLaws.{idle-sent}
 use Rattle.fw_node.specs.Answers.{caused_by}
 use Rattle.fw_stands.specs.LawsOfEvents.{AreSent, put_on, QueuesFollowEvents, LogsFollowEvents, LastIsPutIn, NothingIsQueuedPastEdges}
 use Rattle.fw_stands.specs.Parts.{is_logging}
 use Rattle.fw_stands.proofs.EventNextLaws.{legal-reached}
+use Rattle.fw_progress.proofs.FollowLaws.{sent-more}
 
 -- ---- in whatever order messages are put in
 
@@ -98,11 +99,6 @@ queues-follow sys state w r v k sent s e =
 
 -- ---- no edge
 
-idle-sent : (sys : System) (q : ℕ) → kind_of sys.flow q ≡ OutputEpoch → (vs : List Event) → sent_by sys q vs ≡ []
-unfolding sends
-idle-sent sys q is [] = refl
-idle-sent sys q is (v ∷ vs) = ap (λ k. sends_of_kind sys k vs v ++ sent_by sys q vs) is ∙ idle-sent sys q is vs
-
 pub none-pending_past : (sys : System) (h : List Event) (e : ℕ) → length sys.flow.edges ≤ e → pending_messages sys h e ≡ []
 none-pending_past sys h e past =
     let q = sender sys.flow e in
@@ -114,17 +110,6 @@ nothing-queued_past sys state e past =
     (λ f. refl) (λ f. ap sorted_messages (none-pending_past sys (events state.history) e past))
 
 -- ---- logs
-
-sent-more : (sys : System) (h : List Event) (v : Event) (e : ℕ) → sent_messages sys (v ∷ h) e ≡ sent_on sys h e v ++ sent_messages sys h e
-sent-more sys h v e = by (event_node sys.flow v == sender sys.flow e)
-  where
-    q : ℕ
-    q = sender sys.flow e
-
-    by : (b : Bool) → sent_by sys q (cond b (v ∷ events_at sys.flow q h) (events_at sys.flow q h))
-        ≡ cond b (sends sys q (events_at sys.flow q h) v) [] ++ sent_by sys q (events_at sys.flow q h)
-    by true = refl
-    by false = refl
 
 each-first : (P : Message → Type 0) (xs ys : List Message) → AllByRecursion P (xs ++ ys) → AllByRecursion P xs
 each-first P [] ys a = tt

@@ -11,7 +11,7 @@ use Rattle.fw_flow.specs.Dataflow.{System, is_numbered}
 use Rattle.fw_flow.specs.Message.{message_cmp, is_among}
 use Rattle.fw_flow.specs.WellFormed.{IsWellFormed}
 use Rattle.fw_flow.specs.declared.event.Event.{Event}
-use Rattle.fw_flow.proofs.MessageLaws.{among-each, message_total}
+use Rattle.fw_flow.proofs.MessageLaws.{message_total}
 use Rattle.fw_model.specs.Auto.{IsIdle, AreIdle, IsFirstEnabled}
 use Rattle.fw_model.specs.History.{IsLegal, pending_messages}
 use Rattle.fw_model.specs.Machine.{Machine, Write}
@@ -19,8 +19,8 @@ use Rattle.fw_model.specs.SortedMessages.{sorted_messages, with_message}
 use Rattle.fw_model.specs.Steps.{Effect, LeadsTo, IsNextMessage, is_in_flight}
 use Rattle.fw_model.proofs.AutoLaws.{idle-append}
 use Rattle.fw_model.proofs.Decisions.{two_ways}
-use Rattle.fw_model.proofs.FirstLaws.{copies-among, first-next}
-use Rattle.fw_model.proofs.SentLaws.{copy, is_among-copies}
+use Rattle.fw_model.proofs.FirstLaws.{first-next, first-least, among-same}
+use Rattle.fw_model.proofs.SentLaws.{copy}
 use Rattle.fw_model.proofs.SortedLaws.{IsAscendingMessages, ascending-sorted_messages, sorted_messages-weigh}
 use Rattle.fw_model.proofs.WeightLaws.{weigh}
 
@@ -106,14 +106,6 @@ none_pending-idle sys h e m none i =
 
 among-itself : (m : Message) (ms : List Message) → is_among m (m ∷ ms) ≡ true
 among-itself m ms = or_left (is_eq (message_cmp m m)) (is_among m ms) (ap is_eq (tied_itself message_total m))
-
-among-same : (m : Message) (xs ys : List Message) → weigh (copy m) xs ≡ weigh (copy m) ys → is_among m xs ≡ true → is_among m ys ≡ true
-among-same m xs ys e i = let a = is_among-copies m xs i in copies-among m ys (omega arith)
-
--- the first of ascending messages is not greater than any
-first-least : (m : Message) (ms : List Message) → IsAscendingMessages (m ∷ ms) → (x : Message) → is_among x (m ∷ ms) ≡ true → is_gt (message_cmp m x) ≡ false
-unfolding IsAscendingMessages
-first-least m ms a x i = among-each (λ y. is_gt (message_cmp m y) ≡ false) x (m ∷ ms) i (ap is_gt (tied_itself message_total m), a.0)
 
 -- the first of what is pending, in order, is the next message
 pub first-is_next : (sys : System) (h : List Event) → IsWellFormed sys.flow → IsLegal sys h → (e : ℕ) (m : Message) (rest : List Message)

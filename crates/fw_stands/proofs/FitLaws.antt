@@ -21,11 +21,11 @@ use Rattle.fw_flow.specs.declared.kind.Kind.{Kind}
 use Rattle.fw_flow.specs.declared.kind.Kind.TheVariants as kind
 use Rattle.fw_flow.specs.declared.kind.Policy.{Policy}
 use Rattle.fw_flow.specs.declared.kind.Policy.TheVariants as policy
-use Rattle.fw_flow.specs.Dataflow.{System, Dataflow, kind_of, policy_of, sender, receiver, in_edges, out_edges, bounds_of, bounds_of_domain, bounds_of_edge, node_frontier, is_sequence_kind}
+use Rattle.fw_flow.specs.Dataflow.{System, Dataflow, kind_of, policy_of, sender, receiver, in_edges, out_edges, bounds_of, bounds_of_edge, node_frontier, is_sequence_kind}
 use Rattle.fw_flow.specs.NodeFunction.{delivered_recs}
 use Rattle.fw_flow.specs.Projection.{events_at, all_inside}
 use Rattle.fw_flow.specs.Restoring.{can_resend}
-use Rattle.fw_flow.specs.WellFormed.{IsWellFormed, IsWellFormedSystem}
+use Rattle.fw_flow.specs.WellFormed.{IsWellFormedSystem}
 use Rattle.fw_flow.proofs.OutEdgeLaws.{out_edges-at}
 use Rattle.fw_model.specs.Filtering.{messages_from, messages_outside}
 use Rattle.fw_model.specs.History.{sent_messages}
@@ -37,7 +37,7 @@ use Rattle.fw_model.specs.Writes.{takes_checkpoints}
 use Rattle.fw_model.proofs.AskedLaws.{takes-declared, reached-all}
 use Rattle.fw_model.proofs.DomainLaws.{has_epochs}
 use Rattle.fw_model.proofs.FilterLaws.{filter-all, filter-inner}
-use Rattle.fw_model.proofs.LegalLaws.{legal_messages-in_domain, edge_domains}
+use Rattle.fw_model.proofs.LegalLaws.{legal_messages-in_domain, edge-receiver}
 use Rattle.fw_model.proofs.SortedLaws.{each-sorted_messages}
 use Rattle.fw_model.proofs.ThinnedLaws.{each-contained}
 use Rattle.fw_node.specs.Past.{totals_kept}
@@ -46,7 +46,7 @@ use Rattle.fw_node.proofs.RestoringLaws.{few_sent}
 use Rattle.fw_record.specs.declared.logged.Logged.{Logged}
 use Rattle.fw_record.specs.declared.record.Checkpoint.{Checkpoint}
 use Rattle.fw_record.specs.OfNode as fits
-use Rattle.fw_record.specs.OfNode.{AreOfDomain, IsOnOneOf, IsRecordedOf, count_sum, AreCountsOf, HasNumbersFor, CanBeLogged, IsLogUnder, IsCheckpointOf}
+use Rattle.fw_record.specs.OfNode.{IsOnOneOf, count_sum, AreCountsOf, HasNumbersFor, CanBeLogged, IsLogUnder, IsCheckpointOf}
 use Rattle.fw_record.specs.Sound.{each_may_follow, may_follow_counts}
 use Rattle.fw_stands.specs.Parts.{sent_by_node}
 use Rattle.fw_stands.specs.Written.{events_within, edges_of, logged_on, to_log, told_inside, IsCheckpointFor}
@@ -157,10 +157,6 @@ logged-each sys state p f low c h P k =
 -- a message of the log of a node at a frontier
 abbrev IsFrom : Dataflow → ℕ → Front → ℕ → Message → Type 0
 IsFrom flow p f e m = (in_domain (bounds_of flow (receiver flow e)) m.at ≡ true) × AllByRecursion (λ t. node_frontier flow p f t ≡ true) m.causes
-
-edge-receiver : (flow : Dataflow) → IsWellFormed flow → (e : ℕ) (t : Stamp) → in_domain (bounds_of_edge flow e) t ≡ true → in_domain (bounds_of flow (receiver flow e)) t ≡ true
-unfolding bounds_of
-edge-receiver flow w e t i = sym (ap (λ d. in_domain (bounds_of_domain flow d) t) (edge_domains flow w e)) ∙ i
 
 to_log-from : (sys : System) → IsWellFormedSystem sys → (state : Machine) → IsReached sys state → (p : ℕ) (f : Front) (low : List Front) (e : ℕ)
     → AllByRecursion (IsFrom sys.flow p f e) (to_log sys state p f low e)

@@ -22,6 +22,7 @@ use Rattle.fw_model.proofs.CheckpointLaws.{each-replaced}
 use Rattle.fw_model.proofs.Decisions.{two_ways}
 use Rattle.fw_stands.specs.LawsOfFailures.{failed_state, IsOfLiveNode, WritesInFlightAreOfLiveNodes, LiveNodesDecideFailures}
 use Rattle.fw_stands.proofs.FailureLaws.{failures-add}
+use Rattle.fw_stands.proofs.StartingLaws.{none-failed}
 
 -- ---- declared nodes
 
@@ -88,11 +89,6 @@ same-failed sys state next e writes a =
 
 to-live : (sys : System) (state next : Machine) → (made : Machine) → next ≡ made → AllByRecursion (IsOfLiveNode sys made) made.writes → AllByRecursion (IsOfLiveNode sys next) next.writes
 to-live sys state next made e a = subst (λ (m : Machine). AllByRecursion (IsOfLiveNode sys m) m.writes) (sym e) a
-
-none-failed : (xs : List ℕ) (p : ℕ) → slice_index_or (map (λ q. false) xs) p false ≡ false
-none-failed [] p = refl
-none-failed (x ∷ xs) zero = refl
-none-failed (x ∷ xs) (suc p) = none-failed xs p
 
 still-flying : (below : Bool) (far : Stage) → is_in_flight (after_collection below far) ≡ true → is_in_flight far ≡ true
 still-flying below in_flight i = i

@@ -25,10 +25,12 @@ use Rattle.fw_model.proofs.CheckpointLaws.{each-passed, each-replaced}
 use Rattle.fw_model.proofs.Decisions.{two_ways}
 use Rattle.fw_model.proofs.ThinnedLaws.{each-contained}
 use Rattle.fw_model.proofs.WriteLaws.{HoldsOfOne, some-append, some-mapped, some-replaced, NamesEvent, LogsEvent, some-logged, logged-some}
+use Rattle.fw_model.proofs.ForgottenLaws.{still-flies}
 use Rattle.fw_policy.specs.View.{IsLostAt}
 use Rattle.fw_frontier.proofs.SameLaws.{same_front-itself}
 use Rattle.fw_stands.specs.LawsOfEntries.{LossesStay}
 use Rattle.fw_stands.proofs.EntryViews.{logged-left, logged-before}
+use Rattle.fw_stands.proofs.EntrySteps.{event-flies}
 
 -- ---- no write of a failed node is in flight
 
@@ -76,12 +78,6 @@ none-failed : (ps : List ℕ) (p : ℕ) → get_or (map (λ (q : ℕ). false) ps
 none-failed [] p = refl
 none-failed (q ∷ ps) zero = refl
 none-failed (q ∷ ps) (suc p) = none-failed ps p
-
-still-flies : (below : Bool) (far : Stage) → is_in_flight (after_collection below far) ≡ is_in_flight far
-still-flies below in_flight = refl
-still-flies true acknowledged = refl
-still-flies false acknowledged = refl
-still-flies below collected = refl
 
 took-live : (sys : System) (state : Machine) (step : Step) (next : Machine) (effect : Effect) → LeadsTo sys state step next effect → FlyLive state → FlyLive next
 took-live sys state (Inject s) next effect t a = subst FlyLive (sym t.3) (with-live sys state (Injected s t.0) t.2 a)
@@ -166,7 +162,7 @@ alike-acknowledged s xs next k other =
           (some-as s k.earlier z y k.later (λ n. absurd (other (names-written s y.written acknowledged n))) (subst (HoldsOfOne (LogsEvent s)) k.after (some-logged s next a)))),
     )
 
-counts-collected : (below : Bool) (far : Stage) → is_counted ever (after_collection below far) ≡ is_counted ever far
+pub counts-collected : (below : Bool) (far : Stage) → is_counted ever (after_collection below far) ≡ is_counted ever far
 counts-collected below in_flight = refl
 counts-collected true acknowledged = refl
 counts-collected false acknowledged = refl
@@ -233,10 +229,6 @@ contains-later u v h c = let l = c.1 in (suc c.0, omega arith, c.2)
 contains-before : (u v : SerialEvent) (h : List SerialEvent) → (u ≡ v → ⊥) → Contains (u ∷ h) v → Contains h v
 contains-before u v h other (zero, l, e) = absurd (other e)
 contains-before u v h other (suc k, l, e) = (k, omega arith, e)
-
-event-flies : (asks : Policy) (p serial : ℕ) → AllByRecursion (λ (x : Write). x.stage ≡ in_flight) (write_of_event asks p serial)
-event-flies policy.Full p serial = (refl, tt)
-event-flies asks p serial = tt
 
 event-alike : (sys : System) (state next : Machine) (v : Happened) (p : ℕ) → next ≡ with_event sys state v → is_failed state (event_node sys.flow v) ≡ false → is_failed state p ≡ true
     → AreAlikeAt sys state next p

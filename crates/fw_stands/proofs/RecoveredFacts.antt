@@ -25,7 +25,7 @@ use Rattle.fw_model.specs.Settled.{IsFull}
 use Rattle.fw_model.specs.Steps.{recovered_state, front_of_cut}
 use Rattle.fw_model.proofs.ArrivalLaws.{at_edge, in_edges-once}
 use Rattle.fw_model.proofs.CheckpointLaws.{candidates-within_settled}
-use Rattle.fw_model.proofs.LowLaws.{input-is}
+use Rattle.fw_model.proofs.LowLaws.{input-is, no_weight}
 use Rattle.fw_model.proofs.WeightLaws.{weigh}
 use Rattle.fw_model.proofs.AskedLaws.{CanRecoverAndRestore, reached-all}
 use Rattle.fw_model.proofs.DomainLaws.{has_epochs, edge-bounds}
@@ -166,11 +166,6 @@ pub each-contained : {X : Type 0} (P : X → Type 0) (xs : List X) (x : X) → A
 each-contained P xs x a c = subst P c.2 (each-at P xs c.0 x c.1 a)
 
 -- ---- cuts lie within what is settled
-
-no_weight : (g : ℕ → ℕ) (xs : List ℕ) → length xs ≡ 0 → weigh g xs ≡ 0
-unfolding weigh
-no_weight g [] e = refl
-no_weight g (x ∷ xs) e = absurd (omega arith)
 
 -- no edge leads to an input
 pub no_input-receives : (flow : Dataflow) → IsWellFormed flow → (e : ℕ) → e < length flow.edges → is_input_kind (kind_of flow (receiver flow e)) ≡ false

@@ -30,6 +30,7 @@ use Rattle.fw_model.proofs.LocalityLaws.{sent_by-same}
 use Rattle.fw_model.proofs.SortedLaws.{sorted_messages-weigh}
 use Rattle.fw_model.proofs.StampLaws.{same-is}
 use Rattle.fw_model.proofs.WeightLaws.{weigh}
+use Rattle.fw_model.proofs.ToldLaws.{notified-told}
 use Rattle.fw_progress.specs.Counts.{sent_of}
 use Rattle.fw_progress.specs.Cut.{IsTableAfter, events_left}
 use Rattle.fw_progress.specs.History.{count_at}
@@ -38,7 +39,7 @@ use Rattle.fw_stands.specs.Recovered.{table_left}
 use Rattle.fw_stands.proofs.RecoveredFacts.{knows, events-now, from-cut, legal-caused}
 use Rattle.fw_stands.proofs.RecoveredQueues.{queued-now}
 use Rattle.fw_stands.proofs.RecoveredTables.{events-present, events-cut}
-use Rattle.fw_stands.proofs.RedoneLaws.{told-notified, notified-told, told-inside}
+use Rattle.fw_stands.proofs.RedoneLaws.{told-notified, told-inside}
 
 -- ---- what is pending
 

@@ -35,7 +35,7 @@ use Rattle.fw_model.proofs.LocalityLaws.{events_at-kept}
 use Rattle.fw_model.proofs.LowLaws.{none-within}
 use Rattle.fw_model.proofs.ReplayLaws.{replayed-those}
 use Rattle.fw_model.proofs.RestoringLaws.{full-declared}
-use Rattle.fw_model.proofs.ToldLaws.{deliveries_lie-inside}
+use Rattle.fw_model.proofs.ToldLaws.{deliveries_lie-inside, paid-told}
 use Rattle.fw_node.specs.declared.node.Node.{Node}
 use Rattle.fw_node.specs.Arrived.{AreOnEdges}
 use Rattle.fw_node.specs.StateOf.{IsStateOf}
@@ -45,7 +45,7 @@ use Rattle.fw_stands.specs.LawsOfRecovered.{Recovers, SettledAtCuts, CutsAreCano
 use Rattle.fw_stands.specs.Parts.{IsTableIn}
 use Rattle.fw_stands.specs.Written.{events_within}
 use Rattle.fw_stands.proofs.RecoveredFacts.{knows, none_failed, present_lives, cut_within-settled, events-now, none_given-up}
-use Rattle.fw_stands.proofs.RedoneLaws.{inside-both, full-inner, delivered-there, each-delivery_both, each-delivery_weaker, paid-told, told-inside}
+use Rattle.fw_stands.proofs.RedoneLaws.{inside-both, full-inner, delivered-there, each-delivery_both, each-delivery_weaker, told-inside}
 use Rattle.fw_stands.proofs.TableLaws.{stands-also}
 
 -- ---- what is settled

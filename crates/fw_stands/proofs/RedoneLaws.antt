@@ -1,8 +1,8 @@
 -- The events of a node that are left can be done once more.
-use Rattle.std.proofs.Common.{◌≡◌, ℕ, ◌<◌, Bool, true, false, cond, not, ◌&&◌, ◌||◌, ◌==◌, List, [], ◌∷◌, ◌++◌, length, filter, refl, sym, ap, subst, ◌∙◌, inl, inr}
+use Rattle.std.proofs.Common.{◌≡◌, ℕ, ◌<◌, Bool, true, false, not, ◌&&◌, ◌||◌, ◌==◌, List, [], ◌∷◌, length, filter, refl, sym, ap, subst, ◌∙◌, inl, inr}
 use Rattle.std.specs.List.{AllByRecursion}
 use Rattle.std.proofs.lemmas.Bool.{and_parts, and_from, or_cases, or_left, or_right, cond_both, eqb-true, eq-eqb, cases_Bool, false_from_ne_true}
-use Rattle.fw_time.specs.Stamp.{Stamp, leq, lesser, same, in_domain}
+use Rattle.fw_time.specs.Stamp.{Stamp, leq, same, in_domain}
 use Rattle.fw_time.proofs.EachLaws.{each-weaker}
 use Rattle.fw_frontier.specs.Frontier.{Frontier}
 use Rattle.fw_flow.specs.declared.event.Event.{Event}
@@ -11,13 +11,13 @@ use Rattle.fw_flow.specs.declared.kind.Kind.{Kind}
 use Rattle.fw_flow.specs.declared.kind.Kind.TheVariants.{Input, Total}
 use Rattle.fw_flow.specs.declared.kind.Policy.{Policy}
 use Rattle.fw_flow.specs.declared.kind.Policy.TheVariants as policy
-use Rattle.fw_flow.specs.Dataflow.{System, Dataflow, kind_of, policy_of, receiver, in_edges, greatest_number, domain_of_kind, bounds_of, bounds_of_domain, is_input_kind, is_notified_kind, is_one_of, node_frontier, HasEpochs}
-use Rattle.fw_flow.specs.NodeFunction.{event_node, event_stamp, delivered_recs}
+use Rattle.fw_flow.specs.Dataflow.{System, Dataflow, kind_of, policy_of, receiver, in_edges, greatest_number, bounds_of, is_input_kind, is_notified_kind, is_one_of, node_frontier, HasEpochs}
+use Rattle.fw_flow.specs.NodeFunction.{event_node, event_stamp}
 use Rattle.fw_flow.specs.Projection.{events_at}
 use Rattle.fw_flow.specs.WellFormed.{IsWellFormed, IsPolicyAllowed}
 use Rattle.fw_flow.proofs.EdgeLaws.{in_edges-at}
 use Rattle.fw_model.specs.Filtering.{events_inside}
-use Rattle.fw_model.specs.History.{was_delivered_to, was_notified, is_owed_notice, IsEnabled, IsLegal}
+use Rattle.fw_model.specs.History.{was_delivered_to, was_notified, IsEnabled, IsLegal}
 use Rattle.fw_model.specs.LawsOfReplay.{not_given_up}
 use Rattle.fw_model.specs.Machine.{events, is_failed}
 use Rattle.fw_model.specs.Told.{is_told, EachDelivery, IsSumOfTold}
@@ -31,7 +31,7 @@ use Rattle.fw_model.proofs.RecoveryLaws.{edge-there}
 use Rattle.fw_model.proofs.ReplayLaws.{replayed-those}
 use Rattle.fw_model.proofs.RestoringLaws.{full-declared}
 use Rattle.fw_model.proofs.StampLaws.{same-is, same-from}
-use Rattle.fw_model.proofs.ToldLaws.{after-notice, deliveries_lie-inside}
+use Rattle.fw_model.proofs.ToldLaws.{after-notice, deliveries_lie-inside, paid-told, same-recs, bounds-total, lesser-from}
 use Rattle.fw_stands.specs.LawsOfRecovered.{ReplayedEventsCanBeRedone}
 use Rattle.fw_stands.specs.Redone.{CanBeRedone}
 use Rattle.fw_stands.proofs.RecoveredFacts.{knows}
@@ -78,29 +78,6 @@ told-inside k (Notify q t ∷ vs) s c i =
 swap : (s t : Stamp) → same s t ≡ true → same t s ≡ true
 swap s t i = let a = and_parts (leq s t) (leq t s) i in and_from (leq t s) (leq s t) a.1 a.0
 
--- a node that was notified was told
-pub notified-told : (flow : Dataflow) (p : ℕ) (s : Stamp) (h : List Event) → was_notified p s h ≡ true → is_told (events_at flow p h) s ≡ true
-notified-told flow p s [] n = n
-notified-told flow p s (Inject q x ∷ h) n =
-    let vs = events_at flow p h in
-    let rest = notified-told flow p s h n in
-    cond_both (q == p) (Inject q x ∷ vs) vs (λ ws. is_told ws s ≡ true) (λ e. rest) (λ e. rest)
-notified-told flow p s (Deliver d m ∷ h) n =
-    let vs = events_at flow p h in
-    let rest = notified-told flow p s h n in
-    cond_both (receiver flow d == p) (Deliver d m ∷ vs) vs (λ ws. is_told ws s ≡ true) (λ e. rest) (λ e. rest)
-notified-told flow p s (Notify q t ∷ h) n =
-    let vs = events_at flow p h in
-    cond_both (q == p) (Notify q t ∷ vs) vs (λ ws. is_told ws s ≡ true)
-    (λ e. elim (or_cases (q == p && same t s) (was_notified p s h) n) [
-      | inl i ↦ or_left (same s t) (is_told vs s) (swap t s (and_parts (q == p) (same t s) i).1)
-      | inr i ↦ or_right (same s t) (is_told vs s) (notified-told flow p s h i)
-    ])
-    (λ e. elim (or_cases (q == p && same t s) (was_notified p s h) n) [
-      | inl i ↦ absurd (two_ways (q == p) (and_parts (q == p) (same t s) i).0 e)
-      | inr i ↦ notified-told flow p s h i
-    ])
-
 -- one that was told was notified
 pub told-notified : (flow : Dataflow) (p : ℕ) (s : Stamp) (h : List Event) → is_told (events_at flow p h) s ≡ true → was_notified p s h ≡ true
 told-notified flow p s [] n = n
@@ -118,16 +95,6 @@ told-notified flow p s (Notify q t ∷ h) n =
       | inr i ↦ or_right (q == p && same t s) (was_notified p s h) (told-notified flow p s h i)
     ])
     (λ e j. or_right (q == p && same t s) (was_notified p s h) (told-notified flow p s h j)) n
-
--- where something was delivered and nothing is owed, it was told
-pub paid-told : (sys : System) (h : List Event) (p : ℕ) (s : Stamp) → is_notified_kind (kind_of sys.flow p) ≡ true → was_delivered_to sys.flow p s h ≡ true
-    → is_owed_notice sys h p s ≡ false → is_told (events_at sys.flow p h) s ≡ true
-paid-told sys h p s n d o = elim (cases_Bool (was_notified p s h)) [
-  | inl i ↦ notified-told sys.flow p s h i
-  | inr i ↦ absurd (two_ways (is_owed_notice sys h p s)
-      (and_from (is_notified_kind (kind_of sys.flow p) && was_delivered_to sys.flow p s h) (not (was_notified p s h))
-      (and_from (is_notified_kind (kind_of sys.flow p)) (was_delivered_to sys.flow p s h) n d) (ap not i)) o)
-]
 
 -- ---- deliveries
 
@@ -167,21 +134,7 @@ delivered-there flow p k P (Notify q t ∷ h) f =
     cond_both (q == p) (Notify q t ∷ vs) vs (λ ws. EachDelivery P (events_inside k ws))
     (λ e. cond_both (k t) (Notify q t ∷ events_inside k vs) (events_inside k vs) (EachDelivery P) (λ i. rest) (λ i. rest)) (λ e. rest)
 
--- recs by tests that find the same of each delivery
-pub same-recs : (test other : Stamp → Bool) (vs : List Event) → EachDelivery (λ s. test s ≡ other s) vs
-    → delivered_recs (λ d s. test s) vs ≡ delivered_recs (λ d s. other s) vs
-same-recs test other [] a = refl
-same-recs test other (Inject s x ∷ vs) a = same-recs test other vs a
-same-recs test other (Deliver d m ∷ vs) a =
-    ap (λ b. cond b (m.rec ∷ []) [] ++ delivered_recs (λ d s. test s) vs) a.0
-    ∙ ap (λ rs. cond (other m.at) (m.rec ∷ []) [] ++ rs) (same-recs test other vs a.1)
-same-recs test other (Notify q t ∷ vs) a = same-recs test other vs a
-
 -- ---- a total's sums
-
-bounds-total : (flow : Dataflow) (p : ℕ) → kind_of flow p ≡ Total → bounds_of flow p ≡ record { greatest = greatest_number ∷ [] }
-unfolding bounds_of
-bounds-total flow p is = ap (λ k. bounds_of_domain flow (domain_of_kind flow k)) is
 
 both-tests : (a b d : Bool) → (a ≡ true → b ≡ false → d ≡ true) → (b ≡ true → a ≡ true) → (d ≡ true → a ≡ true) → a ≡ (b || d)
 both-tests true true d f g k = refl
@@ -189,11 +142,6 @@ both-tests true false d f g k = sym (f refl refl)
 both-tests false true d f g k = g refl
 both-tests false false true f g k = k refl
 both-tests false false false f g k = refl
-
-lesser-from : (s t : Stamp) → leq s t ≡ true → same s t ≡ false → lesser s t ≡ true
-lesser-from s t i j =
-    let o : leq t s ≡ false = sym (ap (λ b. b && leq t s) i) ∙ j in
-    and_from (leq s t) (not (leq t s)) i (ap not o)
 
 -- where a total may be notified of an epoch, what came up to it, among the events inside, came at it or at an epoch that was told
 sums-inside : (sys : System) (h : List Event) → IsWellFormed sys.flow → HasEpochs sys → IsLegal sys h → (p : ℕ) → kind_of sys.flow p ≡ Total

@@ -1,9 +1,9 @@
 -- Two lists side by side.
-use Rattle.std.proofs.Common.{◌≡◌, suc, Bool, true, false, cond, List, [], ◌∷◌, ◌++◌, filter, refl, sym, subst, arith}
+use Rattle.std.proofs.Common.{◌≡◌, suc, Bool, true, List, [], ◌∷◌, ◌++◌, filter, refl, sym, subst, arith}
 use Rattle.std.specs.List.{AllByRecursion, AllZip, Contains}
-use Rattle.std.proofs.lemmas.Bool.{true≢false}
 use Rattle.fw_time.proofs.EachLaws.{each-weaker, each-one, each-filter}
 use Rattle.fw_model.proofs.FilterLaws.{filter-swap}
+use Rattle.fw_collect.proofs.CollectLaws.{zip-one}
 
 pub zip-weaker : {A B : Type 0} (R S : A → B → Type 0) (xs : List A) (ys : List B) → ((a : A) (b : B) → R a b → S a b) → AllZip R xs ys → AllZip S xs ys
 zip-weaker R S [] [] w r = tt
@@ -38,13 +38,6 @@ zip-append R [] [] us vs r s = s
 zip-append R [] (b ∷ ys) us vs r s = absurd r
 zip-append R (a ∷ xs) [] us vs r s = absurd r
 zip-append R (a ∷ xs) (b ∷ ys) us vs r s = (r.0, zip-append R xs ys us vs r.1 s)
-
-zip-one : {A B : Type 0} (R : A → B → Type 0) (x y : Bool) (a : A) (b : B) (xs : List A) (ys : List B) → x ≡ y → R a b → AllZip R xs ys
-    → AllZip R (cond x (a ∷ xs) xs) (cond y (b ∷ ys) ys)
-zip-one R true true a b xs ys e r rest = (r, rest)
-zip-one R true false a b xs ys e r rest = absurd (true≢false e)
-zip-one R false true a b xs ys e r rest = absurd (true≢false (sym e))
-zip-one R false false a b xs ys e r rest = rest
 
 pub zip-filter : {A B : Type 0} (R : A → B → Type 0) (f : A → Bool) (g : B → Bool) (xs : List A) (ys : List B) → ((a : A) (b : B) → R a b → f a ≡ g b) → AllZip R xs ys
     → AllZip R (filter f xs) (filter g ys)

@@ -17,7 +17,7 @@ use Rattle.fw_stands.specs.LawsOfStarting.{FirstIsReached, FirstTableStands, Bor
 
 -- ---- one for each node
 
-none-failed : (xs : List ℕ) (p : ℕ) → slice_index_or (map (λ q. false) xs) p false ≡ false
+pub none-failed : (xs : List ℕ) (p : ℕ) → slice_index_or (map (λ q. false) xs) p false ≡ false
 none-failed [] p = refl
 none-failed (x ∷ xs) zero = refl
 none-failed (x ∷ xs) (suc p) = none-failed xs p

@@ -1,6 +1,6 @@
 -- Which step is taken by itself, and which steps are idle by what is kept.
 use Rattle.std.proofs.Common.{◌≡◌, ℕ, zero, suc, ◌<◌, ◌≤◌, Bool, true, false, cond, not, nat_le, ◌&&◌, ◌==◌, List, [], ◌∷◌, ◌++◌, length, map, Option, Some, None, slice_get, refl, sym, ap, ◌∙◌, inl, inr, arith}
-use Rattle.std.proofs.lemmas.Bool.{cases_Bool, cases_lt, cond-true, cond-false, and_from, eqb-true, le-leb, not_from_false}
+use Rattle.std.proofs.lemmas.Bool.{cases_Bool, cases_lt, cond-true, and_from, eqb-true, le-leb, not_from_false}
 use Rattle.std.specs.List.{enumerate_from, range_with_len}
 use Rattle.std.specs.Map.{lookup}
 use Rattle.fw_time.specs.Stamp.{in_domain}
@@ -31,6 +31,7 @@ use Rattle.fw_stands.specs.LawsOfFirstSteps.{delivery, notification, AreIdleBelo
 use Rattle.fw_stands.specs.Parts.{queued, IsSourceOf}
 use Rattle.fw_stands.proofs.AtReached.{reached-legal}
 use Rattle.fw_stands.proofs.FirstStepLaws.{first-behind, first-before, group-idle, group-first, none_flying-idle, none_pending-idle, first-is_next}
+use Rattle.fw_stands.proofs.EventNextLaws.{queued-live}
 
 -- ---- a group of steps
 
@@ -141,10 +142,6 @@ enabled_steps-taken sys state next step idle t other effect l = absurd (t.0 othe
 
 pub none_in_flight-idle : NoneInFlightIsIdle
 none_in_flight-idle = none_flying-idle
-
--- what is queued for a node that is not failed is what is pending
-queued-live : (sys : System) (state : Machine) (e : ℕ) → is_failed state (receiver sys.flow e) ≡ false → queued sys state e ≡ sorted_messages (pending_messages sys (events state.history) e)
-queued-live sys state e f = cond-false (is_failed state (receiver sys.flow e)) [] (sorted_messages (pending_messages sys (events state.history) e)) f
 
 pub nothing_queued-idle : NothingQueuedIsIdle
 nothing_queued-idle sys state e none at next effect t =

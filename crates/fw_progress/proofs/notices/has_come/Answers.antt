@@ -1,9 +1,9 @@
 use Rattle.std.proofs.Common.{ℕ, Bool, sym, ap, ◌∙◌}
 use Rattle.std.specs.List.{list_all}
-use Rattle.fw_flow.specs.Dataflow.{sender, receiver}
+use Rattle.fw_flow.specs.Dataflow.{sender}
 use Rattle.fw_model.specs.Machine.{family_of}
 use Rattle.fw_progress.specs.Counts.{come_by}
-use Rattle.fw_progress.proofs.NoticeLaws.{come-more, come-not, contains-read}
+use Rattle.fw_progress.proofs.NoticeLaws.{come-more, come-not, come-read}
 use Rattle.fw_progress.proofs.TargetLaws.{in_edge}
 use Rattle.fw_progress.proofs.notices.has_come.Goals as goal
 
@@ -18,21 +18,17 @@ come-requires-clause-sender c =
 pub loop-edge-preserved : goal.loop-edge-preserved
 loop-edge-preserved c =
     let flow = c.args.flow.now in
-    let t = c.args.at.now in
-    let e = c.edge-item.result in
     let edges = c.in_edges-edges.result.now in
-    let test : ℕ → Bool = λ d. come_by flow c.args.counts.now d (family_of flow c.args.fronts.now (sender flow d)) t in
-    let on = in_edge flow c.args.node edges c.loop-edge.edge-index e c.in_edges-edges.ensures c.loop-edge-test.true c.edge-item.is in
-    let read = contains-read flow (receiver flow e) c.args.node c.in_ok-come.come _ t on.1 c.requires.at c.in_ok-come.ensures in
-    come-more test edges c.loop-edge.edge-index e c.loop-edge-test.true c.edge-item.is c.loop-edge.invariant (read ∙ sym c.contains.ensures ∙ c.if-not-contains.false)
+    let test : ℕ → Bool = λ d. come_by flow c.args.counts.now d (family_of flow c.args.fronts.now (sender flow d)) c.args.at.now in
+    let read = come-read flow c.args.counts.now c.args.fronts.now c.args.node edges c.loop-edge.edge-index c.edge-item.result c.in_edges-edges.ensures c.loop-edge-test.true c.edge-item.is
+    c.in_ok-come.come c.args.at.now c.requires.at c.in_ok-come.ensures in
+    come-more test edges c.loop-edge.edge-index c.edge-item.result c.loop-edge-test.true c.edge-item.is c.loop-edge.invariant (read ∙ sym c.contains.ensures ∙ c.if-not-contains.false)
 
 pub returns-then-not-contains : goal.returns-then-not-contains
 returns-then-not-contains c =
     let flow = c.args.flow.now in
-    let t = c.args.at.now in
-    let e = c.edge-item.result in
     let edges = c.in_edges-edges.result.now in
-    let test : ℕ → Bool = λ d. come_by flow c.args.counts.now d (family_of flow c.args.fronts.now (sender flow d)) t in
-    let on = in_edge flow c.args.node edges c.loop-edge.edge-index e c.in_edges-edges.ensures c.loop-edge-test.true c.edge-item.is in
-    let read = contains-read flow (receiver flow e) c.args.node c.in_ok-come.come _ t on.1 c.requires.at c.in_ok-come.ensures in
-    sym (sym (ap (list_all test) c.in_edges-edges.ensures) ∙ come-not test edges c.loop-edge.edge-index e c.loop-edge-test.true c.edge-item.is (read ∙ sym c.contains.ensures ∙ c.if-not-contains.true))
+    let test : ℕ → Bool = λ d. come_by flow c.args.counts.now d (family_of flow c.args.fronts.now (sender flow d)) c.args.at.now in
+    let read = come-read flow c.args.counts.now c.args.fronts.now c.args.node edges c.loop-edge.edge-index c.edge-item.result c.in_edges-edges.ensures c.loop-edge-test.true c.edge-item.is
+    c.in_ok-come.come c.args.at.now c.requires.at c.in_ok-come.ensures in
+    sym (sym (ap (list_all test) c.in_edges-edges.ensures) ∙ come-not test edges c.loop-edge.edge-index c.edge-item.result c.loop-edge-test.true c.edge-item.is (read ∙ sym c.contains.ensures ∙ c.if-not-contains.true))

@@ -1,18 +1,13 @@
-use Rattle.std.proofs.Common.{◌≡◌, ◌∙◌, ◌&&◌, ℕ, Bool, true, List}
-use Rattle.std.specs.List.{AllByRecursion}
-use Rattle.std.proofs.lemmas.Bool.{and_parts}
+use Rattle.std.proofs.Common.{◌∙◌, ◌&&◌, ℕ, Bool, List}
 use Rattle.std.proofs.lemmas.Result.{on_ok_weaker}
 use Rattle.fw_time.specs.Stamp.{Stamp as StampList, in_domain}
 use Rattle.fw_frontier.specs.Front.{Front, inside}
-use Rattle.fw_bag.specs.Arrivals.{Arrival}
 use Rattle.fw_flow.specs.declared.kind.Kind.{Kind}
 use Rattle.fw_flow.specs.Dataflow.{bounds_of, kind_of, in_edges, node_frontier}
-use Rattle.fw_frontier.specs.Frontier.{Within}
-use Rattle.fw_node.specs.Arrived.{arrived}
 use Rattle.fw_node.specs.NodeTable.{IsNodeTable}
 use Rattle.fw_node.specs.Past.{past_of}
-use Rattle.fw_node.proofs.NodeLaws.{each_arrived, in_the_domain_alike, told_where, weaker_arrived}
-use Rattle.fw_node.proofs.SameTable.{AreAlike, same_table}
+use Rattle.fw_node.proofs.NodeLaws.{domain_alike, told_where, within_domain}
+use Rattle.fw_node.proofs.SameTable.{same_table}
 use Rattle.fw_node.proofs.node.Node.settle.Goals as goal
 
 pub returns-clause-ok : goal.returns-clause-ok
@@ -20,26 +15,20 @@ returns-clause-ok c = λ flow p settled before sub told node.
     let ins : List ℕ = in_edges flow p in
     let k : Kind = kind_of flow p in
     let f : Front = c.args.f.now in
-    let came : List Arrival = arrived ins before in
     let d : StampList → Bool = λ s. in_domain (bounds_of flow p) s in
-    let in_d : AllByRecursion (λ (a : Arrival). d a.at ≡ true) came = each_arrived ins (λ s. d s ≡ true) before node.in_the_domain in
     let bounded : StampList → Bool = λ s. d s && settled s in
     let first : IsNodeTable flow c.args.self.now.table k (past_of ins bounded before) =
-    same_table flow (past_of ins settled before) bounded
-    (weaker_arrived (λ s. d s ≡ true) (λ s. settled s ≡ bounded s) (λ s e. in_the_domain_alike (d s) (settled s) e) came in_d) c.args.self.now.table k node.table in
-    let within : Within bounded (inside f) = λ s h. (and_parts (d s) (inside f s) (sub s (and_parts (d s) (settled s) h).1)).1 in
-    let alike : AreAlike (inside f) (node_frontier flow p f) came =
-    weaker_arrived (λ s. d s ≡ true) (λ s. inside f s ≡ node_frontier flow p f s) (λ s e. in_the_domain_alike (d s) (inside f s) e) came in_d in
+    same_table flow (past_of ins settled before) bounded (domain_alike d settled ins before node.in_the_domain) c.args.self.now.table k node.table in
     on_ok_weaker c.settle-settled.result
     (λ t. record {
-      table = same_table flow (past_of ins (inside f) before) (node_frontier flow p f) alike c.settle-settled.new.self k t;
+      table = same_table flow (past_of ins (inside f) before) (node_frontier flow p f) (domain_alike d (inside f) ins before node.in_the_domain) c.settle-settled.new.self k t;
       sides = node.sides;
       bounds = node.bounds;
       places = node.places;
       on_edges = node.on_edges;
       in_the_domain = node.in_the_domain;
     })
-    (c.settle-settled.ensures.ok flow k (past_of ins bounded before) first within (told_where flow p ins f bounded before node.in_the_domain told))
+    (c.settle-settled.ensures.ok flow k (past_of ins bounded before) first (within_domain d settled (inside f) sub) (told_where flow p ins f bounded before node.in_the_domain told))
 
 pub returns-clause-node : goal.returns-clause-node
 returns-clause-node c = λ flow p n. record { table = c.settle-settled.ensures.of_kind flow (kind_of flow p) ∙ n.table; sides = n.sides; bounds = n.bounds }

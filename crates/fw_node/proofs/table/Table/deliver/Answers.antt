@@ -24,7 +24,7 @@ use Rattle.fw_node.proofs.ForgettingLaws.{deliveries_need_their_time}
 use Rattle.fw_node.proofs.KindCases.{timed_plain}
 use Rattle.fw_node.proofs.LoopCases.{loop_kind}
 use Rattle.fw_node.proofs.PastLaws.{unsettled_more, neither}
-use Rattle.fw_node.proofs.TableCases.{of_total, of_sequence, of_ledger}
+use Rattle.fw_node.proofs.TableCases.{of_ledger, of_sequence, of_total, of_variant}
 use Rattle.fw_time.specs.declared.time.SeqNo.{SeqNo}
 use Rattle.fw_table.specs.declared.sent.Sent.{Sent}
 use Rattle.fw_bag.specs.Keyed.{plus, value_sum}
@@ -33,15 +33,13 @@ use Rattle.fw_node.proofs.table.Table.deliver.Goals as goal
 
 pub returns-in-Outside-clause-ok : goal.returns-in-Outside-clause-ok
 returns-in-Outside-clause-ok c = λ flow k past r side out untold.
-    let P : Table → Type 0 = λ s. IsNodeTable flow s k past in
     let a : Arrival = arrival c.args.side c.args.at.now c.args.rec in
     let Q : List Arrival → Type 0 = λ xs. IsTimedTable epoch_cmp epoch_coords c.deliver.new.self k xs in
-    on_ok_weaker c.deliver.result (λ t. subst Q (sym (unsettled_more past a out)) t) (c.deliver.ensures.ok k (unsettled past) (subst P c.in-Outside.is r) side)
+    on_ok_weaker c.deliver.result (λ t. subst Q (sym (unsettled_more past a out)) t) (c.deliver.ensures.ok k (unsettled past) (of_variant flow k past c.in-Outside.is r) side)
 
 pub returns-in-Outside-clause-sent : goal.returns-in-Outside-clause-sent
 returns-in-Outside-clause-sent c = λ flow k past r side out.
-    let P : Table → Type 0 = λ s. IsNodeTable flow s k past in
-    let h = subst P c.in-Outside.is r in
+    let h = of_variant flow k past c.in-Outside.is r in
     let a : Arrival = arrival c.args.side c.args.at.now c.args.rec in
     let plain = timed_plain epoch_cmp epoch_coords flow c.in-Outside.table k (unsettled past) h in
     let needs = deliveries_need_their_time k plain.per_time (λ s. not (past.settled s)) past.came a (ap not out) in
@@ -51,20 +49,17 @@ returns-in-Outside-clause-sent c = λ flow k past r side out.
 
 pub returns-in-Outside-clause-err : goal.returns-in-Outside-clause-err
 returns-in-Outside-clause-err c = λ flow k past r.
-    let P : Table → Type 0 = λ s. IsNodeTable flow s k past in
-    c.deliver.ensures.err k (unsettled past) (subst P c.in-Outside.is r)
+    c.deliver.ensures.err k (unsettled past) (of_variant flow k past c.in-Outside.is r)
 
 pub returns-in-Loop-clause-ok : goal.returns-in-Loop-clause-ok
 returns-in-Loop-clause-ok c = λ flow k past r side out untold.
-    let P : Table → Type 0 = λ s. IsNodeTable flow s k past in
     let a : Arrival = arrival c.args.side c.args.at.now c.args.rec in
     let Q : List Arrival → Type 0 = λ xs. IsLoopTable (nest_cmp epoch_cmp) (nest_coords epoch_coords) flow c.deliver-in-Loop.new.self k xs in
-    on_ok_weaker c.deliver-in-Loop.result (λ t. subst Q (sym (unsettled_more past a out)) t) (c.deliver-in-Loop.ensures.ok flow k (unsettled past) (subst P c.in-Loop.is r) side)
+    on_ok_weaker c.deliver-in-Loop.result (λ t. subst Q (sym (unsettled_more past a out)) t) (c.deliver-in-Loop.ensures.ok flow k (unsettled past) (of_variant flow k past c.in-Loop.is r) side)
 
 pub returns-in-Loop-clause-sent : goal.returns-in-Loop-clause-sent
 returns-in-Loop-clause-sent c = λ flow k past r side out.
-    let P : Table → Type 0 = λ s. IsNodeTable flow s k past in
-    let h = subst P c.in-Loop.is r in
+    let h = of_variant flow k past c.in-Loop.is r in
     let a : Arrival = arrival c.args.side c.args.at.now c.args.rec in
     let plain = loop_kind (nest_cmp epoch_cmp) (nest_coords epoch_coords) flow c.in-Loop.table k (unsettled past) h in
     let needs = deliveries_need_their_time k plain.per_time (λ s. not (past.settled s)) past.came a (ap not out) in
@@ -74,20 +69,17 @@ returns-in-Loop-clause-sent c = λ flow k past r side out.
 
 pub returns-in-Loop-clause-err : goal.returns-in-Loop-clause-err
 returns-in-Loop-clause-err c = λ flow k past r.
-    let P : Table → Type 0 = λ s. IsNodeTable flow s k past in
-    c.deliver-in-Loop.ensures.err flow k (unsettled past) (subst P c.in-Loop.is r)
+    c.deliver-in-Loop.ensures.err flow k (unsettled past) (of_variant flow k past c.in-Loop.is r)
 
 pub returns-in-Loop2-clause-ok : goal.returns-in-Loop2-clause-ok
 returns-in-Loop2-clause-ok c = λ flow k past r side out untold.
-    let P : Table → Type 0 = λ s. IsNodeTable flow s k past in
     let a : Arrival = arrival c.args.side c.args.at.now c.args.rec in
     let Q : List Arrival → Type 0 = λ xs. IsLoopTable (nest_cmp (nest_cmp epoch_cmp)) (nest_coords (nest_coords epoch_coords)) flow c.deliver-in-Loop2.new.self k xs in
-    on_ok_weaker c.deliver-in-Loop2.result (λ t. subst Q (sym (unsettled_more past a out)) t) (c.deliver-in-Loop2.ensures.ok flow k (unsettled past) (subst P c.in-Loop2.is r) side)
+    on_ok_weaker c.deliver-in-Loop2.result (λ t. subst Q (sym (unsettled_more past a out)) t) (c.deliver-in-Loop2.ensures.ok flow k (unsettled past) (of_variant flow k past c.in-Loop2.is r) side)
 
 pub returns-in-Loop2-clause-sent : goal.returns-in-Loop2-clause-sent
 returns-in-Loop2-clause-sent c = λ flow k past r side out.
-    let P : Table → Type 0 = λ s. IsNodeTable flow s k past in
-    let h = subst P c.in-Loop2.is r in
+    let h = of_variant flow k past c.in-Loop2.is r in
     let a : Arrival = arrival c.args.side c.args.at.now c.args.rec in
     let plain = loop_kind (nest_cmp (nest_cmp epoch_cmp)) (nest_coords (nest_coords epoch_coords)) flow c.in-Loop2.table k (unsettled past) h in
     let needs = deliveries_need_their_time k plain.per_time (λ s. not (past.settled s)) past.came a (ap not out) in
@@ -97,20 +89,17 @@ returns-in-Loop2-clause-sent c = λ flow k past r side out.
 
 pub returns-in-Loop2-clause-err : goal.returns-in-Loop2-clause-err
 returns-in-Loop2-clause-err c = λ flow k past r.
-    let P : Table → Type 0 = λ s. IsNodeTable flow s k past in
-    c.deliver-in-Loop2.ensures.err flow k (unsettled past) (subst P c.in-Loop2.is r)
+    c.deliver-in-Loop2.ensures.err flow k (unsettled past) (of_variant flow k past c.in-Loop2.is r)
 
 pub returns-in-Loop3-clause-ok : goal.returns-in-Loop3-clause-ok
 returns-in-Loop3-clause-ok c = λ flow k past r side out untold.
-    let P : Table → Type 0 = λ s. IsNodeTable flow s k past in
     let a : Arrival = arrival c.args.side c.args.at.now c.args.rec in
     let Q : List Arrival → Type 0 = λ xs. IsLoopTable (nest_cmp (nest_cmp (nest_cmp epoch_cmp))) (nest_coords (nest_coords (nest_coords epoch_coords))) flow c.deliver-in-Loop3.new.self k xs in
-    on_ok_weaker c.deliver-in-Loop3.result (λ t. subst Q (sym (unsettled_more past a out)) t) (c.deliver-in-Loop3.ensures.ok flow k (unsettled past) (subst P c.in-Loop3.is r) side)
+    on_ok_weaker c.deliver-in-Loop3.result (λ t. subst Q (sym (unsettled_more past a out)) t) (c.deliver-in-Loop3.ensures.ok flow k (unsettled past) (of_variant flow k past c.in-Loop3.is r) side)
 
 pub returns-in-Loop3-clause-sent : goal.returns-in-Loop3-clause-sent
 returns-in-Loop3-clause-sent c = λ flow k past r side out.
-    let P : Table → Type 0 = λ s. IsNodeTable flow s k past in
-    let h = subst P c.in-Loop3.is r in
+    let h = of_variant flow k past c.in-Loop3.is r in
     let a : Arrival = arrival c.args.side c.args.at.now c.args.rec in
     let plain = loop_kind (nest_cmp (nest_cmp (nest_cmp epoch_cmp))) (nest_coords (nest_coords (nest_coords epoch_coords))) flow c.in-Loop3.table k (unsettled past) h in
     let needs = deliveries_need_their_time k plain.per_time (λ s. not (past.settled s)) past.came a (ap not out) in
@@ -120,50 +109,45 @@ returns-in-Loop3-clause-sent c = λ flow k past r side out.
 
 pub returns-in-Loop3-clause-err : goal.returns-in-Loop3-clause-err
 returns-in-Loop3-clause-err c = λ flow k past r.
-    let P : Table → Type 0 = λ s. IsNodeTable flow s k past in
-    c.deliver-in-Loop3.ensures.err flow k (unsettled past) (subst P c.in-Loop3.is r)
+    c.deliver-in-Loop3.ensures.err flow k (unsettled past) (of_variant flow k past c.in-Loop3.is r)
 
 pub returns-in_ok-on_message-in-Total-clause-ok : goal.returns-in_ok-on_message-in-Total-clause-ok
 returns-in_ok-on_message-in-Total-clause-ok c = λ flow k past r side out untold.
-    let P : Table → Type 0 = λ s. IsNodeTable flow s k past in
     let a : Arrival = arrival c.args.side c.args.at.now c.args.rec in
     let co : c.from_coords-in-Total.result.0 ∷ [] ≡ c.args.at.now = c.from_coords-in-Total.ensures in
     let new = c.on_message-in-Total.new.self in
     let Q : StampList → Type 0 = λ s. IsTotal past.settled (is_taken past) new (arrival c.args.side s c.args.rec ∷ past.came) in
     of_total flow past (λ x. (is_notified_kind x ≡ true → past.told c.args.at.now ≡ false) → IsNodeTable flow (table.Total new) x (with_arrival a past))
-    c.in-Total.table k (subst P c.in-Total.is r)
+    c.in-Total.table k (of_variant flow k past c.in-Total.is r)
     (λ h u. subst Q co (c.in_ok-on_message-in-Total.ensures.ok past.settled (is_taken past) past.came (ap past.settled co ∙ out) (ap (is_taken past) co ∙ neither (past.settled c.args.at.now) (past.told c.args.at.now) out (u refl)) h)) untold
 
 pub returns-in_ok-on_message-in-Sequence-clause-ok : goal.returns-in_ok-on_message-in-Sequence-clause-ok
 returns-in_ok-on_message-in-Sequence-clause-ok c = λ flow k past r side out untold.
-    let P : Table → Type 0 = λ s. IsNodeTable flow s k past in
     let a : Arrival = arrival c.args.side c.args.at.now c.args.rec in
     let co : c.from_coords-in-Sequence.result.0 ∷ [] ≡ c.args.at.now = c.from_coords-in-Sequence.ensures in
     let new = c.on_message-in-Sequence.new.self in
     let Q : StampList → Type 0 = λ s. IsSequence (is_taken past) new (arrival c.args.side s c.args.rec ∷ past.came) past.numbered in
     of_sequence flow past (λ x. (is_notified_kind x ≡ true → past.told c.args.at.now ≡ false) → IsNodeTable flow (table.Sequence new) x (with_arrival a past))
-    c.in-Sequence.table k (subst P c.in-Sequence.is r)
+    c.in-Sequence.table k (of_variant flow k past c.in-Sequence.is r)
     (λ h u. subst Q co (c.in_ok-on_message-in-Sequence.ensures.ok (is_taken past) past.came past.numbered (ap (is_taken past) co ∙ neither (past.settled c.args.at.now) (past.told c.args.at.now) out (u refl)) h)) untold
 
 pub returns-in_ok-sent-in-Ledger-clause-ok : goal.returns-in_ok-sent-in-Ledger-clause-ok
 returns-in_ok-sent-in-Ledger-clause-ok c = λ flow k past r side out untold.
-    let P : Table → Type 0 = λ s. IsNodeTable flow s k past in
     let a : Arrival = arrival c.args.side c.args.at.now c.args.rec in
     let co : c.from_coords-in-Ledger.result.0 ∷ [] ≡ c.args.at.now = c.from_coords-in-Ledger.ensures in
     let new = c.on_message-in-Ledger.new.self in
     let Q : StampList → Type 0 = λ s. IsLedger past.settled new (arrival c.args.side s c.args.rec ∷ past.came) in
-    of_ledger flow past (λ x. IsNodeTable flow (table.Ledger new) x (with_arrival a past)) c.in-Ledger.table k (subst P c.in-Ledger.is r)
+    of_ledger flow past (λ x. IsNodeTable flow (table.Ledger new) x (with_arrival a past)) c.in-Ledger.table k (of_variant flow k past c.in-Ledger.is r)
     (λ h. subst Q co (c.in_ok-sent-in-Ledger.ensures.ok past.settled past.came (ap past.settled co ∙ out) h))
 
 pub returns-in_ok-sent-in-Ledger-clause-sent : goal.returns-in_ok-sent-in-Ledger-clause-sent
 returns-in_ok-sent-in-Ledger-clause-sent c = λ flow k past r side out.
-    let P : Table → Type 0 = λ s. IsNodeTable flow s k past in
     let a : Arrival = arrival c.args.side c.args.at.now c.args.rec in
     let co : c.from_coords-in-Ledger.result.0 ∷ [] ≡ c.args.at.now = c.from_coords-in-Ledger.ensures in
     let total : Rec = record { key = c.args.rec.key; value = plus c.args.rec.value (value_sum c.args.rec.key (recs_of past.came)) } in
     let sent : Sent Stamp = record { at = c.copy-in-Ledger.result; recs = c.in_ok-sent-in-Ledger.sent.recs } in
     of_ledger flow past (λ x. sent_list sent ≡ sent_at (send_stamp_of_kind flow x c.args.at.now) (recs_for x past.came a))
-    c.in-Ledger.table k (subst P c.in-Ledger.is r)
+    c.in-Ledger.table k (of_variant flow k past c.in-Ledger.is r)
     (λ h. ap (λ (s : Sent SeqNo). map (λ (x : Rec). (c.copy-in-Ledger.result, x)) s.recs) (c.in_ok-sent-in-Ledger.ensures.sent past.settled past.came h)
     ∙ ap (λ (u : StampList). (u, total) ∷ []) c.copy-in-Ledger.ensures)
 

@@ -1,23 +1,19 @@
-use Rattle.std.proofs.Common.{◌≡◌, Bool, IfOk, subst}
+use Rattle.std.proofs.Common.{◌≡◌, Bool, IfOk}
 use Rattle.fw_time.specs.Stamp.{Stamp as StampList}
 use Rattle.fw_frontier.specs.Front.{inside}
 use Rattle.fw_bag.specs.Arrivals.{recs_inside}
-use Rattle.fw_node.specs.declared.table.Table.{Table}
-use Rattle.fw_node.specs.NodeTable.{IsNodeTable}
 use Rattle.fw_node.specs.Past.{totals_kept, is_taken}
-use Rattle.fw_node.proofs.TableCases.{of_total, of_ledger}
+use Rattle.fw_node.proofs.TableCases.{of_ledger, of_total, of_variant}
 use Rattle.fw_node.proofs.table.Table.totals_at.Goals as goal
 
 pub returns-in_ok-epochs_inside-in-Total : goal.returns-in_ok-epochs_inside-in-Total
 returns-in_ok-epochs_inside-in-Total c = λ flow k past r sub.
-    let P : Table → Type 0 = λ s. IsNodeTable flow s k past in
     let f : StampList → Bool = inside c.args.f.now in
-    of_total flow past (λ x. IfOk c.totals_at.result (λ totals. totals ≡ totals_kept x (recs_inside f past.came))) c.in-Total.table k (subst P c.in-Total.is r)
+    of_total flow past (λ x. IfOk c.totals_at.result (λ totals. totals ≡ totals_kept x (recs_inside f past.came))) c.in-Total.table k (of_variant flow k past c.in-Total.is r)
     (λ h. c.totals_at.ensures.totals past.settled f (is_taken past) past.came c.in_ok-epochs_inside-in-Total.ensures sub h)
 
 pub returns-in_ok-epochs_inside-in-Ledger : goal.returns-in_ok-epochs_inside-in-Ledger
 returns-in_ok-epochs_inside-in-Ledger c = λ flow k past r sub.
-    let P : Table → Type 0 = λ s. IsNodeTable flow s k past in
     let f : StampList → Bool = inside c.args.f.now in
-    of_ledger flow past (λ x. IfOk c.totals_at-in-Ledger.result (λ totals. totals ≡ totals_kept x (recs_inside f past.came))) c.in-Ledger.table k (subst P c.in-Ledger.is r)
+    of_ledger flow past (λ x. IfOk c.totals_at-in-Ledger.result (λ totals. totals ≡ totals_kept x (recs_inside f past.came))) c.in-Ledger.table k (of_variant flow k past c.in-Ledger.is r)
     (λ h. c.totals_at-in-Ledger.ensures.totals past.settled f past.came c.in_ok-epochs_inside-in-Ledger.ensures sub h)

@@ -1,13 +1,13 @@
 -- What a feedback leads to, as it is marked.
 use Rattle.std.proofs.Common.{◌≡◌, ◌⊎◌, ℕ, zero, suc, ◌+◌, ◌*◌, ◌<◌, ◌≤◌, Bool, true, false, ◌||◌, ◌==◌, List, [], ◌∷◌, ◌++◌, length, get_or, set, drop, replicate, refl, sym, ap, subst, ◌∙◌, inl, inr, arith}
 use Rattle.std.specs.List.{AllByRecursion}
-use Rattle.std.proofs.lemmas.Bool.{cases_eq, cases_Bool, eq-eqb, eqb-true, both_ways, or_cases, or_left, or_right}
+use Rattle.std.proofs.lemmas.Bool.{cases_eq, eq-eqb, eqb-true, both_ways, or_cases, or_left, or_right}
 use Rattle.std.proofs.lemmas.List.{drop_more, drop_all, get_or-set_same, get_or-set_other, length-append, length-set}
 use Rattle.fw_time.proofs.EachLaws.{each-at, each-weaker}
 use Rattle.fw_flow.specs.Dataflow.{Dataflow, sender, receiver, out_edges}
 use Rattle.fw_flow.proofs.OutEdgeLaws.{out_edges-at, out_edges-from}
 use Rattle.fw_progress.specs.Counts.{is_in}
-use Rattle.fw_progress.specs.Leap.{is_as_deep, is_marked, GoesOn, AreLedTo, unmarked, IsMarking}
+use Rattle.fw_progress.specs.Leap.{is_as_deep, is_marked, AreLedTo, unmarked, IsMarking}
 use Rattle.fw_progress.proofs.IntoLaws.{in-push}
 
 -- ---- marks

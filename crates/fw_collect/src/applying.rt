@@ -1,5 +1,5 @@
 //! Giving up what a collection gives up.
-ghost use Rattle.std.specs.Prelude.{◌≡◌, ◌<◌, ◌-◌, ℕ, IsTrue, length, slice_index_or};
+ghost use Rattle.std.specs.Prelude.{◌≡◌, ◌↔◌, ◌<◌, ◌-◌, ℕ, IsTrue, length, slice_index_or};
 ghost use Rattle.fw_collect.specs.declared.drops.AtNode.{AtNode as Event};
 ghost use Rattle.fw_border.specs.Sources.{source_at};
 ghost use Rattle.fw_collect.specs.Dropped.{is_below_some, is_at_some, is_dropped, Forgets, source_left};
@@ -48,7 +48,8 @@ fn forget_events(events: &[AtNode], keep: &mut Keep)
 /// repetitions are found by this.
 fn is_repeated(events: &[AtNode], place: usize) -> bool
     requires { place < length events.now }
-    ensures { IsTrue result → (d : Event) → (0 < place) × (slice_index_or events.now (place - 1) d ≡ slice_index_or events.now place d) }
+    ensures { IsTrue result
+        ↔ ((d : Event) → (0 < place) × (slice_index_or events.now (place - 1) d ≡ slice_index_or events.now place d)) }
 {
     if place == 0 {
         return false;

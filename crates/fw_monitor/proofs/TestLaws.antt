@@ -23,7 +23,7 @@ use Rattle.fw_monitor.specs.Tests.{IsTested, IsGoing, IsNext, IsTaken}
 use Rattle.fw_monitor.proofs.CutDownLaws.{split_at}
 use Rattle.fw_monitor.proofs.StartLaws.{start_encloses}
 use Rattle.fw_monitor.proofs.TrailLaws.{going_held, going_lowered}
-use Rattle.fw_monitor.proofs.WorklistLaws.{inclusions-there, each-inclusion, number-below, cleared-rest, all_waits, count-most, take_next}
+use Rattle.fw_monitor.proofs.WorklistLaws.{inclusions-there, each-inclusion, number-below, cleared-rest, all_waits, count-most, count-all, count-none, each_number, take_next}
 
 -- ---- one test
 
@@ -35,7 +35,7 @@ flag_read flow waiting i n r b e l each is k =
     ap (λ x. get_or waiting x true) (sym e) ∙ sym (get_or_read waiting n r there is true) ∙ k
 
 pub taken_held : (flow : Dataflow) (offers : List Offer) (i : Inclusion) (choice next : Choice) (trail : List Lowering) (waiting : List Bool) (steps more : ℕ) → IsInclusionOf flow i
-    → length waiting ≡ how_many flow → waits flow waiting i ≡ true → more ≤ steps + 1 → IsTested flow offers i choice next None
+    → length waiting ≡ how_many flow → waits flow waiting i ≡ true → more ≡ steps + 1 → IsTested flow offers i choice next None
     → IsTaken flow offers i choice next trail trail waiting (set waiting (number flow i) false) steps more false
 taken_held flow offers i choice next trail waiting steps more l each w one (same, holds) =
     let below = number-below flow i l in
@@ -50,7 +50,7 @@ taken_held flow offers i choice next trail waiting steps more l each w one (same
     }
 
 pub taken_lowered : (flow : Dataflow) (offers : List Offer) (i : Inclusion) (choice next : Choice) (to : Cut) (l : Lowering) (trail more_trail : List Lowering) (waiting left : List Bool) (steps more : ℕ) → IsWellFormed flow
-    → IsInclusionOf flow i → IsNext flow waiting i → waits flow waiting i ≡ true → more ≤ steps + 1 → IsTested flow offers i choice next (Some to)
+    → IsInclusionOf flow i → IsNext flow waiting i → waits flow waiting i ≡ true → more ≡ steps + 1 → IsTested flow offers i choice next (Some to)
     → l ≡ lowering_of flow i to → more_trail ≡ trail ++ l ∷ []
     → ArePut flow (after flow i) (set waiting (number flow i) false) left
     → IsTaken flow offers i choice next trail more_trail waiting left steps more true
@@ -81,6 +81,7 @@ pub begun : (flow : Dataflow) (offers : List Offer) (cuts : List Cut) (notices :
     → length waiting ≡ how_many flow → AllByRecursion (λ w. w ≡ true) waiting → IsAt flow offers (choice_of cuts notices) [] waiting steps steps 0
 begun flow offers cuts notices waiting steps one each greatest kept many all =
     let most = count-most waiting in
+    let every = count-all waiting all in
     record {
       going = record {
         encloses = start_encloses flow offers cuts notices one each greatest kept;
@@ -90,6 +91,7 @@ begun flow offers cuts notices waiting steps one each greatest kept many all =
         starts = record { one_cut_each = one; one_notice_each = each; cuts = greatest; notices = kept };
         leads = λ has. refl;
         spent = omega arith;
+        tested = omega arith;
       };
       done = tt;
       within = omega arith;
@@ -167,3 +169,13 @@ trail_ends flow offers choice trail waiting before steps place well a l has = re
   leads = a.going.leads has;
   ends = each-weaker (IsInclusionOf flow) (Holds flow offers choice) (inclusions flow) (each_holds flow offers choice trail waiting before steps place well a l has) (inclusions-there flow);
 }
+
+-- at the end each inclusion was tested
+pub each_tested : (flow : Dataflow) (offers : List Offer) (choice : Choice) (trail : List Lowering) (waiting : List Bool) (before steps place : ℕ) → IsWellFormed flow
+    → IsAt flow offers choice trail waiting before steps place → length (inclusions flow) ≤ place → before + how_many flow ≤ steps
+each_tested flow offers choice trail waiting before steps place well a l =
+    let done = subst (AllByRecursion (λ j. waits flow waiting j ≡ false)) (take_all (inclusions flow) place l) a.done in
+    let tested = a.going.tested in
+    let one = a.going.one_each in
+    let none = count-none waiting (λ n m. each_number flow (λ k. get_or waiting k true ≡ false) (each-inclusion flow (λ j. waits flow waiting j ≡ false) well done) n (omega arith)) in
+    omega arith

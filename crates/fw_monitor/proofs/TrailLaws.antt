@@ -81,7 +81,7 @@ first_failing flow offers choice waiting i n fails settled =
     }
 
 pub going_lowered : (flow : Dataflow) (offers : List Offer) (i : Inclusion) (choice next : Choice) (to : Cut) (trail : List Lowering) (waiting left : List Bool) (before steps more : ℕ)
-    → IsWellFormed flow → IsInclusionOf flow i → IsNext flow waiting i → waits flow waiting i ≡ true → more ≤ steps + 1 → IsLowering flow offers i choice next to
+    → IsWellFormed flow → IsInclusionOf flow i → IsNext flow waiting i → waits flow waiting i ≡ true → more ≡ steps + 1 → IsLowering flow offers i choice next to
     → ArePut flow (after flow i) (set waiting (number flow i) false) left
     → IsGoing flow offers choice trail waiting before steps → IsGoing flow offers next (trail ++ lowering_of flow i to ∷ []) left before more
 going_lowered flow offers i choice next to trail waiting left before steps more well l n w one low put g =
@@ -92,7 +92,9 @@ going_lowered flow offers i choice next to trail waiting left before steps more 
     let below = number-below flow i l in
     let cleared = count-cleared waiting (number flow i) (omega arith) w in
     let spent = g.spent in
+    let tested = g.tested in
     let few = put.few in
+    let none_out = put.none_out in
     let many = after-most flow i in
     let asked = tests_after-more flow trail (lowering_of flow i to) in
     let flags = set waiting (number flow i) false in
@@ -121,16 +123,18 @@ going_lowered flow offers i choice next to trail waiting left before steps more 
         with_it = low.with_it;
       });
       spent = omega arith;
+      tested = omega arith;
     }
 
 pub going_held : (flow : Dataflow) (offers : List Offer) (i : Inclusion) (choice : Choice) (trail : List Lowering) (waiting : List Bool) (before steps more : ℕ)
-    → IsInclusionOf flow i → waits flow waiting i ≡ true → more ≤ steps + 1 → (HasConsistent flow offers → Holds flow offers choice i)
+    → IsInclusionOf flow i → waits flow waiting i ≡ true → more ≡ steps + 1 → (HasConsistent flow offers → Holds flow offers choice i)
     → IsGoing flow offers choice trail waiting before steps → IsGoing flow offers choice trail (set waiting (number flow i) false) before more
 going_held flow offers i choice trail waiting before steps more l w one holds g =
     let one_flag = g.one_each in
     let below = number-below flow i l in
     let cleared = count-cleared waiting (number flow i) (omega arith) w in
     let spent = g.spent in
+    let tested = g.tested in
     record {
       encloses = g.encloses;
       one_each = length-set waiting (number flow i) false ∙ g.one_each;
@@ -142,4 +146,5 @@ going_held flow offers i choice trail waiting before steps more l w one holds g 
       starts = g.starts;
       leads = g.leads;
       spent = omega arith;
+      tested = omega arith;
     }

@@ -1,8 +1,8 @@
 -- Which inclusions a dataflow has, their numbers, those that a lowering can break, and the flags of those that wait.
-use Rattle.std.proofs.Common.{◌≡◌, ◌⊎◌, ℕ, zero, suc, ◌+◌, ◌*◌, ◌<◌, ◌≤◌, Bool, true, false, ◌==◌, List, [], ◌∷◌, ◌++◌, length, map, take, set, get_or, refl, sym, ap, subst, ◌∙◌, inl, inr, arith}
+use Rattle.std.proofs.Common.{◌≡◌, ◌⊎◌, ℕ, zero, suc, ◌+◌, ◌-◌, ◌*◌, ◌<◌, ◌≤◌, Bool, true, false, ◌==◌, List, [], ◌∷◌, ◌++◌, length, map, take, set, get_or, refl, sym, ap, subst, ◌∙◌, inl, inr, arith}
 use Rattle.std.specs.List.{AllByRecursion}
 use Rattle.std.proofs.Math.Seq.{take-suc}
-use Rattle.std.proofs.lemmas.Bool.{eqb-true, or_cases, cases_eq}
+use Rattle.std.proofs.lemmas.Bool.{eqb-true, or_cases, cases_eq, cases_lt}
 use Rattle.std.proofs.lemmas.List.{append_assoc, get_or-set_same, get_or-set_other, length-append, length-map, length-set}
 use Rattle.fw_time.proofs.EachLaws.{each-weaker, each-append, each-prefix, each-suffix, each-map, each_of-map}
 use Rattle.fw_flow.specs.Dataflow.{Dataflow, sender, receiver, in_edges, out_edges}
@@ -200,6 +200,25 @@ number-below flow (OfCut (Notified p)) l = omega arith
 number-below flow (OfNote (Own p)) l = omega arith
 number-below flow (OfNote (Note d)) l = omega arith
 
+-- each number below how many there are is one of an inclusion
+pub each_number : (flow : Dataflow) (P : ℕ → Type 0) → ((i : Inclusion) → IsInclusionOf flow i → P (number flow i)) → (n : ℕ) → n < how_many flow → P n
+each_number flow P h n l =
+    let e = length flow.edges in
+    let v = length flow.nodes in
+    elim (cases_lt n e) [
+      | inl k ↦ h (OfCut (Delivered n)) k
+      | inr first ↦ elim (cases_lt (n - e) e) [
+        | inl k ↦ let r : e + (n - e) ≡ n = omega arith in subst P r (h (OfCut (Discarded (n - e))) k)
+        | inr second ↦ elim (cases_lt (n - e - e) e) [
+          | inl k ↦ let r : e + e + (n - e - e) ≡ n = omega arith in subst P r (h (OfNote (Note (n - e - e))) k)
+          | inr third ↦ elim (cases_lt (n - e - e - e) v) [
+            | inl k ↦ let r : e + e + e + (n - e - e - e) ≡ n = omega arith in subst P r (h (OfCut (Notified (n - e - e - e))) k)
+            | inr fourth ↦ let r : e + e + e + v + (n - e - e - e - v) ≡ n = omega arith in subst P r (h (OfNote (Own (n - e - e - e - v))) (omega arith))
+          ]
+        ]
+      ]
+    ]
+
 numbers-apart : (flow : Dataflow) (side : Side) (limit : Limit) → IsInclusionOf flow (OfCut side) → IsInclusionOf flow (OfNote limit) → number flow (OfCut side) ≡ number flow (OfNote limit) → ⊥
 numbers-apart flow (Delivered d) (Own q) l m k = omega arith
 numbers-apart flow (Delivered d) (Note e) l m k = omega arith
@@ -235,6 +254,13 @@ count-put (true ∷ ws) zero = omega arith
 count-put (false ∷ ws) zero = omega arith
 count-put (true ∷ ws) (suc k) = let h = count-put ws k in omega arith
 count-put (false ∷ ws) (suc k) = count-put ws k
+
+count-kept : (ws : List Bool) (k : ℕ) → count ws ≤ count (set ws k true)
+count-kept [] k = omega arith
+count-kept (true ∷ ws) zero = omega arith
+count-kept (false ∷ ws) zero = omega arith
+count-kept (true ∷ ws) (suc k) = let h = count-kept ws k in omega arith
+count-kept (false ∷ ws) (suc k) = count-kept ws k
 
 put-same : (ws : List Bool) (k : ℕ) → get_or (set ws k true) k true ≡ true
 put-same [] k = refl
@@ -273,6 +299,17 @@ count-most [] = omega arith
 count-most (true ∷ ws) = let h = count-most ws in omega arith
 count-most (false ∷ ws) = let h = count-most ws in omega arith
 
+pub count-all : (ws : List Bool) → AllByRecursion (λ w. w ≡ true) ws → count ws ≡ length ws
+count-all [] a = refl
+count-all (true ∷ ws) a = let h = count-all ws a.1 in omega arith
+count-all (false ∷ ws) a = absurd (let e = a.0 in cc)
+
+-- at last none waits
+pub count-none : (ws : List Bool) → ((n : ℕ) → n < length ws → get_or ws n true ≡ false) → count ws ≡ 0
+count-none [] h = refl
+count-none (true ∷ ws) h = absurd (let e = h 0 (omega arith) in cc)
+count-none (false ∷ ws) h = count-none ws (λ n l. h (suc n) (omega arith))
+
 -- ---- what is put back
 
 pub put_one : (flow : Dataflow) (ws : List Bool) (i : Inclusion) → ArePut flow (i ∷ []) ws (set ws (number flow i) true)
@@ -281,18 +318,22 @@ put_one flow ws i = record {
   wait = (put-same ws (number flow i), tt);
   still = λ j e. put-still ws (number flow i) (number flow j) e;
   few = count-put ws (number flow i);
+  none_out = count-kept ws (number flow i);
 }
 
 put_more : (flow : Dataflow) (is js : List Inclusion) (a b c : List Bool) → ArePut flow is a b → ArePut flow js b c → ArePut flow (is ++ js) a c
 put_more flow is js a b c k l =
     let few = k.few in
     let more = l.few in
+    let first = k.none_out in
+    let second = l.none_out in
     let both = length-append is js in
     record {
       one_each = l.one_each ∙ k.one_each;
       wait = each-append (λ i. waits flow c i ≡ true) is js (each-weaker (λ i. waits flow b i ≡ true) (λ i. waits flow c i ≡ true) is (λ i e. l.still i e) k.wait) l.wait;
       still = λ j e. l.still j (k.still j e);
       few = omega arith;
+      none_out = omega arith;
     }
 
 pub put_next : (flow : Dataflow) (all : List Inclusion) (n : ℕ) (x : Inclusion) (a b c : List Bool) → n < length all → x ≡ get_or all n x

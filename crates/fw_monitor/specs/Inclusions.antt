@@ -134,9 +134,10 @@ count [] = 0
 count (true ∷ waiting) = suc (count waiting)
 count (false ∷ waiting) = count waiting
 
--- these wait now, each that waited still does, and no more are added than that many
+-- these wait now, each that waited still does, no more are added than that many, and none is taken out
 pub record ArePut (flow : Dataflow) (is : List Inclusion) (old new : List Bool) : Type 0 where
   pub one_each : length new ≡ length old
   pub wait : AllByRecursion (λ i. waits flow new i ≡ true) is
   pub still : (j : Inclusion) → waits flow old j ≡ true → waits flow new j ≡ true
   pub few : count new ≤ count old + length is
+  pub none_out : count old ≤ count new

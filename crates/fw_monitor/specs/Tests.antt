@@ -24,8 +24,8 @@ abbrev pub IsTested : Dataflow → List Offer → Inclusion → Choice → Choic
 IsTested flow offers i old new None = (new ≡ old) × (HasConsistent flow offers → Holds flow offers old i)
 IsTested flow offers i old new (Some to) = IsLowering flow offers i old new to
 
--- what the descent keeps: what does not wait holds, if there is a consistent choice; the trail so far leads to the choice; and
--- each step was one that waited
+-- what the descent keeps: what does not wait holds, if there is a consistent choice; the trail so far leads to the choice; each
+-- step was one that waited; and what does not wait took a step
 pub record IsGoing (flow : Dataflow) (offers : List Offer) (choice : Choice) (trail : List Lowering) (waiting : List Bool) (before steps : ℕ) : Type 0 where
   pub encloses : EnclosesConsistent flow offers choice
   pub one_each : length waiting ≡ how_many flow
@@ -34,6 +34,7 @@ pub record IsGoing (flow : Dataflow) (offers : List Offer) (choice : Choice) (tr
   pub starts : IsStart flow offers start
   pub leads : HasConsistent flow offers → Leads flow offers start trail choice
   pub spent : steps + count waiting ≤ before + how_many flow + tests_after flow trail
+  pub tested : before + how_many flow ≤ steps + count waiting
 
 -- the inclusion is the first that may wait
 pub record IsNext (flow : Dataflow) (waiting : List Bool) (i : Inclusion) : Type 0 where

@@ -106,7 +106,8 @@ fn uncounted<L: Ledger>(
 /// some cuts and frontiers. And the trail of the descent, which tells how it was found. The error is want of memory.
 ///
 /// It begins with the greatest cut of each node, and takes the inclusions that wait for their test in order: what does not
-/// hold is lowered, and what that can break waits again. Each test is one step.
+/// hold is lowered, and what that can break waits again. Each test is one step, and each
+/// inclusion is tested at least once.
 pub fn descend<L: Ledger>(
     alloc: Global,
     flow: &Flow,
@@ -121,6 +122,7 @@ pub fn descend<L: Ledger>(
     ensures of_flow { IfOk result (λ descent. IsChoiceOf flow.now descent.choice) }
     ensures bound { IfOk result (λ descent. steps.new
         ≤ steps.old + 3 * length flow.now.edges + 2 * length flow.now.nodes + tests_after flow.now descent.trail) }
+    ensures each_tested { IfOk result (λ descent. steps.old + 3 * length flow.now.edges + 2 * length flow.now.nodes ≤ steps.new) }
 {
     flow_is_well_formed(flow);
     let cuts = greatest_cuts(alloc, flow, offers)?;

@@ -7,7 +7,7 @@ use Rattle.fw_time.specs.Stamp.{Stamp, in_domain}
 use Rattle.fw_time.specs.declared.stamp.Bounds.{Bounds}
 use Rattle.fw_time.proofs.EachLaws.{each-weaker, each-append}
 use Rattle.fw_frontier.specs.Frontier.{Frontier, Within}
-use Rattle.fw_frontier.specs.Front.{Front}
+use Rattle.fw_frontier.specs.Front.{Front, frontier_of}
 use Rattle.fw_flow.specs.declared.event.Event.{Event}
 use Rattle.fw_flow.specs.declared.event.Event.TheVariants.{Inject, Deliver, Notify}
 use Rattle.fw_flow.specs.declared.event.Message.{Message}
@@ -26,9 +26,11 @@ use Rattle.fw_model.proofs.SequenceLaws.{one_inside}
 use Rattle.fw_progress.specs.declared.sent_tally.SentTally.{SentTally}
 use Rattle.fw_progress.specs.declared.traces.Traces.{Traces}
 use Rattle.fw_model.specs.EventStamps.{causes_in}
-use Rattle.fw_progress.specs.SentTally.{IsSentTally, ComeFromDomain, IsTallySettledTo, IsTallyCutTo}
-use Rattle.fw_progress.specs.Trace.{delivered_on, notified_of, sent_at, counted_of, IsTraceOf, IsTraceWithin, KeepsOthers, AreSettledTo, AreCutTo, HaveChanged}
-use Rattle.fw_progress.specs.Traces.{AreOf, IsSettledTo, IsCutTo}
+use Rattle.fw_progress.specs.SentTally.{IsSentTally, ComeFromDomain, IsTallySettledTo, IsCountedInAll, IsTallyCutTo}
+use Rattle.fw_progress.specs.Trace.{delivered_on, notified_of, sent_at, counted_of, IsTraceOf, IsTraceWithin, KeepsOthers, AreSettledTo, AreThinnedAt, AreCutTo, HaveChanged}
+use Rattle.fw_progress.specs.Traces.{AreOf, IsSettledTo, IsThinnedBy, IsCutTo}
+use Rattle.fw_progress.proofs.SentTallyLaws.{tally-settle}
+use Rattle.fw_progress.proofs.TraceLaws.{thinned-settle}
 
 -- ---- of a node's events alone
 
@@ -126,7 +128,7 @@ changed-others flow p R T old new c sys h e q n base t = record {
   counted = λ k. subst (IsSentTally base (sent_by sys q (events_at sys.flow q h))) (sym (c.counted.others q n)) (t.counted k);
 }
 
-pub settled-traces : (flow : Dataflow) (p : ℕ) (f : Front) (old new : Traces) → HaveChanged flow p (IsSettledTo f) (IsTallySettledTo f) old new → AreSettledTo flow p f old new
+settled-traces : (flow : Dataflow) (p : ℕ) (f : Front) (old new : Traces) → HaveChanged flow p (IsSettledTo f) (IsTallySettledTo f) old new → AreSettledTo flow p f old new
 settled-traces flow p f old new change = record {
   here = λ sys h e.
       subst (λ g. AreEventsInDomain g h p → IsTraceWithin sys h p f old → IsTraceOf sys h p (node_frontier g p f) new) e
@@ -146,6 +148,22 @@ settled-traces flow p f old new change = record {
           sent = λ o k. c.sent.here b w.base (causes_in (sent_by sys p (events_at sys.flow p h))) (causes-of b _ (sent-domain sys h p a)) w.within (t.sent o k);
           counted = λ k. c.counted.here b w.base (sent_by sys p (events_at sys.flow p h)) (sent-domain sys h p a) w.within (t.counted k);
         }
+
+changed-weaker : (flow : Dataflow) (p : ℕ) (R S : List Stamp → List Stamp → Type 0) (T U : SentTally → SentTally → Type 0) (old new : Traces)
+    → ((a b : List Stamp) → R a b → S a b) → ((a b : SentTally) → T a b → U a b) → HaveChanged flow p R T old new → HaveChanged flow p S U old new
+changed-weaker flow p R S T U old new r t c = record {
+  delivered = record { one_each = c.delivered.one_each; here = λ d l e. r _ _ (c.delivered.here d l e); others = c.delivered.others };
+  notified = record { one_each = c.notified.one_each; here = r _ _ c.notified.here; others = c.notified.others };
+  sent = record { one_each = c.sent.one_each; here = r _ _ c.sent.here; others = c.sent.others };
+  counted = record { one_each = c.counted.one_each; here = t _ _ c.counted.here; others = c.counted.others };
+}
+
+-- what is thinned inside a larger base is settled there
+pub thinned-traces : (flow : Dataflow) (p : ℕ) (f : Front) (old new : Traces) → AreThinnedAt flow p f old new → AreSettledTo flow p f old new
+thinned-traces flow p f old new change = settled-traces flow p f old new
+    (changed-weaker flow p (IsThinnedBy f) (IsSettledTo f) (IsCountedInAll f) (IsTallySettledTo f) old new
+    (λ a b e bounds base all d w h. subst (IsThinned (frontier_of bounds f) all) (sym e) (thinned-settle bounds base all a f d w h))
+    (λ a b e. tally-settle f a b (ap (λ (tally : SentTally). tally.inside) e) (ap (λ (tally : SentTally). tally.outside) e)) change)
 
 -- ---- a cut
 

@@ -99,6 +99,7 @@ none_grown flow counts old work growths = record {
   canonical = λ c. c;
   nodes = λ n. n;
   few = omega arith;
+  none_out = omega arith;
   stays = λ q k. k;
   leaves = λ q l out s. s;
 }
@@ -113,6 +114,7 @@ pub one_grown : (flow : Dataflow) (counts : Counts) (p : ℕ) (f : Front) (old n
     → HaveGrown flow counts old new work rest growths more
 one_grown flow counts p f old new work rest growths more w l c m g =
     let few = g.put.few in
+    let none_out = g.put.none_out in
     record {
       added = record { node = p; front = f } ∷ [];
       grown = (m, g.changed);
@@ -121,6 +123,7 @@ one_grown flow counts p f old new work rest growths more w l c m g =
       canonical = λ a. subst (AreCanonical flow) (sym g.changed) (set_canonical flow old p f l a c);
       nodes = g.put.nodes (λ q. nat_lt q (length flow.nodes)) (receivers-nodes flow w p);
       few = omega arith;
+      none_out = omega arith;
       stays = g.put.stays;
       leaves = λ q k out s. subst (λ xs. IsStuckBy flow counts xs q) (sym g.changed)
           (λ t i. family_grows flow old p f l m.above q t (s t (target-same flow counts old p q f (no_sender flow p q work rest g.put out) t i)));
@@ -142,6 +145,8 @@ grown_then flow counts old mid new work some rest growths more most a b =
     let d = degrees-append flow a.added b.added in
     let x = a.few in
     let y = b.few in
+    let k = a.none_out in
+    let m = b.none_out in
     record {
       added = a.added ++ b.added;
       grown = growths-append flow old a.added mid b.added new a.grown b.grown;
@@ -150,6 +155,7 @@ grown_then flow counts old mid new work some rest growths more most a b =
       canonical = λ c. b.canonical (a.canonical c);
       nodes = λ n. b.nodes (a.nodes n);
       few = omega arith;
+      none_out = omega arith;
       stays = λ q k. b.stays q (a.stays q k);
       leaves = λ q l out s. b.leaves q l out (a.leaves q l (false_from_ne_true (is_in some q) (λ k. both_ways (is_in rest q) out (b.stays q k))) s);
     }

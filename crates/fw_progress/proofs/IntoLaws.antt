@@ -1,20 +1,20 @@
 -- The lists of a node's in-edges, changed one after the other.
-use Rattle.std.proofs.Common.{◌≡◌, ℕ, zero, suc, ◌+◌, ◌<◌, Bool, true, false, ◌||◌, ◌==◌, cond, List, [], ◌∷◌, ◌++◌, length, get_or, take, refl, sym, ap, subst, ◌∙◌, inl, inr, arith}
+use Rattle.std.proofs.Common.{◌≡◌, ℕ, zero, suc, ◌+◌, ◌<◌, Bool, true, false, not, ◌&&◌, ◌||◌, ◌==◌, cond, List, [], ◌∷◌, ◌++◌, length, get_or, take, refl, sym, ap, subst, ◌∙◌, inl, inr, arith}
 use Rattle.std.specs.Prelude.{filter}
-use Rattle.std.specs.List.{AllByRecursion}
-use Rattle.std.proofs.lemmas.Bool.{cases_eq, cases_Bool, eq-eqb, eqb-true, false_from_ne_true, both_ways, or_cases, or_left, or_right}
+use Rattle.std.specs.List.{AllByRecursion, list_any}
+use Rattle.std.proofs.lemmas.Bool.{cases_eq, cases_Bool, eq-eqb, eqb-true, false_from_ne_true, both_ways, or_cases, or_left, or_right, or_parts, not-true}
 use Rattle.std.proofs.lemmas.List.{take_more}
-use Rattle.fw_time.specs.Stamp.{Stamp, in_domain}
-use Rattle.fw_time.proofs.EachLaws.{each-at, each-kept}
+use Rattle.fw_time.specs.Stamp.{Stamp, lesser, in_domain}
+use Rattle.fw_time.proofs.EachLaws.{each-at, each-one, each-filter, each-kept}
 use Rattle.fw_frontier.specs.Frontier.{Frontier}
-use Rattle.fw_frontier.specs.Front.{Front, frontier_of}
+use Rattle.fw_frontier.specs.Front.{Front, inside, frontier_of}
 use Rattle.fw_flow.specs.declared.node.Edge.{Edge}
 use Rattle.fw_flow.specs.Dataflow.{Dataflow, receiver, edges_into, in_edges}
 use Rattle.fw_model.specs.Thinned.{IsThinned}
 use Rattle.fw_model.proofs.DependenceLaws.{in_edges-each}
 use Rattle.fw_progress.specs.Counts.{is_in}
 use Rattle.fw_progress.specs.Progress.{ChangesAt}
-use Rattle.fw_progress.specs.Traces.{IsSettledTo, IsCutTo, ChangesInto}
+use Rattle.fw_progress.specs.Traces.{has_greater_inside, thinned, IsThinnedBy, IsCutTo, ChangesInto}
 
 abbrev Lists : Type 0
 Lists = List (List Stamp)
@@ -24,8 +24,29 @@ Change = List Stamp → List Stamp → Type 0
 
 -- ---- two changes are one
 
-pub settled-twice : (f : Front) (a b c : List Stamp) → IsSettledTo f a b → IsSettledTo f b c → IsSettledTo f a c
-settled-twice f a b c x y bounds base all d w h = y bounds (frontier_of bounds f) all d (λ t i. i) (x bounds base all d w h)
+any-left : (test keep : Stamp → Bool) (ss : List Stamp) → list_any test ss ≡ false → list_any test (filter keep ss) ≡ false
+any-left test keep [] e = refl
+any-left test keep (s ∷ ss) e = let parts = or_parts (test s) (list_any test ss) e in by (keep s) parts.0 (any-left test keep ss parts.1)
+  where
+    by : (b : Bool) → test s ≡ false → list_any test (filter keep ss) ≡ false → list_any test (cond b (s ∷ filter keep ss) (filter keep ss)) ≡ false
+    by true k ih = ap (λ c. c || list_any test (filter keep ss)) k ∙ ih
+    by false k ih = ih
+
+all-kept : (keep : Stamp → Bool) (ss : List Stamp) → AllByRecursion (λ s. keep s ≡ true) ss → filter keep ss ≡ ss
+all-kept keep [] a = refl
+all-kept keep (s ∷ ss) a = ap (λ b. cond b (s ∷ filter keep ss) (filter keep ss)) a.0 ∙ ap (λ ts. s ∷ ts) (all-kept keep ss a.1)
+
+-- what is thinned once is thinned
+thinned-again : (f : Front) (ss : List Stamp) → thinned f (thinned f ss) ≡ thinned f ss
+thinned-again f ss =
+    let left = thinned f ss in
+    all-kept (λ s. not (has_greater_inside f left s)) left
+    (each-filter (λ s. not (has_greater_inside f left s) ≡ true) (λ s. not (has_greater_inside f ss s)) ss
+    (each-one (λ s. not (has_greater_inside f ss s) ≡ true → not (has_greater_inside f left s) ≡ true) ss
+    (λ s k. ap not (any-left (λ t. inside f t && lesser s t) (λ t. not (has_greater_inside f ss t)) ss (not-true (has_greater_inside f ss s) k)))))
+
+pub thinned-twice : (f : Front) (a b c : List Stamp) → IsThinnedBy f a b → IsThinnedBy f b c → IsThinnedBy f a c
+thinned-twice f a b c x y = y ∙ ap (thinned f) x ∙ thinned-again f a
 
 filter-twice : (g : Frontier) (ss : List Stamp) → filter g (filter g ss) ≡ filter g ss
 filter-twice g [] = refl
@@ -81,7 +102,7 @@ pub record IsChanging (R : Change) (edges : List ℕ) (old new : Lists) : Type 0
 pub changing_none : (R : Change) (old : Lists) → IsChanging R [] old old
 changing_none R old = record { one_each = refl; here = λ d k. absurd (cc); others = λ d k. refl }
 
-in-push : (xs : List ℕ) (x d : ℕ) → is_in (xs ++ x ∷ []) d ≡ (is_in xs d || (x == d))
+pub in-push : (xs : List ℕ) (x d : ℕ) → is_in (xs ++ x ∷ []) d ≡ (is_in xs d || (x == d))
 in-push [] x d = by (x == d)
   where
     by : (b : Bool) → (b || false) ≡ b

@@ -1,6 +1,7 @@
 -- A leap leaves a family admissible, and what its calls keep.
-use Rattle.std.proofs.Common.{◌↔◌, ◌≡◌, ◌⊎◌, ℕ, zero, suc, ◌+◌, ◌<◌, ◌≤◌, Bool, true, List, [], ◌∷◌, ◌++◌, length, get_or, set, refl, sym, ap, subst, ◌∙◌, inl, inr, arith}
-use Rattle.std.proofs.lemmas.Bool.{and_parts, cases_eq, cases_lt}
+use Rattle.std.proofs.Common.{◌↔◌, ◌≡◌, ◌⊎◌, ℕ, zero, suc, ◌+◌, ◌<◌, ◌≤◌, Bool, true, false, List, [], ◌∷◌, ◌++◌, length, get_or, set, refl, sym, ap, subst, ◌∙◌, inl, inr, arith}
+use Rattle.std.proofs.lemmas.Bool.{and_parts, cases_eq, cases_lt, both_ways}
+use Rattle.std.specs.Prelude.{IsTrue}
 use Rattle.fw_time.specs.Stamp.{in_domain}
 use Rattle.fw_time.specs.declared.stamp.Bounds.{Bounds}
 use Rattle.fw_frontier.specs.Frontier.{Within}
@@ -147,19 +148,46 @@ leapt_taken flow counts p old mid new work some rest growths more most a b = rec
 
 -- ---- what is read
 
-pub leap_most : (flow : Dataflow) (counts : Counts) (old next : List Front) (p i : ℕ) (x y z most : Front) (r s : Bool) → i ≡ p → AreCanonical flow next → i < length old → i < length next
-    → x ≡ get_or old i x → y ≡ get_or next i y → ((b : Bounds) → IsCanonical b y → (r ≡ true) ↔ Within (frontier_of b x) (frontier_of b y)) → r ≡ true
-    → z ≡ get_or next i z → IsFrontOf (bounds_of flow p) most (target_by flow counts (family_of flow next) p)
-    → ((b : Bounds) → IsCanonical b most → (s ≡ true) ↔ Within (frontier_of b z) (frontier_of b most)) → s ≡ true → CanLeapAt flow counts old next p
-leap_most flow counts old next p i x y z most r s e c l m is was test one at names other two =
+pub read_subset : (flow : Dataflow) (fs gs : List Front) (p i : ℕ) (x y : Front) (r : Bool) → i ≡ p → AreCanonical flow gs → i < length fs → i < length gs → x ≡ get_or fs i x → y ≡ get_or gs i y
+    → ((b : Bounds) → IsCanonical b y → (r ≡ true) ↔ Within (frontier_of b x) (frontier_of b y)) → (r ≡ true) ↔ Within (family_of flow fs p) (family_of flow gs p)
+read_subset flow fs gs p i x y r e c l m is was test =
     let b = bounds_of flow p in
-    let low : x ≡ front_of old p = read_at old p i x [] e l is in
-    let high : y ≡ front_of next p = read_at next p i y [] e m was in
-    let here : z ≡ front_of next p = read_at next p i z [] e m at in
-    record {
-      above = λ t j. sym (ap (λ g. frontier_of b g t) high) ∙ (test b (subst (IsCanonical b) (sym high) (c p))).0 one t (ap (λ g. frontier_of b g t) low ∙ j);
-      within = inr (λ t j. sym (names.same t) ∙ (other b names.canonical).0 two t (ap (λ g. frontier_of b g t) here ∙ j));
-    }
+    let low : x ≡ front_of fs p = read_at fs p i x [] e l is in
+    let high : y ≡ front_of gs p = read_at gs p i y [] e m was in
+    let read = test b (subst (IsCanonical b) (sym high) (c p)) in (
+      λ k t j. sym (ap (λ g. frontier_of b g t) high) ∙ read.0 k t (ap (λ g. frontier_of b g t) low ∙ j),
+      λ w. read.1 (λ t j. ap (λ g. frontier_of b g t) high ∙ w t (sym (ap (λ g. frontier_of b g t) low) ∙ j)),
+    )
+
+-- where the next frontier lacks something of the one so far, there is no leap
+pub leap_lacks : (flow : Dataflow) (counts : Counts) (old next : List Front) (p : ℕ) (r : Bool) → (r ≡ true) ↔ Within (family_of flow old p) (family_of flow next p) → r ≡ false
+    → IsTrue false ↔ CanLeapAt flow counts old next p
+leap_lacks flow counts old next p r above none = (λ e. absurd (cc), λ can. absurd (both_ways r none (above.1 can.above)))
+
+-- where it has all of that and no more, there may be one
+pub leap_stays : (flow : Dataflow) (counts : Counts) (old next : List Front) (p : ℕ) (r s : Bool) → (r ≡ true) ↔ Within (family_of flow old p) (family_of flow next p) → r ≡ true
+    → (s ≡ true) ↔ Within (family_of flow next p) (family_of flow old p) → s ≡ true → IsTrue true ↔ CanLeapAt flow counts old next p
+leap_stays flow counts old next p r s above one within two = (λ e. record { above = above.0 one; within = inl (within.0 two) }, λ can. refl)
+
+-- where it has more, it is the largest that it can have
+pub leap_most : (flow : Dataflow) (counts : Counts) (old next : List Front) (p : ℕ) (z most : Front) (r s u : Bool) → (r ≡ true) ↔ Within (family_of flow old p) (family_of flow next p) → r ≡ true
+    → (s ≡ true) ↔ Within (family_of flow next p) (family_of flow old p) → s ≡ false
+    → z ≡ front_of next p → IsFrontOf (bounds_of flow p) most (target_by flow counts (family_of flow next) p)
+    → ((b : Bounds) → IsCanonical b most → (u ≡ true) ↔ Within (frontier_of b z) (frontier_of b most)) → IsTrue u ↔ CanLeapAt flow counts old next p
+leap_most flow counts old next p z most r s u above one within none here names test =
+    let b = bounds_of flow p in
+    let read = test b names.canonical in (
+      λ k. record { above = above.0 one; within = inr (λ t j. sym (names.same t) ∙ read.0 k t (ap (λ g. frontier_of b g t) here ∙ j)) },
+      λ can. elim (can.within) [
+        | inl same ↦ absurd (both_ways s none (within.1 same))
+        | inr under ↦ read.1 (λ t j. names.same t ∙ under t (sym (ap (λ g. frontier_of b g t) here) ∙ j))
+      ],
+    )
+
+-- where one node cannot leap, there is no leap
+pub cannot_leap : (flow : Dataflow) (counts : Counts) (old next : List Front) (p : ℕ) (b : Bool) → p < length flow.nodes → IsTrue b ↔ CanLeapAt flow counts old next p → b ≡ false
+    → IsTrue false ↔ CanLeap flow counts old next
+cannot_leap flow counts old next p b l is none = (λ e. absurd (cc), λ can. absurd (both_ways b none (is.1 (can p l))))
 
 pub one_can_leap : (flow : Dataflow) (counts : Counts) (old next : List Front) (n p : ℕ) → p ≡ n → ((q : ℕ) → q < n → CanLeapAt flow counts old next q) → CanLeapAt flow counts old next p
     → (q : ℕ) → q < n + 1 → CanLeapAt flow counts old next q

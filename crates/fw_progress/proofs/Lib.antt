@@ -23,4 +23,5 @@ pub mod SentCoverLaws
 pub mod StampsLaws
 pub mod RestoreLaws
 pub mod LeapLaws
+mod LedLaws
 pub mod IntoLaws

@@ -21,6 +21,7 @@ pub record IsRefreshing (flow : Dataflow) (counts : Counts) (first : List Front)
   pub stuck : IsAdmissibleBy flow counts (family_of flow first) → AreStuckOutside flow counts first start → AreStuckOutside flow counts fronts work
   pub grown : AreGrowths flow first growths fronts
   pub bound : steps + length work ≤ begun + length start + out_degrees flow growths
+  pub each_taken : begun + length start ≤ steps + length work
   pub still : start ≡ [] → (work ≡ []) × (fronts ≡ first)
 
 -- how much is left
@@ -37,6 +38,7 @@ start_refreshing flow counts first start begun growths one c n e = record {
   stuck = λ a s. s;
   grown = subst (λ gs. AreGrowths flow first gs first) (sym e) refl;
   bound = omega arith;
+  each_taken = omega arith;
   still = λ k. (k, refl);
 }
 
@@ -63,7 +65,9 @@ taken_step flow counts first start begun fronts new work mid rest p growths more
     let there = first_node flow work mid p e r.nodes in
     let long : length work ≡ length mid + 1 = ap length e ∙ (omega arith) in
     let few = g.few in
+    let none_out = g.none_out in
     let b = r.bound in
+    let t = r.each_taken in
     let d = ap (out_degrees flow) g.listed ∙ degrees-append flow growths g.added in
     record {
       one_each = g.one_each ∙ r.one_each;
@@ -78,6 +82,7 @@ taken_step flow counts first start begun fronts new work mid rest p growths more
       ];
       grown = subst (λ gs. AreGrowths flow first gs new) (sym g.listed) (growths-append flow first growths fronts g.added new r.grown g.grown);
       bound = omega arith;
+      each_taken = omega arith;
       still = λ k. none_taken (r.still k).0 e;
     }
 
@@ -106,6 +111,8 @@ pub refreshed : (flow : Dataflow) (counts : Counts) (first : List Front) (start 
     → work ≡ [] → rest ≡ [] → IsRefreshing flow counts first start begun fronts work growths steps → IsRefreshed flow counts first fronts start rest growths begun steps
 refreshed flow counts first start begun fronts work rest growths steps e n r =
     let b = r.bound in
+    let t = r.each_taken in
+    let none : length work ≡ 0 = ap length e in
     record {
       one_each = r.one_each;
       canonical = r.canonical;
@@ -113,6 +120,7 @@ refreshed flow counts first start begun fronts work rest growths steps e n r =
       stuck = λ a k p l out. r.stuck a k p l (ap (λ xs. is_in xs p) e);
       grown = r.grown;
       bound = omega arith;
+      each_taken = omega arith;
       none_waits = n;
       still = λ k. (r.still k).1;
     }

@@ -23,20 +23,24 @@ put-more k x xs p Less e = record {
   stays = λ q j. or_right (k == q) (is_in (x ∷ xs) q) j;
   nodes = λ P i j. and_from (P k) (list_all P (x ∷ xs)) i j;
   few = omega arith;
+  none_out = omega arith;
 }
 put-more k x xs p Equal e = record {
   there = or_left (x == k) (is_in xs k) (eq-eqb x k (nat_cmp-equal k x e));
   stays = λ q j. j;
   nodes = λ P i j. j;
   few = omega arith;
+  none_out = omega arith;
 }
 put-more k x xs p Greater e =
     let few = p.few in
+    let none_out = p.none_out in
     record {
       there = or_right (x == k) (is_in (insert_key nat_cmp xs k) k) p.there;
       stays = λ q j. rest q (x == q) j;
       nodes = λ P i j. let both = and_parts (P x) (list_all P xs) j in and_from (P x) (list_all P (insert_key nat_cmp xs k)) both.0 (p.nodes P i both.1);
       few = omega arith;
+      none_out = omega arith;
     }
   where
     rest : (q : ℕ) (b : Bool) → (b || is_in xs q) ≡ true → (b || is_in (insert_key nat_cmp xs k) q) ≡ true
@@ -45,11 +49,11 @@ put-more k x xs p Greater e =
 
 -- a node that is put among others in order
 pub put-key : (k : ℕ) (xs : List ℕ) → IsEnlisted k xs (insert_key nat_cmp xs k)
-put-key k [] = record { there = or_left (k == k) false (eq-eqb k k refl); stays = λ q j. or_right (k == q) false j; nodes = λ P i j. and_from (P k) true i refl; few = omega arith }
+put-key k [] = record { there = or_left (k == k) false (eq-eqb k k refl); stays = λ q j. or_right (k == q) false j; nodes = λ P i j. and_from (P k) true i refl; few = omega arith; none_out = omega arith }
 put-key k (x ∷ xs) = put-more k x xs (put-key k xs) (nat_cmp k x) refl
 
 pub put_none : (flow : Dataflow) (work : List ℕ) → ArePut flow [] work work
-put_none flow work = record { there = tt; stays = λ q k. k; nodes = λ P e k. k; few = omega arith }
+put_none flow work = record { there = tt; stays = λ q k. k; nodes = λ P e k. k; few = omega arith; none_out = omega arith }
 
 pub put_one : (flow : Dataflow) (edges : List ℕ) (i e node : ℕ) (old mid new : List ℕ) → i < length edges → e ≡ get_or edges i e → node ≡ receiver flow e
     → ArePut flow (take i edges) old mid → IsEnlisted node mid new → ArePut flow (take (i + 1) edges) old new
@@ -59,6 +63,8 @@ put_one flow edges i e node old mid new l is at before put =
     let long : length (take (i + 1) edges) ≡ length (take i edges) + 1 = ap length some ∙ length-append (take i edges) (e ∷ []) in
     let a = before.few in
     let b = put.few in
+    let c = before.none_out in
+    let d = put.none_out in
     record {
       there = subst (AllByRecursion test) (sym some) (each-append test (take i edges) (e ∷ [])
           (each-weaker (λ d. is_in mid (receiver flow d) ≡ true) test (take i edges) (λ d k. put.stays (receiver flow d) k) before.there)
@@ -68,4 +74,5 @@ put_one flow edges i e node old mid new l is at before put =
           let both = and_parts (list_all (λ d. P (receiver flow d)) (take i edges)) (P (receiver flow e)) (sym (all-append (λ d. P (receiver flow d)) (take i edges) e) ∙ sym (ap (list_all (λ d. P (receiver flow d))) some) ∙ k) in
           put.nodes P (ap P at ∙ both.1) (before.nodes P both.0 j);
       few = omega arith;
+      none_out = omega arith;
     }

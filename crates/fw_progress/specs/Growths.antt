@@ -24,12 +24,13 @@ abbrev pub out_degrees : Dataflow → List Growth → ℕ
 out_degrees flow [] = 0
 out_degrees flow (g ∷ gs) = length (out_edges flow g.node) + out_degrees flow gs
 
--- the node is in the list, and what was there is; nothing else is, and it is longer by one at most
+-- the node is in the list, and what was there is; nothing else is, and it is longer by one at most, and never shorter
 pub record IsEnlisted (node : ℕ) (old new : List ℕ) : Type 0 where
   pub there : is_in new node ≡ true
   pub stays : (q : ℕ) → is_in old q ≡ true → is_in new q ≡ true
   pub nodes : (P : ℕ → Bool) → P node ≡ true → list_all P old ≡ true → list_all P new ≡ true
   pub few : length new ≤ length old + 1
+  pub none_out : length old ≤ length new
 
 -- ---- for the proofs
 
@@ -39,6 +40,7 @@ pub record ArePut (flow : Dataflow) (edges : List ℕ) (old new : List ℕ) : Ty
   pub stays : (q : ℕ) → is_in old q ≡ true → is_in new q ≡ true
   pub nodes : (P : ℕ → Bool) → list_all (λ e. P (receiver flow e)) edges ≡ true → list_all P old ≡ true → list_all P new ≡ true
   pub few : length new ≤ length old + length edges
+  pub none_out : length old ≤ length new
 
 -- A node has a larger frontier: it is listed, and the receivers of its out-edges wait.
 pub record IsGrown (flow : Dataflow) (p : ℕ) (front : Front) (old new : List Front) (work rest : List ℕ) (growths more : List Growth) : Type 0 where
@@ -56,6 +58,7 @@ pub record HaveGrown (flow : Dataflow) (counts : Counts) (old new : List Front) 
   pub canonical : AreCanonical flow old → AreCanonical flow new
   pub nodes : AreNodes flow work → AreNodes flow rest
   pub few : length rest ≤ length work + out_degrees flow added
+  pub none_out : length work ≤ length rest
   pub stays : (q : ℕ) → is_in work q ≡ true → is_in rest q ≡ true
   pub leaves : (q : ℕ) → q < length flow.nodes → is_in rest q ≡ false → IsStuckBy flow counts old q → IsStuckBy flow counts new q
 
@@ -66,7 +69,8 @@ pub record IsTaken (flow : Dataflow) (counts : Counts) (p : ℕ) (old new : List
   pub stuck : IsAdmissibleBy flow counts (family_of flow old) → is_in rest p ≡ false → IsStuckBy flow counts new p
 
 -- What a refresh leaves: an admissible family in which no node can be widened, the growths up to it, and no node that waits; it
--- takes no more steps than nodes waited and edges lead from the nodes that grew. Where no node waited, the family stays.
+-- takes a step for each node that waited, and no more than those and one for each edge from a node that grew. Where no node
+-- waited, the family stays.
 pub record IsRefreshed (flow : Dataflow) (counts : Counts) (old new : List Front) (work rest : List ℕ) (growths : List Growth) (before after : ℕ) : Type 0 where
   pub one_each : length new ≡ length flow.nodes
   pub canonical : AreCanonical flow new
@@ -74,5 +78,6 @@ pub record IsRefreshed (flow : Dataflow) (counts : Counts) (old new : List Front
   pub stuck : IsAdmissibleBy flow counts (family_of flow old) → AreStuckOutside flow counts old work → AreStuckOutside flow counts new []
   pub grown : AreGrowths flow old growths new
   pub bound : after ≤ before + length work + out_degrees flow growths
+  pub each_taken : before + length work ≤ after
   pub none_waits : rest ≡ []
   pub still : work ≡ [] → new ≡ old

@@ -1,10 +1,10 @@
 -- How many messages a node sent, by the stamps of its events outside a base and in all inside.
-use Rattle.std.specs.Prelude.{◌≡◌, ℕ, ◌+◌, true, List, [], ◌∷◌, ◌++◌, length}
+use Rattle.std.specs.Prelude.{◌≡◌, ℕ, ◌+◌, true, not, List, [], ◌∷◌, ◌++◌, length, filter}
 use Rattle.std.specs.List.{AllByRecursion}
 use Rattle.fw_time.specs.Stamp.{Stamp, in_domain}
 use Rattle.fw_time.specs.declared.stamp.Bounds.{Bounds}
 use Rattle.fw_frontier.specs.Frontier.{Frontier, Within}
-use Rattle.fw_frontier.specs.Front.{Front, frontier_of}
+use Rattle.fw_frontier.specs.Front.{Front, inside, frontier_of}
 use Rattle.fw_flow.specs.declared.event.Message.{Message}
 use Rattle.fw_flow.specs.Projection.{count_from}
 use Rattle.fw_model.specs.Filtering.{messages_from}
@@ -31,6 +31,13 @@ abbrev pub IsTallySettledTo : Front → SentTally → SentTally → Type 0
 IsTallySettledTo f old new =
     (bounds : Bounds) (base : Frontier) (ms : List Message) → ComeFromDomain bounds ms → Within base (frontier_of bounds f)
     → IsSentTally base ms old → IsSentTally (frontier_of bounds f) ms new
+
+-- what it counts inside the frontier is counted in all, and of the stamps those outside are left
+abbrev pub IsCountedInAll : Front → SentTally → SentTally → Type 0
+IsCountedInAll f old new = new ≡ record {
+  inside = old.inside + count_inside (inside f) old.outside;
+  outside = filter (λ (entry : Stamp × ℕ). not (inside f entry.0)) old.outside;
+}
 
 -- it counts those of the messages that come from inside the frontier
 abbrev pub IsTallyCutTo : Front → SentTally → SentTally → Type 0

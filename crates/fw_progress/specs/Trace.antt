@@ -20,8 +20,8 @@ use Rattle.fw_progress.specs.declared.sent_tally.SentTally.{SentTally}
 use Rattle.fw_progress.specs.declared.traces.Traces.{Traces}
 use Rattle.fw_progress.specs.History.{stamps_sent}
 use Rattle.fw_progress.specs.Progress.{ChangesAt}
-use Rattle.fw_progress.specs.SentTally.{IsSentTally, CountsMore}
-use Rattle.fw_progress.specs.Traces.{ChangesInto}
+use Rattle.fw_progress.specs.SentTally.{IsSentTally, CountsMore, IsCountedInAll}
+use Rattle.fw_progress.specs.Traces.{ChangesInto, IsThinnedBy}
 
 -- the stamps that are kept of what was delivered on an edge
 abbrev pub delivered_on : Traces → ℕ → List Stamp
@@ -95,6 +95,17 @@ TracesFollow flow v sent old new =
     (sys : System) (h : List Event) → sys.flow ≡ flow → stamps_sent sys h v ≡ sent → (p : ℕ) (base : Frontier)
     → IsTraceOf sys h p base old → IsTraceOf sys (v ∷ h) p base new
 
+-- The lists of node p are changed so, and those of the others are as they were.
+pub record HaveChanged (flow : Dataflow) (p : ℕ) (R : List Stamp → List Stamp → Type 0) (T : SentTally → SentTally → Type 0) (old new : Traces) : Type 0 where
+  pub delivered : ChangesInto flow p R old.delivered.items new.delivered.items
+  pub notified : ChangesAt p [] R old.notified.items new.notified.items
+  pub sent : ChangesAt p [] R old.sent.items new.sent.items
+  pub counted : ChangesAt p no_tally T old.counted.items new.counted.items
+
+-- the stamps that are kept of node p are thinned inside a frontier, and its messages inside are counted in all
+abbrev pub AreThinnedAt : Dataflow → ℕ → Front → Traces → Traces → Type 0
+AreThinnedAt flow p f old new = HaveChanged flow p (IsThinnedBy f) (IsCountedInAll f) old new
+
 -- A larger base: the traces of node p are those of its events, thinned inside the frontier.
 pub record AreSettledTo (flow : Dataflow) (p : ℕ) (f : Front) (old new : Traces) : Type 0 where
   pub here : (sys : System) (h : List Event) → sys.flow ≡ flow → AreEventsInDomain flow h p → IsTraceWithin sys h p f old
@@ -140,10 +151,3 @@ CountedMore flow p at count old new = counts_sent flow p ≡ true → CountsMore
 pub record HasSent (flow : Dataflow) (p : ℕ) (at : Stamp) (count : ℕ) (old new : Traces) : Type 0 where
   pub sent : ChangesAt p [] (SentMore flow p at count) old.sent.items new.sent.items
   pub counted : ChangesAt p no_tally (CountedMore flow p at count) old.counted.items new.counted.items
-
--- The lists of node p are changed so, and those of the others are as they were.
-pub record HaveChanged (flow : Dataflow) (p : ℕ) (R : List Stamp → List Stamp → Type 0) (T : SentTally → SentTally → Type 0) (old new : Traces) : Type 0 where
-  pub delivered : ChangesInto flow p R old.delivered.items new.delivered.items
-  pub notified : ChangesAt p [] R old.notified.items new.notified.items
-  pub sent : ChangesAt p [] R old.sent.items new.sent.items
-  pub counted : ChangesAt p no_tally T old.counted.items new.counted.items

@@ -1,7 +1,7 @@
 -- Stamps that are kept thinned inside a base.
-use Rattle.std.specs.Prelude.{◌≡◌, ◌≢◌, ℕ, ◌<◌, Bool, true, false, not, ◌&&◌, List, [], ◌∷◌, length, slice_index_or, filter, Option, Some, None}
+use Rattle.std.specs.Prelude.{◌≡◌, ◌≢◌, ℕ, ◌<◌, Bool, true, false, not, ◌&&◌, List, [], ◌∷◌, length, slice_index_or, filter, Option, Some, None, option_and_then, if◌then◌else◌}
 use Rattle.std.specs.List.{AllByRecursion, list_any}
-use Rattle.fw_time.specs.Stamp.{Stamp, lesser, in_domain}
+use Rattle.fw_time.specs.Stamp.{Stamp, leq, lesser, in_domain}
 use Rattle.fw_time.specs.declared.stamp.Bounds.{Bounds}
 use Rattle.fw_frontier.specs.Frontier.{Frontier, Within}
 use Rattle.fw_frontier.specs.Front.{Front, inside, frontier_of}
@@ -30,6 +30,10 @@ IsSettledTo f old new =
     (bounds : Bounds) (base : Frontier) (all : List Stamp) → AreOf bounds all → Within base (frontier_of bounds f) → IsThinned base all old
     → IsThinned (frontier_of bounds f) all new
 
+-- it is what the list leaves thinned inside the frontier
+abbrev pub IsThinnedBy : Front → List Stamp → List Stamp → Type 0
+IsThinnedBy f old new = new ≡ thinned f old
+
 -- it stands for those of the list that are inside the frontier
 abbrev pub IsCutTo : Front → List Stamp → List Stamp → Type 0
 IsCutTo f old new =
@@ -54,3 +58,13 @@ pub record ChangesInto (flow : Dataflow) (p : ℕ) (R : List Stamp → List Stam
 abbrev pub is_below : Option Stamp → Stamp → Bool
 is_below None s = false
 is_below (Some top) s = lesser s top
+
+-- a stamp, if it is at or above the top so far
+abbrev pub raised : Option Stamp → Stamp → Option Stamp
+raised None s = Some s
+raised (Some top) s = if leq top s then Some s else None
+
+-- the last of the stamps inside a frontier, if each that is inside is at or above the one before it, the first one at or above a top
+abbrev pub top_from : Front → Option Stamp → List Stamp → Option Stamp
+top_from f top [] = top
+top_from f top (s ∷ ss) = if inside f s then option_and_then (λ t. top_from f (Some t) ss) (raised top s) else top_from f top ss

@@ -1,5 +1,5 @@
 //! Stamps that are kept thinned inside a base.
-ghost use Rattle.std.specs.Prelude.{◌≡◌, ◌||◌, ◌&&◌, not, [], ◌∷◌, ◌++◌, List, ℕ, filter, IsTrue, IfSome, IfOk, OnErr};
+ghost use Rattle.std.specs.Prelude.{◌≡◌, ◌↔◌, ◌-◌, ◌||◌, ◌&&◌, not, [], ◌∷◌, ◌++◌, List, ℕ, filter, length, slice_get, Some, None, IsTrue, IfSome, IfOk, OnErr};
 ghost use Rattle.std.specs.List.{list_any};
 ghost use Rattle.std.specs.BTreeSet.{insert_key};
 ghost use Rattle.fw_time.specs.Stamp.{lesser, leq, stamp_cmp};
@@ -7,7 +7,8 @@ ghost use Rattle.fw_frontier.specs.Frontier.{Frontier, Within, cover};
 ghost use Rattle.fw_frontier.specs.Front.{inside, frontier_of, IsFrontOf};
 ghost use Rattle.fw_model.specs.Thinned.{IsThinned};
 ghost use Rattle.fw_progress.specs.StampData.{AreTheSame, HaveAdded};
-ghost use Rattle.fw_progress.specs.Traces.{has_greater_inside, is_below, thinned, AreOf, StandForOneMore, IsSettledTo, IsCutTo, IsThinnedTo};
+ghost use Rattle.fw_progress.specs.Traces as spec;
+ghost use Rattle.fw_progress.specs.Traces.{has_greater_inside, is_below, top_from, thinned, AreOf, StandForOneMore, IsSettledTo, IsCutTo, IsThinnedTo};
 
 use fw_frontier::Front;
 use fw_time::{Bounds, Stamp};
@@ -155,7 +156,8 @@ impl KeptStamps {
 
 /// Whether this is the last of the stamps, which needs no search among them.
 fn is_last(stamps: &BTreeSet<Stamp>, at: &Stamp) -> bool
-    ensures { IsTrue result → insert_key stamp_cmp stamps.now.keys at.now ≡ stamps.now.keys }
+    ensures last { IsTrue result ↔ (slice_get stamps.now.keys (length stamps.now.keys - 1) ≡ Some at.now) }
+    ensures there { IsTrue result → insert_key stamp_cmp stamps.now.keys at.now ≡ stamps.now.keys }
 {
     match stamps.last() {
         Some(last) => last == at,
@@ -179,7 +181,8 @@ fn has_greater(tops: &[Stamp], stamp: &Stamp) -> bool
 
 /// The last of the stamps inside a frontier, where each that is inside is at or above the one before it. It takes no memory.
 fn top_of_chain(stamps: &BTreeSet<Stamp>, base: &Front) -> Option<Stamp>
-    ensures { IfSome result (λ top. (s : List ℕ) → lesser s top ≡ has_greater_inside base.now stamps.now.keys s) }
+    ensures value { result ≡ top_from base.now None stamps.now.keys }
+    ensures greatest { IfSome result (λ top. (s : List ℕ) → lesser s top ≡ has_greater_inside base.now stamps.now.keys s) }
 {
     let mut top = None;
     for stamp in stamps {
@@ -193,7 +196,8 @@ fn top_of_chain(stamps: &BTreeSet<Stamp>, base: &Front) -> Option<Stamp>
 
 /// The stamp, where it is at or above the top so far.
 fn raised(top: &Option<Stamp>, stamp: &Stamp) -> Option<Stamp>
-    ensures { IfSome result
+    ensures value { result ≡ spec.raised top.now stamp.now }
+    ensures greater { IfSome result
         (λ next. (s : List ℕ) → lesser s next ≡ (is_below top.now s || lesser s stamp.now)) }
 {
     match top {

@@ -1,9 +1,13 @@
 //! A leap over the counters of a loop.
-ghost use Rattle.std.specs.Prelude.{◌≡◌, ◌<◌, length, IsTrue, IfOk};
+ghost use Rattle.std.specs.Prelude.{◌≡◌, ◌↔◌, ◌+◌, ◌*◌, ◌<◌, ◌≤◌, ◌==◌, not, true, false, [], length, slice_set, IsTrue, IfOk};
+ghost use Rattle.std.specs.List.{list_any};
+ghost use Rattle.fw_flow.specs.Dataflow.{out_edges};
 ghost use Rattle.fw_model.specs.Machine.{AreCanonical};
+ghost use Rattle.fw_progress.specs.declared.growth.Growth.{Growth as Grown};
 ghost use Rattle.fw_progress.specs.Counts.{AreCounts};
 ghost use Rattle.fw_progress.specs.Growths.{HaveGrown};
-ghost use Rattle.fw_progress.specs.Leap.{CanLeapAt, CanLeap, AreAbove, IsReachedAt, HaveReached, HaveLeapt};
+ghost use Rattle.fw_progress.specs.Leap as spec;
+ghost use Rattle.fw_progress.specs.Leap.{IsClimbing, AreLedTo, IsMarking, unmarked, CanLeapAt, CanLeap, AreAbove, IsReachedAt, HaveReached, HaveLeapt};
 
 use crate::counts::Counts;
 use crate::grow::{grow, is_more};
@@ -14,6 +18,13 @@ use fw_flow::laws::flow_is_well_formed;
 use fw_flow::{Flow, NodeId};
 use fw_frontier::Front;
 use std::alloc::{AllocError, Global};
+
+/// Whether a node is among those that grew.
+fn has_grown(growths: &[Growth], node: NodeId) -> bool
+    ensures { result ≡ list_any (λ (g : Grown). g.node == node) growths.now }
+{
+    growths.iter().any(|growth| growth.node == node)
+}
 
 /// Whether a node leads a loop to its next counter, grew before among these growths, and can grow again: its loop climbs
 /// a counter at a time. The error is want of memory.
@@ -29,8 +40,9 @@ fn is_climbing(
     requires counts { AreCounts flow.now counts.now }
     requires one_each { length fronts.now ≡ length flow.now.nodes }
     requires canonical { AreCanonical flow.now fronts.now }
+    ensures { IfOk result (λ climbs. IsTrue climbs ↔ IsClimbing flow.now counts.now fronts.now growths.now node) }
 {
-    if !flow.kind(node).is_feedback() || !growths.iter().any(|growth| growth.node == node) {
+    if !flow.kind(node).is_feedback() || !has_grown(growths, node) {
         return Ok(false);
     }
     let front = target(alloc, flow, counts, fronts, node)?;
@@ -38,41 +50,73 @@ fn is_climbing(
 }
 
 /// Marks a node, and tells whether it was not marked before.
-fn mark(marks: &mut [bool], node: NodeId) -> bool {
-    match marks.get_mut(node.place() as usize) {
-        Some(mark) if !*mark => {
-            *mark = true;
-            true
-        }
-        _ => false,
+fn mark(marks: &mut Vec<bool>, node: NodeId) -> bool
+    requires { node < length marks.old.items }
+    ensures new { result ≡ not (spec.is_marked marks.old.items node) }
+    ensures marked { marks.new.items ≡ slice_set marks.old.items node true }
+{
+    let place = node.place() as usize;
+    if marks[place] {
+        return false;
     }
+    marks[place] = true;
+    true
 }
 
 /// Whether a place is marked.
-fn is_marked(marks: &[bool], place: usize) -> bool {
+fn is_marked(marks: &[bool], place: usize) -> bool
+    ensures { result ≡ spec.is_marked marks.now place }
+{
     match marks.get(place) {
         Some(mark) => *mark,
         None => false,
     }
 }
 
+/// Whether the stamps of a node have as many coordinates as those of a feedback, or more.
+fn is_as_deep(flow: &Flow, feedback: NodeId, node: NodeId) -> bool
+    ensures { result ≡ spec.is_as_deep flow.now feedback node }
+{
+    flow.domain(node).greatest.len() >= flow.domain(feedback).greatest.len()
+}
+
+/// Marks the receivers of a node's out-edges that are as deep as a feedback, and lists those that were not marked. The error
+/// is want of memory.
+fn mark_receivers(
+    flow: &Flow,
+    feedback: NodeId,
+    node: NodeId,
+    marks: &mut Vec<bool>,
+    found: &mut Vec<NodeId>,
+) -> Result<(), AllocError>
+    requires marked { spec.is_marked marks.old.items node ≡ true }
+    requires marking { IsMarking flow.now feedback marks.old.items found.old.items (out_edges flow.now node) }
+    ensures marking { IfOk result (λ u. IsMarking flow.now feedback marks.new.items found.new.items []) }
+    ensures left { IfOk result (λ u. 2 * unmarked marks.new.items + length found.new.items
+        ≤ 2 * unmarked marks.old.items + length found.old.items) }
+{
+    flow_is_well_formed(flow);
+    let edges = flow.out_edges(node);
+    for edge in edges {
+        let receiver = flow.dst(*edge);
+        if is_as_deep(flow, feedback, receiver) && mark(marks, receiver) {
+            found.push(receiver)?;
+        }
+    }
+    Ok(())
+}
+
 /// Marks the nodes that a feedback leads to in its loop and in the loops within it. The error is want of memory.
-fn led_to(alloc: Global, flow: &Flow, feedback: NodeId) -> Result<Vec<bool>, AllocError> {
-    let depth = flow.domain(feedback).greatest.len();
+fn led_to(alloc: Global, flow: &Flow, feedback: NodeId) -> Result<Vec<bool>, AllocError>
+    requires { feedback < length flow.now.nodes }
+    ensures { IfOk result (λ marks. AreLedTo flow.now feedback marks.items) }
+{
     let mut marks = vec![in alloc; false; flow.nodes()]?;
     let mut found = Vec::new(alloc);
     mark(&mut marks, feedback);
     found.push(feedback)?;
-    for _ in 0..flow.nodes() {
-        let Some(node) = found.pop() else {
-            return Ok(marks);
-        };
-        for edge in flow.out_edges(node) {
-            let receiver = flow.dst(*edge);
-            if flow.domain(receiver).greatest.len() >= depth && mark(&mut marks, receiver) {
-                found.push(receiver)?;
-            }
-        }
+    'find: while let Some(node) = found.pop() {
+        mark_receivers(flow, feedback, node, &mut marks, &mut found)?;
     }
     Ok(marks)
 }
@@ -190,7 +234,7 @@ fn can_leap_at(
     requires canonical { AreCanonical flow.now fronts.now }
     requires next_each { length next.now ≡ length flow.now.nodes }
     requires next_canonical { AreCanonical flow.now next.now }
-    ensures { IfOk result (λ can. IsTrue can → CanLeapAt flow.now counts.now fronts.now next.now node) }
+    ensures { IfOk result (λ can. IsTrue can ↔ CanLeapAt flow.now counts.now fronts.now next.now node) }
 {
     let place = node.place() as usize;
     if !fronts[place].subset(&next[place]) {
@@ -216,7 +260,7 @@ fn can_leap(
     requires canonical { AreCanonical flow.now fronts.now }
     requires next_each { length next.now ≡ length flow.now.nodes }
     requires next_canonical { AreCanonical flow.now next.now }
-    ensures { IfOk result (λ can. IsTrue can → CanLeap flow.now counts.now fronts.now next.now) }
+    ensures { IfOk result (λ can. IsTrue can ↔ CanLeap flow.now counts.now fronts.now next.now) }
 {
     for place in 0..flow.nodes() {
         if !can_leap_at(alloc, flow, counts, fronts, next, NodeId::at(place as u32))? {

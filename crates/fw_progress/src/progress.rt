@@ -280,6 +280,7 @@ impl Progress {
         ensures growths { IfOk result (λ growths. AreGrowths flow.now self.old.kept growths.items self.new.kept) }
         ensures bound { IfOk result
             (λ growths. steps.new ≤ steps.old + length self.old.work + out_degrees flow.now growths.items) }
+        ensures each_taken { IfOk result (λ growths. steps.old + length self.old.work ≤ steps.new) }
         ensures none_waits { IfOk result (λ growths. self.new.work ≡ []) }
         ensures still { IfOk result (λ growths. self.old.work ≡ [] → self.new.kept ≡ self.old.kept) }
         ensures ready { IfOk result (λ growths. self.new.refused ≡ false) }

@@ -2,7 +2,7 @@
 ghost use Rattle.std.specs.Prelude.{◌≡◌, ◌+◌, [], IfOk, OnErr};
 ghost use Rattle.fw_frontier.specs.Front.{inside};
 ghost use Rattle.fw_progress.specs.Tally.{count_inside};
-ghost use Rattle.fw_progress.specs.SentTally.{CountsMore, IsTallySettledTo, IsTallyCutTo};
+ghost use Rattle.fw_progress.specs.SentTally.{CountsMore, IsTallySettledTo, IsCountedInAll, IsTallyCutTo};
 
 use crate::tally::Tally;
 use fw_frontier::Front;
@@ -45,6 +45,7 @@ impl SentTally {
     /// as it was.
     pub fn settle(&mut self, base: &Front) -> Result<(), AllocError>
         ensures ok { IfOk result (λ u. IsTallySettledTo base.now self.old self.new) }
+        ensures value { IfOk result (λ u. IsCountedInAll base.now self.old self.new) }
         ensures err { OnErr result (self.new ≡ self.old) }
     {
         let inside = self.count(base)?;

@@ -398,7 +398,7 @@ fn lowest(alloc: Global, counts: &BTreeMap<Stamp, u64>) -> Result<Vec<Stamp>, Al
 
 // Whether all coordinates of a stamp but the first are 0.
 fn begins_epoch(stamp: &Stamp) -> bool
-    ensures { IsTrue result → AllByRecursion (λ n. n ≡ 0) (drop 1 stamp.now) }
+    ensures { IsTrue result ↔ AllByRecursion (λ n. n ≡ 0) (drop 1 stamp.now) }
 {
     for place in 1..stamp.len() {
         if stamp.at(place) > 0 {

@@ -7,10 +7,10 @@ ghost use Rattle.fw_flow.specs.declared.event.Message.{Message};
 ghost use Rattle.fw_flow.specs.Dataflow.{System};
 ghost use Rattle.fw_model.specs.Writes as writes;
 ghost use Rattle.fw_progress.specs.Progress.{ChangesAt};
-ghost use Rattle.fw_progress.specs.SentTally.{CountsMore, IsTallySettledTo, IsTallyCutTo};
+ghost use Rattle.fw_progress.specs.SentTally.{CountsMore, IsCountedInAll, IsTallyCutTo};
 ghost use Rattle.fw_progress.specs.Trace as spec;
-ghost use Rattle.fw_progress.specs.Trace.{AreTraces, IsTraceOf, TracesFollow, AreSettledTo, AreCutTo, no_tally, SentMore, CountedMore};
-ghost use Rattle.fw_progress.specs.Traces.{StandForOneMore, IsSettledTo, IsCutTo, ChangesInto};
+ghost use Rattle.fw_progress.specs.Trace.{AreTraces, IsTraceOf, TracesFollow, AreSettledTo, AreThinnedAt, AreCutTo, no_tally, SentMore, CountedMore};
+ghost use Rattle.fw_progress.specs.Traces.{StandForOneMore, IsThinnedBy, IsCutTo, ChangesInto};
 
 use crate::kept_stamps::KeptStamps;
 use crate::sent_tally::SentTally;
@@ -148,6 +148,7 @@ impl Traces {
         requires there { node < length flow.now.nodes }
         ensures traces { AreTraces flow.now self.new }
         ensures settled { IfOk result (λ u. AreSettledTo flow.now node base.now self.old self.new) }
+        ensures thinned { IfOk result (λ u. AreThinnedAt flow.now node base.now self.old self.new) }
         ensures ready { IfOk result (λ u. self.new.refused ≡ false) }
         ensures refused { IsErr result → IsTrue self.new.refused }
         ensures stays { IsTrue self.old.refused → IsErr result }
@@ -291,7 +292,7 @@ fn count_at(
 /// One of the lists is thinned inside a larger base. The error is want of memory.
 fn settle_at(lists: &mut Vec<KeptStamps>, place: usize, base: &Front) -> Result<(), AllocError>
     requires { place < length lists.old.items }
-    ensures { IfOk result (λ u. ChangesAt place [] (IsSettledTo base.now) lists.old.items lists.new.items) }
+    ensures { IfOk result (λ u. ChangesAt place [] (IsThinnedBy base.now) lists.old.items lists.new.items) }
 {
     let kept = &mut lists[place];
     kept.settle(base)?;
@@ -301,7 +302,7 @@ fn settle_at(lists: &mut Vec<KeptStamps>, place: usize, base: &Front) -> Result<
 /// The same of the list of an edge. The error is want of memory.
 fn settle_on(lists: &mut Vec<KeptStamps>, edge: EdgeId, base: &Front) -> Result<(), AllocError>
     requires { edge < length lists.old.items }
-    ensures { IfOk result (λ u. ChangesAt edge [] (IsSettledTo base.now) lists.old.items lists.new.items) }
+    ensures { IfOk result (λ u. ChangesAt edge [] (IsThinnedBy base.now) lists.old.items lists.new.items) }
 {
     settle_at(lists, edge.place() as usize, base)
 }
@@ -314,7 +315,7 @@ fn settle_into(
     base: &Front,
 ) -> Result<(), AllocError>
     requires { length lists.old.items ≡ length flow.now.edges }
-    ensures { IfOk result (λ u. ChangesInto flow.now node (IsSettledTo base.now) lists.old.items lists.new.items) }
+    ensures { IfOk result (λ u. ChangesInto flow.now node (IsThinnedBy base.now) lists.old.items lists.new.items) }
 {
     let edges = flow.in_edges(node);
     for edge in edges {
@@ -326,7 +327,7 @@ fn settle_into(
 /// One of the tallies is settled. The error is that a number would not fit 64 bits.
 fn settle_tally(tallies: &mut Vec<SentTally>, place: usize, base: &Front) -> Result<(), AllocError>
     requires { place < length tallies.old.items }
-    ensures { IfOk result (λ u. ChangesAt place no_tally (IsTallySettledTo base.now) tallies.old.items tallies.new.items) }
+    ensures { IfOk result (λ u. ChangesAt place no_tally (IsCountedInAll base.now) tallies.old.items tallies.new.items) }
 {
     let tally = &mut tallies[place];
     tally.settle(base)?;

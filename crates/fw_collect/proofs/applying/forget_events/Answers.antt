@@ -24,7 +24,7 @@ loop-place-preserved c =
           (w.forget_at.ensures.gone ∙ ap (λ (d : AtNode). without (is_at d.node d.at) keep) c.index-events-place.is)
           w.forget_at.ensures.stored)
       | else-not-is_repeated w ↦
-          let same = c.is_repeated.ensures w.if-not-is_repeated.false event in
+          let same = c.is_repeated.ensures.0 w.if-not-is_repeated.false event in
           subst after (sym w.keep-is)
           (forgets_again (λ (d : AtNode). is_at d.node d.at) events place event c.args.keep.now keep
           (omega (arith, c.loop-place-test.true, c.loop-place.auto.place-end)) same.0 same.1 c.loop-place.invariant)

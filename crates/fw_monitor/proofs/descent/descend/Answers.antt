@@ -10,7 +10,7 @@ use Rattle.fw_monitor.specs.Descent.{choice_of, HasConsistent}
 use Rattle.fw_monitor.specs.Inclusions.{inclusions}
 use Rattle.fw_monitor.specs.Trail.{IsTrail}
 use Rattle.fw_monitor.proofs.DescentLaws.{largest_of, of_flow}
-use Rattle.fw_monitor.proofs.TestLaws.{IsAt, begun, next_at, there_at, again_at, further_at, again_falls, further_falls, each_holds, trail_ends}
+use Rattle.fw_monitor.proofs.TestLaws.{IsAt, begun, next_at, there_at, again_at, further_at, again_falls, further_falls, each_holds, trail_ends, each_tested}
 use Rattle.fw_monitor.proofs.descent.descend.Goals as goal
 
 pub test-init : goal.test-init
@@ -99,3 +99,11 @@ returns-clause-of_flow g c =
     let notices = c.test.going.notices.items in
     subst (λ xs. IsChoiceOf flow (choice_of xs c.of-2.result)) (sym c.of.ensures)
     (subst (λ ys. IsChoiceOf flow (choice_of cuts ys)) (sym c.of-2.ensures) (of_flow flow c.args.offers.now (choice_of cuts notices) c.test.invariant.going.encloses))
+
+pub returns-clause-each_tested : goal.returns-clause-each_tested
+returns-clause-each_tested g c =
+    let same = ap length c.in_ok-all.ensures in
+    let past : length (inclusions c.args.flow.now) ≤ c.test.place = let f = c.test-test.false in omega arith in
+    let tested = each_tested c.args.flow.now c.args.offers.now (choice_of c.test.going.cuts.items c.test.going.notices.items) c.test.going.trail.items c.test.going.waiting.items
+    c.args.steps.now c.test.steps c.test.place c.flow_is_well_formed.ensures c.test.invariant past in
+    omega arith

@@ -8,8 +8,8 @@ use Rattle.fw_time.specs.Stamp.{Stamp, stamp_cmp}
 use Rattle.fw_progress.proofs.TraceLaws.{insert_key-there}
 use Rattle.fw_progress.proofs.kept_stamps.is_last.Goals as goal
 
-pub returns-in-Some : goal.returns-in-Some
-returns-in-Some c = λ t.
+pub returns-in-Some-clause-there : goal.returns-in-Some-clause-there
+returns-in-Some-clause-there c = λ t.
     let keys = c.args.stamps.now.keys in
     let same : c.in-Some.last.now ≡ c.args.at.now = same_text _ _ (sym t ∙ c.eq.ensures) in
     insert_key-there keys c.args.at.now

@@ -10,7 +10,7 @@ reach-requires-clause-above c =
     let counts = c.args.counts.now in
     let fronts = c.args.fronts.now.items in
     let can = subst (λ ys. CanLeap flow counts fronts ys) c.deref-6.ensures.value
-    (subst (λ xs. CanLeap flow counts xs c.deref-6.result.now) c.deref-5.ensures.value (c.in_ok-can_leap.ensures c.if-not-branch-2.false)) in
+    (subst (λ xs. CanLeap flow counts xs c.deref-6.result.now) c.deref-5.ensures.value (c.in_ok-can_leap.ensures.0 c.if-not-branch-2.false)) in
     subst (λ ys. AreAbove flow fronts ys) (sym c.deref-7.ensures.value) (λ p l. (can p l).above)
 
 pub returns : goal.returns
@@ -20,7 +20,7 @@ returns c =
     let fronts = c.args.fronts.now.items in
     let next = c.in_ok-next.next.items in
     let can = subst (λ ys. CanLeap flow counts fronts ys) c.deref-6.ensures.value
-    (subst (λ xs. CanLeap flow counts xs c.deref-6.result.now) c.deref-5.ensures.value (c.in_ok-can_leap.ensures c.if-not-branch-2.false)) in
+    (subst (λ xs. CanLeap flow counts xs c.deref-6.result.now) c.deref-5.ensures.value (c.in_ok-can_leap.ensures.0 c.if-not-branch-2.false)) in
     IfOk-weaker c.reach.result _ _
     (λ u r. have_leapt flow counts fronts next c.reach.new.fronts.items c.args.work.now c.reach.new.work c.args.growths.now.items c.reach.new.growths.items
     c.requires.one_each c.in_ok-next.ensures.one_each can

@@ -17,4 +17,4 @@ returns-then-begins_epoch c =
     let more = rest_more deref c.loop-stamp.stamp-iterator rest c.next.result c.in-Some.stamp c.in-Some.is c.next.ensures.steps in
     let all : keys ≡ old ++ s ∷ rest = sym c.loop-stamp.invariant ∙ ap (λ r. old ++ r) more in
     subst (λ stamps. AreLowest stamps keys) (sym (c.in_ok-push.ensures.items ∙ ap (λ x. old ++ x ∷ []) c.copy.ensures))
-    (lowest-begun old s rest keys all (sorted-after old s rest (subst (IsStrictlySortedBy stamp_cmp) all c.keys-stamp-items.ensures.ordered)) (c.begins_epoch.ensures c.if-begins_epoch.true))
+    (lowest-begun old s rest keys all (sorted-after old s rest (subst (IsStrictlySortedBy stamp_cmp) all c.keys-stamp-items.ensures.ordered)) (c.begins_epoch.ensures.0 c.if-begins_epoch.true))

@@ -13,7 +13,7 @@ returns-then-begins_epoch c = λ bounds a.
     let first = c.in-Some.first.now in
     let entries = c.args.counts.now.entries in
     let alone = c.from_ref.ensures.value in
-    let low = lowest-first entries first _ c.in-Some.ensures.first (recursion_from_All _ _ c.in-Some.ensures.all_from) (c.begins_epoch.ensures c.if-begins_epoch.true) in
+    let low = lowest-first entries first _ c.in-Some.ensures.first (recursion_from_All _ _ c.in-Some.ensures.all_from) (c.begins_epoch.ensures.0 c.if-begins_epoch.true) in
     IfOk-weaker c.until.result _ _
     (λ f n. until-lowest bounds (first ∷ []) (keys_of entries) f low a.of_domain (subst (λ xs. IsFrontOf bounds f (frontier_of bounds xs)) alone n))
     (c.until.ensures.names bounds (subst (AllByRecursion (λ s. in_domain bounds s ≡ true)) (sym alone) (low.among bounds a.of_domain)))

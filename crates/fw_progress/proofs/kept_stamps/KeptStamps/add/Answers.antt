@@ -15,12 +15,12 @@ returns-clause-thinned c = λ base all h.
 pub returns-then-is_last-clause-thinned : goal.returns-then-is_last-clause-thinned
 returns-then-is_last-clause-thinned c = λ base all h.
     let keys = c.self.inside.stamps.keys in
-    let same : insert_key stamp_cmp keys c.args.at.now ≡ keys = c.is_last.ensures c.if-is_last.true in
+    let same : insert_key stamp_cmp keys c.args.at.now ≡ keys = c.is_last.ensures.there c.if-is_last.true in
     let value = ap (λ ss. insert_key stamp_cmp ss c.args.at.now) (sym c.self.view_is) ∙ same ∙ c.self.view_is in
     subst (IsThinned base (c.args.at.now ∷ all)) value (thinned-add base all c.args.self.now c.args.at.now h)
 
 pub returns-then-is_last-clause-value : goal.returns-then-is_last-clause-value
 returns-then-is_last-clause-value c =
     let keys = c.self.inside.stamps.keys in
-    let same : insert_key stamp_cmp keys c.args.at.now ≡ keys = c.is_last.ensures c.if-is_last.true in
+    let same : insert_key stamp_cmp keys c.args.at.now ≡ keys = c.is_last.ensures.there c.if-is_last.true in
     sym (ap (λ ss. insert_key stamp_cmp ss c.args.at.now) (sym c.self.view_is) ∙ same ∙ c.self.view_is)

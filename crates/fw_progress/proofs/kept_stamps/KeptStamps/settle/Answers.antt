@@ -30,7 +30,7 @@ returns-in-Some-clause-value c =
     let old = c.self.inside.stamps.keys in
     let base = c.args.base.now in
     let left : c.retain.new.self.keys ≡ filter (λ s. not (lesser s top)) old = filter_same _ (λ s. not (lesser s top)) _ (λ x b f' k. search rules) _ _ c.retain.ensures.filtered in
-    left ∙ filter_agree (λ s. not (lesser s top)) (λ s. not (has_greater_inside base old s)) (λ s. ap not (c.in-Some.ensures s)) old ∙ ap (thinned base) c.self.view_is
+    left ∙ filter_agree (λ s. not (lesser s top)) (λ s. not (has_greater_inside base old s)) (λ s. ap not (c.in-Some.ensures.greatest s)) old ∙ ap (thinned base) c.self.view_is
 
 pub returns-in-Some-clause-thinned : goal.returns-in-Some-clause-thinned
 returns-in-Some-clause-thinned c = λ bounds before all d w h.

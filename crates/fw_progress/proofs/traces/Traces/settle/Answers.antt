@@ -1,20 +1,24 @@
 use Rattle.std.proofs.Common.{false, [], subst}
 use Rattle.fw_progress.specs.Progress.{ChangesAt}
-use Rattle.fw_progress.specs.SentTally.{IsTallySettledTo}
+use Rattle.fw_progress.specs.SentTally.{IsCountedInAll}
 use Rattle.fw_progress.specs.Trace.{no_tally}
-use Rattle.fw_progress.specs.Traces.{IsSettledTo}
-use Rattle.fw_progress.proofs.CutTraceLaws.{settled-traces}
+use Rattle.fw_progress.specs.Traces.{IsThinnedBy}
+use Rattle.fw_progress.proofs.CutTraceLaws.{thinned-traces}
 use Rattle.fw_progress.proofs.traces.Traces.settle.Goals as goal
+
+pub returns-clause-thinned : goal.returns-clause-thinned
+returns-clause-thinned c =
+    let f = c.args.base.now in
+    let old = c.args.self.now in
+    record {
+      delivered = c.in_ok-settle_into.ensures;
+      notified = subst (λ n. ChangesAt n [] (IsThinnedBy f) old.notified.items c.settle_at.new.lists.items) c.place.ensures c.in_ok-settle_at.ensures;
+      sent = subst (λ n. ChangesAt n [] (IsThinnedBy f) old.sent.items c.settle_at-2.new.lists.items) c.place-2.ensures c.in_ok-settle_at-2.ensures;
+      counted = subst (λ n. ChangesAt n no_tally (IsCountedInAll f) old.counted.items c.settle_tally.new.tallies.items) c.place-3.ensures c.in_ok-settle_tally.ensures;
+    }
 
 pub returns-clause-settled : goal.returns-clause-settled
 returns-clause-settled c =
-    let f = c.args.base.now in
-    let old = c.args.self.now in
-    settled-traces c.args.flow.now c.args.node f old
+    thinned-traces c.args.flow.now c.args.node c.args.base.now c.args.self.now
     (record { delivered = c.settle_into.new.lists; notified = c.settle_at.new.lists; sent = c.settle_at-2.new.lists; counted = c.settle_tally.new.tallies; refused = false })
-    (record {
-      delivered = c.in_ok-settle_into.ensures;
-      notified = subst (λ n. ChangesAt n [] (IsSettledTo f) old.notified.items c.settle_at.new.lists.items) c.place.ensures c.in_ok-settle_at.ensures;
-      sent = subst (λ n. ChangesAt n [] (IsSettledTo f) old.sent.items c.settle_at-2.new.lists.items) c.place-2.ensures c.in_ok-settle_at-2.ensures;
-      counted = subst (λ n. ChangesAt n no_tally (IsTallySettledTo f) old.counted.items c.settle_tally.new.tallies.items) c.place-3.ensures c.in_ok-settle_tally.ensures;
-    })
+    (returns-clause-thinned c)

@@ -8,3 +8,4 @@ pub mod RecordLaws
 pub mod PlaceLaws
 pub mod FrontLaws
 pub mod OrderLaws
+pub mod WriteLaws

@@ -1,7 +1,7 @@
 //! Writing records.
-ghost use Rattle.std.specs.Prelude.{◌≡◌, ◌<◌, ◌^◌, ◌++◌, OnOk, IfOk};
+ghost use Rattle.std.specs.Prelude.{◌≡◌, ◌<◌, ◌^◌, [], ◌∷◌, ◌++◌, OnOk, IfOk, IfSome};
 ghost use Rattle.std.specs.List.{flat_map};
-ghost use Rattle.fw_record.specs.Spelling.{spelling, u32_bytes, u64_bytes, head_bytes, stamp_bytes, rec_bytes, front_bytes, of_edges_bytes, sent_counts_bytes, recs_bytes, entries_bytes, state_bytes, logged_bytes, log_bytes, checkpoint_bytes, delivery_bytes, event_bytes, IsCountable, HasCountableEdges, HasCountableLists, FitsItsCounts};
+ghost use Rattle.fw_record.specs.Spelling.{spelling, u32_bytes, u64_bytes, head_bytes, stamp_bytes, rec_bytes, front_bytes, of_edges_bytes, sent_count_bytes, sent_counts_bytes, recs_bytes, entries_bytes, state_bytes, logged_bytes, log_bytes, checkpoint_bytes, delivery_bytes, event_bytes, IsCountable, HasCountableEdges, HasCountableLists, FitsItsCounts};
 
 use crate::codes::{CHECKPOINT, DELIVERY, EVENT, MAGIC, NOTICE, VERSION};
 use crate::{Checkpoint, Event, Logged, Record, size};
@@ -36,10 +36,26 @@ fn put_count(out: &mut Vec<u8>, count: usize) -> Result<(), AllocError>
     put_u32(out, count)
 }
 
+/// The coordinate of a stamp of one.
+fn only_coord(stamp: &Stamp) -> Option<u32>
+    ensures { IfSome result (λ coord. stamp.now ≡ coord ∷ []) }
+{
+    if stamp.len() != 1 {
+        return None;
+    }
+    Some(stamp.at(0))
+}
+
 /// A stamp: the number of its coordinates, and these.
 fn put_stamp(out: &mut Vec<u8>, stamp: &Stamp) -> Result<(), AllocError>
     ensures { OnOk result (out.new.items ≡ out.old.items ++ stamp_bytes stamp.now) }
 {
+    // Most stamps are of one coordinate, and are written at once.
+    if let Some(coord) = only_coord(stamp) {
+        let [a, b, c, d] = coord.to_be_bytes();
+        out.extend_from_slice(&[1, a, b, c, d])?;
+        return Ok(());
+    }
     out.push(stamp.len() as u8)?;
     for i in 0..stamp.len() {
         put_u32(out, stamp.at(i))?;
@@ -50,8 +66,10 @@ fn put_stamp(out: &mut Vec<u8>, stamp: &Stamp) -> Result<(), AllocError>
 fn put_rec(out: &mut Vec<u8>, rec: &Rec) -> Result<(), AllocError>
     ensures { OnOk result (out.new.items ≡ out.old.items ++ rec_bytes rec.now) }
 {
-    put_u64(out, rec.key)?;
-    put_u64(out, rec.value)
+    let [a, b, c, d, e, f, g, h] = rec.key.to_be_bytes();
+    let [i, j, k, l, m, n, o, p] = rec.value.to_be_bytes();
+    out.extend_from_slice(&[a, b, c, d, e, f, g, h, i, j, k, l, m, n, o, p])?;
+    Ok(())
 }
 
 /// A front: the number of its stamps outside, and these.
@@ -87,10 +105,23 @@ fn put_counts(out: &mut Vec<u8>, counts: &[SentCount]) -> Result<(), AllocError>
 {
     put_count(out, counts.len())?;
     for sent in counts {
-        put_stamp(out, &sent.cause)?;
-        put_u64(out, sent.count)?;
+        put_sent(out, sent)?;
     }
     Ok(())
+}
+
+/// How many messages were sent from a stamp.
+fn put_sent(out: &mut Vec<u8>, sent: &SentCount) -> Result<(), AllocError>
+    ensures { OnOk result (out.new.items ≡ out.old.items ++ sent_count_bytes sent.now) }
+{
+    if let Some(coord) = only_coord(&sent.cause) {
+        let [a, b, c, d] = coord.to_be_bytes();
+        let [e, f, g, h, i, j, k, l] = sent.count.to_be_bytes();
+        out.extend_from_slice(&[1, a, b, c, d, e, f, g, h, i, j, k, l])?;
+        return Ok(());
+    }
+    put_stamp(out, &sent.cause)?;
+    put_u64(out, sent.count)
 }
 
 /// Recs, after their number.
@@ -135,15 +166,47 @@ fn put_causes(out: &mut Vec<u8>, causes: &Causes) -> Result<(), AllocError>
     Ok(())
 }
 
+/// The coordinate of the stamp of one cause, where both are alone.
+fn only_cause(causes: &Causes) -> Option<u32>
+    ensures { IfSome result (λ coord. causes.now ≡ (coord ∷ []) ∷ []) }
+{
+    match causes.stamps() {
+        [cause] => only_coord(cause),
+        _ => None,
+    }
+}
+
 /// A logged message.
 #[tactic(auto, unfolding(crate::specs::Spelling::logged_bytes))]
 fn put_logged(out: &mut Vec<u8>, logged: &Logged) -> Result<(), AllocError>
     ensures { OnOk result (out.new.items ≡ out.old.items ++ logged_bytes logged.now) }
 {
-    put_u32(out, logged.edge.place())?;
-    put_stamp(out, &logged.message.at)?;
-    put_causes(out, &logged.message.causes)?;
-    put_rec(out, &logged.message.rec)
+    let edge = logged.edge.place();
+    let message = &logged.message;
+    if let (Some(at), Some(cause)) = (only_coord(&message.at), only_cause(&message.causes)) {
+        return put_plain(out, edge, at, cause, &message.rec);
+    }
+    put_u32(out, edge)?;
+    put_stamp(out, &message.at)?;
+    put_causes(out, &message.causes)?;
+    put_rec(out, &message.rec)
+}
+
+/// A logged message of one cause, where that and its stamp have one coordinate each: it is written at once.
+fn put_plain(out: &mut Vec<u8>, edge: u32, at: u32, cause: u32, rec: &Rec) -> Result<(), AllocError>
+    ensures { OnOk result (out.new.items ≡ out.old.items
+        ++ (u32_bytes edge ++ stamp_bytes (at ∷ []) ++ stamp_bytes (cause ∷ []) ++ rec_bytes rec.now)) }
+{
+    let [e0, e1, e2, e3] = edge.to_be_bytes();
+    let [a0, a1, a2, a3] = at.to_be_bytes();
+    let [c0, c1, c2, c3] = cause.to_be_bytes();
+    let [k0, k1, k2, k3, k4, k5, k6, k7] = rec.key.to_be_bytes();
+    let [v0, v1, v2, v3, v4, v5, v6, v7] = rec.value.to_be_bytes();
+    out.extend_from_slice(&[
+        e0, e1, e2, e3, 1, a0, a1, a2, a3, 1, c0, c1, c2, c3, k0, k1, k2, k3, k4, k5, k6, k7, v0,
+        v1, v2, v3, v4, v5, v6, v7,
+    ])?;
+    Ok(())
 }
 
 /// Logged messages, after their number.

@@ -1,5 +1,5 @@
 //! What bytes say as a record.
-use fw_record::{RecordFault, decode, encode};
+use fw_record::{Record, RecordFault, decode, encode};
 use std::alloc::{AllocError, Global};
 use std::fmt;
 
@@ -27,15 +27,18 @@ impl fmt::Display for Answer {
 /// What the bytes say: they are read, and what was read is written again.
 pub fn answer_to(alloc: Global, bytes: &[u8]) -> Result<Answer, AllocError> {
     match decode(alloc, bytes) {
-        Ok(record) => {
-            let again = encode(alloc, &record)?;
-            if again.as_slice() == bytes {
-                Ok(Answer::Record)
-            } else {
-                Ok(Answer::Otherwise)
-            }
-        }
+        Ok(record) => written_again(alloc, &record, bytes),
         Err(RecordFault::BadRecord { at }) => Ok(Answer::Broken(at)),
         Err(RecordFault::NoMemory) => Err(AllocError),
+    }
+}
+
+/// Whether a record that was read is written by the same bytes.
+fn written_again(alloc: Global, record: &Record, bytes: &[u8]) -> Result<Answer, AllocError> {
+    let again = encode(alloc, record)?;
+    if again.as_slice() == bytes {
+        Ok(Answer::Record)
+    } else {
+        Ok(Answer::Otherwise)
     }
 }

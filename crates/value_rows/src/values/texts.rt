@@ -1,7 +1,7 @@
 //! Lines of a text.
-use fw_lines::lines;
+use fw_lines::{Line, lines};
 use row_words::{NoAnswer, show, spelled};
-use std::alloc::Global;
+use std::alloc::{AllocError, Global};
 
 /// How many bytes a text has at most.
 const TEXT_LIMIT: usize = 1024;
@@ -17,13 +17,18 @@ pub fn lines_of(alloc: Global, text: &str) -> Result<String, NoAnswer> {
         if !told.is_empty() {
             told.push_str(", ")?;
         }
-        let number = line.number;
-        let number = format!(in alloc; "{number}")?;
-        told.push_str(&number)?;
-        for word in line.words.as_slice() {
-            told.push(' ')?;
-            show(alloc, word.of(&bytes), &mut told)?;
-        }
+        tell_line(alloc, line, &bytes, &mut told)?;
     }
     Ok(told)
+}
+
+/// Adds the number of a line of the text, and its words.
+fn tell_line(alloc: Global, line: &Line, text: &[u8], told: &mut String) -> Result<(), AllocError> {
+    let number = format!(in alloc; "{}", line.number)?;
+    told.push_str(&number)?;
+    for word in line.words.as_slice() {
+        told.push(' ')?;
+        show(alloc, word.of(text), told)?;
+    }
+    Ok(())
 }

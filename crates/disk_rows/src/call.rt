@@ -1,25 +1,37 @@
 //! Calls of a store on disk, and of the files under it.
 use fw_disk::DiskStore;
 use fw_outside::{OutFault, Store};
-use row_words::{NoAnswer, bytes_of, part, says_something, tell_answer, tell_name};
+use row_words::{NoAnswer, Row, bytes_of, calls_of, part, rows_of, tell_answer, tell_name};
 use std::alloc::{AllocError, Global};
 use std::fs;
 use std::io::Read;
 use std::rt::Files;
 
-/// Tells the rows of a file. Each row has a store of its own, over one folder: the name of the row is that of the folder.
+/// Tells the rows of a file.
 pub fn tell_rows<R: Files>(alloc: Global, files: &R, text: &str) -> Result<String, AllocError> {
     let mut told = String::new(alloc);
-    for row in text.split("\n== ").skip(1) {
-        let (name, lines) = row.split_once('\n').unwrap_or((row, ""));
-        tell_name(name, &mut told)?;
-        let folder = String::from_str(alloc, name)?;
-        let mut store = DiskStore::new(alloc, files, folder);
-        for line in lines.lines().filter(|line| says_something(line)) {
-            tell_answer(line, answer(alloc, files, &mut store, line), &mut told)?;
-        }
+    for row in &rows_of(alloc, text)? {
+        tell_row(alloc, files, row, &mut told)?;
     }
     Ok(told)
+}
+
+/// Tells a row, which has a store of its own, over one folder: the name of the row is that of the folder.
+fn tell_row<R: Files>(
+    alloc: Global,
+    files: &R,
+    row: &Row<'_>,
+    told: &mut String,
+) -> Result<(), AllocError> {
+    tell_name(row.name, told)?;
+    let folder = String::from_str(alloc, row.name)?;
+    let calls = calls_of(alloc, row.lines)?;
+    let mut store = DiskStore::new(alloc, files, folder);
+    for line in &calls {
+        let answer = answer(alloc, files, &mut store, line);
+        tell_answer(line, answer, told)?;
+    }
+    Ok(())
 }
 
 /// What becomes of a call.

@@ -6,7 +6,7 @@ use crate::spell::{front_of, node_of, record_named};
 use fw_flow::Flow;
 use fw_keep::{Keep, KeepFault, no_stamps};
 use fw_outside::Store;
-use fw_record::encode;
+use fw_record::{Record, encode};
 use row_words::{NoAnswer, part, stamp_of};
 use std::alloc::Global;
 
@@ -73,17 +73,20 @@ fn fetched<K: Store>(
         return Err(NoAnswer::NotSpelled);
     }
     match keep.fetch(flow, store, id) {
-        Ok(record) => {
-            let bytes = encode(alloc, &record)?;
-            let mut told = String::new(alloc);
-            for byte in &bytes {
-                let word = format!(in alloc; "{byte:02x}")?;
-                told.push_str(&word)?;
-            }
-            Ok(told)
-        }
+        Ok(record) => digits_of(alloc, &record),
         Err(fault) => failed(alloc, &fault),
     }
+}
+
+/// The bytes of a record, by two digits each.
+fn digits_of(alloc: Global, record: &Record) -> Result<String, NoAnswer> {
+    let bytes = encode(alloc, record)?;
+    let mut told = String::new(alloc);
+    for byte in &bytes {
+        let word = format!(in alloc; "{byte:02x}")?;
+        told.push_str(&word)?;
+    }
+    Ok(told)
 }
 
 /// What became of a sweep.

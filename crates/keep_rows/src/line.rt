@@ -1,5 +1,5 @@
 //! Lines of rows of a catalogue.
-use row_words::part;
+use row_words::{is_declaration, part, says_something};
 
 /// The lines of a row that begin with this word, each without it.
 pub fn after<'a>(lines: &'a str, word: &str) -> Option<&'a str> {
@@ -14,13 +14,7 @@ pub fn after<'a>(lines: &'a str, word: &str) -> Option<&'a str> {
 
 /// Whether a line is a call: it is no comment, no declaration, and says nothing of the store or of records.
 pub fn is_call(line: &str) -> bool {
-    !line.is_empty()
-        && !line.starts_with('#')
+    says_something(line)
         && !is_declaration(line)
         && !matches!(part(line).0, "record" | "untold" | "failing" | "each")
-}
-
-/// Whether a line declares a loop, a node or an edge.
-pub fn is_declaration(line: &str) -> bool {
-    matches!(part(line).0, "loop" | "node" | "edge")
 }

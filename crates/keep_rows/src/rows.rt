@@ -2,28 +2,26 @@
 ghost use Rattle.fw_keep.specs.Stored.{IsStored};
 
 use crate::calls::answer;
-use crate::line::{after, is_call, is_declaration};
-use crate::spell::bytes_named;
+use crate::line::{after, is_call};
 use crate::untold::UntoldStore;
 use fw_flow::Flow;
 use fw_flow_text::read_flow;
 use fw_keep::Keep;
 use fw_lines::ReadFault;
 use fw_outside::{MemStore, Store};
-use row_words::{NoAnswer, part, tell_answer};
+use row_words::{
+    NoAnswer, bytes_named, declarations, if_spelled, part, rows_of, tell_answer, tell_name,
+};
 use std::alloc::{AllocError, Global};
 
 /// Tells the rows of a file.
 pub fn tell_rows(alloc: Global, text: &str) -> Result<String, AllocError> {
     let mut told = String::new(alloc);
-    for row in text.split("\n== ").skip(1) {
-        let (name, lines) = row.split_once('\n').unwrap_or((row, ""));
-        let head = format!(in alloc; "== {name}\n")?;
-        told.push_str(&head)?;
-        match flow_of(alloc, lines) {
-            Ok(flow) => tell_row(alloc, &flow, lines, &mut told)?,
-            Err(NoAnswer::NotSpelled) => told.push_str("no flow\n")?,
-            Err(NoAnswer::NoMemory) => return Err(AllocError),
+    for row in &rows_of(alloc, text)? {
+        tell_name(row.name, &mut told)?;
+        match if_spelled(flow_of(alloc, row.lines))? {
+            Some(flow) => tell_row(alloc, &flow, row.lines, &mut told)?,
+            None => told.push_str("no flow\n")?,
         }
     }
     Ok(told)
@@ -31,13 +29,7 @@ pub fn tell_rows(alloc: Global, text: &str) -> Result<String, AllocError> {
 
 /// The flow that the lines declare.
 fn flow_of(alloc: Global, lines: &str) -> Result<Flow, NoAnswer> {
-    let mut text = String::new(alloc);
-    for line in lines.lines() {
-        if is_declaration(line) {
-            text.push_str(line)?;
-            text.push('\n')?;
-        }
-    }
+    let text = declarations(alloc, lines)?;
     match read_flow(alloc, text.as_bytes()) {
         Ok(flow) => Ok(flow),
         Err(ReadFault::Refused(_)) => Err(NoAnswer::NotSpelled),

@@ -2,7 +2,7 @@
 use fw_flow::{Flow, NodeId};
 use fw_frontier::Front;
 use fw_record::{Record, RecordFault, decode};
-use row_words::{NoAnswer, bytes_of, part, stamp_of};
+use row_words::{NoAnswer, bytes_named, part, stamp_of};
 use std::alloc::Global;
 
 /// The frontier that is spelled `all`, or `until` and stamps outside.
@@ -31,19 +31,4 @@ pub fn record_named(alloc: Global, lines: &str, name: &str) -> Result<Record, No
         Err(RecordFault::BadRecord { .. }) => Err(NoAnswer::NotSpelled),
         Err(RecordFault::NoMemory) => Err(NoAnswer::NoMemory),
     }
-}
-
-/// The bytes that the lines `record` of a name spell, one after the other.
-pub fn bytes_named(alloc: Global, lines: &str, name: &str) -> Result<Vec<u8>, NoAnswer> {
-    let mut bytes = Vec::new(alloc);
-    for line in lines.lines() {
-        if let ("record", rest) = part(line) {
-            let (of, words) = part(rest);
-            if of == name {
-                let more = bytes_of(alloc, words)?;
-                bytes.extend_from_slice(&more)?;
-            }
-        }
-    }
-    Ok(bytes)
 }

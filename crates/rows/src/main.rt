@@ -1,39 +1,25 @@
-//! Rows of data: runs of the command over memory, values of the parts, bytes of records, and calls of the objects outside. The
-//! arguments name the files of rows, in order; `docs/rows.md` has their formats.
+//! Rows of data: runs of the command over memory. The arguments name the files of rows, in order; `docs/rows.md` has their
+//! format.
 #![tactic(auto)]
 
-mod escape;
-mod outside;
-mod records;
-mod runs;
-mod values;
+mod directive;
+mod noted;
+mod outcome;
+mod reading;
+mod row;
 
-use crate::outside::tell_calls;
-use crate::records::tell_records;
-use crate::runs::Reader;
-use crate::values::tell_values;
-use fw_outside::{FileFolder, Sink, StreamSink};
-use std::io::ErrorKind;
+use crate::reading::Reader;
 use std::{env, fs, io};
 
+/// For each row its name, and of each command that it runs the status, the notes, the faults and what was printed.
 fn main(rt: HostRuntime) -> io::Result<()> {
     let alloc = rt.alloc();
-    let mut folder = FileFolder::new(&rt);
     let mut reader = Reader::new(alloc);
     for path in env::args(&rt)?.skip(1) {
         println!(rt; "# {path}")?;
         let text = fs::read_to_string(&rt, path.as_str())?;
-        let told = match path.rsplit_once('.') {
-            Some((_, "runs")) => reader.tell(&text)?,
-            Some((_, "records")) => tell_records(alloc, &text)?,
-            Some((_, "calls")) => tell_calls(alloc, &mut folder, &text)?,
-            _ => tell_values(alloc, &text)?,
-        };
+        let told = reader.tell(&text)?;
         print!(rt; "{told}")?;
     }
-    // standard error is a stream too, which nothing else here writes
-    match StreamSink::new(rt.stderr()).write(b"all rows are told\n") {
-        Ok(()) => Ok(()),
-        Err(_) => Err(ErrorKind::Other.into()),
-    }
+    Ok(())
 }

@@ -1,0 +1,5 @@
+use Rattle.value_rows.proofs.Kept.{nothing}
+use Rattle.value_rows.proofs.outside.stores.kept_or_failed.Goals as goal
+
+pub kept_by-requires : goal.kept_by-requires
+kept_by-requires c x e = nothing x (cc (c.new.ensures.records, e))

@@ -145,12 +145,6 @@ log-got : (cut : Cut) (kept built : List MessagesState) (e : ℕ) (x : MessagesS
 log-got Present kept built e x h = sym (get_or_from_slice_get kept e x nothing_there (sym h))
 log-got (At f) kept built e x h = sym (get_or_from_slice_get built e x nothing_there (sym h))
 
--- one is found of each edge
-pub log-there : (cut : Cut) (kept built : List MessagesState) (e : ℕ) → e < length kept → e < length built
-    → None ≢ by_cut cut (slice_get kept e) (slice_get built e)
-log-there Present kept built e k b n = let s = slice_get-get_or kept e nothing_there k in cc
-log-there (At f) kept built e k b n = let s = slice_get-get_or built e nothing_there b in cc
-
 -- what is put into a queue whose receiver is cut is what the log that was found holds outside the cut
 pub queue-filled : {T E : Type 0} (flow : Dataflow) (choice : Choice) (kept built : List MessagesState) (e : ℕ) (front g : Front) (x : MessagesState) (r : Result T E) (next : MessagesState)
     → Some front ≡ front_at (cut_of choice (receiver flow e)) → cut_of choice (receiver flow e) ≡ At g

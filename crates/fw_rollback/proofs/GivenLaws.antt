@@ -1,7 +1,7 @@
 -- The records that are fetched, and what they give.
-use Rattle.std.proofs.Common.{◌≡◌, ◌≢◌, ℕ, ◌+◌, ◌<◌, Bool, true, false, ◌&&◌, ◌==◌, List, [], ◌∷◌, ◌++◌, length, length-set, take, get_or, set, replicate, filter, Option, Some, Ok, Err, refl, sym, ap, subst, ◌∙◌, inl, inr, arith}
+use Rattle.std.proofs.Common.{◌≡◌, ◌≢◌, ℕ, ◌+◌, ◌<◌, Bool, true, false, ◌&&◌, ◌==◌, List, [], ◌∷◌, ◌++◌, length, length-set, take, get_or, set, filter, Option, Some, Ok, Err, refl, sym, ap, subst, ◌∙◌, inl, inr, arith}
 use Rattle.std.proofs.lemmas.Bool.{cases_Bool, eqb-true, eq-eqb, and_parts, and_from, false≢true}
-use Rattle.std.proofs.lemmas.List.{append-nil, take_more, get_or-set_same, get_or-set_other, get_or-replicate, length-replicate}
+use Rattle.std.proofs.lemmas.List.{append-nil, take_more, get_or-set_same, get_or-set_other}
 use Rattle.std.proofs.lemmas.List.Elements.{filter-append}
 use Rattle.std.specs.List.{AllZip, Contains}
 use Rattle.std.specs.Option.{ForSome}
@@ -40,14 +40,6 @@ use Rattle.fw_rollback.proofs.ListLaws.{zip-push, zip-each}
 pub record HasFetched (flow : Dataflow) (choice : Choice) (records : Option Records) (entries : List Entry) (given : List (List Record)) : Type 0 where
   pub each : length given ≡ length flow.nodes
   pub fetched : AreFetched flow choice records entries given
-
-pub fetched-none : (flow : Dataflow) (choice : Choice) (records : Option Records) (given : List (List Record)) → given ≡ replicate (length flow.nodes) []
-    → HasFetched flow choice records [] given
-fetched-none flow choice records given e = record {
-  each = ap length e ∙ length-replicate (length flow.nodes) [];
-  fetched = λ p l. let P : List Record → Type 0 = λ rs. AllZip (IsFetched flow records) [] rs in
-      subst P (sym (ap (λ (gs : List (List Record)). given_of gs p) e ∙ get_or-replicate (length flow.nodes) p [] [] l)) tt;
-}
 
 -- whether an entry is one of node p for which the choice asks
 abbrev is_of : Dataflow → Choice → ℕ → Entry → Bool

@@ -1,6 +1,6 @@
 -- What logs hold: as bags, in order.
 use Rattle.std.proofs.Common.{◌≡◌, ◌≢◌, ℕ, ◌+◌, ◌<◌, Bool, true, false, not, ◌==◌, List, [], ◌∷◌, ◌++◌, filter, map, length, take, get_or, refl, sym, ap, subst, ◌∙◌, inl, inr, arith}
-use Rattle.std.proofs.lemmas.Bool.{not_from_true, not_from_false, cases_eq, eqb-true, eq-eqb, ne_eqb, or_cases, false≢true}
+use Rattle.std.proofs.lemmas.Bool.{cases_eq, eqb-true, eq-eqb, ne_eqb, or_cases, false≢true}
 use Rattle.std.proofs.lemmas.List.{append-nil, take_more, map-append}
 use Rattle.std.proofs.lemmas.List.Elements.{filter-append}
 use Rattle.std.proofs.lemmas.List.Folds.{list_any_more}
@@ -65,18 +65,6 @@ pub log_of-same : (flow : Dataflow) (low : List Front) (e : ℕ) (xs ys : List M
     → log_of flow low e xs ≡ log_of flow low e ys
 log_of-same flow low e xs ys same =
     ap state (sorted_messages-filter (outside_low flow low e) xs ∙ ap (filter (outside_low flow low e)) same ∙ sym (sorted_messages-filter (outside_low flow low e) ys))
-
--- a message more, outside the receiver's low watermark
-pub log_of-outside : (flow : Dataflow) (low : List Front) (e : ℕ) (m : Message) (ms : List Message) → inside (front_of low (receiver flow e)) m.at ≡ false
-    → state (with_message m (log_of flow low e ms).messages) ≡ log_of flow low e (m ∷ ms)
-log_of-outside flow low e m ms o =
-    ap (λ (xs : List Message). state (sorted_messages xs)) (sym (filter-in (outside_low flow low e) m ms (not_from_false (inside (front_of low (receiver flow e)) m.at) o)))
-
--- one more inside it
-pub log_of-inside : (flow : Dataflow) (low : List Front) (e : ℕ) (m : Message) (ms : List Message) → inside (front_of low (receiver flow e)) m.at ≡ true
-    → log_of flow low e ms ≡ log_of flow low e (m ∷ ms)
-log_of-inside flow low e m ms i =
-    ap (λ (xs : List Message). state (sorted_messages xs)) (sym (filter-out (outside_low flow low e) m ms (not_from_true (inside (front_of low (receiver flow e)) m.at) i)))
 
 -- a message more that comes in the middle
 log_of-middle : (flow : Dataflow) (low : List Front) (e : ℕ) (xs : List Message) (m : Message) (ys : List Message)

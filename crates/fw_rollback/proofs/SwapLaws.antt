@@ -124,6 +124,13 @@ pub after-new : (cut : Cut) → output_after cut new_output ≡ new_output
 after-new Present = refl
 after-new (At f) = refl
 
+-- what is before the next place, and not at this one, is before this one
+before : (n p : ℕ) → p < n + 1 → n ≢ p → p < n
+before n p k s = elim (cases_lt p n) [
+  | inl m ↦ m
+  | inr m ↦ absurd (s (omega arith))
+]
+
 -- Of the inputs those before place n are rolled.
 pub record AreRolledBefore (choice : Choice) (n : ℕ) (first now : List SourceState) : Type 0 where
   pub done : (s : ℕ) → s < n → source_at now s ≡ rolled_source (cut_of choice s) (source_at first s)
@@ -139,7 +146,7 @@ sources-more choice n first now next h e = record {
         subst P same
         (ap (λ (xs : List SourceState). source_at xs n) e ∙ source-set (rolled_source (cut_of choice n)) now n (rolled-unused (cut_of choice n))
         ∙ ap (rolled_source (cut_of choice n)) (h.rest n (omega arith)))
-    | inr other ↦ stay s other ∙ h.done s (before s l other)
+    | inr other ↦ stay s other ∙ h.done s (before n s l other)
   ];
   rest = λ s l. stay s (λ z. absurd (omega (arith, z))) ∙ h.rest s (omega arith);
   each = ap length e ∙ length-set now n (rolled_source (cut_of choice n) (source_at now n)) ∙ h.each;
@@ -147,12 +154,6 @@ sources-more choice n first now next h e = record {
   where
     stay : (s : ℕ) → n ≢ s → source_at next s ≡ source_at now s
     stay s other = ap (λ (xs : List SourceState). source_at xs s) e ∙ get_or-set_other now n s (rolled_source (cut_of choice n) (source_at now n)) (unused_source []) (λ z. other (sym z))
-
-    before : (p : ℕ) → p < n + 1 → n ≢ p → p < n
-    before p k s = elim (cases_lt p n) [
-      | inl m ↦ m
-      | inr m ↦ absurd (s (omega arith))
-    ]
 
 -- Of the outputs those before place n are cut.
 pub record AreClearedBefore (choice : Choice) (n : ℕ) (first now : OutputsState) : Type 0 where
@@ -170,7 +171,7 @@ outputs-more choice n first now next h e = record {
         subst P same
         (ap (λ (xs : OutputsState). output_at xs.outputs n) e ∙ output-set (output_after (cut_of choice n)) now.outputs n (after-new (cut_of choice n))
         ∙ ap (output_after (cut_of choice n)) (h.rest n (omega arith)))
-    | inr other ↦ stay s other ∙ h.done s (before s l other)
+    | inr other ↦ stay s other ∙ h.done s (before n s l other)
   ];
   rest = λ s l. stay s (λ z. absurd (omega (arith, z))) ∙ h.rest s (omega arith);
   refused = ap (λ (xs : OutputsState). xs.refused) e ∙ h.refused;
@@ -181,9 +182,3 @@ outputs-more choice n first now next h e = record {
     stay s other =
         ap (λ (xs : OutputsState). output_at xs.outputs s) e
         ∙ get_or-set_other now.outputs n s (output_after (cut_of choice n) (output_at now.outputs n)) new_output (λ z. other (sym z))
-
-    before : (p : ℕ) → p < n + 1 → n ≢ p → p < n
-    before p k s = elim (cases_lt p n) [
-      | inl m ↦ m
-      | inr m ↦ absurd (s (omega arith))
-    ]

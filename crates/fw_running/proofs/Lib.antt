@@ -6,3 +6,4 @@ pub mod FirstLaws
 pub mod KeptShapes
 pub mod PlaceLaws
 pub mod SameStateLaws
+pub mod ShownLines

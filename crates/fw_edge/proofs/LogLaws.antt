@@ -55,6 +55,19 @@ in_order-appended l m [] s e h = absurd (cc)
 in_order-appended l m (x ∷ xs) s e h =
     sorted_messages-ascending (x ∷ xs ++ m ∷ []) (ascending-appended l m (x ∷ xs) (length (x ∷ xs) - 1) (ascending_from (x ∷ xs) s) (omega arith) e h)
 
+last-appended : (l m : Message) (xs : List Message) (n : ℕ) → IsAscendingMessages (xs ++ m ∷ []) → n + 1 ≡ length xs → slice_get xs n ≡ Some l → is_gt (message_cmp l m) ≡ false
+unfolding IsAscendingMessages
+last-appended l m [] n a long e = absurd (omega arith)
+last-appended l m (x ∷ []) zero a long e = let is : x ≡ l = cc in subst (λ z. is_gt (message_cmp z m) ≡ false) is a.0.0
+last-appended l m (x ∷ []) (suc n) a long e = absurd (omega arith)
+last-appended l m (x ∷ y ∷ ys) zero a long e = absurd (omega arith)
+last-appended l m (x ∷ y ∷ ys) (suc n) a long e = last-appended l m (y ∷ ys) n a.1 (omega arith) e
+
+-- the last of messages is not greater than one more, where they are in order with it
+pub appended-in_order : (l m : Message) (xs : List Message) → sorted_messages (xs ++ m ∷ []) ≡ xs ++ m ∷ [] → slice_get xs (length xs - 1) ≡ Some l → is_gt (message_cmp l m) ≡ false
+appended-in_order l m [] s e = absurd (cc)
+appended-in_order l m (x ∷ xs) s e = last-appended l m (x ∷ xs) (length (x ∷ xs) - 1) (ascending_from (x ∷ xs ++ m ∷ []) s) (omega arith) e
+
 -- ---- what is sorted
 
 not_greater : (o p : Ordering) → o ≡ ordering_reverse p → is_lt p ≡ false → is_gt o ≡ false

@@ -124,7 +124,9 @@ impl MsgLog {
 // Whether messages are known to ascend with one more after them, where `ascend` tells whether they are known to.
 fn ascend_with(messages: &[Message], ascend: bool, message: &Message) -> bool
     requires { IsTrue ascend → sorted_messages messages.now ≡ messages.now }
-    ensures { IsTrue result → sorted_messages (messages.now ++ message.now ∷ []) ≡ messages.now ++ message.now ∷ [] }
+    ensures in_order { IsTrue result → sorted_messages (messages.now ++ message.now ∷ []) ≡ messages.now ++ message.now ∷ [] }
+    ensures known { IsTrue ascend → sorted_messages (messages.now ++ message.now ∷ []) ≡ messages.now ++ message.now ∷ []
+        → IsTrue result }
 {
     match messages.last() {
         Some(last) => ascend && last.cmp(message).is_le(),

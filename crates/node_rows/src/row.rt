@@ -3,25 +3,22 @@ use crate::call::{answer, node_of, restored};
 use fw_flow::Flow;
 use fw_flow_text::read_flow;
 use fw_node::Node;
-use row_words::{NoAnswer, part, tell_answer};
+use row_words::{NoAnswer, Row, part, rows_of, tell_answer, tell_name};
 use std::alloc::{AllocError, Global};
 
 /// Tells the rows of a file.
 pub fn tell_rows(alloc: Global, text: &str) -> Result<String, AllocError> {
     let mut told = String::new(alloc);
-    for row in text.split("\n== ").skip(1) {
+    for row in &rows_of(alloc, text)? {
         tell_row(alloc, row, &mut told)?;
     }
     Ok(told)
 }
 
 /// Tells a row: its name, and the answers to its calls, which stand behind the flow's lines.
-fn tell_row(alloc: Global, row: &str, told: &mut String) -> Result<(), AllocError> {
-    let (name, lines) = row.split_once('\n').unwrap_or((row, ""));
-    told.push_str("== ")?;
-    told.push_str(name)?;
-    told.push('\n')?;
-    let (flow, calls) = lines.split_once("\n--\n").unwrap_or((lines, ""));
+fn tell_row(alloc: Global, row: &Row<'_>, told: &mut String) -> Result<(), AllocError> {
+    tell_name(row.name, told)?;
+    let (flow, calls) = row.lines.split_once("\n--\n").unwrap_or((row.lines, ""));
     match read_flow(alloc, flow.as_bytes()) {
         Ok(flow) => tell_calls(alloc, &flow, calls, told),
         Err(_) => told.push_str("no flow\n"),

@@ -3,7 +3,7 @@ use crate::spell::{cut_of, front_of, node_of, write_bag};
 use fw_border::Sources;
 use fw_flow::{BuildFault, Flow, FlowBuilder, NodeId};
 use fw_lines::Batches;
-use row_words::{NoAnswer, part, rec_of, says_something, shown, tell_something};
+use row_words::{NoAnswer, calls_of, part, recs_of, shown, tell_something};
 use std::alloc::{AllocError, Global};
 
 /// Tells the answer to each call of the inputs of a flow, at the places 0 and 1, which have the batches of the lines `batch`.
@@ -11,7 +11,7 @@ pub fn tell(alloc: Global, lines: &str, told: &mut String) -> Result<(), AllocEr
     let Ok(mut sources) = sources_of(alloc, lines) else {
         return told.push_str("no inputs\n");
     };
-    for line in lines.lines().filter(|line| says_something(line)) {
+    for line in &calls_of(alloc, lines)? {
         let answer = answer(alloc, &mut sources, line);
         tell_something(line, answer, told)?;
     }
@@ -46,10 +46,7 @@ fn sources_of(alloc: Global, lines: &str) -> Result<Sources, NoAnswer> {
 fn add_batch(alloc: Global, batches: &mut Batches, text: &str) -> Result<(), NoAnswer> {
     let (place, words) = part(text);
     let source = node_of(place)?;
-    let mut recs = Vec::new(alloc);
-    for word in words.split_whitespace() {
-        recs.push(rec_of(word)?)?;
-    }
+    let recs = recs_of(alloc, words)?;
     batches.add(source.place(), &recs)?;
     Ok(())
 }

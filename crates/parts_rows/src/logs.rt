@@ -1,13 +1,13 @@
 //! Logs.
 use crate::spell::{front_of, message_of, write_messages};
 use fw_edge::MsgLog;
-use row_words::{NoAnswer, part, says_something, shown, tell_something};
+use row_words::{NoAnswer, calls_of, part, shown, tell_something};
 use std::alloc::{AllocError, Global};
 
 /// Tells the answer to each call of a log, which is empty at first.
 pub fn tell(alloc: Global, lines: &str, told: &mut String) -> Result<(), AllocError> {
     let mut log = MsgLog::new(alloc);
-    for line in lines.lines().filter(|line| says_something(line)) {
+    for line in &calls_of(alloc, lines)? {
         let answer = answer(alloc, &mut log, line);
         tell_something(line, answer, told)?;
     }

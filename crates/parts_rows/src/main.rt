@@ -11,7 +11,7 @@ mod outputs;
 mod queues;
 mod spell;
 
-use row_words::tell_name;
+use row_words::{rows_of, tell_name};
 use std::alloc::{AllocError, Global};
 use std::{env, fs, io};
 
@@ -29,14 +29,13 @@ fn main(rt: HostRuntime) -> io::Result<()> {
 /// Tells the rows of a file.
 fn tell_rows(alloc: Global, path: &str, text: &str) -> Result<String, AllocError> {
     let mut told = String::new(alloc);
-    for row in text.split("\n== ").skip(1) {
-        let (name, lines) = row.split_once('\n').unwrap_or((row, ""));
-        tell_name(name, &mut told)?;
+    for row in &rows_of(alloc, text)? {
+        tell_name(row.name, &mut told)?;
         match path.rsplit_once('.') {
-            Some((_, "queues")) => queues::tell(alloc, lines, &mut told)?,
-            Some((_, "logs")) => logs::tell(alloc, lines, &mut told)?,
-            Some((_, "inputs")) => inputs::tell(alloc, lines, &mut told)?,
-            _ => outputs::tell(alloc, lines, &mut told)?,
+            Some((_, "queues")) => queues::tell(alloc, row.lines, &mut told)?,
+            Some((_, "logs")) => logs::tell(alloc, row.lines, &mut told)?,
+            Some((_, "inputs")) => inputs::tell(alloc, row.lines, &mut told)?,
+            _ => outputs::tell(alloc, row.lines, &mut told)?,
         }
     }
     Ok(told)

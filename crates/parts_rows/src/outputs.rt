@@ -3,7 +3,7 @@ use crate::inputs::two_inputs;
 use crate::spell::{cut_of, node_of, write_bag};
 use fw_border::Outputs;
 use fw_flow::NodeId;
-use row_words::{NoAnswer, part, rec_of, says_something, shown, stamp_of, tell_something};
+use row_words::{NoAnswer, calls_of, part, rec_of, shown, stamp_of, tell_something};
 use std::alloc::{AllocError, Global};
 
 /// Tells the answer to each call of the outputs of a flow, at the places 2 and 3.
@@ -11,7 +11,7 @@ pub fn tell(alloc: Global, lines: &str, told: &mut String) -> Result<(), AllocEr
     let Ok(mut outputs) = new_outputs(alloc) else {
         return told.push_str("no outputs\n");
     };
-    for line in lines.lines().filter(|line| says_something(line)) {
+    for line in &calls_of(alloc, lines)? {
         let answer = answer(alloc, &mut outputs, line);
         tell_something(line, answer, told)?;
     }

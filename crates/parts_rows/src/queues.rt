@@ -2,13 +2,13 @@
 use crate::spell::{front_of, message_of, write_message};
 use fw_edge::Queue;
 use fw_flow::Message;
-use row_words::{NoAnswer, asked_of, part, says_something, shown, stamp_of, tell_something};
+use row_words::{NoAnswer, asked_of, calls_of, part, shown, stamp_of, tell_something};
 use std::alloc::{AllocError, Global};
 
 /// Tells the answer to each call of a queue, which is empty at first.
 pub fn tell(alloc: Global, lines: &str, told: &mut String) -> Result<(), AllocError> {
     let mut queue = Queue::new(alloc);
-    for line in lines.lines().filter(|line| says_something(line)) {
+    for line in &calls_of(alloc, lines)? {
         let answer = answer(alloc, &mut queue, line);
         tell_something(line, answer, told)?;
     }

@@ -85,7 +85,7 @@ impl MsgLog {
         let mut copies = Vec::with_capacity(*self.messages.allocator(), self.messages.len())?;
         for message in &self.messages {
             if comes_from(message, f) {
-                copies.push(message.copy())?;
+                copies.push_reserved(message.copy());
             }
         }
         Ok(in_order(copies, self.ascends))

@@ -13,7 +13,7 @@ in_order-requires c = λ t.
     let test = λ (m : Message). all_inside (inside c.args.f.now) m.causes in
     let all =
     copied-all test c.loop-message.message-index c.deref-message-items.result.now c.self.inside.messages.items c.loop-message.copies.items
-    c.deref-message-items.ensures.value c.loop-message-test.false c.loop-message.invariant in
+    c.deref-message-items.ensures.value c.loop-message-test.false c.loop-message.invariant.0 in
     in_order-filter test c.self.inside.messages.items c.loop-message.copies.items all (c.self.invariant t)
 
 pub returns : goal.returns
@@ -21,6 +21,6 @@ returns c =
     let test = λ (m : Message). all_inside (inside c.args.f.now) m.causes in
     let all =
     copied-all test c.loop-message.message-index c.deref-message-items.result.now c.self.inside.messages.items c.loop-message.copies.items
-    c.deref-message-items.ensures.value c.loop-message-test.false c.loop-message.invariant in
+    c.deref-message-items.ensures.value c.loop-message-test.false c.loop-message.invariant.0 in
     c.in_order.ensures ∙ ap sorted_messages all ∙ sorted_messages-filter test c.self.inside.messages.items
     ∙ ap (λ (s : MessagesState). filter test s.messages) c.self.view_is

@@ -11,45 +11,28 @@ use fw_flow::Flow;
 use fw_flow_text::read_flow;
 use fw_lines::Batches;
 use fw_progress::{Progress, Traces};
-use row_words::{NoAnswer, part};
+use row_words::{
+    NoAnswer, Row, declarations, is_declaration, part, rows_of, says_something, tell_name,
+};
 use std::alloc::{AllocError, Global};
 
 /// Tells the rows of a file.
 pub fn tell_rows(alloc: Global, text: &str) -> Result<String, AllocError> {
     let mut told = String::new(alloc);
-    for row in text.split("\n== ").skip(1) {
+    for row in &rows_of(alloc, text)? {
         tell_row(alloc, row, &mut told)?;
     }
     Ok(told)
 }
 
 /// Tells a row: its name, and the answers to its calls.
-fn tell_row(alloc: Global, row: &str, told: &mut String) -> Result<(), AllocError> {
-    let (name, lines) = row.split_once('\n').unwrap_or((row, ""));
-    told.push_str("== ")?;
-    told.push_str(name)?;
-    told.push('\n')?;
-    let text = declarations(alloc, lines)?;
+fn tell_row(alloc: Global, row: &Row<'_>, told: &mut String) -> Result<(), AllocError> {
+    tell_name(row.name, told)?;
+    let text = declarations(alloc, row.lines)?;
     match read_flow(alloc, text.as_bytes()) {
-        Ok(flow) => tell_calls(alloc, &flow, lines, told),
+        Ok(flow) => tell_calls(alloc, &flow, row.lines, told),
         Err(_) => told.push_str("no flow\n"),
     }
-}
-
-/// Whether a line begins as a declaration.
-fn is_declaration(line: &str) -> bool {
-    let word = part(line).0;
-    word == "loop" || word == "node" || word == "edge"
-}
-
-/// The declarations among the lines, as the text of a flow.
-fn declarations(alloc: Global, lines: &str) -> Result<String, AllocError> {
-    let mut text = String::new(alloc);
-    for line in lines.lines().filter(|line| is_declaration(line)) {
-        text.push_str(line)?;
-        text.push('\n')?;
-    }
-    Ok(text)
 }
 
 /// The batches that the lines `batches NODE COUNT` tell.
@@ -149,8 +132,5 @@ fn tell_text(text: &str, told: &mut String) -> Result<(), AllocError> {
 
 /// Whether a line asks for a call.
 fn is_call(line: &str) -> bool {
-    !line.is_empty()
-        && !line.starts_with('#')
-        && !line.starts_with("batches")
-        && !is_declaration(line)
+    says_something(line) && !line.starts_with("batches") && !is_declaration(line)
 }

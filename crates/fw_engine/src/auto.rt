@@ -5,7 +5,7 @@ ghost use Rattle.fw_border.specs.Outputs.{AreByNumber};
 ghost use Rattle.fw_keep.specs.Stored.{Records, IsStored};
 ghost use Rattle.fw_stands.specs.LawsOfFirstSteps.{NoneToDeliver, NoneToNotify, NoneToSettle, NoneToAcknowledge};
 ghost use Rattle.fw_running.specs.Kept.{output_of};
-ghost use Rattle.fw_running.specs.Places.{IsFirstWhere};
+ghost use Rattle.fw_running.specs.Places.{IsFirstWhere, IsTakenOut};
 ghost use Rattle.fw_running.specs.Ready.{CanAcknowledge, CanDeliver, CanInject, IsOwing};
 ghost use Rattle.fw_engine.specs.Searching.{with_ready_edges, with_ready_outputs, with_ready_inputs, IsSearched, IsNoticeOf, IsFirstNotified, NoneToPersist, TakesFirstAfter};
 ghost use Rattle.fw_running.specs.declared.stepped.Stepped.TheVariants.{Idle};
@@ -188,6 +188,8 @@ fn notice_of(running: &mut Running, node: NodeId) -> Result<Option<Stamp>, Alloc
     ensures searched { OnOk result (IsSearched running.old running.new) }
     ensures shaped { OnOk result (IsShaped running.new) }
     ensures found { IfOk result (IsNoticeOf running.old node) }
+    ensures taken { (IsOwing running.old node → ⊥)
+        → OnOk result (IsTakenOut node running.old.ready.owing running.new.ready.owing) }
 {
     if !is_owed(running, node) {
         running.ready.take_owing(node);

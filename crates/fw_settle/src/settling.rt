@@ -9,6 +9,7 @@ ghost use Rattle.fw_model.specs.Steps as steps_of;
 ghost use Rattle.fw_keep.specs.Stored.{IsStored};
 ghost use Rattle.fw_progress.specs.Settle.{IsGrownAt, has_more};
 ghost use Rattle.fw_running.specs.Logging.{ChangesKeep, IsNotAsked};
+ghost use Rattle.fw_running.specs.Places.{IsTakenOut};
 ghost use Rattle.fw_running.specs.declared.stepped.Stepped.TheVariants.{Idle};
 ghost use Rattle.fw_running.specs.Shaped.{IsShaped};
 ghost use Rattle.fw_running.specs.Steps.{TakesStep, StaysShaped, IsUndamaged, HasEager};
@@ -204,6 +205,7 @@ fn settle_node(running: &mut Running, node: NodeId) -> Result<(), AllocError>
     ensures others { OnOk result (ChangesSettled running.old running.new) }
     ensures shaped { OnOk result (IsShaped running.new) }
     ensures settled { OnOk result (SettlesKept node running.old running.new) }
+    ensures taken { OnOk result (IsTakenOut node running.old.ready.growing running.new.ready.growing) }
 {
     match running.progress.grown_at(&running.flow, node)? {
         Some(front) => settle_to(running, node, front),
@@ -224,6 +226,7 @@ fn settle_to(running: &mut Running, node: NodeId, front: Front) -> Result<(), Al
     ensures others { OnOk result (ChangesSettled running.old running.new) }
     ensures shaped { OnOk result (IsShaped running.new) }
     ensures settled { OnOk result (SettlesTo node front running.old running.new) }
+    ensures taken { OnOk result (IsTakenOut node running.old.ready.growing running.new.ready.growing) }
 {
     settle_table(running, node, &front)?;
     settle_traces(running, node, &front)?;

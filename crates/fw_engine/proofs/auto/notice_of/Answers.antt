@@ -21,3 +21,7 @@ returns-clause-found c =
     notice_of-found c.args.running.now c.args.node c.next_notice.result
     (holds_if c.is_owed.result (IsOwing c.args.running.now c.args.node) c.if-not-is_owed.false c.is_owed.ensures)
     c.next_notice.ensures.found c.next_notice.ensures.of_domain
+
+pub returns-clause-taken : goal.returns-clause-taken
+returns-clause-taken c = λ none.
+    absurd (none (holds_if c.is_owed.result (IsOwing c.args.running.now c.args.node) c.if-not-is_owed.false c.is_owed.ensures))

@@ -1,6 +1,8 @@
-use Rattle.std.proofs.Common.{ap, ◌∙◌}
+use Rattle.std.proofs.Common.{ap, subst, ◌∙◌}
 use Rattle.fw_progress.specs.Progress.{Standing}
 use Rattle.fw_running.specs.declared.running.Running.{Running}
+use Rattle.fw_running.specs.Places.{IsTakenOut}
+use Rattle.fw_running.specs.ReadyState.{ReadyState}
 use Rattle.fw_settle.proofs.ShapeLaws.{shaped-settling, settles-to}
 use Rattle.fw_settle.proofs.settling.settle_to.Goals as goal
 
@@ -21,3 +23,9 @@ pub returns-clause-settled : goal.returns-clause-settled
 returns-clause-settled c =
     settles-to c.args.running.now c.settle_table.new.running c.settle_traces.new.running c.settle_at.new.self c.take_growing.new.self c.args.node c.args.front
     c.settle_table.ensures.others c.in_ok-settle_table.ensures.settled c.settle_traces.ensures.others c.in_ok-settle_traces.ensures.settled c.settle_at.ensures.settled
+
+pub returns-clause-taken : goal.returns-clause-taken
+returns-clause-taken c =
+    subst (λ places. IsTakenOut c.args.node places c.take_growing.new.self.growing)
+    (ap (λ (r : ReadyState). r.growing) c.put_output.ensures.others ∙ ap (λ (r : Running). r.ready.growing) c.settle_traces.ensures.others ∙ ap (λ (r : Running). r.ready.growing) c.settle_table.ensures.others)
+    c.take_growing.ensures.taken

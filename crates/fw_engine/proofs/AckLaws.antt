@@ -22,7 +22,7 @@ use Rattle.fw_stands.specs.Parts.{IsOutputOf}
 use Rattle.fw_running.specs.declared.running.Running.{Running}
 use Rattle.fw_running.specs.Kept.{is_down, output_of}
 use Rattle.fw_running.specs.Places.{IsPut}
-use Rattle.fw_running.specs.Ready.{HasSomething, CanAcknowledge, IsAcknowledgeable}
+use Rattle.fw_running.specs.Ready.{HasSomething, CanAcknowledge, CanAcknowledgeBy}
 use Rattle.fw_running.specs.ReadyState.{ReadyState}
 use Rattle.fw_running.specs.Shaped.{IsShaped}
 use Rattle.fw_running.specs.Stands.{Stands}
@@ -101,7 +101,7 @@ output-other running o q places n = get_or-set_other running.parts.outputs.outpu
 
 may-other : (running : Running) (o q : ℕ) (places : List ℕ) → q ≢ o → CanAcknowledge (after_ack running o places) q → CanAcknowledge running q
 may-other running o q places n =
-    subst (λ out. IsAcknowledgeable running.flow q (is_down running q) running.epochs out (front_of running.progress.settled q)) (output-other running o q places n)
+    subst (λ out. CanAcknowledgeBy running.flow q (is_down running q) running.epochs out (front_of running.progress.settled q)) (output-other running o q places n)
 
 after-shaped : (running : Running) (o : ℕ) (places : List ℕ) → IsPut o running.ready.outputs places → IsShaped running → IsShaped (after_ack running o places)
 after-shaped running o places put s =

@@ -11,7 +11,7 @@ use Rattle.fw_running.specs.declared.running.Running.{Running}
 use Rattle.fw_running.specs.BroughtUp.{IsBroughtUp}
 use Rattle.fw_running.specs.Places.{IsTakenOut, IsFirstPlace, IsFirstPlaceFrom, IsFirstWhere}
 use Rattle.fw_running.specs.Kept.{is_down}
-use Rattle.fw_running.specs.Ready.{CanAcknowledge, CanDeliver, CanInject, IsNotifiable, IsOwing}
+use Rattle.fw_running.specs.Ready.{CanAcknowledge, CanDeliver, CanInject, IsOwingBy, IsOwing}
 use Rattle.fw_running.specs.ReadyState.{ReadyState}
 use Rattle.fw_running.specs.Shaped.{IsReady, IsShaped}
 use Rattle.fw_running.proofs.KeptShapes.{progress-fits, shaped-standing, traces-fit}
@@ -187,11 +187,11 @@ searched-taken old ready is = record {
 -- the nodes that are owed a notification stay these
 owing-on : (old new : Running) (p : ℕ) → IsSearched old new → IsOwing old p → IsOwing new p
 owing-on old new p s c =
-    subst (λ (r : Running). IsOwing r p) (sym s.others) (subst (λ (counts : Counts). IsNotifiable old.flow p (is_down old p) (owed_of counts p)) (sym s.counts) c)
+    subst (λ (r : Running). IsOwing r p) (sym s.others) (subst (λ (counts : Counts). IsOwingBy old.flow p (is_down old p) (owed_of counts p)) (sym s.counts) c)
 
 owing-back : (old new : Running) (p : ℕ) → IsSearched old new → IsOwing new p → IsOwing old p
 owing-back old new p s c =
-    subst (λ (counts : Counts). IsNotifiable old.flow p (is_down old p) (owed_of counts p)) s.counts (subst (λ (r : Running). IsOwing r p) s.others c)
+    subst (λ (counts : Counts). IsOwingBy old.flow p (is_down old p) (owed_of counts p)) s.counts (subst (λ (r : Running). IsOwing r p) s.others c)
 
 -- where a node may not be notified after a search, it might not before
 pub no_notice-before : (old new : Running) (p : ℕ) → IsSearched old new → HasNoNotice new p → HasNoNotice old p

@@ -28,7 +28,7 @@ use Rattle.fw_rollback.specs.Edges.{on_edge}
 use Rattle.fw_rollback.specs.Tables.{table_at}
 use Rattle.fw_running.specs.declared.running.Running.{Running}
 use Rattle.fw_running.specs.Kept.{queue_at, log_at, output_of, is_down}
-use Rattle.fw_running.specs.Ready.{CanAcknowledge, CanDeliver, CanInject, IsAcknowledgeable, IsGrown, IsOwing}
+use Rattle.fw_running.specs.Ready.{CanAcknowledge, CanDeliver, CanInject, CanAcknowledgeBy, HasGrownBy, IsOwing}
 use Rattle.fw_running.specs.Shaped.{IsOnEdge, IsShaped}
 use Rattle.fw_running.proofs.KeptShapes.{logs-fit, progress-fits, queues-fit, shaped-changed, shaped-parts, shaped-standing, tables-fit, traces-fit}
 use Rattle.fw_events.specs.Sending.{with_queues, with_logs, sent_to, ChangesEdges, SendsOn}
@@ -153,9 +153,9 @@ shaped-told old traces progress s p t live traced settled kept owing =
       edges = s.ready.edges;
       owing = owing;
       growing = λ q c. s.ready.growing q
-          (subst (λ fs. IsGrown old.flow q (front_of fs q) (front_of old.progress.settled q)) kept (subst (λ fs. IsGrown old.flow q (front_of progress.kept q) (front_of fs q)) settled c));
+          (subst (λ fs. HasGrownBy old.flow q (front_of fs q) (front_of old.progress.settled q)) kept (subst (λ fs. HasGrownBy old.flow q (front_of progress.kept q) (front_of fs q)) settled c));
       outputs = λ o c. s.ready.outputs o
-          (subst (λ fs. IsAcknowledgeable old.flow o (is_down old o) old.epochs (output_of old o) (front_of fs o)) settled c);
+          (subst (λ fs. CanAcknowledgeBy old.flow o (is_down old o) old.epochs (output_of old o) (front_of fs o)) settled c);
       inputs = s.ready.inputs;
     })
 

@@ -19,7 +19,7 @@ use Rattle.fw_running.specs.declared.running.Running.{Running}
 use Rattle.fw_running.specs.BroughtUp.{ChangesProgress, KeepsGrowing, AreNoted, IsBroughtUp}
 use Rattle.fw_running.specs.Kept.{is_down, output_of}
 use Rattle.fw_running.specs.Places.{IsPut}
-use Rattle.fw_running.specs.Ready.{HasGrown, IsAcknowledgeable, IsNotifiable}
+use Rattle.fw_running.specs.Ready.{HasGrown, CanAcknowledgeBy, IsOwingBy}
 use Rattle.fw_running.specs.ReadyState.{ReadyState}
 use Rattle.fw_running.specs.Shaped.{IsShaped}
 use Rattle.fw_running.specs.Stands.{Stands}
@@ -117,9 +117,9 @@ brought_up_shaped old new s up =
     (up.progress, up.fresh.ready) (traces-fit old s)
     (record {
       edges = s.ready.edges;
-      owing = λ p c. s.ready.owing p (subst (λ counts. IsNotifiable old.flow p (is_down old p) (owed_of counts p)) up.fresh.counts c);
+      owing = λ p c. s.ready.owing p (subst (λ counts. IsOwingBy old.flow p (is_down old p) (owed_of counts p)) up.fresh.counts c);
       growing = λ p c. up.growing s.ready.growing p (subst (λ (r : Running). HasGrown r p) (sym up.others) c);
       outputs = λ o c. s.ready.outputs o
-          (subst (λ fs. IsAcknowledgeable old.flow o (is_down old o) old.epochs (output_of old o) (front_of fs o)) up.fresh.settled c);
+          (subst (λ fs. CanAcknowledgeBy old.flow o (is_down old o) old.epochs (output_of old o) (front_of fs o)) up.fresh.settled c);
       inputs = s.ready.inputs;
     }))

@@ -15,33 +15,33 @@ use Rattle.fw_running.specs.declared.running.Running.{Running}
 use Rattle.fw_running.specs.Kept.{queue_at, source_of, output_of, is_down}
 
 -- these messages are pending on edge e, some at least, and its receiver is not failed
-pub record IsDeliverable (flow : Dataflow) (e : ℕ) (down : Bool) (pending : List Message) : Type 0 where
+pub record CanDeliverBy (flow : Dataflow) (e : ℕ) (down : Bool) (pending : List Message) : Type 0 where
   pub there : e < length flow.edges
   pub live : down ≡ false
   pub some : pending ≢ []
 
 -- something is pending on edge e, and its receiver is not failed
 abbrev pub CanDeliver : Running → ℕ → Type 0
-CanDeliver running e = IsDeliverable running.flow e (is_down running (receiver running.flow e)) (queue_at running e)
+CanDeliver running e = CanDeliverBy running.flow e (is_down running (receiver running.flow e)) (queue_at running e)
 
 -- node p is owed a notification at these stamps, one at least, and is not failed
-pub record IsNotifiable (flow : Dataflow) (p : ℕ) (down : Bool) (owed : List (Stamp × ℕ)) : Type 0 where
+pub record IsOwingBy (flow : Dataflow) (p : ℕ) (down : Bool) (owed : List (Stamp × ℕ)) : Type 0 where
   pub there : p < length flow.nodes
   pub live : down ≡ false
   pub some : owed ≢ []
 
 -- node p is owed a notification, and is not failed
 abbrev pub IsOwing : Running → ℕ → Type 0
-IsOwing running p = IsNotifiable running.flow p (is_down running p) (owed_of running.progress.counts p)
+IsOwing running p = IsOwingBy running.flow p (is_down running p) (owed_of running.progress.counts p)
 
 -- at node p one frontier has more than another one
-pub record IsGrown (flow : Dataflow) (p : ℕ) (kept settled : Front) : Type 0 where
+pub record HasGrownBy (flow : Dataflow) (p : ℕ) (kept settled : Front) : Type 0 where
   pub there : p < length flow.nodes
   pub more : has_more kept settled ≡ true
 
 -- more is kept as complete at node p than is settled
 abbrev pub HasGrown : Running → ℕ → Type 0
-HasGrown running p = IsGrown running.flow p (front_of running.progress.kept p) (front_of running.progress.settled p)
+HasGrown running p = HasGrownBy running.flow p (front_of running.progress.kept p) (front_of running.progress.settled p)
 
 -- an output has something to acknowledge at x: a rec at the number; or a batch of the epoch, or a rec at it or a later one
 abbrev pub HasSomething : ℕ → OutputState → Kind → ℕ → Type 0
@@ -49,7 +49,7 @@ HasSomething epochs output OutputNumber x = recs_at output.recs x ≢ []
 HasSomething epochs output kind x = (x < epochs) ⊎ (output.recs ≢ [])
 
 -- output o, of which this is kept and up to which front it is settled, is not failed and may acknowledge its next stamp
-pub record IsAcknowledgeable (flow : Dataflow) (o : ℕ) (down : Bool) (epochs : ℕ) (kept : OutputState) (front : Front) : Type 0 where
+pub record CanAcknowledgeBy (flow : Dataflow) (o : ℕ) (down : Bool) (epochs : ℕ) (kept : OutputState) (front : Front) : Type 0 where
   pub there : o < length flow.nodes
   pub live : down ≡ false
   pub output : is_output_kind (kind_of flow o) ≡ true
@@ -60,10 +60,10 @@ pub record IsAcknowledgeable (flow : Dataflow) (o : ℕ) (down : Bool) (epochs :
 -- output o is not failed and may acknowledge its next stamp
 abbrev pub CanAcknowledge : Running → ℕ → Type 0
 CanAcknowledge running o =
-    IsAcknowledgeable running.flow o (is_down running o) running.epochs (output_of running o) (front_of running.progress.settled o)
+    CanAcknowledgeBy running.flow o (is_down running o) running.epochs (output_of running o) (front_of running.progress.settled o)
 
 -- node s is an input, of which this is kept, that is not failed and has a batch to inject
-pub record IsInjectable (flow : Dataflow) (s : ℕ) (down : Bool) (kept : SourceState) : Type 0 where
+pub record CanInjectBy (flow : Dataflow) (s : ℕ) (down : Bool) (kept : SourceState) : Type 0 where
   pub there : s < length flow.nodes
   pub live : down ≡ false
   pub input : is_input_kind (kind_of flow s) ≡ true
@@ -71,4 +71,4 @@ pub record IsInjectable (flow : Dataflow) (s : ℕ) (down : Bool) (kept : Source
 
 -- node s is an input that is not failed and has a batch to inject
 abbrev pub CanInject : Running → ℕ → Type 0
-CanInject running s = IsInjectable running.flow s (is_down running s) (source_of running s)
+CanInject running s = CanInjectBy running.flow s (is_down running s) (source_of running s)

@@ -26,7 +26,7 @@ use Rattle.fw_running.specs.declared.running.Running.{Running}
 use Rattle.fw_running.specs.Kept.{is_down, output_of}
 use Rattle.fw_running.specs.Logging.{ChangesKeep, IsAsked, IsNotAsked}
 use Rattle.fw_running.specs.Places.{IsPut, IsTakenOut}
-use Rattle.fw_running.specs.Ready.{IsAcknowledgeable, IsGrown}
+use Rattle.fw_running.specs.Ready.{CanAcknowledgeBy, HasGrownBy}
 use Rattle.fw_running.specs.ReadyState.{ReadyState}
 use Rattle.fw_running.specs.Shaped.{IsShaped, IsWrittenOf}
 use Rattle.fw_running.proofs.KeptShapes.{logs-fit, progress-fits, queues-fit, shaped-changed, shaped-keep as keep-shaped, shaped-standing, traces-fit}
@@ -96,12 +96,12 @@ shaped-settled old settled outputs p f s e of_flow there none put =
         | inl same ↦
             absurd (both_ways (has_more (front_of old.progress.kept p) f) none
             (ap (has_more (front_of old.progress.kept p)) (sym here) ∙ subst (λ n. has_more (front_of old.progress.kept n) (front_of settled n) ≡ true) same c.more))
-        | inr n ↦ s.ready.growing q (subst (λ g. IsGrown old.flow q (front_of old.progress.kept q) g) (other q n) c)
+        | inr n ↦ s.ready.growing q (subst (λ g. HasGrownBy old.flow q (front_of old.progress.kept q) g) (other q n) c)
       ];
       outputs = λ o c. elim (cases_eq o p) [
         | inl same ↦ subst (Contains outputs) (sym same) put.there
         | inr n ↦ put.stays o (s.ready.outputs o
-            (subst (λ g. IsAcknowledgeable old.flow o (is_down old o) old.epochs (output_of old o) g) (other o n) c))
+            (subst (λ g. CanAcknowledgeBy old.flow o (is_down old o) old.epochs (output_of old o) g) (other o n) c))
       ];
       inputs = s.ready.inputs;
     })

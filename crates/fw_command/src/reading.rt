@@ -108,7 +108,8 @@ pub fn read_fed<F: Folder>(
     Ok(Fed { flow, batches })
 }
 
-/// Generates the three texts of a seed and a size, and reads them. The error is want of memory.
+/// Generates the three texts of a seed and a size, and reads them. Of a size up to the greatest none is refused, and the error
+/// is want of memory.
 pub fn read_generated(alloc: Global, words: GenerateWords) -> Result<Job, JobFault>
     ensures job { IfOk result (IsGenerated (seeded_in words)) }
     ensures ready { IfOk result (λ job. IsReady (system_of job.flow job.batches) job.items) }

@@ -43,6 +43,7 @@ use Rattle.fw_monitor.specs.Chosen.{IsChoiceOf}
 use Rattle.fw_monitor.specs.Descent.{IsCanonicalCut}
 use Rattle.fw_progress.specs.declared.traces.Traces.{Traces}
 use Rattle.fw_progress.specs.Trace.{HaveLists, AreSettledTo}
+use Rattle.fw_progress.proofs.CutTraceLaws.{thinned-traces}
 use Rattle.fw_rollback.specs.declared.parts.Parts.{Parts}
 use Rattle.fw_rollback.specs.Edges.{IsOnEdge, on_edge, nothing_there}
 use Rattle.fw_stands.specs.LawsOfCollecting.{collected_state}
@@ -133,7 +134,7 @@ raised_more flow n p low front old between new at is a r = elim (cases_Bool (tak
       }
   | inr f ↦
       let settled : AreSettledTo flow n (front_of low n) between new =
-      subst (λ q. AreSettledTo flow q (front_of low q) between new) at (subst (λ g. AreSettledTo flow p g between new) is (r.settled (ap (λ q. takes_checkpoints (policy_of flow q)) at ∙ f))) in
+      subst (λ q. AreSettledTo flow q (front_of low q) between new) at (subst (λ g. AreSettledTo flow p g between new) is (thinned-traces flow p front between new (r.settled (ap (λ q. takes_checkpoints (policy_of flow q)) at ∙ f)))) in
       record {
         lists = r.lists;
         live = r.live;

@@ -10,7 +10,7 @@ use Rattle.fw_flow.specs.Dataflow.{Dataflow, policy_of}
 use Rattle.fw_frontier.specs.Front.{Front}
 use Rattle.fw_model.specs.Writes.{takes_checkpoints}
 use Rattle.fw_progress.specs.declared.traces.Traces.{Traces}
-use Rattle.fw_progress.specs.Trace.{HaveLists, AreSettledTo}
+use Rattle.fw_progress.specs.Trace.{HaveLists, AreThinnedAt}
 use Rattle.fw_rollback.specs.declared.parts.Parts.{Parts}
 use Rattle.fw_rollback.specs.Edges.{on_edge}
 use Rattle.fw_stands.specs.LawsOfSettling.{AreSettledAt}
@@ -33,11 +33,12 @@ pub record AreGivenUp (drops : Drops) (old new : Parts) : Type 0 where
 abbrev pub has_low_base : Dataflow → ℕ → ℕ → Bool
 has_low_base flow count p = nat_lt p count && not (takes_checkpoints (policy_of flow p))
 
--- The traces of node p, where its base is the low watermark, are settled to the front; else they are as they were.
+-- The traces of node p, where its base is the low watermark, are thinned inside the front, and what it sent there is counted in
+-- all; else they are as they were.
 pub record IsRaised (flow : Dataflow) (p : ℕ) (low : Front) (old new : Traces) : Type 0 where
   pub lists : HaveLists flow new
   pub live : new.refused ≡ false
-  pub settled : takes_checkpoints (policy_of flow p) ≡ false → AreSettledTo flow p low old new
+  pub settled : takes_checkpoints (policy_of flow p) ≡ false → AreThinnedAt flow p low old new
   pub stays : takes_checkpoints (policy_of flow p) ≡ true → new ≡ old
 
 -- The traces of the nodes whose base is the low watermark, among so many, are settled to these fronts.

@@ -11,6 +11,7 @@ use Rattle.fw_model.specs.Writes.{takes_checkpoints}
 use Rattle.fw_progress.specs.declared.traces.Traces.{Traces}
 use Rattle.fw_progress.specs.Settle.{has_more, IsGrownAt, AreGrownBefore}
 use Rattle.fw_progress.specs.Trace.{AreSettledTo, IsTraceOf, IsTraceWithin}
+use Rattle.fw_progress.proofs.CutTraceLaws.{thinned-traces}
 use Rattle.fw_progress.proofs.SettleLaws.{none_settled-first, others-settle_nothing, one_more-settles}
 use Rattle.fw_stands.specs.LawsOfSettling.{AreSettledAt}
 use Rattle.fw_stands.proofs.SettlingLaws.{none-settled_yet, one_more-settled, same_nodes-settled}
@@ -187,7 +188,8 @@ settled-one old mid new p f h c there live grown s same =
             (one-test old p (and_from (grows old p) (takes_checkpoints (policy_of flow p)) is takes)) new.progress.settled old.traces new.traces
             (one_more-settled flow (settles_traces old p) new.progress.settled old.traces mid.traces new.traces traces_before p (own-test old p)
             (subst (λ x. AreSettledTo flow p x mid.traces new.traces) (sym here)
-            (subst (λ w. AreSettledTo w p f mid.traces new.traces) same (s.traces.takes (ap (λ w. takes_checkpoints (policy_of w p)) same ∙ takes)))))
+            (subst (λ w. AreSettledTo w p f mid.traces new.traces) same
+            (thinned-traces mid.flow p f mid.traces new.traces (s.traces.takes (ap (λ w. takes_checkpoints (policy_of w p)) same ∙ takes))))))
         | inr isnt ↦
             same_nodes-settled flow (settles_traces old p) (settles_traces old (p + 1))
             (later-test old p (ap (λ b. grows old p && b) isnt ∙ and-no (grows old p))) new.progress.settled old.traces new.traces

@@ -13,7 +13,7 @@ use Rattle.fw_keep.specs.Catalogue.{AreInFlight}
 use Rattle.fw_keep.specs.Stored.{Records, KeepsBytes}
 use Rattle.fw_progress.specs.declared.traces.Traces.{Traces}
 use Rattle.fw_progress.specs.Settle.{is_growing, has_more, IsGrownAt, NoneGrows, AreGrownBefore}
-use Rattle.fw_progress.specs.Trace.{AreSettledTo}
+use Rattle.fw_progress.specs.Trace.{AreThinnedAt}
 use Rattle.fw_stands.specs.LawsOfSettling.{IsSettledTable, AreSettledAt}
 use Rattle.fw_stands.specs.Written.{uncollected, AreEntriesOf, AreStored}
 use Rattle.fw_running.specs.declared.running.Running.{Running}
@@ -132,9 +132,9 @@ pub record SettlesTable (p : ℕ) (f : Front) (old new : Running) : Type 0 where
   pub here : IsTableSettled old.flow p f (table_of old p) (table_of new p)
   pub others : (q : ℕ) → q ≢ p → table_of new q ≡ table_of old q
 
--- The traces of node p, if it takes checkpoints, are settled to a front.
+-- The traces of node p, if it takes checkpoints, are thinned inside a front, and what it sent there is counted in all.
 pub record SettlesTraces (p : ℕ) (f : Front) (flow : Dataflow) (old new : Traces) : Type 0 where
-  pub takes : takes_checkpoints (policy_of flow p) ≡ true → AreSettledTo flow p f old new
+  pub takes : takes_checkpoints (policy_of flow p) ≡ true → AreThinnedAt flow p f old new
   pub other : takes_checkpoints (policy_of flow p) ≡ false → new ≡ old
 
 -- Node p settles this front: its table and its traces are settled to it.

@@ -203,15 +203,6 @@ fn copied(coords: &[u32]) -> ArrayVec<u32, 4>
         one.truncate(1);
         return one;
     }
-    copied_each(coords)
-}
-
-// The same, one coordinate after the other: apart, so that what copies a stamp of one coordinate stays small.
-#[inline(never)]
-fn copied_each(coords: &[u32]) -> ArrayVec<u32, 4>
-    requires { length coords.now ≤ 4 }
-    ensures { result.items ≡ coords.now }
-{
     let mut all = ArrayVec::new();
     for coord in coords {
         all.push(*coord);

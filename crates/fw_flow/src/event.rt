@@ -56,12 +56,6 @@ fn copied(stamps: &[Stamp]) -> ArrayVec<Stamp, 2>
     requires { length stamps.now ≤ 2 }
     ensures { result.items ≡ stamps.now }
 {
-    // Most messages have one cause.
-    if let [only] = stamps {
-        let mut one = ArrayVec::from([only.copy(), Stamp::default()]);
-        one.truncate(1);
-        return one;
-    }
     let mut copy = ArrayVec::new();
     for stamp in stamps {
         copy.push(stamp.copy());

@@ -197,13 +197,12 @@ fn copied(coords: &[u32]) -> ArrayVec<u32, 4>
     requires { length coords.now ≤ 4 }
     ensures { result.items ≡ coords.now }
 {
+    let mut all = ArrayVec::new();
     // Most stamps are of one coordinate, for which a loop costs more than the coordinate.
     if let [only] = coords {
-        let mut one = ArrayVec::from([*only, 0, 0, 0]);
-        one.truncate(1);
-        return one;
+        all.push(*only);
+        return all;
     }
-    let mut all = ArrayVec::new();
     for coord in coords {
         all.push(*coord);
     }

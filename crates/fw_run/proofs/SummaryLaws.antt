@@ -86,11 +86,11 @@ summary_cut T Tells sys items seeded engine records tally f first last before af
 -- ---- a run that stops
 
 -- what was put may be told otherwise
-pub store_put : (Tells : Type 0) (sys : System) (items : List Item) (records : Option Records) (P Q : List ℕ → Type 0) → ((printed : List ℕ) → Q printed)
+pub put_by_store : {Tells : Type 0} {sys : System} {items : List Item} {records : Option Records} {P Q : List ℕ → Type 0} → ((printed : List ℕ) → P printed → Q printed)
     → IsStoppedByStore Tells sys items records P → IsStoppedByStore Tells sys items records Q
-store_put Tells sys items records P Q put s = record {
+put_by_store f s = record {
   printed = s.printed;
-  written = put s.printed;
+  written = f s.printed s.written;
   earlier = s.earlier;
   item = s.item;
   later = s.later;
@@ -100,11 +100,11 @@ store_put Tells sys items records P Q put s = record {
   stops = s.stops;
 }
 
-pub damage_put : (Tells : Type 0) (sys : System) (items : List Item) (id : ℕ) (given : Option (ℕ × List ℕ)) (P Q : List ℕ → Type 0) → ((printed : List ℕ) → Q printed)
+pub put_at_damage : {Tells : Type 0} {sys : System} {items : List Item} {id : ℕ} {given : Option (ℕ × List ℕ)} {P Q : List ℕ → Type 0} → ((printed : List ℕ) → P printed → Q printed)
     → IsStoppedByDamage Tells sys items id given P → IsStoppedByDamage Tells sys items id given Q
-damage_put Tells sys items id given P Q put s = record {
+put_at_damage f s = record {
   printed = s.printed;
-  written = put s.printed;
+  written = f s.printed s.written;
   earlier = s.earlier;
   later = s.later;
   parts = s.parts;
@@ -117,3 +117,12 @@ damage_put Tells sys items id given P Q put s = record {
   first = s.first;
   stops = s.stops;
 }
+
+-- also where nothing is asked of it
+pub store_put : (Tells : Type 0) (sys : System) (items : List Item) (records : Option Records) (P Q : List ℕ → Type 0) → ((printed : List ℕ) → Q printed)
+    → IsStoppedByStore Tells sys items records P → IsStoppedByStore Tells sys items records Q
+store_put Tells sys items records P Q put s = put_by_store (λ printed written. put printed) s
+
+pub damage_put : (Tells : Type 0) (sys : System) (items : List Item) (id : ℕ) (given : Option (ℕ × List ℕ)) (P Q : List ℕ → Type 0) → ((printed : List ℕ) → Q printed)
+    → IsStoppedByDamage Tells sys items id given P → IsStoppedByDamage Tells sys items id given Q
+damage_put Tells sys items id given P Q put s = put_at_damage (λ printed written. put printed) s

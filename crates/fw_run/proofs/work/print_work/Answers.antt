@@ -8,9 +8,9 @@ use Rattle.fw_keep.specs.Stored.{Records}
 use Rattle.fw_run.specs.declared.fault.RunFault.{RunFault}
 use Rattle.fw_run.specs.Enduring.{PrintsEndured, IsEndured}
 use Rattle.fw_run.specs.Performing.{WritesUntil}
-use Rattle.fw_run.specs.Stopping.{IsStoppedByStore, IsStoppedByDamage}
 use Rattle.fw_command.specs.Writing.{WritesText}
 use Rattle.fw_run.proofs.FaultCounts.{none_after, some_after, rises_after}
+use Rattle.fw_run.proofs.SummaryLaws.{put_at_damage, put_by_store}
 use Rattle.fw_run.proofs.work.print_work.Goals as goal
 
 -- what is true is so whatever the answer
@@ -32,39 +32,6 @@ printed_whole Tells sys items records first last (Ok value) e = record {
   written = e.written;
 }
 printed_whole Tells sys items records first last (Err fault) e = tt
-
--- where nothing was written, the view of the sink is what it was
-put_by_store : {Tells : Type 0} {sys : System} {items : List Item} {records : Option Records} {P Q : List ℕ → Type 0} → ((printed : List ℕ) → P printed → Q printed)
-    → IsStoppedByStore Tells sys items records P → IsStoppedByStore Tells sys items records Q
-put_by_store f s = record {
-  printed = s.printed;
-  written = f s.printed s.written;
-  earlier = s.earlier;
-  item = s.item;
-  later = s.later;
-  parts = s.parts;
-  may_call = s.may_call;
-  first = s.first;
-  stops = s.stops;
-}
-
-put_at_damage : {Tells : Type 0} {sys : System} {items : List Item} {id : ℕ} {given : Option (ℕ × List ℕ)} {P Q : List ℕ → Type 0} → ((printed : List ℕ) → P printed → Q printed)
-    → IsStoppedByDamage Tells sys items id given P → IsStoppedByDamage Tells sys items id given Q
-put_at_damage f s = record {
-  printed = s.printed;
-  written = f s.printed s.written;
-  earlier = s.earlier;
-  later = s.later;
-  parts = s.parts;
-  untold = s.untold;
-  entry = s.entry;
-  named = s.named;
-  bytes = s.bytes;
-  gave = s.gave;
-  spells_none = s.spells_none;
-  first = s.first;
-  stops = s.stops;
-}
 
 pub returns-in-Run-clause-printed : goal.returns-in-Run-clause-printed
 returns-in-Run-clause-printed g c = rw c.in-Run.is (on_ok _ c.perform.result c.perform.ensures.printed)

@@ -62,8 +62,7 @@ impl Engine {
         front_at(self.running.parts.low.as_slice(), node)
     }
 
-    /// What is pending on an edge: an empty queue while its receiver is failed, which gets it again in a recovery; none past the
-    /// last edge.
+    /// What is pending on an edge; an empty queue while its receiver is failed; none past the last edge.
     pub fn pending(&self, edge: EdgeId) -> Option<&Queue>
         ensures messages { (records : Option Records)
             → ForEachState self.now records (λ sys state. IfSome (option_copied result) (λ queue. queue.messages ≡ queued sys state edge)) }

@@ -53,7 +53,10 @@ list-stable : (a b : List ℕ) → IsStable (a ≡ b)
 list-stable a b t = ∥∥₁_elim t (Prim.hlevel props) (λ e. e)
 
 bounds-stable : (a b : Bounds) → IsStable (a ≡ b)
-bounds-stable a b t = ap (λ (g : Stamp). record { greatest = g }) (list-stable a.greatest b.greatest (∥∥₁_map t (ap (λ (x : Bounds). x.greatest))))
+bounds-stable a b t =
+    let g : a.greatest ≡ b.greatest = list-stable a.greatest b.greatest (∥∥₁_map t (ap (λ (x : Bounds). x.greatest))) in
+    let s : a.sides ≡ b.sides = bool-stable a.sides b.sides (∥∥₁_map t (ap (λ (x : Bounds). x.sides))) in
+    λ i. record { greatest = g i; sides = s i }
 
 -- ---- lists
 

@@ -221,7 +221,7 @@ not_above bounds f isf o d out t h = not_from_false _ (false_from_ne_true _ (λ 
 -- a test behind a domain of two coordinates holds where another does, if so at its stamps
 pub within_two : (m n : ℕ) (f g : Stamp → Bool)
     → ((x y : ℕ) → x ≤ m → y ≤ n → f (x ∷ y ∷ []) ≡ true → g (x ∷ y ∷ []) ≡ true)
-    → Within (λ t. in_domain (record { greatest = m ∷ n ∷ [] }) t && f t) (λ t. in_domain (record { greatest = m ∷ n ∷ [] }) t && g t)
+    → Within (λ t. in_domain (record { greatest = m ∷ n ∷ []; sides = false }) t && f t) (λ t. in_domain (record { greatest = m ∷ n ∷ []; sides = false }) t && g t)
 within_two m n f g h [] k = cc
 within_two m n f g h (x ∷ []) k = grind (arith, nat_tests)
 within_two m n f g h (x ∷ y ∷ []) k = grind (arith, nat_tests, h x y)
@@ -230,7 +230,7 @@ within_two m n f g h (x ∷ y ∷ z ∷ t) k = grind (arith, nat_tests)
 -- the same for one coordinate
 pub within_one : (m : ℕ) (f g : Stamp → Bool)
     → ((x : ℕ) → x ≤ m → f (x ∷ []) ≡ true → g (x ∷ []) ≡ true)
-    → Within (λ t. in_domain (record { greatest = m ∷ [] }) t && f t) (λ t. in_domain (record { greatest = m ∷ [] }) t && g t)
+    → Within (λ t. in_domain (record { greatest = m ∷ []; sides = false }) t && f t) (λ t. in_domain (record { greatest = m ∷ []; sides = false }) t && g t)
 within_one m f g h [] k = cc
 within_one m f g h (x ∷ []) k = grind (arith, nat_tests, h x)
 within_one m f g h (x ∷ y ∷ t) k = grind (arith, nat_tests)
@@ -238,7 +238,7 @@ within_one m f g h (x ∷ y ∷ t) k = grind (arith, nat_tests)
 -- and for three
 pub within_three : (m n k : ℕ) (f g : Stamp → Bool)
     → ((x y z : ℕ) → x ≤ m → y ≤ n → z ≤ k → f (x ∷ y ∷ z ∷ []) ≡ true → g (x ∷ y ∷ z ∷ []) ≡ true)
-    → Within (λ t. in_domain (record { greatest = m ∷ n ∷ k ∷ [] }) t && f t) (λ t. in_domain (record { greatest = m ∷ n ∷ k ∷ [] }) t && g t)
+    → Within (λ t. in_domain (record { greatest = m ∷ n ∷ k ∷ []; sides = false }) t && f t) (λ t. in_domain (record { greatest = m ∷ n ∷ k ∷ []; sides = false }) t && g t)
 within_three m n k f g h [] l = cc
 within_three m n k f g h (x ∷ []) l = grind (arith, nat_tests)
 within_three m n k f g h (x ∷ y ∷ []) l = grind (arith, nat_tests)

@@ -27,21 +27,21 @@ use Rattle.fw_examples.proofs.Witnesses.{less_is_consistent, something_is_chosen
 -- ---- covers of epoch 1
 
 -- the epochs below 2 are what epoch 1 covers
-two_by_one : (n : ℕ) (t : Stamp) → frontier_of (record { greatest = n ∷ [] }) (until 2) t ≡ cover (record { greatest = n ∷ [] }) ((1 ∷ []) ∷ []) t
+two_by_one : (n : ℕ) (t : Stamp) → frontier_of (record { greatest = n ∷ []; sides = false }) (until 2) t ≡ cover (record { greatest = n ∷ []; sides = false }) ((1 ∷ []) ∷ []) t
 two_by_one n [] = refl
 two_by_one n (x ∷ y ∷ t) = grind (arith, nat_tests)
 two_by_one n (zero ∷ []) = refl
 two_by_one n (suc zero ∷ []) = refl
 two_by_one n (suc (suc x) ∷ []) = grind (arith, nat_tests)
 
-pub two_is_cover : (n : ℕ) → frontier_of (record { greatest = n ∷ [] }) (until 2) ≡ cover (record { greatest = n ∷ [] }) ((1 ∷ []) ∷ [])
+pub two_is_cover : (n : ℕ) → frontier_of (record { greatest = n ∷ []; sides = false }) (until 2) ≡ cover (record { greatest = n ∷ []; sides = false }) ((1 ∷ []) ∷ [])
 two_is_cover n = λ i t. two_by_one n t i
 
 -- ---- the cuts that are offered
 
 -- the domain of each node
 abbrev epochs : Bounds
-epochs = record { greatest = greatest_number ∷ [] }
+epochs = record { greatest = greatest_number ∷ []; sides = false }
 
 -- the epochs below 2 lie within those below k, unless k is less
 holds_two : (f : Front) (k : ℕ) → 2 ≤ k → until k ≡ f → Within (frontier_of epochs (until 2)) (frontier_of epochs f)

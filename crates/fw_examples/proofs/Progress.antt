@@ -15,7 +15,7 @@ use Rattle.fw_examples.specs.Witnesses.{complete_then, complete_two}
 use Rattle.fw_examples.proofs.Settling.{from_phi}
 use Rattle.fw_examples.proofs.Witnesses.{more_is_complete, totals_are_well_formed, two_epochs_are_complete}
 
-below_two : (n : ℕ) (t : Stamp) → in_domain (record { greatest = n ∷ [] }) t ≡ true → nat_lt (first_coordinate t) 2 ≡ true → inside ((2 ∷ []) ∷ []) t ≡ true
+below_two : (n : ℕ) (t : Stamp) → in_domain (record { greatest = n ∷ []; sides = false }) t ≡ true → nat_lt (first_coordinate t) 2 ≡ true → inside ((2 ∷ []) ∷ []) t ≡ true
 below_two n [] d k = refl
 below_two n (x ∷ []) d k = grind (arith, nat_tests)
 below_two n (x ∷ y ∷ t) d k = absurd (false≢true (and_parts _ false d).1)

@@ -187,12 +187,12 @@ quiet_where sys h p test a t k e r = elim (cases_lt e (length sys.flow.edges)) [
 abbrev pub is_injected : System → List Event → ℕ → Front → Bool
 is_injected sys h s os = not (is_input_kind (kind_of sys.flow s)) || (is_exhausted sys h s || list_any (λ o. leq o (injected_count s h ∷ [])) os)
 
-input-bounds : (flow : Dataflow) (p : ℕ) → is_input_kind (kind_of flow p) ≡ true → bounds_of flow p ≡ record { greatest = greatest_number ∷ [] }
+input-bounds : (flow : Dataflow) (p : ℕ) → is_input_kind (kind_of flow p) ≡ true → bounds_of flow p ≡ record { greatest = greatest_number ∷ []; sides = false }
 unfolding bounds_of
 input-bounds flow p k = ap (λ kind. bounds_of_domain flow (domain_of_kind flow kind)) (input-is (kind_of flow p) k)
 
 -- an epoch that is not at or past a number is below it
-below_number : (n k : ℕ) (t : Stamp) → in_domain (record { greatest = n ∷ [] }) t ≡ true → leq (k ∷ []) t ≡ false → nat_lt (first_coordinate t) k ≡ true
+below_number : (n k : ℕ) (t : Stamp) → in_domain (record { greatest = n ∷ []; sides = false }) t ≡ true → leq (k ∷ []) t ≡ false → nat_lt (first_coordinate t) k ≡ true
 below_number n k [] d l = absurd (false≢true d)
 below_number n k (x ∷ []) d l = grind (arith, nat_tests)
 below_number n k (x ∷ y ∷ t) d l = absurd (false≢true (and_parts (leb x n) false d).1)

@@ -235,7 +235,7 @@ union_of_both = record {
 }
   where
     epochs : Bounds
-    epochs = record { greatest = greatest_number ∷ [] }
+    epochs = record { greatest = greatest_number ∷ []; sides = false }
 
     two : IsFrontOf epochs (until 2) (join (frontier_of epochs (until 2)) (frontier_of epochs (until 1)))
     two = record { canonical = canonical_by epochs (until 2) refl; same = join_other _ _ (lies epochs (until 1) (until 2) refl) }

@@ -31,7 +31,7 @@ use Rattle.fw_flow.specs.declared.trail.Part.TheVariants as part
 
 -- the domain of each node
 abbrev epochs : Bounds
-epochs = record { greatest = greatest_number ∷ [] }
+epochs = record { greatest = greatest_number ∷ []; sides = false }
 
 -- ---- the choices on the way
 

@@ -249,8 +249,8 @@ pub less_is_consistent : LessIsConsistent
 less_is_consistent = record { consistent = noting_less (is_failed output_failed); other = λ e. let last : until 0 ≡ until 2 = ap (λ (choice : Choice). front_of choice.notices 2) e in cc }
 
 same_stamps : (m n : ℕ) (t : Stamp)
-    → frontier_of (record { greatest = m ∷ n ∷ [] }) both_rounds t
-    ≡ join (frontier_of (record { greatest = m ∷ n ∷ [] }) counted_rounds) (frontier_of (record { greatest = m ∷ n ∷ [] }) first_rounds) t
+    → frontier_of (record { greatest = m ∷ n ∷ []; sides = false }) both_rounds t
+    ≡ join (frontier_of (record { greatest = m ∷ n ∷ []; sides = false }) counted_rounds) (frontier_of (record { greatest = m ∷ n ∷ []; sides = false }) first_rounds) t
 same_stamps m n [] = refl
 same_stamps m n (x ∷ []) = grind (arith, nat_tests)
 same_stamps m n (x ∷ y ∷ []) = grind (arith, nat_tests)

@@ -13,6 +13,7 @@ use Rattle.fw_time.specs.Sending.{entered_stamp, fed_back_stamp}
 use Rattle.std.proofs.Math.Nat.{min-le_left, min-le_right, div-add-mod', mod-lt, le-div_iff_mul-le, div-lt_iff_lt-mul, div-le_self, mul-le-mul_right}
 use Rattle.fw_time.specs.NestLaws.{length-nest, dimension-outer}
 use Rattle.fw_time.proofs.StampLaws.{leq-refl, leq-length, leq-nest, origin-leq, counter-nest, nest-outer}
+use Rattle.fw_time.proofs.DomainLaws.{domain-leq, domain-length, plain-in_domain}
 use Rattle.fw_time.proofs.EachLaws.{each-append}
 use Rattle.fw_time.proofs.StampSteps.{length-origin}
 use Rattle.fw_frontier.specs.Frontier.{Frontier}
@@ -183,6 +184,10 @@ met-outer_of_first b m o u h k =
     by true d = grind (arith, nat_tests)
     by false d = grind (arith, nat_tests)
 
+-- in a domain without sides
+in-plain : (b : Bounds) (s : Stamp) → b.sides ≡ false → leq s b.greatest ≡ true → in_domain b s ≡ true
+in-plain b s p h = plain-in_domain b s p ∙ h
+
 -- ---- what is inside the images of each way, seen in the domain to which they go
 
 -- the images are the domain's, and have inside what passes the test
@@ -197,98 +202,98 @@ in-frontier b os v h = sym (ap (λ c. c && inside os v) h)
 abbrev AreIn : Bounds → Front → Type 0
 AreIn b os = AllByRecursion (λ o. in_domain b o ≡ true) os
 
-pub first-moved : (s r : Bounds) (m : ℕ) (os : Front) → r.greatest ≡ nest s.greatest m → AreIn s os → IsMoved First os r (λ u. frontier_of s os (outer u))
-first-moved s r m os e h = record {
+pub first-moved : (s r : Bounds) (m : ℕ) (os : Front) → s.sides ≡ false → r.sides ≡ false → r.greatest ≡ nest s.greatest m → AreIn s os → IsMoved First os r (λ u. frontier_of s os (outer u))
+first-moved s r m os p q e h = record {
   images_in = each-image First os (λ o. in_domain s o ≡ true) (λ w. in_domain r w ≡ true)
-      (λ o w d f. ap (in_domain r) (sym (some-is (nest o 0) w f)) ∙ ap (leq (nest o 0)) e ∙ nest-in s.greatest m o 0 d (omega arith)) h;
+      (λ o w d f. ap (in_domain r) (sym (some-is (nest o 0) w f)) ∙ in-plain r (nest o 0) q (ap (leq (nest o 0)) e ∙ nest-in s.greatest m o 0 (domain-leq s o d) (omega arith))) h;
   same = λ u i.
-      let k : leq u (nest s.greatest m) ≡ true = sym (ap (leq u) e) ∙ i in
-      inside-images First os (λ o. in_domain s o ≡ true) u (outer u) false (λ o d. met-first s.greatest m o u d k) h
-      ∙ in-frontier s os (outer u) (of_loop s.greatest m u k).outside;
+      let k : leq u (nest s.greatest m) ≡ true = sym (ap (leq u) e) ∙ domain-leq r u i in
+      inside-images First os (λ o. in_domain s o ≡ true) u (outer u) false (λ o d. met-first s.greatest m o u (domain-leq s o d) k) h
+      ∙ in-frontier s os (outer u) (in-plain s (outer u) p (of_loop s.greatest m u k).outside);
 }
 
-pub next-moved : (s r : Bounds) (b : Stamp) (m : ℕ) (os : Front) → s.greatest ≡ nest b m → r.greatest ≡ nest b m → AreIn s os
+pub next-moved : (s r : Bounds) (b : Stamp) (m : ℕ) (os : Front) → s.sides ≡ false → r.sides ≡ false → s.greatest ≡ nest b m → r.greatest ≡ nest b m → AreIn s os
     → IsMoved (Next m) os r (λ u. counter u == 0 || frontier_of s os (nest (outer u) (counter u - 1)))
-next-moved s r b m os e f h = record {
+next-moved s r b m os p q e f h = record {
   images_in = each-image (Next m) os (λ o. in_domain s o ≡ true) (λ w. in_domain r w ≡ true)
       (λ o w d g.
-      let v = of_loop b m o (sym (ap (leq o) e) ∙ d) in
+      let v = of_loop b m o (sym (ap (leq o) e) ∙ domain-leq s o d) in
       let i = cond_some (nat_lt (counter o) m) (nest (outer o) (counter o + 1)) w g in
-      ap (in_domain r) (sym i.1) ∙ ap (leq (nest (outer o) (counter o + 1))) f ∙ nest-in b m (outer o) (counter o + 1) v.outside (let l : counter o < m = ltb-true (counter o) m i.0 in omega arith)) h;
+      ap (in_domain r) (sym i.1) ∙ in-plain r (nest (outer o) (counter o + 1)) q (ap (leq (nest (outer o) (counter o + 1))) f ∙ nest-in b m (outer o) (counter o + 1) v.outside (let l : counter o < m = ltb-true (counter o) m i.0 in omega arith))) h;
   same = λ u i.
-      let k : leq u (nest b m) ≡ true = sym (ap (leq u) f) ∙ i in
+      let k : leq u (nest b m) ≡ true = sym (ap (leq u) f) ∙ domain-leq r u i in
       let w = of_loop b m u k in
       let c = w.counted in
       let v = nest (outer u) (counter u - 1) in
-      let j : in_domain s v ≡ true = ap (leq v) e ∙ nest-in b m (outer u) (counter u - 1) w.outside (omega arith) in
-      inside-images (Next m) os (λ o. in_domain s o ≡ true) u v (counter u == 0) (λ o d. met-next b m o u (sym (ap (leq o) e) ∙ d) k) h
+      let j : in_domain s v ≡ true = in-plain s v p (ap (leq v) e ∙ nest-in b m (outer u) (counter u - 1) w.outside (omega arith)) in
+      inside-images (Next m) os (λ o. in_domain s o ≡ true) u v (counter u == 0) (λ o d. met-next b m o u (sym (ap (leq o) e) ∙ domain-leq s o d) k) h
       ∙ ap (λ x. counter u == 0 || x) (in-frontier s os v j);
 }
 
-pub next_after_first-moved : (s r : Bounds) (b : Stamp) (m : ℕ) (os : Front) → s.greatest ≡ nest b m → r.greatest ≡ nest b m → AreIn s os
+pub next_after_first-moved : (s r : Bounds) (b : Stamp) (m : ℕ) (os : Front) → s.sides ≡ false → r.sides ≡ false → s.greatest ≡ nest b m → r.greatest ≡ nest b m → AreIn s os
     → IsMoved (NextAfterFirst m) os r (λ u. frontier_of s os (nest (outer u) (counter u - 1)))
-next_after_first-moved s r b m os e f h = record {
+next_after_first-moved s r b m os p q e f h = record {
   images_in = each-image (NextAfterFirst m) os (λ o. in_domain s o ≡ true) (λ w. in_domain r w ≡ true)
-      (λ o w d g. stays o w (sym (ap (leq o) e) ∙ d) (counter o == 0) (nat_lt (counter o) m) refl g) h;
+      (λ o w d g. stays o w (sym (ap (leq o) e) ∙ domain-leq s o d) (counter o == 0) (nat_lt (counter o) m) refl g) h;
   same = λ u i.
-      let k : leq u (nest b m) ≡ true = sym (ap (leq u) f) ∙ i in
+      let k : leq u (nest b m) ≡ true = sym (ap (leq u) f) ∙ domain-leq r u i in
       let w = of_loop b m u k in
       let c = w.counted in
       let v = nest (outer u) (counter u - 1) in
-      let j : in_domain s v ≡ true = ap (leq v) e ∙ nest-in b m (outer u) (counter u - 1) w.outside (omega arith) in
-      inside-images (NextAfterFirst m) os (λ o. in_domain s o ≡ true) u v false (λ o d. met-next_after_first b m o u (sym (ap (leq o) e) ∙ d) k) h
+      let j : in_domain s v ≡ true = in-plain s v p (ap (leq v) e ∙ nest-in b m (outer u) (counter u - 1) w.outside (omega arith)) in
+      inside-images (NextAfterFirst m) os (λ o. in_domain s o ≡ true) u v false (λ o d. met-next_after_first b m o u (sym (ap (leq o) e) ∙ domain-leq s o d) k) h
       ∙ in-frontier s os v j;
 }
   where
     stays : (o w : Stamp) → leq o (nest b m) ≡ true → (a c : Bool) → nat_lt (counter o) m ≡ c → cond a (Some o) (cond c (Some (nest (outer o) (counter o + 1))) None) ≡ Some w → in_domain r w ≡ true
-    stays o w d true c g x = ap (in_domain r) (sym (some-is o w x)) ∙ ap (leq o) f ∙ d
+    stays o w d true c g x = ap (in_domain r) (sym (some-is o w x)) ∙ in-plain r o q (ap (leq o) f ∙ d)
     stays o w d false true g x =
         let v = of_loop b m o d in
-        ap (in_domain r) (sym (some-is (nest (outer o) (counter o + 1)) w x)) ∙ ap (leq (nest (outer o) (counter o + 1))) f ∙ nest-in b m (outer o) (counter o + 1) v.outside (let l : counter o < m = ltb-true (counter o) m g in omega arith)
+        ap (in_domain r) (sym (some-is (nest (outer o) (counter o + 1)) w x)) ∙ in-plain r (nest (outer o) (counter o + 1)) q (ap (leq (nest (outer o) (counter o + 1))) f ∙ nest-in b m (outer o) (counter o + 1) v.outside (let l : counter o < m = ltb-true (counter o) m g in omega arith))
     stays o w d false false g x = absurd (cc)
 
-pub before-moved : (s r : Bounds) (b : Stamp) (m : ℕ) (os : Front) → s.greatest ≡ nest b m → r.greatest ≡ nest b m → AreIn r os
+pub before-moved : (s r : Bounds) (b : Stamp) (m : ℕ) (os : Front) → s.sides ≡ false → r.sides ≡ false → s.greatest ≡ nest b m → r.greatest ≡ nest b m → AreIn r os
     → IsMoved Before os s (λ t. frontier_of r os (nest (outer t) (min (counter t + 1) m)))
-before-moved s r b m os e f h = record {
+before-moved s r b m os p q e f h = record {
   images_in = each-image Before os (λ o. in_domain r o ≡ true) (λ w. in_domain s w ≡ true)
       (λ o w d g.
-      let v = of_loop b m o (sym (ap (leq o) f) ∙ d) in
+      let v = of_loop b m o (sym (ap (leq o) f) ∙ domain-leq r o d) in
       let c = v.counted in
-      ap (in_domain s) (sym (some-is (nest (outer o) (counter o - 1)) w g)) ∙ ap (leq (nest (outer o) (counter o - 1))) e ∙ nest-in b m (outer o) (counter o - 1) v.outside (omega arith)) h;
+      ap (in_domain s) (sym (some-is (nest (outer o) (counter o - 1)) w g)) ∙ in-plain s (nest (outer o) (counter o - 1)) p (ap (leq (nest (outer o) (counter o - 1))) e ∙ nest-in b m (outer o) (counter o - 1) v.outside (omega arith))) h;
   same = λ t i.
-      let k : leq t (nest b m) ≡ true = sym (ap (leq t) e) ∙ i in
+      let k : leq t (nest b m) ≡ true = sym (ap (leq t) e) ∙ domain-leq s t i in
       let w = of_loop b m t k in
       let v = nest (outer t) (min (counter t + 1) m) in
-      let j : in_domain r v ≡ true = ap (leq v) f ∙ nest-in b m (outer t) (min (counter t + 1) m) w.outside (min-le_right (counter t + 1) m) in
-      inside-images Before os (λ o. in_domain r o ≡ true) t v false (λ o d. met-before b m o t (sym (ap (leq o) f) ∙ d) k) h
+      let j : in_domain r v ≡ true = in-plain r v q (ap (leq v) f ∙ nest-in b m (outer t) (min (counter t + 1) m) w.outside (min-le_right (counter t + 1) m)) in
+      inside-images Before os (λ o. in_domain r o ≡ true) t v false (λ o d. met-before b m o t (sym (ap (leq o) f) ∙ domain-leq r o d) k) h
       ∙ in-frontier r os v j;
 }
 
-pub outer-moved : (s r : Bounds) (m : ℕ) (os : Front) → s.greatest ≡ nest r.greatest m → AreIn s os → IsMoved Outer os r (λ u. frontier_of s os (nest u m))
-outer-moved s r m os e h = record {
+pub outer-moved : (s r : Bounds) (m : ℕ) (os : Front) → s.sides ≡ false → r.sides ≡ false → s.greatest ≡ nest r.greatest m → AreIn s os → IsMoved Outer os r (λ u. frontier_of s os (nest u m))
+outer-moved s r m os p q e h = record {
   images_in = each-image Outer os (λ o. in_domain s o ≡ true) (λ w. in_domain r w ≡ true)
-      (λ o w d g. ap (in_domain r) (sym (some-is (outer o) w g)) ∙ (of_loop r.greatest m o (sym (ap (leq o) e) ∙ d)).outside) h;
+      (λ o w d g. ap (in_domain r) (sym (some-is (outer o) w g)) ∙ in-plain r (outer o) q (of_loop r.greatest m o (sym (ap (leq o) e) ∙ domain-leq s o d)).outside) h;
   same = λ u i.
-      inside-images Outer os (λ o. in_domain s o ≡ true) u (nest u m) false (λ o d. met-outer r.greatest m o u (sym (ap (leq o) e) ∙ d) i) h
-      ∙ in-frontier s os (nest u m) (ap (leq (nest u m)) e ∙ nest-in r.greatest m u m i (omega arith));
+      inside-images Outer os (λ o. in_domain s o ≡ true) u (nest u m) false (λ o d. met-outer r.greatest m o u (sym (ap (leq o) e) ∙ domain-leq s o d) (domain-leq r u i)) h
+      ∙ in-frontier s os (nest u m) (in-plain s (nest u m) p (ap (leq (nest u m)) e ∙ nest-in r.greatest m u m (domain-leq r u i) (omega arith)));
 }
 
-pub outer_of_first-moved : (s r : Bounds) (m : ℕ) (os : Front) → s.greatest ≡ nest r.greatest m → AreIn s os → IsMoved OuterOfFirst os r (λ u. frontier_of s os (nest u 0))
-outer_of_first-moved s r m os e h = record {
+pub outer_of_first-moved : (s r : Bounds) (m : ℕ) (os : Front) → s.sides ≡ false → r.sides ≡ false → s.greatest ≡ nest r.greatest m → AreIn s os → IsMoved OuterOfFirst os r (λ u. frontier_of s os (nest u 0))
+outer_of_first-moved s r m os p q e h = record {
   images_in = each-image OuterOfFirst os (λ o. in_domain s o ≡ true) (λ w. in_domain r w ≡ true)
       (λ o w d g.
       let i = cond_some (counter o == 0) (outer o) w g in
-      ap (in_domain r) (sym i.1) ∙ (of_loop r.greatest m o (sym (ap (leq o) e) ∙ d)).outside) h;
+      ap (in_domain r) (sym i.1) ∙ in-plain r (outer o) q (of_loop r.greatest m o (sym (ap (leq o) e) ∙ domain-leq s o d)).outside) h;
   same = λ u i.
-      inside-images OuterOfFirst os (λ o. in_domain s o ≡ true) u (nest u 0) false (λ o d. met-outer_of_first r.greatest m o u (sym (ap (leq o) e) ∙ d) i) h
-      ∙ in-frontier s os (nest u 0) (ap (leq (nest u 0)) e ∙ nest-in r.greatest m u 0 i (omega arith));
+      inside-images OuterOfFirst os (λ o. in_domain s o ≡ true) u (nest u 0) false (λ o d. met-outer_of_first r.greatest m o u (sym (ap (leq o) e) ∙ domain-leq s o d) (domain-leq r u i)) h
+      ∙ in-frontier s os (nest u 0) (in-plain s (nest u 0) p (ap (leq (nest u 0)) e ∙ nest-in r.greatest m u 0 (domain-leq r u i) (omega arith)));
 }
 
 -- ---- numbers
 
 -- a stamp of one coordinate
 pub of_line : (b : Bounds) (u : Stamp) → length b.greatest ≡ 1 → in_domain b u ≡ true → u ≡ first_coordinate u ∷ []
-of_line b u l h = by u (leq-length u b.greatest h ∙ l)
+of_line b u l h = by u (domain-length b u h ∙ l)
   where
     by : (u : Stamp) → length u ≡ 1 → u ≡ first_coordinate u ∷ []
     by [] e = absurd (omega arith)
@@ -328,12 +333,12 @@ names-numbers_by b g os f test e n h = names-as b os (λ u. in_domain b u && f (
     small (x ∷ u) k = leb-true x g (and_parts _ _ k).0
 
     by : (u : Stamp) (c : Bool) → in_domain b u ≡ c → (c && f (first_coordinate u)) ≡ (c && test u)
-    by u true k = h u (small u (sym (ap (leq u) e) ∙ k))
+    by u true k = h u (small u (sym (ap (leq u) e) ∙ domain-leq b u k))
     by u false k = refl
 
 -- the test of the numbers below a limit
-below-limit : (b : Bounds) (g limit x : ℕ) → b.greatest ≡ g ∷ [] → frontier_of b (front_until (Some limit)) (x ∷ []) ≡ (nat_le x g && nat_lt x limit)
-below-limit b g limit x e = ap (λ t. leq (x ∷ []) t && inside ((limit ∷ []) ∷ []) (x ∷ [])) e ∙ by x g limit
+below-limit : (b : Bounds) (g limit x : ℕ) → b.sides ≡ false → b.greatest ≡ g ∷ [] → frontier_of b (front_until (Some limit)) (x ∷ []) ≡ (nat_le x g && nat_lt x limit)
+below-limit b g limit x p e = ap (λ c. c && inside ((limit ∷ []) ∷ []) (x ∷ [])) (plain-in_domain b (x ∷ []) p) ∙ ap (λ t. leq (x ∷ []) t && inside ((limit ∷ []) ∷ []) (x ∷ [])) e ∙ by x g limit
   where
     by : (x g limit : ℕ) → ((nat_le x g && true) && (not (nat_le limit x && true) && true)) ≡ (nat_le x g && nat_lt x limit)
     by x g limit = grind (arith, nat_tests)
@@ -342,7 +347,7 @@ below-limit b g limit x e = ap (λ t. leq (x ∷ []) t && inside ((limit ∷ [])
 pub limit-in : (b : Bounds) (g limit : ℕ) (os : Front) → b.greatest ≡ g ∷ [] → os ≡ front_until (Some limit) → IsCanonical b os → limit ≤ g
 limit-in b g limit os e f h =
     let c : IsCanonical b ((limit ∷ []) ∷ []) = subst (IsCanonical b) f h in
-    leb-true limit g ((and_parts _ _ (sym (ap (leq (limit ∷ [])) e) ∙ c.0.in_the_domain)).0)
+    leb-true limit g ((and_parts _ _ (sym (ap (leq (limit ∷ [])) e) ∙ domain-leq b (limit ∷ []) c.0.in_the_domain)).0)
 
 -- two comparisons are one where each follows from the other
 lt-same : (a b c d : ℕ) → (a < b → c < d) → (c < d → a < b) → nat_lt a b ≡ nat_lt c d
@@ -416,6 +421,13 @@ sender-greatest d = ap (λ b. b.greatest) d.of_sender
 receiver-greatest : {kind : Kind} {s r : Bounds} → (d : AreDomainsOf kind s r) → r.greatest ≡ greatest_of d.flow (out_domain_of_kind d.flow kind)
 receiver-greatest d = ap (λ b. b.greatest) d.of_receiver
 
+-- none of them has sides
+sender-plain : {kind : Kind} {s r : Bounds} → AreDomainsOf kind s r → s.sides ≡ false
+sender-plain d = ap (λ b. b.sides) d.of_sender
+
+receiver-plain : {kind : Kind} {s r : Bounds} → AreDomainsOf kind s r → r.sides ≡ false
+receiver-plain d = ap (λ b. b.sides) d.of_receiver
+
 -- those that an enter joins
 enter-domains : {l : ℕ} {s r : Bounds} → (d : AreDomainsOf (Enter l) s r) → r.greatest ≡ nest s.greatest (max_of d.flow l)
 enter-domains {l} d = receiver-greatest d ∙ greatest-unfold d.flow l ∙ ap (λ b. nest b (max_of d.flow l)) (sym (sender-greatest d))
@@ -438,7 +450,7 @@ feedback-domains {l} d =
 -- stamps of a domain have some coordinate
 somes : (b : Bounds) (os : Front) → 0 < length b.greatest → AreIn b os → AllByRecursion (λ o. 0 < length o) os
 somes b [] some h = tt
-somes b (o ∷ os) some h = let l = leq-length o b.greatest h.0 in (omega (arith, l), somes b os some h.1)
+somes b (o ∷ os) some h = let l = domain-length b o h.0 in (omega (arith, l), somes b os some h.1)
 
 some-greatest : (flow : Dataflow) (d : Domain) → 0 < length (greatest_of flow d)
 some-greatest flow d = let n = greatest-length flow d in omega arith
@@ -455,7 +467,7 @@ somes-receiver {kind} {r = r} d os h =
 nests : (b : Bounds) (os : Front) → MayGo First b.greatest → AreIn b os → AllByRecursion (MayGo First) os
 nests b [] n h = tt
 nests b (o ∷ os) n h =
-    let l = leq-length o b.greatest h.0 in
+    let l = domain-length b o h.0 in
     ((omega (arith, l, n.0), omega (arith, l, n.1)), nests b os n h.1)
 
 nest-parent : (flow : Dataflow) (l : ℕ) → MayGo First (greatest_of flow (parent_of flow l))
@@ -480,12 +492,12 @@ moved-as : {way : Way} {os : Front} {r : Bounds} {f : Frontier} → IsMoved way 
 moved-as m g h = record { images_in = m.images_in; same = λ u i. m.same u i ∙ h u i }
 
 -- a frontier has all counters of a stamp where it has the last
-each-last : (s : Bounds) (os : Front) (b : Stamp) (m c : ℕ) (u : Stamp) → s.greatest ≡ nest b m → leq u b ≡ true → c ≤ m → each_counter (frontier_of s os) u c ≡ frontier_of s os (nest u c)
-each-last s os b m zero u e i l = refl
-each-last s os b m (suc c) u e i l =
-    ap (λ x. frontier_of s os (nest u (suc c)) && x) (each-last s os b m c u e i (omega arith))
+each-last : (s : Bounds) (os : Front) (b : Stamp) (m c : ℕ) (u : Stamp) → s.sides ≡ false → s.greatest ≡ nest b m → leq u b ≡ true → c ≤ m → each_counter (frontier_of s os) u c ≡ frontier_of s os (nest u c)
+each-last s os b m zero u p e i l = refl
+each-last s os b m (suc c) u p e i l =
+    ap (λ x. frontier_of s os (nest u (suc c)) && x) (each-last s os b m c u p e i (omega arith))
     ∙ by (frontier_of s os (nest u (suc c))) (frontier_of s os (nest u c))
-    ((frontier-closed s os).closed (nest u c) (nest u (suc c)) (ap (leq (nest u c)) e ∙ nest-in b m u c i (omega arith)) (higher u c))
+    ((frontier-closed s os).closed (nest u c) (nest u (suc c)) (in-plain s (nest u c) p (ap (leq (nest u c)) e ∙ nest-in b m u c i (omega arith))) (higher u c))
   where
     by : (x y : Bool) → (x ≡ true → y ≡ true) → (x && y) ≡ x
     by true y h = h refl
@@ -495,12 +507,12 @@ each-last s os b m (suc c) u e i l =
     higher u c = leq-nest u u c (suc c) refl ∙ and_from (leq u u) (nat_le c (suc c)) (leq-refl u) (le-leb c (suc c) (omega arith))
 
 -- and one of them where it has the first
-some-first : (s : Bounds) (os : Front) (b : Stamp) (m c : ℕ) (u : Stamp) → s.greatest ≡ nest b m → leq u b ≡ true → c ≤ m → some_counter (frontier_of s os) u c ≡ frontier_of s os (nest u 0)
-some-first s os b m zero u e i l = refl
-some-first s os b m (suc c) u e i l =
-    ap (λ x. frontier_of s os (nest u (suc c)) || x) (some-first s os b m c u e i (omega arith))
+some-first : (s : Bounds) (os : Front) (b : Stamp) (m c : ℕ) (u : Stamp) → s.sides ≡ false → s.greatest ≡ nest b m → leq u b ≡ true → c ≤ m → some_counter (frontier_of s os) u c ≡ frontier_of s os (nest u 0)
+some-first s os b m zero u p e i l = refl
+some-first s os b m (suc c) u p e i l =
+    ap (λ x. frontier_of s os (nest u (suc c)) || x) (some-first s os b m c u p e i (omega arith))
     ∙ by (frontier_of s os (nest u (suc c))) (frontier_of s os (nest u 0))
-    ((frontier-closed s os).closed (nest u 0) (nest u (suc c)) (ap (leq (nest u 0)) e ∙ nest-in b m u 0 i (omega arith)) (higher u c))
+    ((frontier-closed s os).closed (nest u 0) (nest u (suc c)) (in-plain s (nest u 0) p (ap (leq (nest u 0)) e ∙ nest-in b m u 0 i (omega arith))) (higher u c))
   where
     by : (x y : Bool) → (x ≡ true → y ≡ true) → (x || y) ≡ y
     by true y h = sym (h refl)
@@ -510,45 +522,45 @@ some-first s os b m (suc c) u e i l =
     higher u c = leq-nest u u 0 (suc c) refl ∙ and_from (leq u u) (nat_le 0 (suc c)) (leq-refl u) (le-leb 0 (suc c) (omega arith))
 
 pub phi-enter : {l : ℕ} {s r : Bounds} → AreDomainsOf (Enter l) s r → (os : Front) → IsCanonical s os → IsMoved First os r (λ u. frontier_of s os (outer u))
-phi-enter {l} {s} {r} d os h = first-moved s r (max_of d.flow l) os (enter-domains d) (in_domain-canonical s os h)
+phi-enter {l} {s} {r} d os h = first-moved s r (max_of d.flow l) os (sender-plain d) (receiver-plain d) (enter-domains d) (in_domain-canonical s os h)
 
 pub phi-feedback : {l : ℕ} {s r : Bounds} → AreDomainsOf (Feedback l) s r → (os : Front) → IsCanonical s os
     → IsMoved (Next (counter s.greatest)) os r (λ u. counter u == 0 || frontier_of s os (nest (outer u) (counter u - 1)))
 phi-feedback {l} {s} {r} d os h =
     let e = feedback-domains d in
-    next-moved s r (outer_greatest d.flow l) (counter s.greatest) os e.0 e.1 (in_domain-canonical s os h)
+    next-moved s r (outer_greatest d.flow l) (counter s.greatest) os (sender-plain d) (receiver-plain d) e.0 e.1 (in_domain-canonical s os h)
 
 pub phi-leave : {l : ℕ} {s r : Bounds} → AreDomainsOf (Leave l) s r → (os : Front) → IsCanonical s os
     → IsMoved Outer os r (λ u. each_counter (frontier_of s os) u (counter s.greatest))
 phi-leave {l} {s} {r} d os h =
     let e = leave-domains d in
-    moved-as (outer-moved s r (counter s.greatest) os e (in_domain-canonical s os h))
+    moved-as (outer-moved s r (counter s.greatest) os (sender-plain d) (receiver-plain d) e (in_domain-canonical s os h))
     (λ u. each_counter (frontier_of s os) u (counter s.greatest))
-    (λ u i. sym (each-last s os r.greatest (counter s.greatest) (counter s.greatest) u e i (omega arith)))
+    (λ u i. sym (each-last s os r.greatest (counter s.greatest) (counter s.greatest) u (sender-plain d) e (domain-leq r u i) (omega arith)))
 
 pub psi-feedback : {l : ℕ} {s r : Bounds} → AreDomainsOf (Feedback l) s r → (os : Front) → IsCanonical s os
     → IsMoved (NextAfterFirst (counter s.greatest)) os r (psi_of_kind s.greatest (Feedback l) (frontier_of s os))
 psi-feedback {l} {s} {r} d os h =
     let e = feedback-domains d in
-    next_after_first-moved s r (outer_greatest d.flow l) (counter s.greatest) os e.0 e.1 (in_domain-canonical s os h)
+    next_after_first-moved s r (outer_greatest d.flow l) (counter s.greatest) os (sender-plain d) (receiver-plain d) e.0 e.1 (in_domain-canonical s os h)
 
 pub psi-leave : {l : ℕ} {s r : Bounds} → AreDomainsOf (Leave l) s r → (os : Front) → IsCanonical s os → IsMoved OuterOfFirst os r (psi_of_kind s.greatest (Leave l) (frontier_of s os))
 psi-leave {l} {s} {r} d os h =
     let e = leave-domains d in
-    moved-as (outer_of_first-moved s r (counter s.greatest) os e (in_domain-canonical s os h))
+    moved-as (outer_of_first-moved s r (counter s.greatest) os (sender-plain d) (receiver-plain d) e (in_domain-canonical s os h))
     (psi_of_kind s.greatest (Leave l) (frontier_of s os))
-    (λ u i. sym (some-first s os r.greatest (counter s.greatest) (counter s.greatest) u e i (omega arith)))
+    (λ u i. sym (some-first s os r.greatest (counter s.greatest) (counter s.greatest) u (sender-plain d) e (domain-leq r u i) (omega arith)))
 
 pub psi_back-enter : {l : ℕ} {s r : Bounds} → AreDomainsOf (Enter l) s r → (os : Front) → IsCanonical r os → IsMoved OuterOfFirst os s (psi_back_of_kind s.greatest (Enter l) (frontier_of r os))
-psi_back-enter {l} {s} {r} d os h = outer_of_first-moved r s (max_of d.flow l) os (enter-domains d) (in_domain-canonical r os h)
+psi_back-enter {l} {s} {r} d os h = outer_of_first-moved r s (max_of d.flow l) os (receiver-plain d) (sender-plain d) (enter-domains d) (in_domain-canonical r os h)
 
 pub psi_back-feedback : {l : ℕ} {s r : Bounds} → AreDomainsOf (Feedback l) s r → (os : Front) → IsCanonical r os → IsMoved Before os s (psi_back_of_kind s.greatest (Feedback l) (frontier_of r os))
 psi_back-feedback {l} {s} {r} d os h =
     let e = feedback-domains d in
-    before-moved s r (outer_greatest d.flow l) (counter s.greatest) os e.0 e.1 (in_domain-canonical r os h)
+    before-moved s r (outer_greatest d.flow l) (counter s.greatest) os (sender-plain d) (receiver-plain d) e.0 e.1 (in_domain-canonical r os h)
 
 pub psi_back-leave : {l : ℕ} {s r : Bounds} → AreDomainsOf (Leave l) s r → (os : Front) → IsCanonical r os → IsMoved First os s (psi_back_of_kind s.greatest (Leave l) (frontier_of r os))
-psi_back-leave {l} {s} {r} d os h = first-moved r s (counter s.greatest) os (leave-domains d) (in_domain-canonical r os h)
+psi_back-leave {l} {s} {r} d os h = first-moved r s (counter s.greatest) os (receiver-plain d) (sender-plain d) (leave-domains d) (in_domain-canonical r os h)
 
 -- what is moved names the frontier that the test has
 pub moved-ok : {E : Type 0} {way : Way} {os : Front} {r : Bounds} {test : Frontier} (res : Result Front E) → IsMoved way os r test
@@ -593,7 +605,7 @@ psi-enter_in {l} {s} {r} d os h =
     one m e true f =
         let c : counter r.greatest ≡ m = ap counter e ∙ counter-nest s.greatest m in
         let p : 0 < counter r.greatest = ltb-true 0 (counter r.greatest) f in
-        (ap (leq (nest (origin s.greatest) 1)) e ∙ nest-in s.greatest m (origin s.greatest) 1 (origin-leq s.greatest s.greatest refl) (omega (arith, c)), tt)
+        (in-plain r (nest (origin s.greatest) 1) (receiver-plain d) (ap (leq (nest (origin s.greatest) 1)) e ∙ nest-in s.greatest m (origin s.greatest) 1 (origin-leq s.greatest s.greatest refl) (omega (arith, c))), tt)
     one m e false f = tt
 
 psi-enter_same : {l : ℕ} {s r : Bounds} → AreDomainsOf (Enter l) s r → (os : Front) → IsCanonical s os → (u : Stamp) → in_domain r u ≡ true
@@ -603,7 +615,7 @@ psi-enter_same {l} {s} {r} d os h u i =
     let e = enter-domains d in
     let c : counter r.greatest ≡ m = ap counter e ∙ counter-nest s.greatest m in
     inside-append (images First os) (cond (nat_lt 0 (counter r.greatest)) (nest (origin s.greatest) 1 ∷ []) []) u
-    ∙ (λ j. (phi-enter d os h).same u i j && (ap (λ n. inside (cond (nat_lt 0 n) (nest (origin s.greatest) 1 ∷ []) []) u) c ∙ from_one s.greatest m u (sym (ap (leq u) e) ∙ i)) j)
+    ∙ (λ j. (phi-enter d os h).same u i j && (ap (λ n. inside (cond (nat_lt 0 n) (nest (origin s.greatest) 1 ∷ []) []) u) c ∙ from_one s.greatest m u (sym (ap (leq u) e) ∙ domain-leq r u i)) j)
     ∙ and_comm (frontier_of s os (outer u)) (counter u == 0)
 
 pub entered-ok : {E : Type 0} {l : ℕ} {s r : Bounds} → AreDomainsOf (Enter l) s r → (os : Front) → IsCanonical s os → (res : Result Front E)
@@ -618,52 +630,55 @@ entered-ok {l = l} {s} {r} d os h res all =
 
 -- the test is that of the numbers below a limit
 pub record IsBelow (limit : ℕ) (b : Bounds) (test : Frontier) : Type 0 where
+  pub plain : b.sides ≡ false
   pub line : b.greatest ≡ greatest_number ∷ []
   pub same : (u : Stamp) → first_coordinate u ≤ greatest_number → nat_lt (first_coordinate u) limit ≡ test u
 
 -- the numbers below a limit name the frontier that the test has
 pub below-ok : {E : Type 0} {limit : ℕ} {b : Bounds} {test : Frontier} (res : Result Front E) → IsBelow limit b test
-    → IfOk res (λ g. IsFrontOf b g (λ u. in_domain b u && nat_lt (first_coordinate u) limit)) → IfOk res (λ g. IsFrontOf b g (λ u. in_domain b u && test u))
+    → (b.sides ≡ false → IfOk res (λ g. IsFrontOf b g (λ u. in_domain b u && nat_lt (first_coordinate u) limit))) → IfOk res (λ g. IsFrontOf b g (λ u. in_domain b u && test u))
 below-ok {limit = limit} {b} {test} res m h =
     IfOk-weaker res (λ g. IsFrontOf b g (λ u. in_domain b u && nat_lt (first_coordinate u) limit)) (λ g. IsFrontOf b g (λ u. in_domain b u && test u))
-    (λ g n. names-numbers_by b greatest_number g (λ k. nat_lt k limit) test m.line n m.same) h
+    (λ g n. names-numbers_by b greatest_number g (λ k. nat_lt k limit) test m.line n m.same) (h m.plain)
 
 pub phi-regroup_ok : {n : ℕ} {s r : Bounds} → AreDomainsOf (Regroup n) s r → IsGroupSize (Regroup n) → (os : Front) → IsCanonical s os → (limit k : ℕ) → os ≡ front_until (Some limit)
     → k ≡ limit / n → IsBelow k r (λ u. frontier_of s os (min (first_coordinate u * n + n - 1) (first_coordinate s.greatest) ∷ []))
 phi-regroup_ok {n} {s} {r} d size os h limit k f is = record {
+  plain = receiver-plain d;
   line = receiver-greatest d;
   same = λ u l.
       let e = sender-greatest d in
       let x : Stamp → ℕ = λ t. min (first_coordinate u * n + n - 1) (first_coordinate t) in
       ap (nat_lt (first_coordinate u)) is
       ∙ phi-regroup n greatest_number limit (first_coordinate u) size.0 (limit-in s greatest_number limit os e f h)
-      ∙ sym (below-limit s greatest_number limit (x (greatest_number ∷ [])) e)
+      ∙ sym (below-limit s greatest_number limit (x (greatest_number ∷ [])) (sender-plain d) e)
       ∙ (λ j. frontier_of s (sym f j) (x (sym e j) ∷ []));
 }
 
 pub psi-regroup_ok : {n : ℕ} {s r : Bounds} → AreDomainsOf (Regroup n) s r → IsGroupSize (Regroup n) → (os : Front) (end k : ℕ) → ((x : ℕ) → frontier_of s os (x ∷ []) ≡ nat_lt x end)
     → k ≡ end / n + min 1 (end % n) → IsBelow k r (psi_of_kind s.greatest (Regroup n) (frontier_of s os))
 psi-regroup_ok {n} d size os end k f is = record {
+  plain = receiver-plain d;
   line = receiver-greatest d;
   same = λ u l. ap (nat_lt (first_coordinate u)) is ∙ psi-regroup n end (first_coordinate u) size.0 ∙ sym (f (first_coordinate u * n));
 }
 
 -- the numbers inside, by where they end
-below-end : (limit : ℕ) (s : Bounds) (os : Front) → s.greatest ≡ greatest_number ∷ [] → IsCanonical s os → os ≡ front_until (Some limit)
+below-end : (limit : ℕ) (s : Bounds) (os : Front) → s.sides ≡ false → s.greatest ≡ greatest_number ∷ [] → IsCanonical s os → os ≡ front_until (Some limit)
     → (x : ℕ) → frontier_of s os (x ∷ []) ≡ nat_lt x limit
-below-end limit s os e h f x =
-    (λ j. frontier_of s (f j) (x ∷ [])) ∙ below-limit s greatest_number limit x e ∙ by x greatest_number limit (limit-in s greatest_number limit os e f h)
+below-end limit s os p e h f x =
+    (λ j. frontier_of s (f j) (x ∷ [])) ∙ below-limit s greatest_number limit x p e ∙ by x greatest_number limit (limit-in s greatest_number limit os e f h)
   where
     by : (x g limit : ℕ) → limit ≤ g → (nat_le x g && nat_lt x limit) ≡ nat_lt x limit
     by x g limit l = grind (arith, nat_tests)
 
 pub end-limit : {n : ℕ} {s r : Bounds} → AreDomainsOf (Regroup n) s r → (limit : ℕ) (os : Front) → IsCanonical s os → os ≡ front_until (Some limit) → (x : ℕ) → frontier_of s os (x ∷ []) ≡ nat_lt x limit
-end-limit {s = s} d limit os h f x = below-end limit s os (sender-greatest d) h f x
+end-limit {s = s} d limit os h f x = below-end limit s os (sender-plain d) (sender-greatest d) h f x
 
 pub end-all : {n : ℕ} {s r : Bounds} → AreDomainsOf (Regroup n) s r → (end : ℕ) (os : Front) → os ≡ front_until None → end ≡ slice_index s.greatest 0 + 1 → (x : ℕ) → frontier_of s os (x ∷ []) ≡ nat_lt x end
 end-all {s = s} d end os f k x =
     let e = sender-greatest d in
-    (λ j. frontier_of s (f j) (x ∷ [])) ∙ ap (λ t. leq (x ∷ []) t && true) e ∙ by x greatest_number end (k ∙ ap (λ t. slice_index t 0 + 1) e)
+    (λ j. frontier_of s (f j) (x ∷ [])) ∙ ap (λ c. c && true) (plain-in_domain s (x ∷ []) (sender-plain d)) ∙ ap (λ t. leq (x ∷ []) t && true) e ∙ by x greatest_number end (k ∙ ap (λ t. slice_index t 0 + 1) e)
   where
     by : (x g end : ℕ) → end ≡ g + 1 → ((nat_le x g && true) && true) ≡ nat_lt x end
     by x g end e = grind (arith, nat_tests)
@@ -671,13 +686,14 @@ end-all {s = s} d end os f k x =
 pub psi_back-regroup_ok : {n : ℕ} {s r : Bounds} → AreDomainsOf (Regroup n) s r → IsGroupSize (Regroup n) → (os : Front) (limit k : ℕ) → os ≡ front_until (Some limit)
     → k ≡ limit * n → IsBelow k s (psi_back_of_kind s.greatest (Regroup n) (frontier_of r os))
 psi_back-regroup_ok {n} {s} {r} d size os limit k f is = record {
+  plain = sender-plain d;
   line = sender-greatest d;
   same = λ u l.
       let x = first_coordinate u / n in
       ap (nat_lt (first_coordinate u)) is
       ∙ psi_back-regroup n limit (first_coordinate u) size.0
       ∙ by (nat_le x greatest_number) (nat_lt x limit) (le-leb x greatest_number (omega (arith, div-le_self (first_coordinate u) n)))
-      ∙ sym (below-limit r greatest_number limit x (receiver-greatest d))
+      ∙ sym (below-limit r greatest_number limit x (receiver-plain d) (receiver-greatest d))
       ∙ (λ j. frontier_of r (sym f j) (x ∷ []));
 }
   where
@@ -698,12 +714,13 @@ pub phi-sequence_ok : {s r : Bounds} → AreDomainsOf Sequence s r → (os : Fro
     → IsBelow count r (phi_of_kind s.greatest Sequence (table_count (frontier_of s os) table) (frontier_of s os))
 phi-sequence_ok {s} {r} d os h limit count table f c =
     let e = sender-greatest d in
-    let below = below-end limit s os e h f in
+    let below = below-end limit s os (sender-plain d) e h f in
     let test : Frontier = frontier_of s os in
     let all : ℕ = table_count (λ t. nat_lt (first_coordinate t) limit) table in
     let same : all ≡ table_count test table = table_count-same (λ t. nat_lt (first_coordinate t) limit) test (λ x. sym (below x)) table in
     let some : test s.greatest ≡ false = ap test e ∙ below greatest_number ∙ past greatest_number limit (limit-in s greatest_number limit os e f h) in
     record {
+      plain = receiver-plain d;
       line = receiver-greatest d;
       same = λ u l.
           ap (nat_lt (first_coordinate u)) c

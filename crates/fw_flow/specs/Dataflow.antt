@@ -1,7 +1,7 @@
 -- A dataflow as its lists of loops, nodes and edges, its batches, and how these are looked up.
-use Rattle.std.specs.Prelude.{◌≡◌, ℕ, zero, suc, ◌+◌, ◌-◌, ◌^◌, ◌≤◌, Bool, true, false, ◌==◌, if◌then◌else◌, List, [], ◌∷◌, length, Option, Some, None, slice_index_or, map}
+use Rattle.std.specs.Prelude.{ℕ, zero, suc, ◌+◌, ◌-◌, ◌^◌, ◌≤◌, Bool, true, false, ◌==◌, if◌then◌else◌, List, [], ◌∷◌, length, Option, Some, None, slice_index_or, map}
 use Rattle.std.specs.List.{list_any, range_with_len}
-use Rattle.fw_time.specs.Stamp.{Stamp, nest}
+use Rattle.fw_time.specs.Stamp.{Stamp, nest, up_to}
 use Rattle.fw_time.specs.declared.stamp.Bounds.{Bounds}
 use Rattle.fw_time.specs.Sending.{entered_stamp, fed_back_stamp, left_stamp, regrouped_stamp}
 use Rattle.fw_bag.specs.declared.rec.Rec.{Rec}
@@ -184,7 +184,7 @@ greatest_of_kind flow kind = greatest_of flow (domain_of_kind flow kind)
 
 -- the bounds of a domain
 abbrev pub bounds_of_domain : Dataflow → Domain → Bounds
-bounds_of_domain flow domain = record { greatest = greatest_of flow domain }
+bounds_of_domain flow domain = up_to (greatest_of flow domain)
 
 -- the bounds of a node's domain: which lists are stamps of its events
 unfoldable pub bounds_of : Dataflow → ℕ → Bounds

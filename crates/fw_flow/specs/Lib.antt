@@ -20,6 +20,7 @@ pub mod Raw
 pub mod Restoring
 pub mod SentTable
 pub mod Sources
+pub mod TwoPlaces
 pub mod Walks
 pub mod WellFormed
 pub mod WholeBags

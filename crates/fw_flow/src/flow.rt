@@ -115,6 +115,7 @@ impl Flow {
     {
         Bounds {
             greatest: self.greatest(self.domain_word(node)),
+            sides: false,
         }
     }
 

@@ -1,5 +1,5 @@
 //! What of an edge comes from a frontier of its sender, and where a frontier of its sender can send.
-ghost use Rattle.std.specs.Prelude.{◌≡◌, ℕ, ◌+◌, ◌<◌, ◌≤◌, ◌&&◌, true, nat_lt, List, [], ◌∷◌, ◌++◌, length, if◌then◌else◌, is_ok, IfOk};
+ghost use Rattle.std.specs.Prelude.{◌≡◌, ℕ, ◌+◌, ◌<◌, ◌≤◌, ◌&&◌, true, false, nat_lt, List, [], ◌∷◌, ◌++◌, length, if◌then◌else◌, is_ok, IfOk};
 ghost use Rattle.std.specs.List.{AllByRecursion};
 ghost use Rattle.fw_time.specs.declared.stamp.Bounds.{Bounds as Domain};
 ghost use Rattle.fw_time.specs.Stamp.{in_domain};
@@ -181,10 +181,10 @@ fn entered(
     Front::until(alloc, &stamps)
 }
 
-/// The numbers, or epochs, below a limit.
+/// The numbers, or epochs, below a limit, in a domain without sides.
 fn below(alloc: Global, limit: u64, bounds: &Bounds) -> Result<Front, AllocError>
     requires { length bounds.now.greatest ≡ 1 }
-    ensures { IfOk result
+    ensures { bounds.now.sides ≡ false → IfOk result
         (λ g. IsFrontOf bounds.now g (λ u. in_domain bounds.now u && nat_lt (first_coordinate u) limit)) }
 {
     if limit > u64::from(bounds.greatest.at(0)) {

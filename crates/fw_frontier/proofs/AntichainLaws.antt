@@ -42,7 +42,7 @@ pub all-excluding_all : (P : List ℕ → Type 0) (ss os : List (List ℕ)) → 
 all-excluding_all P [] os h k = k
 all-excluding_all P (s ∷ ss) os h k = all-excluding_all P ss (front_without s os) h.1 (all-excluding P s os h.0 k)
 
-antichain-filter : (p : List ℕ → Bool) (os : List (List ℕ)) → IsAntichain os → IsAntichain (filter p os)
+pub antichain-filter : (p : List ℕ → Bool) (os : List (List ℕ)) → IsAntichain os → IsAntichain (filter p os)
 antichain-filter p [] h = tt
 antichain-filter p (o ∷ os) h = by (p o) (antichain-filter p os h.1)
   where

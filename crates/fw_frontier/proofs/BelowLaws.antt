@@ -4,7 +4,7 @@ use Rattle.std.specs.Prelude.{slice_index}
 use Rattle.std.proofs.lemmas.Bool.Decides.{nat_tests}
 use Rattle.fw_time.specs.declared.stamp.Bounds.{Bounds}
 use Rattle.fw_time.specs.Stamp.{leq, in_domain}
-use Rattle.fw_time.proofs.StampLaws.{leq-length}
+use Rattle.fw_time.proofs.DomainLaws.{domain-length, plain-in_domain}
 use Rattle.fw_frontier.specs.Below.{is_below}
 use Rattle.fw_frontier.specs.Front.{inside, frontier_of, IsFrontOf}
 
@@ -47,12 +47,12 @@ names-limit b g k os e h = names-as b os _ _ h (λ t. by t (in_domain b t) refl)
     shape (x ∷ y ∷ t) l = absurd (omega arith)
 
     by : (t : List ℕ) (c : Bool) → in_domain b t ≡ c → (c && (not (leq (k ∷ []) t) && true)) ≡ (c && nat_lt (slice_index t 0) k)
-    by t true l = shape t (leq-length t b.greatest l ∙ ap length e)
+    by t true l = shape t (domain-length b t l ∙ ap length e)
     by t false l = refl
 
 -- a number of a domain of one coordinate
-pub in_domain-one : (b : Bounds) (g k : ℕ) → b.greatest ≡ g ∷ [] → k ≤ g → in_domain b (k ∷ []) ≡ true
-in_domain-one b g k e h = ap (leq (k ∷ [])) e ∙ fits k g h
+pub in_domain-one : (b : Bounds) (g k : ℕ) → b.sides ≡ false → b.greatest ≡ g ∷ [] → k ≤ g → in_domain b (k ∷ []) ≡ true
+in_domain-one b g k p e h = plain-in_domain b (k ∷ []) p ∙ ap (leq (k ∷ [])) e ∙ fits k g h
   where
     fits : (k g : ℕ) → k ≤ g → (nat_le k g && true) ≡ true
     fits k g h = grind (arith, nat_tests)
@@ -62,7 +62,7 @@ pub names-numbers : (b : Bounds) (os : List (List ℕ)) (until : Option ℕ) (f 
 names-numbers b os until f h n = names-as b os (λ t. in_domain b t && is_below until (slice_index t 0)) (λ t. in_domain b t && is_below until (f t)) n (λ t. by t (in_domain b t) refl)
   where
     by : (t : List ℕ) (c : Bool) → in_domain b t ≡ c → (c && is_below until (slice_index t 0)) ≡ (c && is_below until (f t))
-    by t true e = ap (is_below until) (sym (h t (leq-length t b.greatest e)))
+    by t true e = ap (is_below until) (sym (h t (domain-length b t e)))
     by t false e = refl
 
 -- the frontier that has stamps outside, by a test that agrees with them on the domain

@@ -1,11 +1,13 @@
 -- The calls keep a list of outside stamps canonical.
-use Rattle.std.proofs.Common.{◌≡◌, ℕ, Bool, true, false, cond, List, [], ◌∷◌, length, refl, sym, ◌∙◌, zero, suc, nat_lt, nat_le, ◌<◌, get_or, ap, arith}
-use Rattle.std.proofs.lemmas.Bool.{and_from, and_parts}
+use Rattle.std.proofs.Common.{◌≡◌, ℕ, Bool, true, false, cond, List, [], ◌∷◌, length, refl, sym, ◌∙◌, zero, suc, nat_lt, nat_le, ◌<◌, get_or, ap, inl, inr, arith}
+use Rattle.std.proofs.lemmas.Bool.{and_from, and_parts, cases_lt}
 use Rattle.std.proofs.lemmas.Bool.Decides.{nat_tests}
+use Rattle.std.proofs.lemmas.List.{get_or_past}
 use Rattle.std.specs.List.{AllByRecursion}
 use Rattle.fw_time.specs.declared.stamp.Bounds.{Bounds}
-use Rattle.fw_time.specs.Stamp.{leq, lub, stamp_raised_at, in_domain}
+use Rattle.fw_time.specs.Stamp.{leq, lub, stamp_raised_at, counts, in_domain, up_to}
 use Rattle.fw_time.proofs.StampLaws.{leq-length, lub-least, leq-raised}
+use Rattle.fw_time.proofs.DomainLaws.{domain-leq, domain-counts, domain-length, side-raised}
 use Rattle.fw_frontier.specs.Front.{IsCanonical, all_in_domain}
 use Rattle.fw_frontier.specs.Outside.{front_without, front_without_all, below_at}
 use Rattle.fw_time.proofs.EachLaws.{each-at, each-weaker}
@@ -36,14 +38,14 @@ pub canonical-excluding_all : (b : Bounds) (ss os : List (List ℕ)) → AllByRe
 canonical-excluding_all b [] os h k = k
 canonical-excluding_all b (s ∷ ss) os h k = canonical-excluding_all b ss (front_without s os) h.1 (canonical-excluding b s os h.0 k)
 
-canonical-excluding_lubs : (b : Bounds) (s : List ℕ) (ps os : List (List ℕ)) → in_domain b s ≡ true → AllByRecursion (λ p. in_domain b p ≡ true) ps → IsCanonical b os → IsCanonical b (excluding_lubs s ps os)
-canonical-excluding_lubs b s [] os h k l = l
-canonical-excluding_lubs b s (p ∷ ps) os h k l =
-    canonical-excluding_lubs b s ps (front_without (lub s p) os) h k.1 (canonical-excluding b (lub s p) os (lub-least s p b.greatest h k.0) l)
+canonical-excluding_lubs : (g : List ℕ) (s : List ℕ) (ps os : List (List ℕ)) → in_domain (up_to g) s ≡ true → AllByRecursion (λ p. in_domain (up_to g) p ≡ true) ps → IsCanonical (up_to g) os → IsCanonical (up_to g) (excluding_lubs s ps os)
+canonical-excluding_lubs g s [] os h k l = l
+canonical-excluding_lubs g s (p ∷ ps) os h k l =
+    canonical-excluding_lubs g s ps (front_without (lub s p) os) h k.1 (canonical-excluding (up_to g) (lub s p) os (lub-least s p g h k.0) l)
 
-pub canonical-excluding_pairs : (b : Bounds) (ss ps os : List (List ℕ)) → AllByRecursion (λ s. in_domain b s ≡ true) ss → AllByRecursion (λ p. in_domain b p ≡ true) ps → IsCanonical b os → IsCanonical b (excluding_pairs ss ps os)
-canonical-excluding_pairs b [] ps os h k l = l
-canonical-excluding_pairs b (s ∷ ss) ps os h k l = canonical-excluding_pairs b ss ps (excluding_lubs s ps os) h.1 k (canonical-excluding_lubs b s ps os h.0 k l)
+pub canonical-excluding_pairs : (g : List ℕ) (ss ps os : List (List ℕ)) → AllByRecursion (λ s. in_domain (up_to g) s ≡ true) ss → AllByRecursion (λ p. in_domain (up_to g) p ≡ true) ps → IsCanonical (up_to g) os → IsCanonical (up_to g) (excluding_pairs ss ps os)
+canonical-excluding_pairs g [] ps os h k l = l
+canonical-excluding_pairs g (s ∷ ss) ps os h k l = canonical-excluding_pairs g ss ps (excluding_lubs s ps os) h.1 k (canonical-excluding_lubs g s ps os h.0 k l)
 
 -- a stamp at a place of a list of a domain's stamps is the domain's
 pub in_domain-at : (b : Bounds) (ss : List (List ℕ)) (i : ℕ) (s : List ℕ) → i < length ss → s ≡ get_or ss i s → AllByRecursion (λ s. in_domain b s ≡ true) ss → in_domain b s ≡ true
@@ -53,7 +55,7 @@ in_domain-at b ss i s l e h = ap (in_domain b) e ∙ each-at (λ s. in_domain b 
 pub lengths : (b : Bounds) (ss ps : List (List ℕ)) → AllByRecursion (λ s. in_domain b s ≡ true) ss → AllByRecursion (λ p. in_domain b p ≡ true) ps → AllByRecursion (λ s. AllByRecursion (λ p. length s ≡ length p) ps) ss
 lengths b [] ps h k = tt
 lengths b (s ∷ ss) ps h k =
-    (each-weaker (λ p. in_domain b p ≡ true) (λ p. length s ≡ length p) ps (λ p e. leq-length s b.greatest h.0 ∙ sym (leq-length p b.greatest e)) k, lengths b ss ps h.1 k)
+    (each-weaker (λ p. in_domain b p ≡ true) (λ p. length s ≡ length p) ps (λ p e. domain-length b s h.0 ∙ sym (domain-length b p e)) k, lengths b ss ps h.1 k)
 
 leq-raised_upto : (s g : List ℕ) (i : ℕ) → leq s g ≡ true → nat_lt (get_or s i 0) (get_or g i 0) ≡ true → leq (stamp_raised_at s i) g ≡ true
 leq-raised_upto [] g i h k = h
@@ -64,13 +66,30 @@ leq-raised_upto (x ∷ s) (y ∷ g) (suc i) h k = and_from _ _ (zero_leq y) (leq
     zero_leq : (y : ℕ) → nat_le 0 y ≡ true
     zero_leq y = grind (arith, nat_tests)
 
+-- a place with a greater coordinate is one of the greater stamp's
+placed : (s g : List ℕ) (i : ℕ) → nat_lt (get_or s i 0) (get_or g i 0) ≡ true → i < length g
+placed s g i h = elim (cases_lt i (length g)) [
+  | inl l ↦ l
+  | inr l ↦ absurd (never (get_or s i 0) (get_or g i 0) (get_or_past g i 0 l) h)
+]
+  where
+    never : (x y : ℕ) → y ≡ 0 → nat_lt x y ≡ true → ⊥
+    never x y e h = grind (arith, nat_tests)
+
 -- what is outside below a stamp lies in the domain
 pub canonical-below_at : (b : Bounds) (s : List ℕ) (n : ℕ) → in_domain b s ≡ true → IsCanonical b (below_at s b.greatest n)
 canonical-below_at b s zero h = tt
 canonical-below_at b s (suc n) h = by (nat_lt (get_or s n 0) (get_or b.greatest n 0)) refl (canonical-below_at b s n h)
   where
+    counted : (c : Bool) → counts c s ≡ true → n < length s → counts c (stamp_raised_at s n) ≡ true
+    counted true k l = side-raised s n k l
+    counted false k l = refl
+
     by : (c : Bool) → nat_lt (get_or s n 0) (get_or b.greatest n 0) ≡ c → IsCanonical b (below_at s b.greatest n) → IsCanonical b (cond c (front_without (stamp_raised_at s n) (below_at s b.greatest n)) (below_at s b.greatest n))
-    by true e r = canonical-excluding b (stamp_raised_at s n) (below_at s b.greatest n) (leq-raised_upto s b.greatest n h e) r
+    by true e r =
+        let l = domain-leq b s h in
+        canonical-excluding b (stamp_raised_at s n) (below_at s b.greatest n)
+        (and_from (counts b.sides (stamp_raised_at s n)) (leq (stamp_raised_at s n) b.greatest) (counted b.sides (domain-counts b s h) (omega (arith, domain-length b s h, placed s b.greatest n e))) (leq-raised_upto s b.greatest n l e)) r
     by false e r = r
 
 -- the test of all stamps, by each

@@ -1,10 +1,9 @@
 -- One outside stamp: what one stamp more makes of it, and what two make together.
 use Rattle.std.proofs.Common.{◌≡◌, ℕ, Bool, true, false, not, ◌&&◌, ◌||◌, cond, nat_lt, slice_index, length, get_or, List, [], ◌∷◌, refl, sym, ap, ◌∙◌, arith}
-use Rattle.fw_time.specs.declared.stamp.Bounds.{Bounds}
-use Rattle.fw_time.specs.Stamp.{leq, lub, in_domain, stamp_raised_at}
+use Rattle.fw_time.specs.Stamp.{leq, lub, in_domain, up_to, stamp_raised_at}
 use Rattle.fw_time.proofs.StampLaws.{leq-length, lub-least, leq-lub}
 use Rattle.fw_frontier.specs.Frontier.{join}
-use Rattle.fw_frontier.specs.Front.{inside, frontier_of, IsFrontOf}
+use Rattle.fw_frontier.specs.Front.{frontier_of, IsFrontOf}
 use Rattle.fw_frontier.specs.Outside.{front_without, front_without_all, with_stamp, below_at}
 use Rattle.fw_frontier.proofs.GenericLaws.{no}
 
@@ -28,11 +27,11 @@ one_goes s t h k = by (leq s t) h (leq t s) k
     by false e false f = no f
 
 -- what is inside one of two frontiers of one outside stamp each
-pub one_join : (b : Bounds) (s t : List ℕ) → in_domain b s ≡ true → in_domain b t ≡ true
-    → IsFrontOf b (lub s t ∷ []) (join (frontier_of b (s ∷ [])) (frontier_of b (t ∷ [])))
-one_join b s t h k = record {
-  canonical = (record { in_the_domain = lub-least s t b.greatest h k; ascending = tt; incomparable = tt }, tt);
-  same = λ u. ap (λ c. in_domain b u && (not c && true)) (leq-lub s t u (leq-length s b.greatest h ∙ sym (leq-length t b.greatest k))) ∙ by (in_domain b u) (leq s u) (leq t u);
+pub one_join : (g : List ℕ) (s t : List ℕ) → in_domain (up_to g) s ≡ true → in_domain (up_to g) t ≡ true
+    → IsFrontOf (up_to g) (lub s t ∷ []) (join (frontier_of (up_to g) (s ∷ [])) (frontier_of (up_to g) (t ∷ [])))
+one_join g s t h k = record {
+  canonical = (record { in_the_domain = lub-least s t g h k; ascending = tt; incomparable = tt }, tt);
+  same = λ u. ap (λ c. in_domain (up_to g) u && (not c && true)) (leq-lub s t u (leq-length s g h ∙ sym (leq-length t g k))) ∙ by (in_domain (up_to g) u) (leq s u) (leq t u);
 }
   where
     by : (a c d : Bool) → (a && (not (c && d) && true)) ≡ ((a && (not c && true)) || (a && (not d && true)))

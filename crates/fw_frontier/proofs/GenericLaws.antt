@@ -38,3 +38,16 @@ pub covered_more : {A : Type 0} (f : A → List ℕ) (ts : List A) (i : ℕ) (d 
     → after ≡ some_above (map f (take (i + 1) ts)) u
 covered_more f ts i d u before below after h e b l at =
     e ∙ (λ j. b j || l j) ∙ ap (λ x. some_above (map f (take i ts)) u || leq u (f x)) at ∙ some_above_more f ts i d u h
+
+-- at most a stamp that is not inside there is one of the list
+pub found : (os : List (List ℕ)) (t : List ℕ) → inside os t ≡ false → (i : ℕ) × ((i < length os) × (leq (get_or os i []) t ≡ true))
+found [] t h = no (sym h)
+found (o ∷ os) t h = by (leq o t) refl h (found os t)
+  where
+    later : (i : ℕ) × ((i < length os) × (leq (get_or os i []) t ≡ true)) → (i : ℕ) × ((i < length (o ∷ os)) × (leq (get_or (o ∷ os) i []) t ≡ true))
+    later w = let k : w.0 < length os = w.1.0 in (suc w.0, (omega arith, w.1.1))
+
+    by : (c : Bool) → leq o t ≡ c → (not c && inside os t) ≡ false → (inside os t ≡ false → (i : ℕ) × ((i < length os) × (leq (get_or os i []) t ≡ true)))
+        → (i : ℕ) × ((i < length (o ∷ os)) × (leq (get_or (o ∷ os) i []) t ≡ true))
+    by true e h r = (zero, (omega arith, e))
+    by false e h r = later (r h)

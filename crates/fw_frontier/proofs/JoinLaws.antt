@@ -4,8 +4,7 @@ use Rattle.std.proofs.Math.Bool.{and_assoc, and-true, and-or_distrib_left}
 use Rattle.std.proofs.lemmas.Bool.{cases_lt, not-true, and_from, and_parts, and_left, and_right}
 use Rattle.std.proofs.lemmas.Bool.Decides.{nat_tests}
 use Rattle.std.specs.List.{AllByRecursion}
-use Rattle.fw_time.specs.declared.stamp.Bounds.{Bounds}
-use Rattle.fw_time.specs.Stamp.{leq, lub, in_domain}
+use Rattle.fw_time.specs.Stamp.{leq, lub, in_domain, up_to}
 use Rattle.fw_time.proofs.StampLaws.{leq-length, leq-lub, lub-least}
 use Rattle.fw_time.proofs.EachLaws.{each-at}
 use Rattle.fw_frontier.specs.Frontier.{join}
@@ -13,7 +12,7 @@ use Rattle.fw_frontier.specs.Front.{inside, frontier_of, IsCanonical, IsFrontOf}
 use Rattle.fw_frontier.specs.Outside.{front_without, front_without_all, rise_count, front_without_near, front_without_all_near}
 use Rattle.fw_frontier.proofs.InsideLaws.{inside-excluding, inside-excluding_all}
 use Rattle.fw_frontier.proofs.CanonicalLaws.{canonical-excluding, canonical-excluding_all, in_domain-canonical, lengths}
-use Rattle.fw_frontier.proofs.GenericLaws.{no}
+use Rattle.fw_frontier.proofs.GenericLaws.{no, found}
 
 -- of two stamps of at most three coordinates one is greater at no more than one place
 rises-sum : (s p : List ℕ) → length s ≡ length p → rise_count s p + rise_count p s ≤ length s
@@ -48,20 +47,20 @@ one-near s p e few =
 
 -- ---- the lists stay canonical
 
-canonical-excluding_near : (b : Bounds) (s : List ℕ) (ps os : List (List ℕ)) → in_domain b s ≡ true → AllByRecursion (λ p. in_domain b p ≡ true) ps → IsCanonical b os → IsCanonical b (front_without_near s ps os)
-canonical-excluding_near b s [] os h k l = l
-canonical-excluding_near b s (p ∷ ps) os h k l =
-    canonical-excluding_near b s ps (cond (nat_le (rise_count s p) 1) (front_without (lub s p) os) os) h k.1 (by (nat_le (rise_count s p) 1))
+canonical-excluding_near : (g : List ℕ) (s : List ℕ) (ps os : List (List ℕ)) → in_domain (up_to g) s ≡ true → AllByRecursion (λ p. in_domain (up_to g) p ≡ true) ps → IsCanonical (up_to g) os → IsCanonical (up_to g) (front_without_near s ps os)
+canonical-excluding_near g s [] os h k l = l
+canonical-excluding_near g s (p ∷ ps) os h k l =
+    canonical-excluding_near g s ps (cond (nat_le (rise_count s p) 1) (front_without (lub s p) os) os) h k.1 (by (nat_le (rise_count s p) 1))
   where
-    by : (c : Bool) → IsCanonical b (cond c (front_without (lub s p) os) os)
-    by true = canonical-excluding b (lub s p) os (lub-least s p b.greatest h k.0) l
+    by : (c : Bool) → IsCanonical (up_to g) (cond c (front_without (lub s p) os) os)
+    by true = canonical-excluding (up_to g) (lub s p) os (lub-least s p g h k.0) l
     by false = l
 
-canonical-excluding_all_near : (b : Bounds) (ss ps os : List (List ℕ)) → AllByRecursion (λ s. in_domain b s ≡ true) ss → AllByRecursion (λ p. in_domain b p ≡ true) ps → IsCanonical b os → IsCanonical b (front_without_all_near ss ps os)
-canonical-excluding_all_near b [] ps os h k l = l
-canonical-excluding_all_near b (s ∷ ss) ps os h k l =
-    canonical-excluding_all_near b ss ps (front_without_all (front_without_near s ps []) os) h.1 k
-    (canonical-excluding_all b (front_without_near s ps []) os (in_domain-canonical b (front_without_near s ps []) (canonical-excluding_near b s ps [] h.0 k tt)) l)
+canonical-excluding_all_near : (g : List ℕ) (ss ps os : List (List ℕ)) → AllByRecursion (λ s. in_domain (up_to g) s ≡ true) ss → AllByRecursion (λ p. in_domain (up_to g) p ≡ true) ps → IsCanonical (up_to g) os → IsCanonical (up_to g) (front_without_all_near ss ps os)
+canonical-excluding_all_near g [] ps os h k l = l
+canonical-excluding_all_near g (s ∷ ss) ps os h k l =
+    canonical-excluding_all_near g ss ps (front_without_all (front_without_near s ps []) os) h.1 k
+    (canonical-excluding_all (up_to g) (front_without_near s ps []) os (in_domain-canonical (up_to g) (front_without_near s ps []) (canonical-excluding_near g s ps [] h.0 k tt)) l)
 
 -- ---- what they have inside
 
@@ -128,18 +127,6 @@ all_free-second [] ps t h = refl
 all_free-second (s ∷ ss) ps t h = and_from _ _ (free-inside s ps t h) (all_free-second ss ps t h)
 
 -- what is at least a stamp of each list is not free
-pub found : (os : List (List ℕ)) (t : List ℕ) → inside os t ≡ false → (i : ℕ) × ((i < length os) × (leq (get_or os i []) t ≡ true))
-found [] t h = no (sym h)
-found (o ∷ os) t h = by (leq o t) refl h (found os t)
-  where
-    later : (i : ℕ) × ((i < length os) × (leq (get_or os i []) t ≡ true)) → (i : ℕ) × ((i < length (o ∷ os)) × (leq (get_or (o ∷ os) i []) t ≡ true))
-    later w = let k : w.0 < length os = w.1.0 in (suc w.0, (omega arith, w.1.1))
-
-    by : (c : Bool) → leq o t ≡ c → (not c && inside os t) ≡ false → (inside os t ≡ false → (i : ℕ) × ((i < length os) × (leq (get_or os i []) t ≡ true)))
-        → (i : ℕ) × ((i < length (o ∷ os)) × (leq (get_or (o ∷ os) i []) t ≡ true))
-    by true e h r = (zero, (omega arith, e))
-    by false e h r = later (r h)
-
 not_free : (s : List ℕ) (ps : List (List ℕ)) (t : List ℕ) (j : ℕ) → j < length ps → rise_count s (get_or ps j []) ≤ 1 → leq s t ≡ true → leq (get_or ps j []) t ≡ true → free s ps t ≡ false
 unfolding free
 not_free s [] t j l n h k = absurd (omega arith)
@@ -161,34 +148,34 @@ not_all_free [] ps t i l h = absurd (omega arith)
 not_all_free (s ∷ ss) ps t zero l h = ap (λ b. b && all_free ss ps t) h
 not_all_free (s ∷ ss) ps t (suc i) l h = and_right (free s ps t) (all_free ss ps t) (not_all_free ss ps t i (omega arith) h)
 
-covered : (b : Bounds) (ss ps : List (List ℕ)) (t : List ℕ) → length b.greatest ≤ 3 → AllByRecursion (λ s. in_domain b s ≡ true) ss → AllByRecursion (λ p. in_domain b p ≡ true) ps
+covered : (g : List ℕ) (ss ps : List (List ℕ)) (t : List ℕ) → length g ≤ 3 → AllByRecursion (λ s. in_domain (up_to g) s ≡ true) ss → AllByRecursion (λ p. in_domain (up_to g) p ≡ true) ps
     → inside ss t ≡ false → inside ps t ≡ false → (all_free ss ps t && all_free ps ss t) ≡ false
-covered b ss ps t few h k l m =
+covered g ss ps t few h k l m =
     let x = found ss t l in
     let y = found ps t m in
     let s = get_or ss x.0 [] in
     let p = get_or ps y.0 [] in
-    let ls = leq-length s b.greatest (each-at (λ s. in_domain b s ≡ true) ss x.0 [] x.1.0 h) in
-    let lp = leq-length p b.greatest (each-at (λ p. in_domain b p ≡ true) ps y.0 [] y.1.0 k) in
+    let ls = leq-length s g (each-at (λ s. in_domain (up_to g) s ≡ true) ss x.0 [] x.1.0 h) in
+    let lp = leq-length p g (each-at (λ p. in_domain (up_to g) p ≡ true) ps y.0 [] y.1.0 k) in
     elim (one-near s p (ls ∙ sym lp) (omega (arith, ls))) [
       | inl n ↦ and_left (all_free ss ps t) (all_free ps ss t) (not_all_free ss ps t x.0 x.1.0 (not_free s ps t y.0 y.1.0 n x.1.1 y.1.1))
       | inr n ↦ and_right (all_free ss ps t) (all_free ps ss t) (not_all_free ps ss t y.0 y.1.0 (not_free p ss t x.0 x.1.0 n y.1.1 x.1.1))
     ]
 
 -- what is inside one of the two, where stamps have at most three coordinates
-pub names-join_near : (b : Bounds) (ss ps : List (List ℕ)) → length b.greatest ≤ 3 → AllByRecursion (λ s. in_domain b s ≡ true) ss → AllByRecursion (λ p. in_domain b p ≡ true) ps
-    → IsFrontOf b (front_without_all_near ps ss (front_without_all_near ss ps [])) (join (frontier_of b ss) (frontier_of b ps))
-names-join_near b ss ps few h k = record {
-  canonical = canonical-excluding_all_near b ps ss (front_without_all_near ss ps []) k h (canonical-excluding_all_near b ss ps [] h k tt);
-  same = λ t. ap (λ c. in_domain b t && c) (whole t ∙ test t (inside ss t) refl (inside ps t) refl) ∙ and-or_distrib_left (in_domain b t) (inside ss t) (inside ps t);
+pub names-join_near : (g : List ℕ) (ss ps : List (List ℕ)) → length g ≤ 3 → AllByRecursion (λ s. in_domain (up_to g) s ≡ true) ss → AllByRecursion (λ p. in_domain (up_to g) p ≡ true) ps
+    → IsFrontOf (up_to g) (front_without_all_near ps ss (front_without_all_near ss ps [])) (join (frontier_of (up_to g) ss) (frontier_of (up_to g) ps))
+names-join_near g ss ps few h k = record {
+  canonical = canonical-excluding_all_near g ps ss (front_without_all_near ss ps []) k h (canonical-excluding_all_near g ss ps [] h k tt);
+  same = λ t. ap (λ c. in_domain (up_to g) t && c) (whole t ∙ test t (inside ss t) refl (inside ps t) refl) ∙ and-or_distrib_left (in_domain (up_to g) t) (inside ss t) (inside ps t);
 }
   where
     whole : (t : List ℕ) → inside (front_without_all_near ps ss (front_without_all_near ss ps [])) t ≡ (all_free ss ps t && all_free ps ss t)
     whole t =
-        inside-excluding_all_near ps ss (front_without_all_near ss ps []) t (lengths b ps ss k h)
-        ∙ ap (λ c. c && all_free ps ss t) (inside-excluding_all_near ss ps [] t (lengths b ss ps h k))
+        inside-excluding_all_near ps ss (front_without_all_near ss ps []) t (lengths (up_to g) ps ss k h)
+        ∙ ap (λ c. c && all_free ps ss t) (inside-excluding_all_near ss ps [] t (lengths (up_to g) ss ps h k))
 
     test : (t : List ℕ) (x : Bool) → inside ss t ≡ x → (y : Bool) → inside ps t ≡ y → (all_free ss ps t && all_free ps ss t) ≡ (inside ss t || inside ps t)
     test t true e y f = and_from _ _ (all_free-first ss ps t e) (all_free-second ps ss t e) ∙ sym (ap (λ c. c || inside ps t) e)
     test t false e true f = and_from _ _ (all_free-second ss ps t f) (all_free-first ps ss t f) ∙ sym (λ i. e i || f i)
-    test t false e false f = covered b ss ps t few h k e f ∙ sym (λ i. e i || f i)
+    test t false e false f = covered g ss ps t few h k e f ∙ sym (λ i. e i || f i)

@@ -13,12 +13,11 @@ use Rattle.fw_frontier.specs.Front.{inside, IsCanonical}
 use Rattle.fw_frontier.specs.Least.{IsOneOfTheLeast, AreLeastOf}
 use Rattle.fw_frontier.specs.Outside.{front_without, front_without_all}
 use Rattle.fw_time.proofs.EachLaws.{each-at}
-use Rattle.fw_frontier.proofs.GenericLaws.{no}
+use Rattle.fw_frontier.proofs.GenericLaws.{no, found}
 use Rattle.fw_frontier.proofs.InsideLaws.{inside-excluding, inside-excluding_all}
 use Rattle.fw_frontier.proofs.AntichainLaws.{IsAntichain, all-excluding, all-excluding_all, antichain-excluding, antichain-excluding_all, antichain-at}
 use Rattle.fw_frontier.proofs.CanonicalLaws.{antichain-canonical, canonical-antichain}
 use Rattle.fw_frontier.proofs.NamesLaws.{all-outside}
-use Rattle.fw_frontier.proofs.JoinLaws.{found}
 
 -- ---- the stamps of a list
 

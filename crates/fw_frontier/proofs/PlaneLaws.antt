@@ -7,8 +7,7 @@ use Rattle.std.specs.List.{AllByRecursion, Contains}
 use Rattle.std.specs.List.Sorted.{IsStrictlySortedBy}
 use Rattle.std.specs.Ordering.{is_lt}
 use Rattle.std.specs.declared.cmp.Ordering.TheVariants.{Less}
-use Rattle.fw_time.specs.declared.stamp.Bounds.{Bounds}
-use Rattle.fw_time.specs.Stamp.{leq, lub, stamp_cmp, in_domain}
+use Rattle.fw_time.specs.Stamp.{leq, lub, stamp_cmp, in_domain, up_to}
 use Rattle.fw_time.proofs.StampLaws.{leq-refl, leq-trans, leq-antisym, leq-length, lub-left, lub-right, lub-least, before-irrefl}
 use Rattle.fw_time.proofs.EachLaws.{each-at, each-append}
 use Rattle.fw_frontier.specs.declared.planes.Plane.{Plane}
@@ -17,12 +16,11 @@ use Rattle.fw_frontier.specs.declared.planes.TheConstants.{PLANES}
 use Rattle.fw_frontier.specs.Front.{inside, frontier_of, IsCanonical, IsFrontOf}
 use Rattle.fw_frontier.specs.Frontier.{join}
 use Rattle.fw_frontier.specs.Planes.{point_of, is_before, reaches, both_reach, is_least, is_least_along, lubs_with, all_lubs, plane_lubs, planes_lubs, HaveSame}
-use Rattle.fw_frontier.proofs.GenericLaws.{no}
+use Rattle.fw_frontier.proofs.GenericLaws.{no, found}
 use Rattle.fw_frontier.proofs.InsideLaws.{inside-above, leq-at}
 use Rattle.fw_frontier.proofs.AntichainLaws.{antichain-at}
 use Rattle.fw_frontier.proofs.CanonicalLaws.{in_domain-canonical, antichain-canonical}
 use Rattle.fw_frontier.proofs.NamesLaws.{names-join, all-outside}
-use Rattle.fw_frontier.proofs.JoinLaws.{found}
 use Rattle.fw_frontier.proofs.CornerLaws.{below, to_below}
 use Rattle.fw_frontier.proofs.Pairs.{excluding_pairs}
 
@@ -110,15 +108,15 @@ reaches-found plane (s ∷ ss) x y z w h = by (is_before x y z w (point_of plane
 -- ---- bounds
 
 -- at least one stamp of each list is at most this one
-record IsBound (b : Bounds) (ss ps : List (List ℕ)) (t : List ℕ) : Type 0 where
-  in_the_domain : in_domain b t ≡ true
+record IsBound (g : List ℕ) (ss ps : List (List ℕ)) (t : List ℕ) : Type 0 where
+  in_the_domain : in_domain (up_to g) t ≡ true
   first : inside ss t ≡ false
   second : inside ps t ≡ false
 
 -- and no other bound is at most it
-record IsLeastBound (b : Bounds) (ss ps : List (List ℕ)) (t : List ℕ) : Type 0 where
-  bound : IsBound b ss ps t
-  least : (u : List ℕ) → IsBound b ss ps u → leq u t ≡ true → u ≡ t
+record IsLeastBound (g : List ℕ) (ss ps : List (List ℕ)) (t : List ℕ) : Type 0 where
+  bound : IsBound g ss ps t
+  least : (u : List ℕ) → IsBound g ss ps u → leq u t ≡ true → u ≡ t
 
 out-at : (os : List (List ℕ)) (t : List ℕ) (i : ℕ) → i < length os → leq (get_or os i []) t ≡ true → inside os t ≡ false
 out-at [] t i l h = absurd (omega arith)
@@ -130,8 +128,8 @@ out-at (o ∷ os) t zero l h = by (leq o t) h
 out-at (o ∷ os) t (suc i) l h = and_right (not (leq o t)) (inside os t) (out-at os t i (omega arith) h)
 
 -- what is at least a stamp of each list and in the domain is a bound
-bound-of : (b : Bounds) (ss ps : List (List ℕ)) (s p t : List ℕ) → inside ss s ≡ false → inside ps p ≡ false → leq s t ≡ true → leq p t ≡ true → in_domain b t ≡ true → IsBound b ss ps t
-bound-of b ss ps s p t h k l m d = record { in_the_domain = d; first = inside-above ss s t h l; second = inside-above ps p t k m }
+bound-of : (g : List ℕ) (ss ps : List (List ℕ)) (s p t : List ℕ) → inside ss s ≡ false → inside ps p ≡ false → leq s t ≡ true → leq p t ≡ true → in_domain (up_to g) t ≡ true → IsBound g ss ps t
+bound-of g ss ps s p t h k l m d = record { in_the_domain = d; first = inside-above ss s t h l; second = inside-above ps p t k m }
 
 lub-under : (s p : List ℕ) (c e : ℕ) → get_or s c 0 < e → get_or p c 0 < e → get_or (lub s p) c 0 < e
 lub-under [] p c e h k = k
@@ -142,24 +140,24 @@ lub-under (x ∷ s) (y ∷ p) zero e h k = by x y e h k
     by x y e h k = grind (arith, nat_tests)
 lub-under (x ∷ s) (y ∷ p) (suc c) e h k = lub-under s p c e h k
 
-InDomain : Bounds → List (List ℕ) → Type 0
-InDomain b ss = AllByRecursion (λ s. in_domain b s ≡ true) ss
+InDomain : List ℕ → List (List ℕ) → Type 0
+InDomain g ss = AllByRecursion (λ s. in_domain (up_to g) s ≡ true) ss
 
 -- a bound comes before ends before which stamps of both lists come
-bound-before : (b : Bounds) (plane : Plane) (ss ps : List (List ℕ)) (x y z w : ℕ) → InDomain b ss → InDomain b ps
-    → both_reach (map (point_of plane) ss) (map (point_of plane) ps) x y z w ≡ true → (u : List ℕ) × (IsBound b ss ps u × IsBefore plane u x y z w)
+bound-before : (g : List ℕ) (plane : Plane) (ss ps : List (List ℕ)) (x y z w : ℕ) → InDomain g ss → InDomain g ps
+    → both_reach (map (point_of plane) ss) (map (point_of plane) ps) x y z w ≡ true → (u : List ℕ) × (IsBound g ss ps u × IsBefore plane u x y z w)
 unfolding InDomain
-bound-before b plane ss ps x y z w h k e =
+bound-before g plane ss ps x y z w h k e =
     let r = reaches-found plane ss x y z w (and_parts (reaches (map (point_of plane) ss) x y z w) (reaches (map (point_of plane) ps) x y z w) e).0 in
     let q = reaches-found plane ps x y z w (and_parts (reaches (map (point_of plane) ss) x y z w) (reaches (map (point_of plane) ps) x y z w) e).1 in
     let s = get_or ss r.place [] in
     let p = get_or ps q.place [] in
-    let ds : in_domain b s ≡ true = each-at (λ s. in_domain b s ≡ true) ss r.place [] r.there h in
-    let dp : in_domain b p ≡ true = each-at (λ s. in_domain b s ≡ true) ps q.place [] q.there k in
-    let long : length s ≡ length p = leq-length s b.greatest ds ∙ sym (leq-length p b.greatest dp) in (
+    let ds : in_domain (up_to g) s ≡ true = each-at (λ s. in_domain (up_to g) s ≡ true) ss r.place [] r.there h in
+    let dp : in_domain (up_to g) p ≡ true = each-at (λ s. in_domain (up_to g) s ≡ true) ps q.place [] q.there k in
+    let long : length s ≡ length p = leq-length s g ds ∙ sym (leq-length p g dp) in (
       lub s p,
       (
-        bound-of b ss ps s p (lub s p) (out-at ss s r.place r.there (leq-refl s)) (out-at ps p q.place q.there (leq-refl p)) (lub-left s p long) (lub-right s p long) (lub-least s p b.greatest ds dp),
+        bound-of g ss ps s p (lub s p) (out-at ss s r.place r.there (leq-refl s)) (out-at ps p q.place q.there (leq-refl p)) (lub-left s p long) (lub-right s p long) (lub-least s p g ds dp),
         record {
           at_x = lub-under s p plane.x x r.before.at_x q.before.at_x;
           at_y = lub-under s p plane.y y r.before.at_y q.before.at_y;
@@ -170,9 +168,9 @@ bound-before b plane ss ps x y z w h k e =
     )
 
 -- stamps of both lists come before ends before which a bound comes
-reached-by : (b : Bounds) (plane : Plane) (ss ps : List (List ℕ)) (u : List ℕ) (x y z w : ℕ) → IsBound b ss ps u → IsBefore plane u x y z w
+reached-by : (g : List ℕ) (plane : Plane) (ss ps : List (List ℕ)) (u : List ℕ) (x y z w : ℕ) → IsBound g ss ps u → IsBefore plane u x y z w
     → both_reach (map (point_of plane) ss) (map (point_of plane) ps) x y z w ≡ true
-reached-by b plane ss ps u x y z w h k = λ i. one ss h.first i && one ps h.second i
+reached-by g plane ss ps u x y z w h k = λ i. one ss h.first i && one ps h.second i
   where
     lower : (s : List ℕ) → leq s u ≡ true → IsBefore plane s x y z w
     lower s l = record {
@@ -195,10 +193,10 @@ parts false false false true h = no h
 parts false false false false h = (refl, (refl, (refl, refl)))
 
 -- what passes the test is least
-least-tested : (b : Bounds) (plane : Plane) (ss ps : List (List ℕ)) (t : List ℕ) → length b.greatest ≡ 4 → Covers plane
-    → is_least (map (point_of plane) ss) (map (point_of plane) ps) (point_of plane t) ≡ true → IsBound b ss ps t → IsLeastBound b ss ps t
+least-tested : (g : List ℕ) (plane : Plane) (ss ps : List (List ℕ)) (t : List ℕ) → length g ≡ 4 → Covers plane
+    → is_least (map (point_of plane) ss) (map (point_of plane) ps) (point_of plane t) ≡ true → IsBound g ss ps t → IsLeastBound g ss ps t
 unfolding is_least
-least-tested b plane ss ps t four covers h bound = record { bound = bound; least = λ u k l. leq-antisym u t l (back u k l) }
+least-tested g plane ss ps t four covers h bound = record { bound = bound; least = λ u k l. leq-antisym u t l (back u k l) }
   where
     reach : ℕ → ℕ → ℕ → ℕ → Bool
     reach x y z w = both_reach (map (point_of plane) ss) (map (point_of plane) ps) x y z w
@@ -206,7 +204,7 @@ least-tested b plane ss ps t four covers h bound = record { bound = bound; least
     at : List ℕ → ℕ → ℕ
     at s c = get_or s c 0
 
-    back : (u : List ℕ) → IsBound b ss ps u → leq u t ≡ true → leq t u ≡ true
+    back : (u : List ℕ) → IsBound g ss ps u → leq u t ≡ true → leq t u ≡ true
     back u k l =
         let x : at u plane.x ≤ at t plane.x = leq-at u t plane.x l in
         let y : at u plane.y ≤ at t plane.y = leq-at u t plane.y l in
@@ -218,8 +216,8 @@ least-tested b plane ss ps t four covers h bound = record { bound = bound; least
         (reach (at t plane.x + 1) (at t plane.y + 1) (at t plane.z) (at t plane.w + 1))
         (reach (at t plane.x + 1) (at t plane.y + 1) (at t plane.z + 1) (at t plane.w))
         h in
-        let reached = reached-by b plane ss ps u in
-        leq-places plane covers t u (leq-length t b.greatest bound.in_the_domain ∙ four) (leq-length u b.greatest k.in_the_domain ∙ four)
+        let reached = reached-by g plane ss ps u in
+        leq-places plane covers t u (leq-length t g bound.in_the_domain ∙ four) (leq-length u g k.in_the_domain ∙ four)
         (elim (cases_lt (at u plane.x) (at t plane.x)) [
           | inl m ↦ no (sym false_parts.0 ∙ reached (at t plane.x) (at t plane.y + 1) (at t plane.z + 1) (at t plane.w + 1) k (record { at_x = m; at_y = omega arith; at_z = omega arith; at_w = omega arith }))
           | inr m ↦ m
@@ -238,10 +236,10 @@ least-tested b plane ss ps t four covers h bound = record { bound = bound; least
         ])
 
 -- what is least passes the test
-test-least : (b : Bounds) (plane : Plane) (ss ps : List (List ℕ)) (t : List ℕ) → length b.greatest ≡ 4 → Covers plane → InDomain b ss → InDomain b ps
-    → IsLeastBound b ss ps t → is_least (map (point_of plane) ss) (map (point_of plane) ps) (point_of plane t) ≡ true
+test-least : (g : List ℕ) (plane : Plane) (ss ps : List (List ℕ)) (t : List ℕ) → length g ≡ 4 → Covers plane → InDomain g ss → InDomain g ps
+    → IsLeastBound g ss ps t → is_least (map (point_of plane) ss) (map (point_of plane) ps) (point_of plane t) ≡ true
 unfolding is_least
-test-least b plane ss ps t four covers h k least =
+test-least g plane ss ps t four covers h k least =
     let x = get_or t plane.x 0 in
     let y = get_or t plane.y 0 in
     let z = get_or t plane.z 0 in
@@ -263,79 +261,79 @@ test-least b plane ss ps t four covers h k least =
         by : (c : Bool) → both_reach (map (point_of plane) ss) (map (point_of plane) ps) x y z w ≡ c → c ≡ false
         by false e = refl
         by true e =
-            let u = bound-before b plane ss ps x y z w h k e in
+            let u = bound-before g plane ss ps x y z w h k e in
             let m = u.1.1 in
             let d = u.1.0.in_the_domain in
-            let at_most : leq u.0 t ≡ true = leq-places plane covers u.0 t (leq-length u.0 b.greatest d ∙ four) (leq-length t b.greatest least.bound.in_the_domain ∙ four)
+            let at_most : leq u.0 t ≡ true = leq-places plane covers u.0 t (leq-length u.0 g d ∙ four) (leq-length t g least.bound.in_the_domain ∙ four)
             (omega (arith, m.at_x)) (omega (arith, m.at_y)) (omega (arith, m.at_z)) (omega (arith, m.at_w)) in
             absurd (never u.0 m (least.least u.0 u.1.0 at_most))
 
 -- ---- what is found is least
 
 -- the stamp's least upper bounds with the list's are bounds
-AllBounds : Bounds → (ss ps : List (List ℕ)) → List ℕ → List (List ℕ) → Type 0
-AllBounds b ss ps s qs = AllByRecursion (λ q. IsBound b ss ps (lub s q)) qs
+AllBounds : List ℕ → (ss ps : List (List ℕ)) → List ℕ → List (List ℕ) → Type 0
+AllBounds g ss ps s qs = AllByRecursion (λ q. IsBound g ss ps (lub s q)) qs
 
-bounds_with-least : (b : Bounds) (plane : Plane) (ss ps : List (List ℕ)) (s : List ℕ) (qs : List (List ℕ)) → length b.greatest ≡ 4 → Covers plane → AllBounds b ss ps s qs
-    → AllByRecursion (IsLeastBound b ss ps) (lubs_with plane (map (point_of plane) ss) (map (point_of plane) ps) s qs)
+bounds_with-least : (g : List ℕ) (plane : Plane) (ss ps : List (List ℕ)) (s : List ℕ) (qs : List (List ℕ)) → length g ≡ 4 → Covers plane → AllBounds g ss ps s qs
+    → AllByRecursion (IsLeastBound g ss ps) (lubs_with plane (map (point_of plane) ss) (map (point_of plane) ps) s qs)
 unfolding AllBounds is_least_along
-bounds_with-least b plane ss ps s [] four covers h = tt
-bounds_with-least b plane ss ps s (q ∷ qs) four covers h = by
+bounds_with-least g plane ss ps s [] four covers h = tt
+bounds_with-least g plane ss ps s (q ∷ qs) four covers h = by
     (nat_eq (get_or (lub s q) plane.z 0) (get_or s plane.z 0)) (nat_eq (get_or (lub s q) plane.w 0) (get_or s plane.w 0))
-    (is_least (map (point_of plane) ss) (map (point_of plane) ps) (point_of plane (lub s q))) refl (bounds_with-least b plane ss ps s qs four covers h.1)
+    (is_least (map (point_of plane) ss) (map (point_of plane) ps) (point_of plane (lub s q))) refl (bounds_with-least g plane ss ps s qs four covers h.1)
   where
     rest : List (List ℕ)
     rest = lubs_with plane (map (point_of plane) ss) (map (point_of plane) ps) s qs
 
-    by : (c d e : Bool) → is_least (map (point_of plane) ss) (map (point_of plane) ps) (point_of plane (lub s q)) ≡ e → AllByRecursion (IsLeastBound b ss ps) rest
-        → AllByRecursion (IsLeastBound b ss ps) (cond (c && (d && e)) (lub s q ∷ rest) rest)
-    by true true true f r = (least-tested b plane ss ps (lub s q) four covers f h.0, r)
+    by : (c d e : Bool) → is_least (map (point_of plane) ss) (map (point_of plane) ps) (point_of plane (lub s q)) ≡ e → AllByRecursion (IsLeastBound g ss ps) rest
+        → AllByRecursion (IsLeastBound g ss ps) (cond (c && (d && e)) (lub s q ∷ rest) rest)
+    by true true true f r = (least-tested g plane ss ps (lub s q) four covers f h.0, r)
     by true true false f r = r
     by true false e f r = r
     by false d e f r = r
 
-all_bounds-least : (b : Bounds) (plane : Plane) (ss ps rs qs : List (List ℕ)) → length b.greatest ≡ 4 → Covers plane → AllByRecursion (λ s. AllBounds b ss ps s qs) rs
-    → AllByRecursion (IsLeastBound b ss ps) (all_lubs plane (map (point_of plane) ss) (map (point_of plane) ps) rs qs)
-all_bounds-least b plane ss ps [] qs four covers h = tt
-all_bounds-least b plane ss ps (r ∷ rs) qs four covers h =
-    each-append (IsLeastBound b ss ps) (lubs_with plane (map (point_of plane) ss) (map (point_of plane) ps) r qs) (all_lubs plane (map (point_of plane) ss) (map (point_of plane) ps) rs qs)
-    (bounds_with-least b plane ss ps r qs four covers h.0) (all_bounds-least b plane ss ps rs qs four covers h.1)
+all_bounds-least : (g : List ℕ) (plane : Plane) (ss ps rs qs : List (List ℕ)) → length g ≡ 4 → Covers plane → AllByRecursion (λ s. AllBounds g ss ps s qs) rs
+    → AllByRecursion (IsLeastBound g ss ps) (all_lubs plane (map (point_of plane) ss) (map (point_of plane) ps) rs qs)
+all_bounds-least g plane ss ps [] qs four covers h = tt
+all_bounds-least g plane ss ps (r ∷ rs) qs four covers h =
+    each-append (IsLeastBound g ss ps) (lubs_with plane (map (point_of plane) ss) (map (point_of plane) ps) r qs) (all_lubs plane (map (point_of plane) ss) (map (point_of plane) ps) rs qs)
+    (bounds_with-least g plane ss ps r qs four covers h.0) (all_bounds-least g plane ss ps rs qs four covers h.1)
 
 -- the least upper bounds of stamps of both lists are bounds, whichever comes first
-lubs-with : (b : Bounds) (ss ps : List (List ℕ)) (s : List ℕ) (qs : List (List ℕ)) → in_domain b s ≡ true → inside ss s ≡ false → InDomain b qs → AllByRecursion (λ q. inside ps q ≡ false) qs → AllBounds b ss ps s qs
+lubs-with : (g : List ℕ) (ss ps : List (List ℕ)) (s : List ℕ) (qs : List (List ℕ)) → in_domain (up_to g) s ≡ true → inside ss s ≡ false → InDomain g qs → AllByRecursion (λ q. inside ps q ≡ false) qs → AllBounds g ss ps s qs
 unfolding AllBounds InDomain
-lubs-with b ss ps s [] d h e k = tt
-lubs-with b ss ps s (q ∷ qs) d h e k =
-    let long : length s ≡ length q = leq-length s b.greatest d ∙ sym (leq-length q b.greatest e.0) in
-    (bound-of b ss ps s q (lub s q) h k.0 (lub-left s q long) (lub-right s q long) (lub-least s q b.greatest d e.0), lubs-with b ss ps s qs d h e.1 k.1)
+lubs-with g ss ps s [] d h e k = tt
+lubs-with g ss ps s (q ∷ qs) d h e k =
+    let long : length s ≡ length q = leq-length s g d ∙ sym (leq-length q g e.0) in
+    (bound-of g ss ps s q (lub s q) h k.0 (lub-left s q long) (lub-right s q long) (lub-least s q g d e.0), lubs-with g ss ps s qs d h e.1 k.1)
 
-lubs-after : (b : Bounds) (ss ps : List (List ℕ)) (p : List ℕ) (qs : List (List ℕ)) → in_domain b p ≡ true → inside ps p ≡ false → InDomain b qs → AllByRecursion (λ q. inside ss q ≡ false) qs → AllBounds b ss ps p qs
+lubs-after : (g : List ℕ) (ss ps : List (List ℕ)) (p : List ℕ) (qs : List (List ℕ)) → in_domain (up_to g) p ≡ true → inside ps p ≡ false → InDomain g qs → AllByRecursion (λ q. inside ss q ≡ false) qs → AllBounds g ss ps p qs
 unfolding AllBounds InDomain
-lubs-after b ss ps p [] d h e k = tt
-lubs-after b ss ps p (q ∷ qs) d h e k =
-    let long : length p ≡ length q = leq-length p b.greatest d ∙ sym (leq-length q b.greatest e.0) in
-    (bound-of b ss ps q p (lub p q) k.0 h (lub-right p q long) (lub-left p q long) (lub-least p q b.greatest d e.0), lubs-after b ss ps p qs d h e.1 k.1)
+lubs-after g ss ps p [] d h e k = tt
+lubs-after g ss ps p (q ∷ qs) d h e k =
+    let long : length p ≡ length q = leq-length p g d ∙ sym (leq-length q g e.0) in
+    (bound-of g ss ps q p (lub p q) k.0 h (lub-right p q long) (lub-left p q long) (lub-least p q g d e.0), lubs-after g ss ps p qs d h e.1 k.1)
 
-lubs-all : (b : Bounds) (ss ps rs qs : List (List ℕ)) → InDomain b rs → AllByRecursion (λ r. inside ss r ≡ false) rs → InDomain b qs → AllByRecursion (λ q. inside ps q ≡ false) qs → AllByRecursion (λ s. AllBounds b ss ps s qs) rs
+lubs-all : (g : List ℕ) (ss ps rs qs : List (List ℕ)) → InDomain g rs → AllByRecursion (λ r. inside ss r ≡ false) rs → InDomain g qs → AllByRecursion (λ q. inside ps q ≡ false) qs → AllByRecursion (λ s. AllBounds g ss ps s qs) rs
 unfolding InDomain
-lubs-all b ss ps [] qs d h e k = tt
-lubs-all b ss ps (r ∷ rs) qs d h e k = (lubs-with b ss ps r qs d.0 h.0 e k, lubs-all b ss ps rs qs d.1 h.1 e k)
+lubs-all g ss ps [] qs d h e k = tt
+lubs-all g ss ps (r ∷ rs) qs d h e k = (lubs-with g ss ps r qs d.0 h.0 e k, lubs-all g ss ps rs qs d.1 h.1 e k)
 
-lubs-all_after : (b : Bounds) (ss ps rs qs : List (List ℕ)) → InDomain b rs → AllByRecursion (λ r. inside ps r ≡ false) rs → InDomain b qs → AllByRecursion (λ q. inside ss q ≡ false) qs → AllByRecursion (λ s. AllBounds b ss ps s qs) rs
+lubs-all_after : (g : List ℕ) (ss ps rs qs : List (List ℕ)) → InDomain g rs → AllByRecursion (λ r. inside ps r ≡ false) rs → InDomain g qs → AllByRecursion (λ q. inside ss q ≡ false) qs → AllByRecursion (λ s. AllBounds g ss ps s qs) rs
 unfolding InDomain
-lubs-all_after b ss ps [] qs d h e k = tt
-lubs-all_after b ss ps (r ∷ rs) qs d h e k = (lubs-after b ss ps r qs d.0 h.0 e k, lubs-all_after b ss ps rs qs d.1 h.1 e k)
+lubs-all_after g ss ps [] qs d h e k = tt
+lubs-all_after g ss ps (r ∷ rs) qs d h e k = (lubs-after g ss ps r qs d.0 h.0 e k, lubs-all_after g ss ps rs qs d.1 h.1 e k)
 
-plane_bounds-least : (b : Bounds) (plane : Plane) (ss ps : List (List ℕ)) → length b.greatest ≡ 4 → Covers plane → InDomain b ss → InDomain b ps → AllByRecursion (IsLeastBound b ss ps) (plane_lubs plane ss ps)
-plane_bounds-least b plane ss ps four covers h k =
-    each-append (IsLeastBound b ss ps) (all_lubs plane (map (point_of plane) ss) (map (point_of plane) ps) ss ps) (all_lubs plane (map (point_of plane) ss) (map (point_of plane) ps) ps ss)
-    (all_bounds-least b plane ss ps ss ps four covers (lubs-all b ss ps ss ps h (all-outside ss) k (all-outside ps)))
-    (all_bounds-least b plane ss ps ps ss four covers (lubs-all_after b ss ps ps ss k (all-outside ps) h (all-outside ss)))
+plane_bounds-least : (g : List ℕ) (plane : Plane) (ss ps : List (List ℕ)) → length g ≡ 4 → Covers plane → InDomain g ss → InDomain g ps → AllByRecursion (IsLeastBound g ss ps) (plane_lubs plane ss ps)
+plane_bounds-least g plane ss ps four covers h k =
+    each-append (IsLeastBound g ss ps) (all_lubs plane (map (point_of plane) ss) (map (point_of plane) ps) ss ps) (all_lubs plane (map (point_of plane) ss) (map (point_of plane) ps) ps ss)
+    (all_bounds-least g plane ss ps ss ps four covers (lubs-all g ss ps ss ps h (all-outside ss) k (all-outside ps)))
+    (all_bounds-least g plane ss ps ps ss four covers (lubs-all_after g ss ps ps ss k (all-outside ps) h (all-outside ss)))
 
-planes_bounds-least : (b : Bounds) (planes : List Plane) (ss ps : List (List ℕ)) → length b.greatest ≡ 4 → AllByRecursion Covers planes → InDomain b ss → InDomain b ps → AllByRecursion (IsLeastBound b ss ps) (planes_lubs planes ss ps)
-planes_bounds-least b [] ss ps four covers h k = tt
-planes_bounds-least b (plane ∷ planes) ss ps four covers h k =
-    each-append (IsLeastBound b ss ps) (plane_lubs plane ss ps) (planes_lubs planes ss ps) (plane_bounds-least b plane ss ps four covers.0 h k) (planes_bounds-least b planes ss ps four covers.1 h k)
+planes_bounds-least : (g : List ℕ) (planes : List Plane) (ss ps : List (List ℕ)) → length g ≡ 4 → AllByRecursion Covers planes → InDomain g ss → InDomain g ps → AllByRecursion (IsLeastBound g ss ps) (planes_lubs planes ss ps)
+planes_bounds-least g [] ss ps four covers h k = tt
+planes_bounds-least g (plane ∷ planes) ss ps four covers h k =
+    each-append (IsLeastBound g ss ps) (plane_lubs plane ss ps) (planes_lubs planes ss ps) (plane_bounds-least g plane ss ps four covers.0 h k) (planes_bounds-least g planes ss ps four covers.1 h k)
 
 -- ---- what is least is found
 
@@ -375,10 +373,10 @@ along-agrees plane ms os s t h k =
     equal x y e = grind (arith, nat_tests)
 
 -- a least bound of two stamps is found in a plane where it agrees with one of them
-plane_bounds-has : (b : Bounds) (plane : Plane) (ss ps : List (List ℕ)) (t : List ℕ) (i j : ℕ) → length b.greatest ≡ 4 → Covers plane → InDomain b ss → InDomain b ps → IsLeastBound b ss ps t
+plane_bounds-has : (g : List ℕ) (plane : Plane) (ss ps : List (List ℕ)) (t : List ℕ) (i j : ℕ) → length g ≡ 4 → Covers plane → InDomain g ss → InDomain g ps → IsLeastBound g ss ps t
     → i < length ss → j < length ps → lub (get_or ss i []) (get_or ps j []) ≡ t → lub (get_or ps j []) (get_or ss i []) ≡ t
     → Agrees plane t (get_or ss i []) ⊎ Agrees plane t (get_or ps j []) → Contains (plane_lubs plane ss ps) t
-plane_bounds-has b plane ss ps t i j four covers h k least l m e f side = by side
+plane_bounds-has g plane ss ps t i j four covers h k least l m e f side = by side
   where
     ms : List Point
     ms = map (point_of plane) ss
@@ -387,7 +385,7 @@ plane_bounds-has b plane ss ps t i j four covers h k least l m e f side = by sid
     os = map (point_of plane) ps
 
     passed : is_least ms os (point_of plane t) ≡ true
-    passed = test-least b plane ss ps t four covers h k least
+    passed = test-least g plane ss ps t four covers h k least
 
     by : Agrees plane t (get_or ss i []) ⊎ Agrees plane t (get_or ps j []) → Contains (plane_lubs plane ss ps) t
     by (inl a) =
@@ -457,9 +455,9 @@ covers-12 (suc (suc zero)) h = inr (inr (inr refl))
 covers-12 (suc (suc (suc zero))) h = inr (inl refl)
 covers-12 (suc (suc (suc (suc c)))) h = absurd (omega arith)
 
-planes_bounds-has : (b : Bounds) (ss ps : List (List ℕ)) (t : List ℕ) → length b.greatest ≡ 4 → InDomain b ss → InDomain b ps → IsLeastBound b ss ps t → Contains (planes_lubs PLANES ss ps) t
+planes_bounds-has : (g : List ℕ) (ss ps : List (List ℕ)) (t : List ℕ) → length g ≡ 4 → InDomain g ss → InDomain g ps → IsLeastBound g ss ps t → Contains (planes_lubs PLANES ss ps) t
 unfolding InDomain
-planes_bounds-has b ss ps t four h k least = by (side-of s p t (at 0) (at 1) (at 2))
+planes_bounds-has g ss ps t four h k least = by (side-of s p t (at 0) (at 1) (at 2))
   where
     x : (i : ℕ) × ((i < length ss) × (leq (get_or ss i []) t ≡ true))
     x = found ss t least.bound.first
@@ -473,30 +471,30 @@ planes_bounds-has b ss ps t four h k least = by (side-of s p t (at 0) (at 1) (at
     p : List ℕ
     p = get_or ps y.0 []
 
-    ds : in_domain b s ≡ true
-    ds = each-at (λ s. in_domain b s ≡ true) ss x.0 [] x.1.0 h
+    ds : in_domain (up_to g) s ≡ true
+    ds = each-at (λ s. in_domain (up_to g) s ≡ true) ss x.0 [] x.1.0 h
 
-    dp : in_domain b p ≡ true
-    dp = each-at (λ s. in_domain b s ≡ true) ps y.0 [] y.1.0 k
+    dp : in_domain (up_to g) p ≡ true
+    dp = each-at (λ s. in_domain (up_to g) s ≡ true) ps y.0 [] y.1.0 k
 
     long : length s ≡ length p
-    long = leq-length s b.greatest ds ∙ sym (leq-length p b.greatest dp)
+    long = leq-length s g ds ∙ sym (leq-length p g dp)
 
     lub-is : lub s p ≡ t
     lub-is = least.least (lub s p)
-        (bound-of b ss ps s p (lub s p) (out-at ss s x.0 x.1.0 (leq-refl s)) (out-at ps p y.0 y.1.0 (leq-refl p)) (lub-left s p long) (lub-right s p long) (lub-least s p b.greatest ds dp))
+        (bound-of g ss ps s p (lub s p) (out-at ss s x.0 x.1.0 (leq-refl s)) (out-at ps p y.0 y.1.0 (leq-refl p)) (lub-left s p long) (lub-right s p long) (lub-least s p g ds dp))
         (lub-least s p t x.1.1 y.1.1)
 
     lub-back : lub p s ≡ t
     lub-back = least.least (lub p s)
-        (bound-of b ss ps s p (lub p s) (out-at ss s x.0 x.1.0 (leq-refl s)) (out-at ps p y.0 y.1.0 (leq-refl p)) (lub-right p s (sym long)) (lub-left p s (sym long)) (lub-least p s b.greatest dp ds))
+        (bound-of g ss ps s p (lub p s) (out-at ss s x.0 x.1.0 (leq-refl s)) (out-at ps p y.0 y.1.0 (leq-refl p)) (lub-right p s (sym long)) (lub-left p s (sym long)) (lub-least p s g dp ds))
         (lub-least p s t y.1.1 x.1.1)
 
     at : (c : ℕ) → (get_or t c 0 ≡ get_or s c 0) ⊎ (get_or t c 0 ≡ get_or p c 0)
     at c = let P : List ℕ → Type 0 = λ u. (get_or u c 0 ≡ get_or s c 0) ⊎ (get_or u c 0 ≡ get_or p c 0) in subst P lub-is (lub-one s p c long)
 
     in_plane : (plane : Plane) → Covers plane → Agrees plane t s ⊎ Agrees plane t p → Contains (plane_lubs plane ss ps) t
-    in_plane plane covers side = plane_bounds-has b plane ss ps t x.0 y.0 four covers h k least x.1.0 y.1.0 lub-is lub-back side
+    in_plane plane covers side = plane_bounds-has g plane ss ps t x.0 y.0 four covers h k least x.1.0 y.1.0 lub-is lub-back side
 
     first : List (List ℕ)
     first = plane_lubs (record { x = 2; y = 3; z = 0; w = 1 }) ss ps
@@ -515,18 +513,18 @@ planes_bounds-has b ss ps t four h k least = by (side-of s p t (at 0) (at 1) (at
 
 -- ---- under each bound there is a least one
 
-least-under : (b : Bounds) (ss ps : List (List ℕ)) (t : List ℕ) → InDomain b ss → InDomain b ps → IsBound b ss ps t → (u : List ℕ) × (IsLeastBound b ss ps u × (leq u t ≡ true))
+least-under : (g : List ℕ) (ss ps : List (List ℕ)) (t : List ℕ) → InDomain g ss → InDomain g ps → IsBound g ss ps t → (u : List ℕ) × (IsLeastBound g ss ps u × (leq u t ≡ true))
 unfolding InDomain
-least-under b ss ps t h k bound = (u, (record { bound = under; least = smallest }, w.1.1))
+least-under g ss ps t h k bound = (u, (record { bound = under; least = smallest }, w.1.1))
   where
     os : List (List ℕ)
     os = excluding_pairs ss ps []
 
-    named : IsFrontOf b os (join (frontier_of b ss) (frontier_of b ps))
-    named = names-join b ss ps h k
+    named : IsFrontOf (up_to g) os (join (frontier_of (up_to g) ss) (frontier_of (up_to g) ps))
+    named = names-join g ss ps h k
 
-    outside : (v : List ℕ) → IsBound b ss ps v → inside os v ≡ false
-    outside v m = by (in_domain b v) (inside os v) (inside ss v) (inside ps v) m.in_the_domain m.first m.second (named.same v)
+    outside : (v : List ℕ) → IsBound g ss ps v → inside os v ≡ false
+    outside v m = by (in_domain (up_to g) v) (inside os v) (inside ss v) (inside ps v) m.in_the_domain m.first m.second (named.same v)
       where
         by : (a c d e : Bool) → a ≡ true → d ≡ false → e ≡ false → (a && c) ≡ ((a && d) || (a && e)) → c ≡ false
         by true c d e p q r h = h ∙ (λ i. q i || r i)
@@ -538,43 +536,43 @@ least-under b ss ps t h k bound = (u, (record { bound = under; least = smallest 
     u : List ℕ
     u = get_or os w.0 []
 
-    d : in_domain b u ≡ true
-    d = each-at (λ s. in_domain b s ≡ true) os w.0 [] w.1.0 (in_domain-canonical b os named.canonical)
+    d : in_domain (up_to g) u ≡ true
+    d = each-at (λ s. in_domain (up_to g) s ≡ true) os w.0 [] w.1.0 (in_domain-canonical (up_to g) os named.canonical)
 
-    under : IsBound b ss ps u
-    under = by (in_domain b u) (inside os u) (inside ss u) (inside ps u) refl refl d (out-at os u w.0 w.1.0 (leq-refl u)) (named.same u)
+    under : IsBound g ss ps u
+    under = by (in_domain (up_to g) u) (inside os u) (inside ss u) (inside ps u) refl refl d (out-at os u w.0 w.1.0 (leq-refl u)) (named.same u)
       where
-        by : (a c e f : Bool) → inside ss u ≡ e → inside ps u ≡ f → a ≡ true → c ≡ false → (a && c) ≡ ((a && e) || (a && f)) → IsBound b ss ps u
+        by : (a c e f : Bool) → inside ss u ≡ e → inside ps u ≡ f → a ≡ true → c ≡ false → (a && c) ≡ ((a && e) || (a && f)) → IsBound g ss ps u
         by true c true f p q r s h = no (sym s ∙ h)
         by true c false true p q r s h = no (sym s ∙ h)
         by true c false false p q r s h = record { in_the_domain = d; first = p; second = q }
         by false c e f p q r s h = no r
 
-    smallest : (v : List ℕ) → IsBound b ss ps v → leq v u ≡ true → v ≡ u
+    smallest : (v : List ℕ) → IsBound g ss ps v → leq v u ≡ true → v ≡ u
     smallest v m l =
         let x = found os v (outside v m) in
-        let e : get_or os x.0 [] ≡ u = antichain-at os x.0 w.0 (antichain-canonical b os named.canonical) x.1.0 w.1.0 (leq-trans (get_or os x.0 []) v u x.1.1 l) in
+        let e : get_or os x.0 [] ≡ u = antichain-at os x.0 w.0 (antichain-canonical (up_to g) os named.canonical) x.1.0 w.1.0 (leq-trans (get_or os x.0 []) v u x.1.1 l) in
         leq-antisym v u l (ap (λ s. leq s v) (sym e) ∙ x.1.1)
 
 -- ---- the names
 
-each-least : (b : Bounds) (ss ps us : List (List ℕ)) (t : List ℕ) → AllByRecursion (IsLeastBound b ss ps) us → Contains us t → IsLeastBound b ss ps t
-each-least b ss ps us t h c = let P : List ℕ → Type 0 = IsLeastBound b ss ps in subst P c.2 (at us c.0 t h c.1)
+each-least : (g : List ℕ) (ss ps us : List (List ℕ)) (t : List ℕ) → AllByRecursion (IsLeastBound g ss ps) us → Contains us t → IsLeastBound g ss ps t
+each-least g ss ps us t h c = let P : List ℕ → Type 0 = IsLeastBound g ss ps in subst P c.2 (at us c.0 t h c.1)
   where
-    at : (us : List (List ℕ)) (i : ℕ) (t : List ℕ) → AllByRecursion (IsLeastBound b ss ps) us → i < length us → IsLeastBound b ss ps (get_or us i t)
+    at : (us : List (List ℕ)) (i : ℕ) (t : List ℕ) → AllByRecursion (IsLeastBound g ss ps) us → i < length us → IsLeastBound g ss ps (get_or us i t)
     at [] i t h l = absurd (omega arith)
     at (u ∷ us) zero t h l = h.0
     at (u ∷ us) (suc i) t h l = at us i t h.1 (omega arith)
 
-all-least : (b : Bounds) (ss ps us : List (List ℕ)) → ((t : List ℕ) → Contains us t → IsLeastBound b ss ps t) → AllByRecursion (IsLeastBound b ss ps) us
-all-least b ss ps [] h = tt
-all-least b ss ps (u ∷ us) h = (h u (0, omega arith, refl), all-least b ss ps us (λ t c. h t (Contains-append_right (u ∷ []) us t c)))
+all-least : (g : List ℕ) (ss ps us : List (List ℕ)) → ((t : List ℕ) → Contains us t → IsLeastBound g ss ps t) → AllByRecursion (IsLeastBound g ss ps) us
+all-least g ss ps [] h = tt
+all-least g ss ps (u ∷ us) h = (h u (0, omega arith, refl), all-least g ss ps us (λ t c. h t (Contains-append_right (u ∷ []) us t c)))
 
 -- least bounds in ascending order are a canonical list
-canonical-least : (b : Bounds) (ss ps us : List (List ℕ)) → AllByRecursion (IsLeastBound b ss ps) us → IsStrictlySortedBy stamp_cmp us → IsCanonical b us
+canonical-least : (g : List ℕ) (ss ps us : List (List ℕ)) → AllByRecursion (IsLeastBound g ss ps) us → IsStrictlySortedBy stamp_cmp us → IsCanonical (up_to g) us
 unfolding IsStrictlySortedBy
-canonical-least b ss ps [] h k = tt
-canonical-least b ss ps (u ∷ us) h k = (record { in_the_domain = h.0.bound.in_the_domain; ascending = up us k.0; incomparable = apart us k.0 h.1 }, canonical-least b ss ps us h.1 k.1)
+canonical-least g ss ps [] h k = tt
+canonical-least g ss ps (u ∷ us) h k = (record { in_the_domain = h.0.bound.in_the_domain; ascending = up us k.0; incomparable = apart us k.0 h.1 }, canonical-least g ss ps us h.1 k.1)
   where
     up : (us : List (List ℕ)) → AllByRecursion (λ q. stamp_cmp u q ≡ Less) us → AllByRecursion (λ q. is_lt (stamp_cmp u q) ≡ true) us
     up [] k = tt
@@ -583,7 +581,7 @@ canonical-least b ss ps (u ∷ us) h k = (record { in_the_domain = h.0.bound.in_
     lies : {A : Type 0} (q : List ℕ) → q ≡ u → stamp_cmp u q ≡ Less → A
     lies q e f = no (sym (before-irrefl u) ∙ ap (λ v. is_lt (stamp_cmp u v)) (sym e) ∙ ap is_lt f)
 
-    apart : (us : List (List ℕ)) → AllByRecursion (λ q. stamp_cmp u q ≡ Less) us → AllByRecursion (IsLeastBound b ss ps) us → AllByRecursion (λ q. (leq u q || leq q u) ≡ false) us
+    apart : (us : List (List ℕ)) → AllByRecursion (λ q. stamp_cmp u q ≡ Less) us → AllByRecursion (IsLeastBound g ss ps) us → AllByRecursion (λ q. (leq u q || leq q u) ≡ false) us
     apart [] k l = tt
     apart (q ∷ us) k l = (one (leq u q) refl (leq q u) refl, apart us k.1 l.1)
       where
@@ -593,30 +591,30 @@ canonical-least b ss ps (u ∷ us) h k = (record { in_the_domain = h.0.bound.in_
         one false e false f = refl
 
 -- the bounds found in planes name what is inside one of the two
-pub names-planes : (b : Bounds) (ss ps us : List (List ℕ)) → length b.greatest ≡ 4 → AllByRecursion (λ s. in_domain b s ≡ true) ss → AllByRecursion (λ s. in_domain b s ≡ true) ps
-    → IsStrictlySortedBy stamp_cmp us → HaveSame (planes_lubs PLANES ss ps) us → IsFrontOf b us (join (frontier_of b ss) (frontier_of b ps))
+pub names-planes : (g : List ℕ) (ss ps us : List (List ℕ)) → length g ≡ 4 → AllByRecursion (λ s. in_domain (up_to g) s ≡ true) ss → AllByRecursion (λ s. in_domain (up_to g) s ≡ true) ps
+    → IsStrictlySortedBy stamp_cmp us → HaveSame (planes_lubs PLANES ss ps) us → IsFrontOf (up_to g) us (join (frontier_of (up_to g) ss) (frontier_of (up_to g) ps))
 unfolding InDomain
-names-planes b ss ps us four h k sorted same = record {
-  canonical = canonical-least b ss ps us all sorted;
-  same = λ t. by t (in_domain b t) refl;
+names-planes g ss ps us four h k sorted same = record {
+  canonical = canonical-least g ss ps us all sorted;
+  same = λ t. by t (in_domain (up_to g) t) refl;
 }
   where
-    all : AllByRecursion (IsLeastBound b ss ps) us
-    all = all-least b ss ps us (λ t c. each-least b ss ps (planes_lubs PLANES ss ps) t (planes_bounds-least b PLANES ss ps four (covers-01, (covers-02, (covers-12, tt))) h k) (same.none_new t c))
+    all : AllByRecursion (IsLeastBound g ss ps) us
+    all = all-least g ss ps us (λ t c. each-least g ss ps (planes_lubs PLANES ss ps) t (planes_bounds-least g PLANES ss ps four (covers-01, (covers-02, (covers-12, tt))) h k) (same.none_new t c))
 
     -- a stamp that is not inside is at least one of the bounds
-    above : (t : List ℕ) → inside us t ≡ false → (u : List ℕ) × (IsLeastBound b ss ps u × (leq u t ≡ true))
-    above t e = let f = found us t e in (get_or us f.0 [], (each-least b ss ps us (get_or us f.0 []) all (f.0, f.1.0, other us f.0 (get_or us f.0 []) f.1.0), f.1.1))
+    above : (t : List ℕ) → inside us t ≡ false → (u : List ℕ) × (IsLeastBound g ss ps u × (leq u t ≡ true))
+    above t e = let f = found us t e in (get_or us f.0 [], (each-least g ss ps us (get_or us f.0 []) all (f.0, f.1.0, other us f.0 (get_or us f.0 []) f.1.0), f.1.1))
       where
         other : (us : List (List ℕ)) (i : ℕ) (d : List ℕ) → i < length us → get_or us i d ≡ get_or us i []
         other [] i d l = absurd (omega arith)
         other (u ∷ us) zero d l = refl
         other (u ∷ us) (suc i) d l = other us i d (omega arith)
 
-    inner : (t : List ℕ) → in_domain b t ≡ true → inside ss t ≡ false → inside ps t ≡ false → inside us t ≡ false
+    inner : (t : List ℕ) → in_domain (up_to g) t ≡ true → inside ss t ≡ false → inside ps t ≡ false → inside us t ≡ false
     inner t d e f =
-        let u = least-under b ss ps t h k (record { in_the_domain = d; first = e; second = f }) in
-        let c = same.none_lost u.0 (planes_bounds-has b ss ps u.0 four h k u.1.0) in
+        let u = least-under g ss ps t h k (record { in_the_domain = d; first = e; second = f }) in
+        let c = same.none_lost u.0 (planes_bounds-has g ss ps u.0 four h k u.1.0) in
         out-in us t u.0 c u.1.1
       where
         out-in : (us : List (List ℕ)) (t u : List ℕ) → Contains us u → leq u t ≡ true → inside us t ≡ false
@@ -627,7 +625,7 @@ names-planes b ss ps us four h k sorted same = record {
             at (o ∷ os) zero l e = out-at (o ∷ os) t 0 (omega arith) e
             at (o ∷ os) (suc i) l e = and_right (not (leq o t)) (inside os t) (at os i (omega arith) e)
 
-    outer : (t : List ℕ) (c : Bool) → inside us t ≡ c → (x : Bool) → inside ss t ≡ x → (y : Bool) → inside ps t ≡ y → in_domain b t ≡ true → c ≡ (x || y)
+    outer : (t : List ℕ) (c : Bool) → inside us t ≡ c → (x : Bool) → inside ss t ≡ x → (y : Bool) → inside ps t ≡ y → in_domain (up_to g) t ≡ true → c ≡ (x || y)
     outer t false e true f y g d = let u = above t e in no (sym (inside-above ss u.0 t u.1.0.bound.first u.1.1) ∙ f)
     outer t false e false f true g d = let u = above t e in no (sym (inside-above ps u.0 t u.1.0.bound.second u.1.1) ∙ g)
     outer t false e false f false g d = refl
@@ -635,6 +633,6 @@ names-planes b ss ps us four h k sorted same = record {
     outer t true e false f true g d = refl
     outer t true e false f false g d = sym e ∙ inner t d f g
 
-    by : (t : List ℕ) (a : Bool) → in_domain b t ≡ a → (a && inside us t) ≡ ((a && inside ss t) || (a && inside ps t))
+    by : (t : List ℕ) (a : Bool) → in_domain (up_to g) t ≡ a → (a && inside us t) ≡ ((a && inside ss t) || (a && inside ps t))
     by t true d = outer t (inside us t) refl (inside ss t) refl (inside ps t) refl d
     by t false d = refl

@@ -9,6 +9,8 @@ use Rattle.fw_time.specs.Stamp.{leq, nest, outer, counter, in_domain}
 use Rattle.fw_time.specs.NestLaws.{nest-outer}
 use Rattle.fw_time.specs.declared.stamp.Bounds.{Bounds}
 use Rattle.fw_time.proofs.StampLaws.{leq-nest, leq-length}
+use Rattle.fw_time.proofs.EachLaws.{each-weaker}
+use Rattle.fw_time.proofs.DomainLaws.{domain-leq, domain-length, plain-in_domain}
 use Rattle.fw_time.proofs.TimeLaws.{leq-nest_bound}
 use Rattle.fw_frontier.specs.Front.{inside, IsFrontOf}
 use Rattle.fw_frontier.proofs.CanonicalLaws.{in_domain-canonical}
@@ -209,7 +211,7 @@ pub inside-more_nested : (xs os : List (List ℕ)) (s : List ℕ) (c d : ℕ) �
 inside-more_nested xs os s c d h = inside-append xs (map (λ o. nest o c) os) (nest s d) ∙ ap (λ b. inside xs (nest s d) && b) (inside-nested os s c d h)
 
 -- and all of them lie in the domain
-pub all-more_nested : (b : Bounds) (xs os : List (List ℕ)) (c : ℕ) → 0 < length b.greatest → c ≤ counter b.greatest → AllByRecursion (λ x. in_domain b x ≡ true) xs → AllByRecursion (λ o. leq o (outer b.greatest) ≡ true) os → AllByRecursion (λ x. in_domain b x ≡ true) (xs ++ map (λ o. nest o c) os)
+pub all-more_nested : (b : Bounds) (xs os : List (List ℕ)) (c : ℕ) → 0 < length b.greatest → c ≤ counter b.greatest → AllByRecursion (λ x. leq x b.greatest ≡ true) xs → AllByRecursion (λ o. leq o (outer b.greatest) ≡ true) os → AllByRecursion (λ x. leq x b.greatest ≡ true) (xs ++ map (λ o. nest o c) os)
 all-more_nested b [] [] c h k l m = tt
 all-more_nested b [] (o ∷ os) c h k l m =
     (leq-nest_bound o b.greatest c h ∙ and_from (leq o (outer b.greatest)) (nat_le c (counter b.greatest)) m.0 (le-leb c (counter b.greatest) k), all-more_nested b [] os c h k tt m.1)
@@ -218,7 +220,7 @@ all-more_nested b (x ∷ xs) os c h k l m = (l.0, all-more_nested b xs os c h k 
 -- stamps of the outer domain have its length
 pub all-long : (b : Bounds) (s : List ℕ) (os : List (List ℕ)) → AllByRecursion (λ o. in_domain b o ≡ true) os → leq s b.greatest ≡ true → AllByRecursion (λ o. length o ≡ length s) os
 all-long b s [] h k = tt
-all-long b s (o ∷ os) h k = (leq-length o b.greatest h.0 ∙ sym (leq-length s b.greatest k), all-long b s os h.1 k)
+all-long b s (o ∷ os) h k = (domain-length b o h.0 ∙ sym (leq-length s b.greatest k), all-long b s os h.1 k)
 
 -- ---- whether one loop's frontier lies within another
 
@@ -251,18 +253,18 @@ none-at xs c d e = get_or_past xs c d (omega (arith, ap length e))
 
 -- one more counter
 pub nested-more : (b o : Bounds) (xs os : List (List ℕ)) (test : List ℕ → ℕ → Bool) (c : ℕ)
-    → o.greatest ≡ outer b.greatest → 0 < length b.greatest → c ≤ counter b.greatest
+    → o.sides ≡ false → o.greatest ≡ outer b.greatest → 0 < length b.greatest → c ≤ counter b.greatest
     → IsFrontOf o os (λ t. in_domain o t && test t c)
-    → AllByRecursion (λ x. in_domain b x ≡ true) xs × ((s : List ℕ) (d : ℕ) → leq s (outer b.greatest) ≡ true → inside xs (nest s d) ≡ upto (test s) c d)
-    → AllByRecursion (λ x. in_domain b x ≡ true) (xs ++ map (λ o. nest o c) os) × ((s : List ℕ) (d : ℕ) → leq s (outer b.greatest) ≡ true → inside (xs ++ map (λ o. nest o c) os) (nest s d) ≡ upto (test s) (c + 1) d)
-nested-more b o xs os test c e some fits named so_far =
+    → AllByRecursion (λ x. leq x b.greatest ≡ true) xs × ((s : List ℕ) (d : ℕ) → leq s (outer b.greatest) ≡ true → inside xs (nest s d) ≡ upto (test s) c d)
+    → AllByRecursion (λ x. leq x b.greatest ≡ true) (xs ++ map (λ o. nest o c) os) × ((s : List ℕ) (d : ℕ) → leq s (outer b.greatest) ≡ true → inside (xs ++ map (λ o. nest o c) os) (nest s d) ≡ upto (test s) (c + 1) d)
+nested-more b o xs os test c plain e some fits named so_far =
     let all = in_domain-canonical o os named.canonical in
-    let there : AllByRecursion (λ u. leq u (outer b.greatest) ≡ true) os = subst (λ (g : List ℕ). AllByRecursion (λ u. leq u g ≡ true) os) e all in (
+    let there : AllByRecursion (λ u. leq u (outer b.greatest) ≡ true) os = each-weaker (λ u. in_domain o u ≡ true) (λ u. leq u (outer b.greatest) ≡ true) os (λ u h. sym (ap (leq u) e) ∙ domain-leq o u h) all in (
       all-more_nested b xs os c some fits so_far.0 there,
       λ s d h.
           let k : leq s o.greatest ≡ true = ap (leq s) e ∙ h in
           inside-more_nested xs os s c d (all-long o s os all k)
-          ∙ (let p = so_far.1 s d h in let q = here (in_domain o s) k (named.same s) in λ i. p i && (not (nat_le c d) || q i))
+          ∙ (let p = so_far.1 s d h in let q = here (in_domain o s) (plain-in_domain o s plain ∙ k) (named.same s) in λ i. p i && (not (nat_le c d) || q i))
           ∙ sym (upto-more (test s) c d),
     )
   where
@@ -276,7 +278,7 @@ pub nested-whole : (b : Bounds) (xs : List (List ℕ)) (test : List ℕ → ℕ 
     → ((s : List ℕ) (c d : ℕ) → c ≤ d → test s d ≡ true → test s c ≡ true)
     → ((s : List ℕ) (c : ℕ) → len ≤ c → test s c ≡ test s len)
     → ((s : List ℕ) (d : ℕ) → leq s (outer b.greatest) ≡ true → inside xs (nest s d) ≡ upto (test s) n d)
-    → (t : List ℕ) → in_domain b t ≡ true → inside xs t ≡ test (outer t) (counter t)
+    → (t : List ℕ) → leq t b.greatest ≡ true → inside xs t ≡ test (outer t) (counter t)
 nested-whole b xs test len n some e down flat each t h =
     let long : length t ≡ length b.greatest = leq-length t b.greatest h in
     let whole = nest-outer t (omega arith) in
@@ -289,7 +291,7 @@ nested-whole b xs test len n some e down flat each t h =
 -- stamps of the outer domain have room for a counter
 pub all-short : (o : Bounds) (os : List (List ℕ)) → length o.greatest < 4 → AllByRecursion (λ u. in_domain o u ≡ true) os → AllByRecursion (λ u. length u < 4) os
 all-short o [] h k = tt
-all-short o (u ∷ os) h k = (omega (arith, leq-length u o.greatest k.0), all-short o os h k.1)
+all-short o (u ∷ os) h k = (omega (arith, domain-length o u k.0), all-short o os h k.1)
 
 -- ---- a copy of a loop's frontier
 

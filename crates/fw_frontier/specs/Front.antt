@@ -1,9 +1,9 @@
 -- Frontiers by their least outside stamps, and which list names a frontier.
-use Rattle.std.specs.Prelude.{◌≡◌, Bool, true, false, not, ◌&&◌, ◌||◌, List, [], ◌∷◌}
+use Rattle.std.specs.Prelude.{◌≡◌, Bool, true, false, not, ◌&&◌, ◌||◌, if◌then◌else◌, List, [], ◌∷◌, filter}
 use Rattle.std.specs.List.{AllByRecursion, list_all}
 use Rattle.std.specs.Ordering.{is_lt, is_eq}
 use Rattle.std.specs.Cmp.Lexicographic.{slice_cmp}
-use Rattle.fw_time.specs.Stamp.{Stamp, leq, in_domain, stamp_cmp}
+use Rattle.fw_time.specs.Stamp.{Stamp, leq, origin, in_domain, stamp_cmp}
 use Rattle.fw_time.specs.declared.stamp.Bounds.{Bounds}
 use Rattle.fw_frontier.specs.Frontier.{Frontier}
 
@@ -19,6 +19,10 @@ inside (o ∷ os) t = not (leq o t) && inside os t
 -- the frontier of a domain that has these outside stamps
 abbrev pub frontier_of : Bounds → Front → Frontier
 frontier_of bounds os t = in_domain bounds t && inside os t
+
+-- the least stamps of a domain, in order: the zeros, or where it has sides the least of each
+abbrev pub least_stamps : Bounds → Front
+least_stamps bounds = if bounds.sides then filter (in_domain bounds) ((0 ∷ 1 ∷ []) ∷ (1 ∷ 0 ∷ []) ∷ []) else origin bounds.greatest ∷ []
 
 -- whether all stamps are the domain's
 abbrev pub all_in_domain : Bounds → Front → Bool

@@ -83,7 +83,7 @@ impl<N: Scalar> Frontier<N> for Below {
 // The numbers of a domain that are below the limit, by their least outside stamps.
 fn front_until(alloc: Global, until: Option<u32>, bounds: &Bounds) -> Result<Front, AllocError>
     requires { length bounds.now.greatest ≡ 1 }
-    ensures { IfOk result (λ f. IsFrontOf bounds.now f
+    ensures { bounds.now.sides ≡ false → IfOk result (λ f. IsFrontOf bounds.now f
         (λ t. in_domain bounds.now t && is_below until (slice_index t 0))) }
 {
     let Some(limit) = until else {

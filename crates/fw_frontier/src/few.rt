@@ -1,10 +1,9 @@
 //! The outside stamps of a front. One alone takes no memory where it is made alone.
-ghost use Rattle.std.specs.Prelude.{◌≡◌, true, [], ◌∷◌, length, IfSome, IfOk};
+ghost use Rattle.std.specs.Prelude.{◌≡◌, true, ℕ, List, [], ◌∷◌, length, IfSome, IfOk};
 ghost use Rattle.std.specs.List.{AllByRecursion};
-ghost use Rattle.fw_time.specs.declared.stamp.Bounds.{Bounds as Domain};
-ghost use Rattle.fw_time.specs.Stamp.{in_domain};
+ghost use Rattle.fw_time.specs.Stamp.{leq, in_domain, up_to};
 ghost use Rattle.fw_frontier.specs.Few.{stamps_of};
-ghost use Rattle.fw_frontier.specs.Front.{frontier_of, IsFrontOf};
+ghost use Rattle.fw_frontier.specs.Front.{frontier_of, least_stamps, IsFrontOf};
 ghost use Rattle.fw_frontier.specs.Frontier.{join, cover};
 ghost use Rattle.fw_frontier.specs.Outside.{front_without, front_without_all, below_at};
 
@@ -33,15 +32,29 @@ impl Few {
         Ok(Few::Many(outside))
     }
 
+    // The least stamps of a domain.
+    pub fn least(alloc: Global, bounds: &Bounds) -> Result<Self, AllocError>
+        ensures { IfOk result (λ few. stamps_of few ≡ least_stamps bounds.now) }
+    {
+        if !bounds.sides {
+            return Ok(Few::One(alloc, bounds.origin()));
+        }
+        let mut least = Vec::new(alloc);
+        least.push(Stamp::new(&[0, 1]))?;
+        least.push(Stamp::new(&[1, 0]))?;
+        outside::keep_in_domain(&mut least, bounds);
+        Ok(Few::Many(least))
+    }
+
     // The outside stamps of what is at most one of these stamps of a domain.
     pub fn covering(alloc: Global, stamps: &[Stamp], bounds: &Bounds) -> Result<Self, AllocError>
         ensures { AllByRecursion (λ s. in_domain bounds.now s ≡ true) stamps.now
             → IfOk result (λ few. IsFrontOf bounds.now (stamps_of few) (cover bounds.now stamps.now)) }
     {
-        let mut covered = Few::One(alloc, bounds.origin());
+        let mut covered = Few::least(alloc, bounds)?;
         for s in stamps {
             let under = Few::below(alloc, s, &bounds.greatest)?;
-            covered = covered.joined(&under)?;
+            covered = covered.joined(&under, bounds)?;
         }
         Ok(covered)
     }
@@ -112,13 +125,29 @@ impl Few {
         Ok(Few::Many(outside))
     }
 
-    // The outside stamps of what is inside one of two frontiers.
+    // The outside stamps of what of a domain is inside one of two frontiers. Where it has sides, a bound of two stamps that is
+    // of no side is at most none of its stamps.
+    pub fn joined(&self, other: &Self, bounds: &Bounds) -> Result<Self, AllocError>
+        ensures { AllByRecursion (λ s. in_domain bounds.now s ≡ true) (stamps_of self.now)
+            → AllByRecursion (λ s. in_domain bounds.now s ≡ true) (stamps_of other.now)
+            → IfOk result (λ few. IsFrontOf bounds.now (stamps_of few)
+            (join (frontier_of bounds.now (stamps_of self.now)) (frontier_of bounds.now (stamps_of other.now)))) }
+    {
+        if !bounds.sides {
+            return self.bounds_with(other);
+        }
+        let mut outside = outside::joined(self.allocator(), self.as_slice(), other.as_slice())?;
+        outside::keep_in_domain(&mut outside, bounds);
+        Ok(Few::Many(outside))
+    }
+
+    // The same of a domain without sides.
     #[tactic(auto, using(crate::proofs::FewLaws::one_join))]
-    pub fn joined(&self, other: &Self) -> Result<Self, AllocError>
-        ensures { (bounds : Domain) → AllByRecursion (λ s. in_domain bounds s ≡ true) (stamps_of self.now)
-            → AllByRecursion (λ s. in_domain bounds s ≡ true) (stamps_of other.now)
-            → IfOk result (λ few. IsFrontOf bounds (stamps_of few)
-            (join (frontier_of bounds (stamps_of self.now)) (frontier_of bounds (stamps_of other.now)))) }
+    fn bounds_with(&self, other: &Self) -> Result<Self, AllocError>
+        ensures { (greatest : List ℕ) → AllByRecursion (λ s. leq s greatest ≡ true) (stamps_of self.now)
+            → AllByRecursion (λ s. leq s greatest ≡ true) (stamps_of other.now)
+            → IfOk result (λ few. IsFrontOf (up_to greatest) (stamps_of few)
+            (join (frontier_of (up_to greatest) (stamps_of self.now)) (frontier_of (up_to greatest) (stamps_of other.now)))) }
     {
         if let Few::One(alloc, mine) = self {
             if let Few::One(_, others) = other {

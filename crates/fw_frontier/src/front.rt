@@ -61,7 +61,7 @@ impl Front {
     pub fn empty(alloc: Global, bounds: &Bounds) -> Result<Self, AllocError>
         ensures { IfOk result (λ f. IsFrontOf bounds.now f nothing) }
     {
-        let outside = Few::One(alloc, bounds.origin());
+        let outside = Few::least(alloc, bounds)?;
         Ok(Front { outside })
     }
 
@@ -163,13 +163,13 @@ impl Front {
         Ok(Front { outside })
     }
 
-    /// What is inside one of the two.
-    pub fn join(&self, other: &Self) -> Result<Self, AllocError>
-        ensures { (bounds : Domain) → IsCanonical bounds self.now → IsCanonical bounds other.now
-            → IfOk result (λ f. IsFrontOf bounds f
-            (join (frontier_of bounds self.now) (frontier_of bounds other.now))) }
+    /// What of a domain is inside one of the two.
+    pub fn join(&self, other: &Self, bounds: &Bounds) -> Result<Self, AllocError>
+        ensures { IsCanonical bounds.now self.now → IsCanonical bounds.now other.now
+            → IfOk result (λ f. IsFrontOf bounds.now f
+            (join (frontier_of bounds.now self.now) (frontier_of bounds.now other.now))) }
     {
-        let outside = self.outside.joined(&other.outside)?;
+        let outside = self.outside.joined(&other.outside, bounds)?;
         Ok(Front { outside })
     }
 

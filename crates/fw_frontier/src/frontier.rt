@@ -64,10 +64,10 @@ pub trait Frontier<T: Time>: Drop {
         ensures { IfOk result
             (λ f. (s : T) → inside f s ≡ (inside self.now s && not (leq (T.coords t.now) (T.coords s)))) };
 
-    /// What of the domain is inside, by its least outside stamps.
+    /// What of the domain is inside, by its least outside stamps, where the domain has no sides.
     fn to_front(&self, alloc: Global, bounds: &Bounds) -> Result<Front, AllocError>
         requires { length bounds.now.greatest ≡ T.dimension }
-        ensures { IfOk result (λ f. IsFrontOf bounds.now f
+        ensures { bounds.now.sides ≡ false → IfOk result (λ f. IsFrontOf bounds.now f
             (λ t. in_domain bounds.now t && inside self.now (T.of_coords t))) };
 
     /// What is at most one of these times of the domain.

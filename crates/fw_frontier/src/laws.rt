@@ -59,7 +59,7 @@ pub fn round_trip<T: Logical>()
 
 /// A frontier without outside times past the domain has another inside where it has the other's times of the domain.
 pub fn domain_decides<T: Logical>()
-    ensures { (bounds : Domain) (f g : T.Frontier) → length bounds.greatest ≡ T.dimension
+    ensures { (bounds : Domain) (f g : T.Frontier) → length bounds.greatest ≡ T.dimension → bounds.sides ≡ false
         → IsOfDomain T.coords T.of_coords bounds (T.Frontier.inside g)
         → ((t : T) → in_domain bounds (T.coords t) ≡ true → T.Frontier.inside f t ≡ true → T.Frontier.inside g t ≡ true)
         → (t : T) → T.Frontier.inside f t ≡ true → T.Frontier.inside g t ≡ true }

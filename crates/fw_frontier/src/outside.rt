@@ -1,8 +1,7 @@
 //! Lists of outside stamps, and what the calls of frontiers do to them.
-ghost use Rattle.std.specs.Prelude.{◌≡◌, true, [], ◌<◌, ◌≤◌, not, nat_lt, if◌then◌else◌, length, slice_index, filter, IfOk, OnOk};
+ghost use Rattle.std.specs.Prelude.{◌≡◌, true, ℕ, List, [], ◌<◌, ◌≤◌, not, nat_lt, if◌then◌else◌, length, slice_index, filter, IfOk, OnOk};
 ghost use Rattle.std.specs.List.{AllByRecursion};
-ghost use Rattle.fw_time.specs.declared.stamp.Bounds.{Bounds as Domain};
-ghost use Rattle.fw_time.specs.Stamp.{leq, lub, stamp_raised_at, in_domain};
+ghost use Rattle.fw_time.specs.Stamp.{leq, lub, stamp_raised_at, in_domain, up_to};
 ghost use Rattle.fw_frontier.specs.Front.{inside, is_within, all_in_domain, frontier_of, IsFrontOf};
 ghost use Rattle.fw_frontier.specs.Frontier.{join};
 ghost use Rattle.fw_frontier.specs.Outside.{place_among, with_stamp, front_without, front_without_all, rise_count, front_without_near, front_without_all_near, below_at};
@@ -167,12 +166,19 @@ fn joined_by_near(alloc: Global, mine: &[Stamp], others: &[Stamp]) -> Result<Vec
     Ok(both)
 }
 
-// What is inside one of two frontiers.
+// Keeps the stamps of a domain.
+pub fn keep_in_domain(stamps: &mut Vec<Stamp>, bounds: &Bounds)
+    ensures { stamps.new.items ≡ filter (in_domain bounds.now) stamps.old.items }
+{
+    stamps.retain(|s| s.in_domain(bounds));
+}
+
+// What is inside one of two frontiers of a domain without sides.
 pub fn joined(alloc: Global, mine: &[Stamp], others: &[Stamp]) -> Result<Vec<Stamp>, AllocError>
-    ensures { (bounds : Domain) → AllByRecursion (λ s. in_domain bounds s ≡ true) mine.now
-        → AllByRecursion (λ s. in_domain bounds s ≡ true) others.now
-        → IfOk result (λ both. IsFrontOf bounds both.items
-        (join (frontier_of bounds mine.now) (frontier_of bounds others.now))) }
+    ensures { (greatest : List ℕ) → AllByRecursion (λ s. leq s greatest ≡ true) mine.now
+        → AllByRecursion (λ s. leq s greatest ≡ true) others.now
+        → IfOk result (λ both. IsFrontOf (up_to greatest) both.items
+        (join (frontier_of (up_to greatest) mine.now) (frontier_of (up_to greatest) others.now))) }
 {
     let [first, ..] = mine else {
         return Ok(Vec::new(alloc));

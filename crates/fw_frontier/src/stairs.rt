@@ -40,8 +40,8 @@ impl<T: Logical> Stairs<T> {
     // Stamps of the domain outside of which, with the greater ones, its times are inside.
     fn nested(&self, alloc: Global, bounds: &Bounds) -> Result<Vec<Stamp>, AllocError>
         requires { length bounds.now.greatest ≡ T.dimension + 1 }
-        ensures in_domain { IfOk result (λ stamps. AllByRecursion (λ s. in_domain bounds.now s ≡ true) stamps.items) }
-        ensures test { IfOk result (λ stamps. (t : List ℕ) → in_domain bounds.now t ≡ true → inside stamps.items t
+        ensures in_domain { IfOk result (λ stamps. AllByRecursion (λ s. leq s bounds.now.greatest ≡ true) stamps.items) }
+        ensures test { IfOk result (λ stamps. (t : List ℕ) → leq t bounds.now.greatest ≡ true → inside stamps.items t
             ≡ T.Frontier.inside (slice_index_or self.now.steps.items (counter t) self.now.last) (T.of_coords (outer t))) }
     {
         let outer = outer_of(bounds);
@@ -180,10 +180,12 @@ impl<T: Logical> Frontier<Nest<T>> for Stairs<T> {
 fn outer_of(bounds: &Bounds) -> Bounds
     requires { 0 < length bounds.now.greatest }
     ensures value { result.greatest ≡ outer bounds.now.greatest }
+    ensures plain { result.sides ≡ false }
     ensures few { length result.greatest < 4 }
 {
     Bounds {
         greatest: bounds.greatest.outer(),
+        sides: false,
     }
 }
 

@@ -9,10 +9,11 @@ use Rattle.fw_frontier.proofs.Pairs.{excluding_pairs}
 use Rattle.fw_time.specs.Stamp.{Stamp, leq, in_domain}
 use Rattle.fw_time.specs.declared.stamp.Bounds.{Bounds}
 use Rattle.fw_time.proofs.EachLaws.{each-weaker, each-one}
+use Rattle.fw_time.proofs.DomainLaws.{domain-leq}
 use Rattle.fw_frontier.specs.Frontier.{Frontier, IsFrontier, Within, nothing, join, cover, some_above}
 use Rattle.fw_frontier.specs.Front.{Front, inside, frontier_of, IsCanonical, IsFrontOf}
 use Rattle.fw_frontier.proofs.CanonicalLaws.{in_domain-canonical}
-use Rattle.fw_frontier.proofs.NamesLaws.{names-join, names-self, names-same, frontier-closed}
+use Rattle.fw_frontier.proofs.NamesLaws.{names-join, names-join_sides, names-self, names-same, frontier-closed}
 use Rattle.fw_flow.specs.declared.choice.Cut.{Cut}
 use Rattle.fw_flow.specs.declared.choice.Cut.TheVariants.{Present, At}
 use Rattle.fw_flow.specs.declared.event.Message.{Message}
@@ -319,7 +320,7 @@ by_batches-input OutputEpoch p e = absurd (cc)
 by_batches-input OutputNumber p e = absurd (cc)
 by_batches-input kind p e = absurd (not_by_batches p e)
 
-pub bounds-input : (flow : Dataflow) (p : ℕ) → kind_of flow p ≡ Input → bounds_of flow p ≡ record { greatest = greatest_number ∷ [] }
+pub bounds-input : (flow : Dataflow) (p : ℕ) → kind_of flow p ≡ Input → bounds_of flow p ≡ record { greatest = greatest_number ∷ []; sides = false }
 unfolding bounds_of
 bounds-input flow p is = ap (λ k. bounds_of_domain flow (domain_of_kind flow k)) is
 
@@ -439,23 +440,37 @@ union-consistent sys state lost view one other union a b w offered =
 
 -- ---- each two choices have a union, which they lie within
 
-union_cut : Cut → Cut → Cut
-union_cut Present y = Present
-union_cut (At f) Present = Present
-union_cut (At f) (At g) = At (excluding_pairs f g [])
+-- the list of what is inside one of two frontiers of a domain
+union : Bounds → Front → Front → Front
+union b f g = filter (in_domain b) (excluding_pairs f g [])
+
+names-union : (b : Bounds) (f g : Front) → IsCanonical b f → IsCanonical b g → IsFrontOf b (union b f g) (join (frontier_of b f) (frontier_of b g))
+unfolding union
+names-union b f g h k =
+    let i = in_domain-canonical b f h in
+    let j = in_domain-canonical b g k in
+    names-join_sides b (excluding_pairs f g []) f g i j (names-join b.greatest f g (low f i) (low g j))
+  where
+    low : (os : Front) → AllByRecursion (λ o. in_domain b o ≡ true) os → AllByRecursion (λ o. leq o b.greatest ≡ true) os
+    low os h = each-weaker (λ o. in_domain b o ≡ true) (λ o. leq o b.greatest ≡ true) os (domain-leq b) h
+
+union_cut : Bounds → Cut → Cut → Cut
+union_cut b Present y = Present
+union_cut b (At f) Present = Present
+union_cut b (At f) (At g) = At (union b f g)
 
 union_cut-union : (sys : System) (state : Machine) (lost : ℕ → Bool) (view : View) (p : ℕ) (x y : Cut) → IsCandidate sys state lost view p x
-    → IsCandidate sys state lost view p y → IsUnionOfCuts sys p x y (union_cut x y)
+    → IsCandidate sys state lost view p y → IsUnionOfCuts sys p x y (union_cut (bounds_of sys.flow p) x y)
 unfolding union_cut
 union_cut-union sys state lost view p Present y i j = refl
 union_cut-union sys state lost view p (At f) Present i j = refl
-union_cut-union sys state lost view p (At f) (At g) i j = names-join (bounds_of sys.flow p) f g (in_domain-canonical (bounds_of sys.flow p) f i.0) (in_domain-canonical (bounds_of sys.flow p) g j.0)
+union_cut-union sys state lost view p (At f) (At g) i j = names-union (bounds_of sys.flow p) f g i.0 j.0
 
 pub have-union : ConsistentChoicesHaveUnion
 have-union sys state lost view one other a b =
     let n = length sys.flow.nodes in
-    let cut : ℕ → Cut = λ p. union_cut (cut_of one p) (cut_of other p) in
-    let notice : ℕ → Front = λ p. excluding_pairs (front_of one.notices p) (front_of other.notices p) [] in (
+    let cut : ℕ → Cut = λ p. union_cut (bounds_of sys.flow p) (cut_of one p) (cut_of other p) in
+    let notice : ℕ → Front = λ p. union (bounds_of sys.flow p) (front_of one.notices p) (front_of other.notices p) in (
       record { cuts = map cut (range_with_len 0 n); notices = map notice (range_with_len 0 n) },
       record {
         one_cut_each = length-map-range_with_len cut 0 n;
@@ -464,9 +479,7 @@ have-union sys state lost view one other a b =
             (union_cut-union sys state lost view p (cut_of one p) (cut_of other p) (a.offered p l) (b.offered p l));
         notices = λ p l. subst (λ os. IsFrontOf (bounds_of sys.flow p) os (join (notice_of sys.flow one p) (notice_of sys.flow other p)))
             (sym (get_or-map-range_with_len notice 0 n p p [] l (omega arith)))
-            (names-join (bounds_of sys.flow p) (front_of one.notices p) (front_of other.notices p)
-            (in_domain-canonical (bounds_of sys.flow p) (front_of one.notices p) (a.canonical p l))
-            (in_domain-canonical (bounds_of sys.flow p) (front_of other.notices p) (b.canonical p l)));
+            (names-union (bounds_of sys.flow p) (front_of one.notices p) (front_of other.notices p) (a.canonical p l) (b.canonical p l));
       },
     )
 

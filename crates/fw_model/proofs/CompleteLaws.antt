@@ -16,6 +16,7 @@ use Rattle.fw_flow.specs.Dataflow.{System, Dataflow, idle_node, kind_of, sender,
 use Rattle.fw_flow.specs.NodeFunction.{event_node, event_stamp, recs_on, numbered_messages, sequence_sent, sends_of_kind, sends, sent_by}
 use Rattle.fw_flow.specs.Projection.{events_at, count_from, first_coordinate, phi, IsSenderFrontier}
 use Rattle.fw_flow.specs.WellFormed.{IsWellFormed}
+use Rattle.fw_model.proofs.LesserLaws.{lesser-in_domain}
 use Rattle.fw_model.specs.History.{some_at, sent_messages, delivered_messages, pending_messages, was_delivered_to, was_notified, is_owed_notice, injected_count, is_exhausted, injected_epochs, IsAdmissible, IsEnabled, IsLegal}
 use Rattle.fw_flow.specs.Message.{messages_less}
 use Rattle.fw_model.specs.LawsOfCompleteFrontiers.{EnabledIsOutside, AdmissibleStaysAdmissible}
@@ -173,7 +174,7 @@ paid-event sys h done a (Deliver e m) o p t i =
     let c = and_parts (receiver sys.flow e == p) (same m.at t) k in
     let b = and_parts (leq m.at t) (leq t m.at) c.1 in
     let fr = a.frontier p in
-    let j = fr.closed m.at t (leq-trans m.at t (bounds_of sys.flow p).greatest b.0 (fr.inside_domain t i)) b.0 i in
+    let j = fr.closed m.at t (lesser-in_domain sys.flow p m.at t b.0 (fr.inside_domain t i)) b.0 i in
     two_ways (done (receiver sys.flow e) m.at) (ap (λ n. done n m.at) (eqb-true (receiver sys.flow e) p c.0) ∙ j) o))
     (a.paid p t i)
 paid-event sys h done a (Notify q s) o p t i =

@@ -5,6 +5,7 @@ use Rattle.std.specs.Ordering.{is_lt}
 use Rattle.std.proofs.lemmas.Bool.{and_parts, and_from, cases_Bool}
 use Rattle.fw_time.specs.Stamp.{Stamp, leq, in_domain, stamp_cmp}
 use Rattle.fw_time.specs.declared.stamp.Bounds.{Bounds}
+use Rattle.fw_time.proofs.DomainLaws.{domain-leq}
 use Rattle.fw_frontier.specs.Frontier.{Frontier, Within, nothing, everything, cover, some_above}
 use Rattle.fw_frontier.specs.Front.{Front, inside, frontier_of, IsLeastBefore, IsCanonical}
 use Rattle.fw_flow.specs.declared.choice.Cut.{Cut}
@@ -34,7 +35,7 @@ decided-within b f g d = elim (find_stamp (λ t. f t && not (g t)) b.greatest) [
       inr (λ k. two_ways (not (g w.0)) a.1 (ap not (k w.0 a.0)))
   | inr none ↦ inl (λ t i. elim (cases_Bool (g t)) [
     | inl e ↦ e
-    | inr e ↦ absurd (two_ways (f t && not (g t)) (and_from (f t) (not (g t)) i (ap not e)) (none t (d t i)))
+    | inr e ↦ absurd (two_ways (f t && not (g t)) (and_from (f t) (not (g t)) i (ap not e)) (none t (domain-leq b t (d t i))))
   ])
 ]
 

@@ -5,6 +5,7 @@ use Rattle.std.proofs.lemmas.Bool.{and_parts, and_from, cases_lt, eqb-true, eq-e
 use Rattle.std.proofs.lemmas.List.{get_or_past}
 use Rattle.fw_time.specs.Stamp.{Stamp, leq, same, in_domain}
 use Rattle.fw_time.proofs.StampLaws.{leq-refl, leq-trans}
+use Rattle.fw_time.proofs.DomainLaws.{domain-leq}
 use Rattle.fw_frontier.specs.Frontier.{Frontier, IsFrontier, Within}
 use Rattle.fw_flow.specs.Counting.{how_many}
 use Rattle.fw_flow.specs.declared.event.Event.{Event}
@@ -16,6 +17,7 @@ use Rattle.fw_flow.specs.Projection.{events_at, sent_count, phi_of_kind, phi}
 use Rattle.fw_flow.specs.WellFormed.{IsWellFormed}
 use Rattle.fw_flow.specs.Message.{messages_less}
 use Rattle.fw_flow.proofs.MessageLaws.{less-none}
+use Rattle.fw_model.proofs.LesserLaws.{lesser-in_domain}
 use Rattle.fw_model.specs.History.{some_at, delivered_messages, pending_messages, is_owed_notice, injected_epochs, IsQuiet, IsAdmissible}
 use Rattle.fw_model.specs.LawsOfExistence.{CompleteExists, CompleteIsTheOnlyOne}
 use Rattle.fw_model.proofs.CompleteLaws.{past_edges-idle}
@@ -277,7 +279,7 @@ admissible-clear sys h other a p t i =
     let d = fr.inside_domain t i in
     and_from (in_domain (bounds_of sys.flow p) t) (each_up_to (is_clear sys h p) t) d
     (each_up_to-from (is_clear sys h p) t (λ s l.
-    let j = fr.closed s t (leq-trans s t (bounds_of sys.flow p).greatest l d) l i in
+    let j = fr.closed s t (lesser-in_domain sys.flow p s t l d) l i in
     clear-from sys h p s (a.quiet p s j) (a.paid p s j) (λ is. a.source p is s j)))
 
 admissible-lowered : (sys : System) (h : List Event) (other : ℕ → Frontier) → IsAdmissible sys h other → (k p : ℕ) → Within (other p) (lowered sys h k p)
@@ -297,7 +299,7 @@ stable-follows sys h w k c e t i =
     let p = receiver sys.flow e in
     let d = (lowered-frontier sys h k p).inside_domain t i in
     elim (cases_lt e (length sys.flow.edges)) [
-      | inl l ↦ follows_all-at sys h (lowered sys h k) p t (lowered-follows sys h k p t (c p (w.receivers_declared e l) t d i)) e l refl
+      | inl l ↦ follows_all-at sys h (lowered sys h k) p t (lowered-follows sys h k p t (c p (w.receivers_declared e l) t (domain-leq (bounds_of sys.flow p) t d) i)) e l refl
       | inr l ↦
           let j = past_edges-joined sys.flow e l in
           past_edges-phi sys h e (lowered sys h k (sender sys.flow e)) t l (ap (λ q. in_domain (bounds_of sys.flow q) t) j ∙ d) (ap (λ q. lowered sys h k q t) j ∙ i)

@@ -6,6 +6,7 @@ use Rattle.std.proofs.lemmas.Bool.{and_parts, and_from, or_cases, or_left, or_ri
 use Rattle.fw_bag.specs.declared.rec.Rec.{Rec}
 use Rattle.fw_time.specs.Stamp.{Stamp, leq, lesser, same, stamp_cmp}
 use Rattle.fw_time.proofs.StampLaws.{leq-antisym}
+use Rattle.fw_time.proofs.DomainLaws.{domain-leq}
 use Rattle.fw_frontier.specs.Frontier.{Frontier}
 use Rattle.fw_frontier.specs.Front.{frontier_of}
 use Rattle.fw_flow.specs.declared.event.Event.{Event}
@@ -247,7 +248,7 @@ more_at-decided sys state done c p =
             inl (w.0, f, a.0, false_from_ne_true (old w.0) (λ k. two_ways (not (old w.0)) a.1 (ap not k)))
         | inr none ↦ inr (λ w.
             two_ways (done p w.0 && not (old w.0)) (and_from (done p w.0) (not (old w.0)) w.2 (ap not w.3))
-            (none w.0 ((c.admissible.frontier p).inside_domain w.0 w.2)))
+            (none w.0 (domain-leq b w.0 ((c.admissible.frontier p).inside_domain w.0 w.2))))
       ]
     ]
 

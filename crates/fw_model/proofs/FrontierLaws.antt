@@ -24,7 +24,7 @@ line-numbers g s u i j l =
     let b = ap first_coordinate w.1 in
     omega arith
 
-feedback-closed : (b : Stamp) (m : ℕ) (f : Frontier) → IsFrontier (record { greatest = nest b m }) f → (s u : Stamp) → leq s (nest b m) ≡ true
+feedback-closed : (b : Stamp) (m : ℕ) (f : Frontier) → IsFrontier (record { greatest = nest b m; sides = false }) f → (s u : Stamp) → leq s (nest b m) ≡ true
     → leq u (nest b m) ≡ true → leq s u ≡ true → f (nest (outer u) (counter u - 1)) ≡ true → f (nest (outer s) (counter s - 1)) ≡ true
 feedback-closed b m f fr s u i j l k =
     let v = in_loop s b m i in

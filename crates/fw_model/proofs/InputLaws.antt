@@ -1,5 +1,5 @@
 -- What an input sent is what its first batches hold.
-use Rattle.std.proofs.Common.{◌≡◌, ℕ, zero, suc, ◌+◌, ◌-◌, ◌<◌, ◌≤◌, true, cond, ◌&&◌, ◌||◌, ◌==◌, nat_lt, List, [], ◌∷◌, ◌++◌, length, Option, Some, None, refl, sym, ap, ◌∙◌, inl, inr, arith}
+use Rattle.std.proofs.Common.{◌≡◌, ℕ, zero, suc, ◌+◌, ◌-◌, ◌<◌, ◌≤◌, true, cond, ◌&&◌, ◌||◌, ◌==◌, nat_lt, List, [], ◌∷◌, ◌++◌, length, Option, Some, None, refl, sym, ap, ◌∙◌, inl, inr, arith, false}
 use Rattle.std.specs.Prelude.{slice_index_or}
 use Rattle.std.proofs.lemmas.Bool.{and_parts, or_cases, cond_both, cases_Bool, eqb-true, ltb-true}
 use Rattle.fw_time.specs.Stamp.{Stamp, same, in_domain}
@@ -208,10 +208,10 @@ input-equal sys p is h l t k q =
 
 -- ---- the domain of an input
 
-input-epoch : (flow : Dataflow) (k : Kind) → is_input_kind k ≡ true → bounds_of_domain flow (domain_of_kind flow k) ≡ record { greatest = greatest_number ∷ [] }
+input-epoch : (flow : Dataflow) (k : Kind) → is_input_kind k ≡ true → bounds_of_domain flow (domain_of_kind flow k) ≡ record { greatest = greatest_number ∷ []; sides = false }
 input-epoch flow Input e = refl
 input-epoch flow k e = absurd (cc)
 
-pub input-bounds : (flow : Dataflow) (p : ℕ) → is_input_kind (kind_of flow p) ≡ true → bounds_of flow p ≡ record { greatest = greatest_number ∷ [] }
+pub input-bounds : (flow : Dataflow) (p : ℕ) → is_input_kind (kind_of flow p) ≡ true → bounds_of flow p ≡ record { greatest = greatest_number ∷ []; sides = false }
 unfolding bounds_of
 input-bounds flow p e = input-epoch flow (kind_of flow p) e

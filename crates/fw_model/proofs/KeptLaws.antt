@@ -10,10 +10,11 @@ use Rattle.fw_frontier.specs.Frontier.{Frontier}
 use Rattle.fw_flow.specs.declared.event.Event.{Event}
 use Rattle.fw_flow.specs.declared.event.Event.TheVariants.{Inject, Deliver, Notify}
 use Rattle.fw_flow.specs.declared.event.Message.{Message}
-use Rattle.fw_flow.specs.Dataflow.{System, Dataflow, kind_of, sender, receiver, bounds_of, is_notified_kind, HasEpochs}
+use Rattle.fw_flow.specs.Dataflow.{System, Dataflow, kind_of, sender, receiver, is_notified_kind, HasEpochs}
 use Rattle.fw_flow.specs.NodeFunction.{event_node, event_stamp, sends, sent_by}
 use Rattle.fw_flow.specs.Projection.{events_at, all_inside, phi}
 use Rattle.fw_flow.specs.WellFormed.{IsWellFormed}
+use Rattle.fw_model.proofs.LesserLaws.{lesser-in_domain}
 use Rattle.fw_model.specs.History.{sent_messages, message_on, delivered_messages, pending_messages, is_delivery_to, is_notification, was_delivered_to, was_notified, is_owed_notice, is_injection, injected_count, IsQuiet, IsEnabled, IsLegal}
 use Rattle.fw_model.specs.LawsOfFiltering.{KeptDeliveriesHaveKeptCauses}
 use Rattle.fw_flow.specs.Message.{message_cmp, is_among, messages_less}
@@ -178,7 +179,7 @@ kept-injections : (sys : System) (h : List Event) (keep : ℕ → Frontier) → 
 kept-injections sys h keep l fr s x i c =
     let f = fr s in
     let below : (t : Stamp) → leq t (x ∷ []) ≡ true → keep s t ≡ true =
-    λ t b. f.closed t (x ∷ []) (leq-trans t (x ∷ []) (bounds_of sys.flow s).greatest b (f.inside_domain (x ∷ []) i)) b i in
+    λ t b. f.closed t (x ∷ []) (lesser-in_domain sys.flow s t (x ∷ []) b (f.inside_domain (x ∷ []) i)) b i in
     how_many-filter (is_injection s) (λ v. keep (event_node sys.flow v) (event_stamp v)) h
     (each-weaker (λ v. is_injection s v ≡ true → (event_node sys.flow v ≡ s) × (leq (event_stamp v) (x ∷ []) ≡ true))
     (λ v. is_injection s v ≡ true → keep (event_node sys.flow v) (event_stamp v) ≡ true) h
@@ -222,7 +223,7 @@ deliver-enabled sys h keep c e m k i j =
           (each-weaker (λ (x : Message). leq x.at (length (delivered_messages h e) ∷ []) ≡ true) (λ x. g x.at ≡ true) (delivered_messages h e)
           (λ x a.
           let b = leq_to x.at _ m.at (sym at) a in
-          f.closed x.at m.at (leq-trans x.at m.at (bounds_of sys.flow (receiver sys.flow e)).greatest b (f.inside_domain m.at i)) b i)
+          f.closed x.at m.at (lesser-in_domain sys.flow (receiver sys.flow e) x.at m.at b (f.inside_domain m.at i)) b i)
           (numbers-below (delivered_messages h e) (numbered-ascend sys h c.legal e n))) in
           at ∙ ap (λ ms. length ms ∷ []) (sym (delivers-same sys.flow h keep e ∙ all));
     }

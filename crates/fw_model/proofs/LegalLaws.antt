@@ -6,7 +6,6 @@ use Rattle.std.proofs.lemmas.List.{get_or_past}
 use Rattle.fw_bag.specs.declared.rec.Rec.{Rec}
 use Rattle.fw_time.specs.Stamp.{Stamp, leq, same, in_domain}
 use Rattle.fw_time.proofs.EachLaws.{each-weaker, each-append}
-use Rattle.fw_time.proofs.StampLaws.{leq-trans}
 use Rattle.fw_flow.specs.declared.event.Event.{Event}
 use Rattle.fw_flow.specs.declared.event.Event.TheVariants.{Inject, Deliver, Notify}
 use Rattle.fw_flow.specs.declared.event.Message.{Message}
@@ -16,6 +15,7 @@ use Rattle.fw_flow.specs.Dataflow.{System, Dataflow, idle_node, kind_of, sender,
 use Rattle.fw_flow.specs.NodeFunction.{event_node, event_stamp, recs_on, numbered_messages, sequence_sent, sends_of_kind, sends, sent_by}
 use Rattle.fw_flow.specs.Projection.{events_at}
 use Rattle.fw_flow.specs.WellFormed.{IsWellFormed}
+use Rattle.fw_model.proofs.LesserLaws.{lesser-in_domain}
 use Rattle.fw_model.specs.History.{sent_messages, delivered_messages, pending_messages, was_delivered_to, was_notified, injected_count, IsLegal, IsEnabled, AreEventsInDomain}
 use Rattle.fw_model.specs.LawsOfLegalHistories.{LegalEventsAreInDomain, LegalMessagesAreInDomain, OnlyInputsInject}
 use Rattle.fw_flow.proofs.MessageLaws.{less-each, among-each}
@@ -104,7 +104,7 @@ delivered_to-in_domain flow p t (Deliver e m ∷ h) d k =
       | inl a ↦
           let b = and_parts (receiver flow e == p) (same m.at t) a in
           let c = and_parts (leq m.at t) (leq t m.at) b.1 in
-          leq-trans t m.at (bounds_of flow p).greatest c.1
+          lesser-in_domain flow p t m.at c.1
           (sym (ap (λ q. in_domain (bounds_of flow q) m.at) (eqb-true (receiver flow e) p b.0)) ∙ d.0)
       | inr a ↦ delivered_to-in_domain flow p t h d.1 a
     ]

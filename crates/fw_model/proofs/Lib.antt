@@ -1,3 +1,4 @@
+pub mod LesserLaws
 pub mod ArrivalLaws
 pub mod AscentLaws
 pub mod AscendingLaws

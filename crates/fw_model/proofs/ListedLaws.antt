@@ -1,7 +1,8 @@
 -- The canonical fronts of a domain, and all lists over given elements, one by one.
-use Rattle.std.proofs.Common.{◌≡◌, ℕ, zero, suc, ◌<◌, Bool, not, List, [], ◌∷◌, ◌++◌, length, map, filter, get_or, refl, sym, ap, subst, inl, inr, ◌⊎◌, arith}
+use Rattle.std.proofs.Common.{◌&&◌, ◌≡◌, ℕ, zero, suc, ◌<◌, Bool, not, List, [], ◌∷◌, ◌++◌, length, map, filter, get_or, refl, sym, ap, subst, inl, inr, ◌⊎◌, arith}
 use Rattle.std.specs.List.{AllByRecursion}
 use Rattle.std.proofs.lemmas.Bool.{cond_both, cases_lt}
+use Rattle.fw_time.specs.Stamp.{in_domain}
 use Rattle.fw_time.specs.declared.stamp.Bounds.{Bounds}
 use Rattle.fw_frontier.specs.Front.{Front, frontier_of, IsCanonical}
 use Rattle.fw_frontier.specs.Outside.{front_without_all}
@@ -95,7 +96,7 @@ in-fronts b os c =
     let ss = outsiders b f in
     let e : os ≡ front_without_all ss [] = names-same b os (front_without_all ss []) f (names-self b os c) (outsiders-name b f (frontier-closed b os)) in
     subst (λ (x : Front). IsIn x (map (λ xs. front_without_all xs []) (selections (stamps b.greatest)))) (sym e)
-    (in-map (λ xs. front_without_all xs []) ss (selections (stamps b.greatest)) (in-selections (λ t. not (f t)) (stamps b.greatest)))
+    (in-map (λ xs. front_without_all xs []) ss (selections (stamps b.greatest)) (in-selections (λ t. in_domain b t && not (f t)) (stamps b.greatest)))
 
 -- the fronts of the first n of these domains
 pub fronts_below : (ℕ → Bounds) → ℕ → List Front

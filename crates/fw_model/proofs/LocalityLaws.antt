@@ -19,6 +19,7 @@ use Rattle.fw_flow.specs.Dataflow.{greatest_of_kind, System, Dataflow, idle_node
 use Rattle.fw_flow.specs.NodeFunction.{event_node, event_stamp, rec_of_delivery, delivered_recs, recs_on_delivery, recs_on_notification, recs_on, numbered_messages, sequence_sent, messages_at_some, sends_of_kind, sends, sent_by}
 use Rattle.fw_flow.specs.Projection.{events_at, all_inside, count_from, sent_count, phi_of_kind, phi}
 use Rattle.fw_flow.specs.WellFormed.{IsWellFormed, IsInDegree}
+use Rattle.fw_model.proofs.LesserLaws.{lesser-in_domain}
 use Rattle.fw_model.specs.History.{message_on, sent_messages, delivered_messages, was_delivered_to, was_notified, IsEnabled, IsLegal}
 use Rattle.fw_model.specs.LawsOfFiltering.{KeptEventsSendTheSame, KeptEventsSendTheSameFromWithin, KeptEventsDeliverTheSame, PhiOfKeptEvents}
 use Rattle.fw_model.proofs.Decisions.{two_ways}
@@ -142,7 +143,7 @@ sent_by-kept sys p f fr (v ∷ vs) o =
     elim (cases_Bool (f (event_stamp v))) [
       | inl i ↦
           let top = fr.inside_domain (event_stamp v) i in
-          let below : IsInsideUpTo f (event_stamp v) = λ s l. fr.closed s (event_stamp v) (leq-trans s (event_stamp v) (bounds_of sys.flow p).greatest l top) l i in
+          let below : IsInsideUpTo f (event_stamp v) = λ s l. fr.closed s (event_stamp v) (lesser-in_domain sys.flow p s (event_stamp v) l top) l i in
           let all = filter-all (λ (m : Message). all_inside f m.causes) now
           (each-weaker (λ (m : Message). m.causes ≡ event_stamp v ∷ []) (λ m. all_inside f m.causes ≡ true) now (λ m e. one_inside f (event_stamp v) m true i e) (sends-causes sys p vs v)) in
           ap (sent_by sys p) (filter-in (λ w. f (event_stamp w)) v vs i)

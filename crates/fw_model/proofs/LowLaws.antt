@@ -614,7 +614,7 @@ origin-zeros [] = refl
 origin-zeros (x ∷ s) = ap (λ t. 0 ∷ t) (origin-zeros s)
 
 pub none-canonical : (b : Bounds) → IsCanonical b (no_stamps b)
-none-canonical b = subst (λ t. IsCanonical b (t ∷ [])) (origin-zeros b.greatest) (names-nothing b).canonical
+none-canonical b = (names-nothing b).canonical
 
 pub none-within : (b : Bounds) (g : Frontier) → Within (frontier_of b (no_stamps b)) g
 none-within b g t i = absurd (none-inside b t i)

@@ -36,7 +36,7 @@ ordered_up_to f g (suc m) = elim (ordered_up_to f g m) [
   ]
 ]
 
-pub one_within : (g : ℕ) (f k : Frontier) → IsFrontier (record { greatest = g ∷ [] }) f → IsFrontier (record { greatest = g ∷ [] }) k → Within f k ⊎ Within k f
+pub one_within : (g : ℕ) (f k : Frontier) → IsFrontier (record { greatest = g ∷ []; sides = false }) f → IsFrontier (record { greatest = g ∷ []; sides = false }) k → Within f k ⊎ Within k f
 unfolding Ordered
 one_within g f k ff fk = elim (ordered_up_to f k (suc g)) [
   | inl all ↦ inl (λ t i. let v = in_line t g (ff.inside_domain t i) in let l : v.0 ≤ g = v.2 in ap k v.1 ∙ all v.0 (omega arith) (sym (ap f v.1) ∙ i))

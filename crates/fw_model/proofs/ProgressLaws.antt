@@ -3,7 +3,6 @@ use Rattle.std.proofs.Common.{◌≡◌, ◌≢◌, ℕ, zero, suc, ◌+◌, ◌
 use Rattle.std.proofs.lemmas.Bool.{cases_Bool, cases_lt, cond_both, eqb-true, false_from_ne_true, or_parts}
 use Rattle.fw_time.specs.Stamp.{Stamp, leq, same, in_domain}
 use Rattle.fw_time.proofs.EachLaws.{each-weaker}
-use Rattle.fw_time.proofs.StampLaws.{leq-trans}
 use Rattle.fw_frontier.specs.Frontier.{Frontier, IsFrontier}
 use Rattle.fw_flow.specs.declared.event.Event.{Event}
 use Rattle.fw_flow.specs.declared.event.Event.TheVariants.{Inject, Deliver, Notify}
@@ -15,6 +14,7 @@ use Rattle.fw_flow.specs.NodeFunction.{event_node, event_stamp, recs_on, numbere
 use Rattle.fw_flow.specs.Projection.{events_at, all_inside, count_from, sent_count, first_coordinate, phi, phi_of_kind}
 use Rattle.fw_flow.specs.WellFormed.{IsWellFormed}
 use Rattle.fw_flow.specs.Ranks.{is_looped}
+use Rattle.fw_model.proofs.LesserLaws.{lesser-in_domain}
 use Rattle.fw_model.specs.History.{some_at, sent_messages, message_on, delivered_messages, pending_messages, is_delivery_to, is_notification, was_delivered_to, was_notified, is_owed_notice, is_injection, injected_count, injected_epochs, IsQuiet, IsAdmissible, IsLegal}
 use Rattle.fw_model.specs.Measure.{Measure}
 use Rattle.fw_model.specs.LawsOfProgress.{IsOpen, IsStuck, StuckIsComplete, EventsLeaveOthersStuck, NotifiableByComplete}
@@ -64,7 +64,7 @@ open-from : (sys : System) (h : List Event) (done other : ℕ → Frontier) → 
 open-from sys h done other o p t i arrives =
     let fr = o.frontier p in
     let d = fr.inside_domain t i in
-    let down : (s : Stamp) → leq s t ≡ true → other p s ≡ true = λ s l. fr.closed s t (leq-trans s t (bounds_of sys.flow p).greatest l d) l i in
+    let down : (s : Stamp) → leq s t ≡ true → other p s ≡ true = λ s l. fr.closed s t (lesser-in_domain sys.flow p s t l d) l i in
     record {
       of_domain = d;
       quiet = λ s l. o.quiet p s (down s l);

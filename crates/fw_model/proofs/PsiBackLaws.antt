@@ -2,8 +2,7 @@
 use Rattle.std.proofs.Common.{◌≡◌, ◌↔◌, ℕ, ◌+◌, ◌-◌, ◌/◌, ◌<◌, ◌≤◌, min, true, [], ◌∷◌, Some, refl, sym, ap, ◌∙◌, arith, subst}
 use Rattle.std.proofs.lemmas.Bool.{and_parts}
 use Rattle.std.proofs.Math.Nat.{div-le_self, min-le_left, min-le_right, le-min}
-use Rattle.fw_time.specs.declared.stamp.Bounds.{Bounds}
-use Rattle.fw_time.specs.Stamp.{Stamp, leq, nest, outer, counter, in_domain}
+use Rattle.fw_time.specs.Stamp.{Stamp, leq, nest, outer, counter, in_domain, up_to}
 use Rattle.fw_time.specs.Sending.{entered_stamp, fed_back_stamp, left_stamp, regrouped_stamp}
 use Rattle.fw_time.proofs.StampLaws.{leq-refl, leq-trans, counter-nest}
 use Rattle.fw_frontier.specs.Frontier.{Frontier, IsFrontier}
@@ -12,14 +11,11 @@ use Rattle.fw_flow.specs.declared.kind.Kind.TheVariants.{OutputEpoch, OutputNumb
 use Rattle.fw_flow.specs.Dataflow.{kind_of, sender, max_of, greatest_number, domain_of_kind, out_domain_of_kind, greatest_of_kind, bounds_of, bounds_of_domain, send_stamp_of_kind, bounds_of_edge, Dataflow}
 use Rattle.fw_flow.proofs.Chains.{outer_greatest, outer_greatest-is}
 use Rattle.fw_flow.specs.Projection.{first_coordinate, psi, psi_back_of_kind, psi_back}
+use Rattle.fw_model.proofs.LesserLaws.{lesser-in_domain}
 use Rattle.fw_model.specs.LawsOfSending.{PsiBackBySendStamps, PsiBackIsLargest}
 use Rattle.fw_model.proofs.StampLaws.{loop-leq, nest-leq, in_loop, leq_from, leq_to, in_line, line-leq, leq-line}
 use Rattle.fw_model.proofs.SendingLaws.{some_is, fed_back-some, fed_back-nest, div-monotone, test_in_domain, psi-by_stamp, send_stamp-in_domain}
 use Rattle.fw_model.specs.Sending.{SendsByStamp, SendsWithin}
-
--- the domain with this greatest stamp
-abbrev up_to : Stamp → Bounds
-up_to b = record { greatest = b }
 
 -- ---- each kind
 
@@ -140,7 +136,7 @@ psi_back-largest flow e g p fg = (
         let i = ff.inside_domain t k in
         (psi_back-by_stamp flow e g p fg t i).1
         (λ s w l x.
-        let j = leq-trans s t (bounds_of flow (sender flow e)).greatest l i in
+        let j = lesser-in_domain flow (sender flow e) s t l i in
         let d = send_stamp-in_domain flow (sender flow e) s w j x in
         h w ((psi-by_stamp flow e f p ff w d).1 (s, w, ff.closed s t j l k, x, leq-refl w))),
     λ h u k.

@@ -5,7 +5,6 @@ use Rattle.std.proofs.lemmas.Bool.{and_parts, and_from, or_right, cond_both, cas
 use Rattle.fw_time.specs.Stamp.{Stamp, leq, in_domain}
 use Rattle.fw_time.specs.declared.stamp.Bounds.{Bounds}
 use Rattle.fw_time.proofs.EachLaws.{each-weaker, each-suffix}
-use Rattle.fw_time.proofs.StampLaws.{leq-trans}
 use Rattle.fw_frontier.specs.Frontier.{Frontier, IsFrontier, Within, meet}
 use Rattle.fw_flow.specs.declared.event.Event.{Event}
 use Rattle.fw_flow.specs.declared.event.Event.TheVariants.{Inject, Deliver, Notify}
@@ -15,6 +14,7 @@ use Rattle.fw_flow.specs.declared.kind.Kind.TheVariants.{Input}
 use Rattle.fw_flow.specs.Dataflow.{greatest_of_kind, System, Dataflow, kind_of, sender, receiver, greatest_number, domain_of_kind, out_domain_of_kind, bounds_of, bounds_of_domain, batches_of, is_input_kind, is_sequence_kind}
 use Rattle.fw_flow.specs.NodeFunction.{event_node, event_stamp, sends, sent_by}
 use Rattle.fw_flow.specs.Projection.{events_at, all_inside, first_coordinate, count_from, sent_count, phi_of_kind, phi}
+use Rattle.fw_model.proofs.LesserLaws.{lesser-in_domain, line-in_domain}
 use Rattle.fw_model.specs.History.{injected_count, injected_epochs, IsAdmissible, IsEnabled, IsLegal}
 use Rattle.fw_model.specs.LawsOfFiltering.{KeptEventsAreLegal}
 use Rattle.fw_model.specs.Covers.{stamp_of_notice}
@@ -47,7 +47,7 @@ next-kept bounds f fr true true k n e (inr s) =
     let i = sym (e refl) in
     let l : k < n = s.0 in
     let below = line-leq k n (omega arith) in
-    absurd (two_ways (f (k ∷ [])) (fr.closed (k ∷ []) (n ∷ []) (leq-trans (k ∷ []) (n ∷ []) bounds.greatest below (fr.inside_domain (n ∷ []) i)) below i) s.1)
+    absurd (two_ways (f (k ∷ [])) (fr.closed (k ∷ []) (n ∷ []) (line-in_domain bounds k n (omega arith) (fr.inside_domain (n ∷ []) i)) below i) s.1)
 next-kept bounds f fr true false k n e (inl s) = inr (omega arith, ap (λ x. f (x ∷ [])) s ∙ sym (e refl))
 next-kept bounds f fr true false k n e (inr s) = let l : k < n = s.0 in inr (omega arith, s.1)
 
@@ -101,7 +101,7 @@ kept-source sys h keep l fr s is t i j =
                 (or_right (k == length (batches_of sys s)) (nat_lt (first_coordinate t) k) (lt-ltb (first_coordinate t) k (omega arith)))
             | inr above ↦
                 let b = leq_to (k ∷ []) (y ∷ []) t (sym line.1) (line-leq k y above) in
-                absurd (two_ways (keep s (k ∷ [])) ((fr s).closed (k ∷ []) t (leq-trans (k ∷ []) t (bounds_of sys.flow s).greatest b d) b i) u.1)
+                absurd (two_ways (keep s (k ∷ [])) ((fr s).closed (k ∷ []) t (lesser-in_domain sys.flow s (k ∷ []) t b d) b i) u.1)
           ]
     ]
 
@@ -209,7 +209,7 @@ notify-enabled sys h keep notice c p t k i j =
     let f = c.filtering in
     let fr = f.frontiers p in
     let below : (s : Stamp) → leq s t ≡ true → keep p s ≡ true =
-    λ s l. fr.closed s t (leq-trans s t (bounds_of sys.flow p).greatest l (fr.inside_domain t i)) l i in
+    λ s l. fr.closed s t (lesser-in_domain sys.flow p s t l (fr.inside_domain t i)) l i in
     let done = k.complete.0 in
     let a = k.complete.1 in
     record {

@@ -1,5 +1,5 @@
 -- What holds along a run.
-use Rattle.std.proofs.Common.{◌≡◌, ℕ, zero, suc, ◌+◌, ◌<◌, Bool, true, false, ◌==◌, ◌&&◌, List, [], ◌∷◌, ◌++◌, length, map, refl, sym, ◌∙◌, ap, subst, cond, slice_index_or, slice_set, append_assoc, nat_le, not, filter, inl, inr, arith}
+use Rattle.std.proofs.Common.{◌≡◌, ℕ, zero, suc, ◌+◌, ◌<◌, Bool, true, false, ◌==◌, ◌&&◌, List, [], ◌∷◌, ◌++◌, length, map, refl, sym, ◌∙◌, ap, subst, cond, slice_index_or, slice_set, append_assoc, nat_le, filter, inl, inr, arith}
 use Rattle.std.proofs.lemmas.List.{append-nil, map-append, get_or-set_same, get_or-set_other, length-set}
 use Rattle.std.proofs.lemmas.List.FromFn.{map-range_with_len_more, length-map-range_with_len}
 use Rattle.fw_bag.specs.declared.rec.Rec.{Rec}
@@ -7,8 +7,9 @@ use Rattle.std.proofs.lemmas.Bool.{eqb-true, eq-eqb, and_parts, and_from, cases_
 use Rattle.fw_model.proofs.ArrivalLaws.{at_edge, in_edges-once}
 use Rattle.fw_model.proofs.Decisions.{two_ways}
 use Rattle.fw_model.proofs.WeightLaws.{weigh}
-use Rattle.fw_time.specs.Stamp.{Stamp, leq, same, in_domain}
-use Rattle.fw_frontier.specs.Front.{inside, frontier_of}
+use Rattle.fw_time.specs.Stamp.{Stamp, leq, same}
+use Rattle.fw_frontier.specs.Front.{frontier_of}
+use Rattle.fw_frontier.proofs.NamesLaws.{names-nothing}
 use Rattle.fw_flow.specs.declared.event.Event.{Event}
 use Rattle.fw_flow.specs.declared.event.Event.TheVariants.{Inject as Injected, Deliver as Delivered, Notify as Notified}
 use Rattle.fw_flow.specs.declared.kind.Kind.{Kind}
@@ -169,10 +170,7 @@ origin-leq (x ∷ t) [] h = absurd (two_ways true refl (sym h))
 origin-leq (x ∷ t) (y ∷ g) h = let a = and_parts (nat_le x y) (leq t g) h in and_from (nat_le 0 x) (leq (map (λ c. 0) g) t) (zero-le x) (origin-leq t g a.1)
 
 pub none-inside : (bounds : Bounds) (t : Stamp) → frontier_of bounds (no_stamps bounds) t ≡ true → ⊥
-none-inside bounds t h =
-    let a = and_parts (in_domain bounds t) (inside (no_stamps bounds) t) h in
-    let low : leq (map (λ c. 0) bounds.greatest) t ≡ true = origin-leq t bounds.greatest a.0 in
-    two_ways (inside (no_stamps bounds) t) a.1 (ap (λ b. not b && true) low)
+none-inside bounds t h = two_ways _ h ((names-nothing bounds).same t)
 
 -- an output has one in-edge
 one-zero : (n : ℕ) → n ≡ 1 → n ≡ 0 → ⊥

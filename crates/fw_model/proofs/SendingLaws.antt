@@ -4,7 +4,7 @@ use Rattle.std.proofs.lemmas.Option.{cond_some}
 use Rattle.std.proofs.lemmas.Bool.{and_parts, and_from, or_cases, or_left, or_right, ltb-true, lt-ltb, eqb-true, eqb-false, eq-eqb, cond-true, cases_Bool}
 use Rattle.std.proofs.Math.Nat.{div-le_self, div-mul-le_self, div-lt_iff_lt-mul, le-div_iff_mul-le, mul-div_left, min-le_left, min-le_right, le-min}
 use Rattle.fw_time.specs.declared.stamp.Bounds.{Bounds}
-use Rattle.fw_time.specs.Stamp.{Stamp, leq, nest, outer, counter, in_domain}
+use Rattle.fw_time.specs.Stamp.{Stamp, leq, nest, outer, counter, in_domain, up_to}
 use Rattle.fw_time.specs.Sending.{entered_stamp, fed_back_stamp, left_stamp, regrouped_stamp}
 use Rattle.fw_time.proofs.StampLaws.{leq-refl, leq-trans, outer-nest, counter-nest}
 use Rattle.fw_frontier.specs.Frontier.{Frontier, IsFrontier}
@@ -17,10 +17,6 @@ use Rattle.fw_flow.specs.Projection.{sent_count, each_counter, some_counter, phi
 use Rattle.fw_model.specs.LawsOfSending.{PhiBySendStamps, PsiBySendStamps, SendStampIsMonotone}
 use Rattle.fw_model.proofs.StampLaws.{IsInLoop, loop-leq, nest-leq, leq-nest, in_loop, leq_from, leq_to, in_line, line-leq, leq-line}
 use Rattle.fw_model.specs.Sending.{SendsByStamp, IsSentFrom, SendsAbove}
-
--- the domain with this greatest stamp
-abbrev up_to : Stamp → Bounds
-up_to b = record { greatest = b }
 
 pub some_is : (s t : Stamp) → Some s ≡ Some t → s ≡ t
 some_is s t e = cc

@@ -145,7 +145,7 @@ notified_in_domain bounds (Inject s x ∷ vs) d = notified_in_domain bounds vs d
 notified_in_domain bounds (Deliver e m ∷ vs) d = notified_in_domain bounds vs d.1
 notified_in_domain bounds (Notify p t ∷ vs) d = (d.0, notified_in_domain bounds vs d.1)
 
-pub bounds-sequence : (flow : Dataflow) (p : ℕ) → kind_of flow p ≡ Sequence → bounds_of flow p ≡ record { greatest = greatest_number ∷ [] }
+pub bounds-sequence : (flow : Dataflow) (p : ℕ) → kind_of flow p ≡ Sequence → bounds_of flow p ≡ record { greatest = greatest_number ∷ []; sides = false }
 unfolding bounds_of
 bounds-sequence flow p is = ap (λ k. bounds_of_domain flow (domain_of_kind flow k)) is
 

@@ -134,7 +134,7 @@ same-recs test other (Notify q t ∷ vs) a = same-recs test other vs a
 
 -- ---- totals
 
-pub bounds-total : (flow : Dataflow) (p : ℕ) → kind_of flow p ≡ Total → bounds_of flow p ≡ record { greatest = greatest_number ∷ [] }
+pub bounds-total : (flow : Dataflow) (p : ℕ) → kind_of flow p ≡ Total → bounds_of flow p ≡ record { greatest = greatest_number ∷ []; sides = false }
 unfolding bounds_of
 bounds-total flow p is = ap (λ k. bounds_of_domain flow (domain_of_kind flow k)) is
 

@@ -13,7 +13,7 @@ use Rattle.fw_model.proofs.StampLaws.{in_line, line-leq, leq-line}
 
 -- the bounds of numbers and of epochs
 abbrev pub numbers : Bounds
-numbers = record { greatest = greatest_number ∷ [] }
+numbers = record { greatest = greatest_number ∷ []; sides = false }
 
 pub canonical-until : (k : ℕ) → k ≤ greatest_number → IsCanonical numbers (until k)
 canonical-until k l = (record { in_the_domain = line-leq k greatest_number l; ascending = tt; incomparable = tt }, tt)

@@ -1,7 +1,7 @@
 -- The state of the event-list machine.
 use Rattle.std.specs.Prelude.{ℕ, Bool, false, List, [], ◌∷◌, map, slice_index_or}
 use Rattle.fw_time.specs.declared.stamp.Bounds.{Bounds}
-use Rattle.fw_frontier.specs.Front.{Front, IsCanonical}
+use Rattle.fw_frontier.specs.Front.{Front, IsCanonical, least_stamps}
 use Rattle.fw_frontier.specs.Frontier.{Frontier}
 use Rattle.fw_flow.specs.declared.event.Event.{Event}
 use Rattle.fw_flow.specs.Dataflow.{System, Dataflow, bounds_of, node_ids, node_frontier}
@@ -44,9 +44,9 @@ abbrev pub events : List SerialEvent → List Event
 events [] = []
 events (v ∷ h) = v.event ∷ events h
 
--- the frontier of a domain with no stamp: its least stamp is outside
+-- the frontier of a domain with no stamp: its least stamps are outside
 abbrev pub no_stamps : Bounds → Front
-no_stamps bounds = map (λ c. 0) bounds.greatest ∷ []
+no_stamps = least_stamps
 
 -- the first state: nothing has happened
 abbrev pub first_state : System → Machine

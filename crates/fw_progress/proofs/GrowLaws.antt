@@ -6,6 +6,7 @@ use Rattle.std.proofs.lemmas.List.{get_or-set_same, get_or-set_other, get_or_pas
 use Rattle.fw_time.specs.Stamp.{Stamp, in_domain}
 use Rattle.fw_time.specs.declared.stamp.Bounds.{Bounds}
 use Rattle.fw_time.proofs.EachLaws.{all-of_each}
+use Rattle.fw_time.proofs.DomainLaws.{domain-leq}
 use Rattle.fw_frontier.specs.Frontier.{Frontier, Within}
 use Rattle.fw_frontier.specs.Front.{Front, inside, frontier_of, IsCanonical, IsFrontOf}
 use Rattle.fw_frontier.proofs.NamesLaws.{frontier-closed}
@@ -238,7 +239,7 @@ fewer_outside flow old p f one m =
           elim (cases_Bool (family_of flow old p t)) [
             | inl k ↦ k
             | inr k ↦
-                let j = covers-at top now before (length flow.nodes) same.0 p (omega arith) t d (ap not k) in
+                let j = covers-at top now before (length flow.nodes) same.0 p (omega arith) t (domain-leq (bounds_of flow p) t d) (ap not k) in
                 let z = not-false (family_of flow (set old p f) p t) j in
                 let y = family_new flow old p f t l in
                 absurd (cc)

@@ -6,7 +6,7 @@ use Rattle.std.proofs.lemmas.Bool.{and_parts, and_from, cases_lt, or_parts}
 use Rattle.std.proofs.lemmas.List.{get_or_past}
 use Rattle.fw_time.specs.Stamp.{Stamp, leq, same, in_domain}
 use Rattle.fw_time.proofs.EachLaws.{each-of_all, all-of_each}
-use Rattle.fw_time.proofs.StampLaws.{leq-refl, leq-trans}
+use Rattle.fw_time.proofs.StampLaws.{leq-refl}
 use Rattle.fw_frontier.specs.Frontier.{Frontier}
 use Rattle.fw_frontier.specs.Front.{Front, inside}
 use Rattle.fw_frontier.proofs.NamesLaws.{frontier-closed}
@@ -20,6 +20,7 @@ use Rattle.fw_flow.proofs.ProjectionLaws.{phi-by_table}
 use Rattle.fw_model.specs.History.{some_at, pending_messages, injected_epochs, IsAdmissible, IsComplete}
 use Rattle.fw_model.specs.LawsOfProgress.{IsOpen}
 use Rattle.fw_model.specs.Machine.{front_of, family_of}
+use Rattle.fw_model.proofs.LesserLaws.{lesser-in_domain}
 use Rattle.fw_model.proofs.CompleteLaws.{not_past}
 use Rattle.fw_model.proofs.DescentLaws.{past_edges-joined, past_edges-quiet, past_edges-phi, implies-from}
 use Rattle.fw_model.proofs.ProgressLaws.{stuck-complete}
@@ -109,7 +110,7 @@ admissible-open : (sys : System) (h : List Event) (done : ℕ → Frontier) → 
 admissible-open sys h done o p t i =
     let fr = o.frontier p in
     let d = fr.inside_domain t i in
-    let down : (s : Stamp) → leq s t ≡ true → done p s ≡ true = λ s l. fr.closed s t (leq-trans s t (bounds_of sys.flow p).greatest l d) l i in
+    let down : (s : Stamp) → leq s t ≡ true → done p s ≡ true = λ s l. fr.closed s t (lesser-in_domain sys.flow p s t l d) l i in
     record {
       of_domain = d;
       quiet = λ s l. o.quiet p s (down s l);

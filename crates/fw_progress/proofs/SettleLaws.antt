@@ -51,24 +51,23 @@ more-by b c (x ∷ s) k g = elim (or_cases (inside c x) (has_more c s) g) [
     outside true e b = refl
     outside false e b = absurd (cc)
 
-pub in_each_domain : {E : Type 0} (r : Result Front E) (f g : Front) (P : Bounds → Front → Type 0)
-    → ((b : Bounds) → IsCanonical b f → IsCanonical b g → IfOk r (P b)) → IfOk r (λ x. (b : Bounds) → IsCanonical b f → IsCanonical b g → P b x)
-in_each_domain (Ok x) f g P h = h
-in_each_domain (Err e) f g P h = tt
+pub in_domain_of : {E A B : Type 0} (P : Front → Type 0) (r : Result Front E) → (A → B → IfOk r P) → IfOk r (λ x. A → B → P x)
+in_domain_of P (Ok x) h = h
+in_domain_of P (Err e) h = tt
 
 -- ---- the step
 
-live-joined : (b : Bounds) (flag : Bool) (f g both : Front) → flag ≡ false → IsJoined flag f g both → IsCanonical b f → IsCanonical b g → IsFrontOf b both (join (frontier_of b f) (frontier_of b g))
+live-joined : (b : Bounds) (flag : Bool) (f g both : Front) → flag ≡ false → IsJoined b flag f g both → IsCanonical b f → IsCanonical b g → IsFrontOf b both (join (frontier_of b f) (frontier_of b g))
 live-joined b true f g both e j c d = absurd (cc)
-live-joined b false f g both e j c d = j b c d
+live-joined b false f g both e j c d = j c d
 
-failed-same : (flag : Bool) (f g both : Front) → flag ≡ true → IsJoined flag f g both → both ≡ f
-failed-same true f g both e j = j
-failed-same false f g both e j = absurd (cc)
+failed-same : (b : Bounds) (flag : Bool) (f g both : Front) → flag ≡ true → IsJoined b flag f g both → both ≡ f
+failed-same b true f g both e j = j
+failed-same b false f g both e j = absurd (cc)
 
 -- what is settled then is a canonical front of each node
 pub grown-fronts : (flow : Dataflow) (failed : List Bool) (kept settled both : List Front) → length failed ≡ length flow.nodes → AreCanonical flow settled → AreCanonical flow kept
-    → AreGrown (length failed) failed settled kept both → AreFrontsOf flow both
+    → AreGrown flow (length failed) failed settled kept both → AreFrontsOf flow both
 grown-fronts flow failed kept settled both one cs ck g = record {
   one_each = g.one_each ∙ one;
   canonical = λ p. elim (cases_lt p (length both)) [
@@ -77,9 +76,9 @@ grown-fronts flow failed kept settled both one cs ck g = record {
   ];
 }
   where
-    by : (p : ℕ) (b : Bool) → IsJoined b (front_of settled p) (front_of kept p) (front_of both p) → IsCanonical (bounds_of flow p) (front_of both p)
+    by : (p : ℕ) (b : Bool) → IsJoined (bounds_of flow p) b (front_of settled p) (front_of kept p) (front_of both p) → IsCanonical (bounds_of flow p) (front_of both p)
     by p true j = subst (IsCanonical (bounds_of flow p)) (sym j) (cs p)
-    by p false j = (j (bounds_of flow p) (cs p) (ck p)).canonical
+    by p false j = (j (cs p) (ck p)).canonical
 
 -- settled grows to what is complete, where each node that is not failed settled what is kept
 settles-by : (sys : System) (state : Machine) (failed : List Bool) (kept settled both : List Front) → failed ≡ state.failed → settled ≡ state.settled → length failed ≡ length sys.flow.nodes
@@ -109,12 +108,12 @@ settles-by sys state failed kept settled both ef es one cs c more l each same =
     }
 
 pub settles-more : (sys : System) (state : Machine) (failed : List Bool) (kept settled both : List Front) → failed ≡ state.failed → settled ≡ state.settled → length failed ≡ length sys.flow.nodes
-    → AreCanonical sys.flow settled → AreCanonical sys.flow kept → IsComplete sys (events state.history) (family_of sys.flow kept) → HasMore failed kept settled → AreGrown (length failed) failed settled kept both
+    → AreCanonical sys.flow settled → AreCanonical sys.flow kept → IsComplete sys (events state.history) (family_of sys.flow kept) → HasMore failed kept settled → AreGrown sys.flow (length failed) failed settled kept both
     → GrowsTo sys state (family_of sys.flow kept) both
 settles-more sys state failed kept settled both ef es one cs ck c more g =
     settles-by sys state failed kept settled both ef es one cs c more (g.one_each ∙ one)
     (λ q l k. live-joined (bounds_of sys.flow q) (get_or failed q false) (front_of settled q) (front_of kept q) (front_of both q) k (g.each q (omega (arith, l, one))) (cs q) (ck q))
-    (λ q l k. failed-same (get_or failed q false) (front_of settled q) (front_of kept q) (front_of both q) k (g.each q (omega (arith, l, one))))
+    (λ q l k. failed-same (bounds_of sys.flow q) (get_or failed q false) (front_of settled q) (front_of kept q) (front_of both q) k (g.each q (omega (arith, l, one))))
 
 pub settles-none : (sys : System) (state : Machine) (failed : List Bool) (kept settled : List Front) → failed ≡ state.failed → settled ≡ state.settled → length failed ≡ length sys.flow.nodes
     → IsComplete sys (events state.history) (family_of sys.flow kept) → (HasMore failed kept settled → ⊥)
@@ -230,10 +229,10 @@ in_turn-settled sys state failed old kept new ef es one many co ck c g = (
 -- what is read of one node
 pub grown-read : (flow : Dataflow) (settled kept : List Front) (p i : ℕ) (s k both : Front) → i ≡ p → p < length settled → p < length kept → s ≡ get_or settled i s → k ≡ get_or kept i k
     → AreCanonical flow settled → AreCanonical flow kept → has_more k s ≡ true
-    → ((b : Bounds) → IsCanonical b s → IsCanonical b k → IsFrontOf b both (join (frontier_of b s) (frontier_of b k))) → IsGrownAt flow settled kept p (Some both)
+    → (IsCanonical (bounds_of flow p) s → IsCanonical (bounds_of flow p) k → IsFrontOf (bounds_of flow p) both (join (frontier_of (bounds_of flow p) s) (frontier_of (bounds_of flow p) k))) → IsGrownAt flow settled kept p (Some both)
 grown-read flow settled kept p i s k both e ls lk rs rk cs ck more joins =
     let b = bounds_of flow p in
     let os = read_at settled p i s [] e (omega (arith, e, ls)) rs in
     let ok = read_at kept p i k [] e (omega (arith, e, lk)) rk in
     let P : Front → Front → Type 0 = λ f g. (has_more g f ≡ true) × IsFrontOf b both (join (frontier_of b f) (frontier_of b g)) in
-    subst (λ f. P f (front_of kept p)) os (subst (λ g. P s g) ok (more, joins b (subst (IsCanonical b) (sym os) (cs p)) (subst (IsCanonical b) (sym ok) (ck p))))
+    subst (λ f. P f (front_of kept p)) os (subst (λ g. P s g) ok (more, joins (subst (IsCanonical b) (sym os) (cs p)) (subst (IsCanonical b) (sym ok) (ck p))))

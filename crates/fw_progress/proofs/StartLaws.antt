@@ -1,14 +1,15 @@
 -- The counts of nothing, and the descent to the largest frontiers by counts.
-use Rattle.std.proofs.Common.{◌↔◌, ◌≡◌, ℕ, zero, suc, ◌+◌, ◌*◌, ◌<◌, ◌≤◌, Bool, true, false, not, ◌&&◌, ◌||◌, ◌==◌, ◌≢◌, nat_lt, List, [], ◌∷◌, ◌++◌, length, get_or, set, map, refl, sym, ap, subst, ◌∙◌, inl, inr, arith}
+use Rattle.std.proofs.Common.{◌↔◌, ◌≡◌, ℕ, zero, suc, ◌+◌, ◌*◌, ◌<◌, ◌≤◌, Bool, true, false, not, ◌&&◌, ◌||◌, ◌==◌, ◌≢◌, nat_lt, List, [], ◌∷◌, ◌++◌, length, get_or, set, refl, sym, ap, subst, ◌∙◌, inl, inr, arith}
 use Rattle.std.specs.List.{AllByRecursion, list_all}
 use Rattle.std.specs.Map.{keys_of}
 use Rattle.std.proofs.lemmas.Bool.{and_parts, and_from, both_ways, cases_eq, cases_lt, false_from_ne_true, lt-ltb}
 use Rattle.std.proofs.lemmas.List.{get_or_past, length-append, length-set}
 use Rattle.std.proofs.lemmas.List.FromFn.{get_or-map-range_with_len}
 use Rattle.fw_bag.specs.declared.rec.Rec.{Rec}
-use Rattle.fw_time.specs.Stamp.{Stamp, in_domain, origin}
+use Rattle.fw_time.specs.Stamp.{Stamp, in_domain}
 use Rattle.fw_time.specs.declared.stamp.Bounds.{Bounds}
 use Rattle.fw_time.proofs.EachLaws.{each-append}
+use Rattle.fw_time.proofs.DomainLaws.{domain-leq}
 use Rattle.fw_frontier.specs.Frontier.{Frontier, Within, nothing}
 use Rattle.fw_frontier.specs.Front.{Front, inside, frontier_of, IsCanonical, IsFrontOf}
 use Rattle.fw_frontier.proofs.NamesLaws.{frontier-closed, names-same, names-nothing}
@@ -188,7 +189,7 @@ fewer_inside flow counts old p f there l w more =
       | inr less ↦ less
       | inl same ↦ absurd (more (λ t i.
           sym (family_new flow old p f t l)
-          ∙ covers-at top (family_of flow (set old p f)) (family_of flow old) (length flow.nodes) same.0 p there t (and_parts (in_domain (bounds_of flow p) t) (inside (front_of old p) t) i).0 i))
+          ∙ covers-at top (family_of flow (set old p f)) (family_of flow old) (length flow.nodes) same.0 p there t (domain-leq (bounds_of flow p) t (and_parts (in_domain (bounds_of flow p) t) (inside (front_of old p) t) i).0) i))
     ]
 
 pub lowered_falls : (flow : Dataflow) (counts : Counts) (fronts new : List Front) (work mid rest : List ℕ) (p : ℕ) → work ≡ p ∷ mid
@@ -240,13 +241,9 @@ falls-to flow counts fronts new p f work rest can more shrunk = inr (record { fr
 
 -- ---- frontiers without stamps
 
-zeros-origin : (s : Stamp) → map (λ c. 0) s ≡ origin s
-zeros-origin [] = refl
-zeros-origin (x ∷ s) = ap (λ t. 0 ∷ t) (zeros-origin s)
-
 -- the list of the zero stamp is the one that names the frontier without stamps
 pub names-no_stamps : (b : Bounds) → IsFrontOf b (no_stamps b) nothing
-names-no_stamps b = subst (λ s. IsFrontOf b (s ∷ []) nothing) (sym (zeros-origin b.greatest)) (names-nothing b)
+names-no_stamps = names-nothing
 
 pub no_stamps_named : (b : Bounds) (f : Front) → IsFrontOf b f nothing → f ≡ no_stamps b
 no_stamps_named b f n = names-same b f (no_stamps b) nothing n (names-no_stamps b)

@@ -19,7 +19,8 @@ use Rattle.std.proofs.lemmas.List.{take_more}
 use Rattle.fw_time.specs.Stamp.{Stamp, leq, same, in_domain, stamp_cmp}
 use Rattle.fw_time.specs.declared.stamp.Bounds.{Bounds}
 use Rattle.fw_time.proofs.EachLaws.{each-append, each-both, each-prefix, each-suffix, each-weaker}
-use Rattle.fw_time.proofs.StampLaws.{leq-length, leq-trans, same-is, same-refl}
+use Rattle.fw_time.proofs.StampLaws.{leq-trans, same-is, same-refl}
+use Rattle.fw_time.proofs.DomainLaws.{domain-length}
 use Rattle.fw_frontier.specs.Frontier.{Frontier}
 use Rattle.fw_frontier.specs.Front.{Front, inside, frontier_of, IsFrontOf}
 use Rattle.fw_flow.specs.Counting.{how_many}
@@ -272,7 +273,7 @@ lowest-begun xs s ys all e o z = record {
   same = λ b a t.
       let rest : AllByRecursion (λ y. leq s y ≡ true) ys =
       each-weaker (λ y. (is_gt (stamp_cmp s y) ≡ false) × (in_domain b y ≡ true)) (λ y. leq s y ≡ true) ys
-      (λ y k. begins-leq s y (leq-length s b.greatest (here b a) ∙ sym (leq-length y b.greatest k.1)) z k.0)
+      (λ y k. begins-leq s y (domain-length b s (here b a) ∙ sym (domain-length b y k.1)) z k.0)
       (each-both (λ y. is_gt (stamp_cmp s y) ≡ false) (λ y. in_domain b y ≡ true) ys o (parts b a).1) in
       ap (λ c. in_domain b t && c) (by t rest (inside xs t) (leq s t) refl ∙ sym (ap (λ os. inside os t) e ∙ inside-append xs (s ∷ ys) t));
 }

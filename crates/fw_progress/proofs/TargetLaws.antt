@@ -34,7 +34,7 @@ read_at xs p i x d e l is = is ∙ get_or-there xs i x d l ∙ ap (λ n. get_or 
 
 -- ---- what an input gave
 
-epoch-before : (n m : ℕ) (t : Stamp) → in_domain (record { greatest = m ∷ [] }) t ≡ true → inside ((n ∷ []) ∷ []) t ≡ nat_lt (first_coordinate t) n
+epoch-before : (n m : ℕ) (t : Stamp) → in_domain (record { greatest = m ∷ []; sides = false }) t ≡ true → inside ((n ∷ []) ∷ []) t ≡ nat_lt (first_coordinate t) n
 epoch-before n m [] d = absurd (cc)
 epoch-before n m (x ∷ []) d = grind (arith, nat_tests)
 epoch-before n m (x ∷ y ∷ t) d = absurd (false≢true (and_parts (nat_le x m) false d).1)

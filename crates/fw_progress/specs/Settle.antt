@@ -51,12 +51,12 @@ pub record HasMore (failed : List Bool) (kept settled : List Front) : Type 0 whe
   pub more : has_more (front_of kept node) (front_of settled node) ≡ true
 
 -- a frontier is as it was at a node that is failed, and else the union of what is settled and kept
-abbrev pub IsJoined : Bool → Front → Front → Front → Type 0
-IsJoined true settled kept both = both ≡ settled
-IsJoined false settled kept both = (bounds : Bounds) → IsCanonical bounds settled → IsCanonical bounds kept
+abbrev pub IsJoined : Bounds → Bool → Front → Front → Front → Type 0
+IsJoined bounds true settled kept both = both ≡ settled
+IsJoined bounds false settled kept both = IsCanonical bounds settled → IsCanonical bounds kept
     → IsFrontOf bounds both (join (frontier_of bounds settled) (frontier_of bounds kept))
 
 -- so many frontiers are so
-pub record AreGrown (count : ℕ) (failed : List Bool) (settled kept both : List Front) : Type 0 where
+pub record AreGrown (flow : Dataflow) (count : ℕ) (failed : List Bool) (settled kept both : List Front) : Type 0 where
   pub one_each : length both ≡ count
-  pub each : (p : ℕ) → p < count → IsJoined (slice_index_or failed p false) (front_of settled p) (front_of kept p) (front_of both p)
+  pub each : (p : ℕ) → p < count → IsJoined (bounds_of flow p) (slice_index_or failed p false) (front_of settled p) (front_of kept p) (front_of both p)

@@ -406,7 +406,7 @@ impl Progress {
         if !any_has_more(failed, &self.kept, &self.settled) {
             return Ok(None);
         }
-        let both = grown(alloc, failed, &self.settled, &self.kept);
+        let both = grown(alloc, flow, failed, &self.settled, &self.kept);
         self.refused = both.is_err();
         Ok(Some(both?))
     }

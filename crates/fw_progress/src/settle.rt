@@ -6,6 +6,7 @@ ghost use Rattle.fw_progress.specs.Settle.{HasMore, AreGrown, IsGrownAt, IsJoine
 
 use fw_flow::{Flow, NodeId};
 use fw_frontier::Front;
+use fw_time::Bounds;
 use std::alloc::{AllocError, Global};
 
 /// Whether a frontier has a stamp that another lacks.
@@ -42,32 +43,35 @@ pub(crate) fn any_has_more(failed: &[bool], kept: &[Front], settled: &[Front]) -
 
 /// What is settled of a node once it settles what it keeps, unless it is failed: what it keeps, where that holds what is settled.
 /// The error is want of memory.
-fn joined(failed: bool, settled: &Front, kept: &Front) -> Result<Front, AllocError>
-    ensures { IfOk result (λ both. IsJoined failed settled.now kept.now both) }
+fn joined(failed: bool, settled: &Front, kept: &Front, bounds: &Bounds) -> Result<Front, AllocError>
+    ensures { IfOk result (λ both. IsJoined bounds.now failed settled.now kept.now both) }
 {
     if failed {
         settled.copy()
     } else if settled.subset(kept) {
         kept.copy()
     } else {
-        settled.join(kept)
+        settled.join(kept, bounds)
     }
 }
 
 /// The same of each node. The error is want of memory.
 pub(crate) fn grown(
     alloc: Global,
+    flow: &Flow,
     failed: &[bool],
     settled: &[Front],
     kept: &[Front],
 ) -> Result<Vec<Front>, AllocError>
+    requires failed { length failed.now ≡ length flow.now.nodes }
     requires settled { length settled.now ≡ length failed.now }
     requires kept { length kept.now ≡ length failed.now }
-    ensures { IfOk result (λ both. AreGrown (length failed.now) failed.now settled.now kept.now both.items) }
+    ensures { IfOk result (λ both. AreGrown flow.now (length failed.now) failed.now settled.now kept.now both.items) }
 {
     let mut both = Vec::with_capacity(alloc, failed.len())?;
-    for place in 0..failed.len() {
-        both.push(joined(failed[place], &settled[place], &kept[place])?)?;
+    for place in 0..flow.nodes() {
+        let bounds = flow.domain(NodeId::at(place as u32));
+        both.push(joined(failed[place], &settled[place], &kept[place], &bounds)?)?;
     }
     Ok(both)
 }
@@ -85,13 +89,12 @@ pub(crate) fn grown_at(
     requires kept { AreCanonical flow.now kept.now }
     ensures { IfOk result (IsGrownAt flow.now settled.now kept.now node) }
 {
-    let _ = flow;
     let place = node.place() as usize;
     let before = &settled[place];
     let now = &kept[place];
     if !has_more(now, before) {
         return Ok(None);
     }
-    let both = joined(false, before, now)?;
+    let both = joined(false, before, now, &flow.domain(node))?;
     Ok(Some(both))
 }

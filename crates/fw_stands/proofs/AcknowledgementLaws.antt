@@ -213,12 +213,12 @@ kept-something sys state epochs k o output n b kind i x e d = absurd (cc)
 
 -- ---- the law
 
-output-bounds : (flow : Dataflow) (kind : Kind) → is_output_kind kind ≡ true → bounds_of_domain flow (domain_of_kind flow kind) ≡ record { greatest = greatest_number ∷ [] }
+output-bounds : (flow : Dataflow) (kind : Kind) → is_output_kind kind ≡ true → bounds_of_domain flow (domain_of_kind flow kind) ≡ record { greatest = greatest_number ∷ []; sides = false }
 output-bounds flow OutputEpoch i = refl
 output-bounds flow OutputNumber i = refl
 output-bounds flow kind i = absurd (cc)
 
-node-bounds : (flow : Dataflow) (o : ℕ) → is_output_kind (kind_of flow o) ≡ true → bounds_of flow o ≡ record { greatest = greatest_number ∷ [] }
+node-bounds : (flow : Dataflow) (o : ℕ) → is_output_kind (kind_of flow o) ≡ true → bounds_of flow o ≡ record { greatest = greatest_number ∷ []; sides = false }
 unfolding bounds_of
 node-bounds flow o i = output-bounds flow (kind_of flow o) i
 

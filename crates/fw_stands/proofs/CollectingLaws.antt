@@ -93,7 +93,7 @@ collected_logs-stand sys w state r low rises entries drops is e l log held =
 -- ---- inputs
 
 -- the batches are at epochs of the input
-batches-in : (bounds : Bounds) (n : ℕ) (batches : List (List Rec)) → bounds ≡ record { greatest = greatest_number ∷ [] } → n + length batches ≤ greatest_number + 1
+batches-in : (bounds : Bounds) (n : ℕ) (batches : List (List Rec)) → bounds ≡ record { greatest = greatest_number ∷ []; sides = false } → n + length batches ≤ greatest_number + 1
     → AllByRecursion (λ (batch : ℕ × List Rec). in_domain bounds (batch.0 ∷ []) ≡ true) (enumerate_from n batches)
 batches-in bounds n [] e l = tt
 batches-in bounds n (b ∷ bs) e l = (

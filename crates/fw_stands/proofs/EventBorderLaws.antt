@@ -42,12 +42,12 @@ use Rattle.fw_stands.proofs.EventNextLaws.{legal-reached}
 
 -- ---- the stamps of outputs
 
-one-coordinate : (flow : Dataflow) (k : Kind) → is_output_kind k ≡ true → bounds_of_domain flow (domain_of_kind flow k) ≡ record { greatest = greatest_number ∷ [] }
+one-coordinate : (flow : Dataflow) (k : Kind) → is_output_kind k ≡ true → bounds_of_domain flow (domain_of_kind flow k) ≡ record { greatest = greatest_number ∷ []; sides = false }
 one-coordinate flow OutputEpoch o = refl
 one-coordinate flow OutputNumber o = refl
 one-coordinate flow k o = absurd (cc)
 
-output-bounds : (flow : Dataflow) (p : ℕ) → is_output_kind (kind_of flow p) ≡ true → bounds_of flow p ≡ record { greatest = greatest_number ∷ [] }
+output-bounds : (flow : Dataflow) (p : ℕ) → is_output_kind (kind_of flow p) ≡ true → bounds_of flow p ≡ record { greatest = greatest_number ∷ []; sides = false }
 unfolding bounds_of
 output-bounds flow p o = one-coordinate flow (kind_of flow p) o
 

@@ -1,5 +1,5 @@
 -- The order of stamps is a partial order, and `lub` gives least upper bounds.
-use Rattle.std.proofs.Common.{◌≡◌, ℕ, ◌≤◌, Bool, true, false, ◌&&◌, nat_le, cond, List, [], ◌∷◌, length, drop, refl, sym, ap, ◌∙◌, inl, inr, ◌⊎◌, zero, suc, ◌<◌, nat_lt, ◌+◌, ◌++◌, get_or, arith}
+use Rattle.std.proofs.Common.{◌≡◌, ℕ, ◌≤◌, Bool, true, false, ◌&&◌, nat_le, cond, List, [], ◌∷◌, length, refl, sym, ap, ◌∙◌, zero, suc, ◌<◌, nat_lt, ◌+◌, ◌++◌, get_or, arith}
 use Rattle.std.proofs.lemmas.Bool.{leb-true, le-leb, false_from_ne_true, and_from, and_parts}
 use Rattle.std.proofs.lemmas.Bool.Decides.{nat_tests}
 use Rattle.std.specs.Ordering.{is_lt, nat_cmp, ordering_then}
@@ -263,17 +263,5 @@ leq-glb u s g h e = by (leq u s) (leq u (glb s g)) (λ k. glb-greatest u s g k h
 
 -- ---- stamps compared coordinate by coordinate
 
-cmp-one_more : (m n : ℕ) → nat_cmp (suc m) (suc n) ≡ nat_cmp m n
+pub cmp-one_more : (m n : ℕ) → nat_cmp (suc m) (suc n) ≡ nat_cmp m n
 cmp-one_more m n = grind (arith, nat_tests)
-
--- once all coordinates that both have are passed, their numbers decide
-pub order-ended : (s t : List ℕ) (i : ℕ) → i ≤ length s → i ≤ length t → (length s ≤ i) ⊎ (length t ≤ i) → nat_cmp (length s) (length t) ≡ slice_cmp nat_cmp (drop i s) (drop i t)
-order-ended [] [] zero l m e = grind (arith, nat_tests)
-order-ended [] (y ∷ t) zero l m e = grind (arith, nat_tests)
-order-ended (x ∷ s) [] zero l m e = grind (arith, nat_tests)
-order-ended (x ∷ s) (y ∷ t) zero l m (inl e) = absurd (omega arith)
-order-ended (x ∷ s) (y ∷ t) zero l m (inr e) = absurd (omega arith)
-order-ended [] t (suc i) l m e = absurd (omega arith)
-order-ended (x ∷ s) [] (suc i) l m e = absurd (omega arith)
-order-ended (x ∷ s) (y ∷ t) (suc i) l m (inl e) = cmp-one_more (length s) (length t) ∙ order-ended s t i (omega arith) (omega arith) (inl (omega arith))
-order-ended (x ∷ s) (y ∷ t) (suc i) l m (inr e) = cmp-one_more (length s) (length t) ∙ order-ended s t i (omega arith) (omega arith) (inr (omega arith))

@@ -1,3 +1,4 @@
+pub mod Padded
 pub mod Stamp
 pub mod StampText
 pub mod Sending

@@ -1,5 +1,5 @@
 -- Logical times as stamps: their order, their domains, and the places of a loop's stamps.
-use Rattle.std.specs.Prelude.{ℕ, zero, suc, ◌+◌, Bool, true, false, not, ◌&&◌, nat_le, if◌then◌else◌, List, [], ◌∷◌, ◌++◌}
+use Rattle.std.specs.Prelude.{ℕ, zero, suc, ◌+◌, Bool, true, false, not, ◌&&◌, nat_le, nat_lt, nat_eq, if◌then◌else◌, List, [], ◌∷◌, ◌++◌}
 use Rattle.std.specs.declared.cmp.Ordering.{Ordering}
 use Rattle.std.specs.Ordering.{nat_cmp}
 use Rattle.std.specs.Cmp.Lexicographic.{slice_cmp}
@@ -40,9 +40,25 @@ glb (x ∷ s) (y ∷ t) = (if nat_le x y then x else y) ∷ glb s t
 abbrev pub stamp_cmp : Stamp → Stamp → Ordering
 stamp_cmp = slice_cmp nat_cmp
 
+-- whether one of two coordinates is 0, and the other is not
+abbrev pub is_of_side : Stamp → Bool
+is_of_side [] = false
+is_of_side (x ∷ []) = false
+is_of_side (x ∷ y ∷ []) = if nat_eq x 0 then nat_lt 0 y else nat_eq y 0
+is_of_side (x ∷ y ∷ z ∷ s) = false
+
+-- whether a stamp counts: each one, or where a domain has sides, those of a side
+abbrev pub counts : Bool → Stamp → Bool
+counts false s = true
+counts true s = is_of_side s
+
 -- whether a list is a stamp of the domain
 abbrev pub in_domain : Bounds → Stamp → Bool
-in_domain bounds s = leq s bounds.greatest
+in_domain bounds s = counts bounds.sides s && leq s bounds.greatest
+
+-- the domain of all stamps up to a greatest one
+abbrev pub up_to : Stamp → Bounds
+up_to s = record { greatest = s; sides = false }
 
 -- a stamp of the outer domain with a loop counter
 abbrev pub nest : Stamp → ℕ → Stamp

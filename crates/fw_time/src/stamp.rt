@@ -1,31 +1,40 @@
 //! Stamps and the bounds of their domains.
-ghost use Rattle.std.specs.Prelude.{◌≡◌, ◌+◌, ◌^◌, ◌≤◌, ◌<◌, Some, nat_eq, refl, replicate, length, slice_index};
+ghost use Rattle.std.specs.Prelude.{◌≡◌, ◌+◌, ◌^◌, ◌≤◌, ◌<◌, Some, nat_eq, refl, [], length, slice_index};
 ghost use Rattle.std.specs.Cmp.{partial_equiv_from_equiv};
 ghost use Rattle.std.specs.Cmp.Lexicographic.{pointwise, nat_list_eq_equiv, nat_list_cmp_total, texts_po, texts_ties};
 ghost use Rattle.fw_time.specs.StampText.{stamp_text, dots_text};
-ghost use Rattle.fw_time.specs.Stamp.{leq, lub, stamp_raised_at, in_domain, nest, outer, counter, stamp_cmp};
+ghost use Rattle.fw_time.specs.Padded.{padded};
+ghost use Rattle.fw_time.specs.Stamp.{leq, lub, stamp_raised_at, is_of_side, in_domain, nest, outer, counter, stamp_cmp};
 
-use arrayvec::ArrayVec;
 use std::cmp::Ordering;
 use std::fmt;
 use std::marker::Model;
 
 /// A logical time of any domain: its coordinates, up to four, outermost first. Contracts see it as their list.
 ///
-/// It holds its coordinates in itself, so that no call takes memory.
-#[derive(Debug, Default, Drop)]
+/// It holds its coordinates in itself, so that no call takes memory, and is copied whole: zeros stand behind the last one, and
+/// calls go over all four places.
+#[derive(Debug, Drop)]
 pub struct Stamp {
-    coords: ArrayVec<u32, 4>,
+    coords: [u32; 4],
+    len: u32,
 }
 
 impl Model for Stamp {
-    ghost use Rattle.std.specs.Prelude.{ℕ, List};
+    ghost use Rattle.std.specs.Prelude.{ℕ, ◌≡◌, ◌≤◌, List, length, take};
+    ghost use Rattle.std.proofs.Common.{sym};
+    ghost use Rattle.fw_time.specs.Padded.{padded, few_at};
 
     ghost Value = { List ℕ };
 
-    ghost view = { λ stamp. stamp.coords.items };
+    ghost view = { λ stamp. take stamp.len stamp.coords };
 
-    ghost inverse = { λ coords. record { coords = record { items = coords } } };
+    // at most four coordinates, and zeros behind them
+    ghost invariant = { λ stamp. (stamp.len ≤ 4) × (stamp.coords ≡ padded 4 (take stamp.len stamp.coords)) };
+
+    ghost inverse = { λ coords. record { coords = padded 4 coords; len = length coords } };
+
+    ghost inverse_ok = { λ stamp h i. record { coords = sym h.1 i; len = few_at stamp.len stamp.coords h.0 h.1 i } };
 }
 
 impl PartialEq for Stamp {
@@ -33,8 +42,9 @@ impl PartialEq for Stamp {
 
     ghost laws = { partial_equiv_from_equiv nat_list_eq_equiv };
 
+    #[inline]
     fn eq(&self, other: &Stamp) -> bool {
-        self.coords == other.coords
+        self.cmp(other).is_eq()
     }
 }
 
@@ -47,6 +57,7 @@ impl PartialOrd for Stamp {
 
     ghost laws = { texts_po };
 
+    #[inline]
     fn partial_cmp(&self, other: &Stamp) -> Option<Ordering> {
         Some(self.cmp(other))
     }
@@ -62,98 +73,151 @@ impl Ord for Stamp {
 
     ghost matches_eq = { texts_ties };
 
+    #[inline]
     fn cmp(&self, other: &Stamp) -> Ordering {
-        order(self.coords.as_slice(), other.coords.as_slice())
+        let coords = &self.coords;
+        let others = &other.coords;
+        if coords[0] != others[0] {
+            return coords[0].cmp(&others[0]);
+        }
+        // Most stamps have one coordinate.
+        if self.len == 1 && other.len == 1 {
+            return Ordering::Equal;
+        }
+        tied(self, other)
+    }
+}
+
+impl Default for Stamp {
+    ghost is_default = { λ stamp. stamp ≡ [] };
+
+    #[inline]
+    fn default() -> Self {
+        Stamp {
+            coords: [0; 4],
+            len: 0,
+        }
     }
 }
 
 impl Stamp {
     /// The stamp of these coordinates, outermost first.
+    #[inline]
     pub fn new(coords: &[u32]) -> Self
         requires some { 0 < length coords.now }
         requires few { length coords.now ≤ 4 }
         ensures { result ≡ coords.now }
     {
         Stamp {
-            coords: copied(coords),
+            coords: placed(coords),
+            len: coords.len() as u32,
         }
     }
 
     /// The same stamp once more.
+    #[inline]
     pub fn copy(&self) -> Self
         ensures { result ≡ self.now }
     {
         Stamp {
-            coords: copied(self.coords.as_slice()),
+            coords: self.coords,
+            len: self.len,
         }
     }
 
     /// How many coordinates it has.
+    #[inline]
     pub fn len(&self) -> usize
         ensures value { result ≡ length self.now }
         ensures few { result ≤ 4 }
     {
-        self.coords.len()
+        self.len as usize
     }
 
     /// A coordinate, counted from the outermost.
+    #[inline]
     pub fn at(&self, i: usize) -> u32
         requires { i < length self.now }
         ensures { result ≡ slice_index self.now i }
     {
-        self.coords[i]
+        let coords = &self.coords;
+        coords[i]
     }
 
     /// Whether each coordinate is at most that of the other stamp. Stamps of unequal length are not comparable.
+    #[inline]
     pub fn leq(&self, other: &Self) -> bool
         ensures { result ≡ leq self.now other.now }
     {
-        at_most(self.coords.as_slice(), other.coords.as_slice())
+        let coords = &self.coords;
+        let others = &other.coords;
+        if self.len != other.len {
+            return false;
+        }
+        if coords[0] > others[0] {
+            return false;
+        }
+        self.len == 1 || at_most(coords, others)
     }
 
     /// The greater coordinate at each place. Of two stamps of one length it is the least that both are at most.
+    #[inline]
     pub fn lub(&self, other: &Self) -> Self
         ensures { result ≡ lub self.now other.now }
     {
         Stamp {
-            coords: greater(self.coords.as_slice(), other.coords.as_slice()),
+            coords: greater(&self.coords, &other.coords),
+            len: self.len.max(other.len),
         }
     }
 
     /// Whether it is a stamp of the domain.
+    #[inline]
     pub fn in_domain(&self, bounds: &Bounds) -> bool
         ensures { result ≡ in_domain bounds.now self.now }
     {
+        if bounds.sides && !is_of_side(&self.coords[..self.len as usize]) {
+            return false;
+        }
         self.leq(&bounds.greatest)
     }
 
     /// The stamp of a loop that has this outer stamp and this counter.
+    #[inline]
     pub fn nest(&self, counter: u32) -> Self
         requires { length self.now < 4 }
         ensures { result ≡ nest self.now counter }
     {
-        let mut coords = copied(self.coords.as_slice());
-        coords.push(counter);
-        Stamp { coords }
+        let mut coords = self.coords;
+        coords[self.len as usize] = counter;
+        Stamp {
+            coords,
+            len: self.len + 1,
+        }
     }
 
     /// A loop's stamp without its counter.
+    #[inline]
     pub fn outer(&self) -> Self
         requires { 0 < length self.now }
         ensures value { result ≡ outer self.now }
         ensures few { length result < 4 }
     {
-        let mut coords = copied(self.coords.as_slice());
-        let _ = coords.pop();
-        Stamp { coords }
+        let mut coords = self.coords;
+        coords[self.len as usize - 1] = 0;
+        Stamp {
+            coords,
+            len: self.len - 1,
+        }
     }
 
     /// The loop counter of a loop's stamp.
+    #[inline]
     pub fn counter(&self) -> u32
         requires { 0 < length self.now }
         ensures { result ≡ counter self.now }
     {
-        self.coords[self.coords.len() - 1]
+        self.coords[self.len as usize - 1]
     }
 
     /// The least stamp of as many coordinates that has a greater coordinate at this place.
@@ -162,12 +226,17 @@ impl Stamp {
         requires fits { slice_index self.now place + 1 < 2 ^ 32 }
         ensures { result ≡ stamp_raised_at self.now place }
     {
+        let were = &self.coords;
+        let mut coords = [0; 4];
+        coords[place] = were[place] + 1;
         Stamp {
-            coords: raised_at(self.coords.as_slice(), place),
+            coords,
+            len: self.len,
         }
     }
 
     /// The order by the coordinates from the outermost, in which a least stamp is wanted.
+    #[inline]
     pub fn compare(&self, other: &Self) -> Ordering
         ensures { result ≡ stamp_cmp self.now other.now }
     {
@@ -181,7 +250,7 @@ impl fmt::Display for Stamp {
     ghost output = { λ stamp. Some (stamp_text stamp) };
 
     fn fmt<W: fmt::Write>(&self, f: &mut fmt::Formatter<W>) -> fmt::Result {
-        let [first, rest @ ..] = self.coords.as_slice() else {
+        let [first, rest @ ..] = &self.coords[..self.len as usize] else {
             return Ok(());
         };
         write!(f, "{first}")?;
@@ -192,43 +261,46 @@ impl fmt::Display for Stamp {
     }
 }
 
-// These coordinates, in a value of their own.
-fn copied(coords: &[u32]) -> ArrayVec<u32, 4>
+// These coordinates in the first of four places, with zeros behind them.
+fn placed(coords: &[u32]) -> [u32; 4]
     requires { length coords.now ≤ 4 }
-    ensures { result.items ≡ coords.now }
+    ensures { result ≡ padded 4 coords.now }
 {
-    let mut all = ArrayVec::new();
-    // Most stamps are of one coordinate, for which a loop costs more than the coordinate.
-    if let [only] = coords {
-        all.push(*only);
-        return all;
-    }
-    for coord in coords {
-        all.push(*coord);
+    let mut all = [0; 4];
+    for i in 0..coords.len() {
+        all[i] = coords[i];
     }
     all
 }
 
-// The order by the coordinates from the outermost; where one begins with the other, by how many there are.
-fn order(coords: &[u32], others: &[u32]) -> Ordering
+// The order of stamps that may have the same first coordinate: by the coordinates from the outermost; where one begins with
+// the other, by how many there are.
+fn tied(stamp: &Stamp, other: &Stamp) -> Ordering
+    ensures { result ≡ stamp_cmp stamp.now other.now }
+{
+    match order(&stamp.coords, &other.coords) {
+        Ordering::Equal => stamp.len.cmp(&other.len),
+        by => by,
+    }
+}
+
+// The order by the coordinates from the outermost.
+fn order(coords: &[u32; 4], others: &[u32; 4]) -> Ordering
     ensures { result ≡ stamp_cmp coords.now others.now }
 {
-    for i in 0..coords.len().min(others.len()) {
+    for i in 0..4 {
         if coords[i] != others[i] {
             return coords[i].cmp(&others[i]);
         }
     }
-    coords.len().cmp(&others.len())
+    Ordering::Equal
 }
 
 // Whether each coordinate is at most the other one at its place.
-fn at_most(coords: &[u32], others: &[u32]) -> bool
+fn at_most(coords: &[u32; 4], others: &[u32; 4]) -> bool
     ensures { result ≡ leq coords.now others.now }
 {
-    if coords.len() != others.len() {
-        return false;
-    }
-    for i in 0..coords.len() {
+    for i in 0..4 {
         if coords[i] > others[i] {
             return false;
         }
@@ -236,68 +308,49 @@ fn at_most(coords: &[u32], others: &[u32]) -> bool
     true
 }
 
+// Whether one of two coordinates is 0, and the other is not.
+fn is_of_side(coords: &[u32]) -> bool
+    ensures { result ≡ is_of_side coords.now }
+{
+    match coords {
+        [0, second] => *second > 0,
+        [_, second] => *second == 0,
+        _ => false,
+    }
+}
+
 // The greater coordinate at each place.
-fn greater(coords: &[u32], others: &[u32]) -> ArrayVec<u32, 4>
-    requires few { length coords.now ≤ 4 }
-    requires few_others { length others.now ≤ 4 }
-    ensures { result.items ≡ lub coords.now others.now }
+fn greater(coords: &[u32; 4], others: &[u32; 4]) -> [u32; 4]
+    ensures { result ≡ lub coords.now others.now }
 {
-    let mut all = ArrayVec::new();
-    for i in 0..coords.len().max(others.len()) {
-        all.push(at_or_zero(coords, i).max(at_or_zero(others, i)));
-    }
-    all
+    [
+        coords[0].max(others[0]),
+        coords[1].max(others[1]),
+        coords[2].max(others[2]),
+        coords[3].max(others[3]),
+    ]
 }
 
-// The coordinate at a place, and zero where there is none.
-fn at_or_zero(coords: &[u32], i: usize) -> u32
-    ensures { result ≡ slice_index coords.now i }
-{
-    if i < coords.len() { coords[i] } else { 0 }
-}
-
-// Zeros, but for one more than the coordinate at a place.
-fn raised_at(coords: &[u32], place: usize) -> ArrayVec<u32, 4>
-    requires there { place < length coords.now }
-    requires few { length coords.now ≤ 4 }
-    requires fits { slice_index coords.now place + 1 < 2 ^ 32 }
-    ensures { result.items ≡ stamp_raised_at coords.now place }
-{
-    let mut all = ArrayVec::new();
-    for i in 0..coords.len() {
-        all.push(if i == place { coords[i] + 1 } else { 0 });
-    }
-    all
-}
-
-/// What makes a domain of stamps: the greatest coordinate at each place.
+/// What makes a domain of stamps: the greatest coordinate at each place, and whether all such stamps count.
 #[derive(Debug, Drop)]
 pub struct Bounds {
-    /// The greatest stamp of the domain.
+    /// What each stamp of the domain is at most.
     pub greatest: Stamp,
+    /// Whether only stamps of two coordinates count of which one is 0 and the other is not.
+    pub sides: bool,
 }
 
 impl Bounds {
     ghost use Rattle.fw_time.specs.Stamp.{origin};
 
-    /// The least stamp of the domain: its coordinates are zeros.
+    /// Zeros at as many places: the least stamp of the domain, where it has no sides.
     pub fn origin(&self) -> Stamp
         ensures { result ≡ origin self.now.greatest }
     {
+        let greatest = &self.greatest;
         Stamp {
-            coords: zeros(self.greatest.len()),
+            coords: [0; 4],
+            len: greatest.len,
         }
     }
-}
-
-// This many zeros.
-fn zeros(len: usize) -> ArrayVec<u32, 4>
-    requires { len ≤ 4 }
-    ensures { result.items ≡ replicate len 0 }
-{
-    let mut all = ArrayVec::new();
-    for _ in 0..len {
-        all.push(0);
-    }
-    all
 }

@@ -1,5 +1,5 @@
 //! Logical times of one type per depth of loops.
-ghost use Rattle.std.specs.Prelude.{◌≡◌, ℕ, ◌+◌, ◌<◌, ◌≤◌, List, [], ◌∷◌, length, slice_index, refl};
+ghost use Rattle.std.specs.Prelude.{◌≡◌, ℕ, ◌+◌, ◌<◌, ◌≤◌, List, [], ◌∷◌, length, slice_index, false, refl};
 ghost use Rattle.std.specs.Ordering.{is_eq};
 ghost use Rattle.fw_time.specs.Stamp.{leq, lub, same, in_domain, nest};
 
@@ -32,9 +32,9 @@ pub trait Time: Copy + Ord {
         requires { dimension ≤ 4 }
         ensures { result ≡ coords self.now };
 
-    /// Whether it is a time of the domain.
+    /// Whether it is a time of the domain, where that has no sides.
     fn in_domain(&self, bounds: &Bounds) -> bool
-        ensures { result ≡ in_domain bounds.now (coords self.now) };
+        ensures { bounds.now.sides ≡ false → result ≡ in_domain bounds.now (coords self.now) };
 
     /// The time that has the coordinates of a stamp.
     fn from_coords(stamp: &Stamp) -> Self
@@ -228,6 +228,7 @@ impl<T: Time> Time for Nest<T> {
         }
         let outer = Bounds {
             greatest: bounds.greatest.outer(),
+            sides: false,
         };
         self.outer.in_domain(&outer) && self.counter <= bounds.greatest.counter()
     }

@@ -10,12 +10,12 @@ use Rattle.fw_flow.proofs.ProjectionLaws.{names-below_limit}
 use Rattle.fw_flow.proofs.projection.below.Goals as goal
 
 pub returns : goal.returns
-returns c =
+returns c = λ p.
     let b = c.args.bounds.now in
     let g = slice_index b.greatest 0 in
     let e : b.greatest ≡ g ∷ [] = sym (one-dimension b.greatest c.requires) in
     let l : c.args.limit ≤ g = omega (arith, c.if-limit-from.false, c.from.ensures, c.at.ensures) in
-    let i : in_domain b c.new.result ≡ true = rw c.new.ensures (in_domain-one b g c.args.limit e l) in
+    let i : in_domain b c.new.result ≡ true = rw c.new.ensures (in_domain-one b g c.args.limit p e l) in
     IfOk-weaker c.until.result (λ f. IsFrontOf b f (frontier_of b (c.new.result ∷ []))) (λ f. IsFrontOf b f (λ u. in_domain b u && nat_lt (first_coordinate u) c.args.limit))
     (λ f n. names-below_limit b g c.args.limit f e (rw (sym c.new.ensures) n))
     (c.until.ensures.names b (i, tt))

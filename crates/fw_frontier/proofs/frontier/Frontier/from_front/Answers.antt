@@ -1,6 +1,6 @@
 use Rattle.std.proofs.Common.{◌≡◌, ◌∙◌, ap, true, not, ◌&&◌, length, get_or, arith}
 use Rattle.fw_time.specs.Stamp.{leq, in_domain}
-use Rattle.fw_time.proofs.StampLaws.{leq-length}
+use Rattle.fw_time.proofs.DomainLaws.{domain-length}
 use Rattle.fw_time.proofs.EachLaws.{each-at}
 use Rattle.fw_frontier.proofs.GenericLaws.{inside_more}
 use Rattle.fw_frontier.proofs.frontier.Frontier.from_front.Goals as goal
@@ -20,4 +20,4 @@ pub from_coords-requires : goal.from_coords-requires
 from_coords-requires g c =
     let b = c.args.bounds.now in let os = c.outside-o-items.result.now in
     let there = each-at (λ o. in_domain b o ≡ true) os c.loop-o.o-index c.o-item.result (omega arith) (rw c.loop-o.invariant.0 c.requires.in_domain) in
-    ap length c.o-item.is ∙ leq-length (get_or os c.loop-o.o-index c.o-item.result) b.greatest there ∙ c.requires.shape
+    ap length c.o-item.is ∙ domain-length b (get_or os c.loop-o.o-index c.o-item.result) there ∙ c.requires.shape

@@ -20,15 +20,15 @@ loop-c-init g c = (
 
 pub push_nested-requires : goal.push_nested-requires
 push_nested-requires g c =
-    rw c.outside.ensures (all-short c.outer_of-outer.result c.in_ok-front.front c.outer_of-outer.ensures.few (in_domain-canonical c.outer_of-outer.result c.in_ok-front.front c.in_ok-front.ensures.canonical))
+    rw c.outside.ensures (all-short c.outer_of-outer.result c.in_ok-front.front c.outer_of-outer.ensures.few (in_domain-canonical c.outer_of-outer.result c.in_ok-front.front (c.in_ok-front.ensures c.outer_of-outer.ensures.plain).canonical))
 
 pub loop-c-preserved : goal.loop-c-preserved
 loop-c-preserved g c =
     let b = c.args.bounds.now in
     let test = λ (s : List ℕ) (k : ℕ). g.T.Frontier.Frontier.inside (get_or c.args.self.now.steps.items k c.args.self.now.last) (g.T.Time.of_coords s) in
-    let named = rw c.at.ensures at c.in_ok-front.ensures in
+    let named = rw c.at.ensures at (c.in_ok-front.ensures c.outer_of-outer.ensures.plain) in
     rw (c.in_ok-push_nested.ensures, c.outside.ensures)
-    (nested-more b c.outer_of-outer.result c.loop-c.stamps.items c.in_ok-front.front test c.loop-c.c c.outer_of-outer.ensures.value (omega (arith, c.requires)) (omega (arith, c.min-c-end.ensures, c.len.ensures, c.counter.ensures)) named c.loop-c.invariant)
+    (nested-more b c.outer_of-outer.result c.loop-c.stamps.items c.in_ok-front.front test c.loop-c.c c.outer_of-outer.ensures.plain c.outer_of-outer.ensures.value (omega (arith, c.requires)) (omega (arith, c.min-c-end.ensures, c.len.ensures, c.counter.ensures)) named c.loop-c.invariant)
 
 pub returns-clause-in_domain : goal.returns-clause-in_domain
 returns-clause-in_domain g c = c.loop-c.invariant.0

@@ -39,12 +39,12 @@ returns-clause-exact c = λ sys state e s es ef.
     let one : length failed ≡ length sys.flow.nodes = c.requires.failed ∙ ap (λ (f : Dataflow). length f.nodes) (sym e) in
     let test = subst (λ xs. (r ≡ true) ↔ HasMore failed kept xs) c.deref-2.ensures.value (subst (λ xs. (r ≡ true) ↔ HasMore failed xs c.deref-2.result.now) c.deref.ensures.value c.any_has_more.ensures) in
     let o = subst (λ (x : Standing). IsOfFlow flow x) (sym c.self.view_is) (c.freshen.ensures.progress fresh.ready) in
-    let grown = subst (λ xs. AreGrown (length failed) failed settled xs both) c.deref-4.ensures.value
-    (subst (λ xs. AreGrown (length failed) failed xs c.deref-4.result.now both) c.deref-3.ensures.value
-    (IfOk-at_ok (λ g. AreGrown (length failed) failed c.deref-3.result.now c.deref-4.result.now g.items) c.in_ok-both.was c.grown-both.ensures)) in (
+    let grown = subst (λ xs. AreGrown flow (length failed) failed settled xs both) c.deref-4.ensures.value
+    (subst (λ xs. AreGrown flow (length failed) failed xs c.deref-4.result.now both) c.deref-3.ensures.value
+    (IfOk-at_ok (λ g. AreGrown flow (length failed) failed c.deref-3.result.now c.deref-4.result.now g.items) c.in_ok-both.was c.grown-both.ensures)) in (
       family_of sys.flow kept,
       settles-more sys state failed kept settled both ef is_settled one (subst (λ f. AreCanonical f settled) (sym e) o.settled) (subst (λ f. AreCanonical f kept) (sym e) o.kept) complete
-          (test.0 c.if-not-any_has_more.false) grown,
+          (test.0 c.if-not-any_has_more.false) (subst (λ f. AreGrown f (length failed) failed settled kept both) (sym e) grown),
     )
 
 pub returns-clause-fronts : goal.returns-clause-fronts
@@ -56,7 +56,7 @@ returns-clause-fronts c =
     let both = c.in_ok-both.field-0.items in
     let fresh = c.in_ok-freshen.ensures.fresh in
     let o = subst (λ (x : Standing). IsOfFlow flow x) (sym c.self.view_is) (c.freshen.ensures.progress fresh.ready) in
-    let grown = subst (λ xs. AreGrown (length failed) failed settled xs both) c.deref-4.ensures.value
-    (subst (λ xs. AreGrown (length failed) failed xs c.deref-4.result.now both) c.deref-3.ensures.value
-    (IfOk-at_ok (λ g. AreGrown (length failed) failed c.deref-3.result.now c.deref-4.result.now g.items) c.in_ok-both.was c.grown-both.ensures)) in
+    let grown = subst (λ xs. AreGrown flow (length failed) failed settled xs both) c.deref-4.ensures.value
+    (subst (λ xs. AreGrown flow (length failed) failed xs c.deref-4.result.now both) c.deref-3.ensures.value
+    (IfOk-at_ok (λ g. AreGrown flow (length failed) failed c.deref-3.result.now c.deref-4.result.now g.items) c.in_ok-both.was c.grown-both.ensures)) in
     grown-fronts flow failed kept settled both c.requires.failed o.settled o.kept grown

@@ -1,7 +1,8 @@
-use Rattle.std.proofs.Common.{sym, ap, ◌∙◌, replicate}
-use Rattle.fw_time.proofs.StampSteps.{origin-replicate}
+use Rattle.fw_time.proofs.Padded.{opened, closed, seen, origin_holds}
 use Rattle.fw_time.proofs.stamp.Bounds.origin.Goals as goal
 
+pub invariant_of-result : goal.invariant_of-result
+invariant_of-result c = closed _ _ _ (origin_holds (opened _ _ _ c.greatest.view_is c.greatest.invariant))
+
 pub returns : goal.returns
-returns c =
-    c.zeros.ensures ∙ (ap (λ n. replicate n 0) c.len.ensures.value ∙ sym (origin-replicate c.args.self.now.greatest))
+returns c = seen _ _ _ (origin_holds (opened _ _ _ c.greatest.view_is c.greatest.invariant))

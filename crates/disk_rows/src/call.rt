@@ -3,12 +3,12 @@ use fw_disk::DiskStore;
 use fw_outside::{OutFault, Store};
 use row_words::{NoAnswer, Row, bytes_of, calls_of, part, rows_of, tell_answer, tell_name};
 use std::alloc::{AllocError, Global};
-use std::fs;
+use std::fs::{self, File};
 use std::io::Read;
 use std::rt::Files;
 
 /// Tells the rows of a file.
-pub fn tell_rows<R: Files>(alloc: Global, files: &R, text: &str) -> Result<String, AllocError> {
+pub fn tell_rows<R: Files<File = File>>(alloc: Global, files: &R, text: &str) -> Result<String, AllocError> {
     let mut told = String::new(alloc);
     for row in &rows_of(alloc, text)? {
         tell_row(alloc, files, row, &mut told)?;
@@ -17,7 +17,7 @@ pub fn tell_rows<R: Files>(alloc: Global, files: &R, text: &str) -> Result<Strin
 }
 
 /// Tells a row, which has a store of its own, over one folder: the name of the row is that of the folder.
-fn tell_row<R: Files>(
+fn tell_row<R: Files<File = File>>(
     alloc: Global,
     files: &R,
     row: &Row<'_>,
@@ -28,16 +28,17 @@ fn tell_row<R: Files>(
     let calls = calls_of(alloc, row.lines)?;
     let mut store = DiskStore::new(alloc, files, folder);
     for line in &calls {
-        let answer = answer(alloc, files, &mut store, line);
+        let answer = answer(alloc, files, row.name, &mut store, line);
         tell_answer(line, answer, told)?;
     }
     Ok(())
 }
 
 /// What becomes of a call.
-fn answer<R: Files>(
+fn answer<R: Files<File = File>>(
     alloc: Global,
     files: &R,
+    folder: &str,
     store: &mut DiskStore<'_, R>,
     line: &str,
 ) -> Result<String, NoAnswer> {
@@ -54,8 +55,11 @@ fn answer<R: Files>(
             let removed = store.remove(first.parse::<u64>()?);
             became(alloc, store, removed)
         }
+        "other" => other(alloc, files, folder, first.parse::<u64>()?),
+        "told" => told(alloc, store),
         "file" => file(alloc, files, first),
         "write" => written(alloc, files, first, words),
+        "delete" => done(alloc, fs::remove_file(files, first).is_ok()),
         "folder" => done(alloc, fs::create_dir(files, first).is_ok()),
         "link" => done(alloc, fs::hard_link(files, first, words).is_ok()),
         _ => Err(NoAnswer::NotSpelled),
@@ -77,7 +81,7 @@ fn became<K: Store>(
 }
 
 /// The record that the store gives under an id.
-fn got<R: Files>(alloc: Global, store: &mut DiskStore<'_, R>, id: u64) -> Result<String, NoAnswer> {
+fn got<R: Files<File = File>>(alloc: Global, store: &mut DiskStore<'_, R>, id: u64) -> Result<String, NoAnswer> {
     let mut into = Vec::new(alloc);
     let answer = store.get(id, &mut into);
     let mut told = became(alloc, store, answer)?;
@@ -85,8 +89,30 @@ fn got<R: Files>(alloc: Global, store: &mut DiskStore<'_, R>, id: u64) -> Result
     Ok(told)
 }
 
+/// What becomes of a put of no bytes by another store over the folder.
+fn other<R: Files<File = File>>(
+    alloc: Global,
+    files: &R,
+    folder: &str,
+    id: u64,
+) -> Result<String, NoAnswer> {
+    let mut other = DiskStore::new(alloc, files, String::from_str(alloc, folder)?);
+    let put = other.put(id, &[]);
+    became(alloc, &other, put)
+}
+
+/// The lines of the faults so far, each behind a bar.
+fn told<R: Files<File = File>>(alloc: Global, store: &DiskStore<'_, R>) -> Result<String, NoAnswer> {
+    let mut told = String::new(alloc);
+    for line in store.told()?.lines() {
+        told.push_str("|")?;
+        told.push_str(line)?;
+    }
+    Ok(told)
+}
+
 /// What a file holds.
-fn file<R: Files>(alloc: Global, files: &R, path: &str) -> Result<String, NoAnswer> {
+fn file<R: Files<File = File>>(alloc: Global, files: &R, path: &str) -> Result<String, NoAnswer> {
     let Ok(mut file) = fs::open(files, path) else {
         return Ok(String::from_str(alloc, "not there")?);
     };
@@ -100,7 +126,7 @@ fn file<R: Files>(alloc: Global, files: &R, path: &str) -> Result<String, NoAnsw
 }
 
 /// Writes a file past the store.
-fn written<R: Files>(
+fn written<R: Files<File = File>>(
     alloc: Global,
     files: &R,
     path: &str,

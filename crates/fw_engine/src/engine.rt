@@ -70,15 +70,15 @@ impl Engine {
     /// gives to a recovery spell no record of a write; the engine stands where it stood. `NoMemory` where memory is refused,
     /// now or earlier.
     pub fn step<K: Store>(&mut self, step: &Step, store: &mut K) -> Result<Stepped, EngineFault>
-        requires stored { IsStored (keep_of self.old) (K.records store.old) }
-        ensures stored { IsStored (keep_of self.new) (K.records store.new) }
+        requires stored { IsStored (keep_of self.old) (K.view store.old).records }
+        ensures stored { IsStored (keep_of self.new) (K.view store.new).records }
         ensures flow { flow_of self.new ≡ flow_of self.old }
-        ensures ok { ForEachState self.old (K.records store.old) (λ sys state. Trusts sys state step.now (K.records store.old)
-            → IfOk result (λ stepped. FollowsStep sys state step.now stepped self.new (K.records store.new))) }
+        ensures ok { ForEachState self.old (K.view store.old).records (λ sys state. Trusts sys state step.now (K.view store.old).records
+            → IfOk result (λ stepped. FollowsStep sys state step.now stepped self.new (K.view store.new).records)) }
 
         // What is told is the machine's outcome, also of a recovery that can not trust what it reads. For which state the engine then
         // stands is not said.
-        ensures shows { ForEachState self.old (K.records store.old)
+        ensures shows { ForEachState self.old (K.view store.old).records
             (λ sys state. IfOk result (λ stepped. HasOutcome sys state step.now (outcome_of stepped))) }
 
         // After a collection nothing waits for a sweep.
@@ -89,23 +89,23 @@ impl Engine {
 
         // A store that tells its records goes on telling them. A step that by the flow's policies never calls it leaves it as it is,
         // and so does an idle one that is no collection.
-        ensures tells { is_some (K.records store.new) ≡ is_some (K.records store.old) }
+        ensures tells { is_some (K.view store.new).records ≡ is_some (K.view store.old).records }
         ensures quiet { (MayCallStore (flow_of self.old) step.now → ⊥) → store.new ≡ store.old }
         ensures idle { step.now ≢ Collect → result ≡ Ok Idle → store.new ≡ store.old }
 
         // The store's count of faults rises by one at StoreFault (at 2^64 - 1 it stays), and at no other answer. StoreFault comes
         // only in a step that may call the store, and that is enabled or a collection. Then the engine stands where it stood, or
         // where the collection led.
-        ensures faults { K.fault_count store.new ≡ faults_after result (K.fault_count store.old) }
+        ensures faults { (K.view store.new).faults ≡ faults_after result (K.view store.old).faults }
         ensures calls { IsErrOf result EngineFault.StoreFault → MayCallStore (flow_of self.old) step.now }
-        ensures faulted { ForEachState self.old (K.records store.old) (λ sys state. IsErrOf result EngineFault.StoreFault
-            → IsLeftBy sys state step.now (λ next. StandsFor sys self.new (K.records store.new) next)) }
+        ensures faulted { ForEachState self.old (K.view store.old).records (λ sys state. IsErrOf result EngineFault.StoreFault
+            → IsLeftBy sys state step.now (λ next. StandsFor sys self.new (K.view store.new).records next)) }
 
         // A record is damaged in a recovery alone, over a store that does not tell its records.
-        ensures damaged { (id : ℕ) → IsErrOf result (EngineFault.Damaged id) → IsDamaged self.old id (K.given store.new) }
+        ensures damaged { (id : ℕ) → IsErrOf result (EngineFault.Damaged id) → IsDamaged self.old id (K.view store.new).given }
         ensures in_recovery { (id : ℕ) → IsErrOf result (EngineFault.Damaged id) → step.now ≡ Recover }
-        ensures unharmed { (id : ℕ) → ForEachState self.old (K.records store.old) (λ sys state. IsErrOf result (EngineFault.Damaged id)
-            → (K.records store.old ≡ None) × IsStepEnabled sys state Recover × StandsFor sys self.new (K.records store.new) state) }
+        ensures unharmed { (id : ℕ) → ForEachState self.old (K.view store.old).records (λ sys state. IsErrOf result (EngineFault.Damaged id)
+            → ((K.view store.old).records ≡ None) × IsStepEnabled sys state Recover × StandsFor sys self.new (K.view store.new).records state) }
 
         ensures refused { IsErrOf result EngineFault.NoMemory → was_refused self.new ≡ true }
         ensures told { was_refused self.new ≡ faults.is_refusal result }
@@ -126,26 +126,26 @@ impl Engine {
     /// is notified, node by node; what is complete is settled; an output acknowledges; an input injects. Idle exactly where
     /// none of these is enabled, and then it stands where it stood, and the store is as it was. The errors are those of `step`; no record is damaged.
     pub fn auto_step<K: Store>(&mut self, store: &mut K) -> Result<Stepped, EngineFault>
-        requires stored { IsStored (keep_of self.old) (K.records store.old) }
-        ensures stored { IsStored (keep_of self.new) (K.records store.new) }
+        requires stored { IsStored (keep_of self.old) (K.view store.old).records }
+        ensures stored { IsStored (keep_of self.new) (K.view store.new).records }
         ensures flow { flow_of self.new ≡ flow_of self.old }
-        ensures ok { ForEachState self.old (K.records store.old)
-            (λ sys state. IfOk result (λ stepped. FollowsFirstStep sys state stepped self.new (K.records store.new))) }
+        ensures ok { ForEachState self.old (K.view store.old).records
+            (λ sys state. IfOk result (λ stepped. FollowsFirstStep sys state stepped self.new (K.view store.new).records)) }
         ensures in_order { AreAscending (ids_of (keep_of self.new).entries) }
 
         // A store that tells its records goes on telling them. Where no step that is taken by itself may call it, and where none is
         // taken, it is left as it is.
-        ensures tells { is_some (K.records store.new) ≡ is_some (K.records store.old) }
+        ensures tells { is_some (K.view store.new).records ≡ is_some (K.view store.old).records }
         ensures quiet { (MayCallByItself (flow_of self.old) → ⊥) → store.new ≡ store.old }
         ensures idle { result ≡ Ok Idle → store.new ≡ store.old }
 
         // The store's count of faults rises as in `step`. StoreFault comes only where the first step that is enabled may call the
         // store. Then the engine stands where it stood.
-        ensures faults { K.fault_count store.new ≡ faults_after result (K.fault_count store.old) }
-        ensures calls { ForEachState self.old (K.records store.old)
+        ensures faults { (K.view store.new).faults ≡ faults_after result (K.view store.old).faults }
+        ensures calls { ForEachState self.old (K.view store.old).records
             (λ sys state. IsErrOf result EngineFault.StoreFault → FirstMayCall sys state) }
-        ensures faulted { ForEachState self.old (K.records store.old)
-            (λ sys state. IsErrOf result EngineFault.StoreFault → StandsFor sys self.new (K.records store.new) state) }
+        ensures faulted { ForEachState self.old (K.view store.old).records
+            (λ sys state. IsErrOf result EngineFault.StoreFault → StandsFor sys self.new (K.view store.new).records state) }
 
         ensures unharmed { (id : ℕ) → IsErrOf result (EngineFault.Damaged id) → ⊥ }
         ensures refused { IsErrOf result EngineFault.NoMemory → was_refused self.new ≡ true }

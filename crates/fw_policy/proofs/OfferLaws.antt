@@ -62,7 +62,7 @@ use Rattle.fw_policy.proofs.RecordLaws.{IsUnder, pairs-both, entries-recorded, e
 use Rattle.fw_policy.proofs.RecordedLaws.{IsFound, found-record, empty-recorded}
 use Rattle.fw_model.proofs.SentStandLaws.{sent-covers}
 use Rattle.fw_policy.proofs.UnloggedLaws.{IsOfEntries, logged-outside}
-use Rattle.fw_policy.proofs.WayLaws.{bound-output, checkpoints-notices, events-full}
+use Rattle.fw_policy.proofs.WayLaws.{bound-output, bounds-plain, checkpoints-notices, events-full}
 
 -- ---- one node
 
@@ -306,7 +306,7 @@ events-right sys state p entries lost low settled (form.Between least greatest) 
     let ss = unlogged_stamps p entries lost in
     let r = range-between b (below_all ss g) (front_of state.low p) least greatest f (a.0 ∙ e)
     (subst (λ (s : Front). IsFrontOf b greatest (below_all ss (frontier_of b s))) d a.1) in
-    let w = within-below b f g ss in
+    let w = within-below b f g ss (bounds-plain sys.flow p) in
     let m = logged-outside sys state p entries lost u (frontier_of b f) in
     ((λ i. let j = r.0 i in let v = w.0 j.0 in ((v.0, m.1 v.1), j.1)), (λ i. r.1 (w.1 ((i.0).0, m.0 (i.0).1), i.1)))
 

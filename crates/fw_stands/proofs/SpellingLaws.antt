@@ -6,6 +6,7 @@ use Rattle.std.proofs.lemmas.Bool.Decides.{nat_tests}
 use Rattle.std.proofs.lemmas.List.{length-append, get_or_past}
 use Rattle.fw_time.specs.Stamp.{Stamp, leq}
 use Rattle.fw_time.proofs.EachLaws.{each-append}
+use Rattle.fw_time.proofs.DomainLaws.{domain-leq}
 use Rattle.fw_flow.specs.declared.event.Event.{Event as Happened}
 use Rattle.fw_flow.specs.declared.event.Event.TheVariants.{Inject as Injected, Deliver as Delivered, Notify as Notified}
 use Rattle.fw_flow.specs.declared.kind.Domain.{Domain}
@@ -89,7 +90,7 @@ unfolding bounds_of
 bounds-sound flow w p = greatest-sound flow w (domain_of flow p)
 
 pub stamps_have_spellings : StampsHaveSpellings
-stamps_have_spellings flow w p = (bounds-sound flow w p, λ t i. stamp-below t (bounds_of flow p).greatest i (bounds-sound flow w p))
+stamps_have_spellings flow w p = (bounds-sound flow w p, λ t i. stamp-below t (bounds_of flow p).greatest (domain-leq (bounds_of flow p) t i) (bounds-sound flow w p))
 
 -- ---- events
 

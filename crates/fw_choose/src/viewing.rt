@@ -21,7 +21,7 @@ use fw_frontier::Front;
 use fw_keep as keep;
 use fw_monitor::largest;
 use fw_policy::{Border, Entry, NodeView, Written, candidates};
-use fw_running::{Running, stamp_of};
+use fw_running::Running;
 use fw_time::Bounds;
 use std::alloc::{AllocError, Global};
 
@@ -274,7 +274,7 @@ fn written_of(alloc: Global, written: &keep::Written) -> Result<Written, AllocEr
 {
     match written {
         keep::Written::Checkpoint { recorded, .. } => { Ok(Written::Checkpoint(recorded.copy()?)) }
-        keep::Written::Event(event) => Ok(Written::Event(stamp_of(event).copy())),
+        keep::Written::Event(event) => Ok(Written::Event(event.at().copy())),
     }
 }
 

@@ -31,7 +31,8 @@ use Rattle.fw_border.specs.Sources.{SourceState, given_up}
 use Rattle.fw_keep.specs.declared.entry.Entry.{Entry}
 use Rattle.fw_keep.specs.declared.entry.Written as entry
 use Rattle.fw_keep.specs.declared.entry.Written.TheVariants as written
-use Rattle.fw_keep.specs.Entry.{stamp_of, lies_below, is_event_at, is_below, is_at}
+use Rattle.fw_record.specs.Event.{stamp_of_event}
+use Rattle.fw_keep.specs.Entry.{lies_below, is_event_at, is_below, is_at}
 use Rattle.fw_collect.specs.declared.drops.AtNode.{AtNode}
 use Rattle.fw_collect.specs.declared.drops.OfNode.{OfNode}
 use Rattle.fw_collect.specs.Drops.{of_node, without_batches, dropped_records, dropped_events, dropped_messages, dropped_batches, given_up_event}
@@ -112,21 +113,21 @@ below-planned flow low e =
 -- whether what is written of node p is an event that is given up
 is-event_given_up : Dataflow → List Front → ℕ → entry.Written → Bool
 is-event_given_up flow low p (written.Checkpoint recorded stamps sent) = false
-is-event_given_up flow low p (written.Event event) = is_given_up (without_batches flow) low p (stamp_of event)
+is-event_given_up flow low p (written.Event event) = is_given_up (without_batches flow) low p (stamp_of_event event)
 
 at-sound : (flow : Dataflow) (low : List Front) (p q : ℕ) (t : Stamp) (w : entry.Written) → is_given_up (without_batches flow) low p t ≡ true
     → q ≡ p → is_event_at t w ≡ true → is-event_given_up flow low q w ≡ true
 unfolding is-event_given_up
 at-sound flow low p q t (written.Checkpoint recorded stamps sent) g e h = absurd (true≢false (sym h))
 at-sound flow low p q t (written.Event event) g e h =
-    ap (λ k. is_given_up (without_batches flow) low k (stamp_of event)) e ∙ ap (is_given_up (without_batches flow) low p) (same-is (stamp_of event) t h) ∙ g
+    ap (λ k. is_given_up (without_batches flow) low k (stamp_of_event event)) e ∙ ap (is_given_up (without_batches flow) low p) (same-is (stamp_of_event event) t h) ∙ g
 
 -- what an entry's own drop takes out is given up
 drop-sound : (flow : Dataflow) (low : List Front) (p : ℕ) (w : entry.Written) (e : Entry) → is_at_some (given_up_event flow low p w) e ≡ true
     → is-event_given_up flow low e.node e.written ≡ true
 drop-sound flow low p (written.Checkpoint recorded stamps sent) e h = absurd (true≢false (sym h))
 drop-sound flow low p (written.Event event) e h =
-    let t : Stamp = stamp_of event in
+    let t : Stamp = stamp_of_event event in
     let test : Bool = is_given_up (without_batches flow) low p t in
     let found : Bool → Bool = λ b. is_at_some (cond b (record { node = p; at = t } ∷ []) []) e in
     elim (cases_Bool test) [
@@ -143,7 +144,7 @@ drop-complete : (flow : Dataflow) (low : List Front) (p : ℕ) (w : entry.Writte
 unfolding is-event_given_up
 drop-complete flow low p (written.Checkpoint recorded stamps sent) h = absurd (true≢false (sym h))
 drop-complete flow low p (written.Event event) h =
-    let t : Stamp = stamp_of event in
+    let t : Stamp = stamp_of_event event in
     let look : AtNode → Bool = λ (d : AtNode). (p == d.node) && same t d.at in
     ap (λ b. list_any look (cond b (record { node = p; at = t } ∷ []) [])) h
     ∙ or_left ((p == p) && same t t) false (and_from (p == p) (same t t) (eq-eqb p p refl) (same-refl t))
@@ -182,7 +183,7 @@ both-are : (flow : Dataflow) (low : List Front) (p : ℕ) (w : entry.Written)
 unfolding is-event_given_up
 both-are flow low p (written.Checkpoint recorded stamps sent) = or_nothing (takes_checkpoints (policy_of flow p) && lies_below (front_of low p) (written.Checkpoint recorded stamps sent))
 both-are flow low p (written.Event event) =
-    ap (λ b. b || is_given_up (without_batches flow) low p (stamp_of event)) (and-false (takes_checkpoints (policy_of flow p)))
+    ap (λ b. b || is_given_up (without_batches flow) low p (stamp_of_event event)) (and-false (takes_checkpoints (policy_of flow p)))
 
 pub drops_what_is_given_up : DropsWhatIsGivenUp
 drops_what_is_given_up flow low entries drops is =
@@ -254,7 +255,7 @@ written-same sys h low p q (written.Checkpoint recorded stamps sent) (checkpoint
 written-same sys h low p q (written.Checkpoint recorded stamps sent) (logged_event serial) e is = absurd is
 written-same sys h low p q (written.Event event) (checkpoint f kept) e is = absurd is
 written-same sys h low p q (written.Event event) (logged_event serial) e is =
-    sym (serial-test sys h low p (stamp_of event) serial is.only ∙ ap (λ b. b && is_given_up sys low p (stamp_of event)) is.there)
+    sym (serial-test sys h low p (stamp_of_event event) serial is.only ∙ ap (λ b. b && is_given_up sys low p (stamp_of_event event)) is.there)
 
 -- ---- lists side by side
 

@@ -18,7 +18,8 @@ use Rattle.fw_model.specs.Writes.{takes_checkpoints, not_collected}
 use Rattle.fw_keep.specs.declared.entry.Entry.{Entry}
 use Rattle.fw_keep.specs.declared.entry.Written as entry
 use Rattle.fw_keep.specs.declared.entry.Written.TheVariants as written
-use Rattle.fw_keep.specs.Entry.{stamp_of, lies_below}
+use Rattle.fw_record.specs.Event.{stamp_of_event}
+use Rattle.fw_keep.specs.Entry.{lies_below}
 use Rattle.fw_edge.specs.Messages.{MessagesState}
 use Rattle.fw_border.specs.Sources.{SourceState, given_up}
 use Rattle.fw_collect.specs.declared.drops.Drops.{Drops}
@@ -32,7 +33,7 @@ use Rattle.fw_collect.specs.Dropped.{is_dropped, log_outside, log_left, source_l
 abbrev pub is_written_given_up : Dataflow → List Front → ℕ → entry.Written → Bool
 is_written_given_up flow low p (written.Checkpoint recorded stamps sent) =
     takes_checkpoints (policy_of flow p) && lies_below (front_of low p) (written.Checkpoint recorded stamps sent)
-is_written_given_up flow low p (written.Event event) = is_given_up (without_batches flow) low p (stamp_of event)
+is_written_given_up flow low p (written.Event event) = is_given_up (without_batches flow) low p (stamp_of_event event)
 
 -- of these entries those go that are given up, each by itself: an event's stamp takes no other event with it
 abbrev pub DropsWhatIsGivenUp : Type 0
@@ -64,7 +65,7 @@ pub record IsEventAt (sys : System) (h : List SerialEvent) (p : ℕ) (t : Stamp)
 abbrev pub IsWrittenOf : System → List SerialEvent → ℕ → entry.Written → Written → Type 0
 IsWrittenOf sys h p (written.Checkpoint recorded stamps sent) (checkpoint f low) =
     (recorded.front ≡ f) × (takes_checkpoints (policy_of sys.flow p) ≡ true)
-IsWrittenOf sys h p (written.Event event) (logged_event serial) = IsEventAt sys h p (stamp_of event) serial
+IsWrittenOf sys h p (written.Event event) (logged_event serial) = IsEventAt sys h p (stamp_of_event event) serial
 IsWrittenOf sys h p one other = ⊥
 
 -- The entry is that of a write of the machine with this history.

@@ -13,7 +13,7 @@ ghost use Rattle.fw_running.specs.Steps.{TakesStep, StaysShaped, IsUndamaged};
 use fw_flow::{EdgeId, Flow, NodeId, Notices, Policy};
 use fw_keep::{Entry, Written};
 use fw_rollback::{Logs, Parts, Queues};
-use fw_running::{Effect, EngineFault, Running, Stepped, stamp_of};
+use fw_running::{Effect, EngineFault, Running, Stepped};
 use fw_time::Stamp;
 use std::alloc::{AllocError, Global};
 
@@ -178,7 +178,7 @@ fn lost_stamp(entry: &Entry, node: NodeId) -> Option<Stamp>
         return None;
     }
     match &entry.written {
-        Written::Event(event) => Some(stamp_of(event).copy()),
+        Written::Event(event) => Some(event.at().copy()),
         Written::Checkpoint { .. } => None,
     }
 }

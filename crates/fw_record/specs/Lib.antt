@@ -1,3 +1,4 @@
+pub mod Event
 pub mod Fields
 pub mod Spelling
 pub mod Sound

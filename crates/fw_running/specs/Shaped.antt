@@ -10,7 +10,7 @@ use Rattle.fw_model.specs.Offers.{IsRecordOf}
 use Rattle.fw_keep.specs.declared.entry.Entry.{Entry}
 use Rattle.fw_keep.specs.declared.entry.Written.{Written}
 use Rattle.fw_keep.specs.declared.entry.Written.TheVariants as written
-use Rattle.fw_keep.specs.Entry.{stamp_of}
+use Rattle.fw_record.specs.Event.{stamp_of_event}
 use Rattle.fw_node.specs.NodeOf.{IsNodeOf}
 use Rattle.fw_progress.specs.Progress.{IsOfFlow}
 use Rattle.fw_progress.specs.Trace.{HaveLists}
@@ -24,7 +24,7 @@ use Rattle.fw_running.specs.Ready.{CanDeliver, IsOwing, HasGrown, CanAcknowledge
 -- what is written is of node p: a checkpoint has a frontier and covers of the domains, and an event a stamp
 abbrev pub IsWrittenOf : Dataflow → ℕ → Written → Type 0
 IsWrittenOf flow p (written.Checkpoint recorded stamps sent) = IsRecordOf flow p recorded
-IsWrittenOf flow p (written.Event event) = in_domain (bounds_of flow p) (stamp_of event) ≡ true
+IsWrittenOf flow p (written.Event event) = in_domain (bounds_of flow p) (stamp_of_event event) ≡ true
 
 -- the lists have one for each node and edge
 pub record HasOneEach (running : Running) : Type 0 where

@@ -21,7 +21,7 @@ use Rattle.fw_record.specs.declared.record.Event.{Event}
 use Rattle.fw_keep.specs.declared.entry.Entry.{Entry}
 use Rattle.fw_keep.specs.declared.entry.Written.{Written}
 use Rattle.fw_keep.specs.declared.entry.Written.TheVariants as written
-use Rattle.fw_keep.specs.Entry.{stamp_of}
+use Rattle.fw_record.specs.Event.{stamp_of_event}
 use Rattle.fw_collect.specs.declared.drops.Drops.{Drops}
 use Rattle.fw_collect.specs.Drops.{IsPlanned}
 use Rattle.fw_collect.specs.Dropped.{is_dropped}
@@ -72,7 +72,7 @@ given-same sys state low p far o (written.Checkpoint r t n) (logged_event s) w h
 given-same sys state low p far o (written.Event event) (checkpoint f l) w h = absurd h
 given-same sys state low p far o (written.Event event) (logged_event s) w h =
     sym (serial-any sys.flow p s state.next event (λ v. is_given_up sys low (event_node sys.flow v.event) (event_stamp v.event))
-    (is_given_up sys low p (stamp_of event)) state.history o
+    (is_given_up sys low p (stamp_of_event event)) state.history o
     (λ v a. ap (λ q. is_given_up sys low q (event_stamp v.event)) a.node ∙ ap (is_given_up sys low p) (sym (told-stamp v.event event a.told))) h)
 
 -- ---- as a collection looks
@@ -83,11 +83,11 @@ has-told flow p s event (v ∷ h) (inl a) = or_left (v.serial == s) (has_serial 
 has-told flow p s event (v ∷ h) (inr a) = or_right (v.serial == s) (has_serial s h) (has-told flow p s event h a)
 
 only-told : (flow : Dataflow) (p s n : ℕ) (event : Event) (h : List SerialEvent) → AreSerialsBelow n h → HasEventTold flow p s event h
-    → AllByRecursion (λ (v : SerialEvent). v.serial ≡ s → (event_node flow v.event ≡ p) × (event_stamp v.event ≡ stamp_of event)) h
+    → AllByRecursion (λ (v : SerialEvent). v.serial ≡ s → (event_node flow v.event ≡ p) × (event_stamp v.event ≡ stamp_of_event event)) h
 only-told flow p s n event [] o a = tt
 only-told flow p s n event (v ∷ h) o (inl a) = (
   λ e. (a.node, sym (told-stamp v.event event a.told)),
-  each-weaker (λ (u : SerialEvent). u.serial < v.serial) (λ u. u.serial ≡ s → (event_node flow u.event ≡ p) × (event_stamp u.event ≡ stamp_of event)) h
+  each-weaker (λ (u : SerialEvent). u.serial < v.serial) (λ u. u.serial ≡ s → (event_node flow u.event ≡ p) × (event_stamp u.event ≡ stamp_of_event event)) h
       (λ u l e. let k = a.same_serial in absurd (omega arith)) (serials-each v.serial v.serial h (omega arith) o.1),
 )
 only-told flow p s n event (v ∷ h) o (inr a) = (

@@ -49,7 +49,8 @@ use Rattle.fw_keep.specs.declared.entry.Entry.{Entry}
 use Rattle.fw_keep.specs.declared.entry.Written.{Written}
 use Rattle.fw_keep.specs.declared.entry.Written.TheVariants as written
 use Rattle.fw_keep.specs.Catalogue.{oldest, persisted}
-use Rattle.fw_keep.specs.Entry.{is_withdrawn, asked, node_of, written_of, is_lost, lies_within, stamp_of}
+use Rattle.fw_record.specs.Event.{stamp_of_event}
+use Rattle.fw_keep.specs.Entry.{is_withdrawn, asked, node_of, written_of, is_lost, lies_within}
 use Rattle.fw_keep.specs.Stored.{Records, KeepsBytes}
 use Rattle.fw_record.proofs.RecordLaws.{one_spelling_lem}
 use Rattle.fw_keep.proofs.StoredLaws.{equal_by_cmp}
@@ -549,10 +550,10 @@ loses_one_by_one (p ∷ ps) es =
 -- ---- a recovery
 
 -- an event that is told of is at the stamp that is told
-pub told-stamp : (v : Happened) (event : Event) → told_of v ≡ Some event → stamp_of event ≡ event_stamp v
+pub told-stamp : (v : Happened) (event : Event) → told_of v ≡ Some event → stamp_of_event event ≡ event_stamp v
 told-stamp (Injected s x) event k = absurd cc
-told-stamp (Delivered e m) event k = let c : told_event.Deliver e m.at m.rec ≡ event = cc in ap stamp_of (sym c)
-told-stamp (Notified p t) event k = let c : told_event.Notify t ≡ event = cc in ap stamp_of (sym c)
+told-stamp (Delivered e m) event k = let c : told_event.Deliver e m.at m.rec ≡ event = cc in ap stamp_of_event (sym c)
+told-stamp (Notified p t) event k = let c : told_event.Notify t ≡ event = cc in ap stamp_of_event (sym c)
 
 each-numbered : (P : Happened → Type 0) (h : List SerialEvent) → AllByRecursion P (events h) → AllByRecursion (λ (v : SerialEvent). P v.event) h
 each-numbered P [] a = tt
@@ -587,7 +588,7 @@ AreInDomains sys h = AllByRecursion (λ (v : SerialEvent). in_domain (bounds_of 
 
 kept-told : (sys : System) (choice : Choice) (p s : ℕ) (f : Front) (event : Event) → cut_of choice p ≡ At f → (v : SerialEvent)
     → in_domain (bounds_of sys.flow (event_node sys.flow v.event)) (event_stamp v.event) ≡ true → IsToldAs sys.flow p s event v
-    → kept_of sys.flow choice (event_node sys.flow v.event) (event_stamp v.event) ≡ inside f (stamp_of event)
+    → kept_of sys.flow choice (event_node sys.flow v.event) (event_stamp v.event) ≡ inside f (stamp_of_event event)
 kept-told sys choice p s f event cut v d a =
     let t = event_stamp v.event in
     ap (λ q. kept_of sys.flow choice q t) a.node ∙ ap (λ c. set_of sys.flow p c t) cut
@@ -601,9 +602,9 @@ lies-alike sys state choice p f o d cut (written.Checkpoint r t n) (logged_event
 lies-alike sys state choice p f o d cut (written.Event event) (checkpoint g low) h = absurd h
 lies-alike sys state choice p f o d cut (written.Event event) (logged_event s) h =
     let keeps : SerialEvent → Bool = λ v. kept_of sys.flow choice (event_node sys.flow v.event) (event_stamp v.event) in
-    sym (serial-kept sys.flow p s state.next event keeps (inside f (stamp_of event)) state.history o
+    sym (serial-kept sys.flow p s state.next event keeps (inside f (stamp_of_event event)) state.history o
     (each-weaker (λ (v : SerialEvent). in_domain (bounds_of sys.flow (event_node sys.flow v.event)) (event_stamp v.event) ≡ true)
-    (λ v. IsToldAs sys.flow p s event v → keeps v ≡ inside f (stamp_of event)) state.history (λ v e a. kept-told sys choice p s f event cut v e a) d) h)
+    (λ v. IsToldAs sys.flow p s event v → keeps v ≡ inside f (stamp_of_event event)) state.history (λ v e a. kept-told sys choice p s f event cut v e a) d) h)
 
 not-not : (b : Bool) → not (not b) ≡ b
 not-not true = refl

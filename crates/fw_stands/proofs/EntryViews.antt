@@ -24,7 +24,7 @@ use Rattle.fw_record.specs.declared.record.Event.{Event}
 use Rattle.fw_keep.specs.declared.entry.Entry.{Entry}
 use Rattle.fw_keep.specs.declared.entry.Written.{Written}
 use Rattle.fw_keep.specs.declared.entry.Written.TheVariants as written
-use Rattle.fw_keep.specs.Entry.{stamp_of}
+use Rattle.fw_record.specs.Event.{stamp_of_event}
 use Rattle.fw_policy.specs.View as view
 use Rattle.fw_policy.specs.View.{IsEventAt, HasEventAt, IsUnlogged, IsLostAt}
 use Rattle.fw_policy.specs.Offering.{stamp_in, unlogged_by, unlogged_stamps}
@@ -71,7 +71,7 @@ checkpoint_asks sys state p next effect t = ap (λ (m : Machine). m.writes) t.3
 
 -- ---- as offers are told
 
-event-told : (flow : Dataflow) (p s : ℕ) (event : Event) (h : List SerialEvent) → HasEventTold flow p s event h → HasEventAt flow p s (stamp_of event) h
+event-told : (flow : Dataflow) (p s : ℕ) (event : Event) (h : List SerialEvent) → HasEventTold flow p s event h → HasEventAt flow p s (stamp_of_event event) h
 event-told flow p s event [] a = absurd a
 event-told flow p s event (v ∷ h) (inl a) = inl (record { same_serial = a.same_serial; node = a.node; stamp = sym (told-stamp v.event event a.told) })
 event-told flow p s event (v ∷ h) (inr a) = inr (event-told flow p s event h a)

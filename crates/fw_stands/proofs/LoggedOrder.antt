@@ -28,7 +28,8 @@ use Rattle.fw_record.specs.declared.record.Record.{Record}
 use Rattle.fw_keep.specs.declared.entry.Entry.{Entry}
 use Rattle.fw_keep.specs.declared.entry.Written.{Written}
 use Rattle.fw_keep.specs.declared.entry.Written.TheVariants as written
-use Rattle.fw_keep.specs.Entry.{stamp_of, IsRecordAs, IsRecordOf}
+use Rattle.fw_record.specs.Event.{stamp_of_event}
+use Rattle.fw_keep.specs.Entry.{IsRecordAs, IsRecordOf}
 use Rattle.fw_stands.specs.LawsOfRecovered.{ReplayedEventsAreThoseOfEntries, ReplayedEventsAreThoseOfRecords}
 use Rattle.fw_stands.specs.Redone.{told_in_order, event_in, event_of, is_event_inside, is_logged_inside}
 use Rattle.fw_stands.specs.Written.{told_of, HasEventTold, Holds, IsEntryOf}
@@ -190,18 +191,18 @@ told-alone flow p s event h l a =
     ap (λ n. told_at n h) (sym c.1.0.0) ∙ c.1.1 ∙ ap (λ (o : Option Event). option_to_list o) c.1.0.1.1
 
 -- the stamp at which an event is told is its own
-told-stamp : (v : Happened) (event : Event) → told_of v ≡ Some event → stamp_of event ≡ event_stamp v
+told-stamp : (v : Happened) (event : Event) → told_of v ≡ Some event → stamp_of_event event ≡ event_stamp v
 told-stamp (Inject s x) event e = absurd (cc e)
-told-stamp (Deliver d m) event e = let same : event_of (told_of (Deliver d m)) ≡ stamp_of event = ap event_of e in sym same
+told-stamp (Deliver d m) event e = let same : event_of (told_of (Deliver d m)) ≡ stamp_of_event event = ap event_of e in sym same
   where
     event_of : Option Event → List ℕ
     event_of None = []
-    event_of (Some x) = stamp_of x
-told-stamp (Notify p t) event e = let same : event_of (told_of (Notify p t)) ≡ stamp_of event = ap event_of e in sym same
+    event_of (Some x) = stamp_of_event x
+told-stamp (Notify p t) event e = let same : event_of (told_of (Notify p t)) ≡ stamp_of_event event = ap event_of e in sym same
   where
     event_of : Option Event → List ℕ
     event_of None = []
-    event_of (Some x) = stamp_of x
+    event_of (Some x) = stamp_of_event x
 
 -- ---- what a history tells
 
@@ -348,7 +349,7 @@ kept-acknowledged collected e = absurd (two_ways false e refl)
 record IsFound (sys : System) (state : Machine) (p : ℕ) (f : Frontier) (n : ℕ) (ws : List Write) : Type 0 where
   pub event : Event
   pub told : HasEventTold sys.flow p n event state.history
-  pub inside : f (stamp_of event) ≡ true
+  pub inside : f (stamp_of_event event) ≡ true
   pub log : HoldsOfOne (IsItsLog n) ws
 
 -- the entry passes the test and its write logs this serial

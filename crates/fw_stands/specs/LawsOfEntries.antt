@@ -36,7 +36,8 @@ use Rattle.fw_keep.specs.declared.entry.Entry.{Entry}
 use Rattle.fw_keep.specs.declared.entry.Written.{Written}
 use Rattle.fw_keep.specs.declared.entry.Written.TheVariants as written
 use Rattle.fw_keep.specs.Catalogue.{ids_of, oldest, persisted}
-use Rattle.fw_keep.specs.Entry.{IsRecordOf, asked, is_lost, is_withdrawn, lies_within, stamp_of}
+use Rattle.fw_record.specs.Event.{stamp_of_event}
+use Rattle.fw_keep.specs.Entry.{IsRecordOf, asked, is_lost, is_withdrawn, lies_within}
 use Rattle.fw_keep.specs.Stored.{Records, KeepsBytes}
 use Rattle.fw_collect.specs.declared.drops.Drops.{Drops}
 use Rattle.fw_collect.specs.Drops.{IsPlanned}
@@ -333,7 +334,7 @@ CheckpointAsks = (sys : System) (state : Machine) (p : ℕ) (next : Machine) (ef
 -- the stamp of what is written, if it is an event
 abbrev pub stamp_of_written : Written → List Stamp
 stamp_of_written (written.Checkpoint recorded stamps sent) = []
-stamp_of_written (written.Event event) = stamp_of event ∷ []
+stamp_of_written (written.Event event) = stamp_of_event event ∷ []
 
 -- the stamps of the events of node p that are in flight, in order
 abbrev pub stamps_in_flight : ℕ → List Entry → List Stamp
@@ -358,7 +359,7 @@ LossesStay = (sys : System) → IsWellFormedSystem sys → (state : Machine) →
 -- what is written, as offers are told of it
 abbrev pub told_written : Written → ToldWritten
 told_written (written.Checkpoint recorded stamps sent) = told.Checkpoint recorded
-told_written (written.Event event) = told.Event (stamp_of event)
+told_written (written.Event event) = told.Event (stamp_of_event event)
 
 -- an entry, as offers are told of it
 abbrev pub told_entry : Entry → Told

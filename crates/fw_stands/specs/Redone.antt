@@ -13,7 +13,7 @@ use Rattle.fw_record.specs.declared.record.Record.TheVariants as tagged
 use Rattle.fw_keep.specs.declared.entry.Entry.{Entry}
 use Rattle.fw_keep.specs.declared.entry.Written.{Written}
 use Rattle.fw_keep.specs.declared.entry.Written.TheVariants as written
-use Rattle.fw_keep.specs.Entry.{stamp_of}
+use Rattle.fw_record.specs.Event.{stamp_of_event}
 
 -- Each of these events, the latest first, can be done by node p after those before it: a delivery is on one of its in-edges,
 -- nothing comes to a node at a stamp of which it was notified, it is notified of none twice, and of a total what came up to an
@@ -46,7 +46,7 @@ event_of (tagged.Event p event) = event ∷ []
 -- whether an event is written, and is at a stamp inside
 abbrev pub is_event_inside : Frontier → Written → Bool
 is_event_inside f (written.Checkpoint recorded stamps sent) = false
-is_event_inside f (written.Event event) = f (stamp_of event)
+is_event_inside f (written.Event event) = f (stamp_of_event event)
 
 -- whether the entry is an acknowledged one of an event of node p inside f
 abbrev pub is_logged_inside : ℕ → Frontier → Entry → Bool

@@ -30,7 +30,8 @@ use Rattle.fw_node.specs.NodeOf.{IsNodeOf}
 use Rattle.fw_policy.specs.View.{IsLostAt}
 use Rattle.fw_rollback.specs.Edges.{IsOnEdge, on_edge}
 use Rattle.fw_rollback.specs.Tables.{table_at}
-use Rattle.fw_stands.specs.LawsOfEntries.{stamps_in_flight, is_lost_of}
+use Rattle.fw_policy.specs.Offering.{stamps_in_flight}
+use Rattle.fw_stands.specs.LawsOfEntries.{is_lost_of}
 use Rattle.fw_stands.specs.LawsOfFailures.{failed_state}
 use Rattle.fw_stands.specs.Parts.{IsTableIn, IsOutputOf, IsSourceOf, kept_recs}
 use Rattle.fw_stands.specs.Written.{AreEntriesOf, AreStored, uncollected}

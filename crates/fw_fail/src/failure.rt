@@ -4,7 +4,7 @@ ghost use Rattle.fw_flow.specs.declared.step.Step.TheVariants as steps;
 ghost use Rattle.fw_keep.specs.Entry as entries;
 ghost use Rattle.fw_keep.specs.Stored.{Records, IsStored};
 ghost use Rattle.fw_rollback.specs.Edges.{on_edge};
-ghost use Rattle.fw_stands.specs.LawsOfEntries.{stamp_of_written, stamps_in_flight};
+ghost use Rattle.fw_policy.specs.Offering.{stamp_of_written, stamps_in_flight};
 ghost use Rattle.fw_fail.specs.Failing.{AreGone, IsGoneFrom, lost_after, Fails, FailsIf};
 ghost use Rattle.fw_running.specs.Kept.{is_down};
 ghost use Rattle.fw_running.specs.Shaped.{HasOneEach, IsShaped};

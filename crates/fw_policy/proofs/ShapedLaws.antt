@@ -29,12 +29,12 @@ use Rattle.fw_model.proofs.LowLaws.{none-canonical}
 use Rattle.fw_model.proofs.UntilLaws.{numbers, canonical-until}
 use Rattle.fw_policy.specs.declared.view.Border.{Border}
 use Rattle.fw_policy.specs.declared.view.Border.TheVariants.{Inner, Source, Output}
-use Rattle.fw_policy.specs.declared.view.Entry.{Entry}
+use Rattle.fw_keep.specs.declared.entry.Entry.{Entry}
 use Rattle.fw_policy.specs.declared.view.NodeView.{NodeView}
-use Rattle.fw_policy.specs.declared.view.Written.{Written}
-use Rattle.fw_policy.specs.declared.view.Written.TheVariants.{Checkpoint, Event as LoggedEvent}
+use Rattle.fw_keep.specs.declared.entry.Written.{Written}
+use Rattle.fw_keep.specs.declared.entry.Written.TheVariants as written
 use Rattle.fw_policy.specs.Known.{FitsWay, AreKnown}
-use Rattle.fw_policy.specs.Offering.{record_in, record_by, records_by, empty_record, stamp_in, unlogged_by, IsRange, IsOfBatches, IsOfBound, OffersBy, IsOfferBy, AreOffersBy}
+use Rattle.fw_policy.specs.Offering.{record_in, record_by, records_by, empty_record, stamp_of_written, unlogged_by, IsRange, IsOfBatches, IsOfBound, OffersBy, IsOfferBy, AreOffersBy}
 use Rattle.fw_policy.specs.Shaped.{FitsKind, AreStampsAt, IsWrittenOf, IsViewFor, AreViewsFrom, FitsFlow}
 
 abbrev AreWritten : Dataflow → List Entry → Type 0
@@ -46,8 +46,8 @@ same-node n m e = grind (arith, nat_tests)
 -- ---- what the entries hold
 
 record-held : (flow : Dataflow) (p : ℕ) (w : Written) → IsWrittenOf flow p w → AllByRecursion (IsRecordOf flow p) (record_in w)
-record-held flow p (Checkpoint r) k = (k, tt)
-record-held flow p (LoggedEvent t) k = tt
+record-held flow p (written.Checkpoint r stamps sent) k = (k, tt)
+record-held flow p (written.Event event) k = tt
 
 records-held : (flow : Dataflow) (p : ℕ) (entries : List Entry) → AreWritten flow entries → AllByRecursion (IsRecordOf flow p) (records_by p entries)
 records-held flow p [] a = tt
@@ -57,15 +57,15 @@ records-held flow p (entry ∷ entries) a =
     (λ e. record-held flow p entry.written (subst (λ q. IsWrittenOf flow q entry.written) (same-node entry.node p (and_parts (entry.node == p) entry.acknowledged e).0) a.0)) (λ e. tt))
     (records-held flow p entries a.1)
 
-stamp-held : (flow : Dataflow) (p : ℕ) (w : Written) → IsWrittenOf flow p w → AreStampsAt flow p (stamp_in w)
-stamp-held flow p (Checkpoint r) k = tt
-stamp-held flow p (LoggedEvent t) k = (k, tt)
+stamp-held : (flow : Dataflow) (p : ℕ) (w : Written) → IsWrittenOf flow p w → AreStampsAt flow p (stamp_of_written w)
+stamp-held flow p (written.Checkpoint r stamps sent) k = tt
+stamp-held flow p (written.Event event) k = (k, tt)
 
 stamps-held : (flow : Dataflow) (p : ℕ) (entries : List Entry) → AreWritten flow entries → AreStampsAt flow p (flat_map (unlogged_by p) entries)
 stamps-held flow p [] a = tt
 stamps-held flow p (entry ∷ entries) a =
     each-append (λ t. in_domain (bounds_of flow p) t ≡ true) (unlogged_by p entry) (flat_map (unlogged_by p) entries)
-    (cond_both (entry.node == p && not entry.acknowledged) (stamp_in entry.written) [] (AreStampsAt flow p)
+    (cond_both (entry.node == p && not entry.acknowledged) (stamp_of_written entry.written) [] (AreStampsAt flow p)
     (λ e. stamp-held flow p entry.written (subst (λ q. IsWrittenOf flow q entry.written) (same-node entry.node p (and_parts (entry.node == p) (not entry.acknowledged) e).0) a.0)) (λ e. tt))
     (stamps-held flow p entries a.1)
 

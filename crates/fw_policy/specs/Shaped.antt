@@ -9,19 +9,20 @@ use Rattle.fw_flow.specs.Dataflow.{Dataflow, kind_of, bounds_of, greatest_number
 use Rattle.fw_model.specs.Offers.{AreOnEdges, HasOneCause, IsRecordOf}
 use Rattle.fw_policy.specs.declared.view.Border.{Border}
 use Rattle.fw_policy.specs.declared.view.Border.TheVariants.{Source, Output}
-use Rattle.fw_policy.specs.declared.view.Entry.{Entry}
+use Rattle.fw_record.specs.Event.{stamp_of_event}
+use Rattle.fw_keep.specs.declared.entry.Entry.{Entry}
 use Rattle.fw_policy.specs.declared.view.NodeView.{NodeView}
-use Rattle.fw_policy.specs.declared.view.Written.{Written}
-use Rattle.fw_policy.specs.declared.view.Written.TheVariants.{Checkpoint, Event as LoggedEvent}
+use Rattle.fw_keep.specs.declared.entry.Written.{Written}
+use Rattle.fw_keep.specs.declared.entry.Written.TheVariants as written
 
 -- each of the stamps is of node p's domain
 abbrev pub AreStampsAt : Dataflow → ℕ → List Stamp → Type 0
 AreStampsAt flow p stamps = AllByRecursion (λ t. in_domain (bounds_of flow p) t ≡ true) stamps
 
--- what is written is of node p: a record of it, or a stamp of its domain
+-- what is written is of node p: a checkpoint has a frontier and covers of the domains, and an event a stamp
 abbrev pub IsWrittenOf : Dataflow → ℕ → Written → Type 0
-IsWrittenOf flow p (Checkpoint r) = IsRecordOf flow p r
-IsWrittenOf flow p (LoggedEvent t) = in_domain (bounds_of flow p) t ≡ true
+IsWrittenOf flow p (written.Checkpoint recorded stamps sent) = IsRecordOf flow p recorded
+IsWrittenOf flow p (written.Event event) = in_domain (bounds_of flow p) (stamp_of_event event) ≡ true
 
 -- The border fits the kind: an input's tells how many batches were injected, which are not too many, and an output's how many stamps
 -- were acknowledged. Of any other kind the border plays no part.

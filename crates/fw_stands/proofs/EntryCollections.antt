@@ -32,7 +32,8 @@ use Rattle.fw_stands.specs.Written.{IsToldAs, HasEventTold, Holds, IsEntryOf, un
 use Rattle.fw_stands.specs.LawsOfEntries.{EntriesCanBeCollected, EntriesAfterCollection, RecordsAfterCollection}
 use Rattle.fw_stands.proofs.SideBySide.{zip-weaker, zip-right, zip-both}
 use Rattle.fw_stands.proofs.WrittenStays.{told-below}
-use Rattle.fw_stands.proofs.EntrySteps.{told-stamp, IsKeptAs, entries-stay, records-stay, left-stay}
+use Rattle.fw_policy.proofs.UnloggedLaws.{told-stamp}
+use Rattle.fw_stands.proofs.EntrySteps.{IsKeptAs, entries-stay, records-stay, left-stay}
 
 -- ---- the event of a serial
 

@@ -57,6 +57,7 @@ use Rattle.fw_keep.proofs.StoredLaws.{equal_by_cmp}
 use Rattle.fw_stands.specs.Written.{told_of, IsToldAs, HasEventTold, Holds, IsEntryOf, AreEntriesOf, uncollected, IsRecordFor, IsHeldAs, AreHeld, AreStored}
 use Rattle.fw_stands.specs.LawsOfEntries.{StaysWritten, HasStamps, AskedEntryIsOfWrite, PutRecordIsStored, ReadRecordsAreOfWrites, KeptBytesAreStored, entries_of_event, EntriesAfterEvent, RecordsAfterLoggedEvent, RecordsAfterOtherEvent, InjectionsAreNotLogged, EntriesAfterStep, RecordsAfterStep, EntriesAfterAsking, RecordsAfterAsking, ProgressAsks, EntriesAfterPersist, RecordsAfterPersist, PersistsWhereInFlight, is_lost_of, LosesOneByOne, WithdrawnAreTheLast, EntriesAfterFailure, RecordsAfterFailure, is_beyond, is_undone, EntriesAfterRecovery, RecordsAfterRecovery}
 use Rattle.fw_stands.proofs.SideBySide.{zip-weaker, zip-left, zip-right, zip-both, zip-append, zip-gone, each-there}
+use Rattle.fw_policy.proofs.UnloggedLaws.{told-stamp}
 use Rattle.fw_stands.proofs.WrittenStays.{told-below, what_is_written_stays}
 
 -- ---- what stands for a write that stays
@@ -548,12 +549,6 @@ loses_one_by_one (p ∷ ps) es =
     turned m n = grind (arith, nat_tests)
 
 -- ---- a recovery
-
--- an event that is told of is at the stamp that is told
-pub told-stamp : (v : Happened) (event : Event) → told_of v ≡ Some event → stamp_of_event event ≡ event_stamp v
-told-stamp (Injected s x) event k = absurd cc
-told-stamp (Delivered e m) event k = let c : told_event.Deliver e m.at m.rec ≡ event = cc in ap stamp_of_event (sym c)
-told-stamp (Notified p t) event k = let c : told_event.Notify t ≡ event = cc in ap stamp_of_event (sym c)
 
 each-numbered : (P : Happened → Type 0) (h : List SerialEvent) → AllByRecursion P (events h) → AllByRecursion (λ (v : SerialEvent). P v.event) h
 each-numbered P [] a = tt

@@ -48,7 +48,7 @@ use Rattle.fw_record.specs.declared.record.Checkpoint.{Checkpoint}
 use Rattle.fw_record.specs.OfNode as fits
 use Rattle.fw_record.specs.OfNode.{IsOnOneOf, count_sum, AreCountsOf, HasNumbersFor, CanBeLogged, IsLogUnder, IsCheckpointOf}
 use Rattle.fw_record.specs.Sound.{each_may_follow, may_follow_counts}
-use Rattle.fw_stands.specs.Parts.{sent_by_node}
+use Rattle.fw_policy.specs.Entries.{sent_by_node}
 use Rattle.fw_stands.specs.Written.{events_within, edges_of, logged_on, to_log, told_inside, IsCheckpointFor}
 use Rattle.fw_stands.specs.LawsOfEntries.{RecordsCanBeOfEntries}
 use Rattle.fw_stands.proofs.NumberLaws.{sender-there, ledger-few}

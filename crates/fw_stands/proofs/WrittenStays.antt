@@ -43,14 +43,14 @@ use Rattle.fw_model.proofs.LoggedLaws.{logged-in_order}
 use Rattle.fw_model.proofs.RestoringLaws.{took-true}
 use Rattle.fw_model.proofs.SendPartLaws.{parts-send}
 use Rattle.fw_node.specs.Past.{totals_kept}
-use Rattle.fw_policy.specs.View.{IsRecorded}
+use Rattle.fw_policy.specs.Entries.{IsRecorded}
 use Rattle.fw_record.specs.declared.record.Checkpoint.{Checkpoint}
 use Rattle.fw_record.specs.declared.record.Event.{Event}
 use Rattle.fw_record.specs.declared.record.Record.{Record}
 use Rattle.fw_record.specs.declared.record.Record.TheVariants as tagged
 use Rattle.fw_keep.specs.declared.entry.Written.{Written}
 use Rattle.fw_keep.specs.declared.entry.Written.TheVariants as written
-use Rattle.fw_stands.specs.Parts.{sent_by_node}
+use Rattle.fw_policy.specs.Entries.{sent_by_node}
 use Rattle.fw_stands.specs.Written.{HasEventTold, events_within, HoldsWithin, Holds, IsCheckpointFor, IsRecordFor}
 use Rattle.fw_stands.specs.LawsOfEntries.{StaysWritten, WhatIsWrittenStays}
 

@@ -36,17 +36,13 @@ use Rattle.fw_keep.specs.declared.entry.Entry.{Entry}
 use Rattle.fw_keep.specs.declared.entry.Written.{Written}
 use Rattle.fw_keep.specs.declared.entry.Written.TheVariants as written
 use Rattle.fw_keep.specs.Catalogue.{ids_of, oldest, persisted}
-use Rattle.fw_record.specs.Event.{stamp_of_event}
 use Rattle.fw_keep.specs.Entry.{IsRecordOf, asked, is_lost, is_withdrawn, lies_within}
 use Rattle.fw_keep.specs.Stored.{Records, KeepsBytes}
 use Rattle.fw_collect.specs.declared.drops.Drops.{Drops}
 use Rattle.fw_collect.specs.Drops.{IsPlanned}
 use Rattle.fw_collect.specs.Dropped.{is_dropped}
 use Rattle.fw_collect.specs.LawsOfCollections as collections
-use Rattle.fw_policy.specs.declared.view.Entry.{Entry as Told}
-use Rattle.fw_policy.specs.declared.view.Written.{Written as ToldWritten}
-use Rattle.fw_policy.specs.declared.view.Written.TheVariants as told
-use Rattle.fw_policy.specs.View as view
+use Rattle.fw_policy.specs.Offering.{stamps_in_flight}
 use Rattle.fw_policy.specs.View.{IsLostAt}
 use Rattle.fw_stands.specs.Written.{told_of, Holds, events_within, IsEntryOf, AreEntriesOf, uncollected, IsCheckpointFor, IsRecordFor, AreHeld, AreStored}
 
@@ -331,15 +327,6 @@ CheckpointAsks = (sys : System) (state : Machine) (p : ℕ) (next : Machine) (ef
 
 -- ---- what is lost
 
--- the stamp of what is written, if it is an event
-abbrev pub stamp_of_written : Written → List Stamp
-stamp_of_written (written.Checkpoint recorded stamps sent) = []
-stamp_of_written (written.Event event) = stamp_of_event event ∷ []
-
--- the stamps of the events of node p that are in flight, in order
-abbrev pub stamps_in_flight : ℕ → List Entry → List Stamp
-stamps_in_flight p entries = flat_map (λ (e : Entry). if is_lost p e then stamp_of_written e.written else []) entries
-
 -- the stamps at which a node that logs each event loses events as it fails are those of its events in flight
 abbrev pub LosesWhatIsInFlight : Type 0
 LosesWhatIsInFlight = (sys : System) → IsWellFormedSystem sys → (state : Machine) → IsReached sys state
@@ -353,19 +340,3 @@ abbrev pub LossesStay : Type 0
 LossesStay = (sys : System) → IsWellFormedSystem sys → (state : Machine) → IsReached sys state
     → (step : Step) (next : Machine) (effect : Effect) → LeadsTo sys state step next effect
     → (p : ℕ) → is_failed state p ≡ true → is_failed next p ≡ true → (t : Stamp) → IsLostAt sys next p t ↔ IsLostAt sys state p t
-
--- ---- what is offered by entries
-
--- what is written, as offers are told of it
-abbrev pub told_written : Written → ToldWritten
-told_written (written.Checkpoint recorded stamps sent) = told.Checkpoint recorded
-told_written (written.Event event) = told.Event (stamp_of_event event)
-
--- an entry, as offers are told of it
-abbrev pub told_entry : Entry → Told
-told_entry e = record { id = e.id; node = e.node; written = told_written e.written; acknowledged = e.acknowledged }
-
--- entries of writes are entries of them as offers are told
-abbrev pub ToldEntriesAreOfWrites : Type 0
-ToldEntriesAreOfWrites = (sys : System) (state : Machine) (entries : List Entry) (writes : List Write)
-    → AreEntriesOf sys state entries writes → view.AreEntriesOf sys state (map told_entry entries) writes

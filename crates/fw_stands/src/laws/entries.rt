@@ -1,5 +1,5 @@
 //! What is written: entries and records, step by step.
-ghost use Rattle.fw_stands.specs.LawsOfEntries.{AskedEntryIsOfWrite, CheckpointAsks, EntriesAfterAsking, EntriesAfterCollection, EntriesAfterEvent, EntriesAfterFailure, EntriesAfterPersist, EntriesAfterRecovery, EntriesAfterStep, EntriesCanBeCollected, InjectionsAreNotLogged, KeptBytesAreStored, LastEntryIsOfNewestCheckpoint, LoggedEventsHaveSpellings, LosesOneByOne, LosesWhatIsInFlight, LossesStay, PersistsWhereInFlight, ProgressAsks, PutRecordIsStored, ReadRecordsAreOfWrites, RecordsAfterAsking, RecordsAfterCollection, RecordsAfterFailure, RecordsAfterLoggedEvent, RecordsAfterOtherEvent, RecordsAfterPersist, RecordsAfterRecovery, RecordsAfterStep, RecordsCanBeOfEntries, StampsHaveSpellings, TakesCheckpointsByLastEntry, ToldEntriesAreOfWrites, WhatIsWrittenStays, WithdrawnAreTheLast};
+ghost use Rattle.fw_stands.specs.LawsOfEntries.{AskedEntryIsOfWrite, CheckpointAsks, EntriesAfterAsking, EntriesAfterCollection, EntriesAfterEvent, EntriesAfterFailure, EntriesAfterPersist, EntriesAfterRecovery, EntriesAfterStep, EntriesCanBeCollected, InjectionsAreNotLogged, KeptBytesAreStored, LastEntryIsOfNewestCheckpoint, LoggedEventsHaveSpellings, LosesOneByOne, LosesWhatIsInFlight, LossesStay, PersistsWhereInFlight, ProgressAsks, PutRecordIsStored, ReadRecordsAreOfWrites, RecordsAfterAsking, RecordsAfterCollection, RecordsAfterFailure, RecordsAfterLoggedEvent, RecordsAfterOtherEvent, RecordsAfterPersist, RecordsAfterRecovery, RecordsAfterStep, RecordsCanBeOfEntries, StampsHaveSpellings, TakesCheckpointsByLastEntry, WhatIsWrittenStays, WithdrawnAreTheLast};
 
 /// The entry that is asked by the record of a write in flight is one of the write.
 pub fn asked_entry_is_of_write()
@@ -169,9 +169,4 @@ pub fn loses_what_is_in_flight()
 /// What a failed node has lost stays, until it is restored.
 pub fn losses_stay()
     ensures { LossesStay }
-{}
-
-/// Entries of writes are entries of them as offers are told of them.
-pub fn told_entries_are_of_writes()
-    ensures { ToldEntriesAreOfWrites }
 {}

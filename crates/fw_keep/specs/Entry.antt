@@ -3,6 +3,8 @@ use Rattle.std.specs.Prelude.{◌≡◌, ℕ, Bool, false, not, ◌&&◌, ◌==�
 use Rattle.fw_time.specs.Stamp.{Stamp, same}
 use Rattle.fw_frontier.specs.Front.{Front, inside, is_within}
 use Rattle.fw_flow.specs.Dataflow.{Dataflow}
+use Rattle.fw_flow.specs.declared.choice.Cut.{Cut}
+use Rattle.fw_flow.specs.declared.choice.Cut.TheVariants.{Present, At}
 use Rattle.fw_flow.specs.declared.choice.Recorded.{Recorded}
 use Rattle.fw_flow.specs.declared.choice.Stamps.{Stamps}
 use Rattle.fw_record.specs.declared.record.Record.{Record}
@@ -58,6 +60,11 @@ lies_within f (written.Event event) = inside f (stamp_of_event event)
 abbrev pub lies_below : Front → Written → Bool
 lies_below f (written.Checkpoint recorded stamps sent) = is_within recorded.front f && not (is_within f recorded.front)
 lies_below f (written.Event event) = false
+
+-- whether what is written does not lie within the cut
+abbrev pub is_beyond : Cut → Entry → Bool
+is_beyond Present e = false
+is_beyond (At f) e = not (lies_within f e.written)
 
 -- whether it is an event at a stamp
 abbrev pub is_event_at : Stamp → Written → Bool

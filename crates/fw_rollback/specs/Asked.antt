@@ -29,6 +29,7 @@ use Rattle.fw_keep.specs.declared.fault.KeepFault.TheVariants as fault
 use Rattle.fw_record.specs.Event.{stamp_of_event}
 use Rattle.fw_keep.specs.Entry.{IsRecordOf}
 use Rattle.fw_keep.specs.Stored.{Records, SpellsNone}
+use Rattle.fw_record.specs.Event.{event_of}
 
 -- the frontier of a cut; none where the node stays as it is
 abbrev pub front_at : Cut → Option Front
@@ -95,11 +96,6 @@ abbrev pub checkpoint_of : List Record → Option Checkpoint
 checkpoint_of [] = None
 checkpoint_of (tagged.State c ∷ rs) = Some c
 checkpoint_of (tagged.Event p event ∷ rs) = None
-
--- the event of which the record is, if it is one of an event
-abbrev pub event_of : Record → List LoggedEvent
-event_of (tagged.State c) = []
-event_of (tagged.Event p event) = event ∷ []
 
 -- the events of records, in order
 abbrev pub events_of : List Record → List LoggedEvent

@@ -13,9 +13,9 @@ ghost use Rattle.fw_node.specs.Answers.{caused_by};
 ghost use Rattle.fw_node.specs.NodeOf.{IsNodeOf};
 ghost use Rattle.fw_node.specs.Sends.{sends_list};
 ghost use Rattle.fw_node.specs.TableOf.{IsTableOf};
-ghost use Rattle.fw_record.specs.Event.{stamp_of_event};
+ghost use Rattle.fw_record.specs.Event.{stamp_of_event, event_of};
 ghost use Rattle.fw_record.specs.declared.record.Event.{Event as Logged};
-ghost use Rattle.fw_rollback.specs.Asked.{event_of, events_of, CanServe};
+ghost use Rattle.fw_rollback.specs.Asked.{events_of, CanServe};
 ghost use Rattle.fw_rollback.specs.Restored.{log_of, AreLogsOfOwn, HasLogs, HasDone, HaveSent, StandsFor};
 
 use crate::Logs;

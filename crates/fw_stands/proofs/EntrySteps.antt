@@ -50,12 +50,12 @@ use Rattle.fw_keep.specs.declared.entry.Written.{Written}
 use Rattle.fw_keep.specs.declared.entry.Written.TheVariants as written
 use Rattle.fw_keep.specs.Catalogue.{oldest, persisted}
 use Rattle.fw_record.specs.Event.{stamp_of_event}
-use Rattle.fw_keep.specs.Entry.{is_withdrawn, asked, node_of, written_of, is_lost, lies_within}
+use Rattle.fw_keep.specs.Entry.{is_withdrawn, asked, node_of, written_of, is_lost, lies_within, is_beyond}
 use Rattle.fw_keep.specs.Stored.{Records, KeepsBytes}
 use Rattle.fw_record.proofs.RecordLaws.{one_spelling_lem}
 use Rattle.fw_keep.proofs.StoredLaws.{equal_by_cmp}
 use Rattle.fw_stands.specs.Written.{told_of, IsToldAs, HasEventTold, Holds, IsEntryOf, AreEntriesOf, uncollected, IsRecordFor, IsHeldAs, AreHeld, AreStored}
-use Rattle.fw_stands.specs.LawsOfEntries.{StaysWritten, HasStamps, AskedEntryIsOfWrite, PutRecordIsStored, ReadRecordsAreOfWrites, KeptBytesAreStored, entries_of_event, EntriesAfterEvent, RecordsAfterLoggedEvent, RecordsAfterOtherEvent, InjectionsAreNotLogged, EntriesAfterStep, RecordsAfterStep, EntriesAfterAsking, RecordsAfterAsking, ProgressAsks, EntriesAfterPersist, RecordsAfterPersist, PersistsWhereInFlight, is_lost_of, LosesOneByOne, WithdrawnAreTheLast, EntriesAfterFailure, RecordsAfterFailure, is_beyond, is_undone, EntriesAfterRecovery, RecordsAfterRecovery}
+use Rattle.fw_stands.specs.LawsOfEntries.{StaysWritten, HasStamps, AskedEntryIsOfWrite, PutRecordIsStored, ReadRecordsAreOfWrites, KeptBytesAreStored, entries_of_event, EntriesAfterEvent, RecordsAfterLoggedEvent, RecordsAfterOtherEvent, InjectionsAreNotLogged, EntriesAfterStep, RecordsAfterStep, EntriesAfterAsking, RecordsAfterAsking, ProgressAsks, EntriesAfterPersist, RecordsAfterPersist, PersistsWhereInFlight, is_lost_of, LosesOneByOne, WithdrawnAreTheLast, EntriesAfterFailure, RecordsAfterFailure, EntriesAfterRecovery, RecordsAfterRecovery}
 use Rattle.fw_stands.proofs.SideBySide.{zip-weaker, zip-left, zip-right, zip-both, zip-append, zip-gone, each-there}
 use Rattle.fw_policy.proofs.UnloggedLaws.{told-stamp}
 use Rattle.fw_stands.proofs.WrittenStays.{told-below, what_is_written_stays}
@@ -606,7 +606,7 @@ not-not true = refl
 not-not false = refl
 
 undone-same : (sys : System) (state : Machine) (choice : Choice) → AreSerialsBelow state.next state.history → AreInDomains sys state.history → (e : Entry) (x : Write)
-    → IsEntryOf sys state e x → not (is_undone choice e) ≡ is_kept_write (cut_of choice x.node) x.written (filtered_history sys choice state.history)
+    → IsEntryOf sys state e x → not (is_beyond (cut_of choice e.node) e) ≡ is_kept_write (cut_of choice x.node) x.written (filtered_history sys choice state.history)
 undone-same sys state choice o d e x i =
     ap (λ p. not (is_beyond (cut_of choice p) e)) i.node ∙ by (cut_of choice x.node) refl
   where
@@ -632,7 +632,7 @@ recovered-left sys state choice next t =
 
 pub entries_after_recovery : EntriesAfterRecovery
 entries_after_recovery sys w state r choice next t es a =
-    let goes : Entry → Bool = λ e. not (is_undone choice e) in
+    let goes : Entry → Bool = λ e. not (is_beyond (cut_of choice e.node) e) in
     let keeps : Write → Bool = λ x. is_kept_write (cut_of choice x.node) x.written (filtered_history sys choice state.history) in
     let o = (reached-all sys w r.0 r.1 state r.2).restore.serials in
     let d = domains sys w state r in
@@ -642,7 +642,7 @@ entries_after_recovery sys w state r choice next t es a =
 
 pub records_after_recovery : RecordsAfterRecovery
 records_after_recovery sys w state r choice next t es a all s =
-    let goes : Entry → Bool = λ e. not (is_undone choice e) in
+    let goes : Entry → Bool = λ e. not (is_beyond (cut_of choice e.node) e) in
     let keeps : Write → Bool = λ x. is_kept_write (cut_of choice x.node) x.written (filtered_history sys choice state.history) in
     let o = (reached-all sys w r.0 r.1 state r.2).restore.serials in
     let d = domains sys w state r in

@@ -49,7 +49,8 @@ use Rattle.fw_record.specs.OfNode as fits
 use Rattle.fw_record.specs.OfNode.{IsOnOneOf, count_sum, AreCountsOf, HasNumbersFor, CanBeLogged, IsLogUnder, IsCheckpointOf}
 use Rattle.fw_record.specs.Sound.{each_may_follow, may_follow_counts}
 use Rattle.fw_policy.specs.Entries.{sent_by_node}
-use Rattle.fw_stands.specs.Written.{events_within, edges_of, logged_on, to_log, told_inside, IsCheckpointFor}
+use Rattle.fw_record.specs.Log.{logged_on}
+use Rattle.fw_stands.specs.Written.{events_within, edges_of, to_log, told_inside, IsCheckpointFor}
 use Rattle.fw_stands.specs.LawsOfEntries.{RecordsCanBeOfEntries}
 use Rattle.fw_stands.proofs.NumberLaws.{sender-there, ledger-few}
 use Rattle.fw_stands.proofs.SideBySide.{each-there}

@@ -28,10 +28,10 @@ use Rattle.fw_record.specs.declared.record.Record.{Record}
 use Rattle.fw_keep.specs.declared.entry.Entry.{Entry}
 use Rattle.fw_keep.specs.declared.entry.Written.{Written}
 use Rattle.fw_keep.specs.declared.entry.Written.TheVariants as written
-use Rattle.fw_record.specs.Event.{stamp_of_event}
+use Rattle.fw_record.specs.Event.{stamp_of_event, event_of, logged_events}
 use Rattle.fw_keep.specs.Entry.{IsRecordAs, IsRecordOf}
 use Rattle.fw_stands.specs.LawsOfRecovered.{ReplayedEventsAreThoseOfEntries, ReplayedEventsAreThoseOfRecords}
-use Rattle.fw_stands.specs.Redone.{told_in_order, event_in, event_of, is_event_inside, is_logged_inside}
+use Rattle.fw_stands.specs.Redone.{event_in, is_event_inside, is_logged_inside}
 use Rattle.fw_stands.specs.Written.{told_of, HasEventTold, Holds, IsEntryOf}
 
 -- ---- increasing numbers
@@ -206,13 +206,13 @@ told-stamp (Notify p t) event e = let same : event_of (told_of (Notify p t)) ≡
 
 -- ---- what a history tells
 
-told-push : (v : Happened) (h : List Happened) → told_in_order (v ∷ h) ≡ told_in_order h ++ option_to_list (told_of v)
-told-push (Inject s x) h = sym (append-nil (told_in_order h))
+told-push : (v : Happened) (h : List Happened) → logged_events (v ∷ h) ≡ logged_events h ++ option_to_list (told_of v)
+told-push (Inject s x) h = sym (append-nil (logged_events h))
 told-push (Deliver e m) h = refl
 told-push (Notify p t) h = refl
 
 history-told : (whole h : List SerialEvent) → AllByRecursion (λ (v : SerialEvent). told_at v.serial whole ≡ option_to_list (told_of v.event)) h
-    → told_in_order (events h) ≡ flat_map (λ s. told_at s whole) (serials_in_order h)
+    → logged_events (events h) ≡ flat_map (λ s. told_at s whole) (serials_in_order h)
 history-told whole [] a = refl
 history-told whole (v ∷ h) a =
     let at : ℕ → List Event = λ s. told_at s whole in

@@ -44,7 +44,8 @@ use Rattle.fw_model.proofs.SequenceLaws.{one_inside}
 use Rattle.fw_model.proofs.SortedLaws.{sorted_messages-filter}
 use Rattle.fw_stands.specs.LawsOfRecovered.{Recovers, LogsFromCheckpoints, LogsFromReplay, LogsOfCutsToNothing, LogsOfOthers, LogsOfPresentSenders, OtherWaysHaveNoLog}
 use Rattle.fw_stands.specs.Parts.{is_logging, logged}
-use Rattle.fw_stands.specs.Written.{to_log, logged_on}
+use Rattle.fw_record.specs.Log.{logged_on}
+use Rattle.fw_stands.specs.Written.{to_log}
 use Rattle.fw_stands.proofs.RecoveredFacts.{knows, none_failed, present_lives, IsCausedIn, legal-caused, legal-at, sent-now, outside-front, none_given-up, each-contained}
 
 -- ---- after any recovery

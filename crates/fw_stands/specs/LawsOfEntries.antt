@@ -45,6 +45,7 @@ use Rattle.fw_collect.specs.LawsOfCollections as collections
 use Rattle.fw_policy.specs.Offering.{stamps_in_flight}
 use Rattle.fw_policy.specs.View.{IsLostAt}
 use Rattle.fw_stands.specs.Written.{told_of, Holds, events_within, IsEntryOf, AreEntriesOf, uncollected, IsCheckpointFor, IsRecordFor, AreHeld, AreStored}
+use Rattle.fw_keep.specs.Entry.{is_beyond}
 
 -- ---- what is written stays
 
@@ -241,21 +242,12 @@ RecordsAfterFailure = (sys : System) → IsWellFormedSystem sys → (state : Mac
     → (records : Option Records) → AreStored sys state records entries (uncollected state)
     → AreStored sys next records (filter (λ e. not (is_lost_of ps e)) entries) (uncollected next)
 
--- whether what is written does not lie within the cut
-abbrev pub is_beyond : Cut → Entry → Bool
-is_beyond Present e = false
-is_beyond (At f) e = not (lies_within f e.written)
-
--- whether an entry goes in a recovery: it does not lie within the cut of its node
-abbrev pub is_undone : Choice → Entry → Bool
-is_undone choice e = is_beyond (cut_of choice e.node) e
-
 -- the entries that do not lie within the cuts of their nodes go
 abbrev pub EntriesAfterRecovery : Type 0
 EntriesAfterRecovery = (sys : System) → IsWellFormedSystem sys → (state : Machine) → IsReached sys state
     → (choice : Choice) (next : Machine) → LeadsTo sys state Recover next (cuts choice)
     → (entries : List Entry) → AreEntriesOf sys state entries (uncollected state)
-    → AreEntriesOf sys next (filter (λ e. not (is_undone choice e)) entries) (uncollected next)
+    → AreEntriesOf sys next (filter (λ e. not (is_beyond (cut_of choice e.node) e)) entries) (uncollected next)
 
 -- and the records of those that are left are stored
 abbrev pub RecordsAfterRecovery : Type 0
@@ -263,7 +255,7 @@ RecordsAfterRecovery = (sys : System) → IsWellFormedSystem sys → (state : Ma
     → (choice : Choice) (next : Machine) → LeadsTo sys state Recover next (cuts choice)
     → (entries : List Entry) → AreEntriesOf sys state entries (uncollected state)
     → (records : Option Records) → AreStored sys state records entries (uncollected state)
-    → AreStored sys next records (filter (λ e. not (is_undone choice e)) entries) (uncollected next)
+    → AreStored sys next records (filter (λ e. not (is_beyond (cut_of choice e.node) e)) entries) (uncollected next)
 
 -- entries of writes are entries of them as a collection looks at them
 abbrev pub EntriesCanBeCollected : Type 0

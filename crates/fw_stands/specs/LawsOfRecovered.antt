@@ -48,8 +48,10 @@ use Rattle.fw_node.specs.TableOf.{IsTableOf}
 use Rattle.fw_stands.specs.Parts.{queued, logged, kept_recs, IsSourceOf, IsTableIn, IsTraceIn}
 use Rattle.fw_stands.specs.Read.{HasOnlyCheckpoint, is_checkpoint_at}
 use Rattle.fw_stands.specs.Recovered.{AreNoStamps, IsSettledBy, table_left}
-use Rattle.fw_stands.specs.Redone.{CanBeRedone, event_in, event_of, is_logged_inside, told_in_order}
-use Rattle.fw_stands.specs.Written.{AreEntriesOf, AreStored, IsCheckpointFor, IsHeldAs, count_within, events_within, logged_on}
+use Rattle.fw_record.specs.Event.{event_of, logged_events}
+use Rattle.fw_stands.specs.Redone.{CanBeRedone, event_in, is_logged_inside}
+use Rattle.fw_record.specs.Log.{logged_on}
+use Rattle.fw_stands.specs.Written.{AreEntriesOf, AreStored, IsCheckpointFor, IsHeldAs, count_within, events_within}
 
 -- In a reached state of a well-formed system the choice is the largest of what is offered to a recovery, and settled is cut to it.
 pub record Recovers (sys : System) (state : Machine) (choice : Choice) (settled : List Front) : Type 0 where
@@ -129,14 +131,14 @@ ReplayedEventsCanBeRedone = (sys : System) (state : Machine) (choice : Choice) (
 abbrev pub ReplayedEventsAreThoseOfEntries : Type 0
 ReplayedEventsAreThoseOfEntries = (sys : System) (state : Machine) → IsWellFormedSystem sys → IsReached sys state
     → (entries : List Entry) → AreEntriesOf sys state entries (filter not_collected state.writes) → (p : ℕ) (f : Frontier)
-    → told_in_order (replayed_events sys state p f) ≡ flat_map (λ (e : Entry). event_in e.written) (filter (is_logged_inside p f) entries)
+    → logged_events (replayed_events sys state p f) ≡ flat_map (λ (e : Entry). event_in e.written) (filter (is_logged_inside p f) entries)
 
 -- so they are what the records tell that can be those of these entries
 abbrev pub ReplayedEventsAreThoseOfRecords : Type 0
 ReplayedEventsAreThoseOfRecords = (sys : System) (state : Machine) → IsWellFormedSystem sys → IsReached sys state
     → (entries : List Entry) → AreEntriesOf sys state entries (filter not_collected state.writes) → (p : ℕ) (f : Frontier)
     → (records : List Record) → AllZip (IsRecordOf sys.flow) (filter (is_logged_inside p f) entries) records
-    → told_in_order (replayed_events sys state p f) ≡ flat_map event_of records
+    → logged_events (replayed_events sys state p f) ≡ flat_map event_of records
 
 -- where a node that is no input is cut, what is settled of it is its cut
 abbrev pub SettledAtCuts : Type 0

@@ -26,22 +26,10 @@ CanBeRedone flow p (Deliver e m ∷ before) =
 CanBeRedone flow p (Notify q t ∷ before) =
     (q ≡ p) × (is_told before t ≡ false) × (kind_of flow p ≡ Total → IsSumOfTold (λ s. false) before t) × CanBeRedone flow p before
 
--- the events as records tell them, the earliest first, where these are the events, the latest first; injections are not written
-abbrev pub told_in_order : List Event → List Told
-told_in_order [] = []
-told_in_order (Inject s x ∷ before) = told_in_order before
-told_in_order (Deliver e m ∷ before) = told_in_order before ++ told.Deliver e m.at m.rec ∷ []
-told_in_order (Notify p t ∷ before) = told_in_order before ++ told.Notify t ∷ []
-
 -- the event that is written, if one is
 abbrev pub event_in : Written → List Told
 event_in (written.Checkpoint recorded stamps sent) = []
 event_in (written.Event event) = event ∷ []
-
--- the event of which a record is, if it is one of an event
-abbrev pub event_of : Record → List Told
-event_of (tagged.State c) = []
-event_of (tagged.Event p event) = event ∷ []
 
 -- whether an event is written, and is at a stamp inside
 abbrev pub is_event_inside : Frontier → Written → Bool

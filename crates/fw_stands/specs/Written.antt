@@ -24,12 +24,9 @@ use Rattle.fw_record.specs.declared.record.Record.{Record}
 use Rattle.fw_record.specs.declared.record.Record.TheVariants as tagged
 use Rattle.fw_keep.specs.declared.entry.Entry.{Entry}
 use Rattle.fw_keep.specs.Stored.{Records, HoldsAs}
+use Rattle.fw_record.specs.Log.{logged_on}
 
 -- ---- records
-
--- the messages of a log on edge e
-abbrev pub logged_on : ℕ → List Logged → List Message
-logged_on e log = map (λ (l : Logged). l.message) (filter (λ (l : Logged). l.edge == e) log)
 
 -- what node p sent on edge e from inside f and has to be able to send again: what lay outside the receiver's low watermark
 abbrev pub to_log : System → Machine → ℕ → Front → List Front → ℕ → List Message

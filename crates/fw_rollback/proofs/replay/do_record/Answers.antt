@@ -2,10 +2,10 @@ use Rattle.std.proofs.Common.{◌++◌, List, sym, ap, subst, ◌∙◌}
 use Rattle.std.specs.Prelude.{OnOk}
 use Rattle.std.proofs.lemmas.List.{append-nil}
 use Rattle.fw_time.specs.Stamp.{in_domain}
-use Rattle.fw_record.specs.Event.{stamp_of_event}
+use Rattle.fw_record.specs.Event.{stamp_of_event, event_of}
 use Rattle.fw_record.specs.declared.record.Event.{Event as LoggedEvent}
 use Rattle.fw_record.specs.declared.record.Record.{Record}
-use Rattle.fw_rollback.specs.Asked.{event_of, CanServe}
+use Rattle.fw_rollback.specs.Asked.{CanServe}
 use Rattle.fw_rollback.specs.Restored.{HaveSent, StandsFor}
 use Rattle.fw_rollback.proofs.replay.do_record.Goals as goal
 

@@ -38,7 +38,8 @@ use Rattle.fw_policy.specs.declared.view.Border.{Border}
 use Rattle.fw_policy.specs.declared.view.Border.TheVariants.{Inner, Source, Output}
 use Rattle.fw_policy.specs.declared.view.NodeView.{NodeView}
 use Rattle.fw_policy.specs.Entries.{AreEntriesOf, uncollected}
-use Rattle.fw_policy.specs.Shaped.{FitsKind, AreStampsAt, IsWrittenOf, IsViewFor, AreViewsFrom, FitsFlow}
+use Rattle.fw_record.specs.OfNode.{AreOfDomain}
+use Rattle.fw_policy.specs.Shaped.{FitsKind, IsWrittenOf, IsViewFor, AreViewsFrom, FitsFlow}
 use Rattle.fw_policy.specs.View.{IsBorderOf, IsLostAt, IsNodeViewOf, AreNodeViewsFrom, IsViewOf, base_of}
 use Rattle.fw_keep.specs.declared.entry.Entry.{Entry}
 use Rattle.fw_keep.specs.Stored.{Records}
@@ -153,7 +154,7 @@ edges-fit flow single ms =
     each-filter (λ (m : Counted). in_domain (bounds_of flow (receiver flow m.edge)) m.at ≡ true) (is_on_its_edge flow single) ms
     (each-one (λ (m : Counted). is_on_its_edge flow single m ≡ true → in_domain (bounds_of flow (receiver flow m.edge)) m.at ≡ true) ms (λ m e. passes-edge flow single m e))
 
-stamps-fit : (flow : Dataflow) (p : ℕ) (ts : List Stamp) → AreStampsAt flow p (filter (in_domain (bounds_of flow p)) ts)
+stamps-fit : (flow : Dataflow) (p : ℕ) (ts : List Stamp) → AreOfDomain flow p (filter (in_domain (bounds_of flow p)) ts)
 stamps-fit flow p ts =
     each-filter (λ t. in_domain (bounds_of flow p) t ≡ true) (in_domain (bounds_of flow p)) ts
     (each-one (λ t. in_domain (bounds_of flow p) t ≡ true → in_domain (bounds_of flow p) t ≡ true) ts (λ t e. e))
@@ -197,9 +198,9 @@ view-fits running p raw node s stamps settled low border lost =
       settled = subst (λ (f : Front). IsCanonical (bounds_of flow p) f) (sym settled) (s.progress.settled p);
       low = subst (λ (f : Front). IsCanonical (bounds_of flow p) f) (sym low) (s.low p);
       border = border-fits (source_of running p) (output_of running p) (kind_of flow p) node.border border;
-      lost = subst (λ (ts : List Stamp). AreStampsAt flow p ts) (sym lost) (stamps-fit flow p (lost_at running p));
+      lost = subst (λ (ts : List Stamp). AreOfDomain flow p ts) (sym lost) (stamps-fit flow p (lost_at running p));
       delivered = subst (λ (all : Stamps). AreOnEdges flow all.delivered) (sym stamps) (edges-fit flow false raw.delivered);
-      notified = subst (λ (all : Stamps). AreStampsAt flow p all.notified) (sym stamps) (stamps-fit flow p raw.notified);
+      notified = subst (λ (all : Stamps). AreOfDomain flow p all.notified) (sym stamps) (stamps-fit flow p raw.notified);
       sent = subst (λ (all : Stamps). AreOnEdges flow all.sent) (sym stamps) (edges-fit flow single raw.sent);
       of_batches = λ e. subst (λ (all : Stamps). AllByRecursion HasOneCause all.sent) (sym stamps) (causes-fit flow single raw.sent (is-input (kind_of flow p) e));
     }

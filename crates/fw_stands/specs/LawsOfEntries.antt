@@ -41,7 +41,6 @@ use Rattle.fw_keep.specs.Stored.{Records, KeepsBytes}
 use Rattle.fw_collect.specs.declared.drops.Drops.{Drops}
 use Rattle.fw_collect.specs.Drops.{IsPlanned}
 use Rattle.fw_collect.specs.Dropped.{is_dropped}
-use Rattle.fw_collect.specs.LawsOfCollections as collections
 use Rattle.fw_policy.specs.Offering.{stamps_in_flight}
 use Rattle.fw_policy.specs.View.{IsLostAt}
 use Rattle.fw_stands.specs.Written.{told_of, Holds, events_within, IsEntryOf, AreEntriesOf, uncollected, IsCheckpointFor, IsRecordFor, AreHeld, AreStored}
@@ -256,11 +255,6 @@ RecordsAfterRecovery = (sys : System) → IsWellFormedSystem sys → (state : Ma
     → (entries : List Entry) → AreEntriesOf sys state entries (uncollected state)
     → (records : Option Records) → AreStored sys state records entries (uncollected state)
     → AreStored sys next records (filter (λ e. not (is_beyond (cut_of choice e.node) e)) entries) (uncollected next)
-
--- entries of writes are entries of them as a collection looks at them
-abbrev pub EntriesCanBeCollected : Type 0
-EntriesCanBeCollected = (sys : System) → IsWellFormedSystem sys → (state : Machine) → IsReached sys state
-    → (entries : List Entry) → AreEntriesOf sys state entries (uncollected state) → collections.AreEntriesOf sys state.history entries state.writes
 
 -- the entries go that are planned to go, where the low watermark rises to the one of the next state
 abbrev pub EntriesAfterCollection : Type 0

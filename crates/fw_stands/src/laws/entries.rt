@@ -1,5 +1,5 @@
 //! What is written: entries and records, step by step.
-ghost use Rattle.fw_stands.specs.LawsOfEntries.{AskedEntryIsOfWrite, CheckpointAsks, EntriesAfterAsking, EntriesAfterCollection, EntriesAfterEvent, EntriesAfterFailure, EntriesAfterPersist, EntriesAfterRecovery, EntriesAfterStep, EntriesCanBeCollected, InjectionsAreNotLogged, KeptBytesAreStored, LastEntryIsOfNewestCheckpoint, LoggedEventsHaveSpellings, LosesOneByOne, LosesWhatIsInFlight, LossesStay, PersistsWhereInFlight, ProgressAsks, PutRecordIsStored, ReadRecordsAreOfWrites, RecordsAfterAsking, RecordsAfterCollection, RecordsAfterFailure, RecordsAfterLoggedEvent, RecordsAfterOtherEvent, RecordsAfterPersist, RecordsAfterRecovery, RecordsAfterStep, RecordsCanBeOfEntries, StampsHaveSpellings, TakesCheckpointsByLastEntry, WhatIsWrittenStays, WithdrawnAreTheLast};
+ghost use Rattle.fw_stands.specs.LawsOfEntries.{AskedEntryIsOfWrite, CheckpointAsks, EntriesAfterAsking, EntriesAfterCollection, EntriesAfterEvent, EntriesAfterFailure, EntriesAfterPersist, EntriesAfterRecovery, EntriesAfterStep, InjectionsAreNotLogged, KeptBytesAreStored, LastEntryIsOfNewestCheckpoint, LoggedEventsHaveSpellings, LosesOneByOne, LosesWhatIsInFlight, LossesStay, PersistsWhereInFlight, ProgressAsks, PutRecordIsStored, ReadRecordsAreOfWrites, RecordsAfterAsking, RecordsAfterCollection, RecordsAfterFailure, RecordsAfterLoggedEvent, RecordsAfterOtherEvent, RecordsAfterPersist, RecordsAfterRecovery, RecordsAfterStep, RecordsCanBeOfEntries, StampsHaveSpellings, TakesCheckpointsByLastEntry, WhatIsWrittenStays, WithdrawnAreTheLast};
 
 /// The entry that is asked by the record of a write in flight is one of the write.
 pub fn asked_entry_is_of_write()
@@ -129,11 +129,6 @@ pub fn entries_after_recovery()
 /// A recovery leaves the records of the entries that are left stored.
 pub fn records_after_recovery()
     ensures { RecordsAfterRecovery }
-{}
-
-/// Entries of writes are entries of them as a collection looks at them.
-pub fn entries_can_be_collected()
-    ensures { EntriesCanBeCollected }
 {}
 
 /// In a collection the entries go that are planned to go.

@@ -46,8 +46,8 @@ use Rattle.fw_progress.specs.Trace.{HaveLists, AreSettledTo}
 use Rattle.fw_progress.proofs.CutTraceLaws.{thinned-traces}
 use Rattle.fw_rollback.specs.declared.parts.Parts.{Parts}
 use Rattle.fw_rollback.specs.Edges.{IsOnEdge, on_edge, nothing_there}
-use Rattle.fw_stands.specs.LawsOfCollecting.{collected_state}
-use Rattle.fw_stands.specs.LawsOfSettling.{AreSettledAt}
+use Rattle.fw_stands.specs.Collecting.{collected_state}
+use Rattle.fw_stands.specs.Settling.{AreSettledAt}
 use Rattle.fw_stands.specs.Parts.{IsSourceOf}
 use Rattle.fw_stands.specs.Written.{AreEntriesOf, AreStored, uncollected}
 use Rattle.fw_stands.proofs.CollectingLaws.{same_low-idle, other_low-collected, low-rises, collected_logs-stand, collected_sources-stand, all_collected_traces-stand, collection-keeps}

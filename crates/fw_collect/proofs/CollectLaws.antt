@@ -10,7 +10,7 @@ use Rattle.fw_frontier.specs.Frontier.{Within}
 use Rattle.fw_bag.specs.declared.rec.Rec.{Rec}
 use Rattle.fw_time.proofs.StampLaws.{same-is, same-refl}
 use Rattle.fw_time.proofs.EachLaws.{each-weaker}
-use Rattle.fw_frontier.specs.Front.{Front, inside, is_within, frontier_of}
+use Rattle.fw_frontier.specs.Front.{Front, inside, frontier_of}
 use Rattle.fw_flow.specs.declared.node.Node.{Node}
 use Rattle.fw_flow.specs.Dataflow.{System, Dataflow, policy_of, kind_of, sender, receiver, bounds_of, is_input_kind, node_ids, idle_node}
 use Rattle.fw_flow.specs.Restoring.{can_resend}

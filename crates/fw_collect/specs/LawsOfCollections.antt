@@ -1,7 +1,7 @@
 -- Laws of collections: what is planned and given up is what the machine's collection takes.
-use Rattle.std.specs.Prelude.{◌≡◌, ℕ, ◌<◌, Bool, true, false, not, ◌&&◌, if◌then◌else◌, List, [], ◌∷◌, length, filter}
+use Rattle.std.specs.Prelude.{◌≡◌, ℕ, ◌<◌, Bool, true, not, ◌&&◌, if◌then◌else◌, List, [], ◌∷◌, length, filter}
 use Rattle.std.specs.List.{AllByRecursion}
-use Rattle.fw_time.specs.Stamp.{Stamp, in_domain}
+use Rattle.fw_time.specs.Stamp.{in_domain}
 use Rattle.fw_bag.specs.declared.rec.Rec.{Rec}
 use Rattle.fw_frontier.specs.Frontier.{Within}
 use Rattle.fw_frontier.specs.Front.{Front}

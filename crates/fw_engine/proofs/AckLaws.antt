@@ -13,8 +13,8 @@ use Rattle.fw_keep.specs.Stored.{Records}
 use Rattle.fw_model.specs.Machine.{Machine, front_of}
 use Rattle.fw_model.specs.Steps.{acked, did, LeadsTo}
 use Rattle.fw_model.specs.Auto.{IsIdle}
-use Rattle.fw_stands.specs.LawsOfAcknowledging as law
-use Rattle.fw_stands.specs.LawsOfAcknowledging.{acknowledged_state, KeepsAllButOutput}
+use Rattle.fw_stands.specs.Acknowledging as law
+use Rattle.fw_stands.specs.Acknowledging.{acknowledged_state, KeepsAllButOutput}
 use Rattle.fw_stands.proofs.AcknowledgementLaws.{nothing_kept-idle, kept-acknowledged, acknowledged-stands, acknowledgement-keeps}
 use Rattle.fw_stands.proofs.EntrySteps.{entries_after_step, records_after_step}
 use Rattle.fw_stands.proofs.StayingLaws.{steps-stay_reached}

@@ -34,8 +34,8 @@ use Rattle.fw_node.specs.Answers.{caused_by}
 use Rattle.fw_policy.specs.View.{IsLostAt}
 use Rattle.fw_progress.specs.History.{Follows}
 use Rattle.fw_progress.specs.Trace.{TracesFollow}
-use Rattle.fw_stands.specs.LawsOfEvents.{put_on, LogFollows, QueueFollows}
-use Rattle.fw_stands.specs.LawsOfEntries.{entries_of_event}
+use Rattle.fw_stands.specs.Events.{put_on, LogFollows, QueueFollows}
+use Rattle.fw_stands.specs.Entries.{entries_of_event}
 use Rattle.fw_stands.specs.Parts.{queued, is_logging, logged, IsTableIn, IsOutputOf, IsSourceOf}
 use Rattle.fw_stands.specs.Written.{told_of, uncollected, AreEntriesOf, AreStored}
 use Rattle.fw_stands.proofs.EntrySteps.{entries_after_event, entries_after_step, records_after_logged_event, records_after_step, injections_are_not_logged}

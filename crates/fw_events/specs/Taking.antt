@@ -25,7 +25,7 @@ use Rattle.fw_progress.specs.declared.traces.Traces.{Traces}
 use Rattle.fw_progress.specs.History.{Follows}
 use Rattle.fw_progress.specs.Progress.{Standing}
 use Rattle.fw_progress.specs.Trace.{TracesFollow}
-use Rattle.fw_stands.specs.LawsOfEvents.{at_epoch, AreSent}
+use Rattle.fw_stands.specs.Events.{at_epoch, AreSent}
 use Rattle.fw_stands.specs.Parts.{IsTableIn}
 use Rattle.fw_running.specs.declared.running.Running.{Running}
 use Rattle.fw_running.specs.Kept.{queue_at, table_of}

@@ -21,7 +21,7 @@ ghost use Rattle.fw_node.specs.Sends.{sends_list};
 ghost use Rattle.fw_progress.specs.Progress.{CanSend};
 ghost use Rattle.fw_rollback.specs.Tables.{table_at};
 ghost use Rattle.fw_rollback.specs.Edges.{on_edge};
-ghost use Rattle.fw_stands.specs.LawsOfEvents.{asked_of, next_queued};
+ghost use Rattle.fw_stands.specs.Events.{asked_of, next_queued};
 ghost use Rattle.fw_running.specs.Kept.{queue_at, table_of, is_down};
 ghost use Rattle.fw_running.specs.Logging.{ChangesKeep, IsNotAsked, LogsEvent};
 ghost use Rattle.fw_running.specs.declared.stepped.Stepped.TheVariants.{Idle};

@@ -6,7 +6,7 @@ ghost use Rattle.fw_flow.specs.declared.kind.Policy.TheVariants as policy;
 ghost use Rattle.fw_flow.specs.Dataflow.{bounds_of, policy_of};
 ghost use Rattle.fw_record.specs.Event.{stamp_of_event};
 ghost use Rattle.fw_keep.specs.Stored.{IsStored};
-ghost use Rattle.fw_stands.specs.LawsOfEntries.{HasRecOf64Bits};
+ghost use Rattle.fw_stands.specs.Entries.{HasRecOf64Bits};
 ghost use Rattle.fw_running.specs.Shaped.{IsShaped};
 ghost use Rattle.fw_running.specs.Steps.{IsUndamaged};
 ghost use Rattle.fw_running.specs.Logging.{ChangesKeep, IsNotAsked, IsLogged};

@@ -1,5 +1,5 @@
 -- The laws of collections applied to a select that logged two events and to the running total with two checkpoints.
-use Rattle.std.proofs.Common.{[], arith, lit<, refl, ◌∷◌}
+use Rattle.std.proofs.Common.{[], lit<, refl}
 use Rattle.std.specs.List.{AllZip}
 use Rattle.fw_frontier.specs.Frontier.{Within}
 use Rattle.fw_flow.specs.Dataflow.{bounds_of, kind_of, node_frontier, out_edges, policy_of, receiver, sender}

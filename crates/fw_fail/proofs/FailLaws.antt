@@ -31,8 +31,8 @@ use Rattle.fw_policy.specs.View.{IsLostAt}
 use Rattle.fw_rollback.specs.Edges.{IsOnEdge, on_edge}
 use Rattle.fw_rollback.specs.Tables.{table_at}
 use Rattle.fw_policy.specs.Offering.{stamps_in_flight}
-use Rattle.fw_stands.specs.LawsOfEntries.{is_lost_of}
-use Rattle.fw_stands.specs.LawsOfFailures.{failed_state}
+use Rattle.fw_stands.specs.Entries.{is_lost_of}
+use Rattle.fw_stands.specs.Failures.{failed_state}
 use Rattle.fw_stands.specs.Parts.{IsTableIn, IsOutputOf, IsSourceOf, kept_recs}
 use Rattle.fw_stands.specs.Written.{AreEntriesOf, AreStored, uncollected}
 use Rattle.fw_stands.proofs.EntrySteps.{entries_after_failure, records_after_failure, loses_one_by_one}

@@ -3,7 +3,6 @@ use Rattle.std.specs.Prelude.{◌≡◌, ◌↔◌, ℕ, suc, Bool, true, if◌t
 use Rattle.std.specs.List.{Contains}
 use Rattle.fw_time.specs.Stamp.{Stamp}
 use Rattle.fw_frontier.specs.Frontier.{Frontier}
-use Rattle.fw_frontier.specs.Front.{Front}
 use Rattle.fw_flow.specs.declared.kind.Kind.{Kind}
 use Rattle.fw_flow.specs.declared.kind.Kind.TheVariants.{Input, OutputEpoch, OutputNumber}
 use Rattle.fw_flow.specs.declared.kind.Policy.TheVariants as policy

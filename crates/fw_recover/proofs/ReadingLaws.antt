@@ -35,7 +35,7 @@ use Rattle.fw_keep.specs.Stored.{Records, HoldsAs}
 use Rattle.fw_rollback.specs.Asked.{is_needed, is_asked_at, is_asked_for, asked_of, checkpoint_of, events_of, IsFetched}
 use Rattle.fw_record.specs.Event.{logged_events, event_of}
 use Rattle.fw_rollback.specs.Replay.{AreDoneAgain, CanBeDone}
-use Rattle.fw_stands.specs.LawsOfRecovered.{Recovers}
+use Rattle.fw_stands.specs.Recovered.{Recovers}
 use Rattle.fw_stands.specs.Read.{is_checkpoint_at, is_checkpoint_of}
 use Rattle.fw_stands.specs.Redone.{CanBeRedone, is_event_inside, is_logged_inside}
 use Rattle.fw_stands.specs.Written.{AreEntriesOf, AreStored, IsCheckpointFor, uncollected}

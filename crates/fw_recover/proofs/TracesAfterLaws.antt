@@ -27,7 +27,7 @@ use Rattle.fw_keep.specs.Stored.{Records}
 use Rattle.fw_policy.specs.View.{base_of}
 use Rattle.fw_progress.specs.declared.traces.Traces.{Traces}
 use Rattle.fw_rollback.specs.Restored.{is_undone}
-use Rattle.fw_stands.specs.LawsOfRecovered.{Recovers}
+use Rattle.fw_stands.specs.Recovered.{Recovers}
 use Rattle.fw_stands.specs.Parts.{IsTraceIn}
 use Rattle.fw_stands.specs.Read.{is_checkpoint_at, is_checkpoint_of}
 use Rattle.fw_stands.specs.Written.{AreEntriesOf, AreStored, Holds, HoldsWithin, IsEntryOf, uncollected}

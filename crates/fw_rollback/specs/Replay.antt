@@ -1,12 +1,11 @@
 -- The events of a node that are done again after a recovery.
-use Rattle.std.specs.Prelude.{◌≡◌, ℕ, true, false, List, [], ◌∷◌, ◌++◌}
+use Rattle.std.specs.Prelude.{◌≡◌, ℕ, true, false, List, [], ◌∷◌}
 use Rattle.fw_flow.specs.declared.event.Event.{Event}
 use Rattle.fw_flow.specs.declared.event.Event.TheVariants.{Inject, Deliver, Notify}
 use Rattle.fw_flow.specs.declared.kind.Kind.TheVariants.{Total}
 use Rattle.fw_flow.specs.Dataflow.{Dataflow, kind_of, in_edges, is_notified_kind}
 use Rattle.fw_model.specs.Told.{is_told, IsSumOfTold}
 use Rattle.fw_record.specs.declared.record.Event.{Event as LoggedEvent}
-use Rattle.fw_record.specs.declared.record.Event.TheVariants as logged
 use Rattle.fw_node.specs.Arrived.{IsOneOf}
 use Rattle.fw_record.specs.Event.{logged_events}
 

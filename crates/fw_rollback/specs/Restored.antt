@@ -1,6 +1,6 @@
 -- What an engine keeps after a recovery, of what it kept before, of the choice, and of the records that were fetched. It
 -- speaks of no history.
-use Rattle.std.specs.Prelude.{◌≡◌, ℕ, ◌<◌, Bool, true, false, not, ◌==◌, List, [], length, map, filter, Option, Some, None, IfSome, IsSomeAnd}
+use Rattle.std.specs.Prelude.{◌≡◌, ℕ, ◌<◌, Bool, true, false, List, [], length, Option, Some, None, IfSome, IsSomeAnd}
 use Rattle.std.specs.List.{AllByRecursion}
 use Rattle.fw_time.specs.Stamp.{Stamp, in_domain}
 use Rattle.fw_bag.specs.declared.rec.Rec.{Rec}
@@ -22,13 +22,11 @@ use Rattle.fw_model.specs.Machine.{front_of}
 use Rattle.fw_model.specs.SortedMessages.{sorted_messages}
 use Rattle.fw_model.specs.Steps.{front_of_cut}
 use Rattle.fw_model.specs.Told.{EachDelivery, AreToldInside}
-use Rattle.fw_record.specs.declared.logged.Logged.{Logged}
 use Rattle.fw_record.specs.declared.record.Checkpoint.{Checkpoint}
 use Rattle.fw_record.specs.declared.record.Event.{Event as LoggedEvent}
 use Rattle.fw_record.specs.declared.record.Record.{Record}
 use Rattle.fw_keep.specs.declared.entry.Entry.{Entry}
 use Rattle.fw_keep.specs.Catalogue.{without}
-use Rattle.fw_keep.specs.Entry.{lies_within}
 use Rattle.fw_keep.specs.Stored.{Records}
 use Rattle.fw_edge.specs.Messages.{MessagesState}
 use Rattle.fw_rollback.specs.Edges.{on_edge, nothing_there, IsOnEdge}

@@ -1,8 +1,7 @@
 -- What is true of what an engine keeps, whatever it stands for: what its bodies need to be safe, also after a recovery that read
 -- other bytes than were put.
-use Rattle.std.specs.Prelude.{◌≡◌, ℕ, ◌<◌, true, false, length, IfSome}
+use Rattle.std.specs.Prelude.{◌≡◌, ℕ, ◌<◌, false, length, IfSome}
 use Rattle.std.specs.List.{AllByRecursion, Contains}
-use Rattle.fw_flow.specs.Dataflow.{Dataflow, bounds_of}
 use Rattle.fw_flow.specs.WellFormed.{IsWellFormed}
 use Rattle.fw_model.specs.Machine.{AreCanonical}
 use Rattle.fw_keep.specs.declared.entry.Entry.{Entry}

@@ -14,7 +14,7 @@ use Rattle.fw_keep.specs.Stored.{Records, KeepsBytes}
 use Rattle.fw_progress.specs.declared.traces.Traces.{Traces}
 use Rattle.fw_progress.specs.Settle.{is_growing, has_more, IsGrownAt, NoneGrows, AreGrownBefore}
 use Rattle.fw_progress.specs.Trace.{AreThinnedAt}
-use Rattle.fw_stands.specs.LawsOfSettling.{IsSettledTable, AreSettledAt}
+use Rattle.fw_stands.specs.Settling.{IsSettledTable, AreSettledAt}
 use Rattle.fw_stands.specs.Written.{uncollected, AreEntriesOf, AreStored}
 use Rattle.fw_running.specs.declared.running.Running.{Running}
 use Rattle.fw_running.specs.Kept.{table_of, is_down}

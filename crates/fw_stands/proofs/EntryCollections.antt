@@ -1,19 +1,18 @@
 -- What a collection takes of entries and records.
-use Rattle.std.proofs.Common.{◌≡◌, ◌↔◌, ℕ, ◌<◌, Bool, true, false, not, ◌&&◌, ◌||◌, ◌==◌, List, [], ◌∷◌, filter, map, refl, sym, ap, subst, ◌∙◌, inl, inr, arith}
+use Rattle.std.proofs.Common.{◌≡◌, ℕ, ◌<◌, Bool, true, false, not, ◌&&◌, ◌||◌, ◌==◌, List, [], ◌∷◌, filter, map, refl, sym, ap, subst, ◌∙◌, inl, inr, arith, Option}
 use Rattle.std.specs.List.{AllByRecursion, AllZip, list_any}
-use Rattle.std.proofs.lemmas.Bool.{eqb-true, eq-eqb, or_left, or_right, false_from_ne_true}
-use Rattle.fw_time.proofs.EachLaws.{each-weaker, each-kept}
+use Rattle.std.proofs.lemmas.Bool.{eqb-true, eq-eqb, false_from_ne_true}
+use Rattle.fw_time.proofs.EachLaws.{each-kept}
 use Rattle.fw_frontier.specs.Front.{Front, is_within}
 use Rattle.fw_flow.specs.declared.step.Step.TheVariants.{Collect}
 use Rattle.fw_flow.specs.Dataflow.{System, Dataflow}
 use Rattle.fw_flow.specs.NodeFunction.{event_node, event_stamp}
 use Rattle.fw_flow.specs.WellFormed.{IsWellFormedSystem}
-use Rattle.fw_model.specs.Choice.{kept, is_counted}
-use Rattle.fw_model.specs.Machine.{Machine, SerialEvent, Write, Stage, in_flight, acknowledged, collected, checkpoint, logged_event, front_of}
+use Rattle.fw_model.specs.Machine.{Machine, SerialEvent, Write, Stage, checkpoint, logged_event, front_of}
 use Rattle.fw_model.specs.Machine.{Written as WrittenBy}
 use Rattle.fw_model.specs.Reached.{IsReached}
 use Rattle.fw_model.specs.Steps as steps
-use Rattle.fw_model.specs.Steps.{Effect, LeadsTo, front_of_cut, is_given_up, is_in_flight, has_serial, collected_writes}
+use Rattle.fw_model.specs.Steps.{Effect, LeadsTo, front_of_cut, is_given_up}
 use Rattle.fw_model.specs.Writes.{not_collected}
 use Rattle.fw_model.proofs.AskedLaws.{AreSerialsBelow, serials-each, IsAskedWell, IsWriteAskedWell, reached-all}
 use Rattle.fw_model.proofs.ForgottenLaws.{forgotten-acknowledged}
@@ -21,17 +20,18 @@ use Rattle.fw_record.specs.declared.record.Event.{Event}
 use Rattle.fw_keep.specs.declared.entry.Entry.{Entry}
 use Rattle.fw_keep.specs.declared.entry.Written.{Written}
 use Rattle.fw_keep.specs.declared.entry.Written.TheVariants as written
+use Rattle.fw_keep.specs.Stored.{Records}
 use Rattle.fw_record.specs.Event.{stamp_of_event}
 use Rattle.fw_collect.specs.declared.drops.Drops.{Drops}
 use Rattle.fw_collect.specs.Drops.{IsPlanned}
 use Rattle.fw_collect.specs.Dropped.{is_dropped}
 use Rattle.fw_collect.specs.LawsOfCollections.{is_written_given_up}
 use Rattle.fw_collect.proofs.CollectLaws.{drops_what_is_collected}
-use Rattle.fw_stands.specs.Written.{IsToldAs, HasEventTold, Holds, IsEntryOf, uncollected, IsHeldAs}
-use Rattle.fw_stands.specs.LawsOfEntries.{EntriesAfterCollection, RecordsAfterCollection}
+use Rattle.fw_stands.specs.Written.{IsToldAs, HasEventTold, Holds, IsEntryOf, uncollected, IsHeldAs, AreStored}
 use Rattle.fw_stands.proofs.SideBySide.{zip-weaker, zip-right, zip-both}
 use Rattle.fw_stands.proofs.WrittenStays.{told-below}
 use Rattle.fw_policy.proofs.UnloggedLaws.{told-stamp}
+use Rattle.fw_policy.specs.Entries.{AreEntriesOf}
 use Rattle.fw_stands.proofs.EntrySteps.{IsKeptAs, entries-stay, records-stay, left-stay}
 
 -- ---- the event of a serial
@@ -97,12 +97,23 @@ collected-left sys w state r next effect t R entry es drops is a =
     (zip-right W R S es (uncollected state) (λ e x b s. (b, s)) (each-kept W not_collected state.writes f.asked) a)
     (forgotten-acknowledged sys w r.0 r.1 state r.2 t.0 t.1)))
 
-pub entries_after_collection : EntriesAfterCollection
+-- the entries go that are planned to go, where the low watermark rises to the one of the next state
+pub entries_after_collection : (sys : System) → IsWellFormedSystem sys → (state : Machine) → IsReached sys state
+    → (next : Machine) (effect : Effect) → LeadsTo sys state Collect next effect
+    → (entries : List Entry) → AreEntriesOf sys state entries (uncollected state)
+    → (drops : Drops) → IsPlanned sys.flow next.low entries drops
+    → AreEntriesOf sys next (filter (λ e. not (is_dropped drops e)) entries) (uncollected next)
 entries_after_collection sys w state r next effect t es a drops is =
     entries-stay sys state next (filter (λ e. not (is_dropped drops e)) es) (uncollected next) (left-stay sys w state r Collect next effect t)
     (collected-left sys w state r next effect t (IsEntryOf sys state) (λ e x i. i) es drops is a)
 
-pub records_after_collection : RecordsAfterCollection
+-- and the records of those that are left are stored
+pub records_after_collection : (sys : System) → IsWellFormedSystem sys → (state : Machine) → IsReached sys state
+    → (next : Machine) (effect : Effect) → LeadsTo sys state Collect next effect
+    → (entries : List Entry) → AreEntriesOf sys state entries (uncollected state)
+    → (records : Option Records) → AreStored sys state records entries (uncollected state)
+    → (drops : Drops) → IsPlanned sys.flow next.low entries drops
+    → AreStored sys next records (filter (λ e. not (is_dropped drops e)) entries) (uncollected next)
 records_after_collection sys w state r next effect t es a all s drops is =
     let left = filter (λ e. not (is_dropped drops e)) es in
     records-stay sys state next all left (uncollected next) (left-stay sys w state r Collect next effect t)

@@ -1,18 +1,19 @@
 -- What entries tell: the newest checkpoint, and what is lost with a node.
-use Rattle.std.proofs.Common.{◌≡◌, ◌↔◌, ℕ, Bool, true, false, cond, not, ◌&&◌, ◌||◌, ◌==◌, List, [], ◌∷◌, ◌++◌, length, map, refl, sym, ap, subst, ◌∙◌, inl, inr, ◌⊎◌, arith}
-use Rattle.std.specs.List.{Contains, flat_map}
+use Rattle.std.proofs.Common.{◌≡◌, ◌↔◌, ℕ, Bool, true, false, cond, not, ◌&&◌, ◌||◌, ◌==◌, List, [], ◌∷◌, ◌++◌, length, refl, sym, ap, subst, ◌∙◌, inl, inr, ◌⊎◌, arith, ◌≢◌}
+use Rattle.std.specs.List.{Contains}
 use Rattle.std.proofs.lemmas.Bool.{or_right}
 use Rattle.std.proofs.lemmas.List.{append-nil}
 use Rattle.std.proofs.lemmas.List.FromFn.{get_or-map-range_with_len}
 use Rattle.fw_time.specs.Stamp.{Stamp}
 use Rattle.fw_flow.specs.declared.kind.Policy.TheVariants as policy
-use Rattle.fw_flow.specs.declared.step.Step.TheVariants.{Fail}
-use Rattle.fw_flow.specs.Dataflow.{System, Dataflow, policy_of, bounds_of, is_one_of}
+use Rattle.fw_flow.specs.declared.step.Step.TheVariants.{Fail, Checkpoint as CheckpointStep}
+use Rattle.fw_flow.specs.Dataflow.{System, policy_of, bounds_of, is_one_of}
 use Rattle.fw_flow.specs.NodeFunction.{event_node, event_stamp}
+use Rattle.fw_flow.specs.WellFormed.{IsWellFormedSystem}
 use Rattle.fw_model.specs.Choice.{IsLogged}
 use Rattle.fw_model.specs.Machine.{Machine, SerialEvent, Write, Stage, in_flight, acknowledged, collected, checkpoint, logged_event, is_failed, front_of, no_stamps}
 use Rattle.fw_model.specs.Machine.{Written as WrittenBy}
-use Rattle.fw_model.specs.Steps.{Effect, LeadsTo, checkpoint_of, checkpoint_front, checkpoints_of, last_or, is_in_flight, without_lost}
+use Rattle.fw_model.specs.Steps.{Effect, LeadsTo, checkpoint_of, checkpoint_front, checkpoints_of, last_or, is_in_flight, without_lost, is_asked_for_checkpoints, silent, newest_checkpoint}
 use Rattle.fw_model.proofs.AskedLaws.{reached-all}
 use Rattle.fw_model.proofs.Decisions.{two_ways}
 use Rattle.fw_model.proofs.LoggedLaws.{live-logged}
@@ -26,9 +27,11 @@ use Rattle.fw_keep.specs.declared.entry.Written.TheVariants as written
 use Rattle.fw_policy.specs.View.{IsLostAt}
 use Rattle.fw_policy.specs.Offering.{stamps_in_flight, unlogged_stamps}
 use Rattle.fw_model.proofs.SentStandLaws.{IsOne, one-contained, contained-one}
+use Rattle.fw_model.specs.Reached.{IsReached}
 use Rattle.fw_policy.proofs.UnloggedLaws.{IsOfEntries, unlogged-is, unlogged-has, some-filtered}
 use Rattle.fw_stands.specs.Written.{Holds, AreEntriesOf, uncollected}
-use Rattle.fw_stands.specs.LawsOfEntries.{entry_front, entry_fronts, LastEntryIsOfNewestCheckpoint, TakesCheckpointsByLastEntry, CheckpointAsks, LosesWhatIsInFlight}
+use Rattle.fw_stands.specs.Entries.{entry_front, entry_fronts}
+use Rattle.fw_frontier.specs.Front.{Front}
 
 -- ---- the newest checkpoint
 
@@ -47,11 +50,20 @@ fronts-alike sys state p (e ∷ es) (x ∷ xs) a =
     ∙ ap (λ fs. cond (x.node == p) fs [] ++ entry_fronts p es) (front-alike sys state x.node e.written x.written (a.0).holds)
     ∙ ap (λ fs. cond (x.node == p) (checkpoint_front x.written) [] ++ fs) (fronts-alike sys state p es xs a.1)
 
-pub last_entry_is_of_newest_checkpoint : LastEntryIsOfNewestCheckpoint
+-- the frontier of the last entry of a checkpoint of node p, or the given one where there is none, is that of its newest checkpoint
+pub last_entry_is_of_newest_checkpoint : (sys : System) → IsWellFormedSystem sys → (state : Machine) → IsReached sys state
+    → (entries : List Entry) → AreEntriesOf sys state entries (uncollected state)
+    → (p : ℕ) (f : Front) → last_or f (entry_fronts p entries) ≡ newest_checkpoint p f state.writes
 last_entry_is_of_newest_checkpoint sys w state r es a p f =
     ap (last_or f) (fronts-alike sys state p es (uncollected state) a) ∙ sym (newest-kept sys w r.0 r.1 state r.2 p f)
 
-pub takes_checkpoints_by_last_entry : TakesCheckpointsByLastEntry
+-- a node that takes checkpoints when asked and is not failed takes one exactly where what is settled is not the frontier of the
+-- last entry of a checkpoint of the node, or no stamps where there is none
+pub takes_checkpoints_by_last_entry : (sys : System) → IsWellFormedSystem sys → (state : Machine) → IsReached sys state
+    → (entries : List Entry) → AreEntriesOf sys state entries (uncollected state)
+    → (p : ℕ) → is_asked_for_checkpoints (policy_of sys.flow p) ≡ true → is_failed state p ≡ false
+    → (front_of state.settled p ≢ last_or (no_stamps (bounds_of sys.flow p)) (entry_fronts p entries))
+    ↔ ((next : Machine) × LeadsTo sys state (CheckpointStep p) next silent)
 takes_checkpoints_by_last_entry sys w state r es a p asked live =
     let none = no_stamps (bounds_of sys.flow p) in
     let same = last_entry_is_of_newest_checkpoint sys w state r es a p none in (
@@ -62,7 +74,9 @@ takes_checkpoints_by_last_entry sys w state r es a p asked live =
       λ k. let t = k.1 in λ e. t.2 (e ∙ same),
     )
 
-pub checkpoint_asks : CheckpointAsks
+-- it asks a checkpoint at what is settled
+pub checkpoint_asks : (sys : System) (state : Machine) (p : ℕ) (next : Machine) (effect : Effect) → LeadsTo sys state (CheckpointStep p) next effect
+    → next.writes ≡ state.writes ++ checkpoint_of state p (front_of state.settled p) ∷ []
 checkpoint_asks sys state p next effect t = ap (λ (m : Machine). m.writes) t.3
 
 -- ---- what is lost
@@ -97,7 +111,12 @@ fails-now sys state next effect ps t p full k =
 none-lost : (sys : System) (state : Machine) (p : ℕ) → is_failed state p ≡ false → (t : Stamp) → Contains [] t ↔ IsLostAt sys state p t
 none-lost sys state p live t = ((λ c. let l = c.1 in absurd (omega arith)), λ i. absurd (two_ways (is_failed state p) i.0 live))
 
-pub loses_what_is_in_flight : LosesWhatIsInFlight
+-- the stamps at which a node that logs each event loses events as it fails are those of its events in flight
+pub loses_what_is_in_flight : (sys : System) → IsWellFormedSystem sys → (state : Machine) → IsReached sys state
+    → (ps : List ℕ) (next : Machine) (effect : Effect) → LeadsTo sys state (Fail ps) next effect
+    → (entries : List Entry) → AreEntriesOf sys state entries (uncollected state)
+    → (p : ℕ) → policy_of sys.flow p ≡ policy.Full → is_failed state p ≡ false → is_one_of p ps ≡ true
+    → (t : Stamp) → IsLostAt sys next p t ↔ Contains (stamps_in_flight p entries) t
 loses_what_is_in_flight sys w state r ps next effect t es a p full live one at =
     let f = reached-all sys w r.0 r.1 state r.2 in
     let o : IsOfEntries sys state p es [] = record {

@@ -5,7 +5,6 @@ use Rattle.fw_time.specs.Stamp.{same}
 use Rattle.fw_bag.specs.declared.rec.Rec.{Rec}
 use Rattle.fw_bag.specs.Keyed.{sorted_recs}
 use Rattle.fw_frontier.specs.Front.{inside}
-use Rattle.fw_flow.specs.declared.event.Event.{Event}
 use Rattle.fw_flow.specs.declared.event.Message.{Message}
 use Rattle.fw_flow.specs.Dataflow.{System, kind_of, policy_of, sender, receiver, batches_of, is_input_kind, is_output_kind}
 use Rattle.fw_flow.specs.NodeFunction.{delivered_recs}

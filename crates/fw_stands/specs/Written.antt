@@ -1,5 +1,5 @@
 -- What is written: the record that the store holds of each entry of the catalogue.
-use Rattle.std.specs.Prelude.{◌≡◌, ℕ, ◌+◌, true, false, if◌then◌else◌, ◌==◌, List, [], ◌∷◌, filter, map, length, Option, Some}
+use Rattle.std.specs.Prelude.{◌≡◌, ℕ, ◌+◌, true, false, if◌then◌else◌, List, [], ◌∷◌, map, length, Option, Some}
 use Rattle.std.specs.List.{AllZip, Contains}
 use Rattle.std.specs.Option.{ForSome}
 use Rattle.fw_frontier.specs.Frontier.{Frontier}

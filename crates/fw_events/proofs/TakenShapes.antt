@@ -35,13 +35,13 @@ use Rattle.fw_progress.proofs.TallyLaws.{is_eq-same}
 use Rattle.fw_rollback.specs.Edges.{on_edge}
 use Rattle.fw_running.specs.Logging.{ChangesKeep, IsAsked, IsNotAsked}
 use Rattle.fw_running.specs.declared.running.Running.{Running}
-use Rattle.fw_running.specs.Kept.{queue_at, table_of, source_of, output_of}
+use Rattle.fw_running.specs.Kept.{queue_at, table_of, source_of, output_of, with_tables}
 use Rattle.fw_running.specs.Places.{IsPut}
 use Rattle.fw_running.specs.Ready.{HasSomething, IsOwing}
 use Rattle.fw_running.specs.Shaped.{IsOnEdge, IsShaped, IsWrittenOf}
 use Rattle.fw_running.proofs.KeptShapes.{shaped-keep}
 use Rattle.fw_events.specs.Sending.{with_queues}
-use Rattle.fw_events.specs.Taking.{with_outputs, with_sources, with_tables, with_told, without_found, TakesOff}
+use Rattle.fw_events.specs.Taking.{with_outputs, with_sources, with_told, without_found, TakesOff}
 use Rattle.fw_events.proofs.ShapedLaws.{shaped-outputs, shaped-queues, shaped-sources, shaped-tables}
 
 -- ---- a message that is pending no more

@@ -40,7 +40,7 @@ use Rattle.fw_stands.proofs.EntryViews.{loses_what_is_in_flight}
 use Rattle.fw_stands.proofs.FailureLaws.{live_node-fails, all_failed-idle, failures-add, failed_tables-go, other_tables-stay, queues_of_failed-go, logs_of_failed-go, outputs_of_failed-go, failure-keeps}
 use Rattle.fw_stands.proofs.FlightLaws.{live_nodes-decide}
 use Rattle.fw_stands.proofs.LossLaws.{losses_stay}
-use Rattle.fw_stands.proofs.StayingLaws.{steps-stay_reached}
+use Rattle.fw_stands.proofs.AtReached.{reached-next}
 use Rattle.fw_time.specs.Stamp.{Stamp}
 use Rattle.fw_time.proofs.EachLaws.{each-kept, each-weaker}
 use Rattle.fw_running.specs.declared.running.Running.{Running}
@@ -305,7 +305,7 @@ after-stands sys state old new records p there live g shaped s =
     record {
       flow = s.flow;
       well_formed = s.well_formed;
-      reached = steps-stay_reached sys state next (Fail ps) (did silent) s.reached leads;
+      reached = reached-next sys state next (Fail ps) (did silent) s.reached leads;
       settled = s.settled;
       failed = failed;
       low = parts.low ∙ s.low;

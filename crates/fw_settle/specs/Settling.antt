@@ -100,10 +100,6 @@ pub record HaveAsked (place : ℕ) (old new : Running) (before after : Option Re
 
 -- ---- what settles
 
--- what is kept with these tables
-abbrev pub with_tables : List (Option Node) → Running → Running
-with_tables tables running = record running { parts = record running.parts { tables = tables } }
-
 -- what is kept with these traces
 abbrev pub with_traces : Traces → Running → Running
 with_traces traces running = record running { traces = traces }

@@ -8,22 +8,13 @@ use Rattle.fw_flow.specs.declared.kind.Policy.{Policy}
 use Rattle.fw_flow.specs.declared.kind.Policy.TheVariants as policy
 use Rattle.fw_flow.specs.Dataflow.{System, policy_of}
 use Rattle.fw_flow.specs.NodeFunction.{event_node}
-use Rattle.fw_flow.specs.declared.step.Step.{Step}
 use Rattle.fw_model.specs.Choice.{IsLogged}
-use Rattle.fw_model.specs.Machine.{Machine, SerialEvent, Write, first_state, is_failed}
-use Rattle.fw_model.specs.Steps.{with_event, write_of_event, Outcome, StepsTo}
-use Rattle.fw_model.proofs.GoingOn.{runs-go_on}
+use Rattle.fw_model.specs.Machine.{Machine, SerialEvent, Write, is_failed}
+use Rattle.fw_model.specs.Steps.{with_event, write_of_event}
 use Rattle.fw_model.proofs.LowLaws.{keep-append}
 use Rattle.fw_model.proofs.ThinnedLaws.{each-contained}
-use Rattle.fw_model.specs.Reached.{IsReached}
 use Rattle.fw_policy.specs.View.{IsUnlogged, IsLostAt}
 use Rattle.fw_time.specs.Stamp.{Stamp}
-
--- a step from a reached state leads to a reached one
-pub reached-goes_on : (sys : System) (state next : Machine) (step : Step) (outcome : Outcome) → IsReached sys state → StepsTo sys state step next outcome
-    → IsReached sys next
-reached-goes_on sys state next step outcome r t =
-    (r.0 ++ step ∷ [], r.1 ++ outcome ∷ [], runs-go_on sys (first_state sys) state next r.0 (step ∷ []) r.1 (outcome ∷ []) r.2 (next, t, refl))
 
 -- what is in a list of one is this one
 only-one : {A : Type 0} (x y : A) → Contains (x ∷ []) y → y ≡ x

@@ -1,17 +1,8 @@
 -- Steps that leave parts as they are.
 use Rattle.std.proofs.Common.{refl, List}
-use Rattle.fw_stands.proofs.AtReached.{reached-next}
 use Rattle.fw_stands.specs.Staying.{KeepsParts}
 use Rattle.fw_flow.specs.Dataflow.{System}
-use Rattle.fw_flow.specs.declared.step.Step.{Step}
 use Rattle.fw_model.specs.Machine.{Machine, Write}
-use Rattle.fw_model.specs.Steps.{Outcome, StepsTo}
-use Rattle.fw_model.specs.Reached.{IsReached}
-
--- a step leads from a reached state to one
-pub steps-stay_reached : (sys : System) (state next : Machine) (step : Step) (outcome : Outcome) → IsReached sys state
-    → StepsTo sys state step next outcome → IsReached sys next
-steps-stay_reached = reached-next
 
 -- where the writes alone are other ones, all parts stay as they were
 pub writes-keep_parts : (sys : System) (state : Machine) (writes : List Write) → KeepsParts sys state (record state { writes = writes })

@@ -1,5 +1,4 @@
--- What is written stays, and what has to become of entries and records in each step for them to
--- stand for the writes of the next state.
+-- What stands for what is written, and what becomes of entries in a step.
 use Rattle.std.specs.Prelude.{ℕ, Bool, not, ◌&&◌, ◌==◌, if◌then◌else◌, List, [], ◌∷◌, filter}
 use Rattle.std.specs.List.{flat_map}
 use Rattle.fw_frontier.specs.Front.{Front}

@@ -1,4 +1,4 @@
--- Which is the first that is enabled.
+-- Which step is the first that is enabled: the one that is taken by itself.
 use Rattle.std.specs.Prelude.{◌≡◌, ℕ, ◌<◌, false, length, Option, None}
 use Rattle.fw_time.specs.Stamp.{Stamp, stamp_cmp}
 use Rattle.std.specs.Ordering.{is_gt}

@@ -9,7 +9,7 @@ ghost use Rattle.fw_model.specs.Steps.{last_or};
 ghost use Rattle.fw_running.specs.Faults.{faults_after};
 ghost use Rattle.fw_flow.specs.declared.step.Step.TheVariants as steps;
 ghost use Rattle.fw_keep.specs.Stored.{Records, IsStored};
-ghost use Rattle.fw_stands.specs.LawsOfEntries.{entry_fronts};
+ghost use Rattle.fw_stands.specs.Entries.{entry_fronts};
 ghost use Rattle.fw_running.specs.declared.stepped.Stepped.TheVariants.{Idle};
 ghost use Rattle.fw_running.specs.Shaped.{IsShaped};
 ghost use Rattle.fw_settle.specs.Checkpoints.{MayTakeCheckpoint};

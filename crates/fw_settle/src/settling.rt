@@ -13,7 +13,8 @@ ghost use Rattle.fw_running.specs.Places.{IsTakenOut};
 ghost use Rattle.fw_running.specs.declared.stepped.Stepped.TheVariants.{Idle};
 ghost use Rattle.fw_running.specs.Shaped.{IsShaped};
 ghost use Rattle.fw_running.specs.Steps.{TakesStep, StaysShaped, IsUndamaged, HasEager};
-ghost use Rattle.fw_settle.specs.Settling.{grows, IsFoundToSettle, IsFoundLive, AddsEntries, KeepsEntries, AsksIfEager, HaveAsked, with_tables, with_traces, ChangesSettled, SettlesTable, SettlesTraces, SettlesTo, SettlesKept, HaveSettled};
+ghost use Rattle.fw_running.specs.Kept.{with_tables};
+ghost use Rattle.fw_settle.specs.Settling.{grows, IsFoundToSettle, IsFoundLive, AddsEntries, KeepsEntries, AsksIfEager, HaveAsked, with_traces, ChangesSettled, SettlesTable, SettlesTraces, SettlesTo, SettlesKept, HaveSettled};
 
 use crate::asking::{ask_checkpoint, withdraw_from};
 use fw_flow::{NodeId, Policy};

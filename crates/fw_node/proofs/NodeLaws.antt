@@ -7,6 +7,7 @@ use Rattle.std.proofs.lemmas.Bool.{and_from, and_parts}
 use Rattle.fw_time.specs.declared.stamp.Bounds.{Bounds}
 use Rattle.fw_time.specs.Stamp.{Stamp, leq, same, in_domain}
 use Rattle.fw_time.proofs.StampLaws.{leq-length}
+use Rattle.fw_time.proofs.DomainLaws.{domain-length}
 use Rattle.fw_bag.specs.declared.rec.Rec.{Rec}
 use Rattle.fw_bag.specs.Arrivals.{Arrival}
 use Rattle.fw_bag.specs.Keyed.{sorted_recs}
@@ -32,7 +33,7 @@ use Rattle.fw_node.proofs.SameTable.{AreAlike}
 -- ---- stamps
 
 pub same_length : (bounds : Bounds) (s : Stamp) (n : ℕ) → in_domain bounds s ≡ true → n ≡ length bounds.greatest → length s ≡ n
-same_length bounds s n d e = leq-length s bounds.greatest d ∙ sym e
+same_length bounds s n d e = domain-length bounds s d ∙ sym e
 
 -- what holds of the stamps of all deliveries holds of those of all arrivals
 pub each_arrived : (ins : List ℕ) (P : Stamp → Type 0) (vs : List Event) → EachDelivery P vs → AllByRecursion (λ (a : Arrival). P a.at) (arrived ins vs)

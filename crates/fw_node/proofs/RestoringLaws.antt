@@ -8,6 +8,7 @@ use Rattle.fw_time.specs.declared.time.Epoch.{Epoch}
 use Rattle.fw_time.specs.declared.time.SeqNo.{SeqNo}
 use Rattle.fw_time.specs.declared.stamp.Bounds.{Bounds}
 use Rattle.fw_time.proofs.StampLaws.{leq-length}
+use Rattle.fw_time.proofs.DomainLaws.{domain-length}
 use Rattle.fw_bag.specs.declared.rec.Rec.{Rec}
 use Rattle.fw_bag.specs.Arrivals.{Arrival, recs_of, AreInside, AreTimes}
 use Rattle.fw_flow.specs.declared.event.Event.{Event}
@@ -51,13 +52,13 @@ one_place (x ∷ y ∷ s) h = absurd (omega arith)
 pub at_epochs : (bounds : Bounds) (came : List Arrival) → length bounds.greatest ≡ 1 → AreInside (in_domain bounds) came → AreTimes (λ (t : Epoch). t.0 ∷ []) came
 at_epochs bounds [] e h = tt
 at_epochs bounds (a ∷ came) e h =
-    let n = one_place a.at (leq-length a.at bounds.greatest h.0 ∙ e) in ((record { 0 = n.0 }, n.1), at_epochs bounds came e h.1)
+    let n = one_place a.at (domain-length bounds a.at h.0 ∙ e) in ((record { 0 = n.0 }, n.1), at_epochs bounds came e h.1)
 
 -- or numbers
 pub at_numbered : (bounds : Bounds) (came : List Arrival) → length bounds.greatest ≡ 1 → AreInside (in_domain bounds) came → AreTimes (λ (t : SeqNo). t.0 ∷ []) came
 at_numbered bounds [] e h = tt
 at_numbered bounds (a ∷ came) e h =
-    let n = one_place a.at (leq-length a.at bounds.greatest h.0 ∙ e) in ((record { 0 = n.0 }, n.1), at_numbered bounds came e h.1)
+    let n = one_place a.at (domain-length bounds a.at h.0 ∙ e) in ((record { 0 = n.0 }, n.1), at_numbered bounds came e h.1)
 
 -- ---- how many numbers are sent
 

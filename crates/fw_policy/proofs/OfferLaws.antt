@@ -50,10 +50,11 @@ use Rattle.fw_model.proofs.UntilLaws.{numbers, canonical-until}
 use Rattle.fw_model.proofs.WriteLaws.{ArePairs, pairs-passed, LiesBelow}
 use Rattle.fw_policy.specs.declared.view.Border.{Border}
 use Rattle.fw_policy.specs.declared.view.Border.TheVariants.{Inner, Source, Output}
-use Rattle.fw_policy.specs.declared.view.Entry.{Entry}
+use Rattle.fw_keep.specs.declared.entry.Entry.{Entry}
 use Rattle.fw_policy.specs.declared.view.NodeView.{NodeView}
 use Rattle.fw_model.specs.EventStamps.{IsOfCause}
-use Rattle.fw_policy.specs.View.{base_of, IsRecorded, AreEntriesOf, IsLostAt, IsBorderOf, IsNodeViewOf, AreNodeViewsFrom, IsViewOf}
+use Rattle.fw_policy.specs.Entries.{IsRecorded, AreEntriesOf}
+use Rattle.fw_policy.specs.View.{base_of, IsLostAt, IsBorderOf, IsNodeViewOf, AreNodeViewsFrom, IsViewOf}
 use Rattle.fw_policy.specs.Offering.{records_by, empty_record, holding, unlogged_stamps, below_all, IsRange, IsOfBatches, IsOfBound, OffersBy, IsOfferBy, AreOffersBy}
 use Rattle.fw_policy.proofs.BatchLaws.{batches-offered}
 use Rattle.fw_policy.proofs.NumberLaws.{numbered-covers, counted-arrive}
@@ -62,7 +63,7 @@ use Rattle.fw_policy.proofs.RecordLaws.{IsUnder, pairs-both, entries-recorded, e
 use Rattle.fw_policy.proofs.RecordedLaws.{IsFound, found-record, empty-recorded}
 use Rattle.fw_model.proofs.SentStandLaws.{sent-covers}
 use Rattle.fw_policy.proofs.UnloggedLaws.{IsOfEntries, logged-outside}
-use Rattle.fw_policy.proofs.WayLaws.{bound-output, checkpoints-notices, events-full}
+use Rattle.fw_policy.proofs.WayLaws.{bound-output, bounds-plain, checkpoints-notices, events-full}
 
 -- ---- one node
 
@@ -306,7 +307,7 @@ events-right sys state p entries lost low settled (form.Between least greatest) 
     let ss = unlogged_stamps p entries lost in
     let r = range-between b (below_all ss g) (front_of state.low p) least greatest f (a.0 ∙ e)
     (subst (λ (s : Front). IsFrontOf b greatest (below_all ss (frontier_of b s))) d a.1) in
-    let w = within-below b f g ss in
+    let w = within-below b f g ss (bounds-plain sys.flow p) in
     let m = logged-outside sys state p entries lost u (frontier_of b f) in
     ((λ i. let j = r.0 i in let v = w.0 j.0 in ((v.0, m.1 v.1), j.1)), (λ i. r.1 (w.1 ((i.0).0, m.0 (i.0).1), i.1)))
 

@@ -5,6 +5,7 @@ use Rattle.std.proofs.lemmas.Bool.{and_parts, and_from, or_cases, or_left, or_ri
 use Rattle.fw_time.specs.Stamp.{Stamp, leq, in_domain}
 use Rattle.fw_time.specs.declared.stamp.Bounds.{Bounds}
 use Rattle.fw_time.proofs.StampLaws.{leq-refl, leq-trans}
+use Rattle.fw_time.proofs.DomainLaws.{domain-leq, plain-in_domain}
 use Rattle.fw_frontier.specs.Frontier.{Frontier, Within, meet}
 use Rattle.fw_frontier.specs.Front.{Front, inside, frontier_of, IsFrontOf}
 use Rattle.fw_frontier.proofs.InsideLaws.{inside-closed}
@@ -50,10 +51,10 @@ false-of : (c : Bool) → not c ≡ true → c ≡ false
 false-of true k = absurd (cc)
 false-of false k = refl
 
--- a frontier lies within what is at none of these stamps or above exactly where none of them is inside
-pub within-below : (b : Bounds) (f : Front) (g : Frontier) (ss : List Stamp)
+-- in a domain without sides a frontier lies within what is at none of these stamps or above exactly where none of them is inside
+pub within-below : (b : Bounds) (f : Front) (g : Frontier) (ss : List Stamp) → b.sides ≡ false
     → Within (frontier_of b f) (below_all ss g) ↔ (Within (frontier_of b f) g × AllByRecursion (λ s. frontier_of b f s ≡ false) ss)
-within-below b f g ss = (
+within-below b f g ss plain = (
   λ w. (
     (λ t e. (and_parts (g t) (not (list_any (λ s. leq s t) ss)) (w t e)).0),
     each-outside (frontier_of b f) ss (λ t e. false-of (list_any (λ s. leq s t) ss) (and_parts (g t) (not (list_any (λ s. leq s t) ss)) (w t e)).1) ss (λ s i. one-below s ss i),
@@ -62,7 +63,7 @@ within-below b f g ss = (
     | inl k ↦
         let a = any-below t ss k in
         let d = and_parts (in_domain b t) (inside f t) e in
-        absurd (two_ways (frontier_of b f a.0) (and_from (in_domain b a.0) (inside f a.0) (leq-trans a.0 t b.greatest a.2 d.0) (inside-closed f a.0 t a.2 d.1))
+        absurd (two_ways (frontier_of b f a.0) (and_from (in_domain b a.0) (inside f a.0) (plain-in_domain b a.0 plain ∙ leq-trans a.0 t b.greatest a.2 (domain-leq b t d.0)) (inside-closed f a.0 t a.2 d.1))
         (one-holds (λ s. frontier_of b f s ≡ false) a.0 ss a.1 w.1))
     | inr n ↦ ap not n
   ]),

@@ -1,5 +1,6 @@
 -- By what nodes are restored, by their kinds and policies.
 use Rattle.std.proofs.Common.{◌≡◌, ◌⊎◌, inl, inr, ℕ, false, [], ◌∷◌, refl, ap}
+use Rattle.fw_time.specs.Stamp.{up_to}
 use Rattle.fw_flow.specs.declared.kind.Kind.{Kind}
 use Rattle.fw_flow.specs.declared.kind.Kind.TheVariants.{Input, OutputEpoch, OutputNumber}
 use Rattle.fw_flow.specs.declared.kind.Policy.{Policy}
@@ -23,12 +24,17 @@ bound-output kind p e = absurd (not_bound p e)
     not_bound policy.Eager e = cc
     not_bound policy.Full e = cc
 
+-- no node's domain has sides
+pub bounds-plain : (flow : Dataflow) (p : ℕ) → (bounds_of flow p).sides ≡ false
+unfolding bounds_of
+bounds-plain flow p = refl
+
 -- and its domain is that of epochs or of numbers
-pub bound-numbers : (flow : Dataflow) (p : ℕ) → way_of flow p ≡ Bound → (bounds_of flow p).greatest ≡ greatest_number ∷ []
+pub bound-numbers : (flow : Dataflow) (p : ℕ) → way_of flow p ≡ Bound → bounds_of flow p ≡ up_to (greatest_number ∷ [])
 unfolding bounds_of
 bound-numbers flow p e = elim (bound-output (kind_of flow p) (policy_of flow p) e) [
-  | inl is ↦ ap (λ x. (bounds_of_domain flow (domain_of_kind flow x)).greatest) is
-  | inr is ↦ ap (λ x. (bounds_of_domain flow (domain_of_kind flow x)).greatest) is
+  | inl is ↦ ap (λ x. bounds_of_domain flow (domain_of_kind flow x)) is
+  | inr is ↦ ap (λ x. bounds_of_domain flow (domain_of_kind flow x)) is
 ]
 
 none-checkpoints : (kind : Kind) → restoring kind policy.None ≡ Checkpoints → ⊥

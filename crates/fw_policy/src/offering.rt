@@ -1,6 +1,7 @@
 //! To which frontiers nodes can be restored.
 ghost use Rattle.std.specs.Prelude.{◌≡◌, ◌++◌, List, [], ◌∷◌, IfOk, OnOk};
 ghost use Rattle.fw_time.specs.declared.stamp.Bounds.{Bounds as Domain};
+ghost use Rattle.fw_time.specs.Stamp.{up_to};
 ghost use Rattle.fw_frontier.specs.Frontier.{meet};
 ghost use Rattle.fw_frontier.specs.Front.{frontier_of, IsCanonical, IsFrontOf};
 ghost use Rattle.fw_flow.specs.declared.choice.Recorded.{Recorded as RecordedValue};
@@ -12,9 +13,10 @@ ghost use Rattle.fw_policy.specs.Offering as spec;
 ghost use Rattle.fw_policy.specs.Known.{FitsWay, IsKnown};
 
 use crate::unlogged::{cut_below, unlogged};
-use crate::view::{Border, Entry, NodeView, Written};
+use crate::view::{Border, NodeView};
 use fw_flow::{Flow, NodeId, OfEdges, Offered, Recorded, Records, Restoring};
 use fw_frontier::Front;
+use fw_keep::{Entry, Written};
 use fw_time::{Bounds, Stamp};
 use std::alloc::{AllocError, Global};
 
@@ -62,7 +64,7 @@ fn of_bound(
     settled: &Front,
     border: &Border,
 ) -> Result<Offered, AllocError>
-    ensures { (domain : Domain) → domain.greatest ≡ greatest_number ∷ [] → IsCanonical domain settled.now → FitsWay ways.Bound border.now
+    ensures { (domain : Domain) → domain ≡ up_to (greatest_number ∷ []) → IsCanonical domain settled.now → FitsWay ways.Bound border.now
         → IfOk result (spec.IsOfBound domain low.now settled.now border.now) }
 {
     match border {
@@ -76,7 +78,7 @@ fn of_bound(
 
 /// What is settled and acknowledged of an output. A bound past the greatest number leaves what is settled.
 fn acknowledged(alloc: Global, settled: &Front, bound: u64) -> Result<Front, AllocError>
-    ensures { (domain : Domain) → domain.greatest ≡ greatest_number ∷ [] → IsCanonical domain settled.now
+    ensures { (domain : Domain) → domain ≡ up_to (greatest_number ∷ []) → IsCanonical domain settled.now
         → IfOk result (λ f. IsFrontOf domain f
         (meet (frontier_of domain settled.now) (frontier_of domain (choices.until bound)))) }
 {
@@ -179,9 +181,9 @@ fn add_written(
         → OnOk result (records.new.items ≡ spec.holding low.now (rs ++ spec.record_in written.now)) }
 {
     match written {
-        Written::Checkpoint(held) => {
-            if low.subset(&held.front) {
-                records.push(held.copy()?)?;
+        Written::Checkpoint { recorded, .. } => {
+            if low.subset(&recorded.front) {
+                records.push(recorded.copy()?)?;
             }
         }
         Written::Event(_) => {}

@@ -9,6 +9,7 @@ use Rattle.fw_time.specs.Stamp.{Stamp, leq, stamp_cmp, in_domain}
 use Rattle.fw_time.specs.declared.stamp.Bounds.{Bounds}
 use Rattle.fw_time.proofs.StampLaws.{leq-length}
 use Rattle.fw_time.proofs.EachLaws.{each-weaker, each-both, each-append, each-prefix, each-suffix}
+use Rattle.fw_time.proofs.DomainLaws.{domain-leq, domain-length}
 use Rattle.fw_frontier.specs.Front.{Front, IsCanonical}
 use Rattle.fw_frontier.proofs.CanonicalLaws.{in_domain-canonical}
 use Rattle.fw_flow.specs.declared.choice.OfEdge.{OfEdge}
@@ -90,7 +91,7 @@ stands : (bounds : Bounds) (o : Stamp) (os : Front) → in_domain bounds o ≡ t
     → AllByRecursion (λ q. is_lt (stamp_cmp o q) ≡ true) os → AllByRecursion (λ q. (leq o q || leq q o) ≡ false) os → StandBefore os o
 stands bounds o [] i inside ascending incomparable = tt
 stands bounds o (q ∷ os) i inside ascending incomparable =
-    let same : length o ≡ length q = leq-length o bounds.greatest i ∙ sym (leq-length q bounds.greatest inside.0) in (
+    let same : length o ≡ length q = domain-length bounds o i ∙ sym (domain-length bounds q inside.0) in (
       and_from (length o == length q) (is_lt (stamp_cmp o q) && not (leq o q || leq q o)) (eq-eqb (length o) (length q) same)
           (and_from (is_lt (stamp_cmp o q)) (not (leq o q || leq q o)) ascending.0 (ap not incomparable.0)),
       stands bounds o os i inside.1 ascending.1 incomparable.1,
@@ -131,7 +132,7 @@ sound_of_canonical bounds f greatest few canonical =
     let inside = in_domain-canonical bounds f canonical in
     record {
       few = few;
-      parts = each-weaker (λ o. in_domain bounds o ≡ true) IsStamp f (λ o i. stamp_below o bounds.greatest i greatest) inside;
+      parts = each-weaker (λ o. in_domain bounds o ≡ true) IsStamp f (λ o i. stamp_below o bounds.greatest (domain-leq bounds o i) greatest) inside;
       follow = follow_in_order [] f tt (ordered_of_canonical bounds f inside canonical);
     }
 

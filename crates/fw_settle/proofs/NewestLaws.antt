@@ -6,7 +6,8 @@ use Rattle.std.proofs.lemmas.Grind.{flat_map-append}
 use Rattle.std.proofs.lemmas.List.{append-nil}
 use Rattle.fw_time.specs.Stamp.{origin, in_domain}
 use Rattle.fw_time.specs.declared.stamp.Bounds.{Bounds}
-use Rattle.fw_time.proofs.StampLaws.{leq-length, leq-refl, origin-leq}
+use Rattle.fw_time.proofs.StampLaws.{leq-refl, origin-leq}
+use Rattle.fw_time.proofs.DomainLaws.{domain-length, plain-in_domain, plain-up_to}
 use Rattle.fw_frontier.specs.Frontier.{nothing}
 use Rattle.fw_frontier.specs.Front.{Front, inside, frontier_of, IsCanonical, IsFrontOf}
 use Rattle.fw_frontier.proofs.NamesLaws.{frontier-closed, names-nothing, names-same}
@@ -14,31 +15,28 @@ use Rattle.fw_model.specs.Machine.{no_stamps}
 use Rattle.fw_model.specs.Steps.{last_or}
 use Rattle.fw_model.proofs.Decisions.{two_ways}
 use Rattle.fw_keep.specs.declared.entry.Entry.{Entry}
-use Rattle.fw_stands.specs.LawsOfEntries.{entry_front, entry_fronts}
+use Rattle.fw_stands.specs.Entries.{entry_front, entry_fronts}
 
 -- ---- nothing is settled
 
-zeros-origin : (s : List ℕ) → origin s ≡ map (λ c. 0) s
-zeros-origin [] = refl
-zeros-origin (c ∷ s) = ap (λ t. 0 ∷ t) (zeros-origin s)
-
 -- a front outside which the least stamp lies has none
-pub none-settled : (b : Bounds) (f : Front) → IsCanonical b f → inside f (origin b.greatest) ≡ false → f ≡ no_stamps b
-none-settled b f c out =
+pub none-settled : (b : Bounds) (f : Front) → b.sides ≡ false → IsCanonical b f → inside f (origin b.greatest) ≡ false → f ≡ no_stamps b
+none-settled b f plain c out =
     let o = origin b.greatest in
+    let here : in_domain b o ≡ true = plain-in_domain b o plain ∙ origin-leq b.greatest b.greatest refl in
     let none : IsFrontOf b f nothing = record {
       canonical = c;
       same = λ t. false_from_ne_true (frontier_of b f t) (λ i.
           let d = (and_parts (in_domain b t) (inside f t) i).0 in
-          let least = (frontier-closed b f).closed o t (origin-leq b.greatest b.greatest refl) (origin-leq b.greatest t (sym (leq-length t b.greatest d))) i in
+          let least = (frontier-closed b f).closed o t here (origin-leq b.greatest t (sym (domain-length b t d))) i in
           two_ways (inside f o) (and_parts (in_domain b o) (inside f o) least).1 out);
     } in
-    names-same b f (o ∷ []) nothing none (names-nothing b) ∙ ap (λ t. t ∷ []) (zeros-origin b.greatest)
+    names-same b f (no_stamps b) nothing none (names-nothing b)
 
 -- and one without stamps has it outside
-pub least-outside : (b : Bounds) (f : Front) → f ≡ no_stamps b → inside f (origin b.greatest) ≡ false
-least-outside b f is =
-    ap (λ g. inside g (origin b.greatest)) (is ∙ ap (λ t. t ∷ []) (sym (zeros-origin b.greatest)))
+pub least-outside : (b : Bounds) (f : Front) → b.sides ≡ false → f ≡ no_stamps b → inside f (origin b.greatest) ≡ false
+least-outside b f plain is =
+    ap (λ g. inside g (origin b.greatest)) (is ∙ ap (λ (d : Bounds). no_stamps d) (sym (plain-up_to b plain)))
     ∙ ap (λ k. not k && true) (leq-refl (origin b.greatest))
 
 -- ---- the newest one
@@ -76,10 +74,10 @@ newest-here p f all rest before e g is here same =
 pub newest-some : (r : Bool) (front settled last : Front) → (IsTrue r ↔ (front ≡ settled)) → front ≡ last → (IsTrue r ↔ (settled ≡ last))
 newest-some r front settled last same is = (λ t. sym (same.0 t) ∙ is, λ e. same.1 (is ∙ sym e))
 
-pub newest-none : (b : Bounds) (f last : Front) (r : Bool) → IsCanonical b f → r ≡ inside f (origin b.greatest) → no_stamps b ≡ last → (IsTrue (not r) ↔ (f ≡ last))
-newest-none b f last r c e is = (
-  λ t. none-settled b f c (sym e ∙ not-true r t) ∙ is,
-  λ same. true-not r (e ∙ least-outside b f (same ∙ sym is)),
+pub newest-none : (b : Bounds) (f last : Front) (r : Bool) → b.sides ≡ false → IsCanonical b f → r ≡ inside f (origin b.greatest) → no_stamps b ≡ last → (IsTrue (not r) ↔ (f ≡ last))
+newest-none b f last r plain c e is = (
+  λ t. none-settled b f plain c (sym e ∙ not-true r t) ∙ is,
+  λ same. true-not r (e ∙ least-outside b f plain (same ∙ sym is)),
 )
   where
     not-true : (x : Bool) → IsTrue (not x) → x ≡ false

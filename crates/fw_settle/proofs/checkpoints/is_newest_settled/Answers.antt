@@ -6,7 +6,8 @@ use Rattle.fw_flow.specs.Dataflow.{bounds_of}
 use Rattle.fw_model.specs.Machine.{front_of, no_stamps}
 use Rattle.fw_model.specs.Steps.{last_or}
 use Rattle.fw_progress.proofs.TargetLaws.{read_at}
-use Rattle.fw_stands.specs.LawsOfEntries.{entry_fronts}
+use Rattle.fw_stands.specs.Entries.{entry_fronts}
+use Rattle.fw_policy.proofs.WayLaws.{bounds-plain}
 use Rattle.fw_settle.proofs.NewestLaws.{newest-none}
 use Rattle.fw_settle.proofs.checkpoints.is_newest_settled.Goals as goal
 
@@ -21,5 +22,5 @@ returns-in-None c =
     (read_at c.settled.result.now c.args.node c.place.result c.index-settled-place.result [] c.place.ensures
     (subst (λ fs. c.place.result < length fs) (sym c.settled.ensures) (omega (arith, c.requires.there, c.place.ensures))) c.index-settled-place.is) in
     let none : no_stamps b ≡ last = search rules in
-    newest-none b f last c.contains.result c.requires.settled
+    newest-none b f last c.contains.result (bounds-plain running.flow c.args.node) c.requires.settled
     (c.contains.ensures ∙ ap (λ g. inside g c.origin.result) here ∙ ap (inside f) (c.origin.ensures ∙ ap (λ (d : Bounds). origin d.greatest) c.domain.ensures)) none

@@ -8,7 +8,11 @@ use std::io::Read;
 use std::rt::Files;
 
 /// Tells the rows of a file.
-pub fn tell_rows<R: Files<File = File>>(alloc: Global, files: &R, text: &str) -> Result<String, AllocError> {
+pub fn tell_rows<R: Files<File = File>>(
+    alloc: Global,
+    files: &R,
+    text: &str,
+) -> Result<String, AllocError> {
     let mut told = String::new(alloc);
     for row in &rows_of(alloc, text)? {
         tell_row(alloc, files, row, &mut told)?;
@@ -81,7 +85,11 @@ fn became<K: Store>(
 }
 
 /// The record that the store gives under an id.
-fn got<R: Files<File = File>>(alloc: Global, store: &mut DiskStore<'_, R>, id: u64) -> Result<String, NoAnswer> {
+fn got<R: Files<File = File>>(
+    alloc: Global,
+    store: &mut DiskStore<'_, R>,
+    id: u64,
+) -> Result<String, NoAnswer> {
     let mut into = Vec::new(alloc);
     let answer = store.get(id, &mut into);
     let mut told = became(alloc, store, answer)?;
@@ -101,12 +109,17 @@ fn other<R: Files<File = File>>(
     became(alloc, &other, put)
 }
 
-/// The lines of the faults so far, each behind a bar.
-fn told<R: Files<File = File>>(alloc: Global, store: &DiskStore<'_, R>) -> Result<String, NoAnswer> {
+/// The lines of the faults so far, with a bar between them.
+fn told<R: Files<File = File>>(
+    alloc: Global,
+    store: &DiskStore<'_, R>,
+) -> Result<String, NoAnswer> {
     let mut told = String::new(alloc);
     for line in store.told()?.lines() {
-        told.push_str("|")?;
-        told.push_str(line)?;
+        if !told.is_empty() {
+            told.push_str(" | ")?;
+        }
+        told.push_str(line.trim_start())?;
     }
     Ok(told)
 }

@@ -120,10 +120,7 @@ fn tell_checkpoint(
     tell_node(alloc, flow, checkpoint.node, told)?;
     let Entries::Totals(totals) = &checkpoint.state.entries;
     let (sent, totals) = (checkpoint.state.sent, totals.as_slice().len());
-    let (front, logged) = (
-        &checkpoint.recorded.front,
-        checkpoint.log.as_slice().len(),
-    );
+    let (front, logged) = (&checkpoint.recorded.front, checkpoint.log.as_slice().len());
     told.push_str(&format!(in alloc; " {front} sent {sent} totals {totals} logged {logged}")?)
 }
 

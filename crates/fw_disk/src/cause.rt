@@ -157,13 +157,19 @@ impl fmt::Display for Trouble {
         match self {
             Trouble::System(error) => write!(f, "{error}"),
             Trouble::Locked => f.write_str("another process works in this folder"),
-            Trouble::Used => f.write_str("a record of an earlier run, and a run wants a folder without records"),
+            Trouble::Used => f.write_str(
+                "a record of an earlier run, and a run wants a folder without records",
+            ),
             Trouble::Moved => f.write_str("not the folder that this run began in"),
             Trouble::Gone => f.write_str("gone"),
             Trouble::Differs(Difference::Short) => f.write_str("too short for its record"),
             Trouble::Differs(Difference::Long) => f.write_str("too long for its record"),
-            Trouble::Differs(Difference::Digest) => f.write_str("its digest is not that of its bytes"),
-            Trouble::Foreign => f.write_str("not the record that this run wrote there, by its digest"),
+            Trouble::Differs(Difference::Digest) => f.write_str(
+                "its digest is not that of its bytes",
+            ),
+            Trouble::Foreign => f.write_str(
+                "not the record that this run wrote there, by its digest",
+            ),
         }
     }
 }

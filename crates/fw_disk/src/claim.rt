@@ -42,10 +42,7 @@ pub(crate) fn locked_empty<R: Files<File = File>>(folder: &Folder<'_, R>) -> Res
     let locked = folder.lock()?;
     match folder.record_names()?.first() {
         None => Ok(locked),
-        Some(name) => Err(Refusal::at(
-            place_named(folder.alloc(), name)?,
-            Trouble::Used,
-        )),
+        Some(name) => Err(Refusal::at(place_named(folder.alloc(), name)?, Trouble::Used)),
     }
 }
 
@@ -133,12 +130,20 @@ impl Claim {
     }
 
     /// The record under an id.
-    pub(crate) fn get<R: Files>(&self, folder: &Folder<'_, R>, id: u64) -> Result<Vec<u8>, Refusal> {
+    pub(crate) fn get<R: Files>(
+        &self,
+        folder: &Folder<'_, R>,
+        id: u64,
+    ) -> Result<Vec<u8>, Refusal> {
         record_of(folder, &self.lines, id)
     }
 
     /// Takes the record under an id away.
-    pub(crate) fn remove<R: Files>(&mut self, folder: &Folder<'_, R>, id: u64) -> Result<(), Refusal> {
+    pub(crate) fn remove<R: Files>(
+        &mut self,
+        folder: &Folder<'_, R>,
+        id: u64,
+    ) -> Result<(), Refusal> {
         folder.remove(Place::Record(id))?;
         self.lines.is_removed(id);
         Ok(())
@@ -154,7 +159,9 @@ pub(crate) fn record_of<R: Files>(
     let place = Place::Record(id);
     let contents = folder.read(place)?;
     match record_in(&contents) {
-        Ok(bytes) if lines.may_stand(id, &Sha256::digest(bytes)) => Ok(bytes.to_vec(folder.alloc())?),
+        Ok(bytes) if lines.may_stand(id, &Sha256::digest(bytes)) => Ok(bytes.to_vec(
+            folder.alloc(),
+        )?),
         Ok(_) => Err(Refusal::at(place, Trouble::Foreign)),
         Err(difference) => Err(Refusal::at(place, Trouble::Differs(difference))),
     }

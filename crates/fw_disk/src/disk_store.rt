@@ -2,12 +2,12 @@
 ghost use Rattle.std.specs.Prelude.{◌≡◌, ℕ, List, [], None, Some, IsOk, IsErr, OnOk, OnErr, option_map};
 ghost use Rattle.fw_outside.specs.Outside.{faults_after};
 
+use crate::Place;
 use crate::cause::{Call, Cause, Fault, Refusal};
 use crate::claim::{Claim, claimed, locked_empty, record_of};
 use crate::contents::contents_of;
 use crate::folder::{Folder, place_named};
 use crate::lines::{Lines, lines_in};
-use crate::Place;
 use fw_outside::{OutFault, Store};
 use sha2::{Digest, Sha256};
 use std::alloc::{AllocError, Global};

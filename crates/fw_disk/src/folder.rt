@@ -100,8 +100,9 @@ impl<'a, R: Files> Folder<'a, R> {
     /// Renames a file, in place of what has the name.
     pub(crate) fn rename(&self, from: Place, to: Place) -> Result<(), Refusal> {
         let (beside, named) = (self.path(from)?, self.path(to)?);
-        fs::rename(self.files, beside.as_str(), named.as_str())
-            .map_err(|error| Refusal::of(to, error))
+        fs::rename(self.files, beside.as_str(), named.as_str()).map_err(|error| Refusal::of(
+            to, error,
+        ))
     }
 
     /// Takes a file away.
@@ -113,8 +114,9 @@ impl<'a, R: Files> Folder<'a, R> {
     /// The bytes of a file.
     pub(crate) fn read(&self, place: Place) -> Result<Vec<u8>, Refusal> {
         let path = self.path(place)?;
-        let mut file = fs::open(self.files, path.as_str())
-            .map_err(|error| Refusal::of_record(place, error))?;
+        let mut file = fs::open(self.files, path.as_str()).map_err(|error| Refusal::of_record(
+            place, error,
+        ))?;
         let mut bytes = Vec::new(self.alloc);
         file.read_to_end(&mut bytes)
             .map_err(|error| Refusal::of_record(place, error))?;
@@ -124,8 +126,10 @@ impl<'a, R: Files> Folder<'a, R> {
     /// Flushes the names of the folder's files to the disk.
     pub(crate) fn flush(&self) -> Result<(), Refusal> {
         let path = self.path(Place::Folder)?;
-        let folder = fs::open(self.files, path.as_str())
-            .map_err(|error| Refusal::of(Place::Folder, error))?;
+        let folder = fs::open(self.files, path.as_str()).map_err(|error| Refusal::of(
+            Place::Folder,
+            error,
+        ))?;
         folder
             .sync_all()
             .map_err(|error| Refusal::of(Place::Folder, error))
@@ -160,8 +164,10 @@ impl<R: Files<File = File>> Folder<'_, R> {
     /// The folder, opened and locked for as long as the handle is there.
     pub(crate) fn lock(&self) -> Result<File, Refusal> {
         let path = self.path(Place::Folder)?;
-        let folder = fs::open(self.files, path.as_str())
-            .map_err(|error| Refusal::of(Place::Folder, error))?;
+        let folder = fs::open(self.files, path.as_str()).map_err(|error| Refusal::of(
+            Place::Folder,
+            error,
+        ))?;
         match folder.try_lock() {
             Ok(()) => Ok(folder),
             Err(TryLockError::WouldBlock) => Err(Refusal::at(Place::Folder, Trouble::Locked)),
@@ -172,8 +178,10 @@ impl<R: Files<File = File>> Folder<'_, R> {
     /// Whether the folder that is there is the one of a handle.
     pub(crate) fn is_that_of(&self, handle: &File) -> Result<bool, Refusal> {
         let path = self.path(Place::Folder)?;
-        let there = fs::metadata(self.files, path.as_str())
-            .map_err(|error| Refusal::of(Place::Folder, error))?;
+        let there = fs::metadata(self.files, path.as_str()).map_err(|error| Refusal::of(
+            Place::Folder,
+            error,
+        ))?;
         let locked = OpenFile::metadata(handle).map_err(|error| Refusal::of(Place::Folder, error))?;
         Ok(is_same_node(&there, &locked))
     }

@@ -1,6 +1,6 @@
 //! The lines of the file `run`: of each record its id and its digest.
-ghost use Rattle.std.specs.Prelude.{◌≡◌, IfOk, string_bytes};
-ghost use Rattle.fw_disk.specs.Lines.{line_of};
+ghost use Rattle.std.specs.Prelude.{◌≡◌, ◌↔◌, IsTrue, IsSome, IfOk, string_bytes};
+ghost use Rattle.fw_disk.specs.Lines.{line_of, digests_of, MayStand};
 
 use hex::FromHex;
 use std::alloc::{AllocError, Global};
@@ -31,12 +31,16 @@ impl Lines {
     }
 
     /// Whether an id has a line.
-    pub(crate) fn has(&self, id: u64) -> bool {
+    pub(crate) fn has(&self, id: u64) -> bool
+        ensures { IsTrue result ↔ IsSome (digests_of self.now.told id) }
+    {
         self.told.contains_key(&id)
     }
 
     /// Whether a record with this digest may stand under an id: it has no line, or this one.
-    pub(crate) fn may_stand(&self, id: u64, digest: &Digest) -> bool {
+    pub(crate) fn may_stand(&self, id: u64, digest: &Digest) -> bool
+        ensures { IsTrue result ↔ MayStand self.now.told id digest.now }
+    {
         match self.told.get(&id) {
             Some(digests) => digests.contains(digest),
             None => true,

@@ -320,3 +320,17 @@ asked-next p old mid new before between after h c l grow a = elim (cases_Bool (i
       (subst (λ (r : Running). IsGrownAt r.flow r.progress.settled r.progress.kept p (Some asks.front)) c asks.grown) asks.asks
   | inr other ↦ skips p old mid new before between after h l other (a.other (ap (λ (r : Running). is_eager (policy_of r.flow p)) c ∙ other))
 ]
+
+-- a node that is asked for checkpoints may call the store
+pub asking-part : {T K : Type 0} (view : K → StoreView) (MayCall : Type 0) (old new : Running) (before after : K) (result : Result T EngineFault) → MayCall
+    → ChangesKeep old new → IsStored new.parts.keep (view after).records → (view after).faults ≡ faults_after result (view before).faults
+    → IsUndamaged result → is_some (view after).records ≡ is_some (view before).records → PartAnswers view MayCall old before result new after
+asking-part view MayCall old new before after result may others stored faults undamaged tells = record {
+  stored = stored;
+  flow = ap (λ (r : Running). r.flow) others;
+  faults = faults;
+  calls = λ e. may;
+  undamaged = undamaged;
+  tells = tells;
+  quiet = λ none. absurd (none may);
+}

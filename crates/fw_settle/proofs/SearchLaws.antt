@@ -196,14 +196,3 @@ pub has_eager : (old mid : Running) (p : ℕ) → ChangesKeep old mid → is_eag
 has_eager old mid p c is = (p, ap (λ (r : Running). is_eager (policy_of r.flow p)) (sym c) ∙ is)
 
 -- ---- faults
-
--- a result of another type with the same fault has it too
-pub same_fault : (A B E : Type 0) (fault other : E) → IsErrOf {T = A} {E = E} (Err fault) other → IsErrOf {T = B} {E = E} (Err fault) other
-same_fault A B E fault other e = ap with_fault (ap fault_in e)
-  where
-    fault_in : Result A E → E
-    fault_in (Ok a) = fault
-    fault_in (Err f) = f
-
-    with_fault : E → Result B E
-    with_fault f = Err f

@@ -1,6 +1,5 @@
 //! A program that embeds the engine: a flow and batches are made in code; in the run nodes write events and checkpoints, some of
-//! that is collected, and two nodes fail and are restored. With the names of three files it takes its flow, batches and schedule
-//! from their texts instead. What nodes write is kept in a store in memory.
+//! that is collected, and two nodes fail and are restored. What nodes write is kept in a store in memory.
 #![tactic(auto)]
 
 ghost use Rattle.std.specs.Prelude.{◌≡◌, false};
@@ -9,18 +8,15 @@ ghost use Rattle.cimboery.specs.Engine.{keep_of, was_refused, StandsFor};
 ghost use Rattle.cimboery.specs.Machine.{Machine};
 ghost use Rattle.cimboery.specs.Stored.{IsStored};
 
-mod files;
 mod shop;
 
-use crate::files::run_of_files;
 use crate::shop::shop;
-use anyhow::{Context, Result, bail, ensure};
+use anyhow::{Context, Result, ensure};
 use cimboery::{
-    Batches, EdgeId, Engine, EngineFault, Flow, Item, MemStore, NodeId, Nodes, Schedule, Stamp,
-    Step, Stepped, Store,
+    Batches, EdgeId, Engine, EngineFault, Flow, MemStore, NodeId, Nodes, Stamp, Step, Stepped,
+    Store,
 };
 use std::alloc::Global;
-use std::env;
 
 fn node(flow: &Flow, name: &str) -> Result<NodeId> {
     flow.node_named(name.as_bytes()).context("no such node")
@@ -95,17 +91,6 @@ impl Run {
                 return Ok(());
             }
             show(rt, self.engine.flow(), &stepped)?;
-        }
-        Ok(())
-    }
-
-    // Takes the steps of a schedule, and prints what they show.
-    fn follow<R: Print>(&mut self, rt: &R, schedule: &Schedule) -> Result<()> {
-        for item in schedule.as_slice() {
-            match item {
-                Item::One(step) => self.take(rt, step)?,
-                Item::Auto(most) => self.go_on(rt, *most)?,
-            }
         }
         Ok(())
     }
@@ -209,18 +194,7 @@ fn ended(run: &mut Run, came: Result<()>) -> Result<()> {
 
 fn main(rt: HostRuntime) -> Result<()> {
     let alloc = rt.alloc();
-    let words: Vec<String> = env::args(&rt)?.skip(1).collect(alloc)?;
-    match words.as_slice() {
-        [] => {
-            let mut run = shop(alloc)?;
-            let came = run_shop(&rt, alloc, &mut run);
-            ended(&mut run, came)
-        }
-        [flow, inputs, schedule] => {
-            let (mut run, schedule) = run_of_files(&rt, alloc, flow, inputs, schedule)?;
-            let came = run.follow(&rt, &schedule);
-            ended(&mut run, came)
-        }
-        _ => bail!("no words, or the files of a flow, of inputs and of a schedule"),
-    }
+    let mut run = shop(alloc)?;
+    let came = run_shop(&rt, alloc, &mut run);
+    ended(&mut run, came)
 }

@@ -3,7 +3,7 @@ ghost use Rattle.std.specs.Prelude.{◌≡◌, ◌↔◌, Option, Ok, IsErrOf, I
 ghost use Rattle.fw_running.specs.Faults.{faults_after};
 ghost use Rattle.fw_border.specs.Outputs.{AreByNumber};
 ghost use Rattle.fw_keep.specs.Stored.{Records, IsStored};
-ghost use Rattle.fw_stands.specs.LawsOfFirstSteps.{NoneToDeliver, NoneToNotify, NoneToSettle, NoneToAcknowledge};
+ghost use Rattle.fw_stands.specs.FirstSteps.{NoneToDeliver, NoneToNotify, NoneToSettle, NoneToAcknowledge};
 ghost use Rattle.fw_running.specs.Kept.{output_of};
 ghost use Rattle.fw_running.specs.Places.{IsFirstWhere, IsTakenOut};
 ghost use Rattle.fw_running.specs.Ready.{CanAcknowledge, CanDeliver, CanInject, IsOwing};

@@ -20,15 +20,15 @@ ghost use Rattle.fw_node.specs.Sends.{sends_list};
 ghost use Rattle.fw_progress.specs.Progress.{CanSend};
 ghost use Rattle.fw_rollback.specs.Tables.{table_at};
 ghost use Rattle.fw_rollback.specs.Edges.{on_edge};
-ghost use Rattle.fw_stands.specs.LawsOfEvents.{asked_of, next_queued};
-ghost use Rattle.fw_running.specs.Kept.{queue_at, table_of, is_down};
+ghost use Rattle.fw_stands.specs.Events.{asked_of, next_queued};
+ghost use Rattle.fw_running.specs.Kept.{queue_at, table_of, is_down, with_tables};
 ghost use Rattle.fw_running.specs.Logging.{ChangesKeep, IsNotAsked, LogsEvent};
 ghost use Rattle.fw_running.specs.Shaped.{IsShaped};
 ghost use Rattle.fw_running.specs.Steps.{PartAnswers, StepAnswers};
 ghost use Rattle.fw_running.specs.Ready.{CanDeliver};
 ghost use Rattle.fw_events.specs.AfterEvent.{TakesEvent};
 ghost use Rattle.fw_events.specs.Sending.{with_queues};
-ghost use Rattle.fw_events.specs.Taking.{with_outputs, with_owing, with_tables, with_told, without_found, HearsOf, KeepsRec, TakesOff, TableTakes, TellsOf};
+ghost use Rattle.fw_events.specs.Taking.{with_outputs, with_owing, with_told, without_found, HearsOf, KeepsRec, TakesOff, TableTakes, TellsOf};
 
 use crate::logging::{log_event, logs_events};
 use crate::sending::{nothing_pending, send};

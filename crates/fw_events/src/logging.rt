@@ -4,9 +4,9 @@ ghost use Rattle.fw_running.specs.Faults.{faults_after};
 ghost use Rattle.fw_time.specs.Stamp.{in_domain};
 ghost use Rattle.fw_flow.specs.declared.kind.Policy.TheVariants as policy;
 ghost use Rattle.fw_flow.specs.Dataflow.{bounds_of, policy_of};
-ghost use Rattle.fw_keep.specs.Entry.{stamp_of};
+ghost use Rattle.fw_record.specs.Event.{stamp_of_event};
 ghost use Rattle.fw_keep.specs.Stored.{IsStored};
-ghost use Rattle.fw_stands.specs.LawsOfEntries.{HasRecOf64Bits};
+ghost use Rattle.fw_stands.specs.Entries.{HasRecOf64Bits};
 ghost use Rattle.fw_running.specs.Shaped.{IsShaped};
 ghost use Rattle.fw_running.specs.Steps.{IsUndamaged};
 ghost use Rattle.fw_running.specs.Logging.{ChangesKeep, IsNotAsked, IsLogged};
@@ -33,7 +33,7 @@ pub(crate) fn log_event<K: Store>(
 ) -> Result<(), EngineFault>
     requires shaped { IsShaped running.old }
     requires stored { IsStored running.old.parts.keep (K.view store.old).records }
-    requires stamp { in_domain (bounds_of running.old.flow node) (stamp_of event) ≡ true }
+    requires stamp { in_domain (bounds_of running.old.flow node) (stamp_of_event event) ≡ true }
     ensures others { ChangesKeep running.old running.new }
     ensures shaped { IsShaped running.new }
     ensures stored { IsStored running.new.parts.keep (K.view store.new).records }

@@ -14,13 +14,13 @@ ghost use Rattle.fw_node.specs.Sends.{sends_list};
 ghost use Rattle.fw_progress.specs.Progress.{CanSend};
 ghost use Rattle.fw_rollback.specs.Tables.{table_at};
 ghost use Rattle.fw_running.specs.BroughtUp.{IsBroughtUp};
-ghost use Rattle.fw_running.specs.Kept.{table_of};
+ghost use Rattle.fw_running.specs.Kept.{table_of, with_tables};
 ghost use Rattle.fw_running.specs.Logging.{ChangesKeep, IsNotAsked, LogsEvent};
 ghost use Rattle.fw_running.specs.Shaped.{IsShaped};
 ghost use Rattle.fw_running.specs.Steps.{PartAnswers, StaysShaped, StepAnswers};
 ghost use Rattle.fw_events.specs.AfterEvent.{TakesEvent};
 ghost use Rattle.fw_events.specs.Noticing.{FindsNotice, TakesNotice};
-ghost use Rattle.fw_events.specs.Taking.{with_tables, with_told, TableTakes, TellsOf};
+ghost use Rattle.fw_events.specs.Taking.{with_told, TableTakes, TellsOf};
 
 use crate::logging::{log_event, logs_events};
 use crate::sending::send;

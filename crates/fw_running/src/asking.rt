@@ -1,7 +1,6 @@
 //! A write is asked.
 ghost use Rattle.std.specs.Prelude.{◌≡◌, OnOk, OnErr};
 ghost use Rattle.fw_running.specs.Faults.{faults_after};
-ghost use Rattle.fw_keep.specs.Entry as entries;
 ghost use Rattle.fw_keep.specs.Stored.{IsStored};
 ghost use Rattle.fw_running.specs.Steps.{IsUndamaged};
 ghost use Rattle.fw_running.specs.Logging.{ChangesKeep, IsAsked, IsNotAsked};
@@ -9,8 +8,7 @@ ghost use Rattle.fw_running.specs.Logging.{ChangesKeep, IsAsked, IsNotAsked};
 use crate::{EngineFault, Running};
 use fw_flow::Stamps;
 use fw_outside::Store;
-use fw_record::{Event, Record};
-use fw_time::Stamp;
+use fw_record::Record;
 
 /// How many ids there are for writes.
 const IDS: u64 = 1 << 63;
@@ -39,14 +37,5 @@ impl Running {
         }
         self.parts.keep.ask(store, what, stamps)?;
         Ok(())
-    }
-}
-
-/// The stamp of an event.
-pub fn stamp_of(event: &Event) -> &Stamp
-    ensures { result.now ≡ entries.stamp_of event.now }
-{
-    match event {
-        Event::Deliver { at, .. } | Event::Notify { at } => at,
     }
 }

@@ -8,7 +8,7 @@ ghost use Rattle.fw_model.specs.Steps as steps_of;
 ghost use Rattle.fw_model.specs.Steps.{last_or};
 ghost use Rattle.fw_flow.specs.declared.step.Step.TheVariants as steps;
 ghost use Rattle.fw_keep.specs.Stored.{IsStored};
-ghost use Rattle.fw_stands.specs.LawsOfEntries.{entry_fronts};
+ghost use Rattle.fw_stands.specs.Entries.{entry_fronts};
 ghost use Rattle.fw_running.specs.Shaped.{IsShaped};
 ghost use Rattle.fw_settle.specs.Checkpoints.{MayTakeCheckpoint};
 ghost use Rattle.fw_running.specs.Steps.{InnerAnswers, StepAnswers};

@@ -1,6 +1,6 @@
 use Rattle.std.proofs.Common.{◌≡◌, Ok, Result, subst, ◌∙◌}
 use Rattle.fw_flow.specs.declared.step.Step.TheVariants.{Progress}
-use Rattle.fw_stands.specs.LawsOfFirstSteps.{NoneToNotify, NoneToSettle}
+use Rattle.fw_stands.specs.FirstSteps.{NoneToNotify, NoneToSettle}
 use Rattle.fw_stands.proofs.TakingLaws.{progress-next}
 use Rattle.fw_running.specs.declared.fault.EngineFault.{EngineFault}
 use Rattle.fw_running.specs.declared.stepped.Stepped.{Stepped}

@@ -1,6 +1,6 @@
 -- The search for the next node that is to settle.
 use Rattle.std.proofs.Common.{◌≡◌, ℕ, ◌+◌, ◌-◌, ◌<◌, ◌≤◌, ◌^◌, true, false, not, ◌&&◌, List, length, get_or, sym, ap, subst, ◌∙◌, inl, inr, arith}
-use Rattle.std.specs.Prelude.{Option, Some, None, Result, Ok, Err, IsErrOf}
+use Rattle.std.specs.Prelude.{Option, Some, None}
 use Rattle.std.specs.List.{Contains}
 use Rattle.std.proofs.lemmas.Bool.{and_parts, both_ways, cases_Bool, cases_lt}
 use Rattle.fw_flow.specs.Dataflow.{policy_of}
@@ -194,5 +194,3 @@ settling-all old new c h =
 -- a node that is eager among what is kept, where the catalogue alone was changed, is one of the flow
 pub has_eager : (old mid : Running) (p : ℕ) → ChangesKeep old mid → is_eager (policy_of mid.flow p) ≡ true → HasEager old.flow
 has_eager old mid p c is = (p, ap (λ (r : Running). is_eager (policy_of r.flow p)) (sym c) ∙ is)
-
--- ---- faults

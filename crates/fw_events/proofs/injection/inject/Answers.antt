@@ -1,9 +1,6 @@
 use Rattle.std.proofs.Common.{◌≡◌, true, false, ap, refl, subst, sym, ◌∙◌}
-use Rattle.fw_flow.specs.declared.step.Step.TheVariants.{Inject}
 use Rattle.fw_flow.specs.Dataflow.{kind_of, is_input_kind}
 use Rattle.fw_keep.specs.Catalogue.{KeepState}
-use Rattle.fw_running.specs.declared.stepped.Effect.TheVariants.{Silent}
-use Rattle.fw_running.specs.declared.stepped.Stepped.TheVariants.{Did, Idle}
 use Rattle.fw_running.specs.Kept.{is_down, source_of}
 use Rattle.fw_running.proofs.StepLaws.{inner-ok}
 use Rattle.fw_events.specs.Taking.{FindsBatch}
@@ -15,17 +12,16 @@ returns-in_default c =
     let old = c.args.running.now in
     let live : is_down old c.args.source ≡ false = sym c.is_failed.ensures ∙ c.if-is_failed.false in
     let input : is_input_kind (kind_of old.flow c.args.source) ≡ true = ap is_input_kind (sym c.kind.ensures) ∙ sym c.is_input.ensures ∙ c.if-not-is_input.false in
-    inner-ok old old (Inject c.args.source) Idle c.requires.shaped refl refl (λ records sys state s trust.
+    inner-ok c.requires.shaped refl refl (λ records sys state s trust.
     none-injects sys old records state c.args.source s live input (subst (FindsBatch (source_of old c.args.source)) c.in_default.is c.in_ok-epoch.ensures))
 
 pub returns : goal.returns
 returns c =
     let old = c.args.running.now in
-    let new = c.inject_batch.new.running in
     let live : is_down old c.args.source ≡ false = sym c.is_failed.ensures ∙ c.if-is_failed.false in
     let input : is_input_kind (kind_of old.flow c.args.source) ≡ true = ap is_input_kind (sym c.kind.ensures) ∙ sym c.is_input.ensures ∙ c.if-not-is_input.false in
     let next = subst (FindsBatch (source_of old c.args.source)) c.in-Some.is c.in_ok-epoch.ensures in
-    inner-ok old new (Inject c.args.source) (Did Silent) c.in_ok-inject_batch.ensures.shaped c.inject_batch.ensures.keep c.inject_batch.ensures.flow
+    inner-ok c.in_ok-inject_batch.ensures.shaped c.inject_batch.ensures.keep c.inject_batch.ensures.flow
     (λ records sys state s trust.
-    injection-follows sys state c.args.source c.in-Some.epoch next.batch old new records records s live input next.next next.injected
+    injection-follows sys state c.args.source c.in-Some.epoch next.batch old c.inject_batch.new.running records records s live input next.next next.injected
     c.in_ok-inject_batch.ensures.takes (record { entries = ap (λ (k : KeepState). k.entries) c.inject_batch.ensures.keep; records = refl }))

@@ -1,7 +1,4 @@
-use Rattle.std.proofs.Common.{◌≡◌, Ok}
 use Rattle.std.proofs.lemmas.Result.{err_from_is_err_and}
-use Rattle.fw_flow.specs.declared.kind.Policy.TheVariants as policy
-use Rattle.fw_flow.specs.Dataflow.{policy_of}
 use Rattle.fw_running.proofs.StepLaws.{part-err, part-later, part-refused}
 use Rattle.fw_events.proofs.NoticingLaws.{notice-done, notice-leaves}
 use Rattle.fw_events.proofs.notification.notify_of.Goals as goal
@@ -13,23 +10,14 @@ returns-in_err-log_notice-clause-takes g c = λ sys state s live enabled.
     c.args.node c.args.at.now c.in_err-log_notice.field-0.0 s c.log_notice.ensures.others c.in_err-log_notice.ensures.stays c.in_err-log_notice.ensures.part.undamaged)
 
 pub returns-in_err-log_notice-clause-part : goal.returns-in_err-log_notice-clause-part
-returns-in_err-log_notice-clause-part g c =
-    let old = c.args.running.now in
-    part-err {T = Unit {0}} g.K.Store.view (policy_of old.flow c.args.node ≡ policy.Full) old c.log_notice.new.running c.args.store.now c.log_notice.new.store
-    c.in_err-log_notice.field-0.0 c.from_residual.result c.in_err-log_notice.ensures.part c.from_residual.ensures.1
+returns-in_err-log_notice-clause-part g c = part-err c.in_err-log_notice.ensures.part c.from_residual.ensures.1
 
 pub returns-in_err-hear-clause-part : goal.returns-in_err-hear-clause-part
 returns-in_err-hear-clause-part g c =
-    let old = c.args.running.now in
-    part-refused g.K.Store.view (policy_of old.flow c.args.node ≡ policy.Full) old c.log_notice.new.running c.hear.new.running c.args.store.now c.log_notice.new.store
-    c.in_ok-log_notice.field-0 c.from_residual-in_err-hear.result c.in_ok-log_notice.ensures.part c.hear.ensures.keep c.hear.ensures.flow
-    c.from_residual-in_err-hear.ensures.1
+    part-refused c.in_ok-log_notice.ensures.part c.hear.ensures.keep c.hear.ensures.flow c.from_residual-in_err-hear.ensures.1
 
 pub returns-clause-part : goal.returns-clause-part
-returns-clause-part g c =
-    let old = c.args.running.now in
-    part-later {T = Unit {0}} g.K.Store.view (policy_of old.flow c.args.node ≡ policy.Full) old c.log_notice.new.running c.hear.new.running c.args.store.now
-    c.log_notice.new.store c.in_ok-log_notice.field-0 (Ok tt) c.in_ok-log_notice.ensures.part c.hear.ensures.keep c.hear.ensures.flow tt (λ e. cc)
+returns-clause-part g c = part-later c.in_ok-log_notice.ensures.part c.hear.ensures.keep c.hear.ensures.flow tt (λ e. cc)
 
 pub returns-clause-takes : goal.returns-clause-takes
 returns-clause-takes g c =

@@ -1,6 +1,5 @@
 use Rattle.std.proofs.Common.{sym, ap, subst, ◌∙◌}
 use Rattle.std.proofs.lemmas.List.{take_all}
-use Rattle.fw_flow.specs.declared.step.Step.TheVariants.{Fail}
 use Rattle.fw_keep.specs.Stored.{IsStored}
 use Rattle.fw_running.specs.declared.running.Running.{Running}
 use Rattle.fw_running.proofs.StepLaws.{inner-refused}
@@ -21,8 +20,7 @@ loop-node-preserved c =
 pub returns-in_err-any : goal.returns-in_err-any
 returns-in_err-any c =
     let h = c.loop-node.invariant in
-    inner-refused c.args.running.now c.fail_if_live.new.running (Fail c.args.nodes.now) c.from_residual.result
-    (λ records held. subst (λ (r : Running). IsStored r.parts.keep records) (sym c.in_err-any.ensures.err) (h.stored records held))
+    inner-refused (λ records held. subst (λ (r : Running). IsStored r.parts.keep records) (sym c.in_err-any.ensures.err) (h.stored records held))
     (ap (λ (r : Running). r.flow) c.in_err-any.ensures.err ∙ h.flow) c.from_residual.ensures.1
 
 pub returns : goal.returns

@@ -1,7 +1,7 @@
 use Rattle.std.proofs.Common.{◌≡◌, ◌+◌, rules, Some, None, Err, ap, refl, subst, ◌∙◌}
 use Rattle.fw_running.specs.declared.running.Running.{Running}
 use Rattle.fw_running.specs.Faults.{faults_after}
-use Rattle.fw_running.specs.Steps.{HasEager}
+use Rattle.fw_running.specs.Steps.{HasEager, PartAnswers}
 use Rattle.fw_running.proofs.StepLaws.{part-err}
 use Rattle.fw_settle.specs.Settling.{IsFoundToSettle}
 use Rattle.fw_settle.proofs.SearchLaws.{HaveAskedUpTo, asking-first, asking-next, asking-all, has_eager, keep-both}
@@ -51,20 +51,17 @@ returns-clause-asked g c =
 
 pub returns-in_err-ask_if_eager-clause-part : goal.returns-in_err-ask_if_eager-clause-part
 returns-in_err-ask_if_eager-clause-part g c =
-    let old = c.args.running.now in
-    let mid = c.loop-next.running in
     let h = c.loop-next.invariant in
-    let node = c.in-Some.node in
-    let e = c.in_err-ask_if_eager.field-0.0 in
     let part = c.in_err-ask_if_eager.ensures.part in
-    part-err {T = Unit {0}} g.K.Store.view (HasEager old.flow) old c.ask_if_eager.new.running c.args.store.now c.ask_if_eager.new.store e c.from_residual.result
-    (record {
+    let eager = has_eager c.args.running.now c.loop-next.running c.in-Some.node h.others in
+    let all : PartAnswers {T = Unit {0}} g.K.Store.view (HasEager c.args.running.now.flow) c.args.running.now c.args.store.now (Err c.in_err-ask_if_eager.field-0.0)
+        c.ask_if_eager.new.running c.ask_if_eager.new.store = record {
       stored = part.stored;
       flow = part.flow ∙ ap (λ (r : Running). r.flow) h.others;
-      faults = part.faults ∙ ap (faults_after {T = Unit {0}} (Err e)) h.faults;
-      calls = λ f. has_eager old mid node h.others (part.calls f);
+      faults = part.faults ∙ ap (faults_after {T = Unit {0}} (Err c.in_err-ask_if_eager.field-0.0)) h.faults;
+      calls = λ f. eager (part.calls f);
       undamaged = part.undamaged;
       tells = part.tells ∙ h.tells;
-      quiet = λ none. part.quiet (λ is. none (has_eager old mid node h.others is)) ∙ h.quiet none;
-    })
-    c.from_residual.ensures.1
+      quiet = λ none. part.quiet (λ is. none (eager is)) ∙ h.quiet none;
+    } in
+    part-err all c.from_residual.ensures.1

@@ -32,19 +32,19 @@ pub(crate) fn log_event<K: Store>(
     store: &mut K,
 ) -> Result<(), EngineFault>
     requires shaped { IsShaped running.old }
-    requires stored { IsStored running.old.parts.keep (K.records store.old) }
+    requires stored { IsStored running.old.parts.keep (K.view store.old).records }
     requires stamp { in_domain (bounds_of running.old.flow node) (stamp_of_event event) ≡ true }
     ensures others { ChangesKeep running.old running.new }
     ensures shaped { IsShaped running.new }
-    ensures stored { IsStored running.new.parts.keep (K.records store.new) }
+    ensures stored { IsStored running.new.parts.keep (K.view store.new).records }
     ensures logged { OnOk result (IsLogged node event running.old.parts.keep.entries running.new.parts.keep.entries
-        (K.records store.old) (K.records store.new)) }
+        (K.view store.old).records (K.view store.new).records) }
     ensures stays { OnErr result (IsNotAsked running.old.parts.keep.entries running.new.parts.keep.entries
-        (K.records store.old) (K.records store.new)) }
-    ensures given { K.given store.new ≡ K.given store.old }
-    ensures faults { K.fault_count store.new ≡ faults_after result (K.fault_count store.old) }
+        (K.view store.old).records (K.view store.new).records) }
+    ensures given { (K.view store.new).given ≡ (K.view store.old).given }
+    ensures faults { (K.view store.new).faults ≡ faults_after result (K.view store.old).faults }
     ensures undamaged { IsUndamaged result }
-    ensures tells { is_some (K.records store.new) ≡ is_some (K.records store.old) }
+    ensures tells { is_some (K.view store.new).records ≡ is_some (K.view store.old).records }
 {
     rec_has_64_bits(&event);
     let what = Record::Event { node, event };

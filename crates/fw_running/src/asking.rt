@@ -21,15 +21,15 @@ impl Running {
         stamps: Stamps,
         store: &mut K,
     ) -> Result<(), EngineFault>
-        requires stored { IsStored self.old.parts.keep (K.records store.old) }
+        requires stored { IsStored self.old.parts.keep (K.view store.old).records }
         ensures others { ChangesKeep self.old self.new }
-        ensures stored { IsStored self.new.parts.keep (K.records store.new) }
+        ensures stored { IsStored self.new.parts.keep (K.view store.new).records }
         ensures asked { OnOk result (IsAsked what.now stamps self.old.parts.keep.entries self.new.parts.keep.entries
-            (K.records store.old) (K.records store.new)) }
+            (K.view store.old).records (K.view store.new).records) }
         ensures stays { OnErr result (IsNotAsked self.old.parts.keep.entries self.new.parts.keep.entries
-            (K.records store.old) (K.records store.new)) }
-        ensures given { K.given store.new ≡ K.given store.old }
-        ensures faults { K.fault_count store.new ≡ faults_after result (K.fault_count store.old) }
+            (K.view store.old).records (K.view store.new).records) }
+        ensures given { (K.view store.new).given ≡ (K.view store.old).given }
+        ensures faults { (K.view store.new).faults ≡ faults_after result (K.view store.old).faults }
         ensures undamaged { IsUndamaged result }
     {
         if self.parts.keep.next_id() >= IDS {

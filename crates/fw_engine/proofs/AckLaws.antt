@@ -11,7 +11,7 @@ use Rattle.fw_keep.specs.Stored.{Records}
 use Rattle.fw_model.specs.Machine.{Machine, front_of}
 use Rattle.fw_model.specs.Steps.{acked, did, LeadsTo}
 use Rattle.fw_model.specs.Auto.{IsIdle}
-use Rattle.fw_stands.specs.Acknowledging.{acknowledged_state}
+use Rattle.fw_stands.specs.Acknowledging.{acknowledged_state, CanAcknowledgeIn}
 use Rattle.fw_stands.proofs.AcknowledgementLaws.{nothing_kept-idle, kept-acknowledged, acknowledged-stands, acknowledgement-keeps}
 use Rattle.fw_stands.proofs.EntrySteps.{entries_after_step, records_after_step}
 use Rattle.fw_stands.proofs.AtReached.{reached-next}

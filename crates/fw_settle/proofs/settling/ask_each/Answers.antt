@@ -55,7 +55,7 @@ returns-in_err-ask_if_eager-clause-part g c =
     let part = c.in_err-ask_if_eager.ensures.part in
     let eager = has_eager c.args.running.now c.loop-next.running c.in-Some.node h.others in
     let all : PartAnswers {T = Unit {0}} g.K.Store.view (HasEager c.args.running.now.flow) c.args.running.now c.args.store.now (Err c.in_err-ask_if_eager.field-0.0)
-        c.ask_if_eager.new.running c.ask_if_eager.new.store = record {
+    c.ask_if_eager.new.running c.ask_if_eager.new.store = record {
       stored = part.stored;
       flow = part.flow ∙ ap (λ (r : Running). r.flow) h.others;
       faults = part.faults ∙ ap (faults_after {T = Unit {0}} (Err c.in_err-ask_if_eager.field-0.0)) h.faults;

@@ -4,7 +4,7 @@ use Rattle.fw_stands.specs.FirstSteps.{NoneToNotify, NoneToSettle}
 use Rattle.fw_stands.proofs.TakingLaws.{progress-next}
 use Rattle.fw_running.specs.declared.fault.EngineFault.{EngineFault}
 use Rattle.fw_running.specs.declared.stepped.Stepped.{Stepped}
-use Rattle.fw_running.specs.Steps.{TakesStep}
+use Rattle.fw_running.specs.Steps.{StepAnswers, TakesStep}
 use Rattle.fw_running.proofs.StepLaws.{part-err, part-may, part-on, step-part}
 use Rattle.fw_engine.specs.Searching.{TakesFirstAfter}
 use Rattle.fw_engine.proofs.QuietLaws.{progress-may_call}
@@ -48,7 +48,10 @@ returns-in_err-effect-clause-part g c =
 
 pub returns-in-Did-clause-part : goal.returns-in-Did-clause-part
 returns-in-Did-clause-part g c =
-    part-may (progress-may_call c.args.running.now.flow) (step-part refl (rw c.in-Did.is at c.in_ok-effect.ensures))
+    let old = c.args.running.now in
+    part-may (progress-may_call old.flow) (step-part refl
+    (subst (λ (stepped : Stepped). StepAnswers g.K.Store.view old c.args.store.now Progress (Ok stepped) c.progress.new.running c.progress.new.store) c.in-Did.is
+    c.in_ok-effect.ensures))
 
 pub returns-in-Idle-clause-part : goal.returns-in-Idle-clause-part
 returns-in-Idle-clause-part g c =

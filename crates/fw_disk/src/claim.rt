@@ -1,4 +1,8 @@
 //! The folder as one run has it.
+ghost use Rattle.std.specs.Prelude.{◌≡◌, [], ◌∷◌, Some, IfOk, OnOk};
+ghost use Rattle.sha2.specs.Sha256.{sha256};
+ghost use Rattle.fw_disk.specs.Lines.{digests_of, MayStand};
+
 use crate::cause::{Place, Refusal, Trouble};
 use crate::contents::record_in;
 use crate::folder::{Folder, place_named};
@@ -72,7 +76,9 @@ impl Claim {
         id: u64,
         digest: Digest,
         contents: &[u8],
-    ) -> Result<(), Refusal> {
+    ) -> Result<(), Refusal>
+        ensures stands { OnOk result (digests_of self.new.lines.told id ≡ Some (digest ∷ [])) }
+    {
         if self.lines.are_mostly_gone() {
             write_run(folder, self.lines.text()?.as_bytes())?;
             self.lines.forget_gone();
@@ -97,7 +103,9 @@ impl Claim {
         digest: &Digest,
         has_line: bool,
         contents: &[u8],
-    ) -> Result<(), Refusal> {
+    ) -> Result<(), Refusal>
+        ensures lines { self.new.lines ≡ self.old.lines }
+    {
         // one that an earlier program left may be a second name of the record, so it is taken away and not written into
         let _ = folder.remove(Place::Beside(id));
         folder.make(Place::Beside(id), contents)?;
@@ -117,7 +125,9 @@ impl Claim {
         id: u64,
         digest: &Digest,
         has_line: bool,
-    ) -> Result<(), Refusal> {
+    ) -> Result<(), Refusal>
+        ensures lines { self.new.lines ≡ self.old.lines }
+    {
         let mut text = String::new(folder.alloc());
         if self.is_cut {
             text.push('\n')?;
@@ -134,7 +144,9 @@ impl Claim {
         &self,
         folder: &Folder<'_, R>,
         id: u64,
-    ) -> Result<Vec<u8>, Refusal> {
+    ) -> Result<Vec<u8>, Refusal>
+        ensures { IfOk result (λ bytes. MayStand self.now.lines.told id (sha256 bytes.items)) }
+    {
         record_of(folder, &self.lines, id)
     }
 
@@ -155,7 +167,9 @@ pub(crate) fn record_of<R: Files>(
     folder: &Folder<'_, R>,
     lines: &Lines,
     id: u64,
-) -> Result<Vec<u8>, Refusal> {
+) -> Result<Vec<u8>, Refusal>
+    ensures { IfOk result (λ bytes. MayStand lines.now.told id (sha256 bytes.items)) }
+{
     let place = Place::Record(id);
     let contents = folder.read(place)?;
     match record_in(&contents) {

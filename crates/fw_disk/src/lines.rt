@@ -1,5 +1,5 @@
 //! The lines of the file `run`: of each record its id and its digest.
-ghost use Rattle.std.specs.Prelude.{◌≡◌, ◌↔◌, IsTrue, IsSome, IfOk, string_bytes};
+ghost use Rattle.std.specs.Prelude.{◌≡◌, ◌↔◌, ℕ, List, [], ◌∷◌, Some, None, IsTrue, IsSome, IfOk, OnOk, OnErr, unwrap_or, string_bytes};
 ghost use Rattle.fw_disk.specs.Lines.{line_of, digests_of, MayStand};
 
 use hex::FromHex;
@@ -22,7 +22,9 @@ pub struct Lines {
 
 impl Lines {
     /// No line.
-    pub(crate) fn new(alloc: Global) -> Self {
+    pub(crate) fn new(alloc: Global) -> Self
+        ensures { (id : ℕ) → digests_of result.told id ≡ None }
+    {
         Lines {
             alloc,
             told: BTreeMap::new(alloc),
@@ -48,9 +50,13 @@ impl Lines {
     }
 
     /// A record with this digest may stand under an id from now on.
-    pub(crate) fn add(&mut self, id: u64, digest: Digest) -> Result<(), AllocError> {
+    pub(crate) fn add(&mut self, id: u64, digest: Digest) -> Result<(), AllocError>
+        ensures added { OnOk result (digests_of self.new.told id ≡ Some (digest ∷ unwrap_or (digests_of self.old.told id) [])) }
+        ensures refused { OnErr result (digests_of self.new.told id ≡ digests_of self.old.told id) }
+        ensures others { (other : ℕ) → (other ≡ id → ⊥) → digests_of self.new.told other ≡ digests_of self.old.told other }
+    {
         if let Some(digests) = self.told.get_mut(&id) {
-            digests.push(digest)?;
+            digests.insert(0, digest)?;
             return Ok(());
         }
         let mut digests = Vec::new(self.alloc);
@@ -60,29 +66,38 @@ impl Lines {
     }
 
     /// The record that was added last stands under its id, and no other can.
-    pub(crate) fn last_stands(&mut self, id: u64) {
+    pub(crate) fn last_stands(&mut self, id: u64)
+        ensures last { (digest : List ℕ) (before : List (List ℕ)) → digests_of self.old.told id ≡ Some (digest ∷ before)
+            → digests_of self.new.told id ≡ Some (digest ∷ []) }
+        ensures others { (other : ℕ) → (other ≡ id → ⊥) → digests_of self.new.told other ≡ digests_of self.old.told other }
+    {
         if let Some(digests) = self.told.get_mut(&id) {
-            let count = digests.len();
-            if count > 1 {
-                digests.swap(0, count - 1);
-                digests.truncate(1);
-            }
+            digests.truncate(1);
         }
     }
 
     /// The record that was added last was not put under its id.
-    pub(crate) fn last_is_refused(&mut self, id: u64) {
+    pub(crate) fn last_is_refused(&mut self, id: u64)
+        ensures last { (digest : List ℕ) (before : List (List ℕ)) → digests_of self.old.told id ≡ Some (digest ∷ before)
+            → digests_of self.new.told id ≡ Some before }
+        ensures others { (other : ℕ) → (other ≡ id → ⊥) → digests_of self.new.told other ≡ digests_of self.old.told other }
+    {
+        self.gone = self.gone.saturating_add(1);
         if let Some(digests) = self.told.get_mut(&id) {
-            let _ = digests.pop();
-            self.gone = self.gone.saturating_add(1);
+            if !digests.is_empty() {
+                let _ = digests.remove(0);
+            }
         }
     }
 
     /// No record stands under an id any more.
-    pub(crate) fn is_removed(&mut self, id: u64) {
+    pub(crate) fn is_removed(&mut self, id: u64)
+        ensures none { IsSome (digests_of self.old.told id) → digests_of self.new.told id ≡ Some [] }
+        ensures others { (other : ℕ) → (other ≡ id → ⊥) → digests_of self.new.told other ≡ digests_of self.old.told other }
+    {
+        self.gone = self.gone.saturating_add(1);
         if let Some(digests) = self.told.get_mut(&id) {
             digests.clear();
-            self.gone = self.gone.saturating_add(1);
         }
     }
 

@@ -5,6 +5,7 @@
 
 mod show;
 
+use fw_command::{JobFault, fetch_flow};
 use fw_disk::{Cause, DiskStore};
 use fw_outside::{FileFolder, Sink, StreamSink};
 use fw_run::{Status, falkirk};
@@ -115,7 +116,7 @@ fn tell_cause<R: Files, N: Sink>(
     Ok(())
 }
 
-// Shows what each file of the folder is.
+// Shows what each file of the folder is, with the names of the flow in this file.
 fn show_folder<N: Sink>(
     rt: &HostRuntime,
     store: &DiskStore<'_, HostRuntime>,
@@ -123,12 +124,19 @@ fn show_folder<N: Sink>(
     notes: &mut N,
 ) -> Status {
     let alloc = rt.alloc();
-    let mut texts = FileFolder::new(rt);
+    let flow = match flow {
+        None => None,
+        Some(name) => match fetch_flow(alloc, &mut FileFolder::new(rt), name) {
+            Ok(flow) => Some(flow),
+            Err(fault) => return tell_status(alloc, status_of_job(fault), notes),
+        },
+    };
     let mut out = StreamSink::new(rt.stdout());
-    match show(alloc, store, &mut texts, flow, &mut out) {
+    match show(alloc, store, flow.as_ref(), &mut out) {
         Ok(true) => Status::Done,
         Ok(false) => tell_status(alloc, Status::StoreFault, notes),
-        Err(ShowFault::Ended(status)) => tell_status(alloc, status, notes),
+        Err(ShowFault::Out) => tell_status(alloc, Status::WriteFault, notes),
+        Err(ShowFault::NoMemory) => out_of_memory(notes),
         Err(ShowFault::Store(cause)) => {
             let status = tell_status(alloc, Status::StoreFault, notes);
             if rt.stderr().is_terminal() {
@@ -136,6 +144,15 @@ fn show_folder<N: Sink>(
             }
             status
         }
+    }
+}
+
+// The status that tells why a flow was not read.
+fn status_of_job(fault: JobFault) -> Status {
+    match fault {
+        JobFault::Failed => Status::ReadFault,
+        JobFault::Refused(refusal) => Status::Refused(refusal),
+        JobFault::NoMemory => Status::NoMemory,
     }
 }
 

@@ -1,87 +1,74 @@
 //! The word `show`: what each file of a folder is.
-use fw_command::{JobFault, fetch_flow};
 use fw_disk::{Cause, Difference, DiskStore, Refusal, Trouble};
 use fw_flow::{Flow, NodeId};
 use fw_frontier::Entries;
-use fw_outside::{Folder, OutFault, Sink};
+use fw_outside::{OutFault, Sink};
 use fw_record::{Checkpoint, Event, Record, RecordFault, decode};
-use fw_run::Status;
 use std::alloc::{AllocError, Global};
 use std::fmt;
 use std::rt::Files;
 
 /// Why not all was shown.
+#[derive(Clone, Copy)]
 pub enum ShowFault {
-    /// It ends with this status.
-    Ended(Status),
+    /// The output failed.
+    Out,
     /// The store's folder could not be read.
     Store(Cause),
+    /// Memory was refused.
+    NoMemory,
 }
 
 impl From<AllocError> for ShowFault {
     fn from(_: AllocError) -> Self {
-        ShowFault::Ended(Status::NoMemory)
+        ShowFault::NoMemory
     }
 }
 
 impl From<OutFault> for ShowFault {
     fn from(fault: OutFault) -> Self {
-        ShowFault::Ended(match fault {
-            OutFault::Failed => Status::WriteFault,
-            OutFault::NoMemory => Status::NoMemory,
-        })
+        match fault {
+            OutFault::Failed => ShowFault::Out,
+            OutFault::NoMemory => ShowFault::NoMemory,
+        }
     }
 }
 
 impl From<Refusal> for ShowFault {
     fn from(refusal: Refusal) -> Self {
         match refusal {
-            Refusal::NoMemory => ShowFault::Ended(Status::NoMemory),
+            Refusal::NoMemory => ShowFault::NoMemory,
             Refusal::Failed(cause) => ShowFault::Store(cause),
         }
     }
 }
 
-impl From<JobFault> for ShowFault {
-    fn from(fault: JobFault) -> Self {
-        ShowFault::Ended(match fault {
-            JobFault::Failed => Status::ReadFault,
-            JobFault::Refused(refusal) => Status::Refused(refusal),
-            JobFault::NoMemory => Status::NoMemory,
-        })
-    }
-}
-
-/// Shows what each file is that is named by digits alone, a line for each. Nodes are told by the names that the flow of this
-/// text has, and else by their numbers. Whether all are records.
-pub fn show<R: Files, F: Folder, O: Sink>(
+/// Shows what each file is that is named by digits alone, a line for each. Nodes are told by the names that the flow has, and
+/// without one by their numbers. Whether all are records.
+pub fn show<R: Files, O: Sink>(
     alloc: Global,
     store: &DiskStore<'_, R>,
-    texts: &mut F,
-    flow: Option<&str>,
+    flow: Option<&Flow>,
     out: &mut O,
 ) -> Result<bool, ShowFault> {
-    let flow = match flow {
-        Some(name) => Some(fetch_flow(alloc, texts, name)?),
-        None => None,
-    };
     let lines = store.lines()?;
     let mut are_all = true;
     for name in &store.record_names()? {
         let mut told = format!(in alloc; "{name} ")?;
-        match store.record_named(&lines, name) {
-            Ok(Some(bytes)) => are_all &= tell_bytes(alloc, flow.as_ref(), &bytes, &mut told)?,
+        let is_record = match store.record_named(&lines, name) {
+            Ok(Some(bytes)) => tell_bytes(alloc, flow, &bytes, &mut told)?,
             Ok(None) => {
-                are_all = false;
                 told.push_str("no record: name")?;
+                false
             }
             Err(Refusal::Failed(cause)) => {
-                are_all = false;
                 let word = Word(&cause.trouble);
                 told.push_str(&format!(in alloc; "no record: {word}")?)?;
+                false
             }
-            Err(Refusal::NoMemory) => return Err(ShowFault::Ended(Status::NoMemory)),
-        }
+            Err(Refusal::NoMemory) => return Err(ShowFault::NoMemory),
+        };
+        are_all = are_all && is_record;
         told.push('\n')?;
         out.write(told.as_bytes())?;
     }

@@ -1,7 +1,7 @@
 //! The folder as one run has it.
-ghost use Rattle.std.specs.Prelude.{◌≡◌, [], ◌∷◌, Some, IfOk, OnOk};
+ghost use Rattle.std.specs.Prelude.{◌≡◌, ℕ, [], ◌∷◌, Some, IfOk, OnOk, IsSome};
 ghost use Rattle.sha2.specs.Sha256.{sha256};
-ghost use Rattle.fw_disk.specs.Lines.{digests_of, MayStand};
+ghost use Rattle.fw_disk.specs.Lines.{digests_of, digests_in, MayStand};
 
 use crate::cause::{Place, Refusal, Trouble};
 use crate::contents::record_in;
@@ -21,24 +21,25 @@ pub(crate) struct Claim {
     is_cut: bool,
 }
 
-/// The claim that a run has on its folder, which it makes if it has none yet.
-pub(crate) fn claimed<'c, R: Files<File = File>>(
+/// Sees to it that a run has a claim on its folder: that which it has, or one that it makes now. Its lines are the same.
+pub(crate) fn claim_folder<R: Files<File = File>>(
     folder: &Folder<'_, R>,
-    claim: &'c mut Option<Claim>,
-) -> Result<&'c mut Claim, Refusal> {
+    claim: &mut Option<Claim>,
+) -> Result<(), Refusal>
+    ensures claimed { OnOk result (IsSome claim.new) }
+    ensures stay { (id : ℕ) → digests_in claim.new id ≡ digests_in claim.old id }
+{
     if let Some(claim) = claim {
-        if folder.is_that_of(&claim.locked)? {
-            return Ok(claim);
-        }
-        return Err(Refusal::at(Place::Folder, Trouble::Moved));
+        return claim.check(folder);
     }
     let locked = locked_empty(folder)?;
     write_run(folder, &[])?;
-    Ok(claim.insert(Claim {
+    *claim = Some(Claim {
         locked,
         lines: Lines::new(folder.alloc()),
         is_cut: false,
-    }))
+    });
+    Ok(())
 }
 
 /// The folder, locked, where it holds no record.
@@ -68,6 +69,15 @@ fn write_beside<R: Files>(folder: &Folder<'_, R>, text: &[u8]) -> Result<(), Ref
 }
 
 impl Claim {
+    // Whether the folder is still the locked one.
+    fn check<R: Files<File = File>>(&self, folder: &Folder<'_, R>) -> Result<(), Refusal> {
+        if folder.is_that_of(&self.locked)? {
+            Ok(())
+        } else {
+            Err(Refusal::at(Place::Folder, Trouble::Moved))
+        }
+    }
+
     /// Puts a record under a new id, with its line in `run` first. Where it is refused this record does not stand there, unless
     /// its file can't be removed again.
     pub(crate) fn put<R: Files>(
@@ -140,11 +150,7 @@ impl Claim {
     }
 
     /// The record under an id.
-    pub(crate) fn get<R: Files>(
-        &self,
-        folder: &Folder<'_, R>,
-        id: u64,
-    ) -> Result<Vec<u8>, Refusal>
+    pub(crate) fn get<R: Files>(&self, folder: &Folder<'_, R>, id: u64) -> Result<Vec<u8>, Refusal>
         ensures { IfOk result (λ bytes. MayStand self.now.lines.told id (sha256 bytes.items)) }
     {
         record_of(folder, &self.lines, id)
@@ -155,7 +161,10 @@ impl Claim {
         &mut self,
         folder: &Folder<'_, R>,
         id: u64,
-    ) -> Result<(), Refusal> {
+    ) -> Result<(), Refusal>
+        ensures none { OnOk result (IsSome (digests_of self.old.lines.told id) → digests_of self.new.lines.told id ≡ Some []) }
+        ensures others { (other : ℕ) → (other ≡ id → ⊥) → digests_of self.new.lines.told other ≡ digests_of self.old.lines.told other }
+    {
         folder.remove(Place::Record(id))?;
         self.lines.is_removed(id);
         Ok(())

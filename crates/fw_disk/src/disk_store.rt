@@ -1,10 +1,12 @@
 //! The store.
-ghost use Rattle.std.specs.Prelude.{◌≡◌, ℕ, List, [], None, Some, IsOk, IsErr, OnOk, OnErr, option_map};
+ghost use Rattle.std.specs.Prelude.{◌≡◌, ℕ, List, [], ◌∷◌, None, Some, IsOk, IsErr, IsSome, IfOk, OnOk, OnErr, option_map};
+ghost use Rattle.sha2.specs.Sha256.{sha256};
+ghost use Rattle.fw_disk.specs.Lines.{digests_in, MayStandIn};
 ghost use Rattle.fw_outside.specs.Outside.{faults_after};
 
 use crate::Place;
 use crate::cause::{Call, Cause, Fault, Refusal};
-use crate::claim::{Claim, claimed, locked_empty, record_of};
+use crate::claim::{Claim, claim_folder, locked_empty, record_of};
 use crate::contents::contents_of;
 use crate::folder::{Folder, place_named};
 use crate::lines::{Lines, lines_in};
@@ -155,20 +157,30 @@ impl<R: Files<File = File>> DiskStore<'_, R> {
 
     // Puts a record under a new id.
     fn put_new(&mut self, id: u64, bytes: &[u8]) -> Result<(), Refusal>
+        ensures stands { OnOk result (digests_in self.new.claim id ≡ Some (sha256 bytes.now ∷ [])) }
         ensures faults { self.new.faults ≡ self.old.faults }
         ensures given { self.new.given ≡ self.old.given }
     {
         let contents = contents_of(self.alloc, bytes)?;
-        let claim = claimed(&self.folder, &mut self.claim)?;
-        claim.put(&self.folder, id, Sha256::digest(bytes), &contents)
+        claim_folder(&self.folder, &mut self.claim)?;
+        match &mut self.claim {
+            Some(claim) => claim.put(&self.folder, id, Sha256::digest(bytes), &contents),
+            None => unreachable!(),
+        }
     }
 
     // The record under an id.
     fn read(&mut self, id: u64) -> Result<Vec<u8>, Refusal>
+        ensures may_stand { IfOk result (λ bytes. MayStandIn self.old.claim id (sha256 bytes.items)) }
+        ensures stay { (other : ℕ) → digests_in self.new.claim other ≡ digests_in self.old.claim other }
         ensures faults { self.new.faults ≡ self.old.faults }
         ensures given { self.new.given ≡ self.old.given }
     {
-        claimed(&self.folder, &mut self.claim)?.get(&self.folder, id)
+        claim_folder(&self.folder, &mut self.claim)?;
+        match &self.claim {
+            Some(claim) => claim.get(&self.folder, id),
+            None => unreachable!(),
+        }
     }
 
     // Puts the record under an id into an empty list, and notes that it was given.
@@ -185,10 +197,16 @@ impl<R: Files<File = File>> DiskStore<'_, R> {
 
     // Takes the record under an id out.
     fn take_out(&mut self, id: u64) -> Result<(), Refusal>
+        ensures none { OnOk result (IsSome (digests_in self.old.claim id) → digests_in self.new.claim id ≡ Some []) }
+        ensures others { (other : ℕ) → (other ≡ id → ⊥) → digests_in self.new.claim other ≡ digests_in self.old.claim other }
         ensures faults { self.new.faults ≡ self.old.faults }
         ensures given { self.new.given ≡ self.old.given }
     {
-        claimed(&self.folder, &mut self.claim)?.remove(&self.folder, id)
+        claim_folder(&self.folder, &mut self.claim)?;
+        match &mut self.claim {
+            Some(claim) => claim.remove(&self.folder, id),
+            None => unreachable!(),
+        }
     }
 }
 
@@ -199,15 +217,15 @@ impl<R: Files<File = File>> Store for DiskStore<'_, R> {
       faults = store.faults;
     } };
 
-    /// Writes the record into a new file. A file that is there under the id, or a folder that is not there, is a fault. After
+    /// Writes the record into a new file, and its line into `run` first. A file that is there under the id is a fault. After
     /// a refusal what stood under the id stands there still, and else nothing, unless the new file can't be removed again.
     fn put(&mut self, id: u64, bytes: &[u8]) -> Result<(), OutFault> {
         let put = self.put_new(id, bytes);
         self.answer(Call::Put, id, put)
     }
 
-    /// Reads the record of a file. One that is not there, is too short or too long for its length, or has another digest is a
-    /// fault.
+    /// Reads the record of a file. One that is not there, is too short or too long for its length, has another digest, or is
+    /// not the one that was put there is a fault.
     fn get(&mut self, id: u64, into: &mut Vec<u8>) -> Result<(), OutFault> {
         into.clear();
         let got = self.read_into(id, into);

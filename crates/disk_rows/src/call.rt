@@ -59,6 +59,7 @@ fn answer<R: Files<File = File>>(
             let removed = store.remove(first.parse::<u64>()?);
             became(alloc, store, removed)
         }
+        "many" => many(alloc, store, first.parse::<u64>()?, words.parse::<u64>()?),
         "other" => other(alloc, files, folder, first.parse::<u64>()?),
         "told" => told(alloc, store),
         "file" => file(alloc, files, first),
@@ -95,6 +96,26 @@ fn got<R: Files<File = File>>(
     let mut told = became(alloc, store, answer)?;
     show(alloc, &into, &mut told)?;
     Ok(told)
+}
+
+/// What becomes of records without bytes that are put and removed under so many ids, up to the first refusal.
+fn many<K: Store>(
+    alloc: Global,
+    store: &mut K,
+    first: u64,
+    count: u64,
+) -> Result<String, NoAnswer> {
+    let mut done = Ok(());
+    for id in first..first.saturating_add(count) {
+        done = store.put(id, &[]);
+        if done.is_ok() {
+            done = store.remove(id);
+        }
+        if done.is_err() {
+            break;
+        }
+    }
+    became(alloc, store, done)
 }
 
 /// What becomes of a put of no bytes by another store over the folder.

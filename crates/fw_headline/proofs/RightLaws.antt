@@ -8,7 +8,7 @@ use Rattle.fw_flow.specs.WellFormed.{IsWellFormedSystem}
 use Rattle.fw_headline.proofs.RunLaws.{one-run}
 use Rattle.fw_headline.specs.Right.{IsAllThere, IsRight, EveryRunIsRight}
 use Rattle.fw_model.proofs.ChoosingLaws.{kept-is_ever, recovery-has_choice, failed-recovered, reached-one_next, never-falls}
-use Rattle.fw_model.proofs.DenotationLaws.{denotation-exists}
+use Rattle.fw_model.proofs.DenotationLaws.{denotation-exists, denotation-only}
 use Rattle.fw_model.proofs.DomainLaws.{has_epochs}
 use Rattle.fw_model.proofs.ForgottenLaws.{collected-below}
 use Rattle.fw_model.proofs.LargestLaws.{largest-exists}
@@ -94,6 +94,7 @@ run-right sys w steps outcomes state r = record {
 pub runs-right : EveryRunIsRight
 runs-right sys w = record {
   denotation = (rounds sys (enough_rounds sys.flow), denotation-exists sys w.flow);
+  no_other = λ one other. denotation-only sys one other w.flow;
   one_run = one-run sys w;
   right = run-right sys w;
 }

@@ -82,8 +82,10 @@ pub record IsTheRun (sys : System) (steps : List Step) (outcomes : List Outcome)
 
 -- what is true of all that a system may do
 pub record RunsRight (sys : System) : Type 0 where
-  -- there is a denotation
+  -- the dataflow has a denotation
   pub denotation : (family : Family) × IsDenotation sys family
+  -- and no other
+  pub no_other : (one other : Family) → IsDenotation sys one → IsDenotation sys other → (e : ℕ) → one e ≡ other e
   -- each list of steps, enabled or not, has exactly one run
   pub one_run : (steps : List Step) → (outcomes : List Outcome) × (state : Machine) × IsTheRun sys steps outcomes state
   -- and all is right where it ends

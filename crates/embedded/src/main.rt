@@ -32,10 +32,10 @@ struct Run {
     engine: Engine,
     store: MemStore,
     // The store holds what the engine's catalogue names.
-    ghost stored: { IsStored (keep_of engine) (⟦<MemStore as Store>⟧.records store) },
+    ghost stored: { IsStored (keep_of engine) (⟦<MemStore as Store>⟧.view store).records },
     // It is a real run: unless memory was refused, the engine stands for a state that the machine reaches.
     ghost stands: { ∥ (was_refused engine ≡ false
-        → (sys : System) × (state : Machine) × StandsFor sys engine (⟦<MemStore as Store>⟧.records store) state) ∥₁ },
+        → (sys : System) × (state : Machine) × StandsFor sys engine (⟦<MemStore as Store>⟧.view store).records state) ∥₁ },
 }
 
 impl Run {

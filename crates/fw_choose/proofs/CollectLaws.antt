@@ -46,15 +46,15 @@ use Rattle.fw_progress.specs.Trace.{HaveLists, AreSettledTo}
 use Rattle.fw_progress.proofs.CutTraceLaws.{thinned-traces}
 use Rattle.fw_rollback.specs.declared.parts.Parts.{Parts}
 use Rattle.fw_rollback.specs.Edges.{IsOnEdge, on_edge, nothing_there}
-use Rattle.fw_stands.specs.LawsOfCollecting.{collected_state}
-use Rattle.fw_stands.specs.LawsOfSettling.{AreSettledAt}
+use Rattle.fw_stands.specs.Collecting.{collected_state}
+use Rattle.fw_stands.specs.Settling.{AreSettledAt}
 use Rattle.fw_stands.specs.Parts.{IsSourceOf}
 use Rattle.fw_stands.specs.Written.{AreEntriesOf, AreStored, uncollected}
 use Rattle.fw_stands.proofs.CollectingLaws.{same_low-idle, other_low-collected, low-rises, collected_logs-stand, collected_sources-stand, all_collected_traces-stand, collection-keeps}
 use Rattle.fw_stands.proofs.EntryCollections.{entries_after_collection, records_after_collection}
 use Rattle.fw_stands.proofs.EntrySteps.{kept_bytes_are_stored}
 use Rattle.fw_stands.proofs.SettlingLaws.{none-settled_yet, one_more-settled, same_nodes-settled}
-use Rattle.fw_stands.proofs.StayingLaws.{steps-stay_reached}
+use Rattle.fw_stands.proofs.AtReached.{reached-next}
 use Rattle.fw_time.specs.declared.stamp.Bounds.{Bounds}
 use Rattle.fw_time.proofs.EachLaws.{each-kept}
 use Rattle.fw_running.specs.declared.running.Running.{Running}
@@ -275,7 +275,7 @@ after-stands sys state old records between choice traces drops planned0 g t0 is 
     record {
       flow = s.flow;
       well_formed = s.well_formed;
-      reached = steps-stay_reached sys state next Collect (did (lows choice)) s.reached leads;
+      reached = reached-next sys state next Collect (did (lows choice)) s.reached leads;
       settled = s.settled;
       failed = s.failed;
       low = refl;

@@ -37,28 +37,23 @@ use Rattle.fw_model.proofs.ThinnedLaws.{each-contained}
 use Rattle.fw_policy.specs.declared.view.Border.{Border}
 use Rattle.fw_policy.specs.declared.view.Border.TheVariants.{Inner, Source, Output}
 use Rattle.fw_policy.specs.declared.view.NodeView.{NodeView}
-use Rattle.fw_policy.specs.declared.view.Entry.{Entry as Told}
-use Rattle.fw_policy.specs.Shaped.{FitsKind, AreStampsAt, IsViewFor, AreViewsFrom, FitsFlow}
-use Rattle.fw_policy.specs.Shaped as shaped
-use Rattle.fw_policy.specs.View.{IsBorderOf, IsLostAt, IsNodeViewOf, AreNodeViewsFrom, IsViewOf, AreEntriesOf, base_of}
+use Rattle.fw_policy.specs.Entries.{AreEntriesOf, uncollected}
+use Rattle.fw_record.specs.OfNode.{AreOfDomain}
+use Rattle.fw_policy.specs.Shaped.{FitsKind, IsWrittenOf, IsViewFor, AreViewsFrom, FitsFlow}
+use Rattle.fw_policy.specs.View.{IsBorderOf, IsLostAt, IsNodeViewOf, AreNodeViewsFrom, IsViewOf, base_of}
 use Rattle.fw_keep.specs.declared.entry.Entry.{Entry}
-use Rattle.fw_keep.specs.declared.entry.Written.{Written}
-use Rattle.fw_keep.specs.declared.entry.Written.TheVariants as written
 use Rattle.fw_keep.specs.Stored.{Records}
 use Rattle.fw_progress.specs.Counts.{sent_of}
 use Rattle.fw_progress.specs.Trace.{IsTraceOf}
 use Rattle.fw_border.specs.Outputs.{OutputState}
 use Rattle.fw_border.specs.Sources.{SourceState}
-use Rattle.fw_stands.specs.LawsOfEntries.{told_entry, told_written}
 use Rattle.fw_stands.specs.Parts.{IsOutputOf, IsSourceOf}
-use Rattle.fw_stands.specs.Written.{uncollected}
-use Rattle.fw_stands.proofs.EntryViews.{told_entries_are_of_writes}
 use Rattle.fw_running.specs.declared.running.Running.{Running}
 use Rattle.fw_choose.specs.declared.viewing.Lost.{Lost}
 use Rattle.fw_choose.specs.declared.viewing.Lost.TheVariants.{Failed, All}
 use Rattle.fw_choose.specs.Chosen.{is_lost, counts_as_failed, IsChosen, IsChosenBy, IsViewBy, AreViewsBy, IsBorderBy, is_on_its_edge, of_domains}
 use Rattle.fw_running.specs.Kept.{source_of, output_of, lost_at, is_down}
-use Rattle.fw_running.specs.Shaped.{IsShaped, IsWrittenOf}
+use Rattle.fw_running.specs.Shaped.{IsShaped}
 use Rattle.fw_running.specs.Stands.{Stands}
 
 -- ---- the choice
@@ -87,20 +82,20 @@ chosen-is Failed sys state choice k = k
 chosen-is All sys state choice k = k
 
 -- the views and entries are what is known in the state
-view-of : (sys : System) (records : Option Records) (state : Machine) (running : Running) (lost : Lost) (view : List NodeView) (entries : List Told)
-    → AreViewsBy running lost (length running.flow.nodes) view → entries ≡ map told_entry running.parts.keep.entries → Stands sys running records state
+view-of : (sys : System) (records : Option Records) (state : Machine) (running : Running) (lost : Lost) (view : List NodeView) (entries : List Entry)
+    → AreViewsBy running lost (length running.flow.nodes) view → entries ≡ running.parts.keep.entries → Stands sys running records state
     → IsViewOf sys state (is_lost lost state) view entries
 view-of sys records state running lost view entries v e s = record {
   well_formed = s.well_formed;
   reached = s.reached;
   one_each = v.one_each ∙ ap (λ (f : Dataflow). length f.nodes) s.flow;
   nodes = v.of_state sys records state s;
-  written = subst (λ es. AreEntriesOf sys state es (uncollected state)) (sym e) (told_entries_are_of_writes sys state running.parts.keep.entries (uncollected state) s.entries);
+  written = subst (λ es. AreEntriesOf sys state es (uncollected state)) (sym e) s.entries;
 }
 
 -- so the choice is the one of each state
-pub chosen-by : {E : Type 0} (running : Running) (lost : Lost) (view : List NodeView) (entries : List Told) (os : List Offer) (r : Result Choice E)
-    → AreViewsBy running lost (length running.flow.nodes) view → entries ≡ map told_entry running.parts.keep.entries
+pub chosen-by : {E : Type 0} (running : Running) (lost : Lost) (view : List NodeView) (entries : List Entry) (os : List Offer) (r : Result Choice E)
+    → AreViewsBy running lost (length running.flow.nodes) view → entries ≡ running.parts.keep.entries
     → ((sys : System) (state : Machine) (failed : ℕ → Bool) → sys.flow ≡ running.flow → IsViewOf sys state failed view entries → AreOffersIn sys state failed os)
     → ((some : Choice) → AreAscending running.flow os → IsConsistentBy running.flow (covers_of running.flow os) (IsOffered running.flow os) some
     → IfOk r (IsLargestBy running.flow (covers_of running.flow os) (IsOffered running.flow os)))
@@ -116,21 +111,11 @@ chosen-by running lost view entries os (Ok choice) v e exact give = λ sys recor
 
 -- ---- what fits the flow
 
-written-fits : (flow : Dataflow) (p : ℕ) (w : Written) → IsWrittenOf flow p w → shaped.IsWrittenOf flow p (told_written w)
-written-fits flow p (written.Checkpoint recorded stamps sent) k = k
-written-fits flow p (written.Event event) k = k
-
-entries-fit : (flow : Dataflow) (entries : List Entry) → AllByRecursion (λ (e : Entry). IsWrittenOf flow e.node e.written) entries
-    → AllByRecursion (λ (e : Told). shaped.IsWrittenOf flow e.node e.written) (map told_entry entries)
-entries-fit flow [] a = tt
-entries-fit flow (e ∷ es) a = (written-fits flow e.node e.written a.0, entries-fit flow es a.1)
-
-pub all-fit : (running : Running) (lost : Lost) (view : List NodeView) (entries : List Told) → IsShaped running → AreViewsBy running lost (length running.flow.nodes) view
-    → entries ≡ map told_entry running.parts.keep.entries → FitsFlow running.flow view entries
+pub all-fit : (running : Running) (lost : Lost) (view : List NodeView) (entries : List Entry) → IsShaped running → AreViewsBy running lost (length running.flow.nodes) view
+    → entries ≡ running.parts.keep.entries → FitsFlow running.flow view entries
 all-fit running lost view entries s v e = record {
   views = v.of_flow;
-  written = subst (λ es. AllByRecursion (λ (t : Told). shaped.IsWrittenOf running.flow t.node t.written) es) (sym e)
-      (entries-fit running.flow running.parts.keep.entries s.entries);
+  written = subst (AllByRecursion (λ (entry : Entry). IsWrittenOf running.flow entry.node entry.written)) (sym e) s.entries;
 }
 
 -- ---- one view more
@@ -169,7 +154,7 @@ edges-fit flow single ms =
     each-filter (λ (m : Counted). in_domain (bounds_of flow (receiver flow m.edge)) m.at ≡ true) (is_on_its_edge flow single) ms
     (each-one (λ (m : Counted). is_on_its_edge flow single m ≡ true → in_domain (bounds_of flow (receiver flow m.edge)) m.at ≡ true) ms (λ m e. passes-edge flow single m e))
 
-stamps-fit : (flow : Dataflow) (p : ℕ) (ts : List Stamp) → AreStampsAt flow p (filter (in_domain (bounds_of flow p)) ts)
+stamps-fit : (flow : Dataflow) (p : ℕ) (ts : List Stamp) → AreOfDomain flow p (filter (in_domain (bounds_of flow p)) ts)
 stamps-fit flow p ts =
     each-filter (λ t. in_domain (bounds_of flow p) t ≡ true) (in_domain (bounds_of flow p)) ts
     (each-one (λ t. in_domain (bounds_of flow p) t ≡ true → in_domain (bounds_of flow p) t ≡ true) ts (λ t e. e))
@@ -213,9 +198,9 @@ view-fits running p raw node s stamps settled low border lost =
       settled = subst (λ (f : Front). IsCanonical (bounds_of flow p) f) (sym settled) (s.progress.settled p);
       low = subst (λ (f : Front). IsCanonical (bounds_of flow p) f) (sym low) (s.low p);
       border = border-fits (source_of running p) (output_of running p) (kind_of flow p) node.border border;
-      lost = subst (λ (ts : List Stamp). AreStampsAt flow p ts) (sym lost) (stamps-fit flow p (lost_at running p));
+      lost = subst (λ (ts : List Stamp). AreOfDomain flow p ts) (sym lost) (stamps-fit flow p (lost_at running p));
       delivered = subst (λ (all : Stamps). AreOnEdges flow all.delivered) (sym stamps) (edges-fit flow false raw.delivered);
-      notified = subst (λ (all : Stamps). AreStampsAt flow p all.notified) (sym stamps) (stamps-fit flow p raw.notified);
+      notified = subst (λ (all : Stamps). AreOfDomain flow p all.notified) (sym stamps) (stamps-fit flow p raw.notified);
       sent = subst (λ (all : Stamps). AreOnEdges flow all.sent) (sym stamps) (edges-fit flow single raw.sent);
       of_batches = λ e. subst (λ (all : Stamps). AllByRecursion HasOneCause all.sent) (sym stamps) (causes-fit flow single raw.sent (is-input (kind_of flow p) e));
     }

@@ -13,7 +13,7 @@ use Rattle.fw_progress.specs.declared.traces.Traces.{Traces}
 use Rattle.fw_progress.specs.Trace.{HaveLists, AreThinnedAt}
 use Rattle.fw_rollback.specs.declared.parts.Parts.{Parts}
 use Rattle.fw_rollback.specs.Edges.{on_edge}
-use Rattle.fw_stands.specs.LawsOfSettling.{AreSettledAt}
+use Rattle.fw_stands.specs.Settling.{AreSettledAt}
 use Rattle.fw_running.specs.declared.running.Running.{Running}
 
 -- the messages that are given up are gone from the logs

@@ -27,14 +27,14 @@ use std::alloc::AllocError;
 /// watermark stays: after a fault of the store they wait for the next collection.
 pub fn collect<K: Store>(running: &mut Running, store: &mut K) -> Result<Stepped, EngineFault>
     requires shaped { IsShaped running.old }
-    requires stored { IsStored running.old.parts.keep (K.records store.old) }
+    requires stored { IsStored running.old.parts.keep (K.view store.old).records }
     ensures shaped { StaysShaped result running.new }
-    ensures stored { IsStored running.new.parts.keep (K.records store.new) }
+    ensures stored { IsStored running.new.parts.keep (K.view store.new).records }
     ensures flow { running.new.flow ≡ running.old.flow }
-    ensures takes { TakesStep running.old (K.records store.old) steps.Collect result running.new (K.records store.new) }
-    ensures faults { K.fault_count store.new ≡ faults_after result (K.fault_count store.old) }
+    ensures takes { TakesStep running.old (K.view store.old).records steps.Collect result running.new (K.view store.new).records }
+    ensures faults { (K.view store.new).faults ≡ faults_after result (K.view store.old).faults }
     ensures undamaged { IsUndamaged result }
-    ensures tells { is_some (K.records store.new) ≡ is_some (K.records store.old) }
+    ensures tells { is_some (K.view store.new).records ≡ is_some (K.view store.old).records }
     ensures swept { OnOk result (running.new.parts.keep.waiting ≡ []) }
 {
     let stepped = raise_low(running)?;

@@ -1,5 +1,5 @@
 //! What is known of the nodes and their writes, to say what they offer to a recovery.
-ghost use Rattle.std.specs.Prelude.{◌≡◌, ◌<◌, ◌≤◌, filter, length, map, IsTrue, IfOk};
+ghost use Rattle.std.specs.Prelude.{◌≡◌, ◌<◌, ◌≤◌, filter, length, IsTrue, IfOk};
 ghost use Rattle.fw_time.specs.Stamp.{in_domain};
 ghost use Rattle.fw_flow.specs.Dataflow.{kind_of, bounds_of, greatest_number};
 ghost use Rattle.fw_collect.specs.Drops.{watermark};
@@ -8,7 +8,6 @@ ghost use Rattle.fw_model.specs.Steps.{front_of_cut};
 ghost use Rattle.fw_monitor.specs.Chosen.{IsChoiceOf};
 ghost use Rattle.fw_policy.specs.Shaped.{IsViewFor};
 ghost use Rattle.fw_progress.specs.Counts.{sent_of};
-ghost use Rattle.fw_stands.specs.LawsOfEntries.{told_entry, told_written};
 ghost use Rattle.fw_choose.specs.Chosen as chosen;
 ghost use Rattle.fw_choose.specs.Chosen.{IsChosenBy, IsViewBy, AreViewsBy, IsBorderBy, is_on_its_edge, of_domains};
 ghost use Rattle.fw_running.specs.Kept.{source_of, output_of, lost_at, is_down};
@@ -18,10 +17,9 @@ use fw_flow::{
     Choice, Counted, CountedMessages, Cut, Flow, Kind, NodeId, Notices, SentTable, Stamps,
 };
 use fw_frontier::Front;
-use fw_keep as keep;
 use fw_monitor::largest;
-use fw_policy::{Border, Entry, NodeView, Written, candidates};
-use fw_running::{Running, stamp_of};
+use fw_policy::{Border, NodeView, candidates};
+use fw_running::Running;
 use fw_time::Bounds;
 use std::alloc::{AllocError, Global};
 
@@ -41,8 +39,8 @@ pub fn choose(running: &Running, lost: Lost) -> Result<Choice, AllocError>
     ensures of_state { IfOk result (IsChosenBy running.now lost) }
 {
     let view = views(running, lost)?;
-    let entries = entries_of(running.alloc, running.parts.keep.entries())?;
-    let offers = candidates(running.alloc, &running.flow, &view, &entries)?;
+    let entries = running.parts.keep.entries();
+    let offers = candidates(running.alloc, &running.flow, &view, entries)?;
     largest(running.alloc, &running.flow, &offers)
 }
 
@@ -243,39 +241,6 @@ fn of_domain(alloc: Global, domain: &Bounds, stamps: &Notices) -> Result<Notices
         }
     }
     Ok(Notices::of(all))
-}
-
-// The writes as the offers ask for them.
-fn entries_of(alloc: Global, entries: &[keep::Entry]) -> Result<Vec<Entry>, AllocError>
-    ensures { IfOk result (λ all. all.items ≡ map told_entry entries.now) }
-{
-    let mut all = Vec::with_capacity(alloc, entries.len())?;
-    for entry in entries {
-        all.push(told(alloc, entry)?)?;
-    }
-    Ok(all)
-}
-
-// A write as the offers ask for it.
-fn told(alloc: Global, entry: &keep::Entry) -> Result<Entry, AllocError>
-    ensures { IfOk result (λ told. told ≡ told_entry entry.now) }
-{
-    Ok(Entry {
-        id: entry.id,
-        node: entry.node,
-        written: written_of(alloc, &entry.written)?,
-        acknowledged: entry.acknowledged,
-    })
-}
-
-// What a write holds, as the offers ask for it.
-fn written_of(alloc: Global, written: &keep::Written) -> Result<Written, AllocError>
-    ensures { IfOk result (λ told. told ≡ told_written written.now) }
-{
-    match written {
-        keep::Written::Checkpoint { recorded, .. } => { Ok(Written::Checkpoint(recorded.copy()?)) }
-        keep::Written::Event(event) => Ok(Written::Event(stamp_of(event).copy())),
-    }
 }
 
 /// The frontiers of the choice's cuts. The error is want of memory.

@@ -10,7 +10,7 @@ use Rattle.fw_frontier.specs.Frontier.{Within}
 use Rattle.fw_bag.specs.declared.rec.Rec.{Rec}
 use Rattle.fw_time.proofs.StampLaws.{same-is, same-refl}
 use Rattle.fw_time.proofs.EachLaws.{each-weaker}
-use Rattle.fw_frontier.specs.Front.{Front, inside, is_within, frontier_of}
+use Rattle.fw_frontier.specs.Front.{Front, inside, frontier_of}
 use Rattle.fw_flow.specs.declared.node.Node.{Node}
 use Rattle.fw_flow.specs.Dataflow.{System, Dataflow, policy_of, kind_of, sender, receiver, bounds_of, is_input_kind, node_ids, idle_node}
 use Rattle.fw_flow.specs.Restoring.{can_resend}
@@ -18,10 +18,9 @@ use Rattle.fw_flow.specs.declared.choice.OfEdge.{OfEdge}
 use Rattle.fw_flow.specs.declared.event.Message.{Message}
 use Rattle.fw_model.specs.Auto.{edge_ids}
 use Rattle.fw_model.specs.Filtering.{messages_outside}
-use Rattle.fw_flow.specs.NodeFunction.{event_node, event_stamp}
-use Rattle.fw_model.specs.Machine.{SerialEvent, Write, Written, checkpoint, logged_event, Stage, in_flight, acknowledged, collected, front_of}
+use Rattle.fw_model.specs.Machine.{SerialEvent, Write, Stage, in_flight, acknowledged, collected, front_of}
 use Rattle.fw_model.specs.Steps as steps
-use Rattle.fw_model.specs.Steps.{is_in_flight, after_collection, is_given_up, is_serial_given_up, has_serial}
+use Rattle.fw_model.specs.Steps.{is_in_flight, after_collection, is_given_up, collected_writes}
 use Rattle.fw_model.specs.Writes.{takes_checkpoints, is_collected, not_collected}
 use Rattle.fw_model.proofs.FilterLaws.{filter-in, filter-out, filter-inner}
 use Rattle.fw_model.proofs.SortedLaws.{sorted_messages-filter}
@@ -31,12 +30,14 @@ use Rattle.fw_border.specs.Sources.{SourceState, given_up}
 use Rattle.fw_keep.specs.declared.entry.Entry.{Entry}
 use Rattle.fw_keep.specs.declared.entry.Written as entry
 use Rattle.fw_keep.specs.declared.entry.Written.TheVariants as written
-use Rattle.fw_keep.specs.Entry.{stamp_of, lies_below, is_event_at, is_below, is_at}
+use Rattle.fw_record.specs.Event.{stamp_of_event}
+use Rattle.fw_keep.specs.Entry.{lies_below, is_event_at, is_below, is_at}
 use Rattle.fw_collect.specs.declared.drops.AtNode.{AtNode}
 use Rattle.fw_collect.specs.declared.drops.OfNode.{OfNode}
-use Rattle.fw_collect.specs.Drops.{of_node, without_batches, dropped_records, dropped_events, dropped_messages, dropped_batches, given_up_event}
+use Rattle.fw_collect.specs.declared.drops.Drops.{Drops}
+use Rattle.fw_collect.specs.Drops.{IsPlanned, of_node, without_batches, dropped_records, dropped_events, dropped_messages, dropped_batches, given_up_event}
 use Rattle.fw_collect.specs.Dropped.{is_dropped, is_below_some, is_at_some, is_inside_edge, is_inside_node, log_outside, log_left, source_left}
-use Rattle.fw_collect.specs.LawsOfCollections.{is_written_given_up, DropsWhatIsGivenUp, DropsMessagesBelowReceivers, DropsBatchesOfInputs, IsWrittenOf, IsEntryOf, DropsWhatIsCollected, LogsHoldWhatIsOutside, InputsHoldWhatIsOutside}
+use Rattle.fw_collect.specs.LawsOfCollections.{is_written_given_up, DropsWhatIsGivenUp, DropsMessagesBelowReceivers, DropsBatchesOfInputs, GoesWith, LogsHoldWhatIsOutside, InputsHoldWhatIsOutside}
 use Rattle.fw_collect.proofs.ApplyLaws.{or_nothing, filter_then, filter_nothing, cond_ap}
 
 -- ---- one place of those that pass a test
@@ -112,21 +113,21 @@ below-planned flow low e =
 -- whether what is written of node p is an event that is given up
 is-event_given_up : Dataflow → List Front → ℕ → entry.Written → Bool
 is-event_given_up flow low p (written.Checkpoint recorded stamps sent) = false
-is-event_given_up flow low p (written.Event event) = is_given_up (without_batches flow) low p (stamp_of event)
+is-event_given_up flow low p (written.Event event) = is_given_up (without_batches flow) low p (stamp_of_event event)
 
 at-sound : (flow : Dataflow) (low : List Front) (p q : ℕ) (t : Stamp) (w : entry.Written) → is_given_up (without_batches flow) low p t ≡ true
     → q ≡ p → is_event_at t w ≡ true → is-event_given_up flow low q w ≡ true
 unfolding is-event_given_up
 at-sound flow low p q t (written.Checkpoint recorded stamps sent) g e h = absurd (true≢false (sym h))
 at-sound flow low p q t (written.Event event) g e h =
-    ap (λ k. is_given_up (without_batches flow) low k (stamp_of event)) e ∙ ap (is_given_up (without_batches flow) low p) (same-is (stamp_of event) t h) ∙ g
+    ap (λ k. is_given_up (without_batches flow) low k (stamp_of_event event)) e ∙ ap (is_given_up (without_batches flow) low p) (same-is (stamp_of_event event) t h) ∙ g
 
 -- what an entry's own drop takes out is given up
 drop-sound : (flow : Dataflow) (low : List Front) (p : ℕ) (w : entry.Written) (e : Entry) → is_at_some (given_up_event flow low p w) e ≡ true
     → is-event_given_up flow low e.node e.written ≡ true
 drop-sound flow low p (written.Checkpoint recorded stamps sent) e h = absurd (true≢false (sym h))
 drop-sound flow low p (written.Event event) e h =
-    let t : Stamp = stamp_of event in
+    let t : Stamp = stamp_of_event event in
     let test : Bool = is_given_up (without_batches flow) low p t in
     let found : Bool → Bool = λ b. is_at_some (cond b (record { node = p; at = t } ∷ []) []) e in
     elim (cases_Bool test) [
@@ -143,7 +144,7 @@ drop-complete : (flow : Dataflow) (low : List Front) (p : ℕ) (w : entry.Writte
 unfolding is-event_given_up
 drop-complete flow low p (written.Checkpoint recorded stamps sent) h = absurd (true≢false (sym h))
 drop-complete flow low p (written.Event event) h =
-    let t : Stamp = stamp_of event in
+    let t : Stamp = stamp_of_event event in
     let look : AtNode → Bool = λ (d : AtNode). (p == d.node) && same t d.at in
     ap (λ b. list_any look (cond b (record { node = p; at = t } ∷ []) [])) h
     ∙ or_left ((p == p) && same t t) false (and_from (p == p) (same t t) (eq-eqb p p refl) (same-refl t))
@@ -182,7 +183,7 @@ both-are : (flow : Dataflow) (low : List Front) (p : ℕ) (w : entry.Written)
 unfolding is-event_given_up
 both-are flow low p (written.Checkpoint recorded stamps sent) = or_nothing (takes_checkpoints (policy_of flow p) && lies_below (front_of low p) (written.Checkpoint recorded stamps sent))
 both-are flow low p (written.Event event) =
-    ap (λ b. b || is_given_up (without_batches flow) low p (stamp_of event)) (and-false (takes_checkpoints (policy_of flow p)))
+    ap (λ b. b || is_given_up (without_batches flow) low p (stamp_of_event event)) (and-false (takes_checkpoints (policy_of flow p)))
 
 pub drops_what_is_given_up : DropsWhatIsGivenUp
 drops_what_is_given_up flow low entries drops is =
@@ -228,33 +229,6 @@ drops_batches_of_inputs flow low entries drops is s source l =
     (λ batch. any-map (λ (d : OfNode). (s == d.node) && inside d.front (batch.0 ∷ [])) (of_node low) (filter test (node_ids flow))
     ∙ any-of_place test (λ p. inside (front_of low p) (batch.0 ∷ [])) s (length flow.nodes) (λ o. absurd (omega (arith, o, l)))) source.held)
     ∙ sym (cond_ap (λ held. record source { held = held }) (test s) (filter (λ batch. not (at batch)) source.held) source.held)
-
--- ---- what the machine collects
-
--- where the events of a serial are at one place, the event of the serial is given up where that place is
-serial-test : (sys : System) (h : List SerialEvent) (low : List Front) (p : ℕ) (t : Stamp) (serial : ℕ)
-    → AllByRecursion (λ (v : SerialEvent). v.serial ≡ serial → (event_node sys.flow v.event ≡ p) × (event_stamp v.event ≡ t)) h
-    → is_serial_given_up sys low serial h ≡ (has_serial serial h && is_given_up sys low p t)
-serial-test sys [] low p t serial only = refl
-serial-test sys (v ∷ h) low p t serial only =
-    let found : Bool = is_given_up sys low p t in
-    let own : Bool = v.serial == serial in
-    let one : Bool = is_given_up sys low (event_node sys.flow v.event) (event_stamp v.event) in
-    ap (λ b. (own && one) || b) (serial-test sys h low p t serial only.1)
-    ∙ picked own true one (has_serial serial h) true found
-    (λ e. let at = only.0 (eqb-true v.serial serial e) in
-    (refl, ap (λ k. is_given_up sys low k (event_stamp v.event)) at.0 ∙ ap (is_given_up sys low p) at.1))
-
--- an entry is given up where the write of the machine lies below
-written-same : (sys : System) (h : List SerialEvent) (low : List Front) (p q : ℕ) (one : entry.Written) (other : Written) → p ≡ q
-    → IsWrittenOf sys h p one other → is_written_given_up sys.flow low p one ≡ steps.lies_below sys low h q other
-written-same sys h low p q (written.Checkpoint recorded stamps sent) (checkpoint f kept) e is =
-    let below : ℕ → Front → Bool = λ k g. is_within g (front_of low k) && not (is_within (front_of low k) g) in
-    ap (λ b. b && below p recorded.front) is.1 ∙ ap (below p) is.0 ∙ ap (λ k. below k f) e
-written-same sys h low p q (written.Checkpoint recorded stamps sent) (logged_event serial) e is = absurd is
-written-same sys h low p q (written.Event event) (checkpoint f kept) e is = absurd is
-written-same sys h low p q (written.Event event) (logged_event serial) e is =
-    sym (serial-test sys h low p (stamp_of event) serial is.only ∙ ap (λ b. b && is_given_up sys low p (stamp_of event)) is.there)
 
 -- ---- lists side by side
 
@@ -337,14 +311,20 @@ left_side_by_side R goes below entries writes same none r =
     (each-weaker (λ (e : Entry). (w : Write) → R e w → goes e ≡ below w) (λ (e : Entry). (w : Write) → R e w → not (goes e) ≡ not (below w)) entries
     (λ e k w x. ap not (k w x)) same) r)
 
-pub drops_what_is_collected : DropsWhatIsCollected
-drops_what_is_collected sys h low entries drops writes is are none =
-    left_side_by_side (IsEntryOf sys h) (is_dropped drops) (λ w. steps.lies_below sys low h w.node w.written) entries writes
+-- however entries stand for the writes that are not collected, if each goes with its write, those that are left stand so for the
+-- writes that the machine's collection leaves, where no write in flight lies below the fronts, as none does in a collection
+pub drops_what_is_collected : (Stands : Entry → Write → Type 0) (sys : System) (h : List SerialEvent) (low : List Front)
+    → ((e : Entry) (write : Write) → Stands e write → GoesWith sys h low e write)
+    → (entries : List Entry) (drops : Drops) (writes : List Write) → IsPlanned sys.flow low entries drops
+    → AllZip Stands entries (filter not_collected writes)
+    → AllByRecursion (λ (write : Write). steps.lies_below sys low h write.node write.written ≡ true → is_in_flight write.stage ≡ false) writes
+    → AllZip Stands (filter (λ e. not (is_dropped drops e)) entries) (filter not_collected (collected_writes sys low h writes))
+drops_what_is_collected Stands sys h low goes entries drops writes is stand none =
+    left_side_by_side Stands (is_dropped drops) (λ w. steps.lies_below sys low h w.node w.written) entries writes
     (each-weaker (λ (e : Entry). is_dropped drops e ≡ is_written_given_up sys.flow low e.node e.written)
-    (λ (e : Entry). (w : Write) → IsEntryOf sys h e w → is_dropped drops e ≡ steps.lies_below sys low h w.node w.written) entries
-    (λ e k w x. k ∙ written-same sys h low e.node w.node e.written w.written x.node x.holds)
-    (drops_what_is_given_up sys.flow low entries drops is))
-    none are
+    (λ (e : Entry). (w : Write) → Stands e w → is_dropped drops e ≡ steps.lies_below sys low h w.node w.written) entries
+    (λ e k w x. k ∙ goes e w x) (drops_what_is_given_up sys.flow low entries drops is))
+    none stand
 
 -- ---- what logs and inputs hold
 

@@ -13,7 +13,7 @@ use Rattle.fw_model.specs.Writes.{takes_checkpoints}
 use Rattle.fw_keep.specs.declared.entry.Entry.{Entry}
 use Rattle.fw_keep.specs.declared.entry.Written.{Written}
 use Rattle.fw_keep.specs.declared.entry.Written.TheVariants as written
-use Rattle.fw_keep.specs.Entry.{stamp_of}
+use Rattle.fw_record.specs.Event.{stamp_of_event}
 use Rattle.fw_collect.specs.declared.drops.OfNode.{OfNode}
 use Rattle.fw_collect.specs.declared.drops.AtNode.{AtNode}
 use Rattle.fw_collect.specs.declared.drops.Drops.{Drops}
@@ -38,7 +38,7 @@ dropped_records flow low = map (of_node low) (filter (λ p. takes_checkpoints (p
 abbrev pub given_up_event : Dataflow → List Front → ℕ → Written → List AtNode
 given_up_event flow low p (written.Checkpoint recorded stamps sent) = []
 given_up_event flow low p (written.Event event) =
-    if is_given_up (without_batches flow) low p (stamp_of event) then record { node = p; at = stamp_of event } ∷ [] else []
+    if is_given_up (without_batches flow) low p (stamp_of_event event) then record { node = p; at = stamp_of_event event } ∷ [] else []
 
 -- the node and stamp of each entry of an event that is given up
 abbrev pub dropped_events : Dataflow → List Front → List Entry → List AtNode

@@ -1,24 +1,24 @@
 -- Laws of collections: what is planned and given up is what the machine's collection takes.
-use Rattle.std.specs.Prelude.{◌≡◌, ◌↔◌, ℕ, ◌<◌, Bool, true, false, not, ◌&&◌, if◌then◌else◌, List, [], ◌∷◌, length, filter}
-use Rattle.std.specs.List.{AllByRecursion, AllZip}
-use Rattle.fw_time.specs.Stamp.{Stamp, in_domain}
+use Rattle.std.specs.Prelude.{◌≡◌, ℕ, ◌<◌, Bool, true, not, ◌&&◌, if◌then◌else◌, List, [], ◌∷◌, length, filter}
+use Rattle.std.specs.List.{AllByRecursion}
+use Rattle.fw_time.specs.Stamp.{in_domain}
 use Rattle.fw_bag.specs.declared.rec.Rec.{Rec}
 use Rattle.fw_frontier.specs.Frontier.{Within}
 use Rattle.fw_frontier.specs.Front.{Front}
 use Rattle.fw_flow.specs.Dataflow.{System, Dataflow, kind_of, policy_of, sender, receiver, bounds_of, node_frontier, is_input_kind}
 use Rattle.fw_flow.specs.declared.event.Message.{Message}
-use Rattle.fw_flow.specs.NodeFunction.{event_node, event_stamp}
 use Rattle.fw_flow.specs.Restoring.{can_resend}
 use Rattle.fw_model.specs.Filtering.{messages_outside}
 use Rattle.fw_model.specs.SortedMessages.{sorted_messages}
-use Rattle.fw_model.specs.Machine.{SerialEvent, Write, Written, checkpoint, logged_event, acknowledged, front_of}
+use Rattle.fw_model.specs.Machine.{SerialEvent, Write, front_of}
 use Rattle.fw_model.specs.Steps as steps
-use Rattle.fw_model.specs.Steps.{has_serial, is_in_flight, is_given_up, collected_writes}
-use Rattle.fw_model.specs.Writes.{takes_checkpoints, not_collected}
+use Rattle.fw_model.specs.Steps.{is_given_up}
+use Rattle.fw_model.specs.Writes.{takes_checkpoints}
 use Rattle.fw_keep.specs.declared.entry.Entry.{Entry}
 use Rattle.fw_keep.specs.declared.entry.Written as entry
 use Rattle.fw_keep.specs.declared.entry.Written.TheVariants as written
-use Rattle.fw_keep.specs.Entry.{stamp_of, lies_below}
+use Rattle.fw_record.specs.Event.{stamp_of_event}
+use Rattle.fw_keep.specs.Entry.{lies_below}
 use Rattle.fw_edge.specs.Messages.{MessagesState}
 use Rattle.fw_border.specs.Sources.{SourceState, given_up}
 use Rattle.fw_collect.specs.declared.drops.Drops.{Drops}
@@ -32,7 +32,7 @@ use Rattle.fw_collect.specs.Dropped.{is_dropped, log_outside, log_left, source_l
 abbrev pub is_written_given_up : Dataflow → List Front → ℕ → entry.Written → Bool
 is_written_given_up flow low p (written.Checkpoint recorded stamps sent) =
     takes_checkpoints (policy_of flow p) && lies_below (front_of low p) (written.Checkpoint recorded stamps sent)
-is_written_given_up flow low p (written.Event event) = is_given_up (without_batches flow) low p (stamp_of event)
+is_written_given_up flow low p (written.Event event) = is_given_up (without_batches flow) low p (stamp_of_event event)
 
 -- of these entries those go that are given up, each by itself: an event's stamp takes no other event with it
 abbrev pub DropsWhatIsGivenUp : Type 0
@@ -54,36 +54,9 @@ DropsBatchesOfInputs = (flow : Dataflow) (low : List Front) (entries : List Entr
 
 -- ---- what the machine collects
 
--- The event of this serial is one of node p at stamp t.
-pub record IsEventAt (sys : System) (h : List SerialEvent) (p : ℕ) (t : Stamp) (serial : ℕ) : Type 0 where
-  pub there : has_serial serial h ≡ true
-  pub only : AllByRecursion (λ (v : SerialEvent). v.serial ≡ serial → (event_node sys.flow v.event ≡ p) × (event_stamp v.event ≡ t)) h
-
--- what an entry of node p holds is what a write of the machine holds, as far as a collection looks: of a checkpoint its frontier,
--- and of an event its place in the history
-abbrev pub IsWrittenOf : System → List SerialEvent → ℕ → entry.Written → Written → Type 0
-IsWrittenOf sys h p (written.Checkpoint recorded stamps sent) (checkpoint f low) =
-    (recorded.front ≡ f) × (takes_checkpoints (policy_of sys.flow p) ≡ true)
-IsWrittenOf sys h p (written.Event event) (logged_event serial) = IsEventAt sys h p (stamp_of event) serial
-IsWrittenOf sys h p one other = ⊥
-
--- The entry is that of a write of the machine with this history.
-pub record IsEntryOf (sys : System) (h : List SerialEvent) (e : Entry) (write : Write) : Type 0 where
-  pub node : e.node ≡ write.node
-  pub progress : (e.acknowledged ≡ true) ↔ (write.stage ≡ acknowledged)
-  pub holds : IsWrittenOf sys h e.node e.written write.written
-
--- the entries are those of the writes that are not collected, in order
-abbrev pub AreEntriesOf : System → List SerialEvent → List Entry → List Write → Type 0
-AreEntriesOf sys h entries writes = AllZip (IsEntryOf sys h) entries (filter not_collected writes)
-
--- where no write in flight lies below the fronts, as none does in a collection, the entries that are left are those of the
--- writes that the machine's collection leaves
-abbrev pub DropsWhatIsCollected : Type 0
-DropsWhatIsCollected = (sys : System) (h : List SerialEvent) (low : List Front) (entries : List Entry) (drops : Drops) (writes : List Write)
-    → IsPlanned sys.flow low entries drops → AreEntriesOf sys h entries writes
-    → AllByRecursion (λ (write : Write). steps.lies_below sys low h write.node write.written ≡ true → is_in_flight write.stage ≡ false) writes
-    → AreEntriesOf sys h (filter (λ e. not (is_dropped drops e)) entries) (collected_writes sys low h writes)
+-- an entry goes with a write: what it holds is given up exactly where what the write holds lies below the fronts
+abbrev pub GoesWith : System → List SerialEvent → List Front → Entry → Write → Type 0
+GoesWith sys h low e write = is_written_given_up sys.flow low e.node e.written ≡ steps.lies_below sys low h write.node write.written
 
 -- ---- what logs and inputs hold
 

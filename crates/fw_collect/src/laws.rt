@@ -1,5 +1,5 @@
 //! Laws of collections, each a function that does nothing: its clause is the law.
-ghost use Rattle.fw_collect.specs.LawsOfCollections.{DropsWhatIsGivenUp, DropsMessagesBelowReceivers, DropsBatchesOfInputs, DropsWhatIsCollected, LogsHoldWhatIsOutside, InputsHoldWhatIsOutside};
+ghost use Rattle.fw_collect.specs.LawsOfCollections.{DropsWhatIsGivenUp, DropsMessagesBelowReceivers, DropsBatchesOfInputs, LogsHoldWhatIsOutside, InputsHoldWhatIsOutside};
 
 /// Of the entries that were planned with, those go that are given up, each by itself.
 pub fn drops_what_is_given_up()
@@ -14,12 +14,6 @@ pub fn drops_messages_below_receivers()
 /// What is planned leaves of each input's batches what lies outside its front.
 pub fn drops_batches_of_inputs()
     ensures { DropsBatchesOfInputs }
-{}
-
-/// Entries that stand for the machine's uncollected writes stand for them after a collection, where the planned ones are
-/// taken out of the entries and the machine collects.
-pub fn drops_what_is_collected()
-    ensures { DropsWhatIsCollected }
 {}
 
 /// A log that holds what was sent outside the low watermark holds, after a collection, what was sent outside the one that

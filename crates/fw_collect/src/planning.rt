@@ -3,7 +3,6 @@ ghost use Rattle.std.specs.Prelude.{◌≡◌, IfOk, option_to_list};
 ghost use Rattle.fw_model.specs.Machine.{front_of};
 ghost use Rattle.fw_model.specs.Writes as writes;
 ghost use Rattle.fw_flow.specs.Restoring as restoring;
-ghost use Rattle.fw_keep.specs.Entry as entry;
 ghost use Rattle.fw_collect.specs.Drops as spec;
 ghost use Rattle.fw_collect.specs.Drops.{watermark, IsPlanned, dropped_records, dropped_events, dropped_messages, dropped_batches};
 
@@ -13,8 +12,6 @@ use crate::given_up::is_given_up;
 use fw_flow::{Choice, EdgeId, Flow, NodeId, OfEdge, Policy};
 use fw_frontier::Front;
 use fw_keep::{Entry, Written};
-use fw_record::Event;
-use fw_time::Stamp;
 use std::alloc::{AllocError, Global};
 
 /// What is not needed again, where the low watermark rises to the fronts of the choice: of each node that takes checkpoints
@@ -119,7 +116,7 @@ fn given_up_event(flow: &Flow, choice: &Choice, entry: &Entry) -> Option<AtNode>
     let Written::Event(event) = &entry.written else {
         return None;
     };
-    let at = stamp_of(event);
+    let at = event.at();
     if !is_given_up(flow, choice, entry.node, at) {
         return None;
     }
@@ -127,15 +124,6 @@ fn given_up_event(flow: &Flow, choice: &Choice, entry: &Entry) -> Option<AtNode>
         node: entry.node,
         at: at.copy(),
     })
-}
-
-/// The stamp of an event.
-fn stamp_of(event: &Event) -> &Stamp
-    ensures { result.now ≡ entry.stamp_of event.now }
-{
-    match event {
-        Event::Deliver { at, .. } | Event::Notify { at } => at,
-    }
 }
 
 /// The front of a node once more.

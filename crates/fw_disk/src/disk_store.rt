@@ -58,9 +58,7 @@ impl From<io::Error> for Refusal {
 impl<'a, R: Files> DiskStore<'a, R> {
     /// The store of a folder, which has to be there; if it is not, each call fails.
     pub fn new(alloc: Global, files: &'a R, folder: String) -> Self
-        ensures records { ⟦<DiskStore<'a, R> as Store>⟧.records result ≡ None }
-        ensures given { ⟦<DiskStore<'a, R> as Store>⟧.given result ≡ None }
-        ensures faultless { ⟦<DiskStore<'a, R> as Store>⟧.fault_count result ≡ 0 }
+        ensures { ⟦<DiskStore<'a, R> as Store>⟧.view result ≡ record { records = None; given = None; faults = 0 } }
     {
         DiskStore {
             alloc,
@@ -163,11 +161,11 @@ impl<R: Files> DiskStore<'_, R> {
 }
 
 impl<R: Files> Store for DiskStore<'_, R> {
-    ghost records = { λ _. None };
-
-    ghost given = { λ store. option_map (λ given. (given.id, given.bytes.items)) store.given };
-
-    ghost fault_count = { λ store. store.faults };
+    ghost view = { λ store. record {
+      records = None;
+      given = option_map (λ given. (given.id, given.bytes.items)) store.given;
+      faults = store.faults;
+    } };
 
     /// Writes the record into a new file. A file that is there under the id, or a folder that is not there, is a fault. After
     /// a refusal what stood under the id stands there still, and else nothing, unless the new file can't be removed again.

@@ -1,11 +1,9 @@
 -- What an acknowledgement makes of what an engine keeps and stands for.
-use Rattle.std.proofs.Common.{◌≡◌, ◌≢◌, inl, inr, ℕ, ◌<◌, ◌^◌, true, false, List, [], ◌∷◌, length, slice_index_or, Option, refl, sym, ◌∙◌, ap, subst, arith}
+use Rattle.std.proofs.Common.{◌≡◌, ◌≢◌, inl, inr, ℕ, ◌<◌, true, false, List, [], ◌∷◌, length, slice_index_or, Option, refl, sym, ◌∙◌, ap, subst, arith}
 use Rattle.std.specs.List.{Contains}
 use Rattle.std.proofs.lemmas.Bool.{cases_eq}
 use Rattle.std.proofs.lemmas.List.{get_or-set_same, get_or-set_other, length-set}
-use Rattle.fw_border.specs.Outputs.{OutputState, OutputsState, with_output, acknowledged, next_recs, new_output, AreByNumber}
-use Rattle.fw_flow.specs.declared.kind.Kind.{Kind}
-use Rattle.fw_flow.specs.declared.kind.Kind.TheVariants.{OutputNumber}
+use Rattle.fw_border.specs.Outputs.{OutputsState, with_output, acknowledged, next_recs, new_output, AreByNumber}
 use Rattle.fw_flow.specs.declared.step.Step.TheVariants.{Ack}
 use Rattle.fw_flow.specs.Dataflow.{System, Dataflow, kind_of, is_output_kind}
 use Rattle.fw_frontier.specs.Front.{inside}
@@ -13,11 +11,11 @@ use Rattle.fw_keep.specs.Stored.{Records}
 use Rattle.fw_model.specs.Machine.{Machine, front_of}
 use Rattle.fw_model.specs.Steps.{acked, did, LeadsTo}
 use Rattle.fw_model.specs.Auto.{IsIdle}
-use Rattle.fw_stands.specs.LawsOfAcknowledging as law
-use Rattle.fw_stands.specs.LawsOfAcknowledging.{acknowledged_state, KeepsAllButOutput}
+use Rattle.fw_stands.specs.Acknowledging as law
+use Rattle.fw_stands.specs.Acknowledging.{acknowledged_state}
 use Rattle.fw_stands.proofs.AcknowledgementLaws.{nothing_kept-idle, kept-acknowledged, acknowledged-stands, acknowledgement-keeps}
 use Rattle.fw_stands.proofs.EntrySteps.{entries_after_step, records_after_step}
-use Rattle.fw_stands.proofs.StayingLaws.{steps-stay_reached}
+use Rattle.fw_stands.proofs.AtReached.{reached-next}
 use Rattle.fw_stands.specs.Parts.{IsOutputOf}
 use Rattle.fw_running.specs.declared.running.Running.{Running}
 use Rattle.fw_running.specs.Kept.{is_down, output_of}
@@ -30,14 +28,6 @@ use Rattle.fw_running.proofs.KeptShapes.{logs-fit, progress-fits, queues-fit, sh
 
 -- ---- when
 
-something-in : (epochs : ℕ) (output : OutputState) (kind : Kind) (x : ℕ) → HasSomething epochs output kind x → law.HasSomething epochs output kind x
-something-in epochs output OutputNumber x h = h
-something-in epochs output kind x h = h
-
-something-out : (epochs : ℕ) (output : OutputState) (kind : Kind) (x : ℕ) → law.HasSomething epochs output kind x → HasSomething epochs output kind x
-something-out epochs output OutputNumber x h = h
-something-out epochs output kind x h = h
-
 -- an output of the engine may acknowledge where that of the state may
 can-in : (sys : System) (state : Machine) (running : Running) (o : ℕ) → running.flow ≡ sys.flow → running.failed.items ≡ state.failed → running.progress.settled ≡ state.settled
     → CanAcknowledge running o → law.CanAcknowledge sys state running.epochs o (output_of running o)
@@ -49,7 +39,7 @@ can-in sys state running o flow failed settled c =
       output = ap (λ f. is_output_kind (kind_of f o)) (sym flow) ∙ c.output;
       number = c.number;
       settled = ap (λ fs. inside (front_of fs o) (out.bound ∷ [])) (sym settled) ∙ c.settled;
-      some = something-in running.epochs out (kind_of sys.flow o) out.bound (subst (λ f. HasSomething running.epochs out (kind_of f o) out.bound) flow c.some);
+      some = subst (λ f. HasSomething running.epochs out (kind_of f o) out.bound) flow c.some;
     }
 
 can-out : (sys : System) (state : Machine) (running : Running) (o : ℕ) → running.flow ≡ sys.flow → running.failed.items ≡ state.failed → running.progress.settled ≡ state.settled
@@ -62,7 +52,7 @@ can-out sys state running o flow failed settled c =
       output = ap (λ f. is_output_kind (kind_of f o)) flow ∙ c.output;
       number = c.number;
       settled = ap (λ fs. inside (front_of fs o) (out.bound ∷ [])) settled ∙ c.settled;
-      some = subst (λ f. HasSomething running.epochs out (kind_of f o) out.bound) (sym flow) (something-out running.epochs out (kind_of sys.flow o) out.bound c.some);
+      some = subst (λ f. HasSomething running.epochs out (kind_of f o) out.bound) (sym flow) c.some;
     }
 
 -- where it may not, the machine acknowledges nothing
@@ -132,7 +122,7 @@ after-stands sys state running records o places there n c s =
     record {
       flow = s.flow;
       well_formed = s.well_formed;
-      reached = steps-stay_reached sys state next (Ack o) (did (acked o (x ∷ []) recs)) s.reached leads;
+      reached = reached-next sys state next (Ack o) (did (acked o (x ∷ []) recs)) s.reached leads;
       settled = s.settled;
       failed = s.failed;
       low = s.low;

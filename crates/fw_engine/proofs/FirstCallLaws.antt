@@ -8,7 +8,7 @@ use Rattle.fw_flow.specs.Dataflow.{System, policy_of, receiver}
 use Rattle.fw_model.specs.Auto.{IsIdle, AreIdle, IsFirstEnabled, deliveries, notifications, acknowledgements, injections, auto_steps}
 use Rattle.fw_model.specs.Machine.{Machine}
 use Rattle.fw_model.specs.Steps.{Effect, LeadsTo}
-use Rattle.fw_stands.specs.LawsOfFirstSteps.{delivery, notification, AreIdleBelow, NoneToDeliver, NoneToNotify}
+use Rattle.fw_stands.specs.FirstSteps.{delivery, notification, AreIdleBelow, NoneToDeliver, NoneToNotify}
 use Rattle.fw_stands.proofs.FirstStepLaws.{first-behind, first-before, group-idle, group-first}
 use Rattle.fw_running.specs.Steps.{FirstMayCall, HasEager}
 

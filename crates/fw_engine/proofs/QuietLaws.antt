@@ -8,7 +8,7 @@ use Rattle.fw_flow.specs.declared.step.Step.{Step}
 use Rattle.fw_flow.specs.declared.step.Step.TheVariants.{Progress as ProgressStep, Persist}
 use Rattle.fw_flow.specs.Dataflow.{Dataflow, policy_of, receiver}
 use Rattle.fw_model.specs.Auto.{deliveries, notifications, acknowledgements, injections, auto_steps}
-use Rattle.fw_stands.specs.LawsOfFirstSteps.{delivery, notification}
+use Rattle.fw_stands.specs.FirstSteps.{delivery, notification}
 use Rattle.fw_running.specs.declared.fault.EngineFault.{EngineFault}
 use Rattle.fw_running.specs.declared.fault.EngineFault.TheVariants as fault
 use Rattle.fw_running.specs.declared.running.Running.{Running}

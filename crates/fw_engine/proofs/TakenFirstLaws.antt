@@ -15,9 +15,9 @@ use Rattle.fw_model.specs.Steps.{Effect, silent, did, LeadsTo, with_event}
 use Rattle.fw_keep.specs.Stored.{Records}
 use Rattle.fw_border.specs.Outputs.{AreByNumber}
 use Rattle.fw_border.specs.Sources.{next_batch}
-use Rattle.fw_stands.specs.LawsOfFirstSteps.{delivery, notification, AreIdleBelow, NoneToAcknowledge, NoneToDeliver, NoneToNotify, NoneToSettle}
+use Rattle.fw_stands.specs.FirstSteps.{delivery, notification, AreIdleBelow, NoneToAcknowledge, NoneToDeliver, NoneToNotify, NoneToSettle}
 use Rattle.fw_stands.specs.Parts.{queued}
-use Rattle.fw_stands.proofs.TakingLaws.{acknowledgements-next, deliveries-next, delivers-only, enabled_steps-taken, first_queued-delivered, injections-last, injects-only, next_batch-injected, nothing-taken, nothing_counted-idle, notifications-next}
+use Rattle.fw_stands.proofs.TakingLaws.{acknowledgements-next, deliveries-next, delivers-only, first_queued-delivered, injections-last, injects-only, next_batch-injected, nothing-taken, nothing_counted-idle, notifications-next}
 use Rattle.fw_running.specs.declared.fault.EngineFault.{EngineFault}
 use Rattle.fw_running.specs.declared.fault.EngineFault.TheVariants as fault
 use Rattle.fw_running.specs.declared.running.Running.{Running}
@@ -119,7 +119,7 @@ deliver-first old mid ready new before after e result is first sound full t = λ
     let l : e < length sys.flow.edges = subst (λ (flow : Dataflow). e < length flow.edges) s.flow can.there in
     let d = delivered sys old before state s e l (queued sys state e) refl (λ nothing. can.some (s.queues e l ∙ nothing)) in
     let below : AreIdleBelow sys state delivery e = λ i k. no_delivery sys old before state s i (omega (arith, k, l)) (first.1 i k) in
-    first_answers enabled_steps-taken sys state d.0 (Deliver e None) d.1 result new before after d.2
+    first_answers sys state d.0 (Deliver e None) d.1 result new before after d.2
     (λ next shown leads. deliveries-next sys state none e l below next shown leads) tt (λ P left. left.1) sound
     (λ failed. delivery-calls sys state none e l below d.0 d.1 d.2
     (subst (λ (flow : Dataflow). policy_of flow (receiver flow e) ≡ policy.Full) (ap (λ (r : Running). r.flow) is ∙ s.flow) (full failed)))
@@ -207,7 +207,7 @@ acknowledge-first old mid ready new records o result is first numbered sound unf
     let can = first.0 in
     let l : o < length sys.flow.nodes = subst (λ (flow : Dataflow). o < length flow.nodes) s.flow can.there in
     let below : AreIdleBelow sys state Ack o = λ i k. idle-acknowledges sys state old records i s (first.1 i k) in
-    first_answers enabled_steps-taken sys state _ (Ack o) _ result new records records (acknowledges sys state old records o s numbered can)
+    first_answers sys state _ (Ack o) _ result new records records (acknowledges sys state old records o s numbered can)
     (λ next shown leads. acknowledgements-next sys state none o l below next shown leads) tt (λ P left. left.1) sound
     (λ failed. absurd (unfaulted failed))
     (t sys state (with_ready_stands sys state old mid records ready is s))
@@ -252,7 +252,7 @@ inject-first old mid ready new records p result is first sound unfaulted t = λ 
     let live : is_failed state p ≡ false = sym (down-failed sys old records state s p) ∙ can.live in
     let d = injected sys old records state s p l input live (next_batch (source_of old p)) refl can.some in
     let below : AreIdleBelow sys state Inject p = λ i k. no_injection sys old records state s i (omega (arith, k, l)) (first.1 i k) in
-    first_answers enabled_steps-taken sys state d.0 (Inject p) d.1 result new records records d.2
+    first_answers sys state d.0 (Inject p) d.1 result new records records d.2
     (λ next shown leads. injections-last sys state none p l below next shown leads) tt (λ P left. left.1) sound
     (λ failed. absurd (unfaulted failed))
     (t sys state (with_ready_stands sys state old mid records ready is s))

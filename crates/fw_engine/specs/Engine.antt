@@ -1,14 +1,20 @@
 -- What contracts say of an engine.
-use Rattle.std.specs.Prelude.{ℕ, Bool, List, Option}
+use Rattle.std.specs.Prelude.{◌≡◌, ◌≢◌, ℕ, Bool, true, List, [], Option, None, Result, Ok, IfOk, IsErrOf, IsTrue, OnOk, is_some}
+use Rattle.fw_outside.specs.Outside.{StoreView}
 use Rattle.fw_flow.specs.declared.step.Step.{Step}
+use Rattle.fw_flow.specs.declared.step.Step.TheVariants.{Collect, Recover}
 use Rattle.fw_flow.specs.Dataflow.{Dataflow, System}
 use Rattle.fw_model.specs.Machine.{Machine}
-use Rattle.fw_keep.specs.Catalogue.{KeepState}
-use Rattle.fw_keep.specs.Stored.{Records}
+use Rattle.fw_keep.specs.Catalogue.{KeepState, AreAscending, ids_of}
+use Rattle.fw_keep.specs.Stored.{Records, IsStored}
 use Rattle.fw_engine.specs.declared.engine.Engine.{Engine}
+use Rattle.fw_running.specs.declared.fault.EngineFault.{EngineFault}
+use Rattle.fw_running.specs.declared.fault.EngineFault.TheVariants as fault
 use Rattle.fw_running.specs.declared.stepped.Stepped.{Stepped}
+use Rattle.fw_running.specs.declared.stepped.Stepped.TheVariants.{Idle}
+use Rattle.fw_running.specs.Faults.{faults_after, is_refusal}
 use Rattle.fw_running.specs.Stands.{Stands}
-use Rattle.fw_running.specs.Steps.{Follows, FollowsFirst, IsDamage, outcome_of}
+use Rattle.fw_running.specs.Steps.{Follows, FollowsFirst, FirstMayCall, HasOutcome, IsDamage, IsLeftBy, IsStepEnabled, MayCallByItself, MayCallStore, Trusts, outcome_of}
 
 -- the flow that it runs
 abbrev pub flow_of : Engine → Dataflow
@@ -41,3 +47,66 @@ FollowsFirstStep sys state stepped engine records = FollowsFirst sys state (outc
 -- of the write with the id the store gave bytes that spell no record of it
 abbrev pub IsDamaged : Engine → ℕ → Option (ℕ × List ℕ) → Type 0
 IsDamaged engine id given = IsDamage engine.running id given
+
+-- What a step of an engine answers over a store, of which the view is what is known of it.
+pub record EngineAnswers {K : Type 0} (view : K → StoreView) (old : Engine) (before : K) (step : Step) (result : Result Stepped EngineFault)
+    (new : Engine) (after : K) : Type 0 where
+  -- the store holds what the catalogue names, and the flow stays; the ids of what is written ascend
+  pub stored : IsStored (keep_of new) (view after).records
+  pub flow : flow_of new ≡ flow_of old
+  pub in_order : AreAscending (ids_of (keep_of new).entries)
+  -- it goes from each state for which it stood as the machine does, unless it can't trust what it reads
+  pub ok : ForEachState old (view before).records (λ sys state. Trusts sys state step (view before).records
+      → IfOk result (λ stepped. FollowsStep sys state step stepped new (view after).records))
+  -- What is told is the machine's outcome, also of a recovery that can't trust what it reads. For which state the engine then stands
+  -- is not said.
+  pub shows : ForEachState old (view before).records (λ sys state. IfOk result (λ stepped. HasOutcome sys state step (outcome_of stepped)))
+  -- after a collection nothing waits for a sweep
+  pub swept : step ≡ Collect → OnOk result ((keep_of new).waiting ≡ [])
+  -- A store that tells its records goes on telling them. A step that by the flow's policies never calls it leaves it as it is, and so
+  -- does an idle one that is no collection.
+  pub tells : is_some (view after).records ≡ is_some (view before).records
+  pub quiet : (MayCallStore (flow_of old) step → ⊥) → after ≡ before
+  pub idle : step ≢ Collect → result ≡ Ok Idle → after ≡ before
+  -- The store's count of faults rises by one at StoreFault (at 2^64 - 1 it stays), and at no other answer. StoreFault comes only in a
+  -- step that may call the store, and that is enabled or a collection. Then the engine stands where it stood, or where the collection
+  -- led.
+  pub faults : (view after).faults ≡ faults_after result (view before).faults
+  pub calls : IsErrOf result fault.StoreFault → MayCallStore (flow_of old) step
+  pub faulted : ForEachState old (view before).records (λ sys state. IsErrOf result fault.StoreFault
+      → IsLeftBy sys state step (λ next. StandsFor sys new (view after).records next))
+  -- a record is damaged in a recovery alone, over a store that does not tell its records
+  pub damaged : (id : ℕ) → IsErrOf result (fault.Damaged id) → IsDamaged old id (view after).given
+  pub in_recovery : (id : ℕ) → IsErrOf result (fault.Damaged id) → step ≡ Recover
+  pub unharmed : (id : ℕ) → ForEachState old (view before).records (λ sys state. IsErrOf result (fault.Damaged id)
+      → ((view before).records ≡ None) × IsStepEnabled sys state Recover × StandsFor sys new (view after).records state)
+  -- once memory is refused, each later step answers that
+  pub refused : IsErrOf result fault.NoMemory → was_refused new ≡ true
+  pub told : was_refused new ≡ is_refusal result
+  pub stays : IsTrue (was_refused old) → IsErrOf result fault.NoMemory
+
+-- What the first step that is enabled answers.
+pub record FirstAnswers {K : Type 0} (view : K → StoreView) (old : Engine) (before : K) (result : Result Stepped EngineFault) (new : Engine)
+    (after : K) : Type 0 where
+  -- the store holds what the catalogue names, and the flow stays; the ids of what is written ascend
+  pub stored : IsStored (keep_of new) (view after).records
+  pub flow : flow_of new ≡ flow_of old
+  pub in_order : AreAscending (ids_of (keep_of new).entries)
+  -- it goes from each state for which it stood as the machine does
+  pub ok : ForEachState old (view before).records (λ sys state. IfOk result (λ stepped. FollowsFirstStep sys state stepped new (view after).records))
+  -- A store that tells its records goes on telling them. Where no step that is taken by itself may call it, and where none is taken,
+  -- it is left as it is.
+  pub tells : is_some (view after).records ≡ is_some (view before).records
+  pub quiet : (MayCallByItself (flow_of old) → ⊥) → after ≡ before
+  pub idle : result ≡ Ok Idle → after ≡ before
+  -- The store's count of faults rises by one at StoreFault (at 2^64 - 1 it stays), and at no other answer. StoreFault comes only where
+  -- the first step that is enabled may call the store. Then the engine stands where it stood.
+  pub faults : (view after).faults ≡ faults_after result (view before).faults
+  pub calls : ForEachState old (view before).records (λ sys state. IsErrOf result fault.StoreFault → FirstMayCall sys state)
+  pub faulted : ForEachState old (view before).records (λ sys state. IsErrOf result fault.StoreFault → StandsFor sys new (view after).records state)
+  -- no record is damaged
+  pub unharmed : (id : ℕ) → IsErrOf result (fault.Damaged id) → ⊥
+  -- once memory is refused, each later step answers that
+  pub refused : IsErrOf result fault.NoMemory → was_refused new ≡ true
+  pub told : was_refused new ≡ is_refusal result
+  pub stays : IsTrue (was_refused old) → IsErrOf result fault.NoMemory

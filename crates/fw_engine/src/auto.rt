@@ -3,7 +3,7 @@ ghost use Rattle.std.specs.Prelude.{◌≡◌, ◌↔◌, Option, Ok, IsErrOf, I
 ghost use Rattle.fw_running.specs.Faults.{faults_after};
 ghost use Rattle.fw_border.specs.Outputs.{AreByNumber};
 ghost use Rattle.fw_keep.specs.Stored.{Records, IsStored};
-ghost use Rattle.fw_stands.specs.LawsOfFirstSteps.{NoneToDeliver, NoneToNotify, NoneToSettle, NoneToAcknowledge};
+ghost use Rattle.fw_stands.specs.FirstSteps.{NoneToDeliver, NoneToNotify, NoneToSettle, NoneToAcknowledge};
 ghost use Rattle.fw_running.specs.Kept.{output_of};
 ghost use Rattle.fw_running.specs.Places.{IsFirstWhere, IsTakenOut};
 ghost use Rattle.fw_running.specs.Ready.{CanAcknowledge, CanDeliver, CanInject, IsOwing};
@@ -34,14 +34,14 @@ pub(crate) fn take_first<K: Store>(
     store: &mut K,
 ) -> Result<Stepped, EngineFault>
     requires shaped { IsShaped running.old }
-    requires stored { IsStored running.old.parts.keep (K.records store.old) }
+    requires stored { IsStored running.old.parts.keep (K.view store.old).records }
     ensures shaped { StaysShaped result running.new }
-    ensures stored { IsStored running.new.parts.keep (K.records store.new) }
+    ensures stored { IsStored running.new.parts.keep (K.view store.new).records }
     ensures flow { running.new.flow ≡ running.old.flow }
-    ensures takes { TakesFirstStep running.old (K.records store.old) result running.new (K.records store.new) }
-    ensures faults { K.fault_count store.new ≡ faults_after result (K.fault_count store.old) }
+    ensures takes { TakesFirstStep running.old (K.view store.old).records result running.new (K.view store.new).records }
+    ensures faults { (K.view store.new).faults ≡ faults_after result (K.view store.old).faults }
     ensures undamaged { IsUndamaged result }
-    ensures tells { is_some (K.records store.new) ≡ is_some (K.records store.old) }
+    ensures tells { is_some (K.view store.new).records ≡ is_some (K.view store.old).records }
     ensures quiet { (MayCallByItself running.old.flow → ⊥) → store.new ≡ store.old }
     ensures idle { result ≡ Ok Idle → store.new ≡ store.old }
 {
@@ -54,14 +54,14 @@ pub(crate) fn take_first<K: Store>(
 // The same where no write can be acknowledged: the first delivery that is enabled, or what comes later.
 fn deliver_first<K: Store>(running: &mut Running, store: &mut K) -> Result<Stepped, EngineFault>
     requires shaped { IsShaped running.old }
-    requires stored { IsStored running.old.parts.keep (K.records store.old) }
+    requires stored { IsStored running.old.parts.keep (K.view store.old).records }
     ensures shaped { StaysShaped result running.new }
-    ensures stored { IsStored running.new.parts.keep (K.records store.new) }
+    ensures stored { IsStored running.new.parts.keep (K.view store.new).records }
     ensures flow { running.new.flow ≡ running.old.flow }
-    ensures takes { TakesFirstAfter NoneToPersist running.old (K.records store.old) result running.new (K.records store.new) }
-    ensures faults { K.fault_count store.new ≡ faults_after result (K.fault_count store.old) }
+    ensures takes { TakesFirstAfter NoneToPersist running.old (K.view store.old).records result running.new (K.view store.new).records }
+    ensures faults { (K.view store.new).faults ≡ faults_after result (K.view store.old).faults }
     ensures undamaged { IsUndamaged result }
-    ensures tells { is_some (K.records store.new) ≡ is_some (K.records store.old) }
+    ensures tells { is_some (K.view store.new).records ≡ is_some (K.view store.old).records }
     ensures quiet { (MayCallByItself running.old.flow → ⊥) → store.new ≡ store.old }
     ensures idle { result ≡ Ok Idle → store.new ≡ store.old }
 {
@@ -74,14 +74,14 @@ fn deliver_first<K: Store>(running: &mut Running, store: &mut K) -> Result<Stepp
 // The same where besides nothing can be delivered: the first notification that is enabled, or what comes later.
 fn notify_first<K: Store>(running: &mut Running, store: &mut K) -> Result<Stepped, EngineFault>
     requires shaped { IsShaped running.old }
-    requires stored { IsStored running.old.parts.keep (K.records store.old) }
+    requires stored { IsStored running.old.parts.keep (K.view store.old).records }
     ensures shaped { StaysShaped result running.new }
-    ensures stored { IsStored running.new.parts.keep (K.records store.new) }
+    ensures stored { IsStored running.new.parts.keep (K.view store.new).records }
     ensures flow { running.new.flow ≡ running.old.flow }
-    ensures takes { TakesFirstAfter NoneToDeliver running.old (K.records store.old) result running.new (K.records store.new) }
-    ensures faults { K.fault_count store.new ≡ faults_after result (K.fault_count store.old) }
+    ensures takes { TakesFirstAfter NoneToDeliver running.old (K.view store.old).records result running.new (K.view store.new).records }
+    ensures faults { (K.view store.new).faults ≡ faults_after result (K.view store.old).faults }
     ensures undamaged { IsUndamaged result }
-    ensures tells { is_some (K.records store.new) ≡ is_some (K.records store.old) }
+    ensures tells { is_some (K.view store.new).records ≡ is_some (K.view store.old).records }
     ensures quiet { (MayCallByItself running.old.flow → ⊥) → store.new ≡ store.old }
     ensures idle { result ≡ Ok Idle → store.new ≡ store.old }
 {
@@ -95,14 +95,14 @@ fn notify_first<K: Store>(running: &mut Running, store: &mut K) -> Result<Steppe
 // The same where besides no node can be notified: what is complete is settled, or what comes later.
 fn settle_first<K: Store>(running: &mut Running, store: &mut K) -> Result<Stepped, EngineFault>
     requires shaped { IsShaped running.old }
-    requires stored { IsStored running.old.parts.keep (K.records store.old) }
+    requires stored { IsStored running.old.parts.keep (K.view store.old).records }
     ensures shaped { StaysShaped result running.new }
-    ensures stored { IsStored running.new.parts.keep (K.records store.new) }
+    ensures stored { IsStored running.new.parts.keep (K.view store.new).records }
     ensures flow { running.new.flow ≡ running.old.flow }
-    ensures takes { TakesFirstAfter NoneToNotify running.old (K.records store.old) result running.new (K.records store.new) }
-    ensures faults { K.fault_count store.new ≡ faults_after result (K.fault_count store.old) }
+    ensures takes { TakesFirstAfter NoneToNotify running.old (K.view store.old).records result running.new (K.view store.new).records }
+    ensures faults { (K.view store.new).faults ≡ faults_after result (K.view store.old).faults }
     ensures undamaged { IsUndamaged result }
-    ensures tells { is_some (K.records store.new) ≡ is_some (K.records store.old) }
+    ensures tells { is_some (K.view store.new).records ≡ is_some (K.view store.old).records }
     ensures quiet { (MayCallByItself running.old.flow → ⊥) → store.new ≡ store.old }
     ensures idle { result ≡ Ok Idle → store.new ≡ store.old }
 {

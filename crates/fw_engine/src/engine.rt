@@ -1,16 +1,12 @@
 //! The engine.
-ghost use Rattle.std.specs.Prelude.{◌≡◌, ◌≢◌, ℕ, Option, true, false, None, Ok, IsTrue, IfOk, IsErrOf, is_some, OnOk, []};
-ghost use Rattle.fw_flow.specs.declared.step.Step.TheVariants.{Collect, Recover};
+ghost use Rattle.std.specs.Prelude.{◌≡◌, false, IfOk};
 ghost use Rattle.fw_flow.specs.Dataflow.{system_of};
 ghost use Rattle.fw_flow.specs.WellFormed.{IsWellFormedSystem};
 ghost use Rattle.fw_model.specs.Machine.{first_state};
 ghost use Rattle.fw_keep.specs.Catalogue.{AreAscending, ids_of};
 ghost use Rattle.fw_keep.specs.Stored.{Records, IsEmptyStore, IsStored};
 ghost use Rattle.fw_running.specs.Faults as faults;
-ghost use Rattle.fw_running.specs.Faults.{faults_after};
-ghost use Rattle.fw_running.specs.declared.stepped.Stepped.TheVariants.{Idle};
 ghost use Rattle.fw_running.specs.Shaped.{IsShaped};
-ghost use Rattle.fw_running.specs.Steps.{Trusts, HasOutcome, MayCallStore, MayCallByItself, FirstMayCall, IsLeftBy, IsStepEnabled, outcome_of};
 
 use crate::auto::take_first;
 use crate::taking::take;
@@ -32,7 +28,7 @@ pub struct Engine {
 }
 
 impl Engine {
-    ghost use Rattle.fw_engine.specs.Engine.{flow_of, keep_of, was_refused, StandsFor, ForEachState, FollowsStep, FollowsFirstStep, IsDamaged};
+    ghost use Rattle.fw_engine.specs.Engine.{flow_of, keep_of, was_refused, StandsFor, EngineAnswers, FirstAnswers};
 
     /// An engine to which nothing has happened. The error is want of memory.
     pub fn new(alloc: Global, flow: Flow, batches: &Batches) -> Result<Self, AllocError>
@@ -70,46 +66,8 @@ impl Engine {
     /// gives to a recovery spell no record of a write; the engine stands where it stood. `NoMemory` where memory is refused,
     /// now or earlier.
     pub fn step<K: Store>(&mut self, step: &Step, store: &mut K) -> Result<Stepped, EngineFault>
-        requires stored { IsStored (keep_of self.old) (K.records store.old) }
-        ensures stored { IsStored (keep_of self.new) (K.records store.new) }
-        ensures flow { flow_of self.new ≡ flow_of self.old }
-        ensures ok { ForEachState self.old (K.records store.old) (λ sys state. Trusts sys state step.now (K.records store.old)
-            → IfOk result (λ stepped. FollowsStep sys state step.now stepped self.new (K.records store.new))) }
-
-        // What is told is the machine's outcome, also of a recovery that can not trust what it reads. For which state the engine then
-        // stands is not said.
-        ensures shows { ForEachState self.old (K.records store.old)
-            (λ sys state. IfOk result (λ stepped. HasOutcome sys state step.now (outcome_of stepped))) }
-
-        // After a collection nothing waits for a sweep.
-        ensures swept { step.now ≡ Collect → OnOk result ((keep_of self.new).waiting ≡ []) }
-
-        // The ids of what is written ascend.
-        ensures in_order { AreAscending (ids_of (keep_of self.new).entries) }
-
-        // A store that tells its records goes on telling them. A step that by the flow's policies never calls it leaves it as it is,
-        // and so does an idle one that is no collection.
-        ensures tells { is_some (K.records store.new) ≡ is_some (K.records store.old) }
-        ensures quiet { (MayCallStore (flow_of self.old) step.now → ⊥) → store.new ≡ store.old }
-        ensures idle { step.now ≢ Collect → result ≡ Ok Idle → store.new ≡ store.old }
-
-        // The store's count of faults rises by one at StoreFault (at 2^64 - 1 it stays), and at no other answer. StoreFault comes
-        // only in a step that may call the store, and that is enabled or a collection. Then the engine stands where it stood, or
-        // where the collection led.
-        ensures faults { K.fault_count store.new ≡ faults_after result (K.fault_count store.old) }
-        ensures calls { IsErrOf result EngineFault.StoreFault → MayCallStore (flow_of self.old) step.now }
-        ensures faulted { ForEachState self.old (K.records store.old) (λ sys state. IsErrOf result EngineFault.StoreFault
-            → IsLeftBy sys state step.now (λ next. StandsFor sys self.new (K.records store.new) next)) }
-
-        // A record is damaged in a recovery alone, over a store that does not tell its records.
-        ensures damaged { (id : ℕ) → IsErrOf result (EngineFault.Damaged id) → IsDamaged self.old id (K.given store.new) }
-        ensures in_recovery { (id : ℕ) → IsErrOf result (EngineFault.Damaged id) → step.now ≡ Recover }
-        ensures unharmed { (id : ℕ) → ForEachState self.old (K.records store.old) (λ sys state. IsErrOf result (EngineFault.Damaged id)
-            → (K.records store.old ≡ None) × IsStepEnabled sys state Recover × StandsFor sys self.new (K.records store.new) state) }
-
-        ensures refused { IsErrOf result EngineFault.NoMemory → was_refused self.new ≡ true }
-        ensures told { was_refused self.new ≡ faults.is_refusal result }
-        ensures stays { IsTrue (was_refused self.old) → IsErrOf result EngineFault.NoMemory }
+        requires stored { IsStored (keep_of self.old) (K.view store.old).records }
+        ensures { EngineAnswers K.view self.old store.old step.now result self.new store.new }
     {
         ids_ascend(&self.running);
         if self.refused {
@@ -124,33 +82,11 @@ impl Engine {
 
     /// Takes the first step that is enabled: the oldest write is acknowledged; a message is delivered, edge by edge; a node
     /// is notified, node by node; what is complete is settled; an output acknowledges; an input injects. Idle exactly where
-    /// none of these is enabled, and then it stands where it stood, and the store is as it was. The errors are those of `step`; no record is damaged.
+    /// none of these is enabled, and then it stands where it stood, and the store is as it was. The errors are those of `step`;
+    /// no record is damaged.
     pub fn auto_step<K: Store>(&mut self, store: &mut K) -> Result<Stepped, EngineFault>
-        requires stored { IsStored (keep_of self.old) (K.records store.old) }
-        ensures stored { IsStored (keep_of self.new) (K.records store.new) }
-        ensures flow { flow_of self.new ≡ flow_of self.old }
-        ensures ok { ForEachState self.old (K.records store.old)
-            (λ sys state. IfOk result (λ stepped. FollowsFirstStep sys state stepped self.new (K.records store.new))) }
-        ensures in_order { AreAscending (ids_of (keep_of self.new).entries) }
-
-        // A store that tells its records goes on telling them. Where no step that is taken by itself may call it, and where none is
-        // taken, it is left as it is.
-        ensures tells { is_some (K.records store.new) ≡ is_some (K.records store.old) }
-        ensures quiet { (MayCallByItself (flow_of self.old) → ⊥) → store.new ≡ store.old }
-        ensures idle { result ≡ Ok Idle → store.new ≡ store.old }
-
-        // The store's count of faults rises as in `step`. StoreFault comes only where the first step that is enabled may call the
-        // store. Then the engine stands where it stood.
-        ensures faults { K.fault_count store.new ≡ faults_after result (K.fault_count store.old) }
-        ensures calls { ForEachState self.old (K.records store.old)
-            (λ sys state. IsErrOf result EngineFault.StoreFault → FirstMayCall sys state) }
-        ensures faulted { ForEachState self.old (K.records store.old)
-            (λ sys state. IsErrOf result EngineFault.StoreFault → StandsFor sys self.new (K.records store.new) state) }
-
-        ensures unharmed { (id : ℕ) → IsErrOf result (EngineFault.Damaged id) → ⊥ }
-        ensures refused { IsErrOf result EngineFault.NoMemory → was_refused self.new ≡ true }
-        ensures told { was_refused self.new ≡ faults.is_refusal result }
-        ensures stays { IsTrue (was_refused self.old) → IsErrOf result EngineFault.NoMemory }
+        requires stored { IsStored (keep_of self.old) (K.view store.old).records }
+        ensures { FirstAnswers K.view self.old store.old result self.new store.new }
     {
         ids_ascend(&self.running);
         if self.refused {

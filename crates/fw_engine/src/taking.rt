@@ -24,17 +24,17 @@ pub(crate) fn take<K: Store>(
     store: &mut K,
 ) -> Result<Stepped, EngineFault>
     requires shaped { IsShaped running.old }
-    requires stored { IsStored running.old.parts.keep (K.records store.old) }
+    requires stored { IsStored running.old.parts.keep (K.view store.old).records }
     ensures shaped { StaysShaped result running.new }
-    ensures stored { IsStored running.new.parts.keep (K.records store.new) }
+    ensures stored { IsStored running.new.parts.keep (K.view store.new).records }
     ensures flow { running.new.flow ≡ running.old.flow }
-    ensures takes { TakesStep running.old (K.records store.old) step.now result running.new (K.records store.new) }
-    ensures shows { step.now ≡ Recover → ShowsOutcome running.old (K.records store.old) step.now result }
-    ensures faults { K.fault_count store.new ≡ faults_after result (K.fault_count store.old) }
+    ensures takes { TakesStep running.old (K.view store.old).records step.now result running.new (K.view store.new).records }
+    ensures shows { step.now ≡ Recover → ShowsOutcome running.old (K.view store.old).records step.now result }
+    ensures faults { (K.view store.new).faults ≡ faults_after result (K.view store.old).faults }
     ensures calls { IsErrOf result EngineFault.StoreFault → MayCallStore running.old.flow step.now }
-    ensures damaged { (id : ℕ) → IsErrOf result (EngineFault.Damaged id) → IsDamage running.old id (K.given store.new) }
+    ensures damaged { (id : ℕ) → IsErrOf result (EngineFault.Damaged id) → IsDamage running.old id (K.view store.new).given }
     ensures in_recovery { (id : ℕ) → IsErrOf result (EngineFault.Damaged id) → step.now ≡ Recover }
-    ensures tells { is_some (K.records store.new) ≡ is_some (K.records store.old) }
+    ensures tells { is_some (K.view store.new).records ≡ is_some (K.view store.old).records }
     ensures swept { step.now ≡ Collect → OnOk result (running.new.parts.keep.waiting ≡ []) }
     ensures quiet { (MayCallStore running.old.flow step.now → ⊥) → store.new ≡ store.old }
     ensures idle { step.now ≢ Collect → result ≡ Ok Idle → store.new ≡ store.old }

@@ -34,13 +34,14 @@ use Rattle.fw_node.specs.Answers.{caused_by}
 use Rattle.fw_policy.specs.View.{IsLostAt}
 use Rattle.fw_progress.specs.History.{Follows}
 use Rattle.fw_progress.specs.Trace.{TracesFollow}
-use Rattle.fw_stands.specs.LawsOfEvents.{put_on, LogFollows, QueueFollows}
-use Rattle.fw_stands.specs.LawsOfEntries.{entries_of_event}
+use Rattle.fw_stands.specs.Events.{put_on, LogFollows, QueueFollows}
+use Rattle.fw_stands.specs.Entries.{entries_of_event}
 use Rattle.fw_stands.specs.Parts.{queued, is_logging, logged, IsTableIn, IsOutputOf, IsSourceOf}
 use Rattle.fw_stands.specs.Written.{told_of, uncollected, AreEntriesOf, AreStored}
 use Rattle.fw_stands.proofs.EntrySteps.{entries_after_event, entries_after_step, records_after_logged_event, records_after_step, injections_are_not_logged}
 use Rattle.fw_stands.proofs.EventBorderLaws.{outputs-stay, sources-stay}
-use Rattle.fw_stands.proofs.EventLostLaws.{reached-goes_on, lost-stays}
+use Rattle.fw_stands.proofs.AtReached.{reached-next}
+use Rattle.fw_stands.proofs.EventLostLaws.{lost-stays}
 use Rattle.fw_stands.proofs.EventQueueLaws.{queues-follow, logs-follow}
 use Rattle.fw_stands.proofs.EventTableLaws.{deliveries-can_be_taken_in, notices-can_be_taken, tables-stay}
 use Rattle.fw_stands.proofs.EventTraceLaws.{traces-follow, progress-follows}
@@ -148,7 +149,7 @@ events_are_followed sys state v old new before after step effect s enabled live 
     record {
       flow = o.flow ∙ s.flow;
       well_formed = w;
-      reached = reached-goes_on sys state next step (did effect) r leads;
+      reached = reached-next sys state next step (did effect) r leads;
       settled = o.settled ∙ s.settled;
       failed = o.failed ∙ s.failed;
       low = o.low ∙ s.low;

@@ -18,7 +18,7 @@ use Rattle.fw_model.proofs.NothingInsideLaws.{kind-declared}
 use Rattle.fw_border.specs.Sources.{next_batch}
 use Rattle.fw_edge.specs.Messages.{MessagesState}
 use Rattle.fw_rollback.specs.Edges.{nothing_there, on_edge}
-use Rattle.fw_stands.specs.LawsOfEvents.{asked_of, next_queued}
+use Rattle.fw_stands.specs.Events.{asked_of, next_queued}
 use Rattle.fw_stands.proofs.EventNextLaws.{next-first_at_its_stamp}
 use Rattle.fw_running.specs.Shaped.{IsOnEdge, IsShaped}
 use Rattle.fw_running.specs.declared.running.Running.{Running}

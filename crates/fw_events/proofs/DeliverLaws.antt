@@ -17,7 +17,7 @@ use Rattle.fw_keep.specs.Catalogue.{KeepState}
 use Rattle.fw_keep.specs.Stored.{Records}
 use Rattle.fw_edge.specs.Messages.{MessagesState}
 use Rattle.fw_rollback.specs.Edges.{nothing_there}
-use Rattle.fw_stands.specs.LawsOfEvents.{next_queued, IsDeliveryOf}
+use Rattle.fw_stands.specs.Events.{next_queued, IsDeliveryOf}
 use Rattle.fw_stands.specs.Parts.{queued}
 use Rattle.fw_stands.proofs.EventNextLaws.{deliveries-take_next, queues-have_next}
 use Rattle.fw_stands.proofs.EventQueueLaws.{nothing-queued_past}

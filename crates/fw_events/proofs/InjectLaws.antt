@@ -31,7 +31,7 @@ use Rattle.fw_progress.specs.declared.traces.Traces.{Traces}
 use Rattle.fw_progress.specs.History.{Follows as ProgressFollows}
 use Rattle.fw_progress.specs.Progress.{Standing}
 use Rattle.fw_progress.specs.Trace.{TracesFollow}
-use Rattle.fw_stands.specs.LawsOfEvents.{at_epoch, AreSent, IsInjectionOf}
+use Rattle.fw_stands.specs.Events.{at_epoch, AreSent, IsInjectionOf}
 use Rattle.fw_stands.specs.Parts.{has_table, IsTableIn, IsSourceOf}
 use Rattle.fw_stands.proofs.EventAnswerLaws.{injections-send}
 use Rattle.fw_stands.proofs.EventBorderLaws.{sources-go_on, sources-have_next}

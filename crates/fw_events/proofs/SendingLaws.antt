@@ -19,7 +19,7 @@ use Rattle.fw_model.specs.SortedMessages.{with_messages}
 use Rattle.fw_edge.specs.Messages.{MessagesState}
 use Rattle.fw_node.specs.Answers.{caused_by}
 use Rattle.fw_rollback.specs.Edges.{on_edge}
-use Rattle.fw_stands.specs.LawsOfEvents.{put_on}
+use Rattle.fw_stands.specs.Events.{put_on}
 use Rattle.fw_stands.proofs.EventPutLaws.{out_edge-all, out_edge-more, out_edge-new}
 use Rattle.fw_running.specs.declared.running.Running.{Running}
 use Rattle.fw_running.specs.Kept.{queue_at, log_at, is_down}

@@ -27,12 +27,12 @@ use Rattle.fw_progress.specs.Trace.{HaveLists}
 use Rattle.fw_rollback.specs.Edges.{on_edge}
 use Rattle.fw_rollback.specs.Tables.{table_at}
 use Rattle.fw_running.specs.declared.running.Running.{Running}
-use Rattle.fw_running.specs.Kept.{queue_at, log_at, output_of, is_down}
+use Rattle.fw_running.specs.Kept.{queue_at, log_at, output_of, is_down, with_tables}
 use Rattle.fw_running.specs.Ready.{CanAcknowledge, CanDeliver, CanInject, CanAcknowledgeBy, HasGrownBy, IsOwing}
 use Rattle.fw_running.specs.Shaped.{IsOnEdge, IsShaped}
 use Rattle.fw_running.proofs.KeptShapes.{logs-fit, progress-fits, queues-fit, shaped-changed, shaped-parts, shaped-standing, tables-fit, traces-fit}
 use Rattle.fw_events.specs.Sending.{with_queues, with_logs, sent_to, ChangesEdges, SendsOn}
-use Rattle.fw_events.specs.Taking.{with_owing, with_outputs, with_sources, with_tables, with_told}
+use Rattle.fw_events.specs.Taking.{with_owing, with_outputs, with_sources, with_told}
 
 -- ---- edges
 

@@ -20,7 +20,7 @@ use Rattle.fw_node.specs.declared.node.Node.{Node}
 use Rattle.fw_node.specs.Sends.{notice_sends}
 use Rattle.fw_node.specs.TableOf.{IsTableOf}
 use Rattle.fw_rollback.specs.Tables.{table_at}
-use Rattle.fw_stands.specs.LawsOfEvents.{AreSent}
+use Rattle.fw_stands.specs.Events.{AreSent}
 use Rattle.fw_stands.proofs.EventAnswerLaws.{events-send, notices-send}
 use Rattle.fw_stands.proofs.EventTableLaws.{deliveries-can_be_taken_in, notices-can_be_taken, tables-take_in}
 use Rattle.fw_events.specs.Taking.{TableTakes}

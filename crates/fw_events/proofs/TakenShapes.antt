@@ -21,7 +21,8 @@ use Rattle.fw_border.specs.Sources.{advanced, next_batch, source_at, unused_sour
 use Rattle.fw_record.specs.declared.record.Event.{Event as Logged}
 use Rattle.fw_record.specs.declared.record.Record.TheVariants as tagged
 use Rattle.fw_keep.specs.declared.entry.Entry.{Entry}
-use Rattle.fw_keep.specs.Entry.{asked, stamp_of}
+use Rattle.fw_record.specs.Event.{stamp_of_event}
+use Rattle.fw_keep.specs.Entry.{asked}
 use Rattle.fw_keep.specs.Stored.{Records}
 use Rattle.fw_edge.specs.Messages.{MessagesState}
 use Rattle.fw_node.specs.declared.node.Node.{Node}
@@ -34,13 +35,13 @@ use Rattle.fw_progress.proofs.TallyLaws.{is_eq-same}
 use Rattle.fw_rollback.specs.Edges.{on_edge}
 use Rattle.fw_running.specs.Logging.{ChangesKeep, IsAsked, IsNotAsked}
 use Rattle.fw_running.specs.declared.running.Running.{Running}
-use Rattle.fw_running.specs.Kept.{queue_at, table_of, source_of, output_of}
+use Rattle.fw_running.specs.Kept.{queue_at, table_of, source_of, output_of, with_tables}
 use Rattle.fw_running.specs.Places.{IsPut}
 use Rattle.fw_running.specs.Ready.{HasSomething, IsOwing}
 use Rattle.fw_running.specs.Shaped.{IsOnEdge, IsShaped, IsWrittenOf}
 use Rattle.fw_running.proofs.KeptShapes.{shaped-keep}
 use Rattle.fw_events.specs.Sending.{with_queues}
-use Rattle.fw_events.specs.Taking.{with_outputs, with_sources, with_tables, with_told, without_found, TakesOff}
+use Rattle.fw_events.specs.Taking.{with_outputs, with_sources, with_told, without_found, TakesOff}
 use Rattle.fw_events.proofs.ShapedLaws.{shaped-outputs, shaped-queues, shaped-sources, shaped-tables}
 
 -- ---- a message that is pending no more
@@ -197,7 +198,7 @@ owing-notified old traces progress p at sent s t q c =
 
 -- an event of a node at a stamp of its domain is asked, or nothing is, and all fits as before
 pub shaped-asked : {T E : Type 0} (result : Result T E) (old new : Running) (p : ℕ) (event : Logged) (stamps : Stamps) (before after : Option Records)
-    → IsShaped old → ChangesKeep old new → in_domain (bounds_of old.flow p) (stamp_of event) ≡ true
+    → IsShaped old → ChangesKeep old new → in_domain (bounds_of old.flow p) (stamp_of_event event) ≡ true
     → OnOk result (IsAsked (tagged.Event p event) stamps old.parts.keep.entries new.parts.keep.entries before after)
     → OnErr result (IsNotAsked old.parts.keep.entries new.parts.keep.entries before after) → IsShaped new
 shaped-asked (Ok x) old new p event stamps before after s c at a n =

@@ -34,10 +34,10 @@ use Rattle.fw_stands.proofs.EventAnswerLaws.{outputs-send_nothing}
 use Rattle.fw_stands.proofs.EventBorderLaws.{outputs-take_in, sources-stay}
 use Rattle.fw_stands.proofs.EventTableLaws.{no-tables_stay, notices-can_be_taken}
 use Rattle.fw_running.specs.declared.running.Running.{Running}
-use Rattle.fw_running.specs.Kept.{queue_at, log_at, table_of, source_of, output_of, is_down}
+use Rattle.fw_running.specs.Kept.{queue_at, log_at, table_of, source_of, output_of, is_down, with_tables}
 use Rattle.fw_events.specs.AfterEvent.{stamps_in, EdgesFollow, OwnFollow, TakesEvent}
 use Rattle.fw_events.specs.Sending.{with_queues, with_logs, ChangesEdges, SendsOn}
-use Rattle.fw_events.specs.Taking.{with_outputs, with_owing, with_tables, with_told, HearsOf, KeepsRec, TakesOff, TableTakes, TellsOf}
+use Rattle.fw_events.specs.Taking.{with_outputs, with_owing, with_told, HearsOf, KeepsRec, TakesOff, TableTakes, TellsOf}
 use Rattle.fw_events.proofs.SendingLaws.{edges-follow, sends-nothing}
 
 -- ---- the queue of the edge

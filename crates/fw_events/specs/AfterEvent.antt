@@ -20,7 +20,7 @@ use Rattle.fw_record.specs.declared.record.Event.{Event as Logged}
 use Rattle.fw_keep.specs.Stored.{Records}
 use Rattle.fw_progress.specs.History.{Follows}
 use Rattle.fw_progress.specs.Trace.{TracesFollow}
-use Rattle.fw_stands.specs.LawsOfEvents.{put_on, AreSent}
+use Rattle.fw_stands.specs.Events.{put_on, AreSent}
 use Rattle.fw_stands.specs.Parts.{IsTableIn, IsOutputOf, IsSourceOf}
 use Rattle.fw_stands.specs.Written.{told_of, uncollected, AreEntriesOf, AreStored}
 use Rattle.fw_running.specs.declared.running.Running.{Running}

@@ -25,16 +25,12 @@ use Rattle.fw_progress.specs.declared.traces.Traces.{Traces}
 use Rattle.fw_progress.specs.History.{Follows}
 use Rattle.fw_progress.specs.Progress.{Standing}
 use Rattle.fw_progress.specs.Trace.{TracesFollow}
-use Rattle.fw_stands.specs.LawsOfEvents.{at_epoch, AreSent}
+use Rattle.fw_stands.specs.Events.{at_epoch, AreSent}
 use Rattle.fw_stands.specs.Parts.{IsTableIn}
 use Rattle.fw_running.specs.declared.running.Running.{Running}
-use Rattle.fw_running.specs.Kept.{queue_at, table_of}
+use Rattle.fw_running.specs.Kept.{queue_at, table_of, with_tables}
 use Rattle.fw_events.specs.AfterEvent.{stamps_in}
 use Rattle.fw_events.specs.Sending.{ChangesEdges, SendsOn}
-
--- what is kept with these tables
-abbrev pub with_tables : List (Option Node) → Running → Running
-with_tables tables running = record running { parts = record running.parts { tables = tables } }
 
 -- what is kept with these nodes as owing
 abbrev pub with_owing : List ℕ → Running → Running

@@ -4,9 +4,9 @@ ghost use Rattle.fw_running.specs.Faults.{faults_after};
 ghost use Rattle.fw_time.specs.Stamp.{in_domain};
 ghost use Rattle.fw_flow.specs.declared.kind.Policy.TheVariants as policy;
 ghost use Rattle.fw_flow.specs.Dataflow.{bounds_of, policy_of};
-ghost use Rattle.fw_keep.specs.Entry.{stamp_of};
+ghost use Rattle.fw_record.specs.Event.{stamp_of_event};
 ghost use Rattle.fw_keep.specs.Stored.{IsStored};
-ghost use Rattle.fw_stands.specs.LawsOfEntries.{HasRecOf64Bits};
+ghost use Rattle.fw_stands.specs.Entries.{HasRecOf64Bits};
 ghost use Rattle.fw_running.specs.Shaped.{IsShaped};
 ghost use Rattle.fw_running.specs.Steps.{IsUndamaged};
 ghost use Rattle.fw_running.specs.Logging.{ChangesKeep, IsNotAsked, IsLogged};
@@ -32,19 +32,19 @@ pub(crate) fn log_event<K: Store>(
     store: &mut K,
 ) -> Result<(), EngineFault>
     requires shaped { IsShaped running.old }
-    requires stored { IsStored running.old.parts.keep (K.records store.old) }
-    requires stamp { in_domain (bounds_of running.old.flow node) (stamp_of event) ≡ true }
+    requires stored { IsStored running.old.parts.keep (K.view store.old).records }
+    requires stamp { in_domain (bounds_of running.old.flow node) (stamp_of_event event) ≡ true }
     ensures others { ChangesKeep running.old running.new }
     ensures shaped { IsShaped running.new }
-    ensures stored { IsStored running.new.parts.keep (K.records store.new) }
+    ensures stored { IsStored running.new.parts.keep (K.view store.new).records }
     ensures logged { OnOk result (IsLogged node event running.old.parts.keep.entries running.new.parts.keep.entries
-        (K.records store.old) (K.records store.new)) }
+        (K.view store.old).records (K.view store.new).records) }
     ensures stays { OnErr result (IsNotAsked running.old.parts.keep.entries running.new.parts.keep.entries
-        (K.records store.old) (K.records store.new)) }
-    ensures given { K.given store.new ≡ K.given store.old }
-    ensures faults { K.fault_count store.new ≡ faults_after result (K.fault_count store.old) }
+        (K.view store.old).records (K.view store.new).records) }
+    ensures given { (K.view store.new).given ≡ (K.view store.old).given }
+    ensures faults { (K.view store.new).faults ≡ faults_after result (K.view store.old).faults }
     ensures undamaged { IsUndamaged result }
-    ensures tells { is_some (K.records store.new) ≡ is_some (K.records store.old) }
+    ensures tells { is_some (K.view store.new).records ≡ is_some (K.view store.old).records }
 {
     rec_has_64_bits(&event);
     let what = Record::Event { node, event };

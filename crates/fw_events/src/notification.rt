@@ -15,14 +15,14 @@ ghost use Rattle.fw_node.specs.Sends.{sends_list};
 ghost use Rattle.fw_progress.specs.Progress.{CanSend};
 ghost use Rattle.fw_rollback.specs.Tables.{table_at};
 ghost use Rattle.fw_running.specs.BroughtUp.{IsBroughtUp};
-ghost use Rattle.fw_running.specs.Kept.{table_of};
+ghost use Rattle.fw_running.specs.Kept.{table_of, with_tables};
 ghost use Rattle.fw_running.specs.Logging.{ChangesKeep, IsNotAsked, LogsEvent};
 ghost use Rattle.fw_running.specs.declared.stepped.Stepped.TheVariants.{Idle};
 ghost use Rattle.fw_running.specs.Shaped.{IsShaped};
 ghost use Rattle.fw_running.specs.Steps.{TakesStep, StaysShaped, IsUndamaged};
 ghost use Rattle.fw_events.specs.AfterEvent.{TakesEvent};
 ghost use Rattle.fw_events.specs.Noticing.{FindsNotice, TakesNotice};
-ghost use Rattle.fw_events.specs.Taking.{with_tables, with_told, TableTakes, TellsOf};
+ghost use Rattle.fw_events.specs.Taking.{with_told, TableTakes, TellsOf};
 
 use crate::logging::{log_event, logs_events};
 use crate::sending::send;
@@ -44,15 +44,15 @@ pub fn notify<K: Store>(
     store: &mut K,
 ) -> Result<Stepped, EngineFault>
     requires shaped { IsShaped running.old }
-    requires stored { IsStored running.old.parts.keep (K.records store.old) }
+    requires stored { IsStored running.old.parts.keep (K.view store.old).records }
     ensures shaped { StaysShaped result running.new }
-    ensures stored { IsStored running.new.parts.keep (K.records store.new) }
+    ensures stored { IsStored running.new.parts.keep (K.view store.new).records }
     ensures flow { running.new.flow ≡ running.old.flow }
-    ensures takes { TakesStep running.old (K.records store.old) (steps.Notify node (option_copied at.entry)) result running.new (K.records store.new) }
-    ensures faults { K.fault_count store.new ≡ faults_after result (K.fault_count store.old) }
+    ensures takes { TakesStep running.old (K.view store.old).records (steps.Notify node (option_copied at.entry)) result running.new (K.view store.new).records }
+    ensures faults { (K.view store.new).faults ≡ faults_after result (K.view store.old).faults }
     ensures undamaged { IsUndamaged result }
     ensures calls { IsErrOf result EngineFault.StoreFault → policy_of running.old.flow node ≡ policy.Full }
-    ensures tells { is_some (K.records store.new) ≡ is_some (K.records store.old) }
+    ensures tells { is_some (K.view store.new).records ≡ is_some (K.view store.old).records }
     ensures quiet { (policy_of running.old.flow node ≡ policy.Full → ⊥) → store.new ≡ store.old }
     ensures idle { result ≡ Ok Idle → store.new ≡ store.old }
 {
@@ -135,17 +135,17 @@ pub fn notify_of<K: Store>(
     store: &mut K,
 ) -> Result<(), EngineFault>
     requires shaped { IsShaped running.old }
-    requires stored { IsStored running.old.parts.keep (K.records store.old) }
+    requires stored { IsStored running.old.parts.keep (K.view store.old).records }
     requires there { node < length running.old.flow.nodes }
     requires at { in_domain (bounds_of running.old.flow node) at.now ≡ true }
     ensures shaped { StaysShaped result running.new }
-    ensures stored { IsStored running.new.parts.keep (K.records store.new) }
+    ensures stored { IsStored running.new.parts.keep (K.view store.new).records }
     ensures flow { running.new.flow ≡ running.old.flow }
-    ensures takes { TakesNotice running.old (K.records store.old) node at.now result running.new (K.records store.new) }
-    ensures faults { K.fault_count store.new ≡ faults_after result (K.fault_count store.old) }
+    ensures takes { TakesNotice running.old (K.view store.old).records node at.now result running.new (K.view store.new).records }
+    ensures faults { (K.view store.new).faults ≡ faults_after result (K.view store.old).faults }
     ensures undamaged { IsUndamaged result }
     ensures calls { IsErrOf result EngineFault.StoreFault → policy_of running.old.flow node ≡ policy.Full }
-    ensures tells { is_some (K.records store.new) ≡ is_some (K.records store.old) }
+    ensures tells { is_some (K.view store.new).records ≡ is_some (K.view store.old).records }
     ensures quiet { (policy_of running.old.flow node ≡ policy.Full → ⊥) → store.new ≡ store.old }
 {
     log_notice(running, node, at, store)?;
@@ -161,19 +161,19 @@ fn log_notice<K: Store>(
     store: &mut K,
 ) -> Result<(), EngineFault>
     requires shaped { IsShaped running.old }
-    requires stored { IsStored running.old.parts.keep (K.records store.old) }
+    requires stored { IsStored running.old.parts.keep (K.view store.old).records }
     requires at { in_domain (bounds_of running.old.flow node) at.now ≡ true }
     ensures others { ChangesKeep running.old running.new }
     ensures shaped { IsShaped running.new }
-    ensures stored { IsStored running.new.parts.keep (K.records store.new) }
+    ensures stored { IsStored running.new.parts.keep (K.view store.new).records }
     ensures logged { OnOk result (LogsEvent running.old.flow node (logged.Notify at.now)
-        running.old.parts.keep.entries running.new.parts.keep.entries (K.records store.old) (K.records store.new)) }
+        running.old.parts.keep.entries running.new.parts.keep.entries (K.view store.old).records (K.view store.new).records) }
     ensures stays { OnErr result (IsNotAsked running.old.parts.keep.entries running.new.parts.keep.entries
-        (K.records store.old) (K.records store.new)) }
-    ensures faults { K.fault_count store.new ≡ faults_after result (K.fault_count store.old) }
+        (K.view store.old).records (K.view store.new).records) }
+    ensures faults { (K.view store.new).faults ≡ faults_after result (K.view store.old).faults }
     ensures calls { IsErrOf result EngineFault.StoreFault → policy_of running.old.flow node ≡ policy.Full }
     ensures undamaged { IsUndamaged result }
-    ensures tells { is_some (K.records store.new) ≡ is_some (K.records store.old) }
+    ensures tells { is_some (K.view store.new).records ≡ is_some (K.view store.old).records }
     ensures quiet { (policy_of running.old.flow node ≡ policy.Full → ⊥) → store.new ≡ store.old }
 {
     if !logs_events(running, node) {

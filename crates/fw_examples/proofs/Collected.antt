@@ -1,5 +1,6 @@
 -- The laws of collections applied to a select that logged two events and to the running total with two checkpoints.
-use Rattle.std.proofs.Common.{[], arith, lit<, refl, ◌∷◌}
+use Rattle.std.proofs.Common.{[], lit<, refl}
+use Rattle.std.specs.List.{AllZip}
 use Rattle.fw_frontier.specs.Frontier.{Within}
 use Rattle.fw_flow.specs.Dataflow.{bounds_of, kind_of, node_frontier, out_edges, policy_of, receiver, sender}
 use Rattle.fw_flow.specs.Projection.{phi}
@@ -7,7 +8,8 @@ use Rattle.fw_model.specs.Choice.{until}
 use Rattle.fw_model.specs.Machine.{front_of}
 use Rattle.fw_collect.specs.declared.drops.Drops.{Drops}
 use Rattle.fw_collect.specs.Drops.{IsPlanned}
-use Rattle.fw_collect.specs.LawsOfCollections.{AreEntriesOf, IsEventAt, RisesTo}
+use Rattle.fw_collect.specs.LawsOfCollections.{GoesWith, RisesTo}
+use Rattle.fw_collect.proofs.CollectLaws.{drops_what_is_collected}
 use Rattle.fw_examples.specs.Collected.{CollectionsApply, IsCollected, IsEarlierCollected, IsToCollect, both_batches, both_checkpoints, both_logged, both_sent, both_written, checkpoints_written, history_then, input_of_both, log_of_both, none_collected_yet}
 use Rattle.fw_examples.specs.Logs.{all_but_the_last, events_logged, none}
 use Rattle.fw_examples.specs.Loop.{with_serials}
@@ -15,33 +17,15 @@ use Rattle.fw_examples.specs.RunningTotal.{alike, total_flow, totals, two_epochs
 use Rattle.fw_examples.proofs.Choosing.{lies}
 use Rattle.fw_examples.proofs.Fronts.{by_three}
 
--- the first event of the select has serial 1, the second serial 4
-first_event : IsEventAt events_logged history_then 1 (0 ∷ []) 1
-unfolding receiver
-first_event = record {
-  there = refl;
-  only = ((λ e. absurd (omega (arith, e))), ((λ e. absurd (omega (arith, e))), ((λ e. absurd (omega (arith, e))), ((λ e. (refl, refl)), ((λ e. absurd (omega (arith, e))), tt)))));
-}
+-- of the two events of the select that of epoch 0 goes with its write, and that of epoch 1 stays with its
+logged_entries : AllZip (GoesWith events_logged history_then all_but_the_last) both_logged both_written
+unfolding kind_of bounds_of policy_of receiver sender out_edges phi
+logged_entries = (refl, (refl, tt))
 
-second_event : IsEventAt events_logged history_then 1 (1 ∷ []) 4
-unfolding receiver
-second_event = record {
-  there = refl;
-  only = ((λ e. (refl, refl)), ((λ e. absurd (omega (arith, e))), ((λ e. absurd (omega (arith, e))), ((λ e. absurd (omega (arith, e))), ((λ e. absurd (omega (arith, e))), tt)))));
-}
-
-logged_entries : AreEntriesOf events_logged history_then both_logged both_written
-logged_entries = (
-  record { node = refl; progress = ((λ e. refl), (λ e. refl)); holds = first_event },
-  (record { node = refl; progress = ((λ e. refl), (λ e. refl)); holds = second_event }, tt),
-)
-
-checkpoint_entries : AreEntriesOf totals (with_serials two_epochs) both_checkpoints checkpoints_written
-unfolding policy_of
-checkpoint_entries = (
-  record { node = refl; progress = ((λ e. refl), (λ e. refl)); holds = (refl, refl) },
-  (record { node = refl; progress = ((λ e. refl), (λ e. refl)); holds = (refl, refl) }, tt),
-)
+-- and so of the two checkpoints
+checkpoint_entries : AllZip (GoesWith totals (with_serials two_epochs) (alike 2)) both_checkpoints checkpoints_written
+unfolding kind_of bounds_of policy_of receiver sender out_edges phi
+checkpoint_entries = (refl, (refl, tt))
 
 -- nothing lies within everything
 rises : RisesTo events_logged.flow none_collected_yet all_but_the_last
@@ -68,7 +52,8 @@ logged drops planned = record {
   second_stays = λ law. (law events_logged.flow all_but_the_last both_logged drops planned).1.0;
   log = λ law. law events_logged.flow all_but_the_last both_logged drops planned 1 log_of_both (lit< tt);
   batches = λ law. law events_logged.flow all_but_the_last both_logged drops planned 0 input_of_both (lit< tt);
-  entries = λ law. law events_logged history_then all_but_the_last both_logged drops both_written planned logged_entries ((λ e. refl), ((λ e. refl), tt));
+  entries = drops_what_is_collected (GoesWith events_logged history_then all_but_the_last) events_logged history_then all_but_the_last (λ e write k. k)
+      both_logged drops both_written planned logged_entries ((λ e. refl), ((λ e. refl), tt));
   log_holds = λ law. law events_logged.flow none_collected_yet all_but_the_last both_logged drops planned rises 1 log_of_both both_sent (lit< tt) (lit< tt) refl (refl, (refl, tt)) refl;
   input_holds = λ law. law events_logged.flow none_collected_yet all_but_the_last both_logged drops planned rises 0 input_of_both both_batches (lit< tt) refl (refl, (refl, tt)) refl;
 }
@@ -78,7 +63,8 @@ unfolding kind_of bounds_of policy_of receiver sender out_edges phi
 checkpoints drops planned = record {
   earlier_goes = λ law. (law total_flow (alike 2) both_checkpoints drops planned).0;
   later_stays = λ law. (law total_flow (alike 2) both_checkpoints drops planned).1.0;
-  entries = λ law. law totals (with_serials two_epochs) (alike 2) both_checkpoints drops checkpoints_written planned checkpoint_entries ((λ e. refl), ((λ e. refl), tt));
+  entries = drops_what_is_collected (GoesWith totals (with_serials two_epochs) (alike 2)) totals (with_serials two_epochs) (alike 2) (λ e write k. k)
+      both_checkpoints drops checkpoints_written planned checkpoint_entries ((λ e. refl), ((λ e. refl), tt));
 }
 
 pub collections_apply : CollectionsApply

@@ -1,7 +1,7 @@
 -- What the laws of collections say of whatever is planned in two states: of a select that logged two events, and of the running total
 -- with two checkpoints. That something is planned, whatever the flow, the choice and the entries, is the clause of `fw_collect::plan`.
 use Rattle.std.specs.Prelude.{List, [], false, not, true, ℕ, filter, ◌∷◌, ◌≡◌}
-use Rattle.std.specs.List.{AllByRecursion}
+use Rattle.std.specs.List.{AllByRecursion, AllZip}
 use Rattle.fw_bag.specs.declared.rec.Rec.{Rec}
 use Rattle.fw_time.specs.Stamp.{in_domain}
 use Rattle.fw_time.specs.declared.stamp.Bounds.{Bounds}
@@ -12,6 +12,7 @@ use Rattle.fw_flow.specs.declared.choice.Recorded.{Recorded}
 use Rattle.fw_flow.specs.declared.event.Message.{Message}
 use Rattle.fw_model.specs.Choice.{until}
 use Rattle.fw_model.specs.Machine.{SerialEvent, Write, acknowledged, checkpoint, logged_event}
+use Rattle.fw_model.specs.Writes.{not_collected}
 use Rattle.fw_record.specs.declared.record.Event.TheVariants.{Deliver as LoggedDelivery}
 use Rattle.fw_keep.specs.declared.entry.Entry.{Entry}
 use Rattle.fw_keep.specs.declared.entry.Written.TheVariants as written
@@ -20,7 +21,7 @@ use Rattle.fw_border.specs.Sources.{SourceState}
 use Rattle.fw_collect.specs.declared.drops.Drops.{Drops}
 use Rattle.fw_collect.specs.Drops.{IsPlanned}
 use Rattle.fw_collect.specs.Dropped.{is_dropped, log_left, source_left}
-use Rattle.fw_collect.specs.LawsOfCollections.{AreEntriesOf, DropsBatchesOfInputs, DropsMessagesBelowReceivers, DropsWhatIsCollected, DropsWhatIsGivenUp, InputsHoldWhatIsOutside, LogsHoldWhatIsOutside, RisesTo, batches_outside, sent_outside}
+use Rattle.fw_collect.specs.LawsOfCollections.{DropsBatchesOfInputs, DropsMessagesBelowReceivers, DropsWhatIsGivenUp, GoesWith, InputsHoldWhatIsOutside, LogsHoldWhatIsOutside, RisesTo, batches_outside, sent_outside}
 use Rattle.fw_examples.specs.Flows.{big, big_to_out, pair, src}
 use Rattle.fw_examples.specs.Logs.{all_but_the_last, event_collected, events_logged, first_message, none, one_came_through, second_message}
 use Rattle.fw_examples.specs.Loop.{with_serials}
@@ -82,7 +83,7 @@ epochs_of_output = bounds_of events_logged.flow (receiver events_logged.flow big
 
 -- what the laws ask here beside a plan
 pub record IsToCollect : Type 0 where
-  pub entries : AreEntriesOf events_logged history_then both_logged both_written
+  pub entries : AllZip (GoesWith events_logged history_then all_but_the_last) both_logged both_written
   pub rises : RisesTo events_logged.flow none_collected_yet all_but_the_last
   pub resends : can_resend (policy_of events_logged.flow (sender events_logged.flow big_to_out)) ≡ true
   pub in_domain : AllByRecursion (λ (m : Message). in_domain epochs_of_output m.at ≡ true) both_sent
@@ -97,8 +98,8 @@ pub record IsCollected (drops : Drops) : Type 0 where
   pub log : DropsMessagesBelowReceivers
       → log_left drops.messages.items big_to_out log_of_both ≡ record { messages = second_message ∷ []; refused = false }
   pub batches : DropsBatchesOfInputs → source_left drops.batches.items src input_of_both ≡ record { given = 2; injected = 2; held = [] }
-  pub entries : DropsWhatIsCollected
-      → AreEntriesOf events_logged history_then (filter (λ e. not (is_dropped drops e)) both_logged) event_collected.writes
+  pub entries : AllZip (GoesWith events_logged history_then all_but_the_last) (filter (λ e. not (is_dropped drops e)) both_logged)
+      (filter not_collected event_collected.writes)
   pub log_holds : LogsHoldWhatIsOutside → (log_left drops.messages.items big_to_out log_of_both).messages ≡ second_message ∷ []
   pub input_holds : InputsHoldWhatIsOutside → (source_left drops.batches.items src input_of_both).held ≡ []
 
@@ -133,12 +134,12 @@ checkpoints_written =
 pub record IsEarlierCollected (drops : Drops) : Type 0 where
   pub earlier_goes : DropsWhatIsGivenUp → is_dropped drops (kept_checkpoint 0 record_of_first) ≡ true
   pub later_stays : DropsWhatIsGivenUp → is_dropped drops (kept_checkpoint 1 record_of_checkpoint) ≡ false
-  pub entries : DropsWhatIsCollected
-      → AreEntriesOf totals (with_serials two_epochs) (filter (λ e. not (is_dropped drops e)) both_checkpoints) come_back.writes
+  pub entries : AllZip (GoesWith totals (with_serials two_epochs) (alike 2)) (filter (λ e. not (is_dropped drops e)) both_checkpoints)
+      (filter not_collected come_back.writes)
 
 -- the laws of collections, of both
 pub record CollectionsApply : Type 0 where
   pub asked : IsToCollect
   pub logged : (drops : Drops) → IsPlanned events_logged.flow all_but_the_last both_logged drops → IsCollected drops
-  pub entries : AreEntriesOf totals (with_serials two_epochs) both_checkpoints checkpoints_written
+  pub entries : AllZip (GoesWith totals (with_serials two_epochs) (alike 2)) both_checkpoints checkpoints_written
   pub checkpoints : (drops : Drops) → IsPlanned total_flow (alike 2) both_checkpoints drops → IsEarlierCollected drops

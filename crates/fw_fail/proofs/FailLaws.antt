@@ -30,8 +30,9 @@ use Rattle.fw_node.specs.NodeOf.{IsNodeOf}
 use Rattle.fw_policy.specs.View.{IsLostAt}
 use Rattle.fw_rollback.specs.Edges.{IsOnEdge, on_edge}
 use Rattle.fw_rollback.specs.Tables.{table_at}
-use Rattle.fw_stands.specs.LawsOfEntries.{stamps_in_flight, is_lost_of}
-use Rattle.fw_stands.specs.LawsOfFailures.{failed_state}
+use Rattle.fw_policy.specs.Offering.{stamps_in_flight}
+use Rattle.fw_stands.specs.Entries.{is_lost_of}
+use Rattle.fw_stands.specs.Failures.{failed_state}
 use Rattle.fw_stands.specs.Parts.{IsTableIn, IsOutputOf, IsSourceOf, kept_recs}
 use Rattle.fw_stands.specs.Written.{AreEntriesOf, AreStored, uncollected}
 use Rattle.fw_stands.proofs.EntrySteps.{entries_after_failure, records_after_failure, loses_one_by_one}
@@ -39,7 +40,7 @@ use Rattle.fw_stands.proofs.EntryViews.{loses_what_is_in_flight}
 use Rattle.fw_stands.proofs.FailureLaws.{live_node-fails, all_failed-idle, failures-add, failed_tables-go, other_tables-stay, queues_of_failed-go, logs_of_failed-go, outputs_of_failed-go, failure-keeps}
 use Rattle.fw_stands.proofs.FlightLaws.{live_nodes-decide}
 use Rattle.fw_stands.proofs.LossLaws.{losses_stay}
-use Rattle.fw_stands.proofs.StayingLaws.{steps-stay_reached}
+use Rattle.fw_stands.proofs.AtReached.{reached-next}
 use Rattle.fw_time.specs.Stamp.{Stamp}
 use Rattle.fw_time.proofs.EachLaws.{each-kept, each-weaker}
 use Rattle.fw_running.specs.declared.running.Running.{Running}
@@ -304,7 +305,7 @@ after-stands sys state old new records p there live g shaped s =
     record {
       flow = s.flow;
       well_formed = s.well_formed;
-      reached = steps-stay_reached sys state next (Fail ps) (did silent) s.reached leads;
+      reached = reached-next sys state next (Fail ps) (did silent) s.reached leads;
       settled = s.settled;
       failed = failed;
       low = parts.low ∙ s.low;

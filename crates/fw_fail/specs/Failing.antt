@@ -12,7 +12,7 @@ use Rattle.fw_keep.specs.Entry.{is_lost}
 use Rattle.fw_keep.specs.Stored.{Records, IsStored}
 use Rattle.fw_rollback.specs.declared.parts.Parts.{Parts}
 use Rattle.fw_rollback.specs.Edges.{on_edge}
-use Rattle.fw_stands.specs.LawsOfEntries.{stamps_in_flight}
+use Rattle.fw_policy.specs.Offering.{stamps_in_flight}
 use Rattle.fw_running.specs.declared.running.Running.{Running}
 use Rattle.fw_running.specs.Kept.{is_down}
 

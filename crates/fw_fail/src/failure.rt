@@ -4,7 +4,7 @@ ghost use Rattle.fw_flow.specs.declared.step.Step.TheVariants as steps;
 ghost use Rattle.fw_keep.specs.Entry as entries;
 ghost use Rattle.fw_keep.specs.Stored.{Records, IsStored};
 ghost use Rattle.fw_rollback.specs.Edges.{on_edge};
-ghost use Rattle.fw_stands.specs.LawsOfEntries.{stamp_of_written, stamps_in_flight};
+ghost use Rattle.fw_policy.specs.Offering.{stamp_of_written, stamps_in_flight};
 ghost use Rattle.fw_fail.specs.Failing.{AreGone, IsGoneFrom, lost_after, Fails, FailsIf};
 ghost use Rattle.fw_running.specs.Kept.{is_down};
 ghost use Rattle.fw_running.specs.Shaped.{HasOneEach, IsShaped};
@@ -13,7 +13,7 @@ ghost use Rattle.fw_running.specs.Steps.{TakesStep, StaysShaped, IsUndamaged};
 use fw_flow::{EdgeId, Flow, NodeId, Notices, Policy};
 use fw_keep::{Entry, Written};
 use fw_rollback::{Logs, Parts, Queues};
-use fw_running::{Effect, EngineFault, Running, Stepped, stamp_of};
+use fw_running::{Effect, EngineFault, Running, Stepped};
 use fw_time::Stamp;
 use std::alloc::{AllocError, Global};
 
@@ -178,7 +178,7 @@ fn lost_stamp(entry: &Entry, node: NodeId) -> Option<Stamp>
         return None;
     }
     match &entry.written {
-        Written::Event(event) => Some(stamp_of(event).copy()),
+        Written::Event(event) => Some(event.at().copy()),
         Written::Checkpoint { .. } => None,
     }
 }

@@ -3,10 +3,10 @@ use Rattle.std.specs.Prelude.{◌≡◌, ℕ, Bool, false, not, ◌&&◌, ◌==�
 use Rattle.fw_time.specs.Stamp.{Stamp, same}
 use Rattle.fw_frontier.specs.Front.{Front, inside, is_within}
 use Rattle.fw_flow.specs.Dataflow.{Dataflow}
+use Rattle.fw_flow.specs.declared.choice.Cut.{Cut}
+use Rattle.fw_flow.specs.declared.choice.Cut.TheVariants.{Present, At}
 use Rattle.fw_flow.specs.declared.choice.Recorded.{Recorded}
 use Rattle.fw_flow.specs.declared.choice.Stamps.{Stamps}
-use Rattle.fw_record.specs.declared.record.Event.{Event}
-use Rattle.fw_record.specs.declared.record.Event.TheVariants.{Deliver, Notify}
 use Rattle.fw_record.specs.declared.record.Record.{Record}
 use Rattle.fw_record.specs.declared.record.Record.TheVariants as tagged
 use Rattle.fw_record.specs.OfNode.{IsRecordOfCheckpoint, IsRecordOfEvent}
@@ -15,11 +15,6 @@ use Rattle.fw_keep.specs.declared.entry.Written.{Written}
 use Rattle.fw_keep.specs.declared.entry.Written.TheVariants as written
 
 -- ---- what an entry has of a record
-
--- the stamp of an event
-abbrev pub stamp_of : Event → Stamp
-stamp_of (Deliver edge at rec) = at
-stamp_of (Notify at) = at
 
 -- the node of a record
 abbrev pub node_of : Record → ℕ
@@ -59,17 +54,22 @@ IsRecordOf flow e r = IsRecordAs flow e.node e.written r
 -- whether what is written lies within a frontier: a checkpoint by its frontier, an event by its stamp
 abbrev pub lies_within : Front → Written → Bool
 lies_within f (written.Checkpoint recorded stamps sent) = is_within recorded.front f
-lies_within f (written.Event event) = inside f (stamp_of event)
+lies_within f (written.Event event) = inside f (stamp_of_event event)
 
 -- whether it is a checkpoint strictly within a frontier
 abbrev pub lies_below : Front → Written → Bool
 lies_below f (written.Checkpoint recorded stamps sent) = is_within recorded.front f && not (is_within f recorded.front)
 lies_below f (written.Event event) = false
 
+-- whether what is written does not lie within the cut
+abbrev pub is_beyond : Cut → Entry → Bool
+is_beyond Present e = false
+is_beyond (At f) e = not (lies_within f e.written)
+
 -- whether it is an event at a stamp
 abbrev pub is_event_at : Stamp → Written → Bool
 is_event_at t (written.Checkpoint recorded stamps sent) = false
-is_event_at t (written.Event event) = same (stamp_of event) t
+is_event_at t (written.Event event) = same (stamp_of_event event) t
 
 -- the node's entries in flight
 abbrev pub is_lost : ℕ → Entry → Bool

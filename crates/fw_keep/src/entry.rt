@@ -1,6 +1,6 @@
 //! The writes of a catalogue.
 ghost use Rattle.std.specs.Prelude.{◌≡◌, ◌↔◌, [], IsTrue};
-ghost use Rattle.fw_keep.specs.Entry.{lies_within, lies_below, is_event_at, stamp_of, IsRecordOf};
+ghost use Rattle.fw_keep.specs.Entry.{lies_within, lies_below, is_event_at, IsRecordOf};
 
 use crate::same::has_recorded;
 use fw_flow::{CountedMessages, Flow, NodeId, Notices, Recorded, Stamps};
@@ -70,7 +70,7 @@ impl Written {
     {
         match self {
             Written::Checkpoint { recorded, .. } => recorded.front.subset(front),
-            Written::Event(event) => front.contains(stamp_of(event)),
+            Written::Event(event) => front.contains(event.at()),
         }
     }
 
@@ -93,19 +93,9 @@ impl Written {
         match self {
             Written::Checkpoint { .. } => false,
             Written::Event(event) => {
-                let stamp = stamp_of(event);
+                let stamp = event.at();
                 stamp.leq(at) && at.leq(stamp)
             }
         }
-    }
-}
-
-/// The stamp of an event.
-fn stamp_of(event: &Event) -> &Stamp
-    ensures { result.now ≡ stamp_of event.now }
-{
-    match event {
-        Event::Deliver { at, .. } => at,
-        Event::Notify { at } => at,
     }
 }

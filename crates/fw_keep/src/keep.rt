@@ -103,7 +103,7 @@ impl Keep {
         what: &Record,
         stamps: Stamps,
     ) -> Result<u64, KeepFault>
-        requires stored { IsStored self.old (K.records store.old) }
+        requires stored { IsStored self.old (K.view store.old).records }
         requires few { self.old.next < 2 ^ 63 }
 
         // The write is the last one, in flight, and its bytes are under its id; none of its lists has more parts than the
@@ -111,23 +111,23 @@ impl Keep {
         ensures id { IfOk result (λ id. id ≡ self.old.next) }
         ensures added { OnOk result
             (self.new.entries ≡ self.old.entries ++ asked self.old.next what.now stamps ∷ []) }
-        ensures put { OnOk result (K.records store.new
-            ≡ option_map (λ held. map.insert held self.old.next (spelling what.now)) (K.records store.old)) }
+        ensures put { OnOk result ((K.view store.new).records
+            ≡ option_map (λ held. map.insert held self.old.next (spelling what.now)) (K.view store.old).records) }
         ensures counted { OnOk result (FitsItsCounts what.now) }
 
         // After a refusal entries and records are as they were.
         ensures kept { OnErr result (self.new.entries ≡ self.old.entries) }
-        ensures stays { OnErr result (K.records store.new ≡ K.records store.old) }
+        ensures stays { OnErr result ((K.view store.new).records ≡ (K.view store.old).records) }
 
         // In each case the bytes of the other entries stay.
-        ensures bytes { KeepsBytes self.old.entries (K.records store.old) (K.records store.new) }
+        ensures bytes { KeepsBytes self.old.entries (K.view store.old).records (K.view store.new).records }
 
         ensures drawn { self.new.next ≡ self.old.next + 1 }
         ensures waiting { self.new.waiting ≡ self.old.waiting }
-        ensures stored { IsStored self.new (K.records store.new) }
-        ensures given { K.given store.new ≡ K.given store.old }
+        ensures stored { IsStored self.new (K.view store.new).records }
+        ensures given { (K.view store.new).given ≡ (K.view store.old).given }
 
-        ensures faults { K.fault_count store.new ≡ faults_after result (K.fault_count store.old) }
+        ensures faults { (K.view store.new).faults ≡ faults_after result (K.view store.old).faults }
         ensures undamaged { IsUndamaged result }
         ensures refused { IsTrue self.new.refused ↔ IsErrOf result KeepFault.NoMemory }
         ensures refused_stays { IsTrue self.old.refused → IsErrOf result KeepFault.NoMemory }
@@ -227,15 +227,15 @@ impl Keep {
     /// `NoMemory` where memory is refused, or was refused to a call that changes the catalogue. The store's records stay.
     pub fn fetch<K: Store>(&self, flow: &Flow, store: &mut K, id: u64) -> Result<Record, KeepFault>
         requires there { IsTrue (has_entry id self.now.entries) }
-        requires stored { IsStored self.now (K.records store.old) }
+        requires stored { IsStored self.now (K.view store.old).records }
         ensures fetched { (entry : Write) → Contains self.now.entries entry → entry.id ≡ id
-            → Fetches flow.now entry (K.given store.new) result }
-        ensures told { IsToldUnder id (K.records store.old) result }
+            → Fetches flow.now entry (K.view store.new).given result }
+        ensures told { IsToldUnder id (K.view store.old).records result }
         ensures put { (entry : Write) (what : Spelled) → Contains self.now.entries entry → entry.id ≡ id
-            → HoldsAs flow.now (K.records store.old) entry what → GivesOnly what result }
-        ensures stays { K.records store.new ≡ K.records store.old }
-        ensures given_stays { IsErrOf result KeepFault.StoreFault → K.given store.new ≡ K.given store.old }
-        ensures faults { K.fault_count store.new ≡ faults_after result (K.fault_count store.old) }
+            → HoldsAs flow.now (K.view store.old).records entry what → GivesOnly what result }
+        ensures stays { (K.view store.new).records ≡ (K.view store.old).records }
+        ensures given_stays { IsErrOf result KeepFault.StoreFault → (K.view store.new).given ≡ (K.view store.old).given }
+        ensures faults { (K.view store.new).faults ≡ faults_after result (K.view store.old).faults }
         ensures refused { IsTrue self.now.refused → IsErrOf result KeepFault.NoMemory }
     {
         if self.refused {
@@ -259,15 +259,15 @@ impl Keep {
     /// `StoreFault` where the store fails, `NoMemory` where memory is refused, now or earlier. Then what was not removed waits
     /// for the next sweep.
     pub fn sweep<K: Store>(&mut self, store: &mut K) -> Result<(), KeepFault>
-        requires stored { IsStored self.old (K.records store.old) }
-        ensures swept { Sweeps self.old.waiting (K.records store.old) self.new.waiting (K.records store.new) }
+        requires stored { IsStored self.old (K.view store.old).records }
+        ensures swept { Sweeps self.old.waiting (K.view store.old).records self.new.waiting (K.view store.new).records }
         ensures clean { OnOk result (self.new.waiting ≡ []) }
         ensures kept { self.new.entries ≡ self.old.entries }
-        ensures bytes { KeepsBytes self.old.entries (K.records store.old) (K.records store.new) }
+        ensures bytes { KeepsBytes self.old.entries (K.view store.old).records (K.view store.new).records }
         ensures drawn { self.new.next ≡ self.old.next }
-        ensures stored { IsStored self.new (K.records store.new) }
-        ensures given { K.given store.new ≡ K.given store.old }
-        ensures faults { K.fault_count store.new ≡ faults_after result (K.fault_count store.old) }
+        ensures stored { IsStored self.new (K.view store.new).records }
+        ensures given { (K.view store.new).given ≡ (K.view store.old).given }
+        ensures faults { (K.view store.new).faults ≡ faults_after result (K.view store.old).faults }
         ensures undamaged { IsUndamaged result }
         ensures refused { IsTrue self.new.refused ↔ IsErrOf result KeepFault.NoMemory }
         ensures refused_stays { IsTrue self.old.refused → IsErrOf result KeepFault.NoMemory }

@@ -50,17 +50,17 @@ pub(crate) fn put_new<K: Store>(
     stamps: Stamps,
 ) -> Result<(), OutFault>
     requires room { vec_len waiting.old + vec_len entries.old ≤ vec_capacity waiting.old }
-    requires fresh { ForSome (K.records store.old) (λ held. map.get held id ≡ None) }
+    requires fresh { ForSome (K.view store.old).records (λ held. map.get held id ≡ None) }
     ensures added { OnOk result (entries.new.items ≡ entries.old.items ++ asked id what.now stamps ∷ []) }
     ensures kept { OnErr result (entries.new.items ≡ entries.old.items) }
     ensures waiting { waiting.new.items ≡ waiting.old.items }
     ensures room { vec_len waiting.new + vec_len entries.new ≤ vec_capacity waiting.new }
-    ensures put { OnOk result (K.records store.new
-        ≡ option_map (λ held. map.insert held id (spelling what.now)) (K.records store.old)) }
+    ensures put { OnOk result ((K.view store.new).records
+        ≡ option_map (λ held. map.insert held id (spelling what.now)) (K.view store.old).records) }
     ensures counted { OnOk result (FitsItsCounts what.now) }
-    ensures stays { OnErr result (K.records store.new ≡ K.records store.old) }
-    ensures given { K.given store.new ≡ K.given store.old }
-    ensures faults { K.fault_count store.new ≡ faults_after result (K.fault_count store.old) }
+    ensures stays { OnErr result ((K.view store.new).records ≡ (K.view store.old).records) }
+    ensures given { (K.view store.new).given ≡ (K.view store.old).given }
+    ensures faults { (K.view store.new).faults ≡ faults_after result (K.view store.old).faults }
 {
     let bytes = encode(alloc, what)?;
     let entry = entry_of(id, what, stamps)?;

@@ -13,12 +13,12 @@ pub(crate) fn remove_waiting<K: Store>(
     store: &mut K,
 ) -> Result<(), OutFault>
     requires distinct { AreDistinct waiting.old.items }
-    requires there { AreThere waiting.old.items (K.records store.old) }
-    ensures swept { Sweeps waiting.old.items (K.records store.old) waiting.new.items (K.records store.new) }
+    requires there { AreThere waiting.old.items (K.view store.old).records }
+    ensures swept { Sweeps waiting.old.items (K.view store.old).records waiting.new.items (K.view store.new).records }
     ensures clean { OnOk result (waiting.new.items ≡ []) }
     ensures capacity { vec_capacity waiting.new ≡ vec_capacity waiting.old }
-    ensures given { K.given store.new ≡ K.given store.old }
-    ensures faults { K.fault_count store.new ≡ faults_after result (K.fault_count store.old) }
+    ensures given { (K.view store.new).given ≡ (K.view store.old).given }
+    ensures faults { (K.view store.new).faults ≡ faults_after result (K.view store.old).faults }
 {
     while let Some(id) = waiting.last() {
         store.remove(*id)?;

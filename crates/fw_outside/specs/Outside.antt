@@ -1,5 +1,7 @@
 -- What the calls of a folder, a store and a sink promise.
 use Rattle.std.specs.Prelude.{◌≡◌, ◌⊎◌, ℕ, ◌+◌, ◌-◌, ◌^◌, ◌<◌, ◌≤◌, min, max, Option, Result, Ok, Err, List, ◌++◌, length, take, IfSome, IsSomeAnd, option_map}
+use Rattle.std.specs.Ordering.{nat_cmp}
+use Rattle.std.specs.FinMap.{FinMap}
 use Rattle.fw_outside.specs.declared.fault.FetchFault.{FetchFault}
 use Rattle.fw_outside.specs.declared.fault.FetchFault.TheVariants as fetch
 use Rattle.fw_outside.specs.declared.fault.OutFault.{OutFault}
@@ -39,6 +41,13 @@ IsText texts name bytes = IfSome texts (λ text. text name ≡ Option.Some bytes
 abbrev pub IsCutText : Option (List ℕ → Option (List ℕ)) → List ℕ → ℕ → List ℕ → Type 0
 IsCutText texts name limit bytes =
     IfSome texts (λ text. IsSomeAnd (text name) (λ whole. (limit < length whole) × (bytes ≡ take (limit + 1) whole)))
+
+-- What is known of a store: the bytes of each id, where it tells them; the id and the bytes that it gave last, if it gave any; and how
+-- often it failed.
+pub record StoreView : Type 0 where
+  pub records : Option (FinMap nat_cmp (List ℕ))
+  pub given : Option (ℕ × List ℕ)
+  pub faults : ℕ
 
 -- What is known of a sink: all bytes that it has taken, where it tells them; how often it refused a write, by a fault or for
 -- want of memory; and how often it failed.

@@ -38,9 +38,7 @@ pub struct FoulStore {
 impl FoulStore {
     /// A store with no record, which gives these bytes at the calls of `get` for which they are listed.
     pub fn new(alloc: Global, foul: Vec<FoulBytes>) -> Self
-        ensures records { ⟦<FoulStore as Store>⟧.records result ≡ None }
-        ensures given { ⟦<FoulStore as Store>⟧.given result ≡ None }
-        ensures faultless { ⟦<FoulStore as Store>⟧.fault_count result ≡ 0 }
+        ensures { ⟦<FoulStore as Store>⟧.view result ≡ record { records = None; given = None; faults = 0 } }
     {
         FoulStore {
             alloc,
@@ -54,11 +52,11 @@ impl FoulStore {
 }
 
 impl Store for FoulStore {
-    ghost records = { λ _. None };
-
-    ghost given = { λ store. option_map (λ given. (given.id, given.bytes.items)) store.given };
-
-    ghost fault_count = { λ store. store.faults };
+    ghost view = { λ store. record {
+      records = None;
+      given = option_map (λ given. (given.id, given.bytes.items)) store.given;
+      faults = store.faults;
+    } };
 
     fn put(&mut self, id: u64, bytes: &[u8]) -> Result<(), OutFault> {
         if self.records.contains_key(&id) {

@@ -26,8 +26,7 @@ pub struct FaultlessStore {
 impl FaultlessStore {
     /// A store with no record.
     pub fn new(alloc: Global) -> Self
-        ensures records { ⟦<FaultlessStore as Store>⟧.records result ≡ Some map.empty }
-        ensures given { ⟦<FaultlessStore as Store>⟧.given result ≡ None }
+        ensures { ⟦<FaultlessStore as Store>⟧.view result ≡ record { records = Some map.empty; given = None; faults = 0 } }
     {
         FaultlessStore {
             alloc,
@@ -38,11 +37,11 @@ impl FaultlessStore {
 }
 
 impl Store for FaultlessStore {
-    ghost records = { λ store. Some (record_map store.records.entries) };
-
-    ghost given = { λ store. option_map (λ given. (given.id, given.bytes.items)) store.given };
-
-    ghost fault_count = { λ _. 0 };
+    ghost view = { λ store. record {
+      records = Some (record_map store.records.entries);
+      given = option_map (λ given. (given.id, given.bytes.items)) store.given;
+      faults = 0;
+    } };
 
     fn put(&mut self, id: u64, bytes: &[u8]) -> Result<(), OutFault> {
         let copy = bytes.to_vec(self.alloc)?;
@@ -83,9 +82,7 @@ pub struct MemStore {
 impl MemStore {
     /// A store with no record, whose calls of these numbers are to fail, all its calls counted together.
     pub fn new(alloc: Global, failing: Vec<u64>) -> Self
-        ensures records { ⟦<MemStore as Store>⟧.records result ≡ Some map.empty }
-        ensures given { ⟦<MemStore as Store>⟧.given result ≡ None }
-        ensures faultless { ⟦<MemStore as Store>⟧.fault_count result ≡ 0 }
+        ensures { ⟦<MemStore as Store>⟧.view result ≡ record { records = Some map.empty; given = None; faults = 0 } }
     {
         MemStore {
             store: FaultlessStore::new(alloc),
@@ -95,11 +92,11 @@ impl MemStore {
 }
 
 impl Store for MemStore {
-    ghost records = { λ store. Some (record_map store.store.records.entries) };
-
-    ghost given = { λ store. option_map (λ given. (given.id, given.bytes.items)) store.store.given };
-
-    ghost fault_count = { λ store. store.plan.faults };
+    ghost view = { λ store. record {
+      records = Some (record_map store.store.records.entries);
+      given = option_map (λ given. (given.id, given.bytes.items)) store.store.given;
+      faults = store.plan.faults;
+    } };
 
     fn put(&mut self, id: u64, bytes: &[u8]) -> Result<(), OutFault> {
         if self.plan.next_fails() {

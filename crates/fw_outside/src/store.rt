@@ -1,22 +1,16 @@
 //! Where records are kept.
-ghost use Rattle.std.specs.Prelude.{◌≡◌, [], ℕ, List, Option, Some, None, OnOk, OnErr, IfSome, IsSome, option_map};
+ghost use Rattle.std.specs.Prelude.{◌≡◌, [], Some, None, OnOk, OnErr, IfSome, IsSome, option_map};
 ghost use Rattle.std.specs.Option.{ForSome};
-ghost use Rattle.std.specs.Ordering.{nat_cmp};
 ghost use Rattle.std.specs.FinMap as map;
-ghost use Rattle.fw_outside.specs.Outside.{faults_after};
+ghost use Rattle.fw_outside.specs.Outside.{StoreView, faults_after};
 
 use crate::OutFault;
 
 /// A store of records, each under an id.
 pub trait Store {
-    /// The bytes of each id; or nothing, where the store does not tell.
-    ghost records: { Self → Option (map.FinMap nat_cmp (List ℕ)) };
-
-    /// The id and the bytes of the last `get` that was Ok, if there was one.
-    ghost given: { Self → Option (ℕ × List ℕ) };
-
-    /// How often the store failed: once for each call that answers `Failed`.
-    ghost fault_count: { Self → ℕ };
+    /// The bytes of each id, where the store tells them; the id and the bytes of the last `get` that was Ok, if there was one; and
+    /// its count of faults, one for each call that answers `Failed`.
+    ghost view: { Self → StoreView };
 
     /// Adds a record under a new id.
     ///
@@ -25,11 +19,11 @@ pub trait Store {
     /// `Failed` where the store fails, `NoMemory` where memory is refused, which may come at any time. Then the records
     /// stay, and a later call may succeed.
     fn put(&mut self, id: u64, bytes: &[u8]) -> Result<(), OutFault>
-        requires { ForSome (records self.old) (λ held. map.get held id ≡ None) }
-        ensures added { OnOk result (records self.new ≡ option_map (λ held. map.insert held id bytes.now) (records self.old)) }
-        ensures refused { OnErr result (records self.new ≡ records self.old) }
-        ensures given_stays { given self.new ≡ given self.old }
-        ensures faults { fault_count self.new ≡ faults_after result (fault_count self.old) };
+        requires { ForSome (view self.old).records (λ held. map.get held id ≡ None) }
+        ensures added { OnOk result ((view self.new).records ≡ option_map (λ held. map.insert held id bytes.now) (view self.old).records) }
+        ensures refused { OnErr result ((view self.new).records ≡ (view self.old).records) }
+        ensures given_stays { (view self.new).given ≡ (view self.old).given }
+        ensures faults { (view self.new).faults ≡ faults_after result (view self.old).faults };
 
     /// Puts the bytes of a record into `into`, in place of what was there.
     ///
@@ -38,13 +32,13 @@ pub trait Store {
     /// `Failed` where the store fails, `NoMemory` where memory is refused, which may come at any time. Then `into` is empty,
     /// and the last `get` that was Ok is still the one before; a later call may succeed. The records stay in each case.
     fn get(&mut self, id: u64, into: &mut Vec<u8>) -> Result<(), OutFault>
-        requires { ForSome (records self.old) (λ held. IsSome (map.get held id)) }
-        ensures bytes { OnOk result (IfSome (records self.old) (λ held. map.get held id ≡ Some into.new.items)) }
-        ensures given { OnOk result (given self.new ≡ Some (id, into.new.items)) }
-        ensures refused { OnErr result (given self.new ≡ given self.old) }
+        requires { ForSome (view self.old).records (λ held. IsSome (map.get held id)) }
+        ensures bytes { OnOk result (IfSome (view self.old).records (λ held. map.get held id ≡ Some into.new.items)) }
+        ensures given { OnOk result ((view self.new).given ≡ Some (id, into.new.items)) }
+        ensures refused { OnErr result ((view self.new).given ≡ (view self.old).given) }
         ensures empty { OnErr result (into.new.items ≡ []) }
-        ensures records_stay { records self.new ≡ records self.old }
-        ensures faults { fault_count self.new ≡ faults_after result (fault_count self.old) };
+        ensures records_stay { (view self.new).records ≡ (view self.old).records }
+        ensures faults { (view self.new).faults ≡ faults_after result (view self.old).faults };
 
     /// Takes a record out.
     ///
@@ -53,13 +47,13 @@ pub trait Store {
     /// `Failed` where the store fails, `NoMemory` where memory is refused, which may come at any time. Then the records
     /// stay, and a later call may succeed.
     fn remove(&mut self, id: u64) -> Result<(), OutFault>
-        requires { ForSome (records self.old) (λ held. IsSome (map.get held id)) }
-        ensures removed { OnOk result (records self.new ≡ option_map (λ held. map.remove held id) (records self.old)) }
-        ensures refused { OnErr result (records self.new ≡ records self.old) }
-        ensures given_stays { given self.new ≡ given self.old }
-        ensures faults { fault_count self.new ≡ faults_after result (fault_count self.old) };
+        requires { ForSome (view self.old).records (λ held. IsSome (map.get held id)) }
+        ensures removed { OnOk result ((view self.new).records ≡ option_map (λ held. map.remove held id) (view self.old).records) }
+        ensures refused { OnErr result ((view self.new).records ≡ (view self.old).records) }
+        ensures given_stays { (view self.new).given ≡ (view self.old).given }
+        ensures faults { (view self.new).faults ≡ faults_after result (view self.old).faults };
 
     /// How often the store failed; a count of 2^64 - 1 stands for that many or more.
     fn faults(&self) -> u64
-        ensures { result ≡ fault_count self.now };
+        ensures { result ≡ (view self.now).faults };
 }

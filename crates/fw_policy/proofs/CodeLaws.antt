@@ -13,6 +13,7 @@ use Rattle.fw_frontier.proofs.NamesLaws.{names-same}
 use Rattle.fw_flow.specs.declared.choice.Offered.{Offered}
 use Rattle.fw_flow.specs.declared.choice.Offered.TheVariants as form
 use Rattle.fw_flow.specs.declared.choice.Recorded.{Recorded}
+use Rattle.fw_flow.specs.declared.choice.Stamps.{Stamps}
 use Rattle.fw_flow.specs.declared.restoring.Restoring.TheVariants.{Batches}
 use Rattle.fw_flow.specs.Dataflow.{greatest_number}
 use Rattle.fw_model.specs.Choice.{until}
@@ -20,9 +21,9 @@ use Rattle.fw_model.specs.Machine.{no_stamps}
 use Rattle.fw_model.proofs.LowLaws.{none-canonical}
 use Rattle.fw_policy.specs.declared.view.Border.{Border}
 use Rattle.fw_policy.specs.declared.view.Border.TheVariants.{Output, Source}
-use Rattle.fw_policy.specs.declared.view.Entry.{Entry}
-use Rattle.fw_policy.specs.declared.view.Written.{Written}
-use Rattle.fw_policy.specs.declared.view.Written.TheVariants.{Checkpoint}
+use Rattle.fw_keep.specs.declared.entry.Entry.{Entry}
+use Rattle.fw_keep.specs.declared.entry.Written.{Written}
+use Rattle.fw_keep.specs.declared.entry.Written.TheVariants as written
 use Rattle.fw_policy.specs.Known.{FitsWay}
 use Rattle.fw_policy.specs.Offering.{below_all, IsRange, IsOfBatches, IsOfBound, empty_record, holding, record_in, record_by, records_by}
 use Rattle.fw_policy.proofs.RecordedLaws.{outside-none}
@@ -77,15 +78,17 @@ filter-one test (x ∷ xs) y c e = at (test x) (filter-one test xs y c e)
     at true r = ap (λ zs. x ∷ zs) r
     at false r = r
 
-pub held_kept : (low : Front) (rs records next : List Recorded) (r s : Recorded) (w : Written) → records ≡ holding low rs → w ≡ Checkpoint r
+pub held_kept : (low : Front) (rs records next : List Recorded) (r s : Recorded) (stamps : Stamps) (sent : ℕ) (w : Written) → records ≡ holding low rs
+    → w ≡ written.Checkpoint r stamps sent
     → is_within low r.front ≡ true → s ≡ r → next ≡ records ++ s ∷ [] → next ≡ holding low (rs ++ record_in w)
-held_kept low rs records next r s w a e k c n =
+held_kept low rs records next r s stamps sent w a e k c n =
     n ∙ ap (λ (xs : List Recorded). xs ++ s ∷ []) a ∙ ap (λ x. holding low rs ++ x ∷ []) c
     ∙ sym (ap (λ v. holding low (rs ++ record_in v)) e ∙ filter-one (λ (x : Recorded). is_within low x.front) rs r true k)
 
-pub held_left : (low : Front) (rs records : List Recorded) (r : Recorded) (w : Written) → records ≡ holding low rs → w ≡ Checkpoint r
+pub held_left : (low : Front) (rs records : List Recorded) (r : Recorded) (stamps : Stamps) (sent : ℕ) (w : Written) → records ≡ holding low rs
+    → w ≡ written.Checkpoint r stamps sent
     → is_within low r.front ≡ false → records ≡ holding low (rs ++ record_in w)
-held_left low rs records r w a e k =
+held_left low rs records r stamps sent w a e k =
     a ∙ sym (ap (λ v. holding low (rs ++ record_in v)) e ∙ filter-one (λ (x : Recorded). is_within low x.front) rs r false k ∙ append-nil (holding low rs))
 
 pub held_none : (low : Front) (rs records xs : List Recorded) → records ≡ holding low rs → xs ≡ [] → records ≡ holding low (rs ++ xs)

@@ -24,7 +24,7 @@ use Rattle.fw_model.proofs.LegalLaws.{legal-in_domain}
 use Rattle.fw_model.proofs.LoggedLaws.{live-logged}
 use Rattle.fw_policy.specs.declared.view.Border.{Border}
 use Rattle.fw_policy.specs.declared.view.Border.TheVariants.{Inner, Source, Output}
-use Rattle.fw_policy.specs.declared.view.Entry.{Entry}
+use Rattle.fw_keep.specs.declared.entry.Entry.{Entry}
 use Rattle.fw_policy.specs.declared.view.NodeView.{NodeView}
 use Rattle.fw_policy.specs.View.{IsBorderOf, IsNodeViewOf, AreNodeViewsFrom, IsViewOf}
 use Rattle.fw_policy.specs.Offering.{unlogged_stamps, OffersBy, IsOfferBy, AreOffersBy}

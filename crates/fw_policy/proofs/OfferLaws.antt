@@ -50,10 +50,11 @@ use Rattle.fw_model.proofs.UntilLaws.{numbers, canonical-until}
 use Rattle.fw_model.proofs.WriteLaws.{ArePairs, pairs-passed, LiesBelow}
 use Rattle.fw_policy.specs.declared.view.Border.{Border}
 use Rattle.fw_policy.specs.declared.view.Border.TheVariants.{Inner, Source, Output}
-use Rattle.fw_policy.specs.declared.view.Entry.{Entry}
+use Rattle.fw_keep.specs.declared.entry.Entry.{Entry}
 use Rattle.fw_policy.specs.declared.view.NodeView.{NodeView}
 use Rattle.fw_model.specs.EventStamps.{IsOfCause}
-use Rattle.fw_policy.specs.View.{base_of, IsRecorded, AreEntriesOf, IsLostAt, IsBorderOf, IsNodeViewOf, AreNodeViewsFrom, IsViewOf}
+use Rattle.fw_policy.specs.Entries.{IsRecorded, AreEntriesOf}
+use Rattle.fw_policy.specs.View.{base_of, IsLostAt, IsBorderOf, IsNodeViewOf, AreNodeViewsFrom, IsViewOf}
 use Rattle.fw_policy.specs.Offering.{records_by, empty_record, holding, unlogged_stamps, below_all, IsRange, IsOfBatches, IsOfBound, OffersBy, IsOfferBy, AreOffersBy}
 use Rattle.fw_policy.proofs.BatchLaws.{batches-offered}
 use Rattle.fw_policy.proofs.NumberLaws.{numbered-covers, counted-arrive}

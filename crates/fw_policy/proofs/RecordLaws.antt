@@ -15,10 +15,10 @@ use Rattle.fw_model.proofs.AskedLaws.{IsApart}
 use Rattle.fw_model.proofs.Decisions.{two_ways}
 use Rattle.fw_model.proofs.WriteLaws.{HoldsOfOne, IsCheckpointAt, IsItsCheckpoint, some-checkpoint, checkpoint-some, some-passed, ArePairs, LiesBelow}
 use Rattle.fw_model.specs.Offers.{IsListed, Ascend}
-use Rattle.fw_policy.specs.declared.view.Entry.{Entry}
-use Rattle.fw_policy.specs.declared.view.Written.{Written}
-use Rattle.fw_policy.specs.declared.view.Written.TheVariants.{Checkpoint, Event as LoggedEvent}
-use Rattle.fw_policy.specs.View.{IsRecorded, Holds, IsEntryOf, AreEntriesOf}
+use Rattle.fw_keep.specs.declared.entry.Entry.{Entry}
+use Rattle.fw_keep.specs.declared.entry.Written.{Written}
+use Rattle.fw_keep.specs.declared.entry.Written.TheVariants as written
+use Rattle.fw_policy.specs.Entries.{IsRecorded, Holds, IsEntryOf, AreEntriesOf}
 use Rattle.fw_policy.specs.Offering.{record_in, record_by, records_by, holding}
 use Rattle.fw_policy.proofs.UnloggedLaws.{some-filtered}
 
@@ -32,9 +32,9 @@ own-front sys state p f r k = subst (λ (g : Front). IsRecorded sys state p g r)
 
 held-record : (sys : System) (state : Machine) (p : ℕ) (w : Written) (v : WrittenBy) → Holds sys state p w v
     → AllByRecursion (λ (r : Recorded). IsRecorded sys state p r.front r) (record_in w)
-held-record sys state p (Checkpoint r) (checkpoint f low) h = (own-front sys state p f r h, tt)
-held-record sys state p (Checkpoint r) (logged_event s) h = absurd h
-held-record sys state p (LoggedEvent t) v h = tt
+held-record sys state p (written.Checkpoint r stamps sent) (checkpoint f low) h = (own-front sys state p f r h.recorded, tt)
+held-record sys state p (written.Checkpoint r stamps sent) (logged_event s) h = absurd h
+held-record sys state p (written.Event event) v h = tt
 
 entry-record : (sys : System) (state : Machine) (p : ℕ) (entry : Entry) (write : Write) → IsEntryOf sys state entry write
     → AllByRecursion (λ (r : Recorded). IsRecorded sys state p r.front r) (record_by p entry)
@@ -72,16 +72,16 @@ listed-either f (r ∷ rs) ss (inr i) = elim (listed-either f rs ss i) [ inl k �
 
 record-checkpoint : (sys : System) (state : Machine) (q p : ℕ) (f : Front) (w : Written) (v : WrittenBy) (far : Stage) → Holds sys state q w v → q ≡ p → is_counted kept far ≡ true
     → IsListed f (record_in w) → IsCheckpointAt kept p f q v far
-record-checkpoint sys state q p f (Checkpoint r) (checkpoint g low) far h e k i = elim i [ inl d ↦ (e, sym h.front ∙ d, k) | inr l ↦ absurd l ]
-record-checkpoint sys state q p f (Checkpoint r) (logged_event s) far h e k i = absurd h
-record-checkpoint sys state q p f (LoggedEvent t) v far h e k i = absurd i
+record-checkpoint sys state q p f (written.Checkpoint r stamps sent) (checkpoint g low) far h e k i = elim i [ inl d ↦ (e, sym (h.recorded).front ∙ d, k) | inr l ↦ absurd l ]
+record-checkpoint sys state q p f (written.Checkpoint r stamps sent) (logged_event s) far h e k i = absurd h
+record-checkpoint sys state q p f (written.Event event) v far h e k i = absurd i
 
 checkpoint-record : (sys : System) (state : Machine) (q p : ℕ) (f : Front) (w : Written) (v : WrittenBy) (far : Stage) → Holds sys state q w v
     → IsCheckpointAt kept p f q v far → (q ≡ p) × (is_counted kept far ≡ true) × IsListed f (record_in w)
-checkpoint-record sys state q p f (Checkpoint r) (checkpoint g low) far h k = (k.0, k.2, inl (h.front ∙ k.1))
-checkpoint-record sys state q p f (Checkpoint r) (logged_event s) far h k = absurd h
-checkpoint-record sys state q p f (LoggedEvent t) (checkpoint g low) far h k = absurd h
-checkpoint-record sys state q p f (LoggedEvent t) (logged_event s) far h k = absurd k
+checkpoint-record sys state q p f (written.Checkpoint r stamps sent) (checkpoint g low) far h k = (k.0, k.2, inl ((h.recorded).front ∙ k.1))
+checkpoint-record sys state q p f (written.Checkpoint r stamps sent) (logged_event s) far h k = absurd h
+checkpoint-record sys state q p f (written.Event event) (checkpoint g low) far h k = absurd h
+checkpoint-record sys state q p f (written.Event event) (logged_event s) far h k = absurd k
 
 entry-checkpoint : (sys : System) (state : Machine) (p : ℕ) (f : Front) (entry : Entry) (write : Write) → IsEntryOf sys state entry write
     → IsListed f (record_by p entry) → IsItsCheckpoint kept p f write
@@ -158,24 +158,24 @@ Rises b r s = Within (frontier_of b r.front) (frontier_of b s.front) × (r.front
 
 held-rises : (sys : System) (state : Machine) (p q m : ℕ) (x y : Written) (v w : WrittenBy) → p < length sys.flow.nodes → q ≡ p → m ≡ p → Holds sys state q x v → Holds sys state m y w
     → IsUnder sys q v m w → AllByRecursion (λ (r : Recorded). AllByRecursion (Rises (bounds_of sys.flow p) r) (record_in y)) (record_in x)
-held-rises sys state p q m (Checkpoint r) (Checkpoint s) (checkpoint f k) (checkpoint g l) d e i a b u =
+held-rises sys state p q m (written.Checkpoint r stamps sent) (written.Checkpoint s others count) (checkpoint f k) (checkpoint g l) d e i a b u =
     let same : q ≡ m = e ∙ sym i in
     let lies = u.0 same (subst (λ n. n < length sys.flow.nodes) (sym e) d) in (
       (
         (
-          subst (λ (z : Front). Within (frontier_of (bounds_of sys.flow p) z) (frontier_of (bounds_of sys.flow p) s.front)) (sym a.front)
-              (subst (λ (z : Front). Within (frontier_of (bounds_of sys.flow p) f) (frontier_of (bounds_of sys.flow p) z)) (sym b.front)
+          subst (λ (z : Front). Within (frontier_of (bounds_of sys.flow p) z) (frontier_of (bounds_of sys.flow p) s.front)) (sym (a.recorded).front)
+              (subst (λ (z : Front). Within (frontier_of (bounds_of sys.flow p) f) (frontier_of (bounds_of sys.flow p) z)) (sym (b.recorded).front)
               (subst (λ n. Within (frontier_of (bounds_of sys.flow n) f) (frontier_of (bounds_of sys.flow n) g)) e lies)),
-          λ c. u.1 same (sym a.front ∙ c ∙ b.front),
+          λ c. u.1 same (sym (a.recorded).front ∙ c ∙ (b.recorded).front),
         ),
         tt,
       ),
       tt,
     )
-held-rises sys state p q m (Checkpoint r) (Checkpoint s) (checkpoint f k) (logged_event t) d e i a b u = absurd b
-held-rises sys state p q m (Checkpoint r) (Checkpoint s) (logged_event t) w d e i a b u = absurd a
-held-rises sys state p q m (Checkpoint r) (LoggedEvent t) v w d e i a b u = (tt, tt)
-held-rises sys state p q m (LoggedEvent t) y v w d e i a b u = tt
+held-rises sys state p q m (written.Checkpoint r stamps sent) (written.Checkpoint s others count) (checkpoint f k) (logged_event t) d e i a b u = absurd b
+held-rises sys state p q m (written.Checkpoint r stamps sent) (written.Checkpoint s others count) (logged_event t) w d e i a b u = absurd a
+held-rises sys state p q m (written.Checkpoint r stamps sent) (written.Event event) v w d e i a b u = (tt, tt)
+held-rises sys state p q m (written.Event event) y v w d e i a b u = tt
 
 entry-rises : (sys : System) (state : Machine) (p : ℕ) (x y : Entry) (v w : Write) → p < length sys.flow.nodes → IsEntryOf sys state x v → IsEntryOf sys state y w
     → IsUnder sys v.node v.written w.node w.written → AllByRecursion (λ (r : Recorded). AllByRecursion (Rises (bounds_of sys.flow p) r) (record_by p y)) (record_by p x)
@@ -218,8 +218,8 @@ ascend-append b [] ss a c u = c
 ascend-append b (r ∷ rs) ss a c u = (each-append (Rises b r) rs ss a.0 u.0, ascend-append b rs ss a.1 c u.1)
 
 ascend-in : (b : Bounds) (w : Written) → Ascend b (record_in w)
-ascend-in b (Checkpoint r) = (tt, tt)
-ascend-in b (LoggedEvent t) = tt
+ascend-in b (written.Checkpoint r stamps sent) = (tt, tt)
+ascend-in b (written.Event event) = tt
 
 pub entries-ascend : (sys : System) (state : Machine) (p : ℕ) (entries : List Entry) (writes : List Write) → p < length sys.flow.nodes → AreEntriesOf sys state entries writes
     → ArePairs (IsUnder sys) writes → Ascend (bounds_of sys.flow p) (records_by p entries)
@@ -245,9 +245,9 @@ HasStamps sys q v = (f : Front) (low : List Front) → v ≡ checkpoint f low �
 
 held-stamps : (sys : System) (state : Machine) (q : ℕ) (w : Written) (v : WrittenBy) → Holds sys state q w v → HasStamps sys q v
     → AllByRecursion (λ (r : Recorded). r.front ≢ no_stamps (bounds_of sys.flow q)) (record_in w)
-held-stamps sys state q (Checkpoint r) (checkpoint f low) h s = (λ e. s f low refl (sym h.front ∙ e), tt)
-held-stamps sys state q (Checkpoint r) (logged_event n) h s = absurd h
-held-stamps sys state q (LoggedEvent t) v h s = tt
+held-stamps sys state q (written.Checkpoint r stamps sent) (checkpoint f low) h s = (λ e. s f low refl (sym (h.recorded).front ∙ e), tt)
+held-stamps sys state q (written.Checkpoint r stamps sent) (logged_event n) h s = absurd h
+held-stamps sys state q (written.Event event) v h s = tt
 
 entry-stamps : (sys : System) (state : Machine) (p : ℕ) (entry : Entry) (write : Write) → IsEntryOf sys state entry write → HasStamps sys write.node write.written
     → AllByRecursion (λ (r : Recorded). r.front ≢ no_stamps (bounds_of sys.flow p)) (record_by p entry)

@@ -29,13 +29,14 @@ use Rattle.fw_model.proofs.LowLaws.{none-canonical}
 use Rattle.fw_model.proofs.UntilLaws.{numbers, canonical-until}
 use Rattle.fw_policy.specs.declared.view.Border.{Border}
 use Rattle.fw_policy.specs.declared.view.Border.TheVariants.{Inner, Source, Output}
-use Rattle.fw_policy.specs.declared.view.Entry.{Entry}
+use Rattle.fw_keep.specs.declared.entry.Entry.{Entry}
 use Rattle.fw_policy.specs.declared.view.NodeView.{NodeView}
-use Rattle.fw_policy.specs.declared.view.Written.{Written}
-use Rattle.fw_policy.specs.declared.view.Written.TheVariants.{Checkpoint, Event as LoggedEvent}
+use Rattle.fw_keep.specs.declared.entry.Written.{Written}
+use Rattle.fw_keep.specs.declared.entry.Written.TheVariants as written
 use Rattle.fw_policy.specs.Known.{FitsWay, AreKnown}
-use Rattle.fw_policy.specs.Offering.{record_in, record_by, records_by, empty_record, stamp_in, unlogged_by, IsRange, IsOfBatches, IsOfBound, OffersBy, IsOfferBy, AreOffersBy}
-use Rattle.fw_policy.specs.Shaped.{FitsKind, AreStampsAt, IsWrittenOf, IsViewFor, AreViewsFrom, FitsFlow}
+use Rattle.fw_policy.specs.Offering.{record_in, record_by, records_by, empty_record, stamp_of_written, unlogged_by, IsRange, IsOfBatches, IsOfBound, OffersBy, IsOfferBy, AreOffersBy}
+use Rattle.fw_record.specs.OfNode.{AreOfDomain}
+use Rattle.fw_policy.specs.Shaped.{FitsKind, IsWrittenOf, IsViewFor, AreViewsFrom, FitsFlow}
 
 abbrev AreWritten : Dataflow → List Entry → Type 0
 AreWritten flow entries = AllByRecursion (λ (entry : Entry). IsWrittenOf flow entry.node entry.written) entries
@@ -46,8 +47,8 @@ same-node n m e = grind (arith, nat_tests)
 -- ---- what the entries hold
 
 record-held : (flow : Dataflow) (p : ℕ) (w : Written) → IsWrittenOf flow p w → AllByRecursion (IsRecordOf flow p) (record_in w)
-record-held flow p (Checkpoint r) k = (k, tt)
-record-held flow p (LoggedEvent t) k = tt
+record-held flow p (written.Checkpoint r stamps sent) k = (k, tt)
+record-held flow p (written.Event event) k = tt
 
 records-held : (flow : Dataflow) (p : ℕ) (entries : List Entry) → AreWritten flow entries → AllByRecursion (IsRecordOf flow p) (records_by p entries)
 records-held flow p [] a = tt
@@ -57,15 +58,15 @@ records-held flow p (entry ∷ entries) a =
     (λ e. record-held flow p entry.written (subst (λ q. IsWrittenOf flow q entry.written) (same-node entry.node p (and_parts (entry.node == p) entry.acknowledged e).0) a.0)) (λ e. tt))
     (records-held flow p entries a.1)
 
-stamp-held : (flow : Dataflow) (p : ℕ) (w : Written) → IsWrittenOf flow p w → AreStampsAt flow p (stamp_in w)
-stamp-held flow p (Checkpoint r) k = tt
-stamp-held flow p (LoggedEvent t) k = (k, tt)
+stamp-held : (flow : Dataflow) (p : ℕ) (w : Written) → IsWrittenOf flow p w → AreOfDomain flow p (stamp_of_written w)
+stamp-held flow p (written.Checkpoint r stamps sent) k = tt
+stamp-held flow p (written.Event event) k = (k, tt)
 
-stamps-held : (flow : Dataflow) (p : ℕ) (entries : List Entry) → AreWritten flow entries → AreStampsAt flow p (flat_map (unlogged_by p) entries)
+stamps-held : (flow : Dataflow) (p : ℕ) (entries : List Entry) → AreWritten flow entries → AreOfDomain flow p (flat_map (unlogged_by p) entries)
 stamps-held flow p [] a = tt
 stamps-held flow p (entry ∷ entries) a =
     each-append (λ t. in_domain (bounds_of flow p) t ≡ true) (unlogged_by p entry) (flat_map (unlogged_by p) entries)
-    (cond_both (entry.node == p && not entry.acknowledged) (stamp_in entry.written) [] (AreStampsAt flow p)
+    (cond_both (entry.node == p && not entry.acknowledged) (stamp_of_written entry.written) [] (AreOfDomain flow p)
     (λ e. stamp-held flow p entry.written (subst (λ q. IsWrittenOf flow q entry.written) (same-node entry.node p (and_parts (entry.node == p) (not entry.acknowledged) e).0) a.0)) (λ e. tt))
     (stamps-held flow p entries a.1)
 
@@ -204,7 +205,7 @@ shaped-offers flow view entries offers wf long s o = record {
       subst (λ (ms : List Counted). AreOnEdges flow ms) (sym (at-map (λ (y : Offer). y.stamps.delivered) [] offers p x.offer x.there ∙ ap (λ (y : Stamps). y.delivered) x.is.stamps)) x.view.delivered;
   notified = λ p l.
       let x = both p l in
-      subst (AreStampsAt flow p) (sym (at-map (λ (y : Offer). y.stamps.notified) [] offers p x.offer x.there ∙ ap (λ (y : Stamps). y.notified) x.is.stamps)) x.view.notified;
+      subst (AreOfDomain flow p) (sym (at-map (λ (y : Offer). y.stamps.notified) [] offers p x.offer x.there ∙ ap (λ (y : Stamps). y.notified) x.is.stamps)) x.view.notified;
   sent = λ p l. subst (λ (ms : List Counted). AreOnEdges flow ms) (sym (sent-is p l)) (both p l).view.sent;
   batches = λ e l.
       let p = sender flow e in

@@ -1,12 +1,14 @@
 -- Which events of a node are not logged: those whose entries are in flight, and those that were lost with it.
-use Rattle.std.proofs.Common.{◌≡◌, ◌⊎◌, ◌↔◌, inl, inr, ℕ, suc, ◌<◌, Bool, true, false, not, cond, ◌&&◌, ◌==◌, List, [], ◌∷◌, ◌++◌, refl, sym, ◌∙◌, ap, subst, arith}
+use Rattle.std.proofs.Common.{◌≡◌, ◌⊎◌, ◌↔◌, inl, inr, Some, ℕ, suc, ◌<◌, Bool, true, false, not, cond, ◌&&◌, ◌==◌, List, [], ◌∷◌, ◌++◌, refl, sym, ◌∙◌, ap, subst, arith}
 use Rattle.std.specs.Prelude.{filter}
 use Rattle.std.specs.List.{AllByRecursion, Contains, flat_map}
 use Rattle.std.proofs.lemmas.Bool.{cond_both, cases_Bool, and_parts, and_from, eqb-true, eq-eqb}
 use Rattle.fw_time.specs.Stamp.{Stamp}
 use Rattle.fw_time.proofs.EachLaws.{each-weaker, each-both}
 use Rattle.fw_frontier.specs.Frontier.{Frontier}
-use Rattle.fw_flow.specs.Dataflow.{System}
+use Rattle.fw_flow.specs.declared.event.Event.{Event as Happened}
+use Rattle.fw_flow.specs.declared.event.Event.TheVariants as happened
+use Rattle.fw_flow.specs.Dataflow.{System, Dataflow}
 use Rattle.fw_flow.specs.NodeFunction.{event_node, event_stamp}
 use Rattle.fw_model.specs.Choice.{ever, kept, is_counted, IsLogged, AllLogged}
 use Rattle.fw_model.specs.Writes.{HasOne, LogsSerial, not_collected}
@@ -16,11 +18,15 @@ use Rattle.fw_model.proofs.Decisions.{two_ways}
 use Rattle.fw_model.proofs.RestoringLaws.{apart-events, all-logged}
 use Rattle.fw_model.proofs.WriteLaws.{HoldsOfOne, some-passed, NamesEvent, LogsEvent, some-logged, logged-some, ArePairs}
 use Rattle.fw_model.specs.LawsOfWrites.{IsLoggedFor}
-use Rattle.fw_policy.specs.declared.view.Entry.{Entry}
-use Rattle.fw_policy.specs.declared.view.Written.{Written}
-use Rattle.fw_policy.specs.declared.view.Written.TheVariants.{Checkpoint, Event as LoggedEvent}
-use Rattle.fw_policy.specs.View.{Holds, IsEventAt, HasEventAt, IsEntryOf, AreEntriesOf, IsUnlogged, IsLostAt}
-use Rattle.fw_policy.specs.Offering.{stamp_in, unlogged_by, unlogged_stamps}
+use Rattle.fw_record.specs.declared.record.Event.{Event}
+use Rattle.fw_record.specs.declared.record.Event.TheVariants.{Deliver, Notify}
+use Rattle.fw_record.specs.Event.{stamp_of_event}
+use Rattle.fw_keep.specs.declared.entry.Entry.{Entry}
+use Rattle.fw_keep.specs.declared.entry.Written.{Written}
+use Rattle.fw_keep.specs.declared.entry.Written.TheVariants as written
+use Rattle.fw_policy.specs.Entries.{HasEventTold, Holds, IsEntryOf, AreEntriesOf, told_of}
+use Rattle.fw_policy.specs.View.{IsEventAt, IsUnlogged, IsLostAt}
+use Rattle.fw_policy.specs.Offering.{stamp_of_written, unlogged_by, unlogged_stamps}
 use Rattle.fw_model.proofs.SentStandLaws.{IsOne, one-contained, contained-one}
 use Rattle.fw_model.proofs.ThinnedLaws.{each-contained}
 
@@ -49,6 +55,24 @@ meets P Q (x ∷ xs) a (inr k) = meets P Q xs a.1 k
 each-there : {A : Type 0} (xs : List A) → AllByRecursion (Contains xs) xs
 each-there [] = tt
 each-there (x ∷ xs) = ((0, omega arith, refl), each-weaker (Contains xs) (Contains (x ∷ xs)) xs (λ y c. let l = c.1 in (suc c.0, omega arith, c.2)) (each-there xs))
+
+-- ---- events as they are told
+
+-- an event is told with its stamp
+pub told-stamp : (v : Happened) (event : Event) → told_of v ≡ Some event → stamp_of_event event ≡ event_stamp v
+told-stamp (happened.Inject s x) event k = absurd cc
+told-stamp (happened.Deliver e m) event k = let c : Deliver e m.at m.rec ≡ event = cc in ap stamp_of_event (sym c)
+told-stamp (happened.Notify p t) event k = let c : Notify t ≡ event = cc in ap stamp_of_event (sym c)
+
+-- an event of this serial is in the history: one of node p at stamp t
+abbrev HasEventAt : Dataflow → ℕ → ℕ → Stamp → List SerialEvent → Type 0
+HasEventAt flow p serial t [] = ⊥
+HasEventAt flow p serial t (v ∷ h) = IsEventAt flow p serial t v ⊎ HasEventAt flow p serial t h
+
+event-told : (flow : Dataflow) (p s : ℕ) (event : Event) (h : List SerialEvent) → HasEventTold flow p s event h → HasEventAt flow p s (stamp_of_event event) h
+event-told flow p s event [] a = absurd a
+event-told flow p s event (v ∷ h) (inl a) = inl (record { same_serial = a.same_serial; node = a.node; stamp = sym (told-stamp v.event event a.told) })
+event-told flow p s event (v ∷ h) (inr a) = inr (event-told flow p s event h a)
 
 -- ---- logged or not
 
@@ -106,18 +130,24 @@ is-flying acknowledged b e k n = let c : false ≡ true = sym (ap not e) ∙ k i
 is-flying collected b e k n = absurd (n refl)
 
 held-flies : (sys : System) (state : Machine) (q p : ℕ) (t : Stamp) (w : Written) (v : WrittenBy) (far : Stage) → Holds sys state q w v → q ≡ p → far ≡ in_flight
-    → IsOne t (stamp_in w) → FliesAt sys state p t (record { node = q; written = v; stage = far })
-held-flies sys state q p t (Checkpoint r) v far h e f i = absurd i
-held-flies sys state q p t (LoggedEvent u) (checkpoint g low) far h e f i = absurd h
-held-flies sys state q p t (LoggedEvent u) (logged_event s) far h e f i = elim i [
-  | inl k ↦ record { serial = s; node = e; flying = (refl, f); event = subst (λ (x : Stamp). HasEventAt sys.flow p s x state.history) k (subst (λ n. HasEventAt sys.flow n s u state.history) e h) }
+    → IsOne t (stamp_of_written w) → FliesAt sys state p t (record { node = q; written = v; stage = far })
+held-flies sys state q p t (written.Checkpoint r stamps sent) v far h e f i = absurd i
+held-flies sys state q p t (written.Event event) (checkpoint g low) far h e f i = absurd h
+held-flies sys state q p t (written.Event event) (logged_event s) far h e f i = elim i [
+  | inl k ↦ record {
+    serial = s;
+    node = e;
+    flying = (refl, f);
+    event = subst (λ (x : Stamp). HasEventAt sys.flow p s x state.history) k
+        (subst (λ n. HasEventAt sys.flow n s (stamp_of_event event) state.history) e (event-told sys.flow q s event state.history h));
+  }
   | inr k ↦ absurd k
 ]
 
 entry-flies : (sys : System) (state : Machine) (p : ℕ) (t : Stamp) (entry : Entry) (write : Write) → IsEntryOf sys state entry write → (write.stage ≡ collected → ⊥)
     → IsOne t (unlogged_by p entry) → FliesAt sys state p t write
 entry-flies sys state p t entry write k n =
-    cond_both (entry.node == p && not entry.acknowledged) (stamp_in entry.written) [] (λ ss. IsOne t ss → FliesAt sys state p t write)
+    cond_both (entry.node == p && not entry.acknowledged) (stamp_of_written entry.written) [] (λ ss. IsOne t ss → FliesAt sys state p t write)
     (λ e i.
     let a = and_parts (entry.node == p) (not entry.acknowledged) e in
     held-flies sys state write.node p t entry.written write.written write.stage k.holds (sym k.node ∙ eqb-true entry.node p a.0)
@@ -140,12 +170,17 @@ record IsEntered (sys : System) (state : Machine) (p serial : ℕ) (ss : List St
   event : HasEventAt sys.flow p serial at state.history
 
 held-entered : (sys : System) (state : Machine) (q p serial : ℕ) (w : Written) (v : WrittenBy) → Holds sys state q w v → q ≡ p → v ≡ logged_event serial
-    → IsEntered sys state p serial (stamp_in w)
-held-entered sys state q p serial (Checkpoint r) (checkpoint g low) h e k = cc
-held-entered sys state q p serial (Checkpoint r) (logged_event s) h e k = absurd h
-held-entered sys state q p serial (LoggedEvent u) (checkpoint g low) h e k = absurd h
-held-entered sys state q p serial (LoggedEvent u) (logged_event s) h e k =
-    record { at = u; there = inl refl; event = subst (λ n. HasEventAt sys.flow p n u state.history) (ap (serial_in s) k) (subst (λ n. HasEventAt sys.flow n s u state.history) e h) }
+    → IsEntered sys state p serial (stamp_of_written w)
+held-entered sys state q p serial (written.Checkpoint r stamps sent) (checkpoint g low) h e k = cc
+held-entered sys state q p serial (written.Checkpoint r stamps sent) (logged_event s) h e k = absurd h
+held-entered sys state q p serial (written.Event event) (checkpoint g low) h e k = absurd h
+held-entered sys state q p serial (written.Event event) (logged_event s) h e k =
+    record {
+      at = stamp_of_event event;
+      there = inl refl;
+      event = subst (λ n. HasEventAt sys.flow p n (stamp_of_event event) state.history) (ap (serial_in s) k)
+          (subst (λ n. HasEventAt sys.flow n s (stamp_of_event event) state.history) e (event-told sys.flow q s event state.history h));
+    }
   where
     serial_in : ℕ → WrittenBy → ℕ
     serial_in d (checkpoint f low) = d
@@ -167,7 +202,7 @@ entries-entered sys state p serial (entry ∷ entries) (write ∷ writes) a (inl
     let h = held-entered sys state write.node p serial entry.written write.written b.holds k.0 (k.1).0 in
     record {
       at = h.at;
-      there = one-first h.at (unlogged_by p entry) (flat_map (unlogged_by p) entries) (subst (λ c. IsOne h.at (cond c (stamp_in entry.written) [])) (sym e) h.there);
+      there = one-first h.at (unlogged_by p entry) (flat_map (unlogged_by p) entries) (subst (λ c. IsOne h.at (cond c (stamp_of_written entry.written) [])) (sym e) h.there);
       event = h.event;
     }
 entries-entered sys state p serial (entry ∷ entries) (write ∷ writes) a (inr k) =

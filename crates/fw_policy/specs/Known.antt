@@ -10,7 +10,7 @@ use Rattle.fw_flow.specs.Restoring.{way_of}
 use Rattle.fw_policy.specs.Offering.{unlogged_stamps}
 use Rattle.fw_policy.specs.declared.view.Border.{Border}
 use Rattle.fw_policy.specs.declared.view.Border.TheVariants.{Source, Output}
-use Rattle.fw_policy.specs.declared.view.Entry.{Entry}
+use Rattle.fw_keep.specs.declared.entry.Entry.{Entry}
 use Rattle.fw_policy.specs.declared.view.NodeView.{NodeView}
 
 -- The border fits the way: an input's tells how many batches were injected, which are not too many, and an output's how many

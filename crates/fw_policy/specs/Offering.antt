@@ -17,15 +17,17 @@ use Rattle.fw_model.specs.Choice.{until}
 use Rattle.fw_model.specs.Machine.{no_stamps}
 use Rattle.fw_policy.specs.declared.view.Border.{Border}
 use Rattle.fw_policy.specs.declared.view.Border.TheVariants.{Source, Output}
-use Rattle.fw_policy.specs.declared.view.Entry.{Entry}
+use Rattle.fw_record.specs.Event.{stamp_of_event}
+use Rattle.fw_keep.specs.declared.entry.Entry.{Entry}
+use Rattle.fw_keep.specs.Entry.{is_lost}
 use Rattle.fw_policy.specs.declared.view.NodeView.{NodeView}
-use Rattle.fw_policy.specs.declared.view.Written.{Written}
-use Rattle.fw_policy.specs.declared.view.Written.TheVariants.{Checkpoint, Event as LoggedEvent}
+use Rattle.fw_keep.specs.declared.entry.Written.{Written}
+use Rattle.fw_keep.specs.declared.entry.Written.TheVariants as written
 
 -- the record that is written, if one is
 abbrev pub record_in : Written → List Recorded
-record_in (Checkpoint r) = r ∷ []
-record_in (LoggedEvent t) = []
+record_in (written.Checkpoint recorded stamps sent) = recorded ∷ []
+record_in (written.Event event) = []
 
 -- the record of an entry, if it is an acknowledged one of node p
 abbrev pub record_by : ℕ → Entry → List Recorded
@@ -50,17 +52,21 @@ IsRange bounds low f (form.Between least greatest) = (least ≡ low) × IsFrontO
 IsRange bounds low f (form.Batches least greatest exhausted) = ⊥
 
 -- the stamp of the event that is written, if one is
-abbrev pub stamp_in : Written → List Stamp
-stamp_in (Checkpoint r) = []
-stamp_in (LoggedEvent t) = t ∷ []
+abbrev pub stamp_of_written : Written → List Stamp
+stamp_of_written (written.Checkpoint recorded stamps sent) = []
+stamp_of_written (written.Event event) = stamp_of_event event ∷ []
 
--- the stamp of an event of node p that is not logged yet, if the entry is one
+-- the stamp of an event of node p that is not logged yet, but in flight, if the entry is one
 abbrev pub unlogged_by : ℕ → Entry → List Stamp
-unlogged_by p entry = if entry.node == p && not entry.acknowledged then stamp_in entry.written else []
+unlogged_by p entry = if is_lost p entry then stamp_of_written entry.written else []
+
+-- the stamps of the events of node p that are in flight, in order
+abbrev pub stamps_in_flight : ℕ → List Entry → List Stamp
+stamps_in_flight p entries = flat_map (unlogged_by p) entries
 
 -- the stamps of events of node p that are not logged: those in flight, and those that were lost
 abbrev pub unlogged_stamps : ℕ → List Entry → List Stamp → List Stamp
-unlogged_stamps p entries lost = flat_map (unlogged_by p) entries ++ lost
+unlogged_stamps p entries lost = stamps_in_flight p entries ++ lost
 
 -- what is inside, and at none of these stamps or above
 abbrev pub below_all : List Stamp → Frontier → Frontier

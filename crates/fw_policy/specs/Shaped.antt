@@ -1,7 +1,7 @@
 -- What views and entries are of a dataflow, whatever they tell.
 use Rattle.std.specs.Prelude.{◌≡◌, ℕ, suc, ◌≤◌, true, List, [], ◌∷◌}
 use Rattle.std.specs.List.{AllByRecursion}
-use Rattle.fw_time.specs.Stamp.{Stamp, in_domain}
+use Rattle.fw_time.specs.Stamp.{in_domain}
 use Rattle.fw_frontier.specs.Front.{IsCanonical}
 use Rattle.fw_flow.specs.declared.kind.Kind.{Kind}
 use Rattle.fw_flow.specs.declared.kind.Kind.TheVariants.{Input, OutputEpoch, OutputNumber}
@@ -9,19 +9,17 @@ use Rattle.fw_flow.specs.Dataflow.{Dataflow, kind_of, bounds_of, greatest_number
 use Rattle.fw_model.specs.Offers.{AreOnEdges, HasOneCause, IsRecordOf}
 use Rattle.fw_policy.specs.declared.view.Border.{Border}
 use Rattle.fw_policy.specs.declared.view.Border.TheVariants.{Source, Output}
-use Rattle.fw_policy.specs.declared.view.Entry.{Entry}
+use Rattle.fw_record.specs.Event.{stamp_of_event}
+use Rattle.fw_record.specs.OfNode.{AreOfDomain}
+use Rattle.fw_keep.specs.declared.entry.Entry.{Entry}
 use Rattle.fw_policy.specs.declared.view.NodeView.{NodeView}
-use Rattle.fw_policy.specs.declared.view.Written.{Written}
-use Rattle.fw_policy.specs.declared.view.Written.TheVariants.{Checkpoint, Event as LoggedEvent}
+use Rattle.fw_keep.specs.declared.entry.Written.{Written}
+use Rattle.fw_keep.specs.declared.entry.Written.TheVariants as written
 
--- each of the stamps is of node p's domain
-abbrev pub AreStampsAt : Dataflow → ℕ → List Stamp → Type 0
-AreStampsAt flow p stamps = AllByRecursion (λ t. in_domain (bounds_of flow p) t ≡ true) stamps
-
--- what is written is of node p: a record of it, or a stamp of its domain
+-- what is written is of node p: a checkpoint has a frontier and covers of the domains, and an event a stamp
 abbrev pub IsWrittenOf : Dataflow → ℕ → Written → Type 0
-IsWrittenOf flow p (Checkpoint r) = IsRecordOf flow p r
-IsWrittenOf flow p (LoggedEvent t) = in_domain (bounds_of flow p) t ≡ true
+IsWrittenOf flow p (written.Checkpoint recorded stamps sent) = IsRecordOf flow p recorded
+IsWrittenOf flow p (written.Event event) = in_domain (bounds_of flow p) (stamp_of_event event) ≡ true
 
 -- The border fits the kind: an input's tells how many batches were injected, which are not too many, and an output's how many stamps
 -- were acknowledged. Of any other kind the border plays no part.
@@ -40,9 +38,9 @@ pub record IsViewFor (flow : Dataflow) (p : ℕ) (node : NodeView) : Type 0 wher
   pub settled : IsCanonical (bounds_of flow p) node.settled
   pub low : IsCanonical (bounds_of flow p) node.low
   pub border : FitsKind (kind_of flow p) node.border
-  pub lost : AreStampsAt flow p node.lost
+  pub lost : AreOfDomain flow p node.lost
   pub delivered : AreOnEdges flow node.stamps.delivered
-  pub notified : AreStampsAt flow p node.stamps.notified
+  pub notified : AreOfDomain flow p node.stamps.notified
   pub sent : AreOnEdges flow node.stamps.sent
   pub of_batches : kind_of flow p ≡ Input → AllByRecursion HasOneCause node.stamps.sent
 

@@ -1,33 +1,26 @@
 -- What an engine knows of a state of the machine, for what its nodes offer to a recovery.
-use Rattle.std.specs.Prelude.{◌≡◌, ◌⊎◌, ◌↔◌, ℕ, suc, ◌<◌, Bool, true, if◌then◌else◌, List, [], ◌∷◌, filter, length}
+use Rattle.std.specs.Prelude.{◌≡◌, ◌↔◌, ℕ, suc, Bool, true, if◌then◌else◌, List, [], ◌∷◌, length}
 use Rattle.std.specs.List.{Contains}
 use Rattle.fw_time.specs.Stamp.{Stamp}
 use Rattle.fw_frontier.specs.Frontier.{Frontier}
-use Rattle.fw_frontier.specs.Front.{Front}
-use Rattle.fw_flow.specs.declared.choice.Cut.TheVariants.{At}
-use Rattle.fw_flow.specs.declared.choice.Recorded.{Recorded}
 use Rattle.fw_flow.specs.declared.kind.Kind.{Kind}
 use Rattle.fw_flow.specs.declared.kind.Kind.TheVariants.{Input, OutputEpoch, OutputNumber}
 use Rattle.fw_flow.specs.declared.kind.Policy.TheVariants as policy
-use Rattle.fw_flow.specs.Dataflow.{System, Dataflow, kind_of, policy_of, sender, receiver, bounds_of, node_frontier, is_sequence_kind}
+use Rattle.fw_flow.specs.Dataflow.{System, Dataflow, kind_of, policy_of, node_frontier, is_sequence_kind}
 use Rattle.fw_flow.specs.NodeFunction.{event_node, event_stamp}
 use Rattle.fw_flow.specs.Projection.{IsSentTable}
 use Rattle.fw_flow.specs.WellFormed.{IsWellFormedSystem}
-use Rattle.fw_model.specs.Choice.{kept, is_counted, IsLogged}
-use Rattle.fw_model.specs.Covers.{covers_in}
+use Rattle.fw_model.specs.Choice.{IsLogged}
 use Rattle.fw_model.specs.EventStamps.{AreStampsOf}
 use Rattle.fw_model.specs.History.{injected_count, is_exhausted}
-use Rattle.fw_model.specs.Machine.{Machine, SerialEvent, Write, checkpoint, logged_event, events, front_of, is_failed, ack_count_of}
-use Rattle.fw_model.specs.Machine.{Written as WrittenBy}
-use Rattle.fw_model.specs.Offers.{IsRecordOf, front_of_edge}
+use Rattle.fw_model.specs.Machine.{Machine, SerialEvent, events, front_of, is_failed, ack_count_of}
 use Rattle.fw_model.specs.Reached.{IsReached}
-use Rattle.fw_model.specs.Writes.{takes_checkpoints, not_collected}
+use Rattle.fw_model.specs.Writes.{takes_checkpoints}
+use Rattle.fw_policy.specs.Entries.{AreEntriesOf, uncollected}
 use Rattle.fw_policy.specs.declared.view.Border.{Border}
 use Rattle.fw_policy.specs.declared.view.Border.TheVariants.{Inner, Source, Output}
-use Rattle.fw_policy.specs.declared.view.Entry.{Entry}
+use Rattle.fw_keep.specs.declared.entry.Entry.{Entry}
 use Rattle.fw_policy.specs.declared.view.NodeView.{NodeView}
-use Rattle.fw_policy.specs.declared.view.Written.{Written}
-use Rattle.fw_policy.specs.declared.view.Written.TheVariants.{Checkpoint, Event as LoggedEvent}
 
 -- the base of a node, inside which its stamps may be thinned: what is settled where it takes checkpoints, and else its low
 -- watermark
@@ -36,46 +29,11 @@ base_of sys state p =
     if takes_checkpoints (policy_of sys.flow p) then node_frontier sys.flow p (front_of state.settled p)
     else node_frontier sys.flow p (front_of state.low p)
 
--- A record holds what the machine counts of the events of node p inside f.
-pub record IsRecorded (sys : System) (state : Machine) (p : ℕ) (f : Front) (r : Recorded) : Type 0 where
-  pub front : r.front ≡ f
-  pub of_flow : IsRecordOf sys.flow p r
-  pub delivered : (d : ℕ) → d < length sys.flow.edges → receiver sys.flow d ≡ p
-      → front_of_edge (bounds_of sys.flow p) d r.delivered ≡ (covers_in sys state).delivered d (At f)
-  pub notified : node_frontier sys.flow p r.notified ≡ (covers_in sys state).notified p (At f)
-  pub discarded : (e : ℕ) → e < length sys.flow.edges → sender sys.flow e ≡ p
-      → front_of_edge (bounds_of sys.flow (receiver sys.flow e)) e r.discarded ≡ (covers_in sys state).discarded e (At f)
-
 -- the event has this serial, is one of node p and is at stamp t
 pub record IsEventAt (flow : Dataflow) (p serial : ℕ) (t : Stamp) (v : SerialEvent) : Type 0 where
   pub same_serial : v.serial ≡ serial
   pub node : event_node flow v.event ≡ p
   pub stamp : event_stamp v.event ≡ t
-
--- an event of this serial is in the history: one of node p at stamp t
-abbrev pub HasEventAt : Dataflow → ℕ → ℕ → Stamp → List SerialEvent → Type 0
-HasEventAt flow p serial t [] = ⊥
-HasEventAt flow p serial t (v ∷ h) = IsEventAt flow p serial t v ⊎ HasEventAt flow p serial t h
-
--- what an entry of node p holds is what the write does
-abbrev pub Holds : System → Machine → ℕ → Written → WrittenBy → Type 0
-Holds sys state p (Checkpoint r) (checkpoint f low) = IsRecorded sys state p f r
-Holds sys state p (Checkpoint r) (logged_event serial) = ⊥
-Holds sys state p (LoggedEvent t) (checkpoint f low) = ⊥
-Holds sys state p (LoggedEvent t) (logged_event serial) = HasEventAt sys.flow p serial t state.history
-
--- an entry stands for a write: it is acknowledged exactly where the write counts among those that are kept
-pub record IsEntryOf (sys : System) (state : Machine) (entry : Entry) (write : Write) : Type 0 where
-  pub node : entry.node ≡ write.node
-  pub acknowledged : entry.acknowledged ≡ is_counted kept write.stage
-  pub holds : Holds sys state write.node entry.written write.written
-
--- one entry stands for each write, in order
-abbrev pub AreEntriesOf : System → Machine → List Entry → List Write → Type 0
-AreEntriesOf sys state [] [] = Unit {0}
-AreEntriesOf sys state [] (write ∷ writes) = ⊥
-AreEntriesOf sys state (entry ∷ entries) [] = ⊥
-AreEntriesOf sys state (entry ∷ entries) (write ∷ writes) = IsEntryOf sys state entry write × AreEntriesOf sys state entries writes
 
 -- an event of node p at t was not logged
 pub record IsUnlogged (sys : System) (state : Machine) (p : ℕ) (t : Stamp) : Type 0 where
@@ -121,4 +79,4 @@ pub record IsViewOf (sys : System) (state : Machine) (lost : ℕ → Bool) (view
   pub reached : IsReached sys state
   pub one_each : length view ≡ length sys.flow.nodes
   pub nodes : AreNodeViewsFrom sys state lost 0 view
-  pub written : AreEntriesOf sys state entries (filter not_collected state.writes)
+  pub written : AreEntriesOf sys state entries (uncollected state)

@@ -1,7 +1,7 @@
 //! What nodes offer to a recovery, for every kind and policy, by what an engine knows of them.
 //!
-//! An engine tells of each node where its events are, what is settled and what its low watermark is (`NodeView`), and which
-//! writes were not collected (`Entry`). `candidates` makes of them the offers from which `largest` of `fw_monitor` chooses.
+//! An engine tells of each node where its events are, what is settled and what its low watermark is (`NodeView`); which writes
+//! were not collected tell the entries of its catalogue (`fw_keep::Entry`). `candidates` makes of them the offers from which `largest` of `fw_monitor` chooses.
 #![tactic(auto)]
 
 mod offering;
@@ -10,4 +10,4 @@ mod unlogged;
 mod view;
 
 pub use offers::candidates;
-pub use view::{Border, Entry, NodeView, Written};
+pub use view::{Border, NodeView};

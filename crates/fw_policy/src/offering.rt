@@ -13,9 +13,10 @@ ghost use Rattle.fw_policy.specs.Offering as spec;
 ghost use Rattle.fw_policy.specs.Known.{FitsWay, IsKnown};
 
 use crate::unlogged::{cut_below, unlogged};
-use crate::view::{Border, Entry, NodeView, Written};
+use crate::view::{Border, NodeView};
 use fw_flow::{Flow, NodeId, OfEdges, Offered, Recorded, Records, Restoring};
 use fw_frontier::Front;
+use fw_keep::{Entry, Written};
 use fw_time::{Bounds, Stamp};
 use std::alloc::{AllocError, Global};
 
@@ -180,9 +181,9 @@ fn add_written(
         → OnOk result (records.new.items ≡ spec.holding low.now (rs ++ spec.record_in written.now)) }
 {
     match written {
-        Written::Checkpoint(held) => {
-            if low.subset(&held.front) {
-                records.push(held.copy()?)?;
+        Written::Checkpoint { recorded, .. } => {
+            if low.subset(&recorded.front) {
+                records.push(recorded.copy()?)?;
             }
         }
         Written::Event(_) => {}

@@ -9,8 +9,9 @@ ghost use Rattle.fw_policy.specs.Shaped.{FitsFlow};
 ghost use Rattle.fw_policy.specs.View.{IsViewOf};
 
 use crate::offering::offered;
-use crate::view::{Entry, NodeView};
+use crate::view::NodeView;
 use fw_flow::{Flow, NodeId, Offer};
+use fw_keep::Entry;
 use std::alloc::{AllocError, Global};
 
 /// What each node offers to a recovery, by its kind and policy, where so much is known of the nodes and these writes were not

@@ -6,9 +6,9 @@ ghost use Rattle.fw_time.specs.declared.stamp.Bounds.{Bounds as Domain};
 ghost use Rattle.fw_frontier.specs.Front.{frontier_of, IsCanonical, IsFrontOf};
 ghost use Rattle.fw_policy.specs.Offering as spec;
 
-use crate::view::{Entry, Written};
 use fw_flow::NodeId;
 use fw_frontier::Front;
+use fw_keep::{Entry, Written};
 use fw_time::Stamp;
 use std::alloc::{AllocError, Global};
 
@@ -36,8 +36,8 @@ fn add_unlogged(stamps: &mut Vec<Stamp>, entry: &Entry, node: NodeId) -> Result<
     ensures { OnOk result (stamps.new.items ≡ stamps.old.items ++ spec.unlogged_by node entry.now) }
 {
     if entry.node == node && !entry.acknowledged {
-        if let Written::Event(t) = &entry.written {
-            stamps.push(t.copy())?;
+        if let Written::Event(event) = &entry.written {
+            stamps.push(event.at().copy())?;
         }
     }
     Ok(())

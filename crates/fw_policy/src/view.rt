@@ -1,7 +1,6 @@
 //! What an engine knows of its nodes, to say what they offer to a recovery.
-use fw_flow::{NodeId, Notices, Recorded, SentTable, Stamps};
+use fw_flow::{Notices, SentTable, Stamps};
 use fw_frontier::Front;
-use fw_time::Stamp;
 
 /// Where a node meets what is outside.
 #[derive(Debug, Drop)]
@@ -33,27 +32,4 @@ pub struct NodeView {
     pub lost: Notices,
     /// Whether it counts as failed.
     pub failed: bool,
-}
-
-/// What a write holds.
-#[derive(Debug, Drop)]
-pub enum Written {
-    /// What the node's events in a frontier made, with what stands for them.
-    Checkpoint(Recorded),
-    /// An event at the stamp.
-    Event(Stamp),
-}
-
-/// A write that was not collected.
-#[derive(Debug, Drop)]
-pub struct Entry {
-    /// By which the engine that told of it knows its write: one that keeps records in a store finds the record by it. What is
-    /// offered does not depend on it.
-    pub id: u64,
-    /// Its node.
-    pub node: NodeId,
-    /// What it holds.
-    pub written: Written,
-    /// Whether it is acknowledged, and not in flight.
-    pub acknowledged: bool,
 }

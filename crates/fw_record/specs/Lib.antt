@@ -1,3 +1,5 @@
+pub mod Event
+pub mod Log
 pub mod Fields
 pub mod Spelling
 pub mod Sound

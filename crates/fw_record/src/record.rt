@@ -1,5 +1,6 @@
 //! What a record holds.
 ghost use Rattle.std.specs.Prelude.{◌≡◌};
+ghost use Rattle.fw_record.specs.Event.{stamp_of_event};
 
 use crate::Log;
 use fw_bag::Rec;
@@ -43,6 +44,15 @@ impl Event {
                 rec: *rec,
             },
             Event::Notify { at } => Event::Notify { at: at.copy() },
+        }
+    }
+
+    /// The stamp at which it happened.
+    pub fn at(&self) -> &Stamp
+        ensures { result.now ≡ stamp_of_event self.now }
+    {
+        match self {
+            Event::Deliver { at, .. } | Event::Notify { at } => at,
         }
     }
 }

@@ -34,7 +34,8 @@ use Rattle.fw_node.specs.declared.node.Node.{Node}
 use Rattle.fw_rollback.specs.declared.parts.Parts.{Parts}
 use Rattle.fw_rollback.specs.Asked.{IsFetched, asked_of, checkpoint_of, events_of, given_of, is_asked_for}
 use Rattle.fw_rollback.specs.Edges.{IsOnEdge, nothing_there, on_edge}
-use Rattle.fw_rollback.specs.Restored.{AreOfFlow, HasDone, HasLogs, IsBuilt, IsCutTo, IsFromCheckpoint, Restores, messages_on}
+use Rattle.fw_record.specs.Log.{logged_on}
+use Rattle.fw_rollback.specs.Restored.{AreOfFlow, HasDone, HasLogs, IsBuilt, IsCutTo, IsFromCheckpoint, Restores}
 use Rattle.fw_rollback.specs.Tables.{table_at}
 
 -- each message is one of its edge
@@ -53,7 +54,7 @@ one-fits flow p f e s l c i = record {
 
 -- what events of a node can have logged on an edge from it is the edge's
 logged-fit : (flow : Dataflow) (p : ℕ) (f : Front) (e : ℕ) → sender flow e ≡ p → (ls : List Logged) → AllByRecursion (CanBeLogged flow p f) ls
-    → AllByRecursion (IsOnEdge flow e) (messages_on e ls)
+    → AllByRecursion (IsOnEdge flow e) (logged_on e ls)
 logged-fit flow p f e s ls a =
     each-map (IsOnEdge flow e) (λ (l : Logged). l.message) (filter (λ (l : Logged). l.edge == e) ls)
     (each-filter (λ (l : Logged). IsOnEdge flow e l.message) (λ (l : Logged). l.edge == e) ls
@@ -97,9 +98,9 @@ checkpoint-fits flow low p f None can node logs h e l s = nothing-fits flow p lo
 checkpoint-fits flow low p f (Some c) can node logs h e l s =
     let log = can c refl in
     subst (λ (x : MessagesState). AllByRecursion (IsOnEdge flow e) x.messages) (sym (h.2 e l s))
-    (each-sorted_messages (IsOnEdge flow e) (messages_outside (inside (front_of low (receiver flow e))) (messages_on e c.log))
-    (each-filter (IsOnEdge flow e) _ (messages_on e c.log)
-    (each-weaker (IsOnEdge flow e) _ (messages_on e c.log) (λ m k i. k) (logged-fit flow p log.front e s c.log log.messages))))
+    (each-sorted_messages (IsOnEdge flow e) (messages_outside (inside (front_of low (receiver flow e))) (logged_on e c.log))
+    (each-filter (IsOnEdge flow e) _ (logged_on e c.log)
+    (each-weaker (IsOnEdge flow e) _ (logged_on e c.log) (λ m k i. k) (logged-fit flow p log.front e s c.log log.messages))))
 
 some-and : {A : Type 0} (P : A → Type 0) (G : Type 0) (o : Option A) → IsSomeAnd o P → ((x : A) → P x → G) → G
 some-and P G None h f = absurd h

@@ -40,7 +40,7 @@ use Rattle.fw_rollback.specs.Asked.{asked_of, checkpoint_of, events_of, IsFetche
 use Rattle.fw_rollback.specs.Edges.{on_edge}
 use Rattle.fw_rollback.specs.Restored.{HasDone, IsBuilt, IsCutTo, IsFromCheckpoint, output_after, queue_after}
 use Rattle.fw_rollback.specs.Tables.{table_at}
-use Rattle.fw_stands.specs.LawsOfRecovered.{Recovers}
+use Rattle.fw_stands.specs.Recovered.{Recovers}
 use Rattle.fw_stands.specs.Parts.{IsOutputOf, IsSourceOf, IsTableIn, logged, queued}
 use Rattle.fw_stands.specs.Written.{AreEntriesOf, AreStored, uncollected}
 use Rattle.fw_stands.proofs.AtReached.{reached-legal}

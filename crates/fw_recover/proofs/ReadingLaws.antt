@@ -33,10 +33,11 @@ use Rattle.fw_keep.specs.declared.entry.Written.TheVariants as written
 use Rattle.fw_keep.specs.Entry.{IsRecordOf}
 use Rattle.fw_keep.specs.Stored.{Records, HoldsAs}
 use Rattle.fw_rollback.specs.Asked.{is_needed, is_asked_at, is_asked_for, asked_of, checkpoint_of, events_of, IsFetched}
-use Rattle.fw_rollback.specs.Replay.{AreDoneAgain, CanBeDone, logged_events}
-use Rattle.fw_stands.specs.LawsOfRecovered.{Recovers}
+use Rattle.fw_record.specs.Event.{logged_events, event_of}
+use Rattle.fw_rollback.specs.Replay.{AreDoneAgain, CanBeDone}
+use Rattle.fw_stands.specs.Recovered.{Recovers}
 use Rattle.fw_stands.specs.Read.{is_checkpoint_at, is_checkpoint_of}
-use Rattle.fw_stands.specs.Redone.{CanBeRedone, event_of, is_event_inside, is_logged_inside, told_in_order}
+use Rattle.fw_stands.specs.Redone.{CanBeRedone, is_event_inside, is_logged_inside}
 use Rattle.fw_stands.specs.Written.{AreEntriesOf, AreStored, IsCheckpointFor, uncollected}
 use Rattle.fw_stands.proofs.LoggedOrder.{replayed-of_records}
 use Rattle.fw_stands.proofs.ReadLaws.{no-checkpoint, one-checkpoint, read-checkpoints}
@@ -48,7 +49,7 @@ use Rattle.fw_running.specs.Steps.{HasNoStamp, Trusts}
 -- ---- events that are done again
 
 -- events are told as they are logged
-told-logged : (vs : List Event) → logged_events vs ≡ told_in_order vs
+told-logged : (vs : List Event) → logged_events vs ≡ logged_events vs
 told-logged [] = refl
 told-logged (Inject s x ∷ vs) = told-logged vs
 told-logged (Deliver e m ∷ vs) = ap (λ ls. ls ++ logged.Deliver e m.at m.rec ∷ []) (told-logged vs)

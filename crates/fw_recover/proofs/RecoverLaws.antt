@@ -25,7 +25,7 @@ use Rattle.fw_rollback.specs.Asked.{given_of}
 use Rattle.fw_rollback.specs.Edges.{on_edge}
 use Rattle.fw_rollback.specs.Restored.{Restores, is_undone}
 use Rattle.fw_rollback.specs.Tables.{table_at}
-use Rattle.fw_stands.specs.LawsOfRecovered.{Recovers}
+use Rattle.fw_stands.specs.Recovered.{Recovers}
 use Rattle.fw_stands.specs.Parts.{IsOutputOf, IsSourceOf, IsTableIn, IsTraceIn, logged, queued}
 use Rattle.fw_stands.specs.Recovered.{IsSettledBy}
 use Rattle.fw_stands.specs.Written.{AreEntriesOf, AreStored, uncollected}

@@ -22,12 +22,12 @@ use Rattle.fw_model.proofs.FilterLaws.{filter-in, filter-out}
 use Rattle.fw_keep.specs.declared.entry.Entry.{Entry}
 use Rattle.fw_keep.specs.declared.entry.Written.{Written}
 use Rattle.fw_keep.specs.declared.entry.Written.TheVariants as written
-use Rattle.fw_keep.specs.Entry.{lies_within}
+use Rattle.fw_keep.specs.Entry.{lies_within, is_beyond}
 use Rattle.fw_keep.specs.Stored.{Records}
 use Rattle.fw_policy.specs.View.{base_of}
 use Rattle.fw_progress.specs.declared.traces.Traces.{Traces}
-use Rattle.fw_rollback.specs.Restored.{is_beyond, is_undone}
-use Rattle.fw_stands.specs.LawsOfRecovered.{Recovers}
+use Rattle.fw_rollback.specs.Restored.{is_undone}
+use Rattle.fw_stands.specs.Recovered.{Recovers}
 use Rattle.fw_stands.specs.Parts.{IsTraceIn}
 use Rattle.fw_stands.specs.Read.{is_checkpoint_at, is_checkpoint_of}
 use Rattle.fw_stands.specs.Written.{AreEntriesOf, AreStored, Holds, HoldsWithin, IsEntryOf, uncollected}

@@ -23,16 +23,16 @@ use std::alloc::AllocError;
 /// what is settled and written, and no node is failed any more. A fault of the store leaves all as it was.
 pub fn recover<K: Store>(running: &mut Running, store: &mut K) -> Result<Stepped, EngineFault>
     requires shaped { IsShaped running.old }
-    requires stored { IsStored running.old.parts.keep (K.records store.old) }
+    requires stored { IsStored running.old.parts.keep (K.view store.old).records }
     ensures shaped { StaysShaped result running.new }
-    ensures stored { IsStored running.new.parts.keep (K.records store.new) }
+    ensures stored { IsStored running.new.parts.keep (K.view store.new).records }
     ensures flow { running.new.flow ≡ running.old.flow }
-    ensures takes { TakesStep running.old (K.records store.old) steps.Recover result running.new (K.records store.new) }
-    ensures shows { ShowsOutcome running.old (K.records store.old) steps.Recover result }
+    ensures takes { TakesStep running.old (K.view store.old).records steps.Recover result running.new (K.view store.new).records }
+    ensures shows { ShowsOutcome running.old (K.view store.old).records steps.Recover result }
     ensures idle { result ≡ Ok Idle → store.new ≡ store.old }
-    ensures faults { K.fault_count store.new ≡ faults_after result (K.fault_count store.old) }
-    ensures damaged { (id : ℕ) → IsErrOf result (EngineFault.Damaged id) → IsDamage running.old id (K.given store.new) }
-    ensures tells { is_some (K.records store.new) ≡ is_some (K.records store.old) }
+    ensures faults { (K.view store.new).faults ≡ faults_after result (K.view store.old).faults }
+    ensures damaged { (id : ℕ) → IsErrOf result (EngineFault.Damaged id) → IsDamage running.old id (K.view store.new).given }
+    ensures tells { is_some (K.view store.new).records ≡ is_some (K.view store.old).records }
 {
     if !any_of(&running.failed) {
         return Ok(Stepped::Idle);

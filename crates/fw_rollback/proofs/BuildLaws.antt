@@ -41,7 +41,8 @@ use Rattle.fw_node.specs.declared.node.Node.{Node}
 use Rattle.fw_rollback.specs.Asked.{front_at, checkpoint_of, given_of, events_of, CanServe}
 use Rattle.fw_rollback.specs.Built.{by_cut, AreNodesBuilt, AreQueuesBuilt, log_after}
 use Rattle.fw_rollback.specs.Edges.{on_edge, nothing_there, IsOnEdge}
-use Rattle.fw_rollback.specs.Restored.{HasLogs, HasDone, IsBuilt, IsFromCheckpoint, log_of, messages_on, outside_of}
+use Rattle.fw_record.specs.Log.{logged_on}
+use Rattle.fw_rollback.specs.Restored.{HasLogs, HasDone, IsBuilt, IsFromCheckpoint, log_of, outside_of}
 use Rattle.fw_rollback.specs.Tables.{table_at}
 
 -- ---- logs of other nodes
@@ -241,7 +242,7 @@ pub restored-some : {E : Type 0} (flow : Dataflow) (low : List Front) (p : ℕ) 
     → ((settled : Stamp → Bool) (before : List Event) → EachDelivery (λ s. (settled s ≡ true) × (in_domain (bounds_of flow p) s ≡ true)) before
     → AreOnEdges (in_edges flow p) before → IsStateOf (kind_of flow p) before c.state → IfOk r (λ node. IsTableOf flow p settled node before))
     → IfOk r (IsNodeOf flow p)
-    → ((e : ℕ) (ms : List Message) → on_edge old e ≡ log_of flow low e ms → on_edge new e ≡ log_of flow low e (messages_on e c.log ++ ms))
+    → ((e : ℕ) (ms : List Message) → on_edge old e ≡ log_of flow low e ms → on_edge new e ≡ log_of flow low e (logged_on e c.log ++ ms))
     → IfOk r (λ node. IsFromCheckpoint flow low p f (checkpoint_of rs) node new)
 restored-some flow low p f rs c (Err x) old new e empty table of_node logs = tt
 restored-some flow low p f rs c (Ok node) old new e empty table of_node logs =
@@ -250,7 +251,7 @@ restored-some flow low p f rs c (Ok node) old new e empty table of_node logs =
       λ before inside_f on state. table (node_frontier flow p f) before
           (each_of (λ s. node_frontier flow p f s ≡ true) (λ s. (node_frontier flow p f s ≡ true) × (in_domain (bounds_of flow p) s ≡ true))
           (λ s k. (k, (and_parts (in_domain (bounds_of flow p) s) (inside f s) k).0)) before inside_f) on state,
-      λ d l r. logs d [] (empty d l r) ∙ ap (log_of flow low d) (append-nil (messages_on d c.log)),
+      λ d l r. logs d [] (empty d l r) ∙ ap (log_of flow low d) (append-nil (logged_on d c.log)),
     )
 
 -- a node without a checkpoint

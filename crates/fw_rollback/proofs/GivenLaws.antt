@@ -29,7 +29,8 @@ use Rattle.fw_keep.specs.declared.fault.KeepFault.{KeepFault}
 use Rattle.fw_keep.specs.declared.fault.KeepFault.TheVariants as fault
 use Rattle.fw_keep.specs.Catalogue.{has_entry, ids_of}
 use Rattle.fw_keep.proofs.IdLaws.{among-self}
-use Rattle.fw_keep.specs.Entry.{IsRecordAs, stamp_of}
+use Rattle.fw_record.specs.Event.{stamp_of_event}
+use Rattle.fw_keep.specs.Entry.{IsRecordAs}
 use Rattle.fw_keep.specs.Stored.{Records, Fetches, IsToldUnder}
 use Rattle.fw_rollback.specs.Asked.{is_needed, is_asked_at, is_asked_for, asked_of, given_of, IsFetched, AreFetched, IsDamagedIfSaid, CanServe, CanServeEach}
 use Rattle.fw_rollback.proofs.ListLaws.{zip-push, zip-each}
@@ -141,7 +142,7 @@ serves flow p g way (written.Checkpoint recorded stamps sent) (tagged.State c) n
     each-weaker (CanBeLogged flow p recorded.front) (λ (l : Logged). Contains (out_edges flow p) l.edge) c.log (λ l k. k.edge) f.of_node.log.messages
 serves flow p g way (written.Checkpoint recorded stamps sent) (tagged.Event q event) n f = absurd f.of_node
 serves flow p g Events (written.Event event) r n f =
-    subst (CanServe flow p) (sym f) (and_parts (in_domain (bounds_of flow p) (stamp_of event)) (inside g (stamp_of event)) n).0
+    subst (CanServe flow p) (sym f) (and_parts (in_domain (bounds_of flow p) (stamp_of_event event)) (inside g (stamp_of_event event)) n).0
 serves flow p g Batches (written.Event event) r n f = absurd (false≢true n)
 serves flow p g Bound (written.Event event) r n f = absurd (false≢true n)
 serves flow p g Anything (written.Event event) r n f = absurd (false≢true n)

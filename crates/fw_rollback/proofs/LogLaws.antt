@@ -22,7 +22,8 @@ use Rattle.fw_keep.specs.Catalogue.{AreAscending, is_among}
 use Rattle.fw_record.specs.declared.logged.Logged.{Logged}
 use Rattle.fw_node.specs.Answers.{caused_by}
 use Rattle.fw_rollback.specs.Edges.{on_edge}
-use Rattle.fw_rollback.specs.Restored.{log_of, messages_on}
+use Rattle.fw_record.specs.Log.{logged_on}
+use Rattle.fw_rollback.specs.Restored.{log_of}
 use Rattle.fw_rollback.proofs.ListLaws.{not_among_earlier, no_or}
 
 -- ---- messages in order
@@ -80,10 +81,10 @@ abbrev message_of : Logged → Message
 message_of l = l.message
 
 on_more : (e : ℕ) (rs : List Logged) (i : ℕ) (d : Logged) → i < length rs → d ≡ get_or rs i d
-    → messages_on e (take (i + 1) rs) ≡ messages_on e (take i rs) ++ map message_of (filter (is_on e) (d ∷ []))
+    → logged_on e (take (i + 1) rs) ≡ logged_on e (take i rs) ++ map message_of (filter (is_on e) (d ∷ []))
 on_more e rs i d l at =
-    let here : Logged → List Message = λ x. messages_on e (take i rs) ++ map message_of (filter (is_on e) (x ∷ [])) in
-    ap (messages_on e) (take_more rs i d l)
+    let here : Logged → List Message = λ x. logged_on e (take i rs) ++ map message_of (filter (is_on e) (x ∷ [])) in
+    ap (logged_on e) (take_more rs i d l)
     ∙ ap (map message_of) (filter-append (is_on e) (take i rs) (get_or rs i d ∷ []))
     ∙ map-append message_of (filter (is_on e) (take i rs)) (filter (is_on e) (get_or rs i d ∷ []))
     ∙ ap here (sym at)
@@ -91,12 +92,12 @@ on_more e rs i d l at =
 -- one message more of a record is logged
 pub recorded-more : (flow : Dataflow) (low : List Front) (rs : List Logged) (i : ℕ) (d : Logged) (m : Message) (first now next : List MessagesState)
     → i < length rs → d ≡ get_or rs i d → m ≡ d.message
-    → ((e : ℕ) (ms : List Message) → on_edge first e ≡ log_of flow low e ms → on_edge now e ≡ log_of flow low e (messages_on e (take i rs) ++ ms))
+    → ((e : ℕ) (ms : List Message) → on_edge first e ≡ log_of flow low e ms → on_edge now e ≡ log_of flow low e (logged_on e (take i rs) ++ ms))
     → ((ms : List Message) → on_edge now d.edge ≡ log_of flow low d.edge ms → on_edge next d.edge ≡ log_of flow low d.edge (m ∷ ms))
     → ((e : ℕ) → e ≢ d.edge → on_edge next e ≡ on_edge now e)
-    → (e : ℕ) (ms : List Message) → on_edge first e ≡ log_of flow low e ms → on_edge next e ≡ log_of flow low e (messages_on e (take (i + 1) rs) ++ ms)
+    → (e : ℕ) (ms : List Message) → on_edge first e ≡ log_of flow low e ms → on_edge next e ≡ log_of flow low e (logged_on e (take (i + 1) rs) ++ ms)
 recorded-more flow low rs i d m first now next l at is before here others e ms h =
-    let earlier = messages_on e (take i rs) in
+    let earlier = logged_on e (take i rs) in
     let more = on_more e rs i d l at in
     elim (cases_eq d.edge e) [
       | inl s ↦

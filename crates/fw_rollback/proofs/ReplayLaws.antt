@@ -26,11 +26,12 @@ use Rattle.fw_record.specs.declared.record.Record.{Record}
 use Rattle.fw_edge.specs.Messages.{MessagesState}
 use Rattle.fw_node.specs.declared.node.Node.{Node}
 use Rattle.fw_node.specs.TableOf.{IsTableOf}
-use Rattle.fw_rollback.specs.Asked.{event_of, events_of}
+use Rattle.fw_record.specs.Event.{event_of, logged_events}
+use Rattle.fw_rollback.specs.Asked.{events_of}
 use Rattle.fw_rollback.specs.Edges.{on_edge, nothing_there}
 use Rattle.fw_rollback.specs.Restored.{log_of, HasLogs, HaveSent, StandsFor}
 use Rattle.fw_rollback.proofs.LogLaws.{log_of-same, sorted_messages-before}
-use Rattle.fw_rollback.specs.Replay.{logged_events, CanBeDone, AreDoneAgain}
+use Rattle.fw_rollback.specs.Replay.{CanBeDone, AreDoneAgain}
 use Rattle.fw_rollback.proofs.ListLaws.{same_end, not_empty}
 
 -- ---- the latest event

@@ -26,8 +26,10 @@ use Rattle.fw_keep.specs.declared.entry.Written.{Written}
 use Rattle.fw_keep.specs.declared.entry.Written.TheVariants as written
 use Rattle.fw_keep.specs.declared.fault.KeepFault.{KeepFault}
 use Rattle.fw_keep.specs.declared.fault.KeepFault.TheVariants as fault
-use Rattle.fw_keep.specs.Entry.{IsRecordOf, stamp_of}
+use Rattle.fw_record.specs.Event.{stamp_of_event}
+use Rattle.fw_keep.specs.Entry.{IsRecordOf}
 use Rattle.fw_keep.specs.Stored.{Records, SpellsNone}
+use Rattle.fw_record.specs.Event.{event_of}
 
 -- the frontier of a cut; none where the node stays as it is
 abbrev pub front_at : Cut → Option Front
@@ -37,7 +39,7 @@ front_at (At f) = Some f
 -- whether node p needs what is written, where it is restored in this way to f: its checkpoint at f, or each event inside
 abbrev pub is_needed : Dataflow → ℕ → Front → Restoring → Written → Bool
 is_needed flow p f Checkpoints (written.Checkpoint recorded stamps sent) = same_front recorded.front f
-is_needed flow p f Events (written.Event event) = node_frontier flow p f (stamp_of event)
+is_needed flow p f Events (written.Event event) = node_frontier flow p f (stamp_of_event event)
 is_needed flow p f way what = false
 
 -- whether the cut of its node asks for the entry: it is acknowledged, and the node needs it
@@ -95,11 +97,6 @@ checkpoint_of [] = None
 checkpoint_of (tagged.State c ∷ rs) = Some c
 checkpoint_of (tagged.Event p event ∷ rs) = None
 
--- the event of which the record is, if it is one of an event
-abbrev pub event_of : Record → List LoggedEvent
-event_of (tagged.State c) = []
-event_of (tagged.Event p event) = event ∷ []
-
 -- the events of records, in order
 abbrev pub events_of : List Record → List LoggedEvent
 events_of rs = flat_map event_of rs
@@ -110,7 +107,7 @@ events_of rs = flat_map event_of rs
 -- domain
 abbrev pub CanServe : Dataflow → ℕ → Record → Type 0
 CanServe flow p (tagged.State c) = AllByRecursion (λ (l : Logged). Contains (out_edges flow p) l.edge) c.log
-CanServe flow p (tagged.Event q event) = in_domain (bounds_of flow p) (stamp_of event) ≡ true
+CanServe flow p (tagged.Event q event) = in_domain (bounds_of flow p) (stamp_of_event event) ≡ true
 
 abbrev pub CanServeEach : Dataflow → List (List Record) → Type 0
 CanServeEach flow given = (p : ℕ) → p < length flow.nodes → AllByRecursion (CanServe flow p) (given_of given p)

@@ -1,20 +1,13 @@
 -- The events of a node that are done again after a recovery.
-use Rattle.std.specs.Prelude.{◌≡◌, ℕ, true, false, List, [], ◌∷◌, ◌++◌}
+use Rattle.std.specs.Prelude.{◌≡◌, ℕ, true, false, List, [], ◌∷◌}
 use Rattle.fw_flow.specs.declared.event.Event.{Event}
 use Rattle.fw_flow.specs.declared.event.Event.TheVariants.{Inject, Deliver, Notify}
 use Rattle.fw_flow.specs.declared.kind.Kind.TheVariants.{Total}
 use Rattle.fw_flow.specs.Dataflow.{Dataflow, kind_of, in_edges, is_notified_kind}
 use Rattle.fw_model.specs.Told.{is_told, IsSumOfTold}
 use Rattle.fw_record.specs.declared.record.Event.{Event as LoggedEvent}
-use Rattle.fw_record.specs.declared.record.Event.TheVariants as logged
 use Rattle.fw_node.specs.Arrived.{IsOneOf}
-
--- the events as they are logged, the earliest first, where these are the events, the latest first; injections are not logged
-abbrev pub logged_events : List Event → List LoggedEvent
-logged_events [] = []
-logged_events (Inject s x ∷ before) = logged_events before
-logged_events (Deliver e m ∷ before) = logged_events before ++ logged.Deliver e m.at m.rec ∷ []
-logged_events (Notify p t ∷ before) = logged_events before ++ logged.Notify t ∷ []
+use Rattle.fw_record.specs.Event.{logged_events}
 
 -- Each of these events, the latest first, can be done by node p after those before it: a delivery is on one of its in-edges,
 -- nothing comes to a node at a stamp of which it was notified, it is notified of none twice, and of a total what came up to an

@@ -1,6 +1,6 @@
 -- What an engine keeps after a recovery, of what it kept before, of the choice, and of the records that were fetched. It
 -- speaks of no history.
-use Rattle.std.specs.Prelude.{◌≡◌, ℕ, ◌<◌, Bool, true, false, not, ◌==◌, List, [], length, map, filter, Option, Some, None, IfSome, IsSomeAnd}
+use Rattle.std.specs.Prelude.{◌≡◌, ℕ, ◌<◌, Bool, true, false, List, [], length, Option, Some, None, IfSome, IsSomeAnd}
 use Rattle.std.specs.List.{AllByRecursion}
 use Rattle.fw_time.specs.Stamp.{Stamp, in_domain}
 use Rattle.fw_bag.specs.declared.rec.Rec.{Rec}
@@ -22,13 +22,11 @@ use Rattle.fw_model.specs.Machine.{front_of}
 use Rattle.fw_model.specs.SortedMessages.{sorted_messages}
 use Rattle.fw_model.specs.Steps.{front_of_cut}
 use Rattle.fw_model.specs.Told.{EachDelivery, AreToldInside}
-use Rattle.fw_record.specs.declared.logged.Logged.{Logged}
 use Rattle.fw_record.specs.declared.record.Checkpoint.{Checkpoint}
 use Rattle.fw_record.specs.declared.record.Event.{Event as LoggedEvent}
 use Rattle.fw_record.specs.declared.record.Record.{Record}
 use Rattle.fw_keep.specs.declared.entry.Entry.{Entry}
 use Rattle.fw_keep.specs.Catalogue.{without}
-use Rattle.fw_keep.specs.Entry.{lies_within}
 use Rattle.fw_keep.specs.Stored.{Records}
 use Rattle.fw_edge.specs.Messages.{MessagesState}
 use Rattle.fw_rollback.specs.Edges.{on_edge, nothing_there, IsOnEdge}
@@ -43,6 +41,8 @@ use Rattle.fw_border.specs.Sources.{source_at, rolled_source}
 use Rattle.fw_rollback.specs.declared.parts.Parts.{Parts}
 use Rattle.fw_rollback.specs.Asked.{AreFetched, checkpoint_of, events_of, given_of}
 use Rattle.fw_rollback.specs.Replay.{AreDoneAgain}
+use Rattle.fw_keep.specs.Entry.{is_beyond}
+use Rattle.fw_record.specs.Log.{logged_on}
 
 -- ---- logs
 
@@ -50,10 +50,6 @@ use Rattle.fw_rollback.specs.Replay.{AreDoneAgain}
 abbrev pub log_of : Dataflow → List Front → ℕ → List Message → MessagesState
 log_of flow low e ms =
     record { messages = sorted_messages (messages_outside (inside (front_of low (receiver flow e))) ms); refused = false }
-
--- the messages on edge e
-abbrev pub messages_on : ℕ → List Logged → List Message
-messages_on e logged = map (λ (l : Logged). l.message) (filter (λ (l : Logged). l.edge == e) logged)
 
 -- the logs of the edges from node p are these
 abbrev pub HasLogs : Dataflow → ℕ → List MessagesState → (ℕ → MessagesState) → Type 0
@@ -97,7 +93,7 @@ pub record HasDone (flow : Dataflow) (low : List Front) (p : ℕ) (f : Front) (l
 abbrev pub IsFromCheckpoint : Dataflow → List Front → ℕ → Front → Option Checkpoint → Node → List MessagesState → Type 0
 IsFromCheckpoint flow low p f None node logs = IsNew flow p node × HasLogs flow p logs (λ e. nothing_there)
 IsFromCheckpoint flow low p f (Some c) node logs =
-    IsNodeOf flow p node × IsOfState flow p f c.state node × HasLogs flow p logs (λ e. log_of flow low e (messages_on e c.log))
+    IsNodeOf flow p node × IsOfState flow p f c.state node × HasLogs flow p logs (λ e. log_of flow low e (logged_on e c.log))
 
 -- what node p has after it was cut to f, by the way in which it is restored
 abbrev pub IsBuilt : Dataflow → List Front → ℕ → Front → List Record → Restoring → Option Node → List MessagesState → Type 0
@@ -133,11 +129,6 @@ queue_after flow choice e queue log Present = queue_kept flow choice e queue
 queue_after flow choice e queue log (At g) = outside_of g log
 
 -- ---- writes, inputs and outputs
-
--- whether what is written does not lie within the cut
-abbrev pub is_beyond : Cut → Entry → Bool
-is_beyond Present e = false
-is_beyond (At f) e = not (lies_within f e.written)
 
 -- whether an entry goes: it does not lie within the cut of its node
 abbrev pub is_undone : Choice → Entry → Bool

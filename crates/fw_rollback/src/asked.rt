@@ -3,7 +3,6 @@ ghost use Rattle.std.specs.Prelude.{◌≡◌};
 ghost use Rattle.std.specs.Option.{option_copied};
 ghost use Rattle.fw_flow.specs.Dataflow.{node_frontier};
 ghost use Rattle.fw_flow.specs.Restoring as restoring;
-ghost use Rattle.fw_keep.specs.Entry as entries;
 ghost use Rattle.fw_model.specs.Choice.{cut_of};
 ghost use Rattle.fw_rollback.specs.Asked as spec;
 ghost use Rattle.fw_rollback.specs.Asked.{front_at};
@@ -11,7 +10,6 @@ ghost use Rattle.fw_rollback.specs.Asked.{front_at};
 use fw_flow::{Choice, Cut, Flow, NodeId, Restoring};
 use fw_frontier::Front;
 use fw_keep::{Entry, Written};
-use fw_record::Event;
 use fw_time::Stamp;
 
 /// The frontier to which a node is cut; none where it stays as it is.
@@ -46,7 +44,7 @@ fn is_needed(flow: &Flow, node: NodeId, front: &Front, written: &Written) -> boo
                 false,
         },
         Written::Event(event) => match flow.restoring(node) {
-            Restoring::Events => is_inside(flow, node, front, stamp_of(event)),
+            Restoring::Events => is_inside(flow, node, front, event.at()),
             Restoring::Batches | Restoring::Bound | Restoring::Anything | Restoring::Checkpoints =>
                 false,
         },
@@ -58,14 +56,4 @@ fn is_inside(flow: &Flow, node: NodeId, front: &Front, at: &Stamp) -> bool
     ensures { result ≡ node_frontier flow.now node front.now at.now }
 {
     at.in_domain(&flow.domain(node)) && front.contains(at)
-}
-
-/// The stamp of an event.
-fn stamp_of(event: &Event) -> &Stamp
-    ensures { result.now ≡ entries.stamp_of event.now }
-{
-    match event {
-        Event::Deliver { at, .. } => at,
-        Event::Notify { at } => at,
-    }
 }

@@ -35,18 +35,18 @@ pub fn restore<K: Store>(
     store: &mut K,
 ) -> Result<(), KeepFault>
     requires each { AreOfFlow flow.now parts.old }
-    requires stored { IsStored parts.old.keep (K.records store.old) }
+    requires stored { IsStored parts.old.keep (K.view store.old).records }
 
-    ensures restored { OnOk result (Restores flow.now choice.now (K.records store.old) parts.old parts.new) }
+    ensures restored { OnOk result (Restores flow.now choice.now (K.view store.old).records parts.old parts.new) }
     ensures each { AreOfFlow flow.now parts.new }
     ensures nodes { AreOfNodes flow.now parts.old.tables → AreOfNodes flow.now parts.new.tables }
-    ensures stored { IsStored parts.new.keep (K.records store.new) }
-    ensures stays { K.records store.new ≡ K.records store.old }
+    ensures stored { IsStored parts.new.keep (K.view store.new).records }
+    ensures stays { (K.view store.new).records ≡ (K.view store.old).records }
 
     // After a refusal the parts are as they were.
     ensures kept { OnErr result (parts.new ≡ parts.old) }
-    ensures damaged { IsDamagedIfSaid flow.now choice.now (K.records store.old) parts.old.keep.entries (K.given store.new) result }
-    ensures faults { K.fault_count store.new ≡ faults_after result (K.fault_count store.old) }
+    ensures damaged { IsDamagedIfSaid flow.now choice.now (K.view store.old).records parts.old.keep.entries (K.view store.new).given result }
+    ensures faults { (K.view store.new).faults ≡ faults_after result (K.view store.old).faults }
 {
     let given = read(alloc, flow, choice, &parts.keep, store)?;
     let built = build(alloc, flow, choice, parts, &given)?;

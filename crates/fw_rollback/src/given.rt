@@ -109,11 +109,11 @@ pub(crate) fn read<K: Store>(
     keep: &Keep,
     store: &mut K,
 ) -> Result<Given, KeepFault>
-    requires stored { IsStored keep.now (K.records store.old) }
-    ensures fetched { IfOk result (AreFetched flow.now choice.now (K.records store.old) keep.now.entries) }
-    ensures damaged { IsDamagedIfSaid flow.now choice.now (K.records store.old) keep.now.entries (K.given store.new) result }
-    ensures stays { K.records store.new ≡ K.records store.old }
-    ensures faults { K.fault_count store.new ≡ faults_after result (K.fault_count store.old) }
+    requires stored { IsStored keep.now (K.view store.old).records }
+    ensures fetched { IfOk result (AreFetched flow.now choice.now (K.view store.old).records keep.now.entries) }
+    ensures damaged { IsDamagedIfSaid flow.now choice.now (K.view store.old).records keep.now.entries (K.view store.new).given result }
+    ensures stays { (K.view store.new).records ≡ (K.view store.old).records }
+    ensures faults { (K.view store.new).faults ≡ faults_after result (K.view store.old).faults }
 {
     let mut given = Given::none(alloc, flow.nodes())?;
     fetch_all(flow, choice, keep, store, &mut given)?;
@@ -128,12 +128,12 @@ fn fetch_all<K: Store>(
     store: &mut K,
     given: &mut Given,
 ) -> Result<(), KeepFault>
-    requires stored { IsStored keep.now (K.records store.old) }
+    requires stored { IsStored keep.now (K.view store.old).records }
     requires none { given.old ≡ replicate (length flow.now.nodes) [] }
-    ensures fetched { OnOk result (AreFetched flow.now choice.now (K.records store.old) keep.now.entries given.new) }
-    ensures damaged { IsDamagedIfSaid flow.now choice.now (K.records store.old) keep.now.entries (K.given store.new) result }
-    ensures stays { K.records store.new ≡ K.records store.old }
-    ensures faults { K.fault_count store.new ≡ faults_after result (K.fault_count store.old) }
+    ensures fetched { OnOk result (AreFetched flow.now choice.now (K.view store.old).records keep.now.entries given.new) }
+    ensures damaged { IsDamagedIfSaid flow.now choice.now (K.view store.old).records keep.now.entries (K.view store.new).given result }
+    ensures stays { (K.view store.new).records ≡ (K.view store.old).records }
+    ensures faults { (K.view store.new).faults ≡ faults_after result (K.view store.old).faults }
 {
     let entries = keep.entries();
     for entry in entries {

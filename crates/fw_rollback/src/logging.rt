@@ -6,7 +6,8 @@ ghost use Rattle.fw_flow.specs.declared.event.Message.{Message as Sent};
 ghost use Rattle.fw_flow.specs.Dataflow.{receiver};
 ghost use Rattle.fw_model.specs.Machine.{front_of};
 ghost use Rattle.fw_rollback.specs.Edges.{on_edge};
-ghost use Rattle.fw_rollback.specs.Restored.{log_of, messages_on};
+ghost use Rattle.fw_record.specs.Log.{logged_on};
+ghost use Rattle.fw_rollback.specs.Restored.{log_of};
 
 use crate::Logs;
 use fw_flow::{EdgeId, Flow, Fronts, Message};
@@ -23,7 +24,7 @@ pub(crate) fn log_recorded(
 ) -> Result<(), AllocError>
     requires { AllByRecursion (λ l. l.edge < length logs.old) recorded.now }
     ensures logged { (e : ℕ) (ms : List Sent) → on_edge logs.old e ≡ log_of flow.now low.now e ms
-        → OnOk result (on_edge logs.new e ≡ log_of flow.now low.now e (messages_on e recorded.now ++ ms)) }
+        → OnOk result (on_edge logs.new e ≡ log_of flow.now low.now e (logged_on e recorded.now ++ ms)) }
     ensures others { (e : ℕ) → AllByRecursion (λ l. l.edge ≢ e) recorded.now → on_edge logs.new e ≡ on_edge logs.old e }
     ensures each { length logs.new ≡ length logs.old }
 {

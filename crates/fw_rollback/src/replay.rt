@@ -13,9 +13,9 @@ ghost use Rattle.fw_node.specs.Answers.{caused_by};
 ghost use Rattle.fw_node.specs.NodeOf.{IsNodeOf};
 ghost use Rattle.fw_node.specs.Sends.{sends_list};
 ghost use Rattle.fw_node.specs.TableOf.{IsTableOf};
-ghost use Rattle.fw_keep.specs.Entry.{stamp_of};
+ghost use Rattle.fw_record.specs.Event.{stamp_of_event, event_of};
 ghost use Rattle.fw_record.specs.declared.record.Event.{Event as Logged};
-ghost use Rattle.fw_rollback.specs.Asked.{event_of, events_of, CanServe};
+ghost use Rattle.fw_rollback.specs.Asked.{events_of, CanServe};
 ghost use Rattle.fw_rollback.specs.Restored.{log_of, AreLogsOfOwn, HasLogs, HasDone, HaveSent, StandsFor};
 
 use crate::Logs;
@@ -136,7 +136,7 @@ fn do_again(
     logs: &mut Logs,
 ) -> Result<(), AllocError>
     requires well_formed { IsWellFormed flow.now }
-    requires stamp { in_domain table.old.bounds (stamp_of event.now) ≡ true }
+    requires stamp { in_domain table.old.bounds (stamp_of_event event.now) ≡ true }
     requires node { IsNodeOf flow.now node table.old }
     requires each { length logs.old ≡ length flow.now.edges }
     requires own { AreLogsOfOwn flow.now low.now node logs.old }

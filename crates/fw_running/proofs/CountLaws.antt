@@ -7,7 +7,7 @@ use Rattle.std.proofs.lemmas.List.FromFn.{get_or-map-range_with_len, length-map-
 use Rattle.fw_bag.specs.declared.rec.Rec.{Rec}
 use Rattle.fw_lines.specs.Batches.{batches_at}
 use Rattle.fw_flow.specs.Dataflow.{Dataflow, System, system_of, batches_of, batches_of_nodes}
-use Rattle.fw_stands.specs.LawsOfAcknowledging.{IsGreatestCount}
+use Rattle.fw_stands.specs.Acknowledging.{IsGreatestCount}
 
 -- No source below the n-th has more batches than so many, and some source has no fewer.
 pub record IsGreatestOf (sys : System) (n count : ℕ) : Type 0 where

@@ -21,6 +21,10 @@ log_at running e = (on_edge running.parts.logs e).messages
 abbrev pub table_of : Running → ℕ → Option Node
 table_of running p = table_at running.parts.tables p
 
+-- what is kept with these tables
+abbrev pub with_tables : List (Option Node) → Running → Running
+with_tables tables running = record running { parts = record running.parts { tables = tables } }
+
 -- what is kept of input s
 abbrev pub source_of : Running → ℕ → SourceState
 source_of running s = source_at running.parts.sources s

@@ -12,7 +12,7 @@ use Rattle.fw_keep.specs.declared.entry.Entry.{Entry}
 use Rattle.fw_keep.specs.Catalogue.{KeepState}
 use Rattle.fw_keep.specs.Entry.{asked}
 use Rattle.fw_keep.specs.Stored.{Records, KeepsBytes}
-use Rattle.fw_stands.specs.LawsOfEntries.{HasRecOf64Bits}
+use Rattle.fw_stands.specs.Entries.{HasRecOf64Bits}
 use Rattle.fw_running.specs.declared.running.Running.{Running}
 
 -- what is kept with this catalogue

@@ -3,14 +3,13 @@ use Rattle.std.specs.Prelude.{◌≡◌, ◌≢◌, ◌⊎◌, ℕ, ◌<◌, ◌
 use Rattle.fw_time.specs.Stamp.{Stamp}
 use Rattle.fw_frontier.specs.Front.{Front, inside}
 use Rattle.fw_flow.specs.declared.event.Message.{Message}
-use Rattle.fw_flow.specs.declared.kind.Kind.{Kind}
-use Rattle.fw_flow.specs.declared.kind.Kind.TheVariants.{OutputNumber}
 use Rattle.fw_flow.specs.Dataflow.{Dataflow, kind_of, receiver, is_input_kind, is_output_kind}
 use Rattle.fw_model.specs.Machine.{front_of}
-use Rattle.fw_border.specs.Outputs.{OutputState, recs_at}
+use Rattle.fw_border.specs.Outputs.{OutputState}
 use Rattle.fw_border.specs.Sources.{SourceState, next_batch}
 use Rattle.fw_progress.specs.Counts.{owed_of}
 use Rattle.fw_progress.specs.Settle.{has_more}
+pub use Rattle.fw_stands.specs.Acknowledging.{HasSomething}
 use Rattle.fw_running.specs.declared.running.Running.{Running}
 use Rattle.fw_running.specs.Kept.{queue_at, source_of, output_of, is_down}
 
@@ -42,11 +41,6 @@ pub record HasGrownBy (flow : Dataflow) (p : ℕ) (kept settled : Front) : Type 
 -- more is kept as complete at node p than is settled
 abbrev pub HasGrown : Running → ℕ → Type 0
 HasGrown running p = HasGrownBy running.flow p (front_of running.progress.kept p) (front_of running.progress.settled p)
-
--- an output has something to acknowledge at x: a rec at the number; or a batch of the epoch, or a rec at it or a later one
-abbrev pub HasSomething : ℕ → OutputState → Kind → ℕ → Type 0
-HasSomething epochs output OutputNumber x = recs_at output.recs x ≢ []
-HasSomething epochs output kind x = (x < epochs) ⊎ (output.recs ≢ [])
 
 -- output o, of which this is kept and up to which front it is settled, is not failed and may acknowledge its next stamp
 pub record CanAcknowledgeBy (flow : Dataflow) (o : ℕ) (down : Bool) (epochs : ℕ) (kept : OutputState) (front : Front) : Type 0 where

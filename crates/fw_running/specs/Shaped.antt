@@ -1,17 +1,12 @@
 -- What is true of what an engine keeps, whatever it stands for: what its bodies need to be safe, also after a recovery that read
 -- other bytes than were put.
-use Rattle.std.specs.Prelude.{◌≡◌, ℕ, ◌<◌, true, false, length, IfSome}
+use Rattle.std.specs.Prelude.{◌≡◌, ℕ, ◌<◌, false, length, IfSome}
 use Rattle.std.specs.List.{AllByRecursion, Contains}
-use Rattle.fw_time.specs.Stamp.{in_domain}
-use Rattle.fw_flow.specs.Dataflow.{Dataflow, bounds_of}
 use Rattle.fw_flow.specs.WellFormed.{IsWellFormed}
 use Rattle.fw_model.specs.Machine.{AreCanonical}
-use Rattle.fw_model.specs.Offers.{IsRecordOf}
 use Rattle.fw_keep.specs.declared.entry.Entry.{Entry}
-use Rattle.fw_keep.specs.declared.entry.Written.{Written}
-use Rattle.fw_keep.specs.declared.entry.Written.TheVariants as written
-use Rattle.fw_keep.specs.Entry.{stamp_of}
 use Rattle.fw_node.specs.NodeOf.{IsNodeOf}
+pub use Rattle.fw_policy.specs.Shaped.{IsWrittenOf}
 use Rattle.fw_progress.specs.Progress.{IsOfFlow}
 use Rattle.fw_progress.specs.Trace.{HaveLists}
 pub use Rattle.fw_rollback.specs.Edges.{IsOnEdge}
@@ -20,11 +15,6 @@ use Rattle.fw_running.specs.declared.running.Running.{Running}
 use Rattle.fw_running.specs.ReadyState.{ReadyState}
 use Rattle.fw_running.specs.Kept.{queue_at, log_at, table_of}
 use Rattle.fw_running.specs.Ready.{CanDeliver, IsOwing, HasGrown, CanAcknowledge, CanInject}
-
--- what is written is of node p: a checkpoint has a frontier and covers of the domains, and an event a stamp
-abbrev pub IsWrittenOf : Dataflow → ℕ → Written → Type 0
-IsWrittenOf flow p (written.Checkpoint recorded stamps sent) = IsRecordOf flow p recorded
-IsWrittenOf flow p (written.Event event) = in_domain (bounds_of flow p) (stamp_of event) ≡ true
 
 -- the lists have one for each node and edge
 pub record HasOneEach (running : Running) : Type 0 where

@@ -11,7 +11,7 @@ use Rattle.fw_progress.specs.declared.traces.Traces.{Traces}
 use Rattle.fw_progress.specs.Trace.{HaveLists, IsTraceOf}
 use Rattle.fw_rollback.specs.New.{AreNew}
 use Rattle.fw_rollback.specs.Restored.{AreOfFlow}
-use Rattle.fw_stands.specs.LawsOfAcknowledging.{IsGreatestCount}
+use Rattle.fw_stands.specs.Acknowledging.{IsGreatestCount}
 use Rattle.fw_running.specs.declared.running.Running.{Running}
 use Rattle.fw_running.specs.Places.{HasAllPlaces}
 

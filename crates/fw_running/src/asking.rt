@@ -1,7 +1,6 @@
 //! A write is asked.
 ghost use Rattle.std.specs.Prelude.{◌≡◌, OnOk, OnErr};
 ghost use Rattle.fw_running.specs.Faults.{faults_after};
-ghost use Rattle.fw_keep.specs.Entry as entries;
 ghost use Rattle.fw_keep.specs.Stored.{IsStored};
 ghost use Rattle.fw_running.specs.Steps.{IsUndamaged};
 ghost use Rattle.fw_running.specs.Logging.{ChangesKeep, IsAsked, IsNotAsked};
@@ -9,8 +8,7 @@ ghost use Rattle.fw_running.specs.Logging.{ChangesKeep, IsAsked, IsNotAsked};
 use crate::{EngineFault, Running};
 use fw_flow::Stamps;
 use fw_outside::Store;
-use fw_record::{Event, Record};
-use fw_time::Stamp;
+use fw_record::Record;
 
 /// How many ids there are for writes.
 const IDS: u64 = 1 << 63;
@@ -23,15 +21,15 @@ impl Running {
         stamps: Stamps,
         store: &mut K,
     ) -> Result<(), EngineFault>
-        requires stored { IsStored self.old.parts.keep (K.records store.old) }
+        requires stored { IsStored self.old.parts.keep (K.view store.old).records }
         ensures others { ChangesKeep self.old self.new }
-        ensures stored { IsStored self.new.parts.keep (K.records store.new) }
+        ensures stored { IsStored self.new.parts.keep (K.view store.new).records }
         ensures asked { OnOk result (IsAsked what.now stamps self.old.parts.keep.entries self.new.parts.keep.entries
-            (K.records store.old) (K.records store.new)) }
+            (K.view store.old).records (K.view store.new).records) }
         ensures stays { OnErr result (IsNotAsked self.old.parts.keep.entries self.new.parts.keep.entries
-            (K.records store.old) (K.records store.new)) }
-        ensures given { K.given store.new ≡ K.given store.old }
-        ensures faults { K.fault_count store.new ≡ faults_after result (K.fault_count store.old) }
+            (K.view store.old).records (K.view store.new).records) }
+        ensures given { (K.view store.new).given ≡ (K.view store.old).given }
+        ensures faults { (K.view store.new).faults ≡ faults_after result (K.view store.old).faults }
         ensures undamaged { IsUndamaged result }
     {
         if self.parts.keep.next_id() >= IDS {
@@ -39,14 +37,5 @@ impl Running {
         }
         self.parts.keep.ask(store, what, stamps)?;
         Ok(())
-    }
-}
-
-/// The stamp of an event.
-pub fn stamp_of(event: &Event) -> &Stamp
-    ensures { result.now ≡ entries.stamp_of event.now }
-{
-    match event {
-        Event::Deliver { at, .. } | Event::Notify { at } => at,
     }
 }

@@ -9,7 +9,6 @@ mod running;
 mod shown;
 mod stepped;
 
-pub use asking::stamp_of;
 pub use fault::EngineFault;
 pub use ready::Ready;
 pub use running::{Running, is_failed, no_stamps, takes_checkpoints};

@@ -3,7 +3,7 @@ ghost use Rattle.std.specs.Prelude.{◌≡◌, Option, [], false, replicate, sli
 ghost use Rattle.fw_flow.specs.Dataflow.{system_of};
 ghost use Rattle.fw_model.specs.Writes as writes;
 ghost use Rattle.fw_keep.specs.Stored.{Records, IsEmptyStore, IsStored};
-ghost use Rattle.fw_stands.specs.LawsOfAcknowledging.{IsGreatestCount};
+ghost use Rattle.fw_stands.specs.Acknowledging.{IsGreatestCount};
 ghost use Rattle.fw_running.specs.Kept.{is_down};
 ghost use Rattle.fw_running.specs.Starting.{IsFirst, no_stamps_each};
 

@@ -197,7 +197,10 @@ fn told(text: &[u8], stamp: Option<Span>, bounds: &Bounds) -> Option<Option<Stam
 {
     match stamp {
         None => Some(None),
-        Some(word) => Some(Some(stamp_up_to(word.of(text), &bounds.greatest)?)),
+        Some(word) => {
+            let at = stamp_up_to(word.of(text), &bounds.greatest)?;
+            at.in_domain(bounds).then_some(Some(at))
+        }
     }
 }
 

@@ -23,7 +23,7 @@ use Rattle.fw_model.specs.Reached.{IsReached}
 use Rattle.fw_model.specs.Writes.{takes_checkpoints}
 use Rattle.fw_model.proofs.AskedLaws.{takes-declared, takes-restoring}
 use Rattle.fw_model.proofs.DomainLaws.{has_epochs}
-use Rattle.fw_policy.specs.View.{IsRecorded}
+use Rattle.fw_policy.specs.Entries.{IsRecorded}
 use Rattle.fw_progress.specs.declared.traces.Traces.{Traces}
 use Rattle.fw_progress.specs.Trace.{IsTraceOf, IsTraceWithin}
 use Rattle.fw_stands.specs.Parts.{IsTraceIn}

@@ -30,7 +30,8 @@ use Rattle.fw_policy.proofs.RecordedLaws.{one-cause}
 use Rattle.fw_record.specs.declared.logged.Logged.{Logged}
 use Rattle.fw_record.specs.Sound.{IsStamp, IsOneStamp, IsRec, IsLogged, IsLog}
 use Rattle.fw_stands.specs.Parts.{is_logging, logged}
-use Rattle.fw_stands.specs.Written.{logged_on, to_log}
+use Rattle.fw_record.specs.Log.{logged_on}
+use Rattle.fw_stands.specs.Written.{to_log}
 use Rattle.fw_stands.proofs.AtReached.{reached-legal}
 use Rattle.fw_stands.proofs.NumberLaws.{sender-there}
 use Rattle.fw_stands.proofs.RecoveredFacts.{filter-as, all_inside-as, IsCausedIn, set-inside, legal-caused, legal-at, each-contained}

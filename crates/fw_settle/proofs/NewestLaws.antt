@@ -15,7 +15,7 @@ use Rattle.fw_model.specs.Machine.{no_stamps}
 use Rattle.fw_model.specs.Steps.{last_or}
 use Rattle.fw_model.proofs.Decisions.{two_ways}
 use Rattle.fw_keep.specs.declared.entry.Entry.{Entry}
-use Rattle.fw_stands.specs.LawsOfEntries.{entry_front, entry_fronts}
+use Rattle.fw_stands.specs.Entries.{entry_front, entry_fronts}
 
 -- ---- nothing is settled
 

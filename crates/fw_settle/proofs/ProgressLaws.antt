@@ -21,7 +21,7 @@ use Rattle.fw_keep.specs.Catalogue.{KeepState}
 use Rattle.fw_keep.specs.Stored.{Records}
 use Rattle.fw_progress.specs.Settle.{has_more, AreGrownBefore}
 use Rattle.fw_progress.proofs.SettleLaws.{in_turn-settled}
-use Rattle.fw_stands.specs.LawsOfSettling.{settled_state, AreSettledAt}
+use Rattle.fw_stands.specs.Settling.{settled_state, AreSettledAt}
 use Rattle.fw_stands.specs.Parts.{IsTableIn}
 use Rattle.fw_stands.specs.Written.{AreEntriesOf, AreStored, uncollected}
 use Rattle.fw_stands.proofs.AtReached.{reached-next}

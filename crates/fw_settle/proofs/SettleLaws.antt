@@ -13,7 +13,7 @@ use Rattle.fw_progress.specs.Settle.{has_more, IsGrownAt, AreGrownBefore}
 use Rattle.fw_progress.specs.Trace.{AreSettledTo, IsTraceOf, IsTraceWithin}
 use Rattle.fw_progress.proofs.CutTraceLaws.{thinned-traces}
 use Rattle.fw_progress.proofs.SettleLaws.{none_settled-first, others-settle_nothing, one_more-settles}
-use Rattle.fw_stands.specs.LawsOfSettling.{AreSettledAt}
+use Rattle.fw_stands.specs.Settling.{AreSettledAt}
 use Rattle.fw_stands.proofs.SettlingLaws.{none-settled_yet, one_more-settled, same_nodes-settled}
 use Rattle.fw_rollback.specs.Tables.{table_at}
 use Rattle.fw_running.specs.declared.running.Running.{Running}

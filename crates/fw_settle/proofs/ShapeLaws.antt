@@ -23,14 +23,14 @@ use Rattle.fw_progress.specs.Trace.{HaveLists}
 use Rattle.fw_rollback.specs.Tables.{table_at}
 use Rattle.fw_running.specs.declared.fault.EngineFault.{EngineFault}
 use Rattle.fw_running.specs.declared.running.Running.{Running}
-use Rattle.fw_running.specs.Kept.{is_down, output_of}
+use Rattle.fw_running.specs.Kept.{is_down, output_of, with_tables}
 use Rattle.fw_running.specs.Logging.{ChangesKeep, IsAsked, IsNotAsked}
 use Rattle.fw_running.specs.Places.{IsPut, IsTakenOut}
 use Rattle.fw_running.specs.Ready.{CanAcknowledgeBy, HasGrownBy}
 use Rattle.fw_running.specs.ReadyState.{ReadyState}
 use Rattle.fw_running.specs.Shaped.{IsShaped, IsWrittenOf}
 use Rattle.fw_running.proofs.KeptShapes.{logs-fit, progress-fits, queues-fit, shaped-changed, shaped-keep as keep-shaped, shaped-standing, traces-fit}
-use Rattle.fw_settle.specs.Settling.{with_tables, with_traces, IsTableSettled, SettlesTable, SettlesTraces, SettlesTo}
+use Rattle.fw_settle.specs.Settling.{with_traces, IsTableSettled, SettlesTable, SettlesTraces, SettlesTo}
 use Rattle.fw_settle.proofs.JoinLaws.{none-kept}
 
 -- what is kept with other tables and other traces fits the flow as before, where these do

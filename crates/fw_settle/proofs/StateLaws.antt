@@ -33,7 +33,8 @@ use Rattle.fw_node.specs.Past.{totals_kept}
 use Rattle.fw_progress.specs.declared.counts.Counts.{Counts}
 use Rattle.fw_progress.specs.Counts.{sent_of}
 use Rattle.fw_progress.specs.History.{IsCountOf}
-use Rattle.fw_stands.specs.Parts.{has_table, IsTableIn, sent_by_node}
+use Rattle.fw_policy.specs.Entries.{sent_by_node}
+use Rattle.fw_stands.specs.Parts.{has_table, IsTableIn}
 use Rattle.fw_stands.specs.Written.{events_within, count_within, told_inside}
 use Rattle.fw_stands.proofs.AtReached.{reached-legal}
 use Rattle.fw_stands.proofs.RecoveredFacts.{legal-caused}

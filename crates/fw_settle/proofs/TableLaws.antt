@@ -14,9 +14,9 @@ use Rattle.fw_node.specs.NodeOf.{IsNodeOf}
 use Rattle.fw_node.specs.TableOf.{IsTableOf}
 use Rattle.fw_rollback.specs.Tables.{table_at}
 use Rattle.fw_running.specs.declared.running.Running.{Running}
-use Rattle.fw_running.specs.Kept.{table_of}
+use Rattle.fw_running.specs.Kept.{table_of, with_tables}
 use Rattle.fw_running.specs.Shaped.{IsShaped}
-use Rattle.fw_settle.specs.Settling.{with_tables, IsTableSettled, SettlesTable}
+use Rattle.fw_settle.specs.Settling.{IsTableSettled, SettlesTable}
 use Rattle.fw_settle.proofs.ShapeLaws.{shaped-tables}
 
 -- the tables where one is another one, and both are of its node

@@ -23,7 +23,7 @@ use Rattle.fw_keep.specs.declared.entry.Written.{Written}
 use Rattle.fw_keep.specs.Catalogue.{KeepState, oldest, persisted}
 use Rattle.fw_keep.specs.Entry.{asked}
 use Rattle.fw_keep.specs.Stored.{Records}
-use Rattle.fw_stands.specs.LawsOfEntries.{entry_fronts}
+use Rattle.fw_stands.specs.Entries.{entry_fronts}
 use Rattle.fw_stands.specs.Written.{AreEntriesOf, AreStored, IsEntryOf, uncollected}
 use Rattle.fw_stands.proofs.AtReached.{reached-next, reached-legal, reached-settled}
 use Rattle.fw_stands.proofs.EntrySteps.{kept_bytes_are_stored, asked_entry_is_of_write, put_record_is_stored, entries_after_asking, records_after_asking, entries_after_persist, records_after_persist, persists_where_in_flight}

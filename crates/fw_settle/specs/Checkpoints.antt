@@ -42,7 +42,7 @@ use Rattle.fw_progress.specs.Counts.{sent_of}
 use Rattle.fw_progress.specs.Covers.{CoversDelivered, CoversNotified, CoversSent}
 use Rattle.fw_progress.specs.History.{IsCountOf}
 use Rattle.fw_progress.specs.Trace.{IsTraceWithin, counts_sent}
-use Rattle.fw_stands.specs.LawsOfEntries.{entry_fronts}
+use Rattle.fw_stands.specs.Entries.{entry_fronts}
 use Rattle.fw_stands.specs.Parts.{IsTableIn, IsTraceIn, logged}
 use Rattle.fw_stands.specs.Written.{told_inside}
 use Rattle.fw_running.specs.declared.running.Running.{Running}

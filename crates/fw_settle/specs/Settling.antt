@@ -14,7 +14,7 @@ use Rattle.fw_keep.specs.Stored.{Records, KeepsBytes}
 use Rattle.fw_progress.specs.declared.traces.Traces.{Traces}
 use Rattle.fw_progress.specs.Settle.{is_growing, has_more, IsGrownAt, NoneGrows, AreGrownBefore}
 use Rattle.fw_progress.specs.Trace.{AreThinnedAt}
-use Rattle.fw_stands.specs.LawsOfSettling.{IsSettledTable, AreSettledAt}
+use Rattle.fw_stands.specs.Settling.{IsSettledTable, AreSettledAt}
 use Rattle.fw_stands.specs.Written.{uncollected, AreEntriesOf, AreStored}
 use Rattle.fw_running.specs.declared.running.Running.{Running}
 use Rattle.fw_running.specs.Kept.{table_of, is_down}
@@ -99,10 +99,6 @@ pub record HaveAsked (place : ℕ) (old new : Running) (before after : Option Re
   pub writes : AreOfEagerWrites old before adds.more new.parts.keep.entries after place
 
 -- ---- what settles
-
--- what is kept with these tables
-abbrev pub with_tables : List (Option Node) → Running → Running
-with_tables tables running = record running { parts = record running.parts { tables = tables } }
 
 -- what is kept with these traces
 abbrev pub with_traces : Traces → Running → Running

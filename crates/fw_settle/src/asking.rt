@@ -29,18 +29,18 @@ pub(crate) fn ask_checkpoint<K: Store>(
     store: &mut K,
 ) -> Result<(), EngineFault>
     requires shaped { IsShaped running.old }
-    requires stored { IsStored running.old.parts.keep (K.records store.old) }
+    requires stored { IsStored running.old.parts.keep (K.view store.old).records }
     requires there { node < length running.old.flow.nodes }
     requires front { IsCanonical (bounds_of running.old.flow node) front.now }
     ensures others { ChangesKeep running.old running.new }
     ensures shaped { IsShaped running.new }
-    ensures stored { IsStored running.new.parts.keep (K.records store.new) }
-    ensures asked { OnOk result (AsksCheckpoint node front.now running.old running.new (K.records store.old) (K.records store.new)) }
+    ensures stored { IsStored running.new.parts.keep (K.view store.new).records }
+    ensures asked { OnOk result (AsksCheckpoint node front.now running.old running.new (K.view store.old).records (K.view store.new).records) }
     ensures stays { OnErr result (IsNotAsked running.old.parts.keep.entries running.new.parts.keep.entries
-        (K.records store.old) (K.records store.new)) }
-    ensures faults { K.fault_count store.new ≡ faults_after result (K.fault_count store.old) }
+        (K.view store.old).records (K.view store.new).records) }
+    ensures faults { (K.view store.new).faults ≡ faults_after result (K.view store.old).faults }
     ensures undamaged { IsUndamaged result }
-    ensures tells { is_some (K.records store.new) ≡ is_some (K.records store.old) }
+    ensures tells { is_some (K.view store.new).records ≡ is_some (K.view store.old).records }
 {
     let checkpoint = checkpoint_at(running, node, front)?;
     if !is_countable(&checkpoint) || !is_of_domains(&running.flow, node, &checkpoint.recorded) {

@@ -9,7 +9,7 @@ ghost use Rattle.fw_model.specs.Steps.{last_or};
 ghost use Rattle.fw_running.specs.Faults.{faults_after};
 ghost use Rattle.fw_flow.specs.declared.step.Step.TheVariants as steps;
 ghost use Rattle.fw_keep.specs.Stored.{Records, IsStored};
-ghost use Rattle.fw_stands.specs.LawsOfEntries.{entry_fronts};
+ghost use Rattle.fw_stands.specs.Entries.{entry_fronts};
 ghost use Rattle.fw_running.specs.declared.stepped.Stepped.TheVariants.{Idle};
 ghost use Rattle.fw_running.specs.Shaped.{IsShaped};
 ghost use Rattle.fw_settle.specs.Checkpoints.{MayTakeCheckpoint};
@@ -29,14 +29,14 @@ pub fn checkpoint<K: Store>(
     store: &mut K,
 ) -> Result<Stepped, EngineFault>
     requires shaped { IsShaped running.old }
-    requires stored { IsStored running.old.parts.keep (K.records store.old) }
+    requires stored { IsStored running.old.parts.keep (K.view store.old).records }
     ensures shaped { StaysShaped result running.new }
-    ensures stored { IsStored running.new.parts.keep (K.records store.new) }
+    ensures stored { IsStored running.new.parts.keep (K.view store.new).records }
     ensures flow { running.new.flow ≡ running.old.flow }
-    ensures takes { TakesStep running.old (K.records store.old) (steps.Checkpoint node) result running.new (K.records store.new) }
-    ensures faults { K.fault_count store.new ≡ faults_after result (K.fault_count store.old) }
+    ensures takes { TakesStep running.old (K.view store.old).records (steps.Checkpoint node) result running.new (K.view store.new).records }
+    ensures faults { (K.view store.new).faults ≡ faults_after result (K.view store.old).faults }
     ensures undamaged { IsUndamaged result }
-    ensures tells { is_some (K.records store.new) ≡ is_some (K.records store.old) }
+    ensures tells { is_some (K.view store.new).records ≡ is_some (K.view store.old).records }
     ensures calls { IsErrOf result EngineFault.StoreFault → steps_of.is_asked_for_checkpoints (policy_of running.old.flow node) ≡ true }
     ensures quiet { (steps_of.is_asked_for_checkpoints (policy_of running.old.flow node) ≡ true → ⊥) → store.new ≡ store.old }
     ensures idle { result ≡ Ok Idle → store.new ≡ store.old }

@@ -13,7 +13,8 @@ ghost use Rattle.fw_running.specs.Places.{IsTakenOut};
 ghost use Rattle.fw_running.specs.declared.stepped.Stepped.TheVariants.{Idle};
 ghost use Rattle.fw_running.specs.Shaped.{IsShaped};
 ghost use Rattle.fw_running.specs.Steps.{TakesStep, StaysShaped, IsUndamaged, HasEager};
-ghost use Rattle.fw_settle.specs.Settling.{grows, IsFoundToSettle, IsFoundLive, AddsEntries, KeepsEntries, AsksIfEager, HaveAsked, with_tables, with_traces, ChangesSettled, SettlesTable, SettlesTraces, SettlesTo, SettlesKept, HaveSettled};
+ghost use Rattle.fw_running.specs.Kept.{with_tables};
+ghost use Rattle.fw_settle.specs.Settling.{grows, IsFoundToSettle, IsFoundLive, AddsEntries, KeepsEntries, AsksIfEager, HaveAsked, with_traces, ChangesSettled, SettlesTable, SettlesTraces, SettlesTo, SettlesKept, HaveSettled};
 
 use crate::asking::{ask_checkpoint, withdraw_from};
 use fw_flow::{NodeId, Policy};
@@ -25,14 +26,14 @@ use std::alloc::AllocError;
 /// What is complete becomes settled, and eager nodes that grow ask a checkpoint.
 pub fn progress<K: Store>(running: &mut Running, store: &mut K) -> Result<Stepped, EngineFault>
     requires shaped { IsShaped running.old }
-    requires stored { IsStored running.old.parts.keep (K.records store.old) }
+    requires stored { IsStored running.old.parts.keep (K.view store.old).records }
     ensures shaped { StaysShaped result running.new }
-    ensures stored { IsStored running.new.parts.keep (K.records store.new) }
+    ensures stored { IsStored running.new.parts.keep (K.view store.new).records }
     ensures flow { running.new.flow ≡ running.old.flow }
-    ensures takes { TakesStep running.old (K.records store.old) steps.Progress result running.new (K.records store.new) }
-    ensures faults { K.fault_count store.new ≡ faults_after result (K.fault_count store.old) }
+    ensures takes { TakesStep running.old (K.view store.old).records steps.Progress result running.new (K.view store.new).records }
+    ensures faults { (K.view store.new).faults ≡ faults_after result (K.view store.old).faults }
     ensures undamaged { IsUndamaged result }
-    ensures tells { is_some (K.records store.new) ≡ is_some (K.records store.old) }
+    ensures tells { is_some (K.view store.new).records ≡ is_some (K.view store.old).records }
     ensures calls { IsErrOf result EngineFault.StoreFault → HasEager running.old.flow }
     ensures quiet { (HasEager running.old.flow → ⊥) → store.new ≡ store.old }
     ensures idle { result ≡ Ok Idle → store.new ≡ store.old }
@@ -80,16 +81,16 @@ fn is_node(running: &Running, node: NodeId) -> bool
 // The eager nodes that grow ask their checkpoints, in order. A fault leaves none of them.
 fn ask_eager<K: Store>(running: &mut Running, store: &mut K) -> Result<(), EngineFault>
     requires shaped { IsShaped running.old }
-    requires stored { IsStored running.old.parts.keep (K.records store.old) }
+    requires stored { IsStored running.old.parts.keep (K.view store.old).records }
     ensures others { ChangesKeep running.old running.new }
     ensures shaped { IsShaped running.new }
-    ensures stored { IsStored running.new.parts.keep (K.records store.new) }
-    ensures asked { OnOk result (HaveAsked (length running.old.flow.nodes) running.old running.new (K.records store.old) (K.records store.new)) }
+    ensures stored { IsStored running.new.parts.keep (K.view store.new).records }
+    ensures asked { OnOk result (HaveAsked (length running.old.flow.nodes) running.old running.new (K.view store.old).records (K.view store.new).records) }
     ensures stays { OnErr result (KeepsEntries running.old.parts.keep.entries running.new.parts.keep.entries
-        (K.records store.old) (K.records store.new)) }
-    ensures faults { K.fault_count store.new ≡ faults_after result (K.fault_count store.old) }
+        (K.view store.old).records (K.view store.new).records) }
+    ensures faults { (K.view store.new).faults ≡ faults_after result (K.view store.old).faults }
     ensures undamaged { IsUndamaged result }
-    ensures tells { is_some (K.records store.new) ≡ is_some (K.records store.old) }
+    ensures tells { is_some (K.view store.new).records ≡ is_some (K.view store.old).records }
     ensures calls { IsErrOf result EngineFault.StoreFault → HasEager running.old.flow }
     ensures quiet { (HasEager running.old.flow → ⊥) → store.new ≡ store.old }
 {
@@ -106,15 +107,15 @@ fn ask_eager<K: Store>(running: &mut Running, store: &mut K) -> Result<(), Engin
 // The same, but what was asked before a fault is left.
 fn ask_each<K: Store>(running: &mut Running, store: &mut K) -> Result<(), EngineFault>
     requires shaped { IsShaped running.old }
-    requires stored { IsStored running.old.parts.keep (K.records store.old) }
+    requires stored { IsStored running.old.parts.keep (K.view store.old).records }
     ensures others { ChangesKeep running.old running.new }
     ensures shaped { IsShaped running.new }
-    ensures stored { IsStored running.new.parts.keep (K.records store.new) }
-    ensures asked { OnOk result (HaveAsked (length running.old.flow.nodes) running.old running.new (K.records store.old) (K.records store.new)) }
-    ensures adds { AddsEntries running.old.parts.keep.entries running.new.parts.keep.entries (K.records store.old) (K.records store.new) }
-    ensures faults { K.fault_count store.new ≡ faults_after result (K.fault_count store.old) }
+    ensures stored { IsStored running.new.parts.keep (K.view store.new).records }
+    ensures asked { OnOk result (HaveAsked (length running.old.flow.nodes) running.old running.new (K.view store.old).records (K.view store.new).records) }
+    ensures adds { AddsEntries running.old.parts.keep.entries running.new.parts.keep.entries (K.view store.old).records (K.view store.new).records }
+    ensures faults { (K.view store.new).faults ≡ faults_after result (K.view store.old).faults }
     ensures undamaged { IsUndamaged result }
-    ensures tells { is_some (K.records store.new) ≡ is_some (K.records store.old) }
+    ensures tells { is_some (K.view store.new).records ≡ is_some (K.view store.old).records }
     ensures calls { IsErrOf result EngineFault.StoreFault → HasEager running.old.flow }
     ensures quiet { (HasEager running.old.flow → ⊥) → store.new ≡ store.old }
 {
@@ -133,18 +134,18 @@ fn ask_if_eager<K: Store>(
     store: &mut K,
 ) -> Result<(), EngineFault>
     requires shaped { IsShaped running.old }
-    requires stored { IsStored running.old.parts.keep (K.records store.old) }
+    requires stored { IsStored running.old.parts.keep (K.view store.old).records }
     requires there { node < length running.old.flow.nodes }
     requires more { has_more (front_of running.old.progress.kept node) (front_of running.old.progress.settled node) ≡ true }
     ensures others { ChangesKeep running.old running.new }
     ensures shaped { IsShaped running.new }
-    ensures stored { IsStored running.new.parts.keep (K.records store.new) }
-    ensures asked { OnOk result (AsksIfEager node running.old running.new (K.records store.old) (K.records store.new)) }
+    ensures stored { IsStored running.new.parts.keep (K.view store.new).records }
+    ensures asked { OnOk result (AsksIfEager node running.old running.new (K.view store.old).records (K.view store.new).records) }
     ensures stays { OnErr result (IsNotAsked running.old.parts.keep.entries running.new.parts.keep.entries
-        (K.records store.old) (K.records store.new)) }
-    ensures faults { K.fault_count store.new ≡ faults_after result (K.fault_count store.old) }
+        (K.view store.old).records (K.view store.new).records) }
+    ensures faults { (K.view store.new).faults ≡ faults_after result (K.view store.old).faults }
     ensures undamaged { IsUndamaged result }
-    ensures tells { is_some (K.records store.new) ≡ is_some (K.records store.old) }
+    ensures tells { is_some (K.view store.new).records ≡ is_some (K.view store.old).records }
     ensures calls { IsErrOf result EngineFault.StoreFault → steps_of.is_eager (policy_of running.old.flow node) ≡ true }
     ensures quiet { (steps_of.is_eager (policy_of running.old.flow node) ≡ true → ⊥) → store.new ≡ store.old }
 {

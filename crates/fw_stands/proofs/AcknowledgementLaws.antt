@@ -1,5 +1,5 @@
 -- When an output may acknowledge by what is kept of it, and what is kept of it then.
-use Rattle.std.proofs.Common.{◌≡◌, ℕ, ◌+◌, ◌<◌, ◌≤◌, ◌^◌, Bool, true, false, cond, nat_lt, nat_le, ◌||◌, ◌&&◌, ◌==◌, ◌⊎◌, if◌then◌else◌, List, [], ◌∷◌, ◌++◌, length, refl, sym, ap, ◌∙◌, subst, inl, inr, arith, Some, unwrap_or, get_or-set_same, get_or-set_other, slice_index_or, zero, suc}
+use Rattle.std.proofs.Common.{◌≡◌, ℕ, ◌+◌, ◌<◌, ◌≤◌, ◌^◌, Bool, true, false, cond, nat_lt, nat_le, ◌||◌, ◌&&◌, ◌==◌, ◌⊎◌, if◌then◌else◌, List, [], ◌∷◌, ◌++◌, length, refl, sym, ap, ◌∙◌, subst, inl, inr, arith, Some, unwrap_or, get_or-set_same, get_or-set_other, slice_index_or, zero, suc, ◌↔◌}
 use Rattle.std.proofs.lemmas.Bool.{cases_Bool, cases_lt, cases_eq, or_right, or_parts, or_from, and_parts, and_from, cond-true, cond-false, ltb-false, leb-true, le-leb, lt-ltb, le-ltb}
 use Rattle.std.proofs.lemmas.Cmp.{tied_itself, nat_cmp_total}
 use Rattle.std.specs.Ordering.{is_eq, is_le, nat_cmp}
@@ -18,13 +18,16 @@ use Rattle.fw_flow.specs.declared.kind.Kind.{Kind}
 use Rattle.fw_flow.specs.declared.kind.Kind.TheVariants.{OutputEpoch, OutputNumber}
 use Rattle.fw_flow.specs.Dataflow.{System, Dataflow, kind_of, receiver, is_output_kind, bounds_of, bounds_of_domain, domain_of_kind, greatest_number, batches_of}
 use Rattle.fw_flow.specs.NodeFunction.{delivered_recs}
+use Rattle.fw_flow.specs.declared.step.Step.TheVariants.{Ack}
 use Rattle.fw_model.specs.Machine.{Machine, events, front_of, is_failed, ack_count_of}
-use Rattle.fw_model.specs.Steps.{MayAcknowledge, HasSomethingAt, recs_at_output, acked, HasEpoch}
+use Rattle.fw_model.specs.Steps.{MayAcknowledge, HasSomethingAt, recs_at_output, acked, HasEpoch, LeadsTo}
 use Rattle.fw_model.proofs.Decisions.{two_ways}
+use Rattle.fw_model.specs.Reached.{IsReached}
+use Rattle.fw_model.specs.Auto.{IsIdle}
 use Rattle.fw_border.specs.Outputs.{OutputState, recs_at, next_recs, acknowledged, AreByNumber}
 use Rattle.fw_border.proofs.OutputLaws.{recs_at-removed, recs_at-removed_apart}
 use Rattle.fw_stands.specs.Parts.{kept_recs, IsOutputOf}
-use Rattle.fw_stands.specs.LawsOfAcknowledging.{AreEpochs, HasSomething, CanAcknowledge, AcknowledgesWhereKept, NothingKeptIsIdle, GreatestCountIsEpochs, AcknowledgesOnlyWhereKept, OnlyOutputsAcknowledge, acknowledged_state, KeptIsAcknowledged, AcknowledgedOutputStands, AcknowledgementKeepsTheRest}
+use Rattle.fw_stands.specs.Acknowledging.{AreEpochs, HasSomething, CanAcknowledge, acknowledged_state, KeepsAllButOutput, IsGreatestCount}
 use Rattle.fw_stands.proofs.AtReached.{reached-bounds}
 
 -- ---- recs in order
@@ -161,7 +164,8 @@ source-of [] x h = absurd h
 source-of (batches ∷ sources) x (inl l) = (0, l)
 source-of (batches ∷ sources) x (inr h) = let s = source-of sources x h in (suc s.0, s.1)
 
-pub greatest_count-epochs : GreatestCountIsEpochs
+-- the greatest number of batches of a source is how many epochs have one
+pub greatest_count-epochs : (sys : System) (count : ℕ) → IsGreatestCount sys count → AreEpochs sys count
 unfolding batches_of
 greatest_count-epochs sys count g x = (
   λ l. epoch-of sys.batches g.some.0 x (let m = g.some.1 in omega (arith, l, m)),
@@ -260,19 +264,29 @@ kept-may sys state epochs k o output n b c = record {
   there = kept-something sys state epochs k o output n b (kind_of sys.flow o) c.output output.bound b.bound c.some;
 }
 
-pub acknowledges-where_kept : AcknowledgesWhereKept
+-- an output may acknowledge x exactly where x is its bound and it may by what is kept
+pub acknowledges-where_kept : (sys : System) (state : Machine) (epochs : ℕ) → AreEpochs sys epochs
+    → (o : ℕ) (output : OutputState) → AreByNumber output.recs → IsOutputOf sys state o output
+    → (x : ℕ) → MayAcknowledge sys state o x ↔ ((x ≡ output.bound) × CanAcknowledge sys state epochs o output)
 acknowledges-where_kept sys state epochs k o output n b x = (
   can-by_kept sys state epochs k o output b x,
   λ c. subst (MayAcknowledge sys state o) (sym c.0) (kept-may sys state epochs k o output n b c.1),
 )
 
-pub nothing_kept-idle : NothingKeptIsIdle
+-- where it may not by what is kept, it acknowledges nothing
+pub nothing_kept-idle : (sys : System) (state : Machine) (epochs : ℕ) → AreEpochs sys epochs
+    → (o : ℕ) (output : OutputState) → IsOutputOf sys state o output
+    → (CanAcknowledge sys state epochs o output → ⊥) → IsIdle sys state (Ack o)
 nothing_kept-idle sys state epochs k o output b none next effect t = none (can-by_kept sys state epochs k o output b t.0 t.1).1
 
-pub only_outputs-acknowledge : OnlyOutputsAcknowledge
+-- a node that is no output acknowledges nothing
+pub only_outputs-acknowledge : (sys : System) (state : Machine) (o : ℕ) → is_output_kind (kind_of sys.flow o) ≡ false → IsIdle sys state (Ack o)
 only_outputs-acknowledge sys state o none next effect t = two_ways (is_output_kind (kind_of sys.flow o)) t.1.output none
 
-pub acknowledges-only_where : AcknowledgesOnlyWhereKept
+-- a node acknowledges only where it is an output that may by what is kept
+pub acknowledges-only_where : (sys : System) (state : Machine) (epochs : ℕ) → AreEpochs sys epochs
+    → (o : ℕ) (output : OutputState) → (is_output_kind (kind_of sys.flow o) ≡ true → IsOutputOf sys state o output)
+    → (CanAcknowledge sys state epochs o output → ⊥) → IsIdle sys state (Ack o)
 acknowledges-only_where sys state epochs k o output b none next effect t =
     nothing_kept-idle sys state epochs k o output (b t.1.output) none next effect t
 
@@ -284,7 +298,10 @@ shown-kept sys state o output b f =
     let l : ack_count_of state o ≤ output.bound = (let e = b.bound in omega (arith, e)) in
     sym (b.recs output.bound ∙ kept-live sys state o output.bound f l)
 
-pub kept-acknowledged : KeptIsAcknowledged
+-- where it may by what is kept, it acknowledges its bound and shows the recs that are kept there
+pub kept-acknowledged : (sys : System) (state : Machine) (epochs : ℕ) → AreEpochs sys epochs
+    → (o : ℕ) (output : OutputState) → AreByNumber output.recs → IsOutputOf sys state o output → CanAcknowledge sys state epochs o output
+    → LeadsTo sys state (Ack o) (acknowledged_state state o output.bound) (acked o (output.bound ∷ []) (next_recs output))
 kept-acknowledged sys state epochs k o output n b c = (
   output.bound,
   kept-may sys state epochs k o output n b c,
@@ -317,7 +334,10 @@ kept-same : (sys : System) (state : Machine) (o x n : ℕ) → (x ≡ n → ⊥)
 unfolding kept_at
 kept-same sys state o x n k = ap (λ b. if is_failed state o || b then [] else sorted_recs (came sys state o x)) (not-below x n k)
 
-pub acknowledged-stands : AcknowledgedOutputStands
+-- then the output without the recs at its bound, which is one more, is what is kept
+pub acknowledged-stands : (sys : System) (state : Machine) → IsReached sys state → (o : ℕ) → o < length sys.flow.nodes
+    → (output : OutputState) → AreByNumber output.recs → IsOutputOf sys state o output
+    → IsOutputOf sys (acknowledged_state state o output.bound) o (acknowledged output)
 unfolding kept_at came
 acknowledged-stands sys state r o l output n b =
     let at : ack_count_of (acknowledged_state state o output.bound) o ≡ output.bound + 1 =
@@ -340,7 +360,8 @@ acknowledged-stands sys state r o l output n b =
 
 -- ---- the rest
 
-pub acknowledgement-keeps : AcknowledgementKeepsTheRest
+-- an acknowledgement leaves all other parts as they were
+pub acknowledgement-keeps : (sys : System) (state : Machine) (o x : ℕ) → KeepsAllButOutput sys state (acknowledged_state state o x) o
 unfolding kept_at came
 acknowledgement-keeps sys state o x =
     let at : (q : ℕ) → (q ≡ o → ⊥) → ack_count_of (acknowledged_state state o x) q ≡ ack_count_of state q = λ q k. get_or-set_other state.ack_counts o q (x + 1) 0 k in

@@ -1,5 +1,5 @@
 -- What is left of each part where the low watermark rises.
-use Rattle.std.proofs.Common.{Bool, List, [], ap, arith, cond, filter, inl, inr, length, map, nat_le, nat_lt, not, refl, subst, sym, true, ℕ, ◌&&◌, ◌+◌, ◌∙◌, ◌∷◌, ◌≡◌, ◌≤◌}
+use Rattle.std.proofs.Common.{Bool, List, [], ap, arith, cond, filter, inl, inr, length, map, nat_le, nat_lt, not, refl, subst, sym, true, ℕ, ◌&&◌, ◌+◌, ◌∙◌, ◌∷◌, ◌≡◌, ◌≤◌, ◌<◌, false, ◌≢◌}
 use Rattle.std.proofs.lemmas.Bool.{cases_Bool, cond-true, cond-false, and_right, lt-ltb, and_from, and_parts, le-leb}
 use Rattle.std.proofs.lemmas.List.{length-map}
 use Rattle.std.specs.List.{AllByRecursion, enumerate_from}
@@ -13,10 +13,11 @@ use Rattle.fw_flow.specs.declared.choice.Choice.{Choice}
 use Rattle.fw_flow.specs.declared.choice.Cut.{Cut}
 use Rattle.fw_flow.specs.declared.choice.Cut.TheVariants.{At}
 use Rattle.fw_flow.specs.declared.event.Message.{Message}
-use Rattle.fw_flow.specs.Dataflow.{System, kind_of, policy_of, sender, receiver, batches_of, bounds_of, bounds_of_edge, greatest_number}
+use Rattle.fw_flow.specs.Dataflow.{System, kind_of, policy_of, sender, receiver, batches_of, bounds_of, bounds_of_edge, greatest_number, is_input_kind}
 use Rattle.fw_flow.specs.Restoring.{can_resend}
 use Rattle.fw_flow.specs.WellFormed.{IsWellFormedSystem}
-use Rattle.fw_model.specs.Choice.{kept, ever, is_counted, IsLogged, IsCutWithin}
+use Rattle.fw_flow.specs.declared.step.Step.TheVariants.{Collect}
+use Rattle.fw_model.specs.Choice.{kept, ever, is_counted, IsLogged, IsCutWithin, IsWatermark}
 use Rattle.fw_model.specs.Filtering.{messages_outside}
 use Rattle.fw_model.specs.History.{sent_messages}
 use Rattle.fw_model.specs.Machine.{Machine, Write, Written, checkpoint, logged_event, Stage, events, family_of, front_of, is_failed}
@@ -24,37 +25,54 @@ use Rattle.fw_model.specs.Reached.{IsReached}
 use Rattle.fw_model.specs.Writes.{takes_checkpoints}
 use Rattle.fw_policy.specs.View.{base_of}
 use Rattle.fw_model.specs.SortedMessages.{sorted_messages}
-use Rattle.fw_model.specs.Steps.{after_collection, lies_below, front_of_cut}
+use Rattle.fw_model.specs.Steps.{after_collection, lies_below, front_of_cut, LeadsTo, lows}
 use Rattle.fw_model.proofs.ChoiceLaws.{bounds-input, largest-one}
 use Rattle.fw_model.proofs.ChoosingLaws.{largest-holds_low, reached}
 use Rattle.fw_model.proofs.SameInsideLaws.{low_length}
 use Rattle.fw_model.proofs.DomainLaws.{edge-bounds, has_epochs}
 use Rattle.fw_model.proofs.LegalLaws.{legal_messages-in_domain}
 use Rattle.fw_model.proofs.LowLaws.{input-is, watermark-front}
-use Rattle.fw_collect.specs.Drops.{watermark}
-use Rattle.fw_collect.specs.Dropped.{is_inside_edge}
+use Rattle.fw_model.specs.Auto.{IsIdle}
+use Rattle.fw_collect.specs.Drops.{watermark, IsPlanned}
+use Rattle.fw_collect.specs.Dropped.{is_inside_edge, source_left, log_left}
 use Rattle.fw_collect.proofs.CollectLaws.{logs_hold_what_is_outside, inputs_hold_what_is_outside}
-use Rattle.fw_progress.specs.Trace.{IsTraceOf}
-use Rattle.fw_stands.specs.LawsOfCollecting.{collected_state, SameLowIsIdle, OtherLowIsCollected, LowRises, FrontsAreOneEach, CollectedLogsStand, CollectedSourcesStand, CollectedTracesStand, TracesWithCheckpointsStay, AllCollectedTracesStand, CollectionKeepsTheRest}
+use Rattle.fw_collect.specs.LawsOfCollections.{RisesTo}
+use Rattle.fw_collect.specs.declared.drops.Drops.{Drops}
+use Rattle.fw_progress.specs.Trace.{IsTraceOf, AreSettledTo}
+use Rattle.fw_progress.specs.declared.traces.Traces.{Traces}
+use Rattle.fw_stands.specs.Collecting.{collected_state, KeepsAllButLow, HaveOneEach}
 use Rattle.fw_stands.proofs.AtReached.{reached-legal}
 use Rattle.fw_stands.proofs.SettlingLaws.{base-low, base-settled, settled_to-base, trace-settled}
 use Rattle.fw_stands.proofs.LossLaws.{counts-collected}
+use Rattle.fw_stands.specs.Settling.{AreSettledAt}
+use Rattle.fw_stands.specs.Parts.{IsTraceIn, IsSourceOf, logged}
+use Rattle.fw_keep.specs.declared.entry.Entry.{Entry}
+use Rattle.fw_border.specs.Sources.{SourceState}
+use Rattle.fw_edge.specs.Messages.{MessagesState}
 
 -- ---- the step
 
-pub same_low-idle : SameLowIsIdle
+-- where the fronts of the watermark are the low ones, a collection is idle
+pub same_low-idle : (sys : System) (state : Machine) (choice : Choice) → IsWatermark sys state choice → watermark choice ≡ state.low
+    → IsIdle sys state Collect
 same_low-idle sys state choice m e next effect t =
     t.2 (ap (λ (c : Choice). watermark c) (largest-one sys state (λ p. true) kept t.0 choice t.1 m) ∙ e)
 
-pub other_low-collected : OtherLowIsCollected
+-- where they are not, it leads to the state in which they are
+pub other_low-collected : (sys : System) (state : Machine) (choice : Choice) → IsWatermark sys state choice → watermark choice ≢ state.low
+    → LeadsTo sys state Collect (collected_state sys state (watermark choice)) (lows choice)
 other_low-collected sys state choice m e = (choice, m, e, refl, refl)
 
-pub low-rises : LowRises
+-- the low watermark rises to the watermark
+pub low-rises : (sys : System) → IsWellFormedSystem sys → (state : Machine) → IsReached sys state → (choice : Choice) → IsWatermark sys state choice
+    → RisesTo sys.flow state.low (watermark choice)
 low-rises sys w state r choice m p l =
     subst (λ (cut : Cut). IsCutWithin sys.flow p (At (front_of state.low p)) cut) (sym (watermark-front sys state choice m.consistent p l))
     (largest-holds_low sys w r.0 r.1 state r.2 (λ q. true) kept choice m p l)
 
-pub fronts-one_each : FrontsAreOneEach
+-- in each reached state there is one low front for each node, and one front of the watermark
+pub fronts-one_each : (sys : System) → IsWellFormedSystem sys → (state : Machine) → IsReached sys state
+    → (choice : Choice) → IsWatermark sys state choice → HaveOneEach sys state choice
 fronts-one_each sys w state r choice m =
     let f = reached sys w r.0 r.1 state r.2 in
     record {
@@ -72,7 +90,11 @@ sent-in_domain sys w state r e =
     (sent_messages sys (events state.history) e) (λ m i. sym (edge-bounds sys.flow w.flow e m.at) ∙ i)
     (legal_messages-in_domain sys (events state.history) w.flow (has_epochs sys w) (reached-legal sys state w r) e)
 
-pub collected_logs-stand : CollectedLogsStand
+-- a log that holds what is logged holds, without what is given up, what is logged after the collection
+pub collected_logs-stand : (sys : System) → IsWellFormedSystem sys → (state : Machine) → IsReached sys state
+    → (low : List Front) → RisesTo sys.flow state.low low → (entries : List Entry) (drops : Drops) → IsPlanned sys.flow low entries drops
+    → (e : ℕ) → e < length sys.flow.edges → (log : MessagesState) → log.messages ≡ logged sys state e
+    → (log_left drops.messages.items e log).messages ≡ logged sys (collected_state sys state low) e
 collected_logs-stand sys w state r low rises entries drops is e l log held =
     let p = receiver sys.flow e in
     let resends = can_resend (policy_of sys.flow (sender sys.flow e)) in
@@ -110,7 +132,11 @@ same-outside bounds f (b ∷ bs) d =
     ap (λ xs. cond (not (inside f (b.0 ∷ []))) (b ∷ xs) xs) (same-outside bounds f bs d.1)
     ∙ ap (λ t. cond (not (t && inside f (b.0 ∷ []))) (b ∷ rest) rest) (sym d.0)
 
-pub collected_sources-stand : CollectedSourcesStand
+-- an input without the batches that are given up is that of the state after the collection
+pub collected_sources-stand : (sys : System) → IsWellFormedSystem sys → (state : Machine)
+    → (low : List Front) → RisesTo sys.flow state.low low → (entries : List Entry) (drops : Drops) → IsPlanned sys.flow low entries drops
+    → (s : ℕ) → s < length sys.flow.nodes → is_input_kind (kind_of sys.flow s) ≡ true → (source : SourceState) → IsSourceOf sys state s source
+    → IsSourceOf sys (collected_state sys state low) s (source_left drops.batches.items s source)
 collected_sources-stand sys w state low rises entries drops is s l input source t =
     let bounds = bounds_of sys.flow s in
     let batches = enumerate_from 0 (batches_of sys s) in
@@ -126,19 +152,30 @@ collected_sources-stand sys w state low rises entries drops is s l input source 
 
 -- ---- traces
 
-pub collected_traces-stand : CollectedTracesStand
+-- the traces of a node that takes no checkpoints, settled to its new low watermark, are those of the state after the collection
+pub collected_traces-stand : (sys : System) → IsWellFormedSystem sys → (state : Machine) → IsReached sys state
+    → (low : List Front) → RisesTo sys.flow state.low low → (p : ℕ) → p < length sys.flow.nodes → takes_checkpoints (policy_of sys.flow p) ≡ false
+    → (old new : Traces) → AreSettledTo sys.flow p (front_of low p) old new
+    → IsTraceIn sys state p old → IsTraceIn sys (collected_state sys state low) p new
 collected_traces-stand sys w state r low rises p l c old new a t =
     let next = collected_state sys state low in
     subst (λ f. IsTraceOf sys (events state.history) p f new) (sym (base-low sys next p c))
     (settled_to-base sys w state r p (front_of low p) old new a
     (subst (λ f. Within f (family_of sys.flow low p)) (sym (base-low sys state p c)) (rises p l)) t)
 
-pub traces_with_checkpoints-stay : TracesWithCheckpointsStay
+-- the traces of a node that takes checkpoints are those of the state after the collection
+pub traces_with_checkpoints-stay : (sys : System) (state : Machine) (low : List Front) (p : ℕ) → takes_checkpoints (policy_of sys.flow p) ≡ true
+    → (traces : Traces) → IsTraceIn sys state p traces → IsTraceIn sys (collected_state sys state low) p traces
 traces_with_checkpoints-stay sys state low p c traces t =
     let next = collected_state sys state low in
     subst (λ f. IsTraceOf sys (events state.history) p f traces) (base-settled sys state p c ∙ sym (base-settled sys next p c)) t
 
-pub all_collected_traces-stand : AllCollectedTracesStand
+-- where the traces of the nodes that take no checkpoints are settled to their new low watermarks, the traces are those of the state
+-- after the collection
+pub all_collected_traces-stand : (sys : System) → IsWellFormedSystem sys → (state : Machine) → IsReached sys state
+    → (low : List Front) → RisesTo sys.flow state.low low → (old new : Traces)
+    → AreSettledAt sys.flow (λ p. nat_lt p (length sys.flow.nodes) && not (takes_checkpoints (policy_of sys.flow p))) low old new
+    → (p : ℕ) → p < length sys.flow.nodes → IsTraceIn sys state p old → IsTraceIn sys (collected_state sys state low) p new
 all_collected_traces-stand sys w state r low rises old new a p l t =
     let next = collected_state sys state low in
     let there = nat_lt p (length sys.flow.nodes) in
@@ -180,7 +217,8 @@ staged-logged serial stage [] e l = l
 staged-logged serial stage (x ∷ writes) e l =
     logged-one serial x.node x.written (stage x) x.stage (map (staged stage) writes) writes (sym (e x)) (staged-logged serial stage writes e) l
 
-pub collection-keeps : CollectionKeepsTheRest
+-- a collection leaves tables, queues, outputs and what is lost as they were
+pub collection-keeps : (sys : System) (state : Machine) (low : List Front) → KeepsAllButLow sys state (collected_state sys state low)
 unfolding staged
 collection-keeps sys state low =
     let stage : Write → Stage = λ write. after_collection (lies_below sys low state.history write.node write.written) write.stage in

@@ -1,19 +1,18 @@
 -- What a collection takes of entries and records.
-use Rattle.std.proofs.Common.{◌≡◌, ◌↔◌, ℕ, ◌<◌, Bool, true, false, not, ◌&&◌, ◌||◌, ◌==◌, List, [], ◌∷◌, filter, map, refl, sym, ap, subst, ◌∙◌, inl, inr, arith}
+use Rattle.std.proofs.Common.{◌≡◌, ℕ, ◌<◌, Bool, true, false, not, ◌&&◌, ◌||◌, ◌==◌, List, [], ◌∷◌, filter, map, refl, sym, ap, subst, ◌∙◌, inl, inr, arith, Option}
 use Rattle.std.specs.List.{AllByRecursion, AllZip, list_any}
-use Rattle.std.proofs.lemmas.Bool.{eqb-true, eq-eqb, or_left, or_right, false_from_ne_true}
-use Rattle.fw_time.proofs.EachLaws.{each-weaker, each-kept}
+use Rattle.std.proofs.lemmas.Bool.{eqb-true, eq-eqb, false_from_ne_true}
+use Rattle.fw_time.proofs.EachLaws.{each-kept}
 use Rattle.fw_frontier.specs.Front.{Front, is_within}
 use Rattle.fw_flow.specs.declared.step.Step.TheVariants.{Collect}
 use Rattle.fw_flow.specs.Dataflow.{System, Dataflow}
 use Rattle.fw_flow.specs.NodeFunction.{event_node, event_stamp}
 use Rattle.fw_flow.specs.WellFormed.{IsWellFormedSystem}
-use Rattle.fw_model.specs.Choice.{kept, is_counted}
-use Rattle.fw_model.specs.Machine.{Machine, SerialEvent, Write, Stage, in_flight, acknowledged, collected, checkpoint, logged_event, front_of}
+use Rattle.fw_model.specs.Machine.{Machine, SerialEvent, Write, Stage, checkpoint, logged_event, front_of}
 use Rattle.fw_model.specs.Machine.{Written as WrittenBy}
 use Rattle.fw_model.specs.Reached.{IsReached}
 use Rattle.fw_model.specs.Steps as steps
-use Rattle.fw_model.specs.Steps.{Effect, LeadsTo, front_of_cut, is_given_up, is_in_flight, has_serial, collected_writes}
+use Rattle.fw_model.specs.Steps.{Effect, LeadsTo, front_of_cut, is_given_up}
 use Rattle.fw_model.specs.Writes.{not_collected}
 use Rattle.fw_model.proofs.AskedLaws.{AreSerialsBelow, serials-each, IsAskedWell, IsWriteAskedWell, reached-all}
 use Rattle.fw_model.proofs.ForgottenLaws.{forgotten-acknowledged}
@@ -21,18 +20,19 @@ use Rattle.fw_record.specs.declared.record.Event.{Event}
 use Rattle.fw_keep.specs.declared.entry.Entry.{Entry}
 use Rattle.fw_keep.specs.declared.entry.Written.{Written}
 use Rattle.fw_keep.specs.declared.entry.Written.TheVariants as written
-use Rattle.fw_keep.specs.Entry.{stamp_of}
+use Rattle.fw_keep.specs.Stored.{Records}
+use Rattle.fw_record.specs.Event.{stamp_of_event}
 use Rattle.fw_collect.specs.declared.drops.Drops.{Drops}
 use Rattle.fw_collect.specs.Drops.{IsPlanned}
 use Rattle.fw_collect.specs.Dropped.{is_dropped}
-use Rattle.fw_collect.specs.LawsOfCollections as collections
 use Rattle.fw_collect.specs.LawsOfCollections.{is_written_given_up}
-use Rattle.fw_collect.proofs.CollectLaws.{drops_what_is_given_up, left_side_by_side}
-use Rattle.fw_stands.specs.Written.{IsToldAs, HasEventTold, Holds, IsEntryOf, uncollected, IsHeldAs}
-use Rattle.fw_stands.specs.LawsOfEntries.{EntriesCanBeCollected, EntriesAfterCollection, RecordsAfterCollection}
+use Rattle.fw_collect.proofs.CollectLaws.{drops_what_is_collected}
+use Rattle.fw_stands.specs.Written.{IsToldAs, HasEventTold, Holds, IsEntryOf, uncollected, IsHeldAs, AreStored}
 use Rattle.fw_stands.proofs.SideBySide.{zip-weaker, zip-right, zip-both}
 use Rattle.fw_stands.proofs.WrittenStays.{told-below}
-use Rattle.fw_stands.proofs.EntrySteps.{told-stamp, IsKeptAs, entries-stay, records-stay, left-stay}
+use Rattle.fw_policy.proofs.UnloggedLaws.{told-stamp}
+use Rattle.fw_policy.specs.Entries.{AreEntriesOf}
+use Rattle.fw_stands.proofs.EntrySteps.{IsKeptAs, entries-stay, records-stay, left-stay}
 
 -- ---- the event of a serial
 
@@ -72,59 +72,8 @@ given-same sys state low p far o (written.Checkpoint r t n) (logged_event s) w h
 given-same sys state low p far o (written.Event event) (checkpoint f l) w h = absurd h
 given-same sys state low p far o (written.Event event) (logged_event s) w h =
     sym (serial-any sys.flow p s state.next event (λ v. is_given_up sys low (event_node sys.flow v.event) (event_stamp v.event))
-    (is_given_up sys low p (stamp_of event)) state.history o
+    (is_given_up sys low p (stamp_of_event event)) state.history o
     (λ v a. ap (λ q. is_given_up sys low q (event_stamp v.event)) a.node ∙ ap (is_given_up sys low p) (sym (told-stamp v.event event a.told))) h)
-
--- ---- as a collection looks
-
-has-told : (flow : Dataflow) (p s : ℕ) (event : Event) (h : List SerialEvent) → HasEventTold flow p s event h → has_serial s h ≡ true
-has-told flow p s event [] a = absurd a
-has-told flow p s event (v ∷ h) (inl a) = or_left (v.serial == s) (has_serial s h) (eq-eqb v.serial s a.same_serial)
-has-told flow p s event (v ∷ h) (inr a) = or_right (v.serial == s) (has_serial s h) (has-told flow p s event h a)
-
-only-told : (flow : Dataflow) (p s n : ℕ) (event : Event) (h : List SerialEvent) → AreSerialsBelow n h → HasEventTold flow p s event h
-    → AllByRecursion (λ (v : SerialEvent). v.serial ≡ s → (event_node flow v.event ≡ p) × (event_stamp v.event ≡ stamp_of event)) h
-only-told flow p s n event [] o a = tt
-only-told flow p s n event (v ∷ h) o (inl a) = (
-  λ e. (a.node, sym (told-stamp v.event event a.told)),
-  each-weaker (λ (u : SerialEvent). u.serial < v.serial) (λ u. u.serial ≡ s → (event_node flow u.event ≡ p) × (event_stamp u.event ≡ stamp_of event)) h
-      (λ u l e. let k = a.same_serial in absurd (omega arith)) (serials-each v.serial v.serial h (omega arith) o.1),
-)
-only-told flow p s n event (v ∷ h) o (inr a) = (
-  λ e. let l = told-below flow p s v.serial event h o.1 a in absurd (omega arith),
-  only-told flow p s v.serial event h o.1 a,
-)
-
-written-collected : (sys : System) (state : Machine) (p : ℕ) (far : Stage) → AreSerialsBelow state.next state.history → (entry : Written) (what : WrittenBy)
-    → IsAskedWell sys state.low state.next state.history p what far → Holds sys state p entry what → collections.IsWrittenOf sys state.history p entry what
-written-collected sys state p far o (written.Checkpoint r s n) (checkpoint f l) w h = ((h.recorded).front, w.0)
-written-collected sys state p far o (written.Checkpoint r t n) (logged_event s) w h = absurd h
-written-collected sys state p far o (written.Event event) (checkpoint f l) w h = absurd h
-written-collected sys state p far o (written.Event event) (logged_event s) w h =
-    record { there = has-told sys.flow p s event state.history h; only = only-told sys.flow p s state.next event state.history o h }
-
-counts-kept : (far : Stage) → (is_counted kept far ≡ true) ↔ (far ≡ acknowledged)
-counts-kept in_flight = ((λ e. absurd cc), λ e. absurd cc)
-counts-kept acknowledged = ((λ e. refl), λ e. refl)
-counts-kept collected = ((λ e. absurd cc), λ e. absurd cc)
-
-entry-collected : (sys : System) (state : Machine) → AreSerialsBelow state.next state.history → (e : Entry) (x : Write)
-    → IsWriteAskedWell sys state.low state.next state.history x → IsEntryOf sys state e x → collections.IsEntryOf sys state.history e x
-entry-collected sys state o e x w i =
-    let counts = counts-kept x.stage in
-    record {
-      node = i.node;
-      progress = ((λ k. counts.0 (sym i.acknowledged ∙ k)), λ k. i.acknowledged ∙ counts.1 k);
-      holds = subst (λ p. collections.IsWrittenOf sys state.history p e.written x.written) (sym i.node)
-          (written-collected sys state x.node x.stage o e.written x.written w i.holds);
-    }
-
-pub entries_can_be_collected : EntriesCanBeCollected
-entries_can_be_collected sys w state r es a =
-    let f = (reached-all sys w r.0 r.1 state r.2).restore in
-    let W : Write → Type 0 = IsWriteAskedWell sys state.low state.next state.history in
-    zip-right W (IsEntryOf sys state) (collections.IsEntryOf sys state.history) es (uncollected state) (λ e x b i. entry-collected sys state f.serials e x b i)
-    (each-kept W not_collected state.writes f.asked) a
 
 -- ---- what is left
 
@@ -136,27 +85,35 @@ collected-left sys w state r next effect t R entry es drops is a =
     let low : List Front = map front_of_cut t.0.cuts in
     let W : Write → Type 0 = IsWriteAskedWell sys state.low state.next state.history in
     let S : Entry → Write → Type 0 = λ e x. W x × R e x in
-    let below : Write → Bool = λ x. steps.lies_below sys low state.history x.node x.written in
     let planned = subst (λ l. IsPlanned sys.flow l es drops) (ap (λ (m : Machine). m.low) t.3) is in
     let left = filter (λ e. not (is_dropped drops e)) es in
     zip-weaker S R left (uncollected next) (λ e x s. s.1)
     (subst (λ xs. AllZip S left (filter not_collected xs)) (sym (ap (λ (m : Machine). m.writes) t.3))
-    (left_side_by_side S (is_dropped drops) below es state.writes
-    (each-weaker (λ (e : Entry). is_dropped drops e ≡ is_written_given_up sys.flow low e.node e.written)
-    (λ (e : Entry). (x : Write) → S e x → is_dropped drops e ≡ below x) es
-    (λ e k x s.
+    (drops_what_is_collected S sys state.history low
+    (λ e x s.
     let i = entry e x s.1 in
-    k ∙ ap (λ p. is_written_given_up sys.flow low p e.written) i.node ∙ given-same sys state low x.node x.stage f.serials e.written x.written s.0 i.holds)
-    (drops_what_is_given_up sys.flow low es drops planned))
-    (forgotten-acknowledged sys w r.0 r.1 state r.2 t.0 t.1)
-    (zip-right W R S es (uncollected state) (λ e x b s. (b, s)) (each-kept W not_collected state.writes f.asked) a)))
+    ap (λ p. is_written_given_up sys.flow low p e.written) i.node ∙ given-same sys state low x.node x.stage f.serials e.written x.written s.0 i.holds)
+    es drops state.writes planned
+    (zip-right W R S es (uncollected state) (λ e x b s. (b, s)) (each-kept W not_collected state.writes f.asked) a)
+    (forgotten-acknowledged sys w r.0 r.1 state r.2 t.0 t.1)))
 
-pub entries_after_collection : EntriesAfterCollection
+-- the entries go that are planned to go, where the low watermark rises to the one of the next state
+pub entries_after_collection : (sys : System) → IsWellFormedSystem sys → (state : Machine) → IsReached sys state
+    → (next : Machine) (effect : Effect) → LeadsTo sys state Collect next effect
+    → (entries : List Entry) → AreEntriesOf sys state entries (uncollected state)
+    → (drops : Drops) → IsPlanned sys.flow next.low entries drops
+    → AreEntriesOf sys next (filter (λ e. not (is_dropped drops e)) entries) (uncollected next)
 entries_after_collection sys w state r next effect t es a drops is =
     entries-stay sys state next (filter (λ e. not (is_dropped drops e)) es) (uncollected next) (left-stay sys w state r Collect next effect t)
     (collected-left sys w state r next effect t (IsEntryOf sys state) (λ e x i. i) es drops is a)
 
-pub records_after_collection : RecordsAfterCollection
+-- and the records of those that are left are stored
+pub records_after_collection : (sys : System) → IsWellFormedSystem sys → (state : Machine) → IsReached sys state
+    → (next : Machine) (effect : Effect) → LeadsTo sys state Collect next effect
+    → (entries : List Entry) → AreEntriesOf sys state entries (uncollected state)
+    → (records : Option Records) → AreStored sys state records entries (uncollected state)
+    → (drops : Drops) → IsPlanned sys.flow next.low entries drops
+    → AreStored sys next records (filter (λ e. not (is_dropped drops e)) entries) (uncollected next)
 records_after_collection sys w state r next effect t es a all s drops is =
     let left = filter (λ e. not (is_dropped drops e)) es in
     records-stay sys state next all left (uncollected next) (left-stay sys w state r Collect next effect t)

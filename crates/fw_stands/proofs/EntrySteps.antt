@@ -16,13 +16,12 @@ use Rattle.fw_flow.specs.declared.choice.Cut.{Cut}
 use Rattle.fw_flow.specs.declared.choice.Cut.TheVariants.{Present, At}
 use Rattle.fw_flow.specs.declared.choice.Stamps.{Stamps}
 use Rattle.fw_flow.specs.declared.event.Event.{Event as Happened}
-use Rattle.fw_flow.specs.declared.event.Event.TheVariants.{Inject as Injected, Deliver as Delivered, Notify as Notified}
 use Rattle.fw_flow.specs.declared.kind.Kind.{Kind}
 use Rattle.fw_flow.specs.declared.kind.Kind.TheVariants.{Input}
 use Rattle.fw_flow.specs.declared.kind.Policy.{Policy}
 use Rattle.fw_flow.specs.declared.kind.Policy.TheVariants as policy
 use Rattle.fw_flow.specs.declared.step.Step.{Step}
-use Rattle.fw_flow.specs.declared.step.Step.TheVariants.{Persist, Fail, Recover}
+use Rattle.fw_flow.specs.declared.step.Step.TheVariants.{Persist, Fail, Recover, Inject, Progress as ProgressStep}
 use Rattle.fw_flow.specs.Dataflow.{System, Dataflow, kind_of, policy_of, bounds_of, node_ids, is_one_of, is_input_kind}
 use Rattle.fw_flow.specs.NodeFunction.{event_node, event_stamp}
 use Rattle.fw_flow.specs.WellFormed.{IsWellFormedSystem, IsPolicyAllowed}
@@ -31,7 +30,7 @@ use Rattle.fw_model.specs.Covers.{set_of}
 use Rattle.fw_model.specs.Machine.{Machine, SerialEvent, Write, Stage, in_flight, acknowledged, collected, checkpoint, logged_event, events, front_of}
 use Rattle.fw_model.specs.Machine.{Written as WrittenBy}
 use Rattle.fw_model.specs.Reached.{IsReached}
-use Rattle.fw_model.specs.Steps.{Effect, cuts, LeadsTo, with_event, write_of_event, eager_writes, is_eager, checkpoint_of, is_in_flight, AcknowledgesOldest, has_serial, is_kept_write}
+use Rattle.fw_model.specs.Steps.{Effect, cuts, LeadsTo, with_event, write_of_event, eager_writes, is_eager, checkpoint_of, is_in_flight, AcknowledgesOldest, has_serial, is_kept_write, silent}
 use Rattle.fw_model.specs.Writes.{is_collected, not_collected}
 use Rattle.fw_model.proofs.AskedLaws.{AreSerialsBelow, serials-each, reached-all}
 use Rattle.fw_model.proofs.Decisions.{two_ways}
@@ -40,7 +39,6 @@ use Rattle.fw_model.proofs.FilterLaws.{filter-in, filter-out, filter-all, filter
 use Rattle.fw_model.proofs.LegalLaws.{legal-in_domain}
 use Rattle.fw_model.proofs.RestoringLaws.{full-declared}
 use Rattle.fw_record.specs.declared.record.Event.{Event}
-use Rattle.fw_record.specs.declared.record.Event.TheVariants as told_event
 use Rattle.fw_record.specs.declared.record.Record.{Record}
 use Rattle.fw_record.specs.declared.record.Record.TheVariants as tagged
 use Rattle.fw_record.specs.Sound.{IsSound}
@@ -48,14 +46,16 @@ use Rattle.fw_record.specs.Spelling.{spelling}
 use Rattle.fw_keep.specs.declared.entry.Entry.{Entry}
 use Rattle.fw_keep.specs.declared.entry.Written.{Written}
 use Rattle.fw_keep.specs.declared.entry.Written.TheVariants as written
-use Rattle.fw_keep.specs.Catalogue.{oldest, persisted}
-use Rattle.fw_keep.specs.Entry.{is_withdrawn, asked, node_of, written_of, is_lost, lies_within, stamp_of}
+use Rattle.fw_keep.specs.Catalogue.{oldest, persisted, ids_of}
+use Rattle.fw_record.specs.Event.{stamp_of_event}
+use Rattle.fw_keep.specs.Entry.{is_withdrawn, asked, node_of, written_of, is_lost, lies_within, is_beyond, IsRecordOf}
 use Rattle.fw_keep.specs.Stored.{Records, KeepsBytes}
 use Rattle.fw_record.proofs.RecordLaws.{one_spelling_lem}
 use Rattle.fw_keep.proofs.StoredLaws.{equal_by_cmp}
 use Rattle.fw_stands.specs.Written.{told_of, IsToldAs, HasEventTold, Holds, IsEntryOf, AreEntriesOf, uncollected, IsRecordFor, IsHeldAs, AreHeld, AreStored}
-use Rattle.fw_stands.specs.LawsOfEntries.{StaysWritten, HasStamps, AskedEntryIsOfWrite, PutRecordIsStored, ReadRecordsAreOfWrites, KeptBytesAreStored, entries_of_event, EntriesAfterEvent, RecordsAfterLoggedEvent, RecordsAfterOtherEvent, InjectionsAreNotLogged, EntriesAfterStep, RecordsAfterStep, EntriesAfterAsking, RecordsAfterAsking, ProgressAsks, EntriesAfterPersist, RecordsAfterPersist, PersistsWhereInFlight, is_lost_of, LosesOneByOne, WithdrawnAreTheLast, EntriesAfterFailure, RecordsAfterFailure, is_beyond, is_undone, EntriesAfterRecovery, RecordsAfterRecovery}
+use Rattle.fw_stands.specs.Entries.{StaysWritten, HasStamps, entries_of_event, is_lost_of, without_lost_of}
 use Rattle.fw_stands.proofs.SideBySide.{zip-weaker, zip-left, zip-right, zip-both, zip-append, zip-gone, each-there}
+use Rattle.fw_policy.proofs.UnloggedLaws.{told-stamp}
 use Rattle.fw_stands.proofs.WrittenStays.{told-below, what_is_written_stays}
 
 -- ---- what stands for a write that stays
@@ -95,7 +95,10 @@ of-record sys state p (checkpoint f low) (tagged.Event q event) stamps h s = abs
 of-record sys state p (logged_event n) (tagged.State c) stamps h s = absurd h
 of-record sys state p (logged_event n) (tagged.Event q event) stamps h s = (h.0, h.1)
 
-pub asked_entry_is_of_write : AskedEntryIsOfWrite
+-- the entry that is asked by the record of a write in flight is one of the write
+pub asked_entry_is_of_write : (sys : System) (state : Machine) (write : Write) → write.stage ≡ in_flight → (id : ℕ) (r : Record) (stamps : Stamps)
+    → IsRecordFor sys state write.node write.written r → HasStamps sys state write.node write.written stamps
+    → IsEntryOf sys state (asked id r stamps) write
 asked_entry_is_of_write sys state x flies id r stamps h s =
     let o = of-record sys state x.node x.written r stamps h s in
     record { node = o.0; acknowledged = ap (is_counted kept) (sym flies); holds = o.1 }
@@ -113,7 +116,10 @@ held-again sys state es xs old new k =
     let o = h.of_entry in
     record { what = h.what; of_entry = record { sound = o.sound; of_entry = o.of_entry; bytes = b ∙ o.bytes }; of_write = h.of_write }) (bytes-each es old new k)
 
-pub kept_bytes_are_stored : KeptBytesAreStored
+-- where the bytes of the entries stay, their records are stored still
+pub kept_bytes_are_stored : (sys : System) (state : Machine) (entries : List Entry) (writes : List Write)
+    → (old new : Option Records) (change : Records → Records) → new ≡ option_map change old → KeepsBytes entries old new
+    → AreStored sys state old entries writes → AreStored sys state new entries writes
 kept_bytes_are_stored sys state es xs old new change is k a = λ held f. by old is k a held f
   where
     by : (old : Option Records) → new ≡ option_map change old → KeepsBytes es old new → AreStored sys state old es xs → (held : Records) → new ≡ Some held
@@ -130,13 +136,22 @@ under-put (Some first) id bytes new held is f =
     ap (λ (m : Records). map_of.get m id) (sym e) ∙ get-insert nat_cmp_total first id bytes id
     ∙ ap (λ b. cond b (Some bytes) (map_of.get first id)) (equal_by_cmp id id ∙ eq-eqb id id refl)
 
-pub put_record_is_stored : PutRecordIsStored
+-- where the record of a write is put under an id, and the bytes of the entries before it stay, it is stored with theirs
+pub put_record_is_stored : (sys : System) (state : Machine) (entries : List Entry) (writes : List Write) (write : Write)
+    → (id : ℕ) (r : Record) (stamps : Stamps)
+    → (old new : Option Records) → AreStored sys state old entries writes → KeepsBytes entries old new
+    → new ≡ option_map (λ held. map_of.insert held id (spelling r)) old → IsSound r → IsRecordFor sys state write.node write.written r
+    → IsRecordOf sys.flow (asked id r stamps) r → AreStored sys state new (entries ++ asked id r stamps ∷ []) (writes ++ write ∷ [])
 put_record_is_stored sys state es xs x id r stamps old new a k is sound of fits = λ held f.
     zip-append (λ (e : Entry) (y : Write). IsHeldAs sys state held e y) es xs (asked id r stamps ∷ []) (x ∷ [])
     (kept_bytes_are_stored sys state es xs old new (λ (m : Records). map_of.insert m id (spelling r)) is k a held f)
     (record { what = r; of_entry = record { sound = sound; of_entry = fits; bytes = under-put old id (spelling r) new held is f }; of_write = of }, tt)
 
-pub read_records_are_of_writes : ReadRecordsAreOfWrites
+-- a record that is read under the id of an entry is that of its write
+pub read_records_are_of_writes : (sys : System) (state : Machine) (held : Records) (entries : List Entry) (writes : List Write)
+    → AreHeld sys state held entries writes
+    → AllZip (λ (entry : Entry) (write : Write). (r : Record) → IsSound r → map_of.get held entry.id ≡ Some (spelling r)
+    → IsRecordFor sys state write.node write.written r) entries writes
 read_records_are_of_writes sys state held es xs =
     zip-weaker (IsHeldAs sys state held)
     (λ (e : Entry) (x : Write). (r : Record) → IsSound r → map_of.get held e.id ≡ Some (spelling r) → IsRecordFor sys state x.node x.written r) es xs
@@ -166,7 +181,12 @@ first-stay sys state next xs more e a = each-prefix (λ (x : Write). StaysWritte
 later-stay : (sys : System) (state next : Machine) (xs more : List Write) → uncollected next ≡ xs ++ more → AllStay sys state next (uncollected next) → AllStay sys state next more
 later-stay sys state next xs more e a = each-suffix (λ (x : Write). StaysWritten sys state next x.node x.written) xs more (subst (AllStay sys state next) e a)
 
-pub entries_after_asking : EntriesAfterAsking
+-- a step that asks writes adds the entries of them, which stand for what is written in the state before
+pub entries_after_asking : (sys : System) → IsWellFormedSystem sys → (state : Machine) → IsReached sys state
+    → (step : Step) (next : Machine) (effect : Effect) → LeadsTo sys state step next effect
+    → (writes : List Write) → next.writes ≡ state.writes ++ writes → AllByRecursion (λ (write : Write). write.stage ≡ in_flight) writes
+    → (entries more : List Entry) → AreEntriesOf sys state entries (uncollected state) → AreEntriesOf sys state more writes
+    → AreEntriesOf sys next (entries ++ more) (uncollected next)
 entries_after_asking sys w state r step next effect t asks e fly es more a b =
     let is = left-asked next state.writes asks e fly in
     let stays = left-stay sys w state r step next effect t in
@@ -175,13 +195,21 @@ entries_after_asking sys w state r step next effect t asks e fly es more a b =
     (entries-stay sys state next es (uncollected state) (first-stay sys state next (uncollected state) asks is stays) a)
     (entries-stay sys state next more asks (later-stay sys state next (uncollected state) asks is stays) b))
 
-pub records_after_asking : RecordsAfterAsking
+-- and the records of them are stored with the others
+pub records_after_asking : (sys : System) → IsWellFormedSystem sys → (state : Machine) → IsReached sys state
+    → (step : Step) (next : Machine) (effect : Effect) → LeadsTo sys state step next effect
+    → (writes : List Write) → next.writes ≡ state.writes ++ writes → AllByRecursion (λ (write : Write). write.stage ≡ in_flight) writes
+    → (entries more : List Entry) (records : Option Records) → AreStored sys state records (entries ++ more) (uncollected state ++ writes)
+    → AreStored sys next records (entries ++ more) (uncollected next)
 records_after_asking sys w state r step next effect t asks e fly es more all a =
     let is = left-asked next state.writes asks e fly in
     records-stay sys state next all (es ++ more) (uncollected next) (left-stay sys w state r step next effect t)
     (subst (AreStored sys state all (es ++ more)) (sym is) a)
 
-pub progress_asks : ProgressAsks
+-- eager progress asks a checkpoint of each eager node that grows, at what is settled then
+pub progress_asks : (sys : System) (state next : Machine) (effect : Effect) → LeadsTo sys state ProgressStep next effect
+    → let writes = eager_writes sys state next.settled (node_ids sys.flow) in
+    (next.writes ≡ state.writes ++ writes) × AllByRecursion (λ (write : Write). write.stage ≡ in_flight) writes
 progress_asks sys state next effect t =
     let settled = ap (λ (m : Machine). m.settled) t.3 in
     let ask : List Front → List Write = λ fronts. eager_writes sys state fronts (node_ids sys.flow) in (
@@ -193,12 +221,19 @@ progress_asks sys state next effect t =
 
 -- ---- a step that leaves the writes
 
-pub entries_after_step : EntriesAfterStep
+-- entries stand for the writes after a step that leaves the writes as they are
+pub entries_after_step : (sys : System) → IsWellFormedSystem sys → (state : Machine) → IsReached sys state
+    → (step : Step) (next : Machine) (effect : Effect) → LeadsTo sys state step next effect → next.writes ≡ state.writes
+    → (entries : List Entry) → AreEntriesOf sys state entries (uncollected state) → AreEntriesOf sys next entries (uncollected next)
 entries_after_step sys w state r step next effect t e es a =
     entries-stay sys state next es (uncollected next) (left-stay sys w state r step next effect t)
     (subst (AreEntriesOf sys state es) (sym (ap (filter not_collected) e)) a)
 
-pub records_after_step : RecordsAfterStep
+-- and so are their records stored
+pub records_after_step : (sys : System) → IsWellFormedSystem sys → (state : Machine) → IsReached sys state
+    → (step : Step) (next : Machine) (effect : Effect) → LeadsTo sys state step next effect → next.writes ≡ state.writes
+    → (entries : List Entry) (records : Option Records) → AreStored sys state records entries (uncollected state)
+    → AreStored sys next records entries (uncollected next)
 records_after_step sys w state r step next effect t e es all a =
     records-stay sys state next all es (uncollected next) (left-stay sys w state r step next effect t)
     (subst (AreStored sys state all es) (sym (ap (filter not_collected) e)) a)
@@ -224,7 +259,13 @@ event-entries sys next p serial event told policy.Lazy id stamps = tt
 event-entries sys next p serial event told policy.Logged id stamps = tt
 event-entries sys next p serial event told policy.Eager id stamps = tt
 
-pub entries_after_event : EntriesAfterEvent
+-- an event adds its entry, where its node logs each event, and else none
+pub entries_after_event : (sys : System) → IsWellFormedSystem sys → (state : Machine) → IsReached sys state
+    → (step : Step) (next : Machine) (effect : Effect) → LeadsTo sys state step next effect
+    → (v : Happened) → next ≡ with_event sys state v → (event : Event) → told_of v ≡ Some event → (id : ℕ) (stamps : Stamps)
+    → (entries : List Entry) → AreEntriesOf sys state entries (uncollected state)
+    → let p = event_node sys.flow v in
+    AreEntriesOf sys next (entries ++ entries_of_event (policy_of sys.flow p) p id event stamps) (uncollected next)
 entries_after_event sys w state r step next effect t v e event told id stamps es a =
     let p = event_node sys.flow v in
     let asks = policy_of sys.flow p in
@@ -245,7 +286,14 @@ write-none : (asks : Policy) (p serial : ℕ) → (asks ≡ policy.Full → ⊥)
 write-none policy.Full p serial n = absurd (n refl)
 write-none asks p serial n = refl
 
-pub records_after_logged_event : RecordsAfterLoggedEvent
+-- its record is stored where it is put under the id, and the others are still
+pub records_after_logged_event : (sys : System) → IsWellFormedSystem sys → (state : Machine) → IsReached sys state
+    → (step : Step) (next : Machine) (effect : Effect) → LeadsTo sys state step next effect
+    → (v : Happened) → next ≡ with_event sys state v → policy_of sys.flow (event_node sys.flow v) ≡ policy.Full
+    → (event : Event) → told_of v ≡ Some event → (id : ℕ) (stamps : Stamps) → IsSound (tagged.Event (event_node sys.flow v) event)
+    → (entries : List Entry) (old new : Option Records) → AreStored sys state old entries (uncollected state)
+    → new ≡ option_map (λ held. map_of.insert held id (spelling (tagged.Event (event_node sys.flow v) event))) old → KeepsBytes entries old new
+    → AreStored sys next new (entries ++ asked id (tagged.Event (event_node sys.flow v) event) stamps ∷ []) (uncollected next)
 records_after_logged_event sys w state r step next effect t v e full event told id stamps sound es old new a is k =
     let p = event_node sys.flow v in
     let x : Write = record { node = p; written = logged_event state.next; stage = in_flight } in
@@ -258,7 +306,12 @@ records_after_logged_event sys w state r step next effect t v e full event told 
     (records-stay sys state next old es (uncollected state) (first-stay sys state next (uncollected state) (x ∷ []) left stays) a) k is sound
     (refl, told-now sys state next v event e told) refl)
 
-pub records_after_other_event : RecordsAfterOtherEvent
+-- the records are stored still where the node of the event does not log it
+pub records_after_other_event : (sys : System) → IsWellFormedSystem sys → (state : Machine) → IsReached sys state
+    → (step : Step) (next : Machine) (effect : Effect) → LeadsTo sys state step next effect
+    → (v : Happened) → next ≡ with_event sys state v → (policy_of sys.flow (event_node sys.flow v) ≡ policy.Full → ⊥)
+    → (entries : List Entry) (records : Option Records) → AreStored sys state records entries (uncollected state)
+    → AreStored sys next records entries (uncollected next)
 records_after_other_event sys w state r step next effect t v e other es all a =
     let p = event_node sys.flow v in
     records_after_step sys w state r step next effect t
@@ -268,7 +321,9 @@ input-none : (kind : Kind) (asks : Policy) → IsPolicyAllowed kind asks → is_
 input-none Input asks a i = a
 input-none kind asks a i = absurd cc
 
-pub injections_are_not_logged : InjectionsAreNotLogged
+-- an input does not log its events
+pub injections_are_not_logged : (sys : System) → IsWellFormedSystem sys → (state : Machine) (s : ℕ) (next : Machine) (effect : Effect)
+    → LeadsTo sys state (Inject s) next effect → next.writes ≡ state.writes
 injections_are_not_logged sys w state s next effect t =
     ap (λ (m : Machine). m.writes) t.3
     ∙ ap (λ xs. state.writes ++ xs) (write-none (policy_of sys.flow s) s state.next
@@ -353,13 +408,21 @@ held-too sys state held e x h =
     let o = h.of_entry in
     record { what = h.what; of_entry = record { sound = o.sound; of_entry = o.of_entry; bytes = o.bytes }; of_write = h.of_write }
 
-pub entries_after_persist : EntriesAfterPersist
+-- the oldest entry in flight is acknowledged
+pub entries_after_persist : (sys : System) → IsWellFormedSystem sys → (state : Machine) → IsReached sys state
+    → (next : Machine) (effect : Effect) → LeadsTo sys state Persist next effect
+    → (entries : List Entry) → AreEntriesOf sys state entries (uncollected state) → AreEntriesOf sys next (persisted entries) (uncollected next)
 entries_after_persist sys w state r next effect t es a =
     entries-stay sys state next (persisted es) (uncollected next) (left-stay sys w state r Persist next effect t)
     (subst (λ (m : Machine). AreEntriesOf sys state (persisted es) (uncollected m)) (sym t.2)
     (persist-left (IsEntryOf sys state) (λ e x i. i.acknowledged) (acknowledged-too sys state) state.writes t.0 t.1 es a))
 
-pub records_after_persist : RecordsAfterPersist
+-- and the records are stored under the ids that they had
+pub records_after_persist : (sys : System) → IsWellFormedSystem sys → (state : Machine) → IsReached sys state
+    → (next : Machine) (effect : Effect) → LeadsTo sys state Persist next effect
+    → (entries : List Entry) → AreEntriesOf sys state entries (uncollected state)
+    → (records : Option Records) → AreStored sys state records entries (uncollected state)
+    → AreStored sys next records (persisted entries) (uncollected next)
 records_after_persist sys w state r next effect t es a all s =
     records-stay sys state next all (persisted es) (uncollected next) (left-stay sys w state r Persist next effect t)
     (λ held f.
@@ -386,7 +449,11 @@ withdrawn-is first e fly l =
     let late : nat_le first e.id ≡ true = grind (arith, nat_tests) in
     ap (λ b. not (not b && nat_le first e.id)) fly ∙ ap not late
 
-pub withdrawn_are_the_last : WithdrawnAreTheLast
+-- where a step can't put all that it asks, and the entries that it asked are withdrawn from the first of them on, those before
+-- them are left
+pub withdrawn_are_the_last : (first : ℕ) (entries more : List Entry) → AllByRecursion (λ id. id < first) (ids_of entries)
+    → AllByRecursion (λ (e : Entry). (e.acknowledged ≡ false) × (first ≤ e.id)) more
+    → filter (λ e. not (is_withdrawn first e)) (entries ++ more) ≡ entries
 withdrawn_are_the_last first es more before after =
     let stays : Entry → Bool = λ e. not (is_withdrawn first e) in
     filter-append stays es more
@@ -461,7 +528,10 @@ first-flying (x ∷ xs) k = elim (cases_Bool (flies x)) [
       )
 ]
 
-pub persists_where_in_flight : PersistsWhereInFlight
+-- a write can be acknowledged exactly where an entry is in flight
+pub persists_where_in_flight : (sys : System) (state : Machine) (entries : List Entry) → AreEntriesOf sys state entries (uncollected state)
+    → (oldest entries ≡ None → (next : Machine) (effect : Effect) → LeadsTo sys state Persist next effect → ⊥)
+    × ((id : ℕ) → oldest entries ≡ Some id → (next : Machine) × LeadsTo sys state Persist next silent)
 persists_where_in_flight sys state es a =
     let alike = fly-alike sys state es (uncollected state) (left-left state.writes) a in
     let all : list_any flies (uncollected state) ≡ list_any flies state.writes = any-filter flies not_collected state.writes (flying-uncollected state.writes) in (
@@ -486,7 +556,11 @@ lost-same sys state ps e x left i =
     ap (λ n. not (is_one_of n ps && not e.acknowledged)) i.node
     ∙ ap (λ b. not (is_one_of x.node ps && b)) (ap not i.acknowledged ∙ lost-alike x.stage left)
 
-pub entries_after_failure : EntriesAfterFailure
+-- the entries in flight of the nodes that fail go
+pub entries_after_failure : (sys : System) → IsWellFormedSystem sys → (state : Machine) → IsReached sys state
+    → (ps : List ℕ) (next : Machine) (effect : Effect) → LeadsTo sys state (Fail ps) next effect
+    → (entries : List Entry) → AreEntriesOf sys state entries (uncollected state)
+    → AreEntriesOf sys next (filter (λ e. not (is_lost_of ps e)) entries) (uncollected next)
 entries_after_failure sys w state r ps next effect t es a =
     let goes : Entry → Bool = λ e. not (is_lost_of ps e) in
     let stays : Write → Bool = λ x. not (is_one_of x.node ps && is_in_flight x.stage) in
@@ -494,7 +568,12 @@ entries_after_failure sys w state r ps next effect t es a =
     (subst (λ (m : Machine). AreEntriesOf sys state (filter goes es) (uncollected m)) (sym t.4)
     (zip-gone (IsEntryOf sys state) not_collected goes stays es state.writes (λ e x left i. lost-same sys state ps e x left i) a))
 
-pub records_after_failure : RecordsAfterFailure
+-- and the records of those that are left are stored
+pub records_after_failure : (sys : System) → IsWellFormedSystem sys → (state : Machine) → IsReached sys state
+    → (ps : List ℕ) (next : Machine) (effect : Effect) → LeadsTo sys state (Fail ps) next effect
+    → (entries : List Entry) → AreEntriesOf sys state entries (uncollected state)
+    → (records : Option Records) → AreStored sys state records entries (uncollected state)
+    → AreStored sys next records (filter (λ e. not (is_lost_of ps e)) entries) (uncollected next)
 records_after_failure sys w state r ps next effect t es a all s =
     let goes : Entry → Bool = λ e. not (is_lost_of ps e) in
     let stays : Write → Bool = λ x. not (is_one_of x.node ps && is_in_flight x.stage) in
@@ -536,7 +615,8 @@ filter-both {X = X} j k l h (x ∷ xs) = by (k x) (j x) (l x) (h x) (filter-both
 filter-nothing : {X : Type 0} (xs : List X) → filter (λ x. true) xs ≡ xs
 filter-nothing xs = filter-all (λ x. true) xs (each-one (λ x. true ≡ true) xs (λ x. refl))
 
-pub loses_one_by_one : LosesOneByOne
+-- lost one after the other, the nodes lose what they lose together
+pub loses_one_by_one : (ps : List ℕ) (entries : List Entry) → without_lost_of ps entries ≡ filter (λ e. not (is_lost_of ps e)) entries
 loses_one_by_one [] es = sym (filter-nothing es)
 loses_one_by_one (p ∷ ps) es =
     loses_one_by_one ps (filter (λ e. not (is_lost p e)) es)
@@ -547,12 +627,6 @@ loses_one_by_one (p ∷ ps) es =
     turned m n = grind (arith, nat_tests)
 
 -- ---- a recovery
-
--- an event that is told of is at the stamp that is told
-pub told-stamp : (v : Happened) (event : Event) → told_of v ≡ Some event → stamp_of event ≡ event_stamp v
-told-stamp (Injected s x) event k = absurd cc
-told-stamp (Delivered e m) event k = let c : told_event.Deliver e m.at m.rec ≡ event = cc in ap stamp_of (sym c)
-told-stamp (Notified p t) event k = let c : told_event.Notify t ≡ event = cc in ap stamp_of (sym c)
 
 each-numbered : (P : Happened → Type 0) (h : List SerialEvent) → AllByRecursion P (events h) → AllByRecursion (λ (v : SerialEvent). P v.event) h
 each-numbered P [] a = tt
@@ -587,7 +661,7 @@ AreInDomains sys h = AllByRecursion (λ (v : SerialEvent). in_domain (bounds_of 
 
 kept-told : (sys : System) (choice : Choice) (p s : ℕ) (f : Front) (event : Event) → cut_of choice p ≡ At f → (v : SerialEvent)
     → in_domain (bounds_of sys.flow (event_node sys.flow v.event)) (event_stamp v.event) ≡ true → IsToldAs sys.flow p s event v
-    → kept_of sys.flow choice (event_node sys.flow v.event) (event_stamp v.event) ≡ inside f (stamp_of event)
+    → kept_of sys.flow choice (event_node sys.flow v.event) (event_stamp v.event) ≡ inside f (stamp_of_event event)
 kept-told sys choice p s f event cut v d a =
     let t = event_stamp v.event in
     ap (λ q. kept_of sys.flow choice q t) a.node ∙ ap (λ c. set_of sys.flow p c t) cut
@@ -601,16 +675,16 @@ lies-alike sys state choice p f o d cut (written.Checkpoint r t n) (logged_event
 lies-alike sys state choice p f o d cut (written.Event event) (checkpoint g low) h = absurd h
 lies-alike sys state choice p f o d cut (written.Event event) (logged_event s) h =
     let keeps : SerialEvent → Bool = λ v. kept_of sys.flow choice (event_node sys.flow v.event) (event_stamp v.event) in
-    sym (serial-kept sys.flow p s state.next event keeps (inside f (stamp_of event)) state.history o
+    sym (serial-kept sys.flow p s state.next event keeps (inside f (stamp_of_event event)) state.history o
     (each-weaker (λ (v : SerialEvent). in_domain (bounds_of sys.flow (event_node sys.flow v.event)) (event_stamp v.event) ≡ true)
-    (λ v. IsToldAs sys.flow p s event v → keeps v ≡ inside f (stamp_of event)) state.history (λ v e a. kept-told sys choice p s f event cut v e a) d) h)
+    (λ v. IsToldAs sys.flow p s event v → keeps v ≡ inside f (stamp_of_event event)) state.history (λ v e a. kept-told sys choice p s f event cut v e a) d) h)
 
 not-not : (b : Bool) → not (not b) ≡ b
 not-not true = refl
 not-not false = refl
 
 undone-same : (sys : System) (state : Machine) (choice : Choice) → AreSerialsBelow state.next state.history → AreInDomains sys state.history → (e : Entry) (x : Write)
-    → IsEntryOf sys state e x → not (is_undone choice e) ≡ is_kept_write (cut_of choice x.node) x.written (filtered_history sys choice state.history)
+    → IsEntryOf sys state e x → not (is_beyond (cut_of choice e.node) e) ≡ is_kept_write (cut_of choice x.node) x.written (filtered_history sys choice state.history)
 undone-same sys state choice o d e x i =
     ap (λ p. not (is_beyond (cut_of choice p) e)) i.node ∙ by (cut_of choice x.node) refl
   where
@@ -634,9 +708,13 @@ recovered-left sys state choice next t =
     ap (λ (m : Machine). m.writes) t.7
     ∙ ap (λ c. filter (λ (x : Write). is_kept_write (cut_of c x.node) x.written (filtered_history sys c state.history)) state.writes) (shown choice t.1 t.8)
 
-pub entries_after_recovery : EntriesAfterRecovery
+-- the entries that do not lie within the cuts of their nodes go
+pub entries_after_recovery : (sys : System) → IsWellFormedSystem sys → (state : Machine) → IsReached sys state
+    → (choice : Choice) (next : Machine) → LeadsTo sys state Recover next (cuts choice)
+    → (entries : List Entry) → AreEntriesOf sys state entries (uncollected state)
+    → AreEntriesOf sys next (filter (λ e. not (is_beyond (cut_of choice e.node) e)) entries) (uncollected next)
 entries_after_recovery sys w state r choice next t es a =
-    let goes : Entry → Bool = λ e. not (is_undone choice e) in
+    let goes : Entry → Bool = λ e. not (is_beyond (cut_of choice e.node) e) in
     let keeps : Write → Bool = λ x. is_kept_write (cut_of choice x.node) x.written (filtered_history sys choice state.history) in
     let o = (reached-all sys w r.0 r.1 state r.2).restore.serials in
     let d = domains sys w state r in
@@ -644,9 +722,14 @@ entries_after_recovery sys w state r choice next t es a =
     (subst (λ xs. AreEntriesOf sys state (filter goes es) (filter not_collected xs)) (sym (recovered-left sys state choice next t))
     (zip-gone (IsEntryOf sys state) not_collected goes keeps es state.writes (λ e x left i. undone-same sys state choice o d e x i) a))
 
-pub records_after_recovery : RecordsAfterRecovery
+-- and the records of those that are left are stored
+pub records_after_recovery : (sys : System) → IsWellFormedSystem sys → (state : Machine) → IsReached sys state
+    → (choice : Choice) (next : Machine) → LeadsTo sys state Recover next (cuts choice)
+    → (entries : List Entry) → AreEntriesOf sys state entries (uncollected state)
+    → (records : Option Records) → AreStored sys state records entries (uncollected state)
+    → AreStored sys next records (filter (λ e. not (is_beyond (cut_of choice e.node) e)) entries) (uncollected next)
 records_after_recovery sys w state r choice next t es a all s =
-    let goes : Entry → Bool = λ e. not (is_undone choice e) in
+    let goes : Entry → Bool = λ e. not (is_beyond (cut_of choice e.node) e) in
     let keeps : Write → Bool = λ x. is_kept_write (cut_of choice x.node) x.written (filtered_history sys choice state.history) in
     let o = (reached-all sys w r.0 r.1 state r.2).restore.serials in
     let d = domains sys w state r in

@@ -1,18 +1,19 @@
--- What entries tell: the newest checkpoint, what is lost with a node, and what is offered by them.
-use Rattle.std.proofs.Common.{◌≡◌, ◌↔◌, ℕ, Bool, true, false, cond, not, ◌&&◌, ◌||◌, ◌==◌, List, [], ◌∷◌, ◌++◌, length, map, refl, sym, ap, subst, ◌∙◌, inl, inr, ◌⊎◌, arith}
-use Rattle.std.specs.List.{Contains, flat_map}
+-- What entries tell: the newest checkpoint, and what is lost with a node.
+use Rattle.std.proofs.Common.{◌≡◌, ◌↔◌, ℕ, Bool, true, false, cond, not, ◌&&◌, ◌||◌, ◌==◌, List, [], ◌∷◌, ◌++◌, length, refl, sym, ap, subst, ◌∙◌, inl, inr, ◌⊎◌, arith, ◌≢◌}
+use Rattle.std.specs.List.{Contains}
 use Rattle.std.proofs.lemmas.Bool.{or_right}
 use Rattle.std.proofs.lemmas.List.{append-nil}
 use Rattle.std.proofs.lemmas.List.FromFn.{get_or-map-range_with_len}
 use Rattle.fw_time.specs.Stamp.{Stamp}
 use Rattle.fw_flow.specs.declared.kind.Policy.TheVariants as policy
-use Rattle.fw_flow.specs.declared.step.Step.TheVariants.{Fail}
-use Rattle.fw_flow.specs.Dataflow.{System, Dataflow, policy_of, bounds_of, is_one_of}
+use Rattle.fw_flow.specs.declared.step.Step.TheVariants.{Fail, Checkpoint as CheckpointStep}
+use Rattle.fw_flow.specs.Dataflow.{System, policy_of, bounds_of, is_one_of}
 use Rattle.fw_flow.specs.NodeFunction.{event_node, event_stamp}
+use Rattle.fw_flow.specs.WellFormed.{IsWellFormedSystem}
 use Rattle.fw_model.specs.Choice.{IsLogged}
 use Rattle.fw_model.specs.Machine.{Machine, SerialEvent, Write, Stage, in_flight, acknowledged, collected, checkpoint, logged_event, is_failed, front_of, no_stamps}
 use Rattle.fw_model.specs.Machine.{Written as WrittenBy}
-use Rattle.fw_model.specs.Steps.{Effect, LeadsTo, checkpoint_of, checkpoint_front, checkpoints_of, last_or, is_in_flight, without_lost}
+use Rattle.fw_model.specs.Steps.{Effect, LeadsTo, checkpoint_of, checkpoint_front, checkpoints_of, last_or, is_in_flight, without_lost, is_asked_for_checkpoints, silent, newest_checkpoint}
 use Rattle.fw_model.proofs.AskedLaws.{reached-all}
 use Rattle.fw_model.proofs.Decisions.{two_ways}
 use Rattle.fw_model.proofs.LoggedLaws.{live-logged}
@@ -20,19 +21,17 @@ use Rattle.fw_model.proofs.NewestLaws.{newest-kept}
 use Rattle.fw_model.proofs.RestoringLaws.{full-declared}
 use Rattle.fw_model.proofs.ThinnedLaws.{each-contained}
 use Rattle.fw_model.proofs.WriteLaws.{some-passed, NamesEvent, LogsEvent, some-logged, logged-some}
-use Rattle.fw_record.specs.declared.record.Event.{Event}
 use Rattle.fw_keep.specs.declared.entry.Entry.{Entry}
 use Rattle.fw_keep.specs.declared.entry.Written.{Written}
 use Rattle.fw_keep.specs.declared.entry.Written.TheVariants as written
-use Rattle.fw_keep.specs.Entry.{stamp_of}
-use Rattle.fw_policy.specs.View as view
-use Rattle.fw_policy.specs.View.{IsEventAt, HasEventAt, IsUnlogged, IsLostAt}
-use Rattle.fw_policy.specs.Offering.{stamp_in, unlogged_by, unlogged_stamps}
+use Rattle.fw_policy.specs.View.{IsLostAt}
+use Rattle.fw_policy.specs.Offering.{stamps_in_flight, unlogged_stamps}
 use Rattle.fw_model.proofs.SentStandLaws.{IsOne, one-contained, contained-one}
+use Rattle.fw_model.specs.Reached.{IsReached}
 use Rattle.fw_policy.proofs.UnloggedLaws.{IsOfEntries, unlogged-is, unlogged-has, some-filtered}
-use Rattle.fw_stands.specs.Written.{HasEventTold, Holds, AreEntriesOf, uncollected}
-use Rattle.fw_stands.specs.LawsOfEntries.{entry_front, entry_fronts, LastEntryIsOfNewestCheckpoint, TakesCheckpointsByLastEntry, CheckpointAsks, stamp_of_written, stamps_in_flight, LosesWhatIsInFlight, told_written, told_entry, ToldEntriesAreOfWrites}
-use Rattle.fw_stands.proofs.EntrySteps.{told-stamp}
+use Rattle.fw_stands.specs.Written.{Holds, AreEntriesOf, uncollected}
+use Rattle.fw_stands.specs.Entries.{entry_front, entry_fronts}
+use Rattle.fw_frontier.specs.Front.{Front}
 
 -- ---- the newest checkpoint
 
@@ -51,11 +50,20 @@ fronts-alike sys state p (e ∷ es) (x ∷ xs) a =
     ∙ ap (λ fs. cond (x.node == p) fs [] ++ entry_fronts p es) (front-alike sys state x.node e.written x.written (a.0).holds)
     ∙ ap (λ fs. cond (x.node == p) (checkpoint_front x.written) [] ++ fs) (fronts-alike sys state p es xs a.1)
 
-pub last_entry_is_of_newest_checkpoint : LastEntryIsOfNewestCheckpoint
+-- the frontier of the last entry of a checkpoint of node p, or the given one where there is none, is that of its newest checkpoint
+pub last_entry_is_of_newest_checkpoint : (sys : System) → IsWellFormedSystem sys → (state : Machine) → IsReached sys state
+    → (entries : List Entry) → AreEntriesOf sys state entries (uncollected state)
+    → (p : ℕ) (f : Front) → last_or f (entry_fronts p entries) ≡ newest_checkpoint p f state.writes
 last_entry_is_of_newest_checkpoint sys w state r es a p f =
     ap (last_or f) (fronts-alike sys state p es (uncollected state) a) ∙ sym (newest-kept sys w r.0 r.1 state r.2 p f)
 
-pub takes_checkpoints_by_last_entry : TakesCheckpointsByLastEntry
+-- a node that takes checkpoints when asked and is not failed takes one exactly where what is settled is not the frontier of the
+-- last entry of a checkpoint of the node, or no stamps where there is none
+pub takes_checkpoints_by_last_entry : (sys : System) → IsWellFormedSystem sys → (state : Machine) → IsReached sys state
+    → (entries : List Entry) → AreEntriesOf sys state entries (uncollected state)
+    → (p : ℕ) → is_asked_for_checkpoints (policy_of sys.flow p) ≡ true → is_failed state p ≡ false
+    → (front_of state.settled p ≢ last_or (no_stamps (bounds_of sys.flow p)) (entry_fronts p entries))
+    ↔ ((next : Machine) × LeadsTo sys state (CheckpointStep p) next silent)
 takes_checkpoints_by_last_entry sys w state r es a p asked live =
     let none = no_stamps (bounds_of sys.flow p) in
     let same = last_entry_is_of_newest_checkpoint sys w state r es a p none in (
@@ -66,44 +74,12 @@ takes_checkpoints_by_last_entry sys w state r es a p asked live =
       λ k. let t = k.1 in λ e. t.2 (e ∙ same),
     )
 
-pub checkpoint_asks : CheckpointAsks
+-- it asks a checkpoint at what is settled
+pub checkpoint_asks : (sys : System) (state : Machine) (p : ℕ) (next : Machine) (effect : Effect) → LeadsTo sys state (CheckpointStep p) next effect
+    → next.writes ≡ state.writes ++ checkpoint_of state p (front_of state.settled p) ∷ []
 checkpoint_asks sys state p next effect t = ap (λ (m : Machine). m.writes) t.3
 
--- ---- as offers are told
-
-event-told : (flow : Dataflow) (p s : ℕ) (event : Event) (h : List SerialEvent) → HasEventTold flow p s event h → HasEventAt flow p s (stamp_of event) h
-event-told flow p s event [] a = absurd a
-event-told flow p s event (v ∷ h) (inl a) = inl (record { same_serial = a.same_serial; node = a.node; stamp = sym (told-stamp v.event event a.told) })
-event-told flow p s event (v ∷ h) (inr a) = inr (event-told flow p s event h a)
-
-holds-told : (sys : System) (state : Machine) (p : ℕ) (entry : Written) (what : WrittenBy) → Holds sys state p entry what → view.Holds sys state p (told_written entry) what
-holds-told sys state p (written.Checkpoint r s n) (checkpoint f low) h = h.recorded
-holds-told sys state p (written.Checkpoint r t n) (logged_event s) h = absurd h
-holds-told sys state p (written.Event event) (checkpoint f low) h = absurd h
-holds-told sys state p (written.Event event) (logged_event s) h = event-told sys.flow p s event state.history h
-
-pub told_entries_are_of_writes : ToldEntriesAreOfWrites
-told_entries_are_of_writes sys state [] [] a = tt
-told_entries_are_of_writes sys state [] (x ∷ xs) a = absurd a
-told_entries_are_of_writes sys state (e ∷ es) [] a = absurd a
-told_entries_are_of_writes sys state (e ∷ es) (x ∷ xs) a =
-    let i = a.0 in (
-      record { node = i.node; acknowledged = i.acknowledged; holds = holds-told sys state x.node e.written x.written i.holds },
-      told_entries_are_of_writes sys state es xs a.1,
-    )
-
 -- ---- what is lost
-
-stamp-told : (entry : Written) → stamp_in (told_written entry) ≡ stamp_of_written entry
-stamp-told (written.Checkpoint r s n) = refl
-stamp-told (written.Event event) = refl
-
--- the stamps of what is in flight are those of which offers are told as not logged
-flying-told : (p : ℕ) (es : List Entry) → flat_map (unlogged_by p) (map told_entry es) ≡ stamps_in_flight p es
-flying-told p [] = refl
-flying-told p (e ∷ es) =
-    ap (λ ss. cond ((e.node == p) && not e.acknowledged) ss [] ++ flat_map (unlogged_by p) (map told_entry es)) (stamp-told e.written)
-    ∙ ap (λ ss. cond ((e.node == p) && not e.acknowledged) (stamp_of_written e.written) [] ++ ss) (flying-told p es)
 
 names-lands : (s : ℕ) (what : WrittenBy) (far : Stage) → NamesEvent s what far → is_in_flight far ≡ false
 names-lands s (checkpoint f low) far k = absurd k
@@ -135,31 +111,35 @@ fails-now sys state next effect ps t p full k =
 none-lost : (sys : System) (state : Machine) (p : ℕ) → is_failed state p ≡ false → (t : Stamp) → Contains [] t ↔ IsLostAt sys state p t
 none-lost sys state p live t = ((λ c. let l = c.1 in absurd (omega arith)), λ i. absurd (two_ways (is_failed state p) i.0 live))
 
-pub loses_what_is_in_flight : LosesWhatIsInFlight
+-- the stamps at which a node that logs each event loses events as it fails are those of its events in flight
+pub loses_what_is_in_flight : (sys : System) → IsWellFormedSystem sys → (state : Machine) → IsReached sys state
+    → (ps : List ℕ) (next : Machine) (effect : Effect) → LeadsTo sys state (Fail ps) next effect
+    → (entries : List Entry) → AreEntriesOf sys state entries (uncollected state)
+    → (p : ℕ) → policy_of sys.flow p ≡ policy.Full → is_failed state p ≡ false → is_one_of p ps ≡ true
+    → (t : Stamp) → IsLostAt sys next p t ↔ Contains (stamps_in_flight p entries) t
 loses_what_is_in_flight sys w state r ps next effect t es a p full live one at =
-    let told = map told_entry es in
     let f = reached-all sys w r.0 r.1 state r.2 in
-    let o : IsOfEntries sys state p told [] = record {
-      written = told_entries_are_of_writes sys state es (uncollected state) a;
+    let o : IsOfEntries sys state p es [] = record {
+      written = a;
       apart = f.restore.apart;
       serials = f.restore.serials;
       live = λ l. live-logged sys w r.0 r.1 state r.2 p full l;
       lost = none-lost sys state p live;
     } in
-    let all : unlogged_stamps p told [] ≡ stamps_in_flight p es = append-nil (flat_map (unlogged_by p) told) ∙ flying-told p es in
+    let all : unlogged_stamps p es [] ≡ stamps_in_flight p es = append-nil (stamps_in_flight p es) in
     let writes : next.writes ≡ without_lost ps state.writes = ap (λ (m : Machine). m.writes) t.4 in
     let history : next.history ≡ state.history = ap (λ (m : Machine). m.history) t.4 in (
       λ i.
           let u = i.1 in
           let v = u.event in
-          let Has : SerialEvent → Type 0 = λ x. event_node sys.flow x.event ≡ p → IsLogged x.serial state.writes ⊎ IsOne (event_stamp x.event) (unlogged_stamps p told []) in
-          let has = each-contained Has v state.history (subst (λ h. Contains h v) history u.there) (unlogged-has sys state p told [] o) u.is.node in
+          let Has : SerialEvent → Type 0 = λ x. event_node sys.flow x.event ≡ p → IsLogged x.serial state.writes ⊎ IsOne (event_stamp x.event) (unlogged_stamps p es []) in
+          let has = each-contained Has v state.history (subst (λ h. Contains h v) history u.there) (unlogged-has sys state p es [] o) u.is.node in
           elim has [
             | inl l ↦ absurd (u.not_logged (subst (IsLogged v.serial) (sym writes) (logged-left ps v.serial state.writes l)))
-            | inr k ↦ one-contained at (stamps_in_flight p es) (subst (IsOne at) all (subst (λ s. IsOne s (unlogged_stamps p told [])) u.is.stamp k))
+            | inr k ↦ one-contained at (stamps_in_flight p es) (subst (IsOne at) all (subst (λ s. IsOne s (unlogged_stamps p es [])) u.is.stamp k))
           ],
       λ c.
-          let u = unlogged-is sys state p told [] o at (subst (IsOne at) (sym all) (contained-one at (stamps_in_flight p es) c)) in (
+          let u = unlogged-is sys state p es [] o at (subst (IsOne at) (sym all) (contained-one at (stamps_in_flight p es) c)) in (
             fails-now sys state next effect ps t p full one,
             record {
               event = u.event;

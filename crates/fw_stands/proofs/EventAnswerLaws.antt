@@ -1,5 +1,5 @@
 -- What a node answers is what it sends.
-use Rattle.std.proofs.Common.{◌≡◌, ℕ, zero, suc, ◌+◌, ◌==◌, true, List, [], ◌∷◌, length, map, get_or, Option, Some, None, nat_le, refl, sym, ap, ◌∙◌, inl, inr, arith}
+use Rattle.std.proofs.Common.{◌≡◌, ℕ, zero, suc, ◌+◌, ◌==◌, true, List, [], ◌∷◌, length, map, get_or, Option, Some, None, nat_le, refl, sym, ap, ◌∙◌, inl, inr, arith, slice_index_or}
 use Rattle.std.proofs.lemmas.Bool.{cases_Bool, cond_both, cond-false, cond-true, eqb-true}
 use Rattle.fw_time.specs.Stamp.{Stamp}
 use Rattle.fw_bag.specs.declared.rec.Rec.{Rec}
@@ -15,10 +15,11 @@ use Rattle.fw_flow.specs.NodeFunction.{event_node, event_stamp, messages_at, mes
 use Rattle.fw_flow.specs.Projection.{events_at}
 use Rattle.fw_model.proofs.LowLaws.{input-is}
 use Rattle.fw_model.specs.SortedMessages.{sorted_messages}
+use Rattle.fw_model.specs.LawsOfPending.{sent_on}
 use Rattle.fw_node.specs.Answers.{caused_by, without_causes}
 use Rattle.fw_node.specs.Sends.{notice_sends}
 use Rattle.fw_node.proofs.NoticeLaws.{notices_are_sends}
-use Rattle.fw_stands.specs.LawsOfEvents.{EventsSend, SentOnIsPutOn, sends_at, NoticesSend, InjectionsSend, OutputsSendNothing}
+use Rattle.fw_stands.specs.Events.{sends_at, AreSent, at_epoch, put_on}
 
 -- ---- messages of one cause
 
@@ -58,13 +59,15 @@ stamps-without : (ms : List Message) → map (λ (x : Stamp × Rec). x.0) (witho
 stamps-without [] = refl
 stamps-without (m ∷ ms) = ap (λ (ts : List Stamp). m.at ∷ ts) (stamps-without ms)
 
-pub events-send : EventsSend
+-- an event's messages without their causes are sent: each has the event's stamp as its one cause
+pub events-send : (sys : System) (h : List Event) (v : Event) → AreSent sys h v (without_causes (sends_at sys h v))
 events-send sys h v = record {
   messages = ap sorted_messages (sends-cause sys (event_node sys.flow v) (events_at sys.flow (event_node sys.flow v) h) v);
   stamps = stamps-without (sends_at sys h v);
 }
 
-pub sent_on-put_on : SentOnIsPutOn
+-- what an event sends on an edge is what comes to it
+pub sent_on-put_on : (sys : System) (h : List Event) (v : Event) (e : ℕ) → sent_on sys h e v ≡ put_on sys.flow e v (without_causes (sends_at sys h v))
 sent_on-put_on sys h v e =
     let p = event_node sys.flow v in
     let q = sender sys.flow e in
@@ -114,7 +117,9 @@ notice-stamps : (sys : System) (p : ℕ) (before : List Event) (t : Stamp)
 unfolding sends
 notice-stamps sys p before t = kind-stamps sys p (kind_of sys.flow p) before t
 
-pub notices-send : NoticesSend
+-- what a node answers to a notification is sent
+pub notices-send : (sys : System) (h : List Event) (p : ℕ) (t : Stamp)
+    → AreSent sys h (Notify p t) (notice_sends (kind_of sys.flow p) (events_at sys.flow p h) t)
 notices-send sys h p t = record {
   messages = sym (notices_are_sends sys p (events_at sys.flow p h) t);
   stamps = notice-stamps sys p (events_at sys.flow p h) t;
@@ -136,7 +141,9 @@ caused-at : (t : Stamp) (rs : List Rec) → caused_by t (map (λ (r : Rec). (t, 
 caused-at t [] = refl
 caused-at t (r ∷ rs) = ap (λ (ms : List Message). message t t r ∷ ms) (caused-at t rs)
 
-pub injections-send : InjectionsSend
+-- the batch that an input injects is sent
+pub injections-send : (sys : System) (h : List Event) (s x : ℕ) → is_input_kind (kind_of sys.flow s) ≡ true
+    → AreSent sys h (Inject s x) (at_epoch x (slice_index_or (batches_of sys s) x []))
 injections-send sys h s x k =
     let rs = get_or (batches_of sys s) x [] in
     let is = batch-sends sys s x (events_at sys.flow s h) k in
@@ -156,7 +163,9 @@ output-sends : (sys : System) (p : ℕ) (before : List Event) (v : Event) → is
 unfolding sends
 output-sends sys p before v o = output-none sys (kind_of sys.flow p) before v o
 
-pub outputs-send_nothing : OutputsSendNothing
+-- an output sends nothing
+pub outputs-send_nothing : (sys : System) (h : List Event) (v : Event) → is_output_kind (kind_of sys.flow (event_node sys.flow v)) ≡ true
+    → AreSent sys h v []
 outputs-send_nothing sys h v o =
     let none = output-sends sys (event_node sys.flow v) (events_at sys.flow (event_node sys.flow v) h) v o in
     record {

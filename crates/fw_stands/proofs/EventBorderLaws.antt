@@ -24,7 +24,7 @@ use Rattle.fw_flow.specs.Dataflow.{System, Dataflow, batches_of, bounds_of, boun
 use Rattle.fw_flow.specs.NodeFunction.{delivered_recs, event_node, event_stamp}
 use Rattle.fw_flow.specs.Projection.{first_coordinate}
 use Rattle.fw_flow.specs.WellFormed.{IsWellFormedSystem}
-use Rattle.fw_model.specs.History.{injected_count, IsEnabled, IsNextBatch}
+use Rattle.fw_model.specs.History.{injected_count, IsEnabled, IsNextBatch, is_injection}
 use Rattle.fw_model.specs.Machine.{Machine, events, ack_count_of, front_of, is_failed}
 use Rattle.fw_model.specs.Reached.{IsReached}
 use Rattle.fw_model.specs.Steps.{with_event}
@@ -32,11 +32,11 @@ use Rattle.fw_model.proofs.DomainLaws.{has_epochs}
 use Rattle.fw_model.proofs.LegalLaws.{enabled-in_domain, legal-in_domain}
 use Rattle.fw_model.proofs.RestoringLaws.{batches-outside}
 use Rattle.fw_model.proofs.StampLaws.{in_line}
-use Rattle.fw_border.specs.Outputs.{recs_at, with_rec_at}
+use Rattle.fw_border.specs.Outputs.{recs_at, with_rec_at, OutputState}
 use Rattle.fw_border.specs.Sources.{SourceState, advanced, next_batch}
 use Rattle.fw_border.proofs.NumberLaws.{held_at}
 use Rattle.fw_border.proofs.OutputLaws.{recs_at-inserted, recs_at-inserted_apart}
-use Rattle.fw_stands.specs.LawsOfEvents.{OutputsTakeIn, OutputsStay, IsInjectionOf, SourcesHaveTheNext, SourcesGoOn, SourcesStay}
+use Rattle.fw_stands.specs.Events.{IsInjectionOf}
 use Rattle.fw_stands.specs.Parts.{kept_recs, IsOutputOf, IsSourceOf}
 use Rattle.fw_stands.proofs.EventNextLaws.{legal-reached}
 
@@ -111,7 +111,12 @@ kept-here sys state e m x g a =
 kept-none : (sys : System) (state : Machine) (o x : ℕ) → guard sys state o x ≡ true → kept_recs sys state o x ≡ []
 kept-none sys state o x g = ap (λ b. cond b [] (sorted_recs (came sys.flow o x (events state.history)))) g
 
-pub outputs-take_in : OutputsTakeIn
+-- in each reached state, what is kept of an output that is not failed takes in what is delivered to it
+pub outputs-take_in : (sys : System) (state : Machine) → IsWellFormedSystem sys → IsReached sys state
+    → (e : ℕ) (m : Message) → IsEnabled sys (events state.history) (Deliver e m)
+    → is_output_kind (kind_of sys.flow (receiver sys.flow e)) ≡ true → is_failed state (receiver sys.flow e) ≡ false
+    → (output : OutputState) → IsOutputOf sys state (receiver sys.flow e) output
+    → IsOutputOf sys (with_event sys state (Deliver e m)) (receiver sys.flow e) (with_rec_at (first_coordinate m.at) m.rec output)
 outputs-take_in sys state w r e m k o f output i =
     let p = receiver sys.flow e in
     let next = with_event sys state (Deliver e m) in
@@ -148,7 +153,9 @@ outputs-take_in sys state w r e m k o f output i =
           })
     ])
 
-pub outputs-stay : OutputsStay
+-- an event of another node leaves what is kept of an output
+pub outputs-stay : (sys : System) (state : Machine) (v : Event) (o : ℕ) → (event_node sys.flow v == o) ≡ false
+    → (output : OutputState) → IsOutputOf sys state o output → IsOutputOf sys (with_event sys state v) o output
 outputs-stay sys state (Inject s x) o n output i = record { bound = i.bound; recs = i.recs }
 outputs-stay sys state (Deliver e m) o n output i = record {
   bound = i.bound;
@@ -187,7 +194,10 @@ has-batch sys w s n l = elim (cases_Bool (is_input_kind (kind_of sys.flow s))) [
   | inr k ↦ let none = ap length (w.of_inputs s k) in absurd (omega arith)
 ]
 
-pub sources-have_next : SourcesHaveTheNext
+-- in each reached state a node that is not failed injects what is next of its batches, if there is one
+pub sources-have_next : (sys : System) (state : Machine) → IsWellFormedSystem sys → IsReached sys state
+    → (s : ℕ) → is_failed state s ≡ false → (source : SourceState) → IsSourceOf sys state s source
+    → IsInjectionOf sys state s source.injected (next_batch source)
 sources-have_next sys state w r s f source i = by (next_batch source) refl
   where
     n : ℕ
@@ -222,7 +232,9 @@ sources-have_next sys state w r s f source i = by (next_batch source) refl
           absurd (cc none)
     ]
 
-pub sources-go_on : SourcesGoOn
+-- a source that injects a batch goes on by one
+pub sources-go_on : (sys : System) (state : Machine) (s x : ℕ) → IsEnabled sys (events state.history) (Inject s x)
+    → (source : SourceState) → IsSourceOf sys state s source → IsSourceOf sys (with_event sys state (Inject s x)) s (advanced source)
 sources-go_on sys state s x k source i =
     let more : source.injected < source.given = let a = k.next in let b = k.there in let c = i.injected in let d = i.given in omega arith in
     let goes : advanced source ≡ record source { injected = source.injected + 1 } =
@@ -234,7 +246,9 @@ sources-go_on sys state s x k source i =
       held = i.held;
     })
 
-pub sources-stay : SourcesStay
+-- an event that is no injection of it leaves a source
+pub sources-stay : (sys : System) (state : Machine) (v : Event) (s : ℕ) → is_injection s v ≡ false
+    → (source : SourceState) → IsSourceOf sys state s source → IsSourceOf sys (with_event sys state v) s source
 sources-stay sys state (Inject q x) s n source i = record {
   given = i.given;
   injected = i.injected ∙ sym (cond-false (q == s) (injected_count s (events state.history) + 1) (injected_count s (events state.history)) n);

@@ -1,5 +1,5 @@
 -- An event of a node that is not failed leaves what was lost, and a step from a reached state leads to a reached one.
-use Rattle.std.proofs.Common.{◌≡◌, ◌⊎◌, ℕ, true, false, List, [], ◌∷◌, ◌++◌, refl, sym, ap, ◌∙◌, inl, inr}
+use Rattle.std.proofs.Common.{◌≡◌, ◌⊎◌, ℕ, true, false, List, [], ◌∷◌, ◌++◌, refl, sym, ap, ◌∙◌, inl, inr, ◌↔◌}
 use Rattle.std.specs.List.{Contains}
 use Rattle.std.proofs.lemmas.Bool.{both_ways, false≢true}
 use Rattle.std.proofs.lemmas.List.Elements.{Contains-append_cases, Contains-append_right}
@@ -9,17 +9,12 @@ use Rattle.fw_flow.specs.declared.kind.Policy.TheVariants as policy
 use Rattle.fw_flow.specs.Dataflow.{System, policy_of}
 use Rattle.fw_flow.specs.NodeFunction.{event_node}
 use Rattle.fw_model.specs.Choice.{IsLogged}
-use Rattle.fw_model.specs.Machine.{Machine, SerialEvent, Write, first_state, is_failed}
+use Rattle.fw_model.specs.Machine.{Machine, SerialEvent, Write, is_failed}
 use Rattle.fw_model.specs.Steps.{with_event, write_of_event}
-use Rattle.fw_model.proofs.GoingOn.{runs-go_on}
 use Rattle.fw_model.proofs.LowLaws.{keep-append}
 use Rattle.fw_model.proofs.ThinnedLaws.{each-contained}
-use Rattle.fw_policy.specs.View.{IsUnlogged}
-use Rattle.fw_stands.specs.LawsOfEvents.{ReachedGoesOn, LostStays}
-
-pub reached-goes_on : ReachedGoesOn
-reached-goes_on sys state next step outcome r t =
-    (r.0 ++ step ∷ [], r.1 ++ outcome ∷ [], runs-go_on sys (first_state sys) state next r.0 (step ∷ []) r.1 (outcome ∷ []) r.2 (next, t, refl))
+use Rattle.fw_policy.specs.View.{IsUnlogged, IsLostAt}
+use Rattle.fw_time.specs.Stamp.{Stamp}
 
 -- what is in a list of one is this one
 only-one : {A : Type 0} (x y : A) → Contains (x ∷ []) y → y ≡ x
@@ -68,5 +63,7 @@ lost-after sys state v p t u = record {
       ];
 }
 
-pub lost-stays : LostStays
+-- an event of a node that is not failed leaves what was lost
+pub lost-stays : (sys : System) (state : Machine) (v : Event) → is_failed state (event_node sys.flow v) ≡ false
+    → (p : ℕ) (t : Stamp) → IsLostAt sys (with_event sys state v) p t ↔ IsLostAt sys state p t
 lost-stays sys state v n p t = ((λ x. (x.0, lost-before sys state v n p t x.0 x.1)), (λ x. (x.0, lost-after sys state v p t x.1)))

@@ -1,5 +1,5 @@
 -- What a queue has next is what the machine delivers next.
-use Rattle.std.proofs.Common.{◌≡◌, ℕ, Bool, true, false, cond, List, [], ◌∷◌, Option, Some, None, refl, sym, ap, subst, ◌∙◌, inl, inr, arith}
+use Rattle.std.proofs.Common.{◌≡◌, ℕ, Bool, true, false, cond, List, [], ◌∷◌, Option, Some, None, refl, sym, ap, subst, ◌∙◌, inl, inr, arith, ◌↔◌}
 use Rattle.std.specs.Prelude.{find}
 use Rattle.std.specs.declared.cmp.Ordering.{Ordering}
 use Rattle.std.specs.declared.cmp.Ordering.TheVariants.{Less, Equal, Greater}
@@ -24,7 +24,7 @@ use Rattle.fw_model.proofs.FirstLaws.{copies-among, first-next}
 use Rattle.fw_model.proofs.RecoveryLaws.{runs-legal}
 use Rattle.fw_model.proofs.SentLaws.{is_among-copies}
 use Rattle.fw_model.proofs.SortedLaws.{IsAscendingMessages, ascending-sorted_messages, sorted_messages-weigh}
-use Rattle.fw_stands.specs.LawsOfEvents.{asked_of, if_asked, next_queued, QueuesHaveTheNext, IsDeliveryOf, DeliveriesTakeTheNext, NextIsFirstAtItsStamp}
+use Rattle.fw_stands.specs.Events.{asked_of, if_asked, next_queued, IsDeliveryOf}
 use Rattle.fw_stands.specs.Parts.{queued}
 
 -- ---- a reached state
@@ -241,13 +241,18 @@ queued-live sys state e f = cond-false (is_failed state (receiver sys.flow e)) [
 queued-failed : (sys : System) (state : Machine) (e : ℕ) → is_failed state (receiver sys.flow e) ≡ true → queued sys state e ≡ []
 queued-failed sys state e f = cond-true (is_failed state (receiver sys.flow e)) [] (sorted_messages (pending_messages sys (events state.history) e)) f
 
-pub queues-have_next : QueuesHaveTheNext
+-- in each reached state, the message that the machine delivers next to a node that is not failed is the one that its queue has next
+pub queues-have_next : (sys : System) (state : Machine) → IsWellFormedSystem sys → IsReached sys state
+    → (e : ℕ) (at : Option Stamp) (m : Message) → is_failed state (receiver sys.flow e) ≡ false
+    → IsNextMessage sys (events state.history) e at m ↔ (next_queued sys.flow e at (queued sys state e) ≡ Some m)
 queues-have_next sys state w r e at m f =
     let b = next-both sys (events state.history) w.flow (legal-reached sys state w r) e at m in
     let q = ap (next_queued sys.flow e at) (queued-live sys state e f) in
     ((λ x. q ∙ b.0 x), (λ i. b.1 (sym q ∙ i)))
 
-pub deliveries-take_next : DeliveriesTakeTheNext
+-- in each reached state a delivery takes what the queue has next
+pub deliveries-take_next : (sys : System) (state : Machine) → IsWellFormedSystem sys → IsReached sys state
+    → (e : ℕ) (at : Option Stamp) → IsDeliveryOf sys state e at (next_queued sys.flow e at (queued sys state e))
 deliveries-take_next sys state w r e at = by (next_queued sys.flow e at (queued sys state e)) refl
   where
     by : (next : Option Message) → next_queued sys.flow e at (queued sys state e) ≡ next → IsDeliveryOf sys state e at next
@@ -283,6 +288,8 @@ if-some at (Some x) m k = elim (cases_Bool (is_asked at x.at)) [
   | inr a ↦ let none : None ≡ Some m = sym (cond-false (is_asked at x.at) (Some x) None a) ∙ k in absurd (cc none)
 ]
 
-pub next-first_at_its_stamp : NextIsFirstAtItsStamp
+-- what a queue has next is the first message at its own stamp
+pub next-first_at_its_stamp : (flow : Dataflow) (e : ℕ) (at : Option Stamp) (queue : List Message) (m : Message)
+    → next_queued flow e at queue ≡ Some m → find (λ (x : Message). is_asked (Some m.at) x.at) queue ≡ Some m
 next-first_at_its_stamp flow e at queue m k =
     first-at_stamp (asked_of flow e at) queue m (if-some at (find (λ (x : Message). is_asked (asked_of flow e at) x.at) queue) m k)

@@ -13,13 +13,13 @@ use Rattle.fw_flow.specs.Dataflow.{System, Dataflow, sender, receiver, bounds_of
 use Rattle.fw_flow.specs.Message.{messages_less}
 use Rattle.fw_flow.specs.NodeFunction.{event_node, event_stamp, sends}
 use Rattle.fw_flow.specs.Projection.{events_at}
-use Rattle.fw_flow.specs.WellFormed.{IsWellFormed}
+use Rattle.fw_flow.specs.WellFormed.{IsWellFormed, IsWellFormedSystem}
 use Rattle.fw_flow.proofs.MessageLaws.{less-none}
 use Rattle.fw_model.specs.Filtering.{messages_outside}
-use Rattle.fw_model.specs.History.{delivered_messages, message_on, pending_messages, sent_messages, IsLegal}
+use Rattle.fw_model.specs.History.{delivered_messages, message_on, pending_messages, sent_messages, IsLegal, IsEnabled}
 use Rattle.fw_model.specs.LawsOfPending.{sent_on}
-use Rattle.fw_model.specs.Machine.{events, family_of, front_of, is_failed}
-use Rattle.fw_model.specs.SortedMessages.{sorted_messages, with_messages}
+use Rattle.fw_model.specs.Machine.{events, family_of, front_of, is_failed, Machine}
+use Rattle.fw_model.specs.SortedMessages.{sorted_messages, with_messages, with_message}
 use Rattle.fw_model.proofs.BothLaws.{pending-follows}
 use Rattle.fw_model.proofs.CompleteLaws.{past_edges-idle}
 use Rattle.fw_model.proofs.DomainLaws.{has_epochs}
@@ -28,9 +28,10 @@ use Rattle.fw_model.proofs.SentLaws.{copy}
 use Rattle.fw_model.proofs.SortedLaws.{IsAscendingMessages, ascending-sorted_messages, ascending-less, ascending-with_messages, same_from_copies, sorted_messages-append, sorted_messages-filter, sorted_messages-weigh, with_messages-weigh}
 use Rattle.fw_model.proofs.WeightLaws.{weigh, weigh-append}
 use Rattle.fw_model.proofs.NothingInsideLaws.{idle-sent}
+use Rattle.fw_model.specs.Reached.{IsReached}
 use Rattle.fw_node.specs.Answers.{caused_by}
-use Rattle.fw_stands.specs.LawsOfEvents.{AreSent, put_on, QueuesFollowEvents, LogsFollowEvents, LastIsPutIn, NothingIsQueuedPastEdges}
-use Rattle.fw_stands.specs.Parts.{is_logging}
+use Rattle.fw_stands.specs.Events.{AreSent, put_on, LogFollows, QueueFollows}
+use Rattle.fw_stands.specs.Parts.{is_logging, queued}
 use Rattle.fw_stands.proofs.EventNextLaws.{legal-reached}
 use Rattle.fw_progress.proofs.FollowLaws.{sent-more}
 
@@ -59,7 +60,9 @@ append-one : (ms : List Message) (m : Message) (q : Message) → weigh (copy q) 
 unfolding weigh
 append-one ms m q = let a = weigh-append (copy q) ms (m ∷ []) in omega arith
 
-pub last-put_in : LastIsPutIn
+-- into messages in order, one more is put after the others as before them
+pub last-put_in : (ms : List Message) (m : Message) (old : List Message) → sorted_messages old ≡ old
+    → with_messages (ms ++ m ∷ []) old ≡ with_message m (with_messages ms old)
 last-put_in ms m old e = put-same (ms ++ m ∷ []) (m ∷ ms) old (append-one ms m) (ascending-from_sorted old e)
 
 -- ---- queues
@@ -81,7 +84,10 @@ put_on-sent sys h v sent s e = elim (cases_Bool (event_node sys.flow v == sender
       ∙ sym (ap sorted_messages (cond-false (p == q) (sends sys q (events_at sys.flow q h) v) [] k))
 ]
 
-pub queues-follow : QueuesFollowEvents
+-- in each reached state the queues follow each event that may come next
+pub queues-follow : (sys : System) (state : Machine) → IsWellFormedSystem sys → IsReached sys state
+    → (v : Event) → IsEnabled sys (events state.history) v → (sent : List (Stamp × Rec)) → AreSent sys (events state.history) v sent
+    → (e : ℕ) → QueueFollows sys state v sent e
 queues-follow sys state w r v k sent s e =
     let h = events state.history in
     let l = legal-reached sys state w r in
@@ -104,7 +110,8 @@ none-pending_past sys h e past =
     let q = sender sys.flow e in
     ap (λ ms. messages_less ms (delivered_messages h e)) (idle-sent sys q (past_edges-idle sys.flow e past) (events_at sys.flow q h)) ∙ less-none (delivered_messages h e)
 
-pub nothing-queued_past : NothingIsQueuedPastEdges
+-- nothing is queued where no edge is declared
+pub nothing-queued_past : (sys : System) (state : Machine) (e : ℕ) → length sys.flow.edges ≤ e → queued sys state e ≡ []
 nothing-queued_past sys state e past =
     cond_both (is_failed state (receiver sys.flow e)) [] (sorted_messages (pending_messages sys (events state.history) e)) (λ ms. ms ≡ [])
     (λ f. refl) (λ f. ap sorted_messages (none-pending_past sys (events state.history) e past))
@@ -165,7 +172,10 @@ outside-more sys h v w b l sent s e f =
     (sorted_messages-filter past new ∙ ap (filter past) (sym (put_on-sent sys h v sent s e)) ∙ sym (sorted_messages-filter past put))
     (ascending-sorted_messages old)
 
-pub logs-follow : LogsFollowEvents
+-- in each reached state the logs follow each event that may come next
+pub logs-follow : (sys : System) (state : Machine) → IsWellFormedSystem sys → IsReached sys state
+    → (v : Event) → IsEnabled sys (events state.history) v → (sent : List (Stamp × Rec)) → AreSent sys (events state.history) v sent
+    → (e : ℕ) → LogFollows sys state v sent e
 logs-follow sys state w r v k sent s e =
     let h = events state.history in
     let l = legal-reached sys state w r in

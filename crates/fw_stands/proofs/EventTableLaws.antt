@@ -1,5 +1,5 @@
 -- What a node's table is asked where an event comes, and of which tables it is one afterwards.
-use Rattle.std.proofs.Common.{◌≡◌, ℕ, ◌<◌, true, false, not, ◌&&◌, ◌==◌, List, [], ◌∷◌, length, Some, None, refl, sym, ap, subst, ◌∙◌, inl, inr, arith}
+use Rattle.std.proofs.Common.{◌≡◌, ℕ, ◌<◌, true, false, not, ◌&&◌, ◌==◌, List, [], ◌∷◌, length, Some, None, refl, sym, ap, subst, ◌∙◌, inl, inr, arith, Option}
 use Rattle.std.specs.Ordering.{is_gt}
 use Rattle.std.proofs.lemmas.Bool.{and_parts, both_ways, cases_lt, cond-true, cond-false, eq-eqb, false_from_ne_true, false≢true}
 use Rattle.std.proofs.lemmas.Cmp.{tied_itself}
@@ -12,22 +12,27 @@ use Rattle.fw_flow.specs.declared.kind.Kind.TheVariants as kind
 use Rattle.fw_flow.specs.Dataflow.{System, Dataflow, in_edges, is_input_kind, is_notified_kind, is_one_of, is_output_kind, kind_of, receiver}
 use Rattle.fw_flow.specs.NodeFunction.{event_node}
 use Rattle.fw_flow.specs.Projection.{events_at}
-use Rattle.fw_flow.specs.WellFormed.{IsInDegree, IsWellFormed}
-use Rattle.fw_model.specs.History.{was_delivered_to, was_notified, pending_messages, IsNotifiable}
+use Rattle.fw_flow.specs.WellFormed.{IsInDegree, IsWellFormed, IsWellFormedSystem}
+use Rattle.fw_model.specs.History.{was_delivered_to, was_notified, pending_messages, IsNotifiable, IsEnabled}
 use Rattle.fw_model.specs.Machine.{Machine, events, family_of, is_failed}
 use Rattle.fw_flow.specs.Message.{is_among}
+use Rattle.fw_flow.specs.declared.step.Step.TheVariants.{Inject, Deliver as DeliverStep, Notify as NotifyStep}
 use Rattle.fw_model.proofs.CmpLaws.{stamp_total}
 use Rattle.fw_model.proofs.DomainLaws.{has_epochs}
 use Rattle.fw_model.proofs.LowLaws.{input-is}
 use Rattle.fw_model.proofs.NothingInsideLaws.{kind-declared, settled-nothing_inside}
 use Rattle.fw_model.proofs.ToldLaws.{after-notice, totals-sum}
+use Rattle.fw_model.specs.Steps.{with_event, StepsTo, idle, did, silent}
+use Rattle.fw_model.specs.Reached.{IsReached}
 use Rattle.fw_node.specs.Arrived.{AreOnEdges, IsOneOf}
 use Rattle.fw_node.specs.TableOf.{IsTableOf}
 use Rattle.fw_node.proofs.OnEdgesLaws.{events_come_on_in_edges}
-use Rattle.fw_stands.specs.LawsOfEvents.{NoticesTakeTheAsked, FailedNodesAreIdle, DeliveriesCanBeTakenIn, NoticesCanBeTaken, TablesTakeIn, TablesStay, NoTablesStay}
+use Rattle.fw_node.specs.declared.node.Node.{Node}
 use Rattle.fw_stands.proofs.EventBorderLaws.{enabled-domain}
 use Rattle.fw_stands.proofs.EventNextLaws.{legal-reached}
 use Rattle.fw_stands.proofs.EventQueueLaws.{none-pending_past}
+use Rattle.fw_stands.specs.Parts.{IsTableIn, has_table}
+use Rattle.fw_stands.specs.Events.{CanTakeNotice, CanTakeIn}
 
 -- ---- deliveries
 
@@ -60,7 +65,9 @@ not-input flow w e m l =
     let some = some-edge (in_edges flow p) e (on-edge flow w e m l) in
     omega arith)
 
-pub deliveries-can_be_taken_in : DeliveriesCanBeTakenIn
+-- in each reached state each delivery that may come next can be taken in
+pub deliveries-can_be_taken_in : (sys : System) (state : Machine) → IsWellFormedSystem sys → IsReached sys state
+    → (e : ℕ) (m : Message) → IsEnabled sys (events state.history) (Deliver e m) → CanTakeIn sys state e m
 deliveries-can_be_taken_in sys state w r e m k =
     let v : Event = Deliver e m in
     let p = receiver sys.flow e in
@@ -88,7 +95,9 @@ notified-no_output kind.OutputEpoch n = absurd (false≢true n)
 notified-no_output kind.OutputNumber n = absurd (false≢true n)
 notified-no_output k n = refl
 
-pub notices-can_be_taken : NoticesCanBeTaken
+-- in each reached state each notification that may come next can be taken
+pub notices-can_be_taken : (sys : System) (state : Machine) → IsWellFormedSystem sys → IsReached sys state
+    → (p : ℕ) (t : Stamp) → IsEnabled sys (events state.history) (Notify p t) → CanTakeNotice sys state p t
 notices-can_be_taken sys state w r p t k =
     let v : Event = Notify p t in
     let h = events state.history in
@@ -106,7 +115,11 @@ notices-can_be_taken sys state w r p t k =
       sums = λ is. totals-sum sys w r.0 r.1 state r.2 p is t k;
     }
 
-pub notices-take_asked : NoticesTakeTheAsked
+-- a notification of a stamp that is asked for is taken exactly where a node that is not failed may be notified
+-- of it; where it may not the step is idle
+pub notices-take_asked : (sys : System) (state : Machine) (p : ℕ) (t : Stamp) → is_failed state p ≡ false
+    → (IsNotifiable sys (events state.history) p t → StepsTo sys state (NotifyStep p (Some t)) (with_event sys state (Notify p t)) (did silent))
+    × ((IsNotifiable sys (events state.history) p t → ⊥) → StepsTo sys state (NotifyStep p (Some t)) state idle)
 notices-take_asked sys state p t f = (
   (λ k. (
     t,
@@ -125,7 +138,10 @@ notices-take_asked sys state p t f = (
     self : (s : Stamp) → is_gt (stamp_cmp s s) ≡ false
     self s = ap is_gt (tied_itself stamp_total s)
 
-pub failed-idle : FailedNodesAreIdle
+-- a node that is failed injects nothing, is delivered nothing and is notified of nothing
+pub failed-idle : (sys : System) (state : Machine) (p : ℕ) → is_failed state p ≡ true
+    → StepsTo sys state (Inject p) state idle × ((e : ℕ) (at : Option Stamp) → receiver sys.flow e ≡ p → StepsTo sys state (DeliverStep e at) state idle)
+    × ((at : Option Stamp) → StepsTo sys state (NotifyStep p at) state idle)
 failed-idle sys state p f = (
   ((λ other effect t. both_ways (is_failed state p) t.2 f), refl),
   (λ e at i. ((λ other effect t. both_ways (is_failed state p) (ap (is_failed state) (sym i) ∙ t.2) f), refl)),
@@ -134,7 +150,10 @@ failed-idle sys state p f = (
 
 -- ---- tables
 
-pub tables-take_in : TablesTakeIn
+-- a table that took an event in is that of its node after the event
+pub tables-take_in : (sys : System) (state : Machine) (v : Event) (p : ℕ) → event_node sys.flow v ≡ p → has_table sys state p ≡ true
+    → (table : Node) → IsTableOf sys.flow p (family_of sys.flow state.settled p) table (v ∷ events_at sys.flow p (events state.history))
+    → IsTableIn sys (with_event sys state v) p (Some table)
 tables-take_in sys state v p i t table o =
     let h = events state.history in
     record {
@@ -143,7 +162,9 @@ tables-take_in sys state v p i t table o =
           (sym (cond-true (event_node sys.flow v == p) (v ∷ events_at sys.flow p h) (events_at sys.flow p h) (eq-eqb (event_node sys.flow v) p i))) o;
     }
 
-pub tables-stay : TablesStay
+-- an event of another node leaves a table
+pub tables-stay : (sys : System) (state : Machine) (v : Event) (p : ℕ) → (event_node sys.flow v == p) ≡ false
+    → (table : Option Node) → IsTableIn sys state p table → IsTableIn sys (with_event sys state v) p table
 tables-stay sys state v p n None i = record { there = i.there; of_events = tt }
 tables-stay sys state v p n (Some table) i =
     let h = events state.history in
@@ -153,5 +174,6 @@ tables-stay sys state v p n (Some table) i =
           (sym (cond-false (event_node sys.flow v == p) (v ∷ events_at sys.flow p h) (events_at sys.flow p h) n)) i.of_events;
     }
 
-pub no-tables_stay : NoTablesStay
+-- where there is no table, there is none after an event
+pub no-tables_stay : (sys : System) (state : Machine) (v : Event) (p : ℕ) → IsTableIn sys state p None → IsTableIn sys (with_event sys state v) p None
 no-tables_stay sys state v p i = record { there = i.there; of_events = tt }

@@ -1,18 +1,39 @@
 -- Traces and progress that follow an event stand for the state after it.
-use Rattle.std.proofs.Common.{refl, sym}
-use Rattle.fw_model.specs.Machine.{events}
+use Rattle.std.proofs.Common.{refl, sym, List, map}
+use Rattle.fw_model.specs.Machine.{events, Machine}
 use Rattle.fw_model.proofs.DomainLaws.{has_epochs}
+use Rattle.fw_model.specs.Reached.{IsReached}
+use Rattle.fw_model.specs.History.{IsEnabled, IsLegal}
+use Rattle.fw_model.specs.Steps.{with_event}
 use Rattle.fw_policy.specs.View.{base_of}
-use Rattle.fw_stands.specs.LawsOfEvents.{ReachedIsLegal, TracesFollowEvents, ProgressFollowsEvents}
 use Rattle.fw_stands.proofs.EventNextLaws.{legal-reached}
+use Rattle.fw_stands.specs.Events.{AreSent}
+use Rattle.fw_stands.specs.Parts.{IsTraceIn}
+use Rattle.fw_flow.specs.Dataflow.{System}
+use Rattle.fw_flow.specs.WellFormed.{IsWellFormedSystem}
+use Rattle.fw_flow.specs.declared.event.Event.{Event}
+use Rattle.fw_time.specs.Stamp.{Stamp}
+use Rattle.fw_bag.specs.declared.rec.Rec.{Rec}
+use Rattle.fw_progress.specs.Progress.{Standing}
+use Rattle.fw_progress.specs.History.{Follows, StandsFor}
+use Rattle.fw_progress.specs.declared.traces.Traces.{Traces}
+use Rattle.fw_progress.specs.Trace.{TracesFollow}
 
-pub reached-legal : ReachedIsLegal
+-- the history of a reached state is legal
+pub reached-legal : (sys : System) (state : Machine) → IsWellFormedSystem sys → IsReached sys state → IsLegal sys (events state.history)
 reached-legal = legal-reached
 
-pub traces-follow : TracesFollowEvents
+-- traces that follow an event are those of each node after it
+pub traces-follow : (sys : System) (state : Machine) (v : Event) (sent : List (Stamp × Rec)) → AreSent sys (events state.history) v sent
+    → (old new : Traces) → TracesFollow sys.flow v (map (λ (x : Stamp × Rec). x.0) sent) old new
+    → (p : ℕ) → IsTraceIn sys state p old → IsTraceIn sys (with_event sys state v) p new
 traces-follow sys state v sent s old new f p i = f sys (events state.history) refl (sym s.stamps) p (base_of sys state p) i
 
-pub progress-follows : ProgressFollowsEvents
+-- in each reached state progress that follows an event that may come next stands for the history after it
+pub progress-follows : (sys : System) (state : Machine) → IsWellFormedSystem sys → IsReached sys state
+    → (v : Event) → IsEnabled sys (events state.history) v → (sent : List (Stamp × Rec)) → AreSent sys (events state.history) v sent
+    → (old new : Standing) → Follows sys.flow v (map (λ (x : Stamp × Rec). x.0) sent) old new
+    → StandsFor sys (events state.history) old → StandsFor sys (events (with_event sys state v).history) new
 progress-follows sys state w r v k sent s old new f o =
     let h = events state.history in
     f sys h refl (has_epochs sys w) (k, legal-reached sys state w r) (sym s.stamps) o

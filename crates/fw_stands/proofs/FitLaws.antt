@@ -27,6 +27,7 @@ use Rattle.fw_flow.specs.Projection.{events_at, all_inside}
 use Rattle.fw_flow.specs.Restoring.{can_resend}
 use Rattle.fw_flow.specs.WellFormed.{IsWellFormedSystem}
 use Rattle.fw_flow.proofs.OutEdgeLaws.{out_edges-at}
+use Rattle.fw_flow.specs.declared.choice.Stamps.{Stamps}
 use Rattle.fw_model.specs.Filtering.{messages_from, messages_outside}
 use Rattle.fw_model.specs.History.{sent_messages}
 use Rattle.fw_model.specs.Machine.{Machine, events, family_of}
@@ -47,12 +48,14 @@ use Rattle.fw_record.specs.declared.logged.Logged.{Logged}
 use Rattle.fw_record.specs.declared.record.Checkpoint.{Checkpoint}
 use Rattle.fw_record.specs.OfNode as fits
 use Rattle.fw_record.specs.OfNode.{IsOnOneOf, count_sum, AreCountsOf, HasNumbersFor, CanBeLogged, IsLogUnder, IsCheckpointOf}
-use Rattle.fw_record.specs.Sound.{each_may_follow, may_follow_counts}
-use Rattle.fw_stands.specs.Parts.{sent_by_node}
-use Rattle.fw_stands.specs.Written.{events_within, edges_of, logged_on, to_log, told_inside, IsCheckpointFor}
-use Rattle.fw_stands.specs.LawsOfEntries.{RecordsCanBeOfEntries}
+use Rattle.fw_record.specs.Sound.{each_may_follow, may_follow_counts, IsSound}
+use Rattle.fw_policy.specs.Entries.{sent_by_node}
+use Rattle.fw_record.specs.Log.{logged_on}
+use Rattle.fw_record.specs.declared.record.Record.TheVariants as tagged
+use Rattle.fw_stands.specs.Written.{events_within, edges_of, to_log, told_inside, IsCheckpointFor}
 use Rattle.fw_stands.proofs.NumberLaws.{sender-there, ledger-few}
 use Rattle.fw_stands.proofs.SideBySide.{each-there}
+use Rattle.fw_keep.specs.Entry.{IsRecordOf, asked}
 
 -- ---- fronts
 
@@ -247,7 +250,11 @@ checkpoint-fits sys w state r p f low c takes follow h =
         let rest = fewer f ms in
         cond_both (all_inside f m.causes) (m ∷ messages_from f ms) (messages_from f ms) (λ xs. length xs ≤ length (m ∷ ms)) (λ e. omega arith) (λ e. omega arith)
 
-pub records_can_be_of_entries : RecordsCanBeOfEntries
+-- in each state to which steps of a well-formed system lead, the record of a checkpoint of a node that takes them can be that of
+-- the entry that is asked by it, if it has a spelling
+pub records_can_be_of_entries : (sys : System) → IsWellFormedSystem sys → (state : Machine) → IsReached sys state
+    → (p : ℕ) (f : Front) (low : List Front) (c : Checkpoint) → takes_checkpoints (policy_of sys.flow p) ≡ true → IsSound (tagged.State c)
+    → IsCheckpointFor sys state p f low c → (id : ℕ) (stamps : Stamps) → IsRecordOf sys.flow (asked id (tagged.State c) stamps) (tagged.State c)
 records_can_be_of_entries sys w state r p f low c takes sound h id stamps =
     let fit = checkpoint-fits sys w state r p f low c takes sound.state.sends.follow h in
     record {

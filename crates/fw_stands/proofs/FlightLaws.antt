@@ -20,7 +20,8 @@ use Rattle.fw_model.specs.Steps.{Effect, Outcome, did, idle, LeadsTo, StepsTo, R
 use Rattle.fw_model.specs.Choice.{cut_of}
 use Rattle.fw_model.proofs.CheckpointLaws.{each-replaced}
 use Rattle.fw_model.proofs.Decisions.{two_ways}
-use Rattle.fw_stands.specs.LawsOfFailures.{failed_state, IsOfLiveNode, WritesInFlightAreOfLiveNodes, LiveNodesDecideFailures}
+use Rattle.fw_model.specs.Reached.{IsReached}
+use Rattle.fw_stands.specs.Failures.{failed_state, IsOfLiveNode}
 use Rattle.fw_stands.proofs.FailureLaws.{failures-add}
 use Rattle.fw_stands.proofs.StartingLaws.{none-failed}
 
@@ -166,7 +167,8 @@ run-live sys [] (o ∷ os) state last r a = absurd r
 run-live sys (s ∷ ss) [] state last r a = absurd r
 run-live sys (s ∷ ss) (o ∷ os) state last r a = run-live sys ss os r.0 last r.2 (steps-live sys state s r.0 o r.1 a)
 
-pub flying-live : WritesInFlightAreOfLiveNodes
+-- in each reached state the writes in flight are those of declared nodes that are not failed
+pub flying-live : (sys : System) → (state : Machine) → IsReached sys state → AllByRecursion (IsOfLiveNode sys state) state.writes
 flying-live sys state r = run-live sys r.0 r.1 (first_state sys) state r.2 tt
 
 -- ---- failures of the same live nodes
@@ -191,7 +193,11 @@ and-same true false false k = refl
 and-same false true false k = refl
 and-same false false false k = refl
 
-pub live_nodes-decide : LiveNodesDecideFailures
+-- so the nodes that fail are those among them that are declared and were not failed: each list that has the same of these leads to
+-- the same state
+pub live_nodes-decide : (sys : System) → (state : Machine) → IsReached sys state → (ps qs : List ℕ)
+    → ((p : ℕ) → p < length sys.flow.nodes → is_failed state p ≡ false → is_one_of p qs ≡ is_one_of p ps)
+    → failed_state sys state qs ≡ failed_state sys state ps
 live_nodes-decide sys state r ps qs k =
     let failed : with_failed sys state qs ≡ with_failed sys state ps =
     map-same (λ p. is_failed state p || is_one_of p qs) (λ p. is_failed state p || is_one_of p ps) (node_ids sys.flow)

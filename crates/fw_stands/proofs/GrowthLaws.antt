@@ -17,11 +17,11 @@ use Rattle.fw_model.specs.Reached.{IsReached}
 use Rattle.fw_model.specs.Steps.{GrowsTo, checkpoint_of}
 use Rattle.fw_model.proofs.Decisions.{two_ways}
 use Rattle.fw_model.proofs.DescentLaws.{complete-one}
-use Rattle.fw_stands.specs.LawsOfSettling.{GrowsToWhatIsComplete}
 use Rattle.fw_stands.proofs.AtReached.{reached-settled}
 
 -- ---- whether progress is enabled
 
+-- where at each node that is not failed all that is complete is settled, the step of progress is idle
 pub all_settled-idle : (sys : System) (state : Machine) (done : ℕ → Frontier) → IsComplete sys (events state.history) done
     → ((p : ℕ) → p < length sys.flow.nodes → is_failed state p ≡ false → Within (done p) (family_of sys.flow state.settled p)) → IsIdle sys state ProgressStep
 all_settled-idle sys state done c within next effect t =
@@ -33,7 +33,9 @@ all_settled-idle sys state done c within next effect t =
 
 -- ---- what is settled then
 
-pub grows-to_complete : GrowsToWhatIsComplete
+-- what is settled after progress is what it is by each family that is complete
+pub grows-to_complete : (sys : System) (state : Machine) (done : ℕ → Frontier) (settled : List Front) → GrowsTo sys state done settled
+    → (kept : ℕ → Frontier) → IsComplete sys (events state.history) kept → GrowsTo sys state kept settled
 grows-to_complete sys state done settled g kept c =
     subst (λ family. GrowsTo sys state family settled) (complete-one sys (events state.history) done kept g.complete c) g
 
@@ -41,6 +43,7 @@ grows-to_complete sys state done settled g kept c =
 joined-holds : (b : Bounds) (old new : Front) (done : Frontier) → IsFrontOf b new (join (frontier_of b old) done) → Within (frontier_of b old) (frontier_of b new)
 joined-holds b old new done n t i = n.same t ∙ or_left (frontier_of b old t) (done t) i
 
+-- what was settled is settled after progress
 pub settled-holds : (sys : System) (state : Machine) (done : ℕ → Frontier) (settled : List Front) → GrowsTo sys state done settled
     → (p : ℕ) → p < length sys.flow.nodes → Within (family_of sys.flow state.settled p) (family_of sys.flow settled p)
 settled-holds sys state done settled g p l = elim (cases_Bool (is_failed state p)) [
@@ -62,6 +65,7 @@ joined-same b old new done c within n =
     absorbs false true k = sym (k refl)
     absorbs false false k = refl
 
+-- at a node at which all that is complete was settled, progress leaves what is settled as it was
 pub ungrown-same : (sys : System) → IsWellFormedSystem sys → (state : Machine) → IsReached sys state
     → (done : ℕ → Frontier) (settled : List Front) → GrowsTo sys state done settled → (p : ℕ) → p < length sys.flow.nodes
     → Within (done p) (family_of sys.flow state.settled p) → front_of settled p ≡ front_of state.settled p
@@ -78,6 +82,7 @@ joined-has b old new done n t i = n.same t ∙ right (frontier_of b old t) (done
     right true y k = refl
     right false y k = k
 
+-- at a node that is not failed and at which more is complete than was settled, progress changes what is settled
 pub grown-differs : (sys : System) (state : Machine) (done : ℕ → Frontier) (settled : List Front) → GrowsTo sys state done settled
     → (p : ℕ) → p < length sys.flow.nodes → is_failed state p ≡ false → (Within (done p) (family_of sys.flow state.settled p) → ⊥)
     → same_front (front_of state.settled p) (front_of settled p) ≡ false

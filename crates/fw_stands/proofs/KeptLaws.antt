@@ -1,20 +1,26 @@
 -- Whether progress is enabled, and where it grows, by the fronts that are kept.
-use Rattle.std.proofs.Common.{◌≡◌, true, false, not, ◌||◌, [], ◌∷◌, refl, sym, ap, ◌∙◌, inl, inr}
+use Rattle.std.proofs.Common.{◌≡◌, true, false, not, ◌||◌, [], ◌∷◌, refl, sym, ap, ◌∙◌, inl, inr, Bool, List, ◌<◌, length}
 use Rattle.std.proofs.lemmas.Bool.{cases_Bool, or_parts, or_cases, or_left, and_from, and_parts, and_right, false_from_ne_true, not_from_false}
 use Rattle.std.specs.List.{AllByRecursion, list_any}
 use Rattle.fw_time.specs.Stamp.{Stamp, in_domain}
 use Rattle.fw_time.specs.declared.stamp.Bounds.{Bounds}
-use Rattle.fw_frontier.specs.Frontier.{Within, join}
-use Rattle.fw_frontier.specs.Front.{Front, IsCanonical, IsFrontOf, frontier_of, inside, is_within}
+use Rattle.fw_frontier.specs.Frontier.{Within, join, Frontier}
+use Rattle.fw_frontier.specs.Front.{Front, IsCanonical, IsFrontOf, frontier_of, inside, is_within, same_front}
 use Rattle.fw_frontier.proofs.CanonicalLaws.{in_domain-canonical}
 use Rattle.fw_frontier.proofs.NamesLaws.{all-outside, is_within-holds}
 use Rattle.fw_frontier.proofs.SameLaws.{same_front-from}
-use Rattle.fw_flow.specs.Dataflow.{bounds_of}
-use Rattle.fw_model.specs.Machine.{family_of, front_of, is_failed}
+use Rattle.fw_flow.specs.Dataflow.{bounds_of, System}
+use Rattle.fw_flow.specs.WellFormed.{IsWellFormedSystem}
+use Rattle.fw_flow.specs.declared.step.Step.TheVariants.{Progress as ProgressStep}
+use Rattle.fw_model.specs.Machine.{family_of, front_of, is_failed, Machine, events}
 use Rattle.fw_model.proofs.Decisions.{two_ways}
 use Rattle.fw_model.proofs.SettleLaws.{settled-grows}
-use Rattle.fw_progress.specs.Settle.{has_more}
-use Rattle.fw_stands.specs.LawsOfSettling.{NoMoreKeptIsIdle, MoreKeptIsProgress, FrontsGrowWhereMoreIsKept, GrowsByKept, JoinedFrontsGrowByKept}
+use Rattle.fw_model.specs.Reached.{IsReached}
+use Rattle.fw_model.specs.Steps.{GrowsTo, LeadsTo, silent}
+use Rattle.fw_model.specs.History.{IsComplete}
+use Rattle.fw_model.specs.Auto.{IsIdle}
+use Rattle.fw_progress.specs.Settle.{has_more, IsJoined}
+use Rattle.fw_stands.specs.Settling.{GrowsByKept, settled_state}
 use Rattle.fw_stands.proofs.AtReached.{reached-settled}
 use Rattle.fw_stands.proofs.GrowthLaws.{all_settled-idle, joined-same, joined-has, grows-to_complete, ungrown-same, grown-differs}
 
@@ -54,12 +60,19 @@ more-not_within b f g c e within =
 
 -- ---- the step
 
-pub no_more-idle : NoMoreKeptIsIdle
+-- where at no node that is not failed more is kept than settled, and what is kept is complete, the step of progress is idle
+pub no_more-idle : (sys : System) (state : Machine) (kept : List Front) → IsComplete sys (events state.history) (family_of sys.flow kept)
+    → ((p : ℕ) → p < length sys.flow.nodes → is_failed state p ≡ false → has_more (front_of kept p) (front_of state.settled p) ≡ false)
+    → IsIdle sys state ProgressStep
 no_more-idle sys state kept c none =
     all_settled-idle sys state (family_of sys.flow kept) c
     (λ p l f. no_more-within (bounds_of sys.flow p) (front_of kept p) (front_of state.settled p) (none p l f))
 
-pub more-progress : MoreKeptIsProgress
+-- where at a node that is not failed more is kept than settled, and what is kept is complete, the step of progress is enabled
+pub more-progress : (sys : System) → IsWellFormedSystem sys → (state : Machine) → IsReached sys state
+    → (kept : List Front) → IsComplete sys (events state.history) (family_of sys.flow kept) → (p : ℕ) → p < length sys.flow.nodes
+    → is_failed state p ≡ false → has_more (front_of kept p) (front_of state.settled p) ≡ true
+    → (settled : List Front) × LeadsTo sys state ProgressStep (settled_state sys state settled) silent
 more-progress sys w state r kept c p l f e =
     let b = bounds_of sys.flow p in
     let t = between b (front_of kept p) (front_of state.settled p) (reached-settled sys state w r p l) e in
@@ -75,7 +88,13 @@ more-progress sys w state r kept c p l f e =
 
 -- ---- where it grows
 
-pub fronts-grow : FrontsGrowWhereMoreIsKept
+-- progress leaves what is settled of a node as it was exactly where the node is failed, or no more is kept of it than was settled,
+-- where what is kept is complete
+pub fronts-grow : (sys : System) → IsWellFormedSystem sys → (state : Machine) → IsReached sys state
+    → (done : ℕ → Frontier) (settled : List Front) → GrowsTo sys state done settled
+    → (kept : List Front) → IsComplete sys (events state.history) (family_of sys.flow kept) → (p : ℕ) → p < length sys.flow.nodes
+    → same_front (front_of state.settled p) (front_of settled p)
+    ≡ (is_failed state p || not (has_more (front_of kept p) (front_of state.settled p)))
 fronts-grow sys w state r done settled grown kept c p l =
     let g = grows-to_complete sys state done settled grown (family_of sys.flow kept) c in
     let old = front_of state.settled p in
@@ -106,6 +125,8 @@ grows-live b settled kept both c n = record {
   all = λ f. false_from_ne_true (has_more kept both) (λ more. more-not_within b kept both n.canonical more (joined-has b settled both (frontier_of b kept) n));
 }
 
-pub joined-grow : JoinedFrontsGrowByKept
+-- a front that is as it was at a node that is failed, and else the union with what is kept, grows by what is kept, whatever it stands for
+pub joined-grow : (bounds : Bounds) (failed : Bool) (settled kept both : Front) → IsCanonical bounds settled → IsCanonical bounds kept
+    → IsJoined failed settled kept both → GrowsByKept failed settled kept both
 joined-grow b true settled kept both cs ck j = grows-failed b settled kept both j
 joined-grow b false settled kept both cs ck j = grows-live b settled kept both cs (j b cs ck)

@@ -12,8 +12,9 @@ use Rattle.fw_flow.specs.declared.event.Event.{Event as Happened}
 use Rattle.fw_flow.specs.declared.event.Event.TheVariants.{Inject, Deliver, Notify}
 use Rattle.fw_flow.specs.Dataflow.{System, Dataflow, is_one_of}
 use Rattle.fw_flow.specs.NodeFunction.{event_node, event_stamp}
+use Rattle.fw_flow.specs.WellFormed.{IsWellFormedSystem}
 use Rattle.fw_model.specs.Choice.{kept, is_counted}
-use Rattle.fw_model.specs.LawsOfReplay.{is_its_log, has_log}
+use Rattle.fw_model.specs.LawsOfReplay.{is_its_log, has_log, replayed_events}
 use Rattle.fw_model.specs.LawsOfWrites.{serial_of, logged_serials, AreIncreasing, AreLatestFirst}
 use Rattle.fw_model.specs.Machine.{Machine, SerialEvent, Write, Stage, in_flight, acknowledged, collected, checkpoint, logged_event, events}
 use Rattle.fw_model.specs.Machine.{Written as WrittenBy}
@@ -23,15 +24,17 @@ use Rattle.fw_model.proofs.FilterLaws.{filter-in, filter-out}
 use Rattle.fw_model.proofs.LoggedLaws.{logged-in_order}
 use Rattle.fw_model.proofs.RestoringLaws.{some-both}
 use Rattle.fw_model.proofs.WriteLaws.{HoldsOfOne, some-weaker, some-passed}
+use Rattle.fw_model.specs.Reached.{IsReached}
 use Rattle.fw_record.specs.declared.record.Event.{Event}
 use Rattle.fw_record.specs.declared.record.Record.{Record}
 use Rattle.fw_keep.specs.declared.entry.Entry.{Entry}
 use Rattle.fw_keep.specs.declared.entry.Written.{Written}
 use Rattle.fw_keep.specs.declared.entry.Written.TheVariants as written
-use Rattle.fw_keep.specs.Entry.{stamp_of, IsRecordAs, IsRecordOf}
-use Rattle.fw_stands.specs.LawsOfRecovered.{ReplayedEventsAreThoseOfEntries, ReplayedEventsAreThoseOfRecords}
-use Rattle.fw_stands.specs.Redone.{told_in_order, event_in, event_of, is_event_inside, is_logged_inside}
+use Rattle.fw_record.specs.Event.{stamp_of_event, event_of, logged_events}
+use Rattle.fw_keep.specs.Entry.{IsRecordAs, IsRecordOf}
+use Rattle.fw_stands.specs.Redone.{event_in, is_event_inside, is_logged_inside}
 use Rattle.fw_stands.specs.Written.{told_of, HasEventTold, Holds, IsEntryOf}
+use Rattle.fw_policy.specs.Entries.{AreEntriesOf}
 
 -- ---- increasing numbers
 
@@ -190,28 +193,28 @@ told-alone flow p s event h l a =
     ap (λ n. told_at n h) (sym c.1.0.0) ∙ c.1.1 ∙ ap (λ (o : Option Event). option_to_list o) c.1.0.1.1
 
 -- the stamp at which an event is told is its own
-told-stamp : (v : Happened) (event : Event) → told_of v ≡ Some event → stamp_of event ≡ event_stamp v
+told-stamp : (v : Happened) (event : Event) → told_of v ≡ Some event → stamp_of_event event ≡ event_stamp v
 told-stamp (Inject s x) event e = absurd (cc e)
-told-stamp (Deliver d m) event e = let same : event_of (told_of (Deliver d m)) ≡ stamp_of event = ap event_of e in sym same
+told-stamp (Deliver d m) event e = let same : event_of (told_of (Deliver d m)) ≡ stamp_of_event event = ap event_of e in sym same
   where
     event_of : Option Event → List ℕ
     event_of None = []
-    event_of (Some x) = stamp_of x
-told-stamp (Notify p t) event e = let same : event_of (told_of (Notify p t)) ≡ stamp_of event = ap event_of e in sym same
+    event_of (Some x) = stamp_of_event x
+told-stamp (Notify p t) event e = let same : event_of (told_of (Notify p t)) ≡ stamp_of_event event = ap event_of e in sym same
   where
     event_of : Option Event → List ℕ
     event_of None = []
-    event_of (Some x) = stamp_of x
+    event_of (Some x) = stamp_of_event x
 
 -- ---- what a history tells
 
-told-push : (v : Happened) (h : List Happened) → told_in_order (v ∷ h) ≡ told_in_order h ++ option_to_list (told_of v)
-told-push (Inject s x) h = sym (append-nil (told_in_order h))
+told-push : (v : Happened) (h : List Happened) → logged_events (v ∷ h) ≡ logged_events h ++ option_to_list (told_of v)
+told-push (Inject s x) h = sym (append-nil (logged_events h))
 told-push (Deliver e m) h = refl
 told-push (Notify p t) h = refl
 
 history-told : (whole h : List SerialEvent) → AllByRecursion (λ (v : SerialEvent). told_at v.serial whole ≡ option_to_list (told_of v.event)) h
-    → told_in_order (events h) ≡ flat_map (λ s. told_at s whole) (serials_in_order h)
+    → logged_events (events h) ≡ flat_map (λ s. told_at s whole) (serials_in_order h)
 history-told whole [] a = refl
 history-told whole (v ∷ h) a =
     let at : ℕ → List Event = λ s. told_at s whole in
@@ -348,7 +351,7 @@ kept-acknowledged collected e = absurd (two_ways false e refl)
 record IsFound (sys : System) (state : Machine) (p : ℕ) (f : Frontier) (n : ℕ) (ws : List Write) : Type 0 where
   pub event : Event
   pub told : HasEventTold sys.flow p n event state.history
-  pub inside : f (stamp_of event) ≡ true
+  pub inside : f (stamp_of_event event) ≡ true
   pub log : HoldsOfOne (IsItsLog n) ws
 
 -- the entry passes the test and its write logs this serial
@@ -425,7 +428,10 @@ passes sys state p f n l there e w a log =
     and_from (e.node == p) (e.acknowledged && is_event_inside f e.written) (eq-eqb e.node p (a.node ∙ b.0))
     (and_from e.acknowledged (is_event_inside f e.written) (a.acknowledged ∙ ap (is_counted kept) log.1) b.1)
 
-pub replayed-of_entries : ReplayedEventsAreThoseOfEntries
+-- the logged events that are left inside are those of the acknowledged entries of the node inside, in order
+pub replayed-of_entries : (sys : System) (state : Machine) → IsWellFormedSystem sys → IsReached sys state
+    → (entries : List Entry) → AreEntriesOf sys state entries (filter not_collected state.writes) → (p : ℕ) (f : Frontier)
+    → logged_events (replayed_events sys state p f) ≡ flat_map (λ (e : Entry). event_in e.written) (filter (is_logged_inside p f) entries)
 replayed-of_entries sys state w reached es a p f =
     let h = state.history in
     let ws = filter not_collected state.writes in
@@ -490,7 +496,11 @@ records-tell sys p f (e ∷ es) (r ∷ rs) i a =
     ap (λ xs. xs ++ flat_map event_of rs) (record-tells sys f e e.written r inside a.0)
     ∙ ap (λ xs. event_in e.written ++ xs) (records-tell sys p f es rs i.1 a.1)
 
-pub replayed-of_records : ReplayedEventsAreThoseOfRecords
+-- so they are what the records tell that can be those of these entries
+pub replayed-of_records : (sys : System) (state : Machine) → IsWellFormedSystem sys → IsReached sys state
+    → (entries : List Entry) → AreEntriesOf sys state entries (filter not_collected state.writes) → (p : ℕ) (f : Frontier)
+    → (records : List Record) → AllZip (IsRecordOf sys.flow) (filter (is_logged_inside p f) entries) records
+    → logged_events (replayed_events sys state p f) ≡ flat_map event_of records
 replayed-of_records sys state w reached es a p f rs z =
     let test = is_logged_inside p f in
     replayed-of_entries sys state w reached es a p f

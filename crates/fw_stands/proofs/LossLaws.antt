@@ -15,6 +15,7 @@ use Rattle.fw_flow.specs.declared.step.Step.{Step}
 use Rattle.fw_flow.specs.declared.step.Step.TheVariants.{Inject, Deliver, Notify, Progress as ProgressStep, Checkpoint as CheckpointStep, Persist, Fail, Recover, Collect, Ack}
 use Rattle.fw_flow.specs.Dataflow.{System, policy_of, node_ids, is_one_of}
 use Rattle.fw_flow.specs.NodeFunction.{event_node}
+use Rattle.fw_flow.specs.WellFormed.{IsWellFormedSystem}
 use Rattle.fw_model.specs.Choice.{ever, is_counted, IsLogged}
 use Rattle.fw_model.specs.Machine.{Machine, SerialEvent, Write, Stage, in_flight, acknowledged, collected, checkpoint, logged_event, front_of, is_failed, first_state}
 use Rattle.fw_model.specs.Machine.{Written as WrittenBy}
@@ -28,7 +29,6 @@ use Rattle.fw_model.proofs.WriteLaws.{HoldsOfOne, some-append, some-mapped, some
 use Rattle.fw_model.proofs.ForgottenLaws.{still-flies}
 use Rattle.fw_policy.specs.View.{IsLostAt}
 use Rattle.fw_frontier.proofs.SameLaws.{same_front-itself}
-use Rattle.fw_stands.specs.LawsOfEntries.{LossesStay}
 use Rattle.fw_stands.proofs.EntryViews.{logged-left, logged-before}
 use Rattle.fw_stands.proofs.EntrySteps.{event-flies}
 
@@ -258,7 +258,10 @@ logs-own : (sys : System) (low : List Front) (next n s : ℕ) (h : List SerialEv
     → AllByRecursion (λ (v : SerialEvent). v.serial ≡ s → event_node sys.flow v.event ≡ n) h
 logs-own sys low next n s h what far a e = (subst (λ x. IsAskedWell sys low next h n x far) e a).1
 
-pub losses_stay : LossesStay
+-- a node that failed before has lost what it had lost, whatever step but a recovery is taken
+pub losses_stay : (sys : System) → IsWellFormedSystem sys → (state : Machine) → IsReached sys state
+    → (step : Step) (next : Machine) (effect : Effect) → LeadsTo sys state step next effect
+    → (p : ℕ) → is_failed state p ≡ true → is_failed next p ≡ true → (t : Stamp) → IsLostAt sys next p t ↔ IsLostAt sys state p t
 losses_stay sys w state r step next effect t p old new at = lost-alike sys state next p old new (by step t) at
   where
     by : (s : Step) → LeadsTo sys state s next effect → AreAlikeAt sys state next p

@@ -1,5 +1,5 @@
 -- Which checkpoint is read for a node that is cut to it.
-use Rattle.std.proofs.Common.{◌≡◌, ◌≢◌, ℕ, true, false, ◌&&◌, ◌==◌, List, [], ◌∷◌, ◌++◌, filter, Option, Some, None, refl, sym, ap, subst, ◌∙◌, arith}
+use Rattle.std.proofs.Common.{◌≡◌, ◌≢◌, ℕ, true, false, ◌&&◌, ◌==◌, List, [], ◌∷◌, ◌++◌, filter, Option, Some, None, refl, sym, ap, subst, ◌∙◌, arith, ◌<◌, length}
 use Rattle.std.specs.List.{AllByRecursion, AllZip, Contains}
 use Rattle.std.specs.Option.{ForSome}
 use Rattle.std.proofs.lemmas.Bool.{and_parts, and_from, eqb-true, eq-eqb, false_from_ne_true}
@@ -9,16 +9,21 @@ use Rattle.fw_frontier.specs.Front.{Front}
 use Rattle.fw_frontier.proofs.SameLaws.{same_front-is, same_front-from}
 use Rattle.fw_flow.specs.declared.choice.Recorded.{Recorded}
 use Rattle.fw_flow.specs.declared.choice.Stamps.{Stamps}
-use Rattle.fw_flow.specs.Dataflow.{System, bounds_of}
-use Rattle.fw_model.specs.Choice.{kept, is_counted}
+use Rattle.fw_flow.specs.Dataflow.{System, bounds_of, policy_of}
+use Rattle.fw_flow.specs.declared.choice.Choice.{Choice}
+use Rattle.fw_flow.specs.declared.step.Step.TheVariants.{Recover}
+use Rattle.fw_flow.specs.WellFormed.{IsWellFormedSystem}
+use Rattle.fw_flow.specs.declared.choice.Cut.TheVariants.{At}
+use Rattle.fw_model.specs.Choice.{kept, is_counted, cut_of}
 use Rattle.fw_model.specs.Machine.{Machine, Write, acknowledged, checkpoint, logged_event, is_failed, no_stamps}
 use Rattle.fw_model.specs.Machine.{Written as WrittenBy}
-use Rattle.fw_model.specs.Steps.{checkpoint_front}
-use Rattle.fw_model.specs.Writes.{IsCheckpointOf, not_collected}
+use Rattle.fw_model.specs.Steps.{checkpoint_front, LeadsTo, recovered_state, cuts, Effect}
+use Rattle.fw_model.specs.Writes.{IsCheckpointOf, not_collected, takes_checkpoints}
 use Rattle.fw_model.proofs.CheckpointFrontLaws.{checkpoints-have_stamps}
 use Rattle.fw_model.proofs.Decisions.{two_ways}
 use Rattle.fw_model.proofs.FilterLaws.{filter-in, filter-out}
 use Rattle.fw_model.proofs.RestoringLaws.{cuts-kept}
+use Rattle.fw_model.specs.Reached.{IsReached}
 use Rattle.fw_record.specs.declared.record.Checkpoint.{Checkpoint}
 use Rattle.fw_record.specs.declared.record.Record.{Record}
 use Rattle.fw_record.specs.declared.record.Record.TheVariants as tagged
@@ -27,10 +32,11 @@ use Rattle.fw_record.specs.Spelling.{spelling}
 use Rattle.fw_keep.specs.declared.entry.Entry.{Entry}
 use Rattle.fw_keep.specs.declared.entry.Written.{Written}
 use Rattle.fw_keep.specs.declared.entry.Written.TheVariants as written
-use Rattle.fw_keep.specs.Stored.{Records}
-use Rattle.fw_stands.specs.LawsOfRecovered.{OneCheckpointAtCuts, NoCheckpointOfNothing, ReadCheckpointsAreOfWrites, RecoveriesRecover, RecoversByStep}
-use Rattle.fw_stands.specs.Read.{is_checkpoint_at, is_checkpoint_of}
-use Rattle.fw_stands.specs.Written.{Holds, HoldsWithin, IsCheckpointFor, IsEntryOf, IsHeldAs, IsRecordFor}
+use Rattle.fw_keep.specs.Stored.{Records, HoldsAs}
+use Rattle.fw_stands.specs.Read.{is_checkpoint_at, is_checkpoint_of, HasOnlyCheckpoint}
+use Rattle.fw_stands.specs.Written.{Holds, HoldsWithin, IsCheckpointFor, IsEntryOf, IsHeldAs, IsRecordFor, AreStored}
+use Rattle.fw_stands.specs.Recovered.{Recovers}
+use Rattle.fw_policy.specs.Entries.{AreEntriesOf}
 
 -- ---- entries of checkpoints and their writes
 
@@ -130,7 +136,12 @@ alone sys state records p f one later such stage after (w ∷ ws) (e ∷ es) bef
       stored = rest.stored;
     }
 
-pub one-checkpoint : OneCheckpointAtCuts
+-- where a node that takes checkpoints is cut to a front with a stamp inside, one entry is of an acknowledged checkpoint there
+pub one-checkpoint : (sys : System) (state : Machine) (choice : Choice) (settled : List Front) → Recovers sys state choice settled
+    → (entries : List Entry) → AreEntriesOf sys state entries (filter not_collected state.writes)
+    → (records : Option Records) → AreStored sys state records entries (filter not_collected state.writes)
+    → (p : ℕ) → takes_checkpoints (policy_of sys.flow p) ≡ true → (f : Front) → cut_of choice p ≡ At f → f ≢ no_stamps (bounds_of sys.flow p)
+    → HasOnlyCheckpoint sys state records entries p f
 one-checkpoint sys state choice settled r es a records s p takes f is some =
     let kept_one = cuts-kept sys r.well_formed r.reached.0 r.reached.1 state r.reached.2 (is_failed state) choice r.largest p f takes is some in
     let only = kept_one.0 in
@@ -166,7 +177,10 @@ no-front : (sys : System) (p : ℕ) (n : ℕ) (w : WrittenBy) → ((f : Front) (
 no-front sys p n (checkpoint g low) h e i = h g low refl (first-is g (no_stamps (bounds_of sys.flow p)) i ∙ ap (λ q. no_stamps (bounds_of sys.flow q)) (sym e))
 no-front sys p n (logged_event s) h e i = absurd (cc i)
 
-pub no-checkpoint : NoCheckpointOfNothing
+-- none is of a checkpoint of no stamps
+pub no-checkpoint : (sys : System) (state : Machine) → IsWellFormedSystem sys → IsReached sys state
+    → (entries : List Entry) → AreEntriesOf sys state entries (filter not_collected state.writes) → (p : ℕ)
+    → filter (is_checkpoint_at p (no_stamps (bounds_of sys.flow p))) entries ≡ []
 no-checkpoint sys state w reached es a p =
     let f = no_stamps (bounds_of sys.flow p) in
     let Has : Write → Type 0 = λ x. (g : Front) (low : List Front) → x.written ≡ checkpoint g low → g ≢ no_stamps (bounds_of sys.flow x.node) in
@@ -189,7 +203,10 @@ as-checkpoint : (sys : System) (state : Machine) (p : ℕ) (f : Front) (low : Li
 as-checkpoint sys state p f low (tagged.State c) a = (c, refl, a)
 as-checkpoint sys state p f low (tagged.Event q event) a = absurd a
 
-pub read-checkpoints : ReadCheckpointsAreOfWrites
+-- a record that is held as an entry's is the checkpoint of its write
+pub read-checkpoints : (sys : System) (state : Machine) (held : Records) (entry : Entry) (write : Write) → IsHeldAs sys state held entry write
+    → (f : Front) (low : List Front) → write.written ≡ checkpoint f low → (r : Record) → HoldsAs sys.flow (Some held) entry r
+    → (c : Checkpoint) × (r ≡ tagged.State c) × IsCheckpointFor sys state write.node f low c
 read-checkpoints sys state held entry write h f low is r a =
     let same : h.what ≡ r = one_spelling_lem h.what r h.of_entry.sound a.sound (some-is (spelling h.what) (spelling r) (sym h.of_entry.bytes ∙ a.bytes)) in
     as-checkpoint sys state write.node f low r
@@ -197,7 +214,11 @@ read-checkpoints sys state held entry write h f low is r a =
 
 -- ---- the step
 
-pub recoveries-recover : RecoveriesRecover
+-- a recovery of the machine recovers
+pub recoveries-recover : (sys : System) (state next : Machine) (effect : Effect) → IsWellFormedSystem sys → IsReached sys state
+    → LeadsTo sys state Recover next effect
+    → (choice : Choice) × (settled : List Front) × Recovers sys state choice settled
+    × (next ≡ recovered_state sys state choice settled) × (effect ≡ cuts choice)
 recoveries-recover sys state next effect w reached t = (
   t.1,
   t.2,
@@ -206,5 +227,8 @@ recoveries-recover sys state next effect w reached t = (
   t.8,
 )
 
-pub recovers-by_step : RecoversByStep
+-- where a node is failed what recovers is a recovery of the machine
+pub recovers-by_step : (sys : System) (state : Machine) (choice : Choice) (settled : List Front) → Recovers sys state choice settled
+    → (p : ℕ) → p < length sys.flow.nodes → is_failed state p ≡ true
+    → LeadsTo sys state Recover (recovered_state sys state choice settled) (cuts choice)
 recovers-by_step sys state choice settled r p l failed = (p, choice, settled, l, failed, r.largest, r.cuts, refl, refl)

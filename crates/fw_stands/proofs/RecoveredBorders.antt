@@ -19,12 +19,13 @@ use Rattle.fw_flow.specs.declared.restoring.Restoring.TheVariants.{Batches, Boun
 use Rattle.fw_flow.specs.Dataflow.{System, Dataflow, kind_of, policy_of, receiver, bounds_of, is_input_kind, is_output_kind}
 use Rattle.fw_flow.specs.NodeFunction.{event_node, event_stamp, rec_of_delivery, delivered_recs}
 use Rattle.fw_flow.specs.Restoring.{restoring, way_of}
-use Rattle.fw_model.specs.Choice.{kept, until, cut_of, kept_of, IsRestorable, IsCandidate}
+use Rattle.fw_flow.specs.WellFormed.{IsWellFormedSystem}
+use Rattle.fw_model.specs.Choice.{kept, until, cut_of, kept_of, IsRestorable, IsCandidate, IsLargest}
 use Rattle.fw_model.specs.Covers.{set_of}
 use Rattle.fw_model.specs.Filtering.{kept_events}
 use Rattle.fw_model.specs.History.{is_injection, injected_count}
 use Rattle.fw_model.specs.Machine.{Machine, events, front_of, is_failed, ack_count_of}
-use Rattle.fw_model.specs.Steps.{IsSettledCut, recovered_state}
+use Rattle.fw_model.specs.Steps.{IsSettledCut, recovered_state, offers, CutsTo}
 use Rattle.fw_model.proofs.AskedLaws.{reached-all}
 use Rattle.fw_model.proofs.Decisions.{two_ways}
 use Rattle.fw_model.proofs.FilterLaws.{how_many-filter, flat_map-filter}
@@ -32,20 +33,25 @@ use Rattle.fw_model.proofs.InjectionLaws.{until-leaves}
 use Rattle.fw_model.proofs.LegalLaws.{legal-in_domain}
 use Rattle.fw_model.proofs.LowLaws.{input-is}
 use Rattle.fw_model.proofs.StampLaws.{line-leq, leq-line, same-is}
+use Rattle.fw_model.specs.Reached.{IsReached}
 use Rattle.fw_border.specs.Numbers.{is_below}
 use Rattle.fw_border.specs.Sources.{SourceState, rolled_source, epochs_inside}
 use Rattle.fw_border.proofs.NumberLaws.{epochs_below, epochs_all}
-use Rattle.fw_stands.specs.LawsOfRecovered.{Recovers, NoneIsFailed, NoneIsLost, SourcesAreRolled, RecsOfPresentOutputs, RecsOfCutOutputs, SettledByCuts}
+use Rattle.fw_stands.specs.Recovered.{Recovers, IsSettledBy}
 use Rattle.fw_stands.specs.Parts.{kept_recs, IsSourceOf}
-use Rattle.fw_stands.specs.Recovered.{IsSettledBy}
 use Rattle.fw_stands.proofs.RecoveredFacts.{knows, none_failed, present_lives, events-now}
+use Rattle.fw_policy.specs.View.{IsLostAt}
 
 -- ---- who is failed, and what is lost
 
-pub none-failed : NoneIsFailed
+-- after a recovery no node is failed
+pub none-failed : (sys : System) (state : Machine) (choice : Choice) (settled : List Front) (p : ℕ)
+    → is_failed (recovered_state sys state choice settled) p ≡ false
 none-failed sys state choice settled p = none_failed sys state choice settled p
 
-pub none-lost : NoneIsLost
+-- and no event is lost
+pub none-lost : (sys : System) (state : Machine) (choice : Choice) (settled : List Front) (p : ℕ) (t : Stamp)
+    → IsLostAt sys (recovered_state sys state choice settled) p t → ⊥
 none-lost sys state choice settled p t l = two_ways (is_failed (recovered_state sys state choice settled) p) l.0 (none_failed sys state choice settled p)
 
 -- ---- what is settled
@@ -55,7 +61,11 @@ settled-by : (sys : System) (p : ℕ) (cut : Cut) (before after : Front) → IsC
 settled-by sys p Present before after old new s = s
 settled-by sys p (At f) before after old new s = s (bounds_of sys.flow p) old (new f refl)
 
-pub settled-by_cuts : SettledByCuts
+-- where the fronts are what the cuts of a largest choice leave of settled, settled is cut to them
+pub settled-by_cuts : (sys : System) (state : Machine) (choice : Choice) → IsWellFormedSystem sys → IsReached sys state
+    → IsLargest sys state (offers sys state) choice → (settled : List Front) → length settled ≡ length sys.flow.nodes
+    → ((p : ℕ) → p < length sys.flow.nodes → IsSettledBy (front_of state.settled p) (cut_of choice p) (front_of settled p))
+    → CutsTo sys state choice settled
 settled-by_cuts sys state choice w reached largest settled n each =
     let all = reached-all sys w reached.0 reached.1 state reached.2 in
     record {
@@ -124,7 +134,11 @@ source-rolled sys state choice settled r s l input source a (At f) is =
     ] in
     record { given = a.given; injected = count; held = a.held }
 
-pub sources-rolled : SourcesAreRolled
+-- an input has injected as much as lies in its cut, and holds its batches
+pub sources-rolled : (sys : System) (state : Machine) (choice : Choice) (settled : List Front) → Recovers sys state choice settled
+    → (s : ℕ) → s < length sys.flow.nodes → is_input_kind (kind_of sys.flow s) ≡ true
+    → (source : SourceState) → IsSourceOf sys state s source
+    → IsSourceOf sys (recovered_state sys state choice settled) s (rolled_source (cut_of choice s) source)
 sources-rolled sys state choice settled r s l input source a = source-rolled sys state choice settled r s l input source a (cut_of choice s) refl
 
 -- ---- outputs
@@ -144,7 +158,10 @@ recs-now sys state choice settled o x =
     ap (λ b. cond (b || below) [] (recs (events next.history))) (none_failed sys state choice settled o)
     ∙ ap (λ vs. cond below [] (recs vs)) (events-now sys state choice settled)
 
-pub recs-present : RecsOfPresentOutputs
+-- an output that stays as it is has its recs
+pub recs-present : (sys : System) (state : Machine) (choice : Choice) (settled : List Front) → Recovers sys state choice settled
+    → (o : ℕ) → o < length sys.flow.nodes → cut_of choice o ≡ Present → (x : ℕ)
+    → kept_recs sys (recovered_state sys state choice settled) o x ≡ kept_recs sys state o x
 recs-present sys state choice settled r o l is x =
     let k = knows sys state choice settled r in
     let h = events state.history in
@@ -198,7 +215,10 @@ left-none flow keep o x out (v ∷ h) =
         absurd (two_ways (keep o (x ∷ [])) (ap (keep o) (sym (same-is m.at (x ∷ []) a.1)) ∙ ap (λ q. keep q m.at) (sym (eqb-true (receiver flow e) o a.0)) ∙ i) out))
         (λ c. rest)
 
-pub recs-cut : RecsOfCutOutputs
+-- one that is cut has none
+pub recs-cut : (sys : System) (state : Machine) (choice : Choice) (settled : List Front) → Recovers sys state choice settled
+    → (o : ℕ) → o < length sys.flow.nodes → is_output_kind (kind_of sys.flow o) ≡ true → (f : Front) → cut_of choice o ≡ At f → (x : ℕ)
+    → kept_recs sys (recovered_state sys state choice settled) o x ≡ []
 recs-cut sys state choice settled r o l output f is x =
     let keep = kept_of sys.flow choice in
     let bound = ack_count_of state o in

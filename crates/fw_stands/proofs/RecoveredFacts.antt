@@ -34,7 +34,7 @@ use Rattle.fw_model.proofs.FilteredLaws.{filtered-events, consistent-meets, choi
 use Rattle.fw_model.proofs.LegalLaws.{legal_events-in_domain, legal_messages-in_domain}
 use Rattle.fw_model.proofs.LocalityLaws.{sends-causes, sends-same}
 use Rattle.fw_model.proofs.RestoringLaws.{full-reached}
-use Rattle.fw_stands.specs.LawsOfRecovered.{Recovers}
+use Rattle.fw_stands.specs.Recovered.{Recovers}
 
 -- ---- what is known
 

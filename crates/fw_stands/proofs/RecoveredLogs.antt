@@ -1,5 +1,5 @@
 -- What logs hold after a recovery.
-use Rattle.std.proofs.Common.{◌≡◌, ◌≢◌, ℕ, Bool, true, false, not, List, [], ◌∷◌, ◌++◌, refl, sym, ap, subst, ◌∙◌, inl, inr}
+use Rattle.std.proofs.Common.{◌≡◌, ◌≢◌, ℕ, Bool, true, false, not, List, [], ◌∷◌, ◌++◌, refl, sym, ap, subst, ◌∙◌, inl, inr, ◌<◌, length}
 use Rattle.std.proofs.lemmas.Bool.{cases_Bool, cond-false, cond-true, and_from, and_left, false_from_ne_true}
 use Rattle.std.specs.List.{AllByRecursion, Contains}
 use Rattle.std.proofs.lemmas.List.Elements.{filter-append}
@@ -20,8 +20,8 @@ use Rattle.fw_flow.specs.Dataflow.{System, Dataflow, kind_of, policy_of, sender,
 use Rattle.fw_flow.specs.NodeFunction.{event_stamp, sends, sent_by}
 use Rattle.fw_flow.specs.Projection.{events_at, all_inside}
 use Rattle.fw_flow.specs.declared.restoring.Restoring.TheVariants.{Checkpoints, Events}
-use Rattle.fw_flow.specs.Restoring.{can_resend, restoring}
-use Rattle.fw_flow.specs.WellFormed.{IsPolicyAllowed, IsWellFormedSystem, may_keep_nothing}
+use Rattle.fw_flow.specs.Restoring.{can_resend, restoring, way_of}
+use Rattle.fw_flow.specs.WellFormed.{IsPolicyAllowed, IsWellFormedSystem, may_keep_nothing, IsWellFormed}
 use Rattle.fw_model.specs.Choice.{cut_of, kept_of}
 use Rattle.fw_model.specs.Covers.{set_of}
 use Rattle.fw_model.specs.Filtering.{events_inside, messages_from, messages_outside}
@@ -42,9 +42,11 @@ use Rattle.fw_model.proofs.RestoringLaws.{watermarks-today}
 use Rattle.fw_model.proofs.SendPartLaws.{part-sends, passing-send}
 use Rattle.fw_model.proofs.SequenceLaws.{one_inside}
 use Rattle.fw_model.proofs.SortedLaws.{sorted_messages-filter}
-use Rattle.fw_stands.specs.LawsOfRecovered.{Recovers, LogsFromCheckpoints, LogsFromReplay, LogsOfCutsToNothing, LogsOfOthers, LogsOfPresentSenders, OtherWaysHaveNoLog}
+use Rattle.fw_stands.specs.Recovered.{Recovers}
 use Rattle.fw_stands.specs.Parts.{is_logging, logged}
-use Rattle.fw_stands.specs.Written.{to_log, logged_on}
+use Rattle.fw_record.specs.Log.{logged_on}
+use Rattle.fw_record.specs.declared.record.Checkpoint.{Checkpoint}
+use Rattle.fw_stands.specs.Written.{to_log, IsCheckpointFor}
 use Rattle.fw_stands.proofs.RecoveredFacts.{knows, none_failed, present_lives, IsCausedIn, legal-caused, legal-at, sent-now, outside-front, none_given-up, each-contained}
 
 -- ---- after any recovery
@@ -56,8 +58,8 @@ logged-live sys state e can live =
     cond-true (is_logging sys state e) (sorted_messages (messages_outside (family_of sys.flow state.low (receiver sys.flow e)) (sent_messages sys (events state.history) e))) []
     (and_from (can_resend (policy_of sys.flow (sender sys.flow e))) (not (is_failed state (sender sys.flow e))) can (ap not live))
 
--- that of one that cannot
-pub logged-none : LogsOfOthers
+-- the log of a sender that cannot send again is empty
+pub logged-none : (sys : System) (state : Machine) (e : ℕ) → can_resend (policy_of sys.flow (sender sys.flow e)) ≡ false → logged sys state e ≡ []
 logged-none sys state e cannot =
     cond-false (is_logging sys state e) (sorted_messages (messages_outside (family_of sys.flow state.low (receiver sys.flow e)) (sent_messages sys (events state.history) e))) []
     (and_left (can_resend (policy_of sys.flow (sender sys.flow e))) (not (is_failed state (sender sys.flow e))) cannot)
@@ -81,7 +83,10 @@ present-keeps flow choice p is ms a =
     (λ m c. all-of_each (kept_of flow choice p) m.causes
     (each-weaker (λ t. in_domain (bounds_of flow p) t ≡ true) (λ t. kept_of flow choice p t ≡ true) m.causes (λ t d. ap (λ x. set_of flow p x t) is ∙ d) c)) a)
 
-pub logs-present : LogsOfPresentSenders
+-- the log of a sender that stays as it is stays
+pub logs-present : (sys : System) (state : Machine) (choice : Choice) (settled : List Front) → Recovers sys state choice settled
+    → (e : ℕ) → e < length sys.flow.edges → cut_of choice (sender sys.flow e) ≡ Present
+    → logged sys (recovered_state sys state choice settled) e ≡ logged sys state e
 logs-present sys state choice settled r e l is =
     let w = r.well_formed.flow in
     let k = knows sys state choice settled r in
@@ -120,7 +125,10 @@ none-from sys p (v ∷ vs) =
     (each-weaker (λ (m : Message). m.causes ≡ event_stamp v ∷ []) (λ m. from m ≡ false) (sends sys p vs v) (λ m e. one_inside f (event_stamp v) m false none e) (sends-causes sys p vs v)))
     ∙ none-from sys p vs
 
-pub logs-of_nothing : LogsOfCutsToNothing
+-- the log of a sender that is cut to no stamps is empty
+pub logs-of_nothing : (sys : System) (state : Machine) (choice : Choice) (settled : List Front) → Recovers sys state choice settled
+    → (e : ℕ) → e < length sys.flow.edges → cut_of choice (sender sys.flow e) ≡ At (no_stamps (bounds_of sys.flow (sender sys.flow e)))
+    → logged sys (recovered_state sys state choice settled) e ≡ []
 logs-of_nothing sys state choice settled r e l is =
     let p = sender sys.flow e in
     elim (cases_Bool (can_resend (policy_of sys.flow p))) [
@@ -150,7 +158,14 @@ kept-today sys state w reached write f low has is e =
     (each-contained (λ (x : Write). IsKeptWithin sys state.low x.written) state.writes write (watermarks-today sys w reached.0 reached.1 state reached.2) has)
     (receiver sys.flow e)
 
-pub logs-from_checkpoints : LogsFromCheckpoints
+-- the log of a sender that is cut to a checkpoint is what the checkpoint's record holds on the edge, but for what lies inside
+-- today's low watermark of the receiver
+pub logs-from_checkpoints : (sys : System) (state : Machine) (choice : Choice) (settled : List Front) → Recovers sys state choice settled
+    → (e : ℕ) → e < length sys.flow.edges → (f : Front) → cut_of choice (sender sys.flow e) ≡ At f
+    → (write : Write) (low : List Front) → Contains state.writes write → write.written ≡ checkpoint f low
+    → (c : Checkpoint) → IsCheckpointFor sys state (sender sys.flow e) f low c
+    → logged sys (recovered_state sys state choice settled) e
+    ≡ sorted_messages (messages_outside (inside (front_of state.low (receiver sys.flow e))) (logged_on e c.log))
 logs-from_checkpoints sys state choice settled r e l f is write low has written c held =
     let ms = logged_on e c.log in
     let same = held.log e refl in
@@ -210,7 +225,14 @@ replayed-at sys state choice settled r e full f is =
       | inr must ↦ subst (λ us. AllByRecursion P (sent_by sys p us)) (sym (none_given-up sys state.low p must (events_inside b vs))) cut_sent
     ])
 
-pub logs-from_replay : LogsFromReplay
+-- the log of a sender that logs its events and is cut is what the logged events that are left send inside the cut, but for what
+-- lies inside the low watermark of the receiver
+pub logs-from_replay : (sys : System) (state : Machine) (choice : Choice) (settled : List Front) → Recovers sys state choice settled
+    → (e : ℕ) → e < length sys.flow.edges → policy_of sys.flow (sender sys.flow e) ≡ policy.Full
+    → (f : Front) → cut_of choice (sender sys.flow e) ≡ At f
+    → logged sys (recovered_state sys state choice settled) e
+    ≡ sorted_messages (messages_outside (inside (front_of state.low (receiver sys.flow e)))
+    (sent_by sys (sender sys.flow e) (replayed_events sys state (sender sys.flow e) (node_frontier sys.flow (sender sys.flow e) f))))
 logs-from_replay sys state choice settled r e l full f is =
     let p = sender sys.flow e in
     let q = receiver sys.flow e in
@@ -232,5 +254,7 @@ cannot-resend kind policy.Logged a n m = absurd (n refl)
 cannot-resend kind policy.Eager a n m = absurd (n refl)
 cannot-resend kind policy.Full a n m = absurd (m refl)
 
-pub others-have_no_log : OtherWaysHaveNoLog
+-- a node that is restored neither by checkpoints nor by its events cannot send again
+pub others-have_no_log : (flow : Dataflow) → IsWellFormed flow → (p : ℕ) → p < length flow.nodes → way_of flow p ≢ Checkpoints → way_of flow p ≢ Events
+    → can_resend (policy_of flow p) ≡ false
 others-have_no_log flow w p l n m = cannot-resend (kind_of flow p) (policy_of flow p) (w.policies p l) n m

@@ -1,5 +1,5 @@
 -- What is counted after a recovery.
-use Rattle.std.proofs.Common.{◌≡◌, ℕ, ◌+◌, Bool, true, false, cond, ◌&&◌, List, [], ◌∷◌, filter, refl, sym, ap, subst, ◌∙◌, inl, inr, arith}
+use Rattle.std.proofs.Common.{◌≡◌, ℕ, ◌+◌, Bool, true, false, cond, ◌&&◌, List, [], ◌∷◌, filter, refl, sym, ap, subst, ◌∙◌, inl, inr, arith, ◌<◌, length, slice_index_or}
 use Rattle.std.specs.List.{AllByRecursion}
 use Rattle.std.proofs.lemmas.Bool.{and_from, cases_Bool, cond_both, or_cases}
 use Rattle.std.proofs.lemmas.List.Kept.{IsNonDecreasingBy-filter}
@@ -14,9 +14,10 @@ use Rattle.fw_flow.specs.declared.event.Event.{Event}
 use Rattle.fw_flow.specs.declared.event.Event.TheVariants.{Inject, Deliver, Notify}
 use Rattle.fw_flow.specs.declared.event.Message.{Message}
 use Rattle.fw_flow.specs.Counting.{how_many}
-use Rattle.fw_flow.specs.Dataflow.{System, bounds_of, node_frontier}
+use Rattle.fw_flow.specs.Dataflow.{System, bounds_of, node_frontier, kind_of}
 use Rattle.fw_flow.specs.NodeFunction.{event_stamp, sent_by}
 use Rattle.fw_flow.specs.Projection.{events_at, all_inside, count_from, table_count}
+use Rattle.fw_flow.specs.declared.kind.Kind.TheVariants.{Sequence}
 use Rattle.fw_model.specs.Choice.{cut_of, kept_of}
 use Rattle.fw_model.specs.Filtering.{messages_from}
 use Rattle.fw_model.specs.History.{pending_messages, was_notified}
@@ -32,14 +33,16 @@ use Rattle.fw_model.proofs.StampLaws.{same-is}
 use Rattle.fw_model.proofs.WeightLaws.{weigh}
 use Rattle.fw_model.proofs.ToldLaws.{notified-told}
 use Rattle.fw_progress.specs.Counts.{sent_of}
-use Rattle.fw_progress.specs.Cut.{IsTableAfter, events_left}
-use Rattle.fw_progress.specs.History.{count_at}
-use Rattle.fw_stands.specs.LawsOfRecovered.{Recovers, CountedTablesAreLeft, QueuesCountWhatIsPending, SentTablesAreLeft}
-use Rattle.fw_stands.specs.Recovered.{table_left}
+use Rattle.fw_progress.specs.Cut.{IsTableAfter, events_left, AreTablesAfter, ArePendingAfter}
+use Rattle.fw_progress.specs.History.{count_at, IsCountOf}
+use Rattle.fw_progress.specs.declared.counts.Counts.{Counts}
+use Rattle.fw_progress.specs.Tally.{times_in}
+use Rattle.fw_stands.specs.Recovered.{Recovers, table_left}
 use Rattle.fw_stands.proofs.RecoveredFacts.{knows, events-now, from-cut, legal-caused}
 use Rattle.fw_stands.proofs.RecoveredQueues.{queued-now}
 use Rattle.fw_stands.proofs.RecoveredTables.{events-present, events-cut}
 use Rattle.fw_stands.proofs.RedoneLaws.{told-notified, told-inside}
+use Rattle.fw_stands.specs.Parts.{queued}
 
 -- ---- what is pending
 
@@ -68,7 +71,11 @@ count-sorted t ms =
     let test : Message → Bool = λ m. same t m.at in
     how_many-weigh test (sorted_messages ms) ∙ sorted_messages-weigh (λ m. cond (test m) 1 0) ms ∙ sym (how_many-weigh test ms)
 
-pub queues-count : QueuesCountWhatIsPending
+-- counts of what is queued after a recovery count what is pending
+pub queues-count : (sys : System) (state : Machine) (choice : Choice) (settled : List Front) (pending : List (List (Stamp × ℕ)))
+    → ((e : ℕ) → e < length sys.flow.edges → (t : Stamp)
+    → times_in t (slice_index_or pending e []) ≡ count_at t (queued sys (recovered_state sys state choice settled) e))
+    → ArePendingAfter sys (events_left sys choice state.history) pending
 queues-count sys state choice settled pending counted e l t =
     counted e l t ∙ ap (count_at t) (queued-now sys state choice settled e)
     ∙ count-sorted t (pending_messages sys (events (recovered_state sys state choice settled).history) e)
@@ -169,10 +176,18 @@ table-left sys state choice settled r p table a (At f) is =
           ∙ told-inside b vs t (and_from (in_domain (bounds_of sys.flow p) t) (inside f t) d i) told)) a.epochs);
     }
 
-pub tables-left : SentTablesAreLeft
+-- what a cut leaves of a sequence's table is its table after the recovery
+pub tables-left : (sys : System) (state : Machine) (choice : Choice) (settled : List Front) → Recovers sys state choice settled
+    → (p : ℕ) → p < length sys.flow.nodes → (table : List (ℕ × ℕ)) → IsTableAfter sys (events state.history) p table
+    → IsTableAfter sys (events_left sys choice state.history) p (table_left (cut_of choice p) table)
 tables-left sys state choice settled r p l table a = table-left sys state choice settled r p table a (cut_of choice p) refl
 
-pub counted-left : CountedTablesAreLeft
+-- so where the tables are what the cuts leave of those that are counted, they are the tables after the recovery
+pub counted-left : (sys : System) (state : Machine) (choice : Choice) (settled : List Front) → Recovers sys state choice settled
+    → (counts : Counts) → IsCountOf sys (events state.history) counts → (tables : List (List (ℕ × ℕ)))
+    → ((p : ℕ) → p < length sys.flow.nodes → kind_of sys.flow p ≡ Sequence
+    → slice_index_or tables p [] ≡ table_left (cut_of choice p) (sent_of counts p))
+    → AreTablesAfter sys (events_left sys choice state.history) tables
 counted-left sys state choice settled r counts c tables same p l is =
     subst (IsTableAfter sys (events_left sys choice state.history) p) (sym (same p l is))
     (tables-left sys state choice settled r p l (sent_of counts p) (record { sent = c.sent p l is; in_order = c.in_order p l is; epochs = c.epochs p l is }))

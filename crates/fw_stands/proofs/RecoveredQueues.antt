@@ -5,7 +5,7 @@ use Rattle.fw_time.specs.Stamp.{in_domain}
 use Rattle.fw_time.proofs.EachLaws.{each-kept}
 use Rattle.fw_frontier.specs.Front.{Front, inside}
 use Rattle.fw_flow.specs.declared.choice.Choice.{Choice}
-use Rattle.fw_flow.specs.declared.choice.Cut.TheVariants.{At}
+use Rattle.fw_flow.specs.declared.choice.Cut.TheVariants.{At, Present}
 use Rattle.fw_flow.specs.declared.event.Message.{Message}
 use Rattle.fw_flow.specs.Dataflow.{System, policy_of, sender, receiver, bounds_of}
 use Rattle.fw_flow.specs.Projection.{all_inside}
@@ -23,7 +23,7 @@ use Rattle.fw_model.specs.Steps.{recovered_state, front_of_cut}
 use Rattle.fw_model.proofs.PendingKeptLaws.{pending-present, pending-cut, pending-without_log}
 use Rattle.fw_model.proofs.RestoringLaws.{logs-hold}
 use Rattle.fw_model.proofs.SortedLaws.{sorted_messages-filter, sorted_messages-twice}
-use Rattle.fw_stands.specs.LawsOfRecovered.{Recovers, QueuesOfPresentReceivers, QueuesOfCutReceivers}
+use Rattle.fw_stands.specs.Recovered.{Recovers}
 use Rattle.fw_stands.specs.Parts.{queued, logged}
 use Rattle.fw_stands.proofs.RecoveredLogs.{logged-none, logged-now}
 use Rattle.fw_stands.proofs.RecoveredFacts.{knows, no_input-receives, cut_within-settled, none_failed, present_lives, IsCausedIn, legal-caused, legal-at, from-cut, outside-cut}
@@ -38,7 +38,11 @@ queued-now sys state choice settled e =
 
 -- ---- a receiver that stays as it is
 
-pub queues-present : QueuesOfPresentReceivers
+-- after a recovery what is queued for a receiver that stays as it is is of what was queued what comes from inside the sender's cut
+pub queues-present : (sys : System) (state : Machine) (choice : Choice) (settled : List Front) → Recovers sys state choice settled
+    → (e : ℕ) → e < length sys.flow.edges → cut_of choice (receiver sys.flow e) ≡ Present
+    → queued sys (recovered_state sys state choice settled) e
+    ≡ messages_from (inside (front_of_cut (cut_of choice (sender sys.flow e)))) (queued sys state e)
 queues-present sys state choice settled r e l is =
     let w = r.well_formed.flow in
     let k = knows sys state choice settled r in
@@ -85,7 +89,11 @@ logged-outside sys state choice settled r e l g is can =
     ∙ sorted_messages-twice (messages_outside (inside g) log)
     ∙ ap sorted_messages (ap (λ c. messages_outside (inside (front_of_cut c)) log) (sym is) ∙ sym (outside-cut sys choice q log at) ∙ held.logged)
 
-pub queues-cut : QueuesOfCutReceivers
+-- what is queued for a receiver that is cut is what the edge's log holds outside the cut, and nothing where there is no log
+pub queues-cut : (sys : System) (state : Machine) (choice : Choice) (settled : List Front) → Recovers sys state choice settled
+    → (e : ℕ) → e < length sys.flow.edges → (g : Front) → cut_of choice (receiver sys.flow e) ≡ At g
+    → queued sys (recovered_state sys state choice settled) e
+    ≡ sorted_messages (messages_outside (inside g) (logged sys (recovered_state sys state choice settled) e))
 queues-cut sys state choice settled r e l g is =
     let w = r.well_formed.flow in
     let k = knows sys state choice settled r in

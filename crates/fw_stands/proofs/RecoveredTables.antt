@@ -1,11 +1,11 @@
 -- Which tables nodes have after a recovery.
-use Rattle.std.proofs.Common.{◌≡◌, ℕ, ◌<◌, Bool, true, false, ◌&&◌, ◌||◌, ◌==◌, not, List, [], length, Some, refl, sym, ap, subst, ◌∙◌, inl, inr}
+use Rattle.std.proofs.Common.{◌≡◌, ℕ, ◌<◌, Bool, true, false, ◌&&◌, ◌||◌, ◌==◌, not, List, [], length, Some, refl, sym, ap, subst, ◌∙◌, inl, inr, Option, None}
 use Rattle.std.specs.Prelude.{IfSome}
 use Rattle.std.proofs.lemmas.Bool.{and_parts, cases_Bool, false_from_ne_true}
 use Rattle.fw_time.specs.Stamp.{Stamp, in_domain}
 use Rattle.fw_time.proofs.EachLaws.{each-weaker, each-one}
 use Rattle.fw_frontier.specs.Frontier.{Frontier, meet, nothing}
-use Rattle.fw_frontier.specs.Front.{Front}
+use Rattle.fw_frontier.specs.Front.{Front, inside, IsCanonical}
 use Rattle.fw_frontier.proofs.NamesLaws.{names-same}
 use Rattle.fw_flow.specs.declared.choice.Choice.{Choice}
 use Rattle.fw_flow.specs.declared.choice.Cut.TheVariants.{Present, At}
@@ -15,7 +15,7 @@ use Rattle.fw_flow.specs.declared.kind.Kind.TheVariants.{Input, OutputEpoch, Out
 use Rattle.fw_flow.specs.declared.kind.Policy.{Policy}
 use Rattle.fw_flow.specs.declared.kind.Policy.TheVariants as policy
 use Rattle.fw_flow.specs.declared.restoring.Restoring.TheVariants.{Batches, Bound, Anything, Checkpoints}
-use Rattle.fw_flow.specs.Dataflow.{System, Dataflow, kind_of, policy_of, in_edges, bounds_of, node_frontier, is_input_kind, is_output_kind}
+use Rattle.fw_flow.specs.Dataflow.{System, Dataflow, kind_of, policy_of, in_edges, bounds_of, node_frontier, is_input_kind, is_output_kind, is_notified_kind}
 use Rattle.fw_flow.specs.NodeFunction.{event_node, event_stamp}
 use Rattle.fw_flow.specs.Projection.{events_at}
 use Rattle.fw_flow.specs.Restoring.{restoring, way_of}
@@ -41,16 +41,19 @@ use Rattle.fw_node.specs.Arrived.{AreOnEdges}
 use Rattle.fw_node.specs.StateOf.{IsStateOf}
 use Rattle.fw_node.specs.TableOf.{IsTableOf}
 use Rattle.fw_node.proofs.OnEdgesLaws.{events_come_on_in_edges}
-use Rattle.fw_stands.specs.LawsOfRecovered.{Recovers, SettledAtCuts, CutsAreCanonical, ReplayedEventsAreTold, TablesOfPresent, TablesOfBorders, TablesOfNew, TablesOfCutsToNothing, TablesFromCheckpoints, TablesFromReplay}
+use Rattle.fw_stands.specs.Recovered.{Recovers}
 use Rattle.fw_stands.specs.Parts.{IsTableIn}
-use Rattle.fw_stands.specs.Written.{events_within}
+use Rattle.fw_stands.specs.Written.{events_within, IsCheckpointFor}
 use Rattle.fw_stands.proofs.RecoveredFacts.{knows, none_failed, present_lives, cut_within-settled, events-now, none_given-up}
 use Rattle.fw_stands.proofs.RedoneLaws.{inside-both, full-inner, delivered-there, each-delivery_both, each-delivery_weaker, told-inside}
 use Rattle.fw_stands.proofs.TableLaws.{stands-also}
+use Rattle.fw_record.specs.declared.record.Checkpoint.{Checkpoint}
 
 -- ---- what is settled
 
-pub cuts-canonical : CutsAreCanonical
+-- the front of a cut is canonical, so that its stamps are of the node's domain
+pub cuts-canonical : (sys : System) (state : Machine) (choice : Choice) (settled : List Front) → Recovers sys state choice settled
+    → (p : ℕ) → p < length sys.flow.nodes → (f : Front) → cut_of choice p ≡ At f → IsCanonical (bounds_of sys.flow p) f
 cuts-canonical sys state choice settled r p l f is =
     (subst (IsCandidate sys state (is_failed state) kept p) is (r.largest.consistent.offered p l)).0
 
@@ -59,7 +62,10 @@ meet-within true b h = refl
 meet-within false true h = sym (h refl)
 meet-within false false h = refl
 
-pub settled-at_cut : SettledAtCuts
+-- where a node that is no input is cut, what is settled of it is its cut
+pub settled-at_cut : (sys : System) (state : Machine) (choice : Choice) (settled : List Front) → Recovers sys state choice settled
+    → (p : ℕ) → p < length sys.flow.nodes → is_input_kind (kind_of sys.flow p) ≡ false → (f : Front) → cut_of choice p ≡ At f
+    → front_of settled p ≡ f
 settled-at_cut sys state choice settled r p l n f is =
     let old = node_frontier sys.flow p (front_of state.settled p) in
     let new = node_frontier sys.flow p f in
@@ -155,13 +161,18 @@ anything-keeps kind p a e = refl
 
 -- ---- the tables
 
-pub tables-borders : TablesOfBorders
+-- an input or an output has none
+pub tables-borders : (sys : System) (state : Machine) (p : ℕ) → (is_input_kind (kind_of sys.flow p) || is_output_kind (kind_of sys.flow p)) ≡ true
+    → IsTableIn sys state p None
 tables-borders sys state p border = record {
   there = has-none (is_input_kind (kind_of sys.flow p)) (is_output_kind (kind_of sys.flow p)) (is_failed state p) border;
   of_events = tt;
 }
 
-pub tables-present : TablesOfPresent
+-- a node that stays as it is has the table that it had
+pub tables-present : (sys : System) (state : Machine) (choice : Choice) (settled : List Front) → Recovers sys state choice settled
+    → (p : ℕ) → p < length sys.flow.nodes → cut_of choice p ≡ Present
+    → (table : Option Node) → IsTableIn sys state p table → IsTableIn sys (recovered_state sys state choice settled) p table
 tables-present sys state choice settled r p l is table t =
     let next = recovered_state sys state choice settled in
     let Of : Front → List Event → Type 0 = λ f vs. IfSome table (λ node. IsTableOf sys.flow p (node_frontier sys.flow p f) node vs) in
@@ -210,7 +221,11 @@ are-inside sys state choice settled r p l k =
       on_edges = (events_come_on_in_edges sys.flow p l h k).1;
     }
 
-pub tables-new : TablesOfNew
+-- a node that is restored to anything settled has a new table, to which nothing came
+pub tables-new : (sys : System) (state : Machine) (choice : Choice) (settled : List Front) → Recovers sys state choice settled
+    → (p : ℕ) → p < length sys.flow.nodes → way_of sys.flow p ≡ Anything → (f : Front) → cut_of choice p ≡ At f
+    → (node : Node) → ((inside : Stamp → Bool) → IsTableOf sys.flow p inside node [])
+    → IsTableIn sys (recovered_state sys state choice settled) p (Some node)
 tables-new sys state choice settled r p l way f is node new =
     let b = node_frontier sys.flow p f in
     let w = r.well_formed.flow in
@@ -219,7 +234,12 @@ tables-new sys state choice settled r p l way f is node new =
     (stands-also sys.flow p b node [] (events_inside b (events_at sys.flow p (events state.history)))
     (anything-keeps (kind_of sys.flow p) (policy_of sys.flow p) (w.policies p l) way) tt a.inside a.on_edges a.in_the_domain (new b))
 
-pub tables-nothing : TablesOfCutsToNothing
+-- a node that is no input and no output and is cut to no stamps has a new table too
+pub tables-nothing : (sys : System) (state : Machine) (choice : Choice) (settled : List Front) → Recovers sys state choice settled
+    → (p : ℕ) → p < length sys.flow.nodes → (is_input_kind (kind_of sys.flow p) || is_output_kind (kind_of sys.flow p)) ≡ false
+    → cut_of choice p ≡ At (no_stamps (bounds_of sys.flow p))
+    → (node : Node) → ((inside : Stamp → Bool) → IsTableOf sys.flow p inside node [])
+    → IsTableIn sys (recovered_state sys state choice settled) p (Some node)
 tables-nothing sys state choice settled r p l inner is node new =
     let f = no_stamps (bounds_of sys.flow p) in
     let b = node_frontier sys.flow p f in
@@ -237,7 +257,14 @@ within-at sys state p f =
     filter-swap (λ v. event_node sys.flow v == p) (λ v. b (event_stamp v)) (λ v. b (event_stamp v)) h
     (each-one (λ v. (event_node sys.flow v == p) ≡ true → b (event_stamp v) ≡ b (event_stamp v)) h (λ v e. refl))
 
-pub tables-from_checkpoints : TablesFromCheckpoints
+-- a node that is cut to a checkpoint has a table that stands for all events inside of which the checkpoint's state is the one
+pub tables-from_checkpoints : (sys : System) (state : Machine) (choice : Choice) (settled : List Front) → Recovers sys state choice settled
+    → (p : ℕ) → p < length sys.flow.nodes → way_of sys.flow p ≡ Checkpoints → (f : Front) → cut_of choice p ≡ At f
+    → (low : List Front) (c : Checkpoint) → IsCheckpointFor sys state p f low c
+    → (node : Node) → ((before : List Event) → EachDelivery (λ s. node_frontier sys.flow p f s ≡ true) before
+    → AreOnEdges (in_edges sys.flow p) before → IsStateOf (kind_of sys.flow p) before c.state
+    → IsTableOf sys.flow p (node_frontier sys.flow p f) node before)
+    → IsTableIn sys (recovered_state sys state choice settled) p (Some node)
 tables-from_checkpoints sys state choice settled r p l way f is low c held node built =
     let b = node_frontier sys.flow p f in
     let vs = events_inside b (events_at sys.flow p (events state.history)) in
@@ -257,7 +284,11 @@ left-are sys state choice settled r p f full is =
     replayed-those sys r.well_formed r.reached.0 r.reached.1 state r.reached.2 (is_failed state) choice r.largest p f full is
     ∙ inside-both (node_frontier sys.flow p f) (not_given_up sys state.low p) (events_at sys.flow p (events state.history))
 
-pub replayed-told : ReplayedEventsAreTold
+-- of each stamp inside its cut at which one of the logged events that are left delivered something, one of them notifies the node, if
+-- it is notified
+pub replayed-told : (sys : System) (state : Machine) (choice : Choice) (settled : List Front) → Recovers sys state choice settled
+    → (p : ℕ) (f : Front) → policy_of sys.flow p ≡ policy.Full → cut_of choice p ≡ At f → is_notified_kind (kind_of sys.flow p) ≡ true
+    → AreToldInside (node_frontier sys.flow p f) (replayed_events sys state p (node_frontier sys.flow p f))
 replayed-told sys state choice settled r p f full is n =
     let w = r.well_formed.flow in
     let known = knows sys state choice settled r in
@@ -275,7 +306,11 @@ replayed-told sys state choice settled r p f full is n =
     (λ s a i. told-inside k vs s a.0.0 (paid-told sys h p s n a.1 (known.full.paid p s (within s i))))
     (each-delivery_both Inside Came us (deliveries_lie-inside sys h w known.epochs known.legal p k) (delivered-there sys.flow p k Came h (λ s i. i))))
 
-pub tables-from_replay : TablesFromReplay
+-- a node that logs its events and is cut has a table that stands for the logged events that are left, where its cut is settled
+pub tables-from_replay : (sys : System) (state : Machine) (choice : Choice) (settled : List Front) → Recovers sys state choice settled
+    → (p : ℕ) (f : Front) → policy_of sys.flow p ≡ policy.Full → cut_of choice p ≡ At f
+    → (node : Node) → IsTableOf sys.flow p (node_frontier sys.flow p f) node (replayed_events sys state p (node_frontier sys.flow p f))
+    → IsTableIn sys (recovered_state sys state choice settled) p (Some node)
 tables-from_replay sys state choice settled r p f full is node t =
     let w = r.well_formed.flow in
     let l = full-declared sys.flow p full in

@@ -8,7 +8,7 @@ use Rattle.fw_frontier.specs.Frontier.{Frontier, Within, nothing}
 use Rattle.fw_frontier.specs.Front.{Front}
 use Rattle.fw_frontier.proofs.NamesLaws.{frontier-closed}
 use Rattle.fw_flow.specs.declared.choice.Choice.{Choice}
-use Rattle.fw_flow.specs.declared.choice.Cut.TheVariants.{At}
+use Rattle.fw_flow.specs.declared.choice.Cut.TheVariants.{At, Present}
 use Rattle.fw_flow.specs.declared.choice.Stamps.{Stamps}
 use Rattle.fw_flow.specs.Dataflow.{System, kind_of, policy_of, bounds_of, node_frontier, is_input_kind}
 use Rattle.fw_flow.specs.NodeFunction.{event_stamp, sent_by}
@@ -29,17 +29,22 @@ use Rattle.fw_model.proofs.LowLaws.{input-is, none-within}
 use Rattle.fw_model.proofs.RestoringLaws.{low-kept}
 use Rattle.fw_model.proofs.SendPartLaws.{part-sends}
 use Rattle.fw_policy.specs.View.{base_of}
-use Rattle.fw_progress.specs.Trace.{AreEventsInside, IsTraceOf}
+use Rattle.fw_policy.specs.Entries.{count_within}
+use Rattle.fw_progress.specs.Trace.{AreEventsInside, IsTraceOf, AreRestoredTo, AreCutTo}
 use Rattle.fw_progress.proofs.CutTraceLaws.{same-trace}
-use Rattle.fw_stands.specs.LawsOfRecovered.{Recovers, TracesOfPresent, TracesOfCuts, TracesFromCheckpoints, TracesOfCutsToNothing}
-use Rattle.fw_stands.specs.Recovered.{AreNoStamps}
+use Rattle.fw_progress.specs.declared.traces.Traces.{Traces}
+use Rattle.fw_stands.specs.Recovered.{Recovers, AreNoStamps}
 use Rattle.fw_stands.specs.Written.{events_within}
 use Rattle.fw_stands.proofs.RecoveredFacts.{knows, events-now}
 use Rattle.fw_stands.proofs.RecoveredTables.{events-present, events-cut, settled-at_cut, within-at}
+use Rattle.fw_stands.specs.Parts.{IsTraceIn}
 
 -- ---- a node that stays as it is
 
-pub traces-present : TracesOfPresent
+-- a node that stays as it is has its traces
+pub traces-present : (sys : System) (state : Machine) (choice : Choice) (settled : List Front) → Recovers sys state choice settled
+    → (p : ℕ) → p < length sys.flow.nodes → cut_of choice p ≡ Present
+    → (traces : Traces) → IsTraceIn sys state p traces → IsTraceIn sys (recovered_state sys state choice settled) p traces
 traces-present sys state choice settled r p l is traces t =
     let now = events (recovered_state sys state choice settled).history in
     let takes = takes_checkpoints (policy_of sys.flow p) in
@@ -52,7 +57,11 @@ traces-present sys state choice settled r p l is traces t =
 
 -- ---- a node without checkpoints
 
-pub traces-cut : TracesOfCuts
+-- those of a node that takes no checkpoints are cut to its cut
+pub traces-cut : (sys : System) (state : Machine) (choice : Choice) (settled : List Front) → Recovers sys state choice settled
+    → (p : ℕ) → p < length sys.flow.nodes → takes_checkpoints (policy_of sys.flow p) ≡ false → (f : Front) → cut_of choice p ≡ At f
+    → (old new : Traces) → AreCutTo sys.flow p f old new → IsTraceIn sys state p old
+    → IsTraceIn sys (recovered_state sys state choice settled) p new
 traces-cut sys state choice settled r p l takes f is old new cut t =
     let k = knows sys state choice settled r in
     let h = events state.history in
@@ -97,7 +106,13 @@ part-inside sys state p f =
     subst (AllByRecursion (λ v. b (event_stamp v) ≡ true)) (sym (within-at sys state p f))
     (each-filter (λ v. b (event_stamp v) ≡ true) (λ v. b (event_stamp v)) vs (each-one (λ v. b (event_stamp v) ≡ true → b (event_stamp v) ≡ true) vs (λ v i. i)))
 
-pub traces-from_checkpoints : TracesFromCheckpoints
+-- those of a node that is cut to a checkpoint are restored by the stamps and the count of its entry
+pub traces-from_checkpoints : (sys : System) (state : Machine) (choice : Choice) (settled : List Front) → Recovers sys state choice settled
+    → (p : ℕ) → p < length sys.flow.nodes → takes_checkpoints (policy_of sys.flow p) ≡ true → (f : Front) → cut_of choice p ≡ At f
+    → (stamps : Stamps) (count : ℕ) → AreStampsOf sys (events_within sys state p f) p (node_frontier sys.flow p f) stamps
+    → count ≡ count_within sys state p f
+    → (old new : Traces) → AreRestoredTo sys.flow p stamps count old new
+    → IsTraceIn sys (recovered_state sys state choice settled) p new
 traces-from_checkpoints sys state choice settled r p l takes f is stamps count stand counts old new a =
     let now = events (recovered_state sys state choice settled).history in
     let part = events_within sys state p f in
@@ -124,7 +139,11 @@ no-stamps sys p base stamps a = record {
   numbered = λ n e l s. subst (StandForNumbered sys [] e) (sym a.sent) (none-thinned _ [] refl);
 }
 
-pub traces-nothing : TracesOfCutsToNothing
+-- those of a node that is cut to no stamps are restored by none
+pub traces-nothing : (sys : System) (state : Machine) (choice : Choice) (settled : List Front) → Recovers sys state choice settled
+    → (p : ℕ) → p < length sys.flow.nodes → cut_of choice p ≡ At (no_stamps (bounds_of sys.flow p))
+    → (stamps : Stamps) → AreNoStamps stamps → (old new : Traces) → AreRestoredTo sys.flow p stamps 0 old new
+    → IsTraceIn sys (recovered_state sys state choice settled) p new
 traces-nothing sys state choice settled r p l is stamps empty old new a =
     let now = events (recovered_state sys state choice settled).history in
     let base = base_of sys (recovered_state sys state choice settled) p in

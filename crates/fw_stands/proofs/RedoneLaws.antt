@@ -5,6 +5,7 @@ use Rattle.std.proofs.lemmas.Bool.{and_parts, and_from, or_cases, or_left, or_ri
 use Rattle.fw_time.specs.Stamp.{Stamp, leq, same, in_domain}
 use Rattle.fw_time.proofs.EachLaws.{each-weaker}
 use Rattle.fw_frontier.specs.Frontier.{Frontier}
+use Rattle.fw_frontier.specs.Front.{Front}
 use Rattle.fw_flow.specs.declared.event.Event.{Event}
 use Rattle.fw_flow.specs.declared.event.Event.TheVariants.{Inject, Deliver, Notify}
 use Rattle.fw_flow.specs.declared.kind.Kind.{Kind}
@@ -16,10 +17,12 @@ use Rattle.fw_flow.specs.NodeFunction.{event_node, event_stamp}
 use Rattle.fw_flow.specs.Projection.{events_at}
 use Rattle.fw_flow.specs.WellFormed.{IsWellFormed, IsPolicyAllowed}
 use Rattle.fw_flow.proofs.EdgeLaws.{in_edges-at}
+use Rattle.fw_flow.specs.declared.choice.Choice.{Choice}
+use Rattle.fw_flow.specs.declared.choice.Cut.TheVariants.{At}
 use Rattle.fw_model.specs.Filtering.{events_inside}
 use Rattle.fw_model.specs.History.{was_delivered_to, was_notified, IsEnabled, IsLegal}
-use Rattle.fw_model.specs.LawsOfReplay.{not_given_up}
-use Rattle.fw_model.specs.Machine.{events, is_failed}
+use Rattle.fw_model.specs.LawsOfReplay.{not_given_up, replayed_events}
+use Rattle.fw_model.specs.Machine.{events, is_failed, Machine}
 use Rattle.fw_model.specs.Told.{is_told, EachDelivery, IsSumOfTold}
 use Rattle.fw_model.proofs.ClosedLaws.{settled-outside}
 use Rattle.fw_model.proofs.Decisions.{two_ways}
@@ -32,9 +35,10 @@ use Rattle.fw_model.proofs.ReplayLaws.{replayed-those}
 use Rattle.fw_model.proofs.RestoringLaws.{full-declared}
 use Rattle.fw_model.proofs.StampLaws.{same-is, same-from}
 use Rattle.fw_model.proofs.ToldLaws.{after-notice, deliveries_lie-inside, paid-told, same-recs, bounds-total, lesser-from}
-use Rattle.fw_stands.specs.LawsOfRecovered.{ReplayedEventsCanBeRedone}
+use Rattle.fw_model.specs.Choice.{cut_of}
 use Rattle.fw_stands.specs.Redone.{CanBeRedone}
 use Rattle.fw_stands.proofs.RecoveredFacts.{knows}
+use Rattle.fw_stands.specs.Recovered.{Recovers}
 
 -- ---- what was told, and what part of the events tells
 
@@ -249,7 +253,10 @@ full-no_input kind p a is = refl
 pub full-inner : (flow : Dataflow) → IsWellFormed flow → (p : ℕ) → policy_of flow p ≡ policy.Full → is_input_kind (kind_of flow p) ≡ false
 full-inner flow w p full = full-no_input (kind_of flow p) (policy_of flow p) (w.policies p (full-declared flow p full)) full
 
-pub replayed-redone : ReplayedEventsCanBeRedone
+-- where a node that logs its events is cut, the logged events that are left inside the cut can be done once more from nothing
+pub replayed-redone : (sys : System) (state : Machine) (choice : Choice) (settled : List Front) → Recovers sys state choice settled
+    → (p : ℕ) (f : Front) → policy_of sys.flow p ≡ policy.Full → cut_of choice p ≡ At f
+    → CanBeRedone sys.flow p (replayed_events sys state p (node_frontier sys.flow p f))
 replayed-redone sys state choice settled r p f full is =
     let w = r.well_formed.flow in
     let k = knows sys state choice settled r in

@@ -1,12 +1,13 @@
 -- What becomes of tables and traces where more is settled.
-use Rattle.std.proofs.Common.{Bool, List, None, Some, ap, cond, false, filter, inl, inr, not, refl, subst, sym, true, ℕ, ◌&&◌, ◌==◌, ◌∙◌, ◌≡◌}
+use Rattle.std.proofs.Common.{Bool, List, None, Some, ap, cond, false, filter, inl, inr, not, refl, subst, sym, true, ℕ, ◌&&◌, ◌==◌, ◌∙◌, ◌≡◌, ◌<◌, length, ◌||◌, ◌≢◌, Option}
 use Rattle.std.proofs.lemmas.Bool.{cases_Bool, cases_eq, or_cases, or_parts, eqb-true, eq-eqb}
+use Rattle.std.specs.Global.{Vec}
 use Rattle.fw_model.proofs.Decisions.{two_ways}
 use Rattle.fw_model.specs.History.{AreEventsInDomain}
 use Rattle.fw_frontier.specs.Frontier.{Frontier, Within}
 use Rattle.fw_frontier.specs.Front.{Front, same_front}
 use Rattle.fw_flow.specs.declared.step.Step.TheVariants.{Progress as ProgressStep}
-use Rattle.fw_flow.specs.Dataflow.{System, policy_of, node_ids, node_frontier}
+use Rattle.fw_flow.specs.Dataflow.{System, policy_of, node_ids, node_frontier, Dataflow}
 use Rattle.fw_flow.specs.Projection.{events_at}
 use Rattle.fw_flow.specs.WellFormed.{IsWellFormedSystem}
 use Rattle.fw_model.specs.Machine.{Machine, events, family_of, front_of}
@@ -16,21 +17,27 @@ use Rattle.fw_model.specs.Writes.{takes_checkpoints}
 use Rattle.fw_model.proofs.DomainLaws.{has_epochs}
 use Rattle.fw_model.proofs.LegalLaws.{legal_events-in_domain}
 use Rattle.fw_model.proofs.ToldLaws.{settled-told}
+use Rattle.fw_model.specs.Auto.{IsIdle}
 use Rattle.fw_node.specs.TableOf.{IsTableOf}
+use Rattle.fw_node.specs.declared.node.Node.{Node}
 use Rattle.fw_policy.specs.View.{base_of}
 use Rattle.fw_progress.specs.declared.traces.Traces.{Traces}
-use Rattle.fw_progress.specs.Trace.{AreSettledTo, IsTraceOf, IsTraceWithin}
-use Rattle.fw_stands.specs.LawsOfSettling.{settled_state, GrowthIsProgress, NoGrowthIsIdle, SettledTablesStand, UngrownTablesStay, NoTablesAfterProgress, SettledTracesStand, TracesWithoutCheckpointsStay, UngrownTracesStay, TracesOfOthersStay, AreSettledAt, NoneIsSettledYet, OneMoreIsSettled, SameNodesAreSettled, AllSettledTracesStand, ProgressKeepsTheRest}
-use Rattle.fw_stands.specs.Parts.{IsTraceIn}
+use Rattle.fw_progress.specs.Trace.{AreSettledTo, IsTraceOf, IsTraceWithin, KeepsOthers}
+use Rattle.fw_progress.specs.Settle.{IsSettledBy}
+use Rattle.fw_stands.specs.Settling.{settled_state, AreSettledAt, KeepsAllButSettled, IsSettledTable}
+use Rattle.fw_stands.specs.Parts.{IsTraceIn, IsTableIn}
 use Rattle.fw_stands.proofs.AtReached.{reached-next, reached-legal}
 use Rattle.fw_stands.proofs.GrowthLaws.{settled-holds, logged-before, logged-without_checkpoints}
 
 -- ---- the step
 
-pub growth-progress : GrowthIsProgress
+-- where a node that is not failed has more to settle, the step of progress leads to the state in which so much is settled
+pub growth-progress : (sys : System) (state : Machine) (settled : Vec Front) → IsSettledBy sys state (Some settled)
+    → LeadsTo sys state ProgressStep (settled_state sys state settled.items) silent
 growth-progress sys state settled g = (g.0, settled.items, g.1, refl, refl)
 
-pub no_growth-idle : NoGrowthIsIdle
+-- where no node has more to settle, the step of progress is idle
+pub no_growth-idle : (sys : System) (state : Machine) → IsSettledBy sys state None → IsIdle sys state ProgressStep
 no_growth-idle sys state none next effect t =
     let g = t.2 in
     let s = g.some in
@@ -44,7 +51,11 @@ settled-next sys state r done settled g =
 
 -- ---- tables
 
-pub settled_tables-stand : SettledTablesStand
+-- a node's table that is settled to what is settled after progress is the table of the state after it
+pub settled_tables-stand : (sys : System) → IsWellFormedSystem sys → (state : Machine) → IsReached sys state
+    → (done : ℕ → Frontier) (settled : List Front) → GrowsTo sys state done settled → (p : ℕ) → p < length sys.flow.nodes
+    → (old new : Node) → IsSettledTable sys.flow p (front_of settled p) old new
+    → IsTableIn sys state p (Some old) → IsTableIn sys (settled_state sys state settled) p (Some new)
 settled_tables-stand sys w state r done settled g p l old new s t =
     let n = settled-next sys state r done settled g in
     record {
@@ -53,14 +64,18 @@ settled_tables-stand sys w state r done settled g p l old new s t =
           (λ k. settled-told sys w n.0 n.1 (settled_state sys state settled) n.2 p k) t.of_events;
     }
 
-pub ungrown_tables-stay : UngrownTablesStay
+-- where what is settled of a node is as it was, its table is that of the state after progress
+pub ungrown_tables-stay : (sys : System) (state : Machine) (settled : List Front) (p : ℕ) (table : Option Node)
+    → front_of settled p ≡ front_of state.settled p → IsTableIn sys state p table → IsTableIn sys (settled_state sys state settled) p table
 ungrown_tables-stay sys state settled p None e t = record { there = t.there; of_events = tt }
 ungrown_tables-stay sys state settled p (Some node) e t = record {
   there = t.there;
   of_events = subst (λ f. IsTableOf sys.flow p (node_frontier sys.flow p f) node (events_at sys.flow p (events state.history))) (sym e) t.of_events;
 }
 
-pub no_tables-stay : NoTablesAfterProgress
+-- where a node has no table, it has none after progress
+pub no_tables-stay : (sys : System) (state : Machine) (settled : List Front) (p : ℕ)
+    → IsTableIn sys state p None → IsTableIn sys (settled_state sys state settled) p None
 no_tables-stay sys state settled p t = record { there = t.there; of_events = tt }
 
 -- ---- traces
@@ -81,35 +96,48 @@ settled_to-base sys w state r p f old new a within t =
     (legal_events-in_domain sys (events state.history) w.flow (has_epochs sys w) (reached-legal sys state w r) p)
     (record { base = base_of sys state p; within = within; trace = t })
 
-pub settled_traces-stand : SettledTracesStand
+-- the traces of a node that takes checkpoints, settled to what is settled after progress, are those of the state after it
+pub settled_traces-stand : (sys : System) → IsWellFormedSystem sys → (state : Machine) → IsReached sys state
+    → (done : ℕ → Frontier) (settled : List Front) → GrowsTo sys state done settled → (p : ℕ) → p < length sys.flow.nodes
+    → takes_checkpoints (policy_of sys.flow p) ≡ true → (old new : Traces) → AreSettledTo sys.flow p (front_of settled p) old new
+    → IsTraceIn sys state p old → IsTraceIn sys (settled_state sys state settled) p new
 settled_traces-stand sys w state r done settled g p l c old new a t =
     let next = settled_state sys state settled in
     subst (λ f. IsTraceOf sys (events state.history) p f new) (sym (base-settled sys next p c))
     (settled_to-base sys w state r p (front_of settled p) old new a
     (subst (λ f. Within f (family_of sys.flow settled p)) (sym (base-settled sys state p c)) (settled-holds sys state done settled g p l)) t)
 
-pub traces_without_checkpoints-stay : TracesWithoutCheckpointsStay
+-- the traces of a node that takes no checkpoints are those of the state after progress
+pub traces_without_checkpoints-stay : (sys : System) (state : Machine) (settled : List Front) (p : ℕ) → takes_checkpoints (policy_of sys.flow p) ≡ false
+    → (traces : Traces) → IsTraceIn sys state p traces → IsTraceIn sys (settled_state sys state settled) p traces
 traces_without_checkpoints-stay sys state settled p c traces t =
     let next = settled_state sys state settled in
     subst (λ f. IsTraceOf sys (events state.history) p f traces) (base-low sys state p c ∙ sym (base-low sys next p c)) t
 
-pub ungrown_traces-stay : UngrownTracesStay
+-- where what is settled of a node is as it was, its traces are those of the state after progress
+pub ungrown_traces-stay : (sys : System) (state : Machine) (settled : List Front) (p : ℕ) → front_of settled p ≡ front_of state.settled p
+    → (traces : Traces) → IsTraceIn sys state p traces → IsTraceIn sys (settled_state sys state settled) p traces
 ungrown_traces-stay sys state settled p e traces t =
     subst (λ f. IsTraceOf sys (events state.history) p f traces)
     (ap (λ f. cond (takes_checkpoints (policy_of sys.flow p)) (node_frontier sys.flow p f) (node_frontier sys.flow p (front_of state.low p))) (sym e)) t
 
-pub traces_of_others-stay : TracesOfOthersStay
+-- where the traces of one node are changed and those of the others kept, those of another stand as they did
+pub traces_of_others-stay : (sys : System) (state : Machine) (p q : ℕ) → q ≢ p → (old new : Traces) → KeepsOthers sys.flow p old new
+    → IsTraceIn sys state q old → IsTraceIn sys state q new
 traces_of_others-stay sys state p q k old new keeps t = keeps sys (events state.history) refl q k (base_of sys state q) t
 
 -- ---- the traces of several nodes
 
-pub none-settled_yet : NoneIsSettledYet
+-- at first those of no node are settled
+pub none-settled_yet : (flow : Dataflow) (fronts : List Front) (traces : Traces) → AreSettledAt flow (λ p. false) fronts traces traces
 none-settled_yet flow fronts traces = record {
   here = λ p i sys h e d t. absurd (two_ways false i refl);
   others = λ p i sys h e base t. t;
 }
 
-pub one_more-settled : OneMoreIsSettled
+-- where those of one node more are settled, so are those of the nodes before and of this one
+pub one_more-settled : (flow : Dataflow) (test : ℕ → Bool) (fronts : List Front) (old between new : Traces) → AreSettledAt flow test fronts old between
+    → (p : ℕ) → test p ≡ false → AreSettledTo flow p (front_of fronts p) between new → AreSettledAt flow (λ q. (q == p) || test q) fronts old new
 one_more-settled flow test fronts old between new a p none b = record {
   here = λ q i sys h e d t. elim (cases_eq q p) [
     | inl same ↦ subst (λ n. IsTraceOf sys h n (node_frontier flow n (front_of fronts n)) new) (sym same)
@@ -124,7 +152,9 @@ one_more-settled flow test fronts old between new a p none b = record {
       b.others sys h e q (λ same. two_ways (q == p) (eq-eqb q p same) apart.0) base (a.others q apart.1 sys h e base t);
 }
 
-pub same_nodes-settled : SameNodesAreSettled
+-- another test of which the same nodes pass tells the same
+pub same_nodes-settled : (flow : Dataflow) (test other : ℕ → Bool) → ((p : ℕ) → other p ≡ test p) → (fronts : List Front) (old new : Traces)
+    → AreSettledAt flow test fronts old new → AreSettledAt flow other fronts old new
 same_nodes-settled flow test other e fronts old new a = record {
   here = λ p i. a.here p (sym (e p) ∙ i);
   others = λ p i. a.others p (sym (e p) ∙ i);
@@ -139,7 +169,14 @@ trace-settled sys w state r test fronts old new a p i within t =
     (legal_events-in_domain sys (events state.history) w.flow (has_epochs sys w) (reached-legal sys state w r) p)
     (record { base = base_of sys state p; within = within; trace = t })
 
-pub all_settled_traces-stand : AllSettledTracesStand
+-- where the traces of some nodes that take checkpoints are settled to what is settled after progress, among them each at which that
+-- grew, the traces are those of the state after it
+pub all_settled_traces-stand : (sys : System) → IsWellFormedSystem sys → (state : Machine) → IsReached sys state
+    → (done : ℕ → Frontier) (settled : List Front) → GrowsTo sys state done settled → (test : ℕ → Bool)
+    → ((p : ℕ) → test p ≡ true → takes_checkpoints (policy_of sys.flow p) ≡ true)
+    → ((p : ℕ) → test p ≡ false → takes_checkpoints (policy_of sys.flow p) ≡ true → front_of settled p ≡ front_of state.settled p)
+    → (old new : Traces) → AreSettledAt sys.flow test settled old new → (p : ℕ) → p < length sys.flow.nodes
+    → IsTraceIn sys state p old → IsTraceIn sys (settled_state sys state settled) p new
 all_settled_traces-stand sys w state r done settled g test takes same old new a p l t =
     let next = settled_state sys state settled in
     elim (cases_Bool (test p)) [
@@ -158,7 +195,8 @@ all_settled_traces-stand sys w state r done settled g test takes same old new a 
 
 -- ---- the rest
 
-pub progress-keeps : ProgressKeepsTheRest
+-- progress leaves queues, logs, outputs, inputs and what is lost as they were
+pub progress-keeps : (sys : System) (state : Machine) (settled : List Front) → KeepsAllButSettled sys state (settled_state sys state settled)
 progress-keeps sys state settled =
     let fronts : ℕ → Front = λ p. front_of settled p in
     let ps = filter (λ p. is_eager (policy_of sys.flow p) && not (same_front (front_of state.settled p) (front_of settled p))) (node_ids sys.flow) in

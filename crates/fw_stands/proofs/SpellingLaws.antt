@@ -4,7 +4,7 @@ use Rattle.std.specs.List.{AllByRecursion}
 use Rattle.std.proofs.lemmas.Bool.{and_parts, cases_lt}
 use Rattle.std.proofs.lemmas.Bool.Decides.{nat_tests}
 use Rattle.std.proofs.lemmas.List.{length-append, get_or_past}
-use Rattle.fw_time.specs.Stamp.{Stamp, leq}
+use Rattle.fw_time.specs.Stamp.{Stamp, leq, in_domain}
 use Rattle.fw_time.proofs.EachLaws.{each-append}
 use Rattle.fw_time.proofs.DomainLaws.{domain-leq}
 use Rattle.fw_flow.specs.declared.event.Event.{Event as Happened}
@@ -12,20 +12,24 @@ use Rattle.fw_flow.specs.declared.event.Event.TheVariants.{Inject as Injected, D
 use Rattle.fw_flow.specs.declared.kind.Domain.{Domain}
 use Rattle.fw_flow.specs.declared.kind.Domain.TheVariants.{Epoch, Number, Loop as InLoop}
 use Rattle.fw_flow.specs.declared.node.Loop.{Loop}
-use Rattle.fw_flow.specs.Dataflow.{Dataflow, receiver, bounds_of, domain_of, loops_of, parent_of, max_of, greatest_in, greatest_of}
+use Rattle.fw_flow.specs.Dataflow.{Dataflow, receiver, bounds_of, domain_of, loops_of, parent_of, max_of, greatest_in, greatest_of, System, policy_of}
 use Rattle.fw_flow.specs.NodeFunction.{event_node, event_stamp}
-use Rattle.fw_flow.specs.WellFormed.{IsWellFormed}
+use Rattle.fw_flow.specs.WellFormed.{IsWellFormed, IsWellFormedSystem}
 use Rattle.fw_flow.proofs.Chains.{loops-unfold, loops-few}
-use Rattle.fw_model.specs.Machine.{events}
+use Rattle.fw_flow.specs.declared.kind.Policy.TheVariants as policy
+use Rattle.fw_model.specs.Machine.{events, Machine}
 use Rattle.fw_model.proofs.AskedLaws.{reached-all}
 use Rattle.fw_model.proofs.DomainLaws.{has_epochs}
 use Rattle.fw_model.proofs.LegalLaws.{legal-in_domain, enabled-in_domain}
 use Rattle.fw_model.proofs.RestoringLaws.{full-declared}
+use Rattle.fw_model.specs.Reached.{IsReached}
+use Rattle.fw_model.specs.History.{IsEnabled}
 use Rattle.fw_record.specs.declared.record.Event.TheVariants as told_event
 use Rattle.fw_record.specs.declared.record.Record.TheVariants as tagged
 use Rattle.fw_record.specs.Sound.{IsStamp, IsSound}
+use Rattle.fw_record.specs.declared.record.Event.{Event}
 use Rattle.fw_stands.specs.Written.{told_of}
-use Rattle.fw_stands.specs.LawsOfEntries.{HasRecOf64Bits, StampsHaveSpellings, LoggedEventsHaveSpellings}
+use Rattle.fw_stands.specs.Entries.{HasRecOf64Bits}
 use Rattle.fw_stands.proofs.NumberLaws.{receiver-there}
 
 -- ---- stamps
@@ -89,12 +93,18 @@ bounds-sound : (flow : Dataflow) → IsWellFormed flow → (p : ℕ) → IsStamp
 unfolding bounds_of
 bounds-sound flow w p = greatest-sound flow w (domain_of flow p)
 
-pub stamps_have_spellings : StampsHaveSpellings
+-- the stamps of the domain of each node of a well-formed dataflow have a spelling, and the greatest one has
+pub stamps_have_spellings : (flow : Dataflow) → IsWellFormed flow → (p : ℕ)
+    → IsStamp (bounds_of flow p).greatest × ((t : Stamp) → in_domain (bounds_of flow p) t ≡ true → IsStamp t)
 stamps_have_spellings flow w p = (bounds-sound flow w p, λ t i. stamp-below t (bounds_of flow p).greatest (domain-leq (bounds_of flow p) t i) (bounds-sound flow w p))
 
 -- ---- events
 
-pub logged_events_have_spellings : LoggedEventsHaveSpellings
+-- in each state to which steps of a well-formed system lead, the record of an event that may come next at a node that logs each
+-- event has a spelling, if its rec has
+pub logged_events_have_spellings : (sys : System) → IsWellFormedSystem sys → (state : Machine) → IsReached sys state
+    → (v : Happened) → IsEnabled sys (events state.history) v → policy_of sys.flow (event_node sys.flow v) ≡ policy.Full
+    → (event : Event) → told_of v ≡ Some event → HasRecOf64Bits event → IsSound (tagged.Event (event_node sys.flow v) event)
 logged_events_have_spellings sys w state r v k full event told rec =
     let h = events state.history in
     let f = reached-all sys w r.0 r.1 state r.2 in

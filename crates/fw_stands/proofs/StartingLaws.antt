@@ -1,19 +1,26 @@
 -- What each part holds of the first state.
-use Rattle.std.proofs.Common.{◌≡◌, ℕ, zero, suc, ◌+◌, Bool, true, false, cond, not, nat_le, ◌||◌, ◌&&◌, List, [], ◌∷◌, length, map, filter, refl, sym, ap, ◌∙◌, inl, inr, arith, slice_index_or, nat_lt}
+use Rattle.std.proofs.Common.{◌≡◌, ℕ, zero, suc, ◌+◌, Bool, true, false, cond, not, nat_le, ◌||◌, ◌&&◌, List, [], ◌∷◌, length, map, filter, refl, sym, ap, ◌∙◌, inl, inr, arith, slice_index_or, nat_lt, None, Some}
 use Rattle.std.proofs.lemmas.Bool.{cases_lt, and_from, le-leb}
 use Rattle.std.proofs.lemmas.List.FromFn.{get_or-map-range_with_len}
 use Rattle.std.specs.List.{enumerate_from}
 use Rattle.fw_bag.specs.declared.rec.Rec.{Rec}
 use Rattle.fw_frontier.specs.Front.{Front, inside}
+use Rattle.fw_frontier.specs.Frontier.{Frontier}
 use Rattle.fw_flow.specs.Dataflow.{System, kind_of, batches_of, bounds_of, receiver, node_ids, is_input_kind, is_output_kind}
 use Rattle.fw_flow.proofs.EdgeLaws.{kind-past}
-use Rattle.fw_model.specs.Machine.{first_state, no_stamps, front_of, is_failed, ack_count_of}
+use Rattle.fw_model.specs.Machine.{first_state, no_stamps, front_of, is_failed, ack_count_of, family_of}
 use Rattle.fw_model.proofs.ChoiceLaws.{bounds-input}
 use Rattle.fw_model.proofs.Decisions.{two_ways}
 use Rattle.fw_model.proofs.LowLaws.{input-is}
+use Rattle.fw_model.specs.Reached.{IsReached}
 use Rattle.fw_policy.specs.View.{base_of}
-use Rattle.fw_stands.specs.Parts.{is_logging}
-use Rattle.fw_stands.specs.LawsOfStarting.{FirstIsReached, FirstTableStands, BordersHaveNoTable, FirstHoldsNothing, UnusedSourceStands, FirstTracesStand}
+use Rattle.fw_stands.specs.Parts.{is_logging, IsTraceIn, IsSourceOf, IsTableIn}
+use Rattle.fw_stands.specs.Starting.{HoldsNothing}
+use Rattle.fw_progress.specs.declared.traces.Traces.{Traces}
+use Rattle.fw_progress.specs.Trace.{IsTraceOf}
+use Rattle.fw_border.specs.Sources.{unused_source}
+use Rattle.fw_node.specs.declared.node.Node.{Node}
+use Rattle.fw_node.specs.TableOf.{IsTableOf}
 
 -- ---- one for each node
 
@@ -36,17 +43,22 @@ first-live sys p = none-failed (node_ids sys.flow) p
 
 -- ---- the parts
 
-pub first-reached : FirstIsReached
+-- the first state is reached
+pub first-reached : (sys : System) → IsReached sys (first_state sys)
 first-reached sys = ([], [], refl)
 
-pub first_table-stands : FirstTableStands
+-- the table of no events is that of a node in the first state, if the node is no input and no output
+pub first_table-stands : (sys : System) (p : ℕ) → is_input_kind (kind_of sys.flow p) ≡ false → is_output_kind (kind_of sys.flow p) ≡ false
+    → (node : Node) → IsTableOf sys.flow p (family_of sys.flow (first_state sys).settled p) node [] → IsTableIn sys (first_state sys) p (Some node)
 first_table-stands sys p i o node t = record {
   there = sym (ap (λ b. not (b || (is_output_kind (kind_of sys.flow p) || is_failed (first_state sys) p))) i
       ∙ ap (λ b. not (b || is_failed (first_state sys) p)) o ∙ ap not (first-live sys p));
   of_events = t;
 }
 
-pub borders-have_none : BordersHaveNoTable
+-- an input and an output have none
+pub borders-have_none : (sys : System) (p : ℕ) → (is_input_kind (kind_of sys.flow p) || is_output_kind (kind_of sys.flow p)) ≡ true
+    → IsTableIn sys (first_state sys) p None
 borders-have_none sys p b = record {
   there = sym (none (is_input_kind (kind_of sys.flow p)) (is_output_kind (kind_of sys.flow p)) (is_failed (first_state sys) p) b);
   of_events = tt;
@@ -61,7 +73,8 @@ nothing-either : {A : Type 0} (b : Bool) (none : List A) → none ≡ [] → con
 nothing-either true none e = e
 nothing-either false none e = e
 
-pub first-holds_nothing : FirstHoldsNothing
+-- it is so of each system
+pub first-holds_nothing : (sys : System) → HoldsNothing sys
 unfolding zeros
 first-holds_nothing sys = record {
   queues = λ e. nothing-either (is_failed (first_state sys) (receiver sys.flow e)) [] refl;
@@ -91,7 +104,9 @@ first-low sys s i = elim (cases_lt s (length sys.flow.nodes)) [
   | inr l ↦ absurd (two_ways (is_input_kind (kind_of sys.flow s)) i (ap is_input_kind (kind-past sys.flow s l)))
 ]
 
-pub unused_source-stands : UnusedSourceStands
+-- an input with all its batches is that of the first state
+pub unused_source-stands : (sys : System) (s : ℕ) → is_input_kind (kind_of sys.flow s) ≡ true
+    → IsSourceOf sys (first_state sys) s (unused_source (batches_of sys s))
 unused_source-stands sys s i = record {
   given = refl;
   injected = refl;
@@ -100,5 +115,7 @@ unused_source-stands sys s i = record {
 
 -- ---- traces
 
-pub first_traces-stand : FirstTracesStand
+-- traces of no events, thinned inside whatever base, are those of the first state
+pub first_traces-stand : (sys : System) (p : ℕ) (traces : Traces) → ((base : Frontier) → IsTraceOf sys [] p base traces)
+    → IsTraceIn sys (first_state sys) p traces
 first_traces-stand sys p traces t = t (base_of sys (first_state sys) p)

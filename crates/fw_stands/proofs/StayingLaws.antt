@@ -1,12 +1,11 @@
 -- Steps that leave parts as they are.
-use Rattle.std.proofs.Common.{refl}
-use Rattle.fw_stands.specs.LawsOfStaying.{StepsStayReached, WritesKeepParts}
-use Rattle.fw_stands.proofs.AtReached.{reached-next}
+use Rattle.std.proofs.Common.{refl, List}
+use Rattle.fw_stands.specs.Staying.{KeepsParts}
+use Rattle.fw_flow.specs.Dataflow.{System}
+use Rattle.fw_model.specs.Machine.{Machine, Write}
 
-pub steps-stay_reached : StepsStayReached
-steps-stay_reached = reached-next
-
-pub writes-keep_parts : WritesKeepParts
+-- where the writes alone are other ones, all parts stay as they were
+pub writes-keep_parts : (sys : System) (state : Machine) (writes : List Write) → KeepsParts sys state (record state { writes = writes })
 writes-keep_parts sys state writes = record {
   tables = λ p table t. record { there = t.there; of_events = t.of_events };
   queues = λ e. refl;

@@ -1,6 +1,6 @@
 -- What stands for a write stands for it after each step.
 use Rattle.std.proofs.Common.{◌≡◌, ℕ, ◌<◌, Bool, true, false, cond, ◌==◌, List, [], ◌∷◌, ◌++◌, length, filter, map, refl, sym, ap, subst, ◌∙◌, inl, inr, arith}
-use Rattle.std.specs.List.{flat_map}
+use Rattle.std.specs.List.{flat_map, AllByRecursion}
 use Rattle.std.proofs.lemmas.Bool.{cond_both, eqb-true, eq-eqb}
 use Rattle.fw_time.specs.Stamp.{Stamp}
 use Rattle.fw_time.proofs.EachLaws.{each-weaker, each-both, each-one}
@@ -25,8 +25,7 @@ use Rattle.fw_model.specs.EventStamps.{AreStampsOf, causes_in, causes_of}
 use Rattle.fw_model.specs.Filtering.{events_inside, messages_from, messages_outside}
 use Rattle.fw_model.specs.History.{message_on, delivered_messages, sent_messages, IsLegal}
 use Rattle.fw_model.specs.LawsOfWrites.{HasEventOf, HasItsEvent}
-use Rattle.fw_model.specs.Machine.{Machine, SerialEvent, Write, checkpoint, logged_event, events, family_of, first_state}
-use Rattle.fw_model.specs.Machine.{Written as WrittenBy}
+use Rattle.fw_model.specs.Machine.{Machine, SerialEvent, Write, checkpoint, logged_event, events, family_of, first_state, Written as WrittenBy}
 use Rattle.fw_model.specs.Offers.{on_edge, stamps_on, stamps_on_from}
 use Rattle.fw_model.specs.Reached.{IsReached}
 use Rattle.fw_model.specs.SortedMessages.{sorted_messages}
@@ -43,16 +42,15 @@ use Rattle.fw_model.proofs.LoggedLaws.{logged-in_order}
 use Rattle.fw_model.proofs.RestoringLaws.{took-true}
 use Rattle.fw_model.proofs.SendPartLaws.{parts-send}
 use Rattle.fw_node.specs.Past.{totals_kept}
-use Rattle.fw_policy.specs.View.{IsRecorded}
+use Rattle.fw_policy.specs.Entries.{IsRecorded, sent_by_node}
 use Rattle.fw_record.specs.declared.record.Checkpoint.{Checkpoint}
 use Rattle.fw_record.specs.declared.record.Event.{Event}
 use Rattle.fw_record.specs.declared.record.Record.{Record}
 use Rattle.fw_record.specs.declared.record.Record.TheVariants as tagged
 use Rattle.fw_keep.specs.declared.entry.Written.{Written}
 use Rattle.fw_keep.specs.declared.entry.Written.TheVariants as written
-use Rattle.fw_stands.specs.Parts.{sent_by_node}
 use Rattle.fw_stands.specs.Written.{HasEventTold, events_within, HoldsWithin, Holds, IsCheckpointFor, IsRecordFor}
-use Rattle.fw_stands.specs.LawsOfEntries.{StaysWritten, WhatIsWrittenStays}
+use Rattle.fw_stands.specs.Entries.{StaysWritten}
 
 -- ---- what a node's stamps stand for hangs on its events alone
 
@@ -255,7 +253,11 @@ pub reached-next : (sys : System) (state : Machine) → IsReached sys state → 
 reached-next sys state r step next effect t =
     (r.0 ++ step ∷ [], r.1 ++ did effect ∷ [], runs-go_on sys (first_state sys) state next r.0 (step ∷ []) r.1 (did effect ∷ []) r.2 (next, t, refl))
 
-pub what_is_written_stays : WhatIsWrittenStays
+-- each step from a state to which steps of a well-formed system lead leaves what stands for each write that is among the
+-- writes after it: asked in that step or before, and in a recovery those that lie within the cuts of their nodes
+pub what_is_written_stays : (sys : System) → IsWellFormedSystem sys → (state : Machine) → IsReached sys state
+    → (step : Step) (next : Machine) (effect : Effect) → LeadsTo sys state step next effect
+    → AllByRecursion (λ (write : Write). StaysWritten sys state next write.node write.written) next.writes
 what_is_written_stays sys w state r step next effect t =
     let f = reached-all sys w r.0 r.1 state r.2 in
     let g = took-reached sys w state step next effect f t in

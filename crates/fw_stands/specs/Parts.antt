@@ -5,10 +5,9 @@ use Rattle.fw_time.specs.Stamp.{same}
 use Rattle.fw_bag.specs.declared.rec.Rec.{Rec}
 use Rattle.fw_bag.specs.Keyed.{sorted_recs}
 use Rattle.fw_frontier.specs.Front.{inside}
-use Rattle.fw_flow.specs.declared.event.Event.{Event}
 use Rattle.fw_flow.specs.declared.event.Message.{Message}
 use Rattle.fw_flow.specs.Dataflow.{System, kind_of, policy_of, sender, receiver, batches_of, is_input_kind, is_output_kind}
-use Rattle.fw_flow.specs.NodeFunction.{sent_by, delivered_recs}
+use Rattle.fw_flow.specs.NodeFunction.{delivered_recs}
 use Rattle.fw_flow.specs.Projection.{events_at}
 use Rattle.fw_flow.specs.Restoring.{can_resend}
 use Rattle.fw_model.specs.Filtering.{messages_outside}
@@ -70,10 +69,6 @@ pub record IsSourceOf (sys : System) (state : Machine) (s : ℕ) (source : Sourc
   pub injected : source.injected ≡ injected_count s (events state.history)
   pub held : source.held
       ≡ filter (λ batch. not (inside (front_of state.low s) (batch.0 ∷ []))) (enumerate_from 0 (batches_of sys s))
-
--- what a node's events sent in all
-abbrev pub sent_by_node : System → List Event → ℕ → List Message
-sent_by_node sys h p = sent_by sys p (events_at sys.flow p h)
 
 -- the traces of node p are those of its events in the state, thinned inside its base
 abbrev pub IsTraceIn : System → Machine → ℕ → Traces → Type 0

@@ -1,5 +1,5 @@
 -- Which events a node can do once more, one after the other, from nothing, and how entries tell them.
-use Rattle.std.specs.Prelude.{◌≡◌, ℕ, Bool, true, false, ◌&&◌, ◌==◌, List, [], ◌∷◌, ◌++◌}
+use Rattle.std.specs.Prelude.{◌≡◌, ℕ, Bool, true, false, ◌&&◌, ◌==◌, List, [], ◌∷◌}
 use Rattle.fw_frontier.specs.Frontier.{Frontier}
 use Rattle.fw_flow.specs.declared.event.Event.{Event}
 use Rattle.fw_flow.specs.declared.event.Event.TheVariants.{Inject, Deliver, Notify}
@@ -7,13 +7,10 @@ use Rattle.fw_flow.specs.declared.kind.Kind.TheVariants.{Total}
 use Rattle.fw_flow.specs.Dataflow.{Dataflow, kind_of, in_edges, is_notified_kind, is_one_of}
 use Rattle.fw_model.specs.Told.{is_told, IsSumOfTold}
 use Rattle.fw_record.specs.declared.record.Event.{Event as Told}
-use Rattle.fw_record.specs.declared.record.Event.TheVariants as told
-use Rattle.fw_record.specs.declared.record.Record.{Record}
-use Rattle.fw_record.specs.declared.record.Record.TheVariants as tagged
 use Rattle.fw_keep.specs.declared.entry.Entry.{Entry}
 use Rattle.fw_keep.specs.declared.entry.Written.{Written}
 use Rattle.fw_keep.specs.declared.entry.Written.TheVariants as written
-use Rattle.fw_keep.specs.Entry.{stamp_of}
+use Rattle.fw_record.specs.Event.{stamp_of_event}
 
 -- Each of these events, the latest first, can be done by node p after those before it: a delivery is on one of its in-edges,
 -- nothing comes to a node at a stamp of which it was notified, it is notified of none twice, and of a total what came up to an
@@ -26,27 +23,15 @@ CanBeRedone flow p (Deliver e m ∷ before) =
 CanBeRedone flow p (Notify q t ∷ before) =
     (q ≡ p) × (is_told before t ≡ false) × (kind_of flow p ≡ Total → IsSumOfTold (λ s. false) before t) × CanBeRedone flow p before
 
--- the events as records tell them, the earliest first, where these are the events, the latest first; injections are not written
-abbrev pub told_in_order : List Event → List Told
-told_in_order [] = []
-told_in_order (Inject s x ∷ before) = told_in_order before
-told_in_order (Deliver e m ∷ before) = told_in_order before ++ told.Deliver e m.at m.rec ∷ []
-told_in_order (Notify p t ∷ before) = told_in_order before ++ told.Notify t ∷ []
-
 -- the event that is written, if one is
 abbrev pub event_in : Written → List Told
 event_in (written.Checkpoint recorded stamps sent) = []
 event_in (written.Event event) = event ∷ []
 
--- the event of which a record is, if it is one of an event
-abbrev pub event_of : Record → List Told
-event_of (tagged.State c) = []
-event_of (tagged.Event p event) = event ∷ []
-
 -- whether an event is written, and is at a stamp inside
 abbrev pub is_event_inside : Frontier → Written → Bool
 is_event_inside f (written.Checkpoint recorded stamps sent) = false
-is_event_inside f (written.Event event) = f (stamp_of event)
+is_event_inside f (written.Event event) = f (stamp_of_event event)
 
 -- whether the entry is an acknowledged one of an event of node p inside f
 abbrev pub is_logged_inside : ℕ → Frontier → Entry → Bool

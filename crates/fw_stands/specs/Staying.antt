@@ -37,3 +37,12 @@ KeepsTraces sys state next = (p : ℕ) (traces : Traces) → IsTraceIn sys state
 -- events at the same stamps are lost of each node
 abbrev pub KeepsLost : System → Machine → Machine → Type 0
 KeepsLost sys state next = (p : ℕ) (t : Stamp) → IsLostAt sys next p t ↔ IsLostAt sys state p t
+
+-- Tables, queues, logs, outputs, inputs and traces stay as they were.
+pub record KeepsParts (sys : System) (state next : Machine) : Type 0 where
+  pub tables : KeepsTables sys state next
+  pub queues : KeepsQueues sys state next
+  pub logs : KeepsLogs sys state next
+  pub outputs : KeepsOutputs sys state next
+  pub sources : KeepsSources sys state next
+  pub traces : KeepsTraces sys state next

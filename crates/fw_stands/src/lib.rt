@@ -2,8 +2,6 @@
 //!
 //! An engine keeps no history: it keeps tables, queues, logs, batches, outputs, progress, traces and a catalogue of writes.
 //! `specs/Parts.antt` and `specs/Written.antt` say when each of these stands for a state of the event-list machine. The laws
-//! say, step by step and part by part, what has to become of a part for it to stand for the next state. There is no code here
-//! but functions that carry laws.
+//! say, step by step and part by part, what has to become of a part for it to stand for the next state. They are the public
+//! lemmas of `proofs/`, each with its sentence over it. There is no code here.
 #![tactic(auto)]
-
-pub mod laws;

@@ -22,8 +22,8 @@ pub fn answer<K: Store>(
     lines: &str,
     line: &str,
 ) -> Result<String, NoAnswer>
-    requires { IsStored keep.old (K.records store.old) }
-    ensures { IsStored keep.new (K.records store.new) }
+    requires { IsStored keep.old (K.view store.old).records }
+    ensures { IsStored keep.new (K.view store.new).records }
 {
     let (word, rest) = part(line);
     match word {
@@ -44,8 +44,8 @@ fn asked<K: Store>(
     lines: &str,
     name: &str,
 ) -> Result<String, NoAnswer>
-    requires { IsStored keep.old (K.records store.old) }
-    ensures { IsStored keep.new (K.records store.new) }
+    requires { IsStored keep.old (K.view store.old).records }
+    ensures { IsStored keep.new (K.view store.new).records }
 {
     let record = record_named(alloc, lines, name)?;
     if keep.next_id() >= IDS {
@@ -65,8 +65,8 @@ fn fetched<K: Store>(
     store: &mut K,
     id: &str,
 ) -> Result<String, NoAnswer>
-    requires { IsStored keep.now (K.records store.old) }
-    ensures { IsStored keep.now (K.records store.new) }
+    requires { IsStored keep.now (K.view store.old).records }
+    ensures { IsStored keep.now (K.view store.new).records }
 {
     let id = id.parse::<u64>()?;
     if !keep.has(id) {
@@ -91,8 +91,8 @@ fn digits_of(alloc: Global, record: &Record) -> Result<String, NoAnswer> {
 
 /// What became of a sweep.
 fn swept<K: Store>(alloc: Global, keep: &mut Keep, store: &mut K) -> Result<String, NoAnswer>
-    requires { IsStored keep.old (K.records store.old) }
-    ensures { IsStored keep.new (K.records store.new) }
+    requires { IsStored keep.old (K.view store.old).records }
+    ensures { IsStored keep.new (K.view store.new).records }
 {
     match keep.sweep(store) {
         Ok(()) => Ok(String::from_str(alloc, "swept")?),

@@ -94,7 +94,7 @@ fn tell_lines<K: Store>(
     lines: &str,
     told: &mut String,
 ) -> Result<(), AllocError>
-    requires { IsStored keep.old (K.records store.old) }
+    requires { IsStored keep.old (K.view store.old).records }
 {
     for line in lines.lines() {
         if is_call(line) {

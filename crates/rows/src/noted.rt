@@ -16,7 +16,7 @@ pub struct NotedStore<K: Store> {
 impl<K: Store> NotedStore<K> {
     /// A store that holds no record.
     pub fn new(alloc: Global, store: K) -> Self
-        ensures { ⟦<NotedStore<K> as Store>⟧.records result ≡ K.records store }
+        ensures { ⟦<NotedStore<K> as Store>⟧.view result ≡ K.view store }
     {
         NotedStore {
             alloc,
@@ -41,11 +41,7 @@ impl<K: Store> NotedStore<K> {
 }
 
 impl<K: Store> Store for NotedStore<K> {
-    ghost records = { λ noted. K.records noted.store };
-
-    ghost given = { λ noted. K.given noted.store };
-
-    ghost fault_count = { λ noted. K.fault_count noted.store };
+    ghost view = { λ noted. K.view noted.store };
 
     fn put(&mut self, id: u64, bytes: &[u8]) -> Result<(), OutFault> {
         let copy = bytes.to_vec(self.alloc)?;

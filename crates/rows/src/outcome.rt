@@ -149,7 +149,7 @@ fn tell_over<K: Store + Drop>(
     store: K,
     told: &mut String,
 ) -> Result<bool, AllocError>
-    requires { IsEmptyStore (K.records store) }
+    requires { IsEmptyStore (K.view store).records }
 {
     let printed = outside.out.taken().len();
     let noted = outside.notes.taken().len();
@@ -174,7 +174,7 @@ fn run_over<K: Store>(
     outside: &mut Outside,
     store: &mut K,
 ) -> Result<u8, AllocError>
-    requires { IsEmptyStore (K.records store.old) }
+    requires { IsEmptyStore (K.view store.old).records }
 {
     let mut list = Vec::new(alloc);
     for word in words.split_whitespace() {

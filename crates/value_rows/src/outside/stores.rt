@@ -10,7 +10,7 @@ use std::alloc::Global;
 
 // Puts a record, gets it and takes it out.
 fn keep<K: Store>(store: &mut K, record: &[u8], into: &mut Vec<u8>) -> Result<(), OutFault>
-    requires { ForSome (K.records store.old) (λ held. map.get held 3 ≡ None) }
+    requires { ForSome (K.view store.old).records (λ held. map.get held 3 ≡ None) }
 {
     store.put(3, record)?;
     store.get(3, into)?;
@@ -19,7 +19,7 @@ fn keep<K: Store>(store: &mut K, record: &[u8], into: &mut Vec<u8>) -> Result<()
 
 /// What became of a record that a store has to keep.
 fn kept_by<K: Store>(alloc: Global, store: &mut K, record: &str) -> Result<String, NoAnswer>
-    requires { ForSome (K.records store.old) (λ held. map.get held 3 ≡ None) }
+    requires { ForSome (K.view store.old).records (λ held. map.get held 3 ≡ None) }
 {
     let mut into = Vec::new(alloc);
     let became = match keep(store, record.as_bytes(), &mut into) {

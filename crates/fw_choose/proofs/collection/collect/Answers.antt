@@ -19,8 +19,8 @@ pub returns-in_err-sweep-clause-takes : goal.returns-in_err-sweep-clause-takes
 returns-in_err-sweep-clause-takes g c =
     let old = c.args.running.now in
     let mid = c.raise_low.new.running in
-    let before = g.K.Store.records c.args.store.now in
-    let after = g.K.Store.records c.sweep.new.store in
+    let before = (g.K.Store.view c.args.store.now).records in
+    let after = (g.K.Store.view c.sweep.new.store).records in
     let p = err_from_is_err_and c.from_residual-in_err-sweep.result c.from_residual-in_err-sweep.ensures.1 in
     subst (λ (r : Result Stepped EngineFault). TakesStep old before Collect r (with_keep c.sweep.new.self mid) after) (sym (p.1 ∙ ap (λ (e : EngineFault). Err e) p.2))
     (sweep-fails c.in_err-sweep.field-0.0 c.in_err-sweep.ensures.undamaged old mid c.sweep.new.self before after c.in_ok-stepped.stepped
@@ -28,7 +28,7 @@ returns-in_err-sweep-clause-takes g c =
 
 pub returns-in_err-sweep-clause-tells : goal.returns-in_err-sweep-clause-tells
 returns-in_err-sweep-clause-tells g c =
-    swept-tells c.raise_low.new.running.parts.keep.waiting c.sweep.new.self.waiting (g.K.Store.records c.args.store.now) (g.K.Store.records c.sweep.new.store)
+    swept-tells c.raise_low.new.running.parts.keep.waiting c.sweep.new.self.waiting (g.K.Store.view c.args.store.now).records (g.K.Store.view c.sweep.new.store).records
     c.in_err-sweep.ensures.swept
 
 pub returns-clause-shaped : goal.returns-clause-shaped
@@ -37,10 +37,10 @@ returns-clause-shaped g c =
 
 pub returns-clause-takes : goal.returns-clause-takes
 returns-clause-takes g c =
-    swept-follows c.args.running.now c.raise_low.new.running c.sweep.new.self (g.K.Store.records c.args.store.now) (g.K.Store.records c.sweep.new.store)
-    c.in_ok-stepped.stepped (c.in_ok-stepped.ensures.takes (g.K.Store.records c.args.store.now)) c.in_ok-sweep.ensures.kept c.in_ok-sweep.ensures.swept c.in_ok-sweep.ensures.bytes
+    swept-follows c.args.running.now c.raise_low.new.running c.sweep.new.self (g.K.Store.view c.args.store.now).records (g.K.Store.view c.sweep.new.store).records
+    c.in_ok-stepped.stepped (c.in_ok-stepped.ensures.takes (g.K.Store.view c.args.store.now).records) c.in_ok-sweep.ensures.kept c.in_ok-sweep.ensures.swept c.in_ok-sweep.ensures.bytes
 
 pub returns-clause-tells : goal.returns-clause-tells
 returns-clause-tells g c =
-    swept-tells c.raise_low.new.running.parts.keep.waiting c.sweep.new.self.waiting (g.K.Store.records c.args.store.now) (g.K.Store.records c.sweep.new.store)
+    swept-tells c.raise_low.new.running.parts.keep.waiting c.sweep.new.self.waiting (g.K.Store.view c.args.store.now).records (g.K.Store.view c.sweep.new.store).records
     c.in_ok-sweep.ensures.swept

@@ -2,7 +2,7 @@ use Rattle.std.proofs.Common.{refl, sym, subst}
 use Rattle.fw_flow.specs.declared.step.Step.TheVariants.{Ack}
 use Rattle.fw_model.specs.Steps.{acked, LeadsTo}
 use Rattle.fw_border.specs.Outputs.{next_recs}
-use Rattle.fw_stands.specs.LawsOfAcknowledging.{acknowledged_state}
+use Rattle.fw_stands.specs.Acknowledging.{acknowledged_state}
 use Rattle.fw_running.specs.Kept.{output_of}
 use Rattle.fw_engine.proofs.AckLaws.{idle-acknowledges, acknowledges, ack-shaped, ack-stands}
 use Rattle.fw_engine.proofs.acknowledgement.acknowledge.Goals as goal

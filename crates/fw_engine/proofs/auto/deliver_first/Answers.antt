@@ -10,8 +10,8 @@ pub returns-in-Some-clause-takes : goal.returns-in-Some-clause-takes
 returns-in-Some-clause-takes g c =
     let old = c.args.running.now in
     let mid = c.first_deliverable.new.running in
-    deliver-first old mid (record old.ready { edges = mid.ready.edges }) c.deliver.new.running (g.K.Store.records c.args.store.now)
-    (g.K.Store.records c.deliver.new.store) c.in-Some.edge c.deliver.result c.first_deliverable.ensures.others
+    deliver-first old mid (record old.ready { edges = mid.ready.edges }) c.deliver.new.running (g.K.Store.view c.args.store.now).records
+    (g.K.Store.view c.deliver.new.store).records c.in-Some.edge c.deliver.result c.first_deliverable.ensures.others
     (subst (λ (found : Option ℕ). IsFirstWhere (CanDeliver old) found) c.in-Some.is c.first_deliverable.ensures.first)
     c.deliver.ensures.undamaged c.deliver.ensures.calls c.deliver.ensures.takes
 
@@ -19,8 +19,8 @@ pub returns-in-None-clause-takes : goal.returns-in-None-clause-takes
 returns-in-None-clause-takes g c =
     let old = c.args.running.now in
     let mid = c.first_deliverable.new.running in
-    deliver-later old mid (record old.ready { edges = mid.ready.edges }) c.notify_first.new.running (g.K.Store.records c.args.store.now)
-    (g.K.Store.records c.notify_first.new.store) c.notify_first.result c.first_deliverable.ensures.others
+    deliver-later old mid (record old.ready { edges = mid.ready.edges }) c.notify_first.new.running (g.K.Store.view c.args.store.now).records
+    (g.K.Store.view c.notify_first.new.store).records c.notify_first.result c.first_deliverable.ensures.others
     (subst (λ (found : Option ℕ). IsFirstWhere (CanDeliver old) found) c.in-None.is c.first_deliverable.ensures.first) c.notify_first.ensures.takes
 
 pub returns-in-Some-clause-quiet : goal.returns-in-Some-clause-quiet

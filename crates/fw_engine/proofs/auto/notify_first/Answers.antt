@@ -13,12 +13,12 @@ use Rattle.fw_engine.proofs.auto.notify_first.Goals as goal
 
 pub returns-in_err-notice-clause-stored : goal.returns-in_err-notice-clause-stored
 returns-in_err-notice-clause-stored g c =
-    subst (λ (parts : Parts). IsStored parts.keep (g.K.Store.records c.args.store.now)) (sym c.first_notice.ensures.parts) c.requires.stored
+    subst (λ (parts : Parts). IsStored parts.keep (g.K.Store.view c.args.store.now).records) (sym c.first_notice.ensures.parts) c.requires.stored
 
 pub returns-in_default-clause-takes : goal.returns-in_default-clause-takes
 returns-in_default-clause-takes g c =
     let old = c.args.running.now in
-    notify-later old c.first_notice.new.running c.settle_first.new.running (g.K.Store.records c.args.store.now) (g.K.Store.records c.settle_first.new.store)
+    notify-later old c.first_notice.new.running c.settle_first.new.running (g.K.Store.view c.args.store.now).records (g.K.Store.view c.settle_first.new.store).records
     c.settle_first.result c.in_ok-notice.ensures.searched
     (subst (λ (found : Option Notice). IsFirstNotified old found) c.in_default.is c.in_ok-notice.ensures.first) c.settle_first.ensures.takes
 
@@ -26,18 +26,18 @@ pub returns-in_err-notify_of-clause-takes : goal.returns-in_err-notify_of-clause
 returns-in_err-notify_of-clause-takes g c = λ sys state s none.
     let old = c.args.running.now in
     let new = c.notify_of.new.running in
-    let after = g.K.Store.records c.notify_of.new.store in
+    let after = (g.K.Store.view c.notify_of.new.store).records in
     let first = subst (λ (found : Option Notice). IsFirstNotified old found) c.in-Some.is c.in_ok-notice.ensures.first in
     from-err c.from_residual-in_err-notify_of.result c.in_err-notify_of.field-0.0 (λ (r : Result Stepped EngineFault). AnswersFirst sys state r new after)
     c.from_residual-in_err-notify_of.ensures.1
-    (notify-err (Unit {0}) old c.first_notice.new.running new (g.K.Store.records c.args.store.now) after c.in-Some.notice.node c.in-Some.notice.at
+    (notify-err (Unit {0}) old c.first_notice.new.running new (g.K.Store.view c.args.store.now).records after c.in-Some.notice.node c.in-Some.notice.at
     c.in_err-notify_of.field-0.0 c.in_ok-notice.ensures.searched first.0 first.1 c.in_err-notify_of.ensures.calls c.in_err-notify_of.ensures.takes sys state s none)
 
 pub returns-clause-takes : goal.returns-clause-takes
 returns-clause-takes g c =
     let old = c.args.running.now in
     let first = subst (λ (found : Option Notice). IsFirstNotified old found) c.in-Some.is c.in_ok-notice.ensures.first in
-    notify-first _ old c.first_notice.new.running c.notify_of.new.running (g.K.Store.records c.args.store.now) (g.K.Store.records c.notify_of.new.store)
+    notify-first _ old c.first_notice.new.running c.notify_of.new.running (g.K.Store.view c.args.store.now).records (g.K.Store.view c.notify_of.new.store).records
     c.in-Some.notice.node c.in-Some.notice.at c.in_ok-notify_of.field-0 c.in_ok-notice.ensures.searched first.0 first.1 c.in_ok-notify_of.ensures.takes
 
 pub returns-in_default-clause-quiet : goal.returns-in_default-clause-quiet
@@ -58,7 +58,7 @@ returns-clause-quiet g c = λ none.
 
 pub returns-in_err-notify_of-clause-faults : goal.returns-in_err-notify_of-clause-faults
 returns-in_err-notify_of-clause-faults g c =
-    let before = g.K.Store.fault_count c.args.store.now in
+    let before = (g.K.Store.view c.args.store.now).faults in
     from-err c.from_residual-in_err-notify_of.result c.in_err-notify_of.field-0.0
-    (λ (r : Result Stepped EngineFault). g.K.Store.fault_count c.notify_of.new.store ≡ faults_after r before)
+    (λ (r : Result Stepped EngineFault). (g.K.Store.view c.notify_of.new.store).faults ≡ faults_after r before)
     c.from_residual-in_err-notify_of.ensures.1 c.in_err-notify_of.ensures.faults

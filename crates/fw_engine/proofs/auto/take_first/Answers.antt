@@ -10,7 +10,7 @@ use Rattle.fw_engine.proofs.auto.take_first.Goals as goal
 
 pub returns-in-Did-clause-takes : goal.returns-in-Did-clause-takes
 returns-in-Did-clause-takes g c = λ sys state s.
-    let before = g.K.Store.records c.args.store.now in
+    let before = (g.K.Store.view c.args.store.now).records in
     did-first (λ sys state. Unit {0}) Persist c.args.running.now c.persist.new.running before before c.in-Did.effect
     (λ sys state next effect earlier leads. writes-first sys state next effect leads) (λ sys state records. tt)
     (subst (λ (stepped : Stepped). TakesStep c.args.running.now before Persist (Ok stepped) c.persist.new.running before) c.in-Did.is (c.persist.ensures.takes before))
@@ -18,18 +18,18 @@ returns-in-Did-clause-takes g c = λ sys state s.
 
 pub returns-in-Idle-clause-takes : goal.returns-in-Idle-clause-takes
 returns-in-Idle-clause-takes g c = λ sys state s.
-    let before = g.K.Store.records c.args.store.now in
-    let after = g.K.Store.records c.deliver_first.new.store in
+    let before = (g.K.Store.view c.args.store.now).records in
+    let after = (g.K.Store.view c.deliver_first.new.store).records in
     idle-later (λ sys state. Unit {0}) NoneToPersist Persist c.args.running.now c.persist.new.running c.deliver_first.new.running before before after c.deliver_first.result
     (λ sys state earlier idle. idle) (λ sys state records. tt)
     (subst (λ (stepped : Stepped). TakesStep c.args.running.now before Persist (Ok stepped) c.persist.new.running before) c.in-Idle.is (c.persist.ensures.takes before))
     c.deliver_first.ensures.takes sys state s tt
 
 pub deliver_first-requires-clause-stored : goal.deliver_first-requires-clause-stored
-deliver_first-requires-clause-stored g c = c.persist.ensures.stored (g.K.Store.records c.args.store.now) c.requires.stored
+deliver_first-requires-clause-stored g c = c.persist.ensures.stored (g.K.Store.view c.args.store.now).records c.requires.stored
 
 pub returns-in-Did-clause-stored : goal.returns-in-Did-clause-stored
-returns-in-Did-clause-stored g c = c.persist.ensures.stored (g.K.Store.records c.args.store.now) c.requires.stored
+returns-in-Did-clause-stored g c = c.persist.ensures.stored (g.K.Store.view c.args.store.now).records c.requires.stored
 
 pub returns-in-Idle-clause-quiet : goal.returns-in-Idle-clause-quiet
 returns-in-Idle-clause-quiet g c = λ none.

@@ -3,7 +3,7 @@ use Rattle.fw_engine.proofs.QuietLaws.{unfaulted-counts}
 use Rattle.fw_engine.proofs.taking.take.Goals as goal
 
 pub returns-in-Inject-clause-takes : goal.returns-in-Inject-clause-takes
-returns-in-Inject-clause-takes g c = rw c.in-Inject.is (c.inject.ensures.takes (g.K.Store.records c.args.store.now))
+returns-in-Inject-clause-takes g c = rw c.in-Inject.is (c.inject.ensures.takes (g.K.Store.view c.args.store.now).records)
 
 pub returns-in-Deliver-clause-takes : goal.returns-in-Deliver-clause-takes
 returns-in-Deliver-clause-takes g c = rw (c.in-Deliver.is, ← c.as_ref.ensures.value) c.deliver.ensures.takes
@@ -18,10 +18,10 @@ pub returns-in-Checkpoint-clause-takes : goal.returns-in-Checkpoint-clause-takes
 returns-in-Checkpoint-clause-takes g c = rw c.in-Checkpoint.is c.checkpoint.ensures.takes
 
 pub returns-in-Persist-clause-takes : goal.returns-in-Persist-clause-takes
-returns-in-Persist-clause-takes g c = rw c.in-Persist.is (c.persist.ensures.takes (g.K.Store.records c.args.store.now))
+returns-in-Persist-clause-takes g c = rw c.in-Persist.is (c.persist.ensures.takes (g.K.Store.view c.args.store.now).records)
 
 pub returns-in-Fail-clause-takes : goal.returns-in-Fail-clause-takes
-returns-in-Fail-clause-takes g c = rw (c.in-Fail.is, ← c.as_slice.ensures) (c.fail.ensures.takes (g.K.Store.records c.args.store.now))
+returns-in-Fail-clause-takes g c = rw (c.in-Fail.is, ← c.as_slice.ensures) (c.fail.ensures.takes (g.K.Store.view c.args.store.now).records)
 
 pub returns-in-Recover-clause-takes : goal.returns-in-Recover-clause-takes
 returns-in-Recover-clause-takes g c = rw c.in-Recover.is c.recover.ensures.takes
@@ -30,7 +30,7 @@ pub returns-in-Collect-clause-takes : goal.returns-in-Collect-clause-takes
 returns-in-Collect-clause-takes g c = rw c.in-Collect.is c.collect.ensures.takes
 
 pub returns-in-Ack-clause-takes : goal.returns-in-Ack-clause-takes
-returns-in-Ack-clause-takes g c = rw c.in-Ack.is (c.acknowledge.ensures.takes (g.K.Store.records c.args.store.now))
+returns-in-Ack-clause-takes g c = rw c.in-Ack.is (c.acknowledge.ensures.takes (g.K.Store.view c.args.store.now).records)
 
 pub returns-in-Inject-clause-damaged : goal.returns-in-Inject-clause-damaged
 returns-in-Inject-clause-damaged g c = λ id e. absurd (no_damage c.inject.result id c.inject.ensures.undamaged e)
@@ -108,7 +108,7 @@ pub returns-in-Collect-clause-calls : goal.returns-in-Collect-clause-calls
 returns-in-Collect-clause-calls g c = rw c.in-Collect.is (λ e. tt)
 
 pub returns-in-Persist-clause-stored : goal.returns-in-Persist-clause-stored
-returns-in-Persist-clause-stored g c = c.persist.ensures.stored (g.K.Store.records c.args.store.now) c.requires.stored
+returns-in-Persist-clause-stored g c = c.persist.ensures.stored (g.K.Store.view c.args.store.now).records c.requires.stored
 
 pub returns-in-Deliver-clause-quiet : goal.returns-in-Deliver-clause-quiet
 returns-in-Deliver-clause-quiet g c = rw c.in-Deliver.is c.deliver.ensures.quiet
@@ -129,10 +129,10 @@ pub returns-in-Collect-clause-quiet : goal.returns-in-Collect-clause-quiet
 returns-in-Collect-clause-quiet g c = rw c.in-Collect.is (λ none. absurd (none tt))
 
 pub returns-in-Inject-clause-faults : goal.returns-in-Inject-clause-faults
-returns-in-Inject-clause-faults g c = unfaulted-counts c.inject.result (g.K.Store.fault_count c.args.store.now) c.inject.ensures.unfaulted
+returns-in-Inject-clause-faults g c = unfaulted-counts c.inject.result (g.K.Store.view c.args.store.now).faults c.inject.ensures.unfaulted
 
 pub returns-in-Fail-clause-faults : goal.returns-in-Fail-clause-faults
-returns-in-Fail-clause-faults g c = unfaulted-counts c.fail.result (g.K.Store.fault_count c.args.store.now) c.fail.ensures.unfaulted
+returns-in-Fail-clause-faults g c = unfaulted-counts c.fail.result (g.K.Store.view c.args.store.now).faults c.fail.ensures.unfaulted
 
 pub returns-in-Ack-clause-faults : goal.returns-in-Ack-clause-faults
-returns-in-Ack-clause-faults g c = unfaulted-counts c.acknowledge.result (g.K.Store.fault_count c.args.store.now) c.acknowledge.ensures.unfaulted
+returns-in-Ack-clause-faults g c = unfaulted-counts c.acknowledge.result (g.K.Store.view c.args.store.now).faults c.acknowledge.ensures.unfaulted

@@ -4,7 +4,7 @@ use Rattle.std.specs.Option.{option_copied}
 use Rattle.std.specs.Prelude.{find}
 use Rattle.fw_flow.specs.declared.event.Message.{Message}
 use Rattle.fw_model.specs.Steps.{is_asked}
-use Rattle.fw_stands.specs.LawsOfEvents.{asked_of}
+use Rattle.fw_stands.specs.Events.{asked_of}
 use Rattle.fw_running.specs.Kept.{queue_at}
 use Rattle.fw_events.proofs.AskedLaws.{first-of_numbers, first-of_others, nothing-first, queue-there}
 use Rattle.fw_events.proofs.delivery.first_on.Goals as goal

@@ -21,7 +21,7 @@ returns-in_default-clause-shaped g c = brought_up_shaped c.args.running.now c.fi
 pub returns-in_default-clause-takes : goal.returns-in_default-clause-takes
 returns-in_default-clause-takes g c = λ sys state s trust.
     let old = c.args.running.now in
-    none_notified sys old c.find_notice.new.running (g.K.Store.records c.args.store.now) state c.args.node (option_copied c.args.at) s c.in_ok-at.ensures.up
+    none_notified sys old c.find_notice.new.running (g.K.Store.view c.args.store.now).records state c.args.node (option_copied c.args.at) s c.in_ok-at.ensures.up
     (subst (λ (found : Option Stamp). FindsNotice old.flow old.progress c.args.node (option_copied c.args.at) found) c.in_default.is c.in_ok-at.ensures.found)
 
 pub notify_of-requires-clause-shaped : goal.notify_of-requires-clause-shaped
@@ -38,8 +38,8 @@ returns-in_err-notify_of-clause-takes g c = λ sys state s.
     let old = c.args.running.now in
     let up = c.find_notice.new.running in
     let new = c.notify_of.new.running in
-    let before = g.K.Store.records c.args.store.now in
-    let after = g.K.Store.records c.notify_of.new.store in
+    let before = (g.K.Store.view c.args.store.now).records in
+    let after = (g.K.Store.view c.notify_of.new.store).records in
     let t = c.in-Some.at in
     let e = c.in_err-notify_of.field-0.0 in
     let live : is_down old c.args.node ≡ false = sym c.is_failed.ensures ∙ c.if-is_failed.false in
@@ -54,8 +54,8 @@ returns-clause-takes g c = λ sys state s trust.
     let old = c.args.running.now in
     let up = c.find_notice.new.running in
     let new = c.notify_of.new.running in
-    let before = g.K.Store.records c.args.store.now in
-    let after = g.K.Store.records c.notify_of.new.store in
+    let before = (g.K.Store.view c.args.store.now).records in
+    let after = (g.K.Store.view c.notify_of.new.store).records in
     let t = c.in-Some.at in
     let live : is_down old c.args.node ≡ false = sym c.is_failed.ensures ∙ c.if-is_failed.false in
     let found = subst (λ (o : Option Stamp). FindsNotice old.flow old.progress c.args.node (option_copied c.args.at) o) c.in-Some.is c.in_ok-at.ensures.found in

@@ -1,5 +1,5 @@
 use Rattle.std.proofs.Common.{refl}
-use Rattle.fw_events.specs.Taking.{with_tables}
+use Rattle.fw_running.specs.Kept.{with_tables}
 use Rattle.fw_events.proofs.TakenShapes.{shaped-table}
 use Rattle.fw_events.proofs.notification.table_hears.Goals as goal
 

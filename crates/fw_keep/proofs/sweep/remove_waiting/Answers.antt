@@ -9,14 +9,14 @@ pub remove-requires : goal.remove-requires
 remove-requires g c =
     let at : slice_get c.loop-id.waiting.items (vec_len c.loop-id.waiting - 1) ≡ Some c.in-Some.id.now =
     at-end c.loop-id.waiting.items c.deref.result.now (vec_len c.loop-id.waiting) c.in-Some.id.now c.deref.ensures.value c.deref.ensures.len c.in-Some.ensures.value in
-    there-at c.loop-id.waiting.items (vec_len c.loop-id.waiting - 1) c.in-Some.id.now (g.K.Store.records c.loop-id.store) at c.loop-id.invariant.there
+    there-at c.loop-id.waiting.items (vec_len c.loop-id.waiting - 1) c.in-Some.id.now (g.K.Store.view c.loop-id.store).records at c.loop-id.invariant.there
 
 pub loop-id-preserved : goal.loop-id-preserved
 loop-id-preserved g c =
     let id = c.in-Some.id.now in
     let rest = c.pop.new.self.items in
-    let before = g.K.Store.records c.loop-id.store in
-    let after = g.K.Store.records c.remove.new.self in
+    let before = (g.K.Store.view c.loop-id.store).records in
+    let after = (g.K.Store.view c.remove.new.self).records in
     let at : slice_get c.loop-id.waiting.items (vec_len c.loop-id.waiting - 1) ≡ Some c.in-Some.id.now =
     at-end c.loop-id.waiting.items c.deref.result.now (vec_len c.loop-id.waiting) c.in-Some.id.now c.deref.ensures.value c.deref.ensures.len c.in-Some.ensures.value in
     let parts : c.loop-id.waiting.items ≡ c.pop.new.self.items ++ c.in-Some.id.now ∷ [] =
@@ -25,8 +25,8 @@ loop-id-preserved g c =
     record {
       distinct = distinct-prefix rest (id ∷ []) distinct;
       there = there-more rest id before after distinct (subst (λ (ids : List ℕ). AreThere ids before) parts c.loop-id.invariant.there) c.in_ok-remove.ensures.removed;
-      swept = sweeps-more c.args.waiting.now.items (g.K.Store.records c.args.store.now) rest id before after
-          (subst (λ (ids : List ℕ). Sweeps c.args.waiting.now.items (g.K.Store.records c.args.store.now) ids before) parts c.loop-id.invariant.swept) c.in_ok-remove.ensures.removed;
+      swept = sweeps-more c.args.waiting.now.items (g.K.Store.view c.args.store.now).records rest id before after
+          (subst (λ (ids : List ℕ). Sweeps c.args.waiting.now.items (g.K.Store.view c.args.store.now).records ids before) parts c.loop-id.invariant.swept) c.in_ok-remove.ensures.removed;
       capacity = c.pop.ensures.capacity ∙ c.loop-id.invariant.capacity;
       given = c.remove.ensures.given_stays ∙ c.loop-id.invariant.given;
       faults = c.in_ok-remove.ensures.faults ∙ c.loop-id.invariant.faults;

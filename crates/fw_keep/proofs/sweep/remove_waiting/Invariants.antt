@@ -7,11 +7,11 @@ use Rattle.fw_keep.proofs.sweep.remove_waiting.Given as goal
 abbrev pub invariant-loop-id : goal.invariant-loop-id
 invariant-loop-id g l = record {
   distinct : AreDistinct l.waiting.items;
-  there : AreThere l.waiting.items (g.K.Store.records l.store);
-  swept : Sweeps l.initial.waiting.items (g.K.Store.records l.initial.store) l.waiting.items (g.K.Store.records l.store);
+  there : AreThere l.waiting.items (g.K.Store.view l.store).records;
+  swept : Sweeps l.initial.waiting.items (g.K.Store.view l.initial.store).records l.waiting.items (g.K.Store.view l.store).records;
   capacity : vec_capacity l.waiting ≡ vec_capacity l.initial.waiting;
-  given : g.K.Store.given l.store ≡ g.K.Store.given l.initial.store;
-  faults : g.K.Store.fault_count l.store ≡ g.K.Store.fault_count l.initial.store;
+  given : (g.K.Store.view l.store).given ≡ (g.K.Store.view l.initial.store).given;
+  faults : (g.K.Store.view l.store).faults ≡ (g.K.Store.view l.initial.store).faults;
 }
 
 abbrev pub decreases-loop-id : goal.decreases-loop-id

@@ -12,28 +12,28 @@ use Rattle.fw_recover.proofs.recovery.recover.Goals as goal
 pub returns-in_err-restore-clause-takes : goal.returns-in_err-restore-clause-takes
 returns-in_err-restore-clause-takes g c =
     let some = some-down c.args.running.now.failed.items c.any_of.result (c.any_of.ensures ∙ ap (list_any (λ down. down)) c.deref.ensures.value) c.if-not-any_of.false in
-    refused-stands c.args.running.now c.restore.new.parts c.in_ok-choice.choice (g.K.Store.records c.args.store.now) (g.K.Store.records c.restore.new.store)
-    (g.K.Store.given c.restore.new.store) c.in_err-restore.field-0.0 c.from_residual-in_err-restore.result c.requires.shaped some c.in_err-restore.ensures.kept c.restore.ensures.stays
+    refused-stands c.args.running.now c.restore.new.parts c.in_ok-choice.choice (g.K.Store.view c.args.store.now).records (g.K.Store.view c.restore.new.store).records
+    (g.K.Store.view c.restore.new.store).given c.in_err-restore.field-0.0 c.from_residual-in_err-restore.result c.requires.shaped some c.in_err-restore.ensures.kept c.restore.ensures.stays
     c.from_residual-in_err-restore.ensures.1 c.in_err-restore.ensures.damaged
 
 pub returns-in_err-restore-clause-damaged : goal.returns-in_err-restore-clause-damaged
 returns-in_err-restore-clause-damaged g c =
-    refused-damage c.args.running.now c.in_ok-choice.choice (g.K.Store.records c.args.store.now) (g.K.Store.given c.restore.new.store) c.in_err-restore.field-0.0
+    refused-damage c.args.running.now c.in_ok-choice.choice (g.K.Store.view c.args.store.now).records (g.K.Store.view c.restore.new.store).given c.in_err-restore.field-0.0
     c.from_residual-in_err-restore.result c.in_ok-choice.ensures.of_state c.from_residual-in_err-restore.ensures.1 c.in_err-restore.ensures.damaged
 
 pub follow-requires-clause-queues : goal.follow-requires-clause-queues
 follow-requires-clause-queues g c =
-    queues-at_receivers c.in_ok-choice.choice (g.K.Store.records c.args.store.now) c.args.running.now c.restore.new.parts c.requires.shaped c.in_ok-restore.ensures.restored
+    queues-at_receivers c.in_ok-choice.choice (g.K.Store.view c.args.store.now).records c.args.running.now c.restore.new.parts c.requires.shaped c.in_ok-restore.ensures.restored
     c.restore.ensures.each
 
 pub returns-clause-shaped : goal.returns-clause-shaped
 returns-clause-shaped g c =
-    followed-shaped c.in_ok-choice.choice (g.K.Store.records c.args.store.now) c.args.running.now c.follow.new.running c.restore.new.parts c.requires.shaped
+    followed-shaped c.in_ok-choice.choice (g.K.Store.view c.args.store.now).records c.args.running.now c.follow.new.running c.restore.new.parts c.requires.shaped
     c.in_ok-restore.ensures.restored c.restore.ensures.each c.in_ok-follow.ensures.followed c.follow.ensures.flow c.follow.ensures.parts
 
 pub returns-clause-takes : goal.returns-clause-takes
 returns-clause-takes g c =
-    let records = g.K.Store.records c.args.store.now in
+    let records = (g.K.Store.view c.args.store.now).records in
     let made = followed-recovered c.in_ok-choice.choice records c.args.running.now c.follow.new.running c.restore.new.parts c.in_ok-restore.ensures.restored
     c.in_ok-follow.ensures.followed c.follow.ensures.flow c.follow.ensures.parts in
     let some = some-down c.args.running.now.failed.items c.any_of.result (c.any_of.ensures ∙ ap (list_any (λ down. down)) c.deref.ensures.value) c.if-not-any_of.false in
@@ -51,7 +51,7 @@ returns-clause-tells g c = ap (λ (r : Option Records). is_some r) c.restore.ens
 
 pub returns-clause-shows : goal.returns-clause-shows
 returns-clause-shows g c =
-    let records = g.K.Store.records c.args.store.now in
+    let records = (g.K.Store.view c.args.store.now).records in
     let made = followed-recovered c.in_ok-choice.choice records c.args.running.now c.follow.new.running c.restore.new.parts c.in_ok-restore.ensures.restored
     c.in_ok-follow.ensures.followed c.follow.ensures.flow c.follow.ensures.parts in
     let some = some-down c.args.running.now.failed.items c.any_of.result (c.any_of.ensures ∙ ap (list_any (λ down. down)) c.deref.ensures.value) c.if-not-any_of.false in

@@ -20,8 +20,8 @@ returns-in_err-fetch-clause-damaged g c =
     let flow = c.args.flow.now in
     let choice = c.args.choice.now in
     let entries = c.args.keep.now.entries in
-    let records = g.K.Store.records c.args.store.now in
-    let given = g.K.Store.given c.fetch.new.store in
+    let records = (g.K.Store.view c.args.store.now).records in
+    let given = (g.K.Store.view c.fetch.new.store).given in
     let e : Entry = c.entry-item.result in
     let why : KeepFault = c.in_err-fetch.field-0.0 in
     let there = entry-among c.entries-entries.result.now entries c.loop-entry.entry-index e c.entries-entries.ensures.all c.loop-entry-test.true c.entry-item.is in
@@ -39,13 +39,13 @@ loop-entry-preserved g c =
     let all = c.entries-entries.result.now in
     let i = c.loop-entry.entry-index in
     let e : Entry = c.entry-item.result in
-    let records = g.K.Store.records c.args.store.now in
+    let records = (g.K.Store.view c.args.store.now).records in
     elim c.if-is_asked_for.branch [
       | then-is_asked_for+in_ok-fetch+in_ok-add w ↦
           let there = entry-among all c.args.keep.now.entries i e c.entries-entries.ensures.all c.loop-entry-test.true c.entry-item.is in
           let r : Record = w.in_ok-fetch.field-0 in
           let P : Option Records → Type 0 = λ held. IsToldUnder e.id held (Ok r) in
-          let one = fetched-one flow records e r (g.K.Store.given w.fetch.new.store) (w.in_ok-fetch.ensures.fetched e there refl)
+          let one = fetched-one flow records e r (g.K.Store.view w.fetch.new.store).given (w.in_ok-fetch.ensures.fetched e there refl)
           (subst P c.loop-entry.invariant.stays w.in_ok-fetch.ensures.told) in
           let stays = w.fetch.ensures.stays ∙ c.loop-entry.invariant.stays in
           let Q : Option Records → Type 0 = λ held. IsStored c.args.keep.now held in
@@ -53,9 +53,9 @@ loop-entry-preserved g c =
             fetched = subst (HasFetched flow choice records (take (i + 1) all)) (sym w.given-is)
                 (fetched-more flow choice records all i e r c.loop-entry.given w.add.new.self c.loop-entry-test.true c.entry-item.is
                 (sym c.is_asked_for.ensures ∙ w.if-is_asked_for.true) c.loop-entry.invariant.fetched one w.in_ok-add.ensures);
-            stays = ap g.K.Store.records w.store-is ∙ stays;
-            stored = subst Q (sym (ap g.K.Store.records w.store-is ∙ w.fetch.ensures.stays)) c.loop-entry.invariant.stored;
-            faults = ap g.K.Store.fault_count w.store-is ∙ (w.in_ok-fetch.ensures.faults ∙ c.loop-entry.invariant.faults);
+            stays = ap (λ s. (g.K.Store.view s).records) w.store-is ∙ stays;
+            stored = subst Q (sym (ap (λ s. (g.K.Store.view s).records) w.store-is ∙ w.fetch.ensures.stays)) c.loop-entry.invariant.stored;
+            faults = ap (λ s. (g.K.Store.view s).faults) w.store-is ∙ (w.in_ok-fetch.ensures.faults ∙ c.loop-entry.invariant.faults);
           }
       | else-is_asked_for w ↦
           let Q : Option Records → Type 0 = λ held. IsStored c.args.keep.now held in
@@ -63,8 +63,8 @@ loop-entry-preserved g c =
             fetched = subst (HasFetched flow choice records (take (i + 1) all)) (sym w.given-is)
                 (fetched-same flow choice records all i e c.loop-entry.given c.loop-entry-test.true c.entry-item.is
                 (sym c.is_asked_for.ensures ∙ w.if-is_asked_for.false) c.loop-entry.invariant.fetched);
-            stays = ap g.K.Store.records w.store-is ∙ c.loop-entry.invariant.stays;
-            stored = subst Q (sym (ap g.K.Store.records w.store-is)) c.loop-entry.invariant.stored;
-            faults = ap g.K.Store.fault_count w.store-is ∙ c.loop-entry.invariant.faults;
+            stays = ap (λ s. (g.K.Store.view s).records) w.store-is ∙ c.loop-entry.invariant.stays;
+            stored = subst Q (sym (ap (λ s. (g.K.Store.view s).records) w.store-is)) c.loop-entry.invariant.stored;
+            faults = ap (λ s. (g.K.Store.view s).faults) w.store-is ∙ c.loop-entry.invariant.faults;
           }
     ]

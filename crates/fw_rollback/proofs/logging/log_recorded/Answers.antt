@@ -2,7 +2,8 @@ use Rattle.std.proofs.Common.{◌<◌, List, ◌++◌, length, sym, ap, subst, �
 use Rattle.std.proofs.lemmas.List.{take_all}
 use Rattle.fw_time.proofs.EachLaws.{each-at}
 use Rattle.fw_record.specs.declared.logged.Logged.{Logged}
-use Rattle.fw_rollback.specs.Restored.{log_of, messages_on}
+use Rattle.fw_record.specs.Log.{logged_on}
+use Rattle.fw_rollback.specs.Restored.{log_of}
 use Rattle.fw_rollback.proofs.LogLaws.{recorded-more, recorded-others}
 use Rattle.fw_rollback.proofs.logging.log_recorded.Goals as goal
 
@@ -27,4 +28,4 @@ loop-logged-preserved c =
 pub returns-clause-logged : goal.returns-clause-logged
 returns-clause-logged c = λ e ms h.
     c.loop-logged.invariant.logged e ms h
-    ∙ ap (λ (rs : List Logged). log_of c.args.flow.now c.args.low.now e (messages_on e rs ++ ms)) (take_all c.loop-logged.logged-index c.args.recorded.now c.loop-logged-test.false)
+    ∙ ap (λ (rs : List Logged). log_of c.args.flow.now c.args.low.now e (logged_on e rs ++ ms)) (take_all c.loop-logged.logged-index c.args.recorded.now c.loop-logged-test.false)

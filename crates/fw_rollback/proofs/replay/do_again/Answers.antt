@@ -4,7 +4,7 @@ use Rattle.fw_flow.specs.declared.event.Event.{Event}
 use Rattle.fw_flow.specs.declared.event.Message.{Message}
 use Rattle.fw_flow.specs.Dataflow.{System}
 use Rattle.fw_flow.specs.NodeFunction.{sends}
-use Rattle.fw_keep.specs.Entry.{stamp_of}
+use Rattle.fw_record.specs.Event.{stamp_of_event}
 use Rattle.fw_record.specs.declared.record.Event.{Event as LoggedEvent}
 use Rattle.fw_node.specs.Answers.{caused_by}
 use Rattle.fw_node.specs.Sends.{sends_list}
@@ -72,7 +72,7 @@ returns-in_ok-sends-in-Deliver-clause-own c =
     let flow = c.args.flow.now in
     let p = c.args.node in
     let at = c.in-Deliver.at in
-    let there = subst (λ (event : LoggedEvent). in_domain c.args.table.now.bounds (stamp_of event) ≡ true) c.in-Deliver.is c.requires.stamp in
+    let there = subst (λ (event : LoggedEvent). in_domain c.args.table.now.bounds (stamp_of_event event) ≡ true) c.in-Deliver.is c.requires.stamp in
     own-more flow c.args.low.now p at c.in_ok-sends-in-Deliver.sends c.args.logs.now c.log_sends.new.logs c.log_sends.result (of_node flow p c.args.table.now at c.requires.node there)
     (c.in_ok-sends-in-Deliver.ensures.domain flow p c.requires.well_formed c.requires.node) c.requires.own c.log_sends.ensures.logged
 
@@ -81,6 +81,6 @@ returns-in_ok-sends-in-Notify-clause-own c =
     let flow = c.args.flow.now in
     let p = c.args.node in
     let at = c.in-Notify.at in
-    let there = subst (λ (event : LoggedEvent). in_domain c.args.table.now.bounds (stamp_of event) ≡ true) c.in-Notify.is c.requires.stamp in
+    let there = subst (λ (event : LoggedEvent). in_domain c.args.table.now.bounds (stamp_of_event event) ≡ true) c.in-Notify.is c.requires.stamp in
     own-more flow c.args.low.now p at c.in_ok-sends-in-Notify.sends c.args.logs.now c.log_sends-in-Notify.new.logs c.log_sends-in-Notify.result (of_node flow p c.args.table.now at c.requires.node there)
     (c.in_ok-sends-in-Notify.ensures.domain flow p c.requires.well_formed c.requires.node) c.requires.own c.log_sends-in-Notify.ensures.logged

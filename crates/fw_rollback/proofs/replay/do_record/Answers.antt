@@ -2,16 +2,16 @@ use Rattle.std.proofs.Common.{◌++◌, List, sym, ap, subst, ◌∙◌}
 use Rattle.std.specs.Prelude.{OnOk}
 use Rattle.std.proofs.lemmas.List.{append-nil}
 use Rattle.fw_time.specs.Stamp.{in_domain}
-use Rattle.fw_keep.specs.Entry.{stamp_of}
+use Rattle.fw_record.specs.Event.{stamp_of_event, event_of}
 use Rattle.fw_record.specs.declared.record.Event.{Event as LoggedEvent}
 use Rattle.fw_record.specs.declared.record.Record.{Record}
-use Rattle.fw_rollback.specs.Asked.{event_of, CanServe}
+use Rattle.fw_rollback.specs.Asked.{CanServe}
 use Rattle.fw_rollback.specs.Restored.{HaveSent, StandsFor}
 use Rattle.fw_rollback.proofs.replay.do_record.Goals as goal
 
 pub do_again-requires-clause-stamp : goal.do_again-requires-clause-stamp
 do_again-requires-clause-stamp c =
-    ap (λ b. in_domain b (stamp_of c.in-Event.event)) c.requires.node.bounds ∙ subst (CanServe c.args.flow.now c.args.node) c.in-Event.is c.requires.serve
+    ap (λ b. in_domain b (stamp_of_event c.in-Event.event)) c.requires.node.bounds ∙ subst (CanServe c.args.flow.now c.args.node) c.in-Event.is c.requires.serve
 
 pub returns-in-State-clause-table : goal.returns-in-State-clause-table
 returns-in-State-clause-table c = λ logged st.

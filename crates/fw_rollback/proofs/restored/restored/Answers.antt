@@ -1,7 +1,8 @@
 use Rattle.std.proofs.Common.{◌≡◌, ◌≢◌, ◌<◌, ◌++◌, List, length, sym, subst}
 use Rattle.std.specs.List.{AllByRecursion}
 use Rattle.fw_rollback.specs.Edges.{on_edge}
-use Rattle.fw_rollback.specs.Restored.{log_of, messages_on}
+use Rattle.fw_record.specs.Log.{logged_on}
+use Rattle.fw_rollback.specs.Restored.{log_of}
 use Rattle.fw_record.specs.declared.logged.Logged.{Logged}
 use Rattle.fw_rollback.proofs.BuildLaws.{first-serves, logged-there, logged-apart, restored-some, restored-none}
 use Rattle.fw_rollback.proofs.restored.restored.Goals as goal
@@ -38,7 +39,7 @@ returns-in_ok-log_recorded-in-Some-clause-built c = λ f.
     restored-some c.args.flow.now c.args.low.now c.args.node f c.args.records.now c.in-Some.checkpoint.now c.from_state.result c.args.logs.now c.log_recorded.new.logs
     c.in-Some.ensures c.requires.empty c.from_state.ensures.table c.from_state.ensures.node
     (λ e ms h.
-    let P : List Logged → Type 0 = λ ls. on_edge c.log_recorded.new.logs e ≡ log_of c.args.flow.now c.args.low.now e (messages_on e ls ++ ms) in
+    let P : List Logged → Type 0 = λ ls. on_edge c.log_recorded.new.logs e ≡ log_of c.args.flow.now c.args.low.now e (logged_on e ls ++ ms) in
     subst P c.as_slice.ensures (c.in_ok-log_recorded-in-Some.ensures.logged e ms h))
 
 pub returns-in-None-clause-built : goal.returns-in-None-clause-built

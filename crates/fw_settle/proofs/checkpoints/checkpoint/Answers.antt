@@ -14,7 +14,7 @@ use Rattle.fw_settle.proofs.checkpoints.checkpoint.Goals as goal
 
 pub returns-then-not-may_take-clause-takes : goal.returns-then-not-may_take-clause-takes
 returns-then-not-may_take-clause-takes g c = λ sys state s trust.
-    may_not-idle sys state c.args.running.now (g.K.Store.records c.args.store.now) s c.args.node
+    may_not-idle sys state c.args.running.now (g.K.Store.view c.args.store.now).records s c.args.node
     (λ m. both_ways c.may_take.result c.if-not-may_take.true (c.may_take.ensures.1 m))
 
 pub bounds-settled-place : goal.bounds-settled-place
@@ -42,8 +42,8 @@ pub returns-in_err-ask_checkpoint-clause-takes : goal.returns-in_err-ask_checkpo
 returns-in_err-ask_checkpoint-clause-takes g c = λ sys state s.
     let old = c.args.running.now in
     let new = c.ask_checkpoint.new.running in
-    let before = g.K.Store.records c.args.store.now in
-    let after = g.K.Store.records c.ask_checkpoint.new.store in
+    let before = (g.K.Store.view c.args.store.now).records in
+    let after = (g.K.Store.view c.ask_checkpoint.new.store).records in
     let is : c.from_residual-in_err-ask_checkpoint.result ≡ Err c.in_err-ask_checkpoint.field-0.0 = search rules in
     subst (λ r. Answers sys state (Checkpoint c.args.node) r before new after) (sym is)
     (left-answers (Unit {0}) sys state (Checkpoint c.args.node) c.in_err-ask_checkpoint.field-0.0 new before after c.in_err-ask_checkpoint.ensures.undamaged (
@@ -55,8 +55,8 @@ pub returns-clause-takes : goal.returns-clause-takes
 returns-clause-takes g c = λ sys state s trust.
     let old = c.args.running.now in
     let new = c.ask_checkpoint.new.running in
-    let before = g.K.Store.records c.args.store.now in
-    let after = g.K.Store.records c.ask_checkpoint.new.store in
+    let before = (g.K.Store.view c.args.store.now).records in
+    let after = (g.K.Store.view c.ask_checkpoint.new.store).records in
     let there = may-there old c.args.node (c.may_take.ensures.0 c.if-not-may_take.false) in
     let each = c.requires.shaped.progress.settled_each in
     let long = ap length c.settled.ensures in

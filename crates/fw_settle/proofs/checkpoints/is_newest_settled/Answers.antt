@@ -6,7 +6,7 @@ use Rattle.fw_flow.specs.Dataflow.{bounds_of}
 use Rattle.fw_model.specs.Machine.{front_of, no_stamps}
 use Rattle.fw_model.specs.Steps.{last_or}
 use Rattle.fw_progress.proofs.TargetLaws.{read_at}
-use Rattle.fw_stands.specs.LawsOfEntries.{entry_fronts}
+use Rattle.fw_stands.specs.Entries.{entry_fronts}
 use Rattle.fw_policy.proofs.WayLaws.{bounds-plain}
 use Rattle.fw_settle.proofs.NewestLaws.{newest-none}
 use Rattle.fw_settle.proofs.checkpoints.is_newest_settled.Goals as goal

@@ -1,6 +1,6 @@
 use Rattle.std.proofs.Common.{◌≡◌, ◌==◌, ◌∷◌, ◌++◌, [], true, cond, rules, List, ap, ◌∙◌}
 use Rattle.fw_keep.specs.declared.entry.Entry.{Entry}
-use Rattle.fw_stands.specs.LawsOfEntries.{entry_front}
+use Rattle.fw_stands.specs.Entries.{entry_front}
 use Rattle.fw_settle.proofs.NewestLaws.{newest-here}
 use Rattle.fw_settle.proofs.checkpoints.newest_checkpoint.Goals as goal
 

@@ -1,6 +1,6 @@
 use Rattle.std.proofs.Common.{◌≡◌, ℕ, List, length}
 use Rattle.fw_model.specs.Steps.{last_or}
-use Rattle.fw_stands.specs.LawsOfEntries.{entry_fronts}
+use Rattle.fw_stands.specs.Entries.{entry_fronts}
 use Rattle.fw_settle.proofs.checkpoints.newest_checkpoint.Given as goal
 
 abbrev pub invariant-loop-entry : goal.invariant-loop-entry

@@ -8,7 +8,7 @@ loop-next-init g c = record {
   others = refl;
   shaped = c.requires.shaped;
   stored = c.requires.stored;
-  asked = asking-first c.args.running.now (g.K.Store.records c.args.store.now) c.grown_from-next.result c.grown_from-next.ensures;
+  asked = asking-first c.args.running.now (g.K.Store.view c.args.store.now).records c.grown_from-next.result c.grown_from-next.ensures;
   tells = refl;
   quiet = λ none. refl;
   faults = refl;
@@ -19,9 +19,9 @@ loop-next-preserved g c =
     let old = c.args.running.now in
     let mid = c.loop-next.running in
     let new = c.ask_if_eager.new.running in
-    let before = g.K.Store.records c.args.store.now in
-    let between = g.K.Store.records c.loop-next.store in
-    let after = g.K.Store.records c.ask_if_eager.new.store in
+    let before = (g.K.Store.view c.args.store.now).records in
+    let between = (g.K.Store.view c.loop-next.store).records in
+    let after = (g.K.Store.view c.ask_if_eager.new.store).records in
     let node = c.in-Some.node in
     let next : c.loop-next.next ≡ Some node = search rules in
     record {
@@ -39,8 +39,8 @@ loop-next-preserved g c =
 pub returns-clause-asked : goal.returns-clause-asked
 returns-clause-asked g c =
     let old = c.args.running.now in
-    let before = g.K.Store.records c.args.store.now in
-    let after = g.K.Store.records c.loop-next.store in
+    let before = (g.K.Store.view c.args.store.now).records in
+    let after = (g.K.Store.view c.loop-next.store).records in
     let next : c.loop-next.next ≡ None = search rules in
     asking-all old c.loop-next.running before after c.loop-next.invariant.others
     (subst (HaveAskedUpTo old c.loop-next.running before after) next c.loop-next.invariant.asked)

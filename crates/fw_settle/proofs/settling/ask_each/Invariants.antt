@@ -10,11 +10,11 @@ abbrev pub invariant-loop-next : goal.invariant-loop-next
 invariant-loop-next g l = record {
   others : ChangesKeep l.fn.running l.running;
   shaped : IsShaped l.running;
-  stored : IsStored l.running.parts.keep (g.K.Store.records l.store);
-  asked : HaveAskedUpTo l.fn.running l.running (g.K.Store.records l.fn.store) (g.K.Store.records l.store) l.next;
-  tells : is_some (g.K.Store.records l.store) ≡ is_some (g.K.Store.records l.fn.store);
+  stored : IsStored l.running.parts.keep (g.K.Store.view l.store).records;
+  asked : HaveAskedUpTo l.fn.running l.running (g.K.Store.view l.fn.store).records (g.K.Store.view l.store).records l.next;
+  tells : is_some (g.K.Store.view l.store).records ≡ is_some (g.K.Store.view l.fn.store).records;
   quiet : (HasEager l.fn.running.flow → ⊥) → l.store ≡ l.fn.store;
-  faults : g.K.Store.fault_count l.store ≡ g.K.Store.fault_count l.fn.store;
+  faults : (g.K.Store.view l.store).faults ≡ (g.K.Store.view l.fn.store).faults;
 }
 
 abbrev pub decreases-loop-next : goal.decreases-loop-next

@@ -8,7 +8,7 @@ use Rattle.fw_settle.proofs.settling.ask_eager.Goals as goal
 pub returns-in-Err-clause-stays : goal.returns-in-Err-clause-stays
 returns-in-Err-clause-stays g c =
     kept-withdrawn c.args.running.now.parts.keep.entries c.ask_each.new.running.parts.keep.entries c.withdraw_from.new.running.parts.keep.entries
-    (g.K.Store.records c.args.store.now) (g.K.Store.records c.ask_each.new.store) c.ask_each.ensures.adds
+    (g.K.Store.view c.args.store.now).records (g.K.Store.view c.ask_each.new.store).records c.ask_each.ensures.adds
     (λ first more is l fly. c.withdraw_from.ensures.withdrawn first more is (l ∙ sym (ap length c.entries-count.ensures.all)) fly)
 
 pub returns-in-Err-clause-shaped : goal.returns-in-Err-clause-shaped
@@ -16,11 +16,11 @@ returns-in-Err-clause-shaped g c =
     let old = c.args.running.now in
     let mid = c.ask_each.new.running in
     let new = c.withdraw_from.new.running in
-    let kept : KeepsEntries old.parts.keep.entries new.parts.keep.entries (g.K.Store.records c.args.store.now) (g.K.Store.records c.ask_each.new.store) =
+    let kept : KeepsEntries old.parts.keep.entries new.parts.keep.entries (g.K.Store.view c.args.store.now).records (g.K.Store.view c.ask_each.new.store).records =
     kept-withdrawn old.parts.keep.entries mid.parts.keep.entries new.parts.keep.entries
-    (g.K.Store.records c.args.store.now) (g.K.Store.records c.ask_each.new.store) c.ask_each.ensures.adds
+    (g.K.Store.view c.args.store.now).records (g.K.Store.view c.ask_each.new.store).records c.ask_each.ensures.adds
     (λ first more is l fly. c.withdraw_from.ensures.withdrawn first more is (l ∙ sym (ap length c.entries-count.ensures.all)) fly) in
     shaped-same old new c.requires.shaped (keep-both old mid new c.ask_each.ensures.others c.withdraw_from.ensures.others) kept.entries
 
 pub returns-in-Err-clause-stored : goal.returns-in-Err-clause-stored
-returns-in-Err-clause-stored g c = c.withdraw_from.ensures.stored (g.K.Store.records c.ask_each.new.store) c.ask_each.ensures.stored
+returns-in-Err-clause-stored g c = c.withdraw_from.ensures.stored (g.K.Store.view c.ask_each.new.store).records c.ask_each.ensures.stored

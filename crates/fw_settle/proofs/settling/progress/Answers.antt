@@ -15,23 +15,23 @@ pub returns-in_default-clause-takes : goal.returns-in_default-clause-takes
 returns-in_default-clause-takes g c =
     let mid = c.refresh.new.self in
     let none : c.grown_from.result ≡ None = search rules in
-    idle-takes c.args.running.now mid (g.K.Store.records c.args.store.now) c.in_ok-refresh.ensures.up (subst (IsFoundToSettle mid 0) none c.grown_from.ensures)
+    idle-takes c.args.running.now mid (g.K.Store.view c.args.store.now).records c.in_ok-refresh.ensures.up (subst (IsFoundToSettle mid 0) none c.grown_from.ensures)
 
 pub returns-in_err-settle_grown-clause-stored : goal.returns-in_err-settle_grown-clause-stored
 returns-in_err-settle_grown-clause-stored g c =
-    subst (λ (k : KeepState). IsStored k (g.K.Store.records c.ask_eager.new.store)) (sym c.settle_grown.ensures.keep) c.ask_eager.ensures.stored
+    subst (λ (k : KeepState). IsStored k (g.K.Store.view c.ask_eager.new.store).records) (sym c.settle_grown.ensures.keep) c.ask_eager.ensures.stored
 
 pub returns-clause-stored : goal.returns-clause-stored
 returns-clause-stored g c =
-    subst (λ (k : KeepState). IsStored k (g.K.Store.records c.ask_eager.new.store)) (sym c.settle_grown.ensures.keep) c.ask_eager.ensures.stored
+    subst (λ (k : KeepState). IsStored k (g.K.Store.view c.ask_eager.new.store).records) (sym c.settle_grown.ensures.keep) c.ask_eager.ensures.stored
 
 pub returns-in_err-ask_eager-clause-takes : goal.returns-in_err-ask_eager-clause-takes
 returns-in_err-ask_eager-clause-takes g c =
     let old = c.args.running.now in
     let mid = c.refresh.new.self in
     let new = c.ask_eager.new.running in
-    let before = g.K.Store.records c.args.store.now in
-    let after = g.K.Store.records c.ask_eager.new.store in
+    let before = (g.K.Store.view c.args.store.now).records in
+    let after = (g.K.Store.view c.ask_eager.new.store).records in
     let e = c.in_err-ask_eager.field-0.0 in
     let first = c.in-Some._first in
     let found : c.grown_from.result ≡ Some first = search rules in
@@ -46,8 +46,8 @@ returns-clause-takes g c =
     let mid = c.refresh.new.self in
     let asked = c.ask_eager.new.running in
     let new = c.settle_grown.new.running in
-    let before = g.K.Store.records c.args.store.now in
-    let after = g.K.Store.records c.ask_eager.new.store in
+    let before = (g.K.Store.view c.args.store.now).records in
+    let after = (g.K.Store.view c.ask_eager.new.store).records in
     let first = c.in-Some._first in
     let found : c.grown_from.result ≡ Some first = search rules in
     did-takes old mid new before after first c.in_ok-refresh.ensures.up c.in_ok-refresh.ensures.shaped (subst (IsFoundToSettle mid 0) found c.grown_from.ensures)

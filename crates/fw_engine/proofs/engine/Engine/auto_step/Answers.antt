@@ -13,21 +13,21 @@ invariant_of-self g c =
 
 pub returns-clause-ok : goal.returns-clause-ok
 returns-clause-ok g c =
-    let before = g.K.Store.records c.args.store.now in
-    let after = g.K.Store.records c.take_first-stepped.new.store in
+    let before = (g.K.Store.view c.args.store.now).records in
+    let after = (g.K.Store.view c.take_first-stepped.new.store).records in
     (first-taken c.args.self.now.running before c.take_first-stepped.result c.take_first-stepped.new.running after c.take_first-stepped.ensures.takes)
 
 pub returns-clause-faulted : goal.returns-clause-faulted
 returns-clause-faulted g c =
-    let before = g.K.Store.records c.args.store.now in
-    let after = g.K.Store.records c.take_first-stepped.new.store in
+    let before = (g.K.Store.view c.args.store.now).records in
+    let after = (g.K.Store.view c.take_first-stepped.new.store).records in
     (λ sys state s failed.
     (first-left c.args.self.now.running before c.take_first-stepped.result c.take_first-stepped.new.running after c.take_first-stepped.ensures.takes sys state s failed).1)
 
 pub returns-clause-calls : goal.returns-clause-calls
 returns-clause-calls g c =
-    let before = g.K.Store.records c.args.store.now in
-    let after = g.K.Store.records c.take_first-stepped.new.store in
+    let before = (g.K.Store.view c.args.store.now).records in
+    let after = (g.K.Store.view c.take_first-stepped.new.store).records in
     (λ sys state s failed.
     (first-left c.args.self.now.running before c.take_first-stepped.result c.take_first-stepped.new.running after c.take_first-stepped.ensures.takes sys state s failed).0)
 

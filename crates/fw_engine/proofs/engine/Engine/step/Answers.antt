@@ -15,20 +15,20 @@ invariant_of-self g c =
 
 pub returns-clause-ok : goal.returns-clause-ok
 returns-clause-ok g c =
-    let before = g.K.Store.records c.args.store.now in
-    let after = g.K.Store.records c.take-stepped.new.store in
+    let before = (g.K.Store.view c.args.store.now).records in
+    let after = (g.K.Store.view c.take-stepped.new.store).records in
     (taken c.args.self.now.running before c.args.step.now c.take-stepped.result c.take-stepped.new.running after c.take-stepped.ensures.takes)
 
 pub returns-clause-faulted : goal.returns-clause-faulted
 returns-clause-faulted g c =
-    let before = g.K.Store.records c.args.store.now in
-    let after = g.K.Store.records c.take-stepped.new.store in
+    let before = (g.K.Store.view c.args.store.now).records in
+    let after = (g.K.Store.view c.take-stepped.new.store).records in
     (left c.args.self.now.running before c.args.step.now c.take-stepped.result c.take-stepped.new.running after c.take-stepped.ensures.takes)
 
 pub returns-clause-unharmed : goal.returns-clause-unharmed
 returns-clause-unharmed g c = λ id sys state s e.
-    let u = unharmed c.args.self.now.running (g.K.Store.records c.args.store.now) c.args.step.now c.take-stepped.result c.take-stepped.new.running
-    (g.K.Store.records c.take-stepped.new.store) id c.take-stepped.ensures.takes sys state s e in
+    let u = unharmed c.args.self.now.running (g.K.Store.view c.args.store.now).records c.args.step.now c.take-stepped.result c.take-stepped.new.running
+    (g.K.Store.view c.take-stepped.new.store).records id c.take-stepped.ensures.takes sys state s e in
     (u.0, subst (λ step. IsStepEnabled sys state step) (c.take-stepped.ensures.in_recovery id e) u.1, u.2)
 
 pub returns-clause-refused : goal.returns-clause-refused
@@ -36,5 +36,5 @@ returns-clause-refused g c = refused-after c.take-stepped.result c.is_refusal-se
 
 pub returns-clause-shows : goal.returns-clause-shows
 returns-clause-shows g c =
-    shown c.args.self.now.running (g.K.Store.records c.args.store.now) c.args.step.now c.take-stepped.result c.take-stepped.new.running
-    (g.K.Store.records c.take-stepped.new.store) c.take-stepped.ensures.takes (λ is. c.take-stepped.ensures.shows is)
+    shown c.args.self.now.running (g.K.Store.view c.args.store.now).records c.args.step.now c.take-stepped.result c.take-stepped.new.running
+    (g.K.Store.view c.take-stepped.new.store).records c.take-stepped.ensures.takes (λ is. c.take-stepped.ensures.shows is)

@@ -9,7 +9,7 @@ use Rattle.fw_keep.proofs.keep.Keep.sweep.Goals as goal
 
 pub remove_waiting-requires-clause-there : goal.remove_waiting-requires-clause-there
 remove_waiting-requires-clause-there g c =
-    let all = g.K.Store.records c.args.store.now in
+    let all = (g.K.Store.view c.args.store.now).records in
     stored-waiting (state_of c.self.inside) all (subst (λ (k : KeepState). IsStored k all) (sym c.self.view_is) c.requires.stored)
 
 pub invariant_of-self-in-Err-Failed : goal.invariant_of-self-in-Err-Failed
@@ -22,39 +22,39 @@ invariant_of-self-in-Err-NoMemory g c =
 
 pub returns-in-Ok-clause-stored : goal.returns-in-Ok-clause-stored
 returns-in-Ok-clause-stored g c =
-    let all = g.K.Store.records c.args.store.now in
-    stored-swept (state_of c.self.inside) all c.remove_waiting.new.waiting.items (g.K.Store.records c.remove_waiting.new.store) c.self.inside.refused c.self.invariant.catalogue
+    let all = (g.K.Store.view c.args.store.now).records in
+    stored-swept (state_of c.self.inside) all c.remove_waiting.new.waiting.items (g.K.Store.view c.remove_waiting.new.store).records c.self.inside.refused c.self.invariant.catalogue
     (subst (λ (k : KeepState). IsStored k all) (sym c.self.view_is) c.requires.stored) c.remove_waiting.ensures.swept
 
 pub returns-in-Err-Failed-clause-stored : goal.returns-in-Err-Failed-clause-stored
 returns-in-Err-Failed-clause-stored g c =
-    let all = g.K.Store.records c.args.store.now in
-    stored-swept (state_of c.self.inside) all c.remove_waiting.new.waiting.items (g.K.Store.records c.remove_waiting.new.store) c.self.inside.refused c.self.invariant.catalogue
+    let all = (g.K.Store.view c.args.store.now).records in
+    stored-swept (state_of c.self.inside) all c.remove_waiting.new.waiting.items (g.K.Store.view c.remove_waiting.new.store).records c.self.inside.refused c.self.invariant.catalogue
     (subst (λ (k : KeepState). IsStored k all) (sym c.self.view_is) c.requires.stored) c.remove_waiting.ensures.swept
 
 pub returns-in-Err-NoMemory-clause-stored : goal.returns-in-Err-NoMemory-clause-stored
 returns-in-Err-NoMemory-clause-stored g c =
-    let all = g.K.Store.records c.args.store.now in
-    stored-swept (state_of c.self.inside) all c.remove_waiting.new.waiting.items (g.K.Store.records c.remove_waiting.new.store) true c.self.invariant.catalogue
+    let all = (g.K.Store.view c.args.store.now).records in
+    stored-swept (state_of c.self.inside) all c.remove_waiting.new.waiting.items (g.K.Store.view c.remove_waiting.new.store).records true c.self.invariant.catalogue
     (subst (λ (k : KeepState). IsStored k all) (sym c.self.view_is) c.requires.stored) c.remove_waiting.ensures.swept
 
 pub returns-in-Ok-clause-bytes : goal.returns-in-Ok-clause-bytes
 returns-in-Ok-clause-bytes g c =
-    let all = g.K.Store.records c.args.store.now in
-    let after = g.K.Store.records c.remove_waiting.new.store in
+    let all = (g.K.Store.view c.args.store.now).records in
+    let after = (g.K.Store.view c.remove_waiting.new.store).records in
     subst (λ (k : KeepState). KeepsBytes k.entries all after) c.self.view_is
     (bytes-swept (state_of c.self.inside) c.remove_waiting.new.waiting.items all after c.self.invariant.catalogue c.remove_waiting.ensures.swept)
 
 pub returns-in-Err-Failed-clause-bytes : goal.returns-in-Err-Failed-clause-bytes
 returns-in-Err-Failed-clause-bytes g c =
-    let all = g.K.Store.records c.args.store.now in
-    let after = g.K.Store.records c.remove_waiting.new.store in
+    let all = (g.K.Store.view c.args.store.now).records in
+    let after = (g.K.Store.view c.remove_waiting.new.store).records in
     subst (λ (k : KeepState). KeepsBytes k.entries all after) c.self.view_is
     (bytes-swept (state_of c.self.inside) c.remove_waiting.new.waiting.items all after c.self.invariant.catalogue c.remove_waiting.ensures.swept)
 
 pub returns-in-Err-NoMemory-clause-bytes : goal.returns-in-Err-NoMemory-clause-bytes
 returns-in-Err-NoMemory-clause-bytes g c =
-    let all = g.K.Store.records c.args.store.now in
-    let after = g.K.Store.records c.remove_waiting.new.store in
+    let all = (g.K.Store.view c.args.store.now).records in
+    let after = (g.K.Store.view c.remove_waiting.new.store).records in
     subst (λ (k : KeepState). KeepsBytes k.entries all after) c.self.view_is
     (bytes-swept (state_of c.self.inside) c.remove_waiting.new.waiting.items all after c.self.invariant.catalogue c.remove_waiting.ensures.swept)

@@ -14,8 +14,8 @@ there (Some m) x bytes e =
 there None x bytes e = cc
 
 pub get-requires : goal.get-requires
-get-requires g c x e = there (g.K.Store.records c.args.store.now) x _ (sym c.in_ok-put.ensures.added ∙ e)
+get-requires g c x e = there (g.K.Store.view c.args.store.now).records x _ (sym c.in_ok-put.ensures.added ∙ e)
 
 pub remove-requires : goal.remove-requires
 remove-requires g c x e =
-    there (g.K.Store.records c.args.store.now) x _ (sym c.in_ok-put.ensures.added ∙ sym c.get.ensures.records_stay ∙ e)
+    there (g.K.Store.view c.args.store.now).records x _ (sym c.in_ok-put.ensures.added ∙ sym c.get.ensures.records_stay ∙ e)

@@ -1,5 +1,0 @@
-use Rattle.fw_stands.proofs.EntrySteps.{records_after_persist}
-use Rattle.fw_stands.proofs.laws.entries.records_after_persist.Goals as goal
-
-pub returns : goal.returns
-returns c = records_after_persist

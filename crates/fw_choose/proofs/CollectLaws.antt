@@ -65,7 +65,7 @@ use Rattle.fw_running.specs.declared.stepped.Stepped.TheVariants.{Did, Idle}
 use Rattle.fw_choose.specs.declared.viewing.Lost.TheVariants.{All}
 use Rattle.fw_choose.specs.Chosen.{IsChosenBy}
 use Rattle.fw_running.specs.Faults.{fault_of}
-use Rattle.fw_running.specs.Steps.{TakesStep, StaysShaped, outcome_of}
+use Rattle.fw_running.specs.Steps.{TakesStep, StaysShaped, IsUndamaged, outcome_of}
 use Rattle.fw_choose.specs.Collecting.{AreLeft, AreGivenUp, IsRaised, AreRaised, IsCollected, has_low_base}
 use Rattle.fw_running.specs.Kept.{source_of}
 use Rattle.fw_running.specs.Logging.{with_keep}
@@ -409,6 +409,11 @@ pub fault-shaped : (f : KeepFault) (running : Running) → IsShaped running → 
 fault-shaped keep_fault.StoreFault running s = s
 fault-shaped (keep_fault.Damaged id given) running s = s
 fault-shaped keep_fault.NoMemory running s = tt
+
+pub fault-undamaged : (f : KeepFault) → UndamagedSweep f → IsUndamaged {T = Stepped} (Err (fault_of f))
+fault-undamaged keep_fault.StoreFault u = tt
+fault-undamaged (keep_fault.Damaged id given) u = u
+fault-undamaged keep_fault.NoMemory u = tt
 
 -- ---- an edge past the last
 

@@ -1,6 +1,5 @@
 //! The step of a collection.
 ghost use Rattle.std.specs.Prelude.{◌≡◌, ◌↔◌, ◌<◌, ◌≢◌, ℕ, false, [], length, Option, Ok, is_some, IsTrue, IfOk, OnOk};
-ghost use Rattle.fw_running.specs.Faults.{faults_after};
 ghost use Rattle.fw_collect.specs.Drops.{watermark};
 ghost use Rattle.fw_collect.specs.Dropped.{log_outside};
 ghost use Rattle.fw_flow.specs.declared.step.Step.TheVariants as steps;
@@ -11,7 +10,7 @@ ghost use Rattle.fw_progress.specs.Trace.{HaveLists};
 ghost use Rattle.fw_rollback.specs.Edges.{on_edge};
 ghost use Rattle.fw_choose.specs.Collecting.{AreLeft, AreGivenUp, IsRaised, AreRaised, IsCollected};
 ghost use Rattle.fw_running.specs.Shaped.{HasOneEach, IsShaped};
-ghost use Rattle.fw_running.specs.Steps.{TakesStep, StaysShaped, IsUndamaged};
+ghost use Rattle.fw_running.specs.Steps.{StepAnswers, TakesStep};
 
 use crate::viewing::{Lost, choose, fronts_of};
 use fw_collect::{Drops, apply, plan};
@@ -28,14 +27,7 @@ use std::alloc::AllocError;
 pub fn collect<K: Store>(running: &mut Running, store: &mut K) -> Result<Stepped, EngineFault>
     requires shaped { IsShaped running.old }
     requires stored { IsStored running.old.parts.keep (K.view store.old).records }
-    ensures shaped { StaysShaped result running.new }
-    ensures stored { IsStored running.new.parts.keep (K.view store.new).records }
-    ensures flow { running.new.flow ≡ running.old.flow }
-    ensures takes { TakesStep running.old (K.view store.old).records steps.Collect result running.new (K.view store.new).records }
-    ensures faults { (K.view store.new).faults ≡ faults_after result (K.view store.old).faults }
-    ensures undamaged { IsUndamaged result }
-    ensures tells { is_some (K.view store.new).records ≡ is_some (K.view store.old).records }
-    ensures swept { OnOk result (running.new.parts.keep.waiting ≡ []) }
+    ensures { StepAnswers K.view running.old store.old steps.Collect result running.new store.new }
 {
     let stepped = raise_low(running)?;
     running.parts.keep.sweep(store)?;

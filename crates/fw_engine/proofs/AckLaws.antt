@@ -11,8 +11,7 @@ use Rattle.fw_keep.specs.Stored.{Records}
 use Rattle.fw_model.specs.Machine.{Machine, front_of}
 use Rattle.fw_model.specs.Steps.{acked, did, LeadsTo}
 use Rattle.fw_model.specs.Auto.{IsIdle}
-use Rattle.fw_stands.specs.Acknowledging as law
-use Rattle.fw_stands.specs.Acknowledging.{acknowledged_state}
+use Rattle.fw_stands.specs.Acknowledging.{acknowledged_state, CanAcknowledgeIn}
 use Rattle.fw_stands.proofs.AcknowledgementLaws.{nothing_kept-idle, kept-acknowledged, acknowledged-stands, acknowledgement-keeps}
 use Rattle.fw_stands.proofs.EntrySteps.{entries_after_step, records_after_step}
 use Rattle.fw_stands.proofs.AtReached.{reached-next}
@@ -30,7 +29,7 @@ use Rattle.fw_running.proofs.KeptShapes.{logs-fit, progress-fits, queues-fit, sh
 
 -- an output of the engine may acknowledge where that of the state may
 can-in : (sys : System) (state : Machine) (running : Running) (o : ℕ) → running.flow ≡ sys.flow → running.failed.items ≡ state.failed → running.progress.settled ≡ state.settled
-    → CanAcknowledge running o → law.CanAcknowledge sys state running.epochs o (output_of running o)
+    → CanAcknowledge running o → CanAcknowledgeIn sys state running.epochs o (output_of running o)
 can-in sys state running o flow failed settled c =
     let out = output_of running o in
     record {
@@ -43,7 +42,7 @@ can-in sys state running o flow failed settled c =
     }
 
 can-out : (sys : System) (state : Machine) (running : Running) (o : ℕ) → running.flow ≡ sys.flow → running.failed.items ≡ state.failed → running.progress.settled ≡ state.settled
-    → law.CanAcknowledge sys state running.epochs o (output_of running o) → CanAcknowledge running o
+    → CanAcknowledgeIn sys state running.epochs o (output_of running o) → CanAcknowledge running o
 can-out sys state running o flow failed settled c =
     let out = output_of running o in
     record {

@@ -1,4 +1,5 @@
 pub mod AckLaws
+pub mod EngineLaws
 pub mod FirstCallLaws
 pub mod FirstStepLaws
 pub mod LookLaws

@@ -1,5 +1,5 @@
--- Where no step that is taken by itself may call the store, none of these steps does; and how often the store failed after a step.
-use Rattle.std.proofs.Common.{◌≡◌, ℕ, zero, suc, ◌+◌, ◌<◌, ◌≤◌, List, [], ◌∷◌, ◌++◌, length, map, Result, Ok, Err, IsErrOf, refl, sym, ap, subst, inl, inr, arith}
+-- Which of the steps that are taken by themselves may call the store.
+use Rattle.std.proofs.Common.{◌≡◌, ℕ, zero, suc, ◌+◌, ◌<◌, ◌≤◌, List, [], ◌∷◌, ◌++◌, length, map, refl, sym, ap, subst, inl, inr, arith}
 use Rattle.std.proofs.lemmas.Bool.{cases_eq}
 use Rattle.std.proofs.lemmas.List.Elements.{Contains-append_left, Contains-append_right}
 use Rattle.std.specs.List.{Contains, range_with_len}
@@ -9,10 +9,7 @@ use Rattle.fw_flow.specs.declared.step.Step.TheVariants.{Progress as ProgressSte
 use Rattle.fw_flow.specs.Dataflow.{Dataflow, policy_of, receiver}
 use Rattle.fw_model.specs.Auto.{deliveries, notifications, acknowledgements, injections, auto_steps}
 use Rattle.fw_stands.specs.FirstSteps.{delivery, notification}
-use Rattle.fw_running.specs.declared.fault.EngineFault.{EngineFault}
-use Rattle.fw_running.specs.declared.fault.EngineFault.TheVariants as fault
 use Rattle.fw_running.specs.declared.running.Running.{Running}
-use Rattle.fw_running.specs.Faults.{faults_after}
 use Rattle.fw_running.specs.Ready.{CanDeliver}
 use Rattle.fw_running.specs.ReadyState.{ReadyState}
 use Rattle.fw_running.specs.Steps.{HasEager, MayCallByItself}
@@ -70,27 +67,14 @@ progress-may_call flow eager = (
   eager,
 )
 
--- ---- where none may
+-- ---- of a search that came first
 
--- a receiver that is delivered to does not log each event
-pub delivery-quiet : (old mid : Running) (ready : ReadyState) (e : ℕ) → mid ≡ with_ready ready old → CanDeliver old e → (MayCallByItself old.flow → ⊥)
-    → policy_of mid.flow (receiver mid.flow e) ≡ policy.Full → ⊥
-delivery-quiet old mid ready e is can none full =
-    none (delivery-may_call old.flow e can.there (subst (λ (r : Running). policy_of r.flow (receiver r.flow e) ≡ policy.Full) is full))
+-- an edge on which something can be delivered
+pub delivery-may_call_later : (old mid : Running) (ready : ReadyState) (e : ℕ) → mid ≡ with_ready ready old → CanDeliver old e
+    → policy_of mid.flow (receiver mid.flow e) ≡ policy.Full → MayCallByItself mid.flow
+delivery-may_call_later old mid ready e is can =
+    delivery-may_call mid.flow e (subst (λ (r : Running). e < length r.flow.edges) (sym is) can.there)
 
--- nor a node that is notified
-pub notification-quiet : (flow mid : Dataflow) (p : ℕ) → mid ≡ flow → p < length flow.nodes → (MayCallByItself flow → ⊥) → policy_of mid p ≡ policy.Full → ⊥
-notification-quiet flow mid p is l none full = none (notification-may_call flow p l (subst (λ (f : Dataflow). policy_of f p ≡ policy.Full) is full))
-
--- none may where another engine runs the same flow
-pub quiet-later : (flow mid : Dataflow) → mid ≡ flow → (MayCallByItself flow → ⊥) → MayCallByItself mid → ⊥
-quiet-later flow mid is none may = none (subst (λ (f : Dataflow). MayCallByItself f) is may)
-
--- ---- how often the store failed
-
--- as often as before, after a step that does not call it
-pub unfaulted-counts : {T : Type 0} (result : Result T EngineFault) (count : ℕ) → (IsErrOf result fault.StoreFault → ⊥) → count ≡ faults_after result count
-unfaulted-counts (Ok x) count u = refl
-unfaulted-counts (Err fault.StoreFault) count u = absurd (u refl)
-unfaulted-counts (Err (fault.Damaged id)) count u = refl
-unfaulted-counts (Err fault.NoMemory) count u = refl
+-- a node that is notified
+pub notification-may_call_later : (flow mid : Dataflow) (p : ℕ) → mid ≡ flow → p < length flow.nodes → policy_of mid p ≡ policy.Full → MayCallByItself mid
+notification-may_call_later flow mid p is l = notification-may_call mid p (subst (λ (f : Dataflow). p < length f.nodes) (sym is) l)

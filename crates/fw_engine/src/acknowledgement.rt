@@ -1,13 +1,12 @@
 //! The step of an acknowledgement.
-ghost use Rattle.std.specs.Prelude.{◌≡◌, ◌↔◌, ◌∷◌, [], Option, IsErrOf, IfSome, IfNone, IsTrue, OnSome};
+ghost use Rattle.std.specs.Prelude.{◌≡◌, ◌↔◌, ◌∷◌, [], IfSome, IfNone, IsTrue, OnSome};
 ghost use Rattle.fw_flow.specs.declared.step.Step.TheVariants as steps;
 ghost use Rattle.fw_flow.specs.Dataflow.{kind_of};
-ghost use Rattle.fw_keep.specs.Stored.{Records, IsStored};
 ghost use Rattle.fw_border.specs.Outputs.{AreByNumber};
 ghost use Rattle.fw_running.specs.Kept.{output_of};
 ghost use Rattle.fw_running.specs.Ready.{HasSomething, CanAcknowledge};
 ghost use Rattle.fw_running.specs.Shaped.{IsShaped};
-ghost use Rattle.fw_running.specs.Steps.{TakesStep, StaysShaped, IsUndamaged};
+ghost use Rattle.fw_running.specs.Steps.{InnerAnswers};
 
 use fw_flow::{Kind, NodeId};
 use fw_running::{Effect, EngineFault, Running, Stepped};
@@ -16,12 +15,7 @@ use fw_time::Stamp;
 /// The output acknowledges its next stamp.
 pub(crate) fn acknowledge(running: &mut Running, output: NodeId) -> Result<Stepped, EngineFault>
     requires shaped { IsShaped running.old }
-    ensures shaped { StaysShaped result running.new }
-    ensures stored { (records : Option Records) → IsStored running.old.parts.keep records → IsStored running.new.parts.keep records }
-    ensures flow { running.new.flow ≡ running.old.flow }
-    ensures takes { (records : Option Records) → TakesStep running.old records (steps.Ack output) result running.new records }
-    ensures unfaulted { IsErrOf result EngineFault.StoreFault → ⊥ }
-    ensures undamaged { IsUndamaged result }
+    ensures { InnerAnswers running.old (steps.Ack output) result running.new }
 {
     let Some(at) = next_acknowledged(running, output) else {
         return Ok(Stepped::Idle);

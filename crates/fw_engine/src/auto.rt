@@ -1,6 +1,5 @@
 //! Steps that are taken by themselves: each is the first that is enabled.
-ghost use Rattle.std.specs.Prelude.{◌≡◌, ◌↔◌, Option, Ok, IsErrOf, IsTrue, IfOk, IfSome, OnOk, is_some};
-ghost use Rattle.fw_running.specs.Faults.{faults_after};
+ghost use Rattle.std.specs.Prelude.{◌≡◌, ◌↔◌, Option, Ok, IsErrOf, IsTrue, IfOk, IfSome, OnOk};
 ghost use Rattle.fw_border.specs.Outputs.{AreByNumber};
 ghost use Rattle.fw_keep.specs.Stored.{Records, IsStored};
 ghost use Rattle.fw_stands.specs.FirstSteps.{NoneToDeliver, NoneToNotify, NoneToSettle, NoneToAcknowledge};
@@ -10,7 +9,7 @@ ghost use Rattle.fw_running.specs.Ready.{CanAcknowledge, CanDeliver, CanInject, 
 ghost use Rattle.fw_engine.specs.Searching.{with_ready_edges, with_ready_outputs, with_ready_inputs, IsSearched, IsNoticeOf, IsFirstNotified, NoneToPersist, TakesFirstAfter};
 ghost use Rattle.fw_running.specs.declared.stepped.Stepped.TheVariants.{Idle};
 ghost use Rattle.fw_running.specs.Shaped.{IsShaped};
-ghost use Rattle.fw_running.specs.Steps.{TakesFirstStep, StaysShaped, IsUndamaged, MayCallByItself};
+ghost use Rattle.fw_running.specs.Steps.{IsUndamaged, MayCallByItself, PartAnswers, StaysShaped, TakesFirstStep};
 
 use crate::acknowledgement::{acknowledge, next_acknowledged};
 use fw_events::{can_deliver, deliver, inject, may_inject, next_notice, notify_of};
@@ -36,13 +35,8 @@ pub(crate) fn take_first<K: Store>(
     requires shaped { IsShaped running.old }
     requires stored { IsStored running.old.parts.keep (K.view store.old).records }
     ensures shaped { StaysShaped result running.new }
-    ensures stored { IsStored running.new.parts.keep (K.view store.new).records }
-    ensures flow { running.new.flow ≡ running.old.flow }
     ensures takes { TakesFirstStep running.old (K.view store.old).records result running.new (K.view store.new).records }
-    ensures faults { (K.view store.new).faults ≡ faults_after result (K.view store.old).faults }
-    ensures undamaged { IsUndamaged result }
-    ensures tells { is_some (K.view store.new).records ≡ is_some (K.view store.old).records }
-    ensures quiet { (MayCallByItself running.old.flow → ⊥) → store.new ≡ store.old }
+    ensures part { PartAnswers K.view (MayCallByItself running.old.flow) running.old store.old result running.new store.new }
     ensures idle { result ≡ Ok Idle → store.new ≡ store.old }
 {
     match persist(running) {
@@ -56,13 +50,8 @@ fn deliver_first<K: Store>(running: &mut Running, store: &mut K) -> Result<Stepp
     requires shaped { IsShaped running.old }
     requires stored { IsStored running.old.parts.keep (K.view store.old).records }
     ensures shaped { StaysShaped result running.new }
-    ensures stored { IsStored running.new.parts.keep (K.view store.new).records }
-    ensures flow { running.new.flow ≡ running.old.flow }
     ensures takes { TakesFirstAfter NoneToPersist running.old (K.view store.old).records result running.new (K.view store.new).records }
-    ensures faults { (K.view store.new).faults ≡ faults_after result (K.view store.old).faults }
-    ensures undamaged { IsUndamaged result }
-    ensures tells { is_some (K.view store.new).records ≡ is_some (K.view store.old).records }
-    ensures quiet { (MayCallByItself running.old.flow → ⊥) → store.new ≡ store.old }
+    ensures part { PartAnswers K.view (MayCallByItself running.old.flow) running.old store.old result running.new store.new }
     ensures idle { result ≡ Ok Idle → store.new ≡ store.old }
 {
     match first_deliverable(running) {
@@ -76,13 +65,8 @@ fn notify_first<K: Store>(running: &mut Running, store: &mut K) -> Result<Steppe
     requires shaped { IsShaped running.old }
     requires stored { IsStored running.old.parts.keep (K.view store.old).records }
     ensures shaped { StaysShaped result running.new }
-    ensures stored { IsStored running.new.parts.keep (K.view store.new).records }
-    ensures flow { running.new.flow ≡ running.old.flow }
     ensures takes { TakesFirstAfter NoneToDeliver running.old (K.view store.old).records result running.new (K.view store.new).records }
-    ensures faults { (K.view store.new).faults ≡ faults_after result (K.view store.old).faults }
-    ensures undamaged { IsUndamaged result }
-    ensures tells { is_some (K.view store.new).records ≡ is_some (K.view store.old).records }
-    ensures quiet { (MayCallByItself running.old.flow → ⊥) → store.new ≡ store.old }
+    ensures part { PartAnswers K.view (MayCallByItself running.old.flow) running.old store.old result running.new store.new }
     ensures idle { result ≡ Ok Idle → store.new ≡ store.old }
 {
     let Some(notice) = first_notice(running)? else {
@@ -97,13 +81,8 @@ fn settle_first<K: Store>(running: &mut Running, store: &mut K) -> Result<Steppe
     requires shaped { IsShaped running.old }
     requires stored { IsStored running.old.parts.keep (K.view store.old).records }
     ensures shaped { StaysShaped result running.new }
-    ensures stored { IsStored running.new.parts.keep (K.view store.new).records }
-    ensures flow { running.new.flow ≡ running.old.flow }
     ensures takes { TakesFirstAfter NoneToNotify running.old (K.view store.old).records result running.new (K.view store.new).records }
-    ensures faults { (K.view store.new).faults ≡ faults_after result (K.view store.old).faults }
-    ensures undamaged { IsUndamaged result }
-    ensures tells { is_some (K.view store.new).records ≡ is_some (K.view store.old).records }
-    ensures quiet { (MayCallByItself running.old.flow → ⊥) → store.new ≡ store.old }
+    ensures part { PartAnswers K.view (MayCallByItself running.old.flow) running.old store.old result running.new store.new }
     ensures idle { result ≡ Ok Idle → store.new ≡ store.old }
 {
     match progress(running, store)? {

@@ -1,14 +1,15 @@
 -- A delivery of an engine is the machine's.
 use Rattle.std.proofs.Common.{◌≡◌, ◌≢◌, ℕ, true, false, not, ◌||◌, length, Option, Some, None, refl, sym, ap, subst, ◌∙◌, inl, inr, arith}
-use Rattle.std.specs.Prelude.{find, is_some, option_map}
+use Rattle.std.specs.Prelude.{Result, find, is_some, option_map}
 use Rattle.std.proofs.lemmas.Bool.{cases_lt, false≢true}
 use Rattle.std.proofs.lemmas.List.{get_or_past}
 use Rattle.fw_time.specs.Stamp.{Stamp}
 use Rattle.fw_flow.specs.declared.event.Event.{Event}
 use Rattle.fw_flow.specs.declared.event.Event.TheVariants.{Deliver as Delivered}
 use Rattle.fw_flow.specs.declared.event.Message.{Message}
+use Rattle.fw_flow.specs.declared.kind.Policy.TheVariants as policy
 use Rattle.fw_flow.specs.declared.step.Step.TheVariants.{Deliver}
-use Rattle.fw_flow.specs.Dataflow.{System, Dataflow, kind_of, receiver, is_output_kind}
+use Rattle.fw_flow.specs.Dataflow.{System, Dataflow, kind_of, policy_of, receiver, is_output_kind}
 use Rattle.fw_model.specs.History.{IsEnabled}
 use Rattle.fw_model.specs.Machine.{Machine, events, is_failed}
 use Rattle.fw_model.specs.Steps.{is_asked, silent, did, idle, LeadsTo, with_event}
@@ -22,12 +23,14 @@ use Rattle.fw_stands.specs.Parts.{queued}
 use Rattle.fw_stands.proofs.EventNextLaws.{deliveries-take_next, queues-have_next}
 use Rattle.fw_stands.proofs.EventQueueLaws.{nothing-queued_past}
 use Rattle.fw_stands.proofs.EventTableLaws.{deliveries-can_be_taken_in, failed-idle}
+use Rattle.fw_outside.specs.Outside.{StoreView}
+use Rattle.fw_running.specs.declared.fault.EngineFault.{EngineFault}
 use Rattle.fw_running.specs.declared.running.Running.{Running}
 use Rattle.fw_running.specs.Shaped.{IsShaped}
 use Rattle.fw_running.specs.Kept.{queue_at, table_of, is_down}
 use Rattle.fw_running.specs.Logging.{with_keep, ChangesKeep, LogsEvent}
 use Rattle.fw_running.specs.Stands.{Stands}
-use Rattle.fw_running.specs.Steps.{Follows, IsStepEnabled}
+use Rattle.fw_running.specs.Steps.{Follows, IsStepEnabled, PartAnswers}
 use Rattle.fw_running.proofs.SameStateLaws.{down-failed, idle-follows}
 use Rattle.fw_events.specs.AfterEvent.{TakesEvent}
 use Rattle.fw_events.specs.declared.delivery.Next.{Next}
@@ -186,3 +189,10 @@ delivery-done sys state e p asked n old mid new before after s shaped to live so
     (subst (λ q. LogsEvent old.flow q (logged.Deliver e m.at m.rec) old.parts.keep.entries new.parts.keep.entries before after) to
     (subst (λ v. LogsEvent old.flow p v old.parts.keep.entries new.parts.keep.entries before after) event
     (subst (λ (k : KeepState). LogsEvent old.flow p (logged.Deliver e n.at n.rec) old.parts.keep.entries k.entries before after) (sym keep) logs)))
+
+-- the receiver of an edge asks the write
+pub at-receiver : {T K : Type 0} {view : K → StoreView} {flow : Dataflow} {e p : ℕ} {old new : Running} {before after : K} {result : Result T EngineFault}
+    → p ≡ receiver flow e → PartAnswers view (policy_of flow p ≡ policy.Full) old before result new after
+    → PartAnswers view (policy_of flow (receiver flow e) ≡ policy.Full) old before result new after
+at-receiver {T} {K} {view} {flow} {e} {p} {old} {new} {before} {after} {result} is part =
+    subst (λ q. PartAnswers view (policy_of flow q ≡ policy.Full) old before result new after) is part

@@ -1,8 +1,7 @@
 //! The step of a delivery.
-ghost use Rattle.std.specs.Prelude.{◌≡◌, ◌≢◌, ◌<◌, ◌↔◌, ℕ, true, false, None, Some, Ok, find, length, IsTrue, IsErrOf, IfOk, IfSome, IfNone, OnOk, OnErr, is_some};
+ghost use Rattle.std.specs.Prelude.{◌≡◌, ◌≢◌, ◌<◌, ◌↔◌, ℕ, true, false, None, Some, find, length, IsTrue, IfOk, IfSome, IfNone, OnOk, OnErr};
 ghost use Rattle.std.specs.Option.{option_copied, option_map};
 ghost use Rattle.std.specs.List.{Contains};
-ghost use Rattle.fw_running.specs.Faults.{faults_after};
 ghost use Rattle.fw_time.specs.Stamp.{in_domain};
 ghost use Rattle.fw_flow.specs.declared.event.Event.TheVariants as events;
 ghost use Rattle.fw_flow.specs.declared.event.Message.{Message as Sent};
@@ -24,9 +23,8 @@ ghost use Rattle.fw_rollback.specs.Edges.{on_edge};
 ghost use Rattle.fw_stands.specs.Events.{asked_of, next_queued};
 ghost use Rattle.fw_running.specs.Kept.{queue_at, table_of, is_down, with_tables};
 ghost use Rattle.fw_running.specs.Logging.{ChangesKeep, IsNotAsked, LogsEvent};
-ghost use Rattle.fw_running.specs.declared.stepped.Stepped.TheVariants.{Idle};
 ghost use Rattle.fw_running.specs.Shaped.{IsShaped};
-ghost use Rattle.fw_running.specs.Steps.{TakesStep, StaysShaped, IsUndamaged};
+ghost use Rattle.fw_running.specs.Steps.{PartAnswers, StepAnswers};
 ghost use Rattle.fw_running.specs.Ready.{CanDeliver};
 ghost use Rattle.fw_events.specs.AfterEvent.{TakesEvent};
 ghost use Rattle.fw_events.specs.Sending.{with_queues};
@@ -61,16 +59,7 @@ pub fn deliver<K: Store>(
 ) -> Result<Stepped, EngineFault>
     requires shaped { IsShaped running.old }
     requires stored { IsStored running.old.parts.keep (K.view store.old).records }
-    ensures shaped { StaysShaped result running.new }
-    ensures stored { IsStored running.new.parts.keep (K.view store.new).records }
-    ensures flow { running.new.flow ≡ running.old.flow }
-    ensures takes { TakesStep running.old (K.view store.old).records (steps.Deliver edge (option_copied at.entry)) result running.new (K.view store.new).records }
-    ensures faults { (K.view store.new).faults ≡ faults_after result (K.view store.old).faults }
-    ensures undamaged { IsUndamaged result }
-    ensures calls { IsErrOf result EngineFault.StoreFault → policy_of running.old.flow (receiver running.old.flow edge) ≡ policy.Full }
-    ensures tells { is_some (K.view store.new).records ≡ is_some (K.view store.old).records }
-    ensures quiet { (policy_of running.old.flow (receiver running.old.flow edge) ≡ policy.Full → ⊥) → store.new ≡ store.old }
-    ensures idle { result ≡ Ok Idle → store.new ≡ store.old }
+    ensures { StepAnswers K.view running.old store.old (steps.Deliver edge (option_copied at.entry)) result running.new store.new }
 {
     let node = running.flow.dst(edge);
     if running.is_failed(node) {
@@ -140,16 +129,11 @@ fn log_delivery<K: Store>(
     requires at { in_domain (bounds_of running.old.flow node) at.now ≡ true }
     ensures others { ChangesKeep running.old running.new }
     ensures shaped { IsShaped running.new }
-    ensures stored { IsStored running.new.parts.keep (K.view store.new).records }
     ensures logged { OnOk result (LogsEvent running.old.flow node (logged.Deliver edge at.now rec)
         running.old.parts.keep.entries running.new.parts.keep.entries (K.view store.old).records (K.view store.new).records) }
     ensures stays { OnErr result (IsNotAsked running.old.parts.keep.entries running.new.parts.keep.entries
         (K.view store.old).records (K.view store.new).records) }
-    ensures faults { (K.view store.new).faults ≡ faults_after result (K.view store.old).faults }
-    ensures calls { IsErrOf result EngineFault.StoreFault → policy_of running.old.flow node ≡ policy.Full }
-    ensures undamaged { IsUndamaged result }
-    ensures tells { is_some (K.view store.new).records ≡ is_some (K.view store.old).records }
-    ensures quiet { (policy_of running.old.flow node ≡ policy.Full → ⊥) → store.new ≡ store.old }
+    ensures part { PartAnswers K.view (policy_of running.old.flow node ≡ policy.Full) running.old store.old result running.new store.new }
 {
     if !logs_events(running, node) {
         return Ok(());

@@ -1,13 +1,12 @@
 //! The step of an injection.
-ghost use Rattle.std.specs.Prelude.{◌≡◌, ◌<◌, ◌↔◌, true, length, Option, IsErrOf, IsTrue, IfOk, OnOk};
+ghost use Rattle.std.specs.Prelude.{◌≡◌, ◌<◌, ◌↔◌, true, length, IsTrue, IfOk, OnOk};
 ghost use Rattle.fw_flow.specs.declared.event.Event.TheVariants as events;
 ghost use Rattle.fw_flow.specs.declared.step.Step.TheVariants as steps;
 ghost use Rattle.fw_flow.specs.Dataflow.{kind_of, is_input_kind};
-ghost use Rattle.fw_keep.specs.Stored.{Records, IsStored};
 ghost use Rattle.fw_progress.specs.Progress.{CanSend};
 ghost use Rattle.fw_running.specs.Kept.{source_of};
 ghost use Rattle.fw_running.specs.Shaped.{IsShaped};
-ghost use Rattle.fw_running.specs.Steps.{TakesStep, StaysShaped, IsUndamaged};
+ghost use Rattle.fw_running.specs.Steps.{InnerAnswers};
 ghost use Rattle.fw_running.specs.Ready.{CanInject};
 ghost use Rattle.fw_events.specs.AfterEvent.{TakesEvent};
 ghost use Rattle.fw_events.specs.Taking.{with_told, FindsBatch, IsNextSent, TellsOf};
@@ -24,12 +23,7 @@ use std::alloc::{AllocError, Global};
 /// The input sends its next batch.
 pub fn inject(running: &mut Running, source: NodeId) -> Result<Stepped, EngineFault>
     requires shaped { IsShaped running.old }
-    ensures shaped { StaysShaped result running.new }
-    ensures stored { (records : Option Records) → IsStored running.old.parts.keep records → IsStored running.new.parts.keep records }
-    ensures flow { running.new.flow ≡ running.old.flow }
-    ensures takes { (records : Option Records) → TakesStep running.old records (steps.Inject source) result running.new records }
-    ensures unfaulted { IsErrOf result EngineFault.StoreFault → ⊥ }
-    ensures undamaged { IsUndamaged result }
+    ensures { InnerAnswers running.old (steps.Inject source) result running.new }
 {
     if running.is_failed(source) || !running.flow.kind(source).is_input() {
         return Ok(Stepped::Idle);

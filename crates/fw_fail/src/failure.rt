@@ -1,14 +1,13 @@
 //! The step of a failure.
-ghost use Rattle.std.specs.Prelude.{◌≡◌, ◌≢◌, ◌↔◌, ◌<◌, ℕ, [], false, length, Option, IsErrOf, IsTrue, IfOk, OnOk, OnErr, option_to_list, if◌then◌else◌};
+ghost use Rattle.std.specs.Prelude.{◌≡◌, ◌≢◌, ◌↔◌, ◌<◌, ℕ, [], false, length, IsTrue, IfOk, OnOk, OnErr, option_to_list, if◌then◌else◌};
 ghost use Rattle.fw_flow.specs.declared.step.Step.TheVariants as steps;
 ghost use Rattle.fw_keep.specs.Entry as entries;
-ghost use Rattle.fw_keep.specs.Stored.{Records, IsStored};
 ghost use Rattle.fw_rollback.specs.Edges.{on_edge};
 ghost use Rattle.fw_policy.specs.Offering.{stamp_of_written, stamps_in_flight};
 ghost use Rattle.fw_fail.specs.Failing.{AreGone, IsGoneFrom, lost_after, Fails, FailsIf};
 ghost use Rattle.fw_running.specs.Kept.{is_down};
 ghost use Rattle.fw_running.specs.Shaped.{HasOneEach, IsShaped};
-ghost use Rattle.fw_running.specs.Steps.{TakesStep, StaysShaped, IsUndamaged};
+ghost use Rattle.fw_running.specs.Steps.{InnerAnswers};
 
 use fw_flow::{EdgeId, Flow, NodeId, Notices, Policy};
 use fw_keep::{Entry, Written};
@@ -21,12 +20,7 @@ use std::alloc::{AllocError, Global};
 /// flight.
 pub fn fail(running: &mut Running, nodes: &[NodeId]) -> Result<Stepped, EngineFault>
     requires shaped { IsShaped running.old }
-    ensures shaped { StaysShaped result running.new }
-    ensures stored { (records : Option Records) → IsStored running.old.parts.keep records → IsStored running.new.parts.keep records }
-    ensures flow { running.new.flow ≡ running.old.flow }
-    ensures takes { (records : Option Records) → TakesStep running.old records (steps.Fail nodes.now) result running.new records }
-    ensures unfaulted { IsErrOf result EngineFault.StoreFault → ⊥ }
-    ensures undamaged { IsUndamaged result }
+    ensures { InnerAnswers running.old (steps.Fail nodes.now) result running.new }
 {
     let mut any = false;
     for node in nodes {

@@ -9,6 +9,7 @@ use Rattle.fw_flow.specs.declared.choice.Recorded.{Recorded}
 use Rattle.fw_flow.specs.declared.choice.Stamps.{Stamps}
 use Rattle.fw_record.specs.declared.record.Record.{Record}
 use Rattle.fw_record.specs.declared.record.Record.TheVariants as tagged
+use Rattle.fw_record.specs.Event.{stamp_of_event}
 use Rattle.fw_record.specs.OfNode.{IsRecordOfCheckpoint, IsRecordOfEvent}
 use Rattle.fw_keep.specs.declared.entry.Entry.{Entry}
 use Rattle.fw_keep.specs.declared.entry.Written.{Written}

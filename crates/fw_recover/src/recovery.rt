@@ -1,15 +1,13 @@
 //! The step of a recovery.
 ghost use Rattle.std.specs.Prelude.{◌≡◌, ℕ, Ok, IsErrOf, OnOk, is_some};
 ghost use Rattle.std.specs.List.{list_any};
-ghost use Rattle.fw_running.specs.Faults.{faults_after};
 ghost use Rattle.fw_flow.specs.declared.step.Step.TheVariants as steps;
 ghost use Rattle.fw_keep.specs.Stored.{IsStored};
 ghost use Rattle.fw_monitor.specs.Chosen.{IsChoiceOf};
 ghost use Rattle.fw_recover.specs.CutProgress.{AreAtReceivers};
 ghost use Rattle.fw_recover.specs.Recovered.{HasPlaces, IsFollowed};
-ghost use Rattle.fw_running.specs.declared.stepped.Stepped.TheVariants.{Idle};
 ghost use Rattle.fw_running.specs.Shaped.{IsShaped};
-ghost use Rattle.fw_running.specs.Steps.{TakesStep, ShowsOutcome, StaysShaped, IsDamage};
+ghost use Rattle.fw_running.specs.Steps.{StepAnswers};
 
 use crate::rebuild::{cut_progress, cut_traces};
 use fw_choose::{Lost, choose};
@@ -24,15 +22,7 @@ use std::alloc::AllocError;
 pub fn recover<K: Store>(running: &mut Running, store: &mut K) -> Result<Stepped, EngineFault>
     requires shaped { IsShaped running.old }
     requires stored { IsStored running.old.parts.keep (K.view store.old).records }
-    ensures shaped { StaysShaped result running.new }
-    ensures stored { IsStored running.new.parts.keep (K.view store.new).records }
-    ensures flow { running.new.flow ≡ running.old.flow }
-    ensures takes { TakesStep running.old (K.view store.old).records steps.Recover result running.new (K.view store.new).records }
-    ensures shows { ShowsOutcome running.old (K.view store.old).records steps.Recover result }
-    ensures idle { result ≡ Ok Idle → store.new ≡ store.old }
-    ensures faults { (K.view store.new).faults ≡ faults_after result (K.view store.old).faults }
-    ensures damaged { (id : ℕ) → IsErrOf result (EngineFault.Damaged id) → IsDamage running.old id (K.view store.new).given }
-    ensures tells { is_some (K.view store.new).records ≡ is_some (K.view store.old).records }
+    ensures { StepAnswers K.view running.old store.old steps.Recover result running.new store.new }
 {
     if !any_of(&running.failed) {
         return Ok(Stepped::Idle);

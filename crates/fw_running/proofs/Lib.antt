@@ -7,3 +7,4 @@ pub mod KeptShapes
 pub mod PlaceLaws
 pub mod SameStateLaws
 pub mod ShownLines
+pub mod StepLaws

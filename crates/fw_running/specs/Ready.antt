@@ -1,15 +1,14 @@
 -- Where something may be done, by what an engine keeps.
-use Rattle.std.specs.Prelude.{◌≡◌, ◌≢◌, ◌⊎◌, ℕ, ◌<◌, ◌^◌, Bool, true, false, List, [], ◌∷◌, length, None}
+use Rattle.std.specs.Prelude.{◌≡◌, ◌≢◌, ℕ, ◌<◌, Bool, true, false, List, [], length, None}
 use Rattle.fw_time.specs.Stamp.{Stamp}
-use Rattle.fw_frontier.specs.Front.{Front, inside}
+use Rattle.fw_frontier.specs.Front.{Front}
 use Rattle.fw_flow.specs.declared.event.Message.{Message}
-use Rattle.fw_flow.specs.Dataflow.{Dataflow, kind_of, receiver, is_input_kind, is_output_kind}
+use Rattle.fw_flow.specs.Dataflow.{Dataflow, kind_of, receiver, is_input_kind}
 use Rattle.fw_model.specs.Machine.{front_of}
-use Rattle.fw_border.specs.Outputs.{OutputState}
 use Rattle.fw_border.specs.Sources.{SourceState, next_batch}
 use Rattle.fw_progress.specs.Counts.{owed_of}
 use Rattle.fw_progress.specs.Settle.{has_more}
-pub use Rattle.fw_stands.specs.Acknowledging.{HasSomething}
+pub use Rattle.fw_stands.specs.Acknowledging.{HasSomething, CanAcknowledgeBy}
 use Rattle.fw_running.specs.declared.running.Running.{Running}
 use Rattle.fw_running.specs.Kept.{queue_at, source_of, output_of, is_down}
 
@@ -41,15 +40,6 @@ pub record HasGrownBy (flow : Dataflow) (p : ℕ) (kept settled : Front) : Type 
 -- more is kept as complete at node p than is settled
 abbrev pub HasGrown : Running → ℕ → Type 0
 HasGrown running p = HasGrownBy running.flow p (front_of running.progress.kept p) (front_of running.progress.settled p)
-
--- output o, of which this is kept and up to which front it is settled, is not failed and may acknowledge its next stamp
-pub record CanAcknowledgeBy (flow : Dataflow) (o : ℕ) (down : Bool) (epochs : ℕ) (kept : OutputState) (front : Front) : Type 0 where
-  pub there : o < length flow.nodes
-  pub live : down ≡ false
-  pub output : is_output_kind (kind_of flow o) ≡ true
-  pub number : kept.bound < 2 ^ 32
-  pub settled : inside front (kept.bound ∷ []) ≡ true
-  pub some : HasSomething epochs kept (kind_of flow o) kept.bound
 
 -- output o is not failed and may acknowledge its next stamp
 abbrev pub CanAcknowledge : Running → ℕ → Type 0

@@ -1,6 +1,7 @@
 -- What the steps of an engine promise.
-use Rattle.std.specs.Prelude.{◌≡◌, ℕ, true, false, List, Option, Some, None, Result, Ok, Err, IfOk}
+use Rattle.std.specs.Prelude.{◌≡◌, ◌≢◌, ℕ, true, false, List, [], Option, Some, None, Result, Ok, Err, IfOk, IsErrOf, OnOk, is_some}
 use Rattle.std.specs.List.{Contains}
+use Rattle.fw_outside.specs.Outside.{StoreView}
 use Rattle.fw_time.specs.Stamp.{Stamp}
 use Rattle.fw_frontier.specs.Frontier.{Frontier}
 use Rattle.fw_flow.specs.declared.choice.Choice.{Choice}
@@ -16,7 +17,7 @@ use Rattle.fw_model.specs.Choice.{cut_of, IsLargest}
 use Rattle.fw_model.specs.Machine.{Machine}
 use Rattle.fw_model.specs.Steps.{Effect, silent, acked, cuts, lows, Outcome, did, idle, LeadsTo, StepsTo, offers, is_eager, is_asked_for_checkpoints}
 use Rattle.fw_keep.specs.declared.entry.Entry.{Entry}
-use Rattle.fw_keep.specs.Stored.{Records, SpellsNone}
+use Rattle.fw_keep.specs.Stored.{Records, IsStored, SpellsNone}
 use Rattle.fw_rollback.specs.Asked.{is_asked_for}
 use Rattle.fw_running.specs.declared.fault.EngineFault.{EngineFault}
 use Rattle.fw_running.specs.declared.fault.EngineFault.TheVariants as fault
@@ -25,6 +26,7 @@ use Rattle.fw_running.specs.declared.stepped.Effect.{Effect as Shown}
 use Rattle.fw_running.specs.declared.stepped.Effect.TheVariants.{Silent, Acked, Cuts, Lows}
 use Rattle.fw_running.specs.declared.stepped.Stepped.{Stepped}
 use Rattle.fw_running.specs.declared.stepped.Stepped.TheVariants.{Did, Idle}
+use Rattle.fw_running.specs.Faults.{faults_after}
 use Rattle.fw_running.specs.Shaped.{IsShaped}
 use Rattle.fw_running.specs.Stands.{Stands}
 
@@ -166,3 +168,49 @@ pub record IsDamage (running : Running) (id : ℕ) (given : Option (ℕ × List 
   pub gave : given ≡ Some (id, bytes)
   pub spells_none : SpellsNone running.flow entry bytes
   pub asked : (sys : System) (records : Option Records) (state : Machine) → Stands sys running records state → IsAskedIn sys entry state
+
+-- ---- the whole answer
+
+-- What a step answers over a store, of which the view is what is known of it.
+pub record StepAnswers {K : Type 0} (view : K → StoreView) (old : Running) (before : K) (step : Step) (result : Result Stepped EngineFault)
+    (new : Running) (after : K) : Type 0 where
+  -- what is kept has its shape, unless memory was refused; the store holds what the catalogue names; and the flow stays
+  pub shaped : StaysShaped result new
+  pub stored : IsStored new.parts.keep (view after).records
+  pub flow : new.flow ≡ old.flow
+  -- it goes from each state for which it stood as the machine does; of a recovery what is answered is the machine's outcome, also where
+  -- what it reads can't be trusted
+  pub takes : TakesStep old (view before).records step result new (view after).records
+  pub shows : step ≡ Recover → ShowsOutcome old (view before).records step result
+  -- the store's count of faults rises at StoreFault alone, which comes only in a step that may call the store
+  pub faults : (view after).faults ≡ faults_after result (view before).faults
+  pub calls : IsErrOf result fault.StoreFault → MayCallStore old.flow step
+  -- a record is damaged in a recovery alone
+  pub damaged : (id : ℕ) → IsErrOf result (fault.Damaged id) → IsDamage old id (view after).given
+  pub in_recovery : (id : ℕ) → IsErrOf result (fault.Damaged id) → step ≡ Recover
+  -- a store that tells its records goes on telling them, and after a collection nothing waits for a sweep
+  pub tells : is_some (view after).records ≡ is_some (view before).records
+  pub swept : step ≡ Collect → OnOk result (new.parts.keep.waiting ≡ [])
+  -- a step that by the flow's policies never calls the store leaves it as it is, and so does an idle one that is no collection
+  pub quiet : (MayCallStore old.flow step → ⊥) → after ≡ before
+  pub idle : step ≢ Collect → result ≡ Ok Idle → after ≡ before
+
+-- What a step answers that never calls the store, whatever that holds and tells.
+pub record InnerAnswers (old : Running) (step : Step) (result : Result Stepped EngineFault) (new : Running) : Type 0 where
+  pub shaped : StaysShaped result new
+  pub stored : (records : Option Records) → IsStored old.parts.keep records → IsStored new.parts.keep records
+  pub flow : new.flow ≡ old.flow
+  pub takes : (records : Option Records) → TakesStep old records step result new records
+  pub unfaulted : IsErrOf result fault.StoreFault → ⊥
+  pub undamaged : IsUndamaged result
+
+-- What a part of a step answers that asks writes, and calls the store only where this may be.
+pub record PartAnswers {T K : Type 0} (view : K → StoreView) (MayCall : Type 0) (old : Running) (before : K) (result : Result T EngineFault)
+    (new : Running) (after : K) : Type 0 where
+  pub stored : IsStored new.parts.keep (view after).records
+  pub flow : new.flow ≡ old.flow
+  pub faults : (view after).faults ≡ faults_after result (view before).faults
+  pub calls : IsErrOf result fault.StoreFault → MayCall
+  pub undamaged : IsUndamaged result
+  pub tells : is_some (view after).records ≡ is_some (view before).records
+  pub quiet : (MayCall → ⊥) → after ≡ before

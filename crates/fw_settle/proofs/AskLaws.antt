@@ -1,6 +1,6 @@
 -- What eager nodes ask as they grow.
 use Rattle.std.proofs.Common.{◌≡◌, ℕ, zero, suc, ◌+◌, ◌-◌, ◌<◌, ◌≤◌, Bool, true, false, cond, not, ◌&&◌, ◌||◌, List, [], ◌∷◌, ◌++◌, map, filter, get_or, length, refl, sym, ap, subst, ◌∙◌, inl, inr, arith}
-use Rattle.std.specs.Prelude.{Option, Some, None, option_map, Result, Ok, Err, OnOk}
+use Rattle.std.specs.Prelude.{Option, Some, None, option_map, Result, Ok, Err, OnOk, is_some}
 use Rattle.std.specs.FinMap as map_of
 use Rattle.std.specs.List.{Contains, range_with_len}
 use Rattle.std.proofs.lemmas.Bool.{and_parts, cases_Bool}
@@ -29,7 +29,7 @@ use Rattle.fw_record.specs.Spelling.{spelling, HasCountableLists}
 use Rattle.fw_keep.specs.declared.entry.Entry.{Entry}
 use Rattle.fw_keep.specs.Catalogue.{KeepState, AreInFlight}
 use Rattle.fw_keep.specs.Entry.{asked}
-use Rattle.fw_keep.specs.Stored.{Records, KeepsBytes}
+use Rattle.fw_keep.specs.Stored.{Records, IsStored, KeepsBytes}
 use Rattle.fw_progress.specs.Settle.{has_more, is_growing, IsGrownAt}
 use Rattle.fw_stands.specs.Written.{AreEntriesOf, AreStored, IsEntryOf, uncollected}
 use Rattle.fw_stands.proofs.GrowthLaws.{settled-holds}
@@ -37,8 +37,11 @@ use Rattle.fw_stands.proofs.KeptLaws.{fronts-grow}
 use Rattle.fw_stands.proofs.SideBySide.{zip-append}
 use Rattle.fw_running.specs.declared.fault.EngineFault.{EngineFault}
 use Rattle.fw_running.specs.declared.running.Running.{Running}
+use Rattle.fw_running.specs.Faults.{faults_after}
 use Rattle.fw_running.specs.Logging.{with_keep, ChangesKeep, IsAsked, IsNotAsked}
 use Rattle.fw_running.specs.Stands.{Stands}
+use Rattle.fw_running.specs.Steps.{IsUndamaged, PartAnswers}
+use Rattle.fw_outside.specs.Outside.{StoreView}
 use Rattle.fw_settle.specs.Checkpoints.{IsTold, IsMadeAt, AsksCheckpoint, CanBeMadeAt}
 use Rattle.fw_settle.specs.Settling.{grows, NoneGrowsIn, AddsEntries, KeepsEntries, AsksIfEager, HaveAsked}
 use Rattle.fw_settle.proofs.WritesLaws.{asked-entry, asked-stored, can-be_made}
@@ -320,3 +323,18 @@ asked-next p old mid new before between after h c l grow a = elim (cases_Bool (i
       (subst (λ (r : Running). IsGrownAt r.flow r.progress.settled r.progress.kept p (Some asks.front)) c asks.grown) asks.asks
   | inr other ↦ skips p old mid new before between after h l other (a.other (ap (λ (r : Running). is_eager (policy_of r.flow p)) c ∙ other))
 ]
+
+-- ---- a write that may be asked
+
+pub asking-part : {T K : Type 0} {view : K → StoreView} {MayCall : Type 0} {old new : Running} {before after : K} {result : Result T EngineFault} → MayCall
+    → ChangesKeep old new → IsStored new.parts.keep (view after).records → (view after).faults ≡ faults_after result (view before).faults
+    → IsUndamaged result → is_some (view after).records ≡ is_some (view before).records → PartAnswers view MayCall old before result new after
+asking-part may others stored faults undamaged tells = record {
+  stored = stored;
+  flow = ap (λ (r : Running). r.flow) others;
+  faults = faults;
+  calls = λ e. may;
+  undamaged = undamaged;
+  tells = tells;
+  quiet = λ none. absurd (none may);
+}

@@ -1,6 +1,6 @@
 -- The search for the next node that is to settle.
 use Rattle.std.proofs.Common.{◌≡◌, ℕ, ◌+◌, ◌-◌, ◌<◌, ◌≤◌, ◌^◌, true, false, not, ◌&&◌, List, length, get_or, sym, ap, subst, ◌∙◌, inl, inr, arith}
-use Rattle.std.specs.Prelude.{Option, Some, None, Result, Ok, Err, IsErrOf}
+use Rattle.std.specs.Prelude.{Option, Some, None}
 use Rattle.std.specs.List.{Contains}
 use Rattle.std.proofs.lemmas.Bool.{and_parts, both_ways, cases_Bool, cases_lt}
 use Rattle.fw_flow.specs.Dataflow.{policy_of}
@@ -194,16 +194,3 @@ settling-all old new c h =
 -- a node that is eager among what is kept, where the catalogue alone was changed, is one of the flow
 pub has_eager : (old mid : Running) (p : ℕ) → ChangesKeep old mid → is_eager (policy_of mid.flow p) ≡ true → HasEager old.flow
 has_eager old mid p c is = (p, ap (λ (r : Running). is_eager (policy_of r.flow p)) (sym c) ∙ is)
-
--- ---- faults
-
--- a result of another type with the same fault has it too
-pub same_fault : (A B E : Type 0) (fault other : E) → IsErrOf {T = A} {E = E} (Err fault) other → IsErrOf {T = B} {E = E} (Err fault) other
-same_fault A B E fault other e = ap with_fault (ap fault_in e)
-  where
-    fault_in : Result A E → E
-    fault_in (Ok a) = fault
-    fault_in (Err f) = f
-
-    with_fault : E → Result B E
-    with_fault f = Err f

@@ -6,14 +6,12 @@ ghost use Rattle.fw_flow.specs.Dataflow.{bounds_of, policy_of};
 ghost use Rattle.fw_model.specs.Machine.{front_of, no_stamps};
 ghost use Rattle.fw_model.specs.Steps as steps_of;
 ghost use Rattle.fw_model.specs.Steps.{last_or};
-ghost use Rattle.fw_running.specs.Faults.{faults_after};
 ghost use Rattle.fw_flow.specs.declared.step.Step.TheVariants as steps;
-ghost use Rattle.fw_keep.specs.Stored.{Records, IsStored};
+ghost use Rattle.fw_keep.specs.Stored.{IsStored};
 ghost use Rattle.fw_stands.specs.Entries.{entry_fronts};
-ghost use Rattle.fw_running.specs.declared.stepped.Stepped.TheVariants.{Idle};
 ghost use Rattle.fw_running.specs.Shaped.{IsShaped};
 ghost use Rattle.fw_settle.specs.Checkpoints.{MayTakeCheckpoint};
-ghost use Rattle.fw_running.specs.Steps.{TakesStep, StaysShaped, IsUndamaged};
+ghost use Rattle.fw_running.specs.Steps.{InnerAnswers, StepAnswers};
 
 use crate::asking::ask_checkpoint;
 use fw_flow::{NodeId, Policy};
@@ -30,16 +28,7 @@ pub fn checkpoint<K: Store>(
 ) -> Result<Stepped, EngineFault>
     requires shaped { IsShaped running.old }
     requires stored { IsStored running.old.parts.keep (K.view store.old).records }
-    ensures shaped { StaysShaped result running.new }
-    ensures stored { IsStored running.new.parts.keep (K.view store.new).records }
-    ensures flow { running.new.flow ≡ running.old.flow }
-    ensures takes { TakesStep running.old (K.view store.old).records (steps.Checkpoint node) result running.new (K.view store.new).records }
-    ensures faults { (K.view store.new).faults ≡ faults_after result (K.view store.old).faults }
-    ensures undamaged { IsUndamaged result }
-    ensures tells { is_some (K.view store.new).records ≡ is_some (K.view store.old).records }
-    ensures calls { IsErrOf result EngineFault.StoreFault → steps_of.is_asked_for_checkpoints (policy_of running.old.flow node) ≡ true }
-    ensures quiet { (steps_of.is_asked_for_checkpoints (policy_of running.old.flow node) ≡ true → ⊥) → store.new ≡ store.old }
-    ensures idle { result ≡ Ok Idle → store.new ≡ store.old }
+    ensures { StepAnswers K.view running.old store.old (steps.Checkpoint node) result running.new store.new }
 {
     if !may_take(running, node) {
         return Ok(Stepped::Idle);
@@ -80,10 +69,7 @@ fn is_newest_settled(running: &Running, node: NodeId) -> bool
 /// The oldest write in flight is acknowledged.
 pub fn persist(running: &mut Running) -> Stepped
     requires shaped { IsShaped running.old }
-    ensures shaped { IsShaped running.new }
-    ensures stored { (records : Option Records) → IsStored running.old.parts.keep records → IsStored running.new.parts.keep records }
-    ensures flow { running.new.flow ≡ running.old.flow }
-    ensures takes { (records : Option Records) → TakesStep running.old records steps.Persist (Ok result) running.new records }
+    ensures { InnerAnswers running.old steps.Persist (Ok result) running.new }
 {
     match running.parts.keep.persist_one() {
         Some(_id) => Stepped::Did(Effect::Silent),

@@ -1,6 +1,5 @@
 //! The step of progress.
-ghost use Rattle.std.specs.Prelude.{◌≡◌, ◌↔◌, ◌<◌, Some, Ok, true, length, IsTrue, IsErrOf, OnOk, OnErr, is_some};
-ghost use Rattle.fw_running.specs.Faults.{faults_after};
+ghost use Rattle.std.specs.Prelude.{◌≡◌, ◌↔◌, ◌<◌, Some, true, length, IsTrue, OnOk, OnErr};
 ghost use Rattle.fw_flow.specs.declared.step.Step.TheVariants as steps;
 ghost use Rattle.fw_frontier.specs.Front.{IsCanonical};
 ghost use Rattle.fw_flow.specs.Dataflow.{bounds_of, policy_of};
@@ -10,9 +9,8 @@ ghost use Rattle.fw_keep.specs.Stored.{IsStored};
 ghost use Rattle.fw_progress.specs.Settle.{IsGrownAt, has_more};
 ghost use Rattle.fw_running.specs.Logging.{ChangesKeep, IsNotAsked};
 ghost use Rattle.fw_running.specs.Places.{IsTakenOut};
-ghost use Rattle.fw_running.specs.declared.stepped.Stepped.TheVariants.{Idle};
 ghost use Rattle.fw_running.specs.Shaped.{IsShaped};
-ghost use Rattle.fw_running.specs.Steps.{TakesStep, StaysShaped, IsUndamaged, HasEager};
+ghost use Rattle.fw_running.specs.Steps.{HasEager, PartAnswers, StepAnswers};
 ghost use Rattle.fw_running.specs.Kept.{with_tables};
 ghost use Rattle.fw_settle.specs.Settling.{grows, IsFoundToSettle, IsFoundLive, AddsEntries, KeepsEntries, AsksIfEager, HaveAsked, with_traces, ChangesSettled, SettlesTable, SettlesTraces, SettlesTo, SettlesKept, HaveSettled};
 
@@ -27,16 +25,7 @@ use std::alloc::AllocError;
 pub fn progress<K: Store>(running: &mut Running, store: &mut K) -> Result<Stepped, EngineFault>
     requires shaped { IsShaped running.old }
     requires stored { IsStored running.old.parts.keep (K.view store.old).records }
-    ensures shaped { StaysShaped result running.new }
-    ensures stored { IsStored running.new.parts.keep (K.view store.new).records }
-    ensures flow { running.new.flow ≡ running.old.flow }
-    ensures takes { TakesStep running.old (K.view store.old).records steps.Progress result running.new (K.view store.new).records }
-    ensures faults { (K.view store.new).faults ≡ faults_after result (K.view store.old).faults }
-    ensures undamaged { IsUndamaged result }
-    ensures tells { is_some (K.view store.new).records ≡ is_some (K.view store.old).records }
-    ensures calls { IsErrOf result EngineFault.StoreFault → HasEager running.old.flow }
-    ensures quiet { (HasEager running.old.flow → ⊥) → store.new ≡ store.old }
-    ensures idle { result ≡ Ok Idle → store.new ≡ store.old }
+    ensures { StepAnswers K.view running.old store.old steps.Progress result running.new store.new }
 {
     running.refresh()?;
     let Some(_first) = grown_from(running, 0) else {
@@ -84,15 +73,10 @@ fn ask_eager<K: Store>(running: &mut Running, store: &mut K) -> Result<(), Engin
     requires stored { IsStored running.old.parts.keep (K.view store.old).records }
     ensures others { ChangesKeep running.old running.new }
     ensures shaped { IsShaped running.new }
-    ensures stored { IsStored running.new.parts.keep (K.view store.new).records }
     ensures asked { OnOk result (HaveAsked (length running.old.flow.nodes) running.old running.new (K.view store.old).records (K.view store.new).records) }
     ensures stays { OnErr result (KeepsEntries running.old.parts.keep.entries running.new.parts.keep.entries
         (K.view store.old).records (K.view store.new).records) }
-    ensures faults { (K.view store.new).faults ≡ faults_after result (K.view store.old).faults }
-    ensures undamaged { IsUndamaged result }
-    ensures tells { is_some (K.view store.new).records ≡ is_some (K.view store.old).records }
-    ensures calls { IsErrOf result EngineFault.StoreFault → HasEager running.old.flow }
-    ensures quiet { (HasEager running.old.flow → ⊥) → store.new ≡ store.old }
+    ensures part { PartAnswers K.view (HasEager running.old.flow) running.old store.old result running.new store.new }
 {
     let count = running.parts.keep.entries().len();
     match ask_each(running, store) {
@@ -110,14 +94,9 @@ fn ask_each<K: Store>(running: &mut Running, store: &mut K) -> Result<(), Engine
     requires stored { IsStored running.old.parts.keep (K.view store.old).records }
     ensures others { ChangesKeep running.old running.new }
     ensures shaped { IsShaped running.new }
-    ensures stored { IsStored running.new.parts.keep (K.view store.new).records }
     ensures asked { OnOk result (HaveAsked (length running.old.flow.nodes) running.old running.new (K.view store.old).records (K.view store.new).records) }
     ensures adds { AddsEntries running.old.parts.keep.entries running.new.parts.keep.entries (K.view store.old).records (K.view store.new).records }
-    ensures faults { (K.view store.new).faults ≡ faults_after result (K.view store.old).faults }
-    ensures undamaged { IsUndamaged result }
-    ensures tells { is_some (K.view store.new).records ≡ is_some (K.view store.old).records }
-    ensures calls { IsErrOf result EngineFault.StoreFault → HasEager running.old.flow }
-    ensures quiet { (HasEager running.old.flow → ⊥) → store.new ≡ store.old }
+    ensures part { PartAnswers K.view (HasEager running.old.flow) running.old store.old result running.new store.new }
 {
     let mut next = grown_from(running, 0);
     while let Some(node) = next {
@@ -139,15 +118,10 @@ fn ask_if_eager<K: Store>(
     requires more { has_more (front_of running.old.progress.kept node) (front_of running.old.progress.settled node) ≡ true }
     ensures others { ChangesKeep running.old running.new }
     ensures shaped { IsShaped running.new }
-    ensures stored { IsStored running.new.parts.keep (K.view store.new).records }
     ensures asked { OnOk result (AsksIfEager node running.old running.new (K.view store.old).records (K.view store.new).records) }
     ensures stays { OnErr result (IsNotAsked running.old.parts.keep.entries running.new.parts.keep.entries
         (K.view store.old).records (K.view store.new).records) }
-    ensures faults { (K.view store.new).faults ≡ faults_after result (K.view store.old).faults }
-    ensures undamaged { IsUndamaged result }
-    ensures tells { is_some (K.view store.new).records ≡ is_some (K.view store.old).records }
-    ensures calls { IsErrOf result EngineFault.StoreFault → steps_of.is_eager (policy_of running.old.flow node) ≡ true }
-    ensures quiet { (steps_of.is_eager (policy_of running.old.flow node) ≡ true → ⊥) → store.new ≡ store.old }
+    ensures part { PartAnswers K.view (steps_of.is_eager (policy_of running.old.flow node) ≡ true) running.old store.old result running.new store.new }
 {
     if !is_eager(running.flow.policy(node)) {
         return Ok(());

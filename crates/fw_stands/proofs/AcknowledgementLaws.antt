@@ -27,7 +27,7 @@ use Rattle.fw_model.specs.Auto.{IsIdle}
 use Rattle.fw_border.specs.Outputs.{OutputState, recs_at, next_recs, acknowledged, AreByNumber}
 use Rattle.fw_border.proofs.OutputLaws.{recs_at-removed, recs_at-removed_apart}
 use Rattle.fw_stands.specs.Parts.{kept_recs, IsOutputOf}
-use Rattle.fw_stands.specs.Acknowledging.{AreEpochs, HasSomething, CanAcknowledge, acknowledged_state, KeepsAllButOutput, IsGreatestCount}
+use Rattle.fw_stands.specs.Acknowledging.{AreEpochs, HasSomething, CanAcknowledgeIn, acknowledged_state, KeepsAllButOutput, IsGreatestCount}
 use Rattle.fw_stands.proofs.AtReached.{reached-bounds}
 
 -- ---- recs in order
@@ -236,7 +236,7 @@ number-from : (x : ℕ) → x < 2 ^ 32 → leq (x ∷ []) (greatest_number ∷ [
 number-from x l = above-number x greatest_number (omega arith)
 
 can-by_kept : (sys : System) (state : Machine) (epochs : ℕ) → AreEpochs sys epochs → (o : ℕ) (output : OutputState) → IsOutputOf sys state o output
-    → (x : ℕ) → MayAcknowledge sys state o x → (x ≡ output.bound) × CanAcknowledge sys state epochs o output
+    → (x : ℕ) → MayAcknowledge sys state o x → (x ≡ output.bound) × CanAcknowledgeIn sys state epochs o output
 can-by_kept sys state epochs k o output b x m =
     let is : x ≡ output.bound = m.next ∙ sym b.bound in
     let a = and_parts (in_domain (bounds_of sys.flow o) (x ∷ [])) (inside (front_of state.settled o) (x ∷ [])) m.settled in (
@@ -253,7 +253,7 @@ can-by_kept sys state epochs k o output b x m =
     )
 
 kept-may : (sys : System) (state : Machine) (epochs : ℕ) → AreEpochs sys epochs → (o : ℕ) (output : OutputState) → AreByNumber output.recs → IsOutputOf sys state o output
-    → CanAcknowledge sys state epochs o output → MayAcknowledge sys state o output.bound
+    → CanAcknowledgeIn sys state epochs o output → MayAcknowledge sys state o output.bound
 kept-may sys state epochs k o output n b c = record {
   declared = c.there;
   output = c.output;
@@ -267,7 +267,7 @@ kept-may sys state epochs k o output n b c = record {
 -- an output may acknowledge x exactly where x is its bound and it may by what is kept
 pub acknowledges-where_kept : (sys : System) (state : Machine) (epochs : ℕ) → AreEpochs sys epochs
     → (o : ℕ) (output : OutputState) → AreByNumber output.recs → IsOutputOf sys state o output
-    → (x : ℕ) → MayAcknowledge sys state o x ↔ ((x ≡ output.bound) × CanAcknowledge sys state epochs o output)
+    → (x : ℕ) → MayAcknowledge sys state o x ↔ ((x ≡ output.bound) × CanAcknowledgeIn sys state epochs o output)
 acknowledges-where_kept sys state epochs k o output n b x = (
   can-by_kept sys state epochs k o output b x,
   λ c. subst (MayAcknowledge sys state o) (sym c.0) (kept-may sys state epochs k o output n b c.1),
@@ -276,7 +276,7 @@ acknowledges-where_kept sys state epochs k o output n b x = (
 -- where it may not by what is kept, it acknowledges nothing
 pub nothing_kept-idle : (sys : System) (state : Machine) (epochs : ℕ) → AreEpochs sys epochs
     → (o : ℕ) (output : OutputState) → IsOutputOf sys state o output
-    → (CanAcknowledge sys state epochs o output → ⊥) → IsIdle sys state (Ack o)
+    → (CanAcknowledgeIn sys state epochs o output → ⊥) → IsIdle sys state (Ack o)
 nothing_kept-idle sys state epochs k o output b none next effect t = none (can-by_kept sys state epochs k o output b t.0 t.1).1
 
 -- a node that is no output acknowledges nothing
@@ -286,7 +286,7 @@ only_outputs-acknowledge sys state o none next effect t = two_ways (is_output_ki
 -- a node acknowledges only where it is an output that may by what is kept
 pub acknowledges-only_where : (sys : System) (state : Machine) (epochs : ℕ) → AreEpochs sys epochs
     → (o : ℕ) (output : OutputState) → (is_output_kind (kind_of sys.flow o) ≡ true → IsOutputOf sys state o output)
-    → (CanAcknowledge sys state epochs o output → ⊥) → IsIdle sys state (Ack o)
+    → (CanAcknowledgeIn sys state epochs o output → ⊥) → IsIdle sys state (Ack o)
 acknowledges-only_where sys state epochs k o output b none next effect t =
     nothing_kept-idle sys state epochs k o output (b t.1.output) none next effect t
 
@@ -300,7 +300,7 @@ shown-kept sys state o output b f =
 
 -- where it may by what is kept, it acknowledges its bound and shows the recs that are kept there
 pub kept-acknowledged : (sys : System) (state : Machine) (epochs : ℕ) → AreEpochs sys epochs
-    → (o : ℕ) (output : OutputState) → AreByNumber output.recs → IsOutputOf sys state o output → CanAcknowledge sys state epochs o output
+    → (o : ℕ) (output : OutputState) → AreByNumber output.recs → IsOutputOf sys state o output → CanAcknowledgeIn sys state epochs o output
     → LeadsTo sys state (Ack o) (acknowledged_state state o output.bound) (acked o (output.bound ∷ []) (next_recs output))
 kept-acknowledged sys state epochs k o output n b c = (
   output.bound,

@@ -1,5 +1,5 @@
 -- Traces and progress that follow an event stand for the state after it.
-use Rattle.std.proofs.Common.{refl, sym, List, map}
+use Rattle.std.proofs.Common.{refl, sym, List, map, ℕ}
 use Rattle.fw_model.specs.Machine.{events, Machine}
 use Rattle.fw_model.proofs.DomainLaws.{has_epochs}
 use Rattle.fw_model.specs.Reached.{IsReached}

@@ -1,5 +1,5 @@
 -- What is left of each part where nodes fail.
-use Rattle.std.proofs.Common.{◌≡◌, Bool, true, false, cond, not, ◌||◌, ◌&&◌, if◌then◌else◌, List, [], length, refl, sym, ap, ◌∙◌, arith, ◌<◌, Option, None}
+use Rattle.std.proofs.Common.{◌≡◌, ℕ, Bool, true, false, cond, not, ◌||◌, ◌&&◌, if◌then◌else◌, List, [], length, refl, sym, ap, ◌∙◌, arith, ◌<◌, Option, None}
 use Rattle.std.proofs.lemmas.Bool.{or_right}
 use Rattle.std.proofs.lemmas.List.FromFn.{get_or-map-range_with_len}
 use Rattle.fw_bag.specs.declared.rec.Rec.{Rec}

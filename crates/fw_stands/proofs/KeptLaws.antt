@@ -1,5 +1,5 @@
 -- Whether progress is enabled, and where it grows, by the fronts that are kept.
-use Rattle.std.proofs.Common.{◌≡◌, true, false, not, ◌||◌, [], ◌∷◌, refl, sym, ap, ◌∙◌, inl, inr, Bool, List, ◌<◌, length}
+use Rattle.std.proofs.Common.{◌≡◌, ℕ, true, false, not, ◌||◌, [], ◌∷◌, refl, sym, ap, ◌∙◌, inl, inr, Bool, List, ◌<◌, length}
 use Rattle.std.proofs.lemmas.Bool.{cases_Bool, or_parts, or_cases, or_left, and_from, and_parts, and_right, false_from_ne_true, not_from_false}
 use Rattle.std.specs.List.{AllByRecursion, list_any}
 use Rattle.fw_time.specs.Stamp.{Stamp, in_domain}
@@ -127,6 +127,6 @@ grows-live b settled kept both c n = record {
 
 -- a front that is as it was at a node that is failed, and else the union with what is kept, grows by what is kept, whatever it stands for
 pub joined-grow : (bounds : Bounds) (failed : Bool) (settled kept both : Front) → IsCanonical bounds settled → IsCanonical bounds kept
-    → IsJoined failed settled kept both → GrowsByKept failed settled kept both
+    → IsJoined bounds failed settled kept both → GrowsByKept failed settled kept both
 joined-grow b true settled kept both cs ck j = grows-failed b settled kept both j
-joined-grow b false settled kept both cs ck j = grows-live b settled kept both cs (j b cs ck)
+joined-grow b false settled kept both cs ck j = grows-live b settled kept both cs (j cs ck)

@@ -1,9 +1,9 @@
 -- When an output may acknowledge, what it shows, and what is kept of it then.
-use Rattle.std.specs.Prelude.{◌≡◌, ◌≢◌, ◌⊎◌, ◌↔◌, ℕ, ◌+◌, ◌<◌, ◌^◌, true, false, [], ◌∷◌, length, slice_set, ◌≤◌}
-use Rattle.fw_frontier.specs.Front.{inside}
+use Rattle.std.specs.Prelude.{◌≡◌, ◌≢◌, ◌⊎◌, ◌↔◌, ℕ, ◌+◌, ◌<◌, ◌^◌, Bool, true, false, [], ◌∷◌, length, slice_set, ◌≤◌}
+use Rattle.fw_frontier.specs.Front.{Front, inside}
 use Rattle.fw_flow.specs.declared.kind.Kind.{Kind}
 use Rattle.fw_flow.specs.declared.kind.Kind.TheVariants.{OutputNumber}
-use Rattle.fw_flow.specs.Dataflow.{System, kind_of, batches_of, is_output_kind}
+use Rattle.fw_flow.specs.Dataflow.{System, Dataflow, kind_of, batches_of, is_output_kind}
 use Rattle.fw_model.specs.Machine.{Machine, front_of, is_failed}
 use Rattle.fw_model.specs.Steps.{HasEpoch}
 use Rattle.fw_border.specs.Outputs.{OutputState, recs_at}
@@ -24,15 +24,19 @@ abbrev pub HasSomething : ℕ → OutputState → Kind → ℕ → Type 0
 HasSomething epochs output OutputNumber x = recs_at output.recs x ≢ []
 HasSomething epochs output kind x = (x < epochs) ⊎ (output.recs ≢ [])
 
--- Output o may acknowledge its bound by what is kept: it is declared and not failed, the bound is a number of 32 bits and settled,
--- and there is something to acknowledge.
-pub record CanAcknowledge (sys : System) (state : Machine) (epochs o : ℕ) (kept : OutputState) : Type 0 where
-  pub there : o < length sys.flow.nodes
-  pub live : is_failed state o ≡ false
-  pub output : is_output_kind (kind_of sys.flow o) ≡ true
+-- Output o, of which this is kept and up to which front it is settled, may acknowledge its bound: it is declared and not failed,
+-- the bound is a number of 32 bits and settled, and there is something to acknowledge.
+pub record CanAcknowledgeBy (flow : Dataflow) (o : ℕ) (down : Bool) (epochs : ℕ) (kept : OutputState) (front : Front) : Type 0 where
+  pub there : o < length flow.nodes
+  pub live : down ≡ false
+  pub output : is_output_kind (kind_of flow o) ≡ true
   pub number : kept.bound < 2 ^ 32
-  pub settled : inside (front_of state.settled o) (kept.bound ∷ []) ≡ true
-  pub some : HasSomething epochs kept (kind_of sys.flow o) kept.bound
+  pub settled : inside front (kept.bound ∷ []) ≡ true
+  pub some : HasSomething epochs kept (kind_of flow o) kept.bound
+
+-- so it is in a state
+abbrev pub CanAcknowledgeIn : System → Machine → ℕ → ℕ → OutputState → Type 0
+CanAcknowledgeIn sys state epochs o kept = CanAcknowledgeBy sys.flow o (is_failed state o) epochs kept (front_of state.settled o)
 
 -- the state in which output o acknowledged x
 abbrev pub acknowledged_state : Machine → ℕ → ℕ → Machine

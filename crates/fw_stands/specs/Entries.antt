@@ -65,4 +65,3 @@ entry_front (written.Event event) = []
 -- the frontiers of the checkpoints of node p, in order
 abbrev pub entry_fronts : ℕ → List Entry → List Front
 entry_fronts p entries = flat_map (λ (e : Entry). if e.node == p then entry_front e.written else []) entries
-

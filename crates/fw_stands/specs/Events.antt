@@ -115,4 +115,3 @@ pub record CanTakeNotice (sys : System) (state : Machine) (p : ℕ) (t : Stamp) 
   pub untold : is_told (events_at sys.flow p (events state.history)) t ≡ false
   pub sums : kind_of sys.flow p ≡ Total
       → IsSumOfTold (family_of sys.flow state.settled p) (events_at sys.flow p (events state.history)) t
-

@@ -55,4 +55,3 @@ pub record DoesNothing (sys : System) (state : Machine) (p : ℕ) : Type 0 where
 pub record IsLeastNotice (sys : System) (state : Machine) (p : ℕ) (t : Stamp) : Type 0 where
   pub may : IsNotifiable sys (events state.history) p t
   pub least : (other : Stamp) → IsNotifiable sys (events state.history) p other → is_gt (stamp_cmp t other) ≡ false
-

@@ -38,4 +38,3 @@ pub record Recovers (sys : System) (state : Machine) (choice : Choice) (settled 
   pub reached : IsReached sys state
   pub largest : IsLargest sys state (offers sys state) choice
   pub cuts : CutsTo sys state choice settled
-

@@ -4,29 +4,31 @@ use Rattle.fw_model.specs.Steps.{acked, LeadsTo}
 use Rattle.fw_border.specs.Outputs.{next_recs}
 use Rattle.fw_stands.specs.Acknowledging.{acknowledged_state}
 use Rattle.fw_running.specs.Kept.{output_of}
+use Rattle.fw_running.proofs.StepLaws.{inner-ok, inner-refused}
 use Rattle.fw_engine.proofs.AckLaws.{idle-acknowledges, acknowledges, ack-shaped, ack-stands}
 use Rattle.fw_engine.proofs.acknowledgement.acknowledge.Goals as goal
 
-pub returns-in_default-clause-takes : goal.returns-in_default-clause-takes
-returns-in_default-clause-takes c = λ records sys state s u.
-    record { next = state; steps = (idle-acknowledges sys state c.args.running.now records c.args.output s c.in_default.ensures.none, refl); stands = s }
+pub returns-in_default : goal.returns-in_default
+returns-in_default c = inner-ok c.requires.shaped refl refl (λ records sys state s u.
+    record { next = state; steps = (idle-acknowledges sys state c.args.running.now records c.args.output s c.in_default.ensures.none, refl); stands = s })
 
-pub returns-clause-shaped : goal.returns-clause-shaped
-returns-clause-shaped c =
-    ack-shaped c.args.running.now c.args.output c.put_output.new.self c.acknowledge-recs.new.self c.in_ok-put_output.ensures.others c.in_ok-put_output.ensures.put
-    c.acknowledge-recs.ensures.left c.requires.shaped
+pub returns-in_err-put_output : goal.returns-in_err-put_output
+returns-in_err-put_output c = inner-refused (λ records held. held) refl c.from_residual.ensures.1
 
-pub returns-clause-takes : goal.returns-clause-takes
-returns-clause-takes c = λ records sys state s u.
+pub returns : goal.returns
+returns c =
     let running = c.args.running.now in
     let o = c.args.output in
     let out = output_of running o in
+    let ready = c.put_output.new.self in
+    let outputs = c.acknowledge-recs.new.self in
+    let left = c.acknowledge-recs.ensures.left in
+    inner-ok (ack-shaped running o ready outputs c.in_ok-put_output.ensures.others c.in_ok-put_output.ensures.put left c.requires.shaped) refl refl (λ records sys state s u.
     let next = acknowledged_state state o out.bound in
     let led = acknowledges sys state running records o s c.in-Some.ensures.by_number c.in-Some.ensures.can in
     record {
       next = next;
       steps = subst (λ recs. LeadsTo sys state (Ack o) next (acked o c.in-Some.at recs)) (sym c.acknowledge-recs.ensures.recs)
           (subst (λ at. LeadsTo sys state (Ack o) next (acked o at (next_recs out))) (sym c.in-Some.ensures.next) led);
-      stands = ack-stands sys state running records o c.put_output.new.self c.acknowledge-recs.new.self c.acknowledge-recs.ensures.left c.requires.shaped
-          c.in-Some.ensures.by_number c.in-Some.ensures.can s;
-    }
+      stands = ack-stands sys state running records o ready outputs left c.requires.shaped c.in-Some.ensures.by_number c.in-Some.ensures.can s;
+    })

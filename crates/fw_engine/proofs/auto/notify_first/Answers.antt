@@ -1,19 +1,18 @@
-use Rattle.std.proofs.Common.{◌≡◌, Option, Result, sym, subst}
-use Rattle.fw_keep.specs.Stored.{IsStored}
+use Rattle.std.proofs.Common.{Option, Result, ap, refl, subst}
 use Rattle.fw_rollback.specs.declared.parts.Parts.{Parts}
 use Rattle.fw_running.specs.declared.fault.EngineFault.{EngineFault}
 use Rattle.fw_running.specs.declared.stepped.Stepped.{Stepped}
-use Rattle.fw_running.specs.Faults.{faults_after}
-use Rattle.fw_running.specs.Steps.{AnswersFirst}
+use Rattle.fw_running.specs.Steps.{AnswersFirst, MayCallByItself}
+use Rattle.fw_running.proofs.StepLaws.{part-err, part-later, part-may, part-of, part-refused_first}
 use Rattle.fw_engine.specs.declared.auto.Notice.{Notice}
 use Rattle.fw_engine.specs.Searching.{IsFirstNotified}
-use Rattle.fw_engine.proofs.QuietLaws.{notification-quiet, quiet-later}
+use Rattle.fw_engine.proofs.QuietLaws.{notification-may_call_later}
 use Rattle.fw_engine.proofs.TakenFirstLaws.{from-err, notify-err, notify-first, notify-later}
 use Rattle.fw_engine.proofs.auto.notify_first.Goals as goal
 
-pub returns-in_err-notice-clause-stored : goal.returns-in_err-notice-clause-stored
-returns-in_err-notice-clause-stored g c =
-    subst (λ (parts : Parts). IsStored parts.keep (g.K.Store.view c.args.store.now).records) (sym c.first_notice.ensures.parts) c.requires.stored
+pub returns-in_err-notice-clause-part : goal.returns-in_err-notice-clause-part
+returns-in_err-notice-clause-part g c =
+    part-refused_first c.requires.stored (ap (λ (parts : Parts). parts.keep) c.first_notice.ensures.parts) c.first_notice.ensures.flow c.from_residual.ensures.1
 
 pub returns-in_default-clause-takes : goal.returns-in_default-clause-takes
 returns-in_default-clause-takes g c =
@@ -31,7 +30,7 @@ returns-in_err-notify_of-clause-takes g c = λ sys state s none.
     from-err c.from_residual-in_err-notify_of.result c.in_err-notify_of.field-0.0 (λ (r : Result Stepped EngineFault). AnswersFirst sys state r new after)
     c.from_residual-in_err-notify_of.ensures.1
     (notify-err (Unit {0}) old c.first_notice.new.running new (g.K.Store.view c.args.store.now).records after c.in-Some.notice.node c.in-Some.notice.at
-    c.in_err-notify_of.field-0.0 c.in_ok-notice.ensures.searched first.0 first.1 c.in_err-notify_of.ensures.calls c.in_err-notify_of.ensures.takes sys state s none)
+    c.in_err-notify_of.field-0.0 c.in_ok-notice.ensures.searched first.0 first.1 c.in_err-notify_of.ensures.part.calls c.in_err-notify_of.ensures.takes sys state s none)
 
 pub returns-clause-takes : goal.returns-clause-takes
 returns-clause-takes g c =
@@ -40,25 +39,23 @@ returns-clause-takes g c =
     notify-first _ old c.first_notice.new.running c.notify_of.new.running (g.K.Store.view c.args.store.now).records (g.K.Store.view c.notify_of.new.store).records
     c.in-Some.notice.node c.in-Some.notice.at c.in_ok-notify_of.field-0 c.in_ok-notice.ensures.searched first.0 first.1 c.in_ok-notify_of.ensures.takes
 
-pub returns-in_default-clause-quiet : goal.returns-in_default-clause-quiet
-returns-in_default-clause-quiet g c = λ none.
-    c.settle_first.ensures.quiet (quiet-later c.args.running.now.flow c.first_notice.new.running.flow c.first_notice.ensures.flow none)
+pub returns-in_default-clause-part : goal.returns-in_default-clause-part
+returns-in_default-clause-part g c = part-of MayCallByItself c.first_notice.ensures.flow c.settle_first.ensures.part
 
-pub returns-in_err-notify_of-clause-quiet : goal.returns-in_err-notify_of-clause-quiet
-returns-in_err-notify_of-clause-quiet g c = λ none.
+pub returns-in_err-notify_of-clause-part : goal.returns-in_err-notify_of-clause-part
+returns-in_err-notify_of-clause-part g c =
     let old = c.args.running.now in
     let first = subst (λ (found : Option Notice). IsFirstNotified old found) c.in-Some.is c.in_ok-notice.ensures.first in
-    c.notify_of.ensures.quiet (notification-quiet old.flow c.first_notice.new.running.flow c.in-Some.notice.node c.first_notice.ensures.flow first.0.owing.there none)
+    part-err (part-of MayCallByItself c.first_notice.ensures.flow
+    (part-may (notification-may_call_later old.flow c.first_notice.new.running.flow c.in-Some.notice.node c.first_notice.ensures.flow first.0.owing.there)
+    c.in_err-notify_of.ensures.part))
+    c.from_residual-in_err-notify_of.ensures.1
 
-pub returns-clause-quiet : goal.returns-clause-quiet
-returns-clause-quiet g c = λ none.
+pub returns-clause-part : goal.returns-clause-part
+returns-clause-part g c =
     let old = c.args.running.now in
     let first = subst (λ (found : Option Notice). IsFirstNotified old found) c.in-Some.is c.in_ok-notice.ensures.first in
-    c.notify_of.ensures.quiet (notification-quiet old.flow c.first_notice.new.running.flow c.in-Some.notice.node c.first_notice.ensures.flow first.0.owing.there none)
-
-pub returns-in_err-notify_of-clause-faults : goal.returns-in_err-notify_of-clause-faults
-returns-in_err-notify_of-clause-faults g c =
-    let before = (g.K.Store.view c.args.store.now).faults in
-    from-err c.from_residual-in_err-notify_of.result c.in_err-notify_of.field-0.0
-    (λ (r : Result Stepped EngineFault). (g.K.Store.view c.notify_of.new.store).faults ≡ faults_after r before)
-    c.from_residual-in_err-notify_of.ensures.1 c.in_err-notify_of.ensures.faults
+    part-later (part-of MayCallByItself c.first_notice.ensures.flow
+    (part-may (notification-may_call_later old.flow c.first_notice.new.running.flow c.in-Some.notice.node c.first_notice.ensures.flow first.0.owing.there)
+    c.in_ok-notify_of.ensures.part))
+    refl refl tt (λ e. cc)

@@ -1,13 +1,13 @@
-use Rattle.std.proofs.Common.{◌≡◌, Ok, Result, subst, ◌∙◌}
+use Rattle.std.proofs.Common.{Ok, Result, refl, subst}
 use Rattle.fw_flow.specs.declared.step.Step.TheVariants.{Progress}
 use Rattle.fw_stands.specs.FirstSteps.{NoneToNotify, NoneToSettle}
 use Rattle.fw_stands.proofs.TakingLaws.{progress-next}
 use Rattle.fw_running.specs.declared.fault.EngineFault.{EngineFault}
 use Rattle.fw_running.specs.declared.stepped.Stepped.{Stepped}
-use Rattle.fw_running.specs.Faults.{faults_after}
-use Rattle.fw_running.specs.Steps.{TakesStep}
+use Rattle.fw_running.specs.Steps.{StepAnswers, TakesStep}
+use Rattle.fw_running.proofs.StepLaws.{part-err, part-may, part-on, step-part}
 use Rattle.fw_engine.specs.Searching.{TakesFirstAfter}
-use Rattle.fw_engine.proofs.QuietLaws.{progress-may_call, unfaulted-counts}
+use Rattle.fw_engine.proofs.QuietLaws.{progress-may_call}
 use Rattle.fw_engine.proofs.TakenFirstLaws.{did-first, from-err, idle-later, settle-err}
 use Rattle.fw_engine.proofs.auto.settle_first.Goals as goal
 
@@ -40,26 +40,21 @@ returns-in_err-effect-clause-takes g c =
     let after = (g.K.Store.view c.progress.new.store).records in
     from-err c.from_residual.result c.in_err-effect.field-0.0 (λ (r : Result Stepped EngineFault). TakesFirstAfter NoneToNotify old before r new after)
     c.from_residual.ensures.1
-    (settle-err old new before after c.in_err-effect.field-0.0 c.in_err-effect.ensures.calls c.in_err-effect.ensures.undamaged c.in_err-effect.ensures.takes)
+    (settle-err old new before after c.in_err-effect.field-0.0 c.in_err-effect.ensures.calls (step-part refl c.in_err-effect.ensures).undamaged c.in_err-effect.ensures.takes)
 
-pub returns-in-Idle-clause-stored : goal.returns-in-Idle-clause-stored
-returns-in-Idle-clause-stored g c = c.acknowledge_first.ensures.stored (g.K.Store.view c.progress.new.store).records c.progress.ensures.stored
+pub returns-in_err-effect-clause-part : goal.returns-in_err-effect-clause-part
+returns-in_err-effect-clause-part g c =
+    part-err (part-may (progress-may_call c.args.running.now.flow) (step-part refl c.in_err-effect.ensures)) c.from_residual.ensures.1
 
-pub returns-in_err-effect-clause-quiet : goal.returns-in_err-effect-clause-quiet
-returns-in_err-effect-clause-quiet g c = λ none. c.progress.ensures.quiet (λ eager. none (progress-may_call c.args.running.now.flow eager))
+pub returns-in-Did-clause-part : goal.returns-in-Did-clause-part
+returns-in-Did-clause-part g c =
+    let old = c.args.running.now in
+    part-may (progress-may_call old.flow) (step-part refl
+    (subst (λ (stepped : Stepped). StepAnswers g.K.Store.view old c.args.store.now Progress (Ok stepped) c.progress.new.running c.progress.new.store) c.in-Did.is
+    c.in_ok-effect.ensures))
 
-pub returns-in-Did-clause-quiet : goal.returns-in-Did-clause-quiet
-returns-in-Did-clause-quiet g c = λ none. c.progress.ensures.quiet (λ eager. none (progress-may_call c.args.running.now.flow eager))
-
-pub returns-in-Idle-clause-quiet : goal.returns-in-Idle-clause-quiet
-returns-in-Idle-clause-quiet g c = λ none. c.progress.ensures.quiet (λ eager. none (progress-may_call c.args.running.now.flow eager))
-
-pub returns-in_err-effect-clause-faults : goal.returns-in_err-effect-clause-faults
-returns-in_err-effect-clause-faults g c =
-    let before = (g.K.Store.view c.args.store.now).faults in
-    from-err c.from_residual.result c.in_err-effect.field-0.0 (λ (r : Result Stepped EngineFault). (g.K.Store.view c.progress.new.store).faults ≡ faults_after r before)
-    c.from_residual.ensures.1 c.in_err-effect.ensures.faults
-
-pub returns-in-Idle-clause-faults : goal.returns-in-Idle-clause-faults
-returns-in-Idle-clause-faults g c =
-    c.in_ok-effect.ensures.faults ∙ unfaulted-counts c.acknowledge_first.result (g.K.Store.view c.args.store.now).faults c.acknowledge_first.ensures.unfaulted
+pub returns-in-Idle-clause-part : goal.returns-in-Idle-clause-part
+returns-in-Idle-clause-part g c =
+    part-on (part-may (progress-may_call c.args.running.now.flow) (step-part refl c.in_ok-effect.ensures))
+    (c.acknowledge_first.ensures.stored (g.K.Store.view c.progress.new.store).records c.in_ok-effect.ensures.stored) c.acknowledge_first.ensures.flow
+    c.acknowledge_first.ensures.undamaged c.acknowledge_first.ensures.unfaulted

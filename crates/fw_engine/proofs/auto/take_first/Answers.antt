@@ -2,9 +2,9 @@ use Rattle.std.proofs.Common.{Ok, subst}
 use Rattle.fw_flow.specs.declared.step.Step.TheVariants.{Persist}
 use Rattle.fw_stands.proofs.TakingLaws.{writes-first}
 use Rattle.fw_running.specs.declared.stepped.Stepped.{Stepped}
-use Rattle.fw_running.specs.Steps.{TakesStep}
+use Rattle.fw_running.specs.Steps.{InnerAnswers, MayCallByItself, TakesStep}
+use Rattle.fw_running.proofs.StepLaws.{inner-part, part-of}
 use Rattle.fw_engine.specs.Searching.{NoneToPersist}
-use Rattle.fw_engine.proofs.QuietLaws.{quiet-later}
 use Rattle.fw_engine.proofs.TakenFirstLaws.{did-first, idle-later}
 use Rattle.fw_engine.proofs.auto.take_first.Goals as goal
 
@@ -28,9 +28,9 @@ returns-in-Idle-clause-takes g c = λ sys state s.
 pub deliver_first-requires-clause-stored : goal.deliver_first-requires-clause-stored
 deliver_first-requires-clause-stored g c = c.persist.ensures.stored (g.K.Store.view c.args.store.now).records c.requires.stored
 
-pub returns-in-Did-clause-stored : goal.returns-in-Did-clause-stored
-returns-in-Did-clause-stored g c = c.persist.ensures.stored (g.K.Store.view c.args.store.now).records c.requires.stored
+pub returns-in-Did-clause-part : goal.returns-in-Did-clause-part
+returns-in-Did-clause-part g c =
+    inner-part c.requires.stored (subst (λ (stepped : Stepped). InnerAnswers c.args.running.now Persist (Ok stepped) c.persist.new.running) c.in-Did.is c.persist.ensures)
 
-pub returns-in-Idle-clause-quiet : goal.returns-in-Idle-clause-quiet
-returns-in-Idle-clause-quiet g c = λ none.
-    c.deliver_first.ensures.quiet (quiet-later c.args.running.now.flow c.persist.new.running.flow c.persist.ensures.flow none)
+pub returns-in-Idle-clause-part : goal.returns-in-Idle-clause-part
+returns-in-Idle-clause-part g c = part-of MayCallByItself c.persist.ensures.flow c.deliver_first.ensures.part

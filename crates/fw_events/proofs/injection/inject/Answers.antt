@@ -2,22 +2,26 @@ use Rattle.std.proofs.Common.{◌≡◌, true, false, ap, refl, subst, sym, ◌�
 use Rattle.fw_flow.specs.Dataflow.{kind_of, is_input_kind}
 use Rattle.fw_keep.specs.Catalogue.{KeepState}
 use Rattle.fw_running.specs.Kept.{is_down, source_of}
+use Rattle.fw_running.proofs.StepLaws.{inner-ok}
 use Rattle.fw_events.specs.Taking.{FindsBatch}
 use Rattle.fw_events.proofs.InjectLaws.{injection-follows, none-injects}
 use Rattle.fw_events.proofs.injection.inject.Goals as goal
 
-pub returns-in_default-clause-takes : goal.returns-in_default-clause-takes
-returns-in_default-clause-takes c = λ records sys state s trust.
+pub returns-in_default : goal.returns-in_default
+returns-in_default c =
     let old = c.args.running.now in
     let live : is_down old c.args.source ≡ false = sym c.is_failed.ensures ∙ c.if-is_failed.false in
     let input : is_input_kind (kind_of old.flow c.args.source) ≡ true = ap is_input_kind (sym c.kind.ensures) ∙ sym c.is_input.ensures ∙ c.if-not-is_input.false in
-    none-injects sys old records state c.args.source s live input (subst (FindsBatch (source_of old c.args.source)) c.in_default.is c.in_ok-epoch.ensures)
+    inner-ok c.requires.shaped refl refl (λ records sys state s trust.
+    none-injects sys old records state c.args.source s live input (subst (FindsBatch (source_of old c.args.source)) c.in_default.is c.in_ok-epoch.ensures))
 
-pub returns-clause-takes : goal.returns-clause-takes
-returns-clause-takes c = λ records sys state s trust.
+pub returns : goal.returns
+returns c =
     let old = c.args.running.now in
     let live : is_down old c.args.source ≡ false = sym c.is_failed.ensures ∙ c.if-is_failed.false in
     let input : is_input_kind (kind_of old.flow c.args.source) ≡ true = ap is_input_kind (sym c.kind.ensures) ∙ sym c.is_input.ensures ∙ c.if-not-is_input.false in
     let next = subst (FindsBatch (source_of old c.args.source)) c.in-Some.is c.in_ok-epoch.ensures in
+    inner-ok c.in_ok-inject_batch.ensures.shaped c.inject_batch.ensures.keep c.inject_batch.ensures.flow
+    (λ records sys state s trust.
     injection-follows sys state c.args.source c.in-Some.epoch next.batch old c.inject_batch.new.running records records s live input next.next next.injected
-    c.in_ok-inject_batch.ensures.takes (record { entries = ap (λ (k : KeepState). k.entries) c.inject_batch.ensures.keep; records = refl })
+    c.in_ok-inject_batch.ensures.takes (record { entries = ap (λ (k : KeepState). k.entries) c.inject_batch.ensures.keep; records = refl }))

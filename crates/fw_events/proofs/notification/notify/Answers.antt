@@ -1,10 +1,11 @@
-use Rattle.std.proofs.Common.{◌≡◌, ◌<◌, true, false, Err, Ok, Option, ap, length, subst, sym, ◌∙◌}
-use Rattle.std.proofs.lemmas.Result.{err_from_is_err_and}
+use Rattle.std.proofs.Common.{◌≡◌, ◌<◌, true, false, Err, Ok, Option, ap, length, refl, subst, sym, ◌∙◌}
 use Rattle.std.specs.Option.{option_copied}
 use Rattle.fw_time.specs.Stamp.{Stamp}
 use Rattle.fw_flow.specs.Dataflow.{Dataflow, kind_of, is_notified_kind}
+use Rattle.fw_rollback.specs.declared.parts.Parts.{Parts}
 use Rattle.fw_running.specs.Kept.{is_down}
 use Rattle.fw_running.proofs.BroughtUpLaws.{brought_up_shaped}
+use Rattle.fw_running.proofs.StepLaws.{step-did, step-fails, step-idle, step-refused_first}
 use Rattle.fw_events.specs.Noticing.{FindsNotice}
 use Rattle.fw_events.proofs.NoticingLaws.{fault-answers, none_notified, notice_follows, notice-taken_up, notified_declared}
 use Rattle.fw_events.proofs.notification.notify.Goals as goal
@@ -15,14 +16,18 @@ find_notice-requires-clause-there g c =
     let kind : is_notified_kind (kind_of old.flow c.args.node) ≡ true = ap is_notified_kind (sym c.kind.ensures) ∙ sym c.is_notified.ensures ∙ c.if-not-is_notified.false in
     notified_declared old.flow c.args.node kind
 
-pub returns-in_default-clause-shaped : goal.returns-in_default-clause-shaped
-returns-in_default-clause-shaped g c = brought_up_shaped c.args.running.now c.find_notice.new.running c.requires.shaped c.in_ok-at.ensures.up
+pub returns-in_err-at : goal.returns-in_err-at
+returns-in_err-at g c =
+    step-refused_first refl c.requires.stored (ap (λ (parts : Parts). parts.keep) c.find_notice.ensures.parts) c.find_notice.ensures.flow c.from_residual.ensures.1
 
-pub returns-in_default-clause-takes : goal.returns-in_default-clause-takes
-returns-in_default-clause-takes g c = λ sys state s trust.
+pub returns-in_default : goal.returns-in_default
+returns-in_default g c =
     let old = c.args.running.now in
-    none_notified sys old c.find_notice.new.running (g.K.Store.view c.args.store.now).records state c.args.node (option_copied c.args.at) s c.in_ok-at.ensures.up
-    (subst (λ (found : Option Stamp). FindsNotice old.flow old.progress c.args.node (option_copied c.args.at) found) c.in_default.is c.in_ok-at.ensures.found)
+    let up = c.find_notice.new.running in
+    step-idle refl c.requires.stored (ap (λ (parts : Parts). parts.keep) c.find_notice.ensures.parts) c.find_notice.ensures.flow
+    (brought_up_shaped old up c.requires.shaped c.in_ok-at.ensures.up) (λ sys state s trust.
+    none_notified sys old up (g.K.Store.view c.args.store.now).records state c.args.node (option_copied c.args.at) s c.in_ok-at.ensures.up
+    (subst (λ (found : Option Stamp). FindsNotice old.flow old.progress c.args.node (option_copied c.args.at) found) c.in_default.is c.in_ok-at.ensures.found))
 
 pub notify_of-requires-clause-shaped : goal.notify_of-requires-clause-shaped
 notify_of-requires-clause-shaped g c = brought_up_shaped c.args.running.now c.find_notice.new.running c.requires.shaped c.in_ok-at.ensures.up
@@ -33,32 +38,36 @@ notify_of-requires-clause-there g c =
     let kind : is_notified_kind (kind_of old.flow c.args.node) ≡ true = ap is_notified_kind (sym c.kind.ensures) ∙ sym c.is_notified.ensures ∙ c.if-not-is_notified.false in
     subst (λ (f : Dataflow). c.args.node < length f.nodes) (sym c.find_notice.ensures.flow) (notified_declared old.flow c.args.node kind)
 
-pub returns-in_err-notify_of-clause-takes : goal.returns-in_err-notify_of-clause-takes
-returns-in_err-notify_of-clause-takes g c = λ sys state s.
+pub returns-in_err-notify_of : goal.returns-in_err-notify_of
+returns-in_err-notify_of g c =
     let old = c.args.running.now in
     let up = c.find_notice.new.running in
     let new = c.notify_of.new.running in
     let before = (g.K.Store.view c.args.store.now).records in
     let after = (g.K.Store.view c.notify_of.new.store).records in
+    let at = option_copied c.args.at in
     let t = c.in-Some.at in
     let e = c.in_err-notify_of.field-0.0 in
+    let heard = c.in_err-notify_of.ensures in
     let live : is_down old c.args.node ≡ false = sym c.is_failed.ensures ∙ c.if-is_failed.false in
-    let found = subst (λ (o : Option Stamp). FindsNotice old.flow old.progress c.args.node (option_copied c.args.at) o) c.in-Some.is c.in_ok-at.ensures.found in
-    let p = err_from_is_err_and c.from_residual-in_err-notify_of.result c.from_residual-in_err-notify_of.ensures.1 in
-    rw (p.1, p.2) (fault-answers (Unit {0}) sys state c.args.node t (option_copied c.args.at) e old new before after s live found
-    (notice-taken_up {T = Unit {0}} sys state c.args.node (option_copied c.args.at) t old up new before after (Err e) s live c.in_ok-at.ensures.up found
-    c.in_err-notify_of.ensures.takes))
+    let found = subst (λ (o : Option Stamp). FindsNotice old.flow old.progress c.args.node at o) c.in-Some.is c.in_ok-at.ensures.found in
+    step-fails refl c.find_notice.ensures.flow heard.part c.from_residual-in_err-notify_of.ensures.1 heard.shaped (λ sys state s.
+    fault-answers (Unit {0}) sys state c.args.node t at e old new before after s live found
+    (notice-taken_up {T = Unit {0}} sys state c.args.node at t old up new before after (Err e) s live c.in_ok-at.ensures.up found heard.takes))
 
-pub returns-clause-takes : goal.returns-clause-takes
-returns-clause-takes g c = λ sys state s trust.
+pub returns : goal.returns
+returns g c =
     let old = c.args.running.now in
     let up = c.find_notice.new.running in
     let new = c.notify_of.new.running in
     let before = (g.K.Store.view c.args.store.now).records in
     let after = (g.K.Store.view c.notify_of.new.store).records in
+    let at = option_copied c.args.at in
     let t = c.in-Some.at in
+    let heard = c.in_ok-notify_of.ensures in
     let live : is_down old c.args.node ≡ false = sym c.is_failed.ensures ∙ c.if-is_failed.false in
-    let found = subst (λ (o : Option Stamp). FindsNotice old.flow old.progress c.args.node (option_copied c.args.at) o) c.in-Some.is c.in_ok-at.ensures.found in
-    notice_follows sys state c.args.node (option_copied c.args.at) t old up new before after s live found
-    (notice-taken_up {T = Unit {0}} sys state c.args.node (option_copied c.args.at) t old up new before after (Ok c.in_ok-notify_of.field-0) s live
-    c.in_ok-at.ensures.up found c.in_ok-notify_of.ensures.takes)
+    let found = subst (λ (o : Option Stamp). FindsNotice old.flow old.progress c.args.node at o) c.in-Some.is c.in_ok-at.ensures.found in
+    step-did refl c.find_notice.ensures.flow heard.part refl refl heard.shaped (λ sys state s trust.
+    notice_follows sys state c.args.node at t old up new before after s live found
+    (notice-taken_up {T = Unit {0}} sys state c.args.node at t old up new before after (Ok c.in_ok-notify_of.field-0) s live c.in_ok-at.ensures.up found
+    heard.takes))

@@ -1,7 +1,8 @@
-use Rattle.std.proofs.Common.{sym, subst}
+use Rattle.std.proofs.Common.{sym, ap, subst, ◌∙◌}
 use Rattle.std.proofs.lemmas.List.{take_all}
 use Rattle.fw_keep.specs.Stored.{IsStored}
 use Rattle.fw_running.specs.declared.running.Running.{Running}
+use Rattle.fw_running.proofs.StepLaws.{inner-refused}
 use Rattle.fw_fail.proofs.FailLaws.{HaveFailed, failed_none, next_more, fail-takes}
 use Rattle.fw_fail.proofs.failure.fail.Goals as goal
 
@@ -16,11 +17,21 @@ loop-node-preserved c =
     next_more c.args.nodes.now c.loop-node.node-index c.node-item.result c.loop-node.any c.in_ok-any.field-0 c.args.running.now c.loop-node.running c.fail_if_live.new.running
     c.loop-node-test.true c.node-item.is c.loop-node.invariant c.in_ok-any.ensures.ok
 
-pub returns-in_err-any-clause-stored : goal.returns-in_err-any-clause-stored
-returns-in_err-any-clause-stored c = λ records held. subst (λ (r : Running). IsStored r.parts.keep records) (sym c.in_err-any.ensures.err) (c.loop-node.invariant.stored records held)
+pub returns-in_err-any : goal.returns-in_err-any
+returns-in_err-any c =
+    let h = c.loop-node.invariant in
+    inner-refused (λ records held. subst (λ (r : Running). IsStored r.parts.keep records) (sym c.in_err-any.ensures.err) (h.stored records held))
+    (ap (λ (r : Running). r.flow) c.in_err-any.ensures.err ∙ h.flow) c.from_residual.ensures.1
 
-pub returns-clause-takes : goal.returns-clause-takes
-returns-clause-takes c =
+pub returns : goal.returns
+returns c =
     let nodes = c.args.nodes.now in
     let failed = subst (λ ps. HaveFailed ps c.loop-node.any c.args.running.now c.loop-node.running) (take_all c.loop-node.node-index nodes c.loop-node-test.false) c.loop-node.invariant in
-    fail-takes nodes c.loop-node.any c.args.running.now c.loop-node.running c.silent_if.result failed c.silent_if.ensures
+    record {
+      shaped = failed.shaped;
+      stored = failed.stored;
+      flow = failed.flow;
+      takes = fail-takes nodes c.loop-node.any c.args.running.now c.loop-node.running c.silent_if.result failed c.silent_if.ensures;
+      unfaulted = λ e. cc;
+      undamaged = tt;
+    }

@@ -1,58 +1,66 @@
-use Rattle.std.proofs.Common.{Ok, Option, is_some, sym, ap, subst, ◌∙◌}
+use Rattle.std.proofs.Common.{Ok, Option, is_some, refl, sym, ap, subst, ◌∙◌}
 use Rattle.std.specs.List.{list_any}
 use Rattle.fw_flow.specs.declared.step.Step.TheVariants as steps
-use Rattle.fw_keep.specs.Stored.{Records}
+use Rattle.fw_keep.specs.Stored.{Records, IsStored}
+use Rattle.fw_rollback.specs.declared.parts.Parts.{Parts}
 use Rattle.fw_running.specs.declared.stepped.Effect.TheVariants.{Cuts}
 use Rattle.fw_running.specs.declared.stepped.Stepped.TheVariants.{Did}
+use Rattle.fw_running.specs.Faults.{fault_of}
+use Rattle.fw_running.specs.Shaped.{IsShaped}
 use Rattle.fw_running.specs.Steps.{TakesStep}
+use Rattle.fw_running.proofs.StepLaws.{fault-counts, recovery-answers, recovery-fails, recovery-refused}
 use Rattle.fw_recover.proofs.FollowedLaws.{followed-recovered, followed-shaped, queues-at_receivers}
 use Rattle.fw_recover.proofs.RecoverStepLaws.{recovery-done, recovery-shows, refused-damage, refused-stands, some-down}
 use Rattle.fw_recover.proofs.recovery.recover.Goals as goal
 
-pub returns-in_err-restore-clause-takes : goal.returns-in_err-restore-clause-takes
-returns-in_err-restore-clause-takes g c =
-    let some = some-down c.args.running.now.failed.items c.any_of.result (c.any_of.ensures ∙ ap (list_any (λ down. down)) c.deref.ensures.value) c.if-not-any_of.false in
-    refused-stands c.args.running.now c.restore.new.parts c.in_ok-choice.choice (g.K.Store.view c.args.store.now).records (g.K.Store.view c.restore.new.store).records
-    (g.K.Store.view c.restore.new.store).given c.in_err-restore.field-0.0 c.from_residual-in_err-restore.result c.requires.shaped some c.in_err-restore.ensures.kept c.restore.ensures.stays
-    c.from_residual-in_err-restore.ensures.1 c.in_err-restore.ensures.damaged
+pub returns-in_err-choice : goal.returns-in_err-choice
+returns-in_err-choice g c = recovery-refused c.from_residual.ensures.1 c.requires.stored refl refl refl
 
-pub returns-in_err-restore-clause-damaged : goal.returns-in_err-restore-clause-damaged
-returns-in_err-restore-clause-damaged g c =
-    refused-damage c.args.running.now c.in_ok-choice.choice (g.K.Store.view c.args.store.now).records (g.K.Store.view c.restore.new.store).given c.in_err-restore.field-0.0
-    c.from_residual-in_err-restore.result c.in_ok-choice.ensures.of_state c.from_residual-in_err-restore.ensures.1 c.in_err-restore.ensures.damaged
+pub returns-in_err-restore : goal.returns-in_err-restore
+returns-in_err-restore g c =
+    let old = c.args.running.now in
+    let choice = c.in_ok-choice.choice in
+    let before = g.K.Store.view c.args.store.now in
+    let after = g.K.Store.view c.restore.new.store in
+    let f = c.in_err-restore.field-0.0 in
+    let result = c.from_residual-in_err-restore.result in
+    let is = c.from_residual-in_err-restore.ensures.1 in
+    let restored = c.in_err-restore.ensures in
+    let some = some-down old.failed.items c.any_of.result (c.any_of.ensures ∙ ap (list_any (λ down. down)) c.deref.ensures.value) c.if-not-any_of.false in
+    recovery-fails (fault_of f) is
+    (subst (λ (parts : Parts). IsShaped (record old { parts = parts })) (sym restored.kept) c.requires.shaped) restored.stored refl
+    (refused-stands old c.restore.new.parts choice before.records after.records after.given f result c.requires.shaped some restored.kept restored.stays is
+    restored.damaged)
+    (restored.faults ∙ fault-counts f before.faults) (refused-damage old choice before.records after.given f result c.in_ok-choice.ensures.of_state is restored.damaged)
+    (ap (λ (r : Option Records). is_some r) restored.stays)
+
+pub returns-in_err-follow : goal.returns-in_err-follow
+returns-in_err-follow g c =
+    let restored = c.in_ok-restore.ensures in
+    recovery-refused c.from_residual-in_err-follow.ensures.1
+    (subst (λ (parts : Parts). IsStored parts.keep (g.K.Store.view c.restore.new.store).records) (sym c.follow.ensures.parts) restored.stored)
+    c.follow.ensures.flow restored.faults (ap (λ (r : Option Records). is_some r) restored.stays)
 
 pub follow-requires-clause-queues : goal.follow-requires-clause-queues
 follow-requires-clause-queues g c =
     queues-at_receivers c.in_ok-choice.choice (g.K.Store.view c.args.store.now).records c.args.running.now c.restore.new.parts c.requires.shaped c.in_ok-restore.ensures.restored
     c.restore.ensures.each
 
-pub returns-clause-shaped : goal.returns-clause-shaped
-returns-clause-shaped g c =
-    followed-shaped c.in_ok-choice.choice (g.K.Store.view c.args.store.now).records c.args.running.now c.follow.new.running c.restore.new.parts c.requires.shaped
-    c.in_ok-restore.ensures.restored c.restore.ensures.each c.in_ok-follow.ensures.followed c.follow.ensures.flow c.follow.ensures.parts
-
-pub returns-clause-takes : goal.returns-clause-takes
-returns-clause-takes g c =
+pub returns : goal.returns
+returns g c =
+    let old = c.args.running.now in
+    let choice = c.in_ok-choice.choice in
     let records = (g.K.Store.view c.args.store.now).records in
-    let made = followed-recovered c.in_ok-choice.choice records c.args.running.now c.follow.new.running c.restore.new.parts c.in_ok-restore.ensures.restored
-    c.in_ok-follow.ensures.followed c.follow.ensures.flow c.follow.ensures.parts in
-    let some = some-down c.args.running.now.failed.items c.any_of.result (c.any_of.ensures ∙ ap (list_any (λ down. down)) c.deref.ensures.value) c.if-not-any_of.false in
-    subst (TakesStep c.args.running.now records steps.Recover (Ok (Did (Cuts c.in_ok-choice.choice))) c.follow.new.running) (sym c.restore.ensures.stays)
-    (recovery-done c.args.running.now c.follow.new.running records c.in_ok-choice.choice c.requires.shaped some c.in_ok-choice.ensures.of_state made)
-
-pub returns-in_err-restore-clause-tells : goal.returns-in_err-restore-clause-tells
-returns-in_err-restore-clause-tells g c = ap (λ (r : Option Records). is_some r) c.restore.ensures.stays
-
-pub returns-in_err-follow-clause-tells : goal.returns-in_err-follow-clause-tells
-returns-in_err-follow-clause-tells g c = ap (λ (r : Option Records). is_some r) c.restore.ensures.stays
-
-pub returns-clause-tells : goal.returns-clause-tells
-returns-clause-tells g c = ap (λ (r : Option Records). is_some r) c.restore.ensures.stays
-
-pub returns-clause-shows : goal.returns-clause-shows
-returns-clause-shows g c =
-    let records = (g.K.Store.view c.args.store.now).records in
-    let made = followed-recovered c.in_ok-choice.choice records c.args.running.now c.follow.new.running c.restore.new.parts c.in_ok-restore.ensures.restored
-    c.in_ok-follow.ensures.followed c.follow.ensures.flow c.follow.ensures.parts in
-    let some = some-down c.args.running.now.failed.items c.any_of.result (c.any_of.ensures ∙ ap (list_any (λ down. down)) c.deref.ensures.value) c.if-not-any_of.false in
-    recovery-shows c.args.running.now c.follow.new.running records c.in_ok-choice.choice c.requires.shaped some c.in_ok-choice.ensures.of_state made
+    let restored = c.in_ok-restore.ensures in
+    let followed = c.in_ok-follow.ensures in
+    let made = followed-recovered choice records old c.follow.new.running c.restore.new.parts restored.restored followed.followed followed.flow followed.parts in
+    let some = some-down old.failed.items c.any_of.result (c.any_of.ensures ∙ ap (list_any (λ down. down)) c.deref.ensures.value) c.if-not-any_of.false in
+    let of_state = c.in_ok-choice.ensures.of_state in
+    recovery-answers
+    (followed-shaped choice records old c.follow.new.running c.restore.new.parts c.requires.shaped restored.restored restored.each followed.followed followed.flow
+    followed.parts)
+    (subst (λ (parts : Parts). IsStored parts.keep (g.K.Store.view c.restore.new.store).records) (sym followed.parts) restored.stored) followed.flow
+    (subst (TakesStep old records steps.Recover (Ok (Did (Cuts choice))) c.follow.new.running) (sym restored.stays)
+    (recovery-done old c.follow.new.running records choice c.requires.shaped some of_state made))
+    (recovery-shows old c.follow.new.running records choice c.requires.shaped some of_state made) restored.faults (λ id e. absurd (cc))
+    (ap (λ (r : Option Records). is_some r) restored.stays) (λ i. absurd (cc))

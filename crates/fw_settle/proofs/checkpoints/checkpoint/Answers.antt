@@ -1,21 +1,26 @@
-use Rattle.std.proofs.Common.{◌≡◌, [], length, arith, rules, sym, ap, subst, ◌∙◌, Err}
+use Rattle.std.proofs.Common.{◌≡◌, [], length, arith, refl, sym, ap, subst, ◌∙◌, Err}
 use Rattle.std.proofs.lemmas.Bool.{both_ways}
 use Rattle.fw_frontier.specs.Front.{Front, IsCanonical}
 use Rattle.fw_flow.specs.declared.step.Step.TheVariants.{Checkpoint}
 use Rattle.fw_flow.specs.Dataflow.{bounds_of}
 use Rattle.fw_model.specs.Machine.{front_of}
 use Rattle.fw_progress.proofs.TargetLaws.{read_at}
-use Rattle.fw_running.specs.Steps.{Answers}
 use Rattle.fw_running.proofs.AnswerLaws.{left-answers}
 use Rattle.fw_running.proofs.SameStateLaws.{unasked-stands}
+use Rattle.fw_running.proofs.StepLaws.{stays-shaped, step-did, step-fails, step-idle, step-refused_first}
+use Rattle.fw_settle.proofs.AskLaws.{asking-part}
 use Rattle.fw_settle.specs.Checkpoints.{AsksCheckpoint}
 use Rattle.fw_settle.proofs.WritesLaws.{checkpoint-enabled, may-follows, may_not-idle, may-there}
 use Rattle.fw_settle.proofs.checkpoints.checkpoint.Goals as goal
 
-pub returns-then-not-may_take-clause-takes : goal.returns-then-not-may_take-clause-takes
-returns-then-not-may_take-clause-takes g c = λ sys state s trust.
+pub returns-then-not-may_take : goal.returns-then-not-may_take
+returns-then-not-may_take g c =
+    step-idle refl c.requires.stored refl refl c.requires.shaped (λ sys state s trust.
     may_not-idle sys state c.args.running.now (g.K.Store.view c.args.store.now).records s c.args.node
-    (λ m. both_ways c.may_take.result c.if-not-may_take.true (c.may_take.ensures.1 m))
+    (λ m. both_ways c.may_take.result c.if-not-may_take.true (c.may_take.ensures.1 m)))
+
+pub returns-in_err-front : goal.returns-in_err-front
+returns-in_err-front g c = step-refused_first refl c.requires.stored refl refl c.from_residual.ensures.1
 
 pub bounds-settled-place : goal.bounds-settled-place
 bounds-settled-place g c =
@@ -38,30 +43,36 @@ ask_checkpoint-requires-clause-front g c =
     (read_at c.settled.result.now c.args.node c.place.result c.index-settled-place.result [] c.place.ensures (omega (arith, there, each, long, c.place.ensures)) c.index-settled-place.is) in
     subst (IsCanonical (bounds_of running.flow c.args.node)) (sym (c.in_ok-front.ensures ∙ here)) (c.requires.shaped.progress.settled c.args.node)
 
-pub returns-in_err-ask_checkpoint-clause-takes : goal.returns-in_err-ask_checkpoint-clause-takes
-returns-in_err-ask_checkpoint-clause-takes g c = λ sys state s.
+pub returns-in_err-ask_checkpoint : goal.returns-in_err-ask_checkpoint
+returns-in_err-ask_checkpoint g c =
     let old = c.args.running.now in
     let new = c.ask_checkpoint.new.running in
     let before = (g.K.Store.view c.args.store.now).records in
     let after = (g.K.Store.view c.ask_checkpoint.new.store).records in
-    let is : c.from_residual-in_err-ask_checkpoint.result ≡ Err c.in_err-ask_checkpoint.field-0.0 = search rules in
-    subst (λ r. Answers sys state (Checkpoint c.args.node) r before new after) (sym is)
-    (left-answers (Unit {0}) sys state (Checkpoint c.args.node) c.in_err-ask_checkpoint.field-0.0 new before after c.in_err-ask_checkpoint.ensures.undamaged (
-      checkpoint-enabled sys state old before s c.args.node (c.may_take.ensures.0 c.if-not-may_take.false),
-      unasked-stands sys old new before after state s c.ask_checkpoint.ensures.others c.in_err-ask_checkpoint.ensures.stays,
+    let may = c.may_take.ensures.0 c.if-not-may_take.false in
+    let asked = c.in_err-ask_checkpoint.ensures in
+    let e = c.in_err-ask_checkpoint.field-0.0 in
+    step-fails refl refl (asking-part may.asks asked.others asked.stored asked.faults asked.undamaged asked.tells) c.from_residual-in_err-ask_checkpoint.ensures.1
+    (stays-shaped {T = Unit {0}} (Err e) new asked.shaped) (λ sys state s.
+    left-answers (Unit {0}) sys state (Checkpoint c.args.node) e new before after asked.undamaged (
+      checkpoint-enabled sys state old before s c.args.node may,
+      unasked-stands sys old new before after state s asked.others asked.stays,
     ))
 
-pub returns-clause-takes : goal.returns-clause-takes
-returns-clause-takes g c = λ sys state s trust.
+pub returns : goal.returns
+returns g c =
     let old = c.args.running.now in
     let new = c.ask_checkpoint.new.running in
     let before = (g.K.Store.view c.args.store.now).records in
     let after = (g.K.Store.view c.ask_checkpoint.new.store).records in
-    let there = may-there old c.args.node (c.may_take.ensures.0 c.if-not-may_take.false) in
+    let may = c.may_take.ensures.0 c.if-not-may_take.false in
+    let asked = c.in_ok-ask_checkpoint.ensures in
+    let there = may-there old c.args.node may in
     let each = c.requires.shaped.progress.settled_each in
     let long = ap length c.settled.ensures in
     let here : c.index-settled-place.result ≡ front_of old.progress.settled c.args.node =
     subst (λ fs. c.index-settled-place.result ≡ front_of fs c.args.node) c.settled.ensures
     (read_at c.settled.result.now c.args.node c.place.result c.index-settled-place.result [] c.place.ensures (omega (arith, there, each, long, c.place.ensures)) c.index-settled-place.is) in
-    may-follows sys state old new before after s c.ask_checkpoint.ensures.others c.args.node (c.may_take.ensures.0 c.if-not-may_take.false)
-    (subst (λ (f : Front). AsksCheckpoint c.args.node f old new before after) (c.in_ok-front.ensures ∙ here) c.in_ok-ask_checkpoint.ensures.asked)
+    step-did refl refl (asking-part may.asks asked.others asked.stored asked.faults asked.undamaged asked.tells) refl refl asked.shaped (λ sys state s trust.
+    may-follows sys state old new before after s asked.others c.args.node may
+    (subst (λ (f : Front). AsksCheckpoint c.args.node f old new before after) (c.in_ok-front.ensures ∙ here) asked.asked))

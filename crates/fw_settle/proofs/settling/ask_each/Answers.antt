@@ -1,4 +1,8 @@
-use Rattle.std.proofs.Common.{◌≡◌, ◌+◌, rules, Some, None, Err, refl, sym, subst, ◌∙◌}
+use Rattle.std.proofs.Common.{◌≡◌, ◌+◌, rules, Some, None, Err, ap, refl, subst, ◌∙◌}
+use Rattle.fw_running.specs.declared.running.Running.{Running}
+use Rattle.fw_running.specs.Faults.{faults_after}
+use Rattle.fw_running.specs.Steps.{HasEager, PartAnswers}
+use Rattle.fw_running.proofs.StepLaws.{part-err}
 use Rattle.fw_settle.specs.Settling.{IsFoundToSettle}
 use Rattle.fw_settle.proofs.SearchLaws.{HaveAskedUpTo, asking-first, asking-next, asking-all, has_eager, keep-both}
 use Rattle.fw_settle.proofs.settling.ask_each.Goals as goal
@@ -27,13 +31,13 @@ loop-next-preserved g c =
     record {
       others = keep-both old mid new c.loop-next.invariant.others c.ask_if_eager.ensures.others;
       shaped = c.ask_if_eager.ensures.shaped;
-      stored = c.ask_if_eager.ensures.stored;
+      stored = c.ask_if_eager.ensures.part.stored;
       asked = asking-next old mid new before between after node c.grown_from-next-in-Some.result c.loop-next.invariant.others
           (subst (HaveAskedUpTo old mid before between) next c.loop-next.invariant.asked) c.in_ok-ask_if_eager.ensures.asked
           (subst (λ n. IsFoundToSettle new (n + 1) c.grown_from-next-in-Some.result) c.place.ensures c.grown_from-next-in-Some.ensures);
-      tells = c.ask_if_eager.ensures.tells ∙ c.loop-next.invariant.tells;
-      quiet = λ none. c.ask_if_eager.ensures.quiet (λ is. none (has_eager old mid node c.loop-next.invariant.others is)) ∙ c.loop-next.invariant.quiet none;
-      faults = c.in_ok-ask_if_eager.ensures.faults ∙ c.loop-next.invariant.faults;
+      tells = c.ask_if_eager.ensures.part.tells ∙ c.loop-next.invariant.tells;
+      quiet = λ none. c.ask_if_eager.ensures.part.quiet (λ is. none (has_eager old mid node c.loop-next.invariant.others is)) ∙ c.loop-next.invariant.quiet none;
+      faults = c.in_ok-ask_if_eager.ensures.part.faults ∙ c.loop-next.invariant.faults;
     }
 
 pub returns-clause-asked : goal.returns-clause-asked
@@ -45,15 +49,19 @@ returns-clause-asked g c =
     asking-all old c.loop-next.running before after c.loop-next.invariant.others
     (subst (HaveAskedUpTo old c.loop-next.running before after) next c.loop-next.invariant.asked)
 
-pub returns-in_err-ask_if_eager-clause-tells : goal.returns-in_err-ask_if_eager-clause-tells
-returns-in_err-ask_if_eager-clause-tells g c = c.ask_if_eager.ensures.tells ∙ c.loop-next.invariant.tells
-
-pub returns-in_err-ask_if_eager-clause-calls : goal.returns-in_err-ask_if_eager-clause-calls
-returns-in_err-ask_if_eager-clause-calls g c = λ e.
-    let is : c.from_residual.result ≡ Err c.in_err-ask_if_eager.field-0.0 = search rules in
-    has_eager c.args.running.now c.loop-next.running c.in-Some.node c.loop-next.invariant.others (c.in_err-ask_if_eager.ensures.calls (sym is ∙ e))
-
-pub returns-in_err-ask_if_eager-clause-quiet : goal.returns-in_err-ask_if_eager-clause-quiet
-returns-in_err-ask_if_eager-clause-quiet g c = λ none.
-    c.ask_if_eager.ensures.quiet (λ is. none (has_eager c.args.running.now c.loop-next.running c.in-Some.node c.loop-next.invariant.others is))
-    ∙ c.loop-next.invariant.quiet none
+pub returns-in_err-ask_if_eager-clause-part : goal.returns-in_err-ask_if_eager-clause-part
+returns-in_err-ask_if_eager-clause-part g c =
+    let h = c.loop-next.invariant in
+    let part = c.in_err-ask_if_eager.ensures.part in
+    let eager = has_eager c.args.running.now c.loop-next.running c.in-Some.node h.others in
+    let all : PartAnswers {T = Unit {0}} g.K.Store.view (HasEager c.args.running.now.flow) c.args.running.now c.args.store.now (Err c.in_err-ask_if_eager.field-0.0)
+    c.ask_if_eager.new.running c.ask_if_eager.new.store = record {
+      stored = part.stored;
+      flow = part.flow ∙ ap (λ (r : Running). r.flow) h.others;
+      faults = part.faults ∙ ap (faults_after {T = Unit {0}} (Err c.in_err-ask_if_eager.field-0.0)) h.faults;
+      calls = λ f. eager (part.calls f);
+      undamaged = part.undamaged;
+      tells = part.tells ∙ h.tells;
+      quiet = λ none. part.quiet (λ is. none (eager is)) ∙ h.quiet none;
+    } in
+    part-err all c.from_residual.ensures.1

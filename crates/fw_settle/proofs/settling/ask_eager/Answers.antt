@@ -1,4 +1,5 @@
 use Rattle.std.proofs.Common.{length, sym, ap, ◌∙◌}
+use Rattle.fw_running.specs.declared.running.Running.{Running}
 use Rattle.fw_settle.specs.Settling.{KeepsEntries}
 use Rattle.fw_settle.proofs.AskLaws.{kept-withdrawn}
 use Rattle.fw_settle.proofs.SearchLaws.{keep-both}
@@ -22,5 +23,15 @@ returns-in-Err-clause-shaped g c =
     (λ first more is l fly. c.withdraw_from.ensures.withdrawn first more is (l ∙ sym (ap length c.entries-count.ensures.all)) fly) in
     shaped-same old new c.requires.shaped (keep-both old mid new c.ask_each.ensures.others c.withdraw_from.ensures.others) kept.entries
 
-pub returns-in-Err-clause-stored : goal.returns-in-Err-clause-stored
-returns-in-Err-clause-stored g c = c.withdraw_from.ensures.stored (g.K.Store.view c.ask_each.new.store).records c.ask_each.ensures.stored
+pub returns-in-Err-clause-part : goal.returns-in-Err-clause-part
+returns-in-Err-clause-part g c =
+    let part = c.in-Err.ensures.part in
+    record {
+      stored = c.withdraw_from.ensures.stored (g.K.Store.view c.ask_each.new.store).records part.stored;
+      flow = ap (λ (r : Running). r.flow) c.withdraw_from.ensures.others ∙ part.flow;
+      faults = part.faults;
+      calls = part.calls;
+      undamaged = part.undamaged;
+      tells = part.tells;
+      quiet = part.quiet;
+    }

@@ -1,0 +1,118 @@
+-- What an engine answers, from what its step does.
+use Rattle.std.proofs.Common.{◌≡◌, true, false, Result, Ok, Err, refl, subst}
+use Rattle.fw_flow.specs.declared.step.Step.{Step}
+use Rattle.fw_keep.specs.Catalogue.{AreAscending, ids_of}
+use Rattle.fw_keep.specs.Stored.{IsStored}
+use Rattle.fw_outside.specs.Outside.{StoreView}
+use Rattle.fw_running.specs.declared.fault.EngineFault.{EngineFault}
+use Rattle.fw_running.specs.declared.fault.EngineFault.TheVariants as fault
+use Rattle.fw_running.specs.declared.stepped.Stepped.{Stepped}
+use Rattle.fw_running.specs.declared.stepped.Stepped.TheVariants.{Idle}
+use Rattle.fw_running.specs.Faults.{is_refusal}
+use Rattle.fw_running.specs.Steps.{IsStepEnabled, MayCallByItself, PartAnswers, StepAnswers, TakesFirstStep}
+use Rattle.fw_running.proofs.AnswerLaws.{refused-after, taken, shown, left, unharmed, first-taken, first-left, no_damage}
+use Rattle.fw_engine.specs.declared.engine.Engine.{Engine}
+use Rattle.fw_engine.specs.Engine.{keep_of, was_refused, EngineAnswers, FirstAnswers}
+
+-- ---- a step
+
+pub step-answered : {K : Type 0} {view : K → StoreView} {old new : Engine} {before after : K} {step : Step} {result : Result Stepped EngineFault}
+    → was_refused old ≡ false → AreAscending (ids_of (keep_of new).entries) → was_refused new ≡ is_refusal result
+    → StepAnswers view old.running before step result new.running after → EngineAnswers view old before step result new after
+step-answered {K} {view} {old} {new} {before} {after} {step} {result} live ascending told a =
+    let records = (view before).records in
+    let left_over = (view after).records in
+    record {
+      stored = a.stored;
+      flow = a.flow;
+      in_order = ascending;
+      ok = taken old.running records step result new.running left_over a.takes;
+      shows = shown old.running records step result new.running left_over a.takes a.shows;
+      swept = a.swept;
+      tells = a.tells;
+      quiet = a.quiet;
+      idle = a.idle;
+      faults = a.faults;
+      calls = a.calls;
+      faulted = left old.running records step result new.running left_over a.takes;
+      damaged = a.damaged;
+      in_recovery = a.in_recovery;
+      unharmed = λ id sys state s e.
+          let u = unharmed old.running records step result new.running left_over id a.takes sys state s e in
+          (u.0, subst (λ step. IsStepEnabled sys state step) (a.in_recovery id e) u.1, u.2);
+      refused = refused-after result (was_refused new) told;
+      told = told;
+      stays = λ r. absurd (cc);
+    }
+
+-- where memory was refused before, nothing is done
+pub step-refused : {K : Type 0} {view : K → StoreView} {engine : Engine} {store : K} {step : Step} → was_refused engine ≡ true
+    → IsStored (keep_of engine) (view store).records → AreAscending (ids_of (keep_of engine).entries)
+    → EngineAnswers view engine store step (Err fault.NoMemory) engine store
+step-refused refused stored ascending = record {
+  stored = stored;
+  flow = refl;
+  in_order = ascending;
+  ok = λ sys state s trust. tt;
+  shows = λ sys state s. tt;
+  swept = λ is. tt;
+  tells = refl;
+  quiet = λ none. refl;
+  idle = λ other is. refl;
+  faults = refl;
+  calls = λ e. absurd (cc);
+  faulted = λ sys state s e. absurd (cc);
+  damaged = λ id e. absurd (cc);
+  in_recovery = λ id e. absurd (cc);
+  unharmed = λ id sys state s e. absurd (cc);
+  refused = λ e. refused;
+  told = refused;
+  stays = λ r. refl;
+}
+
+-- ---- the first step that is enabled
+
+pub first-answered : {K : Type 0} {view : K → StoreView} {old new : Engine} {before after : K} {result : Result Stepped EngineFault}
+    → was_refused old ≡ false → AreAscending (ids_of (keep_of new).entries) → was_refused new ≡ is_refusal result
+    → TakesFirstStep old.running (view before).records result new.running (view after).records
+    → PartAnswers view (MayCallByItself old.running.flow) old.running before result new.running after → (result ≡ Ok Idle → after ≡ before)
+    → FirstAnswers view old before result new after
+first-answered {K} {view} {old} {new} {before} {after} {result} live ascending told takes part idle =
+    let records = (view before).records in
+    let left_over = (view after).records in
+    record {
+      stored = part.stored;
+      flow = part.flow;
+      in_order = ascending;
+      ok = first-taken old.running records result new.running left_over takes;
+      tells = part.tells;
+      quiet = part.quiet;
+      idle = idle;
+      faults = part.faults;
+      calls = λ sys state s e. (first-left old.running records result new.running left_over takes sys state s e).0;
+      faulted = λ sys state s e. (first-left old.running records result new.running left_over takes sys state s e).1;
+      unharmed = λ id. no_damage result id part.undamaged;
+      refused = refused-after result (was_refused new) told;
+      told = told;
+      stays = λ r. absurd (cc);
+    }
+
+pub first-refused : {K : Type 0} {view : K → StoreView} {engine : Engine} {store : K} → was_refused engine ≡ true
+    → IsStored (keep_of engine) (view store).records → AreAscending (ids_of (keep_of engine).entries)
+    → FirstAnswers view engine store (Err fault.NoMemory) engine store
+first-refused refused stored ascending = record {
+  stored = stored;
+  flow = refl;
+  in_order = ascending;
+  ok = λ sys state s. tt;
+  tells = refl;
+  quiet = λ none. refl;
+  idle = λ is. refl;
+  faults = refl;
+  calls = λ sys state s e. absurd (cc);
+  faulted = λ sys state s e. absurd (cc);
+  unharmed = λ id e. cc;
+  refused = λ e. refused;
+  told = refused;
+  stays = λ r. refl;
+}

@@ -3,6 +3,7 @@ pub mod Applied
 pub mod Collected
 pub mod Flows
 pub mod Generated
+pub mod Headline
 pub mod InTurn
 pub mod Inclusions
 pub mod KindsSend

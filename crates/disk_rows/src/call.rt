@@ -99,9 +99,9 @@ fn got<R: Files<File = File>>(
 }
 
 /// What becomes of records without bytes that are put and removed under so many ids, up to the first refusal.
-fn many<K: Store>(
+fn many<R: Files<File = File>>(
     alloc: Global,
-    store: &mut K,
+    store: &mut DiskStore<'_, R>,
     first: u64,
     count: u64,
 ) -> Result<String, NoAnswer> {

@@ -82,14 +82,17 @@ fn tell_bytes(
     bytes: &[u8],
     told: &mut String,
 ) -> Result<bool, AllocError> {
-    match decode(alloc, bytes) {
-        Ok(Record::State(checkpoint)) => tell_checkpoint(alloc, flow, &checkpoint, told)?,
-        Ok(Record::Event { node, event }) => tell_event(alloc, flow, node, &event, told)?,
+    let record = match decode(alloc, bytes) {
+        Ok(record) => record,
         Err(RecordFault::BadRecord { at }) => {
             told.push_str(&format!(in alloc; "no record: field at byte {at}")?)?;
             return Ok(false);
         }
         Err(RecordFault::NoMemory) => return Err(AllocError),
+    };
+    match &record {
+        Record::State(checkpoint) => tell_checkpoint(alloc, flow, checkpoint, told)?,
+        Record::Event { node, event } => tell_event(alloc, flow, *node, event, told)?,
     }
     let bytes = bytes.len();
     told.push_str(&format!(in alloc; " bytes {bytes}")?)?;

@@ -1,0 +1,56 @@
+-- Where nothing more can come, and where all that is denoted at an output is acknowledged.
+use Rattle.std.specs.Prelude.{◌≡◌, ℕ, ◌<◌, false, List, [], ◌∷◌, length}
+use Rattle.std.specs.List.{AllByRecursion}
+use Rattle.fw_time.specs.Stamp.{Stamp}
+use Rattle.fw_flow.specs.declared.event.Event.{Event}
+use Rattle.fw_flow.specs.declared.kind.Kind.TheVariants.{OutputEpoch}
+use Rattle.fw_flow.specs.declared.step.Step.{Step}
+use Rattle.fw_flow.specs.declared.step.Step.TheVariants.{Recover}
+use Rattle.fw_flow.specs.Dataflow.{System, kind_of, receiver}
+use Rattle.fw_flow.specs.WholeBags.{Timed}
+use Rattle.fw_model.specs.Auto.{AreIdle, IsAutoRun, auto_steps}
+use Rattle.fw_model.specs.Denotation.{Family, bag_at}
+use Rattle.fw_model.specs.History.{IsEnabled}
+use Rattle.fw_model.specs.Machine.{Machine, is_failed, ack_count_of}
+use Rattle.fw_model.specs.Acknowledgements.{Shows}
+use Rattle.fw_model.specs.Steps.{Outcome, HasEpoch, StepsTo, Run}
+use Rattle.fw_rest.specs.StepsToRest.{stamps_due}
+
+-- no event may come
+abbrev pub IsAtRest : System → List Event → Type 0
+IsAtRest sys h = (v : Event) → IsEnabled sys h v → ⊥
+
+-- no node is failed
+abbrev pub AreAllLive : System → Machine → Type 0
+AreAllLive sys state = (p : ℕ) → p < length sys.flow.nodes → is_failed state p ≡ false
+
+-- `auto` has nothing to do
+abbrev pub HasNothingToDo : System → Machine → Type 0
+HasNothingToDo sys state = AreIdle sys state (auto_steps sys.flow)
+
+-- the stamp is one of the first so many epochs or numbers, which an output acknowledged
+abbrev pub IsAcknowledged : ℕ → Stamp → Type 0
+IsAcknowledged count t = (x : ℕ) × (x < count) × (t ≡ x ∷ [])
+
+-- Output o acknowledged all that is denoted at it: the stamp of each rec that the family has on its in-edge, and if it is an output
+-- of epochs, each epoch of which some node has a batch; just as many stamps as are due.
+pub record HasAcknowledgedAll (sys : System) (family : Family) (state : Machine) (o : ℕ) : Type 0 where
+  pub recs : (e : ℕ) → receiver sys.flow e ≡ o → AllByRecursion (λ (r : Timed). IsAcknowledged (ack_count_of state o) r.at) (family e)
+  pub batches : kind_of sys.flow o ≡ OutputEpoch → (x : ℕ) → HasEpoch sys.batches x → x < ack_count_of state o
+  pub count : ack_count_of state o ≡ stamps_due sys family o
+
+-- Of these outcomes one shows what is denoted at each stamp of output o: at that of each rec that the family has on its in-edge, and if
+-- it is an output of epochs, at each epoch of which some node has a batch.
+pub record HasShownAll (sys : System) (family : Family) (outcomes : List Outcome) (o : ℕ) : Type 0 where
+  pub recs : (e : ℕ) → receiver sys.flow e ≡ o → AllByRecursion (λ (r : Timed). Shows o r.at (bag_at family e r.at) outcomes) (family e)
+  pub batches : kind_of sys.flow o ≡ OutputEpoch → (e : ℕ) → receiver sys.flow e ≡ o → (x : ℕ) → HasEpoch sys.batches x
+      → Shows o (x ∷ []) (bag_at family e (x ∷ [])) outcomes
+
+-- From a state a recovery is taken, enabled or not, and then the steps that `auto` takes, at most so many, with these outcomes.
+pub record RecoversAndGoesOn (sys : System) (state : Machine) (most : ℕ) (outcomes : List Outcome) (last : Machine) : Type 0 where
+  pub recovered : Machine
+  pub recovery : Outcome
+  pub recovers : StepsTo sys state Recover recovered recovery
+  pub steps : List Step
+  pub taken : IsAutoRun sys recovered most steps last
+  pub runs : Run sys state (Recover ∷ steps) outcomes last

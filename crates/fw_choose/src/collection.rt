@@ -1,5 +1,5 @@
 //! The step of a collection.
-ghost use Rattle.std.specs.Prelude.{◌≡◌, ◌↔◌, ◌<◌, ◌≢◌, ℕ, false, [], length, Option, Ok, is_some, IsTrue, IfOk, OnOk};
+ghost use Rattle.std.specs.Prelude.{◌≡◌, ◌↔◌, ◌<◌, ◌≢◌, ℕ, false, length, Option, Ok, IsTrue, IfOk, OnOk};
 ghost use Rattle.fw_collect.specs.Drops.{watermark};
 ghost use Rattle.fw_collect.specs.Dropped.{log_outside};
 ghost use Rattle.fw_flow.specs.declared.step.Step.TheVariants as steps;

@@ -39,14 +39,14 @@ input_settled : OneMoreSettles → AreSettledBefore (until 4 ∷ until 2 ∷ unt
 unfolding kind_of bounds_of
 input_settled law =
     law total_flow unsettled.failed unsettled.settled complete_fronts (alike 2) 0 0 (until 4) (lit≤ tt) (lit< tt) (λ p l m. absurd (omega (arith, l, m))) refl
-    (refl, record { canonical = canonical_by _ (until 4) refl; same = join_by _ _ (until_more _ 2 4 (lit≤ tt)) })
+    (refl, record { canonical = canonical_by _ (until 4) refl; same = join_by _ _ (until_more (bounds_of total_flow 0) 2 4 (lit≤ tt)) })
     (none_settled-first total_flow unsettled.failed unsettled.settled complete_fronts)
 
 total_settled : OneMoreSettles → AreSettledBefore complete_fronts 2
 unfolding kind_of bounds_of
 total_settled law =
     law total_flow unsettled.failed unsettled.settled complete_fronts (until 4 ∷ until 2 ∷ until 2 ∷ []) 1 1 (until 3) (lit≤ tt) (lit< tt) (λ p l m. absurd (omega (arith, l, m))) refl
-    (refl, record { canonical = canonical_by _ (until 3) refl; same = join_by _ _ (until_more _ 2 3 (lit≤ tt)) }) (input_settled law)
+    (refl, record { canonical = canonical_by _ (until 3) refl; same = join_by _ _ (until_more (bounds_of total_flow 1) 2 3 (lit≤ tt)) }) (input_settled law)
 
 -- the output failed
 nothing_at_output : NoneGrows unsettled.failed unsettled.settled complete_fronts 2 3

@@ -1,5 +1,5 @@
 -- The runs of the running total, and what is chosen in them.
-use Rattle.std.proofs.Common.{Bool, List, None, Some, [], drop, lit<, refl, replicate, true, ℕ, ◌++◌, ◌<◌, ◌∷◌, ◌≡◌}
+use Rattle.std.proofs.Common.{Bool, false, List, None, Some, [], drop, lit<, refl, replicate, true, ℕ, ◌++◌, ◌<◌, ◌∷◌, ◌≡◌}
 use Rattle.fw_time.specs.declared.stamp.Bounds.{Bounds}
 use Rattle.fw_frontier.specs.Front.{IsFrontOf, frontier_of}
 use Rattle.fw_frontier.specs.Frontier.{join}

@@ -1,5 +1,5 @@
 //! The step of a recovery.
-ghost use Rattle.std.specs.Prelude.{◌≡◌, ℕ, Ok, IsErrOf, OnOk, is_some};
+ghost use Rattle.std.specs.Prelude.{◌≡◌, OnOk};
 ghost use Rattle.std.specs.List.{list_any};
 ghost use Rattle.fw_flow.specs.declared.step.Step.TheVariants as steps;
 ghost use Rattle.fw_keep.specs.Stored.{IsStored};

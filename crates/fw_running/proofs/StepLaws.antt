@@ -1,5 +1,5 @@
 -- The whole answer of a step, from those of its parts.
-use Rattle.std.proofs.Common.{◌≡◌, ◌≢◌, ℕ, Bool, true, false, List, [], Option, Result, Ok, Err, refl, subst, sym, ap, ◌∙◌}
+use Rattle.std.proofs.Common.{◌≡◌, ℕ, Bool, true, false, [], Option, Result, Ok, Err, refl, subst, sym, ap, ◌∙◌}
 use Rattle.std.proofs.lemmas.Result.{err_from_is_err_and}
 use Rattle.std.specs.Prelude.{IsErrOf, OnOk, is_some}
 use Rattle.std.specs.Result.{IsErrAnd}
@@ -26,22 +26,31 @@ use Rattle.fw_running.proofs.AnswerLaws.{no_damage}
 -- ---- faults
 
 -- as often as before, after a step that does not call the store
-pub unfaulted-counts : {T : Type 0} (result : Result T EngineFault) (count : ℕ) → (IsErrOf result fault.StoreFault → ⊥) → count ≡ faults_after result count
+unfaulted-counts : {T : Type 0} (result : Result T EngineFault) (count : ℕ) → (IsErrOf result fault.StoreFault → ⊥) → count ≡ faults_after result count
 unfaulted-counts (Ok x) count u = refl
 unfaulted-counts (Err fault.StoreFault) count u = absurd (u refl)
 unfaulted-counts (Err (fault.Damaged id)) count u = refl
 unfaulted-counts (Err fault.NoMemory) count u = refl
 
--- a result of another type with the same fault has it too
-pub same_fault : (A B E : Type 0) (fault other : E) → IsErrOf {T = A} {E = E} (Err fault) other → IsErrOf {T = B} {E = E} (Err fault) other
-same_fault A B E fault other e = ap with_fault (ap fault_in e)
-  where
-    fault_in : Result A E → E
-    fault_in (Ok a) = fault
-    fault_in (Err f) = f
+pub ok-unfaulted : {T : Type 0} {x : T} → IsErrOf (Ok x) fault.StoreFault → ⊥
+ok-unfaulted e = cc
 
-    with_fault : E → Result B E
-    with_fault f = Err f
+refused-unfaulted : {T : Type 0} → IsErrOf {T = T} (Err fault.NoMemory) fault.StoreFault → ⊥
+refused-unfaulted e = cc
+
+-- what did something is not idle
+pub busy : {A : Type 0} {shown : Shown} → ◌≡◌ {A = Result Stepped EngineFault} (Ok (Did shown)) (Ok Idle) → A
+busy e = absurd (cc)
+
+-- what the catalogue hands on of a fault counts as its own does
+pub fault-counts : (T S : Type 0) (f : KeepFault) (count : ℕ) → kept.faults_after {T = T} (Err f) count ≡ faults_after {T = S} (Err (fault_of f)) count
+fault-counts T S keep_fault.StoreFault count = refl
+fault-counts T S (keep_fault.Damaged id bytes) count = refl
+fault-counts T S keep_fault.NoMemory count = refl
+
+-- a result of another type with the same fault has it too
+same_fault : (A B : Type 0) (e other : EngineFault) → IsErrOf {T = A} (Err e) other → IsErrOf {T = B} (Err e) other
+same_fault A B e other is = let same : e ≡ other = cc in ap (λ x. Err x) same
 
 -- what is handed on of a fault
 handed : {S : Type 0} (result : Result S EngineFault) (e : EngineFault) → IsErrAnd result (λ x. x ≡ e) → result ≡ Err e
@@ -56,98 +65,95 @@ stays-shaped (Err fault.StoreFault) running s = s
 stays-shaped (Err (fault.Damaged id)) running s = s
 stays-shaped (Err fault.NoMemory) running s = tt
 
+undamaged-by : {T : Type 0} (result : Result T EngineFault) → ((id : ℕ) → IsErrOf result (fault.Damaged id) → ⊥) → IsUndamaged result
+undamaged-by (Ok x) none = tt
+undamaged-by (Err fault.StoreFault) none = tt
+undamaged-by (Err (fault.Damaged id)) none = none id refl
+undamaged-by (Err fault.NoMemory) none = tt
+
 -- ---- a part of a step
 
--- it does not call the store
-pub part-still : {S K : Type 0} {view : K → StoreView} {MayCall : Type 0} {old new : Running} {store : K} {result : Result S EngineFault}
-    → IsStored old.parts.keep (view store).records → new.parts.keep ≡ old.parts.keep → new.flow ≡ old.flow → IsUndamaged result
-    → (IsErrOf result fault.StoreFault → ⊥) → PartAnswers view MayCall old store result new store
-part-still {S} {K} {view} {MayCall} {old} {new} {store} {result} stored keep flow undamaged unfaulted = record {
-  stored = subst (λ (k : KeepState). IsStored k (view store).records) (sym keep) stored;
-  flow = flow;
-  faults = unfaulted-counts result (view store).faults unfaulted;
-  calls = λ e. absurd (unfaulted e);
-  undamaged = undamaged;
-  tells = refl;
-  quiet = λ none. refl;
-}
+-- one that does nothing
+pub part-none : {K : Type 0} {view : K → StoreView} {MayCall : Type 0} {old : Running} {store : K} → IsStored old.parts.keep (view store).records
+    → PartAnswers {T = Unit {0}} view MayCall old store (Ok tt) old store
+part-none stored =
+    record { stored = stored; flow = refl; faults = refl; calls = λ e. absurd (ok-unfaulted e); undamaged = tt; tells = refl; quiet = λ none. refl }
 
--- it hands a fault on
-pub part-err : {T S K : Type 0} {view : K → StoreView} {MayCall : Type 0} {old new : Running} {before after : K} {e : EngineFault} {result : Result S EngineFault}
-    → PartAnswers {T = T} view MayCall old before (Err e) new after → IsErrAnd result (λ x. x ≡ e) → PartAnswers view MayCall old before result new after
-part-err {T} {S} {K} {view} {MayCall} {old} {new} {before} {after} {e} {result} p is =
-    subst (λ (r : Result S EngineFault). PartAnswers view MayCall old before r new after) (sym (handed result e is)) (record {
-      stored = p.stored;
-      flow = p.flow;
-      faults = p.faults;
-      calls = λ f. p.calls (same_fault S T EngineFault e fault.StoreFault f);
-      undamaged = p.undamaged;
-      tells = p.tells;
-      quiet = p.quiet;
-    })
+module _ {T K : Type 0} {view : K → StoreView} {old new : Running} {before after : K} where
+  -- it hands a fault on
+  pub part-err : {S : Type 0} {MayCall : Type 0} {e : EngineFault} {result : Result S EngineFault}
+      → PartAnswers {T = T} view MayCall old before (Err e) new after → IsErrAnd result (λ x. x ≡ e) → PartAnswers view MayCall old before result new after
+  part-err {S} {MayCall} {e} {result} p is =
+      subst (λ (r : Result S EngineFault). PartAnswers view MayCall old before r new after) (sym (handed result e is)) (record {
+        stored = p.stored;
+        flow = p.flow;
+        faults = p.faults;
+        calls = λ f. p.calls (same_fault S T e fault.StoreFault f);
+        undamaged = p.undamaged;
+        tells = p.tells;
+        quiet = p.quiet;
+      })
 
--- it goes on after a part that went well, and calls the store no more
-pub part-on : {T S K : Type 0} {view : K → StoreView} {MayCall : Type 0} {old part new : Running} {before after : K} {x : T} {result : Result S EngineFault}
-    → PartAnswers {T = T} view MayCall old before (Ok x) part after → IsStored new.parts.keep (view after).records → new.flow ≡ part.flow → IsUndamaged result
-    → (IsErrOf result fault.StoreFault → ⊥) → PartAnswers view MayCall old before result new after
-part-on {T} {S} {K} {view} {MayCall} {old} {part} {new} {before} {after} {x} {result} p stored flow undamaged unfaulted = record {
-  stored = stored;
-  flow = flow ∙ p.flow;
-  faults = p.faults ∙ unfaulted-counts result (view before).faults unfaulted;
-  calls = λ e. absurd (unfaulted e);
-  undamaged = undamaged;
-  tells = p.tells;
-  quiet = p.quiet;
-}
+  -- the store may be called in more cases
+  pub part-may : {MayCall More : Type 0} {result : Result T EngineFault} → (MayCall → More) → PartAnswers view MayCall old before result new after
+      → PartAnswers view More old before result new after
+  part-may more p = record {
+    stored = p.stored;
+    flow = p.flow;
+    faults = p.faults;
+    calls = λ e. more (p.calls e);
+    undamaged = p.undamaged;
+    tells = p.tells;
+    quiet = λ none. p.quiet (λ may. none (more may));
+  }
 
--- the same where the catalogue stays
-pub part-later : {T S K : Type 0} {view : K → StoreView} {MayCall : Type 0} {old part new : Running} {before after : K} {x : T} {result : Result S EngineFault}
-    → PartAnswers {T = T} view MayCall old before (Ok x) part after → new.parts.keep ≡ part.parts.keep → new.flow ≡ part.flow → IsUndamaged result
-    → (IsErrOf result fault.StoreFault → ⊥) → PartAnswers view MayCall old before result new after
-part-later {T} {S} {K} {view} {MayCall} {old} {part} {new} {before} {after} {x} {result} p keep flow undamaged unfaulted =
-    part-on p (subst (λ (k : KeepState). IsStored k (view after).records) (sym keep) p.stored) flow undamaged unfaulted
+  -- it began where the flow is the same
+  pub part-of : {mid : Running} {result : Result T EngineFault} (MayCall : Dataflow → Type 0) → mid.flow ≡ old.flow
+      → PartAnswers view (MayCall mid.flow) mid before result new after → PartAnswers view (MayCall old.flow) old before result new after
+  part-of MayCall same p = part-may (subst MayCall same) (record {
+    stored = p.stored;
+    flow = p.flow ∙ same;
+    faults = p.faults;
+    calls = p.calls;
+    undamaged = p.undamaged;
+    tells = p.tells;
+    quiet = p.quiet;
+  })
 
--- memory is refused to it after a part that went well
-pub part-refused : {T S K : Type 0} {view : K → StoreView} {MayCall : Type 0} {old part new : Running} {before after : K} {x : T} {result : Result S EngineFault}
-    → PartAnswers {T = T} view MayCall old before (Ok x) part after → new.parts.keep ≡ part.parts.keep → new.flow ≡ part.flow
-    → IsErrAnd result (λ e. e ≡ fault.NoMemory) → PartAnswers view MayCall old before result new after
-part-refused {T} {S} {K} {view} {MayCall} {old} {part} {new} {before} {after} {x} {result} p keep flow is =
-    subst (λ (r : Result S EngineFault). PartAnswers view MayCall old before r new after) (sym (handed result fault.NoMemory is))
-    (part-later p keep flow tt (λ e. cc))
+  -- it goes on after one that went well, and calls the store no more
+  pub part-on : {S : Type 0} {MayCall : Type 0} {part : Running} {x : T} {result : Result S EngineFault}
+      → PartAnswers {T = T} view MayCall old before (Ok x) part after → IsStored new.parts.keep (view after).records → new.flow ≡ part.flow → IsUndamaged result
+      → (IsErrOf result fault.StoreFault → ⊥) → PartAnswers view MayCall old before result new after
+  part-on {S} {MayCall} {part} {x} {result} p stored flow undamaged unfaulted = record {
+    stored = stored;
+    flow = flow ∙ p.flow;
+    faults = p.faults ∙ unfaulted-counts result (view before).faults unfaulted;
+    calls = λ e. absurd (unfaulted e);
+    undamaged = undamaged;
+    tells = p.tells;
+    quiet = p.quiet;
+  }
 
--- memory is refused to it before the store was called
+  -- the same where the catalogue stays
+  pub part-later : {S : Type 0} {MayCall : Type 0} {part : Running} {x : T} {result : Result S EngineFault}
+      → PartAnswers {T = T} view MayCall old before (Ok x) part after → new.parts.keep ≡ part.parts.keep → new.flow ≡ part.flow → IsUndamaged result
+      → (IsErrOf result fault.StoreFault → ⊥) → PartAnswers view MayCall old before result new after
+  part-later p keep flow undamaged unfaulted =
+      part-on p (subst (λ (k : KeepState). IsStored k (view after).records) (sym keep) p.stored) flow undamaged unfaulted
+
+  -- memory is refused to it after one that went well
+  pub part-refused : {S : Type 0} {MayCall : Type 0} {part : Running} {x : T} {result : Result S EngineFault}
+      → PartAnswers {T = T} view MayCall old before (Ok x) part after → new.parts.keep ≡ part.parts.keep → new.flow ≡ part.flow
+      → IsErrAnd result (λ e. e ≡ fault.NoMemory) → PartAnswers view MayCall old before result new after
+  part-refused {S} {MayCall} {part} {x} {result} p keep flow is =
+      subst (λ (r : Result S EngineFault). PartAnswers view MayCall old before r new after) (sym (handed result fault.NoMemory is))
+      (part-later p keep flow tt refused-unfaulted)
+
+-- before the store was called
 pub part-refused_first : {S K : Type 0} {view : K → StoreView} {MayCall : Type 0} {old new : Running} {store : K} {result : Result S EngineFault}
     → IsStored old.parts.keep (view store).records → new.parts.keep ≡ old.parts.keep → new.flow ≡ old.flow → IsErrAnd result (λ e. e ≡ fault.NoMemory)
     → PartAnswers view MayCall old store result new store
-part-refused_first {S} {K} {view} {MayCall} {old} {new} {store} {result} stored keep flow is =
-    subst (λ (r : Result S EngineFault). PartAnswers view MayCall old store r new store) (sym (handed result fault.NoMemory is))
-    (part-still stored keep flow tt (λ e. cc))
-
--- it began where the flow is the same
-pub part-of : {T K : Type 0} {view : K → StoreView} {old mid new : Running} {before after : K} {result : Result T EngineFault} (MayCall : Dataflow → Type 0)
-    → mid.flow ≡ old.flow → PartAnswers view (MayCall mid.flow) mid before result new after → PartAnswers view (MayCall old.flow) old before result new after
-part-of {T} {K} {view} {old} {mid} {new} {before} {after} {result} MayCall same p = record {
-  stored = p.stored;
-  flow = p.flow ∙ same;
-  faults = p.faults;
-  calls = λ e. subst MayCall same (p.calls e);
-  undamaged = p.undamaged;
-  tells = p.tells;
-  quiet = λ none. p.quiet (λ may. none (subst MayCall same may));
-}
-
--- the store may be called in more cases
-pub part-may : {T K : Type 0} {view : K → StoreView} {MayCall More : Type 0} {old new : Running} {before after : K} {result : Result T EngineFault}
-    → (MayCall → More) → PartAnswers view MayCall old before result new after → PartAnswers view More old before result new after
-part-may more p = record {
-  stored = p.stored;
-  flow = p.flow;
-  faults = p.faults;
-  calls = λ e. more (p.calls e);
-  undamaged = p.undamaged;
-  tells = p.tells;
-  quiet = λ none. p.quiet (λ may. none (more may));
-}
+part-refused_first stored keep flow is = part-refused (part-none stored) keep flow is
 
 -- ---- a step that is neither a recovery nor a collection
 
@@ -156,166 +162,155 @@ is_plain Recover = false
 is_plain Collect = false
 is_plain step = true
 
-not-recovery : (step : Step) → is_plain step ≡ true → step ≡ Recover → ⊥
-not-recovery step p e = subst (λ (b : Bool). b ≡ true → ⊥) (sym (ap is_plain e)) (λ (f : false ≡ true). cc) p
+not-plain : (step other : Step) → is_plain step ≡ true → is_plain other ≡ false → step ≡ other → ⊥
+not-plain step other p n e = let same = ap is_plain e in cc
 
-not-collection : (step : Step) → is_plain step ≡ true → step ≡ Collect → ⊥
-not-collection step p e = subst (λ (b : Bool). b ≡ true → ⊥) (sym (ap is_plain e)) (λ (f : false ≡ true). cc) p
+module _ {K : Type 0} {view : K → StoreView} {old new : Running} {before after : K} {step : Step} where
+  -- its answer is that of one part
+  pub step-answers : {result : Result Stepped EngineFault} → is_plain step ≡ true
+      → PartAnswers view (MayCallStore old.flow step) old before result new after → StaysShaped result new
+      → TakesStep old (view before).records step result new (view after).records → (result ≡ Ok Idle → after ≡ before)
+      → StepAnswers view old before step result new after
+  step-answers {result} plain p shaped takes idle = record {
+    shaped = shaped;
+    stored = p.stored;
+    flow = p.flow;
+    takes = takes;
+    shows = λ is. absurd (not-plain step Recover plain refl is);
+    faults = p.faults;
+    calls = p.calls;
+    damaged = λ id e. absurd (no_damage result id p.undamaged e);
+    in_recovery = λ id e. absurd (no_damage result id p.undamaged e);
+    tells = p.tells;
+    swept = λ is. absurd (not-plain step Collect plain refl is);
+    quiet = p.quiet;
+    idle = λ other. idle;
+  }
 
--- its answer is that of one part
-pub step-answers : {K : Type 0} {view : K → StoreView} {old new : Running} {before after : K} {step : Step} {result : Result Stepped EngineFault}
-    → is_plain step ≡ true → PartAnswers view (MayCallStore old.flow step) old before result new after → StaysShaped result new
-    → TakesStep old (view before).records step result new (view after).records → (result ≡ Ok Idle → after ≡ before)
-    → StepAnswers view old before step result new after
-step-answers {K} {view} {old} {new} {before} {after} {step} {result} plain p shaped takes idle = record {
-  shaped = shaped;
-  stored = p.stored;
-  flow = p.flow;
-  takes = takes;
-  shows = λ is. absurd (not-recovery step plain is);
-  faults = p.faults;
-  calls = p.calls;
-  damaged = λ id e. absurd (no_damage result id p.undamaged e);
-  in_recovery = λ id e. absurd (no_damage result id p.undamaged e);
-  tells = p.tells;
-  swept = λ is. absurd (not-collection step plain is);
-  quiet = p.quiet;
-  idle = λ other. idle;
-}
+  pub step-part : {result : Result Stepped EngineFault} → is_plain step ≡ true → StepAnswers view old before step result new after
+      → PartAnswers view (MayCallStore old.flow step) old before result new after
+  step-part {result} plain a = record {
+    stored = a.stored;
+    flow = a.flow;
+    faults = a.faults;
+    calls = a.calls;
+    undamaged = undamaged-by result (λ id e. not-plain step Recover plain refl (a.in_recovery id e));
+    tells = a.tells;
+    quiet = a.quiet;
+  }
 
-undamaged-by : {T : Type 0} (result : Result T EngineFault) → ((id : ℕ) → IsErrOf result (fault.Damaged id) → ⊥) → IsUndamaged result
-undamaged-by (Ok x) none = tt
-undamaged-by (Err fault.StoreFault) none = tt
-undamaged-by (Err (fault.Damaged id)) none = none id refl
-undamaged-by (Err fault.NoMemory) none = tt
+  -- a part of it fails
+  pub step-fails : {T : Type 0} {mid : Running} {e : EngineFault} {result : Result Stepped EngineFault} → is_plain step ≡ true → mid.flow ≡ old.flow
+      → PartAnswers {T = T} view (MayCallStore mid.flow step) mid before (Err e) new after → IsErrAnd result (λ x. x ≡ e) → StaysShaped {T = T} (Err e) new
+      → TakesStep old (view before).records step (Err e) new (view after).records → StepAnswers view old before step result new after
+  step-fails {T} {mid} {e} {result} plain same p is shaped takes =
+      subst (λ (r : Result Stepped EngineFault). StepAnswers view old before step r new after) (sym (handed result e is))
+      (step-answers plain (part-err {T = T} {e = e} (part-of (λ flow. MayCallStore flow step) same p) refl) shaped takes (λ i. absurd (cc)))
 
--- its answer is one of a part
-pub step-part : {K : Type 0} {view : K → StoreView} {old new : Running} {before after : K} {step : Step} {result : Result Stepped EngineFault}
-    → is_plain step ≡ true → StepAnswers view old before step result new after → PartAnswers view (MayCallStore old.flow step) old before result new after
-step-part {K} {view} {old} {new} {before} {after} {step} {result} plain a = record {
-  stored = a.stored;
-  flow = a.flow;
-  faults = a.faults;
-  calls = a.calls;
-  undamaged = undamaged-by result (λ id e. not-recovery step plain (a.in_recovery id e));
-  tells = a.tells;
-  quiet = a.quiet;
-}
+  -- a part of it went well, and it did something
+  pub step-did : {T : Type 0} {mid part : Running} {x : T} {shown : Shown} → is_plain step ≡ true → mid.flow ≡ old.flow
+      → PartAnswers {T = T} view (MayCallStore mid.flow step) mid before (Ok x) part after → new.parts.keep ≡ part.parts.keep → new.flow ≡ part.flow → IsShaped new
+      → TakesStep old (view before).records step (Ok (Did shown)) new (view after).records → StepAnswers view old before step (Ok (Did shown)) new after
+  step-did {T} {mid} {part} {x} plain same p keep flow shaped takes =
+      step-answers plain (part-later {T = T} {x = x} (part-of (λ flow. MayCallStore flow step) same p) keep flow tt ok-unfaulted) shaped takes busy
+
+  -- a part of it went well, and then memory was refused
+  pub step-refused : {T : Type 0} {mid part : Running} {x : T} {result : Result Stepped EngineFault} → is_plain step ≡ true → mid.flow ≡ old.flow
+      → PartAnswers {T = T} view (MayCallStore mid.flow step) mid before (Ok x) part after → new.parts.keep ≡ part.parts.keep → new.flow ≡ part.flow
+      → IsErrAnd result (λ e. e ≡ fault.NoMemory) → StepAnswers view old before step result new after
+  step-refused {T} {mid} {part} {x} {result} plain same p keep flow is =
+      subst (λ (r : Result Stepped EngineFault). StepAnswers view old before step r new after) (sym (handed result fault.NoMemory is))
+      (step-answers plain (part-later {T = T} {x = x} (part-of (λ flow. MayCallStore flow step) same p) keep flow tt refused-unfaulted) tt (λ sys state s. tt) (λ i. absurd (cc)))
 
 -- it is idle
 pub step-idle : {K : Type 0} {view : K → StoreView} {old new : Running} {store : K} {step : Step} → is_plain step ≡ true
     → IsStored old.parts.keep (view store).records → new.parts.keep ≡ old.parts.keep → new.flow ≡ old.flow → IsShaped new
     → TakesStep old (view store).records step (Ok Idle) new (view store).records → StepAnswers view old store step (Ok Idle) new store
-step-idle plain stored keep flow shaped takes = step-answers plain (part-still stored keep flow tt (λ e. cc)) shaped takes (λ e. refl)
-
--- a part of it fails
-pub step-fails : {T K : Type 0} {view : K → StoreView} {old mid new : Running} {before after : K} {step : Step} {e : EngineFault}
-    {result : Result Stepped EngineFault} → is_plain step ≡ true → mid.flow ≡ old.flow
-    → PartAnswers {T = T} view (MayCallStore mid.flow step) mid before (Err e) new after → IsErrAnd result (λ x. x ≡ e) → StaysShaped {T = T} (Err e) new
-    → TakesStep old (view before).records step (Err e) new (view after).records → StepAnswers view old before step result new after
-step-fails {T} {K} {view} {old} {mid} {new} {before} {after} {step} {e} {result} plain same p is shaped takes =
-    subst (λ (r : Result Stepped EngineFault). StepAnswers view old before step r new after) (sym (handed result e is))
-    (step-answers plain (part-err {T = T} {e = e} (part-of (λ flow. MayCallStore flow step) same p) refl) shaped takes (λ i. absurd (cc)))
-
--- a part of it went well, and it did something
-pub step-did : {T K : Type 0} {view : K → StoreView} {old mid part new : Running} {before after : K} {step : Step} {x : T} {shown : Shown}
-    → is_plain step ≡ true → mid.flow ≡ old.flow → PartAnswers {T = T} view (MayCallStore mid.flow step) mid before (Ok x) part after
-    → new.parts.keep ≡ part.parts.keep → new.flow ≡ part.flow → IsShaped new
-    → TakesStep old (view before).records step (Ok (Did shown)) new (view after).records → StepAnswers view old before step (Ok (Did shown)) new after
-step-did {T} {K} {view} {old} {mid} {part} {new} {before} {after} {step} {x} {shown} plain same p keep flow shaped takes =
-    step-answers plain (part-later {T = T} {x = x} (part-of (λ flow. MayCallStore flow step) same p) keep flow tt (λ e. cc)) shaped takes (λ i. absurd (cc))
-
--- a part of it went well, and then memory was refused
-pub step-refused : {T K : Type 0} {view : K → StoreView} {old mid part new : Running} {before after : K} {step : Step} {x : T}
-    {result : Result Stepped EngineFault} → is_plain step ≡ true → mid.flow ≡ old.flow
-    → PartAnswers {T = T} view (MayCallStore mid.flow step) mid before (Ok x) part after → new.parts.keep ≡ part.parts.keep → new.flow ≡ part.flow
-    → IsErrAnd result (λ e. e ≡ fault.NoMemory) → StepAnswers view old before step result new after
-step-refused {T} {K} {view} {old} {mid} {part} {new} {before} {after} {step} {x} {result} plain same p keep flow is =
-    subst (λ (r : Result Stepped EngineFault). StepAnswers view old before step r new after) (sym (handed result fault.NoMemory is))
-    (step-answers plain (part-later {T = T} {x = x} (part-of (λ flow. MayCallStore flow step) same p) keep flow tt (λ e. cc)) tt (λ sys state s. tt) (λ i. absurd (cc)))
+step-idle plain stored keep flow shaped takes = step-answers plain (part-later (part-none stored) keep flow tt ok-unfaulted) shaped takes (λ e. refl)
 
 -- memory was refused before the store was called
 pub step-refused_first : {K : Type 0} {view : K → StoreView} {old new : Running} {store : K} {step : Step} {result : Result Stepped EngineFault}
     → is_plain step ≡ true → IsStored old.parts.keep (view store).records → new.parts.keep ≡ old.parts.keep → new.flow ≡ old.flow
     → IsErrAnd result (λ e. e ≡ fault.NoMemory) → StepAnswers view old store step result new store
-step-refused_first {K} {view} {old} {new} {store} {step} {result} plain stored keep flow is =
-    subst (λ (r : Result Stepped EngineFault). StepAnswers view old store step r new store) (sym (handed result fault.NoMemory is))
-    (step-answers plain (part-still stored keep flow tt (λ e. cc)) tt (λ sys state s. tt) (λ i. absurd (cc)))
+step-refused_first {K} {view} {old} plain stored keep flow is = step-refused {mid = old} {part = old} plain refl (part-none stored) keep flow is
 
 -- ---- a step that never calls the store
 
--- it is no fault, and the catalogue stays
-pub inner-ok : {old new : Running} {step : Step} {stepped : Stepped} → IsShaped new → new.parts.keep ≡ old.parts.keep → new.flow ≡ old.flow
-    → ((records : Option Records) → TakesStep old records step (Ok stepped) new records) → InnerAnswers old step (Ok stepped) new
-inner-ok shaped keep flow takes = record {
-  shaped = shaped;
-  stored = λ records held. subst (λ (k : KeepState). IsStored k records) (sym keep) held;
-  flow = flow;
-  takes = takes;
-  unfaulted = λ e. cc;
-  undamaged = tt;
-}
+module _ {old new : Running} {step : Step} where
+  -- it is no fault, and the catalogue stays
+  pub inner-ok : {stepped : Stepped} → IsShaped new → new.parts.keep ≡ old.parts.keep → new.flow ≡ old.flow
+      → ((records : Option Records) → TakesStep old records step (Ok stepped) new records) → InnerAnswers old step (Ok stepped) new
+  inner-ok shaped keep flow takes = record {
+    shaped = shaped;
+    stored = λ records held. subst (λ (k : KeepState). IsStored k records) (sym keep) held;
+    flow = flow;
+    takes = takes;
+    unfaulted = ok-unfaulted;
+    undamaged = tt;
+  }
 
--- memory is refused, and the catalogue keeps what is stored
-pub inner-refused : {old new : Running} {step : Step} {result : Result Stepped EngineFault}
-    → ((records : Option Records) → IsStored old.parts.keep records → IsStored new.parts.keep records) → new.flow ≡ old.flow
-    → IsErrAnd result (λ e. e ≡ fault.NoMemory) → InnerAnswers old step result new
-inner-refused {old} {new} {step} {result} stored flow is =
-    subst (λ (r : Result Stepped EngineFault). InnerAnswers old step r new) (sym (handed result fault.NoMemory is)) (record {
-      shaped = tt;
-      stored = stored;
-      flow = flow;
-      takes = λ records sys state s. tt;
-      unfaulted = λ e. cc;
-      undamaged = tt;
-    })
+  -- memory is refused, and the catalogue keeps what is stored
+  pub inner-refused : {result : Result Stepped EngineFault}
+      → ((records : Option Records) → IsStored old.parts.keep records → IsStored new.parts.keep records) → new.flow ≡ old.flow
+      → IsErrAnd result (λ e. e ≡ fault.NoMemory) → InnerAnswers old step result new
+  inner-refused {result} stored flow is =
+      subst (λ (r : Result Stepped EngineFault). InnerAnswers old step r new) (sym (handed result fault.NoMemory is))
+      (record { shaped = tt; stored = stored; flow = flow; takes = λ records sys state s. tt; unfaulted = refused-unfaulted; undamaged = tt })
 
--- over a store its answer is one of a part, and one of a step
-pub inner-part : {K : Type 0} {view : K → StoreView} {MayCall : Type 0} {old new : Running} {store : K} {step : Step} {result : Result Stepped EngineFault}
-    → IsStored old.parts.keep (view store).records → InnerAnswers old step result new → PartAnswers view MayCall old store result new store
-inner-part {K} {view} {MayCall} {old} {new} {store} {step} {result} stored a = record {
-  stored = a.stored (view store).records stored;
-  flow = a.flow;
-  faults = unfaulted-counts result (view store).faults a.unfaulted;
-  calls = λ e. absurd (a.unfaulted e);
-  undamaged = a.undamaged;
-  tells = refl;
-  quiet = λ none. refl;
-}
+  -- over a store its answer is one of a part, and one of a step
+  pub inner-part : {K : Type 0} {view : K → StoreView} {MayCall : Type 0} {store : K} {result : Result Stepped EngineFault}
+      → IsStored old.parts.keep (view store).records → InnerAnswers old step result new → PartAnswers view MayCall old store result new store
+  inner-part {K} {view} {MayCall} {store} stored a =
+      part-on (part-none stored) (a.stored (view store).records stored) a.flow a.undamaged a.unfaulted
 
-pub inner-answers : {K : Type 0} {view : K → StoreView} {old new : Running} {store : K} {step : Step} {result : Result Stepped EngineFault}
-    → is_plain step ≡ true → IsStored old.parts.keep (view store).records → InnerAnswers old step result new → StepAnswers view old store step result new store
-inner-answers {K} {view} {old} {new} {store} plain stored a = step-answers plain (inner-part stored a) a.shaped (a.takes (view store).records) (λ e. refl)
+  pub inner-answers : {K : Type 0} {view : K → StoreView} {store : K} {result : Result Stepped EngineFault} → is_plain step ≡ true
+      → IsStored old.parts.keep (view store).records → InnerAnswers old step result new → StepAnswers view old store step result new store
+  inner-answers {K} {view} {store} plain stored a = step-answers plain (inner-part stored a) a.shaped (a.takes (view store).records) (λ e. refl)
 
 -- ---- a collection and a recovery
 
--- what the catalogue hands on of a fault counts as its own does
-pub fault-counts : {T S : Type 0} (f : KeepFault) (count : ℕ) → kept.faults_after {T = T} (Err f) count ≡ faults_after {T = S} (Err (fault_of f)) count
-fault-counts keep_fault.StoreFault count = refl
-fault-counts (keep_fault.Damaged id bytes) count = refl
-fault-counts keep_fault.NoMemory count = refl
+module _ {K : Type 0} {view : K → StoreView} {old new : Running} {before after : K} {result : Result Stepped EngineFault} where
+  pub collection-answers : StaysShaped result new → IsStored new.parts.keep (view after).records → new.flow ≡ old.flow
+      → TakesStep old (view before).records Collect result new (view after).records → (view after).faults ≡ faults_after result (view before).faults
+      → IsUndamaged result → is_some (view after).records ≡ is_some (view before).records → OnOk result (new.parts.keep.waiting ≡ [])
+      → StepAnswers view old before Collect result new after
+  collection-answers shaped stored flow takes faults undamaged tells swept = record {
+    shaped = shaped;
+    stored = stored;
+    flow = flow;
+    takes = takes;
+    shows = λ is. absurd (cc);
+    faults = faults;
+    calls = λ e. tt;
+    damaged = λ id e. absurd (no_damage result id undamaged e);
+    in_recovery = λ id e. absurd (no_damage result id undamaged e);
+    tells = tells;
+    swept = λ is. swept;
+    quiet = λ none. absurd (none tt);
+    idle = λ other. absurd (other refl);
+  }
 
-pub collection-answers : {K : Type 0} {view : K → StoreView} {old new : Running} {before after : K} {result : Result Stepped EngineFault}
-    → StaysShaped result new → IsStored new.parts.keep (view after).records → new.flow ≡ old.flow
-    → TakesStep old (view before).records Collect result new (view after).records → (view after).faults ≡ faults_after result (view before).faults
-    → IsUndamaged result → is_some (view after).records ≡ is_some (view before).records → OnOk result (new.parts.keep.waiting ≡ [])
-    → StepAnswers view old before Collect result new after
-collection-answers {K} {view} {old} {new} {before} {after} {result} shaped stored flow takes faults undamaged tells swept = record {
-  shaped = shaped;
-  stored = stored;
-  flow = flow;
-  takes = takes;
-  shows = λ is. absurd (cc);
-  faults = faults;
-  calls = λ e. tt;
-  damaged = λ id e. absurd (no_damage result id undamaged e);
-  in_recovery = λ id e. absurd (no_damage result id undamaged e);
-  tells = tells;
-  swept = λ is. swept;
-  quiet = λ none. absurd (none tt);
-  idle = λ other. absurd (other refl);
-}
+  pub recovery-answers : StaysShaped result new → IsStored new.parts.keep (view after).records → new.flow ≡ old.flow
+      → TakesStep old (view before).records Recover result new (view after).records → ShowsOutcome old (view before).records Recover result
+      → (view after).faults ≡ faults_after result (view before).faults → ((id : ℕ) → IsErrOf result (fault.Damaged id) → IsDamage old id (view after).given)
+      → is_some (view after).records ≡ is_some (view before).records → (result ≡ Ok Idle → after ≡ before) → StepAnswers view old before Recover result new after
+  recovery-answers shaped stored flow takes shows faults damaged tells idle = record {
+    shaped = shaped;
+    stored = stored;
+    flow = flow;
+    takes = takes;
+    shows = λ is. shows;
+    faults = faults;
+    calls = λ e. tt;
+    damaged = damaged;
+    in_recovery = λ id e. refl;
+    tells = tells;
+    swept = λ is. absurd (cc);
+    quiet = λ none. absurd (none tt);
+    idle = λ other. idle;
+  }
 
+-- memory is refused
 pub collection-refused : {K : Type 0} {view : K → StoreView} {old new : Running} {store : K} {result : Result Stepped EngineFault}
     → IsStored new.parts.keep (view store).records → new.flow ≡ old.flow → IsErrAnd result (λ e. e ≡ fault.NoMemory)
     → StepAnswers view old store Collect result new store
@@ -323,43 +318,22 @@ collection-refused {K} {view} {old} {new} {store} {result} stored flow is =
     subst (λ (r : Result Stepped EngineFault). StepAnswers view old store Collect r new store) (sym (handed result fault.NoMemory is))
     (collection-answers tt stored flow (λ sys state s. tt) refl tt refl tt)
 
-pub recovery-answers : {K : Type 0} {view : K → StoreView} {old new : Running} {before after : K} {result : Result Stepped EngineFault}
-    → StaysShaped result new → IsStored new.parts.keep (view after).records → new.flow ≡ old.flow
-    → TakesStep old (view before).records Recover result new (view after).records → ShowsOutcome old (view before).records Recover result
-    → (view after).faults ≡ faults_after result (view before).faults → ((id : ℕ) → IsErrOf result (fault.Damaged id) → IsDamage old id (view after).given)
-    → is_some (view after).records ≡ is_some (view before).records → (result ≡ Ok Idle → after ≡ before)
-    → StepAnswers view old before Recover result new after
-recovery-answers shaped stored flow takes shows faults damaged tells idle = record {
-  shaped = shaped;
-  stored = stored;
-  flow = flow;
-  takes = takes;
-  shows = λ is. shows;
-  faults = faults;
-  calls = λ e. tt;
-  damaged = damaged;
-  in_recovery = λ id e. refl;
-  tells = tells;
-  swept = λ is. absurd (cc);
-  quiet = λ none. absurd (none tt);
-  idle = λ other. idle;
-}
+module _ {K : Type 0} {view : K → StoreView} {old new : Running} {before after : K} {result : Result Stepped EngineFault} where
+  pub recovery-fails : (e : EngineFault) → IsErrAnd result (λ x. x ≡ e) → IsShaped new → IsStored new.parts.keep (view after).records → new.flow ≡ old.flow
+      → TakesStep old (view before).records Recover result new (view after).records → (view after).faults ≡ faults_after {T = Stepped} (Err e) (view before).faults
+      → ((id : ℕ) → IsErrOf result (fault.Damaged id) → IsDamage old id (view after).given) → is_some (view after).records ≡ is_some (view before).records
+      → StepAnswers view old before Recover result new after
+  recovery-fails e is shaped stored flow takes faults damaged tells =
+      let at = sym (handed result e is) in
+      recovery-answers (stays-shaped result new shaped) stored flow takes
+      (subst (λ (r : Result Stepped EngineFault). ShowsOutcome old (view before).records Recover r) at (λ sys state s. tt))
+      (subst (λ (r : Result Stepped EngineFault). (view after).faults ≡ faults_after r (view before).faults) at faults) damaged tells
+      (subst (λ (r : Result Stepped EngineFault). r ≡ Ok Idle → after ≡ before) at (λ i. absurd (cc)))
 
-pub recovery-fails : {K : Type 0} {view : K → StoreView} {old new : Running} {before after : K} (e : EngineFault) {result : Result Stepped EngineFault}
-    → IsErrAnd result (λ x. x ≡ e) → IsShaped new → IsStored new.parts.keep (view after).records → new.flow ≡ old.flow
-    → TakesStep old (view before).records Recover result new (view after).records → (view after).faults ≡ faults_after {T = Stepped} (Err e) (view before).faults
-    → ((id : ℕ) → IsErrOf result (fault.Damaged id) → IsDamage old id (view after).given) → is_some (view after).records ≡ is_some (view before).records
-    → StepAnswers view old before Recover result new after
-recovery-fails {K} {view} {old} {new} {before} {after} e {result} is shaped stored flow takes faults damaged tells =
-    let at = handed result e is in
-    recovery-answers (stays-shaped result new shaped) stored flow takes
-    (subst (λ (r : Result Stepped EngineFault). ShowsOutcome old (view before).records Recover r) (sym at) (λ sys state s. tt))
-    (subst (λ (r : Result Stepped EngineFault). (view after).faults ≡ faults_after r (view before).faults) (sym at) faults) damaged tells
-    (subst (λ (r : Result Stepped EngineFault). r ≡ Ok Idle → after ≡ before) (sym at) (λ i. absurd (cc)))
-
-pub recovery-refused : {K : Type 0} {view : K → StoreView} {old new : Running} {before after : K} {result : Result Stepped EngineFault}
-    → IsErrAnd result (λ e. e ≡ fault.NoMemory) → IsStored new.parts.keep (view after).records → new.flow ≡ old.flow → (view after).faults ≡ (view before).faults
-    → is_some (view after).records ≡ is_some (view before).records → StepAnswers view old before Recover result new after
-recovery-refused {K} {view} {old} {new} {before} {after} {result} is stored flow faults tells =
-    subst (λ (r : Result Stepped EngineFault). StepAnswers view old before Recover r new after) (sym (handed result fault.NoMemory is))
-    (recovery-answers tt stored flow (λ sys state s. tt) (λ sys state s. tt) faults (λ id e. absurd (cc)) tells (λ i. absurd (cc)))
+  pub recovery-refused : IsErrAnd result (λ e. e ≡ fault.NoMemory) → IsStored new.parts.keep (view after).records → new.flow ≡ old.flow
+      → (view after).faults ≡ (view before).faults → is_some (view after).records ≡ is_some (view before).records
+      → StepAnswers view old before Recover result new after
+  recovery-refused is stored flow faults tells =
+      subst (λ (r : Result Stepped EngineFault). StepAnswers view old before Recover r new after) (sym (handed result fault.NoMemory is))
+      (recovery-answers tt stored flow (λ sys state s. tt) (λ sys state s. tt) faults (λ id e. absurd (no_damage {T = Stepped} (Err fault.NoMemory) id tt e)) tells
+      (λ i. absurd (cc)))

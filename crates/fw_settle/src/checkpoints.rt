@@ -1,8 +1,8 @@
 //! The steps of writes: a checkpoint is asked, and a write is acknowledged.
-ghost use Rattle.std.specs.Prelude.{◌≡◌, ◌↔◌, ◌<◌, ℕ, List, length, Option, Ok, IsTrue, IsErrOf, unwrap_or, is_some, true};
+ghost use Rattle.std.specs.Prelude.{◌≡◌, ◌↔◌, ◌<◌, ℕ, List, length, Option, Ok, IsTrue, unwrap_or};
 ghost use Rattle.std.specs.Option.{option_copied};
 ghost use Rattle.fw_frontier.specs.Front.{IsCanonical};
-ghost use Rattle.fw_flow.specs.Dataflow.{bounds_of, policy_of};
+ghost use Rattle.fw_flow.specs.Dataflow.{bounds_of};
 ghost use Rattle.fw_model.specs.Machine.{front_of, no_stamps};
 ghost use Rattle.fw_model.specs.Steps as steps_of;
 ghost use Rattle.fw_model.specs.Steps.{last_or};

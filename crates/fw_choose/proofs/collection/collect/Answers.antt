@@ -1,5 +1,6 @@
 use Rattle.std.proofs.Common.{◌∙◌}
 use Rattle.std.proofs.lemmas.Result.{err_from_is_err_and}
+use Rattle.fw_running.specs.declared.stepped.Stepped.{Stepped}
 use Rattle.fw_running.specs.Logging.{with_keep}
 use Rattle.fw_running.proofs.StepLaws.{collection-answers, collection-refused, fault-counts}
 use Rattle.fw_choose.proofs.CollectLaws.{swept-shaped, swept-tells, swept-follows, sweep-fails, fault-shaped, fault-undamaged}
@@ -22,7 +23,7 @@ returns-in_err-sweep g c =
     rw (p.1, p.2) (collection-answers (fault-shaped f new (swept-shaped mid c.sweep.new.self swept.kept c.in_ok-stepped.ensures.shaped)) swept.stored
     c.raise_low.ensures.flow
     (sweep-fails f swept.undamaged old mid c.sweep.new.self before after c.in_ok-stepped.stepped (c.in_ok-stepped.ensures.takes before) swept.kept swept.swept swept.bytes)
-    (swept.faults ∙ fault-counts f (g.K.Store.view c.args.store.now).faults) (fault-undamaged f swept.undamaged)
+    (swept.faults ∙ fault-counts (Unit {0}) Stepped f (g.K.Store.view c.args.store.now).faults) (fault-undamaged f swept.undamaged)
     (swept-tells mid.parts.keep.waiting c.sweep.new.self.waiting before after swept.swept) tt)
 
 pub returns : goal.returns

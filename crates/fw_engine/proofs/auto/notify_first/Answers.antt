@@ -3,7 +3,7 @@ use Rattle.fw_rollback.specs.declared.parts.Parts.{Parts}
 use Rattle.fw_running.specs.declared.fault.EngineFault.{EngineFault}
 use Rattle.fw_running.specs.declared.stepped.Stepped.{Stepped}
 use Rattle.fw_running.specs.Steps.{AnswersFirst, MayCallByItself}
-use Rattle.fw_running.proofs.StepLaws.{part-err, part-later, part-may, part-of, part-refused_first}
+use Rattle.fw_running.proofs.StepLaws.{ok-unfaulted, part-err, part-later, part-may, part-of, part-refused_first}
 use Rattle.fw_engine.specs.declared.auto.Notice.{Notice}
 use Rattle.fw_engine.specs.Searching.{IsFirstNotified}
 use Rattle.fw_engine.proofs.QuietLaws.{notification-may_call_later}
@@ -58,4 +58,4 @@ returns-clause-part g c =
     part-later (part-of MayCallByItself c.first_notice.ensures.flow
     (part-may (notification-may_call_later old.flow c.first_notice.new.running.flow c.in-Some.notice.node c.first_notice.ensures.flow first.0.owing.there)
     c.in_ok-notify_of.ensures.part))
-    refl refl tt (λ e. cc)
+    refl refl tt ok-unfaulted

@@ -1,11 +1,20 @@
 use Rattle.std.proofs.Common.{◌≡◌, true, false, ap, refl, subst, sym, ◌∙◌}
 use Rattle.fw_flow.specs.Dataflow.{kind_of, is_input_kind}
 use Rattle.fw_keep.specs.Catalogue.{KeepState}
+use Rattle.fw_keep.specs.Stored.{IsStored}
 use Rattle.fw_running.specs.Kept.{is_down, source_of}
-use Rattle.fw_running.proofs.StepLaws.{inner-ok}
+use Rattle.fw_running.proofs.StepLaws.{inner-ok, inner-refused}
 use Rattle.fw_events.specs.Taking.{FindsBatch}
 use Rattle.fw_events.proofs.InjectLaws.{injection-follows, none-injects}
 use Rattle.fw_events.proofs.injection.inject.Goals as goal
+
+pub returns-in_err-epoch : goal.returns-in_err-epoch
+returns-in_err-epoch c = inner-refused (λ records held. held) refl c.from_residual.ensures.1
+
+pub returns-in_err-inject_batch : goal.returns-in_err-inject_batch
+returns-in_err-inject_batch c =
+    inner-refused (λ records held. subst (λ (k : KeepState). IsStored k records) (sym c.inject_batch.ensures.keep) held) c.inject_batch.ensures.flow
+    c.from_residual-in_err-inject_batch.ensures.1
 
 pub returns-in_default : goal.returns-in_default
 returns-in_default c =

@@ -1,5 +1,5 @@
 use Rattle.std.proofs.lemmas.Result.{err_from_is_err_and}
-use Rattle.fw_running.proofs.StepLaws.{part-err, part-later, part-refused}
+use Rattle.fw_running.proofs.StepLaws.{ok-unfaulted, part-err, part-later, part-refused}
 use Rattle.fw_events.proofs.NoticingLaws.{notice-done, notice-leaves}
 use Rattle.fw_events.proofs.notification.notify_of.Goals as goal
 
@@ -17,7 +17,7 @@ returns-in_err-hear-clause-part g c =
     part-refused c.in_ok-log_notice.ensures.part c.hear.ensures.keep c.hear.ensures.flow c.from_residual-in_err-hear.ensures.1
 
 pub returns-clause-part : goal.returns-clause-part
-returns-clause-part g c = part-later c.in_ok-log_notice.ensures.part c.hear.ensures.keep c.hear.ensures.flow tt (λ e. cc)
+returns-clause-part g c = part-later c.in_ok-log_notice.ensures.part c.hear.ensures.keep c.hear.ensures.flow tt ok-unfaulted
 
 pub returns-clause-takes : goal.returns-clause-takes
 returns-clause-takes g c =

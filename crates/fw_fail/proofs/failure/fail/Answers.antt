@@ -2,7 +2,7 @@ use Rattle.std.proofs.Common.{sym, ap, subst, ◌∙◌}
 use Rattle.std.proofs.lemmas.List.{take_all}
 use Rattle.fw_keep.specs.Stored.{IsStored}
 use Rattle.fw_running.specs.declared.running.Running.{Running}
-use Rattle.fw_running.proofs.StepLaws.{inner-refused}
+use Rattle.fw_running.proofs.StepLaws.{inner-refused, ok-unfaulted}
 use Rattle.fw_fail.proofs.FailLaws.{HaveFailed, failed_none, next_more, fail-takes}
 use Rattle.fw_fail.proofs.failure.fail.Goals as goal
 
@@ -32,6 +32,6 @@ returns c =
       stored = failed.stored;
       flow = failed.flow;
       takes = fail-takes nodes c.loop-node.any c.args.running.now c.loop-node.running c.silent_if.result failed c.silent_if.ensures;
-      unfaulted = λ e. cc;
+      unfaulted = ok-unfaulted;
       undamaged = tt;
     }

@@ -4,11 +4,13 @@ use Rattle.fw_flow.specs.declared.step.Step.TheVariants as steps
 use Rattle.fw_keep.specs.Stored.{Records, IsStored}
 use Rattle.fw_rollback.specs.declared.parts.Parts.{Parts}
 use Rattle.fw_running.specs.declared.stepped.Effect.TheVariants.{Cuts}
+use Rattle.fw_running.specs.declared.stepped.Stepped.{Stepped}
 use Rattle.fw_running.specs.declared.stepped.Stepped.TheVariants.{Did}
 use Rattle.fw_running.specs.Faults.{fault_of}
 use Rattle.fw_running.specs.Shaped.{IsShaped}
 use Rattle.fw_running.specs.Steps.{TakesStep}
-use Rattle.fw_running.proofs.StepLaws.{fault-counts, recovery-answers, recovery-fails, recovery-refused}
+use Rattle.fw_running.proofs.AnswerLaws.{no_damage}
+use Rattle.fw_running.proofs.StepLaws.{busy, fault-counts, recovery-answers, recovery-fails, recovery-refused}
 use Rattle.fw_recover.proofs.FollowedLaws.{followed-recovered, followed-shaped, queues-at_receivers}
 use Rattle.fw_recover.proofs.RecoverStepLaws.{recovery-done, recovery-shows, refused-damage, refused-stands, some-down}
 use Rattle.fw_recover.proofs.recovery.recover.Goals as goal
@@ -31,7 +33,7 @@ returns-in_err-restore g c =
     (subst (λ (parts : Parts). IsShaped (record old { parts = parts })) (sym restored.kept) c.requires.shaped) restored.stored refl
     (refused-stands old c.restore.new.parts choice before.records after.records after.given f result c.requires.shaped some restored.kept restored.stays is
     restored.damaged)
-    (restored.faults ∙ fault-counts f before.faults) (refused-damage old choice before.records after.given f result c.in_ok-choice.ensures.of_state is restored.damaged)
+    (restored.faults ∙ fault-counts (Unit {0}) Stepped f before.faults) (refused-damage old choice before.records after.given f result c.in_ok-choice.ensures.of_state is restored.damaged)
     (ap (λ (r : Option Records). is_some r) restored.stays)
 
 pub returns-in_err-follow : goal.returns-in_err-follow
@@ -62,5 +64,5 @@ returns g c =
     (subst (λ (parts : Parts). IsStored parts.keep (g.K.Store.view c.restore.new.store).records) (sym followed.parts) restored.stored) followed.flow
     (subst (TakesStep old records steps.Recover (Ok (Did (Cuts choice))) c.follow.new.running) (sym restored.stays)
     (recovery-done old c.follow.new.running records choice c.requires.shaped some of_state made))
-    (recovery-shows old c.follow.new.running records choice c.requires.shaped some of_state made) restored.faults (λ id e. absurd (cc))
-    (ap (λ (r : Option Records). is_some r) restored.stays) (λ i. absurd (cc))
+    (recovery-shows old c.follow.new.running records choice c.requires.shaped some of_state made) restored.faults (λ id e. absurd (no_damage {T = Stepped} (Ok (Did (Cuts choice))) id tt e))
+    (ap (λ (r : Option Records). is_some r) restored.stays) busy

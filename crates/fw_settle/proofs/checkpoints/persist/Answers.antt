@@ -4,6 +4,7 @@ use Rattle.fw_keep.specs.Catalogue.{KeepState, oldest}
 use Rattle.fw_model.specs.Steps.{did, idle, silent}
 use Rattle.fw_running.specs.Logging.{with_keep}
 use Rattle.fw_running.specs.Steps.{Follows}
+use Rattle.fw_running.proofs.StepLaws.{ok-unfaulted}
 use Rattle.fw_settle.proofs.WritesLaws.{persist-some, persist-none, persisted-shaped}
 use Rattle.fw_settle.proofs.checkpoints.persist.Goals as goal
 
@@ -18,7 +19,7 @@ returns-in-Some c =
       takes = λ records sys state s trust.
           subst (λ (k : KeepState). Follows sys state Persist (did silent) (with_keep k old) records) (sym c.persist_one.ensures.acknowledged)
           (persist-some sys state old records s c.in-Some._id first);
-      unfaulted = λ e. cc;
+      unfaulted = ok-unfaulted;
       undamaged = tt;
     }
 
@@ -33,6 +34,6 @@ returns-in-None c =
       takes = λ records sys state s trust.
           subst (λ (k : KeepState). Follows sys state Persist idle (with_keep k old) records) (sym c.persist_one.ensures.acknowledged)
           (persist-none sys state old records s none);
-      unfaulted = λ e. cc;
+      unfaulted = ok-unfaulted;
       undamaged = tt;
     }

@@ -4,7 +4,7 @@ use Rattle.std.specs.List.{AllByRecursion, range_with_len}
 use Rattle.std.proofs.Math.Nat.{mul-le-mul_right}
 use Rattle.std.proofs.lemmas.Bool.{cases_Bool, cases_lt, eqb-true}
 use Rattle.fw_time.specs.Stamp.{Stamp}
-use Rattle.fw_time.proofs.EachLaws.{each-suffix, each-weaker}
+use Rattle.fw_time.proofs.EachLaws.{each-weaker}
 use Rattle.fw_flow.specs.declared.step.Step.{Step}
 use Rattle.fw_flow.specs.declared.step.Step.TheVariants.{Inject, Deliver, Notify, Progress as ProgressStep, Persist, Recover, Ack}
 use Rattle.fw_flow.specs.Dataflow.{System, receiver, node_ids}
@@ -22,12 +22,12 @@ use Rattle.fw_model.proofs.GoingOn.{runs-go_on}
 use Rattle.fw_model.proofs.ListedLaws.{IsIn, in-map}
 use Rattle.fw_model.proofs.RecoveryLaws.{acknowledged-denoted, edge-there}
 use Rattle.fw_model.proofs.RunLaws.{acknowledgements-in_order}
-use Rattle.fw_rest.specs.Rest.{AreAllLive, IsAcknowledged}
+use Rattle.fw_rest.specs.Rest.{is_of_auto, AreAllLive, IsAcknowledged}
 use Rattle.fw_rest.specs.StepsToRest.{most_events, stamps_due, count_in_flight, steps_to_rest, steps_in_all}
 use Rattle.fw_rest.specs.LawsOfRest.{AcknowledgedIsShown, EachStateGoesOn, WhatIsGivenIsAcknowledged}
 use Rattle.fw_rest.proofs.AckLaws.{rest-acknowledged}
 use Rattle.fw_rest.proofs.InFlightLaws.{kept-in_flight}
-use Rattle.fw_rest.proofs.LoweringLaws.{is_auto, each-auto, auto-comes_to_rest}
+use Rattle.fw_rest.proofs.LoweringLaws.{auto-first, auto-comes_to_rest}
 use Rattle.fw_rest.proofs.MostEventsLaws.{sum-at_most}
 
 -- ---- all nodes are live
@@ -46,9 +46,8 @@ recovered-live sys w state r next idle t p l = ap (λ (m : Machine). is_failed m
 ]
 
 -- a step of `auto` keeps which nodes are failed
-took-failed : (sys : System) (state : Machine) (step : Step) → is_auto step ≡ true → (next : Machine) (effect : Effect) → LeadsTo sys state step next effect
+took-failed : (sys : System) (state : Machine) (step : Step) → is_of_auto step ≡ true → (next : Machine) (effect : Effect) → LeadsTo sys state step next effect
     → next.failed ≡ state.failed
-unfolding is_auto
 took-failed sys state (Inject s) k next effect t = ap (λ (m : Machine). m.failed) t.3
 took-failed sys state (Deliver e at) k next effect t = ap (λ (m : Machine). m.failed) t.3
 took-failed sys state (Notify p at) k next effect t = ap (λ (m : Machine). m.failed) t.3
@@ -63,8 +62,7 @@ auto-failed sys zero (x ∷ steps) state last run = absurd run
 auto-failed sys (suc most) [] state last run = ap (λ (m : Machine). m.failed) run.1
 auto-failed sys (suc most) (x ∷ steps) state last run =
     let first = run.2 in
-    let auto : is_auto x ≡ true = (each-suffix (λ step. is_auto step ≡ true) first.earlier (x ∷ first.later)
-    (subst (AllByRecursion (λ step. is_auto step ≡ true)) first.among (each-auto sys.flow))).0 in
+    let auto = auto-first sys state x run.0 run.1 first in
     auto-failed sys most steps run.0 last run.3 ∙ took-failed sys state x auto run.0 run.1 first.leads
 
 auto-live : (sys : System) (most : ℕ) (steps : List Step) (state last : Machine) → IsAutoRun sys state most steps last → AreAllLive sys state → AreAllLive sys last

@@ -16,18 +16,19 @@ use Rattle.fw_flow.specs.declared.step.Step.TheVariants.{Inject, Deliver, Notify
 use Rattle.fw_flow.specs.Dataflow.{System, Dataflow, policy_of, node_ids, node_frontier}
 use Rattle.fw_flow.specs.NodeFunction.{event_node}
 use Rattle.fw_flow.specs.WellFormed.{IsWellFormedSystem}
-use Rattle.fw_model.specs.Auto.{edge_ids, deliveries, notifications, acknowledgements, injections, auto_steps, IsIdle, AreIdle, IsAutoRun}
+use Rattle.fw_model.specs.Auto.{edge_ids, deliveries, notifications, acknowledgements, injections, auto_steps, IsIdle, AreIdle, IsFirstEnabled, IsAutoRun}
 use Rattle.fw_model.specs.Denotation.{Family, IsDenotation}
 use Rattle.fw_model.specs.History.{IsEnabled, IsLegal}
 use Rattle.fw_model.specs.Machine.{Machine, SerialEvent, Write, acknowledged, events, first_state, front_of, ack_count_of}
 use Rattle.fw_model.specs.Reached.{IsReached}
-use Rattle.fw_model.specs.Steps.{Effect, silent, did, write_of_event, with_event, eager_writes, GrowsTo, is_in_flight, AcknowledgesOldest, LeadsTo}
+use Rattle.fw_model.specs.Steps.{Effect, silent, did, write_of_event, with_event, eager_writes, GrowsTo, is_in_flight, AcknowledgesOldest, LeadsTo, Run}
+use Rattle.fw_model.proofs.AutoLaws.{auto-runs}
 use Rattle.fw_model.proofs.Decisions.{two_ways}
 use Rattle.fw_model.proofs.DescentLaws.{complete-one}
 use Rattle.fw_model.proofs.GoingOn.{runs-go_on}
-use Rattle.fw_rest.specs.Rest.{HasNothingToDo}
+use Rattle.fw_rest.specs.Rest.{HasNothingToDo, is_of_auto}
 use Rattle.fw_rest.specs.StepsToRest.{most_events, stamps_due, stamps_left, count_in_flight, steps_to_rest}
-use Rattle.fw_rest.specs.LawsOfRest.{AutoComesToRest, AutoTakesSoMany}
+use Rattle.fw_rest.specs.LawsOfRest.{AutoComesToRest, AutoTakesSoMany, StepsOfAutoEnd}
 use Rattle.fw_rest.proofs.DueLaws.{may-due, reached-counts, reached-legal}
 use Rattle.fw_rest.proofs.MostEventsLaws.{sum-rises, few_events}
 
@@ -241,20 +242,9 @@ ack-lowers sys family w den state legal counts o next effect n s t =
 
 -- ---- each step of `auto`
 
--- whether `auto` takes such a step
-unfoldable pub is_auto : Step → Bool
-is_auto (Inject s) = true
-is_auto (Deliver e at) = true
-is_auto (Notify p at) = true
-is_auto ProgressStep = true
-is_auto Persist = true
-is_auto (Ack o) = true
-is_auto step = false
-
-pub each-auto : (flow : Dataflow) → AllByRecursion (λ step. is_auto step ≡ true) (auto_steps flow)
-unfolding is_auto
+pub each-auto : (flow : Dataflow) → AllByRecursion (λ step. is_of_auto step ≡ true) (auto_steps flow)
 each-auto flow =
-    let P : Step → Type 0 = λ step. is_auto step ≡ true in
+    let P : Step → Type 0 = λ step. is_of_auto step ≡ true in
     let a = each-map P (λ e. Deliver e None) (edge_ids flow) (each-one (λ e. P (Deliver e None)) (edge_ids flow) (λ e. refl)) in
     let b = each-map P (λ p. Notify p None) (node_ids flow) (each-one (λ p. P (Notify p None)) (node_ids flow) (λ p. refl)) in
     let c = each-map P Ack (node_ids flow) (each-one (λ p. P (Ack p)) (node_ids flow) (λ p. refl)) in
@@ -264,9 +254,14 @@ each-auto flow =
           (each-append P (notifications flow) (ProgressStep ∷ (acknowledgements flow ++ injections flow)) b (refl, each-append P (acknowledgements flow) (injections flow) c d)),
     )
 
+-- the first of its steps that is enabled is of its kinds
+pub auto-first : (sys : System) (state : Machine) (step : Step) (next : Machine) (effect : Effect) → IsFirstEnabled sys state (auto_steps sys.flow) step next effect
+    → is_of_auto step ≡ true
+auto-first sys state step next effect first = (each-suffix (λ s. is_of_auto s ≡ true) first.earlier (step ∷ first.later)
+    (subst (AllByRecursion (λ s. is_of_auto s ≡ true)) first.among (each-auto sys.flow))).0
+
 lowers : (sys : System) (family : Family) → IsWellFormedSystem sys → IsDenotation sys family → (state : Machine) → IsReached sys state
-    → (n : ℕ) → HasSteps sys family state n → (step : Step) → is_auto step ≡ true → (next : Machine) (effect : Effect) → LeadsTo sys state step next effect → Lowers sys family next n
-unfolding is_auto
+    → (n : ℕ) → HasSteps sys family state n → (step : Step) → is_of_auto step ≡ true → (next : Machine) (effect : Effect) → LeadsTo sys state step next effect → Lowers sys family next n
 lowers sys family w den state r n s (Inject q) k next effect t =
     subst (λ (m : Machine). Lowers sys family m n) (sym t.3) (event-lowers sys family w den state (reached-legal sys w state r) n s (Injected q t.0) t.1)
 lowers sys family w den state r n s (Deliver e at) k next effect t =
@@ -294,7 +289,7 @@ comes : (sys : System) (family : Family) → IsWellFormedSystem sys → IsDenota
     → (n : ℕ) → HasSteps sys family state n → n ≤ most → IsAutoRun sys state most steps last → HasNothingToDo sys last
 comes sys family w den zero [] state last r n s l run =
     subst (HasNothingToDo sys) (sym run)
-    (each-idle sys state (λ step. is_auto step ≡ true) (auto_steps sys.flow) (each-auto sys.flow) (λ step k next effect t.
+    (each-idle sys state (λ step. is_of_auto step ≡ true) (auto_steps sys.flow) (each-auto sys.flow) (λ step k next effect t.
     let m = lowers sys family w den state r n s step k next effect t in
     let less = m.1 in
     omega arith))
@@ -302,8 +297,7 @@ comes sys family w den zero (x ∷ steps) state last r n s l run = absurd run
 comes sys family w den (suc most) [] state last r n s l run = subst (HasNothingToDo sys) (sym run.1) run.0
 comes sys family w den (suc most) (x ∷ steps) state last r n s l run =
     let first = run.2 in
-    let auto : is_auto x ≡ true = (each-suffix (λ step. is_auto step ≡ true) first.earlier (x ∷ first.later)
-    (subst (AllByRecursion (λ step. is_auto step ≡ true)) first.among (each-auto sys.flow))).0 in
+    let auto = auto-first sys state x run.0 run.1 first in
     let m = lowers sys family w den state r n s x auto run.0 run.1 first.leads in
     let less = m.1 in
     comes sys family w den most steps run.0 last (reached-on sys state r x run.0 run.1 first.leads) m.0 m.2 (omega arith) run.3
@@ -316,22 +310,31 @@ auto-comes_to_rest sys family w den state r most l steps last run =
 
 -- ---- how many steps it takes
 
-takes : (sys : System) (family : Family) → IsWellFormedSystem sys → IsDenotation sys family → (most : ℕ) (steps : List Step) (state last : Machine) → IsReached sys state
-    → (n : ℕ) → HasSteps sys family state n → IsAutoRun sys state most steps last → length steps ≤ n
-takes sys family w den zero [] state last r n s run = omega arith
-takes sys family w den zero (x ∷ steps) state last r n s run = absurd run
-takes sys family w den (suc most) [] state last r n s run = omega arith
-takes sys family w den (suc most) (x ∷ steps) state last r n s run =
-    let first = run.2 in
-    let auto : is_auto x ≡ true = (each-suffix (λ step. is_auto step ≡ true) first.earlier (x ∷ first.later)
-    (subst (AllByRecursion (λ step. is_auto step ≡ true)) first.among (each-auto sys.flow))).0 in
-    let m = lowers sys family w den state r n s x auto run.0 run.1 first.leads in
+steps-end : (sys : System) (family : Family) → IsWellFormedSystem sys → IsDenotation sys family → (steps : List Step) (effects : List Effect) (state last : Machine)
+    → IsReached sys state → (n : ℕ) → HasSteps sys family state n → AllByRecursion (λ step. is_of_auto step ≡ true) steps
+    → Run sys state steps (map did effects) last → length steps ≤ n
+steps-end sys family w den [] effects state last r n s kinds run = omega arith
+steps-end sys family w den (x ∷ steps) [] state last r n s kinds run = absurd run
+steps-end sys family w den (x ∷ steps) (effect ∷ effects) state last r n s kinds run =
+    let m = lowers sys family w den state r n s x kinds.0 run.0 effect run.1 in
     let less = m.1 in
-    let rest = takes sys family w den most steps run.0 last (reached-on sys state r x run.0 run.1 first.leads) m.0 m.2 run.3 in
+    let rest = steps-end sys family w den steps effects run.0 last (reached-on sys state r x run.0 effect run.1) m.0 m.2 kinds.1 run.2 in
     omega arith
 
-pub auto-takes : AutoTakesSoMany
+pub steps_of_auto-end : StepsOfAutoEnd
 unfolding steps_to_rest steps_with
+steps_of_auto-end sys family w den state r steps kinds effects last run =
+    steps-end sys family w den steps effects state last r (steps_to_rest sys family state)
+    (record { grows = true; else_not = λ j. absurd (two_ways true refl j); count = refl }) kinds run
+
+-- each step that `auto` takes is of its kinds
+auto-steps : (sys : System) (most : ℕ) (steps : List Step) (state last : Machine) → IsAutoRun sys state most steps last → AllByRecursion (λ step. is_of_auto step ≡ true) steps
+auto-steps sys zero [] state last run = tt
+auto-steps sys zero (x ∷ steps) state last run = absurd run
+auto-steps sys (suc most) [] state last run = tt
+auto-steps sys (suc most) (x ∷ steps) state last run = (auto-first sys state x run.0 run.1 run.2, auto-steps sys most steps run.0 last run.3)
+
+pub auto-takes : AutoTakesSoMany
 auto-takes sys family w den state r most steps last run =
-    takes sys family w den most steps state last r (steps_to_rest sys family state)
-    (record { grows = true; else_not = λ j. absurd (two_ways true refl j); count = refl }) run
+    let taken = auto-runs sys state last most steps run in
+    steps_of_auto-end sys family w den state r steps (auto-steps sys most steps state last run) taken.0 last taken.1

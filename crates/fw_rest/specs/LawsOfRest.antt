@@ -1,5 +1,6 @@
 -- Laws of rest: where nothing more can come all is complete and acknowledged, and `auto` comes there in so many steps.
-use Rattle.std.specs.Prelude.{◌≡◌, ℕ, ◌+◌, ◌*◌, ◌<◌, ◌≤◌, true, List, [], ◌∷◌, ◌++◌, length}
+use Rattle.std.specs.Prelude.{◌≡◌, ℕ, ◌+◌, ◌*◌, ◌<◌, ◌≤◌, true, List, [], ◌∷◌, ◌++◌, length, map}
+use Rattle.std.specs.List.{AllByRecursion}
 use Rattle.fw_time.specs.Stamp.{Stamp, in_domain}
 use Rattle.fw_frontier.specs.Frontier.{Frontier}
 use Rattle.fw_flow.specs.declared.event.Event.{Event}
@@ -12,8 +13,8 @@ use Rattle.fw_model.specs.Denotation.{Family, IsDenotation, bag_at}
 use Rattle.fw_model.specs.History.{IsLegal, IsComplete}
 use Rattle.fw_model.specs.Machine.{Machine, events, first_state, ack_count_of}
 use Rattle.fw_model.specs.Reached.{IsReached}
-use Rattle.fw_model.specs.Steps.{Outcome, Run}
-use Rattle.fw_rest.specs.Rest.{IsAtRest, AreAllLive, HasNothingToDo, HasAcknowledgedAll, HasShownAll, RecoversAndGoesOn}
+use Rattle.fw_model.specs.Steps.{Effect, Outcome, did, Run}
+use Rattle.fw_rest.specs.Rest.{IsAtRest, AreAllLive, HasNothingToDo, is_of_auto, HasAcknowledgedAll, HasShownAll, RecoversAndGoesOn}
 use Rattle.fw_rest.specs.StepsToRest.{count_in_flight, most_events, stamps_due, steps_to_rest, steps_in_all}
 
 -- after a legal history of a well-formed flow with epochs, at rest, each stamp of each node is complete: no message waits, no
@@ -51,6 +52,13 @@ AutoComesToRest = (sys : System) (family : Family) → IsWellFormedSystem sys �
 abbrev pub LegalHistoriesEnd : Type 0
 LegalHistoriesEnd = (sys : System) (family : Family) → IsWellFormedSystem sys → IsDenotation sys family
     → (h : List Event) → IsLegal sys h → length h ≤ most_events sys family
+
+-- from each state to which steps of a well-formed system lead from the first one, no more steps of the kinds that `auto` takes
+-- follow each other than this, each enabled where it is taken, in whatever order
+abbrev pub StepsOfAutoEnd : Type 0
+StepsOfAutoEnd = (sys : System) (family : Family) → IsWellFormedSystem sys → IsDenotation sys family → (state : Machine) → IsReached sys state
+    → (steps : List Step) → AllByRecursion (λ step. is_of_auto step ≡ true) steps
+    → (effects : List Effect) (last : Machine) → Run sys state steps (map did effects) last → length steps ≤ steps_to_rest sys family state
 
 -- from each state to which steps of a well-formed system lead from the first one, `auto` takes no more steps than this, however many it
 -- may take

@@ -1,11 +1,11 @@
 -- Where nothing more can come, and where all that is denoted at an output is acknowledged.
-use Rattle.std.specs.Prelude.{◌≡◌, ℕ, ◌<◌, false, List, [], ◌∷◌, length}
+use Rattle.std.specs.Prelude.{◌≡◌, ℕ, ◌<◌, Bool, true, false, List, [], ◌∷◌, length}
 use Rattle.std.specs.List.{AllByRecursion}
 use Rattle.fw_time.specs.Stamp.{Stamp}
 use Rattle.fw_flow.specs.declared.event.Event.{Event}
 use Rattle.fw_flow.specs.declared.kind.Kind.TheVariants.{OutputEpoch}
 use Rattle.fw_flow.specs.declared.step.Step.{Step}
-use Rattle.fw_flow.specs.declared.step.Step.TheVariants.{Recover}
+use Rattle.fw_flow.specs.declared.step.Step.TheVariants.{Inject, Deliver, Notify, Progress as ProgressStep, Persist, Recover, Ack}
 use Rattle.fw_flow.specs.Dataflow.{System, kind_of, receiver}
 use Rattle.fw_flow.specs.WholeBags.{Timed}
 use Rattle.fw_model.specs.Auto.{AreIdle, IsAutoRun, auto_steps}
@@ -27,6 +27,16 @@ AreAllLive sys state = (p : ℕ) → p < length sys.flow.nodes → is_failed sta
 -- `auto` has nothing to do
 abbrev pub HasNothingToDo : System → Machine → Type 0
 HasNothingToDo sys state = AreIdle sys state (auto_steps sys.flow)
+
+-- whether the step is of a kind that `auto` takes: an event, a growth of settled or an acknowledgement, asked for at a stamp or not
+abbrev pub is_of_auto : Step → Bool
+is_of_auto (Inject s) = true
+is_of_auto (Deliver e at) = true
+is_of_auto (Notify p at) = true
+is_of_auto ProgressStep = true
+is_of_auto Persist = true
+is_of_auto (Ack o) = true
+is_of_auto step = false
 
 -- the stamp is one of the first so many epochs or numbers, which an output acknowledged
 abbrev pub IsAcknowledged : ℕ → Stamp → Type 0

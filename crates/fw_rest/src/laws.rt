@@ -2,7 +2,7 @@
 //!
 //! In the comments a system is well formed by `IsWellFormedSystem`. A run begins in the machine's first state, and its steps are
 //! any, failures, recoveries and collections among them.
-ghost use Rattle.fw_rest.specs.LawsOfRest.{AcknowledgedIsDue, AcknowledgedIsShown, AutoComesToRest, AutoTakesSoMany, EachStateGoesOn, FewAreInFlight, LegalHistoriesEnd, NothingToDoIsRest, RestHasAcknowledgedAll, RestIsComplete, WhatIsGivenIsAcknowledged};
+ghost use Rattle.fw_rest.specs.LawsOfRest.{AcknowledgedIsDue, AcknowledgedIsShown, AutoComesToRest, AutoTakesSoMany, EachStateGoesOn, FewAreInFlight, LegalHistoriesEnd, NothingToDoIsRest, RestHasAcknowledgedAll, RestIsComplete, WhatIsGivenIsAcknowledged, StepsOfAutoEnd};
 
 /// Whatever steps led to a state of a well-formed system, failures among them: once a recovery is taken, and then `auto` as many
 /// steps as it takes at most, each output has acknowledged all that is denoted at it, and has shown it.
@@ -19,6 +19,12 @@ pub fn each_state_goes_on()
 /// to do, if it may take `steps_to_rest` steps.
 pub fn auto_comes_to_rest()
     ensures { AutoComesToRest }
+{}
+
+/// From each state of a well-formed system to which steps lead from the first one, no more than `steps_to_rest` steps of the
+/// kinds that `auto` takes follow each other, each enabled where it is taken, in whatever order.
+pub fn steps_of_auto_end()
+    ensures { StepsOfAutoEnd }
 {}
 
 /// From each state of a well-formed system to which steps lead from the first one, `auto` takes no more than `steps_to_rest`

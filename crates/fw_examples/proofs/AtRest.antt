@@ -31,6 +31,7 @@ rest_applies =
           let taken = one totals formed steps_to_failure outcomes_to_failure output_failed reached most in
           (taken.1, law totals totals_denoted formed denoted output_failed (steps_to_failure, outcomes_to_failure, reached) most (at_most_itself most) taken.0 taken.1 taken.2);
       goes_on = λ law. law totals formed output_failed (steps_to_failure, outcomes_to_failure, reached) 136;
+      rests = λ law also last g. law totals totals_denoted formed denoted output_failed (steps_to_failure, outcomes_to_failure, reached) 136 (same_at_most _ 136 refl) also last g;
       all = λ law also last g.
           (law totals totals_denoted formed denoted steps_to_failure outcomes_to_failure output_failed reached 136 (same_at_most _ 136 refl) also last g out (lit< tt) refl).0;
       shown = λ law also last g.

@@ -24,10 +24,11 @@ use Rattle.fw_model.proofs.RecoveryLaws.{acknowledged-denoted, edge-there}
 use Rattle.fw_model.proofs.RunLaws.{acknowledgements-in_order}
 use Rattle.fw_rest.specs.Rest.{is_of_auto, AreAllLive, IsAcknowledged}
 use Rattle.fw_rest.specs.StepsToRest.{most_events, stamps_due, count_in_flight, steps_to_rest, steps_in_all}
-use Rattle.fw_rest.specs.LawsOfRest.{AcknowledgedIsShown, EachStateGoesOn, WhatIsGivenIsAcknowledged}
+use Rattle.fw_rest.specs.Coming.{AllComesOfEachState}
+use Rattle.fw_rest.specs.LawsOfRest.{AcknowledgedIsShown, EachStateGoesOn, RecoveryComesToRest, WhatIsGivenIsAcknowledged}
 use Rattle.fw_rest.proofs.AckLaws.{rest-acknowledged}
 use Rattle.fw_rest.proofs.InFlightLaws.{kept-in_flight}
-use Rattle.fw_rest.proofs.LoweringLaws.{auto-first, auto-comes_to_rest}
+use Rattle.fw_rest.proofs.LoweringLaws.{auto-first, auto-comes_to_rest, steps_of_auto-end}
 use Rattle.fw_rest.proofs.MostEventsLaws.{sum-at_most}
 
 -- ---- all nodes are live
@@ -148,20 +149,25 @@ each-goes_on sys w state r most =
       },
     )
 
-pub given-acknowledged : WhatIsGivenIsAcknowledged
-given-acknowledged sys family w den before outcomes state run most l also last g o there output =
-    let reached : IsReached sys state = (before, outcomes, run) in
-    let again : IsReached sys g.recovered = (
-      before ++ Recover ∷ [],
-      outcomes ++ g.recovery ∷ [],
-      runs-go_on sys (first_state sys) state g.recovered before (Recover ∷ []) outcomes (g.recovery ∷ []) run (g.recovered, g.recovers, refl),
-    ) in
+-- what a recovery leads to is reached
+reached-again : (sys : System) (state : Machine) → IsReached sys state → (next : Machine) (outcome : Outcome) → StepsTo sys state Recover next outcome → IsReached sys next
+reached-again sys state r next outcome t =
+    (r.0 ++ Recover ∷ [], r.1 ++ outcome ∷ [], runs-go_on sys (first_state sys) state next r.0 (Recover ∷ []) r.1 (outcome ∷ []) r.2 (next, t, refl))
+
+pub recovery-comes_to_rest : RecoveryComesToRest
+recovery-comes_to_rest sys family w den state r most l also last g =
     let a = within-all sys family g.recovered in
     let b = recovered-in_flight sys state g.recovered g.recovery g.recovers in
-    let rest = auto-comes_to_rest sys family w den g.recovered again most (omega arith) g.steps last g.taken in
-    let live = auto-live sys most g.steps g.recovered last g.taken (recovered-live sys w state reached g.recovered g.recovery g.recovers) in
+    let again = reached-again sys state r g.recovered g.recovery g.recovers in (
+      auto-live sys most g.steps g.recovered last g.taken (recovered-live sys w state r g.recovered g.recovery g.recovers),
+      auto-comes_to_rest sys family w den g.recovered again most (omega arith) g.steps last g.taken,
+    )
+
+pub given-acknowledged : WhatIsGivenIsAcknowledged
+given-acknowledged sys family w den before outcomes state run most l also last g o there output =
+    let rest = recovery-comes_to_rest sys family w den state (before, outcomes, run) most l also last g in
     let whole = runs-go_on sys (first_state sys) state last before (Recover ∷ g.steps) outcomes also run g.runs in
-    let all = rest-acknowledged sys family w den last (before ++ Recover ∷ g.steps, outcomes ++ also, whole) live rest o there output in
+    let all = rest-acknowledged sys family w den last (before ++ Recover ∷ g.steps, outcomes ++ also, whole) rest.0 rest.1 o there output in
     let shown = acknowledged-shown sys family w den (before ++ Recover ∷ g.steps) (outcomes ++ also) last whole o in (
       all,
       record {
@@ -170,3 +176,15 @@ given-acknowledged sys family w den before outcomes state run most l also last g
         batches = λ kind e is x k. shown e there is x (all.batches kind x k);
       },
     )
+
+pub all-comes : AllComesOfEachState
+all-comes sys family w den steps outcomes state run =
+    let reached : IsReached sys state = (steps, outcomes, run) in
+    let finished = given-acknowledged sys family w den steps outcomes state run in
+    record {
+      goes_on = λ most. each-goes_on sys w state reached most;
+      ends = λ more of_auto effects last taken. steps_of_auto-end sys family w den state reached more of_auto effects last taken;
+      rests = λ most l also last g. recovery-comes_to_rest sys family w den state reached most l also last g;
+      acknowledged = λ most l also last g o there output. (finished most l also last g o there output).0;
+      shown = λ most l also last g o there output. (finished most l also last g o there output).1;
+    }

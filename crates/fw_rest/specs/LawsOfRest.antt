@@ -84,6 +84,13 @@ abbrev pub EachStateGoesOn : Type 0
 EachStateGoesOn = (sys : System) → IsWellFormedSystem sys → (state : Machine) → IsReached sys state → (most : ℕ)
     → (outcomes : List Outcome) × (last : Machine) × RecoversAndGoesOn sys state most outcomes last
 
+-- from each state to which steps of a well-formed system lead from the first one, a recovery and then `auto`, if it may take so many steps,
+-- come to a state with all nodes live in which `auto` has nothing to do
+abbrev pub RecoveryComesToRest : Type 0
+RecoveryComesToRest = (sys : System) (family : Family) → IsWellFormedSystem sys → IsDenotation sys family → (state : Machine) → IsReached sys state
+    → (most : ℕ) → steps_in_all sys family + count_in_flight state.writes ≤ most
+    → (also : List Outcome) (last : Machine) → RecoversAndGoesOn sys state most also last → AreAllLive sys last × HasNothingToDo sys last
+
 -- Whatever steps led to a state of a well-formed system, failures among them: once a recovery is taken, and then `auto` as many steps
 -- as it takes at most, each output has acknowledged all that is denoted at it, and has shown it.
 abbrev pub WhatIsGivenIsAcknowledged : Type 0

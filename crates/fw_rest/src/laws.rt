@@ -2,7 +2,13 @@
 //!
 //! In the comments a system is well formed by `IsWellFormedSystem`. A run begins in the machine's first state, and its steps are
 //! any, failures, recoveries and collections among them.
-ghost use Rattle.fw_rest.specs.LawsOfRest.{AcknowledgedIsDue, AcknowledgedIsShown, AutoComesToRest, AutoTakesSoMany, EachStateGoesOn, FewAreInFlight, LegalHistoriesEnd, NothingToDoIsRest, RestHasAcknowledgedAll, RestIsComplete, WhatIsGivenIsAcknowledged, StepsOfAutoEnd};
+ghost use Rattle.fw_rest.specs.Coming.{AllComesOfEachState};
+ghost use Rattle.fw_rest.specs.LawsOfRest.{AcknowledgedIsDue, AcknowledgedIsShown, AutoComesToRest, AutoTakesSoMany, EachStateGoesOn, FewAreInFlight, LegalHistoriesEnd, NothingToDoIsRest, RecoveryComesToRest, RestHasAcknowledgedAll, RestIsComplete, WhatIsGivenIsAcknowledged, StepsOfAutoEnd};
+
+/// Of each state of a run of a well-formed system all comes that is denoted (`AllComes`), whatever failed.
+pub fn all_comes_of_each_state()
+    ensures { AllComesOfEachState }
+{}
 
 /// Whatever steps led to a state of a well-formed system, failures among them: once a recovery is taken, and then `auto` as many
 /// steps as it takes at most, each output has acknowledged all that is denoted at it, and has shown it.
@@ -13,6 +19,12 @@ pub fn what_is_given_is_acknowledged()
 /// From each state of a well-formed system to which steps lead from the first one, a recovery leads on, and then `auto`.
 pub fn each_state_goes_on()
     ensures { EachStateGoesOn }
+{}
+
+/// From each state of a well-formed system to which steps lead from the first one, a recovery and then `auto`, if it may take
+/// `steps_in_all` steps and one for each write in flight, come to a state with all nodes live in which `auto` has nothing to do.
+pub fn recovery_comes_to_rest()
+    ensures { RecoveryComesToRest }
 {}
 
 /// From each state of a well-formed system to which steps lead from the first one, `auto` comes to one in which it has nothing

@@ -1,7 +1,6 @@
 -- The laws of rest, applied to the running total whose output failed.
-use Rattle.std.proofs.Common.{◌≡◌, ℕ, ◌≤◌, [], ◌∷◌, ◌++◌, refl, subst, lit<, inl, inr, arith}
+use Rattle.std.proofs.Common.{◌≡◌, ℕ, ◌≤◌, refl, lit<, inl, arith}
 use Rattle.fw_flow.specs.Dataflow.{batches_of, in_edges, kind_of, receiver, sender}
-use Rattle.fw_model.specs.Acknowledgements.{Shows}
 use Rattle.fw_model.specs.Machine.{events}
 use Rattle.fw_rest.specs.StepsToRest.{steps_to_rest, steps_in_all}
 use Rattle.fw_examples.specs.AtRest.{RestApplies}

@@ -1,5 +1,5 @@
 -- What the laws of rest say of the running total whose output failed.
-use Rattle.std.specs.Prelude.{◌≡◌, ℕ, ◌+◌, ◌≤◌, List, [], ◌∷◌, ◌++◌, length}
+use Rattle.std.specs.Prelude.{◌≡◌, ◌+◌, ◌≤◌, List, [], ◌∷◌, ◌++◌, length}
 use Rattle.fw_model.specs.Acknowledgements.{Shows}
 use Rattle.fw_model.specs.LawsOfAuto as auto
 use Rattle.fw_model.specs.Machine.{Machine, events}

@@ -191,8 +191,8 @@ delivery-done sys state e p asked n old mid new before after s shaped to live so
     (subst (λ (k : KeepState). LogsEvent old.flow p (logged.Deliver e n.at n.rec) old.parts.keep.entries k.entries before after) (sym keep) logs)))
 
 -- the receiver of an edge asks the write
-pub at-receiver : {T K : Type 0} {view : K → StoreView} {flow : Dataflow} {e p : ℕ} {old new : Running} {before after : K} {result : Result T EngineFault}
+pub at-receiver : {T K : Type 0} {view : K → StoreView} (flow : Dataflow) (e : ℕ) {p : ℕ} {old new : Running} {before after : K} {result : Result T EngineFault}
     → p ≡ receiver flow e → PartAnswers view (policy_of flow p ≡ policy.Full) old before result new after
     → PartAnswers view (policy_of flow (receiver flow e) ≡ policy.Full) old before result new after
-at-receiver {T} {K} {view} {flow} {e} {p} {old} {new} {before} {after} {result} is part =
+at-receiver {T} {K} {view} flow e {p} {old} {new} {before} {after} {result} is part =
     subst (λ q. PartAnswers view (policy_of flow q ≡ policy.Full) old before result new after) is part

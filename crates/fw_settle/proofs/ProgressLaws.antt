@@ -1,15 +1,19 @@
 -- The step of progress: what it makes of what is kept stands for the next state.
-use Rattle.std.proofs.Common.{◌≡◌, ℕ, ◌<◌, Bool, true, false, not, cond, ◌&&◌, List, [], ◌++◌, map, length, get_or, refl, sym, ap, subst, ◌∙◌, inl, inr, arith}
-use Rattle.std.specs.List.{range_with_len}
+use Rattle.std.proofs.Common.{◌≡◌, ℕ, ◌<◌, Bool, true, false, not, cond, ◌&&◌, List, [], ◌++◌, filter, map, length, get_or, refl, sym, ap, subst, ◌∙◌, inl, inr, arith}
+use Rattle.std.specs.List.{AllByRecursion, range_with_len}
 use Rattle.std.specs.Prelude.{Option, Some, None, Ok, Err, nat_lt}
 use Rattle.std.proofs.lemmas.Bool.{and_parts, both_ways, cases_Bool, cases_lt, lt-ltb}
 use Rattle.std.proofs.lemmas.List.{get_or_past}
 use Rattle.std.proofs.lemmas.List.FromFn.{get_or-map-range_with_len, length-map-range_with_len}
-use Rattle.fw_frontier.specs.Front.{Front, IsFrontOf, frontier_of}
+use Rattle.fw_time.specs.Stamp.{in_domain, leq}
+use Rattle.fw_time.specs.declared.stamp.Bounds.{Bounds}
+use Rattle.fw_time.proofs.DomainLaws.{domain-leq}
+use Rattle.fw_time.proofs.EachLaws.{each-weaker}
+use Rattle.fw_frontier.specs.Front.{Front, IsCanonical, IsFrontOf, frontier_of}
 use Rattle.fw_frontier.specs.Frontier.{join}
 use Rattle.fw_frontier.proofs.Pairs.{excluding_pairs}
 use Rattle.fw_frontier.proofs.CanonicalLaws.{in_domain-canonical}
-use Rattle.fw_frontier.proofs.NamesLaws.{names-join}
+use Rattle.fw_frontier.proofs.NamesLaws.{names-join, names-join_sides}
 use Rattle.fw_flow.specs.declared.step.Step.TheVariants.{Progress as ProgressStep}
 use Rattle.fw_flow.specs.Dataflow.{System, policy_of, bounds_of, node_ids}
 use Rattle.fw_model.specs.History.{IsComplete}
@@ -231,19 +235,36 @@ progresses mid asked new before after c a d h = record {
 
 -- ---- where the step is enabled
 
+-- the list of what is inside one of two frontiers of a domain
+abbrev joined : Bounds → Front → Front → Front
+joined b f g = filter (in_domain b) (excluding_pairs f g [])
+
+names-joined : (b : Bounds) (f g : Front) → IsCanonical b f → IsCanonical b g → IsFrontOf b (joined b f g) (join (frontier_of b f) (frontier_of b g))
+names-joined b f g h k =
+    let i = in_domain-canonical b f h in
+    let j = in_domain-canonical b g k in
+    names-join_sides b (excluding_pairs f g []) f g i j (names-join b.greatest f g (low f i) (low g j))
+  where
+    low : (os : Front) → AllByRecursion (λ o. in_domain b o ≡ true) os → AllByRecursion (λ o. leq o b.greatest ≡ true) os
+    low os all = each-weaker (λ o. in_domain b o ≡ true) (λ o. leq o b.greatest ≡ true) os (domain-leq b) all
+
+-- what is settled and what is complete of node p
+abbrev joined_at : Running → ℕ → Front
+joined_at mid p = joined (bounds_of mid.flow p) (front_of mid.progress.settled p) (front_of mid.progress.kept p)
+
 -- what node p settles, where it is to settle, and else what is settled of it
 abbrev settles_at : Running → ℕ → Front
-settles_at mid p = cond (grows mid p) (excluding_pairs (front_of mid.progress.settled p) (front_of mid.progress.kept p) []) (front_of mid.progress.settled p)
+settles_at mid p = cond (grows mid p) (joined_at mid p) (front_of mid.progress.settled p)
 
 -- the same of all nodes
 abbrev all_settled : Running → List Front
 all_settled mid = map (settles_at mid) (range_with_len 0 (length mid.progress.settled))
 
 settles-none : (mid : Running) (p : ℕ) → grows mid p ≡ false → settles_at mid p ≡ front_of mid.progress.settled p
-settles-none mid p n = ap (λ b. cond b (excluding_pairs (front_of mid.progress.settled p) (front_of mid.progress.kept p) []) (front_of mid.progress.settled p)) n
+settles-none mid p n = ap (λ b. cond b (joined_at mid p) (front_of mid.progress.settled p)) n
 
-settles-joined : (mid : Running) (p : ℕ) → grows mid p ≡ true → settles_at mid p ≡ excluding_pairs (front_of mid.progress.settled p) (front_of mid.progress.kept p) []
-settles-joined mid p g = ap (λ b. cond b (excluding_pairs (front_of mid.progress.settled p) (front_of mid.progress.kept p) []) (front_of mid.progress.settled p)) g
+settles-joined : (mid : Running) (p : ℕ) → grows mid p ≡ true → settles_at mid p ≡ joined_at mid p
+settles-joined mid p g = ap (λ b. cond b (joined_at mid p) (front_of mid.progress.settled p)) g
 
 settled-there : (mid : Running) → IsShaped mid → (p : ℕ) → front_of (all_settled mid) p ≡ settles_at mid p
 settled-there mid shaped p = elim (cases_lt p (length mid.progress.settled)) [
@@ -265,7 +286,7 @@ all-grown mid shaped = record {
       let kept = front_of mid.progress.kept p in (
         (and_parts (not (get_or mid.failed.items p false)) (has_more kept old) g).1,
         subst (λ (f : Front). IsFrontOf b f (join (frontier_of b old) (frontier_of b kept))) (sym (settled-there mid shaped p ∙ settles-joined mid p g))
-            (names-join b old kept (in_domain-canonical b old (shaped.progress.settled p)) (in_domain-canonical b kept (shaped.progress.kept p))),
+            (names-joined b old kept (shaped.progress.settled p) (shaped.progress.kept p)),
       );
   others = λ p none. elim (cases_Bool (grows mid p)) [
     | inl g ↦ elim (cases_lt p (length mid.flow.nodes)) [

@@ -36,7 +36,7 @@ returns-in_err-log_delivery g c =
     let step = Deliver c.args.edge (option_copied c.args.at) in
     let e = c.in_err-log_delivery.field-0.0 in
     let log = c.in_err-log_delivery.ensures in
-    step-fails refl refl (at-receiver c.dst-node.ensures log.part) c.from_residual.ensures.1 (stays-shaped {T = Unit {0}} (Err e) new log.shaped)
+    step-fails refl refl (at-receiver c.args.running.now.flow c.args.edge c.dst-node.ensures log.part) c.from_residual.ensures.1 (stays-shaped {T = Unit {0}} (Err e) new log.shaped)
     (λ sys state s. left-answers (Unit {0}) sys state step e new before after log.part.undamaged (
       found-enabled sys state c.args.edge (option_copied c.args.at) c.in-Some.field-0 old before s c.requires.shaped c.in-Some.ensures,
       unasked-stands sys old new before after state s log.others log.stays,
@@ -44,7 +44,7 @@ returns-in_err-log_delivery g c =
 
 pub returns-in_err-take_in : goal.returns-in_err-take_in
 returns-in_err-take_in g c =
-    step-refused refl refl (at-receiver c.dst-node.ensures c.in_ok-log_delivery.ensures.part) c.take_in.ensures.keep c.take_in.ensures.flow
+    step-refused refl refl (at-receiver c.args.running.now.flow c.args.edge c.dst-node.ensures c.in_ok-log_delivery.ensures.part) c.take_in.ensures.keep c.take_in.ensures.flow
     c.from_residual-in_err-take_in.ensures.1
 
 pub returns : goal.returns
@@ -52,7 +52,7 @@ returns g c =
     let old = c.args.running.now in
     let log = c.in_ok-log_delivery.ensures in
     let live : is_down old c.dst-node.result ≡ false = sym c.is_failed.ensures ∙ c.if-is_failed.false in
-    step-did refl refl (at-receiver c.dst-node.ensures log.part) c.take_in.ensures.keep c.take_in.ensures.flow c.in_ok-take_in.ensures.shaped (λ sys state s trust.
+    step-did refl refl (at-receiver c.args.running.now.flow c.args.edge c.dst-node.ensures log.part) c.take_in.ensures.keep c.take_in.ensures.flow c.in_ok-take_in.ensures.shaped (λ sys state s trust.
     delivery-done sys state c.args.edge c.dst-node.result (option_copied c.args.at) c.in-Some.field-0 old c.log_delivery.new.running c.take_in.new.running
     (g.K.Store.view c.args.store.now).records (g.K.Store.view c.log_delivery.new.store).records s c.requires.shaped c.dst-node.ensures live c.in-Some.ensures
     log.others log.logged c.take_in.ensures.keep c.in_ok-take_in.ensures.takes)

@@ -52,7 +52,7 @@ returns-in_err-ask_checkpoint g c =
     let may = c.may_take.ensures.0 c.if-not-may_take.false in
     let asked = c.in_err-ask_checkpoint.ensures in
     let e = c.in_err-ask_checkpoint.field-0.0 in
-    step-fails refl refl (asking-part may.asks asked.others asked.stored asked.faults asked.undamaged asked.tells) c.from_residual-in_err-ask_checkpoint.ensures.1
+    step-fails {T = Unit {0}} {mid = old} refl refl (asking-part {old = old} may.asks asked.others asked.stored asked.faults asked.undamaged asked.tells) c.from_residual-in_err-ask_checkpoint.ensures.1
     (stays-shaped {T = Unit {0}} (Err e) new asked.shaped) (λ sys state s.
     left-answers (Unit {0}) sys state (Checkpoint c.args.node) e new before after asked.undamaged (
       checkpoint-enabled sys state old before s c.args.node may,
@@ -73,6 +73,6 @@ returns g c =
     let here : c.index-settled-place.result ≡ front_of old.progress.settled c.args.node =
     subst (λ fs. c.index-settled-place.result ≡ front_of fs c.args.node) c.settled.ensures
     (read_at c.settled.result.now c.args.node c.place.result c.index-settled-place.result [] c.place.ensures (omega (arith, there, each, long, c.place.ensures)) c.index-settled-place.is) in
-    step-did refl refl (asking-part may.asks asked.others asked.stored asked.faults asked.undamaged asked.tells) refl refl asked.shaped (λ sys state s trust.
+    step-did {T = Unit {0}} {mid = old} {x = c.in_ok-ask_checkpoint.field-0} refl refl (asking-part {old = old} may.asks asked.others asked.stored asked.faults asked.undamaged asked.tells) refl refl asked.shaped (λ sys state s trust.
     may-follows sys state old new before after s asked.others c.args.node may
     (subst (λ (f : Front). AsksCheckpoint c.args.node f old new before after) (c.in_ok-front.ensures ∙ here) asked.asked))

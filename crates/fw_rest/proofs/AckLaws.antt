@@ -8,7 +8,7 @@ use Rattle.fw_bag.specs.declared.rec.Rec.{Rec}
 use Rattle.fw_flow.specs.declared.event.Event.{Event}
 use Rattle.fw_flow.specs.declared.event.Event.TheVariants.{Inject, Deliver, Notify}
 use Rattle.fw_flow.specs.declared.kind.Kind.TheVariants.{OutputEpoch, OutputNumber}
-use Rattle.fw_flow.specs.Dataflow.{System, Dataflow, kind_of, receiver, bounds_of, bounds_of_domain, domain_of_kind, node_frontier, node_ids, greatest_number, is_output_kind, is_numbered, is_of_numbers, batches_of}
+use Rattle.fw_flow.specs.Dataflow.{System, Dataflow, kind_of, receiver, bounds_of, bounds_of_domain, domain_of_kind, node_frontier, greatest_number, is_output_kind, is_numbered, is_of_numbers, batches_of}
 use Rattle.fw_flow.specs.NodeFunction.{delivered_recs}
 use Rattle.fw_flow.specs.WellFormed.{IsWellFormedSystem}
 use Rattle.fw_flow.specs.WholeBags.{Timed}
@@ -16,7 +16,7 @@ use Rattle.fw_model.specs.Denotation.{Family, IsDenotation, AreNumberedFrom}
 use Rattle.fw_model.specs.History.{delivered_messages, IsLegal}
 use Rattle.fw_model.specs.Reached.{IsReached}
 use Rattle.fw_model.specs.Machine.{Machine, events, front_of, ack_count_of}
-use Rattle.fw_model.specs.Steps.{silent, acked, eager_writes, HasEpoch, HasDelivery, HasSomethingAt, recs_at_output}
+use Rattle.fw_model.specs.Steps.{acked, HasEpoch, HasDelivery, HasSomethingAt, recs_at_output}
 use Rattle.fw_model.proofs.Decisions.{two_ways}
 use Rattle.fw_model.proofs.DenotationDomainLaws.{denotation-in_domain}
 use Rattle.fw_model.proofs.DenotedLaws.{delivered-denoted}
@@ -26,13 +26,12 @@ use Rattle.fw_model.proofs.NumberedLaws.{denotation-numbered}
 use Rattle.fw_model.proofs.PrefixLaws.{all_denoted}
 use Rattle.fw_model.proofs.RecoveryLaws.{runs-legal}
 use Rattle.fw_model.proofs.SentLaws.{timed_of, timed_message}
-use Rattle.fw_model.proofs.SettleLaws.{settled-grows}
 use Rattle.fw_model.proofs.StampLaws.{in_line, line-leq, same-refl}
 use Rattle.fw_model.proofs.WeightLaws.{weigh, is_at, is_at-is, is_at-self, one, one-in, one-out}
 use Rattle.fw_rest.specs.Rest.{AreAllLive, HasNothingToDo, IsAcknowledged, HasAcknowledgedAll}
 use Rattle.fw_rest.specs.LawsOfRest.{RestHasAcknowledgedAll}
 use Rattle.fw_rest.proofs.DueLaws.{output_kinds, due-least, acknowledged-due}
-use Rattle.fw_rest.proofs.IdleLaws.{idle-each, nothing_to_do-rest}
+use Rattle.fw_rest.proofs.IdleLaws.{idle-each, idle-settled, nothing_to_do-rest}
 use Rattle.fw_rest.proofs.RestLaws.{rest-complete}
 
 -- ---- what is there at an epoch is there at a lesser one
@@ -143,13 +142,7 @@ module _ (sys : System) (family : Family) (w : IsWellFormedSystem sys) (den : Is
       let c = complete-exists sys h w.flow in
       let at : in_domain (bounds_of sys.flow o) (x ∷ []) ≡ true = output-bounds sys.flow o output (x ∷ []) ∙ line-leq x greatest_number l in
       let done = rest-complete sys h w.flow (has_epochs sys w) legal (nothing_to_do-rest sys state w.flow live idle) c.0 c.1 o there (x ∷ []) at in
-      elim (cases_Bool (node_frontier sys.flow o (front_of state.settled o) (x ∷ []))) [
-        | inl e ↦ e
-        | inr e ↦
-            let g = settled-grows sys state c.0 c.1 (record { node = o; at = x ∷ []; declared = there; live = live o there; complete = done; unsettled = e }) in
-            let none = (idle-each sys state idle).progress in
-            absurd (none (record state { settled = g.0; writes = state.writes ++ eager_writes sys state g.0 (node_ids sys.flow) }) silent (c.0, g.0, g.1, refl, refl))
-      ]
+      idle-settled sys state (idle-each sys state idle).progress c.0 c.1 o there (live o there) (x ∷ []) done
 
   -- nothing is there at the next stamp
   none-next : ack_count_of state o ≤ greatest_number → HasSomethingAt sys h (kind_of sys.flow o) o (ack_count_of state o) → ⊥

@@ -6,22 +6,24 @@ use Rattle.std.proofs.lemmas.Bool.{cases_Bool, cases_lt, and_parts, or_cases}
 use Rattle.std.proofs.lemmas.Cmp.{tied_itself}
 use Rattle.fw_time.specs.Stamp.{Stamp, same, stamp_cmp}
 use Rattle.fw_time.proofs.EachLaws.{each-prefix, each-suffix, each_of-map}
+use Rattle.fw_frontier.specs.Frontier.{Frontier}
 use Rattle.fw_flow.specs.declared.event.Event.{Event}
 use Rattle.fw_flow.specs.declared.event.Event.TheVariants.{Inject as Injected, Deliver as Delivered, Notify as Notified}
 use Rattle.fw_flow.specs.declared.event.Message.{Message}
 use Rattle.fw_flow.specs.declared.step.Step.{Step}
 use Rattle.fw_flow.specs.declared.step.Step.TheVariants.{Inject, Deliver, Notify, Progress as ProgressStep, Persist, Ack}
-use Rattle.fw_flow.specs.Dataflow.{System, Dataflow, kind_of, receiver, is_notified_kind, is_numbered, node_ids}
+use Rattle.fw_flow.specs.Dataflow.{System, Dataflow, kind_of, receiver, is_notified_kind, is_numbered, node_ids, node_frontier}
 use Rattle.fw_flow.specs.Message.{is_among, message_cmp}
 use Rattle.fw_flow.specs.WellFormed.{IsWellFormed}
 use Rattle.fw_flow.proofs.MessageLaws.{message_total, among-each}
 use Rattle.fw_model.specs.Auto.{edge_ids, deliveries, notifications, acknowledgements, injections, IsIdle}
-use Rattle.fw_model.specs.History.{pending_messages, delivered_messages, was_delivered_to, is_owed_notice, IsDeliverable, IsNotifiable, IsEnabled}
-use Rattle.fw_model.specs.Machine.{Machine, events, is_failed}
-use Rattle.fw_model.specs.Steps.{silent, with_event}
+use Rattle.fw_model.specs.History.{pending_messages, delivered_messages, was_delivered_to, is_owed_notice, IsComplete, IsDeliverable, IsNotifiable, IsEnabled}
+use Rattle.fw_model.specs.Machine.{Machine, events, front_of, is_failed}
+use Rattle.fw_model.specs.Steps.{silent, eager_writes, with_event}
 use Rattle.fw_model.proofs.CmpLaws.{stamp_total, decided-stamp, find_least}
 use Rattle.fw_model.proofs.Decisions.{two_ways, Decided}
 use Rattle.fw_model.proofs.EnabledLaws.{notify-decided}
+use Rattle.fw_model.proofs.SettleLaws.{settled-grows}
 use Rattle.fw_model.proofs.StampLaws.{same-is}
 use Rattle.fw_rest.specs.Rest.{HasNothingToDo}
 use Rattle.fw_rest.specs.LawsOfRest.{NothingToDoIsRest}
@@ -185,3 +187,15 @@ nothing_to_do-rest sys state w live idle v k =
     by i (Notified p t) k =
         let there = notified-declared sys (events state.history) p t k.is_owed in
         none-notified sys state w p (live p there) (i.notifies p there) t k
+
+-- ---- what is complete is settled
+
+-- where no more can be settled, each stamp that is complete at a live node is settled
+pub idle-settled : (sys : System) (state : Machine) → IsIdle sys state ProgressStep → (done : ℕ → Frontier) → IsComplete sys (events state.history) done
+    → (p : ℕ) → p < length sys.flow.nodes → is_failed state p ≡ false → (t : Stamp) → done p t ≡ true → node_frontier sys.flow p (front_of state.settled p) t ≡ true
+idle-settled sys state none done c p there live t k = elim (cases_Bool (node_frontier sys.flow p (front_of state.settled p) t)) [
+  | inl e ↦ e
+  | inr e ↦
+      let g = settled-grows sys state done c (record { node = p; at = t; declared = there; live = live; complete = k; unsettled = e }) in
+      absurd (none (record state { settled = g.0; writes = state.writes ++ eager_writes sys state g.0 (node_ids sys.flow) }) silent (done, g.0, g.1, refl, refl))
+]

@@ -6,3 +6,4 @@ pub mod LoweringLaws
 pub mod FinishLaws
 pub mod DueLaws
 pub mod InFlightLaws
+pub mod WaitingLaws

@@ -82,7 +82,7 @@ at-some t (m ∷ ms) k = elim (cases_Bool (same t m.at)) [
       (w.0, or_right (is_eq (message_cmp w.0 m)) (is_among w.0 ms) w.1, w.2)
 ]
 
-rest-quiet : (sys : System) (h : List Event) → IsWellFormed sys.flow → IsLegal sys h → IsAtRest sys h → (e : ℕ) (t : Stamp)
+pub rest-quiet : (sys : System) (h : List Event) → IsWellFormed sys.flow → IsLegal sys h → IsAtRest sys h → (e : ℕ) (t : Stamp)
     → some_at (same t) (pending_messages sys h e) ≡ false
 rest-quiet sys h w l r e t = false_from_ne_true (some_at (same t) (pending_messages sys h e)) (λ k.
     let m = at-some t (pending_messages sys h e) k in
@@ -98,7 +98,7 @@ rest-quiet sys h w l r e t = false_from_ne_true (some_at (same t) (pending_messa
 
 -- ---- each input has injected all
 
-rest-exhausted : (sys : System) (h : List Event) → IsLegal sys h → IsAtRest sys h → (s : ℕ) → is_input_kind (kind_of sys.flow s) ≡ true
+pub rest-exhausted : (sys : System) (h : List Event) → IsLegal sys h → IsAtRest sys h → (s : ℕ) → is_input_kind (kind_of sys.flow s) ≡ true
     → is_exhausted sys h s ≡ true
 rest-exhausted sys h l r s i =
     let few = injected-few sys h l s in

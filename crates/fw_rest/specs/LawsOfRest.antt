@@ -14,7 +14,7 @@ use Rattle.fw_model.specs.History.{IsLegal, IsComplete}
 use Rattle.fw_model.specs.Machine.{Machine, events, first_state, ack_count_of}
 use Rattle.fw_model.specs.Reached.{IsReached}
 use Rattle.fw_model.specs.Steps.{Effect, Outcome, did, Run}
-use Rattle.fw_rest.specs.Rest.{IsAtRest, AreAllLive, HasNothingToDo, is_of_auto, HasAcknowledgedAll, HasShownAll, RecoversAndGoesOn}
+use Rattle.fw_rest.specs.Rest.{IsAtRest, AreAllLive, HasNothingToDo, is_of_auto, HasAcknowledgedAll, HasShownAll, NothingWaits, RecoversAndGoesOn}
 use Rattle.fw_rest.specs.StepsToRest.{count_in_flight, most_events, stamps_due, steps_to_rest, steps_in_all}
 
 -- after a legal history of a well-formed flow with epochs, at rest, each stamp of each node is complete: no message waits, no
@@ -35,6 +35,12 @@ abbrev pub RestHasAcknowledgedAll : Type 0
 RestHasAcknowledgedAll = (sys : System) (family : Family) → IsWellFormedSystem sys → IsDenotation sys family → (state : Machine) → IsReached sys state
     → AreAllLive sys state → HasNothingToDo sys state
     → (o : ℕ) → o < length sys.flow.nodes → is_output_kind (kind_of sys.flow o) ≡ true → HasAcknowledgedAll sys family state o
+
+-- in each state of a well-formed system to which steps lead from the first one, with all nodes live, in which `auto` has nothing to do,
+-- nothing waits
+abbrev pub NothingWaitsAtRest : Type 0
+NothingWaitsAtRest = (sys : System) (family : Family) → IsWellFormedSystem sys → IsDenotation sys family → (state : Machine) → IsReached sys state
+    → AreAllLive sys state → HasNothingToDo sys state → NothingWaits sys state
 
 -- in each state to which steps of a well-formed system lead from the first one, no more stamps are acknowledged than are due
 abbrev pub AcknowledgedIsDue : Type 0

@@ -3,7 +3,7 @@
 //! In the comments a system is well formed by `IsWellFormedSystem`. A run begins in the machine's first state, and its steps are
 //! any, failures, recoveries and collections among them.
 ghost use Rattle.fw_rest.specs.Coming.{AllComesOfEachState};
-ghost use Rattle.fw_rest.specs.LawsOfRest.{AcknowledgedIsDue, AcknowledgedIsShown, AutoComesToRest, AutoTakesSoMany, EachStateGoesOn, FewAreInFlight, LegalHistoriesEnd, NothingToDoIsRest, RecoveryComesToRest, RestHasAcknowledgedAll, RestIsComplete, WhatIsGivenIsAcknowledged, StepsOfAutoEnd};
+ghost use Rattle.fw_rest.specs.LawsOfRest.{AcknowledgedIsDue, AcknowledgedIsShown, AutoComesToRest, AutoTakesSoMany, EachStateGoesOn, FewAreInFlight, LegalHistoriesEnd, NothingToDoIsRest, NothingWaitsAtRest, RecoveryComesToRest, RestHasAcknowledgedAll, RestIsComplete, WhatIsGivenIsAcknowledged, StepsOfAutoEnd};
 
 /// Of each state of a run of a well-formed system all comes that is denoted (`AllComes`), whatever failed.
 pub fn all_comes_of_each_state()
@@ -70,6 +70,12 @@ pub fn rest_is_complete()
 /// nothing to do, each output has acknowledged all that is denoted at it.
 pub fn rest_has_acknowledged_all()
     ensures { RestHasAcknowledgedAll }
+{}
+
+/// In each state of a well-formed system to which steps lead from the first one, with all nodes live, in which `auto` has
+/// nothing to do, nothing waits.
+pub fn nothing_waits_at_rest()
+    ensures { NothingWaitsAtRest }
 {}
 
 /// In each state of a well-formed system to which steps lead from the first one, no more stamps are acknowledged than are due.

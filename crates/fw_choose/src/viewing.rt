@@ -39,8 +39,12 @@ pub fn choose(running: &Running, lost: Lost) -> Result<Choice, AllocError>
     ensures of_state { IfOk result (IsChosenBy running.now lost) }
 {
     let view = views(running, lost)?;
-    let entries = running.parts.keep.entries();
-    let offers = candidates(running.alloc, &running.flow, &view, entries)?;
+    let offers = candidates(
+        running.alloc,
+        &running.flow,
+        &view,
+        running.parts.keep.entries(),
+    )?;
     largest(running.alloc, &running.flow, &offers)
 }
 

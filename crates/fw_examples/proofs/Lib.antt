@@ -6,6 +6,7 @@ pub mod Collected
 pub mod Declared
 pub mod Fronts
 pub mod Generated
+pub mod Headline
 pub mod InTurn
 pub mod LeavingOut
 pub mod Logs

@@ -4,6 +4,7 @@ pub mod AtRest
 pub mod Collected
 pub mod Flows
 pub mod Generated
+pub mod Headline
 pub mod InTurn
 pub mod Inclusions
 pub mod KindsSend

@@ -2,6 +2,7 @@
 ghost use Rattle.fw_examples.specs.Answers.{AnswersApply};
 ghost use Rattle.fw_examples.specs.Collected.{CollectionsApply};
 ghost use Rattle.fw_examples.specs.Generated.{GenerationApplies};
+ghost use Rattle.fw_examples.specs.Headline.{HeadlineApplies};
 ghost use Rattle.fw_examples.specs.Applied.{ChoicesApply, ChoosingApplies, DeliveriesApply, FilteringApplies, LegalHistoriesApply, RunsApply, StepsApply, CollectionRestored, LogsRestored, RestoringApplies, DenotationApplies, ProjectionsApply, SendingApplies, AutoApplies, EventsApply, ProgressApplies, ReplayApplies, ThinnedApplies, WritesApply};
 ghost use Rattle.fw_examples.specs.AtRest.{RestApplies};
 
@@ -45,6 +46,12 @@ pub fn legal_histories_apply()
 #[tactic(auto, using(crate::proofs::Applied::filtering_applies))]
 pub fn filtering_applies()
     ensures { FilteringApplies }
+{}
+
+/// The headline, before a collection, where a node failed, and after its recovery.
+#[tactic(auto, using(crate::proofs::Headline::headline_applies))]
+pub fn headline_applies()
+    ensures { HeadlineApplies }
 {}
 
 /// The laws of restoring.

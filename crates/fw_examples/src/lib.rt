@@ -23,8 +23,8 @@ pub use kinds_send::{
 pub use laws_applied::{
     answers_apply, auto_applies, choices_apply, choosing_applies, collection_restored,
     collections_apply, deliveries_apply, denotation_applies, events_apply, filtering_applies,
-    generation_applies, legal_histories_apply, logs_restored, progress_applies, projections_apply,
-    replay_applies, rest_applies, restoring_applies, runs_apply, sending_applies, steps_apply,
+    generation_applies, headline_applies, legal_histories_apply, logs_restored, progress_applies,
+    projections_apply, replay_applies, rest_applies, restoring_applies, runs_apply, sending_applies, steps_apply,
     thinned_applies, writes_apply,
 };
 pub use logs_after_collection::{

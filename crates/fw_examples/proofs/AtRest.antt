@@ -36,4 +36,6 @@ rest_applies =
       shown = λ law also last g.
           (law totals totals_denoted formed denoted steps_to_failure outcomes_to_failure output_failed reached 136 (same_at_most _ 136 refl) also last g out (lit< tt) refl).1.batches
           refl run_to_out refl 4 (inl (lit< tt));
+      stamps = λ law also last g.
+          (law totals totals_denoted formed denoted steps_to_failure outcomes_to_failure output_failed reached 136 (same_at_most _ 136 refl) also last g out (lit< tt) refl).1.stamps;
     }

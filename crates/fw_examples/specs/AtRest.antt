@@ -1,6 +1,6 @@
 -- What the laws of rest say of the running total whose output failed.
 use Rattle.std.specs.Prelude.{◌≡◌, ◌+◌, ◌≤◌, List, [], ◌∷◌, ◌++◌, length}
-use Rattle.fw_model.specs.Acknowledgements.{Shows}
+use Rattle.fw_model.specs.Acknowledgements.{stamps_acknowledged, first_stamps, Shows}
 use Rattle.fw_model.specs.LawsOfAuto as auto
 use Rattle.fw_model.specs.Machine.{Machine, events}
 use Rattle.fw_model.specs.Steps.{Outcome}
@@ -24,3 +24,5 @@ pub record RestApplies : Type 0 where
       → HasAcknowledgedAll totals totals_denoted last out
   pub shown : rest.WhatIsGivenIsAcknowledged → (also : List Outcome) (last : Machine) → RecoversAndGoesOn totals output_failed 136 also last
       → Shows out (4 ∷ []) (pair 1 18 ∷ []) (outcomes_to_failure ++ also)
+  pub stamps : rest.WhatIsGivenIsAcknowledged → (also : List Outcome) (last : Machine) → RecoversAndGoesOn totals output_failed 136 also last
+      → stamps_acknowledged out (outcomes_to_failure ++ also) ≡ first_stamps 5

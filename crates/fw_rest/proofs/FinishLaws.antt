@@ -174,6 +174,7 @@ given-acknowledged sys family w den before outcomes state run most l also last g
         recs = λ e is. each-weaker (λ (r : Timed). IsAcknowledged (ack_count_of last o) r.at) (λ (r : Timed). Shows o r.at (bag_at family e r.at) (outcomes ++ also)) (family e)
             (λ r k. subst (λ t. Shows o t (bag_at family e t) (outcomes ++ also)) (sym k.2) (shown e there is k.0 k.1)) (all.recs e is);
         batches = λ kind e is x k. shown e there is x (all.batches kind x k);
+        stamps = acknowledgements-in_order sys (before ++ Recover ∷ g.steps) (outcomes ++ also) last whole o ∙ ap first_stamps all.count;
       },
     )
 

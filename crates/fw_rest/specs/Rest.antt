@@ -13,7 +13,7 @@ use Rattle.fw_model.specs.Auto.{AreIdle, IsAutoRun, auto_steps}
 use Rattle.fw_model.specs.Denotation.{Family, bag_at}
 use Rattle.fw_model.specs.History.{pending_messages, delivered_messages, is_owed_notice, is_exhausted, IsEnabled}
 use Rattle.fw_model.specs.Machine.{Machine, Write, events, front_of, is_failed, ack_count_of}
-use Rattle.fw_model.specs.Acknowledgements.{Shows}
+use Rattle.fw_model.specs.Acknowledgements.{stamps_acknowledged, first_stamps, Shows}
 use Rattle.fw_model.specs.Steps.{Outcome, is_in_flight, HasEpoch, StepsTo, Run}
 use Rattle.fw_rest.specs.StepsToRest.{stamps_due}
 
@@ -64,11 +64,13 @@ pub record NothingWaits (sys : System) (state : Machine) : Type 0 where
       → AllByRecursion (λ (m : Message). IsAcknowledged (ack_count_of state o) m.at) (delivered_messages (events state.history) e)
 
 -- Of these outcomes one shows what is denoted at each stamp of output o: at that of each rec that the family has on its in-edge, and if
--- it is an output of epochs, at each epoch of which some node has a batch.
+-- it is an output of epochs, at each epoch of which some node has a batch. They acknowledge just the stamps that are due, in order and
+-- each once.
 pub record HasShownAll (sys : System) (family : Family) (outcomes : List Outcome) (o : ℕ) : Type 0 where
   pub recs : (e : ℕ) → receiver sys.flow e ≡ o → AllByRecursion (λ (r : Timed). Shows o r.at (bag_at family e r.at) outcomes) (family e)
   pub batches : kind_of sys.flow o ≡ OutputEpoch → (e : ℕ) → receiver sys.flow e ≡ o → (x : ℕ) → HasEpoch sys.batches x
       → Shows o (x ∷ []) (bag_at family e (x ∷ [])) outcomes
+  pub stamps : stamps_acknowledged o outcomes ≡ first_stamps (stamps_due sys family o)
 
 -- From a state a recovery is taken, enabled or not, and then the steps that `auto` takes, at most so many, with these outcomes.
 pub record RecoversAndGoesOn (sys : System) (state : Machine) (most : ℕ) (outcomes : List Outcome) (last : Machine) : Type 0 where

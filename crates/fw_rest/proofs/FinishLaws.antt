@@ -1,5 +1,5 @@
 -- A recovery and then `auto` come to where all is acknowledged, and shown.
-use Rattle.std.proofs.Common.{◌≡◌, ℕ, zero, suc, ◌+◌, ◌-◌, ◌<◌, ◌≤◌, Bool, true, false, ◌==◌, cond, List, [], ◌∷◌, ◌++◌, length, map, slice_index_or, refl, sym, ap, subst, ◌∙◌, inl, inr, arith}
+use Rattle.std.proofs.Common.{◌≡◌, ℕ, zero, suc, ◌+◌, ◌-◌, ◌*◌, ◌<◌, ◌≤◌, Bool, true, false, ◌==◌, cond, List, [], ◌∷◌, ◌++◌, length, map, slice_index_or, refl, sym, ap, subst, ◌∙◌, inl, inr, arith}
 use Rattle.std.specs.List.{AllByRecursion, range_with_len}
 use Rattle.std.proofs.Math.Nat.{mul-le-mul_right}
 use Rattle.std.proofs.lemmas.Bool.{cases_Bool, cases_lt, eqb-true}
@@ -27,7 +27,7 @@ use Rattle.fw_rest.specs.StepsToRest.{most_events, stamps_due, count_in_flight, 
 use Rattle.fw_rest.specs.Coming.{AllComesOfEachState}
 use Rattle.fw_rest.specs.LawsOfRest.{AcknowledgedIsShown, EachStateGoesOn, RecoveryComesToRest, WhatIsGivenIsAcknowledged}
 use Rattle.fw_rest.proofs.AckLaws.{rest-acknowledged}
-use Rattle.fw_rest.proofs.InFlightLaws.{kept-in_flight}
+use Rattle.fw_rest.proofs.InFlightLaws.{kept-in_flight, few_in_flight, one-outcome_each}
 use Rattle.fw_rest.proofs.LoweringLaws.{auto-first, auto-comes_to_rest, steps_of_auto-end}
 use Rattle.fw_rest.proofs.MostEventsLaws.{sum-at_most}
 
@@ -185,6 +185,8 @@ all-comes sys family w den steps outcomes state run =
     record {
       goes_on = λ most. each-goes_on sys w state reached most;
       ends = λ more of_auto effects last taken. steps_of_auto-end sys family w den state reached more of_auto effects last taken;
+      in_flight = subst (λ n. count_in_flight state.writes ≤ n * length sys.flow.nodes) (sym (one-outcome_each sys steps outcomes (first_state sys) state run))
+          (few_in_flight sys w steps outcomes state run);
       rests = λ most l also last g. recovery-comes_to_rest sys family w den state reached most l also last g;
       acknowledged = λ most l also last g o there output. (finished most l also last g o there output).0;
       shown = λ most l also last g o there output. (finished most l also last g o there output).1;

@@ -1,5 +1,5 @@
 -- How many writes are in flight.
-use Rattle.std.proofs.Common.{◌≡◌, ℕ, ◌+◌, ◌*◌, ◌<◌, ◌≤◌, Bool, true, false, cond, List, [], ◌∷◌, length, filter, refl, ap, ◌∙◌, arith}
+use Rattle.std.proofs.Common.{◌≡◌, ℕ, suc, ◌+◌, ◌*◌, ◌<◌, ◌≤◌, Bool, true, false, cond, List, [], ◌∷◌, length, filter, refl, ap, ◌∙◌, arith}
 use Rattle.std.proofs.Math.Nat.{suc-mul}
 use Rattle.std.proofs.lemmas.Bool.{cond_both}
 use Rattle.fw_frontier.specs.Front.{Front}
@@ -111,3 +111,11 @@ few_in_flight sys w steps outcomes last r =
     let some = w.flow.input.1 in
     let a = run-in_flight sys (omega arith) steps outcomes (first_state sys) last r in
     omega arith
+
+-- each step has its outcome
+pub one-outcome_each : (sys : System) (steps : List Step) (outcomes : List Outcome) (state last : Machine) → Run sys state steps outcomes last
+    → length outcomes ≡ length steps
+one-outcome_each sys [] [] state last r = refl
+one-outcome_each sys [] (o ∷ os) state last r = absurd r
+one-outcome_each sys (s ∷ ss) [] state last r = absurd r
+one-outcome_each sys (s ∷ ss) (o ∷ os) state last r = ap suc (one-outcome_each sys ss os r.0 last r.2)

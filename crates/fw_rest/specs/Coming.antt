@@ -1,5 +1,5 @@
 -- What comes of each state to which steps lead.
-use Rattle.std.specs.Prelude.{◌≡◌, ℕ, ◌+◌, ◌<◌, ◌≤◌, true, List, ◌++◌, length, map}
+use Rattle.std.specs.Prelude.{◌≡◌, ℕ, ◌+◌, ◌*◌, ◌<◌, ◌≤◌, true, List, ◌++◌, length, map}
 use Rattle.std.specs.List.{AllByRecursion}
 use Rattle.fw_flow.specs.declared.step.Step.{Step}
 use Rattle.fw_flow.specs.Dataflow.{System, kind_of, is_output_kind}
@@ -18,6 +18,8 @@ pub record AllComes (sys : System) (family : Family) (outcomes : List Outcome) (
   -- no more than so many steps of the kinds that `auto` takes follow each other, each enabled where it is taken, in whatever order
   pub ends : (steps : List Step) → AllByRecursion (λ step. is_of_auto step ≡ true) steps
       → (effects : List Effect) (last : Machine) → Run sys state steps (map did effects) last → length steps ≤ steps_to_rest sys family state
+  -- at most one write of each node is in flight for each step that was taken
+  pub in_flight : count_in_flight state.writes ≤ length outcomes * length sys.flow.nodes
   -- once a recovery is taken, and then `auto` as many steps as it takes at most, all nodes are live and `auto` has nothing to do
   pub rests : (most : ℕ) → steps_in_all sys family + count_in_flight state.writes ≤ most
       → (also : List Outcome) (last : Machine) → RecoversAndGoesOn sys state most also last → AreAllLive sys last × HasNothingToDo sys last

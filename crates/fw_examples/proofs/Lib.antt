@@ -1,5 +1,6 @@
 pub mod Answers
 pub mod Applied
+pub mod AtRest
 pub mod Choosing
 pub mod Collected
 pub mod Declared

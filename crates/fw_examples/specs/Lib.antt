@@ -1,5 +1,6 @@
 pub mod Answers
 pub mod Applied
+pub mod AtRest
 pub mod Collected
 pub mod Flows
 pub mod Generated

@@ -4,6 +4,7 @@ ghost use Rattle.fw_examples.specs.Collected.{CollectionsApply};
 ghost use Rattle.fw_examples.specs.Generated.{GenerationApplies};
 ghost use Rattle.fw_examples.specs.Headline.{HeadlineApplies};
 ghost use Rattle.fw_examples.specs.Applied.{ChoicesApply, ChoosingApplies, DeliveriesApply, FilteringApplies, LegalHistoriesApply, RunsApply, StepsApply, CollectionRestored, LogsRestored, RestoringApplies, DenotationApplies, ProjectionsApply, SendingApplies, AutoApplies, EventsApply, ProgressApplies, ReplayApplies, ThinnedApplies, WritesApply};
+ghost use Rattle.fw_examples.specs.AtRest.{RestApplies};
 
 /// The laws of runs and of recoveries.
 #[tactic(auto, using(crate::proofs::Applied::runs_apply))]
@@ -141,4 +142,10 @@ pub fn collections_apply()
 #[tactic(auto, using(crate::proofs::Generated::generation_applies))]
 pub fn generation_applies()
     ensures { GenerationApplies }
+{}
+
+/// The laws of rest.
+#[tactic(auto, using(crate::proofs::AtRest::rest_applies))]
+pub fn rest_applies()
+    ensures { RestApplies }
 {}

@@ -24,8 +24,8 @@ pub use laws_applied::{
     answers_apply, auto_applies, choices_apply, choosing_applies, collection_restored,
     collections_apply, deliveries_apply, denotation_applies, events_apply, filtering_applies,
     generation_applies, headline_applies, legal_histories_apply, logs_restored, progress_applies,
-    projections_apply, replay_applies, restoring_applies, runs_apply, sending_applies, steps_apply,
-    thinned_applies, writes_apply,
+    projections_apply, replay_applies, rest_applies, restoring_applies, runs_apply,
+    sending_applies, steps_apply, thinned_applies, writes_apply,
 };
 pub use logs_after_collection::{
     collects_a_logged_event, keeps_a_log_with_a_checkpoint, keeps_events_of_a_total, loses_an_epoch,

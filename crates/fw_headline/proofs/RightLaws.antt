@@ -5,6 +5,7 @@ use Rattle.fw_flow.specs.declared.step.Step.{Step}
 use Rattle.fw_flow.specs.declared.step.Step.TheVariants.{Recover, Collect}
 use Rattle.fw_flow.specs.Dataflow.{System}
 use Rattle.fw_flow.specs.WellFormed.{IsWellFormedSystem}
+use Rattle.fw_rest.proofs.FinishLaws.{all-comes}
 use Rattle.fw_headline.proofs.RunLaws.{one-run}
 use Rattle.fw_headline.specs.Right.{IsAllThere, IsRight, EveryRunIsRight}
 use Rattle.fw_model.proofs.ChoosingLaws.{kept-is_ever, recovery-has_choice, failed-recovered, reached-one_next, never-falls}
@@ -97,4 +98,5 @@ runs-right sys w = record {
   no_other = λ one other. denotation-only sys one other w.flow;
   one_run = one-run sys w;
   right = run-right sys w;
+  comes = λ steps outcomes state r family d. all-comes sys family w d steps outcomes state r;
 }

@@ -18,6 +18,7 @@ use Rattle.fw_model.specs.History.{IsLegal}
 use Rattle.fw_model.specs.Machine.{Machine, SerialEvent, Write, acknowledged, collected, events, first_state, front_of, no_stamps, ack_count_of, is_failed}
 use Rattle.fw_model.specs.Resending.{HoldsWhatIsSentAgain}
 use Rattle.fw_model.specs.Steps.{cuts, lows, Outcome, did, StepsTo, Run, IsTheNext, front_of_cut, lies_below}
+use Rattle.fw_rest.specs.Coming.{AllComes}
 use Rattle.fw_model.specs.Writes.{takes_checkpoints, HasOne, IsCheckpointOf, IsLoggedOnce, MayKeepNothingIfCollected}
 
 -- All is there that a restoration to a largest choice needs, where these nodes count as failed.
@@ -91,6 +92,9 @@ pub record RunsRight (sys : System) : Type 0 where
   -- and all is right where it ends
   pub right : (steps : List Step) (outcomes : List Outcome) (state : Machine) → Run sys (first_state sys) steps outcomes state
       → IsRight sys outcomes state
+  -- and from there all comes that is denoted, whatever failed
+  pub comes : (steps : List Step) (outcomes : List Outcome) (state : Machine) → Run sys (first_state sys) steps outcomes state
+      → (family : Family) → IsDenotation sys family → AllComes sys family outcomes state
 
 -- each well-formed system runs right
 abbrev pub EveryRunIsRight : Type 0

@@ -2,6 +2,7 @@
 //! byte, and a backslash at the end of a line says that no LF ends it.
 use crate::hex::digit;
 use std::alloc::{AllocError, Global};
+use std::fmt::Write;
 
 /// What of an escape was read.
 #[derive(Clone, Copy)]
@@ -56,24 +57,23 @@ fn read_byte(escape: Escape, byte: u8, bytes: &mut Vec<u8>) -> Result<Escape, Al
 }
 
 /// Adds bytes as a line spells them, but for LF, which is written as it is.
-pub fn show(alloc: Global, bytes: &[u8], into: &mut String) -> Result<(), AllocError> {
+pub fn show(bytes: &[u8], into: &mut String) -> Result<(), AllocError> {
     for byte in bytes {
-        match *byte {
-            b'\n' => into.push('\n')?,
-            b'\\' => into.push_str("\\\\")?,
-            32..=126 => into.push(char::from(*byte))?,
-            other => {
-                let escape = format!(in alloc; "\\x{other:02x}")?;
-                into.push_str(&escape)?;
-            }
+        let byte = *byte;
+        if byte == b'\\' {
+            into.push_str("\\\\")?;
+        } else if byte == b'\n' || byte.is_ascii_graphic() || byte == b' ' {
+            into.push(char::from(byte))?;
+        } else {
+            write!(into, "\\x{byte:02x}")?;
         }
     }
     Ok(())
 }
 
 /// Adds whole lines as they are spelled; where the last lacks its LF, a backslash at its end says so.
-pub fn show_lines(alloc: Global, bytes: &[u8], into: &mut String) -> Result<(), AllocError> {
-    show(alloc, bytes, into)?;
+pub fn show_lines(bytes: &[u8], into: &mut String) -> Result<(), AllocError> {
+    show(bytes, into)?;
     match bytes.last() {
         None | Some(b'\n') => Ok(()),
         Some(_) => into.push_str("\\\n"),

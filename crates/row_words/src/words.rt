@@ -30,17 +30,11 @@ pub fn stamps_of(alloc: Global, text: &str) -> Result<Vec<Stamp>, NoAnswer> {
     Ok(stamps)
 }
 
-/// The stamp of a word, none of an empty one.
-pub fn asked_of(alloc: Global, word: &str) -> Result<Option<Stamp>, NoAnswer> {
-    if word.is_empty() {
-        return Ok(None);
-    }
-    Ok(Some(stamp_of(alloc, word)?))
-}
-
 /// The rec of a key and a value with a colon between them.
 pub fn rec_of(word: &str) -> Result<Rec, NoAnswer> {
-    let (key, value) = word.split_once(':').ok_or(NoAnswer::NotSpelled)?;
+    let Some((key, value)) = word.split_once(':') else {
+        return Err(NoAnswer::NotSpelled);
+    };
     let key = key.parse::<u64>()?;
     let value = value.parse::<u64>()?;
     Ok(Rec { key, value })
@@ -53,4 +47,12 @@ pub fn recs_of(alloc: Global, words: &str) -> Result<Vec<Rec>, NoAnswer> {
         recs.push(rec_of(word)?)?;
     }
     Ok(recs)
+}
+
+/// What stands before a mark, and what follows it.
+pub fn columns<'a>(text: &'a str, mark: &str) -> (&'a str, &'a str) {
+    match text.split_once(mark) {
+        Some(columns) => columns,
+        None => (text, ""),
+    }
 }

@@ -2,8 +2,10 @@
 ghost use Rattle.std.specs.Prelude.{◌≡◌};
 
 use fw_outside::{OutFault, Store};
+use row_words::show_digits;
 use std::alloc::{AllocError, Global};
 use std::collections::BTreeMap;
+use std::fmt::Write;
 
 /// A store, with a note of each record that it holds.
 #[derive(Drop)]
@@ -28,12 +30,8 @@ impl<K: Store> NotedStore<K> {
     /// Tells each record: its id, and its bytes by two digits each.
     pub fn tell(&self, told: &mut String) -> Result<(), AllocError> {
         for (id, bytes) in &self.noted {
-            let line = format!(in self.alloc; "store {id} ")?;
-            told.push_str(&line)?;
-            for byte in bytes {
-                let digits = format!(in self.alloc; "{byte:02x}")?;
-                told.push_str(&digits)?;
-            }
+            write!(told, "store {id} ")?;
+            show_digits(bytes, told)?;
             told.push('\n')?;
         }
         Ok(())

@@ -2,13 +2,14 @@
 ghost use Rattle.fw_keep.specs.Stored.{IsEmptyStore};
 
 use crate::noted::NotedStore;
-use crate::row::{Row, with_line};
+use crate::run::{Run, with_line};
 use fw_outside::{
     Folder, FoulBytes, FoulStore, MemFolder, MemSink, MemStore, MemText, Sink, Store,
 };
 use fw_run::falkirk;
 use row_words::{show, show_lines, tell_name};
 use std::alloc::{AllocError, Global};
+use std::fmt::Write;
 
 /// The words of a row that has none.
 const RUN: &str = "run flow inputs schedule";
@@ -26,8 +27,8 @@ struct Outside {
 
 impl Outside {
     /// What a row has, with other texts.
-    fn new(alloc: Global, row: &Row, texts: Vec<MemText>) -> Result<Self, AllocError> {
-        let failing = &row.failing;
+    fn new(alloc: Global, run: &Run, texts: Vec<MemText>) -> Result<Self, AllocError> {
+        let failing = &run.failing;
         Ok(Outside {
             folder: MemFolder::new(texts, failing.folder.clone()?),
             out: MemSink::new(alloc, failing.out.clone()?),
@@ -37,32 +38,29 @@ impl Outside {
 }
 
 /// Tells a row: its name, and what became of each command.
-pub fn tell_row(alloc: Global, row: &Row, told: &mut String) -> Result<(), AllocError> {
-    if let Some(number) = row.mistake {
-        tell_name(&row.name, told)?;
-        let line = format!(in alloc; "line {number} says nothing known\n")?;
-        return told.push_str(&line);
+pub fn tell_row(alloc: Global, run: &Run, told: &mut String) -> Result<(), AllocError> {
+    if let Some(number) = run.mistake {
+        tell_name(&run.name, told)?;
+        return writeln!(told, "line {number} says nothing known");
     }
-    if let Some(more) = &row.before_each {
-        return tell_family(alloc, row, more, told);
+    if let Some(more) = &run.before_each {
+        return tell_family(alloc, run, more, told);
     }
-    if row.fails_each {
-        return tell_each_failure(alloc, row, told);
+    if run.fails_each {
+        return tell_each_failure(alloc, run, told);
     }
-    tell_name(&row.name, told)?;
-    let texts = copies(alloc, row)?;
-    tell_runs(alloc, row, texts, &row.failing.store, told)?;
+    tell_name(&run.name, told)?;
+    let texts = copies(alloc, run)?;
+    tell_runs(alloc, run, texts, &run.failing.store, told)?;
     Ok(())
 }
 
 /// Tells the runs in which the first call of the store fails, the second, and so on, up to one in which none fails.
-fn tell_each_failure(alloc: Global, row: &Row, told: &mut String) -> Result<(), AllocError> {
+fn tell_each_failure(alloc: Global, run: &Run, told: &mut String) -> Result<(), AllocError> {
     for call in 0..MOST_CALLS {
-        let name = row.name.as_str();
-        let line = format!(in alloc; "== {name}, store call {call} fails\n")?;
-        told.push_str(&line)?;
-        let texts = copies(alloc, row)?;
-        if !tell_runs(alloc, row, texts, &[call], told)? {
+        writeln!(told, "== {}, store call {call} fails", run.name)?;
+        let texts = copies(alloc, run)?;
+        if !tell_runs(alloc, run, texts, &[call], told)? {
             break;
         }
     }
@@ -70,27 +68,36 @@ fn tell_each_failure(alloc: Global, row: &Row, told: &mut String) -> Result<(), 
 }
 
 /// Tells the runs with more before one line of the schedule, a run for each line.
-fn tell_family(alloc: Global, row: &Row, more: &[u8], told: &mut String) -> Result<(), AllocError> {
-    let schedule = row.text("schedule").unwrap_or(&[]);
+fn tell_family(alloc: Global, run: &Run, more: &[u8], told: &mut String) -> Result<(), AllocError> {
+    let schedule = run.text("schedule").unwrap_or(&[]);
     for place in 1..=schedule.len() {
         let Some(longer) = with_line(alloc, schedule, place, more, true)? else {
             break;
         };
-        let name = row.name.as_str();
-        let line = format!(in alloc; "== {name}, before line {place}\n")?;
-        told.push_str(&line)?;
-        let mut texts = copies(alloc, row)?;
-        // the first text of a name is the one that is fetched
-        texts.insert(0, MemText::new(alloc, "schedule", &longer)?)?;
-        tell_runs(alloc, row, texts, &row.failing.store, told)?;
+        writeln!(told, "== {}, before line {place}", run.name)?;
+        tell_longer(alloc, run, &longer, told)?;
     }
     Ok(())
 }
 
+/// Tells the run with another schedule.
+fn tell_longer(
+    alloc: Global,
+    run: &Run,
+    schedule: &[u8],
+    told: &mut String,
+) -> Result<(), AllocError> {
+    let mut texts = copies(alloc, run)?;
+    // the first text of a name is the one that is fetched
+    texts.insert(0, MemText::new(alloc, "schedule", schedule)?)?;
+    tell_runs(alloc, run, texts, &run.failing.store, told)?;
+    Ok(())
+}
+
 /// The texts of a row.
-fn copies(alloc: Global, row: &Row) -> Result<Vec<MemText>, AllocError> {
+fn copies(alloc: Global, run: &Run) -> Result<Vec<MemText>, AllocError> {
     let mut texts = Vec::new(alloc);
-    for text in row.texts.iter() {
+    for text in run.texts.iter() {
         texts.push(MemText::new(alloc, &text.name, &text.bytes)?)?;
     }
     Ok(texts)
@@ -99,18 +106,29 @@ fn copies(alloc: Global, row: &Row) -> Result<Vec<MemText>, AllocError> {
 /// Tells the commands of a row over these texts, and over stores whose calls of these numbers fail; whether one failed.
 fn tell_runs(
     alloc: Global,
-    row: &Row,
+    run: &Run,
     texts: Vec<MemText>,
     failing: &[u64],
     told: &mut String,
 ) -> Result<bool, AllocError> {
-    let mut outside = Outside::new(alloc, row, texts)?;
-    if row.commands.is_empty() {
-        return tell_run(alloc, row, RUN, &mut outside, failing, told);
+    let mut outside = Outside::new(alloc, run, texts)?;
+    tell_commands(alloc, run, &mut outside, failing, told)
+}
+
+/// Tells the commands of a row over these objects; whether one failed.
+fn tell_commands(
+    alloc: Global,
+    run: &Run,
+    outside: &mut Outside,
+    failing: &[u64],
+    told: &mut String,
+) -> Result<bool, AllocError> {
+    if run.commands.is_empty() {
+        return tell_run(alloc, run, RUN, outside, failing, told);
     }
     let mut failed = false;
-    for words in row.commands.iter() {
-        failed |= tell_run(alloc, row, words, &mut outside, failing, told)?;
+    for words in run.commands.iter() {
+        failed |= tell_run(alloc, run, words, outside, failing, told)?;
     }
     Ok(failed)
 }
@@ -118,32 +136,36 @@ fn tell_runs(
 /// Tells a command over a store of its own; whether the store failed.
 fn tell_run(
     alloc: Global,
-    row: &Row,
+    run: &Run,
     words: &str,
     outside: &mut Outside,
     failing: &[u64],
     told: &mut String,
 ) -> Result<bool, AllocError> {
-    if row.foul.is_empty() {
+    if run.foul.is_empty() {
         let store = MemStore::new(alloc, failing.to_vec(alloc)?);
-        return tell_over(alloc, row, words, outside, store, told);
+        return tell_over(alloc, run, words, outside, store, told);
     }
+    let store = FoulStore::new(alloc, foul_of(alloc, run)?);
+    tell_over(alloc, run, words, outside, store, told)
+}
+
+/// What the store of a row gives in place of what it holds.
+fn foul_of(alloc: Global, run: &Run) -> Result<Vec<FoulBytes>, AllocError> {
     let mut foul = Vec::new(alloc);
-    for listed in row.foul.iter() {
+    for listed in run.foul.iter() {
         foul.push(FoulBytes {
             call: listed.call,
             bytes: listed.bytes.clone()?,
         })?;
     }
-    let store = FoulStore::new(alloc, foul);
-    tell_over(alloc, row, words, outside, store, told)
+    Ok(foul)
 }
 
-/// Runs a command over a store, and tells its status, what the notes and the output took of it, all faults so far, and the
-/// records if they are asked for; whether the store failed.
+/// Runs a command over a store, whose records are noted; whether the store failed.
 fn tell_over<K: Store + Drop>(
     alloc: Global,
-    row: &Row,
+    run: &Run,
     words: &str,
     outside: &mut Outside,
     store: K,
@@ -151,17 +173,31 @@ fn tell_over<K: Store + Drop>(
 ) -> Result<bool, AllocError>
     requires { IsEmptyStore (K.view store).records }
 {
+    let mut store = NotedStore::new(alloc, store);
+    tell_noted(alloc, run, words, outside, &mut store, told)
+}
+
+/// Runs a command over a store, and tells its status, what the notes and the output took of it, all faults so far, and the
+/// records if they are asked for; whether the store failed.
+fn tell_noted<K: Store>(
+    alloc: Global,
+    run: &Run,
+    words: &str,
+    outside: &mut Outside,
+    store: &mut NotedStore<K>,
+    told: &mut String,
+) -> Result<bool, AllocError>
+    requires { IsEmptyStore (⟦<NotedStore<K> as Store>⟧.view store.old).records }
+{
     let printed = outside.out.taken().len();
     let noted = outside.notes.taken().len();
-    let mut store = NotedStore::new(alloc, store);
-    let number = run_over(alloc, words, outside, &mut store)?;
-    let line = format!(in alloc; "status {number}")?;
-    told.push_str(&line)?;
-    tell_note(alloc, after(outside.notes.taken(), noted), told)?;
-    tell_faults(alloc, outside, store.faults(), told)?;
+    let number = run_over(alloc, words, outside, store)?;
+    write!(told, "status {number}")?;
+    tell_note(after(outside.notes.taken(), noted), told)?;
+    tell_faults(outside, store.faults(), told)?;
     told.push('\n')?;
-    show_lines(alloc, after(outside.out.taken(), printed), told)?;
-    if row.tells_records {
+    show_lines(after(outside.out.taken(), printed), told)?;
+    if run.tells_records {
         store.tell(told)?;
     }
     Ok(store.faults() > 0)
@@ -197,27 +233,22 @@ fn after(taken: &[u8], before: usize) -> &[u8] {
 }
 
 /// Tells what the notes took, without the LF of its last line.
-fn tell_note(alloc: Global, note: &[u8], told: &mut String) -> Result<(), AllocError> {
+fn tell_note(note: &[u8], told: &mut String) -> Result<(), AllocError> {
     if note.is_empty() {
         return Ok(());
     }
     told.push_str(", note ")?;
     match note.strip_suffix(b"\n") {
-        Some(line) => show(alloc, line, told),
+        Some(line) => show(line, told),
         None => {
-            show(alloc, note, told)?;
+            show(note, told)?;
             told.push('\\')
         }
     }
 }
 
 /// Tells how often each object failed, if it did.
-fn tell_faults(
-    alloc: Global,
-    outside: &Outside,
-    store_faults: u64,
-    told: &mut String,
-) -> Result<(), AllocError> {
+fn tell_faults(outside: &Outside, store_faults: u64, told: &mut String) -> Result<(), AllocError> {
     let counts = [
         ("folder", outside.folder.faults()),
         ("store", store_faults),
@@ -226,8 +257,7 @@ fn tell_faults(
     ];
     for (object, count) in counts {
         if count > 0 {
-            let line = format!(in alloc; ", {object} failed {count}")?;
-            told.push_str(&line)?;
+            write!(told, ", {object} failed {count}")?;
         }
     }
     Ok(())

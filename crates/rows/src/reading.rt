@@ -1,15 +1,16 @@
 //! Reads files of rows.
 use crate::directive::{Directive, said};
 use crate::outcome::tell_row;
-use crate::row::Row;
+use crate::run::Run;
 use fw_outside::MemText;
+use row_words::{Row, rows_of};
 use std::alloc::{AllocError, Global};
 
 /// The rows that were read so far.
 #[derive(Drop)]
 pub struct Reader {
     alloc: Global,
-    rows: Vec<Row>,
+    runs: Vec<Run>,
 }
 
 impl Reader {
@@ -17,31 +18,36 @@ impl Reader {
     pub fn new(alloc: Global) -> Self {
         Reader {
             alloc,
-            rows: Vec::new(alloc),
+            runs: Vec::new(alloc),
         }
     }
 
     /// Reads a file, and tells its rows.
     pub fn tell(&mut self, text: &str) -> Result<String, AllocError> {
-        let first = self.rows.len();
-        self.read(text)?;
+        let first = self.runs.len();
+        for row in &rows_of(self.alloc, text)? {
+            self.read(*row)?;
+        }
+        self.tell_from(first)
+    }
+
+    /// Tells the rows from one on.
+    fn tell_from(&self, first: usize) -> Result<String, AllocError> {
         let mut told = String::new(self.alloc);
-        for row in self.rows.iter().skip(first) {
-            tell_row(self.alloc, row, &mut told)?;
+        for run in self.runs.iter().skip(first) {
+            tell_row(self.alloc, run, &mut told)?;
         }
         Ok(told)
     }
 
-    /// Reads a file. What stands before its first row is not looked at, and no more are lines without bytes.
-    fn read(&mut self, text: &str) -> Result<(), AllocError> {
-        let mut is_begun = false;
-        for (i, line) in text.lines().enumerate() {
-            if let Some(name) = line.strip_prefix("== ") {
-                let row = Row::new(self.alloc, name)?;
-                self.rows.push(row)?;
-                is_begun = true;
-            } else if is_begun && !line.is_empty() {
-                self.read_line(i.saturating_add(1), line)?;
+    /// Reads a row. Lines without bytes are not looked at.
+    fn read(&mut self, row: Row<'_>) -> Result<(), AllocError> {
+        self.runs.push(Run::new(self.alloc, row.name)?)?;
+        let mut number = row.number;
+        for line in row.lines.lines() {
+            number = number.saturating_add(1);
+            if !line.is_empty() {
+                self.read_line(number, line)?;
             }
         }
         Ok(())
@@ -56,9 +62,9 @@ impl Reader {
                 None => false,
             },
         };
-        if let Some(row) = self.rows.last_mut() {
-            if !is_known && row.mistake.is_none() {
-                row.mistake = Some(number);
+        if let Some(run) = self.runs.last_mut() {
+            if !is_known && run.mistake.is_none() {
+                run.mistake = Some(number);
             }
         }
         Ok(())
@@ -66,8 +72,8 @@ impl Reader {
 
     /// Adds a line to the last row; whether it says something known.
     fn add_line(&mut self, line: &str) -> Result<bool, AllocError> {
-        match self.rows.last_mut() {
-            Some(row) => row.add_line(self.alloc, line),
+        match self.runs.last_mut() {
+            Some(run) => run.add_line(self.alloc, line),
             None => Ok(false),
         }
     }
@@ -78,32 +84,32 @@ impl Reader {
         if let Directive::As { text, row } = directive {
             return self.begin_as(text, row);
         }
-        let Some(row) = self.rows.last_mut() else {
+        let Some(run) = self.runs.last_mut() else {
             return Ok(false);
         };
         match directive {
             Directive::Text(name) => {
-                row.begin_text(MemText::new(alloc, name, b"")?)?;
+                run.begin_text(MemText::new(alloc, name, b"")?)?;
                 Ok(true)
             }
             Directive::As { .. } => Ok(false),
             Directive::Words(words) => {
-                row.add_command(alloc, words)?;
+                run.add_command(alloc, words)?;
                 Ok(true)
             }
-            Directive::Failing { object, calls } => row.add_failing(object, calls),
+            Directive::Failing { object, calls } => run.add_failing(object, calls),
             Directive::FailingEach => {
-                row.fail_each();
+                run.fail_each();
                 Ok(true)
             }
-            Directive::Foul { call, bytes } => row.add_foul(alloc, call, bytes),
+            Directive::Foul { call, bytes } => run.add_foul(alloc, call, bytes),
             Directive::Records => {
-                row.tell_records();
+                run.tell_records();
                 Ok(true)
             }
-            Directive::Repeat { times, line } => row.add_lines(alloc, times, line),
-            Directive::Line { place, line } => row.replace_line(alloc, place, line),
-            Directive::BeforeEach(line) => row.put_before_each(alloc, line),
+            Directive::Repeat { times, line } => run.add_lines(alloc, times, line),
+            Directive::Line { place, line } => run.replace_line(alloc, place, line),
+            Directive::BeforeEach(line) => run.put_before_each(alloc, line),
         }
     }
 
@@ -112,17 +118,17 @@ impl Reader {
         let Some(copy) = self.copy_of(text, row)? else {
             return Ok(false);
         };
-        if let Some(row) = self.rows.last_mut() {
-            row.begin_text(copy)?;
+        if let Some(run) = self.runs.last_mut() {
+            run.begin_text(copy)?;
         }
         Ok(true)
     }
 
     /// A copy of a text of the first row of a name.
     fn copy_of(&self, text: &str, name: &str) -> Result<Option<MemText>, AllocError> {
-        for row in &self.rows {
-            if row.name.as_str() == name {
-                return match row.text(text) {
+        for run in &self.runs {
+            if run.name.as_str() == name {
+                return match run.text(text) {
                     Some(bytes) => Ok(Some(MemText::new(self.alloc, text, bytes)?)),
                     None => Ok(None),
                 };

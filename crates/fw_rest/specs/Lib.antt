@@ -1,0 +1,4 @@
+pub mod Rest
+pub mod StepsToRest
+pub mod LawsOfRest
+pub mod Coming

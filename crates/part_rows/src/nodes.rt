@@ -1,0 +1,141 @@
+//! Nodes.
+ghost use Rattle.std.specs.Prelude.{◌≡◌, IfOk, true};
+ghost use Rattle.std.specs.List.{AllByRecursion};
+ghost use Rattle.fw_time.specs.Stamp.{in_domain};
+
+use crate::spell::{front_of, mark, stamp_in};
+use fw_bag::Recs;
+use fw_flow::{EdgeId, Flow, NodeId};
+use fw_frontier::{Entries, Front, SentCounts, State};
+use fw_node::{Node, Sends};
+use fw_time::Bounds;
+use row_words::{Answers, NoAnswer, Row, part, rec_of, recs_of, tell_row};
+use std::alloc::{AllocError, Global};
+use std::fmt::Write;
+
+/// The node that calls are of, and the flow.
+#[derive(Drop)]
+struct Called<'a> {
+    alloc: Global,
+    flow: &'a Flow,
+    node: Node,
+}
+
+/// Tells the answers to calls, each of the node that the last line `new` or `restore` before it made, and at first of the
+/// first one.
+pub fn tell(alloc: Global, flow: &Flow, row: Row<'_>, told: &mut String) -> Result<(), AllocError> {
+    let node = Node::new(alloc, flow, NodeId::at(0))?;
+    tell_row(alloc, row, &mut Called { alloc, flow, node }, told)
+}
+
+impl Answers for Called<'_> {
+    ghost stands = { λ _. Unit {0} };
+
+    /// To an event what it makes the node send.
+    fn answer(&mut self, line: &str, said: &mut String) -> Result<(), NoAnswer> {
+        let (word, rest) = part(line);
+        match word {
+            "loop" | "node" | "edge" => Err(NoAnswer::NotAsked),
+            "new" => {
+                self.node = Node::new(self.alloc, self.flow, node_of(rest)?)?;
+                Ok(())
+            }
+            "restore" => {
+                self.node = restored(self.alloc, self.flow, rest)?;
+                Ok(())
+            }
+            "settle" => settle(self.alloc, &mut self.node, rest),
+            "totals" => totals(self.alloc, &self.node, rest, said),
+            _ => say_sends(&sends(self.alloc, &mut self.node, word, rest)?, said),
+        }
+    }
+}
+
+/// The node of a number, counted from 1 as the lines are.
+fn node_of(word: &str) -> Result<NodeId, NoAnswer> {
+    Ok(NodeId::at(place_of(word)?))
+}
+
+/// The place of a number that is counted from 1.
+fn place_of(word: &str) -> Result<u32, NoAnswer> {
+    match word.parse::<u32>()?.checked_sub(1) {
+        Some(place) => Ok(place),
+        None => Err(NoAnswer::NotSpelled),
+    }
+}
+
+/// What an event makes a node send: `deliver E STAMP K:V`, `notify STAMP` or `inject EPOCH K:V ..`.
+fn sends(alloc: Global, node: &mut Node, word: &str, rest: &str) -> Result<Sends, NoAnswer> {
+    let (first, words) = part(rest);
+    match word {
+        "deliver" => deliver(alloc, node, EdgeId::at(place_of(first)?), words),
+        "notify" => {
+            let at = stamp_in(alloc, rest, node.bounds())?;
+            Ok(node.notify(&at)?)
+        }
+        "inject" => {
+            let batch = recs_of(alloc, words)?;
+            Ok(node.inject(first.parse::<u32>()?, &batch)?)
+        }
+        _ => Err(NoAnswer::NotSpelled),
+    }
+}
+
+/// What a delivery makes a node send.
+fn deliver(alloc: Global, node: &mut Node, edge: EdgeId, words: &str) -> Result<Sends, NoAnswer> {
+    let (at, rec) = part(words);
+    let at = stamp_in(alloc, at, node.bounds())?;
+    Ok(node.deliver(edge, &at, rec_of(rec)?)?)
+}
+
+/// The frontier that is spelled `all`, or `until` and stamps of a domain outside.
+fn front_at(alloc: Global, text: &str, bounds: &Bounds) -> Result<Front, NoAnswer>
+    ensures { IfOk result (λ f. AllByRecursion (λ o. in_domain bounds.now o ≡ true) f) }
+{
+    let front = front_of(alloc, text)?;
+    if front.is_in_domain(bounds) {
+        Ok(front)
+    } else {
+        Err(NoAnswer::NotSpelled)
+    }
+}
+
+/// Settles what came inside a frontier.
+fn settle(alloc: Global, node: &mut Node, text: &str) -> Result<(), NoAnswer> {
+    let front = front_at(alloc, text, node.bounds())?;
+    node.settle(&front)?;
+    Ok(())
+}
+
+/// The totals of what came inside a frontier.
+fn totals(alloc: Global, node: &Node, text: &str, said: &mut String) -> Result<(), NoAnswer> {
+    let front = front_at(alloc, text, node.bounds())?;
+    for rec in node.totals_at(&front)?.as_slice() {
+        mark(" ", said)?;
+        write!(said, "{rec}")?;
+    }
+    Ok(())
+}
+
+/// The node of a number, restored from a state: how many messages it sent, and its totals.
+fn restored(alloc: Global, flow: &Flow, words: &str) -> Result<Node, NoAnswer> {
+    let (node, rest) = part(words);
+    let (sent, recs) = part(rest);
+    let state = State {
+        sent: sent.parse::<u64>()?,
+        sends: SentCounts::of(Vec::new(alloc)),
+        entries: Entries::Totals(Recs::of(recs_of(alloc, recs)?)),
+    };
+    Ok(Node::from_state(alloc, flow, node_of(node)?, &state)?)
+}
+
+/// What is sent, each rec behind its stamp.
+fn say_sends(sends: &Sends, said: &mut String) -> Result<(), NoAnswer> {
+    for place in 0..sends.len() {
+        if let Some((at, rec)) = sends.get(place) {
+            mark(", ", said)?;
+            write!(said, "{at} {rec}")?;
+        }
+    }
+    Ok(())
+}

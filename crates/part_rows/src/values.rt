@@ -1,0 +1,88 @@
+//! What declarations are as a flow, what its edges make of frontiers, and which records are those of its nodes.
+use crate::choices::tell_choice;
+use crate::records::{of_node, read};
+use crate::spell::{edge_of, front_in, table_of};
+use fw_flow::{Flow, SentTable};
+use fw_frontier::Front;
+use row_words::{Answers, NoAnswer, Row, after, part, tell_row};
+use std::alloc::{AllocError, Global};
+use std::fmt::Write;
+
+/// A flow, the lines of its row, and how many messages its sequence sent.
+#[derive(Drop)]
+struct Values<'a> {
+    alloc: Global,
+    flow: &'a Flow,
+    lines: &'a str,
+    sent: SentTable,
+}
+
+/// Tells that the declarations are a flow, the answer to each line that asks something of it, and then, where there are
+/// offers, the choice to which it is restored.
+pub fn tell(alloc: Global, flow: &Flow, row: Row<'_>, told: &mut String) -> Result<(), AllocError> {
+    told.push_str("accepted\n")?;
+    tell_values(alloc, flow, row, told)?;
+    if after(row.lines, "offer").is_some() {
+        tell_choice(alloc, flow, row.lines, told)?;
+    }
+    Ok(())
+}
+
+/// Tells the answer to each line.
+fn tell_values(
+    alloc: Global,
+    flow: &Flow,
+    row: Row<'_>,
+    told: &mut String,
+) -> Result<(), AllocError> {
+    let lines = row.lines;
+    let Ok(sent) = table_of(alloc, after(lines, "sent").unwrap_or("")) else {
+        return told.push_str("no numbers sent\n");
+    };
+    let mut values = Values {
+        alloc,
+        flow,
+        lines,
+        sent,
+    };
+    tell_row(alloc, row, &mut values, told)
+}
+
+impl Answers for Values<'_> {
+    ghost stands = { λ _. Unit {0} };
+
+    fn answer(&mut self, line: &str, said: &mut String) -> Result<(), NoAnswer> {
+        let (word, rest) = part(line);
+        match word {
+            "phi" | "psi" | "back" => {
+                let front = projected(self.alloc, self.flow, &self.sent, word, rest)?;
+                write!(said, "{front}")?;
+                Ok(())
+            }
+            "checkpoint" | "event" => of_node(self.alloc, self.flow, self.lines, line, said),
+            "read" => read(self.alloc, self.lines, rest, said),
+            _ => Err(NoAnswer::NotAsked),
+        }
+    }
+}
+
+/// A frontier as an edge projects it: `phi`, `psi`, or `back` for psi backwards.
+fn projected(
+    alloc: Global,
+    flow: &Flow,
+    sent: &SentTable,
+    word: &str,
+    text: &str,
+) -> Result<Front, NoAnswer> {
+    let (edge, front) = part(text);
+    let edge = edge_of(flow, edge)?;
+    if word == "back" {
+        let front = front_in(alloc, front, &flow.domain(flow.dst(edge)))?;
+        return Ok(flow.psi_back(alloc, edge, &front)?);
+    }
+    let front = front_in(alloc, front, &flow.domain(flow.src(edge)))?;
+    match word {
+        "psi" => Ok(flow.psi(alloc, edge, &front)?),
+        _ => Ok(flow.phi(alloc, edge, &front, sent)?),
+    }
+}

@@ -1,5 +1,0 @@
-use Rattle.fw_progress.specs.Progress.{IsProgressOf}
-use Rattle.progress_rows.proofs.calls.epochs.Given as goal
-
-abbrev pub invariant-loop-epoch : goal.invariant-loop-epoch
-invariant-loop-epoch l = IsProgressOf l.flow l.progress

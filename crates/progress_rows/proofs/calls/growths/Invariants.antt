@@ -1,4 +1,0 @@
-use Rattle.progress_rows.proofs.calls.growths.Given as goal
-
-abbrev pub ghosts-uncounted : goal.ghosts-uncounted
-ghosts-uncounted a = record { name = a.blank.name; parts = a.blank.parts }

@@ -1,6 +1,0 @@
-use Rattle.std.specs.List.{AllByRecursion}
-use Rattle.value_rows.specs.Written.{IsMessageOf}
-use Rattle.value_rows.proofs.values.choices.messages.Given as goal
-
-abbrev pub invariant-loop-word : goal.invariant-loop-word
-invariant-loop-word l = AllByRecursion (IsMessageOf l.flow) l.messages.items

@@ -1,5 +1,0 @@
-use Rattle.fw_model.specs.Offers.{AreFrontsOfEdges}
-use Rattle.value_rows.proofs.values.choices.of_edges.Given as goal
-
-abbrev pub invariant-loop-edge : goal.invariant-loop-edge
-invariant-loop-edge l = AreFrontsOfEdges l.flow l.fronts.items

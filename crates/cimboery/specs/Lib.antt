@@ -52,6 +52,7 @@ pub use Rattle.fw_generate.specs.Texts
 pub use Rattle.fw_command.specs.Texts as CommandTexts
 pub use Rattle.fw_command.specs.Words
 pub use Rattle.fw_command.specs.Writing
+pub use Rattle.fw_run.specs.Answers
 pub use Rattle.fw_run.specs.Call
 pub use Rattle.fw_run.specs.Headline
 pub use Rattle.fw_run.specs.Status

@@ -30,14 +30,18 @@ pub use Rattle.fw_flow.specs.WellFormed
 pub use Rattle.fw_flow_text.specs.Grammar as FlowTexts
 pub use Rattle.fw_schedule.specs.Grammar as ScheduleTexts
 pub use Rattle.fw_schedule.specs.Schedule
+pub use Rattle.fw_model.specs.Acknowledgements
 pub use Rattle.fw_model.specs.Auto
 pub use Rattle.fw_model.specs.Choice
 pub use Rattle.fw_model.specs.Denotation
 pub use Rattle.fw_model.specs.Filtering
 pub use Rattle.fw_model.specs.History
 pub use Rattle.fw_model.specs.Machine
+pub use Rattle.fw_model.specs.Resending
 pub use Rattle.fw_model.specs.SortedMessages
 pub use Rattle.fw_model.specs.Steps
+pub use Rattle.fw_model.specs.Writes
+pub use Rattle.fw_headline.specs.Right
 pub use Rattle.fw_keep.specs.Catalogue
 pub use Rattle.fw_keep.specs.Stored
 pub use Rattle.fw_edge.specs.Piles
@@ -52,6 +56,7 @@ pub use Rattle.fw_generate.specs.Texts
 pub use Rattle.fw_command.specs.Texts as CommandTexts
 pub use Rattle.fw_command.specs.Words
 pub use Rattle.fw_command.specs.Writing
+pub use Rattle.fw_run.specs.Answers
 pub use Rattle.fw_run.specs.Call
 pub use Rattle.fw_run.specs.Headline
 pub use Rattle.fw_run.specs.Status

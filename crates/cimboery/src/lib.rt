@@ -9,6 +9,7 @@
 //!   Each call is lent the `Store` of what nodes write, always the same one, which at first holds no record.
 //! - Looks at an engine: `Engine::settled`, `is_failed`, `acknowledged`, `pending`, which shows a `Queue`, and `low_watermark`.
 //! - Times: `Stamp`; `Front`, a frontier; `Cut` and `Choice`, to what a recovery restores the nodes.
+//! - What is true of every run, whoever takes its steps: the law `every_run_is_right`.
 //! - The command over texts: `falkirk`, with its `Folder`, `Store` and `Sink` in memory, over files (`FileFolder`, `DiskStore`,
 //!   `StreamSink`) or of your own.
 #![tactic(auto)]
@@ -25,6 +26,7 @@ pub use fw_flow::{
 };
 pub use fw_flow_text::{FLOW_LIMIT, read_flow};
 pub use fw_frontier::Front;
+pub use fw_headline::laws::every_run_is_right;
 pub use fw_lines::{Batches, Code, INPUTS_LIMIT, ReadFault, Refusal, SourceNames, read_batches};
 pub use fw_outside::{
     FetchFault, FileFolder, Folder, MemFolder, MemSink, MemStore, MemText, OutFault, Sink, Store,

@@ -2,7 +2,7 @@
 use Rattle.std.proofs.Common.{◌≡◌, inl, inr, ◌⊎◌, ℕ, ◌<◌, ◌≤◌, true, false, List, [], Option, Some, None, Err, refl, sym, ◌∙◌, ap, subst, arith, lit<}
 use Rattle.std.proofs.lemmas.Bool.{cases_Bool, false≢true}
 use Rattle.std.proofs.lemmas.Option.{same_Some}
-use Rattle.std.specs.Prelude.{IsSome, option_map, option_and_then}
+use Rattle.std.specs.Prelude.{IsSome, is_some, option_map, option_and_then}
 use Rattle.std.specs.Result.{IsErrOf}
 use Rattle.fw_outside.specs.declared.fault.OutFault.{OutFault}
 use Rattle.fw_outside.specs.declared.fault.OutFault.TheVariants as output
@@ -10,36 +10,31 @@ use Rattle.fw_outside.specs.Outside.{SinkView}
 use Rattle.fw_lines.specs.declared.refusal.Refusal.{Refusal}
 use Rattle.fw_flow.specs.Dataflow.{Dataflow, System, system_of}
 use Rattle.fw_schedule.specs.declared.item.Item.{Item}
-use Rattle.fw_generate.specs.Laws.{AreAccepted, size_limit}
+use Rattle.fw_generate.specs.Laws.{AreAccepted}
 use Rattle.fw_generate.specs.Texts.{Texts}
 use Rattle.fw_running.specs.declared.fault.EngineFault.{EngineFault}
 use Rattle.fw_running.specs.declared.fault.EngineFault.TheVariants as engine
 use Rattle.fw_run.proofs.DecidedLaws.{texts-decided}
 use Rattle.fw_run.proofs.FaultLaws.{store_of}
 use Rattle.fw_run.proofs.FaultCounts.{rose_by}
-use Rattle.fw_run.proofs.Numbers.{few_refusal_numbers}
 use Rattle.fw_command.proofs.TextLaws.{one_first_refusal, one_first_of_two, accepted_or_refused, accepted_or_first_of_two, flow_or_refused, one_flow_refusal}
 use Rattle.fw_command.proofs.WritingLaws.{cut_of-part}
 use Rattle.fw_run.specs.declared.fault.RunFault.{RunFault}
 use Rattle.fw_run.specs.declared.fault.RunFault.TheVariants.{Out, Engine}
-use Rattle.fw_command.specs.declared.reading.Fed.{Fed}
-use Rattle.fw_command.specs.declared.reading.Job.{Job}
 use Rattle.fw_run.specs.declared.status.Status.{Status}
 use Rattle.fw_run.specs.declared.status.Status.TheVariants.{Done, BadWords, Refused, ReadFault, WriteFault, StoreFault, Damaged, NoMemory}
-use Rattle.fw_command.specs.declared.words.GenerateWords.{GenerateWords}
 use Rattle.fw_run.specs.declared.work.Work.{Work}
-use Rattle.fw_run.specs.declared.work.Work.TheVariants.{Run, Endure, Generate, Denote, Check}
+use Rattle.fw_run.specs.declared.work.Work.TheVariants.{Run, Denote, Check}
 use Rattle.fw_run.specs.Call.{Call, CountsFaults, HasTexts, Accepts, Refuses, Prints, AsksNoMore, HasAccepted, HasRefused, IsPrintout, PrintsPart, PrintsFirst, IsRunOf, KeepsFolder, KeepsStore, AnswersTexts, IsRunEnd, IsRefusalEnd}
 use Rattle.fw_command.specs.DenotationText.{PrintsDenotation}
-use Rattle.fw_run.specs.Enduring.{PrintsEndured, RoseBy, RoseByFaults, StaysOrRose}
+use Rattle.fw_run.specs.Ends.{PrintsOfRun, IsDamageIn, StaysIfInOneLine}
+use Rattle.fw_run.specs.Enduring.{RoseBy, RoseByFaults, StaysOrRose}
 use Rattle.fw_run.specs.Fault.{faults_after, status_of}
-use Rattle.fw_command.specs.Reading.{IsJob, IsGenerated, IsFed}
+use Rattle.fw_run.specs.Manner.{goes_on, told_in}
 use Rattle.fw_run.specs.Status.{HasWord, IsTellingOf, store_faults_told, status_number}
-use Rattle.fw_run.specs.Tallies.{PrintsSummary}
-use Rattle.fw_command.specs.Texts.{HasFlow, spelled_system, spelled_items}
-use Rattle.fw_run.specs.Trusting.{AreKnown, PrintsKnown}
-use Rattle.fw_command.specs.Words.{Command, TextNames, SystemNames, Seeded, run, endure, generate, denote, check, Manner, by_lines, through_faults, in_one_line, manner_of, IsInOneLine, asks_folder, seeded_in}
-use Rattle.fw_run.specs.Work.{IsWork, EndsAtFault, IsRun, IfRun, IsTextOfWork, PrintsWork, IsDamageIn, StaysUnlessRun, StaysIfInOneLine}
+use Rattle.fw_command.specs.Texts.{spelled_system, spelled_items}
+use Rattle.fw_command.specs.Words.{Command, run, endure, generate, denote, check, Manner, by_lines, through_faults, in_one_line, manner_of, IsInOneLine, asks_folder}
+use Rattle.fw_run.specs.Work.{IsWork, EndsAtFault, IsRun, IfRun, IsTextOfWork, PrintsWork, StaysUnlessRun, StaysIfToldInOne}
 use Rattle.fw_command.specs.Writing.{IsPartWritten, IsCutOff, WritesText}
 
 -- words are one command
@@ -47,40 +42,6 @@ same_command : (command : Option Command) (one other : Command) → command ≡ 
 same_command command one other e f = same_Some one other (sym e ∙ f)
 
 -- ---- the work of a command
-
--- what is true of each work with its command is true of a work of a command
-by_work : (told : Option (List ℕ → Option (List ℕ))) (P : Command → Work → Type 0)
-    → ((names : TextNames) (job : Job) → IsJob told names job → P (run names) (Run job))
-    → ((names : TextNames) (job : Job) → IsJob told names job → P (endure names) (Endure job))
-    → ((seeded : Seeded) (words : GenerateWords) (job : Job) → seeded ≡ seeded_in words → seeded.size ≤ size_limit → IsGenerated seeded job → P (generate seeded) (Generate words job))
-    → ((names : SystemNames) (fed : Fed) → IsFed told names fed → P (denote names) (Denote fed))
-    → ((name : List ℕ) (flow : Dataflow) → HasFlow told name flow → P (check name) (Check flow))
-    → (command : Command) (work : Work) → IsWork told command work → P command work
-by_work told P runs endures generates denotes checks (run names) (Run job) j = runs names job j
-by_work told P runs endures generates denotes checks (run names) (Endure job) j = absurd j
-by_work told P runs endures generates denotes checks (run names) (Generate words job) j = absurd j
-by_work told P runs endures generates denotes checks (run names) (Denote fed) j = absurd j
-by_work told P runs endures generates denotes checks (run names) (Check flow) j = absurd j
-by_work told P runs endures generates denotes checks (endure names) (Run job) j = absurd j
-by_work told P runs endures generates denotes checks (endure names) (Endure job) j = endures names job j
-by_work told P runs endures generates denotes checks (endure names) (Generate words job) j = absurd j
-by_work told P runs endures generates denotes checks (endure names) (Denote fed) j = absurd j
-by_work told P runs endures generates denotes checks (endure names) (Check flow) j = absurd j
-by_work told P runs endures generates denotes checks (generate seeded) (Run job) j = absurd j
-by_work told P runs endures generates denotes checks (generate seeded) (Endure job) j = absurd j
-by_work told P runs endures generates denotes checks (generate seeded) (Generate words job) j = generates seeded words job j.0 j.1 j.2
-by_work told P runs endures generates denotes checks (generate seeded) (Denote fed) j = absurd j
-by_work told P runs endures generates denotes checks (generate seeded) (Check flow) j = absurd j
-by_work told P runs endures generates denotes checks (denote names) (Run job) j = absurd j
-by_work told P runs endures generates denotes checks (denote names) (Endure job) j = absurd j
-by_work told P runs endures generates denotes checks (denote names) (Generate words job) j = absurd j
-by_work told P runs endures generates denotes checks (denote names) (Denote fed) j = denotes names fed j
-by_work told P runs endures generates denotes checks (denote names) (Check flow) j = absurd j
-by_work told P runs endures generates denotes checks (check name) (Run job) j = absurd j
-by_work told P runs endures generates denotes checks (check name) (Endure job) j = absurd j
-by_work told P runs endures generates denotes checks (check name) (Generate words job) j = absurd j
-by_work told P runs endures generates denotes checks (check name) (Denote fed) j = absurd j
-by_work told P runs endures generates denotes checks (check name) (Check flow) j = checks name flow j
 
 -- what is true of a system and items is true of those that texts spell, if they do
 of_texts : (flow : Dataflow) (texts : Texts) (sys : System) (items : List Item) (P : System → List Item → Type 0) → sys ≡ spelled_system flow texts → items ≡ spelled_items flow texts
@@ -97,46 +58,53 @@ record IsOfTexts (Tells : Type 0) (IsSo : ℕ → List ℕ → Type 0) (told : O
   pub accepted : Accepts command texts flow
   pub prints : (printed : List ℕ) → IsTextOfWork Tells IsSo work printed → Prints Tells IsSo command texts flow printed
 
+-- a command that takes steps of accepted texts accepts them
+accepts_run : (command : Command) (manner : Manner) (texts : Texts) (flow : Dataflow) → manner_of command ≡ Some manner → AreAccepted texts flow → Accepts command texts flow
+accepts_run (run names) manner texts flow e a = a
+accepts_run (endure names) manner texts flow e a = a
+accepts_run (generate seeded) manner texts flow e a = a
+accepts_run (denote names) manner texts flow e a = absurd (cc)
+accepts_run (check name) manner texts flow e a = absurd (cc)
+
+-- what is printed in the one manner is so in the same
+as_told : (Tells : Type 0) (IsSo : ℕ → List ℕ → Type 0) (one manner : Manner) (texts : Texts) (flow : Dataflow) (printed : List ℕ) → Some one ≡ Some manner
+    → PrintsOfRun Tells IsSo manner (spelled_system flow texts) (spelled_items flow texts) printed → PrintsOfRun Tells IsSo one (spelled_system flow texts) (spelled_items flow texts) printed
+as_told Tells IsSo one manner texts flow printed e p =
+    subst (λ (m : Manner). PrintsOfRun Tells IsSo m (spelled_system flow texts) (spelled_items flow texts) printed) (sym (same_Some one manner e)) p
+
+-- and prints what its run does
+prints_run : (Tells : Type 0) (IsSo : ℕ → List ℕ → Type 0) (command : Command) (manner : Manner) (texts : Texts) (flow : Dataflow) (printed : List ℕ) → manner_of command ≡ Some manner
+    → PrintsOfRun Tells IsSo manner (spelled_system flow texts) (spelled_items flow texts) printed → Prints Tells IsSo command texts flow printed
+prints_run Tells IsSo (run names) manner texts flow printed e p = as_told Tells IsSo by_lines manner texts flow printed e p
+prints_run Tells IsSo (endure names) manner texts flow printed e p = as_told Tells IsSo through_faults manner texts flow printed e p
+prints_run Tells IsSo (generate seeded) manner texts flow printed e p = as_told Tells IsSo (in_one_line seeded) manner texts flow printed e p
+prints_run Tells IsSo (denote names) manner texts flow printed e p = absurd (cc)
+prints_run Tells IsSo (check name) manner texts flow printed e p = absurd (cc)
+
 texts_of_work : (Tells : Type 0) (IsSo : ℕ → List ℕ → Type 0) (told : Option (List ℕ → Option (List ℕ))) (command : Command) (work : Work) → IsWork told command work
     → IsOfTexts Tells IsSo told command work
-texts_of_work Tells IsSo told = by_work told (λ command work. IsOfTexts Tells IsSo told command work)
-    (λ names job j. record {
-      texts = j.texts;
-      flow = job.flow;
-      there = j.there;
-      accepted = j.accepted;
-      prints = λ printed. of_texts job.flow j.texts (system_of job.flow job.batches) job.items (λ sys items. PrintsKnown Tells sys items printed) j.system j.items;
-    })
-    (λ names job j. record {
-      texts = j.texts;
-      flow = job.flow;
-      there = j.there;
-      accepted = j.accepted;
-      prints = λ printed. of_texts job.flow j.texts (system_of job.flow job.batches) job.items (λ sys items. PrintsEndured Tells IsSo sys items printed) j.system j.items;
-    })
-    (λ seeded words job e size j. record {
-      texts = j.texts;
-      flow = job.flow;
-      there = record { drawn = j.drawn; size = size };
-      accepted = j.accepted;
-      prints = λ printed p. of_texts job.flow j.texts (system_of job.flow job.batches) job.items
-          (λ sys items. AreKnown Tells sys items → PrintsSummary sys items seeded printed) j.system j.items
-          (subst (λ (s : Seeded). AreKnown Tells (system_of job.flow job.batches) job.items → PrintsSummary (system_of job.flow job.batches) job.items s printed) (sym e) p);
-    })
-    (λ names fed j. record {
-      texts = j.texts;
-      flow = fed.flow;
-      there = j.there;
-      accepted = j.accepted;
-      prints = λ printed p. subst (λ (sys : System). PrintsDenotation sys printed) j.system p;
-    })
-    (λ name flow h. record {
-      texts = record { flow = h.text; inputs = []; schedule = [] };
-      flow = flow;
-      there = h.there;
-      accepted = h.so;
-      prints = λ printed p. p;
-    })
+texts_of_work Tells IsSo told command (Run manner job) j = record {
+  texts = j.texts;
+  flow = job.flow;
+  there = j.there;
+  accepted = accepts_run command (told_in manner) j.texts job.flow j.takes j.accepted;
+  prints = λ printed p. prints_run Tells IsSo command (told_in manner) j.texts job.flow printed j.takes
+      (of_texts job.flow j.texts (system_of job.flow job.batches) job.items (λ sys items. PrintsOfRun Tells IsSo (told_in manner) sys items printed) j.system j.items p);
+}
+texts_of_work Tells IsSo told command (Denote fed) (names, e, j) = subst (λ (other : Command). IsOfTexts Tells IsSo told other (Denote fed)) (sym e) (record {
+  texts = j.texts;
+  flow = fed.flow;
+  there = j.there;
+  accepted = j.accepted;
+  prints = λ printed p. subst (λ (sys : System). PrintsDenotation sys printed) j.system p;
+})
+texts_of_work Tells IsSo told command (Check flow) (name, e, h) = subst (λ (other : Command). IsOfTexts Tells IsSo told other (Check flow)) (sym e) (record {
+  texts = record { flow = h.text; inputs = []; schedule = [] };
+  flow = flow;
+  there = h.there;
+  accepted = h.so;
+  prints = λ printed p. p;
+})
 
 -- what a work prints is what the call prints that asked for it
 printout_of_work : (Tells : Type 0) (IsSo : ℕ → List ℕ → Type 0) (call : Call) (command : Command) (work : Work) (printed : List ℕ) → call.command ≡ Some command → IsWork call.told command work
@@ -194,74 +162,39 @@ part_of-first Tells call count last before after p = record { printed = p.printe
 
 -- what is true of a work that takes steps is true of the call that asked for it
 pub run_of-call : (call : Call) (command : Command) (work : Work) (P : Manner → System → List Item → Type 0) → call.command ≡ Some command → IsWork call.told command work → IsRun work P → IsRunOf call P
-run_of-call call command work P e j = by_work call.told (λ command work. call.command ≡ Some command → IsRun work P → IsRunOf call P)
-    (λ names job j e p. record {
-      command = run names;
-      words = e;
-      manner = by_lines;
-      takes = refl;
-      texts = j.texts;
-      there = j.there;
-      flow = job.flow;
-      accepted = j.accepted;
-      so = of_texts job.flow j.texts (system_of job.flow job.batches) job.items (P by_lines) j.system j.items p;
-    })
-    (λ names job j e p. record {
-      command = endure names;
-      words = e;
-      manner = through_faults;
-      takes = refl;
-      texts = j.texts;
-      there = j.there;
-      flow = job.flow;
-      accepted = j.accepted;
-      so = of_texts job.flow j.texts (system_of job.flow job.batches) job.items (P through_faults) j.system j.items p;
-    })
-    (λ seeded words job same size j e p. record {
-      command = generate seeded;
-      words = e;
-      manner = in_one_line seeded;
-      takes = refl;
-      texts = j.texts;
-      there = record { drawn = j.drawn; size = size };
-      flow = job.flow;
-      accepted = j.accepted;
-      so = of_texts job.flow j.texts (system_of job.flow job.batches) job.items (P (in_one_line seeded)) j.system j.items
-          (subst (λ (s : Seeded). P (in_one_line s) (system_of job.flow job.batches) job.items) (sym same) p);
-    })
-    (λ names fed j e p. absurd p)
-    (λ name flow h e p. absurd p)
-    command work j e
+run_of-call call command (Run manner job) P e j p = record {
+  command = command;
+  words = e;
+  manner = told_in manner;
+  takes = j.takes;
+  texts = j.texts;
+  there = j.there;
+  flow = job.flow;
+  accepted = j.accepted;
+  so = of_texts job.flow j.texts (system_of job.flow job.batches) job.items (P (told_in manner)) j.system j.items p;
+}
+run_of-call call command (Denote fed) P e j p = absurd p
+run_of-call call command (Check flow) P e j p = absurd p
 
--- what a work leaves that takes steps it leaves in the call
-left_of-command : (call : Call) (command : Command) (work : Work) (P : Manner → System → List Item → Type 0) → IsWork call.told command work → call.command ≡ Some command
-    → IsSome (manner_of command) → IfRun work P → IsRunOf call P
-left_of-command call command work P = by_work call.told (λ command work. call.command ≡ Some command → IsSome (manner_of command) → IfRun work P → IsRunOf call P)
-    (λ names job j e s. run_of-call call (run names) (Run job) P e j)
-    (λ names job j e s. run_of-call call (endure names) (Endure job) P e j)
-    (λ seeded words job same size j e s. run_of-call call (generate seeded) (Generate words job) P e (same, size, j))
-    (λ names fed j e s p. absurd (false≢true s))
-    (λ name flow h e s p. absurd (false≢true s))
-    command work
+-- a command that takes no steps has no manner to tell them
+no_manner : (command other : Command) → command ≡ other → manner_of other ≡ None → IsSome (manner_of command) → ⊥
+no_manner command other e none some = false≢true (sym (ap is_some (ap manner_of e ∙ none)) ∙ some)
 
 pub left_of-call : (call : Call) (command : Command) (work : Work) (P : Manner → System → List Item → Type 0) → call.command ≡ Some command → IsWork call.told command work → IfRun work P
     → (asked : Command) → call.command ≡ Some asked → IsSome (manner_of asked) → IsRunOf call P
-left_of-call call command work P e j p asked f s =
-    left_of-command call command work P j e (subst (λ (c : Command). IsSome (manner_of c)) (same_command call.command asked command f e) s) p
+left_of-call call command (Run manner job) P e j p asked f s = run_of-call call command (Run manner job) P e j p
+left_of-call call command (Denote fed) P e (names, d, j) p asked f s = absurd (no_manner asked (denote names) (same_command call.command asked command f e ∙ d) refl s)
+left_of-call call command (Check flow) P e (name, d, j) p asked f s = absurd (no_manner asked (check name) (same_command call.command asked command f e ∙ d) refl s)
 
 -- work that takes no steps leaves the store as it is
 stays_unless_run : {K : Type 0} (told : Option (List ℕ → Option (List ℕ))) (command : Command) (work : Work) (before after : K) → IsWork told command work
     → manner_of command ≡ None → StaysUnlessRun work before after → after ≡ before
-stays_unless_run told command work before after = by_work told (λ command work. manner_of command ≡ None → StaysUnlessRun work before after → after ≡ before)
-    (λ names job j n s. absurd (some by_lines n))
-    (λ names job j n s. absurd (some through_faults n))
-    (λ seeded words job same size j n s. absurd (some (in_one_line seeded) n))
-    (λ names fed j n s. s)
-    (λ name flow h n s. s)
-    command work
+stays_unless_run told command (Run manner job) before after j n s = absurd (some (sym j.takes ∙ n))
   where
-    some : (manner : Manner) → Some manner ≡ None → ⊥
-    some manner e = absurd (cc)
+    some : Some (told_in manner) ≡ None → ⊥
+    some e = absurd (cc)
+stays_unless_run told command (Denote fed) before after j n s = s
+stays_unless_run told command (Check flow) before after j n s = s
 
 -- a status that is not one of those before a run
 abbrev pub IsNotBefore : Status → Type 0
@@ -368,14 +301,6 @@ pub record IsToldOf (Tells : Type 0) (call : Call) (status : Status) : Type 0 wh
   pub store : status ≡ StoreFault → (texts : Texts) × HasAccepted call texts
   pub damaged : (id : ℕ) → status ≡ Damaged id → ((texts : Texts) × HasAccepted call texts) × (Tells → ⊥)
 
--- a command that takes steps of accepted texts accepts them
-accepts_run : (command : Command) (manner : Manner) (texts : Texts) (flow : Dataflow) → manner_of command ≡ Some manner → AreAccepted texts flow → Accepts command texts flow
-accepts_run (run names) manner texts flow e a = a
-accepts_run (endure names) manner texts flow e a = a
-accepts_run (generate seeded) manner texts flow e a = a
-accepts_run (denote names) manner texts flow e a = absurd (cc)
-accepts_run (check name) manner texts flow e a = absurd (cc)
-
 -- a run has accepted texts
 pub accepted_of-run : (call : Call) (P : Manner → System → List Item → Type 0) → IsRunOf call P → (texts : Texts) × HasAccepted call texts
 accepted_of-run call P r =
@@ -409,70 +334,11 @@ completes Tells call StoreFault s texts a tells = inr (inr (inr (inl refl)))
 completes Tells call (Damaged id) s texts a tells = inr (inr (inr (inr (inl ((id, refl), (s.damaged id refl).1)))))
 completes Tells call NoMemory s texts a tells = inr (inr (inr (inr (inr refl))))
 
--- what the texts bring about, once the status is told
-pub texts-answered : (Tells : Type 0) (call : Call) (status result : Status) → IsTellingOf status result → IsToldOf Tells call status → AnswersTexts Tells call result
-texts-answered Tells call status result told s = record { decided = texts-decided call.told; refuses = by_refusal told; completes = by_run told }
-  where
-    by_refusal : IsTellingOf status result → (refusal : Refusal) → IsSome call.told → HasRefused call refusal → IsRefusalEnd refusal result
-    by_refusal (inl e) refusal tells first = subst (IsRefusalEnd refusal) (sym e) (refuses Tells call status s refusal tells first)
-    by_refusal (inr t) refusal tells first = inr (inr t.1)
-
-    by_run : IsTellingOf status result → (texts : Texts) → (a : HasAccepted call texts) → (asks_folder a.command ≡ true → IsSome call.told) → IsRunEnd Tells result
-    by_run (inl e) texts a tells = subst (IsRunEnd Tells) (sym e) (completes Tells call status s texts a tells)
-    by_run (inr t) texts a tells = inr (inr (inr (inr (inr t.1))))
+-- what the texts bring about
+pub texts-answered : (Tells : Type 0) (call : Call) (status : Status) → IsToldOf Tells call status → AnswersTexts Tells call status
+texts-answered Tells call status s = record { decided = texts-decided call.told; refuses = refuses Tells call status s; completes = completes Tells call status s }
 
 -- ---- what was told
-
--- a status that is answered is the one that was, unless it is that of want of memory
-told_other : (status result wanted : Status) → (wanted ≡ NoMemory → ⊥) → IsTellingOf status result → result ≡ wanted → status ≡ wanted
-told_other status result wanted other (inl e) f = sym e ∙ f
-told_other status result wanted other (inr t) f = absurd (other (sym f ∙ t.1))
-
-pub told_done : (status result : Status) → IsTellingOf status result → result ≡ Done → status ≡ Done
-told_done status result = told_other status result Done other
-  where
-    other : Done ≡ NoMemory → ⊥
-    other e = absurd (cc)
-
-pub told_write_fault : (status result : Status) → IsTellingOf status result → result ≡ WriteFault → status ≡ WriteFault
-told_write_fault status result = told_other status result WriteFault other
-  where
-    other : WriteFault ≡ NoMemory → ⊥
-    other e = absurd (cc)
-
-pub told_store_fault : (status result : Status) → IsTellingOf status result → result ≡ StoreFault → status ≡ StoreFault
-told_store_fault status result = told_other status result StoreFault other
-  where
-    other : StoreFault ≡ NoMemory → ⊥
-    other e = absurd (cc)
-
-pub told_refused : (status result : Status) (refusal : Refusal) → IsTellingOf status result → result ≡ Refused refusal → status ≡ Refused refusal
-told_refused status result refusal = told_other status result (Refused refusal) other
-  where
-    other : Refused refusal ≡ NoMemory → ⊥
-    other e = absurd (cc)
-
-pub told_damaged : (status result : Status) (id : ℕ) → IsTellingOf status result → result ≡ Damaged id → status ≡ Damaged id
-told_damaged status result id = told_other status result (Damaged id) other
-  where
-    other : Damaged id ≡ NoMemory → ⊥
-    other e = absurd (cc)
-
--- where there was no memory, for the run or for its line, nothing was written or first bytes
-pub told_no_memory : {O : Type 0} (P : Type 0) (status result : Status) (before after : O) → IsTellingOf status result → result ≡ NoMemory
-    → (status ≡ NoMemory → (after ≡ before) ⊎ P) → (status_number status ≤ 6 → (status ≡ Done) ⊎ (after ≡ before))
-    → (8 ≤ status_number status → status_number status ≤ 9 → P) → (after ≡ before) ⊎ P
-told_no_memory P status result before after (inl e) f of_memory nothing_out of_damage = of_memory (sym e ∙ f)
-told_no_memory P status result before after (inr (inl (refusal, e), t)) f of_memory nothing_out of_damage =
-    elim (nothing_out (subst (λ (s : Status). status_number s ≤ 6) (sym e) (omega (arith, few_refusal_numbers refusal.code)))) [
-      | inl done ↦ absurd (refused (sym e ∙ done))
-      | inr same ↦ inl same
-    ]
-  where
-    refused : Refused refusal ≡ Done → ⊥
-    refused h = absurd (cc)
-told_no_memory P status result before after (inr (inr (id, e), t)) f of_memory nothing_out of_damage =
-    inr (of_damage (subst (λ (s : Status). 8 ≤ status_number s) (sym e) (omega arith)) (subst (λ (s : Status). status_number s ≤ 9) (sym e) (omega arith)))
 
 -- the store, once the status is told
 pub store_told : {K : Type 0} (command : Option Command) (status result : Status) (before after : K) → IsTellingOf status result → KeepsStore command status before after
@@ -482,14 +348,6 @@ store_told command status result before after (inr t) k = record {
   no_run = k.no_run;
   not_begun = λ least most. absurd (not_before (status_number result) (inr (subst (λ (s : Status). 6 < status_number s) (sym t.1) (lit< tt))) least most);
 }
-
--- what is true of one refusal is true of the same
-pub same_refusal : (P : Refusal → Type 0) (one other : Refusal) → Refused one ≡ Refused other → P one → P other
-same_refusal P one other e p = subst P (ap refusal_in e) p
-  where
-    refusal_in : Status → Refusal
-    refusal_in (Refused r) = r
-    refusal_in status = one
 
 -- damage is no good end
 pub damaged_not_done : (id : ℕ) → Damaged id ≡ Done → ⊥
@@ -535,12 +393,14 @@ fault_not_done (Engine engine.NoMemory) e = absurd (cc)
 -- the work of a command that does not go on through faults ended at the first
 ends_at_fault : (T : Type 0) (told : Option (List ℕ → Option (List ℕ))) (f : RunFault) (before after : ℕ) (command : Command) (work : Work) → IsWork told command work
     → (manner_of command ≡ Some through_faults → ⊥) → EndsAtFault {T = T} work (Err f) before after → after ≡ store_faults_told (status_of f) before
-ends_at_fault T told f before after = by_work told (λ command work. (manner_of command ≡ Some through_faults → ⊥) → EndsAtFault {T = T} work (Err f) before after → after ≡ store_faults_told (status_of f) before)
-    (λ names job j once ends. count_told T f before after ends)
-    (λ names job j once ends. absurd (once refl))
-    (λ seeded words job same size j once ends. count_told T f before after ends)
-    (λ names fed j once ends. count_told T f before after ends)
-    (λ name flow h once ends. count_told T f before after ends)
+ends_at_fault T told f before after command (Run manner job) j once ends = count_told T f before after (ends (first (told_in manner) (λ e. once (j.takes ∙ ap Some e))))
+  where
+    first : (m : Manner) → (m ≡ through_faults → ⊥) → goes_on m ≡ false
+    first by_lines other = refl
+    first through_faults other = absurd (other refl)
+    first (in_one_line seeded) other = refl
+ends_at_fault T told f before after command (Denote fed) j once ends = count_told T f before after ends
+ends_at_fault T told f before after command (Check flow) j once ends = count_told T f before after ends
 
 pub counts_fault : (T : Type 0) (told : Option (List ℕ → Option (List ℕ))) (command : Option Command) (asked : Command) (work : Work) (f : RunFault) (before after : ℕ) → command ≡ Some asked
     → IsWork told asked work → EndsAtFault {T = T} work (Err f) before after → (IsErrOf {T = T} (Err f) (Engine engine.StoreFault) → RoseByFaults before after)
@@ -579,40 +439,31 @@ counts_told command status result before after (inr t) k = record {
 
 -- where the engine took no step more, it was told nothing
 pub nothing_told : {O : Type 0} (told : Option (List ℕ → Option (List ℕ))) (command : Option Command) (asked : Command) (work : Work) (f : RunFault) (before after : O) → command ≡ Some asked
-    → IsWork told asked work → ((fault : EngineFault) → IsErrOf {T = Unit {0}} (Err f) (Engine fault) → StaysIfInOneLine work before after) → IsInOneLine command
+    → IsWork told asked work → ((fault : EngineFault) → f ≡ Engine fault → StaysIfToldInOne work before after) → IsInOneLine command
     → 8 ≤ status_number (status_of f) → status_number (status_of f) ≤ 9 → after ≡ before
 nothing_told {O} told command asked work f before after e j stays one least most = stays_there f stays least most
   where
     seeded : asked ≡ generate one.0
     seeded = same_Some asked (generate one.0) (sym e ∙ one.1)
 
-    of_work : (other : Command) (w : Work) → IsWork told other w → other ≡ generate one.0 → StaysIfInOneLine w before after → after ≡ before
-    of_work = by_work told (λ other w. other ≡ generate one.0 → StaysIfInOneLine w before after → after ≡ before)
-        (λ names job j h s. absurd (cc))
-        (λ names job j h s. absurd (cc))
-        (λ words given job same size j h s. s)
-        (λ names fed j h s. absurd (cc))
-        (λ name flow k h s. absurd (cc))
+    in_line : (m : Manner) → m ≡ in_one_line one.0 → StaysIfInOneLine m before after → after ≡ before
+    in_line by_lines e s = absurd (cc)
+    in_line through_faults e s = absurd (cc)
+    in_line (in_one_line seed) e s = s
 
-    stays_there : (g : RunFault) → ((fault : EngineFault) → IsErrOf {T = Unit {0}} (Err g) (Engine fault) → StaysIfInOneLine work before after)
+    of_work : (w : Work) → IsWork told asked w → StaysIfToldInOne w before after → after ≡ before
+    of_work (Run manner job) k s = in_line (told_in manner) (same_Some (told_in manner) (in_one_line one.0) (sym k.takes ∙ ap manner_of seeded)) s
+    of_work (Denote fed) (names, e, k) s = absurd (denoted (sym e ∙ seeded))
+      where
+        denoted : denote names ≡ generate one.0 → ⊥
+        denoted h = absurd (cc)
+    of_work (Check flow) (name, e, k) s = absurd (checked (sym e ∙ seeded))
+      where
+        checked : check name ≡ generate one.0 → ⊥
+        checked h = absurd (cc)
+
+    stays_there : (g : RunFault) → ((fault : EngineFault) → g ≡ Engine fault → StaysIfToldInOne work before after)
         → 8 ≤ status_number (status_of g) → status_number (status_of g) ≤ 9 → after ≡ before
     stays_there (Out output.Failed) s l m = absurd (omega (arith, l))
     stays_there (Out output.NoMemory) s l m = absurd (omega (arith, m))
-    stays_there (Engine fault) s l m = of_work asked work j seeded (s fault refl)
-
--- what is so where the store ended a run is so once the status is told
-pub told_store_part : (P : Type 0) (status result : Status) → IsTellingOf status result → (8 ≤ status_number status → status_number status ≤ 9 → P)
-    → 8 ≤ status_number result → status_number result ≤ 9 → P
-told_store_part P status result told f least most = at told
-  where
-    late : status_number NoMemory ≤ 9 → ⊥
-    late m = absurd (omega (arith, m))
-
-    at : IsTellingOf status result → P
-    at (inl e) = f (subst (λ (s : Status). 8 ≤ status_number s) e least) (subst (λ (s : Status). status_number s ≤ 9) e most)
-    at (inr t) = absurd (late (subst (λ (s : Status). status_number s ≤ 9) t.1 most))
-
--- and so once the status is told
-pub nothing_told_on : {O : Type 0} (One : Type 0) (status result : Status) (before after : O) → IsTellingOf status result
-    → (One → 8 ≤ status_number status → status_number status ≤ 9 → after ≡ before) → One → 8 ≤ status_number result → status_number result ≤ 9 → after ≡ before
-nothing_told_on One status result before after told f one = told_store_part (after ≡ before) status result told (f one)
+    stays_there (Engine fault) s l m = of_work work j (s fault refl)

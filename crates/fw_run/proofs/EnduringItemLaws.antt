@@ -1,5 +1,5 @@
 -- An item that is taken through a fault of the store, where an engine takes its steps.
-use Rattle.std.proofs.Common.{◌≡◌, inr, ℕ, ◌+◌, List, [], ◌∷◌, ◌++◌, length, map, Option, Result, Ok, Err, refl, sym, ◌∙◌, ap, subst, arith, append_assoc}
+use Rattle.std.proofs.Common.{◌≡◌, inr, ℕ, ◌+◌, Bool, true, List, [], ◌∷◌, ◌++◌, length, map, Option, Result, Ok, Err, refl, sym, ◌∙◌, ap, subst, arith, append_assoc}
 use Rattle.std.proofs.lemmas.List.{append-nil, length-append, length-map}
 use Rattle.std.specs.Result.{IsErrOf}
 use Rattle.fw_outside.specs.declared.fault.OutFault.{OutFault}
@@ -16,18 +16,23 @@ use Rattle.fw_running.specs.declared.fault.EngineFault.TheVariants as fault
 use Rattle.fw_running.specs.Steps.{MayCallStore, IsStepEnabled, IsLeftBy}
 use Rattle.fw_engine.specs.declared.engine.Engine.{Engine}
 use Rattle.fw_engine.specs.Engine.{StandsFor}
-use Rattle.fw_run.proofs.EnduringLaws.{outcomes_in-append, shown_in-append, faults-append, reports_text-append, outcomes_in-came, shown_in-came, faults-came, reports_text-came, endured-taken}
+use Rattle.fw_run.proofs.EnduringLaws.{endured-taken, may_none, any_may}
+use Rattle.fw_run.proofs.ReportLaws.{outcomes_in-append, shown_in-append, faults-append, reports_text-append, outcomes_in-came, shown_in-came, faults-came, reports_text-came}
+use Rattle.fw_run.proofs.TallyLaws.{tally_shown-came, tally_shown-fault}
 use Rattle.fw_run.proofs.StoppedLaws.{no_outcomes}
 use Rattle.fw_command.proofs.WritingLaws.{written_more}
 use Rattle.fw_run.proofs.TakenLaws.{taken_part, taken_more}
 use Rattle.fw_run.specs.declared.fault.RunFault.{RunFault}
 use Rattle.fw_run.specs.declared.fault.RunFault.TheVariants as stop
 use Rattle.fw_run.specs.declared.tally.Tally.{Tally}
-use Rattle.fw_run.specs.EnduredItems.{EnduredItem, IsItemEndured, IsItemBroken, PrintsThrough}
-use Rattle.fw_run.specs.Enduring.{Report, came, not_taken, unswept, faults_in, outcomes_in, shown_in, Endures, fault_line, reports_text, RoseBy}
+use Rattle.fw_run.specs.Enduring.{Endures, RoseBy}
+use Rattle.fw_run.specs.Fault.{faults_after}
+use Rattle.fw_run.specs.Reports.{Report, came, not_taken, unswept, faults_in, outcomes_in, shown_in, fault_line, reports_text}
 use Rattle.fw_run.specs.Performing.{IsItemTaken, IsItemBegun, IsItemStopped, PrintsItem}
-use Rattle.fw_run.specs.Printed.{outcomes_text, idle_count}
+use Rattle.fw_run.specs.Printed.{outcomes_text}
 use Rattle.fw_run.specs.Stopping.{MayCallIn, IsLeftIn}
+use Rattle.fw_run.specs.Tallies.{tally_shown, with_step, with_tally}
+use Rattle.fw_run.specs.Through.{EnduredItem, IsItemEndured, IsItemBroken, IsCountAt, PrintsThrough}
 use Rattle.fw_command.specs.Writing.{IsWritten, IsCutOff}
 
 -- ---- where the store fails
@@ -37,8 +42,7 @@ use Rattle.fw_command.specs.Writing.{IsWritten, IsCutOff}
 pub record IsItemFaulted (sys : System) (state : Machine) (item : Item) (old counts : Tally) (bytes : List ℕ) (IsSo : Machine → Type 0) : Type 0 where
   pub of_item : EnduredItem sys state item
   pub text : reports_text sys.flow old.steps of_item.reports ≡ bytes ++ fault_line (counts.steps + 1)
-  pub counted : counts.steps + 1 ≡ old.steps + length of_item.reports
-  pub idle : counts.idle ≡ old.idle + idle_count (shown_in of_item.reports)
+  pub counted : with_step counts ≡ with_tally old (tally_shown of_item.reports)
   pub once : faults_in of_item.reports ≡ 1
   pub so : IsSo of_item.last
 
@@ -98,20 +102,17 @@ item_faulted sys state (One step) old counts bytes P calls t =
     let f = step_faulted sys state step P calls left in
     let none : t.outcomes ≡ [] = no_outcomes sys state t.now t.begun t.outcomes t.begins.0 t.run in
     let steps : counts.steps ≡ old.steps + 0 = ap (λ (c : Tally). c.steps) t.counted ∙ ap (λ (os : List Outcome). old.steps + length os) none in
-    let idle : counts.idle ≡ old.idle + 0 = ap (λ (c : Tally). c.idle) t.counted ∙ ap (λ (os : List Outcome). old.idle + idle_count os) none in
     let nothing : bytes ≡ [] = t.text ∙ ap (λ (os : List Outcome). outcomes_text sys.flow os) none in
     let number : old.steps + 1 ≡ counts.steps + 1 = omega (arith, steps) in
     record {
       of_item = record { steps = f.steps; reports = f.report ∷ []; last = f.last; endures = (f.report, f.endures, refl); run = f.run };
       text = f.line sys.flow old.steps ∙ ap fault_line number ∙ ap (λ (b : List ℕ). b ++ fault_line (counts.steps + 1)) (sym nothing);
-      counted = omega (arith, steps);
-      idle = idle ∙ ap (λ (os : List Outcome). old.idle + idle_count os) (sym f.unseen);
+      counted = tally_shown-fault old counts t.outcomes (f.report ∷ []) t.counted (f.unseen ∙ sym none) (ap (λ (os : List Outcome). length os + 1) (sym none));
       once = f.once;
       so = f.so;
     }
 item_faulted sys state (Auto most) old counts bytes P calls t =
     let steps : counts.steps ≡ old.steps + length t.outcomes = ap (λ (c : Tally). c.steps) t.counted in
-    let idle : counts.idle ≡ old.idle + idle_count t.outcomes = ap (λ (c : Tally). c.idle) t.counted in
     let all : List Report = map came t.outcomes ++ not_taken ∷ [] in
     let taken : outcomes_in all ≡ t.outcomes = outcomes_in-append (map came t.outcomes) (not_taken ∷ []) ∙ append-nil (outcomes_in (map came t.outcomes)) ∙ outcomes_in-came t.outcomes in
     let seen : shown_in all ≡ t.outcomes = shown_in-append (map came t.outcomes) (not_taken ∷ []) ∙ append-nil (shown_in (map came t.outcomes)) ∙ shown_in-came t.outcomes in
@@ -128,8 +129,7 @@ item_faulted sys state (Auto most) old counts bytes P calls t =
       text = reports_text-append sys.flow old.steps (map came t.outcomes) (not_taken ∷ [])
           ∙ ap (λ (b : List ℕ). b ++ reports_text sys.flow (old.steps + length (map came t.outcomes)) (not_taken ∷ [])) (reports_text-came sys.flow old.steps t.outcomes ∙ sym t.text)
           ∙ ap (λ (b : List ℕ). bytes ++ b) last;
-      counted = omega (arith, steps, length-map t.outcomes came, length-append (map came t.outcomes) (not_taken ∷ []));
-      idle = idle ∙ ap (λ (os : List Outcome). old.idle + idle_count os) (sym seen);
+      counted = tally_shown-fault old counts t.outcomes all t.counted seen (omega (arith, length-map t.outcomes came, length-append (map came t.outcomes) (not_taken ∷ [])));
       once = faults-append (map came t.outcomes) (not_taken ∷ []) ∙ ap (λ (n : ℕ). n + 1) (faults-came t.outcomes);
       so = t.so.1;
     }
@@ -144,78 +144,80 @@ fault_of_answer f g e = ap with_fault e
     with_fault x = Err x
 
 -- the item was taken, and the store did not fail
-item_taken : (sys : System) (state : Machine) (item : Item) (old new : Tally) (bytes : List ℕ) (engine : Engine) (records : Option Records)
-    → IsItemTaken sys state item old new bytes engine records → IsItemEndured sys state item old new 0 bytes engine records
-item_taken sys state item old new bytes engine records t =
+item_taken : (goes_on : Bool) (sys : System) (state : Machine) (item : Item) (old new : Tally) (bytes : List ℕ) (engine : Engine) (records : Option Records)
+    → IsItemTaken sys state item old new bytes engine records → IsItemEndured goes_on sys state item old new 0 bytes engine records
+item_taken goes_on sys state item old new bytes engine records t =
     let r = t.of_item in
-    let all : List Report = map came r.outcomes in
     record {
       of_item = endured-taken sys state item r;
+      may = may_none goes_on (faults_in (map came r.outcomes)) (faults-came r.outcomes);
       text = t.text ∙ sym (reports_text-came sys.flow old.steps r.outcomes);
-      counted = ap (λ (c : Tally). c.steps) t.counted ∙ ap (λ (n : ℕ). old.steps + n) (sym (length-map r.outcomes came));
-      idle = ap (λ (c : Tally). c.idle) t.counted ∙ ap (λ (os : List Outcome). old.idle + idle_count os) (sym (shown_in-came r.outcomes));
+      counted = t.counted ∙ ap (with_tally old) (sym (tally_shown-came r.outcomes));
       faults = sym (faults-came r.outcomes);
       stands = t.stands;
     }
 
-pub through-taken : (old new : Engine) (before after : Option Records) (item : Item) (counted counts : Tally) (IsCount : ℕ → Type 0) (first last : SinkView)
-    → PrintsItem {T = Unit {0}} old before item counted (Ok tt) new after counts first last → PrintsThrough old before item counted IsCount (Ok 0) new after counts first last
-through-taken old new before after item counted counts IsCount first last p = record {
+pub through-taken : (goes_on : Bool) (old new : Engine) (before after : Option Records) (item : Item) (counted counts : Tally) (IsCount : ℕ → Type 0) (first last : SinkView)
+    → PrintsItem {T = Unit {0}} old before item counted (Ok tt) new after counts first last → PrintsThrough goes_on old before item counted IsCount (Ok 0) new after counts first last
+through-taken goes_on old new before after item counted counts IsCount first last p = record {
   bytes = p.bytes;
   taken = p.taken;
-  does = λ sys state st trusts. item_taken sys state item counted counts p.bytes new after (p.does sys state st trusts);
+  does = λ sys state st trusts. item_taken goes_on sys state item counted counts p.bytes new after (p.does sys state st trusts);
 }
 
 -- its lines were cut off, and it is completed by a run in which the store does not fail
-pub item_broken : (sys : System) (state : Machine) (item : Item) (old : Tally) (bytes : List ℕ) (IsCount : ℕ → Type 0) → IsCount 0
-    → IsItemBegun sys state item bytes → IsItemBroken sys state item old bytes IsCount
-item_broken sys state item old bytes IsCount none b =
+pub item_broken : (goes_on : Bool) (sys : System) (state : Machine) (item : Item) (old : Tally) (bytes : List ℕ) (IsCount : ℕ → Type 0) → IsCount 0
+    → IsItemBegun sys state item bytes → IsItemBroken goes_on sys state item old bytes IsCount
+item_broken goes_on sys state item old bytes IsCount none b =
     let r = b.of_item in
     record {
       of_item = endured-taken sys state item r;
+      may = may_none goes_on (faults_in (map came r.outcomes)) (faults-came r.outcomes);
       others = b.others;
       text = reports_text-came sys.flow old.steps r.outcomes ∙ b.text;
       faults = subst IsCount (sym (faults-came r.outcomes)) none;
     }
 
-through_stopped : (f : RunFault) (old new : Engine) (before after : Option Records) (item : Item) (counted counts : Tally) (IsCount : ℕ → Type 0) (first last : SinkView) → IsCount 0
-    → PrintsItem {T = Unit {0}} old before item counted (Err f) new after counts first last → PrintsThrough old before item counted IsCount (Err f) new after counts first last
-through_stopped (stop.Out f) old new before after item counted counts IsCount first last none p = record {
+-- how often the store failed where it does not end the run
+pub stopped_count : (f : RunFault) (before after : ℕ) → after ≡ faults_after {T = Unit {0}} (Err f) before → IsCountAt f (RoseBy before after) 0
+stopped_count (stop.Out f) before after e = e
+stopped_count (stop.Engine fault.StoreFault) before after e = tt
+stopped_count (stop.Engine (fault.Damaged id)) before after e = e
+stopped_count (stop.Engine fault.NoMemory) before after e = e
+
+pub through-stopped : (goes_on : Bool) (f : RunFault) (old new : Engine) (before after : Option Records) (item : Item) (counted counts : Tally) (a b : ℕ) (first last : SinkView)
+    → IsCountAt f (RoseBy a b) 0 → PrintsItem {T = Unit {0}} old before item counted (Err f) new after counts first last
+    → PrintsThrough goes_on old before item counted (RoseBy a b) (Err f) new after counts first last
+through-stopped goes_on (stop.Out f) old new before after item counted counts a b first last none p = record {
   bytes = p.bytes;
   taken = p.taken;
-  does = λ sys state st trusts. item_broken sys state item counted p.bytes IsCount none (p.does sys state st trusts);
+  does = λ sys state st trusts. item_broken goes_on sys state item counted p.bytes (RoseBy a b) none (p.does sys state st trusts);
 }
-through_stopped (stop.Engine f) old new before after item counted counts IsCount first last none p = record {
+through-stopped goes_on (stop.Engine f) old new before after item counted counts a b first last none p = record {
   bytes = p.bytes;
   taken = p.taken;
   does = λ sys state st. (p.does sys state st, none);
 }
 
-pub through-stopped : (f : RunFault) (old new : Engine) (before after : Option Records) (item : Item) (counted counts : Tally) (a b : ℕ) (first last : SinkView) → RoseBy a b 0
-    → PrintsItem {T = Unit {0}} old before item counted (Err f) new after counts first last → PrintsThrough old before item counted (RoseBy a b) (Err f) new after counts first last
-through-stopped f old new before after item counted counts a b first last none p =
-    through_stopped f old new before after item counted counts (RoseBy a b) first last none p
-
 -- the store failed in the item, and the line that tells it was written
-pub through-fault : (old new : Engine) (before after : Option Records) (item : Item) (counted counts : Tally) (IsCount : ℕ → Type 0) (first mid last : SinkView)
-    → ((sys : System) (state : Machine) → StandsFor sys old before state → MayCallIn sys.flow item)
+pub through-fault : (goes_on : Bool) (old new : Engine) (before after : Option Records) (item : Item) (counted counts : Tally) (IsCount : ℕ → Type 0) (first mid last : SinkView)
+    → goes_on ≡ true → ((sys : System) (state : Machine) → StandsFor sys old before state → MayCallIn sys.flow item)
     → PrintsItem {T = Unit {0}} old before item counted (Err (stop.Engine fault.StoreFault)) new after counts first mid → IsWritten (fault_line (counts.steps + 1)) mid last
-    → PrintsThrough old before item counted IsCount (Ok 1) new after
-    (record { steps = counts.steps + 1; idle = counts.idle; cuts = counts.cuts; acks = counts.acks; sum = counts.sum }) first last
-through-fault old new before after item counted counts IsCount first mid last calls p w = record {
+    → PrintsThrough goes_on old before item counted IsCount (Ok 1) new after (with_step counts) first last
+through-fault goes_on old new before after item counted counts IsCount first mid last on calls p w = record {
   bytes = p.bytes ++ fault_line (counts.steps + 1);
   taken = written_more p.bytes (fault_line (counts.steps + 1)) first mid last p.taken w;
   does = λ sys state st trusts.
       let f = item_faulted sys state item counted counts p.bytes (StandsFor sys new after) (calls sys state st) (p.does sys state st) in
-      record { of_item = f.of_item; text = sym f.text; counted = f.counted; idle = f.idle; faults = sym f.once; stands = f.so };
+      record { of_item = f.of_item; may = any_may goes_on (faults_in f.of_item.reports) on; text = sym f.text; counted = f.counted; faults = sym f.once; stands = f.so };
 }
 
 -- or the line was cut off
-pub through-fault_cut : (old new : Engine) (before after : Option Records) (item : Item) (counted counts : Tally) (a b : ℕ) (f : OutFault) (first mid last : SinkView)
-    → ((sys : System) (state : Machine) → StandsFor sys old before state → MayCallIn sys.flow item)
+pub through-fault_cut : (goes_on : Bool) (old new : Engine) (before after : Option Records) (item : Item) (counted counts : Tally) (a b : ℕ) (f : OutFault) (first mid last : SinkView)
+    → goes_on ≡ true → ((sys : System) (state : Machine) → StandsFor sys old before state → MayCallIn sys.flow item)
     → PrintsItem {T = Unit {0}} old before item counted (Err (stop.Engine fault.StoreFault)) new after counts first mid → IsCutOff (fault_line (counts.steps + 1)) f mid last
-    → RoseBy a b 1 → (now : Tally) → PrintsThrough old before item counted (RoseBy a b) (Err (stop.Out f)) new after now first last
-through-fault_cut old new before after item counted counts a b f first mid last calls p c once now =
+    → RoseBy a b 1 → (now : Tally) → PrintsThrough goes_on old before item counted (RoseBy a b) (Err (stop.Out f)) new after now first last
+through-fault_cut goes_on old new before after item counted counts a b f first mid last on calls p c once now =
     let line = fault_line (counts.steps + 1) in
     let at = taken_part line f mid last c in
     record {
@@ -225,6 +227,7 @@ through-fault_cut old new before after item counted counts a b f first mid last 
           let g = item_faulted sys state item counted counts p.bytes (StandsFor sys new after) (calls sys state st) (p.does sys state st) in
           record {
             of_item = g.of_item;
+            may = any_may goes_on (faults_in g.of_item.reports) on;
             others = at.other;
             text = g.text ∙ ap (λ (t : List ℕ). p.bytes ++ t) at.parts ∙ sym (append_assoc p.bytes at.one at.other);
             faults = subst (RoseBy a b) (sym g.once) once;

@@ -1,11 +1,11 @@
--- Runs through faults of the store: their reports, one item more, and how they go on.
-use Rattle.std.proofs.Common.{◌≡◌, inl, inr, ℕ, ◌+◌, Bool, true, false, List, [], ◌∷◌, ◌++◌, length, map, take, drop, Option, Some, None, refl, sym, ◌∙◌, ap, subst, arith, append_assoc, cond}
-use Rattle.std.proofs.lemmas.Bool.{false≢true}
+-- Runs through faults of the store: one item more, how they go on, and those in which it does not fail.
+use Rattle.std.proofs.Common.{◌≡◌, inl, inr, ℕ, ◌+◌, Bool, true, false, List, [], ◌∷◌, ◌++◌, map, take, drop, Option, Some, None, refl, sym, ◌∙◌, ap, subst, arith, append_assoc}
+use Rattle.std.proofs.lemmas.Bool.{false≢true, true≢false}
 use Rattle.std.proofs.lemmas.List.{append-nil, map-append, take-append-drop}
 use Rattle.std.specs.Prelude.{IsSome}
 use Rattle.fw_flow.specs.declared.step.Step.{Step}
 use Rattle.fw_flow.specs.declared.step.Step.TheVariants.{Inject, Deliver, Notify, Progress, Checkpoint, Persist, Fail, Recover, Collect, Ack}
-use Rattle.fw_flow.specs.Dataflow.{Dataflow, System}
+use Rattle.fw_flow.specs.Dataflow.{System}
 use Rattle.fw_flow.specs.WellFormed.{IsWellFormedSystem}
 use Rattle.fw_schedule.specs.declared.item.Item.{Item}
 use Rattle.fw_schedule.specs.declared.item.Item.TheVariants.{One, Auto}
@@ -13,67 +13,16 @@ use Rattle.fw_model.proofs.GoingOn.{runs-go_on}
 use Rattle.fw_model.specs.Machine.{Machine, first_state}
 use Rattle.fw_model.specs.Steps.{Outcome, StepsTo, Run}
 use Rattle.fw_keep.specs.Stored.{Records}
-use Rattle.fw_running.specs.EffectText.{outcome_text}
 use Rattle.fw_run.proofs.ItemLaws.{item-run}
-use Rattle.fw_run.proofs.RunLaws.{idle-append}
-use Rattle.fw_run.specs.EnduredItems.{EnduredItem}
-use Rattle.fw_run.specs.Enduring.{Report, came, not_taken, unswept, is_fault, faults_in, outcomes_in, shown_in, ItemEndures, ItemsEndure, reports_text, report_text, EnduredRun, IsEndureKnown}
-use Rattle.fw_run.specs.Performing.{ItemRun, TrustsItem}
-use Rattle.fw_run.specs.Printed.{outcomes_text, idle_count}
-
--- ---- reports
-
-pub outcomes_in-append : (reports others : List Report) → outcomes_in (reports ++ others) ≡ outcomes_in reports ++ outcomes_in others
-outcomes_in-append [] others = refl
-outcomes_in-append (came o ∷ reports) others = ap (λ (os : List Outcome). o ∷ os) (outcomes_in-append reports others)
-outcomes_in-append (not_taken ∷ reports) others = outcomes_in-append reports others
-outcomes_in-append (unswept o ∷ reports) others = ap (λ (os : List Outcome). o ∷ os) (outcomes_in-append reports others)
-
-pub shown_in-append : (reports others : List Report) → shown_in (reports ++ others) ≡ shown_in reports ++ shown_in others
-shown_in-append [] others = refl
-shown_in-append (came o ∷ reports) others = ap (λ (os : List Outcome). o ∷ os) (shown_in-append reports others)
-shown_in-append (not_taken ∷ reports) others = shown_in-append reports others
-shown_in-append (unswept o ∷ reports) others = shown_in-append reports others
-
-pub faults-append : (reports others : List Report) → faults_in (reports ++ others) ≡ faults_in reports + faults_in others
-faults-append [] others = omega arith
-faults-append (x ∷ reports) others = both (is_fault x) (faults_in (reports ++ others)) (faults_in reports) (faults_in others) (faults-append reports others)
-  where
-    both : (b : Bool) (n m k : ℕ) → n ≡ m + k → cond b (n + 1) n ≡ cond b (m + 1) m + k
-    both true n m k e = omega (arith, e)
-    both false n m k e = e
-
-pub idle_shown-append : (reports others : List Report) → idle_count (shown_in (reports ++ others)) ≡ idle_count (shown_in reports) + idle_count (shown_in others)
-idle_shown-append reports others = ap (λ (os : List Outcome). idle_count os) (shown_in-append reports others) ∙ idle-append (shown_in reports) (shown_in others)
-
--- the lines of more steps are numbered on
-pub reports_text-append : (flow : Dataflow) (before : ℕ) (reports others : List Report)
-    → reports_text flow before (reports ++ others) ≡ reports_text flow before reports ++ reports_text flow (before + length reports) others
-reports_text-append flow before [] others = ap (λ (n : ℕ). reports_text flow n others) (omega arith)
-reports_text-append flow before (x ∷ reports) others =
-    let first = report_text flow (before + 1) x in
-    let same : (before + 1) + length reports ≡ before + length (x ∷ reports) = omega arith in
-    ap (λ (t : List ℕ). first ++ t) (reports_text-append flow (before + 1) reports others)
-    ∙ ap (λ (n : ℕ). first ++ (reports_text flow (before + 1) reports ++ reports_text flow n others)) same
-    ∙ sym (append_assoc first (reports_text flow (before + 1) reports) (reports_text flow (before + length (x ∷ reports)) others))
+use Rattle.fw_run.proofs.ReportLaws.{outcomes_in-append, outcomes_in-came, faults-append}
+use Rattle.fw_run.specs.Enduring.{ItemEndures, ItemsEndure, EnduredRun, IsEndureKnown}
+use Rattle.fw_run.specs.Items.{ItemComesTo, ComesTo, ItemRun, ItemsRun}
+use Rattle.fw_run.specs.Performing.{TrustsItem}
+use Rattle.fw_run.specs.Reports.{Report, came, not_taken, unswept, faults_in, outcomes_in}
+use Rattle.fw_run.specs.Through.{MayFail, ThroughRun, IsRunKnown, EnduredItem}
+use Rattle.fw_run.specs.Trusting.{AreKnown}
 
 -- ---- steps in which the store does not fail
-
-pub outcomes_in-came : (outcomes : List Outcome) → outcomes_in (map came outcomes) ≡ outcomes
-outcomes_in-came [] = refl
-outcomes_in-came (o ∷ outcomes) = ap (λ (os : List Outcome). o ∷ os) (outcomes_in-came outcomes)
-
-pub shown_in-came : (outcomes : List Outcome) → shown_in (map came outcomes) ≡ outcomes
-shown_in-came [] = refl
-shown_in-came (o ∷ outcomes) = ap (λ (os : List Outcome). o ∷ os) (shown_in-came outcomes)
-
-pub faults-came : (outcomes : List Outcome) → faults_in (map came outcomes) ≡ 0
-faults-came [] = refl
-faults-came (o ∷ outcomes) = faults-came outcomes
-
-pub reports_text-came : (flow : Dataflow) (before : ℕ) (outcomes : List Outcome) → reports_text flow before (map came outcomes) ≡ outcomes_text flow outcomes
-reports_text-came flow before [] = refl
-reports_text-came flow before (o ∷ outcomes) = ap (λ (t : List ℕ). outcome_text flow o ++ t) (reports_text-came flow (before + 1) outcomes)
 
 -- a step that the machine takes is one in which the store does not fail
 one_endures : (sys : System) (state last : Machine) (step : Step) (outcomes : List Outcome) → Run sys state (step ∷ []) outcomes last
@@ -173,35 +122,113 @@ goes-on sys w items (item ∷ others) r =
           ∙ ap (λ (rs : List Report). r.reports ++ rs) (sym (map-append came found.outcomes rest.outcomes));
     }
 
+-- ---- runs
+
+-- a run in which the store never fails is one of each kind
+pub may_none : (goes_on : Bool) (faults : ℕ) → faults ≡ 0 → MayFail goes_on faults
+may_none true faults e = tt
+may_none false faults e = e
+
+pub none_may : (goes_on : Bool) (faults : ℕ) → goes_on ≡ false → MayFail goes_on faults → faults ≡ 0
+none_may true faults e may = absurd (true≢false e)
+none_may false faults e may = may
+
+pub any_may : (goes_on : Bool) (faults : ℕ) → goes_on ≡ true → MayFail goes_on faults
+any_may true faults e = tt
+any_may false faults e = absurd (false≢true e)
+
+pub may_append : (goes_on : Bool) (reports others : List Report) → MayFail goes_on (faults_in reports) → MayFail goes_on (faults_in others)
+    → MayFail goes_on (faults_in (reports ++ others))
+may_append true reports others h k = tt
+may_append false reports others h k = omega (arith, faults-append reports others, h, k)
+
+abbrev pub through-none : (goes_on : Bool) (sys : System) → ThroughRun goes_on sys []
+through-none goes_on sys = record { of_items = endured-none sys; may = may_none goes_on 0 refl }
+
+abbrev pub through-next : (goes_on : Bool) (sys : System) (items : List Item) (item : Item) → (run : ThroughRun goes_on sys items)
+    → (e : EnduredItem sys run.of_items.last item) → MayFail goes_on (faults_in e.reports) → ThroughRun goes_on sys (items ++ item ∷ [])
+through-next goes_on sys items item run e may = record {
+  of_items = endured-next sys items item run.of_items e;
+  may = may_append goes_on run.of_items.reports e.reports run.may may;
+}
+
+-- what the machine takes of items through which the store did not fail
+came_item : (sys : System) (state last : Machine) (item : Item) (steps : List Step) (reports : List Report) → ItemEndures sys state item steps reports last → faults_in reports ≡ 0
+    → ItemComesTo sys state item steps last
+came_item sys state last (One step) steps reports (came o, e, same) none = (o, e.0, e.1)
+came_item sys state last (One step) steps reports (not_taken, e, same) none = absurd (omega (arith, none, ap faults_in same))
+came_item sys state last (One step) steps reports (unswept o, e, same) none = absurd (omega (arith, none, ap faults_in same))
+came_item sys state last (Auto most) steps reports (outcomes, run, inl all) none = all.0
+came_item sys state last (Auto most) steps reports (outcomes, run, inr some) none =
+    absurd (omega (arith, none, ap faults_in some.3, faults-append (map came outcomes) (not_taken ∷ [])))
+
+pub came_items : (sys : System) (state last : Machine) (items : List Item) (steps : List Step) (reports : List Report) → ItemsEndure sys state items steps reports last → faults_in reports ≡ 0
+    → ComesTo sys state items steps last
+came_items sys state last [] steps reports e none = (e.0, e.2)
+came_items sys state last (item ∷ items) steps reports e none =
+    let parts : faults_in reports ≡ faults_in e.1 + faults_in e.4 = ap faults_in e.8 ∙ faults-append e.1 e.4 in (
+      e.0,
+      e.2,
+      e.3,
+      came_item sys state e.2 item e.0 e.1 e.5 (omega (arith, none, parts)),
+      came_items sys e.2 last items e.3 e.4 e.6 (omega (arith, none, parts)),
+      e.7,
+    )
+
+abbrev pub came_run : (sys : System) (items : List Item) (r : EnduredRun sys items) → faults_in r.reports ≡ 0 → ItemsRun sys (first_state sys) items
+came_run sys items r none = record {
+  steps = r.steps;
+  outcomes = outcomes_in r.reports;
+  last = r.last;
+  comes = came_items sys (first_state sys) r.last items r.steps r.reports r.endured none;
+  run = r.run;
+}
+
 -- ---- what is known
 
+-- what is known of the machine's runs is known of a run that its first fault ends
+pub known-first : (goes_on : Bool) (Tells : Type 0) (sys : System) (items : List Item) → goes_on ≡ false → AreKnown Tells sys items → IsRunKnown goes_on Tells sys items
+known-first goes_on Tells sys items e (inl tells) = inl tells
+known-first goes_on Tells sys items e (inr none) = inr (λ earlier later parts run.
+    let r = came_run sys earlier run.of_items (none_may goes_on (faults_in run.of_items.reports) e run.may) in
+    none earlier later r.steps r.last parts r.comes)
+
+pub known-through : (goes_on : Bool) (Tells : Type 0) (sys : System) (items : List Item) → IsEndureKnown Tells sys items → IsRunKnown goes_on Tells sys items
+known-through goes_on Tells sys items (inl tells) = inl tells
+known-through goes_on Tells sys items (inr none) = inr (λ earlier later parts run. none earlier later parts run.of_items)
+
 -- what comes of items is known where what comes of more is
-pub endure_known-less : (Tells : Type 0) (sys : System) (items others : List Item) → IsEndureKnown Tells sys (items ++ others) → IsEndureKnown Tells sys items
-endure_known-less Tells sys items others (inl tells) = inl tells
-endure_known-less Tells sys items others (inr none) = inr (λ earlier later e r.
+pub run_known-less : (goes_on : Bool) (Tells : Type 0) (sys : System) (items others : List Item) → IsRunKnown goes_on Tells sys (items ++ others) → IsRunKnown goes_on Tells sys items
+run_known-less goes_on Tells sys items others (inl tells) = inl tells
+run_known-less goes_on Tells sys items others (inr none) = inr (λ earlier later e r.
     none earlier (later ++ others) (ap (λ (xs : List Item). xs ++ others) e ∙ append_assoc earlier (One Recover ∷ later) others) r)
 
--- what comes of first items is known where what comes of all is
+pub run_known-take : (goes_on : Bool) (Tells : Type 0) (sys : System) (n : ℕ) (items : List Item) → IsRunKnown goes_on Tells sys items → IsRunKnown goes_on Tells sys (take n items)
+run_known-take goes_on Tells sys n items k =
+    run_known-less goes_on Tells sys (take n items) (drop n items) (subst (IsRunKnown goes_on Tells sys) (sym (take-append-drop n items)) k)
+
 pub endure_known-take : (Tells : Type 0) (sys : System) (n : ℕ) (items : List Item) → IsEndureKnown Tells sys items → IsEndureKnown Tells sys (take n items)
-endure_known-take Tells sys n items k = endure_known-less Tells sys (take n items) (drop n items) (subst (IsEndureKnown Tells sys) (sym (take-append-drop n items)) k)
+endure_known-take Tells sys n items (inl tells) = inl tells
+endure_known-take Tells sys n items (inr none) = inr (λ earlier later e r. none earlier (later ++ drop n items)
+    (sym (take-append-drop n items) ∙ ap (λ (xs : List Item). xs ++ drop n items) e ∙ append_assoc earlier (One Recover ∷ later) (drop n items)) r)
 
 -- a step of known items reads what was put
-trusts_step : (Tells : Type 0) (sys : System) (items : List Item) (step : Step) (records : Option Records) → (Tells → IsSome records)
-    → IsEndureKnown Tells sys (items ++ One step ∷ []) → (of_items : EnduredRun sys items) → TrustsItem sys of_items.last (One step) records
-trusts_step Tells sys items (Inject s) records told k r = tt
-trusts_step Tells sys items (Deliver e at) records told k r = tt
-trusts_step Tells sys items (Notify p at) records told k r = tt
-trusts_step Tells sys items Progress records told k r = tt
-trusts_step Tells sys items (Checkpoint p) records told k r = tt
-trusts_step Tells sys items Persist records told k r = tt
-trusts_step Tells sys items (Fail ps) records told k r = tt
-trusts_step Tells sys items Recover (Some held) told k r = tt
-trusts_step Tells sys items Recover None told (inl tells) r = absurd (false≢true (told tells))
-trusts_step Tells sys items Recover None told (inr none) r = none items [] refl r
-trusts_step Tells sys items Collect records told k r = tt
-trusts_step Tells sys items (Ack o) records told k r = tt
+trusts_step : (goes_on : Bool) (Tells : Type 0) (sys : System) (items : List Item) (step : Step) (records : Option Records) → (Tells → IsSome records)
+    → IsRunKnown goes_on Tells sys (items ++ One step ∷ []) → (run : ThroughRun goes_on sys items) → TrustsItem sys run.of_items.last (One step) records
+trusts_step goes_on Tells sys items (Inject s) records told k r = tt
+trusts_step goes_on Tells sys items (Deliver e at) records told k r = tt
+trusts_step goes_on Tells sys items (Notify p at) records told k r = tt
+trusts_step goes_on Tells sys items Progress records told k r = tt
+trusts_step goes_on Tells sys items (Checkpoint p) records told k r = tt
+trusts_step goes_on Tells sys items Persist records told k r = tt
+trusts_step goes_on Tells sys items (Fail ps) records told k r = tt
+trusts_step goes_on Tells sys items Recover (Some held) told k r = tt
+trusts_step goes_on Tells sys items Recover None told (inl tells) r = absurd (false≢true (told tells))
+trusts_step goes_on Tells sys items Recover None told (inr none) r = none items [] refl r
+trusts_step goes_on Tells sys items Collect records told k r = tt
+trusts_step goes_on Tells sys items (Ack o) records told k r = tt
 
-pub endure_trusts : (Tells : Type 0) (sys : System) (items : List Item) (item : Item) (records : Option Records) → (Tells → IsSome records)
-    → IsEndureKnown Tells sys (items ++ item ∷ []) → (of_items : EnduredRun sys items) → TrustsItem sys of_items.last item records
-endure_trusts Tells sys items (One step) records told k r = trusts_step Tells sys items step records told k r
-endure_trusts Tells sys items (Auto most) records told k r = tt
+pub run_trusts : (goes_on : Bool) (Tells : Type 0) (sys : System) (items : List Item) (item : Item) (records : Option Records) → (Tells → IsSome records)
+    → IsRunKnown goes_on Tells sys (items ++ item ∷ []) → (run : ThroughRun goes_on sys items) → TrustsItem sys run.of_items.last item records
+run_trusts goes_on Tells sys items (One step) records told k r = trusts_step goes_on Tells sys items step records told k r
+run_trusts goes_on Tells sys items (Auto most) records told k r = tt

@@ -12,8 +12,7 @@ use Rattle.fw_model.proofs.GoingOn.{runs-go_on}
 use Rattle.fw_model.proofs.OneNextLaws.{one_next}
 use Rattle.fw_model.specs.Machine.{Machine, first_state}
 use Rattle.fw_model.specs.Steps.{Outcome, did, Run}
-use Rattle.fw_run.specs.Items.{ItemComesTo, ComesTo}
-use Rattle.fw_run.specs.Performing.{ItemRun}
+use Rattle.fw_run.specs.Items.{ItemComesTo, ComesTo, ItemRun, ItemsRun}
 
 -- ---- an item
 
@@ -59,14 +58,7 @@ comes-next sys state between last items item steps more c d =
     let one : ComesTo sys between (item ∷ []) more last = (more, last, [], d, (refl, refl), sym (append-nil more)) in
     comes-on sys state between last items (item ∷ []) steps more c one
 
--- Items come to steps with a run, from each state to which steps lead from the first one.
-pub record ItemsRun (sys : System) (state : Machine) (items : List Item) : Type 0 where
-  pub steps : List Step
-  pub outcomes : List Outcome
-  pub last : Machine
-  pub comes : ComesTo sys state items steps last
-  pub run : Run sys state steps outcomes last
-
+-- items come to steps with a run, from each state to which steps lead from the first one
 pub items-run : (sys : System) → IsWellFormedSystem sys → (before : List Step) (earlier : List Outcome) (state : Machine) → Run sys (first_state sys) before earlier state
     → (items : List Item) → ItemsRun sys state items
 items-run sys w before earlier state r [] = record { steps = []; outcomes = []; last = state; comes = (refl, refl); run = refl }

@@ -32,7 +32,8 @@ use Rattle.fw_command.proofs.WritingLaws.{written_nothing, written_more}
 use Rattle.fw_run.proofs.TakenLaws.{taken_part, taken_more}
 use Rattle.fw_run.specs.declared.fault.RunFault.TheVariants as stop
 use Rattle.fw_run.specs.declared.tally.Tally.{Tally}
-use Rattle.fw_run.specs.Performing.{ItemRun, IsLeftAfter, PrintsItem, AreFew}
+use Rattle.fw_run.specs.Items.{ItemRun}
+use Rattle.fw_run.specs.Performing.{IsLeftAfter, PrintsItem, AreFew}
 use Rattle.fw_run.specs.Printed.{outcomes_text, is_idle}
 use Rattle.fw_run.specs.Tallies.{tally_of, with_tally, AreOfSteps}
 use Rattle.fw_command.specs.Writing.{IsWritten, IsCutOff}

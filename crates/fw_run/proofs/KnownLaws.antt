@@ -13,13 +13,14 @@ use Rattle.fw_run.proofs.RunLaws.{printed_run, printed_once, begins_of-run, begi
 use Rattle.fw_run.proofs.TakenLaws.{until_of-taken}
 use Rattle.fw_run.specs.declared.fault.RunFault.{RunFault}
 use Rattle.fw_run.specs.Headline.{PrintsRun}
-use Rattle.fw_run.specs.Performing.{IsTaken, Performs}
-use Rattle.fw_run.specs.Trusting.{AreKnown, BeginsWith}
+use Rattle.fw_run.specs.Performing.{IsTaken, WritesUntil}
+use Rattle.fw_run.specs.Trusting.{AreKnown, BeginsWith, PrintsKnown}
+use Rattle.fw_command.specs.Writing.{WritesText}
 
 -- ---- first items of known ones
 
 -- first items of a list are those of its first ones
-take_take : (n m : ℕ) (xs : List Item) → n ≤ m → take n (take m xs) ≡ take n xs
+pub take_take : (n m : ℕ) (xs : List Item) → n ≤ m → take n (take m xs) ≡ take n xs
 take_take zero m xs h = refl
 take_take (suc n) zero xs h = absurd (omega (arith, h))
 take_take (suc n) (suc m) [] h = refl
@@ -49,7 +50,8 @@ pub record IsPartOf (sys : System) (items : List Item) (bytes : List ℕ) : Type
 pub cut_known : (T A : Type 0) (Tells : Type 0) (sys : System) → IsWellFormedSystem sys → (items : List Item) (count : ℕ) (bytes : List ℕ) (fault : RunFault) (before after : SinkView)
     → ((n : ℕ) → n ≤ count → AreKnown Tells sys (take n items) → BeginsWith sys (take n items) bytes)
     → (AreKnown Tells sys (take (count + 1) items) → IsPartOf sys items bytes)
-    → IsTaken {T = A} bytes (Err fault) before after → Performs {T = T} Tells sys items (Err fault) before after
+    → IsTaken {T = A} bytes (Err fault) before after
+    → WritesText (PrintsKnown Tells sys items) (λ printed. WritesUntil {T = T} printed (Err fault) before after)
 cut_known T A Tells sys w items count bytes fault before after begins part t = record {
   printed = printed;
   text = record { whole = λ k. in_whole (known_take Tells sys (count + 1) items k); first = first };

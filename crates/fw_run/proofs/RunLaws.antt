@@ -130,11 +130,7 @@ begins_of-run sys items others printed p =
     let same = run_once sys (first_state sys) (a.one ++ a.other) (one.0 ++ rest.0) p.outcomes p.last p.last joined there in
     let last = done_line (length p.outcomes) (idle_count p.outcomes) in
     record {
-      steps = a.one;
-      last = a.between;
-      comes = a.first;
-      outcomes = one.0;
-      run = one.1;
+      run = record { steps = a.one; outcomes = one.0; last = a.between; comes = a.first; run = one.1 };
       others = outcomes_text sys.flow rest.0 ++ last;
       text = p.text ∙ ap (λ (o : List Outcome). outcomes_text sys.flow o ++ last) same.0
           ∙ ap (λ (t : List ℕ). t ++ last) (text-append sys.flow one.0 rest.0)
@@ -144,11 +140,7 @@ begins_of-run sys items others printed p =
 -- and so it does with more behind it
 pub begins_more : (sys : System) (items : List Item) (printed more : List ℕ) → BeginsWith sys items printed → BeginsWith sys items (printed ++ more)
 begins_more sys items printed more b = record {
-  steps = b.steps;
-  last = b.last;
-  comes = b.comes;
-  outcomes = b.outcomes;
   run = b.run;
   others = b.others ++ more;
-  text = ap (λ (t : List ℕ). t ++ more) b.text ∙ append_assoc (outcomes_text sys.flow b.outcomes) b.others more;
+  text = ap (λ (t : List ℕ). t ++ more) b.text ∙ append_assoc (outcomes_text sys.flow b.run.outcomes) b.others more;
 }

@@ -25,10 +25,10 @@ taken_more one other fault before mid after w c = record {
 }
 
 -- the same of each fault of a run
-pub taken_on : (T : Type 0) (one other : List ℕ) (fault : RunFault) (before mid after : SinkView) → IsWritten one before mid → IsTaken {T = T} other (Err fault) mid after
-    → IsTaken {T = T} (one ++ other) (Err fault) before after
-taken_on T one other (Out fault) before mid after w t = taken_more one other fault before mid after w t
-taken_on T one other (Engine fault) before mid after w t = written_more one other before mid after w t
+pub taken_on : (A B : Type 0) (one other : List ℕ) (fault : RunFault) (before mid after : SinkView) → IsWritten one before mid → IsTaken {T = A} other (Err fault) mid after
+    → IsTaken {T = B} (one ++ other) (Err fault) before after
+taken_on A B one other (Out fault) before mid after w t = taken_more one other fault before mid after w t
+taken_on A B one other (Engine fault) before mid after w t = written_more one other before mid after w t
 
 -- what was taken of bytes that were cut off, and what was not
 pub record IsCutAt (bytes : List ℕ) (fault : OutFault) (before after : SinkView) : Type 0 where

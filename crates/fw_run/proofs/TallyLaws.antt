@@ -1,15 +1,17 @@
 -- Tallies of steps, one after the other.
-use Rattle.std.proofs.Common.{◌≡◌, ℕ, ◌+◌, ◌%◌, ◌^◌, ◌<◌, ◌≤◌, Bool, true, false, cond, List, [], ◌∷◌, ◌++◌, sym, ◌∙◌, ap, subst, arith, add_assoc}
+use Rattle.std.proofs.Common.{◌≡◌, ℕ, ◌+◌, ◌%◌, ◌^◌, ◌<◌, ◌≤◌, Bool, true, false, cond, List, [], ◌∷◌, ◌++◌, length, map, sym, ◌∙◌, ap, subst, arith, add_assoc}
 use Rattle.std.proofs.Math.Nat.{mod-add-mod, add-mod-mod}
-use Rattle.std.proofs.lemmas.List.{length-append}
+use Rattle.std.proofs.lemmas.List.{length-append, length-map}
 use Rattle.std.proofs.lemmas.Nat.{mod_below}
 use Rattle.fw_bag.specs.declared.rec.Rec.{Rec}
 use Rattle.fw_bag.specs.Keyed.{plus}
 use Rattle.fw_flow.specs.Counting.{how_many}
 use Rattle.fw_model.specs.Steps.{Outcome}
 use Rattle.fw_run.specs.declared.tally.Tally.{Tally}
-use Rattle.fw_run.specs.Printed.{is_idle}
-use Rattle.fw_run.specs.Tallies.{is_recovery, is_acknowledgement, rec_sum, shown_sum, acknowledged_sum, tally_of, with_tally, AreOfSteps}
+use Rattle.fw_run.proofs.ReportLaws.{shown_in-append, shown_in-came}
+use Rattle.fw_run.specs.Printed.{is_idle, idle_count}
+use Rattle.fw_run.specs.Reports.{Report, came, shown_in}
+use Rattle.fw_run.specs.Tallies.{is_recovery, is_acknowledgement, rec_sum, shown_sum, acknowledged_sum, tally_of, tally_shown, with_step, with_tally, AreOfSteps}
 
 -- ---- sums
 
@@ -84,12 +86,33 @@ counted-more tally outcomes others =
     same_tally (with_tally (with_tally tally (tally_of outcomes)) (tally_of others)) (with_tally tally (tally_of (outcomes ++ others)))
     (omega (arith, steps)) (omega (arith, idle)) (omega (arith, cuts)) (omega (arith, acks)) sums
 
--- the tally of steps, and of others behind them
-pub tally-append : (outcomes others : List Outcome) → with_tally (tally_of outcomes) (tally_of others) ≡ tally_of (outcomes ++ others)
-tally-append outcomes others =
-    same_tally (with_tally (tally_of outcomes) (tally_of others)) (tally_of (outcomes ++ others))
-    (sym (length-append outcomes others)) (sym (how_many-append is_idle outcomes others)) (sym (how_many-append is_recovery outcomes others))
-    (sym (how_many-append is_acknowledgement outcomes others)) (sym (acknowledged-append outcomes others))
+-- the tally of steps through faults, and of others behind them
+pub tally_shown-append : (reports others : List Report) → with_tally (tally_shown reports) (tally_shown others) ≡ tally_shown (reports ++ others)
+tally_shown-append reports others =
+    let shown = shown_in-append reports others in
+    let one = shown_in reports in
+    let other = shown_in others in
+    let counts : (test : Outcome → Bool) → how_many test one + how_many test other ≡ how_many test (shown_in (reports ++ others)) =
+    λ test. sym (ap (how_many test) shown ∙ how_many-append test one other) in
+    same_tally (with_tally (tally_shown reports) (tally_shown others)) (tally_shown (reports ++ others))
+    (sym (length-append reports others)) (counts is_idle) (counts is_recovery) (counts is_acknowledgement)
+    (sym (ap acknowledged_sum shown ∙ acknowledged-append one other))
+
+-- of steps in which the store did not fail
+pub tally_shown-came : (outcomes : List Outcome) → tally_shown (map came outcomes) ≡ tally_of outcomes
+tally_shown-came outcomes =
+    let shown = shown_in-came outcomes in
+    same_tally (tally_shown (map came outcomes)) (tally_of outcomes) (length-map outcomes came) (ap idle_count shown) (ap (how_many is_recovery) shown)
+    (ap (how_many is_acknowledgement) shown) (ap acknowledged_sum shown)
+
+-- and of one more in which it did
+pub tally_shown-fault : (old counts : Tally) (outcomes : List Outcome) (reports : List Report) → counts ≡ with_tally old (tally_of outcomes) → shown_in reports ≡ outcomes
+    → length reports ≡ length outcomes + 1 → with_step counts ≡ with_tally old (tally_shown reports)
+tally_shown-fault old counts outcomes reports e shown longer =
+    let first : with_step counts ≡ with_step (with_tally old (tally_of outcomes)) = ap with_step e in
+    first ∙ same_tally (with_step (with_tally old (tally_of outcomes))) (with_tally old (tally_shown reports)) (omega (arith, longer))
+    (ap (λ (os : List Outcome). old.idle + idle_count os) (sym shown)) (ap (λ (os : List Outcome). old.cuts + how_many is_recovery os) (sym shown))
+    (ap (λ (os : List Outcome). old.acks + how_many is_acknowledgement os) (sym shown)) (ap (λ (os : List Outcome). plus old.sum (acknowledged_sum os)) (sym shown))
 
 -- each count stays one of the steps
 pub of_steps-none : AreOfSteps (tally_of [])

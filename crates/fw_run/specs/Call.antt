@@ -11,16 +11,14 @@ use Rattle.fw_keep.specs.Stored.{Records}
 use Rattle.fw_run.specs.declared.status.Status.{Status}
 use Rattle.fw_run.specs.declared.status.Status.TheVariants.{Done, Refused, ReadFault, WriteFault, StoreFault, Damaged, NoMemory}
 use Rattle.fw_command.specs.DenotationText.{PrintsDenotation}
-use Rattle.fw_run.specs.Enduring.{PrintsEndured, RoseBy, RoseByFaults, RoseOrFull, StaysOrRose}
+use Rattle.fw_run.specs.Ends.{PrintsOfRun, IsWholeRun, IsStoreFault, IsDamageIn}
+use Rattle.fw_run.specs.Enduring.{RoseBy, RoseByFaults, RoseOrFull, StaysOrRose}
 use Rattle.fw_command.specs.Listing.{check_text}
 use Rattle.fw_run.specs.Status.{IsTold, write_faults_told, store_faults_told, note_line, status_number}
 use Rattle.fw_generate.specs.Laws.{AreAccepted}
 use Rattle.fw_generate.specs.Texts.{Texts}
-use Rattle.fw_run.specs.Tallies.{PrintsSummary}
 use Rattle.fw_command.specs.Texts.{AreThere, AreGenerated, HasTwo, AreOfSystem, IsFlowRefused, IsFirstOfTwoRefused, IsFirstRefusal, IsAskedTwice, IsAskedNoMore, spelled_system, spelled_items}
-use Rattle.fw_run.specs.Trusting.{AreKnown, PrintsKnown}
-use Rattle.fw_command.specs.Words.{Command, Manner, through_faults, manner_of, asks_folder, run, endure, generate, denote, check, command_of, words_in}
-use Rattle.fw_run.specs.Work.{IsWholeRun, IsStoreFault, IsDamageIn}
+use Rattle.fw_command.specs.Words.{Command, Manner, by_lines, through_faults, in_one_line, manner_of, asks_folder, run, endure, generate, denote, check, command_of, words_in}
 use Rattle.fw_command.specs.Writing.{IsWritten, IsPartWritten, IsCutOff, WritesText}
 
 -- what a call is given: the command that its words are, if they are one, and the folder's texts, where it tells them
@@ -61,10 +59,11 @@ Refuses told (check name) refusal = IsFlowRefused told name refusal
 -- This is what the command prints of the texts, of which the flow's declares this dataflow, of a run as far as it is known. Through
 -- faults of the store it is first bytes of that, and this is true of how many faults there are, and of the bytes that are left.
 abbrev pub Prints : Type 0 → (ℕ → List ℕ → Type 0) → Command → Texts → Dataflow → List ℕ → Type 0
-Prints Tells IsSo (run names) texts flow printed = PrintsKnown Tells (spelled_system flow texts) (spelled_items flow texts) printed
-Prints Tells IsSo (endure names) texts flow printed = PrintsEndured Tells IsSo (spelled_system flow texts) (spelled_items flow texts) printed
-Prints Tells IsSo (generate seeded) texts flow printed = AreKnown Tells (spelled_system flow texts) (spelled_items flow texts)
-    → PrintsSummary (spelled_system flow texts) (spelled_items flow texts) seeded printed
+Prints Tells IsSo (run names) texts flow printed = PrintsOfRun Tells IsSo by_lines (spelled_system flow texts) (spelled_items flow texts) printed
+Prints Tells IsSo (endure names) texts flow printed =
+    PrintsOfRun Tells IsSo through_faults (spelled_system flow texts) (spelled_items flow texts) printed
+Prints Tells IsSo (generate seeded) texts flow printed =
+    PrintsOfRun Tells IsSo (in_one_line seeded) (spelled_system flow texts) (spelled_items flow texts) printed
 Prints Tells IsSo (denote names) texts flow printed = PrintsDenotation (spelled_system flow texts) printed
 Prints Tells IsSo (check name) texts flow printed = printed ≡ check_text flow
 

@@ -1,11 +1,9 @@
 -- What comes of the items of a schedule where a fault of the store does not end the run.
-use Rattle.std.specs.Prelude.{◌≡◌, ◌⊎◌, ℕ, zero, suc, ◌+◌, ◌-◌, ◌^◌, ◌<◌, ◌≤◌, Bool, true, false, List, [], ◌∷◌, ◌++◌, length, map, Option, Some, codes}
-use Rattle.std.specs.Fmt.{decimal}
+use Rattle.std.specs.Prelude.{◌≡◌, ◌⊎◌, ℕ, zero, suc, ◌-◌, ◌^◌, ◌<◌, ◌≤◌, List, [], ◌∷◌, ◌++◌, length, map, Option, Some}
 use Rattle.fw_outside.specs.Outside.{SinkView, one_more}
-use Rattle.fw_flow.specs.Counting.{how_many}
 use Rattle.fw_flow.specs.declared.step.Step.{Step}
 use Rattle.fw_flow.specs.declared.step.Step.TheVariants.{Collect, Recover}
-use Rattle.fw_flow.specs.Dataflow.{Dataflow, System}
+use Rattle.fw_flow.specs.Dataflow.{System}
 use Rattle.fw_schedule.specs.declared.item.Item.{Item}
 use Rattle.fw_schedule.specs.declared.item.Item.TheVariants.{One, Auto}
 use Rattle.fw_model.specs.Auto.{IsAutoRun}
@@ -13,44 +11,10 @@ use Rattle.fw_model.specs.Machine.{Machine, first_state}
 use Rattle.fw_model.specs.Steps.{Outcome, StepsTo, Run}
 use Rattle.fw_keep.specs.declared.entry.Entry.{Entry}
 use Rattle.fw_keep.specs.Stored.{Records, SpellsNone}
-use Rattle.fw_running.specs.EffectText.{outcome_text}
 use Rattle.fw_running.specs.Steps.{FirstMayCall, MayCallStore, IsStepEnabled, ReadsNoCheckpoint}
-use Rattle.fw_run.specs.Printed.{idle_count}
+use Rattle.fw_run.specs.Reports.{Report, came, not_taken, unswept, faults_in, outcomes_in, reports_text, endured_text}
 use Rattle.fw_run.specs.Stopping.{HoldsWrites, IsReadIn}
 use Rattle.fw_command.specs.Writing.{IsWritten}
-
--- ---- reports
-
--- What came of a step: what the machine shows; that the store failed and the step was not taken; or that the store failed in the
--- sweep of a collection, of which all else was done, and its outcome is not shown.
-pub data Report : Type 0 where
-  came : Outcome → Report
-  not_taken : Report
-  unswept : Outcome → Report
-
--- the store failed
-abbrev pub is_fault : Report → Bool
-is_fault (came outcome) = false
-is_fault not_taken = true
-is_fault (unswept outcome) = true
-
--- how often it did
-abbrev pub faults_in : List Report → ℕ
-faults_in reports = how_many is_fault reports
-
--- what came of the steps that the machine took
-abbrev pub outcomes_in : List Report → List Outcome
-outcomes_in [] = []
-outcomes_in (came outcome ∷ reports) = outcome ∷ outcomes_in reports
-outcomes_in (not_taken ∷ reports) = outcomes_in reports
-outcomes_in (unswept outcome ∷ reports) = outcome ∷ outcomes_in reports
-
--- what of it is shown
-abbrev pub shown_in : List Report → List Outcome
-shown_in [] = []
-shown_in (came outcome ∷ reports) = outcome ∷ shown_in reports
-shown_in (not_taken ∷ reports) = shown_in reports
-shown_in (unswept outcome ∷ reports) = shown_in reports
 
 -- ---- steps
 
@@ -80,32 +44,6 @@ ItemsEndure sys state (item ∷ items) steps reports last =
     (first : List Step) × (shown : List Report) × (next : Machine) × (others : List Step) × (more : List Report)
     × ItemEndures sys state item first shown next × ItemsEndure sys next items others more last
     × (steps ≡ first ++ others) × (reports ≡ shown ++ more)
-
--- ---- what is printed
-
--- `fault step NUMBER`
-abbrev pub fault_line : ℕ → List ℕ
-fault_line number = codes "fault step " ++ (decimal number ++ codes "\n")
-
--- the lines of a step of this number
-abbrev pub report_text : Dataflow → ℕ → Report → List ℕ
-report_text flow number (came outcome) = outcome_text flow outcome
-report_text flow number not_taken = fault_line number
-report_text flow number (unswept outcome) = fault_line number
-
--- the lines of steps that come after so many others
-abbrev pub reports_text : Dataflow → ℕ → List Report → List ℕ
-reports_text flow before [] = []
-reports_text flow before (report ∷ reports) = report_text flow (before + 1) report ++ reports_text flow (before + 1) reports
-
--- `done steps STEPS idle IDLE faults FAULTS`
-abbrev pub endured_line : ℕ → ℕ → ℕ → List ℕ
-endured_line steps idle_steps faults =
-    codes "done steps " ++ (decimal steps ++ (codes " idle " ++ (decimal idle_steps ++ (codes " faults " ++ (decimal faults ++ codes "\n")))))
-
--- the whole text: the lines of the steps, and how many there were, how many were idle and in how many the store failed
-abbrev pub endured_text : Dataflow → List Report → List ℕ
-endured_text flow reports = reports_text flow 0 reports ++ endured_line (length reports) (idle_count (shown_in reports)) (faults_in reports)
 
 -- ---- a run
 

@@ -6,7 +6,7 @@ use Rattle.fw_schedule.specs.declared.item.Item.{Item}
 use Rattle.fw_schedule.specs.declared.item.Item.TheVariants.{One, Auto}
 use Rattle.fw_model.specs.Auto.{IsAutoRun}
 use Rattle.fw_model.specs.Machine.{Machine}
-use Rattle.fw_model.specs.Steps.{Outcome, StepsTo}
+use Rattle.fw_model.specs.Steps.{Outcome, StepsTo, Run}
 
 -- From a state an item comes to these steps, which lead to the next state: one step, enabled or not, or those that `auto` takes.
 abbrev pub ItemComesTo : System → Machine → Item → List Step → Machine → Type 0
@@ -20,3 +20,19 @@ ComesTo sys state [] steps last = (steps ≡ []) × (last ≡ state)
 ComesTo sys state (item ∷ items) steps last =
     (first : List Step) × (next : Machine) × (others : List Step) × ItemComesTo sys state item first next
     × ComesTo sys next items others last × (steps ≡ first ++ others)
+
+-- From the state the item comes to these steps, which the machine takes to the last one, with these outcomes.
+pub record ItemRun (sys : System) (state : Machine) (item : Item) : Type 0 where
+  pub steps : List Step
+  pub outcomes : List Outcome
+  pub last : Machine
+  pub comes : ItemComesTo sys state item steps last
+  pub run : Run sys state steps outcomes last
+
+-- the same of items
+pub record ItemsRun (sys : System) (state : Machine) (items : List Item) : Type 0 where
+  pub steps : List Step
+  pub outcomes : List Outcome
+  pub last : Machine
+  pub comes : ComesTo sys state items steps last
+  pub run : Run sys state steps outcomes last

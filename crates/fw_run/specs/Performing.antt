@@ -1,5 +1,5 @@
 -- What was printed of an item of a schedule, and how far it led.
-use Rattle.std.specs.Prelude.{◌≡◌, ℕ, ◌+◌, ◌<◌, ◌≤◌, List, [], ◌++◌, take, Option, Some, None, Result, Ok, Err}
+use Rattle.std.specs.Prelude.{◌≡◌, ℕ, ◌+◌, ◌<◌, ◌≤◌, List, [], ◌++◌, Option, Some, None, Result, Ok, Err}
 use Rattle.std.specs.declared.alloc.Global.{Global}
 use Rattle.std.specs.declared.vec.Vec.{Vec}
 use Rattle.fw_outside.specs.declared.fault.OutFault.{OutFault}
@@ -10,7 +10,7 @@ use Rattle.fw_flow.specs.Dataflow.{System}
 use Rattle.fw_schedule.specs.declared.item.Item.{Item}
 use Rattle.fw_schedule.specs.declared.item.Item.TheVariants.{One, Auto}
 use Rattle.fw_schedule.specs.Schedule.{steps_in, step_limit}
-use Rattle.fw_model.specs.Machine.{Machine, first_state}
+use Rattle.fw_model.specs.Machine.{Machine}
 use Rattle.fw_model.specs.Steps.{Outcome, Run}
 use Rattle.fw_keep.specs.Stored.{Records}
 use Rattle.fw_running.specs.declared.fault.EngineFault.{EngineFault}
@@ -21,12 +21,11 @@ use Rattle.fw_engine.specs.Engine.{StandsFor}
 use Rattle.fw_run.specs.declared.fault.RunFault.{RunFault}
 use Rattle.fw_run.specs.declared.fault.RunFault.TheVariants as stop
 use Rattle.fw_run.specs.declared.tally.Tally.{Tally}
-use Rattle.fw_run.specs.Items.{ComesTo, ItemComesTo}
+use Rattle.fw_run.specs.Items.{ItemRun}
 use Rattle.fw_run.specs.Printed.{outcomes_text}
 use Rattle.fw_run.specs.Stopping.{ItemBegins, IsLeftIn}
 use Rattle.fw_run.specs.Tallies.{AreOfSteps, tally_of, with_tally}
-use Rattle.fw_run.specs.Trusting.{AreKnown, BeginsWith, PrintsKnown}
-use Rattle.fw_command.specs.Writing.{faults_by, IsRefusedBy, IsWritten, IsPartWritten, IsCutOff, WritesText}
+use Rattle.fw_command.specs.Writing.{faults_by, IsRefusedBy, IsWritten, IsPartWritten, IsCutOff}
 
 -- the bytes of a line, none where there is no line
 abbrev pub shown_bytes : Option (Vec ℕ Global) → List ℕ
@@ -54,14 +53,6 @@ WritesUntil bytes (Err (stop.Out fault)) before after = IsCutOff bytes fault bef
 WritesUntil bytes (Err (stop.Engine fault)) before after = IsPartWritten bytes before after
 
 -- ---- an item
-
--- From the state the item comes to these steps, which the machine takes to the last one, with these outcomes.
-pub record ItemRun (sys : System) (state : Machine) (item : Item) : Type 0 where
-  pub steps : List Step
-  pub outcomes : List Outcome
-  pub last : Machine
-  pub comes : ItemComesTo sys state item steps last
-  pub run : Run sys state steps outcomes last
 
 -- the item reads what was put
 abbrev pub TrustsItem : System → Machine → Item → Option Records → Type 0
@@ -128,28 +119,3 @@ pub record HasRoom (tally : Tally) (item : Item) : Type 0 where
 abbrev pub AreFew : {T : Type 0} → Item → Result T RunFault → Tally → Tally → Type 0
 AreFew item (Err (stop.Engine fault.StoreFault)) before after = AreOfSteps after × (after.steps < before.steps + steps_in item)
 AreFew item answer before after = AreOfSteps after × (after.steps ≤ before.steps + steps_in item)
-
--- ---- items
-
--- The engine stands for the state to which the items lead; so their steps are counted, and these are their lines.
-pub record IsSoFar (sys : System) (items : List Item) (engine : Engine) (records : Option Records) (tally : Tally) (bytes : List ℕ) : Type 0 where
-  pub steps : List Step
-  pub state : Machine
-  pub comes : ComesTo sys (first_state sys) items steps state
-  pub outcomes : List Outcome
-  pub run : Run sys (first_state sys) steps outcomes state
-  pub counted : tally ≡ tally_of outcomes
-  pub text : bytes ≡ outcomes_text sys.flow outcomes
-  pub stands : StandsFor sys engine records state
-
--- What was written of the items is their lines, as far as it is known what comes of them, or of first ones.
-pub record AreTaken (Tells : Type 0) (sys : System) (items : List Item) (engine : Engine) (records : Option Records) (tally : Tally)
-    (first last : SinkView) : Type 0 where
-  pub bytes : List ℕ
-  pub written : IsWritten bytes first last
-  pub so_far : AreKnown Tells sys items → IsSoFar sys items engine records tally bytes
-  pub begins : (count : ℕ) → AreKnown Tells sys (take count items) → BeginsWith sys (take count items) bytes
-
--- the text of the run over the items, as far as it is known, was written, or cut off by the fault that was answered
-abbrev pub Performs : {T : Type 0} → Type 0 → System → List Item → Result T RunFault → SinkView → SinkView → Type 0
-Performs Tells sys items answer before after = WritesText (PrintsKnown Tells sys items) (λ printed. WritesUntil printed answer before after)

@@ -14,7 +14,7 @@ use Rattle.fw_keep.specs.Catalogue.{AreAscending, ids_of}
 use Rattle.fw_keep.specs.Stored.{Records, SpellsNone}
 use Rattle.fw_stands.specs.Written.{IsEntryOf, AreEntriesOf, AreStored, uncollected}
 use Rattle.fw_running.specs.Steps.{FirstMayCall, MayCallStore, IsStepEnabled, IsLeftBy, IsAskedIn}
-use Rattle.fw_run.specs.Items.{ComesTo}
+use Rattle.fw_run.specs.Items.{ItemsRun}
 use Rattle.fw_run.specs.Printed.{outcomes_text}
 use Rattle.fw_run.specs.Trusting.{AreKnown, BeginsWith}
 
@@ -30,10 +30,8 @@ pub record HoldsWrites (sys : System) (records : Option Records) (state : Machin
 
 -- the store holds the writes of the state to which the items lead
 pub record LeavesWrites (sys : System) (items : List Item) (records : Option Records) : Type 0 where
-  pub steps : List Step
-  pub last : Machine
-  pub comes : ComesTo sys (first_state sys) items steps last
-  pub holds : HoldsWrites sys records last
+  pub run : ItemsRun sys (first_state sys) items
+  pub holds : HoldsWrites sys records run.last
 
 -- ---- where a run stops
 
@@ -44,15 +42,13 @@ ItemBegins sys state (Auto most) steps now = (length steps < most) × IsAutoRun 
 
 -- The machine took the items and began one more, and came to a state of which this is true; these are the lines of its steps.
 pub record StopsIn (sys : System) (items : List Item) (item : Item) (printed : List ℕ) (IsSo : Machine → Type 0) : Type 0 where
-  pub steps : List Step
-  pub before : Machine
-  pub comes : ComesTo sys (first_state sys) items steps before
+  pub before : ItemsRun sys (first_state sys) items
   pub begun : List Step
   pub state : Machine
-  pub begins : ItemBegins sys before item begun state
+  pub begins : ItemBegins sys before.last item begun state
   pub outcomes : List Outcome
-  pub run : Run sys (first_state sys) (steps ++ begun) outcomes state
-  pub text : printed ≡ outcomes_text sys.flow outcomes
+  pub run : Run sys before.last begun outcomes state
+  pub text : printed ≡ outcomes_text sys.flow (before.outcomes ++ outcomes)
   pub so : IsSo state
 
 -- a step that the item names may call the store

@@ -4,13 +4,13 @@ use Rattle.std.specs.Fmt.{decimal}
 use Rattle.fw_bag.specs.declared.rec.Rec.{Rec}
 use Rattle.fw_bag.specs.Keyed.{plus}
 use Rattle.fw_flow.specs.Counting.{how_many}
-use Rattle.fw_flow.specs.declared.step.Step.{Step}
 use Rattle.fw_flow.specs.Dataflow.{System}
 use Rattle.fw_schedule.specs.declared.item.Item.{Item}
-use Rattle.fw_model.specs.Machine.{Machine, first_state}
-use Rattle.fw_model.specs.Steps.{acked, cuts, Outcome, did, Run}
+use Rattle.fw_model.specs.Machine.{first_state}
+use Rattle.fw_model.specs.Steps.{acked, cuts, Outcome, did}
 use Rattle.fw_run.specs.declared.tally.Tally.{Tally}
-use Rattle.fw_run.specs.Items.{ComesTo}
+use Rattle.fw_run.specs.Items.{ItemsRun}
+use Rattle.fw_run.specs.Reports.{Report, shown_in}
 use Rattle.fw_run.specs.Printed.{idle_count}
 use Rattle.fw_command.specs.Words.{Seeded}
 
@@ -49,6 +49,20 @@ tally_of outcomes = record {
   sum = acknowledged_sum outcomes;
 }
 
+-- so are steps through faults of the store counted: of one in which it failed nothing is shown
+abbrev pub tally_shown : List Report → Tally
+tally_shown reports = record {
+  steps = length reports;
+  idle = idle_count (shown_in reports);
+  cuts = how_many is_recovery (shown_in reports);
+  acks = how_many is_acknowledgement (shown_in reports);
+  sum = acknowledged_sum (shown_in reports);
+}
+
+-- a tally with one step more of which nothing is shown
+abbrev pub with_step : Tally → Tally
+with_step tally = record { steps = tally.steps + 1; idle = tally.idle; cuts = tally.cuts; acks = tally.acks; sum = tally.sum }
+
 -- two tallies as one
 abbrev pub with_tally : Tally → Tally → Tally
 with_tally one other = record {
@@ -77,11 +91,7 @@ abbrev pub summary_line : Seeded → Tally → List ℕ
 summary_line seeded tally =
     codes "gen seed " ++ (decimal seeded.seed ++ (codes " size " ++ (decimal seeded.size ++ (codes " " ++ (tally_text tally ++ codes "\n")))))
 
--- the items come to steps, the machine takes these from its first state, and this is the line of what comes of them
+-- this is the line of what comes of the machine's run over the items
 pub record PrintsSummary (sys : System) (items : List Item) (seeded : Seeded) (printed : List ℕ) : Type 0 where
-  pub steps : List Step
-  pub last : Machine
-  pub comes : ComesTo sys (first_state sys) items steps last
-  pub outcomes : List Outcome
-  pub run : Run sys (first_state sys) steps outcomes last
-  pub text : printed ≡ summary_line seeded (tally_of outcomes)
+  pub run : ItemsRun sys (first_state sys) items
+  pub text : printed ≡ summary_line seeded (tally_of run.outcomes)

@@ -6,10 +6,9 @@ use Rattle.fw_flow.specs.Dataflow.{System}
 use Rattle.fw_schedule.specs.declared.item.Item.{Item}
 use Rattle.fw_schedule.specs.declared.item.Item.TheVariants.{One}
 use Rattle.fw_model.specs.Machine.{Machine, first_state}
-use Rattle.fw_model.specs.Steps.{Outcome, Run}
 use Rattle.fw_running.specs.Steps.{ReadsNoCheckpoint}
 use Rattle.fw_run.specs.Headline.{PrintsRun}
-use Rattle.fw_run.specs.Items.{ComesTo}
+use Rattle.fw_run.specs.Items.{ComesTo, ItemsRun}
 use Rattle.fw_run.specs.Printed.{outcomes_text}
 
 -- no recovery among the items reads a checkpoint: each is from a state to which the items before it lead
@@ -23,13 +22,9 @@ AreKnown Tells sys items = Tells ⊎ NoneReadsCheckpoint sys items
 
 -- the text begins with the lines of what the machine makes of the items
 pub record BeginsWith (sys : System) (items : List Item) (printed : List ℕ) : Type 0 where
-  pub steps : List Step
-  pub last : Machine
-  pub comes : ComesTo sys (first_state sys) items steps last
-  pub outcomes : List Outcome
-  pub run : Run sys (first_state sys) steps outcomes last
+  pub run : ItemsRun sys (first_state sys) items
   pub others : List ℕ
-  pub text : printed ≡ outcomes_text sys.flow outcomes ++ others
+  pub text : printed ≡ outcomes_text sys.flow run.outcomes ++ others
 
 -- The text of the machine's run over the items, as far as it is known what comes of them: all of it, or the lines of first items.
 pub record PrintsKnown (Tells : Type 0) (sys : System) (items : List Item) (printed : List ℕ) : Type 0 where

@@ -1,50 +1,54 @@
 -- What a command does with what its texts spell.
-use Rattle.std.specs.Prelude.{◌≡◌, ℕ, ◌≤◌, List, Option, Result}
-use Rattle.fw_outside.specs.Outside.{SinkView}
+use Rattle.std.specs.Prelude.{◌≡◌, ℕ, false, List, [], Option, Some, Result, OnOk, OnErr, IsErrOf}
+use Rattle.fw_outside.specs.Outside.{StoreView, SinkView}
 use Rattle.fw_flow.specs.Dataflow.{System, system_of}
 use Rattle.fw_flow.specs.WellFormed.{IsWellFormedSystem}
 use Rattle.fw_schedule.specs.declared.item.Item.{Item}
-use Rattle.fw_keep.specs.Stored.{Records}
 use Rattle.fw_run.specs.declared.fault.RunFault.{RunFault}
 use Rattle.fw_run.specs.declared.work.Work.{Work}
-use Rattle.fw_run.specs.declared.work.Work.TheVariants.{Run, Endure, Generate, Denote, Check}
-use Rattle.fw_generate.specs.Laws.{size_limit}
+use Rattle.fw_run.specs.declared.work.Work.TheVariants.{Run, Denote, Check}
+use Rattle.fw_generate.specs.Laws.{AreAccepted}
+use Rattle.fw_generate.specs.Texts.{Texts}
+use Rattle.fw_command.specs.declared.reading.Job.{Job}
+use Rattle.fw_run.specs.Call.{HasTexts}
 use Rattle.fw_command.specs.DenotationText.{PrintsDenotation}
-use Rattle.fw_run.specs.Enduring.{PrintsEndured, RoseBy, IsEndured, IsEnduredToDamage}
+use Rattle.fw_running.specs.declared.fault.EngineFault.TheVariants as fault
+use Rattle.fw_run.specs.declared.fault.RunFault.TheVariants as stop
+use Rattle.fw_run.specs.Ends.{PrintsOfRun, StaysIfInOneLine, IsWholeRun, IsStoreFault, IsDamageIn}
+use Rattle.fw_run.specs.Enduring.{RoseBy, RoseByFaults, StaysOrRose}
 use Rattle.fw_run.specs.Fault.{faults_after}
+use Rattle.fw_run.specs.Manner.{goes_on, told_in}
 use Rattle.fw_command.specs.Listing.{check_text}
 use Rattle.fw_run.specs.Performing.{WritesUntil}
-use Rattle.fw_command.specs.Reading.{IsJob, IsGenerated, IsFed, IsReady}
-use Rattle.fw_command.specs.Texts.{HasFlow}
-use Rattle.fw_run.specs.Trusting.{AreKnown, PrintsKnown}
-use Rattle.fw_run.specs.Stopping.{LeavesWrites, IsStoppedByStore, IsStoppedByDamage}
-use Rattle.fw_run.specs.Tallies.{PrintsSummary}
-use Rattle.fw_command.specs.Words.{Command, Manner, by_lines, through_faults, in_one_line, run, endure, generate, denote, check, seeded_in}
-use Rattle.fw_command.specs.Writing.{IsWritten, WritesText}
+use Rattle.fw_command.specs.Reading.{IsFed, IsReady}
+use Rattle.fw_command.specs.Texts.{HasFlow, spelled_system, spelled_items}
+use Rattle.fw_command.specs.Words.{Command, Manner, SystemNames, manner_of, denote, check}
+use Rattle.fw_command.specs.Writing.{WritesText}
+
+-- the command takes the steps of the job, tells them in this manner, and has accepted texts that spell the job
+pub record IsRunWork (told : Option (List ℕ → Option (List ℕ))) (command : Command) (manner : Manner) (job : Job) : Type 0 where
+  pub takes : manner_of command ≡ Some manner
+  pub texts : Texts
+  pub there : HasTexts told command texts
+  pub accepted : AreAccepted texts job.flow
+  pub system : system_of job.flow job.batches ≡ spelled_system job.flow texts
+  pub items : job.items ≡ spelled_items job.flow texts
 
 -- the work is that of the command, with what the accepted texts under its names spell
 abbrev pub IsWork : Option (List ℕ → Option (List ℕ)) → Command → Work → Type 0
-IsWork told (run names) (Run job) = IsJob told names job
-IsWork told (endure names) (Endure job) = IsJob told names job
-IsWork told (generate seeded) (Generate words job) = (seeded ≡ seeded_in words) × (seeded.size ≤ size_limit) × IsGenerated seeded job
-IsWork told (denote names) (Denote fed) = IsFed told names fed
-IsWork told (check name) (Check flow) = HasFlow told name flow
-IsWork told command work = ⊥
+IsWork told command (Run manner job) = IsRunWork told command (told_in manner) job
+IsWork told command (Denote fed) = (names : SystemNames) × (command ≡ denote names) × IsFed told names fed
+IsWork told command (Check flow) = (name : List ℕ) × (command ≡ check name) × HasFlow told name flow
 
 -- what the work asks of the system
 abbrev pub IsReadyWork : Work → Type 0
-IsReadyWork (Run job) = IsReady (system_of job.flow job.batches) job.items
-IsReadyWork (Endure job) = IsReady (system_of job.flow job.batches) job.items
-IsReadyWork (Generate words job) = IsReady (system_of job.flow job.batches) job.items
+IsReadyWork (Run manner job) = IsReady (system_of job.flow job.batches) job.items
 IsReadyWork (Denote fed) = IsWellFormedSystem (system_of fed.flow fed.batches)
 IsReadyWork (Check flow) = Unit {0}
 
 -- this is what the work prints, of a run as far as it is known
 abbrev pub IsTextOfWork : Type 0 → (ℕ → List ℕ → Type 0) → Work → List ℕ → Type 0
-IsTextOfWork Tells IsSo (Run job) printed = PrintsKnown Tells (system_of job.flow job.batches) job.items printed
-IsTextOfWork Tells IsSo (Endure job) printed = PrintsEndured Tells IsSo (system_of job.flow job.batches) job.items printed
-IsTextOfWork Tells IsSo (Generate words job) printed =
-    AreKnown Tells (system_of job.flow job.batches) job.items → PrintsSummary (system_of job.flow job.batches) job.items (seeded_in words) printed
+IsTextOfWork Tells IsSo (Run manner job) printed = PrintsOfRun Tells IsSo (told_in manner) (system_of job.flow job.batches) job.items printed
 IsTextOfWork Tells IsSo (Denote fed) printed = PrintsDenotation (system_of fed.flow fed.batches) printed
 IsTextOfWork Tells IsSo (Check flow) printed = printed ≡ check_text flow
 
@@ -52,57 +56,48 @@ IsTextOfWork Tells IsSo (Check flow) printed = printed ≡ check_text flow
 abbrev pub PrintsWork : {T : Type 0} → Type 0 → (ℕ → List ℕ → Type 0) → Work → Result T RunFault → SinkView → SinkView → Type 0
 PrintsWork Tells IsSo work answer before after = WritesText (IsTextOfWork Tells IsSo work) (λ printed. WritesUntil printed answer before after)
 
--- ---- how a run ends
-
--- All was taken, and the store holds the writes of the last state, if it is known what comes of the items; through faults, it failed in
--- no step.
-abbrev pub IsWholeRun : Type 0 → Option Records → SinkView → SinkView → Manner → System → List Item → Type 0
-IsWholeRun Tells records before after by_lines sys items = AreKnown Tells sys items → LeavesWrites sys items records
-IsWholeRun Tells records before after through_faults sys items = IsEndured Tells (λ faults. faults ≡ 0) sys items records before after
-IsWholeRun Tells records before after (in_one_line seeded) sys items = AreKnown Tells sys items → LeavesWrites sys items records
-
--- The store failed, if its count rose from the first number to the second: it ended the run, and the lines of the steps before were
--- written, or, where one line tells all, nothing; or the run went on to its end, and tells each fault.
-abbrev pub IsStoreFault : Type 0 → ℕ → ℕ → Option Records → SinkView → SinkView → Manner → System → List Item → Type 0
-IsStoreFault Tells count last records before after by_lines sys items =
-    IsStoppedByStore Tells sys items records (λ printed. IsWritten printed before after)
-IsStoreFault Tells count last records before after through_faults sys items =
-    IsEndured Tells (λ faults. (1 ≤ faults) × RoseBy count last faults) sys items records before after
-IsStoreFault Tells count last records before after (in_one_line seeded) sys items =
-    IsStoppedByStore Tells sys items records (λ printed. after ≡ before)
-
--- a damaged record ended the run
-abbrev pub IsDamageIn : Type 0 → ℕ → ℕ → ℕ → Option (ℕ × List ℕ) → SinkView → SinkView → Manner → System → List Item → Type 0
-IsDamageIn Tells count last id given before after by_lines sys items = IsStoppedByDamage Tells sys items id given (λ printed. IsWritten printed before after)
-IsDamageIn Tells count last id given before after through_faults sys items = IsEnduredToDamage Tells (RoseBy count last) sys items id given before after
-IsDamageIn Tells count last id given before after (in_one_line seeded) sys items = IsStoppedByDamage Tells sys items id given (λ printed. after ≡ before)
-
 -- the work takes steps, and this is true of how they are told, of its system and its items
 abbrev pub IsRun : Work → (Manner → System → List Item → Type 0) → Type 0
-IsRun (Run job) IsSo = IsSo by_lines (system_of job.flow job.batches) job.items
-IsRun (Endure job) IsSo = IsSo through_faults (system_of job.flow job.batches) job.items
-IsRun (Generate words job) IsSo = IsSo (in_one_line (seeded_in words)) (system_of job.flow job.batches) job.items
+IsRun (Run manner job) IsSo = IsSo (told_in manner) (system_of job.flow job.batches) job.items
 IsRun (Denote fed) IsSo = ⊥
 IsRun (Check flow) IsSo = ⊥
 
 -- if the work takes steps, this is true of how they are told, of its system and its items
 abbrev pub IfRun : Work → (Manner → System → List Item → Type 0) → Type 0
+IfRun (Run manner job) IsSo = IsSo (told_in manner) (system_of job.flow job.batches) job.items
 IfRun (Denote fed) IsSo = Unit {0}
 IfRun (Check flow) IsSo = Unit {0}
-IfRun work IsSo = IsRun work IsSo
 
 -- Work that does not go on through faults of its store ends at the first: it failed once if that is the answer, and else never.
 abbrev pub EndsAtFault : {T : Type 0} → Work → Result T RunFault → ℕ → ℕ → Type 0
-EndsAtFault (Endure job) answer before after = Unit {0}
-EndsAtFault work answer before after = after ≡ faults_after answer before
+EndsAtFault (Run manner job) answer before after = goes_on (told_in manner) ≡ false → after ≡ faults_after answer before
+EndsAtFault (Denote fed) answer before after = after ≡ faults_after answer before
+EndsAtFault (Check flow) answer before after = after ≡ faults_after answer before
 
 -- this stays in work that is told in one line
-abbrev pub StaysIfInOneLine : {O : Type 0} → Work → O → O → Type 0
-StaysIfInOneLine (Generate words job) before after = after ≡ before
-StaysIfInOneLine work before after = Unit {0}
+abbrev pub StaysIfToldInOne : {O : Type 0} → Work → O → O → Type 0
+StaysIfToldInOne (Run manner job) before after = StaysIfInOneLine (told_in manner) before after
+StaysIfToldInOne (Denote fed) before after = Unit {0}
+StaysIfToldInOne (Check flow) before after = Unit {0}
 
 -- only work that takes steps changes its store
 abbrev pub StaysUnlessRun : {K : Type 0} → Work → K → K → Type 0
+StaysUnlessRun (Run manner job) before after = Unit {0}
 StaysUnlessRun (Denote fed) before after = after ≡ before
 StaysUnlessRun (Check flow) before after = after ≡ before
-StaysUnlessRun work before after = Unit {0}
+
+-- What is answered of a work, by what the store tells at its end: all that it prints was written, or it was cut off by the fault; what a run
+-- leaves in the store, and where the store or a damaged record ended it; and how often the store failed.
+pub record EndsWork {T : Type 0} (Tells : Type 0) (work : Work) (answer : Result T RunFault) (before after : StoreView) (out wrote : SinkView)
+    : Type 0 where
+  pub printed : OnOk answer (PrintsWork Tells (λ faults others. (faults ≡ 0) × (others ≡ [])) work answer out wrote)
+  pub cut_off : OnErr answer (PrintsWork Tells (λ faults others. RoseBy before.faults after.faults faults) work answer out wrote)
+  pub left : OnOk answer (IfRun work (IsWholeRun Tells after.records out wrote))
+  pub store_fault : IsErrOf answer (stop.Engine fault.StoreFault)
+      → IsRun work (IsStoreFault Tells before.faults after.faults after.records out wrote)
+  pub damaged : (id : ℕ) → IsErrOf answer (stop.Engine (fault.Damaged id))
+      → IsRun work (IsDamageIn Tells before.faults after.faults id after.given out wrote)
+  pub none : OnOk answer (after.faults ≡ before.faults)
+  pub first : EndsAtFault work answer before.faults after.faults
+  pub some : IsErrOf answer (stop.Engine fault.StoreFault) → RoseByFaults before.faults after.faults
+  pub rises : StaysOrRose before.faults after.faults

@@ -2,14 +2,14 @@
 #![tactic(auto)]
 
 mod command;
-mod enduring;
 mod fault;
+mod manner;
 mod perform;
 mod run;
 mod status;
-mod summary;
 mod tally;
 mod text;
+mod through;
 mod work;
 
 pub use command::falkirk;

@@ -2,14 +2,17 @@
 ghost use Rattle.std.specs.Prelude.{◌≡◌, IfOk, string_bytes};
 ghost use Rattle.fw_running.specs.EffectText.{outcome_text};
 ghost use Rattle.fw_running.specs.Steps.{outcome_of};
-ghost use Rattle.fw_run.specs.Enduring as enduring;
+ghost use Rattle.fw_run.specs.Ends as ends;
+ghost use Rattle.fw_run.specs.Manner.{told_in};
 ghost use Rattle.fw_run.specs.Printed as spec;
+ghost use Rattle.fw_run.specs.Reports as reports;
 ghost use Rattle.fw_run.specs.Performing.{shown_bytes};
 ghost use Rattle.fw_run.specs.Status.{note_line};
 ghost use Rattle.fw_run.specs.Tallies as tallies;
 ghost use Rattle.fw_command.specs.Words.{seeded_in};
 ghost use Rattle.fw_run.specs.declared.status.Status.TheVariants as Status;
 
+use crate::manner::Manner;
 use crate::tally::Tally;
 use fw_command::GenerateWords;
 use fw_engine::Stepped;
@@ -30,6 +33,22 @@ pub fn line_of(alloc: Global, flow: &Flow, stepped: Stepped) -> Result<Option<Ve
     Ok(Some(lines.into_bytes()))
 }
 
+/// The last line of a run whose steps were counted so, and in which the store failed so often.
+pub(crate) fn last_line(
+    alloc: Global,
+    manner: Manner,
+    tally: Tally,
+    faults: u64,
+) -> Result<String, AllocError>
+    ensures { IfOk result (λ text. string_bytes text ≡ ends.last_line_of (told_in manner) tally faults) }
+{
+    match manner {
+        Manner::ByLines => done_line(alloc, tally.steps, tally.idle),
+        Manner::ThroughFaults => endured_line(alloc, tally.steps, tally.idle, faults),
+        Manner::InOneLine(words) => summary_line(alloc, words, tally),
+    }
+}
+
 /// The line `done steps STEPS idle IDLE`, ended by LF.
 pub fn done_line(alloc: Global, steps: u64, idle: u64) -> Result<String, AllocError>
     ensures { IfOk result (λ text. string_bytes text ≡ spec.done_line steps idle) }
@@ -39,14 +58,14 @@ pub fn done_line(alloc: Global, steps: u64, idle: u64) -> Result<String, AllocEr
 
 /// The line `fault step NUMBER`, ended by LF.
 pub fn fault_line(alloc: Global, number: u64) -> Result<String, AllocError>
-    ensures { IfOk result (λ text. string_bytes text ≡ enduring.fault_line number) }
+    ensures { IfOk result (λ text. string_bytes text ≡ reports.fault_line number) }
 {
     format!(in alloc; "fault step {number}\n")
 }
 
 /// The line `done steps STEPS idle IDLE faults FAULTS`, ended by LF.
 pub fn endured_line(alloc: Global, steps: u64, idle: u64, faults: u64) -> Result<String, AllocError>
-    ensures { IfOk result (λ text. string_bytes text ≡ enduring.endured_line steps idle faults) }
+    ensures { IfOk result (λ text. string_bytes text ≡ reports.endured_line steps idle faults) }
 {
     format!(in alloc; "done steps {steps} idle {idle} faults {faults}\n")
 }

@@ -18,7 +18,7 @@ loop-init g c = record {
   faults = refl;
   of_steps = c.requires.room.of_steps;
   counted = omega arith;
-  auto = auto-none c.args.engine.now (g.K.Store.records c.args.store.now) c.args.tally.now (g.O.Sink.view c.args.out.now) c.requires.room.of_steps.sum;
+  auto = auto-none c.args.engine.now (g.K.Store.view c.args.store.now).records c.args.tally.now (g.O.Sink.view c.args.out.now) c.requires.room.of_steps.sum;
 }
 
 pub count-requires-clause-steps : goal.count-requires-clause-steps
@@ -26,7 +26,7 @@ count-requires-clause-steps g c = omega (arith, c.loop-test.true, c.loop.invaria
 
 pub loop-preserved : goal.loop-preserved
 loop-preserved g c =
-    let records = g.K.Store.records in
+    let known = g.K.Store.view in
     let view = g.O.Sink.view in
     record {
       stored = c.auto_step.ensures.stored;
@@ -36,16 +36,16 @@ loop-preserved g c =
       faults = c.in_ok-stepped.ensures.faults ∙ c.loop.invariant.faults;
       of_steps = of_steps-more c.loop.tally c.count.new.self (outcome_of c.in_ok-stepped.stepped) c.loop.invariant.of_steps c.count.ensures;
       counted = omega (arith, c.loop.invariant.counted, steps-more c.loop.tally c.count.new.self (outcome_of c.in_ok-stepped.stepped) c.count.ensures);
-      auto = auto-more c.args.engine.now c.loop.engine c.auto_step.new.self (records c.args.store.now) (records c.loop.store) (records c.auto_step.new.store) c.flow.result.now c.in_ok-stepped.stepped c.loop.counter
+      auto = auto-more c.args.engine.now c.loop.engine c.auto_step.new.self (known c.args.store.now).records (known c.loop.store).records (known c.auto_step.new.store).records c.flow.result.now c.in_ok-stepped.stepped c.loop.counter
           c.args.tally.now c.loop.tally c.count.new.self (view c.args.out.now) (view c.loop.out) (view c.print.new.out) c.loop.invariant.auto c.count.ensures c.flow.ensures c.in_ok-stepped.ensures.ok (sym c.is_idle.ensures ∙ c.if-is_idle.false) c.in_ok-print.ensures;
     }
 
 pub returns-in_err-stepped-clause-printed : goal.returns-in_err-stepped-clause-printed
 returns-in_err-stepped-clause-printed g c =
     let p = err_from_is_err_and c.from_residual.result c.from_residual.ensures.1 in
-    let records = g.K.Store.records in
+    let known = g.K.Store.view in
     let view = g.O.Sink.view in
-    rw (p.1, p.2) (auto_stopped (Unit {0}) c.args.engine.now c.loop.engine c.auto_step.new.self (records c.args.store.now) (records c.loop.store) (records c.auto_step.new.store) c.loop.counter c.args.most c.args.tally.now c.loop.tally _ (view c.args.out.now) (view c.loop.out)
+    rw (p.1, p.2) (auto_stopped (Unit {0}) c.args.engine.now c.loop.engine c.auto_step.new.self (known c.args.store.now).records (known c.loop.store).records (known c.auto_step.new.store).records c.loop.counter c.args.most c.args.tally.now c.loop.tally _ (view c.args.out.now) (view c.loop.out)
     c.loop.invariant.auto c.loop-test.true c.in_err-stepped.ensures.calls c.in_err-stepped.ensures.faulted c.in_err-stepped.ensures.unharmed)
 
 pub returns-in_err-stepped-clause-few : goal.returns-in_err-stepped-clause-few
@@ -56,23 +56,23 @@ returns-in_err-stepped-clause-few g c =
 pub returns-in_err-stepped-clause-faults : goal.returns-in_err-stepped-clause-faults
 returns-in_err-stepped-clause-faults g c =
     let p = err_from_is_err_and c.from_residual.result c.from_residual.ensures.1 in
-    let count = g.K.Store.fault_count in
-    rw (p.1, p.2) (told_after Stepped (Unit {0}) _ (count c.args.store.now) (count c.auto_step.new.store)
-    (subst (λ (before : ℕ). count c.auto_step.new.store ≡ engine.faults_after {T = Stepped} (Err c.in_err-stepped.field-0.0) before) c.loop.invariant.faults c.in_err-stepped.ensures.faults))
+    let known = g.K.Store.view in
+    rw (p.1, p.2) (told_after Stepped (Unit {0}) _ (known c.args.store.now).faults (known c.auto_step.new.store).faults
+    (subst (λ (before : ℕ). (known c.auto_step.new.store).faults ≡ engine.faults_after {T = Stepped} (Err c.in_err-stepped.field-0.0) before) c.loop.invariant.faults c.in_err-stepped.ensures.faults))
 
 pub returns-then-is_idle-clause-printed : goal.returns-then-is_idle-clause-printed
 returns-then-is_idle-clause-printed g c =
-    let records = g.K.Store.records in
+    let known = g.K.Store.view in
     let view = g.O.Sink.view in
-    auto-ends c.args.engine.now c.loop.engine c.auto_step.new.self (records c.args.store.now) (records c.loop.store) (records c.auto_step.new.store) c.in_ok-stepped.stepped c.loop.counter c.args.most c.args.tally.now c.loop.tally tt (view c.args.out.now) (view c.loop.out)
+    auto-ends c.args.engine.now c.loop.engine c.auto_step.new.self (known c.args.store.now).records (known c.loop.store).records (known c.auto_step.new.store).records c.in_ok-stepped.stepped c.loop.counter c.args.most c.args.tally.now c.loop.tally tt (view c.args.out.now) (view c.loop.out)
     c.loop.invariant.auto c.loop-test.true c.in_ok-stepped.ensures.ok (sym c.is_idle.ensures ∙ c.if-is_idle.true)
 
 pub returns-in_err-print-clause-printed : goal.returns-in_err-print-clause-printed
 returns-in_err-print-clause-printed g c =
     let p = err_from_is_err_and c.from_residual-in_err-print.result c.from_residual-in_err-print.ensures.1 in
-    let records = g.K.Store.records in
+    let known = g.K.Store.view in
     let view = g.O.Sink.view in
-    rw (p.1, p.2) (auto_begun (Unit {0}) c.args.engine.now c.loop.engine c.auto_step.new.self (records c.args.store.now) (records c.loop.store) (records c.auto_step.new.store) c.flow.result.now c.in_ok-stepped.stepped c.loop.counter c.args.most c.args.tally.now c.loop.tally c.count.new.self _
+    rw (p.1, p.2) (auto_begun (Unit {0}) c.args.engine.now c.loop.engine c.auto_step.new.self (known c.args.store.now).records (known c.loop.store).records (known c.auto_step.new.store).records c.flow.result.now c.in_ok-stepped.stepped c.loop.counter c.args.most c.args.tally.now c.loop.tally c.count.new.self _
     (view c.args.out.now) (view c.loop.out) (view c.print.new.out)
     c.loop.invariant.auto c.loop-test.true c.count.ensures c.flow.ensures c.in_ok-stepped.ensures.ok (sym c.is_idle.ensures ∙ c.if-is_idle.false) c.in_err-print.ensures)
 
@@ -85,10 +85,10 @@ returns-in_err-print-clause-few g c =
 
 pub returns-clause-printed : goal.returns-clause-printed
 returns-clause-printed g c =
-    let records = g.K.Store.records in
+    let known = g.K.Store.view in
     let view = g.O.Sink.view in
     let all : c.loop.counter ≡ c.args.most = omega (arith, c.loop-test.false, c.loop.auto.counter-end) in
-    auto-full c.args.engine.now c.loop.engine (records c.args.store.now) (records c.loop.store) c.loop.counter c.args.most c.args.tally.now c.loop.tally tt (view c.args.out.now) (view c.loop.out) c.loop.invariant.auto all
+    auto-full c.args.engine.now c.loop.engine (known c.args.store.now).records (known c.loop.store).records c.loop.counter c.args.most c.args.tally.now c.loop.tally tt (view c.args.out.now) (view c.loop.out) c.loop.invariant.auto all
 
 pub returns-clause-few : goal.returns-clause-few
 returns-clause-few g c =

@@ -10,12 +10,12 @@ use Rattle.fw_run.proofs.perform.perform_auto.Given as goal
 -- each step so far was the first that was enabled, and they were counted and their lines printed
 abbrev pub invariant-loop : goal.invariant-loop
 invariant-loop g l = record {
-  stored : IsStored (keep_of l.engine) (g.K.Store.records l.store);
+  stored : IsStored (keep_of l.engine) (g.K.Store.view l.store).records;
   in_order : AreAscending (ids_of (keep_of l.engine).entries);
-  tells : is_some (g.K.Store.records l.store) ≡ is_some (g.K.Store.records l.fn.store);
+  tells : is_some (g.K.Store.view l.store).records ≡ is_some (g.K.Store.view l.fn.store).records;
   flow : flow_of l.engine ≡ flow_of l.fn.engine;
-  faults : g.K.Store.fault_count l.store ≡ g.K.Store.fault_count l.fn.store;
+  faults : (g.K.Store.view l.store).faults ≡ (g.K.Store.view l.fn.store).faults;
   of_steps : AreOfSteps l.tally;
   counted : l.tally.steps ≡ l.fn.tally.steps + l.counter;
-  auto : IsAutoSoFar l.fn.engine l.engine (g.K.Store.records l.fn.store) (g.K.Store.records l.store) l.counter l.fn.tally l.tally (g.O.Sink.view l.fn.out) (g.O.Sink.view l.out);
+  auto : IsAutoSoFar l.fn.engine l.engine (g.K.Store.view l.fn.store).records (g.K.Store.view l.store).records l.counter l.fn.tally l.tally (g.O.Sink.view l.fn.out) (g.O.Sink.view l.out);
 }

@@ -11,9 +11,9 @@ use Rattle.fw_run.proofs.perform.perform_step.Goals as goal
 pub returns-in_err-stepped-clause-printed : goal.returns-in_err-stepped-clause-printed
 returns-in_err-stepped-clause-printed g c =
     let p = err_from_is_err_and c.from_residual.result c.from_residual.ensures.1 in
-    let records = g.K.Store.records in
+    let known = g.K.Store.view in
     let view = g.O.Sink.view in
-    rw (p.1, p.2) (step_stopped (Unit {0}) c.args.engine.now c.step.new.self (records c.args.store.now) (records c.step.new.store) c.args.step.now c.args.tally.now _ (view c.args.out.now) c.requires.room.of_steps.sum c.in_err-stepped.ensures.faulted c.in_err-stepped.ensures.unharmed)
+    rw (p.1, p.2) (step_stopped (Unit {0}) c.args.engine.now c.step.new.self (known c.args.store.now).records (known c.step.new.store).records c.args.step.now c.args.tally.now _ (view c.args.out.now) c.requires.room.of_steps.sum c.in_err-stepped.ensures.faulted c.in_err-stepped.ensures.unharmed)
 
 pub returns-in_err-stepped-clause-few : goal.returns-in_err-stepped-clause-few
 returns-in_err-stepped-clause-few g c =
@@ -23,15 +23,15 @@ returns-in_err-stepped-clause-few g c =
 pub returns-in_err-stepped-clause-faults : goal.returns-in_err-stepped-clause-faults
 returns-in_err-stepped-clause-faults g c =
     let p = err_from_is_err_and c.from_residual.result c.from_residual.ensures.1 in
-    let count = g.K.Store.fault_count in
-    rw (p.1, p.2) (told_after Stepped (Unit {0}) _ (count c.args.store.now) (count c.step.new.store) c.in_err-stepped.ensures.faults)
+    let known = g.K.Store.view in
+    rw (p.1, p.2) (told_after Stepped (Unit {0}) _ (known c.args.store.now).faults (known c.step.new.store).faults c.in_err-stepped.ensures.faults)
 
 pub returns-in_err-print-clause-printed : goal.returns-in_err-print-clause-printed
 returns-in_err-print-clause-printed g c =
     let p = err_from_is_err_and c.from_residual-in_err-print.result c.from_residual-in_err-print.ensures.1 in
-    let records = g.K.Store.records in
+    let known = g.K.Store.view in
     let view = g.O.Sink.view in
-    rw (p.1, p.2) (step_begun (Unit {0}) c.args.engine.now c.step.new.self (records c.args.store.now) (records c.step.new.store) c.args.step.now c.args.tally.now c.count.new.self c.flow.result.now c.in_ok-stepped.stepped _ (view c.args.out.now) (view c.print.new.out) c.flow.ensures c.in_ok-stepped.ensures.ok c.in_err-print.ensures)
+    rw (p.1, p.2) (step_begun (Unit {0}) c.args.engine.now c.step.new.self (known c.args.store.now).records (known c.step.new.store).records c.args.step.now c.args.tally.now c.count.new.self c.flow.result.now c.in_ok-stepped.stepped _ (view c.args.out.now) (view c.print.new.out) c.flow.ensures c.in_ok-stepped.ensures.ok c.in_err-print.ensures)
 
 pub returns-in_err-print-clause-few : goal.returns-in_err-print-clause-few
 returns-in_err-print-clause-few g c =
@@ -42,9 +42,9 @@ returns-in_err-print-clause-few g c =
 
 pub returns-clause-printed : goal.returns-clause-printed
 returns-clause-printed g c =
-    let records = g.K.Store.records in
+    let known = g.K.Store.view in
     let view = g.O.Sink.view in
-    step_taken c.args.engine.now c.step.new.self (records c.args.store.now) (records c.step.new.store) c.args.step.now c.args.tally.now c.count.new.self c.flow.result.now c.in_ok-stepped.stepped tt (view c.args.out.now) (view c.print.new.out) c.flow.ensures c.in_ok-stepped.ensures.ok c.count.ensures c.in_ok-print.ensures
+    step_taken c.args.engine.now c.step.new.self (known c.args.store.now).records (known c.step.new.store).records c.args.step.now c.args.tally.now c.count.new.self c.flow.result.now c.in_ok-stepped.stepped tt (view c.args.out.now) (view c.print.new.out) c.flow.ensures c.in_ok-stepped.ensures.ok c.count.ensures c.in_ok-print.ensures
 
 pub returns-clause-few : goal.returns-clause-few
 returns-clause-few g c =

@@ -144,11 +144,13 @@ fn say_told<R: Files<File = File>>(
     store: &DiskStore<'_, R>,
     said: &mut String,
 ) -> Result<(), NoAnswer> {
-    let mut bar = "";
+    let mut is_first = true;
     for line in store.told()?.lines() {
-        said.push_str(bar)?;
+        if !is_first {
+            said.push_str(" | ")?;
+        }
+        is_first = false;
         said.push_str(line.trim_start())?;
-        bar = " | ";
     }
     Ok(())
 }

@@ -2,10 +2,11 @@
 //! The first word is the folder's name; it is there, and empty at first.
 #![tactic(auto)]
 
+use fw_advice::{AckSink, Call, Ended, Program, tell_after, warn_before};
 use fw_disk::DiskStore;
 use fw_outside::{FileFolder, Sink, StreamSink};
 use fw_run::{Status, falkirk};
-use std::io::ErrorKind;
+use std::io::{ErrorKind, IsTerminal};
 use std::process::ExitCode;
 use std::{env, io};
 
@@ -51,10 +52,30 @@ fn run_over<N: Sink>(rt: &HostRuntime, name: &str, words: &[String], notes: &mut
     let (Ok(words), Ok(name)) = (words, String::from_str(alloc, name)) else {
         return out_of_memory(notes);
     };
+    let call = Call {
+        program: Program::FalkirkDisk,
+        words: words.as_slice(),
+        is_person: rt.stderr().is_terminal(),
+    };
+    warn_before(alloc, rt, call, notes);
     let mut folder = FileFolder::new(rt);
     let mut store = DiskStore::new(alloc, rt, name);
-    let mut out = StreamSink::new(rt.stdout());
-    falkirk(alloc, &words, &mut folder, &mut store, &mut out, notes)
+    let mut out = AckSink::new(alloc, StreamSink::new(rt.stdout()));
+    let status = falkirk(alloc, &words, &mut folder, &mut store, &mut out, notes);
+    tell_after(alloc, rt, call, ended(status), &out, notes);
+    status
+}
+
+// What a person is told a status by.
+fn ended(status: Status) -> Ended {
+    let refusal = match status {
+        Status::Refused(refusal) => Some(refusal),
+        _ => None,
+    };
+    Ended {
+        number: status.number(),
+        refusal,
+    }
 }
 
 fn out_of_memory<N: Sink>(notes: &mut N) -> Status {

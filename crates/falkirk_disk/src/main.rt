@@ -5,6 +5,7 @@
 
 mod show;
 
+use fw_advice::{AckSink, Call, Ended, Program, tell_after, warn_before};
 use fw_command::{JobFault, fetch_flow};
 use fw_disk::{Cause, DiskStore};
 use fw_outside::{FileFolder, Sink, StreamSink};
@@ -77,21 +78,39 @@ fn run_command<N: Sink>(
     notes: &mut N,
 ) -> Status {
     let alloc = rt.alloc();
-    let is_terminal = rt.stderr().is_terminal();
-    if is_terminal && may_call_store(words) {
+    let call = Call {
+        program: Program::FalkirkDisk,
+        words,
+        is_person: rt.stderr().is_terminal(),
+    };
+    warn_before(alloc, rt, call, notes);
+    if call.is_person && may_call_store(words) {
         if let Ok(Some(cause)) = store.obstacle() {
             let _ = tell_cause(alloc, store, &cause, AHEAD, notes);
         }
     }
     let mut folder = FileFolder::new(rt);
-    let mut out = StreamSink::new(rt.stdout());
+    let mut out = AckSink::new(alloc, StreamSink::new(rt.stdout()));
     let status = falkirk(alloc, words, &mut folder, store, &mut out, notes);
-    if is_terminal {
+    if call.is_person {
         if let Ok(told) = store.told() {
             let _ = notes.write(told.as_bytes());
         }
     }
+    tell_after(alloc, rt, call, ended(status), &out, notes);
     status
+}
+
+// What a person is told a status by.
+fn ended(status: Status) -> Ended {
+    let refusal = match status {
+        Status::Refused(refusal) => Some(refusal),
+        _ => None,
+    };
+    Ended {
+        number: status.number(),
+        refusal,
+    }
 }
 
 // Whether these are the words of a command that runs a flow.

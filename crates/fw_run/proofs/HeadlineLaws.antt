@@ -50,15 +50,15 @@ ended-acknowledged sys w family den items one end =
     let few = items-few sys end.earlier before.steps (first_state sys) before.last before.comes in
     let taken = autos-one sys end.counts autos.steps before.last autos.last autos.comes in
     let all : IsAllAcknowledged sys family (before.outcomes ++ autos.outcomes) autos.last =
-        enough-acknowledged sys family w den before.steps before.outcomes before.last before.run live (step_count end.earlier) (step_count (map Auto end.counts)) few end.enough
-        autos.steps autos.outcomes autos.last taken autos.run in
+    enough-acknowledged sys family w den before.steps before.outcomes before.last before.run live (step_count end.earlier) (step_count (map Auto end.counts)) few end.enough
+    autos.steps autos.outcomes autos.last taken autos.run in
     let parts = comes-on sys (first_state sys) before.last autos.last end.earlier (map Auto end.counts) before.steps autos.steps before.comes autos.comes in
     let whole : ComesTo sys (first_state sys) items (before.steps ++ autos.steps) autos.last =
-        subst (λ (items : List Item). ComesTo sys (first_state sys) items (before.steps ++ autos.steps) autos.last) (sym end.parts) parts in
+    subst (λ (items : List Item). ComesTo sys (first_state sys) items (before.steps ++ autos.steps) autos.last) (sym end.parts) parts in
     let run = runs-go_on sys (first_state sys) before.last autos.last before.steps autos.steps before.outcomes autos.outcomes before.run autos.run in
     let same = one.only (before.steps ++ autos.steps) autos.last whole in
     let here : Run sys (first_state sys) one.steps (before.outcomes ++ autos.outcomes) autos.last =
-        subst (λ (steps : List Step). Run sys (first_state sys) steps (before.outcomes ++ autos.outcomes) autos.last) same.0 run in
+    subst (λ (steps : List Step). Run sys (first_state sys) steps (before.outcomes ++ autos.outcomes) autos.last) same.0 run in
     let once = one.run.only (before.outcomes ++ autos.outcomes) autos.last here in
     subst (λ (outcomes : List Outcome). IsAllAcknowledged sys family outcomes one.last) once.0
     (subst (IsAllAcknowledged sys family (before.outcomes ++ autos.outcomes)) once.1 all)

@@ -1,5 +1,6 @@
 -- What an engine keeps that is fed.
 use Rattle.std.specs.Prelude.{◌≡◌, ◌↔◌, ℕ, ◌+◌, ◌-◌, ◌<◌, List, [], ◌∷◌, ◌++◌, length}
+use Rattle.std.specs.List.{enumerate_from}
 use Rattle.fw_bag.specs.declared.rec.Rec.{Rec}
 use Rattle.fw_border.specs.Sources.{SourceState}
 use Rattle.fw_flow.specs.Dataflow.{Dataflow, batches_of}
@@ -17,12 +18,12 @@ without_last [] = []
 without_last (x ∷ []) = []
 without_last (x ∷ y ∷ xs) = x ∷ without_last (y ∷ xs)
 
--- what is kept of a source, with the batch in the place of the last one and an empty one behind it
-abbrev pub fed_source : List Rec → SourceState → SourceState
-fed_source recs source = record {
-  given = source.given + 1;
+-- what is kept of a source that is fed a batch, which takes the place of its last one, with these behind it
+abbrev pub fed_source : List Rec → List (List Rec) → SourceState → SourceState
+fed_source recs behind source = record {
+  given = source.given + length behind;
   injected = source.injected;
-  held = without_last source.held ++ (source.given - 1, recs) ∷ (source.given, []) ∷ [];
+  held = without_last source.held ++ enumerate_from (source.given - 1) (recs ∷ behind);
 }
 
 -- An engine is fed with the later batches: it keeps what it kept, but its sources are those of the later ones, and so are the counts of

@@ -55,13 +55,13 @@ FedRunsAreRuns = (flow : Dataflow) (opened : ℕ → Bool) (batches : List (List
     → (end : List (List (List Rec))) → GoOnEach last.opened flow last.batches end
     → Run (with_batches flow end) (first_state (with_batches flow end)) (steps_among actions) (map did effects) last.state
 
--- where neither the last batch nor the one behind it lies inside the low watermark, what is kept of a source that is fed is what is kept
--- of it over the later batches
+-- where the last batch of a source lies outside the low watermark, what is kept of the source, fed with a batch, is what is kept of it over
+-- the later batches
 abbrev pub FedSourcesStand : Type 0
-FedSourcesStand = (flow : Dataflow) (now later : List (List (List Rec))) (state : Machine) (s : ℕ) (recs : List Rec)
-    → (feeds : TakesLastPlace recs ([] ∷ []) (batches_of (with_batches flow now) s) (batches_of (with_batches flow later) s))
-    → inside (front_of state.low s) (length feeds.came ∷ []) ≡ false → inside (front_of state.low s) ((length feeds.came + 1) ∷ []) ≡ false
-    → (source : SourceState) → IsSourceOf (with_batches flow now) state s source → IsSourceOf (with_batches flow later) state s (fed_source recs source)
+FedSourcesStand = (flow : Dataflow) (now later : List (List (List Rec))) (state : Machine) (s : ℕ) (recs : List Rec) (behind : List (List Rec))
+    → (feeds : TakesLastPlace recs behind (batches_of (with_batches flow now) s) (batches_of (with_batches flow later) s))
+    → inside (front_of state.low s) (length feeds.came ∷ []) ≡ false → (source : SourceState)
+    → IsSourceOf (with_batches flow now) state s source → IsSourceOf (with_batches flow later) state s (fed_source recs behind source)
 
 -- an engine that stands for the last state of an open run stands for it over later batches, once it is fed with them
 abbrev pub FedEnginesStand : Type 0

@@ -32,7 +32,8 @@ pub fn fed_runs_are_runs()
     ensures { FedRunsAreRuns }
 {}
 
-/// What is kept of a source, fed with a batch, is what is kept of it over the later batches, in the same state.
+/// What is kept of a source whose last batch lies outside the low watermark is, once the source is fed with a batch, what is kept of
+/// it over the later batches, in the same state.
 pub fn fed_sources_stand()
     ensures { FedSourcesStand }
 {}

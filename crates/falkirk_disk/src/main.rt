@@ -1,13 +1,24 @@
 //! The command `falkirk_disk`: the top call over real files, standard output, standard error and a store in a folder of real files.
-//! The first word is the folder's name; it is there, and empty at first.
+//! The first word is the folder's name. `FOLDER show [FLOW]` prints what each of its files is, and is no word of the top call. On a
+//! terminal the causes of the store's faults are told behind the line of the status.
 #![tactic(auto)]
 
-use fw_disk::DiskStore;
+mod show;
+
+use fw_advice::{AckSink, Call, Ended, Program, tell_after, warn_before};
+use fw_command::{JobFault, fetch_flow};
+use fw_disk::{Cause, DiskStore};
 use fw_outside::{FileFolder, Sink, StreamSink};
 use fw_run::{Status, falkirk};
-use std::io::ErrorKind;
+use show::{ShowFault, show};
+use std::alloc::{AllocError, Global};
+use std::io::{ErrorKind, IsTerminal};
 use std::process::ExitCode;
+use std::rt::Files;
 use std::{env, io};
+
+/// What stands before the cause that is told before a run.
+const AHEAD: &str = "each call of the store will fail: ";
 
 fn main(rt: HostRuntime) -> ExitCode {
     ExitCode::from(run(&rt).number())
@@ -44,17 +55,140 @@ fn is_name(word: &str) -> bool {
     }
 }
 
-// Runs the words over the store of a folder.
+// Runs the words over the store of a folder, or shows the folder.
 fn run_over<N: Sink>(rt: &HostRuntime, name: &str, words: &[String], notes: &mut N) -> Status {
     let alloc = rt.alloc();
     let words: Result<Vec<&str>, _> = words.iter().map(|word| word.as_str()).collect(alloc);
     let (Ok(words), Ok(name)) = (words, String::from_str(alloc, name)) else {
         return out_of_memory(notes);
     };
-    let mut folder = FileFolder::new(rt);
     let mut store = DiskStore::new(alloc, rt, name);
+    match words.as_slice() {
+        ["show"] => show_folder(rt, &store, None, notes),
+        ["show", flow] if is_name(flow) => show_folder(rt, &store, Some(flow), notes),
+        words => run_command(rt, words, &mut store, notes),
+    }
+}
+
+// Runs a command over the store; a terminal is told what stands in its way before, and the causes of its faults behind.
+fn run_command<N: Sink>(
+    rt: &HostRuntime,
+    words: &[&str],
+    store: &mut DiskStore<'_, HostRuntime>,
+    notes: &mut N,
+) -> Status {
+    let alloc = rt.alloc();
+    let call = Call {
+        program: Program::FalkirkDisk,
+        words,
+        is_person: rt.stderr().is_terminal(),
+    };
+    warn_before(alloc, rt, call, notes);
+    if call.is_person && may_call_store(words) {
+        if let Ok(Some(cause)) = store.obstacle() {
+            let _ = tell_cause(alloc, store, &cause, AHEAD, notes);
+        }
+    }
+    let mut folder = FileFolder::new(rt);
+    let mut out = AckSink::new(alloc, StreamSink::new(rt.stdout()));
+    let status = falkirk(alloc, words, &mut folder, store, &mut out, notes);
+    if call.is_person {
+        if let Ok(told) = store.told() {
+            let _ = notes.write(told.as_bytes());
+        }
+    }
+    tell_after(alloc, rt, call, ended(status), &out, notes);
+    status
+}
+
+// What a person is told a status by.
+fn ended(status: Status) -> Ended {
+    let refusal = match status {
+        Status::Refused(refusal) => Some(refusal),
+        _ => None,
+    };
+    Ended {
+        number: status.number(),
+        refusal,
+    }
+}
+
+// Whether these are the words of a command that runs a flow.
+fn may_call_store(words: &[&str]) -> bool {
+    match words.first() {
+        Some(word) => ["run", "endure", "gen"].contains(word),
+        None => false,
+    }
+}
+
+// Tells a cause, behind some words.
+fn tell_cause<R: Files, N: Sink>(
+    alloc: Global,
+    store: &DiskStore<'_, R>,
+    cause: &Cause,
+    words: &str,
+    notes: &mut N,
+) -> Result<(), AllocError> {
+    let told = store.cause_told(cause)?;
+    let line = format!(in alloc; "{words}{told}\n")?;
+    let _ = notes.write(line.as_bytes());
+    Ok(())
+}
+
+// Shows what each file of the folder is, with the names of the flow in this file.
+fn show_folder<N: Sink>(
+    rt: &HostRuntime,
+    store: &DiskStore<'_, HostRuntime>,
+    flow: Option<&str>,
+    notes: &mut N,
+) -> Status {
+    let alloc = rt.alloc();
+    let flow = match flow {
+        None => None,
+        Some(name) => match fetch_flow(alloc, &mut FileFolder::new(rt), name) {
+            Ok(flow) => Some(flow),
+            Err(fault) => return tell_status(alloc, status_of_job(fault), notes),
+        },
+    };
     let mut out = StreamSink::new(rt.stdout());
-    falkirk(alloc, &words, &mut folder, &mut store, &mut out, notes)
+    match show(alloc, store, flow.as_ref(), &mut out) {
+        Ok(true) => Status::Done,
+        Ok(false) => tell_status(alloc, Status::StoreFault, notes),
+        Err(ShowFault::Out) => tell_status(alloc, Status::WriteFault, notes),
+        Err(ShowFault::NoMemory) => out_of_memory(notes),
+        Err(ShowFault::Store(cause)) => {
+            let status = tell_status(alloc, Status::StoreFault, notes);
+            if rt.stderr().is_terminal() {
+                let _ = tell_cause(alloc, store, &cause, "  ", notes);
+            }
+            status
+        }
+    }
+}
+
+// The status that tells why a flow was not read.
+fn status_of_job(fault: JobFault) -> Status {
+    match fault {
+        JobFault::Failed => Status::ReadFault,
+        JobFault::Refused(refusal) => Status::Refused(refusal),
+        JobFault::NoMemory => Status::NoMemory,
+    }
+}
+
+// Tells the status with which `show` ended.
+fn tell_status<N: Sink>(alloc: Global, status: Status, notes: &mut N) -> Status {
+    let _ = match status {
+        Status::ReadFault => notes.write(b"read fault\n"),
+        Status::StoreFault => notes.write(b"store fault\n"),
+        Status::WriteFault => notes.write(b"write fault\n"),
+        Status::Refused(refusal) => match format!(in alloc; "{refusal}\n") {
+            Ok(line) => notes.write(line.as_bytes()),
+            Err(_) => return out_of_memory(notes),
+        },
+        Status::NoMemory => return out_of_memory(notes),
+        _ => Ok(()),
+    };
+    status
 }
 
 fn out_of_memory<N: Sink>(notes: &mut N) -> Status {

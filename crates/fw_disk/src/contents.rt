@@ -1,5 +1,5 @@
 //! The contents of a record's file.
-ghost use Rattle.std.specs.Prelude.{◌≡◌, ◌++◌, IfOk, IfSome};
+ghost use Rattle.std.specs.Prelude.{◌≡◌, ◌++◌, ℕ, List, IfOk, IsErr, IfSome, IsNone, ◌<◌, length};
 ghost use Rattle.fw_disk.specs.Contents.{contents_of};
 
 use sha2::{Digest, Sha256};
@@ -10,6 +10,17 @@ const LENGTH: usize = 8;
 
 /// How many bytes a digest has.
 const DIGEST: usize = 32;
+
+/// What keeps a file from being one of a record.
+#[derive(Clone, Copy)]
+pub enum Difference {
+    /// It has fewer bytes than its length says, or too few for a length and a digest.
+    Short,
+    /// It has more bytes than its length says.
+    Long,
+    /// Its digest is not that of its bytes.
+    Digest,
+}
 
 /// The contents of the file of a record. The error is want of memory.
 pub(crate) fn contents_of(alloc: Global, bytes: &[u8]) -> Result<Vec<u8>, AllocError>
@@ -23,24 +34,37 @@ pub(crate) fn contents_of(alloc: Global, bytes: &[u8]) -> Result<Vec<u8>, AllocE
     Ok(contents)
 }
 
-/// The bytes of the record whose file has these contents; none where it is no record's.
-pub(crate) fn record_in(contents: &[u8]) -> Option<&[u8]>
-    ensures { IfSome result (λ bytes. contents.now ≡ contents_of bytes.now) }
+/// The bytes of the record whose file has these contents, or what differs.
+pub(crate) fn record_in(contents: &[u8]) -> Result<&[u8], Difference>
+    ensures { IfOk result (λ bytes. contents.now ≡ contents_of bytes.now) }
 {
-    let (length, rest) = contents.split_at_checked(LENGTH)?;
-    let (bytes, digest) = split_last(rest, DIGEST)?;
+    let Some((length, rest)) = contents.split_at_checked(LENGTH) else {
+        return Err(Difference::Short);
+    };
+    let Some((bytes, digest)) = split_last(rest, DIGEST) else {
+        return Err(Difference::Short);
+    };
     if length != (bytes.len() as u64).to_le_bytes().as_slice() {
-        return None;
+        return Err(other_length(length, bytes));
     }
     if digest != Sha256::digest(bytes).as_slice() {
-        return None;
+        return Err(Difference::Digest);
     }
-    Some(bytes)
+    Ok(bytes)
+}
+
+// What differs where these first eight bytes do not tell how many bytes there are.
+fn other_length(length: &[u8], bytes: &[u8]) -> Difference {
+    match <[u8; LENGTH]>::try_from(length) {
+        Ok(length) if u64::from_le_bytes(length) < bytes.len() as u64 => Difference::Long,
+        _ => Difference::Short,
+    }
 }
 
 // So many last bytes, and those before them; none where there are fewer.
 fn split_last(bytes: &[u8], count: usize) -> Option<(&[u8], &[u8])>
-    ensures { IfSome result (λ parts. bytes.now ≡ parts.0.now ++ parts.1.now) }
+    ensures parts { IfSome result (λ parts. bytes.now ≡ parts.0.now ++ parts.1.now) }
+    ensures fewer { IsNone result → length bytes.now < count }
 {
     if bytes.len() < count {
         return None;

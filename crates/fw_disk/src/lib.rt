@@ -1,7 +1,14 @@
 //! A store of records in a folder of real files.
 #![tactic(auto)]
 
+mod cause;
+mod claim;
 mod contents;
 mod disk_store;
+mod folder;
+mod lines;
 
+pub use cause::{Call, Cause, Fault, Place, Refusal, Trouble};
+pub use contents::Difference;
 pub use disk_store::DiskStore;
+pub use lines::Lines;

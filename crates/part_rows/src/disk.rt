@@ -4,7 +4,7 @@ use fw_outside::{OutFault, Store};
 use row_words::{Answers, NoAnswer, Row, bytes_of, part, tell_row};
 use std::alloc::{AllocError, Global};
 use std::fmt::Write;
-use std::fs;
+use std::fs::{self, File};
 use std::io::Read;
 use std::rt::Files;
 
@@ -13,11 +13,12 @@ use std::rt::Files;
 struct OnDisk<'a, R: Files> {
     alloc: Global,
     files: &'a R,
+    folder: &'a str,
     store: DiskStore<'a, R>,
 }
 
 /// Tells what became of each call. The name of the row is that of the folder of its store.
-pub fn tell<R: Files>(
+pub fn tell<R: Files<File = File>>(
     alloc: Global,
     files: &R,
     row: Row<'_>,
@@ -27,12 +28,13 @@ pub fn tell<R: Files>(
     let mut on_disk = OnDisk {
         alloc,
         files,
+        folder: row.name,
         store: DiskStore::new(alloc, files, folder),
     };
     tell_row(alloc, row, &mut on_disk, told)
 }
 
-impl<R: Files> Answers for OnDisk<'_, R> {
+impl<R: Files<File = File>> Answers for OnDisk<'_, R> {
     ghost stands = { λ _. Unit {0} };
 
     fn answer(&mut self, line: &str, said: &mut String) -> Result<(), NoAnswer> {
@@ -42,6 +44,9 @@ impl<R: Files> Answers for OnDisk<'_, R> {
             "put" => put(self.alloc, &mut self.store, first, words, said),
             "get" => get(self.alloc, &mut self.store, first, said),
             "remove" => remove(&mut self.store, first, said),
+            "many" => many(&mut self.store, first, words, said),
+            "other" => other(self.alloc, self.files, self.folder, first, said),
+            "told" => say_told(&self.store, said),
             "file" => say_file(self.alloc, self.files, first, said),
             _ => beside(self.alloc, self.files, word, first, words, said),
         }
@@ -64,7 +69,7 @@ fn say_became(
 }
 
 /// A record is put.
-fn put<R: Files>(
+fn put<R: Files<File = File>>(
     alloc: Global,
     store: &mut DiskStore<'_, R>,
     id: &str,
@@ -77,7 +82,7 @@ fn put<R: Files>(
 }
 
 /// A record is got, with the bytes that the store gives.
-fn get<R: Files>(
+fn get<R: Files<File = File>>(
     alloc: Global,
     store: &mut DiskStore<'_, R>,
     id: &str,
@@ -91,7 +96,7 @@ fn get<R: Files>(
 }
 
 /// A record is removed.
-fn remove<R: Files>(
+fn remove<R: Files<File = File>>(
     store: &mut DiskStore<'_, R>,
     id: &str,
     said: &mut String,
@@ -100,8 +105,58 @@ fn remove<R: Files>(
     say_became(became, store.faults(), said)
 }
 
+/// Records without bytes are put and removed under so many ids, up to the first refusal.
+fn many<R: Files<File = File>>(
+    store: &mut DiskStore<'_, R>,
+    first: &str,
+    count: &str,
+    said: &mut String,
+) -> Result<(), NoAnswer> {
+    let first = first.parse::<u64>()?;
+    let mut became = Ok(());
+    for id in first..first.saturating_add(count.parse::<u64>()?) {
+        became = store.put(id, &[]);
+        if became.is_ok() {
+            became = store.remove(id);
+        }
+        if became.is_err() {
+            break;
+        }
+    }
+    say_became(became, store.faults(), said)
+}
+
+/// A record without bytes is put by another store over the folder.
+fn other<R: Files<File = File>>(
+    alloc: Global,
+    files: &R,
+    folder: &str,
+    id: &str,
+    said: &mut String,
+) -> Result<(), NoAnswer> {
+    let mut other = DiskStore::new(alloc, files, String::from_str(alloc, folder)?);
+    let became = other.put(id.parse::<u64>()?, &[]);
+    say_became(became, other.faults(), said)
+}
+
+/// The lines of the faults so far, with a bar between them.
+fn say_told<R: Files<File = File>>(
+    store: &DiskStore<'_, R>,
+    said: &mut String,
+) -> Result<(), NoAnswer> {
+    let mut is_first = true;
+    for line in store.told()?.lines() {
+        if !is_first {
+            said.push_str(" | ")?;
+        }
+        is_first = false;
+        said.push_str(line.trim_start())?;
+    }
+    Ok(())
+}
+
 /// What a file holds.
-fn say_file<R: Files>(
+fn say_file<R: Files<File = File>>(
     alloc: Global,
     files: &R,
     path: &str,
@@ -120,8 +175,8 @@ fn say_file<R: Files>(
     Ok(())
 }
 
-/// Whether a folder was made, a file written past the store, or a second name given.
-fn beside<R: Files>(
+/// Whether a folder was made, a file written past the store or taken away, or a second name given.
+fn beside<R: Files<File = File>>(
     alloc: Global,
     files: &R,
     word: &str,
@@ -132,6 +187,7 @@ fn beside<R: Files>(
     let is_done = match word {
         "folder" => fs::create_dir(files, path).is_ok(),
         "write" => fs::write(files, path, &bytes_of(alloc, words)?).is_ok(),
+        "delete" => fs::remove_file(files, path).is_ok(),
         "link" => fs::hard_link(files, path, words).is_ok(),
         _ => return Err(NoAnswer::NotSpelled),
     };

@@ -7,10 +7,11 @@ use fw_lines::ReadFault;
 use row_words::{Row, declarations, rows_of, tell_name};
 use std::alloc::{AllocError, Global};
 use std::fmt::Write;
+use std::fs::File;
 use std::rt::Files;
 
 /// Tells the rows of a file.
-pub fn tell_file<R: Files>(
+pub fn tell_file<R: Files<File = File>>(
     alloc: Global,
     files: &R,
     path: &str,
@@ -29,7 +30,7 @@ pub fn tell_file<R: Files>(
 }
 
 /// Tells the answers to the lines of a row.
-fn tell_row<R: Files>(
+fn tell_row<R: Files<File = File>>(
     alloc: Global,
     files: &R,
     family: &str,

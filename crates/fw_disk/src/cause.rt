@@ -1,0 +1,175 @@
+//! Why a call of the store failed.
+ghost use Rattle.std.specs.Prelude.{◌≡◌, IsOk, ◌↔◌};
+ghost use Rattle.fw_disk.specs.declared.cause.Refusal.TheVariants.{NoMemory};
+
+use crate::Difference;
+use std::alloc::{AllocError, AllocFailed};
+use std::fmt;
+use std::io::{self, ErrorKind};
+
+/// The folder, or a file in it.
+#[derive(Clone, Copy)]
+pub enum Place {
+    /// The folder itself.
+    Folder,
+    /// The file of the record under an id.
+    Record(u64),
+    /// The file beside it, in which the record is written first.
+    Beside(u64),
+    /// The file that has a line for each record.
+    Run,
+    /// The file beside that one, in which it is written anew.
+    RunBeside,
+}
+
+/// What is wrong at a place.
+#[derive(Clone, Copy)]
+pub enum Trouble {
+    /// The system refused a call.
+    System(io::Error),
+    /// Another process has the folder.
+    Locked,
+    /// The folder holds a record of an earlier run.
+    Used,
+    /// Another folder stands there than the one that this run began in.
+    Moved,
+    /// The record is not there.
+    Gone,
+    /// The file is none of a record.
+    Differs(Difference),
+    /// The file is that of another record than this run put there.
+    Foreign,
+}
+
+/// Why a call of the system was of no use.
+#[derive(Clone, Copy)]
+pub struct Cause {
+    /// Where.
+    pub place: Place,
+    /// What is wrong there.
+    pub trouble: Trouble,
+}
+
+/// Why a call was refused.
+#[derive(Clone, Copy)]
+pub enum Refusal {
+    /// The files failed, or hold no record.
+    Failed(Cause),
+    /// There was no memory.
+    NoMemory,
+}
+
+/// A call of the store.
+#[derive(Clone, Copy)]
+pub enum Call {
+    /// `put`.
+    Put,
+    /// `get`.
+    Get,
+    /// `remove`.
+    Remove,
+}
+
+/// A call that failed, and why.
+#[derive(Clone, Copy)]
+pub struct Fault {
+    /// The call.
+    pub call: Call,
+    /// The id that it was for.
+    pub id: u64,
+    /// Why it failed.
+    pub cause: Cause,
+}
+
+impl Refusal {
+    /// Something is wrong at a place.
+    pub(crate) const fn at(place: Place, trouble: Trouble) -> Self {
+        Refusal::Failed(Cause { place, trouble })
+    }
+
+    /// The system refused a call at a place.
+    pub(crate) fn of(place: Place, error: io::Error) -> Self {
+        match error.kind() {
+            ErrorKind::OutOfMemory => Refusal::NoMemory,
+            _ => Refusal::at(place, Trouble::System(error)),
+        }
+    }
+
+    /// The system refused a call on the file of a record, which may be gone.
+    pub(crate) fn of_record(place: Place, error: io::Error) -> Self {
+        match error.kind() {
+            ErrorKind::NotFound => Refusal::at(place, Trouble::Gone),
+            _ => Refusal::of(place, error),
+        }
+    }
+}
+
+impl Trouble {
+    /// Whether a file is not there.
+    pub fn is_gone(&self) -> bool {
+        match self {
+            Trouble::Gone => true,
+            _ => false,
+        }
+    }
+}
+
+impl From<AllocError> for Refusal {
+    ghost from_gives = { λ _ e. e ≡ NoMemory };
+
+    fn from(_: AllocError) -> Self {
+        Refusal::NoMemory
+    }
+}
+
+impl<T: Drop> From<AllocFailed<T>> for Refusal {
+    ghost from_gives = { λ _ e. e ≡ NoMemory };
+
+    fn from(_: AllocFailed<T>) -> Self {
+        Refusal::NoMemory
+    }
+}
+
+impl fmt::Display for Call {
+    fn fmt<W: fmt::Write>(&self, f: &mut fmt::Formatter<W>) -> fmt::Result {
+        f.write_str(match self {
+            Call::Put => "put",
+            Call::Get => "get",
+            Call::Remove => "remove",
+        })
+    }
+}
+
+impl fmt::Display for Place {
+    fn fmt<W: fmt::Write>(&self, f: &mut fmt::Formatter<W>) -> fmt::Result {
+        match self {
+            Place::Folder => Ok(()),
+            Place::Record(id) => write!(f, "/{id}"),
+            Place::Beside(id) => write!(f, "/{id}.new"),
+            Place::Run => write!(f, "/run"),
+            Place::RunBeside => write!(f, "/run.new"),
+        }
+    }
+}
+
+impl fmt::Display for Trouble {
+    fn fmt<W: fmt::Write>(&self, f: &mut fmt::Formatter<W>) -> fmt::Result {
+        match self {
+            Trouble::System(error) => write!(f, "{error}"),
+            Trouble::Locked => f.write_str("another process works in this folder"),
+            Trouble::Used => f.write_str(
+                "a record of an earlier run, and a run wants a folder without records",
+            ),
+            Trouble::Moved => f.write_str("not the folder that this run began in"),
+            Trouble::Gone => f.write_str("gone"),
+            Trouble::Differs(Difference::Short) => f.write_str("too short for its record"),
+            Trouble::Differs(Difference::Long) => f.write_str("too long for its record"),
+            Trouble::Differs(Difference::Digest) => f.write_str(
+                "its digest is not that of its bytes",
+            ),
+            Trouble::Foreign => f.write_str(
+                "not the record that this run wrote there, by its digest",
+            ),
+        }
+    }
+}

@@ -1,0 +1,30 @@
+# fish: made by man/make from man/words
+complete -c falkirk -n 'not __fish_seen_subcommand_from run endure gen denote check' -f
+complete -c falkirk -n 'not __fish_seen_subcommand_from run endure gen denote check' -a run -d 'takes the steps of the schedule one by one, and prints what the outputs acknowledge'
+complete -c falkirk -n 'not __fish_seen_subcommand_from run endure gen denote check' -a endure -d 'the same, and goes on where the store fails in a step'
+complete -c falkirk -n 'not __fish_seen_subcommand_from run endure gen denote check' -a gen -d 'runs generated work (SIZE from 1 to 100000), and prints one line on it'
+complete -c falkirk -n 'not __fish_seen_subcommand_from run endure gen denote check' -a denote -d 'prints what the flow means of its inputs, whatever the schedule'
+complete -c falkirk -n 'not __fish_seen_subcommand_from run endure gen denote check' -a check -d 'reads the flow, and prints its nodes'
+complete -c falkirk -n 'not __fish_seen_subcommand_from run endure gen denote check' -l help -d 'prints this, and ends'
+complete -c falkirk -n 'not __fish_seen_subcommand_from run endure gen denote check' -s h -d 'the same'
+complete -c falkirk -n 'not __fish_seen_subcommand_from run endure gen denote check' -l version -d 'prints the version, and the kit that the programs are built with, and ends'
+complete -c falkirk -n 'not __fish_seen_subcommand_from run endure gen denote check' -l quiet -d 'says nothing of its own on standard error: the line of the status alone'
+complete -c falkirk -n 'not __fish_seen_subcommand_from run endure gen denote check' -l verbose -d 'names the idle steps of a run behind it, each with its line and the cause'
+complete -c falkirk -n 'not __fish_seen_subcommand_from run endure gen denote check' -l json -d 'prints each line as an object of JSON'
+complete -c falkirk -n 'not __fish_seen_subcommand_from run endure gen denote check' -a - -d 'takes the last text of the command from standard input'
+complete -c falkirk -n '__fish_seen_subcommand_from run endure gen denote check' -F
+complete -c falkirk_disk -n 'not __fish_seen_subcommand_from run endure gen denote check' -f
+complete -c falkirk_disk -n 'not __fish_seen_subcommand_from run endure gen denote check' -a run -d 'takes the steps of the schedule one by one, and prints what the outputs acknowledge'
+complete -c falkirk_disk -n 'not __fish_seen_subcommand_from run endure gen denote check' -a endure -d 'the same, and goes on where the store fails in a step'
+complete -c falkirk_disk -n 'not __fish_seen_subcommand_from run endure gen denote check' -a gen -d 'runs generated work (SIZE from 1 to 100000), and prints one line on it'
+complete -c falkirk_disk -n 'not __fish_seen_subcommand_from run endure gen denote check' -a denote -d 'prints what the flow means of its inputs, whatever the schedule'
+complete -c falkirk_disk -n 'not __fish_seen_subcommand_from run endure gen denote check' -a check -d 'reads the flow, and prints its nodes'
+complete -c falkirk_disk -n 'not __fish_seen_subcommand_from run endure gen denote check' -l help -d 'prints this, and ends'
+complete -c falkirk_disk -n 'not __fish_seen_subcommand_from run endure gen denote check' -s h -d 'the same'
+complete -c falkirk_disk -n 'not __fish_seen_subcommand_from run endure gen denote check' -l version -d 'prints the version, and the kit that the programs are built with, and ends'
+complete -c falkirk_disk -n 'not __fish_seen_subcommand_from run endure gen denote check' -l quiet -d 'says nothing of its own on standard error: the line of the status alone'
+complete -c falkirk_disk -n 'not __fish_seen_subcommand_from run endure gen denote check' -l verbose -d 'names the idle steps of a run behind it, each with its line and the cause'
+complete -c falkirk_disk -n 'not __fish_seen_subcommand_from run endure gen denote check' -l json -d 'prints each line as an object of JSON'
+complete -c falkirk_disk -n 'not __fish_seen_subcommand_from run endure gen denote check' -a - -d 'takes the last text of the command from standard input'
+complete -c falkirk_disk -n '__fish_seen_subcommand_from run endure gen denote check' -F
+complete -c falkirk_disk -n 'not __fish_seen_subcommand_from run endure gen denote check' -a '(__fish_complete_directories)'

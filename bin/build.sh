@@ -1,4 +1,4 @@
-# Read by bin/falkirk and bin/install, which set $top, $name, $quiet and say(): makes the programs.
+# Read by bin/falkirk, bin/install and bin/refuse-memory, which set $top, $name, $quiet and say(): makes the programs.
 # choose sets $program to the path of the program: the proved build where it is there and no source is newer, else a build without
 # proofs in out/, which is made once for both programs. FALKIRK_BUILD=proved proves and builds here and now.
 
@@ -155,17 +155,22 @@ END
     done
 }
 
+# compile CRATE STATUS: the program of a crate of $room/repo, which without words ends with this status, as $room/program
+compile() {
+    echo "1 of 3, reading the sources" >"$room/part"
+    (cd "$room/repo/crates/$1" && exec "$copy/bin/rt" try "$1") >"$room/log" 2>&1 </dev/null &
+    pid=$!
+    follow
+    grep -q "^run=ended status=$2 " "$room/log" &&
+        "$kit/bin/rattle-link" --target x86_64-unknown-linux-gnu --toolchain "$kit/toolchain" -o "$room/program" \
+            "$room/program.o" "$kit/c/libos_c.a" "$kit/c/liblibc_c.a" >>"$room/log" 2>&1
+}
+
 build_unproved() {
     [ -n "$quiet" ] || say "no proved build of these sources is here: building both programs without proofs, once (rt ci proves)"
     : >"$room/log"
     write_both && copy_kit || return
-    echo "1 of 3, reading the sources" >"$room/part"
-    (cd "$room/repo/crates/both" && exec "$copy/bin/rt" try both) >"$room/log" 2>&1 </dev/null &
-    pid=$!
-    follow
-    grep -q '^run=ended status=2 ' "$room/log" &&
-        "$kit/bin/rattle-link" --target x86_64-unknown-linux-gnu --toolchain "$kit/toolchain" -o "$room/program" \
-            "$room/program.o" "$kit/c/libos_c.a" "$kit/c/liblibc_c.a" >>"$room/log" 2>&1 &&
+    compile both 2 &&
         touch -r "$room/begun" "$room/program" && cp -p "$room/program" "$top/out/program.$$" &&
         ln -f "$top/out/program.$$" "$top/out/falkirk-unproved" && mv -f "$top/out/program.$$" "$top/out/falkirk_disk-unproved"
 }

@@ -7,23 +7,23 @@ use Rattle.fw_time.specs.Stamp.{Stamp}
 use Rattle.fw_time.proofs.EachLaws.{each-weaker}
 use Rattle.fw_flow.specs.declared.step.Step.{Step}
 use Rattle.fw_flow.specs.declared.step.Step.TheVariants.{Inject, Deliver, Notify, Progress as ProgressStep, Persist, Recover, Ack}
-use Rattle.fw_flow.specs.Dataflow.{System, receiver, node_ids}
+use Rattle.fw_flow.specs.Dataflow.{System, kind_of, receiver, node_ids, is_output_kind}
 use Rattle.fw_flow.specs.WellFormed.{IsWellFormedSystem}
 use Rattle.fw_flow.specs.WholeBags.{Timed}
 use Rattle.fw_model.specs.Acknowledgements.{IsDenoted, stamps_acknowledged, first_stamps, Shows}
 use Rattle.fw_model.specs.Auto.{IsAutoRun}
-use Rattle.fw_model.specs.Denotation.{Family, bag_at}
+use Rattle.fw_model.specs.Denotation.{Family, IsDenotation, bag_at}
 use Rattle.fw_model.specs.Machine.{Machine, first_state, is_failed, ack_count_of}
 use Rattle.fw_model.specs.Reached.{IsReached}
-use Rattle.fw_model.specs.Steps.{Effect, silent, acked, cuts, lows, Outcome, did, idle, LeadsTo, StepsTo}
+use Rattle.fw_model.specs.Steps.{Effect, silent, acked, cuts, lows, Outcome, did, idle, LeadsTo, StepsTo, Run}
 use Rattle.fw_model.proofs.AutoLaws.{auto-one, auto-runs}
 use Rattle.fw_model.proofs.ChoosingLaws.{failed-recovered, reached-one_next}
 use Rattle.fw_model.proofs.GoingOn.{runs-go_on}
 use Rattle.fw_model.proofs.ListedLaws.{IsIn, in-map}
 use Rattle.fw_model.proofs.RecoveryLaws.{acknowledged-denoted, edge-there}
 use Rattle.fw_model.proofs.RunLaws.{acknowledgements-in_order}
-use Rattle.fw_rest.specs.Rest.{is_of_auto, AreAllLive, IsAcknowledged}
-use Rattle.fw_rest.specs.StepsToRest.{most_events, stamps_due, count_in_flight, steps_to_rest, steps_in_all}
+use Rattle.fw_rest.specs.Rest.{is_of_auto, AreAllLive, HasNothingToDo, IsAcknowledged, HasAcknowledgedAll, HasShownAll}
+use Rattle.fw_rest.specs.StepsToRest.{most_events, stamps_due, count_in_flight, steps_to_rest, steps_in_all, steps_enough}
 use Rattle.fw_rest.specs.Coming.{AllComesOfEachState}
 use Rattle.fw_rest.specs.LawsOfRest.{AcknowledgedIsShown, EachStateGoesOn, RecoveryComesToRest, WhatIsGivenIsAcknowledged}
 use Rattle.fw_rest.proofs.AckLaws.{rest-acknowledged}
@@ -33,12 +33,12 @@ use Rattle.fw_rest.proofs.MostEventsLaws.{sum-at_most}
 
 -- ---- all nodes are live
 
-none-failed : (ps : List ℕ) (p : ℕ) → slice_index_or (map (λ q. false) ps) p false ≡ false
+pub none-failed : (ps : List ℕ) (p : ℕ) → slice_index_or (map (λ q. false) ps) p false ≡ false
 none-failed [] p = refl
 none-failed (q ∷ ps) zero = refl
 none-failed (q ∷ ps) (suc p) = none-failed ps p
 
-recovered-live : (sys : System) → IsWellFormedSystem sys → (state : Machine) → IsReached sys state → (next : Machine) (outcome : Outcome)
+pub recovered-live : (sys : System) → IsWellFormedSystem sys → (state : Machine) → IsReached sys state → (next : Machine) (outcome : Outcome)
     → StepsTo sys state Recover next outcome → AreAllLive sys next
 recovered-live sys w state r next (did effect) t p l = ap (λ (m : Machine). is_failed m p) t.7 ∙ none-failed (node_ids sys.flow) p
 recovered-live sys w state r next idle t p l = ap (λ (m : Machine). is_failed m p) t.1 ∙ elim (cases_Bool (is_failed state p)) [
@@ -66,7 +66,7 @@ auto-failed sys (suc most) (x ∷ steps) state last run =
     let auto = auto-first sys state x run.0 run.1 first in
     auto-failed sys most steps run.0 last run.3 ∙ took-failed sys state x auto run.0 run.1 first.leads
 
-auto-live : (sys : System) (most : ℕ) (steps : List Step) (state last : Machine) → IsAutoRun sys state most steps last → AreAllLive sys state → AreAllLive sys last
+pub auto-live : (sys : System) (most : ℕ) (steps : List Step) (state last : Machine) → IsAutoRun sys state most steps last → AreAllLive sys state → AreAllLive sys last
 auto-live sys most steps state last run live p l = ap (λ (fs : List Bool). slice_index_or fs p false) (auto-failed sys most steps state last run) ∙ live p l
 
 -- ---- how many steps it takes
@@ -163,20 +163,47 @@ recovery-comes_to_rest sys family w den state r most l also last g =
       auto-comes_to_rest sys family w den g.recovered again most (omega arith) g.steps last g.taken,
     )
 
+-- a run that comes to rest has acknowledged all, and shown it
+rest-shown : (sys : System) (family : Family) → IsWellFormedSystem sys → IsDenotation sys family
+    → (steps : List Step) (outcomes : List Outcome) (last : Machine) → Run sys (first_state sys) steps outcomes last → AreAllLive sys last → HasNothingToDo sys last
+    → (o : ℕ) → o < length sys.flow.nodes → is_output_kind (kind_of sys.flow o) ≡ true
+    → HasAcknowledgedAll sys family last o × HasShownAll sys family outcomes o
+rest-shown sys family w den steps outcomes last run live nothing o there output =
+    let all = rest-acknowledged sys family w den last (steps, outcomes, run) live nothing o there output in
+    let shown = acknowledged-shown sys family w den steps outcomes last run o in (
+      all,
+      record {
+        recs = λ e is. each-weaker (λ (r : Timed). IsAcknowledged (ack_count_of last o) r.at) (λ (r : Timed). Shows o r.at (bag_at family e r.at) outcomes) (family e)
+            (λ r k. subst (λ t. Shows o t (bag_at family e t) outcomes) (sym k.2) (shown e there is k.0 k.1)) (all.recs e is);
+        batches = λ kind e is x k. shown e there is x (all.batches kind x k);
+        stamps = acknowledgements-in_order sys steps outcomes last run o ∙ ap first_stamps all.count;
+      },
+    )
+
 pub given-acknowledged : WhatIsGivenIsAcknowledged
 given-acknowledged sys family w den before outcomes state run most l also last g o there output =
     let rest = recovery-comes_to_rest sys family w den state (before, outcomes, run) most l also last g in
     let whole = runs-go_on sys (first_state sys) state last before (Recover ∷ g.steps) outcomes also run g.runs in
-    let all = rest-acknowledged sys family w den last (before ++ Recover ∷ g.steps, outcomes ++ also, whole) rest.0 rest.1 o there output in
-    let shown = acknowledged-shown sys family w den (before ++ Recover ∷ g.steps) (outcomes ++ also) last whole o in (
-      all,
-      record {
-        recs = λ e is. each-weaker (λ (r : Timed). IsAcknowledged (ack_count_of last o) r.at) (λ (r : Timed). Shows o r.at (bag_at family e r.at) (outcomes ++ also)) (family e)
-            (λ r k. subst (λ t. Shows o t (bag_at family e t) (outcomes ++ also)) (sym k.2) (shown e there is k.0 k.1)) (all.recs e is);
-        batches = λ kind e is x k. shown e there is x (all.batches kind x k);
-        stamps = acknowledgements-in_order sys (before ++ Recover ∷ g.steps) (outcomes ++ also) last whole o ∙ ap first_stamps all.count;
-      },
-    )
+    rest-shown sys family w den (before ++ Recover ∷ g.steps) (outcomes ++ also) last whole rest.0 rest.1 o there output
+
+-- Whatever at most so many steps led to a state, failures among them: where no node is failed there, and `auto` may take enough steps behind
+-- so many, each output has then acknowledged all that is denoted at it, and has shown it.
+pub enough-acknowledged : (sys : System) (family : Family) → IsWellFormedSystem sys → IsDenotation sys family
+    → (before : List Step) (outcomes : List Outcome) (state : Machine) → Run sys (first_state sys) before outcomes state → AreAllLive sys state
+    → (count most : ℕ) → length before ≤ count → steps_enough sys family count ≤ most
+    → (steps : List Step) (also : List Outcome) (last : Machine) → IsAutoRun sys state most steps last → Run sys state steps also last
+    → (o : ℕ) → o < length sys.flow.nodes → is_output_kind (kind_of sys.flow o) ≡ true
+    → HasAcknowledgedAll sys family last o × HasShownAll sys family (outcomes ++ also) o
+unfolding steps_enough
+enough-acknowledged sys family w den before outcomes state run live count most few l steps also last taken more o there output =
+    let fewer = mul-le-mul_right (length sys.flow.nodes) few in
+    let enough = at_most (steps_in_all sys family) (within-all sys family state) (few_in_flight sys w before outcomes state run) fewer l in
+    let whole = runs-go_on sys (first_state sys) state last before steps outcomes also run more in
+    let nothing = auto-comes_to_rest sys family w den state (before, outcomes, run) most enough steps last taken in
+    rest-shown sys family w den (before ++ steps) (outcomes ++ also) last whole (auto-live sys most steps state last taken live) nothing o there output
+  where
+    at_most : {rest writes each both most : ℕ} (all : ℕ) → rest ≤ all + writes → writes ≤ each → each ≤ both → all + both ≤ most → rest ≤ most
+    at_most all a b c d = omega arith
 
 pub all-comes : AllComesOfEachState
 all-comes sys family w den steps outcomes state run =

@@ -70,3 +70,7 @@ steps_to_rest sys family state =
 unfoldable pub steps_in_all : System → Family → ℕ
 steps_in_all sys family =
     most_events sys family * (length sys.flow.nodes + 3) + (length sys.flow.nodes + 1) + sum_over (stamps_due sys family) (node_ids sys.flow)
+
+-- how many steps of `auto` are enough behind so many steps, which leave at most one write of each node in flight each
+unfoldable pub steps_enough : System → Family → ℕ → ℕ
+steps_enough sys family before = steps_in_all sys family + before * length sys.flow.nodes

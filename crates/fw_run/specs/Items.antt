@@ -1,6 +1,7 @@
 -- The steps to which the items of a schedule come.
-use Rattle.std.specs.Prelude.{◌≡◌, List, [], ◌∷◌, ◌++◌}
+use Rattle.std.specs.Prelude.{◌≡◌, Bool, true, false, List, [], ◌∷◌, ◌++◌}
 use Rattle.fw_flow.specs.declared.step.Step.{Step}
+use Rattle.fw_flow.specs.declared.step.Step.TheVariants.{Fail, Recover}
 use Rattle.fw_flow.specs.Dataflow.{System}
 use Rattle.fw_schedule.specs.declared.item.Item.{Item}
 use Rattle.fw_schedule.specs.declared.item.Item.TheVariants.{One, Auto}
@@ -36,3 +37,14 @@ pub record ItemsRun (sys : System) (state : Machine) (items : List Item) : Type 
   pub last : Machine
   pub comes : ComesTo sys state items steps last
   pub run : Run sys state steps outcomes last
+
+-- whether no node is failed after the item, by whether none is before it: after a failure one is, after a recovery none
+abbrev pub live_after : Bool → Item → Bool
+live_after live (One (Fail nodes)) = false
+live_after live (One Recover) = true
+live_after live item = live
+
+-- the same of items, so that behind the last failure among them comes a recovery
+abbrev pub all_live_after : Bool → List Item → Bool
+all_live_after live [] = live
+all_live_after live (item ∷ items) = all_live_after (live_after live item) items

@@ -1,0 +1,5 @@
+pub mod Feeding
+pub mod OpenRuns
+pub mod FedRuns
+pub mod FedEngines
+pub mod LawsOfFeeding

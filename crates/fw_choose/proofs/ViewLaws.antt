@@ -41,6 +41,7 @@ use Rattle.fw_policy.specs.Entries.{AreEntriesOf, uncollected}
 use Rattle.fw_record.specs.OfNode.{AreOfDomain}
 use Rattle.fw_policy.specs.Shaped.{FitsKind, IsWrittenOf, IsViewFor, AreViewsFrom, FitsFlow}
 use Rattle.fw_policy.specs.View.{IsBorderOf, IsLostAt, IsNodeViewOf, AreNodeViewsFrom, IsViewOf, base_of}
+use Rattle.fw_policy.proofs.ReadLaws.{entries-read}
 use Rattle.fw_keep.specs.declared.entry.Entry.{Entry}
 use Rattle.fw_keep.specs.Stored.{Records}
 use Rattle.fw_progress.specs.Counts.{sent_of}
@@ -90,7 +91,7 @@ view-of sys records state running lost view entries v e s = record {
   reached = s.reached;
   one_each = v.one_each ∙ ap (λ (f : Dataflow). length f.nodes) s.flow;
   nodes = v.of_state sys records state s;
-  written = subst (λ es. AreEntriesOf sys state es (uncollected state)) (sym e) s.entries;
+  written = entries-read sys state entries (uncollected state) (subst (λ es. AreEntriesOf sys state es (uncollected state)) (sym e) s.entries);
 }
 
 -- so the choice is the one of each state

@@ -4,6 +4,7 @@ pub mod KnownLaws
 pub mod NumberLaws
 pub mod OfferLaws
 pub mod RangeLaws
+pub mod ReadLaws
 pub mod RecordLaws
 pub mod RecordedLaws
 pub mod ShapedLaws

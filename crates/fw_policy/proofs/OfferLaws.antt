@@ -53,8 +53,8 @@ use Rattle.fw_policy.specs.declared.view.Border.TheVariants.{Inner, Source, Outp
 use Rattle.fw_keep.specs.declared.entry.Entry.{Entry}
 use Rattle.fw_policy.specs.declared.view.NodeView.{NodeView}
 use Rattle.fw_model.specs.EventStamps.{IsOfCause}
-use Rattle.fw_policy.specs.Entries.{IsRecorded, AreEntriesOf}
-use Rattle.fw_policy.specs.View.{base_of, IsLostAt, IsBorderOf, IsNodeViewOf, AreNodeViewsFrom, IsViewOf}
+use Rattle.fw_policy.specs.Entries.{IsRecorded}
+use Rattle.fw_policy.specs.View.{base_of, IsLostAt, IsBorderOf, IsNodeViewOf, AreNodeViewsFrom, IsViewOf, AreReadAs}
 use Rattle.fw_policy.specs.Offering.{records_by, empty_record, holding, unlogged_stamps, below_all, IsRange, IsOfBatches, IsOfBound, OffersBy, IsOfferBy, AreOffersBy}
 use Rattle.fw_policy.proofs.BatchLaws.{batches-offered}
 use Rattle.fw_policy.proofs.NumberLaws.{numbered-covers, counted-arrive}
@@ -109,7 +109,7 @@ record AreOffersKnown (sys : System) (state : Machine) (lost : ℕ → Bool) (en
   pub well_formed : IsWellFormedSystem sys
   pub one_each : length offers ≡ length sys.flow.nodes
   pub each : (p : ℕ) → p < length sys.flow.nodes → Offers sys state lost entries offers p
-  pub written : AreEntriesOf sys state entries (filter not_collected state.writes)
+  pub written : AreReadAs sys state entries (filter not_collected state.writes)
   pub under : ArePairs (IsUnder sys) (filter not_collected state.writes)
   pub low : (p : ℕ) → p < length sys.flow.nodes → IsCandidate sys state (λ q. true) kept p (At (front_of state.low p))
   pub settled : (p : ℕ) → p < length sys.flow.nodes → IsCanonical (bounds_of sys.flow p) (front_of state.settled p)

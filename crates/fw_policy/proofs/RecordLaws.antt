@@ -18,7 +18,8 @@ use Rattle.fw_model.specs.Offers.{IsListed, Ascend}
 use Rattle.fw_keep.specs.declared.entry.Entry.{Entry}
 use Rattle.fw_keep.specs.declared.entry.Written.{Written}
 use Rattle.fw_keep.specs.declared.entry.Written.TheVariants as written
-use Rattle.fw_policy.specs.Entries.{IsRecorded, Holds, IsEntryOf, AreEntriesOf}
+use Rattle.fw_policy.specs.Entries.{IsRecorded}
+use Rattle.fw_policy.specs.View.{ReadsAs, IsReadAs, AreReadAs}
 use Rattle.fw_policy.specs.Offering.{record_in, record_by, records_by, holding}
 use Rattle.fw_policy.proofs.UnloggedLaws.{some-filtered}
 
@@ -30,13 +31,13 @@ IsOwn sys state p r = IsRecorded sys state p r.front r
 own-front : (sys : System) (state : Machine) (p : ℕ) (f : Front) (r : Recorded) → IsRecorded sys state p f r → IsRecorded sys state p r.front r
 own-front sys state p f r k = subst (λ (g : Front). IsRecorded sys state p g r) (sym k.front) k
 
-held-record : (sys : System) (state : Machine) (p : ℕ) (w : Written) (v : WrittenBy) → Holds sys state p w v
+held-record : (sys : System) (state : Machine) (p : ℕ) (w : Written) (v : WrittenBy) → ReadsAs sys state p w v
     → AllByRecursion (λ (r : Recorded). IsRecorded sys state p r.front r) (record_in w)
-held-record sys state p (written.Checkpoint r stamps sent) (checkpoint f low) h = (own-front sys state p f r h.recorded, tt)
+held-record sys state p (written.Checkpoint r stamps sent) (checkpoint f low) h = (own-front sys state p f r h, tt)
 held-record sys state p (written.Checkpoint r stamps sent) (logged_event s) h = absurd h
 held-record sys state p (written.Event event) v h = tt
 
-entry-record : (sys : System) (state : Machine) (p : ℕ) (entry : Entry) (write : Write) → IsEntryOf sys state entry write
+entry-record : (sys : System) (state : Machine) (p : ℕ) (entry : Entry) (write : Write) → IsReadAs sys state entry write
     → AllByRecursion (λ (r : Recorded). IsRecorded sys state p r.front r) (record_by p entry)
 entry-record sys state p entry write k =
     cond_both (entry.node == p && entry.acknowledged) (record_in entry.written) [] (AllByRecursion (λ (r : Recorded). IsRecorded sys state p r.front r))
@@ -46,7 +47,7 @@ entry-record sys state p entry write k =
     (held-record sys state write.node entry.written write.written k.holds))
     (λ e. tt)
 
-pub entries-recorded : (sys : System) (state : Machine) (p : ℕ) (entries : List Entry) (writes : List Write) → AreEntriesOf sys state entries writes
+pub entries-recorded : (sys : System) (state : Machine) (p : ℕ) (entries : List Entry) (writes : List Write) → AreReadAs sys state entries writes
     → AllByRecursion (λ (r : Recorded). IsRecorded sys state p r.front r) (records_by p entries)
 entries-recorded sys state p [] [] a = tt
 entries-recorded sys state p [] (write ∷ writes) a = absurd a
@@ -70,20 +71,20 @@ listed-either f [] ss i = inr i
 listed-either f (r ∷ rs) ss (inl e) = inl (inl e)
 listed-either f (r ∷ rs) ss (inr i) = elim (listed-either f rs ss i) [ inl k ↦ inl (inr k) | inr k ↦ inr k ]
 
-record-checkpoint : (sys : System) (state : Machine) (q p : ℕ) (f : Front) (w : Written) (v : WrittenBy) (far : Stage) → Holds sys state q w v → q ≡ p → is_counted kept far ≡ true
+record-checkpoint : (sys : System) (state : Machine) (q p : ℕ) (f : Front) (w : Written) (v : WrittenBy) (far : Stage) → ReadsAs sys state q w v → q ≡ p → is_counted kept far ≡ true
     → IsListed f (record_in w) → IsCheckpointAt kept p f q v far
-record-checkpoint sys state q p f (written.Checkpoint r stamps sent) (checkpoint g low) far h e k i = elim i [ inl d ↦ (e, sym (h.recorded).front ∙ d, k) | inr l ↦ absurd l ]
+record-checkpoint sys state q p f (written.Checkpoint r stamps sent) (checkpoint g low) far h e k i = elim i [ inl d ↦ (e, sym (h).front ∙ d, k) | inr l ↦ absurd l ]
 record-checkpoint sys state q p f (written.Checkpoint r stamps sent) (logged_event s) far h e k i = absurd h
 record-checkpoint sys state q p f (written.Event event) v far h e k i = absurd i
 
-checkpoint-record : (sys : System) (state : Machine) (q p : ℕ) (f : Front) (w : Written) (v : WrittenBy) (far : Stage) → Holds sys state q w v
+checkpoint-record : (sys : System) (state : Machine) (q p : ℕ) (f : Front) (w : Written) (v : WrittenBy) (far : Stage) → ReadsAs sys state q w v
     → IsCheckpointAt kept p f q v far → (q ≡ p) × (is_counted kept far ≡ true) × IsListed f (record_in w)
-checkpoint-record sys state q p f (written.Checkpoint r stamps sent) (checkpoint g low) far h k = (k.0, k.2, inl ((h.recorded).front ∙ k.1))
+checkpoint-record sys state q p f (written.Checkpoint r stamps sent) (checkpoint g low) far h k = (k.0, k.2, inl ((h).front ∙ k.1))
 checkpoint-record sys state q p f (written.Checkpoint r stamps sent) (logged_event s) far h k = absurd h
 checkpoint-record sys state q p f (written.Event event) (checkpoint g low) far h k = absurd h
 checkpoint-record sys state q p f (written.Event event) (logged_event s) far h k = absurd k
 
-entry-checkpoint : (sys : System) (state : Machine) (p : ℕ) (f : Front) (entry : Entry) (write : Write) → IsEntryOf sys state entry write
+entry-checkpoint : (sys : System) (state : Machine) (p : ℕ) (f : Front) (entry : Entry) (write : Write) → IsReadAs sys state entry write
     → IsListed f (record_by p entry) → IsItsCheckpoint kept p f write
 entry-checkpoint sys state p f entry write k =
     cond_both (entry.node == p && entry.acknowledged) (record_in entry.written) [] (λ rs. IsListed f rs → IsItsCheckpoint kept p f write)
@@ -93,14 +94,14 @@ entry-checkpoint sys state p f entry write k =
     (sym k.acknowledged ∙ a.1) i)
     (λ e i. absurd i)
 
-checkpoint-entry : (sys : System) (state : Machine) (p : ℕ) (f : Front) (entry : Entry) (write : Write) → IsEntryOf sys state entry write
+checkpoint-entry : (sys : System) (state : Machine) (p : ℕ) (f : Front) (entry : Entry) (write : Write) → IsReadAs sys state entry write
     → IsItsCheckpoint kept p f write → IsListed f (record_by p entry)
 checkpoint-entry sys state p f entry write k c =
     let a = checkpoint-record sys state write.node p f entry.written write.written write.stage k.holds c in
     let e : (entry.node == p && entry.acknowledged) ≡ true = and_from (entry.node == p) entry.acknowledged (eq-eqb entry.node p (k.node ∙ a.0)) (k.acknowledged ∙ a.1) in
     subst (λ b. IsListed f (cond b (record_in entry.written) [])) (sym e) a.2
 
-entries-some : (sys : System) (state : Machine) (p : ℕ) (f : Front) (entries : List Entry) (writes : List Write) → AreEntriesOf sys state entries writes
+entries-some : (sys : System) (state : Machine) (p : ℕ) (f : Front) (entries : List Entry) (writes : List Write) → AreReadAs sys state entries writes
     → IsListed f (records_by p entries) → HoldsOfOne (IsItsCheckpoint kept p f) writes
 entries-some sys state p f [] [] a i = absurd i
 entries-some sys state p f [] (write ∷ writes) a i = absurd a
@@ -110,7 +111,7 @@ entries-some sys state p f (entry ∷ entries) (write ∷ writes) a i = elim (li
   | inr k ↦ inr (entries-some sys state p f entries writes a.1 k)
 ]
 
-some-entries : (sys : System) (state : Machine) (p : ℕ) (f : Front) (entries : List Entry) (writes : List Write) → AreEntriesOf sys state entries writes
+some-entries : (sys : System) (state : Machine) (p : ℕ) (f : Front) (entries : List Entry) (writes : List Write) → AreReadAs sys state entries writes
     → HoldsOfOne (IsItsCheckpoint kept p f) writes → IsListed f (records_by p entries)
 some-entries sys state p f [] [] a i = absurd i
 some-entries sys state p f [] (write ∷ writes) a i = absurd a
@@ -128,7 +129,7 @@ its-uncollected test k p f n (logged_event s) far a = absurd a
 
 -- what the entries of node p list are the checkpoints that are kept
 pub listed-checkpoint : (sys : System) (state : Machine) (test : Stage → Bool) → test acknowledged ≡ true → (p : ℕ) (f : Front) (entries : List Entry) (writes : List Write)
-    → AreEntriesOf sys state entries (filter (λ (write : Write). test write.stage) writes) → IsListed f (records_by p entries) ↔ HasCheckpoint kept p f writes
+    → AreReadAs sys state entries (filter (λ (write : Write). test write.stage) writes) → IsListed f (records_by p entries) ↔ HasCheckpoint kept p f writes
 listed-checkpoint sys state test k p f entries writes a = (
   λ i. checkpoint-some kept p f writes (some-filtered (IsItsCheckpoint kept p f) (λ (write : Write). test write.stage) writes
       (entries-some sys state p f entries (filter (λ (write : Write). test write.stage) writes) a i)),
@@ -156,17 +157,17 @@ pairs-both R S (x ∷ xs) a b = (both xs a.0 b.0, pairs-both R S xs a.1 b.1)
 abbrev Rises : Bounds → Recorded → Recorded → Type 0
 Rises b r s = Within (frontier_of b r.front) (frontier_of b s.front) × (r.front ≢ s.front)
 
-held-rises : (sys : System) (state : Machine) (p q m : ℕ) (x y : Written) (v w : WrittenBy) → p < length sys.flow.nodes → q ≡ p → m ≡ p → Holds sys state q x v → Holds sys state m y w
+held-rises : (sys : System) (state : Machine) (p q m : ℕ) (x y : Written) (v w : WrittenBy) → p < length sys.flow.nodes → q ≡ p → m ≡ p → ReadsAs sys state q x v → ReadsAs sys state m y w
     → IsUnder sys q v m w → AllByRecursion (λ (r : Recorded). AllByRecursion (Rises (bounds_of sys.flow p) r) (record_in y)) (record_in x)
 held-rises sys state p q m (written.Checkpoint r stamps sent) (written.Checkpoint s others count) (checkpoint f k) (checkpoint g l) d e i a b u =
     let same : q ≡ m = e ∙ sym i in
     let lies = u.0 same (subst (λ n. n < length sys.flow.nodes) (sym e) d) in (
       (
         (
-          subst (λ (z : Front). Within (frontier_of (bounds_of sys.flow p) z) (frontier_of (bounds_of sys.flow p) s.front)) (sym (a.recorded).front)
-              (subst (λ (z : Front). Within (frontier_of (bounds_of sys.flow p) f) (frontier_of (bounds_of sys.flow p) z)) (sym (b.recorded).front)
+          subst (λ (z : Front). Within (frontier_of (bounds_of sys.flow p) z) (frontier_of (bounds_of sys.flow p) s.front)) (sym a.front)
+              (subst (λ (z : Front). Within (frontier_of (bounds_of sys.flow p) f) (frontier_of (bounds_of sys.flow p) z)) (sym b.front)
               (subst (λ n. Within (frontier_of (bounds_of sys.flow n) f) (frontier_of (bounds_of sys.flow n) g)) e lies)),
-          λ c. u.1 same (sym (a.recorded).front ∙ c ∙ (b.recorded).front),
+          λ c. u.1 same (sym a.front ∙ c ∙ b.front),
         ),
         tt,
       ),
@@ -177,7 +178,7 @@ held-rises sys state p q m (written.Checkpoint r stamps sent) (written.Checkpoin
 held-rises sys state p q m (written.Checkpoint r stamps sent) (written.Event event) v w d e i a b u = (tt, tt)
 held-rises sys state p q m (written.Event event) y v w d e i a b u = tt
 
-entry-rises : (sys : System) (state : Machine) (p : ℕ) (x y : Entry) (v w : Write) → p < length sys.flow.nodes → IsEntryOf sys state x v → IsEntryOf sys state y w
+entry-rises : (sys : System) (state : Machine) (p : ℕ) (x y : Entry) (v w : Write) → p < length sys.flow.nodes → IsReadAs sys state x v → IsReadAs sys state y w
     → IsUnder sys v.node v.written w.node w.written → AllByRecursion (λ (r : Recorded). AllByRecursion (Rises (bounds_of sys.flow p) r) (record_by p y)) (record_by p x)
 entry-rises sys state p x y v w d a b u =
     let A : List Recorded → List Recorded → Type 0 = λ rs ss. AllByRecursion (λ (r : Recorded). AllByRecursion (Rises (bounds_of sys.flow p) r) ss) rs in
@@ -202,8 +203,8 @@ each-nothing : (b : Bounds) (rs : List Recorded) → AllByRecursion (λ (r : Rec
 each-nothing b [] = tt
 each-nothing b (r ∷ rs) = (tt, each-nothing b rs)
 
-entry-under : (sys : System) (state : Machine) (p : ℕ) (x : Entry) (v : Write) (entries : List Entry) (writes : List Write) → p < length sys.flow.nodes → IsEntryOf sys state x v
-    → AreEntriesOf sys state entries writes → AllByRecursion (λ (w : Write). IsUnder sys v.node v.written w.node w.written) writes
+entry-under : (sys : System) (state : Machine) (p : ℕ) (x : Entry) (v : Write) (entries : List Entry) (writes : List Write) → p < length sys.flow.nodes → IsReadAs sys state x v
+    → AreReadAs sys state entries writes → AllByRecursion (λ (w : Write). IsUnder sys v.node v.written w.node w.written) writes
     → AllByRecursion (λ (r : Recorded). AllByRecursion (Rises (bounds_of sys.flow p) r) (records_by p entries)) (record_by p x)
 entry-under sys state p x v [] [] d k a u = each-nothing (bounds_of sys.flow p) (record_by p x)
 entry-under sys state p x v [] (write ∷ writes) d k a u = absurd a
@@ -221,7 +222,7 @@ ascend-in : (b : Bounds) (w : Written) → Ascend b (record_in w)
 ascend-in b (written.Checkpoint r stamps sent) = (tt, tt)
 ascend-in b (written.Event event) = tt
 
-pub entries-ascend : (sys : System) (state : Machine) (p : ℕ) (entries : List Entry) (writes : List Write) → p < length sys.flow.nodes → AreEntriesOf sys state entries writes
+pub entries-ascend : (sys : System) (state : Machine) (p : ℕ) (entries : List Entry) (writes : List Write) → p < length sys.flow.nodes → AreReadAs sys state entries writes
     → ArePairs (IsUnder sys) writes → Ascend (bounds_of sys.flow p) (records_by p entries)
 entries-ascend sys state p [] [] d a u = tt
 entries-ascend sys state p [] (write ∷ writes) d a u = absurd a
@@ -243,13 +244,13 @@ ascend-filter b test (r ∷ rs) a =
 abbrev pub HasStamps : System → ℕ → WrittenBy → Type 0
 HasStamps sys q v = (f : Front) (low : List Front) → v ≡ checkpoint f low → f ≢ no_stamps (bounds_of sys.flow q)
 
-held-stamps : (sys : System) (state : Machine) (q : ℕ) (w : Written) (v : WrittenBy) → Holds sys state q w v → HasStamps sys q v
+held-stamps : (sys : System) (state : Machine) (q : ℕ) (w : Written) (v : WrittenBy) → ReadsAs sys state q w v → HasStamps sys q v
     → AllByRecursion (λ (r : Recorded). r.front ≢ no_stamps (bounds_of sys.flow q)) (record_in w)
-held-stamps sys state q (written.Checkpoint r stamps sent) (checkpoint f low) h s = (λ e. s f low refl (sym (h.recorded).front ∙ e), tt)
+held-stamps sys state q (written.Checkpoint r stamps sent) (checkpoint f low) h s = (λ e. s f low refl (sym (h).front ∙ e), tt)
 held-stamps sys state q (written.Checkpoint r stamps sent) (logged_event n) h s = absurd h
 held-stamps sys state q (written.Event event) v h s = tt
 
-entry-stamps : (sys : System) (state : Machine) (p : ℕ) (entry : Entry) (write : Write) → IsEntryOf sys state entry write → HasStamps sys write.node write.written
+entry-stamps : (sys : System) (state : Machine) (p : ℕ) (entry : Entry) (write : Write) → IsReadAs sys state entry write → HasStamps sys write.node write.written
     → AllByRecursion (λ (r : Recorded). r.front ≢ no_stamps (bounds_of sys.flow p)) (record_by p entry)
 entry-stamps sys state p entry write k s =
     cond_both (entry.node == p && entry.acknowledged) (record_in entry.written) [] (AllByRecursion (λ (r : Recorded). r.front ≢ no_stamps (bounds_of sys.flow p)))
@@ -259,7 +260,7 @@ entry-stamps sys state p entry write k s =
     (held-stamps sys state write.node entry.written write.written k.holds s))
     (λ e. tt)
 
-pub entries-stamps : (sys : System) (state : Machine) (p : ℕ) (entries : List Entry) (writes : List Write) → AreEntriesOf sys state entries writes
+pub entries-stamps : (sys : System) (state : Machine) (p : ℕ) (entries : List Entry) (writes : List Write) → AreReadAs sys state entries writes
     → AllByRecursion (λ (x : Write). HasStamps sys x.node x.written) writes → AllByRecursion (λ (r : Recorded). r.front ≢ no_stamps (bounds_of sys.flow p)) (records_by p entries)
 entries-stamps sys state p [] [] a s = tt
 entries-stamps sys state p [] (write ∷ writes) a s = absurd a

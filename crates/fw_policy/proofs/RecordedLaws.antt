@@ -24,6 +24,7 @@ use Rattle.fw_model.proofs.LocalityLaws.{sends-causes}
 use Rattle.fw_model.proofs.LowLaws.{none-within, none-canonical}
 use Rattle.fw_model.specs.Offers.{IsListed, record_at}
 use Rattle.fw_policy.specs.Entries.{IsRecorded}
+use Rattle.fw_policy.specs.View.{}
 use Rattle.fw_policy.specs.Offering.{empty_record}
 use Rattle.fw_model.proofs.FilterLaws.{filter-none}
 use Rattle.fw_frontier.proofs.SameLaws.{same_front-itself, same_front-is}

@@ -24,8 +24,7 @@ use Rattle.fw_record.specs.Event.{stamp_of_event}
 use Rattle.fw_keep.specs.declared.entry.Entry.{Entry}
 use Rattle.fw_keep.specs.declared.entry.Written.{Written}
 use Rattle.fw_keep.specs.declared.entry.Written.TheVariants as written
-use Rattle.fw_policy.specs.Entries.{HasEventTold, Holds, IsEntryOf, AreEntriesOf, told_of}
-use Rattle.fw_policy.specs.View.{IsEventAt, IsUnlogged, IsLostAt}
+use Rattle.fw_policy.specs.View.{HasEventAt, IsEventAt, IsUnlogged, IsLostAt, ReadsAs, IsReadAs, AreReadAs}
 use Rattle.fw_policy.specs.Offering.{stamp_of_written, unlogged_by, unlogged_stamps}
 use Rattle.fw_model.proofs.SentStandLaws.{IsOne, one-contained, contained-one}
 use Rattle.fw_model.proofs.ThinnedLaws.{each-contained}
@@ -55,24 +54,6 @@ meets P Q (x ∷ xs) a (inr k) = meets P Q xs a.1 k
 each-there : {A : Type 0} (xs : List A) → AllByRecursion (Contains xs) xs
 each-there [] = tt
 each-there (x ∷ xs) = ((0, omega arith, refl), each-weaker (Contains xs) (Contains (x ∷ xs)) xs (λ y c. let l = c.1 in (suc c.0, omega arith, c.2)) (each-there xs))
-
--- ---- events as they are told
-
--- an event is told with its stamp
-pub told-stamp : (v : Happened) (event : Event) → told_of v ≡ Some event → stamp_of_event event ≡ event_stamp v
-told-stamp (happened.Inject s x) event k = absurd cc
-told-stamp (happened.Deliver e m) event k = let c : Deliver e m.at m.rec ≡ event = cc in ap stamp_of_event (sym c)
-told-stamp (happened.Notify p t) event k = let c : Notify t ≡ event = cc in ap stamp_of_event (sym c)
-
--- an event of this serial is in the history: one of node p at stamp t
-abbrev HasEventAt : Dataflow → ℕ → ℕ → Stamp → List SerialEvent → Type 0
-HasEventAt flow p serial t [] = ⊥
-HasEventAt flow p serial t (v ∷ h) = IsEventAt flow p serial t v ⊎ HasEventAt flow p serial t h
-
-event-told : (flow : Dataflow) (p s : ℕ) (event : Event) (h : List SerialEvent) → HasEventTold flow p s event h → HasEventAt flow p s (stamp_of_event event) h
-event-told flow p s event [] a = absurd a
-event-told flow p s event (v ∷ h) (inl a) = inl (record { same_serial = a.same_serial; node = a.node; stamp = sym (told-stamp v.event event a.told) })
-event-told flow p s event (v ∷ h) (inr a) = inr (event-told flow p s event h a)
 
 -- ---- logged or not
 
@@ -129,7 +110,7 @@ is-flying in_flight b e k n = refl
 is-flying acknowledged b e k n = let c : false ≡ true = sym (ap not e) ∙ k in cc
 is-flying collected b e k n = absurd (n refl)
 
-held-flies : (sys : System) (state : Machine) (q p : ℕ) (t : Stamp) (w : Written) (v : WrittenBy) (far : Stage) → Holds sys state q w v → q ≡ p → far ≡ in_flight
+held-flies : (sys : System) (state : Machine) (q p : ℕ) (t : Stamp) (w : Written) (v : WrittenBy) (far : Stage) → ReadsAs sys state q w v → q ≡ p → far ≡ in_flight
     → IsOne t (stamp_of_written w) → FliesAt sys state p t (record { node = q; written = v; stage = far })
 held-flies sys state q p t (written.Checkpoint r stamps sent) v far h e f i = absurd i
 held-flies sys state q p t (written.Event event) (checkpoint g low) far h e f i = absurd h
@@ -139,12 +120,12 @@ held-flies sys state q p t (written.Event event) (logged_event s) far h e f i = 
     node = e;
     flying = (refl, f);
     event = subst (λ (x : Stamp). HasEventAt sys.flow p s x state.history) k
-        (subst (λ n. HasEventAt sys.flow n s (stamp_of_event event) state.history) e (event-told sys.flow q s event state.history h));
+        (subst (λ n. HasEventAt sys.flow n s (stamp_of_event event) state.history) e h);
   }
   | inr k ↦ absurd k
 ]
 
-entry-flies : (sys : System) (state : Machine) (p : ℕ) (t : Stamp) (entry : Entry) (write : Write) → IsEntryOf sys state entry write → (write.stage ≡ collected → ⊥)
+entry-flies : (sys : System) (state : Machine) (p : ℕ) (t : Stamp) (entry : Entry) (write : Write) → IsReadAs sys state entry write → (write.stage ≡ collected → ⊥)
     → IsOne t (unlogged_by p entry) → FliesAt sys state p t write
 entry-flies sys state p t entry write k n =
     cond_both (entry.node == p && not entry.acknowledged) (stamp_of_written entry.written) [] (λ ss. IsOne t ss → FliesAt sys state p t write)
@@ -154,7 +135,7 @@ entry-flies sys state p t entry write k n =
     (is-flying write.stage entry.acknowledged k.acknowledged a.1 n) i)
     (λ e i. absurd i)
 
-entries-fly : (sys : System) (state : Machine) (p : ℕ) (t : Stamp) (entries : List Entry) (writes : List Write) → AreEntriesOf sys state entries writes
+entries-fly : (sys : System) (state : Machine) (p : ℕ) (t : Stamp) (entries : List Entry) (writes : List Write) → AreReadAs sys state entries writes
     → AllByRecursion (λ (x : Write). x.stage ≡ collected → ⊥) writes → IsOne t (flat_map (unlogged_by p) entries) → HoldsOfOne (FliesAt sys state p t) writes
 entries-fly sys state p t [] writes a n i = absurd i
 entries-fly sys state p t (entry ∷ entries) [] a n i = absurd a
@@ -169,7 +150,7 @@ record IsEntered (sys : System) (state : Machine) (p serial : ℕ) (ss : List St
   there : IsOne at ss
   event : HasEventAt sys.flow p serial at state.history
 
-held-entered : (sys : System) (state : Machine) (q p serial : ℕ) (w : Written) (v : WrittenBy) → Holds sys state q w v → q ≡ p → v ≡ logged_event serial
+held-entered : (sys : System) (state : Machine) (q p serial : ℕ) (w : Written) (v : WrittenBy) → ReadsAs sys state q w v → q ≡ p → v ≡ logged_event serial
     → IsEntered sys state p serial (stamp_of_written w)
 held-entered sys state q p serial (written.Checkpoint r stamps sent) (checkpoint g low) h e k = cc
 held-entered sys state q p serial (written.Checkpoint r stamps sent) (logged_event s) h e k = absurd h
@@ -179,7 +160,7 @@ held-entered sys state q p serial (written.Event event) (logged_event s) h e k =
       at = stamp_of_event event;
       there = inl refl;
       event = subst (λ n. HasEventAt sys.flow p n (stamp_of_event event) state.history) (ap (serial_in s) k)
-          (subst (λ n. HasEventAt sys.flow n s (stamp_of_event event) state.history) e (event-told sys.flow q s event state.history h));
+          (subst (λ n. HasEventAt sys.flow n s (stamp_of_event event) state.history) e h);
     }
   where
     serial_in : ℕ → WrittenBy → ℕ
@@ -190,7 +171,7 @@ held-entered sys state q p serial (written.Event event) (logged_event s) h e k =
 abbrev FliesFor : ℕ → ℕ → Write → Type 0
 FliesFor p serial x = (x.node ≡ p) × IsFlying serial x
 
-entries-entered : (sys : System) (state : Machine) (p serial : ℕ) (entries : List Entry) (writes : List Write) → AreEntriesOf sys state entries writes
+entries-entered : (sys : System) (state : Machine) (p serial : ℕ) (entries : List Entry) (writes : List Write) → AreReadAs sys state entries writes
     → HoldsOfOne (FliesFor p serial) writes → IsEntered sys state p serial (flat_map (unlogged_by p) entries)
 entries-entered sys state p serial [] [] a k = absurd k
 entries-entered sys state p serial [] (write ∷ writes) a k = absurd a
@@ -250,7 +231,7 @@ one-serial sys p serial t n (v ∷ h) b (inr k) = (
 
 -- what of a state the laws rest on
 pub record IsOfEntries (sys : System) (state : Machine) (p : ℕ) (entries : List Entry) (gone : List Stamp) : Type 0 where
-  pub written : AreEntriesOf sys state entries (filter not_collected state.writes)
+  pub written : AreReadAs sys state entries (filter not_collected state.writes)
   pub apart : ArePairs IsApart state.writes
   pub serials : AreSerialsBelow state.next state.history
   pub live : is_failed state p ≡ false → AllByRecursion (λ (v : SerialEvent). event_node sys.flow v.event ≡ p → IsLoggedFor p v.serial state.writes) state.history

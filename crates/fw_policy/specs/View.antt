@@ -1,6 +1,6 @@
 -- What an engine knows of a state of the machine, for what its nodes offer to a recovery.
-use Rattle.std.specs.Prelude.{◌≡◌, ◌↔◌, ℕ, suc, Bool, true, if◌then◌else◌, List, [], ◌∷◌, length}
-use Rattle.std.specs.List.{Contains}
+use Rattle.std.specs.Prelude.{◌≡◌, ◌↔◌, ◌⊎◌, ℕ, suc, Bool, true, if◌then◌else◌, List, [], ◌∷◌, length}
+use Rattle.std.specs.List.{AllZip, Contains}
 use Rattle.fw_time.specs.Stamp.{Stamp}
 use Rattle.fw_frontier.specs.Frontier.{Frontier}
 use Rattle.fw_flow.specs.declared.kind.Kind.{Kind}
@@ -10,16 +10,20 @@ use Rattle.fw_flow.specs.Dataflow.{System, Dataflow, kind_of, policy_of, node_fr
 use Rattle.fw_flow.specs.NodeFunction.{event_node, event_stamp}
 use Rattle.fw_flow.specs.Projection.{IsSentTable}
 use Rattle.fw_flow.specs.WellFormed.{IsWellFormedSystem}
-use Rattle.fw_model.specs.Choice.{IsLogged}
+use Rattle.fw_model.specs.Choice.{IsLogged, kept, is_counted}
 use Rattle.fw_model.specs.EventStamps.{AreStampsOf}
 use Rattle.fw_model.specs.History.{injected_count, is_exhausted}
-use Rattle.fw_model.specs.Machine.{Machine, SerialEvent, events, front_of, is_failed, ack_count_of}
+use Rattle.fw_model.specs.Machine.{Machine, SerialEvent, Write, checkpoint, logged_event, events, front_of, is_failed, ack_count_of}
+use Rattle.fw_model.specs.Machine.{Written as WrittenBy}
 use Rattle.fw_model.specs.Reached.{IsReached}
 use Rattle.fw_model.specs.Writes.{takes_checkpoints}
-use Rattle.fw_policy.specs.Entries.{AreEntriesOf, uncollected}
+use Rattle.fw_policy.specs.Entries.{IsRecorded, uncollected}
 use Rattle.fw_policy.specs.declared.view.Border.{Border}
 use Rattle.fw_policy.specs.declared.view.Border.TheVariants.{Inner, Source, Output}
+use Rattle.fw_record.specs.Event.{stamp_of_event}
 use Rattle.fw_keep.specs.declared.entry.Entry.{Entry}
+use Rattle.fw_keep.specs.declared.entry.Written.{Written}
+use Rattle.fw_keep.specs.declared.entry.Written.TheVariants as written
 use Rattle.fw_policy.specs.declared.view.NodeView.{NodeView}
 
 -- the base of a node, inside which its stamps may be thinned: what is settled where it takes checkpoints, and else its low
@@ -57,6 +61,28 @@ IsBorderOf sys state p OutputNumber (Output bound) = bound ≡ ack_count_of stat
 IsBorderOf sys state p OutputNumber border = ⊥
 IsBorderOf sys state p kind border = border ≡ Inner
 
+-- an event of this serial is in the history: one of node p at stamp t
+abbrev pub HasEventAt : Dataflow → ℕ → ℕ → Stamp → List SerialEvent → Type 0
+HasEventAt flow p serial t [] = ⊥
+HasEventAt flow p serial t (v ∷ h) = IsEventAt flow p serial t v ⊎ HasEventAt flow p serial t h
+
+-- what is read of an entry of node p is what the write holds: of a checkpoint what it records of the events inside, of an event its stamp
+abbrev pub ReadsAs : System → Machine → ℕ → Written → WrittenBy → Type 0
+ReadsAs sys state p (written.Checkpoint recorded stamps sent) (checkpoint f low) = IsRecorded sys state p f recorded
+ReadsAs sys state p (written.Checkpoint recorded stamps sent) (logged_event serial) = ⊥
+ReadsAs sys state p (written.Event event) (checkpoint f low) = ⊥
+ReadsAs sys state p (written.Event event) (logged_event serial) = HasEventAt sys.flow p serial (stamp_of_event event) state.history
+
+-- an entry is read as a write: it is acknowledged exactly where the write counts among those that are kept
+pub record IsReadAs (sys : System) (state : Machine) (entry : Entry) (write : Write) : Type 0 where
+  pub node : entry.node ≡ write.node
+  pub acknowledged : entry.acknowledged ≡ is_counted kept write.stage
+  pub holds : ReadsAs sys state write.node entry.written write.written
+
+-- one entry is read as each write, in order
+abbrev pub AreReadAs : System → Machine → List Entry → List Write → Type 0
+AreReadAs sys state entries writes = AllZip (IsReadAs sys state) entries writes
+
 -- what is known of node p is so in the state, where these nodes count as failed
 pub record IsNodeViewOf (sys : System) (state : Machine) (lost : ℕ → Bool) (p : ℕ) (node : NodeView) : Type 0 where
   pub stamps : AreStampsOf sys (events state.history) p (base_of sys state p) node.stamps
@@ -79,4 +105,4 @@ pub record IsViewOf (sys : System) (state : Machine) (lost : ℕ → Bool) (view
   pub reached : IsReached sys state
   pub one_each : length view ≡ length sys.flow.nodes
   pub nodes : AreNodeViewsFrom sys state lost 0 view
-  pub written : AreEntriesOf sys state entries (uncollected state)
+  pub written : AreReadAs sys state entries (uncollected state)

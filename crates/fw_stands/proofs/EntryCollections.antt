@@ -30,7 +30,7 @@ use Rattle.fw_collect.proofs.CollectLaws.{drops_what_is_collected}
 use Rattle.fw_stands.specs.Written.{IsToldAs, HasEventTold, Holds, IsEntryOf, uncollected, IsHeldAs, AreStored}
 use Rattle.fw_stands.proofs.SideBySide.{zip-weaker, zip-right, zip-both}
 use Rattle.fw_stands.proofs.WrittenStays.{told-below}
-use Rattle.fw_policy.proofs.UnloggedLaws.{told-stamp}
+use Rattle.fw_policy.proofs.ReadLaws.{told-stamp}
 use Rattle.fw_policy.specs.Entries.{AreEntriesOf}
 use Rattle.fw_stands.proofs.EntrySteps.{IsKeptAs, entries-stay, records-stay, left-stay}
 

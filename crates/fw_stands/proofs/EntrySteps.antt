@@ -55,7 +55,7 @@ use Rattle.fw_keep.proofs.StoredLaws.{equal_by_cmp}
 use Rattle.fw_stands.specs.Written.{told_of, IsToldAs, HasEventTold, Holds, IsEntryOf, AreEntriesOf, uncollected, IsRecordFor, IsHeldAs, AreHeld, AreStored}
 use Rattle.fw_stands.specs.Entries.{StaysWritten, HasStamps, entries_of_event, is_lost_of, without_lost_of}
 use Rattle.fw_stands.proofs.SideBySide.{zip-weaker, zip-left, zip-right, zip-both, zip-append, zip-gone, each-there}
-use Rattle.fw_policy.proofs.UnloggedLaws.{told-stamp}
+use Rattle.fw_policy.proofs.ReadLaws.{told-stamp}
 use Rattle.fw_stands.proofs.WrittenStays.{told-below, what_is_written_stays}
 
 -- ---- what stands for a write that stays

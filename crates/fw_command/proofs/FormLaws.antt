@@ -23,7 +23,8 @@ use Rattle.fw_lines.specs.declared.numeral.Number.{Number}
 use Rattle.fw_lines.specs.declared.numeral.Number.TheVariants.{Value, TooLarge, NotANumber}
 use Rattle.fw_lines.specs.Spelling.{is_numeral, number_of}
 use Rattle.fw_command.specs.Forms.{form, forms, three_names, matched_command}
-use Rattle.fw_command.specs.Words.{Command, TextNames, SystemNames, run, endure, denote, check, is_operand, check_of, denote_of, gen_of, run_of, endure_of, generate_by, command_of}
+use Rattle.fw_command.specs.Command.{Command, TextNames, SystemNames, run, endure, denote, check}
+use Rattle.fw_command.specs.Words.{is_operand, check_of, denote_of, gen_of, run_of, endure_of, generate_by, command_of}
 
 -- ---- a word that is an operand
 

@@ -1,5 +1,5 @@
 -- What accepted texts spell is a well-formed system, and texts have one answer.
-use Rattle.std.proofs.Common.{◌≡◌, ◌⊎◌, inl, inr, ℕ, ◌≤◌, List, [], ◌∷◌, map, Option, Some, refl, sym, ◌∙◌, ap, subst}
+use Rattle.std.proofs.Common.{◌≡◌, inl, inr, ℕ, ◌≤◌, List, [], ◌∷◌, map, Option, Some, refl, sym, ◌∙◌, ap, subst}
 use Rattle.std.proofs.lemmas.Option.{same_Some}
 use Rattle.fw_outside.specs.Outside.{IsText, one_more}
 use Rattle.fw_bag.specs.declared.rec.Rec.{Rec}
@@ -19,7 +19,6 @@ use Rattle.fw_flow.proofs.SystemLaws.{well_formed-given}
 use Rattle.fw_flow.specs.WellFormed.{IsWellFormed, IsWellFormedSystem}
 use Rattle.fw_flow_text.specs.Grammar as flows
 use Rattle.fw_flow_text.proofs.ReadLaws as flow_texts
-use Rattle.fw_schedule.specs.Grammar.{items_of}
 use Rattle.fw_schedule.specs.Grammar as schedules
 use Rattle.fw_schedule.proofs.ReadLaws as schedule_texts
 use Rattle.fw_command.specs.declared.reading.Fed.{Fed}
@@ -34,8 +33,8 @@ use Rattle.fw_generate.proofs.FlowLaws.{the_flow}
 use Rattle.fw_generate.proofs.InputLaws.{inputs_accepted}
 use Rattle.fw_generate.proofs.ScheduleLaws.{schedule_accepted}
 use Rattle.fw_generate.proofs.WellFormed.{flow_accepted}
-use Rattle.fw_command.specs.Texts.{spelled_batches, spelled_system, spelled_items, AreOfSystem, HasText, AreThere, HasTwo, HasFlow, IsFlowRefused, AreInputsRefused, IsScheduleRefused, IsFirstRefusal, IsFirstOfTwoRefused, IsAskedTwice, IsAskedNoMore}
-use Rattle.fw_command.specs.Words.{TextNames, SystemNames, Seeded}
+use Rattle.fw_command.specs.Command.{TextNames, SystemNames, Seeded, ReadAs, as_inputs, as_schedule, NamedText, Origin, in_folder, generated, three_texts, two_texts}
+use Rattle.fw_command.specs.Texts.{spelled_batches, spelled_system, spelled_items, text_for, IsReadFor, IsRefusedFor, HasText, HasFlow, AreThere, AreReadFor, IsFirstBehind, IsFirstRefusal, HasTexts, Accepts, Refuses, AsksNoMore}
 
 -- ---- what accepted texts spell
 
@@ -65,11 +64,11 @@ pub job_read : (told : Option (List ℕ → Option (List ℕ))) (names : TextNam
     → HasFlow told names.flow job.flow
     → HasText told names.inputs (λ text. inputs.IsAccepted text (sources_of job.flow) job.batches)
     → HasText told names.schedule (λ text. schedules.IsAccepted text job.flow job.items)
-    → IsJob told names job
+    → IsJob told (three_texts names) job
 job_read told names job f i s =
     record {
       texts = record { flow = f.text; inputs = i.text; schedule = s.text };
-      there = record { flow = f.there; inputs = i.there; schedule = s.there };
+      there = (f.there, (i.there, (s.there, tt)));
       accepted = record { declared = f.so; inputs = i.so.sound; schedule = record { sound = s.so.sound; value = refl } };
       system = system_read i.text job.flow job.batches i.so;
       items = s.so.value;
@@ -80,7 +79,7 @@ pub job_read_in_turn : (told second third : Option (List ℕ → Option (List �
     → HasFlow told names.flow job.flow
     → HasText second names.inputs (λ text. inputs.IsAccepted text (sources_of job.flow) job.batches)
     → HasText third names.schedule (λ text. schedules.IsAccepted text job.flow job.items)
-    → IsJob told names job
+    → IsJob told (three_texts names) job
 job_read_in_turn told second third names job e h f i s =
     job_read told names job f
     (subst (λ t. HasText t names.inputs (λ text. inputs.IsAccepted text (sources_of job.flow) job.batches)) e i)
@@ -101,54 +100,61 @@ generated_read seeded texts job e f i s =
 
 -- so is what the texts of a flow and its inputs spell
 pub fed_read : (told second : Option (List ℕ → Option (List ℕ))) (names : SystemNames) (fed : Fed) → second ≡ told
-    → HasFlow told names.flow fed.flow → HasText second names.inputs (λ text. inputs.IsAccepted text (sources_of fed.flow) fed.batches) → IsFed told names fed
+    → HasFlow told names.flow fed.flow → HasText second names.inputs (λ text. inputs.IsAccepted text (sources_of fed.flow) fed.batches) → IsFed told (two_texts names) fed
 fed_read told second names fed e f i =
     record {
       texts = record { flow = f.text; inputs = i.text; schedule = [] };
-      there = record { flow = f.there; inputs = subst (λ t. IsText t names.inputs i.text) e i.there };
-      accepted = record { declared = f.so; inputs = i.so.sound };
+      there = (f.there, (subst (λ t. IsText t names.inputs i.text) e i.there, tt));
+      accepted = (f.so, (i.so.sound, tt));
       system = system_read i.text fed.flow fed.batches i.so;
     }
 
-pub fetched_twice : (told : Option (List ℕ → Option (List ℕ))) (name : List ℕ) (flow : Dataflow) (before one after : ℕ)
-    → HasFlow told name flow → one ≡ one_more before → after ≡ one_more one → IsAskedTwice told name before after
-fetched_twice told name flow before one after f e h = inr (flow, f, h ∙ ap one_more e)
+-- inputs that were read are accepted, where the folder told its texts as before
+inputs_had : (told second : Option (List ℕ → Option (List ℕ))) (name : List ℕ) (flow : Dataflow) (batches : List (ℕ × List (List Rec))) → second ≡ told
+    → HasText second name (λ text. inputs.IsAccepted text (sources_of flow) batches) → HasText told name (AreInputsOf flow)
+inputs_had told second name flow batches same i = record { text = i.text; there = subst (λ t. IsText t name i.text) same i.there; so = i.so.sound }
 
 -- a text was asked for after an accepted flow
-pub fetched_second : (told : Option (List ℕ → Option (List ℕ))) (names : TextNames) (flow : Dataflow) (before one after : ℕ)
-    → HasFlow told names.flow flow → one ≡ one_more before → after ≡ one_more one → IsAskedNoMore told names before after
-fetched_second told names flow before one after f e h = inr (flow, f, inl (h ∙ ap one_more e))
+pub fetched_second : (told : Option (List ℕ → Option (List ℕ))) (name behind : List ℕ) (others : List NamedText) (flow : Dataflow) (before one after : ℕ)
+    → HasFlow told name flow → one ≡ one_more before → after ≡ one_more one → AsksNoMore told (in_folder name (record { name = behind; read = as_inputs } ∷ others)) before after
+fetched_second told name behind others flow before one after f e h = inr (flow, f, inl (h ∙ ap one_more e))
 
 -- and one after accepted inputs
 pub fetched_third : (told second : Option (List ℕ → Option (List ℕ))) (names : TextNames) (flow : Dataflow) (batches : List (ℕ × List (List Rec))) (before one two after : ℕ) → second ≡ told
     → HasFlow told names.flow flow → HasText second names.inputs (λ text. inputs.IsAccepted text (sources_of flow) batches)
-    → one ≡ one_more before → two ≡ one_more one → after ≡ one_more two → IsAskedNoMore told names before after
+    → one ≡ one_more before → two ≡ one_more one → after ≡ one_more two → AsksNoMore told (three_texts names) before after
 fetched_third told second names flow batches before one two after same f i e h k =
-    let given : HasText told names.inputs (AreInputsOf flow) = record {
-      text = i.text;
-      there = subst (λ t. IsText t names.inputs i.text) same i.there;
-      so = i.so.sound;
-    } in
-    inr (flow, f, inr (given, k ∙ ap one_more (h ∙ ap one_more e)))
+    inr (flow, f, inr (inputs_had told second names.inputs flow batches same i, inl (k ∙ ap one_more (h ∙ ap one_more e))))
+
+-- inputs that are refused behind an accepted flow are the first text that is refused
+pub refused_second : (told second : Option (List ℕ → Option (List ℕ))) (name behind : List ℕ) (others : List NamedText) (flow : Dataflow) (fault : JobFault) → second ≡ told → HasFlow told name flow
+    → IfRefused (λ refusal. HasText second behind (λ text. inputs.IsRefused text (sources_of flow) refusal)) fault
+    → IfRefused (Refuses told (in_folder name (record { name = behind; read = as_inputs } ∷ others))) fault
+refused_second told second name behind others flow Failed same f r = r
+refused_second told second name behind others flow NoMemory same f r = r
+refused_second told second name behind others flow (Refused refusal) same f r =
+    inr (flow, f, inl (subst (λ t. HasText t behind (λ text. inputs.IsRefused text (sources_of flow) refusal)) same r))
 
 -- a schedule that is refused behind an accepted flow and accepted inputs is the first text that is refused
 pub refused_third : (told second third : Option (List ℕ → Option (List ℕ))) (names : TextNames) (flow : Dataflow) (batches : List (ℕ × List (List Rec))) (fault : JobFault)
     → second ≡ told → third ≡ second → HasFlow told names.flow flow → HasText second names.inputs (λ text. inputs.IsAccepted text (sources_of flow) batches)
-    → IfRefused (IsScheduleRefused third names.schedule flow) fault → IfRefused (IsFirstRefusal told names) fault
+    → IfRefused (λ refusal. HasText third names.schedule (λ text. schedules.IsRefused text flow refusal)) fault → IfRefused (Refuses told (three_texts names)) fault
 refused_third told second third names flow batches Failed same later f i r = r
 refused_third told second third names flow batches NoMemory same later f i r = r
 refused_third told second third names flow batches (Refused refusal) same later f i r =
-    let given : HasText told names.inputs (AreInputsOf flow) = record {
-      text = i.text;
-      there = subst (λ t. IsText t names.inputs i.text) same i.there;
-      so = i.so.sound;
-    } in
-    inr (flow, f, inr (given, subst (λ t. IsScheduleRefused t names.schedule flow refusal) (later ∙ same) r))
+    inr (flow, f, inr (inputs_had told second names.inputs flow batches same i, inl (subst (λ t. HasText t names.schedule (λ text. schedules.IsRefused text flow refusal)) (later ∙ same) r)))
 
 -- ---- one answer
 
-inputs_or_refused : (flow : Dataflow) (text : List ℕ) (r : Refusal) → AreInputsOf flow text → inputs.IsRefused text (sources_of flow) r → ⊥
-inputs_or_refused flow text r a = sound_or_refused (inputs.rules_of (sources_of flow)) text r a
+-- a text that is read for a flow is accepted or refused, and not both
+read_or_refused : (read : ReadAs) (flow : Dataflow) (text : List ℕ) (r : Refusal) → IsReadFor read flow text → IsRefusedFor read flow text r → ⊥
+read_or_refused as_inputs flow text r a = sound_or_refused (inputs.rules_of (sources_of flow)) text r a
+read_or_refused as_schedule flow text r a = schedule_texts.accepted_or_refused text flow _ r a
+
+-- and refused by one rule
+one_read_refusal : (read : ReadAs) (flow : Dataflow) (text : List ℕ) (r s : Refusal) → IsRefusedFor read flow text r → IsRefusedFor read flow text s → r ≡ s
+one_read_refusal as_inputs flow text r s a b = input_texts.one_refusal text (sources_of flow) r s a b
+one_read_refusal as_schedule flow text r s a b = schedule_texts.one_refusal text flow r s a b
 
 -- the text under a name is one
 same_text : (texts : List ℕ → Option (List ℕ)) (name a b : List ℕ) → IsText (Some texts) name a → IsText (Some texts) name b → a ≡ b
@@ -162,66 +168,67 @@ same_flow : (texts : List ℕ → Option (List ℕ)) (name : List ℕ) (one othe
 same_flow texts name one other a b =
     both_true texts name (λ text. flows.IsAccepted text one) (λ text. flows.IsAccepted text other) (one ≡ other) a b (λ text p q. flow_texts.one_flow text one other p q)
 
--- of three texts one is refused first, by one rule
-pub one_first_refusal : (texts : List ℕ → Option (List ℕ)) (names : TextNames) (r s : Refusal) → IsFirstRefusal (Some texts) names r → IsFirstRefusal (Some texts) names s → r ≡ s
-one_first_refusal texts names r s (inl a) (inl b) = both_true texts names.flow _ _ (r ≡ s) a b (λ text p q. flow_texts.one_refusal text r s p q)
-one_first_refusal texts names r s (inl a) (inr (flow, b, rest)) = absurd (both_true texts names.flow _ _ ⊥ a b (λ text p q. flow_texts.accepted_or_refused text flow r q p))
-one_first_refusal texts names r s (inr (flow, a, rest)) (inl b) = absurd (both_true texts names.flow _ _ ⊥ a b (λ text p q. flow_texts.accepted_or_refused text flow s p q))
-one_first_refusal texts names r s (inr (flow, a, rest)) (inr (other, b, more)) =
-    by rest (subst (λ f. Later f s) (sym (same_flow texts names.flow flow other a b)) more)
+-- of the texts behind that of a flow one is refused first, by one rule
+one_behind : (texts : List ℕ → Option (List ℕ)) (flow : Dataflow) (others : List NamedText) (r s : Refusal) → IsFirstBehind (Some texts) flow others r → IsFirstBehind (Some texts) flow others s → r ≡ s
+one_behind texts flow [] r s a b = absurd a
+one_behind texts flow (named ∷ others) r s (inl p) (inl q) =
+    both_true texts named.name (λ text. IsRefusedFor named.read flow text r) (λ text. IsRefusedFor named.read flow text s) (r ≡ s) p q (λ text x y. one_read_refusal named.read flow text r s x y)
+one_behind texts flow (named ∷ others) r s (inl p) (inr q) =
+    absurd (both_true texts named.name (λ text. IsRefusedFor named.read flow text r) (IsReadFor named.read flow) ⊥ p q.0 (λ text x y. read_or_refused named.read flow text r y x))
+one_behind texts flow (named ∷ others) r s (inr p) (inl q) =
+    absurd (both_true texts named.name (IsReadFor named.read flow) (λ text. IsRefusedFor named.read flow text s) ⊥ p.0 q (λ text x y. read_or_refused named.read flow text s x y))
+one_behind texts flow (named ∷ others) r s (inr p) (inr q) = one_behind texts flow others r s p.1 q.1
+
+-- and of all of them
+one_first : (texts : List ℕ → Option (List ℕ)) (name : List ℕ) (others : List NamedText) (r s : Refusal) → IsFirstRefusal (Some texts) name others r → IsFirstRefusal (Some texts) name others s → r ≡ s
+one_first texts name others r s (inl a) (inl b) =
+    both_true texts name (λ text. flows.IsRefused text r) (λ text. flows.IsRefused text s) (r ≡ s) a b (λ text p q. flow_texts.one_refusal text r s p q)
+one_first texts name others r s (inl a) (inr (flow, b, rest)) =
+    absurd (both_true texts name (λ text. flows.IsRefused text r) (λ text. flows.IsAccepted text flow) ⊥ a b (λ text p q. flow_texts.accepted_or_refused text flow r q p))
+one_first texts name others r s (inr (flow, a, rest)) (inl b) =
+    absurd (both_true texts name (λ text. flows.IsAccepted text flow) (λ text. flows.IsRefused text s) ⊥ a b (λ text p q. flow_texts.accepted_or_refused text flow s p q))
+one_first texts name others r s (inr (flow, a, rest)) (inr (other, b, more)) =
+    one_behind texts flow others r s rest (subst (λ f. IsFirstBehind (Some texts) f others s) (sym (same_flow texts name flow other a b)) more)
+
+pub one_first_refusal : (texts : List ℕ → Option (List ℕ)) (origin : Origin) (r s : Refusal) → Refuses (Some texts) origin r → Refuses (Some texts) origin s → r ≡ s
+one_first_refusal texts (in_folder name others) r s a b = one_first texts name others r s a b
+one_first_refusal texts (generated seeded) r s a b = absurd a
+
+-- accepted texts behind that of a flow are not refused
+accepted_behind : (texts : List ℕ → Option (List ℕ)) (flow : Dataflow) (others : List NamedText) (three : Texts) (r : Refusal) → AreThere (Some texts) others three → AreReadFor flow others three
+    → IsFirstBehind (Some texts) flow others r → ⊥
+accepted_behind texts flow [] three r t a p = p
+accepted_behind texts flow (named ∷ others) three r t a (inl p) =
+    read_or_refused named.read flow (text_for named.read three) r a.0
+    (subst (λ text. IsRefusedFor named.read flow text r) (same_text texts named.name p.text (text_for named.read three) p.there t.0) p.so)
+accepted_behind texts flow (named ∷ others) three r t a (inr p) = accepted_behind texts flow others three r t.1 a.1 p.1
+
+accepted_first : (texts : List ℕ → Option (List ℕ)) (name : List ℕ) (others : List NamedText) (three : Texts) (own : Dataflow) (r : Refusal) → HasTexts (Some texts) (in_folder name others) three
+    → Accepts (in_folder name others) three own → IsFirstRefusal (Some texts) name others r → ⊥
+accepted_first texts name others three own r t a (inl p) =
+    flow_texts.accepted_or_refused three.flow own r a.0 (subst (λ text. flows.IsRefused text r) (same_text texts name p.text three.flow p.there t.0) p.so)
+accepted_first texts name others three own r t a (inr (flow, p, rest)) =
+    accepted_behind texts own others three r t.1 a.1
+    (subst (λ f. IsFirstBehind (Some texts) f others r) (same_flow texts name flow own p (record { text = three.flow; there = t.0; so = a.0 })) rest)
+
+-- and of all
+pub accepted_or_refused : (texts : List ℕ → Option (List ℕ)) (origin : Origin) (three : Texts) (own : Dataflow) (r : Refusal) → HasTexts (Some texts) origin three → Accepts origin three own
+    → Refuses (Some texts) origin r → ⊥
+accepted_or_refused texts (in_folder name others) three own r t a p = accepted_first texts name others three own r t a p
+accepted_or_refused texts (generated seeded) three own r t a p = p
+
+-- where three texts are accepted, those are that a command reads
+pub accepts_three : (origin : Origin) (texts : Texts) (flow : Dataflow) → AreAccepted texts flow → Accepts origin texts flow
+accepts_three (generated seeded) texts flow a = a
+accepts_three (in_folder name others) texts flow a = (a.declared, behind others)
   where
-    Later : Dataflow → Refusal → Type 0
-    Later f refusal = AreInputsRefused (Some texts) names.inputs f refusal ⊎ (HasText (Some texts) names.inputs (AreInputsOf f) × IsScheduleRefused (Some texts) names.schedule f refusal)
+    read : (how : ReadAs) → IsReadFor how flow (text_for how texts)
+    read as_inputs = a.inputs
+    read as_schedule = a.schedule
 
-    by : Later flow r → Later flow s → r ≡ s
-    by (inl p) (inl q) = both_true texts names.inputs _ _ (r ≡ s) p q (λ text x y. input_texts.one_refusal text (sources_of flow) r s x y)
-    by (inl p) (inr q) = absurd (both_true texts names.inputs _ _ ⊥ p q.0 (λ text x y. inputs_or_refused flow text r y x))
-    by (inr p) (inl q) = absurd (both_true texts names.inputs _ _ ⊥ p.0 q (λ text x y. inputs_or_refused flow text s x y))
-    by (inr p) (inr q) = both_true texts names.schedule _ _ (r ≡ s) p.1 q.1 (λ text x y. schedule_texts.one_refusal text flow r s x y)
-
--- of the texts of a flow and its inputs too, whatever a schedule is
-three_names : SystemNames → TextNames
-three_names names = record { flow = names.flow; inputs = names.inputs; schedule = [] }
-
-as_of_three : (told : Option (List ℕ → Option (List ℕ))) (names : SystemNames) (r : Refusal) → IsFirstOfTwoRefused told names r → IsFirstRefusal told (three_names names) r
-unfolding three_names
-as_of_three told names r (inl a) = inl a
-as_of_three told names r (inr (flow, f, i)) = inr (flow, f, inl i)
-
-pub one_first_of_two : (texts : List ℕ → Option (List ℕ)) (names : SystemNames) (r s : Refusal) → IsFirstOfTwoRefused (Some texts) names r → IsFirstOfTwoRefused (Some texts) names s → r ≡ s
-one_first_of_two texts names r s a b = one_first_refusal texts (three_names names) r s (as_of_three (Some texts) names r a) (as_of_three (Some texts) names s b)
-
--- accepted texts are not refused
-pub accepted_or_refused : (texts : List ℕ → Option (List ℕ)) (names : TextNames) (three : Texts) (own : Dataflow) (r : Refusal) → AreThere (Some texts) names three → AreAccepted three own → IsFirstRefusal (Some texts) names r → ⊥
-accepted_or_refused texts names three own r t a (inl p) =
-    flow_texts.accepted_or_refused three.flow own r a.declared (subst (λ text. flows.IsRefused text r) (same_text texts names.flow p.text three.flow p.there t.flow) p.so)
-accepted_or_refused texts names three own r t a (inr (flow, p, rest)) =
-    by (subst Later (same_flow texts names.flow flow own p (record { text = three.flow; there = t.flow; so = a.declared })) rest)
-  where
-    Later : Dataflow → Type 0
-    Later f = AreInputsRefused (Some texts) names.inputs f r ⊎ (HasText (Some texts) names.inputs (AreInputsOf f) × IsScheduleRefused (Some texts) names.schedule f r)
-
-    by : Later own → ⊥
-    by (inl q) = inputs_or_refused own three.inputs r a.inputs (subst (λ text. inputs.IsRefused text (sources_of own) r) (same_text texts names.inputs q.text three.inputs q.there t.inputs) q.so)
-    by (inr q) = schedule_texts.accepted_or_refused three.schedule own (spelled_items own three) r a.schedule (subst (λ text. schedules.IsRefused text own r) (same_text texts names.schedule q.1.text three.schedule q.1.there t.schedule) q.1.so)
-
-pub accepted_or_first_of_two : (texts : List ℕ → Option (List ℕ)) (names : SystemNames) (two : Texts) (own : Dataflow) (r : Refusal) → HasTwo (Some texts) names two → AreOfSystem two own → IsFirstOfTwoRefused (Some texts) names r → ⊥
-accepted_or_first_of_two texts names two own r t a (inl p) =
-    flow_texts.accepted_or_refused two.flow own r a.declared (subst (λ text. flows.IsRefused text r) (same_text texts names.flow p.text two.flow p.there t.flow) p.so)
-accepted_or_first_of_two texts names two own r t a (inr (flow, p, q)) =
-    let same : flow ≡ own = same_flow texts names.flow flow own p (record { text = two.flow; there = t.flow; so = a.declared }) in
-    let i = subst (λ f. AreInputsRefused (Some texts) names.inputs f r) same q in
-    inputs_or_refused own two.inputs r a.inputs
-    (subst (λ text. inputs.IsRefused text (sources_of own) r) (same_text texts names.inputs i.text two.inputs i.there t.inputs) i.so)
-
--- the text of a flow is accepted or refused, and not both
-pub flow_or_refused : (texts : List ℕ → Option (List ℕ)) (name text : List ℕ) (flow : Dataflow) (r : Refusal) → IsText (Some texts) name text → flows.IsAccepted text flow → IsFlowRefused (Some texts) name r → ⊥
-flow_or_refused texts name text flow r t a p =
-    flow_texts.accepted_or_refused text flow r a (subst (λ other. flows.IsRefused other r) (same_text texts name p.text text p.there t) p.so)
-
--- and refused by one rule
-pub one_flow_refusal : (texts : List ℕ → Option (List ℕ)) (name : List ℕ) (r s : Refusal) → IsFlowRefused (Some texts) name r → IsFlowRefused (Some texts) name s → r ≡ s
-one_flow_refusal texts name r s a b = both_true texts name (λ text. flows.IsRefused text r) (λ text. flows.IsRefused text s) (r ≡ s) a b (λ text p q. flow_texts.one_refusal text r s p q)
+    behind : (named : List NamedText) → AreReadFor flow named texts
+    behind [] = tt
+    behind (named ∷ more) = (read named.read, behind more)
 
 -- ---- generated texts
 
@@ -255,7 +262,7 @@ accepted_as_read seeded three flow h e f =
 pub inputs_not_refused : (seeded : Seeded) (three : Texts) (flow : Dataflow) (fault : ReadFault) → seeded.size ≤ size_limit → three ≡ texts_of seeded.size (words_from seeded.seed)
     → flows.IsAccepted three.flow flow → faults.IfRefused (inputs.IsRefused three.inputs (sources_of flow)) fault → job_fault fault ≡ NoMemory
 inputs_not_refused seeded three flow fault h e f =
-    only_memory (inputs.IsRefused three.inputs (sources_of flow)) fault (λ refusal. inputs_or_refused flow three.inputs refusal (accepted_as_read seeded three flow h e f).inputs)
+    only_memory (inputs.IsRefused three.inputs (sources_of flow)) fault (λ refusal. read_or_refused as_inputs flow three.inputs refusal (accepted_as_read seeded three flow h e f).inputs)
 
 -- and with their schedule
 pub schedule_not_refused : (seeded : Seeded) (three : Texts) (flow : Dataflow) (fault : ReadFault) → seeded.size ≤ size_limit → three ≡ texts_of seeded.size (words_from seeded.seed)

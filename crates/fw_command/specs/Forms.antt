@@ -4,7 +4,8 @@ use Rattle.std.specs.Str.{bytes_eq}
 use Rattle.fw_lines.specs.Spelling.{number_of}
 use Rattle.clap.specs.Simple.{App, Shape, new_rule, new_shape}
 use Rattle.clap.specs.Walk.{Row, Rule, first_of}
-use Rattle.fw_command.specs.Words.{Command, TextNames, SystemNames, run, endure, denote, check, generate_by}
+use Rattle.fw_command.specs.Command.{Command, TextNames, SystemNames, run, endure, denote, check}
+use Rattle.fw_command.specs.Words.{generate_by}
 
 -- an operand, which has to be there
 abbrev pub operand : List ℕ → Rule

@@ -1,3 +1,4 @@
+pub mod Command
 pub mod DenotationText
 pub mod Forms
 pub mod Listing

@@ -17,8 +17,8 @@ use Rattle.fw_command.specs.declared.reading.Job.{Job}
 use Rattle.fw_generate.specs.Laws.{AreAccepted}
 use Rattle.fw_generate.specs.Draws.{words_from}
 use Rattle.fw_generate.specs.Texts.{Texts, texts_of}
-use Rattle.fw_command.specs.Texts.{HasText, AreThere, HasTwo, AreOfSystem, spelled_system, spelled_items}
-use Rattle.fw_command.specs.Words.{TextNames, SystemNames, Seeded}
+use Rattle.fw_command.specs.Command.{Origin, Seeded}
+use Rattle.fw_command.specs.Texts.{HasText, HasTexts, Accepts, spelled_system, spelled_items}
 
 -- where the fault is a refusal it is one of these; the other faults say nothing here
 abbrev pub IfRefused : (Refusal → Type 0) → JobFault → Type 0
@@ -42,15 +42,15 @@ job_fault lines.NoMemory = NoMemory
 abbrev pub IsTooLarge : Option (List ℕ → Option (List ℕ)) → List ℕ → ℕ → Code → Refusal → Type 0
 IsTooLarge told name limit code refusal = HasText told name (λ text. (limit < length text) × IsOfWhole code refusal)
 
--- what the texts under the names spell, and they are accepted
-pub record IsJob (told : Option (List ℕ → Option (List ℕ))) (names : TextNames) (job : Job) : Type 0 where
+-- what the texts of a run spell, and they are accepted
+pub record IsJob (told : Option (List ℕ → Option (List ℕ))) (origin : Origin) (job : Job) : Type 0 where
   pub texts : Texts
-  pub there : AreThere told names texts
+  pub there : HasTexts told origin texts
   pub accepted : AreAccepted texts job.flow
   pub system : system_of job.flow job.batches ≡ spelled_system job.flow texts
   pub items : job.items ≡ spelled_items job.flow texts
 
--- the same of the generated texts of a seed and a size
+-- the same of the generated texts of a seed and a size, whatever this is
 pub record IsGenerated (seeded : Seeded) (job : Job) : Type 0 where
   pub texts : Texts
   pub drawn : texts ≡ texts_of seeded.size (words_from seeded.seed)
@@ -59,10 +59,10 @@ pub record IsGenerated (seeded : Seeded) (job : Job) : Type 0 where
   pub items : job.items ≡ spelled_items job.flow texts
 
 -- the same of the texts of a flow and its inputs
-pub record IsFed (told : Option (List ℕ → Option (List ℕ))) (names : SystemNames) (fed : Fed) : Type 0 where
+pub record IsFed (told : Option (List ℕ → Option (List ℕ))) (origin : Origin) (fed : Fed) : Type 0 where
   pub texts : Texts
-  pub there : HasTwo told names texts
-  pub accepted : AreOfSystem texts fed.flow
+  pub there : HasTexts told origin texts
+  pub accepted : Accepts origin texts fed.flow
   pub system : system_of fed.flow fed.batches ≡ spelled_system fed.flow texts
 
 -- what a run of items asks: the engine a well-formed system, and the counts of steps that they are not too many

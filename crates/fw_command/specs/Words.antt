@@ -1,5 +1,5 @@
 -- The words of a command.
-use Rattle.std.specs.Prelude.{◌≡◌, ℕ, ◌≤◌, nat_le, Bool, true, false, not, ◌&&◌, ◌==◌, if◌then◌else◌, List, [], ◌∷◌, map, Option, Some, None, codes}
+use Rattle.std.specs.Prelude.{ℕ, ◌≤◌, nat_le, Bool, false, not, ◌&&◌, ◌==◌, if◌then◌else◌, List, [], ◌∷◌, map, Option, Some, None, codes}
 use Rattle.std.specs.Option.{option_or}
 use Rattle.std.specs.Str.{bytes_eq}
 use Rattle.std.specs.Borrow.{Bor}
@@ -7,6 +7,7 @@ use Rattle.fw_lines.specs.declared.numeral.Number.{Number}
 use Rattle.fw_lines.specs.declared.numeral.Number.TheVariants.{Value}
 use Rattle.fw_lines.specs.Spelling.{number_of}
 use Rattle.fw_generate.specs.Laws.{size_limit}
+use Rattle.fw_command.specs.Command.{Command, Seeded, SystemNames, TextNames, run, endure, generate, denote, check}
 use Rattle.fw_command.specs.declared.words.DenoteWords.{DenoteWords}
 use Rattle.fw_command.specs.declared.words.GenerateWords.{GenerateWords}
 use Rattle.fw_command.specs.declared.words.RunWords.{RunWords}
@@ -21,54 +22,6 @@ words_in words = map (λ word. word.now) words
 abbrev pub is_operand : List ℕ → Bool
 is_operand [] = false
 is_operand (byte ∷ bytes) = not (byte == 45)
-
--- the names of the three texts of a run
-pub record TextNames : Type 0 where
-  pub flow : List ℕ
-  pub inputs : List ℕ
-  pub schedule : List ℕ
-
--- the names of the texts of a flow and its inputs
-pub record SystemNames : Type 0 where
-  pub flow : List ℕ
-  pub inputs : List ℕ
-
--- the seed and the size of generated texts
-pub record Seeded : Type 0 where
-  pub seed : ℕ
-  pub size : ℕ
-
--- A command with its operands: to run three texts, to run them through faults of the store, to run generated texts and tell what
--- came of them, to tell what a flow denotes of its inputs, or to check the text of a flow.
-pub data Command : Type 0 where
-  run : TextNames → Command
-  endure : TextNames → Command
-  generate : Seeded → Command
-  denote : SystemNames → Command
-  check : List ℕ → Command
-
--- how steps are told: each by its lines; the same, and faults of the store by theirs; or what came of all in one line
-pub data Manner : Type 0 where
-  by_lines : Manner
-  through_faults : Manner
-  in_one_line : Seeded → Manner
-
--- how a command tells the steps that it takes, if it takes some
-abbrev pub manner_of : Command → Option Manner
-manner_of (run names) = Some by_lines
-manner_of (endure names) = Some through_faults
-manner_of (generate seeded) = Some (in_one_line seeded)
-manner_of (denote names) = None
-manner_of (check name) = None
-
--- the command tells in one line what came of a run
-abbrev pub IsInOneLine : Option Command → Type 0
-IsInOneLine command = (seeded : Seeded) × (command ≡ Some (generate seeded))
-
--- the command asks the folder for a text
-abbrev pub asks_folder : Command → Bool
-asks_folder (generate seeded) = false
-asks_folder command = true
 
 -- a check, if the words are `check` and an operand
 abbrev pub check_of : List (List ℕ) → Option Command

@@ -10,7 +10,8 @@ ghost use Rattle.fw_schedule.specs.Schedule.{step_count, step_limit};
 ghost use Rattle.fw_generate.specs.Laws.{size_limit};
 ghost use Rattle.fw_command.specs.Reading.{IfRefused, IsTooLarge, IsJob, IsGenerated, IsFed, IsReady, read_faults_after};
 ghost use Rattle.fw_command.specs.Words.{seeded_in, text_names_in, system_names_in};
-ghost use Rattle.fw_command.specs.Texts.{HasText, HasFlow, IsFlowRefused, AreInputsRefused, IsScheduleRefused, IsFirstRefusal, IsFirstOfTwoRefused, IsAskedTwice, IsAskedNoMore};
+ghost use Rattle.fw_command.specs.Command.{three_texts, two_texts};
+ghost use Rattle.fw_command.specs.Texts.{HasText, HasFlow, IsFlowRefused, Refuses, AsksNoMore};
 
 use crate::words::{DenoteWords, GenerateWords, RunWords};
 use fw_flow::Flow;
@@ -73,11 +74,11 @@ impl From<ReadFault> for JobFault {
 
 /// Reads the three texts, each before the next one is fetched.
 pub fn read_job<F: Folder>(alloc: Global, words: &RunWords, folder: &mut F) -> Result<Job, JobFault>
-    ensures job { IfOk result (IsJob (F.texts folder.old) (text_names_in words.now)) }
+    ensures job { IfOk result (IsJob (F.texts folder.old) (three_texts (text_names_in words.now))) }
     ensures ready { IfOk result (λ job. IsReady (system_of job.flow job.batches) job.items) }
-    ensures refused { IfErr result (IfRefused (IsFirstRefusal (F.texts folder.old) (text_names_in words.now))) }
+    ensures refused { IfErr result (IfRefused (Refuses (F.texts folder.old) (three_texts (text_names_in words.now)))) }
     ensures faults { F.fault_count folder.new ≡ read_faults_after result (F.fault_count folder.old) }
-    ensures asked_no_more { IsAskedNoMore (F.texts folder.old) (text_names_in words.now) (F.fetch_count folder.old) (F.fetch_count folder.new) }
+    ensures asked_no_more { AsksNoMore (F.texts folder.old) (three_texts (text_names_in words.now)) (F.fetch_count folder.old) (F.fetch_count folder.new) }
     ensures texts_stay { F.texts folder.new ≡ F.texts folder.old }
 {
     let flow = fetch_flow(alloc, folder, words.flow)?;
@@ -96,11 +97,11 @@ pub fn read_fed<F: Folder>(
     names: &DenoteWords,
     folder: &mut F,
 ) -> Result<Fed, JobFault>
-    ensures fed { IfOk result (IsFed (F.texts folder.old) (system_names_in names.now)) }
+    ensures fed { IfOk result (IsFed (F.texts folder.old) (two_texts (system_names_in names.now))) }
     ensures well_formed { IfOk result (λ fed. IsWellFormedSystem (system_of fed.flow fed.batches)) }
-    ensures refused { IfErr result (IfRefused (IsFirstOfTwoRefused (F.texts folder.old) (system_names_in names.now))) }
+    ensures refused { IfErr result (IfRefused (Refuses (F.texts folder.old) (two_texts (system_names_in names.now)))) }
     ensures faults { F.fault_count folder.new ≡ read_faults_after result (F.fault_count folder.old) }
-    ensures asked_no_more { IsAskedTwice (F.texts folder.old) (system_names_in names.now).flow (F.fetch_count folder.old) (F.fetch_count folder.new) }
+    ensures asked_no_more { AsksNoMore (F.texts folder.old) (two_texts (system_names_in names.now)) (F.fetch_count folder.old) (F.fetch_count folder.new) }
     ensures texts_stay { F.texts folder.new ≡ F.texts folder.old }
 {
     let flow = fetch_flow(alloc, folder, names.flow)?;
@@ -150,7 +151,8 @@ fn fetch_inputs<F: Folder>(
     ensures batches { IfOk result (λ batches. HasText (F.texts folder.old) name.now
         (λ text. inputs.IsAccepted text (sources_of flow.now) batches)) }
     ensures well_formed { IfOk result (λ batches. IsWellFormedSystem (system_of flow.now batches)) }
-    ensures refused { IfErr result (IfRefused (AreInputsRefused (F.texts folder.old) name.now flow.now)) }
+    ensures refused { IfErr result (IfRefused (λ refusal. HasText (F.texts folder.old) name.now
+        (λ text. inputs.IsRefused text (sources_of flow.now) refusal))) }
     ensures faults { F.fault_count folder.new ≡ read_faults_after result (F.fault_count folder.old) }
     ensures counted { F.fetch_count folder.new ≡ one_more (F.fetch_count folder.old) }
     ensures texts_stay { F.texts folder.new ≡ F.texts folder.old }
@@ -172,7 +174,8 @@ fn fetch_schedule<F: Folder>(
     ensures items { IfOk result (λ items. HasText (F.texts folder.old) name.now
         (λ text. schedules.IsAccepted text flow.now items)) }
     ensures few { IfOk result (λ items. step_count items ≤ step_limit) }
-    ensures refused { IfErr result (IfRefused (IsScheduleRefused (F.texts folder.old) name.now flow.now)) }
+    ensures refused { IfErr result (IfRefused (λ refusal. HasText (F.texts folder.old) name.now
+        (λ text. schedules.IsRefused text flow.now refusal))) }
     ensures faults { F.fault_count folder.new ≡ read_faults_after result (F.fault_count folder.old) }
     ensures counted { F.fetch_count folder.new ≡ one_more (F.fetch_count folder.old) }
     ensures texts_stay { F.texts folder.new ≡ F.texts folder.old }

@@ -17,7 +17,7 @@ use Rattle.fw_run.specs.declared.status.Status.{Status}
 use Rattle.fw_run.specs.declared.status.Status.TheVariants.{Done, BadWords, Refused, ReadFault, WriteFault, StoreFault, Damaged, NoMemory}
 use Rattle.fw_run.specs.declared.work.Work.{Work}
 use Rattle.fw_run.specs.Answers.{Outside, Known, outside_of, TellsRecords, RunAnswers}
-use Rattle.fw_run.specs.Call.{Call, CountsWrites, HasRefused, KeepsFolder, PrintsPart, Refuses}
+use Rattle.fw_run.specs.Call.{Call, CountsWrites, HasRefused, KeepsFolder, PrintsPart}
 use Rattle.fw_run.specs.Ends.{IsDamageIn, IsStoreFault, IsWholeRun}
 use Rattle.fw_run.specs.Enduring.{RoseBy}
 use Rattle.fw_run.specs.Fault.{status_of}
@@ -26,7 +26,8 @@ use Rattle.fw_run.specs.Work.{EndsWork, IsWork, StaysIfToldInOne, StaysUnlessRun
 use Rattle.fw_command.specs.declared.reading.JobFault.{JobFault}
 use Rattle.fw_command.specs.declared.reading.JobFault.TheVariants as job
 use Rattle.fw_command.specs.Reading.{IfRefused, read_faults_after}
-use Rattle.fw_command.specs.Words.{Command}
+use Rattle.fw_command.specs.Command.{Command}
+use Rattle.fw_command.specs.Texts.{Refuses}
 use Rattle.fw_command.specs.Writing.{IsWritten, NeverFall}
 
 -- ---- before a run begins
@@ -120,13 +121,13 @@ job_status job.NoMemory = NoMemory
 
 -- a text was not read, or is refused
 pub answers-not_read : {F K O : Type 0} (known : Known F K O) (call : Call) (command : Command) (fault : JobFault) (folder now : F) (store : K) (out : O) → call.command ≡ Some command
-    → IfRefused (Refuses call.told command) fault → known.read_faults now ≡ read_faults_after {T = Unit {0}} (Err fault) (known.read_faults folder)
+    → IfRefused (Refuses call.told command.texts) fault → known.read_faults now ≡ read_faults_after {T = Unit {0}} (Err fault) (known.read_faults folder)
     → KeepsFolder known.texts known.fetches call.command (job_status fault) folder now → RunAnswers known call (outside_of folder store out) (job_status fault) (outside_of now store out)
 answers-not_read known call command job.Failed folder now store out e first read kept =
     answers-early known call ReadFault folder now store out tt (λ is. absurd (cc), λ none. absurd (not_none call.command command e none)) (λ refusal is. absurd (cc)) read kept
 answers-not_read known call command (job.Refused refusal) folder now store out e first read kept =
     answers-early known call (Refused refusal) folder now store out tt (λ is. absurd (cc), λ none. absurd (not_none call.command command e none))
-    (λ other is. record { command = command; words = e; first = subst (Refuses call.told command) (ap refusal_in is) first }) read kept
+    (λ other is. record { command = command; words = e; first = subst (Refuses call.told command.texts) (ap refusal_in is) first }) read kept
   where
     refusal_in : Status → Refusal
     refusal_in (Refused r) = r

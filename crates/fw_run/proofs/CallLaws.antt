@@ -10,14 +10,13 @@ use Rattle.fw_outside.specs.Outside.{SinkView}
 use Rattle.fw_lines.specs.declared.refusal.Refusal.{Refusal}
 use Rattle.fw_flow.specs.Dataflow.{Dataflow, System, system_of}
 use Rattle.fw_schedule.specs.declared.item.Item.{Item}
-use Rattle.fw_generate.specs.Laws.{AreAccepted}
 use Rattle.fw_generate.specs.Texts.{Texts}
 use Rattle.fw_running.specs.declared.fault.EngineFault.{EngineFault}
 use Rattle.fw_running.specs.declared.fault.EngineFault.TheVariants as engine
 use Rattle.fw_run.proofs.DecidedLaws.{texts-decided}
 use Rattle.fw_run.proofs.FaultLaws.{store_of}
 use Rattle.fw_run.proofs.FaultCounts.{rose_by}
-use Rattle.fw_command.proofs.TextLaws.{one_first_refusal, one_first_of_two, accepted_or_refused, accepted_or_first_of_two, flow_or_refused, one_flow_refusal}
+use Rattle.fw_command.proofs.TextLaws.{one_first_refusal, accepted_or_refused, accepts_three}
 use Rattle.fw_command.proofs.WritingLaws.{cut_of-part}
 use Rattle.fw_run.specs.declared.fault.RunFault.{RunFault}
 use Rattle.fw_run.specs.declared.fault.RunFault.TheVariants.{Out, Engine}
@@ -25,16 +24,16 @@ use Rattle.fw_run.specs.declared.status.Status.{Status}
 use Rattle.fw_run.specs.declared.status.Status.TheVariants.{Done, BadWords, Refused, ReadFault, WriteFault, StoreFault, Damaged, NoMemory}
 use Rattle.fw_run.specs.declared.work.Work.{Work}
 use Rattle.fw_run.specs.declared.work.Work.TheVariants.{Run, Denote, Check}
-use Rattle.fw_run.specs.Call.{Call, CountsFaults, HasTexts, Accepts, Refuses, Prints, AsksNoMore, HasAccepted, HasRefused, IsPrintout, PrintsPart, PrintsFirst, IsRunOf, KeepsFolder, KeepsStore, AnswersTexts, IsRunEnd, IsRefusalEnd}
+use Rattle.fw_run.specs.Call.{Call, CountsFaults, Prints, HasAccepted, HasRefused, IsPrintout, PrintsPart, PrintsFirst, IsRunOf, KeepsFolder, KeepsStore, AnswersTexts, IsRunEnd, IsRefusalEnd}
 use Rattle.fw_command.specs.DenotationText.{PrintsDenotation}
 use Rattle.fw_run.specs.Ends.{PrintsOfRun, IsDamageIn, StaysIfInOneLine}
 use Rattle.fw_run.specs.Enduring.{RoseBy, RoseByFaults, StaysOrRose}
 use Rattle.fw_run.specs.Fault.{faults_after, status_of}
 use Rattle.fw_run.specs.Manner.{goes_on, told_in}
 use Rattle.fw_run.specs.Status.{HasWord, IsTellingOf, store_faults_told, status_number}
-use Rattle.fw_command.specs.Texts.{spelled_system, spelled_items}
-use Rattle.fw_command.specs.Words.{Command, run, endure, generate, denote, check, Manner, by_lines, through_faults, in_one_line, manner_of, IsInOneLine, asks_folder}
-use Rattle.fw_run.specs.Work.{IsWork, EndsAtFault, IsRun, IfRun, IsTextOfWork, PrintsWork, StaysUnlessRun, StaysIfToldInOne}
+use Rattle.fw_command.specs.Texts.{HasFlow, HasTexts, Accepts, Refuses, AsksNoMore, spelled_system, spelled_items}
+use Rattle.fw_command.specs.Command.{Command, check, Origin, in_folder, generated, Task, tells_denotation, lists_nodes, Manner, by_lines, through_faults, in_one_line, manner_in, manner_of, are_in_folder, IsInOneLine, asks_folder}
+use Rattle.fw_run.specs.Work.{IsWork, task_of, flow_in, Spells, EndsAtFault, IsRun, IfRun, IsTextOfWork, PrintsWork, StaysUnlessRun, StaysIfToldInOne}
 use Rattle.fw_command.specs.Writing.{IsPartWritten, IsCutOff, WritesText}
 
 -- words are one command
@@ -48,74 +47,34 @@ of_texts : (flow : Dataflow) (texts : Texts) (sys : System) (items : List Item) 
     → P sys items → P (spelled_system flow texts) (spelled_items flow texts)
 of_texts flow texts sys items P e f p = subst (λ (i : List Item). P (spelled_system flow texts) i) f (subst (λ (s : System). P s items) e p)
 
+-- a flow that was read is the work of a check
+pub work_of-flow : (told : Option (List ℕ → Option (List ℕ))) (name : List ℕ) (flow : Dataflow) → HasFlow told name flow → IsWork told (check name) (Check flow)
+work_of-flow told name flow h = record {
+  does = refl;
+  texts = record { flow = h.text; inputs = []; schedule = [] };
+  there = (h.there, tt);
+  accepted = (h.so, tt);
+  spelled = tt;
+}
+
 -- ---- what was printed
 
--- a command has texts that are there and accepted, and prints of them what its work prints
-record IsOfTexts (Tells : Type 0) (IsSo : ℕ → List ℕ → Type 0) (told : Option (List ℕ → Option (List ℕ))) (command : Command) (work : Work) : Type 0 where
-  pub texts : Texts
-  pub flow : Dataflow
-  pub there : HasTexts told command texts
-  pub accepted : Accepts command texts flow
-  pub prints : (printed : List ℕ) → IsTextOfWork Tells IsSo work printed → Prints Tells IsSo command texts flow printed
-
--- a command that takes steps of accepted texts accepts them
-accepts_run : (command : Command) (manner : Manner) (texts : Texts) (flow : Dataflow) → manner_of command ≡ Some manner → AreAccepted texts flow → Accepts command texts flow
-accepts_run (run names) manner texts flow e a = a
-accepts_run (endure names) manner texts flow e a = a
-accepts_run (generate seeded) manner texts flow e a = a
-accepts_run (denote names) manner texts flow e a = absurd (cc)
-accepts_run (check name) manner texts flow e a = absurd (cc)
-
--- what is printed in the one manner is so in the same
-as_told : (Tells : Type 0) (IsSo : ℕ → List ℕ → Type 0) (one manner : Manner) (texts : Texts) (flow : Dataflow) (printed : List ℕ) → Some one ≡ Some manner
-    → PrintsOfRun Tells IsSo manner (spelled_system flow texts) (spelled_items flow texts) printed → PrintsOfRun Tells IsSo one (spelled_system flow texts) (spelled_items flow texts) printed
-as_told Tells IsSo one manner texts flow printed e p =
-    subst (λ (m : Manner). PrintsOfRun Tells IsSo m (spelled_system flow texts) (spelled_items flow texts) printed) (sym (same_Some one manner e)) p
-
--- and prints what its run does
-prints_run : (Tells : Type 0) (IsSo : ℕ → List ℕ → Type 0) (command : Command) (manner : Manner) (texts : Texts) (flow : Dataflow) (printed : List ℕ) → manner_of command ≡ Some manner
-    → PrintsOfRun Tells IsSo manner (spelled_system flow texts) (spelled_items flow texts) printed → Prints Tells IsSo command texts flow printed
-prints_run Tells IsSo (run names) manner texts flow printed e p = as_told Tells IsSo by_lines manner texts flow printed e p
-prints_run Tells IsSo (endure names) manner texts flow printed e p = as_told Tells IsSo through_faults manner texts flow printed e p
-prints_run Tells IsSo (generate seeded) manner texts flow printed e p = as_told Tells IsSo (in_one_line seeded) manner texts flow printed e p
-prints_run Tells IsSo (denote names) manner texts flow printed e p = absurd (cc)
-prints_run Tells IsSo (check name) manner texts flow printed e p = absurd (cc)
-
-texts_of_work : (Tells : Type 0) (IsSo : ℕ → List ℕ → Type 0) (told : Option (List ℕ → Option (List ℕ))) (command : Command) (work : Work) → IsWork told command work
-    → IsOfTexts Tells IsSo told command work
-texts_of_work Tells IsSo told command (Run manner job) j = record {
-  texts = j.texts;
-  flow = job.flow;
-  there = j.there;
-  accepted = accepts_run command (told_in manner) j.texts job.flow j.takes j.accepted;
-  prints = λ printed p. prints_run Tells IsSo command (told_in manner) j.texts job.flow printed j.takes
-      (of_texts job.flow j.texts (system_of job.flow job.batches) job.items (λ sys items. PrintsOfRun Tells IsSo (told_in manner) sys items printed) j.system j.items p);
-}
-texts_of_work Tells IsSo told command (Denote fed) (names, e, j) = subst (λ (other : Command). IsOfTexts Tells IsSo told other (Denote fed)) (sym e) (record {
-  texts = j.texts;
-  flow = fed.flow;
-  there = j.there;
-  accepted = j.accepted;
-  prints = λ printed p. subst (λ (sys : System). PrintsDenotation sys printed) j.system p;
-})
-texts_of_work Tells IsSo told command (Check flow) (name, e, h) = subst (λ (other : Command). IsOfTexts Tells IsSo told other (Check flow)) (sym e) (record {
-  texts = record { flow = h.text; inputs = []; schedule = [] };
-  flow = flow;
-  there = h.there;
-  accepted = h.so;
-  prints = λ printed p. p;
-})
+-- what the work prints is what its task prints of texts that spell it
+prints_spelled : (Tells : Type 0) (IsSo : ℕ → List ℕ → Type 0) (work : Work) (texts : Texts) (printed : List ℕ) → Spells work texts → IsTextOfWork Tells IsSo work printed
+    → Prints Tells IsSo (task_of work) texts (flow_in work) printed
+prints_spelled Tells IsSo (Run manner job) texts printed s p =
+    of_texts job.flow texts (system_of job.flow job.batches) job.items (λ sys items. PrintsOfRun Tells IsSo (told_in manner) sys items printed) s.system s.items p
+prints_spelled Tells IsSo (Denote fed) texts printed s p = subst (λ (sys : System). PrintsDenotation sys printed) s p
+prints_spelled Tells IsSo (Check flow) texts printed s p = p
 
 -- what a work prints is what the call prints that asked for it
 printout_of_work : (Tells : Type 0) (IsSo : ℕ → List ℕ → Type 0) (call : Call) (command : Command) (work : Work) (printed : List ℕ) → call.command ≡ Some command → IsWork call.told command work
     → IsTextOfWork Tells IsSo work printed → IsPrintout Tells IsSo call printed
-printout_of_work Tells IsSo call command work printed e j p =
-    let t = texts_of_work Tells IsSo call.told command work j in
-    record {
-      texts = t.texts;
-      accepted = record { command = command; words = e; there = t.there; flow = t.flow; accepted = t.accepted };
-      text = t.prints printed p;
-    }
+printout_of_work Tells IsSo call command work printed e j p = record {
+  texts = j.texts;
+  accepted = record { command = command; words = e; there = j.there; flow = flow_in work; accepted = j.accepted };
+  text = subst (λ (task : Task). Prints Tells IsSo task j.texts (flow_in work) printed) (sym j.does) (prints_spelled Tells IsSo work j.texts printed j.spelled p);
+}
 
 -- and so is what was written of it
 pub prints : (Tells : Type 0) (IsSo : ℕ → List ℕ → Type 0) (call : Call) (command : Command) (work : Work) (IsPut : List ℕ → Type 0) → call.command ≡ Some command → IsWork call.told command work
@@ -166,30 +125,31 @@ run_of-call call command (Run manner job) P e j p = record {
   command = command;
   words = e;
   manner = told_in manner;
-  takes = j.takes;
+  takes = ap manner_in j.does;
   texts = j.texts;
   there = j.there;
   flow = job.flow;
-  accepted = j.accepted;
-  so = of_texts job.flow j.texts (system_of job.flow job.batches) job.items (P (told_in manner)) j.system j.items p;
+  accepted = j.spelled.accepted;
+  so = of_texts job.flow j.texts (system_of job.flow job.batches) job.items (P (told_in manner)) j.spelled.system j.spelled.items p;
 }
 run_of-call call command (Denote fed) P e j p = absurd p
 run_of-call call command (Check flow) P e j p = absurd p
 
 -- a command that takes no steps has no manner to tell them
-no_manner : (command other : Command) → command ≡ other → manner_of other ≡ None → IsSome (manner_of command) → ⊥
-no_manner command other e none some = false≢true (sym (ap is_some (ap manner_of e ∙ none)) ∙ some)
+no_manner : (call : Call) (command asked : Command) (task : Task) → call.command ≡ Some command → command.task ≡ task → manner_in task ≡ None → call.command ≡ Some asked → IsSome (manner_of asked) → ⊥
+no_manner call command asked task e does none f some =
+    false≢true (sym (ap is_some (ap manner_of (same_command call.command asked command f e) ∙ ap manner_in does ∙ none)) ∙ some)
 
 pub left_of-call : (call : Call) (command : Command) (work : Work) (P : Manner → System → List Item → Type 0) → call.command ≡ Some command → IsWork call.told command work → IfRun work P
     → (asked : Command) → call.command ≡ Some asked → IsSome (manner_of asked) → IsRunOf call P
 left_of-call call command (Run manner job) P e j p asked f s = run_of-call call command (Run manner job) P e j p
-left_of-call call command (Denote fed) P e (names, d, j) p asked f s = absurd (no_manner asked (denote names) (same_command call.command asked command f e ∙ d) refl s)
-left_of-call call command (Check flow) P e (name, d, j) p asked f s = absurd (no_manner asked (check name) (same_command call.command asked command f e ∙ d) refl s)
+left_of-call call command (Denote fed) P e j p asked f s = absurd (no_manner call command asked tells_denotation e j.does refl f s)
+left_of-call call command (Check flow) P e j p asked f s = absurd (no_manner call command asked lists_nodes e j.does refl f s)
 
 -- work that takes no steps leaves the store as it is
 stays_unless_run : {K : Type 0} (told : Option (List ℕ → Option (List ℕ))) (command : Command) (work : Work) (before after : K) → IsWork told command work
     → manner_of command ≡ None → StaysUnlessRun work before after → after ≡ before
-stays_unless_run told command (Run manner job) before after j n s = absurd (some (sym j.takes ∙ n))
+stays_unless_run told command (Run manner job) before after j n s = absurd (some (sym (ap manner_in j.does) ∙ n))
   where
     some : Some (told_in manner) ≡ None → ⊥
     some e = absurd (cc)
@@ -222,7 +182,7 @@ late_fault (Engine engine.NoMemory) = lit< tt
 
 -- the folder, once the texts were read
 pub folder_read : {F : Type 0} (texts : F → Option (List ℕ → Option (List ℕ))) (fetch_count : F → ℕ) (command : Option Command) (asked : Command) (status : Status) (before after : F)
-    → command ≡ Some asked → texts after ≡ texts before → (asks_folder asked ≡ false → after ≡ before) → AsksNoMore (texts before) asked (fetch_count before) (fetch_count after)
+    → command ≡ Some asked → texts after ≡ texts before → (asks_folder asked ≡ false → after ≡ before) → AsksNoMore (texts before) asked.texts (fetch_count before) (fetch_count after)
     → KeepsFolder texts fetch_count command status before after
 folder_read texts fetch_count command asked status before after e stay stays more = record {
   texts_stay = stay;
@@ -230,45 +190,34 @@ folder_read texts fetch_count command asked status before after e stay stays mor
     | inl asks ↦ absurd (not_asked (ap (λ c. option_map asks_folder c) e ∙ ap Some asks))
     | inr asks_not ↦ stays asks_not
   ];
-  asked_no_more = λ other f. inr (subst (λ (c : Command). AsksNoMore (texts before) c (fetch_count before) (fetch_count after)) (same_command command asked other e f) more);
+  asked_no_more = λ other f. inr (subst (λ (c : Command). AsksNoMore (texts before) c.texts (fetch_count before) (fetch_count after)) (same_command command asked other e f) more);
 }
 
 -- ---- one answer
 
 -- where the folder tells its texts, if it is asked, a command does not accept some and refuse one
-accepts_and_refuses : (told : Option (List ℕ → Option (List ℕ))) (command : Command) (texts : Texts) (flow : Dataflow) (refusal : Refusal) → (asks_folder command ≡ true → IsSome told)
-    → HasTexts told command texts → Accepts command texts flow → Refuses told command refusal → ⊥
-accepts_and_refuses None (run names) texts flow refusal s t a f = absurd (false≢true (s refl))
-accepts_and_refuses None (endure names) texts flow refusal s t a f = absurd (false≢true (s refl))
-accepts_and_refuses None (generate seeded) texts flow refusal s t a f = absurd f
-accepts_and_refuses None (denote names) texts flow refusal s t a f = absurd (false≢true (s refl))
-accepts_and_refuses None (check name) texts flow refusal s t a f = absurd (false≢true (s refl))
-accepts_and_refuses (Some folder) (run names) texts flow refusal s t a f = accepted_or_refused folder names texts flow refusal t a f
-accepts_and_refuses (Some folder) (endure names) texts flow refusal s t a f = accepted_or_refused folder names texts flow refusal t a f
-accepts_and_refuses (Some folder) (generate seeded) texts flow refusal s t a f = absurd f
-accepts_and_refuses (Some folder) (denote names) texts flow refusal s t a f = accepted_or_first_of_two folder names texts flow refusal t a f
-accepts_and_refuses (Some folder) (check name) texts flow refusal s t a f = flow_or_refused folder name texts.flow flow refusal t a f
+accepts_and_refuses : (told : Option (List ℕ → Option (List ℕ))) (origin : Origin) (texts : Texts) (flow : Dataflow) (refusal : Refusal) → (are_in_folder origin ≡ true → IsSome told)
+    → HasTexts told origin texts → Accepts origin texts flow → Refuses told origin refusal → ⊥
+accepts_and_refuses (Some folder) origin texts flow refusal s t a f = accepted_or_refused folder origin texts flow refusal t a f
+accepts_and_refuses None (in_folder name others) texts flow refusal s t a f = absurd (false≢true (s refl))
+accepts_and_refuses None (generated seeded) texts flow refusal s t a f = f
 
 -- nor refuse one in two ways
-refuses_once : (told : Option (List ℕ → Option (List ℕ))) (command : Command) (one other : Refusal) → IsSome told → Refuses told command one → Refuses told command other → one ≡ other
-refuses_once None command one other s f g = absurd (false≢true s)
-refuses_once (Some folder) (run names) one other s f g = one_first_refusal folder names one other f g
-refuses_once (Some folder) (endure names) one other s f g = one_first_refusal folder names one other f g
-refuses_once (Some folder) (generate seeded) one other s f g = absurd f
-refuses_once (Some folder) (denote names) one other s f g = one_first_of_two folder names one other f g
-refuses_once (Some folder) (check name) one other s f g = one_flow_refusal folder name one other f g
+refuses_once : (told : Option (List ℕ → Option (List ℕ))) (origin : Origin) (one other : Refusal) → IsSome told → Refuses told origin one → Refuses told origin other → one ≡ other
+refuses_once None origin one other s f g = absurd (false≢true s)
+refuses_once (Some folder) origin one other s f g = one_first_refusal folder origin one other f g
 
 -- no call has texts that are accepted and one that is refused
 accepted_and_refused : (call : Call) (texts : Texts) (refusal : Refusal) → (a : HasAccepted call texts) → (asks_folder a.command ≡ true → IsSome call.told) → HasRefused call refusal → ⊥
 accepted_and_refused call texts refusal a tells f =
-    accepts_and_refuses call.told a.command texts a.flow refusal tells a.there a.accepted
-    (subst (λ command. Refuses call.told command refusal) (same_command call.command f.command a.command f.words a.words) f.first)
+    accepts_and_refuses call.told a.command.texts texts a.flow refusal tells a.there a.accepted
+    (subst (λ (command : Command). Refuses call.told command.texts refusal) (same_command call.command f.command a.command f.words a.words) f.first)
 
 -- and it has one refusal
 one_refusal : (call : Call) (one other : Refusal) → IsSome call.told → HasRefused call one → HasRefused call other → one ≡ other
 one_refusal call one other tells p q =
-    refuses_once call.told q.command one other tells
-    (subst (λ command. Refuses call.told command one) (same_command call.command p.command q.command p.words q.words) p.first) q.first
+    refuses_once call.told q.command.texts one other tells
+    (subst (λ (command : Command). Refuses call.told command.texts one) (same_command call.command p.command q.command p.words q.words) p.first) q.first
 
 -- words that are a command are not none
 pub not_none : (command : Option Command) (asked : Command) → command ≡ Some asked → command ≡ None → ⊥
@@ -304,7 +253,7 @@ pub record IsToldOf (Tells : Type 0) (call : Call) (status : Status) : Type 0 wh
 -- a run has accepted texts
 pub accepted_of-run : (call : Call) (P : Manner → System → List Item → Type 0) → IsRunOf call P → (texts : Texts) × HasAccepted call texts
 accepted_of-run call P r =
-    (r.texts, record { command = r.command; words = r.words; there = r.there; flow = r.flow; accepted = accepts_run r.command r.manner r.texts r.flow r.takes r.accepted })
+    (r.texts, record { command = r.command; words = r.words; there = r.there; flow = r.flow; accepted = accepts_three r.command.texts r.texts r.flow r.accepted })
 
 -- a damaged record ends a run only where the store does not tell its records
 pub untold_of-damage : (Tells : Type 0) (count last id : ℕ) (given : Option (ℕ × List ℕ)) (before after : SinkView) (manner : Manner) (sys : System) (items : List Item)
@@ -336,7 +285,7 @@ completes Tells call NoMemory s texts a tells = inr (inr (inr (inr (inr refl))))
 
 -- what the texts bring about
 pub texts-answered : (Tells : Type 0) (call : Call) (status : Status) → IsToldOf Tells call status → AnswersTexts Tells call status
-texts-answered Tells call status s = record { decided = texts-decided call.told; refuses = refuses Tells call status s; completes = completes Tells call status s }
+texts-answered Tells call status s = record { decided = λ command. texts-decided call.told command.texts; refuses = refuses Tells call status s; completes = completes Tells call status s }
 
 -- ---- what was told
 
@@ -393,7 +342,7 @@ fault_not_done (Engine engine.NoMemory) e = absurd (cc)
 -- the work of a command that does not go on through faults ended at the first
 ends_at_fault : (T : Type 0) (told : Option (List ℕ → Option (List ℕ))) (f : RunFault) (before after : ℕ) (command : Command) (work : Work) → IsWork told command work
     → (manner_of command ≡ Some through_faults → ⊥) → EndsAtFault {T = T} work (Err f) before after → after ≡ store_faults_told (status_of f) before
-ends_at_fault T told f before after command (Run manner job) j once ends = count_told T f before after (ends (first (told_in manner) (λ e. once (j.takes ∙ ap Some e))))
+ends_at_fault T told f before after command (Run manner job) j once ends = count_told T f before after (ends (first (told_in manner) (λ e. once (ap manner_in j.does ∙ ap Some e))))
   where
     first : (m : Manner) → (m ≡ through_faults → ⊥) → goes_on m ≡ false
     first by_lines other = refl
@@ -443,27 +392,21 @@ pub nothing_told : {O : Type 0} (told : Option (List ℕ → Option (List ℕ)))
     → 8 ≤ status_number (status_of f) → status_number (status_of f) ≤ 9 → after ≡ before
 nothing_told {O} told command asked work f before after e j stays one least most = stays_there f stays least most
   where
-    seeded : asked ≡ generate one.0
-    seeded = same_Some asked (generate one.0) (sym e ∙ one.1)
+    told_so : manner_in (task_of work) ≡ Some (in_one_line one.0)
+    told_so = sym (ap manner_in j.does) ∙ sym (ap (λ c. option_and_then manner_of c) e) ∙ one.1
 
     in_line : (m : Manner) → m ≡ in_one_line one.0 → StaysIfInOneLine m before after → after ≡ before
     in_line by_lines e s = absurd (cc)
     in_line through_faults e s = absurd (cc)
     in_line (in_one_line seed) e s = s
 
-    of_work : (w : Work) → IsWork told asked w → StaysIfToldInOne w before after → after ≡ before
-    of_work (Run manner job) k s = in_line (told_in manner) (same_Some (told_in manner) (in_one_line one.0) (sym k.takes ∙ ap manner_of seeded)) s
-    of_work (Denote fed) (names, e, k) s = absurd (denoted (sym e ∙ seeded))
-      where
-        denoted : denote names ≡ generate one.0 → ⊥
-        denoted h = absurd (cc)
-    of_work (Check flow) (name, e, k) s = absurd (checked (sym e ∙ seeded))
-      where
-        checked : check name ≡ generate one.0 → ⊥
-        checked h = absurd (cc)
+    of_work : (w : Work) → manner_in (task_of w) ≡ Some (in_one_line one.0) → StaysIfToldInOne w before after → after ≡ before
+    of_work (Run manner job) k s = in_line (told_in manner) (same_Some (told_in manner) (in_one_line one.0) k) s
+    of_work (Denote fed) k s = absurd (cc)
+    of_work (Check flow) k s = absurd (cc)
 
     stays_there : (g : RunFault) → ((fault : EngineFault) → g ≡ Engine fault → StaysIfToldInOne work before after)
         → 8 ≤ status_number (status_of g) → status_number (status_of g) ≤ 9 → after ≡ before
     stays_there (Out output.Failed) s l m = absurd (omega (arith, l))
     stays_there (Out output.NoMemory) s l m = absurd (omega (arith, m))
-    stays_there (Engine fault) s l m = of_work work j (s fault refl)
+    stays_there (Engine fault) s l m = of_work work told_so (s fault refl)

@@ -42,7 +42,7 @@ use Rattle.fw_run.specs.Stopping.{HoldsWrites, IsReadIn, LeavesWrites, IsStopped
 use Rattle.fw_run.specs.Tallies.{tally_of, tally_shown, summary_line, PrintsSummary}
 use Rattle.fw_run.specs.Through.{ThroughRun, IsRunKnown, IsCountAt, IsSoFar, BeginsThrough, IsPartThrough, AreTaken, AreCutOff, AreDamaged, EndsItems}
 use Rattle.fw_run.specs.Trusting.{AreKnown, BeginsWith, PrintsKnown}
-use Rattle.fw_command.specs.Words.{Manner, Seeded, by_lines, through_faults, in_one_line}
+use Rattle.fw_command.specs.Command.{Manner, Seeded, by_lines, through_faults, in_one_line}
 use Rattle.fw_command.specs.Writing.{IsWritten, IsCutOff, WritesText}
 
 -- ---- a run that its first fault ends

@@ -7,7 +7,7 @@ use Rattle.fw_run.specs.declared.status.Status.{Status}
 use Rattle.fw_run.specs.declared.status.Status.TheVariants.{Done, BadWords, Refused, WriteFault, StoreFault, Damaged, NoMemory}
 use Rattle.fw_run.specs.Call.{Call, AnswersTexts, CountsFaults, CountsWrites, PrintsAll, PrintsPart, PrintsFirst, LeavesStore, StopsAtStore, StopsAtDamage, HasRefused, KeepsFolder, KeepsStore}
 use Rattle.fw_run.specs.Status.{read_faults_told, status_number}
-use Rattle.fw_command.specs.Words.{IsInOneLine}
+use Rattle.fw_command.specs.Command.{IsInOneLine}
 use Rattle.fw_command.specs.Writing.{NeverFall}
 
 -- what is outside of a call: a folder, a store and an output

@@ -2,14 +2,14 @@
 use Rattle.std.specs.Prelude.{◌≡◌, ◌≢◌, ◌⊎◌, ◌≤◌, ℕ, true, List, [], Option, Some, None, IsSome, option_map, option_and_then}
 use Rattle.std.specs.Borrow.{Bor}
 use Rattle.fw_flow.specs.Dataflow.{Dataflow, System}
-use Rattle.fw_flow_text.specs.Grammar as flows
 use Rattle.fw_outside.specs.declared.fault.OutFault.{OutFault}
-use Rattle.fw_outside.specs.Outside.{SinkView, IsText, one_more}
+use Rattle.fw_outside.specs.Outside.{SinkView, one_more}
 use Rattle.fw_lines.specs.declared.refusal.Refusal.{Refusal}
 use Rattle.fw_schedule.specs.declared.item.Item.{Item}
 use Rattle.fw_keep.specs.Stored.{Records}
 use Rattle.fw_run.specs.declared.status.Status.{Status}
 use Rattle.fw_run.specs.declared.status.Status.TheVariants.{Done, Refused, ReadFault, WriteFault, StoreFault, Damaged, NoMemory}
+use Rattle.fw_command.specs.Command.{Command, Task, takes_steps, tells_denotation, lists_nodes, Manner, through_faults, manner_of, asks_folder}
 use Rattle.fw_command.specs.DenotationText.{PrintsDenotation}
 use Rattle.fw_run.specs.Ends.{PrintsOfRun, IsWholeRun, IsStoreFault, IsDamageIn}
 use Rattle.fw_run.specs.Enduring.{RoseBy, RoseByFaults, RoseOrFull, StaysOrRose}
@@ -17,8 +17,8 @@ use Rattle.fw_command.specs.Listing.{check_text}
 use Rattle.fw_run.specs.Status.{IsTold, write_faults_told, store_faults_told, note_line, status_number}
 use Rattle.fw_generate.specs.Laws.{AreAccepted}
 use Rattle.fw_generate.specs.Texts.{Texts}
-use Rattle.fw_command.specs.Texts.{AreThere, AreGenerated, HasTwo, AreOfSystem, IsFlowRefused, IsFirstOfTwoRefused, IsFirstRefusal, IsAskedTwice, IsAskedNoMore, spelled_system, spelled_items}
-use Rattle.fw_command.specs.Words.{Command, Manner, by_lines, through_faults, in_one_line, manner_of, asks_folder, run, endure, generate, denote, check, command_of, words_in}
+use Rattle.fw_command.specs.Texts.{HasTexts, Accepts, Refuses, AsksNoMore, spelled_system, spelled_items}
+use Rattle.fw_command.specs.Words.{command_of, words_in}
 use Rattle.fw_command.specs.Writing.{IsWritten, IsPartWritten, IsCutOff, WritesText}
 
 -- what a call is given: the command that its words are, if they are one, and the folder's texts, where it tells them
@@ -30,51 +30,13 @@ pub record Call : Type 0 where
 abbrev pub call_of : List (Bor (List ℕ)) → Option (List ℕ → Option (List ℕ)) → Call
 call_of words told = record { command = command_of (words_in words); told = told }
 
--- ---- the commands; of the texts of a check the flow alone counts, of those of a denotation the flow and the inputs
-
--- the folder has these texts under the names of the command, where it tells its texts; or they are generated
-abbrev pub HasTexts : Option (List ℕ → Option (List ℕ)) → Command → Texts → Type 0
-HasTexts told (run names) texts = AreThere told names texts
-HasTexts told (endure names) texts = AreThere told names texts
-HasTexts told (generate seeded) texts = AreGenerated seeded texts
-HasTexts told (denote names) texts = HasTwo told names texts
-HasTexts told (check name) texts = IsText told name texts.flow
-
--- the command accepts the texts, of which the flow's declares this dataflow
-abbrev pub Accepts : Command → Texts → Dataflow → Type 0
-Accepts (run names) texts flow = AreAccepted texts flow
-Accepts (endure names) texts flow = AreAccepted texts flow
-Accepts (generate seeded) texts flow = AreAccepted texts flow
-Accepts (denote names) texts flow = AreOfSystem texts flow
-Accepts (check name) texts flow = flows.IsAccepted texts.flow flow
-
--- the first of its texts that the command does not accept is refused so; generated texts are accepted
-abbrev pub Refuses : Option (List ℕ → Option (List ℕ)) → Command → Refusal → Type 0
-Refuses told (run names) refusal = IsFirstRefusal told names refusal
-Refuses told (endure names) refusal = IsFirstRefusal told names refusal
-Refuses told (generate seeded) refusal = ⊥
-Refuses told (denote names) refusal = IsFirstOfTwoRefused told names refusal
-Refuses told (check name) refusal = IsFlowRefused told name refusal
-
--- This is what the command prints of the texts, of which the flow's declares this dataflow, of a run as far as it is known. Through
+-- This is what a command prints of accepted texts, of which the flow's declares this dataflow, of a run as far as it is known. Through
 -- faults of the store it is first bytes of that, and this is true of how many faults there are, and of the bytes that are left.
-abbrev pub Prints : Type 0 → (ℕ → List ℕ → Type 0) → Command → Texts → Dataflow → List ℕ → Type 0
-Prints Tells IsSo (run names) texts flow printed = PrintsOfRun Tells IsSo by_lines (spelled_system flow texts) (spelled_items flow texts) printed
-Prints Tells IsSo (endure names) texts flow printed =
-    PrintsOfRun Tells IsSo through_faults (spelled_system flow texts) (spelled_items flow texts) printed
-Prints Tells IsSo (generate seeded) texts flow printed =
-    PrintsOfRun Tells IsSo (in_one_line seeded) (spelled_system flow texts) (spelled_items flow texts) printed
-Prints Tells IsSo (denote names) texts flow printed = PrintsDenotation (spelled_system flow texts) printed
-Prints Tells IsSo (check name) texts flow printed = printed ≡ check_text flow
-
--- the command asked a folder no more often than this, if its calls were counted from the first number to the second: a check once,
--- and never for generated texts
-abbrev pub AsksNoMore : Option (List ℕ → Option (List ℕ)) → Command → ℕ → ℕ → Type 0
-AsksNoMore told (run names) before after = IsAskedNoMore told names before after
-AsksNoMore told (endure names) before after = IsAskedNoMore told names before after
-AsksNoMore told (generate seeded) before after = after ≡ before
-AsksNoMore told (denote names) before after = IsAskedTwice told names.flow before after
-AsksNoMore told (check name) before after = after ≡ one_more before
+abbrev pub Prints : Type 0 → (ℕ → List ℕ → Type 0) → Task → Texts → Dataflow → List ℕ → Type 0
+Prints Tells IsSo (takes_steps manner) texts flow printed =
+    PrintsOfRun Tells IsSo manner (spelled_system flow texts) (spelled_items flow texts) printed
+Prints Tells IsSo tells_denotation texts flow printed = PrintsDenotation (spelled_system flow texts) printed
+Prints Tells IsSo lists_nodes texts flow printed = printed ≡ check_text flow
 
 -- ---- the texts
 
@@ -82,15 +44,15 @@ AsksNoMore told (check name) before after = after ≡ one_more before
 pub record HasAccepted (call : Call) (texts : Texts) : Type 0 where
   pub command : Command
   pub words : call.command ≡ Some command
-  pub there : HasTexts call.told command texts
+  pub there : HasTexts call.told command.texts texts
   pub flow : Dataflow
-  pub accepted : Accepts command texts flow
+  pub accepted : Accepts command.texts texts flow
 
 -- the words are a command, and the first of its texts that it does not accept is refused so
 pub record HasRefused (call : Call) (refusal : Refusal) : Type 0 where
   pub command : Command
   pub words : call.command ≡ Some command
-  pub first : Refuses call.told command refusal
+  pub first : Refuses call.told command.texts refusal
 
 -- a record was damaged in a store that does not tell its records
 abbrev pub IsDamageEnd : Type 0 → Status → Type 0
@@ -109,8 +71,8 @@ IsRefusalEnd refusal status = (status ≡ Refused refusal) ⊎ ((status ≡ Read
 -- one is refused, and of accepted ones all is printed, also where the folder is not asked; unless what is outside fails or memory is
 -- refused.
 pub record AnswersTexts (Tells : Type 0) (call : Call) (status : Status) : Type 0 where
-  pub decided : (command : Command) (texts : Texts) → HasTexts call.told command texts
-      → ((flow : Dataflow) × Accepts command texts flow) ⊎ ((refusal : Refusal) × Refuses call.told command refusal)
+  pub decided : (command : Command) (texts : Texts) → HasTexts call.told command.texts texts
+      → ((flow : Dataflow) × Accepts command.texts texts flow) ⊎ ((refusal : Refusal) × Refuses call.told command.texts refusal)
   pub refuses : (refusal : Refusal) → IsSome call.told → HasRefused call refusal → IsRefusalEnd refusal status
   pub completes : (texts : Texts) → (accepted : HasAccepted call texts) → (asks_folder accepted.command ≡ true → IsSome call.told) → IsRunEnd Tells status
 
@@ -121,7 +83,7 @@ pub record AnswersTexts (Tells : Type 0) (call : Call) (status : Status) : Type 
 pub record IsPrintout (Tells : Type 0) (IsSo : ℕ → List ℕ → Type 0) (call : Call) (printed : List ℕ) : Type 0 where
   pub texts : Texts
   pub accepted : HasAccepted call texts
-  pub text : Prints Tells IsSo accepted.command texts accepted.flow printed
+  pub text : Prints Tells IsSo accepted.command.task texts accepted.flow printed
 
 -- all that the call prints was written, and it tells no fault of the store
 abbrev pub PrintsAll : Type 0 → Call → SinkView → SinkView → Type 0
@@ -148,7 +110,7 @@ pub record IsRunOf (call : Call) (IsSo : Manner → System → List Item → Typ
   pub manner : Manner
   pub takes : manner_of command ≡ Some manner
   pub texts : Texts
-  pub there : HasTexts call.told command texts
+  pub there : HasTexts call.told command.texts texts
   pub flow : Dataflow
   pub accepted : AreAccepted texts flow
   pub so : IsSo manner (spelled_system flow texts) (spelled_items flow texts)
@@ -196,7 +158,7 @@ pub record KeepsFolder {F : Type 0} (texts : F → Option (List ℕ → Option (
   pub texts_stay : texts after ≡ texts before
   pub nothing_read : option_map asks_folder command ≢ Some true → after ≡ before
   pub asked_no_more : (asked : Command) → command ≡ Some asked
-      → ((status ≡ NoMemory) × (after ≡ before)) ⊎ AsksNoMore (texts before) asked (fetch_count before) (fetch_count after)
+      → ((status ≡ NoMemory) × (after ≡ before)) ⊎ AsksNoMore (texts before) asked.texts (fetch_count before) (fetch_count after)
 
 -- The notes took the status's line, or first bytes of it where they refused it, once; they are as they were where all went well.
 pub record TellsNotes {N : Type 0} (view : N → SinkView) (status : Status) (before after : N) : Type 0 where

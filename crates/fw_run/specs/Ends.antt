@@ -17,7 +17,7 @@ use Rattle.fw_run.specs.Reports.{endured_line}
 use Rattle.fw_run.specs.Stopping.{LeavesWrites, IsStoppedByStore, IsStoppedByDamage}
 use Rattle.fw_run.specs.Tallies.{PrintsSummary, summary_line}
 use Rattle.fw_run.specs.Trusting.{AreKnown, PrintsKnown}
-use Rattle.fw_command.specs.Words.{Manner, by_lines, through_faults, in_one_line}
+use Rattle.fw_command.specs.Command.{Manner, by_lines, through_faults, in_one_line}
 use Rattle.fw_command.specs.Writing.{IsWritten, IsCutOff, WritesText}
 
 -- ---- what is told

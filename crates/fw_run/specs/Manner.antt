@@ -1,6 +1,7 @@
 -- How the steps of a run are told.
 use Rattle.std.specs.Prelude.{Bool, true, false}
-use Rattle.fw_command.specs.Words.{Manner as Told, by_lines, through_faults, in_one_line, seeded_in}
+use Rattle.fw_command.specs.Command.{Manner as Told, by_lines, through_faults, in_one_line}
+use Rattle.fw_command.specs.Words.{seeded_in}
 use Rattle.fw_run.specs.declared.manner.Manner.{Manner}
 use Rattle.fw_run.specs.declared.manner.Manner.TheVariants.{ByLines, ThroughFaults, InOneLine}
 

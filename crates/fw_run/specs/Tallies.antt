@@ -12,7 +12,7 @@ use Rattle.fw_run.specs.declared.tally.Tally.{Tally}
 use Rattle.fw_run.specs.Items.{ItemsRun}
 use Rattle.fw_run.specs.Reports.{Report, shown_in}
 use Rattle.fw_run.specs.Printed.{idle_count}
-use Rattle.fw_command.specs.Words.{Seeded}
+use Rattle.fw_command.specs.Command.{Seeded}
 
 -- nodes were restored
 abbrev pub is_recovery : Outcome → Bool

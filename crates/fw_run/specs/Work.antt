@@ -1,7 +1,7 @@
 -- What a command does with what its texts spell.
-use Rattle.std.specs.Prelude.{◌≡◌, ℕ, false, List, [], Option, Some, Result, OnOk, OnErr, IsErrOf}
+use Rattle.std.specs.Prelude.{◌≡◌, ℕ, false, List, [], Option, Result, OnOk, OnErr, IsErrOf}
 use Rattle.fw_outside.specs.Outside.{StoreView, SinkView}
-use Rattle.fw_flow.specs.Dataflow.{System, system_of}
+use Rattle.fw_flow.specs.Dataflow.{Dataflow, System, system_of}
 use Rattle.fw_flow.specs.WellFormed.{IsWellFormedSystem}
 use Rattle.fw_schedule.specs.declared.item.Item.{Item}
 use Rattle.fw_run.specs.declared.fault.RunFault.{RunFault}
@@ -10,7 +10,7 @@ use Rattle.fw_run.specs.declared.work.Work.TheVariants.{Run, Denote, Check}
 use Rattle.fw_generate.specs.Laws.{AreAccepted}
 use Rattle.fw_generate.specs.Texts.{Texts}
 use Rattle.fw_command.specs.declared.reading.Job.{Job}
-use Rattle.fw_run.specs.Call.{HasTexts}
+use Rattle.fw_command.specs.Command.{Command, Task, takes_steps, tells_denotation, lists_nodes, Manner}
 use Rattle.fw_command.specs.DenotationText.{PrintsDenotation}
 use Rattle.fw_running.specs.declared.fault.EngineFault.TheVariants as fault
 use Rattle.fw_run.specs.declared.fault.RunFault.TheVariants as stop
@@ -20,25 +20,41 @@ use Rattle.fw_run.specs.Fault.{faults_after}
 use Rattle.fw_run.specs.Manner.{goes_on, told_in}
 use Rattle.fw_command.specs.Listing.{check_text}
 use Rattle.fw_run.specs.Performing.{WritesUntil}
-use Rattle.fw_command.specs.Reading.{IsFed, IsReady}
-use Rattle.fw_command.specs.Texts.{HasFlow, spelled_system, spelled_items}
-use Rattle.fw_command.specs.Words.{Command, Manner, SystemNames, manner_of, denote, check}
+use Rattle.fw_command.specs.Reading.{IsReady}
+use Rattle.fw_command.specs.Texts.{HasTexts, Accepts, spelled_system, spelled_items}
 use Rattle.fw_command.specs.Writing.{WritesText}
 
--- the command takes the steps of the job, tells them in this manner, and has accepted texts that spell the job
-pub record IsRunWork (told : Option (List ℕ → Option (List ℕ))) (command : Command) (manner : Manner) (job : Job) : Type 0 where
-  pub takes : manner_of command ≡ Some manner
-  pub texts : Texts
-  pub there : HasTexts told command texts
+-- what a command does to make this work of its texts
+abbrev pub task_of : Work → Task
+task_of (Run manner job) = takes_steps (told_in manner)
+task_of (Denote fed) = tells_denotation
+task_of (Check flow) = lists_nodes
+
+-- the dataflow of the work
+abbrev pub flow_in : Work → Dataflow
+flow_in (Run manner job) = job.flow
+flow_in (Denote fed) = fed.flow
+flow_in (Check flow) = flow
+
+-- the texts spell the job, and all three are accepted
+pub record SpellsJob (job : Job) (texts : Texts) : Type 0 where
   pub accepted : AreAccepted texts job.flow
   pub system : system_of job.flow job.batches ≡ spelled_system job.flow texts
   pub items : job.items ≡ spelled_items job.flow texts
 
--- the work is that of the command, with what the accepted texts under its names spell
-abbrev pub IsWork : Option (List ℕ → Option (List ℕ)) → Command → Work → Type 0
-IsWork told command (Run manner job) = IsRunWork told command (told_in manner) job
-IsWork told command (Denote fed) = (names : SystemNames) × (command ≡ denote names) × IsFed told names fed
-IsWork told command (Check flow) = (name : List ℕ) × (command ≡ check name) × HasFlow told name flow
+-- the texts, accepted, spell the work
+abbrev pub Spells : Work → Texts → Type 0
+Spells (Run manner job) texts = SpellsJob job texts
+Spells (Denote fed) texts = system_of fed.flow fed.batches ≡ spelled_system fed.flow texts
+Spells (Check flow) texts = Unit {0}
+
+-- the work is that of the command, with what its accepted texts spell
+pub record IsWork (told : Option (List ℕ → Option (List ℕ))) (command : Command) (work : Work) : Type 0 where
+  pub does : command.task ≡ task_of work
+  pub texts : Texts
+  pub there : HasTexts told command.texts texts
+  pub accepted : Accepts command.texts texts (flow_in work)
+  pub spelled : Spells work texts
 
 -- what the work asks of the system
 abbrev pub IsReadyWork : Work → Type 0

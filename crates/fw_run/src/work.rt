@@ -2,9 +2,10 @@
 ghost use Rattle.std.specs.Prelude.{◌≡◌, false, IfOk, IfErr, IsErrOf, IsSome, is_some};
 ghost use Rattle.fw_keep.specs.Stored.{IsEmptyStore};
 ghost use Rattle.fw_running.specs.declared.fault.EngineFault.{EngineFault as Fault};
-ghost use Rattle.fw_run.specs.Call.{Refuses, AsksNoMore};
+ghost use Rattle.fw_command.specs.Command.{asks_folder};
 ghost use Rattle.fw_command.specs.Reading.{IfRefused, read_faults_after};
-ghost use Rattle.fw_command.specs.Words.{IsOfSize, asks_folder, command_in};
+ghost use Rattle.fw_command.specs.Texts.{Refuses, AsksNoMore};
+ghost use Rattle.fw_command.specs.Words.{IsOfSize, command_in};
 ghost use Rattle.fw_run.specs.Work.{IsWork, IsReadyWork, EndsWork, StaysUnlessRun, StaysIfToldInOne};
 
 use crate::fault::RunFault;
@@ -38,9 +39,9 @@ pub(crate) fn read_work<F: Folder>(
     requires size { IsOfSize command.now }
     ensures work { IfOk result (IsWork (F.texts folder.old) (command_in command.now)) }
     ensures ready { IfOk result IsReadyWork }
-    ensures refused { IfErr result (IfRefused (Refuses (F.texts folder.old) (command_in command.now))) }
+    ensures refused { IfErr result (IfRefused (Refuses (F.texts folder.old) (command_in command.now).texts)) }
     ensures faults { F.fault_count folder.new ≡ read_faults_after result (F.fault_count folder.old) }
-    ensures asked_no_more { AsksNoMore (F.texts folder.old) (command_in command.now) (F.fetch_count folder.old) (F.fetch_count folder.new) }
+    ensures asked_no_more { AsksNoMore (F.texts folder.old) (command_in command.now).texts (F.fetch_count folder.old) (F.fetch_count folder.new) }
     ensures texts_stay { F.texts folder.new ≡ F.texts folder.old }
     ensures stays { asks_folder (command_in command.now) ≡ false → folder.new ≡ folder.old }
 {

@@ -1,10 +1,10 @@
-use Rattle.std.proofs.Common.{ℕ, List, refl}
+use Rattle.std.proofs.Common.{ℕ, List, [], refl}
 use Rattle.std.proofs.lemmas.Result.{err_from_is_err_and}
 use Rattle.fw_bag.specs.declared.rec.Rec.{Rec}
 use Rattle.fw_flow.specs.Dataflow.{Dataflow}
 use Rattle.fw_command.specs.declared.reading.Fed.{Fed}
 use Rattle.fw_command.proofs.ReadCounts.{read_passed}
-use Rattle.fw_command.proofs.TextLaws.{fed_read, fetched_twice}
+use Rattle.fw_command.proofs.TextLaws.{fed_read, fetched_second}
 use Rattle.fw_command.specs.Words.{system_names_in}
 use Rattle.fw_command.proofs.reading.read_fed.Goals as goal
 
@@ -29,11 +29,11 @@ returns-clause-fed g c =
 pub returns-in_err-batches-clause-asked_no_more : goal.returns-in_err-batches-clause-asked_no_more
 returns-in_err-batches-clause-asked_no_more g c =
     let count = g.F.Folder.fetch_count in
-    fetched_twice (g.F.Folder.texts c.args.folder.now) (system_names_in c.args.names.now).flow c.in_ok-flow.flow (count c.args.folder.now) (count c.fetch_flow.new.folder) (count c.fetch_inputs.new.folder)
+    fetched_second (g.F.Folder.texts c.args.folder.now) (system_names_in c.args.names.now).flow (system_names_in c.args.names.now).inputs [] c.in_ok-flow.flow (count c.args.folder.now) (count c.fetch_flow.new.folder) (count c.fetch_inputs.new.folder)
     c.in_ok-flow.ensures.flow c.fetch_flow.ensures.counted c.fetch_inputs.ensures.counted
 
 pub returns-clause-asked_no_more : goal.returns-clause-asked_no_more
 returns-clause-asked_no_more g c =
     let count = g.F.Folder.fetch_count in
-    fetched_twice (g.F.Folder.texts c.args.folder.now) (system_names_in c.args.names.now).flow c.in_ok-flow.flow (count c.args.folder.now) (count c.fetch_flow.new.folder) (count c.fetch_inputs.new.folder)
+    fetched_second (g.F.Folder.texts c.args.folder.now) (system_names_in c.args.names.now).flow (system_names_in c.args.names.now).inputs [] c.in_ok-flow.flow (count c.args.folder.now) (count c.fetch_flow.new.folder) (count c.fetch_inputs.new.folder)
     c.in_ok-flow.ensures.flow c.fetch_flow.ensures.counted c.fetch_inputs.ensures.counted

@@ -1,4 +1,4 @@
-use Rattle.std.proofs.Common.{◌≡◌, ℕ, List, refl, ◌∙◌}
+use Rattle.std.proofs.Common.{◌≡◌, ℕ, List, [], ◌∷◌, refl, ◌∙◌}
 use Rattle.std.proofs.lemmas.Result.{err_from_is_err_and}
 use Rattle.fw_bag.specs.declared.rec.Rec.{Rec}
 use Rattle.fw_flow.specs.Dataflow.{Dataflow}
@@ -6,6 +6,7 @@ use Rattle.fw_schedule.specs.declared.item.Item.{Item}
 use Rattle.fw_command.specs.declared.reading.Job.{Job}
 use Rattle.fw_command.proofs.ReadCounts.{read_passed}
 use Rattle.fw_command.proofs.TextLaws.{job_read_in_turn, fetched_second, fetched_third, refused_third}
+use Rattle.fw_command.specs.Command.{as_schedule}
 use Rattle.fw_command.specs.Words.{text_names_in}
 use Rattle.fw_command.proofs.reading.read_job.Goals as goal
 
@@ -38,7 +39,8 @@ returns-clause-job g c =
 pub returns-in_err-batches-clause-asked_no_more : goal.returns-in_err-batches-clause-asked_no_more
 returns-in_err-batches-clause-asked_no_more g c =
     let count = g.F.Folder.fetch_count in
-    fetched_second (g.F.Folder.texts c.args.folder.now) (text_names_in c.args.words.now) c.in_ok-flow.flow (count c.args.folder.now) (count c.fetch_flow.new.folder) (count c.fetch_inputs.new.folder)
+    let names = text_names_in c.args.words.now in
+    fetched_second (g.F.Folder.texts c.args.folder.now) names.flow names.inputs (record { name = names.schedule; read = as_schedule } ∷ []) c.in_ok-flow.flow (count c.args.folder.now) (count c.fetch_flow.new.folder) (count c.fetch_inputs.new.folder)
     c.in_ok-flow.ensures.flow c.fetch_flow.ensures.counted c.fetch_inputs.ensures.counted
 
 pub returns-in_err-items-clause-asked_no_more : goal.returns-in_err-items-clause-asked_no_more

@@ -4,8 +4,9 @@ use Rattle.fw_command.specs.declared.reading.JobFault.TheVariants as job
 use Rattle.fw_run.proofs.CallLaws.{folder_read}
 use Rattle.fw_run.specs.declared.status.Status.{Status}
 use Rattle.fw_run.specs.Answers.{RunAnswers, known_by, outside_of}
-use Rattle.fw_run.specs.Call.{call_of, Refuses}
+use Rattle.fw_run.specs.Call.{call_of}
 use Rattle.fw_run.specs.Work.{IsWork}
+use Rattle.fw_command.specs.Texts.{Refuses}
 use Rattle.fw_command.specs.Words.{command_in, command_of, words_in}
 use Rattle.fw_run.proofs.run.run.Goals as goal
 
@@ -40,7 +41,7 @@ returns-in-Err-Refused g c =
     let known = known_by texts g.F.Folder.fetch_count g.F.Folder.fault_count g.K.Store.view g.O.Sink.view in
     let command = command_in c.in-Ok-Some.command in
     let words = sym (rw c.in-Ok-Some.field-0-is at c.in-Ok-Some.ensures.command) in
-    let h = answers-not_read known (call_of c.args.words.now (texts read)) command (job.Refused c.in-Err-Refused.refusal) folder read c.args.store.now c.args.out.now words (subst (λ told. Refuses told command c.in-Err-Refused.refusal) (sym c.read_work.ensures.texts_stay) (rw c.in-Err-Refused.field-0-is at c.in-Err-Refused.ensures.refused)) (rw c.in-Err-Refused.field-0-is at c.in-Err-Refused.ensures.faults)
+    let h = answers-not_read known (call_of c.args.words.now (texts read)) command (job.Refused c.in-Err-Refused.refusal) folder read c.args.store.now c.args.out.now words (subst (λ told. Refuses told command.texts c.in-Err-Refused.refusal) (sym c.read_work.ensures.texts_stay) (rw c.in-Err-Refused.field-0-is at c.in-Err-Refused.ensures.refused)) (rw c.in-Err-Refused.field-0-is at c.in-Err-Refused.ensures.faults)
     (folder_read texts g.F.Folder.fetch_count (command_of (words_in c.args.words.now)) command _ folder read words c.read_work.ensures.texts_stay c.read_work.ensures.stays c.read_work.ensures.asked_no_more) in
     search rules
 

@@ -41,6 +41,9 @@ pub use Rattle.fw_model.specs.Resending
 pub use Rattle.fw_model.specs.SortedMessages
 pub use Rattle.fw_model.specs.Steps
 pub use Rattle.fw_model.specs.Writes
+pub use Rattle.fw_rest.specs.Coming
+pub use Rattle.fw_rest.specs.Rest
+pub use Rattle.fw_rest.specs.StepsToRest
 pub use Rattle.fw_headline.specs.Right
 pub use Rattle.fw_keep.specs.Catalogue
 pub use Rattle.fw_keep.specs.Stored
@@ -53,10 +56,12 @@ pub use Rattle.fw_running.specs.Steps as EngineSteps
 pub use Rattle.fw_engine.specs.Engine
 pub use Rattle.fw_generate.specs.Laws as GenerateLaws
 pub use Rattle.fw_generate.specs.Texts
+pub use Rattle.fw_command.specs.Command
 pub use Rattle.fw_command.specs.Texts as CommandTexts
 pub use Rattle.fw_command.specs.Words
 pub use Rattle.fw_command.specs.Writing
 pub use Rattle.fw_run.specs.Answers
 pub use Rattle.fw_run.specs.Call
 pub use Rattle.fw_run.specs.Headline
+pub use Rattle.fw_run.specs.Items
 pub use Rattle.fw_run.specs.Status

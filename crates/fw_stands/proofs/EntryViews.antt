@@ -28,6 +28,7 @@ use Rattle.fw_policy.specs.View.{IsLostAt}
 use Rattle.fw_policy.specs.Offering.{stamps_in_flight, unlogged_stamps}
 use Rattle.fw_model.proofs.SentStandLaws.{IsOne, one-contained, contained-one}
 use Rattle.fw_model.specs.Reached.{IsReached}
+use Rattle.fw_policy.proofs.ReadLaws.{entries-read}
 use Rattle.fw_policy.proofs.UnloggedLaws.{IsOfEntries, unlogged-is, unlogged-has, some-filtered}
 use Rattle.fw_stands.specs.Written.{Holds, AreEntriesOf, uncollected}
 use Rattle.fw_stands.specs.Entries.{entry_front, entry_fronts}
@@ -120,7 +121,7 @@ pub loses_what_is_in_flight : (sys : System) → IsWellFormedSystem sys → (sta
 loses_what_is_in_flight sys w state r ps next effect t es a p full live one at =
     let f = reached-all sys w r.0 r.1 state r.2 in
     let o : IsOfEntries sys state p es [] = record {
-      written = a;
+      written = entries-read sys state es (uncollected state) a;
       apart = f.restore.apart;
       serials = f.restore.serials;
       live = λ l. live-logged sys w r.0 r.1 state r.2 p full l;

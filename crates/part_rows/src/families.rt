@@ -1,6 +1,6 @@
 //! What answers the rows of a file, by its ending.
 use crate::domain::tell_domain;
-use crate::{catalogue, disk, nodes, outside, progress, values};
+use crate::{disk, nodes, outside, progress, values};
 use fw_flow::Flow;
 use fw_flow_text::read_flow;
 use fw_lines::ReadFault;
@@ -70,7 +70,6 @@ fn tell_of_flow(
 ) -> Result<(), AllocError> {
     match family {
         "nodes" => nodes::tell(alloc, flow, row, told),
-        "catalogue" => catalogue::tell(alloc, flow, row, told),
         "progress" => progress::tell(alloc, flow, row, told),
         _ => values::tell(alloc, flow, row, told),
     }

@@ -1,9 +1,7 @@
 //! Rows of data: calls of the parts. The arguments name the files of rows, in order; `docs/rows.md` has their formats.
 #![tactic(auto)]
 
-mod catalogue;
 mod choices;
-mod counts;
 mod disk;
 mod domain;
 mod families;
@@ -12,8 +10,6 @@ mod outside;
 mod progress;
 mod records;
 mod spell;
-mod stamps;
-mod traces;
 mod trail;
 mod values;
 

@@ -13,7 +13,7 @@ use crate::spell::{edge_of, front_outside, table_of};
 use crate::trail::tell_trail;
 use fw_flow::{
     Causes, Choice, Counted, CountedMessages, Cut, EdgeId, Flow, NodeId, Notices, OfEdge, OfEdges,
-    Offer, Offered, Recorded, Records, Restoring, SentTable, Stamps,
+    Offer, Offered, Recorded, Records, Restoring, SentTable, Stamps, Trail,
 };
 use fw_frontier::Front;
 use fw_monitor::descent_to_largest;
@@ -60,16 +60,25 @@ fn of_edges(
 fn record(alloc: Global, flow: &Flow, node: NodeId, word: &str) -> Result<Recorded, NoAnswer>
     ensures { IfOk result (λ r. IsRecordOf flow.now node r) }
 {
-    let (outside, rest) = word.split_once('/').unwrap_or((word, word));
-    let (delivered, rest) = rest.split_once('/').unwrap_or((rest, rest));
+    let (outside, rest) = both_sides(word);
+    let (delivered, rest) = both_sides(rest);
     let (discarded, notified) = rest.split_once('/').unwrap_or((rest, delivered));
     let domain = flow.domain(node);
+    let front = front_outside(alloc, outside, &domain)?;
+    let notified = front_outside(alloc, notified, &domain)?;
+    let delivered = of_edges(alloc, flow, flow.in_edges(node), delivered)?;
+    let discarded = of_edges(alloc, flow, flow.out_edges(node), discarded)?;
     Ok(Recorded {
-        front: front_outside(alloc, outside, &domain)?,
-        notified: front_outside(alloc, notified, &domain)?,
-        delivered: OfEdges::of(of_edges(alloc, flow, flow.in_edges(node), delivered)?),
-        discarded: OfEdges::of(of_edges(alloc, flow, flow.out_edges(node), discarded)?),
+        front,
+        notified,
+        delivered: OfEdges::of(delivered),
+        discarded: OfEdges::of(discarded),
     })
+}
+
+// What stands before a stroke and after it; without one all of it, twice.
+fn both_sides(word: &str) -> (&str, &str) {
+    word.split_once('/').unwrap_or((word, word))
 }
 
 fn records(alloc: Global, flow: &Flow, node: NodeId, text: &str) -> Result<Vec<Recorded>, NoAnswer>
@@ -173,6 +182,25 @@ fn notified(alloc: Global, flow: &Flow, node: NodeId, text: &str) -> Result<Vec<
     Ok(stamps)
 }
 
+// Where the events of a node are, by columns: what was delivered to it, of what it was notified, and what it sent.
+fn stamps(alloc: Global, flow: &Flow, node: NodeId, text: &str) -> Result<Stamps, NoAnswer>
+    ensures delivered { IfOk result (λ s. AllByRecursion (IsMessageOf flow.now) s.delivered) }
+    ensures notified { IfOk result
+        (λ s. AllByRecursion (λ t. in_domain (bounds_of flow.now node) t ≡ true) s.notified) }
+    ensures sent { IfOk result (λ s. AllByRecursion (IsMessageOf flow.now) s.sent) }
+{
+    let (delivered, rest) = columns(text, "|");
+    let (noted, sent_words) = columns(rest, "|");
+    let delivered = messages(alloc, flow, delivered)?;
+    let notified = notified(alloc, flow, node, noted)?;
+    let sent = messages(alloc, flow, sent_words)?;
+    Ok(Stamps {
+        delivered: CountedMessages::of(delivered),
+        notified: Notices::of(notified),
+        sent: CountedMessages::of(sent),
+    })
+}
+
 // What a node offers, by its line: whether it failed, its frontiers, what was delivered to it, of what it was notified, and
 // what it sent; a sequence also by its table.
 fn offer(
@@ -186,20 +214,12 @@ fn offer(
 {
     let (state, rest) = columns(line, "|");
     let (fronts, rest) = columns(rest, "|");
-    let (delivered, rest) = columns(rest, "|");
-    let (noted, sent_words) = columns(rest, "|");
     let offered = offered(alloc, flow, node, fronts)?;
-    let delivered = messages(alloc, flow, delivered)?;
-    let notified = notified(alloc, flow, node, noted)?;
-    let sent = messages(alloc, flow, sent_words)?;
+    let stamps = stamps(alloc, flow, node, rest)?;
     Ok(Offer {
         present: !state.contains("failed"),
         offered,
-        stamps: Stamps {
-            delivered: CountedMessages::of(delivered),
-            notified: Notices::of(notified),
-            sent: CountedMessages::of(sent),
-        },
+        stamps,
         table,
     })
 }
@@ -237,13 +257,18 @@ fn tell_cuts(choice: &Choice, told: &mut String) -> Result<(), AllocError> {
     let cuts = choice.cuts.as_slice();
     let notices = choice.notices.as_slice();
     for (cut, notice) in cuts.iter().zip(notices.iter()) {
-        match cut {
-            Cut::Present => told.push_str("present")?,
-            Cut::At(front) => write!(told, "{front}")?,
-        }
+        tell_cut(cut, told)?;
         writeln!(told, ", {notice}")?;
     }
     Ok(())
+}
+
+// Tells a cut.
+fn tell_cut(cut: &Cut, told: &mut String) -> Result<(), AllocError> {
+    match cut {
+        Cut::Present => told.push_str("present"),
+        Cut::At(front) => write!(told, "{front}"),
+    }
 }
 
 /// Tells to what the nodes of a flow are restored that offer what the lines say, and how that was found, if a line `trail`
@@ -271,9 +296,20 @@ fn tell_largest(
     requires { AreOffersOf flow.now offers.now }
 {
     let descent = descent_to_largest(alloc, flow, offers)?;
-    tell_cuts(&descent.choice, told)?;
+    tell_found(flow, &descent.choice, &descent.trail, lines, told)
+}
+
+// Tells a choice, and how it was found, if that is asked for.
+fn tell_found(
+    flow: &Flow,
+    choice: &Choice,
+    trail: &Trail,
+    lines: &str,
+    told: &mut String,
+) -> Result<(), AllocError> {
+    tell_cuts(choice, told)?;
     if after(lines, "trail").is_some() {
-        tell_trail(flow, lines, &descent.trail, told)?;
+        tell_trail(flow, lines, trail, told)?;
     }
     Ok(())
 }

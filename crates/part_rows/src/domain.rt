@@ -1,4 +1,6 @@
 //! Frontiers of a domain.
+ghost use Rattle.fw_frontier.specs.Front.{IsCanonical};
+
 use crate::spell::{front_in, stamp_in};
 use fw_frontier::Front;
 use fw_time::{Bounds, Stamp};
@@ -72,9 +74,17 @@ fn of_both(alloc: Global, bounds: &Bounds, word: &str, text: &str) -> Result<Fro
     let (one, other) = columns(text, " and ");
     let one = front_in(alloc, one, bounds)?;
     let other = front_in(alloc, other, bounds)?;
+    met_or_joined(&one, &other, bounds, word)
+}
+
+/// What is inside both of two frontiers of a domain, or else inside one of them.
+fn met_or_joined(one: &Front, other: &Front, bounds: &Bounds, word: &str) -> Result<Front, NoAnswer>
+    requires one { IsCanonical bounds.now one.now }
+    requires other { IsCanonical bounds.now other.now }
+{
     if word == "meet" {
-        Ok(one.meet(&other)?)
+        Ok(one.meet(other)?)
     } else {
-        Ok(one.join(&other, bounds)?)
+        Ok(one.join(other, bounds)?)
     }
 }

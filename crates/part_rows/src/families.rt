@@ -1,6 +1,6 @@
 //! What answers the rows of a file, by its ending.
 use crate::domain::tell_domain;
-use crate::{catalogue, disk, nodes, outside, progress, values};
+use crate::{disk, nodes, outside, progress, values};
 use fw_flow::Flow;
 use fw_flow_text::read_flow;
 use fw_lines::ReadFault;
@@ -21,12 +21,25 @@ pub fn tell_file<R: Files<File = File>>(
         Some((_, family)) => family,
         None => path,
     };
+    let rows = rows_of(alloc, text)?;
     let mut told = String::new(alloc);
-    for row in &rows_of(alloc, text)? {
-        tell_name(row.name, &mut told)?;
-        tell_row(alloc, files, family, *row, &mut told)?;
-    }
+    tell_rows(alloc, files, family, &rows, &mut told)?;
     Ok(told)
+}
+
+/// Tells rows.
+fn tell_rows<R: Files<File = File>>(
+    alloc: Global,
+    files: &R,
+    family: &str,
+    rows: &[Row<'_>],
+    told: &mut String,
+) -> Result<(), AllocError> {
+    for row in rows {
+        tell_name(row.name, told)?;
+        tell_row(alloc, files, family, *row, told)?;
+    }
+    Ok(())
 }
 
 /// Tells the answers to the lines of a row.
@@ -70,7 +83,6 @@ fn tell_of_flow(
 ) -> Result<(), AllocError> {
     match family {
         "nodes" => nodes::tell(alloc, flow, row, told),
-        "catalogue" => catalogue::tell(alloc, flow, row, told),
         "progress" => progress::tell(alloc, flow, row, told),
         _ => values::tell(alloc, flow, row, told),
     }

@@ -1,9 +1,7 @@
 //! Rows of data: calls of the parts. The arguments name the files of rows, in order; `docs/rows.md` has their formats.
 #![tactic(auto)]
 
-mod catalogue;
 mod choices;
-mod counts;
 mod disk;
 mod domain;
 mod families;
@@ -12,8 +10,6 @@ mod outside;
 mod progress;
 mod records;
 mod spell;
-mod stamps;
-mod traces;
 mod trail;
 mod values;
 
@@ -25,14 +21,20 @@ use std::{env, fs, io};
 /// For each row its name, and the answers to its lines.
 fn main(rt: HostRuntime) -> io::Result<()> {
     for path in env::args(&rt)?.skip(1) {
-        println!(rt; "# {path}")?;
-        let text = fs::read_to_string(&rt, path.as_str())?;
-        let told = tell_file(rt.alloc(), &rt, path.as_str(), &text)?;
-        print!(rt; "{told}")?;
+        tell_path(&rt, path.as_str())?;
     }
     // standard error is a stream too, which nothing else here writes
     match StreamSink::new(rt.stderr()).write(b"all rows are told\n") {
         Ok(()) => Ok(()),
         Err(_) => Err(ErrorKind::Other.into()),
     }
+}
+
+/// Tells the rows of the file at a path.
+fn tell_path(rt: &HostRuntime, path: &str) -> io::Result<()> {
+    println!(rt; "# {path}")?;
+    let text = fs::read_to_string(rt, path)?;
+    let told = tell_file(rt.alloc(), rt, path, &text)?;
+    print!(rt; "{told}")?;
+    Ok(())
 }

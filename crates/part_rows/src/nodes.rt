@@ -4,7 +4,7 @@ ghost use Rattle.std.specs.List.{AllByRecursion};
 ghost use Rattle.fw_time.specs.Stamp.{in_domain};
 
 use crate::spell::{front_of, mark, stamp_in};
-use fw_bag::Recs;
+use fw_bag::{Rec, Recs};
 use fw_flow::{EdgeId, Flow, NodeId};
 use fw_frontier::{Entries, Front, SentCounts, State};
 use fw_node::{Node, Sends};
@@ -36,19 +36,36 @@ impl Answers for Called<'_> {
         let (word, rest) = part(line);
         match word {
             "loop" | "node" | "edge" => Err(NoAnswer::NotAsked),
-            "new" => {
-                self.node = Node::new(self.alloc, self.flow, node_of(rest)?)?;
-                Ok(())
-            }
-            "restore" => {
-                self.node = restored(self.alloc, self.flow, rest)?;
+            "new" | "restore" => {
+                self.node = made(self.alloc, self.flow, word, rest)?;
                 Ok(())
             }
             "settle" => settle(self.alloc, &mut self.node, rest),
             "totals" => totals(self.alloc, &self.node, rest, said),
-            _ => say_sends(&sends(self.alloc, &mut self.node, word, rest)?, said),
+            _ => happens(self.alloc, &mut self.node, word, rest, said),
         }
     }
+}
+
+/// The node that a line `new` or `restore` makes.
+fn made(alloc: Global, flow: &Flow, word: &str, rest: &str) -> Result<Node, NoAnswer> {
+    if word == "new" {
+        Ok(Node::new(alloc, flow, node_of(rest)?)?)
+    } else {
+        restored(alloc, flow, rest)
+    }
+}
+
+/// An event happens; what it makes the node send is said.
+fn happens(
+    alloc: Global,
+    node: &mut Node,
+    word: &str,
+    rest: &str,
+    said: &mut String,
+) -> Result<(), NoAnswer> {
+    let sends = sends(alloc, node, word, rest)?;
+    say_sends(&sends, said)
 }
 
 /// The node of a number, counted from 1 as the lines are.
@@ -74,8 +91,9 @@ fn sends(alloc: Global, node: &mut Node, word: &str, rest: &str) -> Result<Sends
             Ok(node.notify(&at)?)
         }
         "inject" => {
+            let epoch = first.parse::<u32>()?;
             let batch = recs_of(alloc, words)?;
-            Ok(node.inject(first.parse::<u32>()?, &batch)?)
+            Ok(node.inject(epoch, &batch)?)
         }
         _ => Err(NoAnswer::NotSpelled),
     }
@@ -110,7 +128,13 @@ fn settle(alloc: Global, node: &mut Node, text: &str) -> Result<(), NoAnswer> {
 /// The totals of what came inside a frontier.
 fn totals(alloc: Global, node: &Node, text: &str, said: &mut String) -> Result<(), NoAnswer> {
     let front = front_at(alloc, text, node.bounds())?;
-    for rec in node.totals_at(&front)?.as_slice() {
+    let totals = node.totals_at(&front)?;
+    say_recs(totals.as_slice(), said)
+}
+
+/// Says recs.
+fn say_recs(recs: &[Rec], said: &mut String) -> Result<(), NoAnswer> {
+    for rec in recs {
         mark(" ", said)?;
         write!(said, "{rec}")?;
     }
@@ -119,14 +143,22 @@ fn totals(alloc: Global, node: &Node, text: &str, said: &mut String) -> Result<(
 
 /// The node of a number, restored from a state: how many messages it sent, and its totals.
 fn restored(alloc: Global, flow: &Flow, words: &str) -> Result<Node, NoAnswer> {
-    let (node, rest) = part(words);
-    let (sent, recs) = part(rest);
-    let state = State {
-        sent: sent.parse::<u64>()?,
+    let (name, rest) = part(words);
+    let node = node_of(name)?;
+    let state = state_of(alloc, rest)?;
+    Ok(Node::from_state(alloc, flow, node, &state)?)
+}
+
+/// A state: how many messages were sent, and totals.
+fn state_of(alloc: Global, words: &str) -> Result<State, NoAnswer> {
+    let (sent, recs) = part(words);
+    let sent = sent.parse::<u64>()?;
+    let totals = recs_of(alloc, recs)?;
+    Ok(State {
+        sent,
         sends: SentCounts::of(Vec::new(alloc)),
-        entries: Entries::Totals(Recs::of(recs_of(alloc, recs)?)),
-    };
-    Ok(Node::from_state(alloc, flow, node_of(node)?, &state)?)
+        entries: Entries::Totals(Recs::of(totals)),
+    })
 }
 
 /// What is sent, each rec behind its stamp.

@@ -1,5 +1,5 @@
 //! The objects outside: real files, streams, and what lies in memory; and generated texts.
-use fw_generate::generate;
+use fw_generate::{Texts, generate};
 use fw_outside::{
     FaultlessFolder, FaultlessSink, FetchFault, FileFolder, Folder, FoulStore, MemText, OutFault,
     Sink, Store, StreamSink,
@@ -149,6 +149,11 @@ fn misuse(alloc: Global, record: &str, said: &mut String) -> Result<(), NoAnswer
 fn texts(alloc: Global, words: &str, said: &mut String) -> Result<(), NoAnswer> {
     let (seed, size) = part(words);
     let texts = generate(alloc, seed.parse::<u64>()?, size.parse::<u32>()?)?;
+    say_texts(&texts, said)
+}
+
+/// Says texts.
+fn say_texts(texts: &Texts, said: &mut String) -> Result<(), NoAnswer> {
     write!(said, "flow\n{}", texts.flow())?;
     write!(said, "\ninputs\n{}", texts.inputs())?;
     write!(said, "\nschedule\n{}", texts.schedule())?;

@@ -1,15 +1,13 @@
-//! Calls of progress, and of traces.
-ghost use Rattle.std.specs.Prelude.{◌≡◌, ◌<◌, length, IfOk};
+//! Calls of progress.
+ghost use Rattle.std.specs.Prelude.{◌≡◌, ◌<◌, length};
 ghost use Rattle.fw_progress.specs.Progress.{IsProgressOf};
-ghost use Rattle.fw_progress.specs.Trace.{AreTraces};
 
-use crate::spell::{edge_of, mark, node_of};
-use crate::{counts, traces};
+use crate::spell::{edge_of, mark, node_of, stamp_in};
 use fw_bag::Rec;
 use fw_flow::{EdgeId, Flow, NodeId, Steps};
 use fw_frontier::Front;
 use fw_lines::Batches;
-use fw_progress::{Growths, Progress, Traces, can_send};
+use fw_progress::{Growths, Progress, can_send};
 use fw_time::Stamp;
 use row_words::{Answers, NoAnswer, Row, columns, part, stamp_of, stamps_of, tell_row};
 use std::alloc::{AllocError, Global};
@@ -17,13 +15,57 @@ use std::fmt::Write;
 use std::marker::Brand;
 use std::sync::ledger::{Blank, Ledger};
 
-/// What progress and the traces keep of the events of a flow.
+/// What progress keeps of the events of a flow.
 #[derive(Drop)]
 struct Events<'a> {
     alloc: Global,
     flow: &'a Flow,
     progress: Progress,
-    traces: Traces,
+}
+
+/// What happens.
+#[derive(Clone, Copy)]
+enum Happening {
+    Inject,
+    Deliver,
+    Notify,
+}
+
+/// What is asked of a node.
+#[derive(Clone, Copy)]
+enum Question {
+    May,
+    First,
+    Complete,
+    Grown,
+}
+
+/// A call, by its word.
+#[derive(Clone, Copy)]
+enum Call {
+    Event(Happening),
+    Of(Question),
+    Refresh,
+    Kept,
+    Epochs,
+}
+
+/// The call of a word.
+fn call_of(word: &str) -> Result<Call, NoAnswer> {
+    match word {
+        "inject" => Ok(Call::Event(Happening::Inject)),
+        "deliver" => Ok(Call::Event(Happening::Deliver)),
+        "notify" => Ok(Call::Event(Happening::Notify)),
+        "may" => Ok(Call::Of(Question::May)),
+        "first" => Ok(Call::Of(Question::First)),
+        "complete" => Ok(Call::Of(Question::Complete)),
+        "grown" => Ok(Call::Of(Question::Grown)),
+        "refresh" => Ok(Call::Refresh),
+        "kept" => Ok(Call::Kept),
+        "epochs" => Ok(Call::Epochs),
+        "loop" | "node" | "edge" | "batches" => Err(NoAnswer::NotAsked),
+        _ => Err(NoAnswer::NotSpelled),
+    }
 }
 
 /// Tells the answers to calls, of a flow whose inputs have the batches of the lines `batches NODE COUNT`.
@@ -46,7 +88,6 @@ fn tell_events(
         alloc,
         flow,
         progress: Progress::new(alloc, flow, batches)?,
-        traces: Traces::new(alloc, flow)?,
     };
     tell_row(alloc, row, &mut events, told)
 }
@@ -75,70 +116,65 @@ fn add_batches(flow: &Flow, batches: &mut Batches, line: &str) -> Result<(), NoA
 }
 
 impl Answers for Events<'_> {
-    ghost stands = { λ events. IsProgressOf events.flow.now events.progress × AreTraces events.flow.now events.traces };
+    ghost stands = { λ events. IsProgressOf events.flow.now events.progress };
 
     fn answer(&mut self, line: &str, said: &mut String) -> Result<(), NoAnswer> {
         let (word, rest) = part(line);
-        if matches!(word, "loop" | "node" | "edge" | "batches") {
-            Err(NoAnswer::NotAsked)
-        } else if word == "trace" {
-            traces::answer(self.alloc, self.flow, &mut self.traces, rest, said)
-        } else {
-            answer(self.alloc, self.flow, &mut self.progress, line, said)
+        match call_of(word) {
+            Ok(call) => make(self.alloc, self.flow, &mut self.progress, call, rest, said),
+            Err(none) => Err(none),
         }
     }
 }
 
-/// Makes the call that a line asks for, and gives what it answers.
-fn answer(
+/// Makes a call, and says what it answers.
+fn make(
     alloc: Global,
     flow: &Flow,
     progress: &mut Progress,
-    line: &str,
+    call: Call,
+    rest: &str,
     said: &mut String,
 ) -> Result<(), NoAnswer>
     requires { IsProgressOf flow.now progress.old }
     ensures { IsProgressOf flow.now progress.new }
 {
-    let (word, rest) = part(line);
-    if word == "inject" {
-        inject(alloc, flow, progress, rest)
-    } else if word == "deliver" {
-        deliver(alloc, flow, progress, rest)
-    } else if word == "notify" {
-        notify(alloc, flow, progress, rest)
-    } else if word == "refresh" {
-        refresh(alloc, flow, progress, said)
-    } else if word == "kept" {
-        say_fronts(flow, progress.kept(), said)
-    } else if word == "may" {
-        may(alloc, flow, progress, rest, said)
-    } else if word == "complete" {
-        complete(alloc, flow, progress, rest, said)
-    } else if word == "grows" {
-        grows(alloc, flow, progress, rest, said)
-    } else if word == "settle" {
-        settle(alloc, flow, progress, said)
-    } else if word == "epochs" {
-        epochs(alloc, flow, progress, rest, said)
-    } else if word == "cut" {
-        counts::cut(alloc, flow, progress, rest, said)
-    } else if word == "rebuild" {
-        counts::rebuild(alloc, flow, progress, rest, said)
-    } else {
-        answer_at(alloc, flow, progress, word, rest, said)
+    match call {
+        Call::Event(event) => happens(alloc, flow, progress, event, rest),
+        Call::Of(question) => of_node(alloc, flow, progress, question, rest, said),
+        Call::Refresh => refresh(alloc, flow, progress, said),
+        Call::Kept => say_fronts(flow, progress.kept(), said),
+        Call::Epochs => epochs(alloc, flow, progress, rest, said),
     }
 }
 
-/// An input injects: `inject NODE : STAMP ..`.
-fn inject(alloc: Global, flow: &Flow, progress: &mut Progress, text: &str) -> Result<(), NoAnswer>
+/// An event: `inject NODE : STAMP ..`, `deliver EDGE STAMP : STAMP ..` or `notify NODE STAMP : STAMP ..`.
+fn happens(
+    alloc: Global,
+    flow: &Flow,
+    progress: &mut Progress,
+    event: Happening,
+    text: &str,
+) -> Result<(), NoAnswer>
     requires { IsProgressOf flow.now progress.old }
     ensures { IsProgressOf flow.now progress.new }
 {
-    let (name, sent) = columns(text, " :");
-    let node = node_of(flow, name)?;
+    let (what, sent) = columns(text, " :");
     let sent = stamps_of(alloc, sent)?;
-    injected(flow, progress, node, &sent)
+    match event {
+        Happening::Inject => inject(flow, progress, what, &sent),
+        Happening::Deliver => deliver(alloc, flow, progress, what, &sent),
+        Happening::Notify => notify(alloc, flow, progress, what, &sent),
+    }
+}
+
+/// An input injects.
+fn inject(flow: &Flow, progress: &mut Progress, name: &str, sent: &[Stamp]) -> Result<(), NoAnswer>
+    requires { IsProgressOf flow.now progress.old }
+    ensures { IsProgressOf flow.now progress.new }
+{
+    let node = node_of(flow, name)?;
+    injected(flow, progress, node, sent)
 }
 
 /// An input injects, if it can send at these stamps.
@@ -159,17 +195,21 @@ fn injected(
     Ok(())
 }
 
-/// A message is delivered: `deliver EDGE STAMP : STAMP ..`.
-fn deliver(alloc: Global, flow: &Flow, progress: &mut Progress, text: &str) -> Result<(), NoAnswer>
+/// A message is delivered.
+fn deliver(
+    alloc: Global,
+    flow: &Flow,
+    progress: &mut Progress,
+    what: &str,
+    sent: &[Stamp],
+) -> Result<(), NoAnswer>
     requires { IsProgressOf flow.now progress.old }
     ensures { IsProgressOf flow.now progress.new }
 {
-    let (what, sent) = columns(text, " :");
     let (name, at) = part(what);
     let edge = edge_of(flow, name)?;
     let at = stamp_of(alloc, at)?;
-    let sent = stamps_of(alloc, sent)?;
-    delivered(flow, progress, edge, &at, &sent)
+    delivered(flow, progress, edge, &at, sent)
 }
 
 /// A message is delivered, if it can come at the stamp and the receiver can send at these.
@@ -192,28 +232,33 @@ fn delivered(
     Ok(())
 }
 
-/// A node is notified: `notify NODE STAMP : STAMP ..`.
-fn notify(alloc: Global, flow: &Flow, progress: &mut Progress, text: &str) -> Result<(), NoAnswer>
-    requires { IsProgressOf flow.now progress.old }
-    ensures { IsProgressOf flow.now progress.new }
-{
-    let (what, sent) = columns(text, " :");
-    let (name, at) = part(what);
-    let node = node_of(flow, name)?;
-    let at = stamp_of(alloc, at)?;
-    let sent = stamps_of(alloc, sent)?;
-    if !can_send(flow, node, &sent) {
-        return Err(NoAnswer::NotSpelled);
-    }
-    progress.notified(flow, node, &at, &sent)?;
-    Ok(())
-}
-
-/// Whether a node may be notified: `may NODE STAMP`.
-fn may(
+/// A node is notified.
+fn notify(
     alloc: Global,
     flow: &Flow,
     progress: &mut Progress,
+    what: &str,
+    sent: &[Stamp],
+) -> Result<(), NoAnswer>
+    requires { IsProgressOf flow.now progress.old }
+    ensures { IsProgressOf flow.now progress.new }
+{
+    let (name, at) = part(what);
+    let node = node_of(flow, name)?;
+    let at = stamp_of(alloc, at)?;
+    if !can_send(flow, node, sent) {
+        return Err(NoAnswer::NotSpelled);
+    }
+    progress.notified(flow, node, &at, sent)?;
+    Ok(())
+}
+
+/// What a node may or has: `may NODE STAMP`, `first NODE`, `complete NODE` or `grown NODE`.
+fn of_node(
+    alloc: Global,
+    flow: &Flow,
+    progress: &mut Progress,
+    question: Question,
     text: &str,
     said: &mut String,
 ) -> Result<(), NoAnswer>
@@ -222,10 +267,28 @@ fn may(
 {
     let (name, at) = part(text);
     let node = node_of(flow, name)?;
-    let at = stamp_of(alloc, at)?;
-    if !at.in_domain(&flow.domain(node)) {
-        return Err(NoAnswer::NotSpelled);
+    match question {
+        Question::May => may(alloc, flow, progress, node, at, said),
+        Question::First => first(alloc, flow, progress, node, said),
+        Question::Complete => complete(alloc, flow, progress, node, said),
+        Question::Grown => grown(flow, progress, node, said),
     }
+}
+
+/// Whether a node may be notified of a stamp.
+fn may(
+    alloc: Global,
+    flow: &Flow,
+    progress: &mut Progress,
+    node: NodeId,
+    at: &str,
+    said: &mut String,
+) -> Result<(), NoAnswer>
+    requires progress { IsProgressOf flow.now progress.old }
+    requires there { node < length flow.now.nodes }
+    ensures { IsProgressOf flow.now progress.new }
+{
+    let at = stamp_in(alloc, at, &flow.domain(node))?;
     let can = progress.can_notify(alloc, flow, node, &at)?;
     said.push_str(if can { "yes" } else { "no" })?;
     Ok(())
@@ -242,7 +305,7 @@ fn say_front(flow: &Flow, node: NodeId, front: &Front, said: &mut String) -> Res
 }
 
 /// Says a frontier of each node.
-pub fn say_fronts(flow: &Flow, fronts: &[Front], said: &mut String) -> Result<(), NoAnswer> {
+fn say_fronts(flow: &Flow, fronts: &[Front], said: &mut String) -> Result<(), NoAnswer> {
     for (front, place) in fronts.iter().zip(0..=u32::MAX) {
         say_front(flow, NodeId::at(place), front, said)?;
     }
@@ -292,90 +355,21 @@ fn uncounted<L: Ledger>(
     Ok(growths)
 }
 
-/// The complete frontier of a node: `complete NODE`.
+/// The complete frontier of a node.
 fn complete(
     alloc: Global,
     flow: &Flow,
     progress: &mut Progress,
-    name: &str,
+    node: NodeId,
     said: &mut String,
 ) -> Result<(), NoAnswer>
-    requires { IsProgressOf flow.now progress.old }
+    requires progress { IsProgressOf flow.now progress.old }
+    requires there { node < length flow.now.nodes }
     ensures { IsProgressOf flow.now progress.new }
 {
-    let node = node_of(flow, name)?;
     let front = progress.complete(alloc, flow, node)?;
     write!(said, "{front}")?;
     Ok(())
-}
-
-/// What is settled once the nodes but those named settle what is complete: `grows NODE ..`.
-fn grows(
-    alloc: Global,
-    flow: &Flow,
-    progress: &mut Progress,
-    names: &str,
-    said: &mut String,
-) -> Result<(), NoAnswer>
-    requires { IsProgressOf flow.now progress.old }
-    ensures { IsProgressOf flow.now progress.new }
-{
-    let failed = failed(alloc, flow, names)?;
-    match progress.grows(alloc, flow, &failed)? {
-        Some(settled) => say_fronts(flow, &settled, said),
-        None => Ok(said.push_str("nothing")?),
-    }
-}
-
-/// Of each node whether it is one of those named.
-pub fn failed(alloc: Global, flow: &Flow, names: &str) -> Result<Vec<bool>, NoAnswer>
-    ensures { IfOk result (λ failed. length failed.items ≡ length flow.now.nodes) }
-{
-    let mut failed = Vec::new(alloc);
-    for place in 0..flow.nodes() {
-        failed.push(is_named(flow, place, names))?;
-    }
-    Ok(failed)
-}
-
-/// Whether the node at a place is one of those named.
-fn is_named(flow: &Flow, place: usize, names: &str) -> bool {
-    for name in names.split_whitespace() {
-        if let Ok(node) = node_of(flow, name) {
-            if node.place() as usize == place {
-                return true;
-            }
-        }
-    }
-    false
-}
-
-/// What is complete is settled at each node; the answer is what is settled.
-fn settle(
-    alloc: Global,
-    flow: &Flow,
-    progress: &mut Progress,
-    said: &mut String,
-) -> Result<(), NoAnswer>
-    requires { IsProgressOf flow.now progress.old }
-    ensures { IsProgressOf flow.now progress.new }
-{
-    let failed = failed(alloc, flow, "")?;
-    progress.grows(alloc, flow, &failed)?;
-    let complete = copied(alloc, progress.kept())?;
-    progress.settle(flow, complete);
-    say_fronts(flow, progress.settled(), said)
-}
-
-/// The same frontiers once more.
-pub fn copied(alloc: Global, fronts: &[Front]) -> Result<Vec<Front>, NoAnswer>
-    ensures { IfOk result (λ copies. copies.items ≡ fronts.now) }
-{
-    let mut copies = Vec::with_capacity(alloc, fronts.len())?;
-    for front in fronts {
-        copies.push(front.copy()?)?;
-    }
-    Ok(copies)
 }
 
 /// Epochs with one message each go through two edges, with a refresh after each event: `epochs NODE EDGE EDGE COUNT`. The
@@ -425,36 +419,23 @@ fn through(
     let at = Stamp::new(&[epoch]);
     let sent = [Stamp::new(&[epoch])];
     injected(flow, progress, node, &sent)?;
-    let once = growths(alloc, flow, progress)?.len() as u64;
+    let once = growth_count(alloc, flow, progress)?;
     delivered(flow, progress, first, &at, &sent)?;
-    let twice = growths(alloc, flow, progress)?.len() as u64;
+    let twice = growth_count(alloc, flow, progress)?;
     delivered(flow, progress, second, &at, &[])?;
-    let thrice = growths(alloc, flow, progress)?.len() as u64;
+    let thrice = growth_count(alloc, flow, progress)?;
     Ok(once.saturating_add(twice).saturating_add(thrice))
 }
 
-/// Makes the call of a word for the node of a name, and gives what it answers.
-fn answer_at(
-    alloc: Global,
-    flow: &Flow,
-    progress: &mut Progress,
-    word: &str,
-    name: &str,
-    said: &mut String,
-) -> Result<(), NoAnswer>
+/// How many growths a refresh makes.
+fn growth_count(alloc: Global, flow: &Flow, progress: &mut Progress) -> Result<u64, NoAnswer>
     requires { IsProgressOf flow.now progress.old }
     ensures { IsProgressOf flow.now progress.new }
 {
-    if word == "first" {
-        first(alloc, flow, progress, node_of(flow, name)?, said)
-    } else if word == "grown" {
-        grown(flow, progress, node_of(flow, name)?, said)
-    } else {
-        Err(NoAnswer::NotSpelled)
-    }
+    Ok(growths(alloc, flow, progress)?.len() as u64)
 }
 
-/// The first stamp of which a node may be notified: `first NODE`.
+/// The first stamp of which a node may be notified.
 fn first(
     alloc: Global,
     flow: &Flow,
@@ -473,7 +454,7 @@ fn first(
     Ok(())
 }
 
-/// A node settles what is kept, if that is more: `grown NODE`, with what is settled then.
+/// A node settles what is kept, if that is more, with what is settled then.
 fn grown(
     flow: &Flow,
     progress: &mut Progress,

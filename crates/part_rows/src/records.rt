@@ -19,12 +19,21 @@ pub fn record_named(alloc: Global, lines: &str, name: &str) -> Result<Record, No
 /// Whether these bytes are a record, and else where the first broken field begins: `read NAME`.
 pub fn read(alloc: Global, lines: &str, name: &str, said: &mut String) -> Result<(), NoAnswer> {
     let bytes = bytes_named(alloc, lines, name)?;
-    match decode(alloc, &bytes) {
-        Ok(_) => said.push_str("record")?,
-        Err(RecordFault::BadRecord { at }) => write!(said, "broken at {at}")?,
-        Err(RecordFault::NoMemory) => return Err(NoAnswer::NoMemory),
+    let broken = broken_at(alloc, &bytes)?;
+    match broken {
+        None => said.push_str("record")?,
+        Some(at) => write!(said, "broken at {at}")?,
     }
     Ok(())
+}
+
+/// Where the first broken field of these bytes begins; none where they are a record.
+fn broken_at(alloc: Global, bytes: &[u8]) -> Result<Option<usize>, NoAnswer> {
+    match decode(alloc, bytes) {
+        Ok(_) => Ok(None),
+        Err(RecordFault::BadRecord { at }) => Ok(Some(at)),
+        Err(RecordFault::NoMemory) => Err(NoAnswer::NoMemory),
+    }
 }
 
 /// Whether a record is that of a checkpoint of a node at a frontier, `checkpoint NAME NODE FRONT`, or that of an event of it,
@@ -39,13 +48,24 @@ pub fn of_node(
     let (word, rest) = part(line);
     let (name, rest) = part(rest);
     let record = record_named(alloc, lines, name)?;
-    let is_so = if word == "checkpoint" {
-        is_checkpoint(alloc, flow, &record, rest)?
-    } else {
-        is_event(alloc, flow, &record, rest)?
-    };
-    write!(said, "{is_so}")?;
+    let is_so = is_that(alloc, flow, &record, word, rest)?;
+    said.push_str(if is_so { "true" } else { "false" })?;
     Ok(())
+}
+
+/// Whether a record is that of a checkpoint, or else of an event.
+fn is_that(
+    alloc: Global,
+    flow: &Flow,
+    record: &Record,
+    word: &str,
+    text: &str,
+) -> Result<bool, NoAnswer> {
+    if word == "checkpoint" {
+        is_checkpoint(alloc, flow, record, text)
+    } else {
+        is_event(alloc, flow, record, text)
+    }
 }
 
 /// Whether a record is that of a checkpoint: `NODE FRONT`.

@@ -61,12 +61,6 @@ fn checked(alloc: Global, outside: &[Stamp], bounds: &Bounds) -> Result<Front, N
     }
 }
 
-/// The frontier that has the stamps of some words outside, or of `all`.
-pub fn front_until(alloc: Global, words: &str) -> Result<Front, NoAnswer> {
-    let outside = stamps_or_none(alloc, words)?;
-    Ok(Front::until(alloc, &outside)?)
-}
-
 /// The stamp of a domain.
 pub fn stamp_in(alloc: Global, word: &str, bounds: &Bounds) -> Result<Stamp, NoAnswer>
     ensures { IfOk result (λ s. in_domain bounds.now s ≡ true) }

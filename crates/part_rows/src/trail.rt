@@ -26,24 +26,41 @@ fn tell_lowering(
     told: &mut String,
 ) -> Result<(), AllocError> {
     let node = node_name(flow, lowering.node);
-    let part = match lowering.part {
-        Part::Cut => "cut",
-        Part::Note => "note",
-    };
-    let to = &lowering.to;
-    let (cause, edge) = match lowering.by {
-        Cause::Delivered(edge) => ("delivered", Some(edge)),
-        Cause::Discarded(edge) => ("discarded", Some(edge)),
-        Cause::Notified => ("notified", None),
-        Cause::Own => ("own", None),
-        Cause::Note(edge) => ("note", Some(edge)),
-    };
-    write!(told, "lower {node} {part} {to} by {cause}")?;
-    if let Some(edge) = edge {
-        let name = edge_name(flow, lines, edge);
-        write!(told, " {name}")?;
+    let part = part_word(lowering.part);
+    let cause = cause_word(lowering.by);
+    write!(told, "lower {node} {part} {} by {cause}", lowering.to)?;
+    if let Some(edge) = cause_edge(lowering.by) {
+        told.push(' ')?;
+        told.push_str(edge_name(flow, lines, edge))?;
     }
     told.push('\n')
+}
+
+/// The word of what is lowered.
+fn part_word(part: Part) -> &'static str {
+    match part {
+        Part::Cut => "cut",
+        Part::Note => "note",
+    }
+}
+
+/// The word of a cause.
+fn cause_word(cause: Cause) -> &'static str {
+    match cause {
+        Cause::Delivered(_) => "delivered",
+        Cause::Discarded(_) => "discarded",
+        Cause::Notified => "notified",
+        Cause::Own => "own",
+        Cause::Note(_) => "note",
+    }
+}
+
+/// The edge of a cause, if it has one.
+fn cause_edge(cause: Cause) -> Option<EdgeId> {
+    match cause {
+        Cause::Delivered(edge) | Cause::Discarded(edge) | Cause::Note(edge) => Some(edge),
+        Cause::Notified | Cause::Own => None,
+    }
 }
 
 /// The name of a node; empty where there is none.

@@ -2,7 +2,7 @@
 use crate::choices::tell_choice;
 use crate::records::{of_node, read};
 use crate::spell::{edge_of, front_in, table_of};
-use fw_flow::{Flow, SentTable};
+use fw_flow::{EdgeId, Flow, SentTable};
 use fw_frontier::Front;
 use row_words::{Answers, NoAnswer, Row, after, part, tell_row};
 use std::alloc::{AllocError, Global};
@@ -55,15 +55,27 @@ impl Answers for Values<'_> {
         let (word, rest) = part(line);
         match word {
             "phi" | "psi" | "back" => {
-                let front = projected(self.alloc, self.flow, &self.sent, word, rest)?;
-                write!(said, "{front}")?;
-                Ok(())
+                say_projected(self.alloc, self.flow, &self.sent, word, rest, said)
             }
             "checkpoint" | "event" => of_node(self.alloc, self.flow, self.lines, line, said),
             "read" => read(self.alloc, self.lines, rest, said),
             _ => Err(NoAnswer::NotAsked),
         }
     }
+}
+
+/// Says a frontier as an edge projects it.
+fn say_projected(
+    alloc: Global,
+    flow: &Flow,
+    sent: &SentTable,
+    word: &str,
+    text: &str,
+    said: &mut String,
+) -> Result<(), NoAnswer> {
+    let front = projected(alloc, flow, sent, word, text)?;
+    write!(said, "{front}")?;
+    Ok(())
 }
 
 /// A frontier as an edge projects it: `phi`, `psi`, or `back` for psi backwards.
@@ -77,12 +89,31 @@ fn projected(
     let (edge, front) = part(text);
     let edge = edge_of(flow, edge)?;
     if word == "back" {
-        let front = front_in(alloc, front, &flow.domain(flow.dst(edge)))?;
-        return Ok(flow.psi_back(alloc, edge, &front)?);
+        back(alloc, flow, edge, front)
+    } else {
+        forth(alloc, flow, sent, word, edge, front)
     }
-    let front = front_in(alloc, front, &flow.domain(flow.src(edge)))?;
-    match word {
-        "psi" => Ok(flow.psi(alloc, edge, &front)?),
-        _ => Ok(flow.phi(alloc, edge, &front, sent)?),
+}
+
+/// A frontier of an edge's receiver, through psi backwards.
+fn back(alloc: Global, flow: &Flow, edge: EdgeId, text: &str) -> Result<Front, NoAnswer> {
+    let front = front_in(alloc, text, &flow.domain(flow.dst(edge)))?;
+    Ok(flow.psi_back(alloc, edge, &front)?)
+}
+
+/// A frontier of an edge's sender, through psi, or else through phi.
+fn forth(
+    alloc: Global,
+    flow: &Flow,
+    sent: &SentTable,
+    word: &str,
+    edge: EdgeId,
+    text: &str,
+) -> Result<Front, NoAnswer> {
+    let front = front_in(alloc, text, &flow.domain(flow.src(edge)))?;
+    if word == "psi" {
+        Ok(flow.psi(alloc, edge, &front)?)
+    } else {
+        Ok(flow.phi(alloc, edge, &front, sent)?)
     }
 }

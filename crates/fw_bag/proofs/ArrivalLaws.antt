@@ -1,8 +1,8 @@
 -- The laws of arrivals.
 use Rattle.std.proofs.Common.{◌≡◌, Bool, true, false, cond, not, List, [], ◌∷◌, filter, refl, sym, ap, ◌∙◌}
 use Rattle.std.specs.List.{AllByRecursion}
+use Rattle.fw_lemmas.proofs.Each.{each-weaker, each-filter}
 use Rattle.fw_time.specs.Stamp.{Stamp, same}
-use Rattle.fw_time.proofs.EachLaws.{each-weaker, each-filter}
 use Rattle.fw_time.proofs.StampLaws.{same-is}
 use Rattle.fw_bag.specs.declared.rec.Rec.{Rec}
 use Rattle.fw_bag.specs.Arrivals.{Arrival, arrivals_at, arrivals_inside, recs_of, recs_where, recs_inside, AreInside, AreTimes}

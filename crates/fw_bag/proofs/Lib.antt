@@ -2,5 +2,4 @@ pub mod ArrivalLaws
 pub mod BagLaws
 pub mod CountLaws
 pub mod IterLaws
-pub mod OrderingLaws
 pub mod RecLaws

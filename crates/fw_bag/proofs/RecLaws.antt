@@ -6,9 +6,9 @@ use Rattle.std.specs.Cmp.{IsTotalOrder}
 use Rattle.std.specs.declared.cmp.Ordering.{Ordering}
 use Rattle.std.specs.declared.cmp.Ordering.TheVariants.{Less, Equal, Greater}
 use Rattle.std.specs.Ordering.{nat_cmp, ordering_reverse, is_eq, is_le, is_gt}
+use Rattle.fw_lemmas.proofs.Orderings.{equal_from_is_eq, le_not_gt, not_gt_le, gt_of, then_equal}
 use Rattle.fw_bag.specs.declared.rec.Rec.{Rec}
 use Rattle.fw_bag.specs.Rec.{rec_cmp}
-use Rattle.fw_bag.proofs.OrderingLaws.{equal_from_is_eq, then_equal, le_not_gt, not_gt_le, gt_of}
 
 -- the order of recs is total
 pub rec_order : IsTotalOrder rec_cmp

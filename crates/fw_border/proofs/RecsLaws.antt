@@ -1,7 +1,7 @@
 -- Recs by number.
-use Rattle.std.proofs.Common.{◌≡◌, ℕ, ◌<◌, Bool, true, false, cond, List, [], ◌∷◌, length, filter, Option, Some, None, unwrap_or, Result, Ok, Err, refl, sym, ap, ◌∙◌, arith}
+use Rattle.std.proofs.Common.{◌≡◌, ℕ, ◌<◌, Bool, true, false, cond, List, [], ◌∷◌, length, filter, Option, Some, None, unwrap_or, refl, sym, ap, ◌∙◌, arith}
 use Rattle.std.specs.Borrow.{Bor}
-use Rattle.std.specs.Prelude.{OnErr, slice_get}
+use Rattle.std.specs.Prelude.{slice_get}
 use Rattle.std.specs.Slice.{IsItemAt}
 use Rattle.std.specs.BTreeMap.{insert_entry, is_at}
 use Rattle.std.specs.List.{AllByRecursion}
@@ -19,7 +19,7 @@ use Rattle.std.proofs.lemmas.Map.Entries.{none_below_head}
 use Rattle.std.proofs.lemmas.Map.Keys.{sorted_tail}
 use Rattle.std.proofs.lemmas.Map.Steps.{set_value_same}
 use Rattle.std.proofs.lemmas.Map.Made.{keys_of-map_values, lookup-map_values}
-use Rattle.fw_time.proofs.EachLaws.{each-kept}
+use Rattle.fw_lemmas.proofs.Each.{each-kept}
 use Rattle.fw_bag.specs.Bag.{BagState, bag_sum}
 use Rattle.fw_bag.specs.Rec.{IsAscending}
 use Rattle.fw_bag.specs.declared.rec.Rec.{Rec}
@@ -163,7 +163,3 @@ some-filter p es a = each-kept (λ e. 0 < length e.1) (λ e. p e.0) es a
 pub nothing_by_number : AreByNumber []
 unfolding IsStrictlySortedBy
 nothing_by_number = record { ordered = tt; some = tt }
-
-pub on_err : {A E : Type 0} (r : Result A E) (P : Type 0) → P → OnErr r P
-on_err (Ok a) P p = tt
-on_err (Err e) P p = p

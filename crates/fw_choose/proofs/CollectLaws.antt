@@ -6,6 +6,8 @@ use Rattle.std.proofs.lemmas.Bool.Decides.{nat_tests}
 use Rattle.std.proofs.lemmas.List.{get_or_past, length-map, get_or-set_same, get_or-set_other, length-set, ext_get_or}
 use Rattle.fw_bag.specs.declared.rec.Rec.{Rec}
 use Rattle.std.specs.Map.{lookup}
+use Rattle.fw_lemmas.proofs.Bools.{two_ways, both-lead}
+use Rattle.fw_lemmas.proofs.Each.{each-kept}
 use Rattle.fw_border.specs.Sources.{SourceState, next_batch, given_up}
 use Rattle.fw_collect.specs.declared.drops.Drops.{Drops}
 use Rattle.fw_collect.specs.declared.drops.OfNode.{OfNode}
@@ -31,14 +33,13 @@ use Rattle.fw_keep.specs.declared.fault.KeepFault.{KeepFault}
 use Rattle.fw_keep.specs.declared.fault.KeepFault.TheVariants as keep_fault
 use Rattle.fw_keep.specs.Catalogue.{KeepState}
 use Rattle.fw_keep.specs.Stored as stored
-use Rattle.fw_keep.specs.Stored.{Records, IsStored, KeepsBytes, Sweeps, without_ids}
+use Rattle.fw_keep.specs.Stored.{Records, KeepsBytes, Sweeps, without_ids}
 use Rattle.fw_model.specs.Auto.{IsIdle}
 use Rattle.fw_model.specs.Choice.{cut_of, IsWatermark}
 use Rattle.fw_model.specs.Machine.{Machine, events, front_of, AreCanonical}
 use Rattle.fw_model.specs.History.{injected_count}
 use Rattle.fw_model.specs.Steps.{front_of_cut, lows, did, LeadsTo}
 use Rattle.fw_model.specs.Writes.{takes_checkpoints}
-use Rattle.fw_model.proofs.Decisions.{two_ways}
 use Rattle.fw_monitor.specs.Chosen.{IsChoiceOf}
 use Rattle.fw_monitor.specs.Descent.{IsCanonicalCut}
 use Rattle.fw_progress.specs.declared.traces.Traces.{Traces}
@@ -56,7 +57,6 @@ use Rattle.fw_stands.proofs.EntrySteps.{kept_bytes_are_stored}
 use Rattle.fw_stands.proofs.SettlingLaws.{none-settled_yet, one_more-settled, same_nodes-settled}
 use Rattle.fw_stands.proofs.AtReached.{reached-next}
 use Rattle.fw_time.specs.declared.stamp.Bounds.{Bounds}
-use Rattle.fw_time.proofs.EachLaws.{each-kept}
 use Rattle.fw_running.specs.declared.running.Running.{Running}
 use Rattle.fw_running.specs.declared.fault.EngineFault.TheVariants as fault
 use Rattle.fw_running.specs.declared.stepped.Effect.TheVariants.{Lows}
@@ -254,9 +254,6 @@ source-stands sys w state low rises entries drops planned p l source s = elim (c
   | inr n ↦ other-source sys state (collected_state sys state low) p source (source_left drops.batches.items p source) (w.of_inputs p n)
       (drops_batches_of_inputs sys.flow low entries drops planned p source l ∙ ap (λ b. cond b (given_up (front_of low p) source) source) n) refl s
 ]
-
-both-lead : {A B C : Type 0} → A ↔ B → B ↔ C → A ↔ C
-both-lead f g = (λ a. g.0 (f.0 a), λ c. f.1 (g.1 c))
 
 after-stands : (sys : System) (state : Machine) (old : Running) (records : Option Records) (between : Parts) (choice : Choice) (traces : Traces) (drops : Drops)
     → IsPlanned old.flow (watermark choice) old.parts.keep.entries drops → AreGivenUp drops old.parts between

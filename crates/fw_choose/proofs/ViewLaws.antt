@@ -3,8 +3,10 @@ use Rattle.std.proofs.Common.{◌≡◌, ◌↔◌, ◌⊎◌, inl, inr, ℕ, ze
 use Rattle.std.specs.List.{AllByRecursion, Contains, flat_map}
 use Rattle.std.proofs.lemmas.Bool.{and_parts, and_from, eqb-true, both_ways}
 use Rattle.std.proofs.lemmas.List.{get_or_default, length-append}
+use Rattle.std.proofs.lemmas.Result.{IfOk-weaker}
+use Rattle.fw_lemmas.proofs.Each.{each-weaker, each-both, each-one, each-filter, each-kept}
+use Rattle.fw_lemmas.proofs.Filters.{filter-all}
 use Rattle.fw_time.specs.Stamp.{Stamp, in_domain}
-use Rattle.fw_time.proofs.EachLaws.{each-kept, each-weaker, each-both, each-filter, each-one}
 use Rattle.fw_frontier.specs.Frontier.{Frontier}
 use Rattle.fw_frontier.specs.Front.{Front, IsCanonical}
 use Rattle.fw_flow.specs.declared.choice.Choice.{Choice}
@@ -29,7 +31,6 @@ use Rattle.fw_model.specs.Offers.{AreOnEdges, HasOneCause, IsOffered, AreOffersI
 use Rattle.fw_model.proofs.AskedLaws.{reached-all}
 use Rattle.fw_model.proofs.ChoosingLaws.{recovery-has_choice}
 use Rattle.fw_model.proofs.DomainLaws.{has_epochs}
-use Rattle.fw_model.proofs.FilterLaws.{filter-all}
 use Rattle.fw_model.proofs.InputLaws.{injected-few}
 use Rattle.fw_model.proofs.LegalLaws.{legal-in_domain}
 use Rattle.fw_model.proofs.OfferLaws.{consistent-same, largest-same}
@@ -59,10 +60,6 @@ use Rattle.fw_running.specs.Stands.{Stands}
 
 -- ---- the choice
 
-if_ok_also : {A E : Type 0} (r : Result A E) (P Q : A → Type 0) → ((x : A) → P x → Q x) → IfOk r P → IfOk r Q
-if_ok_also (Ok x) P Q h p = h x p
-if_ok_also (Err e) P Q h p = tt
-
 -- some choice is consistent in each reached state, so the largest of what is offered is the machine's
 largest-in : {E : Type 0} (sys : System) (records : Option Records) (state : Machine) (running : Running) (lost : ℕ → Bool) (os : List Offer) (r : Result Choice E)
     → Stands sys running records state → AreOffersIn sys state lost os
@@ -75,7 +72,7 @@ largest-in sys records state running lost os r s a give =
     let can : CanChoose sys state lost = recovery-has_choice sys w reached.0 reached.1 state reached.2 lost in
     let some = can.choice in
     let by_offers = (consistent-same sys state lost os some w.flow a).1 can.consistent in
-    if_ok_also r (IsLargestBy sys.flow (covers_of sys.flow os) (IsOffered sys.flow os)) (λ choice. IsLargest sys state (IsCandidate sys state lost kept) choice)
+    IfOk-weaker r (IsLargestBy sys.flow (covers_of sys.flow os) (IsOffered sys.flow os)) (λ choice. IsLargest sys state (IsCandidate sys state lost kept) choice)
     (λ choice g. (largest-same sys state lost os choice w.flow a).0 g) (give some a.ascending by_offers)
 
 chosen-is : (lost : Lost) (sys : System) (state : Machine) (choice : Choice) → IsLargest sys state (IsCandidate sys state (is_lost lost state) kept) choice → IsChosen lost sys state choice

@@ -4,7 +4,9 @@ use Rattle.std.proofs.lemmas.Bool.{cases_Bool, cases_lt, cases_eq, eq-eqb, ne_eq
 use Rattle.std.proofs.lemmas.List.{get_or-set_same, get_or-set_other, get_or_past}
 use Rattle.std.proofs.lemmas.List.Folds.{list_any-append, list_any_more}
 use Rattle.std.specs.List.{filter, list_any}
-use Rattle.fw_model.proofs.FilterLaws.{filter-in, filter-out}
+use Rattle.std.proofs.Math.Bool.{or-false}
+use Rattle.fw_lemmas.proofs.Bools.{or_swap}
+use Rattle.fw_lemmas.proofs.Filters.{filter-in, filter-out}
 use Rattle.fw_keep.specs.declared.entry.Entry.{Entry}
 use Rattle.fw_keep.specs.Catalogue.{KeepState, is_among, has_entry, ids_of, without}
 use Rattle.fw_keep.specs.Stored.{Records, IsStored}
@@ -50,15 +52,6 @@ or-assoc : (a b c : Bool) → ((a || b) || c) ≡ (a || (b || c))
 or-assoc true b c = refl
 or-assoc false b c = refl
 
-or-swap : (a b c : Bool) → (a || (b || c)) ≡ (b || (a || c))
-or-swap true true c = refl
-or-swap true false c = refl
-or-swap false b c = refl
-
-pub or_nothing : (a : Bool) → (a || false) ≡ a
-or_nothing true = refl
-or_nothing false = refl
-
 or-twice : (a b : Bool) → ((a || b) || b) ≡ (a || b)
 or-twice true b = refl
 or-twice false true = refl
@@ -84,7 +77,7 @@ gone-then f g h is id (e ∷ es) =
           ∙ ap (λ ys. both (filter f es) ys) (filter-in k e es (not_from_false (f e) a))
           ∙ elim (cases_Bool (g e)) [
             | inl b ↦ ap (λ xs. A || has_entry id xs) (filter-in g e (filter k es) b)
-                ∙ or-swap A here B ∙ ap (λ c. here || c) rest
+                ∙ or_swap A here B ∙ ap (λ c. here || c) rest
                 ∙ sym (ap (has_entry id) (filter-in h e es (is e ∙ or_right (f e) (g e) b)))
             | inr b ↦ ap (λ xs. A || has_entry id xs) (filter-out g e (filter k es) b)
                 ∙ rest ∙ sym (ap (has_entry id) (filter-out h e es (is e ∙ or_from (f e) (g e) a b)))
@@ -95,7 +88,7 @@ gone-then f g h is id (e ∷ es) =
 pub forgets_nothing : (keep : KeepState) → Forgets (λ e. false) keep keep
 forgets_nothing keep = record {
   left = ap (λ es. record keep { entries = es }) (sym (filter_nothing keep.entries));
-  waiting = λ id. sym (ap (λ es. is_among id keep.waiting || has_entry id es) (filter-none keep.entries) ∙ or_nothing (is_among id keep.waiting));
+  waiting = λ id. sym (ap (λ es. is_among id keep.waiting || has_entry id es) (filter-none keep.entries) ∙ or-false (is_among id keep.waiting));
   stored = λ records s. s;
 }
   where
@@ -151,7 +144,7 @@ forgets_again goes ds i d first now l some same so_far =
     let so : list_any (λ x. goes x e) (take i ds) ≡ (before || one) = ap (λ k. list_any (λ x. goes x e) (take k ds)) (omega (arith, some)) ∙ list_any_more (λ x. goes x e) ds j d (omega (arith, l, some)) in
     list_any_more (λ x. goes x e) ds i d l
     ∙ ap (λ b. b || goes (get_or ds i d) e) so ∙ ap (λ x. (before || one) || goes x e) (sym same)
-    ∙ or-twice before one ∙ sym so ∙ sym (or_nothing (list_any (λ x. goes x e) (take i ds))))
+    ∙ or-twice before one ∙ sym so ∙ sym (or-false (list_any (λ x. goes x e) (take i ds))))
     so_far (forgets_nothing now)
 
 -- ---- places

@@ -4,12 +4,15 @@ use Rattle.std.proofs.lemmas.Bool.{cases_Bool, cases_lt, cases_eq, and_from, eq-
 use Rattle.std.proofs.lemmas.List.{get_or_past}
 use Rattle.std.proofs.lemmas.List.Folds.{list_any-append}
 use Rattle.std.specs.List.{filter, list_any, range_with_len, AllByRecursion, AllZip}
+use Rattle.std.proofs.Math.Bool.{or-false, and-false}
+use Rattle.fw_lemmas.proofs.Bools.{same_tests}
+use Rattle.fw_lemmas.proofs.Each.{each-weaker}
+use Rattle.fw_lemmas.proofs.Filters.{filter-in, filter-out, filter-inner, filter-same_on}
 use Rattle.fw_time.specs.Stamp.{Stamp, same, in_domain}
 use Rattle.fw_time.specs.declared.stamp.Bounds.{Bounds}
 use Rattle.fw_frontier.specs.Frontier.{Within}
 use Rattle.fw_bag.specs.declared.rec.Rec.{Rec}
 use Rattle.fw_time.proofs.StampLaws.{same-is, same-refl}
-use Rattle.fw_time.proofs.EachLaws.{each-weaker}
 use Rattle.fw_frontier.specs.Front.{Front, inside, frontier_of}
 use Rattle.fw_flow.specs.declared.node.Node.{Node}
 use Rattle.fw_flow.specs.Dataflow.{System, Dataflow, policy_of, kind_of, sender, receiver, bounds_of, is_input_kind, node_ids, idle_node}
@@ -22,7 +25,6 @@ use Rattle.fw_model.specs.Machine.{SerialEvent, Write, Stage, in_flight, acknowl
 use Rattle.fw_model.specs.Steps as steps
 use Rattle.fw_model.specs.Steps.{is_in_flight, after_collection, is_given_up, collected_writes}
 use Rattle.fw_model.specs.Writes.{takes_checkpoints, is_collected, not_collected}
-use Rattle.fw_model.proofs.FilterLaws.{filter-in, filter-out, filter-inner}
 use Rattle.fw_model.proofs.SortedLaws.{sorted_messages-filter}
 use Rattle.fw_model.specs.SortedMessages.{sorted_messages}
 use Rattle.fw_edge.specs.Messages.{MessagesState}
@@ -38,7 +40,7 @@ use Rattle.fw_collect.specs.declared.drops.Drops.{Drops}
 use Rattle.fw_collect.specs.Drops.{IsPlanned, of_node, without_batches, dropped_records, dropped_events, dropped_messages, dropped_batches, given_up_event}
 use Rattle.fw_collect.specs.Dropped.{is_dropped, is_below_some, is_at_some, is_inside_edge, is_inside_node, log_outside, log_left, source_left}
 use Rattle.fw_collect.specs.LawsOfCollections.{is_written_given_up, DropsWhatIsGivenUp, DropsMessagesBelowReceivers, DropsBatchesOfInputs, GoesWith, LogsHoldWhatIsOutside, InputsHoldWhatIsOutside}
-use Rattle.fw_collect.proofs.ApplyLaws.{or_nothing, filter_then, filter_nothing, cond_ap}
+use Rattle.fw_collect.proofs.ApplyLaws.{filter_then, filter_nothing, cond_ap}
 
 -- ---- one place of those that pass a test
 
@@ -50,10 +52,6 @@ absorbed : (a b : Bool) → (a || (b && a)) ≡ a
 absorbed true b = refl
 absorbed false true = refl
 absorbed false false = refl
-
-and-false : (b : Bool) → (b && false) ≡ false
-and-false true = refl
-and-false false = refl
 
 any-kept : {X : Type 0} (test look : X → Bool) (x : X) (xs : List X)
     → list_any look (filter test (x ∷ xs)) ≡ ((test x && look x) || list_any look (filter test xs))
@@ -132,7 +130,7 @@ drop-sound flow low p (written.Event event) e h =
     let found : Bool → Bool = λ b. is_at_some (cond b (record { node = p; at = t } ∷ []) []) e in
     elim (cases_Bool test) [
       | inl g ↦
-          let is : is_at p t e ≡ true = sym (or_nothing (is_at p t e)) ∙ sym (ap found g) ∙ h in
+          let is : is_at p t e ≡ true = sym (or-false (is_at p t e)) ∙ sym (ap found g) ∙ h in
           let parts = and_parts (e.node == p) (is_event_at t e.written) is in
           at-sound flow low p e.node t e.written g (eqb-true e.node p parts.0) parts.1
       | inr g ↦ absurd (true≢false (sym h ∙ ap found g))
@@ -173,15 +171,10 @@ events-complete flow low (x ∷ es) =
           (λ e k h. list_any-append (look e) here later ∙ or_right (is_at_some here e) (is_at_some later e) (k h)) (events-complete flow low es),
     )
 
-same-both : (a b : Bool) → (a ≡ true → b ≡ true) → (b ≡ true → a ≡ true) → a ≡ b
-same-both true b f g = sym (f refl)
-same-both false true f g = g refl
-same-both false false f g = refl
-
 both-are : (flow : Dataflow) (low : List Front) (p : ℕ) (w : entry.Written)
     → ((takes_checkpoints (policy_of flow p) && lies_below (front_of low p) w) || is-event_given_up flow low p w) ≡ is_written_given_up flow low p w
 unfolding is-event_given_up
-both-are flow low p (written.Checkpoint recorded stamps sent) = or_nothing (takes_checkpoints (policy_of flow p) && lies_below (front_of low p) (written.Checkpoint recorded stamps sent))
+both-are flow low p (written.Checkpoint recorded stamps sent) = or-false (takes_checkpoints (policy_of flow p) && lies_below (front_of low p) (written.Checkpoint recorded stamps sent))
 both-are flow low p (written.Event event) =
     ap (λ b. b || is_given_up (without_batches flow) low p (stamp_of_event event)) (and-false (takes_checkpoints (policy_of flow p)))
 
@@ -194,7 +187,7 @@ drops_what_is_given_up flow low entries drops is =
     ∙ ap (λ ds. is_below_some (dropped_records flow low) e || is_at_some ds e) is.events
     ∙ ap (λ b. b || is_at_some (dropped_events flow low entries) e) (below-planned flow low e)
     ∙ ap (λ b. (takes_checkpoints (policy_of flow e.node) && lies_below (front_of low e.node) e.written) || b)
-    (same-both (is_at_some (dropped_events flow low entries) e) (is-event_given_up flow low e.node e.written) (events-sound flow low entries e) complete)
+    (same_tests (is_at_some (dropped_events flow low entries) e) (is-event_given_up flow low e.node e.written) (events-sound flow low entries e) complete)
     ∙ both-are flow low e.node e.written)
     (events-complete flow low entries)
 
@@ -327,11 +320,6 @@ drops_what_is_collected Stands sys h low goes entries drops writes is stand none
     none stand
 
 -- ---- what logs and inputs hold
-
-filter-same_on : {X : Type 0} (f g : X → Bool) (xs : List X) → AllByRecursion (λ x. f x ≡ g x) xs → filter f xs ≡ filter g xs
-filter-same_on f g [] same = refl
-filter-same_on f g (x ∷ xs) same =
-    ap (λ b. cond b (x ∷ filter f xs) (filter f xs)) same.0 ∙ ap (λ ys. cond (g x) (x ∷ ys) ys) (filter-same_on f g xs same.1)
 
 -- what lies outside a frontier, and then outside a front that holds it, lies outside the front
 outside-again : {X : Type 0} (at : X → Stamp) (bounds : Bounds) (f g : Front) (xs : List X) → Within (frontier_of bounds f) (frontier_of bounds g)

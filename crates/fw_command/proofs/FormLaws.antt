@@ -487,8 +487,3 @@ none_of_err P (Err error) e = tt
 pub with_form : (old sub new : Builder) (before : App) (s : Shape) → AddsSubcommand old sub new → (fields_of sub).has_globals ≡ false → app_of old ≡ before → shape_of sub ≡ s
     → app_of new ≡ with_subcommand before s
 with_form old sub new before s a g e f = a.shape g ∙ ap (λ b. with_subcommand b (shape_of sub)) e ∙ ap (λ t. with_subcommand before t) f
-
--- from what is true of a value to more
-pub so_if_ok : {T E : Type 0} (P Q : T → Type 0) (r : Result T E) → ((x : T) → P x → Q x) → IfOk r P → IfOk r Q
-so_if_ok P Q (Ok x) f p = f x p
-so_if_ok P Q (Err error) f p = tt

@@ -1,6 +1,6 @@
 -- What is sent rec by rec.
-use Rattle.std.proofs.Common.{◌≡◌, ℕ, zero, suc, ◌+◌, ◌<◌, List, [], ◌∷◌, ◌++◌, length, Option, Some, None, refl, sym, ap, ◌∙◌, get_or, drop, append_assoc, arith}
-use Rattle.std.specs.List.{AllByRecursion, flat_map}
+use Rattle.std.proofs.Common.{◌≡◌, ℕ, ◌+◌, ◌<◌, List, [], ◌∷◌, ◌++◌, length, Option, Some, None, refl, sym, ap, ◌∙◌, get_or, drop, append_assoc}
+use Rattle.std.specs.List.{flat_map}
 use Rattle.std.proofs.lemmas.List.{at_drop_more}
 use Rattle.fw_time.specs.Stamp.{Stamp}
 use Rattle.fw_bag.specs.declared.rec.Rec.{Rec}
@@ -24,9 +24,3 @@ gathered_more g xs i d more ys all l e h =
     append_assoc ys more (flat_map g (drop (i + 1) xs))
     ∙ ap (λ zs. ys ++ (zs ++ flat_map g (drop (i + 1) xs))) e
     ∙ sym (ap (λ zs. ys ++ zs) (at_drop_more (flat_map g) xs i d l)) ∙ h
-
--- an element that is one of all
-pub each-at : {X : Type 0} (P : X → Type 0) (xs : List X) (i : ℕ) (d : X) → i < length xs → AllByRecursion P xs → P (get_or xs i d)
-each-at P [] i d l a = absurd (omega arith)
-each-at P (x ∷ xs) zero d l a = a.0
-each-at P (x ∷ xs) (suc i) d l a = each-at P xs i d (omega arith) a.1

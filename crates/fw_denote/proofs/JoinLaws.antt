@@ -7,18 +7,20 @@ use Rattle.std.specs.declared.cmp.Ordering.TheVariants.{Less, Equal, Greater}
 use Rattle.std.specs.Ordering.{is_eq, is_gt, nat_cmp, ordering_then}
 use Rattle.std.proofs.lemmas.Cmp.{upto}
 use Rattle.std.proofs.lemmas.List.{length-drop, get_or-drop, take_all}
+use Rattle.std.proofs.lemmas.Bool.{true_from_ne_false}
+use Rattle.fw_lemmas.proofs.Bools.{two_ways}
+use Rattle.fw_lemmas.proofs.Each.{each-at}
+use Rattle.fw_lemmas.proofs.Filters.{filter-none_at, filter-dropped}
+use Rattle.fw_lemmas.proofs.Orderings.{tied}
 use Rattle.fw_time.specs.Stamp.{same, stamp_cmp}
 use Rattle.fw_bag.specs.declared.rec.Rec.{Rec}
 use Rattle.fw_bag.specs.Keyed.{plus, joined_rec}
 use Rattle.fw_flow.specs.WholeBags.{Timed, timed_cmp, recs_where, in_order, timed_recs}
-use Rattle.fw_model.proofs.CmpLaws.{tied}
-use Rattle.fw_model.proofs.FilterLaws.{filter-dropped, filter-none_at}
 use Rattle.fw_model.proofs.TimedLaws.{IsAscendingTimed, timed_cmp-refl}
 use Rattle.fw_model.proofs.DependenceLaws.{ascending-from_in_order}
 use Rattle.fw_denote.specs.declared.keyed.Slot.{Slot}
 use Rattle.fw_denote.specs.Numbers.{slot_cmp, slot_of}
 use Rattle.fw_denote.specs.Pairs.{pair_recs}
-use Rattle.fw_denote.proofs.AloneLaws.{each-at}
 use Rattle.fw_denote.proofs.NumberLaws.{slot_order, slot-test, slot-is}
 
 -- ---- lists in two parts
@@ -56,18 +58,10 @@ slot-upto rs i j d h l a =
     let y = get_or rs j d in
     slots-upto (stamp_cmp x.at y.at) (nat_cmp x.rec.key y.rec.key) (nat_cmp x.rec.value y.rec.value) (pair-upto rs i j d h l a)
 
-no_or_yes : (b : Bool) → (b ≡ false → ⊥) → b ≡ true
-no_or_yes true h = refl
-no_or_yes false h = absurd (h refl)
-
-not_both : (b : Bool) → b ≡ true → b ≡ false → ⊥
-not_both true h k = cc
-not_both false h k = cc
-
 pub parted_below : (s : Slot) (rs : List Timed) → in_order rs ≡ rs → IsPartitionedBy (λ r. is_gt (slot_cmp s (slot_of r))) rs
 parted_below s rs o = λ i j d h l e.
-    no_or_yes (is_gt (slot_cmp s (slot_of (get_or rs i d))))
-    (λ n. not_both _ e (upto slot_order s (slot_of (get_or rs i d)) (slot_of (get_or rs j d)) n (slot-upto rs i j d h l (ascending-from_in_order rs o))))
+    true_from_ne_false (is_gt (slot_cmp s (slot_of (get_or rs i d))))
+    (λ n. two_ways _ e (upto slot_order s (slot_of (get_or rs i d)) (slot_of (get_or rs j d)) n (slot-upto rs i j d h l (ascending-from_in_order rs o))))
 
 -- what is neither above nor below
 at_least : (s : Slot) (rs : List Timed) (from : ℕ) → ((k : ℕ) (d : Timed) → from ≤ k → k < length rs → is_gt (slot_cmp s (slot_of (get_or rs k d))) ≡ false)

@@ -13,15 +13,16 @@ use Rattle.std.specs.BTreeMap as tree
 use Rattle.std.proofs.lemmas.Bool.{and_parts, eqb-true}
 use Rattle.std.proofs.lemmas.Cmp.{nat_cmp_total, nat_list_cmp_total, on_total, then_total}
 use Rattle.std.proofs.lemmas.Map.Keys.{sorted_head, sorted_tail}
+use Rattle.fw_lemmas.proofs.Orderings.{then_parts, nat_cmp-test}
+use Rattle.fw_lemmas.proofs.Options.{found_or_none}
 use Rattle.fw_time.specs.Stamp.{Stamp, leq, same, stamp_cmp}
 use Rattle.fw_bag.specs.declared.rec.Rec.{Rec}
 use Rattle.fw_bag.specs.Keyed.{plus, value_sum, has_key}
 use Rattle.fw_flow.specs.WholeBags.{Timed, recs_where, in_order, sums_at, totals_at, distinct_stamps}
 use Rattle.fw_model.proofs.StampLaws.{same-is}
-use Rattle.fw_model.proofs.CmpLaws.{then_parts}
 use Rattle.fw_model.proofs.WeightLaws.{weigh, one, how_often-where}
 use Rattle.fw_model.proofs.DistinctLaws.{stamp_cmp-test, same-swap}
-use Rattle.fw_model.proofs.SumLaws.{AreSameBags, nat_cmp-test, rec_cmp-test, sums-is, has_key-same, value_sum-same, sum-outputs, total-outputs}
+use Rattle.fw_model.proofs.SumLaws.{AreSameBags, rec_cmp-test, sums-is, has_key-same, value_sum-same, sum-outputs, total-outputs}
 use Rattle.fw_denote.specs.declared.keyed.Slot.{Slot}
 use Rattle.fw_denote.specs.Numbers.{slot_cmp, slot_of, is_there, sum_at, total_at, HasNumbers, entry_rec}
 use Rattle.fw_denote.proofs.Counts.{one_bag, reversed-weigh}
@@ -54,10 +55,6 @@ none_summed k (r ∷ rs) h = cases (r.key == k) (none_summed k rs) h
         → cond b (plus r.value (value_sum k rs)) (value_sum k rs) ≡ 0
     cases true ih e = cc
     cases false ih e = ih e
-
-pub found_or_none : (b : Bool) (n : ℕ) → (b ≡ false → n ≡ 0) → unwrap_or (cond b (Some n) None) 0 ≡ n
-found_or_none true n h = refl
-found_or_none false n h = sym (h refl)
 
 pub if-same : (b : Bool) (x y : ℕ) (o : Option ℕ) → (b ≡ true → x ≡ y) → cond b (Some x) o ≡ cond b (Some y) o
 if-same true x y o h = ap (λ n. Some n) (h refl)

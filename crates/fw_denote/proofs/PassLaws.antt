@@ -5,7 +5,8 @@ use Rattle.std.proofs.lemmas.List.{get_or-set_same, get_or-set_other, length-set
 use Rattle.std.proofs.lemmas.Bool.{cases_lt}
 use Rattle.std.specs.Ordering.{is_eq}
 use Rattle.std.specs.Cmp.Lexicographic.{slice_cmp}
-use Rattle.fw_bag.proofs.OrderingLaws.{slice_cmp-same, equal_from_is_eq}
+use Rattle.fw_lemmas.proofs.Each.{each-mapped}
+use Rattle.fw_lemmas.proofs.Orderings.{equal_from_is_eq, slice_cmp-same}
 use Rattle.fw_time.specs.Stamp.{Stamp, same}
 use Rattle.fw_bag.specs.declared.rec.Rec.{Rec}
 use Rattle.fw_flow.specs.Dataflow.{Dataflow, System, kind_of, sender, receiver, in_edges, batches_of, system_of}
@@ -41,10 +42,6 @@ set_cases P bags p bag l here there q = elim (equal_or_not q p) [
       subst (P q) found (subst (λ i. P i bag) (sym e) here)
   | inr n ↦ subst (P q) (sym (get_or-set_other bags p q bag [] n)) (there q)
 ]
-
-each-mapped : {A B : Type 0} (P : A → Type 0) (Q : B → Type 0) (g : A → B) → ((x : A) → P x → Q (g x)) → (xs : List A) → AllByRecursion P xs → AllByRecursion Q (map g xs)
-each-mapped P Q g w [] a = tt
-each-mapped P Q g w (x ∷ xs) a = (w x a.0, each-mapped P Q g w xs a.1)
 
 each-edge : (n : ℕ) (es : List ℕ) (Q : ℕ → Type 0) → ((i d : ℕ) → i < length es → Q (get_or es i d)) → AllByRecursion Q es
 each-edge n [] Q h = tt

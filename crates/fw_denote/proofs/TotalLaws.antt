@@ -10,6 +10,9 @@ use Rattle.std.specs.BTreeMap.{BTreeMap, get}
 use Rattle.std.proofs.lemmas.Bool.{and_parts, and_from, eqb-true, eq-eqb, cond-true}
 use Rattle.std.proofs.lemmas.Bool.Decides.{nat_tests}
 use Rattle.std.proofs.lemmas.List.{take_more, map-append}
+use Rattle.fw_lemmas.proofs.Bools.{cond-one}
+use Rattle.fw_lemmas.proofs.Each.{each-at}
+use Rattle.fw_lemmas.proofs.Orderings.{nat_cmp-test}
 use Rattle.fw_time.specs.Stamp.{Stamp, leq, same, stamp_cmp}
 use Rattle.fw_time.proofs.StampLaws.{leq-refl}
 use Rattle.fw_bag.specs.declared.rec.Rec.{Rec}
@@ -21,12 +24,11 @@ use Rattle.fw_model.proofs.StampLaws.{same-is, same-refl, in_line, line-leq}
 use Rattle.fw_model.proofs.TimedLaws.{IsAscendingTimed}
 use Rattle.fw_model.proofs.DependenceLaws.{ascending-from_in_order}
 use Rattle.fw_model.proofs.DistinctLaws.{same-swap}
-use Rattle.fw_model.proofs.SumLaws.{AreSameBags, nat_cmp-test, has_key-same, value_sum-same, how_often-passing}
+use Rattle.fw_model.proofs.SumLaws.{AreSameBags, has_key-same, value_sum-same, how_often-passing}
 use Rattle.fw_model.proofs.WeightLaws.{how_often-where, one}
 use Rattle.fw_denote.specs.declared.keyed.Slot.{Slot}
 use Rattle.fw_denote.specs.Numbers.{slot_cmp, slot_of, is_there, total_at, HasNumbers, HasTotals, AreInLine, ComeBefore}
 use Rattle.fw_denote.proofs.NumberLaws.{slot-test, slot-is, if-same}
-use Rattle.fw_denote.proofs.AloneLaws.{each-at}
 use Rattle.fw_denote.proofs.Counts.{reversed-weigh}
 
 -- the recs of timed recs
@@ -39,10 +41,6 @@ total-more : (b : Bool) (n m : ℕ) (o : Option ℕ) → unwrap_or o 0 ≡ m →
 total-more true n m o h = refl
 total-more false n m o h = h
 
-value-same : (b : Bool) (x y z : ℕ) → (b ≡ true → x ≡ y) → cond b x z ≡ cond b y z
-value-same true x y z h = h refl
-value-same false x y z h = refl
-
 pub totals_more : (old new : BTreeMap ℕ ℕ) (r : Timed) (n : ℕ) (rs : List Timed)
     → n ≡ plus r.rec.value (unwrap_or (get nat_cmp old r.rec.key) 0)
     → ((k : ℕ) → get nat_cmp new k ≡ cond (is_eq (nat_cmp r.rec.key k)) (Some n) (get nat_cmp old k))
@@ -50,7 +48,7 @@ pub totals_more : (old new : BTreeMap ℕ ℕ) (r : Timed) (n : ℕ) (rs : List 
 totals_more old new r n rs e u h = λ k.
     ap (λ o. unwrap_or o 0) (u k ∙ ap (λ b. cond b (Some n) (get nat_cmp old k)) (nat_cmp-test r.rec.key k))
     ∙ total-more (r.rec.key == k) n (value_sum k (recs rs)) (get nat_cmp old k) (h k)
-    ∙ value-same (r.rec.key == k) n (plus r.rec.value (value_sum k (recs rs))) (value_sum k (recs rs))
+    ∙ cond-one (r.rec.key == k) n (plus r.rec.value (value_sum k (recs rs))) (value_sum k (recs rs))
     (λ t. e ∙ ap (plus r.rec.value) (h r.rec.key) ∙ ap (λ i. plus r.rec.value (value_sum i (recs rs))) (eqb-true r.rec.key k t))
 
 -- ---- the totals of slots

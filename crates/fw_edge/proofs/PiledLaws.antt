@@ -18,8 +18,8 @@ use Rattle.std.proofs.lemmas.Map.{lookup-none}
 use Rattle.std.proofs.lemmas.Map.Steps.{set_value_same}
 use Rattle.std.proofs.lemmas.Map.Entries.{none_below_head, none_past_head}
 use Rattle.std.proofs.lemmas.Map.Keys.{sorted_head, sorted_tail, IsDistinct-from_sorted}
+use Rattle.fw_lemmas.proofs.Each.{each-weaker, each-append, each-kept}
 use Rattle.fw_time.specs.Stamp.{Stamp, same, stamp_cmp}
-use Rattle.fw_time.proofs.EachLaws.{each-weaker, each-append, each-kept}
 use Rattle.fw_time.proofs.StampLaws.{same-is, same-refl}
 use Rattle.fw_bag.specs.Rec.{rec_cmp}
 use Rattle.fw_flow.specs.declared.event.Message.{Message}

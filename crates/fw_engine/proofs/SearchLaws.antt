@@ -1,8 +1,9 @@
 -- A search of the places that are kept.
 use Rattle.std.proofs.Common.{◌≡◌, ℕ, ◌+◌, ◌<◌, ◌≤◌, Bool, true, false, List, length, Option, Some, None, Result, Ok, Err, refl, sym, ap, subst, ◌∙◌, inl, inr, arith}
-use Rattle.std.specs.Prelude.{◌↔◌, IfNone, IfOk, IfSome, IsTrue, OnOk, is_some}
+use Rattle.std.specs.Prelude.{◌↔◌, IfNone, IfOk, IfSome, IsTrue, is_some}
 use Rattle.std.specs.List.{Contains}
 use Rattle.std.proofs.lemmas.Bool.{cases_eq, cases_lt}
+use Rattle.fw_lemmas.proofs.Bools.{two_ways}
 use Rattle.fw_time.specs.Stamp.{Stamp, in_domain}
 use Rattle.fw_flow.specs.Dataflow.{Dataflow, bounds_of}
 use Rattle.fw_progress.specs.declared.counts.Counts.{Counts}
@@ -39,15 +40,11 @@ pub searched_none : (P Q : ℕ → Type 0) (places : List ℕ) → ((q : ℕ) �
     → IsFirstPlace places None → IsFirstWhere P None
 searched_none P Q places same all none = λ q has. none q (all q ((same q).0 has))
 
--- what a test says
-two : (b : Bool) → b ≡ true → b ≡ false → ⊥
-two b t f = cc
-
 pub holds_if : (b : Bool) (P : Type 0) → b ≡ true → IsTrue b ↔ P → P
 holds_if b P e i = i.0 e
 
 pub fails_if : (b : Bool) (P : Type 0) → b ≡ false → IsTrue b ↔ P → P → ⊥
-fails_if b P e i p = two b (i.1 p) e
+fails_if b P e i p = two_ways b (i.1 p) e
 
 -- what an answer says that is there, and one that is not
 pub holds_for : {A : Type 0} (o : Option A) (P : Type 0) → is_some o ≡ true → IfSome o (λ x. P) → P
@@ -57,11 +54,6 @@ holds_for (Some x) P e h = h
 pub fails_for : {A : Type 0} (o : Option A) (P : Type 0) → is_some o ≡ false → IfNone o P → P
 fails_for None P e h = h
 fails_for (Some x) P e h = absurd (cc)
-
--- what follows where a call went well
-pub on_ok : {A E : Type 0} (r : Result A E) (P Q : Type 0) → (P → Q) → OnOk r P → OnOk r Q
-on_ok (Ok x) P Q f h = f h
-on_ok (Err e) P Q f h = tt
 
 -- ---- where something may be done does not hang on the places that are kept
 

@@ -1,10 +1,10 @@
 -- What an event makes a node send goes to its out-edges, one after the other.
-use Rattle.std.proofs.Common.{◌≡◌, ℕ, zero, suc, ◌+◌, ◌<◌, ◌≤◌, true, ◌||◌, ◌==◌, List, [], ◌∷◌, length, get_or, take, Result, Ok, Err, sym, ap, subst, ◌∙◌, inl, inr, arith}
-use Rattle.std.specs.Prelude.{map, OnOk}
+use Rattle.std.proofs.Common.{◌≡◌, ℕ, zero, suc, ◌+◌, ◌<◌, ◌≤◌, true, ◌||◌, ◌==◌, List, [], ◌∷◌, length, get_or, take, sym, ap, subst, ◌∙◌, inl, inr, arith}
+use Rattle.std.specs.Prelude.{map}
 use Rattle.std.proofs.lemmas.Bool.{cases_Bool, or_left, or_right}
 use Rattle.std.proofs.lemmas.List.{get_or_read, take_all}
+use Rattle.fw_lemmas.proofs.Each.{each-at}
 use Rattle.fw_time.specs.Stamp.{Stamp, in_domain}
-use Rattle.fw_time.proofs.EachLaws.{each-at}
 use Rattle.fw_bag.specs.declared.rec.Rec.{Rec}
 use Rattle.fw_frontier.specs.Front.{Front}
 use Rattle.fw_flow.specs.Dataflow.{Dataflow, bounds_of, is_one_of, out_edges, policy_of}
@@ -72,11 +72,6 @@ sent-all old now p cause sent i h l =
     let es = out_edges old.flow p in
     let past : length es ≤ i = subst (λ f. length (out_edges f p) ≤ i) (ap (λ (r : Running). r.flow) h.changes) l in
     subst (λ (ds : List ℕ). SendsOn ds (can_resend (policy_of old.flow p)) (caused_by cause sent) old now) (take_all i es past) h.sends
-
--- what holds holds where a call went well
-pub always-ok : {T E : Type 0} (result : Result T E) (P : Type 0) → P → OnOk result P
-always-ok (Ok x) P p = p
-always-ok (Err e) P p = tt
 
 -- an out-edge is an edge of the flow
 pub out_edge-there : (flow : Dataflow) (p i d : ℕ) → i < length (out_edges flow p) → d ≡ get_or (out_edges flow p) i d → d < length flow.edges

@@ -3,6 +3,7 @@ use Rattle.std.proofs.Common.{◌≡◌, ◌≢◌, ℕ, zero, suc, ◌<◌, Boo
 use Rattle.std.specs.Prelude.{◌⊎◌, OnOk, slice_index_or}
 use Rattle.std.specs.List.{Contains}
 use Rattle.std.proofs.lemmas.Bool.{cases_eq, cond-true, cond-false, eq-eqb, eqb-true, false_from_ne_true, false≢true}
+use Rattle.fw_lemmas.proofs.Numbers.{eqb-sym}
 use Rattle.fw_time.specs.Stamp.{Stamp}
 use Rattle.fw_bag.specs.declared.rec.Rec.{Rec}
 use Rattle.fw_frontier.specs.Front.{inside}
@@ -287,12 +288,6 @@ sends-next flow p i d again ms old mid new l is c a b =
     sends-more (take i es) (take (suc i) es) d again ms old mid new
     (λ e. out_edge-more es i e l ∙ ap (λ x. is_one_of e (take i es) || x == e) (get_or-any es i e d l ∙ sym is))
     (out_edge-new flow p i d l is) c a b
-
-eqb-sym : (a b : ℕ) → (a == b) ≡ (b == a)
-eqb-sym a b = elim (cases_eq a b) [
-  | inl k ↦ ap (λ x. x == b) k ∙ ap (λ x. b == x) (sym k)
-  | inr n ↦ false_from_ne_true (a == b) (λ k. n (eqb-true a b k)) ∙ sym (false_from_ne_true (b == a) (λ k. n (sym (eqb-true b a k))))
-]
 
 -- what is sent on the out-edges of an event's node is what is put on each edge
 sent-put : (flow : Dataflow) (v : Event) (sent : List (Stamp × Rec)) (e : ℕ) → e < length flow.edges

@@ -3,8 +3,8 @@ use Rattle.std.proofs.Common.{◌≡◌, ℕ, ◌<◌, Bool, true, false, ◌||�
 use Rattle.std.specs.Prelude.{Option, IfSome}
 use Rattle.std.specs.List.{AllByRecursion, Contains}
 use Rattle.std.proofs.lemmas.Bool.{cases_Bool, cond_both, eqb-true}
+use Rattle.fw_lemmas.proofs.Each.{each-kept}
 use Rattle.fw_time.specs.Stamp.{Stamp, in_domain}
-use Rattle.fw_time.proofs.EachLaws.{each-kept}
 use Rattle.fw_bag.specs.declared.rec.Rec.{Rec}
 use Rattle.fw_frontier.specs.Front.{inside}
 use Rattle.fw_flow.specs.declared.event.Message.{Message}
@@ -22,7 +22,6 @@ use Rattle.fw_node.specs.declared.node.Node.{Node}
 use Rattle.fw_node.specs.NodeOf.{CanBeSent, IsNodeOf}
 use Rattle.fw_progress.specs.declared.traces.Traces.{Traces}
 use Rattle.fw_progress.specs.Progress.{IsOfFlow, Standing}
-use Rattle.fw_progress.specs.Settle.{has_more}
 use Rattle.fw_progress.specs.Trace.{HaveLists}
 use Rattle.fw_rollback.specs.Edges.{on_edge}
 use Rattle.fw_rollback.specs.Tables.{table_at}

@@ -6,9 +6,9 @@ use Rattle.std.specs.BTreeMap.{is_at}
 use Rattle.std.specs.List.{AllByRecursion, Contains}
 use Rattle.std.proofs.lemmas.Bool.{cases_Bool, cases_eq}
 use Rattle.std.proofs.lemmas.List.{get_or-set_other, length-set}
+use Rattle.fw_lemmas.proofs.Each.{each-append}
 use Rattle.fw_time.specs.Stamp.{Stamp, in_domain, same, stamp_cmp}
 use Rattle.fw_time.specs.declared.stamp.Bounds.{Bounds}
-use Rattle.fw_time.proofs.EachLaws.{each-append}
 use Rattle.fw_time.proofs.StampLaws.{same-refl}
 use Rattle.fw_frontier.specs.Front.{inside}
 use Rattle.fw_flow.specs.declared.choice.Stamps.{Stamps}

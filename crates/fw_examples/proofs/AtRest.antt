@@ -1,5 +1,6 @@
 -- The laws of rest, applied to the running total whose output failed.
 use Rattle.std.proofs.Common.{◌≡◌, ℕ, ◌≤◌, refl, lit<, inl, arith}
+use Rattle.fw_lemmas.proofs.Numbers.{at_most-refl}
 use Rattle.fw_flow.specs.Dataflow.{batches_of, in_edges, kind_of, receiver, sender}
 use Rattle.fw_model.specs.Machine.{events}
 use Rattle.fw_rest.specs.StepsToRest.{steps_to_rest, steps_in_all}
@@ -10,9 +11,6 @@ use Rattle.fw_examples.proofs.Witnesses.{failure_is_reached, recovery_is_reached
 
 same_at_most : (x y : ℕ) → x ≡ y → x ≤ y
 same_at_most x y e = omega arith
-
-at_most_itself : (x : ℕ) → x ≤ x
-at_most_itself x = omega arith
 
 pub rest_applies : RestApplies
 unfolding kind_of receiver sender batches_of in_edges steps_in_all
@@ -28,7 +26,7 @@ rest_applies =
       comes = λ one law.
           let most = steps_to_rest totals totals_denoted output_failed in
           let taken = one totals formed steps_to_failure outcomes_to_failure output_failed reached most in
-          (taken.1, law totals totals_denoted formed denoted output_failed (steps_to_failure, outcomes_to_failure, reached) most (at_most_itself most) taken.0 taken.1 taken.2);
+          (taken.1, law totals totals_denoted formed denoted output_failed (steps_to_failure, outcomes_to_failure, reached) most (at_most-refl most) taken.0 taken.1 taken.2);
       goes_on = λ law. law totals formed output_failed (steps_to_failure, outcomes_to_failure, reached) 136;
       rests = λ law also last g. law totals totals_denoted formed denoted output_failed (steps_to_failure, outcomes_to_failure, reached) 136 (same_at_most _ 136 refl) also last g;
       all = λ law also last g.

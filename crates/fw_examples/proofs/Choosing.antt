@@ -3,6 +3,7 @@ use Rattle.std.specs.List.{list_all, list_any}
 use Rattle.std.proofs.Common.{Bool, List, [], ap, arith, eqb-true, false, if◌then◌else◌, inl, inr, length, nat_le, not, refl, subst, sym, true, ℕ, ⊎_elim, ◌&&◌, ◌<◌, ◌==◌, ◌||◌, ◌∙◌, ◌∷◌, ◌≡◌, ◌≤◌, ◌⊎◌}
 use Rattle.std.proofs.lemmas.Bool.{and_from, and_parts, eq-eqb, false≢true, leb-true, not-true, or_cases, or_left, or_right}
 use Rattle.std.proofs.lemmas.Bool.Decides.{nat_tests}
+use Rattle.fw_lemmas.proofs.Bools.{two_ways}
 use Rattle.fw_time.specs.Stamp.{Stamp, in_domain, leq, same}
 use Rattle.fw_time.specs.declared.stamp.Bounds.{Bounds}
 use Rattle.fw_time.proofs.StampLaws.{same-is}
@@ -28,7 +29,6 @@ use Rattle.fw_model.specs.Covers.{covers_in, discarded_at, notified_inside, set_
 use Rattle.fw_model.specs.History.{delivered_messages, injected_count, is_exhausted, sent_messages}
 use Rattle.fw_model.specs.Machine.{Machine, SerialEvent, Write, Written, ack_count_of, checkpoint, events, front_of, is_failed, logged_event, no_stamps}
 use Rattle.fw_model.specs.Steps.{IsSettledCut, StepsTo, checkpoint_front, cuts, did, front_of_cut, offers, recovered_state}
-use Rattle.fw_model.proofs.Decisions.{two_ways}
 use Rattle.fw_model.proofs.FilteredLaws.{set-frontier}
 use Rattle.fw_model.proofs.LowLaws.{none-within}
 use Rattle.fw_model.proofs.PhiLaws.{phi-monotone}

@@ -6,7 +6,6 @@ use Rattle.std.proofs.Common.{Bool, List, [], arith, false, inl, inr, not, refl,
 use Rattle.std.proofs.lemmas.Bool.{and_from, and_parts, cases_lt, false_from_ne_true, false≢true, not-true, not_from_false, or_cases, or_parts}
 use Rattle.fw_time.specs.Stamp.{Stamp, in_domain, leq, same, stamp_cmp}
 use Rattle.fw_time.specs.declared.stamp.Bounds.{Bounds}
-use Rattle.fw_time.proofs.EachLaws.{each-of_all}
 use Rattle.fw_time.proofs.StampLaws.{same-is}
 use Rattle.fw_frontier.specs.Front.{Front, IsCanonical, all_in_domain, frontier_of, inside, is_within}
 use Rattle.fw_frontier.specs.Frontier.{Frontier, IsFrontier, Within, cover, join, meet, some_above}
@@ -14,6 +13,7 @@ use Rattle.fw_frontier.proofs.NamesLaws.{is_within-holds}
 use Rattle.fw_flow.specs.declared.event.Message.{Message}
 use Rattle.fw_model.specs.History.{some_at}
 use Rattle.std.proofs.lemmas.Bool.Decides.{nat_tests}
+use Rattle.fw_lemmas.proofs.Each.{each-of_all}
 use Rattle.fw_examples.specs.Flows.{out}
 
 -- at each of three, or of two

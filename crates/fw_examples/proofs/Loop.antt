@@ -3,6 +3,7 @@ use Rattle.std.specs.List.{flat_map}
 use Rattle.std.proofs.Common.{List, None, Some, [], ap, arith, drop, false, get_or, lit<, map, not, refl, replicate, suc, take, true, ℕ, ◌++◌, ◌+◌, ◌-◌, ◌<◌, ◌∙◌, ◌∷◌, ◌≡◌}
 use Rattle.std.proofs.lemmas.Bool.{and_from, and_parts}
 use Rattle.std.proofs.lemmas.Bool.Decides.{nat_tests}
+use Rattle.fw_lemmas.proofs.Bools.{two_ways}
 use Rattle.fw_bag.specs.declared.rec.Rec.{Rec}
 use Rattle.fw_time.specs.Stamp.{Stamp, in_domain, leq, same}
 use Rattle.fw_frontier.specs.Front.{inside}
@@ -23,7 +24,6 @@ use Rattle.fw_model.specs.Denotation.{IsDenotation, bag_at, rounds}
 use Rattle.fw_model.specs.History.{IsAdmissible, IsComplete, IsLegal, delivered_messages, pending_messages, some_at}
 use Rattle.fw_model.specs.Machine.{Machine, events, first_state, is_failed}
 use Rattle.fw_model.specs.Steps.{Outcome, Run, StepsTo, cuts, did, offers, silent, recovered_state}
-use Rattle.fw_model.proofs.Decisions.{two_ways}
 use Rattle.fw_model.proofs.DomainLaws.{has_epochs}
 use Rattle.fw_model.proofs.GoingOn.{runs-go_on}
 use Rattle.fw_model.proofs.RecoveryLaws.{runs-legal}

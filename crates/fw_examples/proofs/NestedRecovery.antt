@@ -2,6 +2,7 @@
 use Rattle.std.proofs.Common.{List, None, [], ap, arith, drop, get_or, lit<, refl, replicate, suc, take, true, ℕ, ◌++◌, ◌<◌, ◌∷◌, ◌≡◌}
 use Rattle.std.proofs.lemmas.Bool.{and_from, and_parts}
 use Rattle.std.proofs.lemmas.Bool.Decides.{nat_tests}
+use Rattle.fw_lemmas.proofs.Bools.{two_ways}
 use Rattle.fw_time.specs.Stamp.{Stamp, in_domain, same}
 use Rattle.fw_frontier.specs.Front.{inside}
 use Rattle.fw_frontier.specs.Frontier.{Frontier, Within}
@@ -17,7 +18,6 @@ use Rattle.fw_model.specs.Choice.{IsConsistent, IsCutWithin, IsLargest, cut_of, 
 use Rattle.fw_model.specs.History.{IsAdmissible, IsComplete, pending_messages, some_at}
 use Rattle.fw_model.specs.Machine.{Machine, events, first_state, front_of, is_failed}
 use Rattle.fw_model.specs.Steps.{Outcome, Run, StepsTo, cuts, did, offers, recovered_state, silent}
-use Rattle.fw_model.proofs.Decisions.{two_ways}
 use Rattle.fw_model.proofs.GoingOn.{runs-go_on}
 use Rattle.fw_model.proofs.PhiLaws.{phi-monotone}
 use Rattle.fw_examples.specs.Flows.{pair}

@@ -3,6 +3,7 @@ use Rattle.std.specs.List.{list_all, list_any}
 use Rattle.std.specs.Ordering.{is_gt}
 use Rattle.std.proofs.Common.{Bool, List, Option, [], ap, eqb-true, false, if◌then◌else◌, inl, inr, length, nat_lt, not, refl, slice_set, subst, sym, true, ℕ, ⊎_elim, ◌&&◌, ◌++◌, ◌+◌, ◌==◌, ◌||◌, ◌∙◌, ◌∷◌, ◌≡◌}
 use Rattle.std.proofs.lemmas.Bool.{and_parts, eq-eqb, false≢true, ltb-true, not-true, or_cases, or_left}
+use Rattle.fw_lemmas.proofs.Bools.{two_ways}
 use Rattle.fw_bag.specs.declared.rec.Rec.{Rec}
 use Rattle.fw_time.specs.Stamp.{Stamp, same}
 use Rattle.fw_time.proofs.StampLaws.{same-is}
@@ -19,7 +20,6 @@ use Rattle.fw_flow.proofs.MessageLaws.{message_cmp-equal}
 use Rattle.fw_model.specs.History.{delivered_messages, injected_count, pending_messages}
 use Rattle.fw_model.specs.Machine.{Machine, Write, acknowledged, ack_count_of, events, front_of, is_failed, no_stamps}
 use Rattle.fw_model.specs.Steps.{AcknowledgesOldest, Effect, HasEpoch, HasSomethingAt, IsAsked, LeadsTo, Outcome, Run, acked, checkpoint_of, did, is_asked, is_asked_for_checkpoints, is_in_flight, newest_checkpoint, silent, recs_at_output, with_event, with_failed, without_lost}
-use Rattle.fw_model.proofs.Decisions.{two_ways}
 use Rattle.fw_model.proofs.EnabledLaws.{asked-from, asked-is}
 use Rattle.fw_flow.specs.declared.step.Step.TheVariants as step
 

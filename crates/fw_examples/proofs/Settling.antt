@@ -5,9 +5,10 @@ use Rattle.std.proofs.Common.{Bool, List, Some, [], ap, arith, eqb-true, false, 
 use Rattle.std.proofs.lemmas.Bool.{and_from, and_parts, and_right, both_ways, cases_lt, eq-eqb, false_from_ne_true, false≢true, ltb-true, not-true, or_cases, or_left, or_right}
 use Rattle.std.proofs.lemmas.Bool.Decides.{nat_tests}
 use Rattle.std.proofs.lemmas.List.{get_or_past}
+use Rattle.fw_lemmas.proofs.Bools.{two_ways}
+use Rattle.fw_lemmas.proofs.Each.{each-weaker, each-of_all}
 use Rattle.fw_time.specs.Stamp.{Stamp, in_domain, leq, lesser, same, stamp_cmp}
 use Rattle.fw_time.specs.declared.stamp.Bounds.{Bounds}
-use Rattle.fw_time.proofs.EachLaws.{each-of_all, each-weaker}
 use Rattle.fw_time.proofs.StampLaws.{leq-trans, same-is}
 use Rattle.fw_frontier.specs.Front.{Front, all_in_domain, frontier_of, inside, is_within}
 use Rattle.fw_frontier.specs.Frontier.{Frontier, IsFrontier, Within, everything}
@@ -25,7 +26,6 @@ use Rattle.fw_flow.proofs.EdgeLaws.{kind-past}
 use Rattle.fw_model.specs.History.{IsAdmissible, IsClosedFor, IsComplete, IsNotifiable, IsQuiet, injected_count, injected_epochs, is_exhausted, is_owed_notice, pending_messages, some_at, was_delivered_to, was_notified}
 use Rattle.fw_model.specs.Machine.{Machine, events, family_of, front_of, is_failed, no_stamps}
 use Rattle.fw_model.specs.Steps.{StepsTo, did, eager_writes, silent, with_event}
-use Rattle.fw_model.proofs.Decisions.{two_ways}
 use Rattle.fw_model.proofs.DescentLaws.{past_edges-joined, past_edges-phi, past_edges-quiet}
 use Rattle.fw_model.proofs.LowLaws.{input-is, none-within}
 use Rattle.fw_model.proofs.MeetLaws.{phi-everything}

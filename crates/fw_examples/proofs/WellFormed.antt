@@ -4,9 +4,10 @@ use Rattle.std.specs.Ordering.{is_gt}
 use Rattle.std.proofs.Common.{Bool, List, None, [], ap, arith, eq-eqb, eqb-true, false, get_or, inl, inr, length, lit<, lit≤, nat_le, nat_lt, not, refl, suc, sym, true, zero, ℕ, ⊎_elim, ◌&&◌, ◌+◌, ◌<◌, ◌==◌, ◌^◌, ◌||◌, ◌∙◌, ◌∷◌, ◌≡◌, ◌≤◌}
 use Rattle.std.proofs.lemmas.Bool.{and_from, and_parts, cases_lt, leb-true, ltb-true, not-true, or_cases, or_right}
 use Rattle.std.proofs.lemmas.List.{get_or_past}
+use Rattle.fw_lemmas.proofs.Bools.{two_ways}
+use Rattle.fw_lemmas.proofs.Each.{each-weaker, each-of_all}
 use Rattle.fw_bag.specs.Rec.{rec_cmp}
 use Rattle.fw_bag.specs.declared.rec.Rec.{Rec}
-use Rattle.fw_time.proofs.EachLaws.{each-of_all, each-weaker}
 use Rattle.fw_flow.specs.Check.{AreWalksRight}
 use Rattle.fw_flow.specs.Ranks.{IsWithinRound, is_looped}
 use Rattle.fw_flow.specs.Dataflow.{Dataflow, System, batches_of, declared_parent, domain_of, domain_of_kind, in_edges, is_domain_of, is_input_kind, is_output_kind, is_within, kind_of, loops_of, max_of, out_domain_of, out_domain_of_kind, out_edges, parent_of, policy_of, receiver, sender}
@@ -17,7 +18,6 @@ use Rattle.fw_flow.specs.declared.kind.Kind.TheVariants.{Select, Total}
 use Rattle.fw_flow.specs.declared.kind.Policy.{Policy}
 use Rattle.fw_flow.specs.declared.node.Node.{Node}
 use Rattle.fw_flow.proofs.ByRanks.{walks-ranked}
-use Rattle.fw_model.proofs.Decisions.{two_ways}
 use Rattle.fw_examples.specs.Flows.{at_least_ten, in_a_row, loop_counts_up, one_select_flow, selecting, two_sources_flow}
 use Rattle.fw_examples.specs.RunningTotal.{summing}
 use Rattle.fw_lines.specs.Batches.{IsBatch}

@@ -3,8 +3,8 @@ use Rattle.std.specs.List.{list_any}
 use Rattle.std.proofs.Common.{Bool, List, None, Some, [], ap, arith, drop, false, inl, inr, lit<, lit≤, refl, replicate, suc, sym, true, zero, ℕ, ⊎_elim, ◌++◌, ◌<◌, ◌∙◌, ◌∷◌, ◌≡◌}
 use Rattle.std.proofs.lemmas.Bool.{and_from, and_parts, false≢true, or_cases, or_left, or_right}
 use Rattle.std.proofs.lemmas.Bool.Decides.{nat_tests}
+use Rattle.fw_lemmas.proofs.Each.{each-one}
 use Rattle.fw_time.specs.Stamp.{Stamp, leq}
-use Rattle.fw_time.proofs.EachLaws.{each-one}
 use Rattle.fw_frontier.specs.Front.{frontier_of}
 use Rattle.fw_frontier.specs.Frontier.{IsFrontier, join}
 use Rattle.fw_frontier.proofs.NamesLaws.{frontier-closed}

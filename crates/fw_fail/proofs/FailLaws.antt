@@ -5,6 +5,9 @@ use Rattle.std.proofs.lemmas.Bool.{cases_eq, cases_Bool, cond_both, eq-eqb, eqb-
 use Rattle.std.proofs.lemmas.List.{take_more, get_or-set_same, get_or-set_other, get_or_default, length-set, same_lists}
 use Rattle.std.proofs.lemmas.List.Folds.{list_any-append}
 use Rattle.std.proofs.lemmas.List.FromFn.{get_or-map-range_with_len, length-map-range_with_len}
+use Rattle.std.proofs.Math.Bool.{or-false, or-true}
+use Rattle.fw_lemmas.proofs.Bools.{both-lead}
+use Rattle.fw_lemmas.proofs.Each.{each-weaker, each-kept}
 use Rattle.fw_border.specs.Sources.{source_at, next_batch}
 use Rattle.fw_border.specs.Outputs.{OutputState, output_at, with_output, cleared, new_output}
 use Rattle.fw_edge.specs.Messages.{MessagesState}
@@ -42,7 +45,6 @@ use Rattle.fw_stands.proofs.FlightLaws.{live_nodes-decide}
 use Rattle.fw_stands.proofs.LossLaws.{losses_stay}
 use Rattle.fw_stands.proofs.AtReached.{reached-next}
 use Rattle.fw_time.specs.Stamp.{Stamp}
-use Rattle.fw_time.proofs.EachLaws.{each-kept, each-weaker}
 use Rattle.fw_running.specs.declared.running.Running.{Running}
 use Rattle.fw_fail.specs.Failing.{AreGone, IsGoneFrom, lost_after, Fails, FailsIf}
 use Rattle.fw_running.specs.Kept.{queue_at, log_at, table_of, source_of, output_of, lost_at, is_down}
@@ -56,16 +58,8 @@ use Rattle.fw_running.specs.declared.stepped.Stepped.TheVariants.{Did, Idle}
 
 -- ---- edges one after the other
 
-or-none : (b : Bool) → (b || false) ≡ b
-or-none true = refl
-or-none false = refl
-
-or-one : (b : Bool) → (b || true) ≡ true
-or-one true = refl
-or-one false = refl
-
 pub one_of-more : (n : ℕ) (ns : List ℕ) (m : ℕ) → is_one_of n (ns ++ m ∷ []) ≡ (is_one_of n ns || (m == n))
-one_of-more n ns m = list_any-append (λ k. k == n) ns (m ∷ []) ∙ ap (λ b. is_one_of n ns || b) (or-none (m == n))
+one_of-more n ns m = list_any-append (λ k. k == n) ns (m ∷ []) ∙ ap (λ b. is_one_of n ns || b) (or-false (m == n))
 
 pub gone_none : (old : List MessagesState) → AreGone [] old old
 gone_none old = record { one_each = refl; messages = λ e. refl }
@@ -83,7 +77,7 @@ gone_more edges i x old mid new l is a each here others =
             ∙ sym (ap (λ b. cond b [] (on_edge old e).messages) (with_it e ∙ or_right (is_one_of e so_far) (x == e) (eq-eqb x e (sym k))))
         | inr n ↦ ap (λ (q : MessagesState). q.messages) (others e n) ∙ a.messages e
             ∙ sym (ap (λ b. cond b [] (on_edge old e).messages)
-            (with_it e ∙ ap (λ b. is_one_of e so_far || b) (false_from_ne_true (x == e) (λ j. n (sym (eqb-true x e j)))) ∙ or-none (is_one_of e so_far)))
+            (with_it e ∙ ap (λ b. is_one_of e so_far || b) (false_from_ne_true (x == e) (λ j. n (sym (eqb-true x e j)))) ∙ or-false (is_one_of e so_far)))
       ];
     })
 
@@ -230,7 +224,7 @@ each-one P (m ∷ ns) n a k = elim (or_cases (m == n) (is_one_of n ns) k) [
 
 -- whether the node is this one
 alone : (p q : ℕ) → is_one_of q (p ∷ []) ≡ (p == q)
-alone p q = or-none (p == q)
+alone p q = or-false (p == q)
 
 alone-same : (p q : ℕ) → q ≡ p → is_one_of q (p ∷ []) ≡ true
 alone-same p q e = alone p q ∙ eq-eqb p q (sym e)
@@ -270,7 +264,7 @@ failed-is sys state p old new was each there is = is ∙ same_lists (set old p t
           | inl e ↦ ap (λ r. get_or (set old p true) r d) e ∙ get_or-set_same old p true d (omega (arith, there, each))
               ∙ sym (after ∙ ap (λ b. is_failed state k || b) (alone-same p k e) ∙ or_right (is_failed state k) true refl)
           | inr n ↦ get_or-set_other old p k true d n ∙ get_or_default old k d false (omega (arith, m, each)) ∙ ap (λ bs. get_or bs k false) was
-              ∙ sym (after ∙ ap (λ b. is_failed state k || b) (alone-other p k n) ∙ or-none (is_failed state k))
+              ∙ sym (after ∙ ap (λ b. is_failed state k || b) (alone-other p k n) ∙ or-false (is_failed state k))
         ]
 
 lost-other : (asks : Policy) (p q : ℕ) (entries : List Entry) (lost : List (List Stamp)) → q ≢ p → get_or (lost_after asks p entries lost) q [] ≡ get_or lost q []
@@ -279,9 +273,6 @@ lost-other other p q entries lost n = refl
 
 flip : {A B : Type 0} → A ↔ B → B ↔ A
 flip h = (h.1, h.0)
-
-both-lead : {A B C : Type 0} → A ↔ B → B ↔ C → A ↔ C
-both-lead f g = (λ a. g.0 (f.0 a), λ c. f.1 (g.1 c))
 
 after-stands : (sys : System) (state : Machine) (old new : Running) (records : Option Records) (p : ℕ) → p < length old.flow.nodes → is_down old p ≡ false
     → Fails p old new → IsShaped old → Stands sys old records state → Stands sys (after_fail old new) records (failed_state sys state (p ∷ []))
@@ -447,7 +438,7 @@ down_more ps any old now p h down = record {
               let there : p < length now.flow.nodes = subst (λ (f : Dataflow). p < length f.nodes) (sym t.flow) (subst (λ r. r < length sys.flow.nodes) k l) in
               let is : (is_failed state q || is_one_of q ps) ≡ true = sym (down-or sys state old now records ps q l t) ∙ subst (λ r. is_down now r ≡ true) (sym k) (down there) in
               ap (λ b. is_one_of q ps || b) j ∙ among (is_failed state q) (is_one_of q ps) up is
-          | inr j ↦ ap (λ b. is_one_of q ps || b) j ∙ or-none (is_one_of q ps)
+          | inr j ↦ ap (λ b. is_one_of q ps || b) j ∙ or-false (is_one_of q ps)
         ]) in
         subst (Stands sys now records) (sym same) t,
   );
@@ -576,9 +567,9 @@ some-fails sys state running records ps h s =
 
 pub if_more : (ps : List ℕ) (any failed : Bool) (old now next : Running) (p : ℕ) → HaveFailed ps any old now → FailsIf p failed now next
     → HaveFailed (ps ++ p ∷ []) (any || failed) old next
-if_more ps any true old now next p h f = subst (λ b. HaveFailed (ps ++ p ∷ []) b old next) (sym (or-one any)) (live_more ps any old now next p h f.0 f.1 f.2)
+if_more ps any true old now next p h f = subst (λ b. HaveFailed (ps ++ p ∷ []) b old next) (sym (or-true any)) (live_more ps any old now next p h f.0 f.1 f.2)
 if_more ps any false old now next p h f =
-    subst (λ b. HaveFailed (ps ++ p ∷ []) b old next) (sym (or-none any)) (subst (HaveFailed (ps ++ p ∷ []) any old) (sym f.1) (down_more ps any old now p h f.0))
+    subst (λ b. HaveFailed (ps ++ p ∷ []) b old next) (sym (or-false any)) (subst (HaveFailed (ps ++ p ∷ []) any old) (sym f.1) (down_more ps any old now p h f.0))
 
 pub next_more : (nodes : List ℕ) (i p : ℕ) (any failed : Bool) (old now next : Running) → i < length nodes → p ≡ get_or nodes i p → HaveFailed (take i nodes) any old now
     → FailsIf p failed now next → HaveFailed (take (i + 1) nodes) (any || failed) old next

@@ -1,8 +1,8 @@
 -- Two lists of batches that are alike in a history: what was sent, what is pending, what may come and what is complete are the same.
 use Rattle.std.proofs.Common.{◌≡◌, ℕ, ◌&&◌, ◌||◌, ◌==◌, nat_lt, cond, List, [], ◌∷◌, ◌++◌, length, get_or, refl, sym, ap, ◌∙◌}
 use Rattle.std.specs.List.{AllByRecursion}
+use Rattle.fw_lemmas.proofs.Each.{each-weaker, each-kept}
 use Rattle.fw_time.specs.Stamp.{Stamp, same, in_domain}
-use Rattle.fw_time.proofs.EachLaws.{each-weaker, each-kept}
 use Rattle.fw_bag.specs.declared.rec.Rec.{Rec}
 use Rattle.fw_frontier.specs.Frontier.{Frontier}
 use Rattle.fw_flow.specs.declared.event.Event.{Event}

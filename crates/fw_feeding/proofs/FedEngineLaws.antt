@@ -1,8 +1,9 @@
 -- An engine that is fed stands over the later batches for the state for which it stood.
 use Rattle.std.proofs.Common.{◌≡◌, ◌↔◌, ℕ, true, cond, List, [], ◌∷◌, length, map, Option, sym, ap, subst, ◌∙◌}
 use Rattle.std.specs.List.{AllByRecursion, Contains}
+use Rattle.fw_lemmas.proofs.Each.{each-kept}
+use Rattle.fw_lemmas.proofs.SideBySide.{zip-weaker}
 use Rattle.fw_time.specs.Stamp.{Stamp}
-use Rattle.fw_time.proofs.EachLaws.{each-kept}
 use Rattle.fw_bag.specs.declared.rec.Rec.{Rec}
 use Rattle.fw_frontier.specs.Frontier.{Frontier, everything}
 use Rattle.fw_frontier.specs.Front.{Front}
@@ -44,7 +45,6 @@ use Rattle.fw_border.specs.Outputs.{OutputState}
 use Rattle.fw_node.specs.declared.node.Node.{Node}
 use Rattle.fw_stands.specs.Parts.{IsTableIn, queued, is_logging, logged, IsOutputOf, IsTraceIn}
 use Rattle.fw_stands.specs.Written.{events_within, count_within, Holds, IsEntryOf, AreEntriesOf, to_log, IsRecordFor, IsHeldAs, AreStored, uncollected}
-use Rattle.fw_stands.proofs.SideBySide.{zip-weaker}
 use Rattle.fw_feeding.specs.Feeding.{with_batches}
 use Rattle.fw_feeding.specs.LawsOfFeeding.{FedEnginesStand}
 use Rattle.fw_feeding.proofs.AlikeLaws.{InjectsAlike, AreAlikeIn, alike-back, node-alike, messages-alike, pending-alike, phi-alike, quiet-alike, epochs-alike, admissible-alike}

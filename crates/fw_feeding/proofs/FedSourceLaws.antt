@@ -3,12 +3,12 @@ use Rattle.std.proofs.Common.{◌≡◌, ℕ, ◌+◌, ◌-◌, ◌≤◌, false
 use Rattle.std.specs.List.{enumerate_from}
 use Rattle.std.proofs.lemmas.List.{length-append}
 use Rattle.std.proofs.lemmas.List.Elements.{filter-append}
+use Rattle.fw_lemmas.proofs.Filters.{filter-in}
 use Rattle.fw_bag.specs.declared.rec.Rec.{Rec}
 use Rattle.fw_frontier.specs.Front.{Front, inside}
 use Rattle.fw_frontier.proofs.InsideLaws.{inside-above}
 use Rattle.fw_flow.specs.Dataflow.{batches_of}
 use Rattle.fw_model.specs.Machine.{front_of}
-use Rattle.fw_model.proofs.FilterLaws.{filter-in}
 use Rattle.fw_model.proofs.StampLaws.{line-leq}
 use Rattle.fw_feeding.specs.Feeding.{with_batches}
 use Rattle.fw_feeding.specs.FedEngines.{without_last}

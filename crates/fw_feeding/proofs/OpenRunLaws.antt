@@ -1,8 +1,9 @@
 -- Runs in which no open source injects its last batch.
 use Rattle.std.proofs.Common.{◌≡◌, ℕ, ◌+◌, ◌<◌, ◌≤◌, Bool, true, false, cond, ◌==◌, List, [], ◌∷◌, length, filter, map, get_or, refl, sym, ap, subst, ◌∙◌, arith}
 use Rattle.std.specs.List.{AllByRecursion}
-use Rattle.std.proofs.lemmas.Bool.{cond_both, eqb-true, false_from_ne_true, false≢true}
-use Rattle.fw_time.proofs.EachLaws.{each-weaker, each-kept, each_of-map}
+use Rattle.std.proofs.lemmas.Bool.{cond_both, eqb-true, false≢true}
+use Rattle.fw_lemmas.proofs.Each.{each-weaker, each_of-map, each-kept}
+use Rattle.fw_lemmas.proofs.Numbers.{other_number, count-grows}
 use Rattle.fw_bag.specs.declared.rec.Rec.{Rec}
 use Rattle.fw_flow.specs.Counting.{how_many}
 use Rattle.fw_flow.specs.declared.choice.Choice.{Choice}
@@ -56,9 +57,6 @@ event-alike opened flow now later g (Injected s x) k = same-batch (opened s) (ba
 event-alike opened flow now later g (Delivered e m) k = tt
 event-alike opened flow now later g (Notified p t) k = tt
 
-not-yet : (k n : ℕ) → k < n → (k == n) ≡ false
-not-yet k n l = false_from_ne_true (k == n) (λ e. let same = eqb-true k n e in absurd (omega arith))
-
 same-exhausted : (b : Bool) (now later : List (List Rec)) (k : ℕ) → GoOn b now later → (b ≡ true → k < length now)
     → (k == length now) ≡ (k == length later)
 same-exhausted false now later k g l = ap (λ bs. k == length bs) (sym g)
@@ -66,7 +64,7 @@ same-exhausted true now later k g l =
     let few : k < length now = l refl in
     let many : length now ≤ length later = g.1 in
     let much : k < length later = omega arith in
-    not-yet k (length now) few ∙ sym (not-yet k (length later) much)
+    other_number k (length now) few ∙ sym (other_number k (length later) much)
 
 held-alike : (opened : ℕ → Bool) (flow : Dataflow) (now later : List (List (List Rec))) → GoOnEach opened flow now later → (h : List Event)
     → HeldIn opened (with_batches flow now) h → AreAlikeIn flow now later h
@@ -81,10 +79,6 @@ stays-below : (b : Bool) (m n : ℕ) → m ≤ n → cond b (m + 1) m ≤ cond b
 stays-below true m n l = omega arith
 stays-below false m n l = l
 
-falls-below : (b : Bool) (m n : ℕ) → m ≤ n → m ≤ cond b (n + 1) n
-falls-below true m n l = omega arith
-falls-below false m n l = l
-
 fewer-kept : {X : Type 0} (test keep : X → Bool) (xs : List X) → how_many test (filter keep xs) ≤ how_many test xs
 fewer-kept test keep [] = omega arith
 fewer-kept test keep (x ∷ xs) =
@@ -92,7 +86,7 @@ fewer-kept test keep (x ∷ xs) =
     let m = how_many test (filter keep xs) in
     let n = how_many test xs in
     cond_both (keep x) (x ∷ filter keep xs) (filter keep xs) (λ ys. how_many test ys ≤ how_many test (x ∷ xs))
-    (λ e. stays-below (test x) m n rest) (λ e. falls-below (test x) m n rest)
+    (λ e. stays-below (test x) m n rest) (λ e. count-grows (test x) m n rest)
 
 -- of what a recovery keeps the same holds
 recovery-held : (opened : ℕ → Bool) (sys : System) (choice : Choice) (h : List SerialEvent) → HeldIn opened sys (events h)

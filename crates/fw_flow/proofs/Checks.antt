@@ -21,6 +21,7 @@ use Rattle.fw_flow.specs.declared.raw.RawKind.TheVariants.{Select, Concat, Disti
 use Rattle.fw_flow.specs.Check.{loop_named, are_names_declared, NamesTheDeclared, HasItsDegrees, JoinsDomains, HasAllowedPolicy, IsWithinLimitsAfter, StaysWithinLimits, all_lines, loop_lines, node_lines, edge_lines, HoldsBelow, IsFirstBreak, KeepsRule, IsBroken, rules, IsFirstBrokenOf, IsFirstBroken, IsRawGroupSize, IsChecked}
 use Rattle.fw_flow.specs.Dataflow.{Dataflow, idle_node, kind_of, sender, receiver, max_of, declared_parent}
 use Rattle.std.specs.Str.{bytes_eq}
+use Rattle.fw_lemmas.proofs.Numbers.{below_step}
 use Rattle.fw_flow.specs.Names.{has_name}
 use Rattle.fw_flow.specs.Raw.{names_of, loop_name, node_name, edge_name, loop_names, node_names, edge_names, place_or_end, resolved_kind, loop_in, node_in, edge_in, flow_of}
 use Rattle.fw_flow.specs.WellFormed.{IsWellFormed, IsWithinLimits, IsLoopDeclared, IsParentDeclared, HasShortChain, IsGroupSize}
@@ -106,10 +107,6 @@ has_name-from_below : (names : List (List ℕ)) (name : List ℕ) → place_or_e
 has_name-from_below [] name lt = absurd (omega arith)
 has_name-from_below (x ∷ names) name lt =
     has_step (bytes_eq name x) (place_or_end names name) (length names) (has_name name names) lt (λ h. has_name-from_below names name h)
-
-below_step : (b : Bool) (n m : ℕ) (rest : Bool) → (b || rest) ≡ true → (rest ≡ true → n < m) → cond (not b) (1 + n) 0 < suc m
-below_step true n m rest h below = omega arith
-below_step false n m rest h below = omega (arith, below h)
 
 pub place-below : (names : List (List ℕ)) (name : List ℕ) → has_name name names ≡ true → place_or_end names name < length names
 place-below [] name h = absurd (false≢true h)

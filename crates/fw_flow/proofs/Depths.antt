@@ -1,6 +1,7 @@
 -- The rule on closed walks holds exactly where at each depth no walk comes back to a node of that depth.
 use Rattle.std.proofs.Common.{◌≡◌, ◌⊎◌, inl, inr, ℕ, ◌<◌, ◌≤◌, Bool, true, false, not, ◌&&◌, ◌==◌, nat_le, List, [], ◌∷◌, ◌++◌, length, refl, sym, ap, ◌∙◌, subst, arith}
 use Rattle.std.proofs.lemmas.Bool.{and_parts, and_from, or_cases, or_left, or_right, eqb-true, eq-eqb, le-leb, leb-true, cases_Bool, false_from_ne_true, true≢false, not-true, not_from_false}
+use Rattle.fw_lemmas.proofs.Numbers.{zero-le}
 use Rattle.fw_flow.specs.declared.kind.Domain.{Domain}
 use Rattle.fw_flow.specs.declared.kind.Domain.TheVariants.{Epoch, Number, Loop as InLoop}
 use Rattle.fw_flow.specs.declared.kind.Kind.{Kind}
@@ -55,9 +56,6 @@ turn flow j sort p q before (e ∷ es) h k (inr later) =
 
 -- ---- from depths to the rule
 
-at_least_zero : (n : ℕ) → nat_le 0 n ≡ true
-at_least_zero n = le-leb 0 n (omega arith)
-
 no_feedback_at_zero : (flow : Dataflow) (kind : Kind) → is_feedback_at flow 0 kind ≡ false
 no_feedback_at_zero flow (Feedback l) =
     false_from_ne_true (length (loops_of flow (InLoop l)) == 0)
@@ -67,8 +65,8 @@ no_feedback_at_zero flow kind = refl
 all_free-zero : (flow : Dataflow) (es : List ℕ) → AreFree flow 0 es
 all_free-zero flow [] = tt
 all_free-zero flow (e ∷ es) = (
-  and_from _ _ (at_least_zero (depth_of flow (sender flow e)))
-      (and_from _ _ (at_least_zero (depth_of flow (receiver flow e))) (not_from_false _ (no_feedback_at_zero flow (kind_of flow (sender flow e))))),
+  and_from _ _ (zero-le (depth_of flow (sender flow e)))
+      (and_from _ _ (zero-le (depth_of flow (receiver flow e))) (not_from_false _ (no_feedback_at_zero flow (kind_of flow (sender flow e))))),
   all_free-zero flow es,
 )
 

@@ -21,7 +21,6 @@ pub mod PickedEdges
 pub mod PremiseLaws
 pub mod OutEdgeLaws
 pub mod ProjectionLaws
-pub mod Ranges
 pub mod RankLaws
 pub mod Ranks
 pub mod Reach

@@ -6,6 +6,7 @@ use Rattle.std.proofs.lemmas.Bool.{or_left, or_right, eq-eqb, cases_eq, true≢f
 use Rattle.std.specs.List.{Contains}
 use Rattle.std.specs.declared.alloc.Global.{Global}
 use Rattle.std.specs.declared.vec.Vec.{Vec}
+use Rattle.fw_lemmas.proofs.Lists.{only_one}
 use Rattle.fw_flow.specs.declared.walks.Link.{Link}
 use Rattle.fw_flow.specs.Flow.{edges_at}
 use Rattle.fw_flow.specs.Walks.{IsPath, Path, graph_of, link_at, is_marked, unmarked_count, AreWithin, IsClosedUnder, IsAmong, AreOnward, AreOnwardWithin, AreMarked, IsReachOf, LeadsBack}
@@ -109,13 +110,6 @@ marked_within : (marks : List Bool) (p : ℕ) → is_marked marks p ≡ true →
 marked_within [] p h = absurd (false≢true h)
 marked_within (mark ∷ marks) zero h = omega arith
 marked_within (mark ∷ marks) (suc p) h = let lt = marked_within marks p h in omega arith
-
-only_one : (q p : ℕ) → Contains (q ∷ []) p → p ≡ q
-only_one q p has = by has.0 has.1 has.2
-  where
-    by : (k : ℕ) → k < length (q ∷ []) → get_or (q ∷ []) k p ≡ p → p ≡ q
-    by zero lt e = sym e
-    by (suc k) lt e = absurd (omega arith)
 
 the_one : (q : ℕ) → Contains (q ∷ []) q
 the_one q = (0, omega arith, refl)

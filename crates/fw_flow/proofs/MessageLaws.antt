@@ -10,10 +10,10 @@ use Rattle.std.proofs.lemmas.Bool.{or_cases, cond_both, cond-true, cond-false, c
 use Rattle.std.proofs.lemmas.Cmp.{nat_list_cmp_total, lists_total, on_total, then_total, tied_itself}
 use Rattle.std.proofs.lemmas.List.Quantifiers.{position-Some}
 use Rattle.std.proofs.lemmas.Map.Lookups.{exact_bytes}
+use Rattle.fw_lemmas.proofs.Orderings.{equal_from_is_eq, then_equal, slice_cmp-same}
 use Rattle.fw_time.specs.Stamp.{stamp_cmp}
 use Rattle.fw_bag.specs.Rec.{rec_cmp}
 use Rattle.fw_bag.proofs.RecLaws.{rec_order, rec_cmp-same, rec_cmp-refl}
-use Rattle.fw_bag.proofs.OrderingLaws.{equal_from_is_eq, then_equal, slice_cmp-same}
 use Rattle.fw_flow.specs.declared.event.Message.{Message}
 use Rattle.fw_flow.specs.Message.{message_cmp, is_among, messages_without, messages_less}
 

@@ -11,10 +11,10 @@ use Rattle.fw_time.specs.declared.stamp.Bounds.{Bounds}
 use Rattle.fw_time.specs.Stamp.{Stamp, leq, nest, outer, counter, in_domain, origin}
 use Rattle.fw_time.specs.Sending.{entered_stamp, fed_back_stamp}
 use Rattle.std.proofs.Math.Nat.{min-le_left, min-le_right, div-add-mod', mod-lt, le-div_iff_mul-le, div-lt_iff_lt-mul, div-le_self, mul-le-mul_right}
+use Rattle.fw_lemmas.proofs.Each.{each-append}
 use Rattle.fw_time.specs.NestLaws.{length-nest, dimension-outer}
 use Rattle.fw_time.proofs.StampLaws.{leq-refl, leq-length, leq-nest, origin-leq, counter-nest, nest-outer}
 use Rattle.fw_time.proofs.DomainLaws.{domain-leq, domain-length, plain-in_domain}
-use Rattle.fw_time.proofs.EachLaws.{each-append}
 use Rattle.fw_time.proofs.StampSteps.{length-origin}
 use Rattle.fw_frontier.specs.Frontier.{Frontier}
 use Rattle.fw_frontier.specs.Front.{Front, inside, frontier_of, IsCanonical, IsFrontOf}

@@ -7,10 +7,10 @@ use Rattle.std.specs.List.{IsDistinct, flat_map, range_with_len}
 use Rattle.std.specs.Map.{lookup}
 use Rattle.std.specs.Prelude.{is_some, IsNone}
 use Rattle.std.specs.Str.{bytes_eq}
+use Rattle.fw_lemmas.proofs.Lists.{joined_more}
 use Rattle.fw_flow.specs.declared.node.Node.{Node}
 use Rattle.fw_flow.specs.Dataflow.{Dataflow, node_at, kind_of, idle_node, is_input_kind}
 use Rattle.fw_lines.specs.Sources.{node_named}
-use Rattle.fw_flow.proofs.Ranges.{joined_more}
 use Rattle.fw_flow.specs.Sources.{source_at}
 
 same_name : (a b : List ℕ) → bytes_eq a b ≡ true → a ≡ b

@@ -4,6 +4,8 @@ use Rattle.std.proofs.lemmas.Bool.Decides.{nat_tests}
 use Rattle.std.specs.Char.{is_ascii_digit}
 use Rattle.std.specs.Fmt.{decimal}
 use Rattle.std.specs.List.{list_all, filter, slice_split, onto_first}
+use Rattle.std.proofs.lemmas.Bool.{and_from}
+use Rattle.fw_lemmas.proofs.Bools.{first_holds, second_holds}
 use Rattle.fw_bag.specs.declared.select.Assignment.{Assignment}
 use Rattle.fw_bag.specs.declared.select.Comparison.{Comparison}
 use Rattle.fw_bag.specs.declared.select.Comparison.TheVariants.{Equal, NotEqual, Less, LessOrEqual, Greater, GreaterOrEqual}
@@ -36,21 +38,9 @@ is_clean word = list_all is_allowed word
 abbrev pub are_clean : List (List ℕ) → Bool
 are_clean words = list_all (λ word. is_clean word) words
 
-both : (a b : Bool) → a ≡ true → b ≡ true → (a && b) ≡ true
-both true b e f = f
-both false b e f = e
-
-first : (a b : Bool) → (a && b) ≡ true → a ≡ true
-first true b e = refl
-first false b e = e
-
-second : (a b : Bool) → (a && b) ≡ true → b ≡ true
-second true b e = e
-second false b e = absurd (cc)
-
 all_weaker : (p q : ℕ → Bool) → ((b : ℕ) → p b ≡ true → q b ≡ true) → (xs : List ℕ) → list_all p xs ≡ true → list_all q xs ≡ true
 all_weaker p q h [] e = refl
-all_weaker p q h (x ∷ xs) e = both (q x) (list_all q xs) (h x (first (p x) (list_all p xs) e)) (all_weaker p q h xs (second (p x) (list_all p xs) e))
+all_weaker p q h (x ∷ xs) e = and_from (q x) (list_all q xs) (h x (first_holds (p x) (list_all p xs) e)) (all_weaker p q h xs (second_holds (p x) (list_all p xs) e))
 
 digit_allowed : (b : ℕ) → is_ascii_digit b ≡ true → is_allowed b ≡ true
 digit_allowed b e = grind (arith, nat_tests, e)
@@ -64,14 +54,14 @@ in_names_allowed b e = grind (arith, nat_tests, e)
 name_clean : (word : List ℕ) → is_name word ≡ true → is_clean word ≡ true
 name_clean [] e = absurd (cc)
 name_clean (b ∷ bs) e =
-    let others = second (is_letter b) (nat_lt (length bs) 32 && list_all is_in_names bs) e in
-    both (is_allowed b) (list_all is_allowed bs) (letter_allowed b (first (is_letter b) (nat_lt (length bs) 32 && list_all is_in_names bs) e))
-    (all_weaker is_in_names is_allowed in_names_allowed bs (second (nat_lt (length bs) 32) (list_all is_in_names bs) others))
+    let others = second_holds (is_letter b) (nat_lt (length bs) 32 && list_all is_in_names bs) e in
+    and_from (is_allowed b) (list_all is_allowed bs) (letter_allowed b (first_holds (is_letter b) (nat_lt (length bs) 32 && list_all is_in_names bs) e))
+    (all_weaker is_in_names is_allowed in_names_allowed bs (second_holds (nat_lt (length bs) 32) (list_all is_in_names bs) others))
 
 digits_clean : (word : List ℕ) → is_numeral word ≡ true → is_clean word ≡ true
 digits_clean [] e = absurd (cc)
-digits_clean (b ∷ []) e = both (is_allowed b) true (digit_allowed b e) refl
-digits_clean (b ∷ c ∷ bs) e = all_weaker is_ascii_digit is_allowed digit_allowed (b ∷ c ∷ bs) (second _ (list_all is_ascii_digit (b ∷ c ∷ bs)) e)
+digits_clean (b ∷ []) e = and_from (is_allowed b) true (digit_allowed b e) refl
+digits_clean (b ∷ c ∷ bs) e = all_weaker is_ascii_digit is_allowed digit_allowed (b ∷ c ∷ bs) (second_holds _ (list_all is_ascii_digit (b ∷ c ∷ bs)) e)
 
 decimal_clean : (n : ℕ) → n < 2 ^ 64 → is_clean (decimal n) ≡ true
 decimal_clean n h = digits_clean (decimal n) (decimal_numeral n h)
@@ -80,7 +70,7 @@ decimal_clean n h = digits_clean (decimal n) (decimal_numeral n h)
 
 append_clean : (xs ys : List (List ℕ)) → are_clean xs ≡ true → are_clean ys ≡ true → are_clean (xs ++ ys) ≡ true
 append_clean [] ys e f = f
-append_clean (x ∷ xs) ys e f = both (is_clean x) (are_clean (xs ++ ys)) (first (is_clean x) (are_clean xs) e) (append_clean xs ys (second (is_clean x) (are_clean xs) e) f)
+append_clean (x ∷ xs) ys e f = and_from (is_clean x) (are_clean (xs ++ ys)) (first_holds (is_clean x) (are_clean xs) e) (append_clean xs ys (second_holds (is_clean x) (are_clean xs) e) f)
 
 field_clean : (field : Field) → is_clean (field_word field) ≡ true
 field_clean Key = refl
@@ -106,22 +96,22 @@ term_clean (term.Number n) h = decimal_clean n h
 term_clean (term.Field field) h = field_clean field
 
 value_clean : (v : NewValue) → IsSmallValue v → are_clean (value_words v) ≡ true
-value_clean (new.Number n) h = both (is_clean (decimal n)) true (decimal_clean n h) refl
-value_clean (new.Field field) h = both (is_clean (field_word field)) true (field_clean field) refl
-value_clean (new.FieldPlus field n) h = both (is_clean (field_word field)) (is_clean (decimal n) && true) (field_clean field) (both (is_clean (decimal n)) true (decimal_clean n h) refl)
+value_clean (new.Number n) h = and_from (is_clean (decimal n)) true (decimal_clean n h) refl
+value_clean (new.Field field) h = and_from (is_clean (field_word field)) true (field_clean field) refl
+value_clean (new.FieldPlus field n) h = and_from (is_clean (field_word field)) (is_clean (decimal n) && true) (field_clean field) (and_from (is_clean (decimal n)) true (decimal_clean n h) refl)
 
 assignment_clean : (a : Option Assignment) → IsSmallAssignment a → are_clean (assignment_words a) ≡ true
 assignment_clean None h = refl
-assignment_clean (Some a) h = both (is_clean (field_word a.field)) (are_clean (value_words a.value)) (field_clean a.field) (value_clean a.value h)
+assignment_clean (Some a) h = and_from (is_clean (field_word a.field)) (are_clean (value_words a.value)) (field_clean a.field) (value_clean a.value h)
 
 selection_clean : (s : Selection) → IsSmall s → are_clean (selection_words s) ≡ true
 selection_clean s h =
-    both (is_clean (field_word s.condition.field)) (is_clean (comparison_word s.condition.comparison) && (is_clean (term_word s.condition.term) && are_clean (assignment_words s.assignment))) (field_clean s.condition.field)
-    (both (is_clean (comparison_word s.condition.comparison)) (is_clean (term_word s.condition.term) && are_clean (assignment_words s.assignment)) (comparison_clean s.condition.comparison)
-    (both (is_clean (term_word s.condition.term)) (are_clean (assignment_words s.assignment)) (term_clean s.condition.term h.term) (assignment_clean s.assignment h.assignment)))
+    and_from (is_clean (field_word s.condition.field)) (is_clean (comparison_word s.condition.comparison) && (is_clean (term_word s.condition.term) && are_clean (assignment_words s.assignment))) (field_clean s.condition.field)
+    (and_from (is_clean (comparison_word s.condition.comparison)) (is_clean (term_word s.condition.term) && are_clean (assignment_words s.assignment)) (comparison_clean s.condition.comparison)
+    (and_from (is_clean (term_word s.condition.term)) (are_clean (assignment_words s.assignment)) (term_clean s.condition.term h.term) (assignment_clean s.assignment h.assignment)))
 
 named_clean : (name : List ℕ) (words : List (List ℕ)) → IsName name → are_clean words ≡ true → are_clean (name ∷ words) ≡ true
-named_clean name words h e = both (is_clean name) (are_clean words) (name_clean name h) e
+named_clean name words h e = and_from (is_clean name) (are_clean words) (name_clean name h) e
 
 ending_clean : (within : Option (List ℕ)) (p : Policy) → IfSome within IsName → are_clean (ending_words within p) ≡ true
 ending_clean None p h = policy_clean p
@@ -142,7 +132,7 @@ node_clean (Leave name) p w = named_clean name (policy_words p) w.loop_name (pol
 node_clean Total p w = policy_clean p
 node_clean Sequence p w = policy_clean p
 node_clean Ledger p w = policy_clean p
-node_clean (Regroup size) p w = both (is_clean (decimal size)) (are_clean (policy_words p)) (decimal_clean size w.numbers) (policy_clean p)
+node_clean (Regroup size) p w = and_from (is_clean (decimal size)) (are_clean (policy_words p)) (decimal_clean size w.numbers) (policy_clean p)
 
 parent_clean : (parent : Option (List ℕ)) → IfSome parent IsName → are_clean (parent_words parent) ≡ true
 parent_clean None h = refl
@@ -150,7 +140,7 @@ parent_clean (Some name) h = named_clean name [] h refl
 
 declaration_clean : (declaration : Declaration) → IsWritable declaration → are_clean (declaration_words declaration) ≡ true
 declaration_clean (Loop name max parent) w =
-    named_clean name (codes "max" ∷ decimal max ∷ parent_words parent) w.0 (both (is_clean (decimal max)) (are_clean (parent_words parent)) (decimal_clean max w.1) (parent_clean parent w.2))
+    named_clean name (codes "max" ∷ decimal max ∷ parent_words parent) w.0 (and_from (is_clean (decimal max)) (are_clean (parent_words parent)) (decimal_clean max w.1) (parent_clean parent w.2))
 declaration_clean (Node name kind p) w = named_clean name (node_words kind p) w.0 (node_clean kind p w.1)
 declaration_clean (Edge name sender receiver) w = named_clean name (sender ∷ receiver ∷ []) w.0 (named_clean sender (receiver ∷ []) w.1 (named_clean receiver [] w.2 refl))
 
@@ -166,14 +156,14 @@ said_clean (line ∷ lines) declared h = by (front line lines declared h) (said_
   where
     by : ((line.words ≡ []) × Declare lines declared) ⊎ DeclaresFirst line lines declared → ((ds : List Declared) → Declare lines ds → list_all (λ l. are_clean l.words) lines ≡ true)
         → (are_clean line.words && list_all (λ l. are_clean l.words) lines) ≡ true
-    by (inl x) rest = both (are_clean line.words) (list_all (λ l. are_clean l.words) lines) (ap are_clean x.0) (rest declared x.1)
-    by (inr x) rest = both (are_clean line.words) (list_all (λ l. are_clean l.words) lines) (words_clean line.words x.declaration x.words) (rest x.others x.rest)
+    by (inl x) rest = and_from (are_clean line.words) (list_all (λ l. are_clean l.words) lines) (ap are_clean x.0) (rest declared x.1)
+    by (inr x) rest = and_from (are_clean line.words) (list_all (λ l. are_clean l.words) lines) (words_clean line.words x.declaration x.words) (rest x.others x.rest)
 
 onto_all : (q : ℕ → Bool) (x : ℕ) (parts : List (List ℕ)) → list_all (λ part. list_all q part) (onto_first x parts) ≡ true → (q x ≡ true) × (list_all (λ part. list_all q part) parts ≡ true)
-onto_all q x [] e = (first (q x) true (first (q x && true) true e), refl)
+onto_all q x [] e = (first_holds (q x) true (first_holds (q x && true) true e), refl)
 onto_all q x (part ∷ parts) e =
-    let whole = first (q x && list_all q part) (list_all (λ part. list_all q part) parts) e in
-    (first (q x) (list_all q part) whole, both (list_all q part) (list_all (λ part. list_all q part) parts) (second (q x) (list_all q part) whole) (second (q x && list_all q part) (list_all (λ part. list_all q part) parts) e))
+    let whole = first_holds (q x && list_all q part) (list_all (λ part. list_all q part) parts) e in
+    (first_holds (q x) (list_all q part) whole, and_from (list_all q part) (list_all (λ part. list_all q part) parts) (second_holds (q x) (list_all q part) whole) (second_holds (q x && list_all q part) (list_all (λ part. list_all q part) parts) e))
 
 -- where the bytes of the parts pass, and the separators do, all do
 split_all : (s q : ℕ → Bool) → ((b : ℕ) → s b ≡ true → q b ≡ true) → (xs : List ℕ) → list_all (λ part. list_all q part) (slice_split s xs) ≡ true → list_all q xs ≡ true
@@ -181,14 +171,14 @@ split_all s q h [] e = refl
 split_all s q h (x ∷ xs) e = by_test (split_all s q h xs) (s x) refl e
   where
     by_test : (list_all (λ part. list_all q part) (slice_split s xs) ≡ true → list_all q xs ≡ true) → (b : Bool) → s x ≡ b → list_all (λ part. list_all q part) (cond b ([] ∷ slice_split s xs) (onto_first x (slice_split s xs))) ≡ true → (q x && list_all q xs) ≡ true
-    by_test rec true t r = both (q x) (list_all q xs) (h x t) (rec r)
-    by_test rec false t r = both (q x) (list_all q xs) (onto_all q x (slice_split s xs) r).0 (rec (onto_all q x (slice_split s xs) r).1)
+    by_test rec true t r = and_from (q x) (list_all q xs) (h x t) (rec r)
+    by_test rec false t r = and_from (q x) (list_all q xs) (onto_all q x (slice_split s xs) r).0 (rec (onto_all q x (slice_split s xs) r).1)
 
 parts_clean : (parts : List (List ℕ)) → are_clean (filter is_word parts) ≡ true → are_clean parts ≡ true
 parts_clean [] e = refl
 parts_clean ([] ∷ parts) e = parts_clean parts e
 parts_clean ((b ∷ bs) ∷ parts) e =
-    both (is_clean (b ∷ bs)) (are_clean parts) (first (is_clean (b ∷ bs)) (are_clean (filter is_word parts)) e) (parts_clean parts (second (is_clean (b ∷ bs)) (are_clean (filter is_word parts)) e))
+    and_from (is_clean (b ∷ bs)) (are_clean parts) (first_holds (is_clean (b ∷ bs)) (are_clean (filter is_word parts)) e) (parts_clean parts (second_holds (is_clean (b ∷ bs)) (are_clean (filter is_word parts)) e))
 
 space_allowed : (b : ℕ) → is_space b ≡ true → is_allowed b ≡ true
 space_allowed b e = grind (arith, nat_tests, e)
@@ -199,14 +189,14 @@ unfolding said_by
 line_clean line e = by_test (is_comment (words_of line) && is_clean line) refl e
   where
     by_test : (b : Bool) → (is_comment (words_of line) && is_clean line) ≡ b → are_clean (cond b [] (words_of line)) ≡ true → is_clean line ≡ true
-    by_test true t r = second (is_comment (words_of line)) (is_clean line) t
+    by_test true t r = second_holds (is_comment (words_of line)) (is_clean line) t
     by_test false t r = split_all is_space is_allowed space_allowed line (parts_clean (slice_split is_space line) r)
 
 lines_clean : (number : ℕ) (lines : List (List ℕ)) → list_all (λ (line : Said). are_clean line.words) (said_from number lines) ≡ true → are_clean lines ≡ true
 lines_clean number [] e = refl
 lines_clean number (line ∷ lines) e =
-    both (is_clean line) (are_clean lines) (line_clean line (first (are_clean (said_by line)) (list_all (λ (l : Said). are_clean l.words) (said_from (number + 1) lines)) e))
-    (lines_clean (number + 1) lines (second (are_clean (said_by line)) (list_all (λ (l : Said). are_clean l.words) (said_from (number + 1) lines)) e))
+    and_from (is_clean line) (are_clean lines) (line_clean line (first_holds (are_clean (said_by line)) (list_all (λ (l : Said). are_clean l.words) (said_from (number + 1) lines)) e))
+    (lines_clean (number + 1) lines (second_holds (are_clean (said_by line)) (list_all (λ (l : Said). are_clean l.words) (said_from (number + 1) lines)) e))
 
 allowed_in_texts : (b : ℕ) → is_allowed b ≡ true → is_in_texts b ≡ true
 allowed_in_texts b e = grind (arith, nat_tests, e)
@@ -217,7 +207,7 @@ lf_in_texts b e = grind (arith, nat_tests, e)
 lines_in_texts : (lines : List (List ℕ)) → are_clean lines ≡ true → list_all (λ part. list_all is_in_texts part) lines ≡ true
 lines_in_texts [] e = refl
 lines_in_texts (line ∷ lines) e =
-    both (list_all is_in_texts line) (list_all (λ part. list_all is_in_texts part) lines) (all_weaker is_allowed is_in_texts allowed_in_texts line (first (is_clean line) (are_clean lines) e)) (lines_in_texts lines (second (is_clean line) (are_clean lines) e))
+    and_from (list_all is_in_texts line) (list_all (λ part. list_all is_in_texts part) lines) (all_weaker is_allowed is_in_texts allowed_in_texts line (first_holds (is_clean line) (are_clean lines) e)) (lines_in_texts lines (second_holds (is_clean line) (are_clean lines) e))
 
 -- the bytes of an accepted text are LF and the allowed ones
 pub accepted_text_allowed : (text : List ℕ) (flow : Dataflow) → IsAccepted text flow → list_all is_in_texts text ≡ true

@@ -1,10 +1,11 @@
 -- What is found in words, from what is found in their parts.
-use Rattle.std.proofs.Common.{◌≡◌, ℕ, ◌<◌, ◌≤◌, Bool, true, false, not, ◌||◌, List, [], ◌∷◌, ◌++◌, length, drop, get_or, Option, Some, None, Result, Ok, Err, IfOk, IfErr, IfSome, refl, sym, ◌∙◌, ap, subst, arith, codes}
+use Rattle.std.proofs.Common.{◌≡◌, ℕ, ◌<◌, ◌≤◌, Bool, true, false, not, ◌||◌, List, [], ◌∷◌, ◌++◌, length, drop, get_or, Option, Some, None, Result, Ok, Err, IfErr, IfSome, refl, sym, ◌∙◌, ap, subst, arith, codes}
 use Rattle.std.proofs.lemmas.Option.{same_Some}
 use Rattle.std.proofs.lemmas.Slice.Eq.{bytes_eq-Decides}
 use Rattle.std.specs.Fmt.{decimal}
 use Rattle.std.specs.List.{list_any}
 use Rattle.std.specs.Str.{bytes_eq}
+use Rattle.std.proofs.lemmas.Bool.{not-false}
 use Rattle.fw_bag.specs.declared.select.Assignment.{Assignment}
 use Rattle.fw_bag.specs.declared.select.Condition.{Condition}
 use Rattle.fw_bag.specs.declared.select.NewValue.{NewValue}
@@ -41,12 +42,8 @@ use Rattle.fw_flow_text.proofs.SpelledLaws.{condition_read, value_read}
 pub same_word : (word text : List ℕ) (b : Bool) → b ≡ bytes_eq word text → b ≡ true → word ≡ text
 same_word word text b e t = (bytes_eq-Decides word text).0 (sym e ∙ t)
 
-not_false : (b : Bool) → not b ≡ false → b ≡ true
-not_false true e = refl
-not_false false e = absurd (cc)
-
 pub no_other_word : (word text : List ℕ) (b : Bool) → b ≡ not (bytes_eq word text) → b ≡ false → word ≡ text
-no_other_word word text b e t = (bytes_eq-Decides word text).0 (not_false (bytes_eq word text) (sym e ∙ t))
+no_other_word word text b e t = (bytes_eq-Decides word text).0 (not-false (bytes_eq word text) (sym e ∙ t))
 
 -- ---- the first words of a line
 
@@ -289,10 +286,6 @@ declares_found text raw more number words found d b h e l t m before declared =
     subst (Declare (before ++ line ∷ [])) (sym m) (declare_push before raw line d declared (subst (λ ws. AreWordsOf ws d) small form))
 
 -- ---- results
-
-pub ok_weaker : {A E : Type 0} (P Q : A → Type 0) (r : Result A E) → IfOk r P → ((a : A) → P a → Q a) → IfOk r Q
-ok_weaker P Q (Ok a) h f = f a h
-ok_weaker P Q (Err e) h f = tt
 
 pub refusal_weaker : {A : Type 0} (P Q : Refusal → Type 0) (r : Result A ReadFault) → IfErr r (IfRefused P) → ((refusal : Refusal) → P refusal → Q refusal) → IfErr r (IfRefused Q)
 refusal_weaker P Q (Ok a) h f = tt

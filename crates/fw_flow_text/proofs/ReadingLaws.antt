@@ -1,5 +1,5 @@
 -- What is read is written so: the words are those of what was read in them.
-use Rattle.std.proofs.Common.{◌≡◌, ℕ, ◌^◌, ◌<◌, ◌==◌, nat_lt, Bool, true, false, ◌&&◌, not, cond, List, [], ◌∷◌, ◌++◌, length, get_or, Option, Some, None, IfSome, refl, sym, ◌∙◌, ap, subst, arith, codes}
+use Rattle.std.proofs.Common.{◌≡◌, ℕ, ◌^◌, ◌<◌, ◌==◌, nat_lt, Bool, true, false, not, cond, List, [], ◌∷◌, ◌++◌, length, get_or, Option, Some, None, IfSome, refl, sym, ◌∙◌, ap, subst, arith, codes}
 use Rattle.std.proofs.lemmas.Bool.{ltb-true}
 use Rattle.std.proofs.lemmas.Bool.Decides.{nat_tests}
 use Rattle.std.proofs.lemmas.Fmt.{decimal-digits_value}
@@ -12,6 +12,7 @@ use Rattle.std.specs.List.{AllByRecursion, list_all}
 use Rattle.std.specs.Option.{option_or}
 use Rattle.std.specs.Str.{bytes_eq}
 use Rattle.std.specs.Str.Parse.{digits_value}
+use Rattle.fw_lemmas.proofs.Bools.{first_holds}
 use Rattle.fw_bag.specs.declared.select.Assignment.{Assignment}
 use Rattle.fw_bag.specs.declared.select.Comparison.{Comparison}
 use Rattle.fw_bag.specs.declared.select.Condition.{Condition}
@@ -36,10 +37,6 @@ use Rattle.fw_flow_text.specs.Grammar.{AreWordsOf}
 use Rattle.fw_flow_text.specs.Spelled.{field_word, comparison_word, term_word, value_words, assignment_words, condition_words, selection_words, policy_words, ending_words, node_words, parent_words, IsSmallTerm, IsSmallValue, IsSmallAssignment, IsSmall, IsName, IsWritableNode}
 use Rattle.fw_flow_text.proofs.Reading.{value_in, numeral_of, named_by, fields, field_of, comparisons, comparison_of, term_from, term_of, value_from, name_of, policies, policy_named, policy_at_end, ending_within, ending_outside, ending_of, parent_named, parent_at_end, condition_of, sum_value, plain_value, with_rest, value_part, set_part, assignment_part, selection_part, outputs, kinds_within, kinds_leading, lone_kinds, output_kind, within_kind, leading_kind, lone_kind, input_form, output_form, select_form, regroup_form, within_form, leading_form, lone_form, shape_form, node_form, node_declaration, edge_declaration, loop_of, loop_declaration, declaration_of}
 use Rattle.fw_flow_text.proofs.SpelledLaws.{declaration_read, numeral_read}
-
-first : (a b : Bool) → (a && b) ≡ true → a ≡ true
-first true b e = refl
-first false b e = e
 
 -- words that are the same, and others behind them
 both : (w v : List ℕ) (ws vs : List (List ℕ)) → w ≡ v → ws ≡ vs → w ∷ ws ≡ v ∷ vs
@@ -72,7 +69,7 @@ lone_zero : (word : List ℕ) → is_numeral word ≡ true → get_or word 0 0 �
 lone_zero [] e z = absurd (cc)
 lone_zero (b ∷ []) e z = refl
 lone_zero (b ∷ c ∷ bs) e z =
-    let other : not (b == 48) ≡ true = first (not (b == 48)) (list_all is_ascii_digit (b ∷ c ∷ bs)) e in
+    let other : not (b == 48) ≡ true = first_holds (not (b == 48)) (list_all is_ascii_digit (b ∷ c ∷ bs)) e in
     absurd (grind (arith, nat_tests, other, z))
 
 numeral_is : (word : List ℕ) (n : ℕ) → numeral_of word ≡ Some n → (word ≡ decimal n) × (n < 2 ^ 64)

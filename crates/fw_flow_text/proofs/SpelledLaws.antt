@@ -11,6 +11,7 @@ use Rattle.std.specs.List.{list_all}
 use Rattle.std.specs.Option.{option_and_then, option_or}
 use Rattle.std.specs.Str.{bytes_eq}
 use Rattle.std.specs.Str.Parse.{digits_value}
+use Rattle.fw_lemmas.proofs.Bools.{first_holds}
 use Rattle.fw_bag.specs.declared.select.Assignment.{Assignment}
 use Rattle.fw_bag.specs.declared.select.Comparison.{Comparison}
 use Rattle.fw_bag.specs.declared.select.Comparison.TheVariants.{Equal, NotEqual, Less, LessOrEqual, Greater, GreaterOrEqual}
@@ -64,23 +65,19 @@ all_digits-more n ds e =
 decimal_digits : (n : ℕ) → n < 2 ^ 64 → list_all is_ascii_digit (decimal n) ≡ true
 decimal_digits n h = decimal_by_steps (λ m ds. list_all is_ascii_digit ds ≡ true) all_digits-one (λ m ds low e. all_digits-more m ds e) n h
 
-first_true : (a b : Bool) → (a && b) ≡ true → a ≡ true
-first_true true b e = refl
-first_true false b e = e
-
 not_zero : (b : ℕ) → 48 < b → not (b == 48) ≡ true
 not_zero b h = grind (arith, nat_tests, h)
 
 numeral_from : (ds : List ℕ) → list_all is_ascii_digit ds ≡ true → 48 < get_or ds 0 0 → is_numeral ds ≡ true
 numeral_from [] e h = absurd (omega arith)
-numeral_from (b ∷ []) e h = first_true (is_ascii_digit b) true e
+numeral_from (b ∷ []) e h = first_holds (is_ascii_digit b) true e
 numeral_from (b ∷ c ∷ bs) e h = ap (λ t. t && list_all is_ascii_digit (b ∷ c ∷ bs)) (not_zero b h) ∙ e
 
 -- the digits of a number are a numeral
 pub decimal_numeral : (n : ℕ) → n < 2 ^ 64 → is_numeral (decimal n) ≡ true
 decimal_numeral n h =
     elim (cases_lt n 10) [
-      | inl small ↦ ap is_numeral (decimal_digit n small) ∙ first_true (is_ascii_digit (48 + n)) true (all_digits-one n small)
+      | inl small ↦ ap is_numeral (decimal_digit n small) ∙ first_holds (is_ascii_digit (48 + n)) true (all_digits-one n small)
       | inr large ↦ numeral_from (decimal n) (decimal_digits n h) (first_decimal n (omega (arith, large)) h)
     ]
 

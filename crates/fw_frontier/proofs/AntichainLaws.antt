@@ -3,11 +3,11 @@ use Rattle.std.proofs.Common.{◌≡◌, ℕ, ◌<◌, Bool, true, false, not, �
 use Rattle.std.proofs.lemmas.Bool.{and_parts}
 use Rattle.std.specs.List.{AllByRecursion}
 use Rattle.std.specs.Ordering.{is_lt}
+use Rattle.fw_lemmas.proofs.Each.{each-weaker, each-at, each-kept}
 use Rattle.fw_time.specs.Stamp.{leq, stamp_cmp}
 use Rattle.fw_time.proofs.StampLaws.{leq-refl, before-trans, before-total}
 use Rattle.fw_frontier.specs.Front.{inside}
 use Rattle.fw_frontier.specs.Outside.{with_stamp, front_without, front_without_all}
-use Rattle.fw_time.proofs.EachLaws.{each-at, each-kept, each-weaker}
 use Rattle.fw_frontier.proofs.GenericLaws.{no}
 
 -- the stamp comes before each of these in order and is not comparable with one

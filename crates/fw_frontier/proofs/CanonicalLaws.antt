@@ -4,13 +4,13 @@ use Rattle.std.proofs.lemmas.Bool.{and_from, and_parts, cases_lt}
 use Rattle.std.proofs.lemmas.Bool.Decides.{nat_tests}
 use Rattle.std.proofs.lemmas.List.{get_or_past}
 use Rattle.std.specs.List.{AllByRecursion}
+use Rattle.fw_lemmas.proofs.Each.{each-weaker, each-at}
 use Rattle.fw_time.specs.declared.stamp.Bounds.{Bounds}
 use Rattle.fw_time.specs.Stamp.{leq, lub, stamp_raised_at, counts, in_domain, up_to}
 use Rattle.fw_time.proofs.StampLaws.{leq-length, lub-least, leq-raised}
 use Rattle.fw_time.proofs.DomainLaws.{domain-leq, domain-counts, domain-length, side-raised}
 use Rattle.fw_frontier.specs.Front.{IsCanonical, all_in_domain}
 use Rattle.fw_frontier.specs.Outside.{front_without, front_without_all, below_at}
-use Rattle.fw_time.proofs.EachLaws.{each-at, each-weaker}
 use Rattle.fw_frontier.proofs.AntichainLaws.{IsAntichain, all-excluding, antichain-excluding}
 use Rattle.fw_frontier.proofs.Pairs.{excluding_lubs, excluding_pairs}
 

@@ -1,30 +1,19 @@
 -- What the corners of a list of points have outside in a plane.
 use Rattle.std.proofs.Common.{◌≡◌, ℕ, ◌-◌, ◌≤◌, ◌<◌, Bool, true, false, ◌&&◌, ◌||◌, nat_lt, cond, List, [], ◌∷◌, length, get_or, refl, sym, ap, ◌∙◌, zero, suc, inl, inr, arith}
-use Rattle.std.proofs.lemmas.Bool.{cases_lt, le-ltb, and_from, and_parts, and_left}
+use Rattle.std.proofs.lemmas.Bool.{cases_lt, le-ltb, and_from, and_parts, and_left, ltb-true, ltb-false}
 use Rattle.std.proofs.lemmas.Bool.Decides.{nat_tests}
 use Rattle.std.proofs.lemmas.List.Folds.{Any-from_list_any, list_any_at}
 use Rattle.std.specs.List.{AllByRecursion, AllWithin, list_any}
 use Rattle.std.specs.List.Sorted.{IsNonDecreasingBy}
+use Rattle.fw_lemmas.proofs.Bools.{same_tests}
+use Rattle.fw_lemmas.proofs.Each.{each-at}
 use Rattle.fw_frontier.specs.declared.planes.Point.{Point}
 use Rattle.fw_frontier.specs.declared.planes.Corner.{Corner}
 use Rattle.fw_frontier.specs.Planes.{is_before, reaches, corners_of}
 use Rattle.fw_frontier.proofs.GenericLaws.{no}
-use Rattle.fw_time.proofs.EachLaws.{each-at}
-
-same-by : (b c : Bool) → (b ≡ true → c ≡ true) → (c ≡ true → b ≡ true) → b ≡ c
-same-by true c h k = sym (h refl)
-same-by false true h k = k refl
-same-by false false h k = refl
-
--- what the test of two numbers says
-pub below : (x y : ℕ) → nat_lt x y ≡ true → x < y
-below x y h = grind (arith, nat_tests)
 
 pub to_below : (x y : ℕ) → x < y → nat_lt x y ≡ true
 to_below x y h = grind (arith, nat_tests)
-
-from_not_below : (x y : ℕ) → nat_lt x y ≡ false → y ≤ x
-from_not_below x y h = grind (arith, nat_tests)
 
 -- ---- the order of the points and of the corners
 
@@ -81,7 +70,7 @@ corners-fall [] z w low = tt
 corners-fall (v ∷ vs) z w low = by (nat_lt v.z z) (nat_lt v.w w) (nat_lt v.y low) refl (λ k. corners-fall vs z w k)
   where
     by : (a b c : Bool) → nat_lt v.y low ≡ c → ((k : ℕ) → Falls k (corners_of vs z w k)) → Falls low (cond (a && (b && c)) (record { x = v.x; y = v.y } ∷ corners_of vs z w v.y) (corners_of vs z w low))
-    by true true true e r = (below v.y low e, r v.y)
+    by true true true e r = (ltb-true v.y low e, r v.y)
     by true true false e r = r low
     by true false c e r = r low
     by false b c e r = r low
@@ -110,12 +99,12 @@ corner_before x y c = nat_lt c.x x && nat_lt c.y y
 look-up : (cs : List Corner) (x y p low : ℕ) (d : Corner) → Falls low cs → p ≤ length cs → AllWithin (λ c. nat_lt c.x x ≡ true) cs 0 p → AllWithin (λ c. nat_lt c.x x ≡ false) cs p (length cs)
     → (nat_lt 0 p && nat_lt (get_or cs (p - 1) d).y y) ≡ list_any (corner_before x y) cs
 unfolding corner_before
-look-up cs x y p low d falls within before after = same-by (nat_lt 0 p && nat_lt (get_or cs (p - 1) d).y y) (list_any (corner_before x y) cs) there back
+look-up cs x y p low d falls within before after = same_tests (nat_lt 0 p && nat_lt (get_or cs (p - 1) d).y y) (list_any (corner_before x y) cs) there back
   where
     there : (nat_lt 0 p && nat_lt (get_or cs (p - 1) d).y y) ≡ true → list_any (corner_before x y) cs ≡ true
     there e =
         let at = get_or cs (p - 1) d in
-        let some : 0 < p = below 0 p (and_parts (nat_lt 0 p) (nat_lt at.y y) e).0 in
+        let some : 0 < p = ltb-true 0 p (and_parts (nat_lt 0 p) (nat_lt at.y y) e).0 in
         list_any_at (corner_before x y) cs (p - 1) d (omega arith) (and_from (nat_lt at.x x) (nat_lt at.y y) (before (p - 1) d (omega arith) (omega arith)) (and_parts (nat_lt 0 p) (nat_lt at.y y) e).1)
 
     early : (k : ℕ) (c : Corner) → k < length cs → get_or cs k c ≡ c → nat_lt c.x x ≡ true → k < p
@@ -130,7 +119,7 @@ look-up cs x y p low d falls within before after = same-by (nat_lt 0 p && nat_lt
         let c = w.1 in
         let is : get_or cs w.0 c ≡ c = w.3 in
         let k : w.0 < p = early w.0 c w.2 is (and_parts (nat_lt c.x x) (nat_lt c.y y) w.4).0 in
-        let low_enough : c.y < y = below c.y y (and_parts (nat_lt c.x x) (nat_lt c.y y) w.4).1 in
+        let low_enough : c.y < y = ltb-true c.y y (and_parts (nat_lt c.x x) (nat_lt c.y y) w.4).1 in
         let y_is : (get_or cs w.0 c).y ≡ c.y = ap (λ u. u.y) is in
         let lower : (get_or cs (p - 1) d).y ≤ (get_or cs w.0 c).y = falls-at low cs w.0 (p - 1) c d falls (omega arith) (omega arith) in
         and_from (nat_lt 0 p) (nat_lt (get_or cs (p - 1) d).y y) (to_below 0 p (omega arith)) (to_below (get_or cs (p - 1) d).y y (omega arith))
@@ -161,19 +150,19 @@ corners-reach (v ∷ vs) x y z w low h l = by (nat_lt v.z z) (nat_lt v.w w) (nat
 
     tails : nat_lt v.x x ≡ false → list_any (corner_before x y) (corners_of vs z w v.y) ≡ list_any (is_before x y z w) vs
     tails e =
-        let far = all-over v.x x vs (from_not_below v.x x e) h.0 in
+        let far = all-over v.x x vs (ltb-false v.x x e) h.0 in
         none-corner x y (corners_of vs z w v.y) (corners-past x vs z w v.y far) ∙ sym (none-point x y z w vs far)
 
     taken : (a b : Bool) → nat_lt v.x x ≡ a → nat_lt v.y y ≡ b → Reach → ((a && b) || list_any (corner_before x y) (corners_of vs z w v.y)) ≡ ((a && (b && (true && true))) || list_any (is_before x y z w) vs)
     taken true true e f r = refl
-    taken true false e f r = r v.y (from_not_below v.y y f)
+    taken true false e f r = r v.y (ltb-false v.y y f)
     taken false b e f r = tails e
 
     missed : (a b : Bool) → nat_lt v.y low ≡ false → nat_lt v.y y ≡ b → (a && (b && (true && true))) ≡ false
     missed a true e f = no (sym e ∙ to_below_low f)
       where
         to_below_low : nat_lt v.y y ≡ true → nat_lt v.y low ≡ true
-        to_below_low f = let m : v.y < y = below v.y y f in to_below v.y low (omega arith)
+        to_below_low f = let m : v.y < y = ltb-true v.y y f in to_below v.y low (omega arith)
     missed true false e f = refl
     missed false false e f = refl
 

@@ -4,9 +4,9 @@ use Rattle.std.proofs.Math.Bool.{and_assoc, and-true, and-or_distrib_left}
 use Rattle.std.proofs.lemmas.Bool.{cases_lt, not-true, and_from, and_parts, and_left, and_right}
 use Rattle.std.proofs.lemmas.Bool.Decides.{nat_tests}
 use Rattle.std.specs.List.{AllByRecursion}
+use Rattle.fw_lemmas.proofs.Each.{each-at}
 use Rattle.fw_time.specs.Stamp.{leq, lub, in_domain, up_to}
 use Rattle.fw_time.proofs.StampLaws.{leq-length, leq-lub, lub-least}
-use Rattle.fw_time.proofs.EachLaws.{each-at}
 use Rattle.fw_frontier.specs.Frontier.{join}
 use Rattle.fw_frontier.specs.Front.{inside, frontier_of, IsCanonical, IsFrontOf}
 use Rattle.fw_frontier.specs.Outside.{front_without, front_without_all, rise_count, front_without_near, front_without_all_near}

@@ -6,13 +6,13 @@ use Rattle.std.specs.List.Sorted.{IsStrictlySortedBy}
 use Rattle.std.specs.Ordering.{is_lt}
 use Rattle.std.specs.declared.cmp.Ordering.{Ordering}
 use Rattle.std.specs.declared.cmp.Ordering.TheVariants.{Less, Equal, Greater}
+use Rattle.fw_lemmas.proofs.Each.{each-at}
 use Rattle.fw_time.specs.declared.stamp.Bounds.{Bounds}
 use Rattle.fw_time.specs.Stamp.{leq, stamp_cmp, in_domain}
 use Rattle.fw_time.proofs.StampLaws.{leq-trans, leq-antisym, before-irrefl, before-trans}
 use Rattle.fw_frontier.specs.Front.{inside, IsCanonical}
 use Rattle.fw_frontier.specs.Least.{IsOneOfTheLeast, AreLeastOf}
 use Rattle.fw_frontier.specs.Outside.{front_without, front_without_all}
-use Rattle.fw_time.proofs.EachLaws.{each-at}
 use Rattle.fw_frontier.proofs.GenericLaws.{no, found}
 use Rattle.fw_frontier.proofs.InsideLaws.{inside-excluding, inside-excluding_all}
 use Rattle.fw_frontier.proofs.AntichainLaws.{IsAntichain, all-excluding, all-excluding_all, antichain-excluding, antichain-excluding_all, antichain-at}

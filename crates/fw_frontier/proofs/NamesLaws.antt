@@ -6,10 +6,11 @@ use Rattle.std.proofs.Math.Bool.{and-false, and_assoc, and-or_distrib_left, or-f
 use Rattle.std.proofs.lemmas.List.{take_all}
 use Rattle.std.specs.List.{AllByRecursion}
 use Rattle.std.specs.Ordering.{is_lt}
+use Rattle.fw_lemmas.proofs.Bools.{passes-not}
+use Rattle.fw_lemmas.proofs.Each.{each-weaker, each-both, each-one, each-at, each-filter}
 use Rattle.fw_time.specs.declared.stamp.Bounds.{Bounds}
 use Rattle.fw_time.specs.Stamp.{leq, stamp_cmp, origin, is_of_side, counts, in_domain, up_to}
 use Rattle.fw_time.proofs.StampLaws.{leq-refl, leq-trans, leq-antisym, leq-length, origin-leq, before-leq, before-trans, before-irrefl}
-use Rattle.fw_time.proofs.EachLaws.{each-at, each-both, each-filter, each-one, each-weaker}
 use Rattle.fw_time.proofs.DomainLaws.{domain-leq, domain-counts, domain-length, domain-between, plain-up_to}
 use Rattle.fw_frontier.specs.Frontier.{nothing, meet, join, cover, some_above, without_above, Within, IsFrontier}
 use Rattle.fw_frontier.specs.Front.{inside, frontier_of, least_stamps, is_within, IsCanonical, IsLeastBefore, IsFrontOf}
@@ -317,13 +318,9 @@ is_within-all : (os ps : List (List ℕ)) → AllByRecursion (λ p. inside os p 
 is_within-all os [] h = refl
 is_within-all os (p ∷ ps) h = and_from (not (inside os p)) (is_within os ps) (ap not h.0) (is_within-all os ps h.1)
 
-kept-out : (c d : Bool) → (c ≡ true → d ≡ true) → d ≡ false → c ≡ false
-kept-out true d f e = no (sym e ∙ f refl)
-kept-out false d f e = refl
-
 -- and where it does, none of them is
 pub inside-is_within : (os ps : List (List ℕ)) → Within (inside os) (inside ps) → is_within os ps ≡ true
-inside-is_within os ps h = is_within-all os ps (each-weaker (λ p. inside ps p ≡ false) (λ p. inside os p ≡ false) ps (λ p e. kept-out (inside os p) (inside ps p) (h p) e) (all-outside ps))
+inside-is_within os ps h = is_within-all os ps (each-weaker (λ p. inside ps p ≡ false) (λ p. inside os p ≡ false) ps (λ p e. passes-not (inside os p) (inside ps p) (h p) e) (all-outside ps))
 
 -- the same of the stamps of a domain
 pub is_within-holds : (b : Bounds) (os ps : List (List ℕ)) → is_within os ps ≡ true → Within (frontier_of b os) (frontier_of b ps)
@@ -334,7 +331,7 @@ within-is b os ps k h =
     is_within-all os ps (join-all ps (all-outside ps) (in_domain-canonical b ps k))
   where
     step : (p : List ℕ) → inside ps p ≡ false → in_domain b p ≡ true → inside os p ≡ false
-    step p e d = kept-out (inside os p) (inside ps p) (λ f. (and_parts (in_domain b p) (inside ps p) (h p (and_from (in_domain b p) (inside os p) d f))).1) e
+    step p e d = passes-not (inside os p) (inside ps p) (λ f. (and_parts (in_domain b p) (inside ps p) (h p (and_from (in_domain b p) (inside os p) d f))).1) e
 
     join-all : (qs : List (List ℕ)) → AllByRecursion (λ p. inside ps p ≡ false) qs → AllByRecursion (λ p. in_domain b p ≡ true) qs → AllByRecursion (λ p. inside os p ≡ false) qs
     join-all [] e d = tt

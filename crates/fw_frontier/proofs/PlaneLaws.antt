@@ -1,15 +1,15 @@
 -- In planes just the least bounds are found, so that they name what is inside one of two frontiers.
 use Rattle.std.proofs.Common.{◌≡◌, ℕ, ◌+◌, ◌≤◌, ◌<◌, Bool, true, false, not, ◌&&◌, ◌||◌, nat_le, nat_lt, nat_eq, cond, List, [], ◌∷◌, ◌++◌, length, get_or, map, refl, sym, ap, ◌∙◌, subst, zero, suc, ◌⊎◌, inl, inr, arith}
-use Rattle.std.proofs.lemmas.Bool.{cases_lt, or_right, le-leb, and_from, and_parts, and_right}
+use Rattle.std.proofs.lemmas.Bool.{cases_lt, or_right, le-leb, and_from, and_parts, and_right, ltb-true}
 use Rattle.std.proofs.lemmas.Bool.Decides.{nat_tests}
 use Rattle.std.proofs.lemmas.List.Elements.{Contains-append_left, Contains-append_right}
 use Rattle.std.specs.List.{AllByRecursion, Contains}
 use Rattle.std.specs.List.Sorted.{IsStrictlySortedBy}
 use Rattle.std.specs.Ordering.{is_lt}
 use Rattle.std.specs.declared.cmp.Ordering.TheVariants.{Less}
+use Rattle.fw_lemmas.proofs.Each.{each-at, each-append}
 use Rattle.fw_time.specs.Stamp.{leq, lub, stamp_cmp, in_domain, up_to}
 use Rattle.fw_time.proofs.StampLaws.{leq-refl, leq-trans, leq-antisym, leq-length, lub-left, lub-right, lub-least, before-irrefl}
-use Rattle.fw_time.proofs.EachLaws.{each-at, each-append}
 use Rattle.fw_frontier.specs.declared.planes.Plane.{Plane}
 use Rattle.fw_frontier.specs.declared.planes.Point.{Point}
 use Rattle.fw_frontier.specs.declared.planes.TheConstants.{PLANES}
@@ -21,7 +21,7 @@ use Rattle.fw_frontier.proofs.InsideLaws.{inside-above, leq-at}
 use Rattle.fw_frontier.proofs.AntichainLaws.{antichain-at}
 use Rattle.fw_frontier.proofs.CanonicalLaws.{in_domain-canonical, antichain-canonical}
 use Rattle.fw_frontier.proofs.NamesLaws.{names-join, all-outside}
-use Rattle.fw_frontier.proofs.CornerLaws.{below, to_below}
+use Rattle.fw_frontier.proofs.CornerLaws.{to_below}
 use Rattle.fw_frontier.proofs.Pairs.{excluding_pairs}
 
 -- ---- a stamp and the places of a plane
@@ -77,10 +77,10 @@ before-tested plane s x y z w h =
     let k = (and_parts a (b && (c && d)) h).1 in
     let l = (and_parts b (c && d) k).1 in
     record {
-      at_x = below (get_or s plane.x 0) x (and_parts a (b && (c && d)) h).0;
-      at_y = below (get_or s plane.y 0) y (and_parts b (c && d) k).0;
-      at_z = below (get_or s plane.z 0) z (and_parts c d l).0;
-      at_w = below (get_or s plane.w 0) w (and_parts c d l).1;
+      at_x = ltb-true (get_or s plane.x 0) x (and_parts a (b && (c && d)) h).0;
+      at_y = ltb-true (get_or s plane.y 0) y (and_parts b (c && d) k).0;
+      at_z = ltb-true (get_or s plane.z 0) z (and_parts c d l).0;
+      at_w = ltb-true (get_or s plane.w 0) w (and_parts c d l).1;
     }
 
 -- some stamp of the list comes before the ends

@@ -4,7 +4,7 @@ use Rattle.std.specs.Ordering.{is_eq}
 use Rattle.std.proofs.lemmas.Cmp.{nat_list_cmp_total, lists_total, tied_itself}
 use Rattle.std.proofs.lemmas.Map.Lookups.{exact_bytes}
 use Rattle.std.specs.Cmp.Lexicographic.{slice_cmp}
-use Rattle.fw_bag.proofs.OrderingLaws.{equal_from_is_eq, slice_cmp-same}
+use Rattle.fw_lemmas.proofs.Orderings.{equal_from_is_eq, slice_cmp-same}
 use Rattle.fw_time.specs.Stamp.{stamp_cmp}
 use Rattle.fw_frontier.specs.Front.{Front, same_front}
 

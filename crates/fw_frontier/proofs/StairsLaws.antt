@@ -5,11 +5,11 @@ use Rattle.std.proofs.lemmas.Bool.Decides.{nat_tests}
 use Rattle.std.proofs.lemmas.Bool.{cases_lt, lt-ltb, leb-true, le-ltb, le-leb, and_from, and_parts, and_right}
 use Rattle.std.proofs.lemmas.List.{get_or_past}
 use Rattle.std.specs.List.{AllByRecursion}
+use Rattle.fw_lemmas.proofs.Each.{each-weaker}
 use Rattle.fw_time.specs.Stamp.{leq, nest, outer, counter, in_domain}
 use Rattle.fw_time.specs.NestLaws.{nest-outer}
 use Rattle.fw_time.specs.declared.stamp.Bounds.{Bounds}
 use Rattle.fw_time.proofs.StampLaws.{leq-nest, leq-length}
-use Rattle.fw_time.proofs.EachLaws.{each-weaker}
 use Rattle.fw_time.proofs.DomainLaws.{domain-leq, domain-length, plain-in_domain}
 use Rattle.fw_time.proofs.TimeLaws.{leq-nest_bound}
 use Rattle.fw_frontier.specs.Front.{inside, IsFrontOf}

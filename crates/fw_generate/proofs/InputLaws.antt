@@ -11,6 +11,7 @@ use Rattle.std.specs.Char.{is_ascii_digit}
 use Rattle.std.specs.Fmt.{decimal}
 use Rattle.std.specs.List.{AllByRecursion, after_first, before_first, filter, list_all, list_any, position_or_len}
 use Rattle.std.specs.Option.{option_map_or, option_or}
+use Rattle.fw_lemmas.proofs.Each.{each-weaker, all-of_each}
 use Rattle.fw_bag.specs.declared.rec.Rec.{Rec}
 use Rattle.fw_lines.specs.declared.numeral.Number.TheVariants.{Value}
 use Rattle.fw_lines.specs.declared.record.RecordWord.{RecordWord}
@@ -22,7 +23,6 @@ use Rattle.fw_lines.specs.Inputs.{batch_of, batches_of, broken_rule, count_of, f
 use Rattle.fw_lines.specs.Lines.{Said, is_allowed, is_word}
 use Rattle.fw_lines.specs.Spelling.{number_of}
 use Rattle.fw_lines.proofs.FaultLaws.{Told, none_told, none_judged, IsSoundSoFar, none_left, sound_more}
-use Rattle.fw_time.proofs.EachLaws.{all-of_each, each-weaker}
 use Rattle.fw_generate.specs.Draws.{Words, draw, drawn_times}
 use Rattle.fw_flow.specs.Sources.{AreInputsOf}
 use Rattle.fw_generate.specs.Laws.{size_limit}

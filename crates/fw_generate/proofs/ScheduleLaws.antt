@@ -10,13 +10,13 @@ use Rattle.std.specs.Fmt.{decimal}
 use Rattle.std.specs.List.{AllByRecursion, cons_option, flat_map}
 use Rattle.std.specs.Result.{result_err, result_ok}
 use Rattle.std.specs.Str.Parse.{digits_value}
+use Rattle.fw_lemmas.proofs.Each.{each-weaker, each-append, all-of_each}
 use Rattle.fw_lines.specs.declared.refusal.Code.{Code}
 use Rattle.fw_lines.specs.declared.refusal.Code.TheVariants.{S1, S4}
 use Rattle.fw_lines.specs.Faults.{BreakNoRule}
 use Rattle.fw_lines.specs.Lines.{Said}
 use Rattle.fw_lines.proofs.FaultLaws.{Told, none_told, none_judged, IsSoundSoFar, none_left, sound_more}
 use Rattle.fw_flow.specs.declared.step.Step.TheVariants.{Checkpoint, Collect, Fail, Recover}
-use Rattle.fw_time.proofs.EachLaws.{all-of_each, each-append, each-weaker}
 use Rattle.fw_schedule.specs.declared.item.Item.{Item}
 use Rattle.fw_schedule.specs.declared.item.Item.TheVariants.{Auto, One}
 use Rattle.fw_schedule.specs.Grammar.{fault_of, item_of, items_of, line_fault, within_limit}

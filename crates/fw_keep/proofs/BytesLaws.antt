@@ -8,7 +8,9 @@ use Rattle.std.specs.Cmp.{nat_cmp_total}
 use Rattle.std.proofs.lemmas.Bool.{eq-eqb, ne_eqb, both_ways}
 use Rattle.std.proofs.lemmas.List.Folds.{list_any-append}
 use Rattle.std.proofs.lemmas.List.Elements.{All-contains, All-from_recursion}
-use Rattle.fw_time.proofs.EachLaws.{each_of-map}
+use Rattle.std.proofs.Math.Bool.{or-true}
+use Rattle.fw_lemmas.proofs.Each.{each_of-map}
+use Rattle.fw_lemmas.proofs.Orderings.{equal_by_cmp}
 use Rattle.fw_flow.specs.Dataflow.{Dataflow}
 use Rattle.fw_record.specs.declared.record.Record.{Record}
 use Rattle.fw_record.specs.Sound.{IsSound}
@@ -20,8 +22,7 @@ use Rattle.fw_keep.specs.declared.fault.KeepFault.TheVariants as fault
 use Rattle.fw_keep.specs.Entry.{IsRecordOf}
 use Rattle.fw_keep.specs.Catalogue.{KeepState, IsCatalogue, IsOnly, ids_of, is_among, has_entry}
 use Rattle.fw_keep.specs.Stored.{Records, bytes_under, KeepsBytes, HoldsAs, GivesOnly, ReadsAs, without_ids, Sweeps}
-use Rattle.fw_keep.proofs.IdLaws.{or_true, among-self, each-among}
-use Rattle.fw_keep.proofs.StoredLaws.{equal_by_cmp}
+use Rattle.fw_keep.proofs.IdLaws.{among-self, each-among}
 
 -- ---- what stays
 
@@ -81,7 +82,7 @@ entry-apart keep left removed e well parts there = by (is_among e.id removed) re
     by false is = refl
     by true is =
         let waits : is_among e.id keep.waiting ≡ true =
-        ap (is_among e.id) parts ∙ list_any-append (λ (other : ℕ). other == e.id) left removed ∙ rw is (or_true (is_among e.id left)) in
+        ap (is_among e.id) parts ∙ list_any-append (λ (other : ℕ). other == e.id) left removed ∙ rw is (or-true (is_among e.id left)) in
         absurd (both_ways (has_entry e.id keep.entries) (each-among _ keep.waiting e.id well.apart waits) (entry-there keep.entries e there))
 
 -- the bytes of what waits are removed

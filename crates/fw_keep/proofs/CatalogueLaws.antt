@@ -1,10 +1,10 @@
 -- What each call keeps of a catalogue.
 use Rattle.std.proofs.Common.{◌≡◌, ℕ, ◌<◌, ◌≤◌, Bool, false, not, List, [], ◌∷◌, ◌++◌, filter, refl, sym, ap, subst, ◌∙◌, arith}
 use Rattle.std.specs.List.{AllByRecursion}
-use Rattle.fw_time.proofs.EachLaws.{each-weaker, each-append, each-prefix}
 use Rattle.fw_keep.specs.declared.entry.Entry.{Entry}
 use Rattle.fw_keep.specs.Catalogue.{KeepState, IsCatalogue, ids_of, is_among, has_entry, AreDistinct, persisted, without}
 use Rattle.std.proofs.lemmas.Bool.{ne_eqb}
+use Rattle.fw_lemmas.proofs.Each.{each-weaker, each-append, each-prefix}
 use Rattle.fw_keep.proofs.IdLaws.{among-append, distinct-prefix, ids-more, ascending-distinct, ascending-more, distinct-append, ascending-kept, ids-kept, none_kept, none_goes, gone-apart, ids-persisted}
 
 -- states with the same parts are one

@@ -7,10 +7,10 @@ use Rattle.std.specs.declared.cmp.Ordering.TheVariants.{Less, Greater}
 use Rattle.std.proofs.lemmas.Bool.{eq-eqb, cases_lt}
 use Rattle.std.proofs.lemmas.Bool.Decides.{nat_tests}
 use Rattle.std.proofs.lemmas.List.Elements.{All-contains, All-from_recursion}
-use Rattle.fw_time.proofs.EachLaws.{each-weaker, each-at, each_of-map}
+use Rattle.std.proofs.Math.Bool.{or-true}
+use Rattle.fw_lemmas.proofs.Each.{each-weaker, each-at, each_of-map}
 use Rattle.fw_keep.specs.declared.entry.Entry.{Entry}
 use Rattle.fw_keep.specs.Catalogue.{AreAscending, IsOnly, ids_of, has_entry}
-use Rattle.fw_keep.proofs.IdLaws.{or_true}
 
 -- ---- the entry of an id
 
@@ -52,7 +52,7 @@ found-only es id i x h l is named = record {
 pub found-there : (es : List Entry) (id i : ℕ) (x : Entry) → i < length es → x ≡ get_or es i x → x.id ≡ id → has_entry id es ≡ true
 found-there [] id i x l is named = absurd (omega arith)
 found-there (e ∷ es) id zero x l is named = rw (eq-eqb e.id id (ap (λ (y : Entry). y.id) (sym is) ∙ named)) refl
-found-there (e ∷ es) id (suc i) x l is named = rw (found-there es id i x (omega arith) is named) (or_true (e.id == id))
+found-there (e ∷ es) id (suc i) x l is named = rw (found-there es id i x (omega arith) is named) (or-true (e.id == id))
 
 none-at : (es : List Entry) (id : ℕ) → ((k : ℕ) (d : Entry) → k < length es → ((get_or es k d).id == id) ≡ false) → has_entry id es ≡ false
 none-at [] id h = refl
@@ -81,9 +81,3 @@ lower a b n le h = grind (arith, nat_tests)
 pub below_first : (es : List Entry) (id : ℕ) → AreAscending (ids_of es) → (i j : ℕ) (d : Entry) → i ≤ j → j < length es
     → nat_lt (get_or es j d).id id ≡ true → nat_lt (get_or es i d).id id ≡ true
 below_first es id h i j d le l below = lower (get_or es i d).id (get_or es j d).id id (ascending-at es h i j d le l) below
-
-pub is_below : (a b : ℕ) → nat_lt a b ≡ true → a < b
-is_below a b h = grind (arith, nat_tests)
-
-pub is_not_below : (a b : ℕ) → nat_lt a b ≡ false → b ≤ a
-is_not_below a b h = grind (arith, nat_tests)

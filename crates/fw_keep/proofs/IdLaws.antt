@@ -5,7 +5,9 @@ use Rattle.std.proofs.lemmas.Bool.{ne_eqb, eq-eqb, eqb-true, both_ways}
 use Rattle.std.proofs.lemmas.List.Folds.{list_any-append}
 use Rattle.std.proofs.lemmas.List.Filters.{length-filter_both}
 use Rattle.std.proofs.lemmas.List.{length-map}
-use Rattle.fw_time.proofs.EachLaws.{each-weaker, each-append}
+use Rattle.std.proofs.Math.Bool.{or-true}
+use Rattle.fw_lemmas.proofs.Bools.{or_swap}
+use Rattle.fw_lemmas.proofs.Each.{each-weaker, each-append}
 use Rattle.fw_keep.specs.declared.entry.Entry.{Entry}
 use Rattle.fw_keep.specs.Catalogue.{ids_of, is_among, has_entry, AreAscending, AreDistinct, persisted}
 
@@ -65,14 +67,10 @@ each-among P (x ∷ ids) id all h = by (x == id) refl (λ k. each-among P ids id
     by true e rest k = subst P (eqb-true x id e) all.0
     by false e rest k = rest k
 
-pub or_true : (b : Bool) → (b || true) ≡ true
-or_true true = refl
-or_true false = refl
-
 pub among-self : (ids : List ℕ) → AllByRecursion (λ id. is_among id ids ≡ true) ids
 among-self [] = tt
 among-self (x ∷ ids) =
-    (rw (eq-eqb x x refl) refl, each-weaker (λ id. is_among id ids ≡ true) (λ id. ((x == id) || is_among id ids) ≡ true) ids (λ id h. rw h (or_true (x == id))) (among-self ids))
+    (rw (eq-eqb x x refl) refl, each-weaker (λ id. is_among id ids ≡ true) (λ id. ((x == id) || is_among id ids) ≡ true) ids (λ id h. rw h (or-true (x == id))) (among-self ids))
 
 -- an id among the last of distinct ones is not among the first
 pub distinct-parts : (xs ys : List ℕ) (id : ℕ) → AreDistinct (xs ++ ys) → is_among id ys ≡ true → is_among id xs ≡ false
@@ -90,11 +88,6 @@ pub none_drawn : (n : ℕ) (ids : List ℕ) → AllByRecursion (λ id. id < n) i
 none_drawn n ids h = none_among n ids (each-weaker _ _ ids (λ id l e. omega arith) h)
 
 -- ---- entries that are kept and entries that go
-
-or_swap : (a b c : Bool) → (a || (b || c)) ≡ (b || (a || c))
-or_swap true true c = refl
-or_swap true false c = refl
-or_swap false b c = refl
 
 pub ids-more : (es : List Entry) (e : Entry) → ids_of (es ++ e ∷ []) ≡ ids_of es ++ e.id ∷ []
 ids-more [] e = refl

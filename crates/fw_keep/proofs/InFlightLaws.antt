@@ -4,7 +4,8 @@ use Rattle.std.proofs.lemmas.Bool.{true≢false, cases_lt}
 use Rattle.std.proofs.lemmas.Bool.Decides.{nat_tests}
 use Rattle.std.specs.List.{AllByRecursion, filter}
 use Rattle.std.specs.List.Sorted.{IsPartitionPoint}
-use Rattle.fw_time.proofs.EachLaws.{each-weaker, each-at, each-append, each-kept}
+use Rattle.std.proofs.Math.Bool.{and-false}
+use Rattle.fw_lemmas.proofs.Each.{each-weaker, each-at, each-append, each-kept}
 use Rattle.fw_keep.specs.declared.entry.Entry.{Entry}
 use Rattle.fw_keep.specs.Entry.{is_lost, is_withdrawn}
 use Rattle.fw_keep.specs.Catalogue.{AreAcknowledged, AreInFlight, IsAcknowledgedUpTo, oldest, persisted}
@@ -150,10 +151,6 @@ upto_point n es l parts = record {
 }
 
 -- ---- what a failure and a withdrawal take out
-
-and-false : (b : Bool) → (b && false) ≡ false
-and-false true = refl
-and-false false = refl
 
 -- a failure takes out nothing that is acknowledged
 pub none_lost : (p : ℕ) (es : List Entry) → AreAcknowledged es → AllByRecursion (λ (e : Entry). is_lost p e ≡ false) es

@@ -11,17 +11,15 @@ use Rattle.std.specs.Option.{option_to_list}
 use Rattle.std.proofs.lemmas.Option.{get_or_from_slice_get, slice_get_within}
 use Rattle.std.proofs.lemmas.List.{append-nil}
 use Rattle.std.proofs.lemmas.List.Folds.{list_any-append}
-use Rattle.std.proofs.lemmas.Bool.Decides.{nat_tests}
-use Rattle.fw_time.proofs.EachLaws.{each-weaker, each-at, each-prefix, each-suffix}
+use Rattle.std.proofs.Math.Bool.{or-true}
+use Rattle.fw_lemmas.proofs.Each.{each-weaker, each-at, each-prefix, each-suffix}
+use Rattle.fw_lemmas.proofs.Orderings.{equal_by_cmp}
 use Rattle.fw_keep.specs.declared.entry.Entry.{Entry}
 use Rattle.fw_keep.specs.Catalogue.{KeepState, IsCatalogue, ids_of, is_among, has_entry, AreDistinct, persisted, without}
 use Rattle.fw_keep.specs.Stored.{Records, IsEmptyStore, is_held, IsStored, AreThere, without_ids, Sweeps}
-use Rattle.fw_keep.proofs.IdLaws.{or_true, ids-more, has_entry-parts, ids-persisted, none_drawn, each-among, among-self, distinct-parts, distinct-last}
+use Rattle.fw_keep.proofs.IdLaws.{ids-more, has_entry-parts, ids-persisted, none_drawn, each-among, among-self, distinct-parts, distinct-last}
 
 -- ---- the map at an id
-
-pub equal_by_cmp : (q k : ℕ) → eq_by_cmp nat_cmp q k ≡ (k == q)
-equal_by_cmp q k = grind (arith, nat_tests)
 
 some-cond : (b : Bool) (bytes : List ℕ) (o : Option (List ℕ)) → is_some (cond b (Some bytes) o) ≡ (b || is_some o)
 some-cond true bytes o = refl
@@ -109,7 +107,7 @@ stored-entry keep all id there h = λ held f. h held f id ∙ rw there refl
 -- what waits is there
 pub stored-waiting : (keep : KeepState) (all : Option Records) → IsStored keep all → AreThere keep.waiting all
 stored-waiting keep all h = λ held f.
-    each-weaker _ _ keep.waiting (λ id among. h held f id ∙ rw among (or_true (has_entry id keep.entries))) (among-self keep.waiting)
+    each-weaker _ _ keep.waiting (λ id among. h held f id ∙ rw among (or-true (has_entry id keep.entries))) (among-self keep.waiting)
 
 -- ---- what is swept
 

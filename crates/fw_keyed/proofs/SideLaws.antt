@@ -1,6 +1,6 @@
 -- Values by key: one rec more, and the pairs that a join makes.
 use Rattle.std.proofs.Common.{◌≡◌, ℕ, zero, suc, ◌==◌, ◌++◌, Bool, true, false, cond, not, List, [], ◌∷◌, Option, Some, map, reverse, Vec, refl, sym, ap, ◌∙◌, subst, arith, inl, inr, ◌⊎◌}
-use Rattle.std.specs.Ordering.{is_eq, nat_cmp}
+use Rattle.std.specs.Ordering.{nat_cmp}
 use Rattle.std.specs.List.{filter}
 use Rattle.std.specs.BTreeMap.{BTreeMap, get, is_at}
 use Rattle.std.proofs.lemmas.Bool.{eqb-true}
@@ -10,15 +10,11 @@ use Rattle.fw_bag.specs.declared.rec.Rec.{Rec}
 use Rattle.fw_bag.specs.Keyed.{plus, joined_rec}
 use Rattle.std.specs.Prelude.{◌<◌, ◌&&◌}
 use Rattle.std.specs.List.{AllByRecursion}
+use Rattle.fw_lemmas.proofs.Orderings.{nat_cmp-test}
+use Rattle.fw_lemmas.proofs.Numbers.{eqb-sym}
 use Rattle.fw_time.specs.Stamp.{Stamp, same}
 use Rattle.fw_bag.specs.Arrivals.{Arrival, recs_where, arrivals_at}
 use Rattle.fw_keyed.specs.Sides.{values_with, values_kept, HasValues, sums_with, is_left, recs_across, AreOfTwo}
-
-key_test : (k q : ℕ) → is_eq (nat_cmp k q) ≡ (k == q)
-key_test k q = grind (arith, nat_tests)
-
-key_swap : (a b : ℕ) → (a == b) ≡ (b == a)
-key_swap a b = grind (arith, nat_tests)
 
 module _ {A : Type 0} where
   step_cases : (r : Rec) (rs : List Rec) (v : Vec ℕ A) (o : Option (Vec ℕ A)) (q : ℕ)
@@ -34,9 +30,9 @@ module _ {A : Type 0} where
       → reverse v.items ≡ r.value ∷ values_kept (get nat_cmp old r.key)
       → HasValues new (r ∷ rs)
   values_more old new r v rs h u l = λ q.
-      ap values_kept (u q ∙ ap (λ b. cond b (Some v) (get nat_cmp old q)) (key_test r.key q))
+      ap values_kept (u q ∙ ap (λ b. cond b (Some v) (get nat_cmp old q)) (nat_cmp-test r.key q))
       ∙ step_cases r rs v (get nat_cmp old q) q (l ∙ ap (λ vs. r.value ∷ vs) (h r.key)) (h q) (r.key == q) refl
-      ∙ ap (λ b. map (λ (x : Rec). x.value) (cond b (r ∷ filter (λ (x : Rec). q == x.key) rs) (filter (λ (x : Rec). q == x.key) rs))) (key_swap r.key q)
+      ∙ ap (λ b. map (λ (x : Rec). x.value) (cond b (r ∷ filter (λ (x : Rec). q == x.key) rs) (filter (λ (x : Rec). q == x.key) rs))) (eqb-sym r.key q)
 
   same_cases : (rs : List Rec) (k : ℕ) (v : Vec ℕ A) (o : Option (Vec ℕ A)) (q : ℕ)
       → reverse v.items ≡ values_with k rs → values_kept o ≡ values_with q rs
@@ -50,7 +46,7 @@ module _ {A : Type 0} where
       → reverse v.items ≡ values_kept (get nat_cmp old k)
       → HasValues new rs
   values_same old new k v rs h u l = λ q.
-      ap values_kept (u q ∙ ap (λ b. cond b (Some v) (get nat_cmp old q)) (key_test k q))
+      ap values_kept (u q ∙ ap (λ b. cond b (Some v) (get nat_cmp old q)) (nat_cmp-test k q))
       ∙ same_cases rs k v (get nat_cmp old q) q (l ∙ h k) (h q) (k == q) refl
 
 -- the latest value comes first

@@ -1,5 +1,5 @@
 -- Batches of nodes, as a map keeps them.
-use Rattle.std.proofs.Common.{◌≡◌, ℕ, ◌==◌, nat_eq, Bool, true, false, cond, List, [], ◌∷◌, ◌++◌, Option, Some, None, refl, sym, ◌∙◌, ap, unwrap_or, eqb-true, IsSome, rules, Result, Ok, Err, OnErr, subst}
+use Rattle.std.proofs.Common.{◌≡◌, ℕ, ◌==◌, nat_eq, Bool, true, false, cond, List, [], ◌∷◌, ◌++◌, Option, Some, None, refl, sym, ◌∙◌, ap, unwrap_or, eqb-true, IsSome, rules, subst}
 use Rattle.std.proofs.lemmas.List.{map-append}
 use Rattle.std.specs.List.{AllByRecursion}
 use Rattle.std.specs.Map.{lookup}
@@ -70,10 +70,6 @@ recs_of-push bags new bag o e h = ap recs_of e ∙ map-append (λ (b : BagState)
 pub some_found : {X : Type 0} (x : X) (o : Option X) → Some x ≡ o → IsSome o
 some_found x None e = absurd (cc)
 some_found x (Some y) e = search rules
-
-pub on_err : {T E P : Type 0} (r : Result T E) → P → OnErr r P
-on_err (Ok x) p = tt
-on_err (Err e) p = p
 
 each_and : (batches : List (List Rec)) (batch : List Rec) → AllByRecursion IsBatch batches → IsBatch batch → AllByRecursion IsBatch (batches ++ batch ∷ [])
 each_and [] batch a b = (b, tt)

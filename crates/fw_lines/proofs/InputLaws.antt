@@ -1,9 +1,10 @@
 -- The rules of a line of inputs.
-use Rattle.std.proofs.Common.{◌≡◌, ℕ, ◌+◌, ◌<◌, ◌≤◌, Bool, true, false, not, cond, ◌||◌, List, [], ◌∷◌, map, length, drop, get_or, Option, Some, None, refl, sym, ◌∙◌, ap, arith, suc}
+use Rattle.std.proofs.Common.{◌≡◌, ℕ, ◌+◌, ◌<◌, ◌≤◌, Bool, true, false, not, cond, ◌||◌, List, [], ◌∷◌, map, length, drop, get_or, Option, Some, None, refl, sym, ◌∙◌, ap, arith}
 use Rattle.std.proofs.lemmas.List.{drop_more}
 use Rattle.std.specs.List.{list_any, prefix_len, filter_map, cons_option}
 use Rattle.std.proofs.lemmas.Bool.Decides.{nat_tests}
 use Rattle.std.specs.Option.{option_or, option_map_or}
+use Rattle.fw_lemmas.proofs.Numbers.{below_step}
 use Rattle.fw_lines.specs.declared.refusal.Code.TheVariants.{I3, I5}
 use Rattle.fw_lines.specs.Batches.{batches_at}
 use Rattle.fw_lines.specs.Sources.{node_named}
@@ -14,14 +15,10 @@ use Rattle.fw_lines.specs.declared.span.Span.{Span}
 use Rattle.fw_lines.specs.Inputs.{record_of, spelled_rec, is_large, value_fault, count_fault, form_fault, fault_in}
 use Rattle.fw_lines.specs.Lines.{bytes_at}
 
-head-lt : (b c : Bool) (n m : ℕ) → (b || c) ≡ true → (c ≡ true → n < m) → cond (not b) (1 + n) 0 < suc m
-head-lt true c n m e h = omega arith
-head-lt false c n m e h = omega (arith, h e)
-
 -- where some byte passes, one stands behind those that do not
 pub front-lt-length : (p : ℕ → Bool) (xs : List ℕ) → list_any p xs ≡ true → prefix_len (λ b. not (p b)) xs < length xs
 front-lt-length p [] e = absurd (cc)
-front-lt-length p (x ∷ xs) e = head-lt (p x) (list_any p xs) (prefix_len (λ b. not (p b)) xs) (length xs) e (front-lt-length p xs)
+front-lt-length p (x ∷ xs) e = below_step (p x) (prefix_len (λ b. not (p b)) xs) (length xs) (list_any p xs) e (front-lt-length p xs)
 
 pub list_any-map : (text : List ℕ) (words : List Span) → list_any (λ word. is_large (record_of (bytes_at text word))) words ≡ list_any (λ word. is_large (record_of word)) (map (bytes_at text) words)
 list_any-map text [] = refl

@@ -1,5 +1,5 @@
 -- The values of digits.
-use Rattle.std.proofs.Common.{◌≡◌, ℕ, ◌+◌, ◌*◌, ◌^◌, ◌<◌, ◌≤◌, Bool, true, false, ◌&&◌, not, ◌==◌, List, [], ◌∷◌, length, take, get_or, Some, None, refl, sym, ◌∙◌, ap, arith}
+use Rattle.std.proofs.Common.{◌≡◌, ℕ, ◌+◌, ◌*◌, ◌^◌, ◌<◌, ◌≤◌, true, not, ◌==◌, List, [], ◌∷◌, length, take, get_or, Some, None, sym, ◌∙◌, ap, arith}
 use Rattle.std.proofs.lemmas.Bool.Decides.{nat_tests}
 use Rattle.std.proofs.lemmas.Int.Digits.{digits_value_more}
 use Rattle.std.proofs.lemmas.List.{take_all}
@@ -7,6 +7,7 @@ use Rattle.std.proofs.lemmas.Str.Parse.{digits_value-take-le}
 use Rattle.std.specs.Char.{digit_value, is_ascii_digit}
 use Rattle.std.specs.List.{list_all}
 use Rattle.std.specs.Str.Parse.{digits_value, AllDigits}
+use Rattle.std.proofs.lemmas.Bool.{and_parts}
 use Rattle.fw_lines.specs.Spelling.{is_numeral, if_small}
 
 some_small : (n m : ℕ) → Some m ≡ if_small n → (m ≡ n) × (n < 2 ^ 64)
@@ -39,17 +40,13 @@ value_all ds i v h s e =
 digit_of : (b : ℕ) → is_ascii_digit b ≡ true → digit_value b < 10
 digit_of b e = grind (arith, nat_tests, e)
 
-both : (a b : Bool) → (a && b) ≡ true → (a ≡ true) × (b ≡ true)
-both true b e = (refl, e)
-both false b e = absurd (cc)
-
 -- ASCII digits are digits
 pub digits_from_all : (bs : List ℕ) → list_all is_ascii_digit bs ≡ true → AllDigits 10 bs
 digits_from_all [] e = tt
-digits_from_all (b ∷ bs) e = (digit_of b (both _ _ e).0, digits_from_all bs (both (is_ascii_digit b) _ e).1)
+digits_from_all (b ∷ bs) e = (digit_of b (and_parts _ _ e).0, digits_from_all bs (and_parts (is_ascii_digit b) _ e).1)
 
 -- a numeral is digits
 pub digits_from_numeral : (bs : List ℕ) → is_numeral bs ≡ true → AllDigits 10 bs
 digits_from_numeral [] e = tt
 digits_from_numeral (b ∷ []) e = (digit_of b e, tt)
-digits_from_numeral (b ∷ c ∷ bs) e = digits_from_all (b ∷ c ∷ bs) (both (not (b == 48)) (list_all is_ascii_digit (b ∷ c ∷ bs)) e).1
+digits_from_numeral (b ∷ c ∷ bs) e = digits_from_all (b ∷ c ∷ bs) (and_parts (not (b == 48)) (list_all is_ascii_digit (b ∷ c ∷ bs)) e).1

@@ -1,21 +1,18 @@
 -- Parts of texts between separators.
-use Rattle.std.proofs.Common.{◌≡◌, ℕ, ◌+◌, ◌-◌, ◌<◌, ◌≤◌, Bool, true, false, not, List, [], ◌∷◌, length, take, drop, refl, sym, ◌∙◌, ap, arith, length-take, length-drop, slice_range}
+use Rattle.std.proofs.Common.{◌≡◌, ℕ, ◌+◌, ◌-◌, ◌<◌, ◌≤◌, Bool, not, List, [], ◌∷◌, length, take, drop, sym, ◌∙◌, ap, arith, length-take, length-drop, slice_range}
 use Rattle.std.proofs.lemmas.List.{take-take, drop-take, drop-drop}
 use Rattle.std.proofs.lemmas.List.Splits.{slice_split_first, slice_split_none}
 use Rattle.std.proofs.lemmas.List.Sums.{prefix_len_passes}
 use Rattle.std.specs.List.{slice_split, prefix_len}
+use Rattle.std.proofs.lemmas.Bool.{not-true}
 
 pub length-slice_range : (xs : List ℕ) (from to : ℕ) → to ≤ length xs → length (slice_range xs from to) ≡ to - from
 length-slice_range xs from to h = omega (arith, length-take (to - from) (drop from xs), length-drop from xs)
 
-false_from_not : (b : Bool) → not b ≡ true → b ≡ false
-false_from_not false e = refl
-false_from_not true e = sym e
-
 -- where no separator is met there is one part
 pub one_part : (p : ℕ → Bool) (xs : List ℕ) → prefix_len (λ b. not (p b)) xs ≡ length xs → slice_split p xs ≡ xs ∷ []
 one_part p xs e =
-    slice_split_none p xs (λ k d h. false_from_not (p _) (prefix_len_passes (λ b. not (p b)) xs k d (omega (arith, e, h))))
+    slice_split_none p xs (λ k d h. not-true (p _) (prefix_len_passes (λ b. not (p b)) xs k d (omega (arith, e, h))))
 
 -- what follows the n bytes and the separator
 pub behind : (xs : List ℕ) (from to n : ℕ) → from + n < to → drop (n + 1) (slice_range xs from to) ≡ slice_range xs (from + n + 1) to

@@ -3,6 +3,7 @@ use Rattle.std.proofs.Common.{◌≡◌, ℕ, zero, suc, ◌+◌, ◌<◌, ◌�
 use Rattle.std.specs.List.{AllByRecursion}
 use Rattle.std.proofs.lemmas.Bool.{cond_both, cond-true, cond-false, cases_lt, eq-eqb, ne_eqb}
 use Rattle.std.proofs.lemmas.List.{get_or_past}
+use Rattle.fw_lemmas.proofs.Each.{each-weaker}
 use Rattle.fw_flow.specs.declared.event.Event.{Event}
 use Rattle.fw_flow.specs.declared.event.Event.TheVariants.{Inject, Deliver, Notify}
 use Rattle.fw_flow.specs.declared.event.Message.{Message}
@@ -14,7 +15,6 @@ use Rattle.fw_model.specs.History.{delivered_messages}
 use Rattle.fw_model.proofs.WeightLaws.{weigh, weigh-append, weigh-none, weigh-same}
 use Rattle.fw_model.proofs.SentLaws.{timed_message, timed_of}
 use Rattle.fw_flow.proofs.EdgeLaws.{into-from}
-use Rattle.fw_time.proofs.EachLaws.{each-weaker}
 
 -- ---- sums over in-edges
 

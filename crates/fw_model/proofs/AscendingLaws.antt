@@ -1,6 +1,7 @@
 -- Checkpoints lie within what is settled, and ascend in order of asking.
 use Rattle.std.proofs.Common.{◌≡◌, sym, subst, ℕ, List, [], ◌∷◌, ◌++◌}
 use Rattle.std.specs.List.{AllByRecursion}
+use Rattle.fw_lemmas.proofs.Each.{each-weaker, each-suffix}
 use Rattle.fw_frontier.specs.Front.{Front, frontier_of}
 use Rattle.fw_frontier.specs.Frontier.{Within}
 use Rattle.fw_flow.specs.Dataflow.{bounds_of}
@@ -8,7 +9,6 @@ use Rattle.fw_model.specs.Machine.{Write, Written, checkpoint}
 use Rattle.fw_model.specs.LawsOfRestoring.{CheckpointsAscend}
 use Rattle.fw_model.proofs.CheckpointLaws.{HoldsSettled}
 use Rattle.fw_model.proofs.ChoosingLaws.{reached}
-use Rattle.fw_time.proofs.EachLaws.{each-weaker, each-suffix}
 use Rattle.fw_model.proofs.WriteLaws.{ArePairs, LiesBelow}
 
 pairs-at : (R : ℕ → Written → ℕ → Written → Type 0) (xs ys : List Write) (x : Write) → ArePairs R (xs ++ x ∷ ys)

@@ -7,7 +7,7 @@ use Rattle.std.specs.List.{AllByRecursion}
 use Rattle.std.specs.Ordering.{ordering_reverse, is_eq, is_le, is_gt}
 use Rattle.std.proofs.lemmas.Bool.{cond_both}
 use Rattle.std.proofs.lemmas.Cmp.{tied_itself, upto}
-use Rattle.fw_bag.proofs.OrderingLaws.{gt_of, le_not_gt}
+use Rattle.fw_lemmas.proofs.Orderings.{le_not_gt, gt_of}
 use Rattle.fw_model.proofs.WeightLaws.{weigh}
 
 -- items are put into their ascending lists by a total order, of which only equal items are tied

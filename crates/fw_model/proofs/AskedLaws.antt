@@ -4,8 +4,10 @@ use Rattle.std.specs.List.{AllByRecursion, list_any, range_with_len}
 use Rattle.std.proofs.lemmas.Bool.{not-true, and_parts, and_from, or_cases, cond_both, cases_Bool, cases_lt, eqb-true, eq-eqb}
 use Rattle.std.proofs.lemmas.List.{get_or_past, length-map}
 use Rattle.std.proofs.lemmas.List.FromFn.{get_or-map-range_with_len}
+use Rattle.fw_lemmas.proofs.Bools.{two_ways}
+use Rattle.fw_lemmas.proofs.Each.{each-weaker, each-both, each-one, each-append, each-map, each-passed, each-replaced, each-each}
+use Rattle.fw_lemmas.proofs.Numbers.{at_most-refl}
 use Rattle.fw_time.specs.Stamp.{Stamp}
-use Rattle.fw_time.proofs.EachLaws.{each-weaker, each-both, each-append, each-one, each-map}
 use Rattle.fw_frontier.specs.Frontier.{Frontier, Within}
 use Rattle.fw_frontier.specs.Front.{Front, frontier_of, IsCanonical, same_front}
 use Rattle.fw_flow.specs.declared.choice.Cut.{Cut}
@@ -29,14 +31,13 @@ use Rattle.fw_model.specs.Choice.{kept, cut_of, kept_of, IsCandidate, IsLargest,
 use Rattle.fw_model.specs.Steps.{Effect, Outcome, did, idle, LeadsTo, Run, write_of_event, with_event, checkpoint_of, is_eager, GrowsTo, is_asked_for_checkpoints, checkpoint_front, checkpoints_of, last_or, newest_checkpoint, AcknowledgesOldest, is_in_flight, with_failed, is_kept_write, IsSettledCut, CutsTo, recovered_state, front_of_cut, inside_if_some, sends_inside, is_given_up, is_serial_given_up, lies_below, after_collection, collected_writes}
 use Rattle.fw_flow.specs.declared.restoring.Restoring.TheVariants.{Checkpoints}
 use Rattle.fw_flow.specs.Restoring.{restoring_of_policy, restoring}
-use Rattle.fw_model.proofs.Decisions.{two_ways}
 use Rattle.fw_frontier.proofs.SameLaws.{same_front-itself}
 use Rattle.fw_model.proofs.ChoiceLaws.{same_fronts}
 use Rattle.fw_model.proofs.DenotationLaws.{denotation-exists}
-use Rattle.fw_model.proofs.CheckpointLaws.{HoldsSettled, IsWriteSettled, AreWritesSettled, HasWritesSettled, settled-grows, each-passed, each-replaced}
+use Rattle.fw_model.proofs.CheckpointLaws.{HoldsSettled, IsWriteSettled, AreWritesSettled, HasWritesSettled, settled-grows}
 use Rattle.fw_model.proofs.SameInsideLaws.{at_node, IsLowConsistent, low_length}
 use Rattle.fw_model.proofs.WriteLaws.{ArePairs, pairs-append, pairs-passed, pairs-mapped, pairs-replaced, LiesBelow, AreAscending}
-use Rattle.fw_model.proofs.LowLaws.{at_most-refl, none-canonical}
+use Rattle.fw_model.proofs.LowLaws.{none-canonical}
 use Rattle.fw_model.proofs.ChoosingLaws.{CanRecover, settled_writes, watermark-grows, took-recover, first-recover}
 use Rattle.fw_model.specs.Measure.{enough_rounds}
 use Rattle.fw_model.specs.Writes.{takes_checkpoints}
@@ -352,13 +353,6 @@ settled-alone state settled (p ∷ ps) a = (
       (each-weaker (λ q. p ≡ q → ⊥) (λ q. IsApart p (checkpoint (front_of settled p) state.low) q (checkpoint (front_of settled q) state.low)) ps (λ q n e i. n e) a.0),
   settled-alone state settled ps a.1,
 )
-
--- each of the first with each of the second
-pub each-each : {X Y : Type 0} (R : X → Y → Type 0) (xs : List X) (ys : List Y) → AllByRecursion (λ y. AllByRecursion (λ x. R x y) xs) ys → AllByRecursion (λ x. AllByRecursion (R x) ys) xs
-each-each {X} {Y} R [] ys a = tt
-each-each {X} {Y} R (x ∷ xs) ys a =
-    let Both : Y → Type 0 = λ y. R x y × AllByRecursion (λ z. R z y) xs in
-    (each-weaker Both (R x) ys (λ y b. b.0) a, each-each R xs ys (each-weaker Both (λ y. AllByRecursion (λ z. R z y) xs) ys (λ y b. b.1) a))
 
 asked-restore : (sys : System) (state : Machine) (settled : List Front) (ps : List ℕ)
     → ((p : ℕ) → p < length sys.flow.nodes → IsCanonical (bounds_of sys.flow p) (front_of settled p)) → AreOthers ps → MayAsk sys state.low settled state.writes ps

@@ -1,6 +1,7 @@
 -- Each checkpoint is as it was in the state in which it was asked.
 use Rattle.std.proofs.Common.{◌≡◌, ℕ, not, ◌&&◌, List, [], ◌∷◌, ◌++◌, filter, map, refl, sym, subst, ◌∙◌, inl, inr, ◌⊎◌}
 use Rattle.std.specs.List.{AllByRecursion}
+use Rattle.fw_lemmas.proofs.Each.{each-weaker, each-both, each-one, each-append, each-map, each-passed, each-replaced}
 use Rattle.fw_frontier.specs.Front.{Front, same_front}
 use Rattle.fw_flow.specs.declared.event.Event.TheVariants.{Inject as Injected, Deliver as Delivered, Notify as Notified}
 use Rattle.fw_flow.specs.declared.kind.Policy.{Policy}
@@ -13,12 +14,10 @@ use Rattle.fw_model.specs.Machine.{Machine, Write, Written, checkpoint, logged_e
 use Rattle.fw_model.specs.Choice.{cut_of, filtered_history}
 use Rattle.fw_model.specs.Steps.{Effect, Outcome, did, idle, LeadsTo, StepsTo, Run, write_of_event, with_event, checkpoint_of, is_eager, is_in_flight, is_kept_write, front_of_cut, lies_below, after_collection}
 use Rattle.fw_model.specs.LawsOfRestoring.{CheckpointsAreAsTheyWereAsked}
-use Rattle.fw_model.proofs.CheckpointLaws.{each-passed, each-replaced}
 use Rattle.fw_model.proofs.ChoosingLaws.{settled_writes}
 use Rattle.fw_model.proofs.AskedLaws.{CanRecoverAndRestore, took-reached, first-reached}
 use Rattle.fw_model.proofs.RestoringLaws.{same-each, took-true}
 use Rattle.fw_model.proofs.GoingOn.{runs-go_on}
-use Rattle.fw_time.proofs.EachLaws.{each-weaker, each-both, each-append, each-one, each-map}
 use Rattle.fw_model.specs.Writes.{CountsTheSame, CountsWritten, IsWrittenAsAsked}
 
 counts-on : (sys : System) (one two three : Machine) (p : ℕ) (f : Front) → CountsTheSame sys one two p f → CountsTheSame sys two three p f → CountsTheSame sys one three p f

@@ -4,7 +4,8 @@ use Rattle.std.proofs.Common.{◌≡◌, ℕ, ◌<◌, Bool, true, false, not, �
 use Rattle.std.specs.Prelude.{filter}
 use Rattle.std.specs.List.{AllByRecursion}
 use Rattle.std.proofs.lemmas.Bool.{and_parts, cond_both, eqb-true, not-true}
-use Rattle.fw_time.proofs.EachLaws.{each-weaker, each-both, each-one, each-append, each-map}
+use Rattle.fw_lemmas.proofs.Bools.{two_ways}
+use Rattle.fw_lemmas.proofs.Each.{each-weaker, each-both, each-one, each-append, each-map, each-passed, each-replaced}
 use Rattle.fw_time.specs.declared.stamp.Bounds.{Bounds}
 use Rattle.fw_frontier.specs.Frontier.{Within}
 use Rattle.fw_frontier.specs.Front.{Front, frontier_of, IsCanonical, same_front}
@@ -22,9 +23,8 @@ use Rattle.fw_model.specs.Choice.{cut_of, filtered_history}
 use Rattle.fw_model.specs.Steps.{Effect, Outcome, did, idle, write_of_event, with_event, is_eager, eager_writes, checkpoint_of, is_asked_for_checkpoints, checkpoint_front, checkpoints_of, last_or, newest_checkpoint, is_in_flight, is_kept_write, lies_below, after_collection, front_of_cut, LeadsTo, Run}
 use Rattle.fw_frontier.proofs.SameLaws.{same_front-itself}
 use Rattle.fw_model.proofs.AskedLaws.{takes-declared, IsApart, IsAskedWell, IsWriteAskedWell, CanRecoverAndRestore, took-reached, first-reached, reached-all, eager-takes, asked-takes}
-use Rattle.fw_model.proofs.CheckpointLaws.{HoldsSettled, IsWriteSettled, each-passed, each-replaced, settled-grows}
+use Rattle.fw_model.proofs.CheckpointLaws.{HoldsSettled, IsWriteSettled, settled-grows}
 use Rattle.fw_model.proofs.ChoiceLaws.{same_fronts}
-use Rattle.fw_model.proofs.Decisions.{two_ways}
 use Rattle.fw_model.proofs.LowLaws.{none-canonical, none-within}
 use Rattle.fw_model.proofs.WriteLaws.{ArePairs}
 use Rattle.fw_model.specs.LawsOfCheckpointFronts.{CheckpointsDiffer, CheckpointsHaveStamps}

@@ -1,8 +1,9 @@
 -- Checkpoints lie within what is settled, and so does each frontier to which a node can be restored.
-use Rattle.std.proofs.Common.{◌≡◌, ℕ, ◌<◌, Bool, true, false, not, ◌&&◌, List, [], ◌∷◌, ◌++◌, length, filter, map, refl, sym, ap, subst, ◌∙◌, inl, inr}
+use Rattle.std.proofs.Common.{◌≡◌, ℕ, ◌<◌, true, false, not, ◌&&◌, List, [], ◌∷◌, ◌++◌, length, filter, map, refl, sym, ap, subst, ◌∙◌, inl, inr}
 use Rattle.std.specs.List.{AllByRecursion}
-use Rattle.std.proofs.lemmas.Bool.{and_from, or_left, cond_both, cases_Bool}
-use Rattle.fw_time.proofs.EachLaws.{each-weaker, each-append, each-one, each-map}
+use Rattle.std.proofs.lemmas.Bool.{and_from, or_left, cases_Bool}
+use Rattle.fw_lemmas.proofs.Bools.{two_ways}
+use Rattle.fw_lemmas.proofs.Each.{each-weaker, each-one, each-append, each-map, each-passed, each-replaced}
 use Rattle.fw_frontier.specs.Frontier.{Frontier, Within}
 use Rattle.fw_frontier.specs.Front.{Front, frontier_of, same_front}
 use Rattle.fw_frontier.proofs.NamesLaws.{is_within-holds}
@@ -23,7 +24,6 @@ use Rattle.fw_flow.specs.declared.restoring.Restoring.{Restoring}
 use Rattle.fw_flow.specs.declared.restoring.Restoring.TheVariants.{Batches, Bound, Anything, Checkpoints, Events}
 use Rattle.fw_flow.specs.Restoring.{restoring, way_of}
 use Rattle.fw_model.specs.LawsOfRecoveries.{CandidatesLieWithinSettled}
-use Rattle.fw_model.proofs.Decisions.{two_ways}
 use Rattle.fw_model.proofs.RunLaws.{none-inside}
 use Rattle.fw_model.proofs.ChoiceLaws.{not_by_batches}
 
@@ -59,16 +59,6 @@ pub grown-writes : (sys : System) (before after : List Front) → Grows sys befo
 grown-writes sys before after k writes a =
     each-weaker (IsWriteSettled sys before) (IsWriteSettled sys after) writes
     (λ write h. changed sys before after write.node write.written (λ g low e s l t i. k write.node l t (s l t i)) h) a
-
-pub each-passed : {A : Type 0} (P Q : A → Type 0) (test : A → Bool) (xs : List A) → ((x : A) → test x ≡ true → P x → Q x) → AllByRecursion P xs → AllByRecursion Q (filter test xs)
-each-passed P Q test [] k a = tt
-each-passed P Q test (x ∷ xs) k a =
-    let rest = each-passed P Q test xs k a.1 in
-    cond_both (test x) (x ∷ filter test xs) (filter test xs) (AllByRecursion Q) (λ e. (k x e a.0, rest)) (λ e. rest)
-
-pub each-replaced : {A : Type 0} (P : A → Type 0) (xs : List A) (y z : A) (ys : List A) → (P y → P z) → AllByRecursion P (xs ++ y ∷ ys) → AllByRecursion P (xs ++ z ∷ ys)
-each-replaced P [] y z ys k a = (k a.0, a.1)
-each-replaced P (x ∷ xs) y z ys k a = (a.0, each-replaced P xs y z ys k a.1)
 
 -- ---- what steps do to them
 

@@ -5,10 +5,11 @@ use Rattle.std.proofs.lemmas.Bool.{and_parts, and_from, or_cases, or_left, or_ri
 use Rattle.std.proofs.lemmas.List.{ext_get_or, get_or_past}
 use Rattle.std.proofs.lemmas.List.FromFn.{get_or-map-range_with_len, length-map-range_with_len}
 use Rattle.std.specs.List.{range_with_len}
+use Rattle.fw_lemmas.proofs.Bools.{same_tests}
+use Rattle.fw_lemmas.proofs.Each.{each-weaker, each-one}
 use Rattle.fw_frontier.proofs.Pairs.{excluding_pairs}
 use Rattle.fw_time.specs.Stamp.{Stamp, leq, in_domain}
 use Rattle.fw_time.specs.declared.stamp.Bounds.{Bounds}
-use Rattle.fw_time.proofs.EachLaws.{each-weaker, each-one}
 use Rattle.fw_time.proofs.DomainLaws.{domain-leq}
 use Rattle.fw_frontier.specs.Frontier.{Frontier, IsFrontier, Within, nothing, join, cover, some_above}
 use Rattle.fw_frontier.specs.Front.{Front, inside, frontier_of, IsCanonical, IsFrontOf}
@@ -34,7 +35,7 @@ use Rattle.fw_flow.specs.declared.restoring.Restoring.TheVariants.{Batches, Boun
 use Rattle.fw_flow.specs.Restoring.{restoring_of_policy, restoring, can_resend, way_of}
 use Rattle.fw_model.specs.Covers.{stamp_of_notice, stamps_from, set_of, takes_its_cut, takes_its_notices, discarded_at, covers_in, tallies_in}
 use Rattle.fw_model.proofs.PhiLaws.{phi-monotone, all_inside-monotone}
-use Rattle.fw_model.proofs.PsiLaws.{same_tests, psi-monotone, psi-join}
+use Rattle.fw_model.proofs.PsiLaws.{psi-monotone, psi-join}
 use Rattle.fw_model.proofs.MeetLaws.{one_within}
 use Rattle.fw_model.proofs.SendsLaws.{IsOfCause, sent_by-of_cause}
 use Rattle.fw_model.proofs.SequenceLaws.{bounds-sequence}

@@ -2,6 +2,9 @@
 use Rattle.std.proofs.Common.{◌≡◌, ℕ, ◌+◌, ◌<◌, Bool, true, not, ◌&&◌, List, [], ◌∷◌, ◌++◌, length, filter, map, slice_set, sym, ap, subst, ◌∙◌, inl, inr, ◌⊎◌, arith}
 use Rattle.std.specs.List.{AllByRecursion}
 use Rattle.std.proofs.lemmas.Bool.{and_parts, cond_both}
+use Rattle.fw_lemmas.proofs.Bools.{two_ways}
+use Rattle.fw_lemmas.proofs.Each.{each-weaker, each-one, each-append, each-map, each-passed, each-replaced}
+use Rattle.fw_lemmas.proofs.Numbers.{at_most-refl}
 use Rattle.fw_frontier.specs.Frontier.{Within}
 use Rattle.fw_frontier.specs.Front.{Front, frontier_of, IsCanonical, same_front, is_within}
 use Rattle.fw_flow.specs.declared.choice.Cut.{Cut}
@@ -21,9 +24,8 @@ use Rattle.fw_model.specs.Steps.{Effect, Outcome, did, idle, LeadsTo, Run, write
 use Rattle.fw_model.specs.LawsOfChoosing.{LowWatermarkIsConsistent, CheckpointsAreChains, RecoveryHasAChoice, FailedNodesAreRecovered, ReachedStatesHaveOneNextState, LargestChoiceHoldsLowWatermark, LowWatermarkNeverFalls, LargestOfKeptIsLargestOfEver}
 use Rattle.fw_flow.specs.declared.restoring.Restoring.{Restoring}
 use Rattle.fw_flow.specs.declared.restoring.Restoring.TheVariants.{Batches, Bound, Anything, Checkpoints, Events}
-use Rattle.fw_model.proofs.Decisions.{two_ways}
 use Rattle.fw_model.proofs.DenotationLaws.{denotation-exists}
-use Rattle.fw_model.proofs.CheckpointLaws.{HoldsSettled, IsWriteSettled, AreWritesSettled, HasWritesSettled, grown-writes, settled-grows, each-passed, each-replaced, took-writes}
+use Rattle.fw_model.proofs.CheckpointLaws.{HoldsSettled, IsWriteSettled, AreWritesSettled, HasWritesSettled, grown-writes, settled-grows, took-writes}
 use Rattle.fw_model.proofs.LargestLaws.{largest-exists, within-trans}
 use Rattle.fw_model.proofs.RunLaws.{none-inside}
 use Rattle.fw_model.proofs.RecoveryLaws.{IsLegalAndDenoted, all_kinds-denote, first-holds, steps-hold, denoted-full}
@@ -31,9 +33,8 @@ use Rattle.fw_model.proofs.SomeNextLaws.{exactly_one_next, recover-enabled}
 use Rattle.fw_model.proofs.SameInsideLaws.{at_node, IsLowConsistent}
 use Rattle.fw_model.proofs.WriteLaws.{some-checkpoint, checkpoint-some, pairs-append, pairs-passed, pairs-mapped, pairs-replaced, LiesBelow, IsWriteBelow, AreAscending, settled-below, ascending-chain, IsCollectedBelow, IsWriteCollectedBelow, kept-from_ever}
 use Rattle.fw_frontier.proofs.NamesLaws.{within-is}
-use Rattle.fw_model.proofs.LowLaws.{event-low, same-low, keep-append, keep-all, keep-acknowledged, keep-failed, set-grows, at_most-refl, candidate-ever, offered-consistent, low-any, low-within, recovery-low, watermark-front, collection-low, first-low}
+use Rattle.fw_model.proofs.LowLaws.{event-low, same-low, keep-append, keep-all, keep-acknowledged, keep-failed, set-grows, candidate-ever, offered-consistent, low-any, low-within, recovery-low, watermark-front, collection-low, first-low}
 use Rattle.fw_model.proofs.DomainLaws.{has_epochs}
-use Rattle.fw_time.proofs.EachLaws.{each-weaker, each-append, each-one, each-map}
 use Rattle.fw_model.specs.Measure.{enough_rounds}
 use Rattle.fw_model.specs.Choosing.{AreCheckpointsChains, CanChoose, HasItsChoice, low_choice}
 use Rattle.fw_model.specs.Settled.{IsFull}

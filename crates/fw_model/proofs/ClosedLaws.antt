@@ -3,6 +3,7 @@ use Rattle.std.proofs.Common.{◌≡◌, ℕ, true, false, not, ◌&&◌, ◌==�
 use Rattle.std.specs.List.{AllByRecursion}
 use Rattle.std.specs.Prelude.{filter}
 use Rattle.std.proofs.lemmas.Bool.{eq-eqb, and_parts, and_from, cond_both, cond-false, eqb-true, false_from_ne_true}
+use Rattle.fw_lemmas.proofs.Bools.{two_ways}
 use Rattle.fw_time.specs.Stamp.{Stamp, leq, same}
 use Rattle.fw_time.proofs.StampLaws.{leq-trans}
 use Rattle.fw_frontier.specs.Frontier.{Frontier}
@@ -22,7 +23,6 @@ use Rattle.fw_model.proofs.PendingLaws.{is_among-some_at}
 use Rattle.fw_model.proofs.CompleteLaws.{enabled-outside, admissible-stays, quiet-sent, quiet-event, not_owed-notified, not_owed-delivered}
 use Rattle.fw_model.proofs.OrderLaws.{raised-paid}
 use Rattle.fw_model.proofs.StampLaws.{same-is}
-use Rattle.fw_model.proofs.Decisions.{two_ways}
 use Rattle.fw_model.specs.Order.{AreNumberedInOrder}
 
 pub legal-before : (sys : System) (more h : List Event) → IsLegal sys (more ++ h) → IsLegal sys h

@@ -1,18 +1,18 @@
 -- The orders of stamps and messages are total, and of what satisfies a decided property one is least.
-use Rattle.std.proofs.Common.{◌≡◌, true, false, ◌&&◌, List, [], ◌∷◌, refl, sym, ap, ◌∙◌, inl, inr, ◌⊎◌}
+use Rattle.std.proofs.Common.{◌≡◌, true, false, List, [], ◌∷◌, refl, sym, ap, ◌∙◌, inl, inr, ◌⊎◌}
 use Rattle.std.specs.List.{AllByRecursion}
 use Rattle.std.specs.Cmp.{IsTotalOrder}
 use Rattle.std.specs.declared.cmp.Ordering.{Ordering}
 use Rattle.std.specs.declared.cmp.Ordering.TheVariants.{Less, Equal, Greater}
-use Rattle.std.specs.Ordering.{ordering_then, ordering_reverse, is_eq, is_gt}
+use Rattle.std.specs.Ordering.{ordering_reverse, is_eq, is_gt}
 use Rattle.std.specs.Cmp.Lexicographic.{slice_cmp}
 use Rattle.std.proofs.lemmas.Bool.{cases_Bool}
 use Rattle.std.proofs.lemmas.Cmp.{nat_list_cmp_total, lists_total, tied_itself, upto}
 use Rattle.std.proofs.lemmas.Map.Lookups.{exact_bytes}
+use Rattle.fw_lemmas.proofs.Each.{each-weaker}
+use Rattle.fw_lemmas.proofs.Orderings.{equal_from_is_eq, slice_cmp-same}
 use Rattle.fw_time.specs.Stamp.{Stamp, stamp_cmp}
-use Rattle.fw_time.proofs.EachLaws.{each-weaker}
 use Rattle.fw_frontier.specs.Front.{Front}
-use Rattle.fw_bag.proofs.OrderingLaws.{equal_from_is_eq, slice_cmp-same}
 use Rattle.fw_model.proofs.Decisions.{Decided}
 
 -- ---- elements that an order finds equal are one
@@ -28,22 +28,6 @@ stamp_total = nat_list_cmp_total
 
 pub stamp_cmp-equal : (s t : Stamp) → is_eq (stamp_cmp s t) ≡ true → s ≡ t
 stamp_cmp-equal s t e = stamp_cmp-same s t (equal_from_is_eq (stamp_cmp s t) e)
-
-pub then_parts : (o p : Ordering) → is_eq (ordering_then o p) ≡ (is_eq o && is_eq p)
-then_parts Less p = refl
-then_parts Equal p = refl
-then_parts Greater p = refl
-
--- elements of which neither is greater are tied
-pub tied : {K : Type 0} {R : K → K → Ordering} → IsTotalOrder R → (x y : K) → is_gt (R x y) ≡ false → is_gt (R y x) ≡ false → R x y ≡ Equal
-tied {R} o x y h k = by (R x y) (R y x) (o.antisymm x y) h k
-  where
-    by : (a b : Ordering) → a ≡ ordering_reverse b → is_gt a ≡ false → is_gt b ≡ false → a ≡ Equal
-    by Less Less e h k = absurd (cc)
-    by Less Equal e h k = absurd (cc)
-    by Less Greater e h k = absurd (cc)
-    by Equal b e h k = refl
-    by Greater b e h k = absurd (cc)
 
 -- one of two elements is not greater than the other
 pub not_greater : {K : Type 0} {R : K → K → Ordering} → IsTotalOrder R → (x y : K) → is_gt (R x y) ≡ true → is_gt (R y x) ≡ false

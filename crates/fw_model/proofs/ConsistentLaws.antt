@@ -3,6 +3,7 @@ use Rattle.std.proofs.Common.{◌≡◌, ℕ, suc, ◌≤◌, Bool, true, false,
 use Rattle.std.specs.List.{AllByRecursion}
 use Rattle.std.specs.Ordering.{is_lt}
 use Rattle.std.proofs.lemmas.Bool.{and_parts, and_from, cases_Bool}
+use Rattle.fw_lemmas.proofs.Bools.{two_ways}
 use Rattle.fw_time.specs.Stamp.{Stamp, leq, in_domain, stamp_cmp}
 use Rattle.fw_time.specs.declared.stamp.Bounds.{Bounds}
 use Rattle.fw_time.proofs.DomainLaws.{domain-leq}
@@ -22,7 +23,7 @@ use Rattle.fw_flow.specs.declared.restoring.Restoring.TheVariants.{Batches, Boun
 use Rattle.fw_flow.specs.Restoring.{can_resend, way_of}
 use Rattle.fw_model.specs.Covers.{takes_its_cut, takes_its_notices, stamps_inside, stamps_from, notified_inside, discarded_at, covers_in, set_of, tallies_in}
 use Rattle.fw_model.proofs.CmpLaws.{decided-front}
-use Rattle.fw_model.proofs.Decisions.{two_ways, Decided, decided-test, decided-or, decided-as, decided-and, decided-if, decided-number, decided-places, decided-each, find_place}
+use Rattle.fw_model.proofs.Decisions.{Decided, decided-test, decided-or, decided-as, decided-and, decided-if, decided-number, decided-places, decided-each, find_place}
 use Rattle.fw_model.proofs.StampLists.{find_stamp}
 
 -- ---- within

@@ -1,10 +1,7 @@
 -- Decided statements.
 use Rattle.std.proofs.Common.{◌≡◌, ℕ, zero, suc, ◌<◌, Bool, true, false, List, [], ◌∷◌, refl, subst, inl, inr, ◌⊎◌, arith}
 use Rattle.std.specs.List.{AllByRecursion}
-use Rattle.std.proofs.lemmas.Bool.{cases_lt, both_ways}
-
-pub two_ways : (b : Bool) → b ≡ true → b ≡ false → ⊥
-two_ways b p q = both_ways b q p
+use Rattle.std.proofs.lemmas.Bool.{cases_lt}
 
 -- a statement is decided where it is proved or refuted
 abbrev pub Decided : Type 0 → Type 0

@@ -2,9 +2,9 @@
 use Rattle.std.proofs.Common.{◌≡◌, ℕ, zero, suc, ◌+◌, ◌≤◌, true, nat_le, List, [], ◌∷◌, length, Option, Some, None, map, refl, sym, ap, subst, ◌∙◌, arith}
 use Rattle.std.proofs.lemmas.Bool.{cond_both, and_from}
 use Rattle.std.specs.List.{AllByRecursion, flat_map}
+use Rattle.fw_lemmas.proofs.Each.{each-weaker, each-append, each-mapped}
 use Rattle.fw_bag.specs.declared.rec.Rec.{Rec}
 use Rattle.fw_time.specs.Stamp.{Stamp, leq, in_domain}
-use Rattle.fw_time.proofs.EachLaws.{each-weaker, each-append}
 use Rattle.fw_flow.specs.declared.kind.Kind.{Kind}
 use Rattle.fw_flow.specs.declared.kind.Kind.TheVariants.{Input, OutputEpoch, OutputNumber, Distinct, Join, Sum, Total, Sequence, Ledger}
 use Rattle.fw_flow.specs.Dataflow.{System, Dataflow, kind_of, sender, receiver, in_edges, batches_of, greatest_number, domain_of_kind, out_domain_of_kind, bounds_of, bounds_of_domain, send_stamp_of_kind, HasEpochs}
@@ -36,10 +36,6 @@ each-flat_map : {A B : Type 0} (P : A → Type 0) (Q : B → Type 0) (g : A → 
     → (xs : List A) → AllByRecursion P xs → AllByRecursion Q (flat_map g xs)
 each-flat_map P Q g w [] a = tt
 each-flat_map P Q g w (x ∷ xs) a = each-append Q (g x) (flat_map g xs) (w x a.0) (each-flat_map P Q g w xs a.1)
-
-each-map : {A B : Type 0} (P : A → Type 0) (Q : B → Type 0) (g : A → B) → ((x : A) → P x → Q (g x)) → (xs : List A) → AllByRecursion P xs → AllByRecursion Q (map g xs)
-each-map P Q g w [] a = tt
-each-map P Q g w (x ∷ xs) a = (w x a.0, each-map P Q g w xs a.1)
 
 each-distinct : (P : Timed → Type 0) (rs : List Timed) → AllByRecursion P rs → AllByRecursion P (distinct_timed rs)
 each-distinct P [] a = tt
@@ -108,7 +104,7 @@ outputs-in_domain flow Total batches bags l a =
     each-flat_map P (At P) _ (λ t i. each-timed P t i _) (distinct_stamps (joint_bag bags)) (each-stamp P (joint_bag bags) (each-together (At P) bags a))
 outputs-in_domain flow Sequence batches bags l a = each-numbered 0 (in_order (joint_bag bags))
 outputs-in_domain flow Ledger batches bags l a =
-    let P = At (IsIn flow Ledger) in each-map P P _ (λ r i. i) (joint_bag bags) (each-together P bags a)
+    let P = At (IsIn flow Ledger) in each-mapped P P _ (λ r i. i) (joint_bag bags) (each-together P bags a)
 outputs-in_domain flow kind batches bags l a =
     each-one_by_one flow kind (joint_bag bags) (each-together (At (IsIn flow kind)) bags a)
 
@@ -132,7 +128,7 @@ outputs_of-in_domain sys w h family a e =
     (λ r i. sym (ap (λ d. in_domain (bounds_of_domain flow d) r.at) (edge_domains flow w e)) ∙ i)
     (each-in_order (At (IsOut flow kind)) out
     (outputs-in_domain flow kind batches (map family ds) (h q)
-    (each-map (λ d. receiver flow d ≡ q) (AllByRecursion (At (IsIn flow kind))) family
+    (each-mapped (λ d. receiver flow d ≡ q) (AllByRecursion (At (IsIn flow kind))) family
     (λ d r. subst (λ (p : ℕ). AllByRecursion (λ (x : Timed). in_domain (bounds_of flow p) x.at ≡ true) (family d)) r (a d)) ds
     (each-weaker _ (λ d. receiver flow d ≡ q) ds (λ d i. i.1) (in_edges-each flow q)))))
 

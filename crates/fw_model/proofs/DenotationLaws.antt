@@ -2,6 +2,7 @@
 use Rattle.std.proofs.Common.{◌≡◌, ℕ, zero, suc, ◌<◌, ◌≤◌, [], length, get_or, map, refl, sym, ap, subst, ◌∙◌, inl, inr, ◌⊎◌, arith}
 use Rattle.std.proofs.lemmas.Bool.{cases_lt}
 use Rattle.std.proofs.lemmas.List.{get_or_past}
+use Rattle.fw_lemmas.proofs.Each.{each-one}
 use Rattle.fw_flow.specs.declared.kind.Kind.TheVariants.{OutputEpoch}
 use Rattle.fw_flow.specs.declared.node.Edge.{Edge}
 use Rattle.fw_flow.specs.Dataflow.{System, Dataflow, idle_node, kind_of, sender, receiver, in_edges, batches_of}
@@ -12,7 +13,6 @@ use Rattle.fw_model.specs.LawsOfDenotation.{DenotationIsTheOnlyOne, DenotationEx
 use Rattle.fw_model.proofs.TimedLaws.{IsAscendingTimed, ascending-in_order, how_often_timed, same_from_how_often, in_order-twice}
 use Rattle.fw_model.proofs.MeasureLaws.{measure-exists}
 use Rattle.fw_model.proofs.DependenceLaws.{AreAscending, map-agree, outputs-agree}
-use Rattle.fw_time.proofs.EachLaws.{each-one}
 use Rattle.fw_model.specs.Measure.{Measure, enough_rounds}
 
 -- ---- past the last edge

@@ -1,11 +1,14 @@
 -- Where all has come, what was sent is the denotation, if each sequence sent a first part of what it sends in all.
 use Rattle.std.proofs.Common.{◌≡◌, ◌⊎◌, ℕ, ◌+◌, ◌<◌, ◌≤◌, Bool, true, false, not, ◌&&◌, ◌||◌, List, [], ◌∷◌, ◌++◌, length, map, Some, refl, sym, ap, subst, ◌∙◌, inl, inr, arith}
 use Rattle.std.specs.Prelude.{filter}
-use Rattle.std.specs.Ordering.{is_gt, is_lt, ordering_then, ordering_reverse}
+use Rattle.std.specs.Ordering.{is_gt, is_lt, ordering_reverse}
 use Rattle.std.specs.declared.cmp.Ordering.{Ordering}
 use Rattle.std.specs.declared.cmp.Ordering.TheVariants.{Less, Equal, Greater}
 use Rattle.std.proofs.lemmas.Bool.{and_parts, cases_Bool, not-true}
 use Rattle.std.proofs.lemmas.Cmp.{nat_list_cmp_total}
+use Rattle.fw_lemmas.proofs.Bools.{two_ways}
+use Rattle.fw_lemmas.proofs.Filters.{filter-all, filter-none}
+use Rattle.fw_lemmas.proofs.Orderings.{gt_then}
 use Rattle.fw_time.specs.Stamp.{Stamp, leq, stamp_cmp, in_domain}
 use Rattle.fw_time.proofs.StampLaws.{before-from_leq}
 use Rattle.fw_bag.specs.declared.rec.Rec.{Rec}
@@ -39,8 +42,6 @@ use Rattle.fw_model.proofs.NotifiedLaws.{none_came}
 use Rattle.fw_model.proofs.KindLaws.{is_inner, AgreeFor, outputs-same, arrives, delivered_bag}
 use Rattle.fw_model.proofs.SequencedLaws.{IsMember, each_member, filter-parts, Precedes, numbered-append, numbered-from, length-weigh, length-messages}
 use Rattle.fw_model.proofs.DomainLaws.{sort_of, inner_edge, sequence_edge, output-sent, output-outputs, edge-bounds, EdgeStamp, along, from_earlier, each_in_edge, denoted-in_domain, delivered-in_domain, has_epochs}
-use Rattle.fw_model.proofs.FilterLaws.{filter-none, filter-all}
-use Rattle.fw_model.proofs.Decisions.{two_ways}
 use Rattle.fw_model.specs.Sending.{SendsByStamp}
 
 -- what was sent on the edge at the stamp is what the family has there
@@ -87,11 +88,6 @@ pub ordered-member : (xs : List Timed) (r : Timed) → IsMember r (in_order xs) 
 ordered-member xs r l = let a = in_order-weigh (one r.at r.rec) xs in omega arith
 
 -- ---- one stamp after another
-
-gt_then : (o p : Ordering) → is_gt o ≡ true → is_gt (ordering_then o p) ≡ true
-gt_then Less p k = cc
-gt_then Equal p k = cc
-gt_then Greater p k = refl
 
 lt_reverse : (o : Ordering) → is_lt o ≡ true → is_gt (ordering_reverse o) ≡ true
 lt_reverse Less k = refl

@@ -3,6 +3,7 @@ use Rattle.std.proofs.Common.{◌≡◌, ℕ, zero, suc, ◌+◌, ◌<◌, ◌�
 use Rattle.std.specs.List.{AllByRecursion}
 use Rattle.std.proofs.lemmas.Bool.{and_parts, and_from, cases_lt, eqb-true, eq-eqb, not-true}
 use Rattle.std.proofs.lemmas.List.{get_or_past}
+use Rattle.fw_lemmas.proofs.Bools.{same_tests, implies-from}
 use Rattle.fw_time.specs.Stamp.{Stamp, leq, same, in_domain}
 use Rattle.fw_time.proofs.StampLaws.{leq-refl, leq-trans}
 use Rattle.fw_time.proofs.DomainLaws.{domain-leq}
@@ -22,7 +23,6 @@ use Rattle.fw_model.specs.History.{some_at, delivered_messages, pending_messages
 use Rattle.fw_model.specs.LawsOfExistence.{CompleteExists, CompleteIsTheOnlyOne}
 use Rattle.fw_model.proofs.CompleteLaws.{past_edges-idle}
 use Rattle.fw_model.proofs.PhiLaws.{phi-monotone}
-use Rattle.fw_model.proofs.PsiLaws.{same_tests}
 use Rattle.fw_model.proofs.FrontierLaws.{phi-frontier}
 use Rattle.fw_model.proofs.StampLists.{each_below, each_below-at, each_below-from, stamps, each_stamp-at, each_up_to, each_up_to-at, each_up_to-from}
 
@@ -31,10 +31,6 @@ use Rattle.fw_model.proofs.StampLists.{each_below, each_below-at, each_below-fro
 pub implies-at : (a b : Bool) → (not a || b) ≡ true → a ≡ true → b ≡ true
 implies-at true b k e = k
 implies-at false b k e = absurd (cc)
-
-pub implies-from : (a b : Bool) → (a ≡ true → b ≡ true) → (not a || b) ≡ true
-implies-from true b h = h refl
-implies-from false b h = refl
 
 -- ---- a family counts the less, the less it has inside
 

@@ -4,6 +4,8 @@ use Rattle.std.proofs.Math.Bool.{and_comm}
 use Rattle.std.specs.Ordering.{is_eq}
 use Rattle.std.proofs.lemmas.Bool.{or_cases, or_parts, cond_both, cond-false, cases_Bool}
 use Rattle.std.proofs.lemmas.Cmp.{tied_itself, nat_list_cmp_total}
+use Rattle.fw_lemmas.proofs.Bools.{two_ways}
+use Rattle.fw_lemmas.proofs.Orderings.{then_parts}
 use Rattle.fw_time.specs.Stamp.{Stamp, leq, same, stamp_cmp}
 use Rattle.fw_bag.specs.declared.rec.Rec.{Rec}
 use Rattle.fw_bag.specs.Rec.{rec_cmp}
@@ -20,8 +22,7 @@ use Rattle.fw_model.proofs.SentLaws.{timed_of, timed_message}
 use Rattle.fw_model.proofs.ArrivalLaws.{deliveries}
 use Rattle.fw_model.proofs.InputLaws.{timed_of-messages_at_some, sent-weigh}
 use Rattle.fw_model.proofs.StampLaws.{same-is, same-refl}
-use Rattle.fw_model.proofs.CmpLaws.{then_parts, stamp_cmp-equal}
-use Rattle.fw_model.proofs.Decisions.{two_ways}
+use Rattle.fw_model.proofs.CmpLaws.{stamp_cmp-equal}
 
 -- 1 for each number but 0
 unfoldable pub sign : ℕ → ℕ

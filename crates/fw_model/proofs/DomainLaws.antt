@@ -3,8 +3,10 @@ use Rattle.std.proofs.Common.{◌≡◌, ◌⊎◌, ℕ, ◌<◌, true, false, �
 use Rattle.std.specs.List.{AllByRecursion}
 use Rattle.std.specs.Ordering.{is_eq}
 use Rattle.std.proofs.lemmas.Bool.{cases_Bool, cases_lt}
+use Rattle.fw_lemmas.proofs.Bools.{two_ways}
+use Rattle.fw_lemmas.proofs.Each.{each-weaker}
+use Rattle.fw_lemmas.proofs.Numbers.{by_measure}
 use Rattle.fw_time.specs.Stamp.{Stamp, leq, same, in_domain}
-use Rattle.fw_time.proofs.EachLaws.{each-weaker}
 use Rattle.fw_bag.specs.declared.rec.Rec.{Rec}
 use Rattle.fw_bag.specs.Rec.{rec_cmp}
 use Rattle.fw_flow.specs.declared.event.Event.{Event}
@@ -23,13 +25,12 @@ use Rattle.fw_model.proofs.WeightLaws.{weigh, one, one-out}
 use Rattle.fw_model.proofs.SentLaws.{timed_of, timed_message, delivered-lighter}
 use Rattle.fw_model.specs.Measure.{Measure}
 use Rattle.fw_model.proofs.MeasureLaws.{measure-exists}
-use Rattle.fw_model.proofs.StampMeasures.{by_measure, IsEarlier, earlier-sends}
+use Rattle.fw_model.proofs.StampMeasures.{IsEarlier, earlier-sends}
 use Rattle.fw_model.proofs.DenotationDomainLaws.{denotation-in_domain}
 use Rattle.fw_model.proofs.ArrivalLaws.{in_edges-receive}
 use Rattle.fw_model.proofs.InputLaws.{sent-weigh}
 use Rattle.fw_model.proofs.KindLaws.{is_inner}
 use Rattle.fw_model.proofs.StampLaws.{same-is}
-use Rattle.fw_model.proofs.Decisions.{two_ways}
 
 -- ---- sorts of kinds
 

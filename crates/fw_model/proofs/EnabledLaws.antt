@@ -3,6 +3,7 @@ use Rattle.std.proofs.Common.{◌≡◌, ℕ, ◌+◌, Bool, true, false, not, �
 use Rattle.std.specs.List.{AllByRecursion, list_any}
 use Rattle.std.specs.Ordering.{is_gt}
 use Rattle.std.proofs.lemmas.Bool.{and_parts, and_from, or_cases, or_left, or_right, or_from, cases_Bool, cases_lt, false_from_ne_true}
+use Rattle.fw_lemmas.proofs.Bools.{two_ways}
 use Rattle.fw_bag.specs.declared.rec.Rec.{Rec}
 use Rattle.fw_time.specs.Stamp.{Stamp, leq, lesser, same, stamp_cmp}
 use Rattle.fw_time.proofs.StampLaws.{leq-antisym}
@@ -27,7 +28,7 @@ use Rattle.fw_model.proofs.StampLaws.{same-is, same-from}
 use Rattle.fw_model.proofs.CmpLaws.{decided-stamp, decided-front, stamp_total, find_least}
 use Rattle.fw_flow.specs.Message.{is_among, message_cmp}
 use Rattle.fw_flow.proofs.MessageLaws.{message_total, among-each}
-use Rattle.fw_model.proofs.Decisions.{two_ways, Decided, decided-test, decided-or, decided-below, find_place}
+use Rattle.fw_model.proofs.Decisions.{Decided, decided-test, decided-or, decided-below, find_place}
 use Rattle.fw_model.proofs.DescentLaws.{is_quiet, quiet-at, quiet-from, past_edges-receiver, follows_all, follows_all-at, follows_all-from, complete-exists, complete-one}
 use Rattle.fw_model.proofs.PhiLaws.{phi-monotone}
 use Rattle.fw_model.proofs.SettleLaws.{settled-grows}

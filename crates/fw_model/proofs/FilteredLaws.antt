@@ -3,9 +3,9 @@ use Rattle.std.proofs.Common.{◌≡◌, ℕ, ◌≤◌, Bool, true, false, cond
 use Rattle.std.specs.List.{AllByRecursion, flat_map}
 use Rattle.std.proofs.lemmas.Bool.{and_from, or_left, or_right, cond_both, cases_lt}
 use Rattle.std.proofs.lemmas.List.{get_or_past}
+use Rattle.fw_lemmas.proofs.Each.{each-weaker}
 use Rattle.fw_time.specs.Stamp.{Stamp, leq, in_domain}
 use Rattle.fw_time.specs.declared.stamp.Bounds.{Bounds}
-use Rattle.fw_time.proofs.EachLaws.{each-weaker}
 use Rattle.fw_time.proofs.StampLaws.{leq-refl}
 use Rattle.fw_frontier.specs.Frontier.{Frontier, IsFrontier, Within, everything, cover, some_above}
 use Rattle.fw_frontier.specs.Front.{frontier_of}

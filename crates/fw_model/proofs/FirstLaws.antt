@@ -1,12 +1,14 @@
 -- On a numbered edge the least message that is pending is the one that may be delivered.
-use Rattle.std.proofs.Common.{◌≡◌, ℕ, ◌+◌, ◌<◌, ◌≤◌, true, false, cond, ◌==◌, nat_lt, List, [], ◌∷◌, length, refl, sym, ap, subst, ◌∙◌, inl, inr, arith}
-use Rattle.std.specs.Ordering.{nat_cmp, ordering_then, is_eq, is_gt}
-use Rattle.std.specs.declared.cmp.Ordering.TheVariants.{Less, Equal, Greater}
+use Rattle.std.proofs.Common.{◌≡◌, ℕ, ◌+◌, ◌<◌, ◌≤◌, true, false, cond, List, [], ◌∷◌, length, refl, sym, ap, subst, ◌∙◌, inl, inr, arith}
+use Rattle.std.specs.Ordering.{ordering_then, is_eq, is_gt}
+use Rattle.std.specs.declared.cmp.Ordering.TheVariants.{Equal, Greater}
 use Rattle.std.specs.Cmp.Lexicographic.{slice_cmp}
-use Rattle.std.proofs.lemmas.Bool.{cases_Bool, cases_lt, cond-false, or_cases, or_left, or_right, ltb-true, eqb-true}
+use Rattle.std.proofs.lemmas.Bool.{cases_Bool, cases_lt, cond-false, or_cases, or_left, or_right}
 use Rattle.std.proofs.lemmas.Cmp.{tied_itself}
+use Rattle.fw_lemmas.proofs.Bools.{two_ways}
+use Rattle.fw_lemmas.proofs.Each.{each-one}
+use Rattle.fw_lemmas.proofs.Orderings.{nat_cmp-greater}
 use Rattle.fw_time.specs.Stamp.{Stamp, same, stamp_cmp}
-use Rattle.fw_time.proofs.EachLaws.{each-one}
 use Rattle.fw_bag.specs.Rec.{rec_cmp}
 use Rattle.fw_flow.specs.Counting.{how_many}
 use Rattle.fw_flow.specs.declared.event.Event.{Event}
@@ -16,7 +18,6 @@ use Rattle.fw_flow.specs.Message.{message_cmp, is_among}
 use Rattle.fw_model.specs.History.{some_at, delivered_messages, pending_messages}
 use Rattle.fw_model.proofs.ArrivalLaws.{weigh-both}
 use Rattle.fw_flow.proofs.MessageLaws.{among-each, message_cmp-equal, message_total}
-use Rattle.fw_model.proofs.Decisions.{two_ways}
 use Rattle.fw_model.proofs.OncePerNumberLaws.{any_at}
 use Rattle.fw_model.proofs.SentLaws.{copy, is_among-copies}
 use Rattle.fw_time.proofs.StampLaws.{same-is}
@@ -55,21 +56,12 @@ at-some t (x ∷ xs) k = elim (or_cases (same t x.at) (some_at (same t) xs) k) [
 
 -- ---- the least
 
-greater-number : (k n : ℕ) → n < k → nat_cmp k n ≡ Greater
-greater-number k n l = elim (cases_Bool (nat_lt k n)) [
-  | inl e ↦ let m = ltb-true k n e in absurd (omega arith)
-  | inr e ↦ cond-false (nat_lt k n) Less (cond (k == n) Equal Greater) e ∙ (elim (cases_Bool (k == n)) [
-    | inl f ↦ let i = eqb-true k n f in absurd (omega arith)
-    | inr f ↦ cond-false (k == n) Equal Greater f
-  ])
-]
-
 -- a message at a number that is not greater than another is at no greater number
 least-number : (m x : Message) (k n : ℕ) → m.at ≡ k ∷ [] → x.at ≡ n ∷ [] → is_gt (message_cmp m x) ≡ false → k ≤ n
 least-number m x k n i j g = elim (cases_lt n k) [
   | inl l ↦
       let stamps : stamp_cmp m.at x.at ≡ Greater =
-      ap (λ s. stamp_cmp s x.at) i ∙ ap (λ s. stamp_cmp (k ∷ []) s) j ∙ ap (λ o. ordering_then o Equal) (greater-number k n l) in
+      ap (λ s. stamp_cmp s x.at) i ∙ ap (λ s. stamp_cmp (k ∷ []) s) j ∙ ap (λ o. ordering_then o Equal) (nat_cmp-greater k n l) in
       let more : message_cmp m x ≡ Greater = ap (λ o. ordering_then o (ordering_then (rec_cmp m.rec x.rec) (slice_cmp stamp_cmp m.causes x.causes))) stamps in
       absurd (two_ways (is_gt (message_cmp m x)) (ap is_gt more) g)
   | inr l ↦ l

@@ -2,6 +2,10 @@
 use Rattle.std.proofs.Common.{◌≡◌, ◌↔◌, ℕ, ◌<◌, Bool, true, false, not, ◌&&◌, ◌||◌, ◌==◌, List, [], ◌∷◌, ◌++◌, length, filter, map, refl, sym, ap, subst, ◌∙◌, inl, inr, arith}
 use Rattle.std.specs.List.{AllByRecursion, list_any}
 use Rattle.std.proofs.lemmas.Bool.{not-true, and_parts, and_from, or_parts, or_cases, or_left, or_right, cond_both, eqb-true, false_from_ne_true}
+use Rattle.fw_lemmas.proofs.Bools.{two_ways}
+use Rattle.fw_lemmas.proofs.Each.{each-weaker, each-both, each-one, each-append, each-suffix, each-map, each_of-map, each-passed, each-replaced}
+use Rattle.fw_lemmas.proofs.Filters.{any-filter}
+use Rattle.fw_lemmas.proofs.Numbers.{at_most-refl}
 use Rattle.fw_frontier.specs.Frontier.{Within}
 use Rattle.fw_frontier.specs.Front.{Front, frontier_of, IsCanonical, same_front, is_within}
 use Rattle.fw_flow.specs.declared.choice.Cut.TheVariants.{At}
@@ -20,17 +24,13 @@ use Rattle.fw_flow.specs.declared.choice.Choice.{Choice}
 use Rattle.fw_model.specs.Choice.{kept, ever, is_counted, IsLogged, IsRestorable, IsCandidate, cut_of, kept_of, IsConsistent, filtered_history}
 use Rattle.fw_model.specs.Steps.{Effect, Outcome, did, idle, LeadsTo, Run, write_of_event, with_event, checkpoint_of, is_eager, is_in_flight, is_kept_write, front_of_cut, is_given_up, is_serial_given_up, lies_below, after_collection}
 use Rattle.fw_model.specs.LawsOfRestoring.{WhatIsForgottenWasAcknowledged, CollectedIsWhatLiesBelow}
-use Rattle.fw_model.proofs.Decisions.{two_ways}
-use Rattle.fw_model.proofs.FilterLaws.{any-filter}
 use Rattle.fw_frontier.proofs.NamesLaws.{is_within-holds, within-is}
-use Rattle.fw_model.proofs.CheckpointLaws.{each-passed, each-replaced}
 use Rattle.fw_model.proofs.SameInsideLaws.{at_node}
 use Rattle.fw_model.proofs.WriteLaws.{HoldsOfOne, IsCheckpointAt, IsItsCheckpoint, NamesEvent, LogsEvent, some-checkpoint, some-logged, ArePairs, LiesBelow, AreAscending}
-use Rattle.fw_model.proofs.LowLaws.{at_most-refl, low-within_settled, event-outside, none-within, watermark-front, kept-counts}
+use Rattle.fw_model.proofs.LowLaws.{low-within_settled, event-outside, none-within, watermark-front, kept-counts}
 use Rattle.fw_model.proofs.ChoosingLaws.{settled_writes}
 use Rattle.fw_model.proofs.AskedLaws.{takes-declared, takes-restoring, takes-not_input, AreSerialsBelow, serials-each, any-find, LowGrows, given-stamp, given-grows, IsAskedWell, IsWriteAskedWell, IsApart, low-grows, CanRecoverAndRestore, took-reached, first-reached, reached-all}
 use Rattle.fw_model.proofs.RestoringLaws.{full-reached, low-kept, apart-events, all-logged, full-restoring, full-declared}
-use Rattle.fw_time.proofs.EachLaws.{each-weaker, each-both, each-append, each-one, each-suffix, each_of-map, each-map}
 
 -- ---- writes are acknowledged in order
 

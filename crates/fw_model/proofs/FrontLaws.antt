@@ -2,9 +2,10 @@
 use Rattle.std.proofs.Common.{◌&&◌, ◌≡◌, Bool, true, false, not, List, [], ◌∷◌, filter, refl, ap, inl, inr}
 use Rattle.std.specs.List.{AllByRecursion}
 use Rattle.std.proofs.lemmas.Bool.{and_parts, and_from, cases_Bool, false_from_ne_true}
+use Rattle.fw_lemmas.proofs.Bools.{two_ways, same_tests}
+use Rattle.fw_lemmas.proofs.Each.{each-filter, each_of-filter}
 use Rattle.fw_time.specs.Stamp.{Stamp, leq, in_domain}
 use Rattle.fw_time.specs.declared.stamp.Bounds.{Bounds}
-use Rattle.fw_time.proofs.EachLaws.{each-filter, each_of-filter}
 use Rattle.fw_time.proofs.StampLaws.{leq-refl}
 use Rattle.fw_time.proofs.DomainLaws.{domain-leq}
 use Rattle.fw_frontier.specs.Frontier.{Frontier, IsFrontier}
@@ -13,8 +14,6 @@ use Rattle.fw_frontier.specs.Outside.{front_without_all}
 use Rattle.fw_frontier.proofs.BelowLaws.{names-as}
 use Rattle.fw_frontier.proofs.NamesLaws.{names-until}
 use Rattle.fw_model.specs.LawsOfExistence.{FrontierHasFront}
-use Rattle.fw_model.proofs.Decisions.{two_ways}
-use Rattle.fw_model.proofs.PsiLaws.{same_tests}
 use Rattle.fw_model.proofs.StampLists.{stamps, each_stamp-at, each_stamp-from}
 
 pub inside-from : (os : Front) (t : Stamp) → AllByRecursion (λ o. leq o t ≡ false) os → inside os t ≡ true

@@ -5,8 +5,8 @@ use Rattle.std.specs.Prelude.{filter}
 use Rattle.std.specs.Ordering.{is_eq}
 use Rattle.std.proofs.Math.Nat.{add_comm}
 use Rattle.std.proofs.lemmas.Bool.{cond_both, cases_Bool, eqb-true, eqb-false, eq-eqb, ne_eqb}
+use Rattle.fw_lemmas.proofs.Each.{each-one}
 use Rattle.fw_time.specs.Stamp.{Stamp, same}
-use Rattle.fw_time.proofs.EachLaws.{each-one}
 use Rattle.fw_bag.specs.declared.rec.Rec.{Rec}
 use Rattle.fw_bag.specs.Rec.{rec_cmp}
 use Rattle.fw_bag.specs.Bag.{how_often}

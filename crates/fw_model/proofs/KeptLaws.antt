@@ -3,8 +3,9 @@ use Rattle.std.proofs.Common.{◌≡◌, ℕ, ◌+◌, ◌≤◌, Bool, true, fa
 use Rattle.std.specs.List.{AllByRecursion, list_any}
 use Rattle.std.specs.Ordering.{is_eq}
 use Rattle.std.proofs.lemmas.Bool.{and_parts, cond_both, eqb-true, eq-eqb}
+use Rattle.fw_lemmas.proofs.Each.{each-weaker, each-both, each-one, each-suffix}
+use Rattle.fw_lemmas.proofs.Filters.{filter-all, any-filter}
 use Rattle.fw_time.specs.Stamp.{Stamp, leq, same}
-use Rattle.fw_time.proofs.EachLaws.{each-weaker, each-both, each-one, each-suffix}
 use Rattle.fw_time.proofs.StampLaws.{leq-trans}
 use Rattle.fw_frontier.specs.Frontier.{Frontier}
 use Rattle.fw_flow.specs.declared.event.Event.{Event}
@@ -22,7 +23,7 @@ use Rattle.fw_flow.proofs.MessageLaws.{among-each, message_cmp-equal, less-each}
 use Rattle.fw_model.proofs.StampLaws.{leq_from, leq_to, line-leq, same-is}
 use Rattle.fw_model.proofs.OrderLaws.{legal-inside_phi}
 use Rattle.fw_model.proofs.ClosedLaws.{numbered-ascend}
-use Rattle.fw_model.proofs.FilterLaws.{filter-all, any-filter, any_filter-none, how_many-filter, pending-kept}
+use Rattle.fw_model.proofs.FilterLaws.{any_filter-none, how_many-filter, pending-kept}
 use Rattle.fw_model.proofs.LocalityLaws.{sends-same, delivers-same}
 use Rattle.fw_model.specs.Order.{AreNumberedInOrder}
 use Rattle.fw_model.specs.Filtering.{AreFrontiers, kept_events, messages_from, messages_inside, HaveKeptCauses}

@@ -3,9 +3,9 @@ use Rattle.std.proofs.Common.{◌≡◌, ℕ, ◌+◌, ◌<◌, ◌≤◌, Bool,
 use Rattle.std.specs.List.{AllByRecursion}
 use Rattle.std.proofs.lemmas.Bool.{cond_both, cases_Bool}
 use Rattle.fw_time.specs.Stamp.{Stamp, leq, same}
-use Rattle.fw_time.proofs.EachLaws.{each-weaker}
 use Rattle.fw_time.proofs.StampLaws.{leq-refl}
 use Rattle.std.specs.Ordering.{is_eq}
+use Rattle.fw_lemmas.proofs.Each.{each-weaker}
 use Rattle.fw_bag.specs.declared.rec.Rec.{Rec}
 use Rattle.fw_bag.specs.Rec.{rec_cmp}
 use Rattle.fw_bag.specs.Bag.{how_often}

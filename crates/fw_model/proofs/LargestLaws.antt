@@ -1,6 +1,7 @@
 -- Where some choice is consistent there is a largest one.
 use Rattle.std.proofs.Common.{ℕ, ◌<◌, Bool, List, [], ◌∷◌, length, map, refl, inl, inr, arith}
 use Rattle.std.specs.List.{AllByRecursion}
+use Rattle.fw_lemmas.proofs.Each.{each-of_places}
 use Rattle.fw_frontier.specs.Front.{Front, IsCanonical}
 use Rattle.fw_flow.specs.declared.choice.Cut.{Cut}
 use Rattle.fw_flow.specs.declared.choice.Cut.TheVariants.{Present, At}
@@ -11,7 +12,7 @@ use Rattle.fw_model.specs.Choice.{View, IsCandidate, cut_of, IsConsistent, IsCut
 use Rattle.fw_model.specs.LawsOfExistence.{LargestChoiceExists}
 use Rattle.fw_model.proofs.ChoiceLaws.{candidates-union, union-consistent, have-union, within-union}
 use Rattle.fw_model.proofs.ConsistentLaws.{consistent-decided}
-use Rattle.fw_model.proofs.ListedLaws.{IsIn, each-in, in-map, pairs_of, in-pairs, lists_of, in-lists, each-of_places, fronts_below, in-fronts_below}
+use Rattle.fw_model.proofs.ListedLaws.{IsIn, each-in, in-map, pairs_of, in-pairs, lists_of, in-lists, fronts_below, in-fronts_below}
 use Rattle.fw_model.specs.Choosing.{AreCheckpointsChains}
 
 -- ---- choices within choices

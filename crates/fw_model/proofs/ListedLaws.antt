@@ -1,5 +1,5 @@
 -- The canonical fronts of a domain, and all lists over given elements, one by one.
-use Rattle.std.proofs.Common.{◌&&◌, ◌≡◌, ℕ, zero, suc, ◌<◌, Bool, not, List, [], ◌∷◌, ◌++◌, length, map, filter, get_or, refl, sym, ap, subst, inl, inr, ◌⊎◌, arith}
+use Rattle.std.proofs.Common.{◌&&◌, ◌≡◌, ℕ, zero, suc, ◌<◌, Bool, not, List, [], ◌∷◌, ◌++◌, length, map, filter, refl, sym, ap, subst, inl, inr, ◌⊎◌, arith}
 use Rattle.std.specs.List.{AllByRecursion}
 use Rattle.std.proofs.lemmas.Bool.{cond_both, cases_lt}
 use Rattle.fw_time.specs.Stamp.{in_domain}
@@ -63,11 +63,6 @@ in-lists xs [] zero l a = inl refl
 in-lists xs [] (suc n) l a = absurd (omega arith)
 in-lists xs (y ∷ ys) zero l a = absurd (omega arith)
 in-lists xs (y ∷ ys) (suc n) l a = in-pairs (λ z zs. z ∷ zs) y ys xs (lists_of xs n) a.0 (in-lists xs ys n (omega arith) a.1)
-
--- what holds at each place of a list holds of each element
-pub each-of_places : {A : Type 0} (P : A → Type 0) (d : A) (xs : List A) → ((p : ℕ) → p < length xs → P (get_or xs p d)) → AllByRecursion P xs
-each-of_places P d [] h = tt
-each-of_places P d (x ∷ xs) h = (h 0 (omega arith), each-of_places P d xs (λ p l. h (suc p) (omega arith)))
 
 -- ---- fronts
 

@@ -4,8 +4,10 @@ use Rattle.std.specs.List.{AllByRecursion, list_any}
 use Rattle.std.proofs.lemmas.Bool.{and_parts, or_cases, or_left, or_right, cond_both, cases_Bool, cases_lt, eqb-true, eq-eqb}
 use Rattle.std.proofs.lemmas.List.{get_or_past}
 use Rattle.std.proofs.lemmas.List.Elements.{filter-append}
+use Rattle.fw_lemmas.proofs.Bools.{two_ways}
+use Rattle.fw_lemmas.proofs.Each.{each-weaker, each-one}
+use Rattle.fw_lemmas.proofs.Filters.{filter-in, filter-out, filter-all, filter-none, filter-inner, filter-swap, flat_map-filter}
 use Rattle.fw_time.specs.Stamp.{Stamp, leq, same, in_domain}
-use Rattle.fw_time.proofs.EachLaws.{each-weaker, each-one}
 use Rattle.fw_time.proofs.StampLaws.{leq-trans}
 use Rattle.fw_bag.specs.Keyed.{joined_rec, distinct_keys, sums_of, is_among, sorted_recs}
 use Rattle.fw_frontier.specs.Frontier.{Frontier, IsFrontier, Within}
@@ -22,9 +24,8 @@ use Rattle.fw_flow.specs.WellFormed.{IsWellFormed, IsInDegree}
 use Rattle.fw_model.proofs.LesserLaws.{lesser-in_domain}
 use Rattle.fw_model.specs.History.{message_on, sent_messages, delivered_messages, was_delivered_to, was_notified, IsEnabled, IsLegal}
 use Rattle.fw_model.specs.LawsOfFiltering.{KeptEventsSendTheSame, KeptEventsSendTheSameFromWithin, KeptEventsDeliverTheSame, PhiOfKeptEvents}
-use Rattle.fw_model.proofs.Decisions.{two_ways}
 use Rattle.fw_model.proofs.StampLaws.{leq_from, leq_to, line-leq, same-is}
-use Rattle.fw_model.proofs.FilterLaws.{filter-in, filter-out, filter-inner, filter-all, filter-none, filter-swap, how_many-filter, flat_map-filter}
+use Rattle.fw_model.proofs.FilterLaws.{how_many-filter}
 use Rattle.fw_model.proofs.SendsLaws.{IsAt, sends_of_kind-each}
 use Rattle.fw_model.proofs.SequenceLaws.{IsNumbered, numbered-each, one_inside}
 use Rattle.fw_model.proofs.OrderLaws.{sequences-in_order}

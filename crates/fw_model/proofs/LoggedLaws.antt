@@ -3,7 +3,9 @@ use Rattle.std.proofs.Common.{◌≡◌, ℕ, ◌<◌, Bool, true, false, not, �
 use Rattle.std.specs.List.{AllByRecursion}
 use Rattle.std.proofs.lemmas.Bool.{or_parts, or_cases, or_left, or_right, cond_both, eqb-true, eq-eqb}
 use Rattle.std.proofs.lemmas.List.FromFn.{get_or-map-range_with_len}
-use Rattle.fw_time.proofs.EachLaws.{each-weaker, each-both, each-append, each-one, each-map}
+use Rattle.fw_lemmas.proofs.Bools.{two_ways}
+use Rattle.fw_lemmas.proofs.Each.{each-weaker, each-both, each-one, each-append, each-map, each-passed, each-replaced, each-each}
+use Rattle.fw_lemmas.proofs.Numbers.{at_most-refl}
 use Rattle.fw_time.specs.Stamp.{in_domain}
 use Rattle.fw_frontier.specs.Front.{Front, frontier_of, same_front}
 use Rattle.fw_flow.specs.declared.choice.Choice.{Choice}
@@ -24,15 +26,12 @@ use Rattle.fw_model.specs.Choice.{kept, IsLogged, IsRestorable, IsCandidate, IsL
 use Rattle.fw_model.specs.Covers.{set_of}
 use Rattle.fw_model.specs.Steps.{Effect, Outcome, did, idle, LeadsTo, Run, write_of_event, with_event, checkpoint_of, is_eager, is_in_flight, with_failed, without_lost, has_serial, is_kept_write, kept_writes, recovered_state, front_of_cut, lies_below, after_collection, collected_writes, offers, AcknowledgesOldest}
 use Rattle.fw_model.specs.Writes.{LogsSerial}
-use Rattle.fw_model.proofs.Decisions.{two_ways}
 use Rattle.fw_model.proofs.LegalLaws.{legal_events-in_domain}
 use Rattle.fw_model.proofs.DomainLaws.{has_epochs}
-use Rattle.fw_model.proofs.CheckpointLaws.{each-passed, each-replaced}
 use Rattle.fw_model.proofs.ChoosingLaws.{settled_writes}
 use Rattle.fw_model.proofs.WriteLaws.{HoldsOfOne, some-weaker, some-append, some-passed, some-mapped, some-replaced, NamesEvent, LogsEvent, some-logged, ArePairs, pairs-append, pairs-passed, pairs-mapped, pairs-replaced}
-use Rattle.fw_model.proofs.AskedLaws.{AreSerialsBelow, serials-each, IsAskedWell, IsWriteAskedWell, each-each, CanRecoverAndRestore, took-reached, first-reached, reached-all}
+use Rattle.fw_model.proofs.AskedLaws.{AreSerialsBelow, serials-each, IsAskedWell, IsWriteAskedWell, CanRecoverAndRestore, took-reached, first-reached, reached-all}
 use Rattle.fw_model.proofs.RestoringLaws.{apart-events, all-logged, full-restoring, full-declared, some-both, only-one}
-use Rattle.fw_model.proofs.LowLaws.{at_most-refl}
 use Rattle.fw_model.specs.LawsOfWrites.{HasEventOf, HasItsEvent, serial_of, logged_serials, AreIncreasing, AreLatestFirst, LoggedEventsAreInOrder, IsLoggedFor, LiveNodesLogEachEvent}
 
 -- the write is one of node p that logs the event of the serial

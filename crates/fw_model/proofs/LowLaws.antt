@@ -4,6 +4,9 @@ use Rattle.std.specs.List.{AllByRecursion}
 use Rattle.std.proofs.lemmas.Bool.{and_parts, and_from, or_parts, or_left, or_right, cond_both, cases_lt, eqb-true, eq-eqb, false_from_ne_true}
 use Rattle.std.proofs.lemmas.List.{get_or-map, length-map}
 use Rattle.std.proofs.lemmas.List.FromFn.{get_or-map-range_with_len, length-map-range_with_len}
+use Rattle.fw_lemmas.proofs.Bools.{two_ways}
+use Rattle.fw_lemmas.proofs.Each.{each-of_places}
+use Rattle.fw_lemmas.proofs.Numbers.{count-grows, at_most-refl}
 use Rattle.fw_time.specs.Stamp.{Stamp, leq, same, in_domain, origin}
 use Rattle.fw_time.specs.declared.stamp.Bounds.{Bounds}
 use Rattle.fw_frontier.specs.Frontier.{Frontier, Within, nothing, cover}
@@ -29,7 +32,6 @@ use Rattle.fw_flow.specs.declared.restoring.Restoring.{Restoring}
 use Rattle.fw_flow.specs.declared.restoring.Restoring.TheVariants.{Batches, Bound, Anything, Checkpoints, Events}
 use Rattle.fw_flow.specs.Restoring.{restoring, can_resend, way_of}
 use Rattle.fw_model.specs.Covers.{takes_its_cut, takes_its_notices, set_of, discarded_at, covers_in, tallies_in}
-use Rattle.fw_model.proofs.Decisions.{two_ways}
 use Rattle.fw_model.proofs.StampLaws.{line-leq, leq-line, same-refl}
 use Rattle.fw_model.proofs.WeightLaws.{weigh}
 use Rattle.fw_flow.proofs.MessageLaws.{among-each}
@@ -37,7 +39,6 @@ use Rattle.fw_model.proofs.ArrivalLaws.{at_edge, in_edges-once}
 use Rattle.fw_model.proofs.ChoiceLaws.{by_batches-input, bounds-input}
 use Rattle.fw_model.proofs.FilteredLaws.{filtered-events, set-frontier}
 use Rattle.fw_model.proofs.InputLaws.{injected-few}
-use Rattle.fw_model.proofs.ListedLaws.{each-of_places}
 use Rattle.fw_model.proofs.PsiLaws.{psi-nothing, psi-monotone}
 use Rattle.fw_model.proofs.RewritingLaws.{AreKeptUpTo, injections-kept}
 use Rattle.fw_model.proofs.CheckpointLaws.{HasWritesSettled, restorable-within}
@@ -48,9 +49,6 @@ use Rattle.fw_model.proofs.WriteLaws.{some-weaker, some-append, some-passed, som
 use Rattle.fw_model.specs.Settled.{IsFull}
 use Rattle.fw_model.specs.Filtering.{AreFrontiers, kept_events}
 use Rattle.fw_model.specs.Choosing.{low_choice}
-
-pub at_most-refl : (n : ℕ) → n ≤ n
-at_most-refl n = omega arith
 
 -- ---- an enabled event lies outside the low watermark
 
@@ -152,10 +150,6 @@ logs-weaker sys p f writes next w [] a = tt
 logs-weaker sys p f writes next w (v ∷ h) a = (λ e i. w v.serial (a.0 e i), logs-weaker sys p f writes next w h a.1)
 
 -- ---- events
-
-count-grows : (b : Bool) (k n : ℕ) → k ≤ n → k ≤ cond b (n + 1) n
-count-grows true k n l = omega arith
-count-grows false k n l = l
 
 still-exhausted : (sys : System) (h : List Event) (v : Event) (p : ℕ) → IsEnabled sys h v → is_exhausted sys h p ≡ true → is_exhausted sys (v ∷ h) p ≡ true
 still-exhausted sys h (Injected s x) p k e =

@@ -2,6 +2,7 @@
 use Rattle.std.proofs.Common.{◌≡◌, ℕ, zero, suc, ◌+◌, ◌-◌, ◌*◌, ◌<◌, ◌≤◌, min, Bool, true, false, ◌&&◌, ◌||◌, ◌==◌, nat_lt, [], ◌∷◌, refl, sym, ap, ◌∙◌, inl, inr, ◌⊎◌, arith}
 use Rattle.std.proofs.lemmas.Bool.{and_parts, and_from, or_left, or_right, cases_Bool, cases_lt, both_ways}
 use Rattle.std.proofs.Math.Nat.{min-le_right}
+use Rattle.fw_lemmas.proofs.Bools.{same_tests}
 use Rattle.fw_time.specs.Stamp.{Stamp, leq, nest, outer, counter, in_domain}
 use Rattle.fw_time.proofs.StampLaws.{leq-refl, counter-nest}
 use Rattle.fw_frontier.specs.Frontier.{Frontier, IsFrontier, Within, everything, meet}
@@ -14,7 +15,6 @@ use Rattle.fw_flow.specs.Projection.{events_at, sent_count, first_coordinate, ea
 use Rattle.fw_model.specs.LawsOfProjections.{PhiOfMeet, PhiOfEverything}
 use Rattle.fw_model.proofs.StampLaws.{nest-leq, in_loop, leq_from, in_line, line-leq}
 use Rattle.fw_model.proofs.PhiLaws.{phi_of_kind-monotone, count-monotone, phi-monotone}
-use Rattle.fw_model.proofs.PsiLaws.{same_tests}
 use Rattle.fw_model.proofs.SendingLaws.{each_counter-from}
 
 -- ---- of two frontiers of one coordinate, one is within the other

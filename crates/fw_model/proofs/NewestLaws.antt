@@ -2,7 +2,9 @@
 use Rattle.std.proofs.Common.{◌≡◌, ◌↔◌, ℕ, ◌<◌, true, false, not, ◌==◌, List, [], ◌∷◌, ◌++◌, length, filter, cond, refl, sym, ap, subst, ◌∙◌, inl, inr}
 use Rattle.std.specs.List.{AllByRecursion}
 use Rattle.std.proofs.lemmas.Bool.{not-true, and_parts, cond_both, cases_Bool, eqb-true, eq-eqb}
-use Rattle.fw_time.proofs.EachLaws.{each-weaker, each-both}
+use Rattle.fw_lemmas.proofs.Bools.{two_ways}
+use Rattle.fw_lemmas.proofs.Each.{each-weaker, each-both}
+use Rattle.fw_lemmas.proofs.Filters.{filter-in, filter-out}
 use Rattle.fw_frontier.specs.Frontier.{Within}
 use Rattle.fw_frontier.specs.Front.{Front, frontier_of, IsCanonical, is_within}
 use Rattle.fw_flow.specs.Dataflow.{System, kind_of, policy_of, bounds_of}
@@ -10,8 +12,6 @@ use Rattle.fw_model.specs.Machine.{SerialEvent, Write, Written, checkpoint, logg
 use Rattle.fw_model.specs.Choice.{kept, is_counted, IsRestorable}
 use Rattle.fw_model.specs.Steps.{checkpoint_front, checkpoints_of, last_or, lies_below}
 use Rattle.fw_model.specs.Writes.{takes_checkpoints, is_collected, not_collected}
-use Rattle.fw_model.proofs.Decisions.{two_ways}
-use Rattle.fw_model.proofs.FilterLaws.{filter-in, filter-out}
 use Rattle.fw_model.proofs.WriteLaws.{HoldsOfOne, IsCheckpointAt, IsItsCheckpoint, some-checkpoint, LiesBelow, IsWriteBelow, AreAscending}
 use Rattle.fw_frontier.proofs.NamesLaws.{within-is}
 use Rattle.fw_model.proofs.LowLaws.{none-within}

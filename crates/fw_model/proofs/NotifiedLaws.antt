@@ -5,6 +5,7 @@ use Rattle.std.proofs.lemmas.Bool.{and_parts, and_from, or_cases, or_parts, cond
 use Rattle.fw_time.specs.Stamp.{Stamp, leq, same}
 use Rattle.fw_time.proofs.StampLaws.{leq-refl}
 use Rattle.std.specs.Ordering.{is_eq}
+use Rattle.fw_lemmas.proofs.Bools.{two_ways}
 use Rattle.fw_bag.specs.declared.rec.Rec.{Rec}
 use Rattle.fw_bag.specs.Rec.{rec_cmp}
 use Rattle.fw_bag.specs.Bag.{how_often}
@@ -28,7 +29,6 @@ use Rattle.fw_model.proofs.DistinctLaws.{same-swap}
 use Rattle.fw_model.proofs.JoinLaws.{weigh-timed}
 use Rattle.fw_model.proofs.ClosedLaws.{IsSettled, settled-outside, settled-step, settled-now}
 use Rattle.fw_model.proofs.StampLaws.{same-is}
-use Rattle.fw_model.proofs.Decisions.{two_ways}
 
 -- whether a node of the kind sends sums of what came, once it is notified
 abbrev pub sends_sums : Kind → Bool

@@ -1,9 +1,10 @@
 -- On numbered edges the denotation has one rec at each number, without a gap.
-use Rattle.std.proofs.Common.{◌≡◌, ◌&&◌, ◌⊎◌, ℕ, zero, suc, ◌+◌, ◌<◌, ◌==◌, nat_le, nat_lt, true, false, cond, List, [], ◌∷◌, length, Option, Some, None, map, refl, sym, ap, subst, ◌∙◌, inl, inr, append-nil, arith}
-use Rattle.std.proofs.lemmas.Bool.{cond_both, cond-true, cases_lt, lt-ltb, true≢false}
+use Rattle.std.proofs.Common.{◌≡◌, ◌&&◌, ◌⊎◌, ℕ, zero, suc, ◌+◌, ◌<◌, nat_le, true, false, List, [], ◌∷◌, length, Option, Some, None, map, refl, sym, ap, subst, ◌∙◌, inl, inr, append-nil, arith}
+use Rattle.std.proofs.lemmas.Bool.{cond_both, cases_lt, true≢false}
 use Rattle.std.specs.List.{AllByRecursion}
-use Rattle.std.specs.Ordering.{nat_cmp, ordering_then, is_gt}
-use Rattle.std.specs.declared.cmp.Ordering.TheVariants.{Less, Equal, Greater}
+use Rattle.std.specs.Ordering.{ordering_then, is_gt}
+use Rattle.std.specs.declared.cmp.Ordering.TheVariants.{Less, Equal}
+use Rattle.fw_lemmas.proofs.Orderings.{nat_cmp-less}
 use Rattle.fw_bag.specs.declared.rec.Rec.{Rec}
 use Rattle.fw_bag.specs.Rec.{rec_cmp}
 use Rattle.fw_time.specs.Stamp.{stamp_cmp}
@@ -25,9 +26,6 @@ use Rattle.fw_model.proofs.DenotationLaws.{past-outputs}
 use Rattle.fw_model.specs.Measure.{Measure}
 
 -- ---- numbered lists
-
-nat_cmp-less : (n k : ℕ) → n < k → nat_cmp n k ≡ Less
-nat_cmp-less n k h = cond-true (nat_lt n k) Less (cond (n == k) Equal Greater) (lt-ltb n k h)
 
 timed_cmp-less : (x y : Timed) (n k : ℕ) → x.at ≡ n ∷ [] → y.at ≡ k ∷ [] → n < k → timed_cmp x y ≡ Less
 timed_cmp-less x y n k i j h =

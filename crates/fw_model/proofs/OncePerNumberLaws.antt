@@ -2,8 +2,9 @@
 use Rattle.std.proofs.Common.{◌≡◌, ℕ, ◌+◌, ◌<◌, ◌≤◌, true, false, cond, List, [], ◌∷◌, length, refl, sym, ap, subst, ◌∙◌, inl, inr, arith}
 use Rattle.std.specs.Ordering.{is_eq}
 use Rattle.std.proofs.lemmas.Bool.{and_parts, cases_Bool, cases_eq}
+use Rattle.fw_lemmas.proofs.Bools.{two_ways}
+use Rattle.fw_lemmas.proofs.Each.{each-one}
 use Rattle.fw_time.specs.Stamp.{Stamp, leq, same}
-use Rattle.fw_time.proofs.EachLaws.{each-one}
 use Rattle.fw_bag.specs.declared.rec.Rec.{Rec}
 use Rattle.fw_bag.specs.Rec.{rec_cmp}
 use Rattle.fw_bag.proofs.RecLaws.{rec_cmp-refl, is_eq-same}
@@ -17,7 +18,6 @@ use Rattle.fw_model.proofs.StampLaws.{in_line, same-is}
 use Rattle.fw_model.proofs.WeightLaws.{weigh, weigh-lighter, one, one-in, one-out, is_at, is_at-is, is_at-self}
 use Rattle.fw_model.proofs.ArrivalLaws.{weigh-both}
 use Rattle.fw_model.proofs.LedgerLaws.{AreNumbered}
-use Rattle.fw_model.proofs.Decisions.{two_ways}
 
 -- 1 for a rec at this stamp, and else 0
 abbrev pub any_at : Stamp → Timed → ℕ

@@ -3,6 +3,8 @@ use Rattle.std.proofs.Common.{◌≡◌, ℕ, ◌+◌, ◌<◌, Bool, true, fals
 use Rattle.std.specs.List.{list_any}
 use Rattle.std.proofs.lemmas.Bool.{cases_Bool, or_parts}
 use Rattle.std.proofs.lemmas.List.{ext_get_or}
+use Rattle.fw_lemmas.proofs.Bools.{two_ways}
+use Rattle.fw_lemmas.proofs.Orderings.{tied}
 use Rattle.fw_time.specs.Stamp.{Stamp}
 use Rattle.fw_frontier.specs.Frontier.{Frontier, meet, join}
 use Rattle.fw_frontier.specs.Front.{Front, frontier_of, IsFrontOf}
@@ -21,8 +23,7 @@ use Rattle.fw_model.specs.Steps.{Effect, acked, cuts, lows, did, idle, with_even
 use Rattle.fw_model.specs.LawsOfSteps.{OneNextState}
 use Rattle.fw_model.proofs.ChoiceLaws.{largest-one}
 use Rattle.fw_flow.proofs.MessageLaws.{message_cmp-same, message_total}
-use Rattle.fw_model.proofs.CmpLaws.{stamp_cmp-same, stamp_total, tied}
-use Rattle.fw_model.proofs.Decisions.{two_ways}
+use Rattle.fw_model.proofs.CmpLaws.{stamp_cmp-same, stamp_total}
 use Rattle.fw_model.proofs.DescentLaws.{complete-one}
 
 -- ---- the parts of next states

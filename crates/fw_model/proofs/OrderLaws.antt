@@ -3,8 +3,9 @@ use Rattle.std.proofs.Common.{◌≡◌, ℕ, Bool, true, false, not, ◌&&◌, 
 use Rattle.std.proofs.Math.Bool.{and-false}
 use Rattle.std.specs.List.{AllByRecursion}
 use Rattle.std.proofs.lemmas.Bool.{and_parts, and_from, or_cases, or_left, or_right, cond_both, eqb-true, eq-eqb, cases_lt, cases_Bool}
+use Rattle.fw_lemmas.proofs.Bools.{two_ways}
+use Rattle.fw_lemmas.proofs.Each.{each-weaker, each-both}
 use Rattle.fw_time.specs.Stamp.{Stamp, leq, same, in_domain}
-use Rattle.fw_time.proofs.EachLaws.{each-weaker, each-both}
 use Rattle.fw_time.proofs.StampLaws.{leq-refl, leq-trans}
 use Rattle.fw_frontier.specs.Frontier.{Frontier, IsFrontier, Within, join}
 use Rattle.fw_flow.specs.declared.event.Event.{Event}
@@ -25,7 +26,6 @@ use Rattle.fw_model.proofs.SendsLaws.{IsOfCause, sent_by-of_cause, inside_phi-fr
 use Rattle.fw_model.proofs.SequenceLaws.{bounds-sequence, notified_in_domain, inside_phi_of_sequence-from_inside}
 use Rattle.fw_model.proofs.LegalLaws.{enabled-in_domain, legal-in_domain, legal_events-in_domain, only_inputs_inject, edge_domains}
 use Rattle.fw_model.proofs.CompleteLaws.{admissible-stays, sender_sorts, not_owed-notified}
-use Rattle.fw_model.proofs.Decisions.{two_ways}
 use Rattle.fw_model.specs.Sending.{ComesFromInside}
 use Rattle.fw_model.specs.Order.{notified_stamps, AreDescending}
 

@@ -4,6 +4,7 @@ use Rattle.std.proofs.lemmas.Bool.{cond_both, cond-true, cond-false, cases_Bool}
 use Rattle.std.proofs.lemmas.List.Elements.{filter-append}
 use Rattle.std.specs.List.{flat_map, list_any}
 use Rattle.std.specs.Ordering.{is_eq}
+use Rattle.fw_lemmas.proofs.Bools.{two_ways}
 use Rattle.fw_bag.specs.declared.rec.Rec.{Rec}
 use Rattle.fw_bag.specs.Keyed.{joined_rec, distinct_keys, sums_of}
 use Rattle.fw_time.specs.Stamp.{Stamp, same}
@@ -13,7 +14,6 @@ use Rattle.fw_flow.specs.Dataflow.{Dataflow, send_stamp_of_kind}
 use Rattle.fw_flow.specs.WholeBags.{Timed, timed_cmp, recs_where, timed_recs, timed_at_some, recs_for_one, one_by_one, is_among_timed, distinct_timed, joined_timed, has_stamp, distinct_stamps, sums_at, joint_bag, outputs_of_kind}
 use Rattle.fw_model.proofs.TimedLaws.{timed-same}
 use Rattle.fw_model.proofs.StampLaws.{same-is}
-use Rattle.fw_model.proofs.Decisions.{two_ways}
 
 -- ---- stamps that are one
 

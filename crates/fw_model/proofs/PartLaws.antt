@@ -4,8 +4,10 @@ use Rattle.std.specs.List.{flat_map}
 use Rattle.std.proofs.lemmas.Bool.{cond_both, eqb-true, eq-eqb}
 use Rattle.std.proofs.lemmas.List.{map-append}
 use Rattle.std.proofs.lemmas.List.Elements.{filter-append}
+use Rattle.fw_lemmas.proofs.Bools.{two_ways}
+use Rattle.fw_lemmas.proofs.Each.{each-one}
+use Rattle.fw_lemmas.proofs.Filters.{filter-out, filter-inner, flat_map-filter}
 use Rattle.fw_time.specs.Stamp.{Stamp}
-use Rattle.fw_time.proofs.EachLaws.{each-one}
 use Rattle.fw_frontier.specs.Frontier.{Frontier, Within}
 use Rattle.fw_frontier.specs.Front.{Front, frontier_of}
 use Rattle.fw_flow.specs.declared.event.Event.{Event}
@@ -18,8 +20,6 @@ use Rattle.fw_flow.specs.WellFormed.{IsWellFormed}
 use Rattle.fw_model.specs.History.{sent_messages, message_on, delivered_messages, IsLegal}
 use Rattle.fw_model.specs.Machine.{Machine, events}
 use Rattle.fw_model.specs.Covers.{stamps_from, stamps_inside, stamp_of_notice, notified_inside}
-use Rattle.fw_model.proofs.Decisions.{two_ways}
-use Rattle.fw_model.proofs.FilterLaws.{filter-out, filter-inner, flat_map-filter}
 use Rattle.fw_model.proofs.LocalityLaws.{events_at-kept, sends-same_within}
 use Rattle.fw_model.proofs.SameInsideLaws.{sent-outside, delivered-same, notified-same, discarded-same}
 use Rattle.fw_model.specs.Filtering.{AreFrontiers, kept_events, events_inside}

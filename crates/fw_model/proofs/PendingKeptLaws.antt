@@ -2,8 +2,10 @@
 use Rattle.std.proofs.Common.{◌≡◌, ℕ, Bool, true, false, cond, not, List, [], ◌∷◌, length, filter, map, refl, sym, ap, subst, ◌∙◌, inl, inr}
 use Rattle.std.specs.List.{AllByRecursion}
 use Rattle.std.proofs.lemmas.Bool.{and_from, or_parts, or_left, or_right, cond_both, cond-false, cases_Bool, cases_lt, false_from_ne_true}
+use Rattle.fw_lemmas.proofs.Bools.{two_ways}
+use Rattle.fw_lemmas.proofs.Each.{each-weaker, each-both, each-kept}
+use Rattle.fw_lemmas.proofs.Filters.{filter-in, filter-out, filter-all, filter-none}
 use Rattle.fw_time.specs.Stamp.{Stamp, leq, same, in_domain}
-use Rattle.fw_time.proofs.EachLaws.{each-weaker, each-both, each-kept}
 use Rattle.fw_time.proofs.StampLaws.{leq-refl}
 use Rattle.fw_frontier.specs.Frontier.{Frontier, everything, nothing, cover, some_above}
 use Rattle.fw_frontier.specs.Front.{Front, frontier_of}
@@ -29,11 +31,9 @@ use Rattle.fw_flow.specs.declared.restoring.Restoring.TheVariants.{Bound, Anythi
 use Rattle.fw_flow.specs.Restoring.{restoring_of_policy, restoring, can_resend, way_of}
 use Rattle.fw_model.specs.Covers.{stamps_from, set_of, discarded_at, covers_in, tallies_in}
 use Rattle.fw_flow.proofs.MessageLaws.{less-each, filter-less}
-use Rattle.fw_model.proofs.Decisions.{two_ways}
 use Rattle.fw_model.proofs.LegalLaws.{edge_domains, legal_messages-in_domain}
 use Rattle.fw_model.proofs.CompleteLaws.{past_edges-idle, sender_sorts}
 use Rattle.fw_model.proofs.SendsLaws.{sent_from_inside-inside_psi}
-use Rattle.fw_model.proofs.FilterLaws.{filter-in, filter-out, filter-all, filter-none}
 use Rattle.fw_model.proofs.LocalityLaws.{sends-same, delivers-same}
 use Rattle.fw_model.proofs.KeptLaws.{kept-causes, pending-inside}
 use Rattle.fw_model.proofs.FilteredLaws.{filtered-events, choice-consistent}

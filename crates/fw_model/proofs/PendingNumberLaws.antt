@@ -5,6 +5,7 @@ use Rattle.std.specs.List.{AllByRecursion}
 use Rattle.std.specs.Ordering.{is_eq}
 use Rattle.std.proofs.lemmas.Bool.{cases_Bool, cases_lt, cond_both, cond-true, cond-false, or_left, or_right, lt-ltb, ltb-true}
 use Rattle.std.proofs.lemmas.List.{length-append}
+use Rattle.fw_lemmas.proofs.Each.{each-one}
 use Rattle.fw_time.specs.Stamp.{Stamp, leq, same}
 use Rattle.fw_bag.specs.declared.rec.Rec.{Rec}
 use Rattle.fw_flow.specs.Counting.{how_many}
@@ -34,7 +35,6 @@ use Rattle.fw_model.proofs.SentLaws.{copy, is_among-copies, less-weigh, delivere
 use Rattle.fw_model.proofs.SequenceLaws.{no_inject, sent_by-sequence}
 use Rattle.fw_time.proofs.StampLaws.{same-is, same-from}
 use Rattle.fw_model.proofs.WeightLaws.{weigh, weigh-append, weigh-map, weigh-lighter}
-use Rattle.fw_time.proofs.EachLaws.{each-one}
 use Rattle.fw_model.specs.LawsOfPending.{IsNumberedFrom, PendingNumbersGoOn}
 use Rattle.fw_model.proofs.NothingInsideLaws.{kind-declared}
 use Rattle.fw_model.proofs.NumberedLaws.{sends_numbers}

@@ -4,6 +4,8 @@ use Rattle.std.specs.Prelude.{filter}
 use Rattle.std.proofs.Math.Nat.{add_comm}
 use Rattle.std.proofs.lemmas.Bool.{and_parts, and_from, or_cases, or_left, or_right, cond_both, cases_Bool, cases_lt, eqb-true, eq-eqb}
 use Rattle.std.proofs.lemmas.List.{get_or_past}
+use Rattle.fw_lemmas.proofs.Bools.{two_ways}
+use Rattle.fw_lemmas.proofs.Filters.{filter-none}
 use Rattle.fw_time.specs.Stamp.{Stamp, leq, same}
 use Rattle.fw_time.proofs.StampLaws.{leq-refl, leq-trans}
 use Rattle.fw_bag.specs.declared.rec.Rec.{Rec}
@@ -33,8 +35,6 @@ use Rattle.fw_model.proofs.SequencedLaws.{each_member, filter-same, filter-parts
 use Rattle.fw_model.proofs.DomainLaws.{has_epochs}
 use Rattle.fw_model.proofs.DenotedLaws.{IsDenotedAt, IsSequenced, whole, is_numbered_in, whole-in_domain, ordered-member, comes_after, epochs_compare, came_as_denoted, paid-notified, delivered-denoted, sent-denoted}
 use Rattle.fw_model.proofs.StampLaws.{same-is}
-use Rattle.fw_model.proofs.FilterLaws.{filter-none}
-use Rattle.fw_model.proofs.Decisions.{two_ways}
 
 -- inside phi of each admissible family what was sent is what the family has
 abbrev pub AllDenoted : System → List Event → Family → Type 0

@@ -1,6 +1,7 @@
 -- Psi in its frontier.
-use Rattle.std.proofs.Common.{◌≡◌, ℕ, zero, suc, Bool, true, false, ◌==◌, refl, sym, inl, inr, ◌⊎◌}
+use Rattle.std.proofs.Common.{◌≡◌, ℕ, zero, suc, true, false, ◌==◌, refl, inl, inr, ◌⊎◌}
 use Rattle.std.proofs.lemmas.Bool.{and_parts, and_from, and_right, or_cases, or_left, or_right}
+use Rattle.fw_lemmas.proofs.Bools.{same_tests}
 use Rattle.fw_time.specs.Stamp.{Stamp, nest, outer, counter, in_domain}
 use Rattle.fw_frontier.specs.Frontier.{Frontier, Within, nothing, join}
 use Rattle.fw_flow.specs.declared.kind.Kind.{Kind}
@@ -9,12 +10,6 @@ use Rattle.fw_flow.specs.Dataflow.{greatest_of_kind, Dataflow, kind_of, sender, 
 use Rattle.fw_flow.specs.Projection.{some_counter, psi_of_kind, psi}
 use Rattle.fw_model.specs.LawsOfProjections.{PsiIsMonotone, PsiOfJoin, PsiOfNothing, PsiOfUnion}
 use Rattle.fw_model.specs.Unions.{IsUnion}
-
-pub same_tests : (a b : Bool) → (a ≡ true → b ≡ true) → (b ≡ true → a ≡ true) → a ≡ b
-same_tests true true p q = refl
-same_tests true false p q = sym (p refl)
-same_tests false true p q = q refl
-same_tests false false p q = refl
 
 -- ---- monotone
 

@@ -5,8 +5,10 @@ use Rattle.std.specs.Ordering.{is_eq}
 use Rattle.std.proofs.lemmas.Bool.{and_parts, and_from, or_cases, or_from, cond_both, cond-true, cond-false, cases_Bool, cases_lt, eqb-true, eq-eqb, or_left, false_from_ne_true}
 use Rattle.std.proofs.lemmas.List.{get_or_past}
 use Rattle.std.proofs.lemmas.List.FromFn.{get_or-map-range_with_len}
+use Rattle.fw_lemmas.proofs.Bools.{two_ways}
+use Rattle.fw_lemmas.proofs.Each.{each-weaker, each-one}
+use Rattle.fw_lemmas.proofs.Filters.{filter-inner}
 use Rattle.fw_time.specs.Stamp.{Stamp, leq, same, in_domain}
-use Rattle.fw_time.proofs.EachLaws.{each-weaker, each-one}
 use Rattle.fw_bag.specs.declared.rec.Rec.{Rec}
 use Rattle.fw_bag.specs.Rec.{rec_cmp}
 use Rattle.fw_bag.specs.Bag.{how_often}
@@ -34,13 +36,11 @@ use Rattle.fw_model.specs.Choice.{kept, cut_of, kept_of, filtered_history}
 use Rattle.fw_model.specs.Covers.{set_of}
 use Rattle.fw_model.specs.Steps.{Effect, Outcome, did, idle, LeadsTo, StepsTo, Run, with_event, GrowsTo, IsSettledCut, CutsTo, recovered_state}
 use Rattle.fw_model.specs.LawsOfRecoveries.{StepsKeepHistoriesLegal, RunsStayLegalThroughRecoveries, SettledStaysDenoted, DenotedIsFull, AcknowledgementsShowDenotationThroughRecoveries}
-use Rattle.fw_model.proofs.Decisions.{two_ways}
 use Rattle.fw_model.proofs.CompleteLaws.{past_edges-idle, not_owed-notified, not_owed-delivered}
 use Rattle.fw_flow.proofs.MessageLaws.{less-each}
 use Rattle.fw_model.proofs.SendsLaws.{IsOfCause, sent_by-of_cause}
 use Rattle.fw_model.proofs.PrefixLaws.{delivered-is_denoted}
 use Rattle.fw_model.proofs.SubBagLaws.{sent-is_sub, delivered-is_sub}
-use Rattle.fw_model.proofs.FilterLaws.{filter-inner}
 use Rattle.fw_model.proofs.LocalityLaws.{delivers-same}
 use Rattle.fw_model.proofs.KeptLaws.{kept-owed}
 use Rattle.fw_model.proofs.FilteredLaws.{filtered-events, consistent-meets, filtered-legal}

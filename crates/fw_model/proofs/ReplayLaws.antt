@@ -1,9 +1,11 @@
 -- The logged events that are left send what is to be sent again: what lacks was given up.
-use Rattle.std.proofs.Common.{◌≡◌, ◌↔◌, ℕ, zero, suc, ◌+◌, ◌<◌, Bool, true, false, cond, not, ◌&&◌, ◌==◌, List, [], ◌∷◌, ◌++◌, length, filter, get_or, Some, refl, sym, ap, ◌∙◌, inl, inr, arith}
+use Rattle.std.proofs.Common.{◌≡◌, ◌↔◌, ℕ, zero, suc, ◌+◌, ◌<◌, Bool, true, false, cond, not, ◌&&◌, ◌==◌, List, [], ◌∷◌, length, filter, get_or, Some, refl, sym, ap, ◌∙◌, inl, inr, arith}
 use Rattle.std.specs.List.{AllByRecursion, list_any, list_all}
 use Rattle.std.proofs.lemmas.Bool.{not-true, and_parts, and_from, and_left, and_right, or_from, or_left, or_right, cond_both, cases_Bool, eqb-true, eq-eqb, false_from_ne_true}
+use Rattle.fw_lemmas.proofs.Bools.{two_ways}
+use Rattle.fw_lemmas.proofs.Each.{each-weaker, each-both, each-one, each-kept}
+use Rattle.fw_lemmas.proofs.Filters.{filter-in, filter-out, filter-all, filter-inner, any-at}
 use Rattle.fw_time.specs.Stamp.{Stamp}
-use Rattle.fw_time.proofs.EachLaws.{each-weaker, each-both, each-one, each-kept}
 use Rattle.fw_frontier.specs.Frontier.{Frontier}
 use Rattle.fw_frontier.specs.Front.{Front, frontier_of}
 use Rattle.fw_flow.specs.declared.choice.Cut.TheVariants.{At}
@@ -22,9 +24,7 @@ use Rattle.fw_model.specs.Steps.{inside_if_some, sends_inside, is_given_up, is_s
 use Rattle.fw_model.specs.Filtering.{events_inside, messages_from, messages_outside}
 use Rattle.fw_model.specs.Resending.{at_receiver}
 use Rattle.fw_model.specs.Writes.{IsLoggedOnce}
-use Rattle.fw_model.proofs.Decisions.{two_ways}
 use Rattle.fw_model.proofs.DomainLaws.{has_epochs}
-use Rattle.fw_model.proofs.FilterLaws.{filter-in, filter-out, filter-inner, filter-all}
 use Rattle.fw_model.proofs.FilteredLaws.{set-frontier}
 use Rattle.fw_model.proofs.SendsLaws.{IsOfCause, sent_by-of_cause}
 use Rattle.fw_model.proofs.AskedLaws.{reached-all}
@@ -50,10 +50,6 @@ own-given sys low (v ∷ h) =
 any-none : {X : Type 0} (test : X → Bool) (xs : List X) → AllByRecursion (λ x. test x ≡ false) xs → list_any test xs ≡ false
 any-none test [] a = refl
 any-none test (x ∷ xs) a = or_from (test x) (list_any test xs) a.0 (any-none test xs a.1)
-
-any-at : {X : Type 0} (test : X → Bool) (xs : List X) (y : X) (ys : List X) → test y ≡ true → list_any test (xs ++ y ∷ ys) ≡ true
-any-at test [] y ys k = or_left (test y) (list_any test ys) k
-any-at test (x ∷ xs) y ys k = or_right (test x) (list_any test (xs ++ y ∷ ys)) (any-at test xs y ys k)
 
 -- an event that is given up has no log
 given-log : (sys : System) (low : List Front) (h : List SerialEvent) (s : ℕ) → is_serial_given_up sys low s h ≡ true → (n : ℕ) (w : Written) (far : Stage)

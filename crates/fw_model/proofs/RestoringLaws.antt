@@ -3,8 +3,10 @@ use Rattle.std.proofs.Common.{◌≡◌, ℕ, ◌<◌, Bool, true, false, not, L
 use Rattle.std.specs.List.{AllByRecursion}
 use Rattle.std.proofs.lemmas.Bool.{not-true, and_parts, cond_both, cases_lt, false_from_ne_true}
 use Rattle.std.proofs.lemmas.List.{get_or_past}
+use Rattle.fw_lemmas.proofs.Bools.{two_ways}
+use Rattle.fw_lemmas.proofs.Each.{each-weaker, each-both, each-one, each-suffix, each-passed, each-each}
+use Rattle.fw_lemmas.proofs.Filters.{filter-inner}
 use Rattle.fw_time.specs.Stamp.{Stamp, in_domain}
-use Rattle.fw_time.proofs.EachLaws.{each-weaker, each-both, each-one, each-suffix}
 use Rattle.fw_frontier.specs.Frontier.{Frontier, Within}
 use Rattle.fw_frontier.specs.Front.{Front, inside, frontier_of}
 use Rattle.fw_flow.specs.declared.choice.Cut.{Cut}
@@ -32,18 +34,16 @@ use Rattle.fw_flow.specs.Restoring.{restoring_of_policy, restoring, way_of}
 use Rattle.fw_model.specs.Covers.{set_of}
 use Rattle.fw_model.specs.Steps.{Effect, Outcome, did, idle, LeadsTo, Run, with_event, checkpoint_front, is_kept_write, recovered_state, is_given_up}
 use Rattle.fw_model.specs.LawsOfRestoring.{CheckpointsStayTrue, NothingComesInsideCheckpoints, CheckpointsAtCutsAreKept, LogsHoldWhatIsSentAgain, CheckpointLogsHoldWhatIsSentAgain, KeptWatermarksLieWithinToday, BatchesOutsideCutsLieOutsideLow, BatchesToComeLieOutsideLow, EventsInsideCutsAreLogged, EventsThatMustBeKeptAreNeverCollected}
-use Rattle.fw_model.proofs.Decisions.{two_ways}
 use Rattle.fw_model.proofs.DenotationLaws.{denotation-exists}
-use Rattle.fw_model.proofs.FilterLaws.{filter-inner}
 use Rattle.fw_model.proofs.FilteredLaws.{filtered-events, set-frontier}
 use Rattle.fw_frontier.proofs.NamesLaws.{is_within-holds}
-use Rattle.fw_model.proofs.CheckpointLaws.{HoldsSettled, IsWriteSettled, each-passed}
+use Rattle.fw_model.proofs.CheckpointLaws.{HoldsSettled, IsWriteSettled}
 use Rattle.fw_model.proofs.SameInsideLaws.{at_node, low-offered}
 use Rattle.fw_model.proofs.WriteLaws.{HoldsOfOne, some-weaker, IsCheckpointAt, IsItsCheckpoint, NamesEvent, LogsEvent, some-checkpoint, some-logged, ArePairs}
 use Rattle.fw_model.proofs.LowLaws.{input-is, batch-outside, settled-outside, low-within, within-set}
 use Rattle.fw_model.proofs.PartLaws.{part-same, part-event, part-kept, part-counts}
 use Rattle.fw_model.proofs.ChoosingLaws.{full-of, took-grows}
-use Rattle.fw_model.proofs.AskedLaws.{takes-declared, takes-restoring, takes-not_input, IsAskedWell, IsWriteAskedWell, IsApart, each-each, CanRecoverAndRestore, took-reached, run-reached, reached-all}
+use Rattle.fw_model.proofs.AskedLaws.{takes-declared, takes-restoring, takes-not_input, IsAskedWell, IsWriteAskedWell, IsApart, CanRecoverAndRestore, took-reached, run-reached, reached-all}
 use Rattle.fw_model.proofs.DomainLaws.{has_epochs}
 use Rattle.fw_model.specs.Measure.{enough_rounds}
 use Rattle.fw_model.specs.Settled.{IsFull}

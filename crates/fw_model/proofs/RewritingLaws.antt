@@ -2,9 +2,10 @@
 use Rattle.std.proofs.Common.{◌≡◌, ℕ, ◌+◌, ◌<◌, Bool, true, false, cond, not, ◌&&◌, ◌||◌, ◌==◌, nat_lt, List, [], ◌∷◌, ◌++◌, length, refl, sym, ap, subst, ◌∙◌, inl, inr, ◌⊎◌, arith}
 use Rattle.std.specs.List.{AllByRecursion, flat_map}
 use Rattle.std.proofs.lemmas.Bool.{and_parts, and_from, or_right, cond_both, cases_Bool, cases_lt, eqb-true, eq-eqb, lt-ltb, false_from_ne_true}
+use Rattle.fw_lemmas.proofs.Bools.{two_ways}
+use Rattle.fw_lemmas.proofs.Each.{each-weaker, each-suffix}
 use Rattle.fw_time.specs.Stamp.{Stamp, leq, in_domain}
 use Rattle.fw_time.specs.declared.stamp.Bounds.{Bounds}
-use Rattle.fw_time.proofs.EachLaws.{each-weaker, each-suffix}
 use Rattle.fw_frontier.specs.Frontier.{Frontier, IsFrontier, Within, meet}
 use Rattle.fw_flow.specs.declared.event.Event.{Event}
 use Rattle.fw_flow.specs.declared.event.Event.TheVariants.{Inject, Deliver, Notify}
@@ -18,7 +19,6 @@ use Rattle.fw_model.proofs.LesserLaws.{lesser-in_domain, line-in_domain}
 use Rattle.fw_model.specs.History.{injected_count, injected_epochs, IsAdmissible, IsEnabled, IsLegal}
 use Rattle.fw_model.specs.LawsOfFiltering.{KeptEventsAreLegal}
 use Rattle.fw_model.specs.Covers.{stamp_of_notice}
-use Rattle.fw_model.proofs.Decisions.{two_ways}
 use Rattle.fw_model.proofs.StampLaws.{leq_to, in_line, line-leq}
 use Rattle.fw_model.proofs.PhiLaws.{phi-monotone, count-append}
 use Rattle.fw_model.proofs.FrontierLaws.{phi-ignores_history}

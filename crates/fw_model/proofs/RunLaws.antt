@@ -5,7 +5,6 @@ use Rattle.std.proofs.lemmas.List.FromFn.{map-range_with_len_more, length-map-ra
 use Rattle.fw_bag.specs.declared.rec.Rec.{Rec}
 use Rattle.std.proofs.lemmas.Bool.{eqb-true, eq-eqb, and_parts, and_from, cases_Bool}
 use Rattle.fw_model.proofs.ArrivalLaws.{at_edge, in_edges-once}
-use Rattle.fw_model.proofs.Decisions.{two_ways}
 use Rattle.fw_model.proofs.WeightLaws.{weigh}
 use Rattle.fw_time.specs.Stamp.{Stamp, leq, same}
 use Rattle.fw_frontier.specs.Front.{frontier_of}
@@ -24,6 +23,8 @@ use Rattle.fw_flow.specs.NodeFunction.{delivered_recs}
 use Rattle.fw_flow.specs.declared.event.Message.{Message}
 use Rattle.std.proofs.lemmas.List.Elements.{filter-append}
 use Rattle.std.proofs.Math.Bool.{and_comm}
+use Rattle.fw_lemmas.proofs.Bools.{two_ways}
+use Rattle.fw_lemmas.proofs.Numbers.{zero-le}
 use Rattle.fw_model.specs.LawsOfRuns.{RunsStayLegal, AcknowledgementsAreInOrder}
 use Rattle.fw_model.specs.Machine.{Machine, events, no_stamps, first_state, ack_count_of}
 use Rattle.fw_model.specs.Steps.{Effect, acked, Outcome, did, idle, LeadsTo, StepsTo, Run, recs_at_output, is_recovery, HaveNoRecovery}
@@ -158,9 +159,6 @@ acknowledgements-in_order sys steps outcomes last r o =
     ∙ run-goes sys steps outcomes (first_state sys) last h r o
 
 -- ---- acknowledgements show the denotation
-
-zero-le : (x : ℕ) → nat_le 0 x ≡ true
-zero-le x = grind arith
 
 -- the origin is at most each stamp
 origin-leq : (t g : Stamp) → leq t g ≡ true → leq (map (λ c. 0) g) t ≡ true

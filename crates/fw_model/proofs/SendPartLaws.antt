@@ -2,8 +2,10 @@
 use Rattle.std.proofs.Common.{◌≡◌, ℕ, true, false, cond, not, ◌&&◌, ◌==◌, List, [], ◌∷◌, ◌++◌, refl, sym, ap, subst, ◌∙◌, inl, inr}
 use Rattle.std.proofs.lemmas.Bool.{and_parts, cond_both, cases_Bool, eqb-true, eq-eqb}
 use Rattle.std.proofs.lemmas.List.Elements.{filter-append}
+use Rattle.fw_lemmas.proofs.Bools.{two_ways}
+use Rattle.fw_lemmas.proofs.Each.{each-weaker}
+use Rattle.fw_lemmas.proofs.Filters.{filter-in, filter-out, filter-all, filter-none}
 use Rattle.fw_time.specs.Stamp.{Stamp, same}
-use Rattle.fw_time.proofs.EachLaws.{each-weaker}
 use Rattle.fw_bag.specs.Keyed.{joined_rec, distinct_keys, sums_of, is_among}
 use Rattle.fw_frontier.specs.Frontier.{Frontier, IsFrontier, everything}
 use Rattle.fw_flow.specs.declared.choice.Cut.TheVariants.{Present}
@@ -18,8 +20,6 @@ use Rattle.fw_flow.specs.Projection.{events_at, all_inside}
 use Rattle.fw_flow.specs.WellFormed.{IsWellFormed, may_keep_nothing}
 use Rattle.fw_model.specs.History.{IsLegal}
 use Rattle.fw_model.specs.Filtering.{AreFrontiers, events_inside, messages_from}
-use Rattle.fw_model.proofs.Decisions.{two_ways}
-use Rattle.fw_model.proofs.FilterLaws.{filter-in, filter-out, filter-all, filter-none}
 use Rattle.fw_model.proofs.FilteredLaws.{set-frontier}
 use Rattle.fw_model.proofs.LocalityLaws.{sends-causes, events_at-kept, sent_by-same, reads-inside, reads-at}
 use Rattle.fw_model.proofs.SequenceLaws.{one_inside}

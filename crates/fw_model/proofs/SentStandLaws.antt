@@ -3,6 +3,7 @@ use Rattle.std.proofs.Common.{◌≡◌, ◌⊎◌, inl, inr, ℕ, zero, suc, �
 use Rattle.std.specs.Prelude.{filter, slice_index_or}
 use Rattle.std.specs.List.{AllByRecursion, Contains, flat_map}
 use Rattle.std.proofs.lemmas.Bool.{or_cases, or_left, or_right, cond_both, cases_Bool, and_from, and_left}
+use Rattle.fw_lemmas.proofs.Bools.{same_tests}
 use Rattle.fw_time.specs.Stamp.{Stamp, leq, in_domain}
 use Rattle.fw_time.specs.declared.stamp.Bounds.{Bounds}
 use Rattle.fw_time.proofs.StampLaws.{leq-trans}
@@ -16,7 +17,6 @@ use Rattle.fw_model.specs.Covers as machine
 use Rattle.fw_model.specs.History.{sent_messages}
 use Rattle.fw_model.proofs.SendsLaws.{IsOfCause as IsOfItsCause, sent_by-of_cause}
 use Rattle.fw_model.proofs.SendingLaws.{send_stamp-monotone}
-use Rattle.fw_model.proofs.PsiLaws.{same_tests}
 use Rattle.fw_model.specs.Thinned.{IsThinned}
 use Rattle.fw_model.proofs.ThinnedLaws.{each-contained}
 use Rattle.fw_model.specs.EventStamps.{causes_of, causes_in, StandForSent}

@@ -5,8 +5,10 @@ use Rattle.std.specs.Prelude.{filter}
 use Rattle.std.specs.Ordering.{is_eq, is_gt}
 use Rattle.std.proofs.lemmas.Bool.{cond_both, cond-false, cases_Bool, leb-false, lt-leb}
 use Rattle.std.proofs.lemmas.Cmp.{tied_itself}
+use Rattle.fw_lemmas.proofs.Bools.{two_ways}
+use Rattle.fw_lemmas.proofs.Each.{each-weaker, each-both}
+use Rattle.fw_lemmas.proofs.Filters.{filter-none}
 use Rattle.fw_time.specs.Stamp.{Stamp, same}
-use Rattle.fw_time.proofs.EachLaws.{each-weaker, each-both}
 use Rattle.fw_bag.specs.declared.rec.Rec.{Rec}
 use Rattle.fw_bag.specs.Rec.{rec_cmp}
 use Rattle.fw_bag.specs.Keyed.{sorted_recs}
@@ -23,8 +25,6 @@ use Rattle.fw_model.proofs.TimedCounts.{ascending-where, in_order-weigh, sorted-
 use Rattle.fw_model.proofs.ArrivalLaws.{deliveries}
 use Rattle.fw_model.proofs.DistinctLaws.{how_often-delivered_at}
 use Rattle.fw_model.proofs.StampLaws.{same-is}
-use Rattle.fw_model.proofs.FilterLaws.{filter-none}
-use Rattle.fw_model.proofs.Decisions.{two_ways}
 
 -- ---- members
 

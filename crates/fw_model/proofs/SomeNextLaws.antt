@@ -2,6 +2,7 @@
 use Rattle.std.proofs.Common.{◌≡◌, ◌<◌, ℕ, true, List, length, map, ap, ◌∙◌, refl, inl, inr}
 use Rattle.std.specs.Cmp.Lexicographic.{slice_cmp}
 use Rattle.std.proofs.lemmas.Cmp.{lists_total}
+use Rattle.fw_lemmas.proofs.Orderings.{slice_cmp-same}
 use Rattle.fw_time.specs.Stamp.{stamp_cmp}
 use Rattle.fw_frontier.specs.Frontier.{meet}
 use Rattle.fw_frontier.specs.Front.{Front, frontier_of}
@@ -25,7 +26,6 @@ use Rattle.fw_model.proofs.FrontLaws.{has_front}
 use Rattle.fw_model.proofs.LargestLaws.{largest-exists}
 use Rattle.fw_model.proofs.OneNextLaws.{one_next}
 use Rattle.fw_model.proofs.SettleLaws.{meet-frontier, fronts-each}
-use Rattle.fw_bag.proofs.OrderingLaws.{slice_cmp-same}
 use Rattle.fw_model.specs.Choosing.{CanChoose, HasItsChoice}
 
 settled_cut : (sys : System) (p : ℕ) (cut : Cut) (before : Front) → (after : Front) × IsSettledCut sys p cut before after

@@ -4,7 +4,7 @@ use Rattle.std.specs.Prelude.{filter}
 use Rattle.std.specs.List.{AllByRecursion}
 use Rattle.std.specs.Ordering.{is_eq, is_gt}
 use Rattle.std.proofs.lemmas.Bool.{cond_both, cases_Bool}
-use Rattle.fw_time.proofs.EachLaws.{each-kept}
+use Rattle.fw_lemmas.proofs.Each.{each-kept}
 use Rattle.fw_flow.specs.declared.event.Message.{Message}
 use Rattle.fw_flow.specs.Message.{message_cmp, messages_without, messages_less}
 use Rattle.fw_flow.proofs.MessageLaws.{message_total, message_cmp-same, message_cmp-equal}

@@ -2,8 +2,8 @@
 use Rattle.std.proofs.Common.{◌≡◌, ℕ, zero, suc, ◌<◌, ◌≤◌, Bool, true, false, ◌&&◌, nat_le, List, [], ◌∷◌, ◌++◌, map, refl, subst, inl, inr, ◌⊎◌, arith}
 use Rattle.std.specs.List.{AllByRecursion, list_all}
 use Rattle.std.proofs.lemmas.Bool.{and_parts, and_from, leb-true, le-leb, cases_Bool, cases_lt}
+use Rattle.fw_lemmas.proofs.Each.{each-append, each-prefix, each-suffix, each-map, each_of-map, each-of_all, all-of_each}
 use Rattle.fw_time.specs.Stamp.{Stamp, leq}
-use Rattle.fw_time.proofs.EachLaws.{each-append, each-prefix, each-suffix, each_of-map, each-map, each-of_all, all-of_each}
 
 -- an element passes a test, or none does
 pub find_in : {A : Type 0} (P : A → Type 0) (test : A → Bool) (xs : List A) → AllByRecursion P xs

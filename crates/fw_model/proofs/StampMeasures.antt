@@ -1,18 +1,10 @@
 -- Induction along a dataflow: by the measure of stamps.
-use Rattle.std.proofs.Common.{◌≡◌, ℕ, zero, suc, ◌+◌, ◌<◌, true, false, length, Some, inl, inr, arith}
+use Rattle.std.proofs.Common.{◌≡◌, ℕ, ◌<◌, true, false, length, Some, inl, inr}
 use Rattle.std.proofs.lemmas.Bool.{cases_Bool}
 use Rattle.fw_time.specs.Stamp.{Stamp, leq}
 use Rattle.fw_flow.specs.Dataflow.{Dataflow, sender, receiver, send_stamp}
 use Rattle.fw_flow.specs.Ranks.{is_looped}
 use Rattle.fw_model.specs.Measure.{Measure}
-
-below : {A : Type 0} (m : A → ℕ) (P : A → Type 0) → ((x : A) → ((y : A) → m y < m x → P y) → P x) → (n : ℕ) (x : A) → m x < n → P x
-below m P step zero x l = absurd (omega arith)
-below m P step (suc n) x l = step x (λ y k. below m P step n y (omega arith))
-
--- what holds of an element, if it holds of those of lesser measure, holds of each
-pub by_measure : {A : Type 0} (m : A → ℕ) (P : A → Type 0) → ((x : A) → ((y : A) → m y < m x → P y) → P x) → (x : A) → P x
-by_measure m P step x = below m P step (m x + 1) x (omega arith)
 
 -- the measure of an event of a node is below that of another
 abbrev pub IsEarlier : (flow : Dataflow) → Measure flow → ℕ → Stamp → ℕ → Stamp → Type 0

@@ -5,9 +5,9 @@ use Rattle.std.specs.Prelude.{filter}
 use Rattle.std.specs.Ordering.{is_eq, nat_cmp}
 use Rattle.std.proofs.Math.Nat.{div-add-mod, add-mul-mod_self_left}
 use Rattle.std.proofs.lemmas.Bool.{or_parts, cond-true, cond-false, cases_Bool, eqb-true, eqb-false, eq-eqb, ne_eqb, lt-ltb}
-use Rattle.std.proofs.lemmas.Bool.Decides.{nat_tests}
+use Rattle.fw_lemmas.proofs.Each.{each-one}
+use Rattle.fw_lemmas.proofs.Orderings.{then_parts, nat_cmp-test}
 use Rattle.fw_time.specs.Stamp.{Stamp, leq, same}
-use Rattle.fw_time.proofs.EachLaws.{each-one}
 use Rattle.fw_bag.specs.declared.rec.Rec.{Rec}
 use Rattle.fw_bag.specs.Rec.{rec_cmp}
 use Rattle.fw_bag.specs.Bag.{how_often}
@@ -18,7 +18,6 @@ use Rattle.fw_model.proofs.ArrivalLaws.{at_edge}
 use Rattle.fw_model.proofs.DistinctLaws.{passing, same-swap}
 use Rattle.fw_model.proofs.JoinLaws.{weigh-timed}
 use Rattle.fw_model.proofs.StampLaws.{same-is, same-refl}
-use Rattle.fw_model.proofs.CmpLaws.{then_parts}
 
 -- ---- weights of recs
 
@@ -105,9 +104,6 @@ keys-once k n (r ∷ rs) =
                 (omega (arith, here, h)) ∙ sym (ap (λ b. cond (b || has_key k rs) n 0) j)
           ]
     ]
-
-pub nat_cmp-test : (m n : ℕ) → is_eq (nat_cmp m n) ≡ (m == n)
-nat_cmp-test m n = grind (arith, nat_tests)
 
 pub rec_cmp-test : (x y : Rec) → is_eq (rec_cmp x y) ≡ (x.key == y.key && x.value == y.value)
 rec_cmp-test x y =

@@ -3,11 +3,11 @@ use Rattle.std.proofs.Common.{◌≡◌, ℕ, zero, suc, ◌<◌, true, false, c
 use Rattle.std.specs.Prelude.{filter, length, slice_index_or}
 use Rattle.std.specs.List.{AllByRecursion, Contains}
 use Rattle.std.proofs.lemmas.Bool.{or_cases, or_left, or_right, cond_both, cases_Bool}
+use Rattle.fw_lemmas.proofs.Bools.{same_tests}
 use Rattle.fw_time.specs.Stamp.{Stamp, leq, in_domain}
 use Rattle.fw_time.proofs.StampLaws.{leq-trans}
 use Rattle.fw_frontier.specs.Frontier.{Frontier, Within, some_above, cover}
 use Rattle.fw_model.specs.Thinned.{IsBelowKept, IsThinned, ThinnedStampsCoverTheSame}
-use Rattle.fw_model.proofs.PsiLaws.{same_tests}
 
 -- ---- elements
 

@@ -6,12 +6,12 @@ use Rattle.std.specs.Cmp.{IsTotalOrder}
 use Rattle.std.specs.declared.cmp.Ordering.TheVariants.{Equal}
 use Rattle.std.specs.List.{AllByRecursion}
 use Rattle.std.specs.Ordering.{is_eq, is_gt}
+use Rattle.fw_lemmas.proofs.Each.{each-kept}
+use Rattle.fw_lemmas.proofs.Orderings.{equal_from_is_eq, then_equal}
 use Rattle.fw_bag.specs.declared.rec.Rec.{Rec}
 use Rattle.fw_bag.specs.Rec.{rec_cmp}
 use Rattle.fw_bag.proofs.RecLaws.{rec_order, rec_cmp-same}
-use Rattle.fw_bag.proofs.OrderingLaws.{then_equal, equal_from_is_eq}
 use Rattle.fw_time.specs.Stamp.{Stamp, stamp_cmp}
-use Rattle.fw_time.proofs.EachLaws.{each-kept}
 use Rattle.fw_flow.specs.Counting.{how_many}
 use Rattle.fw_flow.specs.WholeBags.{Timed, timed_cmp, with_timed, in_order}
 use Rattle.fw_model.proofs.AscentLaws.{IsAscentOf, ascending-put, copy_by, each-put, not_above, put-weigh, same_by_copies}

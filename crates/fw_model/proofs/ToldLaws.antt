@@ -2,9 +2,10 @@
 use Rattle.std.proofs.Common.{◌≡◌, ℕ, Bool, true, false, cond, not, ◌&&◌, ◌||◌, ◌==◌, List, [], ◌∷◌, ◌++◌, refl, sym, ap, ◌∙◌, inl, inr}
 use Rattle.std.specs.List.{AllByRecursion, list_any}
 use Rattle.std.proofs.lemmas.Bool.{and_parts, and_from, or_cases, or_left, or_right, cond_both, eq-eqb, cases_Bool, false_from_ne_true}
+use Rattle.fw_lemmas.proofs.Bools.{two_ways}
+use Rattle.fw_lemmas.proofs.Each.{each-weaker}
 use Rattle.fw_time.specs.declared.stamp.Bounds.{Bounds}
 use Rattle.fw_time.specs.Stamp.{Stamp, leq, lesser, same, in_domain}
-use Rattle.fw_time.proofs.EachLaws.{each-weaker}
 use Rattle.fw_frontier.specs.Frontier.{Frontier}
 use Rattle.fw_flow.specs.declared.event.Event.{Event}
 use Rattle.fw_flow.specs.declared.event.Event.TheVariants.{Inject, Deliver, Notify}
@@ -26,7 +27,6 @@ use Rattle.fw_model.proofs.LegalLaws.{enabled-in_domain, legal-in_domain, legal_
 use Rattle.fw_model.proofs.SequenceLaws.{notified_in_domain}
 use Rattle.fw_model.proofs.OrderLaws.{each-notified, either_way}
 use Rattle.fw_model.proofs.ClosedLaws.{IsSettled, settled-outside, settled-step, settled-now}
-use Rattle.fw_model.proofs.Decisions.{two_ways}
 use Rattle.fw_model.proofs.RestoringLaws.{full-reached}
 use Rattle.fw_model.proofs.AskedLaws.{reached-all}
 

@@ -2,14 +2,14 @@
 use Rattle.std.proofs.Common.{◌≡◌, ℕ, ◌<◌, Bool, true, List, [], ◌∷◌, ◌++◌, length, filter, map, sym, ap, subst, ◌∙◌, inl, inr, ◌⊎◌}
 use Rattle.std.specs.List.{AllByRecursion}
 use Rattle.std.proofs.lemmas.Bool.{cond_both}
+use Rattle.fw_lemmas.proofs.Bools.{two_ways}
+use Rattle.fw_lemmas.proofs.Each.{each-append, each-map, each-passed, each-replaced}
 use Rattle.fw_frontier.specs.Frontier.{Within}
 use Rattle.fw_frontier.specs.Front.{Front, frontier_of, IsCanonical}
 use Rattle.fw_flow.specs.Dataflow.{System, bounds_of}
 use Rattle.fw_model.specs.Machine.{Write, Written, checkpoint, logged_event, Stage, in_flight, acknowledged, collected, front_of}
 use Rattle.fw_model.specs.Choice.{View, kept, ever, is_counted, HasCheckpoint, IsLogged}
-use Rattle.fw_model.proofs.Decisions.{two_ways}
-use Rattle.fw_model.proofs.CheckpointLaws.{HoldsSettled, each-passed, each-replaced}
-use Rattle.fw_time.proofs.EachLaws.{each-append, each-map}
+use Rattle.fw_model.proofs.CheckpointLaws.{HoldsSettled}
 
 -- ---- some element of a list
 

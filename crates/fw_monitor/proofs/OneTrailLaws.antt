@@ -2,7 +2,7 @@
 use Rattle.std.proofs.Common.{◌≡◌, ℕ, ◌<◌, List, [], ◌∷◌, ◌++◌, length, get_or, refl, sym, ap, subst, ◌∙◌}
 use Rattle.std.specs.List.{AllByRecursion}
 use Rattle.std.proofs.lemmas.List.{get_or_default, same_lists}
-use Rattle.fw_time.proofs.EachLaws.{each-suffix}
+use Rattle.fw_lemmas.proofs.Each.{each-suffix}
 use Rattle.fw_frontier.specs.Front.{IsFrontOf}
 use Rattle.fw_frontier.proofs.NamesLaws.{names-same}
 use Rattle.fw_flow.specs.declared.choice.Choice.{Choice}

@@ -3,10 +3,10 @@ use Rattle.std.proofs.Common.{◌≡◌, ℕ, ◌+◌, ◌<◌, Bool, true, fals
 use Rattle.std.specs.List.{AllByRecursion, slice_get}
 use Rattle.std.proofs.lemmas.Bool.{and_parts, and_from, both_ways, false_from_ne_true}
 use Rattle.std.proofs.lemmas.List.{take_more}
+use Rattle.fw_lemmas.proofs.Each.{each-weaker, each-at, each-append, each-prefix, each-suffix, each_of-filter}
 use Rattle.fw_time.specs.Stamp.{Stamp, leq, in_domain}
 use Rattle.fw_time.specs.declared.stamp.Bounds.{Bounds}
 use Rattle.fw_time.proofs.StampLaws.{leq-refl}
-use Rattle.fw_time.proofs.EachLaws.{each-append, each-at, each-prefix, each-suffix, each-weaker, each_of-filter}
 use Rattle.fw_frontier.specs.Frontier.{Within}
 use Rattle.fw_frontier.specs.Front.{Front, inside, frontier_of, IsCanonical}
 use Rattle.fw_frontier.proofs.NamesLaws.{frontier-closed, without_above-largest}

@@ -3,6 +3,7 @@ use Rattle.std.proofs.Common.{◌≡◌, ◌≢◌, ℕ, zero, suc, ◌+◌, ◌
 use Rattle.std.specs.List.{AllByRecursion}
 use Rattle.std.proofs.lemmas.Bool.{cases_lt, eqb-false}
 use Rattle.std.proofs.lemmas.List.{get_or_read, drop_all}
+use Rattle.fw_lemmas.proofs.Lists.{split_at}
 use Rattle.fw_time.specs.declared.stamp.Bounds.{Bounds}
 use Rattle.fw_frontier.specs.Frontier.{Frontier}
 use Rattle.fw_frontier.specs.Front.{Front, IsCanonical, IsFrontOf}
@@ -20,7 +21,6 @@ use Rattle.fw_model.specs.Offers.{IsListed, IsBetween, IsOneOf, IsOffered, Ascen
 use Rattle.fw_monitor.specs.Descent.{choice_of, has_all, IsCanonicalCut, EnclosesConsistent, IsGreatest}
 use Rattle.fw_model.proofs.OfferLaws.{below_last, listed-there, offered-between, listed-offered, offered-listed}
 use Rattle.fw_monitor.proofs.DescentLaws.{set-monotone}
-use Rattle.fw_monitor.proofs.CutDownLaws.{split_at}
 use Rattle.fw_monitor.proofs.FrontLaws.{all_is_everything, within_everything}
 
 pub greatest_all : (flow : Dataflow) (offers : List Offer) (p : ℕ) (r s : Bool) (f : Front) → r ≡ false → r ≡ can_stay offers p → s ≡ true → s ≡ has_all (offered_by offers p) → f ≡ []

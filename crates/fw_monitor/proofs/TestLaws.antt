@@ -4,7 +4,8 @@ use Rattle.std.specs.List.{AllByRecursion}
 use Rattle.std.proofs.Math.Nat.{mul-le-mul_right, suc-mul}
 use Rattle.std.proofs.lemmas.Bool.{both_ways}
 use Rattle.std.proofs.lemmas.List.{get_or-set_same, get_or_read}
-use Rattle.fw_time.proofs.EachLaws.{each-append, each-weaker, each-at}
+use Rattle.fw_lemmas.proofs.Each.{each-weaker, each-at, each-append}
+use Rattle.fw_lemmas.proofs.Lists.{split_at}
 use Rattle.fw_frontier.specs.Front.{Front, IsFrontOf}
 use Rattle.fw_flow.specs.declared.choice.Choice.{Choice}
 use Rattle.fw_flow.specs.declared.choice.Cut.{Cut}
@@ -20,7 +21,6 @@ use Rattle.fw_monitor.specs.Descent.{choice_of, HasConsistent, IsGreatest, weigh
 use Rattle.fw_monitor.specs.Inclusions.{Holds, IsInclusionOf, inclusions, number, how_many, waits, after, ArePut}
 use Rattle.fw_monitor.specs.Trail.{lowering_of, IsTrail}
 use Rattle.fw_monitor.specs.Tests.{IsTested, IsGoing, IsNext, IsTaken}
-use Rattle.fw_monitor.proofs.CutDownLaws.{split_at}
 use Rattle.fw_monitor.proofs.StartLaws.{start_encloses}
 use Rattle.fw_monitor.proofs.TrailLaws.{going_held, going_lowered}
 use Rattle.fw_monitor.proofs.WorklistLaws.{inclusions-there, each-inclusion, number-below, cleared-rest, all_waits, count-most, count-all, count-none, each_number, take_next}

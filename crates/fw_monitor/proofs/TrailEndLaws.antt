@@ -1,7 +1,7 @@
 -- A trail ends at the largest choice.
 use Rattle.std.proofs.Common.{List, [], ◌∷◌, sym, subst}
 use Rattle.std.specs.List.{AllByRecursion}
-use Rattle.fw_time.proofs.EachLaws.{each-suffix}
+use Rattle.fw_lemmas.proofs.Each.{each-suffix}
 use Rattle.fw_flow.specs.declared.choice.Choice.{Choice}
 use Rattle.fw_flow.specs.declared.choice.Offer.{Offer}
 use Rattle.fw_flow.specs.declared.trail.Lowering.{Lowering}

@@ -4,7 +4,7 @@ use Rattle.std.specs.List.{AllByRecursion}
 use Rattle.std.proofs.Math.Seq.{take-suc}
 use Rattle.std.proofs.lemmas.Bool.{eqb-true, or_cases, cases_eq, cases_lt}
 use Rattle.std.proofs.lemmas.List.{append_assoc, get_or-set_same, get_or-set_other, length-append, length-map, length-set}
-use Rattle.fw_time.proofs.EachLaws.{each-weaker, each-append, each-prefix, each-suffix, each-map, each_of-map}
+use Rattle.fw_lemmas.proofs.Each.{each-weaker, each-append, each-prefix, each-suffix, each-map, each_of-map}
 use Rattle.fw_flow.specs.Dataflow.{Dataflow, sender, receiver, in_edges, out_edges}
 use Rattle.fw_flow.specs.WellFormed.{IsWellFormed}
 use Rattle.fw_flow.proofs.EdgeLaws.{in_edges-at, in_edges-from}

@@ -12,6 +12,7 @@ use Rattle.fw_flow.specs.declared.event.Event.TheVariants.{Inject, Deliver, Noti
 use Rattle.fw_flow.specs.declared.kind.Kind.{Kind}
 use Rattle.fw_flow.specs.declared.kind.Kind.TheVariants as kind
 use Rattle.std.proofs.Common.{Option, Some, None}
+use Rattle.fw_lemmas.proofs.Numbers.{eqb-sym}
 use Rattle.fw_flow.specs.Dataflow.{System, kind_of, in_edges, send_stamp, send_stamp_of_kind, is_sequence_kind}
 use Rattle.fw_flow.specs.NodeFunction.{event_stamp, delivered_recs, recs_on, recs_on_delivery, recs_on_notification, messages_at, messages_at_some, sends_of_kind, sends}
 use Rattle.fw_bag.proofs.ArrivalLaws.{where-filter}
@@ -54,16 +55,13 @@ suc_zero n = grind (arith, nat_tests)
 suc_suc : (m n : ℕ) → (m + 1 == n + 1) ≡ (m == n)
 suc_suc m n = grind (arith, nat_tests)
 
-eq_swap : (m n : ℕ) → (m == n) ≡ (n == m)
-eq_swap m n = grind (arith, nat_tests)
-
 place_cases : (c : ℕ) (ins : List ℕ) (d e : ℕ) → (list_any (λ i. i == d) ins ≡ true → list_any (λ i. i == e) ins ≡ true → (d == e) ≡ (place_in ins d == place_in ins e))
     → (a b : Bool) → (c == d) ≡ a → (c == e) ≡ b → (a || list_any (λ i. i == d) ins) ≡ true → (b || list_any (λ i. i == e) ins) ≡ true
     → (d == e) ≡ (cond a 0 (place_in ins d + 1) == cond b 0 (place_in ins e + 1))
 place_cases c ins d e ih true true p q h k = ap (λ i. i == e) (sym (eqb-true c d p)) ∙ q
 place_cases c ins d e ih true false p q h k = ap (λ i. i == e) (sym (eqb-true c d p)) ∙ q ∙ sym (zero_suc (place_in ins e))
 place_cases c ins d e ih false true p q h k =
-    eq_swap d e ∙ ap (λ i. i == d) (sym (eqb-true c e q)) ∙ p ∙ sym (suc_zero (place_in ins d))
+    eqb-sym d e ∙ ap (λ i. i == d) (sym (eqb-true c e q)) ∙ p ∙ sym (suc_zero (place_in ins d))
 place_cases c ins d e ih false false p q h k = ih h k ∙ sym (suc_suc (place_in ins d) (place_in ins e))
 
 -- edges are one where their places are

@@ -19,6 +19,7 @@ use Rattle.fw_numbered.specs.Numbers.{at_numbers}
 use Rattle.fw_table.specs.declared.sent.Sent.{Sent}
 use Rattle.fw_table.specs.Sent.{sent_at}
 use Rattle.std.specs.declared.cmp.Ordering.{Ordering}
+use Rattle.std.proofs.lemmas.Bool.{eqb-true}
 use Rattle.fw_time.specs.declared.time.Nest.{Nest}
 use Rattle.fw_node.specs.Answers.{sent_list}
 use Rattle.fw_node.specs.declared.at_time.AtTime.{AtTime}
@@ -127,13 +128,10 @@ pub ledger-sent : (flow : Dataflow) (k : Kind) (t : Stamp) (sent : Sent Stamp) �
 ledger-sent flow kind.Ledger t sent i e = sent-all sent t e
 ledger-sent flow _ t sent i e = absurd (cc)
 
-number-same : (n m : ℕ) → (n == m) ≡ true → n ≡ m
-number-same n m e = grind (arith, nat_tests)
-
 pub feedback-sent : (flow : Dataflow) (k : Kind) (max : ℕ) (t : Stamp) (sent : List (Stamp × Rec)) (rs : List Rec) → is_feedback_up_to flow max k ≡ true → sent ≡ sent_at (fed_back_stamp max t) rs
     → AreSentAt flow k t sent
 feedback-sent flow (kind.Feedback l) max t sent rs i e =
-    subst (λ n. AreAllAt (fed_back_stamp n t) sent) (number-same max (max_of flow l) i) (subst (AreAllAt (fed_back_stamp max t)) (sym e) (at-some (fed_back_stamp max t) rs))
+    subst (λ n. AreAllAt (fed_back_stamp n t) sent) (eqb-true max (max_of flow l) i) (subst (AreAllAt (fed_back_stamp max t)) (sym e) (at-some (fed_back_stamp max t) rs))
 feedback-sent flow _ max t sent rs i e = absurd (cc)
 
 pub leave-sent : (flow : Dataflow) (k : Kind) (t : Stamp) (sent : List (Stamp × Rec)) (rs : List Rec) → is_leave k ≡ true → sent ≡ sent_at (left_stamp t) rs → AreSentAt flow k t sent
@@ -147,7 +145,7 @@ enter-sent flow _ t sent rs i e = absurd (cc)
 pub regroup-sent : (flow : Dataflow) (k : Kind) (size : ℕ) (t : Stamp) (sent : List (Stamp × Rec)) (rs : List Rec) → is_regroup_of size k ≡ true → sent ≡ sent_at (regrouped_stamp size t) rs
     → AreSentAt flow k t sent
 regroup-sent flow (kind.Regroup n) size t sent rs i e =
-    subst (λ m. AreAllAt (regrouped_stamp m t) sent) (number-same size n i) (subst (AreAllAt (regrouped_stamp size t)) (sym e) (at-some (regrouped_stamp size t) rs))
+    subst (λ m. AreAllAt (regrouped_stamp m t) sent) (eqb-true size n i) (subst (AreAllAt (regrouped_stamp size t)) (sym e) (at-some (regrouped_stamp size t) rs))
 regroup-sent flow _ size t sent rs i e = absurd (cc)
 
 numbers-all : (flow : Dataflow) (n : ℕ) (rs : List Rec) → n + length rs ≤ 2 ^ 32 → AllByRecursion (λ (x : Stamp × Rec). in_domain (bounds_of_domain flow Number) x.0 ≡ true) (at_numbers n rs)

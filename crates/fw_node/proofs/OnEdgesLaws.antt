@@ -3,10 +3,10 @@ use Rattle.std.proofs.Common.{◌≡◌, ℕ, ◌<◌, ◌≤◌, Bool, true, Li
 use Rattle.std.specs.Prelude.{◌||◌, ◌==◌}
 use Rattle.std.specs.List.{AllByRecursion, list_any}
 use Rattle.std.proofs.lemmas.Bool.{cases_lt, cond_both, eqb-true, or_left, or_right}
-use Rattle.std.proofs.lemmas.Bool.Decides.{nat_tests}
 use Rattle.std.proofs.lemmas.List.{get_or_past}
+use Rattle.fw_lemmas.proofs.Each.{each-weaker}
+use Rattle.fw_lemmas.proofs.Numbers.{eqb-self}
 use Rattle.fw_time.specs.Stamp.{Stamp}
-use Rattle.fw_time.proofs.EachLaws.{each-weaker}
 use Rattle.fw_flow.specs.declared.event.Event.{Event}
 use Rattle.fw_flow.specs.declared.event.Event.TheVariants.{Inject, Deliver, Notify}
 use Rattle.fw_flow.specs.declared.node.Edge.{Edge}
@@ -17,13 +17,10 @@ use Rattle.fw_model.specs.Filtering.{events_inside}
 use Rattle.fw_node.specs.Arrived.{AreOnEdges, IsOneOf}
 use Rattle.fw_node.specs.LawsOfAnswers.{EventsComeOnInEdges}
 
-self : (n : ℕ) → (n == n) ≡ true
-self n = grind (arith, nat_tests)
-
 each_among : (xs : List ℕ) → AllByRecursion (λ d. list_any (λ x. x == d) xs ≡ true) xs
 each_among [] = tt
 each_among (x ∷ xs) = (
-  or_left (x == x) (list_any (λ y. y == x) xs) (self x),
+  or_left (x == x) (list_any (λ y. y == x) xs) (eqb-self x),
   each-weaker (λ d. list_any (λ y. y == d) xs ≡ true) (λ d. ((x == d) || list_any (λ y. y == d) xs) ≡ true) xs (λ d h. or_right (x == d) (list_any (λ y. y == d) xs) h) (each_among xs),
 )
 

@@ -1,5 +1,5 @@
 -- What is kept of a node's past, as it goes on.
-use Rattle.std.proofs.Common.{◌≡◌, ℕ, ◌+◌, length, map, arith, Result, Ok, Err, OnOk, OnErr, Bool, true, false, cond, not, List, [], ◌∷◌, Some, refl, sym, ap, ◌∙◌}
+use Rattle.std.proofs.Common.{◌≡◌, ℕ, ◌+◌, length, map, arith, Bool, true, false, cond, not, List, [], ◌∷◌, Some, refl, sym, ap, ◌∙◌}
 use Rattle.std.specs.Prelude.{◌||◌}
 use Rattle.std.specs.List.{AllByRecursion}
 use Rattle.fw_time.specs.Stamp.{Stamp}
@@ -20,17 +20,6 @@ use Rattle.fw_node.proofs.ForgettingLaws.{notifications_need_their_time}
 -- an arrival outside what is settled is kept
 pub unsettled_more : (past : Past) (a : Arrival) → past.settled a.at ≡ false → unsettled (with_arrival a past) ≡ a ∷ unsettled past
 unsettled_more past a h = ap (λ b. cond (not b) (a ∷ unsettled past) (unsettled past)) h
-
--- neither of two
-pub neither : (a b : Bool) → a ≡ false → b ≡ false → (a || b) ≡ false
-neither true b h k = h
-neither false b h k = k
-
--- a stamp that is told beside others
-pub told_more : (a b c : Bool) → (a || (b || c)) ≡ (b || (a || c))
-told_more true true c = refl
-told_more true false c = refl
-told_more false b c = refl
 
 after_cases : (s a t : Bool) → (s ≡ true → a ≡ true) → (a ≡ true → t ≡ true) → (s || t) ≡ (a || t)
 after_cases true a t h k = sym (ap (λ b. b || t) (h refl))
@@ -66,17 +55,7 @@ notice_unsettled k past t i plain out =
     ap (λ rs. map (λ (r : Rec). (t, r)) (sorted_recs rs)) (notifications_need_their_time k i (λ s. not (past.settled s)) past.came t (ap not out))
     ∙ sym (notice_plain k past t plain)
 
--- where it is no error, it holds
-pub any_ok : {T E : Type 0} (r : Result T E) (P : Type 0) → P → OnOk r P
-any_ok (Ok x) P h = h
-any_ok (Err y) P h = tt
-
 -- there are as many messages as recs
 pub at_numbers-length : (n : ℕ) (rs : List Rec) → length (at_numbers n rs) ≡ length rs
 at_numbers-length n [] = refl
 at_numbers-length n (r ∷ rs) = let h = at_numbers-length (n + 1) rs in omega arith
-
--- where it is an error, it holds
-pub any_err : {T E : Type 0} (r : Result T E) (P : Type 0) → P → OnErr r P
-any_err (Ok x) P h = tt
-any_err (Err y) P h = h

@@ -2,6 +2,7 @@
 use Rattle.std.proofs.Common.{◌≡◌, ℕ, ◌+◌, ◌-◌, ◌^◌, ◌≤◌, ◌<◌, ◌++◌, true, false, cond, List, [], ◌∷◌, length, refl, sym, ap, ◌∙◌, arith}
 use Rattle.std.specs.Prelude.{nat_le}
 use Rattle.std.proofs.lemmas.Bool.Decides.{nat_tests}
+use Rattle.std.proofs.lemmas.List.{append_assoc}
 use Rattle.fw_time.specs.Stamp.{Stamp}
 use Rattle.fw_bag.specs.declared.rec.Rec.{Rec}
 use Rattle.fw_numbered.specs.Numbers.{at_numbers, numbered_recs}
@@ -14,17 +15,13 @@ pub at_numbers-last : (n : ℕ) (rs : List Rec) (r : Rec) (m : ℕ) → n + leng
 at_numbers-last n [] r m h = let e : n ≡ m = omega arith in ap (λ k. (k ∷ [], r) ∷ []) e
 at_numbers-last n (x ∷ rs) r m h = ap (λ (xs : List (Stamp × Rec)). (n ∷ [], x) ∷ xs) (at_numbers-last (n + 1) rs r m (omega arith))
 
-append-assoc : {A : Type 0} (xs ys zs : List A) → (xs ++ ys) ++ zs ≡ xs ++ (ys ++ zs)
-append-assoc [] ys zs = refl
-append-assoc (x ∷ xs) ys zs = ap (λ us. x ∷ us) (append-assoc xs ys zs)
-
 -- and is the first of those to come
 pub numbered_step : (n m : ℕ) (rs : List Rec) (r : Rec) (rest later : List Rec) → n + length rs ≡ m → m < 2 ^ 32 → rest ≡ r ∷ later
     → at_numbers n (rs ++ r ∷ []) ++ numbered_recs (m + 1) later ≡ at_numbers n rs ++ numbered_recs m rest
 numbered_step n m rs r rest later h l e =
     let t : nat_le m (2 ^ 32 - 1) ≡ true = grind (arith, nat_tests) in
     ap (λ xs. xs ++ numbered_recs (m + 1) later) (at_numbers-last n rs r m h)
-    ∙ append-assoc (at_numbers n rs) ((m ∷ [], r) ∷ []) (numbered_recs (m + 1) later)
+    ∙ append_assoc (at_numbers n rs) ((m ∷ [], r) ∷ []) (numbered_recs (m + 1) later)
     ∙ sym (ap (λ xs. at_numbers n rs ++ xs) (ap (numbered_recs m) e ∙ ap (λ b. cond b ((m ∷ [], r) ∷ numbered_recs (m + 1) later) []) t))
 
 -- past the greatest number there are none

@@ -11,6 +11,7 @@ use Rattle.std.specs.List.{AllByRecursion}
 use Rattle.std.specs.BTreeSet.{insert_key}
 use Rattle.std.specs.BTreeMap.{is_at}
 use Rattle.std.specs.Set.{remove_key}
+use Rattle.fw_lemmas.proofs.Bools.{two_ways}
 use Rattle.fw_places.specs.Marks.{listed, has_mark, marked, IsMarkFrom, IsNextMark}
 use Rattle.fw_places.specs.Places.{IsAscending, IsPut, IsTakenOut, IsFirstFrom, IsFirstPlace, HasNoneBetween}
 use Rattle.fw_places.proofs.PlaceLaws.{itself, each_of, put_new, put_old, out_new, out_old, here, is_put_new, is_out_new, is_out_old}
@@ -301,19 +302,16 @@ told words q c =
     each_of (λ x. (has_mark words x ≡ true) × (x < length words * 64)) (listed (has_mark words) 0 (length words * 64)) q
     (each_listed (λ x. (has_mark words x ≡ true) × (x < length words * 64)) (has_mark words) 0 (length words * 64) (λ x l m e. (e, omega arith))) c
 
-differ : (b : Bool) → b ≡ true → b ≡ false → ⊥
-differ b e f = cc
-
 pub is_first : (words : List ℕ) (k p : ℕ) → IsMarkFrom words k p → IsFirstFrom k (marked words) p
 unfolding marked
 is_first words k p f = record {
   there = (with_mark (has_mark words) (has_mark words) (length words * 64) p f.inside f.here (λ q d. refl)).put.there;
   from = f.from;
-  least = λ q c l. elim (cases_lt q p) [ inl m ↦ absurd (differ (has_mark words q) (told words q c).0 (f.least q l m)) | inr m ↦ m ];
+  least = λ q c l. elim (cases_lt q p) [ inl m ↦ absurd (two_ways (has_mark words q) (told words q c).0 (f.least q l m)) | inr m ↦ m ];
 }
 
 pub is_none : (words : List ℕ) (k limit : ℕ) → ((q : ℕ) → k ≤ q → q < length words * 64 → has_mark words q ≡ false) → HasNoneBetween k limit (marked words)
-is_none words k limit h = λ q c l m. differ (has_mark words q) (told words q c).0 (h q l (told words q c).1)
+is_none words k limit h = λ q c l m. two_ways (has_mark words q) (told words q c).0 (h q l (told words q c).1)
 
 -- ---- the words ys, which a call makes zs
 

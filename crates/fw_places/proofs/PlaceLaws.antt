@@ -1,11 +1,13 @@
 -- What becomes of places in a row, and where one is found.
-use Rattle.std.proofs.Common.{◌≡◌, ◌⊎◌, ℕ, zero, suc, ◌<◌, ◌≤◌, cond, List, [], ◌∷◌, ◌++◌, length, get_or, Contains, Less, Equal, Greater, nat_cmp, refl, sym, ap, subst, ◌∙◌, inl, inr, arith, length-append}
+use Rattle.std.proofs.Common.{◌≡◌, ◌⊎◌, ℕ, zero, suc, ◌<◌, ◌≤◌, cond, List, [], ◌∷◌, ◌++◌, length, get_or, Contains, Equal, nat_cmp, refl, sym, ap, subst, ◌∙◌, inl, inr, arith, length-append}
 use Rattle.std.proofs.lemmas.List.Elements.{Contains-append_left, Contains-append_right, Contains-append_cases}
 use Rattle.std.specs.Ordering.{match_ordering, is_eq}
 use Rattle.std.specs.List.{AllByRecursion}
 use Rattle.std.specs.BTreeSet.{insert_key}
 use Rattle.std.specs.BTreeMap.{is_at}
 use Rattle.std.specs.Set.{remove_key}
+use Rattle.fw_lemmas.proofs.Lists.{only_one}
+use Rattle.fw_lemmas.proofs.Orderings.{nat_cmp-less, nat_cmp-greater}
 use Rattle.fw_places.specs.Places.{IsPut, IsTakenOut, IsFirstFrom, HasNoneBetween}
 
 -- ---- what holds of each
@@ -20,45 +22,39 @@ each_of P xs q a c = subst P c.2 (at P xs c.0 q a c.1)
 
 -- ---- a place among lower and higher ones
 
-above : (x k : ℕ) → x < k → nat_cmp k x ≡ Greater
-above x k l = grind arith
-
-below : (x k : ℕ) → k < x → nat_cmp k x ≡ Less
-below x k l = grind arith
-
 pub itself : (k : ℕ) → nat_cmp k k ≡ Equal
 itself k = grind arith
 
 -- a set puts it there
 pub put_new : (ls us : List ℕ) (k : ℕ) → AllByRecursion (λ q. q < k) ls → AllByRecursion (λ q. k < q) us → ls ++ k ∷ us ≡ insert_key nat_cmp (ls ++ us) k
 put_new [] [] k a b = refl
-put_new [] (x ∷ us) k a b = sym (ap (λ o. match_ordering o (k ∷ x ∷ us) (x ∷ us) (x ∷ insert_key nat_cmp us k)) (below x k b.0))
+put_new [] (x ∷ us) k a b = sym (ap (λ o. match_ordering o (k ∷ x ∷ us) (x ∷ us) (x ∷ insert_key nat_cmp us k)) (nat_cmp-less k x b.0))
 put_new (x ∷ ls) us k a b =
     ap (λ xs. x ∷ xs) (put_new ls us k a.1 b)
-    ∙ sym (ap (λ o. match_ordering o (k ∷ x ∷ ls ++ us) (x ∷ ls ++ us) (x ∷ insert_key nat_cmp (ls ++ us) k)) (above x k a.0))
+    ∙ sym (ap (λ o. match_ordering o (k ∷ x ∷ ls ++ us) (x ∷ ls ++ us) (x ∷ insert_key nat_cmp (ls ++ us) k)) (nat_cmp-greater k x a.0))
 
 -- and leaves it there
 pub put_old : (ls us : List ℕ) (k : ℕ) → AllByRecursion (λ q. q < k) ls → ls ++ k ∷ us ≡ insert_key nat_cmp (ls ++ k ∷ us) k
 put_old [] us k a = sym (ap (λ o. match_ordering o (k ∷ k ∷ us) (k ∷ us) (k ∷ insert_key nat_cmp us k)) (itself k))
 put_old (x ∷ ls) us k a =
     ap (λ xs. x ∷ xs) (put_old ls us k a.1)
-    ∙ sym (ap (λ o. match_ordering o (k ∷ x ∷ ls ++ k ∷ us) (x ∷ ls ++ k ∷ us) (x ∷ insert_key nat_cmp (ls ++ k ∷ us) k)) (above x k a.0))
+    ∙ sym (ap (λ o. match_ordering o (k ∷ x ∷ ls ++ k ∷ us) (x ∷ ls ++ k ∷ us) (x ∷ insert_key nat_cmp (ls ++ k ∷ us) k)) (nat_cmp-greater k x a.0))
 
 -- without it
 pub out_old : (ls us : List ℕ) (k : ℕ) → AllByRecursion (λ q. q < k) ls → ls ++ us ≡ remove_key (is_at (nat_cmp k)) (ls ++ k ∷ us)
 out_old [] us k a = sym (ap (λ o. cond (is_eq o) us (k ∷ remove_key (is_at (nat_cmp k)) us)) (itself k))
 out_old (x ∷ ls) us k a =
     ap (λ xs. x ∷ xs) (out_old ls us k a.1)
-    ∙ sym (ap (λ o. cond (is_eq o) (ls ++ k ∷ us) (x ∷ remove_key (is_at (nat_cmp k)) (ls ++ k ∷ us))) (above x k a.0))
+    ∙ sym (ap (λ o. cond (is_eq o) (ls ++ k ∷ us) (x ∷ remove_key (is_at (nat_cmp k)) (ls ++ k ∷ us))) (nat_cmp-greater k x a.0))
 
 -- and where it is not nothing goes
 pub out_new : (ls us : List ℕ) (k : ℕ) → AllByRecursion (λ q. q < k) ls → AllByRecursion (λ q. k < q) us → ls ++ us ≡ remove_key (is_at (nat_cmp k)) (ls ++ us)
 out_new [] [] k a b = refl
 out_new [] (x ∷ us) k a b =
-    ap (λ xs. x ∷ xs) (out_new [] us k tt b.1) ∙ sym (ap (λ o. cond (is_eq o) us (x ∷ remove_key (is_at (nat_cmp k)) us)) (below x k b.0))
+    ap (λ xs. x ∷ xs) (out_new [] us k tt b.1) ∙ sym (ap (λ o. cond (is_eq o) us (x ∷ remove_key (is_at (nat_cmp k)) us)) (nat_cmp-less k x b.0))
 out_new (x ∷ ls) us k a b =
     ap (λ xs. x ∷ xs) (out_new ls us k a.1 b)
-    ∙ sym (ap (λ o. cond (is_eq o) (ls ++ us) (x ∷ remove_key (is_at (nat_cmp k)) (ls ++ us))) (above x k a.0))
+    ∙ sym (ap (λ o. cond (is_eq o) (ls ++ us) (x ∷ remove_key (is_at (nat_cmp k)) (ls ++ us))) (nat_cmp-greater k x a.0))
 
 either : {A B C D : Type 0} → (A → C) → (B → D) → A ⊎ B → C ⊎ D
 either f g (inl a) = inl (f a)
@@ -67,13 +63,6 @@ either f g (inr b) = inr (g b)
 one_of : {A B C : Type 0} → (A → C) → (B → C) → A ⊎ B → C
 one_of f g (inl a) = f a
 one_of f g (inr b) = g b
-
-only_one : (k q : ℕ) → Contains (k ∷ []) q → q ≡ k
-only_one k q c = by c.0 c.1 c.2
-  where
-    by : (i : ℕ) → i < 1 → get_or (k ∷ []) i q ≡ q → q ≡ k
-    by zero l e = sym e
-    by (suc i) l e = absurd (omega arith)
 
 middle : (ls us : List ℕ) (k q : ℕ) → Contains (ls ++ k ∷ us) q → (q ≡ k) ⊎ Contains (ls ++ us) q
 middle ls us k q c =

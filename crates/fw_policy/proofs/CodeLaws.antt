@@ -1,12 +1,12 @@
 -- What the loops find that collect what nodes offer.
 use Rattle.std.proofs.Common.{◌≡◌, ℕ, ◌+◌, ◌==◌, append_assoc, ◌<◌, ◌≤◌, Bool, true, false, not, ◌&&◌, ◌||◌, cond, List, [], ◌∷◌, ◌++◌, length, get_or, take, refl, sym, ap, subst, ◌∙◌}
-use Rattle.std.specs.Prelude.{filter, Result, Ok, Err, OnOk}
+use Rattle.std.specs.Prelude.{filter}
 use Rattle.std.specs.List.{AllByRecursion, list_any}
 use Rattle.std.proofs.lemmas.List.{take_more, append-nil}
 use Rattle.std.proofs.Math.Bool.{and-true}
+use Rattle.fw_lemmas.proofs.Each.{each-at}
 use Rattle.fw_time.specs.Stamp.{Stamp, leq, in_domain}
 use Rattle.fw_time.specs.declared.stamp.Bounds.{Bounds}
-use Rattle.fw_time.proofs.EachLaws.{each-at}
 use Rattle.fw_frontier.specs.Frontier.{Frontier, nothing, meet, without_above}
 use Rattle.fw_frontier.specs.Front.{Front, frontier_of, is_within, IsCanonical, IsFrontOf}
 use Rattle.fw_frontier.proofs.NamesLaws.{names-same}
@@ -151,10 +151,6 @@ in_batches low least greatest x n m exhausted e fits few l k =
 pub in_bound : (b : Bounds) (low settled least greatest : Front) (x : Border) (n : ℕ) → x ≡ Output n → least ≡ low
     → IsFrontOf b greatest (meet (frontier_of b settled) (frontier_of b (until n))) → IsOfBound b low settled x (form.Between least greatest)
 in_bound b low settled least greatest x n e l m = subst (λ (y : Border). IsOfBound b low settled y (form.Between least greatest)) (sym e) (l, m)
-
-pub on_ok-weaker : {A E : Type 0} (r : Result A E) (P Q : Type 0) → (P → Q) → OnOk r P → OnOk r Q
-on_ok-weaker (Ok x) P Q h a = h a
-on_ok-weaker (Err e) P Q h a = a
 
 -- a range up to a frontier that is named
 pub range-named : (b : Bounds) (low f : Front) (g : Frontier) (o : Offered) → IsFrontOf b f g → IsRange b low (frontier_of b f) o → IsRange b low g o

@@ -1,12 +1,12 @@
 -- What counts of a sequence: the last of its numbers covers all of them, and its table says what comes from a frontier.
 use Rattle.std.proofs.Common.{◌≡◌, ℕ, true, false, ◌&&◌, List, [], ◌∷◌, map, refl, sym, ◌∙◌, ap}
-use Rattle.std.specs.Prelude.{filter}
 use Rattle.std.specs.List.{AllByRecursion}
 use Rattle.std.proofs.lemmas.Bool.{and_from, cases_Bool}
 use Rattle.std.proofs.Common.{inl, inr}
+use Rattle.fw_lemmas.proofs.Each.{each-weaker, each-append}
+use Rattle.fw_lemmas.proofs.Filters.{filter-all, filter-true}
 use Rattle.fw_time.specs.Stamp.{Stamp, in_domain}
 use Rattle.fw_time.specs.declared.stamp.Bounds.{Bounds}
-use Rattle.fw_time.proofs.EachLaws.{each-weaker, each-append}
 use Rattle.fw_frontier.specs.Frontier.{Frontier, everything, cover}
 use Rattle.fw_model.proofs.ThinnedLaws.{thinned-covers}
 use Rattle.fw_flow.specs.declared.choice.Counted.{Counted}
@@ -20,7 +20,6 @@ use Rattle.fw_flow.specs.Projection.{all_inside, events_at, phi_of_kind, phi, ph
 use Rattle.fw_model.specs.Covers.{stamps_from}
 use Rattle.fw_model.specs.History.{sent_messages}
 use Rattle.fw_model.specs.Offers.{stamps_on_from}
-use Rattle.fw_model.proofs.FilterLaws.{filter-all}
 use Rattle.fw_model.proofs.LocalityLaws.{sends-causes}
 use Rattle.fw_model.specs.EventStamps.{StandForNumbered}
 
@@ -37,10 +36,6 @@ causes-everything sys p b (v ∷ vs) d =
     (each-weaker (λ (m : Message). m.causes ≡ event_stamp v ∷ []) (λ m. all_inside (everything b) m.causes ≡ true) (sends sys p vs v)
     (λ m e. inside-one (everything b) (event_stamp v) m.causes d.0 e) (sends-causes sys p vs v))
     (causes-everything sys p b vs d.1)
-
-filter-true : {A : Type 0} (xs : List A) → filter (λ x. true) xs ≡ xs
-filter-true [] = refl
-filter-true (x ∷ xs) = ap (λ ys. x ∷ ys) (filter-true xs)
 
 -- what stands for a sequence covers all that it sent
 pub numbered-covers : (sys : System) (h : List Event) (e : ℕ) (ms : List Counted) → StandForNumbered sys h e ms

@@ -3,9 +3,10 @@ use Rattle.std.proofs.Common.{◌≡◌, ◌≢◌, ◌⊎◌, ◌↔◌, inl, i
 use Rattle.std.specs.Prelude.{filter}
 use Rattle.std.specs.List.{AllByRecursion, Contains, flat_map}
 use Rattle.std.proofs.lemmas.Bool.{cond_both, cases_Bool, and_parts}
+use Rattle.fw_lemmas.proofs.Bools.{two_ways}
+use Rattle.fw_lemmas.proofs.Each.{each-weaker, each-kept}
 use Rattle.fw_time.specs.Stamp.{Stamp, in_domain}
 use Rattle.fw_time.specs.declared.stamp.Bounds.{Bounds}
-use Rattle.fw_time.proofs.EachLaws.{each-weaker, each-kept}
 use Rattle.fw_frontier.specs.Frontier.{Frontier, Within, nothing, everything, cover, meet}
 use Rattle.fw_frontier.specs.Front.{Front, inside, frontier_of, IsCanonical, IsFrontOf, is_within}
 use Rattle.fw_frontier.proofs.NamesLaws.{is_within-holds, within-is}
@@ -38,7 +39,6 @@ use Rattle.fw_model.specs.Writes.{takes_checkpoints, is_collected, not_collected
 use Rattle.fw_model.proofs.AskedLaws.{reached-all, takes-restoring, IsApart}
 use Rattle.fw_model.proofs.CheckpointFrontLaws.{checkpoints-have_stamps}
 use Rattle.fw_model.proofs.ChoiceLaws.{by_batches-input, bounds-input}
-use Rattle.fw_model.proofs.Decisions.{two_ways}
 use Rattle.fw_model.proofs.DomainLaws.{has_epochs}
 use Rattle.fw_model.proofs.InputLaws.{injected-few}
 use Rattle.fw_model.proofs.LegalLaws.{legal_events-in_domain}

@@ -1,7 +1,8 @@
 -- What nodes offer that are restored to anything settled, acknowledged or logged: all from the low watermark on.
-use Rattle.std.proofs.Common.{◌≡◌, ◌↔◌, inl, inr, Bool, true, false, not, List, [], ◌∷◌, refl, sym, ◌∙◌, ap, subst}
+use Rattle.std.proofs.Common.{◌≡◌, ◌↔◌, inl, inr, true, false, not, List, [], ◌∷◌, refl, sym, ◌∙◌, ap, subst}
 use Rattle.std.specs.List.{AllByRecursion, list_any}
-use Rattle.std.proofs.lemmas.Bool.{and_parts, and_from, or_cases, or_left, or_right, cases_Bool}
+use Rattle.std.proofs.lemmas.Bool.{and_parts, and_from, or_cases, or_left, or_right, cases_Bool, not-true}
+use Rattle.fw_lemmas.proofs.Bools.{two_ways}
 use Rattle.fw_time.specs.Stamp.{Stamp, leq, in_domain}
 use Rattle.fw_time.specs.declared.stamp.Bounds.{Bounds}
 use Rattle.fw_time.proofs.StampLaws.{leq-refl, leq-trans}
@@ -9,7 +10,6 @@ use Rattle.fw_time.proofs.DomainLaws.{domain-leq, plain-in_domain}
 use Rattle.fw_frontier.specs.Frontier.{Frontier, Within, meet}
 use Rattle.fw_frontier.specs.Front.{Front, inside, frontier_of, IsFrontOf}
 use Rattle.fw_frontier.proofs.InsideLaws.{inside-closed}
-use Rattle.fw_model.proofs.Decisions.{two_ways}
 use Rattle.fw_model.specs.Offers.{IsBetween}
 use Rattle.fw_policy.specs.Offering.{below_all}
 use Rattle.fw_model.proofs.SentStandLaws.{IsOne, one-holds}
@@ -47,17 +47,13 @@ one-below s [] i = absurd i
 one-below s (x ∷ ss) (inl e) = or_left (leq x s) (list_any (λ y. leq y s) ss) (ap (λ y. leq y s) e ∙ leq-refl s)
 one-below s (x ∷ ss) (inr i) = or_right (leq x s) (list_any (λ y. leq y s) ss) (one-below s ss i)
 
-false-of : (c : Bool) → not c ≡ true → c ≡ false
-false-of true k = absurd (cc)
-false-of false k = refl
-
 -- in a domain without sides a frontier lies within what is at none of these stamps or above exactly where none of them is inside
 pub within-below : (b : Bounds) (f : Front) (g : Frontier) (ss : List Stamp) → b.sides ≡ false
     → Within (frontier_of b f) (below_all ss g) ↔ (Within (frontier_of b f) g × AllByRecursion (λ s. frontier_of b f s ≡ false) ss)
 within-below b f g ss plain = (
   λ w. (
     (λ t e. (and_parts (g t) (not (list_any (λ s. leq s t) ss)) (w t e)).0),
-    each-outside (frontier_of b f) ss (λ t e. false-of (list_any (λ s. leq s t) ss) (and_parts (g t) (not (list_any (λ s. leq s t) ss)) (w t e)).1) ss (λ s i. one-below s ss i),
+    each-outside (frontier_of b f) ss (λ t e. not-true (list_any (λ s. leq s t) ss) (and_parts (g t) (not (list_any (λ s. leq s t) ss)) (w t e)).1) ss (λ s i. one-below s ss i),
   ),
   λ w. λ t e. and_from (g t) (not (list_any (λ s. leq s t) ss)) (w.0 t e) (elim (cases_Bool (list_any (λ s. leq s t) ss)) [
     | inl k ↦

@@ -3,8 +3,9 @@ use Rattle.std.proofs.Common.{◌≡◌, ◌≢◌, ◌⊎◌, ◌↔◌, inl, i
 use Rattle.std.specs.Prelude.{filter}
 use Rattle.std.specs.List.{AllByRecursion}
 use Rattle.std.proofs.lemmas.Bool.{cond_both, and_parts, and_from, eqb-true, eq-eqb}
+use Rattle.fw_lemmas.proofs.Bools.{two_ways}
+use Rattle.fw_lemmas.proofs.Each.{each-append, each-kept}
 use Rattle.fw_time.specs.declared.stamp.Bounds.{Bounds}
-use Rattle.fw_time.proofs.EachLaws.{each-kept, each-append}
 use Rattle.fw_frontier.specs.Frontier.{Within}
 use Rattle.fw_frontier.specs.Front.{Front, frontier_of, is_within}
 use Rattle.fw_flow.specs.declared.choice.Recorded.{Recorded}
@@ -12,7 +13,6 @@ use Rattle.fw_flow.specs.Dataflow.{System, bounds_of}
 use Rattle.fw_model.specs.Choice.{kept, is_counted, HasCheckpoint}
 use Rattle.fw_model.specs.Machine.{Machine, Write, Stage, in_flight, acknowledged, collected, checkpoint, logged_event, no_stamps, Written as WrittenBy}
 use Rattle.fw_model.proofs.AskedLaws.{IsApart}
-use Rattle.fw_model.proofs.Decisions.{two_ways}
 use Rattle.fw_model.proofs.WriteLaws.{HoldsOfOne, IsCheckpointAt, IsItsCheckpoint, some-checkpoint, checkpoint-some, some-passed, ArePairs, LiesBelow}
 use Rattle.fw_model.specs.Offers.{IsListed, Ascend}
 use Rattle.fw_keep.specs.declared.entry.Entry.{Entry}

@@ -3,9 +3,11 @@ use Rattle.std.proofs.Common.{◌≡◌, inl, inr, ℕ, Bool, true, false, cond,
 use Rattle.std.specs.Prelude.{filter}
 use Rattle.std.specs.List.{AllByRecursion, flat_map}
 use Rattle.std.proofs.lemmas.Bool.{cases_Bool, and_left}
+use Rattle.fw_lemmas.proofs.Bools.{two_ways}
+use Rattle.fw_lemmas.proofs.Each.{each-weaker, each-one, each-append}
+use Rattle.fw_lemmas.proofs.Filters.{filter-none}
 use Rattle.fw_time.specs.Stamp.{Stamp, in_domain}
 use Rattle.fw_time.specs.declared.stamp.Bounds.{Bounds}
-use Rattle.fw_time.proofs.EachLaws.{each-weaker, each-append}
 use Rattle.fw_frontier.specs.Frontier.{Frontier, nothing, cover, some_above}
 use Rattle.fw_frontier.specs.Front.{Front, frontier_of, same_front}
 use Rattle.fw_flow.specs.declared.choice.Recorded.{Recorded}
@@ -19,14 +21,12 @@ use Rattle.fw_flow.specs.Restoring.{way_of, can_resend}
 use Rattle.fw_model.specs.Covers.{takes_its_cut, takes_its_notices, discarded_at, stamps_from, stamp_of_notice}
 use Rattle.fw_model.specs.History.{delivered_messages, sent_messages}
 use Rattle.fw_model.specs.Machine.{Machine, events, no_stamps}
-use Rattle.fw_model.proofs.Decisions.{two_ways}
 use Rattle.fw_model.proofs.LocalityLaws.{sends-causes}
 use Rattle.fw_model.proofs.LowLaws.{none-within, none-canonical}
 use Rattle.fw_model.specs.Offers.{IsListed, record_at}
 use Rattle.fw_policy.specs.Entries.{IsRecorded}
 use Rattle.fw_policy.specs.View.{}
 use Rattle.fw_policy.specs.Offering.{empty_record}
-use Rattle.fw_model.proofs.FilterLaws.{filter-none}
 use Rattle.fw_frontier.proofs.SameLaws.{same_front-itself, same_front-is}
 
 -- ---- the record of a frontier
@@ -58,10 +58,6 @@ outside-none b t = by (frontier_of b (no_stamps b) t) (λ k. none-within b nothi
     by : (c : Bool) → (c ≡ true → false ≡ true) → c ≡ false
     by true n = sym (n refl)
     by false n = refl
-
-each-all : {A : Type 0} (P : A → Type 0) (xs : List A) → ((x : A) → P x) → AllByRecursion P xs
-each-all P [] h = tt
-each-all P (x ∷ xs) h = (h x, each-all P xs h)
 
 covers-none : (b : Bounds) (ss : List Stamp) → ss ≡ [] → nothing ≡ cover b ss
 covers-none b ss e = λ i t. at t i
@@ -98,7 +94,7 @@ empty-recorded sys state p way notices =
     let f = no_stamps b in
     let none = frontier_of b f in
     let h = events state.history in
-    let each : (ss : List Stamp) → AllByRecursion (λ t. none t ≡ false) ss = λ ss. each-all (λ t. none t ≡ false) ss (λ t. outside-none b t) in
+    let each : (ss : List Stamp) → AllByRecursion (λ t. none t ≡ false) ss = λ ss. each-one (λ t. none t ≡ false) ss (λ t. outside-none b t) in
     record {
       front = refl;
       of_flow = record { front = none-canonical b; notified = none-canonical b; delivered = tt; discarded = tt };

@@ -1,11 +1,10 @@
 -- What is offered by views and entries of a dataflow is of that dataflow.
 use Rattle.std.proofs.Common.{◌≡◌, ℕ, zero, suc, ◌+◌, ◌<◌, true, not, ◌&&◌, ◌==◌, List, [], ◌∷◌, length, map, slice_index_or, refl, sym, ◌∙◌, ap, subst, arith}
 use Rattle.std.specs.List.{AllByRecursion, flat_map}
-use Rattle.std.proofs.lemmas.Bool.{cond_both, and_parts}
-use Rattle.std.proofs.lemmas.Bool.Decides.{nat_tests}
+use Rattle.std.proofs.lemmas.Bool.{cond_both, and_parts, eqb-true}
+use Rattle.fw_lemmas.proofs.Each.{each-append, each-kept}
 use Rattle.fw_time.specs.Stamp.{in_domain}
 use Rattle.fw_time.specs.declared.stamp.Bounds.{Bounds}
-use Rattle.fw_time.proofs.EachLaws.{each-append, each-kept}
 use Rattle.fw_frontier.specs.Frontier.{Frontier}
 use Rattle.fw_frontier.specs.Front.{Front, IsCanonical, is_within}
 use Rattle.fw_flow.specs.declared.choice.Counted.{Counted}
@@ -41,9 +40,6 @@ use Rattle.fw_policy.specs.Shaped.{FitsKind, IsWrittenOf, IsViewFor, AreViewsFro
 abbrev AreWritten : Dataflow → List Entry → Type 0
 AreWritten flow entries = AllByRecursion (λ (entry : Entry). IsWrittenOf flow entry.node entry.written) entries
 
-same-node : (n m : ℕ) → (n == m) ≡ true → n ≡ m
-same-node n m e = grind (arith, nat_tests)
-
 -- ---- what the entries hold
 
 record-held : (flow : Dataflow) (p : ℕ) (w : Written) → IsWrittenOf flow p w → AllByRecursion (IsRecordOf flow p) (record_in w)
@@ -55,7 +51,7 @@ records-held flow p [] a = tt
 records-held flow p (entry ∷ entries) a =
     each-append (IsRecordOf flow p) (record_by p entry) (records_by p entries)
     (cond_both (entry.node == p && entry.acknowledged) (record_in entry.written) [] (AllByRecursion (IsRecordOf flow p))
-    (λ e. record-held flow p entry.written (subst (λ q. IsWrittenOf flow q entry.written) (same-node entry.node p (and_parts (entry.node == p) entry.acknowledged e).0) a.0)) (λ e. tt))
+    (λ e. record-held flow p entry.written (subst (λ q. IsWrittenOf flow q entry.written) (eqb-true entry.node p (and_parts (entry.node == p) entry.acknowledged e).0) a.0)) (λ e. tt))
     (records-held flow p entries a.1)
 
 stamp-held : (flow : Dataflow) (p : ℕ) (w : Written) → IsWrittenOf flow p w → AreOfDomain flow p (stamp_of_written w)
@@ -67,7 +63,7 @@ stamps-held flow p [] a = tt
 stamps-held flow p (entry ∷ entries) a =
     each-append (λ t. in_domain (bounds_of flow p) t ≡ true) (unlogged_by p entry) (flat_map (unlogged_by p) entries)
     (cond_both (entry.node == p && not entry.acknowledged) (stamp_of_written entry.written) [] (AreOfDomain flow p)
-    (λ e. stamp-held flow p entry.written (subst (λ q. IsWrittenOf flow q entry.written) (same-node entry.node p (and_parts (entry.node == p) (not entry.acknowledged) e).0) a.0)) (λ e. tt))
+    (λ e. stamp-held flow p entry.written (subst (λ q. IsWrittenOf flow q entry.written) (eqb-true entry.node p (and_parts (entry.node == p) (not entry.acknowledged) e).0) a.0)) (λ e. tt))
     (stamps-held flow p entries a.1)
 
 -- ---- the views are what the code asks for

@@ -1,25 +1,22 @@
 -- Which events of a node are not logged: those whose entries are in flight, and those that were lost with it.
-use Rattle.std.proofs.Common.{◌≡◌, ◌⊎◌, ◌↔◌, inl, inr, Some, ℕ, suc, ◌<◌, Bool, true, false, not, cond, ◌&&◌, ◌==◌, List, [], ◌∷◌, ◌++◌, refl, sym, ◌∙◌, ap, subst, arith}
+use Rattle.std.proofs.Common.{◌≡◌, ◌⊎◌, ◌↔◌, inl, inr, ℕ, suc, ◌<◌, Bool, true, false, not, cond, ◌&&◌, ◌==◌, List, [], ◌∷◌, ◌++◌, refl, sym, ◌∙◌, ap, subst, arith}
 use Rattle.std.specs.Prelude.{filter}
 use Rattle.std.specs.List.{AllByRecursion, Contains, flat_map}
-use Rattle.std.proofs.lemmas.Bool.{cond_both, cases_Bool, and_parts, and_from, eqb-true, eq-eqb}
+use Rattle.std.proofs.lemmas.Bool.{cond_both, cases_Bool, and_parts, and_from, eqb-true, eq-eqb, false_from_ne_true}
+use Rattle.fw_lemmas.proofs.Bools.{two_ways}
+use Rattle.fw_lemmas.proofs.Each.{each-weaker, each-both, each-there}
 use Rattle.fw_time.specs.Stamp.{Stamp}
-use Rattle.fw_time.proofs.EachLaws.{each-weaker, each-both}
 use Rattle.fw_frontier.specs.Frontier.{Frontier}
-use Rattle.fw_flow.specs.declared.event.Event.{Event as Happened}
-use Rattle.fw_flow.specs.declared.event.Event.TheVariants as happened
-use Rattle.fw_flow.specs.Dataflow.{System, Dataflow}
+use Rattle.fw_flow.specs.Dataflow.{System}
 use Rattle.fw_flow.specs.NodeFunction.{event_node, event_stamp}
 use Rattle.fw_model.specs.Choice.{ever, kept, is_counted, IsLogged, AllLogged}
 use Rattle.fw_model.specs.Writes.{HasOne, LogsSerial, not_collected}
 use Rattle.fw_model.specs.Machine.{Machine, SerialEvent, Write, Stage, in_flight, acknowledged, collected, checkpoint, logged_event, is_failed, Written as WrittenBy}
 use Rattle.fw_model.proofs.AskedLaws.{IsApart, AreSerialsBelow, serials-each}
-use Rattle.fw_model.proofs.Decisions.{two_ways}
 use Rattle.fw_model.proofs.RestoringLaws.{apart-events, all-logged}
 use Rattle.fw_model.proofs.WriteLaws.{HoldsOfOne, some-passed, NamesEvent, LogsEvent, some-logged, logged-some, ArePairs}
 use Rattle.fw_model.specs.LawsOfWrites.{IsLoggedFor}
 use Rattle.fw_record.specs.declared.record.Event.{Event}
-use Rattle.fw_record.specs.declared.record.Event.TheVariants.{Deliver, Notify}
 use Rattle.fw_record.specs.Event.{stamp_of_event}
 use Rattle.fw_keep.specs.declared.entry.Entry.{Entry}
 use Rattle.fw_keep.specs.declared.entry.Written.{Written}
@@ -49,11 +46,6 @@ meets : {A : Type 0} (P Q : A → Type 0) (xs : List A) → AllByRecursion P xs 
 meets P Q [] a k = absurd k
 meets P Q (x ∷ xs) a (inl k) = (x, a.0, k)
 meets P Q (x ∷ xs) a (inr k) = meets P Q xs a.1 k
-
--- each element is in its list
-each-there : {A : Type 0} (xs : List A) → AllByRecursion (Contains xs) xs
-each-there [] = tt
-each-there (x ∷ xs) = ((0, omega arith, refl), each-weaker (Contains xs) (Contains (x ∷ xs)) xs (λ y c. let l = c.1 in (suc c.0, omega arith, c.2)) (each-there xs))
 
 -- ---- logged or not
 
@@ -352,10 +344,6 @@ one-of-each P t [] a i = absurd i
 one-of-each P t (s ∷ ss) a (inl e) = subst P e a.0
 one-of-each P t (s ∷ ss) a (inr i) = one-of-each P t ss a.1 i
 
-outside-one : (b : Bool) → (b ≡ true → ⊥) → b ≡ false
-outside-one true n = absurd (n refl)
-outside-one false n = refl
-
 -- all events inside are logged exactly where none of these stamps is inside
 pub logged-outside : (sys : System) (state : Machine) (p : ℕ) (entries : List Entry) (lost : List Stamp) → IsOfEntries sys state p entries lost → (f : Frontier)
     → AllLogged sys p f state.writes state.history ↔ AllByRecursion (λ s. f s ≡ false) (unlogged_stamps p entries lost)
@@ -363,7 +351,7 @@ logged-outside sys state p entries lost o f = (
   λ a. each-one-of (λ s. f s ≡ false) (unlogged_stamps p entries lost) (λ t i.
       let u = unlogged-is sys state p entries lost o t i in
       let c = u.there in
-      outside-one (f t) (λ k. u.not_logged (each-contained (λ (v : SerialEvent). event_node sys.flow v.event ≡ p → f (event_stamp v.event) ≡ true → IsLogged v.serial state.writes) u.event state.history c
+      false_from_ne_true (f t) (λ k. u.not_logged (each-contained (λ (v : SerialEvent). event_node sys.flow v.event ≡ p → f (event_stamp v.event) ≡ true → IsLogged v.serial state.writes) u.event state.history c
       (all-logged sys p f state.writes state.history a) u.is.node (ap f u.is.stamp ∙ k)))),
   λ a. from-each sys p f state.writes state.history
       (each-weaker (λ (v : SerialEvent). event_node sys.flow v.event ≡ p → IsLogged v.serial state.writes ⊎ IsOne (event_stamp v.event) (unlogged_stamps p entries lost))

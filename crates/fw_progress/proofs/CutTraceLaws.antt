@@ -3,9 +3,10 @@ use Rattle.std.proofs.Common.{◌≡◌, ℕ, Bool, true, false, ◌==◌, cond,
 use Rattle.std.specs.Prelude.{filter}
 use Rattle.std.specs.List.{AllByRecursion, flat_map}
 use Rattle.std.proofs.lemmas.Bool.{eq-eqb, eqb-true, false_from_ne_true}
+use Rattle.fw_lemmas.proofs.Each.{each-weaker, each-append}
+use Rattle.fw_lemmas.proofs.Filters.{flat_map-filter}
 use Rattle.fw_time.specs.Stamp.{Stamp, in_domain}
 use Rattle.fw_time.specs.declared.stamp.Bounds.{Bounds}
-use Rattle.fw_time.proofs.EachLaws.{each-weaker, each-append}
 use Rattle.fw_frontier.specs.Frontier.{Frontier, Within}
 use Rattle.fw_frontier.specs.Front.{Front, frontier_of}
 use Rattle.fw_flow.specs.declared.event.Event.{Event}
@@ -19,7 +20,6 @@ use Rattle.fw_model.specs.Covers.{stamp_of_notice}
 use Rattle.fw_model.specs.Filtering.{AreFrontiers, kept_events, messages_inside, messages_from, events_inside}
 use Rattle.fw_model.specs.History.{message_on, delivered_messages, AreEventsInDomain, IsLegal}
 use Rattle.fw_model.specs.Thinned.{IsThinned}
-use Rattle.fw_model.proofs.FilterLaws.{flat_map-filter}
 use Rattle.fw_model.proofs.LegalLaws.{legal_events-in_domain}
 use Rattle.fw_model.proofs.LocalityLaws.{sends-causes, events_at-kept, sent_by-same, delivers-same}
 use Rattle.fw_model.proofs.SequenceLaws.{one_inside}

@@ -3,18 +3,18 @@ use Rattle.std.proofs.Common.{◌↔◌, ◌≡◌, ℕ, zero, suc, ◌+◌, ◌
 use Rattle.std.specs.List.{AllByRecursion}
 use Rattle.std.proofs.lemmas.Bool.{cases_eq, eq-eqb, eqb-true, false_from_ne_true, both_ways, or_right}
 use Rattle.std.proofs.lemmas.List.{get_or-set_same, get_or-set_other, length-set, take_more}
+use Rattle.fw_lemmas.proofs.Each.{each-at}
+use Rattle.fw_lemmas.proofs.Lists.{read_at}
 use Rattle.fw_time.specs.Stamp.{Stamp, same, in_domain}
 use Rattle.fw_time.specs.declared.stamp.Bounds.{Bounds}
 use Rattle.fw_flow.specs.Counting.{how_many}
 use Rattle.fw_flow.specs.declared.node.Edge.{Edge}
 use Rattle.fw_flow.specs.Dataflow.{Dataflow, sender, receiver, bounds_of, edges_from, out_edges}
 use Rattle.fw_flow.specs.SentTable.{AreInOrder}
-use Rattle.fw_time.proofs.EachLaws.{each-append, each-at}
 use Rattle.fw_flow.proofs.OutEdgeLaws.{out_edges-from}
 use Rattle.fw_progress.specs.Counts.{is_in}
 use Rattle.fw_progress.specs.Progress.{ChangesAt, AreSent, IsSentMore}
 use Rattle.fw_progress.specs.Tally.{times_in, IsTallyOf, HasEachMore}
-use Rattle.fw_progress.proofs.TargetLaws.{read_at}
 
 -- one place changed
 pub changed_at : {A : Type 0} (d : A) (R : A → A → Type 0) (old : List A) (p i : ℕ) (x y : A) → i ≡ p → i < length old → y ≡ get_or old i y → R y x → ChangesAt p d R old (set old i x)
@@ -169,7 +169,3 @@ all_sent flow p stamps edges old new is a = record {
     from : {n : ℕ} (b : Bool) → n ≡ cond b 1 0 → (n ≡ 0 → ⊥) → b ≡ true
     from true e f = refl
     from false e f = absurd (f e)
-
--- one more of which it holds
-pub each-taken : {A : Type 0} (P : A → Type 0) (xs : List A) (i : ℕ) (x : A) → i < length xs → x ≡ get_or xs i x → AllByRecursion P (take i xs) → P x → AllByRecursion P (take (i + 1) xs)
-each-taken P xs i x l is a p = subst (AllByRecursion P) (sym (take_more xs i x l ∙ ap (λ y. take i xs ++ y ∷ []) (sym is))) (each-append P (take i xs) (x ∷ []) a (p, tt))

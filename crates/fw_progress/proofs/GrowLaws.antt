@@ -1,11 +1,12 @@
 -- Frontiers that grow: what it keeps, and what it leaves to be widened.
 use Rattle.std.proofs.Common.{◌↔◌, ◌≡◌, ◌≢◌, ℕ, suc, ◌+◌, ◌*◌, ◌<◌, ◌≤◌, Bool, true, false, not, ◌==◌, nat_lt, cond, List, [], ◌∷◌, ◌++◌, length, get_or, set, refl, sym, ap, subst, ◌∙◌, inl, inr, arith, append_assoc}
 use Rattle.std.specs.List.{list_all}
-use Rattle.std.proofs.lemmas.Bool.{and_parts, and_from, cases_Bool, cases_eq, cases_lt, false_from_ne_true, lt-ltb, both_ways}
+use Rattle.std.proofs.lemmas.Bool.{and_parts, and_from, cases_Bool, cases_eq, cases_lt, false_from_ne_true, lt-ltb, both_ways, not-true}
 use Rattle.std.proofs.lemmas.List.{get_or-set_same, get_or-set_other, get_or_past, length-set}
+use Rattle.fw_lemmas.proofs.Each.{all-of_each}
+use Rattle.fw_lemmas.proofs.Lists.{read_at}
 use Rattle.fw_time.specs.Stamp.{Stamp, in_domain}
 use Rattle.fw_time.specs.declared.stamp.Bounds.{Bounds}
-use Rattle.fw_time.proofs.EachLaws.{all-of_each}
 use Rattle.fw_time.proofs.DomainLaws.{domain-leq}
 use Rattle.fw_frontier.specs.Frontier.{Frontier, Within}
 use Rattle.fw_frontier.specs.Front.{Front, inside, frontier_of, IsCanonical, IsFrontOf}
@@ -20,7 +21,7 @@ use Rattle.fw_progress.specs.declared.counts.Counts.{Counts}
 use Rattle.fw_progress.specs.declared.growth.Growth.{Growth}
 use Rattle.fw_progress.specs.Counts.{come_by, target_by, IsAdmissibleBy, IsStuckBy, is_in}
 use Rattle.fw_progress.specs.Growths.{IsMore, AreGrowths, out_degrees, ArePut, IsGrown, HaveGrown, IsTaken}
-use Rattle.fw_progress.proofs.TargetLaws.{read_at, target-monotone, target-less}
+use Rattle.fw_progress.proofs.TargetLaws.{target-monotone, target-less}
 
 -- ---- one front in a list of one for each node
 
@@ -209,10 +210,6 @@ not_within_read flow fronts p i f x r k e l is above none w =
 pub outside_count : Dataflow → List Front → ℕ
 outside_count flow fronts = total (λ p. (bounds_of flow p).greatest) (λ p t. not (family_of flow fronts p t)) (length flow.nodes)
 
-not-false : (b : Bool) → not b ≡ true → b ≡ false
-not-false true e = absurd (cc)
-not-false false e = refl
-
 -- a node that can have more is one of the list
 more-there : (flow : Dataflow) (old : List Front) (p : ℕ) (f : Front) → IsMore flow old p f → p < length old
 more-there flow old p f m = elim (cases_lt p (length old)) [
@@ -232,7 +229,7 @@ fewer_outside flow old p f one m =
     let before : ℕ → Frontier = λ q t. not (family_of flow old q t) in
     let grows = family_grows flow old p f l m.above in
     elim (total-less top now before
-    (λ q t i. ap not (false_from_ne_true (family_of flow old q t) (λ k. let g = grows q t k in let j = not-false (family_of flow (set old p f) q t) i in cc))) (length flow.nodes)) [
+    (λ q t i. ap not (false_from_ne_true (family_of flow old q t) (λ k. let g = grows q t k in let j = not-true (family_of flow (set old p f) q t) i in cc))) (length flow.nodes)) [
       | inr less ↦ less
       | inl same ↦ absurd (m.strictly (λ t i.
           let d = (and_parts (in_domain (bounds_of flow p) t) (inside f t) i).0 in
@@ -240,7 +237,7 @@ fewer_outside flow old p f one m =
             | inl k ↦ k
             | inr k ↦
                 let j = covers-at top now before (length flow.nodes) same.0 p (omega arith) t (domain-leq (bounds_of flow p) t d) (ap not k) in
-                let z = not-false (family_of flow (set old p f) p t) j in
+                let z = not-true (family_of flow (set old p f) p t) j in
                 let y = family_new flow old p f t l in
                 absurd (cc)
           ]))

@@ -4,8 +4,9 @@ use Rattle.std.specs.List.{list_all}
 use Rattle.std.specs.Map.{keys_of}
 use Rattle.std.proofs.lemmas.Bool.{and_parts, and_from, cases_lt, or_parts}
 use Rattle.std.proofs.lemmas.List.{get_or_past}
+use Rattle.fw_lemmas.proofs.Bools.{implies-from}
+use Rattle.fw_lemmas.proofs.Each.{each-of_all, all-of_each}
 use Rattle.fw_time.specs.Stamp.{Stamp, leq, same, in_domain}
-use Rattle.fw_time.proofs.EachLaws.{each-of_all, all-of_each}
 use Rattle.fw_time.proofs.StampLaws.{leq-refl}
 use Rattle.fw_frontier.specs.Frontier.{Frontier}
 use Rattle.fw_frontier.specs.Front.{Front, inside}
@@ -22,7 +23,7 @@ use Rattle.fw_model.specs.LawsOfProgress.{IsOpen}
 use Rattle.fw_model.specs.Machine.{front_of, family_of}
 use Rattle.fw_model.proofs.LesserLaws.{lesser-in_domain}
 use Rattle.fw_model.proofs.CompleteLaws.{not_past}
-use Rattle.fw_model.proofs.DescentLaws.{past_edges-joined, past_edges-quiet, past_edges-phi, implies-from}
+use Rattle.fw_model.proofs.DescentLaws.{past_edges-joined, past_edges-quiet, past_edges-phi}
 use Rattle.fw_model.proofs.ProgressLaws.{stuck-complete}
 use Rattle.fw_progress.specs.declared.counts.Counts.{Counts}
 use Rattle.fw_progress.specs.Counts.{pending_of, owed_of, batches_in, injected_in, sent_of, AreCounts, given_by, clear_by, come_by, target_by, IsAdmissibleBy, is_in, AreStuckOutside}

@@ -4,8 +4,8 @@ use Rattle.std.specs.Prelude.{filter}
 use Rattle.std.specs.List.{AllByRecursion, list_any}
 use Rattle.std.proofs.lemmas.Bool.{cases_eq, cases_Bool, eq-eqb, eqb-true, false_from_ne_true, both_ways, or_cases, or_left, or_right, or_parts, not-true}
 use Rattle.std.proofs.lemmas.List.{take_more}
+use Rattle.fw_lemmas.proofs.Each.{each-one, each-at, each-filter, each-kept}
 use Rattle.fw_time.specs.Stamp.{Stamp, lesser, in_domain}
-use Rattle.fw_time.proofs.EachLaws.{each-at, each-one, each-filter, each-kept}
 use Rattle.fw_frontier.specs.Frontier.{Frontier}
 use Rattle.fw_frontier.specs.Front.{Front, inside, frontier_of}
 use Rattle.fw_flow.specs.declared.node.Edge.{Edge}

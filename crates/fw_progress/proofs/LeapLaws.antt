@@ -2,6 +2,7 @@
 use Rattle.std.proofs.Common.{◌↔◌, ◌≡◌, ◌⊎◌, ℕ, zero, suc, ◌+◌, ◌<◌, ◌≤◌, Bool, true, false, List, [], ◌∷◌, ◌++◌, length, get_or, set, refl, sym, ap, subst, ◌∙◌, inl, inr, arith}
 use Rattle.std.proofs.lemmas.Bool.{and_parts, cases_eq, cases_lt, both_ways}
 use Rattle.std.specs.Prelude.{IsTrue}
+use Rattle.fw_lemmas.proofs.Lists.{read_at}
 use Rattle.fw_time.specs.Stamp.{in_domain}
 use Rattle.fw_time.specs.declared.stamp.Bounds.{Bounds}
 use Rattle.fw_frontier.specs.Frontier.{Within}
@@ -15,7 +16,7 @@ use Rattle.fw_progress.specs.declared.growth.Growth.{Growth}
 use Rattle.fw_progress.specs.Counts.{target_by, IsAdmissibleBy}
 use Rattle.fw_progress.specs.Growths.{IsMore, IsGrown, HaveGrown, IsTaken}
 use Rattle.fw_progress.specs.Leap.{CanLeapAt, CanLeap, AreAbove, IsReachedAt, HaveReached, HaveLeapt}
-use Rattle.fw_progress.proofs.TargetLaws.{read_at, target-monotone}
+use Rattle.fw_progress.proofs.TargetLaws.{target-monotone}
 use Rattle.fw_progress.proofs.GrowLaws.{family_new, family_old, family_grows, none_grown, one_grown, grown_then}
 use Rattle.fw_progress.proofs.StartLaws.{past-all}
 

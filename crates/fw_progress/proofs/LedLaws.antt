@@ -3,7 +3,7 @@ use Rattle.std.proofs.Common.{◌≡◌, ◌⊎◌, ℕ, zero, suc, ◌+◌, ◌
 use Rattle.std.specs.List.{AllByRecursion}
 use Rattle.std.proofs.lemmas.Bool.{cases_eq, eq-eqb, eqb-true, both_ways, or_cases, or_left, or_right}
 use Rattle.std.proofs.lemmas.List.{drop_more, drop_all, get_or-set_same, get_or-set_other, length-append, length-set}
-use Rattle.fw_time.proofs.EachLaws.{each-at, each-weaker}
+use Rattle.fw_lemmas.proofs.Each.{each-weaker, each-at}
 use Rattle.fw_flow.specs.Dataflow.{Dataflow, sender, receiver, out_edges}
 use Rattle.fw_flow.proofs.OutEdgeLaws.{out_edges-at, out_edges-from}
 use Rattle.fw_progress.specs.Counts.{is_in}

@@ -12,9 +12,9 @@ use Rattle.std.proofs.lemmas.Bool.{and_parts, and_from, both_ways, cases_Bool, c
 use Rattle.std.proofs.Math.Bool.{and-true}
 use Rattle.std.proofs.lemmas.Bool.Decides.{nat_tests}
 use Rattle.std.proofs.lemmas.List.{get_or_past, take_more}
+use Rattle.fw_lemmas.proofs.Each.{each-weaker, each-at, each-of_all, all-of_each}
 use Rattle.fw_time.specs.Stamp.{Stamp, leq, lesser, in_domain, stamp_cmp}
 use Rattle.fw_time.specs.declared.stamp.Bounds.{Bounds}
-use Rattle.fw_time.proofs.EachLaws.{each-at, each-of_all, all-of_each, each-weaker}
 use Rattle.fw_time.proofs.StampLaws.{before-from_leq, same-is, same-refl}
 use Rattle.fw_frontier.specs.Front.{Front, inside, IsFrontOf}
 use Rattle.fw_frontier.proofs.InsideLaws.{inside-closed}

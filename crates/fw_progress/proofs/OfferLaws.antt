@@ -4,8 +4,9 @@ use Rattle.std.specs.Prelude.{filter, option_to_list}
 use Rattle.std.specs.List.{AllByRecursion, Contains, flat_map}
 use Rattle.std.proofs.lemmas.Bool.{eq-eqb, eqb-true}
 use Rattle.std.proofs.lemmas.List.Elements.{filter-append}
+use Rattle.fw_lemmas.proofs.Each.{each-weaker, each-both, each-append, each-map}
+use Rattle.fw_lemmas.proofs.Filters.{filter-all, filter-none}
 use Rattle.fw_time.specs.Stamp.{Stamp, in_domain}
-use Rattle.fw_time.proofs.EachLaws.{each-weaker, each-append, each-map, each-both}
 use Rattle.fw_frontier.specs.Frontier.{Frontier}
 use Rattle.fw_flow.specs.declared.choice.Counted.{Counted}
 use Rattle.fw_flow.specs.declared.event.Event.{Event}
@@ -17,7 +18,6 @@ use Rattle.fw_flow.specs.WellFormed.{IsWellFormed}
 use Rattle.fw_model.specs.Offers.{AreOnEdges, on_edge, stamps_on}
 use Rattle.fw_model.specs.Thinned.{IsThinned}
 use Rattle.fw_model.proofs.DependenceLaws.{in_edges-each}
-use Rattle.fw_model.proofs.FilterLaws.{filter-all, filter-none}
 use Rattle.fw_model.proofs.LegalLaws.{edge_domains}
 use Rattle.fw_model.proofs.SendingLaws.{send_stamp-in_domain}
 use Rattle.fw_model.proofs.SendsLaws.{IsOfCause, sent_by-of_cause}

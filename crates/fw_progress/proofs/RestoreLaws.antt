@@ -3,10 +3,10 @@ use Rattle.std.proofs.Common.{◌≡◌, inl, inr, ℕ, suc, ◌+◌, ◌<◌, B
 use Rattle.std.specs.List.{AllByRecursion, Contains, flat_map}
 use Rattle.std.specs.BTreeSet.{insert_key}
 use Rattle.std.proofs.lemmas.Bool.{cases_eq, eq-eqb, eqb-true, false_from_ne_true}
-use Rattle.std.proofs.lemmas.List.{take_more}
+use Rattle.std.proofs.lemmas.List.{take_more, append_assoc}
 use Rattle.std.proofs.lemmas.List.Elements.{Contains-append_left, Contains-append_right}
+use Rattle.fw_lemmas.proofs.Each.{each-weaker, each-append}
 use Rattle.fw_time.specs.Stamp.{Stamp, stamp_cmp}
-use Rattle.fw_time.proofs.EachLaws.{each-weaker, each-append}
 use Rattle.fw_frontier.specs.Frontier.{Frontier}
 use Rattle.fw_flow.specs.declared.choice.Counted.{Counted}
 use Rattle.fw_flow.specs.declared.choice.Stamps.{Stamps}
@@ -45,10 +45,6 @@ append-none : {A : Type 0} (xs : List A) → xs ++ [] ≡ xs
 append-none [] = refl
 append-none (x ∷ xs) = ap (λ ys. x ∷ ys) (append-none xs)
 
-append-assoc : {A : Type 0} (xs ys zs : List A) → xs ++ (ys ++ zs) ≡ (xs ++ ys) ++ zs
-append-assoc [] ys zs = refl
-append-assoc (x ∷ xs) ys zs = ap (λ ts. x ∷ ts) (append-assoc xs ys zs)
-
 -- with no stamps more they are what they were
 pub added-none : (old : List Stamp) → HaveAdded [] old old
 added-none old all h = subst (λ ss. AreTheSame ss old) (sym (append-none all)) h
@@ -67,7 +63,7 @@ added-one s old all h =
 
 -- with some, and then with more
 pub added-more : (ss more : List Stamp) (a b c : List Stamp) → HaveAdded ss a b → HaveAdded more b c → HaveAdded (ss ++ more) a c
-added-more ss more a b c f g all h = subst (λ ts. AreTheSame ts c) (sym (append-assoc all ss more)) (g (all ++ ss) (f all h))
+added-more ss more a b c f g all h = subst (λ ts. AreTheSame ts c) (append_assoc all ss more) (g (all ++ ss) (f all h))
 
 -- those that come to none
 pub added-to_none : (ss new : List Stamp) → HaveAdded ss [] new → AreTheSame ss new

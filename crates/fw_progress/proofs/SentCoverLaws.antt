@@ -3,9 +3,10 @@ use Rattle.std.proofs.Common.{◌≡◌, ℕ, ◌+◌, ◌<◌, ◌≤◌, Bool,
 use Rattle.std.specs.Prelude.{filter, IfOk}
 use Rattle.std.specs.List.{AllByRecursion}
 use Rattle.std.proofs.lemmas.Bool.{and_parts, or_right, eq-eqb}
+use Rattle.fw_lemmas.proofs.Each.{each-weaker, each-both, each-map, each-kept}
+use Rattle.fw_lemmas.proofs.Filters.{filter-true}
 use Rattle.fw_time.specs.Stamp.{Stamp, in_domain}
 use Rattle.fw_time.specs.declared.stamp.Bounds.{Bounds}
-use Rattle.fw_time.proofs.EachLaws.{each-weaker, each-both, each-map, each-kept}
 use Rattle.fw_frontier.specs.Frontier.{Frontier, cover}
 use Rattle.fw_frontier.specs.Front.{Front, inside, IsFrontOf}
 use Rattle.fw_frontier.proofs.NamesLaws.{frontier-closed}
@@ -109,10 +110,6 @@ all-sequence sys h p l is base all =
     let vs = events_at sys.flow p h in
     subst (λ ms. IsThinned base (map (λ (m : Message). m.at) ms) (last_number (length ms))) (sym (sent_by-sequence sys p is vs (no_inject sys.flow p h (no_injection sys h p l is))))
     (numbers-thinned base all (length (sequence_sent vs)) (sequence_sent vs) (sequence-numbers vs))
-
-filter-true : {A : Type 0} (xs : List A) → filter (λ x. true) xs ≡ xs
-filter-true [] = refl
-filter-true (x ∷ xs) = ap (λ ys. x ∷ ys) (filter-true xs)
 
 -- stamps that are thinned anywhere cover all
 thinned-cover : (b : Bounds) (base : Frontier) (all kept : List Stamp) → IsThinned base all kept → cover b kept ≡ cover b all

@@ -5,6 +5,7 @@ use Rattle.std.proofs.Math.Bool.{and-false}
 use Rattle.std.proofs.lemmas.Bool.{and_parts, and_from, and_right, both_ways, cases_Bool, cases_eq, cases_lt, or_cases, or_left, or_right}
 use Rattle.std.proofs.Math.ListN.{set, length-set}
 use Rattle.std.proofs.lemmas.List.{get_or_past, get_or-set_same, get_or-set_other}
+use Rattle.fw_lemmas.proofs.Lists.{read_at}
 use Rattle.fw_time.specs.Stamp.{Stamp, leq, in_domain}
 use Rattle.fw_time.specs.declared.stamp.Bounds.{Bounds}
 use Rattle.fw_time.proofs.StampLaws.{leq-refl}
@@ -17,7 +18,6 @@ use Rattle.fw_model.specs.Machine.{Machine, events, front_of, family_of, is_fail
 use Rattle.fw_model.specs.Settled.{HasMoreToSettle}
 use Rattle.fw_model.specs.Steps.{GrowsTo}
 use Rattle.fw_progress.specs.Progress.{AreFrontsOf}
-use Rattle.fw_progress.proofs.TargetLaws.{read_at}
 use Rattle.fw_progress.specs.Settle.{has_more, is_growing, HasMore, IsJoined, IsGrownAt, IsSettledBy, AreGrown, AreGrownBefore, NoneGrows}
 
 -- a stamp that is inside the one and outside the other shows that it has more

@@ -6,8 +6,9 @@ use Rattle.std.proofs.lemmas.Bool.{and_from, or_right, eq-eqb, cases_lt}
 use Rattle.std.proofs.lemmas.Bool.Decides.{nat_tests}
 use Rattle.std.proofs.lemmas.List.{get_or_past}
 use Rattle.std.proofs.lemmas.Result.{IfOk-weaker}
+use Rattle.fw_lemmas.proofs.Each.{each-weaker, each-one, each-map, each-kept}
+use Rattle.fw_lemmas.proofs.Filters.{filter-swap}
 use Rattle.fw_time.specs.Stamp.{Stamp, in_domain}
-use Rattle.fw_time.proofs.EachLaws.{each-weaker, each-one, each-map, each-kept}
 use Rattle.fw_frontier.specs.Frontier.{Frontier, everything}
 use Rattle.fw_frontier.specs.Front.{Front, inside}
 use Rattle.fw_frontier.proofs.NamesLaws.{frontier-closed}
@@ -30,7 +31,6 @@ use Rattle.fw_model.specs.History.{is_injection, injected_count, delivered_messa
 use Rattle.fw_model.specs.Offers.{AreOnEdges, on_edge, stamps_on_from}
 use Rattle.fw_model.specs.Thinned.{IsThinned}
 use Rattle.fw_model.specs.Writes.{takes_checkpoints}
-use Rattle.fw_model.proofs.FilterLaws.{filter-swap}
 use Rattle.fw_model.proofs.LegalLaws.{edge_domains, legal_events-in_domain}
 use Rattle.fw_model.proofs.LocalityLaws.{events_at-kept, sent_by-same}
 use Rattle.fw_model.proofs.SequenceLaws.{no_inject, sent_by-sequence}

@@ -5,10 +5,11 @@ use Rattle.std.specs.Map.{keys_of}
 use Rattle.std.proofs.lemmas.Bool.{and_parts, and_from, both_ways, cases_eq, cases_lt, false_from_ne_true, lt-ltb}
 use Rattle.std.proofs.lemmas.List.{get_or_past, length-append, length-set}
 use Rattle.std.proofs.lemmas.List.FromFn.{get_or-map-range_with_len}
+use Rattle.fw_lemmas.proofs.Each.{each-append}
+use Rattle.fw_lemmas.proofs.Lists.{read_at}
 use Rattle.fw_bag.specs.declared.rec.Rec.{Rec}
 use Rattle.fw_time.specs.Stamp.{Stamp, in_domain}
 use Rattle.fw_time.specs.declared.stamp.Bounds.{Bounds}
-use Rattle.fw_time.proofs.EachLaws.{each-append}
 use Rattle.fw_time.proofs.DomainLaws.{domain-leq}
 use Rattle.fw_frontier.specs.Frontier.{Frontier, Within, nothing}
 use Rattle.fw_frontier.specs.Front.{Front, inside, frontier_of, IsCanonical, IsFrontOf}
@@ -32,7 +33,7 @@ use Rattle.fw_progress.specs.Start.{AreLargest, AreOfNothing, IsLowered, IsShrun
 use Rattle.fw_progress.proofs.GrowLaws.{degrees-few, family_new, family_old, front_old, no_sender, receivers-nodes, set_canonical}
 use Rattle.fw_progress.proofs.HistoryLaws.{by-kept, kept-complete}
 use Rattle.fw_progress.proofs.RefreshLaws.{falls, first_node, not_in-first}
-use Rattle.fw_progress.proofs.TargetLaws.{read_at, target-less, target-monotone}
+use Rattle.fw_progress.proofs.TargetLaws.{target-less, target-monotone}
 use Rattle.fw_progress.proofs.AloneLaws.{none-times}
 
 -- ---- lists of one for each

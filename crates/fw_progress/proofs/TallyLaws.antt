@@ -16,9 +16,10 @@ use Rattle.std.proofs.lemmas.Cmp.{nat_list_cmp_total, tied_itself}
 use Rattle.std.proofs.lemmas.Map.{lookup-none}
 use Rattle.std.proofs.lemmas.Map.Entries.{none_below_head, lookup_head, lookup_tail}
 use Rattle.std.proofs.lemmas.List.{take_more}
+use Rattle.fw_lemmas.proofs.Bools.{cond-one}
+use Rattle.fw_lemmas.proofs.Each.{each-weaker, each-both, each-append, each-prefix, each-suffix}
 use Rattle.fw_time.specs.Stamp.{Stamp, leq, same, in_domain, stamp_cmp}
 use Rattle.fw_time.specs.declared.stamp.Bounds.{Bounds}
-use Rattle.fw_time.proofs.EachLaws.{each-append, each-both, each-prefix, each-suffix, each-weaker}
 use Rattle.fw_time.proofs.StampLaws.{leq-trans, same-is, same-refl}
 use Rattle.fw_time.proofs.DomainLaws.{domain-length}
 use Rattle.fw_frontier.specs.Frontier.{Frontier}
@@ -107,10 +108,6 @@ tally-remove b test (e ∷ es) a =
     by false k = record { of_domain = (a.of_domain.0, k.of_domain); positive = (a.positive.0, k.positive) }
 
 -- ---- one more and one less
-
-cond-one : (b : Bool) (m n o : ℕ) → (b ≡ true → m ≡ n) → cond b m o ≡ cond b n o
-cond-one true m n o e = e refl
-cond-one false m n o e = refl
 
 pub one_less : (old new : Entries) (at : Stamp) (n m : ℕ) → lookup (is_at (stamp_cmp at)) old ≡ Some n → 1 < n → m ≡ n - 1 → IsWith old at (Some m) new
     → new ≡ set_value (is_at (stamp_cmp at)) old m → HasOneLess at old new

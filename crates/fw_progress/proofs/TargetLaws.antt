@@ -1,14 +1,15 @@
 -- How far a node's frontier can go: what is read of the counts, and edge by edge.
-use Rattle.std.proofs.Common.{◌≡◌, ℕ, zero, suc, ◌+◌, ◌^◌, ◌<◌, ◌≤◌, Bool, true, false, not, ◌&&◌, ◌||◌, ◌==◌, nat_lt, nat_le, cond, List, [], ◌∷◌, ◌++◌, length, get_or, take, refl, sym, ap, subst, ◌∙◌, arith}
+use Rattle.std.proofs.Common.{◌≡◌, ℕ, ◌+◌, ◌^◌, ◌<◌, ◌≤◌, Bool, true, false, not, ◌&&◌, ◌||◌, ◌==◌, nat_lt, nat_le, List, [], ◌∷◌, ◌++◌, length, get_or, take, refl, sym, ap, subst, ◌∙◌, arith}
 use Rattle.std.specs.List.{AllByRecursion, list_all}
 use Rattle.std.specs.Map.{keys_of}
 use Rattle.std.proofs.Math.Bool.{and-true, and_assoc}
 use Rattle.std.proofs.lemmas.Bool.{and_parts, and_from, eqb-true, false_from_ne_true, false≢true}
 use Rattle.std.proofs.lemmas.Bool.Decides.{nat_tests}
 use Rattle.std.proofs.lemmas.List.{take_more}
+use Rattle.fw_lemmas.proofs.Each.{each-weaker, each-at, each-of_all, all-of_each}
+use Rattle.fw_lemmas.proofs.Numbers.{count_step}
 use Rattle.fw_time.specs.Stamp.{Stamp, in_domain}
 use Rattle.fw_time.specs.declared.stamp.Bounds.{Bounds}
-use Rattle.fw_time.proofs.EachLaws.{each-at, each-of_all, all-of_each, each-weaker}
 use Rattle.fw_frontier.specs.Frontier.{Frontier, Within, meet}
 use Rattle.fw_frontier.specs.Front.{Front, inside, frontier_of, IsCanonical, IsFrontOf}
 use Rattle.fw_flow.specs.Dataflow.{Dataflow, kind_of, sender, receiver, in_edges, bounds_of, greatest_number, is_input_kind, node_frontier}
@@ -20,17 +21,6 @@ use Rattle.fw_model.proofs.PhiLaws.{phi_by_count-monotone}
 use Rattle.fw_model.proofs.StampLaws.{in_line}
 use Rattle.fw_progress.specs.declared.counts.Counts.{Counts}
 use Rattle.fw_progress.specs.Counts.{pending_of, sent_of, batches_in, injected_in, given_by, clear_by, come_by, target_by}
-
--- ---- what is read
-
-get_or-there : {A : Type 0} (xs : List A) (i : ℕ) (d e : A) → i < length xs → get_or xs i d ≡ get_or xs i e
-get_or-there [] i d e l = absurd (omega arith)
-get_or-there (x ∷ xs) zero d e l = refl
-get_or-there (x ∷ xs) (suc i) d e l = get_or-there xs i d e (omega arith)
-
--- what an index reads
-pub read_at : {A : Type 0} (xs : List A) (p i : ℕ) (x d : A) → i ≡ p → i < length xs → x ≡ get_or xs i x → x ≡ get_or xs p d
-read_at xs p i x d e l is = is ∙ get_or-there xs i x d l ∙ ap (λ n. get_or xs n d) e
 
 -- ---- what an input gave
 
@@ -147,12 +137,6 @@ left_come flow counts fronts p f old come new edges i e es l is o a n =
     left_more (bounds_of flow p) f comes old come new edges i e l is o here (n here.canonical)
 
 -- ---- larger families
-
-count_step : (a b : Bool) (c m n : ℕ) → (a ≡ true → b ≡ true) → m ≤ n → cond a (c + m) m ≤ cond b (c + n) n
-count_step true true c m n k l = omega arith
-count_step true false c m n k l = let e = k refl in absurd (cc)
-count_step false true c m n k l = omega arith
-count_step false false c m n k l = l
 
 table_count-monotone : (f g : Frontier) → Within f g → (table : List (ℕ × ℕ)) → table_count f table ≤ table_count g table
 table_count-monotone f g w [] = omega arith

@@ -7,11 +7,12 @@ use Rattle.std.specs.BTreeSet.{insert_key}
 use Rattle.std.specs.declared.cmp.Ordering.{Ordering}
 use Rattle.std.specs.declared.cmp.Ordering.TheVariants.{Less, Equal, Greater}
 use Rattle.std.specs.Ordering.{is_eq, is_lt, match_ordering}
-use Rattle.std.proofs.lemmas.Bool.{and_parts, and_from, or_cases, or_left, or_right, cases_Bool, both_ways, false_from_ne_true, false≢true, not-true}
+use Rattle.std.proofs.lemmas.Bool.{and_parts, and_from, or_cases, or_left, or_right, cases_Bool, both_ways, false_from_ne_true, false≢true, not-true, or_from}
 use Rattle.std.proofs.lemmas.List.Elements.{Contains-append_right}
+use Rattle.std.proofs.Math.Bool.{or-false}
+use Rattle.fw_lemmas.proofs.Each.{each-weaker, each-filter, each_of-filter, each-kept}
 use Rattle.fw_time.specs.Stamp.{Stamp, leq, lesser, in_domain, stamp_cmp}
 use Rattle.fw_time.specs.declared.stamp.Bounds.{Bounds}
-use Rattle.fw_time.proofs.EachLaws.{each-weaker, each-filter, each_of-filter, each-kept}
 use Rattle.fw_time.proofs.StampLaws.{leq-refl, leq-trans}
 use Rattle.fw_frontier.specs.Frontier.{Frontier, Within, cover}
 use Rattle.fw_frontier.specs.Front.{Front, inside, frontier_of}
@@ -116,10 +117,6 @@ lesser-above s t u k l =
 lesser-irrefl : (s : Stamp) → lesser s s ≡ false
 lesser-irrefl s = false_from_ne_true (lesser s s) (λ k. both_ways (leq s s) (lesser-parts s s k).1 (leq-refl s))
 
-or-none : (a b : Bool) → a ≡ false → b ≡ false → (a || b) ≡ false
-or-none true b e f = e
-or-none false b e f = f
-
 has-below : (f : Front) (ss : List Stamp) (s t : Stamp) → leq s t ≡ true → has_greater_inside f ss t ≡ true → has_greater_inside f ss s ≡ true
 has-below f [] s t l k = k
 has-below f (x ∷ xs) s t l k = elim (or_cases (inside f x && lesser t x) (has_greater_inside f xs t) k) [
@@ -151,7 +148,7 @@ greatest f (x ∷ xs) s i =
               there = inr (contains-head x xs);
               inside_f = p.0;
               below = leq-trans s m x k.below l;
-              none = or-none (inside f x && lesser x x) (has_greater_inside f xs x)
+              none = or_from (inside f x && lesser x x) (has_greater_inside f xs x)
                   (false_from_ne_true (inside f x && lesser x x) (λ b. both_ways (lesser x x) (lesser-irrefl x) (and_parts (inside f x) (lesser x x) b).1))
                   (false_from_ne_true (has_greater_inside f xs x) (λ b. both_ways (has_greater_inside f xs m) k.none (has-below f xs m x l b)));
             },
@@ -162,7 +159,7 @@ greatest f (x ∷ xs) s i =
           there = later k.there;
           inside_f = k.inside_f;
           below = k.below;
-          none = or-none (inside f x && lesser m x) (has_greater_inside f xs m) e k.none;
+          none = or_from (inside f x && lesser m x) (has_greater_inside f xs m) e k.none;
         },
       )
     ]
@@ -231,10 +228,6 @@ thinned-settle bounds base all kept f d w h = record {
 
 -- ---- the loop that finds the greatest ones
 
-or-right_none : (b : Bool) → (b || false) ≡ b
-or-right_none true = refl
-or-right_none false = refl
-
 raise-dropped : (a b c : Bool) → (a ≡ true → c ≡ true) → (b || c) ≡ ((a || b) || c)
 raise-dropped false b c f = refl
 raise-dropped true true c f = refl
@@ -246,7 +239,7 @@ or-assoc false b c = refl
 
 -- a stamp taken up in place of those at or below it
 pub any-raised : (tops : List Stamp) (at s : Stamp) → list_any (lesser s) (filter (λ t. not (leq t at)) tops ++ at ∷ []) ≡ (list_any (lesser s) tops || lesser s at)
-any-raised [] at s = or-right_none (lesser s at)
+any-raised [] at s = or-false (lesser s at)
 any-raised (t ∷ tops) at s = by (leq t at) refl (any-raised tops at s)
   where
     left : List Stamp

@@ -7,7 +7,7 @@ use Rattle.std.specs.declared.cmp.Ordering.{Ordering}
 use Rattle.std.specs.declared.cmp.Ordering.TheVariants.{Less, Equal, Greater}
 use Rattle.std.proofs.lemmas.Bool.{and_parts, and_from, eq-eqb, or_left, or_right}
 use Rattle.std.proofs.lemmas.List.{take_more, length-append}
-use Rattle.fw_time.proofs.EachLaws.{each-append, each-weaker}
+use Rattle.fw_lemmas.proofs.Each.{each-weaker, each-append}
 use Rattle.fw_flow.specs.Dataflow.{Dataflow, receiver}
 use Rattle.fw_progress.specs.Counts.{is_in}
 use Rattle.fw_progress.specs.Growths.{IsEnlisted, ArePut}

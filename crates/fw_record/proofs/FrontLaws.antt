@@ -1,14 +1,14 @@
 -- In a domain the fronts that have a spelling are the canonical ones.
-use Rattle.std.proofs.Common.{◌≡◌, ℕ, ◌^◌, ◌<◌, Bool, true, false, List, [], ◌∷◌, ◌++◌, length, refl, sym, ap, ◌∙◌, arith, eq-eqb}
+use Rattle.std.proofs.Common.{◌≡◌, ℕ, ◌^◌, ◌<◌, true, false, List, [], ◌∷◌, ◌++◌, length, refl, sym, ap, ◌∙◌, arith, eq-eqb}
 use Rattle.std.specs.Prelude.{not, ◌&&◌, ◌||◌, ◌==◌, nat_le}
 use Rattle.std.specs.List.{AllByRecursion}
 use Rattle.std.specs.Ordering.{is_lt}
-use Rattle.std.proofs.lemmas.Bool.{and_from, and_parts}
+use Rattle.std.proofs.lemmas.Bool.{and_from, and_parts, not-true}
 use Rattle.std.proofs.lemmas.Bool.Decides.{nat_tests}
+use Rattle.fw_lemmas.proofs.Each.{each-weaker, each-both, each-append, each-prefix, each-suffix}
 use Rattle.fw_time.specs.Stamp.{Stamp, leq, stamp_cmp, in_domain}
 use Rattle.fw_time.specs.declared.stamp.Bounds.{Bounds}
 use Rattle.fw_time.proofs.StampLaws.{leq-length}
-use Rattle.fw_time.proofs.EachLaws.{each-weaker, each-both, each-append, each-prefix, each-suffix}
 use Rattle.fw_time.proofs.DomainLaws.{domain-leq, domain-length}
 use Rattle.fw_frontier.specs.Front.{Front, IsCanonical}
 use Rattle.fw_frontier.proofs.CanonicalLaws.{in_domain-canonical}
@@ -63,15 +63,11 @@ record IsApart (o q : Stamp) : Type 0 where
   ascending : is_lt (stamp_cmp o q) ≡ true
   incomparable : (leq o q || leq q o) ≡ false
 
-not_true : (b : Bool) → not b ≡ true → b ≡ false
-not_true true e = absurd cc
-not_true false e = refl
-
 apart : (o q : Stamp) → stands_before o q ≡ true → IsApart o q
 apart o q e =
     let a = and_parts (length o == length q) (is_lt (stamp_cmp o q) && not (leq o q || leq q o)) e in
     let b = and_parts (is_lt (stamp_cmp o q)) (not (leq o q || leq q o)) a.1 in
-    record { ascending = b.0; incomparable = not_true (leq o q || leq q o) b.1 }
+    record { ascending = b.0; incomparable = not-true (leq o q || leq q o) b.1 }
 
 abbrev AreIn : Bounds → Front → Type 0
 AreIn bounds os = AllByRecursion (λ o. in_domain bounds o ≡ true) os

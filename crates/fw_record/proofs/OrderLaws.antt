@@ -1,6 +1,5 @@
 -- Logged messages that were sorted may stand one after the other.
-use Rattle.std.proofs.Common.{◌≡◌, suc, ◌+◌, ◌-◌, true, false, List, [], ◌∷◌, ◌++◌, length, Some, refl, sym, ap, subst, ◌∙◌, get_or, arith}
-use Rattle.std.specs.Prelude.{slice_get}
+use Rattle.std.proofs.Common.{◌≡◌, suc, ◌+◌, true, false, List, [], ◌∷◌, ◌++◌, refl, sym, ap, subst, ◌∙◌, get_or, arith}
 use Rattle.std.specs.Option.{option_map_or}
 use Rattle.std.specs.Cmp.{IsTotalOrder, IsStrictWeakOrder}
 use Rattle.std.specs.declared.cmp.Ordering.{Ordering}
@@ -9,10 +8,8 @@ use Rattle.std.specs.Ordering.{ordering_reverse, is_lt, is_le}
 use Rattle.std.specs.List.Sorted.{IsSorted}
 use Rattle.std.proofs.lemmas.Bool.{and_from}
 use Rattle.std.proofs.lemmas.Cmp.{nat_cmp_total, nat_list_cmp_total, lists_total, on_total, then_total}
-use Rattle.std.proofs.lemmas.List.{length-append}
 use Rattle.std.proofs.lemmas.List.Sorted.{ranks_by}
-use Rattle.std.proofs.lemmas.Option.{slice_get-get_or}
-use Rattle.std.proofs.Math.Seq.{get_or-append_seam}
+use Rattle.fw_lemmas.proofs.Lists.{last_of}
 use Rattle.fw_bag.proofs.RecLaws.{rec_order}
 use Rattle.fw_record.specs.declared.logged.Logged.{Logged}
 use Rattle.fw_record.specs.Sound.{logged_cmp, may_follow_logged, each_may_follow}
@@ -31,13 +28,6 @@ at_most : (o p : Ordering) → p ≡ ordering_reverse o → is_lt p ≡ false �
 at_most Less p e h = refl
 at_most Equal p e h = refl
 at_most Greater p e h = let k : true ≡ false = sym (ap is_lt e) ∙ h in cc
-
--- the last of these and one more is that one
-last_of : {A : Type 0} (before : List A) (y : A) → slice_get (before ++ y ∷ []) (length (before ++ y ∷ []) - 1) ≡ Some y
-last_of before y =
-    let long = length-append before (y ∷ []) in
-    let i : length (before ++ y ∷ []) - 1 ≡ length before = omega (arith, long) in
-    ap (slice_get (before ++ y ∷ [])) i ∙ slice_get-get_or (before ++ y ∷ []) (length before) y (omega (arith, long)) ∙ ap Some (get_or-append_seam before y [] y)
 
 -- what is sorted after its first one
 sorted-rest : (y : Logged) (xs : List Logged) → IsSorted logged_cmp (y ∷ xs) → IsSorted logged_cmp xs

@@ -5,13 +5,13 @@ use Rattle.std.specs.List.{AllByRecursion}
 use Rattle.std.proofs.lemmas.List.{get_or_past}
 use Rattle.std.proofs.lemmas.Option.{slice_get-get_or}
 use Rattle.std.proofs.lemmas.Bool.{cases_Bool, cases_lt, cond-true, cond-false, false_from_ne_true}
+use Rattle.fw_lemmas.proofs.Bools.{two_ways}
 use Rattle.fw_time.specs.Stamp.{Stamp, same, in_domain}
 use Rattle.fw_time.specs.declared.stamp.Bounds.{Bounds}
 use Rattle.fw_time.proofs.StampLaws.{same-is, same-refl}
 use Rattle.fw_flow.specs.declared.event.Message.{Message}
 use Rattle.fw_edge.specs.Messages.{MessagesState}
 use Rattle.fw_edge.specs.Stamps.{counted_before, counted_stamps}
-use Rattle.fw_model.proofs.Decisions.{two_ways}
 use Rattle.fw_progress.specs.History.{count_at}
 use Rattle.fw_progress.specs.Tally.{times_in, HasManyMore, IsTallyOf}
 use Rattle.fw_rollback.specs.Edges.{nothing_there, on_edge}

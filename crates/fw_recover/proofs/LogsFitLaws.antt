@@ -4,8 +4,8 @@ use Rattle.std.specs.Prelude.{IsSomeAnd}
 use Rattle.std.specs.List.{AllByRecursion, AllZip}
 use Rattle.std.proofs.lemmas.Bool.{and_parts, cases_lt, eqb-true}
 use Rattle.std.proofs.lemmas.List.{get_or_past}
+use Rattle.fw_lemmas.proofs.Each.{each-weaker, each-one, each-map, each-filter}
 use Rattle.fw_time.specs.Stamp.{in_domain}
-use Rattle.fw_time.proofs.EachLaws.{each-filter, each-map, each-one, each-weaker}
 use Rattle.fw_frontier.specs.Front.{Front, inside}
 use Rattle.fw_flow.specs.declared.choice.Choice.{Choice}
 use Rattle.fw_flow.specs.declared.choice.Cut.{Cut}

@@ -3,7 +3,9 @@ use Rattle.std.proofs.Common.{◌≡◌, ◌≢◌, ℕ, ◌<◌, Bool, true, �
 use Rattle.std.specs.Prelude.{◌⊎◌}
 use Rattle.std.specs.List.{AllZip, Contains, flat_map}
 use Rattle.std.proofs.lemmas.Bool.{cases_Bool, eqb-true}
-use Rattle.fw_time.proofs.EachLaws.{each-one}
+use Rattle.fw_lemmas.proofs.Bools.{two_ways}
+use Rattle.fw_lemmas.proofs.Each.{each-one}
+use Rattle.fw_lemmas.proofs.Filters.{filter-same_on}
 use Rattle.fw_frontier.specs.Frontier.{Within}
 use Rattle.fw_frontier.specs.Front.{Front, IsCanonical, frontier_of}
 use Rattle.fw_flow.specs.declared.choice.Choice.{Choice}
@@ -22,7 +24,6 @@ use Rattle.fw_model.specs.Writes.{takes_checkpoints}
 use Rattle.fw_model.proofs.ChoiceLaws.{same_fronts}
 use Rattle.fw_model.proofs.CmpLaws.{decided-front}
 use Rattle.fw_model.proofs.LowLaws.{none-canonical, none-within}
-use Rattle.fw_model.proofs.Decisions.{two_ways}
 use Rattle.fw_record.specs.declared.record.Checkpoint.{Checkpoint}
 use Rattle.fw_record.specs.declared.record.Event.TheVariants as logged
 use Rattle.fw_record.specs.declared.record.Record.{Record}
@@ -41,7 +42,6 @@ use Rattle.fw_stands.specs.Redone.{CanBeRedone, is_event_inside, is_logged_insid
 use Rattle.fw_stands.specs.Written.{AreEntriesOf, AreStored, IsCheckpointFor, uncollected}
 use Rattle.fw_stands.proofs.LoggedOrder.{replayed-of_records}
 use Rattle.fw_stands.proofs.ReadLaws.{no-checkpoint, one-checkpoint, read-checkpoints}
-use Rattle.fw_stands.proofs.RecoveredFacts.{filter-as}
 use Rattle.fw_stands.proofs.RecoveredTables.{cuts-canonical}
 use Rattle.fw_stands.proofs.RedoneLaws.{replayed-redone}
 use Rattle.fw_running.specs.Steps.{HasNoStamp, Trusts}
@@ -89,14 +89,14 @@ needs-events flow p f way (written.Event event) = ap (λ x. is_needed flow p f x
 asked-checkpoints : (flow : Dataflow) (choice : Choice) (es : List Entry) (p : ℕ) (f : Front) → way_of flow p ≡ Checkpoints → cut_of choice p ≡ At f
     → asked_of flow choice es p ≡ filter (is_checkpoint_at p f) es
 asked-checkpoints flow choice es p f way is =
-    filter-as (λ e. (e.node == p) && is_asked_for flow choice e) (is_checkpoint_at p f) es
+    filter-same_on (λ e. (e.node == p) && is_asked_for flow choice e) (is_checkpoint_at p f) es
     (each-one (λ e. ((e.node == p) && is_asked_for flow choice e) ≡ is_checkpoint_at p f e) es
     (asked-by flow choice p f is (is_checkpoint_of f) (needs-checkpoint flow p f way)))
 
 asked-events : (flow : Dataflow) (choice : Choice) (es : List Entry) (p : ℕ) (f : Front) → way_of flow p ≡ Events → cut_of choice p ≡ At f
     → asked_of flow choice es p ≡ filter (is_logged_inside p (node_frontier flow p f)) es
 asked-events flow choice es p f way is =
-    filter-as (λ e. (e.node == p) && is_asked_for flow choice e) (is_logged_inside p (node_frontier flow p f)) es
+    filter-same_on (λ e. (e.node == p) && is_asked_for flow choice e) (is_logged_inside p (node_frontier flow p f)) es
     (each-one (λ e. ((e.node == p) && is_asked_for flow choice e) ≡ is_logged_inside p (node_frontier flow p f) e) es
     (asked-by flow choice p f is (is_event_inside (node_frontier flow p f)) (needs-events flow p f way)))
 

@@ -1,6 +1,7 @@
 -- The engine after a recovery stands for the state to which the machine recovers.
-use Rattle.std.proofs.Common.{◌≡◌, ◌↔◌, ℕ, zero, suc, ◌+◌, ◌<◌, true, false, not, List, [], ◌∷◌, length, map, filter, replicate, slice_index_or, Option, refl, sym, ap, subst, ◌∙◌, arith}
-use Rattle.std.specs.List.{Contains, range_with_len}
+use Rattle.std.proofs.Common.{◌≡◌, ◌↔◌, ℕ, zero, suc, ◌+◌, ◌<◌, true, false, not, List, [], ◌∷◌, length, map, filter, replicate, slice_index_or, Option, refl, sym, ap, subst, ◌∙◌}
+use Rattle.std.specs.List.{range_with_len}
+use Rattle.fw_lemmas.proofs.Lists.{contains-none}
 use Rattle.fw_frontier.specs.Front.{Front}
 use Rattle.fw_flow.specs.declared.choice.Choice.{Choice}
 use Rattle.fw_flow.specs.declared.step.Step.TheVariants.{Recover}
@@ -144,9 +145,6 @@ traces-recovered sys records state choice settled old es r s left before after c
 none-down : (a n : ℕ) → map (λ (p : ℕ). false) (range_with_len a n) ≡ replicate n false
 none-down a zero = refl
 none-down a (suc n) = ap (λ bs. false ∷ bs) (none-down (a + 1) n)
-
-contains-none : {X : Type 0} (xs : List X) (x : X) → xs ≡ [] → Contains xs x → ⊥
-contains-none xs x e c = let l = c.1 in let none = ap length e in absurd (omega arith)
 
 -- ---- the engine
 

@@ -2,13 +2,14 @@
 use Rattle.std.proofs.Common.{◌≡◌, ℕ, zero, suc, ◌<◌, Bool, true, false, List, [], ◌∷◌, length, slice_index_or, Option, Some, None, Result, Ok, Err, refl, sym, ap, subst, ◌∙◌, arith}
 use Rattle.std.specs.Prelude.{IsErrAnd}
 use Rattle.std.specs.List.{AllByRecursion, AllZip, list_any}
+use Rattle.fw_lemmas.proofs.Bools.{two_ways}
+use Rattle.fw_lemmas.proofs.Options.{some-is}
 use Rattle.fw_flow.specs.declared.choice.Choice.{Choice}
 use Rattle.fw_flow.specs.declared.step.Step.TheVariants.{Recover}
 use Rattle.fw_flow.specs.Dataflow.{System, Dataflow}
 use Rattle.fw_model.specs.Machine.{Machine, Write, is_failed}
 use Rattle.fw_model.specs.Steps.{cuts, idle, StepsTo, recovered_state}
 use Rattle.fw_model.proofs.ChoosingLaws.{failed-recovered}
-use Rattle.fw_model.proofs.Decisions.{two_ways}
 use Rattle.fw_record.specs.declared.record.Record.{Record}
 use Rattle.fw_record.specs.Spelling.{spelling}
 use Rattle.fw_keep.specs.declared.entry.Entry.{Entry}
@@ -111,9 +112,6 @@ each-held : (sys : System) (state : Machine) (held : Records) (es : List Entry) 
 each-held sys state held [] ws a = tt
 each-held sys state held (e ∷ es) [] a = absurd a
 each-held sys state held (e ∷ es) (w ∷ ws) a = (record { what = a.0.what; of_entry = a.0.of_entry }, each-held sys state held es ws a.1)
-
-some-is : (a b : List ℕ) → Some a ≡ Some b → a ≡ b
-some-is a b e = cc
 
 untold : (sys : System) (state : Machine) (choice : Choice) (records : Option Records) (es : List Entry) (got : Option (ℕ × List ℕ)) (id : ℕ) (bytes : List ℕ)
     → AreStored sys state records es (uncollected state) → IsDamaged sys.flow choice records es got id bytes → records ≡ None

@@ -3,7 +3,9 @@ use Rattle.std.proofs.Common.{◌≡◌, ℕ, ◌<◌, Bool, true, false, cond, 
 use Rattle.std.specs.Prelude.{find}
 use Rattle.std.specs.List.{AllByRecursion, AllZip}
 use Rattle.std.proofs.lemmas.Bool.{and_parts, and_from, cases_Bool, eqb-true}
-use Rattle.fw_time.proofs.EachLaws.{each-kept}
+use Rattle.fw_lemmas.proofs.Bools.{two_ways}
+use Rattle.fw_lemmas.proofs.Each.{each-kept}
+use Rattle.fw_lemmas.proofs.Filters.{filter-in, filter-out}
 use Rattle.fw_frontier.specs.Front.{Front, is_within}
 use Rattle.fw_frontier.proofs.NamesLaws.{within-is}
 use Rattle.fw_frontier.proofs.SameLaws.{same_front-is}
@@ -17,8 +19,6 @@ use Rattle.fw_model.specs.Machine.{Written as WrittenBy}
 use Rattle.fw_model.specs.Steps.{recovered_state}
 use Rattle.fw_model.specs.Writes.{takes_checkpoints}
 use Rattle.fw_model.proofs.CmpLaws.{decided-front}
-use Rattle.fw_model.proofs.Decisions.{two_ways}
-use Rattle.fw_model.proofs.FilterLaws.{filter-in, filter-out}
 use Rattle.fw_keep.specs.declared.entry.Entry.{Entry}
 use Rattle.fw_keep.specs.declared.entry.Written.{Written}
 use Rattle.fw_keep.specs.declared.entry.Written.TheVariants as written

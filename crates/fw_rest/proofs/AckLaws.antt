@@ -2,8 +2,9 @@
 use Rattle.std.proofs.Common.{◌≡◌, ℕ, suc, ◌+◌, ◌<◌, ◌≤◌, Bool, true, false, ◌&&◌, ◌==◌, cond, List, [], ◌∷◌, ◌++◌, length, slice_index_or, slice_set, refl, sym, ap, subst, ◌∙◌, inl, inr, arith}
 use Rattle.std.specs.List.{AllByRecursion}
 use Rattle.std.proofs.lemmas.Bool.{cases_Bool, cases_lt, and_from, cond_both, eqb-true, eq-eqb}
+use Rattle.fw_lemmas.proofs.Bools.{two_ways}
+use Rattle.fw_lemmas.proofs.Each.{each-weaker, each-both}
 use Rattle.fw_time.specs.Stamp.{Stamp, leq, same, in_domain}
-use Rattle.fw_time.proofs.EachLaws.{each-weaker, each-both}
 use Rattle.fw_bag.specs.declared.rec.Rec.{Rec}
 use Rattle.fw_flow.specs.declared.event.Event.{Event}
 use Rattle.fw_flow.specs.declared.event.Event.TheVariants.{Inject, Deliver, Notify}
@@ -17,7 +18,6 @@ use Rattle.fw_model.specs.History.{delivered_messages, IsLegal}
 use Rattle.fw_model.specs.Reached.{IsReached}
 use Rattle.fw_model.specs.Machine.{Machine, events, front_of, ack_count_of}
 use Rattle.fw_model.specs.Steps.{acked, HasEpoch, HasDelivery, HasSomethingAt, recs_at_output}
-use Rattle.fw_model.proofs.Decisions.{two_ways}
 use Rattle.fw_model.proofs.DenotationDomainLaws.{denotation-in_domain}
 use Rattle.fw_model.proofs.DenotedLaws.{delivered-denoted}
 use Rattle.fw_model.proofs.DescentLaws.{complete-exists}

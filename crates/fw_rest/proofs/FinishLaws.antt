@@ -3,8 +3,9 @@ use Rattle.std.proofs.Common.{◌≡◌, ℕ, zero, suc, ◌+◌, ◌-◌, ◌*�
 use Rattle.std.specs.List.{AllByRecursion, range_with_len}
 use Rattle.std.proofs.Math.Nat.{mul-le-mul_right}
 use Rattle.std.proofs.lemmas.Bool.{cases_Bool, cases_lt, eqb-true}
+use Rattle.fw_lemmas.proofs.Each.{each-weaker}
+use Rattle.fw_lemmas.proofs.Lists.{none-mapped}
 use Rattle.fw_time.specs.Stamp.{Stamp}
-use Rattle.fw_time.proofs.EachLaws.{each-weaker}
 use Rattle.fw_flow.specs.declared.step.Step.{Step}
 use Rattle.fw_flow.specs.declared.step.Step.TheVariants.{Inject, Deliver, Notify, Progress as ProgressStep, Persist, Recover, Ack}
 use Rattle.fw_flow.specs.Dataflow.{System, kind_of, receiver, node_ids, is_output_kind}
@@ -33,14 +34,9 @@ use Rattle.fw_rest.proofs.MostEventsLaws.{sum-at_most}
 
 -- ---- all nodes are live
 
-pub none-failed : (ps : List ℕ) (p : ℕ) → slice_index_or (map (λ q. false) ps) p false ≡ false
-none-failed [] p = refl
-none-failed (q ∷ ps) zero = refl
-none-failed (q ∷ ps) (suc p) = none-failed ps p
-
 pub recovered-live : (sys : System) → IsWellFormedSystem sys → (state : Machine) → IsReached sys state → (next : Machine) (outcome : Outcome)
     → StepsTo sys state Recover next outcome → AreAllLive sys next
-recovered-live sys w state r next (did effect) t p l = ap (λ (m : Machine). is_failed m p) t.7 ∙ none-failed (node_ids sys.flow) p
+recovered-live sys w state r next (did effect) t p l = ap (λ (m : Machine). is_failed m p) t.7 ∙ none-mapped (node_ids sys.flow) p
 recovered-live sys w state r next idle t p l = ap (λ (m : Machine). is_failed m p) t.1 ∙ elim (cases_Bool (is_failed state p)) [
   | inr e ↦ e
   | inl e ↦ let f = failed-recovered sys w r.0 r.1 state r.2 p l e in absurd (t.0 f.0 (cuts f.1) f.2)

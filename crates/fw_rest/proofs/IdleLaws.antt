@@ -4,8 +4,9 @@ use Rattle.std.specs.List.{AllByRecursion, range_with_len}
 use Rattle.std.specs.Ordering.{is_gt}
 use Rattle.std.proofs.lemmas.Bool.{cases_Bool, cases_lt, and_parts, or_cases}
 use Rattle.std.proofs.lemmas.Cmp.{tied_itself}
+use Rattle.fw_lemmas.proofs.Bools.{two_ways}
+use Rattle.fw_lemmas.proofs.Each.{each-prefix, each-suffix, each_of-map}
 use Rattle.fw_time.specs.Stamp.{Stamp, same, stamp_cmp}
-use Rattle.fw_time.proofs.EachLaws.{each-prefix, each-suffix, each_of-map}
 use Rattle.fw_frontier.specs.Frontier.{Frontier}
 use Rattle.fw_flow.specs.declared.event.Event.{Event}
 use Rattle.fw_flow.specs.declared.event.Event.TheVariants.{Inject as Injected, Deliver as Delivered, Notify as Notified}
@@ -21,7 +22,7 @@ use Rattle.fw_model.specs.History.{pending_messages, delivered_messages, was_del
 use Rattle.fw_model.specs.Machine.{Machine, events, front_of, is_failed}
 use Rattle.fw_model.specs.Steps.{silent, eager_writes, with_event}
 use Rattle.fw_model.proofs.CmpLaws.{stamp_total, decided-stamp, find_least}
-use Rattle.fw_model.proofs.Decisions.{two_ways, Decided}
+use Rattle.fw_model.proofs.Decisions.{Decided}
 use Rattle.fw_model.proofs.EnabledLaws.{notify-decided}
 use Rattle.fw_model.proofs.SettleLaws.{settled-grows}
 use Rattle.fw_model.proofs.StampLaws.{same-is}

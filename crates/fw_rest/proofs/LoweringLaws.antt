@@ -4,7 +4,8 @@ use Rattle.std.specs.List.{AllByRecursion, range_with_len}
 use Rattle.std.proofs.Math.Nat.{suc-mul}
 use Rattle.std.proofs.lemmas.Bool.{cases_Bool, cases_eq, or_right, cond_both}
 use Rattle.std.proofs.lemmas.List.{get_or-set_same, get_or-set_other}
-use Rattle.fw_time.proofs.EachLaws.{each-append, each-suffix, each-map, each-one}
+use Rattle.fw_lemmas.proofs.Bools.{two_ways}
+use Rattle.fw_lemmas.proofs.Each.{each-one, each-append, each-suffix, each-map}
 use Rattle.fw_frontier.specs.Frontier.{Frontier}
 use Rattle.fw_frontier.specs.Front.{Front}
 use Rattle.fw_flow.specs.declared.event.Event.{Event}
@@ -23,7 +24,6 @@ use Rattle.fw_model.specs.Machine.{Machine, SerialEvent, Write, acknowledged, ev
 use Rattle.fw_model.specs.Reached.{IsReached}
 use Rattle.fw_model.specs.Steps.{Effect, silent, did, write_of_event, with_event, eager_writes, GrowsTo, is_in_flight, AcknowledgesOldest, LeadsTo, Run}
 use Rattle.fw_model.proofs.AutoLaws.{auto-runs}
-use Rattle.fw_model.proofs.Decisions.{two_ways}
 use Rattle.fw_model.proofs.DescentLaws.{complete-one}
 use Rattle.fw_model.proofs.GoingOn.{runs-go_on}
 use Rattle.fw_rest.specs.Rest.{HasNothingToDo, is_of_auto}

@@ -3,6 +3,7 @@ use Rattle.std.proofs.Common.{◌≡◌, ℕ, zero, suc, ◌+◌, ◌<◌, ◌�
 use Rattle.std.specs.List.{range_with_len}
 use Rattle.std.proofs.lemmas.List.{get_or_past}
 use Rattle.std.proofs.lemmas.Bool.{cases_Bool, cases_lt, and_parts, and_from, or_cases, or_parts, eqb-true, eq-eqb, false_from_ne_true, cond_both}
+use Rattle.fw_lemmas.proofs.Bools.{two_ways}
 use Rattle.fw_time.specs.Stamp.{Stamp, same}
 use Rattle.fw_bag.specs.declared.rec.Rec.{Rec}
 use Rattle.fw_flow.specs.declared.event.Event.{Event}
@@ -15,7 +16,6 @@ use Rattle.fw_flow.specs.WholeBags.{Timed}
 use Rattle.fw_model.specs.Auto.{edge_ids}
 use Rattle.fw_model.specs.Denotation.{Family, IsDenotation}
 use Rattle.fw_model.specs.History.{some_at, delivered_messages, pending_messages, was_delivered_to, was_notified, is_owed_notice, injected_count, IsDeliverable, IsLegal}
-use Rattle.fw_model.proofs.Decisions.{two_ways}
 use Rattle.fw_model.proofs.DescentLaws.{past_edges-quiet}
 use Rattle.fw_model.proofs.InputLaws.{injected-few}
 use Rattle.fw_model.proofs.LedgerLaws.{length-timed_of}

@@ -10,6 +10,8 @@ use Rattle.fw_flow.specs.declared.event.Event.TheVariants.{Inject, Deliver, Noti
 use Rattle.fw_flow.specs.declared.event.Message.{Message}
 use Rattle.fw_flow.specs.Dataflow.{System, Dataflow, kind_of, sender, receiver, bounds_of, bounds_of_domain, is_input_kind, is_numbered, batches_of}
 use Rattle.std.specs.Ordering.{is_eq}
+use Rattle.fw_lemmas.proofs.Bools.{two_ways}
+use Rattle.fw_lemmas.proofs.Numbers.{by_measure}
 use Rattle.fw_flow.specs.Message.{is_among, message_cmp}
 use Rattle.fw_flow.proofs.MessageLaws.{message_cmp-self}
 use Rattle.fw_flow.specs.Projection.{phi, first_coordinate}
@@ -17,7 +19,6 @@ use Rattle.fw_flow.specs.WellFormed.{IsWellFormed}
 use Rattle.fw_flow.specs.Ranks.{is_looped}
 use Rattle.fw_model.specs.History.{some_at, delivered_messages, pending_messages, is_owed_notice, injected_count, is_exhausted, injected_epochs, IsAdmissible, IsComplete, IsLegal}
 use Rattle.fw_model.specs.Measure.{Measure}
-use Rattle.fw_model.proofs.Decisions.{two_ways}
 use Rattle.fw_model.proofs.FrontierLaws.{phi-frontier}
 use Rattle.fw_model.proofs.InputLaws.{injected-few}
 use Rattle.fw_model.proofs.LegalLaws.{edge_domains}
@@ -28,7 +29,6 @@ use Rattle.fw_model.proofs.OutputLaws.{is_local_kind}
 use Rattle.fw_model.proofs.PendingNumberLaws.{numbers-go_on}
 use Rattle.fw_model.proofs.PhiLaws.{phi-monotone}
 use Rattle.fw_model.proofs.SendingLaws.{phi-by_stamp, phi-in_domain}
-use Rattle.fw_model.proofs.StampMeasures.{by_measure}
 use Rattle.fw_model.proofs.WellFormedLaws.{senders_well_formed}
 use Rattle.fw_rest.specs.Rest.{IsAtRest}
 use Rattle.fw_rest.specs.LawsOfRest.{RestIsComplete}

@@ -2,15 +2,15 @@
 use Rattle.std.proofs.Common.{◌≡◌, ◌<◌, false, List, [], ◌∷◌, refl, sym, ap, subst, inl, inr, ◌⊎◌, arith}
 use Rattle.std.specs.List.{AllByRecursion, list_any}
 use Rattle.std.proofs.lemmas.Bool.{cases_Bool, or_from, or_left}
+use Rattle.fw_lemmas.proofs.Bools.{two_ways}
+use Rattle.fw_lemmas.proofs.Each.{each-weaker}
 use Rattle.fw_time.specs.Stamp.{Stamp, same}
-use Rattle.fw_time.proofs.EachLaws.{each-weaker}
 use Rattle.fw_bag.specs.declared.rec.Rec.{Rec}
 use Rattle.fw_flow.specs.declared.event.Message.{Message}
 use Rattle.fw_flow.specs.WholeBags.{Timed}
 use Rattle.fw_model.specs.History.{some_at, pending_messages, delivered_messages}
 use Rattle.fw_model.specs.Machine.{Write, acknowledged, events, ack_count_of}
 use Rattle.fw_model.specs.Steps.{silent, is_in_flight, AcknowledgesOldest}
-use Rattle.fw_model.proofs.Decisions.{two_ways}
 use Rattle.fw_model.proofs.DescentLaws.{complete-exists}
 use Rattle.fw_model.proofs.DomainLaws.{has_epochs}
 use Rattle.fw_model.proofs.SentLaws.{timed_of, timed_message}

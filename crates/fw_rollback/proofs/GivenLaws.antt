@@ -6,8 +6,9 @@ use Rattle.std.proofs.lemmas.List.Elements.{filter-append}
 use Rattle.std.specs.List.{AllZip, Contains}
 use Rattle.std.specs.Option.{ForSome}
 use Rattle.std.specs.FinMap as map
+use Rattle.fw_lemmas.proofs.Each.{each-weaker, each-one, each-at, each_of-map, each-filter}
+use Rattle.fw_lemmas.proofs.Filters.{filter-in, filter-out}
 use Rattle.fw_time.specs.Stamp.{in_domain}
-use Rattle.fw_time.proofs.EachLaws.{each-at, each-filter, each-one, each-weaker, each_of-map}
 use Rattle.fw_frontier.specs.Front.{Front, inside}
 use Rattle.fw_flow.specs.declared.choice.Choice.{Choice}
 use Rattle.fw_flow.specs.declared.choice.Cut.{Cut}
@@ -17,7 +18,6 @@ use Rattle.fw_flow.specs.declared.restoring.Restoring.TheVariants.{Batches, Boun
 use Rattle.fw_flow.specs.Dataflow.{Dataflow, out_edges, bounds_of}
 use Rattle.fw_flow.specs.Restoring.{way_of}
 use Rattle.fw_model.specs.Choice.{cut_of}
-use Rattle.fw_model.proofs.FilterLaws.{filter-in, filter-out}
 use Rattle.fw_record.specs.declared.logged.Logged.{Logged}
 use Rattle.fw_record.specs.declared.record.Record.{Record}
 use Rattle.fw_record.specs.declared.record.Record.TheVariants as tagged

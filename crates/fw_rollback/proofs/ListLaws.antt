@@ -1,8 +1,8 @@
 -- Lists that grow at their end, and edges that ascend.
-use Rattle.std.proofs.Common.{◌≡◌, ◌≢◌, ℕ, zero, suc, ◌+◌, ◌≤◌, ◌<◌, Bool, true, false, ◌||◌, ◌==◌, cond, List, [], ◌∷◌, ◌++◌, length, take, get_or, refl, sym, ap, subst, ◌∙◌, inl, inr, arith}
+use Rattle.std.proofs.Common.{◌≡◌, ◌≢◌, ℕ, zero, suc, ◌+◌, ◌≤◌, ◌<◌, Bool, true, false, ◌==◌, cond, List, [], ◌∷◌, ◌++◌, length, take, get_or, refl, sym, ap, subst, ◌∙◌, inl, inr, arith}
 use Rattle.std.specs.List.{AllByRecursion, AllZip}
-use Rattle.std.proofs.lemmas.Bool.{ne_eqb, or_from, cases_Bool}
-use Rattle.fw_time.proofs.EachLaws.{each-at, each-weaker}
+use Rattle.std.proofs.lemmas.Bool.{ne_eqb, or_from, cases_Bool, or_parts}
+use Rattle.fw_lemmas.proofs.Each.{each-weaker, each-at}
 use Rattle.fw_flow.specs.declared.node.Edge.{Edge}
 use Rattle.fw_flow.specs.Dataflow.{Dataflow, edges_from, out_edges, sender}
 use Rattle.fw_flow.proofs.OutEdgeLaws.{out_edges-at, out_edges-from}
@@ -101,16 +101,11 @@ out_edge-there flow p ds i d e l at =
     let P : List ℕ → Type 0 = λ xs. AllByRecursion (λ x. x < length flow.edges) xs in
     subst (λ x. x < length flow.edges) (sym at) (each-at (λ x. x < length flow.edges) ds i d l (subst P (sym e) (out_edges-there flow p)))
 
--- neither of two holds where not one of them does
-pub no_or : (a b : Bool) → (a || b) ≡ false → (a ≡ false) × (b ≡ false)
-no_or true b e = cc
-no_or false b e = (refl, e)
-
 -- what is not among numbers is not among the first of them
 pub not_among_first : (ds : List ℕ) (n e : ℕ) → is_among e ds ≡ false → is_among e (take n ds) ≡ false
 not_among_first [] zero e h = refl
 not_among_first [] (suc n) e h = refl
 not_among_first (d ∷ ds) zero e h = refl
 not_among_first (d ∷ ds) (suc n) e h =
-    let parts = no_or (d == e) (is_among e ds) h in
+    let parts = or_parts (d == e) (is_among e ds) h in
     or_from (d == e) (is_among e (take n ds)) parts.0 (not_among_first ds n e parts.1)

@@ -1,19 +1,19 @@
 -- What logs hold: as bags, in order.
 use Rattle.std.proofs.Common.{◌≡◌, ◌≢◌, ℕ, ◌+◌, ◌<◌, Bool, true, false, not, ◌==◌, List, [], ◌∷◌, ◌++◌, filter, map, length, take, get_or, refl, sym, ap, subst, ◌∙◌, inl, inr, arith}
-use Rattle.std.proofs.lemmas.Bool.{cases_eq, eqb-true, eq-eqb, ne_eqb, or_cases, false≢true}
+use Rattle.std.proofs.lemmas.Bool.{cases_eq, eqb-true, eq-eqb, ne_eqb, or_cases, false≢true, or_parts}
 use Rattle.std.proofs.lemmas.List.{append-nil, take_more, map-append}
 use Rattle.std.proofs.lemmas.List.Elements.{filter-append}
 use Rattle.std.proofs.lemmas.List.Folds.{list_any_more}
 use Rattle.std.specs.List.{AllByRecursion}
+use Rattle.fw_lemmas.proofs.Each.{each-at}
+use Rattle.fw_lemmas.proofs.Filters.{filter-in, filter-out}
 use Rattle.fw_time.specs.Stamp.{Stamp}
-use Rattle.fw_time.proofs.EachLaws.{each-at}
 use Rattle.fw_bag.specs.declared.rec.Rec.{Rec}
 use Rattle.fw_frontier.specs.Front.{Front, inside}
 use Rattle.fw_flow.specs.declared.event.Message.{Message}
 use Rattle.fw_flow.specs.Dataflow.{Dataflow, receiver}
 use Rattle.fw_model.specs.Machine.{front_of}
 use Rattle.fw_model.specs.SortedMessages.{with_message, with_messages, sorted_messages}
-use Rattle.fw_model.proofs.FilterLaws.{filter-in, filter-out}
 use Rattle.fw_model.proofs.SentLaws.{copy}
 use Rattle.fw_model.proofs.SortedLaws.{same_sorted_messages, sorted_messages-filter, sorted_messages-weigh}
 use Rattle.fw_model.proofs.WeightLaws.{weigh, weigh-append}
@@ -24,7 +24,7 @@ use Rattle.fw_node.specs.Answers.{caused_by}
 use Rattle.fw_rollback.specs.Edges.{on_edge}
 use Rattle.fw_record.specs.Log.{logged_on}
 use Rattle.fw_rollback.specs.Restored.{log_of}
-use Rattle.fw_rollback.proofs.ListLaws.{not_among_earlier, no_or}
+use Rattle.fw_rollback.proofs.ListLaws.{not_among_earlier}
 
 -- ---- messages in order
 
@@ -167,5 +167,5 @@ pub edges-others : (ds : List ℕ) (i d : ℕ) (first now next : List MessagesSt
     → ((e : ℕ) → e ≢ d → on_edge next e ≡ on_edge now e)
     → (e : ℕ) → is_among e (take (i + 1) ds) ≡ false → on_edge next e ≡ on_edge first e
 edges-others ds i d first now next l at left others e none =
-    let neither = no_or (is_among e (take i ds)) (get_or ds i d == e) (sym (list_any_more (λ (x : ℕ). x == e) ds i d l) ∙ none) in
+    let neither = or_parts (is_among e (take i ds)) (get_or ds i d == e) (sym (list_any_more (λ (x : ℕ). x == e) ds i d l) ∙ none) in
     others e (λ z. absurd (false≢true (sym neither.1 ∙ eq-eqb (get_or ds i d) e (sym at ∙ sym z)))) ∙ left e neither.0

@@ -13,9 +13,9 @@ use Rattle.fw_flow.specs.Projection.{all_inside}
 use Rattle.fw_flow.specs.Restoring.{way_of}
 use Rattle.fw_model.specs.Choice.{cut_of}
 use Rattle.fw_model.specs.Steps.{front_of_cut}
-use Rattle.fw_model.proofs.FilterLaws.{filter-all}
 use Rattle.fw_record.specs.declared.record.Record.{Record}
 use Rattle.std.proofs.lemmas.List.{get_or-set_same, get_or-set_other, get_or_past}
+use Rattle.fw_lemmas.proofs.Filters.{filter-all}
 use Rattle.fw_border.specs.Outputs.{OutputState, OutputsState, new_output, output_at, with_output}
 use Rattle.fw_border.specs.Sources.{SourceState, unused_source, source_at, with_source, rolled_source}
 use Rattle.fw_edge.specs.Messages.{MessagesState}

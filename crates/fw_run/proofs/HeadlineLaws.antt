@@ -1,5 +1,6 @@
 -- What the machine does with accepted texts.
 use Rattle.std.proofs.Common.{true, List, [], ◌++◌, map, refl, sym, ◌∙◌, subst}
+use Rattle.fw_lemmas.proofs.Lists.{none-mapped}
 use Rattle.fw_flow.specs.declared.step.Step.{Step}
 use Rattle.fw_flow.specs.Dataflow.{Dataflow, System, node_ids}
 use Rattle.fw_flow.specs.WellFormed.{IsWellFormedSystem}
@@ -8,9 +9,9 @@ use Rattle.fw_schedule.specs.declared.item.Item.TheVariants.{Auto}
 use Rattle.fw_schedule.specs.Schedule.{step_count}
 use Rattle.fw_model.proofs.GoingOn.{runs-go_on}
 use Rattle.fw_model.specs.Denotation.{Family, IsDenotation}
-use Rattle.fw_model.specs.Machine.{Machine, first_state}
+use Rattle.fw_model.specs.Machine.{first_state}
 use Rattle.fw_model.specs.Steps.{Outcome, Run}
-use Rattle.fw_rest.proofs.FinishLaws.{none-failed, enough-acknowledged}
+use Rattle.fw_rest.proofs.FinishLaws.{enough-acknowledged}
 use Rattle.fw_rest.specs.Rest.{AreAllLive}
 use Rattle.fw_headline.proofs.RightLaws.{runs-right}
 use Rattle.fw_headline.proofs.RunLaws.{the-run}
@@ -38,7 +39,7 @@ items-one_run sys w items =
 
 -- at first no node is failed
 first-live : (sys : System) → AreAllLive sys (first_state sys)
-first-live sys p l = none-failed (node_ids sys.flow) p
+first-live sys p l = none-mapped (node_ids sys.flow) p
 
 -- a run of items that end in enough `auto` has acknowledged all
 ended-acknowledged : (sys : System) → IsWellFormedSystem sys → (family : Family) → IsDenotation sys family → (items : List Item) (one : HasOneRun sys items)

@@ -1,10 +1,11 @@
 -- Where nothing has happened an engine stands for the first state, and what it keeps has its shape.
-use Rattle.std.proofs.Common.{◌≡◌, ℕ, zero, suc, ◌+◌, ◌<◌, Bool, true, false, not, ◌||◌, filter, List, [], ◌∷◌, length, map, replicate, get_or, refl, sym, subst, ap, ◌∙◌, inl, inr, arith, Option, Some, None, IfSome}
+use Rattle.std.proofs.Common.{◌≡◌, ℕ, zero, suc, ◌+◌, Bool, true, false, not, ◌||◌, filter, List, [], ◌∷◌, length, map, replicate, get_or, refl, sym, subst, ap, ◌∙◌, inl, inr, arith, Option, Some, None, IfSome}
 use Rattle.std.proofs.lemmas.Bool.{cases_lt}
 use Rattle.std.proofs.lemmas.List.{length-map, length-replicate, get_or-replicate, get_or_past}
 use Rattle.std.proofs.lemmas.List.FromFn.{length-map-range_with_len}
-use Rattle.std.specs.List.{AllByRecursion, AllZip, Contains, range_with_len, enumerate_from}
+use Rattle.std.specs.List.{AllByRecursion, AllZip, range_with_len, enumerate_from}
 use Rattle.std.specs.Option.{IsSomeAnd}
+use Rattle.fw_lemmas.proofs.Lists.{contains-none}
 use Rattle.fw_bag.specs.declared.rec.Rec.{Rec}
 use Rattle.fw_frontier.specs.Front.{Front, inside}
 use Rattle.fw_flow.specs.declared.kind.Kind.{Kind}
@@ -132,9 +133,6 @@ source_there flow batches sources s e = ap (λ (xs : List SourceState). source_a
     by (b ∷ bs) (suc i) = by bs i
 
 -- ---- the state
-
-contains-none : {A : Type 0} (xs : List A) (x : A) → xs ≡ [] → Contains xs x → ⊥
-contains-none xs x e c = let l : c.0 < length xs = c.1 in let none : length xs ≡ 0 = ap length e in omega (arith, l, none)
 
 none-held : {A B : Type 0} (R : A → B → Type 0) (xs : List A) → xs ≡ [] → AllZip R xs []
 none-held {A} R xs e = subst (λ (ys : List A). AllZip R ys []) (sym e) tt

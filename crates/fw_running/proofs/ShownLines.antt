@@ -1,10 +1,10 @@
 -- The lines that are shown, one for each node.
 use Rattle.std.proofs.Common.{◌≡◌, ℕ, ◌+◌, List, ◌++◌, get_or, sym, ap, ◌∙◌}
 use Rattle.std.specs.List.{flat_map, range_with_len}
+use Rattle.fw_lemmas.proofs.Lists.{joined_more}
 use Rattle.fw_flow.specs.Dataflow.{Dataflow, node_at}
 use Rattle.fw_flow.specs.declared.choice.Cut.{Cut}
 use Rattle.fw_flow.specs.declared.choice.Cut.TheVariants.{Present}
-use Rattle.fw_flow.proofs.Ranges.{joined_more}
 
 -- the line of one node more
 pub line_more : (line_of : List ℕ → Cut → List ℕ) (flow : Dataflow) (cuts : List Cut) (place : ℕ) (name : List ℕ) (cut : Cut)

@@ -8,7 +8,9 @@ use Rattle.std.proofs.lemmas.Iterator.Adapters.{option_map_id}
 use Rattle.std.proofs.lemmas.List.{append-nil, append_assoc, map-append}
 use Rattle.std.proofs.lemmas.List.Elements.{Contains-append_left, filter-append}
 use Rattle.std.proofs.lemmas.List.FromFn.{map-range_with_len_more}
-use Rattle.fw_time.proofs.EachLaws.{each-append}
+use Rattle.fw_lemmas.proofs.Bools.{two_ways}
+use Rattle.fw_lemmas.proofs.Each.{each-append}
+use Rattle.fw_lemmas.proofs.SideBySide.{zip-append}
 use Rattle.fw_frontier.specs.Frontier.{Within, join}
 use Rattle.fw_frontier.specs.Front.{Front, frontier_of, same_front, IsFrontOf}
 use Rattle.fw_frontier.proofs.NamesLaws.{names-same}
@@ -21,7 +23,6 @@ use Rattle.fw_model.specs.Filtering.{events_inside}
 use Rattle.fw_model.specs.Machine.{Machine, Write, family_of, front_of, is_failed}
 use Rattle.fw_model.specs.Steps.{GrowsTo, checkpoint_of, eager_writes, is_eager}
 use Rattle.fw_model.specs.Writes.{takes_checkpoints}
-use Rattle.fw_model.proofs.Decisions.{two_ways}
 use Rattle.fw_record.specs.declared.record.Checkpoint.{Checkpoint}
 use Rattle.fw_record.specs.declared.record.Record.{Record}
 use Rattle.fw_record.specs.declared.record.Record.TheVariants as tagged
@@ -34,7 +35,6 @@ use Rattle.fw_progress.specs.Settle.{has_more, is_growing, IsGrownAt}
 use Rattle.fw_stands.specs.Written.{AreEntriesOf, AreStored, IsEntryOf, uncollected}
 use Rattle.fw_stands.proofs.GrowthLaws.{settled-holds}
 use Rattle.fw_stands.proofs.KeptLaws.{fronts-grow}
-use Rattle.fw_stands.proofs.SideBySide.{zip-append}
 use Rattle.fw_running.specs.declared.fault.EngineFault.{EngineFault}
 use Rattle.fw_running.specs.declared.running.Running.{Running}
 use Rattle.fw_running.specs.Faults.{faults_after}

@@ -1,13 +1,13 @@
 -- Edges with their fronts, one for each edge of a node, in order.
-use Rattle.std.proofs.Common.{◌≡◌, ◌⊎◌, inl, inr, ℕ, suc, ◌+◌, ◌-◌, ◌<◌, ◌≤◌, ◌^◌, ◌==◌, Bool, true, List, [], ◌∷◌, ◌++◌, length, get_or, take, Some, refl, sym, ◌∙◌, ap, subst, arith}
-use Rattle.std.specs.Prelude.{nat_lt, slice_get}
+use Rattle.std.proofs.Common.{◌≡◌, ◌⊎◌, inl, inr, ℕ, suc, ◌+◌, ◌<◌, ◌≤◌, ◌^◌, ◌==◌, Bool, true, List, [], ◌∷◌, ◌++◌, length, get_or, take, refl, sym, ◌∙◌, ap, subst, arith}
+use Rattle.std.specs.Prelude.{nat_lt}
 use Rattle.std.specs.List.{AllByRecursion, AllZip}
 use Rattle.std.specs.Option.{option_map_or}
 use Rattle.std.proofs.lemmas.Bool.{and_from, both_ways, cond_both, eqb-true, eq-eqb, lt-ltb}
-use Rattle.std.proofs.lemmas.List.{take_more, length-append}
-use Rattle.std.proofs.lemmas.Option.{slice_get-get_or}
-use Rattle.std.proofs.Math.Seq.{get_or-append_seam}
-use Rattle.fw_time.proofs.EachLaws.{each-at, each-weaker, each-both}
+use Rattle.std.proofs.lemmas.List.{take_more}
+use Rattle.fw_lemmas.proofs.Each.{each-weaker, each-both, each-at}
+use Rattle.fw_lemmas.proofs.Lists.{last_of}
+use Rattle.fw_lemmas.proofs.SideBySide.{zip-append}
 use Rattle.fw_frontier.specs.Frontier.{Frontier}
 use Rattle.fw_frontier.specs.Front.{Front, frontier_of, IsCanonical, IsFrontOf}
 use Rattle.fw_flow.specs.declared.choice.OfEdge.{OfEdge}
@@ -16,12 +16,11 @@ use Rattle.fw_flow.specs.Dataflow.{Dataflow, receiver, in_edges, out_edges, edge
 use Rattle.fw_flow.specs.WellFormed.{IsWellFormed}
 use Rattle.fw_flow.proofs.OutEdgeLaws.{out_edges-from}
 use Rattle.fw_model.specs.Offers.{AreFrontsOfEdges, front_of_edge}
-use Rattle.fw_record.specs.Sound.{IsStamp, IsFront, AreOfEdges, may_follow_edges, each_may_follow}
+use Rattle.fw_record.specs.Sound.{IsFront, AreOfEdges, may_follow_edges, each_may_follow}
 use Rattle.fw_record.specs.Sound as sound
 use Rattle.fw_record.specs.Spelling.{HasCountableEdges, IsCountable}
 use Rattle.fw_record.proofs.FrontLaws.{sound_of_canonical}
 use Rattle.fw_stands.specs.Written.{edges_of}
-use Rattle.fw_stands.proofs.SideBySide.{zip-append}
 use Rattle.fw_stands.proofs.SpellingLaws.{stamps_have_spellings}
 use Rattle.fw_settle.specs.Checkpoints.{IsOfEdge}
 
@@ -125,13 +124,6 @@ out_edges-ascend flow p = from-ascend 0 0 flow.edges p (omega arith)
 
 abbrev rule : List OfEdge → OfEdge → Bool
 rule before e = may_follow_edges before e.edge
-
--- the last of these and one more is that one
-pub last_of : {A : Type 0} (before : List A) (y : A) → slice_get (before ++ y ∷ []) (length (before ++ y ∷ []) - 1) ≡ Some y
-last_of before y =
-    let long = length-append before (y ∷ []) in
-    let i : length (before ++ y ∷ []) - 1 ≡ length before = omega (arith, long) in
-    ap (slice_get (before ++ y ∷ [])) i ∙ slice_get-get_or (before ++ y ∷ []) (length before) y (omega (arith, long)) ∙ ap Some (get_or-append_seam before y [] y)
 
 follow-last : (before : List OfEdge) (y : OfEdge) (xs : List OfEdge) → Ascend (suc y.edge) (edges_of xs) → each_may_follow rule (before ++ y ∷ []) xs ≡ true
 follow-last before y [] a = refl

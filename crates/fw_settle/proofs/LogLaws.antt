@@ -4,8 +4,9 @@ use Rattle.std.specs.List.{AllByRecursion, Contains, fold}
 use Rattle.std.specs.List.Sorted.{IsPermutation}
 use Rattle.std.proofs.lemmas.Bool.{cases_Bool, cond_both, cond-false, cond-true, eq-eqb, eqb-true, ne_eqb}
 use Rattle.std.proofs.lemmas.List.Sorted.{sum_by-IsPermutation, Contains-permutation, IsPermutation-sym}
+use Rattle.fw_lemmas.proofs.Each.{each-weaker, each-both, each-one, each-append, each-map, each-kept, each-there}
+use Rattle.fw_lemmas.proofs.Filters.{filter-swap, filter-same_on}
 use Rattle.fw_time.specs.Stamp.{Stamp, in_domain}
-use Rattle.fw_time.proofs.EachLaws.{each-weaker, each-append, each-both, each-one, each-kept, each-map}
 use Rattle.fw_frontier.specs.Front.{Front, inside}
 use Rattle.fw_flow.specs.declared.choice.Cut.TheVariants.{At}
 use Rattle.fw_flow.specs.declared.event.Message.{Message}
@@ -22,7 +23,6 @@ use Rattle.fw_model.specs.Reached.{IsReached}
 use Rattle.fw_model.specs.SortedMessages.{sorted_messages}
 use Rattle.fw_model.proofs.ArrivalLaws.{at_edge}
 use Rattle.fw_model.proofs.DomainLaws.{has_epochs}
-use Rattle.fw_model.proofs.FilterLaws.{filter-swap}
 use Rattle.fw_model.proofs.SentLaws.{copy}
 use Rattle.fw_model.proofs.SortedLaws.{same_sorted_messages, sorted_messages-filter, sorted_messages-twice, each-sorted_messages}
 use Rattle.fw_model.proofs.WeightLaws.{weigh, weigh-flat_map, weigh-map, weigh-same}
@@ -34,9 +34,8 @@ use Rattle.fw_record.specs.Log.{logged_on}
 use Rattle.fw_stands.specs.Written.{to_log}
 use Rattle.fw_stands.proofs.AtReached.{reached-legal}
 use Rattle.fw_stands.proofs.NumberLaws.{sender-there}
-use Rattle.fw_stands.proofs.RecoveredFacts.{filter-as, all_inside-as, IsCausedIn, set-inside, legal-caused, legal-at, each-contained}
+use Rattle.fw_stands.proofs.RecoveredFacts.{all_inside-as, IsCausedIn, set-inside, legal-caused, legal-at, each-contained}
 use Rattle.fw_stands.proofs.RecoveredLogs.{logged-live}
-use Rattle.fw_stands.proofs.SideBySide.{each-there}
 use Rattle.fw_stands.proofs.SpellingLaws.{stamps_have_spellings}
 use Rattle.fw_settle.specs.Checkpoints.{logged_from, logged_at, IsLogAt}
 
@@ -172,7 +171,7 @@ log-none flow logs p f log e same cannot =
 pub from-front : (flow : Dataflow) (p : ℕ) (f : Front) (ms : List Message) → AllByRecursion (IsCausedIn flow p) ms
     → messages_from (inside f) ms ≡ messages_from (node_frontier flow p f) ms
 from-front flow p f ms a =
-    filter-as (λ (m : Message). all_inside (inside f) m.causes) (λ m. all_inside (node_frontier flow p f) m.causes) ms
+    filter-same_on (λ (m : Message). all_inside (inside f) m.causes) (λ m. all_inside (node_frontier flow p f) m.causes) ms
     (each-weaker (IsCausedIn flow p) (λ m. all_inside (inside f) m.causes ≡ all_inside (node_frontier flow p f) m.causes) ms
     (λ m c. all_inside-as (inside f) (node_frontier flow p f) m.causes
     (each-weaker (λ t. in_domain (bounds_of flow p) t ≡ true) (λ t. inside f t ≡ node_frontier flow p f t) m.causes

@@ -1,5 +1,6 @@
 -- A checkpoint that is made of what is kept of a node at a front is the one for which the machine asks, and has a spelling.
 use Rattle.std.proofs.Common.{◌≡◌, ℕ, ◌<◌, ◌^◌, ◌||◌, Bool, true, false, List, [], length, refl, sym, ap, subst, ◌∙◌, arith}
+use Rattle.fw_lemmas.proofs.Bools.{two_ways}
 use Rattle.fw_frontier.specs.Front.{Front}
 use Rattle.fw_frontier.specs.declared.state.Entries.{Entries}
 use Rattle.fw_frontier.specs.declared.state.Entries.TheVariants.{Totals}
@@ -15,7 +16,6 @@ use Rattle.fw_flow.proofs.EdgeLaws.{in_edges-from}
 use Rattle.fw_flow.proofs.OutEdgeLaws.{out_edges-from}
 use Rattle.fw_model.specs.Machine.{Machine, events}
 use Rattle.fw_model.proofs.AskedLaws.{takes-declared, takes-restoring}
-use Rattle.fw_model.proofs.Decisions.{two_ways}
 use Rattle.fw_model.proofs.DomainLaws.{has_epochs}
 use Rattle.fw_node.specs.StateOf.{totals_in}
 use Rattle.fw_record.specs.declared.record.Checkpoint.{Checkpoint}

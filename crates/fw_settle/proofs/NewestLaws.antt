@@ -1,9 +1,10 @@
 -- The newest checkpoint of a node by its entries, and whether nothing is settled.
-use Rattle.std.proofs.Common.{◌≡◌, ◌↔◌, ℕ, ◌==◌, Bool, true, false, cond, not, ◌&&◌, List, [], ◌∷◌, ◌++◌, map, refl, sym, ap, ◌∙◌}
+use Rattle.std.proofs.Common.{◌≡◌, ◌↔◌, ℕ, ◌==◌, Bool, true, false, cond, not, ◌&&◌, List, [], ◌∷◌, ◌++◌, refl, sym, ap, ◌∙◌}
 use Rattle.std.specs.Prelude.{IsTrue}
 use Rattle.std.proofs.lemmas.Bool.{and_parts, false_from_ne_true}
 use Rattle.std.proofs.lemmas.Grind.{flat_map-append}
 use Rattle.std.proofs.lemmas.List.{append-nil}
+use Rattle.fw_lemmas.proofs.Bools.{two_ways}
 use Rattle.fw_time.specs.Stamp.{origin, in_domain}
 use Rattle.fw_time.specs.declared.stamp.Bounds.{Bounds}
 use Rattle.fw_time.proofs.StampLaws.{leq-refl, origin-leq}
@@ -13,7 +14,6 @@ use Rattle.fw_frontier.specs.Front.{Front, inside, frontier_of, IsCanonical, IsF
 use Rattle.fw_frontier.proofs.NamesLaws.{frontier-closed, names-nothing, names-same}
 use Rattle.fw_model.specs.Machine.{no_stamps}
 use Rattle.fw_model.specs.Steps.{last_or}
-use Rattle.fw_model.proofs.Decisions.{two_ways}
 use Rattle.fw_keep.specs.declared.entry.Entry.{Entry}
 use Rattle.fw_stands.specs.Entries.{entry_front, entry_fronts}
 

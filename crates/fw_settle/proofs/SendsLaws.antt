@@ -10,20 +10,20 @@ use Rattle.std.proofs.lemmas.List.{length-append, get_or_append_left, take_more}
 use Rattle.std.proofs.lemmas.List.Elements.{recursion_from_All}
 use Rattle.std.proofs.lemmas.Option.{slice_get-get_or}
 use Rattle.std.proofs.Math.Seq.{get_or-append_seam}
+use Rattle.fw_lemmas.proofs.Bools.{two_ways}
+use Rattle.fw_lemmas.proofs.Each.{each-weaker, each-append, each-prefix, each-suffix}
+use Rattle.fw_lemmas.proofs.Lists.{last_of}
 use Rattle.fw_time.specs.Stamp.{Stamp, leq, same, stamp_cmp}
 use Rattle.fw_time.proofs.StampLaws.{same-is}
-use Rattle.fw_time.proofs.EachLaws.{each-append, each-prefix, each-suffix, each-weaker}
 use Rattle.fw_frontier.specs.Frontier.{Frontier}
 use Rattle.fw_frontier.specs.Front.{Front, inside}
 use Rattle.fw_frontier.specs.declared.state.SentCount.{SentCount}
 use Rattle.fw_flow.specs.Projection.{table_count}
 use Rattle.fw_flow.specs.SentTable.{AreInOrder}
-use Rattle.fw_model.proofs.Decisions.{two_ways}
 use Rattle.fw_record.specs.Sound.{IsStamp, IsSentCount, each_may_follow, may_follow_counts}
 use Rattle.fw_stands.specs.Written.{told_inside}
 use Rattle.fw_settle.specs.Checkpoints.{AreSendsOf}
 use Rattle.fw_settle.specs.Sends.{IsLimitOf, is_last_of, HasTaken, HasCount, HasSends}
-use Rattle.fw_settle.proofs.EachEdgeLaws.{last_of}
 
 -- the last of a list is that of its rest, if there is one
 last_step : {A : Type 0} (x y : A) (zs : List A) → slice_get (x ∷ y ∷ zs) (length (x ∷ y ∷ zs) - 1) ≡ slice_get (y ∷ zs) (length (y ∷ zs) - 1)

@@ -4,8 +4,8 @@ use Rattle.std.specs.Prelude.{Option, Some, IfSome, Result, Ok, Err, OnOk, OnErr
 use Rattle.std.specs.List.{AllByRecursion, Contains}
 use Rattle.std.proofs.lemmas.Bool.{cases_eq, both_ways}
 use Rattle.std.proofs.lemmas.List.{get_or-set_other, get_or-set_same}
-use Rattle.fw_time.proofs.EachLaws.{each-append}
-use Rattle.fw_frontier.specs.Front.{Front, inside}
+use Rattle.fw_lemmas.proofs.Each.{each-append}
+use Rattle.fw_frontier.specs.Front.{Front}
 use Rattle.fw_flow.specs.declared.choice.Stamps.{Stamps}
 use Rattle.fw_flow.specs.Dataflow.{bounds_of}
 use Rattle.fw_model.specs.Machine.{front_of}

@@ -3,12 +3,13 @@ use Rattle.std.proofs.Common.{◌≡◌, ℕ, suc, ◌+◌, ◌<◌, ◌≤◌, 
 use Rattle.std.specs.Prelude.{nat_lt}
 use Rattle.std.specs.List.{AllByRecursion}
 use Rattle.std.specs.Option.{option_map_or}
-use Rattle.std.specs.declared.cmp.Ordering.{Ordering}
-use Rattle.std.specs.declared.cmp.Ordering.TheVariants.{Less, Equal, Greater}
-use Rattle.std.specs.Ordering.{nat_cmp, ordering_then, is_eq, is_gt}
+use Rattle.std.specs.Ordering.{nat_cmp, is_eq, is_gt}
 use Rattle.std.proofs.lemmas.Bool.{and_from, cases_lt, cases_eq, cond_both, eq-eqb, lt-ltb}
 use Rattle.std.proofs.lemmas.Bool.Decides.{nat_tests}
-use Rattle.fw_time.proofs.EachLaws.{each-map, each-one}
+use Rattle.fw_lemmas.proofs.Bools.{two_ways}
+use Rattle.fw_lemmas.proofs.Each.{each-one, each-map}
+use Rattle.fw_lemmas.proofs.Lists.{last_of}
+use Rattle.fw_lemmas.proofs.Orderings.{gt_then}
 use Rattle.fw_bag.specs.declared.rec.Rec.{Rec}
 use Rattle.fw_bag.specs.Bag.{bag_sum, how_often}
 use Rattle.fw_bag.specs.Keyed.{sorted_recs, value_sum, has_key, distinct_keys, sums_of}
@@ -16,11 +17,9 @@ use Rattle.fw_bag.specs.Rec.{rec_cmp, IsAscending}
 use Rattle.fw_bag.proofs.BagLaws.{AllByRecursion-with_rec, IsAscending-bag_sum, how_often-bag_sum, how_often-here}
 use Rattle.fw_flow.specs.declared.kind.Kind.{Kind}
 use Rattle.fw_flow.specs.declared.kind.Kind.TheVariants as kind
-use Rattle.fw_model.proofs.Decisions.{two_ways}
 use Rattle.fw_model.proofs.SumLaws.{rec_cmp-test, sums-is}
 use Rattle.fw_node.specs.Past.{totals_kept}
 use Rattle.fw_record.specs.Sound.{may_follow_totals, each_may_follow}
-use Rattle.fw_settle.proofs.EachEdgeLaws.{last_of}
 
 -- each key is at least the first number, and greater than those before it
 abbrev Rise : ℕ → List Rec → Type 0
@@ -28,11 +27,6 @@ Rise n [] = Unit {0}
 Rise n (r ∷ rs) = (n ≤ r.key) × Rise (suc r.key) rs
 
 -- ---- one after the other
-
-then-greater : (o p : Ordering) → is_gt o ≡ true → is_gt (ordering_then o p) ≡ true
-then-greater Less p e = absurd (two_ways false e refl)
-then-greater Equal p e = absurd (two_ways false e refl)
-then-greater Greater p e = refl
 
 greater : (a b : ℕ) → b < a → is_gt (nat_cmp a b) ≡ true
 greater a b l = grind (arith, nat_tests)
@@ -47,7 +41,7 @@ key-above v x y of_x of_y not_gt not_eq = elim (cases_lt x.key y.key) [
         (rec_cmp-test x y ∙ and_from (x.key == y.key) (x.value == y.value) (eq-eqb x.key y.key same) (eq-eqb x.value y.value (of_x ∙ ap v same ∙ sym of_y))) not_eq)
     | inr other ↦
         let l : y.key < x.key = less y.key x.key ge (λ e. other (sym e)) in
-        absurd (two_ways (is_gt (rec_cmp x y)) (then-greater (nat_cmp x.key y.key) (nat_cmp x.value y.value) (greater x.key y.key l)) not_gt)
+        absurd (two_ways (is_gt (rec_cmp x y)) (gt_then (nat_cmp x.key y.key) (nat_cmp x.value y.value) (greater x.key y.key l)) not_gt)
   ]
 ]
   where

@@ -3,7 +3,7 @@ use Rattle.std.proofs.Common.{◌≡◌, ℕ, ◌<◌, ◌≤◌, false, not, Li
 use Rattle.std.specs.List.{AllByRecursion}
 use Rattle.std.proofs.lemmas.List.{append-nil, length-append}
 use Rattle.std.proofs.Math.Seq.{get_or-append_seam}
-use Rattle.fw_time.proofs.EachLaws.{each-both, each-weaker, each_of-map}
+use Rattle.fw_lemmas.proofs.Each.{each-weaker, each-both, each_of-map}
 use Rattle.fw_keep.specs.declared.entry.Entry.{Entry}
 use Rattle.fw_keep.specs.Catalogue.{ids_of, AreAscending, AreInFlight}
 use Rattle.fw_keep.specs.Entry.{is_withdrawn}

@@ -15,7 +15,6 @@ use Rattle.fw_model.specs.Machine.{Machine, Write, events, family_of, front_of, 
 use Rattle.fw_model.specs.Steps.{LeadsTo, did, idle, silent, checkpoint_of, last_or, is_asked_for_checkpoints}
 use Rattle.fw_model.specs.Writes.{takes_checkpoints}
 use Rattle.fw_model.proofs.AskedLaws.{takes-declared}
-use Rattle.fw_model.proofs.Decisions.{two_ways}
 use Rattle.fw_model.proofs.DomainLaws.{has_epochs}
 use Rattle.fw_record.specs.declared.record.Record.TheVariants as tagged
 use Rattle.fw_keep.specs.declared.entry.Entry.{Entry}
@@ -34,6 +33,7 @@ use Rattle.fw_stands.proofs.NumberLaws.{sender-there}
 use Rattle.fw_stands.proofs.StayingLaws.{writes-keep_parts}
 use Rattle.fw_running.proofs.SameStateLaws.{down-failed, idle-follows, keep-stands}
 use Rattle.std.proofs.lemmas.Bool.{cond_both}
+use Rattle.fw_lemmas.proofs.Bools.{two_ways}
 use Rattle.fw_running.specs.declared.running.Running.{Running}
 use Rattle.fw_settle.specs.Checkpoints.{AsksCheckpoint, CanBeMadeAt, MayTakeCheckpoint}
 use Rattle.fw_settle.specs.Settling.{KeepsEntries}

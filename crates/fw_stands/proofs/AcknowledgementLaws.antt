@@ -5,6 +5,7 @@ use Rattle.std.proofs.lemmas.Cmp.{tied_itself, nat_cmp_total}
 use Rattle.std.specs.Ordering.{is_eq, is_le, nat_cmp}
 use Rattle.std.specs.BTreeMap.{is_at}
 use Rattle.std.specs.Map.{lookup}
+use Rattle.fw_lemmas.proofs.Bools.{two_ways}
 use Rattle.fw_time.specs.Stamp.{Stamp, same, leq, in_domain}
 use Rattle.fw_time.specs.declared.stamp.Bounds.{Bounds}
 use Rattle.fw_bag.specs.declared.rec.Rec.{Rec}
@@ -21,7 +22,6 @@ use Rattle.fw_flow.specs.NodeFunction.{delivered_recs}
 use Rattle.fw_flow.specs.declared.step.Step.TheVariants.{Ack}
 use Rattle.fw_model.specs.Machine.{Machine, events, front_of, is_failed, ack_count_of}
 use Rattle.fw_model.specs.Steps.{MayAcknowledge, HasSomethingAt, recs_at_output, acked, HasEpoch, LeadsTo}
-use Rattle.fw_model.proofs.Decisions.{two_ways}
 use Rattle.fw_model.specs.Reached.{IsReached}
 use Rattle.fw_model.specs.Auto.{IsIdle}
 use Rattle.fw_border.specs.Outputs.{OutputState, recs_at, next_recs, acknowledged, AreByNumber}

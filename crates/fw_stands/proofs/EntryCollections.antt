@@ -1,8 +1,10 @@
 -- What a collection takes of entries and records.
-use Rattle.std.proofs.Common.{◌≡◌, ℕ, ◌<◌, Bool, true, false, not, ◌&&◌, ◌||◌, ◌==◌, List, [], ◌∷◌, filter, map, refl, sym, ap, subst, ◌∙◌, inl, inr, arith, Option}
+use Rattle.std.proofs.Common.{◌≡◌, ℕ, ◌<◌, Bool, false, not, ◌&&◌, ◌||◌, ◌==◌, List, [], ◌∷◌, filter, map, refl, sym, ap, subst, ◌∙◌, inl, inr, arith, Option}
 use Rattle.std.specs.List.{AllByRecursion, AllZip, list_any}
 use Rattle.std.proofs.lemmas.Bool.{eqb-true, eq-eqb, false_from_ne_true}
-use Rattle.fw_time.proofs.EachLaws.{each-kept}
+use Rattle.std.proofs.Math.Bool.{or-false}
+use Rattle.fw_lemmas.proofs.Each.{each-kept}
+use Rattle.fw_lemmas.proofs.SideBySide.{zip-weaker, zip-right, zip-both}
 use Rattle.fw_frontier.specs.Front.{Front, is_within}
 use Rattle.fw_flow.specs.declared.step.Step.TheVariants.{Collect}
 use Rattle.fw_flow.specs.Dataflow.{System, Dataflow}
@@ -28,7 +30,6 @@ use Rattle.fw_collect.specs.Dropped.{is_dropped}
 use Rattle.fw_collect.specs.LawsOfCollections.{is_written_given_up}
 use Rattle.fw_collect.proofs.CollectLaws.{drops_what_is_collected}
 use Rattle.fw_stands.specs.Written.{IsToldAs, HasEventTold, Holds, IsEntryOf, uncollected, IsHeldAs, AreStored}
-use Rattle.fw_stands.proofs.SideBySide.{zip-weaker, zip-right, zip-both}
 use Rattle.fw_stands.proofs.WrittenStays.{told-below}
 use Rattle.fw_policy.proofs.ReadLaws.{told-stamp}
 use Rattle.fw_policy.specs.Entries.{AreEntriesOf}
@@ -43,10 +44,6 @@ none-any s test (v ∷ h) a =
     let l = a.0 in
     ap (λ b. (b && test v) || list_any (λ u. u.serial == s && test u) h) (false_from_ne_true (v.serial == s) (λ k. let i = eqb-true v.serial s k in absurd (omega arith)))
     ∙ none-any s test h a.1
-
-or-false : (b : Bool) → (b || false) ≡ b
-or-false true = refl
-or-false false = refl
 
 -- whether the event of the serial passes, where it is told of
 serial-any : (flow : Dataflow) (p s n : ℕ) (event : Event) (test : SerialEvent → Bool) (b : Bool) (h : List SerialEvent) → AreSerialsBelow n h

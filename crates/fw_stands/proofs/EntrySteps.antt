@@ -8,8 +8,12 @@ use Rattle.std.proofs.lemmas.Bool.{cond_both, eqb-true, eq-eqb, cases_Bool, or_p
 use Rattle.std.proofs.lemmas.List.{append-nil}
 use Rattle.std.proofs.lemmas.List.Elements.{filter-append}
 use Rattle.std.proofs.lemmas.Bool.Decides.{nat_tests}
+use Rattle.fw_lemmas.proofs.Bools.{two_ways}
+use Rattle.fw_lemmas.proofs.Each.{each-weaker, each-one, each-prefix, each-suffix, each-map, each_of-map, each-kept, each-there}
+use Rattle.fw_lemmas.proofs.Filters.{filter-in, filter-out, filter-all, filter-none, filter-true, any-filter}
+use Rattle.fw_lemmas.proofs.SideBySide.{zip-weaker, zip-right, zip-both, zip-append}
+use Rattle.fw_lemmas.proofs.Orderings.{equal_by_cmp}
 use Rattle.fw_time.specs.Stamp.{in_domain}
-use Rattle.fw_time.proofs.EachLaws.{each-weaker, each-one, each-map, each_of-map, each-kept, each-prefix, each-suffix}
 use Rattle.fw_frontier.specs.Front.{Front, inside, is_within, same_front}
 use Rattle.fw_flow.specs.declared.choice.Choice.{Choice}
 use Rattle.fw_flow.specs.declared.choice.Cut.{Cut}
@@ -33,9 +37,7 @@ use Rattle.fw_model.specs.Reached.{IsReached}
 use Rattle.fw_model.specs.Steps.{Effect, cuts, LeadsTo, with_event, write_of_event, eager_writes, is_eager, checkpoint_of, is_in_flight, AcknowledgesOldest, has_serial, is_kept_write, silent}
 use Rattle.fw_model.specs.Writes.{is_collected, not_collected}
 use Rattle.fw_model.proofs.AskedLaws.{AreSerialsBelow, serials-each, reached-all}
-use Rattle.fw_model.proofs.Decisions.{two_ways}
 use Rattle.fw_model.proofs.DomainLaws.{has_epochs}
-use Rattle.fw_model.proofs.FilterLaws.{filter-in, filter-out, filter-all, filter-none, any-filter}
 use Rattle.fw_model.proofs.LegalLaws.{legal-in_domain}
 use Rattle.fw_model.proofs.RestoringLaws.{full-declared}
 use Rattle.fw_record.specs.declared.record.Event.{Event}
@@ -51,10 +53,9 @@ use Rattle.fw_record.specs.Event.{stamp_of_event}
 use Rattle.fw_keep.specs.Entry.{is_withdrawn, asked, node_of, written_of, is_lost, lies_within, is_beyond, IsRecordOf}
 use Rattle.fw_keep.specs.Stored.{Records, KeepsBytes}
 use Rattle.fw_record.proofs.RecordLaws.{one_spelling_lem}
-use Rattle.fw_keep.proofs.StoredLaws.{equal_by_cmp}
 use Rattle.fw_stands.specs.Written.{told_of, IsToldAs, HasEventTold, Holds, IsEntryOf, AreEntriesOf, uncollected, IsRecordFor, IsHeldAs, AreHeld, AreStored}
 use Rattle.fw_stands.specs.Entries.{StaysWritten, HasStamps, entries_of_event, is_lost_of, without_lost_of}
-use Rattle.fw_stands.proofs.SideBySide.{zip-weaker, zip-left, zip-right, zip-both, zip-append, zip-gone, each-there}
+use Rattle.fw_stands.proofs.SideBySide.{zip-left, zip-gone}
 use Rattle.fw_policy.proofs.ReadLaws.{told-stamp}
 use Rattle.fw_stands.proofs.WrittenStays.{told-below, what_is_written_stays}
 
@@ -612,12 +613,9 @@ filter-both {X = X} j k l h (x ∷ xs) = by (k x) (j x) (l x) (h x) (filter-both
     by false false true e rest f = absurd cc
     by false false false e rest f = rest
 
-filter-nothing : {X : Type 0} (xs : List X) → filter (λ x. true) xs ≡ xs
-filter-nothing xs = filter-all (λ x. true) xs (each-one (λ x. true ≡ true) xs (λ x. refl))
-
 -- lost one after the other, the nodes lose what they lose together
 pub loses_one_by_one : (ps : List ℕ) (entries : List Entry) → without_lost_of ps entries ≡ filter (λ e. not (is_lost_of ps e)) entries
-loses_one_by_one [] es = sym (filter-nothing es)
+loses_one_by_one [] es = sym (filter-true es)
 loses_one_by_one (p ∷ ps) es =
     loses_one_by_one ps (filter (λ e. not (is_lost p e)) es)
     ∙ filter-both (λ e. not (is_lost_of ps e)) (λ e. not (is_lost p e)) (λ e. not (is_lost_of (p ∷ ps) e))

@@ -4,6 +4,7 @@ use Rattle.std.specs.List.{Contains}
 use Rattle.std.proofs.lemmas.Bool.{or_right}
 use Rattle.std.proofs.lemmas.List.{append-nil}
 use Rattle.std.proofs.lemmas.List.FromFn.{get_or-map-range_with_len}
+use Rattle.fw_lemmas.proofs.Bools.{two_ways}
 use Rattle.fw_time.specs.Stamp.{Stamp}
 use Rattle.fw_flow.specs.declared.kind.Policy.TheVariants as policy
 use Rattle.fw_flow.specs.declared.step.Step.TheVariants.{Fail, Checkpoint as CheckpointStep}
@@ -15,7 +16,6 @@ use Rattle.fw_model.specs.Machine.{Machine, SerialEvent, Write, Stage, in_flight
 use Rattle.fw_model.specs.Machine.{Written as WrittenBy}
 use Rattle.fw_model.specs.Steps.{Effect, LeadsTo, checkpoint_of, checkpoint_front, checkpoints_of, last_or, is_in_flight, without_lost, is_asked_for_checkpoints, silent, newest_checkpoint}
 use Rattle.fw_model.proofs.AskedLaws.{reached-all}
-use Rattle.fw_model.proofs.Decisions.{two_ways}
 use Rattle.fw_model.proofs.LoggedLaws.{live-logged}
 use Rattle.fw_model.proofs.NewestLaws.{newest-kept}
 use Rattle.fw_model.proofs.RestoringLaws.{full-declared}

@@ -1,10 +1,12 @@
 -- What becomes of queues and logs as events come.
-use Rattle.std.proofs.Common.{◌≡◌, ℕ, ◌≤◌, Bool, true, not, ◌&&◌, ◌==◌, cond, List, [], ◌∷◌, ◌++◌, length, refl, sym, ap, subst, ◌∙◌, inl, inr, arith}
+use Rattle.std.proofs.Common.{◌≡◌, ℕ, ◌≤◌, Bool, true, not, ◌&&◌, ◌==◌, List, [], ◌∷◌, ◌++◌, length, refl, sym, ap, subst, ◌∙◌, inl, inr, arith}
 use Rattle.std.specs.Prelude.{filter}
 use Rattle.std.specs.List.{AllByRecursion}
 use Rattle.std.proofs.lemmas.Bool.{cases_Bool, cond-true, cond-false, cond_both, eqb-true}
+use Rattle.std.proofs.lemmas.List.Elements.{filter-append}
+use Rattle.fw_lemmas.proofs.Each.{each-weaker}
+use Rattle.fw_lemmas.proofs.Filters.{filter-same_on}
 use Rattle.fw_time.specs.Stamp.{Stamp, in_domain}
-use Rattle.fw_time.proofs.EachLaws.{each-weaker}
 use Rattle.fw_bag.specs.declared.rec.Rec.{Rec}
 use Rattle.fw_frontier.specs.Front.{Front, inside, frontier_of}
 use Rattle.fw_flow.specs.declared.event.Event.{Event}
@@ -132,23 +134,11 @@ sent-in_domain sys h v w b l e =
     (λ m i. sym (ap (λ d. in_domain (bounds_of_domain sys.flow d) m.at) (edge_domains sys.flow w e)) ∙ i)
     (each-first P (sent_on sys h e v) (sent_messages sys h e) (subst (AllByRecursion P) (sent-more sys h v e) (legal_messages-in_domain sys (v ∷ h) w b l e)))
 
-filter-append : {X : Type 0} (test : X → Bool) (xs ys : List X) → filter test (xs ++ ys) ≡ filter test xs ++ filter test ys
-filter-append test [] ys = refl
-filter-append test (x ∷ xs) ys =
-    cond_both (test x) (x ∷ filter test xs) (filter test xs) (λ zs. cond (test x) (x ∷ filter test (xs ++ ys)) (filter test (xs ++ ys)) ≡ zs ++ filter test ys)
-    (λ e. cond-true (test x) (x ∷ filter test (xs ++ ys)) (filter test (xs ++ ys)) e ∙ ap (λ zs. x ∷ zs) (filter-append test xs ys))
-    (λ e. cond-false (test x) (x ∷ filter test (xs ++ ys)) (filter test (xs ++ ys)) e ∙ filter-append test xs ys)
-
-filter-alike : {X : Type 0} (test also : X → Bool) (xs : List X) → AllByRecursion (λ x. test x ≡ also x) xs → filter test xs ≡ filter also xs
-filter-alike test also [] a = refl
-filter-alike test also (x ∷ xs) a =
-    ap (λ b. cond b (x ∷ filter test xs) (filter test xs)) a.0 ∙ ap (λ zs. cond (also x) (x ∷ zs) zs) (filter-alike test also xs a.1)
-
 -- what is sent outside a front is what is sent outside the frontier
 outside-alike : (flow : Dataflow) (p : ℕ) (f : Front) (ms : List Message) → AllByRecursion (λ (m : Message). in_domain (bounds_of flow p) m.at ≡ true) ms
     → messages_outside (frontier_of (bounds_of flow p) f) ms ≡ messages_outside (inside f) ms
 outside-alike flow p f ms a =
-    filter-alike (λ (m : Message). not (frontier_of (bounds_of flow p) f m.at)) (λ m. not (inside f m.at)) ms
+    filter-same_on (λ (m : Message). not (frontier_of (bounds_of flow p) f m.at)) (λ m. not (inside f m.at)) ms
     (each-weaker (λ (m : Message). in_domain (bounds_of flow p) m.at ≡ true) (λ m. not (frontier_of (bounds_of flow p) f m.at) ≡ not (inside f m.at)) ms
     (λ m i. ap (λ b. not (b && inside f m.at)) i) a)
 

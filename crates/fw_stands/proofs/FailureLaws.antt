@@ -13,9 +13,9 @@ use Rattle.fw_model.specs.Filtering.{messages_outside}
 use Rattle.fw_model.specs.Machine.{events, family_of, is_failed, ack_count_of, Machine}
 use Rattle.fw_model.specs.SortedMessages.{sorted_messages}
 use Rattle.fw_model.specs.Steps.{recs_at_output, LeadsTo, silent}
-use Rattle.fw_model.proofs.Decisions.{two_ways}
 use Rattle.fw_model.specs.Auto.{IsIdle}
 use Rattle.std.proofs.Common.{nat_lt}
+use Rattle.fw_lemmas.proofs.Bools.{two_ways}
 use Rattle.fw_stands.specs.Failures.{failed_state, KeepsWhatSurvives}
 use Rattle.fw_stands.specs.Parts.{kept_recs, logged, queued, IsTableIn}
 use Rattle.fw_node.specs.declared.node.Node.{Node}

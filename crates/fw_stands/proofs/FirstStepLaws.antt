@@ -1,9 +1,11 @@
 -- Which step is the first that is enabled, by places in the groups of steps.
-use Rattle.std.proofs.Common.{◌≡◌, ℕ, zero, suc, ◌+◌, ◌<◌, ◌≤◌, Bool, true, false, if◌then◌else◌, List, [], ◌∷◌, ◌++◌, map, None, refl, sym, ap, ◌∙◌, subst, inl, inr, append_assoc, arith}
-use Rattle.std.proofs.lemmas.Bool.{cases_Bool, cases_eq, or_left, or_right}
+use Rattle.std.proofs.Common.{◌≡◌, ℕ, zero, suc, ◌+◌, ◌<◌, ◌≤◌, true, false, if◌then◌else◌, List, [], ◌∷◌, ◌++◌, map, None, refl, sym, ap, ◌∙◌, subst, inl, inr, append_assoc, arith}
+use Rattle.std.proofs.lemmas.Bool.{cases_Bool, cases_eq, or_left}
 use Rattle.std.proofs.lemmas.Cmp.{tied_itself}
 use Rattle.std.specs.List.{list_any, range_with_len}
 use Rattle.std.specs.Ordering.{is_eq, is_gt, is_le}
+use Rattle.fw_lemmas.proofs.Bools.{two_ways}
+use Rattle.fw_lemmas.proofs.Filters.{any-at}
 use Rattle.fw_flow.specs.declared.event.Message.{Message}
 use Rattle.fw_flow.specs.declared.step.Step.{Step}
 use Rattle.fw_flow.specs.declared.step.Step.TheVariants.{Persist}
@@ -18,7 +20,6 @@ use Rattle.fw_model.specs.Machine.{Machine, Write}
 use Rattle.fw_model.specs.SortedMessages.{sorted_messages, with_message}
 use Rattle.fw_model.specs.Steps.{Effect, LeadsTo, IsNextMessage, is_in_flight}
 use Rattle.fw_model.proofs.AutoLaws.{idle-append}
-use Rattle.fw_model.proofs.Decisions.{two_ways}
 use Rattle.fw_model.proofs.FirstLaws.{first-next, first-least, among-same}
 use Rattle.fw_model.proofs.SentLaws.{copy}
 use Rattle.fw_model.proofs.SortedLaws.{IsAscendingMessages, ascending-sorted_messages, sorted_messages-weigh}
@@ -75,15 +76,11 @@ group-first sys state step a (suc n) j l m k next effect t = elim (cases_eq j a)
 
 -- ---- which steps are idle
 
-any-there : {X : Type 0} (test : X → Bool) (earlier later : List X) (x : X) → test x ≡ true → list_any test (earlier ++ x ∷ later) ≡ true
-any-there test [] later x e = or_left (test x) (list_any test later) e
-any-there test (y ∷ earlier) later x e = or_right (test y) (list_any test (earlier ++ x ∷ later)) (any-there test earlier later x e)
-
 pub none_flying-idle : (sys : System) (state : Machine) → list_any (λ (write : Write). is_in_flight write.stage) state.writes ≡ false → IsIdle sys state Persist
 none_flying-idle sys state none next effect t =
     let a = t.1 in
     two_ways (list_any (λ (write : Write). is_in_flight write.stage) state.writes)
-    (ap (list_any (λ (write : Write). is_in_flight write.stage)) a.before ∙ any-there (λ (write : Write). is_in_flight write.stage) a.earlier a.later a.oldest a.in_flight)
+    (ap (list_any (λ (write : Write). is_in_flight write.stage)) a.before ∙ any-at (λ (write : Write). is_in_flight write.stage) a.earlier a.oldest a.later a.in_flight)
     none
 
 -- what is nothing in order is nothing

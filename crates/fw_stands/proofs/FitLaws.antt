@@ -4,9 +4,10 @@ use Rattle.std.specs.List.{AllByRecursion, Contains}
 use Rattle.std.proofs.lemmas.Bool.{and_parts, cond_both, eq-eqb}
 use Rattle.std.proofs.lemmas.Bool.Decides.{nat_tests}
 use Rattle.std.specs.Ordering.{is_le}
+use Rattle.fw_lemmas.proofs.Each.{each-weaker, each-both, each-one, each_of-map, each-filter, each_of-filter, each-kept, each-of_all, each-there}
+use Rattle.fw_lemmas.proofs.Filters.{filter-all, filter-inner}
 use Rattle.fw_flow.specs.Message.{message_cmp}
 use Rattle.fw_time.specs.Stamp.{Stamp, in_domain}
-use Rattle.fw_time.proofs.EachLaws.{each-weaker, each-both, each-one, each-kept, each-filter, each_of-filter, each_of-map, each-of_all}
 use Rattle.fw_bag.specs.declared.rec.Rec.{Rec}
 use Rattle.fw_frontier.specs.Frontier.{Frontier}
 use Rattle.fw_frontier.specs.Front.{Front, IsCanonical}
@@ -37,7 +38,6 @@ use Rattle.fw_model.specs.SortedMessages.{with_message, sorted_messages}
 use Rattle.fw_model.specs.Writes.{takes_checkpoints}
 use Rattle.fw_model.proofs.AskedLaws.{takes-declared, reached-all}
 use Rattle.fw_model.proofs.DomainLaws.{has_epochs}
-use Rattle.fw_model.proofs.FilterLaws.{filter-all, filter-inner}
 use Rattle.fw_model.proofs.LegalLaws.{legal_messages-in_domain, edge-receiver}
 use Rattle.fw_model.proofs.SortedLaws.{each-sorted_messages}
 use Rattle.fw_model.proofs.ThinnedLaws.{each-contained}
@@ -54,7 +54,6 @@ use Rattle.fw_record.specs.Log.{logged_on}
 use Rattle.fw_record.specs.declared.record.Record.TheVariants as tagged
 use Rattle.fw_stands.specs.Written.{events_within, edges_of, to_log, told_inside, IsCheckpointFor}
 use Rattle.fw_stands.proofs.NumberLaws.{sender-there, ledger-few}
-use Rattle.fw_stands.proofs.SideBySide.{each-there}
 use Rattle.fw_keep.specs.Entry.{IsRecordOf, asked}
 
 -- ---- fronts

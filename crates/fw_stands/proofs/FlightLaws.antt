@@ -1,9 +1,12 @@
 -- Writes in flight are those of declared nodes that are not failed.
-use Rattle.std.proofs.Common.{◌≡◌, ℕ, zero, suc, ◌+◌, ◌<◌, ◌≤◌, Bool, true, false, cond, not, ◌&&◌, ◌||◌, List, [], ◌∷◌, ◌++◌, length, map, filter, refl, sym, ap, ◌∙◌, subst, inl, inr, arith, slice_index_or, slice_set}
+use Rattle.std.proofs.Common.{◌≡◌, ℕ, zero, suc, ◌+◌, ◌<◌, ◌≤◌, Bool, true, false, not, ◌&&◌, ◌||◌, List, [], ◌∷◌, ◌++◌, length, map, filter, refl, sym, ap, ◌∙◌, subst, inl, inr, arith, slice_index_or, slice_set}
 use Rattle.std.proofs.lemmas.Bool.{cases_Bool, cases_lt, and_parts, not-true, or_from}
 use Rattle.std.proofs.lemmas.List.{get_or_past}
 use Rattle.std.specs.List.{AllByRecursion, range_with_len}
-use Rattle.fw_time.proofs.EachLaws.{each-append, each-filter, each-map, each-weaker}
+use Rattle.fw_lemmas.proofs.Bools.{two_ways}
+use Rattle.fw_lemmas.proofs.Each.{each-weaker, each-append, each-map, each-filter, each-replaced}
+use Rattle.fw_lemmas.proofs.Filters.{filter-same_on}
+use Rattle.fw_lemmas.proofs.Lists.{none-mapped}
 use Rattle.fw_frontier.specs.Front.{Front, same_front}
 use Rattle.fw_frontier.proofs.SameLaws.{same_front-from}
 use Rattle.fw_flow.specs.declared.kind.Policy.{Policy}
@@ -18,12 +21,9 @@ use Rattle.fw_flow.specs.NodeFunction.{event_node}
 use Rattle.fw_model.specs.Machine.{Machine, Write, logged_event, Stage, in_flight, acknowledged, collected, first_state, front_of, is_failed}
 use Rattle.fw_model.specs.Steps.{Effect, Outcome, did, idle, LeadsTo, StepsTo, Run, write_of_event, with_event, checkpoint_of, is_eager, eager_writes, GrowsTo, is_asked_for_checkpoints, is_in_flight, without_lost, with_failed, is_kept_write, recovered_state, front_of_cut, after_collection, collected_writes, lies_below}
 use Rattle.fw_model.specs.Choice.{cut_of}
-use Rattle.fw_model.proofs.CheckpointLaws.{each-replaced}
-use Rattle.fw_model.proofs.Decisions.{two_ways}
 use Rattle.fw_model.specs.Reached.{IsReached}
 use Rattle.fw_stands.specs.Failures.{failed_state, IsOfLiveNode}
 use Rattle.fw_stands.proofs.FailureLaws.{failures-add}
-use Rattle.fw_stands.proofs.StartingLaws.{none-failed}
 
 -- ---- declared nodes
 
@@ -143,7 +143,7 @@ takes-live sys state Recover next effect t a =
     to-live sys state next made t.7
     (each-filter (IsOfLiveNode sys made) (λ write. is_kept_write (cut_of choice write.node) write.written made.history) state.writes
     (each-weaker (IsOfLiveNode sys state) (λ x. is_kept_write (cut_of choice x.node) x.written made.history ≡ true → IsOfLiveNode sys made x) state.writes
-    (λ x k passes i. ((k i).0, none-failed (node_ids sys.flow) x.node)) a))
+    (λ x k passes i. ((k i).0, none-mapped (node_ids sys.flow) x.node)) a))
 takes-live sys state Collect next effect t a =
     let low = map front_of_cut t.0.cuts in
     let made : Machine = record state { low = low; writes = collected_writes sys low state.history state.writes } in
@@ -173,11 +173,6 @@ flying-live sys state r = run-live sys r.0 r.1 (first_state sys) state r.2 tt
 
 -- ---- failures of the same live nodes
 
-filter-same : {X : Type 0} (one other : X → Bool) (xs : List X) → AllByRecursion (λ x. one x ≡ other x) xs → filter one xs ≡ filter other xs
-filter-same one other [] a = refl
-filter-same one other (x ∷ xs) a =
-    ap (λ ys. cond (one x) (x ∷ ys) ys) (filter-same one other xs a.1) ∙ ap (λ b. cond b (x ∷ filter other xs) (filter other xs)) a.0
-
 map-same : (one other : ℕ → Bool) (xs : List ℕ) → AllByRecursion (λ x. one x ≡ other x) xs → map one xs ≡ map other xs
 map-same one other [] a = refl
 map-same one other (x ∷ xs) a = ap (λ ys. one x ∷ ys) (map-same one other xs a.1) ∙ ap (λ b. b ∷ map other xs) a.0
@@ -204,7 +199,7 @@ live_nodes-decide sys state r ps qs k =
     (range-each (λ p. (is_failed state p || is_one_of p qs) ≡ (is_failed state p || is_one_of p ps)) 0 (length sys.flow.nodes)
     (λ p low l. or-same (is_failed state p) (is_one_of p qs) (is_one_of p ps) (λ f. k p (omega arith) f))) in
     let writes : without_lost qs state.writes ≡ without_lost ps state.writes =
-    filter-same (λ (x : Write). not (is_one_of x.node qs && is_in_flight x.stage)) (λ (x : Write). not (is_one_of x.node ps && is_in_flight x.stage)) state.writes
+    filter-same_on (λ (x : Write). not (is_one_of x.node qs && is_in_flight x.stage)) (λ (x : Write). not (is_one_of x.node ps && is_in_flight x.stage)) state.writes
     (each-weaker (IsOfLiveNode sys state) (λ (x : Write). not (is_one_of x.node qs && is_in_flight x.stage) ≡ not (is_one_of x.node ps && is_in_flight x.stage)) state.writes
     (λ x live. and-same (is_one_of x.node qs) (is_one_of x.node ps) (is_in_flight x.stage) (λ i. k x.node (live i).0 (live i).1)) (flying-live sys state r)) in
     ap (λ fs. record state { failed = fs; writes = without_lost qs state.writes }) failed

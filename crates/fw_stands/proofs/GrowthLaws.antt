@@ -1,6 +1,7 @@
 -- What progress leaves settled.
 use Rattle.std.proofs.Common.{◌≡◌, ℕ, ◌<◌, Bool, true, false, ◌||◌, List, [], ◌∷◌, ◌++◌, length, map, refl, sym, ◌∙◌, subst, inl, inr, ◌⊎◌}
 use Rattle.std.proofs.lemmas.Bool.{cases_Bool, or_left, false_from_ne_true}
+use Rattle.fw_lemmas.proofs.Bools.{two_ways}
 use Rattle.fw_time.specs.declared.stamp.Bounds.{Bounds}
 use Rattle.fw_frontier.specs.Frontier.{Frontier, Within, join}
 use Rattle.fw_frontier.specs.Front.{Front, frontier_of, same_front, IsCanonical, IsFrontOf}
@@ -15,7 +16,6 @@ use Rattle.fw_model.specs.Machine.{Machine, Write, events, family_of, front_of, 
 use Rattle.fw_model.specs.Choice.{IsLogged}
 use Rattle.fw_model.specs.Reached.{IsReached}
 use Rattle.fw_model.specs.Steps.{GrowsTo, checkpoint_of}
-use Rattle.fw_model.proofs.Decisions.{two_ways}
 use Rattle.fw_model.proofs.DescentLaws.{complete-one}
 use Rattle.fw_stands.proofs.AtReached.{reached-settled}
 

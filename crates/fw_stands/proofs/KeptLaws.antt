@@ -2,6 +2,7 @@
 use Rattle.std.proofs.Common.{◌≡◌, ℕ, true, false, not, ◌||◌, [], ◌∷◌, refl, sym, ap, ◌∙◌, inl, inr, Bool, List, ◌<◌, length}
 use Rattle.std.proofs.lemmas.Bool.{cases_Bool, or_parts, or_cases, or_left, and_from, and_parts, and_right, false_from_ne_true, not_from_false}
 use Rattle.std.specs.List.{AllByRecursion, list_any}
+use Rattle.fw_lemmas.proofs.Bools.{two_ways}
 use Rattle.fw_time.specs.Stamp.{Stamp, in_domain}
 use Rattle.fw_time.specs.declared.stamp.Bounds.{Bounds}
 use Rattle.fw_frontier.specs.Frontier.{Within, join, Frontier}
@@ -13,7 +14,6 @@ use Rattle.fw_flow.specs.Dataflow.{bounds_of, System}
 use Rattle.fw_flow.specs.WellFormed.{IsWellFormedSystem}
 use Rattle.fw_flow.specs.declared.step.Step.TheVariants.{Progress as ProgressStep}
 use Rattle.fw_model.specs.Machine.{family_of, front_of, is_failed, Machine, events}
-use Rattle.fw_model.proofs.Decisions.{two_ways}
 use Rattle.fw_model.proofs.SettleLaws.{settled-grows}
 use Rattle.fw_model.specs.Reached.{IsReached}
 use Rattle.fw_model.specs.Steps.{GrowsTo, LeadsTo, silent}

@@ -6,7 +6,10 @@ use Rattle.std.proofs.lemmas.Bool.{and_parts, and_from, or_cases, or_left, or_ri
 use Rattle.std.proofs.lemmas.List.{append-nil}
 use Rattle.std.proofs.lemmas.List.Folds.{list_any-append}
 use Rattle.std.proofs.lemmas.Grind.{flat_map-append}
-use Rattle.fw_time.proofs.EachLaws.{each-weaker, each-both, each-one, each-append, each-filter, each-kept}
+use Rattle.fw_lemmas.proofs.Bools.{two_ways}
+use Rattle.fw_lemmas.proofs.Each.{each-weaker, each-both, each-one, each-append, each-filter, each-kept}
+use Rattle.fw_lemmas.proofs.Filters.{filter-in, filter-out}
+use Rattle.fw_lemmas.proofs.Numbers.{other_number}
 use Rattle.fw_frontier.specs.Frontier.{Frontier}
 use Rattle.fw_flow.specs.declared.event.Event.{Event as Happened}
 use Rattle.fw_flow.specs.declared.event.Event.TheVariants.{Inject, Deliver, Notify}
@@ -19,8 +22,6 @@ use Rattle.fw_model.specs.LawsOfWrites.{serial_of, logged_serials, AreIncreasing
 use Rattle.fw_model.specs.Machine.{Machine, SerialEvent, Write, Stage, in_flight, acknowledged, collected, checkpoint, logged_event, events}
 use Rattle.fw_model.specs.Machine.{Written as WrittenBy}
 use Rattle.fw_model.specs.Writes.{not_collected}
-use Rattle.fw_model.proofs.Decisions.{two_ways}
-use Rattle.fw_model.proofs.FilterLaws.{filter-in, filter-out}
 use Rattle.fw_model.proofs.LoggedLaws.{logged-in_order}
 use Rattle.fw_model.proofs.RestoringLaws.{some-both}
 use Rattle.fw_model.proofs.WriteLaws.{HoldsOfOne, some-weaker, some-passed}
@@ -154,9 +155,6 @@ both-same P Q n (v ∷ h) l (inr a) (inr b) = both-same P Q n h l.1 a b
 abbrev told_at : ℕ → List SerialEvent → List Event
 told_at s [] = []
 told_at s (v ∷ h) = cond (v.serial == s) (option_to_list (told_of v.event)) [] ++ told_at s h
-
-other_number : (m n : ℕ) → m < n → (m == n) ≡ false
-other_number m n l = false_from_ne_true (m == n) (λ e. let same = eqb-true m n e in omega arith)
 
 greater_number : (m n : ℕ) → n < m → (m == n) ≡ false
 greater_number m n l = false_from_ne_true (m == n) (λ e. let same = eqb-true m n e in omega arith)

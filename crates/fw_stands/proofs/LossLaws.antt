@@ -4,8 +4,9 @@ use Rattle.std.specs.List.{AllByRecursion, Contains}
 use Rattle.std.proofs.lemmas.Bool.{and_parts, or_from, cases_lt, false_from_ne_true, not-true}
 use Rattle.std.proofs.lemmas.List.{get_or_past}
 use Rattle.std.proofs.lemmas.List.FromFn.{get_or-map-range_with_len, length-map-range_with_len}
+use Rattle.fw_lemmas.proofs.Bools.{two_ways}
+use Rattle.fw_lemmas.proofs.Each.{each-weaker, each-one, each-append, each-suffix, each-map, each-filter, each-passed, each-replaced}
 use Rattle.fw_time.specs.Stamp.{Stamp}
-use Rattle.fw_time.proofs.EachLaws.{each-weaker, each-one, each-append, each-map, each-filter, each-suffix}
 use Rattle.fw_frontier.specs.Front.{Front, same_front}
 use Rattle.fw_flow.specs.declared.event.Event.{Event as Happened}
 use Rattle.fw_flow.specs.declared.event.Event.TheVariants.{Inject as Injected, Deliver as Delivered, Notify as Notified}
@@ -22,8 +23,6 @@ use Rattle.fw_model.specs.Machine.{Written as WrittenBy}
 use Rattle.fw_model.specs.Reached.{IsReached}
 use Rattle.fw_model.specs.Steps.{Effect, Outcome, did, idle, LeadsTo, Run, with_event, write_of_event, eager_writes, is_eager, checkpoint_of, is_in_flight, AcknowledgesOldest, with_failed, lies_below, after_collection, front_of_cut}
 use Rattle.fw_model.proofs.AskedLaws.{eager-takes, takes-declared, IsAskedWell, IsWriteAskedWell, reached-all}
-use Rattle.fw_model.proofs.CheckpointLaws.{each-passed, each-replaced}
-use Rattle.fw_model.proofs.Decisions.{two_ways}
 use Rattle.fw_model.proofs.ThinnedLaws.{each-contained}
 use Rattle.fw_model.proofs.WriteLaws.{HoldsOfOne, some-append, some-mapped, some-replaced, NamesEvent, LogsEvent, some-logged, logged-some}
 use Rattle.fw_model.proofs.ForgottenLaws.{still-flies}

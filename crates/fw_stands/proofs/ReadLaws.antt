@@ -1,10 +1,13 @@
 -- Which checkpoint is read for a node that is cut to it.
-use Rattle.std.proofs.Common.{◌≡◌, ◌≢◌, ℕ, true, false, ◌&&◌, ◌==◌, List, [], ◌∷◌, ◌++◌, filter, Option, Some, None, refl, sym, ap, subst, ◌∙◌, arith, ◌<◌, length}
+use Rattle.std.proofs.Common.{◌≡◌, ◌≢◌, ℕ, true, false, ◌&&◌, ◌==◌, List, [], ◌∷◌, ◌++◌, filter, Option, Some, refl, sym, ap, subst, ◌∙◌, arith, ◌<◌, length}
 use Rattle.std.specs.List.{AllByRecursion, AllZip, Contains}
 use Rattle.std.specs.Option.{ForSome}
 use Rattle.std.proofs.lemmas.Bool.{and_parts, and_from, eqb-true, eq-eqb, false_from_ne_true}
 use Rattle.std.proofs.lemmas.List.Elements.{filter-append, Contains-append_right}
-use Rattle.fw_time.proofs.EachLaws.{each-kept, each-weaker}
+use Rattle.fw_lemmas.proofs.Bools.{two_ways}
+use Rattle.fw_lemmas.proofs.Each.{each-weaker, each-kept}
+use Rattle.fw_lemmas.proofs.Filters.{filter-in, filter-out}
+use Rattle.fw_lemmas.proofs.Options.{some-is}
 use Rattle.fw_frontier.specs.Front.{Front}
 use Rattle.fw_frontier.proofs.SameLaws.{same_front-is, same_front-from}
 use Rattle.fw_flow.specs.declared.choice.Recorded.{Recorded}
@@ -20,8 +23,6 @@ use Rattle.fw_model.specs.Machine.{Written as WrittenBy}
 use Rattle.fw_model.specs.Steps.{checkpoint_front, LeadsTo, recovered_state, cuts, Effect}
 use Rattle.fw_model.specs.Writes.{IsCheckpointOf, not_collected, takes_checkpoints}
 use Rattle.fw_model.proofs.CheckpointFrontLaws.{checkpoints-have_stamps}
-use Rattle.fw_model.proofs.Decisions.{two_ways}
-use Rattle.fw_model.proofs.FilterLaws.{filter-in, filter-out}
 use Rattle.fw_model.proofs.RestoringLaws.{cuts-kept}
 use Rattle.fw_model.specs.Reached.{IsReached}
 use Rattle.fw_record.specs.declared.record.Checkpoint.{Checkpoint}
@@ -190,13 +191,6 @@ no-checkpoint sys state w reached es a p =
     (each-kept Has not_collected state.writes (checkpoints-have_stamps sys w reached.0 reached.1 state reached.2)))
 
 -- ---- records
-
-some-is : (a b : List ℕ) → Some a ≡ Some b → a ≡ b
-some-is a b e = ap of_some e
-  where
-    of_some : Option (List ℕ) → List ℕ
-    of_some None = []
-    of_some (Some x) = x
 
 as-checkpoint : (sys : System) (state : Machine) (p : ℕ) (f : Front) (low : List Front) (r : Record) → IsRecordFor sys state p (checkpoint f low) r
     → (c : Checkpoint) × (r ≡ tagged.State c) × IsCheckpointFor sys state p f low c

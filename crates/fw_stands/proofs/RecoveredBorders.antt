@@ -1,8 +1,10 @@
 -- Inputs and outputs after a recovery, and what is settled.
 use Rattle.std.proofs.Common.{◌≡◌, ℕ, ◌<◌, ◌≤◌, Bool, true, false, cond, ◌&&◌, ◌||◌, ◌==◌, not, nat_lt, List, [], ◌∷◌, ◌++◌, length, Some, refl, sym, ap, subst, ◌∙◌, inl, inr, arith}
 use Rattle.std.proofs.lemmas.Bool.{and_parts, cases_lt, cond_both, cond-true, cond-false, eqb-true, false_from_ne_true, lt-ltb, le-ltb}
+use Rattle.fw_lemmas.proofs.Bools.{two_ways}
+use Rattle.fw_lemmas.proofs.Each.{each-weaker}
+use Rattle.fw_lemmas.proofs.Filters.{flat_map-filter}
 use Rattle.fw_time.specs.Stamp.{Stamp, leq, same, in_domain}
-use Rattle.fw_time.proofs.EachLaws.{each-weaker}
 use Rattle.fw_bag.specs.declared.rec.Rec.{Rec}
 use Rattle.fw_bag.specs.Keyed.{sorted_recs}
 use Rattle.fw_frontier.specs.Frontier.{Frontier}
@@ -27,8 +29,7 @@ use Rattle.fw_model.specs.History.{is_injection, injected_count}
 use Rattle.fw_model.specs.Machine.{Machine, events, front_of, is_failed, ack_count_of}
 use Rattle.fw_model.specs.Steps.{IsSettledCut, recovered_state, offers, CutsTo}
 use Rattle.fw_model.proofs.AskedLaws.{reached-all}
-use Rattle.fw_model.proofs.Decisions.{two_ways}
-use Rattle.fw_model.proofs.FilterLaws.{how_many-filter, flat_map-filter}
+use Rattle.fw_model.proofs.FilterLaws.{how_many-filter}
 use Rattle.fw_model.proofs.InjectionLaws.{until-leaves}
 use Rattle.fw_model.proofs.LegalLaws.{legal-in_domain}
 use Rattle.fw_model.proofs.LowLaws.{input-is}

@@ -1,9 +1,11 @@
 -- What the largest choice of a recovery says of histories, nodes and edges.
-use Rattle.std.proofs.Common.{◌≡◌, ℕ, zero, suc, ◌<◌, Bool, true, false, cond, ◌&&◌, not, List, [], ◌∷◌, length, map, filter, slice_index_or, refl, sym, ap, subst, ◌∙◌, inl, inr, arith}
+use Rattle.std.proofs.Common.{◌≡◌, ℕ, ◌<◌, true, false, cond, ◌&&◌, not, List, [], ◌∷◌, length, refl, sym, ap, subst, ◌∙◌, arith}
 use Rattle.std.specs.List.{AllByRecursion, Contains, list_all}
-use Rattle.std.proofs.lemmas.Bool.{and_left, cases_Bool, eq-eqb, false_from_ne_true}
+use Rattle.std.proofs.lemmas.Bool.{and_left, eq-eqb, false_from_ne_true}
+use Rattle.fw_lemmas.proofs.Each.{each-weaker, each-one, each-at, each-append}
+use Rattle.fw_lemmas.proofs.Filters.{filter-all, filter-same_on}
+use Rattle.fw_lemmas.proofs.Lists.{none-mapped}
 use Rattle.fw_time.specs.Stamp.{Stamp, in_domain}
-use Rattle.fw_time.proofs.EachLaws.{each-weaker, each-one, each-append, each-at}
 use Rattle.fw_frontier.specs.Frontier.{Frontier, Within}
 use Rattle.fw_frontier.specs.Front.{Front, inside}
 use Rattle.fw_flow.specs.declared.choice.Choice.{Choice}
@@ -29,7 +31,6 @@ use Rattle.fw_model.proofs.LowLaws.{input-is, no_weight}
 use Rattle.fw_model.proofs.WeightLaws.{weigh}
 use Rattle.fw_model.proofs.AskedLaws.{CanRecoverAndRestore, reached-all}
 use Rattle.fw_model.proofs.DomainLaws.{has_epochs, edge-bounds}
-use Rattle.fw_model.proofs.FilterLaws.{filter-all, filter-in, filter-out}
 use Rattle.fw_model.proofs.FilteredLaws.{filtered-events, consistent-meets, choice-consistent}
 use Rattle.fw_model.proofs.LegalLaws.{legal_events-in_domain, legal_messages-in_domain}
 use Rattle.fw_model.proofs.LocalityLaws.{sends-causes, sends-same}
@@ -62,11 +63,6 @@ knows sys state choice settled r =
 
 -- ---- who is failed
 
-none-mapped : (ps : List ℕ) (n : ℕ) → slice_index_or (map (λ p. false) ps) n false ≡ false
-none-mapped [] n = refl
-none-mapped (p ∷ ps) zero = refl
-none-mapped (p ∷ ps) (suc n) = none-mapped ps n
-
 -- after a recovery no node is failed
 pub none_failed : (sys : System) (state : Machine) (choice : Choice) (settled : List Front) (p : ℕ) → is_failed (recovered_state sys state choice settled) p ≡ false
 none_failed sys state choice settled p = none-mapped (node_ids sys.flow) p
@@ -83,14 +79,6 @@ present_lives sys state choice settled r p l is =
 pub set-inside : (flow : Dataflow) (p : ℕ) (cut : Cut) (t : Stamp) → in_domain (bounds_of flow p) t ≡ true → set_of flow p cut t ≡ inside (front_of_cut cut) t
 set-inside flow p Present t d = d
 set-inside flow p (At f) t d = ap (λ b. b && inside f t) d
-
--- two tests that are the same on each keep the same
-pub filter-as : {X : Type 0} (j k : X → Bool) (xs : List X) → AllByRecursion (λ x. j x ≡ k x) xs → filter j xs ≡ filter k xs
-filter-as j k [] a = refl
-filter-as j k (x ∷ xs) a = elim (cases_Bool (k x)) [
-  | inl i ↦ filter-in j x xs (a.0 ∙ i) ∙ ap (λ ys. x ∷ ys) (filter-as j k xs a.1) ∙ sym (filter-in k x xs i)
-  | inr i ↦ filter-out j x xs (a.0 ∙ i) ∙ filter-as j k xs a.1 ∙ sym (filter-out k x xs i)
-]
 
 pub all_inside-as : (f g : Frontier) (cs : List Stamp) → AllByRecursion (λ t. f t ≡ g t) cs → all_inside f cs ≡ all_inside g cs
 all_inside-as f g [] a = refl
@@ -144,7 +132,7 @@ pub from-cut : (sys : System) (choice : Choice) (p : ℕ) (ms : List Message) �
 from-cut sys choice p ms a =
     let f = kept_of sys.flow choice p in
     let g = inside (front_of_cut (cut_of choice p)) in
-    filter-as (λ (m : Message). all_inside f m.causes) (λ m. all_inside g m.causes) ms
+    filter-same_on (λ (m : Message). all_inside f m.causes) (λ m. all_inside g m.causes) ms
     (each-weaker (IsCausedIn sys.flow p) (λ m. all_inside f m.causes ≡ all_inside g m.causes) ms
     (λ m c. all_inside-as f g m.causes
     (each-weaker (λ t. in_domain (bounds_of sys.flow p) t ≡ true) (λ t. f t ≡ g t) m.causes (λ t d. set-inside sys.flow p (cut_of choice p) t d) c)) a)
@@ -155,7 +143,7 @@ pub outside-cut : (sys : System) (choice : Choice) (p : ℕ) (ms : List Message)
 outside-cut sys choice p ms a =
     let f = kept_of sys.flow choice p in
     let g = inside (front_of_cut (cut_of choice p)) in
-    filter-as (λ (m : Message). not (f m.at)) (λ m. not (g m.at)) ms
+    filter-same_on (λ (m : Message). not (f m.at)) (λ m. not (g m.at)) ms
     (each-weaker (λ (m : Message). in_domain (bounds_of sys.flow p) m.at ≡ true) (λ m. not (f m.at) ≡ not (g m.at)) ms
     (λ m d. ap not (set-inside sys.flow p (cut_of choice p) m.at d)) a)
 
@@ -190,7 +178,7 @@ cut_within-settled sys state choice settled r p l n f is =
 pub outside-front : (flow : Dataflow) (p : ℕ) (f : Front) (ms : List Message) → AllByRecursion (λ (m : Message). in_domain (bounds_of flow p) m.at ≡ true) ms
     → messages_outside (node_frontier flow p f) ms ≡ messages_outside (inside f) ms
 outside-front flow p f ms a =
-    filter-as (λ (m : Message). not (node_frontier flow p f m.at)) (λ m. not (inside f m.at)) ms
+    filter-same_on (λ (m : Message). not (node_frontier flow p f m.at)) (λ m. not (inside f m.at)) ms
     (each-weaker (λ (m : Message). in_domain (bounds_of flow p) m.at ≡ true) (λ m. not (node_frontier flow p f m.at) ≡ not (inside f m.at)) ms
     (λ m d. ap not (set-inside flow p (At f) m.at d)) a)
 

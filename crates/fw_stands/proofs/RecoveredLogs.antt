@@ -3,8 +3,10 @@ use Rattle.std.proofs.Common.{◌≡◌, ◌≢◌, ℕ, Bool, true, false, not,
 use Rattle.std.proofs.lemmas.Bool.{cases_Bool, cond-false, cond-true, and_from, and_left, false_from_ne_true}
 use Rattle.std.specs.List.{AllByRecursion, Contains}
 use Rattle.std.proofs.lemmas.List.Elements.{filter-append}
+use Rattle.fw_lemmas.proofs.Bools.{two_ways}
+use Rattle.fw_lemmas.proofs.Each.{each-weaker, each-one, each-kept, all-of_each}
+use Rattle.fw_lemmas.proofs.Filters.{filter-all, filter-none, filter-inner}
 use Rattle.fw_time.specs.Stamp.{in_domain}
-use Rattle.fw_time.proofs.EachLaws.{each-weaker, each-one, each-kept, all-of_each}
 use Rattle.fw_frontier.specs.Frontier.{Frontier, Within, nothing}
 use Rattle.fw_frontier.specs.Front.{Front, inside}
 use Rattle.fw_frontier.proofs.NamesLaws.{frontier-closed}
@@ -33,8 +35,6 @@ use Rattle.fw_model.specs.Resending.{at_receiver, logged_messages}
 use Rattle.fw_model.specs.SortedMessages.{sorted_messages}
 use Rattle.fw_model.specs.Steps.{recovered_state}
 use Rattle.fw_model.specs.Writes.{IsKeptWithin}
-use Rattle.fw_model.proofs.Decisions.{two_ways}
-use Rattle.fw_model.proofs.FilterLaws.{filter-all, filter-inner, filter-none}
 use Rattle.fw_model.proofs.LocalityLaws.{sends-causes}
 use Rattle.fw_model.proofs.LowLaws.{none-within}
 use Rattle.fw_model.proofs.ReplayLaws.{replayed-send, replayed-those}

@@ -3,8 +3,9 @@ use Rattle.std.proofs.Common.{◌≡◌, ℕ, ◌+◌, Bool, true, false, cond, 
 use Rattle.std.specs.List.{AllByRecursion}
 use Rattle.std.proofs.lemmas.Bool.{and_from, cases_Bool, cond_both, or_cases}
 use Rattle.std.proofs.lemmas.List.Kept.{IsNonDecreasingBy-filter}
+use Rattle.fw_lemmas.proofs.Bools.{two_ways}
+use Rattle.fw_lemmas.proofs.Each.{each-weaker, each-filter}
 use Rattle.fw_time.specs.Stamp.{Stamp, same, in_domain}
-use Rattle.fw_time.proofs.EachLaws.{each-weaker, each-filter}
 use Rattle.fw_frontier.specs.Frontier.{Frontier}
 use Rattle.fw_frontier.specs.Front.{Front, inside}
 use Rattle.fw_flow.specs.declared.choice.Choice.{Choice}
@@ -25,7 +26,6 @@ use Rattle.fw_model.specs.Machine.{Machine, events}
 use Rattle.fw_model.specs.SortedMessages.{sorted_messages}
 use Rattle.fw_model.specs.Steps.{front_of_cut, recovered_state}
 use Rattle.fw_model.specs.Told.{is_told}
-use Rattle.fw_model.proofs.Decisions.{two_ways}
 use Rattle.fw_model.proofs.LegalLaws.{legal_events-in_domain}
 use Rattle.fw_model.proofs.LocalityLaws.{sent_by-same}
 use Rattle.fw_model.proofs.SortedLaws.{sorted_messages-weigh}

@@ -1,8 +1,8 @@
 -- What is queued after a recovery.
 use Rattle.std.proofs.Common.{◌≡◌, ℕ, ◌<◌, Bool, true, not, List, [], length, sym, ap, ◌∙◌, inl, inr}
 use Rattle.std.proofs.lemmas.Bool.{cases_Bool, cond-false}
+use Rattle.fw_lemmas.proofs.Each.{each-kept}
 use Rattle.fw_time.specs.Stamp.{in_domain}
-use Rattle.fw_time.proofs.EachLaws.{each-kept}
 use Rattle.fw_frontier.specs.Front.{Front, inside}
 use Rattle.fw_flow.specs.declared.choice.Choice.{Choice}
 use Rattle.fw_flow.specs.declared.choice.Cut.TheVariants.{At, Present}

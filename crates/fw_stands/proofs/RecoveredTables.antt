@@ -2,8 +2,10 @@
 use Rattle.std.proofs.Common.{◌≡◌, ℕ, ◌<◌, Bool, true, false, ◌&&◌, ◌||◌, ◌==◌, not, List, [], length, Some, refl, sym, ap, subst, ◌∙◌, inl, inr, Option, None}
 use Rattle.std.specs.Prelude.{IfSome}
 use Rattle.std.proofs.lemmas.Bool.{and_parts, cases_Bool, false_from_ne_true}
+use Rattle.fw_lemmas.proofs.Bools.{two_ways}
+use Rattle.fw_lemmas.proofs.Each.{each-weaker, each-one}
+use Rattle.fw_lemmas.proofs.Filters.{filter-all, filter-none, filter-swap}
 use Rattle.fw_time.specs.Stamp.{Stamp, in_domain}
-use Rattle.fw_time.proofs.EachLaws.{each-weaker, each-one}
 use Rattle.fw_frontier.specs.Frontier.{Frontier, meet, nothing}
 use Rattle.fw_frontier.specs.Front.{Front, inside, IsCanonical}
 use Rattle.fw_frontier.proofs.NamesLaws.{names-same}
@@ -28,8 +30,6 @@ use Rattle.fw_model.specs.LawsOfReplay.{not_given_up, replayed_events}
 use Rattle.fw_model.specs.Machine.{Machine, events, front_of, is_failed, no_stamps}
 use Rattle.fw_model.specs.Steps.{IsSettledCut, recovered_state}
 use Rattle.fw_model.specs.Told.{is_told, EachDelivery, AreToldInside}
-use Rattle.fw_model.proofs.Decisions.{two_ways}
-use Rattle.fw_model.proofs.FilterLaws.{filter-all, filter-none, filter-swap}
 use Rattle.fw_model.proofs.LegalLaws.{legal_events-in_domain}
 use Rattle.fw_model.proofs.LocalityLaws.{events_at-kept}
 use Rattle.fw_model.proofs.LowLaws.{none-within}

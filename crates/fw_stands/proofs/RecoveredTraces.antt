@@ -2,8 +2,10 @@
 use Rattle.std.proofs.Common.{◌≡◌, ℕ, ◌<◌, true, false, cond, List, [], length, refl, sym, ap, subst, ◌∙◌}
 use Rattle.std.specs.List.{AllByRecursion}
 use Rattle.std.proofs.lemmas.Bool.{cond-true, cond-false, false_from_ne_true}
+use Rattle.fw_lemmas.proofs.Bools.{two_ways}
+use Rattle.fw_lemmas.proofs.Each.{each-one, each-filter}
+use Rattle.fw_lemmas.proofs.Filters.{filter-none}
 use Rattle.fw_time.specs.Stamp.{Stamp, in_domain}
-use Rattle.fw_time.proofs.EachLaws.{each-one, each-filter}
 use Rattle.fw_frontier.specs.Frontier.{Frontier, Within, nothing}
 use Rattle.fw_frontier.specs.Front.{Front}
 use Rattle.fw_frontier.proofs.NamesLaws.{frontier-closed}
@@ -23,8 +25,6 @@ use Rattle.fw_model.specs.Steps.{IsSettledCut, recovered_state}
 use Rattle.fw_model.specs.Thinned.{IsThinned}
 use Rattle.fw_model.specs.Writes.{takes_checkpoints}
 use Rattle.fw_model.proofs.AskedLaws.{takes-not_input}
-use Rattle.fw_model.proofs.Decisions.{two_ways}
-use Rattle.fw_model.proofs.FilterLaws.{filter-none}
 use Rattle.fw_model.proofs.LowLaws.{input-is, none-within}
 use Rattle.fw_model.proofs.RestoringLaws.{low-kept}
 use Rattle.fw_model.proofs.SendPartLaws.{part-sends}

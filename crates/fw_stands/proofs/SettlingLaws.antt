@@ -2,7 +2,7 @@
 use Rattle.std.proofs.Common.{Bool, List, None, Some, ap, cond, false, filter, inl, inr, not, refl, subst, sym, true, ℕ, ◌&&◌, ◌==◌, ◌∙◌, ◌≡◌, ◌<◌, length, ◌||◌, ◌≢◌, Option}
 use Rattle.std.proofs.lemmas.Bool.{cases_Bool, cases_eq, or_cases, or_parts, eqb-true, eq-eqb}
 use Rattle.std.specs.Global.{Vec}
-use Rattle.fw_model.proofs.Decisions.{two_ways}
+use Rattle.fw_lemmas.proofs.Bools.{two_ways}
 use Rattle.fw_model.specs.History.{AreEventsInDomain}
 use Rattle.fw_frontier.specs.Frontier.{Frontier, Within}
 use Rattle.fw_frontier.specs.Front.{Front, same_front}

@@ -4,8 +4,8 @@ use Rattle.std.specs.List.{AllByRecursion}
 use Rattle.std.proofs.lemmas.Bool.{and_parts, cases_lt}
 use Rattle.std.proofs.lemmas.Bool.Decides.{nat_tests}
 use Rattle.std.proofs.lemmas.List.{length-append, get_or_past}
+use Rattle.fw_lemmas.proofs.Each.{each-append}
 use Rattle.fw_time.specs.Stamp.{Stamp, leq, in_domain}
-use Rattle.fw_time.proofs.EachLaws.{each-append}
 use Rattle.fw_time.proofs.DomainLaws.{domain-leq}
 use Rattle.fw_flow.specs.declared.event.Event.{Event as Happened}
 use Rattle.fw_flow.specs.declared.event.Event.TheVariants.{Inject as Injected, Deliver as Delivered, Notify as Notified}

@@ -3,6 +3,8 @@ use Rattle.std.proofs.Common.{◌≡◌, ℕ, zero, suc, ◌+◌, Bool, true, fa
 use Rattle.std.proofs.lemmas.Bool.{cases_lt, and_from, le-leb}
 use Rattle.std.proofs.lemmas.List.FromFn.{get_or-map-range_with_len}
 use Rattle.std.specs.List.{enumerate_from}
+use Rattle.fw_lemmas.proofs.Bools.{two_ways}
+use Rattle.fw_lemmas.proofs.Lists.{none-mapped}
 use Rattle.fw_bag.specs.declared.rec.Rec.{Rec}
 use Rattle.fw_frontier.specs.Front.{Front, inside}
 use Rattle.fw_frontier.specs.Frontier.{Frontier}
@@ -10,7 +12,6 @@ use Rattle.fw_flow.specs.Dataflow.{System, kind_of, batches_of, bounds_of, recei
 use Rattle.fw_flow.proofs.EdgeLaws.{kind-past}
 use Rattle.fw_model.specs.Machine.{first_state, no_stamps, front_of, is_failed, ack_count_of, family_of}
 use Rattle.fw_model.proofs.ChoiceLaws.{bounds-input}
-use Rattle.fw_model.proofs.Decisions.{two_ways}
 use Rattle.fw_model.proofs.LowLaws.{input-is}
 use Rattle.fw_model.specs.Reached.{IsReached}
 use Rattle.fw_policy.specs.View.{base_of}
@@ -24,11 +25,6 @@ use Rattle.fw_node.specs.TableOf.{IsTableOf}
 
 -- ---- one for each node
 
-pub none-failed : (xs : List ℕ) (p : ℕ) → slice_index_or (map (λ q. false) xs) p false ≡ false
-none-failed [] p = refl
-none-failed (x ∷ xs) zero = refl
-none-failed (x ∷ xs) (suc p) = none-failed xs p
-
 zeros : List ℕ → List ℕ
 zeros xs = map (λ q. 0) xs
 
@@ -39,7 +35,7 @@ none-acknowledged (x ∷ xs) zero = refl
 none-acknowledged (x ∷ xs) (suc o) = none-acknowledged xs o
 
 first-live : (sys : System) (p : ℕ) → is_failed (first_state sys) p ≡ false
-first-live sys p = none-failed (node_ids sys.flow) p
+first-live sys p = none-mapped (node_ids sys.flow) p
 
 -- ---- the parts
 

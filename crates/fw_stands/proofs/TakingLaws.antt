@@ -20,10 +20,10 @@ use Rattle.fw_model.specs.Steps.{Effect, LeadsTo, did, idle, with_event, silent,
 use Rattle.fw_model.specs.SortedMessages.{sorted_messages}
 use Rattle.fw_model.proofs.AutoLaws.{idle-append}
 use Rattle.fw_model.proofs.ChoiceLaws.{bounds-input}
-use Rattle.fw_model.proofs.Decisions.{two_ways}
 use Rattle.fw_model.proofs.DomainLaws.{has_epochs}
 use Rattle.fw_model.proofs.RestoringLaws.{batches-outside}
 use Rattle.std.proofs.lemmas.Map.Entries.{lookup-filter-keys}
+use Rattle.fw_lemmas.proofs.Bools.{two_ways}
 use Rattle.fw_border.proofs.NumberLaws.{held_at}
 use Rattle.fw_model.proofs.LowLaws.{input-is}
 use Rattle.fw_border.specs.Sources.{SourceState, next_batch}

@@ -4,13 +4,14 @@ use Rattle.std.specs.Prelude.{◌&&◌, ◌||◌}
 use Rattle.std.specs.List.{AllByRecursion}
 use Rattle.std.specs.List.Sorted.{IsStrictlySortedBy}
 use Rattle.std.specs.Map.{lookup, keys_of}
-use Rattle.std.specs.declared.cmp.Ordering.{Ordering}
-use Rattle.std.specs.declared.cmp.Ordering.TheVariants.{Less, Equal, Greater}
+use Rattle.std.specs.declared.cmp.Ordering.TheVariants.{Less}
 use Rattle.std.specs.Ordering.{is_eq, is_gt, nat_cmp, ordering_then}
 use Rattle.std.specs.BTreeMap.{BTreeMap, get, is_at}
 use Rattle.std.proofs.lemmas.Bool.{eqb-true}
-use Rattle.std.proofs.lemmas.Bool.Decides.{nat_tests}
 use Rattle.std.proofs.lemmas.Map.Keys.{sorted_head, sorted_tail}
+use Rattle.fw_lemmas.proofs.Orderings.{then_parts, nat_cmp-test}
+use Rattle.fw_lemmas.proofs.Numbers.{eqb-sym}
+use Rattle.fw_lemmas.proofs.Options.{found_or_none}
 use Rattle.fw_bag.specs.declared.rec.Rec.{Rec}
 use Rattle.fw_bag.specs.Rec.{rec_cmp, IsAscending}
 use Rattle.fw_bag.specs.Bag.{how_often}
@@ -19,9 +20,6 @@ use Rattle.fw_bag.proofs.BagLaws.{IsAscending-bag_sum, how_often-bag_sum, same_f
 use Rattle.fw_table.specs.Sums.{sum_at, HasSums, entry_recs}
 
 -- ---- one rec more
-
-pub key_test : (k q : ℕ) → is_eq (nat_cmp k q) ≡ (k == q)
-key_test k q = grind (arith, nat_tests)
 
 pub none_summed : (k : ℕ) (rs : List Rec) → has_key k rs ≡ false → value_sum k rs ≡ 0
 none_summed k [] h = refl
@@ -32,13 +30,9 @@ none_summed k (r ∷ rs) h = cases (r.key == k) (none_summed k rs) h
     cases true ih e = cc
     cases false ih e = ih e
 
-found_sum : (b : Bool) (s : ℕ) → (b ≡ false → s ≡ 0) → unwrap_or (cond b (Some s) None) 0 ≡ s
-found_sum true s h = refl
-found_sum false s h = sym (h refl)
-
 -- what is found at a key, or 0, is the sum of its values
 pub sum_or_zero : (k : ℕ) (rs : List Rec) → unwrap_or (sum_at k rs) 0 ≡ value_sum k rs
-sum_or_zero k rs = found_sum (has_key k rs) (value_sum k rs) (none_summed k rs)
+sum_or_zero k rs = found_or_none (has_key k rs) (value_sum k rs) (none_summed k rs)
 
 more_cases : (r : Rec) (q : ℕ) (rs : List Rec) (b : Bool) → (r.key == q) ≡ b
     → cond b (Some (plus r.value (value_sum r.key rs))) (sum_at q rs)
@@ -53,23 +47,18 @@ pub sums_more : (old new : BTreeMap ℕ ℕ) (r : Rec) (n : ℕ) (rs : List Rec)
     → HasSums new (r ∷ rs)
 sums_more old new r n rs h e u = λ q.
     let raised : n ≡ plus r.value (value_sum r.key rs) = e ∙ ap (λ o. plus r.value (unwrap_or o 0)) (h r.key) ∙ ap (plus r.value) (sum_or_zero r.key rs) in
-    u q ∙ ap (λ b. cond b (Some n) (get nat_cmp old q)) (key_test r.key q)
+    u q ∙ ap (λ b. cond b (Some n) (get nat_cmp old q)) (nat_cmp-test r.key q)
     ∙ ap (λ m. cond (r.key == q) (Some m) (get nat_cmp old q)) raised
     ∙ ap (λ o. cond (r.key == q) (Some (plus r.value (value_sum r.key rs))) o) (h q)
     ∙ more_cases r q rs (r.key == q) refl
 
 -- ---- the recs of the entries
 
-then_parts : (o p : Ordering) → is_eq (ordering_then o p) ≡ (is_eq o && is_eq p)
-then_parts Less p = refl
-then_parts Equal p = refl
-then_parts Greater p = refl
-
 rec_test : (x y : Rec) → is_eq (rec_cmp x y) ≡ ((x.key == y.key) && (x.value == y.value))
 rec_test x y =
     then_parts (nat_cmp x.key y.key) (nat_cmp x.value y.value)
-    ∙ ap (λ b. b && is_eq (nat_cmp x.value y.value)) (key_test x.key y.key)
-    ∙ ap (λ b. (x.key == y.key) && b) (key_test x.value y.value)
+    ∙ ap (λ b. b && is_eq (nat_cmp x.value y.value)) (nat_cmp-test x.key y.key)
+    ∙ ap (λ b. (x.key == y.key) && b) (nat_cmp-test x.value y.value)
 
 -- how often the rec of a key and a value is in a list that has it at most once, by what is found at the key
 abbrev pub once : Option ℕ → ℕ → ℕ
@@ -82,7 +71,7 @@ later_keys q k h [] a = refl
 later_keys q k h (e ∷ es) a =
     let other : is_eq (rec_cmp q (record { key = e.0; value = e.1 })) ≡ false =
     rec_test q (record { key = e.0; value = e.1 })
-    ∙ ap (λ b. b && (q.value == e.1)) (ap (λ i. i == e.0) (eqb-true q.key k h) ∙ sym (key_test k e.0) ∙ ap is_eq a.0) in
+    ∙ ap (λ b. b && (q.value == e.1)) (ap (λ i. i == e.0) (eqb-true q.key k h) ∙ sym (nat_cmp-test k e.0) ∙ ap is_eq a.0) in
     ap (λ b. cond b (how_often q (entry_recs es) + 1) (how_often q (entry_recs es))) other ∙ later_keys q k h es a.1
 
 here_cases : (b : Bool) (n : ℕ) → n ≡ 0 → cond b (n + 1) n ≡ cond b 1 0
@@ -105,7 +94,7 @@ entries_once q [] s = refl
 entries_once q (e ∷ es) s =
     ap (λ b. cond b (how_often q (entry_recs es) + 1) (how_often q (entry_recs es))) (rec_test q (record { key = e.0; value = e.1 }))
     ∙ entry_cases q e es s (entries_once q es (sorted_tail nat_cmp e.0 (keys_of es) s)) (q.key == e.0) refl
-    ∙ ap (λ b. once (cond b (Some e.1) (lookup (is_at (nat_cmp q.key)) es)) q.value) (sym (key_test q.key e.0))
+    ∙ ap (λ b. once (cond b (Some e.1) (lookup (is_at (nat_cmp q.key)) es)) q.value) (sym (nat_cmp-test q.key e.0))
 
 above_entries : (x : Rec) (k : ℕ) → x.key ≡ k → (es : List (ℕ × ℕ)) → AllByRecursion (λ y. nat_cmp k y ≡ Less) (keys_of es)
     → AllByRecursion (λ y. is_gt (rec_cmp x y) ≡ false) (entry_recs es)
@@ -135,9 +124,6 @@ sum_here q k rs n true e h i a =
     ∙ ap (λ j. cond (q.value == value_sum j rs) 1 0) (sym (eqb-true q.key k e))
 sum_here q k rs n false e h i a = i
 
-key_swap : (a b : ℕ) → (a == b) ≡ (b == a)
-key_swap a b = grind (arith, nat_tests)
-
 keys_cases : (q r : Rec) (keys rs : List Rec)
     → how_often q (sums_of (distinct_keys keys) rs) ≡ cond (has_key q.key keys) (cond (q.value == value_sum q.key rs) 1 0) 0
     → (d : Bool) → has_key r.key keys ≡ d
@@ -153,7 +139,7 @@ keys_cases q r keys rs ih false e =
     (rec_test q (record { key = r.key; value = value_sum r.key rs }))
     ∙ sum_here q r.key rs (how_often q (sums_of (distinct_keys keys) rs)) (q.key == r.key) refl (has_key q.key keys) ih
     (λ h. ap (λ k. has_key k keys) (eqb-true q.key r.key h) ∙ e)
-    ∙ ap (λ b. cond (b || has_key q.key keys) (cond (q.value == value_sum q.key rs) 1 0) 0) (key_swap q.key r.key)
+    ∙ ap (λ b. cond (b || has_key q.key keys) (cond (q.value == value_sum q.key rs) 1 0) 0) (eqb-sym q.key r.key)
 
 -- a rec is there once where its key is there and its value is the sum of the key's
 pub sums_once : (q : Rec) (keys rs : List Rec)

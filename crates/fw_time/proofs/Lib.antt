@@ -1,5 +1,4 @@
 pub mod DomainLaws
-pub mod EachLaws
 pub mod StampLaws
 pub mod StampSteps
 pub mod TimeLaws

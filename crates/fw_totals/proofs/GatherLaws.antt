@@ -11,8 +11,8 @@ use Rattle.std.specs.Option.{is_some}
 use Rattle.std.specs.BTreeMap.{BTreeMap, get, is_at}
 use Rattle.std.proofs.lemmas.Bool.{cases_Bool, or_left, or_right}
 use Rattle.std.proofs.lemmas.Map.Keys.{sorted_head, sorted_tail}
+use Rattle.fw_lemmas.proofs.Each.{each-weaker, each-both}
 use Rattle.fw_time.specs.Stamp.{Stamp, leq, same}
-use Rattle.fw_time.proofs.EachLaws.{each-weaker, each-both}
 use Rattle.fw_bag.specs.Arrivals.{Arrival, recs_where, arrivals_at, arrivals_inside, recs_of, AreTimes}
 use Rattle.fw_table.specs.Content.{IsContentOf, IsTable}
 use Rattle.fw_time.proofs.StampLaws.{same-is, same-refl}

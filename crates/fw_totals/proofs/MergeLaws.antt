@@ -9,6 +9,7 @@ use Rattle.std.specs.BTreeMap.{is_at}
 use Rattle.std.proofs.Math.Nat.{mod-add-mod, add-mod-mod}
 use Rattle.std.proofs.lemmas.Nat.{mod_below}
 use Rattle.std.proofs.lemmas.Bool.{eqb-true}
+use Rattle.fw_lemmas.proofs.Orderings.{nat_cmp-test}
 use Rattle.fw_time.specs.Stamp.{Stamp, same}
 use Rattle.fw_time.proofs.StampLaws.{same-is}
 use Rattle.fw_bag.specs.declared.rec.Rec.{Rec}
@@ -16,7 +17,7 @@ use Rattle.fw_bag.specs.Keyed.{plus, value_sum, has_key}
 use Rattle.fw_bag.specs.Arrivals.{Arrival, recs_where, arrivals_at, recs_of}
 use Rattle.fw_bag.proofs.ArrivalLaws.{where-filter}
 use Rattle.fw_table.specs.Sums.{sum_at}
-use Rattle.fw_table.proofs.SumLaws.{key_test, none_summed}
+use Rattle.fw_table.proofs.SumLaws.{none_summed}
 use Rattle.fw_totals.specs.Totals.{combined}
 
 -- ---- sums over two tests that exclude each other
@@ -141,7 +142,7 @@ merged_by P t came h q =
 
 found_cases : (q k v : ℕ) (f : ℕ → ℕ) (o p : Option ℕ) → p ≡ cond (is_some_ o) (Some (f q)) None → (b : Bool) → is_eq (nat_cmp q k) ≡ b
     → cond b (Some (f k)) p ≡ cond (is_some_ (cond b (Some v) o)) (Some (f q)) None
-found_cases q k v f o p h true e = ap (λ i. Some (f i)) (sym (eqb-true q k (sym (key_test q k) ∙ e)))
+found_cases q k v f o p h true e = ap (λ i. Some (f i)) (sym (eqb-true q k (sym (nat_cmp-test q k) ∙ e)))
 found_cases q k v f o p h false e = h
 
 pub found_by_key : (f : ℕ → ℕ) (q : ℕ) (es : List (ℕ × ℕ))

@@ -1,5 +1,5 @@
 -- What is sent from running totals, and how they follow.
-use Rattle.std.proofs.Common.{◌≡◌, ℕ, ◌==◌, Bool, true, false, cond, not, List, [], ◌∷◌, Option, Some, None, map, refl, sym, ap, ◌∙◌, subst, arith, Result, Ok, Err, OnErr}
+use Rattle.std.proofs.Common.{◌≡◌, ℕ, ◌==◌, Bool, true, false, cond, not, List, [], ◌∷◌, Option, Some, None, map, refl, sym, ap, ◌∙◌, subst}
 use Rattle.std.specs.Prelude.{◌||◌}
 use Rattle.std.specs.Option.{unwrap_or, is_some}
 use Rattle.std.specs.List.{AllByRecursion}
@@ -8,8 +8,9 @@ use Rattle.std.specs.Map.{lookup, keys_of}
 use Rattle.std.specs.Ordering.{nat_cmp}
 use Rattle.std.specs.BTreeMap.{BTreeMap, get, is_at}
 use Rattle.std.proofs.lemmas.Bool.{eqb-true}
-use Rattle.std.proofs.lemmas.Bool.Decides.{nat_tests}
 use Rattle.std.proofs.lemmas.Map.Keys.{sorted_head, sorted_tail}
+use Rattle.fw_lemmas.proofs.Orderings.{nat_cmp-test}
+use Rattle.fw_lemmas.proofs.Numbers.{eqb-self}
 use Rattle.fw_time.specs.Stamp.{Stamp}
 use Rattle.fw_bag.specs.declared.rec.Rec.{Rec}
 use Rattle.fw_bag.specs.Keyed.{plus, sorted_recs, value_sum, has_key, distinct_keys, sums_of}
@@ -19,33 +20,25 @@ use Rattle.fw_bag.proofs.ArrivalLaws.{at-inside}
 use Rattle.fw_table.specs.declared.sums.Sums.{Sums}
 use Rattle.fw_table.specs.Sums.{HasSums, sum_at, entry_recs}
 use Rattle.fw_totals.specs.Totals.{combined}
-use Rattle.fw_table.proofs.SumLaws.{key_test, sum_or_zero, entries_are_sums_of}
+use Rattle.fw_table.proofs.SumLaws.{sum_or_zero, entries_are_sums_of}
 use Rattle.fw_totals.proofs.MergeLaws.{found_by_key, same_keys, there_cases}
 use Rattle.fw_totals.specs.Totals.{total_in, found, HasTotals, raised_recs}
 use Rattle.fw_totals.specs.Settling.{holds_sums}
 use Rattle.fw_totals.proofs.PlaceLaws.{absent}
-
--- where it is an error, it holds
-pub any_err : {T E : Type 0} (r : Result T E) (P : Type 0) → P → OnErr r P
-any_err (Ok x) P h = tt
-any_err (Err y) P h = h
-
-key_self : (k : ℕ) → (k == k) ≡ true
-key_self k = grind (arith, nat_tests)
 
 -- each entry is what is found at its key
 pub nat_entries : (find : ℕ → Option ℕ) (es : List (ℕ × ℕ)) → IsStrictlySortedBy nat_cmp (keys_of es)
     → ((q c : ℕ) → lookup (is_at (nat_cmp q)) es ≡ Some c → find q ≡ Some c) → AllByRecursion (λ (e : ℕ × ℕ). find e.0 ≡ Some e.1) es
 nat_entries find [] s h = tt
 nat_entries find (e ∷ es) s h = (
-  h e.0 e.1 (ap (λ b. cond b (Some e.1) (lookup (is_at (nat_cmp e.0)) es)) (key_test e.0 e.0 ∙ key_self e.0)),
+  h e.0 e.1 (ap (λ b. cond b (Some e.1) (lookup (is_at (nat_cmp e.0)) es)) (nat_cmp-test e.0 e.0 ∙ eqb-self e.0)),
   nat_entries find es (sorted_tail nat_cmp e.0 (keys_of es) s) (λ q c k. h q c (later q c k (q == e.0) refl)),
 )
   where
     later : (q c : ℕ) → lookup (is_at (nat_cmp q)) es ≡ Some c → (b : Bool) → (q == e.0) ≡ b → lookup (is_at (nat_cmp q)) (e ∷ es) ≡ Some c
     later q c k true i =
         let n : None ≡ Some c = sym (ap (λ j. lookup (is_at (nat_cmp j)) es) (eqb-true q e.0 i) ∙ absent e.0 es (sorted_head nat_cmp e.0 (keys_of es) s)) ∙ k in absurd (cc n)
-    later q c k false i = ap (λ b. cond b (Some e.1) (lookup (is_at (nat_cmp q)) es)) (key_test q e.0 ∙ i) ∙ k
+    later q c k false i = ap (λ b. cond b (Some e.1) (lookup (is_at (nat_cmp q)) es)) (nat_cmp-test q e.0 ∙ i) ∙ k
 
 module _ (totals : BTreeMap ℕ (Option ℕ)) (sums : BTreeMap ℕ ℕ) (now all : List Rec) (held : HasSums sums now)
     (whole : (q : ℕ) → combined (found totals q) (sum_at q now) ≡ sum_at q all) where
@@ -94,7 +87,7 @@ pub totals_more : (old new : BTreeMap ℕ (Option ℕ)) (r : Rec) (n : ℕ) (rs 
     → ((q : ℕ) → get nat_cmp new q ≡ cond (is_at (nat_cmp r.key) q) (Some (Some n)) (get nat_cmp old q)) → HasTotals new (r ∷ rs)
 totals_more old new r n rs h e u = λ q.
     ap total_in (u q) ∙ in_cond (is_at (nat_cmp r.key) q) n (get nat_cmp old q)
-    ∙ ap (λ b. cond b (Some n) (found old q)) (key_test r.key q)
+    ∙ ap (λ b. cond b (Some n) (found old q)) (nat_cmp-test r.key q)
     ∙ ap (λ m. cond (r.key == q) (Some m) (found old q)) e
     ∙ ap (λ o. cond (r.key == q) (Some (plus r.value (value_sum r.key rs))) o) (h q)
     ∙ more_cases r q rs (r.key == q) refl

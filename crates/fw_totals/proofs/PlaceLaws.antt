@@ -10,12 +10,10 @@ use Rattle.std.specs.BTreeMap.{BTreeMap, get, is_at}
 use Rattle.std.proofs.lemmas.Bool.{eqb-true}
 use Rattle.std.proofs.lemmas.Bool.Decides.{nat_tests}
 use Rattle.std.proofs.lemmas.Map.Keys.{sorted_head, sorted_tail}
+use Rattle.fw_lemmas.proofs.Orderings.{nat_cmp-test}
+use Rattle.fw_lemmas.proofs.Numbers.{eqb-sym}
 use Rattle.fw_bag.specs.Keyed.{plus}
-use Rattle.fw_table.proofs.SumLaws.{key_test}
 use Rattle.fw_totals.specs.Totals.{total_in, found, combined, shown_entry, shown_entries}
-
-pub key_swap : (a b : ℕ) → (a == b) ≡ (b == a)
-key_swap a b = grind (arith, nat_tests)
 
 -- ---- places
 
@@ -32,7 +30,7 @@ places_kept old new k x u q h = ap is_some (u q) ∙ some_cases (is_at (nat_cmp 
 -- what is found at the key that was written
 pub written_there : {A : Type 0} (old new : BTreeMap ℕ A) (k : ℕ) (x : A)
     → ((q : ℕ) → get nat_cmp new q ≡ cond (is_at (nat_cmp k) q) (Some x) (get nat_cmp old q)) → is_some (get nat_cmp new k) ≡ true
-written_there old new k x u = ap is_some (u k ∙ ap (λ b. cond b (Some x) (get nat_cmp old k)) (key_test k k ∙ self))
+written_there old new k x u = ap is_some (u k ∙ ap (λ b. cond b (Some x) (get nat_cmp old k)) (nat_cmp-test k k ∙ self))
   where
     self : (k == k) ≡ true
     self = grind (arith, nat_tests)
@@ -65,9 +63,9 @@ pub take_step : (k s : ℕ) (left rest : List (ℕ × ℕ)) (old new : BTreeMap 
 take_step k s left rest old new n e o h u q =
     let P : List (ℕ × ℕ) → Type 0 = λ es. IsStrictlySortedBy nat_cmp (keys_of es) in
     ap (λ x. combined x (lookup (is_at (nat_cmp q)) rest))
-    (ap total_in (u q) ∙ in_cond (is_at (nat_cmp k) q) n (get nat_cmp old q) ∙ ap (λ b. cond b (Some n) (found old q)) (key_test k q) ∙ ap (λ m. cond (k == q) (Some m) (found old q)) h)
+    (ap total_in (u q) ∙ in_cond (is_at (nat_cmp k) q) n (get nat_cmp old q) ∙ ap (λ b. cond b (Some n) (found old q)) (nat_cmp-test k q) ∙ ap (λ m. cond (k == q) (Some m) (found old q)) h)
     ∙ take_cases k s q rest (found old) (sorted_head nat_cmp k (keys_of rest) (subst P e o)) (k == q) refl
-    ∙ ap (λ b. combined (found old q) (cond b (Some s) (lookup (is_at (nat_cmp q)) rest))) (key_swap k q ∙ sym (key_test q k))
+    ∙ ap (λ b. combined (found old q) (cond b (Some s) (lookup (is_at (nat_cmp q)) rest))) (eqb-sym k q ∙ sym (nat_cmp-test q k))
     ∙ sym (ap (λ es. combined (found old q) (lookup (is_at (nat_cmp q)) es)) e)
 
 pub rest_sorted : {A : Type 0} (e : ℕ × A) (left rest : List (ℕ × A)) → left ≡ e ∷ rest → IsStrictlySortedBy nat_cmp (keys_of left) → IsStrictlySortedBy nat_cmp (keys_of rest)
@@ -81,7 +79,7 @@ rest_among e left rest h q k = ap (λ es. is_some (lookup (is_at (nat_cmp q)) es
 
 -- the key that comes is among them
 pub first_among : (e : ℕ × ℕ) (left rest : List (ℕ × ℕ)) → left ≡ e ∷ rest → is_some (lookup (is_at (nat_cmp e.0)) left) ≡ true
-first_among e left rest h = ap (λ es. is_some (lookup (is_at (nat_cmp e.0)) es)) h ∙ ap (λ b. is_some (cond b (Some e.1) (lookup (is_at (nat_cmp e.0)) rest))) (key_test e.0 e.0 ∙ self e.0)
+first_among e left rest h = ap (λ es. is_some (lookup (is_at (nat_cmp e.0)) es)) h ∙ ap (λ b. is_some (cond b (Some e.1) (lookup (is_at (nat_cmp e.0)) rest))) (nat_cmp-test e.0 e.0 ∙ self e.0)
   where
     self : (k : ℕ) → (k == k) ≡ true
     self k = grind (arith, nat_tests)
@@ -118,11 +116,11 @@ pub shown_found : (q : ℕ) (es : List (ℕ × Option ℕ)) → IsStrictlySorted
 shown_found q [] s = refl
 shown_found q (e ∷ es) s =
     cases e.1 (q == e.0) refl (shown_found q es (sorted_tail nat_cmp e.0 (keys_of es) s))
-    ∙ ap (λ b. total_in (cond b (Some e.1) (lookup (is_at (nat_cmp q)) es))) (sym (key_test q e.0))
+    ∙ ap (λ b. total_in (cond b (Some e.1) (lookup (is_at (nat_cmp q)) es))) (sym (nat_cmp-test q e.0))
   where
     cases : (o : Option ℕ) (b : Bool) → (q == e.0) ≡ b → lookup (is_at (nat_cmp q)) (shown_entries es) ≡ total_in (lookup (is_at (nat_cmp q)) es)
         → lookup (is_at (nat_cmp q)) (shown_entry e.0 o ++ shown_entries es) ≡ total_in (cond b (Some o) (lookup (is_at (nat_cmp q)) es))
     cases None true h i = ap (λ j. lookup (is_at (nat_cmp j)) (shown_entries es)) (eqb-true q e.0 h) ∙ shown_absent e.0 es (sorted_head nat_cmp e.0 (keys_of es) s)
     cases None false h i = i
-    cases (Some x) true h i = ap (λ b. cond b (Some x) (lookup (is_at (nat_cmp q)) (shown_entries es))) (key_test q e.0 ∙ h)
-    cases (Some x) false h i = ap (λ b. cond b (Some x) (lookup (is_at (nat_cmp q)) (shown_entries es))) (key_test q e.0 ∙ h) ∙ i
+    cases (Some x) true h i = ap (λ b. cond b (Some x) (lookup (is_at (nat_cmp q)) (shown_entries es))) (nat_cmp-test q e.0 ∙ h)
+    cases (Some x) false h i = ap (λ b. cond b (Some x) (lookup (is_at (nat_cmp q)) (shown_entries es))) (nat_cmp-test q e.0 ∙ h) ∙ i

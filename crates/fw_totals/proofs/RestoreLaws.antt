@@ -9,15 +9,18 @@ use Rattle.std.specs.Ordering.{is_eq, is_le, nat_cmp}
 use Rattle.std.specs.BTreeMap.{BTreeMap, get, is_at}
 use Rattle.std.proofs.lemmas.Bool.{eqb-true, or_left, or_right}
 use Rattle.std.proofs.lemmas.Bool.Decides.{nat_tests}
+use Rattle.fw_lemmas.proofs.Bools.{or_swap}
+use Rattle.fw_lemmas.proofs.Orderings.{nat_cmp-test}
+use Rattle.fw_lemmas.proofs.Numbers.{eqb-sym}
 use Rattle.fw_bag.specs.declared.rec.Rec.{Rec}
 use Rattle.fw_bag.specs.Rec.{rec_cmp}
 use Rattle.fw_bag.specs.Bag.{with_rec, bag_sum}
 use Rattle.fw_bag.specs.Keyed.{sorted_recs, value_sum, has_key, distinct_keys, sums_of}
 use Rattle.fw_bag.proofs.BagLaws.{AllByRecursion-with_rec}
 use Rattle.fw_table.specs.Sums.{sum_at, entry_recs, sums_at_keys, sums_by_key}
-use Rattle.fw_table.proofs.SumLaws.{key_test, entries_are_sums_of}
+use Rattle.fw_table.proofs.SumLaws.{entries_are_sums_of}
 use Rattle.fw_totals.specs.Totals.{total_in, combined, found, HasTotals, AreSumsIn, written, raised_recs, shown_entries}
-use Rattle.fw_totals.proofs.PlaceLaws.{key_swap, in_cond, shown_ascend, shown_found}
+use Rattle.fw_totals.proofs.PlaceLaws.{in_cond, shown_ascend, shown_found}
 
 -- what is shown of the totals of recs are their sums by key
 pub shown_are_sums : (totals : BTreeMap ℕ (Option ℕ)) (rs : List Rec) → IsStrictlySortedBy nat_cmp (keys_of totals.entries) → HasTotals totals rs
@@ -37,11 +40,6 @@ of_keys rs (k ∷ keys) = (refl, of_keys rs keys)
 pub sums_are : (keys rs : List Rec) → AreSumsIn rs (sums_at_keys keys rs)
 sums_are keys rs = sorted-each (λ x. x.value ≡ value_sum x.key rs) (sums_of (distinct_keys keys) rs) [] (of_keys rs (distinct_keys keys)) tt
 
-swap : (a b c : Bool) → (a || (b || c)) ≡ (b || (a || c))
-swap true true c = refl
-swap true false c = refl
-swap false b c = refl
-
 key-with_rec : (q : ℕ) (r : Rec) (xs : List Rec) → has_key q (with_rec r xs) ≡ ((r.key == q) || has_key q xs)
 key-with_rec q r [] = refl
 key-with_rec q r (x ∷ xs) = cases (is_le (rec_cmp r x)) (key-with_rec q r xs)
@@ -49,7 +47,7 @@ key-with_rec q r (x ∷ xs) = cases (is_le (rec_cmp r x)) (key-with_rec q r xs)
     cases : (b : Bool) → has_key q (with_rec r xs) ≡ ((r.key == q) || has_key q xs)
         → has_key q (cond b (r ∷ x ∷ xs) (x ∷ with_rec r xs)) ≡ ((r.key == q) || ((x.key == q) || has_key q xs))
     cases true h = refl
-    cases false h = ap (λ b. (x.key == q) || b) h ∙ swap (x.key == q) (r.key == q) (has_key q xs)
+    cases false h = ap (λ b. (x.key == q) || b) h ∙ or_swap (x.key == q) (r.key == q) (has_key q xs)
 
 key-sorted : (q : ℕ) (xs : List Rec) → has_key q (sorted_recs xs) ≡ has_key q xs
 key-sorted q [] = refl
@@ -79,7 +77,7 @@ pub write_step : (rs : List Rec) (r : Rec) (rest later : List Rec) (old new : BT
 write_step rs r rest later old new e a u q =
     let P : List Rec → Type 0 = λ xs. AreSumsIn rs xs in
     ap (λ o. written rs later o q)
-    (ap total_in (u q) ∙ in_cond (is_at (nat_cmp r.key) q) r.value (get nat_cmp old q) ∙ ap (λ b. cond b (Some r.value) (found old q)) (key_test r.key q))
+    (ap total_in (u q) ∙ in_cond (is_at (nat_cmp r.key) q) r.value (get nat_cmp old q) ∙ ap (λ b. cond b (Some r.value) (found old q)) (nat_cmp-test r.key q))
     ∙ cases (r.key == q) refl (subst P e a).0
     ∙ sym (ap (λ xs. written rs xs (found old q) q) e)
   where
@@ -122,7 +120,7 @@ written_all q before now all h = cases (has_key q now) (has_key q all) h
 pub key-raised : (totals : BTreeMap ℕ (Option ℕ)) (q : ℕ) (es : List (ℕ × ℕ)) → has_key q (raised_recs totals es) ≡ is_some (lookup (is_at (nat_cmp q)) es)
 key-raised totals q [] = refl
 key-raised totals q (e ∷ es) =
-    ap (λ b. b || has_key q (raised_recs totals es)) (key_swap e.0 q ∙ sym (key_test q e.0))
+    ap (λ b. b || has_key q (raised_recs totals es)) (eqb-sym e.0 q ∙ sym (nat_cmp-test q e.0))
     ∙ cases (is_eq (nat_cmp q e.0)) (key-raised totals q es)
   where
     cases : (b : Bool) → has_key q (raised_recs totals es) ≡ is_some (lookup (is_at (nat_cmp q)) es)

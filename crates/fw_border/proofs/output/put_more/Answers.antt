@@ -1,11 +1,12 @@
 use Rattle.std.proofs.Common.{◌<◌, length, Some, sym, ap, subst, ◌∙◌, arith}
 use Rattle.std.specs.List.Sorted.{IsStrictlySortedBy}
 use Rattle.std.specs.Ordering.{nat_cmp}
+use Rattle.fw_lemmas.proofs.Results.{on_err}
 use Rattle.fw_bag.specs.Bag.{BagState, with_rec}
 use Rattle.fw_bag.proofs.BagLaws.{length-with_rec}
 use Rattle.fw_border.specs.Numbers.{numbered_recs}
 use Rattle.fw_border.specs.Outputs.{AreByNumber}
-use Rattle.fw_border.proofs.RecsLaws.{EachHasRecs, recs_found, numbered-keys, written_same, written_other, some-insert_entry, on_err}
+use Rattle.fw_border.proofs.RecsLaws.{EachHasRecs, recs_found, numbered-keys, written_same, written_other, some-insert_entry}
 use Rattle.fw_border.proofs.output.put_more.Goals as goal
 
 pub returns-in_err-add-clause-err : goal.returns-in_err-add-clause-err

@@ -1,9 +1,9 @@
 use Rattle.std.proofs.Common.{◌≡◌, true, sym, subst, ◌∙◌}
 use Rattle.std.proofs.lemmas.List.{take_all}
 use Rattle.std.specs.List.{AllByRecursion}
+use Rattle.fw_lemmas.proofs.Each.{each-taken}
+use Rattle.fw_lemmas.proofs.Filters.{filter-all}
 use Rattle.fw_flow.specs.declared.choice.Counted.{Counted}
-use Rattle.fw_model.proofs.FilterLaws.{filter-all}
-use Rattle.fw_progress.proofs.EventLaws.{each-taken}
 use Rattle.fw_choose.specs.Chosen.{is_on_its_edge}
 use Rattle.fw_choose.proofs.viewing.are_on_their_edges.Goals as goal
 

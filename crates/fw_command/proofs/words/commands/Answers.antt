@@ -1,7 +1,8 @@
 use Rattle.std.proofs.Common.{◌≡◌, false, List, [], ◌∷◌, codes}
 use Rattle.clap.specs.Built.{AddsSubcommand}
 use Rattle.clap.specs.Simple.{App, Shape, app_of}
-use Rattle.fw_command.proofs.FormLaws.{so_if_ok, with_form}
+use Rattle.std.proofs.lemmas.Result.{IfOk-weaker}
+use Rattle.fw_command.proofs.FormLaws.{with_form}
 use Rattle.fw_command.specs.Forms.{form, forms, program, three_names}
 use Rattle.fw_command.proofs.words.commands.Goals as goal
 
@@ -20,6 +21,6 @@ returns c =
     let two = with_form _ _ _ (with_forms (of_run ∷ [])) of_endure c.in_ok-subcommand-2.ensures c.in_ok-run_form-2.ensures.local one c.in_ok-run_form-2.ensures.shape in
     let three = with_form _ _ _ (with_forms (of_run ∷ of_endure ∷ [])) of_gen c.in_ok-subcommand-3.ensures c.in_ok-gen_form.ensures.local two c.in_ok-gen_form.ensures.shape in
     let four = with_form _ _ _ (with_forms (of_run ∷ of_endure ∷ of_gen ∷ [])) of_denote c.in_ok-subcommand-4.ensures c.in_ok-denote_form.ensures.local three c.in_ok-denote_form.ensures.shape in
-    so_if_ok (AddsSubcommand c.in_ok-subcommand-4.field-0 c.in_ok-check_form.field-0) (λ command. app_of command ≡ forms) c.subcommand-5.result
+    IfOk-weaker c.subcommand-5.result (AddsSubcommand c.in_ok-subcommand-4.field-0 c.in_ok-check_form.field-0) (λ command. app_of command ≡ forms)
     (λ command a. with_form _ _ command (with_forms (of_run ∷ of_endure ∷ of_gen ∷ of_denote ∷ [])) of_check a c.in_ok-check_form.ensures.local four c.in_ok-check_form.ensures.shape)
     c.subcommand-5.ensures

@@ -1,6 +1,6 @@
 use Rattle.std.proofs.Common.{sym, ap, ◌∙◌}
 use Rattle.std.specs.Ordering.{is_le}
-use Rattle.fw_bag.proofs.OrderingLaws.{le_not_gt, not_gt_le}
+use Rattle.fw_lemmas.proofs.Orderings.{le_not_gt, not_gt_le}
 use Rattle.fw_flow.specs.Message.{message_cmp}
 use Rattle.fw_edge.proofs.LogLaws.{in_order-appended, appended-in_order}
 use Rattle.fw_edge.proofs.log.ascend_with.Goals as goal

@@ -1,7 +1,7 @@
 use Rattle.std.proofs.Common.{◌<◌, sym, ap, ◌∙◌, subst, rules}
 use Rattle.std.specs.List.{AllByRecursion}
 use Rattle.std.proofs.lemmas.Map.Made.{filter_same_pairs}
-use Rattle.fw_time.proofs.EachLaws.{each-kept}
+use Rattle.fw_lemmas.proofs.Each.{each-kept}
 use Rattle.fw_frontier.specs.Front.{inside}
 use Rattle.fw_flow.specs.Projection.{all_inside}
 use Rattle.fw_edge.specs.Piles.{counted_messages}

@@ -1,8 +1,9 @@
+use Rattle.std.proofs.lemmas.Result.{on_ok_weaker}
 use Rattle.fw_running.specs.Shaped.{IsShaped}
 use Rattle.fw_running.specs.BroughtUp.{IsBroughtUp}
 use Rattle.fw_running.specs.Ready.{IsOwing}
 use Rattle.fw_running.proofs.BroughtUpLaws.{brought_up_shaped}
-use Rattle.fw_engine.proofs.SearchLaws.{holds_if, fails_if, notice_of-found, on_ok, owing_taken}
+use Rattle.fw_engine.proofs.SearchLaws.{holds_if, fails_if, notice_of-found, owing_taken}
 use Rattle.fw_engine.proofs.auto.notice_of.Goals as goal
 
 pub returns-then-not-is_owed-clause-shaped : goal.returns-then-not-is_owed-clause-shaped
@@ -14,7 +15,7 @@ pub returns-clause-shaped : goal.returns-clause-shaped
 returns-clause-shaped c =
     let old = c.args.running.now in
     let new = c.next_notice.new.running in
-    on_ok c.next_notice.result (IsBroughtUp old new) (IsShaped new) (λ up. brought_up_shaped old new c.requires up) c.next_notice.ensures.up
+    on_ok_weaker {P = IsBroughtUp old new} {Q = IsShaped new} c.next_notice.result (λ up. brought_up_shaped old new c.requires up) c.next_notice.ensures.up
 
 pub returns-clause-found : goal.returns-clause-found
 returns-clause-found c =

@@ -1,10 +1,11 @@
 use Rattle.std.proofs.Common.{◌≡◌, ◌<◌, length, refl, sym, ap, subst, ◌∙◌, arith}
 use Rattle.std.proofs.lemmas.Bool.Decides.{nat_tests}
 use Rattle.std.specs.List.{list_any}
+use Rattle.std.proofs.lemmas.Result.{IfOk-weaker}
 use Rattle.fw_lines.specs.Lines.{said_in, bytes_at, words_at}
 use Rattle.fw_flow_text.specs.Grammar.{AreWordsOf, Finds, BreakAfter, capped_words, is_large}
 use Rattle.fw_flow_text.proofs.DeclaredLaws.{silent_push}
-use Rattle.fw_flow_text.proofs.FoundLaws.{no_parts, formless, too_large, not_new, new_breaks_none, declares_found, ok_weaker, refusal_weaker}
+use Rattle.fw_flow_text.proofs.FoundLaws.{no_parts, formless, too_large, not_new, new_breaks_none, declares_found, refusal_weaker}
 use Rattle.fw_flow_text.proofs.reader.read_line.Goals as goal
 
 pub returns-then-is_empty-clause-value : goal.returns-then-is_empty-clause-value
@@ -26,14 +27,14 @@ returns-clause-sound c =
     let text = c.args.text.now in
     let found = subst (λ ws. Finds (AreWordsOf (capped_words text ws)) c.in_ok-declaration.field-0) c.as_slice-words.ensures c.in_ok-declaration.ensures in
     let large = c.has_large.ensures ∙ ap (list_any (λ word. is_large (bytes_at text word))) c.as_slice-words.ensures in
-    ok_weaker _ _ c.declare_new.result c.declare_new.ensures.sound (λ more new. new_breaks_none text c.args.raw c.args.line.now.words c.in_ok-declaration.field-0 c.in-Some.declaration c.has_large.result found c.in-Some.is large c.if-has_large.false new)
+    IfOk-weaker c.declare_new.result _ _ (λ more new. new_breaks_none text c.args.raw c.args.line.now.words c.in_ok-declaration.field-0 c.in-Some.declaration c.has_large.result found c.in-Some.is large c.if-has_large.false new) c.declare_new.ensures.sound
 
 pub returns-clause-value : goal.returns-clause-value
 returns-clause-value c =
     let text = c.args.text.now in
     let found = subst (λ ws. Finds (AreWordsOf (capped_words text ws)) c.in_ok-declaration.field-0) c.as_slice-words.ensures c.in_ok-declaration.ensures in
     let large = c.has_large.ensures ∙ ap (list_any (λ word. is_large (bytes_at text word))) c.as_slice-words.ensures in
-    ok_weaker _ _ c.declare_new.result c.declare_new.ensures.value (λ more value. declares_found text c.args.raw more c.args.line.now.number c.args.line.now.words c.in_ok-declaration.field-0 c.in-Some.declaration c.has_large.result found c.in-Some.is large c.if-has_large.false value)
+    IfOk-weaker c.declare_new.result _ _ (λ more value. declares_found text c.args.raw more c.args.line.now.number c.args.line.now.words c.in_ok-declaration.field-0 c.in-Some.declaration c.has_large.result found c.in-Some.is large c.if-has_large.false value) c.declare_new.ensures.value
 
 pub returns-clause-broken : goal.returns-clause-broken
 returns-clause-broken c =

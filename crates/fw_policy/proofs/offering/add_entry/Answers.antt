@@ -1,12 +1,13 @@
 use Rattle.std.proofs.Common.{◌==◌, Bool, ◌&&◌, sym, ap, ◌∙◌}
 use Rattle.std.proofs.lemmas.Bool.{and_from, and_left}
-use Rattle.fw_policy.proofs.CodeLaws.{entry_kept, entry_left, on_ok-weaker}
+use Rattle.std.proofs.lemmas.Result.{on_ok_weaker}
+use Rattle.fw_policy.proofs.CodeLaws.{entry_kept, entry_left}
 use Rattle.fw_policy.proofs.offering.add_entry.Goals as goal
 use Rattle.fw_policy.proofs.offering.add_entry.Goals.{else-eq-via-then-eq+else-entry, else-eq-via-else-eq}
 
 pub returns-then-entry : goal.returns-then-entry
 returns-then-entry c = λ rs a.
-    on_ok-weaker c.add_written.result _ _
+    on_ok_weaker c.add_written.result
     (entry_kept c.args.low.now rs c.add_written.new.records.items c.args.node c.args.entry.now
     (and_from (c.args.entry.now.node == c.args.node) c.args.entry.now.acknowledged (sym c.eq.ensures ∙ c.if-eq.true) c.if-entry.true))
     (c.add_written.ensures rs a)

@@ -1,6 +1,6 @@
 use Rattle.std.proofs.Common.{◌≡◌, true, sym, ◌∙◌}
+use Rattle.fw_lemmas.proofs.Each.{each-taken}
 use Rattle.fw_time.specs.Stamp.{Stamp, in_domain}
-use Rattle.fw_progress.proofs.EventLaws.{each-taken}
 use Rattle.fw_progress.proofs.events.are_in_domain.Goals as goal
 
 pub loop-stamp-preserved : goal.loop-stamp-preserved

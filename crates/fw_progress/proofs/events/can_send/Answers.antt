@@ -2,12 +2,11 @@ use Rattle.std.proofs.Common.{◌≡◌, ℕ, true, false, refl, sym, ap, subst,
 use Rattle.std.proofs.lemmas.Bool.{both_ways}
 use Rattle.std.proofs.lemmas.List.{take_all}
 use Rattle.std.specs.List.{AllByRecursion}
+use Rattle.fw_lemmas.proofs.Each.{each-at, each-taken}
 use Rattle.fw_time.specs.Stamp.{in_domain}
 use Rattle.fw_time.specs.declared.stamp.Bounds.{Bounds}
 use Rattle.fw_flow.specs.Dataflow.{receiver, bounds_of}
-use Rattle.fw_time.proofs.EachLaws.{each-at}
 use Rattle.fw_flow.proofs.OutEdgeLaws.{out_edges-at, out_edges-from}
-use Rattle.fw_progress.proofs.EventLaws.{each-taken}
 use Rattle.fw_progress.proofs.events.can_send.Goals as goal
 
 pub loop-edge-preserved : goal.loop-edge-preserved

@@ -1,6 +1,6 @@
 use Rattle.std.proofs.Common.{[], arith}
+use Rattle.fw_lemmas.proofs.Lists.{read_at}
 use Rattle.fw_progress.proofs.LeapLaws.{read_subset, leap_lacks, leap_stays, leap_most}
-use Rattle.fw_progress.proofs.TargetLaws.{read_at}
 use Rattle.fw_progress.proofs.leap.can_leap_at.Goals as goal
 
 pub returns-then-not-subset : goal.returns-then-not-subset

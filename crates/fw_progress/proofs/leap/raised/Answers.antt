@@ -1,6 +1,6 @@
 use Rattle.std.proofs.Common.{refl, ap, ◌∙◌, inl, inr, arith}
+use Rattle.fw_lemmas.proofs.Lists.{read_at}
 use Rattle.fw_progress.proofs.LeapLaws.{raised-one}
-use Rattle.fw_progress.proofs.TargetLaws.{read_at}
 use Rattle.fw_progress.proofs.leap.raised.Goals as goal
 use Rattle.fw_progress.proofs.leap.raised.Goals.{then-is_marked+in_ok-push, else-is_marked+in_ok-copy+in_ok-push-2}
 

@@ -1,11 +1,12 @@
 use Rattle.std.proofs.Common.{◌≡◌, sym, subst, arith}
 use Rattle.std.specs.Map.{keys_of}
 use Rattle.std.proofs.lemmas.Result.{IfOk-weaker}
+use Rattle.fw_lemmas.proofs.Lists.{read_at}
 use Rattle.fw_frontier.specs.Front.{frontier_of, IsFrontOf}
 use Rattle.fw_flow.specs.Dataflow.{bounds_of, node_frontier}
 use Rattle.fw_progress.specs.Counts.{given_by, owed_of}
 use Rattle.fw_progress.specs.Tally.{IsTallyOf}
-use Rattle.fw_progress.proofs.TargetLaws.{read_at, met}
+use Rattle.fw_progress.proofs.TargetLaws.{met}
 use Rattle.fw_progress.proofs.target.clear.Goals as goal
 
 pub returns : goal.returns

@@ -1,6 +1,7 @@
 use Rattle.std.proofs.Common.{◌≡◌, ℕ, ◌<◌, List, [], length, get_or, sym, subst, ◌∙◌, arith}
 use Rattle.std.specs.Map.{keys_of}
 use Rattle.std.proofs.lemmas.Result.{IfOk-weaker}
+use Rattle.fw_lemmas.proofs.Lists.{read_at}
 use Rattle.fw_time.specs.Stamp.{Stamp}
 use Rattle.fw_frontier.specs.Front.{Front, frontier_of, IsFrontOf}
 use Rattle.fw_flow.specs.Dataflow.{Dataflow, sender, receiver, bounds_of, node_frontier}
@@ -9,7 +10,7 @@ use Rattle.fw_model.specs.Machine.{front_of, family_of}
 use Rattle.fw_progress.specs.declared.counts.Counts.{Counts}
 use Rattle.fw_progress.specs.Counts.{AreCounts, pending_of, sent_of}
 use Rattle.fw_progress.specs.Tally.{IsTallyOf}
-use Rattle.fw_progress.proofs.TargetLaws.{read_at, met, all-met}
+use Rattle.fw_progress.proofs.TargetLaws.{met, all-met}
 use Rattle.fw_progress.proofs.target.come.Goals as goal
 
 -- the stamps pending that an index reads are those of the edge

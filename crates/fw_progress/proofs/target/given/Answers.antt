@@ -1,9 +1,10 @@
 use Rattle.std.proofs.Common.{◌≡◌, ◌^◌, ◌≤◌, true, inl, inr, sym, ap, ◌∙◌, arith}
 use Rattle.std.proofs.lemmas.Bool.{cases_lt}
 use Rattle.std.proofs.lemmas.Result.{IfOk-weaker}
+use Rattle.fw_lemmas.proofs.Lists.{read_at}
 use Rattle.fw_flow.specs.Dataflow.{bounds_of, kind_of, is_input_kind}
 use Rattle.fw_progress.specs.Counts.{injected_in, batches_in}
-use Rattle.fw_progress.proofs.TargetLaws.{read_at, given-until, given-past, epoch-in_domain}
+use Rattle.fw_progress.proofs.TargetLaws.{given-until, given-past, epoch-in_domain}
 use Rattle.fw_progress.proofs.target.given.Goals as goal
 
 pub returns-in-Ok : goal.returns-in-Ok

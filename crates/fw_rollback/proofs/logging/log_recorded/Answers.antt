@@ -1,6 +1,6 @@
 use Rattle.std.proofs.Common.{◌<◌, List, ◌++◌, length, sym, ap, subst, ◌∙◌, arith}
 use Rattle.std.proofs.lemmas.List.{take_all}
-use Rattle.fw_time.proofs.EachLaws.{each-at}
+use Rattle.fw_lemmas.proofs.Each.{each-at}
 use Rattle.fw_record.specs.declared.logged.Logged.{Logged}
 use Rattle.fw_record.specs.Log.{logged_on}
 use Rattle.fw_rollback.specs.Restored.{log_of}

@@ -1,6 +1,6 @@
 use Rattle.std.proofs.Common.{List, take, sym, subst, ◌∙◌}
 use Rattle.std.proofs.lemmas.List.{take_all}
-use Rattle.fw_time.proofs.EachLaws.{each-at}
+use Rattle.fw_lemmas.proofs.Each.{each-at}
 use Rattle.fw_record.specs.declared.record.Event.{Event as LoggedEvent}
 use Rattle.fw_record.specs.declared.record.Record.{Record}
 use Rattle.fw_rollback.specs.Asked.{events_of, CanServe}

@@ -1,10 +1,10 @@
 use Rattle.std.proofs.Common.{◌≡◌, [], length, arith, refl, sym, ap, subst, ◌∙◌, Err}
 use Rattle.std.proofs.lemmas.Bool.{both_ways}
+use Rattle.fw_lemmas.proofs.Lists.{read_at}
 use Rattle.fw_frontier.specs.Front.{Front, IsCanonical}
 use Rattle.fw_flow.specs.declared.step.Step.TheVariants.{Checkpoint}
 use Rattle.fw_flow.specs.Dataflow.{bounds_of}
 use Rattle.fw_model.specs.Machine.{front_of}
-use Rattle.fw_progress.proofs.TargetLaws.{read_at}
 use Rattle.fw_running.proofs.AnswerLaws.{left-answers}
 use Rattle.fw_running.proofs.SameStateLaws.{unasked-stands}
 use Rattle.fw_running.proofs.StepLaws.{stays-shaped, step-did, step-fails, step-idle, step-refused_first}

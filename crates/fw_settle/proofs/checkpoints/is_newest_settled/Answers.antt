@@ -1,11 +1,11 @@
 use Rattle.std.proofs.Common.{◌≡◌, ◌<◌, rules, [], length, arith, sym, ap, subst, ◌∙◌}
+use Rattle.fw_lemmas.proofs.Lists.{read_at}
 use Rattle.fw_time.specs.Stamp.{origin}
 use Rattle.fw_time.specs.declared.stamp.Bounds.{Bounds}
 use Rattle.fw_frontier.specs.Front.{inside}
 use Rattle.fw_flow.specs.Dataflow.{bounds_of}
 use Rattle.fw_model.specs.Machine.{front_of, no_stamps}
 use Rattle.fw_model.specs.Steps.{last_or}
-use Rattle.fw_progress.proofs.TargetLaws.{read_at}
 use Rattle.fw_stands.specs.Entries.{entry_fronts}
 use Rattle.fw_policy.proofs.WayLaws.{bounds-plain}
 use Rattle.fw_settle.proofs.NewestLaws.{newest-none}

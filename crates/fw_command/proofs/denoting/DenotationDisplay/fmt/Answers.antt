@@ -1,7 +1,7 @@
 use Rattle.std.proofs.Common.{◌++◌, sym, ◌∙◌, ap, rules}
 use Rattle.std.proofs.Output.{has_written_of_eq, has_written_append}
 use Rattle.std.specs.List.{flat_map, range_with_len}
-use Rattle.fw_flow.proofs.Ranges.{joined_more}
+use Rattle.fw_lemmas.proofs.Lists.{joined_more}
 use Rattle.fw_flow.specs.Dataflow.{system_of}
 use Rattle.fw_denote.specs.Holding.{family_on}
 use Rattle.fw_command.specs.DenotationText.{node_text}

@@ -1,7 +1,7 @@
 use Rattle.std.proofs.Common.{◌≡◌, ◌++◌, refl, sym, rules, ◌∙◌, ap, arith}
 use Rattle.std.proofs.Output.{has_written_of_eq, has_written_append}
 use Rattle.std.specs.List.{flat_map, range_with_len}
-use Rattle.fw_flow.proofs.Ranges.{joined_more}
+use Rattle.fw_lemmas.proofs.Lists.{joined_more}
 use Rattle.fw_command.specs.DenotationText.{epoch_line}
 use Rattle.fw_command.proofs.EpochPartLaws.{bag_ascends, part_line}
 use Rattle.fw_command.proofs.denoting.EpochLinesDisplay.fmt.Goals as goal

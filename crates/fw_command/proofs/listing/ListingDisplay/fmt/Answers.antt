@@ -1,7 +1,7 @@
 use Rattle.std.proofs.Common.{◌++◌, sym, ◌∙◌, ap, rules}
 use Rattle.std.proofs.Output.{has_written_of_eq, has_written_append}
 use Rattle.std.specs.List.{flat_map, range_with_len}
-use Rattle.fw_flow.proofs.Ranges.{joined_more}
+use Rattle.fw_lemmas.proofs.Lists.{joined_more}
 use Rattle.fw_command.specs.Listing.{node_line}
 use Rattle.fw_command.proofs.listing.ListingDisplay.fmt.Goals as goal
 

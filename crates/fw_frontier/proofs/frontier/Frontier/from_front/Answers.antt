@@ -1,7 +1,7 @@
 use Rattle.std.proofs.Common.{◌≡◌, ◌∙◌, ap, true, not, ◌&&◌, length, get_or, arith}
+use Rattle.fw_lemmas.proofs.Each.{each-at}
 use Rattle.fw_time.specs.Stamp.{leq, in_domain}
 use Rattle.fw_time.proofs.DomainLaws.{domain-length}
-use Rattle.fw_time.proofs.EachLaws.{each-at}
 use Rattle.fw_frontier.proofs.GenericLaws.{inside_more}
 use Rattle.fw_frontier.proofs.frontier.Frontier.from_front.Goals as goal
 

@@ -1,7 +1,7 @@
 use Rattle.std.proofs.Common.{List, ℕ, ◌≡◌, true, get_or, ◌∙◌}
+use Rattle.fw_lemmas.proofs.Each.{each-weaker}
 use Rattle.fw_time.specs.Stamp.{leq, outer, counter, in_domain}
 use Rattle.fw_time.proofs.DomainLaws.{domain-leq, plain-in_domain}
-use Rattle.fw_time.proofs.EachLaws.{each-weaker}
 use Rattle.fw_frontier.proofs.BelowLaws.{names-by}
 use Rattle.fw_frontier.proofs.stairs.StairsFrontierNest.to_front.Goals as goal
 

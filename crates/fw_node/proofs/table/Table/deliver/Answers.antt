@@ -1,5 +1,6 @@
 use Rattle.std.proofs.Common.{◌≡◌, ◌∷◌, [], true, false, not, List, map, refl, sym, ap, ◌∙◌, subst}
 use Rattle.std.proofs.lemmas.Result.{IfOk-weaker, on_ok_weaker}
+use Rattle.std.proofs.lemmas.Bool.{or_from}
 use Rattle.fw_time.specs.Sending.{entered_stamp, regrouped_stamp}
 use Rattle.fw_time.specs.Stamp.{Stamp as StampList}
 use Rattle.fw_time.specs.declared.stamp.Stamp.{Stamp}
@@ -23,7 +24,7 @@ use Rattle.fw_node.specs.TimedTable.{IsTimedTable}
 use Rattle.fw_node.proofs.ForgettingLaws.{deliveries_need_their_time}
 use Rattle.fw_node.proofs.KindCases.{timed_plain}
 use Rattle.fw_node.proofs.LoopCases.{loop_kind}
-use Rattle.fw_node.proofs.PastLaws.{unsettled_more, neither}
+use Rattle.fw_node.proofs.PastLaws.{unsettled_more}
 use Rattle.fw_node.proofs.TableCases.{of_ledger, of_sequence, of_total, of_variant}
 use Rattle.fw_time.specs.declared.time.SeqNo.{SeqNo}
 use Rattle.fw_table.specs.declared.sent.Sent.{Sent}
@@ -119,7 +120,7 @@ returns-in_ok-on_message-in-Total-clause-ok c = λ flow k past r side out untold
     let Q : StampList → Type 0 = λ s. IsTotal past.settled (is_taken past) new (arrival c.args.side s c.args.rec ∷ past.came) in
     of_total flow past (λ x. (is_notified_kind x ≡ true → past.told c.args.at.now ≡ false) → IsNodeTable flow (table.Total new) x (with_arrival a past))
     c.in-Total.table k (of_variant flow k past c.in-Total.is r)
-    (λ h u. subst Q co (c.in_ok-on_message-in-Total.ensures.ok past.settled (is_taken past) past.came (ap past.settled co ∙ out) (ap (is_taken past) co ∙ neither (past.settled c.args.at.now) (past.told c.args.at.now) out (u refl)) h)) untold
+    (λ h u. subst Q co (c.in_ok-on_message-in-Total.ensures.ok past.settled (is_taken past) past.came (ap past.settled co ∙ out) (ap (is_taken past) co ∙ or_from (past.settled c.args.at.now) (past.told c.args.at.now) out (u refl)) h)) untold
 
 pub returns-in_ok-on_message-in-Sequence-clause-ok : goal.returns-in_ok-on_message-in-Sequence-clause-ok
 returns-in_ok-on_message-in-Sequence-clause-ok c = λ flow k past r side out untold.
@@ -129,7 +130,7 @@ returns-in_ok-on_message-in-Sequence-clause-ok c = λ flow k past r side out unt
     let Q : StampList → Type 0 = λ s. IsSequence (is_taken past) new (arrival c.args.side s c.args.rec ∷ past.came) past.numbered in
     of_sequence flow past (λ x. (is_notified_kind x ≡ true → past.told c.args.at.now ≡ false) → IsNodeTable flow (table.Sequence new) x (with_arrival a past))
     c.in-Sequence.table k (of_variant flow k past c.in-Sequence.is r)
-    (λ h u. subst Q co (c.in_ok-on_message-in-Sequence.ensures.ok (is_taken past) past.came past.numbered (ap (is_taken past) co ∙ neither (past.settled c.args.at.now) (past.told c.args.at.now) out (u refl)) h)) untold
+    (λ h u. subst Q co (c.in_ok-on_message-in-Sequence.ensures.ok (is_taken past) past.came past.numbered (ap (is_taken past) co ∙ or_from (past.settled c.args.at.now) (past.told c.args.at.now) out (u refl)) h)) untold
 
 pub returns-in_ok-sent-in-Ledger-clause-ok : goal.returns-in_ok-sent-in-Ledger-clause-ok
 returns-in_ok-sent-in-Ledger-clause-ok c = λ flow k past r side out untold.

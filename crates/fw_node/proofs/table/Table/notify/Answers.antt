@@ -1,4 +1,7 @@
 use Rattle.std.proofs.Common.{◌≡◌, ◌||◌, ◌∷◌, [], ℕ, ◌+◌, Bool, List, length, map, sym, ap, ◌∙◌, subst, arith}
+use Rattle.std.proofs.lemmas.Bool.{or_from}
+use Rattle.fw_lemmas.proofs.Bools.{or_swap}
+use Rattle.fw_lemmas.proofs.Results.{on_err}
 use Rattle.fw_time.specs.Stamp.{Stamp as StampList, same}
 use Rattle.fw_bag.specs.declared.rec.Rec.{Rec}
 use Rattle.fw_bag.specs.Keyed.{sorted_recs}
@@ -16,7 +19,7 @@ use Rattle.fw_node.specs.NodeTable.{IsNodeTable, epoch_cmp, epoch_coords, nest_c
 use Rattle.fw_node.specs.Past.{IsSumOfTaken, notice_list, unsettled, is_taken, with_notice}
 use Rattle.fw_node.proofs.KindCases.{timed_plain}
 use Rattle.fw_node.proofs.LoopCases.{loop_kind}
-use Rattle.fw_node.proofs.PastLaws.{any_err, at_numbers-length, neither, notice_unsettled, told_more}
+use Rattle.fw_node.proofs.PastLaws.{at_numbers-length, notice_unsettled}
 use Rattle.fw_node.proofs.TableCases.{of_sequence, of_total, of_variant}
 use Rattle.fw_time.specs.declared.stamp.Stamp.{Stamp}
 use Rattle.fw_time.specs.declared.time.Epoch.{Epoch}
@@ -35,7 +38,7 @@ returns-in_ok-notify-in-Outside-clause-sent c = λ flow k past r out untold sum.
 
 pub returns-in_err-notify-in-Outside-clause-err : goal.returns-in_err-notify-in-Outside-clause-err
 returns-in_err-notify-in-Outside-clause-err c = λ flow k past r.
-    any_err c.from_residual.result _ (c.notify.ensures.stands k (unsettled past) (of_variant flow k past c.in-Outside.is r))
+    on_err c.from_residual.result _ (c.notify.ensures.stands k (unsettled past) (of_variant flow k past c.in-Outside.is r))
 
 pub returns-in_ok-notify-in-Loop-clause-ok : goal.returns-in_ok-notify-in-Loop-clause-ok
 returns-in_ok-notify-in-Loop-clause-ok c = λ flow k past r out untold.
@@ -49,7 +52,7 @@ returns-in_ok-notify-in-Loop-clause-sent c = λ flow k past r out untold sum.
 
 pub returns-in_err-notify-in-Loop-clause-err : goal.returns-in_err-notify-in-Loop-clause-err
 returns-in_err-notify-in-Loop-clause-err c = λ flow k past r.
-    any_err c.from_residual-in_err-notify-in-Loop.result _ (c.notify-in-Loop.ensures.stands flow k (unsettled past) (of_variant flow k past c.in-Loop.is r))
+    on_err c.from_residual-in_err-notify-in-Loop.result _ (c.notify-in-Loop.ensures.stands flow k (unsettled past) (of_variant flow k past c.in-Loop.is r))
 
 pub returns-in_ok-notify-in-Loop2-clause-ok : goal.returns-in_ok-notify-in-Loop2-clause-ok
 returns-in_ok-notify-in-Loop2-clause-ok c = λ flow k past r out untold.
@@ -63,7 +66,7 @@ returns-in_ok-notify-in-Loop2-clause-sent c = λ flow k past r out untold sum.
 
 pub returns-in_err-notify-in-Loop2-clause-err : goal.returns-in_err-notify-in-Loop2-clause-err
 returns-in_err-notify-in-Loop2-clause-err c = λ flow k past r.
-    any_err c.from_residual-in_err-notify-in-Loop2.result _ (c.notify-in-Loop2.ensures.stands flow k (unsettled past) (of_variant flow k past c.in-Loop2.is r))
+    on_err c.from_residual-in_err-notify-in-Loop2.result _ (c.notify-in-Loop2.ensures.stands flow k (unsettled past) (of_variant flow k past c.in-Loop2.is r))
 
 pub returns-in_ok-notify-in-Loop3-clause-ok : goal.returns-in_ok-notify-in-Loop3-clause-ok
 returns-in_ok-notify-in-Loop3-clause-ok c = λ flow k past r out untold.
@@ -77,7 +80,7 @@ returns-in_ok-notify-in-Loop3-clause-sent c = λ flow k past r out untold sum.
 
 pub returns-in_err-notify-in-Loop3-clause-err : goal.returns-in_err-notify-in-Loop3-clause-err
 returns-in_err-notify-in-Loop3-clause-err c = λ flow k past r.
-    any_err c.from_residual-in_err-notify-in-Loop3.result _ (c.notify-in-Loop3.ensures.stands flow k (unsettled past) (of_variant flow k past c.in-Loop3.is r))
+    on_err c.from_residual-in_err-notify-in-Loop3.result _ (c.notify-in-Loop3.ensures.stands flow k (unsettled past) (of_variant flow k past c.in-Loop3.is r))
 
 pub returns-in_ok-sent-in-Total-clause-ok : goal.returns-in_ok-sent-in-Total-clause-ok
 returns-in_ok-sent-in-Total-clause-ok c = λ flow k past r out untold.
@@ -85,9 +88,9 @@ returns-in_ok-sent-in-Total-clause-ok c = λ flow k past r out untold.
     let new = c.on_notify.new.self in
     let Q : (StampList → Bool) → Type 0 = λ g. IsTotal past.settled g new past.came in
     let e : (λ (s : StampList). same s (c.from_coords.result.0 ∷ []) || is_taken past s) ≡ (λ s. past.settled s || (same s c.args.at.now || past.told s)) =
-    λ i s. (ap (λ u. same s u || is_taken past s) co ∙ told_more (same s c.args.at.now) (past.settled s) (past.told s)) i in
+    λ i s. (ap (λ u. same s u || is_taken past s) co ∙ or_swap (same s c.args.at.now) (past.settled s) (past.told s)) i in
     of_total flow past (λ x. IsNodeTable flow (table.Total new) x (with_notice c.args.at.now past)) c.in-Total.table k (of_variant flow k past c.in-Total.is r)
-    (λ h. subst Q e (c.in_ok-sent-in-Total.ensures.ok past.settled (is_taken past) past.came (ap past.settled co ∙ out) (ap (is_taken past) co ∙ neither (past.settled c.args.at.now) (past.told c.args.at.now) out untold) h))
+    (λ h. subst Q e (c.in_ok-sent-in-Total.ensures.ok past.settled (is_taken past) past.came (ap past.settled co ∙ out) (ap (is_taken past) co ∙ or_from (past.settled c.args.at.now) (past.told c.args.at.now) out untold) h))
 
 pub returns-in_ok-sent-in-Total-clause-sent : goal.returns-in_ok-sent-in-Total-clause-sent
 returns-in_ok-sent-in-Total-clause-sent c = λ flow k past r out untold sum.
@@ -96,7 +99,7 @@ returns-in_ok-sent-in-Total-clause-sent c = λ flow k past r out untold sum.
     of_total flow past (λ x. IsSumOfTaken x past c.args.at.now → sent_list sent ≡ notice_list x past c.args.at.now) c.in-Total.table k (of_variant flow k past c.in-Total.is r)
     (λ h u. ap (λ (t : StampList). map (λ (x : Rec). (t, x)) c.in_ok-sent-in-Total.sent.recs) (c.copy.ensures ∙ sym co)
     ∙ ap (λ (s : Sent Epoch). map (λ (x : Rec). (c.from_coords.result.0 ∷ [], x)) s.recs)
-    (c.in_ok-sent-in-Total.ensures.sent past.settled (is_taken past) past.came (ap past.settled co ∙ out) (ap (is_taken past) co ∙ neither (past.settled c.args.at.now) (past.told c.args.at.now) out untold) h)
+    (c.in_ok-sent-in-Total.ensures.sent past.settled (is_taken past) past.came (ap past.settled co ∙ out) (ap (is_taken past) co ∙ or_from (past.settled c.args.at.now) (past.told c.args.at.now) out untold) h)
     ∙ ap (λ (t : StampList). map (λ (x : Rec). (t, x)) (sums_at_keys (recs_at t past.came) (recs_inside (λ s. same s t || is_taken past s) past.came))) co
     ∙ ap (λ rs. map (λ (x : Rec). (c.args.at.now, x)) (sums_at_keys (recs_at c.args.at.now past.came) rs)) (sym u)) sum
 
@@ -107,10 +110,10 @@ returns-in_ok-on_notify-in-Sequence-clause-ok c = λ flow k past r out untold.
     let sent = c.in_ok-on_notify-in-Sequence.field-0 in
     let Q : (StampList → Bool) → Type 0 = λ g. IsSequence g new past.came (past.numbered + length sent.recs) in
     let e : (λ (s : StampList). same s (c.from_coords-in-Sequence.result.0 ∷ []) || is_taken past s) ≡ (λ s. past.settled s || (same s c.args.at.now || past.told s)) =
-    λ i s. (ap (λ u. same s u || is_taken past s) co ∙ told_more (same s c.args.at.now) (past.settled s) (past.told s)) i in
+    λ i s. (ap (λ u. same s u || is_taken past s) co ∙ or_swap (same s c.args.at.now) (past.settled s) (past.told s)) i in
     of_sequence flow past (λ x. IsNodeTable flow (table.Sequence new) x (with_notice c.args.at.now past)) c.in-Sequence.table k (of_variant flow k past c.in-Sequence.is r)
     (λ h.
-    let gone = (ap (is_taken past) co ∙ neither (past.settled c.args.at.now) (past.told c.args.at.now) out untold) in
+    let gone = (ap (is_taken past) co ∙ or_from (past.settled c.args.at.now) (past.told c.args.at.now) out untold) in
     let rs : List Rec = sorted_recs (recs_at c.args.at.now past.came) in
     let same_list : at_numbers sent.first sent.recs ≡ numbered_recs past.numbered rs =
     c.in_ok-on_notify-in-Sequence.ensures.sent (is_taken past) past.came past.numbered gone h
@@ -125,7 +128,7 @@ returns-in_ok-on_notify-in-Sequence-clause-sent c = λ flow k past r out untold 
     let co : c.from_coords-in-Sequence.result.0 ∷ [] ≡ c.args.at.now = c.from_coords-in-Sequence.ensures in
     let sent = c.in_ok-on_notify-in-Sequence.field-0 in
     of_sequence flow past (λ x. at_numbers sent.first sent.recs ≡ notice_list x past c.args.at.now) c.in-Sequence.table k (of_variant flow k past c.in-Sequence.is r)
-    (λ h. c.in_ok-on_notify-in-Sequence.ensures.sent (is_taken past) past.came past.numbered (ap (is_taken past) co ∙ neither (past.settled c.args.at.now) (past.told c.args.at.now) out untold) h
+    (λ h. c.in_ok-on_notify-in-Sequence.ensures.sent (is_taken past) past.came past.numbered (ap (is_taken past) co ∙ or_from (past.settled c.args.at.now) (past.told c.args.at.now) out untold) h
     ∙ ap (λ (t : StampList). numbered_recs past.numbered (sorted_recs (recs_at t past.came))) co)
 
 pub returns-in_ok-notify-in-Outside-clause-at : goal.returns-in_ok-notify-in-Outside-clause-at

@@ -1,8 +1,8 @@
 use Rattle.std.proofs.Common.{◌≡◌, true, sym, ap, subst, ◌∙◌}
 use Rattle.std.specs.Prelude.{filter}
 use Rattle.std.proofs.lemmas.Result.{IfOk-weaker}
+use Rattle.fw_lemmas.proofs.Each.{each-kept}
 use Rattle.fw_time.specs.Stamp.{in_domain}
-use Rattle.fw_time.proofs.EachLaws.{each-kept}
 use Rattle.fw_frontier.specs.Frontier.{cover}
 use Rattle.fw_frontier.specs.Front.{inside, IsFrontOf}
 use Rattle.fw_progress.specs.Traces.{AreOf}

@@ -1,8 +1,8 @@
 use Rattle.std.proofs.Common.{◌≡◌, ◌<◌, [], length, ap, ◌∙◌, arith}
+use Rattle.fw_lemmas.proofs.Lists.{read_at}
 use Rattle.fw_flow.specs.Dataflow.{bounds_of}
 use Rattle.fw_progress.specs.Trace.{delivered_on}
 use Rattle.fw_progress.proofs.CoverLaws.{delivered-covers}
-use Rattle.fw_progress.proofs.TargetLaws.{read_at}
 use Rattle.fw_progress.proofs.traces.Traces.delivered_cover.Goals as goal
 
 pub returns-clause-cover : goal.returns-clause-cover

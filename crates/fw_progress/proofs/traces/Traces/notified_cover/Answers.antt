@@ -1,7 +1,7 @@
 use Rattle.std.proofs.Common.{◌≡◌, ◌<◌, [], length, arith}
+use Rattle.fw_lemmas.proofs.Lists.{read_at}
 use Rattle.fw_progress.specs.Trace.{notified_of}
 use Rattle.fw_progress.proofs.CoverLaws.{notified-covers}
-use Rattle.fw_progress.proofs.TargetLaws.{read_at}
 use Rattle.fw_progress.proofs.traces.Traces.notified_cover.Goals as goal
 
 pub returns-clause-cover : goal.returns-clause-cover

@@ -1,8 +1,8 @@
 use Rattle.std.proofs.Common.{◌≡◌, ◌<◌, length, arith}
 use Rattle.std.proofs.lemmas.Result.{IfOk-weaker}
+use Rattle.fw_lemmas.proofs.Lists.{read_at}
 use Rattle.fw_progress.specs.Trace.{no_tally, counted_of}
 use Rattle.fw_progress.proofs.CoverLaws.{sent-counts}
-use Rattle.fw_progress.proofs.TargetLaws.{read_at}
 use Rattle.fw_progress.proofs.traces.Traces.sent_count.Goals as goal
 
 pub returns-clause-count : goal.returns-clause-count

@@ -1,6 +1,6 @@
 use Rattle.std.proofs.Common.{true}
+use Rattle.fw_lemmas.proofs.Results.{on_err}
 use Rattle.fw_totals.specs.Total.{IsTotal}
-use Rattle.fw_totals.proofs.NoticeLaws.{any_err}
 use Rattle.fw_totals.proofs.total.Total.settle.Goals as goal
 
 pub returns-clause-ok : goal.returns-clause-ok
@@ -9,4 +9,4 @@ returns-clause-ok c = λ inside after taken came agree sub r.
 
 pub returns-in_err-settle-clause-err : goal.returns-in_err-settle-clause-err
 returns-in_err-settle-clause-err c = λ inside taken came r.
-    let h : IsTotal inside taken (record { table = c.settle.new.self; running = c.args.self.now.running; alloc = c.args.self.now.alloc; refused = true }) came = record { table = c.in_err-settle.ensures.err inside came r.table; running = r.running } in any_err _ _ h
+    let h : IsTotal inside taken (record { table = c.settle.new.self; running = c.args.self.now.running; alloc = c.args.self.now.alloc; refused = true }) came = record { table = c.in_err-settle.ensures.err inside came r.table; running = r.running } in on_err _ _ h

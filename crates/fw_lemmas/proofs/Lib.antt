@@ -1,0 +1,9 @@
+pub mod Bools
+pub mod Numbers
+pub mod Orderings
+pub mod Options
+pub mod Results
+pub mod Each
+pub mod Filters
+pub mod Lists
+pub mod SideBySide

@@ -32,8 +32,8 @@ recs_where test [] = []
 recs_where test (a ∷ came) = if test a then a.rec ∷ recs_where test came else recs_where test came
 
 -- the recs that came at a stamp
-abbrev pub recs_at : Stamp → List Arrival → List Rec
-recs_at t came = recs_of (arrivals_at t came)
+abbrev pub recs_arrived_at : Stamp → List Arrival → List Rec
+recs_arrived_at t came = recs_of (arrivals_at t came)
 
 -- the recs that came at the stamps that pass a test
 abbrev pub recs_inside : (Stamp → Bool) → List Arrival → List Rec

@@ -12,8 +12,8 @@ use Rattle.fw_flow.specs.Counting.{how_many}
 use Rattle.fw_bag.specs.Bag.{BagState}
 use Rattle.fw_bag.specs.declared.rec.Rec.{Rec}
 use Rattle.fw_flow.specs.Dataflow.{Dataflow, node_ids, batches_of_nodes}
-use Rattle.fw_lines.specs.Batches.{batches_at, recs_of}
-use Rattle.fw_border.specs.Numbers.{is_below}
+use Rattle.fw_lines.specs.Batches.{batches_at, recs_of_bags}
+use Rattle.fw_border.specs.Numbers.{is_number_below}
 use Rattle.fw_border.specs.Sources.{epochs_inside, unused_source}
 
 -- a stamp of another number of coordinates is not at most a number
@@ -41,26 +41,26 @@ count_below test k a (suc n) h =
     ]
 
 -- the epochs inside are those below the bound
-pub epochs_below : (f : Front) (k n : ℕ) → ((x : ℕ) → inside f (x ∷ []) ≡ is_below (Some k) x) → epochs_inside f n ≡ min n k
+pub epochs_below : (f : Front) (k n : ℕ) → ((x : ℕ) → inside f (x ∷ []) ≡ is_number_below (Some k) x) → epochs_inside f n ≡ min n k
 epochs_below f k n h = let c = count_below (λ x. inside f (x ∷ [])) k 0 n h in omega arith
 
 -- all are inside where there is no bound
-pub epochs_all : (f : Front) (n : ℕ) → ((x : ℕ) → inside f (x ∷ []) ≡ is_below None x) → epochs_inside f n ≡ n
+pub epochs_all : (f : Front) (n : ℕ) → ((x : ℕ) → inside f (x ∷ []) ≡ is_number_below None x) → epochs_inside f n ≡ n
 epochs_all f n h = count_all (λ x. inside f (x ∷ [])) 0 n h
 
 -- ---- what is listed by epoch
 
 -- the pairs at epochs that are not below the bound
 abbrev left_from : Option ℕ → List (ℕ × List Rec) → List (ℕ × List Rec)
-left_from bound es = filter (λ e. not (is_below bound e.0)) es
+left_from bound es = filter (λ e. not (is_number_below bound e.0)) es
 
 -- the first bag goes, where its epoch is below the bound
-pub dropped_first : (bound : Option ℕ) (n : ℕ) (b : BagState) (bags : List BagState) → is_below bound n ≡ true
-    → filter (λ e. not (is_below bound e.0)) (enumerate_from n (recs_of (b ∷ bags))) ≡ filter (λ e. not (is_below bound e.0)) (enumerate_from (n + 1) (recs_of bags))
+pub dropped_first : (bound : Option ℕ) (n : ℕ) (b : BagState) (bags : List BagState) → is_number_below bound n ≡ true
+    → filter (λ e. not (is_number_below bound e.0)) (enumerate_from n (recs_of_bags (b ∷ bags))) ≡ filter (λ e. not (is_number_below bound e.0)) (enumerate_from (n + 1) (recs_of_bags bags))
 dropped_first bound n b bags e =
-    cond-false (not (is_below bound n)) ((n, b.recs) ∷ left_from bound (enumerate_from (n + 1) (recs_of bags))) (left_from bound (enumerate_from (n + 1) (recs_of bags))) (ap not e)
+    cond-false (not (is_number_below bound n)) ((n, b.recs) ∷ left_from bound (enumerate_from (n + 1) (recs_of_bags bags))) (left_from bound (enumerate_from (n + 1) (recs_of_bags bags))) (ap not e)
 
-later_too : (bound : Option ℕ) (n : ℕ) → is_below bound n ≡ false → is_below bound (n + 1) ≡ false
+later_too : (bound : Option ℕ) (n : ℕ) → is_number_below bound n ≡ false → is_number_below bound (n + 1) ≡ false
 later_too None n e = absurd (cc)
 later_too (Some k) n e = let l = ltb-false n k e in elim (cases_Bool (nat_lt (n + 1) k)) [
   | inl t ↦ let m = ltb-true (n + 1) k t in absurd (omega arith)
@@ -68,11 +68,11 @@ later_too (Some k) n e = let l = ltb-false n k e in elim (cases_Bool (nat_lt (n 
 ]
 
 -- nothing goes from an epoch on that is not below the bound
-pub all_left : (bound : Option ℕ) (n : ℕ) (batches : List (List Rec)) → is_below bound n ≡ false
-    → filter (λ e. not (is_below bound e.0)) (enumerate_from n batches) ≡ enumerate_from n batches
+pub all_left : (bound : Option ℕ) (n : ℕ) (batches : List (List Rec)) → is_number_below bound n ≡ false
+    → filter (λ e. not (is_number_below bound e.0)) (enumerate_from n batches) ≡ enumerate_from n batches
 all_left bound n [] e = refl
 all_left bound n (b ∷ bs) e =
-    cond-true (not (is_below bound n)) ((n, b) ∷ left_from bound (enumerate_from (n + 1) bs)) (left_from bound (enumerate_from (n + 1) bs)) (ap not e)
+    cond-true (not (is_number_below bound n)) ((n, b) ∷ left_from bound (enumerate_from (n + 1) bs)) (left_from bound (enumerate_from (n + 1) bs)) (ap not e)
     ∙ ap (λ es. (n, b) ∷ es) (all_left bound (n + 1) bs (later_too bound n e))
 
 -- no batch is held of an earlier epoch

@@ -24,8 +24,8 @@ use Rattle.fw_bag.specs.Bag.{BagState, bag_sum}
 use Rattle.fw_bag.specs.Rec.{IsAscending}
 use Rattle.fw_bag.specs.declared.rec.Rec.{Rec}
 use Rattle.fw_bag.proofs.BagLaws.{same_from_how_often, how_often-bag_sum, IsAscending-bag_sum}
-use Rattle.fw_border.specs.Numbers.{numbered_recs}
-use Rattle.fw_border.specs.Outputs.{recs_at, AreByNumber}
+use Rattle.fw_border.specs.Numbers.{recs_by_number}
+use Rattle.fw_border.specs.Outputs.{recs_at_number, AreByNumber}
 
 -- what ascends is the sum with nothing
 pub bag_sum-nothing : (xs : List Rec) → IsAscending xs → bag_sum xs [] ≡ xs
@@ -47,55 +47,55 @@ got_item xs i (Some x) h = ap Some h.1 ∙ sym (slice_get-get_or xs i x.now h.3.
 
 -- the recs that are kept at a number
 pub recs_found : (x : ℕ) (o : Option BagState) (es : Bags) → o ≡ lookup (is_at (nat_cmp x)) es
-    → recs_at (numbered_recs es) x ≡ unwrap_or (option_map (λ (b : BagState). b.recs) o) []
+    → recs_at_number (recs_by_number es) x ≡ unwrap_or (option_map (λ (b : BagState). b.recs) o) []
 recs_found x o es e =
     ap (λ r. unwrap_or r []) (lookup-map_values (λ (b : BagState). b.recs) (is_at (nat_cmp x)) es ∙ ap (option_map (λ (b : BagState). b.recs)) (sym e))
 
 -- ---- the recs of changed bags
 
-pub numbered-set_value : (test : ℕ → Bool) (b : BagState) (es : Bags) → numbered_recs (set_value test es b) ≡ set_value test (numbered_recs es) b.recs
+pub numbered-set_value : (test : ℕ → Bool) (b : BagState) (es : Bags) → recs_by_number (set_value test es b) ≡ set_value test (recs_by_number es) b.recs
 numbered-set_value test b [] = refl
 numbered-set_value test b (e ∷ es) = by (test e.0) (numbered-set_value test b es)
   where
-    by : (c : Bool) → numbered_recs (set_value test es b) ≡ set_value test (numbered_recs es) b.recs
-        → numbered_recs (cond c ((e.0, b) ∷ es) (e ∷ set_value test es b)) ≡ cond c ((e.0, b.recs) ∷ numbered_recs es) ((e.0, e.1.recs) ∷ set_value test (numbered_recs es) b.recs)
+    by : (c : Bool) → recs_by_number (set_value test es b) ≡ set_value test (recs_by_number es) b.recs
+        → recs_by_number (cond c ((e.0, b) ∷ es) (e ∷ set_value test es b)) ≡ cond c ((e.0, b.recs) ∷ recs_by_number es) ((e.0, e.1.recs) ∷ set_value test (recs_by_number es) b.recs)
     by true h = refl
     by false h = ap (λ fs. (e.0, e.1.recs) ∷ fs) h
 
-pub numbered-remove_entry : (test : ℕ → Bool) (es : Bags) → numbered_recs (remove_entry test es) ≡ remove_entry test (numbered_recs es)
+pub numbered-remove_entry : (test : ℕ → Bool) (es : Bags) → recs_by_number (remove_entry test es) ≡ remove_entry test (recs_by_number es)
 numbered-remove_entry test [] = refl
 numbered-remove_entry test (e ∷ es) = by (test e.0) (numbered-remove_entry test es)
   where
-    by : (c : Bool) → numbered_recs (remove_entry test es) ≡ remove_entry test (numbered_recs es)
-        → numbered_recs (cond c es (e ∷ remove_entry test es)) ≡ cond c (numbered_recs es) ((e.0, e.1.recs) ∷ remove_entry test (numbered_recs es))
+    by : (c : Bool) → recs_by_number (remove_entry test es) ≡ remove_entry test (recs_by_number es)
+        → recs_by_number (cond c es (e ∷ remove_entry test es)) ≡ cond c (recs_by_number es) ((e.0, e.1.recs) ∷ remove_entry test (recs_by_number es))
     by true h = refl
     by false h = ap (λ fs. (e.0, e.1.recs) ∷ fs) h
 
-pub numbered-insert_entry : (x : ℕ) (b : BagState) (es : Bags) → numbered_recs (insert_entry nat_cmp es x b) ≡ insert_entry nat_cmp (numbered_recs es) x b.recs
+pub numbered-insert_entry : (x : ℕ) (b : BagState) (es : Bags) → recs_by_number (insert_entry nat_cmp es x b) ≡ insert_entry nat_cmp (recs_by_number es) x b.recs
 numbered-insert_entry x b [] = refl
 numbered-insert_entry x b (e ∷ es) = by (nat_cmp x e.0) (numbered-insert_entry x b es)
   where
-    by : (o : Ordering) → numbered_recs (insert_entry nat_cmp es x b) ≡ insert_entry nat_cmp (numbered_recs es) x b.recs
-        → numbered_recs (match_ordering o ((x, b) ∷ e ∷ es) ((e.0, b) ∷ es) (e ∷ insert_entry nat_cmp es x b))
-        ≡ match_ordering o ((x, b.recs) ∷ (e.0, e.1.recs) ∷ numbered_recs es) ((e.0, b.recs) ∷ numbered_recs es) ((e.0, e.1.recs) ∷ insert_entry nat_cmp (numbered_recs es) x b.recs)
+    by : (o : Ordering) → recs_by_number (insert_entry nat_cmp es x b) ≡ insert_entry nat_cmp (recs_by_number es) x b.recs
+        → recs_by_number (match_ordering o ((x, b) ∷ e ∷ es) ((e.0, b) ∷ es) (e ∷ insert_entry nat_cmp es x b))
+        ≡ match_ordering o ((x, b.recs) ∷ (e.0, e.1.recs) ∷ recs_by_number es) ((e.0, b.recs) ∷ recs_by_number es) ((e.0, e.1.recs) ∷ insert_entry nat_cmp (recs_by_number es) x b.recs)
     by Less h = refl
     by Equal h = refl
     by Greater h = ap (λ fs. (e.0, e.1.recs) ∷ fs) h
 
-pub numbered-filter : (p : ℕ → Bool) (es : Bags) → numbered_recs (filter (λ e. p e.0) es) ≡ filter (λ e. p e.0) (numbered_recs es)
+pub numbered-filter : (p : ℕ → Bool) (es : Bags) → recs_by_number (filter (λ e. p e.0) es) ≡ filter (λ e. p e.0) (recs_by_number es)
 numbered-filter p [] = refl
 numbered-filter p (e ∷ es) = by (p e.0) (numbered-filter p es)
   where
-    by : (c : Bool) → numbered_recs (filter (λ e. p e.0) es) ≡ filter (λ e. p e.0) (numbered_recs es)
-        → numbered_recs (cond c (e ∷ filter (λ e. p e.0) es) (filter (λ e. p e.0) es)) ≡ cond c ((e.0, e.1.recs) ∷ filter (λ e. p e.0) (numbered_recs es)) (filter (λ e. p e.0) (numbered_recs es))
+    by : (c : Bool) → recs_by_number (filter (λ e. p e.0) es) ≡ filter (λ e. p e.0) (recs_by_number es)
+        → recs_by_number (cond c (e ∷ filter (λ e. p e.0) es) (filter (λ e. p e.0) es)) ≡ cond c ((e.0, e.1.recs) ∷ filter (λ e. p e.0) (recs_by_number es)) (filter (λ e. p e.0) (recs_by_number es))
     by true h = ap (λ fs. (e.0, e.1.recs) ∷ fs) h
     by false h = h
 
 -- what is found at a number
-pub numbered-lookup : (x : ℕ) (es : Bags) → lookup (is_at (nat_cmp x)) (numbered_recs es) ≡ option_map (λ b. b.recs) (lookup (is_at (nat_cmp x)) es)
+pub numbered-lookup : (x : ℕ) (es : Bags) → lookup (is_at (nat_cmp x)) (recs_by_number es) ≡ option_map (λ b. b.recs) (lookup (is_at (nat_cmp x)) es)
 numbered-lookup x es = lookup-map_values (λ (b : BagState). b.recs) (is_at (nat_cmp x)) es
 
-pub numbered-keys : (es : Bags) → keys_of (numbered_recs es) ≡ keys_of es
+pub numbered-keys : (es : Bags) → keys_of (recs_by_number es) ≡ keys_of es
 numbered-keys es = keys_of-map_values (λ (b : BagState). b.recs) es
 
 -- ---- a number that has recs
@@ -119,22 +119,22 @@ inserted_there x v w (e ∷ es) s h = set_cases x v w e es s (inserted_there x v
 -- ---- a bag that is written
 
 -- the recs of a number that has a bag
-pub recs_there : (x : ℕ) (b : BagState) (es : Bags) → Some b ≡ lookup (is_at (nat_cmp x)) es → lookup (is_at (nat_cmp x)) (numbered_recs es) ≡ Some b.recs
+pub recs_there : (x : ℕ) (b : BagState) (es : Bags) → Some b ≡ lookup (is_at (nat_cmp x)) es → lookup (is_at (nat_cmp x)) (recs_by_number es) ≡ Some b.recs
 recs_there x b es e = numbered-lookup x es ∙ ap (option_map (λ (b : BagState). b.recs)) (sym e)
 
 -- a bag of the same recs changes nothing
 pub written_same : (x : ℕ) (b new : BagState) (es : Bags) → Some b ≡ lookup (is_at (nat_cmp x)) es → new.recs ≡ b.recs
-    → numbered_recs (set_value (is_at (nat_cmp x)) es new) ≡ numbered_recs es
+    → recs_by_number (set_value (is_at (nat_cmp x)) es new) ≡ recs_by_number es
 written_same x b new es e same =
-    numbered-set_value (is_at (nat_cmp x)) new es ∙ ap (set_value (is_at (nat_cmp x)) (numbered_recs es)) same
-    ∙ set_value_same (is_at (nat_cmp x)) (numbered_recs es) b.recs (recs_there x b es e)
+    numbered-set_value (is_at (nat_cmp x)) new es ∙ ap (set_value (is_at (nat_cmp x)) (recs_by_number es)) same
+    ∙ set_value_same (is_at (nat_cmp x)) (recs_by_number es) b.recs (recs_there x b es e)
 
 -- a bag of other recs is put in
-pub written_other : (x : ℕ) (b new : BagState) (es : Bags) (rs : List Rec) → IsStrictlySortedBy nat_cmp (keys_of (numbered_recs es)) → Some b ≡ lookup (is_at (nat_cmp x)) es → new.recs ≡ rs
-    → numbered_recs (set_value (is_at (nat_cmp x)) es new) ≡ insert_entry nat_cmp (numbered_recs es) x rs
+pub written_other : (x : ℕ) (b new : BagState) (es : Bags) (rs : List Rec) → IsStrictlySortedBy nat_cmp (keys_of (recs_by_number es)) → Some b ≡ lookup (is_at (nat_cmp x)) es → new.recs ≡ rs
+    → recs_by_number (set_value (is_at (nat_cmp x)) es new) ≡ insert_entry nat_cmp (recs_by_number es) x rs
 written_other x b new es rs s e other =
-    numbered-set_value (is_at (nat_cmp x)) new es ∙ ap (set_value (is_at (nat_cmp x)) (numbered_recs es)) other
-    ∙ sym (inserted_there x b.recs rs (numbered_recs es) s (recs_there x b es e))
+    numbered-set_value (is_at (nat_cmp x)) new es ∙ ap (set_value (is_at (nat_cmp x)) (recs_by_number es)) other
+    ∙ sym (inserted_there x b.recs rs (recs_by_number es) s (recs_there x b es e))
 
 -- ---- at each number there is a rec
 

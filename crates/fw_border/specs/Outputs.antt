@@ -34,17 +34,17 @@ abbrev pub with_output : (OutputState → OutputState) → List OutputState → 
 with_output change outputs o = slice_set outputs o (change (output_at outputs o))
 
 -- the recs at a number, none where none is kept
-abbrev pub recs_at : List (ℕ × List Rec) → ℕ → List Rec
-recs_at recs x = unwrap_or (lookup (is_at (nat_cmp x)) recs) []
+abbrev pub recs_at_number : List (ℕ × List Rec) → ℕ → List Rec
+recs_at_number recs x = unwrap_or (lookup (is_at (nat_cmp x)) recs) []
 
 -- with one rec more at a number, if that is not acknowledged
 abbrev pub with_rec_at : ℕ → Rec → OutputState → OutputState
 with_rec_at x r output =
-    if nat_lt x output.bound then output else record output { recs = insert_entry nat_cmp output.recs x (with_rec r (recs_at output.recs x)) }
+    if nat_lt x output.bound then output else record output { recs = insert_entry nat_cmp output.recs x (with_rec r (recs_at_number output.recs x)) }
 
 -- the recs at the bound, which are acknowledged next
 abbrev pub next_recs : OutputState → List Rec
-next_recs output = recs_at output.recs output.bound
+next_recs output = recs_at_number output.recs output.bound
 
 -- without the recs at the bound, which is one more
 abbrev pub acknowledged : OutputState → OutputState

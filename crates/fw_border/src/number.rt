@@ -10,7 +10,7 @@ use fw_time::Stamp;
 
 /// The least number outside: those inside are below it; all are inside where there is none.
 pub fn first_outside(f: &Front) -> Option<u32>
-    ensures { (x : ℕ) → inside f.now (x ∷ []) ≡ numbers.is_below result x }
+    ensures { (x : ℕ) → inside f.now (x ∷ []) ≡ numbers.is_number_below result x }
 {
     let mut first = None;
     for o in f.outside() {
@@ -21,7 +21,7 @@ pub fn first_outside(f: &Front) -> Option<u32>
 
 // The lesser of a bound and the stamp's number, if it has one coordinate.
 fn lowered(first: Option<u32>, o: &Stamp) -> Option<u32>
-    ensures { (x : ℕ) → numbers.is_below result x ≡ (not (leq o.now (x ∷ [])) && numbers.is_below first x) }
+    ensures { (x : ℕ) → numbers.is_number_below result x ≡ (not (leq o.now (x ∷ [])) && numbers.is_number_below first x) }
 {
     if o.len() != 1 {
         return first;
@@ -34,7 +34,7 @@ fn lowered(first: Option<u32>, o: &Stamp) -> Option<u32>
 
 /// Whether a number is below the bound, if there is one.
 pub fn is_below(bound: Option<u32>, x: u64) -> bool
-    ensures { result ≡ numbers.is_below bound x }
+    ensures { result ≡ numbers.is_number_below bound x }
 {
     match bound {
         Some(bound) => x < u64::from(bound),

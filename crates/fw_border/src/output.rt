@@ -6,8 +6,8 @@ ghost use Rattle.std.specs.Map.{lookup, remove_entry};
 ghost use Rattle.std.specs.Ordering.{nat_cmp};
 ghost use Rattle.fw_bag.specs.Bag.{with_rec};
 ghost use Rattle.fw_border.specs.Numbers as numbers;
-ghost use Rattle.fw_border.specs.Numbers.{numbered_recs};
-ghost use Rattle.fw_border.specs.Outputs.{recs_at, next_recs, with_rec_at, acknowledged, rolled_output, cleared, new_output, AreByNumber};
+ghost use Rattle.fw_border.specs.Numbers.{recs_by_number};
+ghost use Rattle.fw_border.specs.Outputs.{recs_at_number, next_recs, with_rec_at, acknowledged, rolled_output, cleared, new_output, AreByNumber};
 
 use crate::number::{first_outside, is_below};
 use fw_bag::{Bag, Rec};
@@ -25,14 +25,14 @@ pub struct Output {
 }
 
 impl Model for Output {
-    ghost use Rattle.fw_border.specs.Numbers.{numbered_recs};
+    ghost use Rattle.fw_border.specs.Numbers.{recs_by_number};
     ghost use Rattle.fw_border.specs.Outputs.{OutputState, AreByNumber};
 
     ghost Value = { OutputState };
 
-    ghost view = { λ output. record { bound = output.bound; recs = numbered_recs output.recs.entries } };
+    ghost view = { λ output. record { bound = output.bound; recs = recs_by_number output.recs.entries } };
 
-    ghost invariant = { λ output. AreByNumber (numbered_recs output.recs.entries) };
+    ghost invariant = { λ output. AreByNumber (recs_by_number output.recs.entries) };
 }
 
 impl Output {
@@ -110,17 +110,17 @@ impl Output {
 
 // The recs at a number, if any are kept.
 fn found_at(recs: &BTreeMap<u64, Bag>, x: u64) -> Option<&Bag>
-    ensures { option_map (λ b. b.now.recs) result ≡ lookup (is_at (nat_cmp x)) (numbered_recs recs.now.entries) }
+    ensures { option_map (λ b. b.now.recs) result ≡ lookup (is_at (nat_cmp x)) (recs_by_number recs.now.entries) }
 {
     recs.get(&x)
 }
 
 // Takes out the recs at a number.
 fn take_at(alloc: Global, recs: &mut BTreeMap<u64, Bag>, x: u64) -> Bag
-    requires { AreByNumber (numbered_recs recs.old.entries) }
-    ensures by_number { AreByNumber (numbered_recs recs.new.entries) }
-    ensures taken { result.recs ≡ recs_at (numbered_recs recs.old.entries) x }
-    ensures left { numbered_recs recs.new.entries ≡ remove_entry (is_at (nat_cmp x)) (numbered_recs recs.old.entries) }
+    requires { AreByNumber (recs_by_number recs.old.entries) }
+    ensures by_number { AreByNumber (recs_by_number recs.new.entries) }
+    ensures taken { result.recs ≡ recs_at_number (recs_by_number recs.old.entries) x }
+    ensures left { recs_by_number recs.new.entries ≡ remove_entry (is_at (nat_cmp x)) (recs_by_number recs.old.entries) }
 {
     match recs.remove(&x) {
         Some(bag) => bag,
@@ -130,11 +130,11 @@ fn take_at(alloc: Global, recs: &mut BTreeMap<u64, Bag>, x: u64) -> Bag
 
 // Keeps one more rec at a number.
 fn put_at(alloc: Global, recs: &mut BTreeMap<u64, Bag>, x: u64, rec: Rec) -> Result<(), AllocError>
-    requires { AreByNumber (numbered_recs recs.old.entries) }
-    ensures by_number { AreByNumber (numbered_recs recs.new.entries) }
-    ensures ok { OnOk result (numbered_recs recs.new.entries
-        ≡ insert_entry nat_cmp (numbered_recs recs.old.entries) x (with_rec rec (recs_at (numbered_recs recs.old.entries) x))) }
-    ensures err { OnErr result (numbered_recs recs.new.entries ≡ numbered_recs recs.old.entries) }
+    requires { AreByNumber (recs_by_number recs.old.entries) }
+    ensures by_number { AreByNumber (recs_by_number recs.new.entries) }
+    ensures ok { OnOk result (recs_by_number recs.new.entries
+        ≡ insert_entry nat_cmp (recs_by_number recs.old.entries) x (with_rec rec (recs_at_number (recs_by_number recs.old.entries) x))) }
+    ensures err { OnErr result (recs_by_number recs.new.entries ≡ recs_by_number recs.old.entries) }
 {
     if recs.contains_key(&x) {
         return put_more(recs, x, rec);
@@ -144,12 +144,12 @@ fn put_at(alloc: Global, recs: &mut BTreeMap<u64, Bag>, x: u64, rec: Rec) -> Res
 
 // Puts a rec into the bag of a number.
 fn put_more(recs: &mut BTreeMap<u64, Bag>, x: u64, rec: Rec) -> Result<(), AllocError>
-    requires by_number { AreByNumber (numbered_recs recs.old.entries) }
+    requires by_number { AreByNumber (recs_by_number recs.old.entries) }
     requires there { IsSome (lookup (is_at (nat_cmp x)) recs.old.entries) }
-    ensures by_number { AreByNumber (numbered_recs recs.new.entries) }
-    ensures ok { OnOk result (numbered_recs recs.new.entries
-        ≡ insert_entry nat_cmp (numbered_recs recs.old.entries) x (with_rec rec (recs_at (numbered_recs recs.old.entries) x))) }
-    ensures err { OnErr result (numbered_recs recs.new.entries ≡ numbered_recs recs.old.entries) }
+    ensures by_number { AreByNumber (recs_by_number recs.new.entries) }
+    ensures ok { OnOk result (recs_by_number recs.new.entries
+        ≡ insert_entry nat_cmp (recs_by_number recs.old.entries) x (with_rec rec (recs_at_number (recs_by_number recs.old.entries) x))) }
+    ensures err { OnErr result (recs_by_number recs.new.entries ≡ recs_by_number recs.old.entries) }
 {
     let Some(bag) = recs.get_mut(&x) else {
         unreachable!()
@@ -160,12 +160,12 @@ fn put_more(recs: &mut BTreeMap<u64, Bag>, x: u64, rec: Rec) -> Result<(), Alloc
 
 // Makes the bag of a number.
 fn put_new(alloc: Global, recs: &mut BTreeMap<u64, Bag>, x: u64, rec: Rec) -> Result<(), AllocError>
-    requires by_number { AreByNumber (numbered_recs recs.old.entries) }
+    requires by_number { AreByNumber (recs_by_number recs.old.entries) }
     requires absent { lookup (is_at (nat_cmp x)) recs.old.entries ≡ None }
-    ensures by_number { AreByNumber (numbered_recs recs.new.entries) }
-    ensures ok { OnOk result (numbered_recs recs.new.entries
-        ≡ insert_entry nat_cmp (numbered_recs recs.old.entries) x (with_rec rec (recs_at (numbered_recs recs.old.entries) x))) }
-    ensures err { OnErr result (numbered_recs recs.new.entries ≡ numbered_recs recs.old.entries) }
+    ensures by_number { AreByNumber (recs_by_number recs.new.entries) }
+    ensures ok { OnOk result (recs_by_number recs.new.entries
+        ≡ insert_entry nat_cmp (recs_by_number recs.old.entries) x (with_rec rec (recs_at_number (recs_by_number recs.old.entries) x))) }
+    ensures err { OnErr result (recs_by_number recs.new.entries ≡ recs_by_number recs.old.entries) }
 {
     let mut bag = Bag::new(alloc);
     bag.add(rec)?;
@@ -175,10 +175,10 @@ fn put_new(alloc: Global, recs: &mut BTreeMap<u64, Bag>, x: u64, rec: Rec) -> Re
 
 // Keeps the bags of the numbers below the bound, or all where there is none.
 fn keep_below(recs: &mut BTreeMap<u64, Bag>, bound: Option<u32>)
-    requires { AreByNumber (numbered_recs recs.old.entries) }
-    ensures by_number { AreByNumber (numbered_recs recs.new.entries) }
-    ensures kept { numbered_recs recs.new.entries
-        ≡ filter (λ e. numbers.is_below bound e.0) (numbered_recs recs.old.entries) }
+    requires { AreByNumber (recs_by_number recs.old.entries) }
+    ensures by_number { AreByNumber (recs_by_number recs.new.entries) }
+    ensures kept { recs_by_number recs.new.entries
+        ≡ filter (λ e. numbers.is_number_below bound e.0) (recs_by_number recs.old.entries) }
 {
     recs.retain(|x, _| is_below(bound, *x));
 }

@@ -5,7 +5,7 @@ ghost use Rattle.std.specs.BTreeMap.{is_at};
 ghost use Rattle.std.specs.Map.{lookup};
 ghost use Rattle.std.specs.Ordering.{nat_cmp};
 ghost use Rattle.fw_flow.specs.Projection.{first_coordinate};
-ghost use Rattle.fw_border.specs.Outputs.{new_output, output_at, with_output, recs_at, next_recs, with_rec_at, acknowledged, rolled_output, cleared, AreByNumber};
+ghost use Rattle.fw_border.specs.Outputs.{new_output, output_at, with_output, recs_at_number, next_recs, with_rec_at, acknowledged, rolled_output, cleared, AreByNumber};
 
 use crate::number::number_of;
 use crate::output::Output;
@@ -91,7 +91,7 @@ impl Outputs {
 
     /// The recs of an output at a stamp.
     pub fn at(&self, output: NodeId, at: &Stamp) -> &Bag
-        ensures { result.now.recs ≡ recs_at (output_at self.now.outputs output).recs (first_coordinate at.now) }
+        ensures { result.now.recs ≡ recs_at_number (output_at self.now.outputs output).recs (first_coordinate at.now) }
     {
         match recs_of(&self.outputs, output, number_of(at)) {
             Some(recs) => recs,

@@ -2,7 +2,7 @@
 ghost use Rattle.std.specs.Prelude.{◌≡◌, ◌+◌, ◌^◌, ◌<◌, ◌≤◌, not, length, filter, IfOk};
 ghost use Rattle.std.specs.Option.{option_map};
 ghost use Rattle.std.specs.List.{enumerate_from};
-ghost use Rattle.fw_lines.specs.Batches.{recs_of};
+ghost use Rattle.fw_lines.specs.Batches.{recs_of_bags};
 ghost use Rattle.fw_border.specs.Numbers as numbers;
 ghost use Rattle.fw_border.specs.Sources.{epochs_inside, unused_source, next_batch, advanced, rolled_source, given_up};
 
@@ -27,12 +27,12 @@ pub struct Source {
 impl Model for Source {
     ghost use Rattle.std.specs.Prelude.{◌≡◌, ◌≤◌, ◌+◌, length};
     ghost use Rattle.std.specs.List.{enumerate_from};
-    ghost use Rattle.fw_lines.specs.Batches.{recs_of};
+    ghost use Rattle.fw_lines.specs.Batches.{recs_of_bags};
     ghost use Rattle.fw_border.specs.Sources.{SourceState};
 
     ghost Value = { SourceState };
 
-    ghost view = { λ source. record { given = source.given; injected = source.injected; held = enumerate_from source.first (recs_of source.held.items) } };
+    ghost view = { λ source. record { given = source.given; injected = source.injected; held = enumerate_from source.first (recs_of_bags source.held.items) } };
 
     ghost invariant = { λ source. (source.given ≡ source.first + length source.held.items) × (source.injected ≤ source.given) };
 }
@@ -40,7 +40,7 @@ impl Model for Source {
 impl Source {
     /// An input with copies of these batches.
     pub fn new(alloc: Global, batches: &[Bag]) -> Result<Self, AllocError>
-        ensures { IfOk result (λ source. source ≡ unused_source (recs_of batches.now)) }
+        ensures { IfOk result (λ source. source ≡ unused_source (recs_of_bags batches.now)) }
     {
         Ok(Source {
             given: batches.len() as u64,
@@ -112,7 +112,7 @@ fn copied(alloc: Global, bag: &Bag) -> Result<Bag, AllocError>
 
 // These bags once more.
 fn copies(alloc: Global, bags: &[Bag]) -> Result<VecDeque<Bag>, AllocError>
-    ensures { IfOk result (λ all. recs_of all.items ≡ recs_of bags.now) }
+    ensures { IfOk result (λ all. recs_of_bags all.items ≡ recs_of_bags bags.now) }
 {
     let mut all = VecDeque::new(alloc);
     for bag in bags {
@@ -136,8 +136,8 @@ fn count_inside(f: &Front, epochs: u64) -> u64
 fn drop_below(held: &mut VecDeque<Bag>, first: &mut u64, bound: Option<u32>)
     requires { first.old + length held.old.items < 2 ^ 64 }
     ensures end { first.new + length held.new.items ≡ first.old + length held.old.items }
-    ensures left { enumerate_from first.new (recs_of held.new.items)
-        ≡ filter (λ batch. not (numbers.is_below bound batch.0)) (enumerate_from first.old (recs_of held.old.items)) }
+    ensures left { enumerate_from first.new (recs_of_bags held.new.items)
+        ≡ filter (λ batch. not (numbers.is_number_below bound batch.0)) (enumerate_from first.old (recs_of_bags held.old.items)) }
 {
     while is_below(bound, *first) && !held.is_empty() {
         let _bag = held.pop_front();

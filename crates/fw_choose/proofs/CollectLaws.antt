@@ -66,7 +66,7 @@ use Rattle.fw_choose.specs.declared.viewing.Lost.TheVariants.{All}
 use Rattle.fw_choose.specs.Chosen.{IsChosenBy}
 use Rattle.fw_running.specs.Faults.{fault_of}
 use Rattle.fw_running.specs.Steps.{TakesStep, StaysShaped, IsUndamaged, outcome_of}
-use Rattle.fw_choose.specs.Collecting.{AreLeft, AreGivenUp, IsRaised, AreRaised, IsCollected, has_low_base}
+use Rattle.fw_choose.specs.Collecting.{AreLeft, AreGivenUp, IsRaised, AreRaised, RaisesLow, has_low_base}
 use Rattle.fw_running.specs.Kept.{source_of}
 use Rattle.fw_running.specs.Logging.{with_keep}
 use Rattle.fw_running.specs.Shaped.{IsWrittenOf, IsShaped}
@@ -295,16 +295,16 @@ after-stands sys state old records between choice traces drops planned0 g t0 is 
 
 -- ---- of the engine that the calls leave
 
-new-is : (choice : Choice) (old new : Running) (c : IsCollected (watermark choice) old new) → new ≡ after_collect old c.between (watermark choice) new.traces
+new-is : (choice : Choice) (old new : Running) (c : RaisesLow (watermark choice) old new) → new ≡ after_collect old c.between (watermark choice) new.traces
 new-is choice old new c =
     c.rest ∙ ap (λ (parts : Parts). record old { parts = parts; traces = new.traces }) (c.parts ∙ ap (λ (parts : Parts). record parts { low = watermark choice }) c.given_up.rest)
 
-pub collected-shaped : (choice : Choice) (old new : Running) → IsCollected (watermark choice) old new → length (watermark choice) ≡ length old.flow.nodes
+pub collected-shaped : (choice : Choice) (old new : Running) → RaisesLow (watermark choice) old new → length (watermark choice) ≡ length old.flow.nodes
     → AreCanonical old.flow (watermark choice) → IsShaped old → IsShaped new
 collected-shaped choice old new c each canonical s =
     subst IsShaped (sym (new-is choice old new c)) (after-shaped old c.between (watermark choice) new.traces c.drops c.given_up c.traces each canonical s)
 
-pub collected-stands : (sys : System) (state : Machine) (records : Option Records) (choice : Choice) (old new : Running) → IsCollected (watermark choice) old new
+pub collected-stands : (sys : System) (state : Machine) (records : Option Records) (choice : Choice) (old new : Running) → RaisesLow (watermark choice) old new
     → IsWatermark sys state choice → watermark choice ≢ old.parts.low → Stands sys old records state → Stands sys new records (collected_state sys state (watermark choice))
 collected-stands sys state records choice old new c is differ s =
     subst (λ (r : Running). Stands sys r records (collected_state sys state (watermark choice))) (sym (new-is choice old new c))
@@ -360,7 +360,7 @@ collect-leads : (sys : System) (state : Machine) (old : Running) (records : Opti
 collect-leads sys state old records choice chosen differ s = other_low-collected sys state choice (chosen sys records state s) (λ e. differ (e ∙ sym s.low))
 
 -- where they are others, the step follows the machine's
-pub raise-follows : (old new : Running) (choice : Choice) → IsChosenBy old All choice → watermark choice ≢ old.parts.low → IsCollected (watermark choice) old new
+pub raise-follows : (old new : Running) (choice : Choice) → IsChosenBy old All choice → watermark choice ≢ old.parts.low → RaisesLow (watermark choice) old new
     → (records : Option Records) → TakesStep old records Collect (Ok (Did (Lows choice))) new records
 raise-follows old new choice chosen differ c records sys state s trusts = record {
   next = collected_state sys state (watermark choice);
@@ -392,7 +392,7 @@ sweep-left old mid keep before after stepped t same sweeps bytes sys state s =
     (f.next, outcome_of stepped, f.steps, swept-stands sys f.next mid keep before after same sweeps bytes f.stands)
 
 abbrev pub UndamagedSweep : KeepFault → Type 0
-UndamagedSweep f = stored.IsUndamaged {T = Unit {0}} (Err f)
+UndamagedSweep f = stored.GivesNoDamage {T = Unit {0}} (Err f)
 
 -- whatever the fault of a sweep is, the answer is right
 pub sweep-fails : (f : KeepFault) → UndamagedSweep f → (old mid : Running) (keep : KeepState) (before after : Option Records) (stepped : Stepped)

@@ -27,7 +27,7 @@ use Rattle.fw_model.specs.Thinned.{IsThinned}
 use Rattle.fw_model.specs.EventStamps.{StandForSent, StandForNumbered, AreStampsOf, IsOfCause}
 use Rattle.fw_model.specs.History.{injected_count, delivered_messages, IsLegal}
 use Rattle.fw_model.specs.Machine.{Machine, SerialEvent, events, front_of}
-use Rattle.fw_model.specs.Offers.{AreOnEdges, HasOneCause, IsOffered, AreOffersIn, AreAscending, covers_of, on_edge, stamps_on}
+use Rattle.fw_model.specs.Offers.{AreAtEdgeStamps, HasOneCause, IsOffered, AreOffersIn, RecordsAscend, covers_of, counted_on_edge, stamps_on}
 use Rattle.fw_model.proofs.AskedLaws.{reached-all}
 use Rattle.fw_model.proofs.ChoosingLaws.{recovery-has_choice}
 use Rattle.fw_model.proofs.DomainLaws.{has_epochs}
@@ -63,7 +63,7 @@ use Rattle.fw_running.specs.Stands.{Stands}
 -- some choice is consistent in each reached state, so the largest of what is offered is the machine's
 largest-in : {E : Type 0} (sys : System) (records : Option Records) (state : Machine) (running : Running) (lost : ℕ → Bool) (os : List Offer) (r : Result Choice E)
     → Stands sys running records state → AreOffersIn sys state lost os
-    → ((some : Choice) → AreAscending sys.flow os → IsConsistentBy sys.flow (covers_of sys.flow os) (IsOffered sys.flow os) some
+    → ((some : Choice) → RecordsAscend sys.flow os → IsConsistentBy sys.flow (covers_of sys.flow os) (IsOffered sys.flow os) some
     → IfOk r (IsLargestBy sys.flow (covers_of sys.flow os) (IsOffered sys.flow os)))
     → IfOk r (λ choice. IsLargest sys state (IsCandidate sys state lost kept) choice)
 largest-in sys records state running lost os r s a give =
@@ -95,15 +95,15 @@ view-of sys records state running lost view entries v e s = record {
 pub chosen-by : {E : Type 0} (running : Running) (lost : Lost) (view : List NodeView) (entries : List Entry) (os : List Offer) (r : Result Choice E)
     → AreViewsBy running lost (length running.flow.nodes) view → entries ≡ running.parts.keep.entries
     → ((sys : System) (state : Machine) (failed : ℕ → Bool) → sys.flow ≡ running.flow → IsViewOf sys state failed view entries → AreOffersIn sys state failed os)
-    → ((some : Choice) → AreAscending running.flow os → IsConsistentBy running.flow (covers_of running.flow os) (IsOffered running.flow os) some
+    → ((some : Choice) → RecordsAscend running.flow os → IsConsistentBy running.flow (covers_of running.flow os) (IsOffered running.flow os) some
     → IfOk r (IsLargestBy running.flow (covers_of running.flow os) (IsOffered running.flow os)))
     → IfOk r (IsChosenBy running lost)
 chosen-by running lost view entries os (Err x) v e exact give = tt
 chosen-by running lost view entries os (Ok choice) v e exact give = λ sys records state s.
     let a : AreOffersIn sys state (is_lost lost state) os = exact sys state (is_lost lost state) (sym s.flow) (view-of sys records state running lost view entries v e s) in
-    let given : (some : Choice) → AreAscending sys.flow os → IsConsistentBy sys.flow (covers_of sys.flow os) (IsOffered sys.flow os) some
+    let given : (some : Choice) → RecordsAscend sys.flow os → IsConsistentBy sys.flow (covers_of sys.flow os) (IsOffered sys.flow os) some
     → IsLargestBy sys.flow (covers_of sys.flow os) (IsOffered sys.flow os) choice =
-    subst (λ f. (some : Choice) → AreAscending f os → IsConsistentBy f (covers_of f os) (IsOffered f os) some → IsLargestBy f (covers_of f os) (IsOffered f os) choice) s.flow give in
+    subst (λ f. (some : Choice) → RecordsAscend f os → IsConsistentBy f (covers_of f os) (IsOffered f os) some → IsLargestBy f (covers_of f os) (IsOffered f os) choice) s.flow give in
     let r : Result Choice ℕ = Ok choice in
     chosen-is lost sys state choice (largest-in sys records state running (is_lost lost state) os r s a given)
 
@@ -147,7 +147,7 @@ views_more running lost n p view next node v at fits known is =
 passes-edge : (flow : Dataflow) (single : Bool) (m : Counted) → is_on_its_edge flow single m ≡ true → in_domain (bounds_of flow (receiver flow m.edge)) m.at ≡ true
 passes-edge flow single m e = (and_parts (in_domain (bounds_of flow (receiver flow m.edge)) m.at) (not single || length m.causes == 1) e).0
 
-edges-fit : (flow : Dataflow) (single : Bool) (ms : List Counted) → AreOnEdges flow (filter (is_on_its_edge flow single) ms)
+edges-fit : (flow : Dataflow) (single : Bool) (ms : List Counted) → AreAtEdgeStamps flow (filter (is_on_its_edge flow single) ms)
 edges-fit flow single ms =
     each-filter (λ (m : Counted). in_domain (bounds_of flow (receiver flow m.edge)) m.at ≡ true) (is_on_its_edge flow single) ms
     (each-one (λ (m : Counted). is_on_its_edge flow single m ≡ true → in_domain (bounds_of flow (receiver flow m.edge)) m.at ≡ true) ms (λ m e. passes-edge flow single m e))
@@ -197,9 +197,9 @@ view-fits running p raw node s stamps settled low border lost =
       low = subst (λ (f : Front). IsCanonical (bounds_of flow p) f) (sym low) (s.low p);
       border = border-fits (source_of running p) (output_of running p) (kind_of flow p) node.border border;
       lost = subst (λ (ts : List Stamp). AreOfDomain flow p ts) (sym lost) (stamps-fit flow p (lost_at running p));
-      delivered = subst (λ (all : Stamps). AreOnEdges flow all.delivered) (sym stamps) (edges-fit flow false raw.delivered);
+      delivered = subst (λ (all : Stamps). AreAtEdgeStamps flow all.delivered) (sym stamps) (edges-fit flow false raw.delivered);
       notified = subst (λ (all : Stamps). AreOfDomain flow p all.notified) (sym stamps) (stamps-fit flow p raw.notified);
-      sent = subst (λ (all : Stamps). AreOnEdges flow all.sent) (sym stamps) (edges-fit flow single raw.sent);
+      sent = subst (λ (all : Stamps). AreAtEdgeStamps flow all.sent) (sym stamps) (edges-fit flow single raw.sent);
       of_batches = λ e. subst (λ (all : Stamps). AllByRecursion HasOneCause all.sent) (sym stamps) (causes-fit flow single raw.sent (is-input (kind_of flow p) e));
     }
 
@@ -219,10 +219,10 @@ filters-turn {A = A} f g (x ∷ xs) = by (f x) (g x) refl refl (filters-turn f g
     by false false e k ih = ih
 
 -- a test that the messages of an edge pass leaves them
-same-on_edge : (test : Counted → Bool) (e : ℕ) (ms : List Counted) → AllByRecursion (λ m. test m ≡ true) (on_edge e ms) → on_edge e (filter test ms) ≡ on_edge e ms
-same-on_edge test e ms a = filters-turn (λ (m : Counted). m.edge == e) test ms ∙ filter-all test (on_edge e ms) a
+same-on_edge : (test : Counted → Bool) (e : ℕ) (ms : List Counted) → AllByRecursion (λ m. test m ≡ true) (counted_on_edge e ms) → counted_on_edge e (filter test ms) ≡ counted_on_edge e ms
+same-on_edge test e ms a = filters-turn (λ (m : Counted). m.edge == e) test ms ∙ filter-all test (counted_on_edge e ms) a
 
-all-on_edges : (flow : Dataflow) (ms : List Counted) → AreOnEdges flow ms → filter (is_on_its_edge flow false) ms ≡ ms
+all-on_edges : (flow : Dataflow) (ms : List Counted) → AreAtEdgeStamps flow ms → filter (is_on_its_edge flow false) ms ≡ ms
 all-on_edges flow ms a =
     filter-all (is_on_its_edge flow false) ms
     (each-weaker (λ (m : Counted). in_domain (bounds_of flow (receiver flow m.edge)) m.at ≡ true) (λ m. is_on_its_edge flow false m ≡ true) ms
@@ -255,14 +255,14 @@ stamps-stay sys h p base raw s = record {
     single = is_input_kind (kind_of flow p)
 
     by : (b : Bool) → single ≡ b → (e : ℕ) → e < length sys.flow.edges → sender sys.flow e ≡ p → is_sequence_kind (kind_of sys.flow p) ≡ false
-        → on_edge e (filter (is_on_its_edge flow single) raw.sent) ≡ on_edge e raw.sent
-    by false i e l k n = ap (λ b. on_edge e (filter (is_on_its_edge flow b) raw.sent)) i ∙ ap (λ ms. on_edge e ms) (all-on_edges flow raw.sent s.on_edges.1)
+        → counted_on_edge e (filter (is_on_its_edge flow single) raw.sent) ≡ counted_on_edge e raw.sent
+    by false i e l k n = ap (λ b. counted_on_edge e (filter (is_on_its_edge flow b) raw.sent)) i ∙ ap (λ ms. counted_on_edge e ms) (all-on_edges flow raw.sent s.on_edges.1)
     by true i e l k n =
-        ap (λ b. on_edge e (filter (is_on_its_edge flow b) raw.sent)) i
+        ap (λ b. counted_on_edge e (filter (is_on_its_edge flow b) raw.sent)) i
         ∙ same-on_edge (is_on_its_edge flow true) e raw.sent
-        (each-weaker (λ (m : Counted). (in_domain (bounds_of flow (receiver flow m.edge)) m.at ≡ true) × IsOfCause flow p m) (λ m. is_on_its_edge flow true m ≡ true) (on_edge e raw.sent)
+        (each-weaker (λ (m : Counted). (in_domain (bounds_of flow (receiver flow m.edge)) m.at ≡ true) × IsOfCause flow p m) (λ m. is_on_its_edge flow true m ≡ true) (counted_on_edge e raw.sent)
         (λ m x. passes-single flow m x.1.0 x.0 x.1.2)
-        (each-both (λ (m : Counted). in_domain (bounds_of flow (receiver flow m.edge)) m.at ≡ true) (IsOfCause flow p) (on_edge e raw.sent)
+        (each-both (λ (m : Counted). in_domain (bounds_of flow (receiver flow m.edge)) m.at ≡ true) (IsOfCause flow p) (counted_on_edge e raw.sent)
         (each-kept (λ (m : Counted). in_domain (bounds_of flow (receiver flow m.edge)) m.at ≡ true) (λ (m : Counted). m.edge == e) raw.sent s.on_edges.1)
         (s.sent n e l k).of_cause))
 

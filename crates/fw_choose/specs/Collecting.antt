@@ -48,7 +48,7 @@ pub record AreRaised (flow : Dataflow) (count : ℕ) (low : List Front) (old new
   pub live : new.refused ≡ false
 
 -- The low watermark rises to these fronts, and what is not needed again is given up.
-pub record IsCollected (low : List Front) (old new : Running) : Type 0 where
+pub record RaisesLow (low : List Front) (old new : Running) : Type 0 where
   pub rest : new ≡ record old { parts = new.parts; traces = new.traces }
   pub drops : Drops
   pub planned : IsPlanned old.flow low old.parts.keep.entries drops

@@ -8,7 +8,7 @@ ghost use Rattle.fw_keep.specs.Stored.{Records, IsStored};
 ghost use Rattle.fw_model.specs.Machine as machine;
 ghost use Rattle.fw_progress.specs.Trace.{HaveLists};
 ghost use Rattle.fw_rollback.specs.Edges.{on_edge};
-ghost use Rattle.fw_choose.specs.Collecting.{AreLeft, AreGivenUp, IsRaised, AreRaised, IsCollected};
+ghost use Rattle.fw_choose.specs.Collecting.{AreLeft, AreGivenUp, IsRaised, AreRaised, RaisesLow};
 ghost use Rattle.fw_running.specs.Shaped.{HasOneEach, IsShaped};
 ghost use Rattle.fw_running.specs.Steps.{StepAnswers, TakesStep};
 
@@ -59,7 +59,7 @@ fn give_up(running: &mut Running, choice: &Choice, low: Vec<Front>) -> Result<()
     requires live { running.old.traces.refused ≡ false }
     requires low { low.items ≡ watermark choice.now }
     requires low_each { length low.items ≡ length running.old.flow.nodes }
-    ensures collected { IfOk result (λ u. IsCollected (watermark choice.now) running.old running.new) }
+    ensures collected { IfOk result (λ u. RaisesLow (watermark choice.now) running.old running.new) }
     ensures flow { running.new.flow ≡ running.old.flow }
     ensures stored { (records : Option Records) → IsStored running.old.parts.keep records → IsStored running.new.parts.keep records }
 {

@@ -8,7 +8,7 @@ use Rattle.std.proofs.Math.Bool.{or-false}
 use Rattle.fw_lemmas.proofs.Bools.{or_swap}
 use Rattle.fw_lemmas.proofs.Filters.{filter-in, filter-out}
 use Rattle.fw_keep.specs.declared.entry.Entry.{Entry}
-use Rattle.fw_keep.specs.Catalogue.{KeepState, is_among, has_entry, ids_of, without}
+use Rattle.fw_keep.specs.Catalogue.{KeepState, is_id_among, has_entry, ids_of, without}
 use Rattle.fw_keep.specs.Stored.{Records, IsStored}
 use Rattle.fw_bag.specs.declared.rec.Rec.{Rec}
 use Rattle.fw_frontier.specs.Front.{inside}
@@ -17,7 +17,7 @@ use Rattle.fw_flow.specs.declared.event.Message.{Message}
 use Rattle.fw_edge.specs.Messages.{MessagesState}
 use Rattle.fw_border.specs.Sources.{SourceState, unused_source, source_at, with_source, given_up}
 use Rattle.fw_collect.specs.declared.drops.OfNode.{OfNode}
-use Rattle.fw_collect.specs.Dropped.{Forgets, log_at, log_outside, with_log_outside, log_left, is_inside_edge, is_inside_node, source_left}
+use Rattle.fw_collect.specs.Dropped.{Forgets, log_at_place, log_outside, with_log_outside, log_left, is_inside_edge, is_inside_node, source_left}
 
 -- ---- filters
 
@@ -88,7 +88,7 @@ gone-then f g h is id (e ∷ es) =
 pub forgets_nothing : (keep : KeepState) → Forgets (λ e. false) keep keep
 forgets_nothing keep = record {
   left = ap (λ es. record keep { entries = es }) (sym (filter_nothing keep.entries));
-  waiting = λ id. sym (ap (λ es. is_among id keep.waiting || has_entry id es) (filter-none keep.entries) ∙ or-false (is_among id keep.waiting));
+  waiting = λ id. sym (ap (λ es. is_id_among id keep.waiting || has_entry id es) (filter-none keep.entries) ∙ or-false (is_id_among id keep.waiting));
   stored = λ records s. s;
 }
   where
@@ -101,7 +101,7 @@ forgets-one : (goes : Entry → Bool) (old new : KeepState) → new ≡ without 
     → ((records : Option Records) → IsStored old records → IsStored new records) → Forgets goes old new
 forgets-one goes old new is stored = record {
   left = is ∙ ap (λ ids. record old { entries = filter (λ e. not (goes e)) old.entries; waiting = ids }) (sym (ap (λ (k : KeepState). k.waiting) is));
-  waiting = λ id. ap (λ (k : KeepState). is_among id k.waiting) is ∙ list_any-append (λ (other : ℕ). other == id) old.waiting (ids_of (filter goes old.entries));
+  waiting = λ id. ap (λ (k : KeepState). is_id_among id k.waiting) is ∙ list_any-append (λ (other : ℕ). other == id) old.waiting (ids_of (filter goes old.entries));
   stored = stored;
 }
 
@@ -114,9 +114,9 @@ forgets_then f g h a b c is one two =
     record {
       left = two.left ∙ ap then one.left ∙ ap (λ es. record a { entries = es; waiting = c.waiting }) (filter_then f g h is a.entries);
       waiting = λ id. two.waiting id ∙ ap (λ w. w || found id b) (one.waiting id)
-          ∙ ap (λ keep. (is_among id a.waiting || has_entry id (filter f a.entries)) || found id keep) one.left
-          ∙ or-assoc (is_among id a.waiting) (has_entry id (filter f a.entries)) (has_entry id (filter g (filter k a.entries)))
-          ∙ ap (λ w. is_among id a.waiting || w) (gone-then f g h is id a.entries);
+          ∙ ap (λ keep. (is_id_among id a.waiting || has_entry id (filter f a.entries)) || found id keep) one.left
+          ∙ or-assoc (is_id_among id a.waiting) (has_entry id (filter f a.entries)) (has_entry id (filter g (filter k a.entries)))
+          ∙ ap (λ w. is_id_among id a.waiting || w) (gone-then f g h is id a.entries);
       stored = λ records s. two.stored records (one.stored records s);
     }
 
@@ -180,19 +180,19 @@ no_log_changes e log = ap (λ ms. record log { messages = ms }) (sym (filter_not
 
 -- the logs after one front more of a list of them
 pub logs_more : (fronts : List OfEdge) (i : ℕ) (d : OfEdge) (first now next : List MessagesState) → i < length fronts
-    → ((e : ℕ) → log_at now e ≡ log_left (take i fronts) e (log_at first e))
+    → ((e : ℕ) → log_at_place now e ≡ log_left (take i fronts) e (log_at_place first e))
     → next ≡ with_log_outside (get_or fronts i d).front now (get_or fronts i d).edge
-    → (e : ℕ) → log_at next e ≡ log_left (take (i + 1) fronts) e (log_at first e)
+    → (e : ℕ) → log_at_place next e ≡ log_left (take (i + 1) fronts) e (log_at_place first e)
 logs_more fronts i d first now next l so_far is e =
     let q : OfEdge = get_or fronts i d in
     let b : Bool = e == q.edge in
-    let log : MessagesState = log_at first e in
+    let log : MessagesState = log_at_place first e in
     let with : List Message → MessagesState = λ ms. record log { messages = ms } in
     let before : Message → Bool = λ m. is_inside_edge (take i fronts) e m.at in
     let more : Message → Bool = λ m. inside q.front m.at in
     let after : Message → Bool = λ m. is_inside_edge (take (i + 1) fronts) e m.at in
     let left : List Message = filter (λ m. not (before m)) log.messages in
-    ap (λ logs. log_at logs e) is
+    ap (λ logs. log_at_place logs e) is
     ∙ get_or-changed (log_outside q.front) now q.edge e (record { messages = []; refused = false }) refl
     ∙ ap (λ x. cond b (log_outside q.front x) x) (so_far e)
     ∙ cond_ap with b (filter (λ m. not (more m)) left) left

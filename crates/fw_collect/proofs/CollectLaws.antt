@@ -33,7 +33,7 @@ use Rattle.fw_keep.specs.declared.entry.Entry.{Entry}
 use Rattle.fw_keep.specs.declared.entry.Written as entry
 use Rattle.fw_keep.specs.declared.entry.Written.TheVariants as written
 use Rattle.fw_record.specs.Event.{stamp_of_event}
-use Rattle.fw_keep.specs.Entry.{lies_below, is_event_at, is_below, is_at}
+use Rattle.fw_keep.specs.Entry.{is_checkpoint_below, is_event_at, is_entry_below, is_at}
 use Rattle.fw_collect.specs.declared.drops.AtNode.{AtNode}
 use Rattle.fw_collect.specs.declared.drops.OfNode.{OfNode}
 use Rattle.fw_collect.specs.declared.drops.Drops.{Drops}
@@ -102,11 +102,11 @@ policy-past flow p l = ap (λ (n : Node). takes_checkpoints n.policy) (get_or_pa
 
 -- which entries the fronts of nodes take out
 below-planned : (flow : Dataflow) (low : List Front) (e : Entry)
-    → is_below_some (dropped_records flow low) e ≡ (takes_checkpoints (policy_of flow e.node) && lies_below (front_of low e.node) e.written)
+    → is_below_some (dropped_records flow low) e ≡ (takes_checkpoints (policy_of flow e.node) && is_checkpoint_below (front_of low e.node) e.written)
 below-planned flow low e =
     let test : ℕ → Bool = λ p. takes_checkpoints (policy_of flow p) in
-    any-map (λ (d : OfNode). is_below d.node d.front e) (of_node low) (filter test (node_ids flow))
-    ∙ any-of_place test (λ p. lies_below (front_of low p) e.written) e.node (length flow.nodes) (policy-past flow e.node)
+    any-map (λ (d : OfNode). is_entry_below d.node d.front e) (of_node low) (filter test (node_ids flow))
+    ∙ any-of_place test (λ p. is_checkpoint_below (front_of low p) e.written) e.node (length flow.nodes) (policy-past flow e.node)
 
 -- whether what is written of node p is an event that is given up
 is-event_given_up : Dataflow → List Front → ℕ → entry.Written → Bool
@@ -172,9 +172,9 @@ events-complete flow low (x ∷ es) =
     )
 
 both-are : (flow : Dataflow) (low : List Front) (p : ℕ) (w : entry.Written)
-    → ((takes_checkpoints (policy_of flow p) && lies_below (front_of low p) w) || is-event_given_up flow low p w) ≡ is_written_given_up flow low p w
+    → ((takes_checkpoints (policy_of flow p) && is_checkpoint_below (front_of low p) w) || is-event_given_up flow low p w) ≡ is_written_given_up flow low p w
 unfolding is-event_given_up
-both-are flow low p (written.Checkpoint recorded stamps sent) = or-false (takes_checkpoints (policy_of flow p) && lies_below (front_of low p) (written.Checkpoint recorded stamps sent))
+both-are flow low p (written.Checkpoint recorded stamps sent) = or-false (takes_checkpoints (policy_of flow p) && is_checkpoint_below (front_of low p) (written.Checkpoint recorded stamps sent))
 both-are flow low p (written.Event event) =
     ap (λ b. b || is_given_up (without_batches flow) low p (stamp_of_event event)) (and-false (takes_checkpoints (policy_of flow p)))
 
@@ -186,7 +186,7 @@ drops_what_is_given_up flow low entries drops is =
     ap (λ ds. is_below_some ds e || is_at_some drops.events.items e) is.records
     ∙ ap (λ ds. is_below_some (dropped_records flow low) e || is_at_some ds e) is.events
     ∙ ap (λ b. b || is_at_some (dropped_events flow low entries) e) (below-planned flow low e)
-    ∙ ap (λ b. (takes_checkpoints (policy_of flow e.node) && lies_below (front_of low e.node) e.written) || b)
+    ∙ ap (λ b. (takes_checkpoints (policy_of flow e.node) && is_checkpoint_below (front_of low e.node) e.written) || b)
     (same_tests (is_at_some (dropped_events flow low entries) e) (is-event_given_up flow low e.node e.written) (events-sound flow low entries e) complete)
     ∙ both-are flow low e.node e.written)
     (events-complete flow low entries)

@@ -8,8 +8,8 @@ use Rattle.fw_model.specs.Filtering.{messages_outside}
 use Rattle.fw_edge.specs.Messages.{MessagesState}
 use Rattle.fw_border.specs.Sources.{SourceState}
 use Rattle.fw_keep.specs.declared.entry.Entry.{Entry}
-use Rattle.fw_keep.specs.Catalogue.{KeepState, is_among, has_entry}
-use Rattle.fw_keep.specs.Entry.{is_below, is_at}
+use Rattle.fw_keep.specs.Catalogue.{KeepState, is_id_among, has_entry}
+use Rattle.fw_keep.specs.Entry.{is_entry_below, is_at}
 use Rattle.fw_keep.specs.Stored.{Records, IsStored}
 use Rattle.fw_collect.specs.declared.drops.AtNode.{AtNode}
 use Rattle.fw_collect.specs.declared.drops.Drops.{Drops}
@@ -19,7 +19,7 @@ use Rattle.fw_collect.specs.declared.drops.OfNode.{OfNode}
 
 -- whether the entry is a checkpoint of one of these nodes strictly within the front beside it
 abbrev pub is_below_some : List OfNode → Entry → Bool
-is_below_some records e = list_any (λ (d : OfNode). is_below d.node d.front e) records
+is_below_some records e = list_any (λ (d : OfNode). is_entry_below d.node d.front e) records
 
 -- whether the entry is an event of one of these nodes at the stamp beside it
 abbrev pub is_at_some : List AtNode → Entry → Bool
@@ -33,7 +33,7 @@ is_dropped drops e = is_below_some drops.records.items e || is_at_some drops.eve
 -- catalogue stays the same.
 pub record Forgets (goes : Entry → Bool) (old new : KeepState) : Type 0 where
   pub left : new ≡ record old { entries = filter (λ e. not (goes e)) old.entries; waiting = new.waiting }
-  pub waiting : (id : ℕ) → is_among id new.waiting ≡ (is_among id old.waiting || has_entry id (filter goes old.entries))
+  pub waiting : (id : ℕ) → is_id_among id new.waiting ≡ (is_id_among id old.waiting || has_entry id (filter goes old.entries))
   pub stored : (records : Option Records) → IsStored old records → IsStored new records
 
 -- ---- logs
@@ -43,8 +43,8 @@ abbrev pub is_inside_edge : List OfEdge → ℕ → Stamp → Bool
 is_inside_edge fronts e t = list_any (λ (d : OfEdge). (e == d.edge) && inside d.front t) fronts
 
 -- the log at a place; an empty one past the last
-abbrev pub log_at : List MessagesState → ℕ → MessagesState
-log_at logs e = slice_index_or logs e (record { messages = []; refused = false })
+abbrev pub log_at_place : List MessagesState → ℕ → MessagesState
+log_at_place logs e = slice_index_or logs e (record { messages = []; refused = false })
 
 -- a log without the messages inside a front
 abbrev pub log_outside : Front → MessagesState → MessagesState
@@ -52,7 +52,7 @@ log_outside f log = record log { messages = messages_outside (inside f) log.mess
 
 -- the logs with that at a place without the messages inside a front
 abbrev pub with_log_outside : Front → List MessagesState → ℕ → List MessagesState
-with_log_outside f logs e = slice_set logs e (log_outside f (log_at logs e))
+with_log_outside f logs e = slice_set logs e (log_outside f (log_at_place logs e))
 
 -- the log of edge e without the messages inside the fronts that stand beside the edge
 abbrev pub log_left : List OfEdge → ℕ → MessagesState → MessagesState

@@ -18,7 +18,7 @@ use Rattle.fw_keep.specs.declared.entry.Entry.{Entry}
 use Rattle.fw_keep.specs.declared.entry.Written as entry
 use Rattle.fw_keep.specs.declared.entry.Written.TheVariants as written
 use Rattle.fw_record.specs.Event.{stamp_of_event}
-use Rattle.fw_keep.specs.Entry.{lies_below}
+use Rattle.fw_keep.specs.Entry.{is_checkpoint_below}
 use Rattle.fw_edge.specs.Messages.{MessagesState}
 use Rattle.fw_border.specs.Sources.{SourceState, given_up}
 use Rattle.fw_collect.specs.declared.drops.Drops.{Drops}
@@ -31,7 +31,7 @@ use Rattle.fw_collect.specs.Dropped.{is_dropped, log_outside, log_left, source_l
 -- the node's, an event at a stamp that is given up
 abbrev pub is_written_given_up : Dataflow → List Front → ℕ → entry.Written → Bool
 is_written_given_up flow low p (written.Checkpoint recorded stamps sent) =
-    takes_checkpoints (policy_of flow p) && lies_below (front_of low p) (written.Checkpoint recorded stamps sent)
+    takes_checkpoints (policy_of flow p) && is_checkpoint_below (front_of low p) (written.Checkpoint recorded stamps sent)
 is_written_given_up flow low p (written.Event event) = is_given_up (without_batches flow) low p (stamp_of_event event)
 
 -- of these entries those go that are given up, each by itself: an event's stamp takes no other event with it

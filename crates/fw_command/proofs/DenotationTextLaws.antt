@@ -8,7 +8,7 @@ use Rattle.fw_bag.specs.declared.rec.Rec.{Rec}
 use Rattle.fw_bag.specs.RecText.{rec_text}
 use Rattle.fw_lines.specs.Batches.{batches_at}
 use Rattle.fw_flow.specs.Dataflow.{Dataflow, System, system_of, batches_of, batches_of_nodes}
-use Rattle.fw_flow.specs.WholeBags.{Timed, recs_where}
+use Rattle.fw_flow.specs.WholeBags.{Timed, timed_where}
 use Rattle.fw_running.specs.EffectText.{recs_text}
 use Rattle.fw_flow.specs.WellFormed.{IsWellFormedSystem}
 use Rattle.fw_model.specs.Denotation.{rounds}
@@ -21,17 +21,17 @@ use Rattle.fw_command.specs.DenotationText.{rec_at_text, greatest, denotation_te
 use Rattle.fw_command.specs.Writing.{IsCutOff, WritesText}
 
 -- the recs of an epoch, each as it comes
-pub recs_made : (x : ℕ) (bag : List Timed) → flat_map (rec_at_text x) bag ≡ recs_text (recs_where (same (x ∷ [])) bag)
+pub recs_made : (x : ℕ) (bag : List Timed) → flat_map (rec_at_text x) bag ≡ recs_text (timed_where (same (x ∷ [])) bag)
 recs_made x [] = refl
 recs_made x (r ∷ bag) = by (same (x ∷ []) r.at) (recs_made x bag)
   where
-    by : (b : Bool) → flat_map (rec_at_text x) bag ≡ recs_text (recs_where (same (x ∷ [])) bag) → cond b (codes " " ++ rec_text r.rec) [] ++ flat_map (rec_at_text x) bag
+    by : (b : Bool) → flat_map (rec_at_text x) bag ≡ recs_text (timed_where (same (x ∷ [])) bag) → cond b (codes " " ++ rec_text r.rec) [] ++ flat_map (rec_at_text x) bag
         ≡ recs_text (map (λ (t : Timed). t.rec) (cond b (r ∷ filter (λ (t : Timed). same (x ∷ []) t.at) bag) (filter (λ (t : Timed). same (x ∷ []) t.at) bag)))
     by true h = ap (λ t. (codes " " ++ rec_text r.rec) ++ t) h
     by false h = h
 
 -- and so of all of them
-pub recs_all : (x : ℕ) (bag : List Timed) (i : ℕ) → length bag ≤ i → flat_map (rec_at_text x) (take i bag) ≡ recs_text (recs_where (same (x ∷ [])) bag)
+pub recs_all : (x : ℕ) (bag : List Timed) (i : ℕ) → length bag ≤ i → flat_map (rec_at_text x) (take i bag) ≡ recs_text (timed_where (same (x ∷ [])) bag)
 recs_all x bag i l = ap (flat_map (rec_at_text x)) (take_all i bag l) ∙ recs_made x bag
 
 -- the greatest of one number more

@@ -15,7 +15,7 @@ use Rattle.fw_time.specs.Stamp.{Stamp, same, stamp_cmp}
 use Rattle.fw_time.proofs.StampLaws.{same-is}
 use Rattle.fw_bag.specs.declared.rec.Rec.{Rec}
 use Rattle.fw_bag.specs.Rec.{rec_cmp}
-use Rattle.fw_flow.specs.WholeBags.{Timed, timed_cmp, recs_where, in_order}
+use Rattle.fw_flow.specs.WholeBags.{Timed, timed_cmp, timed_where, in_order}
 use Rattle.fw_model.proofs.TimedLaws.{IsAscendingTimed}
 use Rattle.fw_model.proofs.DependenceLaws.{ascending-from_in_order}
 use Rattle.fw_running.specs.EffectText.{recs_text}
@@ -77,19 +77,19 @@ abbrev pub IsEpochsEnd : ℕ → List Timed → ℕ → Type 0
 IsEpochsEnd x rs i = IsPartitionPoint (λ (r : Timed). leb (after_epoch r.at) (x + 1) ≡ true) (λ (r : Timed). leb (after_epoch r.at) (x + 1) ≡ false) rs i
 
 -- the recs of the epoch stand before its end
-pub recs_before : (x : ℕ) (rs : List Timed) (i : ℕ) → IsEpochsEnd x rs i → recs_where (same (x ∷ [])) (take i rs) ≡ recs_where (same (x ∷ [])) rs
+pub recs_before : (x : ℕ) (rs : List Timed) (i : ℕ) → IsEpochsEnd x rs i → timed_where (same (x ∷ [])) (take i rs) ≡ timed_where (same (x ∷ [])) rs
 recs_before x rs i p =
     ap (map (λ (r : Timed). r.rec))
     (filter-front (λ (r : Timed). same (x ∷ []) r.at) rs i
     (λ k d l m. not_epoch x (get_or rs k d).at _ refl (λ e. let n = leb-false (after_epoch (get_or rs k d).at) (x + 1) (p.1 k d l m) in absurd (omega arith))))
 
 -- and those of each later epoch from there on
-pub recs_later : (x y : ℕ) (rs : List Timed) (i : ℕ) → IsEpochsEnd x rs i → x < y → recs_where (same (y ∷ [])) (drop i rs) ≡ recs_where (same (y ∷ [])) rs
+pub recs_later : (x y : ℕ) (rs : List Timed) (i : ℕ) → IsEpochsEnd x rs i → x < y → timed_where (same (y ∷ [])) (drop i rs) ≡ timed_where (same (y ∷ [])) rs
 recs_later x y rs i p h =
     ap (map (λ (r : Timed). r.rec))
     (sym (filter-dropped (λ (r : Timed). same (y ∷ []) r.at) rs i
     (λ k d l m. not_epoch y (get_or rs k d).at _ refl (λ e. let n = leb-true (after_epoch (get_or rs k d).at) (x + 1) (p.0 k d (omega arith) l) in absurd (omega arith)))))
 
 -- the line of an epoch is that of the part with its recs
-pub part_line : (name : List ℕ) (bag part : List Timed) (x : ℕ) → recs_where (same (x ∷ [])) part ≡ recs_where (same (x ∷ [])) bag → epoch_line name part x ≡ epoch_line name bag x
+pub part_line : (name : List ℕ) (bag part : List Timed) (x : ℕ) → timed_where (same (x ∷ [])) part ≡ timed_where (same (x ∷ [])) bag → epoch_line name part x ≡ epoch_line name bag x
 part_line name bag part x e = ap (λ (rs : List Rec). codes "out " ++ name ++ codes " epoch " ++ decimal x ++ recs_text rs ++ codes "\n") e

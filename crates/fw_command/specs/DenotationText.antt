@@ -8,7 +8,7 @@ use Rattle.fw_bag.specs.RecText.{rec_text}
 use Rattle.fw_flow.specs.declared.kind.Kind.{Kind}
 use Rattle.fw_flow.specs.declared.kind.Kind.TheVariants.{OutputEpoch, OutputNumber}
 use Rattle.fw_flow.specs.Dataflow.{System, node_at, kind_of, node_ids, in_edges, batches_of}
-use Rattle.fw_flow.specs.WholeBags.{Timed, recs_where}
+use Rattle.fw_flow.specs.WholeBags.{Timed, timed_where}
 use Rattle.fw_model.specs.Denotation.{Family, IsDenotation}
 use Rattle.fw_running.specs.EffectText.{recs_text}
 
@@ -19,7 +19,7 @@ rec_at_text x r = if same (x ∷ []) r.at then codes " " ++ rec_text r.rec else 
 -- `out OUTPUT epoch EPOCH KEY:VALUE ..`
 abbrev pub epoch_line : List ℕ → List Timed → ℕ → List ℕ
 epoch_line name bag x =
-    codes "out " ++ name ++ codes " epoch " ++ decimal x ++ recs_text (recs_where (same (x ∷ [])) bag) ++ codes "\n"
+    codes "out " ++ name ++ codes " epoch " ++ decimal x ++ recs_text (timed_where (same (x ∷ [])) bag) ++ codes "\n"
 
 -- `out OUTPUT number NUMBER KEY:VALUE`
 abbrev pub number_line : List ℕ → Timed → List ℕ

@@ -21,10 +21,10 @@ use Rattle.fw_command.specs.Command.{Origin, Seeded}
 use Rattle.fw_command.specs.Texts.{HasText, HasTexts, Accepts, spelled_system, spelled_items}
 
 -- where the fault is a refusal it is one of these; the other faults say nothing here
-abbrev pub IfRefused : (Refusal → Type 0) → JobFault → Type 0
-IfRefused P Failed = Unit {0}
-IfRefused P (Refused refusal) = P refusal
-IfRefused P NoMemory = Unit {0}
+abbrev pub IfJobRefused : (Refusal → Type 0) → JobFault → Type 0
+IfJobRefused P Failed = Unit {0}
+IfJobRefused P (Refused refusal) = P refusal
+IfJobRefused P NoMemory = Unit {0}
 
 -- how often a folder has failed after an answer of this kind: once more where it failed, and else as often as before
 abbrev pub read_faults_after : {T : Type 0} → Result T JobFault → ℕ → ℕ
@@ -66,6 +66,6 @@ pub record IsFed (told : Option (List ℕ → Option (List ℕ))) (origin : Orig
   pub system : system_of fed.flow fed.batches ≡ spelled_system fed.flow texts
 
 -- what a run of items asks: the engine a well-formed system, and the counts of steps that they are not too many
-pub record IsReady (sys : System) (items : List Item) : Type 0 where
+pub record IsReadyToRun (sys : System) (items : List Item) : Type 0 where
   pub well_formed : IsWellFormedSystem sys
   pub few : step_count items ≤ step_limit

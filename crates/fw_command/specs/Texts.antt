@@ -13,13 +13,13 @@ use Rattle.fw_schedule.specs.Grammar.{items_of}
 use Rattle.fw_schedule.specs.Grammar as schedules
 use Rattle.fw_generate.specs.Draws.{words_from}
 use Rattle.fw_schedule.specs.Texts.{IsScheduleOf}
-use Rattle.fw_generate.specs.Laws.{AreAccepted, size_limit}
+use Rattle.fw_generate.specs.Laws.{AreAccepted, accepted_size_limit}
 use Rattle.fw_generate.specs.Texts.{Texts, texts_of}
 use Rattle.fw_command.specs.Command.{ReadAs, as_inputs, as_schedule, NamedText, Origin, in_folder, generated, Seeded}
 
 -- for each node of a dataflow the batches that a text gives it, by epoch
 abbrev pub spelled_batches : Dataflow → List ℕ → List (List (List Rec))
-spelled_batches flow text = map (inputs.batches_of (sources_of flow) (said_lines text)) (node_ids flow)
+spelled_batches flow text = map (inputs.batches_said_of (sources_of flow) (said_lines text)) (node_ids flow)
 
 -- a dataflow with the batches that the texts give it
 abbrev pub spelled_system : Dataflow → Texts → System
@@ -43,8 +43,8 @@ IsReadFor as_schedule flow text = IsScheduleOf flow text
 
 -- the text is refused where it is read so for the dataflow
 abbrev pub IsRefusedFor : ReadAs → Dataflow → List ℕ → Refusal → Type 0
-IsRefusedFor as_inputs flow text refusal = inputs.IsRefused text (sources_of flow) refusal
-IsRefusedFor as_schedule flow text refusal = schedules.IsRefused text flow refusal
+IsRefusedFor as_inputs flow text refusal = inputs.AreRefusedInputs text (sources_of flow) refusal
+IsRefusedFor as_schedule flow text refusal = schedules.IsRefusedSchedule text flow refusal
 
 -- ---- what a folder has
 
@@ -56,11 +56,11 @@ pub record HasText (told : Option (List ℕ → Option (List ℕ))) (name : List
 
 -- the text under the name is accepted, and declares this dataflow
 abbrev pub HasFlow : Option (List ℕ → Option (List ℕ)) → List ℕ → Dataflow → Type 0
-HasFlow told name flow = HasText told name (λ text. flows.IsAccepted text flow)
+HasFlow told name flow = HasText told name (λ text. flows.IsAcceptedFlow text flow)
 
 -- the text under the name is refused as a flow's
 abbrev pub IsFlowRefused : Option (List ℕ → Option (List ℕ)) → List ℕ → Refusal → Type 0
-IsFlowRefused told name refusal = HasText told name (λ text. flows.IsRefused text refusal)
+IsFlowRefused told name refusal = HasText told name (λ text. flows.IsRefusedFlow text refusal)
 
 -- the text under the name is accepted, read for the dataflow
 abbrev pub HasRead : Option (List ℕ → Option (List ℕ)) → Dataflow → NamedText → Type 0
@@ -87,8 +87,8 @@ IsFirstBehind told flow (named ∷ others) refusal =
     HasRefusedText told flow named refusal ⊎ (HasRead told flow named × IsFirstBehind told flow others refusal)
 
 -- of the text of a flow and those behind it, in this order, the first that is not accepted is refused so
-abbrev pub IsFirstRefusal : Option (List ℕ → Option (List ℕ)) → List ℕ → List NamedText → Refusal → Type 0
-IsFirstRefusal told name others refusal =
+abbrev pub IsFirstTextRefused : Option (List ℕ → Option (List ℕ)) → List ℕ → List NamedText → Refusal → Type 0
+IsFirstTextRefused told name others refusal =
     IsFlowRefused told name refusal ⊎ ((flow : Dataflow) × HasFlow told name flow × IsFirstBehind told flow others refusal)
 
 -- A folder was asked for the first of the texts, if its calls were counted from the first number to the second, or for more of them:
@@ -108,7 +108,7 @@ IsAskedInTurn told name others before after =
 -- these are the generated texts of the seed and the size
 pub record AreGenerated (seeded : Seeded) (texts : Texts) : Type 0 where
   pub drawn : texts ≡ texts_of seeded.size (words_from seeded.seed)
-  pub size : seeded.size ≤ size_limit
+  pub size : seeded.size ≤ accepted_size_limit
 
 -- the folder has these texts under their names, where it tells its texts; or they are generated
 abbrev pub HasTexts : Option (List ℕ → Option (List ℕ)) → Origin → Texts → Type 0
@@ -117,12 +117,12 @@ HasTexts told (generated seeded) texts = AreGenerated seeded texts
 
 -- the texts are accepted, of which the flow's declares this dataflow; those that are not read do not count
 abbrev pub Accepts : Origin → Texts → Dataflow → Type 0
-Accepts (in_folder name others) texts flow = flows.IsAccepted texts.flow flow × AreReadFor flow others texts
+Accepts (in_folder name others) texts flow = flows.IsAcceptedFlow texts.flow flow × AreReadFor flow others texts
 Accepts (generated seeded) texts flow = AreAccepted texts flow
 
 -- the first of the texts that is not accepted is refused so; generated texts are accepted
 abbrev pub Refuses : Option (List ℕ → Option (List ℕ)) → Origin → Refusal → Type 0
-Refuses told (in_folder name others) refusal = IsFirstRefusal told name others refusal
+Refuses told (in_folder name others) refusal = IsFirstTextRefused told name others refusal
 Refuses told (generated seeded) refusal = ⊥
 
 -- A folder is asked no more often than this, if its calls were counted from the first number to the second: once, and once more for each

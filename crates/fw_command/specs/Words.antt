@@ -6,7 +6,7 @@ use Rattle.std.specs.Borrow.{Bor}
 use Rattle.fw_lines.specs.declared.numeral.Number.{Number}
 use Rattle.fw_lines.specs.declared.numeral.Number.TheVariants.{Value}
 use Rattle.fw_lines.specs.Spelling.{number_of}
-use Rattle.fw_generate.specs.Laws.{size_limit}
+use Rattle.fw_generate.specs.Laws.{accepted_size_limit}
 use Rattle.fw_command.specs.Command.{Command, Seeded, SystemNames, TextNames, run, endure, generate, denote, check}
 use Rattle.fw_command.specs.declared.words.DenoteWords.{DenoteWords}
 use Rattle.fw_command.specs.declared.words.GenerateWords.{GenerateWords}
@@ -30,7 +30,7 @@ check_of words = None
 
 -- the size is one of those of which texts are generated
 abbrev pub is_size : ℕ → Bool
-is_size size = nat_le 1 size && nat_le size size_limit
+is_size size = nat_le 1 size && nat_le size accepted_size_limit
 
 -- generated texts, if these are a seed and a size
 abbrev pub generate_by : Number → Number → Option Command
@@ -80,7 +80,7 @@ seeded_in words = record { seed = words.seed; size = words.size }
 
 -- the size of what is generated, if texts are, is one of those that there are
 abbrev pub IsOfSize : CommandWords → Type 0
-IsOfSize (Generate words) = words.size ≤ size_limit
+IsOfSize (Generate words) = words.size ≤ accepted_size_limit
 IsOfSize words = Unit {0}
 
 -- the command that parsed words give

@@ -5,7 +5,7 @@ ghost use Rattle.std.specs.Option.{option_copied};
 ghost use Rattle.fw_time.specs.Stamp.{same};
 ghost use Rattle.fw_flow.specs.Dataflow.{system_of};
 ghost use Rattle.fw_flow.specs.WellFormed.{IsWellFormedSystem};
-ghost use Rattle.fw_flow.specs.WholeBags.{in_order, recs_where};
+ghost use Rattle.fw_flow.specs.WholeBags.{in_order, timed_where};
 ghost use Rattle.fw_model.specs.Denotation.{AreInOrder};
 ghost use Rattle.fw_denote.specs.Holding.{family_on};
 ghost use Rattle.fw_command.specs.DenotationText.{PrintsDenotation, denotation_text, epochs_told, epochs_to, after_epoch, most_batches};
@@ -217,8 +217,8 @@ impl<'a> fmt::Display for EpochLines<'a> {
 fn parted(rest: &[Timed], epoch: u64) -> (&[Timed], &[Timed])
     requires ordered { IsNonDecreasingBy (λ r. after_epoch r.at) rest.now }
     requires one_more { epoch < 2 ^ 64 - 1 }
-    ensures of_epoch { recs_where (same (epoch ∷ [])) result.0.now ≡ recs_where (same (epoch ∷ [])) rest.now }
-    ensures of_later { (x : ℕ) → epoch < x → recs_where (same (x ∷ [])) result.1.now ≡ recs_where (same (x ∷ [])) rest.now }
+    ensures of_epoch { timed_where (same (epoch ∷ [])) result.0.now ≡ timed_where (same (epoch ∷ [])) rest.now }
+    ensures of_later { (x : ℕ) → epoch < x → timed_where (same (x ∷ [])) result.1.now ≡ timed_where (same (x ∷ [])) rest.now }
     ensures ordered { IsNonDecreasingBy (λ r. after_epoch r.at) result.1.now }
 {
     let next = epoch + 1;
@@ -260,10 +260,10 @@ struct RecsOf<'a> {
 impl<'a> fmt::Display for RecsOf<'a> {
     ghost use Rattle.std.specs.Prelude.{Some, [], ◌∷◌};
     ghost use Rattle.fw_time.specs.Stamp.{same};
-    ghost use Rattle.fw_flow.specs.WholeBags.{recs_where};
+    ghost use Rattle.fw_flow.specs.WholeBags.{timed_where};
     ghost use Rattle.fw_running.specs.EffectText.{recs_text};
 
-    ghost output = { λ l. Some (recs_text (recs_where (same (l.epoch ∷ [])) l.bag.now)) };
+    ghost output = { λ l. Some (recs_text (timed_where (same (l.epoch ∷ [])) l.bag.now)) };
 
     fn fmt<W: fmt::Write>(&self, f: &mut fmt::Formatter<W>) -> fmt::Result {
         for timed in self.bag {

@@ -7,8 +7,8 @@ ghost use Rattle.fw_flow.specs.Sources.{sources_of};
 ghost use Rattle.fw_flow.specs.WellFormed.{IsWellFormedSystem};
 ghost use Rattle.fw_schedule.specs.Grammar as schedules;
 ghost use Rattle.fw_schedule.specs.Schedule.{step_count, step_limit};
-ghost use Rattle.fw_generate.specs.Laws.{size_limit};
-ghost use Rattle.fw_command.specs.Reading.{IfRefused, IsTooLarge, IsJob, IsGenerated, IsFed, IsReady, read_faults_after};
+ghost use Rattle.fw_generate.specs.Laws.{accepted_size_limit};
+ghost use Rattle.fw_command.specs.Reading.{IfJobRefused, IsTooLarge, IsJob, IsGenerated, IsFed, IsReadyToRun, read_faults_after};
 ghost use Rattle.fw_command.specs.Words.{seeded_in, text_names_in, system_names_in};
 ghost use Rattle.fw_command.specs.Command.{three_texts, two_texts};
 ghost use Rattle.fw_command.specs.Texts.{HasText, HasFlow, IsFlowRefused, Refuses, AsksNoMore};
@@ -75,8 +75,8 @@ impl From<ReadFault> for JobFault {
 /// Reads the three texts, each before the next one is fetched.
 pub fn read_job<F: Folder>(alloc: Global, words: &RunWords, folder: &mut F) -> Result<Job, JobFault>
     ensures job { IfOk result (IsJob (F.texts folder.old) (three_texts (text_names_in words.now))) }
-    ensures ready { IfOk result (λ job. IsReady (system_of job.flow job.batches) job.items) }
-    ensures refused { IfErr result (IfRefused (Refuses (F.texts folder.old) (three_texts (text_names_in words.now)))) }
+    ensures ready { IfOk result (λ job. IsReadyToRun (system_of job.flow job.batches) job.items) }
+    ensures refused { IfErr result (IfJobRefused (Refuses (F.texts folder.old) (three_texts (text_names_in words.now)))) }
     ensures faults { F.fault_count folder.new ≡ read_faults_after result (F.fault_count folder.old) }
     ensures asked_no_more { AsksNoMore (F.texts folder.old) (three_texts (text_names_in words.now)) (F.fetch_count folder.old) (F.fetch_count folder.new) }
     ensures texts_stay { F.texts folder.new ≡ F.texts folder.old }
@@ -99,7 +99,7 @@ pub fn read_fed<F: Folder>(
 ) -> Result<Fed, JobFault>
     ensures fed { IfOk result (IsFed (F.texts folder.old) (two_texts (system_names_in names.now))) }
     ensures well_formed { IfOk result (λ fed. IsWellFormedSystem (system_of fed.flow fed.batches)) }
-    ensures refused { IfErr result (IfRefused (Refuses (F.texts folder.old) (two_texts (system_names_in names.now)))) }
+    ensures refused { IfErr result (IfJobRefused (Refuses (F.texts folder.old) (two_texts (system_names_in names.now)))) }
     ensures faults { F.fault_count folder.new ≡ read_faults_after result (F.fault_count folder.old) }
     ensures asked_no_more { AsksNoMore (F.texts folder.old) (two_texts (system_names_in names.now)) (F.fetch_count folder.old) (F.fetch_count folder.new) }
     ensures texts_stay { F.texts folder.new ≡ F.texts folder.old }
@@ -113,8 +113,8 @@ pub fn read_fed<F: Folder>(
 /// is want of memory.
 pub fn read_generated(alloc: Global, words: GenerateWords) -> Result<Job, JobFault>
     ensures job { IfOk result (IsGenerated (seeded_in words)) }
-    ensures ready { IfOk result (λ job. IsReady (system_of job.flow job.batches) job.items) }
-    ensures accepted { words.size ≤ size_limit → IsErr result → IsErrOf result JobFault.NoMemory }
+    ensures ready { IfOk result (λ job. IsReadyToRun (system_of job.flow job.batches) job.items) }
+    ensures accepted { words.size ≤ accepted_size_limit → IsErr result → IsErrOf result JobFault.NoMemory }
 {
     let texts = generate(alloc, words.seed, words.size)?;
     let flow = read_flow(alloc, texts.flow().as_bytes())?;
@@ -132,7 +132,7 @@ pub fn read_generated(alloc: Global, words: GenerateWords) -> Result<Job, JobFau
 /// The flow of the text under a name.
 pub fn fetch_flow<F: Folder>(alloc: Global, folder: &mut F, name: &str) -> Result<Flow, JobFault>
     ensures flow { IfOk result (HasFlow (F.texts folder.old) name.now) }
-    ensures refused { IfErr result (IfRefused (IsFlowRefused (F.texts folder.old) name.now)) }
+    ensures refused { IfErr result (IfJobRefused (IsFlowRefused (F.texts folder.old) name.now)) }
     ensures faults { F.fault_count folder.new ≡ read_faults_after result (F.fault_count folder.old) }
     ensures counted { F.fetch_count folder.new ≡ one_more (F.fetch_count folder.old) }
     ensures texts_stay { F.texts folder.new ≡ F.texts folder.old }
@@ -149,10 +149,10 @@ fn fetch_inputs<F: Folder>(
     flow: &Flow,
 ) -> Result<Batches, JobFault>
     ensures batches { IfOk result (λ batches. HasText (F.texts folder.old) name.now
-        (λ text. inputs.IsAccepted text (sources_of flow.now) batches)) }
+        (λ text. inputs.AreAcceptedInputs text (sources_of flow.now) batches)) }
     ensures well_formed { IfOk result (λ batches. IsWellFormedSystem (system_of flow.now batches)) }
-    ensures refused { IfErr result (IfRefused (λ refusal. HasText (F.texts folder.old) name.now
-        (λ text. inputs.IsRefused text (sources_of flow.now) refusal))) }
+    ensures refused { IfErr result (IfJobRefused (λ refusal. HasText (F.texts folder.old) name.now
+        (λ text. inputs.AreRefusedInputs text (sources_of flow.now) refusal))) }
     ensures faults { F.fault_count folder.new ≡ read_faults_after result (F.fault_count folder.old) }
     ensures counted { F.fetch_count folder.new ≡ one_more (F.fetch_count folder.old) }
     ensures texts_stay { F.texts folder.new ≡ F.texts folder.old }
@@ -172,10 +172,10 @@ fn fetch_schedule<F: Folder>(
     flow: &Flow,
 ) -> Result<Schedule, JobFault>
     ensures items { IfOk result (λ items. HasText (F.texts folder.old) name.now
-        (λ text. schedules.IsAccepted text flow.now items)) }
+        (λ text. schedules.IsAcceptedSchedule text flow.now items)) }
     ensures few { IfOk result (λ items. step_count items ≤ step_limit) }
-    ensures refused { IfErr result (IfRefused (λ refusal. HasText (F.texts folder.old) name.now
-        (λ text. schedules.IsRefused text flow.now refusal))) }
+    ensures refused { IfErr result (IfJobRefused (λ refusal. HasText (F.texts folder.old) name.now
+        (λ text. schedules.IsRefusedSchedule text flow.now refusal))) }
     ensures faults { F.fault_count folder.new ≡ read_faults_after result (F.fault_count folder.old) }
     ensures counted { F.fetch_count folder.new ≡ one_more (F.fetch_count folder.old) }
     ensures texts_stay { F.texts folder.new ≡ F.texts folder.old }
@@ -194,7 +194,7 @@ fn fetch<F: Folder>(
 ) -> Result<Vec<u8>, JobFault>
     requires { limit < 2 ^ 32 }
     ensures text { IfOk result (λ text. IsText (F.texts folder.old) name.now text.items) }
-    ensures refused { IfErr result (IfRefused (IsTooLarge (F.texts folder.old) name.now limit too_large)) }
+    ensures refused { IfErr result (IfJobRefused (IsTooLarge (F.texts folder.old) name.now limit too_large)) }
     ensures faults { F.fault_count folder.new ≡ read_faults_after result (F.fault_count folder.old) }
     ensures counted { F.fetch_count folder.new ≡ one_more (F.fetch_count folder.old) }
     ensures texts_stay { F.texts folder.new ≡ F.texts folder.old }

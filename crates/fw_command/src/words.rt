@@ -9,7 +9,7 @@ ghost use Rattle.fw_command.specs.Forms as spec;
 ghost use Rattle.fw_command.specs.Forms.{forms, matched_command};
 ghost use Rattle.fw_command.specs.Words.{IsOfSize, is_operand, check_of, denote_of, gen_of, run_of, endure_of, command_of, command_in, generate_by, seeded_in, text_names_in, system_names_in, words_in};
 ghost use Rattle.fw_lines.specs.Spelling.{number_of};
-ghost use Rattle.fw_generate.specs.Laws.{size_limit as greatest_size};
+ghost use Rattle.fw_generate.specs.Laws.{accepted_size_limit as greatest_size};
 ghost use Rattle.clap.specs.declared.builder.command.Command.TheViews.{out-Command as fields_of};
 
 use clap::error::ErrorKind;

@@ -15,53 +15,53 @@ use Rattle.fw_model.proofs.MeasureLaws.{measure-exists}
 use Rattle.fw_model.proofs.DependenceLaws.{recs_decide}
 use Rattle.fw_model.proofs.DenotationLaws.{denotation-exists, denotation-in_order, outputs_of-same, past-outputs}
 use Rattle.fw_denote.specs.Domains.{AreOut}
-use Rattle.fw_denote.specs.Holding.{IsHeld, IsSolved, AreRight, family_of, family_on, sent_by}
+use Rattle.fw_denote.specs.Holding.{AreBagsHeld, IsSolved, AreRight, family_held, family_on, bag_sent_by}
 
 -- past the last edge nothing is held
 past-sender : (flow : Dataflow) (e : ℕ) → length flow.edges ≤ e → sender flow e ≡ length flow.nodes
 unfolding sender
 past-sender flow e l = ap (λ (d : Edge). d.sender) (get_or_past flow.edges e (record { name = []; sender = length flow.nodes; receiver = length flow.nodes }) l)
 
-past-held : (flow : Dataflow) (bags : List (List Timed)) → IsHeld flow bags → (e : ℕ) → length flow.edges ≤ e → family_of flow bags e ≡ []
+past-held : (flow : Dataflow) (bags : List (List Timed)) → AreBagsHeld flow bags → (e : ℕ) → length flow.edges ≤ e → family_held flow bags e ≡ []
 past-held flow bags h e l =
     let s = past-sender flow e l in
     let n = h.one_each in
     get_or_past bags (sender flow e) [] (omega arith)
 
 -- bags that solve the equations of the nodes are the denotation
-pub solved-denotes : (sys : System) → IsWellFormed sys.flow → (bags : List (List Timed)) → IsHeld sys.flow bags → IsSolved sys bags
-    → IsDenotation sys (family_of sys.flow bags)
+pub solved-denotes : (sys : System) → IsWellFormed sys.flow → (bags : List (List Timed)) → AreBagsHeld sys.flow bags → IsSolved sys bags
+    → IsDenotation sys (family_held sys.flow bags)
 solved-denotes sys w bags h s e = elim (cases_lt e (length sys.flow.edges)) [
   | inl l ↦ s (sender sys.flow e) (w.senders_declared e l)
-  | inr l ↦ past-held sys.flow bags h e l ∙ sym (past-outputs sys (family_of sys.flow bags) e l)
+  | inr l ↦ past-held sys.flow bags h e l ∙ sym (past-outputs sys (family_held sys.flow bags) e l)
 ]
 
 -- so are bags that are right at each measure
-pub right-denotes : (sys : System) → IsWellFormed sys.flow → (bags : List (List Timed)) → IsHeld sys.flow bags → (m : ℕ) → enough_rounds sys.flow ≤ m
+pub right-denotes : (sys : System) → IsWellFormed sys.flow → (bags : List (List Timed)) → AreBagsHeld sys.flow bags → (m : ℕ) → enough_rounds sys.flow ≤ m
     → ((by : Measure sys.flow) (family : Family) → IsDenotation sys family → AreRight sys.flow by family 0 m bags)
-    → IsDenotation sys (family_of sys.flow bags)
+    → IsDenotation sys (family_held sys.flow bags)
 right-denotes sys w bags h m l f =
     let flow = sys.flow in
     let by = measure-exists flow w in
     let family = rounds sys (enough_rounds flow) in
     let d = denotation-exists sys w in
     let a = f by family d in
-    let agree : (e : ℕ) → family_of flow bags e ≡ family e =
+    let agree : (e : ℕ) → family_held flow bags e ≡ family e =
     λ e. elim (cases_lt e (length flow.edges)) [
-      | inl k ↦ recs_decide (family_of flow bags e) (family e) (h.in_order (sender flow e)) (denotation-in_order sys family d e)
+      | inl k ↦ recs_decide (family_held flow bags e) (family e) (h.in_order (sender flow e)) (denotation-in_order sys family d e)
           (λ t. a.each e k t (let b = by.bound _ (w.receivers_declared e k) t in omega arith))
       | inr k ↦ past-held flow bags h e k ∙ sym (d e ∙ past-outputs sys family e k)
     ] in
-    λ e. agree e ∙ d e ∙ sym (outputs_of-same sys (family_of flow bags) family agree (sender flow e))
+    λ e. agree e ∙ d e ∙ sym (outputs_of-same sys (family_held flow bags) family agree (sender flow e))
 
 -- ---- no bags
 
-none-there : (n p : ℕ) → sent_by (replicate n []) p ≡ []
+none-there : (n p : ℕ) → bag_sent_by (replicate n []) p ≡ []
 none-there zero p = refl
 none-there (suc n) zero = refl
 none-there (suc n) (suc p) = none-there n p
 
-pub none_held : (flow : Dataflow) → IsHeld flow (replicate (length flow.nodes) [])
+pub none_held : (flow : Dataflow) → AreBagsHeld flow (replicate (length flow.nodes) [])
 none_held flow =
     let n = length flow.nodes in
     record {
@@ -92,19 +92,19 @@ map-twice : {A B C : Type 0} (f : B → C) (g : A → B) (xs : List A) → map f
 map-twice f g [] = refl
 map-twice f g (x ∷ xs) = ap (λ ys. f (g x) ∷ ys) (map-twice f g xs)
 
-on_edges : (flow : Dataflow) (bags : List (List Timed)) → IsHeld flow bags → (e : ℕ)
-    → family_on (map (sent_by bags) (map (sender flow) (range_with_len 0 (length flow.edges)))) e ≡ family_of flow bags e
+on_edges : (flow : Dataflow) (bags : List (List Timed)) → AreBagsHeld flow bags → (e : ℕ)
+    → family_on (map (bag_sent_by bags) (map (sender flow) (range_with_len 0 (length flow.edges)))) e ≡ family_held flow bags e
 on_edges flow bags h e =
     let n = length flow.edges in
-    ap (λ xs. get_or xs e []) (map-twice (sent_by bags) (sender flow) (range_with_len 0 n))
+    ap (λ xs. get_or xs e []) (map-twice (bag_sent_by bags) (sender flow) (range_with_len 0 n))
     ∙ elim (cases_lt e n) [
-      | inl l ↦ get_or-map-range_with_len (family_of flow bags) 0 n e e [] l (omega arith)
-      | inr l ↦ get_or_past (map (family_of flow bags) (range_with_len 0 n)) e [] (omega (arith, length-map-range_with_len (family_of flow bags) 0 n)) ∙ sym (past-held flow bags h e l)
+      | inl l ↦ get_or-map-range_with_len (family_held flow bags) 0 n e e [] l (omega arith)
+      | inr l ↦ get_or_past (map (family_held flow bags) (range_with_len 0 n)) e [] (omega (arith, length-map-range_with_len (family_held flow bags) 0 n)) ∙ sym (past-held flow bags h e l)
     ]
 
 -- the denotation by nodes, seen by edges
-pub denotes_on : (sys : System) (bags on : List (List Timed)) → IsHeld sys.flow bags → IsDenotation sys (family_of sys.flow bags)
-    → on ≡ map (sent_by bags) (map (sender sys.flow) (range_with_len 0 (length sys.flow.edges))) → IsDenotation sys (family_on on)
+pub denotes_on : (sys : System) (bags on : List (List Timed)) → AreBagsHeld sys.flow bags → IsDenotation sys (family_held sys.flow bags)
+    → on ≡ map (bag_sent_by bags) (map (sender sys.flow) (range_with_len 0 (length sys.flow.edges))) → IsDenotation sys (family_on on)
 denotes_on sys bags on h d i =
-    let same : (e : ℕ) → family_on on e ≡ family_of sys.flow bags e = λ e. ap (λ xs. family_on xs e) i ∙ on_edges sys.flow bags h e in
-    λ e. same e ∙ d e ∙ sym (outputs_of-same sys (family_on on) (family_of sys.flow bags) same (sender sys.flow e))
+    let same : (e : ℕ) → family_on on e ≡ family_held sys.flow bags e = λ e. ap (λ xs. family_on xs e) i ∙ on_edges sys.flow bags h e in
+    λ e. same e ∙ d e ∙ sym (outputs_of-same sys (family_on on) (family_held sys.flow bags) same (sender sys.flow e))

@@ -15,7 +15,7 @@ use Rattle.fw_lemmas.proofs.Orderings.{tied}
 use Rattle.fw_time.specs.Stamp.{same, stamp_cmp}
 use Rattle.fw_bag.specs.declared.rec.Rec.{Rec}
 use Rattle.fw_bag.specs.Keyed.{plus, joined_rec}
-use Rattle.fw_flow.specs.WholeBags.{Timed, timed_cmp, recs_where, in_order, timed_recs}
+use Rattle.fw_flow.specs.WholeBags.{Timed, timed_cmp, timed_where, in_order, timed_recs}
 use Rattle.fw_model.proofs.TimedLaws.{IsAscendingTimed, timed_cmp-refl}
 use Rattle.fw_model.proofs.DependenceLaws.{ascending-from_in_order}
 use Rattle.fw_denote.specs.declared.keyed.Slot.{Slot}
@@ -95,23 +95,23 @@ parted_rest s rs from o h = subst (λ (xs : List Timed). IsPartitionedBy (λ r. 
 
 -- the timed recs at a slot, as a select by stamp and key finds their recs
 slot-recs : (s : Slot) (rs : List Timed)
-    → filter (λ (r : Rec). s.key == r.key) (recs_where (same s.at) rs) ≡ map (λ (r : Timed). r.rec) (filter (λ (r : Timed). is_eq (slot_cmp s (slot_of r))) rs)
+    → filter (λ (r : Rec). s.key == r.key) (timed_where (same s.at) rs) ≡ map (λ (r : Timed). r.rec) (filter (λ (r : Timed). is_eq (slot_cmp s (slot_of r))) rs)
 slot-recs s [] = refl
 slot-recs s (r ∷ rs) =
     by (same s.at r.at) (s.key == r.rec.key) refl (slot-recs s rs)
     ∙ sym (ap (λ b. map (λ (x : Timed). x.rec) (cond b (r ∷ filter (λ (x : Timed). is_eq (slot_cmp s (slot_of x))) rs) (filter (λ (x : Timed). is_eq (slot_cmp s (slot_of x))) rs))) (slot-test s (slot_of r)))
   where
     by : (b c : Bool) → (s.key == r.rec.key) ≡ c
-        → filter (λ (x : Rec). s.key == x.key) (recs_where (same s.at) rs) ≡ map (λ (x : Timed). x.rec) (filter (λ (x : Timed). is_eq (slot_cmp s (slot_of x))) rs)
+        → filter (λ (x : Rec). s.key == x.key) (timed_where (same s.at) rs) ≡ map (λ (x : Timed). x.rec) (filter (λ (x : Timed). is_eq (slot_cmp s (slot_of x))) rs)
         → filter (λ (x : Rec). s.key == x.key) (map (λ (x : Timed). x.rec) (cond b (r ∷ filter (λ (x : Timed). same s.at x.at) rs) (filter (λ (x : Timed). same s.at x.at) rs)))
         ≡ map (λ (x : Timed). x.rec) (cond (b && (s.key == r.rec.key)) (r ∷ filter (λ (x : Timed). is_eq (slot_cmp s (slot_of x))) rs) (filter (λ (x : Timed). is_eq (slot_cmp s (slot_of x))) rs))
     by false c e h = h
     by true true e h =
-        ap (λ b. cond b (r.rec ∷ filter (λ (x : Rec). s.key == x.key) (recs_where (same s.at) rs)) (filter (λ (x : Rec). s.key == x.key) (recs_where (same s.at) rs))) e
+        ap (λ b. cond b (r.rec ∷ filter (λ (x : Rec). s.key == x.key) (timed_where (same s.at) rs)) (filter (λ (x : Rec). s.key == x.key) (timed_where (same s.at) rs))) e
         ∙ ap (λ xs. r.rec ∷ xs) h
         ∙ sym (ap (λ b. map (λ (x : Timed). x.rec) (cond b (r ∷ filter (λ (x : Timed). is_eq (slot_cmp s (slot_of x))) rs) (filter (λ (x : Timed). is_eq (slot_cmp s (slot_of x))) rs))) e)
     by true false e h =
-        ap (λ b. cond b (r.rec ∷ filter (λ (x : Rec). s.key == x.key) (recs_where (same s.at) rs)) (filter (λ (x : Rec). s.key == x.key) (recs_where (same s.at) rs))) e
+        ap (λ b. cond b (r.rec ∷ filter (λ (x : Rec). s.key == x.key) (timed_where (same s.at) rs)) (filter (λ (x : Rec). s.key == x.key) (timed_where (same s.at) rs))) e
         ∙ h
         ∙ sym (ap (λ b. map (λ (x : Timed). x.rec) (cond b (r ∷ filter (λ (x : Timed). is_eq (slot_cmp s (slot_of x))) rs) (filter (λ (x : Timed). is_eq (slot_cmp s (slot_of x))) rs))) e)
 
@@ -124,7 +124,7 @@ gt_not_eq Greater h = refl
 pub those_found : (s : Slot) (rs rest : List Timed) (from count : ℕ) → rest ≡ drop from rs
     → IsPartitionPoint (λ r. is_gt (slot_cmp s (slot_of r)) ≡ true) (λ r. is_gt (slot_cmp s (slot_of r)) ≡ false) rs from
     → IsPartitionPoint (λ r. is_eq (slot_cmp s (slot_of r)) ≡ true) (λ r. is_eq (slot_cmp s (slot_of r)) ≡ false) rest count
-    → map (λ (r : Timed). r.rec) (take count rest) ≡ filter (λ (r : Rec). s.key == r.key) (recs_where (same s.at) rs)
+    → map (λ (r : Timed). r.rec) (take count rest) ≡ filter (λ (r : Rec). s.key == r.key) (timed_where (same s.at) rs)
 those_found s rs rest from count e a b =
     let p : Timed → Bool = λ r. is_eq (slot_cmp s (slot_of r)) in
     sym (slot-recs s rs
@@ -135,8 +135,8 @@ those_found s rs rest from count e a b =
 
 -- what a join sends for one more rec
 pub pairs_more : (x : Timed) (ys rights : List Timed)
-    → map (λ (r : Timed). r.rec) ys ≡ filter (λ (r : Rec). x.rec.key == r.key) (recs_where (same x.at) rights)
-    → pair_recs x ys ≡ timed_recs x.at (joined_rec x.rec (recs_where (same x.at) rights))
+    → map (λ (r : Timed). r.rec) ys ≡ filter (λ (r : Rec). x.rec.key == r.key) (timed_where (same x.at) rights)
+    → pair_recs x ys ≡ timed_recs x.at (joined_rec x.rec (timed_where (same x.at) rights))
 pairs_more x ys rights e = turned ys ∙ ap (λ rs. timed_recs x.at (map pair rs)) e
   where
     pair : Rec → Rec

@@ -18,13 +18,13 @@ use Rattle.fw_lemmas.proofs.Options.{found_or_none}
 use Rattle.fw_time.specs.Stamp.{Stamp, leq, same, stamp_cmp}
 use Rattle.fw_bag.specs.declared.rec.Rec.{Rec}
 use Rattle.fw_bag.specs.Keyed.{plus, value_sum, has_key}
-use Rattle.fw_flow.specs.WholeBags.{Timed, recs_where, in_order, sums_at, totals_at, distinct_stamps}
+use Rattle.fw_flow.specs.WholeBags.{Timed, timed_where, in_order, sums_at, totals_at, distinct_stamps}
 use Rattle.fw_model.proofs.StampLaws.{same-is}
 use Rattle.fw_model.proofs.WeightLaws.{weigh, one, how_often-where}
 use Rattle.fw_model.proofs.DistinctLaws.{stamp_cmp-test, same-swap}
 use Rattle.fw_model.proofs.SumLaws.{AreSameBags, rec_cmp-test, sums-is, has_key-same, value_sum-same, sum-outputs, total-outputs}
 use Rattle.fw_denote.specs.declared.keyed.Slot.{Slot}
-use Rattle.fw_denote.specs.Numbers.{slot_cmp, slot_of, is_there, sum_at, total_at, HasNumbers, entry_rec}
+use Rattle.fw_denote.specs.Numbers.{slot_cmp, slot_of, is_there, sum_of_slot, total_at, HasNumbers, entry_rec}
 use Rattle.fw_denote.proofs.Counts.{one_bag, reversed-weigh}
 
 -- ---- slots
@@ -66,44 +66,44 @@ found key xs = cond (has_key key xs) (Some (value_sum key xs)) None
 
 -- the sum at a slot after one more timed rec
 sum_at-more : (r : Timed) (rs : List Timed) (s : Slot) (a b : Bool) → same s.at r.at ≡ a → (r.rec.key == s.key) ≡ b
-    → cond (a && b) (Some (plus r.rec.value (sum_at rs s))) (cond (is_there s rs) (Some (sum_at rs s)) None)
-    ≡ cond (is_there s (r ∷ rs)) (Some (sum_at (r ∷ rs) s)) None
+    → cond (a && b) (Some (plus r.rec.value (sum_of_slot rs s))) (cond (is_there s rs) (Some (sum_of_slot rs s)) None)
+    ≡ cond (is_there s (r ∷ rs)) (Some (sum_of_slot (r ∷ rs) s)) None
 sum_at-more r rs s a b i j =
     by a b j ∙ sym (ap (λ c. found s.key (map (λ (x : Timed). x.rec) (cond c (r ∷ filter (λ (x : Timed). same s.at x.at) rs) (filter (λ (x : Timed). same s.at x.at) rs)))) i)
   where
-    by : (a b : Bool) → (r.rec.key == s.key) ≡ b → cond (a && b) (Some (plus r.rec.value (sum_at rs s))) (found s.key (recs_where (same s.at) rs))
+    by : (a b : Bool) → (r.rec.key == s.key) ≡ b → cond (a && b) (Some (plus r.rec.value (sum_of_slot rs s))) (found s.key (timed_where (same s.at) rs))
         ≡ found s.key (map (λ (x : Timed). x.rec) (cond a (r ∷ filter (λ (x : Timed). same s.at x.at) rs) (filter (λ (x : Timed). same s.at x.at) rs)))
-    by true true e = sym (ap (λ c. cond (c || is_there s rs) (Some (cond c (plus r.rec.value (sum_at rs s)) (sum_at rs s))) None) e)
-    by true false e = sym (ap (λ c. cond (c || is_there s rs) (Some (cond c (plus r.rec.value (sum_at rs s)) (sum_at rs s))) None) e)
+    by true true e = sym (ap (λ c. cond (c || is_there s rs) (Some (cond c (plus r.rec.value (sum_of_slot rs s)) (sum_of_slot rs s))) None) e)
+    by true false e = sym (ap (λ c. cond (c || is_there s rs) (Some (cond c (plus r.rec.value (sum_of_slot rs s)) (sum_of_slot rs s))) None) e)
     by false b e = refl
 
 -- a map in which the number of a timed rec's slot was raised by its value
 pub sums_more : (old new : BTreeMap Slot ℕ) (r : Timed) (n : ℕ) (rs : List Timed)
     → n ≡ plus r.rec.value (unwrap_or (get slot_cmp old (slot_of r)) 0)
     → ((s : Slot) → get slot_cmp new s ≡ cond (is_eq (slot_cmp (slot_of r) s)) (Some n) (get slot_cmp old s))
-    → HasNumbers old (sum_at rs) rs → HasNumbers new (sum_at (r ∷ rs)) (r ∷ rs)
+    → HasNumbers old (sum_of_slot rs) rs → HasNumbers new (sum_of_slot (r ∷ rs)) (r ∷ rs)
 sums_more old new r n rs e u h = λ s.
     let k = slot_of r in
-    let raised : n ≡ plus r.rec.value (sum_at rs k) =
+    let raised : n ≡ plus r.rec.value (sum_of_slot rs k) =
     e ∙ ap (λ o. plus r.rec.value (unwrap_or o 0)) (h k)
-    ∙ ap (plus r.rec.value) (found_or_none (is_there k rs) (sum_at rs k) (none_summed k.key (recs_where (same k.at) rs))) in
+    ∙ ap (plus r.rec.value) (found_or_none (is_there k rs) (sum_of_slot rs k) (none_summed k.key (timed_where (same k.at) rs))) in
     u s
     ∙ ap (λ b. cond b (Some n) (get slot_cmp old s)) (slot-test k s)
-    ∙ if-same (same k.at s.at && (k.key == s.key)) n (plus r.rec.value (sum_at rs s)) (get slot_cmp old s)
-    (λ t. raised ∙ ap (λ (x : Slot). plus r.rec.value (sum_at rs x)) (slot-is k s t))
-    ∙ ap (λ b. cond (b && (r.rec.key == s.key)) (Some (plus r.rec.value (sum_at rs s))) (get slot_cmp old s)) (same-swap k.at s.at)
-    ∙ ap (λ o. cond (same s.at r.at && (r.rec.key == s.key)) (Some (plus r.rec.value (sum_at rs s))) o) (h s)
+    ∙ if-same (same k.at s.at && (k.key == s.key)) n (plus r.rec.value (sum_of_slot rs s)) (get slot_cmp old s)
+    (λ t. raised ∙ ap (λ (x : Slot). plus r.rec.value (sum_of_slot rs x)) (slot-is k s t))
+    ∙ ap (λ b. cond (b && (r.rec.key == s.key)) (Some (plus r.rec.value (sum_of_slot rs s))) (get slot_cmp old s)) (same-swap k.at s.at)
+    ∙ ap (λ o. cond (same s.at r.at && (r.rec.key == s.key)) (Some (plus r.rec.value (sum_of_slot rs s))) o) (h s)
     ∙ sum_at-more r rs s (same s.at r.at) (r.rec.key == s.key) refl refl
 
 -- ---- from the end
 
-at_stamp-reversed : (t : Stamp) (rs : List Timed) → AreSameBags (recs_where (same t) (reverse rs)) (recs_where (same t) rs)
+at_stamp-reversed : (t : Stamp) (rs : List Timed) → AreSameBags (timed_where (same t) (reverse rs)) (timed_where (same t) rs)
 at_stamp-reversed t rs = λ q. how_often-where t q (reverse rs) ∙ reversed-weigh (one t q) rs ∙ sym (how_often-where t q rs)
 
-pub sums_all : (m : BTreeMap Slot ℕ) (rs : List Timed) → HasNumbers m (sum_at (reverse rs)) (reverse rs) → HasNumbers m (sum_at rs) rs
+pub sums_all : (m : BTreeMap Slot ℕ) (rs : List Timed) → HasNumbers m (sum_of_slot (reverse rs)) (reverse rs) → HasNumbers m (sum_of_slot rs) rs
 sums_all m rs h = λ s.
     let e = at_stamp-reversed s.at rs in
-    h s ∙ ap (λ b. cond b (Some (sum_at (reverse rs) s)) None) (has_key-same s.key _ _ e)
+    h s ∙ ap (λ b. cond b (Some (sum_of_slot (reverse rs) s)) None) (has_key-same s.key _ _ e)
     ∙ ap (λ n. cond (is_there s rs) (Some n) None) (value_sum-same s.key _ _ e)
 
 -- ---- the timed recs of the entries
@@ -166,7 +166,7 @@ once-found false n v = refl
 -- the timed recs of the entries of a map of numbers
 numbers-weigh : (m : BTreeMap Slot ℕ) (number : Slot → ℕ) (rs : List Timed) → IsStrictlySortedBy slot_cmp (keys_of m.entries) → HasNumbers m number rs
     → (t : Stamp) (q : Rec) → weigh (one t q) (map entry_rec m.entries)
-    ≡ cond (has_key q.key (recs_where (same t) rs)) (cond (q.value == number (record { at = t; key = q.key })) 1 0) 0
+    ≡ cond (has_key q.key (timed_where (same t) rs)) (cond (q.value == number (record { at = t; key = q.key })) 1 0) 0
 numbers-weigh m number rs s h t q =
     let k : Slot = record { at = t; key = q.key } in
     entries-weigh t q m.entries s
@@ -174,13 +174,13 @@ numbers-weigh m number rs s h t q =
     ∙ once-found (is_there k rs) (number k) q.value
 
 -- the entries of a map of sums are what a sum sends
-pub sums_sent : (m : BTreeMap Slot ℕ) (rs sent : List Timed) → IsStrictlySortedBy slot_cmp (keys_of m.entries) → HasNumbers m (sum_at rs) rs
+pub sums_sent : (m : BTreeMap Slot ℕ) (rs sent : List Timed) → IsStrictlySortedBy slot_cmp (keys_of m.entries) → HasNumbers m (sum_of_slot rs) rs
     → sent ≡ map entry_rec m.entries → in_order sent ≡ in_order (sums_at (distinct_stamps rs) rs)
 sums_sent m rs sent s h e =
     one_bag sent (sums_at (distinct_stamps rs) rs) (record {
       weighs = λ t q.
-          ap (weigh (one t q)) e ∙ numbers-weigh m (sum_at rs) rs s h t q
-          ∙ sym (sum-outputs t q rs ∙ sums-is q (recs_where (same t) rs) (recs_where (same t) rs));
+          ap (weigh (one t q)) e ∙ numbers-weigh m (sum_of_slot rs) rs s h t q
+          ∙ sym (sum-outputs t q rs ∙ sums-is q (timed_where (same t) rs) (timed_where (same t) rs));
     })
 
 -- the entries of a map of totals are what a total sends
@@ -190,5 +190,5 @@ totals_sent m rs sent s h e =
     one_bag sent (totals_at (distinct_stamps rs) rs) (record {
       weighs = λ t q.
           ap (weigh (one t q)) e ∙ numbers-weigh m (total_at rs) rs s h t q
-          ∙ sym (total-outputs t q rs ∙ sums-is q (recs_where (same t) rs) (recs_where (λ u. leq u t) rs));
+          ∙ sym (total-outputs t q rs ∙ sums-is q (timed_where (same t) rs) (timed_where (λ u. leq u t) rs));
     })

@@ -19,7 +19,7 @@ use Rattle.fw_bag.specs.declared.rec.Rec.{Rec}
 use Rattle.fw_bag.specs.Rec.{rec_cmp}
 use Rattle.fw_bag.specs.Keyed.{plus, value_sum, has_key}
 use Rattle.fw_flow.specs.Dataflow.{greatest_number}
-use Rattle.fw_flow.specs.WholeBags.{Timed, timed_cmp, recs_where, in_order}
+use Rattle.fw_flow.specs.WholeBags.{Timed, timed_cmp, timed_where, in_order}
 use Rattle.fw_model.proofs.StampLaws.{same-is, same-refl, in_line, line-leq}
 use Rattle.fw_model.proofs.TimedLaws.{IsAscendingTimed}
 use Rattle.fw_model.proofs.DependenceLaws.{ascending-from_in_order}
@@ -27,7 +27,7 @@ use Rattle.fw_model.proofs.DistinctLaws.{same-swap}
 use Rattle.fw_model.proofs.SumLaws.{AreSameBags, has_key-same, value_sum-same, how_often-passing}
 use Rattle.fw_model.proofs.WeightLaws.{how_often-where, one}
 use Rattle.fw_denote.specs.declared.keyed.Slot.{Slot}
-use Rattle.fw_denote.specs.Numbers.{slot_cmp, slot_of, is_there, total_at, HasNumbers, HasTotals, AreInLine, ComeBefore}
+use Rattle.fw_denote.specs.Numbers.{slot_cmp, slot_of, is_there, total_at, HasNumbers, HasSlotSums, AreInLine, ComeBefore}
 use Rattle.fw_denote.proofs.NumberLaws.{slot-test, slot-is, if-same}
 use Rattle.fw_denote.proofs.Counts.{reversed-weigh}
 
@@ -44,7 +44,7 @@ total-more false n m o h = h
 pub totals_more : (old new : BTreeMap ℕ ℕ) (r : Timed) (n : ℕ) (rs : List Timed)
     → n ≡ plus r.rec.value (unwrap_or (get nat_cmp old r.rec.key) 0)
     → ((k : ℕ) → get nat_cmp new k ≡ cond (is_eq (nat_cmp r.rec.key k)) (Some n) (get nat_cmp old k))
-    → HasTotals old rs → HasTotals new (r ∷ rs)
+    → HasSlotSums old rs → HasSlotSums new (r ∷ rs)
 totals_more old new r n rs e u h = λ k.
     ap (λ o. unwrap_or o 0) (u k ∙ ap (λ b. cond b (Some n) (get nat_cmp old k)) (nat_cmp-test r.rec.key k))
     ∙ total-more (r.rec.key == k) n (value_sum k (recs rs)) (get nat_cmp old k) (h k)
@@ -53,7 +53,7 @@ totals_more old new r n rs e u h = λ k.
 
 -- ---- the totals of slots
 
-all-where : (t : Stamp) (rs : List Timed) → AllByRecursion (λ (x : Timed). leq x.at t ≡ true) rs → recs_where (λ u. leq u t) rs ≡ recs rs
+all-where : (t : Stamp) (rs : List Timed) → AllByRecursion (λ (x : Timed). leq x.at t ≡ true) rs → timed_where (λ u. leq u t) rs ≡ recs rs
 all-where t [] a = refl
 all-where t (r ∷ rs) a =
     ap (λ b. recs (cond b (r ∷ filter (λ (x : Timed). leq x.at t) rs) (filter (λ (x : Timed). leq x.at t) rs))) a.0
@@ -89,13 +89,13 @@ other_total r rs s a n h = by (leq r.at s.at) refl
         ap (λ b. cond b (plus r.rec.value (total_at rs s)) (total_at rs s)) k
 
 slot-more : (r : Timed) (rs : List Timed) (s : Slot) → ComeBefore rs r → (b : Bool) → (same s.at r.at && (r.rec.key == s.key)) ≡ b
-    → cond b (Some (plus r.rec.value (value_sum s.key (recs rs)))) (found s (recs_where (same s.at) rs) (total_at rs s))
-    ≡ found s (recs_where (same s.at) (r ∷ rs)) (total_at (r ∷ rs) s)
+    → cond b (Some (plus r.rec.value (value_sum s.key (recs rs)))) (found s (timed_where (same s.at) rs) (total_at rs s))
+    ≡ found s (timed_where (same s.at) (r ∷ rs)) (total_at (r ∷ rs) s)
 slot-more r rs s a true e =
     let p = and_parts (same s.at r.at) (r.rec.key == s.key) e in
     let at : s.at ≡ r.at = same-is s.at r.at p.0 in
-    let whole : recs_where (λ u. leq u s.at) (r ∷ rs) ≡ recs (r ∷ rs) =
-    ap (λ t. recs_where (λ u. leq u t) (r ∷ rs)) at ∙ all-where r.at (r ∷ rs) (a.itself, a.each) in
+    let whole : timed_where (λ u. leq u s.at) (r ∷ rs) ≡ recs (r ∷ rs) =
+    ap (λ t. timed_where (λ u. leq u t) (r ∷ rs)) at ∙ all-where r.at (r ∷ rs) (a.itself, a.each) in
     let sum : total_at (r ∷ rs) s ≡ plus r.rec.value (value_sum s.key (recs rs)) =
     ap (value_sum s.key) whole ∙ ap (λ b. cond b (plus r.rec.value (value_sum s.key (recs rs))) (value_sum s.key (recs rs))) p.1 in
     let there : is_there s (r ∷ rs) ≡ true =
@@ -116,7 +116,7 @@ slot-more r rs s a false e =
 pub slots_more : (totals : BTreeMap ℕ ℕ) (old new : BTreeMap Slot ℕ) (r : Timed) (n : ℕ) (rs : List Timed)
     → n ≡ plus r.rec.value (unwrap_or (get nat_cmp totals r.rec.key) 0)
     → ((s : Slot) → get slot_cmp new s ≡ cond (is_eq (slot_cmp (slot_of r) s)) (Some n) (get slot_cmp old s))
-    → HasTotals totals rs → ComeBefore rs r → HasNumbers old (total_at rs) rs → HasNumbers new (total_at (r ∷ rs)) (r ∷ rs)
+    → HasSlotSums totals rs → ComeBefore rs r → HasNumbers old (total_at rs) rs → HasNumbers new (total_at (r ∷ rs)) (r ∷ rs)
 slots_more totals old new r n rs e u t a h = λ s.
     let k = slot_of r in
     let raised : n ≡ plus r.rec.value (value_sum r.rec.key (recs rs)) = e ∙ ap (plus r.rec.value) (t r.rec.key) in
@@ -174,9 +174,9 @@ come_before rs i d l o a = record {
 
 pub totals_all : (m : BTreeMap Slot ℕ) (rs : List Timed) → HasNumbers m (total_at (reverse rs)) (reverse rs) → HasNumbers m (total_at rs) rs
 totals_all m rs h = λ s.
-    let there : AreSameBags (recs_where (same s.at) (reverse rs)) (recs_where (same s.at) rs) =
+    let there : AreSameBags (timed_where (same s.at) (reverse rs)) (timed_where (same s.at) rs) =
     λ q. how_often-where s.at q (reverse rs) ∙ reversed-weigh (one s.at q) rs ∙ sym (how_often-where s.at q rs) in
-    let upto : AreSameBags (recs_where (λ t. leq t s.at) (reverse rs)) (recs_where (λ t. leq t s.at) rs) =
+    let upto : AreSameBags (timed_where (λ t. leq t s.at) (reverse rs)) (timed_where (λ t. leq t s.at) rs) =
     λ q. how_often-passing (λ t. leq t s.at) q (reverse rs) ∙ reversed-weigh _ rs ∙ sym (how_often-passing (λ t. leq t s.at) q rs) in
     h s ∙ ap (λ b. cond b (Some (total_at (reverse rs) s)) None) (has_key-same s.key _ _ there)
     ∙ ap (λ n. cond (is_there s rs) (Some n) None) (value_sum-same s.key _ _ upto)

@@ -17,7 +17,7 @@ use Rattle.fw_flow.specs.WholeBags.{Timed, in_order, one_by_one, joint_bag, outp
 use Rattle.fw_model.proofs.LegalLaws.{edge_domains}
 use Rattle.fw_model.proofs.DependenceLaws.{in_edges-each}
 use Rattle.fw_denote.specs.Domains.{AreIn, AreOut}
-use Rattle.fw_denote.specs.Holding.{IsHeld, family_of}
+use Rattle.fw_denote.specs.Holding.{AreBagsHeld, family_held}
 
 -- ---- by the number of bags
 
@@ -107,23 +107,23 @@ batches_there flow batches p l = get_or-map-range_with_len (batches_at batches) 
 -- what a node sends, by its kind and its in-edges
 pub by_edges : (flow : Dataflow) (batches : List (ℕ × List (List Rec))) (bags : List (List Timed)) (p : ℕ) (kind : Kind) (edges : List ℕ)
     → kind ≡ kind_of flow p → edges ≡ in_edges flow p
-    → outputs_of (system_of flow batches) (family_of flow bags) p
-    ≡ in_order (outputs_of_kind flow kind (batches_of (system_of flow batches) p) (map (family_of flow bags) edges))
+    → outputs_of (system_of flow batches) (family_held flow bags) p
+    ≡ in_order (outputs_of_kind flow kind (batches_of (system_of flow batches) p) (map (family_held flow bags) edges))
 by_edges flow batches bags p kind edges k e =
     let bs = batches_of (system_of flow batches) p in
-    sym (ap (λ x. in_order (outputs_of_kind flow x bs (map (family_of flow bags) edges))) k
-    ∙ ap (λ es. in_order (outputs_of_kind flow (kind_of flow p) bs (map (family_of flow bags) es))) e)
+    sym (ap (λ x. in_order (outputs_of_kind flow x bs (map (family_held flow bags) edges))) k
+    ∙ ap (λ es. in_order (outputs_of_kind flow (kind_of flow p) bs (map (family_held flow bags) es))) e)
 
 -- what comes on an in-edge is at stamps of the node's domain
-pub comes_in : (flow : Dataflow) → IsWellFormed flow → (bags : List (List Timed)) → IsHeld flow bags → (p : ℕ) (kind : Kind) (edges : List ℕ) (i d : ℕ)
-    → kind ≡ kind_of flow p → edges ≡ in_edges flow p → i < length edges → AreIn flow kind (family_of flow bags (get_or edges i d))
+pub comes_in : (flow : Dataflow) → IsWellFormed flow → (bags : List (List Timed)) → AreBagsHeld flow bags → (p : ℕ) (kind : Kind) (edges : List ℕ) (i d : ℕ)
+    → kind ≡ kind_of flow p → edges ≡ in_edges flow p → i < length edges → AreIn flow kind (family_held flow bags (get_or edges i d))
 comes_in flow w bags h p kind edges i d k e l =
     let x = get_or edges i d in
     let there = each-at (λ (y : ℕ). (y < length flow.edges) × (receiver flow y ≡ p)) edges i d l
     (subst (AllByRecursion (λ (y : ℕ). (y < length flow.edges) × (receiver flow y ≡ p))) (sym e) (in_edges-each flow p)) in
-    let at : AreIn flow (kind_of flow (receiver flow x)) (family_of flow bags x) =
-    subst (λ dom. AllByRecursion (λ (r : Timed). in_domain (bounds_of_domain flow dom) r.at ≡ true) (family_of flow bags x)) (edge_domains flow w x) (h.in_domain (sender flow x)) in
-    subst (λ y. AreIn flow y (family_of flow bags x)) (ap (kind_of flow) there.1 ∙ sym k) at
+    let at : AreIn flow (kind_of flow (receiver flow x)) (family_held flow bags x) =
+    subst (λ dom. AllByRecursion (λ (r : Timed). in_domain (bounds_of_domain flow dom) r.at ≡ true) (family_held flow bags x)) (edge_domains flow w x) (h.in_domain (sender flow x)) in
+    subst (λ y. AreIn flow y (family_held flow bags x)) (ap (kind_of flow) there.1 ∙ sym k) at
 
 degree-many : (flow : Dataflow) (kind : Kind) (n : ℕ) → IsInDegree kind n → 3 ≤ n → (bs : List (List Rec)) (bags : List (List Timed))
     → outputs_of_kind flow kind bs bags ≡ joint_bag bags

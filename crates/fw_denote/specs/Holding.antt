@@ -8,22 +8,22 @@ use Rattle.fw_model.specs.Measure.{Measure}
 use Rattle.fw_denote.specs.Domains.{AreOut}
 
 -- the bag that a node sends
-abbrev pub sent_by : List (List Timed) → ℕ → List Timed
-sent_by bags p = slice_index_or bags p []
+abbrev pub bag_sent_by : List (List Timed) → ℕ → List Timed
+bag_sent_by bags p = slice_index_or bags p []
 
 -- the family of the edges
-abbrev pub family_of : Dataflow → List (List Timed) → Family
-family_of flow bags e = sent_by bags (sender flow e)
+abbrev pub family_held : Dataflow → List (List Timed) → Family
+family_held flow bags e = bag_sent_by bags (sender flow e)
 
 -- there is a bag for each node of the flow, in order and at stamps of its out domain
-pub record IsHeld (flow : Dataflow) (bags : List (List Timed)) : Type 0 where
+pub record AreBagsHeld (flow : Dataflow) (bags : List (List Timed)) : Type 0 where
   pub one_each : length bags ≡ length flow.nodes
-  pub in_order : (p : ℕ) → in_order (sent_by bags p) ≡ sent_by bags p
-  pub in_domain : (p : ℕ) → AreOut flow (kind_of flow p) (sent_by bags p)
+  pub in_order : (p : ℕ) → in_order (bag_sent_by bags p) ≡ bag_sent_by bags p
+  pub in_domain : (p : ℕ) → AreOut flow (kind_of flow p) (bag_sent_by bags p)
 
 -- each of the first n nodes sends what it makes of the bags on its in-edges
 abbrev pub AreSolvedUpTo : System → ℕ → List (List Timed) → Type 0
-AreSolvedUpTo sys n bags = (p : ℕ) → p < n → sent_by bags p ≡ outputs_of sys (family_of sys.flow bags) p
+AreSolvedUpTo sys n bags = (p : ℕ) → p < n → bag_sent_by bags p ≡ outputs_of sys (family_held sys.flow bags) p
 
 -- so does each node
 abbrev pub IsSolved : System → List (List Timed) → Type 0
@@ -33,9 +33,9 @@ IsSolved sys bags = AreSolvedUpTo sys (length sys.flow.nodes) bags
 -- those of measure m.
 pub record AreRight (flow : Dataflow) (by : Measure flow) (family : Family) (p m : ℕ) (bags : List (List Timed)) : Type 0 where
   pub each : (e : ℕ) → e < length flow.edges → (t : Stamp) → by.measure (receiver flow e) t < m
-      → bag_at (family_of flow bags) e t ≡ bag_at family e t
+      → bag_at (family_held flow bags) e t ≡ bag_at family e t
   pub first : (e : ℕ) → e < length flow.edges → sender flow e < p → (t : Stamp) → by.measure (receiver flow e) t < m + 1
-      → bag_at (family_of flow bags) e t ≡ bag_at family e t
+      → bag_at (family_held flow bags) e t ≡ bag_at family e t
 
 -- the bags on the edges as a family; nothing past the last edge
 abbrev pub family_on : List (List Timed) → Family

@@ -3,7 +3,7 @@ ghost use Rattle.std.specs.Prelude.{IfOk, OnOk};
 ghost use Rattle.fw_flow.specs.Dataflow.{system_of};
 ghost use Rattle.fw_flow.specs.WellFormed.{IsWellFormedSystem};
 ghost use Rattle.fw_model.specs.Denotation.{IsDenotation};
-ghost use Rattle.fw_denote.specs.Holding.{IsHeld, family_of, family_on};
+ghost use Rattle.fw_denote.specs.Holding.{AreBagsHeld, family_held, family_on};
 
 use crate::passes::pass;
 use crate::rounds::first_bags;
@@ -20,9 +20,9 @@ fn settle(
     bags: &mut Vec<TimedBag>,
 ) -> Result<(), AllocError>
     requires system { IsWellFormedSystem (system_of flow.now batches.now) }
-    requires held { IsHeld flow.now bags.old.items }
-    ensures held { OnOk result (IsHeld flow.now bags.new.items) }
-    ensures denoted { OnOk result (IsDenotation (system_of flow.now batches.now) (family_of flow.now bags.new.items)) }
+    requires held { AreBagsHeld flow.now bags.old.items }
+    ensures held { OnOk result (AreBagsHeld flow.now bags.new.items) }
+    ensures denoted { OnOk result (IsDenotation (system_of flow.now batches.now) (family_held flow.now bags.new.items)) }
 {
     for _round in 0..u64::MAX {
         if !pass(alloc, flow, batches, bags)? {

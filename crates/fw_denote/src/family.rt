@@ -4,7 +4,7 @@ ghost use Rattle.std.specs.List.{range_with_len};
 ghost use Rattle.fw_flow.specs.Dataflow.{sender};
 ghost use Rattle.fw_flow.specs.WellFormed.{IsWellFormed};
 ghost use Rattle.fw_flow.specs.WholeBags.{in_order};
-ghost use Rattle.fw_denote.specs.Holding.{family_on, sent_by};
+ghost use Rattle.fw_denote.specs.Holding.{family_on, bag_sent_by};
 
 use crate::outputs::bag_of;
 use crate::{Timed, TimedBag};
@@ -24,18 +24,18 @@ impl Model for Family {
     ghost use Rattle.std.specs.Prelude.{List, map};
     ghost use Rattle.fw_flow.specs.WholeBags.{Timed};
     ghost use Rattle.fw_flow.specs.WholeBags.{in_order};
-    ghost use Rattle.fw_denote.specs.Holding.{sent_by};
+    ghost use Rattle.fw_denote.specs.Holding.{bag_sent_by};
 
     ghost Value = { List (List Timed) };
 
-    ghost view = { λ family. map (sent_by family.bags.items) family.senders.items };
+    ghost view = { λ family. map (bag_sent_by family.bags.items) family.senders.items };
 }
 
 impl Family {
     /// The bags of the edges, by those that the nodes send.
     pub(crate) fn of(alloc: Global, flow: &Flow, bags: Vec<TimedBag>) -> Result<Self, AllocError>
         requires { IsWellFormed flow.now }
-        ensures { IfOk result (λ family. family ≡ map (sent_by bags.items) (map (sender flow.now) (range_with_len 0 (length flow.now.edges)))) }
+        ensures { IfOk result (λ family. family ≡ map (bag_sent_by bags.items) (map (sender flow.now) (range_with_len 0 (length flow.now.edges)))) }
     {
         let senders = senders(alloc, flow)?;
         Ok(Family { bags, senders })

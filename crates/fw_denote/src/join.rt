@@ -13,7 +13,7 @@ use std::alloc::{AllocError, Global};
 #[tactic(auto, using(crate::proofs::JoinLaws::parted_below, crate::proofs::JoinLaws::parted_at))]
 fn those_at<'a>(rs: &'a [Timed], slot: &Slot) -> &'a [Timed]
     requires { whole.in_order rs.now ≡ rs.now }
-    ensures { map (λ r. r.rec) result.now ≡ filter (λ r. slot.now.key == r.key) (whole.recs_where (same slot.now.at) rs.now) }
+    ensures { map (λ r. r.rec) result.now ≡ filter (λ r. slot.now.key == r.key) (whole.timed_where (same slot.now.at) rs.now) }
 {
     let from = rs.partition_point(|r| slot.is_above(r));
     let rest = &rs[from..];

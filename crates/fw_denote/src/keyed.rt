@@ -4,7 +4,7 @@ ghost use Rattle.std.specs.List.Sorted.{IsStrictlySortedBy};
 ghost use Rattle.std.specs.Map.{keys_of};
 ghost use Rattle.std.specs.Ordering.{is_eq, is_gt};
 ghost use Rattle.fw_flow.specs.WholeBags as whole;
-ghost use Rattle.fw_denote.specs.Numbers.{HasNumbers, HasTotals, AreInLine, ComeBefore, sum_at, total_at, slot_cmp, slot_of, entry_rec};
+ghost use Rattle.fw_denote.specs.Numbers.{HasNumbers, HasSlotSums, AreInLine, ComeBefore, sum_of_slot, total_at, slot_cmp, slot_of, entry_rec};
 
 use crate::Timed;
 use fw_bag::Rec;
@@ -48,8 +48,8 @@ impl Slot {
 /// Adds the value of a timed rec to the sum of its slot.
 #[tactic(auto, using(crate::proofs::NumberLaws::sums_more))]
 fn add_to(sums: &mut BTreeMap<Slot, u64>, r: &Timed) -> Result<(), AllocError>
-    ensures { (rs : List whole.Timed) → HasNumbers sums.old (sum_at rs) rs
-        → OnOk result (HasNumbers sums.new (sum_at (r.now ∷ rs)) (r.now ∷ rs)) }
+    ensures { (rs : List whole.Timed) → HasNumbers sums.old (sum_of_slot rs) rs
+        → OnOk result (HasNumbers sums.new (sum_of_slot (r.now ∷ rs)) (r.now ∷ rs)) }
 {
     let slot = Slot::of(r);
     let sum = sums.get(&slot).copied().unwrap_or(0);
@@ -61,7 +61,7 @@ fn add_to(sums: &mut BTreeMap<Slot, u64>, r: &Timed) -> Result<(), AllocError>
 /// The sum of the values at each slot.
 #[tactic(auto, using(crate::proofs::NumberLaws::sums_all))]
 fn sums(alloc: Global, rs: &[Timed]) -> Result<BTreeMap<Slot, u64>, AllocError>
-    ensures { IfOk result (λ sums. HasNumbers sums (sum_at rs.now) rs.now) }
+    ensures { IfOk result (λ sums. HasNumbers sums (sum_of_slot rs.now) rs.now) }
 {
     let mut sums = BTreeMap::new(alloc);
     for r in rs {
@@ -104,8 +104,8 @@ fn total_up(
     by_slot: &mut BTreeMap<Slot, u64>,
     r: &Timed,
 ) -> Result<(), AllocError>
-    ensures totals { (rs : List whole.Timed) → HasTotals totals.old rs → OnOk result (HasTotals totals.new (r.now ∷ rs)) }
-    ensures by_slot { (rs : List whole.Timed) → HasTotals totals.old rs → ComeBefore rs r.now
+    ensures totals { (rs : List whole.Timed) → HasSlotSums totals.old rs → OnOk result (HasSlotSums totals.new (r.now ∷ rs)) }
+    ensures by_slot { (rs : List whole.Timed) → HasSlotSums totals.old rs → ComeBefore rs r.now
         → HasNumbers by_slot.old (total_at rs) rs
         → OnOk result (HasNumbers by_slot.new (total_at (r.now ∷ rs)) (r.now ∷ rs)) }
 {

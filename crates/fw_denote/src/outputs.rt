@@ -4,7 +4,7 @@ ghost use Rattle.fw_flow.specs.Dataflow.{kind_of, batches_of, system_of};
 ghost use Rattle.fw_flow.specs.WellFormed.{IsGroupSize, IsInDegree, IsWellFormedSystem};
 ghost use Rattle.fw_flow.specs.WholeBags as whole;
 ghost use Rattle.fw_denote.specs.Domains.{AreIn};
-ghost use Rattle.fw_denote.specs.Holding.{IsHeld, family_of, sent_by};
+ghost use Rattle.fw_denote.specs.Holding.{AreBagsHeld, family_held, bag_sent_by};
 
 use crate::alone::one_by_one;
 use crate::distinct::distinct;
@@ -51,7 +51,7 @@ pub(crate) fn sent(
 
 /// The bag that a node sends.
 pub(crate) fn bag_of(bags: &[TimedBag], node: NodeId) -> &[Timed]
-    ensures recs { result.now ≡ sent_by bags.now node }
+    ensures recs { result.now ≡ bag_sent_by bags.now node }
     ensures in_order { whole.in_order result.now ≡ result.now }
 {
     match bags.get(node.place() as usize) {
@@ -62,7 +62,7 @@ pub(crate) fn bag_of(bags: &[TimedBag], node: NodeId) -> &[Timed]
 
 /// The bag that comes on an edge.
 fn on_edge<'a>(flow: &Flow, bags: &'a [TimedBag], edge: EdgeId) -> &'a [Timed]
-    ensures { result.now ≡ family_of flow.now bags.now edge }
+    ensures { result.now ≡ family_held flow.now bags.now edge }
 {
     bag_of(bags, flow.src(edge))
 }
@@ -74,7 +74,7 @@ fn joint(
     bags: &[TimedBag],
     edges: &[EdgeId],
 ) -> Result<Vec<Timed>, AllocError>
-    ensures { IfOk result (λ rs. rs.items ≡ whole.joint_bag (map (family_of flow.now bags.now) edges.now)) }
+    ensures { IfOk result (λ rs. rs.items ≡ whole.joint_bag (map (family_held flow.now bags.now) edges.now)) }
 {
     let mut rs = Vec::new(alloc);
     for edge in edges {
@@ -125,9 +125,9 @@ fn recs_sent(
 ) -> Result<Vec<Timed>, AllocError>
     requires there { node < length flow.now.nodes }
     requires system { IsWellFormedSystem (system_of flow.now batches.now) }
-    requires held { IsHeld flow.now bags.now }
+    requires held { AreBagsHeld flow.now bags.now }
     ensures { IfOk result (λ recs. whole.in_order recs.items
-        ≡ whole.outputs_of (system_of flow.now batches.now) (family_of flow.now bags.now) node) }
+        ≡ whole.outputs_of (system_of flow.now batches.now) (family_held flow.now bags.now) node) }
 {
     let kind = flow.kind(node);
     let edges = flow.in_edges(node);
@@ -155,8 +155,8 @@ pub(crate) fn outputs(
 ) -> Result<TimedBag, AllocError>
     requires there { node < length flow.now.nodes }
     requires system { IsWellFormedSystem (system_of flow.now batches.now) }
-    requires held { IsHeld flow.now bags.now }
-    ensures { IfOk result (λ bag. bag ≡ whole.outputs_of (system_of flow.now batches.now) (family_of flow.now bags.now) node) }
+    requires held { AreBagsHeld flow.now bags.now }
+    ensures { IfOk result (λ bag. bag ≡ whole.outputs_of (system_of flow.now batches.now) (family_held flow.now bags.now) node) }
 {
     TimedBag::of(recs_sent(alloc, flow, batches, bags, node)?)
 }

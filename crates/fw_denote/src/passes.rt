@@ -5,7 +5,7 @@ ghost use Rattle.fw_flow.specs.WellFormed.{IsWellFormedSystem};
 ghost use Rattle.fw_flow.specs.WholeBags as whole;
 ghost use Rattle.fw_model.specs.Denotation.{Family, IsDenotation};
 ghost use Rattle.fw_model.specs.Measure.{Measure};
-ghost use Rattle.fw_denote.specs.Holding.{IsHeld, IsSolved, AreRight, family_of};
+ghost use Rattle.fw_denote.specs.Holding.{AreBagsHeld, IsSolved, AreRight, family_held};
 
 use crate::outputs::outputs;
 use crate::{Timed, TimedBag};
@@ -31,9 +31,9 @@ fn run(
 ) -> Result<bool, AllocError>
     requires there { node < length flow.now.nodes }
     requires system { IsWellFormedSystem (system_of flow.now batches.now) }
-    requires held { IsHeld flow.now bags.old.items }
+    requires held { AreBagsHeld flow.now bags.old.items }
     ensures set { OnOk result (bags.new.items ≡ slice_set bags.old.items node
-        (whole.outputs_of (system_of flow.now batches.now) (family_of flow.now bags.old.items) node)) }
+        (whole.outputs_of (system_of flow.now batches.now) (family_held flow.now bags.old.items) node)) }
     ensures same { IfOk result (λ changed. changed ≡ false → bags.new.items ≡ bags.old.items) }
 {
     let bag = outputs(alloc, flow, batches, bags, node)?;
@@ -51,8 +51,8 @@ pub(crate) fn pass(
     bags: &mut Vec<TimedBag>,
 ) -> Result<bool, AllocError>
     requires system { IsWellFormedSystem (system_of flow.now batches.now) }
-    requires held { IsHeld flow.now bags.old.items }
-    ensures held { OnOk result (IsHeld flow.now bags.new.items) }
+    requires held { AreBagsHeld flow.now bags.old.items }
+    ensures held { OnOk result (AreBagsHeld flow.now bags.new.items) }
     ensures solved { IfOk result (λ changed. changed ≡ false → IsSolved (system_of flow.now batches.now) bags.new.items) }
     ensures closer { (by : Measure flow.now) (family : Family) (m : ℕ) → IsDenotation (system_of flow.now batches.now) family
         → AreRight flow.now by family 0 m bags.old.items → OnOk result (AreRight flow.now by family 0 (m + 1) bags.new.items) }

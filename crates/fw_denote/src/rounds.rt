@@ -10,7 +10,7 @@ ghost use Rattle.fw_flow.specs.Dataflow.{kind_of, sender, system_of};
 ghost use Rattle.fw_flow.specs.WellFormed.{IsWellFormed, IsWellFormedSystem};
 ghost use Rattle.fw_flow.specs.WholeBags as whole;
 ghost use Rattle.fw_denote.specs.Domains.{AreOut};
-ghost use Rattle.fw_denote.specs.Holding.{IsHeld};
+ghost use Rattle.fw_denote.specs.Holding.{AreBagsHeld};
 
 use crate::join::joined;
 use crate::numbered::batched;
@@ -212,8 +212,8 @@ fn keep(
     sent: Vec<Timed>,
 ) -> Result<(), AllocError>
     requires well_formed { IsWellFormed flow.now }
-    requires held { IsHeld flow.now bags.old.items }
-    ensures { OnOk result (IsHeld flow.now bags.new.items) }
+    requires held { AreBagsHeld flow.now bags.old.items }
+    ensures { OnOk result (AreBagsHeld flow.now bags.new.items) }
 {
     if place >= flow.nodes() || place >= bags.len() {
         return Ok(());
@@ -249,7 +249,7 @@ pub(crate) fn first_bags(
     batches: &Batches,
 ) -> Result<Vec<TimedBag>, AllocError>
     requires { IsWellFormedSystem (system_of flow.now batches.now) }
-    ensures { IfOk result (λ bags. IsHeld flow.now bags.items) }
+    ensures { IfOk result (λ bags. AreBagsHeld flow.now bags.items) }
 {
     let mut course = Course::new(alloc, flow)?;
     course.start(flow, batches)?;

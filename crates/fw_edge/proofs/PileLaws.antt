@@ -22,7 +22,7 @@ use Rattle.fw_model.specs.SortedMessages.{with_message, sorted_messages}
 use Rattle.fw_model.proofs.SortedLaws.{IsAscendingMessages, sorted_messages-ascending}
 use Rattle.fw_edge.specs.declared.pile.Held.{Held}
 use Rattle.fw_edge.specs.declared.pile.Held.TheVariants.{One, Many}
-use Rattle.fw_edge.specs.Piles.{counted_messages, messages_held, IsHeld, IsTally}
+use Rattle.fw_edge.specs.Piles.{counted_messages, messages_held, IsHeld, ArePileCounts}
 
 -- ---- a message put in
 
@@ -64,7 +64,7 @@ raised_cases m e es s p ih Greater h =
     ∙ sym (with_message-past m e.0 e.1 (counted_messages es) (ap is_le h))
 
 -- one more of a message is the message put in
-pub counted-raised : (m : Message) (es : List (Message × ℕ)) → IsTally es
+pub counted-raised : (m : Message) (es : List (Message × ℕ)) → ArePileCounts es
     → counted_messages (raised m es (lookup (is_at (message_cmp m)) es)) ≡ with_message m (counted_messages es)
 counted-raised m es t = by es t.ordered t.positive
   where
@@ -180,7 +180,7 @@ ascending-counted (e ∷ es) s =
     (ascending-counted es (sorted_tail message_cmp e.0 (keys_of es) s))
 
 -- the messages of counts are in order
-pub counted-in_order : (es : List (Message × ℕ)) → IsTally es → sorted_messages (counted_messages es) ≡ counted_messages es
+pub counted-in_order : (es : List (Message × ℕ)) → ArePileCounts es → sorted_messages (counted_messages es) ≡ counted_messages es
 counted-in_order es t = sorted_messages-ascending (counted_messages es) (ascending-counted es t.ordered)
 
 -- ---- copies of one message

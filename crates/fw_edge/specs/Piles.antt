@@ -15,7 +15,7 @@ abbrev pub counted_messages : List (Message × ℕ) → List Message
 counted_messages es = flat_map (λ e. replicate e.1 e.0) es
 
 -- the messages of the entries ascend with no two equal, and each count is at least 1
-pub record IsTally (entries : List (Message × ℕ)) : Type 0 where
+pub record ArePileCounts (entries : List (Message × ℕ)) : Type 0 where
   pub ordered : IsStrictlySortedBy message_cmp (keys_of entries)
   pub positive : AllByRecursion (λ e. 0 < e.1) entries
 
@@ -27,7 +27,7 @@ messages_held (Many counts len) = counted_messages counts.entries
 -- more than one are kept by counts, with the number of all
 abbrev pub IsHeld : Held → Type 0
 IsHeld (One message count) = Unit {0}
-IsHeld (Many counts len) = IsTally counts.entries × (len ≡ length (counted_messages counts.entries))
+IsHeld (Many counts len) = ArePileCounts counts.entries × (len ≡ length (counted_messages counts.entries))
 
 -- the messages of piles, one pile after the other
 abbrev pub piled_messages : List (Stamp × List Message) → List Message

@@ -7,7 +7,7 @@ ghost use Rattle.fw_frontier.specs.Front.{inside};
 ghost use Rattle.fw_flow.specs.Message.{message_cmp};
 ghost use Rattle.fw_model.specs.SortedMessages.{with_message, sorted_messages};
 ghost use Rattle.fw_model.specs.Filtering.{messages_from};
-ghost use Rattle.fw_edge.specs.Piles.{counted_messages, messages_held, IsHeld, IsTally};
+ghost use Rattle.fw_edge.specs.Piles.{counted_messages, messages_held, IsHeld, ArePileCounts};
 
 use crate::message::comes_from;
 use fw_flow::Message;
@@ -235,9 +235,9 @@ fn count_one(counts: &mut BTreeMap<Message, usize>, message: Message) -> Result<
 
 // Raises the count of a message by one.
 fn raise(counts: &mut BTreeMap<Message, usize>, message: Message) -> Result<(), AllocError>
-    requires tally { IsTally counts.old.entries }
+    requires tally { ArePileCounts counts.old.entries }
     requires room { length (counted_messages counts.old.entries) + 1 < 2 ^ 64 }
-    ensures tally { IsTally counts.new.entries }
+    ensures tally { ArePileCounts counts.new.entries }
     ensures ok { OnOk result (counted_messages counts.new.entries ≡ with_message message (counted_messages counts.old.entries)) }
     ensures err { OnErr result (counts.new.entries ≡ counts.old.entries) }
 {
@@ -251,9 +251,9 @@ fn put_one(
     len: &mut usize,
     message: Message,
 ) -> Result<(), AllocError>
-    requires tally { IsTally counts.old.entries }
+    requires tally { ArePileCounts counts.old.entries }
     requires len { len.old ≡ length (counted_messages counts.old.entries) }
-    ensures tally { IsTally counts.new.entries }
+    ensures tally { ArePileCounts counts.new.entries }
     ensures len { len.new ≡ length (counted_messages counts.new.entries) }
     ensures ok { OnOk result (counted_messages counts.new.entries ≡ with_message message (counted_messages counts.old.entries)) }
     ensures err { OnErr result (counted_messages counts.new.entries ≡ counted_messages counts.old.entries) }
@@ -266,7 +266,7 @@ fn put_one(
 
 // The first message.
 fn first_of(counts: &BTreeMap<Message, usize>) -> Option<&Message>
-    requires { IsTally counts.now.entries }
+    requires { ArePileCounts counts.now.entries }
     ensures { option_copied result ≡ slice_get (counted_messages counts.now.entries) 0 }
 {
     let (message, _) = counts.first_key_value()?;
@@ -275,10 +275,10 @@ fn first_of(counts: &BTreeMap<Message, usize>) -> Option<&Message>
 
 // Lowers the count of the first message, which is more than one, by one.
 fn lower_first(counts: &mut BTreeMap<Message, usize>, first: &Message, count: usize)
-    requires tally { IsTally counts.old.entries }
+    requires tally { ArePileCounts counts.old.entries }
     requires first { slice_get counts.old.entries 0 ≡ Some (first.now, count) }
     requires some { 1 < count }
-    ensures tally { IsTally counts.new.entries }
+    ensures tally { ArePileCounts counts.new.entries }
     ensures rest { counted_messages counts.new.entries ≡ drop 1 (counted_messages counts.old.entries) }
 {
     if let Some(held) = counts.get_mut(first) {
@@ -288,8 +288,8 @@ fn lower_first(counts: &mut BTreeMap<Message, usize>, first: &Message, count: us
 
 // Takes the first message out.
 fn take_one(counts: &mut BTreeMap<Message, usize>) -> Option<Message>
-    requires { IsTally counts.old.entries }
-    ensures tally { IsTally counts.new.entries }
+    requires { ArePileCounts counts.old.entries }
+    ensures tally { ArePileCounts counts.new.entries }
     ensures value { result ≡ slice_get (counted_messages counts.old.entries) 0 }
     ensures rest { counted_messages counts.new.entries ≡ drop 1 (counted_messages counts.old.entries) }
 {
@@ -306,9 +306,9 @@ fn take_one(counts: &mut BTreeMap<Message, usize>) -> Option<Message>
 
 // Keeps the messages all of whose causes are inside, where `len` is the number of all.
 fn keep_counts(counts: &mut BTreeMap<Message, usize>, len: &mut usize, f: &Front)
-    requires tally { IsTally counts.old.entries }
+    requires tally { ArePileCounts counts.old.entries }
     requires len { len.old ≡ length (counted_messages counts.old.entries) }
-    ensures tally { IsTally counts.new.entries }
+    ensures tally { ArePileCounts counts.new.entries }
     ensures len { len.new ≡ length (counted_messages counts.new.entries) }
     ensures kept { counted_messages counts.new.entries ≡ messages_from (inside f.now) (counted_messages counts.old.entries) }
 {
@@ -318,8 +318,8 @@ fn keep_counts(counts: &mut BTreeMap<Message, usize>, len: &mut usize, f: &Front
 
 // Keeps the messages all of whose causes are inside.
 fn retain_counts(counts: &mut BTreeMap<Message, usize>, f: &Front)
-    requires tally { IsTally counts.old.entries }
-    ensures tally { IsTally counts.new.entries }
+    requires tally { ArePileCounts counts.old.entries }
+    ensures tally { ArePileCounts counts.new.entries }
     ensures kept { counted_messages counts.new.entries ≡ messages_from (inside f.now) (counted_messages counts.old.entries) }
 {
     counts.retain(|message, _| comes_from(message, f));

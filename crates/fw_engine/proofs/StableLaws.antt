@@ -23,7 +23,7 @@ use Rattle.fw_node.specs.NodeOf.{IsNodeOf}
 use Rattle.fw_progress.specs.declared.counts.Counts.{Counts}
 use Rattle.fw_progress.specs.Counts.{AreCounts, owed_of, pending_of}
 use Rattle.fw_progress.specs.Progress.{IsOfFlow, Standing}
-use Rattle.fw_progress.specs.Tally.{IsPositive, IsTallyOf}
+use Rattle.fw_progress.specs.Tally.{AreCountsPositive, IsTallyOf}
 use Rattle.fw_progress.specs.declared.traces.Traces.{Traces}
 use Rattle.fw_progress.specs.Trace.{HaveLists}
 use Rattle.fw_progress.specs.Traces.{AreOf}
@@ -106,7 +106,7 @@ fronts-stable flow fronts t p = canonical-stable (bounds_of flow p) (front_of fr
 
 -- ---- progress
 
-positive-stable : (entries : List (Stamp × ℕ)) → IsStable (IsPositive entries)
+positive-stable : (entries : List (Stamp × ℕ)) → IsStable (AreCountsPositive entries)
 positive-stable [] t = tt
 positive-stable (e ∷ es) t = (lt-stable 0 e.1 (∥∥₁_map t (λ h. h.0)), positive-stable es (∥∥₁_map t (λ h. h.1)))
 

@@ -7,7 +7,7 @@ use Rattle.fw_flow.specs.Dataflow.{System, bounds_of}
 use Rattle.fw_model.specs.Auto.{IsIdle}
 use Rattle.fw_model.specs.Machine.{Machine}
 use Rattle.fw_keep.specs.Stored.{Records}
-use Rattle.fw_progress.specs.History.{StandsFor}
+use Rattle.fw_progress.specs.History.{StandsForHistory}
 use Rattle.fw_running.specs.declared.fault.EngineFault.{EngineFault}
 use Rattle.fw_running.specs.declared.running.Running.{Running}
 use Rattle.fw_running.specs.declared.stepped.Stepped.{Stepped}
@@ -48,7 +48,7 @@ pub record IsSearched (old new : Running) : Type 0 where
   pub others : new ≡ with_notices new old
   pub counts : new.progress.counts ≡ old.progress.counts
   pub settled : new.progress.settled ≡ old.progress.settled
-  pub stands : (sys : System) (h : List Event) → sys.flow ≡ old.flow → StandsFor sys h old.progress → StandsFor sys h new.progress
+  pub stands : (sys : System) (h : List Event) → sys.flow ≡ old.flow → StandsForHistory sys h old.progress → StandsForHistory sys h new.progress
 
 -- ---- what a search finds
 

@@ -32,7 +32,7 @@ use Rattle.fw_keep.specs.Entry.{asked}
 use Rattle.fw_keep.specs.Stored.{Records}
 use Rattle.fw_node.specs.Answers.{caused_by}
 use Rattle.fw_policy.specs.View.{IsLostAt}
-use Rattle.fw_progress.specs.History.{Follows}
+use Rattle.fw_progress.specs.History.{FollowsEvent}
 use Rattle.fw_progress.specs.Trace.{TracesFollow}
 use Rattle.fw_stands.specs.Events.{put_on, LogFollows, QueueFollows}
 use Rattle.fw_stands.specs.Entries.{entries_of_event}
@@ -48,7 +48,7 @@ use Rattle.fw_stands.proofs.EventTraceLaws.{traces-follow, progress-follows}
 use Rattle.fw_stands.proofs.SpellingLaws.{logged_events_have_spellings}
 use Rattle.fw_running.specs.declared.running.Running.{Running}
 use Rattle.fw_running.specs.Kept.{queue_at, log_at, table_of, source_of, output_of, lost_at, is_down}
-use Rattle.fw_running.specs.Logging.{IsLogged, IsNotAsked}
+use Rattle.fw_running.specs.Logging.{IsEventAsked, IsNotAsked}
 use Rattle.fw_running.specs.Stands.{Stands}
 use Rattle.fw_events.specs.AfterEvent.{stamps_in, EdgesFollow, LeavesOthers, WritesStand, EventsAreFollowed, LoggedEventsAreFollowed}
 
@@ -172,7 +172,7 @@ events_are_followed sys state v old new before after step effect s enabled live 
           let not = injects-here sys.flow v q k in
           subst (IsSourceOf sys next q) (sym (o.sources q not)) (sources-stay sys state v q not (source_of old q) (s.sources q l)));
       progress = progress-follows sys state w r v enabled t.sent sent old.progress new.progress
-          (subst (λ f. Follows f v (stamps_in t.sent) old.progress new.progress) s.flow t.progress) s.progress;
+          (subst (λ f. FollowsEvent f v (stamps_in t.sent) old.progress new.progress) s.flow t.progress) s.progress;
       traces = λ q l. traces-follow sys state v t.sent sent old.traces new.traces
           (subst (λ f. TracesFollow f v (stamps_in t.sent) old.traces new.traces) s.flow t.traces) q (s.traces q l);
       lost = λ q full x.
@@ -205,7 +205,7 @@ none-written asks p serial n = refl
 logged-stands : (sys : System) (state : Machine) → IsWellFormedSystem sys → IsReached sys state → (step : Step) (next : Machine) (effect : Effect)
     → LeadsTo sys state step next effect → (v : Event) → next ≡ with_event sys state v → IsEnabled sys (events state.history) v
     → policy_of sys.flow (event_node sys.flow v) ≡ policy.Full → (event : Told) → told_of v ≡ Some event
-    → (old new : List Entry) (before after : Option Records) → IsLogged (event_node sys.flow v) event old new before after
+    → (old new : List Entry) (before after : Option Records) → IsEventAsked (event_node sys.flow v) event old new before after
     → AreEntriesOf sys state old (uncollected state) → AreStored sys state before old (uncollected state)
     → AreEntriesOf sys next new (uncollected next) × AreStored sys next after new (uncollected next)
 logged-stands sys state w r step next effect leads v is enabled full event told old new before after l entries stored =

@@ -18,7 +18,7 @@ use Rattle.fw_model.proofs.NothingInsideLaws.{kind-declared}
 use Rattle.fw_border.specs.Sources.{next_batch}
 use Rattle.fw_edge.specs.Messages.{MessagesState}
 use Rattle.fw_rollback.specs.Edges.{nothing_there, on_edge}
-use Rattle.fw_stands.specs.Events.{asked_of, next_queued}
+use Rattle.fw_stands.specs.Events.{asked_of_queue, next_queued}
 use Rattle.fw_stands.proofs.EventNextLaws.{next-first_at_its_stamp}
 use Rattle.fw_running.specs.Shaped.{IsOnEdge, IsShaped}
 use Rattle.fw_running.specs.declared.running.Running.{Running}
@@ -33,12 +33,12 @@ nothing-past all e past = ap (λ (q : MessagesState). q.messages) (get_or_past a
 
 -- the first message of an edge is the first of its queue
 pub first-of_numbers : (flow : Dataflow) (e : ℕ) (at : Option Stamp) (queue : List Message) → is_numbered flow e ≡ true
-    → find (λ (m : Message). is_asked None m.at) queue ≡ find (λ (m : Message). is_asked (asked_of flow e at) m.at) queue
+    → find (λ (m : Message). is_asked None m.at) queue ≡ find (λ (m : Message). is_asked (asked_of_queue flow e at) m.at) queue
 first-of_numbers flow e at queue numbers =
     ap (λ (a : Option Stamp). find (λ (m : Message). is_asked a m.at) queue) (sym (cond-true (is_numbered flow e) None at numbers))
 
 pub first-of_others : (flow : Dataflow) (e : ℕ) (at : Option Stamp) (queue : List Message) → is_numbered flow e ≡ false
-    → find (λ (m : Message). is_asked at m.at) queue ≡ find (λ (m : Message). is_asked (asked_of flow e at) m.at) queue
+    → find (λ (m : Message). is_asked at m.at) queue ≡ find (λ (m : Message). is_asked (asked_of_queue flow e at) m.at) queue
 first-of_others flow e at queue others =
     ap (λ (a : Option Stamp). find (λ (m : Message). is_asked a m.at) queue) (sym (cond-false (is_numbered flow e) None at others))
 

@@ -28,7 +28,7 @@ use Rattle.fw_node.specs.NodeOf.{CanBeSent, stamps_of}
 use Rattle.fw_node.specs.Sends.{sends_list}
 use Rattle.fw_node.proofs.NodeOfLaws.{input-can_send}
 use Rattle.fw_progress.specs.declared.traces.Traces.{Traces}
-use Rattle.fw_progress.specs.History.{Follows as ProgressFollows}
+use Rattle.fw_progress.specs.History.{FollowsEvent as ProgressFollows}
 use Rattle.fw_progress.specs.Progress.{Standing}
 use Rattle.fw_progress.specs.Trace.{TracesFollow}
 use Rattle.fw_stands.specs.Events.{at_epoch, AreSent, IsInjectionOf}

@@ -19,7 +19,7 @@ use Rattle.fw_record.specs.declared.record.Event.TheVariants as logged
 use Rattle.fw_keep.specs.Catalogue.{KeepState}
 use Rattle.fw_keep.specs.Stored.{Records}
 use Rattle.fw_progress.specs.Counts.{owed_of}
-use Rattle.fw_progress.specs.History.{StandsFor}
+use Rattle.fw_progress.specs.History.{StandsForHistory}
 use Rattle.fw_progress.specs.Notices.{IsFirstNotice}
 use Rattle.fw_progress.specs.Progress.{Standing, IsOfFlow}
 use Rattle.fw_progress.specs.Tally.{times_in, has_one}
@@ -57,13 +57,13 @@ first-found sys h p (Some t) f = f
 
 -- so it is found
 pub first_finds : (old mid : Running) (p : ℕ) (found : Option Stamp) → IsBroughtUp old mid
-    → ((sys : System) (h : List Event) → sys.flow ≡ mid.flow → StandsFor sys h mid.progress → IsFirstNotice sys h p found)
+    → ((sys : System) (h : List Event) → sys.flow ≡ mid.flow → StandsForHistory sys h mid.progress → IsFirstNotice sys h p found)
     → FindsNotice old.flow old.progress p None found
 first_finds old mid p found up first = λ sys h e s.
     first-found sys h p found (first sys h (e ∙ sym (ap (λ (r : Running). r.flow) up.others)) (up.fresh.complete sys h e s).0)
 
 -- a node is notified at stamps of its domain alone
-pub notifiable_in_domain : (sys : System) (h : List Event) (progress : Standing) → IsOfFlow sys.flow progress → StandsFor sys h progress
+pub notifiable_in_domain : (sys : System) (h : List Event) (progress : Standing) → IsOfFlow sys.flow progress → StandsForHistory sys h progress
     → (p : ℕ) → p < length sys.flow.nodes → (t : Stamp) → IsNotifiable sys h p t → in_domain (bounds_of sys.flow p) t ≡ true
 notifiable_in_domain sys h progress o s p l t n =
     each-counted (λ x. in_domain (bounds_of sys.flow p) x ≡ true) (owed_of progress.counts p) (o.counts.owed p l).of_domain t (s.counts.owed p l t ∙ n.is_owed)
@@ -82,14 +82,14 @@ none_outside old mid p t up l out = λ sys h e s x n.
 
 -- the stamp that is asked for is found, where the node may be notified of it
 pub asked_finds : (old mid : Running) (p : ℕ) (t : Stamp) → IsBroughtUp old mid → (can : Bool) → can ≡ true
-    → ((sys : System) (h : List Event) → sys.flow ≡ mid.flow → StandsFor sys h mid.progress → IsTrue can ↔ IsNextNotice sys h p (Some t) t)
+    → ((sys : System) (h : List Event) → sys.flow ≡ mid.flow → StandsForHistory sys h mid.progress → IsTrue can ↔ IsNextNotice sys h p (Some t) t)
     → FindsNotice old.flow old.progress p (Some t) (Some t)
 asked_finds old mid p t up can so next = λ sys h e s.
     (next sys h (e ∙ sym (ap (λ (r : Running). r.flow) up.others)) (up.fresh.complete sys h e s).0).0 so
 
 -- and else none is
 pub asked_finds_none : (old mid : Running) (p : ℕ) (t : Stamp) → IsBroughtUp old mid → (can : Bool) → can ≡ false
-    → ((sys : System) (h : List Event) → sys.flow ≡ mid.flow → StandsFor sys h mid.progress → IsTrue can ↔ IsNextNotice sys h p (Some t) t)
+    → ((sys : System) (h : List Event) → sys.flow ≡ mid.flow → StandsForHistory sys h mid.progress → IsTrue can ↔ IsNextNotice sys h p (Some t) t)
     → FindsNotice old.flow old.progress p (Some t) None
 asked_finds_none old mid p t up can not_so next = λ sys h e s x n.
     let at_t : IsNextNotice sys h p (Some t) t = subst (λ y. IsNextNotice sys h p (Some t) y) (sym n.asked) n in

@@ -29,7 +29,7 @@ use Rattle.fw_node.specs.declared.node.Node.{Node}
 use Rattle.fw_node.specs.NodeOf.{IsNodeOf}
 use Rattle.fw_progress.specs.declared.traces.Traces.{Traces}
 use Rattle.fw_progress.specs.Counts.{owed_of}
-use Rattle.fw_progress.specs.Progress.{IsDelivered, IsInjected, IsNotified, Standing}
+use Rattle.fw_progress.specs.Progress.{DeliversOne, IsInjected, IsNotified, Standing}
 use Rattle.fw_progress.specs.Tally.{times_in, HasNoMore}
 use Rattle.fw_progress.proofs.TallyLaws.{is_eq-same}
 use Rattle.fw_rollback.specs.Edges.{on_edge}
@@ -144,7 +144,7 @@ shaped-output old new o change s is outputs put =
 
 -- a node that is owed a notification after a delivery was owed one before, or is the receiver, which is put among those that are ready
 pub owing-delivered : (old : Running) (traces : Traces) (progress : Standing) (d : ℕ) (at : Stamp) (sent : List Stamp) → IsShaped old
-    → IsDelivered old.flow d at sent old.progress.counts progress.counts
+    → DeliversOne old.flow d at sent old.progress.counts progress.counts
     → (is_notified_kind (kind_of old.flow (receiver old.flow d)) ≡ true → Contains old.ready.owing (receiver old.flow d))
     → (q : ℕ) → IsOwing (with_told traces progress old) q → Contains old.ready.owing q
 owing-delivered old traces progress d at sent s t put q c = elim (cases_Bool (is_notified_kind (kind_of old.flow (receiver old.flow d)))) [

@@ -26,7 +26,7 @@ use Rattle.fw_node.specs.Answers.{caused_by}
 use Rattle.fw_node.specs.declared.node.Node.{Node}
 use Rattle.fw_node.specs.NodeOf.{CanBeSent}
 use Rattle.fw_progress.specs.declared.traces.Traces.{Traces}
-use Rattle.fw_progress.specs.History.{Follows}
+use Rattle.fw_progress.specs.History.{FollowsEvent}
 use Rattle.fw_progress.specs.Progress.{CanSend, Standing}
 use Rattle.fw_progress.specs.Trace.{TracesFollow}
 use Rattle.fw_stands.specs.Parts.{has_table, IsTableIn, IsOutputOf, IsSourceOf}
@@ -120,8 +120,8 @@ heard-is_taken v old a new taking live idle t no_output no_injection = record {
     logs_stay = edges.logs_stay;
   });
   own = own;
-  progress = subst (λ f. Follows f v (stamps_in t.sent) old.progress new.progress) (to_put Dataflow (λ r. r.flow) refl refl refl)
-      (subst (λ p. Follows t.put.flow v (stamps_in t.sent) p new.progress) (to_put Standing (λ r. r.progress) refl refl refl) t.told.progress);
+  progress = subst (λ f. FollowsEvent f v (stamps_in t.sent) old.progress new.progress) (to_put Dataflow (λ r. r.flow) refl refl refl)
+      (subst (λ p. FollowsEvent t.put.flow v (stamps_in t.sent) p new.progress) (to_put Standing (λ r. r.progress) refl refl refl) t.told.progress);
   traces = subst (λ f. TracesFollow f v (stamps_in t.sent) old.traces new.traces) (to_put Dataflow (λ r. r.flow) refl refl refl)
       (subst (λ p. TracesFollow t.put.flow v (stamps_in t.sent) p new.traces) (to_put Traces (λ r. r.traces) refl refl refl) t.told.traces);
 }
@@ -228,8 +228,8 @@ taken_by_output d m old a new taking taken t live output there = record {
     logs_stay = edges.logs_stay;
   });
   own = own;
-  progress = subst (λ f. Follows f (Deliver d m) [] old.progress new.progress) (to_b Dataflow (λ r. r.flow) refl refl)
-      (subst (λ p. Follows t.between.flow (Deliver d m) [] p new.progress) (to_b Standing (λ r. r.progress) refl refl) t.told.progress);
+  progress = subst (λ f. FollowsEvent f (Deliver d m) [] old.progress new.progress) (to_b Dataflow (λ r. r.flow) refl refl)
+      (subst (λ p. FollowsEvent t.between.flow (Deliver d m) [] p new.progress) (to_b Standing (λ r. r.progress) refl refl) t.told.progress);
   traces = subst (λ f. TracesFollow f (Deliver d m) [] old.traces new.traces) (to_b Dataflow (λ r. r.flow) refl refl)
       (subst (λ p. TracesFollow t.between.flow (Deliver d m) [] p new.traces) (to_b Traces (λ r. r.traces) refl refl) t.told.traces);
 }

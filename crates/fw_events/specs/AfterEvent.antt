@@ -18,7 +18,7 @@ use Rattle.fw_model.specs.SortedMessages.{with_messages}
 use Rattle.fw_model.specs.Steps.{Effect, LeadsTo, with_event}
 use Rattle.fw_record.specs.declared.record.Event.{Event as Logged}
 use Rattle.fw_keep.specs.Stored.{Records}
-use Rattle.fw_progress.specs.History.{Follows}
+use Rattle.fw_progress.specs.History.{FollowsEvent}
 use Rattle.fw_progress.specs.Trace.{TracesFollow}
 use Rattle.fw_stands.specs.Events.{put_on, AreSent}
 use Rattle.fw_stands.specs.Parts.{IsTableIn, IsOutputOf, IsSourceOf}
@@ -76,7 +76,7 @@ pub record TakesEvent (v : Event) (old new : Running) : Type 0 where
   pub others : LeavesOthers old.flow v old new
   pub edges : EdgesFollow old.flow v sent old new
   pub own : OwnFollow v sent old new
-  pub progress : Follows old.flow v (stamps_in sent) old.progress new.progress
+  pub progress : FollowsEvent old.flow v (stamps_in sent) old.progress new.progress
   pub traces : TracesFollow old.flow v (stamps_in sent) old.traces new.traces
 
 -- entries and records stand for the writes of a state

@@ -8,7 +8,7 @@ use Rattle.fw_model.specs.History.{IsEnabled}
 use Rattle.fw_model.specs.Machine.{Machine, events, is_failed}
 use Rattle.fw_model.specs.Steps.{IsNextNotice, with_event}
 use Rattle.fw_keep.specs.Stored.{Records}
-use Rattle.fw_progress.specs.History.{StandsFor}
+use Rattle.fw_progress.specs.History.{StandsForHistory}
 use Rattle.fw_progress.specs.Progress.{Standing}
 use Rattle.fw_running.specs.declared.fault.EngineFault.{EngineFault}
 use Rattle.fw_running.specs.declared.fault.EngineFault.TheVariants as fault
@@ -22,7 +22,7 @@ IsNoticeFound sys h p at (Some t) = IsNextNotice sys h p at t
 
 -- so it is after each history for which progress stands
 abbrev pub FindsNotice : Dataflow → Standing → ℕ → Option Stamp → Option Stamp → Type 0
-FindsNotice flow progress p at found = (sys : System) (h : List Event) → sys.flow ≡ flow → StandsFor sys h progress → IsNoticeFound sys h p at found
+FindsNotice flow progress p at found = (sys : System) (h : List Event) → sys.flow ≡ flow → StandsForHistory sys h progress → IsNoticeFound sys h p at found
 
 -- What being notified answers in a state in which the notification may come next: the engine stands for the state with the event;
 -- after a fault of the store for the state still.

@@ -5,6 +5,6 @@ use Rattle.fw_events.specs.declared.stamps.SentStamps.{SentStamps}
 use Rattle.fw_events.specs.declared.stamps.SentStamps.TheVariants.{AtMostOne, Many}
 
 -- the stamps, in order
-abbrev pub stamps_sent : SentStamps → List Stamp
-stamps_sent (AtMostOne at) = option_to_list at
-stamps_sent (Many stamps) = stamps.items
+abbrev pub stamps_in_order : SentStamps → List Stamp
+stamps_in_order (AtMostOne at) = option_to_list at
+stamps_in_order (Many stamps) = stamps.items

@@ -22,7 +22,7 @@ use Rattle.fw_node.specs.declared.node.Node.{Node}
 use Rattle.fw_node.specs.declared.sends.Sends.{Sends}
 use Rattle.fw_node.specs.Sends.{sends_list}
 use Rattle.fw_progress.specs.declared.traces.Traces.{Traces}
-use Rattle.fw_progress.specs.History.{Follows}
+use Rattle.fw_progress.specs.History.{FollowsEvent}
 use Rattle.fw_progress.specs.Progress.{Standing}
 use Rattle.fw_progress.specs.Trace.{TracesFollow}
 use Rattle.fw_stands.specs.Events.{at_epoch, AreSent}
@@ -69,7 +69,7 @@ TableTakes flow v sent old new =
 
 -- Traces and progress are told of an event at which its node sends at these stamps.
 pub record TellsOf (v : Event) (stamps : List Stamp) (old new : Running) : Type 0 where
-  pub progress : Follows old.flow v stamps old.progress new.progress
+  pub progress : FollowsEvent old.flow v stamps old.progress new.progress
   pub traces : TracesFollow old.flow v stamps old.traces new.traces
   pub settled : new.progress.settled ≡ old.progress.settled
   pub kept : new.progress.kept ≡ old.progress.kept

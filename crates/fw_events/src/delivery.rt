@@ -20,7 +20,7 @@ ghost use Rattle.fw_node.specs.Sends.{sends_list};
 ghost use Rattle.fw_progress.specs.Progress.{CanSend};
 ghost use Rattle.fw_rollback.specs.Tables.{table_at};
 ghost use Rattle.fw_rollback.specs.Edges.{on_edge};
-ghost use Rattle.fw_stands.specs.Events.{asked_of, next_queued};
+ghost use Rattle.fw_stands.specs.Events.{asked_of_queue, next_queued};
 ghost use Rattle.fw_running.specs.Kept.{queue_at, table_of, is_down, with_tables};
 ghost use Rattle.fw_running.specs.Logging.{ChangesKeep, IsNotAsked, LogsEvent};
 ghost use Rattle.fw_running.specs.Shaped.{IsShaped};
@@ -98,7 +98,7 @@ fn next_on(running: &Running, edge: EdgeId, at: Option<&Stamp>) -> Option<Next>
 
 // The first message of an edge at the stamp, or at any; on a numbered edge the first of all.
 fn first_on<'a>(running: &'a Running, edge: EdgeId, at: Option<&Stamp>) -> Option<&'a Message>
-    ensures { option_copied result ≡ find (λ (m : Sent). model.is_asked (asked_of running.now.flow edge (option_copied at.entry)) m.at)
+    ensures { option_copied result ≡ find (λ (m : Sent). model.is_asked (asked_of_queue running.now.flow edge (option_copied at.entry)) m.at)
         (queue_at running.now edge) }
 {
     let queue = running.parts.queues.get(edge)?;

@@ -9,7 +9,7 @@ ghost use Rattle.fw_keep.specs.Stored.{IsStored};
 ghost use Rattle.fw_stands.specs.Entries.{HasRecOf64Bits};
 ghost use Rattle.fw_running.specs.Shaped.{IsShaped};
 ghost use Rattle.fw_running.specs.Steps.{IsUndamaged};
-ghost use Rattle.fw_running.specs.Logging.{ChangesKeep, IsNotAsked, IsLogged};
+ghost use Rattle.fw_running.specs.Logging.{ChangesKeep, IsNotAsked, IsEventAsked};
 
 use fw_flow::{NodeId, Policy};
 use fw_keep::no_stamps;
@@ -37,7 +37,7 @@ pub(crate) fn log_event<K: Store>(
     ensures others { ChangesKeep running.old running.new }
     ensures shaped { IsShaped running.new }
     ensures stored { IsStored running.new.parts.keep (K.view store.new).records }
-    ensures logged { OnOk result (IsLogged node event running.old.parts.keep.entries running.new.parts.keep.entries
+    ensures logged { OnOk result (IsEventAsked node event running.old.parts.keep.entries running.new.parts.keep.entries
         (K.view store.old).records (K.view store.new).records) }
     ensures stays { OnErr result (IsNotAsked running.old.parts.keep.entries running.new.parts.keep.entries
         (K.view store.old).records (K.view store.new).records) }

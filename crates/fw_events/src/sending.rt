@@ -14,7 +14,7 @@ ghost use Rattle.fw_running.specs.Kept.{queue_at, is_down};
 ghost use Rattle.fw_running.specs.Places.{IsPut};
 ghost use Rattle.fw_running.specs.Shaped.{IsShaped};
 ghost use Rattle.fw_events.specs.Sending.{with_queues, with_logs, ChangesEdges, PutsOn, LogsOn, SendsOn};
-ghost use Rattle.fw_events.specs.SentStamps.{stamps_sent};
+ghost use Rattle.fw_events.specs.SentStamps.{stamps_in_order};
 
 use crate::stamps::SentStamps;
 use fw_edge::{MsgLog, Queue};
@@ -39,7 +39,7 @@ pub(crate) fn send(
     requires there { node < length running.old.flow.nodes }
     requires cause { in_domain (bounds_of running.old.flow node) cause.now ≡ true }
     requires can_be_sent { CanBeSent running.old.flow node (stamps_of sends.now) }
-    ensures stamps { IfOk result (λ stamps. stamps_sent stamps ≡ stamps_of sends.now) }
+    ensures stamps { IfOk result (λ stamps. stamps_in_order stamps ≡ stamps_of sends.now) }
     ensures others { ChangesEdges running.old running.new }
     ensures sent { OnOk result (SendsOn (out_edges running.old.flow node) (restoring.can_resend (policy_of running.old.flow node))
         (caused_by cause.now (sends_list sends.now)) running.old running.new) }

@@ -1,7 +1,7 @@
 //! The stamps of what an event sends.
 ghost use Rattle.std.specs.Prelude.{◌≡◌, IfOk, slice_get};
 ghost use Rattle.fw_node.specs.NodeOf.{stamps_of};
-ghost use Rattle.fw_events.specs.SentStamps.{stamps_sent};
+ghost use Rattle.fw_events.specs.SentStamps.{stamps_in_order};
 
 use fw_node::Sends;
 use fw_time::Stamp;
@@ -17,7 +17,7 @@ pub(crate) enum SentStamps {
 impl SentStamps {
     /// The stamps of these sends. The error is want of memory.
     pub(crate) fn of(alloc: Global, sends: &Sends) -> Result<Self, AllocError>
-        ensures { IfOk result (λ stamps. stamps_sent stamps ≡ stamps_of sends.now) }
+        ensures { IfOk result (λ stamps. stamps_in_order stamps ≡ stamps_of sends.now) }
     {
         if sends.len() <= 1 {
             return Ok(SentStamps::AtMostOne(stamp_at(sends, 0)));
@@ -33,7 +33,7 @@ impl SentStamps {
 
     /// The stamps, in order.
     pub(crate) fn as_slice(&self) -> &[Stamp]
-        ensures { result.now ≡ stamps_sent self.now }
+        ensures { result.now ≡ stamps_in_order self.now }
     {
         match self {
             SentStamps::AtMostOne(at) => at.as_slice(),

@@ -10,7 +10,7 @@ use Rattle.fw_model.specs.Steps.{cuts, did, lows, silent}
 use Rattle.fw_examples.specs.Flows.{loop_counts_up, pair, two_batches, regroup_by_three, out, numbered_both, numbers, numbered_epoch, value_at}
 use Rattle.fw_examples.specs.Applied.{ChoicesApply, ChoosingApplies, DeliveriesApply, FilteringApplies, LegalHistoriesApply, RunsApply, StepsApply, CollectionRestored, LogsRestored, RestoringApplies, DenotationApplies, ProjectionsApply, SendingApplies, AutoApplies, EventsApply, ReplayApplies, ThinnedApplies, WritesApply, begun, both_epochs, counted, counted_once_more, one_or_other, still_needed}
 use Rattle.fw_examples.specs.Loop.{counted_rounds, counting_failed, restored, under_way, message, round, fed_back_edge}
-use Rattle.fw_examples.specs.RunningTotal.{at_epoch, come_back, epoch_kept, next_epochs, outcomes_through_recovery, outcomes_to_failure, outcomes_up_to_two, outcomes_without_failure, output_failed, steps_through_recovery, steps_to_failure, steps_up_to_two, steps_without_failure, totals, totals_denoted, two_epochs, two_epochs_kept, two_kept_noting, alike, total_flow}
+use Rattle.fw_examples.specs.RunningTotal.{valued_at_epoch, come_back, epoch_kept, next_epochs, outcomes_through_recovery, outcomes_to_failure, outcomes_up_to_two, outcomes_without_failure, output_failed, steps_through_recovery, steps_to_failure, steps_up_to_two, steps_without_failure, totals, totals_denoted, two_epochs, two_epochs_kept, two_kept_noting, alike, total_flow}
 use Rattle.fw_examples.specs.Witnesses.{both_rounds, complete_then, complete_two, first_rounds, joined_rounds, kept_epoch, kept_rounds, kept_totals, noted_totals, two_rounds, all_failed, all_written, four_epochs, last_taken, steps_by_themselves}
 use Rattle.fw_examples.proofs.TotalRuns.{collects, run_through_recovery, runs_to_two, sum_acknowledged, ten_acknowledged, two_collected, two_epochs_are_low}
 use Rattle.fw_examples.proofs.Witnesses.{an_epoch_is_closed, choices_unite, cuts_unite, each_step_has_its_choice, failure_is_reached, join_is_a_frontier, loop_is_filtered, more_is_complete, notified_and_goes_on, numbers_are_delivered, one_is_on_its_way, recovery_is_reached, sequence_is_filtered, some_is_settled, something_is_chosen, totals_are_filtered, totals_are_well_formed, two_epochs_are_complete, two_runs_meet, epochs_are_thinned, no_step_is_taken, two_epochs_are_the_same, two_steps_are_taken}
@@ -113,8 +113,8 @@ deliveries_apply =
       stays_closed = λ law. law totals two_epochs flow system.epochs 1 (1 ∷ []) closed next_epochs goes_on;
       final = λ law. law totals two_epochs flow system.epochs 1 (1 ∷ []) closed next_epochs goes_on 0 refl (1 ∷ []) refl;
       denoted_up_to = λ law. law totals two_epochs totals_denoted system.well_formed two.legal system.denoted 1 (1 ∷ []) closed 0 refl (1 ∷ []) refl;
-      come_last = λ law. law totals (Delivered 0 (at_epoch 1 10) ∷ Injected 0 1 ∷ Injected 0 0 ∷ []) flow system.epochs 1 (1 ∷ [])
-          (next_epochs ++ Delivered 1 (at_epoch 1 10) ∷ []) notified_and_goes_on;
+      come_last = λ law. law totals (Delivered 0 (valued_at_epoch 1 10) ∷ Injected 0 1 ∷ Injected 0 0 ∷ []) flow system.epochs 1 (1 ∷ [])
+          (next_epochs ++ Delivered 1 (valued_at_epoch 1 10) ∷ []) notified_and_goes_on;
       ascend = λ law. law numbers numbered_both numbers_are_delivered.legal 1 numbers_are_delivered.numbered;
       sent_denoted = λ law. law totals two_epochs totals_denoted system.well_formed two.legal system.denoted complete_two two.admissible 1 (1 ∷ []) two.inside_phi;
       delivered_denoted = λ law. law totals two_epochs totals_denoted system.well_formed two.legal system.denoted complete_two two.admissible 1 (1 ∷ []) two.inside;
@@ -364,7 +364,7 @@ events_apply =
       four = refl;
       in_order = λ law. law totals formed steps_to_failure outcomes_to_failure output_failed reached 0;
       leaves_two = λ law. law totals formed steps_to_failure outcomes_to_failure output_failed reached two_epochs_kept 0 2 refl (lit≤ tt);
-      outside = λ law. law totals formed steps_to_failure outcomes_to_failure output_failed reached (Delivered 0 (at_epoch 3 1)) some_is_settled.enabled;
+      outside = λ law. law totals formed steps_to_failure outcomes_to_failure output_failed reached (Delivered 0 (valued_at_epoch 3 1)) some_is_settled.enabled;
       as_sent = λ law. law totals (next_epochs ++ two_epochs) one_is_on_its_way.legal 1;
       follows = λ law. law two_batches (drop 1 under_way) counted_once_more loop_is_filtered.legal;
       goes_on = λ law. law numbers numbered_both sequence_is_filtered.well_formed numbered.legal 1 numbered.numbered;

@@ -4,7 +4,7 @@ use Rattle.std.proofs.lemmas.Bool.{false≢true}
 use Rattle.fw_flow.specs.Builder.{Declares, IfBroken, has_names, with_declaration}
 use Rattle.fw_flow.specs.Check.{IsChecked, IsFirstBroken}
 use Rattle.fw_flow.specs.Dataflow.{Dataflow}
-use Rattle.fw_flow.specs.Raw.{flow_of, is_new}
+use Rattle.fw_flow.specs.Raw.{flow_of_declarations, is_new}
 use Rattle.fw_flow.specs.declared.builder.BuildFault.{BuildFault}
 use Rattle.fw_flow.specs.declared.builder.BuildFault.TheVariants.{BadName, Broken, NameTaken, NoMemory}
 use Rattle.fw_flow.specs.declared.kind.Policy.TheVariants as policy
@@ -69,7 +69,7 @@ all_checked = record { well_formed = totals_are_well_formed.well_formed.flow; va
 
 pub built : (raw all : List Declared) → raw ≡ four → all ≡ more to_output raw → (result : Result Dataflow BuildFault)
     → MatchResult result (IsChecked all) (IfBroken (IsFirstBroken all)) → MatchResult result (λ flow. flow ≡ total_flow) (λ fault. fault ≡ NoMemory)
-built raw all a b (Ok flow) x = x.value ∙ ap flow_of (b ∙ ap (more to_output) a)
+built raw all a b (Ok flow) x = x.value ∙ ap flow_of_declarations (b ∙ ap (more to_output) a)
 built raw all a b (Err BadName) x = absurd x
 built raw all a b (Err NameTaken) x = absurd x
 built raw all a b (Err (Broken refusal)) x = absurd (checked_or_refused all total_flow refusal (subst (λ r. IsChecked r total_flow) (sym (b ∙ ap (more to_output) a)) all_checked) x)

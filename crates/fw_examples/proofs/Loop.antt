@@ -12,7 +12,7 @@ use Rattle.fw_flow.specs.Dataflow.{batches_of, bounds_of, declared_parent, in_ed
 use Rattle.fw_flow.specs.NodeFunction.{sends}
 use Rattle.fw_flow.specs.Projection.{phi}
 use Rattle.fw_flow.specs.WellFormed.{IsWellFormedSystem}
-use Rattle.fw_flow.specs.WholeBags.{Timed, recs_where, timed_recs}
+use Rattle.fw_flow.specs.WholeBags.{Timed, timed_where, timed_recs}
 use Rattle.fw_flow.specs.declared.choice.Choice.{Choice}
 use Rattle.fw_flow.specs.declared.choice.Cut.{Cut}
 use Rattle.fw_flow.specs.declared.choice.Cut.TheVariants.{At}
@@ -28,7 +28,7 @@ use Rattle.fw_model.proofs.DomainLaws.{has_epochs}
 use Rattle.fw_model.proofs.GoingOn.{runs-go_on}
 use Rattle.fw_model.proofs.RecoveryLaws.{runs-legal}
 use Rattle.fw_examples.specs.Flows.{loop_counts_up, pair, two_batches}
-use Rattle.fw_examples.specs.Loop.{IsRestored, IsUnderWay, TwoBatchesCountUp, complete_at, complete_fronts, counted_rounds, counting_failed, message, outcomes_left, outcomes_shown, restored, round, steps_left, steps_taken, still_pending, under_way, with_serials, without_the_second}
+use Rattle.fw_examples.specs.Loop.{IsRestoredLoop, IsUnderWay, TwoBatchesCountUp, complete_at, complete_fronts, counted_rounds, counting_failed, message, outcomes_left, outcomes_shown, restored, round, steps_left, steps_taken, still_pending, under_way, with_serials, without_the_second}
 use Rattle.fw_examples.specs.Witnesses.{LoopIsReached}
 use Rattle.fw_examples.proofs.Choosing.{canonical_notices, delivered_by, discarded_by, next_notice, notified_by, offered_by, offered_within, own_by, recovers_to, set_within}
 use Rattle.fw_examples.proofs.Fronts.{all_seven, by_seven, not_above, within_one, within_two}
@@ -47,7 +47,7 @@ second_values = pair 2 1 ∷ pair 2 2 ∷ pair 2 3 ∷ pair 2 4 ∷ pair 3 1 ∷
 
 -- at no other stamp there is one of the recs of one stamp and of others
 pub recs_where-none : (t at : Stamp) (rs : List Rec) (later : List Timed) → same t at ≡ false
-    → recs_where (same t) later ≡ [] → recs_where (same t) (timed_recs at rs ++ later) ≡ []
+    → timed_where (same t) later ≡ [] → timed_where (same t) (timed_recs at rs ++ later) ≡ []
 recs_where-none t at [] later h e = e
 recs_where-none t at (r ∷ rs) later h e = rw h (recs_where-none t at rs later h e)
 
@@ -61,16 +61,16 @@ two_batches_at_output = refl
 
 pub two_batches_first : bag_at (rounds two_batches 14) 6 (0 ∷ []) ≡ (pair 1 1 ∷ pair 1 2 ∷ pair 1 3 ∷ pair 1 4 ∷ [])
 unfolding first_values second_values
-two_batches_first = ap (recs_where (same (0 ∷ []))) two_batches_at_output
+two_batches_first = ap (timed_where (same (0 ∷ []))) two_batches_at_output
 
 pub two_batches_second : bag_at (rounds two_batches 14) 6 (1 ∷ [])
     ≡ (pair 2 1 ∷ pair 2 2 ∷ pair 2 3 ∷ pair 2 4 ∷ pair 3 1 ∷ pair 3 2 ∷ pair 3 3 ∷ pair 3 4 ∷ [])
 unfolding first_values second_values
-two_batches_second = ap (recs_where (same (1 ∷ []))) two_batches_at_output
+two_batches_second = ap (timed_where (same (1 ∷ []))) two_batches_at_output
 
 pub two_batches_no_more : (t : Stamp) → same t (0 ∷ []) ≡ false → same t (1 ∷ []) ≡ false → bag_at (rounds two_batches 14) 6 t ≡ []
 two_batches_no_more t h k =
-    ap (recs_where (same t)) two_batches_at_output
+    ap (timed_where (same t)) two_batches_at_output
     ∙ recs_where-none t (0 ∷ []) first_values (timed_recs (1 ∷ []) second_values ++ []) h (recs_where-none t (1 ∷ []) second_values [] k refl)
 
 pub two_batches_count_up : TwoBatchesCountUp
@@ -371,7 +371,7 @@ under_way_leaves = all_seven _ refl refl refl refl refl refl refl (λ e. less-no
 pub loop_under_way : IsUnderWay
 loop_under_way = record { legal = under_way_is_legal; waiting = under_way_leaves }
 
-pub loop_is_restored : IsRestored
+pub loop_is_restored : IsRestoredLoop
 unfolding kind_of sender receiver bounds_of batches_of max_of sends parent_of declared_parent loops_of
 loop_is_restored = record {
   remains = refl;

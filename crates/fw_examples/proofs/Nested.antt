@@ -7,7 +7,7 @@ use Rattle.fw_flow.specs.Check.{AreWalksRight}
 use Rattle.fw_flow.specs.Dataflow.{batches_of, bounds_of, declared_parent, in_edges, kind_of, loops_of, max_of, out_edges, parent_of, policy_of, receiver, sender}
 use Rattle.fw_flow.specs.Projection.{phi_by_count, psi}
 use Rattle.fw_flow.specs.WellFormed.{IsWellFormed}
-use Rattle.fw_flow.specs.WholeBags.{recs_where, timed_recs}
+use Rattle.fw_flow.specs.WholeBags.{timed_where, timed_recs}
 use Rattle.fw_model.specs.Denotation.{IsDenotation, rounds}
 use Rattle.fw_examples.specs.Flows.{pair}
 use Rattle.fw_examples.specs.Nested.{OneRecCountsUp, ProjectsFromInnerLoop, nested_loops, one_rec}
@@ -57,12 +57,12 @@ one_rec_at_output : rounds one_rec 20 11 ≡ timed_recs (0 ∷ []) counted ++ []
 unfolding kind_of sender in_edges batches_of max_of counted
 one_rec_at_output = refl
 
-one_rec_first : recs_where (same (0 ∷ [])) (rounds one_rec 20 11) ≡ (pair 1 1 ∷ pair 1 2 ∷ pair 1 2 ∷ pair 1 3 ∷ pair 1 3 ∷ pair 1 4 ∷ [])
+one_rec_first : timed_where (same (0 ∷ [])) (rounds one_rec 20 11) ≡ (pair 1 1 ∷ pair 1 2 ∷ pair 1 2 ∷ pair 1 3 ∷ pair 1 3 ∷ pair 1 4 ∷ [])
 unfolding counted
-one_rec_first = ap (recs_where (same (0 ∷ []))) one_rec_at_output
+one_rec_first = ap (timed_where (same (0 ∷ []))) one_rec_at_output
 
-one_rec_no_more : (t : Stamp) → same t (0 ∷ []) ≡ false → recs_where (same t) (rounds one_rec 20 11) ≡ []
-one_rec_no_more t h = ap (recs_where (same t)) one_rec_at_output ∙ recs_where-none t (0 ∷ []) counted [] h refl
+one_rec_no_more : (t : Stamp) → same t (0 ∷ []) ≡ false → timed_where (same t) (rounds one_rec 20 11) ≡ []
+one_rec_no_more t h = ap (timed_where (same t)) one_rec_at_output ∙ recs_where-none t (0 ∷ []) counted [] h refl
 
 pub one_rec_counts_up : OneRecCountsUp
 one_rec_counts_up = record { solves = one_rec_solves; first = one_rec_first; no_more = one_rec_no_more }

@@ -16,10 +16,10 @@ use Rattle.fw_flow.specs.declared.event.Message.{Message}
 use Rattle.fw_model.specs.Choice.{IsCandidate, kept, until}
 use Rattle.fw_model.specs.Covers.{covers_in, stamps_from}
 use Rattle.fw_model.specs.Machine.{is_failed}
-use Rattle.fw_model.specs.Offers.{AreAscending, AreOfBatches, AreOffersIn, AreOffersOf, IsOffered, covers_of, offered_by, on_edge, sent_by, stamps_on_from}
+use Rattle.fw_model.specs.Offers.{RecordsAscend, AreOfBatches, AreOffersIn, AreOffersOf, IsOffered, covers_of, offered_by, counted_on_edge, offered_sent, stamps_on_from}
 use Rattle.fw_model.proofs.UntilLaws.{within-until}
 use Rattle.fw_examples.specs.OffersOfTotals.{CheckpointsAreOffered, offers_of_totals}
-use Rattle.fw_examples.specs.RunningTotal.{at_epoch, output_failed, total_flow, totals, two_epochs_kept, two_kept_noting}
+use Rattle.fw_examples.specs.RunningTotal.{valued_at_epoch, output_failed, total_flow, totals, two_epochs_kept, two_kept_noting}
 use Rattle.fw_examples.proofs.Choosing.{until_more}
 use Rattle.fw_examples.proofs.Fronts.{by_three, canonical_by}
 use Rattle.fw_examples.proofs.Witnesses.{less_is_consistent, something_is_chosen, totals_are_well_formed}
@@ -121,12 +121,12 @@ of_flow = record {
   batches = of_batches;
 }
   where
-    of_batches : (e : ℕ) → e < 2 → AreOfBatches (offered_by offers_of_totals (sender total_flow e)) (on_edge e (sent_by offers_of_totals (sender total_flow e)))
+    of_batches : (e : ℕ) → e < 2 → AreOfBatches (offered_by offers_of_totals (sender total_flow e)) (counted_on_edge e (offered_sent offers_of_totals (sender total_flow e)))
     of_batches zero l = ((3 ∷ [], refl), ((2 ∷ [], refl), ((1 ∷ [], refl), tt)))
     of_batches (suc zero) l = tt
     of_batches (suc (suc e)) l = absurd (omega arith)
 
-ascending : AreAscending total_flow offers_of_totals
+ascending : RecordsAscend total_flow offers_of_totals
 ascending = by_three _ tt (tt, tt) tt
 
 -- ---- the same counts
@@ -163,7 +163,7 @@ discarded_same : (e : ℕ) → e < 2 → (cut : Cut) → IsOffered total_flow of
 unfolding kind_of policy_of bounds_of receiver sender sends batches_of
 discarded_same zero l Present o = refl
 discarded_same zero l (At f) o =
-    ap (cover (bounds_of total_flow 1)) (sent_from_input (frontier_of (bounds_of total_flow 0) f) (at_epoch 3 1 ∷ at_epoch 2 5 ∷ at_epoch 1 10 ∷ []))
+    ap (cover (bounds_of total_flow 1)) (sent_from_input (frontier_of (bounds_of total_flow 0) f) (valued_at_epoch 3 1 ∷ valued_at_epoch 2 5 ∷ valued_at_epoch 1 10 ∷ []))
 discarded_same (suc zero) l Present o = refl
 discarded_same (suc zero) l (At f) (c, inl e) =
     subst (λ g. (covers_of total_flow offers_of_totals).discarded 1 (At g) ≡ (covers_in totals output_failed).discarded 1 (At g)) e (two_is_cover _)

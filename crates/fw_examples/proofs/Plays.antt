@@ -10,7 +10,7 @@ use Rattle.fw_time.proofs.StampLaws.{same-is}
 use Rattle.fw_frontier.specs.Front.{frontier_of, same_front}
 use Rattle.fw_frontier.proofs.SameLaws.{same_front-from}
 use Rattle.fw_flow.specs.Dataflow.{System, batches_of, bounds_of, is_input_kind, is_numbered, is_output_kind, kind_of, policy_of, receiver}
-use Rattle.fw_flow.specs.Message.{is_among, message_cmp}
+use Rattle.fw_flow.specs.Message.{is_message_among, message_cmp}
 use Rattle.fw_flow.specs.declared.event.Event.TheVariants.{Deliver as Delivered, Inject as Injected}
 use Rattle.fw_flow.specs.declared.event.Message.{Message}
 use Rattle.fw_flow.specs.declared.kind.Kind.{Kind}
@@ -19,7 +19,7 @@ use Rattle.fw_flow.specs.declared.step.Step.{Step}
 use Rattle.fw_flow.proofs.MessageLaws.{message_cmp-equal}
 use Rattle.fw_model.specs.History.{delivered_messages, injected_count, pending_messages}
 use Rattle.fw_model.specs.Machine.{Machine, Write, acknowledged, ack_count_of, events, front_of, is_failed, no_stamps}
-use Rattle.fw_model.specs.Steps.{AcknowledgesOldest, Effect, HasEpoch, HasSomethingAt, IsAsked, LeadsTo, Outcome, Run, acked, checkpoint_of, did, is_asked, is_asked_for_checkpoints, is_in_flight, newest_checkpoint, silent, recs_at_output, with_event, with_failed, without_lost}
+use Rattle.fw_model.specs.Steps.{AcknowledgesOldest, Effect, HasEpoch, HasSomethingAt, IsStampNamed, LeadsTo, Outcome, Run, acked, checkpoint_of, did, is_asked, is_asked_for_checkpoints, is_in_flight, newest_checkpoint, silent, recs_at_output, with_event, with_failed, without_lost}
 use Rattle.fw_model.proofs.EnabledLaws.{asked-from, asked-is}
 use Rattle.fw_flow.specs.declared.step.Step.TheVariants as step
 
@@ -30,7 +30,7 @@ abbrev pub is_first : Option Stamp → Message → List Message → Bool
 is_first at m ms = list_all (λ x. not (is_asked at x.at) || not (is_gt (message_cmp m x))) ms
 
 first-least : (at : Option Stamp) (m : Message) (ms : List Message) → is_first at m ms ≡ true
-    → (other : Message) → is_among other ms ≡ true → IsAsked at other.at → is_gt (message_cmp m other) ≡ false
+    → (other : Message) → is_message_among other ms ≡ true → IsStampNamed at other.at → is_gt (message_cmp m other) ≡ false
 first-least at m [] h other k a = absurd (false≢true k)
 first-least at m (x ∷ xs) h other k a =
     let p = and_parts _ _ h in
@@ -38,7 +38,7 @@ first-least at m (x ∷ xs) h other k a =
     (λ e.
     let one : other ≡ x = message_cmp-equal other x e in
     ⊎_elim
-    (λ n. absurd (two_ways _ (asked-from at x.at (subst (λ (y : Message). IsAsked at y.at) one a)) (not-true _ n)))
+    (λ n. absurd (two_ways _ (asked-from at x.at (subst (λ (y : Message). IsStampNamed at y.at) one a)) (not-true _ n)))
     (λ n. subst (λ y. is_gt (message_cmp m y) ≡ false) (sym one) (not-true _ n))
     (or_cases _ _ p.0))
     (λ e. first-least at m xs p.1 other e a)
@@ -124,7 +124,7 @@ is_taken sys state (inject s x) =
     is_input_kind (kind_of sys.flow s) && (x == injected_count s (events state.history) && (nat_lt x (length (batches_of sys s)) && not (is_failed state s)))
 is_taken sys state (deliver e at m) =
     is_asked at m.at
-    && (is_among m (pending_messages sys (events state.history) e)
+    && (is_message_among m (pending_messages sys (events state.history) e)
     && ((not (is_numbered sys.flow e) || list_any (same m.at) ((length (delivered_messages (events state.history) e) ∷ []) ∷ []))
     && (not (is_failed state (receiver sys.flow e)) && is_first at m (pending_messages sys (events state.history) e))))
 is_taken sys state (ask p) =

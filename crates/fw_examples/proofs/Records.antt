@@ -3,16 +3,16 @@ use Rattle.std.proofs.Common.{[], lit<, refl, ℕ, ◌<◌, ◌^◌, ◌∷◌}
 use Rattle.fw_frontier.specs.Front.{IsCanonical}
 use Rattle.fw_flow.specs.Dataflow.{bounds_of, in_edges, kind_of, loops_of, max_of, declared_parent, out_edges, parent_of, policy_of, receiver}
 use Rattle.fw_model.specs.Choice.{until}
-use Rattle.fw_record.specs.Fields.{coords_of, stamp_of}
-use Rattle.fw_record.specs.OfNode.{IsCheckpointOf}
-use Rattle.fw_record.specs.Reading.{delivery_of, event_of, event_record_of, key_and_value_of, record_of, tag_of, whole_of}
-use Rattle.fw_record.specs.Sound.{IsCheckpoint, IsFront, IsLogged, IsSound, IsStamp}
+use Rattle.fw_record.specs.Fields.{coords_of, stamp_field}
+use Rattle.fw_record.specs.OfNode.{IsCheckpointRecordOf}
+use Rattle.fw_record.specs.Reading.{delivery_of, read_event, event_record_of, key_and_value_of, read_whole_record, tag_of, whole_of}
+use Rattle.fw_record.specs.Sound.{IsCheckpoint, IsFront, IsLoggedMessage, IsSound, IsStamp}
 use Rattle.fw_record.specs.declared.record.Record.TheVariants.{State}
 use Rattle.fw_record.proofs.FrontLaws.{fronts_canonical, sound_of_canonical}
 use Rattle.fw_record.proofs.RecordLaws.{whole_again}
 use Rattle.fw_examples.specs.Flows.{loop_counts_up}
 use Rattle.fw_examples.specs.Loop.{counted_rounds, round}
-use Rattle.fw_examples.specs.Records.{FrontsAreSpelled, RecordsAreSpelled, mix, rec_came, rounds_saved, sent_in_round, total_saved}
+use Rattle.fw_examples.specs.Records.{FrontsAreSpelled, RecordsAreSpelled, rounds_meet, rec_came, rounds_saved, sent_in_round, total_saved}
 use Rattle.fw_examples.specs.RunningTotal.{run, total_flow}
 use Rattle.fw_examples.proofs.Fronts.{canonical_by}
 
@@ -40,7 +40,7 @@ total_sound = record {
   log = record { few = lit< tt; parts = tt; follow = refl };
 }
 
-total_of_node : IsCheckpointOf total_flow run (until 2) total_saved
+total_of_node : IsCheckpointRecordOf total_flow run (until 2) total_saved
 unfolding kind_of policy_of in_edges out_edges receiver bounds_of
 total_of_node = record {
   node = refl;
@@ -76,7 +76,7 @@ three_rounds = record {
   follow = refl;
 }
 
-logged_sound : (c : ℕ) → c < 2 ^ 32 → c < 2 ^ 64 → IsLogged (sent_in_round c)
+logged_sound : (c : ℕ) → c < 2 ^ 32 → c < 2 ^ 64 → IsLoggedMessage (sent_in_round c)
 logged_sound c l m = record {
   edge = lit< tt;
   at = loop_stamp 0 c (lit< tt) l;
@@ -107,7 +107,7 @@ rounds_sound = record {
   };
 }
 
-rounds_of_node : IsCheckpointOf loop_counts_up mix counted_rounds rounds_saved
+rounds_of_node : IsCheckpointRecordOf loop_counts_up rounds_meet counted_rounds rounds_saved
 unfolding kind_of policy_of in_edges out_edges receiver bounds_of loops_of parent_of declared_parent max_of
 rounds_of_node = record {
   node = refl;
@@ -141,7 +141,7 @@ came_sound = (
 -- ---- what the laws say of them
 
 pub records_are_spelled : RecordsAreSpelled
-unfolding whole_of record_of tag_of event_record_of event_of delivery_of key_and_value_of stamp_of coords_of
+unfolding whole_of read_whole_record tag_of event_record_of read_event delivery_of key_and_value_of stamp_field coords_of
 records_are_spelled = record {
   total = total_sound;
   of_total = total_of_node;
@@ -153,20 +153,20 @@ records_are_spelled = record {
   rounds_again = whole_again (State rounds_saved) rounds_sound;
   event_again = whole_again rec_came came_sound;
   broken = refl;
-  fronts = fronts_canonical loop_counts_up mix counted_rounds rounds_saved rounds_sound rounds_of_node;
+  fronts = fronts_canonical loop_counts_up rounds_meet counted_rounds rounds_saved rounds_sound rounds_of_node;
 }
 
-loop_greatest : IsStamp (bounds_of loop_counts_up mix).greatest
+loop_greatest : IsStamp (bounds_of loop_counts_up rounds_meet).greatest
 unfolding bounds_of kind_of loops_of parent_of declared_parent max_of
 loop_greatest = record { some = lit< tt; few = lit< tt; fit = (lit< tt, (lit< tt, tt)) }
 
-rounds_canonical : IsCanonical (bounds_of loop_counts_up mix) counted_rounds
+rounds_canonical : IsCanonical (bounds_of loop_counts_up rounds_meet) counted_rounds
 unfolding bounds_of kind_of loops_of parent_of declared_parent max_of
-rounds_canonical = canonical_by (bounds_of loop_counts_up mix) counted_rounds refl
+rounds_canonical = canonical_by (bounds_of loop_counts_up rounds_meet) counted_rounds refl
 
 pub fronts_are_spelled : FrontsAreSpelled
 fronts_are_spelled = record {
   greatest = loop_greatest;
   canonical = rounds_canonical;
-  front = sound_of_canonical (bounds_of loop_counts_up mix) counted_rounds loop_greatest (lit< tt) rounds_canonical;
+  front = sound_of_canonical (bounds_of loop_counts_up rounds_meet) counted_rounds loop_greatest (lit< tt) rounds_canonical;
 }

@@ -17,8 +17,8 @@ use Rattle.fw_model.specs.Steps.{Outcome, Run, StepsTo, acked, collected_writes,
 use Rattle.fw_model.specs.Unions.{IsUnionOfChoices}
 use Rattle.fw_model.proofs.GoingOn.{runs-go_on}
 use Rattle.fw_examples.specs.Flows.{out}
-use Rattle.fw_examples.specs.InTurn.{outcomes_to_unsettled, steps_to_unsettled, steps_unsettled, unsettled}
-use Rattle.fw_examples.specs.RunningTotal.{alike, at_epoch, come_back, epoch_kept, outcomes_of_failure, outcomes_of_sum, outcomes_through_recovery, outcomes_to_failure, outcomes_up_to_two, outcomes_without_failure, output_failed, run, steps_of_failure, steps_of_sum, steps_through_recovery, steps_to_failure, steps_up_to_two, steps_without_failure, total_flow, totals, two_epochs_kept, two_kept_noting}
+use Rattle.fw_examples.specs.InTurn.{outcomes_to_unsettled, steps_to_unsettled, steps_unsettled, state_unsettled}
+use Rattle.fw_examples.specs.RunningTotal.{alike, valued_at_epoch, come_back, epoch_kept, outcomes_of_failure, outcomes_of_sum, outcomes_through_recovery, outcomes_to_failure, outcomes_up_to_two, outcomes_without_failure, output_failed, run, steps_of_failure, steps_of_sum, steps_through_recovery, steps_to_failure, steps_up_to_two, steps_without_failure, total_flow, totals, two_epochs_kept, two_kept_noting}
 use Rattle.fw_examples.proofs.Choosing.{above_by, consistent_by, largest_by, lies, offered_by, offered_within, recovers_to, sender_within}
 use Rattle.fw_examples.proofs.Fronts.{by_three, canonical_by, join_by, join_other}
 use Rattle.fw_examples.proofs.Plays.{Move, acknowledge, after_all, are_taken, ask, deliver, fail, inject, persist, plays}
@@ -41,7 +41,7 @@ empty_settled = record empty_sent { settled = alike 1 }
 
 -- a checkpoint of it is written, and epoch 1 delivered to the running total
 abbrev ten_moves : List Move
-ten_moves = ask 1 ∷ persist ∷ inject 0 1 ∷ deliver 0 None (at_epoch 1 10) ∷ []
+ten_moves = ask 1 ∷ persist ∷ inject 0 1 ∷ deliver 0 None (valued_at_epoch 1 10) ∷ []
 
 abbrev ten_taken : Machine
 ten_taken = after_all totals empty_settled ten_moves
@@ -50,7 +50,7 @@ abbrev ten_summed : Machine
 ten_summed = with_event totals ten_taken (Notified 1 (1 ∷ []))
 
 abbrev ten_put_out : Machine
-ten_put_out = after_all totals ten_summed (deliver 1 None (at_epoch 1 10) ∷ [])
+ten_put_out = after_all totals ten_summed (deliver 1 None (valued_at_epoch 1 10) ∷ [])
 
 abbrev ten_settled : Machine
 ten_settled = record ten_put_out { settled = alike 2 }
@@ -71,7 +71,7 @@ runs_to_two =
       plays totals ten_moves empty_settled (drop 6 steps_up_to_two) (drop 6 outcomes_up_to_two) ten_acknowledged refl (
         ten_summed,
         notifies totals ten_taken 1 (1 ∷ []) (until 2 ∷ until 0 ∷ until 0 ∷ []) totals_formed (lit< tt) refl refl refl,
-        plays totals (deliver 1 None (at_epoch 1 10) ∷ []) ten_summed (drop 8 steps_up_to_two) (drop 8 outcomes_up_to_two) ten_acknowledged refl (
+        plays totals (deliver 1 None (valued_at_epoch 1 10) ∷ []) ten_summed (drop 8 steps_up_to_two) (drop 8 outcomes_up_to_two) ten_acknowledged refl (
           ten_settled,
           settles totals ten_put_out (alike 2) totals_formed refl refl refl 0 (1 ∷ []) (lit< tt) refl refl,
           plays totals ten_last ten_settled [] [] ten_acknowledged refl refl,
@@ -101,7 +101,7 @@ collects = (two_epochs_kept, two_epochs_are_low, (λ e. cc), refl, refl)
 
 -- epoch 2 is delivered to the running total
 abbrev five_moves : List Move
-five_moves = inject 0 2 ∷ deliver 0 None (at_epoch 2 5) ∷ []
+five_moves = inject 0 2 ∷ deliver 0 None (valued_at_epoch 2 5) ∷ []
 
 abbrev five_taken : Machine
 five_taken = after_all totals two_collected five_moves
@@ -130,13 +130,13 @@ runs_to_failure =
     )
 
 -- with no step in between that settles
-runs_unsettled : Run totals two_collected steps_unsettled (replicate 5 (did silent)) unsettled
+runs_unsettled : Run totals two_collected steps_unsettled (replicate 5 (did silent)) state_unsettled
 unfolding kind_of receiver sender sends batches_of bounds_of policy_of phi
 runs_unsettled =
-    plays totals five_moves two_collected (drop 2 steps_unsettled) (replicate 3 (did silent)) unsettled refl (
+    plays totals five_moves two_collected (drop 2 steps_unsettled) (replicate 3 (did silent)) state_unsettled refl (
       five_summed,
       notifies totals five_taken 1 (2 ∷ []) (until 3 ∷ until 0 ∷ until 0 ∷ []) totals_formed (lit< tt) refl refl refl,
-      plays totals (inject 0 3 ∷ fail 2 [] ∷ []) five_summed [] [] unsettled refl refl,
+      plays totals (inject 0 3 ∷ fail 2 [] ∷ []) five_summed [] [] state_unsettled refl refl,
     )
 
 -- epoch 2 is summed, comes through and is settled, from a state with epochs 0 and 1 alone
@@ -144,7 +144,7 @@ abbrev summed : Machine → Machine
 summed state = with_event totals (after_all totals state five_moves) (Notified 1 (2 ∷ []))
 
 abbrev put_out : Machine → Machine
-put_out state = after_all totals (summed state) (deliver 1 None (at_epoch 2 15) ∷ [])
+put_out state = after_all totals (summed state) (deliver 1 None (valued_at_epoch 2 15) ∷ [])
 
 abbrev come_through : Machine → Machine
 come_through state = record (put_out state) { settled = alike 3 }
@@ -160,14 +160,14 @@ outcomes_from state = replicate 5 (did silent) ++ did (acked 2 (2 ∷ []) (recs_
 -- the same steps without a failure, and from the recovered state
 runs_sum : (state : Machine) → are_taken totals state five_moves ≡ true
     → StepsTo totals (after_all totals state five_moves) (step.Notify 1 (Some (2 ∷ []))) (summed state) (did silent)
-    → are_taken totals (summed state) (deliver 1 None (at_epoch 2 15) ∷ []) ≡ true → StepsTo totals (put_out state) Progress (come_through state) (did silent)
+    → are_taken totals (summed state) (deliver 1 None (valued_at_epoch 2 15) ∷ []) ≡ true → StepsTo totals (put_out state) Progress (come_through state) (did silent)
     → are_taken totals (come_through state) (acknowledge 2 2 ∷ []) ≡ true
     → Run totals state steps_of_sum (outcomes_from state) (sum_acknowledged state)
 runs_sum state five sum out settled last =
     plays totals five_moves state (drop 2 steps_of_sum) (drop 2 (outcomes_from state)) (sum_acknowledged state) five (
       summed state,
       sum,
-      plays totals (deliver 1 None (at_epoch 2 15) ∷ []) (summed state) (drop 4 steps_of_sum) (drop 4 (outcomes_from state)) (sum_acknowledged state) out
+      plays totals (deliver 1 None (valued_at_epoch 2 15) ∷ []) (summed state) (drop 4 steps_of_sum) (drop 4 (outcomes_from state)) (sum_acknowledged state) out
           (come_through state, settled, plays totals (acknowledge 2 2 ∷ []) (come_through state) [] [] (sum_acknowledged state) last refl),
     )
 
@@ -247,9 +247,9 @@ failed_run =
     runs-go_on totals (first_state totals) ten_acknowledged output_failed steps_up_to_two (Collect ∷ steps_of_failure) outcomes_up_to_two (did (lows two_epochs_kept) ∷ outcomes_of_failure) runs_to_two
     (two_collected, collects, runs_to_failure)
 
-pub unsettled_run : Run totals (first_state totals) steps_to_unsettled outcomes_to_unsettled unsettled
+pub unsettled_run : Run totals (first_state totals) steps_to_unsettled outcomes_to_unsettled state_unsettled
 unsettled_run =
-    runs-go_on totals (first_state totals) ten_acknowledged unsettled steps_up_to_two (Collect ∷ steps_unsettled) outcomes_up_to_two (did (lows two_epochs_kept) ∷ replicate 5 (did silent)) runs_to_two
+    runs-go_on totals (first_state totals) ten_acknowledged state_unsettled steps_up_to_two (Collect ∷ steps_unsettled) outcomes_up_to_two (did (lows two_epochs_kept) ∷ replicate 5 (did silent)) runs_to_two
     (two_collected, collects, runs_unsettled)
 
 -- what follows the failure

@@ -6,15 +6,15 @@ use Rattle.fw_flow.specs.NodeFunction.{sends}
 use Rattle.fw_flow.specs.declared.event.Event.TheVariants.{Deliver as Delivered, Inject as Injected, Notify as Notified}
 use Rattle.fw_progress.specs.Trace.{IsTraceOf, TracesFollow}
 use Rattle.fw_progress.specs.declared.traces.Traces.{Traces}
-use Rattle.fw_examples.specs.RunningTotal.{at_epoch, totals, two_epochs}
+use Rattle.fw_examples.specs.RunningTotal.{valued_at_epoch, totals, two_epochs}
 use Rattle.fw_examples.specs.Traced.{AreTracesOfTwo, two_more_sent}
 
 two_traced : (flow : Dataflow) (none empty sent came told out : Traces) → totals.flow ≡ flow → ((sys : System) (p : ℕ) (base : Frontier) → IsTraceOf sys [] p base none)
     → TracesFollow flow (Injected 0 0) [] none empty
     → TracesFollow flow (Injected 0 1) ((1 ∷ []) ∷ []) empty sent
-    → TracesFollow flow (Delivered 0 (at_epoch 1 10)) [] sent came
+    → TracesFollow flow (Delivered 0 (valued_at_epoch 1 10)) [] sent came
     → TracesFollow flow (Notified 1 (1 ∷ [])) ((1 ∷ []) ∷ []) came told
-    → TracesFollow flow (Delivered 1 (at_epoch 1 10)) [] told out
+    → TracesFollow flow (Delivered 1 (valued_at_epoch 1 10)) [] told out
     → (base : Frontier) → IsTraceOf totals two_epochs 1 base out
 unfolding kind_of receiver sender sends batches_of bounds_of
 two_traced flow none empty sent came told out same first a b c d e base =
@@ -38,7 +38,7 @@ two_told traces two =
 pub traces_of_two : (flow : Dataflow) (none empty sent came told out : Traces) → totals.flow ≡ flow → ((sys : System) (p : ℕ) (base : Frontier) → IsTraceOf sys [] p base none)
     → TracesFollow flow (Injected 0 0) [] none empty
     → TracesFollow flow (Injected 0 1) ((1 ∷ []) ∷ []) empty sent
-    → TracesFollow flow (Delivered 0 (at_epoch 1 10)) [] sent came
+    → TracesFollow flow (Delivered 0 (valued_at_epoch 1 10)) [] sent came
     → TracesFollow flow (Notified 1 (1 ∷ [])) ((1 ∷ []) ∷ []) came told
-    → TracesFollow flow (Delivered 1 (at_epoch 1 10)) [] told out → AreTracesOfTwo out
+    → TracesFollow flow (Delivered 1 (valued_at_epoch 1 10)) [] told out → AreTracesOfTwo out
 traces_of_two flow none empty sent came told out same first a b c d e = two_told out (two_traced flow none empty sent came told out same first a b c d e)

@@ -13,7 +13,7 @@ use Rattle.fw_flow.specs.declared.choice.Choice.{Choice}
 use Rattle.fw_flow.specs.declared.choice.Cut.{Cut}
 use Rattle.fw_flow.specs.declared.choice.Cut.TheVariants.{At, Present}
 use Rattle.fw_model.specs.Choice.{IsCutWithin, cut_of, until}
-use Rattle.fw_model.specs.Offers.{IsOffered, IsOneOf, offered_by, stamps_on_from}
+use Rattle.fw_model.specs.Offers.{IsOffered, IsOfferedFront, offered_by, stamps_on_from}
 use Rattle.fw_model.proofs.OfferLaws.{consistent-same}
 use Rattle.fw_monitor.specs.Descent.{HasConsistent, IsGreatest, choice_of}
 use Rattle.fw_monitor.specs.Inclusions.{Holds, inclusions, inclusions_to}
@@ -134,7 +134,7 @@ run_lowered = record {
     below Present is = absurd (beyond _ refl is.meets)
     below (At f) is = at is.offered.1
       where
-        at : IsOneOf epochs (offered_by offers_of_totals 1) f → Within (frontier_of epochs f) (frontier_of epochs (until 2))
+        at : IsOfferedFront epochs (offered_by offers_of_totals 1) f → Within (frontier_of epochs f) (frontier_of epochs (until 2))
         at (inl e) = subst (λ g. Within (frontier_of epochs g) (frontier_of epochs (until 2))) e (λ t i. i)
         at (inr e) = absurd e
 

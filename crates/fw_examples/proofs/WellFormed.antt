@@ -10,7 +10,7 @@ use Rattle.fw_bag.specs.Rec.{rec_cmp}
 use Rattle.fw_bag.specs.declared.rec.Rec.{Rec}
 use Rattle.fw_flow.specs.Check.{AreWalksRight}
 use Rattle.fw_flow.specs.Ranks.{IsWithinRound, is_looped}
-use Rattle.fw_flow.specs.Dataflow.{Dataflow, System, batches_of, declared_parent, domain_of, domain_of_kind, in_edges, is_domain_of, is_input_kind, is_output_kind, is_within, kind_of, loops_of, max_of, out_domain_of, out_domain_of_kind, out_edges, parent_of, policy_of, receiver, sender}
+use Rattle.fw_flow.specs.Dataflow.{Dataflow, System, batches_of, declared_parent, domain_of, domain_of_kind, in_edges, is_domain_of, is_input_kind, is_output_kind, is_domain_within, kind_of, loops_of, max_of, out_domain_of, out_domain_of_kind, out_edges, parent_of, policy_of, receiver, sender}
 use Rattle.fw_flow.specs.WellFormed.{IsClosedWalk, IsGroupSize, IsInDegree, IsLoopDeclared, IsOutDegree, IsPolicyAllowed, IsWalk, IsWellFormed, IsWellFormedSystem, is_feedback_of}
 use Rattle.fw_flow.specs.declared.kind.Domain.{Domain}
 use Rattle.fw_flow.specs.declared.kind.Domain.TheVariants.{Epoch, Number, Loop as InLoop}
@@ -45,8 +45,8 @@ climbs_along flow lambda e =
 -- whether the edge stays within the loop, and leaves no feedback of it
 abbrev is_within_round : Dataflow → ℕ → ℕ → Bool
 is_within_round flow l e =
-    is_within flow l (domain_of flow (sender flow e))
-    && (is_within flow l (domain_of flow (receiver flow e)) && not (is_feedback_of l (kind_of flow (sender flow e))))
+    is_domain_within flow l (domain_of flow (sender flow e))
+    && (is_domain_within flow l (domain_of flow (receiver flow e)) && not (is_feedback_of l (kind_of flow (sender flow e))))
 
 -- whether the rank does not fall along the edge, if that is within a round of the loop, and rises into a node of its own domain
 abbrev climbs_in_round : Dataflow → (ℕ → ℕ) → ℕ → ℕ → Bool
@@ -75,9 +75,9 @@ declared_by n (InLoop k) l h e = let same : k ≡ l = cc in omega (arith, ltb-tr
 
 within_round : (flow : Dataflow) (l e : ℕ) → IsWithinRound flow l e → is_within_round flow l e ≡ true
 within_round flow l e r =
-    and_from (is_within flow l (domain_of flow (sender flow e)))
-    (is_within flow l (domain_of flow (receiver flow e)) && not (is_feedback_of l (kind_of flow (sender flow e)))) r.from
-    (and_from (is_within flow l (domain_of flow (receiver flow e))) (not (is_feedback_of l (kind_of flow (sender flow e)))) r.to
+    and_from (is_domain_within flow l (domain_of flow (sender flow e)))
+    (is_domain_within flow l (domain_of flow (receiver flow e)) && not (is_feedback_of l (kind_of flow (sender flow e)))) r.from
+    (and_from (is_domain_within flow l (domain_of flow (receiver flow e))) (not (is_feedback_of l (kind_of flow (sender flow e)))) r.to
     (ap not r.onward))
 
 -- what the test of a loop's rank says of an edge within a round of it

@@ -31,7 +31,7 @@ use Rattle.fw_model.proofs.FilteredLaws.{choice-consistent, consistent-meets, se
 use Rattle.fw_model.proofs.RecoveryLaws.{denoted-full, runs-legal, settled-stays_denoted}
 use Rattle.fw_examples.specs.Flows.{loop_counts_up, numbered_both, numbers, regroup_by_three, two_batches, value_at}
 use Rattle.fw_examples.specs.Loop.{counted_rounds, counting_failed, restored}
-use Rattle.fw_examples.specs.RunningTotal.{alike, at_epoch, come_back, next_epochs, outcomes_to_failure, output_failed, run, steps_to_failure, total_flow, totals, totals_denoted, two_epochs, two_epochs_kept}
+use Rattle.fw_examples.specs.RunningTotal.{alike, valued_at_epoch, come_back, next_epochs, outcomes_to_failure, output_failed, run, steps_to_failure, total_flow, totals, totals_denoted, two_epochs, two_epochs_kept}
 use Rattle.fw_examples.specs.Witnesses.{AnEpochIsClosed, ChoicesUnite, CutsUnite, EachStepHasItsChoice, EpochsAreThinned, FailureIsReached, JoinIsAFrontier, LessIsConsistent, LoopIsFiltered, LowWatermarkRises, MoreIsComplete, NotifiedAndGoesOn, NoStepIsTaken, NumbersAreDelivered, OneIsOnItsWay, RecoveryIsReached, SequenceIsFiltered, SomeIsSettled, SomethingIsChosen, TotalsAreFiltered, TotalsAreWellFormed, TwoEpochsAreComplete, TwoEpochsAreTheSame, TwoRunsMeet, TwoStepsAreTaken, all_failed, all_written, both_rounds, first_rounds, four_epochs, kept_epoch, last_taken}
 use Rattle.fw_examples.proofs.Choosing.{lies}
 use Rattle.fw_examples.proofs.Fronts.{by_four, by_three, canonical_by, within_two}
@@ -421,7 +421,7 @@ delivers_then = record {
   later = drop 2 (auto_steps total_flow);
   among = refl;
   none_earlier = (nothing_to_write all_written refl, tt);
-  leads = takes totals all_written (deliver 0 None (at_epoch 3 1)) refl;
+  leads = takes totals all_written (deliver 0 None (valued_at_epoch 3 1)) refl;
 }
 
 pub two_steps_are_taken : TwoStepsAreTaken

@@ -13,8 +13,8 @@ use Rattle.fw_node.specs.Answers.{recs_at_notice, recs_for, without_causes}
 use Rattle.fw_node.specs.Arrived.{AreOnEdges, IsOneOf}
 use Rattle.fw_node.specs.LawsOfAnswers.{DeliveriesAnswer, DeliveriesNeedTheirTime, EventsComeOnInEdges, NotificationsAnswer, NotificationsNeedTheirTime}
 use Rattle.fw_examples.specs.Flows.{fed, node, pair}
-use Rattle.fw_examples.specs.KindsSend.{at, taken}
-use Rattle.fw_examples.specs.RunningTotal.{at_epoch, run, src_to_run, total_flow, totals, two_epochs}
+use Rattle.fw_examples.specs.KindsSend.{at, delivery_at}
+use Rattle.fw_examples.specs.RunningTotal.{valued_at_epoch, run, src_to_run, total_flow, totals, two_epochs}
 
 -- an input, a distinct and an output, without batches
 abbrev pub each_once : System
@@ -22,19 +22,19 @@ each_once = fed (node (codes "one") (Distinct None) policy.None) []
 
 -- a rec came to the distinct at epoch 0
 abbrev pub once_came : List Event
-once_came = taken 0 0 (pair 1 5) ∷ []
+once_came = delivery_at 0 0 (pair 1 5) ∷ []
 
 -- The rec that came once is not sent when it comes again at its epoch, and another one is.
 pub record OtherRecsAreSent : Type 0 where
   pub no_sequence : is_sequence_kind (kind_of each_once.flow 1) ≡ false
   pub on_its_edge : IsOneOf (in_edges each_once.flow 1) 0
   pub came : AreOnEdges (in_edges each_once.flow 1) once_came
-  pub again : DeliveriesAnswer → without_causes (sends each_once 1 once_came (taken 0 0 (pair 1 5))) ≡ []
-  pub other : DeliveriesAnswer → without_causes (sends each_once 1 once_came (taken 0 0 (pair 1 6))) ≡ (at 0, pair 1 6) ∷ []
+  pub again : DeliveriesAnswer → without_causes (sends each_once 1 once_came (delivery_at 0 0 (pair 1 5))) ≡ []
+  pub other : DeliveriesAnswer → without_causes (sends each_once 1 once_came (delivery_at 0 0 (pair 1 6))) ≡ (at 0, pair 1 6) ∷ []
 
 -- epoch 1 was summed, and a rec of epoch 2 came
 abbrev pub next_came : List Event
-next_came = Delivered src_to_run (at_epoch 2 5) ∷ Notified run (1 ∷ []) ∷ Delivered src_to_run (at_epoch 1 10) ∷ []
+next_came = Delivered src_to_run (valued_at_epoch 2 5) ∷ Notified run (1 ∷ []) ∷ Delivered src_to_run (valued_at_epoch 1 10) ∷ []
 
 -- Told of epoch 2, the running total sends what came up to there.
 pub record TotalIsSent : Type 0 where
@@ -62,7 +62,7 @@ pub record FirstEpochSuffices : Type 0 where
 -- The rec of epoch 1 came to the running total on its one in-edge.
 pub record CameOnItsEdge : Type 0 where
   pub is_node : run < length total_flow.nodes
-  pub events : events_at total_flow run two_epochs ≡ Notified run (1 ∷ []) ∷ Delivered src_to_run (at_epoch 1 10) ∷ []
+  pub events : events_at total_flow run two_epochs ≡ Notified run (1 ∷ []) ∷ Delivered src_to_run (valued_at_epoch 1 10) ∷ []
   pub on_edge : EventsComeOnInEdges → IsOneOf (in_edges total_flow run) src_to_run
 
 -- the laws of answers, of these nodes

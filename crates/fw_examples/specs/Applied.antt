@@ -42,12 +42,12 @@ use Rattle.fw_model.specs.Thinned.{ThinnedStampsCoverTheSame}
 use Rattle.fw_model.specs.Unions.{IsUnionOfChoices, IsUnion}
 use Rattle.fw_examples.specs.Flows.{loop_counts_up, pair, regroup_by_three, two_batches, out, src, big, big_to_out, numbered_both, numbers, numbered_epoch, src_to_big, value_at}
 use Rattle.fw_examples.specs.Loop.{counted_rounds, counting_failed, restored, under_way, message, round, fed_back_edge}
-use Rattle.fw_examples.specs.RunningTotal.{at_epoch, come_back, epoch_kept, next_epochs, outcomes_through_recovery, outcomes_to_failure, outcomes_without_failure, output_failed, run, run_to_out, src_to_run, steps_to_failure, total_flow, totals, totals_denoted, two_epochs, two_epochs_kept, two_kept_noting}
+use Rattle.fw_examples.specs.RunningTotal.{valued_at_epoch, come_back, epoch_kept, next_epochs, outcomes_through_recovery, outcomes_to_failure, outcomes_without_failure, output_failed, run, run_to_out, src_to_run, steps_to_failure, total_flow, totals, totals_denoted, two_epochs, two_epochs_kept, two_kept_noting}
 use Rattle.fw_examples.specs.Witnesses.{both_rounds, complete_then, complete_two, first_rounds, inc, joined_rounds, kept_epoch, kept_rounds, two_rounds, all_failed, four_epochs, last_taken, steps_by_themselves}
 use Rattle.fw_model.specs.Resending.{HoldsWhatIsSentAgain, LogHoldsWhatIsSentAgain, at_receiver, messages_to_resend}
 use Rattle.fw_model.specs.Writes.{Ascends, CountsWritten, HasOne, IsCheckpointOf, IsKeptWithin, IsLoggedOnce, IsWrittenAsAsked, MayKeepNothingIfCollected, NothingComesInside, not_collected}
 use Rattle.fw_examples.specs.Logs.{both_come_back, checkpoints_logged, event_collected, events_logged, log_kept, none_collected, one_came_through, second_message, total_logged}
-use Rattle.fw_flow.specs.WholeBags.{Timed, in_order, outputs_of, recs_where}
+use Rattle.fw_flow.specs.WholeBags.{Timed, in_order, outputs_of, timed_where}
 use Rattle.fw_flow.specs.declared.kind.Kind.TheVariants.{Sequence}
 use Rattle.fw_model.specs.Measure.{Measure, enough_rounds}
 use Rattle.fw_model.specs.LawsOfAuto as auto
@@ -151,7 +151,7 @@ pub record DeliveriesApply : Type 0 where
   pub denoted_up_to : deliveries.DeliveredUpToClosedIsDenoted
       → sorted_recs (recs_at (1 ∷ []) (delivered_messages two_epochs src_to_run)) ≡ bag_at totals_denoted src_to_run (1 ∷ [])
   pub come_last : deliveries.NotificationsComeLast
-      → AllByRecursion (λ v. (event_node total_flow v == run && leq (event_stamp v) (1 ∷ [])) ≡ false) (next_epochs ++ Delivered run_to_out (at_epoch 1 10) ∷ [])
+      → AllByRecursion (λ v. (event_node total_flow v == run && leq (event_stamp v) (1 ∷ [])) ≡ false) (next_epochs ++ Delivered run_to_out (valued_at_epoch 1 10) ∷ [])
   pub ascend : deliveries.NumberedDeliveriesAscend → AreNumberedInOrder (delivered_messages numbered_both 1)
   pub sent_denoted : deliveries.SentInsidePhiIsDenoted
       → sorted_recs (recs_at (1 ∷ []) (sent_messages totals two_epochs run_to_out)) ≡ bag_at totals_denoted run_to_out (1 ∷ [])
@@ -347,10 +347,10 @@ pub record SendingApplies : Type 0 where
 pub record DenotationApplies : Type 0 where
   pub measure : denotation.MeasureExists → Measure loop_counts_up
   pub decided : denotation.RecsAtStampsDecideBag → (other : List Timed) → in_order other ≡ other
-      → ((t : Stamp) → recs_where (same t) (totals_denoted src_to_run) ≡ recs_where (same t) other) → totals_denoted src_to_run ≡ other
+      → ((t : Stamp) → timed_where (same t) (totals_denoted src_to_run) ≡ timed_where (same t) other) → totals_denoted src_to_run ≡ other
   pub depends : denotation.OutBagsDependOnLesserMeasure → Measure total_flow → (t : Stamp)
-      → recs_where (same t) (outputs_of totals totals_denoted (sender total_flow src_to_run))
-      ≡ recs_where (same t) (outputs_of totals (λ e. []) (sender total_flow src_to_run))
+      → timed_where (same t) (outputs_of totals totals_denoted (sender total_flow src_to_run))
+      ≡ timed_where (same t) (outputs_of totals (λ e. []) (sender total_flow src_to_run))
   pub only : denotation.DenotationIsTheOnlyOne → (other : Family) → IsDenotation totals other → (e : ℕ) → other e ≡ totals_denoted e
   pub exists : denotation.DenotationExists → IsDenotation two_batches (rounds two_batches (enough_rounds loop_counts_up))
   pub unchanged : denotation.UnchangedRoundIsDenotation → IsDenotation totals totals_denoted
@@ -414,7 +414,7 @@ pub record EventsApply : Type 0 where
       × (length (epochs_injected src (events output_failed.history)) ≡ injected_count src (events output_failed.history))
   pub leaves_two : injections.UntilLeavesThatMany
       → injected_count src (events (filtered_history totals two_epochs_kept output_failed.history)) ≡ 2
-  pub outside : settled.NothingComesInsideSettled → LiesOutside totals output_failed (Delivered src_to_run (at_epoch 3 1))
+  pub outside : settled.NothingComesInsideSettled → LiesOutside totals output_failed (Delivered src_to_run (valued_at_epoch 3 1))
   pub as_sent : pending.SentIsDeliveredAndPending
       → sorted_messages (sent_messages totals (next_epochs ++ two_epochs) run_to_out)
       ≡ sorted_messages (delivered_messages (next_epochs ++ two_epochs) run_to_out ++ pending_messages totals (next_epochs ++ two_epochs) run_to_out)

@@ -31,16 +31,16 @@ use Rattle.fw_examples.specs.RunningTotal.{alike, come_back, run, total_flow, to
 -- ---- a select that logged two events
 
 -- the entry of a rec that came to the select at an epoch
-abbrev pub logged : ℕ → ℕ → Rec → Entry
-logged id x rec = record { id = id; node = big; written = written.Event (LoggedDelivery 0 (x ∷ []) rec); acknowledged = true }
+abbrev pub entry_logged : ℕ → ℕ → Rec → Entry
+entry_logged id x rec = record { id = id; node = big; written = written.Event (LoggedDelivery 0 (x ∷ []) rec); acknowledged = true }
 
 -- of epoch 0
 abbrev pub first_logged : Entry
-first_logged = logged 0 0 (pair 1 20)
+first_logged = entry_logged 0 0 (pair 1 20)
 
 -- and of epoch 1
 abbrev pub second_logged : Entry
-second_logged = logged 1 1 (pair 2 30)
+second_logged = entry_logged 1 1 (pair 2 30)
 
 -- both
 abbrev pub both_logged : List Entry
@@ -140,6 +140,6 @@ pub record IsEarlierCollected (drops : Drops) : Type 0 where
 -- the laws of collections, of both
 pub record CollectionsApply : Type 0 where
   pub asked : IsToCollect
-  pub logged : (drops : Drops) → IsPlanned events_logged.flow all_but_the_last both_logged drops → IsCollected drops
+  pub entry_logged : (drops : Drops) → IsPlanned events_logged.flow all_but_the_last both_logged drops → IsCollected drops
   pub entries : AllZip (GoesWith totals (with_serials two_epochs) (alike 2)) both_checkpoints checkpoints_written
   pub checkpoints : (drops : Drops) → IsPlanned total_flow (alike 2) both_checkpoints drops → IsEarlierCollected drops

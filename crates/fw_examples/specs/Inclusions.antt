@@ -63,8 +63,8 @@ IsNeededForHistories left_out sys state choice other =
     × (LeavesAHistory sys state other → ⊥)
 
 -- the frontier of no stamp
-abbrev pub none : Front
-none = (0 ∷ []) ∷ []
+abbrev pub no_stamp_front : Front
+no_stamp_front = (0 ∷ []) ∷ []
 
 -- the frontier of all stamps
 abbrev pub all : Front
@@ -76,15 +76,15 @@ one_selected = one_select ((pair 1 20 ∷ []) ∷ [])
 
 -- nothing is kept
 abbrev pub nothing_kept : Choice
-nothing_kept = record { cuts = At none ∷ At none ∷ At none ∷ []; notices = none ∷ none ∷ none ∷ [] }
+nothing_kept = record { cuts = At no_stamp_front ∷ At no_stamp_front ∷ At no_stamp_front ∷ []; notices = no_stamp_front ∷ no_stamp_front ∷ no_stamp_front ∷ [] }
 
 -- the output alone stays as it is
 abbrev pub output_kept : Choice
-output_kept = record { cuts = At none ∷ At none ∷ Present ∷ []; notices = none ∷ none ∷ none ∷ [] }
+output_kept = record { cuts = At no_stamp_front ∷ At no_stamp_front ∷ Present ∷ []; notices = no_stamp_front ∷ no_stamp_front ∷ no_stamp_front ∷ [] }
 
 -- the input and the output stay as they are
 abbrev pub input_kept : Choice
-input_kept = record { cuts = Present ∷ At none ∷ Present ∷ []; notices = none ∷ none ∷ none ∷ [] }
+input_kept = record { cuts = Present ∷ At no_stamp_front ∷ Present ∷ []; notices = no_stamp_front ∷ no_stamp_front ∷ no_stamp_front ∷ [] }
 
 -- The output has a rec from the select, which failed and keeps nothing: without the first inclusion the output would keep
 -- the rec, though nobody sent it.
@@ -126,19 +126,19 @@ IsFailedAfterNotice state =
 -- the second input, the select and the sum keep nothing
 abbrev pub sum_undone : Choice
 sum_undone = record {
-  cuts = Present ∷ At none ∷ At none ∷ Present ∷ At none ∷ Present ∷ [];
-  notices = all ∷ none ∷ none ∷ none ∷ none ∷ none ∷ [];
+  cuts = Present ∷ At no_stamp_front ∷ At no_stamp_front ∷ Present ∷ At no_stamp_front ∷ Present ∷ [];
+  notices = all ∷ no_stamp_front ∷ no_stamp_front ∷ no_stamp_front ∷ no_stamp_front ∷ no_stamp_front ∷ [];
 }
 
 -- the sum stays as it is, with these frontiers of notifications
 abbrev pub sum_kept : List Front → Choice
-sum_kept notices = record { cuts = Present ∷ At none ∷ At none ∷ Present ∷ Present ∷ Present ∷ []; notices = notices }
+sum_kept notices = record { cuts = Present ∷ At no_stamp_front ∷ At no_stamp_front ∷ Present ∷ Present ∷ Present ∷ []; notices = notices }
 
 -- Without the third inclusion the sum would keep its notification, though the epoch is to be delivered anew.
 abbrev pub NotifiedIsNeeded : Type 0
 NotifiedIsNeeded =
     (state : Machine) × IsFailedAfterNotice state
-    × IsNeededForHistories of_notified one_comes state sum_undone (sum_kept (all ∷ none ∷ none ∷ none ∷ none ∷ none ∷ []))
+    × IsNeededForHistories of_notified one_comes state sum_undone (sum_kept (all ∷ no_stamp_front ∷ no_stamp_front ∷ no_stamp_front ∷ no_stamp_front ∷ no_stamp_front ∷ []))
 
 -- Without the fourth it would keep it too, with all as the frontier of notifications at nodes that keep nothing.
 abbrev pub OwnIsNeeded : Type 0
@@ -150,4 +150,4 @@ OwnIsNeeded =
 abbrev pub NoticesAreNeeded : Type 0
 NoticesAreNeeded =
     (state : Machine) × IsFailedAfterNotice state
-    × IsNeededForHistories of_notices one_comes state sum_undone (sum_kept (all ∷ none ∷ none ∷ none ∷ all ∷ none ∷ []))
+    × IsNeededForHistories of_notices one_comes state sum_undone (sum_kept (all ∷ no_stamp_front ∷ no_stamp_front ∷ no_stamp_front ∷ all ∷ no_stamp_front ∷ []))

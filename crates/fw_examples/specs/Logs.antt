@@ -180,16 +180,16 @@ outcomes_with_checkpoints =
     ∷ did silent ∷ did silent ∷ did silent ∷ did silent ∷ did silent ∷ []
 
 -- what the log of the checkpoint of all holds of the edge to the output, if it was asked at this low watermark
-abbrev pub log_at : List Front → List Message
-log_at low = logged_messages checkpoints_logged log_kept low big_to_out (kept_of checkpoints_logged.flow both_come_back big)
+abbrev pub log_recorded_at : List Front → List Message
+log_recorded_at low = logged_messages checkpoints_logged log_kept low big_to_out (kept_of checkpoints_logged.flow both_come_back big)
 
 -- The log that is kept with the checkpoint of all has what was sent of epoch 1, and no longer what was sent of epoch 0. What was
 -- sent of epoch 1 is sent again when both come back.
 pub record KeepsALogWithACheckpoint : Type 0 where
   pub reached : Run checkpoints_logged (first_state checkpoints_logged) steps_with_checkpoints outcomes_with_checkpoints log_kept
   pub largest : IsLargest checkpoints_logged log_kept (offers checkpoints_logged log_kept) both_come_back
-  pub log_before : log_at (alike 0) ≡ second_message ∷ first_message ∷ []
-  pub log : log_at (alike 1) ≡ second_message ∷ []
+  pub log_before : log_recorded_at (alike 0) ≡ second_message ∷ first_message ∷ []
+  pub log : log_recorded_at (alike 1) ≡ second_message ∷ []
   pub sent_again : messages_to_resend checkpoints_logged log_kept both_come_back big_to_out ≡ second_message ∷ []
 
 -- ---- a running total that logs each event

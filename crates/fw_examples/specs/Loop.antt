@@ -164,7 +164,7 @@ pending_again =
     ∷ []
 
 -- the recovery filters out one delivery alone, the rest is legal, and the message that was filtered out is pending again
-pub record IsRestored : Type 0 where
+pub record IsRestoredLoop : Type 0 where
   pub remains : events (filtered_history two_batches restored (with_serials under_way)) ≡ without_the_second
   pub legal : IsLegal two_batches without_the_second
   pub waiting : (e : ℕ) → pending_messages two_batches without_the_second e ≡ slice_index_or pending_again e []

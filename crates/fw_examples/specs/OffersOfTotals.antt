@@ -11,7 +11,7 @@ use Rattle.fw_flow.specs.declared.restoring.Restoring.TheVariants.{Checkpoints}
 use Rattle.fw_model.specs.Choice.{IsConsistentBy, IsLargestBy, until}
 use Rattle.fw_model.specs.LawsOfOffers.{ConsistentByOffersIsConsistent, LargestByOffersIsLargest}
 use Rattle.fw_model.specs.Machine.{is_failed}
-use Rattle.fw_model.specs.Offers.{AreAscending, AreOffersIn, IsOffered, covers_of, records_of}
+use Rattle.fw_model.specs.Offers.{RecordsAscend, AreOffersIn, IsOffered, covers_of, records_of}
 use Rattle.fw_examples.specs.RunningTotal.{output_failed, run, run_to_out, src_to_run, total_flow, totals, two_epochs_kept, two_kept_noting}
 
 -- a message on an edge, alone, that comes from an event at its own epoch
@@ -81,7 +81,7 @@ pub record CheckpointsAreOffered : Type 0 where
   pub recorded : records_of offers_of_totals run ≡ record_of_checkpoint ∷ []
   pub offered : IsOffered total_flow offers_of_totals run (At (until 2))
   pub present : IsOffered total_flow offers_of_totals run Present
-  pub ascending : AreAscending total_flow offers_of_totals
+  pub ascending : RecordsAscend total_flow offers_of_totals
   pub same : AreOffersIn totals output_failed (is_failed output_failed) offers_of_totals
   pub consistent : ConsistentByOffersIsConsistent
       → IsConsistentBy total_flow (covers_of total_flow offers_of_totals) (IsOffered total_flow offers_of_totals) (two_kept_noting (until 0))

@@ -28,8 +28,8 @@ total_saved = record {
 }
 
 -- the node of the loop where rounds meet
-abbrev pub mix : ℕ
-mix = 2
+abbrev pub rounds_meet : ℕ
+rounds_meet = 2
 
 -- the edge on which what enters the loop comes to it
 abbrev pub entry_edge : ℕ
@@ -47,7 +47,7 @@ sent_in_round c = record { edge = mixed_edge; message = message (round 0 c) (pai
 -- messages of the last two rounds.
 abbrev pub rounds_saved : Checkpoint
 rounds_saved = record {
-  node = mix;
+  node = rounds_meet;
   recorded = record {
     front = counted_rounds;
     notified = round 0 0 ∷ [];
@@ -72,7 +72,7 @@ pub record RecordsAreSpelled : Type 0 where
   pub total : IsSound (State total_saved)
   pub of_total : IsRecordOfCheckpoint total_flow run (until 2) (State total_saved)
   pub rounds : IsSound (State rounds_saved)
-  pub of_rounds : IsRecordOfCheckpoint loop_counts_up mix counted_rounds (State rounds_saved)
+  pub of_rounds : IsRecordOfCheckpoint loop_counts_up rounds_meet counted_rounds (State rounds_saved)
   pub event : IsSound rec_came
   pub spelled : spelling rec_came
       ≡ 70 ∷ 87 ∷ 1 ∷ 2 ∷ 0 ∷ 0 ∷ 0 ∷ 1 ∷ 1 ∷ 0 ∷ 0 ∷ 0 ∷ 0 ∷ 1 ∷ 0 ∷ 0 ∷ 0 ∷ 1
@@ -81,10 +81,10 @@ pub record RecordsAreSpelled : Type 0 where
   pub rounds_again : whole_of (spelling (State rounds_saved)) ≡ Ok (State rounds_saved)
   pub event_again : whole_of (spelling rec_came) ≡ Ok rec_came
   pub broken : whole_of (take 33 (spelling rec_came)) ≡ Err 7
-  pub fronts : HasCanonicalFronts loop_counts_up mix rounds_saved.recorded
+  pub fronts : HasCanonicalFronts loop_counts_up rounds_meet rounds_saved.recorded
 
 -- The stamps of the loop have a spelling, and a canonical front of two of them is one that a record can hold.
 pub record FrontsAreSpelled : Type 0 where
-  pub greatest : IsStamp (bounds_of loop_counts_up mix).greatest
-  pub canonical : IsCanonical (bounds_of loop_counts_up mix) counted_rounds
+  pub greatest : IsStamp (bounds_of loop_counts_up rounds_meet).greatest
+  pub canonical : IsCanonical (bounds_of loop_counts_up rounds_meet) counted_rounds
   pub front : IsFront counted_rounds

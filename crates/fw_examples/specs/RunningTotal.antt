@@ -55,22 +55,22 @@ abbrev pub totals_denoted : Family
 totals_denoted = rounds totals 4
 
 -- a message with this value that comes from an event at its own epoch
-abbrev pub at_epoch : ℕ → ℕ → Message
-at_epoch x value = record { at = x ∷ []; rec = pair 1 value; causes = (x ∷ []) ∷ [] }
+abbrev pub valued_at_epoch : ℕ → ℕ → Message
+valued_at_epoch x value = record { at = x ∷ []; rec = pair 1 value; causes = (x ∷ []) ∷ [] }
 
 -- epochs 0 and 1 came through, the latest event first
 abbrev pub two_epochs : List Event
 two_epochs =
-    Delivered run_to_out (at_epoch 1 10)
+    Delivered run_to_out (valued_at_epoch 1 10)
     ∷ Notified run (1 ∷ [])
-    ∷ Delivered src_to_run (at_epoch 1 10)
+    ∷ Delivered src_to_run (valued_at_epoch 1 10)
     ∷ Injected src 1
     ∷ Injected src 0
     ∷ []
 
 -- epoch 2 was summed after them, and epoch 3 sent
 abbrev pub next_epochs : List Event
-next_epochs = Injected src 3 ∷ Notified run (2 ∷ []) ∷ Delivered src_to_run (at_epoch 2 5) ∷ Injected src 2 ∷ []
+next_epochs = Injected src 3 ∷ Notified run (2 ∷ []) ∷ Delivered src_to_run (valued_at_epoch 2 5) ∷ Injected src 2 ∷ []
 
 -- the epochs below k at each node
 abbrev pub alike : ℕ → List Front

@@ -6,7 +6,7 @@ use Rattle.fw_flow.specs.Projection.{events_at}
 use Rattle.fw_flow.specs.declared.event.Event.{Event}
 use Rattle.fw_flow.specs.declared.event.Event.TheVariants.{Inject as Injected}
 use Rattle.fw_progress.specs.Laws.{TracesAreOfTheNode}
-use Rattle.fw_progress.specs.Trace.{IsTraceOf, delivered_on, notified_of, sent_at}
+use Rattle.fw_progress.specs.Trace.{IsTraceOf, delivered_on, stamps_notified, stamps_where_sent}
 use Rattle.fw_progress.specs.declared.traces.Traces.{Traces}
 use Rattle.fw_examples.specs.Flows.{src}
 use Rattle.fw_examples.specs.RunningTotal.{run, src_to_run, total_flow, totals, two_epochs}
@@ -20,7 +20,7 @@ two_more_sent = Injected src 3 ∷ Injected src 2 ∷ two_epochs
 pub record AreTracesOfTwo (traces : Traces) : Type 0 where
   pub two : (base : Frontier) → IsTraceOf totals two_epochs run base traces
   pub came : Contains (delivered_on traces src_to_run) (1 ∷ [])
-  pub told : Contains (notified_of traces run) (1 ∷ [])
-  pub sent : Contains (sent_at traces run) (1 ∷ [])
+  pub told : Contains (stamps_notified traces run) (1 ∷ [])
+  pub sent : Contains (stamps_where_sent traces run) (1 ∷ [])
   pub same : events_at total_flow run two_more_sent ≡ events_at total_flow run two_epochs
   pub two_more : TracesAreOfTheNode → (base : Frontier) → IsTraceOf totals two_more_sent run base traces

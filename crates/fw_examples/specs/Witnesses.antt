@@ -30,7 +30,7 @@ use Rattle.fw_model.specs.Unions.{IsUnionOfChoices, IsUnionOfCuts}
 use Rattle.fw_model.specs.Writes.{IsSamePart}
 use Rattle.fw_examples.specs.Flows.{loop_counts_up, pair, regroup_by_three, two_batches, out, src, numbered_both, numbered_epoch, numbers, value_at}
 use Rattle.fw_examples.specs.Loop.{counted_rounds, counting_failed, message, outcomes_left, outcomes_shown, restored, round, steps_left, steps_taken, under_way, without_the_second}
-use Rattle.fw_examples.specs.RunningTotal.{alike, at_epoch, come_back, epoch_kept, next_epochs, outcomes_through_recovery, outcomes_to_failure, outcomes_up_to_two, outcomes_without_failure, output_failed, run, run_to_out, src_to_run, steps_through_recovery, steps_to_failure, steps_up_to_two, steps_without_failure, total_flow, totals, totals_denoted, two_epochs, two_epochs_kept, two_kept_noting}
+use Rattle.fw_examples.specs.RunningTotal.{alike, valued_at_epoch, come_back, epoch_kept, next_epochs, outcomes_through_recovery, outcomes_to_failure, outcomes_up_to_two, outcomes_without_failure, output_failed, run, run_to_out, src_to_run, steps_through_recovery, steps_to_failure, steps_up_to_two, steps_without_failure, total_flow, totals, totals_denoted, two_epochs, two_epochs_kept, two_kept_noting}
 
 -- The running total is well formed, its batches have epochs, and the rounds are its denotation.
 pub record TotalsAreWellFormed : Type 0 where
@@ -45,8 +45,8 @@ pub record FailureIsReached : Type 0 where
   pub reached : Run totals (first_state totals) steps_to_failure outcomes_to_failure output_failed
   pub failed : is_failed output_failed out ≡ true
   pub written : map (λ (write : Write). write.stage) output_failed.writes ≡ collected ∷ acknowledged ∷ in_flight ∷ []
-  pub pending_for_total : pending_messages totals (events output_failed.history) src_to_run ≡ at_epoch 3 1 ∷ []
-  pub pending_for_output : pending_messages totals (events output_failed.history) run_to_out ≡ at_epoch 2 15 ∷ []
+  pub pending_for_total : pending_messages totals (events output_failed.history) src_to_run ≡ valued_at_epoch 3 1 ∷ []
+  pub pending_for_output : pending_messages totals (events output_failed.history) run_to_out ≡ valued_at_epoch 2 15 ∷ []
   pub acknowledged : stamps_acknowledged out outcomes_to_failure ≡ (0 ∷ []) ∷ (1 ∷ []) ∷ []
   pub bag : bag_at totals_denoted run_to_out (1 ∷ []) ≡ pair 1 10 ∷ []
 
@@ -75,7 +75,7 @@ pub record SomeIsSettled : Type 0 where
   pub settled : output_failed.settled ≡ until 3 ∷ until 3 ∷ until 2 ∷ []
   pub delivered : recs_at (1 ∷ []) (delivered_messages (events output_failed.history) run_to_out) ≡ pair 1 10 ∷ []
   pub candidate : IsCandidate totals output_failed (is_failed output_failed) kept run (At (until 2))
-  pub enabled : IsEnabled totals (events output_failed.history) (Delivered src_to_run (at_epoch 3 1))
+  pub enabled : IsEnabled totals (events output_failed.history) (Delivered src_to_run (valued_at_epoch 3 1))
 
 -- There the largest choice keeps two epochs of four, as the low watermark does, and checkpoints are chains; a checkpoint that
 -- was collected is offered only where what was collected counts.
@@ -183,14 +183,14 @@ pub record AnEpochIsClosed : Type 0 where
   pub goes_on : IsLegal totals (next_epochs ++ two_epochs)
   pub delivered_there : recs_at (1 ∷ []) (delivered_messages two_epochs src_to_run) ≡ pair 1 10 ∷ []
   pub bag : bag_at totals_denoted src_to_run (1 ∷ []) ≡ pair 1 10 ∷ []
-  pub delivered_later : delivered_messages (next_epochs ++ two_epochs) src_to_run ≡ at_epoch 2 5 ∷ at_epoch 1 10 ∷ []
+  pub delivered_later : delivered_messages (next_epochs ++ two_epochs) src_to_run ≡ valued_at_epoch 2 5 ∷ valued_at_epoch 1 10 ∷ []
 
 -- The same history goes on after a notification of the running total with a delivery to it and a notification of it.
 abbrev pub NotifiedAndGoesOn : Type 0
 NotifiedAndGoesOn =
     IsLegal totals
-    ((Injected src 3 ∷ Notified run (2 ∷ []) ∷ Delivered src_to_run (at_epoch 2 5) ∷ Injected src 2 ∷ Delivered run_to_out (at_epoch 1 10) ∷ [])
-    ++ Notified run (1 ∷ []) ∷ Delivered src_to_run (at_epoch 1 10) ∷ Injected src 1 ∷ Injected src 0 ∷ [])
+    ((Injected src 3 ∷ Notified run (2 ∷ []) ∷ Delivered src_to_run (valued_at_epoch 2 5) ∷ Injected src 2 ∷ Delivered run_to_out (valued_at_epoch 1 10) ∷ [])
+    ++ Notified run (1 ∷ []) ∷ Delivered src_to_run (valued_at_epoch 1 10) ∷ Injected src 1 ∷ Injected src 0 ∷ [])
 
 -- Once two epochs came through, a family is admissible that holds both, and the same was sent, delivered and denoted there;
 -- an enabled event is outside.
@@ -233,7 +233,7 @@ pub record TotalsAreFiltered : Type 0 where
   pub cut : IsCutWithinSettled totals output_failed two_epochs_kept run
   pub discarded : LiesInReceiver total_flow (covers_in totals output_failed) two_epochs_kept src_to_run
   pub no_log : can_resend (policy_of total_flow src) ≡ false
-  pub was_pending : pending_messages totals (events output_failed.history) src_to_run ≡ at_epoch 3 1 ∷ []
+  pub was_pending : pending_messages totals (events output_failed.history) src_to_run ≡ valued_at_epoch 3 1 ∷ []
 
 -- what each node of the loop keeps in its recovery
 abbrev pub kept_rounds : ℕ → Frontier
@@ -321,7 +321,7 @@ all_written = record output_failed {
 
 -- the state once epoch 3 came to the running total too
 abbrev pub last_taken : Machine
-last_taken = with_event totals all_written (Delivered src_to_run (at_epoch 3 1))
+last_taken = with_event totals all_written (Delivered src_to_run (valued_at_epoch 3 1))
 
 -- the steps to it
 abbrev pub steps_by_themselves : List Step

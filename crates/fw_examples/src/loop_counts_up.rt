@@ -1,6 +1,6 @@
 //! A loop that counts up to its greatest counter: what it denotes, a run with both batches under way, and a recovery after the
 //! node that counts up failed.
-ghost use Rattle.fw_examples.specs.Loop.{TwoBatchesCountUp, IsRestored, IsCompleteUnderWay, IsUnderWay};
+ghost use Rattle.fw_examples.specs.Loop.{TwoBatchesCountUp, IsRestoredLoop, IsCompleteUnderWay, IsUnderWay};
 
 /// Two batches denote a value for each counter and rec, each at its own epoch.
 #[tactic(auto, using(crate::proofs::Loop::two_batches_count_up))]
@@ -23,5 +23,5 @@ pub fn is_complete()
 /// A recovery filters out the one event outside the cut of its node.
 #[tactic(auto, using(crate::proofs::Loop::loop_is_restored))]
 pub fn is_restored()
-    ensures { IsRestored }
+    ensures { IsRestoredLoop }
 {}

@@ -23,7 +23,7 @@ use Rattle.fw_flow.proofs.OutEdgeLaws.{out_edges-at, out_edges-from}
 use Rattle.fw_frontier.specs.Front.{inside, IsCanonical}
 use Rattle.fw_keep.specs.declared.entry.Entry.{Entry}
 use Rattle.fw_keep.specs.Catalogue.{KeepState}
-use Rattle.fw_keep.specs.Entry.{is_lost}
+use Rattle.fw_keep.specs.Entry.{is_in_flight_of}
 use Rattle.fw_keep.specs.Stored.{Records, IsStored}
 use Rattle.fw_model.specs.Machine.{Machine, Write, is_failed, front_of, ack_count_of}
 use Rattle.fw_model.specs.Steps.{silent, did, LeadsTo, with_failed, without_lost, is_in_flight}
@@ -182,7 +182,7 @@ after-shaped old new p l g s =
       logs = λ e. subst (λ ms. AllByRecursion (IsOnEdge flow e) ms) (sym (g.parts.logs.messages e))
           (cond_both (is_one_of e (out_edges flow p)) [] (log_at old e) (λ ms. AllByRecursion (IsOnEdge flow e) ms) (λ i. tt) (λ i. s.logs e));
       entries = subst (λ (keep : KeepState). AllByRecursion (λ (entry : Entry). IsWrittenOf flow entry.node entry.written) keep.entries) (sym g.parts.keep)
-          (each-kept (λ (entry : Entry). IsWrittenOf flow entry.node entry.written) (λ e. not (is_lost p e)) old.parts.keep.entries s.entries);
+          (each-kept (λ (entry : Entry). IsWrittenOf flow entry.node entry.written) (λ e. not (is_in_flight_of p e)) old.parts.keep.entries s.entries);
       live = s.live;
       traced = s.traced;
       ready = record {
@@ -291,8 +291,8 @@ after-stands sys state old new records p there live g shaped s =
     failed-is sys state p old.failed.items new.failed.items s.failed (shaped.one_each.failed ∙ ap (λ (f : Dataflow). length f.nodes) s.flow) l g.failed in
     let k = failure-keeps sys state ps in
     let none : Option Node = None in
-    let entries : new.parts.keep.entries ≡ filter (λ e. not (is_lost p e)) old.parts.keep.entries = ap (λ (keep : KeepState). keep.entries) parts.keep in
-    let left : filter (λ e. not (is_lost p e)) old.parts.keep.entries ≡ filter (λ e. not (is_lost_of ps e)) old.parts.keep.entries = loses_one_by_one ps old.parts.keep.entries in
+    let entries : new.parts.keep.entries ≡ filter (λ e. not (is_in_flight_of p e)) old.parts.keep.entries = ap (λ (keep : KeepState). keep.entries) parts.keep in
+    let left : filter (λ e. not (is_in_flight_of p e)) old.parts.keep.entries ≡ filter (λ e. not (is_lost_of ps e)) old.parts.keep.entries = loses_one_by_one ps old.parts.keep.entries in
     record {
       flow = s.flow;
       well_formed = s.well_formed;

@@ -8,7 +8,7 @@ use Rattle.fw_border.specs.Outputs.{with_output, cleared}
 use Rattle.fw_edge.specs.Messages.{MessagesState}
 use Rattle.fw_keep.specs.declared.entry.Entry.{Entry}
 use Rattle.fw_keep.specs.Catalogue.{without}
-use Rattle.fw_keep.specs.Entry.{is_lost}
+use Rattle.fw_keep.specs.Entry.{is_in_flight_of}
 use Rattle.fw_keep.specs.Stored.{Records, IsStored}
 use Rattle.fw_rollback.specs.declared.parts.Parts.{Parts}
 use Rattle.fw_rollback.specs.Edges.{on_edge}
@@ -28,7 +28,7 @@ pub record IsGoneFrom (flow : Dataflow) (p : ℕ) (old new : Parts) : Type 0 whe
   pub queues : AreGone (in_edges flow p) old.queues new.queues
   pub logs : AreGone (out_edges flow p) old.logs new.logs
   pub outputs : new.outputs.outputs ≡ with_output cleared old.outputs.outputs p
-  pub keep : new.keep ≡ without (is_lost p) old.keep
+  pub keep : new.keep ≡ without (is_in_flight_of p) old.keep
   pub stored : (records : Option Records) → IsStored old.keep records → IsStored new.keep records
   pub sources : new.sources ≡ old.sources
   pub low : new.low ≡ old.low

@@ -166,7 +166,7 @@ fn in_flight(alloc: Global, entries: &[Entry], node: NodeId) -> Result<Vec<Stamp
 
 // The stamp of a write, if it is that of an event of the node that is in flight.
 fn lost_stamp(entry: &Entry, node: NodeId) -> Option<Stamp>
-    ensures { option_to_list result ≡ (if entries.is_lost node entry.now then stamp_of_written entry.now.written else []) }
+    ensures { option_to_list result ≡ (if entries.is_in_flight_of node entry.now then stamp_of_written entry.now.written else []) }
 {
     if entry.node != node || entry.acknowledged {
         return None;

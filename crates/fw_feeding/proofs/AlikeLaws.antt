@@ -12,7 +12,7 @@ use Rattle.fw_flow.specs.declared.kind.Kind.{Kind}
 use Rattle.fw_flow.specs.declared.kind.Kind.TheVariants.{Sequence}
 use Rattle.fw_flow.specs.Dataflow.{Dataflow, kind_of, sender, bounds_of, bounds_of_domain, out_domain_of_kind, greatest_of_kind, batches_of, is_input_kind, send_stamp_of_kind}
 use Rattle.fw_flow.specs.NodeFunction.{recs_on, numbered_messages, sequence_sent, messages_at_some, event_stamp, event_node, sends_of_kind, sends, sent_by}
-use Rattle.fw_flow.specs.Message.{messages_less, is_among}
+use Rattle.fw_flow.specs.Message.{messages_less, is_message_among}
 use Rattle.fw_flow.specs.Projection.{events_at, sent_count, count_from, phi_of_kind, phi, first_coordinate}
 use Rattle.fw_model.specs.History.{some_at, sent_messages, delivered_messages, pending_messages, injected_count, is_exhausted, injected_epochs, IsQuiet, IsAdmissible, IsComplete, IsNotifiable, IsDeliverable}
 use Rattle.fw_feeding.specs.Feeding.{with_batches}
@@ -120,7 +120,7 @@ complete-alike flow now later h a done i = record {
 pub deliverable-alike : (flow : Dataflow) (now later : List (List (List Rec))) (h : List Event) → AreAlikeIn flow now later h → (e : ℕ) (m : Message)
     → IsDeliverable (with_batches flow now) h e m → IsDeliverable (with_batches flow later) h e m
 deliverable-alike flow now later h a e m i = record {
-  is_pending = sym (ap (is_among m) (pending-alike flow now later h a e)) ∙ i.is_pending;
+  is_pending = sym (ap (is_message_among m) (pending-alike flow now later h a e)) ∙ i.is_pending;
   numbered = i.numbered;
 }
 

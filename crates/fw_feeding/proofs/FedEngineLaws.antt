@@ -16,14 +16,14 @@ use Rattle.fw_flow.specs.Dataflow.{Dataflow, policy_of, sender, receiver, bounds
 use Rattle.fw_flow.specs.NodeFunction.{event_stamp}
 use Rattle.fw_flow.specs.Projection.{count_from, IsSentTable}
 use Rattle.fw_flow.specs.Restoring.{can_resend}
-use Rattle.fw_flow.specs.SentTable.{AreInOrder}
+use Rattle.fw_flow.specs.SentTable.{EpochsAscend}
 use Rattle.fw_model.specs.EventStamps.{causes_of, causes_in, AreStampsOf}
 use Rattle.fw_model.specs.Filtering.{messages_from, messages_outside}
 use Rattle.fw_model.specs.History.{was_notified, IsAdmissible}
 use Rattle.fw_model.specs.LawsOfProgress.{IsStuck}
 use Rattle.fw_model.specs.Machine.{Machine, Write, checkpoint, logged_event, events, family_of, is_failed, first_state}
 use Rattle.fw_model.specs.Machine.{Written as WrittenBy}
-use Rattle.fw_model.specs.Offers.{on_edge, stamps_on_from}
+use Rattle.fw_model.specs.Offers.{counted_on_edge, stamps_on_from}
 use Rattle.fw_model.specs.SortedMessages.{sorted_messages}
 use Rattle.fw_model.specs.Steps.{did}
 use Rattle.fw_model.specs.Thinned.{IsThinned}
@@ -33,7 +33,7 @@ use Rattle.fw_progress.specs.Counts.{is_in}
 use Rattle.fw_progress.specs.History.{count_at}
 use Rattle.fw_progress.specs.SentTally.{IsSentTally}
 use Rattle.fw_progress.specs.Tally.{times_in, has_one}
-use Rattle.fw_progress.specs.Trace.{sent_at, counted_of}
+use Rattle.fw_progress.specs.Trace.{stamps_where_sent, counted_of}
 use Rattle.fw_progress.specs.declared.traces.Traces.{Traces}
 use Rattle.fw_record.specs.declared.record.Record.{Record}
 use Rattle.fw_record.specs.declared.record.Record.TheVariants as tagged
@@ -44,7 +44,7 @@ use Rattle.fw_keep.specs.Stored.{Records}
 use Rattle.fw_border.specs.Outputs.{OutputState}
 use Rattle.fw_node.specs.declared.node.Node.{Node}
 use Rattle.fw_stands.specs.Parts.{IsTableIn, queued, is_logging, logged, IsOutputOf, IsTraceIn}
-use Rattle.fw_stands.specs.Written.{events_within, count_within, Holds, IsEntryOf, AreEntriesOf, to_log, IsRecordFor, IsHeldAs, AreStored, uncollected}
+use Rattle.fw_stands.specs.Written.{events_within, count_within, HoldsWhatIsWritten, IsEntryOf, AreEntriesOf, to_log, IsRecordFor, IsHeldAs, AreStored, uncollected}
 use Rattle.fw_feeding.specs.Feeding.{with_batches}
 use Rattle.fw_feeding.specs.LawsOfFeeding.{FedEnginesStand}
 use Rattle.fw_feeding.proofs.AlikeLaws.{InjectsAlike, AreAlikeIn, alike-back, node-alike, messages-alike, pending-alike, phi-alike, quiet-alike, epochs-alike, admissible-alike}
@@ -81,7 +81,7 @@ trace-alike flow now later state a p traces t =
     record {
       delivered = t.delivered;
       notified = t.notified;
-      sent = λ o k. subst (λ ms. IsThinned base (causes_in ms) (sent_at traces p)) same (t.sent o k);
+      sent = λ o k. subst (λ ms. IsThinned base (causes_in ms) (stamps_where_sent traces p)) same (t.sent o k);
       counted = λ k. subst (λ ms. IsSentTally base ms (counted_of traces p)) same (t.counted k);
     }
 
@@ -124,7 +124,7 @@ stamps-alike flow now later h a p base stamps k = record {
   notified = k.notified;
   sent = λ s e l q. let stand = k.sent s e l q in record {
     of_cause = stand.of_cause;
-    thinned = subst (λ ms. IsThinned base (causes_in ms) (causes_of (on_edge e stamps.sent))) (messages-alike flow now later h a e) stand.thinned;
+    thinned = subst (λ ms. IsThinned base (causes_in ms) (causes_of (counted_on_edge e stamps.sent))) (messages-alike flow now later h a e) stand.thinned;
   };
   numbered = λ s e l q. subst
       (λ ms. IsThinned (everything (bounds_of flow (receiver flow e))) (map (λ (m : Message). m.at) ms)
@@ -138,7 +138,7 @@ count-within flow now later state a p f =
     ap (λ ms. length (messages_from (node_frontier flow p f) ms)) (node-alike flow now later (events state.history) a.injected p)
 
 holds-alike : (flow : Dataflow) (now later : List (List (List Rec))) (state : Machine) → AreAlikeIn flow now later (events state.history)
-    → (p : ℕ) (entry : Written) (what : WrittenBy) → Holds (with_batches flow now) state p entry what → Holds (with_batches flow later) state p entry what
+    → (p : ℕ) (entry : Written) (what : WrittenBy) → HoldsWhatIsWritten (with_batches flow now) state p entry what → HoldsWhatIsWritten (with_batches flow later) state p entry what
 holds-alike flow now later state a p (written.Checkpoint recorded stamps sent) (checkpoint f low) k = record {
   recorded = recorded-alike flow now later state a p f recorded k.recorded;
   stamps = stamps-alike flow now later (events_within (with_batches flow now) state p f)
@@ -230,7 +230,7 @@ fed-engines_stand opened flow now later g well steps effects state run old new f
           injected = λ p l. f.injected p ∙ counts.injected p l;
           sent = λ p l k. subst (λ table. IsSentTable sys h p table) (sym (f.sent p))
               (λ i. counts.sent p l k i ∙ ap (count_from i) (node-alike flow now later h a.injected p));
-          in_order = λ p l k. subst AreInOrder (sym (f.sent p)) (counts.in_order p l k);
+          in_order = λ p l k. subst EpochsAscend (sym (f.sent p)) (counts.in_order p l k);
           epochs = λ p l k. subst (λ table. AllByRecursion (λ (entry : ℕ × ℕ). was_notified p (entry.0 ∷ []) h ≡ true) table) (sym (f.sent p)) (counts.epochs p l k);
         };
         kept = record {

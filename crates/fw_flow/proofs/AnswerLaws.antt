@@ -20,7 +20,7 @@ use Rattle.fw_flow.specs.declared.raw.RawKind.{RawKind}
 use Rattle.fw_flow.specs.declared.raw.RawKind.TheVariants.{Regroup}
 use Rattle.fw_flow.specs.Check.{are_names_declared, IsRawGroupSize, IsWithinLimitsAfter, NamesTheDeclared, HasItsDegrees, JoinsDomains, AreWalksRight, IsWalkWrong, HasAllowedPolicy, StaysWithinLimits, HasNodeOf, all_lines, loop_lines, node_lines, edge_lines, HoldsBelow, IsFirstBreak, KeepsRule, IsBroken, rules, later_rules, IsFirstBrokenOf, IsFirstBroken, IsChecked}
 use Rattle.fw_flow.specs.Dataflow.{Dataflow, ends_within, kind_of, policy_of, sender, receiver, in_edges, out_edges, domain_of, out_domain_of, is_input_kind, is_output_kind}
-use Rattle.fw_flow.specs.Raw.{names_of, loop_names, node_names, edge_names, flow_of}
+use Rattle.fw_flow.specs.Raw.{names_of, loop_names, node_names, edge_names, flow_of_declarations}
 use Rattle.fw_flow.specs.Depths.{depth_of, depth_graph, ReturningPath}
 use Rattle.fw_flow.specs.Walks.{IsPath}
 use Rattle.fw_flow.specs.WellFormed.{HasShortChain, IsInDegree, IsOutDegree, IsPolicyAllowed, may_keep_nothing}
@@ -206,30 +206,30 @@ names_kept raw = first_break (NamesTheDeclared raw) (all_lines raw)
     (λ p. decided_some (λ d. IsTrue (are_names_declared (names_of raw) d.declaration)) (λ d. decided_true (are_names_declared (names_of raw) d.declaration)) (slice_get raw p))
 
 chains_kept : (raw : List Declared) → IsKeptOrBroken raw F12
-chains_kept raw = first_break (HasShortChain (flow_of raw)) (loop_lines raw) (λ l. decided_true (ends_within 3 (flow_of raw) (Some l)))
+chains_kept raw = first_break (HasShortChain (flow_of_declarations raw)) (loop_lines raw) (λ l. decided_true (ends_within 3 (flow_of_declarations raw) (Some l)))
 
 degrees_kept : (raw : List Declared) → IsKeptOrBroken raw F4
 degrees_kept raw =
-    let flow = flow_of raw in
+    let flow = flow_of_declarations raw in
     first_break (HasItsDegrees flow) (node_lines raw) (λ p.
     decided_both (IsInDegree (kind_of flow p) (length (in_edges flow p))) (IsOutDegree (kind_of flow p) (length (out_edges flow p)))
     (decided_in (kind_of flow p) (length (in_edges flow p))) (decided_out (kind_of flow p) (length (out_edges flow p))))
 
 domains_kept : (raw : List Declared) → IsKeptOrBroken raw F5
 domains_kept raw =
-    let flow = flow_of raw in
+    let flow = flow_of_declarations raw in
     first_break (JoinsDomains flow) (edge_lines raw) (λ e. decided_domains (out_domain_of flow (sender flow e)) (domain_of flow (receiver flow e)))
 
 -- the walks are decided where the ends of the edges are declared and joined
 walks_kept : (raw : List Declared) → KeepsRule raw F3 → KeepsRule raw F5 → IsKeptOrBroken raw F6
 walks_kept raw names domains =
-    elim (walks_right (flow_of raw) (both_declared raw names) (λ e lt. domains e (omega (arith, lt, length-edge_lines raw)))) [
+    elim (walks_right (flow_of_declarations raw) (both_declared raw names) (λ e lt. domains e (omega (arith, lt, length-edge_lines raw)))) [
       | inl right ↦ inl right
       | inr wrong ↦ inr (0, (wrong, refl))
     ]
 
 policies_kept : (raw : List Declared) → IsKeptOrBroken raw F7
-policies_kept raw = first_break (HasAllowedPolicy (flow_of raw)) (node_lines raw) (λ p. decided_policy (kind_of (flow_of raw) p) (policy_of (flow_of raw) p))
+policies_kept raw = first_break (HasAllowedPolicy (flow_of_declarations raw)) (node_lines raw) (λ p. decided_policy (kind_of (flow_of_declarations raw) p) (policy_of (flow_of_declarations raw) p))
 
 limits_kept : (raw : List Declared) → IsKeptOrBroken raw F8
 limits_kept raw = first_break (StaysWithinLimits raw) (all_lines raw)
@@ -237,7 +237,7 @@ limits_kept raw = first_break (StaysWithinLimits raw) (all_lines raw)
 
 borders_kept : (raw : List Declared) → IsKeptOrBroken raw F9
 borders_kept raw =
-    let flow = flow_of raw in
+    let flow = flow_of_declarations raw in
     elim (decided_both (HasNodeOf flow is_input_kind) (HasNodeOf flow is_output_kind) (decided_node flow is_input_kind) (decided_node flow is_output_kind)) [
       | inl has ↦ inl has
       | inr lacks ↦ inr (0, (lacks, refl))
@@ -272,6 +272,6 @@ some_answer raw = elim (rules_answer raw) [
   | inl all ↦
       let later = all.1 in
       let wf = IsWellFormed-from_rules raw all.0 later.0 later.1.0 later.1.1.0 later.1.1.1.0 later.1.1.1.1.0 later.1.1.1.1.1.0 later.1.1.1.1.1.1.0 in
-      inl (flow_of raw, record { well_formed = wf; value = refl })
+      inl (flow_of_declarations raw, record { well_formed = wf; value = refl })
   | inr refused ↦ inr refused
 ]

@@ -4,7 +4,7 @@ use Rattle.std.proofs.lemmas.Bool.{and_from, eqb-true, eqb-false, le-leb, cases_
 use Rattle.fw_flow.specs.declared.kind.Domain.TheVariants.{Loop as InLoop}
 use Rattle.fw_flow.specs.declared.kind.Kind.{Kind}
 use Rattle.fw_flow.specs.declared.kind.Kind.TheVariants.{Feedback}
-use Rattle.fw_flow.specs.Dataflow.{Dataflow, kind_of, sender, receiver, loops_of, domain_of, domain_of_kind, out_domain_of, is_loop, is_within}
+use Rattle.fw_flow.specs.Dataflow.{Dataflow, kind_of, sender, receiver, loops_of, domain_of, domain_of_kind, out_domain_of, is_loop, is_domain_within}
 use Rattle.fw_flow.specs.WellFormed.{IsWalk, IsClosedWalk, Passes, StaysWithin, is_feedback_kind, is_feedback_of, is_kind_in, is_outside_kind}
 use Rattle.fw_flow.specs.Ranks.{is_looped, IsWithinRound}
 use Rattle.fw_flow.specs.Depths.{depth_of, is_feedback_at}
@@ -78,7 +78,7 @@ all [] = tt
 all (e ∷ es) = (tt, all es)
 
 -- a closed walk that stays in a loop is within its rounds, or is fed back
-rounds_or_fed_back : (flow : Dataflow) (l p : ℕ) (es : List ℕ) (q : ℕ) → IsWalk flow p es q → StaysWithin flow l es → is_within flow l (domain_of flow q) ≡ true
+rounds_or_fed_back : (flow : Dataflow) (l p : ℕ) (es : List ℕ) (q : ℕ) → IsWalk flow p es q → StaysWithin flow l es → is_domain_within flow l (domain_of flow q) ≡ true
     → AllAmong (IsWithinRound flow l) es ⊎ Passes flow (is_feedback_of l) es
 rounds_or_fed_back flow l p [] q h s last = inl tt
 rounds_or_fed_back flow l p (e ∷ es) q h s last =
@@ -90,14 +90,14 @@ rounds_or_fed_back flow l p (e ∷ es) q h s last =
       ]
     ]
   where
-    first : (flow : Dataflow) (l p : ℕ) (es : List ℕ) (q : ℕ) → IsWalk flow p es q → StaysWithin flow l es → is_within flow l (domain_of flow q) ≡ true
-        → is_within flow l (domain_of flow p) ≡ true
-    first flow l p [] q h s last = ap (λ x. is_within flow l (domain_of flow x)) h ∙ last
-    first flow l p (e ∷ es) q h s last = sym (ap (λ x. is_within flow l (domain_of flow x)) h.1) ∙ s.0
+    first : (flow : Dataflow) (l p : ℕ) (es : List ℕ) (q : ℕ) → IsWalk flow p es q → StaysWithin flow l es → is_domain_within flow l (domain_of flow q) ≡ true
+        → is_domain_within flow l (domain_of flow p) ≡ true
+    first flow l p [] q h s last = ap (λ x. is_domain_within flow l (domain_of flow x)) h ∙ last
+    first flow l p (e ∷ es) q h s last = sym (ap (λ x. is_domain_within flow l (domain_of flow x)) h.1) ∙ s.0
 
-begins_within : (flow : Dataflow) (l p : ℕ) (es : List ℕ) (q : ℕ) → 0 < length es → IsWalk flow p es q → StaysWithin flow l es → is_within flow l (domain_of flow p) ≡ true
+begins_within : (flow : Dataflow) (l p : ℕ) (es : List ℕ) (q : ℕ) → 0 < length es → IsWalk flow p es q → StaysWithin flow l es → is_domain_within flow l (domain_of flow p) ≡ true
 begins_within flow l p [] q some h s = absurd (omega arith)
-begins_within flow l p (e ∷ es) q some h s = sym (ap (λ x. is_within flow l (domain_of flow x)) h.1) ∙ s.0
+begins_within flow l p (e ∷ es) q some h s = sym (ap (λ x. is_domain_within flow l (domain_of flow x)) h.1) ∙ s.0
 
 -- ranks that show the closed walks of a dataflow right: one that falls along no edge and rises along each into a node that is not
 -- looped; and for each loop one that falls along no edge within a round of it, and rises along each of these into a node of its own

@@ -9,7 +9,7 @@ use Rattle.fw_flow.specs.declared.kind.Kind.TheVariants.{Enter, Leave, Regroup}
 use Rattle.fw_flow.specs.declared.node.Loop.{Loop}
 use Rattle.fw_flow.specs.declared.node.Node.{Node}
 use Rattle.fw_flow.specs.Check.{JoinsDomains, HasAllowedPolicy, AreWalksRight, IsWalkWrong, HasNodeOf, HasBorders}
-use Rattle.fw_flow.specs.Dataflow.{Dataflow, idle_node, kind_of, policy_of, sender, receiver, max_of, declared_parent, ends_within, domain_within, parent_of, loops_within, loops_of, domain_of, domain_of_kind, out_domain_of, out_domain_of_kind, is_loop, is_domain_of, is_one_of, is_within, is_input_kind, is_output_kind, greatest_number}
+use Rattle.fw_flow.specs.Dataflow.{Dataflow, idle_node, kind_of, policy_of, sender, receiver, max_of, declared_parent, ends_within, domain_within, parent_of, loops_within, loops_of, domain_of, domain_of_kind, out_domain_of, out_domain_of_kind, is_loop, is_domain_of, is_one_of, is_domain_within, is_input_kind, is_output_kind, greatest_number}
 use Rattle.fw_flow.specs.Parts.{capped_number, capped_kind, capped_loop, capped_node, capped_flow}
 use Rattle.fw_flow.specs.WellFormed.{IsWalk, IsClosedWalk, Passes, StaysWithin, HasShortChain, IsPolicyAllowed, IsWithinLimits, IsGroupSize, is_feedback_of, is_kind_in, is_outside_kind}
 
@@ -145,11 +145,11 @@ Passes-same f g same sort other sorts [] passes = passes
 Passes-same f g same sort other sorts (e ∷ es) (inl here) = inl (ap (λ p. other (kind_of g p)) (sym (same.from e)) ∙ sym (sorts (sender f e)) ∙ here)
 Passes-same f g same sort other sorts (e ∷ es) (inr later) = inr (Passes-same f g same sort other sorts es later)
 
-StaysWithin-same : (f g : Dataflow) → HaveSameEdges f g → (l : ℕ) → ((p : ℕ) → is_within f l (domain_of f p) ≡ is_within g l (domain_of g p)) → (es : List ℕ)
+StaysWithin-same : (f g : Dataflow) → HaveSameEdges f g → (l : ℕ) → ((p : ℕ) → is_domain_within f l (domain_of f p) ≡ is_domain_within g l (domain_of g p)) → (es : List ℕ)
     → StaysWithin f l es → StaysWithin g l es
 StaysWithin-same f g same l within [] stays = tt
 StaysWithin-same f g same l within (e ∷ es) stays =
-    (ap (λ p. is_within g l (domain_of g p)) (sym (same.from e)) ∙ sym (within (sender f e)) ∙ stays.0, StaysWithin-same f g same l within es stays.1)
+    (ap (λ p. is_domain_within g l (domain_of g p)) (sym (same.from e)) ∙ sym (within (sender f e)) ∙ stays.0, StaysWithin-same f g same l within es stays.1)
 
 same_sort : (flow : Dataflow) (sort : Kind → Bool) → ((m n : ℕ) → sort (Regroup m) ≡ sort (Regroup n)) → (p : ℕ) → sort (kind_of (capped_flow flow) p) ≡ sort (kind_of flow p)
 same_sort flow sort same p = ap sort (kind_of-capped flow p) ∙ same_of_capped sort same (kind_of flow p)
@@ -163,7 +163,7 @@ outside-capped flow p = ap (λ d. not (is_loop d)) (domain-capped flow p)
 inside-capped : (flow : Dataflow) (l p : ℕ) → is_kind_in (capped_flow flow) l (kind_of (capped_flow flow) p) ≡ is_kind_in flow l (kind_of flow p)
 inside-capped flow l p = ap (is_domain_of l) (domain-capped flow p)
 
-within-capped : (flow : Dataflow) (l p : ℕ) → is_within (capped_flow flow) l (domain_of (capped_flow flow) p) ≡ is_within flow l (domain_of flow p)
+within-capped : (flow : Dataflow) (l p : ℕ) → is_domain_within (capped_flow flow) l (domain_of (capped_flow flow) p) ≡ is_domain_within flow l (domain_of flow p)
 within-capped flow l p = ap (λ ls. is_one_of l ls) (loops_of-capped flow (domain_of (capped_flow flow) p) ∙ ap (loops_of flow) (domain-capped flow p))
 
 pub AreWalksRight-capped : (flow : Dataflow) → AreWalksRight (capped_flow flow) → AreWalksRight flow

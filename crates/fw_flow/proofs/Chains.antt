@@ -4,7 +4,7 @@ use Rattle.std.proofs.lemmas.Bool.{cases_Bool, or_cases, eqb-true}
 use Rattle.fw_time.specs.Stamp.{Stamp, nest}
 use Rattle.fw_flow.specs.declared.kind.Domain.{Domain}
 use Rattle.fw_flow.specs.declared.kind.Domain.TheVariants.{Epoch, Number, Loop as InLoop}
-use Rattle.fw_flow.specs.Dataflow.{Dataflow, max_of, domain_within, is_of_numbers, declared_parent, ends_within, parent_of, loops_within, loops_of, greatest_in, greatest_of, is_one_of, is_within}
+use Rattle.fw_flow.specs.Dataflow.{Dataflow, max_of, domain_within, is_of_numbers, declared_parent, ends_within, parent_of, loops_within, loops_of, greatest_in, greatest_of, is_one_of, is_domain_within}
 
 ends-more : (flow : Dataflow) (n : ℕ) (o : Option ℕ) → ends_within n flow o ≡ true → ends_within (suc n) flow o ≡ true
 ends-more flow n None h = refl
@@ -119,12 +119,12 @@ one_of-length flow l (suc n) (InLoop k) h = elim (or_cases (k == l) (is_one_of l
 ]
 
 -- what lies in a loop is at least as deep as the loop
-pub within-depth : (flow : Dataflow) (l : ℕ) (d : Domain) → is_within flow l d ≡ true → length (loops_of flow (InLoop l)) ≤ length (loops_of flow d)
+pub within-depth : (flow : Dataflow) (l : ℕ) (d : Domain) → is_domain_within flow l d ≡ true → length (loops_of flow (InLoop l)) ≤ length (loops_of flow d)
 unfolding loops_of
 within-depth flow l d h = one_of-length flow l 3 d h
 
 -- a loop is no loop that its parent domain lies in
-pub not_own_parent : (flow : Dataflow) (l : ℕ) → is_within flow l (parent_of flow l) ≡ true → ⊥
+pub not_own_parent : (flow : Dataflow) (l : ℕ) → is_domain_within flow l (parent_of flow l) ≡ true → ⊥
 unfolding loops_of
 not_own_parent flow l h =
     let less = one_of-length flow l 3 (parent_of flow l) h in

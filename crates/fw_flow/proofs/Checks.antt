@@ -23,7 +23,7 @@ use Rattle.fw_flow.specs.Dataflow.{Dataflow, idle_node, kind_of, sender, receive
 use Rattle.std.specs.Str.{bytes_eq}
 use Rattle.fw_lemmas.proofs.Numbers.{below_step}
 use Rattle.fw_flow.specs.Names.{has_name}
-use Rattle.fw_flow.specs.Raw.{names_of, loop_name, node_name, edge_name, loop_names, node_names, edge_names, place_or_end, resolved_kind, loop_in, node_in, edge_in, flow_of}
+use Rattle.fw_flow.specs.Raw.{names_of, loop_name, node_name, edge_name, loop_names, node_names, edge_names, place_or_end, resolved_kind, loop_in, node_in, edge_in, flow_of_declarations}
 use Rattle.fw_flow.specs.WellFormed.{IsWellFormed, IsWithinLimits, IsLoopDeclared, IsParentDeclared, HasShortChain, IsGroupSize}
 use Rattle.fw_flow.proofs.Givers.{GivesOne, giver_of, slice_get-given, length-given}
 
@@ -79,17 +79,17 @@ length-nodes loops raw = length-given (node_in loops) node_name (λ d. node_name
 pub length-edges : (nodes : List (List ℕ)) (raw : List Declared) → length (flat_map (edge_in nodes) raw) ≡ length (edge_names raw)
 length-edges nodes raw = length-given (edge_in nodes) edge_name (λ d. edge_name_count nodes d.line d.declaration) raw
 
-pub length-loop_lines : (raw : List Declared) → length (loop_lines raw) ≡ length (flow_of raw).loops
+pub length-loop_lines : (raw : List Declared) → length (loop_lines raw) ≡ length (flow_of_declarations raw).loops
 length-loop_lines raw =
     length-given (λ (d : Declared). map (λ name. d.line) (loop_name d)) loop_name (λ d. length-map (loop_name d) (λ name. d.line)) raw
     ∙ sym (length-loops (loop_names raw) raw)
 
-pub length-node_lines : (raw : List Declared) → length (node_lines raw) ≡ length (flow_of raw).nodes
+pub length-node_lines : (raw : List Declared) → length (node_lines raw) ≡ length (flow_of_declarations raw).nodes
 length-node_lines raw =
     length-given (λ (d : Declared). map (λ name. d.line) (node_name d)) node_name (λ d. length-map (node_name d) (λ name. d.line)) raw
     ∙ sym (length-nodes (loop_names raw) raw)
 
-pub length-edge_lines : (raw : List Declared) → length (edge_lines raw) ≡ length (flow_of raw).edges
+pub length-edge_lines : (raw : List Declared) → length (edge_lines raw) ≡ length (flow_of_declarations raw).edges
 length-edge_lines raw =
     length-given (λ (d : Declared). map (λ name. d.line) (edge_name d)) edge_name (λ d. length-map (edge_name d) (λ name. d.line)) raw
     ∙ sym (length-edges (node_names raw) raw)
@@ -163,8 +163,8 @@ parent-given flow l a_loop there =
 
 -- a declared node, at its place of the flow
 record NodePlace (raw : List Declared) (name : List ℕ) (kind : RawKind) (before : List Declared) : Type 0 where
-  below : length (node_names before) < length (flow_of raw).nodes
-  is_kind : kind_of (flow_of raw) (length (node_names before)) ≡ resolved_kind (loop_names raw) kind
+  below : length (node_names before) < length (flow_of_declarations raw).nodes
+  is_kind : kind_of (flow_of_declarations raw) (length (node_names before)) ≡ resolved_kind (loop_names raw) kind
 
 node_place : (raw : List Declared) (i line : ℕ) (name : List ℕ) (kind : RawKind) (policy : Policy)
     → slice_get raw i ≡ Some (record { line = line; declaration = ANode name kind policy }) → NodePlace raw name kind (take i raw)
@@ -175,15 +175,15 @@ node_place raw i line name kind policy there =
     let given = subst (λ n. slice_get (flat_map (node_in loops) raw) n ≡ Some node) count
     (slice_get-given (node_in loops) (GivesOne-node_in loops) raw i (record { line = line; declaration = ANode name kind policy }) node there refl) in
     record {
-      below = slice_get_within (flow_of raw).nodes (length (node_names (take i raw))) node given;
-      is_kind = kind_of-given (flow_of raw) (length (node_names (take i raw))) node given;
+      below = slice_get_within (flow_of_declarations raw).nodes (length (node_names (take i raw))) node given;
+      is_kind = kind_of-given (flow_of_declarations raw) (length (node_names (take i raw))) node given;
     }
 
 -- a declared edge, at its place of the flow
 record EdgePlace (raw : List Declared) (s r : List ℕ) (before : List Declared) : Type 0 where
-  below : length (edge_names before) < length (flow_of raw).edges
-  is_sender : sender (flow_of raw) (length (edge_names before)) ≡ place_or_end (node_names raw) s
-  is_receiver : receiver (flow_of raw) (length (edge_names before)) ≡ place_or_end (node_names raw) r
+  below : length (edge_names before) < length (flow_of_declarations raw).edges
+  is_sender : sender (flow_of_declarations raw) (length (edge_names before)) ≡ place_or_end (node_names raw) s
+  is_receiver : receiver (flow_of_declarations raw) (length (edge_names before)) ≡ place_or_end (node_names raw) r
 
 edge_place : (raw : List Declared) (i line : ℕ) (name s r : List ℕ)
     → slice_get raw i ≡ Some (record { line = line; declaration = AnEdge name s r }) → EdgePlace raw s r (take i raw)
@@ -194,16 +194,16 @@ edge_place raw i line name s r there =
     let given = subst (λ n. slice_get (flat_map (edge_in nodes) raw) n ≡ Some edge) count
     (slice_get-given (edge_in nodes) (GivesOne-edge_in nodes) raw i (record { line = line; declaration = AnEdge name s r }) edge there refl) in
     record {
-      below = slice_get_within (flow_of raw).edges (length (edge_names (take i raw))) edge given;
-      is_sender = sender-given (flow_of raw) (length (edge_names (take i raw))) edge given;
-      is_receiver = receiver-given (flow_of raw) (length (edge_names (take i raw))) edge given;
+      below = slice_get_within (flow_of_declarations raw).edges (length (edge_names (take i raw))) edge given;
+      is_sender = sender-given (flow_of_declarations raw) (length (edge_names (take i raw))) edge given;
+      is_receiver = receiver-given (flow_of_declarations raw) (length (edge_names (take i raw))) edge given;
     }
 
 -- a declared loop, at its place of the flow
 record LoopPlace (raw : List Declared) (max : ℕ) (parent : Option (List ℕ)) (before : List Declared) : Type 0 where
-  below : length (loop_names before) < length (flow_of raw).loops
-  is_max : max_of (flow_of raw) (length (loop_names before)) ≡ max
-  is_parent : declared_parent (flow_of raw) (length (loop_names before)) ≡ option_map (place_or_end (loop_names raw)) parent
+  below : length (loop_names before) < length (flow_of_declarations raw).loops
+  is_max : max_of (flow_of_declarations raw) (length (loop_names before)) ≡ max
+  is_parent : declared_parent (flow_of_declarations raw) (length (loop_names before)) ≡ option_map (place_or_end (loop_names raw)) parent
 
 loop_place : (raw : List Declared) (i line : ℕ) (name : List ℕ) (max : ℕ) (parent : Option (List ℕ))
     → slice_get raw i ≡ Some (record { line = line; declaration = ALoop name max parent }) → LoopPlace raw max parent (take i raw)
@@ -214,23 +214,23 @@ loop_place raw i line name max parent there =
     let given = subst (λ n. slice_get (flat_map (loop_in loops) raw) n ≡ Some a_loop) count
     (slice_get-given (loop_in loops) (GivesOne-loop_in loops) raw i (record { line = line; declaration = ALoop name max parent }) a_loop there refl) in
     record {
-      below = slice_get_within (flow_of raw).loops (length (loop_names (take i raw))) a_loop given;
-      is_max = max_of-given (flow_of raw) (length (loop_names (take i raw))) a_loop given;
-      is_parent = parent-given (flow_of raw) (length (loop_names (take i raw))) a_loop given;
+      below = slice_get_within (flow_of_declarations raw).loops (length (loop_names (take i raw))) a_loop given;
+      is_max = max_of-given (flow_of_declarations raw) (length (loop_names (take i raw))) a_loop given;
+      is_parent = parent-given (flow_of_declarations raw) (length (loop_names (take i raw))) a_loop given;
     }
 
 -- ---- a well-formed flow breaks no rule
 
-names_declared : (raw : List Declared) → IsWellFormed (flow_of raw) → (i line : ℕ) (d : Declaration)
+names_declared : (raw : List Declared) → IsWellFormed (flow_of_declarations raw) → (i line : ℕ) (d : Declaration)
     → slice_get raw i ≡ Some (record { line = line; declaration = d }) → are_names_declared (names_of raw) d ≡ true
 names_declared raw wf i line (ALoop name max parent) there =
     let at = loop_place raw i line name max parent there in
-    (parent_declared (flow_of raw) (loop_names raw) parent (length-loops (loop_names raw) raw)).0
-    (subst (λ o. IfSome o (λ k. k < length (flow_of raw).loops)) at.is_parent (wf.parents_declared (length (loop_names (take i raw))) at.below))
+    (parent_declared (flow_of_declarations raw) (loop_names raw) parent (length-loops (loop_names raw) raw)).0
+    (subst (λ o. IfSome o (λ k. k < length (flow_of_declarations raw).loops)) at.is_parent (wf.parents_declared (length (loop_names (take i raw))) at.below))
 names_declared raw wf i line (ANode name kind policy) there =
     let at = node_place raw i line name kind policy there in
-    (loop_declared (flow_of raw) (loop_names raw) kind (length-loops (loop_names raw) raw)).0
-    (subst (IsLoopDeclared (flow_of raw)) at.is_kind (wf.loops_declared (length (node_names (take i raw))) at.below))
+    (loop_declared (flow_of_declarations raw) (loop_names raw) kind (length-loops (loop_names raw) raw)).0
+    (subst (IsLoopDeclared (flow_of_declarations raw)) at.is_kind (wf.loops_declared (length (node_names (take i raw))) at.below))
 names_declared raw wf i line (AnEdge name s r) there =
     let at = edge_place raw i line name s r there in
     let e = length (edge_names (take i raw)) in
@@ -246,7 +246,7 @@ group_size : (loops : List (List ℕ)) (kind : RawKind) → IsGroupSize (resolve
 group_size loops (Regroup n) = (λ h. h, λ h. h)
 group_size loops kind = (λ h. tt, λ h. tt)
 
-within_limits : (raw : List Declared) → IsWithinLimits (flow_of raw) → (i line : ℕ) (d : Declaration)
+within_limits : (raw : List Declared) → IsWithinLimits (flow_of_declarations raw) → (i line : ℕ) (d : Declaration)
     → slice_get raw i ≡ Some (record { line = line; declaration = d }) → IsWithinLimitsAfter (take i raw) d
 within_limits raw limits i line (ALoop name max parent) there =
     let at = loop_place raw i line name max parent there in
@@ -262,17 +262,17 @@ within_limits raw limits i line (AnEdge name s r) there =
 -- ---- what the rules say of the part that a declaration gives
 
 node_named : (raw : List Declared) (line : ℕ) (d : Declaration) (part : Node) → node_in (loop_names raw) (record { line = line; declaration = d }) ≡ part ∷ []
-    → are_names_declared (names_of raw) d ≡ true → IsLoopDeclared (flow_of raw) part.kind
+    → are_names_declared (names_of raw) d ≡ true → IsLoopDeclared (flow_of_declarations raw) part.kind
 node_named raw line (ANode name kind policy) part gives h =
     let same : resolved_kind (loop_names raw) kind ≡ part.kind = cc in
-    subst (IsLoopDeclared (flow_of raw)) same ((loop_declared (flow_of raw) (loop_names raw) kind (length-loops (loop_names raw) raw)).1 h)
+    subst (IsLoopDeclared (flow_of_declarations raw)) same ((loop_declared (flow_of_declarations raw) (loop_names raw) kind (length-loops (loop_names raw) raw)).1 h)
 node_named raw line d part gives h = absurd (cc)
 
 loop_named_in : (raw : List Declared) (line : ℕ) (d : Declaration) (part : Loop) → loop_in (loop_names raw) (record { line = line; declaration = d }) ≡ part ∷ []
-    → are_names_declared (names_of raw) d ≡ true → IfSome part.parent (λ k. k < length (flow_of raw).loops)
+    → are_names_declared (names_of raw) d ≡ true → IfSome part.parent (λ k. k < length (flow_of_declarations raw).loops)
 loop_named_in raw line (ALoop name max parent) part gives h =
     let same : option_map (place_or_end (loop_names raw)) parent ≡ part.parent = cc in
-    subst (λ o. IfSome o (λ k. k < length (flow_of raw).loops)) same ((parent_declared (flow_of raw) (loop_names raw) parent (length-loops (loop_names raw) raw)).1 h)
+    subst (λ o. IfSome o (λ k. k < length (flow_of_declarations raw).loops)) same ((parent_declared (flow_of_declarations raw) (loop_names raw) parent (length-loops (loop_names raw) raw)).1 h)
 loop_named_in raw line d part gives h = absurd (cc)
 
 edge_named : (raw : List Declared) (line : ℕ) (d : Declaration) (part : Edge) → edge_in (node_names raw) (record { line = line; declaration = d }) ≡ part ∷ []
@@ -314,27 +314,27 @@ limits_at : (raw : List Declared) → KeepsRule raw F8 → (i : ℕ) (x : Declar
 limits_at raw h i x there =
     subst (λ o. IfSome o (λ (x : Declared). IsWithinLimitsAfter (take i raw) x.declaration)) there (h i (omega (arith, length-all_lines raw, slice_get_within raw i x there)))
 
-loops_declared : (raw : List Declared) → KeepsRule raw F3 → (p : ℕ) → p < length (flow_of raw).nodes → IsLoopDeclared (flow_of raw) (kind_of (flow_of raw) p)
+loops_declared : (raw : List Declared) → KeepsRule raw F3 → (p : ℕ) → p < length (flow_of_declarations raw).nodes → IsLoopDeclared (flow_of_declarations raw) (kind_of (flow_of_declarations raw) p)
 loops_declared raw h p lt =
     let g = giver_of (node_in (loop_names raw)) (GivesOne-node_in (loop_names raw)) raw p lt in
-    subst (IsLoopDeclared (flow_of raw)) (sym (kind_of-given (flow_of raw) p g.part g.is))
+    subst (IsLoopDeclared (flow_of_declarations raw)) (sym (kind_of-given (flow_of_declarations raw) p g.part g.is))
     (node_named raw g.giver.line g.giver.declaration g.part g.gives (names_at raw h g.place g.giver g.there))
 
-parents_declared : (raw : List Declared) → KeepsRule raw F3 → (l : ℕ) → l < length (flow_of raw).loops → IsParentDeclared (flow_of raw) l
+parents_declared : (raw : List Declared) → KeepsRule raw F3 → (l : ℕ) → l < length (flow_of_declarations raw).loops → IsParentDeclared (flow_of_declarations raw) l
 parents_declared raw h l lt =
     let loops = loop_names raw in
     let g = giver_of (loop_in loops) (GivesOne-loop_in loops) raw l lt in
-    subst (λ o. IfSome o (λ k. k < length (flow_of raw).loops)) (sym (parent-given (flow_of raw) l g.part g.is))
+    subst (λ o. IfSome o (λ k. k < length (flow_of_declarations raw).loops)) (sym (parent-given (flow_of_declarations raw) l g.part g.is))
     (loop_named_in raw g.giver.line g.giver.declaration g.part g.gives (names_at raw h g.place g.giver g.there))
 
 -- both ends of an edge are declared
-pub both_declared : (raw : List Declared) → KeepsRule raw F3 → (e : ℕ) → e < length (flow_of raw).edges
-    → (sender (flow_of raw) e < length (flow_of raw).nodes) × (receiver (flow_of raw) e < length (flow_of raw).nodes)
+pub both_declared : (raw : List Declared) → KeepsRule raw F3 → (e : ℕ) → e < length (flow_of_declarations raw).edges
+    → (sender (flow_of_declarations raw) e < length (flow_of_declarations raw).nodes) × (receiver (flow_of_declarations raw) e < length (flow_of_declarations raw).nodes)
 both_declared raw h e lt =
     let g = giver_of (edge_in (node_names raw)) (GivesOne-edge_in (node_names raw)) raw e lt in
     let below = edge_named raw g.giver.line g.giver.declaration g.part g.gives (names_at raw h g.place g.giver g.there) in
     let count = length-nodes (loop_names raw) raw in
-    (omega (arith, count, below.0, sender-given (flow_of raw) e g.part g.is), omega (arith, count, below.1, receiver-given (flow_of raw) e g.part g.is))
+    (omega (arith, count, below.0, sender-given (flow_of_declarations raw) e g.part g.is), omega (arith, count, below.1, receiver-given (flow_of_declarations raw) e g.part g.is))
 
 -- there are at most so many parts where each stands behind fewer
 few : {A : Type 0} (f : Declared → List A) → GivesOne f → (raw : List Declared) → KeepsRule raw F8 → (most : ℕ)
@@ -348,7 +348,7 @@ few f one raw h most fewer =
       | inr within ↦ within
     ]
 
-limits_hold : (raw : List Declared) → KeepsRule raw F8 → IsWithinLimits (flow_of raw)
+limits_hold : (raw : List Declared) → KeepsRule raw F8 → IsWithinLimits (flow_of_declarations raw)
 limits_hold raw h =
     let loops = loop_names raw in
     let nodes = node_names raw in
@@ -359,15 +359,15 @@ limits_hold raw h =
       counters = λ l lt.
           let g = giver_of (loop_in loops) (GivesOne-loop_in loops) raw l lt in
           let range = loop_within loops (take g.place raw) g.giver.line g.giver.declaration g.part g.gives (limits_at raw h g.place g.giver g.there) in
-          let max = max_of-given (flow_of raw) l g.part g.is in
+          let max = max_of-given (flow_of_declarations raw) l g.part g.is in
           (omega (arith, range.1, max), omega (arith, range.2, max));
       groups = λ p lt.
           let g = giver_of (node_in loops) (GivesOne-node_in loops) raw p lt in
-          subst IsGroupSize (sym (kind_of-given (flow_of raw) p g.part g.is))
+          subst IsGroupSize (sym (kind_of-given (flow_of_declarations raw) p g.part g.is))
           (node_within loops (take g.place raw) g.giver.line g.giver.declaration g.part g.gives (limits_at raw h g.place g.giver g.there)).1;
     }
 
-pub IsWellFormed-from_rules : (raw : List Declared) → KeepsRule raw F3 → KeepsRule raw F12 → KeepsRule raw F4 → KeepsRule raw F5 → KeepsRule raw F6 → KeepsRule raw F7 → KeepsRule raw F8 → KeepsRule raw F9 → IsWellFormed (flow_of raw)
+pub IsWellFormed-from_rules : (raw : List Declared) → KeepsRule raw F3 → KeepsRule raw F12 → KeepsRule raw F4 → KeepsRule raw F5 → KeepsRule raw F6 → KeepsRule raw F7 → KeepsRule raw F8 → KeepsRule raw F9 → IsWellFormed (flow_of_declarations raw)
 IsWellFormed-from_rules raw names chains degrees domains walks policies limits borders =
     let loops = length-loop_lines raw in
     let nodes = length-node_lines raw in
@@ -391,18 +391,18 @@ IsWellFormed-from_rules raw names chains degrees domains walks policies limits b
 
 -- ---- declarations that break a rule are not
 
-names_rule_at : (raw : List Declared) → IsWellFormed (flow_of raw) → (i : ℕ) (o : Option Declared) → slice_get raw i ≡ o
+names_rule_at : (raw : List Declared) → IsWellFormed (flow_of_declarations raw) → (i : ℕ) (o : Option Declared) → slice_get raw i ≡ o
     → IfSome o (λ (d : Declared). are_names_declared (names_of raw) d.declaration ≡ true)
 names_rule_at raw wf i None there = tt
 names_rule_at raw wf i (Some d) there = names_declared raw wf i d.line d.declaration there
 
-limits_rule_at : (raw : List Declared) → IsWellFormed (flow_of raw) → (i : ℕ) (o : Option Declared) → slice_get raw i ≡ o
+limits_rule_at : (raw : List Declared) → IsWellFormed (flow_of_declarations raw) → (i : ℕ) (o : Option Declared) → slice_get raw i ≡ o
     → IfSome o (λ (d : Declared). IsWithinLimitsAfter (take i raw) d.declaration)
 limits_rule_at raw wf i None there = tt
 limits_rule_at raw wf i (Some d) there = within_limits raw wf.limits i d.line d.declaration there
 
 -- each rule holds of a well-formed flow
-pub KeepsRule-from_IsWellFormed : (raw : List Declared) → IsWellFormed (flow_of raw) → (code : Code) → KeepsRule raw code
+pub KeepsRule-from_IsWellFormed : (raw : List Declared) → IsWellFormed (flow_of_declarations raw) → (code : Code) → KeepsRule raw code
 KeepsRule-from_IsWellFormed raw wf F3 = λ i lt. names_rule_at raw wf i (slice_get raw i) refl
 KeepsRule-from_IsWellFormed raw wf F4 = λ p lt. (wf.in_degrees p (omega (arith, length-node_lines raw)), wf.out_degrees p (omega (arith, length-node_lines raw)))
 KeepsRule-from_IsWellFormed raw wf F5 = λ e lt. wf.domains e (omega (arith, length-edge_lines raw))
@@ -419,17 +419,17 @@ first_break-false Rule lines line first holds = first.broken (holds first.place 
 -- a rule is not both broken and kept
 pub broken_or_holds : (raw : List Declared) (code : Code) (line : ℕ) → IsBroken raw code line → KeepsRule raw code → ⊥
 broken_or_holds raw F3 line broken holds = first_break-false (NamesTheDeclared raw) (all_lines raw) line broken holds
-broken_or_holds raw F4 line broken holds = first_break-false (HasItsDegrees (flow_of raw)) (node_lines raw) line broken holds
-broken_or_holds raw F5 line broken holds = first_break-false (JoinsDomains (flow_of raw)) (edge_lines raw) line broken holds
+broken_or_holds raw F4 line broken holds = first_break-false (HasItsDegrees (flow_of_declarations raw)) (node_lines raw) line broken holds
+broken_or_holds raw F5 line broken holds = first_break-false (JoinsDomains (flow_of_declarations raw)) (edge_lines raw) line broken holds
 broken_or_holds raw F6 line broken holds =
     elim broken.0 [
       | inl walk ↦ holds.in_loops walk.node walk.edges walk.closed walk.passes
       | inr slip ↦ let walk = slip.1 in walk.avoids (holds.fed_back slip.0 walk.node walk.edges walk.closed walk.stays walk.passes)
     ]
-broken_or_holds raw F7 line broken holds = first_break-false (HasAllowedPolicy (flow_of raw)) (node_lines raw) line broken holds
+broken_or_holds raw F7 line broken holds = first_break-false (HasAllowedPolicy (flow_of_declarations raw)) (node_lines raw) line broken holds
 broken_or_holds raw F8 line broken holds = first_break-false (StaysWithinLimits raw) (all_lines raw) line broken holds
 broken_or_holds raw F9 line broken holds = broken.0 holds
-broken_or_holds raw F12 line broken holds = first_break-false (HasShortChain (flow_of raw)) (loop_lines raw) line broken holds
+broken_or_holds raw F12 line broken holds = first_break-false (HasShortChain (flow_of_declarations raw)) (loop_lines raw) line broken holds
 broken_or_holds raw code line broken holds = broken
 
 one_first_break : (Rule : ℕ → Type 0) (lines : List ℕ) (m n : ℕ) → IsFirstBreak Rule lines m → IsFirstBreak Rule lines n → m ≡ n
@@ -447,13 +447,13 @@ one_first_break Rule lines m n first second =
 -- a broken rule has one line
 one_line : (raw : List Declared) (code : Code) (m n : ℕ) → IsBroken raw code m → IsBroken raw code n → m ≡ n
 one_line raw F3 m n first second = one_first_break (NamesTheDeclared raw) (all_lines raw) m n first second
-one_line raw F4 m n first second = one_first_break (HasItsDegrees (flow_of raw)) (node_lines raw) m n first second
-one_line raw F5 m n first second = one_first_break (JoinsDomains (flow_of raw)) (edge_lines raw) m n first second
+one_line raw F4 m n first second = one_first_break (HasItsDegrees (flow_of_declarations raw)) (node_lines raw) m n first second
+one_line raw F5 m n first second = one_first_break (JoinsDomains (flow_of_declarations raw)) (edge_lines raw) m n first second
 one_line raw F6 m n first second = first.1 ∙ sym second.1
-one_line raw F7 m n first second = one_first_break (HasAllowedPolicy (flow_of raw)) (node_lines raw) m n first second
+one_line raw F7 m n first second = one_first_break (HasAllowedPolicy (flow_of_declarations raw)) (node_lines raw) m n first second
 one_line raw F8 m n first second = one_first_break (StaysWithinLimits raw) (all_lines raw) m n first second
 one_line raw F9 m n first second = first.1 ∙ sym second.1
-one_line raw F12 m n first second = one_first_break (HasShortChain (flow_of raw)) (loop_lines raw) m n first second
+one_line raw F12 m n first second = one_first_break (HasShortChain (flow_of_declarations raw)) (loop_lines raw) m n first second
 one_line raw code m n first second = absurd first
 
 -- a first broken rule is broken

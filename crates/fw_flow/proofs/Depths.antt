@@ -6,7 +6,7 @@ use Rattle.fw_flow.specs.declared.kind.Domain.{Domain}
 use Rattle.fw_flow.specs.declared.kind.Domain.TheVariants.{Epoch, Number, Loop as InLoop}
 use Rattle.fw_flow.specs.declared.kind.Kind.{Kind}
 use Rattle.fw_flow.specs.declared.kind.Kind.TheVariants.{Enter, Feedback, Leave, Regroup, Sequence}
-use Rattle.fw_flow.specs.Dataflow.{Dataflow, kind_of, sender, receiver, parent_of, loops_of, domain_of, domain_of_kind, out_domain_of, out_domain_of_kind, is_loop, is_one_of, is_within, is_domain_of}
+use Rattle.fw_flow.specs.Dataflow.{Dataflow, kind_of, sender, receiver, parent_of, loops_of, domain_of, domain_of_kind, out_domain_of, out_domain_of_kind, is_loop, is_one_of, is_domain_within, is_domain_of}
 use Rattle.fw_flow.specs.WellFormed.{IsWalk, Passes, StaysWithin, is_feedback_of, is_kind_in, is_outside_kind}
 use Rattle.fw_flow.specs.Walks.{IsPath, Path}
 use Rattle.fw_flow.specs.Depths.{depth_of, is_feedback_at, depth_graph, ReturningPath}
@@ -82,7 +82,7 @@ in_domain-is l Number h = absurd (cc)
 in_domain-is l (InLoop k) h = ap InLoop (eqb-true k l h)
 
 -- of a loop and one within it of the same depth, the one is the other
-same_depth : (flow : Dataflow) (l k : ℕ) → is_within flow l (InLoop k) ≡ true → length (loops_of flow (InLoop k)) ≡ length (loops_of flow (InLoop l)) → k ≡ l
+same_depth : (flow : Dataflow) (l k : ℕ) → is_domain_within flow l (InLoop k) ≡ true → length (loops_of flow (InLoop k)) ≡ length (loops_of flow (InLoop l)) → k ≡ l
 same_depth flow l k h e =
     elim (or_cases (k == l) (is_one_of l (loops_of flow (parent_of flow k))) (sym (ap (λ ls. is_one_of l ls) (loops-unfold flow k)) ∙ h)) [
       | inl same ↦ eqb-true k l same
@@ -93,7 +93,7 @@ same_depth flow l k h e =
     ]
 
 -- within a loop, a kind that is no feedback of it is no feedback of a loop of its depth
-not_at_depth : (flow : Dataflow) (l : ℕ) (kind : Kind) → is_within flow l (domain_of_kind flow kind) ≡ true → is_feedback_of l kind ≡ false
+not_at_depth : (flow : Dataflow) (l : ℕ) (kind : Kind) → is_domain_within flow l (domain_of_kind flow kind) ≡ true → is_feedback_of l kind ≡ false
     → is_feedback_at flow (length (loops_of flow (InLoop l))) kind ≡ false
 not_at_depth flow l (Feedback k) h f =
     false_from_ne_true (length (loops_of flow (InLoop k)) == length (loops_of flow (InLoop l)))
@@ -101,7 +101,7 @@ not_at_depth flow l (Feedback k) h f =
 not_at_depth flow l kind h f = refl
 
 -- a closed walk that stays in a loop is of free edges of the loop's depth, or is fed back
-free_or_fed_back : (flow : Dataflow) (l p : ℕ) (es : List ℕ) (q : ℕ) → IsWalk flow p es q → StaysWithin flow l es → is_within flow l (domain_of flow q) ≡ true
+free_or_fed_back : (flow : Dataflow) (l p : ℕ) (es : List ℕ) (q : ℕ) → IsWalk flow p es q → StaysWithin flow l es → is_domain_within flow l (domain_of flow q) ≡ true
     → AreFree flow (length (loops_of flow (InLoop l))) es ⊎ Passes flow (is_feedback_of l) es
 free_or_fed_back flow l p [] q h s last = inl tt
 free_or_fed_back flow l p (e ∷ es) q h s last =
@@ -120,14 +120,14 @@ free_or_fed_back flow l p (e ∷ es) q h s last =
       ]
     ]
   where
-    next_within : (flow : Dataflow) (l p : ℕ) (es : List ℕ) (q : ℕ) → IsWalk flow p es q → StaysWithin flow l es → is_within flow l (domain_of flow q) ≡ true
-        → is_within flow l (domain_of flow p) ≡ true
-    next_within flow l p [] q h s last = ap (λ x. is_within flow l (domain_of flow x)) h ∙ last
-    next_within flow l p (e ∷ es) q h s last = sym (ap (λ x. is_within flow l (domain_of flow x)) h.1) ∙ s.0
+    next_within : (flow : Dataflow) (l p : ℕ) (es : List ℕ) (q : ℕ) → IsWalk flow p es q → StaysWithin flow l es → is_domain_within flow l (domain_of flow q) ≡ true
+        → is_domain_within flow l (domain_of flow p) ≡ true
+    next_within flow l p [] q h s last = ap (λ x. is_domain_within flow l (domain_of flow x)) h ∙ last
+    next_within flow l p (e ∷ es) q h s last = sym (ap (λ x. is_domain_within flow l (domain_of flow x)) h.1) ∙ s.0
 
-starts_within : (flow : Dataflow) (l p : ℕ) (es : List ℕ) (q : ℕ) → 0 < length es → IsWalk flow p es q → StaysWithin flow l es → is_within flow l (domain_of flow p) ≡ true
+starts_within : (flow : Dataflow) (l p : ℕ) (es : List ℕ) (q : ℕ) → 0 < length es → IsWalk flow p es q → StaysWithin flow l es → is_domain_within flow l (domain_of flow p) ≡ true
 starts_within flow l p [] q some h s = absurd (omega arith)
-starts_within flow l p (e ∷ es) q some h s = sym (ap (λ x. is_within flow l (domain_of flow x)) h.1) ∙ s.0
+starts_within flow l p (e ∷ es) q some h s = sym (ap (λ x. is_domain_within flow l (domain_of flow x)) h.1) ∙ s.0
 
 -- where at no depth a path returns, the closed walks are right
 pub no_return-right : (flow : Dataflow) → ((depth : ℕ) → depth ≤ 3 → ReturningPath flow depth → ⊥) → AreWalksRight flow
@@ -153,15 +153,15 @@ IsOutside Epoch = Unit {0}
 IsOutside Number = Unit {0}
 IsOutside (InLoop l) = ⊥
 
-none_within : (flow : Dataflow) (l : ℕ) (d : Domain) → IsOutside d → is_within flow l d ≡ true → ⊥
+none_within : (flow : Dataflow) (l : ℕ) (d : Domain) → IsOutside d → is_domain_within flow l d ≡ true → ⊥
 unfolding loops_of
 none_within flow l Epoch o h = cc
 none_within flow l Number o h = cc
 none_within flow l (InLoop k) o h = o
 
 -- a loop that the sender's domain lies in, of a depth that the receiver's has too, is one that the receiver's domain lies in
-kind-within : (flow : Dataflow) (l : ℕ) (kind : Kind) → is_within flow l (domain_of_kind flow kind) ≡ true
-    → length (loops_of flow (InLoop l)) ≤ length (loops_of flow (out_domain_of_kind flow kind)) → is_within flow l (out_domain_of_kind flow kind) ≡ true
+kind-within : (flow : Dataflow) (l : ℕ) (kind : Kind) → is_domain_within flow l (domain_of_kind flow kind) ≡ true
+    → length (loops_of flow (InLoop l)) ≤ length (loops_of flow (out_domain_of_kind flow kind)) → is_domain_within flow l (out_domain_of_kind flow kind) ≡ true
 kind-within flow l (Enter k) h e = ap (λ ls. is_one_of l ls) (loops-unfold flow k) ∙ or_right (k == l) (is_one_of l (loops_of flow (parent_of flow k))) h
 kind-within flow l (Leave k) h e =
     elim (or_cases (k == l) (is_one_of l (loops_of flow (parent_of flow k))) (sym (ap (λ ls. is_one_of l ls) (loops-unfold flow k)) ∙ h)) [
@@ -177,10 +177,10 @@ kind-within flow l kind h e = h
 
 -- a path of the loop's depth that begins within the loop stays within it
 path-stays : (flow : Dataflow) → HoldsBelow (JoinsDomains flow) (length flow.edges) → (l p : ℕ) (es : List ℕ) (q : ℕ) → IsPath (depth_graph flow (length (loops_of flow (InLoop l)))) p es q
-    → is_within flow l (domain_of flow p) ≡ true → StaysWithin flow l es
+    → is_domain_within flow l (domain_of flow p) ≡ true → StaysWithin flow l es
 path-stays flow joins l p [] q h w = tt
 path-stays flow joins l p (e ∷ es) q h w =
-    let here : is_within flow l (domain_of flow (sender flow e)) ≡ true = ap (λ x. is_within flow l (domain_of flow x)) h.2 ∙ w in
+    let here : is_domain_within flow l (domain_of flow (sender flow e)) ≡ true = ap (λ x. is_domain_within flow l (domain_of flow x)) h.2 ∙ w in
     let j = length (loops_of flow (InLoop l)) in
     let both = and_parts (nat_le j (depth_of flow (sender flow e)))
     (nat_le j (depth_of flow (receiver flow e)) && not (is_feedback_at flow j (kind_of flow (sender flow e)))) h.1 in
@@ -189,7 +189,7 @@ path-stays flow joins l p (e ∷ es) q h w =
     let same : length (loops_of flow (out_domain_of flow (sender flow e))) ≡ depth_of flow (receiver flow e) = ap (λ d. length (loops_of flow d)) (joins e h.0) in
     let long : length (loops_of flow (InLoop l)) ≤ length (loops_of flow (out_domain_of flow (sender flow e))) = omega (arith, deep, same) in
     let next = kind-within flow l (kind_of flow (sender flow e)) here long in
-    (here, path-stays flow joins l (receiver flow e) es q h.3 (sym (ap (is_within flow l) (joins e h.0)) ∙ next))
+    (here, path-stays flow joins l (receiver flow e) es q h.3 (sym (ap (is_domain_within flow l) (joins e h.0)) ∙ next))
 
 -- a path of the loop's depth leaves no feedback of the loop
 path-avoids : (flow : Dataflow) (l p : ℕ) (es : List ℕ) (q : ℕ) → IsPath (depth_graph flow (length (loops_of flow (InLoop l)))) p es q → Passes flow (is_feedback_of l) es → ⊥
@@ -211,7 +211,7 @@ wrong_at : (flow : Dataflow) → HoldsBelow (JoinsDomains flow) (length flow.edg
 wrong_at flow joins p (InLoop l) e path =
     let j = length (loops_of flow (InLoop l)) in
     let walk = walk-from_path flow j p path.edges p path.path in
-    let own : is_within flow l (InLoop l) ≡ true =
+    let own : is_domain_within flow l (InLoop l) ≡ true =
     ap (λ ls. is_one_of l ls) (loops-unfold flow l) ∙ or_left (l == l) (is_one_of l (loops_of flow (parent_of flow l))) (eq-eqb l l refl) in
     inr (
       l,
@@ -219,7 +219,7 @@ wrong_at flow joins p (InLoop l) e path =
         node = p;
         edges = path.edges;
         closed = record { some = path.some; walk = walk };
-        stays = path-stays flow joins l p path.edges p path.path (ap (is_within flow l) e ∙ own);
+        stays = path-stays flow joins l p path.edges p path.path (ap (is_domain_within flow l) e ∙ own);
         passes = passes_first flow (is_kind_in flow l) p path.edges p path.some walk (ap (is_domain_of l) e ∙ eq-eqb l l refl);
         avoids = path-avoids flow l p path.edges p path.path;
       },

@@ -28,7 +28,7 @@ use Rattle.fw_flow.specs.Dataflow.{Dataflow, kind_of, in_edges, out_edges, edges
 use Rattle.fw_flow.specs.Draft.{IsDraftOf, LaterRulesHold}
 use Rattle.fw_flow.specs.Flow.{edges_at, IsIndexed}
 use Rattle.fw_flow.specs.Parts.{ArePartsOf, capped_kind, capped_loop, capped_node, capped_flow, places_from}
-use Rattle.fw_flow.specs.Raw.{names_of, loop_names, node_names, edge_names, node_name, edge_name, loop_in, node_in, edge_in, flow_of}
+use Rattle.fw_flow.specs.Raw.{names_of, loop_names, node_names, edge_names, node_name, edge_name, loop_in, node_in, edge_in, flow_of_declarations}
 use Rattle.fw_flow.specs.Walks.{AreWithin, IsMadeOf, link_at, link_of, listed_kind}
 use Rattle.fw_flow.specs.WellFormed.{HasShortChain, IsInDegree, IsOutDegree, IsWellFormed}
 use Rattle.fw_flow.proofs.Capped.{from_capped, to_capped, kind_of-capped, HasShortChain-capped, JoinsDomains-capped, HasAllowedPolicy-capped, AreWalksRight-capped, IsWalkWrong-capped, HasBorders-capped, loops-capped, nodes-capped}
@@ -52,7 +52,7 @@ few_nodes raw few =
     let most = length-given_le (node_in (loop_names raw)) (GivesOne-node_in (loop_names raw)) raw in
     omega (arith, few, count, most)
 
-few_edges : (raw : List Declared) → length raw < 2 ^ 32 → length (flow_of raw).edges < 2 ^ 32
+few_edges : (raw : List Declared) → length raw < 2 ^ 32 → length (flow_of_declarations raw).edges < 2 ^ 32
 few_edges raw few =
     let most = length-given_le (edge_in (node_names raw)) (GivesOne-edge_in (node_names raw)) raw in
     omega (arith, few, most)
@@ -64,16 +64,16 @@ pub record AreLinkedPartsOf (parts : Parts) (links : List Link) (raw : List Decl
   pub of_parts : ArePartsOf parts (names_of raw) raw
   pub of_links : links ≡ map link_of parts.edges.items
 
-count_of_nodes : {parts : Parts} {links : List Link} {raw : List Declared} → AreLinkedPartsOf parts links raw → length parts.nodes.items ≡ length (flow_of raw).nodes
-count_of_nodes {raw = raw} linked = ap length linked.of_parts.all_nodes ∙ length-map (flow_of raw).nodes capped_node
+count_of_nodes : {parts : Parts} {links : List Link} {raw : List Declared} → AreLinkedPartsOf parts links raw → length parts.nodes.items ≡ length (flow_of_declarations raw).nodes
+count_of_nodes {raw = raw} linked = ap length linked.of_parts.all_nodes ∙ length-map (flow_of_declarations raw).nodes capped_node
 
-count_of_edges : {parts : Parts} {links : List Link} {raw : List Declared} → AreLinkedPartsOf parts links raw → length links ≡ length (flow_of raw).edges
+count_of_edges : {parts : Parts} {links : List Link} {raw : List Declared} → AreLinkedPartsOf parts links raw → length links ≡ length (flow_of_declarations raw).edges
 count_of_edges {parts} linked = ap length linked.of_links ∙ length-map {A = Edge} {B = Link} parts.edges.items link_of ∙ ap length linked.of_parts.all_edges
 
 -- the links join nodes of the flow
 pub links_within : {parts : Parts} {links : List Link} {raw : List Declared} → AreLinkedPartsOf parts links raw → KeepsRule raw F3 → AreWithin (length parts.nodes.items) links
 links_within {parts} {links} {raw} linked declared =
-    let flow = flow_of raw in
+    let flow = flow_of_declarations raw in
     let same : links ≡ map link_of flow.edges = linked.of_links ∙ ap (map link_of) linked.of_parts.all_edges in
     let count = length-map {A = Edge} {B = Link} flow.edges link_of in
     let here : AreWithin (length flow.nodes) (map link_of flow.edges) = record {
@@ -106,7 +106,7 @@ few_ends {links = links} {raw} linked few end ends are =
 
 pub lines_of_loops : {parts : Parts} {links : List Link} {raw : List Declared} → AreLinkedPartsOf parts links raw → length parts.loop_lines.items ≡ length parts.loops.items
 lines_of_loops {raw = raw} linked =
-    ap length linked.of_parts.lines_of_loops ∙ length-loop_lines raw ∙ sym (ap length linked.of_parts.all_loops ∙ length-map (flow_of raw).loops capped_loop)
+    ap length linked.of_parts.lines_of_loops ∙ length-loop_lines raw ∙ sym (ap length linked.of_parts.all_loops ∙ length-map (flow_of_declarations raw).loops capped_loop)
 
 pub lines_of_nodes : {parts : Parts} {links : List Link} {raw : List Declared} → AreLinkedPartsOf parts links raw → length parts.node_lines.items ≡ length parts.nodes.items
 lines_of_nodes {raw = raw} linked = ap length linked.of_parts.lines_of_nodes ∙ length-node_lines raw ∙ sym (count_of_nodes linked)
@@ -127,7 +127,7 @@ edges_out_of edges links ends is are p =
 -- ---- the tests
 
 pub made_of : (draft : Draft) (raw : List Declared) → IsDraftOf draft raw
-    → IsMadeOf (capped_flow (flow_of raw)) draft.parts.loops.items draft.parts.nodes.items draft.links.items
+    → IsMadeOf (capped_flow (flow_of_declarations raw)) draft.parts.loops.items draft.parts.nodes.items draft.links.items
 made_of draft raw of_draft = record {
   of_loops = sym of_draft.of_parts.all_loops;
   of_nodes = sym of_draft.of_parts.all_nodes;
@@ -145,10 +145,10 @@ first_break_same R S same lines (Some line) first = record {
 
 degrees_same : (draft : Draft) (raw : List Declared) → IsDraftOf draft raw → (p : ℕ)
     → (IsInDegree (listed_kind draft.parts.nodes.items p) (length (edges_at draft.incoming.items p)) × IsOutDegree (listed_kind draft.parts.nodes.items p) (length (edges_at draft.outgoing.items p)))
-    ↔ HasItsDegrees (flow_of raw) p
+    ↔ HasItsDegrees (flow_of_declarations raw) p
 unfolding in_edges out_edges
 degrees_same draft raw of_draft p =
-    let flow = flow_of raw in
+    let flow = flow_of_declarations raw in
     let kind : listed_kind draft.parts.nodes.items p ≡ capped_kind (kind_of flow p) =
     sym (kinds_of (capped_flow flow) draft.parts.loops.items draft.parts.nodes.items draft.links.items (made_of draft raw of_draft) p) ∙ kind_of-capped flow p in
     let into : edges_at draft.incoming.items p ≡ edges_into 0 flow.edges p = of_draft.edges_in p ∙ ap (λ (es : List Edge). edges_into 0 es p) of_draft.of_parts.all_edges in
@@ -170,13 +170,13 @@ ListedDegrees nodes incoming outgoing p = IsInDegree (listed_kind nodes p) (leng
 
 pub degrees_first : (draft : Draft) (raw : List Declared) → IsDraftOf draft raw → (line : Option ℕ) (nodes : List Node) (incoming outgoing : List (Vec ℕ Global)) (lines : List ℕ)
     → nodes ≡ draft.parts.nodes.items → incoming ≡ draft.incoming.items → outgoing ≡ draft.outgoing.items → lines ≡ draft.parts.node_lines.items
-    → IsFirstBreakIfAny (ListedDegrees nodes incoming outgoing) lines line → IsFirstBreakIfAny (HasItsDegrees (flow_of raw)) (node_lines raw) line
+    → IsFirstBreakIfAny (ListedDegrees nodes incoming outgoing) lines line → IsFirstBreakIfAny (HasItsDegrees (flow_of_declarations raw)) (node_lines raw) line
 degrees_first draft raw of_draft line nodes incoming outgoing lines are_nodes are_in are_out are_lines first =
     let own_nodes = subst (λ ns. IsFirstBreakIfAny (ListedDegrees ns incoming outgoing) lines line) are_nodes first in
     let own_in = subst (λ es. IsFirstBreakIfAny (ListedDegrees draft.parts.nodes.items es outgoing) lines line) are_in own_nodes in
     let own_out = subst (λ es. IsFirstBreakIfAny (ListedDegrees draft.parts.nodes.items draft.incoming.items es) lines line) are_out own_in in
-    subst (λ ls. IsFirstBreakIfAny (HasItsDegrees (flow_of raw)) ls line) (are_lines ∙ of_draft.of_parts.lines_of_nodes)
-    (first_break_same (ListedDegrees draft.parts.nodes.items draft.incoming.items draft.outgoing.items) (HasItsDegrees (flow_of raw)) (degrees_same draft raw of_draft) lines line own_out)
+    subst (λ ls. IsFirstBreakIfAny (HasItsDegrees (flow_of_declarations raw)) ls line) (are_lines ∙ of_draft.of_parts.lines_of_nodes)
+    (first_break_same (ListedDegrees draft.parts.nodes.items draft.incoming.items draft.outgoing.items) (HasItsDegrees (flow_of_declarations raw)) (degrees_same draft raw of_draft) lines line own_out)
 
 -- lists that are those of a draft
 pub record AreListsOf (draft : Draft) (loops : List Loop) (nodes : List Node) (links : List Link) : Type 0 where
@@ -185,7 +185,7 @@ pub record AreListsOf (draft : Draft) (loops : List Loop) (nodes : List Node) (l
   pub of_links : links ≡ draft.links.items
 
 made_of_lists : (draft : Draft) (raw : List Declared) → IsDraftOf draft raw → (loops : List Loop) (nodes : List Node) (links : List Link)
-    → AreListsOf draft loops nodes links → IsMadeOf (capped_flow (flow_of raw)) loops nodes links
+    → AreListsOf draft loops nodes links → IsMadeOf (capped_flow (flow_of_declarations raw)) loops nodes links
 made_of_lists draft raw of_draft loops nodes links are =
     let made = made_of draft raw of_draft in
     record { of_loops = made.of_loops ∙ sym are.of_loops; of_nodes = made.of_nodes ∙ sym are.of_nodes; of_links = made.of_links ∙ sym are.of_links }
@@ -193,9 +193,9 @@ made_of_lists draft raw of_draft loops nodes links are =
 pub chains_first : (draft : Draft) (raw : List Declared) → IsDraftOf draft raw → (line : Option ℕ) (loops : List Loop) (lines : List ℕ)
     → loops ≡ draft.parts.loops.items → lines ≡ draft.parts.loop_lines.items
     → ((flow : Dataflow) → flow.loops ≡ loops → IsFirstBreakIfAny (HasShortChain flow) lines line)
-    → IsFirstBreakIfAny (HasShortChain (flow_of raw)) (loop_lines raw) line
+    → IsFirstBreakIfAny (HasShortChain (flow_of_declarations raw)) (loop_lines raw) line
 chains_first draft raw of_draft line loops lines are_loops are_lines first =
-    let flow = flow_of raw in
+    let flow = flow_of_declarations raw in
     subst (λ ls. IsFirstBreakIfAny (HasShortChain flow) ls line) (are_lines ∙ of_draft.of_parts.lines_of_loops)
     (first_break_same (HasShortChain (capped_flow flow)) (HasShortChain flow) (HasShortChain-capped flow) lines line
     (first (capped_flow flow) ((made_of draft raw of_draft).of_loops ∙ sym are_loops)))
@@ -203,9 +203,9 @@ chains_first draft raw of_draft line loops lines are_loops are_lines first =
 pub domains_first : (draft : Draft) (raw : List Declared) → IsDraftOf draft raw → (line : Option ℕ) (loops : List Loop) (nodes : List Node) (links : List Link) (lines : List ℕ)
     → loops ≡ draft.parts.loops.items → nodes ≡ draft.parts.nodes.items → links ≡ draft.links.items → lines ≡ draft.parts.edge_lines.items
     → ((flow : Dataflow) → IsMadeOf flow loops nodes links → IsFirstBreakIfAny (JoinsDomains flow) lines line)
-    → IsFirstBreakIfAny (JoinsDomains (flow_of raw)) (edge_lines raw) line
+    → IsFirstBreakIfAny (JoinsDomains (flow_of_declarations raw)) (edge_lines raw) line
 domains_first draft raw of_draft line loops nodes links lines are_loops are_nodes are_links are_lines first =
-    let flow = flow_of raw in
+    let flow = flow_of_declarations raw in
     subst (λ ls. IsFirstBreakIfAny (JoinsDomains flow) ls line) (are_lines ∙ of_draft.of_parts.lines_of_edges)
     (first_break_same (JoinsDomains (capped_flow flow)) (JoinsDomains flow) (JoinsDomains-capped flow) lines line
     (first (capped_flow flow) (made_of_lists draft raw of_draft loops nodes links (record { of_loops = are_loops; of_nodes = are_nodes; of_links = are_links }))))
@@ -213,43 +213,43 @@ domains_first draft raw of_draft line loops nodes links lines are_loops are_node
 pub policies_first : (draft : Draft) (raw : List Declared) → IsDraftOf draft raw → (line : Option ℕ) (nodes : List Node) (lines : List ℕ)
     → nodes ≡ draft.parts.nodes.items → lines ≡ draft.parts.node_lines.items
     → ((flow : Dataflow) → flow.nodes ≡ nodes → IsFirstBreakIfAny (HasAllowedPolicy flow) lines line)
-    → IsFirstBreakIfAny (HasAllowedPolicy (flow_of raw)) (node_lines raw) line
+    → IsFirstBreakIfAny (HasAllowedPolicy (flow_of_declarations raw)) (node_lines raw) line
 policies_first draft raw of_draft line nodes lines are_nodes are_lines first =
-    let flow = flow_of raw in
+    let flow = flow_of_declarations raw in
     subst (λ ls. IsFirstBreakIfAny (HasAllowedPolicy flow) ls line) (are_lines ∙ of_draft.of_parts.lines_of_nodes)
     (first_break_same (HasAllowedPolicy (capped_flow flow)) (HasAllowedPolicy flow) (HasAllowedPolicy-capped flow) lines line
     (first (capped_flow flow) ((made_of draft raw of_draft).of_nodes ∙ sym are_nodes)))
 
 pub walks_right : {E : Type 0} (draft : Draft) (raw : List Declared) → IsDraftOf draft raw → (r : Result Bool E) (loops : List Loop) (nodes : List Node) (links : List Link)
     → AreListsOf draft loops nodes links
-    → ((flow : Dataflow) → IsMadeOf flow loops nodes links → IfOk r (λ b. OnTrue b (AreWalksRight flow))) → IfOk r (λ b. b ≡ true → AreWalksRight (flow_of raw))
+    → ((flow : Dataflow) → IsMadeOf flow loops nodes links → IfOk r (λ b. OnTrue b (AreWalksRight flow))) → IfOk r (λ b. b ≡ true → AreWalksRight (flow_of_declarations raw))
 walks_right draft raw of_draft (Ok true) loops nodes links are right = λ e.
-    AreWalksRight-capped (flow_of raw) (right (capped_flow (flow_of raw)) (made_of_lists draft raw of_draft loops nodes links are))
+    AreWalksRight-capped (flow_of_declarations raw) (right (capped_flow (flow_of_declarations raw)) (made_of_lists draft raw of_draft loops nodes links are))
 walks_right draft raw of_draft (Ok false) loops nodes links are right = λ e. absurd (false≢true e)
 walks_right draft raw of_draft (Err fault) loops nodes links are right = tt
 
 -- where the edges join domains, the links of the flow with its sizes capped do
 joins-capped : (draft : Draft) (raw : List Declared) → IsDraftOf draft raw → (links : List Link) → links ≡ draft.links.items → KeepsRule raw F5
-    → HoldsBelow (JoinsDomains (capped_flow (flow_of raw))) (length links)
+    → HoldsBelow (JoinsDomains (capped_flow (flow_of_declarations raw))) (length links)
 joins-capped draft raw of_draft links are joins = λ e lt.
     let count = ap length are ∙ count_of_edges (record { of_parts = of_draft.of_parts; of_links = of_draft.of_links }) in
-    (JoinsDomains-capped (flow_of raw) e).1 (joins e (omega (arith, count, length-edge_lines raw, lt)))
+    (JoinsDomains-capped (flow_of_declarations raw) e).1 (joins e (omega (arith, count, length-edge_lines raw, lt)))
 
 pub walk_wrong : {E : Type 0} (draft : Draft) (raw : List Declared) → IsDraftOf draft raw → (r : Result Bool E) (loops : List Loop) (nodes : List Node) (links : List Link)
     → AreListsOf draft loops nodes links → KeepsRule raw F5
     → ((flow : Dataflow) → IsMadeOf flow loops nodes links → HoldsBelow (JoinsDomains flow) (length links) → IfOk r (λ b. OnFalse b (IsWalkWrong flow)))
-    → IfOk r (λ b. b ≡ false → IsWalkWrong (flow_of raw))
+    → IfOk r (λ b. b ≡ false → IsWalkWrong (flow_of_declarations raw))
 walk_wrong draft raw of_draft (Ok true) loops nodes links are joins wrong = λ e. absurd (true≢false e)
 walk_wrong draft raw of_draft (Ok false) loops nodes links are joins wrong = λ e.
-    IsWalkWrong-capped (flow_of raw)
-    (wrong (capped_flow (flow_of raw)) (made_of_lists draft raw of_draft loops nodes links are) (joins-capped draft raw of_draft links are.of_links joins))
+    IsWalkWrong-capped (flow_of_declarations raw)
+    (wrong (capped_flow (flow_of_declarations raw)) (made_of_lists draft raw of_draft loops nodes links are) (joins-capped draft raw of_draft links are.of_links joins))
 walk_wrong draft raw of_draft (Err fault) loops nodes links are joins wrong = tt
 
 pub borders_same : (draft : Draft) (raw : List Declared) → IsDraftOf draft raw → (b : Bool) (nodes : List Node) → nodes ≡ draft.parts.nodes.items
-    → ((flow : Dataflow) → flow.nodes ≡ nodes → (b ≡ true) ↔ HasBorders flow) → (b ≡ true) ↔ HasBorders (flow_of raw)
+    → ((flow : Dataflow) → flow.nodes ≡ nodes → (b ≡ true) ↔ HasBorders flow) → (b ≡ true) ↔ HasBorders (flow_of_declarations raw)
 borders_same draft raw of_draft b nodes are_nodes same =
-    let here = same (capped_flow (flow_of raw)) ((made_of draft raw of_draft).of_nodes ∙ sym are_nodes) in
-    let capped = HasBorders-capped (flow_of raw) in
+    let here = same (capped_flow (flow_of_declarations raw)) ((made_of draft raw of_draft).of_nodes ∙ sym are_nodes) in
+    let capped = HasBorders-capped (flow_of_declarations raw) in
     (λ e. capped.0 (here.0 e), λ h. here.1 (capped.1 h))
 
 -- ---- refusals
@@ -281,9 +281,9 @@ IsFirstBroken-from_later raw NoMemory names first = tt
 abbrev pub drafted : Draft → Dataflow
 drafted draft = record { loops = draft.parts.loops.items; nodes = draft.parts.nodes.items; edges = draft.parts.edges.items }
 
-flow_of_draft : (draft : Draft) (raw : List Declared) → IsDraftOf draft raw → IsWellFormed (flow_of raw) → drafted draft ≡ flow_of raw
+flow_of_draft : (draft : Draft) (raw : List Declared) → IsDraftOf draft raw → IsWellFormed (flow_of_declarations raw) → drafted draft ≡ flow_of_declarations raw
 flow_of_draft draft raw of_draft wf =
-    let flow = flow_of raw in
+    let flow = flow_of_declarations raw in
     let parts = draft.parts in
     let loops : parts.loops.items ≡ flow.loops = of_draft.of_parts.all_loops ∙ loops-capped flow wf.limits in
     let nodes : parts.nodes.items ≡ flow.nodes = of_draft.of_parts.all_nodes ∙ nodes-capped flow wf.limits in
@@ -308,7 +308,7 @@ edge_named nodes line (ANode name kind policy) = refl
 edge_named nodes line (AnEdge name s r) = refl
 
 -- the names of the nodes and edges are those that were declared
-pub names_of_flow : (raw : List Declared) → (node_names raw ≡ map (λ (n : Node). n.name) (flow_of raw).nodes) × (edge_names raw ≡ map (λ (e : Edge). e.name) (flow_of raw).edges)
+pub names_of_flow : (raw : List Declared) → (node_names raw ≡ map (λ (n : Node). n.name) (flow_of_declarations raw).nodes) × (edge_names raw ≡ map (λ (e : Edge). e.name) (flow_of_declarations raw).edges)
 names_of_flow raw = (
   sym (map-flat_map (λ (n : Node). n.name) (node_in (loop_names raw)) node_name (λ d. node_named (loop_names raw) d.line d.declaration) raw),
   sym (map-flat_map (λ (e : Edge). e.name) (edge_in (node_names raw)) edge_name (λ d. edge_named (node_names raw) d.line d.declaration) raw),

@@ -15,7 +15,7 @@ use Rattle.fw_time.specs.Stamp.{stamp_cmp}
 use Rattle.fw_bag.specs.Rec.{rec_cmp}
 use Rattle.fw_bag.proofs.RecLaws.{rec_order, rec_cmp-same, rec_cmp-refl}
 use Rattle.fw_flow.specs.declared.event.Message.{Message}
-use Rattle.fw_flow.specs.Message.{message_cmp, is_among, messages_without, messages_less}
+use Rattle.fw_flow.specs.Message.{message_cmp, is_message_among, messages_without, messages_less}
 
 -- ---- messages that the order finds equal are one
 
@@ -54,7 +54,7 @@ each-among {R} h P x (y ∷ ys) k a = elim (or_cases (is_eq (R x y)) (list_any (
   | inr l ↦ each-among h P x ys l a.1
 ]
 
-pub among-each : (P : Message → Type 0) (m : Message) (ms : List Message) → is_among m ms ≡ true → AllByRecursion P ms → P m
+pub among-each : (P : Message → Type 0) (m : Message) (ms : List Message) → is_message_among m ms ≡ true → AllByRecursion P ms → P m
 among-each = each-among message_cmp-same
 
 -- ---- one message taken away

@@ -2,7 +2,7 @@
 use Rattle.std.proofs.Common.{◌≡◌, ℕ, ◌<◌, inl, inr, Bool, true, false, not, ◌&&◌, ◌||◌, ◌==◌, List, [], ◌∷◌, length, refl, sym, ap, ◌∙◌, arith}
 use Rattle.std.proofs.lemmas.Bool.{and_parts, and_from, eq-eqb, cases_Bool, false_from_ne_true, false≢true, not-true, not_from_false}
 use Rattle.fw_flow.specs.declared.kind.Domain.TheVariants.{Loop as InLoop}
-use Rattle.fw_flow.specs.Dataflow.{Dataflow, kind_of, sender, receiver, domain_of, out_domain_of, is_loop, is_within, is_domain_of}
+use Rattle.fw_flow.specs.Dataflow.{Dataflow, kind_of, sender, receiver, domain_of, out_domain_of, is_loop, is_domain_within, is_domain_of}
 use Rattle.fw_flow.specs.WellFormed.{IsWalk, IsClosedWalk, Passes, is_feedback_kind, StaysWithin, IsWellFormed, is_feedback_of, is_kind_in, is_outside_kind}
 use Rattle.fw_flow.specs.Walks.{Graph, IsPath}
 use Rattle.fw_flow.proofs.Reach.{reach, Path-from_reach}
@@ -52,8 +52,8 @@ round_graph flow l = record {
   source = sender flow;
   target = receiver flow;
   is_free = λ e.
-      is_within flow l (domain_of flow (sender flow e))
-      && (is_within flow l (domain_of flow (receiver flow e)) && not (is_feedback_of l (kind_of flow (sender flow e))));
+      is_domain_within flow l (domain_of flow (sender flow e))
+      && (is_domain_within flow l (domain_of flow (receiver flow e)) && not (is_feedback_of l (kind_of flow (sender flow e))));
 }
 
 IsWalk-from_round : (flow : Dataflow) (l p : ℕ) (es : List ℕ) (q : ℕ) → IsPath (round_graph flow l) p es q → IsWalk flow p es q

@@ -11,18 +11,18 @@ use Rattle.std.proofs.lemmas.Option.{get_or_from_slice_get, slice_get_within}
 use Rattle.std.proofs.lemmas.Bool.Decides.{nat_tests}
 use Rattle.fw_flow.specs.declared.sent_table.SentInEpoch.{SentInEpoch}
 use Rattle.fw_flow.specs.Projection.{first_coordinate, table_count}
-use Rattle.fw_flow.specs.SentTable.{AreInOrder, counts_of, HasTotals, IsTable}
+use Rattle.fw_flow.specs.SentTable.{EpochsAscend, counts_of, HasRunningSums, AreRunningSums}
 
 -- how many messages a table has for all epochs
 abbrev sum : List SentInEpoch → ℕ
 sum es = table_count (λ t. true) (counts_of es)
 
 -- the total of an entry is the sum up to it
-pub total-there : (before : ℕ) (es : List SentInEpoch) (i : ℕ) (d : SentInEpoch) → HasTotals before es → i < length es
+pub total-there : (before : ℕ) (es : List SentInEpoch) (i : ℕ) (d : SentInEpoch) → HasRunningSums before es → i < length es
     → (get_or es i d).total ≡ min (before + sum (take (i + 1) es)) (2 ^ 64 - 1)
 total-there before es i d h l = rw add-one (by before es i h l)
   where
-    by : (before : ℕ) (es : List SentInEpoch) (i : ℕ) → HasTotals before es → i < length es
+    by : (before : ℕ) (es : List SentInEpoch) (i : ℕ) → HasRunningSums before es → i < length es
         → (get_or es i d).total ≡ min (before + sum (take (suc i) es)) (2 ^ 64 - 1)
     by before [] i h l = absurd (omega arith)
     by before (e ∷ es) zero h l = h.0 ∙ ap (λ n. min (before + n) (2 ^ 64 - 1)) (none e.count)
@@ -34,7 +34,7 @@ total-there before es i d h l = rw add-one (by before es i h l)
         other : (a b c : ℕ) → a + b + c ≡ a + (b + c)
         other a b c = omega arith
 
-pub total-at : (es : List SentInEpoch) (place i : ℕ) (d : SentInEpoch) → HasTotals 0 es → (place ≡ 0 → ⊥) → place ≤ length es → i ≡ place - 1
+pub total-at : (es : List SentInEpoch) (place i : ℕ) (d : SentInEpoch) → HasRunningSums 0 es → (place ≡ 0 → ⊥) → place ≤ length es → i ≡ place - 1
     → (get_or es i d).total ≡ min (table_count (λ t. true) (counts_of (take place es))) (2 ^ 64 - 1)
 total-at es zero i d h p l e = absurd (p refl)
 total-at es (suc place) i d h p l e =
@@ -76,8 +76,8 @@ count-below limit place total es xs ys table x y t l p k =
 
 -- ---- an entry more
 
-totals-more : (before : ℕ) (es : List SentInEpoch) (e : SentInEpoch) → HasTotals before es → e.total ≡ min (before + sum es + e.count) (2 ^ 64 - 1)
-    → HasTotals before (es ++ e ∷ [])
+totals-more : (before : ℕ) (es : List SentInEpoch) (e : SentInEpoch) → HasRunningSums before es → e.total ≡ min (before + sum es + e.count) (2 ^ 64 - 1)
+    → HasRunningSums before (es ++ e ∷ [])
 totals-more before [] e h k = (k ∙ ap (λ n. min (n + e.count) (2 ^ 64 - 1)) (none before), tt)
   where
     none : (n : ℕ) → n + 0 ≡ n
@@ -98,16 +98,16 @@ pub counts-more : (es : List SentInEpoch) (e : SentInEpoch) → counts_of (es ++
 counts-more es e = map-append (λ (x : SentInEpoch). (x.epoch, x.count)) es (e ∷ [])
 
 -- an entry with its total
-pub table-more : (es : List SentInEpoch) (e : SentInEpoch) (total : ℕ) → IsTable es → AreInOrder (counts_of es ++ (e.epoch, e.count) ∷ [])
-    → total ≡ min (table_count (λ t. true) (counts_of es)) (2 ^ 64 - 1) → e.total ≡ min (total + e.count) (2 ^ 64 - 1) → IsTable (es ++ e ∷ [])
+pub table-more : (es : List SentInEpoch) (e : SentInEpoch) (total : ℕ) → AreRunningSums es → EpochsAscend (counts_of es ++ (e.epoch, e.count) ∷ [])
+    → total ≡ min (table_count (λ t. true) (counts_of es)) (2 ^ 64 - 1) → e.total ≡ min (total + e.count) (2 ^ 64 - 1) → AreRunningSums (es ++ e ∷ [])
 table-more es e total t o k m = record {
-  in_order = subst AreInOrder (sym (counts-more es e)) o;
+  in_order = subst EpochsAscend (sym (counts-more es e)) o;
   totals = totals-more 0 es e t.totals (m ∙ saturated total (sum es) e.count k);
 }
 
 -- ---- the entries are in the order of their epochs
 
-pub entries-in_order : (es : List SentInEpoch) → AreInOrder (counts_of es) → IsNonDecreasingBy (λ (e : SentInEpoch). e.epoch) es
+pub entries-in_order : (es : List SentInEpoch) → EpochsAscend (counts_of es) → IsNonDecreasingBy (λ (e : SentInEpoch). e.epoch) es
 entries-in_order es h = λ i j d p q.
     let f : SentInEpoch → ℕ × ℕ = λ x. (x.epoch, x.count) in
     let same = length-map es f in
@@ -135,10 +135,10 @@ last-epoch es xs table last x t s =
     }
 
 -- an epoch is the last one or comes after it exactly where it may stand next
-pub takes-epoch : (es xs : List SentInEpoch) (table : List (ℕ × ℕ)) (last : SentInEpoch) (epoch : ℕ) → xs ≡ es → counts_of es ≡ table → AreInOrder (counts_of es)
-    → Some last ≡ slice_get xs (length xs - 1) → (last.epoch ≤ epoch) ↔ ((count : ℕ) → AreInOrder (table ++ (epoch, count) ∷ []))
+pub takes-epoch : (es xs : List SentInEpoch) (table : List (ℕ × ℕ)) (last : SentInEpoch) (epoch : ℕ) → xs ≡ es → counts_of es ≡ table → EpochsAscend (counts_of es)
+    → Some last ≡ slice_get xs (length xs - 1) → (last.epoch ≤ epoch) ↔ ((count : ℕ) → EpochsAscend (table ++ (epoch, count) ∷ []))
 takes-epoch es xs table last epoch x t o s = (
-  λ l count. IsNonDecreasingBy-push (λ (e : ℕ × ℕ). e.0) table (epoch, count) (subst AreInOrder t o)
+  λ l count. IsNonDecreasingBy-push (λ (e : ℕ × ℕ). e.0) table (epoch, count) (subst EpochsAscend t o)
       (λ d some. let e = (last-epoch es xs table last x t s).is_last d in omega (arith, e, l)),
   λ h.
       let d : ℕ × ℕ = (epoch, 0) in
@@ -156,9 +156,9 @@ takes-epoch es xs table last epoch x t o s = (
 -- ---- a part of a table
 
 -- an entry that is taken may come after those that were taken before it
-pub part-next : (p : ℕ × ℕ → Bool) (es : List SentInEpoch) (i : ℕ) (d : SentInEpoch) (table : List (ℕ × ℕ)) → table ≡ filter p (counts_of (take i es)) → AreInOrder (counts_of es) → i < length es
+pub part-next : (p : ℕ × ℕ → Bool) (es : List SentInEpoch) (i : ℕ) (d : SentInEpoch) (table : List (ℕ × ℕ)) → table ≡ filter p (counts_of (take i es)) → EpochsAscend (counts_of es) → i < length es
     → p ((get_or es i d).epoch, (get_or es i d).count) ≡ true
-    → AreInOrder (table ++ ((get_or es i d).epoch, (get_or es i d).count) ∷ [])
+    → EpochsAscend (table ++ ((get_or es i d).epoch, (get_or es i d).count) ∷ [])
 part-next p es i d table t h l e =
     let f : SentInEpoch → ℕ × ℕ = λ x. (x.epoch, x.count) in
     let x = get_or es i d in
@@ -167,5 +167,5 @@ part-next p es i d table t h l e =
     take-map f (suc i) es ∙ ap counts_of (take-suc es i d l) ∙ map-append f (take i es) (x ∷ []) in
     let taken : filter p (take (suc i) (counts_of es)) ≡ table ++ f x ∷ [] =
     ap (filter p) seen ∙ filter-append p before (f x ∷ []) ∙ ap (λ b. filter p before ++ cond b (f x ∷ []) []) e ∙ ap (λ part. part ++ f x ∷ []) (sym t) in
-    subst AreInOrder taken
+    subst EpochsAscend taken
     (IsNonDecreasingBy-filter (λ (y : ℕ × ℕ). y.0) p (take (suc i) (counts_of es)) (IsNonDecreasingBy-take (λ (y : ℕ × ℕ). y.0) (suc i) (counts_of es) h))

@@ -11,7 +11,7 @@ use Rattle.fw_lemmas.proofs.Lists.{joined_more}
 use Rattle.fw_flow.specs.declared.node.Node.{Node}
 use Rattle.fw_flow.specs.Dataflow.{Dataflow, node_at, kind_of, idle_node, is_input_kind}
 use Rattle.fw_lines.specs.Sources.{node_named}
-use Rattle.fw_flow.specs.Sources.{source_at}
+use Rattle.fw_flow.specs.Sources.{source_named_at}
 
 same_name : (a b : List ℕ) → bytes_eq a b ≡ true → a ≡ b
 same_name a b e = (bytes_eq-Decides a b).0 e
@@ -32,10 +32,10 @@ names_differ flow a p distinct before below =
     sym (ap (λ x. bytes_eq x (get_or names p [])) first ∙ ap (bytes_eq (get_or flow.nodes a idle_node).name) second)
     ∙ apart_from_distinct bytes_eq names a p [] distinct before (omega (arith, all, below))
 
-none_among : (flow : Dataflow) (p : ℕ) → IsDistinct bytes_eq (map (λ (n : Node). n.name) flow.nodes) → p < length flow.nodes → (a n : ℕ) → a + n ≤ p → node_named (flat_map (source_at flow) (range_with_len a n)) (node_at flow p).name ≡ None
+none_among : (flow : Dataflow) (p : ℕ) → IsDistinct bytes_eq (map (λ (n : Node). n.name) flow.nodes) → p < length flow.nodes → (a n : ℕ) → a + n ≤ p → node_named (flat_map (source_named_at flow) (range_with_len a n)) (node_at flow p).name ≡ None
 none_among flow p distinct below a zero h = refl
 none_among flow p distinct below a (suc n) h =
-    passed_over (bytes_eq (node_at flow p).name) (node_at flow a).name a (flat_map (source_at flow) (range_with_len (a + 1) n)) (is_input_kind (kind_of flow a)) (by (bytes_eq (node_at flow p).name (node_at flow a).name) refl)
+    passed_over (bytes_eq (node_at flow p).name) (node_at flow a).name a (flat_map (source_named_at flow) (range_with_len (a + 1) n)) (is_input_kind (kind_of flow a)) (by (bytes_eq (node_at flow p).name (node_at flow a).name) refl)
     ∙ none_among flow p distinct below (a + 1) n (omega (arith, h))
   where
     by : (b : Bool) → bytes_eq (node_at flow p).name (node_at flow a).name ≡ b → b ≡ false
@@ -45,9 +45,9 @@ none_among flow p distinct below a (suc n) h =
         sym ((bytes_eq-Decides (node_at flow a).name (node_at flow p).name).1 (sym same)) ∙ names_differ flow a p distinct (omega (arith, h)) below
 
 -- the next node's name is not among those of the earlier sources
-pub name_is_new : (flow : Dataflow) (p : ℕ) → IsDistinct bytes_eq (map (λ (n : Node). n.name) flow.nodes) → p < length flow.nodes → IsNone (node_named (flat_map (source_at flow) (range_with_len 0 p)) (node_at flow p).name)
+pub name_is_new : (flow : Dataflow) (p : ℕ) → IsDistinct bytes_eq (map (λ (n : Node). n.name) flow.nodes) → p < length flow.nodes → IsNone (node_named (flat_map (source_named_at flow) (range_with_len 0 p)) (node_at flow p).name)
 name_is_new flow p distinct below = ap is_some (none_among flow p distinct below 0 p (omega arith))
 
 -- the sources among one node more
-pub sources_more : (flow : Dataflow) (p : ℕ) → flat_map (source_at flow) (range_with_len 0 (p + 1)) ≡ flat_map (source_at flow) (range_with_len 0 p) ++ source_at flow p
-sources_more flow p = joined_more (source_at flow) p
+pub sources_more : (flow : Dataflow) (p : ℕ) → flat_map (source_named_at flow) (range_with_len 0 (p + 1)) ≡ flat_map (source_named_at flow) (range_with_len 0 p) ++ source_named_at flow p
+sources_more flow p = joined_more (source_named_at flow) p

@@ -8,7 +8,7 @@ use Rattle.fw_bag.specs.declared.rec.Rec.{Rec}
 use Rattle.fw_lines.specs.Batches.{batches_at, IsBatch, AreBatchesOf}
 use Rattle.fw_lines.specs.Sources.{is_source}
 use Rattle.fw_flow.specs.Dataflow.{Dataflow, kind_of, node_at, is_input_kind, node_ids, batches_of, batches_of_nodes, system_of}
-use Rattle.fw_flow.specs.Sources.{source_at, sources_of}
+use Rattle.fw_flow.specs.Sources.{source_named_at, sources_of}
 use Rattle.fw_flow.specs.WellFormed.{IsWellFormed, IsWellFormedSystem}
 
 -- what is true of no batches and of the batches of a node is true of those at its place
@@ -29,9 +29,9 @@ other_than flow p place rest true e k h = by (place == p) refl
     by false same = h
     by true same = absurd (false≢true (sym k ∙ ap (λ q. is_input_kind (kind_of flow q)) (sym (eqb-true place p same)) ∙ e))
 
-no_source : (flow : Dataflow) (p : ℕ) (nodes : List ℕ) → is_input_kind (kind_of flow p) ≡ false → is_source (flat_map (source_at flow) nodes) p ≡ false
+no_source : (flow : Dataflow) (p : ℕ) (nodes : List ℕ) → is_input_kind (kind_of flow p) ≡ false → is_source (flat_map (source_named_at flow) nodes) p ≡ false
 no_source flow p [] k = refl
-no_source flow p (q ∷ nodes) k = other_than flow p q (flat_map (source_at flow) nodes) (is_input_kind (kind_of flow q)) refl k (no_source flow p nodes k)
+no_source flow p (q ∷ nodes) k = other_than flow p q (flat_map (source_named_at flow) nodes) (is_input_kind (kind_of flow q)) refl k (no_source flow p nodes k)
 
 -- the system of batches that are given for each node
 pub well_formed-given : (flow : Dataflow) (given : ℕ → List (List Rec)) → IsWellFormed flow → AreBatchesOf (sources_of flow) given → IsWellFormedSystem (record { flow = flow; batches = map given (node_ids flow) })

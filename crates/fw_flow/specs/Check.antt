@@ -14,7 +14,7 @@ use Rattle.fw_flow.specs.declared.raw.RawKind.{RawKind}
 use Rattle.fw_flow.specs.declared.raw.RawKind.TheVariants.{Select, Concat, Distinct, Join, Sum, Enter, Feedback, Leave, Regroup}
 use Rattle.fw_flow.specs.Dataflow.{Dataflow, kind_of, policy_of, sender, receiver, in_edges, out_edges, domain_of, out_domain_of, is_input_kind, is_output_kind}
 use Rattle.fw_flow.specs.Names.{has_name}
-use Rattle.fw_flow.specs.Raw.{names_of, loop_names, node_names, edge_names, loop_name, node_name, edge_name, flow_of}
+use Rattle.fw_flow.specs.Raw.{names_of, loop_names, node_names, edge_names, loop_name, node_name, edge_name, flow_of_declarations}
 use Rattle.fw_flow.specs.Walks.{NoClosedWalkPasses, EachWalkWithinIsFedBack, SlippingWalk, PassingWalk}
 use Rattle.fw_flow.specs.WellFormed.{HasShortChain, IsInDegree, IsOutDegree, IsPolicyAllowed, IsWellFormed, is_outside_kind}
 
@@ -128,25 +128,25 @@ IsFirstBreakIfAny Rule lines line = MatchOption line (HoldsBelow Rule (length li
 -- the declarations keep the rule of this code
 abbrev pub KeepsRule : List Declared → Code → Type 0
 KeepsRule raw F3 = HoldsBelow (NamesTheDeclared raw) (length (all_lines raw))
-KeepsRule raw F4 = HoldsBelow (HasItsDegrees (flow_of raw)) (length (node_lines raw))
-KeepsRule raw F5 = HoldsBelow (JoinsDomains (flow_of raw)) (length (edge_lines raw))
-KeepsRule raw F6 = AreWalksRight (flow_of raw)
-KeepsRule raw F7 = HoldsBelow (HasAllowedPolicy (flow_of raw)) (length (node_lines raw))
+KeepsRule raw F4 = HoldsBelow (HasItsDegrees (flow_of_declarations raw)) (length (node_lines raw))
+KeepsRule raw F5 = HoldsBelow (JoinsDomains (flow_of_declarations raw)) (length (edge_lines raw))
+KeepsRule raw F6 = AreWalksRight (flow_of_declarations raw)
+KeepsRule raw F7 = HoldsBelow (HasAllowedPolicy (flow_of_declarations raw)) (length (node_lines raw))
 KeepsRule raw F8 = HoldsBelow (StaysWithinLimits raw) (length (all_lines raw))
-KeepsRule raw F9 = HasBorders (flow_of raw)
-KeepsRule raw F12 = HoldsBelow (HasShortChain (flow_of raw)) (length (loop_lines raw))
+KeepsRule raw F9 = HasBorders (flow_of_declarations raw)
+KeepsRule raw F12 = HoldsBelow (HasShortChain (flow_of_declarations raw)) (length (loop_lines raw))
 KeepsRule raw code = Unit {0}
 
 -- the rule of this code is broken, first on this line; line 0 stands for the flow as a whole
 abbrev pub IsBroken : List Declared → Code → ℕ → Type 0
 IsBroken raw F3 line = IsFirstBreak (NamesTheDeclared raw) (all_lines raw) line
-IsBroken raw F4 line = IsFirstBreak (HasItsDegrees (flow_of raw)) (node_lines raw) line
-IsBroken raw F5 line = IsFirstBreak (JoinsDomains (flow_of raw)) (edge_lines raw) line
-IsBroken raw F6 line = IsWalkWrong (flow_of raw) × (line ≡ 0)
-IsBroken raw F7 line = IsFirstBreak (HasAllowedPolicy (flow_of raw)) (node_lines raw) line
+IsBroken raw F4 line = IsFirstBreak (HasItsDegrees (flow_of_declarations raw)) (node_lines raw) line
+IsBroken raw F5 line = IsFirstBreak (JoinsDomains (flow_of_declarations raw)) (edge_lines raw) line
+IsBroken raw F6 line = IsWalkWrong (flow_of_declarations raw) × (line ≡ 0)
+IsBroken raw F7 line = IsFirstBreak (HasAllowedPolicy (flow_of_declarations raw)) (node_lines raw) line
 IsBroken raw F8 line = IsFirstBreak (StaysWithinLimits raw) (all_lines raw) line
-IsBroken raw F9 line = (HasBorders (flow_of raw) → ⊥) × (line ≡ 0)
-IsBroken raw F12 line = IsFirstBreak (HasShortChain (flow_of raw)) (loop_lines raw) line
+IsBroken raw F9 line = (HasBorders (flow_of_declarations raw) → ⊥) × (line ≡ 0)
+IsBroken raw F12 line = IsFirstBreak (HasShortChain (flow_of_declarations raw)) (loop_lines raw) line
 IsBroken raw code line = ⊥
 
 -- the rules that are tested once the names are declared, in their order
@@ -169,5 +169,5 @@ IsFirstBroken raw refusal = IsFirstBrokenOf rules raw refusal
 
 -- the declarations are those of this dataflow, and it is well formed
 pub record IsChecked (raw : List Declared) (flow : Dataflow) : Type 0 where
-  pub well_formed : IsWellFormed (flow_of raw)
-  pub value : flow ≡ flow_of raw
+  pub well_formed : IsWellFormed (flow_of_declarations raw)
+  pub value : flow ≡ flow_of_declarations raw

@@ -130,8 +130,8 @@ abbrev pub is_one_of : ℕ → List ℕ → Bool
 is_one_of n ns = list_any (λ m. m == n) ns
 
 -- whether the domain is the loop's own, or that of a loop within it
-abbrev pub is_within : Dataflow → ℕ → Domain → Bool
-is_within flow l domain = is_one_of l (loops_of flow domain)
+abbrev pub is_domain_within : Dataflow → ℕ → Domain → Bool
+is_domain_within flow l domain = is_one_of l (loops_of flow domain)
 
 -- the domain of a kind: at which times its events are
 abbrev pub domain_of_kind : Dataflow → Kind → Domain

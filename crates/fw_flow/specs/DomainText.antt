@@ -5,11 +5,11 @@ use Rattle.fw_flow.specs.declared.kind.Domain.TheVariants.{Epoch, Number, Loop a
 use Rattle.fw_flow.specs.Dataflow.{Dataflow}
 
 -- the name of a loop; past the last loop it is empty
-abbrev pub loop_name : Dataflow → ℕ → List ℕ
-loop_name flow l = (slice_index_or flow.loops l (record { name = []; max = 0; parent = None })).name
+abbrev pub name_of_loop : Dataflow → ℕ → List ℕ
+name_of_loop flow l = (slice_index_or flow.loops l (record { name = []; max = 0; parent = None })).name
 
 -- `epoch`, `number`, or `loop:` and the name of the loop
 abbrev pub domain_text : Dataflow → Domain → List ℕ
 domain_text flow Epoch = codes "epoch"
 domain_text flow Number = codes "number"
-domain_text flow (InLoop l) = codes "loop:" ++ loop_name flow l
+domain_text flow (InLoop l) = codes "loop:" ++ name_of_loop flow l

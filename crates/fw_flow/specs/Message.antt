@@ -13,8 +13,8 @@ abbrev pub message_cmp : Message → Message → Ordering
 message_cmp a b = ordering_then (stamp_cmp a.at b.at) (ordering_then (rec_cmp a.rec b.rec) (slice_cmp stamp_cmp a.causes b.causes))
 
 -- whether the message is among these
-abbrev pub is_among : Message → List Message → Bool
-is_among m xs = list_any (λ x. is_eq (message_cmp m x)) xs
+abbrev pub is_message_among : Message → List Message → Bool
+is_message_among m xs = list_any (λ x. is_eq (message_cmp m x)) xs
 
 -- the messages without the first that is this one
 abbrev pub messages_without : Message → List Message → List Message

@@ -44,7 +44,7 @@ pub record ArePartsOf (parts : Parts) (names : NameSpaces) (raw : List Declared)
   pub lines_of_edges : parts.edge_lines.items ≡ edge_lines raw
 
 -- so many loops, nodes and edges are declared
-pub record AreCountsOf (counts : Counts) (raw : List Declared) : Type 0 where
+pub record AreCountsDeclared (counts : Counts) (raw : List Declared) : Type 0 where
   pub of_loops : counts.loops ≡ length (loop_names raw)
   pub of_nodes : counts.nodes ≡ length (node_names raw)
   pub of_edges : counts.edges ≡ length (edge_names raw)

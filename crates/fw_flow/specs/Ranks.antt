@@ -1,7 +1,7 @@
 -- The ranks of a dataflow's nodes.
 use Rattle.std.specs.Prelude.{◌≡◌, ℕ, ◌<◌, ◌≤◌, Bool, true, false, ◌&&◌, length}
 use Rattle.fw_flow.specs.declared.kind.Domain.TheVariants.{Loop as InLoop}
-use Rattle.fw_flow.specs.Dataflow.{Dataflow, kind_of, sender, receiver, domain_of, out_domain_of, is_loop, is_within}
+use Rattle.fw_flow.specs.Dataflow.{Dataflow, kind_of, sender, receiver, domain_of, out_domain_of, is_loop, is_domain_within}
 use Rattle.fw_flow.specs.WellFormed.{IsWellFormed, is_feedback_kind, is_feedback_of}
 
 -- whether the node is looped: its domain and its out domain are loops'
@@ -10,8 +10,8 @@ is_looped flow p = is_loop (domain_of flow p) && is_loop (out_domain_of flow p)
 
 -- the edge stays within the loop, and does not leave a feedback of it
 pub record IsWithinRound (flow : Dataflow) (l e : ℕ) : Type 0 where
-  pub from : is_within flow l (domain_of flow (sender flow e)) ≡ true
-  pub to : is_within flow l (domain_of flow (receiver flow e)) ≡ true
+  pub from : is_domain_within flow l (domain_of flow (sender flow e)) ≡ true
+  pub to : is_domain_within flow l (domain_of flow (receiver flow e)) ≡ true
   pub onward : is_feedback_of l (kind_of flow (sender flow e)) ≡ false
 
 -- a rank of at most the number of nodes that falls along no edge within a round of the loop, and rises along each of these

@@ -131,8 +131,8 @@ edge_in nodes declared = the_edge declared.declaration
         record { name = name; sender = place_or_end nodes sender; receiver = place_or_end nodes receiver } ∷ []
 
 -- the dataflow of these declarations, each of its parts in their order; a name that is not declared is a place past the end
-abbrev pub flow_of : List Declared → Dataflow
-flow_of raw = record {
+abbrev pub flow_of_declarations : List Declared → Dataflow
+flow_of_declarations raw = record {
   loops = flat_map (loop_in (loop_names raw)) raw;
   nodes = flat_map (node_in (loop_names raw)) raw;
   edges = flat_map (edge_in (node_names raw)) raw;

@@ -4,19 +4,19 @@ use Rattle.std.specs.List.Sorted.{IsNonDecreasingBy}
 use Rattle.fw_flow.specs.declared.sent_table.SentInEpoch.{SentInEpoch}
 
 -- no epoch stands before a lesser one
-abbrev pub AreInOrder : List (ℕ × ℕ) → Type 0
-AreInOrder table = IsNonDecreasingBy (λ entry. entry.0) table
+abbrev pub EpochsAscend : List (ℕ × ℕ) → Type 0
+EpochsAscend table = IsNonDecreasingBy (λ entry. entry.0) table
 
 -- the epochs with their counts
 abbrev pub counts_of : List SentInEpoch → List (ℕ × ℕ)
 counts_of entries = map (λ e. (e.epoch, e.count)) entries
 
 -- each entry has the sum of the counts up to it, where so many were sent before
-abbrev pub HasTotals : ℕ → List SentInEpoch → Type 0
-HasTotals before [] = Unit {0}
-HasTotals before (e ∷ es) = (e.total ≡ min (before + e.count) (2 ^ 64 - 1)) × HasTotals (before + e.count) es
+abbrev pub HasRunningSums : ℕ → List SentInEpoch → Type 0
+HasRunningSums before [] = Unit {0}
+HasRunningSums before (e ∷ es) = (e.total ≡ min (before + e.count) (2 ^ 64 - 1)) × HasRunningSums (before + e.count) es
 
 -- the entries are in order, with their totals
-pub record IsTable (entries : List SentInEpoch) : Type 0 where
-  pub in_order : AreInOrder (counts_of entries)
-  pub totals : HasTotals 0 entries
+pub record AreRunningSums (entries : List SentInEpoch) : Type 0 where
+  pub in_order : EpochsAscend (counts_of entries)
+  pub totals : HasRunningSums 0 entries

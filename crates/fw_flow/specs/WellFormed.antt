@@ -6,7 +6,7 @@ use Rattle.fw_flow.specs.declared.kind.Policy.{Policy}
 use Rattle.fw_flow.specs.declared.kind.Policy.TheVariants as policy
 use Rattle.std.specs.List.{AllByRecursion}
 use Rattle.fw_lines.specs.Batches.{IsBatch}
-use Rattle.fw_flow.specs.Dataflow.{System, batches_of, Dataflow, kind_of, policy_of, sender, receiver, in_edges, out_edges, domain_of, domain_of_kind, out_domain_of, declared_parent, ends_within, is_loop, is_domain_of, is_within, max_of, is_input_kind, is_output_kind}
+use Rattle.fw_flow.specs.Dataflow.{System, batches_of, Dataflow, kind_of, policy_of, sender, receiver, in_edges, out_edges, domain_of, domain_of_kind, out_domain_of, declared_parent, ends_within, is_loop, is_domain_of, is_domain_within, max_of, is_input_kind, is_output_kind}
 
 -- the loop of a kind is declared, if it has one
 abbrev pub IsLoopDeclared : Dataflow → Kind → Type 0
@@ -99,7 +99,7 @@ Passes flow sort (e ∷ es) = (sort (kind_of flow (sender flow e)) ≡ true) ⊎
 -- a walk leaves nodes in the loop and in loops within it alone
 abbrev pub StaysWithin : Dataflow → ℕ → List ℕ → Type 0
 StaysWithin flow l [] = Unit {0}
-StaysWithin flow l (e ∷ es) = (is_within flow l (domain_of flow (sender flow e)) ≡ true) × StaysWithin flow l es
+StaysWithin flow l (e ∷ es) = (is_domain_within flow l (domain_of flow (sender flow e)) ≡ true) × StaysWithin flow l es
 
 -- so many numbers may be grouped into one epoch
 abbrev pub IsGroupSize : Kind → Type 0

@@ -32,8 +32,8 @@ in_order [] = []
 in_order (r ∷ rs) = with_timed r (in_order rs)
 
 -- the recs whose stamp passes a test
-abbrev pub recs_where : (Stamp → Bool) → List Timed → List Rec
-recs_where test rs = map (λ r. r.rec) (filter (λ r. test r.at) rs)
+abbrev pub timed_where : (Stamp → Bool) → List Timed → List Rec
+timed_where test rs = map (λ r. r.rec) (filter (λ r. test r.at) rs)
 
 -- these recs at one stamp
 abbrev pub timed_recs : Stamp → List Rec → List Timed
@@ -70,7 +70,7 @@ distinct_timed (r ∷ rs) = if is_among_timed r rs then distinct_timed rs else r
 
 -- each rec of the first bag with each of the second of its stamp and key
 abbrev pub joined_timed : List Timed → List Timed → List Timed
-joined_timed xs ys = flat_map (λ r. timed_recs r.at (joined_rec r.rec (recs_where (same r.at) ys))) xs
+joined_timed xs ys = flat_map (λ r. timed_recs r.at (joined_rec r.rec (timed_where (same r.at) ys))) xs
 
 -- the joins of the bags of two in-edges
 abbrev pub joined_bags : List (List Timed) → List Timed
@@ -88,12 +88,12 @@ distinct_stamps (r ∷ rs) = if has_stamp r.at rs then distinct_stamps rs else r
 
 -- at each of these stamps the sum of the values of each key that is there
 abbrev pub sums_at : List Stamp → List Timed → List Timed
-sums_at ts rs = flat_map (λ t. timed_recs t (sums_of (distinct_keys (recs_where (same t) rs)) (recs_where (same t) rs))) ts
+sums_at ts rs = flat_map (λ t. timed_recs t (sums_of (distinct_keys (timed_where (same t) rs)) (timed_where (same t) rs))) ts
 
 -- at each of these stamps, for each key that is there, the sum of its values up to it
 abbrev pub totals_at : List Stamp → List Timed → List Timed
 totals_at ts rs =
-    flat_map (λ t. timed_recs t (sums_of (distinct_keys (recs_where (same t) rs)) (recs_where (λ s. leq s t) rs))) ts
+    flat_map (λ t. timed_recs t (sums_of (distinct_keys (timed_where (same t) rs)) (timed_where (λ s. leq s t) rs))) ts
 
 -- the recs at the numbers from n on, none past the greatest number
 abbrev pub numbered_recs : ℕ → List Timed → List Timed
@@ -103,7 +103,7 @@ numbered_recs n (r ∷ rs) = if nat_le n greatest_number then record { at = n �
 -- for each of the recs the running total of its key
 abbrev pub running_totals : List Timed → List Timed
 running_totals rs =
-    map (λ r. record { at = r.at; rec = record { key = r.rec.key; value = value_sum r.rec.key (recs_where (λ s. leq s r.at) rs) } }) rs
+    map (λ r. record { at = r.at; rec = record { key = r.rec.key; value = value_sum r.rec.key (timed_where (λ s. leq s r.at) rs) } }) rs
 
 -- the bags one after another
 abbrev pub joint_bag : List (List Timed) → List Timed

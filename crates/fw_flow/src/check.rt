@@ -8,7 +8,7 @@ ghost use Rattle.fw_flow.specs.Check as spec;
 ghost use Rattle.fw_flow.specs.Check.{loop_named, IsRawGroupSize, IsWithinLimitsAfter, HasBorders, all_lines, IsFirstBreakIfAny};
 ghost use Rattle.fw_flow.specs.Dataflow.{Dataflow, domain_of_kind, out_domain_of_kind, is_input_kind, is_output_kind};
 ghost use Rattle.fw_flow.specs.Flow.{edges_at};
-ghost use Rattle.fw_flow.specs.Parts.{AreCountsOf, places_from};
+ghost use Rattle.fw_flow.specs.Parts.{AreCountsDeclared, places_from};
 ghost use Rattle.fw_flow.specs.Raw.{names_of};
 ghost use Rattle.fw_flow.specs.Walks.{AreWithin, IsMadeOf, link_of, listed_kind};
 ghost use Rattle.fw_flow.specs.WellFormed.{IsInDegree, IsOutDegree, IsPolicyAllowed, HasShortChain};
@@ -242,12 +242,12 @@ struct Counts {
 impl Counts {
     // The counts with one more declaration, if that is within the limits.
     fn with(self, declaration: &Declaration) -> Option<Counts>
-        ensures within { IfSome result (λ more. (before : List Declared) → AreCountsOf self before
+        ensures within { IfSome result (λ more. (before : List Declared) → AreCountsDeclared self before
             → IsWithinLimitsAfter before declaration.now) }
         ensures counts { IfSome result (λ more. (before : List Declared) (line : ℕ)
-            → AreCountsOf self before → AreCountsOf more (before
+            → AreCountsDeclared self before → AreCountsDeclared more (before
             ++ record { line = line; declaration = declaration.now } ∷ [])) }
-        ensures over { IfNone result ((before : List Declared) → AreCountsOf self before
+        ensures over { IfNone result ((before : List Declared) → AreCountsDeclared self before
             → IsWithinLimitsAfter before declaration.now → ⊥) }
     {
         match declaration {

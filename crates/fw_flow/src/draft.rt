@@ -5,7 +5,7 @@ ghost use Rattle.fw_lines.specs.declared.refusal.Code.TheVariants as code;
 ghost use Rattle.fw_flow.specs.declared.raw.Declared.{Declared};
 ghost use Rattle.fw_flow.specs.Check.{all_lines, loop_lines, node_lines, edge_lines, HasItsDegrees, JoinsDomains, AreWalksRight, IsWalkWrong, HasAllowedPolicy, StaysWithinLimits, HasBorders, IsFirstBreakIfAny, KeepsRule, later_rules, IsFirstBrokenOf};
 ghost use Rattle.fw_flow.specs.Draft.{FitsTogether, IsDraftOf, LaterRulesHold};
-ghost use Rattle.fw_flow.specs.Raw.{names_of, flow_of};
+ghost use Rattle.fw_flow.specs.Raw.{names_of, flow_of_declarations};
 ghost use Rattle.fw_flow.specs.WellFormed.{HasShortChain};
 
 use crate::check::{
@@ -84,7 +84,7 @@ impl Draft {
     fn chain_line(&self) -> Option<u32>
         requires { FitsTogether self.now }
         ensures { (raw : List Declared) → IsDraftOf self.now raw
-            → IsFirstBreakIfAny (HasShortChain (flow_of raw)) (loop_lines raw) result }
+            → IsFirstBreakIfAny (HasShortChain (flow_of_declarations raw)) (loop_lines raw) result }
     {
         chain_line(
             self.parts.loops.as_slice(),
@@ -96,7 +96,7 @@ impl Draft {
     fn degree_line(&self) -> Option<u32>
         requires { FitsTogether self.now }
         ensures { (raw : List Declared) → IsDraftOf self.now raw
-            → IsFirstBreakIfAny (HasItsDegrees (flow_of raw)) (node_lines raw) result }
+            → IsFirstBreakIfAny (HasItsDegrees (flow_of_declarations raw)) (node_lines raw) result }
     {
         let lines = self.parts.node_lines.as_slice();
         degree_line(
@@ -112,7 +112,7 @@ impl Draft {
     fn domain_line(&self) -> Option<u32>
         requires { FitsTogether self.now }
         ensures { (raw : List Declared) → IsDraftOf self.now raw
-            → IsFirstBreakIfAny (JoinsDomains (flow_of raw)) (edge_lines raw) result }
+            → IsFirstBreakIfAny (JoinsDomains (flow_of_declarations raw)) (edge_lines raw) result }
     {
         domain_line(
             &self.parts.loops,
@@ -127,9 +127,9 @@ impl Draft {
     fn are_walks_right(&self, alloc: Global) -> Result<bool, AllocError>
         requires { FitsTogether self.now }
         ensures right { (raw : List Declared) → IsDraftOf self.now raw
-            → IfOk result (λ right. right ≡ true → AreWalksRight (flow_of raw)) }
+            → IfOk result (λ right. right ≡ true → AreWalksRight (flow_of_declarations raw)) }
         ensures wrong { (raw : List Declared) → IsDraftOf self.now raw → KeepsRule raw code.F5
-            → IfOk result (λ right. right ≡ false → IsWalkWrong (flow_of raw)) }
+            → IfOk result (λ right. right ≡ false → IsWalkWrong (flow_of_declarations raw)) }
     {
         are_walks_right(
             alloc,
@@ -144,7 +144,7 @@ impl Draft {
     fn policy_line(&self) -> Option<u32>
         requires { FitsTogether self.now }
         ensures { (raw : List Declared) → IsDraftOf self.now raw
-            → IsFirstBreakIfAny (HasAllowedPolicy (flow_of raw)) (node_lines raw) result }
+            → IsFirstBreakIfAny (HasAllowedPolicy (flow_of_declarations raw)) (node_lines raw) result }
     {
         policy_line(
             self.parts.nodes.as_slice(),
@@ -154,7 +154,7 @@ impl Draft {
 
     /// Whether there are an input and an output.
     fn has_borders(&self) -> bool
-        ensures { (raw : List Declared) → IsDraftOf self.now raw → IsTrue result ↔ HasBorders (flow_of raw) }
+        ensures { (raw : List Declared) → IsDraftOf self.now raw → IsTrue result ↔ HasBorders (flow_of_declarations raw) }
     {
         has_borders(self.parts.nodes.as_slice())
     }

@@ -1,6 +1,6 @@
 //! The loops of a flow.
 ghost use Rattle.std.specs.Prelude.{◌≡◌, length};
-ghost use Rattle.fw_flow.specs.DomainText.{loop_name};
+ghost use Rattle.fw_flow.specs.DomainText.{name_of_loop};
 
 use crate::{Flow, LoopId};
 
@@ -14,7 +14,7 @@ impl Flow {
 
     /// The name of a loop; past the last loop it is empty.
     pub fn loop_name(&self, id: LoopId) -> &str
-        ensures { result.now ≡ loop_name self.now id }
+        ensures { result.now ≡ name_of_loop self.now id }
     {
         match self.loops.get(id.place() as usize) {
             Some(a_loop) => a_loop.name.as_str(),

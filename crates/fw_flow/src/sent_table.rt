@@ -2,7 +2,7 @@
 ghost use Rattle.std.specs.Prelude.{◌≡◌, ◌↔◌, ℕ, ◌^◌, ◌-◌, ◌≤◌, true, nat_lt, min, [], ◌∷◌, ◌++◌, length, take, filter, slice_get, IsTrue, IfOk, OnOk, OnErr};
 ghost use Rattle.fw_frontier.specs.Front.{inside};
 ghost use Rattle.fw_flow.specs.Projection.{first_coordinate, table_count};
-ghost use Rattle.fw_flow.specs.SentTable.{AreInOrder, counts_of, HasTotals};
+ghost use Rattle.fw_flow.specs.SentTable.{EpochsAscend, counts_of, HasRunningSums};
 
 use fw_frontier::Front;
 use fw_time::Stamp;
@@ -26,13 +26,13 @@ pub struct SentTable {
 
 impl Model for SentTable {
     ghost use Rattle.std.specs.Prelude.{ℕ, List};
-    ghost use Rattle.fw_flow.specs.SentTable.{counts_of, IsTable};
+    ghost use Rattle.fw_flow.specs.SentTable.{counts_of, AreRunningSums};
 
     ghost Value = { List (ℕ × ℕ) };
 
     ghost view = { λ table. counts_of table.entries.items };
 
-    ghost invariant = { λ table. IsTable table.entries.items };
+    ghost invariant = { λ table. AreRunningSums table.entries.items };
 }
 
 impl SentTable {
@@ -55,7 +55,7 @@ impl SentTable {
 
     /// Whether the epoch comes after those of the table, or is the last of them.
     pub fn takes(&self, epoch: u32) -> bool
-        ensures { IsTrue result ↔ ((count : ℕ) → AreInOrder (self.now ++ (epoch, count) ∷ [])) }
+        ensures { IsTrue result ↔ ((count : ℕ) → EpochsAscend (self.now ++ (epoch, count) ∷ [])) }
     {
         match self.entries.last() {
             Some(last) => last.epoch <= epoch,
@@ -66,7 +66,7 @@ impl SentTable {
     /// Adds how many messages the sequence sent in an epoch, which comes after those of the table (`takes`). It may be the
     /// last of them: then both counts count. The error is want of memory.
     pub fn push(&mut self, epoch: u32, count: u64) -> Result<(), AllocError>
-        requires { AreInOrder (self.old ++ (epoch, count) ∷ []) }
+        requires { EpochsAscend (self.old ++ (epoch, count) ∷ []) }
         ensures ok { OnOk result (self.new ≡ self.old ++ (epoch, count) ∷ []) }
         ensures err { OnErr result (self.new ≡ self.old) }
     {
@@ -137,7 +137,7 @@ fn copied(alloc: Global, entries: &[SentInEpoch]) -> Result<Vec<SentInEpoch>, Al
 
 /// What the first of the entries count, so many of them.
 fn total_at(entries: &[SentInEpoch], place: usize) -> u64
-    requires totals { HasTotals 0 entries.now }
+    requires totals { HasRunningSums 0 entries.now }
     requires there { place ≤ length entries.now }
     ensures { result ≡ min (table_count (λ t. true) (counts_of (take place entries.now))) (2 ^ 64 - 1) }
 {

@@ -2,7 +2,7 @@
 ghost use Rattle.std.specs.Prelude.{◌≡◌, ◌++◌, ◌<◌, length, IsNone, IfOk};
 ghost use Rattle.fw_lines.specs.Sources.{node_named};
 ghost use Rattle.fw_flow.specs.Dataflow.{node_at};
-ghost use Rattle.fw_flow.specs.Sources.{source_at, sources_of};
+ghost use Rattle.fw_flow.specs.Sources.{source_named_at, sources_of};
 
 use crate::laws::names_are_distinct;
 use crate::{Flow, NodeId};
@@ -27,7 +27,7 @@ impl Flow {
     fn with_source(&self, sources: SourceNames, place: u32) -> Result<SourceNames, AllocError>
         requires there { place < length self.now.nodes }
         requires new { IsNone (node_named sources (node_at self.now place).name) }
-        ensures { IfOk result (λ more. more ≡ sources ++ source_at self.now place) }
+        ensures { IfOk result (λ more. more ≡ sources ++ source_named_at self.now place) }
     {
         let node = NodeId::at(place);
         if self.kind(node).is_input() {

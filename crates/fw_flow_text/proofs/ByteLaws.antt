@@ -26,7 +26,7 @@ use Rattle.fw_flow.specs.declared.raw.Declared.{Declared}
 use Rattle.fw_flow.specs.declared.raw.RawKind.{RawKind}
 use Rattle.fw_flow.specs.declared.raw.RawKind.TheVariants.{Input, OutputEpoch, OutputNumber, Select, Concat, Distinct, Join, Sum, Enter, Feedback, Leave, Total, Sequence, Ledger, Regroup}
 use Rattle.fw_flow.specs.Dataflow.{Dataflow}
-use Rattle.fw_flow_text.specs.Grammar.{AreWordsOf, Declare, IsAccepted}
+use Rattle.fw_flow_text.specs.Grammar.{AreWordsOf, Declare, IsAcceptedFlow}
 use Rattle.fw_flow_text.specs.Laws.{is_in_texts}
 use Rattle.fw_flow_text.specs.Spelled.{field_word, comparison_word, term_word, value_words, assignment_words, selection_words, policy_words, ending_words, node_words, parent_words, declaration_words, IsSmallTerm, IsSmallValue, IsSmallAssignment, IsSmall, IsName, IsWritableNode, IsWritable}
 use Rattle.fw_flow_text.proofs.DeclaredLaws.{DeclaresFirst, front}
@@ -210,6 +210,6 @@ lines_in_texts (line ∷ lines) e =
     and_from (list_all is_in_texts line) (list_all (λ part. list_all is_in_texts part) lines) (all_weaker is_allowed is_in_texts allowed_in_texts line (first_holds (is_clean line) (are_clean lines) e)) (lines_in_texts lines (second_holds (is_clean line) (are_clean lines) e))
 
 -- the bytes of an accepted text are LF and the allowed ones
-pub accepted_text_allowed : (text : List ℕ) (flow : Dataflow) → IsAccepted text flow → list_all is_in_texts text ≡ true
+pub accepted_text_allowed : (text : List ℕ) (flow : Dataflow) → IsAcceptedFlow text flow → list_all is_in_texts text ≡ true
 accepted_text_allowed text flow accepted =
     split_all is_line_feed is_in_texts lf_in_texts text (lines_in_texts (lines_of text) (lines_clean 1 (lines_of text) (said_clean (said_lines text) accepted.declared accepted.written)))

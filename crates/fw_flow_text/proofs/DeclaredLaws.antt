@@ -15,7 +15,7 @@ use Rattle.fw_flow.specs.declared.raw.Declaration.{Declaration}
 use Rattle.fw_flow.specs.declared.raw.Declaration.TheVariants.{Loop, Node, Edge}
 use Rattle.fw_flow.specs.declared.raw.Declared.{Declared}
 use Rattle.fw_flow.specs.Raw.{is_new}
-use Rattle.fw_flow_text.specs.Grammar.{AreWordsOf, are_there, line_of, Declare, is_large, capped, HaveFormOf, BreakAfter, Breaks}
+use Rattle.fw_flow_text.specs.Grammar.{AreWordsOf, are_there, line_of, Declare, is_large_number, capped, HaveFormOf, BreakAfter, Breaks}
 use Rattle.fw_flow_text.specs.Spelled.{declaration_words, IsWritable}
 use Rattle.fw_flow_text.proofs.Reading.{declaration_of, name_fault, form_fault, words_fault, declared_in}
 use Rattle.fw_flow_text.proofs.ReadingLaws.{read_declared, declared_read, one_declaration}
@@ -162,16 +162,16 @@ silent_push done raw line h e = record {
   writable = h.writable;
 }
 
-small_word : (word : List ℕ) → is_large word ≡ false → capped word ≡ word
+small_word : (word : List ℕ) → is_large_number word ≡ false → capped word ≡ word
 unfolding capped
 small_word word e = ap (λ b. cond b (codes "0") word) e
 
 -- words without a number that is too large stay as they are
-pub small_words : (words : List (List ℕ)) → list_any (λ word. is_large word) words ≡ false → map capped words ≡ words
+pub small_words : (words : List (List ℕ)) → list_any (λ word. is_large_number word) words ≡ false → map capped words ≡ words
 small_words [] e = refl
-small_words (word ∷ words) e = by (is_large word) refl (list_any (λ w. is_large w) words) refl e (small_words words)
+small_words (word ∷ words) e = by (is_large_number word) refl (list_any (λ w. is_large_number w) words) refl e (small_words words)
   where
-    by : (b : Bool) → is_large word ≡ b → (c : Bool) → list_any (λ w. is_large w) words ≡ c → (b || c) ≡ false → (list_any (λ w. is_large w) words ≡ false → map capped words ≡ words)
+    by : (b : Bool) → is_large_number word ≡ b → (c : Bool) → list_any (λ w. is_large_number w) words ≡ c → (b || c) ≡ false → (list_any (λ w. is_large_number w) words ≡ false → map capped words ≡ words)
         → capped word ∷ map capped words ≡ word ∷ words
     by true t c u r rest = absurd (cc)
     by false t true u r rest = absurd (cc)
@@ -179,7 +179,7 @@ small_words (word ∷ words) e = by (is_large word) refl (list_any (λ w. is_lar
 
 -- the rule that words break after declarations
 abbrev pub fault_after : List Declared → List (List ℕ) → Option Code
-fault_after raw words = words_fault raw (map capped words) (list_any (λ word. is_large word) words)
+fault_after raw words = words_fault raw (map capped words) (list_any (λ word. is_large_number word) words)
 
 -- what a line that breaks no rule declares comes last
 pub declare_next : (done : List Said) (raw : List Declared) (number : ℕ) (words : List (List ℕ)) → Declare done raw → fault_after raw words ≡ None
@@ -188,12 +188,12 @@ unfolding declaration_of
 declare_next done raw number [] h none =
     let line : Said = record { number = number; words = [] } in
     subst (Declare (done ++ line ∷ [])) (sym (append-nil raw)) (silent_push done raw line h refl)
-declare_next done raw number (word ∷ rest) h none = by (declaration_of (map capped (word ∷ rest))) refl (list_any (λ w. is_large w) (word ∷ rest)) refl none
+declare_next done raw number (word ∷ rest) h none = by (declaration_of (map capped (word ∷ rest))) refl (list_any (λ w. is_large_number w) (word ∷ rest)) refl none
   where
     words : List (List ℕ)
     words = word ∷ rest
 
-    by : (o : Option Declaration) → declaration_of (map capped words) ≡ o → (b : Bool) → list_any (λ w. is_large w) words ≡ b → form_fault raw o b ≡ None
+    by : (o : Option Declaration) → declaration_of (map capped words) ≡ o → (b : Bool) → list_any (λ w. is_large_number w) words ≡ b → form_fault raw o b ≡ None
         → Declare (done ++ record { number = number; words = words } ∷ []) (raw ++ declared_in number o)
     by None e b t r = absurd (cc)
     by (Some d) e true t r = absurd (cc)
@@ -204,34 +204,34 @@ declare_next done raw number (word ∷ rest) h none = by (declaration_of (map ca
 -- the rule that is told is broken
 pub rule_from_fault : (raw : List Declared) (words : List (List ℕ)) (code : Code) → fault_after raw words ≡ Some code → BreakAfter raw words code
 rule_from_fault raw [] code e = absurd (cc)
-rule_from_fault raw (word ∷ rest) code e = by (declaration_of (map capped (word ∷ rest))) refl (list_any (λ w. is_large w) (word ∷ rest)) refl e
+rule_from_fault raw (word ∷ rest) code e = by (declaration_of (map capped (word ∷ rest))) refl (list_any (λ w. is_large_number w) (word ∷ rest)) refl e
   where
     words : List (List ℕ)
     words = word ∷ rest
 
-    named : (d : Declaration) → HaveFormOf words d → list_any (λ w. is_large w) words ≡ false → (n : Bool) → is_new raw d ≡ n → name_fault n ≡ Some code → BreakAfter raw words code
+    named : (d : Declaration) → HaveFormOf words d → list_any (λ w. is_large_number w) words ≡ false → (n : Bool) → is_new raw d ≡ n → name_fault n ≡ Some code → BreakAfter raw words code
     named d h t true n r = absurd (cc)
     named d h t false n r = let same : F2 ≡ code = cc in subst (BreakAfter raw words) same (d, h, t, n)
 
-    by : (o : Option Declaration) → declaration_of (map capped words) ≡ o → (b : Bool) → list_any (λ w. is_large w) words ≡ b → form_fault raw o b ≡ Some code → BreakAfter raw words code
+    by : (o : Option Declaration) → declaration_of (map capped words) ≡ o → (b : Bool) → list_any (λ w. is_large_number w) words ≡ b → form_fault raw o b ≡ Some code → BreakAfter raw words code
     by None e b t r =
         let same : F1 ≡ code = cc in
         subst (BreakAfter raw words) same (λ f. absurd (cc), λ d h. let k : None ≡ Some d = sym e ∙ declared_read (map capped words) d h in absurd (cc))
     by (Some d) e true t r = let same : F10 ≡ code = cc in subst (BreakAfter raw words) same (d, read_declared (map capped words) d e, t)
     by (Some d) e false t r = named d (read_declared (map capped words) d e) t (is_new raw d) refl r
 
-pub formed : (raw : List Declared) (words : List (List ℕ)) (d : Declaration) (large : Bool) → HaveFormOf words d → list_any (λ w. is_large w) words ≡ large → fault_after raw words ≡ form_fault raw (Some d) large
+pub formed : (raw : List Declared) (words : List (List ℕ)) (d : Declaration) (large : Bool) → HaveFormOf words d → list_any (λ w. is_large_number w) words ≡ large → fault_after raw words ≡ form_fault raw (Some d) large
 unfolding declaration_of
 formed raw [] d large h t = let k : None ≡ Some d = declared_read [] d h in absurd (cc)
 formed raw (word ∷ rest) d large h t =
-    ap (λ o. form_fault raw o (list_any (λ w. is_large w) (word ∷ rest))) (declared_read (map capped (word ∷ rest)) d h) ∙ ap (form_fault raw (Some d)) t
+    ap (λ o. form_fault raw o (list_any (λ w. is_large_number w) (word ∷ rest))) (declared_read (map capped (word ∷ rest)) d h) ∙ ap (form_fault raw (Some d)) t
 
 unformed : (raw : List Declared) (words : List (List ℕ)) → (words ≡ [] → ⊥) → ((d : Declaration) → HaveFormOf words d → ⊥) → fault_after raw words ≡ Some F1
 unformed raw [] some none = absurd (some refl)
 unformed raw (word ∷ rest) some none = by (declaration_of (map capped (word ∷ rest))) refl
   where
     by : (o : Option Declaration) → declaration_of (map capped (word ∷ rest)) ≡ o → fault_after raw (word ∷ rest) ≡ Some F1
-    by None e = ap (λ o. form_fault raw o (list_any (λ w. is_large w) (word ∷ rest))) e
+    by None e = ap (λ o. form_fault raw o (list_any (λ w. is_large_number w) (word ∷ rest))) e
     by (Some d) e = absurd (none d (read_declared (map capped (word ∷ rest)) d e))
 
 -- and a rule that is broken is told

@@ -31,7 +31,7 @@ use Rattle.fw_flow.specs.declared.raw.RawKind.TheVariants.{Select}
 use Rattle.fw_flow.specs.Check.{loop_named}
 use Rattle.fw_flow.specs.Raw.{is_new}
 use Rattle.fw_flow_text.specs.declared.node.NodeForm.{NodeForm}
-use Rattle.fw_flow_text.specs.Grammar.{AreWordsOf, Declare, is_large, capped, capped_words, Finds, BreakAfter}
+use Rattle.fw_flow_text.specs.Grammar.{AreWordsOf, Declare, is_large_number, capped, capped_words, Finds, BreakAfter}
 use Rattle.fw_flow_text.specs.Spelled.{field_word, comparison_word, term_word, value_words, condition_words, assignment_words, selection_words, ending_words, node_words, IsSmallTerm, IsSmallValue, IsSmallAssignment, IsSmall, IsSmallKind, IsName, AreNodeWords}
 use Rattle.fw_flow_text.proofs.DeclaredLaws.{small_words, declare_push, fault_from_rule, formed}
 use Rattle.fw_flow_text.proofs.Reading.{condition_of, value_part, name_fault}
@@ -247,9 +247,9 @@ some_parts : (text : List ℕ) (words : List Span) → 0 < length words → word
 some_parts text [] h e = absurd (omega arith)
 some_parts text (w ∷ ws) h e = absurd (cc)
 
-large_at : (text : List ℕ) (words : List Span) → list_any (λ word. is_large (bytes_at text word)) words ≡ list_any (λ word. is_large word) (words_at text words)
+large_at : (text : List ℕ) (words : List Span) → list_any (λ word. is_large_number (bytes_at text word)) words ≡ list_any (λ word. is_large_number word) (words_at text words)
 large_at text [] = refl
-large_at text (w ∷ ws) = ap (λ b. is_large (bytes_at text w) || b) (large_at text ws)
+large_at text (w ∷ ws) = ap (λ b. is_large_number (bytes_at text w) || b) (large_at text ws)
 
 -- a line of no form breaks the first rule
 pub formless : (text : List ℕ) (raw : List Declared) (words : List Span) (found : Option Declaration) → Finds (AreWordsOf (capped_words text words)) found → found ≡ None → 0 < length words
@@ -258,17 +258,17 @@ formless text raw words found h e some = (some_parts text words some, subst (Fin
 
 -- one with a number that is too large breaks the tenth
 pub too_large : (text : List ℕ) (raw : List Declared) (words : List Span) (found : Option Declaration) (d : Declaration) (b : Bool) → Finds (AreWordsOf (capped_words text words)) found → found ≡ Some d
-    → b ≡ list_any (λ word. is_large (bytes_at text word)) words → b ≡ true → BreakAfter raw (words_at text words) F10
+    → b ≡ list_any (λ word. is_large_number (bytes_at text word)) words → b ≡ true → BreakAfter raw (words_at text words) F10
 too_large text raw words found d b h e l t = (d, subst (Finds (AreWordsOf (capped_words text words))) e h, sym (large_at text words) ∙ sym l ∙ t)
 
 -- one of a form, without such a number, breaks the second, unless the name is new
 pub not_new : (text : List ℕ) (raw : List Declared) (words : List Span) (found : Option Declaration) (d : Declaration) (b : Bool) → Finds (AreWordsOf (capped_words text words)) found → found ≡ Some d
-    → b ≡ list_any (λ word. is_large (bytes_at text word)) words → b ≡ false → is_new raw d ≡ false → BreakAfter raw (words_at text words) F2
+    → b ≡ list_any (λ word. is_large_number (bytes_at text word)) words → b ≡ false → is_new raw d ≡ false → BreakAfter raw (words_at text words) F2
 not_new text raw words found d b h e l t n = (d, subst (Finds (AreWordsOf (capped_words text words))) e h, sym (large_at text words) ∙ sym l ∙ t, n)
 
 -- and else breaks none
 pub new_breaks_none : (text : List ℕ) (raw : List Declared) (words : List Span) (found : Option Declaration) (d : Declaration) (b : Bool) → Finds (AreWordsOf (capped_words text words)) found → found ≡ Some d
-    → b ≡ list_any (λ word. is_large (bytes_at text word)) words → b ≡ false → is_new raw d ≡ true → (code : Code) → BreakAfter raw (words_at text words) code → ⊥
+    → b ≡ list_any (λ word. is_large_number (bytes_at text word)) words → b ≡ false → is_new raw d ≡ true → (code : Code) → BreakAfter raw (words_at text words) code → ⊥
 new_breaks_none text raw words found d b h e l t n code broken =
     let form = subst (Finds (AreWordsOf (capped_words text words))) e h in
     let told : None ≡ Some code =
@@ -277,7 +277,7 @@ new_breaks_none text raw words found d b h e l t n code broken =
 
 -- it declares what was found
 pub declares_found : (text : List ℕ) (raw more : List Declared) (number : ℕ) (words : List Span) (found : Option Declaration) (d : Declaration) (b : Bool) → Finds (AreWordsOf (capped_words text words)) found → found ≡ Some d
-    → b ≡ list_any (λ word. is_large (bytes_at text word)) words → b ≡ false → more ≡ raw ++ record { line = number; declaration = d } ∷ []
+    → b ≡ list_any (λ word. is_large_number (bytes_at text word)) words → b ≡ false → more ≡ raw ++ record { line = number; declaration = d } ∷ []
     → (before : List Said) → Declare before raw → Declare (before ++ record { number = number; words = words_at text words } ∷ []) more
 declares_found text raw more number words found d b h e l t m before declared =
     let form = subst (Finds (AreWordsOf (capped_words text words))) e h in

@@ -14,8 +14,8 @@ use Rattle.fw_flow.proofs.Checks.{checked_or_refused, one_refusal as one_broken}
 use Rattle.fw_flow.specs.declared.raw.Declared.{Declared}
 use Rattle.fw_flow.specs.Check.{IsChecked, IsFirstBroken}
 use Rattle.fw_flow.specs.Dataflow.{Dataflow}
-use Rattle.fw_flow.specs.Raw.{flow_of}
-use Rattle.fw_flow_text.specs.Grammar.{Declare, BreakAfter, Breaks, flow_rules, IsAccepted, IsRefused}
+use Rattle.fw_flow.specs.Raw.{flow_of_declarations}
+use Rattle.fw_flow_text.specs.Grammar.{Declare, BreakAfter, Breaks, flow_rules, IsAcceptedFlow, IsRefusedFlow}
 use Rattle.fw_flow_text.proofs.DeclaredLaws.{one_declared, breaks_exact, declared_sound}
 
 -- what the code's loop knows: some lines are done, none of them breaks a rule, and the declarations are theirs
@@ -52,7 +52,7 @@ read_all lines raw read =
 
 -- what the declarations of all lines give, the text gives
 pub checked_all : (text : List ℕ) (left : List Said) (raw : List Declared) (result : Result Dataflow ReadFault) → length text ≤ 1048576 → IsRead (said_lines text) left raw → left ≡ []
-    → MatchResult result (IsChecked raw) (IfRefused (IsFirstBroken raw)) → MatchResult result (IsAccepted text) (IfRefused (IsRefused text))
+    → MatchResult result (IsChecked raw) (IfRefused (IsFirstBroken raw)) → MatchResult result (IsAcceptedFlow text) (IfRefused (IsRefusedFlow text))
 checked_all text left raw (Ok flow) size read e checked =
     let all = read_all (said_lines text) raw (subst (λ ls. IsRead (said_lines text) ls raw) e read) in
     record { sound = record { size = size; lines = all.0 }; declared = raw; written = all.1; checked = checked }
@@ -64,18 +64,18 @@ checked_all text left raw (Err NoMemory) size read e broken = tt
 -- ---- one answer
 
 -- an accepted text is not refused
-pub accepted_or_refused : (text : List ℕ) (flow : Dataflow) (refusal : Refusal) → IsAccepted text flow → IsRefused text refusal → ⊥
+pub accepted_or_refused : (text : List ℕ) (flow : Dataflow) (refusal : Refusal) → IsAcceptedFlow text flow → IsRefusedFlow text refusal → ⊥
 accepted_or_refused text flow refusal accepted (inl first) = sound_or_refused flow_rules text refusal accepted.sound first
 accepted_or_refused text flow refusal accepted (inr other) =
     let same = one_declared (said_lines text) other.declared accepted.declared other.written accepted.written in
     checked_or_refused accepted.declared flow refusal accepted.checked (subst (λ ds. IsFirstBroken ds refusal) same other.broken)
 
 -- an accepted text has one dataflow
-pub one_flow : (text : List ℕ) (first second : Dataflow) → IsAccepted text first → IsAccepted text second → first ≡ second
-one_flow text first second a b = a.checked.value ∙ ap flow_of (one_declared (said_lines text) a.declared b.declared a.written b.written) ∙ sym b.checked.value
+pub one_flow : (text : List ℕ) (first second : Dataflow) → IsAcceptedFlow text first → IsAcceptedFlow text second → first ≡ second
+one_flow text first second a b = a.checked.value ∙ ap flow_of_declarations (one_declared (said_lines text) a.declared b.declared a.written b.written) ∙ sym b.checked.value
 
 -- a text is refused by one rule at one line
-pub one_refusal : (text : List ℕ) (first second : Refusal) → IsRefused text first → IsRefused text second → first ≡ second
+pub one_refusal : (text : List ℕ) (first second : Refusal) → IsRefusedFlow text first → IsRefusedFlow text second → first ≡ second
 one_refusal text first second (inl a) (inl b) = one_first_refusal flow_rules text first second breaks_exact a b
 one_refusal text first second (inl a) (inr b) = absurd (sound_or_refused flow_rules text first b.sound a)
 one_refusal text first second (inr a) (inl b) = absurd (sound_or_refused flow_rules text second a.sound b)
@@ -84,7 +84,7 @@ one_refusal text first second (inr a) (inr b) =
     one_broken a.declared first second a.broken (subst (λ ds. IsFirstBroken ds second) same b.broken)
 
 -- each text is accepted or refused
-pub some_answer : (text : List ℕ) → ((flow : Dataflow) × IsAccepted text flow) ⊎ ((refusal : Refusal) × IsRefused text refusal)
+pub some_answer : (text : List ℕ) → ((flow : Dataflow) × IsAcceptedFlow text flow) ⊎ ((refusal : Refusal) × IsRefusedFlow text refusal)
 some_answer text = elim (sound_or_some_refusal flow_rules text breaks_exact) [
   | inl sound ↦ let all = declared_sound (said_lines text) sound.lines in
       elim (some_checked all.0) [

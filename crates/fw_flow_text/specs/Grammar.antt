@@ -6,7 +6,7 @@ use Rattle.fw_lines.specs.declared.numeral.Number.TheVariants.{Value, TooLarge, 
 use Rattle.fw_lines.specs.declared.refusal.Code.{Code}
 use Rattle.fw_lines.specs.declared.refusal.Code.TheVariants.{F1, F2, F10, F11}
 use Rattle.fw_lines.specs.declared.refusal.Refusal.{Refusal}
-use Rattle.fw_lines.specs.Faults.{Rules, IsSound, IsFirstRefusal}
+use Rattle.fw_lines.specs.Faults.{Rules, BreaksNone, IsFirstRefusal}
 use Rattle.fw_lines.specs.declared.span.Span.{Span}
 use Rattle.fw_lines.specs.Lines.{Said, said_lines, words_at}
 use Rattle.fw_lines.specs.Spelling.{number_of}
@@ -47,12 +47,12 @@ is_too_large TooLarge = true
 is_too_large NotANumber = false
 
 -- whether the word is such a number
-abbrev pub is_large : List ℕ → Bool
-is_large word = is_too_large (number_of word)
+abbrev pub is_large_number : List ℕ → Bool
+is_large_number word = is_too_large (number_of word)
 
 -- the word, or 0 in place of such a number
 unfoldable pub capped : List ℕ → List ℕ
-capped word = if is_large word then codes "0" else word
+capped word = if is_large_number word then codes "0" else word
 
 -- the words of parts of a text, with 0 in place of such numbers
 abbrev pub capped_words : List ℕ → List Span → List (List ℕ)
@@ -71,9 +71,9 @@ Finds P (Some a) = P a
 -- one and a number is 2^64 or more; F2 where they have one, no number is, and the name is not new in its name space
 abbrev pub BreakAfter : List Declared → List (List ℕ) → Code → Type 0
 BreakAfter before words F1 = (words ≢ []) × ((declaration : Declaration) → HaveFormOf words declaration → ⊥)
-BreakAfter before words F10 = (declaration : Declaration) × HaveFormOf words declaration × (list_any (λ word. is_large word) words ≡ true)
+BreakAfter before words F10 = (declaration : Declaration) × HaveFormOf words declaration × (list_any (λ word. is_large_number word) words ≡ true)
 BreakAfter before words F2 =
-    (declaration : Declaration) × HaveFormOf words declaration × (list_any (λ word. is_large word) words ≡ false) × (is_new before declaration ≡ false)
+    (declaration : Declaration) × HaveFormOf words declaration × (list_any (λ word. is_large_number word) words ≡ false) × (is_new before declaration ≡ false)
 BreakAfter before words code = ⊥
 
 -- the line breaks the rule, judged by what the lines before it declare
@@ -83,27 +83,27 @@ Breaks before line code = (declared : List Declared) × Declare before declared 
 -- ---- whole texts
 
 -- the longest text, in bytes
-abbrev pub size_limit : ℕ
-size_limit = 1048576
+abbrev pub flow_size_limit : ℕ
+flow_size_limit = 1048576
 
 -- what is asked of the lines of a flow
 abbrev pub flow_rules : Rules
-flow_rules = record { most = size_limit; too_long = F11; breaks = Breaks }
+flow_rules = record { most = flow_size_limit; too_long = F11; breaks = Breaks }
 
 -- the text has the form of a flow, and its declarations are those of this dataflow
-pub record IsAccepted (text : List ℕ) (flow : Dataflow) : Type 0 where
-  pub sound : IsSound flow_rules text
+pub record IsAcceptedFlow (text : List ℕ) (flow : Dataflow) : Type 0 where
+  pub sound : BreaksNone flow_rules text
   pub declared : List Declared
   pub written : Declare (said_lines text) declared
   pub checked : IsChecked declared flow
 
 -- no line of the text breaks a rule, and the refusal is the first rule that its declarations break
 pub record IsRefusedOfDeclarations (text : List ℕ) (refusal : Refusal) : Type 0 where
-  pub sound : IsSound flow_rules text
+  pub sound : BreaksNone flow_rules text
   pub declared : List Declared
   pub written : Declare (said_lines text) declared
   pub broken : IsFirstBroken declared refusal
 
 -- the refusal is the first rule that the text breaks: of its size, of its first line that breaks one, or of its declarations
-abbrev pub IsRefused : List ℕ → Refusal → Type 0
-IsRefused text refusal = IsFirstRefusal flow_rules text refusal ⊎ IsRefusedOfDeclarations text refusal
+abbrev pub IsRefusedFlow : List ℕ → Refusal → Type 0
+IsRefusedFlow text refusal = IsFirstRefusal flow_rules text refusal ⊎ IsRefusedOfDeclarations text refusal

@@ -4,7 +4,7 @@ use Rattle.std.specs.List.{list_all}
 use Rattle.fw_lines.specs.Lines.{is_line_feed, is_allowed}
 use Rattle.fw_flow.specs.declared.raw.Declaration.{Declaration}
 use Rattle.fw_flow.specs.Dataflow.{Dataflow}
-use Rattle.fw_flow_text.specs.Grammar.{AreWordsOf, IsAccepted}
+use Rattle.fw_flow_text.specs.Grammar.{AreWordsOf, IsAcceptedFlow}
 
 -- the bytes that a text may have: LF, and those that a line may have
 abbrev pub is_in_texts : ℕ → Bool
@@ -12,7 +12,7 @@ is_in_texts b = is_line_feed b || is_allowed b
 
 -- an accepted text has no other byte than these, in a comment neither
 abbrev pub AcceptedTextsHaveAllowedBytes : Type 0
-AcceptedTextsHaveAllowedBytes = (text : List ℕ) (flow : Dataflow) → IsAccepted text flow → list_all is_in_texts text ≡ true
+AcceptedTextsHaveAllowedBytes = (text : List ℕ) (flow : Dataflow) → IsAcceptedFlow text flow → list_all is_in_texts text ≡ true
 
 -- words are those of at most one declaration
 abbrev pub WordsDeclareOneThing : Type 0

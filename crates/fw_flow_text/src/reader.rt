@@ -6,7 +6,7 @@ ghost use Rattle.fw_lines.specs.declared.refusal.Code.{Code};
 ghost use Rattle.fw_lines.specs.declared.refusal.Refusal.{Refusal};
 ghost use Rattle.fw_flow.specs.Dataflow.{Dataflow};
 ghost use Rattle.fw_flow.specs.Raw.{is_new};
-ghost use Rattle.fw_flow_text.specs.Grammar.{Declare, BreakAfter, IsAccepted, IsRefused};
+ghost use Rattle.fw_flow_text.specs.Grammar.{Declare, BreakAfter, IsAcceptedFlow, IsRefusedFlow};
 
 use crate::declaration::declaration;
 use crate::words::has_large;
@@ -23,7 +23,7 @@ pub const FLOW_LIMIT: usize = 1_048_576;
 /// answers `Ok` exactly for the texts of the grammar, with the dataflow that they declare, and else the first rule that
 /// is broken.
 pub fn read_flow(alloc: Global, text: &[u8]) -> Result<Flow, ReadFault>
-    ensures { MatchResult result (IsAccepted text.now) (IfRefused (IsRefused text.now)) }
+    ensures { MatchResult result (IsAcceptedFlow text.now) (IfRefused (IsRefusedFlow text.now)) }
 {
     if text.len() > FLOW_LIMIT {
         return Err(ReadFault::of_whole(Code::F11));
@@ -42,14 +42,14 @@ pub fn read_flow(alloc: Global, text: &[u8]) -> Result<Flow, ReadFault>
 /// at one line: so `read_flow` answers `Ok` exactly for the texts of the grammar, and else that refusal, unless memory is
 /// refused.
 pub fn one_answer()
-    ensures some_answer { (text : List ℕ) → ((flow : Dataflow) × IsAccepted text flow)
-        ⊎ ((refusal : Refusal) × IsRefused text refusal) }
+    ensures some_answer { (text : List ℕ) → ((flow : Dataflow) × IsAcceptedFlow text flow)
+        ⊎ ((refusal : Refusal) × IsRefusedFlow text refusal) }
     ensures exclusive { (text : List ℕ) (flow : Dataflow) (refusal : Refusal)
-        → IsAccepted text flow → IsRefused text refusal → ⊥ }
+        → IsAcceptedFlow text flow → IsRefusedFlow text refusal → ⊥ }
     ensures one_flow { (text : List ℕ) (first second : Dataflow)
-        → IsAccepted text first → IsAccepted text second → first ≡ second }
+        → IsAcceptedFlow text first → IsAcceptedFlow text second → first ≡ second }
     ensures one_refusal { (text : List ℕ) (first second : Refusal)
-        → IsRefused text first → IsRefused text second → first ≡ second }
+        → IsRefusedFlow text first → IsRefusedFlow text second → first ≡ second }
 {}
 
 // The declarations with what a line declares, or the rule that it breaks.

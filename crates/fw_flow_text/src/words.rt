@@ -25,14 +25,14 @@ pub(crate) fn capped<'a>(text: &'a [u8], word: Span) -> &'a [u8]
 
 // Whether there is a number of 2^64 or more among the words.
 pub(crate) fn has_large(text: &[u8], words: &[Span]) -> bool
-    ensures { result ≡ list_any (λ word. grammar.is_large (bytes_at text.now word)) words.now }
+    ensures { result ≡ list_any (λ word. grammar.is_large_number (bytes_at text.now word)) words.now }
 {
     words.iter().any(|word| is_large(word.of(text)))
 }
 
 // Whether the word is a number of 2^64 or more.
 fn is_large(word: &[u8]) -> bool
-    ensures { result ≡ grammar.is_large word.now }
+    ensures { result ≡ grammar.is_large_number word.now }
 {
     matches!(number(word), Number::TooLarge)
 }

@@ -5,6 +5,6 @@ use Rattle.fw_frontier.specs.declared.few.Few.{Few}
 use Rattle.fw_frontier.specs.declared.few.Few.TheVariants.{One, Many}
 
 -- the stamps, in order
-abbrev pub stamps_of : Few → Front
-stamps_of (One alloc s) = s ∷ []
-stamps_of (Many ss) = ss.items
+abbrev pub stamps_of_few : Few → Front
+stamps_of_few (One alloc s) = s ∷ []
+stamps_of_few (Many ss) = ss.items

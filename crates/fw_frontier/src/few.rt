@@ -2,7 +2,7 @@
 ghost use Rattle.std.specs.Prelude.{◌≡◌, true, ℕ, List, [], ◌∷◌, length, IfSome, IfOk};
 ghost use Rattle.std.specs.List.{AllByRecursion};
 ghost use Rattle.fw_time.specs.Stamp.{leq, in_domain, up_to};
-ghost use Rattle.fw_frontier.specs.Few.{stamps_of};
+ghost use Rattle.fw_frontier.specs.Few.{stamps_of_few};
 ghost use Rattle.fw_frontier.specs.Front.{frontier_of, least_stamps, IsFrontOf};
 ghost use Rattle.fw_frontier.specs.Frontier.{join, cover};
 ghost use Rattle.fw_frontier.specs.Outside.{front_without, front_without_all, below_at};
@@ -22,7 +22,7 @@ pub enum Few {
 impl Few {
     // These stamps made outside ones.
     pub fn until(alloc: Global, stamps: &[Stamp]) -> Result<Self, AllocError>
-        ensures { IfOk result (λ few. stamps_of few ≡ front_without_all stamps.now []) }
+        ensures { IfOk result (λ few. stamps_of_few few ≡ front_without_all stamps.now []) }
     {
         if let [only] = stamps {
             return Ok(Few::One(alloc, only.copy()));
@@ -34,7 +34,7 @@ impl Few {
 
     // The least stamps of a domain.
     pub fn least(alloc: Global, bounds: &Bounds) -> Result<Self, AllocError>
-        ensures { IfOk result (λ few. stamps_of few ≡ least_stamps bounds.now) }
+        ensures { IfOk result (λ few. stamps_of_few few ≡ least_stamps bounds.now) }
     {
         if !bounds.sides {
             return Ok(Few::One(alloc, bounds.origin()));
@@ -49,7 +49,7 @@ impl Few {
     // The outside stamps of what is at most one of these stamps of a domain.
     pub fn covering(alloc: Global, stamps: &[Stamp], bounds: &Bounds) -> Result<Self, AllocError>
         ensures { AllByRecursion (λ s. in_domain bounds.now s ≡ true) stamps.now
-            → IfOk result (λ few. IsFrontOf bounds.now (stamps_of few) (cover bounds.now stamps.now)) }
+            → IfOk result (λ few. IsFrontOf bounds.now (stamps_of_few few) (cover bounds.now stamps.now)) }
     {
         let mut covered = Few::least(alloc, bounds)?;
         for s in stamps {
@@ -63,7 +63,7 @@ impl Few {
     #[tactic(auto, using(crate::proofs::FewLaws::below_one, crate::proofs::FewLaws::below_greatest))]
     fn below(alloc: Global, s: &Stamp, greatest: &Stamp) -> Result<Self, AllocError>
         ensures { IfOk result
-            (λ few. stamps_of few ≡ below_at s.now greatest.now (length s.now)) }
+            (λ few. stamps_of_few few ≡ below_at s.now greatest.now (length s.now)) }
     {
         if s.len() != 1 || greatest.len() != 1 {
             let outside = outside::below(alloc, s, greatest)?;
@@ -77,7 +77,7 @@ impl Few {
 
     // The same stamps once more.
     pub fn copy(&self) -> Result<Self, AllocError>
-        ensures { IfOk result (λ few. stamps_of few ≡ stamps_of self.now) }
+        ensures { IfOk result (λ few. stamps_of_few few ≡ stamps_of_few self.now) }
     {
         match self {
             Few::One(alloc, stamp) => Ok(Few::One(*alloc, stamp.copy())),
@@ -90,7 +90,7 @@ impl Few {
 
     // The stamps, in order.
     pub fn as_slice(&self) -> &[Stamp]
-        ensures { result.now ≡ stamps_of self.now }
+        ensures { result.now ≡ stamps_of_few self.now }
     {
         match self {
             Few::One(_, stamp) => slice::from_ref(stamp),
@@ -101,7 +101,7 @@ impl Few {
     // With these stamps made outside ones too.
     pub fn without_all(&self, stamps: &[Stamp]) -> Result<Self, AllocError>
         ensures { IfOk result
-            (λ few. stamps_of few ≡ front_without_all stamps.now (stamps_of self.now)) }
+            (λ few. stamps_of_few few ≡ front_without_all stamps.now (stamps_of_few self.now)) }
     {
         if let [only] = stamps {
             return self.without(only);
@@ -113,7 +113,7 @@ impl Few {
 
     // With one stamp more made an outside one.
     pub fn without(&self, stamp: &Stamp) -> Result<Self, AllocError>
-        ensures { IfOk result (λ few. stamps_of few ≡ front_without stamp.now (stamps_of self.now)) }
+        ensures { IfOk result (λ few. stamps_of_few few ≡ front_without stamp.now (stamps_of_few self.now)) }
     {
         if let Few::One(alloc, mine) = self {
             if let Some(least) = least_of_two(mine, stamp) {
@@ -128,10 +128,10 @@ impl Few {
     // The outside stamps of what of a domain is inside one of two frontiers. Where it has sides, a bound of two stamps that is
     // of no side is at most none of its stamps.
     pub fn joined(&self, other: &Self, bounds: &Bounds) -> Result<Self, AllocError>
-        ensures { AllByRecursion (λ s. in_domain bounds.now s ≡ true) (stamps_of self.now)
-            → AllByRecursion (λ s. in_domain bounds.now s ≡ true) (stamps_of other.now)
-            → IfOk result (λ few. IsFrontOf bounds.now (stamps_of few)
-            (join (frontier_of bounds.now (stamps_of self.now)) (frontier_of bounds.now (stamps_of other.now)))) }
+        ensures { AllByRecursion (λ s. in_domain bounds.now s ≡ true) (stamps_of_few self.now)
+            → AllByRecursion (λ s. in_domain bounds.now s ≡ true) (stamps_of_few other.now)
+            → IfOk result (λ few. IsFrontOf bounds.now (stamps_of_few few)
+            (join (frontier_of bounds.now (stamps_of_few self.now)) (frontier_of bounds.now (stamps_of_few other.now)))) }
     {
         if !bounds.sides {
             return self.bounds_with(other);
@@ -144,10 +144,10 @@ impl Few {
     // The same of a domain without sides.
     #[tactic(auto, using(crate::proofs::FewLaws::one_join))]
     fn bounds_with(&self, other: &Self) -> Result<Self, AllocError>
-        ensures { (greatest : List ℕ) → AllByRecursion (λ s. leq s greatest ≡ true) (stamps_of self.now)
-            → AllByRecursion (λ s. leq s greatest ≡ true) (stamps_of other.now)
-            → IfOk result (λ few. IsFrontOf (up_to greatest) (stamps_of few)
-            (join (frontier_of (up_to greatest) (stamps_of self.now)) (frontier_of (up_to greatest) (stamps_of other.now)))) }
+        ensures { (greatest : List ℕ) → AllByRecursion (λ s. leq s greatest ≡ true) (stamps_of_few self.now)
+            → AllByRecursion (λ s. leq s greatest ≡ true) (stamps_of_few other.now)
+            → IfOk result (λ few. IsFrontOf (up_to greatest) (stamps_of_few few)
+            (join (frontier_of (up_to greatest) (stamps_of_few self.now)) (frontier_of (up_to greatest) (stamps_of_few other.now)))) }
     {
         if let Few::One(alloc, mine) = self {
             if let Few::One(_, others) = other {

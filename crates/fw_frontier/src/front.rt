@@ -31,11 +31,11 @@ pub struct Front {
 
 impl Model for Front {
     ghost use Rattle.std.specs.Prelude.{ℕ, List};
-    ghost use Rattle.fw_frontier.specs.Few.{stamps_of};
+    ghost use Rattle.fw_frontier.specs.Few.{stamps_of_few};
 
     ghost Value = { List (List ℕ) };
 
-    ghost view = { λ front. stamps_of front.outside };
+    ghost view = { λ front. stamps_of_few front.outside };
 }
 
 impl Front {

@@ -15,9 +15,9 @@ use Rattle.fw_flow.specs.declared.node.Edge.{Edge}
 use Rattle.fw_flow.specs.declared.node.Node.{Node}
 use Rattle.fw_flow.specs.Dataflow.{Dataflow}
 use Rattle.fw_flow.specs.declared.raw.Declared.{Declared}
-use Rattle.fw_flow.specs.Raw.{flow_of}
+use Rattle.fw_flow.specs.Raw.{flow_of_declarations}
 use Rattle.fw_flow.specs.WellFormed.{IsWellFormed}
-use Rattle.fw_flow_text.specs.Grammar.{capped, IsAccepted}
+use Rattle.fw_flow_text.specs.Grammar.{capped, IsAcceptedFlow}
 use Rattle.fw_flow_text.proofs.DeclaredLaws.{read_lines, known_lines}
 use Rattle.fw_flow_text.proofs.Reading.{policy_named, policy_at_end, ending_within, ending_outside, ending_of, parent_named, parent_at_end, output_kind, within_kind, leading_kind, lone_kind, input_form, output_form, select_form, regroup_form, within_form, leading_form, lone_form, node_form, node_declaration, edge_declaration, loop_of, loop_declaration, declaration_of, condition_of, value_part, assignment_part, selection_part, numeral_of, field_of, comparison_of, term_of}
 use Rattle.fw_generate.specs.Texts.{flow_text}
@@ -77,12 +77,12 @@ lines_read : read_lines [] (said_lines flow_text) ≡ Some the_declared
 unfolding the_declared said_by number_of capped policy_named policy_at_end ending_within ending_outside ending_of parent_named parent_at_end output_kind within_kind leading_kind lone_kind input_form output_form select_form regroup_form within_form leading_form lone_form node_form node_declaration edge_declaration loop_of loop_declaration declaration_of condition_of value_part assignment_part selection_part numeral_of field_of comparison_of term_of
 lines_read = refl
 
-flow_spelled : flow_of the_declared ≡ the_flow
+flow_spelled : flow_of_declarations the_declared ≡ the_flow
 unfolding the_declared said_by number_of capped policy_named policy_at_end ending_within ending_outside ending_of parent_named parent_at_end output_kind within_kind leading_kind lone_kind input_form output_form select_form regroup_form within_form leading_form lone_form node_form node_declaration edge_declaration loop_of loop_declaration declaration_of condition_of value_part assignment_part selection_part numeral_of field_of comparison_of term_of
 flow_spelled = refl
 
 -- the text declares the dataflow, where that is well formed
-pub flow_declared : IsWellFormed the_flow → IsAccepted flow_text the_flow
+pub flow_declared : IsWellFormed the_flow → IsAcceptedFlow flow_text the_flow
 flow_declared well_formed =
     let lines = known_lines (said_lines flow_text) the_declared lines_read in
     record {

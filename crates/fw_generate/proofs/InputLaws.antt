@@ -18,14 +18,14 @@ use Rattle.fw_lines.specs.declared.record.RecordWord.{RecordWord}
 use Rattle.fw_lines.specs.declared.record.RecordWord.TheVariants.{Sound, Broken}
 use Rattle.fw_lines.specs.declared.refusal.Code.{Code}
 use Rattle.fw_lines.specs.declared.refusal.Code.TheVariants.{I1, I3, I4, I5}
-use Rattle.fw_lines.specs.Faults.{BreakNoRule, IsSound}
-use Rattle.fw_lines.specs.Inputs.{batch_of, batches_of, broken_rule, count_of, fault_of, is_batch_of, is_colon, is_large, line_fault, record_from, record_of, rules_of, source_of, words_fault}
+use Rattle.fw_lines.specs.Faults.{BreakNoRule, BreaksNone}
+use Rattle.fw_lines.specs.Inputs.{batch_of, batches_said_of, broken_rule, count_of, inputs_line_fault, is_batch_of, is_colon, has_large_number, inputs_fault, record_from, record_said, inputs_rules, source_said, words_fault}
 use Rattle.fw_lines.specs.Lines.{Said, is_allowed, is_word}
 use Rattle.fw_lines.specs.Spelling.{number_of}
 use Rattle.fw_lines.proofs.FaultLaws.{Told, none_told, none_judged, IsSoundSoFar, none_left, sound_more}
 use Rattle.fw_generate.specs.Draws.{Words, draw, drawn_times}
 use Rattle.fw_flow.specs.Sources.{AreInputsOf}
-use Rattle.fw_generate.specs.Laws.{size_limit}
+use Rattle.fw_generate.specs.Laws.{accepted_size_limit}
 use Rattle.fw_lines.specs.Written.{behind_space, spaced, line_text, text_of, WordLine, is_in_words, is_plain, is_plain_line, numbered}
 use Rattle.fw_generate.specs.Texts.{batch_line, batch_lines, rec_word}
 use Rattle.fw_generate.proofs.DrawnLaws.{drawn-each, joined_length, length-drawn}
@@ -45,7 +45,7 @@ draw-below n words h = omega arith
 record IsRecWord (word : List ℕ) : Type 0 where
   plain : is_plain word ≡ true
   rec : Rec
-  sound : record_of word ≡ Sound rec
+  sound : record_said word ≡ Sound rec
   short : length word ≤ 6
 
 abbrev spelled : ℕ → ℕ → List ℕ
@@ -82,8 +82,8 @@ plain-decimal n h =
     and_from (is_word (decimal n)) (list_all is_in_words (decimal n)) (ap is_word (sym (append-nil (decimal n))) ∙ some_word (decimal n) [] (decimal_nonempty n h))
     (digits-in_words (decimal n) (decimal_digits n h))
 
-rec_sound : (key value : ℕ) → key < 2 ^ 64 → value < 2 ^ 64 → record_of (spelled key value) ≡ Sound (record { key = key; value = value })
-unfolding record_of
+rec_sound : (key value : ℕ) → key < 2 ^ 64 → value < 2 ^ 64 → record_said (spelled key value) ≡ Sound (record { key = key; value = value })
+unfolding record_said
 rec_sound key value k v =
     let word = spelled key value in
     let place : position_or_len is_colon word ≡ length (decimal key) = colon_place (decimal key) (decimal value) (decimal_digits key k) in
@@ -123,16 +123,16 @@ rec_drawn words =
 -- a line of the inputs of the one source: it can be a line, breaks no rule where the source has fewer than 2^20 batches, and is short
 record IsBatchLine (line : WordLine) : Type 0 where
   plain : is_plain_line line ≡ true
-  sound : (count : ℕ) → count < 2 ^ 20 → fault_of ((codes "src", 0) ∷ []) count line ≡ None
+  sound : (count : ℕ) → count < 2 ^ 20 → inputs_line_fault ((codes "src", 0) ∷ []) count line ≡ None
   short : length (line_text line) ≤ 59
 
 recs_sound : (recs : WordLine) → AllByRecursion IsRecWord recs → words_fault recs ≡ None
 recs_sound [] each = refl
 recs_sound (word ∷ words) each = ap (λ r. option_or (broken_rule r) (words_fault words)) each.0.sound ∙ recs_sound words each.1
 
-none_large : (recs : WordLine) → AllByRecursion IsRecWord recs → list_any (λ word. is_large (record_of word)) recs ≡ false
+none_large : (recs : WordLine) → AllByRecursion IsRecWord recs → list_any (λ word. has_large_number (record_said word)) recs ≡ false
 none_large [] each = refl
-none_large (word ∷ words) each = ap (λ r. is_large r || list_any (λ w. is_large (record_of w)) words) each.0.sound ∙ none_large words each.1
+none_large (word ∷ words) each = ap (λ r. has_large_number r || list_any (λ w. has_large_number (record_said w)) words) each.0.sound ∙ none_large words each.1
 
 batch_line-is : (recs : WordLine) → length recs < 8 → AllByRecursion IsRecWord recs → IsBatchLine (codes "batch" ∷ codes "src" ∷ recs)
 batch_line-is recs few each = record {
@@ -140,7 +140,7 @@ batch_line-is recs few each = record {
   sound = λ count h.
       let room : nat_le (2 ^ 20) count ≡ false = grind (arith, nat_tests, h) in
       let counted : Option Code = cond (nat_le (2 ^ 20) count) (Some I5) None in
-      ap (λ f. option_or f (option_or (cond (list_any (λ word. is_large (record_of word)) recs) (Some I3) None) counted)) (recs_sound recs each)
+      ap (λ f. option_or f (option_or (cond (list_any (λ word. has_large_number (record_said word)) recs) (Some I3) None) counted)) (recs_sound recs each)
       ∙ ap (λ b. option_or (cond b (Some I3) None) counted) (none_large recs each)
       ∙ ap (λ b. cond b (Some I5) None) room;
   short =
@@ -159,33 +159,33 @@ batch_drawn words =
 
 -- a source has no more batches than there are lines
 count_of-few : (sources : List (List ℕ × ℕ)) (before : List Said) (line : WordLine) → count_of sources before line ≤ length before
-count_of-few sources before line = by (source_of sources line)
+count_of-few sources before line = by (source_said sources line)
   where
-    by : (source : Option ℕ) → option_map_or (λ node. length (batches_of sources before node)) source 0 ≤ length before
+    by : (source : Option ℕ) → option_map_or (λ node. length (batches_said_of sources before node)) source 0 ≤ length before
     by None = omega arith
     by (Some node) =
         omega (arith, length-map {A = Said} {B = List Rec} (filter (is_batch_of sources node) before) (λ l. batch_of l.words), length-filter (is_batch_of sources node) before, count_by-le-length (is_batch_of sources node) before)
 
 -- lines of the inputs break no rule, one after another
 sound_on : (sources : List (List ℕ × ℕ)) (lines : List WordLine) (number : ℕ) (all done : List Said)
-    → AllByRecursion (λ line. (count : ℕ) → count < 2 ^ 20 → fault_of sources count line ≡ None) lines → length done + length lines ≤ 2 ^ 20
-    → IsSoundSoFar (Told (line_fault sources)) all (numbered number lines) done → BreakNoRule (Told (line_fault sources)) all
+    → AllByRecursion (λ line. (count : ℕ) → count < 2 ^ 20 → inputs_line_fault sources count line ≡ None) lines → length done + length lines ≤ 2 ^ 20
+    → IsSoundSoFar (Told (inputs_fault sources)) all (numbered number lines) done → BreakNoRule (Told (inputs_fault sources)) all
 sound_on sources [] number all done each few so_far =
     let last : Said = record { number = number; words = [] } in
-    (none_left (Told (line_fault sources)) all (done ++ last ∷ []) (sound_more (Told (line_fault sources)) all done last [] so_far (none_told (line_fault sources done last) refl))).0
+    (none_left (Told (inputs_fault sources)) all (done ++ last ∷ []) (sound_more (Told (inputs_fault sources)) all done last [] so_far (none_told (inputs_fault sources done last) refl))).0
 sound_on sources (line ∷ lines) number all done each few so_far =
     let said : Said = record { number = number; words = line } in
     sound_on sources lines (number + 1) all (done ++ said ∷ []) each.1 (omega (arith, length_push done said))
-    (sound_more (Told (line_fault sources)) all done said (numbered (number + 1) lines) so_far
-    (none_told (line_fault sources done said) (each.0 (count_of sources done line) (omega (arith, count_of-few sources done line)))))
+    (sound_more (Told (inputs_fault sources)) all done said (numbered (number + 1) lines) so_far
+    (none_told (inputs_fault sources done said) (each.0 (count_of sources done line) (omega (arith, count_of-few sources done line)))))
 
 -- the inputs of each size are accepted
-pub inputs_accepted : (size : ℕ) (words : Words) → size ≤ size_limit → AreInputsOf the_flow (text_of (batch_lines size words).0)
-inputs_accepted size words h = subst (λ sources. IsSound (rules_of sources) (text_of lines)) (sym flow_sources) (record {
+pub inputs_accepted : (size : ℕ) (words : Words) → size ≤ accepted_size_limit → AreInputsOf the_flow (text_of (batch_lines size words).0)
+inputs_accepted size words h = subst (λ sources. BreaksNone (inputs_rules sources) (text_of lines)) (sym flow_sources) (record {
   size = omega (arith, joined_length line_text 59 lines (each-weaker IsBatchLine (λ line. length (line_text line) ≤ 59) lines (λ line b. b.short) each), count);
-  lines = subst (BreakNoRule (Told (line_fault source))) (sym (said_lines-text_of lines (all-of_each is_plain_line lines (each-weaker IsBatchLine (λ line. is_plain_line line ≡ true) lines (λ line b. b.plain) each))))
+  lines = subst (BreakNoRule (Told (inputs_fault source))) (sym (said_lines-text_of lines (all-of_each is_plain_line lines (each-weaker IsBatchLine (λ line. is_plain_line line ≡ true) lines (λ line b. b.plain) each))))
       (sound_on source lines 1 (numbered 1 lines) [] (each-weaker IsBatchLine _ lines (λ line b. b.sound) each) (omega (arith, count))
-      (none_judged (Told (line_fault source)) (numbered 1 lines)));
+      (none_judged (Told (inputs_fault source)) (numbered 1 lines)));
 })
   where
     source : List (List ℕ × ℕ)

@@ -19,14 +19,14 @@ use Rattle.fw_lines.proofs.FaultLaws.{Told, none_told, none_judged, IsSoundSoFar
 use Rattle.fw_flow.specs.declared.step.Step.TheVariants.{Checkpoint, Collect, Fail, Recover}
 use Rattle.fw_schedule.specs.declared.item.Item.{Item}
 use Rattle.fw_schedule.specs.declared.item.Item.TheVariants.{Auto, One}
-use Rattle.fw_schedule.specs.Grammar.{fault_of, item_of, items_of, line_fault, within_limit}
-use Rattle.fw_schedule.specs.Grammar.{size_limit as schedule_limit}
+use Rattle.fw_schedule.specs.Grammar.{schedule_words_fault, item_of, items_of, schedule_fault, within_limit}
+use Rattle.fw_schedule.specs.Grammar.{schedule_size_limit as schedule_limit}
 use Rattle.fw_schedule.specs.Schedule.{step_count, step_limit, steps_in}
 use Rattle.fw_generate.specs.Draws.{Drawing, Words, draw, drawn, drawn_times}
 use Rattle.fw_schedule.specs.Texts.{IsScheduleOf}
-use Rattle.fw_generate.specs.Laws.{size_limit}
+use Rattle.fw_generate.specs.Laws.{accepted_size_limit}
 use Rattle.fw_lines.specs.Written.{line_text, text_of, WordLine, is_plain, is_plain_line, numbered}
-use Rattle.fw_generate.specs.Texts.{auto_line, checkpoint_lines, collect_line, failure_lines, last_lines, lines_for, node_names, round_lines, schedule_lines}
+use Rattle.fw_generate.specs.Texts.{auto_line, checkpoint_lines, collect_line, failure_lines, last_lines, lines_for, generated_node_names, round_lines, schedule_lines}
 use Rattle.fw_generate.proofs.Below.{each_below-at}
 use Rattle.fw_generate.proofs.DrawnLaws.{drawn-each, joined_length, length-drawn}
 use Rattle.fw_generate.proofs.FlowLaws.{the_flow}
@@ -83,9 +83,9 @@ auto_line-is n h =
 -- what the failure of the node at a place asks for
 abbrev FailsAt : ℕ → Type 0
 FailsAt p =
-    (is_plain_line (codes "fail" ∷ slice_index_or node_names p [] ∷ []) ≡ true)
-    × (item_of the_flow (codes "fail" ∷ slice_index_or node_names p [] ∷ []) ≡ Ok (One (Fail (p ∷ []))))
-    × (length (text_of ((codes "fail" ∷ slice_index_or node_names p [] ∷ []) ∷ (codes "recover" ∷ []) ∷ [])) ≤ 17)
+    (is_plain_line (codes "fail" ∷ slice_index_or generated_node_names p [] ∷ []) ≡ true)
+    × (item_of the_flow (codes "fail" ∷ slice_index_or generated_node_names p [] ∷ []) ≡ Ok (One (Fail (p ∷ []))))
+    × (length (text_of ((codes "fail" ∷ slice_index_or generated_node_names p [] ∷ []) ∷ (codes "recover" ∷ []) ∷ [])) ≤ 17)
 
 fails_at : (p : ℕ) → p < 12 → FailsAt p
 fails_at =
@@ -194,7 +194,7 @@ step_count-append [] ys = omega arith
 step_count-append (x ∷ xs) ys = omega (arith, step_count-append xs ys)
 
 -- a line that asks for something breaks no rule, if its steps fit behind those before
-asking_sound : (count : ℕ) (line : WordLine) (a : IsAskingLine line) → count + steps_in a.item ≤ step_limit → fault_of the_flow count line ≡ None
+asking_sound : (count : ℕ) (line : WordLine) (a : IsAskingLine line) → count + steps_in a.item ≤ step_limit → schedule_words_fault the_flow count line ≡ None
 asking_sound count [] a h = refl
 asking_sound count (word ∷ words) a h =
     let room : nat_le (count + steps_in a.item) step_limit ≡ true = grind (arith, nat_tests, h) in
@@ -212,16 +212,16 @@ steps_more done number line a =
 
 -- lines of the schedule break no rule, one after another
 sound_on : (lines : List WordLine) (number : ℕ) (all done : List Said) → AllByRecursion IsAskingLine lines → step_count (items_of the_flow done) + steps_of lines ≤ step_limit
-    → IsSoundSoFar (Told (line_fault the_flow)) all (numbered number lines) done → BreakNoRule (Told (line_fault the_flow)) all
+    → IsSoundSoFar (Told (schedule_fault the_flow)) all (numbered number lines) done → BreakNoRule (Told (schedule_fault the_flow)) all
 sound_on [] number all done each few so_far =
     let last : Said = record { number = number; words = [] } in
-    (none_left (Told (line_fault the_flow)) all (done ++ last ∷ []) (sound_more (Told (line_fault the_flow)) all done last [] so_far (none_told (line_fault the_flow done last) refl))).0
+    (none_left (Told (schedule_fault the_flow)) all (done ++ last ∷ []) (sound_more (Told (schedule_fault the_flow)) all done last [] so_far (none_told (schedule_fault the_flow done last) refl))).0
 sound_on (line ∷ lines) number all done each few so_far =
     let said : Said = record { number = number; words = line } in
     let steps : steps_asked (item_of the_flow line) ≡ steps_in each.0.item = ap steps_asked each.0.asks in
     sound_on lines (number + 1) all (done ++ said ∷ []) each.1 (omega (arith, steps, few, steps_more done number line each.0))
-    (sound_more (Told (line_fault the_flow)) all done said (numbered (number + 1) lines) so_far
-    (none_told (line_fault the_flow done said) (asking_sound (step_count (items_of the_flow done)) line each.0 (omega (arith, steps, few)))))
+    (sound_more (Told (schedule_fault the_flow)) all done said (numbered (number + 1) lines) so_far
+    (none_told (schedule_fault the_flow done said) (asking_sound (step_count (items_of the_flow done)) line each.0 (omega (arith, steps, few)))))
 
 -- lines that ask for few steps in few bytes are a schedule
 asked_accepted : (lines : List WordLine) → AllByRecursion IsAskingLine lines → steps_of lines ≤ step_limit → length (text_of lines) ≤ schedule_limit
@@ -231,14 +231,14 @@ asked_accepted lines each few short =
     record {
       sound = record {
         size = short;
-        lines = subst (BreakNoRule (Told (line_fault the_flow))) (sym (said_lines-text_of lines plain))
-            (sound_on lines 1 (numbered 1 lines) [] each (omega (arith, few)) (none_judged (Told (line_fault the_flow)) (numbered 1 lines)));
+        lines = subst (BreakNoRule (Told (schedule_fault the_flow))) (sym (said_lines-text_of lines plain))
+            (sound_on lines 1 (numbered 1 lines) [] each (omega (arith, few)) (none_judged (Told (schedule_fault the_flow)) (numbered 1 lines)));
       };
       value = refl;
     }
 
 -- the schedule of each size is accepted
-pub schedule_accepted : (size : ℕ) (words : Words) → size ≤ size_limit → IsScheduleOf the_flow (text_of (schedule_lines size words).0)
+pub schedule_accepted : (size : ℕ) (words : Words) → size ≤ accepted_size_limit → IsScheduleOf the_flow (text_of (schedule_lines size words).0)
 schedule_accepted size words h =
     asked_accepted (joined ++ last_lines) (each-append IsAskingLine joined last_lines (each_round 43 68 rounds each) last_asks.each)
     (omega (arith, steps_of-append joined last_lines, rounds_few 43 68 rounds each, last_asks.few, count))

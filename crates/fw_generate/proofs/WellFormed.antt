@@ -7,7 +7,7 @@ use Rattle.fw_flow.specs.Ranks.{IsWithinRound}
 use Rattle.fw_flow.specs.Sources.{sources_of}
 use Rattle.fw_flow.specs.WellFormed.{IsWellFormed, is_feedback_of}
 use Rattle.fw_flow.proofs.ByRanks.{walks-ranked}
-use Rattle.fw_flow_text.specs.Grammar.{IsAccepted}
+use Rattle.fw_flow_text.specs.Grammar.{IsAcceptedFlow}
 use Rattle.fw_generate.specs.Texts.{flow_text}
 use Rattle.fw_generate.proofs.Below.{each_below-at}
 use Rattle.fw_generate.proofs.FlowLaws.{flow_declared, the_flow}
@@ -86,5 +86,5 @@ pub flow_sources : sources_of the_flow ≡ (codes "src", 0) ∷ []
 unfolding kind_of node_at
 flow_sources = refl
 
-pub flow_accepted : IsAccepted flow_text the_flow
+pub flow_accepted : IsAcceptedFlow flow_text the_flow
 flow_accepted = flow_declared well_formed

@@ -33,10 +33,10 @@ drawn_times (suc count) drawing = do
   drawn (first ∷ others)
 
 -- the words that a generator gives, from its state on
-abbrev pub words_of : Lcg → Words
-words_of g zero = (pcg32 g).0
-words_of g (suc place) = words_of (pcg32 g).1 place
+abbrev pub words_drawn : Lcg → Words
+words_drawn g zero = (pcg32 g).0
+words_drawn g (suc place) = words_drawn (pcg32 g).1 place
 
 -- the words that the generator gives which is started with a seed, on stream 54
 abbrev pub words_from : ℕ → Words
-words_from seed = words_of (started 64 multiplier_64 seed (increment_of 64 54))
+words_from seed = words_drawn (started 64 multiplier_64 seed (increment_of 64 54))

@@ -8,8 +8,8 @@ use Rattle.fw_generate.specs.Draws.{Words, Drawing, draw, drawn, drawn_times, �
 -- ---- the flow
 
 -- the names of the flow's nodes, in their order
-abbrev pub node_names : List (List ℕ)
-node_names =
+abbrev pub generated_node_names : List (List ℕ)
+generated_node_names =
     codes "src" ∷ codes "ent" ∷ codes "mix" ∷ codes "inc" ∷ codes "fb" ∷ codes "lv" ∷ codes "add" ∷ codes "seq" ∷ codes "led"
     ∷ codes "out" ∷ codes "run" ∷ codes "tot" ∷ []
 
@@ -74,7 +74,7 @@ auto_line = do
 unfoldable pub failure_lines : Drawing (List WordLine)
 failure_lines = do
   place ← draw 12
-  drawn ((codes "fail" ∷ slice_index_or node_names place [] ∷ []) ∷ (codes "recover" ∷ []) ∷ [])
+  drawn ((codes "fail" ∷ slice_index_or generated_node_names place [] ∷ []) ∷ (codes "recover" ∷ []) ∷ [])
 
 -- the line `checkpoint P` for each of four nodes
 abbrev pub checkpoint_lines : List WordLine

@@ -1,7 +1,7 @@
 //! The texts of a seed and a size.
 ghost use Rattle.std.specs.Prelude.{◌≡◌, IfOk};
 ghost use Rattle.fw_generate.specs.Draws.{words_from};
-ghost use Rattle.fw_generate.specs.Laws.{size_limit};
+ghost use Rattle.fw_generate.specs.Laws.{accepted_size_limit};
 ghost use Rattle.fw_generate.specs.Texts.{texts_of};
 
 use crate::generated::Texts;
@@ -13,7 +13,7 @@ use std::alloc::{AllocError, Global};
 /// The greatest size up to which the readers accept the texts, whatever is drawn
 /// ([`generated_texts_are_accepted`](crate::laws::generated_texts_are_accepted)).
 pub fn size_limit() -> u32
-    ensures { result ≡ size_limit }
+    ensures { result ≡ accepted_size_limit }
 {
     100_000
 }

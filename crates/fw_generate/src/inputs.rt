@@ -1,10 +1,10 @@
 //! The generated inputs.
 ghost use Rattle.std.specs.Prelude.{OnOk, string_bytes};
 ghost use Rattle.std.specs.List.{flat_map};
-ghost use Rattle.fw_generate.specs.Draws.{drawn_times, words_of};
+ghost use Rattle.fw_generate.specs.Draws.{drawn_times, words_drawn};
 ghost use Rattle.fw_lines.specs.Written.{behind_space, spaced, line_text};
 ghost use Rattle.fw_generate.specs.Texts.{batch_line, rec_word};
-ghost use Rattle.fw_generate.specs.Writes.{Writes};
+ghost use Rattle.fw_generate.specs.Writes.{WritesDrawn};
 
 use crate::draws::draw;
 use rand_pcg::Lcg64Xsh32;
@@ -16,8 +16,8 @@ pub fn write_batches(
     size: u32,
     text: &mut String,
 ) -> Result<(), AllocError>
-    ensures { OnOk result (Writes (drawn_times size batch_line) (flat_map line_text)
-        (words_of generator.old) (words_of generator.new) (string_bytes text.old) (string_bytes text.new)) }
+    ensures { OnOk result (WritesDrawn (drawn_times size batch_line) (flat_map line_text)
+        (words_drawn generator.old) (words_drawn generator.new) (string_bytes text.old) (string_bytes text.new)) }
 {
     for _ in 0..size {
         write_batch(generator, text)?;
@@ -27,8 +27,8 @@ pub fn write_batches(
 
 // Writes the line of a batch.
 fn write_batch(generator: &mut Lcg64Xsh32, text: &mut String) -> Result<(), AllocError>
-    ensures { OnOk result (Writes batch_line line_text
-        (words_of generator.old) (words_of generator.new) (string_bytes text.old) (string_bytes text.new)) }
+    ensures { OnOk result (WritesDrawn batch_line line_text
+        (words_drawn generator.old) (words_drawn generator.new) (string_bytes text.old) (string_bytes text.new)) }
 {
     let count = draw(generator, 8);
     text.push_str("batch src")?;
@@ -38,8 +38,8 @@ fn write_batch(generator: &mut Lcg64Xsh32, text: &mut String) -> Result<(), Allo
 
 // Writes so many recs, each behind a space.
 fn write_recs(generator: &mut Lcg64Xsh32, count: u32, text: &mut String) -> Result<(), AllocError>
-    ensures { OnOk result (Writes (drawn_times count rec_word) spaced
-        (words_of generator.old) (words_of generator.new) (string_bytes text.old) (string_bytes text.new)) }
+    ensures { OnOk result (WritesDrawn (drawn_times count rec_word) spaced
+        (words_drawn generator.old) (words_drawn generator.new) (string_bytes text.old) (string_bytes text.new)) }
 {
     for _ in 0..count {
         write_rec(generator, text)?;
@@ -49,8 +49,8 @@ fn write_recs(generator: &mut Lcg64Xsh32, count: u32, text: &mut String) -> Resu
 
 // Writes a rec behind a space.
 fn write_rec(generator: &mut Lcg64Xsh32, text: &mut String) -> Result<(), AllocError>
-    ensures { OnOk result (Writes rec_word behind_space
-        (words_of generator.old) (words_of generator.new) (string_bytes text.old) (string_bytes text.new)) }
+    ensures { OnOk result (WritesDrawn rec_word behind_space
+        (words_drawn generator.old) (words_drawn generator.new) (string_bytes text.old) (string_bytes text.new)) }
 {
     let key = draw(generator, 16);
     let value = draw(generator, 1000);

@@ -19,8 +19,8 @@ use Rattle.fw_record.proofs.RecordLaws.{one_spelling_lem}
 use Rattle.fw_keep.specs.declared.entry.Entry.{Entry}
 use Rattle.fw_keep.specs.declared.fault.KeepFault.{KeepFault}
 use Rattle.fw_keep.specs.declared.fault.KeepFault.TheVariants as fault
-use Rattle.fw_keep.specs.Entry.{IsRecordOf}
-use Rattle.fw_keep.specs.Catalogue.{KeepState, IsCatalogue, IsOnly, ids_of, is_among, has_entry}
+use Rattle.fw_keep.specs.Entry.{IsRecordOfEntry}
+use Rattle.fw_keep.specs.Catalogue.{KeepState, IsCatalogue, IsOnly, ids_of, is_id_among, has_entry}
 use Rattle.fw_keep.specs.Stored.{Records, bytes_under, KeepsBytes, HoldsAs, GivesOnly, ReadsAs, without_ids, Sweeps}
 use Rattle.fw_keep.proofs.IdLaws.{among-self, each-among}
 
@@ -64,25 +64,25 @@ kept-one : (held less : Records) (x q : ℕ) (others : Bool) (b : Bool) → (x =
 kept-one held less x q others true e rest none = absurd cc
 kept-one held less x q others false e rest none = kept-remove less x q e ∙ rest none
 
-kept-without_ids : (held : Records) (removed : List ℕ) (q : ℕ) → is_among q removed ≡ false → records.get (without_ids removed held) q ≡ records.get held q
+kept-without_ids : (held : Records) (removed : List ℕ) (q : ℕ) → is_id_among q removed ≡ false → records.get (without_ids removed held) q ≡ records.get held q
 kept-without_ids held [] q apart = refl
 kept-without_ids held (x ∷ removed) q apart =
-    kept-one held (without_ids removed held) x q (is_among q removed) (x == q) refl (λ none. kept-without_ids held removed q none) apart
+    kept-one held (without_ids removed held) x q (is_id_among q removed) (x == q) refl (λ none. kept-without_ids held removed q none) apart
 
-under-without_ids : (all : Option Records) (removed : List ℕ) (q : ℕ) → is_among q removed ≡ false → bytes_under q (option_map (without_ids removed) all) ≡ bytes_under q all
+under-without_ids : (all : Option Records) (removed : List ℕ) (q : ℕ) → is_id_among q removed ≡ false → bytes_under q (option_map (without_ids removed) all) ≡ bytes_under q all
 under-without_ids None removed q apart = refl
 under-without_ids (Some held) removed q apart = kept-without_ids held removed q apart
 
 -- an entry's id does not wait
 pub entry-apart : (keep : KeepState) (left removed : List ℕ) (e : Entry) → IsCatalogue keep → keep.waiting ≡ left ++ removed → Contains keep.entries e
-    → is_among e.id removed ≡ false
-entry-apart keep left removed e well parts there = by (is_among e.id removed) refl
+    → is_id_among e.id removed ≡ false
+entry-apart keep left removed e well parts there = by (is_id_among e.id removed) refl
   where
-    by : (b : Bool) → is_among e.id removed ≡ b → b ≡ false
+    by : (b : Bool) → is_id_among e.id removed ≡ b → b ≡ false
     by false is = refl
     by true is =
-        let waits : is_among e.id keep.waiting ≡ true =
-        ap (is_among e.id) parts ∙ list_any-append (λ (other : ℕ). other == e.id) left removed ∙ rw is (or-true (is_among e.id left)) in
+        let waits : is_id_among e.id keep.waiting ≡ true =
+        ap (is_id_among e.id) parts ∙ list_any-append (λ (other : ℕ). other == e.id) left removed ∙ rw is (or-true (is_id_among e.id left)) in
         absurd (both_ways (has_entry e.id keep.entries) (each-among _ keep.waiting e.id well.apart waits) (entry-there keep.entries e there))
 
 -- the bytes of what waits are removed
@@ -103,7 +103,7 @@ under-put (Some held) k bytes told =
     get-insert nat_cmp_total held k bytes k ∙ ap (λ b. cond b (Some bytes) (records.get held k)) (equal_by_cmp k k ∙ eq-eqb k k refl)
 
 -- what was put is held as the entry's
-pub held_put : (flow : Dataflow) (old new : Option Records) (e : Entry) (r : Record) → IsSome old → IsSound r → IsRecordOf flow e r
+pub held_put : (flow : Dataflow) (old new : Option Records) (e : Entry) (r : Record) → IsSome old → IsSound r → IsRecordOfEntry flow e r
     → new ≡ option_map (λ held. records.insert held e.id (spelling r)) old → HoldsAs flow new e r
 held_put flow old new e r told sound of is = record {
   sound = sound;
@@ -136,6 +136,6 @@ gives_back flow es id e bytes all result only got read other r there named held 
 
     by : (answer : Result Record KeepFault) → ReadsAs flow e bytes answer → GivesOnly r answer
     by (Ok q) read = one_spelling_lem q r read.0 held.sound (sym read.1 ∙ spelled)
-    by (Err (fault.Damaged at kept)) read = read.2 r held.sound spelled (subst (λ (x : Entry). IsRecordOf flow x r) is held.of_entry)
+    by (Err (fault.Damaged at kept)) read = read.2 r held.sound spelled (subst (λ (x : Entry). IsRecordOfEntry flow x r) is held.of_entry)
     by (Err fault.StoreFault) read = absurd read
     by (Err fault.NoMemory) read = tt

@@ -2,7 +2,7 @@
 use Rattle.std.proofs.Common.{◌≡◌, ℕ, ◌<◌, ◌≤◌, Bool, false, not, List, [], ◌∷◌, ◌++◌, filter, refl, sym, ap, subst, ◌∙◌, arith}
 use Rattle.std.specs.List.{AllByRecursion}
 use Rattle.fw_keep.specs.declared.entry.Entry.{Entry}
-use Rattle.fw_keep.specs.Catalogue.{KeepState, IsCatalogue, ids_of, is_among, has_entry, AreDistinct, persisted, without}
+use Rattle.fw_keep.specs.Catalogue.{KeepState, IsCatalogue, ids_of, is_id_among, has_entry, AreDistinct, persisted, without}
 use Rattle.std.proofs.lemmas.Bool.{ne_eqb}
 use Rattle.fw_lemmas.proofs.Each.{each-weaker, each-append, each-prefix}
 use Rattle.fw_keep.proofs.IdLaws.{among-append, distinct-prefix, ids-more, ascending-distinct, ascending-more, distinct-append, ascending-kept, ids-kept, none_kept, none_goes, gone-apart, ids-persisted}
@@ -62,7 +62,7 @@ catalogue-persisted keep h =
     record {
       ascending = rw ids h.ascending;
       distinct = h.distinct;
-      apart = subst (λ (all : List ℕ). AllByRecursion (λ id. is_among id all ≡ false) keep.waiting) (sym ids) h.apart;
+      apart = subst (λ (all : List ℕ). AllByRecursion (λ id. is_id_among id all ≡ false) keep.waiting) (sym ids) h.apart;
       drawn = rw ids h.drawn;
       waiting_drawn = h.waiting_drawn;
     }

@@ -9,16 +9,16 @@ use Rattle.std.proofs.Math.Bool.{or-true}
 use Rattle.fw_lemmas.proofs.Bools.{or_swap}
 use Rattle.fw_lemmas.proofs.Each.{each-weaker, each-append}
 use Rattle.fw_keep.specs.declared.entry.Entry.{Entry}
-use Rattle.fw_keep.specs.Catalogue.{ids_of, is_among, has_entry, AreAscending, AreDistinct, persisted}
+use Rattle.fw_keep.specs.Catalogue.{ids_of, is_id_among, has_entry, AreAscending, AreDistinct, persisted}
 
 -- ---- ids
 
-none_among : (n : ℕ) (ids : List ℕ) → AllByRecursion (λ id. id ≡ n → ⊥) ids → is_among n ids ≡ false
+none_among : (n : ℕ) (ids : List ℕ) → AllByRecursion (λ id. id ≡ n → ⊥) ids → is_id_among n ids ≡ false
 none_among n [] h = refl
 none_among n (id ∷ ids) h = rw (ne_eqb id n h.0) (none_among n ids h.1)
 
 -- an id that is below all these is none of them
-none_equal : (n : ℕ) (ids : List ℕ) → AllByRecursion (λ id. n < id) ids → is_among n ids ≡ false
+none_equal : (n : ℕ) (ids : List ℕ) → AllByRecursion (λ id. n < id) ids → is_id_among n ids ≡ false
 none_equal n ids h = none_among n ids (each-weaker _ _ ids (λ id l e. omega arith) h)
 
 pub ascending-distinct : (ids : List ℕ) → AreAscending ids → AreDistinct ids
@@ -29,10 +29,10 @@ pub ascending-more : (ids : List ℕ) (n : ℕ) → AreAscending ids → AllByRe
 ascending-more [] n a b = (tt, tt)
 ascending-more (id ∷ ids) n a b = (each-append _ ids (n ∷ []) a.0 (b.0, tt), ascending-more ids n a.1 b.1)
 
-pub among-append : (n : ℕ) (xs ys : List ℕ) → is_among n xs ≡ false → is_among n ys ≡ false → is_among n (xs ++ ys) ≡ false
+pub among-append : (n : ℕ) (xs ys : List ℕ) → is_id_among n xs ≡ false → is_id_among n ys ≡ false → is_id_among n (xs ++ ys) ≡ false
 among-append n xs ys a b = list_any-append _ xs ys ∙ rw (a, b) refl
 
-pub distinct-append : (xs ys : List ℕ) → AreDistinct xs → AreDistinct ys → AllByRecursion (λ x. is_among x ys ≡ false) xs → AreDistinct (xs ++ ys)
+pub distinct-append : (xs ys : List ℕ) → AreDistinct xs → AreDistinct ys → AllByRecursion (λ x. is_id_among x ys ≡ false) xs → AreDistinct (xs ++ ys)
 distinct-append [] ys a b apart = b
 distinct-append (x ∷ xs) ys a b apart = (among-append x xs ys a.0 apart.0, distinct-append xs ys a.1 b apart.1)
 
@@ -44,10 +44,10 @@ or_right : (a b : Bool) → (a || b) ≡ false → b ≡ false
 or_right true b h = absurd cc
 or_right false b h = h
 
-among-parts : (n : ℕ) (xs ys : List ℕ) → is_among n (xs ++ ys) ≡ false → (is_among n xs ≡ false) × (is_among n ys ≡ false)
+among-parts : (n : ℕ) (xs ys : List ℕ) → is_id_among n (xs ++ ys) ≡ false → (is_id_among n xs ≡ false) × (is_id_among n ys ≡ false)
 among-parts n xs ys h =
-    let parts : (is_among n xs || is_among n ys) ≡ false = sym (list_any-append _ xs ys) ∙ h in
-    (or_left (is_among n xs) (is_among n ys) parts, or_right (is_among n xs) (is_among n ys) parts)
+    let parts : (is_id_among n xs || is_id_among n ys) ≡ false = sym (list_any-append _ xs ys) ∙ h in
+    (or_left (is_id_among n xs) (is_id_among n ys) parts, or_right (is_id_among n xs) (is_id_among n ys) parts)
 
 pub distinct-prefix : (xs ys : List ℕ) → AreDistinct (xs ++ ys) → AreDistinct xs
 distinct-prefix [] ys h = tt
@@ -59,32 +59,32 @@ distinct-last [] y h = tt
 distinct-last (x ∷ xs) y h = (or_left (y == x) false (among-parts x xs (y ∷ []) h.0).1, distinct-last xs y h.1)
 
 -- what holds of each of the ids holds of one among them
-pub each-among : (P : ℕ → Type 0) (ids : List ℕ) (id : ℕ) → AllByRecursion P ids → is_among id ids ≡ true → P id
+pub each-among : (P : ℕ → Type 0) (ids : List ℕ) (id : ℕ) → AllByRecursion P ids → is_id_among id ids ≡ true → P id
 each-among P [] id all h = absurd cc
 each-among P (x ∷ ids) id all h = by (x == id) refl (λ k. each-among P ids id all.1 k) h
   where
-    by : (b : Bool) → (x == id) ≡ b → (is_among id ids ≡ true → P id) → (b || is_among id ids) ≡ true → P id
+    by : (b : Bool) → (x == id) ≡ b → (is_id_among id ids ≡ true → P id) → (b || is_id_among id ids) ≡ true → P id
     by true e rest k = subst P (eqb-true x id e) all.0
     by false e rest k = rest k
 
-pub among-self : (ids : List ℕ) → AllByRecursion (λ id. is_among id ids ≡ true) ids
+pub among-self : (ids : List ℕ) → AllByRecursion (λ id. is_id_among id ids ≡ true) ids
 among-self [] = tt
 among-self (x ∷ ids) =
-    (rw (eq-eqb x x refl) refl, each-weaker (λ id. is_among id ids ≡ true) (λ id. ((x == id) || is_among id ids) ≡ true) ids (λ id h. rw h (or-true (x == id))) (among-self ids))
+    (rw (eq-eqb x x refl) refl, each-weaker (λ id. is_id_among id ids ≡ true) (λ id. ((x == id) || is_id_among id ids) ≡ true) ids (λ id h. rw h (or-true (x == id))) (among-self ids))
 
 -- an id among the last of distinct ones is not among the first
-pub distinct-parts : (xs ys : List ℕ) (id : ℕ) → AreDistinct (xs ++ ys) → is_among id ys ≡ true → is_among id xs ≡ false
+pub distinct-parts : (xs ys : List ℕ) (id : ℕ) → AreDistinct (xs ++ ys) → is_id_among id ys ≡ true → is_id_among id xs ≡ false
 distinct-parts [] ys id h there = refl
 distinct-parts (x ∷ xs) ys id h there = by (x == id) refl (distinct-parts xs ys id h.1 there)
   where
-    by : (b : Bool) → (x == id) ≡ b → is_among id xs ≡ false → (b || is_among id xs) ≡ false
+    by : (b : Bool) → (x == id) ≡ b → is_id_among id xs ≡ false → (b || is_id_among id xs) ≡ false
     by true e rest =
-        let none : is_among id ys ≡ false = subst (λ n. is_among n ys ≡ false) (eqb-true x id e) (among-parts x xs ys h.0).1 in
-        absurd (both_ways (is_among id ys) none there)
+        let none : is_id_among id ys ≡ false = subst (λ n. is_id_among n ys ≡ false) (eqb-true x id e) (among-parts x xs ys h.0).1 in
+        absurd (both_ways (is_id_among id ys) none there)
     by false e rest = rest
 
 -- an id that is below the next one is not the next one
-pub none_drawn : (n : ℕ) (ids : List ℕ) → AllByRecursion (λ id. id < n) ids → is_among n ids ≡ false
+pub none_drawn : (n : ℕ) (ids : List ℕ) → AllByRecursion (λ id. id < n) ids → is_id_among n ids ≡ false
 none_drawn n ids h = none_among n ids (each-weaker _ _ ids (λ id l e. omega arith) h)
 
 -- ---- entries that are kept and entries that go

@@ -7,7 +7,7 @@ use Rattle.std.specs.List.Sorted.{IsPartitionPoint}
 use Rattle.std.proofs.Math.Bool.{and-false}
 use Rattle.fw_lemmas.proofs.Each.{each-weaker, each-at, each-append, each-kept}
 use Rattle.fw_keep.specs.declared.entry.Entry.{Entry}
-use Rattle.fw_keep.specs.Entry.{is_lost, is_withdrawn}
+use Rattle.fw_keep.specs.Entry.{is_in_flight_of, is_withdrawn}
 use Rattle.fw_keep.specs.Catalogue.{AreAcknowledged, AreInFlight, IsAcknowledgedUpTo, oldest, persisted}
 
 -- ---- the oldest one in flight
@@ -153,9 +153,9 @@ upto_point n es l parts = record {
 -- ---- what a failure and a withdrawal take out
 
 -- a failure takes out nothing that is acknowledged
-pub none_lost : (p : ℕ) (es : List Entry) → AreAcknowledged es → AllByRecursion (λ (e : Entry). is_lost p e ≡ false) es
+pub none_lost : (p : ℕ) (es : List Entry) → AreAcknowledged es → AllByRecursion (λ (e : Entry). is_in_flight_of p e ≡ false) es
 none_lost p es h =
-    each-weaker (λ (e : Entry). e.acknowledged ≡ true) (λ (e : Entry). is_lost p e ≡ false) es
+    each-weaker (λ (e : Entry). e.acknowledged ≡ true) (λ (e : Entry). is_in_flight_of p e ≡ false) es
     (λ e a. ap (λ b. (e.node == p) && not b) a ∙ and-false (e.node == p)) h
 
 first-at : (P : Entry → Type 0) (n : ℕ) (es : List Entry) (k : ℕ) (d : Entry) → k < n → k < length es → AllByRecursion P (take n es) → P (get_or es k d)

@@ -9,8 +9,8 @@ use Rattle.fw_keep.specs.declared.fault.KeepFault.{KeepFault}
 use Rattle.fw_keep.specs.declared.fault.KeepFault.TheVariants as fault
 use Rattle.fw_keep.specs.declared.keep.Keep.TheInside.{Inside}
 use Rattle.fw_keep.specs.Catalogue.{IsCatalogue, IsAcknowledgedUpTo, IsOnly}
-use Rattle.fw_keep.specs.Faults.{faults_after}
-use Rattle.fw_keep.specs.Inside.{state_of, IsSoundInside}
+use Rattle.fw_keep.specs.Faults.{keep_faults_after}
+use Rattle.fw_keep.specs.Inside.{keep_state_of, IsSoundInside}
 use Rattle.fw_keep.specs.Stored.{Records, Sweeps, ReadsAs, Fetches}
 use Rattle.fw_keep.proofs.InFlightLaws.{added}
 use Rattle.fw_keep.proofs.CatalogueLaws.{same-state, catalogue-drawn, catalogue-added, catalogue-swept}
@@ -19,8 +19,8 @@ use Rattle.fw_keep.proofs.CatalogueLaws.{same-state, catalogue-drawn, catalogue-
 pub sound-drawn : (old new : Inside) → IsSoundInside old → new.entries.items ≡ old.entries.items → new.waiting.items ≡ old.waiting.items
     → old.next ≤ new.next → new.persisted ≡ old.persisted → vec_len new.waiting + vec_len new.entries ≤ vec_capacity new.waiting → IsSoundInside new
 sound-drawn old new h entries waiting next persisted room = record {
-  catalogue = subst IsCatalogue (sym (same-state (state_of new) (record (state_of old) { next = new.next; refused = new.refused }) entries refl waiting refl))
-      (catalogue-drawn (state_of old) new.next new.refused next h.catalogue);
+  catalogue = subst IsCatalogue (sym (same-state (keep_state_of new) (record (keep_state_of old) { next = new.next; refused = new.refused }) entries refl waiting refl))
+      (catalogue-drawn (keep_state_of old) new.next new.refused next h.catalogue);
   persisted = subst (λ (es : List Entry). IsAcknowledgedUpTo new.persisted es) (sym entries) (subst (λ n. IsAcknowledgedUpTo n old.entries.items) (sym persisted) h.persisted);
   room = room;
 }
@@ -29,8 +29,8 @@ sound-drawn old new h entries waiting next persisted room = record {
 pub sound-added : (old new : Inside) (e : Entry) → e.id ≡ old.next → e.acknowledged ≡ false → IsSoundInside old → new.entries.items ≡ old.entries.items ++ e ∷ [] → new.waiting.items ≡ old.waiting.items
     → old.next < new.next → new.persisted ≡ old.persisted → new.refused ≡ old.refused → vec_len new.waiting + vec_len new.entries ≤ vec_capacity new.waiting → IsSoundInside new
 sound-added old new e same flying h entries waiting next persisted refused room = record {
-  catalogue = subst IsCatalogue (sym (same-state (state_of new) (record (state_of old) { entries = old.entries.items ++ e ∷ []; next = new.next }) entries refl waiting refused))
-      (catalogue-added (state_of old) e new.next same next h.catalogue);
+  catalogue = subst IsCatalogue (sym (same-state (keep_state_of new) (record (keep_state_of old) { entries = old.entries.items ++ e ∷ []; next = new.next }) entries refl waiting refused))
+      (catalogue-added (keep_state_of old) e new.next same next h.catalogue);
   persisted = subst (λ (es : List Entry). IsAcknowledgedUpTo new.persisted es) (sym entries) (subst (λ n. IsAcknowledgedUpTo n (old.entries.items ++ e ∷ [])) (sym persisted)
       (added old.persisted old.entries.items e flying h.persisted));
   room = room;
@@ -42,8 +42,8 @@ pub sound-swept : (old new : Inside) (before after : Option Records) → IsSound
 sound-swept old new before after h s entries next persisted capacity =
     let same : new.entries.items ≡ old.entries.items = ap (λ v. v.items) entries in
     record {
-      catalogue = subst IsCatalogue (sym (same-state (state_of new) (record (state_of old) { waiting = new.waiting.items; refused = new.refused }) same next refl refl))
-          (catalogue-swept (state_of old) new.waiting.items s.removed new.refused s.parts h.catalogue);
+      catalogue = subst IsCatalogue (sym (same-state (keep_state_of new) (record (keep_state_of old) { waiting = new.waiting.items; refused = new.refused }) same next refl refl))
+          (catalogue-swept (keep_state_of old) new.waiting.items s.removed new.refused s.parts h.catalogue);
       persisted = subst (λ (es : List Entry). IsAcknowledgedUpTo new.persisted es) (sym same) (subst (λ n. IsAcknowledgedUpTo n old.entries.items) (sym persisted) h.persisted);
       room = omega (arith, ap length s.parts, length-append new.waiting.items s.removed, new.waiting.ok.0, old.waiting.ok.0, ap (λ (es : List Entry). length es) same, new.entries.ok.0, old.entries.ok.0, capacity, h.room);
     }
@@ -64,7 +64,7 @@ fetched flow es id e bytes given result only g read other there named =
     subst (λ (x : Entry). Fetches flow x given result) (sym (only.only other there named)) (from_read flow e bytes given result (g ∙ ap (λ (n : ℕ). Some (n, bytes)) (sym only.named)) read)
 
 -- what bytes are read as leaves the count of a store's faults
-pub count-read : (flow : Dataflow) (e : Entry) (bytes : List ℕ) (result : Result Record KeepFault) (count : ℕ) → ReadsAs flow e bytes result → faults_after result count ≡ count
+pub count-read : (flow : Dataflow) (e : Entry) (bytes : List ℕ) (result : Result Record KeepFault) (count : ℕ) → ReadsAs flow e bytes result → keep_faults_after result count ≡ count
 count-read flow e bytes (Ok r) count read = refl
 count-read flow e bytes (Err (fault.Damaged at kept)) count read = refl
 count-read flow e bytes (Err fault.StoreFault) count read = absurd read

@@ -15,7 +15,7 @@ use Rattle.std.proofs.Math.Bool.{or-true}
 use Rattle.fw_lemmas.proofs.Each.{each-weaker, each-at, each-prefix, each-suffix}
 use Rattle.fw_lemmas.proofs.Orderings.{equal_by_cmp}
 use Rattle.fw_keep.specs.declared.entry.Entry.{Entry}
-use Rattle.fw_keep.specs.Catalogue.{KeepState, IsCatalogue, ids_of, is_among, has_entry, AreDistinct, persisted, without}
+use Rattle.fw_keep.specs.Catalogue.{KeepState, IsCatalogue, ids_of, is_id_among, has_entry, AreDistinct, persisted, without}
 use Rattle.fw_keep.specs.Stored.{Records, IsEmptyStore, is_held, IsStored, AreThere, without_ids, Sweeps}
 use Rattle.fw_keep.proofs.IdLaws.{ids-more, has_entry-parts, ids-persisted, none_drawn, each-among, among-self, distinct-parts, distinct-last}
 
@@ -50,14 +50,14 @@ stored-new keep all entries waiting none = λ held f id.
 -- what is stored depends on the entries and what waits alone
 pub stored-same : (a b : KeepState) (all : Option Records) → a.entries ≡ b.entries → a.waiting ≡ b.waiting → IsStored b all → IsStored a all
 stored-same a b all entries waiting h = λ held f id. h held f id
-    ∙ sym (ap (λ (es : List Entry). has_entry id es || is_among id a.waiting) entries ∙ ap (λ ids. has_entry id b.entries || is_among id ids) waiting)
+    ∙ sym (ap (λ (es : List Entry). has_entry id es || is_id_among id a.waiting) entries ∙ ap (λ ids. has_entry id b.entries || is_id_among id ids) waiting)
 
 -- ---- what is asked
 
-held-more : (keep : KeepState) (e : Entry) (id : ℕ) → ((e.id == id) || is_held keep id) ≡ (has_entry id (keep.entries ++ e ∷ []) || is_among id keep.waiting)
+held-more : (keep : KeepState) (e : Entry) (id : ℕ) → ((e.id == id) || is_held keep id) ≡ (has_entry id (keep.entries ++ e ∷ []) || is_id_among id keep.waiting)
 held-more keep e id =
-    rotate (e.id == id) (has_entry id keep.entries) (is_among id keep.waiting)
-    ∙ ap (λ b. b || is_among id keep.waiting) (sym (ap (is_among id) (ids-more keep.entries e) ∙ list_any-append _ (ids_of keep.entries) (e.id ∷ [])))
+    rotate (e.id == id) (has_entry id keep.entries) (is_id_among id keep.waiting)
+    ∙ ap (λ b. b || is_id_among id keep.waiting) (sym (ap (is_id_among id) (ids-more keep.entries e) ∙ list_any-append _ (ids_of keep.entries) (e.id ∷ [])))
   where
     rotate : (a b c : Bool) → (a || (b || c)) ≡ ((b || (a || false)) || c)
     rotate true true c = refl
@@ -70,7 +70,7 @@ pub stored-added : (keep : KeepState) (e : Entry) (bytes : List ℕ) (all : Opti
 stored-added keep e bytes None same h = λ held f id. absurd cc
 stored-added keep e bytes (Some first) same h = λ held f id.
     let is : records.insert first keep.next bytes ≡ held = cc in
-    subst (λ (m : Records). is_some (records.get m id) ≡ (has_entry id (keep.entries ++ e ∷ []) || is_among id keep.waiting)) is
+    subst (λ (m : Records). is_some (records.get m id) ≡ (has_entry id (keep.entries ++ e ∷ []) || is_id_among id keep.waiting)) is
     (there-insert first keep.next bytes id ∙ ap (λ b. (keep.next == id) || b) (h first refl id)
     ∙ ap (λ n. (n == id) || is_held keep id) (sym same) ∙ held-more keep e id)
 
@@ -82,12 +82,12 @@ stored-fresh keep all well h = λ held f. none_is (records.get held keep.next)
 -- ---- what is acknowledged, and what goes
 
 pub stored-persisted : (keep : KeepState) (all : Option Records) → IsStored keep all → IsStored (record keep { entries = persisted keep.entries }) all
-stored-persisted keep all h = λ held f id. h held f id ∙ ap (λ ids. is_among id ids || is_among id keep.waiting) (sym (ids-persisted keep.entries))
+stored-persisted keep all h = λ held f id. h held f id ∙ ap (λ ids. is_id_among id ids || is_id_among id keep.waiting) (sym (ids-persisted keep.entries))
 
 pub stored-without : (goes : Entry → Bool) (keep : KeepState) (all : Option Records) → IsStored keep all → IsStored (without goes keep) all
 stored-without goes keep all h = λ held f id. h held f id
-    ∙ ap (λ b. b || is_among id keep.waiting) (sym (has_entry-parts goes keep.entries id))
-    ∙ regroup (has_entry id (filter (λ e. not (goes e)) keep.entries)) (has_entry id (filter goes keep.entries)) (is_among id keep.waiting)
+    ∙ ap (λ b. b || is_id_among id keep.waiting) (sym (has_entry-parts goes keep.entries id))
+    ∙ regroup (has_entry id (filter (λ e. not (goes e)) keep.entries)) (has_entry id (filter goes keep.entries)) (is_id_among id keep.waiting)
     ∙ ap (λ b. has_entry id (filter (λ e. not (goes e)) keep.entries) || b) (sym (list_any-append _ keep.waiting (ids_of (filter goes keep.entries))))
   where
     regroup : (a b c : Bool) → ((a || b) || c) ≡ (a || (c || b))
@@ -111,10 +111,10 @@ stored-waiting keep all h = λ held f.
 
 -- ---- what is swept
 
-there-without_ids : (held : Records) (removed : List ℕ) (id : ℕ) → is_some (records.get (without_ids removed held) id) ≡ (not (is_among id removed) && is_some (records.get held id))
+there-without_ids : (held : Records) (removed : List ℕ) (id : ℕ) → is_some (records.get (without_ids removed held) id) ≡ (not (is_id_among id removed) && is_some (records.get held id))
 there-without_ids held [] id = refl
 there-without_ids held (x ∷ removed) id =
-    there-remove (without_ids removed held) x id ∙ ap (λ b. not (x == id) && b) (there-without_ids held removed id) ∙ both (x == id) (is_among id removed) (is_some (records.get held id))
+    there-remove (without_ids removed held) x id ∙ ap (λ b. not (x == id) && b) (there-without_ids held removed id) ∙ both (x == id) (is_id_among id removed) (is_some (records.get held id))
   where
     both : (a b c : Bool) → (not a && (not b && c)) ≡ (not (a || b) && c)
     both true b c = refl
@@ -137,9 +137,9 @@ stored-swept keep (Some first) rest new refused well h s = λ held f id.
     let is : without_ids s.removed first ≡ held = cc in
     let distinct : AreDistinct (rest ++ s.removed) = subst AreDistinct s.parts well.distinct in
     let apart : AllByRecursion (λ x. has_entry x keep.entries ≡ false) (rest ++ s.removed) = subst (AllByRecursion (λ x. has_entry x keep.entries ≡ false)) s.parts well.apart in
-    subst (λ (m : Records). is_some (records.get m id) ≡ (has_entry id keep.entries || is_among id rest)) is
-    (there-without_ids first s.removed id ∙ ap (λ b. not (is_among id s.removed) && b) (h first refl id ∙ ap (λ ids. has_entry id keep.entries || is_among id ids) s.parts ∙ ap (λ b. has_entry id keep.entries || b) (list_any-append _ rest s.removed))
-    ∙ left (is_among id s.removed) (has_entry id keep.entries) (is_among id rest)
+    subst (λ (m : Records). is_some (records.get m id) ≡ (has_entry id keep.entries || is_id_among id rest)) is
+    (there-without_ids first s.removed id ∙ ap (λ b. not (is_id_among id s.removed) && b) (h first refl id ∙ ap (λ ids. has_entry id keep.entries || is_id_among id ids) s.parts ∙ ap (λ b. has_entry id keep.entries || b) (list_any-append _ rest s.removed))
+    ∙ left (is_id_among id s.removed) (has_entry id keep.entries) (is_id_among id rest)
     (λ there. each-among _ s.removed id (each-suffix _ rest s.removed apart) there) (λ there. distinct-parts rest s.removed id distinct there))
 
 -- ---- how a sweep goes on

@@ -16,12 +16,12 @@ abbrev pub ids_of : List Entry → List ℕ
 ids_of es = map (λ (e : Entry). e.id) es
 
 -- whether an id is one of these
-abbrev pub is_among : ℕ → List ℕ → Bool
-is_among id ids = list_any (λ (other : ℕ). other == id) ids
+abbrev pub is_id_among : ℕ → List ℕ → Bool
+is_id_among id ids = list_any (λ (other : ℕ). other == id) ids
 
 -- whether an entry has the id
 abbrev pub has_entry : ℕ → List Entry → Bool
-has_entry id es = is_among id (ids_of es)
+has_entry id es = is_id_among id (ids_of es)
 
 -- each id is below those after it
 abbrev pub AreAscending : List ℕ → Type 0
@@ -31,7 +31,7 @@ AreAscending (id ∷ ids) = AllByRecursion (λ later. id < later) ids × AreAsce
 -- no id is there twice
 abbrev pub AreDistinct : List ℕ → Type 0
 AreDistinct [] = Unit {0}
-AreDistinct (id ∷ ids) = (is_among id ids ≡ false) × AreDistinct ids
+AreDistinct (id ∷ ids) = (is_id_among id ids ≡ false) × AreDistinct ids
 
 -- It is the state of a catalogue: the ids of its entries ascend; those that wait are others, each once; and all of them were
 -- drawn before the next one.

@@ -18,9 +18,9 @@ use Rattle.fw_keep.specs.declared.entry.Written.TheVariants as written
 -- ---- what an entry has of a record
 
 -- the node of a record
-abbrev pub node_of : Record → ℕ
-node_of (tagged.State c) = c.node
-node_of (tagged.Event node event) = node
+abbrev pub node_of_record : Record → ℕ
+node_of_record (tagged.State c) = c.node
+node_of_record (tagged.Event node event) = node
 
 -- what is written by a record, with these stamps of the node's events where it is a checkpoint
 abbrev pub written_of : Record → Stamps → Written
@@ -30,7 +30,7 @@ written_of (tagged.Event node event) stamps = written.Event event
 -- the entry of a record under an id, in flight
 abbrev pub asked : ℕ → Record → Stamps → Entry
 asked id r stamps =
-    record { id = id; node = node_of r; written = written_of r stamps; acknowledged = false }
+    record { id = id; node = node_of_record r; written = written_of r stamps; acknowledged = false }
 
 -- this is recorded in it: a frontier, and what stands for the events inside
 abbrev pub HasRecorded : Recorded → Record → Type 0
@@ -47,8 +47,8 @@ abbrev pub IsRecordAs : Dataflow → ℕ → Written → Record → Type 0
 IsRecordAs flow p (written.Checkpoint recorded stamps sent) r = IsRecordWith flow p recorded r
 IsRecordAs flow p (written.Event event) r = IsRecordOfEvent p event r
 
-abbrev pub IsRecordOf : Dataflow → Entry → Record → Type 0
-IsRecordOf flow e r = IsRecordAs flow e.node e.written r
+abbrev pub IsRecordOfEntry : Dataflow → Entry → Record → Type 0
+IsRecordOfEntry flow e r = IsRecordAs flow e.node e.written r
 
 -- ---- which entries a call speaks of
 
@@ -58,9 +58,9 @@ lies_within f (written.Checkpoint recorded stamps sent) = is_within recorded.fro
 lies_within f (written.Event event) = inside f (stamp_of_event event)
 
 -- whether it is a checkpoint strictly within a frontier
-abbrev pub lies_below : Front → Written → Bool
-lies_below f (written.Checkpoint recorded stamps sent) = is_within recorded.front f && not (is_within f recorded.front)
-lies_below f (written.Event event) = false
+abbrev pub is_checkpoint_below : Front → Written → Bool
+is_checkpoint_below f (written.Checkpoint recorded stamps sent) = is_within recorded.front f && not (is_within f recorded.front)
+is_checkpoint_below f (written.Event event) = false
 
 -- whether what is written does not lie within the cut
 abbrev pub is_beyond : Cut → Entry → Bool
@@ -73,8 +73,8 @@ is_event_at t (written.Checkpoint recorded stamps sent) = false
 is_event_at t (written.Event event) = same (stamp_of_event event) t
 
 -- the node's entries in flight
-abbrev pub is_lost : ℕ → Entry → Bool
-is_lost p e = (e.node == p) && not e.acknowledged
+abbrev pub is_in_flight_of : ℕ → Entry → Bool
+is_in_flight_of p e = (e.node == p) && not e.acknowledged
 
 -- the entries in flight from an id on
 abbrev pub is_withdrawn : ℕ → Entry → Bool
@@ -85,8 +85,8 @@ abbrev pub is_above : ℕ → Front → Entry → Bool
 is_above p f e = (e.node == p) && not (lies_within f e.written)
 
 -- the node's checkpoints strictly within a frontier
-abbrev pub is_below : ℕ → Front → Entry → Bool
-is_below p f e = (e.node == p) && lies_below f e.written
+abbrev pub is_entry_below : ℕ → Front → Entry → Bool
+is_entry_below p f e = (e.node == p) && is_checkpoint_below f e.written
 
 -- the node's events at a stamp
 abbrev pub is_at : ℕ → Stamp → Entry → Bool

@@ -5,8 +5,8 @@ use Rattle.fw_keep.specs.declared.fault.KeepFault.{KeepFault}
 use Rattle.fw_keep.specs.declared.fault.KeepFault.TheVariants as fault
 
 -- how often a store has failed after a call that answered so: once more where it failed, and else as often as before
-abbrev pub faults_after : {T : Type 0} → Result T KeepFault → ℕ → ℕ
-faults_after (Ok x) count = count
-faults_after (Err fault.StoreFault) count = one_more count
-faults_after (Err (fault.Damaged id bytes)) count = count
-faults_after (Err fault.NoMemory) count = count
+abbrev pub keep_faults_after : {T : Type 0} → Result T KeepFault → ℕ → ℕ
+keep_faults_after (Ok x) count = count
+keep_faults_after (Err fault.StoreFault) count = one_more count
+keep_faults_after (Err (fault.Damaged id bytes)) count = count
+keep_faults_after (Err fault.NoMemory) count = count

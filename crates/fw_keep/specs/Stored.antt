@@ -11,8 +11,8 @@ use Rattle.fw_record.specs.Spelling.{spelling}
 use Rattle.fw_keep.specs.declared.entry.Entry.{Entry}
 use Rattle.fw_keep.specs.declared.fault.KeepFault.{KeepFault}
 use Rattle.fw_keep.specs.declared.fault.KeepFault.TheVariants as fault
-use Rattle.fw_keep.specs.Entry.{IsRecordOf}
-use Rattle.fw_keep.specs.Catalogue.{KeepState, has_entry, is_among}
+use Rattle.fw_keep.specs.Entry.{IsRecordOfEntry}
+use Rattle.fw_keep.specs.Catalogue.{KeepState, has_entry, is_id_among}
 
 -- the bytes of each id
 abbrev pub Records : Type 0
@@ -20,7 +20,7 @@ Records = map.FinMap nat_cmp (List ℕ)
 
 -- whether an entry has the id, or it waits
 abbrev pub is_held : KeepState → ℕ → Bool
-is_held keep id = has_entry id keep.entries || is_among id keep.waiting
+is_held keep id = has_entry id keep.entries || is_id_among id keep.waiting
 
 -- the store holds nothing, where it tells its records
 abbrev pub IsEmptyStore : Option Records → Type 0
@@ -42,7 +42,7 @@ KeepsBytes entries old new = (e : Entry) → Contains entries e → bytes_under 
 -- under the entry's id.
 pub record HoldsAs (flow : Dataflow) (records : Option Records) (e : Entry) (r : Record) : Type 0 where
   pub sound : IsSound r
-  pub of_entry : IsRecordOf flow e r
+  pub of_entry : IsRecordOfEntry flow e r
   pub bytes : bytes_under e.id records ≡ Some (spelling r)
 
 -- the records without those under the ids
@@ -58,11 +58,11 @@ pub record Sweeps (waiting : List ℕ) (old : Option Records) (left : List ℕ) 
 
 -- the bytes spell no record that can be that of the entry
 abbrev pub SpellsNone : Dataflow → Entry → List ℕ → Type 0
-SpellsNone flow e bytes = (r : Record) → IsSound r → bytes ≡ spelling r → IsRecordOf flow e r → ⊥
+SpellsNone flow e bytes = (r : Record) → IsSound r → bytes ≡ spelling r → IsRecordOfEntry flow e r → ⊥
 
 -- What fetching the record of an entry answered, of the bytes that the store gave: Ok and `Damaged` come by reading these.
 abbrev pub Fetches : Dataflow → Entry → Option (ℕ × List ℕ) → Result Record KeepFault → Type 0
-Fetches flow e given (Ok r) = (given ≡ Some (e.id, spelling r)) × IsSound r × IsRecordOf flow e r
+Fetches flow e given (Ok r) = (given ≡ Some (e.id, spelling r)) × IsSound r × IsRecordOfEntry flow e r
 Fetches flow e given (Err (fault.Damaged at bytes)) =
     (at ≡ e.id) × (given ≡ Some (e.id, bytes.items)) × SpellsNone flow e bytes.items
 Fetches flow e given (Err fault.StoreFault) = Unit {0}
@@ -83,11 +83,11 @@ GivesOnly r (Err fault.StoreFault) = Unit {0}
 GivesOnly r (Err fault.NoMemory) = Unit {0}
 
 -- the call does not answer that a record is damaged
-abbrev pub IsUndamaged : {T : Type 0} → Result T KeepFault → Type 0
-IsUndamaged (Ok x) = Unit {0}
-IsUndamaged (Err (fault.Damaged at bytes)) = ⊥
-IsUndamaged (Err fault.StoreFault) = Unit {0}
-IsUndamaged (Err fault.NoMemory) = Unit {0}
+abbrev pub GivesNoDamage : {T : Type 0} → Result T KeepFault → Type 0
+GivesNoDamage (Ok x) = Unit {0}
+GivesNoDamage (Err (fault.Damaged at bytes)) = ⊥
+GivesNoDamage (Err fault.StoreFault) = Unit {0}
+GivesNoDamage (Err fault.NoMemory) = Unit {0}
 
 -- ---- for the proofs
 
@@ -97,7 +97,7 @@ AreThere ids records = ForSome records (λ held. AllByRecursion (λ id. IsSome (
 
 -- What reading bytes answered for an entry: the record that they spell, which can be the entry's, or that they spell none.
 abbrev pub ReadsAs : Dataflow → Entry → List ℕ → Result Record KeepFault → Type 0
-ReadsAs flow e bytes (Ok r) = IsSound r × (bytes ≡ spelling r) × IsRecordOf flow e r
+ReadsAs flow e bytes (Ok r) = IsSound r × (bytes ≡ spelling r) × IsRecordOfEntry flow e r
 ReadsAs flow e bytes (Err (fault.Damaged at kept)) = (at ≡ e.id) × (kept.items ≡ bytes) × SpellsNone flow e bytes
 ReadsAs flow e bytes (Err fault.StoreFault) = ⊥
 ReadsAs flow e bytes (Err fault.NoMemory) = Unit {0}

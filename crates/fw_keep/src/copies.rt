@@ -1,6 +1,6 @@
 //! What an entry takes of a record.
 ghost use Rattle.std.specs.Prelude.{◌≡◌, IfOk};
-ghost use Rattle.fw_keep.specs.Entry.{written_of, node_of};
+ghost use Rattle.fw_keep.specs.Entry.{written_of, node_of_record};
 
 use crate::Written;
 use fw_flow::{NodeId, Stamps};
@@ -9,7 +9,7 @@ use std::alloc::AllocError;
 
 /// The node of a record.
 pub(crate) fn node_of(what: &Record) -> NodeId
-    ensures { result ≡ node_of what.now }
+    ensures { result ≡ node_of_record what.now }
 {
     match what {
         Record::State(checkpoint) => checkpoint.node,

@@ -1,6 +1,6 @@
 //! The writes of a catalogue.
 ghost use Rattle.std.specs.Prelude.{◌≡◌, ◌↔◌, [], IsTrue};
-ghost use Rattle.fw_keep.specs.Entry.{lies_within, lies_below, is_event_at, IsRecordOf};
+ghost use Rattle.fw_keep.specs.Entry.{lies_within, is_checkpoint_below, is_event_at, IsRecordOfEntry};
 
 use crate::same::has_recorded;
 use fw_flow::{CountedMessages, Flow, NodeId, Notices, Recorded, Stamps};
@@ -51,7 +51,7 @@ impl Entry {
     /// Whether the record can be that of the entry: of a checkpoint of its node (`Record::is_checkpoint_of`) in which the same
     /// is recorded, or of its event.
     pub fn has_record(&self, flow: &Flow, what: &Record) -> bool
-        ensures { IsTrue result ↔ IsRecordOf flow.now self.now what.now }
+        ensures { IsTrue result ↔ IsRecordOfEntry flow.now self.now what.now }
     {
         match &self.written {
             Written::Checkpoint { recorded, .. } => {
@@ -76,7 +76,7 @@ impl Written {
 
     /// Whether it is a checkpoint strictly within a frontier.
     pub fn lies_below(&self, front: &Front) -> bool
-        ensures { result ≡ lies_below front.now self.now }
+        ensures { result ≡ is_checkpoint_below front.now self.now }
     {
         match self {
             Written::Checkpoint { recorded, .. } => {

@@ -4,7 +4,7 @@ ghost use Rattle.std.specs.List.{AllByRecursion};
 ghost use Rattle.std.specs.Vec.{vec_capacity};
 ghost use Rattle.fw_keep.specs.declared.entry.Entry.{Entry as Write};
 ghost use Rattle.fw_keep.specs.Catalogue.{AreAscending, ids_of};
-ghost use Rattle.fw_keep.specs.Entry.{is_lost, is_withdrawn, is_above, is_below, is_at};
+ghost use Rattle.fw_keep.specs.Entry.{is_in_flight_of, is_withdrawn, is_above, is_entry_below, is_at};
 
 use crate::Entry;
 use fw_flow::NodeId;
@@ -28,7 +28,7 @@ pub(crate) struct Lost {
 }
 
 impl Going for Lost {
-    ghost goes = { λ going e. is_lost going.node e };
+    ghost goes = { λ going e. is_in_flight_of going.node e };
 
     fn takes(&self, entry: &Entry) -> bool {
         entry.node == self.node && !entry.acknowledged
@@ -72,7 +72,7 @@ pub(crate) struct Below<'a> {
 }
 
 impl Going for Below<'_> {
-    ghost goes = { λ going e. is_below going.node going.front.now e };
+    ghost goes = { λ going e. is_entry_below going.node going.front.now e };
 
     fn takes(&self, entry: &Entry) -> bool {
         entry.node == self.node && entry.written.lies_below(self.front)

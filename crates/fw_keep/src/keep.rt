@@ -1,13 +1,13 @@
 //! The catalogue.
 ghost use Rattle.std.specs.Prelude.{◌≡◌, ◌↔◌, ◌+◌, ◌^◌, ◌<◌, ◌++◌, [], ◌∷◌, Option, true, false, IsTrue, IsErrOf, IfOk, OnOk, OnErr, option_map, Contains};
 ghost use Rattle.std.specs.FinMap as map;
-ghost use Rattle.fw_keep.specs.Faults.{faults_after};
+ghost use Rattle.fw_keep.specs.Faults.{keep_faults_after};
 ghost use Rattle.fw_record.specs.Spelling.{spelling, FitsItsCounts};
 ghost use Rattle.fw_record.specs.declared.record.Record.{Record as Spelled};
 ghost use Rattle.fw_keep.specs.declared.entry.Entry.{Entry as Write};
-ghost use Rattle.fw_keep.specs.Entry.{asked, is_lost, is_withdrawn, is_above, is_below, is_at};
+ghost use Rattle.fw_keep.specs.Entry.{asked, is_in_flight_of, is_withdrawn, is_above, is_entry_below, is_at};
 ghost use Rattle.fw_keep.specs.Catalogue.{IsCatalogue, has_entry, oldest, persisted, without};
-ghost use Rattle.fw_keep.specs.Stored.{Records, IsEmptyStore, IsStored, Sweeps, Fetches, IsToldUnder, IsUndamaged, KeepsBytes, HoldsAs, GivesOnly};
+ghost use Rattle.fw_keep.specs.Stored.{Records, IsEmptyStore, IsStored, Sweeps, Fetches, IsToldUnder, GivesNoDamage, KeepsBytes, HoldsAs, GivesOnly};
 
 use crate::fetch::{entry_at, read};
 use crate::going::{Above, Below, EventsAt, Going, Lost, Withdrawn, first_from, take_out};
@@ -44,9 +44,9 @@ impl Model for Keep {
 
     ghost Value = { KeepState };
 
-    ghost use Rattle.fw_keep.specs.Inside.{state_of, IsSoundInside};
+    ghost use Rattle.fw_keep.specs.Inside.{keep_state_of, IsSoundInside};
 
-    ghost view = { state_of };
+    ghost view = { keep_state_of };
 
     ghost invariant = { IsSoundInside };
 }
@@ -127,8 +127,8 @@ impl Keep {
         ensures stored { IsStored self.new (K.view store.new).records }
         ensures given { (K.view store.new).given ≡ (K.view store.old).given }
 
-        ensures faults { (K.view store.new).faults ≡ faults_after result (K.view store.old).faults }
-        ensures undamaged { IsUndamaged result }
+        ensures faults { (K.view store.new).faults ≡ keep_faults_after result (K.view store.old).faults }
+        ensures undamaged { GivesNoDamage result }
         ensures refused { IsTrue self.new.refused ↔ IsErrOf result KeepFault.NoMemory }
         ensures refused_stays { IsTrue self.old.refused → IsErrOf result KeepFault.NoMemory }
     {
@@ -167,7 +167,7 @@ impl Keep {
 
     /// Takes the node's writes in flight out. It takes no memory, and looks at what is in flight alone.
     pub fn lose(&mut self, node: NodeId)
-        ensures gone { self.new ≡ without (is_lost node) self.old }
+        ensures gone { self.new ≡ without (is_in_flight_of node) self.old }
         ensures stored { (records : Option Records) → IsStored self.old records → IsStored self.new records }
     {
         let going = Lost { node };
@@ -195,7 +195,7 @@ impl Keep {
 
     /// Takes the node's checkpoints out that lie strictly within the frontier. It takes no memory.
     pub fn forget_below(&mut self, node: NodeId, front: &Front)
-        ensures gone { self.new ≡ without (is_below node front.now) self.old }
+        ensures gone { self.new ≡ without (is_entry_below node front.now) self.old }
         ensures stored { (records : Option Records) → IsStored self.old records → IsStored self.new records }
     {
         self.forget(&Below { node, front });
@@ -235,7 +235,7 @@ impl Keep {
             → HoldsAs flow.now (K.view store.old).records entry what → GivesOnly what result }
         ensures stays { (K.view store.new).records ≡ (K.view store.old).records }
         ensures given_stays { IsErrOf result KeepFault.StoreFault → (K.view store.new).given ≡ (K.view store.old).given }
-        ensures faults { (K.view store.new).faults ≡ faults_after result (K.view store.old).faults }
+        ensures faults { (K.view store.new).faults ≡ keep_faults_after result (K.view store.old).faults }
         ensures refused { IsTrue self.now.refused → IsErrOf result KeepFault.NoMemory }
     {
         if self.refused {
@@ -267,8 +267,8 @@ impl Keep {
         ensures drawn { self.new.next ≡ self.old.next }
         ensures stored { IsStored self.new (K.view store.new).records }
         ensures given { (K.view store.new).given ≡ (K.view store.old).given }
-        ensures faults { (K.view store.new).faults ≡ faults_after result (K.view store.old).faults }
-        ensures undamaged { IsUndamaged result }
+        ensures faults { (K.view store.new).faults ≡ keep_faults_after result (K.view store.old).faults }
+        ensures undamaged { GivesNoDamage result }
         ensures refused { IsTrue self.new.refused ↔ IsErrOf result KeepFault.NoMemory }
         ensures refused_stays { IsTrue self.old.refused → IsErrOf result KeepFault.NoMemory }
     {

@@ -1,7 +1,7 @@
 //! The first of equal recs at each time.
 ghost use Rattle.std.specs.Prelude.{◌≡◌, not, ℕ, List, Bool, [], ◌∷◌, IfOk, OnOk, OnErr, IsTrue, IsErr, true, false, if◌then◌else◌};
 ghost use Rattle.fw_bag.specs.declared.rec.Rec.{Rec};
-ghost use Rattle.fw_bag.specs.Arrivals.{Arrival, arrivals_inside, arrival, recs_at};
+ghost use Rattle.fw_bag.specs.Arrivals.{Arrival, arrivals_inside, arrival, recs_arrived_at};
 ghost use Rattle.fw_bag.specs.Keyed.{is_among};
 ghost use Rattle.fw_keyed.specs.Seen.{HasSeen};
 ghost use Rattle.fw_keyed.specs.Tables.{IsDistinct};
@@ -69,7 +69,7 @@ impl<T: Logical> Distinct<T> {
     // Whether the rec came at the time.
     fn has(&self, t: &T, rec: Rec) -> bool
         ensures { (came : List Arrival) → IsDistinct T.cmp T.coords self.now came
-            → result ≡ is_among rec (recs_at (T.coords t.now) came) }
+            → result ≡ is_among rec (recs_arrived_at (T.coords t.now) came) }
     {
         match self.seen.get(t) {
             Some(seen) => seen.recs.contains(&rec),
@@ -86,7 +86,7 @@ impl<T: Logical> Distinct<T> {
         ensures sent { (came : List Arrival) → IsDistinct T.cmp T.coords self.old came
             → IfOk result (λ sent. sent ≡ record {
               at = t;
-              recs = if is_among rec (recs_at (T.coords t) came) then [] else rec ∷ [];
+              recs = if is_among rec (recs_arrived_at (T.coords t) came) then [] else rec ∷ [];
             }) }
         ensures err { (came : List Arrival) → IsDistinct T.cmp T.coords self.old came
             → OnErr result (IsDistinct T.cmp T.coords self.new came) }

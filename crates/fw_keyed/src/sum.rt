@@ -1,6 +1,6 @@
 //! The sums of the values of each key at each time.
 ghost use Rattle.std.specs.Prelude.{◌≡◌, not, ℕ, List, Bool, [], ◌∷◌, IfOk, OnOk, OnErr, IsTrue, IsErr, true, false};
-ghost use Rattle.fw_bag.specs.Arrivals.{Arrival, arrivals_inside, arrival, recs_at};
+ghost use Rattle.fw_bag.specs.Arrivals.{Arrival, arrivals_inside, arrival, recs_arrived_at};
 ghost use Rattle.fw_table.specs.Sums.{sums_by_key};
 ghost use Rattle.fw_keyed.specs.Tables.{IsSum};
 
@@ -57,7 +57,7 @@ impl<T: Logical> Sum<T> {
     // What a notification sends.
     fn sums_at(&self, t: &T) -> Result<SentRecs, AllocError>
         ensures { (came : List Arrival) → IsSum T.cmp T.coords self.now came
-            → IfOk result (λ recs. recs ≡ sums_by_key (recs_at (T.coords t.now) came)) }
+            → IfOk result (λ recs. recs ≡ sums_by_key (recs_arrived_at (T.coords t.now) came)) }
     {
         match self.sums.get(t) {
             Some(sums) => sums.recs(self.alloc),
@@ -71,7 +71,7 @@ impl<T: Logical> Sum<T> {
     pub fn on_notify(&mut self, t: T) -> Result<Sent<T>, AllocError>
         ensures stands { (came : List Arrival) → IsSum T.cmp T.coords self.old came → IsSum T.cmp T.coords self.new came }
         ensures sent { (came : List Arrival) → IsSum T.cmp T.coords self.old came
-            → IfOk result (λ sent. sent ≡ record { at = t; recs = sums_by_key (recs_at (T.coords t) came) }) }
+            → IfOk result (λ sent. sent ≡ record { at = t; recs = sums_by_key (recs_arrived_at (T.coords t) came) }) }
         ensures live { OnOk result (self.new.refused ≡ false) }
         ensures refused { OnErr result (self.new.refused ≡ true) }
         ensures stays { IsTrue self.old.refused → IsErr result }

@@ -8,18 +8,18 @@ use Rattle.std.specs.declared.vec.Vec.{Vec}
 use Rattle.fw_bag.proofs.BagLaws.{AllByRecursion-with_rec, IsAscending-with_rec}
 use Rattle.fw_bag.specs.Bag.{BagState, with_rec}
 use Rattle.fw_bag.specs.declared.rec.Rec.{Rec}
-use Rattle.fw_lines.specs.Batches.{batches_at, batches_of_entries, recs_of, AddsBatch, KeepsBatches, AreBatches, IsBatch, IsRec}
+use Rattle.fw_lines.specs.Batches.{batches_at, batches_of_entries, recs_of_bags, AddsBatch, KeepsBatches, AreBatches, IsBatch, IsRec}
 
 -- the recs of the bags that are found
 abbrev pub recs_found : Option (Vec BagState Global) → List (List Rec)
 recs_found None = []
-recs_found (Some bags) = recs_of bags.items
+recs_found (Some bags) = recs_of_bags bags.items
 
-found_cond : (b : Bool) (v : Vec BagState Global) (o : Option (Vec BagState Global)) → recs_found (cond b (Some v) o) ≡ cond b (recs_of v.items) (recs_found o)
+found_cond : (b : Bool) (v : Vec BagState Global) (o : Option (Vec BagState Global)) → recs_found (cond b (Some v) o) ≡ cond b (recs_of_bags v.items) (recs_found o)
 found_cond true v o = refl
 found_cond false v o = refl
 
-at_cond : (b : Bool) (v : Vec BagState Global) (bags : Option (List (List Rec))) (o : Option (Vec BagState Global)) → unwrap_or bags [] ≡ recs_found o → unwrap_or (cond b (Some (recs_of v.items)) bags) [] ≡ recs_found (cond b (Some v) o)
+at_cond : (b : Bool) (v : Vec BagState Global) (bags : Option (List (List Rec))) (o : Option (Vec BagState Global)) → unwrap_or bags [] ≡ recs_found o → unwrap_or (cond b (Some (recs_of_bags v.items)) bags) [] ≡ recs_found (cond b (Some v) o)
 at_cond true v bags o e = refl
 at_cond false v bags o e = e
 
@@ -37,16 +37,16 @@ cond_both true z = refl
 cond_both false z = refl
 
 updated : (es fs : List (ℕ × Vec BagState Global)) (node : ℕ) (bags : Vec BagState Global) → ((q : ℕ) → lookup (nat_eq q) fs ≡ cond (nat_eq node q) (Some bags) (lookup (nat_eq q) es))
-    → (other : ℕ) → batches_at (batches_of_entries fs) other ≡ cond (node == other) (recs_of bags.items) (batches_at (batches_of_entries es) other)
+    → (other : ℕ) → batches_at (batches_of_entries fs) other ≡ cond (node == other) (recs_of_bags bags.items) (batches_at (batches_of_entries es) other)
 updated es fs node bags h other =
     batches_at-entries fs other
     ∙ ap recs_found (h other)
     ∙ found_cond (node == other) bags (lookup (nat_eq other) es)
-    ∙ ap (cond (node == other) (recs_of bags.items)) (sym (batches_at-entries es other))
+    ∙ ap (cond (node == other) (recs_of_bags bags.items)) (sym (batches_at-entries es other))
 
 -- where a node's bags have one more, so have its batches
 pub pushed : (es fs : List (ℕ × Vec BagState Global)) (node : ℕ) (bags : Vec BagState Global) (bag : BagState) → ((q : ℕ) → lookup (nat_eq q) fs ≡ cond (nat_eq node q) (Some bags) (lookup (nat_eq q) es))
-    → recs_of bags.items ≡ recs_found (lookup (nat_eq node) es) ++ bag.recs ∷ []
+    → recs_of_bags bags.items ≡ recs_found (lookup (nat_eq node) es) ++ bag.recs ∷ []
     → (other : ℕ) → batches_at (batches_of_entries fs) other ≡ cond (node == other) (batches_at (batches_of_entries es) other ++ bag.recs ∷ []) (batches_at (batches_of_entries es) other)
 pushed es fs node bags bag h e other =
     updated es fs node bags h other
@@ -55,7 +55,7 @@ pushed es fs node bags bag h e other =
 
 -- where a node's bags are as they were, so are all batches
 pub kept : (es fs : List (ℕ × Vec BagState Global)) (node : ℕ) (bags : Vec BagState Global) → ((q : ℕ) → lookup (nat_eq q) fs ≡ cond (nat_eq node q) (Some bags) (lookup (nat_eq q) es))
-    → recs_of bags.items ≡ recs_found (lookup (nat_eq node) es)
+    → recs_of_bags bags.items ≡ recs_found (lookup (nat_eq node) es)
     → (other : ℕ) → batches_at (batches_of_entries fs) other ≡ batches_at (batches_of_entries es) other
 kept es fs node bags h e other =
     updated es fs node bags h other
@@ -64,8 +64,8 @@ kept es fs node bags h e other =
     ∙ cond_both (node == other) (batches_at (batches_of_entries es) other)
 
 -- the recs of bags, of which the last is this one
-pub recs_of-push : (bags new : List BagState) (bag : BagState) (o : Option (Vec BagState Global)) → new ≡ bags ++ bag ∷ [] → recs_of bags ≡ recs_found o → recs_of new ≡ recs_found o ++ bag.recs ∷ []
-recs_of-push bags new bag o e h = ap recs_of e ∙ map-append (λ (b : BagState). b.recs) bags (bag ∷ []) ∙ ap (λ x. x ++ bag.recs ∷ []) h
+pub recs_of-push : (bags new : List BagState) (bag : BagState) (o : Option (Vec BagState Global)) → new ≡ bags ++ bag ∷ [] → recs_of_bags bags ≡ recs_found o → recs_of_bags new ≡ recs_found o ++ bag.recs ∷ []
+recs_of-push bags new bag o e h = ap recs_of_bags e ∙ map-append (λ (b : BagState). b.recs) bags (bag ∷ []) ∙ ap (λ x. x ++ bag.recs ∷ []) h
 
 pub some_found : {X : Type 0} (x : X) (o : Option X) → Some x ≡ o → IsSome o
 some_found x None e = absurd (cc)

@@ -6,7 +6,7 @@ use Rattle.fw_lines.specs.declared.fault.ReadFault.{ReadFault}
 use Rattle.fw_lines.specs.declared.fault.ReadFault.TheVariants.{Refused, NoMemory}
 use Rattle.fw_lines.specs.declared.refusal.Code.{Code}
 use Rattle.fw_lines.specs.declared.refusal.Refusal.{Refusal}
-use Rattle.fw_lines.specs.Faults.{BreakNoRule, IsFirstFault, IfRefused, Rules, IsSound, IsFirstRefusal}
+use Rattle.fw_lines.specs.Faults.{BreakNoRule, IsFirstFault, IfRefused, Rules, BreaksNone, IsFirstRefusal}
 use Rattle.fw_lines.specs.Lines.{Said, said_lines}
 
 -- ---- rules under which each text has exactly one answer
@@ -157,7 +157,7 @@ sound_or_some breaks lines exact = first_left breaks lines [] lines exact (none_
 -- ---- whole texts
 
 -- a sound text has no first refusal
-pub sound_or_refused : (rules : Rules) (text : List ℕ) (refusal : Refusal) → IsSound rules text → IsFirstRefusal rules text refusal → ⊥
+pub sound_or_refused : (rules : Rules) (text : List ℕ) (refusal : Refusal) → BreaksNone rules text → IsFirstRefusal rules text refusal → ⊥
 sound_or_refused rules text refusal sound (inl large) = absurd (omega (arith, sound.size, large.0))
 sound_or_refused rules text refusal sound (inr first) = sound_or_first rules.breaks (said_lines text) refusal sound.lines first.1
 
@@ -169,7 +169,7 @@ one_first_refusal rules text r s exact (inr a) (inl b) = absurd (omega (arith, a
 one_first_refusal rules text r s exact (inr a) (inr b) = one_first rules.breaks (said_lines text) r s exact a.1 b.1
 
 -- a text is sound, or has a first refusal
-pub sound_or_some_refusal : (rules : Rules) (text : List ℕ) → AreExact rules.breaks → IsSound rules text ⊎ ((refusal : Refusal) × IsFirstRefusal rules text refusal)
+pub sound_or_some_refusal : (rules : Rules) (text : List ℕ) → AreExact rules.breaks → BreaksNone rules text ⊎ ((refusal : Refusal) × IsFirstRefusal rules text refusal)
 sound_or_some_refusal rules text exact = elim (cases_lt rules.most (length text)) [
   | inl large ↦ inr (record { code = rules.too_long; line = 0 }, inl (large, refl))
   | inr small ↦ elim (sound_or_some rules.breaks (said_lines text) exact) [

@@ -18,7 +18,7 @@ use Rattle.fw_lines.specs.declared.refusal.Code.{Code}
 use Rattle.fw_lines.specs.declared.refusal.Code.TheVariants.{I1, I4, I5}
 use Rattle.fw_lines.specs.Batches.{batches_at, IsRec, IsBatch, AreBatchesOf}
 use Rattle.fw_lines.specs.Faults.{BreakNoRule}
-use Rattle.fw_lines.specs.Inputs.{is_colon, record_of, record_from, spelled_rec, batch_of, batches_of, is_batch_of, is_batch_of_words, form_fault, value_fault, number_fault, count_fault, fault_of, count_of, line_fault}
+use Rattle.fw_lines.specs.Inputs.{is_colon, record_said, record_from, spelled_rec, batch_of, batches_said_of, is_batch_of, is_batch_of_words, form_fault, value_fault, number_fault, count_fault, inputs_line_fault, count_of, inputs_fault}
 use Rattle.fw_lines.specs.Lines.{Said, is_allowed}
 use Rattle.fw_lines.specs.Sources.{node_named, is_source}
 use Rattle.fw_lines.specs.Spelling.{number_of, is_numeral}
@@ -50,8 +50,8 @@ small_record TooLarge TooLarge a b = tt
 small_record TooLarge NotANumber a b = tt
 small_record NotANumber value a b = tt
 
-spelled_small : (word : List ℕ) → IfSome (spelled_rec (record_of word)) IsRec
-unfolding record_of
+spelled_small : (word : List ℕ) → IfSome (spelled_rec (record_said word)) IsRec
+unfolding record_said
 spelled_small word =
     by (list_any is_colon word) (record_from (number_of (before_first is_colon word)) (number_of (after_first is_colon word))) (cond (list_all is_allowed word) I4 I1)
     (small_record (number_of (before_first is_colon word)) (number_of (after_first is_colon word)) (small_number (before_first is_colon word)) (small_number (after_first is_colon word)))
@@ -64,15 +64,15 @@ recs_more : (rec : Option Rec) (recs : List Rec) → IfSome rec IsRec → AllByR
 recs_more None recs r a = a
 recs_more (Some rec) recs r a = AllByRecursion-with_rec IsRec rec (bag_sum recs []) r a
 
-each_rec : (words : List (List ℕ)) → AllByRecursion IsRec (bag_sum (filter_map (λ word. spelled_rec (record_of word)) words) [])
+each_rec : (words : List (List ℕ)) → AllByRecursion IsRec (bag_sum (filter_map (λ word. spelled_rec (record_said word)) words) [])
 each_rec [] = tt
-each_rec (word ∷ words) = recs_more (spelled_rec (record_of word)) (filter_map (λ word. spelled_rec (record_of word)) words) (spelled_small word) (each_rec words)
+each_rec (word ∷ words) = recs_more (spelled_rec (record_said word)) (filter_map (λ word. spelled_rec (record_said word)) words) (spelled_small word) (each_rec words)
 
 -- the recs that words spell are a batch
-pub is_batch_of_recs : (records : List (List ℕ)) → IsBatch (bag_sum (filter_map (λ word. spelled_rec (record_of word)) records) [])
+pub is_batch_of_recs : (records : List (List ℕ)) → IsBatch (bag_sum (filter_map (λ word. spelled_rec (record_said word)) records) [])
 is_batch_of_recs records = record {
   recs = each_rec records;
-  ascending = IsAscending-bag_sum (filter_map (λ word. spelled_rec (record_of word)) records) [] tt;
+  ascending = IsAscending-bag_sum (filter_map (λ word. spelled_rec (record_said word)) records) [] tt;
 }
 
 is_batch : (words : List (List ℕ)) → IsBatch (batch_of words)
@@ -80,7 +80,7 @@ is_batch [] = record { recs = tt; ascending = tt }
 is_batch (word ∷ []) = record { recs = tt; ascending = tt }
 is_batch (first ∷ name ∷ records) = is_batch_of_recs records
 
-each_batch : (sources : List (List ℕ × ℕ)) (lines : List Said) (node : ℕ) → AllByRecursion IsBatch (batches_of sources lines node)
+each_batch : (sources : List (List ℕ × ℕ)) (lines : List Said) (node : ℕ) → AllByRecursion IsBatch (batches_said_of sources lines node)
 each_batch sources lines node = each (filter (is_batch_of sources node) lines)
   where
     each : (ls : List Said) → AllByRecursion IsBatch (map (λ (line : Said). batch_of line.words) ls)
@@ -123,7 +123,7 @@ no_line_of sources node (word ∷ []) e = refl
 no_line_of sources node (first ∷ name ∷ records) e = not_of sources node (node_named sources name) (found_source _ sources) e
 
 -- a node that is no source has no batches
-none_given : (sources : List (List ℕ × ℕ)) (lines : List Said) (node : ℕ) → is_source sources node ≡ false → batches_of sources lines node ≡ []
+none_given : (sources : List (List ℕ × ℕ)) (lines : List Said) (node : ℕ) → is_source sources node ≡ false → batches_said_of sources lines node ≡ []
 none_given sources [] node e = refl
 none_given sources (line ∷ lines) node e =
     let given : List Said → List (List Rec) = λ ls. map (λ (l : Said). batch_of l.words) ls in
@@ -145,20 +145,20 @@ few_left count e = by (nat_le (2 ^ 20) count) refl e
 
 -- a line that breaks no rule gives a node no batch too many
 few_of : (sources : List (List ℕ × ℕ)) (done : List Said) (node : ℕ) (source : Option ℕ) (records : List (List ℕ))
-    → value_fault source records (option_map_or (λ n. length (batches_of sources done n)) source 0) ≡ None → length (batches_of sources done node) ≤ 2 ^ 20
-    → length (batches_of sources done node) + cond (option_map_or (λ s. s == node) source false) 1 0 ≤ 2 ^ 20
+    → value_fault source records (option_map_or (λ n. length (batches_said_of sources done n)) source 0) ≡ None → length (batches_said_of sources done node) ≤ 2 ^ 20
+    → length (batches_said_of sources done node) + cond (option_map_or (λ s. s == node) source false) 1 0 ≤ 2 ^ 20
 few_of sources done node None records e h = omega (arith, h)
 few_of sources done node (Some s) records e h = by (s == node) refl
   where
-    fits : count_fault (length (batches_of sources done s)) ≡ None
-    fits = none_right (number_fault records) (count_fault (length (batches_of sources done s))) e
+    fits : count_fault (length (batches_said_of sources done s)) ≡ None
+    fits = none_right (number_fault records) (count_fault (length (batches_said_of sources done s))) e
 
-    by : (b : Bool) → (s == node) ≡ b → length (batches_of sources done node) + cond b 1 0 ≤ 2 ^ 20
+    by : (b : Bool) → (s == node) ≡ b → length (batches_said_of sources done node) + cond b 1 0 ≤ 2 ^ 20
     by false k = omega (arith, h)
-    by true k = omega (arith, few_left (length (batches_of sources done node)) (subst (λ p. count_fault (length (batches_of sources done p)) ≡ None) (eqb-true s node k) fits))
+    by true k = omega (arith, few_left (length (batches_said_of sources done node)) (subst (λ p. count_fault (length (batches_said_of sources done p)) ≡ None) (eqb-true s node k) fits))
 
-few_line : (sources : List (List ℕ × ℕ)) (done : List Said) (node : ℕ) (words : List (List ℕ)) → fault_of sources (count_of sources done words) words ≡ None → length (batches_of sources done node) ≤ 2 ^ 20
-    → length (batches_of sources done node) + cond (is_batch_of_words sources node words) 1 0 ≤ 2 ^ 20
+few_line : (sources : List (List ℕ × ℕ)) (done : List Said) (node : ℕ) (words : List (List ℕ)) → inputs_line_fault sources (count_of sources done words) words ≡ None → length (batches_said_of sources done node) ≤ 2 ^ 20
+    → length (batches_said_of sources done node) + cond (is_batch_of_words sources node words) 1 0 ≤ 2 ^ 20
 few_line sources done node [] e h = omega (arith, h)
 few_line sources done node (word ∷ []) e h = omega (arith, h)
 few_line sources done node (first ∷ name ∷ records) e h =
@@ -168,26 +168,26 @@ given_by : (b : Bool) (line : Said) → length (map (λ (l : Said). batch_of l.w
 given_by true line = refl
 given_by false line = refl
 
-few_from : (sources : List (List ℕ × ℕ)) (lines done left : List Said) (node : ℕ) → BreakNoRule (Told (line_fault sources)) lines → done ++ left ≡ lines → length (batches_of sources done node) ≤ 2 ^ 20
-    → length (batches_of sources (done ++ left) node) ≤ 2 ^ 20
-few_from sources lines done [] node sound parts h = subst (λ t. length (batches_of sources t node) ≤ 2 ^ 20) (sym (append-nil done)) h
+few_from : (sources : List (List ℕ × ℕ)) (lines done left : List Said) (node : ℕ) → BreakNoRule (Told (inputs_fault sources)) lines → done ++ left ≡ lines → length (batches_said_of sources done node) ≤ 2 ^ 20
+    → length (batches_said_of sources (done ++ left) node) ≤ 2 ^ 20
+few_from sources lines done [] node sound parts h = subst (λ t. length (batches_said_of sources t node) ≤ 2 ^ 20) (sym (append-nil done)) h
 few_from sources lines done (line ∷ left) node sound parts h =
-    let none : line_fault sources done line ≡ None = told_none (line_fault sources done line) (λ code. sound done line left code parts) in
+    let none : inputs_fault sources done line ≡ None = told_none (inputs_fault sources done line) (λ code. sound done line left code parts) in
     let one = few_line sources done node line.words none h in
-    let count : length (batches_of sources (done ++ line ∷ []) node) ≡ length (batches_of sources done node) + cond (is_batch_of sources node line) 1 0 =
+    let count : length (batches_said_of sources (done ++ line ∷ []) node) ≡ length (batches_said_of sources done node) + cond (is_batch_of sources node line) 1 0 =
     ap length (batches_of-push sources done line node)
-    ∙ length-append (batches_of sources done node) (batches_of sources (line ∷ []) node)
-    ∙ ap (λ n. length (batches_of sources done node) + n) (given_by (is_batch_of sources node line) line) in
+    ∙ length-append (batches_said_of sources done node) (batches_said_of sources (line ∷ []) node)
+    ∙ ap (λ n. length (batches_said_of sources done node) + n) (given_by (is_batch_of sources node line) line) in
     let next = few_from sources lines (done ++ line ∷ []) left node sound (append_assoc done (line ∷ []) left ∙ parts) (subst (λ n. n ≤ 2 ^ 20) (sym count) one) in
-    subst (λ t. length (batches_of sources t node) ≤ 2 ^ 20) (append_assoc done (line ∷ []) left) next
+    subst (λ t. length (batches_said_of sources t node) ≤ 2 ^ 20) (append_assoc done (line ∷ []) left) next
 
-few_batches : (sources : List (List ℕ × ℕ)) (lines : List Said) (node : ℕ) → BreakNoRule (Told (line_fault sources)) lines → length (batches_of sources lines node) ≤ 2 ^ 20
+few_batches : (sources : List (List ℕ × ℕ)) (lines : List Said) (node : ℕ) → BreakNoRule (Told (inputs_fault sources)) lines → length (batches_said_of sources lines node) ≤ 2 ^ 20
 few_batches sources lines node sound = few_from sources lines [] lines node sound refl (omega arith)
 
 -- ---- together
 
 -- what lines that break no rule give are batches of the sources
-pub sound-batches : (sources : List (List ℕ × ℕ)) (lines : List Said) (given : ℕ → List (List Rec)) → BreakNoRule (Told (line_fault sources)) lines → ((node : ℕ) → given node ≡ batches_of sources lines node) → AreBatchesOf sources given
+pub sound-batches : (sources : List (List ℕ × ℕ)) (lines : List Said) (given : ℕ → List (List Rec)) → BreakNoRule (Told (inputs_fault sources)) lines → ((node : ℕ) → given node ≡ batches_said_of sources lines node) → AreBatchesOf sources given
 sound-batches sources lines given sound value = record {
   of_sources = λ node e. value node ∙ none_given sources lines node e;
   few = λ node. subst (λ b. length b ≤ 2 ^ 20) (sym (value node)) (few_batches sources lines node sound);

@@ -15,8 +15,8 @@ abbrev pub batches_at : List (ℕ × List (List Rec)) → ℕ → List (List Rec
 batches_at batches node = unwrap_or (lookup (λ k. node == k) batches) []
 
 -- how many batches a node has, 0 where there is no node
-abbrev pub count_at : List (ℕ × List (List Rec)) → Option ℕ → ℕ
-count_at batches source = option_map_or (λ node. length (batches_at batches node)) source 0
+abbrev pub batch_count_at : List (ℕ × List (List Rec)) → Option ℕ → ℕ
+batch_count_at batches source = option_map_or (λ node. length (batches_at batches node)) source 0
 
 -- the batch is the next one of the node, and the other nodes keep theirs
 abbrev pub AddsBatch : List (ℕ × List (List Rec)) → List (ℕ × List (List Rec)) → ℕ → List Rec → Type 0
@@ -28,13 +28,13 @@ abbrev pub KeepsBatches : List (ℕ × List (List Rec)) → List (ℕ × List (L
 KeepsBatches old new = (other : ℕ) → batches_at new other ≡ batches_at old other
 
 -- the recs of bags
-abbrev pub recs_of : List BagState → List (List Rec)
-recs_of bags = map (λ b. b.recs) bags
+abbrev pub recs_of_bags : List BagState → List (List Rec)
+recs_of_bags bags = map (λ b. b.recs) bags
 
 -- for each node the recs of its bags
 abbrev pub batches_of_entries : List (ℕ × Vec BagState Global) → List (ℕ × List (List Rec))
 batches_of_entries [] = []
-batches_of_entries (e ∷ es) = (e.0, recs_of e.1.items) ∷ batches_of_entries es
+batches_of_entries (e ∷ es) = (e.0, recs_of_bags e.1.items) ∷ batches_of_entries es
 
 -- the key and the value of a rec are numbers of 64 bits
 pub record IsRec (r : Rec) : Type 0 where

@@ -33,7 +33,7 @@ pub record Rules : Type 1 where
   pub breaks : List Said → Said → Code → Type 0
 
 -- the text breaks none of the rules
-pub record IsSound (rules : Rules) (text : List ℕ) : Type 0 where
+pub record BreaksNone (rules : Rules) (text : List ℕ) : Type 0 where
   pub size : length text ≤ rules.most
   pub lines : BreakNoRule rules.breaks (said_lines text)
 

@@ -6,10 +6,10 @@ ghost use Rattle.std.specs.Str.{bytes_eq};
 ghost use Rattle.fw_bag.specs.Bag.{bag_sum, with_rec};
 ghost use Rattle.fw_bag.specs.declared.rec.Rec.{Rec};
 ghost use Rattle.fw_lines.specs.declared.refusal.Refusal.{Refusal};
-ghost use Rattle.fw_lines.specs.Batches.{batches_at, count_at, AreBatchesOf, IsBatch};
+ghost use Rattle.fw_lines.specs.Batches.{batches_at, batch_count_at, AreBatchesOf, IsBatch};
 ghost use Rattle.fw_lines.specs.Faults.{IfRefused};
 ghost use Rattle.fw_lines.specs.Inputs as spec;
-ghost use Rattle.fw_lines.specs.Inputs.{record_of, spelled_rec, fault_in, batches_of, IsAccepted, IsRefused};
+ghost use Rattle.fw_lines.specs.Inputs.{record_said, spelled_rec, fault_in, batches_said_of, AreAcceptedInputs, AreRefusedInputs};
 ghost use Rattle.fw_lines.specs.Lines.{bytes_at, words_at, said_in};
 ghost use Rattle.fw_lines.specs.Sources.{node_named};
 
@@ -37,8 +37,8 @@ const BATCH_LIMIT: usize = 1 << 20;
 /// answers `Ok` exactly for the texts of the grammar, and else the first rule that is broken. Its batches are those of
 /// these sources alone, at most 2^20 of each, and each is a bag of recs of 64 bits.
 pub fn read_batches(alloc: Global, text: &[u8], sources: &SourceNames) -> Result<Batches, ReadFault>
-    ensures answer { MatchResult result (IsAccepted text.now sources.now)
-        (IfRefused (IsRefused text.now sources.now)) }
+    ensures answer { MatchResult result (AreAcceptedInputs text.now sources.now)
+        (IfRefused (AreRefusedInputs text.now sources.now)) }
     ensures given { IfOk result (λ batches. AreBatchesOf sources.now (batches_at batches)) }
 {
     if text.len() > INPUTS_LIMIT {
@@ -59,16 +59,16 @@ pub fn read_batches(alloc: Global, text: &[u8], sources: &SourceNames) -> Result
 /// unless memory is refused.
 pub fn one_answer()
     ensures some_answer { (text : List ℕ) (sources : List (List ℕ × ℕ))
-        → ((batches : List (ℕ × List (List Rec))) × IsAccepted text sources batches)
-        ⊎ ((refusal : Refusal) × IsRefused text sources refusal) }
+        → ((batches : List (ℕ × List (List Rec))) × AreAcceptedInputs text sources batches)
+        ⊎ ((refusal : Refusal) × AreRefusedInputs text sources refusal) }
     ensures exclusive { (text : List ℕ) (sources : List (List ℕ × ℕ))
         (batches : List (ℕ × List (List Rec))) (refusal : Refusal)
-        → IsAccepted text sources batches → IsRefused text sources refusal → ⊥ }
+        → AreAcceptedInputs text sources batches → AreRefusedInputs text sources refusal → ⊥ }
     ensures one_value { (text : List ℕ) (sources : List (List ℕ × ℕ)) (first second : List (ℕ × List (List Rec)))
-        → IsAccepted text sources first → IsAccepted text sources second
+        → AreAcceptedInputs text sources first → AreAcceptedInputs text sources second
         → (node : ℕ) → batches_at first node ≡ batches_at second node }
     ensures one_refusal { (text : List ℕ) (sources : List (List ℕ × ℕ)) (first second : Refusal)
-        → IsRefused text sources first → IsRefused text sources second → first ≡ second }
+        → AreRefusedInputs text sources first → AreRefusedInputs text sources second → first ≡ second }
 {}
 
 // Adds what a line gives, or tells the rule that it breaks.
@@ -82,7 +82,7 @@ fn read_line(
     ensures sound { OnOk result (fault_in text.now sources.now line.now.words batches.old ≡ None) }
     ensures value { OnOk result ((node : ℕ) → batches_at batches.new node
         ≡ batches_at batches.old node
-        ++ batches_of sources.now (said_in text.now line.now ∷ []) node) }
+        ++ batches_said_of sources.now (said_in text.now line.now ∷ []) node) }
     ensures broken { IfErr result (IfRefused (λ refusal.
         (fault_in text.now sources.now line.now.words batches.old ≡ Some refusal.code)
         × (refusal.line ≡ line.now.number))) }
@@ -125,7 +125,7 @@ fn batch_fault(
         (words_at text.now records.now))
         (spec.value_fault (node_named sources.now (bytes_at text.now name))
         (words_at text.now records.now)
-        (count_at batches.now (node_named sources.now (bytes_at text.now name)))) }
+        (batch_count_at batches.now (node_named sources.now (bytes_at text.now name)))) }
 {
     match form_fault(text, first, name, records) {
         Some(code) => Some(code),
@@ -173,7 +173,7 @@ fn value_fault(
 ) -> Option<Code>
     ensures { result ≡ spec.value_fault (node_named sources.now (bytes_at text.now name))
         (words_at text.now records.now)
-        (count_at batches.now (node_named sources.now (bytes_at text.now name))) }
+        (batch_count_at batches.now (node_named sources.now (bytes_at text.now name))) }
 {
     let Some(node) = sources.node_of(name.of(text)) else {
         return Some(Code::I2);
@@ -190,7 +190,7 @@ fn value_fault(
 // Whether a record word has a number that is too large.
 fn has_large(text: &[u8], words: &[Span]) -> bool
     ensures { result
-        ≡ list_any (λ word. spec.is_large (record_of (bytes_at text.now word))) words.now }
+        ≡ list_any (λ word. spec.has_large_number (record_said (bytes_at text.now word))) words.now }
 {
     words
         .iter()
@@ -220,7 +220,7 @@ fn take_batch(
 // The bag of the recs that record words spell.
 fn batch(alloc: Global, text: &[u8], words: &[Span]) -> Result<Bag, AllocError>
     ensures recs { IfOk result (λ bag. bag.recs
-        ≡ bag_sum (filter_map (λ word. spelled_rec (record_of word)) (words_at text.now words.now)) []) }
+        ≡ bag_sum (filter_map (λ word. spelled_rec (record_said word)) (words_at text.now words.now)) []) }
     ensures batch { IfOk result (λ bag. IsBatch bag.recs) }
 {
     let mut batch = Bag::new(alloc);

@@ -3,7 +3,7 @@ ghost use Rattle.std.specs.Prelude.{◌≡◌, ◌<◌, true, length, if◌then�
 ghost use Rattle.std.specs.List.{list_any, list_all, position_or_len};
 ghost use Rattle.fw_lines.specs.Inputs as spec;
 ghost use Rattle.fw_lines.specs.Lines.{is_allowed};
-ghost use Rattle.fw_lines.specs.Inputs.{record_of, record_from, is_colon};
+ghost use Rattle.fw_lines.specs.Inputs.{record_said, record_from, is_colon};
 
 use crate::numeral::Number;
 use crate::refusal::Code;
@@ -25,7 +25,7 @@ pub enum RecordWord {
 impl RecordWord {
     /// Whether a number is too large.
     pub fn is_large(&self) -> bool
-        ensures { result ≡ spec.is_large self.now }
+        ensures { result ≡ spec.has_large_number self.now }
     {
         matches!(self, RecordWord::Large)
     }
@@ -34,7 +34,7 @@ impl RecordWord {
 /// What a record word says: its key stands before the first colon and its value behind it.
 #[tactic(auto, unfolding(crate::specs::Inputs::record_of))]
 pub fn read_record(word: &[u8]) -> RecordWord
-    ensures { result ≡ record_of word.now }
+    ensures { result ≡ record_said word.now }
 {
     if !word.contains(&b':') {
         return RecordWord::Broken(rule_without_colon(word));

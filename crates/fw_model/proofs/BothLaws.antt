@@ -8,7 +8,7 @@ use Rattle.fw_flow.specs.declared.event.Message.{Message}
 use Rattle.fw_flow.specs.Dataflow.{System, sender}
 use Rattle.fw_flow.specs.NodeFunction.{event_node, sends, sent_by}
 use Rattle.fw_flow.specs.Projection.{events_at}
-use Rattle.fw_flow.specs.Message.{message_cmp, is_among, messages_less}
+use Rattle.fw_flow.specs.Message.{message_cmp, is_message_among, messages_less}
 use Rattle.fw_model.specs.History.{sent_messages, message_on, delivered_messages, pending_messages, IsEnabled, IsLegal}
 use Rattle.fw_flow.proofs.MessageLaws.{message_cmp-equal}
 use Rattle.fw_model.proofs.SentLaws.{copy, IsSub, is_among-copies, less-weigh, delivered-was_sent}
@@ -66,7 +66,7 @@ message-sub sys h (Notify p t) k e = λ q. omega arith
 message-sub sys h (Deliver d m) k e = λ q.
     cond_both (d == e) (m ∷ []) [] (λ ms. weigh (copy q) ms ≤ weigh (copy q) (pending_messages sys h e))
     (λ c.
-    let there = is_among-copies m (pending_messages sys h e) (sym (ap (λ n. is_among m (pending_messages sys h n)) (eqb-true d e c)) ∙ k.is_pending) in
+    let there = is_among-copies m (pending_messages sys h e) (sym (ap (λ n. is_message_among m (pending_messages sys h n)) (eqb-true d e c)) ∙ k.is_pending) in
     let a = copy-most q m (pending_messages sys h e) there in
     omega arith)
     (λ c. omega arith)

@@ -9,7 +9,7 @@ use Rattle.fw_flow.specs.declared.node.Edge.{Edge}
 use Rattle.fw_flow.specs.Dataflow.{System, Dataflow, kind_of, sender, receiver, edges_into, in_edges, batches_of, send_stamp_of_kind}
 use Rattle.fw_flow.specs.WellFormed.{IsWellFormed}
 use Rattle.fw_flow.specs.Ranks.{is_looped}
-use Rattle.fw_flow.specs.WholeBags.{Timed, timed_recs, recs_where, in_order, outputs_of_kind, outputs_of}
+use Rattle.fw_flow.specs.WholeBags.{Timed, timed_recs, timed_where, in_order, outputs_of_kind, outputs_of}
 use Rattle.fw_model.specs.Denotation.{Family}
 use Rattle.fw_model.specs.LawsOfDenotation.{RecsAtStampsDecideBag, OutBagsDependOnLesserMeasure}
 use Rattle.fw_model.proofs.TimedLaws.{IsAscendingTimed, ascending-in_order, ascending-filter, how_often_timed, how_often-in_order, same_from_how_often, how_often-filter_in, how_often-filter_out}
@@ -141,21 +141,21 @@ pub ascending-from_in_order : (xs : List Timed) → in_order xs ≡ xs → IsAsc
 ascending-from_in_order xs e = subst IsAscendingTimed e (ascending-in_order xs)
 
 -- the part at a stamp is its recs at the stamp
-part-recs : (t : Stamp) (xs : List Timed) → part (same t) xs ≡ timed_recs t (recs_where (same t) xs)
+part-recs : (t : Stamp) (xs : List Timed) → part (same t) xs ≡ timed_recs t (timed_where (same t) xs)
 part-recs t [] = refl
 part-recs t (x ∷ xs) = step (part-recs t xs) (same t x.at) refl
   where
-    step : part (same t) xs ≡ timed_recs t (recs_where (same t) xs) → (b : Bool) → same t x.at ≡ b
+    step : part (same t) xs ≡ timed_recs t (timed_where (same t) xs) → (b : Bool) → same t x.at ≡ b
         → cond b (x ∷ part (same t) xs) (part (same t) xs) ≡ timed_recs t (map (λ (r : Timed). r.rec) (cond b (x ∷ part (same t) xs) (part (same t) xs)))
     step ih true e =
         let at : Stamp → Timed = λ s. record { at = s; rec = x.rec } in
         ap (λ y. y ∷ part (same t) xs) (sym (ap at (same-is t x.at e))) ∙ ap (λ ys. at t ∷ ys) ih
     step ih false e = ih
 
-how_often-at : (t : Stamp) (xs ys : List Timed) → recs_where (same t) xs ≡ recs_where (same t) ys → (y : Timed) → y.at ≡ t → how_often_timed y xs ≡ how_often_timed y ys
+how_often-at : (t : Stamp) (xs ys : List Timed) → timed_where (same t) xs ≡ timed_where (same t) ys → (y : Timed) → y.at ≡ t → how_often_timed y xs ≡ how_often_timed y ys
 how_often-at t xs ys e y i =
-    let same_recs : recs_where (same y.at) xs ≡ recs_where (same y.at) ys =
-    ap (λ s. recs_where (same s) xs) i ∙ e ∙ sym (ap (λ s. recs_where (same s) ys) i) in
+    let same_recs : timed_where (same y.at) xs ≡ timed_where (same y.at) ys =
+    ap (λ s. timed_where (same s) xs) i ∙ e ∙ sym (ap (λ s. timed_where (same s) ys) i) in
     how_often-part y xs ys (part-recs y.at xs ∙ ap (timed_recs y.at) same_recs ∙ sym (part-recs y.at ys))
 
 pub recs_decide : RecsAtStampsDecideBag

@@ -23,10 +23,10 @@ use Rattle.fw_flow.specs.Projection.{phi}
 use Rattle.fw_flow.specs.WellFormed.{IsWellFormed}
 use Rattle.fw_model.specs.History.{pending_messages, delivered_messages, was_delivered_to, was_notified, is_owed_notice, injected_count, IsAdmissible, IsComplete, IsDeliverable, IsNotifiable}
 use Rattle.fw_model.specs.Machine.{Machine, Write, acknowledged, events, no_stamps, front_of, is_failed, ack_count_of}
-use Rattle.fw_model.specs.Steps.{Effect, silent, acked, with_event, IsAsked, is_asked, eager_writes, is_asked_for_checkpoints, newest_checkpoint, checkpoint_of, is_in_flight, AcknowledgesOldest, without_lost, with_failed, HasEpoch, HasDelivery, HasSomethingAt, MayAcknowledge, recs_at_output, LeadsTo}
+use Rattle.fw_model.specs.Steps.{Effect, silent, acked, with_event, IsStampNamed, is_asked, eager_writes, is_asked_for_checkpoints, newest_checkpoint, checkpoint_of, is_in_flight, AcknowledgesOldest, without_lost, with_failed, HasEpoch, HasDelivery, HasSomethingAt, MayAcknowledge, recs_at_output, LeadsTo}
 use Rattle.fw_model.proofs.StampLaws.{same-is, same-from}
 use Rattle.fw_model.proofs.CmpLaws.{decided-stamp, decided-front, stamp_total, find_least}
-use Rattle.fw_flow.specs.Message.{is_among, message_cmp}
+use Rattle.fw_flow.specs.Message.{is_message_among, message_cmp}
 use Rattle.fw_flow.proofs.MessageLaws.{message_total, among-each}
 use Rattle.fw_model.proofs.Decisions.{Decided, decided-test, decided-or, decided-below, find_place}
 use Rattle.fw_model.proofs.DescentLaws.{is_quiet, quiet-at, quiet-from, past_edges-receiver, follows_all, follows_all-at, follows_all-from, complete-exists, complete-one}
@@ -36,15 +36,15 @@ use Rattle.fw_model.proofs.StampLists.{each_up_to, each_up_to-at, each_up_to-fro
 
 -- ---- which stamps are asked for
 
-pub asked-is : (at : Option Stamp) (t : Stamp) → is_asked at t ≡ true → IsAsked at t
+pub asked-is : (at : Option Stamp) (t : Stamp) → is_asked at t ≡ true → IsStampNamed at t
 asked-is None t e = tt
 asked-is (Some s) t e = same-is s t e
 
-pub asked-from : (at : Option Stamp) (t : Stamp) → IsAsked at t → is_asked at t ≡ true
+pub asked-from : (at : Option Stamp) (t : Stamp) → IsStampNamed at t → is_asked at t ≡ true
 asked-from None t e = refl
 asked-from (Some s) t e = same-from s t e
 
-decided-asked : (at : Option Stamp) (t : Stamp) → Decided (IsAsked at t)
+decided-asked : (at : Option Stamp) (t : Stamp) → Decided (IsStampNamed at t)
 decided-asked None t = inl tt
 decided-asked (Some s) t = decided-stamp s t
 
@@ -71,10 +71,10 @@ inject-decided sys state s =
 
 -- the message may be delivered on the edge, and is at the stamp that is asked for
 abbrev MayDeliver : System → List Event → ℕ → Option Stamp → Message → Type 0
-MayDeliver sys h e at m = IsDeliverable sys h e m × IsAsked at m.at
+MayDeliver sys h e at m = IsDeliverable sys h e m × IsStampNamed at m.at
 
 deliverable-decided : (sys : System) (h : List Event) (e : ℕ) (m : Message) → Decided (IsDeliverable sys h e m)
-deliverable-decided sys h e m = elim (cases_Bool (is_among m (pending_messages sys h e))) [
+deliverable-decided sys h e m = elim (cases_Bool (is_message_among m (pending_messages sys h e))) [
   | inr k ↦ inr (λ d. two_ways _ d.is_pending k)
   | inl k ↦ elim (cases_Bool (is_numbered sys.flow e)) [
     | inr n ↦ inl (record { is_pending = k; numbered = λ j. absurd (two_ways _ j n) })
@@ -191,7 +191,7 @@ notifiable-decided sys h done c p t = elim (cases_Bool (is_owed_notice sys h p t
 
 -- the node may be notified of the stamp, and it is the one that is asked for
 abbrev MayNotify : System → List Event → ℕ → Option Stamp → Stamp → Type 0
-MayNotify sys h p at t = IsNotifiable sys h p t × IsAsked at t
+MayNotify sys h p at t = IsNotifiable sys h p t × IsStampNamed at t
 
 may_notify-decided : (sys : System) (h : List Event) (done : ℕ → Frontier) → IsComplete sys h done → (p : ℕ) (at : Option Stamp) (t : Stamp)
     → Decided (MayNotify sys h p at t)

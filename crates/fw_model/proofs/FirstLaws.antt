@@ -14,7 +14,7 @@ use Rattle.fw_flow.specs.Counting.{how_many}
 use Rattle.fw_flow.specs.declared.event.Event.{Event}
 use Rattle.fw_flow.specs.declared.event.Message.{Message}
 use Rattle.fw_flow.specs.Dataflow.{System}
-use Rattle.fw_flow.specs.Message.{message_cmp, is_among}
+use Rattle.fw_flow.specs.Message.{message_cmp, is_message_among}
 use Rattle.fw_model.specs.History.{some_at, delivered_messages, pending_messages}
 use Rattle.fw_model.proofs.ArrivalLaws.{weigh-both}
 use Rattle.fw_flow.proofs.MessageLaws.{among-each, message_cmp-equal, message_total}
@@ -29,29 +29,29 @@ use Rattle.fw_model.proofs.PendingNumberLaws.{of_message, many-weigh, copy-light
 
 -- ---- among
 
-pub copies-among : (m : Message) (ms : List Message) → 0 < weigh (copy m) ms → is_among m ms ≡ true
+pub copies-among : (m : Message) (ms : List Message) → 0 < weigh (copy m) ms → is_message_among m ms ≡ true
 unfolding weigh
 copies-among m [] l = absurd (omega arith)
 copies-among m (x ∷ xs) l = elim (cases_Bool (is_eq (message_cmp m x))) [
-  | inl e ↦ or_left (is_eq (message_cmp m x)) (is_among m xs) e
+  | inl e ↦ or_left (is_eq (message_cmp m x)) (is_message_among m xs) e
   | inr e ↦
       let none : copy m x ≡ 0 = ap (λ b. cond b 1 0) e in
-      or_right (is_eq (message_cmp m x)) (is_among m xs) (copies-among m xs (omega arith))
+      or_right (is_eq (message_cmp m x)) (is_message_among m xs) (copies-among m xs (omega arith))
 ]
 
-first-among : (m : Message) (ms : List Message) → is_among m (m ∷ ms) ≡ true
-first-among m ms = or_left (is_eq (message_cmp m m)) (is_among m ms) (ap is_eq (tied_itself message_total m))
+first-among : (m : Message) (ms : List Message) → is_message_among m (m ∷ ms) ≡ true
+first-among m ms = or_left (is_eq (message_cmp m m)) (is_message_among m ms) (ap is_eq (tied_itself message_total m))
 
 -- what is among the messages is among them in order, and the other way round
-pub among-same : (m : Message) (xs ys : List Message) → weigh (copy m) xs ≡ weigh (copy m) ys → is_among m xs ≡ true → is_among m ys ≡ true
+pub among-same : (m : Message) (xs ys : List Message) → weigh (copy m) xs ≡ weigh (copy m) ys → is_message_among m xs ≡ true → is_message_among m ys ≡ true
 among-same m xs ys e i = let a = is_among-copies m xs i in copies-among m ys (omega arith)
 
 -- some message at the stamp
-at-some : (t : Stamp) (ms : List Message) → some_at (same t) ms ≡ true → (m : Message) × (is_among m ms ≡ true) × (t ≡ m.at)
+at-some : (t : Stamp) (ms : List Message) → some_at (same t) ms ≡ true → (m : Message) × (is_message_among m ms ≡ true) × (t ≡ m.at)
 at-some t [] k = absurd (two_ways false k refl)
 at-some t (x ∷ xs) k = elim (or_cases (same t x.at) (some_at (same t) xs) k) [
   | inl e ↦ (x, first-among x xs, same-is t x.at e)
-  | inr e ↦ let a = at-some t xs e in (a.0, or_right (is_eq (message_cmp a.0 x)) (is_among a.0 xs) a.1, a.2)
+  | inr e ↦ let a = at-some t xs e in (a.0, or_right (is_eq (message_cmp a.0 x)) (is_message_among a.0 xs) a.1, a.2)
 ]
 
 -- ---- the least
@@ -68,7 +68,7 @@ least-number m x k n i j g = elim (cases_lt n k) [
 ]
 
 -- the first of ascending messages is not greater than any
-pub first-least : (m : Message) (ms : List Message) → IsAscendingMessages (m ∷ ms) → (x : Message) → is_among x (m ∷ ms) ≡ true → is_gt (message_cmp m x) ≡ false
+pub first-least : (m : Message) (ms : List Message) → IsAscendingMessages (m ∷ ms) → (x : Message) → is_message_among x (m ∷ ms) ≡ true → is_gt (message_cmp m x) ≡ false
 unfolding IsAscendingMessages
 first-least m ms a x i = among-each (λ y. is_gt (message_cmp m y) ≡ false) x (m ∷ ms) i (ap is_gt (tied_itself message_total m), a.0)
 
@@ -93,7 +93,7 @@ two-there t m o i j d x =
       | inr e ↦ let y : copy m x ≡ 0 = cond-false (is_eq (message_cmp m x)) 1 0 e in omega arith
     ]
 
-one-there : (t : Stamp) (m o : Message) (ms : List Message) → how_many (λ (x : Message). same t x.at) ms ≤ 1 → is_among m ms ≡ true → is_among o ms ≡ true
+one-there : (t : Stamp) (m o : Message) (ms : List Message) → how_many (λ (x : Message). same t x.at) ms ≤ 1 → is_message_among m ms ≡ true → is_message_among o ms ≡ true
     → m.at ≡ t → o.at ≡ t → o ≡ m
 one-there t m o ms few i j p q = elim (cases_Bool (is_eq (message_cmp m o))) [
   | inl e ↦ sym (message_cmp-equal m o e)
@@ -110,7 +110,7 @@ one-there t m o ms few i j p q = elim (cases_Bool (is_eq (message_cmp m o))) [
 
 -- the first of what is pending, in order, is at the next number
 first-at : (sys : System) (h : List Event) (e : ℕ) → GoesOn sys h e → (m : Message) (rest : List Message) → sorted_messages (pending_messages sys h e) ≡ m ∷ rest
-    → (is_among m (pending_messages sys h e) ≡ true) × (m.at ≡ length (delivered_messages h e) ∷ [])
+    → (is_message_among m (pending_messages sys h e) ≡ true) × (m.at ≡ length (delivered_messages h e) ∷ [])
 first-at sys h e g m rest i =
     let ms = pending_messages sys h e in
     let n = length (delivered_messages h e) in

@@ -18,7 +18,7 @@ use Rattle.fw_flow.specs.declared.kind.Kind.TheVariants.{Join}
 use Rattle.fw_flow.specs.Dataflow.{System, Dataflow, kind_of, receiver, in_edges}
 use Rattle.fw_flow.specs.NodeFunction.{delivered_recs, recs_on_delivery, sends_of_kind, sends, sent_by}
 use Rattle.fw_flow.specs.Projection.{events_at}
-use Rattle.fw_flow.specs.WholeBags.{Timed, timed_recs, recs_where, joined_timed}
+use Rattle.fw_flow.specs.WholeBags.{Timed, timed_recs, timed_where, joined_timed}
 use Rattle.fw_model.specs.History.{delivered_messages}
 use Rattle.fw_model.proofs.WeightLaws.{weigh, weigh-flat_map, weigh-same, weigh-none, weigh-lighter, weigh-less, one, at_stamp}
 use Rattle.fw_model.proofs.SentLaws.{timed_of, timed_message}
@@ -77,15 +77,15 @@ pair-swap : (t : Stamp) (x : Rec) (a b : Timed) → pair t x a b ≡ pair t x b 
 pair-swap t x a b = and_swap (same t a.at) (same t b.at) (of_pair x a.rec b.rec) ∙ ap (λ n. cond (same t b.at && same t a.at) n 0) (of_pair-swap x a.rec b.rec)
 
 joined-where : (x r : Rec) (u : Stamp) (bs : List Timed)
-    → how_often x (joined_rec r (recs_where (same u) bs)) ≡ weigh (λ b. cond (same u b.at) (of_pair x r b.rec) 0) bs
+    → how_often x (joined_rec r (timed_where (same u) bs)) ≡ weigh (λ b. cond (same u b.at) (of_pair x r b.rec) 0) bs
 unfolding weigh
 joined-where x r u [] = refl
 joined-where x r u (b ∷ bs) = cases (same u b.at) (joined-where x r u bs)
   where
-    cases : (c : Bool) → how_often x (joined_rec r (recs_where (same u) bs)) ≡ weigh (λ b. cond (same u b.at) (of_pair x r b.rec) 0) bs
+    cases : (c : Bool) → how_often x (joined_rec r (timed_where (same u) bs)) ≡ weigh (λ b. cond (same u b.at) (of_pair x r b.rec) 0) bs
         → how_often x (joined_rec r (map (λ z. z.rec) (cond c (b ∷ filter (λ z. same u z.at) bs) (filter (λ z. same u z.at) bs))))
         ≡ cond c (of_pair x r b.rec) 0 + weigh (λ b. cond (same u b.at) (of_pair x r b.rec) 0) bs
-    cases true h = joined-cons x r b.rec (recs_where (same u) bs) ∙ ap (λ n. of_pair x r b.rec + n) h
+    cases true h = joined-cons x r b.rec (timed_where (same u) bs) ∙ ap (λ n. of_pair x r b.rec + n) h
     cases false h = h ∙ omega arith
 
 pub weigh-timed : (t at : Stamp) (x : Rec) (rs : List Rec) → weigh (one t x) (timed_recs at rs) ≡ cond (same t at) (how_often x rs) 0
@@ -110,18 +110,18 @@ weigh-zero (b ∷ bs) = let h = weigh-zero bs in omega arith
 
 -- the joins of a rec with those at its stamp
 join-one : (t : Stamp) (x : Rec) (a : Timed) (bs : List Timed)
-    → weigh (one t x) (timed_recs a.at (joined_rec a.rec (recs_where (same a.at) bs))) ≡ weigh (pair t x a) bs
+    → weigh (one t x) (timed_recs a.at (joined_rec a.rec (timed_where (same a.at) bs))) ≡ weigh (pair t x a) bs
 join-one t x a bs =
-    weigh-timed t a.at x (joined_rec a.rec (recs_where (same a.at) bs))
+    weigh-timed t a.at x (joined_rec a.rec (timed_where (same a.at) bs))
     ∙ elim (cases_Bool (same t a.at)) [
       | inl e ↦
           let i = same-is t a.at e in
-          ap (λ b. cond b (how_often x (joined_rec a.rec (recs_where (same a.at) bs))) 0) e
+          ap (λ b. cond b (how_often x (joined_rec a.rec (timed_where (same a.at) bs))) 0) e
           ∙ joined-where x a.rec a.at bs
           ∙ ap (λ u. weigh (λ b. cond (same u b.at) (of_pair x a.rec b.rec) 0) bs) (sym i)
           ∙ sym (ap (λ c. weigh (λ b. cond (c && same t b.at) (of_pair x a.rec b.rec) 0) bs) e)
       | inr e ↦
-          ap (λ b. cond b (how_often x (joined_rec a.rec (recs_where (same a.at) bs))) 0) e
+          ap (λ b. cond b (how_often x (joined_rec a.rec (timed_where (same a.at) bs))) 0) e
           ∙ sym (ap (λ c. weigh (λ b. cond (c && same t b.at) (of_pair x a.rec b.rec) 0) bs) e ∙ weigh-zero bs)
     ]
 
@@ -129,9 +129,9 @@ join-one t x a bs =
 
 pub join-outputs : (t : Stamp) (x : Rec) (ls bs : List Timed) → weigh (one t x) (joined_timed ls bs) ≡ pairs t x ls bs
 join-outputs t x ls bs =
-    weigh-flat_map (one t x) (λ r. timed_recs r.at (joined_rec r.rec (recs_where (same r.at) bs))) ls
-    ∙ weigh-same (λ a. weigh (one t x) (timed_recs a.at (joined_rec a.rec (recs_where (same a.at) bs)))) (λ a. weigh (pair t x a) bs) ls
-    (each-one (λ a. weigh (one t x) (timed_recs a.at (joined_rec a.rec (recs_where (same a.at) bs))) ≡ weigh (pair t x a) bs) ls (λ a. join-one t x a bs))
+    weigh-flat_map (one t x) (λ r. timed_recs r.at (joined_rec r.rec (timed_where (same r.at) bs))) ls
+    ∙ weigh-same (λ a. weigh (one t x) (timed_recs a.at (joined_rec a.rec (timed_where (same a.at) bs)))) (λ a. weigh (pair t x a) bs) ls
+    (each-one (λ a. weigh (one t x) (timed_recs a.at (joined_rec a.rec (timed_where (same a.at) bs))) ≡ weigh (pair t x a) bs) ls (λ a. join-one t x a bs))
 
 -- ---- fewer recs have fewer joins
 
@@ -176,7 +176,7 @@ IsOnOther c d (Notify p t) = Unit {0}
 
 -- the deliveries on the other edge
 other-is : (c d : ℕ) (t : Stamp) (vs : List Event) → AllByRecursion (IsOnOther c d) vs
-    → delivered_recs (λ e s. not (e == c) && same s t) vs ≡ recs_where (same t) (timed_of (delivered_messages vs d))
+    → delivered_recs (λ e s. not (e == c) && same s t) vs ≡ timed_where (same t) (timed_of (delivered_messages vs d))
 other-is c d t [] a = refl
 other-is c d t (Inject s x ∷ vs) a = other-is c d t vs a.1
 other-is c d t (Notify p u ∷ vs) a = other-is c d t vs a.1
@@ -186,8 +186,8 @@ other-is c d t (Deliver e m ∷ vs) a =
     ∙ ap (λ rs. cond ((e == d) && same t m.at) (m.rec ∷ []) [] ++ rs) (other-is c d t vs a.1)
     ∙ cases (e == d) (same t m.at) refl
   where
-    cases : (b c : Bool) → same t m.at ≡ c → cond (b && c) (m.rec ∷ []) [] ++ recs_where (same t) (timed_of (delivered_messages vs d))
-        ≡ recs_where (same t) (timed_of (cond b (m ∷ []) [] ++ delivered_messages vs d))
+    cases : (b c : Bool) → same t m.at ≡ c → cond (b && c) (m.rec ∷ []) [] ++ timed_where (same t) (timed_of (delivered_messages vs d))
+        ≡ timed_where (same t) (timed_of (cond b (m ∷ []) [] ++ delivered_messages vs d))
     cases true true k = sym (ap (λ z. map (λ (y : Timed). y.rec) (cond z (timed_message m ∷ filter (λ y. same t y.at) (timed_of (delivered_messages vs d))) (filter (λ y. same t y.at) (timed_of (delivered_messages vs d))))) k)
     cases true false k = sym (ap (λ z. map (λ (y : Timed). y.rec) (cond z (timed_message m ∷ filter (λ y. same t y.at) (timed_of (delivered_messages vs d))) (filter (λ y. same t y.at) (timed_of (delivered_messages vs d))))) k)
     cases false c k = refl

@@ -18,7 +18,7 @@ use Rattle.fw_flow.specs.WellFormed.{IsWellFormed}
 use Rattle.fw_model.proofs.LesserLaws.{lesser-in_domain}
 use Rattle.fw_model.specs.History.{sent_messages, message_on, delivered_messages, pending_messages, is_delivery_to, is_notification, was_delivered_to, was_notified, is_owed_notice, is_injection, injected_count, IsQuiet, IsEnabled, IsLegal}
 use Rattle.fw_model.specs.LawsOfFiltering.{KeptDeliveriesHaveKeptCauses}
-use Rattle.fw_flow.specs.Message.{message_cmp, is_among, messages_less}
+use Rattle.fw_flow.specs.Message.{message_cmp, is_message_among, messages_less}
 use Rattle.fw_flow.proofs.MessageLaws.{among-each, message_cmp-equal, less-each}
 use Rattle.fw_model.proofs.StampLaws.{leq_from, leq_to, line-leq, same-is}
 use Rattle.fw_model.proofs.OrderLaws.{legal-inside_phi}
@@ -57,7 +57,7 @@ delivered-each sys P (v ∷ h) l e a =
     now (Deliver d m) k b rest =
         cond_both (d == e) (m ∷ []) [] (λ ms. AllByRecursion P (ms ++ delivered_messages h e))
         (λ c.
-        let i = ap (λ n. is_among m (pending_messages sys h n)) (sym (eqb-true d e c)) ∙ k.is_pending in
+        let i = ap (λ n. is_message_among m (pending_messages sys h n)) (sym (eqb-true d e c)) ∙ k.is_pending in
         (among-each P m (pending_messages sys h e) i (less-each P (sent_messages sys h e) (delivered_messages h e) b), rest))
         (λ c. rest)
 
@@ -115,7 +115,7 @@ kept-quiet sys h keep k p t i quiet e r =
 
 kept-pending : (sys : System) (h : List Event) (keep : ℕ → Frontier) → IsFiltering sys h keep → (e : ℕ) (m : Message)
     → keep (receiver sys.flow e) m.at ≡ true → all_inside (keep (sender sys.flow e)) m.causes ≡ true
-    → is_among m (pending_messages sys (kept_events sys.flow keep h) e) ≡ is_among m (pending_messages sys h e)
+    → is_message_among m (pending_messages sys (kept_events sys.flow keep h) e) ≡ is_message_among m (pending_messages sys h e)
 kept-pending sys h keep k e m i j =
     let g = keep (receiver sys.flow e) in
     let f = keep (sender sys.flow e) in

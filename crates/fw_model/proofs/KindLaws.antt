@@ -18,7 +18,7 @@ use Rattle.fw_flow.specs.Dataflow.{System, Dataflow, kind_of, receiver, in_edges
 use Rattle.fw_flow.specs.NodeFunction.{delivered_recs, recs_on_notification, sent_by}
 use Rattle.fw_flow.specs.Projection.{events_at}
 use Rattle.fw_flow.specs.WellFormed.{IsWellFormed, IsInDegree}
-use Rattle.fw_flow.specs.WholeBags.{Timed, recs_where, outputs_of_kind, joint_bag}
+use Rattle.fw_flow.specs.WholeBags.{Timed, timed_where, outputs_of_kind, joint_bag}
 use Rattle.fw_model.specs.History.{was_delivered_to, was_notified, is_owed_notice, delivered_messages, IsLegal}
 use Rattle.fw_model.proofs.WeightLaws.{weigh, weigh-same, weigh-lighter, weigh-equal, how_often-where, one, at_stamp}
 use Rattle.fw_model.proofs.SentLaws.{timed_of, timed_message}
@@ -96,8 +96,8 @@ AgreeFor flow kind t xs ys = (u s : Stamp) (r : Rec) → send_stamp_of_kind flow
 -- the recs of both are the same up to t
 record AgreeUpTo (t : Stamp) (xs ys : List Timed) : Type 0 where
   pub now : (q : Rec) → weigh (one t q) xs ≡ weigh (one t q) ys
-  pub same_now : AreSameBags (recs_where (same t) xs) (recs_where (same t) ys)
-  pub same_upto : AreSameBags (recs_where (λ s. leq s t) xs) (recs_where (λ s. leq s t) ys)
+  pub same_now : AreSameBags (timed_where (same t) xs) (timed_where (same t) ys)
+  pub same_upto : AreSameBags (timed_where (λ s. leq s t) xs) (timed_where (λ s. leq s t) ys)
 
 passing-stamp : (t : Stamp) (q : Rec) (u : Stamp) (r : Rec) → 0 < passing (λ s. leq s t) q (at_stamp u r) → leq u t ≡ true
 passing-stamp t q u r l = elim (cases_Bool (leq u t)) [
@@ -146,7 +146,7 @@ outputs-same flow (Sum n) is t x batches bag cag ds k =
     let xs = joint_bag (map bag ds) in
     let ys = joint_bag (map cag ds) in
     sum-outputs t x xs
-    ∙ sums-same x (recs_where (same t) xs) (recs_where (same t) xs) (recs_where (same t) ys) (recs_where (same t) ys) a.same_now a.same_now
+    ∙ sums-same x (timed_where (same t) xs) (timed_where (same t) xs) (timed_where (same t) ys) (timed_where (same t) ys) a.same_now a.same_now
     ∙ sym (sum-outputs t x ys)
 outputs-same flow Total is t x batches bag cag ds k =
     let a = agree_together t bag cag ds
@@ -154,7 +154,7 @@ outputs-same flow Total is t x batches bag cag ds k =
     let xs = joint_bag (map bag ds) in
     let ys = joint_bag (map cag ds) in
     total-outputs t x xs
-    ∙ sums-same x (recs_where (same t) xs) (recs_where (λ s. leq s t) xs) (recs_where (same t) ys) (recs_where (λ s. leq s t) ys) a.same_now a.same_upto
+    ∙ sums-same x (timed_where (same t) xs) (timed_where (λ s. leq s t) xs) (timed_where (same t) ys) (timed_where (λ s. leq s t) ys) a.same_now a.same_upto
     ∙ sym (total-outputs t x ys)
 outputs-same flow Ledger is t x batches bag cag ds k =
     let a = agree_together t bag cag ds
@@ -320,9 +320,9 @@ arrives sys h w b l p n (Sum m) is k batches t x o =
     let vs = events_at flow p h in
     let rs = joint_bag (map (delivered_bag h) (in_edges flow p)) in
     let now = delivered_recs (λ d s. same s t) vs in
-    let f : AreSameBags now (recs_where (same t) rs) = λ q. how_often-delivered_at t q vs ∙ deliveries_together flow p n (one t q) h ∙ sym (how_often-where t q rs) in
+    let f : AreSameBags now (timed_where (same t) rs) = λ q. how_often-delivered_at t q vs ∙ deliveries_together flow p n (one t q) h ∙ sym (how_often-where t q rs) in
     sums-arrived sys h w b l p (Sum m) is refl refl t x o (λ z. no_sums_came t x vs now z)
-    ∙ sums-same x now now (recs_where (same t) rs) (recs_where (same t) rs) f f
+    ∙ sums-same x now now (timed_where (same t) rs) (timed_where (same t) rs) f f
     ∙ sym (sum-outputs t x rs)
 arrives sys h w b l p n Total is k batches t x o =
     let flow = sys.flow in
@@ -330,11 +330,11 @@ arrives sys h w b l p n Total is k batches t x o =
     let rs = joint_bag (map (delivered_bag h) (in_edges flow p)) in
     let now = delivered_recs (λ d s. same s t) vs in
     let upto = delivered_recs (λ d s. leq s t) vs in
-    let f : AreSameBags now (recs_where (same t) rs) = λ q. how_often-delivered_at t q vs ∙ deliveries_together flow p n (one t q) h ∙ sym (how_often-where t q rs) in
-    let g : AreSameBags upto (recs_where (λ s. leq s t) rs) =
+    let f : AreSameBags now (timed_where (same t) rs) = λ q. how_often-delivered_at t q vs ∙ deliveries_together flow p n (one t q) h ∙ sym (how_often-where t q rs) in
+    let g : AreSameBags upto (timed_where (λ s. leq s t) rs) =
     λ q. how_often-delivered (λ s. leq s t) q vs ∙ deliveries_together flow p n (passing (λ s. leq s t) q) h ∙ sym (how_often-passing (λ s. leq s t) q rs) in
     sums-arrived sys h w b l p Total is refl refl t x o (λ z. no_sums_came t x vs upto z)
-    ∙ sums-same x now upto (recs_where (same t) rs) (recs_where (λ s. leq s t) rs) f g
+    ∙ sums-same x now upto (timed_where (same t) rs) (timed_where (λ s. leq s t) rs) f g
     ∙ sym (total-outputs t x rs)
 arrives sys h w b l p n Ledger is k batches t x o =
     let flow = sys.flow in

@@ -15,7 +15,7 @@ use Rattle.fw_flow.specs.declared.event.Message.{Message}
 use Rattle.fw_flow.specs.declared.kind.Kind.TheVariants.{Ledger}
 use Rattle.fw_flow.specs.Dataflow.{System, kind_of}
 use Rattle.fw_flow.specs.NodeFunction.{delivered_recs, sends_of_kind, sends, sent_by}
-use Rattle.fw_flow.specs.WholeBags.{Timed, recs_where, running_totals}
+use Rattle.fw_flow.specs.WholeBags.{Timed, timed_where, running_totals}
 use Rattle.fw_model.proofs.StampLaws.{line-leq, same-is}
 use Rattle.fw_model.proofs.WeightLaws.{weigh, weigh-map, weigh-same, weigh-equal, one, one-out, at_stamp}
 use Rattle.fw_model.proofs.SentLaws.{timed_of, timed_message}
@@ -44,7 +44,7 @@ abbrev all_recs : List Timed → List Rec
 all_recs rs = map (λ r. r.rec) rs
 
 -- all recs of so many are at numbers below
-up_to_all : (k : ℕ) (rs : List Timed) → AreNumbered rs → length rs ≤ k → recs_where (λ s. leq s (k ∷ [])) rs ≡ all_recs rs
+up_to_all : (k : ℕ) (rs : List Timed) → AreNumbered rs → length rs ≤ k → timed_where (λ s. leq s (k ∷ [])) rs ≡ all_recs rs
 up_to_all k [] a l = refl
 up_to_all k (r ∷ rs) a l =
     ap (λ b. map (λ (x : Timed). x.rec) (cond b (r ∷ filter (λ x. leq x.at (k ∷ [])) rs) (filter (λ x. leq x.at (k ∷ [])) rs)))
@@ -53,22 +53,22 @@ up_to_all k (r ∷ rs) a l =
 
 -- a later rec is not at an earlier number
 later-not : (k : ℕ) (r : Timed) (rs : List Timed) → r.at ≡ length rs ∷ [] → k < length rs
-    → recs_where (λ s. leq s (k ∷ [])) (r ∷ rs) ≡ recs_where (λ s. leq s (k ∷ [])) rs
+    → timed_where (λ s. leq s (k ∷ [])) (r ∷ rs) ≡ timed_where (λ s. leq s (k ∷ [])) rs
 later-not k r rs e l =
     ap (λ b. map (λ (x : Timed). x.rec) (cond b (r ∷ filter (λ x. leq x.at (k ∷ [])) rs) (filter (λ x. leq x.at (k ∷ [])) rs)))
     (ap (λ s. leq s (k ∷ [])) e ∙ ap (λ b. b && true) (lt-leb (length rs) k l))
 
 -- the running total of a rec among others
 abbrev total_in : List Timed → Timed → Timed
-total_in rs r = record { at = r.at; rec = record { key = r.rec.key; value = value_sum r.rec.key (recs_where (λ s. leq s r.at) rs) } }
+total_in rs r = record { at = r.at; rec = record { key = r.rec.key; value = value_sum r.rec.key (timed_where (λ s. leq s r.at) rs) } }
 
 earlier-totals : (r : Timed) (rs qs : List Timed) → r.at ≡ length rs ∷ [] → AreNumbered qs → length qs ≤ length rs
     → map (total_in (r ∷ rs)) qs ≡ map (total_in rs) qs
 earlier-totals r rs [] e a l = refl
 earlier-totals r rs (q ∷ qs) e a l =
     let k = length qs in
-    let same_recs : recs_where (λ s. leq s q.at) (r ∷ rs) ≡ recs_where (λ s. leq s q.at) rs =
-    subst (λ at. recs_where (λ s. leq s at) (r ∷ rs) ≡ recs_where (λ s. leq s at) rs) (sym a.0) (later-not k r rs e (omega arith)) in
+    let same_recs : timed_where (λ s. leq s q.at) (r ∷ rs) ≡ timed_where (λ s. leq s q.at) rs =
+    subst (λ at. timed_where (λ s. leq s at) (r ∷ rs) ≡ timed_where (λ s. leq s at) rs) (sym a.0) (later-not k r rs e (omega arith)) in
     ap (λ xs. (record { at = q.at; rec = record { key = q.rec.key; value = value_sum q.rec.key xs } }) ∷ map (total_in (r ∷ rs)) qs) same_recs
     ∙ ap (λ xs. total_in rs q ∷ xs) (earlier-totals r rs qs e a.1 (omega arith))
 
@@ -78,9 +78,9 @@ value_sum-first r rs = cond-true (r.key == r.key) (plus r.value (value_sum r.key
 totals-cons : (r : Timed) (rs : List Timed) → AreNumbered (r ∷ rs)
     → running_totals (r ∷ rs) ≡ record { at = r.at; rec = record { key = r.rec.key; value = plus r.rec.value (value_sum r.rec.key (all_recs rs)) } } ∷ running_totals rs
 totals-cons r rs a =
-    let here : recs_where (λ s. leq s r.at) (r ∷ rs) ≡ r.rec ∷ all_recs rs =
+    let here : timed_where (λ s. leq s r.at) (r ∷ rs) ≡ r.rec ∷ all_recs rs =
     ap (λ b. map (λ (x : Timed). x.rec) (cond b (r ∷ filter (λ x. leq x.at r.at) rs) (filter (λ x. leq x.at r.at) rs))) (leq-refl r.at)
-    ∙ ap (λ qs. r.rec ∷ qs) (subst (λ at. recs_where (λ s. leq s at) rs ≡ all_recs rs) (sym a.0) (up_to_all (length rs) rs a.1 (omega arith))) in
+    ∙ ap (λ qs. r.rec ∷ qs) (subst (λ at. timed_where (λ s. leq s at) rs ≡ all_recs rs) (sym a.0) (up_to_all (length rs) rs a.1 (omega arith))) in
     ap (λ qs. (record { at = r.at; rec = record { key = r.rec.key; value = value_sum r.rec.key qs } }) ∷ map (total_in (r ∷ rs)) rs) here
     ∙ ap (λ n. (record { at = r.at; rec = record { key = r.rec.key; value = n } }) ∷ map (total_in (r ∷ rs)) rs) (value_sum-first r.rec (all_recs rs))
     ∙ ap (λ xs. (record { at = r.at; rec = record { key = r.rec.key; value = plus r.rec.value (value_sum r.rec.key (all_recs rs)) } }) ∷ xs)
@@ -123,19 +123,19 @@ ledger-sent sys p is w (Deliver e m ∷ vs) a =
 abbrev total_at : Stamp → Rec → List Rec → Timed → ℕ
 total_at t x upto r = one t x (record { at = r.at; rec = record { key = r.rec.key; value = value_sum r.rec.key upto } })
 
-totals-weigh : (t : Stamp) (x : Rec) (rs : List Timed) → weigh (one t x) (running_totals rs) ≡ weigh (total_at t x (recs_where (λ s. leq s t) rs)) rs
+totals-weigh : (t : Stamp) (x : Rec) (rs : List Timed) → weigh (one t x) (running_totals rs) ≡ weigh (total_at t x (timed_where (λ s. leq s t) rs)) rs
 totals-weigh t x rs =
     weigh-map (one t x) (total_in rs) rs
-    ∙ weigh-same (λ r. one t x (total_in rs r)) (total_at t x (recs_where (λ s. leq s t) rs)) rs
-    (each-one (λ r. one t x (total_in rs r) ≡ total_at t x (recs_where (λ s. leq s t) rs) r) rs each)
+    ∙ weigh-same (λ r. one t x (total_in rs r)) (total_at t x (timed_where (λ s. leq s t) rs)) rs
+    (each-one (λ r. one t x (total_in rs r) ≡ total_at t x (timed_where (λ s. leq s t) rs) r) rs each)
   where
-    each : (r : Timed) → one t x (total_in rs r) ≡ total_at t x (recs_where (λ s. leq s t) rs) r
+    each : (r : Timed) → one t x (total_in rs r) ≡ total_at t x (timed_where (λ s. leq s t) rs) r
     each r = elim (cases_Bool (same t r.at)) [
-      | inl e ↦ ap (λ u. one t x (record { at = r.at; rec = record { key = r.rec.key; value = value_sum r.rec.key (recs_where (λ s. leq s u) rs) } })) (sym (same-is t r.at e))
+      | inl e ↦ ap (λ u. one t x (record { at = r.at; rec = record { key = r.rec.key; value = value_sum r.rec.key (timed_where (λ s. leq s u) rs) } })) (sym (same-is t r.at e))
       | inr e ↦
           one-out t x (total_in rs r) (ap (λ b. b && is_eq (rec_cmp x (total_in rs r).rec)) e)
-          ∙ sym (one-out t x (record { at = r.at; rec = record { key = r.rec.key; value = value_sum r.rec.key (recs_where (λ s. leq s t) rs) } })
-          (ap (λ b. b && is_eq (rec_cmp x (record { key = r.rec.key; value = value_sum r.rec.key (recs_where (λ s. leq s t) rs) }))) e))
+          ∙ sym (one-out t x (record { at = r.at; rec = record { key = r.rec.key; value = value_sum r.rec.key (timed_where (λ s. leq s t) rs) } })
+          (ap (λ b. b && is_eq (rec_cmp x (record { key = r.rec.key; value = value_sum r.rec.key (timed_where (λ s. leq s t) rs) }))) e))
     ]
 
 total_at-stamp : (t : Stamp) (x : Rec) (upto : List Rec) (r : Timed) → 0 < total_at t x upto r → t ≡ r.at
@@ -148,11 +148,11 @@ total_at-stamp t x upto r l = elim (cases_Bool (same t r.at)) [
 ]
 
 -- running totals at a stamp depend on how often each rec is there up to it
-pub totals-same : (t : Stamp) (x : Rec) (xs ys : List Timed) → AreSameBags (recs_where (λ s. leq s t) xs) (recs_where (λ s. leq s t) ys)
+pub totals-same : (t : Stamp) (x : Rec) (xs ys : List Timed) → AreSameBags (timed_where (λ s. leq s t) xs) (timed_where (λ s. leq s t) ys)
     → ((q : Rec) → weigh (one t q) xs ≡ weigh (one t q) ys) → weigh (one t x) (running_totals xs) ≡ weigh (one t x) (running_totals ys)
 totals-same t x xs ys f g =
-    let us = recs_where (λ s. leq s t) xs in
-    let vs = recs_where (λ s. leq s t) ys in
+    let us = timed_where (λ s. leq s t) xs in
+    let vs = timed_where (λ s. leq s t) ys in
     totals-weigh t x xs
     ∙ weigh-same (total_at t x us) (total_at t x vs) xs
     (each-one (λ r. total_at t x us r ≡ total_at t x vs r) xs (λ r. ap (λ n. one t x (record { at = r.at; rec = record { key = r.rec.key; value = n } })) (value_sum-same r.rec.key us vs f)))
@@ -164,6 +164,6 @@ totals-same t x xs ys f g =
 pub totals-none : (t : Stamp) (x : Rec) (rs : List Timed) → ((q : Rec) → weigh (one t q) rs ≡ 0) → weigh (one t x) (running_totals rs) ≡ 0
 unfolding weigh
 totals-none t x rs z =
-    let upto = recs_where (λ s. leq s t) rs in
+    let upto = timed_where (λ s. leq s t) rs in
     totals-weigh t x rs
     ∙ weigh-equal (total_at t x upto) rs [] (λ u q l. subst (λ s. weigh (one s q) rs ≡ weigh (one s q) []) (total_at-stamp t x upto (at_stamp u q) l) (z q))

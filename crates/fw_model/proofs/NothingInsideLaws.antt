@@ -13,7 +13,7 @@ use Rattle.fw_flow.specs.Dataflow.{System, Dataflow, idle_node, kind_of, sender,
 use Rattle.fw_flow.specs.NodeFunction.{event_node, sends, sends_of_kind, sent_by}
 use Rattle.fw_flow.specs.Projection.{events_at}
 use Rattle.fw_flow.specs.WellFormed.{IsWellFormed}
-use Rattle.fw_flow.specs.Message.{is_among, messages_without, messages_less}
+use Rattle.fw_flow.specs.Message.{is_message_among, messages_without, messages_less}
 use Rattle.fw_model.specs.History.{delivered_messages, pending_messages, was_delivered_to, was_notified, IsEnabled}
 use Rattle.fw_model.proofs.CompleteLaws.{past_edges-idle}
 use Rattle.fw_model.proofs.LowLaws.{settled-outside, event-outside}
@@ -42,14 +42,14 @@ less-none [] = refl
 less-none (d ∷ ds) = ap (messages_without d) (less-none ds)
 
 -- an edge on which something is pending is declared
-pending-declared : (sys : System) (h : List Event) (e : ℕ) (m : Message) → is_among m (pending_messages sys h e) ≡ true → e < length sys.flow.edges
+pending-declared : (sys : System) (h : List Event) (e : ℕ) (m : Message) → is_message_among m (pending_messages sys h e) ≡ true → e < length sys.flow.edges
 pending-declared sys h e m k = elim (cases_lt e (length sys.flow.edges)) [
   | inl l ↦ l
   | inr past ↦
       let q = sender sys.flow e in
       let none : pending_messages sys h e ≡ [] =
       ap (λ ms. messages_less ms (delivered_messages h e)) (idle-sent sys q (past_edges-idle sys.flow e past) (events_at sys.flow q h)) ∙ less-none (delivered_messages h e) in
-      absurd (two_ways (is_among m (pending_messages sys h e)) k (ap (is_among m) none))
+      absurd (two_ways (is_message_among m (pending_messages sys h e)) k (ap (is_message_among m) none))
 ]
 
 enabled-declared : (sys : System) → IsWellFormed sys.flow → (h : List Event) (v : Event) → IsEnabled sys h v → event_node sys.flow v < length sys.flow.nodes

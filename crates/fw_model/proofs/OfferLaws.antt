@@ -18,7 +18,7 @@ use Rattle.fw_flow.specs.WellFormed.{IsWellFormed}
 use Rattle.fw_model.specs.Machine.{Machine}
 use Rattle.fw_model.specs.Choice.{kept, cut_of, notice_of, kept_of, IsCandidate, IsConsistent, IsConsistentBy}
 use Rattle.fw_model.specs.Covers.{Covers, covers_in}
-use Rattle.fw_model.specs.Offers.{IsListed, IsBetween, IsOneOf, IsOffered, IsFormOf, Ascend, offered_by, listed_records, offered_range, records_of, range_of, AreOffersIn, covers_of}
+use Rattle.fw_model.specs.Offers.{IsListed, IsBetween, IsOfferedFront, IsOffered, IsFormOf, Ascend, offered_by, listed_records, offered_range, records_of, range_of, AreOffersIn, covers_of}
 use Rattle.fw_model.specs.LawsOfOffers.{ConsistentByOffersIsConsistent, LargestByOffersIsLargest}
 
 -- ---- what is offered
@@ -52,7 +52,7 @@ unfolding IsInRange
 offered-between flow offers p least greatest g e c i =
     (c, at (offered_by offers p) (subst (λ r. IsInRange (bounds_of flow p) r g) (sym e) i))
   where
-    at : (x : Offered) → IsInRange (bounds_of flow p) (offered_range x) g → IsOneOf (bounds_of flow p) x g
+    at : (x : Offered) → IsInRange (bounds_of flow p) (offered_range x) g → IsOfferedFront (bounds_of flow p) x g
     at (form.Listed records) j = absurd j
     at (form.Between least greatest) j = j
     at (form.Batches least greatest exhausted) j = inl j
@@ -67,7 +67,7 @@ between-offered flow offers p least greatest g e fits offered = elim (at (offere
   | inr j ↦ inr j
 ]
   where
-    at : (x : Offered) → IsFormOf (way_of flow p) x → IsOneOf (bounds_of flow p) x g → offered_range x ≢ None
+    at : (x : Offered) → IsFormOf (way_of flow p) x → IsOfferedFront (bounds_of flow p) x g → offered_range x ≢ None
         → IsInRange (bounds_of flow p) (offered_range x) g ⊎ ((way_of flow p ≡ Batches) × (g ≡ []))
     at (form.Listed records) fits i n = absurd (n refl)
     at (form.Between least greatest) fits i n = inl i
@@ -78,7 +78,7 @@ pub listed-offered : (flow : Dataflow) (offers : List Offer) (p : ℕ) (g : Fron
     → IsListed g (records_of offers p)
 listed-offered flow offers p g none offered = at (offered_by offers p) none offered.1
   where
-    at : (x : Offered) → offered_range x ≡ None → IsOneOf (bounds_of flow p) x g → IsListed g (listed_records x)
+    at : (x : Offered) → offered_range x ≡ None → IsOfferedFront (bounds_of flow p) x g → IsListed g (listed_records x)
     at (form.Listed records) e i = i
     at (form.Between least greatest) e i = absurd (cc)
     at (form.Batches least greatest exhausted) e i = absurd (cc)
@@ -87,7 +87,7 @@ pub offered-listed : (flow : Dataflow) (offers : List Offer) (p : ℕ) (g : Fron
     → IsOffered flow offers p (At g)
 offered-listed flow offers p g c i = (c, at (offered_by offers p) i)
   where
-    at : (x : Offered) → IsListed g (listed_records x) → IsOneOf (bounds_of flow p) x g
+    at : (x : Offered) → IsListed g (listed_records x) → IsOfferedFront (bounds_of flow p) x g
     at (form.Listed records) i = i
     at (form.Between least greatest) i = absurd i
     at (form.Batches least greatest exhausted) i = absurd i

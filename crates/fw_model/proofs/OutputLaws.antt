@@ -11,7 +11,7 @@ use Rattle.fw_time.specs.Stamp.{Stamp, same}
 use Rattle.fw_flow.specs.declared.kind.Kind.{Kind}
 use Rattle.fw_flow.specs.declared.kind.Kind.TheVariants.{Input, OutputEpoch, OutputNumber, Distinct, Join, Sum, Total, Sequence, Ledger}
 use Rattle.fw_flow.specs.Dataflow.{Dataflow, send_stamp_of_kind}
-use Rattle.fw_flow.specs.WholeBags.{Timed, timed_cmp, recs_where, timed_recs, timed_at_some, recs_for_one, one_by_one, is_among_timed, distinct_timed, joined_timed, has_stamp, distinct_stamps, sums_at, joint_bag, outputs_of_kind}
+use Rattle.fw_flow.specs.WholeBags.{Timed, timed_cmp, timed_where, timed_recs, timed_at_some, recs_for_one, one_by_one, is_among_timed, distinct_timed, joined_timed, has_stamp, distinct_stamps, sums_at, joint_bag, outputs_of_kind}
 use Rattle.fw_model.proofs.TimedLaws.{timed-same}
 use Rattle.fw_model.proofs.StampLaws.{same-is}
 
@@ -54,7 +54,7 @@ part test rs = filter (λ r. test r.at) rs
 pub part-part : (p q : Stamp → Bool) → ((s : Stamp) → q s ≡ true → p s ≡ true) → (rs : List Timed) → part q (part p rs) ≡ part q rs
 part-part p q w rs = filter-filter (λ r. p r.at) (λ r. q r.at) (λ r. w r.at) rs
 
-recs_where-part : (t u : Stamp) → same t u ≡ true → (rs : List Timed) → recs_where (same u) rs ≡ recs_where (same u) (part (same t) rs)
+recs_where-part : (t u : Stamp) → same t u ≡ true → (rs : List Timed) → timed_where (same u) rs ≡ timed_where (same u) (part (same t) rs)
 recs_where-part t u e rs = sym (ap (map (λ (r : Timed). r.rec)) (part-part (same t) (same u) (λ s k. same-through t u s e k) rs))
 
 -- the part of the bags together is the parts together
@@ -118,15 +118,15 @@ one_by_one-part flow kind t rs =
 joined-part : (t : Stamp) (xs ys : List Timed) → part (same t) (joined_timed xs ys) ≡ part (same t) (joined_timed (part (same t) xs) (part (same t) ys))
 joined-part t xs ys =
     part-flat_map (same t) (λ (r : Timed). same t r.at)
-    (λ r. timed_recs r.at (joined_rec r.rec (recs_where (same r.at) ys))) (λ r. timed_recs r.at (joined_rec r.rec (recs_where (same r.at) (part (same t) ys))))
-    (λ r. part-timed t r.at (joined_rec r.rec (recs_where (same r.at) ys)) (joined_rec r.rec (recs_where (same r.at) (part (same t) ys)))
+    (λ r. timed_recs r.at (joined_rec r.rec (timed_where (same r.at) ys))) (λ r. timed_recs r.at (joined_rec r.rec (timed_where (same r.at) (part (same t) ys))))
+    (λ r. part-timed t r.at (joined_rec r.rec (timed_where (same r.at) ys)) (joined_rec r.rec (timed_where (same r.at) (part (same t) ys)))
     (λ e. ap (joined_rec r.rec) (recs_where-part t r.at e ys))) xs
 
 sums-part : (t : Stamp) (ts : List Stamp) (rs : List Timed) → part (same t) (sums_at ts rs) ≡ part (same t) (sums_at (filter (same t) ts) (part (same t) rs))
 sums-part t ts rs =
     let sums : List Rec → List Rec = λ qs. sums_of (distinct_keys qs) qs in
-    part-flat_map (same t) (same t) (λ u. timed_recs u (sums (recs_where (same u) rs))) (λ u. timed_recs u (sums (recs_where (same u) (part (same t) rs))))
-    (λ u. part-timed t u (sums (recs_where (same u) rs)) (sums (recs_where (same u) (part (same t) rs))) (λ e. ap sums (recs_where-part t u e rs))) ts
+    part-flat_map (same t) (same t) (λ u. timed_recs u (sums (timed_where (same u) rs))) (λ u. timed_recs u (sums (timed_where (same u) (part (same t) rs))))
+    (λ u. part-timed t u (sums (timed_where (same u) rs)) (sums (timed_where (same u) (part (same t) rs))) (λ e. ap sums (recs_where-part t u e rs))) ts
 
 distinct_stamps-part : (t : Stamp) (rs : List Timed) → filter (same t) (distinct_stamps rs) ≡ distinct_stamps (part (same t) rs)
 distinct_stamps-part t [] = refl

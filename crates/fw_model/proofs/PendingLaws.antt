@@ -6,7 +6,7 @@ use Rattle.std.proofs.lemmas.Bool.{and_from, or_cases, or_left, or_right, or_par
 use Rattle.fw_time.specs.Stamp.{Stamp, leq, same}
 use Rattle.fw_time.proofs.StampLaws.{leq-refl}
 use Rattle.fw_flow.specs.declared.event.Message.{Message}
-use Rattle.fw_flow.specs.Message.{message_cmp, is_among, messages_without, messages_less}
+use Rattle.fw_flow.specs.Message.{message_cmp, is_message_among, messages_without, messages_less}
 use Rattle.fw_flow.proofs.MessageLaws.{message_cmp-equal, without-here, without-later}
 use Rattle.fw_model.specs.History.{some_at}
 
@@ -95,9 +95,9 @@ quiet-without t d (x ∷ xs) k =
     cond_both (is_eq (message_cmp d x)) xs (x ∷ messages_without d xs) (λ l. some_at (same t) l ≡ false)
     (λ e. a.1) (λ e. or_from (same t x.at) (some_at (same t) (messages_without d xs)) a.0 (quiet-without t d xs a.1))
 
-pub is_among-some_at : (m : Message) (ms : List Message) → is_among m ms ≡ true → some_at (same m.at) ms ≡ true
+pub is_among-some_at : (m : Message) (ms : List Message) → is_message_among m ms ≡ true → some_at (same m.at) ms ≡ true
 is_among-some_at m [] k = k
-is_among-some_at m (x ∷ xs) k = elim (or_cases (is_eq (message_cmp m x)) (is_among m xs) k) [
+is_among-some_at m (x ∷ xs) k = elim (or_cases (is_eq (message_cmp m x)) (is_message_among m xs) k) [
   | inl e ↦
       let self = and_from (leq m.at m.at) (leq m.at m.at) (leq-refl m.at) (leq-refl m.at) in
       or_left (same m.at x.at) (some_at (same m.at) xs) (sym (ap (λ (y : Message). same m.at y.at) (message_cmp-equal m x e)) ∙ self)

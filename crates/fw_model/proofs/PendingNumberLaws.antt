@@ -18,9 +18,9 @@ use Rattle.fw_flow.specs.Dataflow.{System, kind_of, sender, greatest_number, is_
 use Rattle.fw_flow.specs.NodeFunction.{recs_on_notification, numbered_messages, sequence_sent, sent_by}
 use Rattle.fw_flow.specs.Projection.{events_at, first_coordinate}
 use Rattle.fw_flow.specs.WellFormed.{IsWellFormed}
-use Rattle.fw_flow.specs.WholeBags.{Timed, recs_where, running_totals}
+use Rattle.fw_flow.specs.WholeBags.{Timed, timed_where, running_totals}
 use Rattle.fw_bag.specs.Keyed.{value_sum}
-use Rattle.fw_flow.specs.Message.{message_cmp, is_among}
+use Rattle.fw_flow.specs.Message.{message_cmp, is_message_among}
 use Rattle.fw_model.specs.History.{some_at, sent_messages, delivered_messages, pending_messages, IsLegal}
 use Rattle.fw_model.proofs.ArrivalLaws.{deliveries}
 use Rattle.fw_flow.proofs.MessageLaws.{among-each, message_cmp-equal}
@@ -179,7 +179,7 @@ sequence-to (Notify p t ∷ vs) =
 
 -- the running total of a rec among others
 abbrev total_in : List Timed → Timed → Timed
-total_in rs r = record { at = r.at; rec = record { key = r.rec.key; value = value_sum r.rec.key (recs_where (λ s. leq s r.at) rs) } }
+total_in rs r = record { at = r.at; rec = record { key = r.rec.key; value = value_sum r.rec.key (timed_where (λ s. leq s r.at) rs) } }
 
 totals-to : (n : ℕ) (rs : List Timed) → HasNumbersTo n rs → HasNumbersTo n (running_totals rs)
 totals-to n rs h = record {
@@ -290,7 +290,7 @@ copy-lighter t m x i = elim (cases_Bool (is_eq (message_cmp m x))) [
 ]
 
 -- a message among others weighs at its stamp
-among-weigh : (m : Message) (ms : List Message) → is_among m ms ≡ true → 0 < weigh (of_message (any_at m.at)) ms
+among-weigh : (m : Message) (ms : List Message) → is_message_among m ms ≡ true → 0 < weigh (of_message (any_at m.at)) ms
 among-weigh m ms i =
     let a = is_among-copies m ms i in
     let b = weigh-lighter (copy m) (of_message (any_at m.at)) ms
@@ -337,7 +337,7 @@ between-each n top ms b = each-from n ms b.none_off (λ k l.
     omega arith)
 
 -- some message is at a number, so that the first one is below the last
-between-some : (n top : ℕ) (ms : List Message) → AreNumbersBetween n top ms → (m : Message) → is_among m ms ≡ true → n < top
+between-some : (n top : ℕ) (ms : List Message) → AreNumbersBetween n top ms → (m : Message) → is_message_among m ms ≡ true → n < top
 between-some n top ms b m i =
     let from = among-each (IsNumberedFrom n) m ms i (between-each n top ms b) in
     let k = from.0 in

@@ -12,7 +12,7 @@ use Rattle.fw_flow.specs.WholeBags.{Timed}
 use Rattle.fw_flow.specs.Dataflow.{System, sender}
 use Rattle.fw_flow.specs.NodeFunction.{event_node, sends, sent_by}
 use Rattle.fw_flow.specs.Projection.{events_at}
-use Rattle.fw_flow.specs.Message.{message_cmp, is_among, messages_without, messages_less}
+use Rattle.fw_flow.specs.Message.{message_cmp, is_message_among, messages_without, messages_less}
 use Rattle.fw_model.specs.History.{some_at, sent_messages, delivered_messages, pending_messages, IsEnabled, IsLegal}
 use Rattle.fw_flow.proofs.MessageLaws.{message_cmp-equal, message_cmp-self}
 use Rattle.fw_model.proofs.WeightLaws.{weigh, weigh-append, one, one-out}
@@ -36,10 +36,10 @@ without-weigh w m (x ∷ xs) l =
     (λ e. let i = ap w (message_cmp-equal m x e) in omega arith)
     (λ e. let z : copy m x ≡ 0 = ap (λ b. cond b 1 0) e in let h = without-weigh w m xs (omega arith) in omega arith)
 
-pub is_among-copies : (m : Message) (ms : List Message) → is_among m ms ≡ true → 0 < weigh (copy m) ms
+pub is_among-copies : (m : Message) (ms : List Message) → is_message_among m ms ≡ true → 0 < weigh (copy m) ms
 unfolding weigh
 is_among-copies m [] k = absurd (cc)
-is_among-copies m (x ∷ xs) k = elim (or_cases (is_eq (message_cmp m x)) (is_among m xs) k) [
+is_among-copies m (x ∷ xs) k = elim (or_cases (is_eq (message_cmp m x)) (is_message_among m xs) k) [
   | inl e ↦ let i : copy m x ≡ 1 = ap (λ b. cond b 1 0) e in omega arith
   | inr e ↦ let h = is_among-copies m xs e in omega arith
 ]
@@ -79,7 +79,7 @@ delivered-sub sys h (Deliver d m) k e i = λ x.
     cond_both (d == e) (m ∷ []) [] (λ ms. weigh (copy x) (ms ++ delivered_messages h e) ≤ weigh (copy x) (sent_messages sys h e))
     (λ c.
     let same_edge = eqb-true d e c in
-    let there = is_among-copies m (pending_messages sys h e) (sym (ap (λ n. is_among m (pending_messages sys h n)) same_edge) ∙ k.is_pending) in
+    let there = is_among-copies m (pending_messages sys h e) (sym (ap (λ n. is_message_among m (pending_messages sys h n)) same_edge) ∙ k.is_pending) in
     let a = less-weigh (copy m) (sent_messages sys h e) (delivered_messages h e) i in
     cond_both (is_eq (message_cmp x m)) 1 0 (λ n. n + weigh (copy x) (delivered_messages h e) ≤ weigh (copy x) (sent_messages sys h e))
     (λ z.

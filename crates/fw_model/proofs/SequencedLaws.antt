@@ -17,7 +17,7 @@ use Rattle.fw_flow.specs.declared.event.Message.{Message}
 use Rattle.fw_flow.specs.Dataflow.{greatest_number}
 use Rattle.fw_flow.specs.Projection.{first_coordinate}
 use Rattle.fw_flow.specs.NodeFunction.{delivered_recs, numbered_messages}
-use Rattle.fw_flow.specs.WholeBags.{Timed, timed_cmp, in_order, recs_where, numbered_recs}
+use Rattle.fw_flow.specs.WholeBags.{Timed, timed_cmp, in_order, timed_where, numbered_recs}
 use Rattle.fw_model.proofs.WeightLaws.{weigh, how_often-where, one, one-in, one-out, is_at-self}
 use Rattle.fw_model.proofs.SentLaws.{timed_of}
 use Rattle.fw_model.proofs.TimedLaws.{timed_order, IsAscendingTimed, ascending-in_order}
@@ -160,7 +160,7 @@ length-messages (m ∷ ms) = let h = length-messages ms in omega arith
 
 -- what came at a stamp, in order, is what is there in the whole bag in order
 pub block-is : (t : Stamp) (vs : List Event) (xs : List Timed) → ((q : Rec) → weigh (one t q) (deliveries vs) ≡ weigh (one t q) xs)
-    → sorted_recs (delivered_recs (λ d s. same s t) vs) ≡ recs_where (same t) (in_order xs)
+    → sorted_recs (delivered_recs (λ d s. same s t) vs) ≡ timed_where (same t) (in_order xs)
 block-is t vs xs k =
-    sorted-is (delivered_recs (λ d s. same s t) vs) (recs_where (same t) (in_order xs)) (ascending-where t (in_order xs) (ascending-in_order xs))
+    sorted-is (delivered_recs (λ d s. same s t) vs) (timed_where (same t) (in_order xs)) (ascending-where t (in_order xs) (ascending-in_order xs))
     (λ q. how_often-delivered_at t q vs ∙ k q ∙ sym (in_order-weigh (one t q) xs) ∙ sym (how_often-where t q (in_order xs)))

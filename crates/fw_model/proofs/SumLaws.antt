@@ -12,7 +12,7 @@ use Rattle.fw_bag.specs.declared.rec.Rec.{Rec}
 use Rattle.fw_bag.specs.Rec.{rec_cmp}
 use Rattle.fw_bag.specs.Bag.{how_often}
 use Rattle.fw_bag.specs.Keyed.{plus, value_sum, has_key, distinct_keys, sums_of}
-use Rattle.fw_flow.specs.WholeBags.{Timed, timed_recs, recs_where, has_stamp, distinct_stamps, sums_at, totals_at}
+use Rattle.fw_flow.specs.WholeBags.{Timed, timed_recs, timed_where, has_stamp, distinct_stamps, sums_at, totals_at}
 use Rattle.fw_model.proofs.WeightLaws.{weigh, weigh-flat_map, weigh-map, weigh-same, weigh-equal, one}
 use Rattle.fw_model.proofs.ArrivalLaws.{at_edge}
 use Rattle.fw_model.proofs.DistinctLaws.{passing, same-swap}
@@ -175,7 +175,7 @@ stamps-once t n (r ∷ rs) =
           ]
     ]
 
-where-none : (t : Stamp) (rs : List Timed) → has_stamp t rs ≡ false → recs_where (same t) rs ≡ []
+where-none : (t : Stamp) (rs : List Timed) → has_stamp t rs ≡ false → timed_where (same t) rs ≡ []
 where-none t [] k = refl
 where-none t (r ∷ rs) k =
     let a = or_parts (same r.at t) (has_stamp t rs) k in
@@ -202,19 +202,19 @@ stamped-is t x f rs z =
     ]
 
 pub sum-outputs : (t : Stamp) (x : Rec) (rs : List Timed)
-    → weigh (one t x) (sums_at (distinct_stamps rs) rs) ≡ how_often x (sums_of (distinct_keys (recs_where (same t) rs)) (recs_where (same t) rs))
+    → weigh (one t x) (sums_at (distinct_stamps rs) rs) ≡ how_often x (sums_of (distinct_keys (timed_where (same t) rs)) (timed_where (same t) rs))
 sum-outputs t x rs =
-    stamped-is t x (λ u. sums_of (distinct_keys (recs_where (same u) rs)) (recs_where (same u) rs)) rs
-    (λ e. ap (λ qs. sums_of (distinct_keys qs) (recs_where (same t) rs)) (where-none t rs e))
+    stamped-is t x (λ u. sums_of (distinct_keys (timed_where (same u) rs)) (timed_where (same u) rs)) rs
+    (λ e. ap (λ qs. sums_of (distinct_keys qs) (timed_where (same t) rs)) (where-none t rs e))
 
 pub total-outputs : (t : Stamp) (x : Rec) (rs : List Timed)
-    → weigh (one t x) (totals_at (distinct_stamps rs) rs) ≡ how_often x (sums_of (distinct_keys (recs_where (same t) rs)) (recs_where (λ s. leq s t) rs))
+    → weigh (one t x) (totals_at (distinct_stamps rs) rs) ≡ how_often x (sums_of (distinct_keys (timed_where (same t) rs)) (timed_where (λ s. leq s t) rs))
 total-outputs t x rs =
-    stamped-is t x (λ u. sums_of (distinct_keys (recs_where (same u) rs)) (recs_where (λ s. leq s u) rs)) rs
-    (λ e. ap (λ qs. sums_of (distinct_keys qs) (recs_where (λ s. leq s t) rs)) (where-none t rs e))
+    stamped-is t x (λ u. sums_of (distinct_keys (timed_where (same u) rs)) (timed_where (λ s. leq s u) rs)) rs
+    (λ e. ap (λ qs. sums_of (distinct_keys qs) (timed_where (λ s. leq s t) rs)) (where-none t rs e))
 
 -- how often a rec is among those at stamps that pass a test
-pub how_often-passing : (test : Stamp → Bool) (q : Rec) (rs : List Timed) → how_often q (recs_where test rs) ≡ weigh (passing test q) rs
+pub how_often-passing : (test : Stamp → Bool) (q : Rec) (rs : List Timed) → how_often q (timed_where test rs) ≡ weigh (passing test q) rs
 unfolding weigh
 how_often-passing test q [] = refl
 how_often-passing test q (r ∷ rs) = cases (test r.at) (how_often-passing test q rs)
@@ -223,7 +223,7 @@ how_often-passing test q (r ∷ rs) = cases (test r.at) (how_often-passing test 
     one_more true n = omega arith
     one_more false n = omega arith
 
-    cases : (b : Bool) → how_often q (recs_where test rs) ≡ weigh (passing test q) rs
+    cases : (b : Bool) → how_often q (timed_where test rs) ≡ weigh (passing test q) rs
         → how_often q (map (λ z. z.rec) (cond b (r ∷ filter (λ z. test z.at) rs) (filter (λ z. test z.at) rs))) ≡ cond (b && is_eq (rec_cmp q r.rec)) 1 0 + weigh (passing test q) rs
-    cases true h = one_more (is_eq (rec_cmp q r.rec)) (how_often q (recs_where test rs)) ∙ ap (λ n. cond (is_eq (rec_cmp q r.rec)) 1 0 + n) h
+    cases true h = one_more (is_eq (rec_cmp q r.rec)) (how_often q (timed_where test rs)) ∙ ap (λ n. cond (is_eq (rec_cmp q r.rec)) 1 0 + n) h
     cases false h = h ∙ omega arith

@@ -13,7 +13,7 @@ use Rattle.fw_bag.specs.Rec.{rec_cmp, IsAscending}
 use Rattle.fw_bag.specs.Bag.{how_often}
 use Rattle.fw_bag.specs.Keyed.{sorted_recs}
 use Rattle.fw_bag.proofs.BagLaws.{how_often-bag_sum, IsAscending-bag_sum, same_from_how_often}
-use Rattle.fw_flow.specs.WholeBags.{Timed, timed_cmp, in_order, recs_where, outputs_of, outputs_of_kind}
+use Rattle.fw_flow.specs.WholeBags.{Timed, timed_cmp, in_order, timed_where, outputs_of, outputs_of_kind}
 use Rattle.fw_flow.specs.declared.event.Message.{Message}
 use Rattle.fw_flow.specs.Dataflow.{System, sender, kind_of, in_edges, batches_of}
 use Rattle.fw_model.specs.Denotation.{Family, IsDenotation, bag_at}
@@ -37,7 +37,7 @@ then_gt : (o p : Ordering) → o ≡ Equal → is_gt (ordering_then o p) ≡ fal
 then_gt o p e h = sym (ap (λ x. is_gt (ordering_then x p)) e) ∙ h
 
 above-where : (t : Stamp) (x : Timed) (xs : List Timed) → same t x.at ≡ true → AllByRecursion (λ y. is_gt (timed_cmp x y) ≡ false) xs
-    → AllByRecursion (λ r. is_gt (rec_cmp x.rec r) ≡ false) (recs_where (same t) xs)
+    → AllByRecursion (λ r. is_gt (rec_cmp x.rec r) ≡ false) (timed_where (same t) xs)
 above-where t x [] k a = tt
 above-where t x (y ∷ ys) k a =
     let rest = above-where t x ys k a.1 in
@@ -49,7 +49,7 @@ above-where t x (y ∷ ys) k a =
     (then_gt (stamp_cmp x.at y.at) (rec_cmp x.rec y.rec) tied a.0, rest))
     (λ e. rest)
 
-pub ascending-where : (t : Stamp) (xs : List Timed) → IsAscendingTimed xs → IsAscending (recs_where (same t) xs)
+pub ascending-where : (t : Stamp) (xs : List Timed) → IsAscendingTimed xs → IsAscending (timed_where (same t) xs)
 unfolding IsAscendingTimed
 ascending-where t [] s = tt
 ascending-where t (x ∷ xs) s =
@@ -67,9 +67,9 @@ family-weigh sys family d e w = ap (weigh w) (d e) ∙ in_order-weigh w _
 pub bag-ascending : (sys : System) (family : Family) → IsDenotation sys family → (e : ℕ) (t : Stamp) → IsAscending (bag_at family e t)
 bag-ascending sys family d e t =
     let q = sender sys.flow e in
-    subst (λ xs. IsAscending (recs_where (same t) xs)) (sym (d e)) (ascending-where t (outputs_of sys family q) (ascending-in_order (outputs_of_kind sys.flow (kind_of sys.flow q) (batches_of sys q) (map family (in_edges sys.flow q)))))
+    subst (λ xs. IsAscending (timed_where (same t) xs)) (sym (d e)) (ascending-where t (outputs_of sys family q) (ascending-in_order (outputs_of_kind sys.flow (kind_of sys.flow q) (batches_of sys q) (map family (in_edges sys.flow q)))))
 
-recs_at-timed : (t : Stamp) (ms : List Message) → recs_at t ms ≡ recs_where (same t) (timed_of ms)
+recs_at-timed : (t : Stamp) (ms : List Message) → recs_at t ms ≡ timed_where (same t) (timed_of ms)
 recs_at-timed t [] = refl
 recs_at-timed t (m ∷ ms) =
     let h = recs_at-timed t ms in

@@ -10,7 +10,7 @@ use Rattle.fw_bag.specs.declared.rec.Rec.{Rec}
 use Rattle.fw_bag.specs.Rec.{rec_cmp}
 use Rattle.fw_bag.specs.Bag.{how_often}
 use Rattle.fw_bag.proofs.RecLaws.{is_eq-same, rec_cmp-refl}
-use Rattle.fw_flow.specs.WholeBags.{Timed, recs_where}
+use Rattle.fw_flow.specs.WholeBags.{Timed, timed_where}
 use Rattle.fw_model.proofs.StampLaws.{same-is, same-refl}
 
 -- the sum of the weights of the elements
@@ -125,7 +125,7 @@ weigh-equal w xs ys k =
     omega arith
 
 -- how often a rec is among those at a stamp
-pub how_often-where : (t : Stamp) (q : Rec) (xs : List Timed) → how_often q (recs_where (same t) xs) ≡ weigh (one t q) xs
+pub how_often-where : (t : Stamp) (q : Rec) (xs : List Timed) → how_often q (timed_where (same t) xs) ≡ weigh (one t q) xs
 unfolding weigh
 how_often-where t q [] = refl
 how_often-where t q (x ∷ xs) =
@@ -133,7 +133,7 @@ how_often-where t q (x ∷ xs) =
     elim (cases_Bool (same t x.at)) [
       | inl e ↦
           ap (λ b. how_often q (map (λ r. r.rec) (cond b (x ∷ filter (λ r. same t r.at) xs) (filter (λ r. same t r.at) xs)))) e
-          ∙ cond_both (is_eq (rec_cmp q x.rec)) (how_often q (recs_where (same t) xs) + 1) (how_often q (recs_where (same t) xs)) (λ n. n ≡ one t q x + weigh (one t q) xs)
+          ∙ cond_both (is_eq (rec_cmp q x.rec)) (how_often q (timed_where (same t) xs) + 1) (how_often q (timed_where (same t) xs)) (λ n. n ≡ one t q x + weigh (one t q) xs)
           (λ c. let i = one-in t q x (and_from (same t x.at) (is_eq (rec_cmp q x.rec)) e c) in omega arith)
           (λ c. let i = one-out t q x (ap (λ b. same t x.at && b) c ∙ and-false (same t x.at)) in omega arith)
       | inr e ↦

@@ -3,7 +3,7 @@ use Rattle.std.specs.Prelude.{◌≡◌, ℕ, zero, suc, List, [], ◌+◌, ◌�
 use Rattle.fw_time.specs.Stamp.{Stamp, same}
 use Rattle.fw_bag.specs.declared.rec.Rec.{Rec}
 use Rattle.fw_flow.specs.Dataflow.{System, sender}
-use Rattle.fw_flow.specs.WholeBags.{Timed, outputs_of, recs_where, in_order}
+use Rattle.fw_flow.specs.WholeBags.{Timed, outputs_of, timed_where, in_order}
 
 -- a bag of timed recs for each edge
 abbrev pub Family : Type 0
@@ -20,7 +20,7 @@ rounds sys (suc n) e = outputs_of sys (rounds sys n) (sender sys.flow e)
 
 -- the bag of a family on an edge at a stamp, ascending
 abbrev pub bag_at : Family → ℕ → Stamp → List Rec
-bag_at family e t = recs_where (same t) (family e)
+bag_at family e t = timed_where (same t) (family e)
 
 -- each bag of the family is in order
 abbrev pub AreInOrder : Family → Type 0

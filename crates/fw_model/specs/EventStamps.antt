@@ -10,7 +10,7 @@ use Rattle.fw_flow.specs.declared.event.Message.{Message}
 use Rattle.fw_flow.specs.Dataflow.{System, Dataflow, kind_of, sender, receiver, bounds_of, send_stamp, is_sequence_kind}
 use Rattle.fw_model.specs.Covers.{stamp_of_notice}
 use Rattle.fw_model.specs.History.{delivered_messages, sent_messages}
-use Rattle.fw_model.specs.Offers.{AreOnEdges, on_edge, stamps_on, stamps_on_from}
+use Rattle.fw_model.specs.Offers.{AreAtEdgeStamps, counted_on_edge, stamps_on, stamps_on_from}
 use Rattle.fw_model.specs.Thinned.{IsThinned}
 
 -- the causes of these messages, in a row
@@ -40,11 +40,11 @@ StandForNumbered sys h e ms =
 
 -- The stamps stand for the events of node p in a history.
 pub record AreStampsOf (sys : System) (h : List Event) (p : ℕ) (base : Frontier) (stamps : Stamps) : Type 0 where
-  pub on_edges : AreOnEdges sys.flow stamps.delivered × AreOnEdges sys.flow stamps.sent
+  pub on_edges : AreAtEdgeStamps sys.flow stamps.delivered × AreAtEdgeStamps sys.flow stamps.sent
   pub in_domain : AllByRecursion (λ t. in_domain (bounds_of sys.flow p) t ≡ true) stamps.notified
   pub delivered : (d : ℕ) → receiver sys.flow d ≡ p → IsThinned base (map (λ (m : Message). m.at) (delivered_messages h d)) (stamps_on d stamps.delivered)
   pub notified : IsThinned base (flat_map (stamp_of_notice p) h) stamps.notified
   pub sent : is_sequence_kind (kind_of sys.flow p) ≡ false → (e : ℕ) → e < length sys.flow.edges → sender sys.flow e ≡ p
-      → StandForSent sys h p base e (on_edge e stamps.sent)
+      → StandForSent sys h p base e (counted_on_edge e stamps.sent)
   pub numbered : is_sequence_kind (kind_of sys.flow p) ≡ true → (e : ℕ) → e < length sys.flow.edges → sender sys.flow e ≡ p
       → StandForNumbered sys h e stamps.sent

@@ -9,7 +9,7 @@ use Rattle.fw_flow.specs.declared.event.Event.TheVariants.{Inject, Deliver, Noti
 use Rattle.fw_flow.specs.declared.event.Message.{Message}
 use Rattle.fw_flow.specs.Dataflow.{System, Dataflow, kind_of, sender, receiver, bounds_of, is_notified_kind, is_input_kind, is_numbered, batches_of}
 use Rattle.fw_flow.specs.NodeFunction.{sent_by, event_node, event_stamp}
-use Rattle.fw_flow.specs.Message.{is_among, messages_less}
+use Rattle.fw_flow.specs.Message.{is_message_among, messages_less}
 use Rattle.fw_flow.specs.Projection.{events_at, phi, first_coordinate}
 use Rattle.fw_bag.specs.declared.rec.Rec.{Rec}
 
@@ -105,7 +105,7 @@ pub record IsNextBatch (sys : System) (h : List Event) (s x : ℕ) : Type 0 wher
 
 -- a message may be delivered on edge e: it is pending, and on a numbered edge it is the next number
 pub record IsDeliverable (sys : System) (h : List Event) (e : ℕ) (m : Message) : Type 0 where
-  pub is_pending : is_among m (pending_messages sys h e) ≡ true
+  pub is_pending : is_message_among m (pending_messages sys h e) ≡ true
   pub numbered : is_numbered sys.flow e ≡ true → m.at ≡ length (delivered_messages h e) ∷ []
 
 -- Node p may be notified of stamp t: it is owed there and at no lesser stamp, nothing is pending for it up to t, and t is

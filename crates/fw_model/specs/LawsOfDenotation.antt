@@ -5,7 +5,7 @@ use Rattle.std.specs.List.{AllByRecursion}
 use Rattle.fw_time.specs.Stamp.{Stamp, same, in_domain}
 use Rattle.fw_flow.specs.Dataflow.{System, Dataflow, sender, receiver, bounds_of, is_numbered, HasEpochs}
 use Rattle.fw_flow.specs.WellFormed.{IsWellFormed}
-use Rattle.fw_flow.specs.WholeBags.{Timed, recs_where, in_order, outputs_of}
+use Rattle.fw_flow.specs.WholeBags.{Timed, timed_where, in_order, outputs_of}
 use Rattle.fw_model.specs.Denotation.{Family, IsDenotation, rounds, bag_at, AreInOrder, AreNumberedFrom}
 use Rattle.fw_model.specs.Measure.{enough_rounds, Measure}
 
@@ -16,7 +16,7 @@ MeasureExists = (flow : Dataflow) → IsWellFormed flow → Measure flow
 -- two bags in order that have the same recs at each stamp are the same
 abbrev pub RecsAtStampsDecideBag : Type 0
 RecsAtStampsDecideBag = (bag other : List Timed) → in_order bag ≡ bag → in_order other ≡ other
-    → ((t : Stamp) → recs_where (same t) bag ≡ recs_where (same t) other) → bag ≡ other
+    → ((t : Stamp) → timed_where (same t) bag ≡ timed_where (same t) other) → bag ≡ other
 
 -- in a well-formed flow what a node sends on an edge at a stamp, by a family whose bags are in order, depends on the bags
 -- on its in-edges at stamps of lesser measure alone
@@ -25,7 +25,7 @@ OutBagsDependOnLesserMeasure = (sys : System) (family other : Family) → IsWell
     → AreInOrder family → AreInOrder other → (e : ℕ) → e < length sys.flow.edges → (t : Stamp)
     → ((d : ℕ) → d < length sys.flow.edges → receiver sys.flow d ≡ sender sys.flow e → (s : Stamp)
     → by.measure (sender sys.flow e) s < by.measure (receiver sys.flow e) t → bag_at family d s ≡ bag_at other d s)
-    → recs_where (same t) (outputs_of sys family (sender sys.flow e)) ≡ recs_where (same t) (outputs_of sys other (sender sys.flow e))
+    → timed_where (same t) (outputs_of sys family (sender sys.flow e)) ≡ timed_where (same t) (outputs_of sys other (sender sys.flow e))
 
 -- two families that solve the equations of a well-formed flow are the same on each edge: the denotation is the only one
 abbrev pub DenotationIsTheOnlyOne : Type 0

@@ -10,7 +10,7 @@ use Rattle.fw_flow.specs.NodeFunction.{event_node, sends}
 use Rattle.fw_flow.specs.Projection.{events_at}
 use Rattle.fw_flow.specs.WellFormed.{IsWellFormed}
 use Rattle.fw_model.specs.History.{IsDeliverable, IsLegal, some_at, sent_messages, message_on, delivered_messages, pending_messages}
-use Rattle.fw_flow.specs.Message.{is_among, messages_less}
+use Rattle.fw_flow.specs.Message.{is_message_among, messages_less}
 use Rattle.fw_model.specs.SortedMessages.{sorted_messages, with_messages}
 
 -- in a legal history the messages that were sent on an edge are, as a bag, those that were delivered and those that are pending
@@ -36,7 +36,7 @@ IsNumberedFrom n m = (k : ℕ) × (n ≤ k) × (m.at ≡ k ∷ [])
 -- What is pending on an edge goes on where its deliveries end: where a message is pending, one is at the number of how many
 -- were delivered; none is at a lesser number, and at each stamp there is one alone.
 pub record GoesOn (sys : System) (h : List Event) (e : ℕ) : Type 0 where
-  pub next : (m : Message) → is_among m (pending_messages sys h e) ≡ true
+  pub next : (m : Message) → is_message_among m (pending_messages sys h e) ≡ true
       → some_at (same (length (delivered_messages h e) ∷ [])) (pending_messages sys h e) ≡ true
   pub none_lesser : AllByRecursion (IsNumberedFrom (length (delivered_messages h e))) (pending_messages sys h e)
   pub alone : (t : Stamp) → how_many (λ (m : Message). same t m.at) (pending_messages sys h e) ≤ 1

@@ -53,9 +53,9 @@ with_event sys state v = record state {
 }
 
 -- the stamp is the one asked for, if one is
-abbrev pub IsAsked : Option Stamp → Stamp → Type 0
-IsAsked None t = Unit {0}
-IsAsked (Some s) t = s ≡ t
+abbrev pub IsStampNamed : Option Stamp → Stamp → Type 0
+IsStampNamed None t = Unit {0}
+IsStampNamed (Some s) t = s ≡ t
 
 -- whether it is, as a test
 abbrev pub is_asked : Option Stamp → Stamp → Bool
@@ -66,14 +66,14 @@ is_asked (Some s) t = same s t
 -- before it in the order of stamps, recs and causes.
 pub record IsNextMessage (sys : System) (h : List Event) (e : ℕ) (at : Option Stamp) (m : Message) : Type 0 where
   pub enabled : IsEnabled sys h (Delivered e m)
-  pub asked : IsAsked at m.at
-  pub least : (other : Message) → IsEnabled sys h (Delivered e other) → IsAsked at other.at → is_gt (message_cmp m other) ≡ false
+  pub asked : IsStampNamed at m.at
+  pub least : (other : Message) → IsEnabled sys h (Delivered e other) → IsStampNamed at other.at → is_gt (message_cmp m other) ≡ false
 
 -- the stamp is the next one of which node p may be notified: the one that is asked for, or the least
 pub record IsNextNotice (sys : System) (h : List Event) (p : ℕ) (at : Option Stamp) (t : Stamp) : Type 0 where
   pub enabled : IsEnabled sys h (Notified p t)
-  pub asked : IsAsked at t
-  pub least : (other : Stamp) → IsEnabled sys h (Notified p other) → IsAsked at other → is_gt (stamp_cmp t other) ≡ false
+  pub asked : IsStampNamed at t
+  pub least : (other : Stamp) → IsEnabled sys h (Notified p other) → IsStampNamed at other → is_gt (stamp_cmp t other) ≡ false
 
 -- the checkpoint that node p asks of f
 abbrev pub checkpoint_of : Machine → ℕ → Front → Write

@@ -13,7 +13,7 @@ use Rattle.fw_flow.specs.WellFormed.{IsWellFormed}
 use Rattle.fw_model.specs.Machine.{front_of}
 use Rattle.fw_model.specs.Choice.{cut_of, notice_of, kept_of, IsLargestBy, IsCutWithin, IsChoiceWithin}
 use Rattle.fw_model.specs.Covers.{set_of}
-use Rattle.fw_model.specs.Offers.{IsOffered, AreAscending, covers_of}
+use Rattle.fw_model.specs.Offers.{IsOffered, RecordsAscend, covers_of}
 use Rattle.fw_monitor.specs.declared.side.Side.TheVariants.{Delivered, Discarded, Notified}
 use Rattle.fw_monitor.specs.declared.side.Limit.TheVariants.{Own, Note}
 use Rattle.fw_monitor.specs.declared.side.Side.{Side}
@@ -21,7 +21,7 @@ use Rattle.fw_monitor.specs.declared.side.Inclusion.{Inclusion}
 use Rattle.fw_monitor.specs.declared.side.Inclusion.TheVariants.{OfCut, OfNote}
 use Rattle.fw_monitor.specs.Held.{held_count}
 use Rattle.fw_monitor.specs.Chosen.{IsChoiceOf}
-use Rattle.fw_monitor.specs.Descent.{choice_of, owner, IsOfFlow, IsCanonicalCut, IsConsistentOf, EnclosesConsistent, HasConsistent, cut_weight, node_weight, weight}
+use Rattle.fw_monitor.specs.Descent.{choice_of, owner, IsSideOfFlow, IsCanonicalCut, IsConsistentOf, EnclosesConsistent, HasConsistent, cut_weight, node_weight, weight}
 use Rattle.fw_monitor.specs.Inclusions.{Holds, IsInclusionOf, node_of, note_node, right_side}
 use Rattle.fw_monitor.specs.Trail.{IsValueLeft, IsGreatestLeft, with_value}
 use Rattle.fw_monitor.proofs.HeldLaws.{sum_below-less, held-most}
@@ -57,7 +57,7 @@ consistent-holds flow offers choice c (OfCut (Notified p)) there = c.notified p 
 consistent-holds flow offers choice c (OfNote (Own p)) there = c.own p there
 consistent-holds flow offers choice c (OfNote (Note d)) there = c.notices d there
 
-pub owner-there : (flow : Dataflow) (side : Side) → IsWellFormed flow → IsOfFlow flow side → owner flow side < length flow.nodes
+pub owner-there : (flow : Dataflow) (side : Side) → IsWellFormed flow → IsSideOfFlow flow side → owner flow side < length flow.nodes
 owner-there flow (Delivered d) well there = well.receivers_declared d there
 owner-there flow (Discarded e) well there = well.senders_declared e there
 owner-there flow (Notified p) well there = there
@@ -134,7 +134,7 @@ value_of flow choice (OfNote limit) = At (front_of choice.notices (note_node flo
 
 -- that of a consistent choice is left
 pub consistent_left : (flow : Dataflow) (offers : List Offer) (i : Inclusion) (choice other : Choice) → IsWellFormed flow → IsInclusionOf flow i → EnclosesConsistent flow offers choice
-    → AreAscending flow offers → IsConsistentOf flow offers other → IsValueLeft flow offers choice i (value_of flow other i)
+    → RecordsAscend flow offers → IsConsistentOf flow offers other → IsValueLeft flow offers choice i (value_of flow other i)
 consistent_left flow offers (OfCut side) choice other well there r a k =
     let l = owner-there flow side well there in
     let inner = r.within a other k in

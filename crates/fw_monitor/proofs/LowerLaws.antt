@@ -17,7 +17,7 @@ use Rattle.fw_flow.specs.Dataflow.{Dataflow, kind_of, policy_of, sender, receive
 use Rattle.fw_flow.specs.Restoring.{can_resend, way_of}
 use Rattle.fw_model.specs.Choice.{IsCutWithin}
 use Rattle.fw_model.specs.Covers.{takes_its_cut, takes_its_notices, discarded_at}
-use Rattle.fw_model.specs.Offers.{IsListed, IsOffered, IsFormOf, Ascend, AreAscending, offered_by, records_of, range_of, delivered_to, notified_of, sent_by, stamps_on, stamps_on_from, delivered_in, sent_in, notified_in}
+use Rattle.fw_model.specs.Offers.{IsListed, IsOffered, IsFormOf, Ascend, RecordsAscend, offered_by, records_of, range_of, delivered_to, notified_of, offered_sent, stamps_on, stamps_on_from, delivered_in, sent_in, notified_in}
 use Rattle.fw_model.proofs.ChoiceLaws.{same_fronts, by_batches-input}
 use Rattle.fw_model.proofs.OfferLaws.{not_listed, listed-there, below_last, between-offered, offered-between, listed-offered, offered-listed}
 use Rattle.fw_monitor.specs.declared.side.Side.{Side}
@@ -49,7 +49,7 @@ pub lower_listed : (flow : Dataflow) (offers : List Offer) (side : Side) (cut : 
     → owner flow side < length flow.nodes → IsCanonical (bounds_of flow (owner flow side)) r.front
     → records_of offers (owner flow side) ≡ pre ++ r ∷ post → range_of offers (owner flow side) ≡ None
     → (Within (left_of flow offers side cut) (frontier_of (side_bounds flow side) bound) → ⊥) → IsBelow flow (owner flow side) r.front cut
-    → (AreAscending flow offers → Fits flow offers side cut bound r × AllByRecursion (λ s. Fits flow offers side cut bound s → ⊥) post)
+    → (RecordsAscend flow offers → Fits flow offers side cut bound r × AllByRecursion (λ s. Fits flow offers side cut bound s → ⊥) post)
     → IsLower flow offers side cut bound (At r.front)
 lower_listed flow offers side cut bound pre r post l c is none fails below last =
     let p = owner flow side in
@@ -133,7 +133,7 @@ all-as-present flow offers (Discarded c) e =
     let b = bounds_of flow (sender flow c) in
     ap (λ f. cond (can_resend (policy_of flow (sender flow c))) nothing f)
     (subst (λ way. discarded_at flow c way (sent_in flow offers c way (At [])) [] ≡ sent_in flow offers c way Present) (sym e)
-    (ap (λ f. cover (bounds_of flow (receiver flow c)) (stamps_on_from c f (sent_by offers (sender flow c)))) (all_is_everything b)))
+    (ap (λ f. cover (bounds_of flow (receiver flow c)) (stamps_on_from c f (offered_sent offers (sender flow c)))) (all_is_everything b)))
 all-as-present flow offers (Notified p) e =
     let b = bounds_of flow p in
     cond-false (takes_its_notices (kind_of flow p) (policy_of flow p)) (frontier_of b []) (notified_in flow offers p (way_of flow p) (At []))

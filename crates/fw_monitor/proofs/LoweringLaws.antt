@@ -12,8 +12,8 @@ use Rattle.fw_model.specs.Choice.{cut_of, notice_of, IsCutWithin}
 use Rattle.fw_monitor.specs.declared.side.Side.{Side}
 use Rattle.fw_monitor.specs.declared.side.Limit.{Limit}
 use Rattle.fw_monitor.specs.declared.side.Inclusion.TheVariants.{OfCut, OfNote}
-use Rattle.fw_monitor.specs.Descent.{choice_of, owner, side_bounds, right_of, IsOfFlow, IsLeft, IsLower, IsLowered, IsNoticeLowered, EnclosesConsistent, HasConsistent}
-use Rattle.fw_monitor.specs.Inclusions.{note_node, limit_of, IsLimitOf}
+use Rattle.fw_monitor.specs.Descent.{choice_of, owner, side_bounds, right_of, IsSideOfFlow, IsLeft, IsLower, IsLowerCut, IsNoticeLowered, EnclosesConsistent, HasConsistent}
+use Rattle.fw_monitor.specs.Inclusions.{note_node, limit_of, IsLimitIn}
 use Rattle.fw_monitor.specs.Trail.{IsCutLeft, IsValueLeft, IsGreatestLeft}
 use Rattle.fw_monitor.specs.Tests.{IsLowering, IsTested}
 use Rattle.fw_monitor.proofs.DescentLaws.{owner-there, node-there, lighter_cut, lighter_notice, consistent_left, value_encloses}
@@ -26,7 +26,7 @@ left_by : (flow : Dataflow) (offers : List Offer) (side : Side) (choice : Choice
     → IsCutLeft flow offers choice side x → IsLeft flow offers side (cut_of choice (owner flow side)) bound x
 left_by flow offers side choice bound x n k = record { offered = k.offered; within = k.within; passes = λ t i. n.same t ∙ k.meets t i }
 
-cut_greatest : (flow : Dataflow) (offers : List Offer) (side : Side) (choice : Choice) (bound : Front) (new : Cut) → IsWellFormed flow → IsOfFlow flow side → EnclosesConsistent flow offers choice
+cut_greatest : (flow : Dataflow) (offers : List Offer) (side : Side) (choice : Choice) (bound : Front) (new : Cut) → IsWellFormed flow → IsSideOfFlow flow side → EnclosesConsistent flow offers choice
     → IsFrontOf (side_bounds flow side) bound (right_of flow offers side choice) → IsLower flow offers side (cut_of choice (owner flow side)) bound new
     → HasConsistent flow offers → IsGreatestLeft flow offers choice (OfCut side) new
 cut_greatest flow offers side choice bound new well there r n low has =
@@ -41,7 +41,7 @@ cut_greatest flow offers side choice bound new well there r n low has =
       greatest = λ x k. (low.largest has.0 offered x (left_by flow offers side choice bound x n k)).1;
     }
 
-cut_lowered : (flow : Dataflow) (offers : List Offer) (side : Side) (choice : Choice) (bound : Front) (new : Cut) → IsWellFormed flow → IsOfFlow flow side → EnclosesConsistent flow offers choice
+cut_lowered : (flow : Dataflow) (offers : List Offer) (side : Side) (choice : Choice) (bound : Front) (new : Cut) → IsWellFormed flow → IsSideOfFlow flow side → EnclosesConsistent flow offers choice
     → IsFrontOf (side_bounds flow side) bound (right_of flow offers side choice) → IsLower flow offers side (cut_of choice (owner flow side)) bound new
     → IsLowering flow offers (OfCut side) choice (choice_of (set choice.cuts (owner flow side) new) choice.notices) new
 cut_lowered flow offers side choice bound new well there r n low =
@@ -54,7 +54,7 @@ cut_lowered flow offers side choice bound new well there r n low =
       greatest = greatest;
     }
 
-pub cut_tested : (flow : Dataflow) (offers : List Offer) (side : Side) (cuts new : List Cut) (notices : List Front) (bound : Front) (p q : ℕ) (c v : Cut) → IsWellFormed flow → IsOfFlow flow side
+pub cut_tested : (flow : Dataflow) (offers : List Offer) (side : Side) (cuts new : List Cut) (notices : List Front) (bound : Front) (p q : ℕ) (c v : Cut) → IsWellFormed flow → IsSideOfFlow flow side
     → EnclosesConsistent flow offers (choice_of cuts notices) → IsFrontOf (side_bounds flow side) bound (right_of flow offers side (choice_of cuts notices)) → p ≡ owner flow side → q ≡ p → v ≡ c → new ≡ set cuts q c
     → IsLower flow offers side (cut_of (choice_of cuts notices) p) bound c → IsTested flow offers (OfCut side) (choice_of cuts notices) (choice_of new notices) (Some v)
 cut_tested flow offers side cuts new notices bound p q c v well there r n e f same is lower =
@@ -63,16 +63,16 @@ cut_tested flow offers side cuts new notices bound p q c v well there r n e f sa
     (subst (λ xs. IsLowering flow offers (OfCut side) (choice_of cuts notices) (choice_of xs notices) c) (ap (λ x. set cuts x c) (sym e ∙ sym f) ∙ sym is) base)
 
 -- where no cut is lower, the side holds
-pub cut_stays : (flow : Dataflow) (offers : List Offer) (side : Side) (cuts : List Cut) (notices : List Front) (bound : Front) (p : ℕ) → IsWellFormed flow → IsOfFlow flow side
+pub cut_stays : (flow : Dataflow) (offers : List Offer) (side : Side) (cuts : List Cut) (notices : List Front) (bound : Front) (p : ℕ) → IsWellFormed flow → IsSideOfFlow flow side
     → EnclosesConsistent flow offers (choice_of cuts notices) → IsFrontOf (side_bounds flow side) bound (right_of flow offers side (choice_of cuts notices)) → p ≡ owner flow side
-    → IsLowered flow offers side (cut_of (choice_of cuts notices) p) bound None → IsTested flow offers (OfCut side) (choice_of cuts notices) (choice_of cuts notices) None
+    → IsLowerCut flow offers side (cut_of (choice_of cuts notices) p) bound None → IsTested flow offers (OfCut side) (choice_of cuts notices) (choice_of cuts notices) None
 cut_stays flow offers side cuts notices bound p well there r n e none = (
   refl,
   λ has t i.
       let choice = choice_of cuts notices in
       let other = consistent_left flow offers (OfCut side) choice has.1.0 well there r has.0 has.1.1 in
       sym (n.same t)
-      ∙ subst (λ x. IsLowered flow offers side (cut_of choice x) bound None) e none has.0 (cut_of has.1.0 (owner flow side)) (left_by flow offers side choice bound (cut_of has.1.0 (owner flow side)) n other) t i,
+      ∙ subst (λ x. IsLowerCut flow offers side (cut_of choice x) bound None) e none has.0 (cut_of has.1.0 (owner flow side)) (left_by flow offers side choice bound (cut_of has.1.0 (owner flow side)) n other) t i,
 )
 
 -- ---- notification frontiers
@@ -95,7 +95,7 @@ note_greatest flow offers limit choice bound f n m = record {
         let b = bounds_of flow (note_node flow limit) in
         meet-largest b f (notice_of flow choice (note_node flow limit)) (frontier_of b bound) (frontier_of b g) m k.within (λ t i. n.same t ∙ k.meets t i)
 
-note_lowered : (flow : Dataflow) (offers : List Offer) (limit : Limit) (choice : Choice) (bound f : Front) → IsWellFormed flow → IsLimitOf flow limit → EnclosesConsistent flow offers choice
+note_lowered : (flow : Dataflow) (offers : List Offer) (limit : Limit) (choice : Choice) (bound f : Front) → IsWellFormed flow → IsLimitIn flow limit → EnclosesConsistent flow offers choice
     → IsFrontOf (bounds_of flow (note_node flow limit)) bound (limit_of flow offers limit choice)
     → IsFrontOf (bounds_of flow (note_node flow limit)) f (meet (notice_of flow choice (note_node flow limit)) (frontier_of (bounds_of flow (note_node flow limit)) bound))
     → (Within (notice_of flow choice (note_node flow limit)) (frontier_of (bounds_of flow (note_node flow limit)) bound) → ⊥)
@@ -114,7 +114,7 @@ note_lowered flow offers limit choice bound f well there r n m fails =
       greatest = λ has. greatest;
     }
 
-pub note_tested : (flow : Dataflow) (offers : List Offer) (limit : Limit) (cuts : List Cut) (old new : List Front) (q : ℕ) (bound : Front) (r : Option Cut) → IsWellFormed flow → IsLimitOf flow limit
+pub note_tested : (flow : Dataflow) (offers : List Offer) (limit : Limit) (cuts : List Cut) (old new : List Front) (q : ℕ) (bound : Front) (r : Option Cut) → IsWellFormed flow → IsLimitIn flow limit
     → EnclosesConsistent flow offers (choice_of cuts old) → IsFrontOf (bounds_of flow (note_node flow limit)) bound (limit_of flow offers limit (choice_of cuts old))
     → q ≡ note_node flow limit → IsNoticeLowered old new q bound r → IsTested flow offers (OfNote limit) (choice_of cuts old) (choice_of cuts new) r
 note_tested flow offers limit cuts old new q bound r well there enc n same low = at r (subst (λ p. IsNoticeLowered old new p bound r) same low)

@@ -12,7 +12,7 @@ use Rattle.fw_frontier.specs.Front.{Front, inside, frontier_of, IsCanonical}
 use Rattle.fw_frontier.proofs.NamesLaws.{frontier-closed, without_above-largest}
 use Rattle.fw_flow.specs.declared.choice.Counted.{Counted}
 use Rattle.fw_flow.specs.Projection.{all_inside}
-use Rattle.fw_model.specs.Offers.{HasOneCause, on_edge}
+use Rattle.fw_model.specs.Offers.{HasOneCause, counted_on_edge}
 use Rattle.fw_model.proofs.PhiLaws.{all_inside-monotone}
 use Rattle.fw_monitor.specs.Kept.{IsBelowStamp, IsSentKept, SentPasses}
 
@@ -40,7 +40,7 @@ sent_kept-push from to e front bound ms m f g k n = record {
 
 -- in a loop over the messages
 
-pub one_cause_at : (e : ℕ) (ms : List Counted) (i : ℕ) (m : Counted) → i < length ms → m ≡ get_or ms i m → AllByRecursion HasOneCause (on_edge e ms)
+pub one_cause_at : (e : ℕ) (ms : List Counted) (i : ℕ) (m : Counted) → i < length ms → m ≡ get_or ms i m → AllByRecursion HasOneCause (counted_on_edge e ms)
     → (m.edge == e) ≡ true → HasOneCause m
 one_cause_at e ms i m l is ones =
     subst (λ (c : Counted). (c.edge == e) ≡ true → HasOneCause c) (sym is)

@@ -17,7 +17,7 @@ use Rattle.fw_flow.specs.Dataflow.{Dataflow, bounds_of}
 use Rattle.fw_model.specs.Machine.{front_of}
 use Rattle.fw_model.specs.Choice.{cut_of, IsCutWithin}
 use Rattle.fw_model.specs.Covers.{set_of}
-use Rattle.fw_model.specs.Offers.{IsListed, IsBetween, IsOneOf, IsOffered, Ascend, IsRangeOf, IsRecordOf, can_stay, offered_by, offered_range, records_of, range_of, AreOffersOf}
+use Rattle.fw_model.specs.Offers.{IsListed, IsBetween, IsOfferedFront, IsOffered, Ascend, IsRangeOf, IsRecordOf, can_stay, offered_by, offered_range, records_of, range_of, AreOffersOf}
 use Rattle.fw_monitor.specs.Descent.{choice_of, has_all, IsCanonicalCut, EnclosesConsistent, IsGreatest}
 use Rattle.fw_model.proofs.OfferLaws.{below_last, listed-there, offered-between, listed-offered, offered-listed}
 use Rattle.fw_monitor.proofs.DescentLaws.{set-monotone}
@@ -28,7 +28,7 @@ pub greatest_all : (flow : Dataflow) (offers : List Offer) (p : ℕ) (r s : Bool
 greatest_all flow offers p r s f e is all has same =
     subst (λ g. IsGreatest flow offers p (At g)) (sym same) (record { canonical = tt; largest = λ asc x o. at x o })
   where
-    top : (x : Offered) → has_all x ≡ true → IsOneOf (bounds_of flow p) x []
+    top : (x : Offered) → has_all x ≡ true → IsOfferedFront (bounds_of flow p) x []
     top (form.Listed records) k = absurd (cc)
     top (form.Between least greatest) k = absurd (cc)
     top (form.Batches least greatest exhausted) k = inr (k, refl)
@@ -43,7 +43,7 @@ IsWithinEnds b None g = ⊥
 IsWithinEnds b (Some ends) g = IsBetween b ends.0 ends.1 g
 
 -- where all is not on top, what is offered lies in the range
-in_range : (b : Bounds) (x : Offered) (least greatest g : Front) → offered_range x ≡ Some (least, greatest) → has_all x ≡ false → IsOneOf b x g → IsBetween b least greatest g
+in_range : (b : Bounds) (x : Offered) (least greatest g : Front) → offered_range x ≡ Some (least, greatest) → has_all x ≡ false → IsOfferedFront b x g → IsBetween b least greatest g
 unfolding IsWithinEnds
 in_range b (form.Listed records) least greatest g e none i = absurd (cc)
 in_range b (form.Between low high) least greatest g e none i = subst (λ ends. IsWithinEnds b ends g) e i

@@ -16,7 +16,7 @@ use Rattle.fw_model.specs.Covers.{set_of}
 use Rattle.fw_model.specs.Offers.{arrived_from}
 use Rattle.fw_monitor.specs.declared.side.Side.{Side}
 use Rattle.fw_monitor.specs.declared.side.Side.TheVariants.{Delivered, Discarded}
-use Rattle.fw_monitor.specs.Descent.{side_bounds, IsOfFlow, right_of, IsCanonicalCut, EnclosesConsistent, IsNoticeLowered}
+use Rattle.fw_monitor.specs.Descent.{side_bounds, IsSideOfFlow, right_of, IsCanonicalCut, EnclosesConsistent, IsNoticeLowered}
 
 -- what comes from what a front names
 pub arrived_same : (flow : Dataflow) (offers : List Offer) (e : ℕ) (b c : Bounds) (f g : Front) (s : Frontier) → IsFrontOf c f s → IsFrontOf b g (arrived_from flow offers e (frontier_of c f)) → IsFrontOf b g (arrived_from flow offers e s)
@@ -45,8 +45,8 @@ notice_cut notices p q bound f v x y r e l same i j k test cut =
 pub cut_here : (flow : Dataflow) (offers : List Offer) (choice : Choice) (p q : ℕ) (c : Cut) → EnclosesConsistent flow offers choice → p < length flow.nodes → c ≡ cut_of choice q → q ≡ p → IsCanonicalCut (bounds_of flow p) c
 cut_here flow offers choice p q c r l is e = subst (IsCanonicalCut (bounds_of flow p)) (sym (is ∙ ap (cut_of choice) e)) (r.cuts p l)
 
-pub there_at : (flow : Dataflow) (side other : Side) → IsOfFlow flow side → side ≡ other → IsOfFlow flow other
-there_at flow side other l e = subst (IsOfFlow flow) e l
+pub there_at : (flow : Dataflow) (side other : Side) → IsSideOfFlow flow side → side ≡ other → IsSideOfFlow flow other
+there_at flow side other l e = subst (IsSideOfFlow flow) e l
 
 pub delivered_at_cut : (flow : Dataflow) (offers : List Offer) (side : Side) (d q : ℕ) (choice : Choice) (g : Front) (c : Cut) → side ≡ Delivered d → c ≡ cut_of choice q → q ≡ sender flow d
     → IsFrontOf (bounds_of flow (receiver flow d)) g (arrived_from flow offers d (set_of flow (sender flow d) c)) → IsFrontOf (side_bounds flow side) g (right_of flow offers side choice)

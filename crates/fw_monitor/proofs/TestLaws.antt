@@ -18,9 +18,9 @@ use Rattle.fw_model.specs.Choice.{cut_of}
 use Rattle.fw_model.specs.Covers.{set_of}
 use Rattle.fw_monitor.specs.declared.side.Inclusion.{Inclusion}
 use Rattle.fw_monitor.specs.Descent.{choice_of, HasConsistent, IsGreatest, weight}
-use Rattle.fw_monitor.specs.Inclusions.{Holds, IsInclusionOf, inclusions, number, how_many, waits, after, ArePut}
+use Rattle.fw_monitor.specs.Inclusions.{Holds, IsInclusionOf, inclusions, number, inclusion_count, waits, after, AreMadeToWait}
 use Rattle.fw_monitor.specs.Trail.{lowering_of, IsTrail}
-use Rattle.fw_monitor.specs.Tests.{IsTested, IsGoing, IsNext, IsTaken}
+use Rattle.fw_monitor.specs.Tests.{IsTested, IsGoing, IsFirstWaiting, IsOneTest}
 use Rattle.fw_monitor.proofs.StartLaws.{start_encloses}
 use Rattle.fw_monitor.proofs.TrailLaws.{going_held, going_lowered}
 use Rattle.fw_monitor.proofs.WorklistLaws.{inclusions-there, each-inclusion, number-below, cleared-rest, all_waits, count-most, count-all, count-none, each_number, take_next}
@@ -28,15 +28,15 @@ use Rattle.fw_monitor.proofs.WorklistLaws.{inclusions-there, each-inclusion, num
 -- ---- one test
 
 -- what the flag that is read says
-pub flag_read : (flow : Dataflow) (waiting : List Bool) (i : Inclusion) (n : ℕ) (r b : Bool) → n ≡ number flow i → IsInclusionOf flow i → length waiting ≡ how_many flow → r ≡ get_or waiting n r → r ≡ b → waits flow waiting i ≡ b
+pub flag_read : (flow : Dataflow) (waiting : List Bool) (i : Inclusion) (n : ℕ) (r b : Bool) → n ≡ number flow i → IsInclusionOf flow i → length waiting ≡ inclusion_count flow → r ≡ get_or waiting n r → r ≡ b → waits flow waiting i ≡ b
 flag_read flow waiting i n r b e l each is k =
     let below = number-below flow i l in
     let there : n < length waiting = omega arith in
     ap (λ x. get_or waiting x true) (sym e) ∙ sym (get_or_read waiting n r there is true) ∙ k
 
 pub taken_held : (flow : Dataflow) (offers : List Offer) (i : Inclusion) (choice next : Choice) (trail : List Lowering) (waiting : List Bool) (steps more : ℕ) → IsInclusionOf flow i
-    → length waiting ≡ how_many flow → waits flow waiting i ≡ true → more ≡ steps + 1 → IsTested flow offers i choice next None
-    → IsTaken flow offers i choice next trail trail waiting (set waiting (number flow i) false) steps more false
+    → length waiting ≡ inclusion_count flow → waits flow waiting i ≡ true → more ≡ steps + 1 → IsTested flow offers i choice next None
+    → IsOneTest flow offers i choice next trail trail waiting (set waiting (number flow i) false) steps more false
 taken_held flow offers i choice next trail waiting steps more l each w one (same, holds) =
     let below = number-below flow i l in
     let there : number flow i < length waiting = omega arith in
@@ -50,10 +50,10 @@ taken_held flow offers i choice next trail waiting steps more l each w one (same
     }
 
 pub taken_lowered : (flow : Dataflow) (offers : List Offer) (i : Inclusion) (choice next : Choice) (to : Cut) (l : Lowering) (trail more_trail : List Lowering) (waiting left : List Bool) (steps more : ℕ) → IsWellFormed flow
-    → IsInclusionOf flow i → IsNext flow waiting i → waits flow waiting i ≡ true → more ≡ steps + 1 → IsTested flow offers i choice next (Some to)
+    → IsInclusionOf flow i → IsFirstWaiting flow waiting i → waits flow waiting i ≡ true → more ≡ steps + 1 → IsTested flow offers i choice next (Some to)
     → l ≡ lowering_of flow i to → more_trail ≡ trail ++ l ∷ []
-    → ArePut flow (after flow i) (set waiting (number flow i) false) left
-    → IsTaken flow offers i choice next trail more_trail waiting left steps more true
+    → AreMadeToWait flow (after flow i) (set waiting (number flow i) false) left
+    → IsOneTest flow offers i choice next trail more_trail waiting left steps more true
 taken_lowered flow offers i choice next to l trail more_trail waiting left steps more well there n w one low told is put = record {
   going = λ before g. subst (λ t. IsGoing flow offers next t left before more) (sym (is ∙ ap (λ x. trail ++ x ∷ []) told))
       (going_lowered flow offers i choice next to trail waiting left before steps more well there n w one low put g);
@@ -78,7 +78,7 @@ left_over flow choice place = weight flow choice * suc (length (inclusions flow)
 pub begun : (flow : Dataflow) (offers : List Offer) (cuts : List Cut) (notices : List Front) (waiting : List Bool) (steps : ℕ) → length cuts ≡ length flow.nodes → length notices ≡ length flow.nodes
     → ((p : ℕ) → p < length flow.nodes → IsGreatest flow offers p (cut_of (choice_of cuts []) p))
     → ((p : ℕ) → p < length flow.nodes → IsFrontOf (bounds_of flow p) (front_of notices p) (set_of flow p (cut_of (choice_of cuts []) p)))
-    → length waiting ≡ how_many flow → AllByRecursion (λ w. w ≡ true) waiting → IsAt flow offers (choice_of cuts notices) [] waiting steps steps 0
+    → length waiting ≡ inclusion_count flow → AllByRecursion (λ w. w ≡ true) waiting → IsAt flow offers (choice_of cuts notices) [] waiting steps steps 0
 begun flow offers cuts notices waiting steps one each greatest kept many all =
     let most = count-most waiting in
     let every = count-all waiting all in
@@ -98,7 +98,7 @@ begun flow offers cuts notices waiting steps one each greatest kept many all =
     }
 
 pub next_at : (flow : Dataflow) (waiting : List Bool) (all : List Inclusion) (place : ℕ) (i : Inclusion) → all ≡ inclusions flow → place < length all → i ≡ get_or all place i
-    → AllByRecursion (λ j. waits flow waiting j ≡ false) (take place (inclusions flow)) → IsNext flow waiting i
+    → AllByRecursion (λ j. waits flow waiting j ≡ false) (take place (inclusions flow)) → IsFirstWaiting flow waiting i
 next_at flow waiting all place i e l is done = record {
   earlier = take place (inclusions flow);
   later = drop (place + 1) (inclusions flow);
@@ -111,12 +111,12 @@ there_at flow all place i e l is =
     subst (IsInclusionOf flow) (sym is) (each-at (IsInclusionOf flow) all place i l (subst (AllByRecursion (IsInclusionOf flow)) (sym e) (inclusions-there flow)))
 
 pub again_at : (flow : Dataflow) (offers : List Offer) (i : Inclusion) (old new : Choice) (trail more : List Lowering) (waiting left : List Bool) (before steps next place : ℕ) (b : Bool)
-    → IsTaken flow offers i old new trail more waiting left steps next b → IsAt flow offers old trail waiting before steps place → IsAt flow offers new more left before next 0
+    → IsOneTest flow offers i old new trail more waiting left steps next b → IsAt flow offers old trail waiting before steps place → IsAt flow offers new more left before next 0
 again_at flow offers i old new trail more waiting left before steps next place b t a = record { going = t.going before a.going; done = tt; within = omega arith }
 
 pub further_at : (flow : Dataflow) (offers : List Offer) (all : List Inclusion) (i : Inclusion) (old new : Choice) (trail more : List Lowering) (waiting left : List Bool) (before steps next place : ℕ) (b : Bool) → b ≡ false
     → all ≡ inclusions flow → place < length all → i ≡ get_or all place i
-    → IsTaken flow offers i old new trail more waiting left steps next b → IsAt flow offers old trail waiting before steps place → IsAt flow offers new more left before next (place + 1)
+    → IsOneTest flow offers i old new trail more waiting left steps next b → IsAt flow offers old trail waiting before steps place → IsAt flow offers new more left before next (place + 1)
 further_at flow offers all i old new trail more waiting left before steps next place b e same l is t a =
     let m = ap length same in
     let next_is : take (place + 1) (inclusions flow) ≡ take place (inclusions flow) ++ i ∷ [] = subst (λ xs. take (place + 1) xs ≡ take place xs ++ i ∷ []) same (take_next all place i l is) in
@@ -129,7 +129,7 @@ further_at flow offers all i old new trail more waiting left before steps next p
     }
 
 pub again_falls : (flow : Dataflow) (offers : List Offer) (i : Inclusion) (old new : Choice) (trail more : List Lowering) (waiting left : List Bool) (steps next place : ℕ) (b : Bool) → b ≡ true
-    → IsTaken flow offers i old new trail more waiting left steps next b → left_over flow new 0 < left_over flow old place
+    → IsOneTest flow offers i old new trail more waiting left steps next b → left_over flow new 0 < left_over flow old place
 unfolding left_over
 again_falls flow offers i old new trail more waiting left steps next place b e t =
     let k = t.fewer e in
@@ -141,7 +141,7 @@ again_falls flow offers i old new trail more waiting left steps next place b e t
 
 pub further_falls : (flow : Dataflow) (offers : List Offer) (all : List Inclusion) (i : Inclusion) (old new : Choice) (trail more : List Lowering) (waiting left : List Bool) (steps next place : ℕ) (b : Bool) → b ≡ false
     → all ≡ inclusions flow → place < length all
-    → IsTaken flow offers i old new trail more waiting left steps next b → left_over flow new (place + 1) < left_over flow old place
+    → IsOneTest flow offers i old new trail more waiting left steps next b → left_over flow new (place + 1) < left_over flow old place
 unfolding left_over
 further_falls flow offers all i old new trail more waiting left steps next place b e same l t =
     let m = ap length same in
@@ -172,7 +172,7 @@ trail_ends flow offers choice trail waiting before steps place well a l has = re
 
 -- at the end each inclusion was tested
 pub each_tested : (flow : Dataflow) (offers : List Offer) (choice : Choice) (trail : List Lowering) (waiting : List Bool) (before steps place : ℕ) → IsWellFormed flow
-    → IsAt flow offers choice trail waiting before steps place → length (inclusions flow) ≤ place → before + how_many flow ≤ steps
+    → IsAt flow offers choice trail waiting before steps place → length (inclusions flow) ≤ place → before + inclusion_count flow ≤ steps
 each_tested flow offers choice trail waiting before steps place well a l =
     let done = subst (AllByRecursion (λ j. waits flow waiting j ≡ false)) (take_all (inclusions flow) place l) a.done in
     let tested = a.going.tested in

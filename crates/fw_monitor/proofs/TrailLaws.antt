@@ -20,9 +20,9 @@ use Rattle.fw_monitor.specs.declared.side.Limit.TheVariants.{Own, Note}
 use Rattle.fw_monitor.specs.declared.side.Inclusion.{Inclusion}
 use Rattle.fw_monitor.specs.declared.side.Inclusion.TheVariants.{OfCut, OfNote}
 use Rattle.fw_monitor.specs.Descent.{owner, HasConsistent}
-use Rattle.fw_monitor.specs.Inclusions.{Holds, IsInclusionOf, note_node, node_of, may_break, number, waits, after, ArePut}
+use Rattle.fw_monitor.specs.Inclusions.{Holds, IsInclusionOf, note_node, node_of, may_break, number, waits, after, AreMadeToWait}
 use Rattle.fw_monitor.specs.Trail.{IsFirstFailing, IsValueLeft, with_value, lowering_of, IsLoweredBy, Leads, tests_after, degree}
-use Rattle.fw_monitor.specs.Tests.{IsLowering, IsGoing, IsNext}
+use Rattle.fw_monitor.specs.Tests.{IsLowering, IsGoing, IsFirstWaiting}
 use Rattle.fw_monitor.proofs.BreakLaws.{cut_spares, note_spares}
 use Rattle.fw_monitor.proofs.DescentLaws.{node-there}
 use Rattle.fw_monitor.proofs.WorklistLaws.{inclusions-there, number-below, count-cleared, cleared-other, after-each, after-most}
@@ -67,7 +67,7 @@ mended flow offers choice (OfNote (Note d)) (At f) l left k = λ t i.
     ∙ left.meets t (sym (ap (λ g. frontier_of (bounds_of flow p) g t) (get_or-set_same choice.notices p f [] l)) ∙ i)
 
 -- the first that waits is the first that fails, if it does
-first_failing : (flow : Dataflow) (offers : List Offer) (choice : Choice) (waiting : List Bool) (i : Inclusion) → IsNext flow waiting i → (Holds flow offers choice i → ⊥)
+first_failing : (flow : Dataflow) (offers : List Offer) (choice : Choice) (waiting : List Bool) (i : Inclusion) → IsFirstWaiting flow waiting i → (Holds flow offers choice i → ⊥)
     → ((j : Inclusion) → IsInclusionOf flow j → waits flow waiting j ≡ false → Holds flow offers choice j) → IsFirstFailing flow offers choice i
 first_failing flow offers choice waiting i n fails settled =
     let there = each-prefix (IsInclusionOf flow) n.earlier (i ∷ n.later) (subst (AllByRecursion (IsInclusionOf flow)) n.place (inclusions-there flow)) in
@@ -81,8 +81,8 @@ first_failing flow offers choice waiting i n fails settled =
     }
 
 pub going_lowered : (flow : Dataflow) (offers : List Offer) (i : Inclusion) (choice next : Choice) (to : Cut) (trail : List Lowering) (waiting left : List Bool) (before steps more : ℕ)
-    → IsWellFormed flow → IsInclusionOf flow i → IsNext flow waiting i → waits flow waiting i ≡ true → more ≡ steps + 1 → IsLowering flow offers i choice next to
-    → ArePut flow (after flow i) (set waiting (number flow i) false) left
+    → IsWellFormed flow → IsInclusionOf flow i → IsFirstWaiting flow waiting i → waits flow waiting i ≡ true → more ≡ steps + 1 → IsLowering flow offers i choice next to
+    → AreMadeToWait flow (after flow i) (set waiting (number flow i) false) left
     → IsGoing flow offers choice trail waiting before steps → IsGoing flow offers next (trail ++ lowering_of flow i to ∷ []) left before more
 going_lowered flow offers i choice next to trail waiting left before steps more well l n w one low put g =
     let at = node-there flow i well l in

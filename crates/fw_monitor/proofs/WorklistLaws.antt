@@ -17,7 +17,7 @@ use Rattle.fw_monitor.specs.declared.side.OnEdge.{OnEdge}
 use Rattle.fw_monitor.specs.declared.side.Inclusion.{Inclusion}
 use Rattle.fw_monitor.specs.declared.side.Inclusion.TheVariants.{OfCut, OfNote}
 use Rattle.fw_monitor.specs.Descent.{owner}
-use Rattle.fw_monitor.specs.Inclusions.{IsInclusionOf, on_edge, note_node, node_of, inclusions_at, inclusions_to, inclusions, may_break, reads_cut, reads_note, after_cut, after_note, after, number, how_many, waits, count, ArePut}
+use Rattle.fw_monitor.specs.Inclusions.{IsInclusionOf, inclusion_on_edge, note_node, node_of, inclusions_at, inclusions_to, inclusions, may_break, reads_cut, reads_note, after_cut, after_note, after, number, inclusion_count, waits, count, AreMadeToWait}
 use Rattle.fw_monitor.specs.Trail.{degree}
 
 -- ---- what holds of each of five lists in turn
@@ -112,8 +112,8 @@ pub longer : {A : Type 0} (z a b u v : List A) → u ≡ z ++ a → v ≡ u ++ b
 longer z a b u v e f = f ∙ ap (λ w. w ++ b) e ∙ append_assoc z a b
 
 -- the same by what is said of edges
-pub longer_on : (what : OnEdge) (z a u v : List Inclusion) (es ds : List ℕ) → es ≡ ds → u ≡ z ++ a → v ≡ u ++ map (on_edge what) es → v ≡ z ++ (a ++ map (on_edge what) ds)
-longer_on what z a u v es ds same e f = longer z a (map (on_edge what) ds) u v e (f ∙ ap (λ xs. u ++ map (on_edge what) xs) same)
+pub longer_on : (what : OnEdge) (z a u v : List Inclusion) (es ds : List ℕ) → es ≡ ds → u ≡ z ++ a → v ≡ u ++ map (inclusion_on_edge what) es → v ≡ z ++ (a ++ map (inclusion_on_edge what) ds)
+longer_on what z a u v es ds same e f = longer z a (map (inclusion_on_edge what) ds) u v e (f ∙ ap (λ xs. u ++ map (inclusion_on_edge what) xs) same)
 
 -- ---- those that a lowering can break
 
@@ -193,7 +193,7 @@ after-most flow (OfNote limit) = let h = length-map (out_edges flow (note_node f
 
 -- ---- numbers
 
-pub number-below : (flow : Dataflow) (i : Inclusion) → IsInclusionOf flow i → number flow i < how_many flow
+pub number-below : (flow : Dataflow) (i : Inclusion) → IsInclusionOf flow i → number flow i < inclusion_count flow
 number-below flow (OfCut (Delivered d)) l = omega arith
 number-below flow (OfCut (Discarded e)) l = omega arith
 number-below flow (OfCut (Notified p)) l = omega arith
@@ -201,7 +201,7 @@ number-below flow (OfNote (Own p)) l = omega arith
 number-below flow (OfNote (Note d)) l = omega arith
 
 -- each number below how many there are is one of an inclusion
-pub each_number : (flow : Dataflow) (P : ℕ → Type 0) → ((i : Inclusion) → IsInclusionOf flow i → P (number flow i)) → (n : ℕ) → n < how_many flow → P n
+pub each_number : (flow : Dataflow) (P : ℕ → Type 0) → ((i : Inclusion) → IsInclusionOf flow i → P (number flow i)) → (n : ℕ) → n < inclusion_count flow → P n
 each_number flow P h n l =
     let e = length flow.edges in
     let v = length flow.nodes in
@@ -312,7 +312,7 @@ count-none (false ∷ ws) h = count-none ws (λ n l. h (suc n) (omega arith))
 
 -- ---- what is put back
 
-pub put_one : (flow : Dataflow) (ws : List Bool) (i : Inclusion) → ArePut flow (i ∷ []) ws (set ws (number flow i) true)
+pub put_one : (flow : Dataflow) (ws : List Bool) (i : Inclusion) → AreMadeToWait flow (i ∷ []) ws (set ws (number flow i) true)
 put_one flow ws i = record {
   one_each = length-set ws (number flow i) true;
   wait = (put-same ws (number flow i), tt);
@@ -321,7 +321,7 @@ put_one flow ws i = record {
   none_out = count-kept ws (number flow i);
 }
 
-put_more : (flow : Dataflow) (is js : List Inclusion) (a b c : List Bool) → ArePut flow is a b → ArePut flow js b c → ArePut flow (is ++ js) a c
+put_more : (flow : Dataflow) (is js : List Inclusion) (a b c : List Bool) → AreMadeToWait flow is a b → AreMadeToWait flow js b c → AreMadeToWait flow (is ++ js) a c
 put_more flow is js a b c k l =
     let few = k.few in
     let more = l.few in
@@ -337,5 +337,5 @@ put_more flow is js a b c k l =
     }
 
 pub put_next : (flow : Dataflow) (all : List Inclusion) (n : ℕ) (x : Inclusion) (a b c : List Bool) → n < length all → x ≡ get_or all n x
-    → ArePut flow (take n all) a b → ArePut flow (x ∷ []) b c → ArePut flow (take (n + 1) all) a c
-put_next flow all n x a b c l is k one = subst (λ xs. ArePut flow xs a c) (sym (take_next all n x l is)) (put_more flow (take n all) (x ∷ []) a b c k one)
+    → AreMadeToWait flow (take n all) a b → AreMadeToWait flow (x ∷ []) b c → AreMadeToWait flow (take (n + 1) all) a c
+put_next flow all n x a b c l is k one = subst (λ xs. AreMadeToWait flow xs a c) (sym (take_next all n x l is)) (put_more flow (take n all) (x ∷ []) a b c k one)

@@ -20,7 +20,7 @@ use Rattle.fw_model.specs.Choice.{cut_of, notice_of, kept_of, IsConsistentBy, Is
 use Rattle.fw_monitor.specs.declared.side.Side.{Side}
 use Rattle.fw_monitor.specs.declared.side.Side.TheVariants.{Delivered, Discarded, Notified}
 use Rattle.fw_monitor.specs.Held.{held_count, sum_below}
-use Rattle.fw_model.specs.Offers.{IsOffered, AreAscending, records_of, record_at, recorded_delivered, recorded_discarded, recorded_notified, arrived_from, covers_of}
+use Rattle.fw_model.specs.Offers.{IsOffered, RecordsAscend, records_of, record_at, recorded_delivered, recorded_discarded, recorded_notified, arrived_from, covers_of}
 
 -- these cuts and notification frontiers
 abbrev pub choice_of : List Cut → List Front → Choice
@@ -39,10 +39,10 @@ side_bounds flow (Discarded e) = bounds_of flow (receiver flow e)
 side_bounds flow (Notified p) = bounds_of flow p
 
 -- its edge or its node is one of the dataflow
-abbrev pub IsOfFlow : Dataflow → Side → Type 0
-IsOfFlow flow (Delivered d) = d < length flow.edges
-IsOfFlow flow (Discarded e) = e < length flow.edges
-IsOfFlow flow (Notified p) = p < length flow.nodes
+abbrev pub IsSideOfFlow : Dataflow → Side → Type 0
+IsSideOfFlow flow (Delivered d) = d < length flow.edges
+IsSideOfFlow flow (Discarded e) = e < length flow.edges
+IsSideOfFlow flow (Notified p) = p < length flow.nodes
 
 -- whether all is offered on top of a source's batches
 abbrev pub has_all : Offered → Bool
@@ -118,16 +118,16 @@ pub record IsLower (flow : Dataflow) (offers : List Offer) (side : Side) (cut : 
   pub canonical : IsCanonicalCut (bounds_of flow (owner flow side)) new
   pub within : IsCutWithin flow (owner flow side) new cut
   pub other : new ≢ cut
-  pub passes : AreAscending flow offers → Within (left_of flow offers side new) (frontier_of (side_bounds flow side) bound)
-  pub largest : AreAscending flow offers → IsOffered flow offers (owner flow side) cut → (x : Cut) → IsLeft flow offers side cut bound x
+  pub passes : RecordsAscend flow offers → Within (left_of flow offers side new) (frontier_of (side_bounds flow side) bound)
+  pub largest : RecordsAscend flow offers → IsOffered flow offers (owner flow side) cut → (x : Cut) → IsLeft flow offers side cut bound x
       → IsOffered flow offers (owner flow side) new × IsCutWithin flow (owner flow side) x new
 
 -- a lower cut; or else the side lies within the frontier, if some cut is left
-abbrev pub IsLowered : Dataflow → List Offer → Side → Cut → Front → Option Cut → Type 0
-IsLowered flow offers side cut bound None =
-    AreAscending flow offers → (x : Cut) → IsLeft flow offers side cut bound x
+abbrev pub IsLowerCut : Dataflow → List Offer → Side → Cut → Front → Option Cut → Type 0
+IsLowerCut flow offers side cut bound None =
+    RecordsAscend flow offers → (x : Cut) → IsLeft flow offers side cut bound x
     → Within (left_of flow offers side cut) (frontier_of (side_bounds flow side) bound)
-IsLowered flow offers side cut bound (Some new) = IsLower flow offers side cut bound new
+IsLowerCut flow offers side cut bound (Some new) = IsLower flow offers side cut bound new
 
 -- a frontier of those within another, whose side lies within a bound: the largest
 pub record IsCutDown (flow : Dataflow) (offers : List Offer) (side : Side) (front bound f : Front) : Type 0 where
@@ -148,13 +148,13 @@ pub record EnclosesConsistent (flow : Dataflow) (offers : List Offer) (choice : 
   pub one_notice_each : length choice.notices ≡ length flow.nodes
   pub cuts : (p : ℕ) → p < length flow.nodes → IsCanonicalCut (bounds_of flow p) (cut_of choice p)
   pub notices : (p : ℕ) → p < length flow.nodes → IsCanonical (bounds_of flow p) (front_of choice.notices p)
-  pub within : AreAscending flow offers → (other : Choice) → IsConsistentOf flow offers other → IsChoiceWithin flow other choice
-  pub offered : AreAscending flow offers → (other : Choice) → IsConsistentOf flow offers other
+  pub within : RecordsAscend flow offers → (other : Choice) → IsConsistentOf flow offers other → IsChoiceWithin flow other choice
+  pub offered : RecordsAscend flow offers → (other : Choice) → IsConsistentOf flow offers other
       → (p : ℕ) → p < length flow.nodes → IsOffered flow offers p (cut_of choice p)
 
 -- records ascend, and there is a consistent choice
 abbrev pub HasConsistent : Dataflow → List Offer → Type 0
-HasConsistent flow offers = AreAscending flow offers × ((other : Choice) × IsConsistentOf flow offers other)
+HasConsistent flow offers = RecordsAscend flow offers × ((other : Choice) × IsConsistentOf flow offers other)
 
 -- how many stamps a cut holds, and one more for a state as it is
 unfoldable pub cut_weight : Bounds → Cut → ℕ
@@ -180,4 +180,4 @@ IsNoticeLowered old new p bound (Some to) =
 -- a node's greatest cut: each that it offers lies within it, and it is offered if some cut is
 pub record IsGreatest (flow : Dataflow) (offers : List Offer) (p : ℕ) (cut : Cut) : Type 0 where
   pub canonical : IsCanonicalCut (bounds_of flow p) cut
-  pub largest : AreAscending flow offers → (x : Cut) → IsOffered flow offers p x → IsOffered flow offers p cut × IsCutWithin flow p x cut
+  pub largest : RecordsAscend flow offers → (x : Cut) → IsOffered flow offers p x → IsOffered flow offers p cut × IsCutWithin flow p x cut

@@ -14,7 +14,7 @@ use Rattle.fw_monitor.specs.declared.side.OnEdge.{OnEdge}
 use Rattle.fw_monitor.specs.declared.side.OnEdge.TheVariants as edge
 use Rattle.fw_monitor.specs.declared.side.Inclusion.{Inclusion}
 use Rattle.fw_monitor.specs.declared.side.Inclusion.TheVariants.{OfCut, OfNote}
-use Rattle.fw_monitor.specs.Descent.{owner, IsOfFlow, right_of, IsMet}
+use Rattle.fw_monitor.specs.Descent.{owner, IsSideOfFlow, right_of, IsMet}
 
 -- the node whose notification frontier a limit is of
 abbrev pub note_node : Dataflow → Limit → ℕ
@@ -27,14 +27,14 @@ limit_of flow offers (Own p) choice = kept_of flow choice p
 limit_of flow offers (Note d) choice = arrived_from flow offers d (notice_of flow choice (sender flow d))
 
 -- its edge or its node is one of the dataflow
-abbrev pub IsLimitOf : Dataflow → Limit → Type 0
-IsLimitOf flow (Own p) = p < length flow.nodes
-IsLimitOf flow (Note d) = d < length flow.edges
+abbrev pub IsLimitIn : Dataflow → Limit → Type 0
+IsLimitIn flow (Own p) = p < length flow.nodes
+IsLimitIn flow (Note d) = d < length flow.edges
 
 -- the same of an inclusion
 abbrev pub IsInclusionOf : Dataflow → Inclusion → Type 0
-IsInclusionOf flow (OfCut side) = IsOfFlow flow side
-IsInclusionOf flow (OfNote limit) = IsLimitOf flow limit
+IsInclusionOf flow (OfCut side) = IsSideOfFlow flow side
+IsInclusionOf flow (OfNote limit) = IsLimitIn flow limit
 
 -- the node one of whose values stands on the left of an inclusion
 abbrev pub node_of : Dataflow → Inclusion → ℕ
@@ -70,10 +70,10 @@ inclusions flow = inclusions_to flow (length flow.nodes)
 -- ---- for the proofs of src/worklist.rt
 
 -- the inclusion that says this of edge d
-abbrev pub on_edge : OnEdge → ℕ → Inclusion
-on_edge edge.Delivered d = OfCut (Delivered d)
-on_edge edge.Discarded d = OfCut (Discarded d)
-on_edge edge.Note d = OfNote (Note d)
+abbrev pub inclusion_on_edge : OnEdge → ℕ → Inclusion
+inclusion_on_edge edge.Delivered d = OfCut (Delivered d)
+inclusion_on_edge edge.Discarded d = OfCut (Discarded d)
+inclusion_on_edge edge.Note d = OfNote (Note d)
 
 -- whether a lower cut of node p can break it
 abbrev pub reads_cut : Dataflow → ℕ → Inclusion → Bool
@@ -121,8 +121,8 @@ number flow (OfCut (Notified p)) = length flow.edges + length flow.edges + lengt
 number flow (OfNote (Own p)) = length flow.edges + length flow.edges + length flow.edges + length flow.nodes + p
 
 -- how many there are: three for each edge, two for each node
-abbrev pub how_many : Dataflow → ℕ
-how_many flow = length flow.edges + length flow.edges + length flow.edges + length flow.nodes + length flow.nodes
+abbrev pub inclusion_count : Dataflow → ℕ
+inclusion_count flow = length flow.edges + length flow.edges + length flow.edges + length flow.nodes + length flow.nodes
 
 -- whether the inclusion waits for its test, by a list of flags
 abbrev pub waits : Dataflow → List Bool → Inclusion → Bool
@@ -135,7 +135,7 @@ count (true ∷ waiting) = suc (count waiting)
 count (false ∷ waiting) = count waiting
 
 -- these wait now, each that waited still does, no more are added than that many, and none is taken out
-pub record ArePut (flow : Dataflow) (is : List Inclusion) (old new : List Bool) : Type 0 where
+pub record AreMadeToWait (flow : Dataflow) (is : List Inclusion) (old new : List Bool) : Type 0 where
   pub one_each : length new ≡ length old
   pub wait : AllByRecursion (λ i. waits flow new i ≡ true) is
   pub still : (j : Inclusion) → waits flow old j ≡ true → waits flow new j ≡ true

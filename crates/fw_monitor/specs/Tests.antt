@@ -8,7 +8,7 @@ use Rattle.fw_flow.specs.declared.trail.Lowering.{Lowering}
 use Rattle.fw_flow.specs.Dataflow.{Dataflow}
 use Rattle.fw_monitor.specs.declared.side.Inclusion.{Inclusion}
 use Rattle.fw_monitor.specs.Descent.{weight, HasConsistent, EnclosesConsistent}
-use Rattle.fw_monitor.specs.Inclusions.{Holds, IsInclusionOf, inclusions, how_many, waits, count}
+use Rattle.fw_monitor.specs.Inclusions.{Holds, IsInclusionOf, inclusions, inclusion_count, waits, count}
 use Rattle.fw_monitor.specs.Trail.{IsGreatestLeft, with_value, Leads, IsStart, tests_after}
 
 -- a value was lowered: by an inclusion that fails, to the greatest that is left, if there is a consistent choice
@@ -28,23 +28,23 @@ IsTested flow offers i old new (Some to) = IsLowering flow offers i old new to
 -- step was one that waited; and what does not wait took a step
 pub record IsGoing (flow : Dataflow) (offers : List Offer) (choice : Choice) (trail : List Lowering) (waiting : List Bool) (before steps : ℕ) : Type 0 where
   pub encloses : EnclosesConsistent flow offers choice
-  pub one_each : length waiting ≡ how_many flow
+  pub one_each : length waiting ≡ inclusion_count flow
   pub settled : HasConsistent flow offers → (i : Inclusion) → IsInclusionOf flow i → waits flow waiting i ≡ false → Holds flow offers choice i
   pub start : Choice
   pub starts : IsStart flow offers start
   pub leads : HasConsistent flow offers → Leads flow offers start trail choice
-  pub spent : steps + count waiting ≤ before + how_many flow + tests_after flow trail
-  pub tested : before + how_many flow ≤ steps + count waiting
+  pub spent : steps + count waiting ≤ before + inclusion_count flow + tests_after flow trail
+  pub tested : before + inclusion_count flow ≤ steps + count waiting
 
 -- the inclusion is the first that may wait
-pub record IsNext (flow : Dataflow) (waiting : List Bool) (i : Inclusion) : Type 0 where
+pub record IsFirstWaiting (flow : Dataflow) (waiting : List Bool) (i : Inclusion) : Type 0 where
   pub earlier : List Inclusion
   pub later : List Inclusion
   pub place : inclusions flow ≡ earlier ++ i ∷ later
   pub done : AllByRecursion (λ j. waits flow waiting j ≡ false) earlier
 
 -- one test of an inclusion, if it waits
-pub record IsTaken (flow : Dataflow) (offers : List Offer) (i : Inclusion) (old new : Choice) (trail more : List Lowering)
+pub record IsOneTest (flow : Dataflow) (offers : List Offer) (i : Inclusion) (old new : Choice) (trail more : List Lowering)
     (waiting left : List Bool) (steps next : ℕ) (lowered : Bool) : Type 0 where
   pub going : (before : ℕ) → IsGoing flow offers old trail waiting before steps → IsGoing flow offers new more left before next
   pub fewer : lowered ≡ true → weight flow new < weight flow old

@@ -17,7 +17,7 @@ use Rattle.fw_flow.specs.WellFormed.{IsWellFormed}
 use Rattle.fw_model.specs.Machine.{front_of}
 use Rattle.fw_model.specs.Covers.{set_of}
 use Rattle.fw_model.specs.Choice.{cut_of, notice_of, IsCutWithin, IsLargestBy}
-use Rattle.fw_model.specs.Offers.{IsOffered, AreAscending, covers_of}
+use Rattle.fw_model.specs.Offers.{IsOffered, RecordsAscend, covers_of}
 use Rattle.fw_monitor.specs.declared.side.Side.{Side}
 use Rattle.fw_monitor.specs.declared.side.Side.TheVariants.{Delivered, Discarded, Notified}
 use Rattle.fw_monitor.specs.declared.side.Limit.TheVariants.{Own, Note}
@@ -123,6 +123,6 @@ TrailIsOne = (flow : Dataflow) (offers : List Offer) (first second : List Loweri
 
 -- a trail shows that it ends at the largest choice, where records ascend and the cuts at which it ends are offered
 abbrev pub TrailEndsAtLargest : Type 0
-TrailEndsAtLargest = (flow : Dataflow) (offers : List Offer) (trail : List Lowering) (end : Choice) → IsWellFormed flow → AreAscending flow offers
+TrailEndsAtLargest = (flow : Dataflow) (offers : List Offer) (trail : List Lowering) (end : Choice) → IsWellFormed flow → RecordsAscend flow offers
     → IsTrail flow offers trail end → ((p : ℕ) → p < length flow.nodes → IsOffered flow offers p (cut_of end p))
     → IsLargestBy flow (covers_of flow offers) (IsOffered flow offers) end

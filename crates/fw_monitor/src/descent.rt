@@ -7,13 +7,13 @@ ghost use Rattle.fw_model.specs.Choice.{IsConsistentBy, IsLargestBy, cut_of};
 ghost use Rattle.fw_model.specs.Covers.{set_of};
 ghost use Rattle.fw_model.specs.Machine.{front_of};
 ghost use Rattle.fw_model.specs.Offers as spec;
-ghost use Rattle.fw_model.specs.Offers.{IsOffered, AreOffersOf, AreAscending, covers_of};
+ghost use Rattle.fw_model.specs.Offers.{IsOffered, AreOffersOf, RecordsAscend, covers_of};
 ghost use Rattle.fw_monitor.specs.Chosen.{IsChoiceOf};
-ghost use Rattle.fw_monitor.specs.Descent.{choice_of, side_bounds, right_of, IsOfFlow, IsCanonicalCut, EnclosesConsistent, HasConsistent, IsNoticeLowered};
+ghost use Rattle.fw_monitor.specs.Descent.{choice_of, side_bounds, right_of, IsSideOfFlow, IsCanonicalCut, EnclosesConsistent, HasConsistent, IsNoticeLowered};
 ghost use Rattle.fw_monitor.specs.declared.side.Inclusion.TheVariants as inclusions;
-ghost use Rattle.fw_monitor.specs.Inclusions.{note_node, limit_of, IsLimitOf, IsInclusionOf, how_many};
+ghost use Rattle.fw_monitor.specs.Inclusions.{note_node, limit_of, IsLimitIn, IsInclusionOf, inclusion_count};
 ghost use Rattle.fw_monitor.specs.Trail.{IsTrail, tests_after};
-ghost use Rattle.fw_monitor.specs.Tests.{IsTested, IsNext, IsTaken};
+ghost use Rattle.fw_monitor.specs.Tests.{IsTested, IsFirstWaiting, IsOneTest};
 
 use crate::arrived::arrived;
 use crate::lower::lowered;
@@ -55,7 +55,7 @@ struct Going {
 /// some cuts and frontiers. The error is want of memory.
 pub fn largest(alloc: Global, flow: &Flow, offers: &[Offer]) -> Result<Choice, AllocError>
     requires { AreOffersOf flow.now offers.now }
-    ensures largest { (some : choices.Choice) → AreAscending flow.now offers.now
+    ensures largest { (some : choices.Choice) → RecordsAscend flow.now offers.now
         → IsConsistentBy flow.now (covers_of flow.now offers.now) (IsOffered flow.now offers.now) some
         → IfOk result (IsLargestBy flow.now (covers_of flow.now offers.now) (IsOffered flow.now offers.now)) }
     ensures of_flow { IfOk result (IsChoiceOf flow.now) }
@@ -72,7 +72,7 @@ pub fn descent_to_largest(
     offers: &[Offer],
 ) -> Result<Descent, AllocError>
     requires { AreOffersOf flow.now offers.now }
-    ensures largest { (some : choices.Choice) → AreAscending flow.now offers.now
+    ensures largest { (some : choices.Choice) → RecordsAscend flow.now offers.now
         → IsConsistentBy flow.now (covers_of flow.now offers.now) (IsOffered flow.now offers.now) some
         → IfOk result (λ descent. IsLargestBy flow.now (covers_of flow.now offers.now) (IsOffered flow.now offers.now) descent.choice) }
     ensures trail { HasConsistent flow.now offers.now → IfOk result (λ descent. IsTrail flow.now offers.now descent.trail descent.choice) }
@@ -92,7 +92,7 @@ fn uncounted<L: Ledger>(
     requires name { blank.name ≡ L.name }
     requires parts { blank.parts ≡ L.parts }
     requires some { 0 < L.parts }
-    ensures largest { (some : choices.Choice) → AreAscending flow.now offers.now
+    ensures largest { (some : choices.Choice) → RecordsAscend flow.now offers.now
         → IsConsistentBy flow.now (covers_of flow.now offers.now) (IsOffered flow.now offers.now) some
         → IfOk result (λ descent. IsLargestBy flow.now (covers_of flow.now offers.now) (IsOffered flow.now offers.now) descent.choice) }
     ensures trail { HasConsistent flow.now offers.now → IfOk result (λ descent. IsTrail flow.now offers.now descent.trail descent.choice) }
@@ -115,7 +115,7 @@ pub fn descend<L: Ledger>(
     steps: &mut Steps<L>,
 ) -> Result<Descent, AllocError>
     requires { AreOffersOf flow.now offers.now }
-    ensures largest { (some : choices.Choice) → AreAscending flow.now offers.now
+    ensures largest { (some : choices.Choice) → RecordsAscend flow.now offers.now
         → IsConsistentBy flow.now (covers_of flow.now offers.now) (IsOffered flow.now offers.now) some
         → IfOk result (λ descent. IsLargestBy flow.now (covers_of flow.now offers.now) (IsOffered flow.now offers.now) descent.choice) }
     ensures trail { HasConsistent flow.now offers.now → IfOk result (λ descent. IsTrail flow.now offers.now descent.trail descent.choice) }
@@ -165,10 +165,10 @@ fn test<L: Ledger>(
 ) -> Result<bool, AllocError>
     requires offers { AreOffersOf flow.now offers.now }
     requires there { IsInclusionOf flow.now inclusion.now }
-    requires next { IsNext flow.now going.old.waiting.items inclusion.now }
-    requires one_each { length going.old.waiting.items ≡ how_many flow.now }
+    requires next { IsFirstWaiting flow.now going.old.waiting.items inclusion.now }
+    requires one_each { length going.old.waiting.items ≡ inclusion_count flow.now }
     requires encloses { EnclosesConsistent flow.now offers.now (choice_of going.old.cuts.items going.old.notices.items) }
-    ensures { IfOk result (IsTaken flow.now offers.now inclusion.now
+    ensures { IfOk result (IsOneTest flow.now offers.now inclusion.now
         (choice_of going.old.cuts.items going.old.notices.items) (choice_of going.new.cuts.items going.new.notices.items)
         going.old.trail.items going.new.trail.items going.old.waiting.items going.new.waiting.items steps.old steps.new) }
 {
@@ -224,7 +224,7 @@ fn right(
     notices: &[Front],
 ) -> Result<Front, AllocError>
     requires offers { AreOffersOf flow.now offers.now }
-    requires there { IsOfFlow flow.now side.now }
+    requires there { IsSideOfFlow flow.now side.now }
     requires encloses { EnclosesConsistent flow.now offers.now (choice_of cuts.now notices.now) }
     ensures { IfOk result (λ g. IsFrontOf (side_bounds flow.now side.now) g
         (right_of flow.now offers.now side.now (choice_of cuts.now notices.now))) }
@@ -288,7 +288,7 @@ fn lower_cut(
     notices: &[Front],
 ) -> Result<Option<Cut>, AllocError>
     requires offers { AreOffersOf flow.now offers.now }
-    requires there { IsOfFlow flow.now side.now }
+    requires there { IsSideOfFlow flow.now side.now }
     requires encloses { EnclosesConsistent flow.now offers.now (choice_of cuts.old.items notices.now) }
     ensures { IfOk result (IsTested flow.now offers.now (inclusions.OfCut side.now) (choice_of cuts.old.items notices.now) (choice_of cuts.new.items notices.now)) }
 {
@@ -317,7 +317,7 @@ fn lower_note(
     notices: &mut Vec<Front>,
 ) -> Result<Option<Cut>, AllocError>
     requires offers { AreOffersOf flow.now offers.now }
-    requires there { IsLimitOf flow.now limit.now }
+    requires there { IsLimitIn flow.now limit.now }
     requires encloses { EnclosesConsistent flow.now offers.now (choice_of cuts.now notices.old.items) }
     ensures { IfOk result (IsTested flow.now offers.now (inclusions.OfNote limit.now) (choice_of cuts.now notices.old.items) (choice_of cuts.now notices.new.items)) }
 {
@@ -336,7 +336,7 @@ fn within(
     cuts: &[Cut],
     notices: &[Front],
 ) -> Result<Front, AllocError>
-    requires there { IsLimitOf flow.now limit.now }
+    requires there { IsLimitIn flow.now limit.now }
     requires encloses { EnclosesConsistent flow.now offers.now (choice_of cuts.now notices.now) }
     ensures { IfOk result (λ g. IsFrontOf (bounds_of flow.now (note_node flow.now limit.now)) g
         (limit_of flow.now offers.now limit.now (choice_of cuts.now notices.now))) }

@@ -3,7 +3,7 @@ ghost use Rattle.std.specs.Prelude.{◌≡◌, true, [], ◌∷◌, ◌++◌, ma
 ghost use Rattle.std.specs.List.{AllByRecursion};
 ghost use Rattle.fw_monitor.specs.declared.side.Inclusion.TheVariants as variants;
 ghost use Rattle.fw_monitor.specs.Inclusions as spec;
-ghost use Rattle.fw_monitor.specs.Inclusions.{note_node, IsInclusionOf, number, how_many, ArePut};
+ghost use Rattle.fw_monitor.specs.Inclusions.{note_node, IsInclusionOf, number, inclusion_count, AreMadeToWait};
 
 use crate::passes::owner;
 use crate::side::{Inclusion, Limit, OnEdge, Side};
@@ -35,7 +35,7 @@ fn add_of_node(flow: &Flow, node: NodeId, all: &mut Vec<Inclusion>) -> Result<()
 
 /// Adds the inclusions that say this of each of the edges. The error is want of memory.
 fn add_on_edges(edges: &[EdgeId], what: OnEdge, all: &mut Vec<Inclusion>) -> Result<(), AllocError>
-    ensures { IfOk result (λ u. all.new.items ≡ all.old.items ++ map (spec.on_edge what) edges.now) }
+    ensures { IfOk result (λ u. all.new.items ≡ all.old.items ++ map (spec.inclusion_on_edge what) edges.now) }
 {
     for edge in edges {
         match what {
@@ -130,7 +130,7 @@ fn limit_number(flow: &Flow, limit: Limit) -> usize
 
 /// All wait. The error is want of memory.
 pub(crate) fn all_wait(alloc: Global, flow: &Flow) -> Result<Vec<bool>, AllocError>
-    ensures one_each { IfOk result (λ waiting. length waiting.items ≡ how_many flow.now) }
+    ensures one_each { IfOk result (λ waiting. length waiting.items ≡ inclusion_count flow.now) }
     ensures all { IfOk result (λ waiting. AllByRecursion (λ w. w ≡ true) waiting.items) }
 {
     flow_is_well_formed(flow);
@@ -143,8 +143,8 @@ pub(crate) fn all_wait(alloc: Global, flow: &Flow) -> Result<Vec<bool>, AllocErr
 /// Puts these inclusions back among those that wait.
 pub(crate) fn put_all(flow: &Flow, waiting: &mut Vec<bool>, inclusions: &[Inclusion])
     requires there { AllByRecursion (IsInclusionOf flow.now) inclusions.now }
-    requires one_each { length waiting.old.items ≡ how_many flow.now }
-    ensures { ArePut flow.now inclusions.now waiting.old.items waiting.new.items }
+    requires one_each { length waiting.old.items ≡ inclusion_count flow.now }
+    ensures { AreMadeToWait flow.now inclusions.now waiting.old.items waiting.new.items }
 {
     for inclusion in inclusions {
         put(flow, waiting, *inclusion);
@@ -154,8 +154,8 @@ pub(crate) fn put_all(flow: &Flow, waiting: &mut Vec<bool>, inclusions: &[Inclus
 /// Puts an inclusion back among those that wait.
 fn put(flow: &Flow, waiting: &mut Vec<bool>, inclusion: Inclusion)
     requires there { IsInclusionOf flow.now inclusion }
-    requires one_each { length waiting.old.items ≡ how_many flow.now }
-    ensures { ArePut flow.now (inclusion ∷ []) waiting.old.items waiting.new.items }
+    requires one_each { length waiting.old.items ≡ inclusion_count flow.now }
+    ensures { AreMadeToWait flow.now (inclusion ∷ []) waiting.old.items waiting.new.items }
 {
     waiting[number(flow, inclusion)] = true;
 }

@@ -20,7 +20,7 @@ use Rattle.fw_bag.specs.Arrivals.{Arrival, recs_where, arrivals_at, recs_of}
 use Rattle.fw_node.specs.Answers.{recs_for, recs_at_notice, without_causes}
 use Rattle.fw_node.specs.Arrived.{place_in, arrived, AreOnEdges}
 use Rattle.fw_node.specs.LawsOfAnswers.{DeliveriesAnswer, NotificationsAnswer}
-use Rattle.fw_table.specs.Sent.{sent_at}
+use Rattle.fw_table.specs.Sent.{sent_if_at}
 
 -- ---- recs by a test
 
@@ -121,7 +121,7 @@ pub plain_messages : (at cause : Stamp) (rs : List Rec) → without_causes (mess
 plain_messages at cause [] = refl
 plain_messages at cause (r ∷ rs) = ap (λ xs. (at, r) ∷ xs) (plain_messages at cause rs)
 
-plain_some : (o : Option Stamp) (cause : Stamp) (rs : List Rec) → without_causes (messages_at_some o cause rs) ≡ sent_at o rs
+plain_some : (o : Option Stamp) (cause : Stamp) (rs : List Rec) → without_causes (messages_at_some o cause rs) ≡ sent_if_at o rs
 plain_some None cause rs = refl
 plain_some (Some at) cause rs = plain_messages at cause rs
 
@@ -130,11 +130,11 @@ unfolding sends
 deliveries_answer sys p before e m n h o =
     ap without_causes (by_send_stamp sys (kind_of sys.flow p) before (Deliver e m) n)
     ∙ plain_some (send_stamp sys.flow p m.at) m.at (recs_on_delivery (kind_of sys.flow p) before e m.at m.rec)
-    ∙ ap (sent_at (send_stamp sys.flow p m.at)) (answers_delivery (kind_of sys.flow p) (in_edges sys.flow p) before e m.at m.rec h o)
+    ∙ ap (sent_if_at (send_stamp sys.flow p m.at)) (answers_delivery (kind_of sys.flow p) (in_edges sys.flow p) before e m.at m.rec h o)
 
 pub notifications_answer : NotificationsAnswer
 unfolding sends
 notifications_answer sys p before t n =
     ap without_causes (by_send_stamp sys (kind_of sys.flow p) before (Notify p t) n)
     ∙ plain_some (send_stamp sys.flow p t) t (recs_on_notification (kind_of sys.flow p) before t)
-    ∙ ap (sent_at (send_stamp sys.flow p t)) (answers_notice (kind_of sys.flow p) (in_edges sys.flow p) before t)
+    ∙ ap (sent_if_at (send_stamp sys.flow p t)) (answers_notice (kind_of sys.flow p) (in_edges sys.flow p) before t)

@@ -12,7 +12,7 @@ use Rattle.fw_flow.specs.WellFormed.{IsWellFormed, IsGroupSize, IsInDegree}
 use Rattle.fw_flow.proofs.Chains.{greatest-length, loops-unfold, parent-few}
 use Rattle.fw_flow.proofs.EdgeLaws.{kind-past}
 use Rattle.fw_node.specs.Arrived.{place_in, IsOneOf}
-use Rattle.fw_node.specs.Kinds.{is_looped, is_timed}
+use Rattle.fw_node.specs.Kinds.{may_be_looped, is_timed}
 use Rattle.fw_node.specs.TimedTable.{IsSideOf}
 
 -- ---- groups
@@ -80,7 +80,7 @@ parent_dimension flow l =
     omega arith
 
 -- a node that leads round a loop or out of it is in a loop
-pub deep_enough : (flow : Dataflow) (k : Kind) → is_looped k ≡ true → is_timed k ≡ false → 2 ≤ length (greatest_of_kind flow k)
+pub deep_enough : (flow : Dataflow) (k : Kind) → may_be_looped k ≡ true → is_timed k ≡ false → 2 ≤ length (greatest_of_kind flow k)
 deep_enough flow (kind.Feedback l) h t = loop_dimension flow l
 deep_enough flow (kind.Leave l) h t = loop_dimension flow l
 deep_enough flow (kind.Select s w) h t = cc
@@ -92,7 +92,7 @@ deep_enough flow k h t = cc
 
 -- the kinds that are left where others are not
 pub looped_left : (k : Kind) → (k ≡ kind.Input → ⊥) → (k ≡ kind.OutputEpoch → ⊥) → (k ≡ kind.OutputNumber → ⊥) → ((l : ℕ) → k ≡ kind.Enter l → ⊥)
-    → (k ≡ kind.Total → ⊥) → (k ≡ kind.Sequence → ⊥) → (k ≡ kind.Ledger → ⊥) → ((n : ℕ) → k ≡ kind.Regroup n → ⊥) → is_looped k ≡ true
+    → (k ≡ kind.Total → ⊥) → (k ≡ kind.Sequence → ⊥) → (k ≡ kind.Ledger → ⊥) → ((n : ℕ) → k ≡ kind.Regroup n → ⊥) → may_be_looped k ≡ true
 looped_left kind.Input a b c d e f g h = absurd (a refl)
 looped_left kind.OutputEpoch a b c d e f g h = absurd (b refl)
 looped_left kind.OutputNumber a b c d e f g h = absurd (c refl)

@@ -21,8 +21,8 @@ use Rattle.fw_flow.specs.declared.kind.Kind.TheVariants as kind
 use Rattle.fw_flow.specs.Dataflow.{Dataflow, System, batches_of, bounds_of, kind_of, in_edges, greatest_number, is_input_kind, is_notified_kind, is_sequence_kind, node_frontier, send_stamp, send_stamp_of_kind}
 use Rattle.fw_flow.specs.NodeFunction.{numbered_messages, recs_on_notification, sends, sends_of_kind, sequence_sent}
 use Rattle.fw_model.specs.Told.{is_told, EachDelivery, AreToldInside, IsSumOfTold}
-use Rattle.fw_table.specs.Sent.{sent_at}
-use Rattle.fw_numbered.specs.Numbers.{numbered_recs}
+use Rattle.fw_table.specs.Sent.{sent_if_at}
+use Rattle.fw_numbered.specs.Numbers.{recs_numbered}
 use Rattle.fw_node.specs.Answers.{recs_for, recs_at_notice, without_causes}
 use Rattle.fw_node.specs.Arrived.{arrived, place_in, AreOnEdges, IsOneOf}
 use Rattle.fw_node.specs.Past.{past_of, notice_list, IsSumOfTaken, IsToldWhereNotified}
@@ -78,7 +78,7 @@ within_domain d settled test sub s h = (and_parts (d s) (test s) (sub s (and_par
 
 -- what a delivery makes a node send, from what came to it
 pub delivery_sends : (sys : System) (p : ℕ) (before : List Event) (e : ℕ) (m : Message) → IsOneOf (in_edges sys.flow p) e → AreOnEdges (in_edges sys.flow p) before
-    → without_causes (sends sys p before (Deliver e m)) ≡ sent_at (send_stamp sys.flow p m.at)
+    → without_causes (sends sys p before (Deliver e m)) ≡ sent_if_at (send_stamp sys.flow p m.at)
     (recs_for (kind_of sys.flow p) (arrived (in_edges sys.flow p) before) (record { side = place_in (in_edges sys.flow p) e; at = m.at; rec = m.rec }))
 unfolding sends
 delivery_sends sys p before e m h o = by (kind_of sys.flow p) refl
@@ -90,10 +90,10 @@ delivery_sends sys p before e m h o = by (kind_of sys.flow p) refl
     a = record { side = place_in (in_edges sys.flow p) e; at = m.at; rec = m.rec }
 
     by : (k : Kind) → kind_of sys.flow p ≡ k
-        → without_causes (sends_of_kind sys (kind_of sys.flow p) before (Deliver e m)) ≡ sent_at (send_stamp_of_kind sys.flow (kind_of sys.flow p) m.at) (recs_for (kind_of sys.flow p) came a)
+        → without_causes (sends_of_kind sys (kind_of sys.flow p) before (Deliver e m)) ≡ sent_if_at (send_stamp_of_kind sys.flow (kind_of sys.flow p) m.at) (recs_for (kind_of sys.flow p) came a)
     by kind.Sequence is =
         ap (λ k. without_causes (sends_of_kind sys k before (Deliver e m))) is
-        ∙ sym (ap (λ k. sent_at (send_stamp_of_kind sys.flow k m.at) (recs_for k came a)) is)
+        ∙ sym (ap (λ k. sent_if_at (send_stamp_of_kind sys.flow k m.at) (recs_for k came a)) is)
     by k is = deliveries_answer sys p before e m (ap is_sequence_kind is) h o
 
 -- ---- notifications
@@ -103,10 +103,10 @@ numbers_cases : (b : Bool) (n : ℕ) (cause : Stamp) (r : Rec) (rest : List Mess
 numbers_cases true n cause r rest xs h = ap (λ ys. (n ∷ [], r) ∷ ys) h
 numbers_cases false n cause r rest xs h = refl
 
-numbers_same : (n : ℕ) (cause : Stamp) (rs : List Rec) → without_causes (numbered_messages n cause rs) ≡ numbered_recs n rs
+numbers_same : (n : ℕ) (cause : Stamp) (rs : List Rec) → without_causes (numbered_messages n cause rs) ≡ recs_numbered n rs
 numbers_same n cause [] = refl
 numbers_same n cause (r ∷ rs) =
-    numbers_cases (nat_le n greatest_number) n cause r (numbered_messages (n + 1) cause rs) (numbered_recs (n + 1) rs) (numbers_same (n + 1) cause rs)
+    numbers_cases (nat_le n greatest_number) n cause r (numbered_messages (n + 1) cause rs) (recs_numbered (n + 1) rs) (numbers_same (n + 1) cause rs)
 
 plain-length : (ms : List Message) → length (without_causes ms) ≡ length ms
 plain-length [] = refl
@@ -114,22 +114,22 @@ plain-length (m ∷ ms) = let h = plain-length ms in omega arith
 
 -- how many messages a sequence sent in all, after a notification more
 pub numbered_after : (ins : List ℕ) (before : List Event) (t : Stamp)
-    → length (numbered_recs (length (sequence_sent before)) (recs_at_notice kind.Sequence (arrived ins before) t)) + length (sequence_sent before)
+    → length (recs_numbered (length (sequence_sent before)) (recs_at_notice kind.Sequence (arrived ins before) t)) + length (sequence_sent before)
     ≡ length (numbered_messages (length (sequence_sent before)) t (recs_on_notification kind.Sequence before t) ++ sequence_sent before)
 numbered_after ins before t =
     let n : ℕ = length (sequence_sent before) in
     let rs : List Rec = recs_on_notification kind.Sequence before t in
     let a = length-append (numbered_messages n t rs) (sequence_sent before) in
-    let b : length (numbered_messages n t rs) ≡ length (numbered_recs n (recs_at_notice kind.Sequence (arrived ins before) t)) =
+    let b : length (numbered_messages n t rs) ≡ length (recs_numbered n (recs_at_notice kind.Sequence (arrived ins before) t)) =
     sym (plain-length (numbered_messages n t rs)) ∙ ap length (numbers_same n t rs)
-    ∙ ap (λ xs. length (numbered_recs n xs)) (answers_notice kind.Sequence ins before t) in
+    ∙ ap (λ xs. length (recs_numbered n xs)) (answers_notice kind.Sequence ins before t) in
     omega arith
 
 -- what a notification makes a node send, from its past and from its events
 pub notice_same : (k : Kind) (ins : List ℕ) (settled : Stamp → Bool) (before : List Event) (t : Stamp)
     → notice_list k (past_of ins settled before) t ≡ notice_sends k before t
 notice_same kind.Sequence ins settled before t =
-    ap (numbered_recs (length (sequence_sent before))) (sym (answers_notice kind.Sequence ins before t))
+    ap (recs_numbered (length (sequence_sent before))) (sym (answers_notice kind.Sequence ins before t))
     ∙ sym (numbers_same (length (sequence_sent before)) t (recs_on_notification kind.Sequence before t))
 notice_same k ins settled before t = ap (λ rs. map (λ (r : Rec). (t, r)) (sorted_recs rs)) (sym (answers_notice k ins before t))
 

@@ -17,7 +17,7 @@ use Rattle.fw_model.proofs.SendingLaws.{send_stamp_of_kind-in_domain}
 use Rattle.fw_model.proofs.StampLaws.{line-leq}
 use Rattle.fw_numbered.specs.Numbers.{at_numbers}
 use Rattle.fw_table.specs.declared.sent.Sent.{Sent}
-use Rattle.fw_table.specs.Sent.{sent_at}
+use Rattle.fw_table.specs.Sent.{sent_if_at}
 use Rattle.std.specs.declared.cmp.Ordering.{Ordering}
 use Rattle.std.proofs.lemmas.Bool.{eqb-true}
 use Rattle.fw_time.specs.declared.time.Nest.{Nest}
@@ -97,7 +97,7 @@ all-at : (t : Stamp) (rs : List Rec) → AreAllAt (Some t) (map (λ r. (t, r)) r
 all-at t [] = tt
 all-at t (r ∷ rs) = (refl, all-at t rs)
 
-at-some : (o : Option Stamp) (rs : List Rec) → AreAllAt o (sent_at o rs)
+at-some : (o : Option Stamp) (rs : List Rec) → AreAllAt o (sent_if_at o rs)
 at-some None rs = tt
 at-some (Some t) rs = all-at t rs
 
@@ -128,21 +128,21 @@ pub ledger-sent : (flow : Dataflow) (k : Kind) (t : Stamp) (sent : Sent Stamp) �
 ledger-sent flow kind.Ledger t sent i e = sent-all sent t e
 ledger-sent flow _ t sent i e = absurd (cc)
 
-pub feedback-sent : (flow : Dataflow) (k : Kind) (max : ℕ) (t : Stamp) (sent : List (Stamp × Rec)) (rs : List Rec) → is_feedback_up_to flow max k ≡ true → sent ≡ sent_at (fed_back_stamp max t) rs
+pub feedback-sent : (flow : Dataflow) (k : Kind) (max : ℕ) (t : Stamp) (sent : List (Stamp × Rec)) (rs : List Rec) → is_feedback_up_to flow max k ≡ true → sent ≡ sent_if_at (fed_back_stamp max t) rs
     → AreSentAt flow k t sent
 feedback-sent flow (kind.Feedback l) max t sent rs i e =
     subst (λ n. AreAllAt (fed_back_stamp n t) sent) (eqb-true max (max_of flow l) i) (subst (AreAllAt (fed_back_stamp max t)) (sym e) (at-some (fed_back_stamp max t) rs))
 feedback-sent flow _ max t sent rs i e = absurd (cc)
 
-pub leave-sent : (flow : Dataflow) (k : Kind) (t : Stamp) (sent : List (Stamp × Rec)) (rs : List Rec) → is_leave k ≡ true → sent ≡ sent_at (left_stamp t) rs → AreSentAt flow k t sent
+pub leave-sent : (flow : Dataflow) (k : Kind) (t : Stamp) (sent : List (Stamp × Rec)) (rs : List Rec) → is_leave k ≡ true → sent ≡ sent_if_at (left_stamp t) rs → AreSentAt flow k t sent
 leave-sent flow (kind.Leave l) t sent rs i e = subst (AreAllAt (left_stamp t)) (sym e) (at-some (left_stamp t) rs)
 leave-sent flow _ t sent rs i e = absurd (cc)
 
-pub enter-sent : (flow : Dataflow) (k : Kind) (t : Stamp) (sent : List (Stamp × Rec)) (rs : List Rec) → is_enter k ≡ true → sent ≡ sent_at (entered_stamp t) rs → AreSentAt flow k t sent
+pub enter-sent : (flow : Dataflow) (k : Kind) (t : Stamp) (sent : List (Stamp × Rec)) (rs : List Rec) → is_enter k ≡ true → sent ≡ sent_if_at (entered_stamp t) rs → AreSentAt flow k t sent
 enter-sent flow (kind.Enter l) t sent rs i e = subst (AreAllAt (entered_stamp t)) (sym e) (at-some (entered_stamp t) rs)
 enter-sent flow _ t sent rs i e = absurd (cc)
 
-pub regroup-sent : (flow : Dataflow) (k : Kind) (size : ℕ) (t : Stamp) (sent : List (Stamp × Rec)) (rs : List Rec) → is_regroup_of size k ≡ true → sent ≡ sent_at (regrouped_stamp size t) rs
+pub regroup-sent : (flow : Dataflow) (k : Kind) (size : ℕ) (t : Stamp) (sent : List (Stamp × Rec)) (rs : List Rec) → is_regroup_of size k ≡ true → sent ≡ sent_if_at (regrouped_stamp size t) rs
     → AreSentAt flow k t sent
 regroup-sent flow (kind.Regroup n) size t sent rs i e =
     subst (λ m. AreAllAt (regrouped_stamp m t) sent) (eqb-true size n i) (subst (AreAllAt (regrouped_stamp size t)) (sym e) (at-some (regrouped_stamp size t) rs))

@@ -10,7 +10,7 @@ use Rattle.fw_flow.specs.declared.kind.Kind.{Kind}
 use Rattle.fw_flow.specs.declared.kind.Kind.TheVariants as kind
 use Rattle.fw_flow.specs.Dataflow.{is_sequence_kind}
 use Rattle.fw_frontier.specs.Frontier.{Within}
-use Rattle.fw_table.specs.Sent.{sent_at}
+use Rattle.fw_table.specs.Sent.{sent_if_at}
 use Rattle.fw_numbered.specs.Numbers.{at_numbers}
 use Rattle.fw_node.specs.Answers.{recs_at_notice}
 use Rattle.fw_node.specs.LawsOfAnswers.{IsPerTime}
@@ -44,7 +44,7 @@ gone_after false false t h = refl
 
 -- a node that is no sequence sends at the stamp of the notification
 pub notice_plain : (k : Kind) (past : Past) (t : Stamp) → is_sequence_kind k ≡ false
-    → notice_list k past t ≡ sent_at (Some t) (sorted_recs (recs_at_notice k past.came t))
+    → notice_list k past t ≡ sent_if_at (Some t) (sorted_recs (recs_at_notice k past.came t))
 notice_plain kind.Sequence past t h = cc
 notice_plain _ past t h = refl
 

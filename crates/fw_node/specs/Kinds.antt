@@ -13,12 +13,12 @@ is_timed (Sum within) = true
 is_timed kind = false
 
 -- whether a node of the kind may be in a loop
-abbrev pub is_looped : Kind → Bool
-is_looped (Select selection within) = true
-is_looped (Concat within) = true
-is_looped (Distinct within) = true
-is_looped (Join within) = true
-is_looped (Sum within) = true
-is_looped (Feedback l) = true
-is_looped (Leave l) = true
-is_looped kind = false
+abbrev pub may_be_looped : Kind → Bool
+may_be_looped (Select selection within) = true
+may_be_looped (Concat within) = true
+may_be_looped (Distinct within) = true
+may_be_looped (Join within) = true
+may_be_looped (Sum within) = true
+may_be_looped (Feedback l) = true
+may_be_looped (Leave l) = true
+may_be_looped kind = false

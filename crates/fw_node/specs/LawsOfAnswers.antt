@@ -14,21 +14,21 @@ use Rattle.fw_model.specs.Filtering.{events_inside}
 use Rattle.fw_model.specs.SortedMessages.{sorted_messages}
 use Rattle.fw_node.specs.Answers.{recs_for, recs_at_notice, caused_by, without_causes}
 use Rattle.fw_node.specs.Sends.{notice_sends}
-use Rattle.fw_table.specs.Sent.{sent_at}
+use Rattle.fw_table.specs.Sent.{sent_if_at}
 use Rattle.fw_node.specs.Arrived.{place_in, arrived, IsOneOf, AreOnEdges}
 
 -- what a delivery makes a node send that is no sequence, from what came to it
 abbrev pub DeliveriesAnswer : Type 0
 DeliveriesAnswer = (sys : System) (p : ℕ) (before : List Event) (e : ℕ) (m : Message) → is_sequence_kind (kind_of sys.flow p) ≡ false
     → IsOneOf (in_edges sys.flow p) e → AreOnEdges (in_edges sys.flow p) before
-    → without_causes (sends sys p before (Deliver e m)) ≡ sent_at (send_stamp sys.flow p m.at)
+    → without_causes (sends sys p before (Deliver e m)) ≡ sent_if_at (send_stamp sys.flow p m.at)
     (recs_for (kind_of sys.flow p) (arrived (in_edges sys.flow p) before) (record { side = place_in (in_edges sys.flow p) e; at = m.at; rec = m.rec }))
 
 -- what a notification makes a node send that is no sequence, from what came to it
 abbrev pub NotificationsAnswer : Type 0
 NotificationsAnswer = (sys : System) (p : ℕ) (before : List Event) (t : Stamp) → is_sequence_kind (kind_of sys.flow p) ≡ false
     → without_causes (sends sys p before (Notify p t))
-    ≡ sent_at (send_stamp sys.flow p t) (recs_at_notice (kind_of sys.flow p) (arrived (in_edges sys.flow p) before) t)
+    ≡ sent_if_at (send_stamp sys.flow p t) (recs_at_notice (kind_of sys.flow p) (arrived (in_edges sys.flow p) before) t)
 
 -- what `notice_sends` says of a notification, with the notification's stamp as the cause, is as a bag what the node function sends
 abbrev pub NoticesAreSends : Type 0

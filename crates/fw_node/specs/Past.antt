@@ -8,9 +8,9 @@ use Rattle.fw_bag.specs.Keyed.{sorted_recs}
 use Rattle.fw_flow.specs.declared.kind.Kind.{Kind}
 use Rattle.fw_flow.specs.declared.kind.Kind.TheVariants as kind
 use Rattle.fw_flow.specs.Dataflow.{is_notified_kind}
-use Rattle.fw_table.specs.Sent.{sent_at}
+use Rattle.fw_table.specs.Sent.{sent_if_at}
 use Rattle.fw_table.specs.Sums.{sums_by_key}
-use Rattle.fw_numbered.specs.Numbers.{numbered_recs}
+use Rattle.fw_numbered.specs.Numbers.{recs_numbered}
 use Rattle.fw_node.specs.Answers.{recs_at_notice}
 use Rattle.fw_flow.specs.declared.event.Event.{Event}
 use Rattle.fw_flow.specs.NodeFunction.{sequence_sent}
@@ -46,13 +46,13 @@ with_arrival a past = record past { came = a ∷ past.came }
 abbrev pub with_notice : Stamp → Past → Past
 with_notice t past = record past {
   told = λ s. same s t || past.told s;
-  numbered = length (numbered_recs past.numbered (recs_at_notice kind.Sequence past.came t)) + past.numbered;
+  numbered = length (recs_numbered past.numbered (recs_at_notice kind.Sequence past.came t)) + past.numbered;
 }
 
 -- What a notification makes a node of the kind send, in ascending order, where this is its past.
 abbrev pub notice_list : Kind → Past → Stamp → List (Stamp × Rec)
-notice_list kind.Sequence past t = numbered_recs past.numbered (recs_at_notice kind.Sequence past.came t)
-notice_list k past t = sent_at (Some t) (sorted_recs (recs_at_notice k past.came t))
+notice_list kind.Sequence past t = recs_numbered past.numbered (recs_at_notice kind.Sequence past.came t)
+notice_list k past t = sent_if_at (Some t) (sorted_recs (recs_at_notice k past.came t))
 
 -- At a total what came up to the stamp is what came at it, and at the stamps that are settled or were told.
 abbrev pub IsSumOfTaken : Kind → Past → Stamp → Type 0

@@ -7,7 +7,7 @@ ghost use Rattle.fw_bag.specs.Arrivals.{Arrival, arrivals_inside, arrival};
 ghost use Rattle.fw_bag.specs.Keyed.{sorted_recs};
 ghost use Rattle.fw_flow.specs.declared.kind.Kind.{Kind};
 ghost use Rattle.fw_flow.specs.Dataflow.{Dataflow, send_stamp_of_kind};
-ghost use Rattle.fw_table.specs.Sent.{sent_at};
+ghost use Rattle.fw_table.specs.Sent.{sent_if_at};
 ghost use Rattle.fw_node.specs.Answers.{recs_for, recs_at_notice, sent_list};
 ghost use Rattle.fw_node.specs.TimedTable.{IsSideOf};
 ghost use Rattle.fw_node.specs.LoopTable.{IsLoopTable};
@@ -50,7 +50,7 @@ impl<T: Logical> InLoop<T> {
         ensures sent { (flow : Dataflow) (kind : Kind) (came : List Arrival)
             → IsLoopTable ⟦<Nest<T> as Ord>⟧.cmp ⟦<Nest<T> as Time>⟧.coords flow self.old kind came → IsSideOf kind side
             → IfOk result (λ sent. sent_list sent
-            ≡ sent_at (send_stamp_of_kind flow kind at.now) (recs_for kind came (arrival side at.now rec))) }
+            ≡ sent_if_at (send_stamp_of_kind flow kind at.now) (recs_for kind came (arrival side at.now rec))) }
         ensures err { (flow : Dataflow) (kind : Kind) (came : List Arrival)
             → IsLoopTable ⟦<Nest<T> as Ord>⟧.cmp ⟦<Nest<T> as Time>⟧.coords flow self.old kind came
             → OnErr result (IsLoopTable ⟦<Nest<T> as Ord>⟧.cmp ⟦<Nest<T> as Time>⟧.coords flow self.new kind came) }

@@ -13,7 +13,7 @@ ghost use Rattle.fw_node.specs.NodeOf.{is_table_of};
 ghost use Rattle.fw_node.specs.NodeTable.{IsNodeTable, dimension_of};
 ghost use Rattle.fw_node.specs.Past.{Past, past_of};
 ghost use Rattle.fw_node.specs.TimedTable.{IsTimedTable};
-ghost use Rattle.fw_node.specs.Kinds.{is_timed, is_looped};
+ghost use Rattle.fw_node.specs.Kinds.{is_timed, may_be_looped};
 
 use crate::{AtTime, InLoop, Table};
 use fw_bag::Rec;
@@ -44,7 +44,7 @@ fn timed<T: Logical>(alloc: Global, kind: Kind) -> AtTime<T>
 
 // The table of a kind at the times of a loop, to which nothing came.
 fn looped<T: Logical>(alloc: Global, flow: &Flow, kind: Kind) -> InLoop<T>
-    ensures { is_looped kind ≡ true → IsLoopTable ⟦<Nest<T> as Ord>⟧.cmp ⟦<Nest<T> as Time>⟧.coords flow.now result kind [] }
+    ensures { may_be_looped kind ≡ true → IsLoopTable ⟦<Nest<T> as Ord>⟧.cmp ⟦<Nest<T> as Time>⟧.coords flow.now result kind [] }
 {
     match kind {
         Kind::Feedback(id) => InLoop::Feedback(Feedback::new(flow.max(id))),
@@ -67,7 +67,7 @@ fn entering(dimension: usize) -> Table
 
 // The table of a kind that may be in a loop, at times of so many coordinates, to which nothing came.
 fn staying(alloc: Global, flow: &Flow, kind: Kind, dimension: usize) -> Table
-    ensures table { is_looped kind ≡ true → (is_timed kind ≡ false → 2 ≤ dimension) → (ins : List ℕ) (settled : List ℕ → Bool)
+    ensures table { may_be_looped kind ≡ true → (is_timed kind ≡ false → 2 ≤ dimension) → (ins : List ℕ) (settled : List ℕ → Bool)
         → IsNodeTable flow.now result kind (past_of ins settled []) }
     ensures shape { 1 ≤ dimension → dimension ≤ 4 → dimension_of result ≡ dimension }
 {

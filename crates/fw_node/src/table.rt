@@ -8,7 +8,7 @@ ghost use Rattle.fw_flow.specs.declared.kind.Kind.{Kind};
 ghost use Rattle.fw_flow.specs.Dataflow.{Dataflow, send_stamp_of_kind, is_notified_kind};
 ghost use Rattle.fw_bag.specs.Arrivals.{arrival, recs_inside};
 ghost use Rattle.fw_frontier.specs.Frontier.{Within};
-ghost use Rattle.fw_table.specs.Sent.{sent_at};
+ghost use Rattle.fw_table.specs.Sent.{sent_if_at};
 ghost use Rattle.fw_node.specs.Answers.{recs_for, sent_list};
 ghost use Rattle.fw_node.specs.NodeOf.{is_table_of, AreSentAt};
 ghost use Rattle.fw_node.specs.NodeTable.{IsNodeTable, dimension_of};
@@ -81,7 +81,7 @@ impl Table {
         ensures sent { (flow : Dataflow) (kind : Kind) (past : Past) → IsNodeTable flow self.old kind past → IsSideOf kind side
             → past.settled at.now ≡ false
             → IfOk result (λ sent. sent_list sent
-            ≡ sent_at (send_stamp_of_kind flow kind at.now) (recs_for kind past.came (arrival side at.now rec))) }
+            ≡ sent_if_at (send_stamp_of_kind flow kind at.now) (recs_for kind past.came (arrival side at.now rec))) }
         ensures err { (flow : Dataflow) (kind : Kind) (past : Past) → IsNodeTable flow self.old kind past
             → OnErr result (IsNodeTable flow self.new kind past) }
         ensures shape { dimension_of self.new ≡ dimension_of self.old }

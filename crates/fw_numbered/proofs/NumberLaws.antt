@@ -5,7 +5,7 @@ use Rattle.std.proofs.lemmas.Bool.Decides.{nat_tests}
 use Rattle.std.proofs.lemmas.List.{append_assoc}
 use Rattle.fw_time.specs.Stamp.{Stamp}
 use Rattle.fw_bag.specs.declared.rec.Rec.{Rec}
-use Rattle.fw_numbered.specs.Numbers.{at_numbers, numbered_recs}
+use Rattle.fw_numbered.specs.Numbers.{at_numbers, recs_numbered}
 
 next_number : (n m : ℕ) → n + 1 + m ≡ n + (m + 1)
 next_number n m = omega arith
@@ -17,16 +17,16 @@ at_numbers-last n (x ∷ rs) r m h = ap (λ (xs : List (Stamp × Rec)). (n ∷ [
 
 -- and is the first of those to come
 pub numbered_step : (n m : ℕ) (rs : List Rec) (r : Rec) (rest later : List Rec) → n + length rs ≡ m → m < 2 ^ 32 → rest ≡ r ∷ later
-    → at_numbers n (rs ++ r ∷ []) ++ numbered_recs (m + 1) later ≡ at_numbers n rs ++ numbered_recs m rest
+    → at_numbers n (rs ++ r ∷ []) ++ recs_numbered (m + 1) later ≡ at_numbers n rs ++ recs_numbered m rest
 numbered_step n m rs r rest later h l e =
     let t : nat_le m (2 ^ 32 - 1) ≡ true = grind (arith, nat_tests) in
-    ap (λ xs. xs ++ numbered_recs (m + 1) later) (at_numbers-last n rs r m h)
-    ∙ append_assoc (at_numbers n rs) ((m ∷ [], r) ∷ []) (numbered_recs (m + 1) later)
-    ∙ sym (ap (λ xs. at_numbers n rs ++ xs) (ap (numbered_recs m) e ∙ ap (λ b. cond b ((m ∷ [], r) ∷ numbered_recs (m + 1) later) []) t))
+    ap (λ xs. xs ++ recs_numbered (m + 1) later) (at_numbers-last n rs r m h)
+    ∙ append_assoc (at_numbers n rs) ((m ∷ [], r) ∷ []) (recs_numbered (m + 1) later)
+    ∙ sym (ap (λ xs. at_numbers n rs ++ xs) (ap (recs_numbered m) e ∙ ap (λ b. cond b ((m ∷ [], r) ∷ recs_numbered (m + 1) later) []) t))
 
 -- past the greatest number there are none
-pub numbered_none : (m : ℕ) (rs : List Rec) → 2 ^ 32 ≤ m → numbered_recs m rs ≡ []
+pub numbered_none : (m : ℕ) (rs : List Rec) → 2 ^ 32 ≤ m → recs_numbered m rs ≡ []
 numbered_none m [] l = refl
 numbered_none m (r ∷ rs) l =
     let f : nat_le m (2 ^ 32 - 1) ≡ false = grind (arith, nat_tests) in
-    ap (λ b. cond b ((m ∷ [], r) ∷ numbered_recs (m + 1) rs) []) f
+    ap (λ b. cond b ((m ∷ [], r) ∷ recs_numbered (m + 1) rs) []) f

@@ -9,6 +9,6 @@ at_numbers n [] = []
 at_numbers n (r ∷ rs) = (n ∷ [], r) ∷ at_numbers (n + 1) rs
 
 -- the recs at the numbers from n on, none past the greatest number
-abbrev pub numbered_recs : ℕ → List Rec → List (Stamp × Rec)
-numbered_recs n [] = []
-numbered_recs n (r ∷ rs) = if nat_le n (2 ^ 32 - 1) then (n ∷ [], r) ∷ numbered_recs (n + 1) rs else []
+abbrev pub recs_numbered : ℕ → List Rec → List (Stamp × Rec)
+recs_numbered n [] = []
+recs_numbered n (r ∷ rs) = if nat_le n (2 ^ 32 - 1) then (n ∷ [], r) ∷ recs_numbered (n + 1) rs else []

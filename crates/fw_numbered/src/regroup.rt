@@ -1,7 +1,7 @@
 //! The kind that makes epochs of numbers.
 ghost use Rattle.std.specs.Prelude.{◌≡◌, ◌<◌, ◌∷◌, []};
 ghost use Rattle.fw_time.specs.Sending.{regrouped_stamp};
-ghost use Rattle.fw_table.specs.Sent.{stamped, sent_at};
+ghost use Rattle.fw_table.specs.Sent.{stamped, sent_if_at};
 
 use fw_bag::Rec;
 use fw_table::Sent;
@@ -26,7 +26,7 @@ impl Regroup {
     /// Sends the rec at its number divided by the size, rounded down.
     pub fn on_message(&self, t: SeqNo, rec: Rec) -> Sent<Epoch>
         ensures { stamped ⟦<Epoch as Time>⟧.coords result
-            ≡ sent_at (regrouped_stamp self.now.size (⟦<SeqNo as Time>⟧.coords t)) (rec ∷ []) }
+            ≡ sent_if_at (regrouped_stamp self.now.size (⟦<SeqNo as Time>⟧.coords t)) (rec ∷ []) }
     {
         Sent::of(Epoch(t.0 / self.size), Some(rec))
     }

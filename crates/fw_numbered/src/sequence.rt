@@ -1,10 +1,10 @@
 //! The recs of each epoch in order, at the next numbers.
 ghost use Rattle.std.specs.Prelude.{◌≡◌, ◌≤◌, ◌+◌, ◌^◌, ◌||◌, ℕ, Bool, List, [], ◌∷◌, length, false, IfOk, OnOk, OnErr, IsTrue, IsErr, true};
 ghost use Rattle.fw_time.specs.Stamp.{same};
-ghost use Rattle.fw_bag.specs.Arrivals.{Arrival, arrival, recs_at, AreInside};
+ghost use Rattle.fw_bag.specs.Arrivals.{Arrival, arrival, recs_arrived_at, AreInside};
 ghost use Rattle.fw_bag.specs.Keyed.{sorted_recs};
 ghost use Rattle.fw_frontier.specs.Below.{is_below};
-ghost use Rattle.fw_numbered.specs.Numbers.{at_numbers, numbered_recs};
+ghost use Rattle.fw_numbered.specs.Numbers.{at_numbers, recs_numbered};
 
 use fw_bag::{Bag, Rec};
 use fw_frontier::Below;
@@ -53,7 +53,7 @@ pub struct Numbered {
 // The recs of a bag in order, as long as there are numbers, from one on.
 fn recs_to_send(alloc: Global, bag: &Bag, first: u64) -> Result<SentRecs, AllocError>
     requires { first ≤ 2 ^ 32 }
-    ensures recs { IfOk result (λ recs. at_numbers first recs ≡ numbered_recs first bag.now.recs) }
+    ensures recs { IfOk result (λ recs. at_numbers first recs ≡ recs_numbered first bag.now.recs) }
     ensures few { IfOk result (λ recs. first + length recs ≤ 2 ^ 32) }
 {
     let mut recs = SentRecs::of(None);
@@ -145,7 +145,7 @@ impl Sequence {
             → IfOk result (λ sent. IsSequence (λ s. same s (t.0 ∷ []) || gone s) self.new came (n + length sent.recs)) }
         ensures sent { (gone : List ℕ → Bool) (came : List Arrival) (n : ℕ)
             → gone (t.0 ∷ []) ≡ false → IsSequence gone self.old came n
-            → IfOk result (λ sent. at_numbers sent.first sent.recs ≡ numbered_recs n (sorted_recs (recs_at (t.0 ∷ []) came))) }
+            → IfOk result (λ sent. at_numbers sent.first sent.recs ≡ recs_numbered n (sorted_recs (recs_arrived_at (t.0 ∷ []) came))) }
         ensures err { (gone : List ℕ → Bool) (came : List Arrival) (n : ℕ) → IsSequence gone self.old came n
             → OnErr result (IsSequence gone self.new came n) }
         ensures live { OnOk result (self.new.refused ≡ false) }

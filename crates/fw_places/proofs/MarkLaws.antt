@@ -13,7 +13,7 @@ use Rattle.std.specs.BTreeMap.{is_at}
 use Rattle.std.specs.Set.{remove_key}
 use Rattle.fw_lemmas.proofs.Bools.{two_ways}
 use Rattle.fw_places.specs.Marks.{listed, has_mark, marked, IsMarkFrom, IsNextMark}
-use Rattle.fw_places.specs.Places.{IsAscending, IsPut, IsTakenOut, IsFirstFrom, IsFirstPlace, HasNoneBetween}
+use Rattle.fw_places.specs.Places.{ArePlacesAscending, IsPut, IsTakenOut, IsFirstFrom, IsFirstPlace, HasNoneBetween}
 use Rattle.fw_places.proofs.PlaceLaws.{itself, each_of, put_new, put_old, out_new, out_old, here, is_put_new, is_out_new, is_out_old}
 
 -- ---- lists of marked places
@@ -27,11 +27,11 @@ each_listed P f a zero h = tt
 each_listed P f a (suc n) h =
     each_cond P (f a) a (listed f (suc a) n) (h a (omega arith) (omega arith)) (each_listed P f (suc a) n (λ q l m. h q (omega arith) (omega arith)))
 
-pub ascends : (f : ℕ → Bool) (a n : ℕ) → IsAscending (listed f a n)
+pub ascends : (f : ℕ → Bool) (a n : ℕ) → ArePlacesAscending (listed f a n)
 ascends f a zero = tt
 ascends f a (suc n) = by (f a) a (listed f (suc a) n) (each_listed (λ q. a < q) f (suc a) n (λ q l m e. l)) (ascends f (suc a) n)
   where
-    by : (c : Bool) (x : ℕ) (xs : List ℕ) → AllByRecursion (λ q. x < q) xs → IsAscending xs → IsAscending (cond c (x ∷ xs) xs)
+    by : (c : Bool) (x : ℕ) (xs : List ℕ) → AllByRecursion (λ q. x < q) xs → ArePlacesAscending xs → ArePlacesAscending (cond c (x ∷ xs) xs)
     by true x xs a h = (a, h)
     by false x xs a h = h
 
@@ -331,7 +331,7 @@ first_seen ys old None o h = subst (λ xs. IsFirstPlace xs None) o (λ q c. is_n
 first_seen ys old (Some p) o h = subst (λ xs. IsFirstFrom 0 xs p) o (is_first ys 0 p h)
 
 -- what the first mark leaves
-pub popped : (xs : List ℕ) (p : ℕ) → IsAscending xs → IsFirstFrom 0 xs p → xs ≡ p ∷ remove_key (is_at (nat_cmp p)) xs
+pub popped : (xs : List ℕ) (p : ℕ) → ArePlacesAscending xs → IsFirstFrom 0 xs p → xs ≡ p ∷ remove_key (is_at (nat_cmp p)) xs
 popped [] p h f = absurd (none f.there.0 f.there.1)
   where
     none : (k : ℕ) → k < 0 → ⊥
@@ -353,7 +353,7 @@ popped (x ∷ t) p h f =
 pub pops : (ys old new : List ℕ) (p : ℕ) → marked ys ≡ old → IsMarkFrom ys 0 p → Takes p old new → old ≡ p ∷ new
 unfolding marked
 pops ys old new p o f t =
-    popped old p (subst IsAscending o (ascends (has_mark ys) 0 (length ys * 64))) (subst (λ xs. IsFirstFrom 0 xs p) o (is_first ys 0 p f)) ∙ ap (λ xs. p ∷ xs) (sym t.keys)
+    popped old p (subst ArePlacesAscending o (ascends (has_mark ys) 0 (length ys * 64))) (subst (λ xs. IsFirstFrom 0 xs p) o (is_first ys 0 p f)) ∙ ap (λ xs. p ∷ xs) (sym t.keys)
 
 pub none_marked : (ys : List ℕ) → IsNextMark ys 0 None → marked ys ≡ []
 unfolding marked

@@ -3,9 +3,9 @@ use Rattle.std.specs.Prelude.{◌≡◌, ◌≢◌, ◌⊎◌, ℕ, ◌<◌, ◌
 use Rattle.std.specs.List.{Contains, AllByRecursion}
 
 -- each place is below those after it
-abbrev pub IsAscending : List ℕ → Type 0
-IsAscending [] = Unit {0}
-IsAscending (p ∷ ps) = AllByRecursion (λ q. p < q) ps × IsAscending ps
+abbrev pub ArePlacesAscending : List ℕ → Type 0
+ArePlacesAscending [] = Unit {0}
+ArePlacesAscending (p ∷ ps) = AllByRecursion (λ q. p < q) ps × ArePlacesAscending ps
 
 -- p is put among the places.
 pub record IsPut (p : ℕ) (old new : List ℕ) : Type 0 where

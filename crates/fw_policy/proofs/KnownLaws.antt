@@ -28,7 +28,7 @@ use Rattle.fw_keep.specs.declared.entry.Entry.{Entry}
 use Rattle.fw_policy.specs.declared.view.NodeView.{NodeView}
 use Rattle.fw_policy.specs.View.{IsBorderOf, IsNodeViewOf, AreNodeViewsFrom, IsViewOf}
 use Rattle.fw_policy.specs.Offering.{unlogged_stamps, OffersBy, IsOfferBy, AreOffersBy}
-use Rattle.fw_policy.specs.Known.{FitsWay, IsKnown, AreKnown}
+use Rattle.fw_policy.specs.Known.{FitsWay, IsKnown, AreNodesKnown}
 use Rattle.fw_model.proofs.SentStandLaws.{IsOne}
 use Rattle.fw_policy.proofs.UnloggedLaws.{IsOfEntries, unlogged-is}
 use Rattle.fw_model.proofs.ThinnedLaws.{each-contained}
@@ -63,12 +63,12 @@ each-of P [] h = tt
 each-of P (s ∷ ss) h = (h s (inl refl), each-of P ss (λ t i. h t (inr i)))
 
 known-from : (sys : System) (state : Machine) (lost : ℕ → Bool) (entries : List Entry) (n : ℕ) (view : List NodeView) → AreNodeViewsFrom sys state lost n view
-    → ((p : ℕ) (node : NodeView) → p < n + length view → IsNodeViewOf sys state lost p node → IsKnown sys.flow entries p node) → AreKnown sys.flow entries n view
+    → ((p : ℕ) (node : NodeView) → p < n + length view → IsNodeViewOf sys state lost p node → IsKnown sys.flow entries p node) → AreNodesKnown sys.flow entries n view
 known-from sys state lost entries n [] v k = tt
 known-from sys state lost entries n (node ∷ view) v k =
     (k n node (omega arith) v.0, known-from sys state lost entries (suc n) view v.1 (λ p x l i. k p x (omega (arith, l)) i))
 
-pub are-known : (sys : System) (state : Machine) (lost : ℕ → Bool) (view : List NodeView) (entries : List Entry) → IsViewOf sys state lost view entries → AreKnown sys.flow entries 0 view
+pub are-known : (sys : System) (state : Machine) (lost : ℕ → Bool) (view : List NodeView) (entries : List Entry) → IsViewOf sys state lost view entries → AreNodesKnown sys.flow entries 0 view
 are-known sys state lost view entries v =
     let w = v.well_formed in
     let r = v.reached in
@@ -103,7 +103,7 @@ offers-append flow entries n m [] (o ∷ os) node offer a e i = absurd a
 offers-append flow entries n m (x ∷ xs) [] node offer a e i = absurd a
 offers-append flow entries n m (x ∷ xs) (o ∷ os) node offer a e i = (a.0, offers-append flow entries (suc n) m xs os node offer a.1 (omega (arith, e)) i)
 
-known-at : (flow : Dataflow) (entries : List Entry) (n i : ℕ) (view : List NodeView) (node : NodeView) → AreKnown flow entries n view → i < length view → node ≡ get_or view i node
+known-at : (flow : Dataflow) (entries : List Entry) (n i : ℕ) (view : List NodeView) (node : NodeView) → AreNodesKnown flow entries n view → i < length view → node ≡ get_or view i node
     → IsKnown flow entries (n + i) node
 known-at flow entries n i [] node k l e = absurd (omega arith)
 known-at flow entries n zero (x ∷ xs) node k l e =
@@ -116,7 +116,7 @@ take-length zero xs l = refl
 take-length (suc i) [] l = absurd (omega arith)
 take-length (suc i) (x ∷ xs) l = ap (λ n. suc n) (take-length i xs (omega arith))
 
-pub offer_more : (flow : Dataflow) (entries : List Entry) (view : List NodeView) (offers next : List Offer) (i q : ℕ) (node : NodeView) (offer : Offer) → AreKnown flow entries 0 view
+pub offer_more : (flow : Dataflow) (entries : List Entry) (view : List NodeView) (offers next : List Offer) (i q : ℕ) (node : NodeView) (offer : Offer) → AreNodesKnown flow entries 0 view
     → i < length view → node ≡ get_or view i node → q ≡ i → AreOffersBy flow entries 0 (take i view) offers → (IsKnown flow entries q node → IsOfferBy flow entries q node offer)
     → next ≡ offers ++ offer ∷ [] → AreOffersBy flow entries 0 (take (i + 1) view) next
 offer_more flow entries view offers next i q node offer k l e s a m n =

@@ -34,7 +34,7 @@ use Rattle.fw_model.specs.Choice.{kept, IsCandidate, IsRestorable, until}
 use Rattle.fw_model.specs.Covers.{takes_its_cut, takes_its_notices, covers_in, stamp_of_notice, stamps_from, stamps_inside, notified_inside, discarded_at}
 use Rattle.fw_model.specs.History.{delivered_messages, sent_messages, injected_count}
 use Rattle.fw_model.specs.Machine.{Machine, events, no_stamps, front_of, ack_count_of}
-use Rattle.fw_model.specs.Offers.{can_stay, offered_by, listed_records, records_of, offered_range, delivered_to, notified_of, sent_by, table_of, IsOneOf, IsOffered, IsListed, on_edge, stamps_on, stamps_on_from, delivered_in, sent_in, notified_in, recorded_delivered, recorded_discarded, recorded_notified, covers_of, Ascend, IsRecordOf, IsRangeOf, is_by_range, IsFormOf, HasOneCause, AreOfBatches, AreOnEdges, AreOffersOf, AreOffersIn}
+use Rattle.fw_model.specs.Offers.{can_stay, offered_by, listed_records, records_of, offered_range, delivered_to, notified_of, offered_sent, counts_offered, IsOfferedFront, IsOffered, IsListed, counted_on_edge, stamps_on, stamps_on_from, delivered_in, sent_in, notified_in, recorded_delivered, recorded_discarded, recorded_notified, covers_of, Ascend, IsRecordOf, IsRangeOf, is_by_range, IsFormOf, HasOneCause, AreOfBatches, AreAtEdgeStamps, AreOffersOf, AreOffersIn}
 use Rattle.fw_model.specs.Writes.{takes_checkpoints, is_collected, not_collected}
 use Rattle.fw_model.proofs.AskedLaws.{reached-all, takes-restoring, IsApart}
 use Rattle.fw_model.proofs.CheckpointFrontLaws.{checkpoints-have_stamps}
@@ -164,11 +164,11 @@ notified-is : (sys : System) (state : Machine) (lost : ℕ → Bool) (entries : 
 notified-is sys state lost entries offers p o = at-map (λ (x : Offer). x.stamps.notified) [] offers p o.offer o.there ∙ ap (λ (x : Stamps). x.notified) o.is.stamps
 
 sent-is : (sys : System) (state : Machine) (lost : ℕ → Bool) (entries : List Entry) (offers : List Offer) (p : ℕ) (o : Offers sys state lost entries offers p)
-    → sent_by offers p ≡ o.node.stamps.sent
+    → offered_sent offers p ≡ o.node.stamps.sent
 sent-is sys state lost entries offers p o = at-map (λ (x : Offer). x.stamps.sent) [] offers p o.offer o.there ∙ ap (λ (x : Stamps). x.sent) o.is.stamps
 
 table-is : (sys : System) (state : Machine) (lost : ℕ → Bool) (entries : List Entry) (offers : List Offer) (p : ℕ) (o : Offers sys state lost entries offers p)
-    → table_of offers p ≡ o.node.table
+    → counts_offered offers p ≡ o.node.table
 table-is sys state lost entries offers p o = at-map (λ (x : Offer). x.table) [] offers p o.offer o.there ∙ o.is.table
 
 offered-is : (sys : System) (state : Machine) (lost : ℕ → Bool) (entries : List Entry) (offers : List Offer) (p : ℕ) (o : Offers sys state lost entries offers p)
@@ -229,7 +229,7 @@ listing sys state lost entries offers a p l way =
 -- what is offered is what the node can be restored to, from the low watermark on
 IsOfferedRight : System → Machine → ℕ → Restoring → Offered → Type 0
 IsOfferedRight sys state p way o = (f : Front) → IsCanonical (bounds_of sys.flow p) f
-    → IsOneOf (bounds_of sys.flow p) o f
+    → IsOfferedFront (bounds_of sys.flow p) o f
     ↔ (IsRestorable sys state kept p way f × Within (frontier_of (bounds_of sys.flow p) (front_of state.low p)) (frontier_of (bounds_of sys.flow p) f))
 
 of-border : (sys : System) (state : Machine) (p : ℕ) (kind : Kind) (x : Border) → kind_of sys.flow p ≡ kind → IsBorderOf sys state p (kind_of sys.flow p) x → IsBorderOf sys state p kind x
@@ -253,12 +253,12 @@ batches-right sys state p low Inner o b few e k a = absurd a
 batches-right sys state p low (Output bound) o b few e k a = absurd a
 batches-right sys state p low (Source n x) o b few e k a = subst (IsOfferedRight sys state p Batches) (sym a) (λ f c.
     let m = batches-offered low n x f few (subst (λ (d : Bounds). IsCanonical d f) b c) in (
-      (λ i. let j = m.0 (subst (λ (d : Bounds). IsOneOf d (form.Batches low (until n) x) f) b i) in (
+      (λ i. let j = m.0 (subst (λ (d : Bounds). IsOfferedFront d (form.Batches low (until n) x) f) b i) in (
         elim j.0 [ inl h ↦ inl (h.0, omega (arith, h.1, k.0), h.2) | inr h ↦ inr (sym k.1 ∙ h.0, h.1) ],
         subst (λ (d : Bounds). Within (frontier_of d (front_of state.low p)) (frontier_of d f)) (sym b)
             (subst (λ (g : Front). Within (frontier_of numbers g) (frontier_of numbers f)) e j.1),
       )),
-      (λ i. subst (λ (d : Bounds). IsOneOf d (form.Batches low (until n) x) f) (sym b) (m.1 (
+      (λ i. subst (λ (d : Bounds). IsOfferedFront d (form.Batches low (until n) x) f) (sym b) (m.1 (
         elim i.0 [ inl h ↦ inl (h.0, omega (arith, h.1, k.0), h.2) | inr h ↦ inr (k.1 ∙ h.0, h.1) ],
         subst (λ (g : Front). Within (frontier_of numbers g) (frontier_of numbers f)) (sym e)
             (subst (λ (d : Bounds). Within (frontier_of d (front_of state.low p)) (frontier_of d f)) b i.1),
@@ -356,8 +356,8 @@ offered-same sys state lost entries offers a p l (At f) =
     let b = bounds_of sys.flow p in
     let is = offered-is sys state lost entries offers p o in
     let k = offered-right sys state lost entries offers a p l o (way_of sys.flow p) refl o.offer.offered o.is.offered in (
-      (λ i. let m = (k f i.0).0 (subst (λ (x : Offered). IsOneOf b x f) is i.1) in (i.0, m.0, m.1)),
-      (λ c. (c.0, subst (λ (x : Offered). IsOneOf b x f) (sym is) ((k f c.0).1 (c.1, c.2)))),
+      (λ i. let m = (k f i.0).0 (subst (λ (x : Offered). IsOfferedFront b x f) is i.1) in (i.0, m.0, m.1)),
+      (λ c. (c.0, subst (λ (x : Offered). IsOfferedFront b x f) (sym is) ((k f c.0).1 (c.1, c.2)))),
     )
 
 -- ---- the offers are of the dataflow
@@ -437,24 +437,24 @@ range-right sys state lost entries offers a p l o way e offered k = at way e k
 
 -- what an input sent comes from one batch each
 sent-of_batches : (sys : System) (state : Machine) (lost : ℕ → Bool) (entries : List Entry) (offers : List Offer) → AreOffersKnown sys state lost entries offers → (e : ℕ) → e < length sys.flow.edges
-    → AreOfBatches (offered_by offers (sender sys.flow e)) (on_edge e (sent_by offers (sender sys.flow e)))
+    → AreOfBatches (offered_by offers (sender sys.flow e)) (counted_on_edge e (offered_sent offers (sender sys.flow e)))
 unfolding AreRecordsRight
 sent-of_batches sys state lost entries offers a e l =
     let p = sender sys.flow e in
     let declared = a.well_formed.flow.senders_declared e l in
     let o = a.each p declared in
     let fits = (records-right sys state lost entries offers a p declared o (way_of sys.flow p) refl o.offer.offered o.is.offered).2 in
-    subst (λ x. AreOfBatches x (on_edge e (sent_by offers p))) (sym (offered-is sys state lost entries offers p o)) (at o o.offer.offered fits)
+    subst (λ x. AreOfBatches x (counted_on_edge e (offered_sent offers p))) (sym (offered-is sys state lost entries offers p o)) (at o o.offer.offered fits)
   where
     at : (o : Offers sys state lost entries offers (sender sys.flow e)) (x : Offered) → IsFormOf (way_of sys.flow (sender sys.flow e)) x
-        → AreOfBatches x (on_edge e (sent_by offers (sender sys.flow e)))
+        → AreOfBatches x (counted_on_edge e (offered_sent offers (sender sys.flow e)))
     at o (form.Listed records) fits = tt
     at o (form.Between least greatest) fits = tt
     at o (form.Batches least greatest exhausted) fits =
         let p = sender sys.flow e in
         let is = by_batches-input (kind_of sys.flow p) (policy_of sys.flow p) fits in
-        subst (λ ms. AllByRecursion HasOneCause (on_edge e ms)) (sym (sent-is sys state lost entries offers p o))
-        (each-weaker (IsOfCause sys.flow p) HasOneCause (on_edge e o.node.stamps.sent) (λ m c. (c.0, c.2)) (o.known.stamps.sent (ap is_sequence_kind is) e l refl).of_cause)
+        subst (λ ms. AllByRecursion HasOneCause (counted_on_edge e ms)) (sym (sent-is sys state lost entries offers p o))
+        (each-weaker (IsOfCause sys.flow p) HasOneCause (counted_on_edge e o.node.stamps.sent) (λ m c. (c.0, c.2)) (o.known.stamps.sent (ap is_sequence_kind is) e l refl).of_cause)
 
 -- ---- the base of a node
 
@@ -591,19 +591,19 @@ notified-same sys state lost entries offers a p l (At f) i = elim (cases_Bool (t
     by Events e n = ap ours e ∙ thin (λ c. let x : Events ≡ Checkpoints = sym e ∙ c in cc)
 
 filter-split : (e : ℕ) (f : Frontier) (ms : List Counted)
-    → filter (λ (m : Counted). m.edge == e && all_inside f m.causes) ms ≡ filter (λ (m : Counted). all_inside f m.causes) (on_edge e ms)
+    → filter (λ (m : Counted). m.edge == e && all_inside f m.causes) ms ≡ filter (λ (m : Counted). all_inside f m.causes) (counted_on_edge e ms)
 filter-split e f [] = refl
 filter-split e f (m ∷ ms) = by (m.edge == e) (filter-split e f ms)
   where
-    by : (c : Bool) → filter (λ (x : Counted). x.edge == e && all_inside f x.causes) ms ≡ filter (λ (x : Counted). all_inside f x.causes) (on_edge e ms)
+    by : (c : Bool) → filter (λ (x : Counted). x.edge == e && all_inside f x.causes) ms ≡ filter (λ (x : Counted). all_inside f x.causes) (counted_on_edge e ms)
         → cond (c && all_inside f m.causes) (m ∷ filter (λ (x : Counted). x.edge == e && all_inside f x.causes) ms) (filter (λ (x : Counted). x.edge == e && all_inside f x.causes) ms)
-        ≡ filter (λ (x : Counted). all_inside f x.causes) (cond c (m ∷ on_edge e ms) (on_edge e ms))
+        ≡ filter (λ (x : Counted). all_inside f x.causes) (cond c (m ∷ counted_on_edge e ms) (counted_on_edge e ms))
     by true r = ap (λ xs. cond (all_inside f m.causes) (m ∷ xs) xs) r
     by false r = r
 
 sent-thinned : (sys : System) (state : Machine) (lost : ℕ → Bool) (entries : List Entry) (offers : List Offer) → AreOffersKnown sys state lost entries offers → (e : ℕ) → e < length sys.flow.edges
     → is_sequence_kind (kind_of sys.flow (sender sys.flow e)) ≡ false → (f : Frontier) → Within (base_of sys state (sender sys.flow e)) f
-    → cover (bounds_of sys.flow (receiver sys.flow e)) (stamps_on_from e f (sent_by offers (sender sys.flow e)))
+    → cover (bounds_of sys.flow (receiver sys.flow e)) (stamps_on_from e f (offered_sent offers (sender sys.flow e)))
     ≡ cover (bounds_of sys.flow (receiver sys.flow e)) (stamps_from f (sent_messages sys (events state.history) e))
 sent-thinned sys state lost entries offers a e l n f w =
     let p = sender sys.flow e in
@@ -612,10 +612,10 @@ sent-thinned sys state lost entries offers a e l n f w =
     let ms = o.node.stamps.sent in
     ap (λ (xs : List Counted). cover b (stamps_on_from e f xs)) (sent-is sys state lost entries offers p o)
     ∙ ap (λ (xs : List Counted). cover b (map (λ (m : Counted). m.at) xs)) (filter-split e f ms)
-    ∙ sent-covers sys (events state.history) e (base_of sys state p) (on_edge e ms) n (o.known.stamps.sent n e l refl) (λ t k. base-domain sys state p t k) f w b
+    ∙ sent-covers sys (events state.history) e (base_of sys state p) (counted_on_edge e ms) n (o.known.stamps.sent n e l refl) (λ t k. base-domain sys state p t k) f w b
 
 sent-everything : (sys : System) (state : Machine) (lost : ℕ → Bool) (entries : List Entry) (offers : List Offer) → AreOffersKnown sys state lost entries offers → (e : ℕ) → e < length sys.flow.edges
-    → cover (bounds_of sys.flow (receiver sys.flow e)) (stamps_on_from e (everything (bounds_of sys.flow (sender sys.flow e))) (sent_by offers (sender sys.flow e)))
+    → cover (bounds_of sys.flow (receiver sys.flow e)) (stamps_on_from e (everything (bounds_of sys.flow (sender sys.flow e))) (offered_sent offers (sender sys.flow e)))
     ≡ cover (bounds_of sys.flow (receiver sys.flow e)) (stamps_from (everything (bounds_of sys.flow (sender sys.flow e))) (sent_messages sys (events state.history) e))
 sent-everything sys state lost entries offers a e l = elim (cases_Bool (is_sequence_kind (kind_of sys.flow (sender sys.flow e)))) [
   | inl s ↦
@@ -659,7 +659,7 @@ discarded-same sys state lost entries offers a e l (At f) i = elim (cases_Bool (
         (cover (bounds_of sys.flow (receiver sys.flow e)) (stamps_from (node_frontier sys.flow (sender sys.flow e) f) (sent_messages sys (events state.history) e))) f
 
     thin : (way_of sys.flow (sender sys.flow e) ≡ Checkpoints → ⊥) → is_sequence_kind (kind_of sys.flow (sender sys.flow e)) ≡ false
-        → cover (bounds_of sys.flow (receiver sys.flow e)) (stamps_on_from e (node_frontier sys.flow (sender sys.flow e) f) (sent_by offers (sender sys.flow e)))
+        → cover (bounds_of sys.flow (receiver sys.flow e)) (stamps_on_from e (node_frontier sys.flow (sender sys.flow e) f) (offered_sent offers (sender sys.flow e)))
         ≡ cover (bounds_of sys.flow (receiver sys.flow e)) (stamps_from (node_frontier sys.flow (sender sys.flow e) f) (sent_messages sys (events state.history) e))
     thin n s = sent-thinned sys state lost entries offers a e l s (node_frontier sys.flow (sender sys.flow e) f) (base-offered sys state lost entries offers a (sender sys.flow e) ps f i n)
 
@@ -687,7 +687,7 @@ arrived-same : (sys : System) (state : Machine) (lost : ℕ → Bool) (entries :
 arrived-same sys state lost entries offers a e l f =
     let p = sender sys.flow e in
     let o = a.each p (a.well_formed.flow.senders_declared e l) in
-    counted-arrive sys (events state.history) e (table_count f (table_of offers p)) f
+    counted-arrive sys (events state.history) e (table_count f (counts_offered offers p)) f
     (λ s. ap (table_count f) (table-is sys state lost entries offers p o) ∙ o.known.table s f)
 
 -- ---- all of it
@@ -710,13 +710,13 @@ of_flow sys state lost entries offers a = record {
       (records-right sys state lost entries offers a p l o (way_of sys.flow p) refl o.offer.offered o.is.offered).2;
   delivered = λ p l.
       let o = a.each p l in
-      subst (λ (ms : List Counted). AreOnEdges sys.flow ms) (sym (delivered-is sys state lost entries offers p o)) o.known.stamps.on_edges.0;
+      subst (λ (ms : List Counted). AreAtEdgeStamps sys.flow ms) (sym (delivered-is sys state lost entries offers p o)) o.known.stamps.on_edges.0;
   notified = λ p l.
       let o = a.each p l in
       subst (λ (ts : List Stamp). AllByRecursion (λ t. in_domain (bounds_of sys.flow p) t ≡ true) ts) (sym (notified-is sys state lost entries offers p o)) o.known.stamps.in_domain;
   sent = λ p l.
       let o = a.each p l in
-      subst (λ (ms : List Counted). AreOnEdges sys.flow ms) (sym (sent-is sys state lost entries offers p o)) o.known.stamps.on_edges.1;
+      subst (λ (ms : List Counted). AreAtEdgeStamps sys.flow ms) (sym (sent-is sys state lost entries offers p o)) o.known.stamps.on_edges.1;
   batches = sent-of_batches sys state lost entries offers a;
 }
 

@@ -22,7 +22,7 @@ use Rattle.fw_flow.specs.Dataflow.{Dataflow, kind_of, policy_of, sender, bounds_
 use Rattle.fw_flow.specs.Restoring.{restoring_of_policy, restoring, way_of}
 use Rattle.fw_flow.specs.WellFormed.{IsWellFormed}
 use Rattle.fw_model.specs.Choice.{until}
-use Rattle.fw_model.specs.Offers.{offered_by, listed_records, offered_range, sent_by, on_edge, IsRecordOf, IsRangeOf, is_by_range, IsFormOf, HasOneCause, AreOfBatches, AreOnEdges, AreOffersOf}
+use Rattle.fw_model.specs.Offers.{offered_by, listed_records, offered_range, offered_sent, counted_on_edge, IsRecordOf, IsRangeOf, is_by_range, IsFormOf, HasOneCause, AreOfBatches, AreAtEdgeStamps, AreOffersOf}
 use Rattle.fw_model.proofs.ChoiceLaws.{by_batches-input, bounds-input}
 use Rattle.fw_model.proofs.LowLaws.{none-canonical}
 use Rattle.fw_model.proofs.UntilLaws.{numbers, canonical-until}
@@ -32,7 +32,7 @@ use Rattle.fw_keep.specs.declared.entry.Entry.{Entry}
 use Rattle.fw_policy.specs.declared.view.NodeView.{NodeView}
 use Rattle.fw_keep.specs.declared.entry.Written.{Written}
 use Rattle.fw_keep.specs.declared.entry.Written.TheVariants as written
-use Rattle.fw_policy.specs.Known.{FitsWay, AreKnown}
+use Rattle.fw_policy.specs.Known.{FitsWay, AreNodesKnown}
 use Rattle.fw_policy.specs.Offering.{record_in, record_by, records_by, empty_record, stamp_of_written, unlogged_by, IsRange, IsOfBatches, IsOfBound, OffersBy, IsOfferBy, AreOffersBy}
 use Rattle.fw_record.specs.OfNode.{AreOfDomain}
 use Rattle.fw_policy.specs.Shaped.{FitsKind, IsWrittenOf, IsViewFor, AreViewsFrom, FitsFlow}
@@ -88,7 +88,7 @@ border-fits kind asks x k = by asks
     by policy.Eager = tt
     by policy.Full = tt
 
-known-from : (flow : Dataflow) (entries : List Entry) (p : ℕ) (view : List NodeView) → AreWritten flow entries → AreViewsFrom flow p view → AreKnown flow entries p view
+known-from : (flow : Dataflow) (entries : List Entry) (p : ℕ) (view : List NodeView) → AreWritten flow entries → AreViewsFrom flow p view → AreNodesKnown flow entries p view
 known-from flow entries p [] w v = tt
 known-from flow entries p (node ∷ view) w v = (
   record {
@@ -99,7 +99,7 @@ known-from flow entries p (node ∷ view) w v = (
   known-from flow entries (suc p) view w v.1,
 )
 
-pub shaped-known : (flow : Dataflow) (view : List NodeView) (entries : List Entry) → FitsFlow flow view entries → AreKnown flow entries 0 view
+pub shaped-known : (flow : Dataflow) (view : List NodeView) (entries : List Entry) → FitsFlow flow view entries → AreNodesKnown flow entries 0 view
 shaped-known flow view entries s = known-from flow entries 0 view s.written s.views
 
 -- ---- what one node offers
@@ -198,15 +198,15 @@ shaped-offers flow view entries offers wf long s o = record {
   form_fits = λ p l. subst (λ (y : Offered). IsFormOf (way_of flow p) y) (sym (offered-is p l)) (right p l).form_fits;
   delivered = λ p l.
       let x = both p l in
-      subst (λ (ms : List Counted). AreOnEdges flow ms) (sym (at-map (λ (y : Offer). y.stamps.delivered) [] offers p x.offer x.there ∙ ap (λ (y : Stamps). y.delivered) x.is.stamps)) x.view.delivered;
+      subst (λ (ms : List Counted). AreAtEdgeStamps flow ms) (sym (at-map (λ (y : Offer). y.stamps.delivered) [] offers p x.offer x.there ∙ ap (λ (y : Stamps). y.delivered) x.is.stamps)) x.view.delivered;
   notified = λ p l.
       let x = both p l in
       subst (AreOfDomain flow p) (sym (at-map (λ (y : Offer). y.stamps.notified) [] offers p x.offer x.there ∙ ap (λ (y : Stamps). y.notified) x.is.stamps)) x.view.notified;
-  sent = λ p l. subst (λ (ms : List Counted). AreOnEdges flow ms) (sym (sent-is p l)) (both p l).view.sent;
+  sent = λ p l. subst (λ (ms : List Counted). AreAtEdgeStamps flow ms) (sym (sent-is p l)) (both p l).view.sent;
   batches = λ e l.
       let p = sender flow e in
       let m = wf.senders_declared e l in
-      subst (λ (y : Offered). AreOfBatches y (on_edge e (sent_by offers p))) (sym (offered-is p m)) (of_batches e p m (both p m).offer.offered (right p m).form_fits);
+      subst (λ (y : Offered). AreOfBatches y (counted_on_edge e (offered_sent offers p))) (sym (offered-is p m)) (of_batches e p m (both p m).offer.offered (right p m).form_fits);
 }
   where
     both : (p : ℕ) → p < length flow.nodes → IsBoth flow entries offers p p
@@ -215,15 +215,15 @@ shaped-offers flow view entries offers wf long s o = record {
     offered-is : (p : ℕ) (l : p < length flow.nodes) → offered_by offers p ≡ (both p l).offer.offered
     offered-is p l = let x = both p l in at-map (λ (y : Offer). y.offered) (form.Listed []) offers p x.offer x.there
 
-    sent-is : (p : ℕ) (l : p < length flow.nodes) → sent_by offers p ≡ (both p l).node.stamps.sent
+    sent-is : (p : ℕ) (l : p < length flow.nodes) → offered_sent offers p ≡ (both p l).node.stamps.sent
     sent-is p l = let x = both p l in at-map (λ (y : Offer). y.stamps.sent) [] offers p x.offer x.there ∙ ap (λ (y : Stamps). y.sent) x.is.stamps
 
     right : (p : ℕ) (l : p < length flow.nodes) → IsRight flow p (way_of flow p) (both p l).offer.offered
     right p l = let x = both p l in right-by flow entries p x.node x.offer.offered s.written x.view (way_of flow p) refl x.is.offered
 
-    of_batches : (e p : ℕ) (l : p < length flow.nodes) (y : Offered) → IsFormOf (way_of flow p) y → AreOfBatches y (on_edge e (sent_by offers p))
+    of_batches : (e p : ℕ) (l : p < length flow.nodes) (y : Offered) → IsFormOf (way_of flow p) y → AreOfBatches y (counted_on_edge e (offered_sent offers p))
     of_batches e p l (form.Listed records) fits = tt
     of_batches e p l (form.Between least greatest) fits = tt
     of_batches e p l (form.Batches least greatest exhausted) fits =
-        subst (λ (ms : List Counted). AllByRecursion HasOneCause (on_edge e ms)) (sym (sent-is p l))
+        subst (λ (ms : List Counted). AllByRecursion HasOneCause (counted_on_edge e ms)) (sym (sent-is p l))
         (each-kept HasOneCause (λ m. m.edge == e) (both p l).node.stamps.sent ((both p l).view.of_batches (by_batches-input (kind_of flow p) (policy_of flow p) fits)))

@@ -78,17 +78,17 @@ HasEventTold flow p serial event (v ∷ h) = IsToldAs flow p serial event v ⊎ 
 -- ---- entries
 
 -- what an entry of node p holds is what the write does
-abbrev pub Holds : System → Machine → ℕ → Written → WrittenBy → Type 0
-Holds sys state p (written.Checkpoint recorded stamps sent) (checkpoint f low) = HoldsWithin sys state p f recorded stamps sent
-Holds sys state p (written.Checkpoint recorded stamps sent) (logged_event serial) = ⊥
-Holds sys state p (written.Event event) (checkpoint f low) = ⊥
-Holds sys state p (written.Event event) (logged_event serial) = HasEventTold sys.flow p serial event state.history
+abbrev pub HoldsWhatIsWritten : System → Machine → ℕ → Written → WrittenBy → Type 0
+HoldsWhatIsWritten sys state p (written.Checkpoint recorded stamps sent) (checkpoint f low) = HoldsWithin sys state p f recorded stamps sent
+HoldsWhatIsWritten sys state p (written.Checkpoint recorded stamps sent) (logged_event serial) = ⊥
+HoldsWhatIsWritten sys state p (written.Event event) (checkpoint f low) = ⊥
+HoldsWhatIsWritten sys state p (written.Event event) (logged_event serial) = HasEventTold sys.flow p serial event state.history
 
 -- an entry stands for a write: it is acknowledged exactly where the write counts among those that are kept
 pub record IsEntryOf (sys : System) (state : Machine) (entry : Entry) (write : Write) : Type 0 where
   pub node : entry.node ≡ write.node
   pub acknowledged : entry.acknowledged ≡ is_counted kept write.stage
-  pub holds : Holds sys state write.node entry.written write.written
+  pub holds : HoldsWhatIsWritten sys state write.node entry.written write.written
 
 -- one entry stands for each write, in order
 abbrev pub AreEntriesOf : System → Machine → List Entry → List Write → Type 0

@@ -30,6 +30,6 @@ pub record IsKnown (flow : Dataflow) (entries : List Entry) (p : ℕ) (node : No
   pub unlogged : way_of flow p ≡ Events → AllByRecursion (λ t. in_domain (bounds_of flow p) t ≡ true) (unlogged_stamps p entries node.lost)
 
 -- what is known of the nodes from p on
-abbrev pub AreKnown : Dataflow → List Entry → ℕ → List NodeView → Type 0
-AreKnown flow entries p [] = Unit {0}
-AreKnown flow entries p (node ∷ view) = IsKnown flow entries p node × AreKnown flow entries (suc p) view
+abbrev pub AreNodesKnown : Dataflow → List Entry → ℕ → List NodeView → Type 0
+AreNodesKnown flow entries p [] = Unit {0}
+AreNodesKnown flow entries p (node ∷ view) = IsKnown flow entries p node × AreNodesKnown flow entries (suc p) view

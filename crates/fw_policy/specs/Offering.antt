@@ -19,7 +19,7 @@ use Rattle.fw_policy.specs.declared.view.Border.{Border}
 use Rattle.fw_policy.specs.declared.view.Border.TheVariants.{Source, Output}
 use Rattle.fw_record.specs.Event.{stamp_of_event}
 use Rattle.fw_keep.specs.declared.entry.Entry.{Entry}
-use Rattle.fw_keep.specs.Entry.{is_lost}
+use Rattle.fw_keep.specs.Entry.{is_in_flight_of}
 use Rattle.fw_policy.specs.declared.view.NodeView.{NodeView}
 use Rattle.fw_keep.specs.declared.entry.Written.{Written}
 use Rattle.fw_keep.specs.declared.entry.Written.TheVariants as written
@@ -58,7 +58,7 @@ stamp_of_written (written.Event event) = stamp_of_event event ∷ []
 
 -- the stamp of an event of node p that is not logged yet, but in flight, if the entry is one
 abbrev pub unlogged_by : ℕ → Entry → List Stamp
-unlogged_by p entry = if is_lost p entry then stamp_of_written entry.written else []
+unlogged_by p entry = if is_in_flight_of p entry then stamp_of_written entry.written else []
 
 -- the stamps of the events of node p that are in flight, in order
 abbrev pub stamps_in_flight : ℕ → List Entry → List Stamp

@@ -6,7 +6,7 @@ use Rattle.fw_frontier.specs.Front.{IsCanonical}
 use Rattle.fw_flow.specs.declared.kind.Kind.{Kind}
 use Rattle.fw_flow.specs.declared.kind.Kind.TheVariants.{Input, OutputEpoch, OutputNumber}
 use Rattle.fw_flow.specs.Dataflow.{Dataflow, kind_of, bounds_of, greatest_number}
-use Rattle.fw_model.specs.Offers.{AreOnEdges, HasOneCause, IsRecordOf}
+use Rattle.fw_model.specs.Offers.{AreAtEdgeStamps, HasOneCause, IsRecordOf}
 use Rattle.fw_policy.specs.declared.view.Border.{Border}
 use Rattle.fw_policy.specs.declared.view.Border.TheVariants.{Source, Output}
 use Rattle.fw_record.specs.Event.{stamp_of_event}
@@ -39,9 +39,9 @@ pub record IsViewFor (flow : Dataflow) (p : ℕ) (node : NodeView) : Type 0 wher
   pub low : IsCanonical (bounds_of flow p) node.low
   pub border : FitsKind (kind_of flow p) node.border
   pub lost : AreOfDomain flow p node.lost
-  pub delivered : AreOnEdges flow node.stamps.delivered
+  pub delivered : AreAtEdgeStamps flow node.stamps.delivered
   pub notified : AreOfDomain flow p node.stamps.notified
-  pub sent : AreOnEdges flow node.stamps.sent
+  pub sent : AreAtEdgeStamps flow node.stamps.sent
   pub of_batches : kind_of flow p ≡ Input → AllByRecursion HasOneCause node.stamps.sent
 
 -- the views are of the nodes from p on

@@ -20,7 +20,7 @@ use Rattle.fw_progress.specs.declared.sent_tally.SentTally.{SentTally}
 use Rattle.fw_progress.specs.declared.traces.Traces.{Traces}
 use Rattle.fw_progress.specs.Covers.{CoversDelivered, CoversNotified}
 use Rattle.fw_progress.specs.Tally.{count_inside}
-use Rattle.fw_progress.specs.Trace.{delivered_on, notified_of, counted_of, counts_sent, IsTraceWithin}
+use Rattle.fw_progress.specs.Trace.{delivered_on, stamps_notified, counted_of, counts_sent, IsTraceWithin}
 use Rattle.fw_progress.specs.Traces.{AreOf}
 use Rattle.fw_progress.proofs.CutTraceLaws.{delivered-domain, notices-domain, sent-domain}
 use Rattle.fw_progress.proofs.SentTallyLaws.{tally-count}
@@ -45,7 +45,7 @@ delivered-covers flow e f traces kept bounds result w l k i covers sys h s b leg
     (subst (IsThinned now.base all) (sym k) (now.trace.delivered e (subst (λ g. e < length g.edges) (sym s) l) (λ j. receiver sys.flow e))))
 
 pub notified-covers : {E : Type 0} (flow : Dataflow) (p : ℕ) (f : Front) (traces : Traces) (kept : List Stamp) (bounds : Bounds) (result : Result Front E) → IsWellFormed flow
-    → kept ≡ notified_of traces p → bounds ≡ bounds_of flow p → IsCoverOf bounds f kept result
+    → kept ≡ stamps_notified traces p → bounds ≡ bounds_of flow p → IsCoverOf bounds f kept result
     → (sys : System) (h : List Event) → sys.flow ≡ flow → HasEpochs sys → IsLegal sys h → IsTraceWithin sys h p f traces → IfOk result (CoversNotified sys h p f)
 notified-covers flow p f traces kept bounds result w k i covers sys h s b legal t =
     let all = flat_map (stamp_of_notice p) h in

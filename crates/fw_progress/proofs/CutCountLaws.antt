@@ -33,7 +33,7 @@ use Rattle.fw_model.proofs.KeptLaws.{kept-owed}
 use Rattle.fw_model.proofs.LegalLaws.{legal-in_domain}
 use Rattle.fw_progress.specs.declared.counts.Counts.{Counts}
 use Rattle.fw_progress.specs.Counts.{owed_of, AreCounts}
-use Rattle.fw_progress.specs.Cut.{events_left, AreTallies, ArePendingAfter, AreTablesAfter, until_epoch, epochs_inside, epochs_left, tally_left, AreCut}
+use Rattle.fw_progress.specs.Cut.{events_left, AreTallies, ArePendingAfter, AreTablesAfter, until_epoch, epochs_inside_of_first, epochs_left, tally_left, AreCut}
 use Rattle.fw_progress.specs.History.{IsCountOf}
 use Rattle.fw_progress.specs.Progress.{ChangesAt}
 use Rattle.fw_progress.specs.Tally.{times_in, has_one, IsTallyOf}
@@ -129,7 +129,7 @@ until-longer : (x y : ℕ) (t : Stamp) (n : ℕ) → until_epoch (x ∷ y ∷ t)
 until-longer x y t n = ap (λ b. cond (b && nat_lt x n) x n) (false_from_ne_true (length (x ∷ y ∷ t) == 1) (λ k. let z = eqb-true (length (x ∷ y ∷ t)) 1 k in absurd (omega arith)))
 
 -- one epoch more is left where it is inside
-epochs-more : (f : Front) (n : ℕ) → epochs_inside f (n + 1) ≡ epochs_inside f n + cond (inside f (n ∷ [])) 1 0
+epochs-more : (f : Front) (n : ℕ) → epochs_inside_of_first f (n + 1) ≡ epochs_inside_of_first f n + cond (inside f (n ∷ [])) 1 0
 epochs-more [] n = refl
 epochs-more ([] ∷ f) n = epochs-more f n
 epochs-more ((x ∷ []) ∷ f) n = elim (cases_lt n x) [
@@ -137,14 +137,14 @@ epochs-more ((x ∷ []) ∷ f) n = elim (cases_lt n x) [
       let a : until_epoch (x ∷ []) (n + 1) ≡ n + 1 = grind (arith, nat_tests) in
       let b : until_epoch (x ∷ []) n ≡ n = grind (arith, nat_tests) in
       let c : leq (x ∷ []) (n ∷ []) ≡ false = grind (arith, nat_tests) in
-      ap (epochs_inside f) a ∙ epochs-more f n ∙ ap (λ k. epochs_inside f k + cond (inside f (n ∷ [])) 1 0) (sym b)
-      ∙ ap (λ k. epochs_inside f (until_epoch (x ∷ []) n) + cond (not k && inside f (n ∷ [])) 1 0) (sym c)
+      ap (epochs_inside_of_first f) a ∙ epochs-more f n ∙ ap (λ k. epochs_inside_of_first f k + cond (inside f (n ∷ [])) 1 0) (sym b)
+      ∙ ap (λ k. epochs_inside_of_first f (until_epoch (x ∷ []) n) + cond (not k && inside f (n ∷ [])) 1 0) (sym c)
   | inr l ↦
       let a : until_epoch (x ∷ []) (n + 1) ≡ x = grind (arith, nat_tests) in
       let b : until_epoch (x ∷ []) n ≡ x = reached x n l in
       let c : leq (x ∷ []) (n ∷ []) ≡ true = grind (arith, nat_tests) in
-      ap (epochs_inside f) a ∙ add_zero (epochs_inside f x) ∙ ap (λ k. epochs_inside f k + 0) (sym b)
-      ∙ ap (λ k. epochs_inside f (until_epoch (x ∷ []) n) + cond (not k && inside f (n ∷ [])) 1 0) (sym c)
+      ap (epochs_inside_of_first f) a ∙ add_zero (epochs_inside_of_first f x) ∙ ap (λ k. epochs_inside_of_first f k + 0) (sym b)
+      ∙ ap (λ k. epochs_inside_of_first f (until_epoch (x ∷ []) n) + cond (not k && inside f (n ∷ [])) 1 0) (sym c)
 ]
   where
     add_zero : (k : ℕ) → k ≡ k + 0
@@ -153,13 +153,13 @@ epochs-more ((x ∷ []) ∷ f) n = elim (cases_lt n x) [
     reached : (x n : ℕ) → x ≤ n → cond (true && nat_lt x n) x n ≡ x
     reached x n l = grind (arith, nat_tests)
 epochs-more ((x ∷ y ∷ t) ∷ f) n =
-    ap (epochs_inside f) (until-longer x y t (n + 1)) ∙ epochs-more f n
-    ∙ ap (λ b. epochs_inside f n + cond (not b && inside f (n ∷ [])) 1 0) (sym (and-false (nat_le x n)))
-    ∙ ap (λ k. epochs_inside f k + cond (not (leq (x ∷ y ∷ t) (n ∷ [])) && inside f (n ∷ [])) 1 0) (sym (until-longer x y t n))
+    ap (epochs_inside_of_first f) (until-longer x y t (n + 1)) ∙ epochs-more f n
+    ∙ ap (λ b. epochs_inside_of_first f n + cond (not b && inside f (n ∷ [])) 1 0) (sym (and-false (nat_le x n)))
+    ∙ ap (λ k. epochs_inside_of_first f k + cond (not (leq (x ∷ y ∷ t) (n ∷ [])) && inside f (n ∷ [])) 1 0) (sym (until-longer x y t n))
 
-epochs-none : (f : Front) → epochs_inside f 0 ≡ 0
+epochs-none : (f : Front) → epochs_inside_of_first f 0 ≡ 0
 epochs-none [] = refl
-epochs-none (o ∷ f) = ap (epochs_inside f) (by (length o == 1) (slice_index o 0)) ∙ epochs-none f
+epochs-none (o ∷ f) = ap (epochs_inside_of_first f) (by (length o == 1) (slice_index o 0)) ∙ epochs-none f
   where
     by : (b : Bool) (x : ℕ) → cond (b && nat_lt x 0) x 0 ≡ 0
     by true x = grind (arith, nat_tests)
@@ -171,7 +171,7 @@ left-none (At f) = epochs-none f
 
 left-more : (flow : Dataflow) (p : ℕ) (cut : Cut) (n : ℕ) → in_domain (bounds_of flow p) (n ∷ []) ≡ true → epochs_left cut (n + 1) ≡ epochs_left cut n + cond (set_of flow p cut (n ∷ [])) 1 0
 left-more flow p Present n d = ap (λ b. n + cond b 1 0) (sym d)
-left-more flow p (At f) n d = epochs-more f n ∙ ap (λ b. epochs_inside f n + cond (b && inside f (n ∷ [])) 1 0) (sym d)
+left-more flow p (At f) n d = epochs-more f n ∙ ap (λ b. epochs_inside_of_first f n + cond (b && inside f (n ∷ [])) 1 0) (sym d)
 
 -- how many injections of a node are left
 pub injected-left : (sys : System) (h : List Event) (keep : ℕ → Frontier) (p : ℕ) (cut : Cut) → AreAtNodes sys.flow h → IsLegal sys h → keep p ≡ set_of sys.flow p cut
@@ -272,7 +272,7 @@ left_more d left i old mid new h c = record {
     below n l = omega (arith, n, l)
 
 -- one stamp more that is outside
-pub epochs-push : (f : Front) (o : Stamp) (n : ℕ) → epochs_inside (f ++ o ∷ []) n ≡ until_epoch o (epochs_inside f n)
+pub epochs-push : (f : Front) (o : Stamp) (n : ℕ) → epochs_inside_of_first (f ++ o ∷ []) n ≡ until_epoch o (epochs_inside_of_first f n)
 epochs-push [] o n = refl
 epochs-push (x ∷ f) o n = epochs-push f o (until_epoch x n)
 
@@ -302,11 +302,11 @@ cut-counts flow choice old new a c pending sent = record {
   owed = λ p l. subst (IsTallyOf (bounds_of flow p)) (sym (c.owed p l)) (tally-left (bounds_of flow p) (cut_of choice p) (owed_of old p) (a.owed p l));
 }
 
-pub epochs-step : (f : Front) (i : ℕ) (o : Stamp) (n left new : ℕ) → i < length f → o ≡ get_or f i o → left ≡ epochs_inside (take i f) n → new ≡ until_epoch o left
-    → new ≡ epochs_inside (take (i + 1) f) n
+pub epochs-step : (f : Front) (i : ℕ) (o : Stamp) (n left new : ℕ) → i < length f → o ≡ get_or f i o → left ≡ epochs_inside_of_first (take i f) n → new ≡ until_epoch o left
+    → new ≡ epochs_inside_of_first (take (i + 1) f) n
 epochs-step f i o n left new l is before now =
     now ∙ ap (until_epoch o) before ∙ sym (epochs-push (take i f) o n)
-    ∙ ap (λ xs. epochs_inside xs n) (sym (take_more f i o l ∙ ap (λ y. take i f ++ y ∷ []) (sym is)))
+    ∙ ap (λ xs. epochs_inside_of_first xs n) (sym (take_more f i o l ∙ ap (λ y. take i f ++ y ∷ []) (sym is)))
 
 -- what a node that stays keeps
 pub owed-stays : (cut : Cut) (p : ℕ) (old : List (List (Stamp × ℕ))) → cut ≡ Present → ChangesAt p [] (λ x y. y ≡ tally_left cut x) old old

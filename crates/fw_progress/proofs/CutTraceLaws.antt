@@ -27,8 +27,8 @@ use Rattle.fw_progress.specs.declared.sent_tally.SentTally.{SentTally}
 use Rattle.fw_progress.specs.declared.traces.Traces.{Traces}
 use Rattle.fw_model.specs.EventStamps.{causes_in}
 use Rattle.fw_progress.specs.SentTally.{IsSentTally, ComeFromDomain, IsTallySettledTo, IsCountedInAll, IsTallyCutTo}
-use Rattle.fw_progress.specs.Trace.{delivered_on, notified_of, sent_at, counted_of, IsTraceOf, IsTraceWithin, KeepsOthers, AreSettledTo, AreThinnedAt, AreCutTo, HaveChanged}
-use Rattle.fw_progress.specs.Traces.{AreOf, IsSettledTo, IsThinnedBy, IsCutTo}
+use Rattle.fw_progress.specs.Trace.{delivered_on, stamps_notified, stamps_where_sent, counted_of, IsTraceOf, IsTraceWithin, KeepsOthers, AreSettledTo, AreThinnedAt, AreCutTo, HaveChanged}
+use Rattle.fw_progress.specs.Traces.{AreOf, IsSettledTo, IsThinnedBy, StandsInside}
 use Rattle.fw_progress.proofs.SentTallyLaws.{tally-settle}
 use Rattle.fw_progress.proofs.TraceLaws.{thinned-settle}
 
@@ -62,8 +62,8 @@ pub same-trace : (sys : System) (h k : List Event) (p : ℕ) (base : Frontier) (
     → IsTraceOf sys h p base traces → IsTraceOf sys k p base traces
 same-trace sys h k p base traces e t = record {
   delivered = λ d l r. subst (λ ms. IsThinned base (map (λ (m : Message). m.at) ms) (delivered_on traces d)) (same d r) (t.delivered d l r);
-  notified = subst (λ ss. IsThinned base ss (notified_of traces p)) (sym (notices-at sys.flow h p) ∙ ap (flat_map (stamp_of_notice p)) (sym e) ∙ notices-at sys.flow k p) t.notified;
-  sent = λ o n. subst (λ vs. IsThinned base (causes_in (sent_by sys p vs)) (sent_at traces p)) (sym e) (t.sent o n);
+  notified = subst (λ ss. IsThinned base ss (stamps_notified traces p)) (sym (notices-at sys.flow h p) ∙ ap (flat_map (stamp_of_notice p)) (sym e) ∙ notices-at sys.flow k p) t.notified;
+  sent = λ o n. subst (λ vs. IsThinned base (causes_in (sent_by sys p vs)) (stamps_where_sent traces p)) (sym e) (t.sent o n);
   counted = λ c. subst (λ vs. IsSentTally base (sent_by sys p vs) (counted_of traces p)) (sym e) (t.counted c);
 }
   where
@@ -237,19 +237,19 @@ notices-kept flow keep h p =
     sym (notices-at flow (kept_events flow keep h) p) ∙ ap (flat_map (stamp_of_notice p)) (events_at-kept flow keep p h)
     ∙ notices-inside p (keep p) (events_at flow p h) ∙ ap (filter (keep p)) (notices-at flow h p)
 
-pub cut-traces : (flow : Dataflow) (p : ℕ) (f : Front) (old new : Traces) → IsWellFormed flow → HaveChanged flow p (IsCutTo f) (IsTallyCutTo f) old new → AreCutTo flow p f old new
+pub cut-traces : (flow : Dataflow) (p : ℕ) (f : Front) (old new : Traces) → IsWellFormed flow → HaveChanged flow p (StandsInside f) (IsTallyCutTo f) old new → AreCutTo flow p f old new
 cut-traces flow p f old new well change = record {
   here = λ sys h keep e epochs legal fr is base w t.
       let is_now : keep p ≡ node_frontier sys.flow p f = is ∙ sym (ap (λ g. node_frontier g p f) e) in
       let fr_now : AreFrontiers sys.flow keep = subst (λ g. AreFrontiers g keep) (sym e) fr in
       let w_now : Within base (node_frontier sys.flow p f) = subst (λ g. Within base (node_frontier g p f)) (sym e) w in
       subst (λ g. IsTraceOf sys (kept_events g keep h) p base new) e
-      (here sys h keep (subst IsWellFormed (sym e) well) epochs legal fr_now is_now base w_now (subst (λ g. HaveChanged g p (IsCutTo f) (IsTallyCutTo f) old new) (sym e) change) t);
-  others = changed-others flow p (IsCutTo f) (IsTallyCutTo f) old new change;
+      (here sys h keep (subst IsWellFormed (sym e) well) epochs legal fr_now is_now base w_now (subst (λ g. HaveChanged g p (StandsInside f) (IsTallyCutTo f) old new) (sym e) change) t);
+  others = changed-others flow p (StandsInside f) (IsTallyCutTo f) old new change;
 }
   where
     here : (sys : System) (h : List Event) (keep : ℕ → Frontier) → IsWellFormed sys.flow → HasEpochs sys → IsLegal sys h → AreFrontiers sys.flow keep → keep p ≡ node_frontier sys.flow p f
-        → (base : Frontier) → Within base (node_frontier sys.flow p f) → HaveChanged sys.flow p (IsCutTo f) (IsTallyCutTo f) old new → IsTraceOf sys h p base old
+        → (base : Frontier) → Within base (node_frontier sys.flow p f) → HaveChanged sys.flow p (StandsInside f) (IsTallyCutTo f) old new → IsTraceOf sys h p base old
         → IsTraceOf sys (kept_events sys.flow keep h) p base new
     here sys h keep well epochs legal fr is base w c t =
         let b = bounds_of sys.flow p in
@@ -264,9 +264,9 @@ cut-traces flow p f old new well change = record {
               subst (λ ss. IsThinned base ss (delivered_on new d)) (sym left)
               (c.delivered.here d l r b base all
               (subst (λ q. AreEventsInDomain sys.flow h q → AreOf (bounds_of sys.flow q) all) r (delivered-domain sys h d) a) w (t.delivered d l r));
-          notified = subst (λ ss. IsThinned base ss (notified_of new p)) (sym (notices-kept sys.flow keep h p ∙ ap (λ g. filter g (flat_map (stamp_of_notice p) h)) is))
+          notified = subst (λ ss. IsThinned base ss (stamps_notified new p)) (sym (notices-kept sys.flow keep h p ∙ ap (λ g. filter g (flat_map (stamp_of_notice p) h)) is))
               (c.notified.here b base (flat_map (stamp_of_notice p) h) (notices-domain sys h p a) w t.notified);
-          sent = λ o k. subst (λ ss. IsThinned base ss (sent_at new p))
+          sent = λ o k. subst (λ ss. IsThinned base ss (stamps_where_sent new p))
               (sym (ap causes_in sent ∙ causes-from (node_frontier sys.flow p f) (sent_by sys p (events_at sys.flow p h)) (sent-one sys p (events_at sys.flow p h))))
               (c.sent.here b base (causes_in (sent_by sys p (events_at sys.flow p h))) (causes-of b _ (sent-domain sys h p a)) w (t.sent o k));
           counted = λ k. subst (λ ms. IsSentTally base ms (counted_of new p)) (sym sent)

@@ -10,10 +10,10 @@ use Rattle.fw_time.specs.declared.stamp.Bounds.{Bounds}
 use Rattle.fw_flow.specs.Counting.{how_many}
 use Rattle.fw_flow.specs.declared.node.Edge.{Edge}
 use Rattle.fw_flow.specs.Dataflow.{Dataflow, sender, receiver, bounds_of, edges_from, out_edges}
-use Rattle.fw_flow.specs.SentTable.{AreInOrder}
+use Rattle.fw_flow.specs.SentTable.{EpochsAscend}
 use Rattle.fw_flow.proofs.OutEdgeLaws.{out_edges-from}
 use Rattle.fw_progress.specs.Counts.{is_in}
-use Rattle.fw_progress.specs.Progress.{ChangesAt, AreSent, IsSentMore}
+use Rattle.fw_progress.specs.Progress.{ChangesAt, ArePendingMore, IsSentMore}
 use Rattle.fw_progress.specs.Tally.{times_in, IsTallyOf, HasEachMore}
 
 -- one place changed
@@ -27,7 +27,7 @@ changed_at d R old p i x y e l is r = record {
 
 -- a table that does not take an epoch stays
 pub sent_kept : (old : List (List (ℕ × ℕ))) (p i : ℕ) (y : List (ℕ × ℕ)) (epoch count : ℕ) (b : Bool) → i ≡ p → i < length old → y ≡ get_or old i y
-    → (b ≡ true) ↔ ((n : ℕ) → AreInOrder (y ++ (epoch, n) ∷ [])) → b ≡ false → ChangesAt p [] (IsSentMore epoch count) old (set old i y)
+    → (b ≡ true) ↔ ((n : ℕ) → EpochsAscend (y ++ (epoch, n) ∷ [])) → b ≡ false → ChangesAt p [] (IsSentMore epoch count) old (set old i y)
 sent_kept old p i y epoch count b e l is test none = changed_at [] (IsSentMore epoch count) old p i y y e l is (λ a. absurd (both_ways b none (test.1 a)))
 
 -- ---- on each out-edge
@@ -154,7 +154,7 @@ often-in (x ∷ xs) e k z = by (x == e) k z (often-in xs e)
     by true j y f = absurd (omega (arith, y))
     by false j y f = f j y
 
-pub all_sent : (flow : Dataflow) (p : ℕ) (stamps : List Stamp) (edges : List ℕ) (old new : List (List (Stamp × ℕ))) → edges ≡ out_edges flow p → IsSending stamps edges old new → AreSent flow p stamps old new
+pub all_sent : (flow : Dataflow) (p : ℕ) (stamps : List Stamp) (edges : List ℕ) (old new : List (List (Stamp × ℕ))) → edges ≡ out_edges flow p → IsSending stamps edges old new → ArePendingMore flow p stamps old new
 all_sent flow p stamps edges old new is a = record {
   one_each = a.one_each;
   times = λ e l t. a.times e t ∙ one (sender flow e == p) (times_in t (get_or old e [])) (how_often edges e) (how_many (same t) stamps) (ap (λ es. how_often es e) is ∙ once flow p e l);

@@ -18,7 +18,7 @@ use Rattle.fw_flow.specs.declared.kind.Kind.TheVariants.{Sequence}
 use Rattle.fw_flow.specs.Dataflow.{System, Dataflow, kind_of, sender, receiver, greatest_number, is_notified_kind, is_sequence_kind, HasEpochs}
 use Rattle.fw_flow.specs.NodeFunction.{event_node, sends, sent_by}
 use Rattle.fw_flow.specs.Projection.{events_at, IsSentTable}
-use Rattle.fw_flow.specs.SentTable.{AreInOrder}
+use Rattle.fw_flow.specs.SentTable.{EpochsAscend}
 use Rattle.fw_flow.specs.WellFormed.{IsWellFormed}
 use Rattle.fw_model.specs.History.{sent_messages, message_on, delivered_messages, pending_messages, is_delivery_to, was_delivered_to, was_notified, is_owed_notice, injected_count, some_at, IsLegal}
 use Rattle.fw_model.specs.LawsOfPending.{sent_on}
@@ -40,8 +40,8 @@ use Rattle.fw_model.proofs.TableLaws.{table-follows}
 use Rattle.fw_model.proofs.OncePerNumberLaws.{any_at}
 use Rattle.fw_progress.specs.declared.counts.Counts.{Counts}
 use Rattle.fw_progress.specs.Counts.{pending_of, owed_of, injected_in, sent_of, is_in}
-use Rattle.fw_progress.specs.History.{count_at, IsCountOf, IsKept, stamps_sent}
-use Rattle.fw_progress.specs.Progress.{AreSent, IsDelivered, IsNotified, IsInjected}
+use Rattle.fw_progress.specs.History.{count_at, IsCountOf, AreKeptAdmissible, stamps_sent}
+use Rattle.fw_progress.specs.Progress.{ArePendingMore, DeliversOne, IsNotified, IsInjected}
 use Rattle.fw_progress.specs.Growths.{IsEnlisted}
 use Rattle.fw_progress.specs.Tally.{times_in, has_one}
 use Rattle.fw_progress.proofs.HistoryLaws.{count-some}
@@ -111,7 +111,7 @@ sent_on-count sys h v e t =
 pending-event : (sys : System) (h : List Event) (v : Event) (sent : List Stamp) (old between new : List (List (Stamp × ℕ))) → IsLegal sys (v ∷ h) → stamps_sent sys h v ≡ sent
     → ((e : ℕ) → e < length sys.flow.edges → (t : Stamp) → times_in t (get_or old e []) ≡ count_at t (pending_messages sys h e))
     → ((e : ℕ) → e < length sys.flow.edges → (t : Stamp) → times_in t (get_or between e []) + count_at t (message_on e v) ≡ times_in t (get_or old e []))
-    → AreSent sys.flow (event_node sys.flow v) sent between new
+    → ArePendingMore sys.flow (event_node sys.flow v) sent between new
     → (e : ℕ) → e < length sys.flow.edges → (t : Stamp) → times_in t (get_or new e []) ≡ count_at t (pending_messages sys (v ∷ h) e)
 pending-event sys h v sent old between new l is o taken s e m t =
     let a = s.times e m t in
@@ -141,7 +141,7 @@ owed-more false d n e = refl
 
 -- what a node is owed after a delivery
 owed-delivered : (sys : System) (h : List Event) (e : ℕ) (m : Message) (sent : List Stamp) (old new : Counts) → IsWellFormed sys.flow → HasEpochs sys → IsLegal sys (Deliver e m ∷ h)
-    → IsCountOf sys h old → IsDelivered sys.flow e m.at sent old new → (p : ℕ) → p < length sys.flow.nodes → (t : Stamp)
+    → IsCountOf sys h old → DeliversOne sys.flow e m.at sent old new → (p : ℕ) → p < length sys.flow.nodes → (t : Stamp)
     → has_one t (owed_of new p) ≡ is_owed_notice sys (Deliver e m ∷ h) p t
 owed-delivered sys h e m sent old new w b l c d p there t =
     let q = receiver sys.flow e in
@@ -177,7 +177,7 @@ owed-delivered sys h e m sent old new w b l c d p there t =
 
 -- one less is pending where a message was taken
 taken-one : (sys : System) (h : List Event) (e : ℕ) (m : Message) (sent : List Stamp) (old new : Counts) → IsLegal sys (Deliver e m ∷ h) → IsCountOf sys h old
-    → (d : IsDelivered sys.flow e m.at sent old new) → (x : ℕ) → x < length sys.flow.edges → (t : Stamp)
+    → (d : DeliversOne sys.flow e m.at sent old new) → (x : ℕ) → x < length sys.flow.edges → (t : Stamp)
     → times_in t (get_or d.between x []) + count_at t (message_on x (Deliver e m)) ≡ times_in t (pending_of old x)
 taken-one sys h e m sent old new l c d x there t = elim (cases_eq x e) [
   | inr n ↦
@@ -219,14 +219,14 @@ taken-one sys h e m sent old new l c d x there t = elim (cases_eq x e) [
     step false false n o c e x y f = omega (arith, x, y)
 
 pub delivered-counts : (sys : System) (h : List Event) (e : ℕ) (m : Message) (sent : List Stamp) (old new : Counts) → IsWellFormed sys.flow → HasEpochs sys → IsLegal sys (Deliver e m ∷ h)
-    → stamps_sent sys h (Deliver e m) ≡ sent → IsCountOf sys h old → IsDelivered sys.flow e m.at sent old new → IsCountOf sys (Deliver e m ∷ h) new
+    → stamps_sent sys h (Deliver e m) ≡ sent → IsCountOf sys h old → DeliversOne sys.flow e m.at sent old new → IsCountOf sys (Deliver e m ∷ h) new
 delivered-counts sys h e m sent old new w b l is c d = record {
   pending = pending-event sys h (Deliver e m) sent old.pending.items d.between new.pending.items l is c.pending (taken-one sys h e m sent old new l c d) d.sends;
   owed = owed-delivered sys h e m sent old new w b l c d;
   batches = λ p l. ap (λ xs. get_or xs p 0) d.batches ∙ c.batches p l;
   injected = λ p l. ap (λ xs. get_or xs p 0) d.injected ∙ c.injected p l;
   sent = λ p l k. subst (IsSentTable sys (Deliver e m ∷ h) p) (sym (ap (λ xs. get_or xs p []) d.counted)) ((table-follows sys p k).stays h (sent_of old p) (Deliver e m) refl (c.sent p l k));
-  in_order = λ p l k. subst AreInOrder (sym (ap (λ xs. get_or xs p []) d.counted)) (c.in_order p l k);
+  in_order = λ p l k. subst EpochsAscend (sym (ap (λ xs. get_or xs p []) d.counted)) (c.in_order p l k);
   epochs = λ p l k. subst (AllByRecursion (λ entry. was_notified p (entry.0 ∷ []) h ≡ true)) (sym (ap (λ xs. get_or xs p []) d.counted)) (c.epochs p l k);
 }
 
@@ -250,7 +250,7 @@ injected-counts sys h s x sent old new b l is c d = record {
         next ∙ ap (λ k. k + 1) now ∙ sym (ap (λ k. cond k (injected_count p h + 1) (injected_count p h)) (eq-eqb s p (sym i)))
   ];
   sent = λ p l k. subst (IsSentTable sys (Inject s x ∷ h) p) (sym (ap (λ xs. get_or xs p []) d.counted)) ((table-follows sys p k).stays h (sent_of old p) (Inject s x) refl (c.sent p l k));
-  in_order = λ p l k. subst AreInOrder (sym (ap (λ xs. get_or xs p []) d.counted)) (c.in_order p l k);
+  in_order = λ p l k. subst EpochsAscend (sym (ap (λ xs. get_or xs p []) d.counted)) (c.in_order p l k);
   epochs = λ p l k. subst (AllByRecursion (λ entry. was_notified p (entry.0 ∷ []) h ≡ true)) (sym (ap (λ xs. get_or xs p []) d.counted)) (c.epochs p l k);
 }
 
@@ -278,7 +278,7 @@ notified-at flow p t P (Notify q s ∷ h) a k = by (q == p) a k (notified-at flo
 
 -- an epoch of which a sequence is notified comes after those of its table
 takes-next : (sys : System) (h : List Event) (p x : ℕ) (counts : Counts) → IsWellFormed sys.flow → HasEpochs sys → IsLegal sys (Notify p (x ∷ []) ∷ h) → kind_of sys.flow p ≡ Sequence
-    → p < length sys.flow.nodes → IsCountOf sys h counts → (n : ℕ) → AreInOrder (sent_of counts p ++ (x, n) ∷ [])
+    → p < length sys.flow.nodes → IsCountOf sys h counts → (n : ℕ) → EpochsAscend (sent_of counts p ++ (x, n) ∷ [])
 takes-next sys h p x counts w b l k there c n =
     let table = sent_of counts p in
     let order = (sequences-in_order sys (Notify p (x ∷ []) ∷ h) w b l p k).in_order in
@@ -383,12 +383,12 @@ notified-counts sys h p t sent old new w b l there is c d =
             (subst (IsSentTable sys (v ∷ h) p) (sym (x.2 ∙ ap (λ n. sent_of old p ++ (x.0, n) ∷ []) (sym (sent-length sys h p t sent is)))) grown)
       ];
       in_order = λ q m k. elim (cases_eq q p) [
-        | inr n ↦ subst AreInOrder (sym (other-table sys p q t sent old new d n line)) (c.in_order q m k)
+        | inr n ↦ subst EpochsAscend (sym (other-table sys p q t sent old new d n line)) (c.in_order q m k)
         | inl i ↦
             let kp : kind_of sys.flow p ≡ Sequence = sym (ap (kind_of sys.flow) i) ∙ k in
             let x = table kp in
             let T : Stamp → Type 0 = λ s. IsLegal sys (Notify p s ∷ h) in
-            subst (λ r. AreInOrder (sent_of new r)) (sym i) (subst AreInOrder (sym x.2) (takes-next sys h p x.0 old w b (subst T x.1 l) kp there c (length sent)))
+            subst (λ r. EpochsAscend (sent_of new r)) (sym i) (subst EpochsAscend (sym x.2) (takes-next sys h p x.0 old w b (subst T x.1 l) kp there c (length sent)))
       ];
       epochs = λ q m k. elim (cases_eq q p) [
         | inr n ↦
@@ -408,7 +408,7 @@ notified-counts sys h p t sent old new w b l there is c d =
 
 -- an event leaves the kept frontiers, where its node waits from then on
 pub kept-event : (sys : System) (h : List Event) (v : Event) → IsWellFormed sys.flow → HasEpochs sys → IsLegal sys (v ∷ h) → (kept : List Front) (work more : List ℕ)
-    → IsEnlisted (event_node sys.flow v) work more → IsKept sys h kept work → IsKept sys (v ∷ h) kept more
+    → IsEnlisted (event_node sys.flow v) work more → AreKeptAdmissible sys h kept work → AreKeptAdmissible sys (v ∷ h) kept more
 kept-event sys h v w b l kept work more put k = record {
   admissible = admissible-stays sys h w b l.1 (family_of sys.flow kept) k.admissible v l.0;
   stuck = λ p there out.

@@ -24,7 +24,7 @@ use Rattle.fw_progress.specs.declared.traces.Traces.{Traces}
 use Rattle.fw_progress.specs.Progress.{ChangesAt}
 use Rattle.fw_model.specs.EventStamps.{causes_in}
 use Rattle.fw_progress.specs.SentTally.{IsSentTally, CountsMore}
-use Rattle.fw_progress.specs.Trace.{delivered_on, notified_of, sent_at, counted_of, no_tally, counts_sent, TracesFollow, StandForManyMore, SentMore, CountedMore, HasSent}
+use Rattle.fw_progress.specs.Trace.{delivered_on, stamps_notified, stamps_where_sent, counted_of, no_tally, counts_sent, TracesFollow, StandForManyMore, SentMore, CountedMore, HasSent}
 use Rattle.fw_progress.specs.Traces.{StandForOneMore}
 use Rattle.fw_progress.proofs.TraceLaws.{contains-head, contains-tail, each-had}
 
@@ -82,7 +82,7 @@ one_cause at (m ∷ ms) a =
 pub record Tells (flow : Dataflow) (v : Event) (count : ℕ) (old new : Traces) : Type 0 where
   pub delivered : (d : ℕ) (base : Frontier) (all : List Stamp) → IsThinned base all (delivered_on old d)
       → IsThinned base (map (λ (m : Message). m.at) (message_on d v) ++ all) (delivered_on new d)
-  pub notified : (q : ℕ) (base : Frontier) (all : List Stamp) → IsThinned base all (notified_of old q) → IsThinned base (stamp_of_notice q v ++ all) (notified_of new q)
+  pub notified : (q : ℕ) (base : Frontier) (all : List Stamp) → IsThinned base all (stamps_notified old q) → IsThinned base (stamp_of_notice q v ++ all) (stamps_notified new q)
   pub sends : HasSent flow (event_node flow v) (event_stamp v) count old new
 
 pub tells-follow : (flow : Dataflow) (v : Event) (sent : List Stamp) (old new : Traces) → Tells flow v (length sent) old new → TracesFollow flow v sent old new
@@ -114,16 +114,16 @@ tells-follow flow v sent old new tells sys h e is p base t =
     one : AllByRecursion (λ (m : Message). m.causes ≡ event_stamp v ∷ []) now
     one = sends-causes sys q (events_at sys.flow q h) v
 
-    sends_after : Tells sys.flow v (length sent) old new → (n : ℕ) → is_sequence_kind (kind_of sys.flow n) ≡ false → IsThinned base (causes_in (before n)) (sent_at old n)
-        → IsThinned base (causes_in (after n)) (sent_at new n)
+    sends_after : Tells sys.flow v (length sent) old new → (n : ℕ) → is_sequence_kind (kind_of sys.flow n) ≡ false → IsThinned base (causes_in (before n)) (stamps_where_sent old n)
+        → IsThinned base (causes_in (after n)) (stamps_where_sent new n)
     sends_after told n k i = elim (cases_eq n q) [
-      | inl j ↦ subst (λ x. is_sequence_kind (kind_of sys.flow x) ≡ false → IsThinned base (causes_in (before x)) (sent_at old x) → IsThinned base (causes_in (after x)) (sent_at new x)) (sym j)
+      | inl j ↦ subst (λ x. is_sequence_kind (kind_of sys.flow x) ≡ false → IsThinned base (causes_in (before x)) (stamps_where_sent old x) → IsThinned base (causes_in (after x)) (stamps_where_sent new x)) (sym j)
           (λ c u.
           let parts = one_cause (event_stamp v) now one in
-          subst (λ ss. IsThinned base ss (sent_at new q)) (sym (ap causes_in (sent_by-event sys h v q refl) ∙ flat_map-append (λ (m : Message). m.causes) now (before q)))
+          subst (λ ss. IsThinned base ss (stamps_where_sent new q)) (sym (ap causes_in (sent_by-event sys h v q refl) ∙ flat_map-append (λ (m : Message). m.causes) now (before q)))
           (told.sends.sent.here c base (causes_in (before q)) (causes_in now) (parts.0 ∙ many) parts.1 u)) k i
       | inr j ↦
-          subst (λ ms. IsThinned base (causes_in ms) (sent_at new n)) (sym (sent_by-other sys h v n (λ x. j (sym x))))
+          subst (λ ms. IsThinned base (causes_in ms) (stamps_where_sent new n)) (sym (sent_by-other sys h v n (λ x. j (sym x))))
           (subst (IsThinned base (causes_in (before n))) (sym (told.sends.sent.others n j)) i)
     ]
 
@@ -156,9 +156,9 @@ pub notified-tells : (flow : Dataflow) (p : ℕ) (t : Stamp) (count : ℕ) (old 
 notified-tells flow p t count old new d n s = record {
   delivered = λ x base all h. subst (IsThinned base all) (sym (ap (λ xs. get_or xs x []) d)) h;
   notified = λ q base all h. elim (cases_eq q p) [
-    | inl i ↦ subst (λ b. IsThinned base (cond b (t ∷ []) [] ++ all) (notified_of new q)) (sym (eq-eqb p q (sym i)))
-        (subst (λ y. IsThinned base all (notified_of old y) → IsThinned base (t ∷ all) (notified_of new y)) (sym i) (n.here base all) h)
-    | inr i ↦ subst (λ b. IsThinned base (cond b (t ∷ []) [] ++ all) (notified_of new q)) (sym (false_from_ne_true (p == q) (λ k. i (sym (eqb-true p q k)))))
+    | inl i ↦ subst (λ b. IsThinned base (cond b (t ∷ []) [] ++ all) (stamps_notified new q)) (sym (eq-eqb p q (sym i)))
+        (subst (λ y. IsThinned base all (stamps_notified old y) → IsThinned base (t ∷ all) (stamps_notified new y)) (sym i) (n.here base all) h)
+    | inr i ↦ subst (λ b. IsThinned base (cond b (t ∷ []) [] ++ all) (stamps_notified new q)) (sym (false_from_ne_true (p == q) (λ k. i (sym (eqb-true p q k)))))
         (subst (IsThinned base all) (sym (n.others q i)) h)
   ];
   sends = s;

@@ -27,7 +27,7 @@ use Rattle.fw_model.proofs.DescentLaws.{past_edges-joined, past_edges-quiet, pas
 use Rattle.fw_model.proofs.ProgressLaws.{stuck-complete}
 use Rattle.fw_progress.specs.declared.counts.Counts.{Counts}
 use Rattle.fw_progress.specs.Counts.{pending_of, owed_of, batches_in, injected_in, sent_of, AreCounts, given_by, clear_by, come_by, target_by, IsAdmissibleBy, is_in, AreStuckOutside}
-use Rattle.fw_progress.specs.History.{count_at, IsCountOf, IsKept}
+use Rattle.fw_progress.specs.History.{count_at, IsCountOf, AreKeptAdmissible}
 use Rattle.fw_progress.proofs.TallyLaws.{none-inside, inside-none, has_one-none, none-has_one}
 
 -- ---- none is at a stamp
@@ -161,7 +161,7 @@ by-admissible sys h counts w c fronts one a =
 
 -- ---- kept frontiers
 
-pub kept-by : (sys : System) (h : List Event) (counts : Counts) → IsWellFormed sys.flow → AreCounts sys.flow counts → IsCountOf sys h counts → (kept : List Front) (work : List ℕ) → IsKept sys h kept work
+pub kept-by : (sys : System) (h : List Event) (counts : Counts) → IsWellFormed sys.flow → AreCounts sys.flow counts → IsCountOf sys h counts → (kept : List Front) (work : List ℕ) → AreKeptAdmissible sys h kept work
     → IsAdmissibleBy sys.flow counts (family_of sys.flow kept) × AreStuckOutside sys.flow counts kept work
 kept-by sys h counts w a c kept work k = (
   admissible-by sys h counts w a c (family_of sys.flow kept) k.admissible,
@@ -169,14 +169,14 @@ kept-by sys h counts w a c kept work k = (
 )
 
 pub by-kept : (sys : System) (h : List Event) (counts : Counts) → IsWellFormed sys.flow → AreCounts sys.flow counts → IsCountOf sys h counts → (kept : List Front) (work : List ℕ) → length kept ≡ length sys.flow.nodes
-    → IsAdmissibleBy sys.flow counts (family_of sys.flow kept) → AreStuckOutside sys.flow counts kept work → IsKept sys h kept work
+    → IsAdmissibleBy sys.flow counts (family_of sys.flow kept) → AreStuckOutside sys.flow counts kept work → AreKeptAdmissible sys h kept work
 by-kept sys h counts w a c kept work one ad s = record {
   admissible = by-admissible sys h counts w c kept one ad;
   stuck = λ p l out t is. s p l out t (open-target sys h counts w a c (family_of sys.flow kept) p l t is);
 }
 
 -- where no node waits the kept frontiers are complete
-pub kept-complete : (sys : System) (h : List Event) → IsWellFormed sys.flow → (kept : List Front) (work : List ℕ) → length kept ≡ length sys.flow.nodes → work ≡ [] → IsKept sys h kept work
+pub kept-complete : (sys : System) (h : List Event) → IsWellFormed sys.flow → (kept : List Front) (work : List ℕ) → length kept ≡ length sys.flow.nodes → work ≡ [] → AreKeptAdmissible sys h kept work
     → IsComplete sys h (family_of sys.flow kept)
 kept-complete sys h w kept work one e k =
     stuck-complete sys h (family_of sys.flow kept) w k.admissible (λ p t is. elim (cases_lt p (length sys.flow.nodes)) [

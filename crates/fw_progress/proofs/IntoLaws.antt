@@ -14,7 +14,7 @@ use Rattle.fw_model.specs.Thinned.{IsThinned}
 use Rattle.fw_model.proofs.DependenceLaws.{in_edges-each}
 use Rattle.fw_progress.specs.Counts.{is_in}
 use Rattle.fw_progress.specs.Progress.{ChangesAt}
-use Rattle.fw_progress.specs.Traces.{has_greater_inside, thinned, IsThinnedBy, IsCutTo, ChangesInto}
+use Rattle.fw_progress.specs.Traces.{has_greater_inside, thinned, IsThinnedBy, StandsInside, ChangesInto}
 
 abbrev Lists : Type 0
 Lists = List (List Stamp)
@@ -56,7 +56,7 @@ filter-twice g (s ∷ ss) = by (g s) refl (filter-twice g ss)
     by true e ih = ap (λ c. cond c (s ∷ filter g (filter g ss)) (filter g (filter g ss))) e ∙ ap (λ ts. s ∷ ts) ih
     by false e ih = ih
 
-pub cut-twice : (f : Front) (a b c : List Stamp) → IsCutTo f a b → IsCutTo f b c → IsCutTo f a c
+pub cut-twice : (f : Front) (a b c : List Stamp) → StandsInside f a b → StandsInside f b c → StandsInside f a c
 cut-twice f a b c x y bounds base all d w h =
     let g = frontier_of bounds f in
     subst (λ ss. IsThinned base ss c) (filter-twice g all)

@@ -7,43 +7,43 @@ use Rattle.fw_lemmas.proofs.Each.{each-weaker, each-at}
 use Rattle.fw_flow.specs.Dataflow.{Dataflow, sender, receiver, out_edges}
 use Rattle.fw_flow.proofs.OutEdgeLaws.{out_edges-at, out_edges-from}
 use Rattle.fw_progress.specs.Counts.{is_in}
-use Rattle.fw_progress.specs.Leap.{is_as_deep, is_marked, AreLedTo, unmarked, IsMarking}
+use Rattle.fw_progress.specs.Leap.{is_as_deep, is_node_marked, AreLedTo, unmarked, IsMarking}
 use Rattle.fw_progress.proofs.IntoLaws.{in-push}
 
 -- ---- marks
 
-still-marked : (marks : List Bool) (k q : ℕ) → is_marked marks q ≡ true → is_marked (set marks k true) q ≡ true
+still-marked : (marks : List Bool) (k q : ℕ) → is_node_marked marks q ≡ true → is_node_marked (set marks k true) q ≡ true
 still-marked marks k q e = elim (cases_eq q k) [
   | inl s ↦ by marks q e s
   | inr n ↦ get_or-set_other marks k q true false n ∙ e
 ]
   where
-    by : (ms : List Bool) (q : ℕ) → is_marked ms q ≡ true → q ≡ k → is_marked (set ms k true) q ≡ true
-    by ms q e s = subst (λ n. is_marked (set ms n true) q ≡ true) s (at ms q e)
+    by : (ms : List Bool) (q : ℕ) → is_node_marked ms q ≡ true → q ≡ k → is_node_marked (set ms k true) q ≡ true
+    by ms q e s = subst (λ n. is_node_marked (set ms n true) q ≡ true) s (at ms q e)
       where
-        at : (ms : List Bool) (q : ℕ) → is_marked ms q ≡ true → is_marked (set ms q true) q ≡ true
+        at : (ms : List Bool) (q : ℕ) → is_node_marked ms q ≡ true → is_node_marked (set ms q true) q ≡ true
         at [] q e = e
         at (m ∷ ms) zero e = refl
         at (m ∷ ms) (suc q) e = at ms q e
 
-was-marked : (marks : List Bool) (k q : ℕ) → is_marked (set marks k true) q ≡ true → (q ≡ k) ⊎ (is_marked marks q ≡ true)
+was-marked : (marks : List Bool) (k q : ℕ) → is_node_marked (set marks k true) q ≡ true → (q ≡ k) ⊎ (is_node_marked marks q ≡ true)
 was-marked marks k q e = elim (cases_eq q k) [
   | inl s ↦ inl s
   | inr n ↦ inr (sym (get_or-set_other marks k q true false n) ∙ e)
 ]
 
-pub none-marked : (n q : ℕ) → is_marked (replicate n false) q ≡ false
+pub none-marked : (n q : ℕ) → is_node_marked (replicate n false) q ≡ false
 none-marked zero q = refl
 none-marked (suc n) zero = refl
 none-marked (suc n) (suc q) = none-marked n q
 
 -- to mark a node that is marked changes nothing
-pub set-marked : (marks : List Bool) (k : ℕ) → is_marked marks k ≡ true → set marks k true ≡ marks
+pub set-marked : (marks : List Bool) (k : ℕ) → is_node_marked marks k ≡ true → set marks k true ≡ marks
 set-marked [] k e = refl
 set-marked (m ∷ ms) zero e = ap (λ b. b ∷ ms) (sym e)
 set-marked (m ∷ ms) (suc k) e = ap (λ bs. m ∷ bs) (set-marked ms k e)
 
-unmarked-less : (marks : List Bool) (k : ℕ) → k < length marks → is_marked marks k ≡ false → unmarked (set marks k true) + 1 ≡ unmarked marks
+unmarked-less : (marks : List Bool) (k : ℕ) → k < length marks → is_node_marked marks k ≡ false → unmarked (set marks k true) + 1 ≡ unmarked marks
 unmarked-less [] k l e = absurd (omega arith)
 unmarked-less (true ∷ ms) zero l e = absurd (cc)
 unmarked-less (false ∷ ms) zero l e = refl
@@ -71,31 +71,31 @@ has-out_edge flow p e l r = out_edges-at (λ d. is_in (out_edges flow p) d ≡ t
 -- ---- the search
 
 -- at first the feedback alone is marked, and found
-pub first_marking : (flow : Dataflow) (p : ℕ) (none : List Bool) → p < length flow.nodes → length none ≡ length flow.nodes → ((q : ℕ) → is_marked none q ≡ false)
+pub first_marking : (flow : Dataflow) (p : ℕ) (none : List Bool) → p < length flow.nodes → length none ≡ length flow.nodes → ((q : ℕ) → is_node_marked none q ≡ false)
     → IsMarking flow p (set none p true) (p ∷ []) []
 first_marking flow p none l one clear = record {
   one_each = length-set none p true ∙ one;
   begins = here;
   there = λ q k. elim (or_cases (p == q) false k) [
-    | inl j ↦ subst (λ n. is_marked (set none p true) n ≡ true) (eqb-true p q j) here
+    | inl j ↦ subst (λ n. is_node_marked (set none p true) n ≡ true) (eqb-true p q j) here
     | inr j ↦ absurd (cc)
   ];
   goes_on = λ e m k d. inr (inl (or_left (p == sender flow e) false (eq-eqb p (sender flow e) (sym (only (sender flow e) k)))));
   least = λ has k go q i. subst (λ n. has n ≡ true) (sym (only q i)) k;
 }
   where
-    here : is_marked (set none p true) p ≡ true
+    here : is_node_marked (set none p true) p ≡ true
     here = get_or-set_same none p true false (omega arith)
 
-    only : (q : ℕ) → is_marked (set none p true) q ≡ true → q ≡ p
+    only : (q : ℕ) → is_node_marked (set none p true) q ≡ true → q ≡ p
     only q i = elim (was-marked none p q i) [
       | inl e ↦ e
-      | inr e ↦ absurd (both_ways (is_marked none q) (clear q) e)
+      | inr e ↦ absurd (both_ways (is_node_marked none q) (clear q) e)
     ]
 
 -- the node that is taken is marked, and its out-edges are left
 pub pop_marking : (flow : Dataflow) (p : ℕ) (marks : List Bool) (found rest : List ℕ) (q : ℕ) → found ≡ rest ++ q ∷ [] → IsMarking flow p marks found []
-    → (is_marked marks q ≡ true) × IsMarking flow p marks rest (out_edges flow q)
+    → (is_node_marked marks q ≡ true) × IsMarking flow p marks rest (out_edges flow q)
 pop_marking flow p marks found rest q is m = (
   m.there q (in-found q (or_right (is_in rest q) (q == q) (eq-eqb q q refl))),
   record {
@@ -143,16 +143,16 @@ all_marked flow p marks (q ∷ found) none m = absurd (omega arith)
 -- the receivers of the first edges of a marked node are marked
 pub record IsSpreading (flow : Dataflow) (p node : ℕ) (edges : List ℕ) (k : ℕ) (old : List Bool) (began : List ℕ) (marks : List Bool) (found : List ℕ) : Type 0 where
   pub marking : IsMarking flow p marks found (drop k edges)
-  pub marked : is_marked marks node ≡ true
+  pub marked : is_node_marked marks node ≡ true
   pub left : 2 * unmarked marks + length found ≤ 2 * unmarked old + length began
 
-pub spread_none : (flow : Dataflow) (p node : ℕ) (edges : List ℕ) (marks : List Bool) (found : List ℕ) → edges ≡ out_edges flow node → is_marked marks node ≡ true
+pub spread_none : (flow : Dataflow) (p node : ℕ) (edges : List ℕ) (marks : List Bool) (found : List ℕ) → edges ≡ out_edges flow node → is_node_marked marks node ≡ true
     → IsMarking flow p marks found (out_edges flow node) → IsSpreading flow p node edges 0 marks found marks found
 spread_none flow p node edges marks found es k m = record { marking = subst (IsMarking flow p marks found) (sym es) m; marked = k; left = omega arith }
 
 -- an edge whose receiver is not so deep, or is marked, is done
 pub spread_same : (flow : Dataflow) (p node : ℕ) (edges : List ℕ) (k e r : ℕ) (old : List Bool) (began : List ℕ) (marks : List Bool) (found : List ℕ) → k < length edges → e ≡ get_or edges k e → r ≡ receiver flow e
-    → (is_as_deep flow p r ≡ false) ⊎ (is_marked marks r ≡ true)
+    → (is_as_deep flow p r ≡ false) ⊎ (is_node_marked marks r ≡ true)
     → IsSpreading flow p node edges k old began marks found → IsSpreading flow p node edges (k + 1) old began marks found
 spread_same flow p node edges k e r old began marks found l is at done s =
     let m = subst (IsMarking flow p marks found) (drop_more edges k e l ∙ ap (λ d. d ∷ drop (k + 1) edges) (sym is)) s.marking in
@@ -177,17 +177,17 @@ spread_same flow p node edges k e r old began marks found l is at done s =
       left = s.left;
     }
   where
-    here : (d : ℕ) → e ≡ d → is_as_deep flow p (receiver flow d) ≡ true → is_marked marks (receiver flow d) ≡ true
+    here : (d : ℕ) → e ≡ d → is_as_deep flow p (receiver flow d) ≡ true → is_node_marked marks (receiver flow d) ≡ true
     here d q b =
         let to : r ≡ receiver flow d = at ∙ ap (receiver flow) q in
         elim done [
           | inl shallow ↦ absurd (both_ways (is_as_deep flow p r) shallow (ap (is_as_deep flow p) to ∙ b))
-          | inr marked ↦ ap (is_marked marks) (sym to) ∙ marked
+          | inr marked ↦ ap (is_node_marked marks) (sym to) ∙ marked
         ]
 
 -- a receiver that is as deep and was not marked is marked, and found
 pub spread_more : (flow : Dataflow) (p node : ℕ) (edges : List ℕ) (k e r : ℕ) (old : List Bool) (began : List ℕ) (marks : List Bool) (found : List ℕ) → edges ≡ out_edges flow node → k < length edges → e ≡ get_or edges k e
-    → r ≡ receiver flow e → r < length flow.nodes → is_as_deep flow p r ≡ true → is_marked marks r ≡ false
+    → r ≡ receiver flow e → r < length flow.nodes → is_as_deep flow p r ≡ true → is_node_marked marks r ≡ false
     → IsSpreading flow p node edges k old began marks found → IsSpreading flow p node edges (k + 1) old began (set marks r true) (found ++ r ∷ [])
 spread_more flow p node edges k e r old began marks found es l is at there deep new s =
     let one = s.marking.one_each in
@@ -200,7 +200,7 @@ spread_more flow p node edges k e r old began marks found es l is at there deep 
         begins = still-marked marks r p m.begins;
         there = λ q j. elim (or_cases (is_in found q) (r == q) (sym (in-push found r q) ∙ j)) [
           | inl h ↦ still-marked marks r q (m.there q h)
-          | inr h ↦ subst (λ n. is_marked (set marks r true) n ≡ true) (eqb-true r q h) here
+          | inr h ↦ subst (λ n. is_node_marked (set marks r true) n ≡ true) (eqb-true r q h) here
         ];
         goes_on = λ d i j b. elim (was-marked marks r (sender flow d) j) [
           | inl h ↦ inr (inl (in-push found r (sender flow d) ∙ or_right (is_in found (sender flow d)) (r == sender flow d) (eq-eqb r (sender flow d) (sym h))))
@@ -209,7 +209,7 @@ spread_more flow p node edges k e r old began marks found es l is at there deep 
             | inr h ↦ elim h [
               | inl h ↦ inr (inl (in-push found r (sender flow d) ∙ or_left (is_in found (sender flow d)) (r == sender flow d) h))
               | inr h ↦ elim (or_cases (e == d) (is_in (drop (k + 1) edges) d) h) [
-                | inl q ↦ inl (subst (λ n. is_marked (set marks r true) n ≡ true) (at ∙ ap (receiver flow) (eqb-true e d q)) here)
+                | inl q ↦ inl (subst (λ n. is_node_marked (set marks r true) n ≡ true) (at ∙ ap (receiver flow) (eqb-true e d q)) here)
                 | inr q ↦ inr (inr q)
               ]
             ]
@@ -227,7 +227,7 @@ spread_more flow p node edges k e r old began marks found es l is at there deep 
     m : IsMarking flow p marks found (e ∷ drop (k + 1) edges)
     m = subst (IsMarking flow p marks found) (drop_more edges k e l ∙ ap (λ d. d ∷ drop (k + 1) edges) (sym is)) s.marking
 
-    here : is_marked (set marks r true) r ≡ true
+    here : is_node_marked (set marks r true) r ≡ true
     here = let one = s.marking.one_each in get_or-set_same marks r true false (omega arith)
 
     edge : (e < length flow.edges) × (sender flow e ≡ node)

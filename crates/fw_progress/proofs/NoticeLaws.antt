@@ -33,7 +33,7 @@ use Rattle.fw_progress.specs.declared.counts.Counts.{Counts}
 use Rattle.fw_progress.specs.Counts.{pending_of, owed_of, sent_of, come_by, AreCounts}
 use Rattle.fw_progress.specs.History.{IsCountOf}
 use Rattle.fw_progress.specs.Notices.{has_come, CanNotify, IsFirstNotice, IsFirstOwed}
-use Rattle.fw_progress.specs.Tally.{times_in, has_one, IsPositive}
+use Rattle.fw_progress.specs.Tally.{times_in, has_one, AreCountsPositive}
 use Rattle.fw_progress.proofs.HistoryLaws.{some-count, count-some, phi-is}
 use Rattle.fw_progress.proofs.TallyLaws.{is_eq-same, none-inside, inside-none}
 use Rattle.fw_progress.proofs.TargetLaws.{all-append, in_edge}
@@ -61,7 +61,7 @@ has-first e es l =
     positive n k = grind (arith, nat_tests)
 
 -- there is one of each listed stamp
-keys-have : (es : List (Stamp × ℕ)) → IsPositive es → AllByRecursion (λ s. has_one s es ≡ true) (keys_of es)
+keys-have : (es : List (Stamp × ℕ)) → AreCountsPositive es → AllByRecursion (λ s. has_one s es ≡ true) (keys_of es)
 keys-have [] p = tt
 keys-have (e ∷ es) p = (has-first e es p.0, each-weaker (λ s. has_one s es ≡ true) (λ s. has_one s (e ∷ es) ≡ true) (keys_of es) (λ s k. has-more e es s p.0 k) (keys-have es p.1))
 

@@ -15,7 +15,7 @@ use Rattle.fw_flow.specs.Dataflow.{System, Dataflow, kind_of, sender, receiver, 
 use Rattle.fw_flow.specs.NodeFunction.{sent_by}
 use Rattle.fw_flow.specs.Projection.{events_at, all_inside}
 use Rattle.fw_flow.specs.WellFormed.{IsWellFormed}
-use Rattle.fw_model.specs.Offers.{AreOnEdges, on_edge, stamps_on}
+use Rattle.fw_model.specs.Offers.{AreAtEdgeStamps, counted_on_edge, stamps_on}
 use Rattle.fw_model.specs.Thinned.{IsThinned}
 use Rattle.fw_model.proofs.DependenceLaws.{in_edges-each}
 use Rattle.fw_model.proofs.LegalLaws.{edge_domains}
@@ -24,7 +24,7 @@ use Rattle.fw_model.proofs.SendsLaws.{IsOfCause, sent_by-of_cause}
 use Rattle.fw_model.proofs.ThinnedLaws.{each-contained}
 use Rattle.fw_model.specs.EventStamps.{causes_of, causes_in, StandForSent}
 use Rattle.fw_model.specs.EventStamps.{IsOfCause as IsCounted}
-use Rattle.fw_progress.specs.Covers.{sends_at, send_stamps}
+use Rattle.fw_progress.specs.Covers.{sent_stamp_at, send_stamps}
 use Rattle.fw_progress.specs.StampData.{message_at, message_of, messages_of, all_delivered}
 use Rattle.fw_progress.specs.Traces.{AreOf}
 use Rattle.fw_progress.proofs.EventLaws.{ArePicked, how_often, once, once-picked}
@@ -40,22 +40,22 @@ each-joined P g (x ∷ xs) a = each-append P (g x) (flat_map g xs) a.0 (each-joi
 abbrev AreAllOn : ℕ → List Counted → Type 0
 AreAllOn e ms = AllByRecursion (λ (m : Counted). m.edge ≡ e) ms
 
-on-own : (e : ℕ) (ms : List Counted) → AreAllOn e ms → on_edge e ms ≡ ms
+on-own : (e : ℕ) (ms : List Counted) → AreAllOn e ms → counted_on_edge e ms ≡ ms
 on-own e ms a = filter-all (λ (m : Counted). m.edge == e) ms (each-weaker (λ (m : Counted). m.edge ≡ e) (λ m. (m.edge == e) ≡ true) ms (λ m i. eq-eqb m.edge e i) a)
 
-on-other : (x e : ℕ) (ms : List Counted) → (x == e) ≡ false → AreAllOn x ms → on_edge e ms ≡ []
+on-other : (x e : ℕ) (ms : List Counted) → (x == e) ≡ false → AreAllOn x ms → counted_on_edge e ms ≡ []
 on-other x e ms n a = filter-none (λ (m : Counted). m.edge == e) ms (each-weaker (λ (m : Counted). m.edge ≡ x) (λ m. (m.edge == e) ≡ false) ms (λ m i. ap (λ y. y == e) i ∙ n) a)
 
 -- of messages that are joined edge by edge, those of an edge that is not among these, and of one that is once
-on-absent : (g : ℕ → List Counted) → ((x : ℕ) → AreAllOn x (g x)) → (edges : List ℕ) (e : ℕ) → how_often edges e ≡ 0 → on_edge e (flat_map g edges) ≡ []
+on-absent : (g : ℕ → List Counted) → ((x : ℕ) → AreAllOn x (g x)) → (edges : List ℕ) (e : ℕ) → how_often edges e ≡ 0 → counted_on_edge e (flat_map g edges) ≡ []
 on-absent g own [] e z = refl
 on-absent g own (x ∷ edges) e z = by (x == e) refl z (on-absent g own edges e)
   where
-    by : (b : Bool) → (x == e) ≡ b → cond b (how_often edges e + 1) (how_often edges e) ≡ 0 → (how_often edges e ≡ 0 → on_edge e (flat_map g edges) ≡ []) → on_edge e (g x ++ flat_map g edges) ≡ []
+    by : (b : Bool) → (x == e) ≡ b → cond b (how_often edges e + 1) (how_often edges e) ≡ 0 → (how_often edges e ≡ 0 → counted_on_edge e (flat_map g edges) ≡ []) → counted_on_edge e (g x ++ flat_map g edges) ≡ []
     by true k y f = absurd (omega (arith, y))
-    by false k y f = filter-append (λ (m : Counted). m.edge == e) (g x) (flat_map g edges) ∙ ap (λ ms. ms ++ on_edge e (flat_map g edges)) (on-other x e (g x) k (own x)) ∙ f y
+    by false k y f = filter-append (λ (m : Counted). m.edge == e) (g x) (flat_map g edges) ∙ ap (λ ms. ms ++ counted_on_edge e (flat_map g edges)) (on-other x e (g x) k (own x)) ∙ f y
 
-pub on-once : (g : ℕ → List Counted) → ((x : ℕ) → AreAllOn x (g x)) → (edges : List ℕ) (e : ℕ) → how_often edges e ≡ 1 → on_edge e (flat_map g edges) ≡ g e
+pub on-once : (g : ℕ → List Counted) → ((x : ℕ) → AreAllOn x (g x)) → (edges : List ℕ) (e : ℕ) → how_often edges e ≡ 1 → counted_on_edge e (flat_map g edges) ≡ g e
 on-once g own [] e z = absurd (omega arith)
 on-once g own (x ∷ edges) e z = by (x == e) refl z (on-once g own edges e)
   where
@@ -63,13 +63,13 @@ on-once g own (x ∷ edges) e z = by (x == e) refl z (on-once g own edges e)
     none [] = refl
     none (y ∷ ys) = ap (λ zs. y ∷ zs) (none ys)
 
-    by : (b : Bool) → (x == e) ≡ b → cond b (how_often edges e + 1) (how_often edges e) ≡ 1 → (how_often edges e ≡ 1 → on_edge e (flat_map g edges) ≡ g e) → on_edge e (g x ++ flat_map g edges) ≡ g e
+    by : (b : Bool) → (x == e) ≡ b → cond b (how_often edges e + 1) (how_often edges e) ≡ 1 → (how_often edges e ≡ 1 → counted_on_edge e (flat_map g edges) ≡ g e) → counted_on_edge e (g x ++ flat_map g edges) ≡ g e
     by true k y f =
         let i : x ≡ e = eqb-true x e k in
         filter-append (λ (m : Counted). m.edge == e) (g x) (flat_map g edges)
-        ∙ ap (λ ms. on_edge e (g x) ++ ms) (on-absent g own edges e (omega (arith, y))) ∙ none (on_edge e (g x))
-        ∙ subst (λ n. on_edge e (g n) ≡ g e) (sym i) (on-own e (g e) (own e))
-    by false k y f = filter-append (λ (m : Counted). m.edge == e) (g x) (flat_map g edges) ∙ ap (λ ms. ms ++ on_edge e (flat_map g edges)) (on-other x e (g x) k (own x)) ∙ f y
+        ∙ ap (λ ms. counted_on_edge e (g x) ++ ms) (on-absent g own edges e (omega (arith, y))) ∙ none (counted_on_edge e (g x))
+        ∙ subst (λ n. counted_on_edge e (g n) ≡ g e) (sym i) (on-own e (g e) (own e))
+    by false k y f = filter-append (λ (m : Counted). m.edge == e) (g x) (flat_map g edges) ∙ ap (λ ms. ms ++ counted_on_edge e (flat_map g edges)) (on-other x e (g x) k (own x)) ∙ f y
 
 -- ---- each edge is once among the in-edges of its receiver
 
@@ -99,7 +99,7 @@ delivered-on flow p kept d l r =
     ∙ delivered-stamps d (kept d)
 
 pub delivered-on_edges : (flow : Dataflow) (p : ℕ) (kept : ℕ → List Stamp) → ((d : ℕ) → d < length flow.edges → receiver flow d ≡ p → AreOf (bounds_of flow p) (kept d))
-    → AreOnEdges flow (all_delivered flow p kept)
+    → AreAtEdgeStamps flow (all_delivered flow p kept)
 delivered-on_edges flow p kept of =
     each-joined P (λ d. map (message_at d) (kept d)) (in_edges flow p)
     (each-weaker (λ d. (d < length flow.edges) × (receiver flow d ≡ p)) (λ d. AllByRecursion P (map (message_at d) (kept d))) (in_edges flow p)
@@ -116,7 +116,7 @@ delivered-on_edges flow p kept of =
 abbrev pub Sends : Dataflow → ℕ → Stamp → Type 0
 Sends flow p s = (in_domain (bounds_of flow p) s ≡ true) × (w : Stamp) × (send_stamp flow p s ≡ Some w)
 
-pub sends-some : (flow : Dataflow) (p : ℕ) (s : Stamp) → (i : Sends flow p s) → sends_at flow p s ≡ Some i.1
+pub sends-some : (flow : Dataflow) (p : ℕ) (s : Stamp) → (i : Sends flow p s) → sent_stamp_at flow p s ≡ Some i.1
 sends-some flow p s i = ap (λ b. cond b (send_stamp flow p s) None) i.0 ∙ i.2
 
 message-own : (e : ℕ) (cause : Stamp) (at : Option Stamp) → AreAllOn e (message_of e cause at)
@@ -125,7 +125,7 @@ message-own e cause (Some at) = (refl, tt)
 
 pub messages-own : (flow : Dataflow) (p : ℕ) (ss : List Stamp) (e : ℕ) → AreAllOn e (messages_of flow p ss e)
 messages-own flow p [] e = tt
-messages-own flow p (s ∷ ss) e = each-append (λ (m : Counted). m.edge ≡ e) (message_of e s (sends_at flow p s)) (messages_of flow p ss e) (message-own e s (sends_at flow p s)) (messages-own flow p ss e)
+messages-own flow p (s ∷ ss) e = each-append (λ (m : Counted). m.edge ≡ e) (message_of e s (sent_stamp_at flow p s)) (messages_of flow p ss e) (message-own e s (sent_stamp_at flow p s)) (messages-own flow p ss e)
 
 pub messages-causes : (flow : Dataflow) (p : ℕ) (ss : List Stamp) (e : ℕ) → AllByRecursion (Sends flow p) ss → causes_of (messages_of flow p ss e) ≡ ss
 messages-causes flow p [] e a = refl
@@ -200,12 +200,12 @@ messages-inside flow p (s ∷ ss) e f = by (f s) refl (messages-inside flow p ss
 
     by : (b : Bool) → f s ≡ b → map at rest ≡ send_stamps flow p (filter f ss)
         → map at (filter (λ (m : Counted). all_inside f m.causes) (messages_of flow p (s ∷ ss) e)) ≡ send_stamps flow p (cond b (s ∷ filter f ss) (filter f ss))
-    by true k ih = kept (sends_at flow p s) k ih
-    by false k ih = gone (sends_at flow p s) k ih
+    by true k ih = kept (sent_stamp_at flow p s) k ih
+    by false k ih = gone (sent_stamp_at flow p s) k ih
 
 -- ---- all of it
 
-pub sent-on : (flow : Dataflow) (p : ℕ) (ss : List Stamp) (e : ℕ) → e < length flow.edges → sender flow e ≡ p → on_edge e (flat_map (messages_of flow p ss) (out_edges flow p)) ≡ messages_of flow p ss e
+pub sent-on : (flow : Dataflow) (p : ℕ) (ss : List Stamp) (e : ℕ) → e < length flow.edges → sender flow e ≡ p → counted_on_edge e (flat_map (messages_of flow p ss) (out_edges flow p)) ≡ messages_of flow p ss e
 sent-on flow p ss e l r = on-once (messages_of flow p ss) (messages-own flow p ss) (out_edges flow p) e (subst (λ q. how_often (out_edges flow q) e ≡ 1) r (once-out flow e l))
 
 -- what stands for what a node sent on an edge

@@ -19,8 +19,8 @@ use Rattle.fw_progress.specs.declared.counts.Counts.{Counts}
 use Rattle.fw_progress.specs.declared.growth.Growth.{Growth}
 use Rattle.fw_progress.specs.Counts.{owed_of, AreCounts, AreNodes, AreStuckOutside}
 use Rattle.fw_progress.specs.Growths.{IsEnlisted, IsRefreshed}
-use Rattle.fw_progress.specs.History.{IsCountOf, IsKept, StandsFor, Follows}
-use Rattle.fw_progress.specs.Progress.{Standing, IsOfFlow, CanSend, IsDelivered, IsNotified, IsInjected}
+use Rattle.fw_progress.specs.History.{IsCountOf, AreKeptAdmissible, StandsForHistory, FollowsEvent}
+use Rattle.fw_progress.specs.Progress.{Standing, IsOfFlow, CanSend, DeliversOne, IsNotified, IsInjected}
 use Rattle.fw_progress.specs.Tally.{IsTallyOf}
 use Rattle.fw_progress.specs.Notices.{CanNotify, IsFirstNotice, IsFirstOwed}
 use Rattle.fw_progress.specs.Start.{AreLargest}
@@ -32,7 +32,7 @@ use Rattle.fw_progress.proofs.HistoryLaws.{kept-by, by-kept, kept-complete}
 -- ---- the counts stay those of the flow
 
 counts-delivered : (flow : Dataflow) (e : ℕ) (at : Stamp) (sent : List Stamp) (old new : Counts) → AreCounts flow old → e < length flow.edges → in_domain (bounds_of flow (receiver flow e)) at ≡ true
-    → CanSend flow (receiver flow e) sent → IsDelivered flow e at sent old new → AreCounts flow new
+    → CanSend flow (receiver flow e) sent → DeliversOne flow e at sent old new → AreCounts flow new
 counts-delivered flow e at sent old new a l i can d = record {
   pending_each = d.sends.one_each ∙ d.taken.one_each ∙ a.pending_each;
   owed_each = elim (cases_Bool (is_notified_kind (kind_of flow (receiver flow e)))) [ inl k ↦ (d.owes k).one_each ∙ a.owed_each | inr k ↦ ap length (d.owes_none k) ∙ a.owed_each ];
@@ -95,7 +95,7 @@ of_flow flow p old new o l a put s k = record {
 }
 
 pub delivered_of : (flow : Dataflow) (e : ℕ) (at : Stamp) (sent : List Stamp) (old new : Standing) → IsWellFormed flow → IsOfFlow flow old → e < length flow.edges → in_domain (bounds_of flow (receiver flow e)) at ≡ true
-    → CanSend flow (receiver flow e) sent → IsDelivered flow e at sent old.counts new.counts → IsEnlisted (receiver flow e) old.work new.work
+    → CanSend flow (receiver flow e) sent → DeliversOne flow e at sent old.counts new.counts → IsEnlisted (receiver flow e) old.work new.work
     → new.settled ≡ old.settled → new.kept ≡ old.kept → IsOfFlow flow new
 delivered_of flow e at sent old new w o l i can d put s k =
     of_flow flow (receiver flow e) old new o (w.receivers_declared e l) (counts-delivered flow e at sent old.counts new.counts o.counts l i can d) put s k
@@ -112,21 +112,21 @@ injected_of flow p sent old new o l can d put s k = of_flow flow p old new o l (
 -- ---- progress follows an event
 
 kept-on : (sys : System) (h : List Event) (v : Event) (flow : Dataflow) (old new : Standing) → sys.flow ≡ flow → IsWellFormed flow → HasEpochs sys → IsLegal sys (v ∷ h)
-    → IsEnlisted (event_node flow v) old.work new.work → new.kept ≡ old.kept → IsKept sys h old.kept old.work → IsKept sys (v ∷ h) new.kept new.work
+    → IsEnlisted (event_node flow v) old.work new.work → new.kept ≡ old.kept → AreKeptAdmissible sys h old.kept old.work → AreKeptAdmissible sys (v ∷ h) new.kept new.work
 kept-on sys h v flow old new e w b l put k s =
-    subst (λ fronts. IsKept sys (v ∷ h) fronts new.work) (sym k)
+    subst (λ fronts. AreKeptAdmissible sys (v ∷ h) fronts new.work) (sym k)
     (kept-event sys h v (subst IsWellFormed (sym e) w) b l old.kept old.work new.work (subst (λ f. IsEnlisted (event_node f v) old.work new.work) (sym e) put) s)
 
-pub delivered_follows : (flow : Dataflow) (e : ℕ) (m : Message) (at : Stamp) (sent : List Stamp) (old new : Standing) → IsWellFormed flow → m.at ≡ at → IsDelivered flow e at sent old.counts new.counts
-    → IsEnlisted (receiver flow e) old.work new.work → new.kept ≡ old.kept → Follows flow (Deliver e m) sent old new
+pub delivered_follows : (flow : Dataflow) (e : ℕ) (m : Message) (at : Stamp) (sent : List Stamp) (old new : Standing) → IsWellFormed flow → m.at ≡ at → DeliversOne flow e at sent old.counts new.counts
+    → IsEnlisted (receiver flow e) old.work new.work → new.kept ≡ old.kept → FollowsEvent flow (Deliver e m) sent old new
 delivered_follows flow e m at sent old new w i d put k sys h same b l is s = record {
   counts = delivered-counts sys h e m sent old.counts new.counts (subst IsWellFormed (sym same) w) b l is s.counts
-      (subst (λ f. IsDelivered f e m.at sent old.counts new.counts) (sym same) (subst (λ t. IsDelivered flow e t sent old.counts new.counts) (sym i) d));
+      (subst (λ f. DeliversOne f e m.at sent old.counts new.counts) (sym same) (subst (λ t. DeliversOne flow e t sent old.counts new.counts) (sym i) d));
   kept = kept-on sys h (Deliver e m) flow old new same w b l put k s.kept;
 }
 
 pub notified_follows : (flow : Dataflow) (p : ℕ) (at : Stamp) (sent : List Stamp) (old new : Standing) → IsWellFormed flow → p < length flow.nodes → IsNotified flow p at sent old.counts new.counts
-    → IsEnlisted p old.work new.work → new.kept ≡ old.kept → Follows flow (Notify p at) sent old new
+    → IsEnlisted p old.work new.work → new.kept ≡ old.kept → FollowsEvent flow (Notify p at) sent old new
 notified_follows flow p at sent old new w there d put k sys h same b l is s = record {
   counts = notified-counts sys h p at sent old.counts new.counts (subst IsWellFormed (sym same) w) b l (subst (λ f. p < length f.nodes) (sym same) there) is s.counts
       (subst (λ f. IsNotified f p at sent old.counts new.counts) (sym same) d);
@@ -134,7 +134,7 @@ notified_follows flow p at sent old new w there d put k sys h same b l is s = re
 }
 
 pub injected_follows : (flow : Dataflow) (p x : ℕ) (sent : List Stamp) (old new : Standing) → IsWellFormed flow → IsInjected flow p sent old.counts new.counts
-    → IsEnlisted p old.work new.work → new.kept ≡ old.kept → Follows flow (Inject p x) sent old new
+    → IsEnlisted p old.work new.work → new.kept ≡ old.kept → FollowsEvent flow (Inject p x) sent old new
 injected_follows flow p x sent old new w d put k sys h same b l is s = record {
   counts = injected-counts sys h p x sent old.counts new.counts b l is s.counts (subst (λ f. IsInjected f p sent old.counts new.counts) (sym same) d);
   kept = kept-on sys h (Inject p x) flow old new same w b l put k s.kept;
@@ -155,7 +155,7 @@ refreshed_of flow old new growths before after o c s r = record {
 
 pub refreshed_stands : (flow : Dataflow) (old new : Standing) (growths : List Growth) (before after : ℕ) → IsWellFormed flow → IsOfFlow flow old → new.counts ≡ old.counts
     → IsRefreshed flow old.counts old.kept new.kept old.work new.work growths before after
-    → (sys : System) (h : List Event) → sys.flow ≡ flow → StandsFor sys h old → StandsFor sys h new × IsComplete sys h (family_of flow new.kept)
+    → (sys : System) (h : List Event) → sys.flow ≡ flow → StandsForHistory sys h old → StandsForHistory sys h new × IsComplete sys h (family_of flow new.kept)
 refreshed_stands flow old new growths before after w o c r sys h same s =
     let W : Dataflow → Type 0 = λ f. IsWellFormed f in
     let wf = subst W (sym same) w in
@@ -180,7 +180,7 @@ both-ok (Err y) P Q R f p q = tt
 
 -- ---- notifications
 
-pub notify-read : (flow : Dataflow) (now : Standing) → IsWellFormed flow → IsOfFlow flow now → (sys : System) (h : List Event) → sys.flow ≡ flow → StandsFor sys h now → IsComplete sys h (family_of flow now.kept)
+pub notify-read : (flow : Dataflow) (now : Standing) → IsWellFormed flow → IsOfFlow flow now → (sys : System) (h : List Event) → sys.flow ≡ flow → StandsForHistory sys h now → IsComplete sys h (family_of flow now.kept)
     → (p : ℕ) → p < length flow.nodes → (t : Stamp) → in_domain (bounds_of flow p) t ≡ true → IsNotifiable sys h p t ↔ CanNotify flow now.counts now.kept p t
 notify-read flow now w o sys h same s c p l t d =
     let W : Dataflow → Type 0 = λ f. IsWellFormed f in
@@ -188,7 +188,7 @@ notify-read flow now w o sys h same s c p l t d =
     (subst (λ f. IsComplete sys h (family_of f now.kept)) (sym same) c) p (subst (λ f. p < length f.nodes) (sym same) l) t (subst (λ f. in_domain (bounds_of f p) t ≡ true) (sym same) d) in
     subst (λ f. IsNotifiable sys h p t ↔ CanNotify f now.counts now.kept p t) same is
 
-pub first-read : (flow : Dataflow) (now : Standing) → IsWellFormed flow → IsOfFlow flow now → (sys : System) (h : List Event) → sys.flow ≡ flow → StandsFor sys h now → IsComplete sys h (family_of flow now.kept)
+pub first-read : (flow : Dataflow) (now : Standing) → IsWellFormed flow → IsOfFlow flow now → (sys : System) (h : List Event) → sys.flow ≡ flow → StandsForHistory sys h now → IsComplete sys h (family_of flow now.kept)
     → (p : ℕ) → p < length flow.nodes → (first : Option Stamp) → IsFirstOwed flow now.counts now.kept p first → IsFirstNotice sys h p first
 first-read flow now w o sys h same s c p l first is =
     first_notice-is sys h now.counts now.kept (subst IsWellFormed (sym same) w) (subst (λ f. AreCounts f now.counts) (sym same) o.counts) s.counts

@@ -19,7 +19,7 @@ use Rattle.fw_flow.proofs.OutEdgeLaws.{out_edges-from}
 use Rattle.fw_model.specs.Covers.{stamp_of_notice}
 use Rattle.fw_model.specs.EventStamps.{causes_of, causes_in, AreStampsOf}
 use Rattle.fw_model.specs.History.{delivered_messages}
-use Rattle.fw_model.specs.Offers.{on_edge, stamps_on}
+use Rattle.fw_model.specs.Offers.{counted_on_edge, stamps_on}
 use Rattle.fw_model.specs.Thinned.{IsBelowKept, IsThinned}
 use Rattle.fw_model.proofs.LocalityLaws.{sends-causes}
 use Rattle.fw_model.proofs.SequenceLaws.{one_inside}
@@ -30,7 +30,7 @@ use Rattle.fw_progress.specs.Progress.{ChangesAt}
 use Rattle.fw_progress.specs.SentTally.{IsSentTally}
 use Rattle.fw_progress.specs.Tally.{count_inside}
 use Rattle.fw_progress.specs.StampData.{AreTheSame, HaveAdded, TakeUp, AreDelivered, causes_on_first, AreTold}
-use Rattle.fw_progress.specs.Trace.{delivered_on, notified_of, sent_at, HasOutEdge, IsTraceOf, KeepsOthers, AreEventsInside, AreRestoredTo}
+use Rattle.fw_progress.specs.Trace.{delivered_on, stamps_notified, stamps_where_sent, HasOutEdge, IsTraceOf, KeepsOthers, AreEventsInside, AreRestoredTo}
 use Rattle.fw_progress.specs.Traces.{ChangesInto}
 use Rattle.fw_progress.proofs.EventLaws.{how_often}
 use Rattle.fw_progress.proofs.OfferLaws.{once-out}
@@ -141,10 +141,10 @@ first-thinned : (sys : System) (h : List Event) (p : ℕ) (base : Frontier) (sta
     → IsThinned base (causes_in (sent_by sys p (events_at sys.flow p h))) (causes_on_first (out_edges sys.flow p) stamps.sent)
 first-thinned sys h p base stamps s a o =
     first (out_edges sys.flow p) (subst (λ q. how_often (out_edges sys.flow q) o.0 ≡ 1) o.2 (once-out sys.flow o.0 o.1))
-    (out_edges-from (λ e. IsThinned base (causes_in (sent_by sys p (events_at sys.flow p h))) (causes_of (on_edge e stamps.sent))) sys.flow p
-    (λ e l r. subst (λ q. IsThinned base (causes_in (sent_by sys q (events_at sys.flow q h))) (causes_of (on_edge e stamps.sent))) r (a.sent s e l r).thinned))
+    (out_edges-from (λ e. IsThinned base (causes_in (sent_by sys p (events_at sys.flow p h))) (causes_of (counted_on_edge e stamps.sent))) sys.flow p
+    (λ e l r. subst (λ q. IsThinned base (causes_in (sent_by sys q (events_at sys.flow q h))) (causes_of (counted_on_edge e stamps.sent))) r (a.sent s e l r).thinned))
   where
-    first : (edges : List ℕ) → how_often edges o.0 ≡ 1 → AllByRecursion (λ e. IsThinned base (causes_in (sent_by sys p (events_at sys.flow p h))) (causes_of (on_edge e stamps.sent))) edges
+    first : (edges : List ℕ) → how_often edges o.0 ≡ 1 → AllByRecursion (λ e. IsThinned base (causes_in (sent_by sys p (events_at sys.flow p h))) (causes_of (counted_on_edge e stamps.sent))) edges
         → IsThinned base (causes_in (sent_by sys p (events_at sys.flow p h))) (causes_on_first edges stamps.sent)
     first [] z b = absurd (omega (arith, z))
     first (e ∷ edges) z b = b.0
@@ -167,8 +167,8 @@ told-restored flow p stamps n old new c = record {
         → AreEventsInside sys.flow h p base → IsTraceOf sys h p base new
     here sys h base t a is inside = record {
       delivered = λ d l r. same-thinned base (map (λ (m : Message). m.at) (delivered_messages h d)) (stamps_on d stamps.delivered) (delivered_on new d) (t.delivered.here d l r) (a.delivered d r);
-      notified = same-thinned base (flat_map (stamp_of_notice p) h) stamps.notified (notified_of new p) t.notified.here a.notified;
-      sent = λ o s. same-thinned base (causes_in (sent_by sys p (events_at sys.flow p h))) (causes_on_first (out_edges sys.flow p) stamps.sent) (sent_at new p) (t.sent.here s)
+      notified = same-thinned base (flat_map (stamp_of_notice p) h) stamps.notified (stamps_notified new p) t.notified.here a.notified;
+      sent = λ o s. same-thinned base (causes_in (sent_by sys p (events_at sys.flow p h))) (causes_on_first (out_edges sys.flow p) stamps.sent) (stamps_where_sent new p) (t.sent.here s)
           (first-thinned sys h p base stamps s a o);
       counted = λ s f w.
           let tally = t.counted.here in

@@ -35,7 +35,7 @@ use Rattle.fw_progress.specs.declared.traces.Traces.{Traces}
 use Rattle.fw_progress.specs.Covers.{last_number, send_stamps, sent_inside, CoversSent}
 use Rattle.fw_progress.specs.StampData.{messages_of}
 use Rattle.fw_progress.specs.Tally.{count_inside}
-use Rattle.fw_progress.specs.Trace.{sent_at, counted_of, IsTraceWithin}
+use Rattle.fw_progress.specs.Trace.{stamps_where_sent, counted_of, IsTraceWithin}
 use Rattle.fw_progress.specs.Traces.{AreOf}
 use Rattle.fw_progress.proofs.CutTraceLaws.{causes-of, sent-domain}
 use Rattle.fw_progress.proofs.NumberLaws.{sequence-numbers, numbers-thinned}
@@ -155,10 +155,10 @@ sequence-covers sys h e f traces w b l k t n is =
 
 pub stamps-cover : (sys : System) (h : List Event) (e : ℕ) (f : Front) (traces : Traces) → e < length sys.flow.edges → IsWellFormed sys.flow → HasEpochs sys → IsLegal sys h
     → is_sequence_kind (kind_of sys.flow (sender sys.flow e)) ≡ false → IsTraceWithin sys h (sender sys.flow e) f traces
-    → CoverSent sys h e f (send_stamps sys.flow (sender sys.flow e) (filter (inside f) (sent_at traces (sender sys.flow e))))
+    → CoverSent sys h e f (send_stamps sys.flow (sender sys.flow e) (filter (inside f) (stamps_where_sent traces (sender sys.flow e))))
 stamps-cover sys h e f traces there w b l k t =
     let p = sender sys.flow e in
-    let kept = sent_at traces p in
+    let kept = stamps_where_sent traces p in
     let g = node_frontier sys.flow p f in
     let all = causes_in (sent_by sys p (events_at sys.flow p h)) in
     let d = causes-of (bounds_of sys.flow p) (sent_by sys p (events_at sys.flow p h)) (sent-domain sys h p (legal_events-in_domain sys h w b l p)) in
@@ -193,7 +193,7 @@ inside-covers sys h e f traces there w b l t = by (is_sequence_kind (kind_of sys
     n : ℕ
     n = (counted_of traces p).inside + count_inside (inside f) (counted_of traces p).outside
 
-    by : (c : Bool) → is_sequence_kind (kind_of sys.flow p) ≡ c → CoverSent sys h e f (cond c (last_number n) (send_stamps sys.flow p (filter (inside f) (sent_at traces p))))
+    by : (c : Bool) → is_sequence_kind (kind_of sys.flow p) ≡ c → CoverSent sys h e f (cond c (last_number n) (send_stamps sys.flow p (filter (inside f) (stamps_where_sent traces p))))
     by true k = sequence-covers sys h e f traces w b l k t n refl
     by false k = stamps-cover sys h e f traces there w b l k t
 

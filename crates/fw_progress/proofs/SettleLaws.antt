@@ -18,7 +18,7 @@ use Rattle.fw_model.specs.Machine.{Machine, events, front_of, family_of, is_fail
 use Rattle.fw_model.specs.Settled.{HasMoreToSettle}
 use Rattle.fw_model.specs.Steps.{GrowsTo}
 use Rattle.fw_progress.specs.Progress.{AreFrontsOf}
-use Rattle.fw_progress.specs.Settle.{has_more, is_growing, HasMore, IsJoined, IsGrownAt, IsSettledBy, AreGrown, AreGrownBefore, NoneGrows}
+use Rattle.fw_progress.specs.Settle.{has_more, is_growing, HasMore, IsJoined, IsGrownAt, SettlesMore, AreGrown, AreGrownBefore, NoneGrows}
 
 -- a stamp that is inside the one and outside the other shows that it has more
 more-at : (c s : Front) (t : Stamp) → inside c t ≡ true → inside s t ≡ false → has_more c s ≡ true
@@ -198,7 +198,7 @@ pub in_turn-settled : (sys : System) (state : Machine) (failed : List Bool) (old
     → AreCanonical sys.flow old → AreCanonical sys.flow kept → IsComplete sys (events state.history) (family_of sys.flow kept)
     → AreGrownBefore sys.flow failed old kept new (length sys.flow.nodes)
     → ((p : ℕ) → p < length sys.flow.nodes → is_growing failed old kept p ≡ true → GrowsTo sys state (family_of sys.flow kept) new)
-    × (NoneGrows failed old kept 0 (length sys.flow.nodes) → IsSettledBy sys state None)
+    × (NoneGrows failed old kept 0 (length sys.flow.nodes) → SettlesMore sys state None)
 in_turn-settled sys state failed old kept new ef es one many co ck c g = (
   λ p l is.
       let parts = and_parts (not (get_or failed p false)) (has_more (front_of kept p) (front_of old p)) is in

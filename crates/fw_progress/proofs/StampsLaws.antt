@@ -28,7 +28,7 @@ use Rattle.fw_model.specs.Covers.{stamp_of_notice}
 use Rattle.fw_model.specs.EventStamps.{causes_in, StandForSent, StandForNumbered, AreStampsOf}
 use Rattle.fw_model.specs.Filtering.{AreFrontiers, events_inside, messages_inside, messages_from}
 use Rattle.fw_model.specs.History.{is_injection, injected_count, delivered_messages, AreEventsInDomain, IsLegal}
-use Rattle.fw_model.specs.Offers.{AreOnEdges, on_edge, stamps_on_from}
+use Rattle.fw_model.specs.Offers.{AreAtEdgeStamps, counted_on_edge, stamps_on_from}
 use Rattle.fw_model.specs.Thinned.{IsThinned}
 use Rattle.fw_model.specs.Writes.{takes_checkpoints}
 use Rattle.fw_model.proofs.LegalLaws.{edge_domains, legal_events-in_domain}
@@ -37,7 +37,7 @@ use Rattle.fw_model.proofs.SequenceLaws.{no_inject, sent_by-sequence}
 use Rattle.fw_progress.specs.declared.traces.Traces.{Traces}
 use Rattle.fw_progress.specs.Covers.{last_number}
 use Rattle.fw_progress.specs.StampData.{taken, count_taken, all_delivered, messages_of, messages_numbered, all_sent, stamps_by}
-use Rattle.fw_progress.specs.Trace.{delivered_on, notified_of, sent_at, counted_of, counts_sent, HasOutEdge, IsTraceOf, IsTraceWithin}
+use Rattle.fw_progress.specs.Trace.{delivered_on, stamps_notified, stamps_where_sent, counted_of, counts_sent, HasOutEdge, IsTraceOf, IsTraceWithin}
 use Rattle.fw_progress.specs.Traces.{AreOf, thinned}
 use Rattle.fw_progress.proofs.CutTraceLaws.{delivered-domain, notices-domain, sent-domain, causes-of, causes-from, sent-one, map-filter, notices-inside}
 use Rattle.fw_progress.proofs.EventLaws.{how_often}
@@ -133,7 +133,7 @@ numbered-on flow p f i ss e l r =
     (on-once (messages_numbered ss) (numbered-own ss) (out_edges flow p) e (subst (λ q. how_often (out_edges flow q) e ≡ 1) r (once-out flow e l)))
     ∙ numbered-stamps f i ss e
 
-numbered-on_edge : (flow : Dataflow) (e : ℕ) (ss : List Stamp) → AreOf (bounds_of flow (receiver flow e)) ss → AreOnEdges flow (messages_numbered ss e)
+numbered-on_edge : (flow : Dataflow) (e : ℕ) (ss : List Stamp) → AreOf (bounds_of flow (receiver flow e)) ss → AreAtEdgeStamps flow (messages_numbered ss e)
 numbered-on_edge flow e [] a = tt
 numbered-on_edge flow e (s ∷ ss) a = (a.0, numbered-on_edge flow e ss a.1)
 
@@ -171,7 +171,7 @@ kept-stand sys h p base kept notified sent n w l proper k = record {
   delivered = λ d r. let i = edge-there sys.flow p d l r in subst (IsThinned base (map (λ (m : Message). m.at) (delivered_messages h d))) (sym (delivered-on sys.flow p kept d i r)) (k.on_edges d i r);
   notified = k.notices;
   sent = λ s e i r.
-      subst (StandForSent sys h p base e) (sym (ap (on_edge e) (all-others sys.flow p sent n s) ∙ sent-on sys.flow p sent e i r))
+      subst (StandForSent sys h p base e) (sym (ap (counted_on_edge e) (all-others sys.flow p sent n s) ∙ sent-on sys.flow p sent e i r))
       (stands-for_sent sys h p base sent e i r (sends s (e, i, r)) (k.sends (e, i, r) s));
   numbered = λ s e i r. numbered s e i r;
 }
@@ -188,18 +188,18 @@ kept-stand sys h p base kept notified sent n w l proper k = record {
         sequence-thinned sys h p n (sequence-kind (kind_of sys.flow p) s) (proper.no_batch s) (k.count s) (everything (bounds_of sys.flow (receiver sys.flow e)))
         (number-domain sys.flow w p e (sequence-kind (kind_of sys.flow p) s) r)
 
-    by : (b : Bool) → is_sequence_kind (kind_of sys.flow p) ≡ b → AreOnEdges sys.flow (all_sent sys.flow p sent n)
+    by : (b : Bool) → is_sequence_kind (kind_of sys.flow p) ≡ b → AreAtEdgeStamps sys.flow (all_sent sys.flow p sent n)
     by true s =
-        subst (AreOnEdges sys.flow) (sym (all-sequence sys.flow p sent n s))
+        subst (AreAtEdgeStamps sys.flow) (sym (all-sequence sys.flow p sent n s))
         (each-joined (λ (m : Counted). in_domain (bounds_of sys.flow (receiver sys.flow m.edge)) m.at ≡ true) (messages_numbered (last_number n)) (out_edges sys.flow p)
-        (out_edges-from (λ e. AreOnEdges sys.flow (messages_numbered (last_number n) e)) sys.flow p
+        (out_edges-from (λ e. AreAtEdgeStamps sys.flow (messages_numbered (last_number n) e)) sys.flow p
         (λ e i r. numbered-on_edge sys.flow e (last_number n)
         (kept-domain (bounds_of sys.flow (receiver sys.flow e)) (everything (bounds_of sys.flow (receiver sys.flow e))) (map (λ (m : Message). m.at) (sent_by sys p (events_at sys.flow p h))) (last_number n)
         (sequence-inside sys h p (sequence-kind (kind_of sys.flow p) s) (proper.no_batch s) (everything (bounds_of sys.flow (receiver sys.flow e)))
         (number-domain sys.flow w p e (sequence-kind (kind_of sys.flow p) s) r))
         (numbers s e r)))))
     by false s =
-        subst (AreOnEdges sys.flow) (sym (all-others sys.flow p sent n s))
+        subst (AreAtEdgeStamps sys.flow) (sym (all-others sys.flow p sent n s))
         (each-joined (λ (m : Counted). in_domain (bounds_of sys.flow (receiver sys.flow m.edge)) m.at ≡ true) (messages_of sys.flow p sent) (out_edges sys.flow p)
         (out_edges-from (λ e. AllByRecursion (λ (m : Counted). in_domain (bounds_of sys.flow (receiver sys.flow m.edge)) m.at ≡ true) (messages_of sys.flow p sent e)) sys.flow p
         (λ e i r. messages-on_edges sys.flow w p sent e r (sends s (e, i, r)))))
@@ -237,7 +237,7 @@ counts-sequence : (flow : Dataflow) (p : ℕ) → is_sequence_kind (kind_of flow
 counts-sequence flow p s = or_right (takes_checkpoints (policy_of flow p)) (is_sequence_kind (kind_of flow p)) s
 
 all-kept : (sys : System) (h : List Event) (p : ℕ) (base : Frontier) (traces : Traces) → IsTraceOf sys h p base traces
-    → AreKept sys h p base (λ d. taken None (delivered_on traces d)) (taken None (notified_of traces p)) (taken None (sent_at traces p)) (count_taken None (counted_of traces p))
+    → AreKept sys h p base (λ d. taken None (delivered_on traces d)) (taken None (stamps_notified traces p)) (taken None (stamps_where_sent traces p)) (count_taken None (counted_of traces p))
 all-kept sys h p base traces t = record {
   on_edges = t.delivered;
   notices = t.notified;
@@ -308,8 +308,8 @@ proper-inside sys h p f proper = record {
 }
 
 inside-kept : (sys : System) (h : List Event) (p : ℕ) (f : Front) (traces : Traces) → IsWellFormed sys.flow → HasEpochs sys → IsLegal sys h → IsTraceWithin sys h p f traces
-    → AreKept sys (events_inside (node_frontier sys.flow p f) h) p (node_frontier sys.flow p f) (λ d. taken (Some f) (delivered_on traces d)) (taken (Some f) (notified_of traces p))
-    (taken (Some f) (sent_at traces p)) (count_taken (Some f) (counted_of traces p))
+    → AreKept sys (events_inside (node_frontier sys.flow p f) h) p (node_frontier sys.flow p f) (λ d. taken (Some f) (delivered_on traces d)) (taken (Some f) (stamps_notified traces p))
+    (taken (Some f) (stamps_where_sent traces p)) (count_taken (Some f) (counted_of traces p))
 inside-kept sys h p f traces w b l t = record {
   on_edges = λ d i r.
       let all = map (λ (m : Message). m.at) (delivered_messages h d) in
@@ -317,11 +317,11 @@ inside-kept sys h p f traces w b l t = record {
       subst (λ ss. IsThinned g ss (thinned f (filter (inside f) (delivered_on traces d)))) (sym same)
       (thinned-inside (bounds_of sys.flow p) t.base all (delivered_on traces d) f
       (subst (λ q. AreEventsInDomain sys.flow h q → AreOf (bounds_of sys.flow q) all) r (delivered-domain sys h d) a) t.within (t.trace.delivered d i r));
-  notices = subst (λ ss. IsThinned g ss (thinned f (filter (inside f) (notified_of traces p)))) (sym (notices-inside p g h))
-      (thinned-inside (bounds_of sys.flow p) t.base (flat_map (stamp_of_notice p) h) (notified_of traces p) f (notices-domain sys h p a) t.within t.trace.notified);
-  sends = λ o s. subst (λ ss. IsThinned g ss (thinned f (filter (inside f) (sent_at traces p))))
+  notices = subst (λ ss. IsThinned g ss (thinned f (filter (inside f) (stamps_notified traces p)))) (sym (notices-inside p g h))
+      (thinned-inside (bounds_of sys.flow p) t.base (flat_map (stamp_of_notice p) h) (stamps_notified traces p) f (notices-domain sys h p a) t.within t.trace.notified);
+  sends = λ o s. subst (λ ss. IsThinned g ss (thinned f (filter (inside f) (stamps_where_sent traces p))))
       (sym (ap causes_in (sent-inside sys h p f w b l) ∙ causes-from g ms (sent-one sys p (events_at sys.flow p h))))
-      (thinned-inside (bounds_of sys.flow p) t.base (causes_in ms) (sent_at traces p) f (causes-of (bounds_of sys.flow p) ms (sent-domain sys h p a)) t.within (t.trace.sent o s));
+      (thinned-inside (bounds_of sys.flow p) t.base (causes_in ms) (stamps_where_sent traces p) f (causes-of (bounds_of sys.flow p) ms (sent-domain sys h p a)) t.within (t.trace.sent o s));
   count = λ s.
       tally-count (bounds_of sys.flow p) t.base ms f (counted_of traces p) (sent-domain sys h p a) t.within (t.trace.counted (counts-sequence sys.flow p s))
       ∙ sym (ap length (sent-inside sys h p f w b l) ∙ from-length g ms);

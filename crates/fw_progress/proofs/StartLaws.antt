@@ -17,7 +17,7 @@ use Rattle.fw_frontier.proofs.NamesLaws.{frontier-closed, names-same, names-noth
 use Rattle.fw_flow.specs.declared.event.Event.{Event}
 use Rattle.fw_flow.specs.Dataflow.{System, Dataflow, kind_of, sender, receiver, in_edges, out_edges, bounds_of, node_frontier, is_input_kind, is_notified_kind, batches_of, batches_of_nodes, system_of}
 use Rattle.fw_flow.specs.Projection.{first_coordinate, IsSentTable}
-use Rattle.fw_flow.specs.SentTable.{AreInOrder}
+use Rattle.fw_flow.specs.SentTable.{EpochsAscend}
 use Rattle.fw_flow.specs.WellFormed.{IsWellFormed}
 use Rattle.fw_lines.specs.Batches.{batches_at}
 use Rattle.fw_model.specs.History.{is_owed_notice, was_notified, IsComplete}
@@ -27,9 +27,9 @@ use Rattle.fw_model.proofs.TableLaws.{table-follows}
 use Rattle.fw_progress.specs.declared.counts.Counts.{Counts}
 use Rattle.fw_progress.specs.Counts.{batches_in, injected_in, owed_of, given_by, clear_by, come_by, target_by, is_in, AreCounts, AreNodes, IsStuckBy}
 use Rattle.fw_progress.specs.Growths.{IsEnlisted, ArePut}
-use Rattle.fw_progress.specs.History.{IsCountOf, IsKept}
+use Rattle.fw_progress.specs.History.{IsCountOf, AreKeptAdmissible}
 use Rattle.fw_progress.specs.Tally.{times_in}
-use Rattle.fw_progress.specs.Start.{AreLargest, AreOfNothing, IsLowered, IsShrunk}
+use Rattle.fw_progress.specs.Start.{AreLargest, AreOfNothing, HasFallen, IsShrunk}
 use Rattle.fw_progress.proofs.GrowLaws.{degrees-few, family_new, family_old, front_old, no_sender, receivers-nodes, set_canonical}
 use Rattle.fw_progress.proofs.HistoryLaws.{by-kept, kept-complete}
 use Rattle.fw_progress.proofs.RefreshLaws.{falls, first_node, not_in-first}
@@ -165,7 +165,7 @@ passed flow counts fronts work mid p e n d w = record {
 }
 
 pub descends : (flow : Dataflow) (counts : Counts) (fronts new : List Front) (work mid rest : List ℕ) (p : ℕ) → IsWellFormed flow → work ≡ p ∷ mid
-    → IsDescending flow counts fronts work → IsLowered flow counts p fronts new mid rest → IsDescending flow counts new rest
+    → IsDescending flow counts fronts work → HasFallen flow counts p fronts new mid rest → IsDescending flow counts new rest
 descends flow counts fronts new work mid rest p wf e d (inl s) =
     let n = first_node flow work mid p e d.nodes in
     subst (λ xs. IsDescending flow counts xs rest) (sym s.fronts) (subst (IsDescending flow counts fronts) (sym s.waiting) (passed flow counts fronts work mid p e n.1 d s.within))
@@ -194,7 +194,7 @@ fewer_inside flow counts old p f there l w more =
     ]
 
 pub lowered_falls : (flow : Dataflow) (counts : Counts) (fronts new : List Front) (work mid rest : List ℕ) (p : ℕ) → work ≡ p ∷ mid
-    → IsDescending flow counts fronts work → IsLowered flow counts p fronts new mid rest → left_inside flow new rest < left_inside flow fronts work
+    → IsDescending flow counts fronts work → HasFallen flow counts p fronts new mid rest → left_inside flow new rest < left_inside flow fronts work
 unfolding left_inside
 lowered_falls flow counts fronts new work mid rest p e d (inl s) =
     let long : length work ≡ length mid + 1 = ap length e ∙ (omega arith) in
@@ -232,12 +232,12 @@ within-read flow fronts p i f x r k e l is test =
 
 -- a node that has no more than it can have
 pub stays : (flow : Dataflow) (counts : Counts) (fronts : List Front) (p : ℕ) (f : Front) (work : List ℕ) → IsFrontOf (bounds_of flow p) f (target_by flow counts (family_of flow fronts) p)
-    → Within (family_of flow fronts p) (node_frontier flow p f) → IsLowered flow counts p fronts fronts work work
+    → Within (family_of flow fronts p) (node_frontier flow p f) → HasFallen flow counts p fronts fronts work work
 stays flow counts fronts p f work can w = inl (record { within = λ t i. sym (can.same t) ∙ w t i; fronts = refl; waiting = refl })
 
 -- one that had more
 pub falls-to : (flow : Dataflow) (counts : Counts) (fronts new : List Front) (p : ℕ) (f : Front) (work rest : List ℕ) → IsFrontOf (bounds_of flow p) f (target_by flow counts (family_of flow fronts) p)
-    → (Within (family_of flow fronts p) (node_frontier flow p f) → ⊥) → IsShrunk flow p f fronts new work rest → IsLowered flow counts p fronts new work rest
+    → (Within (family_of flow fronts p) (node_frontier flow p f) → ⊥) → IsShrunk flow p f fronts new work rest → HasFallen flow counts p fronts new work rest
 falls-to flow counts fronts new p f work rest can more shrunk = inr (record { front = f; can_have = can; had_more = more; shrunk = shrunk })
 
 -- ---- frontiers without stamps
@@ -272,13 +272,13 @@ first-counts flow given counts a =
       batches = λ p l. a.batches p l ∙ ap length (sym (batches-are flow given p l));
       injected = λ p l. a.injected p;
       sent = λ p l k. subst (IsSentTable sys [] p) (sym (a.sent p)) (table-follows sys p k).begins;
-      in_order = λ p l k. subst AreInOrder (sym (a.sent p)) (λ i j d m n. absurd (omega (arith, n)));
+      in_order = λ p l k. subst EpochsAscend (sym (a.sent p)) (λ i j d m n. absurd (omega (arith, n)));
       epochs = λ p l k. subst (AllByRecursion (λ (entry : ℕ × ℕ). was_notified p (entry.0 ∷ []) [] ≡ true)) (sym (a.sent p)) tt;
     }
 
 -- the largest frontiers are complete after each history of the counts
 pub largest-stands : (flow : Dataflow) (counts : Counts) (fronts : List Front) → IsWellFormed flow → AreCounts flow counts → AreLargest flow counts fronts
-    → (sys : System) (h : List Event) → sys.flow ≡ flow → IsCountOf sys h counts → IsKept sys h fronts [] × IsComplete sys h (family_of flow fronts)
+    → (sys : System) (h : List Event) → sys.flow ≡ flow → IsCountOf sys h counts → AreKeptAdmissible sys h fronts [] × IsComplete sys h (family_of flow fronts)
 largest-stands flow counts fronts w a g sys h same c =
     let W : Dataflow → Type 0 = λ f. IsWellFormed f in
     let wf = subst W (sym same) w in

@@ -26,7 +26,7 @@ use Rattle.fw_frontier.specs.Frontier.{Frontier}
 use Rattle.fw_frontier.specs.Front.{Front, inside, frontier_of, IsFrontOf}
 use Rattle.fw_flow.specs.Counting.{how_many}
 use Rattle.fw_model.proofs.CmpLaws.{stamp_cmp-equal, stamp_total}
-use Rattle.fw_progress.specs.Tally.{times_in, has_one, count_inside, IsPositive, IsTallyOf, HasOneMore, HasManyMore, HasOneLess, HasNoMore, HasEachMore, AreLowest}
+use Rattle.fw_progress.specs.Tally.{times_in, has_one, count_inside, AreCountsPositive, IsTallyOf, HasOneMore, HasManyMore, HasOneLess, HasNoMore, HasEachMore, AreLowest}
 
 abbrev Entries : Type 0
 Entries = List (Stamp × ℕ)
@@ -201,7 +201,7 @@ none-inside (e ∷ es) t i s l =
     both_ways (leq e.0 t) (not-true (leq e.0 t) both.0) (leq-trans e.0 s t (and_parts (leq s e.0) (leq e.0 s) k).1 l)) in
     ap (λ (b : Bool). unwrap_or (cond b (Some e.1) (lookup (is_at (stamp_cmp s)) es)) 0) other ∙ none-inside es t both.1 s l
 
-pub inside-none : (entries : Entries) → IsPositive entries → (t : Stamp) → ((s : Stamp) → leq s t ≡ true → times_in s entries ≡ 0) → inside (keys_of entries) t ≡ true
+pub inside-none : (entries : Entries) → AreCountsPositive entries → (t : Stamp) → ((s : Stamp) → leq s t ≡ true → times_in s entries ≡ 0) → inside (keys_of entries) t ≡ true
 unfolding times_in
 inside-none [] p t h = refl
 inside-none (e ∷ es) p t h =

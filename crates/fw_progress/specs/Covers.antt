@@ -10,7 +10,7 @@ use Rattle.fw_model.specs.Covers.{stamps_inside, stamps_from, notified_inside}
 use Rattle.fw_model.specs.History.{delivered_messages, sent_messages}
 use Rattle.fw_progress.specs.declared.traces.Traces.{Traces}
 use Rattle.fw_progress.specs.Tally.{count_inside}
-use Rattle.fw_progress.specs.Trace.{sent_at, counted_of}
+use Rattle.fw_progress.specs.Trace.{stamps_where_sent, counted_of}
 
 -- the front is the cover of what was delivered on edge d inside a frontier of its receiver
 abbrev pub CoversDelivered : System → List Event → ℕ → Front → Front → Type 0
@@ -36,15 +36,15 @@ last_number zero = []
 last_number (suc n) = (n ∷ []) ∷ []
 
 -- at which stamp an event of node p at a stamp sends; none where the stamp is not of its domain
-abbrev pub sends_at : Dataflow → ℕ → Stamp → Option Stamp
-sends_at flow p s = if in_domain (bounds_of flow p) s then send_stamp flow p s else None
+abbrev pub sent_stamp_at : Dataflow → ℕ → Stamp → Option Stamp
+sent_stamp_at flow p s = if in_domain (bounds_of flow p) s then send_stamp flow p s else None
 
 -- at which stamps events at these send
 abbrev pub send_stamps : Dataflow → ℕ → List Stamp → List Stamp
-send_stamps flow p ss = flat_map (λ s. option_to_list (sends_at flow p s)) ss
+send_stamps flow p ss = flat_map (λ s. option_to_list (sent_stamp_at flow p s)) ss
 
 -- the stamps that stand for those at which node p sends by its events inside a frontier
 abbrev pub sent_inside : Dataflow → Traces → ℕ → Front → List Stamp
 sent_inside flow traces p f =
     if is_sequence_kind (kind_of flow p) then last_number ((counted_of traces p).inside + count_inside (inside f) (counted_of traces p).outside)
-    else send_stamps flow p (filter (inside f) (sent_at traces p))
+    else send_stamps flow p (filter (inside f) (stamps_where_sent traces p))

@@ -10,7 +10,7 @@ use Rattle.fw_flow.specs.declared.event.Event.{Event}
 use Rattle.fw_flow.specs.declared.kind.Kind.TheVariants.{Sequence}
 use Rattle.fw_flow.specs.Dataflow.{System, Dataflow, kind_of, receiver, bounds_of}
 use Rattle.fw_flow.specs.Projection.{IsSentTable}
-use Rattle.fw_flow.specs.SentTable.{AreInOrder}
+use Rattle.fw_flow.specs.SentTable.{EpochsAscend}
 use Rattle.fw_model.specs.Choice.{cut_of, filtered_history}
 use Rattle.fw_model.specs.History.{pending_messages, was_notified}
 use Rattle.fw_model.specs.Machine.{SerialEvent, events}
@@ -36,7 +36,7 @@ ArePendingAfter sys h pending =
 -- So many messages each sequence sent in the epochs of which it was notified.
 pub record IsTableAfter (sys : System) (h : List Event) (p : ℕ) (table : List (ℕ × ℕ)) : Type 0 where
   pub sent : IsSentTable sys h p table
-  pub in_order : AreInOrder table
+  pub in_order : EpochsAscend table
   pub epochs : AllByRecursion (λ entry. was_notified p (entry.0 ∷ []) h ≡ true) table
 
 -- the same of each sequence
@@ -51,14 +51,14 @@ abbrev pub until_epoch : Stamp → ℕ → ℕ
 until_epoch o n = if (length o == 1) && nat_lt (slice_index o 0) n then slice_index o 0 else n
 
 -- how many of the first epochs, so many, are inside
-abbrev pub epochs_inside : Front → ℕ → ℕ
-epochs_inside [] n = n
-epochs_inside (o ∷ f) n = epochs_inside f (until_epoch o n)
+abbrev pub epochs_inside_of_first : Front → ℕ → ℕ
+epochs_inside_of_first [] n = n
+epochs_inside_of_first (o ∷ f) n = epochs_inside_of_first f (until_epoch o n)
 
 -- how many of them a cut leaves
 abbrev pub epochs_left : Cut → ℕ → ℕ
 epochs_left Present n = n
-epochs_left (At f) n = epochs_inside f n
+epochs_left (At f) n = epochs_inside_of_first f n
 
 -- what a cut leaves of a tally
 abbrev pub tally_left : Cut → List (Stamp × ℕ) → List (Stamp × ℕ)

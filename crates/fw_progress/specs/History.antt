@@ -10,7 +10,7 @@ use Rattle.fw_flow.specs.declared.kind.Kind.TheVariants.{Sequence}
 use Rattle.fw_flow.specs.Dataflow.{Dataflow, System, kind_of, batches_of, HasEpochs}
 use Rattle.fw_flow.specs.NodeFunction.{event_node, sends}
 use Rattle.fw_flow.specs.Projection.{events_at, IsSentTable}
-use Rattle.fw_flow.specs.SentTable.{AreInOrder}
+use Rattle.fw_flow.specs.SentTable.{EpochsAscend}
 use Rattle.fw_model.specs.History.{pending_messages, is_owed_notice, was_notified, injected_count, IsAdmissible, IsComplete, IsLegal}
 use Rattle.fw_model.specs.LawsOfProgress.{IsStuck}
 use Rattle.fw_model.specs.Machine.{family_of}
@@ -33,19 +33,19 @@ pub record IsCountOf (sys : System) (h : List Event) (counts : Counts) : Type 0 
   pub batches : (p : ℕ) → p < length sys.flow.nodes → batches_in counts p ≡ length (batches_of sys p)
   pub injected : (p : ℕ) → p < length sys.flow.nodes → injected_in counts p ≡ injected_count p h
   pub sent : (p : ℕ) → p < length sys.flow.nodes → kind_of sys.flow p ≡ Sequence → IsSentTable sys h p (sent_of counts p)
-  pub in_order : (p : ℕ) → p < length sys.flow.nodes → kind_of sys.flow p ≡ Sequence → AreInOrder (sent_of counts p)
+  pub in_order : (p : ℕ) → p < length sys.flow.nodes → kind_of sys.flow p ≡ Sequence → EpochsAscend (sent_of counts p)
   pub epochs : (p : ℕ) → p < length sys.flow.nodes → kind_of sys.flow p ≡ Sequence
       → AllByRecursion (λ entry. was_notified p (entry.0 ∷ []) h ≡ true) (sent_of counts p)
 
 -- The kept frontiers are admissible after a history, and those of the nodes that do not wait can not be widened.
-pub record IsKept (sys : System) (h : List Event) (kept : List Front) (work : List ℕ) : Type 0 where
+pub record AreKeptAdmissible (sys : System) (h : List Event) (kept : List Front) (work : List ℕ) : Type 0 where
   pub admissible : IsAdmissible sys h (family_of sys.flow kept)
   pub stuck : (p : ℕ) → p < length sys.flow.nodes → is_in work p ≡ false → IsStuck sys h (family_of sys.flow kept) p
 
 -- progress stands for a history
-pub record StandsFor (sys : System) (h : List Event) (now : Standing) : Type 0 where
+pub record StandsForHistory (sys : System) (h : List Event) (now : Standing) : Type 0 where
   pub counts : IsCountOf sys h now.counts
-  pub kept : IsKept sys h now.kept now.work
+  pub kept : AreKeptAdmissible sys h now.kept now.work
 
 -- the stamps at which an event makes its node send, one for each message
 abbrev pub stamps_sent : System → List Event → Event → List Stamp
@@ -53,10 +53,10 @@ stamps_sent sys h v = map (λ (m : Message). m.at) (sends sys (event_node sys.fl
 
 -- progress follows an event at which its node sends at these stamps: it stands for the history that goes on with the event, where it
 -- stood for that before
-abbrev pub Follows : Dataflow → Event → List Stamp → Standing → Standing → Type 0
-Follows flow v sent old new =
+abbrev pub FollowsEvent : Dataflow → Event → List Stamp → Standing → Standing → Type 0
+FollowsEvent flow v sent old new =
     (sys : System) (h : List Event) → sys.flow ≡ flow → HasEpochs sys → IsLegal sys (v ∷ h) → stamps_sent sys h v ≡ sent
-    → StandsFor sys h old → StandsFor sys (v ∷ h) new
+    → StandsForHistory sys h old → StandsForHistory sys (v ∷ h) new
 
 -- Nothing is counted or settled anew, the kept frontiers only grew, and stay where no node waited, no node waits, and the kept
 -- frontiers are complete after each history for which progress stood.
@@ -68,4 +68,4 @@ pub record IsFresh (flow : Dataflow) (old new : Standing) : Type 0 where
   pub none_waits : new.work ≡ []
   pub still : old.work ≡ [] → new.kept ≡ old.kept
   pub ready : new.refused ≡ false
-  pub complete : (sys : System) (h : List Event) → sys.flow ≡ flow → StandsFor sys h old → StandsFor sys h new × IsComplete sys h (family_of flow new.kept)
+  pub complete : (sys : System) (h : List Event) → sys.flow ≡ flow → StandsForHistory sys h old → StandsForHistory sys h new × IsComplete sys h (family_of flow new.kept)

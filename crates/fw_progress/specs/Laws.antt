@@ -11,7 +11,7 @@ use Rattle.fw_model.specs.History.{is_owed_notice, IsComplete}
 use Rattle.fw_model.specs.Machine.{Machine, events, family_of, AreCanonical}
 use Rattle.fw_model.specs.Steps.{GrowsTo}
 use Rattle.fw_progress.specs.declared.traces.Traces.{Traces}
-use Rattle.fw_progress.specs.Settle.{is_growing, AreGrownBefore, IsGrownAt, IsSettledBy, NoneGrows}
+use Rattle.fw_progress.specs.Settle.{is_growing, AreGrownBefore, IsGrownAt, SettlesMore, NoneGrows}
 use Rattle.fw_progress.specs.Trace.{IsTraceOf}
 
 -- the traces of a node are those of each history in which it has the same events
@@ -47,4 +47,4 @@ SettledInTurnIsSettled = (sys : System) (state : Machine) (failed : List Bool) (
     → AreCanonical sys.flow old → AreCanonical sys.flow kept → IsComplete sys (events state.history) (family_of sys.flow kept)
     → AreGrownBefore sys.flow failed old kept new (length sys.flow.nodes)
     → ((p : ℕ) → p < length sys.flow.nodes → is_growing failed old kept p ≡ true → GrowsTo sys state (family_of sys.flow kept) new)
-    × (NoneGrows failed old kept 0 (length sys.flow.nodes) → IsSettledBy sys state None)
+    × (NoneGrows failed old kept 0 (length sys.flow.nodes) → SettlesMore sys state None)

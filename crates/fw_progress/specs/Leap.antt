@@ -23,21 +23,21 @@ abbrev pub is_as_deep : Dataflow → ℕ → ℕ → Bool
 is_as_deep flow p q = nat_le (length (bounds_of flow p).greatest) (length (bounds_of flow q).greatest)
 
 -- the node is marked
-abbrev pub is_marked : List Bool → ℕ → Bool
-is_marked marks p = slice_index_or marks p false
+abbrev pub is_node_marked : List Bool → ℕ → Bool
+is_node_marked marks p = slice_index_or marks p false
 
 -- with a node the set has the receivers of its out-edges that are as deep as node p
-abbrev pub GoesOn : Dataflow → ℕ → (ℕ → Bool) → Type 0
-GoesOn flow p has =
+abbrev pub GoesOnToReceivers : Dataflow → ℕ → (ℕ → Bool) → Type 0
+GoesOnToReceivers flow p has =
     (e : ℕ) → e < length flow.edges → has (sender flow e) ≡ true → is_as_deep flow p (receiver flow e) ≡ true → has (receiver flow e) ≡ true
 
 -- The marked nodes are those that a feedback leads to in its loop and in the loops within it: the least set that has the feedback
 -- and goes on.
 pub record AreLedTo (flow : Dataflow) (p : ℕ) (marks : List Bool) : Type 0 where
   pub one_each : length marks ≡ length flow.nodes
-  pub begins : is_marked marks p ≡ true
-  pub goes_on : GoesOn flow p (is_marked marks)
-  pub least : (has : ℕ → Bool) → has p ≡ true → GoesOn flow p has → (q : ℕ) → is_marked marks q ≡ true → has q ≡ true
+  pub begins : is_node_marked marks p ≡ true
+  pub goes_on : GoesOnToReceivers flow p (is_node_marked marks)
+  pub least : (has : ℕ → Bool) → has p ≡ true → GoesOnToReceivers flow p has → (q : ℕ) → is_node_marked marks q ≡ true → has q ≡ true
 
 -- the next frontier of a node has all of the one so far, and has no more, or lies within what the node can have by the next ones
 pub record CanLeapAt (flow : Dataflow) (counts : Counts) (old next : List Front) (p : ℕ) : Type 0 where
@@ -80,8 +80,8 @@ unmarked (false ∷ marks) = unmarked marks + 1
 -- The marked nodes are led to, and the set of them goes on but for the nodes that are found and these edges.
 pub record IsMarking (flow : Dataflow) (p : ℕ) (marks : List Bool) (found left : List ℕ) : Type 0 where
   pub one_each : length marks ≡ length flow.nodes
-  pub begins : is_marked marks p ≡ true
-  pub there : (q : ℕ) → is_in found q ≡ true → is_marked marks q ≡ true
-  pub goes_on : (e : ℕ) → e < length flow.edges → is_marked marks (sender flow e) ≡ true → is_as_deep flow p (receiver flow e) ≡ true
-      → (is_marked marks (receiver flow e) ≡ true) ⊎ ((is_in found (sender flow e) ≡ true) ⊎ (is_in left e ≡ true))
-  pub least : (has : ℕ → Bool) → has p ≡ true → GoesOn flow p has → (q : ℕ) → is_marked marks q ≡ true → has q ≡ true
+  pub begins : is_node_marked marks p ≡ true
+  pub there : (q : ℕ) → is_in found q ≡ true → is_node_marked marks q ≡ true
+  pub goes_on : (e : ℕ) → e < length flow.edges → is_node_marked marks (sender flow e) ≡ true → is_as_deep flow p (receiver flow e) ≡ true
+      → (is_node_marked marks (receiver flow e) ≡ true) ⊎ ((is_in found (sender flow e) ≡ true) ⊎ (is_in left e ≡ true))
+  pub least : (has : ℕ → Bool) → has p ≡ true → GoesOnToReceivers flow p has → (q : ℕ) → is_node_marked marks q ≡ true → has q ≡ true

@@ -6,7 +6,7 @@ use Rattle.fw_frontier.specs.Front.{Front}
 use Rattle.fw_flow.specs.Counting.{how_many}
 use Rattle.fw_flow.specs.declared.kind.Kind.TheVariants.{Sequence}
 use Rattle.fw_flow.specs.Dataflow.{Dataflow, kind_of, sender, receiver, bounds_of, is_notified_kind, is_sequence_kind}
-use Rattle.fw_flow.specs.SentTable.{AreInOrder}
+use Rattle.fw_flow.specs.SentTable.{EpochsAscend}
 use Rattle.fw_model.specs.Machine.{AreCanonical}
 use Rattle.fw_progress.specs.declared.counts.Counts.{Counts}
 use Rattle.fw_progress.specs.Counts.{AreCounts, AreNodes}
@@ -51,7 +51,7 @@ CanSend flow p stamps =
     (e : ℕ) → e < length flow.edges → sender flow e ≡ p → AllByRecursion (λ s. in_domain (bounds_of flow (receiver flow e)) s ≡ true) stamps
 
 -- On each out-edge of a node a message at each of the stamps is pending more.
-pub record AreSent (flow : Dataflow) (p : ℕ) (stamps : List Stamp) (old new : List (List (Stamp × ℕ))) : Type 0 where
+pub record ArePendingMore (flow : Dataflow) (p : ℕ) (stamps : List Stamp) (old new : List (List (Stamp × ℕ))) : Type 0 where
   pub one_each : length new ≡ length old
   pub times : (e : ℕ) → e < length flow.edges → (t : Stamp)
       → times_in t (slice_index_or new e []) ≡ times_in t (slice_index_or old e []) + (if sender flow e == p then how_many (same t) stamps else 0)
@@ -59,19 +59,19 @@ pub record AreSent (flow : Dataflow) (p : ℕ) (stamps : List Stamp) (old new : 
       → (e : ℕ) → e < length flow.edges → IsTallyOf (bounds_of flow (receiver flow e)) (slice_index_or new e [])
 
 -- one batch more is injected, if the number fits 64 bits
-abbrev pub IsNext : ℕ → ℕ → Type 0
-IsNext old new = old + 1 < 2 ^ 64 → new ≡ old + 1
+abbrev pub IsOneBatchMore : ℕ → ℕ → Type 0
+IsOneBatchMore old new = old + 1 < 2 ^ 64 → new ≡ old + 1
 
 -- so many messages were sent in an epoch, if the epochs of the table are in order and none of them is greater
 abbrev pub IsSentMore : ℕ → ℕ → List (ℕ × ℕ) → List (ℕ × ℕ) → Type 0
-IsSentMore epoch count old new = ((n : ℕ) → AreInOrder (old ++ (epoch, n) ∷ [])) → new ≡ old ++ (epoch, count) ∷ []
+IsSentMore epoch count old new = ((n : ℕ) → EpochsAscend (old ++ (epoch, n) ∷ [])) → new ≡ old ++ (epoch, count) ∷ []
 
 -- A message at a stamp is delivered on an edge, and its receiver sends at these stamps: one less is pending there, the receiver is
 -- owed a notification if it waits for them, and what it sends is pending.
-pub record IsDelivered (flow : Dataflow) (e : ℕ) (at : Stamp) (sent : List Stamp) (old new : Counts) : Type 0 where
+pub record DeliversOne (flow : Dataflow) (e : ℕ) (at : Stamp) (sent : List Stamp) (old new : Counts) : Type 0 where
   pub between : List (List (Stamp × ℕ))
   pub taken : ChangesAt e [] (HasOneLess at) old.pending.items between
-  pub sends : AreSent flow (receiver flow e) sent between new.pending.items
+  pub sends : ArePendingMore flow (receiver flow e) sent between new.pending.items
   pub owes : is_notified_kind (kind_of flow (receiver flow e)) ≡ true → ChangesAt (receiver flow e) [] (HasOneMore at) old.owed.items new.owed.items
   pub owes_none : is_notified_kind (kind_of flow (receiver flow e)) ≡ false → new.owed.items ≡ old.owed.items
   pub batches : new.batches.items ≡ old.batches.items
@@ -82,7 +82,7 @@ pub record IsDelivered (flow : Dataflow) (e : ℕ) (at : Stamp) (sent : List Sta
 -- counts for a sequence.
 pub record IsNotified (flow : Dataflow) (p : ℕ) (at : Stamp) (sent : List Stamp) (old new : Counts) : Type 0 where
   pub paid : ChangesAt p [] (HasNoMore at) old.owed.items new.owed.items
-  pub sends : AreSent flow p sent old.pending.items new.pending.items
+  pub sends : ArePendingMore flow p sent old.pending.items new.pending.items
   pub batches : new.batches.items ≡ old.batches.items
   pub injected : new.injected.items ≡ old.injected.items
   pub tables : length new.sent.items ≡ length old.sent.items
@@ -91,8 +91,8 @@ pub record IsNotified (flow : Dataflow) (p : ℕ) (at : Stamp) (sent : List Stam
 
 -- A node injects its next batch, and sends at these stamps.
 pub record IsInjected (flow : Dataflow) (p : ℕ) (sent : List Stamp) (old new : Counts) : Type 0 where
-  pub next : ChangesAt p 0 IsNext old.injected.items new.injected.items
-  pub sends : AreSent flow p sent old.pending.items new.pending.items
+  pub next : ChangesAt p 0 IsOneBatchMore old.injected.items new.injected.items
+  pub sends : ArePendingMore flow p sent old.pending.items new.pending.items
   pub owed : new.owed.items ≡ old.owed.items
   pub batches : new.batches.items ≡ old.batches.items
   pub counted : new.sent.items ≡ old.sent.items

@@ -12,9 +12,9 @@ use Rattle.fw_model.specs.Settled.{HasMoreToSettle}
 use Rattle.fw_model.specs.Steps.{GrowsTo}
 
 -- What the nodes that are not failed settle, where one of them has more to settle; nothing where none has.
-abbrev pub IsSettledBy : System → Machine → Option (Vec Front) → Type 0
-IsSettledBy sys state None = (done : ℕ → Frontier) → IsComplete sys (events state.history) done → HasMoreToSettle sys state done → ⊥
-IsSettledBy sys state (Some settled) = (done : ℕ → Frontier) × GrowsTo sys state done settled.items
+abbrev pub SettlesMore : System → Machine → Option (Vec Front) → Type 0
+SettlesMore sys state None = (done : ℕ → Frontier) → IsComplete sys (events state.history) done → HasMoreToSettle sys state done → ⊥
+SettlesMore sys state (Some settled) = (done : ℕ → Frontier) × GrowsTo sys state done settled.items
 
 -- whether a frontier has a stamp inside that is outside another
 abbrev pub has_more : Front → Front → Bool

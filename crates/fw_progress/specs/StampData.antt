@@ -7,13 +7,13 @@ use Rattle.fw_flow.specs.declared.choice.Counted.{Counted}
 use Rattle.fw_flow.specs.declared.choice.Stamps.{Stamps}
 use Rattle.fw_flow.specs.Dataflow.{Dataflow, kind_of, receiver, in_edges, out_edges, is_sequence_kind}
 use Rattle.fw_model.specs.EventStamps.{causes_of}
-use Rattle.fw_model.specs.Offers.{on_edge, stamps_on}
+use Rattle.fw_model.specs.Offers.{counted_on_edge, stamps_on}
 use Rattle.fw_progress.specs.declared.sent_tally.SentTally.{SentTally}
 use Rattle.fw_progress.specs.declared.traces.Traces.{Traces}
-use Rattle.fw_progress.specs.Covers.{last_number, sends_at}
+use Rattle.fw_progress.specs.Covers.{last_number, sent_stamp_at}
 use Rattle.fw_progress.specs.Progress.{ChangesAt}
 use Rattle.fw_progress.specs.Tally.{count_inside}
-use Rattle.fw_progress.specs.Trace.{delivered_on, notified_of, sent_at, counted_of, no_tally}
+use Rattle.fw_progress.specs.Trace.{delivered_on, stamps_notified, stamps_where_sent, counted_of, no_tally}
 use Rattle.fw_progress.specs.Traces.{thinned}
 
 -- what is taken of kept stamps: all, or those inside a frontier, thinned inside it
@@ -41,7 +41,7 @@ message_of e cause (Some at) = record { edge = e; at = at; causes = cause ∷ []
 
 -- one message on an edge of each event at these stamps that sends
 abbrev pub messages_of : Dataflow → ℕ → List Stamp → ℕ → List Counted
-messages_of flow p ss e = flat_map (λ s. message_of e s (sends_at flow p s)) ss
+messages_of flow p ss e = flat_map (λ s. message_of e s (sent_stamp_at flow p s)) ss
 
 -- one message on an edge at each of these numbers, of the first epoch
 abbrev pub messages_numbered : List Stamp → ℕ → List Counted
@@ -57,8 +57,8 @@ all_sent flow p ss n =
 abbrev pub stamps_by : Dataflow → ℕ → Option Front → Traces → Stamps
 stamps_by flow p part traces = record {
   delivered = all_delivered flow p (λ d. taken part (delivered_on traces d));
-  notified = taken part (notified_of traces p);
-  sent = all_sent flow p (taken part (sent_at traces p)) (count_taken part (counted_of traces p));
+  notified = taken part (stamps_notified traces p);
+  sent = all_sent flow p (taken part (stamps_where_sent traces p)) (count_taken part (counted_of traces p));
 }
 
 -- ---- data as traces
@@ -87,15 +87,15 @@ pub record AreDelivered (flow : Dataflow) (p : ℕ) (ms : List Counted) (old new
 -- the causes of the messages on the first of these edges, if there is one
 abbrev pub causes_on_first : List ℕ → List Counted → List Stamp
 causes_on_first [] ms = []
-causes_on_first (e ∷ es) ms = causes_of (on_edge e ms)
+causes_on_first (e ∷ es) ms = causes_of (counted_on_edge e ms)
 
 -- what is kept of where node p sent is the causes of these messages on its first out-edge, unless it is a sequence
-abbrev pub IsSentFrom : Dataflow → ℕ → List Counted → List Stamp → List Stamp → Type 0
-IsSentFrom flow p ms old new = is_sequence_kind (kind_of flow p) ≡ false → AreTheSame (causes_on_first (out_edges flow p) ms) new
+abbrev pub AreCausesOnFirst : Dataflow → ℕ → List Counted → List Stamp → List Stamp → Type 0
+AreCausesOnFirst flow p ms old new = is_sequence_kind (kind_of flow p) ≡ false → AreTheSame (causes_on_first (out_edges flow p) ms) new
 
 -- The traces of node p have what the data tell, and those of the others are as they were.
 pub record AreTold (flow : Dataflow) (p : ℕ) (stamps : Stamps) (count : ℕ) (old new : Traces) : Type 0 where
   pub delivered : AreDelivered flow p stamps.delivered old.delivered.items new.delivered.items
   pub notified : ChangesAt p [] (λ old new. AreTheSame stamps.notified new) old.notified.items new.notified.items
-  pub sent : ChangesAt p [] (IsSentFrom flow p stamps.sent) old.sent.items new.sent.items
+  pub sent : ChangesAt p [] (AreCausesOnFirst flow p stamps.sent) old.sent.items new.sent.items
   pub counted : ChangesAt p no_tally (λ old new. new ≡ record { inside = count; outside = [] }) old.counted.items new.counted.items

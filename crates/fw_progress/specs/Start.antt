@@ -39,8 +39,8 @@ pub record HasLess (flow : Dataflow) (counts : Counts) (p : ℕ) (old new : List
 
 -- A node has no more than it can have by the others: it had no more, or it has a smaller frontier from now on, and the receivers of
 -- its out-edges wait.
-abbrev pub IsLowered : Dataflow → Counts → ℕ → List Front → List Front → List ℕ → List ℕ → Type 0
-IsLowered flow counts p old new work rest = IsWithin flow counts p old new work rest ⊎ HasLess flow counts p old new work rest
+abbrev pub HasFallen : Dataflow → Counts → ℕ → List Front → List Front → List ℕ → List ℕ → Type 0
+HasFallen flow counts p old new work rest = IsWithin flow counts p old new work rest ⊎ HasLess flow counts p old new work rest
 
 -- The frontiers are admissible, and none can be widened.
 pub record AreLargest (flow : Dataflow) (counts : Counts) (fronts : List Front) : Type 0 where

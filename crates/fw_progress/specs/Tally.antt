@@ -18,14 +18,14 @@ abbrev pub has_one : Stamp → List (Stamp × ℕ) → Bool
 has_one t entries = nat_lt 0 (times_in t entries)
 
 -- there is one at least of each stamp that is listed
-abbrev pub IsPositive : List (Stamp × ℕ) → Type 0
-IsPositive [] = Unit {0}
-IsPositive (e ∷ es) = (0 < e.1) × IsPositive es
+abbrev pub AreCountsPositive : List (Stamp × ℕ) → Type 0
+AreCountsPositive [] = Unit {0}
+AreCountsPositive (e ∷ es) = (0 < e.1) × AreCountsPositive es
 
 -- the stamps are those of a domain, and there is one at least of each
 pub record IsTallyOf (bounds : Bounds) (entries : List (Stamp × ℕ)) : Type 0 where
   pub of_domain : AllByRecursion (λ s. in_domain bounds s ≡ true) (keys_of entries)
-  pub positive : IsPositive entries
+  pub positive : AreCountsPositive entries
 
 -- There is one more of a stamp, and of the others as many as before.
 pub record HasOneMore (at : Stamp) (old new : List (Stamp × ℕ)) : Type 0 where

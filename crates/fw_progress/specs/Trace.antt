@@ -28,12 +28,12 @@ abbrev pub delivered_on : Traces → ℕ → List Stamp
 delivered_on traces d = slice_index_or traces.delivered.items d []
 
 -- those of which a node was notified
-abbrev pub notified_of : Traces → ℕ → List Stamp
-notified_of traces p = slice_index_or traces.notified.items p []
+abbrev pub stamps_notified : Traces → ℕ → List Stamp
+stamps_notified traces p = slice_index_or traces.notified.items p []
 
 -- those at which events of a node sent something
-abbrev pub sent_at : Traces → ℕ → List Stamp
-sent_at traces p = slice_index_or traces.sent.items p []
+abbrev pub stamps_where_sent : Traces → ℕ → List Stamp
+stamps_where_sent traces p = slice_index_or traces.sent.items p []
 
 -- a tally of nothing
 abbrev pub no_tally : SentTally
@@ -68,9 +68,9 @@ HasOutEdge flow p = (e : ℕ) × (e < length flow.edges) × (sender flow e ≡ p
 pub record IsTraceOf (sys : System) (h : List Event) (p : ℕ) (base : Frontier) (traces : Traces) : Type 0 where
   pub delivered : (d : ℕ) → d < length sys.flow.edges → receiver sys.flow d ≡ p
       → IsThinned base (map (λ (m : Message). m.at) (delivered_messages h d)) (delivered_on traces d)
-  pub notified : IsThinned base (flat_map (stamp_of_notice p) h) (notified_of traces p)
+  pub notified : IsThinned base (flat_map (stamp_of_notice p) h) (stamps_notified traces p)
   pub sent : HasOutEdge sys.flow p → is_sequence_kind (kind_of sys.flow p) ≡ false
-      → IsThinned base (causes_in (sent_by sys p (events_at sys.flow p h))) (sent_at traces p)
+      → IsThinned base (causes_in (sent_by sys p (events_at sys.flow p h))) (stamps_where_sent traces p)
   pub counted : counts_sent sys.flow p ≡ true → IsSentTally base (sent_by sys p (events_at sys.flow p h)) (counted_of traces p)
 
 -- the traces of each node are so, thinned inside its base

@@ -35,8 +35,8 @@ abbrev pub IsThinnedBy : Front → List Stamp → List Stamp → Type 0
 IsThinnedBy f old new = new ≡ thinned f old
 
 -- it stands for those of the list that are inside the frontier
-abbrev pub IsCutTo : Front → List Stamp → List Stamp → Type 0
-IsCutTo f old new =
+abbrev pub StandsInside : Front → List Stamp → List Stamp → Type 0
+StandsInside f old new =
     (bounds : Bounds) (base : Frontier) (all : List Stamp) → AreOf bounds all → Within base (frontier_of bounds f) → IsThinned base all old
     → IsThinned base (filter (frontier_of bounds f) all) new
 
@@ -55,9 +55,9 @@ pub record ChangesInto (flow : Dataflow) (p : ℕ) (R : List Stamp → List Stam
 -- ---- for the proofs
 
 -- whether a stamp is lesser than the top, if there is one
-abbrev pub is_below : Option Stamp → Stamp → Bool
-is_below None s = false
-is_below (Some top) s = lesser s top
+abbrev pub is_lesser_than_top : Option Stamp → Stamp → Bool
+is_lesser_than_top None s = false
+is_lesser_than_top (Some top) s = lesser s top
 
 -- a stamp, if it is at or above the top so far
 abbrev pub raised : Option Stamp → Stamp → Option Stamp

@@ -146,7 +146,7 @@ fn push_sent(
     node: NodeId,
     stamp: &Stamp,
 ) -> Result<(), AllocError>
-    ensures { OnOk result (sent.new.items ≡ sent.old.items ++ option_to_list (spec.sends_at flow.now node stamp.now)) }
+    ensures { OnOk result (sent.new.items ≡ sent.old.items ++ option_to_list (spec.sent_stamp_at flow.now node stamp.now)) }
 {
     if let Some(at) = sends_at(flow, node, stamp) {
         sent.push(at)?;
@@ -156,7 +156,7 @@ fn push_sent(
 
 /// At which stamp an event of a node at a stamp sends; none where it sends nothing, as at a stamp that is not of its domain.
 pub(crate) fn sends_at(flow: &Flow, node: NodeId, at: &Stamp) -> Option<Stamp>
-    ensures { result ≡ spec.sends_at flow.now node at.now }
+    ensures { result ≡ spec.sent_stamp_at flow.now node at.now }
 {
     if !at.in_domain(&flow.domain(node)) {
         return None;

@@ -60,7 +60,7 @@ fn until_epoch(at: &Stamp, count: u64) -> u64
 
 /// How many of the first epochs, so many, are inside a frontier.
 fn epochs_inside(front: &Front, count: u64) -> u64
-    ensures { result ≡ spec.epochs_inside front.now count }
+    ensures { result ≡ spec.epochs_inside_of_first front.now count }
 {
     let outside = front.outside();
     let mut left = count;

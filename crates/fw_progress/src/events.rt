@@ -4,7 +4,7 @@ ghost use Rattle.std.specs.List.{AllByRecursion};
 ghost use Rattle.fw_time.specs.Stamp.{in_domain};
 ghost use Rattle.fw_flow.specs.Dataflow.{receiver, bounds_of};
 ghost use Rattle.fw_progress.specs.Counts.{AreCounts};
-ghost use Rattle.fw_progress.specs.Progress.{ChangesAt, CanSend, AreSent, IsNext, IsSentMore, IsDelivered, IsNotified, IsInjected};
+ghost use Rattle.fw_progress.specs.Progress.{ChangesAt, CanSend, ArePendingMore, IsOneBatchMore, IsSentMore, DeliversOne, IsNotified, IsInjected};
 ghost use Rattle.fw_progress.specs.Tally.{HasOneMore, HasOneLess, HasNoMore, HasEachMore};
 
 use crate::counts::Counts;
@@ -45,7 +45,7 @@ pub(crate) fn pay(owed: &mut Vec<Tally>, node: NodeId, at: &Stamp)
 /// A node injected one batch more.
 pub(crate) fn inject(injected: &mut Vec<u64>, node: NodeId)
     requires { node < length injected.old.items }
-    ensures { ChangesAt node 0 IsNext injected.old.items injected.new.items }
+    ensures { ChangesAt node 0 IsOneBatchMore injected.old.items injected.new.items }
 {
     let count = &mut injected[node.place() as usize];
     *count = count.saturating_add(1);
@@ -96,7 +96,7 @@ pub(crate) fn send(
     stamps: &[Stamp],
 ) -> Result<(), AllocError>
     requires { length pending.old.items ≡ length flow.now.edges }
-    ensures { IfOk result (λ u. AreSent flow.now node stamps.now pending.old.items pending.new.items) }
+    ensures { IfOk result (λ u. ArePendingMore flow.now node stamps.now pending.old.items pending.new.items) }
 {
     let edges = flow.out_edges(node);
     for edge in edges {
@@ -115,7 +115,7 @@ pub(crate) fn delivered(
 ) -> Result<(), AllocError>
     requires counts { AreCounts flow.now counts.old }
     requires there { edge < length flow.now.edges }
-    ensures { IfOk result (λ u. IsDelivered flow.now edge at.now sent.now counts.old counts.new) }
+    ensures { IfOk result (λ u. DeliversOne flow.now edge at.now sent.now counts.old counts.new) }
 {
     flow_is_well_formed(flow);
     let node = flow.dst(edge);

@@ -8,7 +8,7 @@ ghost use Rattle.fw_frontier.specs.Front.{inside, frontier_of, IsFrontOf};
 ghost use Rattle.fw_model.specs.Thinned.{IsThinned};
 ghost use Rattle.fw_progress.specs.StampData.{AreTheSame, HaveAdded};
 ghost use Rattle.fw_progress.specs.Traces as spec;
-ghost use Rattle.fw_progress.specs.Traces.{has_greater_inside, is_below, top_from, thinned, AreOf, StandForOneMore, IsSettledTo, IsCutTo, IsThinnedTo};
+ghost use Rattle.fw_progress.specs.Traces.{has_greater_inside, is_lesser_than_top, top_from, thinned, AreOf, StandForOneMore, IsSettledTo, StandsInside, IsThinnedTo};
 
 use fw_frontier::Front;
 use fw_time::{Bounds, Stamp};
@@ -96,7 +96,7 @@ impl KeptStamps {
 
     /// Leaves the stamps inside a frontier, which holds the base, as a cut to it does. It takes no memory.
     pub fn keep_inside(&mut self, f: &Front)
-        ensures thinned { IsCutTo f.now self.old self.new }
+        ensures thinned { StandsInside f.now self.old self.new }
         ensures value { self.new ≡ filter (inside f.now) self.old }
     {
         self.stamps.retain(|stamp| f.contains(stamp));
@@ -198,7 +198,7 @@ fn top_of_chain(stamps: &BTreeSet<Stamp>, base: &Front) -> Option<Stamp>
 fn raised(top: &Option<Stamp>, stamp: &Stamp) -> Option<Stamp>
     ensures value { result ≡ spec.raised top.now stamp.now }
     ensures greater { IfSome result
-        (λ next. (s : List ℕ) → lesser s next ≡ (is_below top.now s || lesser s stamp.now)) }
+        (λ next. (s : List ℕ) → lesser s next ≡ (is_lesser_than_top top.now s || lesser s stamp.now)) }
 {
     match top {
         Some(top) if !top.leq(stamp) => None,

@@ -52,7 +52,7 @@ fn is_climbing(
 /// Marks a node, and tells whether it was not marked before.
 fn mark(marks: &mut Vec<bool>, node: NodeId) -> bool
     requires { node < length marks.old.items }
-    ensures new { result ≡ not (spec.is_marked marks.old.items node) }
+    ensures new { result ≡ not (spec.is_node_marked marks.old.items node) }
     ensures marked { marks.new.items ≡ slice_set marks.old.items node true }
 {
     let place = node.place() as usize;
@@ -65,7 +65,7 @@ fn mark(marks: &mut Vec<bool>, node: NodeId) -> bool
 
 /// Whether a place is marked.
 fn is_marked(marks: &[bool], place: usize) -> bool
-    ensures { result ≡ spec.is_marked marks.now place }
+    ensures { result ≡ spec.is_node_marked marks.now place }
 {
     match marks.get(place) {
         Some(mark) => *mark,
@@ -89,7 +89,7 @@ fn mark_receivers(
     marks: &mut Vec<bool>,
     found: &mut Vec<NodeId>,
 ) -> Result<(), AllocError>
-    requires marked { spec.is_marked marks.old.items node ≡ true }
+    requires marked { spec.is_node_marked marks.old.items node ≡ true }
     requires marking { IsMarking flow.now feedback marks.old.items found.old.items (out_edges flow.now node) }
     ensures marking { IfOk result (λ u. IsMarking flow.now feedback marks.new.items found.new.items []) }
     ensures left { IfOk result (λ u. 2 * unmarked marks.new.items + length found.new.items

@@ -12,12 +12,12 @@ ghost use Rattle.fw_model.specs.Steps.{IsNextNotice};
 ghost use Rattle.fw_progress.specs.Counts.{owed_of, AreCounts};
 ghost use Rattle.fw_progress.specs.Cut.{events_left, AreTallies, ArePendingAfter, AreTablesAfter};
 ghost use Rattle.fw_progress.specs.Growths.{AreGrowths, out_degrees, IsEnlisted};
-ghost use Rattle.fw_progress.specs.History.{IsCountOf, StandsFor, Follows, IsFresh};
+ghost use Rattle.fw_progress.specs.History.{IsCountOf, StandsForHistory, FollowsEvent, IsFresh};
 ghost use Rattle.fw_progress.specs.Notices.{IsFirstNotice};
 ghost use Rattle.fw_progress.specs.Settle as settling;
-ghost use Rattle.fw_progress.specs.Settle.{IsSettledBy, IsGrownAt};
+ghost use Rattle.fw_progress.specs.Settle.{SettlesMore, IsGrownAt};
 ghost use Rattle.fw_model.specs.Machine.{Machine, SerialEvent, events as machine_events};
-ghost use Rattle.fw_progress.specs.Progress.{Standing, IsProgressOf, AreFrontsOf, CanSend, IsDelivered, IsNotified, IsInjected};
+ghost use Rattle.fw_progress.specs.Progress.{Standing, IsProgressOf, AreFrontsOf, CanSend, DeliversOne, IsNotified, IsInjected};
 
 use crate::counts::Counts;
 use crate::cut::cut_counts;
@@ -80,7 +80,7 @@ impl Progress {
     /// error is want of memory.
     pub fn new(alloc: Global, flow: &Flow, batches: &Batches) -> Result<Self, AllocError>
         ensures progress { IfOk result (IsProgressOf flow.now) }
-        ensures stands { IfOk result (StandsFor (system_of flow.now batches.now) []) }
+        ensures stands { IfOk result (StandsForHistory (system_of flow.now batches.now) []) }
         ensures complete { IfOk result
             (λ p. IsComplete (system_of flow.now batches.now) [] (family_of flow.now p.kept)) }
         ensures none_waits { IfOk result (λ p. p.work ≡ []) }
@@ -117,7 +117,7 @@ impl Progress {
         ensures settled { IfOk result (λ u. self.new.settled ≡ settled.items) }
         ensures none_waits { IfOk result (λ u. self.new.work ≡ []) }
         ensures complete { (sys : System) (h : List Event) → sys.flow ≡ flow.now → IsCountOf sys h counts
-            → IfOk result (λ u. StandsFor sys h self.new × IsComplete sys h (family_of flow.now self.new.kept)) }
+            → IfOk result (λ u. StandsForHistory sys h self.new × IsComplete sys h (family_of flow.now self.new.kept)) }
         ensures ready { IfOk result (λ u. self.new.refused ≡ false) }
         ensures refused { IsErr result → IsTrue self.new.refused }
         ensures stays { IsTrue self.old.refused → IsErr result }
@@ -158,7 +158,7 @@ impl Progress {
             → IsLegal sys (machine_events h) → IsCountOf sys (machine_events h) self.old.counts
             → ArePendingAfter sys (events_left sys choice.now h) pending.items
             → AreTablesAfter sys (events_left sys choice.now h) sent.items
-            → IfOk result (λ u. StandsFor sys (events_left sys choice.now h) self.new
+            → IfOk result (λ u. StandsForHistory sys (events_left sys choice.now h) self.new
             × IsComplete sys (events_left sys choice.now h) (family_of flow.now self.new.kept)) }
         ensures ready { IfOk result (λ u. self.new.refused ≡ false) }
         ensures refused { IsErr result → IsTrue self.new.refused }
@@ -191,12 +191,12 @@ impl Progress {
         requires at { in_domain (bounds_of flow.now (receiver flow.now edge)) at.now ≡ true }
         requires sent { CanSend flow.now (receiver flow.now edge) sent.now }
         ensures progress { IsProgressOf flow.now self.new }
-        ensures counts { IfOk result (λ u. IsDelivered flow.now edge at.now sent.now self.old.counts self.new.counts) }
+        ensures counts { IfOk result (λ u. DeliversOne flow.now edge at.now sent.now self.old.counts self.new.counts) }
         ensures work { IfOk result (λ u. IsEnlisted (receiver flow.now edge) self.old.work self.new.work) }
         ensures settled { self.new.settled ≡ self.old.settled }
         ensures kept { self.new.kept ≡ self.old.kept }
         ensures follows { (m : Message) → m.at ≡ at.now
-            → IfOk result (λ u. Follows flow.now (events.Deliver edge m) sent.now self.old self.new) }
+            → IfOk result (λ u. FollowsEvent flow.now (events.Deliver edge m) sent.now self.old self.new) }
         ensures ready { IfOk result (λ u. self.new.refused ≡ false) }
         ensures refused { IsErr result → IsTrue self.new.refused }
         ensures stays { IsTrue self.old.refused → IsErr result }
@@ -227,7 +227,7 @@ impl Progress {
         ensures work { IfOk result (λ u. IsEnlisted node self.old.work self.new.work) }
         ensures settled { self.new.settled ≡ self.old.settled }
         ensures kept { self.new.kept ≡ self.old.kept }
-        ensures follows { IfOk result (λ u. Follows flow.now (events.Notify node at.now) sent.now self.old self.new) }
+        ensures follows { IfOk result (λ u. FollowsEvent flow.now (events.Notify node at.now) sent.now self.old self.new) }
         ensures ready { IfOk result (λ u. self.new.refused ≡ false) }
         ensures refused { IsErr result → IsTrue self.new.refused }
         ensures stays { IsTrue self.old.refused → IsErr result }
@@ -253,7 +253,7 @@ impl Progress {
         ensures settled { self.new.settled ≡ self.old.settled }
         ensures kept { self.new.kept ≡ self.old.kept }
         ensures follows { (epoch : ℕ)
-            → IfOk result (λ u. Follows flow.now (events.Inject node epoch) sent.now self.old self.new) }
+            → IfOk result (λ u. FollowsEvent flow.now (events.Inject node epoch) sent.now self.old self.new) }
         ensures ready { IfOk result (λ u. self.new.refused ≡ false) }
         ensures refused { IsErr result → IsTrue self.new.refused }
         ensures stays { IsTrue self.old.refused → IsErr result }
@@ -286,8 +286,8 @@ impl Progress {
         ensures ready { IfOk result (λ growths. self.new.refused ≡ false) }
         ensures counts { self.new.counts ≡ self.old.counts }
         ensures settled { self.new.settled ≡ self.old.settled }
-        ensures complete { (sys : System) (h : List Event) → sys.flow ≡ flow.now → StandsFor sys h self.old
-            → IfOk result (λ growths. StandsFor sys h self.new × IsComplete sys h (family_of flow.now self.new.kept)) }
+        ensures complete { (sys : System) (h : List Event) → sys.flow ≡ flow.now → StandsForHistory sys h self.old
+            → IfOk result (λ growths. StandsForHistory sys h self.new × IsComplete sys h (family_of flow.now self.new.kept)) }
         ensures refused { IsErr result → IsTrue self.new.refused }
         ensures stays { IsTrue self.old.refused → IsErr result }
     {
@@ -343,9 +343,9 @@ impl Progress {
         requires at { in_domain (bounds_of flow.now node) at.now ≡ true }
         ensures progress { IsProgressOf flow.now self.new }
         ensures fresh { IfOk result (λ can. IsFresh flow.now self.old self.new) }
-        ensures exact { (sys : System) (h : List Event) → sys.flow ≡ flow.now → StandsFor sys h self.old
+        ensures exact { (sys : System) (h : List Event) → sys.flow ≡ flow.now → StandsForHistory sys h self.old
             → IfOk result (λ can. IsTrue can ↔ IsNotifiable sys h node at.now) }
-        ensures next { (sys : System) (h : List Event) → sys.flow ≡ flow.now → StandsFor sys h self.old
+        ensures next { (sys : System) (h : List Event) → sys.flow ≡ flow.now → StandsForHistory sys h self.old
             → IfOk result (λ can. IsTrue can ↔ IsNextNotice sys h node (Some at.now) at.now) }
         ensures refused { IsErr result → IsTrue self.new.refused }
         ensures stays { IsTrue self.old.refused → IsErr result }
@@ -371,7 +371,7 @@ impl Progress {
         ensures progress { IsProgressOf flow.now self.new }
         ensures fresh { IfOk result (λ first. IsFresh flow.now self.old self.new) }
         ensures of_domain { IfOk result (λ first. IfSome first (λ t. in_domain (bounds_of flow.now node) t ≡ true)) }
-        ensures exact { (sys : System) (h : List Event) → sys.flow ≡ flow.now → StandsFor sys h self.old
+        ensures exact { (sys : System) (h : List Event) → sys.flow ≡ flow.now → StandsForHistory sys h self.old
             → IfOk result (IsFirstNotice sys h node) }
         ensures refused { IsErr result → IsTrue self.new.refused }
         ensures stays { IsTrue self.old.refused → IsErr result }
@@ -397,8 +397,8 @@ impl Progress {
         ensures progress { IsProgressOf flow.now self.new }
         ensures fresh { IfOk result (λ grown. IsFresh flow.now self.old self.new) }
         ensures fronts { IfOk result (λ grown. IfSome grown (λ settled. AreFrontsOf flow.now settled.items)) }
-        ensures exact { (sys : System) (state : Machine) → sys.flow ≡ flow.now → StandsFor sys (machine_events state.history) self.old
-            → self.old.settled ≡ state.settled → failed.now ≡ state.failed → IfOk result (IsSettledBy sys state) }
+        ensures exact { (sys : System) (state : Machine) → sys.flow ≡ flow.now → StandsForHistory sys (machine_events state.history) self.old
+            → self.old.settled ≡ state.settled → failed.now ≡ state.failed → IfOk result (SettlesMore sys state) }
         ensures refused { IsErr result → IsTrue self.new.refused }
         ensures stays { IsTrue self.old.refused → IsErr result }
     {
@@ -532,7 +532,7 @@ fn deliver(
 ) -> Result<(), AllocError>
     requires counts { AreCounts flow.now counts.old }
     requires there { edge < length flow.now.edges }
-    ensures counts { IfOk result (λ u. IsDelivered flow.now edge at.now sent.now counts.old counts.new) }
+    ensures counts { IfOk result (λ u. DeliversOne flow.now edge at.now sent.now counts.old counts.new) }
     ensures work { IfOk result (λ u. IsEnlisted (receiver flow.now edge) work.old work.new) }
 {
     events::delivered(flow, counts, edge, at, sent)?;

@@ -1,9 +1,9 @@
 //! Data as a node's traces, when a recovery restores it by a checkpoint.
 ghost use Rattle.std.specs.Prelude.{◌≡◌, ◌<◌, ◌∷◌, [], ℕ, false, length, slice_index_or, IsTrue, IsErr, IfOk};
 ghost use Rattle.fw_model.specs.EventStamps.{causes_of};
-ghost use Rattle.fw_model.specs.Offers.{on_edge};
+ghost use Rattle.fw_model.specs.Offers.{counted_on_edge};
 ghost use Rattle.fw_progress.specs.Progress.{ChangesAt};
-ghost use Rattle.fw_progress.specs.StampData.{AreTheSame, TakeUp, AreDelivered, IsSentFrom};
+ghost use Rattle.fw_progress.specs.StampData.{AreTheSame, TakeUp, AreDelivered, AreCausesOnFirst};
 ghost use Rattle.fw_progress.specs.Traces.{ChangesInto};
 ghost use Rattle.fw_progress.specs.Trace.{AreTraces, AreRestoredTo, no_tally};
 
@@ -143,7 +143,7 @@ fn restore_sent(
     messages: &[Counted],
 ) -> Result<(), AllocError>
     requires { node < length lists.old.items }
-    ensures { IfOk result (λ u. ChangesAt node [] (IsSentFrom flow.now node messages.now) lists.old.items lists.new.items) }
+    ensures { IfOk result (λ u. ChangesAt node [] (AreCausesOnFirst flow.now node messages.now) lists.old.items lists.new.items) }
 {
     if flow.kind(node).is_sequence() {
         return Ok(());
@@ -159,7 +159,7 @@ fn restore_sent(
 
 /// The causes of these messages on an edge. The error is want of memory.
 fn causes_on(alloc: Global, edge: EdgeId, messages: &[Counted]) -> Result<KeptStamps, AllocError>
-    ensures { IfOk result (AreTheSame (causes_of (on_edge edge messages.now))) }
+    ensures { IfOk result (AreTheSame (causes_of (counted_on_edge edge messages.now))) }
 {
     let mut kept = KeptStamps::new(alloc);
     for message in messages {

@@ -7,7 +7,7 @@ ghost use Rattle.fw_flow.specs.Dataflow.{System, out_edges, node_frontier, HasEp
 ghost use Rattle.fw_model.specs.EventStamps.{AreStampsOf};
 ghost use Rattle.fw_model.specs.Filtering.{events_inside};
 ghost use Rattle.fw_model.specs.History.{IsLegal};
-ghost use Rattle.fw_progress.specs.Covers.{sends_at};
+ghost use Rattle.fw_progress.specs.Covers.{sent_stamp_at};
 ghost use Rattle.fw_progress.specs.StampData as spec;
 ghost use Rattle.fw_progress.specs.Trace.{AreTraces, HaveLists, IsTraceOf, IsTraceWithin};
 
@@ -217,7 +217,7 @@ fn push_sent_at(
     stamp: &Stamp,
 ) -> Result<(), AllocError>
     ensures { OnOk result (messages.new.items
-        ≡ messages.old.items ++ spec.message_of edge stamp.now (sends_at flow.now node stamp.now)) }
+        ≡ messages.old.items ++ spec.message_of edge stamp.now (sent_stamp_at flow.now node stamp.now)) }
 {
     if let Some(at) = sends_at(flow, node, stamp) {
         messages.push(message(edge, at, stamp))?;

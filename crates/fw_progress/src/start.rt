@@ -7,7 +7,7 @@ ghost use Rattle.fw_frontier.specs.Front.{IsCanonical};
 ghost use Rattle.fw_flow.specs.Dataflow.{bounds_of, node_frontier, node_ids};
 ghost use Rattle.fw_model.specs.Machine.{no_stamps, family_of, AreCanonical};
 ghost use Rattle.fw_progress.specs.Counts.{is_in, AreCounts, AreNodes};
-ghost use Rattle.fw_progress.specs.Start.{AreLargest, AreOfNothing, IsLowered, IsShrunk};
+ghost use Rattle.fw_progress.specs.Start.{AreLargest, AreOfNothing, HasFallen, IsShrunk};
 
 use crate::counts::Counts;
 use crate::tally::Tally;
@@ -146,7 +146,7 @@ fn lower(
     requires counts { AreCounts flow.now counts.now }
     requires one_each { length fronts.old.items ≡ length flow.now.nodes }
     requires canonical { AreCanonical flow.now fronts.old.items }
-    ensures { IfOk result (λ u. IsLowered flow.now counts.now node fronts.old.items fronts.new.items work.old work.new) }
+    ensures { IfOk result (λ u. HasFallen flow.now counts.now node fronts.old.items fronts.new.items work.old work.new) }
 {
     let front = target(alloc, flow, counts, fronts, node)?;
     if lies_within(flow, fronts, node, &front) {

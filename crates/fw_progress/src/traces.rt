@@ -10,7 +10,7 @@ ghost use Rattle.fw_progress.specs.Progress.{ChangesAt};
 ghost use Rattle.fw_progress.specs.SentTally.{CountsMore, IsCountedInAll, IsTallyCutTo};
 ghost use Rattle.fw_progress.specs.Trace as spec;
 ghost use Rattle.fw_progress.specs.Trace.{AreTraces, IsTraceOf, TracesFollow, AreSettledTo, AreThinnedAt, AreCutTo, no_tally, SentMore, CountedMore};
-ghost use Rattle.fw_progress.specs.Traces.{StandForOneMore, IsThinnedBy, IsCutTo, ChangesInto};
+ghost use Rattle.fw_progress.specs.Traces.{StandForOneMore, IsThinnedBy, StandsInside, ChangesInto};
 
 use crate::kept_stamps::KeptStamps;
 use crate::sent_tally::SentTally;
@@ -337,7 +337,7 @@ fn settle_tally(tallies: &mut Vec<SentTally>, place: usize, base: &Front) -> Res
 /// One of the lists is cut to a frontier.
 fn cut_at(lists: &mut Vec<KeptStamps>, place: usize, f: &Front)
     requires { place < length lists.old.items }
-    ensures { ChangesAt place [] (IsCutTo f.now) lists.old.items lists.new.items }
+    ensures { ChangesAt place [] (StandsInside f.now) lists.old.items lists.new.items }
 {
     let kept = &mut lists[place];
     kept.keep_inside(f);
@@ -346,7 +346,7 @@ fn cut_at(lists: &mut Vec<KeptStamps>, place: usize, f: &Front)
 /// The same of the list of an edge.
 fn cut_on(lists: &mut Vec<KeptStamps>, edge: EdgeId, f: &Front)
     requires { edge < length lists.old.items }
-    ensures { ChangesAt edge [] (IsCutTo f.now) lists.old.items lists.new.items }
+    ensures { ChangesAt edge [] (StandsInside f.now) lists.old.items lists.new.items }
 {
     cut_at(lists, edge.place() as usize, f);
 }
@@ -354,7 +354,7 @@ fn cut_on(lists: &mut Vec<KeptStamps>, edge: EdgeId, f: &Front)
 /// The same of each in-edge of a node.
 fn cut_into(flow: &Flow, lists: &mut Vec<KeptStamps>, node: NodeId, f: &Front)
     requires { length lists.old.items ≡ length flow.now.edges }
-    ensures { ChangesInto flow.now node (IsCutTo f.now) lists.old.items lists.new.items }
+    ensures { ChangesInto flow.now node (StandsInside f.now) lists.old.items lists.new.items }
 {
     let edges = flow.in_edges(node);
     for edge in edges {

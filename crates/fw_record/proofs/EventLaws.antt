@@ -7,10 +7,10 @@ use Rattle.fw_time.specs.Stamp.{Stamp}
 use Rattle.fw_bag.specs.declared.rec.Rec.{Rec}
 use Rattle.fw_record.specs.declared.record.Event.{Event}
 use Rattle.fw_record.specs.declared.record.Event.TheVariants.{Deliver, Notify}
-use Rattle.fw_record.specs.Fields.{byte_of, number_of, stamp_of}
+use Rattle.fw_record.specs.Fields.{byte_of, number_field, stamp_field}
 use Rattle.fw_record.specs.Spelling.{u32_bytes, u64_bytes, stamp_bytes, rec_bytes, delivery_bytes, event_bytes}
 use Rattle.fw_record.specs.Sound.{IsStamp, IsRec, IsEvent}
-use Rattle.fw_record.specs.Reading.{◌>>=◌, kept_if, any, is_event_byte, key_and_value_of, delivery_of, notice_of, event_of}
+use Rattle.fw_record.specs.Reading.{◌>>=◌, kept_if, any, is_event_byte, key_and_value_of, delivery_of, read_notice, read_event}
 use Rattle.fw_record.proofs.FieldLaws.{IsBytes, IsBytes-rest, Takes, some_is}
 use Rattle.fw_record.proofs.PartLaws.{IsWhole, bind_ok, ok_is, kept, step, starts}
 use Rattle.fw_record.proofs.ListLaws.{any32, any64, any_stamps}
@@ -20,7 +20,7 @@ use Rattle.fw_record.proofs.ListLaws.{any32, any64, any_stamps}
 pub key_value_takes : (bytes : List ℕ) (x : Rec × List ℕ) → IsBytes bytes → key_and_value_of bytes ≡ Ok x → Takes bytes (rec_bytes x.0) x.1 × IsRec x.0
 unfolding key_and_value_of
 key_value_takes bytes x fits e =
-    step any64 bytes ([]) bytes (λ v0. (any v0.1 (number_of w64 v0.1) >>= λ v1. Ok (record { key = v0.0; value = v1.0 }, v1.1))) x (Takes bytes (rec_bytes x.0) x.1 × IsRec x.0) (starts bytes fits) e (λ s0 f0 t0 e0.
+    step any64 bytes ([]) bytes (λ v0. (any v0.1 (number_field w64 v0.1) >>= λ v1. Ok (record { key = v0.0; value = v1.0 }, v1.1))) x (Takes bytes (rec_bytes x.0) x.1 × IsRec x.0) (starts bytes fits) e (λ s0 f0 t0 e0.
     step any64 bytes (u64_bytes s0.0) s0.1 (λ v1. Ok (record { key = s0.0; value = v1.0 }, v1.1)) x (Takes bytes (rec_bytes x.0) x.1 × IsRec x.0) t0 e0 (λ s1 f1 t1 e1.
     subst (λ (y : Rec × List ℕ). Takes bytes (rec_bytes y.0) y.1 × IsRec y.0) (ok_is (record { key = s0.0; value = s1.0 }, s1.1) x e1) (t1, record { key = f0; value = f1 })))
 
@@ -38,13 +38,13 @@ key_values = record { takes = key_value_takes; again = key_value_again }
 pub delivery_takes : (bytes : List ℕ) (x : Event × List ℕ) → IsBytes bytes → delivery_of bytes ≡ Ok x → Takes (1 ∷ bytes) (event_bytes x.0) x.1 × IsEvent x.0
 unfolding delivery_of
 delivery_takes bytes x fits e =
-    step any32 (1 ∷ bytes) (1 ∷ []) bytes (λ v0. (any v0.1 (stamp_of v0.1) >>= λ v1. (key_and_value_of v1.1 >>= λ v2. Ok (Deliver v0.0 v1.0 v2.0, v2.1)))) x (Takes (1 ∷ bytes) (event_bytes x.0) x.1 × IsEvent x.0) (record { parts = refl; rest_fits = fits }) e (λ s0 f0 t0 e0.
+    step any32 (1 ∷ bytes) (1 ∷ []) bytes (λ v0. (any v0.1 (stamp_field v0.1) >>= λ v1. (key_and_value_of v1.1 >>= λ v2. Ok (Deliver v0.0 v1.0 v2.0, v2.1)))) x (Takes (1 ∷ bytes) (event_bytes x.0) x.1 × IsEvent x.0) (record { parts = refl; rest_fits = fits }) e (λ s0 f0 t0 e0.
     step any_stamps (1 ∷ bytes) (1 ∷ u32_bytes s0.0) s0.1 (λ v1. (key_and_value_of v1.1 >>= λ v2. Ok (Deliver s0.0 v1.0 v2.0, v2.1))) x (Takes (1 ∷ bytes) (event_bytes x.0) x.1 × IsEvent x.0) t0 e0 (λ s1 f1 t1 e1.
     step key_values (1 ∷ bytes) (1 ∷ (u32_bytes s0.0 ++ stamp_bytes s1.0)) s1.1 (λ v2. Ok (Deliver s0.0 s1.0 v2.0, v2.1)) x (Takes (1 ∷ bytes) (event_bytes x.0) x.1 × IsEvent x.0) t1 e1 (λ s2 f2 t2 e2.
     subst (λ (y : Event × List ℕ). Takes (1 ∷ bytes) (event_bytes y.0) y.1 × IsEvent y.0) (ok_is (Deliver s0.0 s1.0 s2.0, s2.1) x e2) (t2, (f0, f1, f2)))))
 
-pub notice_takes : (bytes : List ℕ) (x : Event × List ℕ) → IsBytes bytes → notice_of bytes ≡ Ok x → Takes (2 ∷ bytes) (event_bytes x.0) x.1 × IsEvent x.0
-unfolding notice_of
+pub notice_takes : (bytes : List ℕ) (x : Event × List ℕ) → IsBytes bytes → read_notice bytes ≡ Ok x → Takes (2 ∷ bytes) (event_bytes x.0) x.1 × IsEvent x.0
+unfolding read_notice
 notice_takes bytes x fits e =
     step any_stamps (2 ∷ bytes) (2 ∷ []) bytes (λ v0. Ok (Notify v0.0, v0.1)) x (Takes (2 ∷ bytes) (event_bytes x.0) x.1 × IsEvent x.0) (record { parts = refl; rest_fits = fits }) e (λ s0 f0 t0 e0.
     subst (λ (y : Event × List ℕ). Takes (2 ∷ bytes) (event_bytes y.0) y.1 × IsEvent y.0) (ok_is (Notify s0.0, s0.1) x e0) (t0, f0))
@@ -55,8 +55,8 @@ delivery_again edge at rec rest a b c =
     ap delivery_of (append_assoc (u32_bytes edge ++ stamp_bytes at) (rec_bytes rec) rest ∙ append_assoc (u32_bytes edge) (stamp_bytes at) (rec_bytes rec ++ rest))
     ∙ rw (any32.again edge (stamp_bytes at ++ (rec_bytes rec ++ rest)) a, any_stamps.again at (rec_bytes rec ++ rest) b, key_values.again rec rest c) refl
 
-pub notice_again : (at : Stamp) (rest : List ℕ) → IsStamp at → notice_of (stamp_bytes at ++ rest) ≡ Ok (Notify at, rest)
-unfolding notice_of
+pub notice_again : (at : Stamp) (rest : List ℕ) → IsStamp at → read_notice (stamp_bytes at ++ rest) ≡ Ok (Notify at, rest)
+unfolding read_notice
 notice_again at rest a = rw (any_stamps.again at rest a) refl
 
 pub chosen : {A : Type 0} (b : Bool) (p q r : A) → cond b p q ≡ r → ((b ≡ true) × (p ≡ r)) ⊎ ((b ≡ false) × (q ≡ r))
@@ -71,13 +71,13 @@ pub byte_takes : (bytes : List ℕ) (x : ℕ × List ℕ) → IsBytes bytes → 
 byte_takes [] x fits e = absurd cc
 byte_takes (b ∷ bytes) x fits e = subst (λ (y : ℕ × List ℕ). (b ∷ bytes ≡ y.0 ∷ y.1) × IsBytes y.1) (some_is (b, bytes) x e) (refl, IsBytes-rest b bytes fits)
 
-pub event_takes : (bytes : List ℕ) (x : Event × List ℕ) → IsBytes bytes → event_of bytes ≡ Ok x → Takes bytes (event_bytes x.0) x.1 × IsEvent x.0
-unfolding event_of
+pub event_takes : (bytes : List ℕ) (x : Event × List ℕ) → IsBytes bytes → read_event bytes ≡ Ok x → Takes bytes (event_bytes x.0) x.1 × IsEvent x.0
+unfolding read_event
 event_takes bytes x fits e =
-    let s = bind_ok (kept_if is_event_byte bytes (byte_of bytes)) (λ byte. cond (eqb byte.0 1) (delivery_of byte.1) (notice_of byte.1)) x e in
+    let s = bind_ok (kept_if is_event_byte bytes (byte_of bytes)) (λ byte. cond (eqb byte.0 1) (delivery_of byte.1) (read_notice byte.1)) x e in
     let k = kept is_event_byte bytes (byte_of bytes) s.0 s.1 in
     let t = byte_takes bytes s.0 fits k.0 in
-    elim (chosen (eqb s.0.0 1) (delivery_of s.0.1) (notice_of s.0.1) (Ok x) s.2) [
+    elim (chosen (eqb s.0.0 1) (delivery_of s.0.1) (read_notice s.0.1) (Ok x) s.2) [
       | inl p ↦
           let d = delivery_takes s.0.1 x t.1 p.1 in
           (record { parts = t.0 ∙ ap (λ (n : ℕ). n ∷ s.0.1) (eqb-true s.0.0 1 p.0) ∙ d.0.parts; rest_fits = d.0.rest_fits }, d.1)
@@ -87,10 +87,10 @@ event_takes bytes x fits e =
           (record { parts = t.0 ∙ ap (λ (n : ℕ). n ∷ s.0.1) (eqb-true s.0.0 2 two) ∙ d.0.parts; rest_fits = d.0.rest_fits }, d.1)
     ]
 
-pub event_again : (v : Event) (rest : List ℕ) → IsEvent v → event_of (event_bytes v ++ rest) ≡ Ok (v, rest)
-unfolding event_of
+pub event_again : (v : Event) (rest : List ℕ) → IsEvent v → read_event (event_bytes v ++ rest) ≡ Ok (v, rest)
+unfolding read_event
 event_again (Deliver edge at rec) rest sound = delivery_again edge at rec rest sound.0 sound.1 sound.2
 event_again (Notify at) rest sound = notice_again at rest sound
 
-pub events : IsWhole event_of event_bytes IsEvent
+pub events : IsWhole read_event event_bytes IsEvent
 events = record { takes = event_takes; again = event_again }

@@ -11,9 +11,9 @@ use Rattle.fw_time.specs.Stamp.{Stamp}
 use Rattle.fw_bag.specs.declared.rec.Rec.{Rec}
 use Rattle.fw_frontier.specs.declared.state.SentCount.{SentCount}
 use Rattle.fw_record.specs.declared.logged.Logged.{Logged}
-use Rattle.fw_record.specs.Fields.{Field, ◌>>=◌, number_of, coords_of, stamp_of, rec_of, sent_count_of, logged_of}
+use Rattle.fw_record.specs.Fields.{Field, ◌>>=◌, number_field, coords_of, stamp_field, rec_of, sent_count_of, logged_of}
 use Rattle.fw_record.specs.Spelling.{u32_bytes, u64_bytes, stamp_bytes, rec_bytes, sent_count_bytes, logged_bytes}
-use Rattle.fw_record.specs.Sound.{IsStamp, IsOneStamp, IsRec, IsSentCount, IsLogged}
+use Rattle.fw_record.specs.Sound.{IsStamp, IsOneStamp, IsRec, IsSentCount, IsLoggedMessage}
 
 abbrev pub IsBytes : List ℕ → Type 0
 IsBytes bytes = (i : ℕ) → get_or bytes i 0 < 256
@@ -91,7 +91,7 @@ wide64 = record {
   below = λ bytes fits. omega (arith, fits 0, fits 1, fits 2, fits 3, fits 4, fits 5, fits 6, fits 7);
 }
 
-pub number_takes : (w : Width) (limit : ℕ) (wide : IsWide w limit) (bytes : List ℕ) (x : ℕ × List ℕ) → IsBytes bytes → number_of w bytes ≡ Some x → Takes bytes (to_be_bytes w x.0) x.1 × (x.0 < limit)
+pub number_takes : (w : Width) (limit : ℕ) (wide : IsWide w limit) (bytes : List ℕ) (x : ℕ × List ℕ) → IsBytes bytes → number_field w bytes ≡ Some x → Takes bytes (to_be_bytes w x.0) x.1 × (x.0 < limit)
 number_takes w limit wide bytes x fits e =
     let n = x.0 in
     let rest = x.1 in
@@ -102,7 +102,7 @@ number_takes w limit wide bytes x fits e =
     let front : to_be_bytes w x.0 ≡ take (byte_len w) bytes = rw (← n-is) (wide.back (take (byte_len w) bytes) (omega (arith, length-take (byte_len w) bytes)) (IsBytes-take (byte_len w) bytes fits)) in
     (record { parts = rw (front, ← rest-is) (sym (take-append-drop (byte_len w) bytes)); rest_fits = rw (← rest-is) (IsBytes-drop (byte_len w) bytes fits) }, rw (← n-is) (wide.below (take (byte_len w) bytes) (IsBytes-take (byte_len w) bytes fits)))
 
-pub number_again : (w : Width) (limit : ℕ) (wide : IsWide w limit) (n : ℕ) (rest : List ℕ) → n < limit → number_of w (to_be_bytes w n ++ rest) ≡ Some (n, rest)
+pub number_again : (w : Width) (limit : ℕ) (wide : IsWide w limit) (n : ℕ) (rest : List ℕ) → n < limit → number_field w (to_be_bytes w n ++ rest) ≡ Some (n, rest)
 number_again w limit wide n rest lt =
     let len = wide.len n in
     let long : ltb (length (to_be_bytes w n ++ rest)) (byte_len w) ≡ false = le-ltb _ _ (omega (arith, length-append (to_be_bytes w n) rest)) in
@@ -113,10 +113,10 @@ pub record IsForm {A : Type 0} (read : List ℕ → Field A) (text : A → List 
   pub takes : (bytes : List ℕ) (x : A × List ℕ) → IsBytes bytes → read bytes ≡ Some x → Takes bytes (text x.0) x.1 × Fits x.0
   pub again : (a : A) (rest : List ℕ) → Fits a → read (text a ++ rest) ≡ Some (a, rest)
 
-pub form32 : IsForm (number_of w32) u32_bytes (λ n. n < 2 ^ 32)
+pub form32 : IsForm (number_field w32) u32_bytes (λ n. n < 2 ^ 32)
 form32 = record { takes = number_takes w32 (2 ^ 32) wide32; again = number_again w32 (2 ^ 32) wide32 }
 
-pub form64 : IsForm (number_of w64) u64_bytes (λ n. n < 2 ^ 64)
+pub form64 : IsForm (number_field w64) u64_bytes (λ n. n < 2 ^ 64)
 form64 = record { takes = number_takes w64 (2 ^ 64) wide64; again = number_again w64 (2 ^ 64) wide64 }
 
 -- ---- coordinates
@@ -133,7 +133,7 @@ coords_take zero before bytes x fits e =
     let b : bytes ≡ x.1 = ap (λ (p : Stamp × List ℕ). p.1) same in
     ([], sym a ∙ sym (append-nil before), refl, record { parts = b; rest_fits = rw (← b) fits }, tt)
 coords_take (suc n) before bytes x fits e =
-    let c = bind_some (number_of w32 bytes) (λ c. coords_of n (before ++ c.0 ∷ []) c.1) x e in
+    let c = bind_some (number_field w32 bytes) (λ c. coords_of n (before ++ c.0 ∷ []) c.1) x e in
     let t = form32.takes bytes c.0 fits c.1 in
     let r = coords_take n (before ++ c.0.0 ∷ []) c.0.1 x t.0.rest_fits c.2 in
     let both = Takes-then bytes (u32_bytes c.0.0) c.0.1 (flat_map u32_bytes r.0) x.1 t.0 r.3 in
@@ -149,8 +149,8 @@ coords_again (c ∷ s) before rest fits =
 
 -- ---- stamps
 
-stamp_takes : (bytes : List ℕ) (x : Stamp × List ℕ) → IsBytes bytes → stamp_of bytes ≡ Some x → Takes bytes (stamp_bytes x.0) x.1 × IsStamp x.0
-unfolding stamp_of
+stamp_takes : (bytes : List ℕ) (x : Stamp × List ℕ) → IsBytes bytes → stamp_field bytes ≡ Some x → Takes bytes (stamp_bytes x.0) x.1 × IsStamp x.0
+unfolding stamp_field
 stamp_takes [] x fits e = absurd cc
 stamp_takes (n ∷ bytes) x fits e =
     let g = guard_some (nat_lt 0 n && nat_lt n 5) (coords_of n [] bytes) x e in
@@ -162,11 +162,11 @@ stamp_takes (n ∷ bytes) x fits e =
     let few : length x.0 < 5 = omega (arith, ltb-true _ _ two.1, len) in
     (record { parts = rw (len, same) (ap (λ (t : List ℕ). n ∷ t) r.3.parts); rest_fits = r.3.rest_fits }, record { some = some; few = few; fit = rw same r.4 })
 
-stamp_again : (s : Stamp) (rest : List ℕ) → IsStamp s → stamp_of (stamp_bytes s ++ rest) ≡ Some (s, rest)
-unfolding stamp_of
+stamp_again : (s : Stamp) (rest : List ℕ) → IsStamp s → stamp_field (stamp_bytes s ++ rest) ≡ Some (s, rest)
+unfolding stamp_field
 stamp_again s rest fits = rw (lt-ltb 0 (length s) fits.some, lt-ltb (length s) 5 fits.few) (coords_again s [] rest fits.fit)
 
-pub stamps : IsForm stamp_of stamp_bytes IsStamp
+pub stamps : IsForm stamp_field stamp_bytes IsStamp
 stamps = record { takes = stamp_takes; again = stamp_again }
 
 -- ---- recs, counts and logged messages
@@ -214,12 +214,12 @@ counts = record { takes = count_takes; again = count_again }
 one_stamp : (s : Stamp) → flat_map stamp_bytes (s ∷ []) ≡ stamp_bytes s
 one_stamp s = flat_map-cons stamp_bytes s [] ∙ append-nil (stamp_bytes s)
 
-logged_takes : (bytes : List ℕ) (x : Logged × List ℕ) → IsBytes bytes → logged_of bytes ≡ Some x → Takes bytes (logged_bytes x.0) x.1 × IsLogged x.0
+logged_takes : (bytes : List ℕ) (x : Logged × List ℕ) → IsBytes bytes → logged_of bytes ≡ Some x → Takes bytes (logged_bytes x.0) x.1 × IsLoggedMessage x.0
 unfolding logged_of logged_bytes
 logged_takes bytes x fits e =
-    let a = bind_some (number_of w32 bytes) (λ edge. stamp_of edge.1 >>= λ at. stamp_of at.1 >>= λ cause. rec_of cause.1 >>= λ rec. Some (record { edge = edge.0; message = record { at = at.0; rec = rec.0; causes = cause.0 ∷ [] } }, rec.1)) x e in
-    let b = bind_some (stamp_of a.0.1) (λ at. stamp_of at.1 >>= λ cause. rec_of cause.1 >>= λ rec. Some (record { edge = a.0.0; message = record { at = at.0; rec = rec.0; causes = cause.0 ∷ [] } }, rec.1)) x a.2 in
-    let c = bind_some (stamp_of b.0.1) (λ cause. rec_of cause.1 >>= λ rec. Some (record { edge = a.0.0; message = record { at = b.0.0; rec = rec.0; causes = cause.0 ∷ [] } }, rec.1)) x b.2 in
+    let a = bind_some (number_field w32 bytes) (λ edge. stamp_field edge.1 >>= λ at. stamp_field at.1 >>= λ cause. rec_of cause.1 >>= λ rec. Some (record { edge = edge.0; message = record { at = at.0; rec = rec.0; causes = cause.0 ∷ [] } }, rec.1)) x e in
+    let b = bind_some (stamp_field a.0.1) (λ at. stamp_field at.1 >>= λ cause. rec_of cause.1 >>= λ rec. Some (record { edge = a.0.0; message = record { at = at.0; rec = rec.0; causes = cause.0 ∷ [] } }, rec.1)) x a.2 in
+    let c = bind_some (stamp_field b.0.1) (λ cause. rec_of cause.1 >>= λ rec. Some (record { edge = a.0.0; message = record { at = b.0.0; rec = rec.0; causes = cause.0 ∷ [] } }, rec.1)) x b.2 in
     let d = bind_some (rec_of c.0.1) (λ rec. Some (record { edge = a.0.0; message = record { at = b.0.0; rec = rec.0; causes = c.0.0 ∷ [] } }, rec.1)) x c.2 in
     let t0 = form32.takes bytes a.0 fits a.1 in
     let t1 = stamps.takes a.0.1 b.0 t0.0.rest_fits b.1 in
@@ -230,9 +230,9 @@ logged_takes bytes x fits e =
     let e03 = Takes-then bytes (u32_bytes a.0.0 ++ stamp_bytes b.0.0 ++ stamp_bytes c.0.0) c.0.1 (rec_bytes d.0.0) d.0.1 e02 t3.0 in
     let spelled = subst (λ (t : List ℕ). Takes bytes (u32_bytes a.0.0 ++ stamp_bytes b.0.0 ++ t ++ rec_bytes d.0.0) d.0.1) (sym (one_stamp c.0.0)) e03 in
     let made : Logged × List ℕ = (record { edge = a.0.0; message = record { at = b.0.0; rec = d.0.0; causes = c.0.0 ∷ [] } }, d.0.1) in
-    subst (λ (y : Logged × List ℕ). Takes bytes (logged_bytes y.0) y.1 × IsLogged y.0) (some_is made x d.2) (spelled, record { edge = t0.1; at = t1.1; causes = t2.1; rec = t3.1 })
+    subst (λ (y : Logged × List ℕ). Takes bytes (logged_bytes y.0) y.1 × IsLoggedMessage y.0) (some_is made x d.2) (spelled, record { edge = t0.1; at = t1.1; causes = t2.1; rec = t3.1 })
 
-logged_again : (m : Logged) (rest : List ℕ) → IsLogged m → logged_of (logged_bytes m ++ rest) ≡ Some (m, rest)
+logged_again : (m : Logged) (rest : List ℕ) → IsLoggedMessage m → logged_of (logged_bytes m ++ rest) ≡ Some (m, rest)
 unfolding logged_of logged_bytes
 logged_again m rest fits = with_causes m.edge m.message.at m.message.rec m.message.causes rest fits.edge fits.at fits.rec fits.causes
   where
@@ -249,5 +249,5 @@ logged_again m rest fits = with_causes m.edge m.message.at m.message.rec m.messa
         ∙ ap logged_of regrouped
         ∙ rw (form32.again edge (stamp_bytes at ++ (stamp_bytes s ++ (rec_bytes rec ++ rest))) a, stamps.again at (stamp_bytes s ++ (rec_bytes rec ++ rest)) b, stamps.again s (rec_bytes rec ++ rest) one, recs.again rec rest c) refl
 
-pub logged : IsForm logged_of logged_bytes IsLogged
+pub logged : IsForm logged_of logged_bytes IsLoggedMessage
 logged = record { takes = logged_takes; again = logged_again }

@@ -15,8 +15,8 @@ use Rattle.fw_frontier.proofs.CanonicalLaws.{in_domain-canonical}
 use Rattle.fw_flow.specs.declared.choice.OfEdge.{OfEdge}
 use Rattle.fw_flow.specs.Dataflow.{Dataflow, in_edges, out_edges, receiver, bounds_of}
 use Rattle.fw_record.specs.declared.record.Checkpoint.{Checkpoint}
-use Rattle.fw_record.specs.OfNode.{IsOnOneOf, IsCheckpointOf, IsCanonicalOnEdge, HasCanonicalFronts}
-use Rattle.fw_record.specs.Sound.{stands_before, may_follow_stamps, each_may_follow, IsStamp, IsFront, IsOfEdge, IsCheckpoint}
+use Rattle.fw_record.specs.OfNode.{IsOnOneOf, IsCheckpointRecordOf, IsCanonicalOnEdge, HasCanonicalFronts}
+use Rattle.fw_record.specs.Sound.{stands_before, may_follow_stamps, each_may_follow, IsStamp, IsFront, IsEdgeFront, IsCheckpoint}
 
 -- each stamp may stand before each later one
 abbrev StandInOrder : Front → Type 0
@@ -134,13 +134,13 @@ sound_of_canonical bounds f greatest few canonical =
 
 -- ---- the fronts of a checkpoint of a node
 
-on_edges : (flow : Dataflow) (edges : List ℕ) (es : List OfEdge) → AllByRecursion (IsOnOneOf flow edges) es → AllByRecursion IsOfEdge es
+on_edges : (flow : Dataflow) (edges : List ℕ) (es : List OfEdge) → AllByRecursion (IsOnOneOf flow edges) es → AllByRecursion IsEdgeFront es
     → AllByRecursion (IsCanonicalOnEdge flow) es
 on_edges flow edges [] of_node sound = tt
 on_edges flow edges (e ∷ es) of_node sound =
     (canonical_of_sound (bounds_of flow (receiver flow e.edge)) e.front of_node.0.stamps sound.0.front, on_edges flow edges es of_node.1 sound.1)
 
-pub fronts_canonical : (flow : Dataflow) (p : ℕ) (f : Front) (c : Checkpoint) → IsCheckpoint c → IsCheckpointOf flow p f c
+pub fronts_canonical : (flow : Dataflow) (p : ℕ) (f : Front) (c : Checkpoint) → IsCheckpoint c → IsCheckpointRecordOf flow p f c
     → HasCanonicalFronts flow p c.recorded
 fronts_canonical flow p f c sound of_node = record {
   notified = canonical_of_sound (bounds_of flow p) c.recorded.notified of_node.recorded.notified sound.notified;

@@ -8,10 +8,10 @@ use Rattle.fw_record.specs.declared.record.Checkpoint.{Checkpoint}
 use Rattle.fw_record.specs.declared.record.Event.{Event}
 use Rattle.fw_record.specs.declared.record.Record.{Record}
 use Rattle.fw_record.specs.declared.record.Record.TheVariants as tagged
-use Rattle.fw_record.specs.Fields.{byte_of, number_of}
+use Rattle.fw_record.specs.Fields.{byte_of, number_field}
 use Rattle.fw_record.specs.Spelling.{u32_bytes, head_bytes, checkpoint_bytes, event_bytes, spelling}
 use Rattle.fw_record.specs.Sound.{IsCheckpoint, IsEvent, IsSound}
-use Rattle.fw_record.specs.Reading.{◌>>=◌, kept_if, is_tag, event_of, event_record_of, state_record_of, tag_of, record_of, whole_of}
+use Rattle.fw_record.specs.Reading.{◌>>=◌, kept_if, is_tag, read_event, event_record_of, state_record_of, tag_of, read_whole_record, whole_of}
 use Rattle.fw_record.proofs.FieldLaws.{IsBytes, Takes, wide16, number_takes, number_again}
 use Rattle.fw_record.proofs.PartLaws.{bind_ok, ok, ok_is, guard_ok, kept, step}
 use Rattle.fw_record.proofs.ListLaws.{any32}
@@ -23,7 +23,7 @@ use Rattle.fw_record.proofs.EventLaws.{events, chosen, second, byte_takes}
 event_record_takes : (bytes : List ℕ) (x : Record × List ℕ) → IsBytes bytes → event_record_of bytes ≡ Ok x → Takes (head_bytes 2 ++ bytes) (spelling x.0) x.1 × IsSound x.0
 unfolding event_record_of
 event_record_takes bytes x fits e =
-    step any32 (head_bytes 2 ++ bytes) (head_bytes 2) bytes (λ v0. (event_of v0.1 >>= λ v1. Ok (tagged.Event v0.0 v1.0, v1.1))) x (Takes (head_bytes 2 ++ bytes) (spelling x.0) x.1 × IsSound x.0) (record { parts = refl; rest_fits = fits }) e (λ s0 f0 t0 e0.
+    step any32 (head_bytes 2 ++ bytes) (head_bytes 2) bytes (λ v0. (read_event v0.1 >>= λ v1. Ok (tagged.Event v0.0 v1.0, v1.1))) x (Takes (head_bytes 2 ++ bytes) (spelling x.0) x.1 × IsSound x.0) (record { parts = refl; rest_fits = fits }) e (λ s0 f0 t0 e0.
     step events (head_bytes 2 ++ bytes) (head_bytes 2 ++ u32_bytes s0.0) s0.1 (λ v1. Ok (tagged.Event s0.0 v1.0, v1.1)) x (Takes (head_bytes 2 ++ bytes) (spelling x.0) x.1 × IsSound x.0) t0 e0 (λ s1 f1 t1 e1.
     subst (λ (y : Record × List ℕ). Takes (head_bytes 2 ++ bytes) (spelling y.0) y.1 × IsSound y.0) (ok_is (tagged.Event s0.0 s1.0, s1.1) x e1) (t1, (f0, f1))))
 
@@ -41,8 +41,8 @@ record IsHead (bytes : List ℕ) (tag : ℕ) (rest : List ℕ) : Type 0 where
 tag_takes : (bytes : List ℕ) (x : ℕ × List ℕ) → IsBytes bytes → tag_of bytes ≡ Ok x → IsHead bytes x.0 x.1
 unfolding tag_of
 tag_takes bytes x fits e =
-    let a = bind_ok (kept_if (λ m. m == 18007) bytes (number_of w16 bytes)) (λ magic. kept_if (λ v. v == 1) magic.1 (byte_of magic.1) >>= λ version. kept_if (is_tag version.0) version.1 (byte_of version.1)) x e in
-    let ka = kept (λ m. m == 18007) bytes (number_of w16 bytes) a.0 a.1 in
+    let a = bind_ok (kept_if (λ m. m == 18007) bytes (number_field w16 bytes)) (λ magic. kept_if (λ v. v == 1) magic.1 (byte_of magic.1) >>= λ version. kept_if (is_tag version.0) version.1 (byte_of version.1)) x e in
+    let ka = kept (λ m. m == 18007) bytes (number_field w16 bytes) a.0 a.1 in
     let ta = number_takes w16 (2 ^ 16) wide16 bytes a.0 fits ka.0 in
     let b = bind_ok (kept_if (λ v. v == 1) a.0.1 (byte_of a.0.1)) (λ version. kept_if (is_tag version.0) version.1 (byte_of version.1)) x a.2 in
     let kb = kept (λ v. v == 1) a.0.1 (byte_of a.0.1) b.0 b.1 in
@@ -55,8 +55,8 @@ tag_takes bytes x fits e =
     let e2 : a.0.1 ≡ 1 ∷ b.0.1 = tb.0 ∙ ap (λ (n : ℕ). n ∷ b.0.1) version in
     record { parts = e1 ∙ ap (λ (t : List ℕ). 70 ∷ 87 ∷ t) (e2 ∙ ap (λ (t : List ℕ). 1 ∷ t) tc.0); rest_fits = tc.1; allowed = (and_parts (eqb b.0.0 1) (eqb x.0 1 || eqb x.0 2) kc.1).1 }
 
-record_takes : (bytes : List ℕ) (x : Record × List ℕ) → IsBytes bytes → record_of bytes ≡ Ok x → Takes bytes (spelling x.0) x.1 × IsSound x.0
-unfolding record_of
+record_takes : (bytes : List ℕ) (x : Record × List ℕ) → IsBytes bytes → read_whole_record bytes ≡ Ok x → Takes bytes (spelling x.0) x.1 × IsSound x.0
+unfolding read_whole_record
 record_takes bytes x fits e =
     let s = bind_ok (tag_of bytes) (λ tag. cond (eqb tag.0 1) (state_record_of tag.1) (event_record_of tag.1)) x e in
     let h = tag_takes bytes s.0 fits s.1 in
@@ -82,17 +82,17 @@ event_record_again : (node : ℕ) (v : Event) (rest : List ℕ) → node < 2 ^ 3
 unfolding event_record_of
 event_record_again node v rest a b = rw (any32.again node (event_bytes v ++ rest) a, events.again v rest b) refl
 
-record_again : (r : Record) (rest : List ℕ) → IsSound r → record_of (spelling r ++ rest) ≡ Ok (r, rest)
-unfolding record_of
+record_again : (r : Record) (rest : List ℕ) → IsSound r → read_whole_record (spelling r ++ rest) ≡ Ok (r, rest)
+unfolding read_whole_record
 record_again (tagged.State c) rest sound = rw (head_again 1 (checkpoint_bytes c ++ rest) refl) (state_record_again c rest sound)
 record_again (tagged.Event node v) rest sound =
-    ap record_of (ap (λ (t : List ℕ). head_bytes 2 ++ t) (append_assoc (u32_bytes node) (event_bytes v) rest)) ∙ rw (head_again 2 (u32_bytes node ++ (event_bytes v ++ rest)) refl) (event_record_again node v rest sound.0 sound.1)
+    ap read_whole_record (ap (λ (t : List ℕ). head_bytes 2 ++ t) (append_assoc (u32_bytes node) (event_bytes v) rest)) ∙ rw (head_again 2 (u32_bytes node ++ (event_bytes v ++ rest)) refl) (event_record_again node v rest sound.0 sound.1)
 
 -- what is read as a whole is sound, and the bytes are its spelling
 pub whole_takes : (bytes : List ℕ) (r : Record) → IsBytes bytes → whole_of bytes ≡ Ok r → IsSound r × (bytes ≡ spelling r)
 unfolding whole_of
 whole_takes bytes r fits e =
-    let s = bind_ok (record_of bytes) (λ x. cond (eqb (length x.1) 0) (Ok x.0) (Err (length x.1))) r e in
+    let s = bind_ok (read_whole_record bytes) (λ x. cond (eqb (length x.1) 0) (Ok x.0) (Err (length x.1))) r e in
     let g = guard_ok (eqb (length s.0.1) 0) s.0.0 r (length s.0.1) s.2 in
     let t = record_takes bytes s.0 fits s.1 in
     let nothing : s.0.1 ≡ [] = nil_from_length s.0.1 (eqb-true _ _ g.0) in
@@ -103,7 +103,7 @@ whole_takes bytes r fits e =
 pub whole_again : (r : Record) → IsSound r → whole_of (spelling r) ≡ Ok r
 unfolding whole_of
 whole_again r sound =
-    let one : record_of (spelling r) ≡ Ok (r, []) = ap record_of (sym (append-nil (spelling r))) ∙ record_again r [] sound in
+    let one : read_whole_record (spelling r) ≡ Ok (r, []) = ap read_whole_record (sym (append-nil (spelling r))) ∙ record_again r [] sound in
     rw one refl
 
 -- what is read of bytes that spell a sound record

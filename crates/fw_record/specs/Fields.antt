@@ -21,8 +21,8 @@ byte_of [] = None
 byte_of (b ∷ rest) = Some (b, rest)
 
 -- a number of so many bytes
-abbrev pub number_of : Width → List ℕ → Field ℕ
-number_of w bytes =
+abbrev pub number_field : Width → List ℕ → Field ℕ
+number_field w bytes =
     if nat_lt (length bytes) (byte_len w) then None
     else Some (from_be_bytes w (take (byte_len w) bytes), drop (byte_len w) bytes)
 
@@ -30,34 +30,34 @@ number_of w bytes =
 unfoldable pub coords_of : ℕ → List ℕ → List ℕ → Field Stamp
 coords_of zero before bytes = Some (before, bytes)
 coords_of (suc n) before bytes = do
-  c ← number_of w32 bytes
+  c ← number_field w32 bytes
   coords_of n (before ++ c.0 ∷ []) c.1
 
 -- a stamp of one to four coordinates
-unfoldable pub stamp_of : List ℕ → Field Stamp
-stamp_of bytes = do
+unfoldable pub stamp_field : List ℕ → Field Stamp
+stamp_field bytes = do
   n ← byte_of bytes
   if nat_lt 0 n.0 && nat_lt n.0 5 then coords_of n.0 [] n.1 else None
 
 -- a key and a value
 unfoldable pub rec_of : List ℕ → Field Rec
 rec_of bytes = do
-  key ← number_of w64 bytes
-  value ← number_of w64 key.1
+  key ← number_field w64 bytes
+  value ← number_field w64 key.1
   Some (record { key = key.0; value = value.0 }, value.1)
 
 -- a stamp and a count
 unfoldable pub sent_count_of : List ℕ → Field SentCount
 sent_count_of bytes = do
-  cause ← stamp_of bytes
-  count ← number_of w64 cause.1
+  cause ← stamp_field bytes
+  count ← number_field w64 cause.1
   Some (record { cause = cause.0; count = count.0 }, count.1)
 
 -- a logged message, of one cause
 unfoldable pub logged_of : List ℕ → Field Logged
 logged_of bytes = do
-  edge ← number_of w32 bytes
-  at ← stamp_of edge.1
-  cause ← stamp_of at.1
+  edge ← number_field w32 bytes
+  at ← stamp_field edge.1
+  cause ← stamp_field at.1
   rec ← rec_of cause.1
   Some (record { edge = edge.0; message = record { at = at.0; rec = rec.0; causes = cause.0 ∷ [] } }, rec.1)

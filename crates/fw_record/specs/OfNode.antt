@@ -47,15 +47,15 @@ count_sum [] = 0
 count_sum (s ∷ ss) = s.count + count_sum ss
 
 -- A sequence counts by stamps all that it sent; other kinds count nothing so.
-abbrev pub AreCountsOf : Kind → State → Type 0
-AreCountsOf Sequence state = count_sum state.sends ≡ state.sent
-AreCountsOf kind state = state.sends ≡ []
+abbrev pub CountsFitKind : Kind → State → Type 0
+CountsFitKind Sequence state = count_sum state.sends ≡ state.sent
+CountsFitKind kind state = state.sends ≡ []
 
 -- A total and a ledger hold totals; other kinds hold none.
-abbrev pub AreEntriesOf : Kind → Entries → Type 0
-AreEntriesOf Total entries = Unit {0}
-AreEntriesOf Ledger entries = Unit {0}
-AreEntriesOf kind entries = entries ≡ Totals []
+abbrev pub TotalsFitKind : Kind → Entries → Type 0
+TotalsFitKind Total entries = Unit {0}
+TotalsFitKind Ledger entries = Unit {0}
+TotalsFitKind kind entries = entries ≡ Totals []
 
 -- A sequence and a ledger, which number what they send, sent no more messages than there are numbers.
 abbrev pub HasNumbersFor : Kind → ℕ → Type 0
@@ -64,10 +64,10 @@ HasNumbersFor Ledger sent = sent ≤ 2 ^ 32
 HasNumbersFor kind sent = Unit {0}
 
 -- The table is of node p at f: what is counted by stamps was sent by events inside, and its kind has such a table.
-pub record IsStateOf (flow : Dataflow) (p : ℕ) (f : Front) (state : State) : Type 0 where
+pub record IsTableAt (flow : Dataflow) (p : ℕ) (f : Front) (state : State) : Type 0 where
   pub causes : AllByRecursion (λ s. node_frontier flow p f s.cause ≡ true) state.sends
-  pub counts : AreCountsOf (kind_of flow p) state
-  pub entries : AreEntriesOf (kind_of flow p) state.entries
+  pub counts : CountsFitKind (kind_of flow p) state
+  pub entries : TotalsFitKind (kind_of flow p) state.entries
   pub numbers : HasNumbersFor (kind_of flow p) state.sent
 
 -- ---- the log
@@ -92,15 +92,15 @@ pub record IsLogOf (flow : Dataflow) (p : ℕ) (f : Front) (log : List Logged) :
 -- ---- records
 
 -- It is a checkpoint of node p at the frontier f: it names the node, and its parts are of the node at f.
-pub record IsCheckpointOf (flow : Dataflow) (p : ℕ) (f : Front) (c : Checkpoint) : Type 0 where
+pub record IsCheckpointRecordOf (flow : Dataflow) (p : ℕ) (f : Front) (c : Checkpoint) : Type 0 where
   pub node : c.node ≡ p
   pub recorded : IsRecordedOf flow p f c.recorded
-  pub state : IsStateOf flow p f c.state
+  pub state : IsTableAt flow p f c.state
   pub log : IsLogOf flow p f c.log
 
 -- It is the record of a checkpoint of node p at the frontier f.
 abbrev pub IsRecordOfCheckpoint : Dataflow → ℕ → Front → Record → Type 0
-IsRecordOfCheckpoint flow p f (tagged.State c) = IsCheckpointOf flow p f c
+IsRecordOfCheckpoint flow p f (tagged.State c) = IsCheckpointRecordOf flow p f c
 IsRecordOfCheckpoint flow p f (tagged.Event node event) = ⊥
 
 -- It is the record of this event of node p.

@@ -18,7 +18,7 @@ use Rattle.fw_record.specs.declared.record.Event.{Event}
 use Rattle.fw_record.specs.declared.record.Event.TheVariants.{Deliver, Notify}
 use Rattle.fw_record.specs.declared.record.Record.{Record}
 use Rattle.fw_record.specs.declared.record.Record.TheVariants as tagged
-use Rattle.fw_record.specs.Fields.{Field, byte_of, number_of, stamp_of, rec_of, sent_count_of, logged_of}
+use Rattle.fw_record.specs.Fields.{Field, byte_of, number_field, stamp_field, rec_of, sent_count_of, logged_of}
 use Rattle.fw_record.specs.Sound.{may_follow_stamps, may_follow_edges, may_follow_counts, may_follow_totals, may_follow_logged}
 
 -- a value and the bytes after it; or how many bytes are left from the first broken field on
@@ -51,7 +51,7 @@ many_of part (suc n) before bytes = do
 
 -- the next stamp of a front
 abbrev pub next_stamp_of : List Stamp → List ℕ → Reading Stamp
-next_stamp_of before bytes = kept_if (may_follow_stamps before) bytes (stamp_of bytes)
+next_stamp_of before bytes = kept_if (may_follow_stamps before) bytes (stamp_field bytes)
 
 -- the next count of what was sent
 abbrev pub next_count_of : List SentCount → List ℕ → Reading SentCount
@@ -68,60 +68,60 @@ next_logged_of before bytes = kept_if (may_follow_logged before) bytes (logged_o
 -- ---- a checkpoint
 
 -- a front: a count, and that many stamps
-unfoldable pub front_of : List ℕ → Reading Front
-front_of bytes = do
-  count ← any bytes (number_of w32 bytes)
+unfoldable pub read_front : List ℕ → Reading Front
+read_front bytes = do
+  count ← any bytes (number_field w32 bytes)
   many_of next_stamp_of count.0 [] count.1
 
 -- the next edge, and its front
 unfoldable pub of_edge_of : List OfEdge → List ℕ → Reading OfEdge
 of_edge_of before bytes = do
-  edge ← kept_if (may_follow_edges before) bytes (number_of w32 bytes)
-  front ← front_of edge.1
+  edge ← kept_if (may_follow_edges before) bytes (number_field w32 bytes)
+  front ← read_front edge.1
   Ok (record { edge = edge.0; front = front.0 }, front.1)
 
 -- a count, and that many edges with their fronts
 unfoldable pub of_edges_of : List ℕ → Reading (List OfEdge)
 of_edges_of bytes = do
-  count ← any bytes (number_of w32 bytes)
+  count ← any bytes (number_field w32 bytes)
   many_of of_edge_of count.0 [] count.1
 
 -- a count, and that many counts of what was sent
 unfoldable pub sent_counts_of : List ℕ → Reading (List SentCount)
 sent_counts_of bytes = do
-  count ← any bytes (number_of w32 bytes)
+  count ← any bytes (number_field w32 bytes)
   many_of next_count_of count.0 [] count.1
 
 -- a count, and that many totals
 unfoldable pub totals_of : List ℕ → Reading (List Rec)
 totals_of bytes = do
-  count ← any bytes (number_of w64 bytes)
+  count ← any bytes (number_field w64 bytes)
   many_of next_total_of count.0 [] count.1
 
 -- how many messages were sent, how many from where, and the totals
-unfoldable pub state_of : List ℕ → Reading State
-state_of bytes = do
-  sent ← any bytes (number_of w64 bytes)
+unfoldable pub read_state : List ℕ → Reading State
+read_state bytes = do
+  sent ← any bytes (number_field w64 bytes)
   sends ← sent_counts_of sent.1
   totals ← totals_of sends.1
   Ok (record { sent = sent.0; sends = sends.0; entries = Totals totals.0 }, totals.1)
 
 -- a count, and that many logged messages
-unfoldable pub log_of : List ℕ → Reading (List Logged)
-log_of bytes = do
-  count ← any bytes (number_of w64 bytes)
+unfoldable pub read_log : List ℕ → Reading (List Logged)
+read_log bytes = do
+  count ← any bytes (number_field w64 bytes)
   many_of next_logged_of count.0 [] count.1
 
 -- a node, the frontier, what it covers, the state and the log
-unfoldable pub checkpoint_of : List ℕ → Reading Checkpoint
-checkpoint_of bytes = do
-  node ← any bytes (number_of w32 bytes)
-  front ← front_of node.1
-  notified ← front_of front.1
+unfoldable pub read_checkpoint : List ℕ → Reading Checkpoint
+read_checkpoint bytes = do
+  node ← any bytes (number_field w32 bytes)
+  front ← read_front node.1
+  notified ← read_front front.1
   delivered ← of_edges_of notified.1
   discarded ← of_edges_of delivered.1
-  state ← state_of discarded.1
-  log ← log_of state.1
+  state ← read_state discarded.1
+  log ← read_log state.1
   Ok (
     record {
       node = node.0;
@@ -137,22 +137,22 @@ checkpoint_of bytes = do
 -- a key and a value, each a field
 unfoldable pub key_and_value_of : List ℕ → Reading Rec
 key_and_value_of bytes = do
-  key ← any bytes (number_of w64 bytes)
-  value ← any key.1 (number_of w64 key.1)
+  key ← any bytes (number_field w64 bytes)
+  value ← any key.1 (number_field w64 key.1)
   Ok (record { key = key.0; value = value.0 }, value.1)
 
 -- a delivery
 unfoldable pub delivery_of : List ℕ → Reading Event
 delivery_of bytes = do
-  edge ← any bytes (number_of w32 bytes)
-  at ← any edge.1 (stamp_of edge.1)
+  edge ← any bytes (number_field w32 bytes)
+  at ← any edge.1 (stamp_field edge.1)
   rec ← key_and_value_of at.1
   Ok (Deliver edge.0 at.0 rec.0, rec.1)
 
 -- a notification
-unfoldable pub notice_of : List ℕ → Reading Event
-notice_of bytes = do
-  at ← any bytes (stamp_of bytes)
+unfoldable pub read_notice : List ℕ → Reading Event
+read_notice bytes = do
+  at ← any bytes (stamp_field bytes)
   Ok (Notify at.0, at.1)
 
 -- whether it is the byte of a delivery, 1, or of a notification, 2
@@ -160,10 +160,10 @@ abbrev pub is_event_byte : ℕ → Bool
 is_event_byte b = b == 1 || b == 2
 
 -- an event's byte, and what it says
-unfoldable pub event_of : List ℕ → Reading Event
-event_of bytes = do
+unfoldable pub read_event : List ℕ → Reading Event
+read_event bytes = do
   byte ← kept_if is_event_byte bytes (byte_of bytes)
-  if byte.0 == 1 then delivery_of byte.1 else notice_of byte.1
+  if byte.0 == 1 then delivery_of byte.1 else read_notice byte.1
 
 -- ---- a record
 
@@ -174,46 +174,46 @@ is_tag version tag = version == 1 && (tag == 1 || tag == 2)
 -- the letters FW, a version, and a tag of that version
 unfoldable pub tag_of : List ℕ → Reading ℕ
 tag_of bytes = do
-  magic ← kept_if (λ m. m == 18007) bytes (number_of w16 bytes)
+  magic ← kept_if (λ m. m == 18007) bytes (number_field w16 bytes)
   version ← kept_if (λ v. v == 1) magic.1 (byte_of magic.1)
   kept_if (is_tag version.0) version.1 (byte_of version.1)
 
 -- a node and one of its events
 unfoldable pub event_record_of : List ℕ → Reading Record
 event_record_of bytes = do
-  node ← any bytes (number_of w32 bytes)
-  event ← event_of node.1
+  node ← any bytes (number_field w32 bytes)
+  event ← read_event node.1
   Ok (tagged.Event node.0 event.0, event.1)
 
 -- a checkpoint as a record
 unfoldable pub state_record_of : List ℕ → Reading Record
 state_record_of bytes = do
-  checkpoint ← checkpoint_of bytes
+  checkpoint ← read_checkpoint bytes
   Ok (tagged.State checkpoint.0, checkpoint.1)
 
 -- the head, and what its tag says
-unfoldable pub record_of : List ℕ → Reading Record
-record_of bytes = do
+unfoldable pub read_whole_record : List ℕ → Reading Record
+read_whole_record bytes = do
   tag ← tag_of bytes
   if tag.0 == 1 then state_record_of tag.1 else event_record_of tag.1
 
 -- a record and no byte more
 unfoldable pub whole_of : List ℕ → Result Record ℕ
 whole_of bytes = do
-  r ← record_of bytes
+  r ← read_whole_record bytes
   if length r.1 == 0 then Ok r.0 else Err (length r.1)
 
 -- ---- what the functions that read give
 
 -- memory was refused, or this is the first broken field
-abbrev pub Fails : {Y : Type 0} → ReadFault → Result Y ℕ → Type 0
-Fails (fault.Broken left) reading = reading ≡ Err left
-Fails fault.NoMemory reading = Unit {0}
+abbrev pub IsBrokenAt : {Y : Type 0} → ReadFault → Result Y ℕ → Type 0
+IsBrokenAt (fault.Broken left) reading = reading ≡ Err left
+IsBrokenAt fault.NoMemory reading = Unit {0}
 
 -- what a function returned, seen by view, is what reading gives, unless memory was refused
 abbrev pub Gives : {X Y : Type 0} → (X → Y) → Result X ReadFault → Result Y ℕ → Type 0
 Gives view (Ok x) reading = reading ≡ Ok (view x)
-Gives view (Err e) reading = Fails e reading
+Gives view (Err e) reading = IsBrokenAt e reading
 
 -- the same of a field
 abbrev pub IsField : {X Y : Type 0} → (X → Y) → Option X → Option Y → Type 0

@@ -88,13 +88,13 @@ abbrev pub IsFront : Front → Type 0
 IsFront f = IsList (2 ^ 32) IsStamp may_follow_stamps f
 
 -- an edge with a front
-pub record IsOfEdge (e : OfEdge) : Type 0 where
+pub record IsEdgeFront (e : OfEdge) : Type 0 where
   pub edge : e.edge < 2 ^ 32
   pub front : IsFront e.front
 
 -- edges with fronts, in order
 abbrev pub AreOfEdges : List OfEdge → Type 0
-AreOfEdges es = IsList (2 ^ 32) IsOfEdge (λ before e. may_follow_edges before e.edge) es
+AreOfEdges es = IsList (2 ^ 32) IsEdgeFront (λ before e. may_follow_edges before e.edge) es
 
 -- a count of what was sent from a stamp
 pub record IsSentCount (s : SentCount) : Type 0 where
@@ -126,7 +126,7 @@ IsOneStamp (s ∷ []) = IsStamp s
 IsOneStamp (s ∷ t ∷ ss) = ⊥
 
 -- a logged message
-pub record IsLogged (m : Logged) : Type 0 where
+pub record IsLoggedMessage (m : Logged) : Type 0 where
   pub edge : m.edge < 2 ^ 32
   pub at : IsStamp m.message.at
   pub causes : IsOneStamp m.message.causes
@@ -134,7 +134,7 @@ pub record IsLogged (m : Logged) : Type 0 where
 
 -- logged messages, in order
 abbrev pub IsLog : List Logged → Type 0
-IsLog ms = IsList (2 ^ 64) IsLogged may_follow_logged ms
+IsLog ms = IsList (2 ^ 64) IsLoggedMessage may_follow_logged ms
 
 -- a checkpoint
 pub record IsCheckpoint (c : Checkpoint) : Type 0 where

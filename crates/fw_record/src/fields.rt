@@ -1,6 +1,6 @@
 //! Single fields: what stands at the front of the bytes, and the bytes after it; nothing where the bytes end inside.
 ghost use Rattle.std.specs.Int.{w16, w32, w64};
-ghost use Rattle.fw_record.specs.Fields.{byte_of, number_of, stamp_of, rec_of, sent_count_of, logged_of};
+ghost use Rattle.fw_record.specs.Fields.{byte_of, number_field, stamp_field, rec_of, sent_count_of, logged_of};
 ghost use Rattle.fw_record.specs.Reading.{IsField};
 
 use crate::Logged;
@@ -21,7 +21,7 @@ pub fn byte_at(bytes: &[u8]) -> Option<(u8, &[u8])>
 
 /// A number of two bytes.
 pub fn u16_at(bytes: &[u8]) -> Option<(u16, &[u8])>
-    ensures { IsField (λ x. (x.0, x.1.now)) result (number_of w16 bytes.now) }
+    ensures { IsField (λ x. (x.0, x.1.now)) result (number_field w16 bytes.now) }
 {
     if bytes.len() < 2 {
         return None;
@@ -32,7 +32,7 @@ pub fn u16_at(bytes: &[u8]) -> Option<(u16, &[u8])>
 
 /// A number of four bytes.
 pub fn u32_at(bytes: &[u8]) -> Option<(u32, &[u8])>
-    ensures { IsField (λ x. (x.0, x.1.now)) result (number_of w32 bytes.now) }
+    ensures { IsField (λ x. (x.0, x.1.now)) result (number_field w32 bytes.now) }
 {
     if bytes.len() < 4 {
         return None;
@@ -44,7 +44,7 @@ pub fn u32_at(bytes: &[u8]) -> Option<(u32, &[u8])>
 
 /// A number of eight bytes.
 pub fn u64_at(bytes: &[u8]) -> Option<(u64, &[u8])>
-    ensures { IsField (λ x. (x.0, x.1.now)) result (number_of w64 bytes.now) }
+    ensures { IsField (λ x. (x.0, x.1.now)) result (number_field w64 bytes.now) }
 {
     if bytes.len() < 8 {
         return None;
@@ -59,7 +59,7 @@ pub fn u64_at(bytes: &[u8]) -> Option<(u64, &[u8])>
 /// A stamp of one to four coordinates.
 #[tactic(auto, unfolding(crate::specs::Fields::stamp_of, crate::specs::Fields::coords_of))]
 pub fn stamp_at(bytes: &[u8]) -> Option<(Stamp, &[u8])>
-    ensures { IsField (λ x. (x.0, x.1.now)) result (stamp_of bytes.now) }
+    ensures { IsField (λ x. (x.0, x.1.now)) result (stamp_field bytes.now) }
 {
     let (count, rest) = byte_at(bytes)?;
     match count {

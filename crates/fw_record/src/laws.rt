@@ -9,7 +9,7 @@ ghost use Rattle.fw_record.specs.declared.record.Checkpoint.{Checkpoint as Saved
 ghost use Rattle.fw_record.specs.declared.record.Record.{Record as Spelled};
 ghost use Rattle.fw_record.specs.Spelling.{spelling};
 ghost use Rattle.fw_record.specs.Sound.{IsStamp, IsFront, IsCheckpoint, IsSound};
-ghost use Rattle.fw_record.specs.OfNode.{IsCheckpointOf, HasCanonicalFronts};
+ghost use Rattle.fw_record.specs.OfNode.{IsCheckpointRecordOf, HasCanonicalFronts};
 ghost use Rattle.fw_record.specs.Reading.{whole_of};
 
 /// Reading gives a sound record exactly of its spelling, and no two sound records have one spelling.
@@ -34,6 +34,6 @@ pub fn sound_fronts_are_canonical()
 
 /// The fronts of a checkpoint that has a spelling and is one of a node are canonical in their domains.
 pub fn fronts_of_a_node_are_canonical()
-    ensures { (flow : Dataflow) (p : ℕ) (f : List (List ℕ)) (c : Saved) → IsCheckpoint c → IsCheckpointOf flow p f c
+    ensures { (flow : Dataflow) (p : ℕ) (f : List (List ℕ)) (c : Saved) → IsCheckpoint c → IsCheckpointRecordOf flow p f c
         → HasCanonicalFronts flow p c.recorded }
 {}

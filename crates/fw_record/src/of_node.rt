@@ -3,7 +3,7 @@ ghost use Rattle.std.specs.Prelude.{◌≡◌, ◌↔◌, [], true, IsTrue};
 ghost use Rattle.std.specs.List.{AllByRecursion, Contains};
 ghost use Rattle.fw_frontier.specs.declared.state.Entries.TheVariants.{Totals as Held};
 ghost use Rattle.fw_flow.specs.Dataflow.{node_frontier};
-ghost use Rattle.fw_record.specs.OfNode.{IsOnOneOf, IsRecordedOf, count_sum, AreCountsOf, AreEntriesOf, HasNumbersFor, IsStateOf, CanBeLogged, IsLogUnder, IsLogOf, IsCheckpointOf, IsRecordOfCheckpoint, IsRecordOfEvent};
+ghost use Rattle.fw_record.specs.OfNode.{IsOnOneOf, IsRecordedOf, count_sum, CountsFitKind, TotalsFitKind, HasNumbersFor, IsTableAt, CanBeLogged, IsLogUnder, IsLogOf, IsCheckpointRecordOf, IsRecordOfCheckpoint, IsRecordOfEvent};
 
 use crate::{Checkpoint, Event, Logged, Record};
 use fw_flow::{EdgeId, Flow, Kind, NodeId, OfEdge, Policy, Recorded};
@@ -21,7 +21,7 @@ impl Checkpoint {
     /// It does not ask whether the checkpoint has a spelling, as one that was read has, nor whether the node writes
     /// checkpoints, which `Flow::restoring` tells.
     pub fn is_of(&self, flow: &Flow, node: NodeId, front: &Front) -> bool
-        ensures { IsTrue result ↔ IsCheckpointOf flow.now node front.now self.now }
+        ensures { IsTrue result ↔ IsCheckpointRecordOf flow.now node front.now self.now }
     {
         self.node == node
             && is_recorded_of(flow, node, front, &self.recorded)
@@ -94,7 +94,7 @@ fn is_one_of(edges: &[EdgeId], edge: EdgeId) -> bool
 
 /// Whether the table is one of the node at the frontier.
 fn is_state_of(flow: &Flow, node: NodeId, front: &Front, state: &State) -> bool
-    ensures { IsTrue result ↔ IsStateOf flow.now node front.now state.now }
+    ensures { IsTrue result ↔ IsTableAt flow.now node front.now state.now }
 {
     are_counts_inside(flow, node, front, state.sends.as_slice())
         && can_count(flow.kind(node), state)
@@ -117,7 +117,7 @@ fn are_counts_inside(flow: &Flow, node: NodeId, front: &Front, counts: &[SentCou
 
 /// Whether a node of the kind counts so by stamps: a sequence all that it sent, another one nothing.
 fn can_count(kind: Kind, state: &State) -> bool
-    ensures { IsTrue result ↔ AreCountsOf kind state.now }
+    ensures { IsTrue result ↔ CountsFitKind kind state.now }
 {
     let counts = state.sends.as_slice();
     match kind {
@@ -142,7 +142,7 @@ fn have_sum(counts: &[SentCount], sum: u64) -> bool
 
 /// Whether a node of the kind holds such entries: a total and a ledger any, another one none.
 fn can_hold(kind: Kind, entries: &Entries) -> bool
-    ensures { IsTrue result ↔ AreEntriesOf kind entries.now }
+    ensures { IsTrue result ↔ TotalsFitKind kind entries.now }
 {
     match kind {
         Kind::Total | Kind::Ledger => true,

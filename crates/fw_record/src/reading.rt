@@ -1,8 +1,8 @@
 //! Reading records.
 ghost use Rattle.std.specs.Prelude.{◌≡◌, ◌==◌, [], IfOk};
 ghost use Rattle.std.specs.Int.{w16, w32, w64};
-ghost use Rattle.fw_record.specs.Fields.{byte_of, number_of, stamp_of};
-ghost use Rattle.fw_record.specs.Reading.{Gives, Decodes, IsOkOrNoMemory, any, kept_if, many_of, is_event_byte, is_tag, front_of, of_edge_of, of_edges_of, sent_counts_of, totals_of, state_of, log_of, checkpoint_of, key_and_value_of, delivery_of, notice_of, event_of, event_record_of, state_record_of, tag_of, record_of, whole_of};
+ghost use Rattle.fw_record.specs.Fields.{byte_of, number_field, stamp_field};
+ghost use Rattle.fw_record.specs.Reading.{Gives, Decodes, IsOkOrNoMemory, any, kept_if, many_of, is_event_byte, is_tag, read_front, of_edge_of, of_edges_of, sent_counts_of, totals_of, read_state, read_log, read_checkpoint, key_and_value_of, delivery_of, read_notice, read_event, event_record_of, state_record_of, tag_of, read_whole_record, whole_of};
 ghost use Rattle.fw_record.specs.Sound.{IsSound, may_follow_edges};
 ghost use Rattle.fw_record.specs.Spelling.{spelling};
 ghost use Rattle.fw_record.specs.declared.record.Record.{Record as Spelled};
@@ -21,7 +21,7 @@ use std::alloc::Global;
 
 /// Four bytes that may be any number.
 fn any_u32(bytes: &[u8]) -> Result<(u32, &[u8]), ReadFault>
-    ensures { Gives (λ x. (x.0, x.1.now)) result (any bytes.now (number_of w32 bytes.now)) }
+    ensures { Gives (λ x. (x.0, x.1.now)) result (any bytes.now (number_field w32 bytes.now)) }
 {
     match u32_at(bytes) {
         Some(read) => Ok(read),
@@ -31,7 +31,7 @@ fn any_u32(bytes: &[u8]) -> Result<(u32, &[u8]), ReadFault>
 
 /// Eight bytes that may be any number.
 fn any_u64(bytes: &[u8]) -> Result<(u64, &[u8]), ReadFault>
-    ensures { Gives (λ x. (x.0, x.1.now)) result (any bytes.now (number_of w64 bytes.now)) }
+    ensures { Gives (λ x. (x.0, x.1.now)) result (any bytes.now (number_field w64 bytes.now)) }
 {
     match u64_at(bytes) {
         Some(read) => Ok(read),
@@ -41,7 +41,7 @@ fn any_u64(bytes: &[u8]) -> Result<(u64, &[u8]), ReadFault>
 
 /// Any stamp.
 fn any_stamp(bytes: &[u8]) -> Result<(Stamp, &[u8]), ReadFault>
-    ensures { Gives (λ x. (x.0, x.1.now)) result (any bytes.now (stamp_of bytes.now)) }
+    ensures { Gives (λ x. (x.0, x.1.now)) result (any bytes.now (stamp_field bytes.now)) }
 {
     match stamp_at(bytes) {
         Some(read) => Ok(read),
@@ -52,7 +52,7 @@ fn any_stamp(bytes: &[u8]) -> Result<(Stamp, &[u8]), ReadFault>
 /// A front: a count, and that many stamps.
 #[tactic(auto, unfolding(crate::specs::Reading::front_of))]
 fn front_at(alloc: Global, bytes: &[u8]) -> Result<(Front, &[u8]), ReadFault>
-    ensures { Gives (λ x. (x.0, x.1.now)) result (front_of bytes.now) }
+    ensures { Gives (λ x. (x.0, x.1.now)) result (read_front bytes.now) }
 {
     let (count, rest) = any_u32(bytes)?;
     let (stamps, rest) = stamps_at(alloc, count, rest)?;
@@ -62,7 +62,7 @@ fn front_at(alloc: Global, bytes: &[u8]) -> Result<(Front, &[u8]), ReadFault>
 /// The next edge.
 fn next_edge<'a>(before: &[OfEdge], bytes: &'a [u8]) -> Result<(u32, &'a [u8]), ReadFault>
     ensures { Gives (λ x. (x.0, x.1.now)) result
-        (kept_if (may_follow_edges before.now) bytes.now (number_of w32 bytes.now)) }
+        (kept_if (may_follow_edges before.now) bytes.now (number_field w32 bytes.now)) }
 {
     match u32_at(bytes) {
         Some((edge, rest)) if follows_edges(before, edge) => Ok((edge, rest)),
@@ -132,7 +132,7 @@ fn totals_at(alloc: Global, bytes: &[u8]) -> Result<(Recs, &[u8]), ReadFault>
 /// A node's table: how many messages it sent, how many from where, and its totals.
 #[tactic(auto, unfolding(crate::specs::Reading::state_of))]
 fn state_at(alloc: Global, bytes: &[u8]) -> Result<(State, &[u8]), ReadFault>
-    ensures { Gives (λ x. (x.0, x.1.now)) result (state_of bytes.now) }
+    ensures { Gives (λ x. (x.0, x.1.now)) result (read_state bytes.now) }
 {
     let (sent, rest) = any_u64(bytes)?;
     let (sends, rest) = sent_counts_at(alloc, rest)?;
@@ -149,7 +149,7 @@ fn state_at(alloc: Global, bytes: &[u8]) -> Result<(State, &[u8]), ReadFault>
 /// A count, and that many logged messages.
 #[tactic(auto, unfolding(crate::specs::Reading::log_of))]
 fn log_at(alloc: Global, bytes: &[u8]) -> Result<(Log, &[u8]), ReadFault>
-    ensures { Gives (λ x. (x.0, x.1.now)) result (log_of bytes.now) }
+    ensures { Gives (λ x. (x.0, x.1.now)) result (read_log bytes.now) }
 {
     let (count, rest) = any_u64(bytes)?;
     let (messages, rest) = messages_at(alloc, count, rest)?;
@@ -159,7 +159,7 @@ fn log_at(alloc: Global, bytes: &[u8]) -> Result<(Log, &[u8]), ReadFault>
 /// A checkpoint: its node, the frontier, what it covers, the state and the log.
 #[tactic(auto, unfolding(crate::specs::Reading::checkpoint_of))]
 fn checkpoint_at(alloc: Global, bytes: &[u8]) -> Result<(Checkpoint, &[u8]), ReadFault>
-    ensures { Gives (λ x. (x.0, x.1.now)) result (checkpoint_of bytes.now) }
+    ensures { Gives (λ x. (x.0, x.1.now)) result (read_checkpoint bytes.now) }
 {
     let (node, rest) = any_u32(bytes)?;
     let (front, rest) = front_at(alloc, rest)?;
@@ -208,7 +208,7 @@ fn delivery_at(bytes: &[u8]) -> Result<(Event, &[u8]), ReadFault>
 /// A notification.
 #[tactic(auto, unfolding(crate::specs::Reading::notice_of))]
 fn notice_at(bytes: &[u8]) -> Result<(Event, &[u8]), ReadFault>
-    ensures { Gives (λ x. (x.0, x.1.now)) result (notice_of bytes.now) }
+    ensures { Gives (λ x. (x.0, x.1.now)) result (read_notice bytes.now) }
 {
     let (at, rest) = any_stamp(bytes)?;
     Ok((Event::Notify { at }, rest))
@@ -228,7 +228,7 @@ fn event_byte_at(bytes: &[u8]) -> Result<(u8, &[u8]), ReadFault>
 /// An event.
 #[tactic(auto, unfolding(crate::specs::Reading::event_of))]
 fn event_at(bytes: &[u8]) -> Result<(Event, &[u8]), ReadFault>
-    ensures { Gives (λ x. (x.0, x.1.now)) result (event_of bytes.now) }
+    ensures { Gives (λ x. (x.0, x.1.now)) result (read_event bytes.now) }
 {
     let (byte, rest) = event_byte_at(bytes)?;
     if byte == DELIVERY {
@@ -261,7 +261,7 @@ fn state_record_at(alloc: Global, bytes: &[u8]) -> Result<(Record, &[u8]), ReadF
 /// The letters FW, one field.
 fn magic_at(bytes: &[u8]) -> Result<(u16, &[u8]), ReadFault>
     ensures { Gives (λ x. (x.0, x.1.now)) result
-        (kept_if (λ m. m == 18007) bytes.now (number_of w16 bytes.now)) }
+        (kept_if (λ m. m == 18007) bytes.now (number_field w16 bytes.now)) }
 {
     match u16_at(bytes) {
         Some((magic, rest)) if magic == MAGIC => Ok((magic, rest)),
@@ -311,7 +311,7 @@ fn tag_at(bytes: &[u8]) -> Result<(u8, &[u8]), ReadFault>
 /// The record at the front of the bytes.
 #[tactic(auto, unfolding(crate::specs::Reading::record_of))]
 fn record_at(alloc: Global, bytes: &[u8]) -> Result<(Record, &[u8]), ReadFault>
-    ensures { Gives (λ x. (x.0, x.1.now)) result (record_of bytes.now) }
+    ensures { Gives (λ x. (x.0, x.1.now)) result (read_whole_record bytes.now) }
 {
     let (tag, rest) = tag_at(bytes)?;
     if tag == CHECKPOINT {

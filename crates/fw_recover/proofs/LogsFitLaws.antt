@@ -32,7 +32,7 @@ use Rattle.fw_keep.specs.Stored.{Records}
 use Rattle.fw_edge.specs.Messages.{MessagesState}
 use Rattle.fw_node.specs.declared.node.Node.{Node}
 use Rattle.fw_rollback.specs.declared.parts.Parts.{Parts}
-use Rattle.fw_rollback.specs.Asked.{IsFetched, asked_of, checkpoint_of, events_of, given_of, is_asked_for}
+use Rattle.fw_rollback.specs.Asked.{IsFetched, asked_of, first_checkpoint, events_of, given_of, is_asked_for}
 use Rattle.fw_rollback.specs.Edges.{IsOnEdge, nothing_there, on_edge}
 use Rattle.fw_record.specs.Log.{logged_on}
 use Rattle.fw_rollback.specs.Restored.{AreOfFlow, HasDone, HasLogs, IsBuilt, IsCutTo, IsFromCheckpoint, Restores}
@@ -70,7 +70,7 @@ written-log flow p (written.Checkpoint recorded stamps sent) c h = record { fron
 written-log flow p (written.Event event) c h = absurd (cc h)
 
 fetched-log : (flow : Dataflow) (records : Option Records) (p : ℕ) (es : List Entry) (rs : List Record) (c : Checkpoint) → AllByRecursion (λ (e : Entry). e.node ≡ p) es
-    → AllZip (IsFetched flow records) es rs → checkpoint_of rs ≡ Some c → CanBeLogOf flow p c
+    → AllZip (IsFetched flow records) es rs → first_checkpoint rs ≡ Some c → CanBeLogOf flow p c
 fetched-log flow records p [] [] c a z e = absurd (cc e)
 fetched-log flow records p [] (r ∷ rs) c a z e = absurd z
 fetched-log flow records p (x ∷ es) [] c a z e = absurd z
@@ -106,19 +106,19 @@ some-and : {A : Type 0} (P : A → Type 0) (G : Type 0) (o : Option A) → IsSom
 some-and P G None h f = absurd h
 some-and P G (Some x) h f = f x h
 
-built-fits : (flow : Dataflow) (low : List Front) (p : ℕ) (f : Front) (given : List Record) → ((c : Checkpoint) → checkpoint_of given ≡ Some c → CanBeLogOf flow p c)
+built-fits : (flow : Dataflow) (low : List Front) (p : ℕ) (f : Front) (given : List Record) → ((c : Checkpoint) → first_checkpoint given ≡ Some c → CanBeLogOf flow p c)
     → (way : Restoring) (table : Option Node) (logs : List MessagesState) → IsBuilt flow low p f given way table logs
     → (e : ℕ) → e < length flow.edges → sender flow e ≡ p → AllByRecursion (IsOnEdge flow e) (on_edge logs e).messages
 built-fits flow low p f given can Batches table logs b e l s = nothing-fits flow p logs b.1 e l s
 built-fits flow low p f given can Bound table logs b e l s = nothing-fits flow p logs b.1 e l s
 built-fits flow low p f given can Anything table logs b e l s = nothing-fits flow p logs b.1 e l s
 built-fits flow low p f given can Checkpoints table logs b e l s =
-    some-and (λ node. IsFromCheckpoint flow low p f (checkpoint_of given) node logs) _ table b
-    (λ node h. checkpoint-fits flow low p f (checkpoint_of given) can node logs h e l s)
+    some-and (λ node. IsFromCheckpoint flow low p f (first_checkpoint given) node logs) _ table b
+    (λ node h. checkpoint-fits flow low p f (first_checkpoint given) can node logs h e l s)
 built-fits flow low p f given can Events table logs b e l s =
     some-and (λ node. HasDone flow low p f (events_of given) node logs) _ table b (λ node h. h.own e l s)
 
-cut-fits : (flow : Dataflow) (p : ℕ) (old new : Parts) (given : List Record) → ((c : Checkpoint) → checkpoint_of given ≡ Some c → CanBeLogOf flow p c)
+cut-fits : (flow : Dataflow) (p : ℕ) (old new : Parts) (given : List Record) → ((c : Checkpoint) → first_checkpoint given ≡ Some c → CanBeLogOf flow p c)
     → AreOnEdges flow old.logs → (cut : Cut) → IsCutTo flow p old given new cut
     → (e : ℕ) → e < length flow.edges → sender flow e ≡ p → AllByRecursion (IsOnEdge flow e) (on_edge new.logs e).messages
 cut-fits flow p old new given can logs Present h e l s =

@@ -36,7 +36,7 @@ use Rattle.fw_border.specs.Outputs.{OutputState}
 use Rattle.fw_border.specs.Sources.{SourceState, rolled_source, epochs_inside}
 use Rattle.fw_node.specs.declared.node.Node.{Node}
 use Rattle.fw_rollback.specs.declared.parts.Parts.{Parts}
-use Rattle.fw_rollback.specs.Asked.{asked_of, checkpoint_of, events_of, IsFetched}
+use Rattle.fw_rollback.specs.Asked.{asked_of, first_checkpoint, events_of, IsFetched}
 use Rattle.fw_rollback.specs.Edges.{on_edge}
 use Rattle.fw_rollback.specs.Restored.{HasDone, IsBuilt, IsCutTo, IsFromCheckpoint, output_after, queue_after}
 use Rattle.fw_rollback.specs.Tables.{table_at}
@@ -120,7 +120,7 @@ some-and P Q (Some x) h f = f x h
 -- the table that is built for a node from the checkpoint that was read
 table-saved : (sys : System) (state : Machine) (choice : Choice) (settled : List Front) (records : Option Records) (p : ℕ) (given : List Record)
     → IsGiven sys state choice settled records p given → way_of sys.flow p ≡ Checkpoints → (f : Front) → cut_of choice p ≡ At f
-    → (node : Node) (logs : List MessagesState) → IsFromCheckpoint sys.flow state.low p f (checkpoint_of given) node logs
+    → (node : Node) (logs : List MessagesState) → IsFromCheckpoint sys.flow state.low p f (first_checkpoint given) node logs
     → IsTableIn sys (recovered_state sys state choice settled) p (Some node)
 table-saved sys state choice settled records p given g way f is node logs built =
     let r = g.recovers in
@@ -191,7 +191,7 @@ table-after sys state choice settled records p given g old new low made t =
 log-saved : (sys : System) (state : Machine) (choice : Choice) (settled : List Front) (records : Option Records) (e : ℕ) (given : List Record)
     → IsGiven sys state choice settled records (sender sys.flow e) given → e < length sys.flow.edges
     → way_of sys.flow (sender sys.flow e) ≡ Checkpoints → (f : Front) → cut_of choice (sender sys.flow e) ≡ At f
-    → (node : Node) (logs : List MessagesState) → IsFromCheckpoint sys.flow state.low (sender sys.flow e) f (checkpoint_of given) node logs
+    → (node : Node) (logs : List MessagesState) → IsFromCheckpoint sys.flow state.low (sender sys.flow e) f (first_checkpoint given) node logs
     → (on_edge logs e).messages ≡ logged sys (recovered_state sys state choice settled) e
 log-saved sys state choice settled records e given g l way f is node logs built =
     let r = g.recovers in

@@ -31,9 +31,9 @@ use Rattle.fw_record.specs.declared.record.Record.TheVariants as tagged
 use Rattle.fw_keep.specs.declared.entry.Entry.{Entry}
 use Rattle.fw_keep.specs.declared.entry.Written.{Written}
 use Rattle.fw_keep.specs.declared.entry.Written.TheVariants as written
-use Rattle.fw_keep.specs.Entry.{IsRecordOf}
+use Rattle.fw_keep.specs.Entry.{IsRecordOfEntry}
 use Rattle.fw_keep.specs.Stored.{Records, HoldsAs}
-use Rattle.fw_rollback.specs.Asked.{is_needed, is_asked_at, is_asked_for, asked_of, checkpoint_of, events_of, IsFetched}
+use Rattle.fw_rollback.specs.Asked.{is_needed, is_asked_at, is_asked_for, asked_of, first_checkpoint, events_of, IsFetched}
 use Rattle.fw_record.specs.Event.{logged_events, event_of}
 use Rattle.fw_rollback.specs.Replay.{AreDoneAgain, CanBeDone}
 use Rattle.fw_stands.specs.Recovered.{Recovers}
@@ -102,7 +102,7 @@ asked-events flow choice es p f way is =
 
 -- ---- the events of a node
 
-fetched-fit : (flow : Dataflow) (records : Option Records) (es : List Entry) (rs : List Record) → AllZip (IsFetched flow records) es rs → AllZip (IsRecordOf flow) es rs
+fetched-fit : (flow : Dataflow) (records : Option Records) (es : List Entry) (rs : List Record) → AllZip (IsFetched flow records) es rs → AllZip (IsRecordOfEntry flow) es rs
 fetched-fit flow records [] [] a = tt
 fetched-fit flow records [] (r ∷ rs) a = a
 fetched-fit flow records (e ∷ es) [] a = a
@@ -127,7 +127,7 @@ events-read sys state choice settled r es a records rs p f full way is z =
       logged =
           told-logged vs
           ∙ replayed-of_records sys state r.well_formed r.reached es a p g rs
-          (subst (λ xs. AllZip (IsRecordOf sys.flow) xs rs) (asked-events sys.flow choice es p f way is) (fetched-fit sys.flow records (asked_of sys.flow choice es p) rs z))
+          (subst (λ xs. AllZip (IsRecordOfEntry sys.flow) xs rs) (asked-events sys.flow choice es p f way is) (fetched-fit sys.flow records (asked_of sys.flow choice es p) rs z))
           ∙ sym (same-events rs);
       each = can-be_done sys.flow p vs (replayed-redone sys state choice settled r p f full is);
     }
@@ -137,7 +137,7 @@ events-read sys state choice settled r es a records rs p f full way is z =
 -- No checkpoint was read, for a cut to no stamps.
 pub record ReadNone (sys : System) (p : ℕ) (f : Front) (rs : List Record) : Type 0 where
   pub front : f ≡ no_stamps (bounds_of sys.flow p)
-  pub none : checkpoint_of rs ≡ None
+  pub none : first_checkpoint rs ≡ None
 
 -- The checkpoint was read that a write of the state asked at the cut.
 pub record ReadOne (sys : System) (state : Machine) (p : ℕ) (f : Front) (rs : List Record) : Type 0 where
@@ -147,7 +147,7 @@ pub record ReadOne (sys : System) (state : Machine) (p : ℕ) (f : Front) (rs : 
   pub of_checkpoint : write.written ≡ checkpoint f low
   pub saved : Checkpoint
   pub of_write : IsCheckpointFor sys state p f low saved
-  pub one : checkpoint_of rs ≡ Some saved
+  pub one : first_checkpoint rs ≡ Some saved
 
 -- a frontier without stamps has one list
 no-stamps : (flow : Dataflow) (p : ℕ) (f : Front) → IsCanonical (bounds_of flow p) f → HasNoStamp (node_frontier flow p f) → f ≡ no_stamps (bounds_of flow p)
@@ -156,7 +156,7 @@ no-stamps flow p f c none =
     let within : Within (frontier_of b f) (frontier_of b (no_stamps b)) = λ t i. absurd (two_ways (frontier_of b f t) i (none t)) in
     same_fronts b f (no_stamps b) c (none-canonical b) within (none-within b (frontier_of b f))
 
-none-fetched : (flow : Dataflow) (records : Option Records) (es : List Entry) (rs : List Record) → es ≡ [] → AllZip (IsFetched flow records) es rs → checkpoint_of rs ≡ None
+none-fetched : (flow : Dataflow) (records : Option Records) (es : List Entry) (rs : List Record) → es ≡ [] → AllZip (IsFetched flow records) es rs → first_checkpoint rs ≡ None
 none-fetched flow records es [] e z = refl
 none-fetched flow records es (r ∷ rs) e z = absurd (subst (λ xs. AllZip (IsFetched flow records) xs (r ∷ rs)) e z)
 
@@ -199,7 +199,7 @@ read-told sys state choice settled r es a held s rs p f way takes is z some =
       of_checkpoint = only.of_checkpoint;
       saved = c.0;
       of_write = subst (λ q. IsCheckpointFor sys state q f only.low c.0) only.node c.2;
-      one = ap checkpoint_of (one.alone ∙ ap (λ x. x ∷ []) c.1);
+      one = ap first_checkpoint (one.alone ∙ ap (λ x. x ∷ []) c.1);
     }
 
 -- what is read of a node that is cut to a checkpoint, where the store tells its records or nothing is read

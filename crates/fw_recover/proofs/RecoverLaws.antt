@@ -16,7 +16,7 @@ use Rattle.fw_keep.specs.declared.entry.Entry.{Entry}
 use Rattle.fw_keep.specs.Catalogue.{KeepState}
 use Rattle.fw_keep.specs.Stored.{Records}
 use Rattle.fw_progress.specs.declared.traces.Traces.{Traces}
-use Rattle.fw_progress.specs.History.{count_at, StandsFor}
+use Rattle.fw_progress.specs.History.{count_at, StandsForHistory}
 use Rattle.fw_progress.specs.Progress.{Standing}
 use Rattle.fw_border.specs.Outputs.{output_at}
 use Rattle.fw_border.specs.Sources.{source_at}
@@ -125,8 +125,8 @@ recovers sys state choice queues old new w reached same largest c = record {
 -- progress that is cut stands for the history that is left
 progress-recovered : (sys : System) (state : Machine) (choice : Choice) (queues : List MessagesState) (old new : Standing) → Recovers sys state choice new.settled
     → ((e : ℕ) → e < length sys.flow.edges → (on_edge queues e).messages ≡ queued sys (recovered_state sys state choice new.settled) e)
-    → IsProgressCut sys.flow choice queues old new → StandsFor sys (events state.history) old
-    → StandsFor sys (events (recovered_state sys state choice new.settled).history) new
+    → IsProgressCut sys.flow choice queues old new → StandsForHistory sys (events state.history) old
+    → StandsForHistory sys (events (recovered_state sys state choice new.settled).history) new
 progress-recovered sys state choice queues old new r same c s =
     c.stands sys state.history refl (has_epochs sys r.well_formed) (reached-legal sys state r.well_formed r.reached) s.counts
     (queues-count sys state choice new.settled c.pending (λ e l t. c.counted e l t ∙ ap (count_at t) (same e l)))

@@ -17,7 +17,7 @@ use Rattle.fw_keep.specs.declared.fault.KeepFault.{KeepFault}
 use Rattle.fw_keep.specs.declared.fault.KeepFault.TheVariants as keep
 use Rattle.fw_keep.specs.Stored.{Records, HoldsAs, bytes_under}
 use Rattle.fw_rollback.specs.declared.parts.Parts.{Parts}
-use Rattle.fw_rollback.specs.Asked.{is_asked_for, IsDamaged, IsDamagedIfSaid}
+use Rattle.fw_rollback.specs.Asked.{is_asked_for, IsEntryDamaged, IsDamagedIfSaid}
 use Rattle.fw_stands.specs.Written.{AreStored, IsHeldAs, uncollected}
 use Rattle.fw_stands.proofs.RecoveredFacts.{each-contained}
 use Rattle.fw_running.specs.declared.fault.EngineFault.{EngineFault}
@@ -114,7 +114,7 @@ each-held sys state held (e ∷ es) [] a = absurd a
 each-held sys state held (e ∷ es) (w ∷ ws) a = (record { what = a.0.what; of_entry = a.0.of_entry }, each-held sys state held es ws a.1)
 
 untold : (sys : System) (state : Machine) (choice : Choice) (records : Option Records) (es : List Entry) (got : Option (ℕ × List ℕ)) (id : ℕ) (bytes : List ℕ)
-    → AreStored sys state records es (uncollected state) → IsDamaged sys.flow choice records es got id bytes → records ≡ None
+    → AreStored sys state records es (uncollected state) → IsEntryDamaged sys.flow choice records es got id bytes → records ≡ None
 untold sys state choice None es got id bytes st d = refl
 untold sys state choice (Some held) es got id bytes st d =
     let has = each-contained (HasRecord sys.flow held) es d.entry (each-held sys state held es (uncollected state) (st held refl)) d.there in
@@ -124,10 +124,10 @@ untold sys state choice (Some held) es got id bytes st d =
 
 damaged-stands : (old : Running) (choice : Choice) (records : Option Records) (got : Option (ℕ × List ℕ)) (id : ℕ) (bytes : List ℕ)
     → IsShaped old → list_any (λ down. down) old.failed.items ≡ true
-    → IsDamaged old.flow choice records old.parts.keep.entries got id bytes → TakesStep old records Recover (Err (fault.Damaged id)) old records
+    → IsEntryDamaged old.flow choice records old.parts.keep.entries got id bytes → TakesStep old records Recover (Err (fault.Damaged id)) old records
 damaged-stands old choice records got id bytes shaped some d sys state s = (
   untold sys state choice records old.parts.keep.entries got id bytes s.stored
-      (subst (λ flow. IsDamaged flow choice records old.parts.keep.entries got id bytes) s.flow d),
+      (subst (λ flow. IsEntryDamaged flow choice records old.parts.keep.entries got id bytes) s.flow d),
   recovery-enabled old records shaped some sys state s,
   s,
 )

@@ -32,7 +32,7 @@ use Rattle.fw_rollback.proofs.OfNodeLaws.{of_nodes-restored}
 use Rattle.fw_running.specs.declared.running.Running.{Running}
 use Rattle.fw_recover.specs.CutProgress.{AreAtReceivers}
 use Rattle.fw_running.specs.Places.{HasAllPlaces}
-use Rattle.fw_recover.specs.Recovered.{HasPlaces}
+use Rattle.fw_recover.specs.Recovered.{KeepsFit}
 use Rattle.fw_running.specs.Shaped.{IsOnEdge, IsShaped, IsWrittenOf}
 use Rattle.fw_recover.proofs.LogsFitLaws.{AreOnEdges, logs-fit}
 use Rattle.fw_recover.proofs.RecoverLaws.{IsRecovered}
@@ -108,7 +108,7 @@ length-replicate (suc n) x = let rest = length-replicate n x in omega arith
 
 -- what is kept has its shape after a recovery
 pub recovered-shaped : (choice : Choice) (records : Option Records) (old new : Running) → IsShaped old → IsRecovered choice records old new
-    → DoPartsFit new.flow new.parts → length new.lost.items ≡ length new.flow.nodes → HasAllPlaces new.flow new.ready → HasPlaces new → IsShaped new
+    → DoPartsFit new.flow new.parts → length new.lost.items ≡ length new.flow.nodes → HasAllPlaces new.flow new.ready → KeepsFit new → IsShaped new
 recovered-shaped choice records old new s made fit lost all places = record {
   well_formed = subst IsWellFormed (sym made.flow) s.well_formed;
   one_each = record {

@@ -30,7 +30,7 @@ use Rattle.fw_rollback.specs.Restored.{is_undone}
 use Rattle.fw_stands.specs.Recovered.{Recovers}
 use Rattle.fw_stands.specs.Parts.{IsTraceIn}
 use Rattle.fw_stands.specs.Read.{is_checkpoint_at, is_checkpoint_of}
-use Rattle.fw_stands.specs.Written.{AreEntriesOf, AreStored, Holds, HoldsWithin, IsEntryOf, uncollected}
+use Rattle.fw_stands.specs.Written.{AreEntriesOf, AreStored, HoldsWhatIsWritten, HoldsWithin, IsEntryOf, uncollected}
 use Rattle.fw_stands.proofs.ReadLaws.{one-checkpoint}
 use Rattle.fw_stands.proofs.RecoveredTables.{cuts-canonical}
 use Rattle.fw_stands.proofs.RecoveredTraces.{traces-cut, traces-from_checkpoints, traces-nothing, traces-present}
@@ -71,7 +71,7 @@ abbrev HoldsAt : System → Machine → ℕ → Front → Written → Type 0
 HoldsAt sys state p f (written.Checkpoint recorded stamps sent) = HoldsWithin sys state p f recorded stamps sent
 HoldsAt sys state p f (written.Event event) = ⊥
 
-holds-at : (sys : System) (state : Machine) (p : ℕ) (f : Front) (w : Written) (by : WrittenBy) → Holds sys state p w by → is_checkpoint_of f w ≡ true → HoldsAt sys state p f w
+holds-at : (sys : System) (state : Machine) (p : ℕ) (f : Front) (w : Written) (by : WrittenBy) → HoldsWhatIsWritten sys state p w by → is_checkpoint_of f w ≡ true → HoldsAt sys state p f w
 holds-at sys state p f (written.Checkpoint recorded stamps sent) (checkpoint g low) h i =
     subst (λ x. HoldsWithin sys state p x recorded stamps sent) (sym h.recorded.front ∙ same_front-is recorded.front f i) h
 holds-at sys state p f (written.Checkpoint recorded stamps sent) (logged_event s) h i = absurd h

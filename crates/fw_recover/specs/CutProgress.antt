@@ -11,7 +11,7 @@ use Rattle.fw_model.specs.Machine.{SerialEvent, events, front_of}
 use Rattle.fw_edge.specs.Messages.{MessagesState}
 use Rattle.fw_progress.specs.Counts.{sent_of}
 use Rattle.fw_progress.specs.Cut.{ArePendingAfter, AreTablesAfter, events_left}
-use Rattle.fw_progress.specs.History.{count_at, IsCountOf, StandsFor}
+use Rattle.fw_progress.specs.History.{count_at, IsCountOf, StandsForHistory}
 use Rattle.fw_progress.specs.Progress.{Standing}
 use Rattle.fw_progress.specs.Tally.{times_in}
 use Rattle.fw_rollback.specs.Edges.{on_edge}
@@ -31,6 +31,6 @@ pub record IsProgressCut (flow : Dataflow) (choice : Choice) (queues : List Mess
   pub left : (p : ℕ) → p < length flow.nodes → slice_index_or tables p [] ≡ table_left (cut_of choice p) (sent_of old.counts p)
   pub stands : (sys : System) (h : List SerialEvent) → sys.flow ≡ flow → HasEpochs sys → IsLegal sys (events h) → IsCountOf sys (events h) old.counts
       → ArePendingAfter sys (events_left sys choice h) pending → AreTablesAfter sys (events_left sys choice h) tables
-      → StandsFor sys (events_left sys choice h) new
+      → StandsForHistory sys (events_left sys choice h) new
   pub one_each : length new.settled ≡ length flow.nodes
   pub settled : (p : ℕ) → p < length flow.nodes → IsSettledBy (front_of old.settled p) (cut_of choice p) (front_of new.settled p)

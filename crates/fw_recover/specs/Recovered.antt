@@ -9,7 +9,7 @@ use Rattle.fw_recover.specs.CutTraces.{AreTracesCut}
 use Rattle.fw_running.specs.Places.{HasAllPlaces}
 
 -- What is kept of traces and progress fits the flow, and neither was refused memory.
-pub record HasPlaces (running : Running) : Type 0 where
+pub record KeepsFit (running : Running) : Type 0 where
   pub live : running.progress.refused ≡ false
   pub progress : IsOfFlow running.flow running.progress
   pub traced : running.traces.refused ≡ false
@@ -25,4 +25,4 @@ pub record IsFollowed (choice : Choice) (old new : Running) : Type 0 where
   pub lost : (p : ℕ) → slice_index_or new.lost.items p [] ≡ []
   pub lost_each : length new.lost.items ≡ length old.flow.nodes
   pub ready : HasAllPlaces old.flow new.ready
-  pub places : HasPlaces new
+  pub places : KeepsFit new

@@ -5,7 +5,7 @@ ghost use Rattle.fw_flow.specs.declared.step.Step.TheVariants as steps;
 ghost use Rattle.fw_keep.specs.Stored.{IsStored};
 ghost use Rattle.fw_monitor.specs.Chosen.{IsChoiceOf};
 ghost use Rattle.fw_recover.specs.CutProgress.{AreAtReceivers};
-ghost use Rattle.fw_recover.specs.Recovered.{HasPlaces, IsFollowed};
+ghost use Rattle.fw_recover.specs.Recovered.{KeepsFit, IsFollowed};
 ghost use Rattle.fw_running.specs.Shaped.{IsShaped};
 ghost use Rattle.fw_running.specs.Steps.{StepAnswers};
 
@@ -42,7 +42,7 @@ pub fn recover<K: Store>(running: &mut Running, store: &mut K) -> Result<Stepped
 // What is beside the parts follows the choice to which these were restored.
 fn follow(running: &mut Running, choice: &Choice) -> Result<(), AllocError>
     requires choice { IsChoiceOf running.old.flow choice.now }
-    requires places { HasPlaces running.old }
+    requires places { KeepsFit running.old }
     requires queues { AreAtReceivers running.old.flow running.old.parts.queues }
     ensures parts { running.new.parts ≡ running.old.parts }
     ensures flow { running.new.flow ≡ running.old.flow }

@@ -14,7 +14,7 @@ use Rattle.fw_flow.specs.declared.event.Message.{Message}
 use Rattle.fw_flow.specs.declared.step.Step.{Step}
 use Rattle.fw_flow.specs.declared.step.Step.TheVariants.{Inject, Deliver, Notify, Progress as ProgressStep, Persist, Ack}
 use Rattle.fw_flow.specs.Dataflow.{System, Dataflow, kind_of, receiver, is_notified_kind, is_numbered, node_ids, node_frontier}
-use Rattle.fw_flow.specs.Message.{is_among, message_cmp}
+use Rattle.fw_flow.specs.Message.{is_message_among, message_cmp}
 use Rattle.fw_flow.specs.WellFormed.{IsWellFormed}
 use Rattle.fw_flow.proofs.MessageLaws.{message_total, among-each}
 use Rattle.fw_model.specs.Auto.{edge_ids, deliveries, notifications, acknowledgements, injections, IsIdle}
@@ -71,7 +71,7 @@ idle-each sys state i =
 -- ---- deliveries
 
 deliverable : (sys : System) (h : List Event) (e : ℕ) (m : Message) → Decided (IsDeliverable sys h e m)
-deliverable sys h e m = elim (cases_Bool (is_among m (pending_messages sys h e))) [
+deliverable sys h e m = elim (cases_Bool (is_message_among m (pending_messages sys h e))) [
   | inr k ↦ inr (λ d. two_ways _ d.is_pending k)
   | inl k ↦ elim (cases_Bool (is_numbered sys.flow e)) [
     | inr n ↦ inl (record { is_pending = k; numbered = λ j. absurd (two_ways _ j n) })

@@ -12,7 +12,7 @@ use Rattle.fw_flow.specs.Dataflow.{System, Dataflow, kind_of, sender, receiver, 
 use Rattle.std.specs.Ordering.{is_eq}
 use Rattle.fw_lemmas.proofs.Bools.{two_ways}
 use Rattle.fw_lemmas.proofs.Numbers.{by_measure}
-use Rattle.fw_flow.specs.Message.{is_among, message_cmp}
+use Rattle.fw_flow.specs.Message.{is_message_among, message_cmp}
 use Rattle.fw_flow.proofs.MessageLaws.{message_cmp-self}
 use Rattle.fw_flow.specs.Projection.{phi, first_coordinate}
 use Rattle.fw_flow.specs.WellFormed.{IsWellFormed}
@@ -72,14 +72,14 @@ lesser-sum s t k = let a = and_parts (leq s t) (not (leq t s)) k in below-sum s 
 
 -- ---- nothing waits
 
-at-some : (t : Stamp) (ms : List Message) → some_at (same t) ms ≡ true → (m : Message) × (is_among m ms ≡ true) × (same t m.at ≡ true)
+at-some : (t : Stamp) (ms : List Message) → some_at (same t) ms ≡ true → (m : Message) × (is_message_among m ms ≡ true) × (same t m.at ≡ true)
 at-some t [] k = absurd (cc)
 at-some t (m ∷ ms) k = elim (cases_Bool (same t m.at)) [
-  | inl e ↦ (m, or_left (is_eq (message_cmp m m)) (is_among m ms) (message_cmp-self m), e)
+  | inl e ↦ (m, or_left (is_eq (message_cmp m m)) (is_message_among m ms) (message_cmp-self m), e)
   | inr e ↦
       let rest : some_at (same t) ms ≡ true = elim (or_cases (same t m.at) (some_at (same t) ms) k) [ inl a ↦ absurd (two_ways (same t m.at) a e) | inr a ↦ a ] in
       let w = at-some t ms rest in
-      (w.0, or_right (is_eq (message_cmp w.0 m)) (is_among w.0 ms) w.1, w.2)
+      (w.0, or_right (is_eq (message_cmp w.0 m)) (is_message_among w.0 ms) w.1, w.2)
 ]
 
 pub rest-quiet : (sys : System) (h : List Event) → IsWellFormed sys.flow → IsLegal sys h → IsAtRest sys h → (e : ℕ) (t : Stamp)

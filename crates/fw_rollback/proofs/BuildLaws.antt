@@ -38,7 +38,7 @@ use Rattle.fw_record.specs.declared.record.Checkpoint.{Checkpoint}
 use Rattle.fw_record.specs.declared.record.Record.{Record}
 use Rattle.fw_edge.specs.Messages.{MessagesState}
 use Rattle.fw_node.specs.declared.node.Node.{Node}
-use Rattle.fw_rollback.specs.Asked.{front_at, checkpoint_of, given_of, events_of, CanServe}
+use Rattle.fw_rollback.specs.Asked.{front_at, first_checkpoint, given_of, events_of, CanServe}
 use Rattle.fw_rollback.specs.Built.{by_cut, AreNodesBuilt, AreQueuesBuilt, log_after}
 use Rattle.fw_rollback.specs.Edges.{on_edge, nothing_there, IsOnEdge}
 use Rattle.fw_record.specs.Log.{logged_on}
@@ -71,8 +71,8 @@ built-stays flow low p f given Batches table logs next k h = (h.0, has_logs-stay
 built-stays flow low p f given Bound table logs next k h = (h.0, has_logs-stay flow p logs next (λ e. nothing_there) k h.1)
 built-stays flow low p f given Anything table logs next k h = (h.0, has_logs-stay flow p logs next (λ e. nothing_there) k h.1)
 built-stays flow low p f given Checkpoints table logs next k h =
-    some-and (λ node. IsFromCheckpoint flow low p f (checkpoint_of given) node logs) (λ node. IsFromCheckpoint flow low p f (checkpoint_of given) node next) table
-    (λ node. from_checkpoint-stays flow low p f (checkpoint_of given) node logs next k) h
+    some-and (λ node. IsFromCheckpoint flow low p f (first_checkpoint given) node logs) (λ node. IsFromCheckpoint flow low p f (first_checkpoint given) node next) table
+    (λ node. from_checkpoint-stays flow low p f (first_checkpoint given) node logs next k) h
 built-stays flow low p f given Events table logs next k h =
     some-and (λ node. HasDone flow low p f (events_of given) node logs) (λ node. HasDone flow low p f (events_of given) node next) table
     (λ node d. record { of_node = d.of_node; own = λ e l s. subst (λ (x : MessagesState). AllByRecursion (IsOnEdge flow e) x.messages) (sym (k e l s)) (d.own e l s); table = d.table; sent = λ batches events a e l s. k e l s ∙ d.sent batches events a e l s }) h
@@ -214,7 +214,7 @@ filled-more flow choice kept built n d queues next at h here others long = recor
 -- ---- checkpoints
 
 -- the messages of the first record serve, where it is a checkpoint
-pub first-serves : (flow : Dataflow) (p : ℕ) (rs : List Record) (c : Checkpoint) → Some c ≡ checkpoint_of rs → AllByRecursion (CanServe flow p) rs
+pub first-serves : (flow : Dataflow) (p : ℕ) (rs : List Record) (c : Checkpoint) → Some c ≡ first_checkpoint rs → AllByRecursion (CanServe flow p) rs
     → AllByRecursion (λ (l : Logged). Contains (out_edges flow p) l.edge) c.log
 first-serves flow p [] c e a = absurd cc
 first-serves flow p (tagged.State k ∷ rs) c e a =
@@ -238,12 +238,12 @@ logged-apart flow p ls a e n =
 
 -- a node that is restored from a checkpoint, with its logs
 pub restored-some : {E : Type 0} (flow : Dataflow) (low : List Front) (p : ℕ) (f : Front) (rs : List Record) (c : Checkpoint) (r : Result Node E) (old new : List MessagesState)
-    → Some c ≡ checkpoint_of rs → HasLogs flow p old (λ e. nothing_there)
+    → Some c ≡ first_checkpoint rs → HasLogs flow p old (λ e. nothing_there)
     → ((settled : Stamp → Bool) (before : List Event) → EachDelivery (λ s. (settled s ≡ true) × (in_domain (bounds_of flow p) s ≡ true)) before
     → AreOnEdges (in_edges flow p) before → IsStateOf (kind_of flow p) before c.state → IfOk r (λ node. IsTableOf flow p settled node before))
     → IfOk r (IsNodeOf flow p)
     → ((e : ℕ) (ms : List Message) → on_edge old e ≡ log_of flow low e ms → on_edge new e ≡ log_of flow low e (logged_on e c.log ++ ms))
-    → IfOk r (λ node. IsFromCheckpoint flow low p f (checkpoint_of rs) node new)
+    → IfOk r (λ node. IsFromCheckpoint flow low p f (first_checkpoint rs) node new)
 restored-some flow low p f rs c (Err x) old new e empty table of_node logs = tt
 restored-some flow low p f rs c (Ok node) old new e empty table of_node logs =
     subst (λ (k : Option Checkpoint). IsFromCheckpoint flow low p f k node new) e (
@@ -256,7 +256,7 @@ restored-some flow low p f rs c (Ok node) old new e empty table of_node logs =
 
 -- a node without a checkpoint
 pub restored-none : {E : Type 0} (flow : Dataflow) (low : List Front) (p : ℕ) (f : Front) (rs : List Record) (r : Result Node E) (logs : List MessagesState)
-    → None ≡ checkpoint_of rs → HasLogs flow p logs (λ e. nothing_there) → ((settled : Stamp → Bool) → IfOk r (λ node. IsTableOf flow p settled node []))
-    → IfOk r (λ node. IsFromCheckpoint flow low p f (checkpoint_of rs) node logs)
+    → None ≡ first_checkpoint rs → HasLogs flow p logs (λ e. nothing_there) → ((settled : Stamp → Bool) → IfOk r (λ node. IsTableOf flow p settled node []))
+    → IfOk r (λ node. IsFromCheckpoint flow low p f (first_checkpoint rs) node logs)
 restored-none flow low p f rs (Err x) logs e empty new = tt
 restored-none flow low p f rs (Ok node) logs e empty new = subst (λ (k : Option Checkpoint). IsFromCheckpoint flow low p f k node logs) e (new, empty)

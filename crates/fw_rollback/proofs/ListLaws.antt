@@ -6,7 +6,7 @@ use Rattle.fw_lemmas.proofs.Each.{each-weaker, each-at}
 use Rattle.fw_flow.specs.declared.node.Edge.{Edge}
 use Rattle.fw_flow.specs.Dataflow.{Dataflow, edges_from, out_edges, sender}
 use Rattle.fw_flow.proofs.OutEdgeLaws.{out_edges-at, out_edges-from}
-use Rattle.fw_keep.specs.Catalogue.{AreAscending, is_among}
+use Rattle.fw_keep.specs.Catalogue.{AreAscending, is_id_among}
 use Rattle.fw_keep.proofs.IdLaws.{each-among, among-self}
 
 -- ---- the last one
@@ -72,21 +72,21 @@ unfolding out_edges
 out_edges-ascend flow p = rise 0 flow.edges p
 
 -- of ascending numbers none is among those before it
-pub not_among_earlier : (ds : List ℕ) (i d : ℕ) → i < length ds → AreAscending ds → is_among (get_or ds i d) (take i ds) ≡ false
+pub not_among_earlier : (ds : List ℕ) (i d : ℕ) → i < length ds → AreAscending ds → is_id_among (get_or ds i d) (take i ds) ≡ false
 not_among_earlier [] i d l a = absurd (omega arith)
 not_among_earlier (x ∷ ds) zero d l a = refl
 not_among_earlier (x ∷ ds) (suc i) d l a =
     let later : x < get_or ds i d = each-at (λ y. x < y) ds i d (omega arith) a.0 in
-    or_from (x == get_or ds i d) (is_among (get_or ds i d) (take i ds)) (ne_eqb x (get_or ds i d) (λ e. absurd (omega (arith, e))))
+    or_from (x == get_or ds i d) (is_id_among (get_or ds i d) (take i ds)) (ne_eqb x (get_or ds i d) (λ e. absurd (omega (arith, e))))
     (not_among_earlier ds i d (omega arith) a.1)
 
 -- an edge is among the out-edges of its sender
-pub among_out_edges : (flow : Dataflow) (p e : ℕ) → e < length flow.edges → sender flow e ≡ p → is_among e (out_edges flow p) ≡ true
-among_out_edges flow p e l s = out_edges-at (λ d. is_among d (out_edges flow p) ≡ true) flow p (among-self (out_edges flow p)) e l s
+pub among_out_edges : (flow : Dataflow) (p e : ℕ) → e < length flow.edges → sender flow e ≡ p → is_id_among e (out_edges flow p) ≡ true
+among_out_edges flow p e l s = out_edges-at (λ d. is_id_among d (out_edges flow p) ≡ true) flow p (among-self (out_edges flow p)) e l s
 
 -- an edge from another node is not
-pub not_among_out_edges : (flow : Dataflow) (p e : ℕ) → sender flow e ≢ p → is_among e (out_edges flow p) ≡ false
-not_among_out_edges flow p e n = elim (cases_Bool (is_among e (out_edges flow p))) [
+pub not_among_out_edges : (flow : Dataflow) (p e : ℕ) → sender flow e ≢ p → is_id_among e (out_edges flow p) ≡ false
+not_among_out_edges flow p e n = elim (cases_Bool (is_id_among e (out_edges flow p))) [
   | inl t ↦ absurd (n (each-among (λ d. sender flow d ≡ p) (out_edges flow p) e (out_edges-from (λ d. sender flow d ≡ p) flow p (λ d l s. s)) t))
   | inr f ↦ f
 ]
@@ -102,10 +102,10 @@ out_edge-there flow p ds i d e l at =
     subst (λ x. x < length flow.edges) (sym at) (each-at (λ x. x < length flow.edges) ds i d l (subst P (sym e) (out_edges-there flow p)))
 
 -- what is not among numbers is not among the first of them
-pub not_among_first : (ds : List ℕ) (n e : ℕ) → is_among e ds ≡ false → is_among e (take n ds) ≡ false
+pub not_among_first : (ds : List ℕ) (n e : ℕ) → is_id_among e ds ≡ false → is_id_among e (take n ds) ≡ false
 not_among_first [] zero e h = refl
 not_among_first [] (suc n) e h = refl
 not_among_first (d ∷ ds) zero e h = refl
 not_among_first (d ∷ ds) (suc n) e h =
-    let parts = or_parts (d == e) (is_among e ds) h in
-    or_from (d == e) (is_among e (take n ds)) parts.0 (not_among_first ds n e parts.1)
+    let parts = or_parts (d == e) (is_id_among e ds) h in
+    or_from (d == e) (is_id_among e (take n ds)) parts.0 (not_among_first ds n e parts.1)

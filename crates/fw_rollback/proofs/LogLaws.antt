@@ -18,7 +18,7 @@ use Rattle.fw_model.proofs.SentLaws.{copy}
 use Rattle.fw_model.proofs.SortedLaws.{same_sorted_messages, sorted_messages-filter, sorted_messages-weigh}
 use Rattle.fw_model.proofs.WeightLaws.{weigh, weigh-append}
 use Rattle.fw_edge.specs.Messages.{MessagesState}
-use Rattle.fw_keep.specs.Catalogue.{AreAscending, is_among}
+use Rattle.fw_keep.specs.Catalogue.{AreAscending, is_id_among}
 use Rattle.fw_record.specs.declared.logged.Logged.{Logged}
 use Rattle.fw_node.specs.Answers.{caused_by}
 use Rattle.fw_rollback.specs.Edges.{on_edge}
@@ -140,32 +140,32 @@ sent-more flow low edge cause sent i d first now next l before here ms h =
 -- an edge more of a node has what it sends
 pub edges-more : (flow : Dataflow) (low : List Front) (sent : List Message) (ds : List ℕ) (i d : ℕ) (first now next : List MessagesState)
     → i < length ds → d ≡ get_or ds i d → AreAscending ds
-    → ((e : ℕ) → is_among e (take i ds) ≡ true → (ms : List Message) → on_edge first e ≡ log_of flow low e ms → on_edge now e ≡ log_of flow low e (sent ++ ms))
-    → ((e : ℕ) → is_among e (take i ds) ≡ false → on_edge now e ≡ on_edge first e)
+    → ((e : ℕ) → is_id_among e (take i ds) ≡ true → (ms : List Message) → on_edge first e ≡ log_of flow low e ms → on_edge now e ≡ log_of flow low e (sent ++ ms))
+    → ((e : ℕ) → is_id_among e (take i ds) ≡ false → on_edge now e ≡ on_edge first e)
     → ((ms : List Message) → on_edge now d ≡ log_of flow low d ms → on_edge next d ≡ log_of flow low d (sent ++ ms))
     → ((e : ℕ) → e ≢ d → on_edge next e ≡ on_edge now e)
-    → (e : ℕ) → is_among e (take (i + 1) ds) ≡ true → (ms : List Message) → on_edge first e ≡ log_of flow low e ms → on_edge next e ≡ log_of flow low e (sent ++ ms)
+    → (e : ℕ) → is_id_among e (take (i + 1) ds) ≡ true → (ms : List Message) → on_edge first e ≡ log_of flow low e ms → on_edge next e ≡ log_of flow low e (sent ++ ms)
 edges-more flow low sent ds i d first now next l at rises before left here others e among ms h =
     elim (cases_eq d e) [
       | inl s ↦
           let P : ℕ → Type 0 = λ x. (ns : List Message) → on_edge now x ≡ log_of flow low x ns → on_edge next x ≡ log_of flow low x (sent ++ ns) in
           let here_e : P e = subst P s here in
-          let new : is_among e (take i ds) ≡ false = ap (λ x. is_among x (take i ds)) (sym s ∙ at) ∙ not_among_earlier ds i d l rises in
+          let new : is_id_among e (take i ds) ≡ false = ap (λ x. is_id_among x (take i ds)) (sym s ∙ at) ∙ not_among_earlier ds i d l rises in
           here_e ms (left e new ∙ h)
       | inr s ↦ others e (λ z. s (sym z)) ∙ before e (earlier s) ms h
     ]
   where
-    earlier : d ≢ e → is_among e (take i ds) ≡ true
-    earlier s = elim (or_cases (is_among e (take i ds)) (get_or ds i d == e) (sym (list_any_more (λ (x : ℕ). x == e) ds i d l) ∙ among)) [
+    earlier : d ≢ e → is_id_among e (take i ds) ≡ true
+    earlier s = elim (or_cases (is_id_among e (take i ds)) (get_or ds i d == e) (sym (list_any_more (λ (x : ℕ). x == e) ds i d l) ∙ among)) [
       | inl a ↦ a
       | inr b ↦ absurd (s (at ∙ eqb-true (get_or ds i d) e b))
     ]
 
 -- the edges that are left stay
 pub edges-others : (ds : List ℕ) (i d : ℕ) (first now next : List MessagesState) → i < length ds → d ≡ get_or ds i d
-    → ((e : ℕ) → is_among e (take i ds) ≡ false → on_edge now e ≡ on_edge first e)
+    → ((e : ℕ) → is_id_among e (take i ds) ≡ false → on_edge now e ≡ on_edge first e)
     → ((e : ℕ) → e ≢ d → on_edge next e ≡ on_edge now e)
-    → (e : ℕ) → is_among e (take (i + 1) ds) ≡ false → on_edge next e ≡ on_edge first e
+    → (e : ℕ) → is_id_among e (take (i + 1) ds) ≡ false → on_edge next e ≡ on_edge first e
 edges-others ds i d first now next l at left others e none =
-    let neither = or_parts (is_among e (take i ds)) (get_or ds i d == e) (sym (list_any_more (λ (x : ℕ). x == e) ds i d l) ∙ none) in
+    let neither = or_parts (is_id_among e (take i ds)) (get_or ds i d == e) (sym (list_any_more (λ (x : ℕ). x == e) ds i d l) ∙ none) in
     others e (λ z. absurd (false≢true (sym neither.1 ∙ eq-eqb (get_or ds i d) e (sym at ∙ sym z)))) ∙ left e neither.0

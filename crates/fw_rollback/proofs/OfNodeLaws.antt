@@ -17,7 +17,7 @@ use Rattle.fw_node.specs.declared.node.Node.{Node}
 use Rattle.fw_node.specs.NodeOf.{IsNodeOf}
 use Rattle.fw_node.proofs.NodeOfLaws.{node-of}
 use Rattle.fw_rollback.specs.declared.parts.Parts.{Parts}
-use Rattle.fw_rollback.specs.Asked.{checkpoint_of, events_of, given_of}
+use Rattle.fw_rollback.specs.Asked.{first_checkpoint, events_of, given_of}
 use Rattle.fw_rollback.specs.New.{AreFirstTables, IsFirstTable}
 use Rattle.fw_rollback.specs.Restored.{HasDone, IsBuilt, IsCutTo, IsFromCheckpoint, IsNew, AreOfNodes, IsRestored}
 use Rattle.fw_rollback.specs.Tables.{table_at}
@@ -45,8 +45,8 @@ of-built flow low p f given Batches table logs h = if-none (IsNodeOf flow p) tab
 of-built flow low p f given Bound table logs h = if-none (IsNodeOf flow p) table h.0
 of-built flow low p f given Anything table logs h = if-some-and (IsNew flow p) (IsNodeOf flow p) table (of-new flow p) h.0
 of-built flow low p f given Checkpoints table logs h =
-    if-some-and (λ node. IsFromCheckpoint flow low p f (checkpoint_of given) node logs) (IsNodeOf flow p) table
-    (λ node. of-checkpoint flow low p f (checkpoint_of given) node logs) h
+    if-some-and (λ node. IsFromCheckpoint flow low p f (first_checkpoint given) node logs) (IsNodeOf flow p) table
+    (λ node. of-checkpoint flow low p f (first_checkpoint given) node logs) h
 of-built flow low p f given Events table logs h =
     if-some-and (λ node. HasDone flow low p f (events_of given) node logs) (IsNodeOf flow p) table (λ node d. d.of_node) h
 

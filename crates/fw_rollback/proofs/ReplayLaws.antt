@@ -29,7 +29,7 @@ use Rattle.fw_node.specs.TableOf.{IsTableOf}
 use Rattle.fw_record.specs.Event.{event_of, logged_events}
 use Rattle.fw_rollback.specs.Asked.{events_of}
 use Rattle.fw_rollback.specs.Edges.{on_edge, nothing_there}
-use Rattle.fw_rollback.specs.Restored.{log_of, HasLogs, HaveSent, StandsFor}
+use Rattle.fw_rollback.specs.Restored.{log_of, HasLogs, HaveSent, StandsForRedone}
 use Rattle.fw_rollback.proofs.LogLaws.{log_of-same, sorted_messages-before}
 use Rattle.fw_rollback.specs.Replay.{CanBeDone, AreDoneAgain}
 use Rattle.fw_rollback.proofs.ListLaws.{same_end, not_empty}
@@ -158,17 +158,17 @@ events-more rs i r l at =
     ∙ ap (λ (x : Record). events_of (take i rs) ++ event_of x) (sym at)
 
 -- a node that stands for logged events stands for one more, where each event that is logged so may be added
-pub stands-more : (flow : Dataflow) (p : ℕ) (ls : List LoggedEvent) (l : LoggedEvent) (old new : Node) → StandsFor flow p ls old
+pub stands-more : (flow : Dataflow) (p : ℕ) (ls : List LoggedEvent) (l : LoggedEvent) (old new : Node) → StandsForRedone flow p ls old
     → ((before : List Event) (v : Event) → logged_events (v ∷ []) ≡ l ∷ [] → CanBeDone flow p (v ∷ before) → IsTableOf flow p (λ s. false) old before
     → IsTableOf flow p (λ s. false) new (v ∷ before))
-    → StandsFor flow p (ls ++ l ∷ []) new
+    → StandsForRedone flow p (ls ++ l ∷ []) new
 stands-more flow p ls l old new st add events a =
     let h = latest_is flow p ls l events a in
     subst (λ (vs : List Event). IsTableOf flow p (λ s. false) new vs) (sym h.parts) (add h.earlier h.latest h.logged h.can (st h.earlier h.again))
 
 -- logs that have what logged events sent have what one more sent
 pub have_sent-more : {T E : Type 0} (flow : Dataflow) (low : List Front) (p : ℕ) (ls : List LoggedEvent) (l : LoggedEvent) (table : Node) (old new : List MessagesState)
-    (r : Result T E) (sent : List Message) → StandsFor flow p ls table → HaveSent flow low p ls old
+    (r : Result T E) (sent : List Message) → StandsForRedone flow p ls table → HaveSent flow low p ls old
     → ((batches : List (List (List Rec))) (before : List Event) (v : Event) → logged_events (v ∷ []) ≡ l ∷ [] → CanBeDone flow p (v ∷ before)
     → IsTableOf flow p (λ s. false) table before → (e : ℕ) (ms : List Message)
     → log_of flow low e (sent ++ ms) ≡ log_of flow low e (sends (record { flow = flow; batches = batches }) p before v ++ ms))
@@ -184,7 +184,7 @@ have_sent-more flow low p ls l table old new (Ok x) sent st have same logged = �
     ∙ ap (λ (vs : List Event). log_of flow low e (sent_by sys p vs)) (sym h.parts)
 
 -- at first a node stands for nothing done, and empty logs have what nothing sent
-pub stands-none : (flow : Dataflow) (p : ℕ) (node : Node) → IsTableOf flow p (λ s. false) node [] → StandsFor flow p [] node
+pub stands-none : (flow : Dataflow) (p : ℕ) (node : Node) → IsTableOf flow p (λ s. false) node [] → StandsForRedone flow p [] node
 stands-none flow p node t events a = subst (λ (vs : List Event). IsTableOf flow p (λ s. false) node vs) (sym (none_done flow p events a)) t
 
 pub have_sent-none : (flow : Dataflow) (low : List Front) (p : ℕ) (logs : List MessagesState) → HasLogs flow p logs (λ e. nothing_there) → HaveSent flow low p [] logs

@@ -27,7 +27,7 @@ use Rattle.fw_keep.specs.declared.entry.Written.TheVariants as written
 use Rattle.fw_keep.specs.declared.fault.KeepFault.{KeepFault}
 use Rattle.fw_keep.specs.declared.fault.KeepFault.TheVariants as fault
 use Rattle.fw_record.specs.Event.{stamp_of_event}
-use Rattle.fw_keep.specs.Entry.{IsRecordOf}
+use Rattle.fw_keep.specs.Entry.{IsRecordOfEntry}
 use Rattle.fw_keep.specs.Stored.{Records, SpellsNone}
 use Rattle.fw_record.specs.Event.{event_of}
 
@@ -63,7 +63,7 @@ given_of given p = slice_index_or given p []
 -- the entry's id.
 pub record IsFetched (flow : Dataflow) (records : Option Records) (e : Entry) (r : Record) : Type 0 where
   pub sound : IsSound r
-  pub fits : IsRecordOf flow e r
+  pub fits : IsRecordOfEntry flow e r
   pub told : ForSome records (λ held. map.get held e.id ≡ Some (spelling r))
 
 -- for each node one record was fetched of each entry that its cut asks for, in order
@@ -72,7 +72,7 @@ AreFetched flow choice records entries given =
     (p : ℕ) → p < length flow.nodes → AllZip (IsFetched flow records) (asked_of flow choice entries p) (given_of given p)
 
 -- An entry that the choice asks for has this id, and these bytes, which the store gave under it, spell no record of the entry.
-pub record IsDamaged (flow : Dataflow) (choice : Choice) (records : Option Records) (entries : List Entry) (got : Option (ℕ × List ℕ))
+pub record IsEntryDamaged (flow : Dataflow) (choice : Choice) (records : Option Records) (entries : List Entry) (got : Option (ℕ × List ℕ))
     (id : ℕ) (bytes : List ℕ) : Type 0 where
   pub entry : Entry
   pub there : Contains entries entry
@@ -85,17 +85,17 @@ pub record IsDamaged (flow : Dataflow) (choice : Choice) (records : Option Recor
 -- where the answer is that a record is damaged, it is one that the choice asks for
 abbrev pub IsDamagedIfSaid : {T : Type 0} → Dataflow → Choice → Option Records → List Entry → Option (ℕ × List ℕ) → Result T KeepFault → Type 0
 IsDamagedIfSaid flow choice records entries given (Ok x) = Unit {0}
-IsDamagedIfSaid flow choice records entries given (Err (fault.Damaged id bytes)) = IsDamaged flow choice records entries given id bytes.items
+IsDamagedIfSaid flow choice records entries given (Err (fault.Damaged id bytes)) = IsEntryDamaged flow choice records entries given id bytes.items
 IsDamagedIfSaid flow choice records entries given (Err fault.StoreFault) = Unit {0}
 IsDamagedIfSaid flow choice records entries given (Err fault.NoMemory) = Unit {0}
 
 -- ---- what records hold
 
 -- the checkpoint of which the first record is, if there is one
-abbrev pub checkpoint_of : List Record → Option Checkpoint
-checkpoint_of [] = None
-checkpoint_of (tagged.State c ∷ rs) = Some c
-checkpoint_of (tagged.Event p event ∷ rs) = None
+abbrev pub first_checkpoint : List Record → Option Checkpoint
+first_checkpoint [] = None
+first_checkpoint (tagged.State c ∷ rs) = Some c
+first_checkpoint (tagged.Event p event ∷ rs) = None
 
 -- the events of records, in order
 abbrev pub events_of : List Record → List LoggedEvent

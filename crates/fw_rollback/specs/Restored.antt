@@ -39,7 +39,7 @@ use Rattle.fw_rollback.specs.Tables.{table_at}
 use Rattle.fw_border.specs.Outputs.{OutputState, output_at, cleared}
 use Rattle.fw_border.specs.Sources.{source_at, rolled_source}
 use Rattle.fw_rollback.specs.declared.parts.Parts.{Parts}
-use Rattle.fw_rollback.specs.Asked.{AreFetched, checkpoint_of, events_of, given_of}
+use Rattle.fw_rollback.specs.Asked.{AreFetched, first_checkpoint, events_of, given_of}
 use Rattle.fw_rollback.specs.Replay.{AreDoneAgain}
 use Rattle.fw_keep.specs.Entry.{is_beyond}
 use Rattle.fw_record.specs.Log.{logged_on}
@@ -100,7 +100,7 @@ abbrev pub IsBuilt : Dataflow → List Front → ℕ → Front → List Record �
 IsBuilt flow low p f given Batches table logs = (table ≡ None) × HasLogs flow p logs (λ e. nothing_there)
 IsBuilt flow low p f given Bound table logs = (table ≡ None) × HasLogs flow p logs (λ e. nothing_there)
 IsBuilt flow low p f given Anything table logs = IsSomeAnd table (IsNew flow p) × HasLogs flow p logs (λ e. nothing_there)
-IsBuilt flow low p f given Checkpoints table logs = IsSomeAnd table (λ node. IsFromCheckpoint flow low p f (checkpoint_of given) node logs)
+IsBuilt flow low p f given Checkpoints table logs = IsSomeAnd table (λ node. IsFromCheckpoint flow low p f (first_checkpoint given) node logs)
 IsBuilt flow low p f given Events table logs = IsSomeAnd table (λ node. HasDone flow low p f (events_of given) node logs)
 
 -- what node p has after its cut: all as it was, or what is built
@@ -184,5 +184,5 @@ abbrev pub AreLogsOfOwn : Dataflow → List Front → ℕ → List MessagesState
 AreLogsOfOwn flow low p logs = (e : ℕ) → e < length flow.edges → sender flow e ≡ p → IsLogOfOwn flow low e (on_edge logs e)
 
 -- the node stands for these logged events, done again, where nothing is settled
-abbrev pub StandsFor : Dataflow → ℕ → List LoggedEvent → Node → Type 0
-StandsFor flow p logged node = (events : List Event) → AreDoneAgain flow p logged events → IsTableOf flow p (λ s. false) node events
+abbrev pub StandsForRedone : Dataflow → ℕ → List LoggedEvent → Node → Type 0
+StandsForRedone flow p logged node = (events : List Event) → AreDoneAgain flow p logged events → IsTableOf flow p (λ s. false) node events

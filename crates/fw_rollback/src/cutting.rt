@@ -1,6 +1,6 @@
 //! The parts of an engine are cut to a choice.
 ghost use Rattle.std.specs.Prelude.{◌≡◌, OnOk, OnErr};
-ghost use Rattle.fw_keep.specs.Faults.{faults_after};
+ghost use Rattle.fw_keep.specs.Faults.{keep_faults_after};
 ghost use Rattle.fw_keep.specs.Stored.{IsStored};
 ghost use Rattle.fw_rollback.specs.Asked.{IsDamagedIfSaid};
 ghost use Rattle.fw_rollback.specs.Restored.{AreOfFlow, AreOfNodes, Restores};
@@ -46,7 +46,7 @@ pub fn restore<K: Store>(
     // After a refusal the parts are as they were.
     ensures kept { OnErr result (parts.new ≡ parts.old) }
     ensures damaged { IsDamagedIfSaid flow.now choice.now (K.view store.old).records parts.old.keep.entries (K.view store.new).given result }
-    ensures faults { (K.view store.new).faults ≡ faults_after result (K.view store.old).faults }
+    ensures faults { (K.view store.new).faults ≡ keep_faults_after result (K.view store.old).faults }
 {
     let given = read(alloc, flow, choice, &parts.keep, store)?;
     let built = build(alloc, flow, choice, parts, &given)?;

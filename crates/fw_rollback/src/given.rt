@@ -1,6 +1,6 @@
 //! The records of the writes that the cuts of a choice ask for.
 ghost use Rattle.std.specs.Prelude.{◌≡◌, ◌++◌, ◌∷◌, [], length, replicate, slice_set, IfOk, OnOk};
-ghost use Rattle.fw_keep.specs.Faults.{faults_after};
+ghost use Rattle.fw_keep.specs.Faults.{keep_faults_after};
 ghost use Rattle.fw_keep.specs.Stored.{IsStored};
 ghost use Rattle.fw_rollback.specs.Asked.{given_of, AreFetched, IsDamagedIfSaid};
 
@@ -113,7 +113,7 @@ pub(crate) fn read<K: Store>(
     ensures fetched { IfOk result (AreFetched flow.now choice.now (K.view store.old).records keep.now.entries) }
     ensures damaged { IsDamagedIfSaid flow.now choice.now (K.view store.old).records keep.now.entries (K.view store.new).given result }
     ensures stays { (K.view store.new).records ≡ (K.view store.old).records }
-    ensures faults { (K.view store.new).faults ≡ faults_after result (K.view store.old).faults }
+    ensures faults { (K.view store.new).faults ≡ keep_faults_after result (K.view store.old).faults }
 {
     let mut given = Given::none(alloc, flow.nodes())?;
     fetch_all(flow, choice, keep, store, &mut given)?;
@@ -133,7 +133,7 @@ fn fetch_all<K: Store>(
     ensures fetched { OnOk result (AreFetched flow.now choice.now (K.view store.old).records keep.now.entries given.new) }
     ensures damaged { IsDamagedIfSaid flow.now choice.now (K.view store.old).records keep.now.entries (K.view store.new).given result }
     ensures stays { (K.view store.new).records ≡ (K.view store.old).records }
-    ensures faults { (K.view store.new).faults ≡ faults_after result (K.view store.old).faults }
+    ensures faults { (K.view store.new).faults ≡ keep_faults_after result (K.view store.old).faults }
 {
     let entries = keep.entries();
     for entry in entries {

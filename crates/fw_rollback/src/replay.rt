@@ -16,7 +16,7 @@ ghost use Rattle.fw_node.specs.TableOf.{IsTableOf};
 ghost use Rattle.fw_record.specs.Event.{stamp_of_event, event_of};
 ghost use Rattle.fw_record.specs.declared.record.Event.{Event as Logged};
 ghost use Rattle.fw_rollback.specs.Asked.{events_of, CanServe};
-ghost use Rattle.fw_rollback.specs.Restored.{log_of, AreLogsOfOwn, HasLogs, HasDone, HaveSent, StandsFor};
+ghost use Rattle.fw_rollback.specs.Restored.{log_of, AreLogsOfOwn, HasLogs, HasDone, HaveSent, StandsForRedone};
 
 use crate::Logs;
 use crate::logging::log_outside;
@@ -80,11 +80,11 @@ fn do_all(
     requires well_formed { IsWellFormed flow.now }
     requires serve { AllByRecursion (CanServe flow.now node) records.now }
     requires node { IsNodeOf flow.now node table.old }
-    requires new { StandsFor flow.now node [] table.old }
+    requires new { StandsForRedone flow.now node [] table.old }
     requires each { length logs.old ≡ length flow.now.edges }
     requires empty { HaveSent flow.now low.now node [] logs.old }
     requires own { AreLogsOfOwn flow.now low.now node logs.old }
-    ensures table { OnOk result (StandsFor flow.now node (events_of records.now) table.new) }
+    ensures table { OnOk result (StandsForRedone flow.now node (events_of records.now) table.new) }
     ensures logs { OnOk result (HaveSent flow.now low.now node (events_of records.now) logs.new) }
     ensures own { OnOk result (AreLogsOfOwn flow.now low.now node logs.new) }
     ensures others { (e : ℕ) → sender flow.now e ≢ node → on_edge logs.new e ≡ on_edge logs.old e }
@@ -111,9 +111,9 @@ fn do_record(
     requires node { IsNodeOf flow.now node table.old }
     requires each { length logs.old ≡ length flow.now.edges }
     requires own { AreLogsOfOwn flow.now low.now node logs.old }
-    ensures table { (logged : List Logged) → StandsFor flow.now node logged table.old
-        → OnOk result (StandsFor flow.now node (logged ++ event_of what.now) table.new) }
-    ensures logs { (logged : List Logged) → StandsFor flow.now node logged table.old → HaveSent flow.now low.now node logged logs.old
+    ensures table { (logged : List Logged) → StandsForRedone flow.now node logged table.old
+        → OnOk result (StandsForRedone flow.now node (logged ++ event_of what.now) table.new) }
+    ensures logs { (logged : List Logged) → StandsForRedone flow.now node logged table.old → HaveSent flow.now low.now node logged logs.old
         → OnOk result (HaveSent flow.now low.now node (logged ++ event_of what.now) logs.new) }
     ensures own { OnOk result (AreLogsOfOwn flow.now low.now node logs.new) }
     ensures others { (e : ℕ) → sender flow.now e ≢ node → on_edge logs.new e ≡ on_edge logs.old e }
@@ -140,9 +140,9 @@ fn do_again(
     requires node { IsNodeOf flow.now node table.old }
     requires each { length logs.old ≡ length flow.now.edges }
     requires own { AreLogsOfOwn flow.now low.now node logs.old }
-    ensures table { (logged : List Logged) → StandsFor flow.now node logged table.old
-        → OnOk result (StandsFor flow.now node (logged ++ event.now ∷ []) table.new) }
-    ensures logs { (logged : List Logged) → StandsFor flow.now node logged table.old → HaveSent flow.now low.now node logged logs.old
+    ensures table { (logged : List Logged) → StandsForRedone flow.now node logged table.old
+        → OnOk result (StandsForRedone flow.now node (logged ++ event.now ∷ []) table.new) }
+    ensures logs { (logged : List Logged) → StandsForRedone flow.now node logged table.old → HaveSent flow.now low.now node logged logs.old
         → OnOk result (HaveSent flow.now low.now node (logged ++ event.now ∷ []) logs.new) }
     ensures own { OnOk result (AreLogsOfOwn flow.now low.now node logs.new) }
     ensures others { (e : ℕ) → sender flow.now e ≢ node → on_edge logs.new e ≡ on_edge logs.old e }

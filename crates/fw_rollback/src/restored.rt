@@ -29,7 +29,7 @@ pub(crate) fn restored(
     requires each { length logs.old ≡ length flow.now.edges }
     requires empty { HasLogs flow.now node logs.old (λ e. nothing_there) }
     ensures built { (f : List (List ℕ)) → IfOk result
-        (λ table. IsFromCheckpoint flow.now low.now node f (asked.checkpoint_of records.now) table logs.new) }
+        (λ table. IsFromCheckpoint flow.now low.now node f (asked.first_checkpoint records.now) table logs.new) }
     ensures others { (e : ℕ) → sender flow.now e ≢ node → on_edge logs.new e ≡ on_edge logs.old e }
     ensures each { length logs.new ≡ length logs.old }
 {
@@ -44,7 +44,7 @@ pub(crate) fn restored(
 
 /// The checkpoint of which the first record is, if there is one.
 fn checkpoint_of(records: &[Record]) -> Option<&Checkpoint>
-    ensures { option_copied result ≡ asked.checkpoint_of records.now }
+    ensures { option_copied result ≡ asked.first_checkpoint records.now }
 {
     match records.first()? {
         Record::State(checkpoint) => Some(checkpoint),

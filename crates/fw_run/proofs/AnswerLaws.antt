@@ -25,7 +25,7 @@ use Rattle.fw_run.specs.Status.{HasWord, IsTellingOf, read_faults_told, status_n
 use Rattle.fw_run.specs.Work.{EndsWork, IsWork, StaysIfToldInOne, StaysUnlessRun}
 use Rattle.fw_command.specs.declared.reading.JobFault.{JobFault}
 use Rattle.fw_command.specs.declared.reading.JobFault.TheVariants as job
-use Rattle.fw_command.specs.Reading.{IfRefused, read_faults_after}
+use Rattle.fw_command.specs.Reading.{IfJobRefused, read_faults_after}
 use Rattle.fw_command.specs.Command.{Command}
 use Rattle.fw_command.specs.Texts.{Refuses}
 use Rattle.fw_command.specs.Writing.{IsWritten, NeverFall}
@@ -121,7 +121,7 @@ job_status job.NoMemory = NoMemory
 
 -- a text was not read, or is refused
 pub answers-not_read : {F K O : Type 0} (known : Known F K O) (call : Call) (command : Command) (fault : JobFault) (folder now : F) (store : K) (out : O) → call.command ≡ Some command
-    → IfRefused (Refuses call.told command.texts) fault → known.read_faults now ≡ read_faults_after {T = Unit {0}} (Err fault) (known.read_faults folder)
+    → IfJobRefused (Refuses call.told command.texts) fault → known.read_faults now ≡ read_faults_after {T = Unit {0}} (Err fault) (known.read_faults folder)
     → KeepsFolder known.texts known.fetches call.command (job_status fault) folder now → RunAnswers known call (outside_of folder store out) (job_status fault) (outside_of now store out)
 answers-not_read known call command job.Failed folder now store out e first read kept =
     answers-early known call ReadFault folder now store out tt (λ is. absurd (cc), λ none. absurd (not_none call.command command e none)) (λ refusal is. absurd (cc)) read kept

@@ -22,7 +22,7 @@ read-decided as_inputs flow text = elim (some_inputs text (sources_of flow)) [
   | inr refused ↦ inr refused
 ]
 read-decided as_schedule flow text = elim (some_schedule text flow) [
-  | inl items ↦ inl (subst (schedules.IsAccepted text flow) items.1.value items.1)
+  | inl items ↦ inl (subst (schedules.IsAcceptedSchedule text flow) items.1.value items.1)
   | inr refused ↦ inr refused
 ]
 

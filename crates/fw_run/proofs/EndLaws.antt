@@ -36,7 +36,7 @@ use Rattle.fw_run.specs.Headline.{PrintsRun}
 use Rattle.fw_run.specs.Items.{ItemsRun}
 use Rattle.fw_run.specs.Manner.{goes_on}
 use Rattle.fw_run.specs.Performing.{IsTaken, WritesUntil}
-use Rattle.fw_run.specs.Printed.{outcomes_text, idle_count, done_line, text_of}
+use Rattle.fw_run.specs.Printed.{outcomes_text, idle_count, done_line, run_text}
 use Rattle.fw_run.specs.Reports.{Report, faults_in, outcomes_in, shown_in, reports_text, endured_line, endured_text}
 use Rattle.fw_run.specs.Stopping.{HoldsWrites, IsReadIn, LeavesWrites, IsStoppedByStore, IsStoppedByDamage}
 use Rattle.fw_run.specs.Tallies.{tally_of, tally_shown, summary_line, PrintsSummary}
@@ -111,7 +111,7 @@ run_cut T Tells sys items f IsCount first last w u =
     let r = came_run sys items p.run.of_items none in
     let line = done_line (length r.outcomes) (idle_count r.outcomes) in
     record {
-      whole = text_of sys.flow r.outcomes;
+      whole = run_text sys.flow r.outcomes;
       prints = record { steps = r.steps; last = r.last; comes = r.comes; outcomes = r.outcomes; run = r.run; text = refl };
       others = p.others ++ line;
       parts = ap (λ (t : List ℕ). t ++ line) (sym (reports_text-none sys.flow 0 p.run.of_items.reports none) ∙ p.text) ∙ append_assoc u.bytes p.others line;

@@ -18,7 +18,7 @@ use Rattle.fw_run.proofs.ItemLaws.{items-run, items-one}
 use Rattle.fw_run.proofs.TallyLaws.{how_many-append}
 use Rattle.fw_run.specs.Headline.{PrintsRun}
 use Rattle.fw_run.specs.Items.{ItemComesTo, ComesTo}
-use Rattle.fw_run.specs.Printed.{outcomes_text, is_idle, idle_count, done_line, text_of}
+use Rattle.fw_run.specs.Printed.{outcomes_text, is_idle, idle_count, done_line, run_text}
 use Rattle.fw_run.specs.Trusting.{BeginsWith}
 
 -- ---- runs
@@ -108,7 +108,7 @@ comes_run sys state last (item ∷ items) steps c =
 pub printed_run : (sys : System) → IsWellFormedSystem sys → (items : List Item) → (printed : List ℕ) × PrintsRun sys items printed
 printed_run sys w items =
     let r = items-run sys w [] [] (first_state sys) refl items in
-    (text_of sys.flow r.outcomes, record { steps = r.steps; last = r.last; comes = r.comes; outcomes = r.outcomes; run = r.run; text = refl })
+    (run_text sys.flow r.outcomes, record { steps = r.steps; last = r.last; comes = r.comes; outcomes = r.outcomes; run = r.run; text = refl })
 
 -- of which there is one
 pub printed_once : (sys : System) → IsWellFormedSystem sys → (items : List Item) (one other : List ℕ) → PrintsRun sys items one → PrintsRun sys items other → one ≡ other
@@ -117,7 +117,7 @@ printed_once sys w items one other p q =
     let steps : q.steps ≡ p.steps = (only.3 q.steps q.last q.comes).0 ∙ sym (only.3 p.steps p.last p.comes).0 in
     let there : Run sys (first_state sys) p.steps q.outcomes q.last = subst (λ (s : List Step). Run sys (first_state sys) s q.outcomes q.last) steps q.run in
     let same = run_once sys (first_state sys) p.steps p.outcomes q.outcomes p.last q.last p.run there in
-    p.text ∙ ap (text_of sys.flow) (sym same.0) ∙ sym q.text
+    p.text ∙ ap (run_text sys.flow) (sym same.0) ∙ sym q.text
 
 -- it begins with the lines of first items
 pub begins_of-run : (sys : System) (items others : List Item) (printed : List ℕ) → PrintsRun sys (items ++ others) printed → BeginsWith sys items printed

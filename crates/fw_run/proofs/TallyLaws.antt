@@ -11,7 +11,7 @@ use Rattle.fw_run.specs.declared.tally.Tally.{Tally}
 use Rattle.fw_run.proofs.ReportLaws.{shown_in-append, shown_in-came}
 use Rattle.fw_run.specs.Printed.{is_idle, idle_count}
 use Rattle.fw_run.specs.Reports.{Report, came, shown_in}
-use Rattle.fw_run.specs.Tallies.{is_recovery, is_acknowledgement, rec_sum, shown_sum, acknowledged_sum, tally_of, tally_shown, with_step, with_tally, AreOfSteps}
+use Rattle.fw_run.specs.Tallies.{is_recovered, is_acknowledgement, rec_sum, shown_sum, acknowledged_sum, tally_of, tally_shown, with_step, with_tally, AreOfSteps}
 
 -- ---- sums
 
@@ -79,7 +79,7 @@ pub counted-more : (tally : Tally) (outcomes others : List Outcome) → with_tal
 counted-more tally outcomes others =
     let steps = length-append outcomes others in
     let idle = how_many-append is_idle outcomes others in
-    let cuts = how_many-append is_recovery outcomes others in
+    let cuts = how_many-append is_recovered outcomes others in
     let acks = how_many-append is_acknowledgement outcomes others in
     let sums : plus (plus tally.sum (acknowledged_sum outcomes)) (acknowledged_sum others) ≡ plus tally.sum (acknowledged_sum (outcomes ++ others)) =
     plus-plus tally.sum (acknowledged_sum outcomes) (acknowledged_sum others) ∙ ap (plus tally.sum) (sym (acknowledged-append outcomes others)) in
@@ -95,14 +95,14 @@ tally_shown-append reports others =
     let counts : (test : Outcome → Bool) → how_many test one + how_many test other ≡ how_many test (shown_in (reports ++ others)) =
     λ test. sym (ap (how_many test) shown ∙ how_many-append test one other) in
     same_tally (with_tally (tally_shown reports) (tally_shown others)) (tally_shown (reports ++ others))
-    (sym (length-append reports others)) (counts is_idle) (counts is_recovery) (counts is_acknowledgement)
+    (sym (length-append reports others)) (counts is_idle) (counts is_recovered) (counts is_acknowledgement)
     (sym (ap acknowledged_sum shown ∙ acknowledged-append one other))
 
 -- of steps in which the store did not fail
 pub tally_shown-came : (outcomes : List Outcome) → tally_shown (map came outcomes) ≡ tally_of outcomes
 tally_shown-came outcomes =
     let shown = shown_in-came outcomes in
-    same_tally (tally_shown (map came outcomes)) (tally_of outcomes) (length-map outcomes came) (ap idle_count shown) (ap (how_many is_recovery) shown)
+    same_tally (tally_shown (map came outcomes)) (tally_of outcomes) (length-map outcomes came) (ap idle_count shown) (ap (how_many is_recovered) shown)
     (ap (how_many is_acknowledgement) shown) (ap acknowledged_sum shown)
 
 -- and of one more in which it did
@@ -111,7 +111,7 @@ pub tally_shown-fault : (old counts : Tally) (outcomes : List Outcome) (reports 
 tally_shown-fault old counts outcomes reports e shown longer =
     let first : with_step counts ≡ with_step (with_tally old (tally_of outcomes)) = ap with_step e in
     first ∙ same_tally (with_step (with_tally old (tally_of outcomes))) (with_tally old (tally_shown reports)) (omega (arith, longer))
-    (ap (λ (os : List Outcome). old.idle + idle_count os) (sym shown)) (ap (λ (os : List Outcome). old.cuts + how_many is_recovery os) (sym shown))
+    (ap (λ (os : List Outcome). old.idle + idle_count os) (sym shown)) (ap (λ (os : List Outcome). old.cuts + how_many is_recovered os) (sym shown))
     (ap (λ (os : List Outcome). old.acks + how_many is_acknowledgement os) (sym shown)) (ap (λ (os : List Outcome). plus old.sum (acknowledged_sum os)) (sym shown))
 
 -- each count stays one of the steps
@@ -121,7 +121,7 @@ of_steps-none = record { idle = omega arith; cuts = omega arith; acks = omega ar
 pub of_steps-more : (old new : Tally) (outcome : Outcome) → AreOfSteps old → new ≡ with_tally old (tally_of (outcome ∷ [])) → AreOfSteps new
 of_steps-more old new outcome are e = subst AreOfSteps (sym e) (record {
   idle = omega (arith, are.idle, one_at_most is_idle outcome);
-  cuts = omega (arith, are.cuts, one_at_most is_recovery outcome);
+  cuts = omega (arith, are.cuts, one_at_most is_recovered outcome);
   acks = omega (arith, are.acks, one_at_most is_acknowledgement outcome);
   sum = plus-fits old.sum (acknowledged_sum (outcome ∷ []));
 })

@@ -12,7 +12,7 @@ use Rattle.fw_rest.specs.Rest.{HasAcknowledgedAll, HasShownAll}
 use Rattle.fw_rest.specs.StepsToRest.{steps_enough}
 use Rattle.fw_headline.specs.Right.{IsTheRun, RunsRight}
 use Rattle.fw_run.specs.Items.{all_live_after, ComesTo}
-use Rattle.fw_run.specs.Printed.{text_of}
+use Rattle.fw_run.specs.Printed.{run_text}
 
 -- the items come to steps, the machine takes these from its first state, and this is the text of what comes of them
 pub record PrintsRun (sys : System) (items : List Item) (printed : List ℕ) : Type 0 where
@@ -21,7 +21,7 @@ pub record PrintsRun (sys : System) (items : List Item) (printed : List ℕ) : T
   pub comes : ComesTo sys (first_state sys) items steps last
   pub outcomes : List Outcome
   pub run : Run sys (first_state sys) steps outcomes last
-  pub text : printed ≡ text_of sys.flow outcomes
+  pub text : printed ≡ run_text sys.flow outcomes
 
 -- the items come to exactly one list of steps, which has exactly one run, to the same last state
 pub record HasOneRun (sys : System) (items : List Item) : Type 0 where

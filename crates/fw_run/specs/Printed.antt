@@ -25,5 +25,5 @@ abbrev pub done_line : ℕ → ℕ → List ℕ
 done_line steps idle_steps = codes "done steps " ++ (decimal steps ++ (codes " idle " ++ (decimal idle_steps ++ codes "\n")))
 
 -- the whole text of a run: the lines of what comes of its steps, and how many steps there were and how many were idle
-abbrev pub text_of : Dataflow → List Outcome → List ℕ
-text_of flow outcomes = outcomes_text flow outcomes ++ done_line (length outcomes) (idle_count outcomes)
+abbrev pub run_text : Dataflow → List Outcome → List ℕ
+run_text flow outcomes = outcomes_text flow outcomes ++ done_line (length outcomes) (idle_count outcomes)

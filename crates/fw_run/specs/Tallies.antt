@@ -15,9 +15,9 @@ use Rattle.fw_run.specs.Printed.{idle_count}
 use Rattle.fw_command.specs.Command.{Seeded}
 
 -- nodes were restored
-abbrev pub is_recovery : Outcome → Bool
-is_recovery (did (cuts choice)) = true
-is_recovery outcome = false
+abbrev pub is_recovered : Outcome → Bool
+is_recovered (did (cuts choice)) = true
+is_recovered outcome = false
 
 -- an output acknowledged a stamp
 abbrev pub is_acknowledgement : Outcome → Bool
@@ -44,7 +44,7 @@ abbrev pub tally_of : List Outcome → Tally
 tally_of outcomes = record {
   steps = length outcomes;
   idle = idle_count outcomes;
-  cuts = how_many is_recovery outcomes;
+  cuts = how_many is_recovered outcomes;
   acks = how_many is_acknowledgement outcomes;
   sum = acknowledged_sum outcomes;
 }
@@ -54,7 +54,7 @@ abbrev pub tally_shown : List Report → Tally
 tally_shown reports = record {
   steps = length reports;
   idle = idle_count (shown_in reports);
-  cuts = how_many is_recovery (shown_in reports);
+  cuts = how_many is_recovered (shown_in reports);
   acks = how_many is_acknowledgement (shown_in reports);
   sum = acknowledged_sum (shown_in reports);
 }

@@ -20,7 +20,7 @@ use Rattle.fw_run.specs.Fault.{faults_after}
 use Rattle.fw_run.specs.Manner.{goes_on, told_in}
 use Rattle.fw_command.specs.Listing.{check_text}
 use Rattle.fw_run.specs.Performing.{WritesUntil}
-use Rattle.fw_command.specs.Reading.{IsReady}
+use Rattle.fw_command.specs.Reading.{IsReadyToRun}
 use Rattle.fw_command.specs.Texts.{HasTexts, Accepts, spelled_system, spelled_items}
 use Rattle.fw_command.specs.Writing.{WritesText}
 
@@ -58,7 +58,7 @@ pub record IsWork (told : Option (List ℕ → Option (List ℕ))) (command : Co
 
 -- what the work asks of the system
 abbrev pub IsReadyWork : Work → Type 0
-IsReadyWork (Run manner job) = IsReady (system_of job.flow job.batches) job.items
+IsReadyWork (Run manner job) = IsReadyToRun (system_of job.flow job.batches) job.items
 IsReadyWork (Denote fed) = IsWellFormedSystem (system_of fed.flow fed.batches)
 IsReadyWork (Check flow) = Unit {0}
 

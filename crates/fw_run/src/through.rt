@@ -17,7 +17,7 @@ ghost use Rattle.fw_run.specs.Stopping.{MayCallIn};
 ghost use Rattle.fw_run.specs.Tallies.{AreOfSteps, tally_of};
 ghost use Rattle.fw_run.specs.Through.{PrintsThrough, TakesItems};
 ghost use Rattle.fw_run.specs.Fault.{faults_after};
-ghost use Rattle.fw_command.specs.Reading.{IsReady};
+ghost use Rattle.fw_command.specs.Reading.{IsReadyToRun};
 
 use crate::fault::RunFault;
 use crate::manner::Manner;
@@ -39,7 +39,7 @@ pub(crate) fn perform<K: Store, O: Sink>(
     store: &mut K,
     out: &mut O,
 ) -> Result<(), RunFault>
-    requires ready { IsReady (system_of job.flow job.batches) job.items }
+    requires ready { IsReadyToRun (system_of job.flow job.batches) job.items }
     requires empty { IsEmptyStore (K.view store.old).records }
     ensures ends { EndsRun (IsSome (K.view store.new).records) (told_in manner) (system_of job.flow job.batches) job.items result (K.view store.old).faults
         (K.view store.new).faults (K.view store.new).records (K.view store.new).given (O.view out.old) (O.view out.new) }

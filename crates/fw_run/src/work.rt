@@ -3,7 +3,7 @@ ghost use Rattle.std.specs.Prelude.{◌≡◌, false, IfOk, IfErr, IsErrOf, IsSo
 ghost use Rattle.fw_keep.specs.Stored.{IsEmptyStore};
 ghost use Rattle.fw_running.specs.declared.fault.EngineFault.{EngineFault as Fault};
 ghost use Rattle.fw_command.specs.Command.{asks_folder};
-ghost use Rattle.fw_command.specs.Reading.{IfRefused, read_faults_after};
+ghost use Rattle.fw_command.specs.Reading.{IfJobRefused, read_faults_after};
 ghost use Rattle.fw_command.specs.Texts.{Refuses, AsksNoMore};
 ghost use Rattle.fw_command.specs.Words.{IsOfSize, command_in};
 ghost use Rattle.fw_run.specs.Work.{IsWork, IsReadyWork, EndsWork, StaysUnlessRun, StaysIfToldInOne};
@@ -39,7 +39,7 @@ pub(crate) fn read_work<F: Folder>(
     requires size { IsOfSize command.now }
     ensures work { IfOk result (IsWork (F.texts folder.old) (command_in command.now)) }
     ensures ready { IfOk result IsReadyWork }
-    ensures refused { IfErr result (IfRefused (Refuses (F.texts folder.old) (command_in command.now).texts)) }
+    ensures refused { IfErr result (IfJobRefused (Refuses (F.texts folder.old) (command_in command.now).texts)) }
     ensures faults { F.fault_count folder.new ≡ read_faults_after result (F.fault_count folder.old) }
     ensures asked_no_more { AsksNoMore (F.texts folder.old) (command_in command.now).texts (F.fetch_count folder.old) (F.fetch_count folder.new) }
     ensures texts_stay { F.texts folder.new ≡ F.texts folder.old }

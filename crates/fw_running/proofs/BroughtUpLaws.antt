@@ -11,7 +11,7 @@ use Rattle.fw_model.specs.Machine.{Machine, front_of, events}
 use Rattle.fw_keep.specs.Stored.{Records}
 use Rattle.fw_progress.specs.declared.growth.Growth.{Growth}
 use Rattle.fw_progress.specs.Growths.{AreGrowths}
-use Rattle.fw_progress.specs.History.{IsFresh, StandsFor}
+use Rattle.fw_progress.specs.History.{IsFresh, StandsForHistory}
 use Rattle.fw_progress.specs.Counts.{owed_of}
 use Rattle.fw_progress.specs.Progress.{Standing, IsOfFlow}
 use Rattle.fw_progress.specs.Settle.{has_more}
@@ -106,7 +106,7 @@ still_up old mid progress up again of_flow =
 pub brought_up_stands : (sys : System) (state : Machine) (old new : Running) (records : Option Records) → Stands sys old records state → IsBroughtUp old new
     → Stands sys new records state
 brought_up_stands sys state old new records s up =
-    let progress : StandsFor sys (events state.history) new.progress = (up.fresh.complete sys (events state.history) (sym s.flow) s.progress).0 in
+    let progress : StandsForHistory sys (events state.history) new.progress = (up.fresh.complete sys (events state.history) (sym s.flow) s.progress).0 in
     subst (λ (r : Running). Stands sys r records state) (sym up.others)
     (same-stands sys old old.parts.keep new.progress (record old.ready { growing = new.ready.growing }) records records state s (up.fresh.settled ∙ s.settled) progress s.entries s.stored)
 

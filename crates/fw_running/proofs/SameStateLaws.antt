@@ -6,7 +6,7 @@ use Rattle.fw_model.specs.Machine.{Machine, events, is_failed}
 use Rattle.fw_model.specs.Steps.{StepsTo, idle}
 use Rattle.fw_keep.specs.Catalogue.{KeepState}
 use Rattle.fw_keep.specs.Stored.{Records}
-use Rattle.fw_progress.specs.History.{StandsFor}
+use Rattle.fw_progress.specs.History.{StandsForHistory}
 use Rattle.fw_progress.specs.Progress.{Standing}
 use Rattle.fw_stands.specs.Written.{AreEntriesOf, AreStored, uncollected}
 use Rattle.fw_running.specs.declared.running.Running.{Running}
@@ -23,7 +23,7 @@ down-failed sys running records state s p = ap (λ bs. slice_index_or bs p false
 
 -- an engine with another catalogue, other progress and other places stands for the same state, where catalogue and progress do
 pub same-stands : (sys : System) (old : Running) (keep : KeepState) (progress : Standing) (ready : ReadyState) (before after : Option Records) (state : Machine)
-    → Stands sys old before state → progress.settled ≡ state.settled → StandsFor sys (events state.history) progress
+    → Stands sys old before state → progress.settled ≡ state.settled → StandsForHistory sys (events state.history) progress
     → AreEntriesOf sys state keep.entries (uncollected state) → AreStored sys state after keep.entries (uncollected state)
     → Stands sys (record old { parts = record old.parts { keep = keep }; progress = progress; ready = ready }) after state
 same-stands sys old keep progress ready before after state s settled stands entries stored = record {

@@ -43,7 +43,7 @@ pub busy : {A : Type 0} {shown : Shown} → ◌≡◌ {A = Result Stepped Engine
 busy e = absurd (cc)
 
 -- what the catalogue hands on of a fault counts as its own does
-pub fault-counts : (T S : Type 0) (f : KeepFault) (count : ℕ) → kept.faults_after {T = T} (Err f) count ≡ faults_after {T = S} (Err (fault_of f)) count
+pub fault-counts : (T S : Type 0) (f : KeepFault) (count : ℕ) → kept.keep_faults_after {T = T} (Err f) count ≡ faults_after {T = S} (Err (fault_of f)) count
 fault-counts T S keep_fault.StoreFault count = refl
 fault-counts T S (keep_fault.Damaged id bytes) count = refl
 fault-counts T S keep_fault.NoMemory count = refl

@@ -37,12 +37,12 @@ pub record IsNotAsked (old new : List Entry) (before after : Option Records) : T
   pub records : after ≡ before
 
 -- The write of this event of node p is asked.
-pub record IsLogged (p : ℕ) (event : Event) (old new : List Entry) (before after : Option Records) : Type 0 where
+pub record IsEventAsked (p : ℕ) (event : Event) (old new : List Entry) (before after : Option Records) : Type 0 where
   pub stamps : Stamps
   pub asked : IsAsked (tagged.Event p event) stamps old new before after
   pub of_64_bits : HasRecOf64Bits event
 
 -- The catalogue after this event of node p: where the node logs each event the write of it is asked, and elsewhere nothing is.
 pub record LogsEvent (flow : Dataflow) (p : ℕ) (event : Event) (old new : List Entry) (before after : Option Records) : Type 0 where
-  pub logged : policy_of flow p ≡ policy.Full → IsLogged p event old new before after
+  pub logged : policy_of flow p ≡ policy.Full → IsEventAsked p event old new before after
   pub other : (policy_of flow p ≡ policy.Full → ⊥) → IsNotAsked old new before after

@@ -10,7 +10,7 @@ use Rattle.fw_model.specs.Reached.{IsReached}
 use Rattle.fw_model.specs.Steps.{HasEpoch}
 use Rattle.fw_keep.specs.Stored.{Records}
 use Rattle.fw_policy.specs.View.{IsLostAt}
-use Rattle.fw_progress.specs.History.{StandsFor}
+use Rattle.fw_progress.specs.History.{StandsForHistory}
 use Rattle.fw_stands.specs.Parts.{IsTableIn, queued, logged, IsOutputOf, IsSourceOf, IsTraceIn}
 use Rattle.fw_stands.specs.Written.{AreEntriesOf, AreStored, uncollected}
 use Rattle.fw_running.specs.declared.running.Running.{Running}
@@ -33,7 +33,7 @@ pub record Stands (sys : System) (running : Running) (records : Option Records) 
   -- what does not
   pub outputs : (o : ℕ) → o < length sys.flow.nodes → is_output_kind (kind_of sys.flow o) ≡ true → IsOutputOf sys state o (output_of running o)
   pub sources : (s : ℕ) → s < length sys.flow.nodes → IsSourceOf sys state s (source_of running s)
-  pub progress : StandsFor sys (events state.history) running.progress
+  pub progress : StandsForHistory sys (events state.history) running.progress
   pub traces : (p : ℕ) → p < length sys.flow.nodes → IsTraceIn sys state p running.traces
   pub lost : (p : ℕ) → policy_of sys.flow p ≡ policy.Full → (t : Stamp) → Contains (lost_at running p) t ↔ IsLostAt sys state p t
   -- what is written

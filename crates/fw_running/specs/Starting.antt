@@ -5,7 +5,7 @@ use Rattle.fw_frontier.specs.Front.{Front}
 use Rattle.fw_frontier.specs.Frontier.{Frontier}
 use Rattle.fw_flow.specs.Dataflow.{Dataflow, System, system_of, bounds_of, node_ids}
 use Rattle.fw_model.specs.Machine.{no_stamps}
-use Rattle.fw_progress.specs.History.{StandsFor}
+use Rattle.fw_progress.specs.History.{StandsForHistory}
 use Rattle.fw_progress.specs.Progress.{Standing, IsOfFlow}
 use Rattle.fw_progress.specs.declared.traces.Traces.{Traces}
 use Rattle.fw_progress.specs.Trace.{HaveLists, IsTraceOf}
@@ -23,7 +23,7 @@ no_stamps_each flow = map (λ p. no_stamps (bounds_of flow p)) (node_ids flow)
 pub record IsFirstProgress (flow : Dataflow) (batches : List (ℕ × List (List Rec))) (now : Standing) : Type 0 where
   pub of_flow : IsOfFlow flow now
   pub settled : now.settled ≡ no_stamps_each flow
-  pub stands : StandsFor (system_of flow batches) [] now
+  pub stands : StandsForHistory (system_of flow batches) [] now
   pub live : now.refused ≡ false
 
 -- Traces of no events.

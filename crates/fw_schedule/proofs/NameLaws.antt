@@ -8,7 +8,7 @@ use Rattle.fw_lines.specs.declared.span.Span.{Span}
 use Rattle.fw_lines.specs.Lines.{bytes_at, words_at}
 use Rattle.fw_lines.specs.Spelling.{is_name}
 use Rattle.fw_flow.specs.Dataflow.{Dataflow}
-use Rattle.fw_schedule.specs.Names.{are_names, node_named, nodes_named}
+use Rattle.fw_schedule.specs.Names.{are_names, node_with_name, nodes_named}
 
 -- parts of a text are one name or more where they are not none and each of them is a name
 pub names_at : (text : List ℕ) (words : List Span) (none all : Bool) → none ≡ nat_eq (length words) 0 → none ≡ false
@@ -22,12 +22,12 @@ pub record AreFoundUpTo (flow : Dataflow) (text : List ℕ) (names : List Span) 
 
 -- the node of the next name, before those of the others
 found_next : (flow : Dataflow) (text : List ℕ) (names : List Span) (count : ℕ) (d : Span) → count < length names
-    → nodes_named flow (words_at text (drop count names)) ≡ option_and_then (λ node. option_map (λ nodes. node ∷ nodes) (nodes_named flow (words_at text (drop (count + 1) names)))) (node_named flow (bytes_at text (get_or names count d)))
+    → nodes_named flow (words_at text (drop count names)) ≡ option_and_then (λ node. option_map (λ nodes. node ∷ nodes) (nodes_named flow (words_at text (drop (count + 1) names)))) (node_with_name flow (bytes_at text (get_or names count d)))
 found_next flow text names count d below = ap (λ ws. nodes_named flow (words_at text ws)) (drop_more names count d below)
 
 -- one node more is found
 pub found_more : (flow : Dataflow) (text : List ℕ) (names : List Span) (count node : ℕ) (nodes new : List ℕ) (d : Span) → count < length names → AreFoundUpTo flow text names count nodes
-    → node_named flow (bytes_at text (get_or names count d)) ≡ Some node → new ≡ nodes ++ node ∷ [] → AreFoundUpTo flow text names (count + 1) new
+    → node_with_name flow (bytes_at text (get_or names count d)) ≡ Some node → new ≡ nodes ++ node ∷ [] → AreFoundUpTo flow text names (count + 1) new
 found_more flow text names count node nodes new d below h there e =
     let rest = nodes_named flow (words_at text (drop (count + 1) names)) in
     let next = found_next flow text names count d below ∙ ap (option_and_then (λ n. option_map (λ ns. n ∷ ns) rest)) there in
@@ -41,7 +41,7 @@ found_more flow text names count node nodes new d below h there e =
 
 -- a name is not that of a node, so that nothing is found in all
 pub found_none : (flow : Dataflow) (text : List ℕ) (names : List Span) (count : ℕ) (nodes : List ℕ) (d : Span) → count < length names → AreFoundUpTo flow text names count nodes
-    → node_named flow (bytes_at text (get_or names count d)) ≡ None → None ≡ nodes_named flow (words_at text names)
+    → node_with_name flow (bytes_at text (get_or names count d)) ≡ None → None ≡ nodes_named flow (words_at text names)
 found_none flow text names count nodes d below h none =
     let rest = nodes_named flow (words_at text (drop (count + 1) names)) in
     let next = found_next flow text names count d below ∙ ap (option_and_then (λ n. option_map (λ ns. n ∷ ns) rest)) none in

@@ -24,9 +24,9 @@ use Rattle.fw_flow.specs.Names.{place_of}
 use Rattle.fw_schedule.specs.declared.item.Item.{Item}
 use Rattle.fw_schedule.specs.declared.item.Item.TheVariants.{Auto}
 use Rattle.fw_schedule.specs.Grammar.{auto_of, one_step, item_of, items_of}
-use Rattle.fw_schedule.specs.Names.{are_names, node_named, edge_named, if_kind, node_of_kind, nodes_named}
+use Rattle.fw_schedule.specs.Names.{are_names, node_with_name, edge_named, if_kind, node_of_kind, nodes_named}
 use Rattle.fw_schedule.specs.Schedule.{IsTimeIn, IsNodeOfKind, IsStepOf, IsItemOf, steps_in, step_count, step_limit}
-use Rattle.fw_schedule.specs.Stamps.{stamp_of}
+use Rattle.fw_schedule.specs.Stamps.{stamp_spelled}
 use Rattle.fw_schedule.specs.Steps.{told_in, delivery_on, notification_of, lone_step, stamped_step, named_step, is_name_at_stamp, short_step, failure_of, step_of}
 
 -- a name stands below the end
@@ -34,8 +34,8 @@ below : (name : List ℕ) (names : List (List ℕ)) (o : Option ℕ) → place_o
 below name names None e = tt
 below name names (Some place) e = (position-Some (bytes_eq name) names place [] e).0
 
-node_below : (flow : Dataflow) (name : List ℕ) → IfSome (node_named flow name) (λ node. node < length flow.nodes)
-node_below flow name = subst (λ n. IfSome (node_named flow name) (λ node. node < n)) (length-map flow.nodes (λ (n : Node). n.name)) (below name (map (λ (n : Node). n.name) flow.nodes) (node_named flow name) refl)
+node_below : (flow : Dataflow) (name : List ℕ) → IfSome (node_with_name flow name) (λ node. node < length flow.nodes)
+node_below flow name = subst (λ n. IfSome (node_with_name flow name) (λ node. node < n)) (length-map flow.nodes (λ (n : Node). n.name)) (below name (map (λ (n : Node). n.name) flow.nodes) (node_with_name flow name) refl)
 
 edge_below : (flow : Dataflow) (name : List ℕ) → IfSome (edge_named flow name) (λ edge. edge < length flow.edges)
 edge_below flow name = subst (λ n. IfSome (edge_named flow name) (λ edge. edge < n)) (length-map flow.edges (λ (e : Edge). e.name)) (below name (map (λ (e : Edge). e.name) flow.edges) (edge_named flow name) refl)
@@ -50,9 +50,9 @@ node_sound flow is_such (Some node) h = kind_sound flow is_such node (is_such (k
 
 told_sound : (bounds : Bounds) (stamp : Option (List ℕ)) → IfSome (told_in bounds stamp) (IsTimeIn bounds)
 told_sound bounds None = tt
-told_sound bounds (Some word) = inside (in_domain bounds (stamp_of word)) refl
+told_sound bounds (Some word) = inside (in_domain bounds (stamp_spelled word)) refl
   where
-    inside : (b : Bool) → in_domain bounds (stamp_of word) ≡ b → IfSome (cond b (Some (Some (stamp_of word))) None) (IsTimeIn bounds)
+    inside : (b : Bool) → in_domain bounds (stamp_spelled word) ≡ b → IfSome (cond b (Some (Some (stamp_spelled word))) None) (IsTimeIn bounds)
     inside true e = e
     inside false e = tt
 
@@ -69,7 +69,7 @@ at_place flow P make (Some n) h f = f n h
 -- as many nodes are found as there are names, each of them of the flow
 nodes_below : (flow : Dataflow) (names : List (List ℕ)) → IfSome (nodes_named flow names) (λ nodes. (length nodes ≡ length names) × AllByRecursion (λ node. node < length flow.nodes) nodes)
 nodes_below flow [] = (refl, tt)
-nodes_below flow (name ∷ names) = more (node_named flow name) (nodes_named flow names) (node_below flow name) (nodes_below flow names)
+nodes_below flow (name ∷ names) = more (node_with_name flow name) (nodes_named flow names) (node_below flow name) (nodes_below flow names)
   where
     more : (o : Option ℕ) (os : Option (List ℕ)) → IfSome o (λ node. node < length flow.nodes)
         → IfSome os (λ nodes. (length nodes ≡ length names) × AllByRecursion (λ node. node < length flow.nodes) nodes)
@@ -93,22 +93,22 @@ lone_sound flow verb =
 delivery_sound : (flow : Dataflow) (name : List ℕ) (stamp : Option (List ℕ)) → IfOk (option_map_or (delivery_on flow stamp) (edge_named flow name) (Err S2)) (IsStepOf flow)
 delivery_sound flow name stamp = at_place flow (λ e. e < length flow.edges) (delivery_on flow stamp) (edge_named flow name) (edge_below flow name) (λ e h. made flow (IsTimeIn (bounds_of flow (receiver flow e))) (λ at. step.Deliver e at) S3 (told_in (bounds_of flow (receiver flow e)) stamp) (told_sound (bounds_of flow (receiver flow e)) stamp) (λ at k. (h, k)))
 
-notification_sound : (flow : Dataflow) (name : List ℕ) (stamp : Option (List ℕ)) → IfOk (option_map_or (notification_of flow stamp) (node_named flow name) (Err S2)) (IsStepOf flow)
-notification_sound flow name stamp = at_place flow (λ n. n < length flow.nodes) (notification_of flow stamp) (node_named flow name) (node_below flow name) (λ n h. made flow (IsTimeIn (bounds_of flow n)) (λ at. step.Notify n at) S3 (told_in (bounds_of flow n) stamp) (told_sound (bounds_of flow n) stamp) (λ at k. (h, k)))
+notification_sound : (flow : Dataflow) (name : List ℕ) (stamp : Option (List ℕ)) → IfOk (option_map_or (notification_of flow stamp) (node_with_name flow name) (Err S2)) (IsStepOf flow)
+notification_sound flow name stamp = at_place flow (λ n. n < length flow.nodes) (notification_of flow stamp) (node_with_name flow name) (node_below flow name) (λ n h. made flow (IsTimeIn (bounds_of flow n)) (λ at. step.Notify n at) S3 (told_in (bounds_of flow n) stamp) (told_sound (bounds_of flow n) stamp) (λ at k. (h, k)))
 
 stamped_sound : (flow : Dataflow) (verb name : List ℕ) (stamp : Option (List ℕ)) → IfOk (stamped_step flow verb name stamp) (IsStepOf flow)
 stamped_sound flow verb name stamp =
     either (IsStepOf flow) (bytes_eq verb (codes "deliver")) (option_map_or (delivery_on flow stamp) (edge_named flow name) (Err S2)) _ (delivery_sound flow name stamp)
-    (either (IsStepOf flow) (bytes_eq verb (codes "notify")) (option_map_or (notification_of flow stamp) (node_named flow name) (Err S2)) (Err S1) (notification_sound flow name stamp) tt)
+    (either (IsStepOf flow) (bytes_eq verb (codes "notify")) (option_map_or (notification_of flow stamp) (node_with_name flow name) (Err S2)) (Err S1) (notification_sound flow name stamp) tt)
 
 named_sound : (flow : Dataflow) (verb name : List ℕ) → IfOk (named_step flow verb name) (IsStepOf flow)
 named_sound flow verb name =
     either (IsStepOf flow) (bytes_eq verb (codes "inject")) (ok_or (option_map step.Inject (node_of_kind flow is_input_kind name)) S2) _
-    (made flow (IsNodeOfKind flow is_input_kind) (λ n. step.Inject n) S2 (node_of_kind flow is_input_kind name) (node_sound flow is_input_kind (node_named flow name) (node_below flow name)) (λ n h. h))
-    (either (IsStepOf flow) (bytes_eq verb (codes "checkpoint")) (ok_or (option_map step.Checkpoint (node_named flow name)) S2) _
-    (made flow (λ n. n < length flow.nodes) (λ n. step.Checkpoint n) S2 (node_named flow name) (node_below flow name) (λ n h. h))
+    (made flow (IsNodeOfKind flow is_input_kind) (λ n. step.Inject n) S2 (node_of_kind flow is_input_kind name) (node_sound flow is_input_kind (node_with_name flow name) (node_below flow name)) (λ n h. h))
+    (either (IsStepOf flow) (bytes_eq verb (codes "checkpoint")) (ok_or (option_map step.Checkpoint (node_with_name flow name)) S2) _
+    (made flow (λ n. n < length flow.nodes) (λ n. step.Checkpoint n) S2 (node_with_name flow name) (node_below flow name) (λ n h. h))
     (either (IsStepOf flow) (bytes_eq verb (codes "ack")) (ok_or (option_map step.Ack (node_of_kind flow is_output_kind name)) S2) (stamped_step flow verb name None)
-    (made flow (IsNodeOfKind flow is_output_kind) (λ n. step.Ack n) S2 (node_of_kind flow is_output_kind name) (node_sound flow is_output_kind (node_named flow name) (node_below flow name)) (λ n h. h))
+    (made flow (IsNodeOfKind flow is_output_kind) (λ n. step.Ack n) S2 (node_of_kind flow is_output_kind name) (node_sound flow is_output_kind (node_with_name flow name) (node_below flow name)) (λ n h. h))
     (stamped_sound flow verb name None)))
 
 short_sound : (flow : Dataflow) (verb : List ℕ) (words : List (List ℕ)) → IfOk (short_step flow verb words) (IsStepOf flow)

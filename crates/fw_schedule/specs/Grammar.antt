@@ -7,7 +7,7 @@ use Rattle.std.specs.Str.Parse.{digits_value}
 use Rattle.fw_lines.specs.declared.refusal.Code.{Code}
 use Rattle.fw_lines.specs.declared.refusal.Code.TheVariants.{S1, S4}
 use Rattle.fw_lines.specs.declared.refusal.Refusal.{Refusal}
-use Rattle.fw_lines.specs.Faults.{Rules, IsSound, IsFirstRefusal}
+use Rattle.fw_lines.specs.Faults.{Rules, BreaksNone, IsFirstRefusal}
 use Rattle.fw_lines.specs.Lines.{Said, said_lines}
 use Rattle.fw_lines.specs.Spelling.{is_numeral}
 use Rattle.fw_flow.specs.declared.step.Step.{Step}
@@ -43,27 +43,27 @@ within_limit count (Ok item) = if nat_le (count + steps_in item) step_limit then
 within_limit count (Err code) = Err code
 
 -- the rule that a line of these words breaks behind so many steps; a line without words breaks none
-abbrev pub fault_of : Dataflow → ℕ → List (List ℕ) → Option Code
-fault_of flow count [] = None
-fault_of flow count (word ∷ words) = result_err (within_limit count (item_of flow (word ∷ words)))
+abbrev pub schedule_words_fault : Dataflow → ℕ → List (List ℕ) → Option Code
+schedule_words_fault flow count [] = None
+schedule_words_fault flow count (word ∷ words) = result_err (within_limit count (item_of flow (word ∷ words)))
 
 -- the rule that a line breaks behind the steps of the lines before it
-abbrev pub line_fault : Dataflow → List Said → Said → Option Code
-line_fault flow before line = fault_of flow (step_count (items_of flow before)) line.words
+abbrev pub schedule_fault : Dataflow → List Said → Said → Option Code
+schedule_fault flow before line = schedule_words_fault flow (step_count (items_of flow before)) line.words
 
 -- the longest text, in bytes
-abbrev pub size_limit : ℕ
-size_limit = 16777216
+abbrev pub schedule_size_limit : ℕ
+schedule_size_limit = 16777216
 
 -- what is asked of a schedule of the flow
-abbrev pub rules_of : Dataflow → Rules
-rules_of flow = record { most = size_limit; too_long = S4; breaks = λ before line code. line_fault flow before line ≡ Some code }
+abbrev pub schedule_rules : Dataflow → Rules
+schedule_rules flow = record { most = schedule_size_limit; too_long = S4; breaks = λ before line code. schedule_fault flow before line ≡ Some code }
 
 -- the text has the form of a schedule of the flow, and the items are what its lines ask for
-pub record IsAccepted (text : List ℕ) (flow : Dataflow) (items : List Item) : Type 0 where
-  pub sound : IsSound (rules_of flow) text
+pub record IsAcceptedSchedule (text : List ℕ) (flow : Dataflow) (items : List Item) : Type 0 where
+  pub sound : BreaksNone (schedule_rules flow) text
   pub value : items ≡ items_of flow (said_lines text)
 
 -- the refusal is the first rule of schedules of the flow that the text breaks
-abbrev pub IsRefused : List ℕ → Dataflow → Refusal → Type 0
-IsRefused text flow refusal = IsFirstRefusal (rules_of flow) text refusal
+abbrev pub IsRefusedSchedule : List ℕ → Dataflow → Refusal → Type 0
+IsRefusedSchedule text flow refusal = IsFirstRefusal (schedule_rules flow) text refusal

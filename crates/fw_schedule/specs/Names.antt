@@ -15,8 +15,8 @@ are_names [] = false
 are_names (name ∷ names) = is_name name && list_all is_name names
 
 -- the place of the node with a name
-abbrev pub node_named : Dataflow → List ℕ → Option ℕ
-node_named flow name = place_of name (map (λ (n : Node). n.name) flow.nodes)
+abbrev pub node_with_name : Dataflow → List ℕ → Option ℕ
+node_with_name flow name = place_of name (map (λ (n : Node). n.name) flow.nodes)
 
 -- the place of the edge with a name
 abbrev pub edge_named : Dataflow → List ℕ → Option ℕ
@@ -28,10 +28,10 @@ if_kind flow is_such node = if is_such (kind_of flow node) then Some node else N
 
 -- the place of the node with a name, if it is of such a kind
 abbrev pub node_of_kind : Dataflow → (Kind → Bool) → List ℕ → Option ℕ
-node_of_kind flow is_such name = option_and_then (if_kind flow is_such) (node_named flow name)
+node_of_kind flow is_such name = option_and_then (if_kind flow is_such) (node_with_name flow name)
 
 -- the places of the nodes with these names, in their order, if each is that of a node
 abbrev pub nodes_named : Dataflow → List (List ℕ) → Option (List ℕ)
 nodes_named flow [] = Some []
 nodes_named flow (name ∷ names) =
-    option_and_then (λ node. option_map (λ nodes. node ∷ nodes) (nodes_named flow names)) (node_named flow name)
+    option_and_then (λ node. option_map (λ nodes. node ∷ nodes) (nodes_named flow names)) (node_with_name flow name)

@@ -18,13 +18,13 @@ abbrev pub is_stamp : List ℕ → Bool
 is_stamp word = list_all is_numeral (coordinates word)
 
 -- the stamp that a word spells
-abbrev pub stamp_of : List ℕ → Stamp
-stamp_of word = map (digits_value 10) (coordinates word)
+abbrev pub stamp_spelled : List ℕ → Stamp
+stamp_spelled word = map (digits_value 10) (coordinates word)
 
 -- the number, if it is at most the greatest one
-abbrev pub up_to : ℕ → ℕ → Option ℕ
-up_to greatest n = if nat_le n greatest then Some n else None
+abbrev pub if_at_most : ℕ → ℕ → Option ℕ
+if_at_most greatest n = if nat_le n greatest then Some n else None
 
 -- the number, if the greatest stamp has a coordinate at the place that is not lesser
 abbrev pub coord_up_to : Stamp → ℕ → ℕ → Option ℕ
-coord_up_to greatest place n = if nat_lt place (length greatest) then up_to (slice_index greatest place) n else None
+coord_up_to greatest place n = if nat_lt place (length greatest) then if_at_most (slice_index greatest place) n else None

@@ -10,13 +10,13 @@ use Rattle.fw_lines.specs.Spelling.{is_name}
 use Rattle.fw_flow.specs.declared.step.Step.{Step}
 use Rattle.fw_flow.specs.declared.step.Step.TheVariants.{Inject, Deliver, Notify, Progress, Checkpoint, Persist, Fail, Recover, Collect, Ack}
 use Rattle.fw_flow.specs.Dataflow.{Dataflow, receiver, bounds_of, is_input_kind, is_output_kind}
-use Rattle.fw_schedule.specs.Names.{are_names, node_named, edge_named, node_of_kind, nodes_named}
-use Rattle.fw_schedule.specs.Stamps.{is_stamp, stamp_of}
+use Rattle.fw_schedule.specs.Names.{are_names, node_with_name, edge_named, node_of_kind, nodes_named}
+use Rattle.fw_schedule.specs.Stamps.{is_stamp, stamp_spelled}
 
 -- the stamp that a word spells, if it lies in the domain; where there is no word no stamp is told
 abbrev pub told_in : Bounds → Option (List ℕ) → Option (Option Stamp)
 told_in bounds None = Some None
-told_in bounds (Some word) = if in_domain bounds (stamp_of word) then Some (Some (stamp_of word)) else None
+told_in bounds (Some word) = if in_domain bounds (stamp_spelled word) then Some (Some (stamp_spelled word)) else None
 
 -- the delivery on an edge; S3, unless the stamp lies in the receiver's domain
 abbrev pub delivery_on : Dataflow → Option (List ℕ) → ℕ → Result Step Code
@@ -38,14 +38,14 @@ lone_step verb =
 abbrev pub stamped_step : Dataflow → List ℕ → List ℕ → Option (List ℕ) → Result Step Code
 stamped_step flow verb name stamp =
     if bytes_eq verb (codes "deliver") then option_map_or (delivery_on flow stamp) (edge_named flow name) (Err S2)
-    else (if bytes_eq verb (codes "notify") then option_map_or (notification_of flow stamp) (node_named flow name) (Err S2)
+    else (if bytes_eq verb (codes "notify") then option_map_or (notification_of flow stamp) (node_with_name flow name) (Err S2)
     else Err S1)
 
 -- the step of a line of a verb and a name
 abbrev pub named_step : Dataflow → List ℕ → List ℕ → Result Step Code
 named_step flow verb name =
     if bytes_eq verb (codes "inject") then ok_or (option_map Inject (node_of_kind flow is_input_kind name)) S2
-    else (if bytes_eq verb (codes "checkpoint") then ok_or (option_map Checkpoint (node_named flow name)) S2
+    else (if bytes_eq verb (codes "checkpoint") then ok_or (option_map Checkpoint (node_with_name flow name)) S2
     else (if bytes_eq verb (codes "ack") then ok_or (option_map Ack (node_of_kind flow is_output_kind name)) S2
     else stamped_step flow verb name None))
 

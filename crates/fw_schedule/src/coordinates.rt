@@ -4,7 +4,7 @@ ghost use Rattle.std.specs.Str.Parse.{digits_value};
 ghost use Rattle.fw_lines.specs.Spelling as spelling;
 ghost use Rattle.fw_time.specs.Stamp.{leq};
 ghost use Rattle.fw_schedule.specs.Stamps as spec;
-ghost use Rattle.fw_schedule.specs.Stamps.{stamp_of};
+ghost use Rattle.fw_schedule.specs.Stamps.{stamp_spelled};
 
 use arrayvec::ArrayVec;
 use fw_lines::{Number, number};
@@ -21,7 +21,7 @@ pub fn is_stamp(word: &[u8]) -> bool
 pub fn stamp_up_to(word: &[u8], greatest: &Stamp) -> Option<Stamp>
     requires { spec.is_stamp word.now ≡ true }
     ensures { result
-        ≡ (if leq (stamp_of word.now) greatest.now then Some (stamp_of word.now) else None) }
+        ≡ (if leq (stamp_spelled word.now) greatest.now then Some (stamp_spelled word.now) else None) }
 {
     let mut coords = ArrayVec::<u32, 4>::new();
     for part in word.split(|byte| *byte == b'.') {
@@ -57,7 +57,7 @@ fn is_numeral(word: &[u8]) -> bool
 #[tactic(auto, unfolding(fw_lines::specs::Spelling::number_of))]
 fn number_up_to(digits: &[u8], greatest: u32) -> Option<u32>
     requires { spelling.is_numeral digits.now ≡ true }
-    ensures { result ≡ spec.up_to greatest (digits_value 10 digits.now) }
+    ensures { result ≡ spec.if_at_most greatest (digits_value 10 digits.now) }
 {
     match number(digits) {
         Number::Value(value) if value <= u64::from(greatest) => Some(value as u32),

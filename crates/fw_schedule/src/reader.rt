@@ -7,7 +7,7 @@ ghost use Rattle.fw_lines.specs.Faults.{IfRefused};
 ghost use Rattle.fw_lines.specs.Lines.{words_at, said_in};
 ghost use Rattle.fw_schedule.specs.declared.item.Item.{Item};
 ghost use Rattle.fw_schedule.specs.Grammar as spec;
-ghost use Rattle.fw_schedule.specs.Grammar.{fault_of, items_of, within_limit, IsAccepted, IsRefused};
+ghost use Rattle.fw_schedule.specs.Grammar.{schedule_words_fault, items_of, within_limit, IsAcceptedSchedule, IsRefusedSchedule};
 ghost use Rattle.fw_schedule.specs.Schedule.{IsItemOf, step_count, step_limit};
 
 use crate::item::Item;
@@ -25,8 +25,8 @@ pub const SCHEDULE_LIMIT: usize = 16_777_216;
 /// It takes the memory of the items and of the words of one line. Where no memory is refused it
 /// answers `Ok` exactly for the texts of the grammar, and else the first rule that is broken.
 pub fn read_schedule(alloc: Global, text: &[u8], flow: &Flow) -> Result<Schedule, ReadFault>
-    ensures answer { MatchResult result (IsAccepted text.now flow.now)
-        (IfRefused (IsRefused text.now flow.now)) }
+    ensures answer { MatchResult result (IsAcceptedSchedule text.now flow.now)
+        (IfRefused (IsRefusedSchedule text.now flow.now)) }
     ensures items { IfOk result (AllByRecursion (IsItemOf flow.now)) }
     ensures count { IfOk result (λ items. step_count items ≤ step_limit) }
 {
@@ -48,14 +48,14 @@ pub fn read_schedule(alloc: Global, text: &[u8], flow: &Flow) -> Result<Schedule
 /// rule at one line: so `read_schedule` answers `Ok` exactly for the texts of the grammar, and else that refusal, unless
 /// memory is refused.
 pub fn one_answer()
-    ensures some_answer { (text : List ℕ) (flow : Dataflow) → ((items : List Item) × IsAccepted text flow items)
-        ⊎ ((refusal : Refusal) × IsRefused text flow refusal) }
+    ensures some_answer { (text : List ℕ) (flow : Dataflow) → ((items : List Item) × IsAcceptedSchedule text flow items)
+        ⊎ ((refusal : Refusal) × IsRefusedSchedule text flow refusal) }
     ensures exclusive { (text : List ℕ) (flow : Dataflow) (items : List Item) (refusal : Refusal)
-        → IsAccepted text flow items → IsRefused text flow refusal → ⊥ }
+        → IsAcceptedSchedule text flow items → IsRefusedSchedule text flow refusal → ⊥ }
     ensures one_value { (text : List ℕ) (flow : Dataflow) (first second : List Item)
-        → IsAccepted text flow first → IsAccepted text flow second → first ≡ second }
+        → IsAcceptedSchedule text flow first → IsAcceptedSchedule text flow second → first ≡ second }
     ensures one_refusal { (text : List ℕ) (flow : Dataflow) (first second : Refusal)
-        → IsRefused text flow first → IsRefused text flow second → first ≡ second }
+        → IsRefusedSchedule text flow first → IsRefusedSchedule text flow second → first ≡ second }
 {}
 
 // Adds what a line asks for behind so many steps, and answers how many they are with its own; or tells the rule that it
@@ -69,14 +69,14 @@ fn read_line(
     items: &mut Schedule,
 ) -> Result<u64, ReadFault>
     requires { count ≤ step_limit }
-    ensures sound { OnOk result (fault_of flow.now count (words_at text.now line.now.words) ≡ None) }
+    ensures sound { OnOk result (schedule_words_fault flow.now count (words_at text.now line.now.words) ≡ None) }
     ensures value { OnOk result
         (items.new ≡ items.old ++ items_of flow.now (said_in text.now line.now ∷ [])) }
     ensures total { IfOk result (λ after. after
         ≡ count + step_count (items_of flow.now (said_in text.now line.now ∷ []))) }
     ensures few { IfOk result (λ after. after ≤ step_limit) }
     ensures broken { IfErr result (IfRefused (λ refusal.
-        (fault_of flow.now count (words_at text.now line.now.words) ≡ Some refusal.code)
+        (schedule_words_fault flow.now count (words_at text.now line.now.words) ≡ Some refusal.code)
         × (refusal.line ≡ line.now.number))) }
     ensures err { OnErr result (items.new ≡ items.old) }
 {

@@ -3,7 +3,7 @@ ghost use Rattle.std.specs.Prelude.{◌≡◌, true, [], ◌∷◌, Some, IfOk, 
 ghost use Rattle.std.specs.Option.{option_map, option_map_or};
 ghost use Rattle.std.specs.Str.{bytes_eq};
 ghost use Rattle.fw_lines.specs.Lines.{bytes_at, words_at};
-ghost use Rattle.fw_schedule.specs.Names.{edge_named, node_named};
+ghost use Rattle.fw_schedule.specs.Names.{edge_named, node_with_name};
 ghost use Rattle.fw_schedule.specs.Stamps as stamps;
 ghost use Rattle.fw_schedule.specs.Steps as spec;
 ghost use Rattle.fw_schedule.specs.Steps.{told_in};
@@ -179,7 +179,7 @@ fn delivery(text: &[u8], name: Span, stamp: Option<Span>, flow: &Flow) -> Result
 fn notification(text: &[u8], name: Span, stamp: Option<Span>, flow: &Flow) -> Result<Step, Code>
     requires { IfSome stamp (λ word. stamps.is_stamp (bytes_at text.now word) ≡ true) }
     ensures { result ≡ option_map_or (spec.notification_of flow.now (option_map (bytes_at text.now) stamp))
-        (node_named flow.now (bytes_at text.now name)) (Err Code.S2) }
+        (node_with_name flow.now (bytes_at text.now name)) (Err Code.S2) }
 {
     let Some(node) = flow.node_named(name.of(text)) else {
         return Err(Code::S2);

@@ -42,7 +42,7 @@ use Rattle.fw_running.specs.Logging.{with_keep, ChangesKeep, IsAsked, IsNotAsked
 use Rattle.fw_running.specs.Stands.{Stands}
 use Rattle.fw_running.specs.Steps.{IsUndamaged, PartAnswers}
 use Rattle.fw_outside.specs.Outside.{StoreView}
-use Rattle.fw_settle.specs.Checkpoints.{IsTold, IsMadeAt, AsksCheckpoint, CanBeMadeAt}
+use Rattle.fw_settle.specs.Checkpoints.{IsSoInEachHistory, IsMadeAt, AsksCheckpoint, CanBeMadeAt}
 use Rattle.fw_settle.specs.Settling.{grows, NoneGrowsIn, AddsEntries, KeepsEntries, AsksIfEager, HaveAsked}
 use Rattle.fw_settle.proofs.WritesLaws.{asked-entry, asked-stored, can-be_made}
 
@@ -100,7 +100,7 @@ kept-withdrawn old mid new before after a w = record {
 pub asks-made : (result : Result (Unit {0}) EngineFault) (p : ℕ) (f : Front) (old new : Running) (before after : Option Records) (checkpoint : Checkpoint) (stamps : Stamps)
     → OnOk result (IsAsked (tagged.State checkpoint) stamps old.parts.keep.entries new.parts.keep.entries before after) → IsMadeAt old p f checkpoint
     → HasCountableLists checkpoint
-    → IsTold old.flow old.traces p f (λ sys h. AreStampsOf sys (events_inside (node_frontier old.flow p f) h) p (node_frontier old.flow p f) stamps)
+    → IsSoInEachHistory old.flow old.traces p f (λ sys h. AreStampsOf sys (events_inside (node_frontier old.flow p f) h) p (node_frontier old.flow p f) stamps)
     → OnOk result (AsksCheckpoint p f old new before after)
 asks-made (Ok x) p f old new before after checkpoint stamps a made few held = record { checkpoint = checkpoint; stamps = stamps; made = made; few = few; held = held; asked = a }
 asks-made (Err e) p f old new before after checkpoint stamps a made few held = tt

@@ -29,7 +29,7 @@ use Rattle.fw_progress.specs.Trace.{IsTraceOf, IsTraceWithin}
 use Rattle.fw_stands.specs.Parts.{IsTraceIn}
 use Rattle.fw_stands.proofs.AtReached.{reached-legal}
 use Rattle.fw_stands.proofs.SettlingLaws.{base-settled}
-use Rattle.fw_settle.specs.Checkpoints.{IsDelivered, IsDiscarded, IsRecordedAt}
+use Rattle.fw_settle.specs.Checkpoints.{IsCoverDelivered, IsDiscarded, IsRecordedAt}
 use Rattle.fw_settle.proofs.EachEdgeLaws.{IsAmong, zip-edges, zip-fronts, fronts-of_edges, each-among, front-at}
 
 -- ---- what traces tell
@@ -54,10 +54,10 @@ no-notices k policy.Full e = refl
 
 delivered-counts : (sys : System) (state : Machine) (p : ℕ) (f : Front) (traces : Traces) → IsWellFormedSystem sys → IsReached sys state
     → way_of sys.flow p ≡ Checkpoints → IsTraceWithin sys (events state.history) p f traces
-    → AllByRecursion (λ d. (front : Front) → IsDelivered sys.flow traces f d front
+    → AllByRecursion (λ d. (front : Front) → IsCoverDelivered sys.flow traces f d front
     → IsFrontOf (bounds_of sys.flow (receiver sys.flow d)) front ((covers_in sys state).delivered d (At f))) (in_edges sys.flow p)
 delivered-counts sys state p f traces w r way t =
-    in_edges-from (λ d. (front : Front) → IsDelivered sys.flow traces f d front
+    in_edges-from (λ d. (front : Front) → IsCoverDelivered sys.flow traces f d front
     → IsFrontOf (bounds_of sys.flow (receiver sys.flow d)) front ((covers_in sys state).delivered d (At f))) sys.flow p
     (λ d l e front told.
     let q = receiver sys.flow d in
@@ -102,11 +102,11 @@ recorded-at sys state p f traces r w reached takes c t i =
     let covers = covers_in sys state in
     let way : way_of flow p ≡ Checkpoints = takes-restoring (kind_of flow p) (policy_of flow p) (w.flow.policies p (takes-declared flow p takes)) takes in
     let notified = i.notified sys (events state.history) refl (has_epochs sys w) (reached-legal sys state w reached) t in
-    let delivered = zip-fronts (IsDelivered flow traces f) flow (λ d. covers.delivered d (At f)) (in_edges flow p) r.delivered
+    let delivered = zip-fronts (IsCoverDelivered flow traces f) flow (λ d. covers.delivered d (At f)) (in_edges flow p) r.delivered
     (delivered-counts sys state p f traces w reached way t) i.delivered in
     let discarded = zip-fronts (IsDiscarded flow traces f (can_resend (policy_of flow p))) flow (λ e. covers.discarded e (At f)) (out_edges flow p) r.discarded
     (discarded-counts sys state p f traces w reached way t) i.discarded in
-    let in_each = zip-edges (IsDelivered flow traces f) (in_edges flow p) r.delivered i.delivered in
+    let in_each = zip-edges (IsCoverDelivered flow traces f) (in_edges flow p) r.delivered i.delivered in
     let out_each = zip-edges (IsDiscarded flow traces f (can_resend (policy_of flow p))) (out_edges flow p) r.discarded i.discarded in
     record {
       front = i.front;

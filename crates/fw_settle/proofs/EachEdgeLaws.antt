@@ -148,7 +148,7 @@ edges-sound flow w es xs there a is c few =
     let F : OfEdge → Type 0 = λ x. IsCountable x.front in
     record {
       few = few.edges;
-      parts = each-weaker (λ x. T x × (C x × F x)) sound.IsOfEdge xs
+      parts = each-weaker (λ x. T x × (C x × F x)) sound.IsEdgeFront xs
           (λ x k. let there = k.0 in record { edge = omega (arith, limit, there); front = front-sound flow w (receiver flow x.edge) x.front k.1.1 k.1.0 })
           (each-both T (λ x. C x × F x) xs (of_edges xs (subst (AllByRecursion (λ e. e < length flow.edges)) (sym is) there)) (each-both C F xs c few.fronts));
       follow = edges-follow 0 xs (subst (Ascend 0) (sym is) a);

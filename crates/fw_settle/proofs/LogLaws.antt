@@ -28,7 +28,7 @@ use Rattle.fw_model.proofs.SortedLaws.{same_sorted_messages, sorted_messages-fil
 use Rattle.fw_model.proofs.WeightLaws.{weigh, weigh-flat_map, weigh-map, weigh-same}
 use Rattle.fw_policy.proofs.RecordedLaws.{one-cause}
 use Rattle.fw_record.specs.declared.logged.Logged.{Logged}
-use Rattle.fw_record.specs.Sound.{IsStamp, IsOneStamp, IsRec, IsLogged, IsLog}
+use Rattle.fw_record.specs.Sound.{IsStamp, IsOneStamp, IsRec, IsLoggedMessage, IsLog}
 use Rattle.fw_stands.specs.Parts.{is_logging, logged}
 use Rattle.fw_record.specs.Log.{logged_on}
 use Rattle.fw_stands.specs.Written.{to_log}
@@ -286,7 +286,7 @@ log-sound sys state w r p f logs log are i =
     (subst (AllByRecursion (IsSentOn sys e)) (sym (are e s)) (logged-spelled sys w state r e))) in
     record {
       few = i.few;
-      parts = each-weaker (λ (l : Logged). P l × IsRec l.message.rec) IsLogged log (λ l a. record { edge = a.0.0; at = a.0.1.0; causes = a.0.1.1; rec = a.1 })
+      parts = each-weaker (λ (l : Logged). P l × IsRec l.message.rec) IsLoggedMessage log (λ l a. record { edge = a.0.0; at = a.0.1.0; causes = a.0.1.1; rec = a.1 })
           (each-both P (λ (l : Logged). IsRec l.message.rec) log each i.small);
       follow = i.follow;
     }

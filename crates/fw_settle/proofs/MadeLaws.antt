@@ -10,7 +10,7 @@ use Rattle.fw_flow.specs.declared.kind.Kind.TheVariants as kind
 use Rattle.fw_flow.specs.declared.restoring.Restoring.TheVariants.{Checkpoints}
 use Rattle.fw_flow.specs.Dataflow.{System, kind_of, policy_of, in_edges, out_edges, node_frontier, is_sequence_kind}
 use Rattle.fw_flow.specs.Projection.{sent_count}
-use Rattle.fw_flow.specs.SentTable.{AreInOrder}
+use Rattle.fw_flow.specs.SentTable.{EpochsAscend}
 use Rattle.fw_flow.specs.Restoring.{can_resend, way_of}
 use Rattle.fw_flow.proofs.EdgeLaws.{in_edges-from}
 use Rattle.fw_flow.proofs.OutEdgeLaws.{out_edges-from}
@@ -27,7 +27,7 @@ use Rattle.fw_stands.specs.Written.{IsCheckpointFor}
 use Rattle.fw_stands.proofs.AtReached.{reached-legal}
 use Rattle.fw_running.specs.declared.running.Running.{Running}
 use Rattle.fw_running.specs.Kept.{log_at, table_of}
-use Rattle.fw_settle.specs.Checkpoints.{IsDelivered, IsDiscarded, IsTold, IsRecordedAt, AreTotalsAt, AreSendsOf, AreSendsAt, IsLogAt, IsMadeAt, CanBeMadeAt}
+use Rattle.fw_settle.specs.Checkpoints.{IsCoverDelivered, IsDiscarded, IsSoInEachHistory, IsRecordedAt, AreTotalsAt, AreSendsOf, AreSendsAt, IsLogAt, IsMadeAt, CanBeMadeAt}
 use Rattle.fw_settle.proofs.CheckpointLaws.{recorded-at, within-front}
 use Rattle.fw_settle.proofs.EachEdgeLaws.{zip-edges, front-sound, in_edges-sound, out_edges-sound}
 use Rattle.fw_settle.proofs.LogLaws.{log-is, log-edges, log-sound}
@@ -62,7 +62,7 @@ pub record IsSo (sys : System) (running : Running) (state : Machine) (p : ℕ) (
 made-so : (sys : System) (running : Running) (state : Machine) (p : ℕ) (f : Front) (c : Checkpoint) → CanBeMadeAt sys running state p f → IsMadeAt running p f c
     → IsSo sys running state p f c
 made-so sys running state p f c can made =
-    let told = subst (λ flow. IsTold flow running.traces p f (λ s h. counts_sent flow p ≡ true → c.state.sent ≡ sent_count s h p (node_frontier flow p f))) can.flow made.state.sent in
+    let told = subst (λ flow. IsSoInEachHistory flow running.traces p f (λ s h. counts_sent flow p ≡ true → c.state.sent ≡ sent_count s h p (node_frontier flow p f))) can.flow made.state.sent in
     record {
       can = can;
       node = made.node;
@@ -89,7 +89,7 @@ made-for sys running state p f c can made =
     record {
       node = so.node;
       recorded = recorded-at sys state p f running.traces c.recorded w can.reached can.takes can.canonical t so.recorded;
-      in_each = zip-edges (IsDelivered flow running.traces f) (in_edges flow p) c.recorded.delivered so.recorded.delivered;
+      in_each = zip-edges (IsCoverDelivered flow running.traces f) (in_edges flow p) c.recorded.delivered so.recorded.delivered;
       out_each = zip-edges (IsDiscarded flow running.traces f (can_resend (policy_of flow p))) (out_edges flow p) c.recorded.discarded so.recorded.discarded;
       table = record {
         totals = totals-are sys state p f way can.live can.settled (table_of running p) can.table (totals_in c.state.entries) so.totals;
@@ -109,7 +109,7 @@ made-for sys running state p f c can made =
 entries-sound : (entries : Entries) → AreTotals (totals_in entries) → AreEntries entries
 entries-sound (Totals totals) a = a
 
-sends-sound : (b : Bool) (f : Front) (table : List (ℕ × ℕ)) (sends : List SentCount) → AreSendsAt b f table sends → (b ≡ true → AreInOrder table) → length sends < 2 ^ 32
+sends-sound : (b : Bool) (f : Front) (table : List (ℕ × ℕ)) (sends : List SentCount) → AreSendsAt b f table sends → (b ≡ true → EpochsAscend table) → length sends < 2 ^ 32
     → AreSentCounts sends
 sends-sound true f table sends a in_order few = record { few = few; parts = a.parts; follow = a.follow (in_order refl) }
 sends-sound false f table sends a in_order few = subst AreSentCounts (sym a) (record { few = omega arith; parts = tt; follow = refl })

@@ -46,7 +46,7 @@ use Rattle.fw_running.specs.Stands.{Stands}
 use Rattle.fw_running.specs.Steps.{Follows, TakesStep, IsStepEnabled, IsUndamaged}
 use Rattle.fw_settle.proofs.SettleLaws.{past-grows}
 use Rattle.fw_settle.proofs.WritesLaws.{kept-stands}
-use Rattle.fw_settle.specs.Settling.{grows, NoneGrowsIn, IsNextToSettle, KeepsEntries, HaveAsked, with_settled, ChangesSettled, IsTableSettled, settles_traces, HaveSettled, Progresses}
+use Rattle.fw_settle.specs.Settling.{grows, NoneGrowsIn, IsNextToSettle, KeepsEntries, HaveAsked, settled_into, ChangesSettled, IsTableSettled, settles_traces, HaveSettled, Progresses}
 
 -- ---- what is settled
 
@@ -91,7 +91,7 @@ settled-stands : (sys : System) (state : Machine) (mid new : Running) (keep : Ke
     → LeadsTo sys state ProgressStep (settled_state sys state new.progress.settled) silent
     → AreEntriesOf sys (settled_state sys state new.progress.settled) keep.entries (uncollected (settled_state sys state new.progress.settled))
     → AreStored sys (settled_state sys state new.progress.settled) after keep.entries (uncollected (settled_state sys state new.progress.settled))
-    → Stands sys (with_settled new (with_keep keep mid)) after (settled_state sys state new.progress.settled)
+    → Stands sys (settled_into new (with_keep keep mid)) after (settled_state sys state new.progress.settled)
 settled-stands sys state mid new keep before after s shaped to h u entries stored =
     let settled = new.progress.settled in
     let next = settled_state sys state settled in
@@ -177,7 +177,7 @@ progress-follows sys state mid new before after p s shaped complete first does =
     record {
       next = next;
       steps = u;
-      stands = subst (λ (r : Running). Stands sys r after next) (sym (does.others ∙ ap (with_settled new) does.keeps))
+      stands = subst (λ (r : Running). Stands sys r after next) (sym (does.others ∙ ap (settled_into new) does.keeps))
           (settled-stands sys state mid new asked.parts.keep before after s shaped to (subst (λ k. HaveSettled k mid new) nodes h) u entries_then stored_then);
     }
   where

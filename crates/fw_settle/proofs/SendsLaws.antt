@@ -19,11 +19,11 @@ use Rattle.fw_frontier.specs.Frontier.{Frontier}
 use Rattle.fw_frontier.specs.Front.{Front, inside}
 use Rattle.fw_frontier.specs.declared.state.SentCount.{SentCount}
 use Rattle.fw_flow.specs.Projection.{table_count}
-use Rattle.fw_flow.specs.SentTable.{AreInOrder}
+use Rattle.fw_flow.specs.SentTable.{EpochsAscend}
 use Rattle.fw_record.specs.Sound.{IsStamp, IsSentCount, each_may_follow, may_follow_counts}
 use Rattle.fw_stands.specs.Written.{told_inside}
 use Rattle.fw_settle.specs.Checkpoints.{AreSendsOf}
-use Rattle.fw_settle.specs.Sends.{IsLimitOf, is_last_of, HasTaken, HasCount, HasSends}
+use Rattle.fw_settle.specs.Sends.{IsEpochLimit, is_last_of, HasTaken, HasCount, HasSends}
 
 -- the last of a list is that of its rest, if there is one
 last_step : {A : Type 0} (x y : A) (zs : List A) → slice_get (x ∷ y ∷ zs) (length (x ∷ y ∷ zs) - 1) ≡ slice_get (y ∷ zs) (length (y ∷ zs) - 1)
@@ -161,7 +161,7 @@ pub record AreToldOf (f : Front) (table : List (ℕ × ℕ)) (sends : List SentC
   pub told : (g : Frontier) → told_inside g sends ≡ table_count (λ t. inside f t && g t) table
   pub parts : AllByRecursion IsSentCount sends
   pub below : (x : ℕ) → AreUpTo x table → AreBelow (suc x) sends
-  pub rise : AreInOrder table → Rise 0 sends
+  pub rise : EpochsAscend table → Rise 0 sends
 
 pub told-none : (f : Front) → AreToldOf f [] []
 told-none f = record { told = λ g. refl; parts = tt; below = λ x a. tt; rise = λ o. tt }
@@ -170,7 +170,7 @@ pub told-all : (f : Front) (table : List (ℕ × ℕ)) (sends : List SentCount) 
 told-all f table sends a = record { told = a.told; parts = a.parts; follow = λ o. rise-follow 0 sends (a.rise o) }
 
 -- the order of a table and one entry more
-order-less : (table : List (ℕ × ℕ)) (x count : ℕ) → AreInOrder (table ++ (x, count) ∷ []) → AreInOrder table × AreUpTo x table
+order-less : (table : List (ℕ × ℕ)) (x count : ℕ) → EpochsAscend (table ++ (x, count) ∷ []) → EpochsAscend table × AreUpTo x table
 order-less table x count o =
     let all = table ++ (x, count) ∷ [] in
     let long : length all ≡ length table + 1 = length-append table ((x, count) ∷ []) in (
@@ -304,7 +304,7 @@ taken-last cause old new x last is =
     sym (ap (λ o. option_map_or (λ (s : SentCount). same s.cause cause) o false) (last_of new x)) ∙ ap (is_last_of cause) (sym is) ∙ last in
     inl (subst (λ c. old ≡ new ++ record { cause = c; count = x.count } ∷ []) (same-is x.cause cause of_stamp) is)
 
-pub told-next : (f : Front) (table : List (ℕ × ℕ)) (limit i x count : ℕ) (old new : List SentCount) → IsLimitOf f limit → i < length table
+pub told-next : (f : Front) (table : List (ℕ × ℕ)) (limit i x count : ℕ) (old new : List SentCount) → IsEpochLimit f limit → i < length table
     → slice_get table i ≡ Some (x, count) → AreToldOf f (take i table) old → HasSends (nat_lt x limit) x count old new → AreToldOf f (take (i + 1) table) new
 told-next f table limit i x count old new to l is a h =
     let there : Some (get_or table i (x, count)) ≡ Some (x, count) = sym (slice_get-get_or table i (x, count) l) ∙ is in

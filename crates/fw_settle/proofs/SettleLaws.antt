@@ -19,7 +19,7 @@ use Rattle.fw_rollback.specs.Tables.{table_at}
 use Rattle.fw_running.specs.declared.running.Running.{Running}
 use Rattle.fw_running.specs.Kept.{table_of}
 use Rattle.fw_running.specs.Shaped.{IsShaped}
-use Rattle.fw_settle.specs.Settling.{grows, NoneGrowsIn, with_settled, ChangesSettled, IsTableSettled, SettlesTo, SettlesNothing, SettlesKept, settles_traces, HaveSettled}
+use Rattle.fw_settle.specs.Settling.{grows, NoneGrowsIn, settled_into, ChangesSettled, IsTableSettled, SettlesTo, SettlesNothing, SettlesKept, settles_traces, HaveSettled}
 
 -- ---- which nodes
 
@@ -242,4 +242,4 @@ pub changes-none : (old : Running) → ChangesSettled old old
 changes-none old = refl
 
 pub changes-both : (old mid new : Running) → ChangesSettled old mid → ChangesSettled mid new → ChangesSettled old new
-changes-both old mid new a b = b ∙ ap (with_settled new) a
+changes-both old mid new a b = b ∙ ap (settled_into new) a

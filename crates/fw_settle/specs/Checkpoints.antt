@@ -18,7 +18,7 @@ use Rattle.fw_flow.specs.Dataflow.{System, Dataflow, kind_of, policy_of, sender,
 use Rattle.fw_flow.specs.NodeFunction.{delivered_recs}
 use Rattle.fw_flow.specs.Projection.{sent_count, table_count}
 use Rattle.fw_flow.specs.Restoring.{can_resend}
-use Rattle.fw_flow.specs.SentTable.{AreInOrder}
+use Rattle.fw_flow.specs.SentTable.{EpochsAscend}
 use Rattle.fw_flow.specs.WellFormed.{IsWellFormedSystem}
 use Rattle.fw_model.specs.EventStamps.{AreStampsOf}
 use Rattle.fw_model.specs.Filtering.{events_inside, messages_from}
@@ -52,18 +52,18 @@ use Rattle.fw_running.specs.Logging.{IsAsked}
 -- ---- covers
 
 -- It is so in each history of which these are the traces of node p, thinned inside a base that the frontier holds.
-abbrev pub IsTold : Dataflow → Traces → ℕ → Front → (System → List Event → Type 0) → Type 0
-IsTold flow traces p f IsSo =
+abbrev pub IsSoInEachHistory : Dataflow → Traces → ℕ → Front → (System → List Event → Type 0) → Type 0
+IsSoInEachHistory flow traces p f IsSo =
     (sys : System) (h : List Event) → sys.flow ≡ flow → HasEpochs sys → IsLegal sys h → IsTraceWithin sys h p f traces → IsSo sys h
 
 -- the front is the cover of what was delivered on edge d inside a frontier
-abbrev pub IsDelivered : Dataflow → Traces → Front → ℕ → Front → Type 0
-IsDelivered flow traces f d front = IsTold flow traces (receiver flow d) f (λ sys h. CoversDelivered sys h d f front)
+abbrev pub IsCoverDelivered : Dataflow → Traces → Front → ℕ → Front → Type 0
+IsCoverDelivered flow traces f d front = IsSoInEachHistory flow traces (receiver flow d) f (λ sys h. CoversDelivered sys h d f front)
 
 -- the front is the cover of what was sent on edge e from inside a frontier, or none where it can be sent again
 abbrev pub IsDiscarded : Dataflow → Traces → Front → Bool → ℕ → Front → Type 0
 IsDiscarded flow traces f true e front = IsFrontOf (bounds_of flow (receiver flow e)) front nothing
-IsDiscarded flow traces f false e front = IsTold flow traces (sender flow e) f (λ sys h. CoversSent sys h e f front)
+IsDiscarded flow traces f false e front = IsSoInEachHistory flow traces (sender flow e) f (λ sys h. CoversSent sys h e f front)
 
 -- The front is listed for edge e.
 pub record IsOfEdge (Is : ℕ → Front → Type 0) (e : ℕ) (x : OfEdge) : Type 0 where
@@ -73,8 +73,8 @@ pub record IsOfEdge (Is : ℕ → Front → Type 0) (e : ℕ) (x : OfEdge) : Typ
 -- What is recorded of node p at f: the covers of the events inside, one for each edge.
 pub record IsRecordedAt (flow : Dataflow) (traces : Traces) (p : ℕ) (f : Front) (r : Recorded) : Type 0 where
   pub front : r.front ≡ f
-  pub notified : IsTold flow traces p f (λ sys h. CoversNotified sys h p f r.notified)
-  pub delivered : AllZip (IsOfEdge (IsDelivered flow traces f)) (in_edges flow p) r.delivered
+  pub notified : IsSoInEachHistory flow traces p f (λ sys h. CoversNotified sys h p f r.notified)
+  pub delivered : AllZip (IsOfEdge (IsCoverDelivered flow traces f)) (in_edges flow p) r.delivered
   pub discarded : AllZip (IsOfEdge (IsDiscarded flow traces f (can_resend (policy_of flow p)))) (out_edges flow p) r.discarded
 
 -- ---- the state
@@ -90,7 +90,7 @@ AreTotalsAt flow (Some table) p f totals =
 pub record AreSendsOf (f : Front) (table : List (ℕ × ℕ)) (sends : List SentCount) : Type 0 where
   pub told : (g : Frontier) → told_inside g sends ≡ table_count (λ t. inside f t && g t) table
   pub parts : AllByRecursion IsSentCount sends
-  pub follow : AreInOrder table → each_may_follow may_follow_counts [] sends ≡ true
+  pub follow : EpochsAscend table → each_may_follow may_follow_counts [] sends ≡ true
 
 -- the same of a sequence; of other nodes nothing
 abbrev pub AreSendsAt : Bool → Front → List (ℕ × ℕ) → List SentCount → Type 0
@@ -102,7 +102,7 @@ pub record IsStateAt (running : Running) (p : ℕ) (f : Front) (state : State) :
   pub totals : AreTotalsAt running.flow (table_of running p) p f (totals_in state.entries)
   pub small : AllByRecursion IsRec (totals_in state.entries)
   pub few : length (totals_in state.entries) < 2 ^ 64
-  pub sent : IsTold running.flow running.traces p f
+  pub sent : IsSoInEachHistory running.flow running.traces p f
       (λ sys h. counts_sent running.flow p ≡ true → state.sent ≡ sent_count sys h p (node_frontier running.flow p f))
   pub fits : state.sent < 2 ^ 64
   pub sends : AreSendsAt (is_sequence_kind (kind_of running.flow p)) f (sent_of running.progress.counts p) state.sends
@@ -162,7 +162,7 @@ pub record AsksCheckpoint (p : ℕ) (f : Front) (old new : Running) (before afte
   pub stamps : Stamps
   pub made : IsMadeAt old p f checkpoint
   pub few : HasCountableLists checkpoint
-  pub held : IsTold old.flow old.traces p f
+  pub held : IsSoInEachHistory old.flow old.traces p f
       (λ sys h. AreStampsOf sys (events_inside (node_frontier old.flow p f) h) p (node_frontier old.flow p f) stamps)
   pub asked : IsAsked (tagged.State checkpoint) stamps old.parts.keep.entries new.parts.keep.entries before after
 

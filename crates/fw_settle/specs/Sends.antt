@@ -30,5 +30,5 @@ pub record HasSends (is_inside : Bool) (epoch count : ℕ) (old new : List SentC
   pub some : (count ≡ 0 → ⊥) → is_inside ≡ true → HasCount (epoch ∷ []) count old new
 
 -- the epochs inside are those below the limit
-abbrev pub IsLimitOf : Front → ℕ → Type 0
-IsLimitOf f limit = (epoch : ℕ) → epoch < 2 ^ 32 → nat_lt epoch limit ≡ inside f (epoch ∷ [])
+abbrev pub IsEpochLimit : Front → ℕ → Type 0
+IsEpochLimit f limit = (epoch : ℕ) → epoch < 2 ^ 32 → nat_lt epoch limit ≡ inside f (epoch ∷ [])

@@ -105,8 +105,8 @@ abbrev pub with_traces : Traces → Running → Running
 with_traces traces running = record running { traces = traces }
 
 -- what is kept with this that becomes of settling
-abbrev pub with_settled : Running → Running → Running
-with_settled new old = record old {
+abbrev pub settled_into : Running → Running → Running
+settled_into new old = record old {
   parts = record old.parts { tables = new.parts.tables };
   progress = record old.progress { settled = new.progress.settled };
   traces = new.traces;
@@ -115,7 +115,7 @@ with_settled new old = record old {
 
 -- nothing but tables, what is settled, traces and places is changed
 abbrev pub ChangesSettled : Running → Running → Type 0
-ChangesSettled old new = new ≡ with_settled new old
+ChangesSettled old new = new ≡ settled_into new old
 
 -- a node's table, if it has one, is settled to a front
 abbrev pub IsTableSettled : Dataflow → ℕ → Front → Option Node → Option Node → Type 0

@@ -10,8 +10,8 @@ ghost use Rattle.fw_node.specs.declared.node.Node.{Node as Table};
 ghost use Rattle.fw_progress.specs.Counts.{sent_of};
 ghost use Rattle.fw_progress.specs.Trace.{HaveLists};
 ghost use Rattle.fw_record.specs.Sound.{IsRec};
-ghost use Rattle.fw_settle.specs.Checkpoints.{IsDelivered, IsDiscarded, IsOfEdge, IsRecordedAt, AreTotalsAt, AreSendsOf, AreSendsAt, IsStateAt, logged_from, logged_at, IsLogAt, IsMadeAt};
-ghost use Rattle.fw_settle.specs.Sends.{IsLimitOf, is_last_of, HasTaken, HasCount, HasSends};
+ghost use Rattle.fw_settle.specs.Checkpoints.{IsCoverDelivered, IsDiscarded, IsOfEdge, IsRecordedAt, AreTotalsAt, AreSendsOf, AreSendsAt, IsStateAt, logged_from, logged_at, IsLogAt, IsMadeAt};
+ghost use Rattle.fw_settle.specs.Sends.{IsEpochLimit, is_last_of, HasTaken, HasCount, HasSends};
 ghost use Rattle.fw_running.specs.Kept.{log_at, table_of};
 ghost use Rattle.fw_running.specs.Shaped.{IsShaped};
 
@@ -59,7 +59,7 @@ fn recorded_at(running: &Running, node: NodeId, front: &Front) -> Result<Recorde
 // For each in-edge the cover of what was delivered inside.
 fn delivered_at(running: &Running, node: NodeId, front: &Front) -> Result<Vec<OfEdge>, AllocError>
     requires { HaveLists running.now.flow running.now.traces }
-    ensures { IfOk result (λ xs. AllZip (IsOfEdge (IsDelivered running.now.flow running.now.traces front.now))
+    ensures { IfOk result (λ xs. AllZip (IsOfEdge (IsCoverDelivered running.now.flow running.now.traces front.now))
         (in_edges running.now.flow node) xs.items) }
 {
     let mut delivered = Vec::new(running.alloc);
@@ -193,7 +193,7 @@ fn sends_inside(
 
 // The least epoch outside, or a number greater than any epoch where all are inside.
 fn limit_of(front: &Front) -> u64
-    ensures { IsLimitOf front.now result }
+    ensures { IsEpochLimit front.now result }
 {
     let mut limit = 1 << 32;
     for o in front.outside() {

@@ -24,7 +24,7 @@ use Rattle.fw_model.specs.Machine.{Machine, events, front_of, is_failed, ack_cou
 use Rattle.fw_model.specs.Steps.{MayAcknowledge, HasSomethingAt, recs_at_output, acked, HasEpoch, LeadsTo}
 use Rattle.fw_model.specs.Reached.{IsReached}
 use Rattle.fw_model.specs.Auto.{IsIdle}
-use Rattle.fw_border.specs.Outputs.{OutputState, recs_at, next_recs, acknowledged, AreByNumber}
+use Rattle.fw_border.specs.Outputs.{OutputState, recs_at_number, next_recs, acknowledged, AreByNumber}
 use Rattle.fw_border.proofs.OutputLaws.{recs_at-removed, recs_at-removed_apart}
 use Rattle.fw_stands.specs.Parts.{kept_recs, IsOutputOf}
 use Rattle.fw_stands.specs.Acknowledging.{AreEpochs, HasSomething, CanAcknowledgeIn, acknowledged_state, KeepsAllButOutput, IsGreatestCount}
@@ -138,16 +138,16 @@ kept-came sys state o x k = elim (cases_Bool (is_failed state o || nat_lt x (ack
 ]
 
 -- the first number of a list has its recs
-first-there : (y : ℕ) (rs : List Rec) (es : List (ℕ × List Rec)) → recs_at ((y, rs) ∷ es) y ≡ rs
+first-there : (y : ℕ) (rs : List Rec) (es : List (ℕ × List Rec)) → recs_at_number ((y, rs) ∷ es) y ≡ rs
 first-there y rs es =
     ap (λ o. unwrap_or o []) (cond-true (is_at (nat_cmp y) y) (Some rs) (lookup (is_at (nat_cmp y)) es) (ap is_eq (tied_itself nat_cmp_total y)))
 
 -- what has a rec is kept somewhere
-some-there : (es : List (ℕ × List Rec)) → AreByNumber es → (es ≡ [] → ⊥) → (y : ℕ) × (recs_at es y ≡ [] → ⊥)
+some-there : (es : List (ℕ × List Rec)) → AreByNumber es → (es ≡ [] → ⊥) → (y : ℕ) × (recs_at_number es y ≡ [] → ⊥)
 some-there [] b k = absurd (k refl)
 some-there (e ∷ es) b k = (e.0, gone b.some.0)
   where
-    gone : 0 < length e.1 → recs_at (e ∷ es) e.0 ≡ [] → ⊥
+    gone : 0 < length e.1 → recs_at_number (e ∷ es) e.0 ≡ [] → ⊥
     gone has none =
         let long : length e.1 ≡ 0 = ap length (sym (first-there e.0 e.1 es) ∙ none) in
         absurd (omega (arith, has, long))
@@ -193,7 +193,7 @@ something-kept sys state epochs k o output b f OutputEpoch i x e (inr d) = inr (
     sorted-some (came sys state o y.0)
     (w.finds (λ d s. (receiver sys.flow d == o) && same s (y.0 ∷ []))
     (and_from (receiver sys.flow w.edge == o) (same w.at (y.0 ∷ [])) a.0 (subst (λ s. same s (y.0 ∷ []) ≡ true) (sym y.2) (same-number y.0))))
-    (sym (kept-live sys state o y.0 f l) ∙ sym (b.recs y.0) ∙ ap (λ es. recs_at es y.0) none))
+    (sym (kept-live sys state o y.0 f l) ∙ sym (b.recs y.0) ∙ ap (λ es. recs_at_number es y.0) none))
 something-kept sys state epochs k o output b f kind i x e d = absurd (cc)
 
 kept-something : (sys : System) (state : Machine) (epochs : ℕ) → AreEpochs sys epochs → (o : ℕ) (output : OutputState) → AreByNumber output.recs → IsOutputOf sys state o output
@@ -347,7 +347,7 @@ acknowledged-stands sys state r o l output n b =
       recs = λ x. elim (cases_eq x output.bound) [
         | inl e ↦
             let below : x < output.bound + 1 = omega (arith, e) in
-            ap (recs_at (acknowledged output).recs) e ∙ recs_at-removed output.bound output.recs n.ordered
+            ap (recs_at_number (acknowledged output).recs) e ∙ recs_at-removed output.bound output.recs n.ordered
             ∙ sym (kept-beyond sys state o x (output.bound + 1) below)
             ∙ ap (kept_at sys state o x) (sym at)
         | inr e ↦

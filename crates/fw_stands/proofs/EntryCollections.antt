@@ -29,7 +29,7 @@ use Rattle.fw_collect.specs.Drops.{IsPlanned}
 use Rattle.fw_collect.specs.Dropped.{is_dropped}
 use Rattle.fw_collect.specs.LawsOfCollections.{is_written_given_up}
 use Rattle.fw_collect.proofs.CollectLaws.{drops_what_is_collected}
-use Rattle.fw_stands.specs.Written.{IsToldAs, HasEventTold, Holds, IsEntryOf, uncollected, IsHeldAs, AreStored}
+use Rattle.fw_stands.specs.Written.{IsToldAs, HasEventTold, HoldsWhatIsWritten, IsEntryOf, uncollected, IsHeldAs, AreStored}
 use Rattle.fw_stands.proofs.WrittenStays.{told-below}
 use Rattle.fw_policy.proofs.ReadLaws.{told-stamp}
 use Rattle.fw_policy.specs.Entries.{AreEntriesOf}
@@ -60,7 +60,7 @@ serial-any flow p s n event test b (v ∷ h) o k (inr a) =
 
 -- what is given up is what lies below
 given-same : (sys : System) (state : Machine) (low : List Front) (p : ℕ) (far : Stage) → AreSerialsBelow state.next state.history → (entry : Written) (what : WrittenBy)
-    → IsAskedWell sys state.low state.next state.history p what far → Holds sys state p entry what
+    → IsAskedWell sys state.low state.next state.history p what far → HoldsWhatIsWritten sys state p entry what
     → is_written_given_up sys.flow low p entry ≡ steps.lies_below sys low state.history p what
 given-same sys state low p far o (written.Checkpoint r s n) (checkpoint f l) w h =
     let below : Front → Bool = λ g. is_within g (front_of low p) && not (is_within (front_of low p) g) in

@@ -50,10 +50,10 @@ use Rattle.fw_keep.specs.declared.entry.Written.{Written}
 use Rattle.fw_keep.specs.declared.entry.Written.TheVariants as written
 use Rattle.fw_keep.specs.Catalogue.{oldest, persisted, ids_of}
 use Rattle.fw_record.specs.Event.{stamp_of_event}
-use Rattle.fw_keep.specs.Entry.{is_withdrawn, asked, node_of, written_of, is_lost, lies_within, is_beyond, IsRecordOf}
+use Rattle.fw_keep.specs.Entry.{is_withdrawn, asked, node_of_record, written_of, is_in_flight_of, lies_within, is_beyond, IsRecordOfEntry}
 use Rattle.fw_keep.specs.Stored.{Records, KeepsBytes}
 use Rattle.fw_record.proofs.RecordLaws.{one_spelling_lem}
-use Rattle.fw_stands.specs.Written.{told_of, IsToldAs, HasEventTold, Holds, IsEntryOf, AreEntriesOf, uncollected, IsRecordFor, IsHeldAs, AreHeld, AreStored}
+use Rattle.fw_stands.specs.Written.{told_of, IsToldAs, HasEventTold, HoldsWhatIsWritten, IsEntryOf, AreEntriesOf, uncollected, IsRecordFor, IsHeldAs, AreHeld, AreStored}
 use Rattle.fw_stands.specs.Entries.{StaysWritten, HasStamps, entries_of_event, is_lost_of, without_lost_of}
 use Rattle.fw_stands.proofs.SideBySide.{zip-left, zip-gone}
 use Rattle.fw_policy.proofs.ReadLaws.{told-stamp}
@@ -90,7 +90,7 @@ left-stay sys w state r step next effect t =
 -- ---- one more write
 
 of-record : (sys : System) (state : Machine) (p : ℕ) (what : WrittenBy) (r : Record) (stamps : Stamps) → IsRecordFor sys state p what r → HasStamps sys state p what stamps
-    → (node_of r ≡ p) × Holds sys state p (written_of r stamps) what
+    → (node_of_record r ≡ p) × HoldsWhatIsWritten sys state p (written_of r stamps) what
 of-record sys state p (checkpoint f low) (tagged.State c) stamps h s = (h.node, record { recorded = h.recorded; stamps = s; sent = h.sent })
 of-record sys state p (checkpoint f low) (tagged.Event q event) stamps h s = absurd h
 of-record sys state p (logged_event n) (tagged.State c) stamps h s = absurd h
@@ -142,7 +142,7 @@ pub put_record_is_stored : (sys : System) (state : Machine) (entries : List Entr
     → (id : ℕ) (r : Record) (stamps : Stamps)
     → (old new : Option Records) → AreStored sys state old entries writes → KeepsBytes entries old new
     → new ≡ option_map (λ held. map_of.insert held id (spelling r)) old → IsSound r → IsRecordFor sys state write.node write.written r
-    → IsRecordOf sys.flow (asked id r stamps) r → AreStored sys state new (entries ++ asked id r stamps ∷ []) (writes ++ write ∷ [])
+    → IsRecordOfEntry sys.flow (asked id r stamps) r → AreStored sys state new (entries ++ asked id r stamps ∷ []) (writes ++ write ∷ [])
 put_record_is_stored sys state es xs x id r stamps old new a k is sound of fits = λ held f.
     zip-append (λ (e : Entry) (y : Write). IsHeldAs sys state held e y) es xs (asked id r stamps ∷ []) (x ∷ [])
     (kept_bytes_are_stored sys state es xs old new (λ (m : Records). map_of.insert m id (spelling r)) is k a held f)
@@ -617,8 +617,8 @@ filter-both {X = X} j k l h (x ∷ xs) = by (k x) (j x) (l x) (h x) (filter-both
 pub loses_one_by_one : (ps : List ℕ) (entries : List Entry) → without_lost_of ps entries ≡ filter (λ e. not (is_lost_of ps e)) entries
 loses_one_by_one [] es = sym (filter-true es)
 loses_one_by_one (p ∷ ps) es =
-    loses_one_by_one ps (filter (λ e. not (is_lost p e)) es)
-    ∙ filter-both (λ e. not (is_lost_of ps e)) (λ e. not (is_lost p e)) (λ e. not (is_lost_of (p ∷ ps) e))
+    loses_one_by_one ps (filter (λ e. not (is_in_flight_of p e)) es)
+    ∙ filter-both (λ e. not (is_lost_of ps e)) (λ e. not (is_in_flight_of p e)) (λ e. not (is_lost_of (p ∷ ps) e))
     (λ e. ap (λ b. not (b && not e.acknowledged) && not (is_lost_of ps e)) (turned e.node p) ∙ both-gone (p == e.node) (is_one_of e.node ps) (not e.acknowledged)) es
   where
     turned : (m n : ℕ) → (m == n) ≡ (n == m)
@@ -667,7 +667,7 @@ kept-told sys choice p s f event cut v d a =
     ∙ ap (inside f) (sym (told-stamp v.event event a.told))
 
 lies-alike : (sys : System) (state : Machine) (choice : Choice) (p : ℕ) (f : Front) → AreSerialsBelow state.next state.history → AreInDomains sys state.history → cut_of choice p ≡ At f
-    → (entry : Written) (what : WrittenBy) → Holds sys state p entry what → lies_within f entry ≡ is_kept_write (At f) what (filtered_history sys choice state.history)
+    → (entry : Written) (what : WrittenBy) → HoldsWhatIsWritten sys state p entry what → lies_within f entry ≡ is_kept_write (At f) what (filtered_history sys choice state.history)
 lies-alike sys state choice p f o d cut (written.Checkpoint r s n) (checkpoint g low) h = ap (λ x. is_within x f) (h.recorded).front
 lies-alike sys state choice p f o d cut (written.Checkpoint r t n) (logged_event s) h = absurd h
 lies-alike sys state choice p f o d cut (written.Event event) (checkpoint g low) h = absurd h

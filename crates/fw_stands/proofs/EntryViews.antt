@@ -30,13 +30,13 @@ use Rattle.fw_model.proofs.SentStandLaws.{IsOne, one-contained, contained-one}
 use Rattle.fw_model.specs.Reached.{IsReached}
 use Rattle.fw_policy.proofs.ReadLaws.{entries-read}
 use Rattle.fw_policy.proofs.UnloggedLaws.{IsOfEntries, unlogged-is, unlogged-has, some-filtered}
-use Rattle.fw_stands.specs.Written.{Holds, AreEntriesOf, uncollected}
+use Rattle.fw_stands.specs.Written.{HoldsWhatIsWritten, AreEntriesOf, uncollected}
 use Rattle.fw_stands.specs.Entries.{entry_front, entry_fronts}
 use Rattle.fw_frontier.specs.Front.{Front}
 
 -- ---- the newest checkpoint
 
-front-alike : (sys : System) (state : Machine) (p : ℕ) (entry : Written) (what : WrittenBy) → Holds sys state p entry what → entry_front entry ≡ checkpoint_front what
+front-alike : (sys : System) (state : Machine) (p : ℕ) (entry : Written) (what : WrittenBy) → HoldsWhatIsWritten sys state p entry what → entry_front entry ≡ checkpoint_front what
 front-alike sys state p (written.Checkpoint r s n) (checkpoint f low) h = ap (λ g. g ∷ []) (h.recorded).front
 front-alike sys state p (written.Checkpoint r t n) (logged_event s) h = absurd h
 front-alike sys state p (written.Event event) (checkpoint f low) h = absurd h

@@ -32,7 +32,7 @@ use Rattle.fw_model.proofs.DomainLaws.{has_epochs}
 use Rattle.fw_model.proofs.LegalLaws.{enabled-in_domain, legal-in_domain}
 use Rattle.fw_model.proofs.RestoringLaws.{batches-outside}
 use Rattle.fw_model.proofs.StampLaws.{in_line}
-use Rattle.fw_border.specs.Outputs.{recs_at, with_rec_at, OutputState}
+use Rattle.fw_border.specs.Outputs.{recs_at_number, with_rec_at, OutputState}
 use Rattle.fw_border.specs.Sources.{SourceState, advanced, next_batch}
 use Rattle.fw_border.proofs.NumberLaws.{held_at}
 use Rattle.fw_border.proofs.OutputLaws.{recs_at-inserted, recs_at-inserted_apart}
@@ -126,7 +126,7 @@ outputs-take_in sys state w r e m k o f output i =
     subst (λ z. IsOutputOf sys next p (with_rec_at z m.rec output)) (sym first) (elim (cases_Bool (nat_lt y output.bound)) [
       | inl below ↦
           let stays : with_rec_at y m.rec output ≡ output =
-          cond-true (nat_lt y output.bound) output (record output { recs = insert_entry nat_cmp output.recs y (with_rec m.rec (recs_at output.recs y)) }) below in
+          cond-true (nat_lt y output.bound) output (record output { recs = insert_entry nat_cmp output.recs y (with_rec m.rec (recs_at_number output.recs y)) }) below in
           subst (IsOutputOf sys next p) (sym stays) (record {
             bound = i.bound;
             recs = λ x. i.recs x ∙ sym (elim (cases_eq x y) [
@@ -137,17 +137,17 @@ outputs-take_in sys state w r e m k o f output i =
             ]);
           })
       | inr above ↦
-          let put = insert_entry nat_cmp output.recs y (with_rec m.rec (recs_at output.recs y)) in
+          let put = insert_entry nat_cmp output.recs y (with_rec m.rec (recs_at_number output.recs y)) in
           let goes : with_rec_at y m.rec output ≡ record output { recs = put } = cond-false (nat_lt y output.bound) output (record output { recs = put }) above in
           let g : guard sys state p y ≡ false = ap (λ b. b || nat_lt y (ack_count_of state p)) f ∙ ap (λ b. nat_lt y b) (sym i.bound) ∙ above in
           subst (IsOutputOf sys next p) (sym goes) (record {
             bound = i.bound;
             recs = λ x. elim (cases_eq x y) [
               | inl is ↦
-                  ap (recs_at put) is ∙ recs_at-inserted y (with_rec m.rec (recs_at output.recs y)) output.recs
+                  ap (recs_at_number put) is ∙ recs_at-inserted y (with_rec m.rec (recs_at_number output.recs y)) output.recs
                   ∙ ap (with_rec m.rec) (i.recs y) ∙ sym (kept-here sys state e m y g at.1) ∙ ap (kept_recs sys next p) (sym is)
               | inr n ↦
-                  recs_at-inserted_apart y x (with_rec m.rec (recs_at output.recs y)) output.recs n ∙ i.recs x
+                  recs_at-inserted_apart y x (with_rec m.rec (recs_at_number output.recs y)) output.recs n ∙ i.recs x
                   ∙ sym (kept-apart sys state e m p x (apart-at sys.flow p x y e m at.1 n))
             ];
           })

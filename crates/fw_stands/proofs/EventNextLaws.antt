@@ -11,20 +11,20 @@ use Rattle.fw_time.proofs.StampLaws.{same-is, same-refl}
 use Rattle.fw_flow.specs.declared.event.Event.{Event}
 use Rattle.fw_flow.specs.declared.event.Message.{Message}
 use Rattle.fw_flow.specs.Dataflow.{System, Dataflow, receiver, is_numbered}
-use Rattle.fw_flow.specs.Message.{message_cmp, is_among}
+use Rattle.fw_flow.specs.Message.{message_cmp, is_message_among}
 use Rattle.fw_flow.specs.WellFormed.{IsWellFormed, IsWellFormedSystem}
 use Rattle.fw_flow.proofs.MessageLaws.{among-each, message_cmp-equal, message_cmp-same, message_total}
 use Rattle.fw_model.specs.History.{pending_messages, IsDeliverable, IsLegal}
 use Rattle.fw_model.specs.Machine.{Machine, events, is_failed}
 use Rattle.fw_model.specs.Reached.{IsReached}
 use Rattle.fw_model.specs.SortedMessages.{sorted_messages}
-use Rattle.fw_model.specs.Steps.{is_asked, IsAsked, IsNextMessage}
+use Rattle.fw_model.specs.Steps.{is_asked, IsStampNamed, IsNextMessage}
 use Rattle.fw_model.proofs.DomainLaws.{has_epochs}
 use Rattle.fw_model.proofs.FirstLaws.{copies-among, first-next}
 use Rattle.fw_model.proofs.RecoveryLaws.{runs-legal}
 use Rattle.fw_model.proofs.SentLaws.{is_among-copies}
 use Rattle.fw_model.proofs.SortedLaws.{IsAscendingMessages, ascending-sorted_messages, sorted_messages-weigh}
-use Rattle.fw_stands.specs.Events.{asked_of, if_asked, next_queued, IsDeliveryOf}
+use Rattle.fw_stands.specs.Events.{asked_of_queue, if_asked, next_queued, IsDeliveryOf}
 use Rattle.fw_stands.specs.Parts.{queued}
 
 -- ---- a reached state
@@ -34,14 +34,14 @@ legal-reached sys state w r = runs-legal sys r.0 r.1 state w.flow (has_epochs sy
 
 -- ---- the first message that passes a test
 
-first-among : (m : Message) (ms : List Message) → is_among m (m ∷ ms) ≡ true
-first-among m ms = or_left (is_eq (message_cmp m m)) (is_among m ms) (ap is_eq (tied_itself message_total m))
+first-among : (m : Message) (ms : List Message) → is_message_among m (m ∷ ms) ≡ true
+first-among m ms = or_left (is_eq (message_cmp m m)) (is_message_among m ms) (ap is_eq (tied_itself message_total m))
 
 -- The message is the first of these that passes the test.
 record IsFirst (test : Message → Bool) (ms : List Message) (m : Message) : Type 0 where
-  among : is_among m ms ≡ true
+  among : is_message_among m ms ≡ true
   passes : test m ≡ true
-  least : (other : Message) → is_among other ms ≡ true → test other ≡ true → is_gt (message_cmp m other) ≡ false
+  least : (other : Message) → is_message_among other ms ≡ true → test other ≡ true → is_gt (message_cmp m other) ≡ false
 
 found-first : (test : Message → Bool) (ms : List Message) (m : Message) → IsAscendingMessages ms → find test ms ≡ Some m → IsFirst test ms m
 unfolding IsAscendingMessages
@@ -58,20 +58,20 @@ found-first test (x ∷ xs) m a k = elim (cases_Bool (test x)) [
   | inr e ↦
       let f = found-first test xs m a.1 (sym (cond-false (test x) (Some x) (find test xs) e) ∙ k) in
       record {
-        among = or_right (is_eq (message_cmp m x)) (is_among m xs) f.among;
+        among = or_right (is_eq (message_cmp m x)) (is_message_among m xs) f.among;
         passes = f.passes;
-        least = λ other i t. elim (or_cases (is_eq (message_cmp other x)) (is_among other xs) i) [
+        least = λ other i t. elim (or_cases (is_eq (message_cmp other x)) (is_message_among other xs) i) [
           | inl j ↦ absurd (both_ways (test x) e (sym (ap test (message_cmp-equal other x j)) ∙ t))
           | inr j ↦ f.least other j t
         ];
       }
 ]
 
-found-none : (test : Message → Bool) (ms : List Message) → find test ms ≡ None → (m : Message) → is_among m ms ≡ true → test m ≡ false
+found-none : (test : Message → Bool) (ms : List Message) → find test ms ≡ None → (m : Message) → is_message_among m ms ≡ true → test m ≡ false
 found-none test [] k m i = absurd (false≢true i)
 found-none test (x ∷ xs) k m i = elim (cases_Bool (test x)) [
   | inl e ↦ let some : Some x ≡ None = sym (cond-true (test x) (Some x) (find test xs) e) ∙ k in absurd (cc some)
-  | inr e ↦ elim (or_cases (is_eq (message_cmp m x)) (is_among m xs) i) [
+  | inr e ↦ elim (or_cases (is_eq (message_cmp m x)) (is_message_among m xs) i) [
     | inl j ↦ ap test (message_cmp-equal m x j) ∙ e
     | inr j ↦ found-none test xs (sym (cond-false (test x) (Some x) (find test xs) e) ∙ k) m j
   ]
@@ -88,23 +88,23 @@ neither-greater m x g k = by (message_cmp m x) refl
 
 -- ---- what is asked for
 
-asked-is : (at : Option Stamp) (t : Stamp) → is_asked at t ≡ true → IsAsked at t
+asked-is : (at : Option Stamp) (t : Stamp) → is_asked at t ≡ true → IsStampNamed at t
 asked-is None t k = tt
 asked-is (Some s) t k = same-is s t k
 
-is-asked : (at : Option Stamp) (t : Stamp) → IsAsked at t → is_asked at t ≡ true
+is-asked : (at : Option Stamp) (t : Stamp) → IsStampNamed at t → is_asked at t ≡ true
 is-asked None t k = refl
 is-asked (Some s) t k = subst (λ u. same s u ≡ true) k (same-refl s)
 
 -- ---- what is among the messages in order
 
-among-sorted : (m : Message) (ms : List Message) → is_among m ms ≡ true → is_among m (sorted_messages ms) ≡ true
+among-sorted : (m : Message) (ms : List Message) → is_message_among m ms ≡ true → is_message_among m (sorted_messages ms) ≡ true
 among-sorted m ms i =
     let a = is_among-copies m ms i in
     let b = sorted_messages-weigh (λ x. cond (is_eq (message_cmp m x)) 1 0) ms in
     copies-among m (sorted_messages ms) (omega arith)
 
-among-unsorted : (m : Message) (ms : List Message) → is_among m (sorted_messages ms) ≡ true → is_among m ms ≡ true
+among-unsorted : (m : Message) (ms : List Message) → is_message_among m (sorted_messages ms) ≡ true → is_message_among m ms ≡ true
 among-unsorted m ms i =
     let a = is_among-copies m (sorted_messages ms) i in
     let b = sorted_messages-weigh (λ x. cond (is_eq (message_cmp m x)) 1 0) ms in
@@ -113,7 +113,7 @@ among-unsorted m ms i =
 -- ---- on an edge that is not numbered
 
 -- what may be delivered is what is pending
-deliverable : (sys : System) (h : List Event) (e : ℕ) (m : Message) → is_numbered sys.flow e ≡ false → is_among m (sorted_messages (pending_messages sys h e)) ≡ true
+deliverable : (sys : System) (h : List Event) (e : ℕ) (m : Message) → is_numbered sys.flow e ≡ false → is_message_among m (sorted_messages (pending_messages sys h e)) ≡ true
     → IsDeliverable sys h e m
 deliverable sys h e m n i = record {
   is_pending = among-unsorted m (pending_messages sys h e) i;
@@ -138,7 +138,7 @@ next-to sys h e at m n x = by (find test qs) refl
     qs : List Message
     qs = sorted_messages (pending_messages sys h e)
 
-    there : is_among m qs ≡ true
+    there : is_message_among m qs ≡ true
     there = among-sorted m (pending_messages sys h e) x.enabled.is_pending
 
     by : (found : Option Message) → find test qs ≡ found → find test qs ≡ Some m
@@ -168,7 +168,7 @@ numbered-both : (sys : System) (h : List Event) → IsWellFormed sys.flow → Is
     → is_numbered sys.flow e ≡ true → (qs : List Message) → sorted_messages (pending_messages sys h e) ≡ qs
     → (IsNextMessage sys h e at m → first_if at qs ≡ Some m) × (first_if at qs ≡ Some m → IsNextMessage sys h e at m)
 numbered-both sys h w l e at m n [] k = (
-  (λ x. absurd (false≢true (subst (λ qs. is_among m qs ≡ true) k (among-sorted m (pending_messages sys h e) x.enabled.is_pending)))),
+  (λ x. absurd (false≢true (subst (λ qs. is_message_among m qs ≡ true) k (among-sorted m (pending_messages sys h e) x.enabled.is_pending)))),
   (λ i. absurd (cc i)),
 )
 numbered-both sys h w l e at m n (x ∷ rest) k =
@@ -292,4 +292,4 @@ if-some at (Some x) m k = elim (cases_Bool (is_asked at x.at)) [
 pub next-first_at_its_stamp : (flow : Dataflow) (e : ℕ) (at : Option Stamp) (queue : List Message) (m : Message)
     → next_queued flow e at queue ≡ Some m → find (λ (x : Message). is_asked (Some m.at) x.at) queue ≡ Some m
 next-first_at_its_stamp flow e at queue m k =
-    first-at_stamp (asked_of flow e at) queue m (if-some at (find (λ (x : Message). is_asked (asked_of flow e at) x.at) queue) m k)
+    first-at_stamp (asked_of_queue flow e at) queue m (if-some at (find (λ (x : Message). is_asked (asked_of_queue flow e at) x.at) queue) m k)

@@ -15,7 +15,7 @@ use Rattle.fw_flow.specs.Projection.{events_at}
 use Rattle.fw_flow.specs.WellFormed.{IsInDegree, IsWellFormed, IsWellFormedSystem}
 use Rattle.fw_model.specs.History.{was_delivered_to, was_notified, pending_messages, IsNotifiable, IsEnabled}
 use Rattle.fw_model.specs.Machine.{Machine, events, family_of, is_failed}
-use Rattle.fw_flow.specs.Message.{is_among}
+use Rattle.fw_flow.specs.Message.{is_message_among}
 use Rattle.fw_flow.specs.declared.step.Step.TheVariants.{Inject, Deliver as DeliverStep, Notify as NotifyStep}
 use Rattle.fw_model.proofs.CmpLaws.{stamp_total}
 use Rattle.fw_model.proofs.DomainLaws.{has_epochs}
@@ -37,11 +37,11 @@ use Rattle.fw_stands.specs.Events.{CanTakeNotice, CanTakeIn}
 -- ---- deliveries
 
 -- an edge on which something is pending is declared
-pending-declared : (sys : System) (state : Machine) (e : ℕ) (m : Message) → is_among m (pending_messages sys (events state.history) e) ≡ true
+pending-declared : (sys : System) (state : Machine) (e : ℕ) (m : Message) → is_message_among m (pending_messages sys (events state.history) e) ≡ true
     → e < length sys.flow.edges
 pending-declared sys state e m k = elim (cases_lt e (length sys.flow.edges)) [
   | inl l ↦ l
-  | inr past ↦ absurd (false≢true (sym (ap (is_among m) (none-pending_past sys (events state.history) e past)) ∙ k))
+  | inr past ↦ absurd (false≢true (sym (ap (is_message_among m) (none-pending_past sys (events state.history) e past)) ∙ k))
 ]
 
 -- an edge is one of the in-edges of its receiver

@@ -15,7 +15,7 @@ use Rattle.fw_flow.specs.declared.event.Event.{Event}
 use Rattle.fw_time.specs.Stamp.{Stamp}
 use Rattle.fw_bag.specs.declared.rec.Rec.{Rec}
 use Rattle.fw_progress.specs.Progress.{Standing}
-use Rattle.fw_progress.specs.History.{Follows, StandsFor}
+use Rattle.fw_progress.specs.History.{FollowsEvent, StandsForHistory}
 use Rattle.fw_progress.specs.declared.traces.Traces.{Traces}
 use Rattle.fw_progress.specs.Trace.{TracesFollow}
 
@@ -32,8 +32,8 @@ traces-follow sys state v sent s old new f p i = f sys (events state.history) re
 -- in each reached state progress that follows an event that may come next stands for the history after it
 pub progress-follows : (sys : System) (state : Machine) → IsWellFormedSystem sys → IsReached sys state
     → (v : Event) → IsEnabled sys (events state.history) v → (sent : List (Stamp × Rec)) → AreSent sys (events state.history) v sent
-    → (old new : Standing) → Follows sys.flow v (map (λ (x : Stamp × Rec). x.0) sent) old new
-    → StandsFor sys (events state.history) old → StandsFor sys (events (with_event sys state v).history) new
+    → (old new : Standing) → FollowsEvent sys.flow v (map (λ (x : Stamp × Rec). x.0) sent) old new
+    → StandsForHistory sys (events state.history) old → StandsForHistory sys (events (with_event sys state v).history) new
 progress-follows sys state w r v k sent s old new f o =
     let h = events state.history in
     f sys h refl (has_epochs sys w) (k, legal-reached sys state w r) (sym s.stamps) o

@@ -10,7 +10,7 @@ use Rattle.fw_flow.specs.declared.event.Message.{Message}
 use Rattle.fw_flow.specs.declared.step.Step.{Step}
 use Rattle.fw_flow.specs.declared.step.Step.TheVariants.{Persist}
 use Rattle.fw_flow.specs.Dataflow.{System, is_numbered}
-use Rattle.fw_flow.specs.Message.{message_cmp, is_among}
+use Rattle.fw_flow.specs.Message.{message_cmp, is_message_among}
 use Rattle.fw_flow.specs.WellFormed.{IsWellFormed}
 use Rattle.fw_flow.specs.declared.event.Event.{Event}
 use Rattle.fw_flow.proofs.MessageLaws.{message_total}
@@ -95,14 +95,14 @@ pub sorted-nothing : (xs : List Message) → sorted_messages xs ≡ [] → xs �
 sorted-nothing [] e = refl
 sorted-nothing (x ∷ xs) e = absurd (put-some x (sorted_messages xs) e)
 
-pub none_pending-idle : (sys : System) (h : List Event) (e : ℕ) (m : Message) → sorted_messages (pending_messages sys h e) ≡ [] → is_among m (pending_messages sys h e) ≡ true → ⊥
+pub none_pending-idle : (sys : System) (h : List Event) (e : ℕ) (m : Message) → sorted_messages (pending_messages sys h e) ≡ [] → is_message_among m (pending_messages sys h e) ≡ true → ⊥
 none_pending-idle sys h e m none i =
-    two_ways (is_among m (pending_messages sys h e)) i (ap (is_among m) (sorted-nothing (pending_messages sys h e) none))
+    two_ways (is_message_among m (pending_messages sys h e)) i (ap (is_message_among m) (sorted-nothing (pending_messages sys h e) none))
 
 -- ---- the next message
 
-among-itself : (m : Message) (ms : List Message) → is_among m (m ∷ ms) ≡ true
-among-itself m ms = or_left (is_eq (message_cmp m m)) (is_among m ms) (ap is_eq (tied_itself message_total m))
+among-itself : (m : Message) (ms : List Message) → is_message_among m (m ∷ ms) ≡ true
+among-itself m ms = or_left (is_eq (message_cmp m m)) (is_message_among m ms) (ap is_eq (tied_itself message_total m))
 
 -- the first of what is pending, in order, is the next message
 pub first-is_next : (sys : System) (h : List Event) → IsWellFormed sys.flow → IsLegal sys h → (e : ℕ) (m : Message) (rest : List Message)

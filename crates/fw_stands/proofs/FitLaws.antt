@@ -47,14 +47,14 @@ use Rattle.fw_node.proofs.RestoringLaws.{few_sent}
 use Rattle.fw_record.specs.declared.logged.Logged.{Logged}
 use Rattle.fw_record.specs.declared.record.Checkpoint.{Checkpoint}
 use Rattle.fw_record.specs.OfNode as fits
-use Rattle.fw_record.specs.OfNode.{IsOnOneOf, count_sum, AreCountsOf, HasNumbersFor, CanBeLogged, IsLogUnder, IsCheckpointOf}
+use Rattle.fw_record.specs.OfNode.{IsOnOneOf, count_sum, CountsFitKind, HasNumbersFor, CanBeLogged, IsLogUnder, IsCheckpointRecordOf}
 use Rattle.fw_record.specs.Sound.{each_may_follow, may_follow_counts, IsSound}
 use Rattle.fw_policy.specs.Entries.{sent_by_node}
 use Rattle.fw_record.specs.Log.{logged_on}
 use Rattle.fw_record.specs.declared.record.Record.TheVariants as tagged
 use Rattle.fw_stands.specs.Written.{events_within, edges_of, to_log, told_inside, IsCheckpointFor}
 use Rattle.fw_stands.proofs.NumberLaws.{sender-there, ledger-few}
-use Rattle.fw_keep.specs.Entry.{IsRecordOf, asked}
+use Rattle.fw_keep.specs.Entry.{IsRecordOfEntry, asked}
 
 -- ---- fronts
 
@@ -111,7 +111,7 @@ all-told f (s ∷ ss) p e = by (f s.cause) refl e (all-told f ss p.1)
         let less = told-less f ss in
         absurd (omega arith)
 
-counts-of : (k : Kind) (s : State) → (is_sequence_kind k ≡ true → count_sum s.sends ≡ s.sent) → (is_sequence_kind k ≡ false → s.sends ≡ []) → AreCountsOf k s
+counts-of : (k : Kind) (s : State) → (is_sequence_kind k ≡ true → count_sum s.sends ≡ s.sent) → (is_sequence_kind k ≡ false → s.sends ≡ []) → CountsFitKind k s
 counts-of kind.Sequence s a b = a refl
 counts-of k s a b = b refl
 
@@ -120,7 +120,7 @@ causes-of : (flow : Dataflow) (f : Frontier) (b : Bool) (k : Kind) (ss : List Se
 causes-of flow f true k ss i a c = a i
 causes-of flow f false k ss i a c = subst (AllByRecursion (λ (s : SentCount). f s.cause ≡ true)) (sym (c i)) tt
 
-entries-of : (k : Kind) (entries : Entries) (rs : List Rec) → totals_in entries ≡ totals_kept k rs → fits.AreEntriesOf k entries
+entries-of : (k : Kind) (entries : Entries) (rs : List Rec) → totals_in entries ≡ totals_kept k rs → fits.TotalsFitKind k entries
 entries-of kind.Total entries rs e = tt
 entries-of kind.Ledger entries rs e = tt
 entries-of k (Totals recs) rs e = ap Totals e
@@ -192,7 +192,7 @@ log-under asks log k = tt
 
 checkpoint-fits : (sys : System) → IsWellFormedSystem sys → (state : Machine) → IsReached sys state → (p : ℕ) (f : Front) (low : List Front) (c : Checkpoint)
     → takes_checkpoints (policy_of sys.flow p) ≡ true → each_may_follow may_follow_counts [] c.state.sends ≡ true → IsCheckpointFor sys state p f low c
-    → IsCheckpointOf sys.flow p f c
+    → IsCheckpointRecordOf sys.flow p f c
 checkpoint-fits sys w state r p f low c takes follow h =
     let flow = sys.flow in
     let l = takes-declared flow p takes in
@@ -253,10 +253,10 @@ checkpoint-fits sys w state r p f low c takes follow h =
 -- the entry that is asked by it, if it has a spelling
 pub records_can_be_of_entries : (sys : System) → IsWellFormedSystem sys → (state : Machine) → IsReached sys state
     → (p : ℕ) (f : Front) (low : List Front) (c : Checkpoint) → takes_checkpoints (policy_of sys.flow p) ≡ true → IsSound (tagged.State c)
-    → IsCheckpointFor sys state p f low c → (id : ℕ) (stamps : Stamps) → IsRecordOf sys.flow (asked id (tagged.State c) stamps) (tagged.State c)
+    → IsCheckpointFor sys state p f low c → (id : ℕ) (stamps : Stamps) → IsRecordOfEntry sys.flow (asked id (tagged.State c) stamps) (tagged.State c)
 records_can_be_of_entries sys w state r p f low c takes sound h id stamps =
     let fit = checkpoint-fits sys w state r p f low c takes sound.state.sends.follow h in
     record {
-      of_node = subst (λ q. IsCheckpointOf sys.flow q c.recorded.front c) (sym h.node) (subst (λ g. IsCheckpointOf sys.flow p g c) (sym h.recorded.front) fit);
+      of_node = subst (λ q. IsCheckpointRecordOf sys.flow q c.recorded.front c) (sym h.node) (subst (λ g. IsCheckpointRecordOf sys.flow p g c) (sym h.recorded.front) fit);
       recorded = refl;
     }

@@ -32,9 +32,9 @@ use Rattle.fw_keep.specs.declared.entry.Entry.{Entry}
 use Rattle.fw_keep.specs.declared.entry.Written.{Written}
 use Rattle.fw_keep.specs.declared.entry.Written.TheVariants as written
 use Rattle.fw_record.specs.Event.{stamp_of_event, event_of, logged_events}
-use Rattle.fw_keep.specs.Entry.{IsRecordAs, IsRecordOf}
+use Rattle.fw_keep.specs.Entry.{IsRecordAs, IsRecordOfEntry}
 use Rattle.fw_stands.specs.Redone.{event_in, is_event_inside, is_logged_inside}
-use Rattle.fw_stands.specs.Written.{told_of, HasEventTold, Holds, IsEntryOf}
+use Rattle.fw_stands.specs.Written.{told_of, HasEventTold, HoldsWhatIsWritten, IsEntryOf}
 use Rattle.fw_policy.specs.Entries.{AreEntriesOf}
 
 -- ---- increasing numbers
@@ -285,7 +285,7 @@ kept-increase test (w ∷ ws) a = by w.written refl (λ b. kept-increase test ws
         (λ i. subst (λ x. AreIncreasing (serial_of x ++ logged_serials (filter test ws))) (sym e) (each_serial-kept (λ m. s < m) test ws b.0, rest)) (λ i. rest)
 
 -- what an entry tells is what is told at the serial that its write logs
-entry-told : (sys : System) (state : Machine) (p : ℕ) (e : Written) (w : WrittenBy) → AreLatestFirst state.history → Holds sys state p e w
+entry-told : (sys : System) (state : Machine) (p : ℕ) (e : Written) (w : WrittenBy) → AreLatestFirst state.history → HoldsWhatIsWritten sys state p e w
     → event_in e ≡ flat_map (λ s. told_at s state.history) (serial_of w)
 entry-told sys state p (written.Checkpoint recorded stamps sent) (checkpoint f low) l a = refl
 entry-told sys state p (written.Checkpoint recorded stamps sent) (logged_event s) l a = absurd a
@@ -354,7 +354,7 @@ record IsFound (sys : System) (state : Machine) (p : ℕ) (f : Frontier) (n : �
 
 -- the entry passes the test and its write logs this serial
 found-here : (sys : System) (state : Machine) (p : ℕ) (f : Frontier) (n q : ℕ) (e : Written) (x : WrittenBy) (ws : List Write) → q ≡ p → is_event_inside f e ≡ true
-    → Holds sys state q e x → is_one_of n (serial_of x) ≡ true → (x ≡ logged_event n → HoldsOfOne (IsItsLog n) ws) → IsFound sys state p f n ws
+    → HoldsWhatIsWritten sys state q e x → is_one_of n (serial_of x) ≡ true → (x ≡ logged_event n → HoldsOfOne (IsItsLog n) ws) → IsFound sys state p f n ws
 found-here sys state p f n q (written.Checkpoint recorded stamps sent) x ws same i a j log = absurd (two_ways false i refl)
 found-here sys state p f n q (written.Event event) (checkpoint g low) ws same i a j log = absurd a
 found-here sys state p f n q (written.Event event) (logged_event s) ws same i a j log =
@@ -409,7 +409,7 @@ asked-there sys state test n (e ∷ es) (w ∷ ws) a k (inr b) =
 -- what is told of an event that is left is inside, and of its node
 told-passes : (sys : System) (state : Machine) (p : ℕ) (f : Frontier) (n q : ℕ) (x : Written) → AreLatestFirst state.history
     → HoldsOfOne (λ (v : SerialEvent). (v.serial ≡ n) × ((event_node sys.flow v.event ≡ p) × (f (event_stamp v.event) ≡ true))) state.history
-    → Holds sys state q x (logged_event n) → (q ≡ p) × (is_event_inside f x ≡ true)
+    → HoldsWhatIsWritten sys state q x (logged_event n) → (q ≡ p) × (is_event_inside f x ≡ true)
 told-passes sys state p f n q (written.Checkpoint recorded stamps sent) l there h = absurd h
 told-passes sys state p f n q (written.Event event) l there h =
     let Left : SerialEvent → Type 0 = λ v. (event_node sys.flow v.event ≡ p) × (f (event_stamp v.event) ≡ true) in
@@ -422,7 +422,7 @@ passes : (sys : System) (state : Machine) (p : ℕ) (f : Frontier) (n : ℕ) →
     → HoldsOfOne (λ (v : SerialEvent). (v.serial ≡ n) × ((event_node sys.flow v.event ≡ p) × (f (event_stamp v.event) ≡ true))) state.history
     → (e : Entry) (w : Write) → IsEntryOf sys state e w → IsItsLog n w → is_logged_inside p f e ≡ true
 passes sys state p f n l there e w a log =
-    let b = told-passes sys state p f n w.node e.written l there (subst (Holds sys state w.node e.written) log.0 a.holds) in
+    let b = told-passes sys state p f n w.node e.written l there (subst (HoldsWhatIsWritten sys state w.node e.written) log.0 a.holds) in
     and_from (e.node == p) (e.acknowledged && is_event_inside f e.written) (eq-eqb e.node p (a.node ∙ b.0))
     (and_from e.acknowledged (is_event_inside f e.written) (a.acknowledged ∙ ap (is_counted kept) log.1) b.1)
 
@@ -485,7 +485,7 @@ record-tells sys f e (written.Checkpoint recorded stamps sent) r i a = absurd (t
 record-tells sys f e (written.Event event) r i a = ap event_of a
 
 records-tell : (sys : System) (p : ℕ) (f : Frontier) (es : List Entry) (rs : List Record) → AllByRecursion (λ e. is_logged_inside p f e ≡ true) es
-    → AllZip (IsRecordOf sys.flow) es rs → flat_map event_of rs ≡ flat_map (λ (e : Entry). event_in e.written) es
+    → AllZip (IsRecordOfEntry sys.flow) es rs → flat_map event_of rs ≡ flat_map (λ (e : Entry). event_in e.written) es
 records-tell sys p f [] [] i a = refl
 records-tell sys p f [] (r ∷ rs) i a = absurd a
 records-tell sys p f (e ∷ es) [] i a = absurd a
@@ -497,7 +497,7 @@ records-tell sys p f (e ∷ es) (r ∷ rs) i a =
 -- so they are what the records tell that can be those of these entries
 pub replayed-of_records : (sys : System) (state : Machine) → IsWellFormedSystem sys → IsReached sys state
     → (entries : List Entry) → AreEntriesOf sys state entries (filter not_collected state.writes) → (p : ℕ) (f : Frontier)
-    → (records : List Record) → AllZip (IsRecordOf sys.flow) (filter (is_logged_inside p f) entries) records
+    → (records : List Record) → AllZip (IsRecordOfEntry sys.flow) (filter (is_logged_inside p f) entries) records
     → logged_events (replayed_events sys state p f) ≡ flat_map event_of records
 replayed-of_records sys state w reached es a p f rs z =
     let test = is_logged_inside p f in

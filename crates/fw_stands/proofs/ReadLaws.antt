@@ -35,13 +35,13 @@ use Rattle.fw_keep.specs.declared.entry.Written.{Written}
 use Rattle.fw_keep.specs.declared.entry.Written.TheVariants as written
 use Rattle.fw_keep.specs.Stored.{Records, HoldsAs}
 use Rattle.fw_stands.specs.Read.{is_checkpoint_at, is_checkpoint_of, HasOnlyCheckpoint}
-use Rattle.fw_stands.specs.Written.{Holds, HoldsWithin, IsCheckpointFor, IsEntryOf, IsHeldAs, IsRecordFor, AreStored}
+use Rattle.fw_stands.specs.Written.{HoldsWhatIsWritten, HoldsWithin, IsCheckpointFor, IsEntryOf, IsHeldAs, IsRecordFor, AreStored}
 use Rattle.fw_stands.specs.Recovered.{Recovers}
 use Rattle.fw_policy.specs.Entries.{AreEntriesOf}
 
 -- ---- entries of checkpoints and their writes
 
-front-of : (sys : System) (state : Machine) (p : ℕ) (f : Front) (e : Written) (w : WrittenBy) → Holds sys state p e w → is_checkpoint_of f e ≡ true
+front-of : (sys : System) (state : Machine) (p : ℕ) (f : Front) (e : Written) (w : WrittenBy) → HoldsWhatIsWritten sys state p e w → is_checkpoint_of f e ≡ true
     → checkpoint_front w ≡ f ∷ []
 front-of sys state p f (written.Checkpoint recorded stamps sent) (checkpoint g low) h i =
     ap (λ x. x ∷ []) (sym h.recorded.front ∙ same_front-is recorded.front f i)
@@ -73,7 +73,7 @@ first-is g f e = ap first e
     first [] = []
     first (x ∷ xs) = x
 
-is-written : (sys : System) (state : Machine) (p : ℕ) (f : Front) (e : Written) (w : WrittenBy) → Holds sys state p e w → checkpoint_front w ≡ f ∷ []
+is-written : (sys : System) (state : Machine) (p : ℕ) (f : Front) (e : Written) (w : WrittenBy) → HoldsWhatIsWritten sys state p e w → checkpoint_front w ≡ f ∷ []
     → IsWritten sys state p f e w
 is-written sys state p f (written.Checkpoint recorded stamps sent) (checkpoint g low) h i =
     let same = first-is g f i in

@@ -35,7 +35,7 @@ use Rattle.fw_model.proofs.LegalLaws.{legal-in_domain}
 use Rattle.fw_model.proofs.LowLaws.{input-is}
 use Rattle.fw_model.proofs.StampLaws.{line-leq, leq-line, same-is}
 use Rattle.fw_model.specs.Reached.{IsReached}
-use Rattle.fw_border.specs.Numbers.{is_below}
+use Rattle.fw_border.specs.Numbers.{is_number_below}
 use Rattle.fw_border.specs.Sources.{SourceState, rolled_source, epochs_inside}
 use Rattle.fw_border.proofs.NumberLaws.{epochs_below, epochs_all}
 use Rattle.fw_stands.specs.Recovered.{Recovers, IsSettledBy}
@@ -99,7 +99,7 @@ injected-all sys state choice settled r s all =
     ap (λ q. keep q (event_stamp v)) at ∙ all (event_stamp v) (ap (λ q. in_domain (bounds_of sys.flow q) (event_stamp v)) (sym at) ∙ d))
     (legal-in_domain sys h r.well_formed.flow k.epochs k.legal))
 
-until-below : (k x : ℕ) → inside (until k) (x ∷ []) ≡ is_below (Some k) x
+until-below : (k x : ℕ) → inside (until k) (x ∷ []) ≡ is_number_below (Some k) x
 until-below k x = elim (cases_lt x k) [
   | inl l ↦
       ap (λ b. not b && true) (false_from_ne_true (leq (k ∷ []) (x ∷ [])) (λ i. let m = leq-line k x i in omega arith))

@@ -20,7 +20,7 @@ use Rattle.fw_model.specs.Covers.{set_of}
 use Rattle.fw_model.specs.EventStamps.{AreStampsOf, StandForNumbered, StandForSent}
 use Rattle.fw_model.specs.Filtering.{messages_from}
 use Rattle.fw_model.specs.Machine.{Machine, events, front_of, is_failed, no_stamps}
-use Rattle.fw_model.specs.Offers.{AreOnEdges, on_edge, stamps_on}
+use Rattle.fw_model.specs.Offers.{AreAtEdgeStamps, counted_on_edge, stamps_on}
 use Rattle.fw_model.specs.Steps.{IsSettledCut, recovered_state}
 use Rattle.fw_model.specs.Thinned.{IsThinned}
 use Rattle.fw_model.specs.Writes.{takes_checkpoints}
@@ -130,11 +130,11 @@ none-thinned base kept e = subst (IsThinned base []) (sym e) (record { among = t
 -- no stamps stand for no events
 no-stamps : (sys : System) (p : ℕ) (base : Frontier) (stamps : Stamps) → AreNoStamps stamps → AreStampsOf sys [] p base stamps
 no-stamps sys p base stamps a = record {
-  on_edges = (subst (AreOnEdges sys.flow) (sym a.delivered) tt, subst (AreOnEdges sys.flow) (sym a.sent) tt);
+  on_edges = (subst (AreAtEdgeStamps sys.flow) (sym a.delivered) tt, subst (AreAtEdgeStamps sys.flow) (sym a.sent) tt);
   in_domain = subst (AllByRecursion (λ t. in_domain (bounds_of sys.flow p) t ≡ true)) (sym a.notified) tt;
   delivered = λ d at. none-thinned base (stamps_on d stamps.delivered) (ap (stamps_on d) a.delivered);
   notified = none-thinned base stamps.notified a.notified;
-  sent = λ n e l s. subst (λ ms. StandForSent sys [] p base e (on_edge e ms)) (sym a.sent)
+  sent = λ n e l s. subst (λ ms. StandForSent sys [] p base e (counted_on_edge e ms)) (sym a.sent)
       (record { of_cause = tt; thinned = none-thinned base [] refl });
   numbered = λ n e l s. subst (StandForNumbered sys [] e) (sym a.sent) (none-thinned _ [] refl);
 }

@@ -23,7 +23,7 @@ use Rattle.fw_node.specs.declared.node.Node.{Node}
 use Rattle.fw_policy.specs.View.{base_of}
 use Rattle.fw_progress.specs.declared.traces.Traces.{Traces}
 use Rattle.fw_progress.specs.Trace.{AreSettledTo, IsTraceOf, IsTraceWithin, KeepsOthers}
-use Rattle.fw_progress.specs.Settle.{IsSettledBy}
+use Rattle.fw_progress.specs.Settle.{SettlesMore}
 use Rattle.fw_stands.specs.Settling.{settled_state, AreSettledAt, KeepsAllButSettled, IsSettledTable}
 use Rattle.fw_stands.specs.Parts.{IsTraceIn, IsTableIn}
 use Rattle.fw_stands.proofs.AtReached.{reached-next, reached-legal}
@@ -32,12 +32,12 @@ use Rattle.fw_stands.proofs.GrowthLaws.{settled-holds, logged-before, logged-wit
 -- ---- the step
 
 -- where a node that is not failed has more to settle, the step of progress leads to the state in which so much is settled
-pub growth-progress : (sys : System) (state : Machine) (settled : Vec Front) → IsSettledBy sys state (Some settled)
+pub growth-progress : (sys : System) (state : Machine) (settled : Vec Front) → SettlesMore sys state (Some settled)
     → LeadsTo sys state ProgressStep (settled_state sys state settled.items) silent
 growth-progress sys state settled g = (g.0, settled.items, g.1, refl, refl)
 
 -- where no node has more to settle, the step of progress is idle
-pub no_growth-idle : (sys : System) (state : Machine) → IsSettledBy sys state None → IsIdle sys state ProgressStep
+pub no_growth-idle : (sys : System) (state : Machine) → SettlesMore sys state None → IsIdle sys state ProgressStep
 no_growth-idle sys state none next effect t =
     let g = t.2 in
     let s = g.some in

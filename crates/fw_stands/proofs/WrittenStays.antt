@@ -28,7 +28,7 @@ use Rattle.fw_model.specs.Filtering.{events_inside, messages_from, messages_outs
 use Rattle.fw_model.specs.History.{message_on, delivered_messages, sent_messages, IsLegal}
 use Rattle.fw_model.specs.LawsOfWrites.{HasEventOf, HasItsEvent}
 use Rattle.fw_model.specs.Machine.{Machine, SerialEvent, Write, checkpoint, logged_event, events, family_of, first_state, Written as WrittenBy}
-use Rattle.fw_model.specs.Offers.{on_edge, stamps_on, stamps_on_from}
+use Rattle.fw_model.specs.Offers.{counted_on_edge, stamps_on, stamps_on_from}
 use Rattle.fw_model.specs.Reached.{IsReached}
 use Rattle.fw_model.specs.SortedMessages.{sorted_messages}
 use Rattle.fw_model.specs.Steps.{Effect, did, LeadsTo}
@@ -49,7 +49,7 @@ use Rattle.fw_record.specs.declared.record.Record.{Record}
 use Rattle.fw_record.specs.declared.record.Record.TheVariants as tagged
 use Rattle.fw_keep.specs.declared.entry.Written.{Written}
 use Rattle.fw_keep.specs.declared.entry.Written.TheVariants as written
-use Rattle.fw_stands.specs.Written.{HasEventTold, events_within, HoldsWithin, Holds, IsCheckpointFor, IsRecordFor}
+use Rattle.fw_stands.specs.Written.{HasEventTold, events_within, HoldsWithin, HoldsWhatIsWritten, IsCheckpointFor, IsRecordFor}
 use Rattle.fw_stands.specs.Entries.{StaysWritten}
 
 -- ---- what a node's stamps stand for hangs on its events alone
@@ -92,7 +92,7 @@ stamps-own sys h k p base stamps same a =
           let x = a.sent n e l s in
           record {
             of_cause = x.of_cause;
-            thinned = subst (λ ms. IsThinned base (causes_in ms) (causes_of (on_edge e stamps.sent))) (own e s) x.thinned;
+            thinned = subst (λ ms. IsThinned base (causes_in ms) (causes_of (counted_on_edge e stamps.sent))) (own e s) x.thinned;
           };
       numbered = λ n e l s.
           subst (λ ms. IsThinned (everything (bounds_of sys.flow (receiver sys.flow e))) (map (λ (m : Message). m.at) ms)
@@ -231,7 +231,7 @@ written-stays sys w state next l m told p (checkpoint f low) c k =
     let a = alike sys w state next l m p f c in
     record { held = λ entry h. holds entry a h; spelled = λ r h. records r a h }
   where
-    holds : (entry : Written) → AreAlike sys state next p f → Holds sys state p entry (checkpoint f low) → Holds sys next p entry (checkpoint f low)
+    holds : (entry : Written) → AreAlike sys state next p f → HoldsWhatIsWritten sys state p entry (checkpoint f low) → HoldsWhatIsWritten sys next p entry (checkpoint f low)
     holds (written.Checkpoint r s n) a h = within-stays sys state next p f a r s n h
     holds (written.Event event) a h = absurd h
 
@@ -240,7 +240,7 @@ written-stays sys w state next l m told p (checkpoint f low) c k =
     records (tagged.Event q event) a h = absurd h
 written-stays sys w state next l m told p (logged_event s) c k = record { held = holds; spelled = records }
   where
-    holds : (entry : Written) → Holds sys state p entry (logged_event s) → Holds sys next p entry (logged_event s)
+    holds : (entry : Written) → HoldsWhatIsWritten sys state p entry (logged_event s) → HoldsWhatIsWritten sys next p entry (logged_event s)
     holds (written.Checkpoint r t n) h = absurd h
     holds (written.Event event) h = told p s event k h
 

@@ -6,7 +6,7 @@ use Rattle.fw_flow.specs.declared.kind.Kind.TheVariants.{OutputNumber}
 use Rattle.fw_flow.specs.Dataflow.{System, Dataflow, kind_of, batches_of, is_output_kind}
 use Rattle.fw_model.specs.Machine.{Machine, front_of, is_failed}
 use Rattle.fw_model.specs.Steps.{HasEpoch}
-use Rattle.fw_border.specs.Outputs.{OutputState, recs_at}
+use Rattle.fw_border.specs.Outputs.{OutputState, recs_at_number}
 use Rattle.fw_stands.specs.Parts.{IsOutputOf}
 use Rattle.fw_stands.specs.Staying.{KeepsTables, KeepsQueues, KeepsLogs, KeepsSources, KeepsTraces, KeepsLost}
 
@@ -21,7 +21,7 @@ pub record IsGreatestCount (sys : System) (count : ℕ) : Type 0 where
 
 -- an output has something to acknowledge at x: a rec at the number; or a batch of the epoch, or some rec
 abbrev pub HasSomething : ℕ → OutputState → Kind → ℕ → Type 0
-HasSomething epochs output OutputNumber x = recs_at output.recs x ≢ []
+HasSomething epochs output OutputNumber x = recs_at_number output.recs x ≢ []
 HasSomething epochs output kind x = (x < epochs) ⊎ (output.recs ≢ [])
 
 -- Output o, of which this is kept and up to which front it is settled, may acknowledge its bound: it is declared and not failed,

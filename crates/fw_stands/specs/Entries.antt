@@ -16,15 +16,15 @@ use Rattle.fw_record.specs.Sound.{IsRec}
 use Rattle.fw_keep.specs.declared.entry.Entry.{Entry}
 use Rattle.fw_keep.specs.declared.entry.Written.{Written}
 use Rattle.fw_keep.specs.declared.entry.Written.TheVariants as written
-use Rattle.fw_keep.specs.Entry.{asked, is_lost}
-use Rattle.fw_stands.specs.Written.{Holds, events_within, IsRecordFor}
+use Rattle.fw_keep.specs.Entry.{asked, is_in_flight_of}
+use Rattle.fw_stands.specs.Written.{HoldsWhatIsWritten, events_within, IsRecordFor}
 
 -- ---- what is written stays
 
 -- What stands for what is written of node p in a state stands for it in the next one: what an entry holds of it, and the
 -- record of it.
 pub record StaysWritten (sys : System) (state next : Machine) (p : ℕ) (what : WrittenBy) : Type 0 where
-  pub held : (entry : Written) → Holds sys state p entry what → Holds sys next p entry what
+  pub held : (entry : Written) → HoldsWhatIsWritten sys state p entry what → HoldsWhatIsWritten sys next p entry what
   pub spelled : (r : Record) → IsRecordFor sys state p what r → IsRecordFor sys next p what r
 
 -- ---- one more write
@@ -53,7 +53,7 @@ is_lost_of ps e = is_one_of e.node ps && not e.acknowledged
 -- the entries that are left where the nodes are lost one after the other
 abbrev pub without_lost_of : List ℕ → List Entry → List Entry
 without_lost_of [] entries = entries
-without_lost_of (p ∷ ps) entries = without_lost_of ps (filter (λ e. not (is_lost p e)) entries)
+without_lost_of (p ∷ ps) entries = without_lost_of ps (filter (λ e. not (is_in_flight_of p e)) entries)
 
 -- ---- the newest checkpoint
 

@@ -26,8 +26,8 @@ use Rattle.fw_stands.specs.Parts.{queued, is_logging, logged}
 -- ---- what is delivered
 
 -- what is asked of the queue of edge e, where this is asked for: on a numbered edge the first of all
-abbrev pub asked_of : Dataflow → ℕ → Option Stamp → Option Stamp
-asked_of flow e at = if is_numbered flow e then None else at
+abbrev pub asked_of_queue : Dataflow → ℕ → Option Stamp → Option Stamp
+asked_of_queue flow e at = if is_numbered flow e then None else at
 
 -- the message, if it is asked for
 abbrev pub if_asked : Option Stamp → Option Message → Option Message
@@ -37,7 +37,7 @@ if_asked at (Some m) = if is_asked at m.at then Some m else None
 -- what is delivered next on edge e from its queue, where this is asked for: the first message that is; on a numbered edge the
 -- first of all, if it is
 abbrev pub next_queued : Dataflow → ℕ → Option Stamp → List Message → Option Message
-next_queued flow e at queue = if_asked at (find (λ (m : Message). is_asked (asked_of flow e at) m.at) queue)
+next_queued flow e at queue = if_asked at (find (λ (m : Message). is_asked (asked_of_queue flow e at) m.at) queue)
 
 -- the step of a delivery, by what the queue has next: the message is delivered; where there is none the step is idle
 abbrev pub IsDeliveryOf : System → Machine → ℕ → Option Stamp → Option Message → Type 0

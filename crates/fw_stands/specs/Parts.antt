@@ -14,7 +14,7 @@ use Rattle.fw_model.specs.Filtering.{messages_outside}
 use Rattle.fw_model.specs.History.{pending_messages, sent_messages, injected_count}
 use Rattle.fw_model.specs.Machine.{Machine, events, family_of, front_of, is_failed, ack_count_of}
 use Rattle.fw_model.specs.SortedMessages.{sorted_messages}
-use Rattle.fw_border.specs.Outputs.{OutputState, recs_at}
+use Rattle.fw_border.specs.Outputs.{OutputState, recs_at_number}
 use Rattle.fw_border.specs.Sources.{SourceState}
 use Rattle.fw_node.specs.declared.node.Node.{Node}
 use Rattle.fw_node.specs.TableOf.{IsTableOf}
@@ -59,7 +59,7 @@ kept_recs sys state o x =
 -- What is kept of an output: how many stamps it acknowledged, and its recs at each number.
 pub record IsOutputOf (sys : System) (state : Machine) (o : ℕ) (output : OutputState) : Type 0 where
   pub bound : output.bound ≡ ack_count_of state o
-  pub recs : (x : ℕ) → recs_at output.recs x ≡ kept_recs sys state o x
+  pub recs : (x : ℕ) → recs_at_number output.recs x ≡ kept_recs sys state o x
 
 -- ---- what does not
 

@@ -1,7 +1,7 @@
 //! The kinds that lead into a loop, round it and out of it.
 ghost use Rattle.std.specs.Prelude.{◌≡◌, ◌∷◌, []};
 ghost use Rattle.fw_time.specs.Sending.{entered_stamp, fed_back_stamp, left_stamp};
-ghost use Rattle.fw_table.specs.Sent.{stamped, sent_at};
+ghost use Rattle.fw_table.specs.Sent.{stamped, sent_if_at};
 
 use fw_bag::Rec;
 use fw_frontier::Logical;
@@ -23,7 +23,7 @@ impl<T: Logical> Enter<T> {
 
     /// Sends the rec at counter 0 of the time at which it came.
     pub fn on_message(&self, t: T, rec: Rec) -> Sent<Nest<T>>
-        ensures { stamped ⟦<Nest<T> as Time>⟧.coords result ≡ sent_at (entered_stamp (T.coords t)) (rec ∷ []) }
+        ensures { stamped ⟦<Nest<T> as Time>⟧.coords result ≡ sent_if_at (entered_stamp (T.coords t)) (rec ∷ []) }
     {
         Sent::of(
             Nest {
@@ -58,7 +58,7 @@ impl<T: Logical> Feedback<T> {
     #[tactic(auto, using(crate::proofs::LoopLaws::fed_back_next, crate::proofs::LoopLaws::fed_back_none))]
     pub fn on_message(&self, t: Nest<T>, rec: Rec) -> Sent<Nest<T>>
         ensures { stamped ⟦<Nest<T> as Time>⟧.coords result
-            ≡ sent_at (fed_back_stamp self.now.max (⟦<Nest<T> as Time>⟧.coords t)) (rec ∷ []) }
+            ≡ sent_if_at (fed_back_stamp self.now.max (⟦<Nest<T> as Time>⟧.coords t)) (rec ∷ []) }
     {
         if t.counter >= self.max {
             return Sent::of(t, None);
@@ -86,7 +86,7 @@ impl<T: Logical> Leave<T> {
     /// Sends the rec at the time outside of the loop.
     #[tactic(auto, using(crate::proofs::LoopLaws::left_outer))]
     pub fn on_message(&self, t: Nest<T>, rec: Rec) -> Sent<T>
-        ensures { stamped T.coords result ≡ sent_at (left_stamp (⟦<Nest<T> as Time>⟧.coords t)) (rec ∷ []) }
+        ensures { stamped T.coords result ≡ sent_if_at (left_stamp (⟦<Nest<T> as Time>⟧.coords t)) (rec ∷ []) }
     {
         Sent::of(t.outer, Some(rec))
     }

@@ -9,6 +9,6 @@ abbrev pub stamped : {U : Type 0} → (U → Stamp) → Sent U → List (Stamp �
 stamped coords sent = map (λ r. (coords sent.at, r)) sent.recs
 
 -- these recs at a stamp, if there is one
-abbrev pub sent_at : Option Stamp → List Rec → List (Stamp × Rec)
-sent_at None rs = []
-sent_at (Some t) rs = map (λ r. (t, r)) rs
+abbrev pub sent_if_at : Option Stamp → List Rec → List (Stamp × Rec)
+sent_if_at None rs = []
+sent_if_at (Some t) rs = map (λ r. (t, r)) rs

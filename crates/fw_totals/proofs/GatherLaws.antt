@@ -22,12 +22,12 @@ use Rattle.fw_table.specs.Sums.{HasSums, sum_at}
 use Rattle.fw_totals.specs.Totals.{combined}
 use Rattle.fw_totals.proofs.MergeLaws.{merged_by}
 use Rattle.fw_totals.specs.Totals.{found, HasTotals}
-use Rattle.fw_totals.specs.Gathered.{gathered, HasRoom, HasRooms}
+use Rattle.fw_totals.specs.Gathered.{gathered, HasPlaceForEach, HasRooms}
 use Rattle.fw_totals.specs.Settling.{holds_sums}
 
 -- ---- rooms
 
-pub rooms_kept : {T : Type 0} (inside : T → Bool) (old new : BTreeMap ℕ (Option ℕ)) → HasRoom old new → (es : List (T × Sums))
+pub rooms_kept : {T : Type 0} (inside : T → Bool) (old new : BTreeMap ℕ (Option ℕ)) → HasPlaceForEach old new → (es : List (T × Sums))
     → HasRooms inside old es → HasRooms inside new es
 rooms_kept {T} inside old new k [] h = tt
 rooms_kept {T} inside old new k (e ∷ es) h = ((λ i q s. k q (h.0 i q s)), rooms_kept inside old new k es h.1)

@@ -8,12 +8,12 @@ use Rattle.fw_table.specs.declared.sums.Sums.{Sums}
 use Rattle.fw_totals.specs.Totals.{combined}
 
 -- each key of the first map has a place in the second
-abbrev pub HasRoom : {A B : Type 0} → BTreeMap ℕ A → BTreeMap ℕ B → Type 0
-HasRoom sums totals = (q : ℕ) → is_some (get nat_cmp sums q) ≡ true → is_some (get nat_cmp totals q) ≡ true
+abbrev pub HasPlaceForEach : {A B : Type 0} → BTreeMap ℕ A → BTreeMap ℕ B → Type 0
+HasPlaceForEach sums totals = (q : ℕ) → is_some (get nat_cmp sums q) ≡ true → is_some (get nat_cmp totals q) ≡ true
 
 -- each key of the times inside has a place
 abbrev pub HasRooms : {T : Type 0} → (T → Bool) → BTreeMap ℕ (Option ℕ) → List (T × Sums) → Type 0
-HasRooms {T} inside totals es = AllByRecursion (λ (e : T × Sums). inside e.0 ≡ true → HasRoom e.1.by_key totals) es
+HasRooms {T} inside totals es = AllByRecursion (λ (e : T × Sums). inside e.0 ≡ true → HasPlaceForEach e.1.by_key totals) es
 
 -- ---- for the proofs
 

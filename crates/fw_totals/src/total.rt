@@ -4,13 +4,13 @@ ghost use Rattle.std.specs.Ordering.{nat_cmp};
 ghost use Rattle.std.specs.List.Sorted.{IsStrictlySortedBy};
 ghost use Rattle.std.specs.Map.{keys_of};
 ghost use Rattle.fw_time.specs.Stamp.{same};
-ghost use Rattle.fw_bag.specs.Arrivals.{Arrival, recs_of, arrival, recs_at, recs_inside, AreInside, AreTimes};
+ghost use Rattle.fw_bag.specs.Arrivals.{Arrival, recs_of, arrival, recs_arrived_at, recs_inside, AreInside, AreTimes};
 ghost use Rattle.fw_frontier.specs.Below.{is_below};
 ghost use Rattle.fw_frontier.specs.Frontier.{Within};
 ghost use Rattle.fw_table.specs.Sums.{sums_at_keys, sums_by_key};
 ghost use Rattle.fw_totals.specs.Totals.{found, raised_recs};
 ghost use Rattle.fw_totals.specs.Total.{IsTotal};
-ghost use Rattle.fw_totals.specs.Gathered.{HasRoom};
+ghost use Rattle.fw_totals.specs.Gathered.{HasPlaceForEach};
 
 use crate::settling::Settling;
 use crate::totals::{place_at, restored, write};
@@ -30,7 +30,7 @@ fn raised(
 ) -> Result<SentRecs, AllocError>
     ensures recs { IfOk result (λ recs. recs ≡ raised_recs totals.old sums.now.entries) }
     ensures same { (q : ℕ) → found totals.new q ≡ found totals.old q }
-    ensures room { OnOk result (HasRoom sums.now totals.new) }
+    ensures room { OnOk result (HasPlaceForEach sums.now totals.new) }
     ensures ordered { IsStrictlySortedBy nat_cmp (keys_of sums.now.entries) }
 {
     let mut recs = SentRecs::of(None);
@@ -124,7 +124,7 @@ impl Total {
             → inside (t.0 ∷ []) ≡ false → taken (t.0 ∷ []) ≡ false → IsTotal inside taken self.old came
             → IfOk result (λ sent. sent ≡ record {
               at = t;
-              recs = sums_at_keys (recs_at (t.0 ∷ []) came) (recs_inside (λ s. same s (t.0 ∷ []) || taken s) came);
+              recs = sums_at_keys (recs_arrived_at (t.0 ∷ []) came) (recs_inside (λ s. same s (t.0 ∷ []) || taken s) came);
             }) }
         ensures err { (inside taken : List ℕ → Bool) (came : List Arrival) → IsTotal inside taken self.old came
             → OnErr result (IsTotal inside taken self.new came) }

@@ -8,7 +8,7 @@ ghost use Rattle.std.specs.BTreeMap.{get};
 ghost use Rattle.fw_bag.specs.declared.rec.Rec.{Rec};
 ghost use Rattle.fw_bag.specs.Keyed.{has_key};
 ghost use Rattle.fw_table.specs.Sums.{entry_recs, sums_by_key};
-ghost use Rattle.fw_totals.specs.Gathered.{HasRoom};
+ghost use Rattle.fw_totals.specs.Gathered.{HasPlaceForEach};
 ghost use Rattle.fw_totals.specs.Totals.{combined, found, shown_entries, written, AreSumsIn, HasTotals};
 
 use fw_bag::Rec;
@@ -21,8 +21,8 @@ pub(crate) fn make_room(
     sums: &BTreeMap<u64, u64>,
 ) -> Result<(), AllocError>
     ensures same { (q : ℕ) → found totals.new q ≡ found totals.old q }
-    ensures kept { HasRoom totals.old totals.new }
-    ensures room { OnOk result (HasRoom sums.now totals.new) }
+    ensures kept { HasPlaceForEach totals.old totals.new }
+    ensures room { OnOk result (HasPlaceForEach sums.now totals.new) }
 {
     for (key, _) in sums {
         if !totals.contains_key(key) {
@@ -36,7 +36,7 @@ pub(crate) fn make_room(
 pub(crate) fn place_at(totals: &mut BTreeMap<u64, Option<u64>>, key: u64) -> Result<u64, AllocError>
     ensures total { IfOk result (λ total. total ≡ unwrap_or (found totals.old key) 0) }
     ensures same { (q : ℕ) → found totals.new q ≡ found totals.old q }
-    ensures kept { HasRoom totals.old totals.new }
+    ensures kept { HasPlaceForEach totals.old totals.new }
     ensures room { OnOk result (is_some (get nat_cmp totals.new key) ≡ true) }
 {
     match totals.get(&key) {
@@ -64,8 +64,8 @@ pub(crate) fn take_in(
     totals: &mut BTreeMap<u64, Option<u64>>,
     sums: &BTreeMap<u64, u64>,
 ) -> Result<(), AllocError>
-    ensures ok { HasRoom sums.now totals.old → IsOk result }
-    ensures kept { HasRoom totals.old totals.new }
+    ensures ok { HasPlaceForEach sums.now totals.old → IsOk result }
+    ensures kept { HasPlaceForEach totals.old totals.new }
     ensures totals { OnOk result
         ((q : ℕ) → found totals.new q ≡ combined (found totals.old q) (get nat_cmp sums.now q)) }
 {

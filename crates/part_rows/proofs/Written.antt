@@ -10,7 +10,7 @@ use Rattle.fw_flow.specs.declared.choice.Offer.{Offer}
 use Rattle.fw_flow.specs.declared.choice.Offered.{Offered}
 use Rattle.fw_flow.specs.declared.choice.Offered.TheVariants as form
 use Rattle.fw_flow.specs.Dataflow.{Dataflow, sender, receiver, bounds_of}
-use Rattle.fw_model.specs.Offers.{offered_by, listed_records, offered_range, sent_by, on_edge, HasOneCause, AreOfBatches, IsFormOf, IsRecordOf, IsRangeOf, AreOnEdges, AreOffersOf}
+use Rattle.fw_model.specs.Offers.{offered_by, listed_records, offered_range, offered_sent, counted_on_edge, HasOneCause, AreOfBatches, IsFormOf, IsRecordOf, IsRangeOf, AreAtEdgeStamps, AreOffersOf}
 use Rattle.fw_flow.specs.Restoring.{way_of}
 use Rattle.part_rows.specs.Written.{IsMessageOf, IsOfferOf, AreOffersFrom}
 
@@ -54,19 +54,19 @@ offers_are flow os n a = record {
   range = λ p l.
       looked-up flow (λ o. o.offered) (form.Listed []) (λ q x. IsRangeOf (bounds_of flow q) (offered_range x)) (λ q o i. i.offered.ends) os p a n l;
   form_fits = λ p l. looked-up flow (λ o. o.offered) (form.Listed []) (λ q x. IsFormOf (way_of flow q) x) (λ q o i. i.offered.way) os p a n l;
-  delivered = λ p l. looked-up flow (λ o. o.stamps.delivered) [] (λ q ms. AreOnEdges flow ms) (λ q o i. on-edges o.stamps.delivered i.delivered) os p a n l;
+  delivered = λ p l. looked-up flow (λ o. o.stamps.delivered) [] (λ q ms. AreAtEdgeStamps flow ms) (λ q o i. on-edges o.stamps.delivered i.delivered) os p a n l;
   notified = λ p l.
       looked-up flow (λ o. o.stamps.notified) [] (λ q ts. AllByRecursion (λ t. in_domain (bounds_of flow q) t ≡ true) ts) (λ q o i. i.notified) os p a n l;
-  sent = λ p l. looked-up flow (λ o. o.stamps.sent) [] (λ q ms. AreOnEdges flow ms) (λ q o i. on-edges o.stamps.sent i.sent) os p a n l;
+  sent = λ p l. looked-up flow (λ o. o.stamps.sent) [] (λ q ms. AreAtEdgeStamps flow ms) (λ q o i. on-edges o.stamps.sent i.sent) os p a n l;
   batches = λ e l.
-      of-batches (offered_by os (sender flow e)) (on_edge e (sent_by os (sender flow e)))
-      (each-kept HasOneCause (λ (m : Counted). m.edge == e) (sent_by os (sender flow e)) (one-cause (sender flow e)));
+      of-batches (offered_by os (sender flow e)) (counted_on_edge e (offered_sent os (sender flow e)))
+      (each-kept HasOneCause (λ (m : Counted). m.edge == e) (offered_sent os (sender flow e)) (one-cause (sender flow e)));
 }
   where
-    on-edges : (ms : List Counted) → AllByRecursion (IsMessageOf flow) ms → AreOnEdges flow ms
+    on-edges : (ms : List Counted) → AllByRecursion (IsMessageOf flow) ms → AreAtEdgeStamps flow ms
     on-edges ms a = each-weaker (IsMessageOf flow) (λ (m : Counted). in_domain (bounds_of flow (receiver flow m.edge)) m.at ≡ true) ms (λ m i. i.0) a
 
-    one-cause : (p : ℕ) → AllByRecursion HasOneCause (sent_by os p)
+    one-cause : (p : ℕ) → AllByRecursion HasOneCause (offered_sent os p)
     one-cause p = elim (cases_lt p (length flow.nodes)) [
       | inl l ↦
           looked-up flow (λ o. o.stamps.sent) [] (λ q ms. AllByRecursion HasOneCause ms)

@@ -1,7 +1,7 @@
 use Rattle.std.proofs.Common.{List, reverse, take, subst, sym}
 use Rattle.std.proofs.lemmas.List.{take_all}
 use Rattle.fw_flow.specs.WholeBags.{Timed}
-use Rattle.fw_denote.specs.Numbers.{HasNumbers, HasTotals, ComeBefore, total_at}
+use Rattle.fw_denote.specs.Numbers.{HasNumbers, HasSlotSums, ComeBefore, total_at}
 use Rattle.fw_denote.proofs.Counts.{past-here}
 use Rattle.fw_denote.proofs.TotalLaws.{totals_all, come_before}
 use Rattle.fw_denote.proofs.keyed.totals.Goals as goal
@@ -13,7 +13,7 @@ loop-r-preserved c =
     let before : ComeBefore past c.r-item.result =
     subst (λ (r : Timed). ComeBefore past r) (sym c.r-item.is) (come_before c.args.rs.now c.loop-r.r-index c.r-item.result c.loop-r-test.true c.requires.in_order c.requires.in_line) in
     record {
-      totals = subst (λ (rs : List Timed). HasTotals c.total_up.new.totals rs) e (c.in_ok-total_up.ensures.totals past c.loop-r.invariant.totals);
+      totals = subst (λ (rs : List Timed). HasSlotSums c.total_up.new.totals rs) e (c.in_ok-total_up.ensures.totals past c.loop-r.invariant.totals);
       by_slot = subst (λ (rs : List Timed). HasNumbers c.total_up.new.by_slot (total_at rs) rs) e
           (c.in_ok-total_up.ensures.by_slot past c.loop-r.invariant.totals before c.loop-r.invariant.by_slot);
     }

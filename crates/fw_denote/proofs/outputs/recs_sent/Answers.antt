@@ -6,7 +6,7 @@ use Rattle.fw_lines.specs.Batches.{batches_at}
 use Rattle.fw_flow.specs.Dataflow.{batches_of, system_of}
 use Rattle.fw_flow.specs.WholeBags.{Timed, in_order, outputs_of_kind}
 use Rattle.fw_denote.specs.Domains.{AreIn}
-use Rattle.fw_denote.specs.Holding.{family_of}
+use Rattle.fw_denote.specs.Holding.{family_held}
 use Rattle.fw_denote.proofs.WholeLaws.{none_come, batches_there, few_batches, by_edges, comes_in, many_come, nil_below}
 use Rattle.fw_denote.proofs.outputs.recs_sent.Goals as goal
 
@@ -20,7 +20,7 @@ sent-requires-in-len1-clause-in_domain c =
     let flow = c.args.flow.now in
     let kind = c.kind-kind.result in
     subst (λ (rs : List Timed). AreIn flow kind rs)
-    (sym (c.on_edge.ensures ∙ ap (family_of flow c.args.bags.now) c.edge-item.is))
+    (sym (c.on_edge.ensures ∙ ap (family_held flow c.args.bags.now) c.edge-item.is))
     (comes_in flow c.requires.system.flow c.args.bags.now c.requires.held c.args.node kind c.in_edges-edges.result.now 0 c.edge-item.result
     c.kind-kind.ensures c.in_edges-edges.ensures (omega arith))
 
@@ -42,6 +42,6 @@ returns-in_default c =
     let edges : List ℕ = c.in_edges-edges.result.now in
     IfOk-weaker c.joint.result _ _
     (λ recs h. ap in_order (h ∙ sym (many_come flow c.requires.system.flow c.args.node c.requires.there kind edges c.kind-kind.ensures c.in_edges-edges.ensures c.in_default.len_at_least
-    (batches_of (system_of flow c.args.batches.now) c.args.node) (map (family_of flow c.args.bags.now) edges)))
+    (batches_of (system_of flow c.args.batches.now) c.args.node) (map (family_held flow c.args.bags.now) edges)))
     ∙ sym (by_edges flow c.args.batches.now c.args.bags.now c.args.node kind edges c.kind-kind.ensures c.in_edges-edges.ensures))
     c.joint.ensures

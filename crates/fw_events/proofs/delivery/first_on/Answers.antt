@@ -4,7 +4,7 @@ use Rattle.std.specs.Option.{option_copied}
 use Rattle.std.specs.Prelude.{find}
 use Rattle.fw_flow.specs.declared.event.Message.{Message}
 use Rattle.fw_model.specs.Steps.{is_asked}
-use Rattle.fw_stands.specs.Events.{asked_of}
+use Rattle.fw_stands.specs.Events.{asked_of_queue}
 use Rattle.fw_running.specs.Kept.{queue_at}
 use Rattle.fw_events.proofs.AskedLaws.{first-of_numbers, first-of_others, nothing-first, queue-there}
 use Rattle.fw_events.proofs.delivery.first_on.Goals as goal
@@ -12,7 +12,7 @@ use Rattle.fw_events.proofs.delivery.first_on.Goals as goal
 pub returns-in_err-queue : goal.returns-in_err-queue
 returns-in_err-queue c =
     ap (λ (r : Option (Bor Message)). option_copied r) c.from_residual.ensures
-    ∙ nothing-first c.args.running.now.parts.queues c.args.edge (λ (m : Message). is_asked (asked_of c.args.running.now.flow c.args.edge (option_copied c.args.at)) m.at)
+    ∙ nothing-first c.args.running.now.parts.queues c.args.edge (λ (m : Message). is_asked (asked_of_queue c.args.running.now.flow c.args.edge (option_copied c.args.at)) m.at)
     c.in_err-queue.ensures
 
 pub returns-then-is_numbered : goal.returns-then-is_numbered

@@ -3,7 +3,7 @@ use Rattle.std.proofs.lemmas.List.{take_more}
 use Rattle.std.proofs.lemmas.Option.{slice_get_read}
 use Rattle.fw_flow.specs.declared.raw.Declared.{Declared}
 use Rattle.fw_flow.specs.Check.{StaysWithinLimits, IsWithinLimitsAfter}
-use Rattle.fw_flow.specs.Parts.{AreCountsOf}
+use Rattle.fw_flow.specs.Parts.{AreCountsDeclared}
 use Rattle.fw_flow.proofs.check.limit_line.Goals as goal
 
 pub loop-one-preserved : goal.loop-one-preserved
@@ -13,7 +13,7 @@ loop-one-preserved c =
     let one = c.one-item.result in
     let before = take i raw in
     record {
-      counted = subst (AreCountsOf c.in-Some.more) (sym (take_more raw i one (omega arith) ∙ ap (λ (d : Declared). before ++ d ∷ []) (sym c.one-item.is)))
+      counted = subst (AreCountsDeclared c.in-Some.more) (sym (take_more raw i one (omega arith) ∙ ap (λ (d : Declared). before ++ d ∷ []) (sym c.one-item.is)))
           (c.in-Some.ensures.counts before one.line c.loop-one.invariant.counted);
       so_far = below_more (StaysWithinLimits raw) i c.loop-one.invariant.so_far
           (subst (λ o. IfSome o (λ (d : Declared). IsWithinLimitsAfter before d.declaration)) (sym (slice_get_read raw _ i one refl (omega arith) c.one-item.is))

@@ -3,7 +3,7 @@ use Rattle.std.proofs.lemmas.Bool.Decides.{nat_tests}
 use Rattle.std.specs.List.{list_any}
 use Rattle.std.proofs.lemmas.Result.{IfOk-weaker}
 use Rattle.fw_lines.specs.Lines.{said_in, bytes_at, words_at}
-use Rattle.fw_flow_text.specs.Grammar.{AreWordsOf, Finds, BreakAfter, capped_words, is_large}
+use Rattle.fw_flow_text.specs.Grammar.{AreWordsOf, Finds, BreakAfter, capped_words, is_large_number}
 use Rattle.fw_flow_text.proofs.DeclaredLaws.{silent_push}
 use Rattle.fw_flow_text.proofs.FoundLaws.{no_parts, formless, too_large, not_new, new_breaks_none, declares_found, refusal_weaker}
 use Rattle.fw_flow_text.proofs.reader.read_line.Goals as goal
@@ -26,20 +26,20 @@ pub returns-clause-sound : goal.returns-clause-sound
 returns-clause-sound c =
     let text = c.args.text.now in
     let found = subst (λ ws. Finds (AreWordsOf (capped_words text ws)) c.in_ok-declaration.field-0) c.as_slice-words.ensures c.in_ok-declaration.ensures in
-    let large = c.has_large.ensures ∙ ap (list_any (λ word. is_large (bytes_at text word))) c.as_slice-words.ensures in
+    let large = c.has_large.ensures ∙ ap (list_any (λ word. is_large_number (bytes_at text word))) c.as_slice-words.ensures in
     IfOk-weaker c.declare_new.result _ _ (λ more new. new_breaks_none text c.args.raw c.args.line.now.words c.in_ok-declaration.field-0 c.in-Some.declaration c.has_large.result found c.in-Some.is large c.if-has_large.false new) c.declare_new.ensures.sound
 
 pub returns-clause-value : goal.returns-clause-value
 returns-clause-value c =
     let text = c.args.text.now in
     let found = subst (λ ws. Finds (AreWordsOf (capped_words text ws)) c.in_ok-declaration.field-0) c.as_slice-words.ensures c.in_ok-declaration.ensures in
-    let large = c.has_large.ensures ∙ ap (list_any (λ word. is_large (bytes_at text word))) c.as_slice-words.ensures in
+    let large = c.has_large.ensures ∙ ap (list_any (λ word. is_large_number (bytes_at text word))) c.as_slice-words.ensures in
     IfOk-weaker c.declare_new.result _ _ (λ more value. declares_found text c.args.raw more c.args.line.now.number c.args.line.now.words c.in_ok-declaration.field-0 c.in-Some.declaration c.has_large.result found c.in-Some.is large c.if-has_large.false value) c.declare_new.ensures.value
 
 pub returns-clause-broken : goal.returns-clause-broken
 returns-clause-broken c =
     let text = c.args.text.now in
     let found = subst (λ ws. Finds (AreWordsOf (capped_words text ws)) c.in_ok-declaration.field-0) c.as_slice-words.ensures c.in_ok-declaration.ensures in
-    let large = c.has_large.ensures ∙ ap (list_any (λ word. is_large (bytes_at text word))) c.as_slice-words.ensures in
+    let large = c.has_large.ensures ∙ ap (list_any (λ word. is_large_number (bytes_at text word))) c.as_slice-words.ensures in
     refusal_weaker _ _ c.declare_new.result c.declare_new.ensures.broken
     (λ refusal h. (subst (BreakAfter c.args.raw (words_at text c.args.line.now.words)) (sym h.1) (not_new text c.args.raw c.args.line.now.words c.in_ok-declaration.field-0 c.in-Some.declaration c.has_large.result found c.in-Some.is large c.if-has_large.false h.0), h.2))

@@ -2,17 +2,17 @@ use Rattle.std.proofs.Common.{◌≢◌, ◌∷◌, [], arith, subst, string_byt
 use Rattle.std.proofs.lemmas.List.{append-nil}
 use Rattle.std.proofs.lemmas.Result.{on_ok_weaker}
 use Rattle.fw_generate.proofs.Writing.{asked_written, checkpoints_asked, collection_asked, failure_asked, nothing_asked, pushed}
-use Rattle.fw_generate.specs.Draws.{Drawing, words_of}
+use Rattle.fw_generate.specs.Draws.{Drawing, words_drawn}
 use Rattle.fw_lines.specs.Written.{text_of}
 use Rattle.fw_generate.specs.Texts.{checkpoint_lines, collect_line}
-use Rattle.fw_generate.specs.Writes.{Writes}
+use Rattle.fw_generate.specs.Writes.{WritesDrawn}
 use Rattle.fw_generate.proofs.schedule.write_lines_for.Goals as goal
 
 pub returns-in-0 : goal.returns-in-0
 returns-in-0 c =
     let call = c.write_failure in
     on_ok_weaker call.result
-    (subst (λ (asked : Drawing _). Writes asked text_of (words_of c.args.generator.now) (words_of call.new.generator) (string_bytes c.args.text.now) (string_bytes call.new.text))
+    (subst (λ (asked : Drawing _). WritesDrawn asked text_of (words_drawn c.args.generator.now) (words_drawn call.new.generator) (string_bytes c.args.text.now) (string_bytes call.new.text))
     (sym (failure_asked _ c.in-0.is)))
     call.ensures
 

@@ -1,7 +1,7 @@
 use Rattle.std.proofs.Common.{[], arith, refl, sym, ◌∙◌, ap, subst, inr}
 use Rattle.std.proofs.lemmas.Result.{err_from_is_err_and}
 use Rattle.fw_lines.specs.Lines.{lines_left, said_lines}
-use Rattle.fw_lines.specs.Inputs.{line_fault}
+use Rattle.fw_lines.specs.Inputs.{inputs_fault}
 use Rattle.fw_lines.proofs.FaultLaws.{Told, none_judged, if_refused-weaker}
 use Rattle.fw_lines.proofs.GivenLaws.{read-batches}
 use Rattle.fw_lines.proofs.ReadLaws.{IsRead, read_more, read_broken, read_accepted}
@@ -12,7 +12,7 @@ loop-place-init c =
     let lines = said_lines c.args.text.now in
     record {
       within = record { within = omega arith; passed = omega arith };
-      read = subst (IsRead c.args.sources.now lines lines) (sym c.new-batches.ensures) (record { done = []; so_far = none_judged (Told (line_fault c.args.sources.now)) lines; value = λ node. refl });
+      read = subst (IsRead c.args.sources.now lines lines) (sym c.new-batches.ensures) (record { done = []; so_far = none_judged (Told (inputs_fault c.args.sources.now)) lines; value = λ node. refl });
     }
 
 pub loop-place-preserved : goal.loop-place-preserved

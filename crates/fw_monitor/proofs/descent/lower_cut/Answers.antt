@@ -1,6 +1,6 @@
 use Rattle.std.proofs.Common.{None, Some, refl, sym, subst}
 use Rattle.fw_frontier.specs.Front.{IsFrontOf}
-use Rattle.fw_monitor.specs.Descent.{choice_of, owner, side_bounds, right_of, IsLowered}
+use Rattle.fw_monitor.specs.Descent.{choice_of, owner, side_bounds, right_of, IsLowerCut}
 use Rattle.fw_monitor.proofs.DescentLaws.{owner-there}
 use Rattle.fw_monitor.proofs.StepLaws.{cut_here}
 use Rattle.fw_monitor.proofs.LoweringLaws.{cut_stays, cut_tested}
@@ -22,8 +22,8 @@ returns-in-None c =
     let cuts = c.args.cuts.now.items in
     let choice = choice_of cuts notices in
     let names = subst (λ xs. IsFrontOf (side_bounds flow side) c.in_ok-bound.bound (right_of flow offers side (choice_of xs notices))) c.deref.ensures.value c.in_ok-bound.ensures in
-    let low = subst (IsLowered flow offers side c.cut_at.result.now c.in_ok-bound.bound) c.in-None.is c.in_ok-lower.ensures in
-    let none = subst (λ x. IsLowered flow offers side x c.in_ok-bound.bound None) (c.cut_at.ensures choice (sym c.deref-2.ensures.value)) low in
+    let low = subst (IsLowerCut flow offers side c.cut_at.result.now c.in_ok-bound.bound) c.in-None.is c.in_ok-lower.ensures in
+    let none = subst (λ x. IsLowerCut flow offers side x c.in_ok-bound.bound None) (c.cut_at.ensures choice (sym c.deref-2.ensures.value)) low in
     cut_stays flow offers side cuts notices c.in_ok-bound.bound c.owner-node.result c.flow_is_well_formed.ensures c.requires.there c.requires.encloses names c.owner-node.ensures none
 
 pub returns : goal.returns
@@ -35,7 +35,7 @@ returns c =
     let cuts = c.args.cuts.now.items in
     let choice = choice_of cuts notices in
     let names = subst (λ xs. IsFrontOf (side_bounds flow side) c.in_ok-bound.bound (right_of flow offers side (choice_of xs notices))) c.deref.ensures.value c.in_ok-bound.ensures in
-    let low = subst (IsLowered flow offers side c.cut_at.result.now c.in_ok-bound.bound) c.in-Some.is c.in_ok-lower.ensures in
-    let some = subst (λ x. IsLowered flow offers side x c.in_ok-bound.bound (Some c.in-Some.cut)) (c.cut_at.ensures choice (sym c.deref-2.ensures.value)) low in
+    let low = subst (IsLowerCut flow offers side c.cut_at.result.now c.in_ok-bound.bound) c.in-Some.is c.in_ok-lower.ensures in
+    let some = subst (λ x. IsLowerCut flow offers side x c.in_ok-bound.bound (Some c.in-Some.cut)) (c.cut_at.ensures choice (sym c.deref-2.ensures.value)) low in
     cut_tested flow offers side cuts _ notices c.in_ok-bound.bound c.owner-node.result c.place.result c.in-Some.cut c.in_ok-value-in-Some.value c.flow_is_well_formed.ensures c.requires.there c.requires.encloses names
     c.owner-node.ensures c.place.ensures c.in_ok-value-in-Some.ensures refl some

@@ -3,7 +3,7 @@ use Rattle.fw_frontier.specs.Front.{IsFrontOf}
 use Rattle.fw_flow.specs.Dataflow.{bounds_of}
 use Rattle.fw_model.specs.Covers.{set_of}
 use Rattle.fw_monitor.specs.Descent.{choice_of}
-use Rattle.fw_monitor.specs.Inclusions.{note_node, limit_of, IsLimitOf}
+use Rattle.fw_monitor.specs.Inclusions.{note_node, limit_of, IsLimitIn}
 use Rattle.fw_monitor.proofs.StepLaws.{cut_here}
 use Rattle.fw_monitor.proofs.descent.within.Goals as goal
 
@@ -14,6 +14,6 @@ returns-in-Own c =
     let p = c.in-Own.node in
     let choice = choice_of c.args.cuts.now c.args.notices.now in
     let cut = c.cut_at.ensures choice refl in
-    let canonical = cut_here flow offers choice p p c.cut_at.result.now c.requires.encloses (subst (IsLimitOf flow) c.in-Own.is c.requires.there) cut refl in
+    let canonical = cut_here flow offers choice p p c.cut_at.result.now c.requires.encloses (subst (IsLimitIn flow) c.in-Own.is c.requires.there) cut refl in
     subst (λ x. IfOk c.kept.result (λ g. IsFrontOf (bounds_of flow (note_node flow x)) g (limit_of flow offers x choice))) (sym c.in-Own.is)
     (subst (λ x. IfOk c.kept.result (λ g. IsFrontOf (bounds_of flow p) g (set_of flow p x))) cut (c.kept.ensures flow p canonical))

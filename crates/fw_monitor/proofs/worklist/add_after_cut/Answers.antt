@@ -5,7 +5,7 @@ use Rattle.fw_monitor.specs.declared.side.Side.TheVariants.{Notified}
 use Rattle.fw_monitor.specs.declared.side.Limit.TheVariants.{Own}
 use Rattle.fw_monitor.specs.declared.side.Inclusion.TheVariants.{OfCut, OfNote}
 use Rattle.fw_monitor.specs.declared.side.OnEdge.TheVariants as edge
-use Rattle.fw_monitor.specs.Inclusions.{on_edge}
+use Rattle.fw_monitor.specs.Inclusions.{inclusion_on_edge}
 use Rattle.fw_monitor.proofs.WorklistLaws.{longer, longer_on}
 use Rattle.fw_monitor.proofs.worklist.add_after_cut.Goals as goal
 
@@ -15,11 +15,11 @@ returns c =
     let p = c.args.node in
     let ins = in_edges c.args.flow.now p in
     let outs = out_edges c.args.flow.now p in
-    let a = map (on_edge edge.Delivered) ins in
-    let b = a ++ map (on_edge edge.Discarded) ins in
-    let d = b ++ map (on_edge edge.Delivered) outs in
-    let e = d ++ map (on_edge edge.Discarded) outs in
-    let first = c.in_ok-add_on_edges.ensures ∙ ap (λ xs. z ++ map (on_edge edge.Delivered) xs) c.in_edges.ensures in
+    let a = map (inclusion_on_edge edge.Delivered) ins in
+    let b = a ++ map (inclusion_on_edge edge.Discarded) ins in
+    let d = b ++ map (inclusion_on_edge edge.Delivered) outs in
+    let e = d ++ map (inclusion_on_edge edge.Discarded) outs in
+    let first = c.in_ok-add_on_edges.ensures ∙ ap (λ xs. z ++ map (inclusion_on_edge edge.Delivered) xs) c.in_edges.ensures in
     let second = longer_on edge.Discarded z a _ _ _ ins c.in_edges-2.ensures first c.in_ok-add_on_edges-2.ensures in
     let third = longer_on edge.Delivered z b _ _ _ outs c.out_edges.ensures second c.in_ok-add_on_edges-3.ensures in
     let fourth = longer_on edge.Discarded z d _ _ _ outs c.out_edges-2.ensures third c.in_ok-add_on_edges-4.ensures in

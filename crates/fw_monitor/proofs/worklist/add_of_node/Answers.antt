@@ -6,7 +6,7 @@ use Rattle.fw_monitor.specs.declared.side.Side.TheVariants.{Notified}
 use Rattle.fw_monitor.specs.declared.side.Limit.TheVariants.{Own}
 use Rattle.fw_monitor.specs.declared.side.Inclusion.TheVariants.{OfCut, OfNote}
 use Rattle.fw_monitor.specs.declared.side.OnEdge.TheVariants as edge
-use Rattle.fw_monitor.specs.Inclusions.{on_edge}
+use Rattle.fw_monitor.specs.Inclusions.{inclusion_on_edge}
 use Rattle.fw_monitor.proofs.WorklistLaws.{longer, longer_on}
 use Rattle.fw_monitor.proofs.worklist.add_of_node.Goals as goal
 
@@ -16,12 +16,12 @@ returns c =
     let p = c.args.node in
     let ins = in_edges c.args.flow.now p in
     let outs = out_edges c.args.flow.now p in
-    let a = map (on_edge edge.Delivered) ins in
-    let b = a ++ map (on_edge edge.Discarded) outs in
+    let a = map (inclusion_on_edge edge.Delivered) ins in
+    let b = a ++ map (inclusion_on_edge edge.Discarded) outs in
     let n = OfCut (Notified p) ∷ [] in
     let o = OfNote (Own p) ∷ [] in
-    let notes = map (on_edge edge.Note) ins in
-    let first = c.in_ok-add_on_edges.ensures ∙ ap (λ xs. z ++ map (on_edge edge.Delivered) xs) c.in_edges.ensures in
+    let notes = map (inclusion_on_edge edge.Note) ins in
+    let first = c.in_ok-add_on_edges.ensures ∙ ap (λ xs. z ++ map (inclusion_on_edge edge.Delivered) xs) c.in_edges.ensures in
     let second = longer_on edge.Discarded z a _ _ _ outs c.out_edges.ensures first c.in_ok-add_on_edges-2.ensures in
     let third = longer z b n _ _ second c.in_ok-push.ensures.items in
     let fourth = longer z (b ++ n) o _ _ third c.in_ok-push-2.ensures.items in

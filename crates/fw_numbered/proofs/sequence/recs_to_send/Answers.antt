@@ -1,6 +1,6 @@
 use Rattle.std.proofs.Common.{◌≡◌, ◌+◌, ◌++◌, ◌∷◌, [], length, ap, ◌∙◌, arith, rules, length-append}
 use Rattle.std.proofs.lemmas.Map.Iter.{rest_more}
-use Rattle.fw_numbered.specs.Numbers.{at_numbers, numbered_recs}
+use Rattle.fw_numbered.specs.Numbers.{at_numbers, recs_numbered}
 use Rattle.fw_numbered.proofs.NumberLaws.{numbered_step}
 use Rattle.fw_numbered.proofs.sequence.recs_to_send.Goals as goal
 
@@ -15,7 +15,7 @@ loop-rec-preserved c =
     record {
       few = omega arith;
       count = omega (arith, longer, counted);
-      sent = ap (λ rs. at_numbers c.args.first rs ++ numbered_recs (c.loop-rec.next + 1) c.next.new.self) pushed
+      sent = ap (λ rs. at_numbers c.args.first rs ++ recs_numbered (c.loop-rec.next + 1) c.next.new.self) pushed
           ∙ numbered_step c.args.first c.loop-rec.next c.loop-rec.recs c.in-Some.rec c.loop-rec.rec-iterator c.next.new.self counted (omega arith) more
           ∙ i.sent;
     }

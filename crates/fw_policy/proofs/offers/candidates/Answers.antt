@@ -3,7 +3,7 @@ use Rattle.std.proofs.lemmas.List.{take_all}
 use Rattle.std.specs.Prelude.{List}
 use Rattle.fw_flow.specs.Dataflow.{Dataflow}
 use Rattle.fw_policy.specs.declared.view.NodeView.{NodeView}
-use Rattle.fw_policy.specs.Known.{AreKnown}
+use Rattle.fw_policy.specs.Known.{AreNodesKnown}
 use Rattle.fw_policy.specs.Offering.{AreOffersBy}
 use Rattle.fw_policy.proofs.KnownLaws.{are-known, offer_more}
 use Rattle.fw_policy.proofs.OfferLaws.{offers-in}
@@ -17,7 +17,7 @@ loop-place-preserved c = λ k.
 
 pub returns-clause-exact : goal.returns-clause-exact
 returns-clause-exact c = λ sys state lost e v.
-    let k = subst (λ (flow : Dataflow). AreKnown flow c.args.entries.now 0 c.args.view.now) e (are-known sys state lost c.args.view.now c.args.entries.now v) in
+    let k = subst (λ (flow : Dataflow). AreNodesKnown flow c.args.entries.now 0 c.args.view.now) e (are-known sys state lost c.args.view.now c.args.entries.now v) in
     let all = take_all c.loop-place.place c.args.view.now (omega (arith, c.requires, c.loop-place-test.false, c.nodes-place-end.ensures.count, c.loop-place.auto.place-end)) in
     offers-in sys state lost c.args.view.now c.args.entries.now c.loop-place.offers.items
     (subst (λ (flow : Dataflow). AreOffersBy flow c.args.entries.now 0 c.args.view.now c.loop-place.offers.items) (sym e)

@@ -1,7 +1,7 @@
 use Rattle.std.proofs.Common.{◌≡◌, ◌||◌, ◌&&◌, Bool, true, false, rules, ap, sym, ◌∙◌}
 use Rattle.fw_time.specs.Stamp.{lesser}
 use Rattle.fw_frontier.specs.Front.{inside}
-use Rattle.fw_progress.specs.Traces.{has_greater_inside, is_below}
+use Rattle.fw_progress.specs.Traces.{has_greater_inside, is_lesser_than_top}
 use Rattle.fw_progress.proofs.kept_stamps.top_of_chain.Goals as goal
 
 -- one stamp more that is inside
@@ -18,7 +18,7 @@ loop-stamp-preserved-then-contains c = record {
       let top = c.loop-stamp.top in
       let rest = c.next.new.self in
       let stamp = c.in-Some.stamp.now in
-      more (inside base stamp) (is_below top s) (lesser s stamp) (lesser s c.in_ok-next.next) (has_greater_inside base rest s) (has_greater_inside base c.args.stamps.now.keys s)
+      more (inside base stamp) (is_lesser_than_top top s) (lesser s stamp) (lesser s c.in_ok-next.next) (has_greater_inside base rest s) (has_greater_inside base c.args.stamps.now.keys s)
       (c.in_ok-next.ensures.greater s) (sym c.contains.ensures ∙ c.if-contains.true)
-      (ap (λ ss. is_below top s || has_greater_inside base ss s) (sym c.in-Some.ensures.steps) ∙ c.loop-stamp.invariant.greatest s);
+      (ap (λ ss. is_lesser_than_top top s || has_greater_inside base ss s) (sym c.in-Some.ensures.steps) ∙ c.loop-stamp.invariant.greatest s);
 }

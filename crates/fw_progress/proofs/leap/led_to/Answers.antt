@@ -1,6 +1,6 @@
 use Rattle.std.proofs.Common.{◌≡◌, false, [], ◌∷◌, ◌++◌, length, replicate, sym, ap, subst, ◌∙◌, arith}
 use Rattle.std.proofs.lemmas.List.{length-replicate}
-use Rattle.fw_progress.specs.Leap.{is_marked, IsMarking}
+use Rattle.fw_progress.specs.Leap.{is_node_marked, IsMarking}
 use Rattle.fw_progress.proofs.LedLaws.{none-marked, first_marking, pop_marking, all_marked}
 use Rattle.fw_progress.proofs.leap.led_to.Goals as goal
 
@@ -13,7 +13,7 @@ find-init c =
     subst (λ fs. IsMarking flow p c.mark.new.marks.items fs []) (sym (c.in_ok-push.ensures.items ∙ ap (λ ns. ns ++ p ∷ []) c.new-found.ensures.items))
     (subst (λ ms. IsMarking flow p ms (p ∷ []) []) (sym c.mark.ensures.marked)
     (first_marking flow p none c.requires (ap length is ∙ length-replicate c.nodes.result false ∙ c.nodes.ensures.count)
-    (λ q. ap (λ ms. is_marked ms q) is ∙ none-marked c.nodes.result q)))
+    (λ q. ap (λ ms. is_node_marked ms q) is ∙ none-marked c.nodes.result q)))
 
 pub mark_receivers-requires-clause-marked : goal.mark_receivers-requires-clause-marked
 mark_receivers-requires-clause-marked c =

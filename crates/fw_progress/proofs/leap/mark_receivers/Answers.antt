@@ -1,7 +1,7 @@
 use Rattle.std.proofs.Common.{◌<◌, ◌+◌, true, Bool, length, set, Vec, Global, inl, inr, sym, subst, ◌∙◌, arith}
 use Rattle.std.proofs.lemmas.Bool.{not-true, not-false}
 use Rattle.fw_flow.specs.declared.ids.NodeId.{NodeId}
-use Rattle.fw_progress.specs.Leap.{is_marked}
+use Rattle.fw_progress.specs.Leap.{is_node_marked}
 use Rattle.fw_progress.proofs.LedLaws.{IsSpreading, out_edge, set-marked, spread_none, spread_same, spread_more, spread_all}
 use Rattle.fw_progress.proofs.leap.mark_receivers.Goals as goal
 use Rattle.fw_progress.proofs.leap.mark_receivers.Goals.{then-is_as_deep+then-mark+in_ok-push, else-is_as_deep, else-is_as_deep-via-then-is_as_deep+else-mark, else-is_as_deep-via-else-is_as_deep}
@@ -41,7 +41,7 @@ loop-edge-preserved c =
     elim c.if-is_as_deep.branch [
       | then-is_as_deep+then-mark+in_ok-push w ↦
           let there : r < length flow.nodes = subst (λ n. n < length flow.nodes) (sym c.dst-receiver.ensures) (c.flow_is_well_formed.ensures.receivers_declared e (out_edge flow node edges k e c.out_edges-edges.ensures c.loop-edge-test.true c.edge-item.is).0) in
-          let new = not-true (is_marked marks r) (sym w.mark.ensures.new ∙ w.if-mark.true) in
+          let new = not-true (is_node_marked marks r) (sym w.mark.ensures.new ∙ w.if-mark.true) in
           subst (λ ms. at ms c.if-is_as_deep.found) (sym w.marks-is)
           (subst (at w.mark.new.marks) (sym w.found-is)
           (subst (λ ms. IsSpreading flow p node edges (k + 1) old began ms w.push.new.self.items) (sym w.mark.ensures.marked)
@@ -52,7 +52,7 @@ loop-edge-preserved c =
           subst (λ ms. at ms c.if-is_as_deep.found) (sym w.marks-is)
           (subst (at w.else-is_as_deep.marks) (sym w.found-is) (elim w.else-is_as_deep.branch [
             | else-is_as_deep-via-then-is_as_deep+else-mark v ↦
-                let before = not-false (is_marked marks r) (sym v.mark.ensures.new ∙ v.if-mark.false) in
+                let before = not-false (is_node_marked marks r) (sym v.mark.ensures.new ∙ v.if-mark.false) in
                 subst (λ ms. at ms c.loop-edge.found) (sym v.marks-is)
                 (subst (λ ms. IsSpreading flow p node edges (k + 1) old began ms found) (sym (v.mark.ensures.marked ∙ set-marked marks r before))
                 (spread_same flow p node edges k e r old began marks found c.loop-edge-test.true c.edge-item.is c.dst-receiver.ensures (inr before) so_far))

@@ -1,11 +1,11 @@
 use Rattle.std.proofs.Common.{subst, arith}
 use Rattle.std.proofs.lemmas.List.{take_all}
-use Rattle.fw_progress.specs.Traces.{IsCutTo}
+use Rattle.fw_progress.specs.Traces.{StandsInside}
 use Rattle.fw_progress.proofs.IntoLaws.{IsChanging, changing_none, changing_more, all_changed, in_edge, cut-twice}
 use Rattle.fw_progress.proofs.traces.cut_into.Goals as goal
 
 pub loop-edge-init : goal.loop-edge-init
-loop-edge-init c = changing_none (IsCutTo c.args.f.now) c.args.lists.now.items
+loop-edge-init c = changing_none (StandsInside c.args.f.now) c.args.lists.now.items
 
 pub cut_on-requires : goal.cut_on-requires
 cut_on-requires c =
@@ -14,11 +14,11 @@ cut_on-requires c =
 
 pub loop-edge-preserved : goal.loop-edge-preserved
 loop-edge-preserved c =
-    changing_more (IsCutTo c.args.f.now) (cut-twice c.args.f.now) c.in_edges-edges.result.now c.loop-edge.edge-index c.edge-item.result c.args.lists.now.items c.loop-edge.lists.items
+    changing_more (StandsInside c.args.f.now) (cut-twice c.args.f.now) c.in_edges-edges.result.now c.loop-edge.edge-index c.edge-item.result c.args.lists.now.items c.loop-edge.lists.items
     c.cut_on.new.lists.items c.loop-edge-test.true c.edge-item.is c.loop-edge.invariant c.cut_on.ensures
 
 pub returns : goal.returns
 returns c =
     let edges = c.in_edges-edges.result.now in
-    all_changed c.args.flow.now c.args.node (IsCutTo c.args.f.now) edges c.args.lists.now.items c.loop-edge.lists.items c.in_edges-edges.ensures
-    (subst (λ es. IsChanging (IsCutTo c.args.f.now) es c.args.lists.now.items c.loop-edge.lists.items) (take_all c.loop-edge.edge-index edges c.loop-edge-test.false) c.loop-edge.invariant)
+    all_changed c.args.flow.now c.args.node (StandsInside c.args.f.now) edges c.args.lists.now.items c.loop-edge.lists.items c.in_edges-edges.ensures
+    (subst (λ es. IsChanging (StandsInside c.args.f.now) es c.args.lists.now.items c.loop-edge.lists.items) (take_all c.loop-edge.edge-index edges c.loop-edge-test.false) c.loop-edge.invariant)

@@ -11,7 +11,7 @@ use Rattle.fw_node.specs.Answers.{caused_by}
 use Rattle.fw_node.specs.Sends.{sends_list}
 use Rattle.fw_node.specs.TableOf.{IsTableOf}
 use Rattle.fw_node.proofs.NodeOfLaws.{of_node}
-use Rattle.fw_rollback.specs.Restored.{log_of, StandsFor}
+use Rattle.fw_rollback.specs.Restored.{log_of, StandsForRedone}
 use Rattle.fw_rollback.proofs.ReplayLaws.{of_delivery, of_notice, delivery-logged, notice-logged, stands-more, have_sent-more}
 use Rattle.fw_rollback.proofs.OwnLaws.{own-more}
 use Rattle.fw_rollback.proofs.replay.do_again.Goals as goal
@@ -20,7 +20,7 @@ pub returns-in_ok-sends-in-Deliver-clause-table : goal.returns-in_ok-sends-in-De
 returns-in_ok-sends-in-Deliver-clause-table c = λ logged st.
     let flow = c.args.flow.now in
     let p = c.args.node in
-    on_ok c.log_sends.result (StandsFor flow p (logged ++ c.args.event.now ∷ []) c.deliver.new.self)
+    on_ok c.log_sends.result (StandsForRedone flow p (logged ++ c.args.event.now ∷ []) c.deliver.new.self)
     (stands-more flow p logged c.args.event.now c.args.table.now c.deliver.new.self st
     (λ before v is can t.
     let P : Event → Type 0 = λ x. IsTableOf flow p (λ s. false) c.deliver.new.self (x ∷ before) in
@@ -46,7 +46,7 @@ pub returns-in_ok-sends-in-Notify-clause-table : goal.returns-in_ok-sends-in-Not
 returns-in_ok-sends-in-Notify-clause-table c = λ logged st.
     let flow = c.args.flow.now in
     let p = c.args.node in
-    on_ok c.log_sends-in-Notify.result (StandsFor flow p (logged ++ c.args.event.now ∷ []) c.notify.new.self)
+    on_ok c.log_sends-in-Notify.result (StandsForRedone flow p (logged ++ c.args.event.now ∷ []) c.notify.new.self)
     (stands-more flow p logged c.args.event.now c.args.table.now c.notify.new.self st
     (λ before v is can t.
     let P : Event → Type 0 = λ x. IsTableOf flow p (λ s. false) c.notify.new.self (x ∷ before) in

@@ -6,7 +6,7 @@ use Rattle.fw_record.specs.Event.{stamp_of_event, event_of}
 use Rattle.fw_record.specs.declared.record.Event.{Event as LoggedEvent}
 use Rattle.fw_record.specs.declared.record.Record.{Record}
 use Rattle.fw_rollback.specs.Asked.{CanServe}
-use Rattle.fw_rollback.specs.Restored.{HaveSent, StandsFor}
+use Rattle.fw_rollback.specs.Restored.{HaveSent, StandsForRedone}
 use Rattle.fw_rollback.proofs.replay.do_record.Goals as goal
 
 pub do_again-requires-clause-stamp : goal.do_again-requires-clause-stamp
@@ -15,7 +15,7 @@ do_again-requires-clause-stamp c =
 
 pub returns-in-State-clause-table : goal.returns-in-State-clause-table
 returns-in-State-clause-table c = λ logged st.
-    subst (λ (ls : List LoggedEvent). StandsFor c.args.flow.now c.args.node ls c.args.table.now)
+    subst (λ (ls : List LoggedEvent). StandsForRedone c.args.flow.now c.args.node ls c.args.table.now)
     (sym (ap (λ (r : Record). logged ++ event_of r) c.in-State.is ∙ append-nil logged)) st
 
 pub returns-in-State-clause-logs : goal.returns-in-State-clause-logs
@@ -25,7 +25,7 @@ returns-in-State-clause-logs c = λ logged st sent.
 
 pub returns-in-Event-clause-table : goal.returns-in-Event-clause-table
 returns-in-Event-clause-table c = λ logged st.
-    subst (λ (r : Record). OnOk c.do_again.result (StandsFor c.args.flow.now c.args.node (logged ++ event_of r) c.do_again.new.table))
+    subst (λ (r : Record). OnOk c.do_again.result (StandsForRedone c.args.flow.now c.args.node (logged ++ event_of r) c.do_again.new.table))
     (sym c.in-Event.is) (c.do_again.ensures.table logged st)
 
 pub returns-in-Event-clause-logs : goal.returns-in-Event-clause-logs

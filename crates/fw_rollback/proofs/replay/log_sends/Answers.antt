@@ -1,6 +1,6 @@
 use Rattle.std.proofs.Common.{◌+◌, sym, ap, subst, ◌∙◌, arith}
 use Rattle.std.proofs.lemmas.List.{take_all}
-use Rattle.fw_keep.specs.Catalogue.{AreAscending, is_among}
+use Rattle.fw_keep.specs.Catalogue.{AreAscending, is_id_among}
 use Rattle.fw_node.specs.Answers.{caused_by}
 use Rattle.fw_node.specs.Sends.{sends_list}
 use Rattle.fw_rollback.proofs.ListLaws.{out_edges-ascend, out_edge-there, among_out_edges, not_among_out_edges, not_among_first}
@@ -32,16 +32,16 @@ returns-in_err-log_each-clause-others c = λ e n.
     let i = c.loop-edge.edge-index in
     edges-others edges i c.edge-item.result c.args.logs.now c.loop-edge.logs c.log_each.new.logs c.loop-edge-test.true c.edge-item.is
     c.loop-edge.invariant.others c.log_each.ensures.others e
-    (not_among_first edges (i + 1) e (ap (is_among e) c.out_edges-edges.ensures ∙ not_among_out_edges c.args.flow.now c.args.node e n))
+    (not_among_first edges (i + 1) e (ap (is_id_among e) c.out_edges-edges.ensures ∙ not_among_out_edges c.args.flow.now c.args.node e n))
 
 pub returns-clause-logged : goal.returns-clause-logged
 returns-clause-logged c = λ e l s ms h.
     c.loop-edge.invariant.logged e
-    (ap (is_among e) (take_all c.loop-edge.edge-index c.out_edges-edges.result.now c.loop-edge-test.false ∙ c.out_edges-edges.ensures)
+    (ap (is_id_among e) (take_all c.loop-edge.edge-index c.out_edges-edges.result.now c.loop-edge-test.false ∙ c.out_edges-edges.ensures)
     ∙ among_out_edges c.args.flow.now c.args.node e l s) ms h
 
 pub returns-clause-others : goal.returns-clause-others
 returns-clause-others c = λ e n.
     c.loop-edge.invariant.others e
-    (ap (is_among e) (take_all c.loop-edge.edge-index c.out_edges-edges.result.now c.loop-edge-test.false ∙ c.out_edges-edges.ensures)
+    (ap (is_id_among e) (take_all c.loop-edge.edge-index c.out_edges-edges.result.now c.loop-edge-test.false ∙ c.out_edges-edges.ensures)
     ∙ not_among_out_edges c.args.flow.now c.args.node e n)

@@ -5,7 +5,7 @@ use Rattle.fw_lines.specs.Lines.{lines_left, said_lines}
 use Rattle.fw_lines.proofs.FaultLaws.{Told, none_judged, if_refused-weaker}
 use Rattle.fw_schedule.proofs.ReadLaws.{IsRead, read_more, read_broken, read_accepted}
 use Rattle.fw_schedule.proofs.StepLaws.{items_sound}
-use Rattle.fw_schedule.specs.Grammar.{line_fault}
+use Rattle.fw_schedule.specs.Grammar.{schedule_fault}
 use Rattle.fw_schedule.specs.Schedule.{IsItemOf, step_count, step_limit}
 use Rattle.fw_schedule.proofs.reader.read_schedule.Goals as goal
 
@@ -15,7 +15,7 @@ loop-place-init c =
     record {
       within = record { within = omega arith; passed = omega arith };
       read = subst (λ items. IsRead c.args.flow.now lines lines items 0) (sym c.new-items.ensures)
-          (record { done = []; so_far = none_judged (Told (line_fault c.args.flow.now)) lines; value = refl; counted = refl; few = omega arith });
+          (record { done = []; so_far = none_judged (Told (schedule_fault c.args.flow.now)) lines; value = refl; counted = refl; few = omega arith });
     }
 
 pub loop-place-preserved : goal.loop-place-preserved

@@ -6,7 +6,7 @@ use Rattle.std.proofs.lemmas.Bool.{cases_lt}
 use Rattle.std.proofs.lemmas.Option.{slice_get-map}
 use Rattle.fw_bag.specs.Bag.{BagState}
 use Rattle.fw_bag.specs.declared.rec.Rec.{Rec}
-use Rattle.fw_lines.specs.Batches.{recs_of}
+use Rattle.fw_lines.specs.Batches.{recs_of_bags}
 use Rattle.fw_border.specs.Sources.{SourceState, next_batch}
 use Rattle.fw_border.proofs.NumberLaws.{not_held, held_at}
 use Rattle.fw_border.proofs.RecsLaws.{got_item, recs_lent}
@@ -22,7 +22,7 @@ returns-in_err-place c =
     ] in
     let nothing : Option (List Rec) = None in
     ap (option_map (λ (b : Bor BagState). b.now.recs)) none
-    ∙ subst (λ (source : SourceState). nothing ≡ next_batch source) c.self.view_is (sym (not_held s.injected s.first (recs_of s.held.items) early))
+    ∙ subst (λ (source : SourceState). nothing ≡ next_batch source) c.self.view_is (sym (not_held s.injected s.first (recs_of_bags s.held.items) early))
 
 pub returns : goal.returns
 returns c =
@@ -31,4 +31,4 @@ returns c =
     let apart : s.injected ≡ s.first + place = omega (arith, c.in_ok-place.ensures) in
     recs_lent c.get.result ∙ ap (option_map (λ (b : BagState). b.recs)) (got_item s.held.items place c.get.result c.get.ensures.item)
     ∙ sym (slice_get-map (λ (b : BagState). b.recs) s.held.items place)
-    ∙ subst (λ (source : SourceState). slice_get (recs_of s.held.items) place ≡ next_batch source) c.self.view_is (sym (held_at s.injected s.first place (recs_of s.held.items) apart))
+    ∙ subst (λ (source : SourceState). slice_get (recs_of_bags s.held.items) place ≡ next_batch source) c.self.view_is (sym (held_at s.injected s.first place (recs_of_bags s.held.items) apart))

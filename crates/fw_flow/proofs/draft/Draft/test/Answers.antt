@@ -3,7 +3,7 @@ use Rattle.std.proofs.lemmas.Bool.{false≢true}
 use Rattle.fw_lines.specs.declared.refusal.Code.TheVariants.{F4, F5, F6, F7, F8, F9, F12}
 use Rattle.fw_lines.specs.Faults.{IfRefused}
 use Rattle.fw_flow.specs.Check.{IsWalkWrong, later_rules, IsFirstBrokenOf, KeepsRule}
-use Rattle.fw_flow.specs.Raw.{flow_of}
+use Rattle.fw_flow.specs.Raw.{flow_of_declarations}
 use Rattle.fw_flow.proofs.Drafts.{holds_if_none, refused_first, refused_whole}
 use Rattle.fw_flow.proofs.draft.Draft.test.Goals as goal
 
@@ -36,7 +36,7 @@ returns-then-not-branch-clause-broken c = λ raw d limits.
     let holds12 : KeepsRule raw F12 = holds_if_none _ _ c.chain_line.result c.in_ok-refuse.ensures.kept (c.chain_line.ensures raw d) in
     let holds4 : KeepsRule raw F4 = holds_if_none _ _ c.degree_line.result c.in_ok-refuse-2.ensures.kept (c.degree_line.ensures raw d) in
     let holds5 : KeepsRule raw F5 = holds_if_none _ _ c.domain_line.result c.in_ok-refuse-3.ensures.kept (c.domain_line.ensures raw d) in
-    let wrong : IsWalkWrong (flow_of raw) = c.in_ok-are_walks_right.ensures.wrong raw d holds5 c.if-not-branch.true in
+    let wrong : IsWalkWrong (flow_of_declarations raw) = c.in_ok-are_walks_right.ensures.wrong raw d holds5 c.if-not-branch.true in
     refused_whole F6 (IsFirstBrokenOf later_rules raw) c.of_whole.result c.of_whole.ensures (inr (holds12, inr (holds4, inr (holds5, inl (refl, (wrong, refl))))))
 
 pub returns-in_err-refuse-4-clause-broken : goal.returns-in_err-refuse-4-clause-broken

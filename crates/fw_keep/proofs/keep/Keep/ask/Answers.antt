@@ -6,7 +6,7 @@ use Rattle.fw_record.specs.Spelling.{spelling}
 use Rattle.fw_keep.specs.Entry.{asked}
 use Rattle.fw_keep.specs.Catalogue.{KeepState}
 use Rattle.fw_keep.specs.Stored.{IsStored, KeepsBytes}
-use Rattle.fw_keep.specs.Inside.{state_of}
+use Rattle.fw_keep.specs.Inside.{keep_state_of}
 use Rattle.fw_keep.proofs.BytesLaws.{bytes-put}
 use Rattle.fw_keep.proofs.KeepLaws.{sound-drawn, sound-added}
 use Rattle.fw_keep.proofs.StoredLaws.{stored-fresh, stored-same, stored-added}
@@ -15,7 +15,7 @@ use Rattle.fw_keep.proofs.keep.Keep.ask.Goals as goal
 pub put_new-put-requires-clause-fresh : goal.put_new-put-requires-clause-fresh
 put_new-put-requires-clause-fresh g c =
     let all = (g.K.Store.view c.args.store.now).records in
-    stored-fresh (state_of c.self.inside) all c.self.invariant.catalogue (subst (λ (k : KeepState). IsStored k all) (sym c.self.view_is) c.requires.stored)
+    stored-fresh (keep_state_of c.self.inside) all c.self.invariant.catalogue (subst (λ (k : KeepState). IsStored k all) (sym c.self.view_is) c.requires.stored)
 
 pub invariant_of-self-in-Ok : goal.invariant_of-self-in-Ok
 invariant_of-self-in-Ok g c =
@@ -34,9 +34,9 @@ invariant_of-self-in-Err-NoMemory g c =
 pub returns-in-Ok-clause-stored : goal.returns-in-Ok-clause-stored
 returns-in-Ok-clause-stored g c =
     let all = (g.K.Store.view c.args.store.now).records in
-    let old = state_of c.self.inside in
+    let old = keep_state_of c.self.inside in
     let entry = asked c.self.inside.next c.args.what.now c.args.stamps in
-    let stored : IsStored (state_of c.self.inside) (g.K.Store.view c.args.store.now).records = subst (λ (k : KeepState). IsStored k (g.K.Store.view c.args.store.now).records) (sym c.self.view_is) c.requires.stored in
+    let stored : IsStored (keep_state_of c.self.inside) (g.K.Store.view c.args.store.now).records = subst (λ (k : KeepState). IsStored k (g.K.Store.view c.args.store.now).records) (sym c.self.view_is) c.requires.stored in
     rw c.in-Ok.ensures.put (stored-same (record old { entries = c.put_new-put.new.entries.items; waiting = c.put_new-put.new.waiting.items }) (record old { entries = old.entries ++ entry ∷ [] }) (option_map (λ held. records.insert held c.self.inside.next (spelling c.args.what.now)) all) c.in-Ok.ensures.added c.put_new-put.ensures.waiting
     (stored-added old entry (spelling c.args.what.now) all refl stored))
 
@@ -45,4 +45,4 @@ returns-in-Ok-clause-bytes g c =
     let all = (g.K.Store.view c.args.store.now).records in
     let after = (g.K.Store.view c.put_new-put.new.store).records in
     subst (λ (k : KeepState). KeepsBytes k.entries all after) c.self.view_is
-    (bytes-put (state_of c.self.inside) (spelling c.args.what.now) all after c.self.invariant.catalogue c.in-Ok.ensures.put)
+    (bytes-put (keep_state_of c.self.inside) (spelling c.args.what.now) all after c.self.invariant.catalogue c.in-Ok.ensures.put)

@@ -2,7 +2,7 @@ use Rattle.std.proofs.Common.{ℕ, not, List, refl, sym, subst, ◌∙◌}
 use Rattle.fw_keep.specs.declared.entry.Entry.{Entry}
 use Rattle.fw_keep.specs.Catalogue.{KeepState, IsCatalogue, IsAcknowledgedUpTo, without}
 use Rattle.fw_keep.specs.Stored.{IsStored}
-use Rattle.fw_keep.specs.Inside.{state_of}
+use Rattle.fw_keep.specs.Inside.{keep_state_of}
 use Rattle.fw_keep.proofs.CatalogueLaws.{same-state, catalogue-without}
 use Rattle.fw_keep.proofs.InFlightLaws.{kept}
 use Rattle.fw_keep.proofs.StoredLaws.{stored-without}
@@ -18,7 +18,7 @@ acknowledged-self-inside-requires g c =
 pub invariant_of-self : goal.invariant_of-self
 invariant_of-self g c =
     let goes = g.G.Going.goes c.args.going.now in
-    let old = state_of c.self.inside in
+    let old = keep_state_of c.self.inside in
     record {
       catalogue = subst IsCatalogue (sym (same-state _ (without goes old) c.take_out.ensures.entries refl c.take_out.ensures.waiting refl)) (catalogue-without goes old c.self.invariant.catalogue);
       persisted = subst (λ (es : List Entry). IsAcknowledgedUpTo c.acknowledged-self-inside.result es) c.deref.ensures.value c.acknowledged-self-inside.ensures;
@@ -28,6 +28,6 @@ invariant_of-self g c =
 pub returns-clause-stored : goal.returns-clause-stored
 returns-clause-stored g c =
     let goes = g.G.Going.goes c.args.going.now in
-    let old = state_of c.self.inside in
+    let old = keep_state_of c.self.inside in
     λ all stored. subst (λ (k : KeepState). IsStored k all) (sym (same-state _ (without goes old) c.take_out.ensures.entries refl c.take_out.ensures.waiting refl))
     (stored-without goes old all (subst (λ (k : KeepState). IsStored k all) (sym c.self.view_is) stored))

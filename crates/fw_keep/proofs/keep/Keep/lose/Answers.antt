@@ -1,10 +1,10 @@
 use Rattle.std.proofs.Common.{◌≡◌, false, List, take, refl, sym, subst, arith}
 use Rattle.std.specs.List.{AllByRecursion}
 use Rattle.fw_keep.specs.declared.entry.Entry.{Entry}
-use Rattle.fw_keep.specs.Entry.{is_lost}
+use Rattle.fw_keep.specs.Entry.{is_in_flight_of}
 use Rattle.fw_keep.specs.Catalogue.{KeepState, IsCatalogue, IsAcknowledgedUpTo, without}
 use Rattle.fw_keep.specs.Stored.{IsStored}
-use Rattle.fw_keep.specs.Inside.{state_of}
+use Rattle.fw_keep.specs.Inside.{keep_state_of}
 use Rattle.fw_keep.proofs.CatalogueLaws.{same-state, catalogue-without}
 use Rattle.fw_keep.proofs.InFlightLaws.{none_lost, left_parted}
 use Rattle.fw_keep.proofs.StoredLaws.{stored-without}
@@ -15,9 +15,9 @@ take_out-requires-clause-others c = none_lost c.args.node (take c.self.inside.pe
 
 pub invariant_of-self : goal.invariant_of-self
 invariant_of-self c =
-    let goes = is_lost c.args.node in
-    let old = state_of c.self.inside in
-    let none : AllByRecursion (λ (e : Entry). is_lost c.args.node e ≡ false) (take c.self.inside.persisted c.self.inside.entries.items) = none_lost c.args.node (take c.self.inside.persisted c.self.inside.entries.items) c.self.invariant.persisted.first in
+    let goes = is_in_flight_of c.args.node in
+    let old = keep_state_of c.self.inside in
+    let none : AllByRecursion (λ (e : Entry). is_in_flight_of c.args.node e ≡ false) (take c.self.inside.persisted c.self.inside.entries.items) = none_lost c.args.node (take c.self.inside.persisted c.self.inside.entries.items) c.self.invariant.persisted.first in
     record {
       catalogue = subst IsCatalogue (sym (same-state _ (without goes old) c.take_out.ensures.entries refl c.take_out.ensures.waiting refl)) (catalogue-without goes old c.self.invariant.catalogue);
       persisted = subst (λ (es : List Entry). IsAcknowledgedUpTo c.self.inside.persisted es) (sym c.take_out.ensures.entries)
@@ -27,7 +27,7 @@ invariant_of-self c =
 
 pub returns-clause-stored : goal.returns-clause-stored
 returns-clause-stored c =
-    let goes = is_lost c.args.node in
-    let old = state_of c.self.inside in
+    let goes = is_in_flight_of c.args.node in
+    let old = keep_state_of c.self.inside in
     λ all stored. subst (λ (k : KeepState). IsStored k all) (sym (same-state _ (without goes old) c.take_out.ensures.entries refl c.take_out.ensures.waiting refl))
     (stored-without goes old all (subst (λ (k : KeepState). IsStored k all) (sym c.self.view_is) stored))

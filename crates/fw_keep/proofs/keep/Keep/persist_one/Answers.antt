@@ -1,7 +1,7 @@
 use Rattle.std.proofs.Common.{refl, sym, subst, arith}
 use Rattle.fw_keep.specs.Catalogue.{KeepState, IsCatalogue, persisted}
 use Rattle.fw_keep.specs.Stored.{IsStored}
-use Rattle.fw_keep.specs.Inside.{state_of}
+use Rattle.fw_keep.specs.Inside.{keep_state_of}
 use Rattle.fw_keep.proofs.IdLaws.{length-persisted}
 use Rattle.fw_keep.proofs.CatalogueLaws.{same-state, catalogue-persisted}
 use Rattle.fw_keep.proofs.StoredLaws.{stored-persisted}
@@ -9,7 +9,7 @@ use Rattle.fw_keep.proofs.keep.Keep.persist_one.Goals as goal
 
 pub invariant_of-self : goal.invariant_of-self
 invariant_of-self c =
-    let old = state_of c.self.inside in
+    let old = keep_state_of c.self.inside in
     record {
       catalogue = subst IsCatalogue (sym (same-state _ (record old { entries = persisted old.entries }) c.persist_first.ensures.acknowledged refl refl refl)) (catalogue-persisted old c.self.invariant.catalogue);
       persisted = c.persist_first.ensures.known;
@@ -18,6 +18,6 @@ invariant_of-self c =
 
 pub returns-clause-stored : goal.returns-clause-stored
 returns-clause-stored c =
-    let old = state_of c.self.inside in
+    let old = keep_state_of c.self.inside in
     λ all stored. subst (λ (k : KeepState). IsStored k all) (sym (same-state _ (record old { entries = persisted old.entries }) c.persist_first.ensures.acknowledged refl refl refl))
     (stored-persisted old all (subst (λ (k : KeepState). IsStored k all) (sym c.self.view_is) stored))

@@ -4,7 +4,7 @@ use Rattle.fw_keep.specs.declared.entry.Entry.{Entry}
 use Rattle.fw_keep.specs.Entry.{is_withdrawn}
 use Rattle.fw_keep.specs.Catalogue.{KeepState, IsCatalogue, IsAcknowledgedUpTo, without}
 use Rattle.fw_keep.specs.Stored.{IsStored}
-use Rattle.fw_keep.specs.Inside.{state_of}
+use Rattle.fw_keep.specs.Inside.{keep_state_of}
 use Rattle.fw_keep.proofs.CatalogueLaws.{same-state, catalogue-without}
 use Rattle.fw_keep.proofs.InFlightLaws.{none_withdrawn, left_parted}
 use Rattle.fw_keep.proofs.StoredLaws.{stored-without}
@@ -18,7 +18,7 @@ take_out-requires-clause-others c =
 pub invariant_of-self : goal.invariant_of-self
 invariant_of-self c =
     let goes = is_withdrawn c.args.id in
-    let old = state_of c.self.inside in
+    let old = keep_state_of c.self.inside in
     let none : AllByRecursion (λ (e : Entry). is_withdrawn c.args.id e ≡ false) (take (max c.self.inside.persisted c.first_from.result) c.self.inside.entries.items) = none_withdrawn c.args.id c.self.inside.persisted c.first_from.result c.self.inside.entries.items c.self.invariant.persisted.first (rw c.deref.ensures.value at c.first_from.ensures.below) in
     record {
       catalogue = subst IsCatalogue (sym (same-state _ (without goes old) c.take_out.ensures.entries refl c.take_out.ensures.waiting refl)) (catalogue-without goes old c.self.invariant.catalogue);
@@ -30,6 +30,6 @@ invariant_of-self c =
 pub returns-clause-stored : goal.returns-clause-stored
 returns-clause-stored c =
     let goes = is_withdrawn c.args.id in
-    let old = state_of c.self.inside in
+    let old = keep_state_of c.self.inside in
     λ all stored. subst (λ (k : KeepState). IsStored k all) (sym (same-state _ (without goes old) c.take_out.ensures.entries refl c.take_out.ensures.waiting refl))
     (stored-without goes old all (subst (λ (k : KeepState). IsStored k all) (sym c.self.view_is) stored))

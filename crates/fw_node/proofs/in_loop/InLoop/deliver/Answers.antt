@@ -6,7 +6,7 @@ use Rattle.fw_time.specs.Stamp.{Stamp, nest}
 use Rattle.fw_time.specs.Sending.{fed_back_stamp, left_stamp}
 use Rattle.fw_time.specs.declared.time.Nest.{Nest}
 use Rattle.fw_bag.specs.Arrivals.{Arrival, arrival}
-use Rattle.fw_table.specs.Sent.{sent_at}
+use Rattle.fw_table.specs.Sent.{sent_if_at}
 use Rattle.fw_node.specs.Answers.{recs_for, sent_list}
 use Rattle.fw_node.specs.declared.in_loop.InLoop.{InLoop}
 use Rattle.fw_node.specs.LoopTable.{IsLoopTable}
@@ -30,7 +30,7 @@ returns-in-Here-clause-sent g c = λ flow k came r side.
     let h = subst P c.in-Here.is r in
     let a : Arrival = arrival c.args.side c.args.at.now c.args.rec in
     IfOk-weaker c.deliver.result _ _
-    (λ sent e. ap sent_list e ∙ ap (λ o. sent_at o (recs_for k came a)) (sym ((timed_plain cmp coords flow c.in-Here.table k came h).here c.args.at.now)))
+    (λ sent e. ap sent_list e ∙ ap (λ o. sent_if_at o (recs_for k came a)) (sym ((timed_plain cmp coords flow c.in-Here.table k came h).here c.args.at.now)))
     (c.deliver.ensures.sent k came h side)
 
 pub returns-in-Here-clause-err : goal.returns-in-Here-clause-err
@@ -49,11 +49,11 @@ pub returns-in-Feedback-clause-at : goal.returns-in-Feedback-clause-at
 returns-in-Feedback-clause-at g c = λ flow k i.
     let is = sym (ap (λ (s : InLoop g.row.T.Denot). is_loop_table_of flow k s) c.in-Feedback.is) ∙ i in
     let max = c.in-Feedback.feedback.max in
-    let sent = ap sent_list c.at_stamp.ensures ∙ c.on_message.ensures ∙ ap (λ t. sent_at (fed_back_stamp max t) (c.args.rec ∷ [])) c.from_coords.ensures in
+    let sent = ap sent_list c.at_stamp.ensures ∙ c.on_message.ensures ∙ ap (λ t. sent_if_at (fed_back_stamp max t) (c.args.rec ∷ [])) c.from_coords.ensures in
     feedback-sent flow k max c.args.at.now (sent_list c.at_stamp.result) (c.args.rec ∷ []) is sent
 
 pub returns-in-Leave-clause-at : goal.returns-in-Leave-clause-at
 returns-in-Leave-clause-at g c = λ flow k i.
     let is = sym (ap (λ (s : InLoop g.row.T.Denot). is_loop_table_of flow k s) c.in-Leave.is) ∙ i in
-    let sent = ap sent_list c.at_stamp-in-Leave.ensures ∙ c.on_message-in-Leave.ensures ∙ ap (λ t. sent_at (left_stamp t) (c.args.rec ∷ [])) c.from_coords-in-Leave.ensures in
+    let sent = ap sent_list c.at_stamp-in-Leave.ensures ∙ c.on_message-in-Leave.ensures ∙ ap (λ t. sent_if_at (left_stamp t) (c.args.rec ∷ [])) c.from_coords-in-Leave.ensures in
     leave-sent flow k c.args.at.now (sent_list c.at_stamp-in-Leave.result) (c.args.rec ∷ []) is sent

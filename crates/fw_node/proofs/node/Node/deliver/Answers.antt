@@ -2,7 +2,7 @@ use Rattle.std.proofs.Common.{◌≡◌, ℕ, List, sym, ap, ◌∙◌, subst}
 use Rattle.fw_bag.specs.Arrivals.{Arrival, arrival}
 use Rattle.fw_flow.specs.declared.kind.Kind.{Kind}
 use Rattle.fw_flow.specs.Dataflow.{kind_of, in_edges, send_stamp_of_kind}
-use Rattle.fw_table.specs.Sent.{sent_at}
+use Rattle.fw_table.specs.Sent.{sent_if_at}
 use Rattle.fw_node.specs.Answers.{recs_for}
 use Rattle.fw_node.specs.Arrived.{arrived, place_in}
 use Rattle.fw_node.specs.Past.{past_of}
@@ -24,7 +24,7 @@ returns-in-Ok-clause-sent c = λ sys p settled before m at_is rec_is edge out no
     ap (λ n. arrival n c.args.at.now c.args.rec) side ∙ ap (λ t. arrival (place_in ins c.args.edge) t c.args.rec) (sym at_is)
     ∙ ap (λ r. arrival (place_in ins c.args.edge) m.at r) (sym rec_is) in
     c.in-Ok.ensures.sent sys.flow k (past_of ins settled before) node.table (subst P (sym side) (node.places c.args.edge edge)) out
-    ∙ ap (λ (a : Arrival). sent_at (send_stamp_of_kind sys.flow k a.at) (recs_for k came a)) same_arrival
+    ∙ ap (λ (a : Arrival). sent_if_at (send_stamp_of_kind sys.flow k a.at) (recs_for k came a)) same_arrival
     ∙ sym (delivery_sends sys p before c.args.edge m edge node.on_edges)
 
 pub returns-in-Ok-clause-domain : goal.returns-in-Ok-clause-domain

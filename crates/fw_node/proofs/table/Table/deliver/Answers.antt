@@ -8,7 +8,7 @@ use Rattle.fw_time.specs.declared.time.Epoch.{Epoch}
 use Rattle.fw_bag.specs.declared.rec.Rec.{Rec}
 use Rattle.fw_bag.specs.Arrivals.{Arrival, arrival}
 use Rattle.fw_flow.specs.Dataflow.{is_notified_kind, send_stamp_of_kind}
-use Rattle.fw_table.specs.Sent.{sent_at}
+use Rattle.fw_table.specs.Sent.{sent_if_at}
 use Rattle.fw_totals.specs.Total.{IsTotal}
 use Rattle.fw_totals.specs.Ledger.{IsLedger}
 use Rattle.fw_numbered.specs.Sequence.{IsSequence}
@@ -45,7 +45,7 @@ returns-in-Outside-clause-sent c = λ flow k past r side out.
     let plain = timed_plain epoch_cmp epoch_coords flow c.in-Outside.table k (unsettled past) h in
     let needs = deliveries_need_their_time k plain.per_time (λ s. not (past.settled s)) past.came a (ap not out) in
     IfOk-weaker c.deliver.result _ _
-    (λ sent e. ap sent_list e ∙ ap (λ rs. map (λ (r : Rec). (c.args.at.now, r)) rs) needs ∙ ap (λ o. sent_at o (recs_for k past.came a)) (sym (plain.here c.args.at.now)))
+    (λ sent e. ap sent_list e ∙ ap (λ rs. map (λ (r : Rec). (c.args.at.now, r)) rs) needs ∙ ap (λ o. sent_if_at o (recs_for k past.came a)) (sym (plain.here c.args.at.now)))
     (c.deliver.ensures.sent k (unsettled past) h side)
 
 pub returns-in-Outside-clause-err : goal.returns-in-Outside-clause-err
@@ -65,7 +65,7 @@ returns-in-Loop-clause-sent c = λ flow k past r side out.
     let plain = loop_kind (nest_cmp epoch_cmp) (nest_coords epoch_coords) flow c.in-Loop.table k (unsettled past) h in
     let needs = deliveries_need_their_time k plain.per_time (λ s. not (past.settled s)) past.came a (ap not out) in
     IfOk-weaker c.deliver-in-Loop.result _ _
-    (λ sent e. e ∙ ap (sent_at (send_stamp_of_kind flow k c.args.at.now)) needs)
+    (λ sent e. e ∙ ap (sent_if_at (send_stamp_of_kind flow k c.args.at.now)) needs)
     (c.deliver-in-Loop.ensures.sent flow k (unsettled past) h side)
 
 pub returns-in-Loop-clause-err : goal.returns-in-Loop-clause-err
@@ -85,7 +85,7 @@ returns-in-Loop2-clause-sent c = λ flow k past r side out.
     let plain = loop_kind (nest_cmp (nest_cmp epoch_cmp)) (nest_coords (nest_coords epoch_coords)) flow c.in-Loop2.table k (unsettled past) h in
     let needs = deliveries_need_their_time k plain.per_time (λ s. not (past.settled s)) past.came a (ap not out) in
     IfOk-weaker c.deliver-in-Loop2.result _ _
-    (λ sent e. e ∙ ap (sent_at (send_stamp_of_kind flow k c.args.at.now)) needs)
+    (λ sent e. e ∙ ap (sent_if_at (send_stamp_of_kind flow k c.args.at.now)) needs)
     (c.deliver-in-Loop2.ensures.sent flow k (unsettled past) h side)
 
 pub returns-in-Loop2-clause-err : goal.returns-in-Loop2-clause-err
@@ -105,7 +105,7 @@ returns-in-Loop3-clause-sent c = λ flow k past r side out.
     let plain = loop_kind (nest_cmp (nest_cmp (nest_cmp epoch_cmp))) (nest_coords (nest_coords (nest_coords epoch_coords))) flow c.in-Loop3.table k (unsettled past) h in
     let needs = deliveries_need_their_time k plain.per_time (λ s. not (past.settled s)) past.came a (ap not out) in
     IfOk-weaker c.deliver-in-Loop3.result _ _
-    (λ sent e. e ∙ ap (sent_at (send_stamp_of_kind flow k c.args.at.now)) needs)
+    (λ sent e. e ∙ ap (sent_if_at (send_stamp_of_kind flow k c.args.at.now)) needs)
     (c.deliver-in-Loop3.ensures.sent flow k (unsettled past) h side)
 
 pub returns-in-Loop3-clause-err : goal.returns-in-Loop3-clause-err
@@ -147,7 +147,7 @@ returns-in_ok-sent-in-Ledger-clause-sent c = λ flow k past r side out.
     let co : c.from_coords-in-Ledger.result.0 ∷ [] ≡ c.args.at.now = c.from_coords-in-Ledger.ensures in
     let total : Rec = record { key = c.args.rec.key; value = plus c.args.rec.value (value_sum c.args.rec.key (recs_of past.came)) } in
     let sent : Sent Stamp = record { at = c.copy-in-Ledger.result; recs = c.in_ok-sent-in-Ledger.sent.recs } in
-    of_ledger flow past (λ x. sent_list sent ≡ sent_at (send_stamp_of_kind flow x c.args.at.now) (recs_for x past.came a))
+    of_ledger flow past (λ x. sent_list sent ≡ sent_if_at (send_stamp_of_kind flow x c.args.at.now) (recs_for x past.came a))
     c.in-Ledger.table k (of_variant flow k past c.in-Ledger.is r)
     (λ h. ap (λ (s : Sent SeqNo). map (λ (x : Rec). (c.copy-in-Ledger.result, x)) s.recs) (c.in_ok-sent-in-Ledger.ensures.sent past.settled past.came h)
     ∙ ap (λ (u : StampList). (u, total) ∷ []) c.copy-in-Ledger.ensures)
@@ -169,19 +169,19 @@ returns-in-Loop3-clause-at c = λ flow k i. c.deliver-in-Loop3.ensures.at flow k
 pub returns-in-Enter-clause-at : goal.returns-in-Enter-clause-at
 returns-in-Enter-clause-at c = λ flow k i.
     let is = sym (ap (λ (s : Table). is_table_of flow k s) c.in-Enter.is) ∙ i in
-    let sent = ap sent_list c.at_stamp.ensures ∙ c.on_message.ensures ∙ ap (λ t. sent_at (entered_stamp t) (c.args.rec ∷ [])) c.from_coords.ensures in
+    let sent = ap sent_list c.at_stamp.ensures ∙ c.on_message.ensures ∙ ap (λ t. sent_if_at (entered_stamp t) (c.args.rec ∷ [])) c.from_coords.ensures in
     enter-sent flow k c.args.at.now (sent_list c.at_stamp.result) (c.args.rec ∷ []) is sent
 
 pub returns-in-Enter2-clause-at : goal.returns-in-Enter2-clause-at
 returns-in-Enter2-clause-at c = λ flow k i.
     let is = sym (ap (λ (s : Table). is_table_of flow k s) c.in-Enter2.is) ∙ i in
-    let sent = ap sent_list c.at_stamp-in-Enter2.ensures ∙ c.on_message-in-Enter2.ensures ∙ ap (λ t. sent_at (entered_stamp t) (c.args.rec ∷ [])) c.from_coords-in-Enter2.ensures in
+    let sent = ap sent_list c.at_stamp-in-Enter2.ensures ∙ c.on_message-in-Enter2.ensures ∙ ap (λ t. sent_if_at (entered_stamp t) (c.args.rec ∷ [])) c.from_coords-in-Enter2.ensures in
     enter-sent flow k c.args.at.now (sent_list c.at_stamp-in-Enter2.result) (c.args.rec ∷ []) is sent
 
 pub returns-in-Enter3-clause-at : goal.returns-in-Enter3-clause-at
 returns-in-Enter3-clause-at c = λ flow k i.
     let is = sym (ap (λ (s : Table). is_table_of flow k s) c.in-Enter3.is) ∙ i in
-    let sent = ap sent_list c.at_stamp-in-Enter3.ensures ∙ c.on_message-in-Enter3.ensures ∙ ap (λ t. sent_at (entered_stamp t) (c.args.rec ∷ [])) c.from_coords-in-Enter3.ensures in
+    let sent = ap sent_list c.at_stamp-in-Enter3.ensures ∙ c.on_message-in-Enter3.ensures ∙ ap (λ t. sent_if_at (entered_stamp t) (c.args.rec ∷ [])) c.from_coords-in-Enter3.ensures in
     enter-sent flow k c.args.at.now (sent_list c.at_stamp-in-Enter3.result) (c.args.rec ∷ []) is sent
 
 pub returns-in-Idle-clause-at : goal.returns-in-Idle-clause-at
@@ -205,5 +205,5 @@ pub returns-in-Regroup-clause-at : goal.returns-in-Regroup-clause-at
 returns-in-Regroup-clause-at c = λ flow k i.
     let is = sym (ap (λ (s : Table). is_table_of flow k s) c.in-Regroup.is) ∙ i in
     let size = c.in-Regroup.table.size in
-    let sent = ap sent_list c.at_stamp-in-Regroup.ensures ∙ c.on_message-in-Regroup.ensures ∙ ap (λ t. sent_at (regrouped_stamp size t) (c.args.rec ∷ [])) c.from_coords-in-Regroup.ensures in
+    let sent = ap sent_list c.at_stamp-in-Regroup.ensures ∙ c.on_message-in-Regroup.ensures ∙ ap (λ t. sent_if_at (regrouped_stamp size t) (c.args.rec ∷ [])) c.from_coords-in-Regroup.ensures in
     regroup-sent flow k size c.args.at.now (sent_list c.at_stamp-in-Regroup.result) (c.args.rec ∷ []) is sent

@@ -5,10 +5,10 @@ use Rattle.fw_lemmas.proofs.Results.{on_err}
 use Rattle.fw_time.specs.Stamp.{Stamp as StampList, same}
 use Rattle.fw_bag.specs.declared.rec.Rec.{Rec}
 use Rattle.fw_bag.specs.Keyed.{sorted_recs}
-use Rattle.fw_bag.specs.Arrivals.{recs_at, recs_inside}
+use Rattle.fw_bag.specs.Arrivals.{recs_arrived_at, recs_inside}
 use Rattle.fw_table.specs.Sums.{sums_at_keys}
 use Rattle.fw_totals.specs.Total.{IsTotal}
-use Rattle.fw_numbered.specs.Numbers.{at_numbers, numbered_recs}
+use Rattle.fw_numbered.specs.Numbers.{at_numbers, recs_numbered}
 use Rattle.fw_numbered.specs.Sequence.{IsSequence}
 use Rattle.fw_node.specs.declared.table.Table.{Table}
 use Rattle.fw_node.specs.declared.table.Table.TheVariants as table
@@ -100,8 +100,8 @@ returns-in_ok-sent-in-Total-clause-sent c = λ flow k past r out untold sum.
     (λ h u. ap (λ (t : StampList). map (λ (x : Rec). (t, x)) c.in_ok-sent-in-Total.sent.recs) (c.copy.ensures ∙ sym co)
     ∙ ap (λ (s : Sent Epoch). map (λ (x : Rec). (c.from_coords.result.0 ∷ [], x)) s.recs)
     (c.in_ok-sent-in-Total.ensures.sent past.settled (is_taken past) past.came (ap past.settled co ∙ out) (ap (is_taken past) co ∙ or_from (past.settled c.args.at.now) (past.told c.args.at.now) out untold) h)
-    ∙ ap (λ (t : StampList). map (λ (x : Rec). (t, x)) (sums_at_keys (recs_at t past.came) (recs_inside (λ s. same s t || is_taken past s) past.came))) co
-    ∙ ap (λ rs. map (λ (x : Rec). (c.args.at.now, x)) (sums_at_keys (recs_at c.args.at.now past.came) rs)) (sym u)) sum
+    ∙ ap (λ (t : StampList). map (λ (x : Rec). (t, x)) (sums_at_keys (recs_arrived_at t past.came) (recs_inside (λ s. same s t || is_taken past s) past.came))) co
+    ∙ ap (λ rs. map (λ (x : Rec). (c.args.at.now, x)) (sums_at_keys (recs_arrived_at c.args.at.now past.came) rs)) (sym u)) sum
 
 pub returns-in_ok-on_notify-in-Sequence-clause-ok : goal.returns-in_ok-on_notify-in-Sequence-clause-ok
 returns-in_ok-on_notify-in-Sequence-clause-ok c = λ flow k past r out untold.
@@ -114,13 +114,13 @@ returns-in_ok-on_notify-in-Sequence-clause-ok c = λ flow k past r out untold.
     of_sequence flow past (λ x. IsNodeTable flow (table.Sequence new) x (with_notice c.args.at.now past)) c.in-Sequence.table k (of_variant flow k past c.in-Sequence.is r)
     (λ h.
     let gone = (ap (is_taken past) co ∙ or_from (past.settled c.args.at.now) (past.told c.args.at.now) out untold) in
-    let rs : List Rec = sorted_recs (recs_at c.args.at.now past.came) in
-    let same_list : at_numbers sent.first sent.recs ≡ numbered_recs past.numbered rs =
+    let rs : List Rec = sorted_recs (recs_arrived_at c.args.at.now past.came) in
+    let same_list : at_numbers sent.first sent.recs ≡ recs_numbered past.numbered rs =
     c.in_ok-on_notify-in-Sequence.ensures.sent (is_taken past) past.came past.numbered gone h
-    ∙ ap (λ (t : StampList). numbered_recs past.numbered (sorted_recs (recs_at t past.came))) co in
-    let count : length sent.recs ≡ length (numbered_recs past.numbered rs) = sym (at_numbers-length sent.first sent.recs) ∙ ap length same_list in
+    ∙ ap (λ (t : StampList). recs_numbered past.numbered (sorted_recs (recs_arrived_at t past.came))) co in
+    let count : length sent.recs ≡ length (recs_numbered past.numbered rs) = sym (at_numbers-length sent.first sent.recs) ∙ ap length same_list in
     let R : ℕ → Type 0 = λ n. IsSequence (λ s. past.settled s || (same s c.args.at.now || past.told s)) new past.came n in
-    let sum : past.numbered + length sent.recs ≡ length (numbered_recs past.numbered rs) + past.numbered = omega arith in
+    let sum : past.numbered + length sent.recs ≡ length (recs_numbered past.numbered rs) + past.numbered = omega arith in
     subst R sum (subst Q e (c.in_ok-on_notify-in-Sequence.ensures.ok (is_taken past) past.came past.numbered gone h)))
 
 pub returns-in_ok-on_notify-in-Sequence-clause-sent : goal.returns-in_ok-on_notify-in-Sequence-clause-sent
@@ -129,7 +129,7 @@ returns-in_ok-on_notify-in-Sequence-clause-sent c = λ flow k past r out untold 
     let sent = c.in_ok-on_notify-in-Sequence.field-0 in
     of_sequence flow past (λ x. at_numbers sent.first sent.recs ≡ notice_list x past c.args.at.now) c.in-Sequence.table k (of_variant flow k past c.in-Sequence.is r)
     (λ h. c.in_ok-on_notify-in-Sequence.ensures.sent (is_taken past) past.came past.numbered (ap (is_taken past) co ∙ or_from (past.settled c.args.at.now) (past.told c.args.at.now) out untold) h
-    ∙ ap (λ (t : StampList). numbered_recs past.numbered (sorted_recs (recs_at t past.came))) co)
+    ∙ ap (λ (t : StampList). recs_numbered past.numbered (sorted_recs (recs_arrived_at t past.came))) co)
 
 pub returns-in_ok-notify-in-Outside-clause-at : goal.returns-in_ok-notify-in-Outside-clause-at
 returns-in_ok-notify-in-Outside-clause-at c = λ flow k i.

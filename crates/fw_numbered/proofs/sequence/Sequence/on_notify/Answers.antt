@@ -7,7 +7,7 @@ use Rattle.fw_bag.specs.Arrivals.{arrivals_at, recs_of}
 use Rattle.fw_bag.specs.Keyed.{sorted_recs}
 use Rattle.fw_table.specs.Content.{IsContentOf}
 use Rattle.fw_numbered.specs.declared.sequence.Held.{Held}
-use Rattle.fw_numbered.specs.Numbers.{at_numbers, numbered_recs}
+use Rattle.fw_numbered.specs.Numbers.{at_numbers, recs_numbered}
 use Rattle.fw_numbered.specs.Sequence.{holds_bag}
 use Rattle.fw_numbered.proofs.WaitingLaws.{removed, none_removed, waits_now}
 use Rattle.fw_numbered.proofs.sequence.Sequence.on_notify.Goals as goal
@@ -28,7 +28,7 @@ returns-in_default-clause-sent c = λ gone came n out r.
     let none : get (λ (x y : Epoch). nat_cmp x.0 y.0) c.args.self.now.held c.args.t ≡ None = search rules in
     let P : Option Held → Type 0 = λ o. IsContentOf holds_bag o (arrivals_at t came) in
     let nothing : arrivals_at t came ≡ [] = subst P none (waits_now gone came c.args.t out _ (r.waiting c.args.t)) in
-    ap (at_numbers c.args.self.now.next) c.of.ensures ∙ sym (ap (λ xs. numbered_recs n (sorted_recs (recs_of xs))) nothing)
+    ap (at_numbers c.args.self.now.next) c.of.ensures ∙ sym (ap (λ xs. recs_numbered n (sorted_recs (recs_of xs))) nothing)
 
 pub returns-clause-ok : goal.returns-clause-ok
 returns-clause-ok c = λ gone came n out r.
@@ -44,4 +44,4 @@ returns-clause-sent c = λ gone came n out r.
     let found_now : get (λ (x y : Epoch). nat_cmp x.0 y.0) c.args.self.now.held c.args.t ≡ Some c.in-Some.held.now = search rules in
     let P : Option Held → Type 0 = λ o. IsContentOf holds_bag o (arrivals_at t came) in
     let recs = subst P found_now (waits_now gone came c.args.t out _ (r.waiting c.args.t)) in
-    c.in_ok-recs.ensures.recs ∙ ap (λ i. numbered_recs i c.in-Some.held.now.bag.recs) r.next ∙ ap (numbered_recs n) recs
+    c.in_ok-recs.ensures.recs ∙ ap (λ i. recs_numbered i c.in-Some.held.now.bag.recs) r.next ∙ ap (recs_numbered n) recs

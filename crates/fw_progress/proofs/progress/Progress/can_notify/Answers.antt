@@ -3,7 +3,7 @@ use Rattle.std.specs.Prelude.{IsTrue}
 use Rattle.std.proofs.lemmas.Result.{IfOk-weaker}
 use Rattle.fw_model.specs.History.{IsComplete}
 use Rattle.fw_model.specs.Machine.{family_of}
-use Rattle.fw_progress.specs.History.{StandsFor}
+use Rattle.fw_progress.specs.History.{StandsForHistory}
 use Rattle.fw_progress.specs.Notices.{CanNotify}
 use Rattle.fw_progress.specs.Progress.{Standing, IsOfFlow}
 use Rattle.fw_progress.proofs.NoticeLaws.{notice-asked}
@@ -16,7 +16,7 @@ returns-clause-exact c = λ sys h e s.
     let now : Standing = record { counts = c.self.inside.counts; settled = c.self.inside.settled.items; kept = c.self.inside.kept.items; work = c.self.inside.work; refused = c.self.inside.refused } in
     let fresh = c.in_ok-freshen.ensures.fresh in
     let stands = fresh.complete sys h e s in
-    let one = subst (λ (x : Standing). StandsFor sys h x) (sym c.self.view_is) stands.0 in
+    let one = subst (λ (x : Standing). StandsForHistory sys h x) (sym c.self.view_is) stands.0 in
     let other = subst (λ (x : Standing). IsComplete sys h (family_of flow x.kept)) (sym c.self.view_is) stands.1 in
     let o = subst (λ (x : Standing). IsOfFlow flow x) (sym c.self.view_is) (c.freshen.ensures.progress fresh.ready) in
     let is = notify-read flow now c.flow_is_well_formed.ensures o sys h e one other c.args.node c.requires.there c.args.at.now c.requires.at in

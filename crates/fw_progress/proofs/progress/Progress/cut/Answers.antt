@@ -4,7 +4,7 @@ use Rattle.std.proofs.lemmas.Result.{IfOk-at_ok}
 use Rattle.fw_flow.specs.WellFormed.{IsWellFormed}
 use Rattle.fw_model.specs.Machine.{events}
 use Rattle.fw_progress.specs.Cut.{events_left, AreTallies, ArePendingAfter, AreTablesAfter, AreCut}
-use Rattle.fw_progress.specs.History.{IsCountOf, IsKept}
+use Rattle.fw_progress.specs.History.{IsCountOf, AreKeptAdmissible}
 use Rattle.fw_progress.specs.Progress.{Standing, IsOfFlow}
 use Rattle.fw_progress.specs.Start.{AreLargest}
 use Rattle.fw_progress.proofs.CutCountLaws.{counts-left, cut-counts}
@@ -52,4 +52,4 @@ returns-clause-complete c = λ sys h e b l s pend tabs.
     (subst (ArePendingAfter sys k) (sym c.cut_counts.ensures.pending) pend)
     (subst (AreTablesAfter sys k) (sym c.cut_counts.ensures.sent) tabs) in
     let both = largest-stands flow new c.in_ok-self-inside.field-0.items c.flow_is_well_formed.ensures of found sys k e count in
-    (record { counts = count; kept = subst (IsKept sys k c.in_ok-self-inside.field-0.items) (sym c.new.ensures) both.0 }, both.1)
+    (record { counts = count; kept = subst (AreKeptAdmissible sys k c.in_ok-self-inside.field-0.items) (sym c.new.ensures) both.0 }, both.1)

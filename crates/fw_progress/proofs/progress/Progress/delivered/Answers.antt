@@ -1,7 +1,7 @@
 use Rattle.std.proofs.Common.{refl, sym, ap, subst, ◌∙◌}
 use Rattle.std.specs.Prelude.{IfOk}
 use Rattle.fw_flow.specs.declared.event.Event.TheVariants.{Deliver}
-use Rattle.fw_progress.specs.History.{Follows}
+use Rattle.fw_progress.specs.History.{FollowsEvent}
 use Rattle.fw_progress.specs.Progress.{Standing, IsOfFlow}
 use Rattle.fw_progress.proofs.ProgressLaws.{ok-holds, both-ok, delivered_of, delivered_follows}
 use Rattle.fw_progress.proofs.progress.Progress.delivered.Goals as goal
@@ -19,5 +19,5 @@ returns-clause-follows c = λ m e.
     let flow = c.args.flow.now in
     let old : Standing = record { counts = c.self.inside.counts; settled = c.self.inside.settled.items; kept = c.self.inside.kept.items; work = c.self.inside.work; refused = c.self.inside.refused } in
     let new : Standing = record { counts = c.deliver-told.new.counts; settled = c.self.inside.settled.items; kept = c.self.inside.kept.items; work = c.deliver-told.new.work; refused = c.is_err-self-inside.result } in
-    let ok = both-ok c.deliver-told.result _ _ (Follows flow (Deliver c.args.edge m) c.args.sent.now old new) (λ d put. delivered_follows flow c.args.edge m c.args.at.now c.args.sent.now old new c.flow_is_well_formed.ensures e d put refl) c.deliver-told.ensures.counts c.deliver-told.ensures.work in
-    subst (λ (s : Standing). IfOk c.deliver-told.result (λ u. Follows flow (Deliver c.args.edge m) c.args.sent.now s new)) c.self.view_is ok
+    let ok = both-ok c.deliver-told.result _ _ (FollowsEvent flow (Deliver c.args.edge m) c.args.sent.now old new) (λ d put. delivered_follows flow c.args.edge m c.args.at.now c.args.sent.now old new c.flow_is_well_formed.ensures e d put refl) c.deliver-told.ensures.counts c.deliver-told.ensures.work in
+    subst (λ (s : Standing). IfOk c.deliver-told.result (λ u. FollowsEvent flow (Deliver c.args.edge m) c.args.sent.now s new)) c.self.view_is ok

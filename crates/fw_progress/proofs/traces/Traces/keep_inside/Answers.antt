@@ -2,7 +2,7 @@ use Rattle.std.proofs.Common.{[], subst}
 use Rattle.fw_progress.specs.Progress.{ChangesAt}
 use Rattle.fw_progress.specs.SentTally.{IsTallyCutTo}
 use Rattle.fw_progress.specs.Trace.{no_tally}
-use Rattle.fw_progress.specs.Traces.{IsCutTo}
+use Rattle.fw_progress.specs.Traces.{StandsInside}
 use Rattle.fw_progress.proofs.CutTraceLaws.{cut-traces}
 use Rattle.fw_progress.proofs.traces.Traces.keep_inside.Goals as goal
 
@@ -15,7 +15,7 @@ returns-clause-cut c = λ k.
     c.flow_is_well_formed.ensures
     (record {
       delivered = c.cut_into.ensures;
-      notified = subst (λ n. ChangesAt n [] (IsCutTo f) old.notified.items c.cut_at.new.lists.items) c.place.ensures c.cut_at.ensures;
-      sent = subst (λ n. ChangesAt n [] (IsCutTo f) old.sent.items c.cut_at-2.new.lists.items) c.place-2.ensures c.cut_at-2.ensures;
+      notified = subst (λ n. ChangesAt n [] (StandsInside f) old.notified.items c.cut_at.new.lists.items) c.place.ensures c.cut_at.ensures;
+      sent = subst (λ n. ChangesAt n [] (StandsInside f) old.sent.items c.cut_at-2.new.lists.items) c.place-2.ensures c.cut_at-2.ensures;
       counted = subst (λ n. ChangesAt n no_tally (IsTallyCutTo f) old.counted.items c.cut_tally.new.tallies.items) c.place-3.ensures c.cut_tally.ensures;
     })

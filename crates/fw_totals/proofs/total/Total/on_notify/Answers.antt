@@ -8,7 +8,7 @@ use Rattle.fw_bag.specs.declared.rec.Rec.{Rec}
 use Rattle.fw_bag.specs.Keyed.{has_key, value_sum}
 use Rattle.fw_time.specs.Stamp.{Stamp, same}
 use Rattle.fw_time.specs.declared.time.Epoch.{Epoch}
-use Rattle.fw_bag.specs.Arrivals.{Arrival, recs_where, arrivals_at, recs_of, recs_at, recs_inside}
+use Rattle.fw_bag.specs.Arrivals.{Arrival, recs_where, arrivals_at, recs_of, recs_arrived_at, recs_inside}
 use Rattle.fw_table.specs.Content.{IsContentOf}
 use Rattle.fw_table.specs.declared.sent.Sent.{Sent}
 use Rattle.fw_table.specs.declared.sums.Sums.{Sums}
@@ -44,11 +44,11 @@ returns-in_default-clause-sent c = λ inside taken came out new r.
 
 -- what is sent is the total of each key of the epoch
 sums_sent : (running : BTreeMap ℕ (Option ℕ)) (sums : BTreeMap ℕ ℕ) (taken : Stamp → Bool) (t : Stamp) (came : List Arrival) → taken t ≡ false
-    → IsStrictlySortedBy nat_cmp (keys_of sums.entries) → HasSums sums (recs_at t came) → HasTotals running (recs_inside taken came)
-    → raised_recs running sums.entries ≡ sums_at_keys (recs_at t came) (recs_inside (λ s. same s t || taken s) came)
+    → IsStrictlySortedBy nat_cmp (keys_of sums.entries) → HasSums sums (recs_arrived_at t came) → HasTotals running (recs_inside taken came)
+    → raised_recs running sums.entries ≡ sums_at_keys (recs_arrived_at t came) (recs_inside (λ s. same s t || taken s) came)
 sums_sent running sums taken t came new sorted held r =
-    raised_are_sums running sums (recs_at t came) (recs_inside (λ s. same s t || taken s) came) held
-    (λ q. ap (λ o. combined o (sum_at q (recs_at t came))) (r q) ∙ merged_by taken t came new q) sorted
+    raised_are_sums running sums (recs_arrived_at t came) (recs_inside (λ s. same s t || taken s) came) held
+    (λ q. ap (λ o. combined o (sum_at q (recs_arrived_at t came))) (r q) ∙ merged_by taken t came new q) sorted
 
 pub returns-in_err-write-clause-err : goal.returns-in_err-write-clause-err
 returns-in_err-write-clause-err c = λ inside taken came r.
@@ -63,7 +63,7 @@ returns-clause-ok c = λ inside taken came out new r.
     let t : Stamp = c.args.t.0 ∷ [] in
     let found_now : get (λ x y. nat_cmp x.0 y.0) c.args.self.now.table.by_time c.args.t ≡ Some c.in-Some.sums.now = search rules in
     let P : Option Sums → Type 0 = λ o. IsContentOf holds_sums o (arrivals_at t came) in
-    let held : HasSums c.in-Some.sums.now.by_key (recs_at t came) = subst P found_now (content_now inside t came out _ (r.table.outside c.args.t)) in
+    let held : HasSums c.in-Some.sums.now.by_key (recs_arrived_at t came) = subst P found_now (content_now inside t came out _ (r.table.outside c.args.t)) in
     let old : List Rec = recs_inside taken came in
     let all : List Rec = recs_inside (λ s. same s t || taken s) came in
     let recs = c.as_slice.ensures ∙ c.in_ok-recs.ensures.recs ∙ sums_sent c.args.self.now.running c.in-Some.sums.now.by_key taken t came new c.raised.ensures.ordered held r.running in
@@ -71,11 +71,11 @@ returns-clause-ok c = λ inside taken came out new r.
     record {
       table = r.table;
       running = λ q.
-          c.in_ok-write.ensures.totals all (subst Q (sym recs) (sums_are (recs_at t came) all)) q
+          c.in_ok-write.ensures.totals all (subst Q (sym recs) (sums_are (recs_arrived_at t came) all)) q
           ∙ ap (λ xs. written all xs (found c.raised.new.totals q) q) recs
-          ∙ ap (λ b. cond b (Some (value_sum q all)) (found c.raised.new.totals q)) (key-sums_at_keys q (recs_at t came) all)
-          ∙ ap (λ o. written all (recs_at t came) o q) (c.raised.ensures.same q ∙ r.running q)
-          ∙ written_all q (sum_at q old) (recs_at t came) all (merged_by taken t came new q);
+          ∙ ap (λ b. cond b (Some (value_sum q all)) (found c.raised.new.totals q)) (key-sums_at_keys q (recs_arrived_at t came) all)
+          ∙ ap (λ o. written all (recs_arrived_at t came) o q) (c.raised.ensures.same q ∙ r.running q)
+          ∙ written_all q (sum_at q old) (recs_arrived_at t came) all (merged_by taken t came new q);
     }
 
 pub returns-clause-sent : goal.returns-clause-sent
@@ -83,7 +83,7 @@ returns-clause-sent c = λ inside taken came out new r.
     let t : Stamp = c.args.t.0 ∷ [] in
     let found_now : get (λ x y. nat_cmp x.0 y.0) c.args.self.now.table.by_time c.args.t ≡ Some c.in-Some.sums.now = search rules in
     let P : Option Sums → Type 0 = λ o. IsContentOf holds_sums o (arrivals_at t came) in
-    let held : HasSums c.in-Some.sums.now.by_key (recs_at t came) = subst P found_now (content_now inside t came out _ (r.table.outside c.args.t)) in
+    let held : HasSums c.in-Some.sums.now.by_key (recs_arrived_at t came) = subst P found_now (content_now inside t came out _ (r.table.outside c.args.t)) in
     let R : List Rec → Sent Epoch = λ rs. record { at = c.args.t; recs = rs } in
     ap R
     (c.in_ok-recs.ensures.recs ∙ sums_sent c.args.self.now.running c.in-Some.sums.now.by_key taken t came new c.raised.ensures.ordered held r.running)

@@ -7,7 +7,7 @@ mod show;
 
 use fw_advice::{AckSink, Call, Ended, Program, tell_after, warn_before};
 use fw_command::{JobFault, fetch_flow};
-use fw_disk::{Cause, DiskStore};
+use fw_disk::{DiskCause, DiskStore};
 use fw_outside::{FileFolder, Sink, StreamSink};
 use fw_run::{Status, falkirk};
 use show::{ShowFault, show};
@@ -125,7 +125,7 @@ fn may_call_store(words: &[&str]) -> bool {
 fn tell_cause<R: Files, N: Sink>(
     alloc: Global,
     store: &DiskStore<'_, R>,
-    cause: &Cause,
+    cause: &DiskCause,
     words: &str,
     notes: &mut N,
 ) -> Result<(), AllocError> {

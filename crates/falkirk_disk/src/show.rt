@@ -1,5 +1,5 @@
 //! The word `show`: what each file of a folder is.
-use fw_disk::{Cause, Difference, DiskStore, Refusal, Trouble};
+use fw_disk::{Difference, DiskCause, DiskRefusal, DiskStore, Trouble};
 use fw_flow::{Flow, NodeId};
 use fw_frontier::Entries;
 use fw_outside::{OutFault, Sink};
@@ -14,7 +14,7 @@ pub enum ShowFault {
     /// The output failed.
     Out,
     /// The store's folder could not be read.
-    Store(Cause),
+    Store(DiskCause),
     /// Memory was refused.
     NoMemory,
 }
@@ -34,11 +34,11 @@ impl From<OutFault> for ShowFault {
     }
 }
 
-impl From<Refusal> for ShowFault {
-    fn from(refusal: Refusal) -> Self {
+impl From<DiskRefusal> for ShowFault {
+    fn from(refusal: DiskRefusal) -> Self {
         match refusal {
-            Refusal::NoMemory => ShowFault::NoMemory,
-            Refusal::Failed(cause) => ShowFault::Store(cause),
+            DiskRefusal::NoMemory => ShowFault::NoMemory,
+            DiskRefusal::Failed(cause) => ShowFault::Store(cause),
         }
     }
 }
@@ -61,12 +61,12 @@ pub fn show<R: Files, O: Sink>(
                 told.push_str("no record: name")?;
                 false
             }
-            Err(Refusal::Failed(cause)) => {
+            Err(DiskRefusal::Failed(cause)) => {
                 let word = Word(&cause.trouble);
                 told.push_str(&format!(in alloc; "no record: {word}")?)?;
                 false
             }
-            Err(Refusal::NoMemory) => return Err(ShowFault::NoMemory),
+            Err(DiskRefusal::NoMemory) => return Err(ShowFault::NoMemory),
         };
         are_all = are_all && is_record;
         told.push('\n')?;

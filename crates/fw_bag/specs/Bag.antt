@@ -1,5 +1,5 @@
 -- What a bag holds, as the ascending list of its recs.
-use Rattle.std.specs.Prelude.{ℕ, zero, suc, ◌+◌, ◌<◌, Bool, List, [], ◌∷◌, if◌then◌else◌}
+use Rattle.std.specs.Prelude.{ℕ, zero, suc, ◌+◌, ◌^◌, ◌<◌, Bool, List, [], ◌∷◌, if◌then◌else◌}
 use Rattle.std.specs.List.Sorted.{IsStrictlySortedBy}
 use Rattle.std.specs.Map.{keys_of}
 use Rattle.std.specs.Ordering.{is_eq, is_le}
@@ -10,6 +10,11 @@ use Rattle.fw_bag.specs.Rec.{rec_cmp}
 pub record BagState : Type 0 where
   pub recs : List Rec
   pub refused : Bool
+
+-- the key and the value of a rec are numbers of 64 bits
+pub record IsRec (r : Rec) : Type 0 where
+  pub key : r.key < 2 ^ 64
+  pub value : r.value < 2 ^ 64
 
 -- the list with the rec before the first one that is not less, which keeps an ascending list ascending
 abbrev pub with_rec : Rec → List Rec → List Rec

@@ -92,7 +92,7 @@ impl Source {
     }
 
     /// Drops the batches of the epochs inside.
-    pub fn give_up(&mut self, f: &Front)
+    pub fn acknowledge(&mut self, f: &Front)
         ensures { self.new ≡ given_up f.now self.old }
     {
         drop_below(&mut self.held, &mut self.first, first_outside(f));

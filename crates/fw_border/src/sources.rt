@@ -90,11 +90,11 @@ impl Sources {
     }
 
     /// Drops an input's batches of the epochs inside: they are given up. What stays is not looked at.
-    pub fn give_up(&mut self, source: NodeId, low: &Front)
+    pub fn acknowledge(&mut self, source: NodeId, low: &Front)
         ensures { self.new ≡ with_source (given_up low.now) self.old source }
     {
         if let Some(source) = self.sources.get_mut(source.place() as usize) {
-            source.give_up(low);
+            source.acknowledge(low);
         }
     }
 }

@@ -64,6 +64,6 @@ fn drop_batches(fronts: &[OfNode], sources: &mut Sources)
     ensures each { (s : ℕ) → source_at sources.new s ≡ source_left fronts.now s (source_at sources.old s) }
 {
     for front in fronts {
-        sources.give_up(front.node, &front.front);
+        sources.acknowledge(front.node, &front.front);
     }
 }

@@ -34,7 +34,7 @@ use Rattle.fw_generate.proofs.InputLaws.{inputs_accepted}
 use Rattle.fw_generate.proofs.ScheduleLaws.{schedule_accepted}
 use Rattle.fw_generate.proofs.WellFormed.{flow_accepted}
 use Rattle.fw_command.specs.Command.{TextNames, SystemNames, Seeded, ReadAs, as_inputs, as_schedule, NamedText, Origin, in_folder, generated, three_texts, two_texts}
-use Rattle.fw_command.specs.Texts.{spelled_batches, spelled_system, spelled_items, text_for, IsReadFor, IsRefusedFor, HasText, HasFlow, AreThere, AreReadFor, IsFirstBehind, IsFirstTextRefused, HasTexts, Accepts, Refuses, AsksNoMore}
+use Rattle.fw_command.specs.Texts.{spelled_batches, spelled_system, spelled_items, text_for, IsReadFor, IsRefusedFor, HasText, HasFlow, AreTextsThere, AreReadFor, IsFirstBehind, IsFirstTextRefused, HasTexts, Accepts, Refuses, AsksNoMore}
 
 -- ---- what accepted texts spell
 
@@ -195,7 +195,7 @@ one_first_refusal texts (in_folder name others) r s a b = one_first texts name o
 one_first_refusal texts (generated seeded) r s a b = absurd a
 
 -- accepted texts behind that of a flow are not refused
-accepted_behind : (texts : List ℕ → Option (List ℕ)) (flow : Dataflow) (others : List NamedText) (three : Texts) (r : Refusal) → AreThere (Some texts) others three → AreReadFor flow others three
+accepted_behind : (texts : List ℕ → Option (List ℕ)) (flow : Dataflow) (others : List NamedText) (three : Texts) (r : Refusal) → AreTextsThere (Some texts) others three → AreReadFor flow others three
     → IsFirstBehind (Some texts) flow others r → ⊥
 accepted_behind texts flow [] three r t a p = p
 accepted_behind texts flow (named ∷ others) three r t a (inl p) =

@@ -71,9 +71,9 @@ abbrev pub HasRefusedText : Option (List ℕ → Option (List ℕ)) → Dataflow
 HasRefusedText told flow named refusal = HasText told named.name (λ text. IsRefusedFor named.read flow text refusal)
 
 -- the folder has these texts under the names, where it tells its texts
-abbrev pub AreThere : Option (List ℕ → Option (List ℕ)) → List NamedText → Texts → Type 0
-AreThere told [] texts = Unit {0}
-AreThere told (named ∷ others) texts = IsText told named.name (text_for named.read texts) × AreThere told others texts
+abbrev pub AreTextsThere : Option (List ℕ → Option (List ℕ)) → List NamedText → Texts → Type 0
+AreTextsThere told [] texts = Unit {0}
+AreTextsThere told (named ∷ others) texts = IsText told named.name (text_for named.read texts) × AreTextsThere told others texts
 
 -- the texts behind that of a flow are accepted, each as it is read for the dataflow
 abbrev pub AreReadFor : Dataflow → List NamedText → Texts → Type 0
@@ -112,7 +112,7 @@ pub record AreGenerated (seeded : Seeded) (texts : Texts) : Type 0 where
 
 -- the folder has these texts under their names, where it tells its texts; or they are generated
 abbrev pub HasTexts : Option (List ℕ → Option (List ℕ)) → Origin → Texts → Type 0
-HasTexts told (in_folder name others) texts = IsText told name texts.flow × AreThere told others texts
+HasTexts told (in_folder name others) texts = IsText told name texts.flow × AreTextsThere told others texts
 HasTexts told (generated seeded) texts = AreGenerated seeded texts
 
 -- the texts are accepted, of which the flow's declares this dataflow; those that are not read do not count

@@ -1,3 +1,3 @@
 pub mod Contents
-pub mod Lines
+pub mod RunLines
 pub mod Paths

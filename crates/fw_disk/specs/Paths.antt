@@ -1,11 +1,11 @@
 -- The files in the folder of a store.
 use Rattle.std.specs.Prelude.{ℕ, List, [], ◌∷◌, ◌++◌}
 use Rattle.std.specs.Fmt.{decimal}
-use Rattle.fw_disk.specs.declared.cause.Place.{Place}
-use Rattle.fw_disk.specs.declared.cause.Place.TheVariants.{Folder, Record, Beside, Run, RunBeside}
+use Rattle.fw_disk.specs.declared.cause.DiskPlace.{DiskPlace}
+use Rattle.fw_disk.specs.declared.cause.DiskPlace.TheVariants.{Folder, Record, Beside, Run, RunBeside}
 
 -- the name of a file: the digits of its id, with '.new' behind them where the record is written first; or 'run', or 'run.new'
-abbrev pub name_of : Place → List ℕ
+abbrev pub name_of : DiskPlace → List ℕ
 name_of Folder = []
 name_of (Record id) = decimal id
 name_of (Beside id) = decimal id ++ 46 ∷ 110 ∷ 101 ∷ 119 ∷ []
@@ -13,5 +13,5 @@ name_of Run = 114 ∷ 117 ∷ 110 ∷ []
 name_of RunBeside = 114 ∷ 117 ∷ 110 ∷ 46 ∷ 110 ∷ 101 ∷ 119 ∷ []
 
 -- its path: that of the folder, '/' and the name
-abbrev pub path_of : List ℕ → Place → List ℕ
+abbrev pub path_of : List ℕ → DiskPlace → List ℕ
 path_of folder place = folder ++ (47 ∷ []) ++ name_of place

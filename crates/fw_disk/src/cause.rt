@@ -1,6 +1,6 @@
 //! Why a call of the store failed.
 ghost use Rattle.std.specs.Prelude.{◌≡◌, IsOk, ◌↔◌};
-ghost use Rattle.fw_disk.specs.declared.cause.Refusal.TheVariants.{NoMemory};
+ghost use Rattle.fw_disk.specs.declared.cause.DiskRefusal.TheVariants.{NoMemory};
 
 use crate::Difference;
 use std::alloc::{AllocError, AllocFailed};
@@ -9,7 +9,7 @@ use std::io::{self, ErrorKind};
 
 /// The folder, or a file in it.
 #[derive(Clone, Copy)]
-pub enum Place {
+pub enum DiskPlace {
     /// The folder itself.
     Folder,
     /// The file of the record under an id.
@@ -43,25 +43,25 @@ pub enum Trouble {
 
 /// Why a call of the system was of no use.
 #[derive(Clone, Copy)]
-pub struct Cause {
+pub struct DiskCause {
     /// Where.
-    pub place: Place,
+    pub place: DiskPlace,
     /// What is wrong there.
     pub trouble: Trouble,
 }
 
 /// Why a call was refused.
 #[derive(Clone, Copy)]
-pub enum Refusal {
+pub enum DiskRefusal {
     /// The files failed, or hold no record.
-    Failed(Cause),
+    Failed(DiskCause),
     /// There was no memory.
     NoMemory,
 }
 
 /// A call of the store.
 #[derive(Clone, Copy)]
-pub enum Call {
+pub enum DiskCall {
     /// `put`.
     Put,
     /// `get`.
@@ -74,32 +74,32 @@ pub enum Call {
 #[derive(Clone, Copy)]
 pub struct Fault {
     /// The call.
-    pub call: Call,
+    pub call: DiskCall,
     /// The id that it was for.
     pub id: u64,
     /// Why it failed.
-    pub cause: Cause,
+    pub cause: DiskCause,
 }
 
-impl Refusal {
+impl DiskRefusal {
     /// Something is wrong at a place.
-    pub(crate) const fn at(place: Place, trouble: Trouble) -> Self {
-        Refusal::Failed(Cause { place, trouble })
+    pub(crate) const fn at(place: DiskPlace, trouble: Trouble) -> Self {
+        DiskRefusal::Failed(DiskCause { place, trouble })
     }
 
     /// The system refused a call at a place.
-    pub(crate) fn of(place: Place, error: io::Error) -> Self {
+    pub(crate) fn of(place: DiskPlace, error: io::Error) -> Self {
         match error.kind() {
-            ErrorKind::OutOfMemory => Refusal::NoMemory,
-            _ => Refusal::at(place, Trouble::System(error)),
+            ErrorKind::OutOfMemory => DiskRefusal::NoMemory,
+            _ => DiskRefusal::at(place, Trouble::System(error)),
         }
     }
 
     /// The system refused a call on the file of a record, which may be gone.
-    pub(crate) fn of_record(place: Place, error: io::Error) -> Self {
+    pub(crate) fn of_record(place: DiskPlace, error: io::Error) -> Self {
         match error.kind() {
-            ErrorKind::NotFound => Refusal::at(place, Trouble::Gone),
-            _ => Refusal::of(place, error),
+            ErrorKind::NotFound => DiskRefusal::at(place, Trouble::Gone),
+            _ => DiskRefusal::of(place, error),
         }
     }
 }
@@ -114,40 +114,40 @@ impl Trouble {
     }
 }
 
-impl From<AllocError> for Refusal {
+impl From<AllocError> for DiskRefusal {
     ghost from_gives = { λ _ e. e ≡ NoMemory };
 
     fn from(_: AllocError) -> Self {
-        Refusal::NoMemory
+        DiskRefusal::NoMemory
     }
 }
 
-impl<T: Drop> From<AllocFailed<T>> for Refusal {
+impl<T: Drop> From<AllocFailed<T>> for DiskRefusal {
     ghost from_gives = { λ _ e. e ≡ NoMemory };
 
     fn from(_: AllocFailed<T>) -> Self {
-        Refusal::NoMemory
+        DiskRefusal::NoMemory
     }
 }
 
-impl fmt::Display for Call {
+impl fmt::Display for DiskCall {
     fn fmt<W: fmt::Write>(&self, f: &mut fmt::Formatter<W>) -> fmt::Result {
         f.write_str(match self {
-            Call::Put => "put",
-            Call::Get => "get",
-            Call::Remove => "remove",
+            DiskCall::Put => "put",
+            DiskCall::Get => "get",
+            DiskCall::Remove => "remove",
         })
     }
 }
 
-impl fmt::Display for Place {
+impl fmt::Display for DiskPlace {
     fn fmt<W: fmt::Write>(&self, f: &mut fmt::Formatter<W>) -> fmt::Result {
         match self {
-            Place::Folder => Ok(()),
-            Place::Record(id) => write!(f, "/{id}"),
-            Place::Beside(id) => write!(f, "/{id}.new"),
-            Place::Run => write!(f, "/run"),
-            Place::RunBeside => write!(f, "/run.new"),
+            DiskPlace::Folder => Ok(()),
+            DiskPlace::Record(id) => write!(f, "/{id}"),
+            DiskPlace::Beside(id) => write!(f, "/{id}.new"),
+            DiskPlace::Run => write!(f, "/run"),
+            DiskPlace::RunBeside => write!(f, "/run.new"),
         }
     }
 }

@@ -1,15 +1,15 @@
 //! The store.
 ghost use Rattle.std.specs.Prelude.{◌≡◌, ℕ, List, [], ◌∷◌, None, Some, IsOk, IsErr, IsSome, IfOk, OnOk, OnErr, option_map};
 ghost use Rattle.sha2.specs.Sha256.{sha256};
-ghost use Rattle.fw_disk.specs.Lines.{digests_in, MayStandIn};
+ghost use Rattle.fw_disk.specs.RunLines.{digests_in, MayStandIn};
 ghost use Rattle.fw_outside.specs.Outside.{faults_after};
 
-use crate::Place;
-use crate::cause::{Call, Cause, Fault, Refusal};
+use crate::DiskPlace;
+use crate::cause::{DiskCall, DiskCause, DiskRefusal, Fault};
 use crate::claim::{Claim, claim_folder, locked_empty, record_of};
 use crate::contents::contents_of;
 use crate::folder::{Folder, place_named};
-use crate::lines::{Lines, lines_in};
+use crate::lines::{RunLines, lines_in};
 use fw_outside::{OutFault, Store};
 use sha2::{Digest, Sha256};
 use std::alloc::{AllocError, Global};
@@ -80,7 +80,7 @@ impl<R: Files> DiskStore<'_, R> {
     }
 
     /// The path of a cause's place, and what is wrong there.
-    pub fn cause_told(&self, cause: &Cause) -> Result<String, AllocError> {
+    pub fn cause_told(&self, cause: &DiskCause) -> Result<String, AllocError> {
         let mut told = String::from_str(self.alloc, self.folder.name())?;
         told.push_str(&format!(in self.alloc; "{}", cause.place)?)?;
         told.push_str(": ")?;
@@ -89,30 +89,36 @@ impl<R: Files> DiskStore<'_, R> {
     }
 
     /// The names of the files that no run may find in its folder, ascending by number: those of digits alone. Nothing is locked.
-    pub fn record_names(&self) -> Result<Vec<String>, Refusal> {
+    pub fn record_names(&self) -> Result<Vec<String>, DiskRefusal> {
         self.folder.record_names()
     }
 
     /// The lines of `run`; none, where it is not there. Nothing is locked.
-    pub fn lines(&self) -> Result<Lines, Refusal> {
-        match self.folder.read(Place::Run) {
+    pub fn lines(&self) -> Result<RunLines, DiskRefusal> {
+        match self.folder.read(DiskPlace::Run) {
             Ok(text) => Ok(lines_in(self.alloc, &text)?),
-            Err(Refusal::Failed(cause)) if cause.trouble.is_gone() => Ok(Lines::new(self.alloc)),
+            Err(DiskRefusal::Failed(cause)) if cause.trouble.is_gone() => Ok(RunLines::new(
+                self.alloc,
+            )),
             Err(refusal) => Err(refusal),
         }
     }
 
     /// The record in the file of this name, which may stand there by these lines; none, where no id has the name. Nothing is
     /// locked.
-    pub fn record_named(&self, lines: &Lines, name: &str) -> Result<Option<Vec<u8>>, Refusal> {
+    pub fn record_named(
+        &self,
+        lines: &RunLines,
+        name: &str,
+    ) -> Result<Option<Vec<u8>>, DiskRefusal> {
         match place_named(self.alloc, name)? {
-            Place::Record(id) => Ok(Some(record_of(&self.folder, lines, id)?)),
+            DiskPlace::Record(id) => Ok(Some(record_of(&self.folder, lines, id)?)),
             _ => Ok(None),
         }
     }
 
     // Puts a record into an empty list, and notes that it was given.
-    fn give(&mut self, id: u64, bytes: Vec<u8>, into: &mut Vec<u8>) -> Result<(), Refusal>
+    fn give(&mut self, id: u64, bytes: Vec<u8>, into: &mut Vec<u8>) -> Result<(), DiskRefusal>
         requires { into.old.items ≡ [] }
         ensures given { OnOk result (option_map {U = ℕ × List ℕ} (λ given. (given.id, given.bytes.items)) self.new.given ≡ Some (id, into.new.items)) }
         ensures given_stays { OnErr result (option_map {U = ℕ × List ℕ} (λ given. (given.id, given.bytes.items)) self.new.given ≡ option_map {U = ℕ × List ℕ} (λ given. (given.id, given.bytes.items)) self.old.given) }
@@ -125,7 +131,12 @@ impl<R: Files> DiskStore<'_, R> {
     }
 
     // The answer of a call; a failure is counted, and noted.
-    fn answer(&mut self, call: Call, id: u64, done: Result<(), Refusal>) -> Result<(), OutFault>
+    fn answer(
+        &mut self,
+        call: DiskCall,
+        id: u64,
+        done: Result<(), DiskRefusal>,
+    ) -> Result<(), OutFault>
         ensures faults { self.new.faults ≡ faults_after result self.old.faults }
         ensures given_stays { option_map {U = ℕ × List ℕ} (λ given. (given.id, given.bytes.items)) self.new.given ≡ option_map {U = ℕ × List ℕ} (λ given. (given.id, given.bytes.items)) self.old.given }
         ensures ok { IsOk result → IsOk done }
@@ -133,8 +144,8 @@ impl<R: Files> DiskStore<'_, R> {
     {
         match done {
             Ok(()) => Ok(()),
-            Err(Refusal::NoMemory) => Err(OutFault::NoMemory),
-            Err(Refusal::Failed(cause)) => {
+            Err(DiskRefusal::NoMemory) => Err(OutFault::NoMemory),
+            Err(DiskRefusal::Failed(cause)) => {
                 self.faults = self.faults.saturating_add(1);
                 if self.noted.len() < MOST_NOTED {
                     let _ = self.noted.push(Fault { call, id, cause });
@@ -147,16 +158,16 @@ impl<R: Files> DiskStore<'_, R> {
 
 impl<R: Files<File = File>> DiskStore<'_, R> {
     /// What stands in the way of a run in this folder; nothing is changed. The error is want of memory.
-    pub fn obstacle(&self) -> Result<Option<Cause>, AllocError> {
+    pub fn obstacle(&self) -> Result<Option<DiskCause>, AllocError> {
         match locked_empty(&self.folder) {
             Ok(_) => Ok(None),
-            Err(Refusal::Failed(cause)) => Ok(Some(cause)),
-            Err(Refusal::NoMemory) => Err(AllocError),
+            Err(DiskRefusal::Failed(cause)) => Ok(Some(cause)),
+            Err(DiskRefusal::NoMemory) => Err(AllocError),
         }
     }
 
     // Puts a record under a new id.
-    fn put_new(&mut self, id: u64, bytes: &[u8]) -> Result<(), Refusal>
+    fn put_new(&mut self, id: u64, bytes: &[u8]) -> Result<(), DiskRefusal>
         ensures stands { OnOk result (digests_in self.new.claim id ≡ Some (sha256 bytes.now ∷ [])) }
         ensures faults { self.new.faults ≡ self.old.faults }
         ensures given { self.new.given ≡ self.old.given }
@@ -170,7 +181,7 @@ impl<R: Files<File = File>> DiskStore<'_, R> {
     }
 
     // The record under an id.
-    fn read(&mut self, id: u64) -> Result<Vec<u8>, Refusal>
+    fn read(&mut self, id: u64) -> Result<Vec<u8>, DiskRefusal>
         ensures may_stand { IfOk result (λ bytes. MayStandIn self.old.claim id (sha256 bytes.items)) }
         ensures stay { (other : ℕ) → digests_in self.new.claim other ≡ digests_in self.old.claim other }
         ensures faults { self.new.faults ≡ self.old.faults }
@@ -184,7 +195,7 @@ impl<R: Files<File = File>> DiskStore<'_, R> {
     }
 
     // Puts the record under an id into an empty list, and notes that it was given.
-    fn read_into(&mut self, id: u64, into: &mut Vec<u8>) -> Result<(), Refusal>
+    fn read_into(&mut self, id: u64, into: &mut Vec<u8>) -> Result<(), DiskRefusal>
         requires { into.old.items ≡ [] }
         ensures given { OnOk result (option_map {U = ℕ × List ℕ} (λ given. (given.id, given.bytes.items)) self.new.given ≡ Some (id, into.new.items)) }
         ensures given_stays { OnErr result (option_map {U = ℕ × List ℕ} (λ given. (given.id, given.bytes.items)) self.new.given ≡ option_map {U = ℕ × List ℕ} (λ given. (given.id, given.bytes.items)) self.old.given) }
@@ -196,7 +207,7 @@ impl<R: Files<File = File>> DiskStore<'_, R> {
     }
 
     // Takes the record under an id out.
-    fn take_out(&mut self, id: u64) -> Result<(), Refusal>
+    fn take_out(&mut self, id: u64) -> Result<(), DiskRefusal>
         ensures none { OnOk result (IsSome (digests_in self.old.claim id) → digests_in self.new.claim id ≡ Some []) }
         ensures others { (other : ℕ) → (other ≡ id → ⊥) → digests_in self.new.claim other ≡ digests_in self.old.claim other }
         ensures faults { self.new.faults ≡ self.old.faults }
@@ -221,7 +232,7 @@ impl<R: Files<File = File>> Store for DiskStore<'_, R> {
     /// a refusal what stood under the id stands there still, and else nothing, unless the new file can't be removed again.
     fn put(&mut self, id: u64, bytes: &[u8]) -> Result<(), OutFault> {
         let put = self.put_new(id, bytes);
-        self.answer(Call::Put, id, put)
+        self.answer(DiskCall::Put, id, put)
     }
 
     /// Reads the record of a file. One that is not there, is too short or too long for its length, has another digest, or is
@@ -229,13 +240,13 @@ impl<R: Files<File = File>> Store for DiskStore<'_, R> {
     fn get(&mut self, id: u64, into: &mut Vec<u8>) -> Result<(), OutFault> {
         into.clear();
         let got = self.read_into(id, into);
-        self.answer(Call::Get, id, got)
+        self.answer(DiskCall::Get, id, got)
     }
 
     /// Removes the file. One that is not there is a fault. That it is gone is not flushed to the disk.
     fn remove(&mut self, id: u64) -> Result<(), OutFault> {
         let removed = self.take_out(id);
-        self.answer(Call::Remove, id, removed)
+        self.answer(DiskCall::Remove, id, removed)
     }
 
     /// How often a call failed.

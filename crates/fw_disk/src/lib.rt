@@ -8,7 +8,7 @@ mod disk_store;
 mod folder;
 mod lines;
 
-pub use cause::{Call, Cause, Fault, Place, Refusal, Trouble};
+pub use cause::{DiskCall, DiskCause, DiskPlace, DiskRefusal, Fault, Trouble};
 pub use contents::Difference;
 pub use disk_store::DiskStore;
-pub use lines::Lines;
+pub use lines::RunLines;

@@ -1,6 +1,6 @@
 //! The lines of the file `run`: of each record its id and its digest.
 ghost use Rattle.std.specs.Prelude.{◌≡◌, ◌↔◌, ℕ, List, [], ◌∷◌, Some, None, IsTrue, IsSome, IfOk, OnOk, OnErr, unwrap_or, string_bytes};
-ghost use Rattle.fw_disk.specs.Lines.{line_of, digests_of, MayStand};
+ghost use Rattle.fw_disk.specs.RunLines.{digest_line, digests_of, MayStand};
 
 use hex::FromHex;
 use std::alloc::{AllocError, Global};
@@ -14,18 +14,18 @@ const FEW: usize = 64;
 
 /// Under each id that has a line the digests of the records that may stand there: none, where its record is gone.
 #[derive(Drop)]
-pub struct Lines {
+pub struct RunLines {
     alloc: Global,
     told: BTreeMap<u64, Vec<Digest>>,
     gone: usize,
 }
 
-impl Lines {
+impl RunLines {
     /// No line.
     pub(crate) fn new(alloc: Global) -> Self
         ensures { (id : ℕ) → digests_of result.told id ≡ None }
     {
-        Lines {
+        RunLines {
             alloc,
             told: BTreeMap::new(alloc),
             gone: 0,
@@ -126,7 +126,7 @@ impl Lines {
 
 /// The line of a record.
 pub(crate) fn line_of(alloc: Global, id: u64, digest: &Digest) -> Result<String, AllocError>
-    ensures { IfOk result (λ line. string_bytes line ≡ line_of id digest.now) }
+    ensures { IfOk result (λ line. string_bytes line ≡ digest_line id digest.now) }
 {
     let digits = hex::encode(alloc, digest.as_slice())?;
     let mut line = format!(in alloc; "{id} ")?;
@@ -136,8 +136,8 @@ pub(crate) fn line_of(alloc: Global, id: u64, digest: &Digest) -> Result<String,
 }
 
 /// What the lines of a file tell. What is no whole line is passed over.
-pub(crate) fn lines_in(alloc: Global, text: &[u8]) -> Result<Lines, AllocError> {
-    let mut lines = Lines::new(alloc);
+pub(crate) fn lines_in(alloc: Global, text: &[u8]) -> Result<RunLines, AllocError> {
+    let mut lines = RunLines::new(alloc);
     let Some(end) = text.iter().rposition(|byte| *byte == b'\n') else {
         return Ok(lines);
     };
@@ -148,7 +148,7 @@ pub(crate) fn lines_in(alloc: Global, text: &[u8]) -> Result<Lines, AllocError> 
 }
 
 // Adds what a line tells; nothing, where it is no line of a record.
-fn add_told(lines: &mut Lines, line: &[u8]) -> Result<(), AllocError> {
+fn add_told(lines: &mut RunLines, line: &[u8]) -> Result<(), AllocError> {
     let Ok(line) = str::from_utf8(line) else {
         return Ok(());
     };

@@ -22,7 +22,7 @@ use Rattle.fw_running.specs.declared.fault.EngineFault.{EngineFault}
 use Rattle.fw_running.specs.declared.fault.EngineFault.TheVariants as fault
 use Rattle.fw_running.specs.declared.running.Running.{Running}
 use Rattle.fw_running.specs.declared.stepped.Effect.{Effect as Shown}
-use Rattle.fw_running.specs.declared.stepped.Effect.TheVariants.{Silent}
+use Rattle.fw_running.specs.declared.stepped.Effect.TheVariants.{Quiet}
 use Rattle.fw_running.specs.declared.stepped.Stepped.{Stepped}
 use Rattle.fw_running.specs.declared.stepped.Stepped.TheVariants.{Did, Idle}
 use Rattle.fw_running.proofs.SameStateLaws.{down-failed, same-stands}
@@ -167,7 +167,7 @@ notice-answers T sys state p t fault.NoMemory new after calls a = a
 
 pub notify-first : (T : Type 0) (old mid new : Running) (before after : Option Records) (p : ℕ) (t : Stamp) (x : T) → IsSearched old mid
     → HasNotice old p t → ((q : ℕ) → q < p → HasNoNotice old q) → TakesNotice {T = T} mid before p t (Ok x) new after
-    → TakesFirstAfter NoneToDeliver old before (Ok (Did Silent)) new after
+    → TakesFirstAfter NoneToDeliver old before (Ok (Did Quiet)) new after
 unfolding notified
 notify-first T old mid new before after p t x found n earlier taken = λ sys state s none.
     let leads = notified sys old before state s p t n in

@@ -12,7 +12,7 @@ use Rattle.fw_running.specs.declared.fault.EngineFault.{EngineFault}
 use Rattle.fw_running.specs.declared.fault.EngineFault.TheVariants as fault
 use Rattle.fw_running.specs.declared.stepped.Stepped.{Stepped}
 use Rattle.fw_running.specs.declared.stepped.Stepped.TheVariants.{Idle}
-use Rattle.fw_running.specs.Faults.{faults_after, is_refusal}
+use Rattle.fw_running.specs.Faults.{faults_after_step, is_refusal}
 use Rattle.fw_running.specs.Stands.{Stands}
 use Rattle.fw_running.specs.Steps.{Follows, FollowsFirst, FirstMayCall, HasOutcome, IsDamage, IsLeftBy, IsStepEnabled, MayCallByItself, MayCallStore, Trusts, outcome_of}
 
@@ -71,7 +71,7 @@ pub record EngineAnswers {K : Type 0} (view : K → StoreView) (old : Engine) (b
   -- The store's count of faults rises by one at StoreFault (at 2^64 - 1 it stays), and at no other answer. StoreFault comes only in a
   -- step that may call the store, and that is enabled or a collection. Then the engine stands where it stood, or where the collection
   -- led.
-  pub faults : (view after).faults ≡ faults_after result (view before).faults
+  pub faults : (view after).faults ≡ faults_after_step result (view before).faults
   pub calls : IsErrOf result fault.StoreFault → MayCallStore (flow_of old) step
   pub faulted : ForEachState old (view before).records (λ sys state. IsErrOf result fault.StoreFault
       → IsLeftBy sys state step (λ next. StandsFor sys new (view after).records next))
@@ -101,7 +101,7 @@ pub record FirstAnswers {K : Type 0} (view : K → StoreView) (old : Engine) (be
   pub idle : result ≡ Ok Idle → after ≡ before
   -- The store's count of faults rises by one at StoreFault (at 2^64 - 1 it stays), and at no other answer. StoreFault comes only where
   -- the first step that is enabled may call the store. Then the engine stands where it stood.
-  pub faults : (view after).faults ≡ faults_after result (view before).faults
+  pub faults : (view after).faults ≡ faults_after_step result (view before).faults
   pub calls : ForEachState old (view before).records (λ sys state. IsErrOf result fault.StoreFault → FirstMayCall sys state)
   pub faulted : ForEachState old (view before).records (λ sys state. IsErrOf result fault.StoreFault → StandsFor sys new (view after).records state)
   -- no record is damaged

@@ -73,7 +73,7 @@ fn notify_first<K: Store>(running: &mut Running, store: &mut K) -> Result<Steppe
         return settle_first(running, store);
     };
     notify_of(running, notice.node, &notice.at, store)?;
-    Ok(Stepped::Did(Effect::Silent))
+    Ok(Stepped::Did(Effect::Quiet))
 }
 
 // The same where besides no node can be notified: what is complete is settled, or what comes later.

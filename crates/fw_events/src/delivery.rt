@@ -70,7 +70,7 @@ pub fn deliver<K: Store>(
     };
     log_delivery(running, edge, node, &at, rec, store)?;
     take_in(running, edge, node, &at, rec)?;
-    Ok(Stepped::Did(Effect::Silent))
+    Ok(Stepped::Did(Effect::Quiet))
 }
 
 /// Whether something is pending on an edge for a receiver that is not failed.

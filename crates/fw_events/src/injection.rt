@@ -32,7 +32,7 @@ pub fn inject(running: &mut Running, source: NodeId) -> Result<Stepped, EngineFa
         return Ok(Stepped::Idle);
     };
     inject_batch(running, source, epoch, &sends)?;
-    Ok(Stepped::Did(Effect::Silent))
+    Ok(Stepped::Did(Effect::Quiet))
 }
 
 /// Whether a node is an input that has a batch to inject, and is not failed.
@@ -94,7 +94,7 @@ fn next_batch(running: &Running, source: NodeId) -> Result<Option<(u32, Sends)>,
     let Ok(epoch) = u32::try_from(running.parts.sources.injected(source)) else {
         return Ok(None);
     };
-    let sends = Sends::Together(Sent {
+    let sends = Sends::AtOneStamp(Sent {
         at: Stamp::new(&[epoch]),
         recs: SentRecs::all(recs_of(running.alloc, batch)?),
     });

@@ -1,6 +1,6 @@
 //! Events are logged.
 ghost use Rattle.std.specs.Prelude.{◌≡◌, ◌↔◌, ◌<◌, ◌^◌, true, IsTrue, OnOk, OnErr, is_some};
-ghost use Rattle.fw_running.specs.Faults.{faults_after};
+ghost use Rattle.fw_running.specs.Faults.{faults_after_step};
 ghost use Rattle.fw_time.specs.Stamp.{in_domain};
 ghost use Rattle.fw_flow.specs.declared.kind.Policy.TheVariants as policy;
 ghost use Rattle.fw_flow.specs.Dataflow.{bounds_of, policy_of};
@@ -42,7 +42,7 @@ pub(crate) fn log_event<K: Store>(
     ensures stays { OnErr result (IsNotAsked running.old.parts.keep.entries running.new.parts.keep.entries
         (K.view store.old).records (K.view store.new).records) }
     ensures given { (K.view store.new).given ≡ (K.view store.old).given }
-    ensures faults { (K.view store.new).faults ≡ faults_after result (K.view store.old).faults }
+    ensures faults { (K.view store.new).faults ≡ faults_after_step result (K.view store.old).faults }
     ensures undamaged { IsUndamaged result }
     ensures tells { is_some (K.view store.new).records ≡ is_some (K.view store.old).records }
 {

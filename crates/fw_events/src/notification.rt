@@ -52,7 +52,7 @@ pub fn notify<K: Store>(
         return Ok(Stepped::Idle);
     };
     notify_of(running, node, &at, store)?;
-    Ok(Stepped::Did(Effect::Silent))
+    Ok(Stepped::Did(Effect::Quiet))
 }
 
 /// The next stamp of which a node may be notified, where this is asked for. The error is want of memory.

@@ -90,7 +90,7 @@ fn send_on(
         (caused_by cause.now (sends_list sends.now)) running.old running.new) }
 {
     put_live(running, edge, cause, sends)?;
-    log_again(running, node, edge, cause, sends)
+    log_sent(running, node, edge, cause, sends)
 }
 
 // What is sent is pending on an edge, if its receiver is not failed.
@@ -164,7 +164,7 @@ fn put_in(queues: &mut Queues, edge: EdgeId, cause: &Stamp, sends: &Sends) -> Re
 }
 
 // What is sent outside the receiver's low watermark is in the log of an edge, where the node can send it again.
-fn log_again(
+fn log_sent(
     running: &mut Running,
     node: NodeId,
     edge: EdgeId,

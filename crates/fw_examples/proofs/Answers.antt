@@ -7,7 +7,7 @@ use Rattle.fw_flow.specs.declared.kind.Kind.TheVariants.{Distinct, Sum}
 use Rattle.std.specs.Prelude.{None}
 use Rattle.fw_examples.specs.Flows.{pair}
 use Rattle.fw_examples.specs.KindsSend.{at}
-use Rattle.fw_examples.specs.RunningTotal.{run, total_flow, totals, two_epochs}
+use Rattle.fw_examples.specs.RunningTotal.{total_node, total_flow, totals, two_epochs}
 
 others : OtherRecsAreSent
 unfolding in_edges kind_of receiver bounds_of
@@ -23,7 +23,7 @@ total : TotalIsSent
 unfolding in_edges kind_of receiver bounds_of
 total = record {
   no_sequence = refl;
-  sent = λ law. law totals run next_came (2 ∷ []) refl;
+  sent = λ law. law totals total_node next_came (2 ∷ []) refl;
 }
 
 first_suffices : FirstEpochSuffices
@@ -39,7 +39,7 @@ unfolding in_edges receiver kind_of
 on_edge = record {
   is_node = lit< tt;
   events = refl;
-  on_edge = λ law. (law total_flow run (lit< tt) two_epochs (λ t. is_first t)).0.0;
+  on_edge = λ law. (law total_flow total_node (lit< tt) two_epochs (λ t. is_first t)).0.0;
 }
 
 pub answers_apply : AnswersApply

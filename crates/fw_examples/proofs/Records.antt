@@ -13,7 +13,7 @@ use Rattle.fw_record.proofs.RecordLaws.{whole_again}
 use Rattle.fw_examples.specs.Flows.{loop_counts_up}
 use Rattle.fw_examples.specs.Loop.{counted_rounds, round}
 use Rattle.fw_examples.specs.Records.{FrontsAreSpelled, RecordsAreSpelled, rounds_meet, rec_came, rounds_saved, sent_in_round, total_saved}
-use Rattle.fw_examples.specs.RunningTotal.{run, total_flow}
+use Rattle.fw_examples.specs.RunningTotal.{total_node, total_flow}
 use Rattle.fw_examples.proofs.Fronts.{canonical_by}
 
 -- ---- the running total
@@ -40,7 +40,7 @@ total_sound = record {
   log = record { few = lit< tt; parts = tt; follow = refl };
 }
 
-total_of_node : IsCheckpointRecordOf total_flow run (until 2) total_saved
+total_of_node : IsCheckpointRecordOf total_flow total_node (until 2) total_saved
 unfolding kind_of policy_of in_edges out_edges receiver bounds_of
 total_of_node = record {
   node = refl;

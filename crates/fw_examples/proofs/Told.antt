@@ -10,7 +10,7 @@ use Rattle.fw_model.specs.Machine.{events, first_state}
 use Rattle.fw_model.specs.Steps.{Outcome, did, silent}
 use Rattle.fw_model.proofs.GoingOn.{runs-go_on}
 use Rattle.fw_model.proofs.RecoveryLaws.{runs-legal}
-use Rattle.fw_examples.specs.RunningTotal.{outcomes_to_failure, output_failed, run, steps_to_failure, total_flow, totals}
+use Rattle.fw_examples.specs.RunningTotal.{outcomes_to_failure, output_failed, total_node, steps_to_failure, total_flow, totals}
 use Rattle.fw_examples.specs.Witnesses.{all_written, last_taken, steps_by_themselves}
 use Rattle.fw_examples.specs.Told.{OneMoreMayBeTold, TablesApply}
 use Rattle.fw_examples.proofs.Settling.{notifiable_by}
@@ -32,7 +32,7 @@ one_more_may_be_told = record {
       failure_is_reached.reached (all_written, writes_first.leads, (last_taken, delivers_then.leads, refl));
   told = refl;
   came = refl;
-  notifiable = notifiable_by totals (events last_taken.history) run (3 ∷ []) (until 4 ∷ until 3 ∷ until 2 ∷ []) totals_formed (lit< tt) refl;
+  notifiable = notifiable_by totals (events last_taken.history) total_node (3 ∷ []) (until 4 ∷ until 3 ∷ until 2 ∷ []) totals_formed (lit< tt) refl;
 }
 
 pub tables_apply : TablesApply
@@ -43,8 +43,8 @@ tables_apply =
     let reached = one_more_may_be_told.reached in
     let legal = runs-legal totals steps_then outcomes_then last_taken totals_formed system.epochs reached in
     record {
-      not_told = λ law. law totals (events last_taken.history) totals_formed system.epochs legal run refl (Notified run (3 ∷ [])) one_more_may_be_told.notifiable refl;
-      settled_told = λ law. law totals formed steps_then outcomes_then last_taken reached run refl;
-      summed = λ law. law totals formed steps_then outcomes_then last_taken reached run refl (3 ∷ []) one_more_may_be_told.notifiable;
-      inside = λ law. law totals (events last_taken.history) totals_formed system.epochs legal run (node_frontier total_flow run (until 2));
+      not_told = λ law. law totals (events last_taken.history) totals_formed system.epochs legal total_node refl (Notified total_node (3 ∷ [])) one_more_may_be_told.notifiable refl;
+      settled_told = λ law. law totals formed steps_then outcomes_then last_taken reached total_node refl;
+      summed = λ law. law totals formed steps_then outcomes_then last_taken reached total_node refl (3 ∷ []) one_more_may_be_told.notifiable;
+      inside = λ law. law totals (events last_taken.history) totals_formed system.epochs legal total_node (node_frontier total_flow total_node (until 2));
     }

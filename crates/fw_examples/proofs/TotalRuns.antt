@@ -18,7 +18,7 @@ use Rattle.fw_model.specs.Unions.{IsUnionOfChoices}
 use Rattle.fw_model.proofs.GoingOn.{runs-go_on}
 use Rattle.fw_examples.specs.Flows.{out}
 use Rattle.fw_examples.specs.InTurn.{outcomes_to_unsettled, steps_to_unsettled, steps_unsettled, state_unsettled}
-use Rattle.fw_examples.specs.RunningTotal.{alike, valued_at_epoch, come_back, epoch_kept, outcomes_of_failure, outcomes_of_sum, outcomes_through_recovery, outcomes_to_failure, outcomes_up_to_two, outcomes_without_failure, output_failed, run, steps_of_failure, steps_of_sum, steps_through_recovery, steps_to_failure, steps_up_to_two, steps_without_failure, total_flow, totals, two_epochs_kept, two_kept_noting}
+use Rattle.fw_examples.specs.RunningTotal.{alike, valued_at_epoch, come_back, epoch_kept, outcomes_of_failure, outcomes_of_sum, outcomes_through_recovery, outcomes_to_failure, outcomes_up_to_two, outcomes_without_failure, output_failed, total_node, steps_of_failure, steps_of_sum, steps_through_recovery, steps_to_failure, steps_up_to_two, steps_without_failure, total_flow, totals, two_epochs_kept, two_kept_noting}
 use Rattle.fw_examples.proofs.Choosing.{above_by, consistent_by, largest_by, lies, offered_by, offered_within, recovers_to, sender_within}
 use Rattle.fw_examples.proofs.Fronts.{by_three, canonical_by, join_by, join_other}
 use Rattle.fw_examples.proofs.Plays.{Move, acknowledge, after_all, are_taken, ask, deliver, fail, inject, persist, plays}
@@ -255,9 +255,9 @@ unsettled_run =
 -- what follows the failure
 pub after_failure : (steps : List Step) (outcomes : List Outcome) (last : Machine) → Run totals come_back steps outcomes last
     → Run totals (first_state totals) (steps_to_failure ++ Recover ∷ steps) (outcomes_to_failure ++ did (cuts two_epochs_kept) ∷ outcomes) last
-after_failure steps outcomes last run =
+after_failure steps outcomes last total_node =
     runs-go_on totals (first_state totals) output_failed last steps_to_failure (Recover ∷ steps) outcomes_to_failure (did (cuts two_epochs_kept) ∷ outcomes) failed_run
-    (come_back, recovers, run)
+    (come_back, recovers, total_node)
 
 pub run_through_recovery : Run totals (first_state totals) steps_through_recovery outcomes_through_recovery (sum_acknowledged come_back)
 run_through_recovery = after_failure steps_of_sum outcomes_of_sum (sum_acknowledged come_back) runs_again

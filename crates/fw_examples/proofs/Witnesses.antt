@@ -31,7 +31,7 @@ use Rattle.fw_model.proofs.FilteredLaws.{choice-consistent, consistent-meets, se
 use Rattle.fw_model.proofs.RecoveryLaws.{denoted-full, runs-legal, settled-stays_denoted}
 use Rattle.fw_examples.specs.Flows.{loop_counts_up, numbered_both, numbers, regroup_by_three, two_batches, value_at}
 use Rattle.fw_examples.specs.Loop.{counted_rounds, counting_failed, restored}
-use Rattle.fw_examples.specs.RunningTotal.{alike, valued_at_epoch, come_back, next_epochs, outcomes_to_failure, output_failed, run, steps_to_failure, total_flow, totals, totals_denoted, two_epochs, two_epochs_kept}
+use Rattle.fw_examples.specs.RunningTotal.{alike, valued_at_epoch, come_back, next_epochs, outcomes_to_failure, output_failed, total_node, steps_to_failure, total_flow, totals, totals_denoted, two_epochs, two_epochs_kept}
 use Rattle.fw_examples.specs.Witnesses.{AnEpochIsClosed, ChoicesUnite, CutsUnite, EachStepHasItsChoice, EpochsAreThinned, FailureIsReached, JoinIsAFrontier, LessIsConsistent, LoopIsFiltered, LowWatermarkRises, MoreIsComplete, NotifiedAndGoesOn, NoStepIsTaken, NumbersAreDelivered, OneIsOnItsWay, RecoveryIsReached, SequenceIsFiltered, SomeIsSettled, SomethingIsChosen, TotalsAreFiltered, TotalsAreWellFormed, TwoEpochsAreComplete, TwoEpochsAreTheSame, TwoRunsMeet, TwoStepsAreTaken, all_failed, all_written, both_rounds, first_rounds, four_epochs, kept_epoch, last_taken}
 use Rattle.fw_examples.proofs.Choosing.{lies}
 use Rattle.fw_examples.proofs.Fronts.{by_four, by_three, canonical_by, within_two}
@@ -293,7 +293,7 @@ totals_are_filtered = record {
   inclusions = totals_meet;
   remains = refl;
   full = denoted-full totals totals_denoted output_failed totals_are_well_formed.well_formed totals_are_well_formed.denoted total_is_legal some_is_settled.denoted;
-  cut = lies (bounds_of totals.flow run) (until 2) (until 3) refl;
+  cut = lies (bounds_of totals.flow total_node) (until 2) (until 3) refl;
   discarded = (kept_consistent (is_failed output_failed)).discarded 0 (lit< tt);
   no_log = refl;
   was_pending = refl;
@@ -387,7 +387,7 @@ epochs_are_thinned = record {
     outside = ((λ k. absurd (false≢true (sym k))), ((λ k. (0, lit< tt, refl)), ((λ k. (1, lit< tt, refl)), ((λ k. (2, lit< tt, refl)), tt))));
     inside = ((λ k. below_one refl), ((λ k. below_one refl), ((λ k. absurd (false≢true k)), ((λ k. absurd (false≢true k)), tt))));
   };
-  within = lies (bounds_of total_flow run) (until 2) (until 3) refl;
+  within = lies (bounds_of total_flow total_node) (until 2) (until 3) refl;
 }
 
 -- ---- witnesses for the laws of `auto`

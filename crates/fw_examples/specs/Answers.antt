@@ -14,7 +14,7 @@ use Rattle.fw_node.specs.Arrived.{AreOnEdges, IsOneOf}
 use Rattle.fw_node.specs.LawsOfAnswers.{DeliveriesAnswer, DeliveriesNeedTheirTime, EventsComeOnInEdges, NotificationsAnswer, NotificationsNeedTheirTime}
 use Rattle.fw_examples.specs.Flows.{fed, node, pair}
 use Rattle.fw_examples.specs.KindsSend.{at, delivery_at}
-use Rattle.fw_examples.specs.RunningTotal.{valued_at_epoch, run, src_to_run, total_flow, totals, two_epochs}
+use Rattle.fw_examples.specs.RunningTotal.{valued_at_epoch, total_node, src_to_run, total_flow, totals, two_epochs}
 
 -- an input, a distinct and an output, without batches
 abbrev pub each_once : System
@@ -34,12 +34,12 @@ pub record OtherRecsAreSent : Type 0 where
 
 -- epoch 1 was summed, and a rec of epoch 2 came
 abbrev pub next_came : List Event
-next_came = Delivered src_to_run (valued_at_epoch 2 5) ∷ Notified run (1 ∷ []) ∷ Delivered src_to_run (valued_at_epoch 1 10) ∷ []
+next_came = Delivered src_to_run (valued_at_epoch 2 5) ∷ Notified total_node (1 ∷ []) ∷ Delivered src_to_run (valued_at_epoch 1 10) ∷ []
 
 -- Told of epoch 2, the running total sends what came up to there.
 pub record TotalIsSent : Type 0 where
-  pub no_sequence : is_sequence_kind (kind_of total_flow run) ≡ false
-  pub sent : NotificationsAnswer → without_causes (sends totals run next_came (Notified run (2 ∷ []))) ≡ (at 2, pair 1 15) ∷ []
+  pub no_sequence : is_sequence_kind (kind_of total_flow total_node) ≡ false
+  pub sent : NotificationsAnswer → without_causes (sends totals total_node next_came (Notified total_node (2 ∷ []))) ≡ (at 2, pair 1 15) ∷ []
 
 -- a rec came on the one edge at epoch 0, and another one at epoch 1
 abbrev pub came_at_two : List Arrival
@@ -61,9 +61,9 @@ pub record FirstEpochSuffices : Type 0 where
 
 -- The rec of epoch 1 came to the running total on its one in-edge.
 pub record CameOnItsEdge : Type 0 where
-  pub is_node : run < length total_flow.nodes
-  pub events : events_at total_flow run two_epochs ≡ Notified run (1 ∷ []) ∷ Delivered src_to_run (valued_at_epoch 1 10) ∷ []
-  pub on_edge : EventsComeOnInEdges → IsOneOf (in_edges total_flow run) src_to_run
+  pub is_node : total_node < length total_flow.nodes
+  pub events : events_at total_flow total_node two_epochs ≡ Notified total_node (1 ∷ []) ∷ Delivered src_to_run (valued_at_epoch 1 10) ∷ []
+  pub on_edge : EventsComeOnInEdges → IsOneOf (in_edges total_flow total_node) src_to_run
 
 -- the laws of answers, of these nodes
 pub record AnswersApply : Type 0 where

@@ -42,7 +42,7 @@ use Rattle.fw_model.specs.Thinned.{ThinnedStampsCoverTheSame}
 use Rattle.fw_model.specs.Unions.{IsUnionOfChoices, IsUnion}
 use Rattle.fw_examples.specs.Flows.{loop_counts_up, pair, regroup_by_three, two_batches, out, src, big, big_to_out, numbered_both, numbers, numbered_epoch, src_to_big, value_at}
 use Rattle.fw_examples.specs.Loop.{counted_rounds, counting_failed, restored, under_way, message, round, fed_back_edge}
-use Rattle.fw_examples.specs.RunningTotal.{valued_at_epoch, come_back, epoch_kept, next_epochs, outcomes_through_recovery, outcomes_to_failure, outcomes_without_failure, output_failed, run, run_to_out, src_to_run, steps_to_failure, total_flow, totals, totals_denoted, two_epochs, two_epochs_kept, two_kept_noting}
+use Rattle.fw_examples.specs.RunningTotal.{valued_at_epoch, come_back, epoch_kept, next_epochs, outcomes_through_recovery, outcomes_to_failure, outcomes_without_failure, output_failed, total_node, run_to_out, src_to_run, steps_to_failure, total_flow, totals, totals_denoted, two_epochs, two_epochs_kept, two_kept_noting}
 use Rattle.fw_examples.specs.Witnesses.{both_rounds, complete_then, complete_two, first_rounds, inc, joined_rounds, kept_epoch, kept_rounds, two_rounds, all_failed, four_epochs, last_taken, steps_by_themselves}
 use Rattle.fw_model.specs.Resending.{HoldsWhatIsSentAgain, LogHoldsWhatIsSentAgain, at_receiver, messages_to_resend}
 use Rattle.fw_model.specs.Writes.{Ascends, CountsWritten, HasOne, IsCheckpointOf, IsKeptWithin, IsLoggedOnce, IsWrittenAsAsked, MayKeepNothingIfCollected, NothingComesInside, not_collected}
@@ -82,7 +82,7 @@ pub record RunsApply : Type 0 where
   pub step : recoveries.StepsKeepHistoriesLegal → IsLegal totals (events come_back.history)
   pub through : recoveries.RunsStayLegalThroughRecoveries → IsLegal totals (events come_back.history)
   pub candidates : recoveries.CandidatesLieWithinSettled
-      → Within (node_frontier total_flow run (until 2)) (node_frontier total_flow run (until 3))
+      → Within (node_frontier total_flow total_node (until 2)) (node_frontier total_flow total_node (until 3))
   pub settled : recoveries.SettledStaysDenoted → IsDenotedInside totals totals_denoted output_failed
   pub full : recoveries.DenotedIsFull → IsFull totals output_failed
   pub shown : recoveries.AcknowledgementsShowDenotationThroughRecoveries
@@ -98,9 +98,9 @@ pub record ChoosingApplies : Type 0 where
   pub recovered : choosing.FailedNodesAreRecovered → (next : Machine) × (choice : Choice) × StepsTo totals output_failed Recover next (did (cuts choice))
   pub next : choosing.ReachedStatesHaveOneNextState → (step : Step)
       → (next : Machine) × (outcome : Outcome) × IsTheNext totals output_failed step next outcome
-  pub holds : choosing.LargestChoiceHoldsLowWatermark → IsCutWithin totals.flow run (At (until 2)) (cut_of two_epochs_kept run)
+  pub holds : choosing.LargestChoiceHoldsLowWatermark → IsCutWithin totals.flow total_node (At (until 2)) (cut_of two_epochs_kept total_node)
   pub rises : choosing.LowWatermarkNeverFalls
-      → Within (node_frontier total_flow run (until 0)) (node_frontier total_flow run (until 2))
+      → Within (node_frontier total_flow total_node (until 0)) (node_frontier total_flow total_node (until 2))
   pub ever_largest : choosing.LargestOfKeptIsLargestOfEver
       → IsLargest totals output_failed (IsCandidate totals output_failed (is_failed output_failed) ever) two_epochs_kept
   pub one_bag : choosing.TwoRunsShowOneBag → (recs : List Rec) → Shows out (2 ∷ []) recs outcomes_without_failure
@@ -130,13 +130,13 @@ pub record ChoicesApply : Type 0 where
   pub each_within : choices.EachLiesWithinUnion
       → IsChoiceWithin totals.flow (two_kept_noting (until 0)) (two_kept_noting (until 1)) × IsChoiceWithin totals.flow epoch_kept (two_kept_noting (until 1))
   pub candidate : choices.UnionOfCandidatesIsCandidate
-      → IsCandidate totals output_failed (is_failed output_failed) ever run (At (until 2))
+      → IsCandidate totals output_failed (is_failed output_failed) ever total_node (At (until 2))
   pub delivered : choices.DeliveredOfUnion
       → Within ((covers_in two_batches counting_failed).delivered 2 (At both_rounds))
       (join ((covers_in two_batches counting_failed).delivered 2 (At counted_rounds)) ((covers_in two_batches counting_failed).delivered 2 (At first_rounds)))
   pub notified : choices.NotifiedOfUnion
-      → Within ((covers_in totals output_failed).notified run (At (until 2)))
-      (join ((covers_in totals output_failed).notified run (At (until 2))) ((covers_in totals output_failed).notified run (At (until 1))))
+      → Within ((covers_in totals output_failed).notified total_node (At (until 2)))
+      (join ((covers_in totals output_failed).notified total_node (At (until 2))) ((covers_in totals output_failed).notified total_node (At (until 1))))
   pub discarded : choices.DiscardedOfUnion
       → Within ((covers_in two_batches counting_failed).discarded 3 (At both_rounds))
       (join ((covers_in two_batches counting_failed).discarded 3 (At counted_rounds)) ((covers_in two_batches counting_failed).discarded 3 (At first_rounds)))
@@ -145,13 +145,13 @@ pub record ChoicesApply : Type 0 where
 
 -- the laws of deliveries and of complete frontiers, of the histories of the running total, and of the sequence
 pub record DeliveriesApply : Type 0 where
-  pub stays_closed : deliveries.ClosedStampsStayClosed → IsClosedFor totals (next_epochs ++ two_epochs) run (1 ∷ [])
+  pub stays_closed : deliveries.ClosedStampsStayClosed → IsClosedFor totals (next_epochs ++ two_epochs) total_node (1 ∷ [])
   pub final : deliveries.DeliveredUpToClosedIsFinal
       → recs_at (1 ∷ []) (delivered_messages (next_epochs ++ two_epochs) src_to_run) ≡ recs_at (1 ∷ []) (delivered_messages two_epochs src_to_run)
   pub denoted_up_to : deliveries.DeliveredUpToClosedIsDenoted
       → sorted_recs (recs_at (1 ∷ []) (delivered_messages two_epochs src_to_run)) ≡ bag_at totals_denoted src_to_run (1 ∷ [])
   pub come_last : deliveries.NotificationsComeLast
-      → AllByRecursion (λ v. (event_node total_flow v == run && leq (event_stamp v) (1 ∷ [])) ≡ false) (next_epochs ++ Delivered run_to_out (valued_at_epoch 1 10) ∷ [])
+      → AllByRecursion (λ v. (event_node total_flow v == total_node && leq (event_stamp v) (1 ∷ [])) ≡ false) (next_epochs ++ Delivered run_to_out (valued_at_epoch 1 10) ∷ [])
   pub ascend : deliveries.NumberedDeliveriesAscend → AreNumberedInOrder (delivered_messages numbered_both 1)
   pub sent_denoted : deliveries.SentInsidePhiIsDenoted
       → sorted_recs (recs_at (1 ∷ []) (sent_messages totals two_epochs run_to_out)) ≡ bag_at totals_denoted run_to_out (1 ∷ [])
@@ -173,7 +173,7 @@ pub record LegalHistoriesApply : Type 0 where
   pub events_in_domain : legal.LegalEventsAreInDomain → (p : ℕ) → AreEventsInDomain total_flow (next_epochs ++ two_epochs) p
   pub messages_in_domain : legal.LegalMessagesAreInDomain → (e : ℕ)
       → AllByRecursion (λ (m : Message). in_domain (bounds_of_edge total_flow e) m.at ≡ true) (sent_messages totals (next_epochs ++ two_epochs) e)
-  pub inputs_inject : legal.OnlyInputsInject → injected_count run (next_epochs ++ two_epochs) ≡ 0
+  pub inputs_inject : legal.OnlyInputsInject → injected_count total_node (next_epochs ++ two_epochs) ≡ 0
   pub notified_in_order : complete.SequencesAreNotifiedInOrder → IsNotifiedInOrder regroup_by_three numbered_both 1
   pub from_inside : complete.LegalInsidePhiComesFromInside → ComesFromInside numbers numbered_both 1 (kept_epoch 1)
 
@@ -221,11 +221,11 @@ pub record RestoringApplies : Type 0 where
       → AllByRecursion (λ (write : Write). CountsWritten totals output_failed come_back write.node write.written) come_back.writes
   pub as_asked : restoring.CheckpointsAreAsTheyWereAsked
       → AllByRecursion (λ (write : Write). IsWrittenAsAsked totals output_failed write.node write.written) output_failed.writes
-  pub ascend : restoring.CheckpointsAscend → Ascends totals output_failed.settled run (until 1) (drop 1 output_failed.writes)
+  pub ascend : restoring.CheckpointsAscend → Ascends totals output_failed.settled total_node (until 1) (drop 1 output_failed.writes)
   pub nothing_inside : restoring.NothingComesInsideCheckpoints
       → AllByRecursion (λ (write : Write). NothingComesInside totals output_failed write.node write.written) output_failed.writes
   pub at_cut : restoring.CheckpointsAtCutsAreKept
-      → (only : HasOne (IsCheckpointOf run (until 2)) output_failed.writes) × (only.one.stage ≡ acknowledged)
+      → (only : HasOne (IsCheckpointOf total_node (until 2)) output_failed.writes) × (only.one.stage ≡ acknowledged)
   pub watermarks : restoring.KeptWatermarksLieWithinToday
       → AllByRecursion (λ (write : Write). IsKeptWithin totals output_failed.low write.written) output_failed.writes
   pub cut_batch : restoring.BatchesOutsideCutsLieOutsideLow
@@ -367,14 +367,14 @@ pub record DenotationApplies : Type 0 where
 -- the running total that does
 pub record WritesApply : Type 0 where
   pub differ : fronts.CheckpointsDiffer
-      → AllByRecursion (λ (other : Write). (g : Front) (also : List Front) → other.node ≡ run → other.written ≡ checkpoint g also → g ≢ until 1) (drop 1 output_failed.writes)
+      → AllByRecursion (λ (other : Write). (g : Front) (also : List Front) → other.node ≡ total_node → other.written ≡ checkpoint g also → g ≢ until 1) (drop 1 output_failed.writes)
   pub have_stamps : fronts.CheckpointsHaveStamps
       → AllByRecursion (λ (write : Write). (f : Front) (low : List Front) → write.written ≡ checkpoint f low → f ≢ no_stamps (bounds_of total_flow write.node)) output_failed.writes
   pub newest : writes.NewestCheckpointIsKept
-      → newest_checkpoint run (until 0) output_failed.writes ≡ newest_checkpoint run (until 0) (filter not_collected output_failed.writes)
+      → newest_checkpoint total_node (until 0) output_failed.writes ≡ newest_checkpoint total_node (until 0) (filter not_collected output_failed.writes)
   pub in_order : writes.LoggedEventsAreInOrder → AreLoggedInOrder events_logged event_collected
   pub each_logged : writes.LiveNodesLogEachEvent
-      → AllByRecursion (λ (v : SerialEvent). event_node total_logged.flow v.event ≡ run → IsLoggedFor run v.serial none_collected.writes) none_collected.history
+      → AllByRecursion (λ (v : SerialEvent). event_node total_logged.flow v.event ≡ total_node → IsLoggedFor total_node v.serial none_collected.writes) none_collected.history
 
 -- all, at the select that comes back with all that it took
 abbrev pub all_selected : Frontier
@@ -398,8 +398,8 @@ pub record ReplayApplies : Type 0 where
       → sent_by events_logged big (events_inside still_needed (events_at events_logged.flow big one_came_through))
       ≡ messages_from still_needed (sent_by events_logged big (events_at events_logged.flow big one_came_through))
   pub same_part : replay.SamePartSendsTheSame
-      → messages_from (node_frontier total_flow run (until 2)) (sent_by totals run (events_at total_flow run two_epochs))
-      ≡ messages_from (node_frontier total_flow run (until 2)) (sent_by totals run (events_at total_flow run (next_epochs ++ two_epochs)))
+      → messages_from (node_frontier total_flow total_node (until 2)) (sent_by totals total_node (events_at total_flow total_node two_epochs))
+      ≡ messages_from (node_frontier total_flow total_node (until 2)) (sent_by totals total_node (events_at total_flow total_node (next_epochs ++ two_epochs)))
 
 -- the latest event of the loop
 abbrev pub counted_once_more : Event
@@ -436,8 +436,8 @@ pub record ProgressApplies : Type 0 where
 abbrev pub ThinnedApplies : Type 0
 ThinnedApplies =
     ThinnedStampsCoverTheSame
-    → cover (bounds_of total_flow run) (filter (node_frontier total_flow run (until 3)) (drop 1 four_epochs))
-    ≡ cover (bounds_of total_flow run) (filter (node_frontier total_flow run (until 3)) four_epochs)
+    → cover (bounds_of total_flow total_node) (filter (node_frontier total_flow total_node (until 3)) (drop 1 four_epochs))
+    ≡ cover (bounds_of total_flow total_node) (filter (node_frontier total_flow total_node (until 3)) four_epochs)
 
 -- the laws of `auto`, of the state of the failure, and of that in which all nodes are failed
 pub record AutoApplies : Type 0 where

@@ -26,7 +26,7 @@ use Rattle.fw_examples.specs.Flows.{big, big_to_out, pair, src}
 use Rattle.fw_examples.specs.Logs.{all_but_the_last, event_collected, events_logged, first_message, none, one_came_through, second_message}
 use Rattle.fw_examples.specs.Loop.{with_serials}
 use Rattle.fw_examples.specs.OffersOfTotals.{record_of_checkpoint, recorded_up_to}
-use Rattle.fw_examples.specs.RunningTotal.{alike, come_back, run, total_flow, totals, two_epochs}
+use Rattle.fw_examples.specs.RunningTotal.{alike, come_back, total_node, total_flow, totals, two_epochs}
 
 -- ---- a select that logged two events
 
@@ -114,7 +114,7 @@ abbrev pub kept_checkpoint : ℕ → Recorded → Entry
 kept_checkpoint id what =
     record {
       id = id;
-      node = run;
+      node = total_node;
       written = written.Checkpoint what (record { delivered = []; notified = []; sent = [] }) 0;
       acknowledged = true;
     }
@@ -126,8 +126,8 @@ both_checkpoints = kept_checkpoint 0 record_of_first ∷ kept_checkpoint 1 recor
 -- the machine's writes before the collection
 abbrev pub checkpoints_written : List Write
 checkpoints_written =
-    record { node = run; written = checkpoint (until 1) (alike 0); stage = acknowledged }
-    ∷ record { node = run; written = checkpoint (until 2) (alike 0); stage = acknowledged }
+    record { node = total_node; written = checkpoint (until 1) (alike 0); stage = acknowledged }
+    ∷ record { node = total_node; written = checkpoint (until 2) (alike 0); stage = acknowledged }
     ∷ []
 
 -- Of two checkpoints the earlier one goes, which lies strictly within the watermark.

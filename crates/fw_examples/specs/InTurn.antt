@@ -10,11 +10,11 @@ use Rattle.fw_model.specs.Steps.{GrowsTo, Outcome, Run, did, lows, silent}
 use Rattle.fw_progress.specs.Laws.{NoneSettledAtFirst, OneMoreSettles, OthersSettleNothing, SettledInTurnIsSettled}
 use Rattle.fw_progress.specs.Settle.{AreGrownBefore, SettlesMore, NoneGrows, is_growing}
 use Rattle.fw_examples.specs.Flows.{out, src}
-use Rattle.fw_examples.specs.RunningTotal.{alike, come_back, outcomes_up_to_two, output_failed, run, src_to_run, steps_up_to_two, total_flow, totals, two_epochs_kept}
+use Rattle.fw_examples.specs.RunningTotal.{alike, come_back, outcomes_up_to_two, output_failed, total_node, src_to_run, steps_up_to_two, total_flow, totals, two_epochs_kept}
 
 -- the steps after the collection in which epoch 2 is summed, epoch 3 is sent, and the output fails, with none in which it settles
 abbrev pub steps_unsettled : List Step
-steps_unsettled = Inject src ∷ Deliver src_to_run None ∷ Notify run (Some (2 ∷ [])) ∷ Inject src ∷ Fail (out ∷ []) ∷ []
+steps_unsettled = Inject src ∷ Deliver src_to_run None ∷ Notify total_node (Some (2 ∷ [])) ∷ Inject src ∷ Fail (out ∷ []) ∷ []
 
 -- the steps before them too
 abbrev pub steps_to_unsettled : List Step
@@ -42,10 +42,10 @@ pub record EpochsSettleInTurn : Type 0 where
   pub reached : Run totals (first_state totals) steps_to_unsettled outcomes_to_unsettled state_unsettled
   pub complete : IsComplete totals (events state_unsettled.history) (family_of total_flow complete_in_turn)
   pub input_settles : is_growing state_unsettled.failed state_unsettled.settled complete_in_turn src ≡ true
-  pub total_settles : is_growing state_unsettled.failed state_unsettled.settled complete_in_turn run ≡ true
+  pub total_settles : is_growing state_unsettled.failed state_unsettled.settled complete_in_turn total_node ≡ true
   pub output_settles_nothing : is_growing state_unsettled.failed state_unsettled.settled complete_in_turn out ≡ false
   pub first : NoneSettledAtFirst → AreSettledBefore (alike 2) src
-  pub input_settled : OneMoreSettles → AreSettledBefore (until 4 ∷ until 2 ∷ until 2 ∷ []) run
+  pub input_settled : OneMoreSettles → AreSettledBefore (until 4 ∷ until 2 ∷ until 2 ∷ []) total_node
   pub total_settled : OneMoreSettles → AreSettledBefore complete_in_turn out
   pub all_settled : OthersSettleNothing → AreSettledBefore complete_in_turn 3
   pub grows : SettledInTurnIsSettled → GrowsTo totals state_unsettled (family_of total_flow complete_in_turn) complete_in_turn

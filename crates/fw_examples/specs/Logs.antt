@@ -18,7 +18,7 @@ use Rattle.fw_model.specs.Resending.{logged_messages, messages_to_resend}
 use Rattle.fw_model.specs.Steps.{Outcome, Run, acked, cuts, did, is_given_up, lies_below, lows, offers, silent, sends_inside}
 use Rattle.fw_examples.specs.Flows.{fed, pair, big, big_to_out, out, selecting, src, src_to_big}
 use Rattle.fw_examples.specs.Loop.{with_serials}
-use Rattle.fw_examples.specs.RunningTotal.{alike, run, run_to_out, src_to_run, summing}
+use Rattle.fw_examples.specs.RunningTotal.{alike, total_node, run_to_out, src_to_run, summing}
 use Rattle.fw_flow.specs.declared.kind.Policy.TheVariants as policy
 
 -- one batch of two recs that are selected
@@ -205,7 +205,7 @@ total_logged = fed (summing policy.Full) single_rec
 -- epoch 0 came through, the latest event first
 abbrev pub total_came_through : List Event
 total_came_through =
-    Delivered run_to_out first_message ∷ Notified run (0 ∷ []) ∷ Delivered src_to_run first_message ∷ Injected src 0 ∷ []
+    Delivered run_to_out first_message ∷ Notified total_node (0 ∷ []) ∷ Delivered src_to_run first_message ∷ Injected src 0 ∷ []
 
 -- both events of the running total were logged, and after the collection both are kept
 abbrev pub none_collected : Machine
@@ -214,8 +214,8 @@ none_collected = record {
   next = 4;
   settled = [] ∷ [] ∷ [] ∷ [];
   writes =
-      record { node = run; written = logged_event 1; stage = acknowledged }
-      ∷ record { node = run; written = logged_event 2; stage = acknowledged }
+      record { node = total_node; written = logged_event 1; stage = acknowledged }
+      ∷ record { node = total_node; written = logged_event 2; stage = acknowledged }
       ∷ [];
   failed = false ∷ false ∷ false ∷ [];
   ack_counts = 0 ∷ 0 ∷ 1 ∷ [];
@@ -225,7 +225,7 @@ none_collected = record {
 -- the steps to that state
 abbrev pub steps_with_total : List Step
 steps_with_total =
-    Inject src ∷ Deliver src_to_run None ∷ Notify run (Some (0 ∷ [])) ∷ Deliver run_to_out None ∷ Progress ∷ Persist ∷ Persist ∷ Ack out
+    Inject src ∷ Deliver src_to_run None ∷ Notify total_node (Some (0 ∷ [])) ∷ Deliver run_to_out None ∷ Progress ∷ Persist ∷ Persist ∷ Ack out
     ∷ Collect ∷ []
 
 -- what they show
@@ -238,7 +238,7 @@ outcomes_with_total =
 -- sent there below the output's: later epochs are summed from them.
 pub record KeepsEventsOfATotal : Type 0 where
   pub reached : Run total_logged (first_state total_logged) steps_with_total outcomes_with_total none_collected
-  pub inside : node_frontier total_logged.flow run (front_of none_collected.low run) (0 ∷ []) ≡ true
-  pub sent_inside : sends_inside total_logged none_collected.low run (0 ∷ []) (out_edges total_logged.flow run) ≡ true
-  pub first_kept : lies_below total_logged none_collected.low none_collected.history run (logged_event 1) ≡ false
-  pub second_kept : lies_below total_logged none_collected.low none_collected.history run (logged_event 2) ≡ false
+  pub inside : node_frontier total_logged.flow total_node (front_of none_collected.low total_node) (0 ∷ []) ≡ true
+  pub sent_inside : sends_inside total_logged none_collected.low total_node (0 ∷ []) (out_edges total_logged.flow total_node) ≡ true
+  pub first_kept : lies_below total_logged none_collected.low none_collected.history total_node (logged_event 1) ≡ false
+  pub second_kept : lies_below total_logged none_collected.low none_collected.history total_node (logged_event 2) ≡ false

@@ -12,7 +12,7 @@ use Rattle.fw_model.specs.Choice.{IsConsistentBy, IsLargestBy, until}
 use Rattle.fw_model.specs.LawsOfOffers.{ConsistentByOffersIsConsistent, LargestByOffersIsLargest}
 use Rattle.fw_model.specs.Machine.{is_failed}
 use Rattle.fw_model.specs.Offers.{RecordsAscend, AreOffersIn, IsOffered, covers_of, records_of}
-use Rattle.fw_examples.specs.RunningTotal.{output_failed, run, run_to_out, src_to_run, total_flow, totals, two_epochs_kept, two_kept_noting}
+use Rattle.fw_examples.specs.RunningTotal.{output_failed, total_node, run_to_out, src_to_run, total_flow, totals, two_epochs_kept, two_kept_noting}
 
 -- a message on an edge, alone, that comes from an event at its own epoch
 abbrev pub alone_at : ℕ → ℕ → Counted
@@ -77,10 +77,10 @@ offers_of_totals = offer_of_input ∷ offer_of_total ∷ offer_of_output ∷ []
 -- The data are what the machine offers in the state of the failure, with an acknowledged checkpoint as a record. So the laws
 -- of offers give what is consistent and what is largest by the data.
 pub record CheckpointsAreOffered : Type 0 where
-  pub way : way_of total_flow run ≡ Checkpoints
-  pub recorded : records_of offers_of_totals run ≡ record_of_checkpoint ∷ []
-  pub offered : IsOffered total_flow offers_of_totals run (At (until 2))
-  pub present : IsOffered total_flow offers_of_totals run Present
+  pub way : way_of total_flow total_node ≡ Checkpoints
+  pub recorded : records_of offers_of_totals total_node ≡ record_of_checkpoint ∷ []
+  pub offered : IsOffered total_flow offers_of_totals total_node (At (until 2))
+  pub present : IsOffered total_flow offers_of_totals total_node Present
   pub ascending : RecordsAscend total_flow offers_of_totals
   pub same : AreOffersIn totals output_failed (is_failed output_failed) offers_of_totals
   pub consistent : ConsistentByOffersIsConsistent

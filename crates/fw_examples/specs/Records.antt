@@ -16,12 +16,12 @@ use Rattle.fw_record.specs.declared.record.Record.TheVariants.{Event, State}
 use Rattle.fw_examples.specs.Flows.{loop_counts_up, pair}
 use Rattle.fw_examples.specs.Loop.{counted_rounds, fed_back_edge, message, round}
 use Rattle.fw_examples.specs.OffersOfTotals.{record_of_checkpoint}
-use Rattle.fw_examples.specs.RunningTotal.{run, src_to_run, total_flow}
+use Rattle.fw_examples.specs.RunningTotal.{total_node, src_to_run, total_flow}
 
 -- the running total after epochs 0 and 1: it sent one message, and the values of key 1 sum up to 10
 abbrev pub total_saved : Checkpoint
 total_saved = record {
-  node = run;
+  node = total_node;
   recorded = record_of_checkpoint;
   state = record { sent = 1; sends = []; entries = Totals (pair 1 10 ∷ []) };
   log = [];
@@ -63,14 +63,14 @@ rounds_saved = record {
 
 -- the rec of epoch 1 was delivered to the running total
 abbrev pub rec_came : Record
-rec_came = Event run (Deliver src_to_run (1 ∷ []) (pair 1 10))
+rec_came = Event total_node (Deliver src_to_run (1 ∷ []) (pair 1 10))
 
 -- Two checkpoints have a spelling and are of their nodes, one of them with fronts of two stamps and a log; and an event has
 -- this one, of which no field is broken. What the laws say of them: each is read again, and the fronts are canonical. Without
 -- the last byte the event's last number is the first broken field.
 pub record RecordsAreSpelled : Type 0 where
   pub total : IsSound (State total_saved)
-  pub of_total : IsRecordOfCheckpoint total_flow run (until 2) (State total_saved)
+  pub of_total : IsRecordOfCheckpoint total_flow total_node (until 2) (State total_saved)
   pub rounds : IsSound (State rounds_saved)
   pub of_rounds : IsRecordOfCheckpoint loop_counts_up rounds_meet counted_rounds (State rounds_saved)
   pub event : IsSound rec_came

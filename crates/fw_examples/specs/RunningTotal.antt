@@ -23,8 +23,8 @@ use Rattle.fw_examples.specs.Loop.{with_serials}
 use Rattle.fw_flow.specs.declared.kind.Policy.TheVariants as policy
 
 -- the running total
-abbrev pub run : ℕ
-run = 1
+abbrev pub total_node : ℕ
+total_node = 1
 
 -- the edge from the input to the running total
 abbrev pub src_to_run : ℕ
@@ -36,7 +36,7 @@ run_to_out = 1
 
 -- the running total, with a policy
 abbrev pub summing : Policy → Node
-summing keeping = node (codes "run") Total keeping
+summing keeping = node (codes "total_node") Total keeping
 
 -- the dataflow whose running total writes checkpoints when asked
 abbrev pub total_flow : Dataflow
@@ -62,7 +62,7 @@ valued_at_epoch x value = record { at = x ∷ []; rec = pair 1 value; causes = (
 abbrev pub two_epochs : List Event
 two_epochs =
     Delivered run_to_out (valued_at_epoch 1 10)
-    ∷ Notified run (1 ∷ [])
+    ∷ Notified total_node (1 ∷ [])
     ∷ Delivered src_to_run (valued_at_epoch 1 10)
     ∷ Injected src 1
     ∷ Injected src 0
@@ -70,7 +70,7 @@ two_epochs =
 
 -- epoch 2 was summed after them, and epoch 3 sent
 abbrev pub next_epochs : List Event
-next_epochs = Injected src 3 ∷ Notified run (2 ∷ []) ∷ Delivered src_to_run (valued_at_epoch 2 5) ∷ Injected src 2 ∷ []
+next_epochs = Injected src 3 ∷ Notified total_node (2 ∷ []) ∷ Delivered src_to_run (valued_at_epoch 2 5) ∷ Injected src 2 ∷ []
 
 -- the epochs below k at each node
 abbrev pub alike : ℕ → List Front
@@ -83,9 +83,9 @@ output_failed = record {
   next = 9;
   settled = until 3 ∷ until 3 ∷ until 2 ∷ [];
   writes =
-      record { node = run; written = checkpoint (until 1) (alike 0); stage = collected }
-      ∷ record { node = run; written = checkpoint (until 2) (alike 0); stage = acknowledged }
-      ∷ record { node = run; written = checkpoint (until 3) (alike 2); stage = in_flight }
+      record { node = total_node; written = checkpoint (until 1) (alike 0); stage = collected }
+      ∷ record { node = total_node; written = checkpoint (until 2) (alike 0); stage = acknowledged }
+      ∷ record { node = total_node; written = checkpoint (until 3) (alike 2); stage = in_flight }
       ∷ [];
   failed = false ∷ false ∷ true ∷ [];
   ack_counts = 0 ∷ 0 ∷ 2 ∷ [];
@@ -110,8 +110,8 @@ come_back = record output_failed {
   history = with_serials two_epochs;
   settled = alike 2;
   writes =
-      record { node = run; written = checkpoint (until 1) (alike 0); stage = collected }
-      ∷ record { node = run; written = checkpoint (until 2) (alike 0); stage = acknowledged }
+      record { node = total_node; written = checkpoint (until 1) (alike 0); stage = collected }
+      ∷ record { node = total_node; written = checkpoint (until 2) (alike 0); stage = acknowledged }
       ∷ [];
   failed = false ∷ false ∷ false ∷ [];
 }
@@ -119,8 +119,8 @@ come_back = record output_failed {
 -- the steps in which epochs 0 and 1 come through, with a checkpoint after each, and are acknowledged
 abbrev pub steps_up_to_two : List Step
 steps_up_to_two =
-    Inject src ∷ Progress ∷ Checkpoint run ∷ Persist
-    ∷ Inject src ∷ Deliver src_to_run None ∷ Notify run (Some (1 ∷ [])) ∷ Deliver run_to_out None ∷ Progress ∷ Checkpoint run ∷ Persist
+    Inject src ∷ Progress ∷ Checkpoint total_node ∷ Persist
+    ∷ Inject src ∷ Deliver src_to_run None ∷ Notify total_node (Some (1 ∷ [])) ∷ Deliver run_to_out None ∷ Progress ∷ Checkpoint total_node ∷ Persist
     ∷ Ack out ∷ Ack out ∷ []
 
 -- what they show
@@ -130,7 +130,7 @@ outcomes_up_to_two = replicate 11 (did silent) ++ did (acked out (0 ∷ []) []) 
 -- the steps after the collection in which epoch 2 is summed and a checkpoint asked, epoch 3 is sent, and the output fails
 abbrev pub steps_of_failure : List Step
 steps_of_failure =
-    Inject src ∷ Deliver src_to_run None ∷ Notify run (Some (2 ∷ [])) ∷ Progress ∷ Checkpoint run ∷ Inject src ∷ Fail (out ∷ []) ∷ []
+    Inject src ∷ Deliver src_to_run None ∷ Notify total_node (Some (2 ∷ [])) ∷ Progress ∷ Checkpoint total_node ∷ Inject src ∷ Fail (out ∷ []) ∷ []
 
 -- they show nothing
 abbrev pub outcomes_of_failure : List Outcome
@@ -139,7 +139,7 @@ outcomes_of_failure = replicate 7 (did silent)
 -- the steps that bring epoch 2 through
 abbrev pub steps_of_sum : List Step
 steps_of_sum =
-    Inject src ∷ Deliver src_to_run None ∷ Notify run (Some (2 ∷ [])) ∷ Deliver run_to_out None ∷ Progress ∷ Ack out ∷ []
+    Inject src ∷ Deliver src_to_run None ∷ Notify total_node (Some (2 ∷ [])) ∷ Deliver run_to_out None ∷ Progress ∷ Ack out ∷ []
 
 -- what they show
 abbrev pub outcomes_of_sum : List Outcome

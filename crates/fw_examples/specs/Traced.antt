@@ -9,7 +9,7 @@ use Rattle.fw_progress.specs.Laws.{TracesAreOfTheNode}
 use Rattle.fw_progress.specs.Trace.{IsTraceOf, delivered_on, stamps_notified, stamps_where_sent}
 use Rattle.fw_progress.specs.declared.traces.Traces.{Traces}
 use Rattle.fw_examples.specs.Flows.{src}
-use Rattle.fw_examples.specs.RunningTotal.{run, src_to_run, total_flow, totals, two_epochs}
+use Rattle.fw_examples.specs.RunningTotal.{total_node, src_to_run, total_flow, totals, two_epochs}
 
 -- two epochs came through, and the input sent two more
 abbrev pub two_more_sent : List Event
@@ -18,9 +18,9 @@ two_more_sent = Injected src 3 ∷ Injected src 2 ∷ two_epochs
 -- These are the traces of the running total once two epochs came through, with the epoch that was delivered to it, of which it was
 -- notified, and at which it sent. So they are its traces once the input sent two more.
 pub record AreTracesOfTwo (traces : Traces) : Type 0 where
-  pub two : (base : Frontier) → IsTraceOf totals two_epochs run base traces
+  pub two : (base : Frontier) → IsTraceOf totals two_epochs total_node base traces
   pub came : Contains (delivered_on traces src_to_run) (1 ∷ [])
-  pub told : Contains (stamps_notified traces run) (1 ∷ [])
-  pub sent : Contains (stamps_where_sent traces run) (1 ∷ [])
-  pub same : events_at total_flow run two_more_sent ≡ events_at total_flow run two_epochs
-  pub two_more : TracesAreOfTheNode → (base : Frontier) → IsTraceOf totals two_more_sent run base traces
+  pub told : Contains (stamps_notified traces total_node) (1 ∷ [])
+  pub sent : Contains (stamps_where_sent traces total_node) (1 ∷ [])
+  pub same : events_at total_flow total_node two_more_sent ≡ events_at total_flow total_node two_epochs
+  pub two_more : TracesAreOfTheNode → (base : Frontier) → IsTraceOf totals two_more_sent total_node base traces

@@ -11,16 +11,16 @@ use Rattle.fw_monitor.specs.Descent.{HasConsistent}
 use Rattle.fw_monitor.specs.Trail.{IsTrail, TrailEndsAtLargest, TrailIsOne}
 use Rattle.fw_examples.specs.Flows.{src}
 use Rattle.fw_examples.specs.OffersOfTotals.{offers_of_totals}
-use Rattle.fw_examples.specs.RunningTotal.{run, run_to_out, src_to_run, total_flow, two_epochs_kept}
+use Rattle.fw_examples.specs.RunningTotal.{total_node, run_to_out, src_to_run, total_flow, two_epochs_kept}
 
 -- What is lowered to epochs 0 and 1: the running total, which sent the output more than it keeps; then the input, which sent the
 -- running total more than its checkpoint holds; then the notices of both, since they lie in what is kept.
 abbrev pub trail_of_totals : List Lowering
 trail_of_totals =
-    record { node = run; part = part.Cut; to = At (until 2); by = cause.Discarded run_to_out }
+    record { node = total_node; part = part.Cut; to = At (until 2); by = cause.Discarded run_to_out }
     ∷ record { node = src; part = part.Cut; to = At (until 2); by = cause.Discarded src_to_run }
     ∷ record { node = src; part = part.Note; to = At (until 2); by = cause.Own }
-    ∷ record { node = run; part = part.Note; to = At (until 2); by = cause.Own }
+    ∷ record { node = total_node; part = part.Note; to = At (until 2); by = cause.Own }
     ∷ []
 
 -- It leads from all that is offered to the choice of the recovery. So the laws of trails say that there is no other one, and that

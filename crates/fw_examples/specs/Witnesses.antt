@@ -30,7 +30,7 @@ use Rattle.fw_model.specs.Unions.{IsUnionOfChoices, IsUnionOfCuts}
 use Rattle.fw_model.specs.Writes.{IsSamePart}
 use Rattle.fw_examples.specs.Flows.{loop_counts_up, pair, regroup_by_three, two_batches, out, src, numbered_both, numbered_epoch, numbers, value_at}
 use Rattle.fw_examples.specs.Loop.{counted_rounds, counting_failed, message, outcomes_left, outcomes_shown, restored, round, steps_left, steps_taken, under_way, without_the_second}
-use Rattle.fw_examples.specs.RunningTotal.{alike, valued_at_epoch, come_back, epoch_kept, next_epochs, outcomes_through_recovery, outcomes_to_failure, outcomes_up_to_two, outcomes_without_failure, output_failed, run, run_to_out, src_to_run, steps_through_recovery, steps_to_failure, steps_up_to_two, steps_without_failure, total_flow, totals, totals_denoted, two_epochs, two_epochs_kept, two_kept_noting}
+use Rattle.fw_examples.specs.RunningTotal.{alike, valued_at_epoch, come_back, epoch_kept, next_epochs, outcomes_through_recovery, outcomes_to_failure, outcomes_up_to_two, outcomes_without_failure, output_failed, total_node, run_to_out, src_to_run, steps_through_recovery, steps_to_failure, steps_up_to_two, steps_without_failure, total_flow, totals, totals_denoted, two_epochs, two_epochs_kept, two_kept_noting}
 
 -- The running total is well formed, its batches have epochs, and the rounds are its denotation.
 pub record TotalsAreWellFormed : Type 0 where
@@ -74,7 +74,7 @@ pub record SomeIsSettled : Type 0 where
   pub denoted : IsDenotedInside totals totals_denoted output_failed
   pub settled : output_failed.settled ≡ until 3 ∷ until 3 ∷ until 2 ∷ []
   pub delivered : recs_at (1 ∷ []) (delivered_messages (events output_failed.history) run_to_out) ≡ pair 1 10 ∷ []
-  pub candidate : IsCandidate totals output_failed (is_failed output_failed) kept run (At (until 2))
+  pub candidate : IsCandidate totals output_failed (is_failed output_failed) kept total_node (At (until 2))
   pub enabled : IsEnabled totals (events output_failed.history) (Delivered src_to_run (valued_at_epoch 3 1))
 
 -- There the largest choice keeps two epochs of four, as the low watermark does, and checkpoints are chains; a checkpoint that
@@ -83,8 +83,8 @@ pub record SomethingIsChosen : Type 0 where
   pub largest : IsLargest totals output_failed (IsCandidate totals output_failed (is_failed output_failed) kept) two_epochs_kept
   pub low : output_failed.low ≡ alike 2
   pub chains : AreCheckpointsChains totals output_failed (is_failed output_failed) ever
-  pub offered_ever : IsCandidate totals output_failed (is_failed output_failed) ever run (At (until 1))
-  pub not_kept : IsCandidate totals output_failed (is_failed output_failed) kept run (At (until 1)) → ⊥
+  pub offered_ever : IsCandidate totals output_failed (is_failed output_failed) ever total_node (At (until 1))
+  pub not_kept : IsCandidate totals output_failed (is_failed output_failed) kept total_node (At (until 1)) → ⊥
 
 -- A recovery and a collection have something to choose there.
 pub record EachStepHasItsChoice : Type 0 where
@@ -130,9 +130,9 @@ pub record ChoicesUnite : Type 0 where
   pub union : IsUnionOfChoices totals (two_kept_noting (until 0)) epoch_kept (two_kept_noting (until 1))
   pub offered : (p : ℕ) → p < length total_flow.nodes
       → IsCandidate totals output_failed (is_failed output_failed) ever p (cut_of (two_kept_noting (until 1)) p)
-  pub checkpoints : way_of total_flow run ≡ Checkpoints
+  pub checkpoints : way_of total_flow total_node ≡ Checkpoints
   pub delivered : (covers_in totals output_failed).delivered src_to_run (At (until 2)) (1 ∷ []) ≡ true
-  pub notified : (covers_in totals output_failed).notified run (At (until 2)) (1 ∷ []) ≡ true
+  pub notified : (covers_in totals output_failed).notified total_node (At (until 2)) (1 ∷ []) ≡ true
   pub discarded : (covers_in totals output_failed).discarded run_to_out (At (until 2)) (1 ∷ []) ≡ true
 
 -- Not each consistent choice is the largest: what is kept offers another one too.
@@ -179,7 +179,7 @@ complete_two p = node_frontier total_flow p (front_of (alike 2) p)
 
 -- An epoch in which a rec was delivered is closed for the running total, and the history goes on with another delivery to it.
 pub record AnEpochIsClosed : Type 0 where
-  pub closed : IsClosedFor totals two_epochs run (1 ∷ [])
+  pub closed : IsClosedFor totals two_epochs total_node (1 ∷ [])
   pub goes_on : IsLegal totals (next_epochs ++ two_epochs)
   pub delivered_there : recs_at (1 ∷ []) (delivered_messages two_epochs src_to_run) ≡ pair 1 10 ∷ []
   pub bag : bag_at totals_denoted src_to_run (1 ∷ []) ≡ pair 1 10 ∷ []
@@ -189,8 +189,8 @@ pub record AnEpochIsClosed : Type 0 where
 abbrev pub NotifiedAndGoesOn : Type 0
 NotifiedAndGoesOn =
     IsLegal totals
-    ((Injected src 3 ∷ Notified run (2 ∷ []) ∷ Delivered src_to_run (valued_at_epoch 2 5) ∷ Injected src 2 ∷ Delivered run_to_out (valued_at_epoch 1 10) ∷ [])
-    ++ Notified run (1 ∷ []) ∷ Delivered src_to_run (valued_at_epoch 1 10) ∷ Injected src 1 ∷ Injected src 0 ∷ [])
+    ((Injected src 3 ∷ Notified total_node (2 ∷ []) ∷ Delivered src_to_run (valued_at_epoch 2 5) ∷ Injected src 2 ∷ Delivered run_to_out (valued_at_epoch 1 10) ∷ [])
+    ++ Notified total_node (1 ∷ []) ∷ Delivered src_to_run (valued_at_epoch 1 10) ∷ Injected src 1 ∷ Injected src 0 ∷ [])
 
 -- Once two epochs came through, a family is admissible that holds both, and the same was sent, delivered and denoted there;
 -- an enabled event is outside.
@@ -198,7 +198,7 @@ pub record TwoEpochsAreComplete : Type 0 where
   pub legal : IsLegal totals two_epochs
   pub admissible : IsAdmissible totals two_epochs complete_two
   pub inside : complete_two out (1 ∷ []) ≡ true
-  pub inside_phi : phi totals two_epochs run_to_out (complete_two run) (1 ∷ []) ≡ true
+  pub inside_phi : phi totals two_epochs run_to_out (complete_two total_node) (1 ∷ []) ≡ true
   pub was_sent : recs_at (1 ∷ []) (sent_messages totals two_epochs run_to_out) ≡ pair 1 10 ∷ []
   pub was_delivered : recs_at (1 ∷ []) (delivered_messages two_epochs run_to_out) ≡ pair 1 10 ∷ []
   pub bag : bag_at totals_denoted run_to_out (1 ∷ []) ≡ pair 1 10 ∷ []
@@ -230,7 +230,7 @@ pub record TotalsAreFiltered : Type 0 where
   pub inclusions : MeetsInclusions totals output_failed two_epochs_kept
   pub remains : events (filtered_history totals two_epochs_kept output_failed.history) ≡ two_epochs
   pub full : IsFull totals output_failed
-  pub cut : IsCutWithinSettled totals output_failed two_epochs_kept run
+  pub cut : IsCutWithinSettled totals output_failed two_epochs_kept total_node
   pub discarded : LiesInReceiver total_flow (covers_in totals output_failed) two_epochs_kept src_to_run
   pub no_log : can_resend (policy_of total_flow src) ≡ false
   pub was_pending : pending_messages totals (events output_failed.history) src_to_run ≡ valued_at_epoch 3 1 ∷ []
@@ -298,7 +298,7 @@ pub record NumbersAreDelivered : Type 0 where
 
 -- Of epochs 0 and 1 the running total did the same in the history of the failure as in that after the recovery.
 abbrev pub TwoEpochsAreTheSame : Type 0
-TwoEpochsAreTheSame = IsSamePart totals (next_epochs ++ two_epochs) two_epochs run (node_frontier total_flow run (until 2))
+TwoEpochsAreTheSame = IsSamePart totals (next_epochs ++ two_epochs) two_epochs total_node (node_frontier total_flow total_node (until 2))
 
 -- the epochs 0 to 3
 abbrev pub four_epochs : List Stamp
@@ -306,16 +306,16 @@ four_epochs = (0 ∷ []) ∷ (1 ∷ []) ∷ (2 ∷ []) ∷ (3 ∷ []) ∷ []
 
 -- Without the first one they are thinned inside the first two, which lie within the first three.
 pub record EpochsAreThinned : Type 0 where
-  pub thinned : IsThinned (node_frontier total_flow run (until 2)) four_epochs (drop 1 four_epochs)
-  pub within : Within (node_frontier total_flow run (until 2)) (node_frontier total_flow run (until 3))
+  pub thinned : IsThinned (node_frontier total_flow total_node (until 2)) four_epochs (drop 1 four_epochs)
+  pub within : Within (node_frontier total_flow total_node (until 2)) (node_frontier total_flow total_node (until 3))
 
 -- the state of the failure once the latest checkpoint is acknowledged
 abbrev pub all_written : Machine
 all_written = record output_failed {
   writes =
-      record { node = run; written = checkpoint (until 1) (alike 0); stage = collected }
-      ∷ record { node = run; written = checkpoint (until 2) (alike 0); stage = acknowledged }
-      ∷ record { node = run; written = checkpoint (until 3) (alike 2); stage = acknowledged }
+      record { node = total_node; written = checkpoint (until 1) (alike 0); stage = collected }
+      ∷ record { node = total_node; written = checkpoint (until 2) (alike 0); stage = acknowledged }
+      ∷ record { node = total_node; written = checkpoint (until 3) (alike 2); stage = acknowledged }
       ∷ [];
 }
 
@@ -339,5 +339,5 @@ all_failed = record (first_state totals) { failed = true ∷ true ∷ true ∷ [
 
 -- From there `auto` takes no step, since none is enabled.
 pub record NoStepIsTaken : Type 0 where
-  pub reached : Run totals (first_state totals) (Fail (src ∷ run ∷ out ∷ []) ∷ []) (did silent ∷ []) all_failed
+  pub reached : Run totals (first_state totals) (Fail (src ∷ total_node ∷ out ∷ []) ∷ []) (did silent ∷ []) all_failed
   pub none : IsAutoRun totals all_failed 1 [] all_failed

@@ -52,7 +52,7 @@ use Rattle.fw_running.specs.Ready.{HasSomething, CanAcknowledge}
 use Rattle.fw_running.specs.Shaped.{IsWrittenOf, IsShaped}
 use Rattle.fw_running.specs.Stands.{Stands}
 use Rattle.fw_running.specs.Steps.{outcome_of, Follows, TakesStep}
-use Rattle.fw_running.specs.declared.stepped.Effect.TheVariants.{Silent}
+use Rattle.fw_running.specs.declared.stepped.Effect.TheVariants.{Quiet}
 use Rattle.fw_running.specs.declared.stepped.Stepped.{Stepped}
 use Rattle.fw_running.specs.declared.stepped.Stepped.TheVariants.{Did, Idle}
 
@@ -577,7 +577,7 @@ next_more nodes i p any failed old now next l is h f =
     let more : take (i + 1) nodes ≡ take i nodes ++ p ∷ [] = take_more nodes i p l ∙ ap (λ y. take i nodes ++ y ∷ []) (sym is) in
     subst (λ ps. HaveFailed ps (any || failed) old next) (sym more) (if_more (take i nodes) any failed old now next p h f)
 
-pub fail-takes : (ps : List ℕ) (any : Bool) (old now : Running) (stepped : Stepped) → HaveFailed ps any old now → stepped ≡ (if any then Did Silent else Idle)
+pub fail-takes : (ps : List ℕ) (any : Bool) (old now : Running) (stepped : Stepped) → HaveFailed ps any old now → stepped ≡ (if any then Did Quiet else Idle)
     → (records : Option Records) → TakesStep old records (Fail ps) (Ok stepped) now records
 fail-takes ps true old now stepped h is records sys state s trusts =
     let x = h.some refl in

@@ -72,10 +72,10 @@ fn fail_one(running: &mut Running, node: NodeId) -> Result<(), AllocError>
 
 // What comes of a step that shows nothing, where it is enabled.
 fn silent_if(enabled: bool) -> Stepped
-    ensures { result ≡ (if enabled then Stepped.Did Effect.Silent else Stepped.Idle) }
+    ensures { result ≡ (if enabled then Stepped.Did Effect.Quiet else Stepped.Idle) }
 {
     if enabled {
-        Stepped::Did(Effect::Silent)
+        Stepped::Did(Effect::Quiet)
     } else {
         Stepped::Idle
     }

@@ -8,7 +8,8 @@ use Rattle.std.specs.declared.vec.Vec.{Vec}
 use Rattle.fw_bag.proofs.BagLaws.{AllByRecursion-with_rec, IsAscending-with_rec}
 use Rattle.fw_bag.specs.Bag.{BagState, with_rec}
 use Rattle.fw_bag.specs.declared.rec.Rec.{Rec}
-use Rattle.fw_lines.specs.Batches.{batches_at, batches_of_entries, recs_of_bags, AddsBatch, KeepsBatches, AreBatches, IsBatch, IsRec}
+use Rattle.fw_lines.specs.Batches.{batches_at, batches_of_entries, recs_of_bags, AddsBatch, KeepsBatches, AreBatches, IsBatch}
+use Rattle.fw_bag.specs.Bag.{IsRec}
 
 -- the recs of the bags that are found
 abbrev pub recs_found : Option (Vec BagState Global) → List (List Rec)

@@ -16,7 +16,8 @@ use Rattle.fw_lines.specs.declared.record.RecordWord.{RecordWord}
 use Rattle.fw_lines.specs.declared.record.RecordWord.TheVariants.{Broken}
 use Rattle.fw_lines.specs.declared.refusal.Code.{Code}
 use Rattle.fw_lines.specs.declared.refusal.Code.TheVariants.{I1, I4, I5}
-use Rattle.fw_lines.specs.Batches.{batches_at, IsRec, IsBatch, AreBatchesOf}
+use Rattle.fw_lines.specs.Batches.{batches_at, IsBatch, AreBatchesOf}
+use Rattle.fw_bag.specs.Bag.{IsRec}
 use Rattle.fw_lines.specs.Faults.{BreakNoRule}
 use Rattle.fw_lines.specs.Inputs.{is_colon, record_said, record_from, spelled_rec, batch_of, batches_said_of, is_batch_of, is_batch_of_words, form_fault, value_fault, number_fault, count_fault, inputs_line_fault, count_of, inputs_fault}
 use Rattle.fw_lines.specs.Lines.{Said, is_allowed}

@@ -5,7 +5,7 @@ use Rattle.std.specs.Option.{option_map_or}
 use Rattle.std.specs.declared.alloc.Global.{Global}
 use Rattle.std.specs.Map.{lookup}
 use Rattle.std.specs.declared.vec.Vec.{Vec}
-use Rattle.fw_bag.specs.Bag.{BagState}
+use Rattle.fw_bag.specs.Bag.{BagState, IsRec}
 use Rattle.fw_bag.specs.declared.rec.Rec.{Rec}
 use Rattle.fw_bag.specs.Rec.{IsAscending}
 use Rattle.fw_lines.specs.Sources.{is_source}
@@ -35,11 +35,6 @@ recs_of_bags bags = map (λ b. b.recs) bags
 abbrev pub batches_of_entries : List (ℕ × Vec BagState Global) → List (ℕ × List (List Rec))
 batches_of_entries [] = []
 batches_of_entries (e ∷ es) = (e.0, recs_of_bags e.1.items) ∷ batches_of_entries es
-
--- the key and the value of a rec are numbers of 64 bits
-pub record IsRec (r : Rec) : Type 0 where
-  pub key : r.key < 2 ^ 64
-  pub value : r.value < 2 ^ 64
 
 -- a batch is a bag as its ascending list
 pub record IsBatch (batch : List Rec) : Type 0 where

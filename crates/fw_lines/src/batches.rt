@@ -2,7 +2,8 @@
 ghost use Rattle.std.specs.Prelude.{◌≡◌, [], length, map, IfOk, OnOk, OnErr};
 ghost use Rattle.fw_bag.specs.Bag.{with_rec};
 ghost use Rattle.fw_bag.specs.Keyed.{sorted_recs};
-ghost use Rattle.fw_lines.specs.Batches.{batches_at, batches_of_entries, AddsBatch, KeepsBatches, AreBatches, IsBatch, IsRec};
+ghost use Rattle.fw_lines.specs.Batches.{batches_at, batches_of_entries, AddsBatch, KeepsBatches, AreBatches, IsBatch};
+ghost use Rattle.fw_bag.specs.Bag.{IsRec};
 
 use fw_bag::{Bag, Rec};
 use indexmap::IndexMap;

@@ -28,7 +28,7 @@ use Rattle.fw_node.specs.declared.in_loop.InLoop.{InLoop}
 use Rattle.fw_node.specs.declared.in_loop.InLoop.TheVariants as loop_table
 use Rattle.fw_node.specs.declared.node.Node.{Node}
 use Rattle.fw_node.specs.declared.sends.Sends.{Sends}
-use Rattle.fw_node.specs.declared.sends.Sends.TheVariants.{Together}
+use Rattle.fw_node.specs.declared.sends.Sends.TheVariants.{AtOneStamp}
 use Rattle.fw_node.specs.declared.table.Table.{Table}
 use Rattle.fw_node.specs.declared.table.Table.TheVariants as table
 use Rattle.fw_node.specs.Kinds.{is_timed}
@@ -189,9 +189,9 @@ input-sent flow _ t sent i e = absurd (cc)
 
 -- what an input injects at an epoch
 pub input-can_send : (flow : Dataflow) (p n : ℕ) (sent : Sent Stamp) → IsWellFormed flow → is_input_kind (kind_of flow p) ≡ true → n < 2 ^ 32 → sent.at ≡ n ∷ []
-    → CanBeSent flow p (stamps_of (Together sent))
+    → CanBeSent flow p (stamps_of (AtOneStamp sent))
 unfolding bounds_of
-input-can_send flow p n sent w i l e = can-send flow p (n ∷ []) (Together sent) w (input-in_domain flow (kind_of flow p) n i l) (input-sent flow (kind_of flow p) (n ∷ []) sent i e)
+input-can_send flow p n sent w i l e = can-send flow p (n ∷ []) (AtOneStamp sent) w (input-in_domain flow (kind_of flow p) n i l) (input-sent flow (kind_of flow p) (n ∷ []) sent i e)
 
 -- a stamp of a node's bounds is of its domain
 pub of_node : (flow : Dataflow) (p : ℕ) (node : Node) (t : Stamp) → IsNodeOf flow p node → in_domain node.bounds t ≡ true → in_domain (bounds_of flow p) t ≡ true

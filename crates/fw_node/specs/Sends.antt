@@ -10,11 +10,11 @@ use Rattle.fw_flow.specs.NodeFunction.{recs_on_notification, numbered_messages, 
 use Rattle.fw_numbered.specs.Numbers.{at_numbers}
 use Rattle.fw_node.specs.Answers.{sent_list, without_causes}
 use Rattle.fw_node.specs.declared.sends.Sends.{Sends}
-use Rattle.fw_node.specs.declared.sends.Sends.TheVariants.{Together, Numbered}
+use Rattle.fw_node.specs.declared.sends.Sends.TheVariants.{AtOneStamp, Numbered}
 
 -- what is sent, in order
 abbrev pub sends_list : Sends → List (Stamp × Rec)
-sends_list (Together sent) = sent_list sent
+sends_list (AtOneStamp sent) = sent_list sent
 sends_list (Numbered sent) = at_numbers sent.first sent.recs
 
 -- What a notification makes a node of the kind send, in ascending order, where these are its earlier events.

@@ -130,7 +130,7 @@ impl Node {
         }
         let side = side_of(&self.sides, edge);
         match self.table.deliver(side, at, rec) {
-            Ok(sent) => Ok(Sends::Together(sent)),
+            Ok(sent) => Ok(Sends::AtOneStamp(sent)),
             Err(refusal) => {
                 self.refused = true;
                 Err(refusal)
@@ -195,7 +195,7 @@ impl Node {
         self.refused = true;
         let recs = SentRecs::all(Vec::from_slice(self.alloc, batch)?);
         self.refused = false;
-        Ok(Sends::Together(Sent {
+        Ok(Sends::AtOneStamp(Sent {
             at: Stamp::new(&[epoch]),
             recs,
         }))

@@ -11,7 +11,7 @@ use fw_time::Stamp;
 #[derive(Debug, Drop)]
 pub enum Sends {
     /// Recs that are all at one stamp.
-    Together(Sent<Stamp>),
+    AtOneStamp(Sent<Stamp>),
     /// Recs of a sequence: one number after the other, from the first one on.
     Numbered(Numbered),
 }
@@ -22,7 +22,7 @@ impl Sends {
         ensures { result ≡ length (sends_list self.now) }
     {
         match self {
-            Sends::Together(sent) => sent.recs.len(),
+            Sends::AtOneStamp(sent) => sent.recs.len(),
             Sends::Numbered(sent) => sent.recs.len(),
         }
     }
@@ -32,7 +32,7 @@ impl Sends {
         ensures { result ≡ slice_get (sends_list self.now) place }
     {
         match self {
-            Sends::Together(sent) => {
+            Sends::AtOneStamp(sent) => {
                 let rec = sent.recs.as_slice().get(place)?;
                 Some((sent.at.copy(), *rec))
             }

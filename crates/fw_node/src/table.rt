@@ -137,13 +137,13 @@ impl Table {
             → IfOk result (λ sent. AreSentAt flow kind at.now (sends_list sent)) }
     {
         match self {
-            Table::Outside(table) => Ok(Sends::Together(table.notify(at)?)),
-            Table::Loop(table) => Ok(Sends::Together(table.notify(at)?)),
-            Table::Loop2(table) => Ok(Sends::Together(table.notify(at)?)),
-            Table::Loop3(table) => Ok(Sends::Together(table.notify(at)?)),
+            Table::Outside(table) => Ok(Sends::AtOneStamp(table.notify(at)?)),
+            Table::Loop(table) => Ok(Sends::AtOneStamp(table.notify(at)?)),
+            Table::Loop2(table) => Ok(Sends::AtOneStamp(table.notify(at)?)),
+            Table::Loop3(table) => Ok(Sends::AtOneStamp(table.notify(at)?)),
             Table::Total(table) => {
                 let sent = table.on_notify(Epoch::from_coords(at))?;
-                Ok(Sends::Together(Sent {
+                Ok(Sends::AtOneStamp(Sent {
                     at: at.copy(),
                     recs: sent.recs,
                 }))
@@ -154,7 +154,7 @@ impl Table {
             | Table::Enter2(_)
             | Table::Enter3(_)
             | Table::Ledger(_)
-            | Table::Regroup(_) => { Ok(Sends::Together(Sent::of(at.copy(), None))) }
+            | Table::Regroup(_) => { Ok(Sends::AtOneStamp(Sent::of(at.copy(), None))) }
         }
     }
 

@@ -12,7 +12,7 @@ use Rattle.fw_keep.specs.declared.entry.Entry.{Entry}
 use Rattle.fw_keep.specs.declared.entry.Written.{Written}
 use Rattle.fw_keep.specs.declared.entry.Written.TheVariants as written
 use Rattle.fw_policy.specs.Entries.{HasEventTold, HoldsWhatIsWritten, IsEntryOf, AreEntriesOf, told_of}
-use Rattle.fw_policy.specs.View.{HasEventAt, ReadsAs, IsReadAs, AreReadAs}
+use Rattle.fw_policy.specs.View.{HasEventAt, ReadsAsWrite, IsReadAs, AreReadAs}
 
 -- an event is told with its stamp
 pub told-stamp : (v : Happened) (event : Event) → told_of v ≡ Some event → stamp_of_event event ≡ event_stamp v
@@ -25,7 +25,7 @@ event-told flow p s event [] a = absurd a
 event-told flow p s event (v ∷ h) (inl a) = inl (record { same_serial = a.same_serial; node = a.node; stamp = sym (told-stamp v.event event a.told) })
 event-told flow p s event (v ∷ h) (inr a) = inr (event-told flow p s event h a)
 
-held-read : (sys : System) (state : Machine) (p : ℕ) (w : Written) (v : WrittenBy) → HoldsWhatIsWritten sys state p w v → ReadsAs sys state p w v
+held-read : (sys : System) (state : Machine) (p : ℕ) (w : Written) (v : WrittenBy) → HoldsWhatIsWritten sys state p w v → ReadsAsWrite sys state p w v
 held-read sys state p (written.Checkpoint r stamps sent) (checkpoint f low) h = h.recorded
 held-read sys state p (written.Checkpoint r stamps sent) (logged_event s) h = absurd h
 held-read sys state p (written.Event event) (checkpoint f low) h = absurd h

@@ -19,7 +19,7 @@ use Rattle.fw_keep.specs.declared.entry.Entry.{Entry}
 use Rattle.fw_keep.specs.declared.entry.Written.{Written}
 use Rattle.fw_keep.specs.declared.entry.Written.TheVariants as written
 use Rattle.fw_policy.specs.Entries.{IsRecorded}
-use Rattle.fw_policy.specs.View.{ReadsAs, IsReadAs, AreReadAs}
+use Rattle.fw_policy.specs.View.{ReadsAsWrite, IsReadAs, AreReadAs}
 use Rattle.fw_policy.specs.Offering.{record_in, record_by, records_by, holding}
 use Rattle.fw_policy.proofs.UnloggedLaws.{some-filtered}
 
@@ -31,7 +31,7 @@ IsOwn sys state p r = IsRecorded sys state p r.front r
 own-front : (sys : System) (state : Machine) (p : ℕ) (f : Front) (r : Recorded) → IsRecorded sys state p f r → IsRecorded sys state p r.front r
 own-front sys state p f r k = subst (λ (g : Front). IsRecorded sys state p g r) (sym k.front) k
 
-held-record : (sys : System) (state : Machine) (p : ℕ) (w : Written) (v : WrittenBy) → ReadsAs sys state p w v
+held-record : (sys : System) (state : Machine) (p : ℕ) (w : Written) (v : WrittenBy) → ReadsAsWrite sys state p w v
     → AllByRecursion (λ (r : Recorded). IsRecorded sys state p r.front r) (record_in w)
 held-record sys state p (written.Checkpoint r stamps sent) (checkpoint f low) h = (own-front sys state p f r h, tt)
 held-record sys state p (written.Checkpoint r stamps sent) (logged_event s) h = absurd h
@@ -71,13 +71,13 @@ listed-either f [] ss i = inr i
 listed-either f (r ∷ rs) ss (inl e) = inl (inl e)
 listed-either f (r ∷ rs) ss (inr i) = elim (listed-either f rs ss i) [ inl k ↦ inl (inr k) | inr k ↦ inr k ]
 
-record-checkpoint : (sys : System) (state : Machine) (q p : ℕ) (f : Front) (w : Written) (v : WrittenBy) (far : Stage) → ReadsAs sys state q w v → q ≡ p → is_counted kept far ≡ true
+record-checkpoint : (sys : System) (state : Machine) (q p : ℕ) (f : Front) (w : Written) (v : WrittenBy) (far : Stage) → ReadsAsWrite sys state q w v → q ≡ p → is_counted kept far ≡ true
     → IsListed f (record_in w) → IsCheckpointAt kept p f q v far
 record-checkpoint sys state q p f (written.Checkpoint r stamps sent) (checkpoint g low) far h e k i = elim i [ inl d ↦ (e, sym (h).front ∙ d, k) | inr l ↦ absurd l ]
 record-checkpoint sys state q p f (written.Checkpoint r stamps sent) (logged_event s) far h e k i = absurd h
 record-checkpoint sys state q p f (written.Event event) v far h e k i = absurd i
 
-checkpoint-record : (sys : System) (state : Machine) (q p : ℕ) (f : Front) (w : Written) (v : WrittenBy) (far : Stage) → ReadsAs sys state q w v
+checkpoint-record : (sys : System) (state : Machine) (q p : ℕ) (f : Front) (w : Written) (v : WrittenBy) (far : Stage) → ReadsAsWrite sys state q w v
     → IsCheckpointAt kept p f q v far → (q ≡ p) × (is_counted kept far ≡ true) × IsListed f (record_in w)
 checkpoint-record sys state q p f (written.Checkpoint r stamps sent) (checkpoint g low) far h k = (k.0, k.2, inl ((h).front ∙ k.1))
 checkpoint-record sys state q p f (written.Checkpoint r stamps sent) (logged_event s) far h k = absurd h
@@ -157,7 +157,7 @@ pairs-both R S (x ∷ xs) a b = (both xs a.0 b.0, pairs-both R S xs a.1 b.1)
 abbrev Rises : Bounds → Recorded → Recorded → Type 0
 Rises b r s = Within (frontier_of b r.front) (frontier_of b s.front) × (r.front ≢ s.front)
 
-held-rises : (sys : System) (state : Machine) (p q m : ℕ) (x y : Written) (v w : WrittenBy) → p < length sys.flow.nodes → q ≡ p → m ≡ p → ReadsAs sys state q x v → ReadsAs sys state m y w
+held-rises : (sys : System) (state : Machine) (p q m : ℕ) (x y : Written) (v w : WrittenBy) → p < length sys.flow.nodes → q ≡ p → m ≡ p → ReadsAsWrite sys state q x v → ReadsAsWrite sys state m y w
     → IsUnder sys q v m w → AllByRecursion (λ (r : Recorded). AllByRecursion (Rises (bounds_of sys.flow p) r) (record_in y)) (record_in x)
 held-rises sys state p q m (written.Checkpoint r stamps sent) (written.Checkpoint s others count) (checkpoint f k) (checkpoint g l) d e i a b u =
     let same : q ≡ m = e ∙ sym i in
@@ -244,7 +244,7 @@ ascend-filter b test (r ∷ rs) a =
 abbrev pub HasStamps : System → ℕ → WrittenBy → Type 0
 HasStamps sys q v = (f : Front) (low : List Front) → v ≡ checkpoint f low → f ≢ no_stamps (bounds_of sys.flow q)
 
-held-stamps : (sys : System) (state : Machine) (q : ℕ) (w : Written) (v : WrittenBy) → ReadsAs sys state q w v → HasStamps sys q v
+held-stamps : (sys : System) (state : Machine) (q : ℕ) (w : Written) (v : WrittenBy) → ReadsAsWrite sys state q w v → HasStamps sys q v
     → AllByRecursion (λ (r : Recorded). r.front ≢ no_stamps (bounds_of sys.flow q)) (record_in w)
 held-stamps sys state q (written.Checkpoint r stamps sent) (checkpoint f low) h s = (λ e. s f low refl (sym (h).front ∙ e), tt)
 held-stamps sys state q (written.Checkpoint r stamps sent) (logged_event n) h s = absurd h

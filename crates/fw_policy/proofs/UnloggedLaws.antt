@@ -21,7 +21,7 @@ use Rattle.fw_record.specs.Event.{stamp_of_event}
 use Rattle.fw_keep.specs.declared.entry.Entry.{Entry}
 use Rattle.fw_keep.specs.declared.entry.Written.{Written}
 use Rattle.fw_keep.specs.declared.entry.Written.TheVariants as written
-use Rattle.fw_policy.specs.View.{HasEventAt, IsEventAt, IsUnlogged, IsLostAt, ReadsAs, IsReadAs, AreReadAs}
+use Rattle.fw_policy.specs.View.{HasEventAt, IsEventAt, IsUnlogged, IsLostAt, ReadsAsWrite, IsReadAs, AreReadAs}
 use Rattle.fw_policy.specs.Offering.{stamp_of_written, unlogged_by, unlogged_stamps}
 use Rattle.fw_model.proofs.SentStandLaws.{IsOne, one-contained, contained-one}
 use Rattle.fw_model.proofs.ThinnedLaws.{each-contained}
@@ -102,7 +102,7 @@ is-flying in_flight b e k n = refl
 is-flying acknowledged b e k n = let c : false ≡ true = sym (ap not e) ∙ k in cc
 is-flying collected b e k n = absurd (n refl)
 
-held-flies : (sys : System) (state : Machine) (q p : ℕ) (t : Stamp) (w : Written) (v : WrittenBy) (far : Stage) → ReadsAs sys state q w v → q ≡ p → far ≡ in_flight
+held-flies : (sys : System) (state : Machine) (q p : ℕ) (t : Stamp) (w : Written) (v : WrittenBy) (far : Stage) → ReadsAsWrite sys state q w v → q ≡ p → far ≡ in_flight
     → IsOne t (stamp_of_written w) → FliesAt sys state p t (record { node = q; written = v; stage = far })
 held-flies sys state q p t (written.Checkpoint r stamps sent) v far h e f i = absurd i
 held-flies sys state q p t (written.Event event) (checkpoint g low) far h e f i = absurd h
@@ -142,7 +142,7 @@ record IsEntered (sys : System) (state : Machine) (p serial : ℕ) (ss : List St
   there : IsOne at ss
   event : HasEventAt sys.flow p serial at state.history
 
-held-entered : (sys : System) (state : Machine) (q p serial : ℕ) (w : Written) (v : WrittenBy) → ReadsAs sys state q w v → q ≡ p → v ≡ logged_event serial
+held-entered : (sys : System) (state : Machine) (q p serial : ℕ) (w : Written) (v : WrittenBy) → ReadsAsWrite sys state q w v → q ≡ p → v ≡ logged_event serial
     → IsEntered sys state p serial (stamp_of_written w)
 held-entered sys state q p serial (written.Checkpoint r stamps sent) (checkpoint g low) h e k = cc
 held-entered sys state q p serial (written.Checkpoint r stamps sent) (logged_event s) h e k = absurd h

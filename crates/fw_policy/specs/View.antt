@@ -67,17 +67,17 @@ HasEventAt flow p serial t [] = ⊥
 HasEventAt flow p serial t (v ∷ h) = IsEventAt flow p serial t v ⊎ HasEventAt flow p serial t h
 
 -- what is read of an entry of node p is what the write holds: of a checkpoint what it records of the events inside, of an event its stamp
-abbrev pub ReadsAs : System → Machine → ℕ → Written → WrittenBy → Type 0
-ReadsAs sys state p (written.Checkpoint recorded stamps sent) (checkpoint f low) = IsRecorded sys state p f recorded
-ReadsAs sys state p (written.Checkpoint recorded stamps sent) (logged_event serial) = ⊥
-ReadsAs sys state p (written.Event event) (checkpoint f low) = ⊥
-ReadsAs sys state p (written.Event event) (logged_event serial) = HasEventAt sys.flow p serial (stamp_of_event event) state.history
+abbrev pub ReadsAsWrite : System → Machine → ℕ → Written → WrittenBy → Type 0
+ReadsAsWrite sys state p (written.Checkpoint recorded stamps sent) (checkpoint f low) = IsRecorded sys state p f recorded
+ReadsAsWrite sys state p (written.Checkpoint recorded stamps sent) (logged_event serial) = ⊥
+ReadsAsWrite sys state p (written.Event event) (checkpoint f low) = ⊥
+ReadsAsWrite sys state p (written.Event event) (logged_event serial) = HasEventAt sys.flow p serial (stamp_of_event event) state.history
 
 -- an entry is read as a write: it is acknowledged exactly where the write counts among those that are kept
 pub record IsReadAs (sys : System) (state : Machine) (entry : Entry) (write : Write) : Type 0 where
   pub node : entry.node ≡ write.node
   pub acknowledged : entry.acknowledged ≡ is_counted kept write.stage
-  pub holds : ReadsAs sys state write.node entry.written write.written
+  pub holds : ReadsAsWrite sys state write.node entry.written write.written
 
 -- one entry is read as each write, in order
 abbrev pub AreReadAs : System → Machine → List Entry → List Write → Type 0

@@ -14,7 +14,7 @@ use Rattle.fw_model.specs.Machine.{front_of, family_of, AreCanonical}
 use Rattle.fw_progress.specs.declared.counts.Counts.{Counts}
 use Rattle.fw_progress.specs.declared.growth.Growth.{Growth}
 use Rattle.fw_progress.specs.Counts.{target_by, IsAdmissibleBy}
-use Rattle.fw_progress.specs.Growths.{IsMore, IsGrown, HaveGrown, IsTaken}
+use Rattle.fw_progress.specs.Growths.{IsMore, IsGrown, HaveGrown, IsTakenUp}
 use Rattle.fw_progress.specs.Leap.{CanLeapAt, CanLeap, AreAbove, IsReachedAt, HaveReached, HaveLeapt}
 use Rattle.fw_progress.proofs.TargetLaws.{target-monotone}
 use Rattle.fw_progress.proofs.GrowLaws.{family_new, family_old, family_grows, none_grown, one_grown, grown_then}
@@ -140,7 +140,7 @@ have_leapt flow counts old next new work rest growths more one two can r = recor
 
 -- a leap, and then the node is widened
 pub leapt_taken : (flow : Dataflow) (counts : Counts) (p : ℕ) (old mid new : List Front) (work some rest : List ℕ) (growths more most : List Growth)
-    → HaveLeapt flow counts old mid work some growths more → IsTaken flow counts p mid new some rest more most → IsTaken flow counts p old new work rest growths most
+    → HaveLeapt flow counts old mid work some growths more → IsTakenUp flow counts p mid new some rest more most → IsTakenUp flow counts p old new work rest growths most
 leapt_taken flow counts p old mid new work some rest growths more most a b = record {
   grew = grown_then flow counts old mid new work some rest growths more most a.grew b.grew;
   admissible = λ k. b.admissible (a.admissible k);

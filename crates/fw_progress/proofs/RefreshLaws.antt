@@ -9,7 +9,7 @@ use Rattle.fw_model.specs.Machine.{family_of, AreCanonical}
 use Rattle.fw_progress.specs.declared.counts.Counts.{Counts}
 use Rattle.fw_progress.specs.declared.growth.Growth.{Growth}
 use Rattle.fw_progress.specs.Counts.{IsAdmissibleBy, IsStuckBy, is_in, AreStuckOutside, AreNodes}
-use Rattle.fw_progress.specs.Growths.{AreGrowths, out_degrees, IsTaken, IsRefreshed}
+use Rattle.fw_progress.specs.Growths.{AreGrowths, out_degrees, IsTakenUp, IsRefreshed}
 use Rattle.fw_progress.proofs.GrowLaws.{outside_count, growths_outside, degrees-append, degrees-few, growths-append}
 
 -- how far a refresh has come
@@ -59,7 +59,7 @@ none_taken k e = absurd (cc (k, e))
 
 pub taken_step : (flow : Dataflow) (counts : Counts) (first : List Front) (start : List ℕ) (begun : ℕ) (fronts new : List Front) (work mid rest : List ℕ) (p : ℕ) (growths more : List Growth) (steps next : ℕ)
     → work ≡ p ∷ mid → next ≡ steps + 1 → IsRefreshing flow counts first start begun fronts work growths steps
-    → IsTaken flow counts p fronts new mid rest growths more → IsRefreshing flow counts first start begun new rest more next
+    → IsTakenUp flow counts p fronts new mid rest growths more → IsRefreshing flow counts first start begun new rest more next
 taken_step flow counts first start begun fronts new work mid rest p growths more steps next e s r a =
     let g = a.grew in
     let there = first_node flow work mid p e r.nodes in
@@ -96,7 +96,7 @@ falls m k a b r q d h i j =
 
 pub taken_falls : (flow : Dataflow) (counts : Counts) (fronts new : List Front) (work mid rest : List ℕ) (p : ℕ) (growths more : List Growth)
     → length fronts ≡ length flow.nodes → work ≡ p ∷ mid
-    → IsTaken flow counts p fronts new mid rest growths more → left_over flow new rest < left_over flow fronts work
+    → IsTakenUp flow counts p fronts new mid rest growths more → left_over flow new rest < left_over flow fronts work
 unfolding left_over
 taken_falls flow counts fronts new work mid rest p growths more one e a =
     let g = a.grew in

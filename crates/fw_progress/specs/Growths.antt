@@ -63,7 +63,7 @@ pub record HaveGrown (flow : Dataflow) (counts : Counts) (old new : List Front) 
   pub leaves : (q : ℕ) → q < length flow.nodes → is_in rest q ≡ false → IsStuckBy flow counts old q → IsStuckBy flow counts new q
 
 -- a node was taken up: frontiers grew, and unless it waits again it has the largest that it can have
-pub record IsTaken (flow : Dataflow) (counts : Counts) (p : ℕ) (old new : List Front) (work rest : List ℕ) (growths more : List Growth) : Type 0 where
+pub record IsTakenUp (flow : Dataflow) (counts : Counts) (p : ℕ) (old new : List Front) (work rest : List ℕ) (growths more : List Growth) : Type 0 where
   pub grew : HaveGrown flow counts old new work rest growths more
   pub admissible : IsAdmissibleBy flow counts (family_of flow old) → IsAdmissibleBy flow counts (family_of flow new)
   pub stuck : IsAdmissibleBy flow counts (family_of flow old) → is_in rest p ≡ false → IsStuckBy flow counts new p

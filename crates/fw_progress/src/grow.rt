@@ -5,7 +5,7 @@ ghost use Rattle.fw_frontier.specs.Front.{IsCanonical};
 ghost use Rattle.fw_flow.specs.Dataflow.{bounds_of, node_frontier, out_edges};
 ghost use Rattle.fw_model.specs.Machine.{family_of, AreCanonical};
 ghost use Rattle.fw_progress.specs.Counts.{AreCounts};
-ghost use Rattle.fw_progress.specs.Growths.{IsMore, IsGrown, IsTaken};
+ghost use Rattle.fw_progress.specs.Growths.{IsMore, IsGrown, IsTakenUp};
 
 use crate::counts::Counts;
 use crate::growth::{Growth, Growths};
@@ -65,7 +65,7 @@ fn widen(
     requires counts { AreCounts flow.now counts.now }
     requires one_each { length fronts.old.items ≡ length flow.now.nodes }
     requires canonical { AreCanonical flow.now fronts.old.items }
-    ensures { IfOk result (λ u. IsTaken flow.now counts.now node fronts.old.items fronts.new.items work.old work.new
+    ensures { IfOk result (λ u. IsTakenUp flow.now counts.now node fronts.old.items fronts.new.items work.old work.new
         growths.old.items growths.new.items) }
 {
     flow_is_well_formed(flow);
@@ -91,7 +91,7 @@ pub(crate) fn take_up(
     requires counts { AreCounts flow.now counts.now }
     requires one_each { length fronts.old.items ≡ length flow.now.nodes }
     requires canonical { AreCanonical flow.now fronts.old.items }
-    ensures { IfOk result (λ u. IsTaken flow.now counts.now node fronts.old.items fronts.new.items work.old work.new
+    ensures { IfOk result (λ u. IsTakenUp flow.now counts.now node fronts.old.items fronts.new.items work.old work.new
         growths.old.items growths.new.items) }
 {
     leap(alloc, flow, counts, fronts, work, growths, node)?;

@@ -9,7 +9,8 @@ use Rattle.fw_record.specs.declared.record.Event.{Event}
 use Rattle.fw_record.specs.declared.record.Event.TheVariants.{Deliver, Notify}
 use Rattle.fw_record.specs.Fields.{byte_of, number_field, stamp_field}
 use Rattle.fw_record.specs.Spelling.{u32_bytes, u64_bytes, stamp_bytes, rec_bytes, delivery_bytes, event_bytes}
-use Rattle.fw_record.specs.Sound.{IsStamp, IsRec, IsEvent}
+use Rattle.fw_record.specs.Sound.{IsStamp, IsEvent}
+use Rattle.fw_bag.specs.Bag.{IsRec}
 use Rattle.fw_record.specs.Reading.{◌>>=◌, kept_if, any, is_event_byte, key_and_value_of, delivery_of, read_notice, read_event}
 use Rattle.fw_record.proofs.FieldLaws.{IsBytes, IsBytes-rest, Takes, some_is}
 use Rattle.fw_record.proofs.PartLaws.{IsWhole, bind_ok, ok_is, kept, step, starts}

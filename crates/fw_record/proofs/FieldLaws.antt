@@ -13,7 +13,8 @@ use Rattle.fw_frontier.specs.declared.state.SentCount.{SentCount}
 use Rattle.fw_record.specs.declared.logged.Logged.{Logged}
 use Rattle.fw_record.specs.Fields.{Field, ◌>>=◌, number_field, coords_of, stamp_field, rec_of, sent_count_of, logged_of}
 use Rattle.fw_record.specs.Spelling.{u32_bytes, u64_bytes, stamp_bytes, rec_bytes, sent_count_bytes, logged_bytes}
-use Rattle.fw_record.specs.Sound.{IsStamp, IsOneStamp, IsRec, IsSentCount, IsLoggedMessage}
+use Rattle.fw_record.specs.Sound.{IsStamp, IsOneStamp, IsSentCount, IsLoggedMessage}
+use Rattle.fw_bag.specs.Bag.{IsRec}
 
 abbrev pub IsBytes : List ℕ → Type 0
 IsBytes bytes = (i : ℕ) → get_or bytes i 0 < 256

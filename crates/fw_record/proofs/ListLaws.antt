@@ -8,7 +8,8 @@ use Rattle.fw_frontier.specs.declared.state.State.{State}
 use Rattle.fw_flow.specs.declared.choice.OfEdge.{OfEdge}
 use Rattle.fw_record.specs.Fields.{number_field, stamp_field, rec_of, sent_count_of, logged_of}
 use Rattle.fw_record.specs.Spelling.{u32_bytes, u64_bytes, stamp_bytes, rec_bytes, front_bytes, of_edge_bytes, of_edges_bytes, sent_count_bytes, sent_counts_bytes, recs_bytes, entries_bytes, state_bytes, logged_bytes, log_bytes}
-use Rattle.fw_record.specs.Sound.{may_follow_stamps, may_follow_edges, may_follow_counts, may_follow_totals, may_follow_logged, IsStamp, IsRec, IsFront, IsEdgeFront, AreOfEdges, IsSentCount, AreSentCounts, AreTotals, AreEntries, IsState, IsLoggedMessage, IsLog}
+use Rattle.fw_record.specs.Sound.{may_follow_stamps, may_follow_edges, may_follow_counts, may_follow_totals, may_follow_logged, IsStamp, IsFront, IsEdgeFront, AreOfEdges, IsSentCount, AreSentCounts, AreTotals, AreEntries, IsState, IsLoggedMessage, IsLog}
+use Rattle.fw_bag.specs.Bag.{IsRec}
 use Rattle.fw_record.specs.Reading.{◌>>=◌, kept_if, any, next_stamp_of, next_count_of, next_total_of, next_logged_of, read_front, of_edge_of, of_edges_of, sent_counts_of, totals_of, read_state, read_log}
 use Rattle.fw_record.proofs.FieldLaws.{IsBytes, Takes, Takes-then, form32, form64, stamps, recs, counts, logged}
 use Rattle.fw_record.proofs.PartLaws.{IsPartForm, IsWhole, bind_ok, ok_is, kept, one_field, any_field, counted_whole, step, starts}

@@ -7,6 +7,7 @@ use Rattle.std.specs.Ordering.{nat_cmp, ordering_then, is_lt, is_le}
 use Rattle.std.specs.Cmp.Lexicographic.{slice_cmp}
 use Rattle.fw_time.specs.Stamp.{Stamp, leq, stamp_cmp}
 use Rattle.fw_bag.specs.declared.rec.Rec.{Rec}
+use Rattle.fw_bag.specs.Bag.{IsRec}
 use Rattle.fw_bag.specs.Rec.{rec_cmp}
 use Rattle.fw_frontier.specs.Front.{Front}
 use Rattle.fw_frontier.specs.declared.state.SentCount.{SentCount}
@@ -77,11 +78,6 @@ pub record IsStamp (s : Stamp) : Type 0 where
   pub some : 0 < length s
   pub few : length s < 5
   pub fit : AllByRecursion (λ c. c < 2 ^ 32) s
-
--- a rec has two numbers of 64 bits
-pub record IsRec (r : Rec) : Type 0 where
-  pub key : r.key < 2 ^ 64
-  pub value : r.value < 2 ^ 64
 
 -- a front in its one spelling
 abbrev pub IsFront : Front → Type 0

@@ -42,7 +42,7 @@ use Rattle.fw_rollback.specs.Asked.{front_at, first_checkpoint, given_of, events
 use Rattle.fw_rollback.specs.Built.{by_cut, AreNodesBuilt, AreQueuesBuilt, log_after}
 use Rattle.fw_rollback.specs.Edges.{on_edge, nothing_there, IsOnEdge}
 use Rattle.fw_record.specs.Log.{logged_on}
-use Rattle.fw_rollback.specs.Restored.{HasLogs, HasDone, IsBuilt, IsFromCheckpoint, log_of, outside_of}
+use Rattle.fw_rollback.specs.Restored.{HasLogs, HasDone, IsBuilt, IsFromCheckpoint, log_of, log_left_outside}
 use Rattle.fw_rollback.specs.Tables.{table_at}
 
 -- ---- logs of other nodes
@@ -150,10 +150,10 @@ log-got (At f) kept built e x h = sym (get_or_from_slice_get built e x nothing_t
 pub queue-filled : {T E : Type 0} (flow : Dataflow) (choice : Choice) (kept built : List MessagesState) (e : ℕ) (front g : Front) (x : MessagesState) (r : Result T E) (next : MessagesState)
     → Some front ≡ front_at (cut_of choice (receiver flow e)) → cut_of choice (receiver flow e) ≡ At g
     → Some x ≡ by_cut (cut_of choice (sender flow e)) (slice_get kept e) (slice_get built e)
-    → OnOk r (next ≡ outside_of front x) → OnOk r (next ≡ outside_of g (log_after flow choice kept built e))
+    → OnOk r (next ≡ log_left_outside front x) → OnOk r (next ≡ log_left_outside g (log_after flow choice kept built e))
 queue-filled flow choice kept built e front g x (Err y) next at cut got h = tt
 queue-filled flow choice kept built e front g x (Ok y) next at cut got h =
-    h ∙ ap (λ f. outside_of f x) (some-same (at ∙ ap front_at cut)) ∙ ap (outside_of g) (log-got (cut_of choice (sender flow e)) kept built e x got)
+    h ∙ ap (λ f. log_left_outside f x) (some-same (at ∙ ap front_at cut)) ∙ ap (log_left_outside g) (log-got (cut_of choice (sender flow e)) kept built e x got)
   where
     some-same : {A : Type 0} {a b : A} → Some a ≡ Some b → a ≡ b
     some-same e = cc
@@ -162,7 +162,7 @@ queue-filled flow choice kept built e front g x (Ok y) next at cut got h =
 pub queue-put : {T E : Type 0} (front : Front) (log : MessagesState) (ms : List Message) (qs : List MessagesState) (e : ℕ) (old new : MessagesState) (r : Result T E)
     → e < length qs → on_edge qs e ≡ nothing_there → Some old ≡ slice_get qs e → ms ≡ messages_outside (inside front) log.messages
     → OnOk r (new ≡ record { messages = with_messages ms old.messages; refused = false })
-    → OnOk r (on_edge (set qs e new) e ≡ outside_of front log)
+    → OnOk r (on_edge (set qs e new) e ≡ log_left_outside front log)
 queue-put front log ms qs e old new (Err x) l empty at is h = tt
 queue-put front log ms qs e old new (Ok x) l empty at is h =
     let there : old ≡ nothing_there = sym (get_or_from_slice_get qs e old nothing_there (sym at)) ∙ empty in
@@ -191,13 +191,13 @@ filled-none flow choice kept built queues e = record {
 
 pub filled-more : (flow : Dataflow) (choice : Choice) (kept built : List MessagesState) (n d : ℕ) (queues next : List MessagesState)
     → d ≡ n → AreFilledBefore flow choice kept built n queues
-    → ((g : Front) → cut_of choice (receiver flow d) ≡ At g → on_edge next d ≡ outside_of g (log_after flow choice kept built d))
+    → ((g : Front) → cut_of choice (receiver flow d) ≡ At g → on_edge next d ≡ log_left_outside g (log_after flow choice kept built d))
     → ((e : ℕ) → e ≢ d → on_edge next e ≡ on_edge queues e) → length next ≡ length queues
     → AreFilledBefore flow choice kept built (n + 1) next
 filled-more flow choice kept built n d queues next at h here others long = record {
   filled = λ e k g c. elim (cases_eq d e) [
     | inl s ↦
-        let P : ℕ → Type 0 = λ x. cut_of choice (receiver flow x) ≡ At g → on_edge next x ≡ outside_of g (log_after flow choice kept built x) in
+        let P : ℕ → Type 0 = λ x. cut_of choice (receiver flow x) ≡ At g → on_edge next x ≡ log_left_outside g (log_after flow choice kept built x) in
         subst P s (here g) c
     | inr s ↦ others e (λ z. s (sym z)) ∙ h.filled e (before e k (λ z. s (at ∙ z))) g c
   ];

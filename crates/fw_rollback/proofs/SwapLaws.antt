@@ -25,7 +25,7 @@ use Rattle.fw_rollback.specs.declared.parts.Parts.{Parts}
 use Rattle.fw_rollback.specs.Asked.{front_at, given_of}
 use Rattle.fw_rollback.specs.Built.{by_cut, table_after, log_put, queue_put, AreBuilt}
 use Rattle.fw_rollback.specs.Edges.{on_edge}
-use Rattle.fw_rollback.specs.Restored.{output_after, queue_from, queue_kept, queue_after, outside_of, IsBuilt, IsCutTo}
+use Rattle.fw_rollback.specs.Restored.{output_after, queue_from, queue_kept, queue_after, log_left_outside, IsBuilt, IsCutTo}
 use Rattle.fw_rollback.specs.Tables.{table_at}
 use Rattle.fw_rollback.proofs.BuildLaws.{built-stays}
 use Rattle.fw_rollback.proofs.CutLaws.{cut_is, cut_stays}
@@ -66,7 +66,7 @@ queue_is flow choice old new built given b logs queues e l = by (cut_of choice (
 
     by : (cut : Cut) → cut_of choice (receiver flow e) ≡ cut → on_edge new.queues e ≡ queue_after flow choice e (on_edge old.queues e) (on_edge new.logs e) cut
     by Present c = at Present c
-    by (At g) c = at (At g) c ∙ b.queues e l g c ∙ ap (outside_of g) (sym (logs e l))
+    by (At g) c = at (At g) c ∙ b.queues e l g c ∙ ap (log_left_outside g) (sym (logs e l))
 
 -- all that is pending comes from inside a frontier that has no outside stamp
 pub from-all : (queue : MessagesState) → queue ≡ queue_from [] queue

@@ -15,7 +15,7 @@ use Rattle.fw_rollback.specs.Tables.{table_at}
 use Rattle.fw_rollback.specs.declared.parts.Parts.{Parts}
 use Rattle.fw_rollback.specs.declared.built.Built.{Built}
 use Rattle.fw_rollback.specs.Asked.{given_of}
-use Rattle.fw_rollback.specs.Restored.{IsBuilt, outside_of, queue_kept}
+use Rattle.fw_rollback.specs.Restored.{IsBuilt, log_left_outside, queue_kept}
 
 -- of what was there and what was built that which there is after a cut
 abbrev pub by_cut : {A : Type 0} → Cut → A → A → A
@@ -44,7 +44,7 @@ AreNodesBuilt flow choice low given n tables logs =
 -- each edge to a node that is cut has the queue that is to be built for it
 abbrev pub AreQueuesBuilt : Dataflow → Choice → List MessagesState → List MessagesState → ℕ → List MessagesState → Type 0
 AreQueuesBuilt flow choice kept built n queues =
-    (e : ℕ) → e < n → (g : Front) → cut_of choice (receiver flow e) ≡ At g → on_edge queues e ≡ outside_of g (log_after flow choice kept built e)
+    (e : ℕ) → e < n → (g : Front) → cut_of choice (receiver flow e) ≡ At g → on_edge queues e ≡ log_left_outside g (log_after flow choice kept built e)
 
 -- There is a place for each node and each edge, and at those that are cut stands what is to be built.
 pub record AreBuilt (flow : Dataflow) (choice : Choice) (parts : Parts) (given : List (List Record)) (built : Built) : Type 0 where

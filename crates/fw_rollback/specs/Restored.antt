@@ -119,14 +119,14 @@ abbrev pub queue_kept : Dataflow → Choice → ℕ → MessagesState → Messag
 queue_kept flow choice e queue = queue_from (front_of_cut (cut_of choice (sender flow e))) queue
 
 -- what of a log lies outside a frontier, in order
-abbrev pub outside_of : Front → MessagesState → MessagesState
-outside_of g log = record { messages = sorted_messages (messages_outside (inside g) log.messages); refused = false }
+abbrev pub log_left_outside : Front → MessagesState → MessagesState
+log_left_outside g log = record { messages = sorted_messages (messages_outside (inside g) log.messages); refused = false }
 
 -- what is pending on edge e, by the cut of its receiver: of what was pending what comes from what the sender keeps, or what the
 -- edge's log holds outside the cut
 abbrev pub queue_after : Dataflow → Choice → ℕ → MessagesState → MessagesState → Cut → MessagesState
 queue_after flow choice e queue log Present = queue_kept flow choice e queue
-queue_after flow choice e queue log (At g) = outside_of g log
+queue_after flow choice e queue log (At g) = log_left_outside g log
 
 -- ---- writes, inputs and outputs
 

@@ -6,7 +6,7 @@ ghost use Rattle.fw_flow.specs.Dataflow.{sender, receiver};
 ghost use Rattle.fw_model.specs.Choice.{cut_of};
 ghost use Rattle.fw_rollback.specs.Edges.{on_edge, nothing_there};
 ghost use Rattle.fw_rollback.specs.Built.{by_cut, log_after, AreQueuesBuilt};
-ghost use Rattle.fw_rollback.specs.Restored.{outside_of};
+ghost use Rattle.fw_rollback.specs.Restored.{log_left_outside};
 
 use crate::asked::front_of;
 use crate::{Logs, Queues};
@@ -51,7 +51,7 @@ fn fill_queue(
     requires there { edge < length queues.old }
     requires empty { on_edge queues.old edge ≡ nothing_there }
     ensures filled { (g : List (List ℕ)) → cut_of choice.now (receiver flow.now edge) ≡ CutAt g
-        → OnOk result (on_edge queues.new edge ≡ outside_of g (log_after flow.now choice.now kept.now built.now edge)) }
+        → OnOk result (on_edge queues.new edge ≡ log_left_outside g (log_after flow.now choice.now kept.now built.now edge)) }
     ensures others { (e : ℕ) → e ≢ edge → on_edge queues.new e ≡ on_edge queues.old e }
     ensures each { length queues.new ≡ length queues.old }
 {
@@ -90,7 +90,7 @@ fn put_outside(
 ) -> Result<(), AllocError>
     requires there { edge < length queues.old }
     requires empty { on_edge queues.old edge ≡ nothing_there }
-    ensures filled { OnOk result (on_edge queues.new edge ≡ outside_of front.now log.now) }
+    ensures filled { OnOk result (on_edge queues.new edge ≡ log_left_outside front.now log.now) }
     ensures others { (e : ℕ) → e ≢ edge → on_edge queues.new e ≡ on_edge queues.old e }
     ensures each { length queues.new ≡ length queues.old }
 {

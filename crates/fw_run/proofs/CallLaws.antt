@@ -28,7 +28,7 @@ use Rattle.fw_run.specs.Call.{Call, CountsFaults, Prints, HasAccepted, HasRefuse
 use Rattle.fw_command.specs.DenotationText.{PrintsDenotation}
 use Rattle.fw_run.specs.Ends.{PrintsOfRun, IsDamageIn, StaysIfInOneLine}
 use Rattle.fw_run.specs.Enduring.{RoseBy, RoseByFaults, StaysOrRose}
-use Rattle.fw_run.specs.Fault.{faults_after, status_of}
+use Rattle.fw_run.specs.Fault.{faults_after_run, status_of}
 use Rattle.fw_run.specs.Manner.{goes_on, told_in}
 use Rattle.fw_run.specs.Status.{HasWord, IsTellingOf, store_faults_told, status_number}
 use Rattle.fw_command.specs.Texts.{HasFlow, HasTexts, Accepts, Refuses, AsksNoMore, spelled_system, spelled_items}
@@ -325,7 +325,7 @@ counts_none command status before after same other = record {
     none NoMemory o = refl
 
 -- the status tells what the answer does
-count_told : (T : Type 0) (f : RunFault) (before after : ℕ) → after ≡ faults_after {T = T} (Err f) before → after ≡ store_faults_told (status_of f) before
+count_told : (T : Type 0) (f : RunFault) (before after : ℕ) → after ≡ faults_after_run {T = T} (Err f) before → after ≡ store_faults_told (status_of f) before
 count_told T (Out output.Failed) before after e = e
 count_told T (Out output.NoMemory) before after e = e
 count_told T (Engine engine.StoreFault) before after e = e

@@ -13,7 +13,7 @@ use Rattle.fw_generate.specs.Laws.{AreAccepted}
 use Rattle.fw_generate.specs.Texts.{Texts}
 use Rattle.fw_command.proofs.TextLaws.{generated-accepted}
 use Rattle.fw_command.specs.Command.{ReadAs, as_inputs, as_schedule, NamedText, Origin, in_folder, generated}
-use Rattle.fw_command.specs.Texts.{text_for, IsReadFor, IsRefusedFor, AreThere, AreReadFor, IsFirstBehind, HasTexts, Accepts, Refuses}
+use Rattle.fw_command.specs.Texts.{text_for, IsReadFor, IsRefusedFor, AreTextsThere, AreReadFor, IsFirstBehind, HasTexts, Accepts, Refuses}
 
 -- a text that is read for a flow
 read-decided : (read : ReadAs) (flow : Dataflow) (text : List ℕ) → IsReadFor read flow text ⊎ ((refusal : Refusal) × IsRefusedFor read flow text refusal)
@@ -27,7 +27,7 @@ read-decided as_schedule flow text = elim (some_schedule text flow) [
 ]
 
 -- the texts behind that of a flow
-behind-decided : (told : Option (List ℕ → Option (List ℕ))) (flow : Dataflow) (others : List NamedText) (texts : Texts) → AreThere told others texts
+behind-decided : (told : Option (List ℕ → Option (List ℕ))) (flow : Dataflow) (others : List NamedText) (texts : Texts) → AreTextsThere told others texts
     → AreReadFor flow others texts ⊎ ((refusal : Refusal) × IsFirstBehind told flow others refusal)
 behind-decided told flow [] texts t = inl tt
 behind-decided told flow (named ∷ others) texts t = elim (read-decided named.read flow (text_for named.read texts)) [

@@ -28,10 +28,10 @@ use Rattle.fw_run.proofs.ThroughLaws.{begins-first, not_begun}
 use Rattle.fw_command.proofs.WritingLaws.{written_more, cut_nothing, part_nothing}
 use Rattle.fw_run.specs.declared.fault.RunFault.{RunFault}
 use Rattle.fw_run.specs.declared.fault.RunFault.TheVariants as stop
-use Rattle.fw_run.specs.declared.tally.Tally.{Tally}
+use Rattle.fw_run.specs.declared.tally.StepCounts.{StepCounts}
 use Rattle.fw_run.specs.Ends.{nowhere, seen, StaysIfInOneLine, last_line_of, WritesLast, PrintsOfRun, IsWholeRun, IsStoreFault, IsDamageIn, EndsRun}
 use Rattle.fw_run.specs.Enduring.{with_faults, RoseBy, StaysOrRose, IsEndureKnown, PrintsEndured, IsEndured, IsEnduredToDamage}
-use Rattle.fw_run.specs.Fault.{faults_after}
+use Rattle.fw_run.specs.Fault.{faults_after_run}
 use Rattle.fw_run.specs.Headline.{PrintsRun}
 use Rattle.fw_run.specs.Items.{ItemsRun}
 use Rattle.fw_run.specs.Manner.{goes_on}
@@ -48,13 +48,13 @@ use Rattle.fw_command.specs.Writing.{IsWritten, IsCutOff, WritesText}
 -- ---- a run that its first fault ends
 
 -- so far it is the machine's over the items, and so it is counted
-pub record IsMachineRun (sys : System) (items : List Item) (tally : Tally) (bytes : List ℕ) (records : Option Records) : Type 0 where
+pub record IsMachineRun (sys : System) (items : List Item) (tally : StepCounts) (bytes : List ℕ) (records : Option Records) : Type 0 where
   pub run : ItemsRun sys (first_state sys) items
   pub counted : tally ≡ tally_of run.outcomes
   pub text : bytes ≡ outcomes_text sys.flow run.outcomes
   pub holds : HoldsWrites sys records run.last
 
-machine_run : (sys : System) (items : List Item) (tally : Tally) (count : ℕ) (bytes : List ℕ) (records : Option Records)
+machine_run : (sys : System) (items : List Item) (tally : StepCounts) (count : ℕ) (bytes : List ℕ) (records : Option Records)
     → IsSoFar false sys items tally count bytes (HoldsWrites sys records) → IsMachineRun sys items tally bytes records
 machine_run sys items tally count bytes records s =
     let r = s.run.of_items in
@@ -66,7 +66,7 @@ machine_run sys items tally count bytes records s =
       holds = s.so;
     }
 
-taken_run : (Tells : Type 0) (sys : System) (items : List Item) (tally : Tally) (count : ℕ) (records : Option Records) (first last : SinkView)
+taken_run : (Tells : Type 0) (sys : System) (items : List Item) (tally : StepCounts) (count : ℕ) (records : Option Records) (first last : SinkView)
     → (u : AreTaken false Tells sys items (length items) tally count (HoldsWrites sys records) first last) → AreKnown Tells sys items → IsMachineRun sys items tally u.bytes records
 taken_run Tells sys items tally count records first last u k =
     let all : take (length items) items ≡ items = take_all (length items) items (omega arith) in
@@ -74,7 +74,7 @@ taken_run Tells sys items tally count records first last u k =
     subst (λ (xs : List Item). IsMachineRun sys xs tally u.bytes records) all (machine_run sys (take (length items) items) tally count u.bytes records s)
 
 -- its lines begin with those of first items
-taken_begins : (Tells : Type 0) (sys : System) (items : List Item) (tally : Tally) (count : ℕ) (records : Option Records) (first last : SinkView)
+taken_begins : (Tells : Type 0) (sys : System) (items : List Item) (tally : StepCounts) (count : ℕ) (records : Option Records) (first last : SinkView)
     → (u : AreTaken false Tells sys items (length items) tally count (HoldsWrites sys records) first last) → (n : ℕ) → AreKnown Tells sys (take n items) → BeginsWith sys (take n items) u.bytes
 taken_begins Tells sys items tally count records first last u n k = elim (cases_lt (length items) n) [
   | inl later ↦
@@ -87,7 +87,7 @@ taken_begins Tells sys items tally count records first last u n k = elim (cases_
     at m h known = begins-first false sys (take m items) u.bytes refl (u.begins m h (known-first false Tells sys (take m items) refl known))
 
 -- the line is the last one of the text
-last_line-run : (sys : System) (items : List Item) (tally : Tally) (bytes : List ℕ) (records : Option Records) → IsMachineRun sys items tally bytes records
+last_line-run : (sys : System) (items : List Item) (tally : StepCounts) (bytes : List ℕ) (records : Option Records) → IsMachineRun sys items tally bytes records
     → PrintsRun sys items (bytes ++ done_line tally.steps tally.idle)
 last_line-run sys items tally bytes records m = record {
   steps = m.run.steps;
@@ -96,7 +96,7 @@ last_line-run sys items tally bytes records m = record {
   outcomes = m.run.outcomes;
   run = m.run.run;
   text = ap (λ (t : List ℕ). t ++ done_line tally.steps tally.idle) m.text
-      ∙ ap (λ (counts : Tally). outcomes_text sys.flow m.run.outcomes ++ done_line counts.steps counts.idle) m.counted;
+      ∙ ap (λ (counts : StepCounts). outcomes_text sys.flow m.run.outcomes ++ done_line counts.steps counts.idle) m.counted;
 }
 
 -- what was cut off is known
@@ -167,15 +167,15 @@ stopped_put Tells sys items records P Q put s = record {
 -- ---- a run that goes on
 
 -- the line is the last one of its text
-last_line-endured : (sys : System) (items : List Item) (tally : Tally) (count : ℕ) (bytes : List ℕ) (IsSo : Machine → Type 0) → (s : IsSoFar true sys items tally count bytes IsSo)
+last_line-endured : (sys : System) (items : List Item) (tally : StepCounts) (count : ℕ) (bytes : List ℕ) (IsSo : Machine → Type 0) → (s : IsSoFar true sys items tally count bytes IsSo)
     → endured_text sys.flow s.run.of_items.reports ≡ bytes ++ endured_line tally.steps tally.idle count
 last_line-endured sys items tally count bytes IsSo s =
     let reports = s.run.of_items.reports in
     ap (λ (t : List ℕ). t ++ endured_line (length reports) (idle_count (shown_in reports)) (faults_in reports)) (sym s.text)
-    ∙ ap (λ (c : Tally). bytes ++ endured_line c.steps c.idle (faults_in reports)) (sym s.counted)
+    ∙ ap (λ (c : StepCounts). bytes ++ endured_line c.steps c.idle (faults_in reports)) (sym s.counted)
     ∙ ap (λ (n : ℕ). bytes ++ endured_line tally.steps tally.idle n) (sym s.faults)
 
-taken_endured : (Tells : Type 0) (sys : System) (items : List Item) (tally : Tally) (count : ℕ) (records : Option Records) (first last : SinkView)
+taken_endured : (Tells : Type 0) (sys : System) (items : List Item) (tally : StepCounts) (count : ℕ) (records : Option Records) (first last : SinkView)
     → (u : AreTaken true Tells sys items (length items) tally count (HoldsWrites sys records) first last) → IsEndureKnown Tells sys items
     → IsSoFar true sys items tally count u.bytes (HoldsWrites sys records)
 taken_endured Tells sys items tally count records first last u k =
@@ -184,7 +184,7 @@ taken_endured Tells sys items tally count records first last u k =
     (u.so_far (known-through true Tells sys (take (length items) items) (subst (IsEndureKnown Tells sys) (sym all) k)))
 
 -- its last line was written
-endured_whole : (Tells : Type 0) (sys : System) (items : List Item) (tally : Tally) (count : ℕ) (IsCount : ℕ → Type 0) (records : Option Records) (first middle last : SinkView)
+endured_whole : (Tells : Type 0) (sys : System) (items : List Item) (tally : StepCounts) (count : ℕ) (IsCount : ℕ → Type 0) (records : Option Records) (first middle last : SinkView)
     → AreTaken true Tells sys items (length items) tally count (HoldsWrites sys records) first middle → IsWritten (endured_line tally.steps tally.idle count) middle last → IsCount count
     → IsEndured Tells IsCount sys items records first last
 endured_whole Tells sys items tally count IsCount records first middle last u w is =
@@ -208,7 +208,7 @@ endured_text-whole Tells sys items IsCount IsSo records first last IsPut so put 
 }
 
 -- or cut off
-endured_cut : (Tells : Type 0) (sys : System) (items : List Item) (tally : Tally) (count a c : ℕ) (f : OutFault) (records : Option Records) (first middle last : SinkView)
+endured_cut : (Tells : Type 0) (sys : System) (items : List Item) (tally : StepCounts) (count a c : ℕ) (f : OutFault) (records : Option Records) (first middle last : SinkView)
     → AreTaken true Tells sys items (length items) tally count (HoldsWrites sys records) first middle → IsCutOff (endured_line tally.steps tally.idle count) f middle last → RoseBy a c count
     → WritesText (PrintsEndured Tells (λ faults others. RoseBy a c faults) sys items) (λ printed. IsCutOff printed f first last)
 endured_cut Tells sys items tally count a c f records first middle last u cut is =
@@ -280,7 +280,7 @@ summary_stopped Tells sys items seeded f bytes view w t =
     record { printed = line; text = λ k. record { run = r; text = refl }; written = nothing_until bytes f view t line }
 
 -- or the line is theirs
-summary_told : (IsPut : List ℕ → Type 0) (Tells : Type 0) (sys : System) (items : List Item) (seeded : Seeded) (records : Option Records) (tally : Tally) (count : ℕ) (first last : SinkView)
+summary_told : (IsPut : List ℕ → Type 0) (Tells : Type 0) (sys : System) (items : List Item) (seeded : Seeded) (records : Option Records) (tally : StepCounts) (count : ℕ) (first last : SinkView)
     → AreTaken false Tells sys items (length items) tally count (HoldsWrites sys records) first last → IsPut (summary_line seeded tally)
     → WritesText (λ printed. AreKnown Tells sys items → PrintsSummary sys items seeded printed) IsPut
 summary_told IsPut Tells sys items seeded records tally count first last u put = record {
@@ -328,7 +328,7 @@ ends_out f p once rises = record {
 }
 
 -- the items were taken, and the last line was written or cut off
-pub ends-taken : (Tells : Type 0) (manner : Manner) (sys : System) (items : List Item) (tally : Tally) (count a c : ℕ) (records : Option Records) (given : Option (ℕ × List ℕ)) (first middle last : SinkView)
+pub ends-taken : (Tells : Type 0) (manner : Manner) (sys : System) (items : List Item) (tally : StepCounts) (count a c : ℕ) (records : Option Records) (given : Option (ℕ × List ℕ)) (first middle last : SinkView)
     (answer : Result (Unit {0}) RunFault) → IsWellFormedSystem sys → AreTaken (goes_on manner) Tells sys items (length items) tally count (HoldsWrites sys records) (seen manner first) (seen manner middle)
     → RoseBy a c count → (goes_on manner ≡ false → count ≡ 0) → StaysIfInOneLine manner first middle → WritesLast (last_line_of manner tally count) count answer middle last
     → EndsRun Tells manner sys items answer a c records given first last
@@ -444,7 +444,7 @@ fault_in f g e = ap fault_of e
 pub ends-stopped : (Tells : Type 0) (manner : Manner) (sys : System) (items : List Item) (f : RunFault) (a c : ℕ) (records : Option Records) (given : Option (ℕ × List ℕ)) (first last : SinkView)
     → IsWellFormedSystem sys → AreCutOff (goes_on manner) Tells sys items f (RoseBy a c) (seen manner first) (seen manner last)
     → EndsItems (goes_on manner) Tells sys items f (RoseBy a c) records given (seen manner first) (seen manner last) → StaysIfInOneLine manner first last
-    → (goes_on manner ≡ false → c ≡ faults_after {T = Unit {0}} (Err f) a) → StaysOrRose a c → EndsRun Tells manner sys items (Err f) a c records given first last
+    → (goes_on manner ≡ false → c ≡ faults_after_run {T = Unit {0}} (Err f) a) → StaysOrRose a c → EndsRun Tells manner sys items (Err f) a c records given first last
 ends-stopped Tells manner sys items f a c records given first last w u ends stays once rises =
     let s = has_stopped Tells manner sys items f a c records given first last w u ends stays in
     record {
@@ -484,7 +484,7 @@ ends-told Tells other manner sys items answer a c records given first last e h =
     subst (λ (told : Bool). EndsRun (told ≡ true) manner sys items answer a c records given first last) (sym e) h
 
 -- no fault of an engine is told once the one line is written
-pub stays_last : {O : Type 0} (manner : Manner) (tally : Tally) (count : ℕ) (answer : Result (Unit {0}) RunFault) (first last : SinkView) (before after : O) (f : EngineFault)
+pub stays_last : {O : Type 0} (manner : Manner) (tally : StepCounts) (count : ℕ) (answer : Result (Unit {0}) RunFault) (first last : SinkView) (before after : O) (f : EngineFault)
     → (goes_on manner ≡ false → count ≡ 0) → WritesLast (last_line_of manner tally count) count answer first last → IsErrOf answer (stop.Engine f) → StaysIfInOneLine manner before after
 stays_last by_lines tally count answer first last before after f none line e = tt
 stays_last through_faults tally count answer first last before after f none line e = tt

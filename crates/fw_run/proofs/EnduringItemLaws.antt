@@ -24,9 +24,9 @@ use Rattle.fw_command.proofs.WritingLaws.{written_more}
 use Rattle.fw_run.proofs.TakenLaws.{taken_part, taken_more}
 use Rattle.fw_run.specs.declared.fault.RunFault.{RunFault}
 use Rattle.fw_run.specs.declared.fault.RunFault.TheVariants as stop
-use Rattle.fw_run.specs.declared.tally.Tally.{Tally}
+use Rattle.fw_run.specs.declared.tally.StepCounts.{StepCounts}
 use Rattle.fw_run.specs.Enduring.{Endures, RoseBy}
-use Rattle.fw_run.specs.Fault.{faults_after}
+use Rattle.fw_run.specs.Fault.{faults_after_run}
 use Rattle.fw_run.specs.Reports.{Report, came, not_taken, unswept, faults_in, outcomes_in, shown_in, fault_line, reports_text}
 use Rattle.fw_run.specs.Performing.{IsItemTaken, IsItemBegun, IsItemStopped, PrintsItem}
 use Rattle.fw_run.specs.Printed.{outcomes_text}
@@ -39,7 +39,7 @@ use Rattle.fw_command.specs.Writing.{IsWritten, IsCutOff}
 
 -- The store failed in a step of the item; these are the lines of the steps, the last of which tells the fault, and so they are
 -- counted; and of the state to which the item leads this is true.
-pub record IsItemFaulted (sys : System) (state : Machine) (item : Item) (old counts : Tally) (bytes : List ℕ) (IsSo : Machine → Type 0) : Type 0 where
+pub record IsItemFaulted (sys : System) (state : Machine) (item : Item) (old counts : StepCounts) (bytes : List ℕ) (IsSo : Machine → Type 0) : Type 0 where
   pub of_item : EnduredItem sys state item
   pub text : reports_text sys.flow old.steps of_item.reports ≡ bytes ++ fault_line (counts.steps + 1)
   pub counted : with_step counts ≡ with_tally old (tally_shown of_item.reports)
@@ -95,13 +95,13 @@ step_faulted sys state Collect IsSo calls l = record {
 }
 step_faulted sys state (Ack o) IsSo calls l = absurd calls
 
-item_faulted : (sys : System) (state : Machine) (item : Item) (old counts : Tally) (bytes : List ℕ) (P : Machine → Type 0) → MayCallIn sys.flow item
+item_faulted : (sys : System) (state : Machine) (item : Item) (old counts : StepCounts) (bytes : List ℕ) (P : Machine → Type 0) → MayCallIn sys.flow item
     → (t : IsItemStopped sys state item old counts bytes (λ now. IsLeftIn sys now item P)) → IsItemFaulted sys state item old counts bytes P
 item_faulted sys state (One step) old counts bytes P calls t =
     let left : IsLeftBy sys state step P = subst (λ (m : Machine). IsLeftBy sys m step P) t.begins.1 t.so in
     let f = step_faulted sys state step P calls left in
     let none : t.outcomes ≡ [] = no_outcomes sys state t.now t.begun t.outcomes t.begins.0 t.run in
-    let steps : counts.steps ≡ old.steps + 0 = ap (λ (c : Tally). c.steps) t.counted ∙ ap (λ (os : List Outcome). old.steps + length os) none in
+    let steps : counts.steps ≡ old.steps + 0 = ap (λ (c : StepCounts). c.steps) t.counted ∙ ap (λ (os : List Outcome). old.steps + length os) none in
     let nothing : bytes ≡ [] = t.text ∙ ap (λ (os : List Outcome). outcomes_text sys.flow os) none in
     let number : old.steps + 1 ≡ counts.steps + 1 = omega (arith, steps) in
     record {
@@ -112,7 +112,7 @@ item_faulted sys state (One step) old counts bytes P calls t =
       so = f.so;
     }
 item_faulted sys state (Auto most) old counts bytes P calls t =
-    let steps : counts.steps ≡ old.steps + length t.outcomes = ap (λ (c : Tally). c.steps) t.counted in
+    let steps : counts.steps ≡ old.steps + length t.outcomes = ap (λ (c : StepCounts). c.steps) t.counted in
     let all : List Report = map came t.outcomes ++ not_taken ∷ [] in
     let taken : outcomes_in all ≡ t.outcomes = outcomes_in-append (map came t.outcomes) (not_taken ∷ []) ∙ append-nil (outcomes_in (map came t.outcomes)) ∙ outcomes_in-came t.outcomes in
     let seen : shown_in all ≡ t.outcomes = shown_in-append (map came t.outcomes) (not_taken ∷ []) ∙ append-nil (shown_in (map came t.outcomes)) ∙ shown_in-came t.outcomes in
@@ -144,7 +144,7 @@ fault_of_answer f g e = ap with_fault e
     with_fault x = Err x
 
 -- the item was taken, and the store did not fail
-item_taken : (goes_on : Bool) (sys : System) (state : Machine) (item : Item) (old new : Tally) (bytes : List ℕ) (engine : Engine) (records : Option Records)
+item_taken : (goes_on : Bool) (sys : System) (state : Machine) (item : Item) (old new : StepCounts) (bytes : List ℕ) (engine : Engine) (records : Option Records)
     → IsItemTaken sys state item old new bytes engine records → IsItemEndured goes_on sys state item old new 0 bytes engine records
 item_taken goes_on sys state item old new bytes engine records t =
     let r = t.of_item in
@@ -157,7 +157,7 @@ item_taken goes_on sys state item old new bytes engine records t =
       stands = t.stands;
     }
 
-pub through-taken : (goes_on : Bool) (old new : Engine) (before after : Option Records) (item : Item) (counted counts : Tally) (IsCount : ℕ → Type 0) (first last : SinkView)
+pub through-taken : (goes_on : Bool) (old new : Engine) (before after : Option Records) (item : Item) (counted counts : StepCounts) (IsCount : ℕ → Type 0) (first last : SinkView)
     → PrintsItem {T = Unit {0}} old before item counted (Ok tt) new after counts first last → PrintsThrough goes_on old before item counted IsCount (Ok 0) new after counts first last
 through-taken goes_on old new before after item counted counts IsCount first last p = record {
   bytes = p.bytes;
@@ -166,7 +166,7 @@ through-taken goes_on old new before after item counted counts IsCount first las
 }
 
 -- its lines were cut off, and it is completed by a run in which the store does not fail
-pub item_broken : (goes_on : Bool) (sys : System) (state : Machine) (item : Item) (old : Tally) (bytes : List ℕ) (IsCount : ℕ → Type 0) → IsCount 0
+pub item_broken : (goes_on : Bool) (sys : System) (state : Machine) (item : Item) (old : StepCounts) (bytes : List ℕ) (IsCount : ℕ → Type 0) → IsCount 0
     → IsItemBegun sys state item bytes → IsItemBroken goes_on sys state item old bytes IsCount
 item_broken goes_on sys state item old bytes IsCount none b =
     let r = b.of_item in
@@ -179,13 +179,13 @@ item_broken goes_on sys state item old bytes IsCount none b =
     }
 
 -- how often the store failed where it does not end the run
-pub stopped_count : (f : RunFault) (before after : ℕ) → after ≡ faults_after {T = Unit {0}} (Err f) before → IsCountAt f (RoseBy before after) 0
+pub stopped_count : (f : RunFault) (before after : ℕ) → after ≡ faults_after_run {T = Unit {0}} (Err f) before → IsCountAt f (RoseBy before after) 0
 stopped_count (stop.Out f) before after e = e
 stopped_count (stop.Engine fault.StoreFault) before after e = tt
 stopped_count (stop.Engine (fault.Damaged id)) before after e = e
 stopped_count (stop.Engine fault.NoMemory) before after e = e
 
-pub through-stopped : (goes_on : Bool) (f : RunFault) (old new : Engine) (before after : Option Records) (item : Item) (counted counts : Tally) (a b : ℕ) (first last : SinkView)
+pub through-stopped : (goes_on : Bool) (f : RunFault) (old new : Engine) (before after : Option Records) (item : Item) (counted counts : StepCounts) (a b : ℕ) (first last : SinkView)
     → IsCountAt f (RoseBy a b) 0 → PrintsItem {T = Unit {0}} old before item counted (Err f) new after counts first last
     → PrintsThrough goes_on old before item counted (RoseBy a b) (Err f) new after counts first last
 through-stopped goes_on (stop.Out f) old new before after item counted counts a b first last none p = record {
@@ -200,7 +200,7 @@ through-stopped goes_on (stop.Engine f) old new before after item counted counts
 }
 
 -- the store failed in the item, and the line that tells it was written
-pub through-fault : (goes_on : Bool) (old new : Engine) (before after : Option Records) (item : Item) (counted counts : Tally) (IsCount : ℕ → Type 0) (first mid last : SinkView)
+pub through-fault : (goes_on : Bool) (old new : Engine) (before after : Option Records) (item : Item) (counted counts : StepCounts) (IsCount : ℕ → Type 0) (first mid last : SinkView)
     → goes_on ≡ true → ((sys : System) (state : Machine) → StandsFor sys old before state → MayCallIn sys.flow item)
     → PrintsItem {T = Unit {0}} old before item counted (Err (stop.Engine fault.StoreFault)) new after counts first mid → IsWritten (fault_line (counts.steps + 1)) mid last
     → PrintsThrough goes_on old before item counted IsCount (Ok 1) new after (with_step counts) first last
@@ -213,10 +213,10 @@ through-fault goes_on old new before after item counted counts IsCount first mid
 }
 
 -- or the line was cut off
-pub through-fault_cut : (goes_on : Bool) (old new : Engine) (before after : Option Records) (item : Item) (counted counts : Tally) (a b : ℕ) (f : OutFault) (first mid last : SinkView)
+pub through-fault_cut : (goes_on : Bool) (old new : Engine) (before after : Option Records) (item : Item) (counted counts : StepCounts) (a b : ℕ) (f : OutFault) (first mid last : SinkView)
     → goes_on ≡ true → ((sys : System) (state : Machine) → StandsFor sys old before state → MayCallIn sys.flow item)
     → PrintsItem {T = Unit {0}} old before item counted (Err (stop.Engine fault.StoreFault)) new after counts first mid → IsCutOff (fault_line (counts.steps + 1)) f mid last
-    → RoseBy a b 1 → (now : Tally) → PrintsThrough goes_on old before item counted (RoseBy a b) (Err (stop.Out f)) new after now first last
+    → RoseBy a b 1 → (now : StepCounts) → PrintsThrough goes_on old before item counted (RoseBy a b) (Err (stop.Out f)) new after now first last
 through-fault_cut goes_on old new before after item counted counts a b f first mid last on calls p c once now =
     let line = fault_line (counts.steps + 1) in
     let at = taken_part line f mid last c in

@@ -10,7 +10,7 @@ use Rattle.fw_running.specs.Faults as engine
 use Rattle.fw_run.specs.declared.fault.RunFault.{RunFault}
 use Rattle.fw_run.specs.declared.fault.RunFault.TheVariants as stop
 use Rattle.fw_run.specs.Enduring.{with_faults, RoseBy, RoseByFaults, RoseOrFull, StaysOrRose}
-use Rattle.fw_run.specs.Fault.{faults_after}
+use Rattle.fw_run.specs.Fault.{faults_after_run}
 
 -- ---- counts
 
@@ -53,15 +53,15 @@ rises_more a b c r s = (r.0 + s.0, rose_more a b c r.0 s.0 r.1 s.1)
 -- ---- answers
 
 -- how often a store failed is told by the answer
-pub none_after : {T : Type 0} (answer : Result T RunFault) (before after : ℕ) → after ≡ faults_after answer before → OnOk answer (after ≡ before)
+pub none_after : {T : Type 0} (answer : Result T RunFault) (before after : ℕ) → after ≡ faults_after_run answer before → OnOk answer (after ≡ before)
 none_after (Ok value) before after e = e
 none_after (Err fault) before after e = tt
 
-pub some_after : {T : Type 0} (answer : Result T RunFault) (before after : ℕ) → after ≡ faults_after answer before → IsErrOf answer (stop.Engine fault.StoreFault)
+pub some_after : {T : Type 0} (answer : Result T RunFault) (before after : ℕ) → after ≡ faults_after_run answer before → IsErrOf answer (stop.Engine fault.StoreFault)
     → RoseByFaults before after
-some_after {T} answer before after e is = (1, omega arith, e ∙ ap (λ (r : Result T RunFault). faults_after r before) is)
+some_after {T} answer before after e is = (1, omega arith, e ∙ ap (λ (r : Result T RunFault). faults_after_run r before) is)
 
-pub rises_after : {T : Type 0} (answer : Result T RunFault) (before after : ℕ) → after ≡ faults_after answer before → StaysOrRose before after
+pub rises_after : {T : Type 0} (answer : Result T RunFault) (before after : ℕ) → after ≡ faults_after_run answer before → StaysOrRose before after
 rises_after (Ok value) before after e = (0, e)
 rises_after (Err (stop.Out f)) before after e = (0, e)
 rises_after (Err (stop.Engine fault.StoreFault)) before after e = (1, e)
@@ -69,20 +69,20 @@ rises_after (Err (stop.Engine (fault.Damaged id))) before after e = (0, e)
 rises_after (Err (stop.Engine fault.NoMemory)) before after e = (0, e)
 
 -- a fault that is not one of the store
-pub stays_after : (T : Type 0) (f : RunFault) (before after : ℕ) → (f ≡ stop.Engine fault.StoreFault → ⊥) → after ≡ faults_after {T = T} (Err f) before → RoseBy before after 0
+pub stays_after : (T : Type 0) (f : RunFault) (before after : ℕ) → (f ≡ stop.Engine fault.StoreFault → ⊥) → after ≡ faults_after_run {T = T} (Err f) before → RoseBy before after 0
 stays_after T (stop.Out f) before after other e = e
 stays_after T (stop.Engine fault.StoreFault) before after other e = absurd (other refl)
 stays_after T (stop.Engine (fault.Damaged id)) before after other e = e
 stays_after T (stop.Engine fault.NoMemory) before after other e = e
 
 -- a fault of the engine is told as it was
-pub told_after : (A B : Type 0) (f : EngineFault) (before after : ℕ) → after ≡ engine.faults_after {T = A} (Err f) before → after ≡ faults_after {T = B} (Err (stop.Engine f)) before
+pub told_after : (A B : Type 0) (f : EngineFault) (before after : ℕ) → after ≡ engine.faults_after_step {T = A} (Err f) before → after ≡ faults_after_run {T = B} (Err (stop.Engine f)) before
 told_after A B fault.StoreFault before after e = e
 told_after A B (fault.Damaged id) before after e = e
 told_after A B fault.NoMemory before after e = e
 
 -- and a fault of a run with another value
-pub passed_after : (A B : Type 0) (f : RunFault) (before after : ℕ) → after ≡ faults_after {T = A} (Err f) before → after ≡ faults_after {T = B} (Err f) before
+pub passed_after : (A B : Type 0) (f : RunFault) (before after : ℕ) → after ≡ faults_after_run {T = A} (Err f) before → after ≡ faults_after_run {T = B} (Err f) before
 passed_after A B (stop.Out f) before after e = e
 passed_after A B (stop.Engine fault.StoreFault) before after e = e
 passed_after A B (stop.Engine (fault.Damaged id)) before after e = e

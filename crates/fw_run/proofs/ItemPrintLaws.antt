@@ -31,7 +31,7 @@ use Rattle.fw_run.proofs.TallyLaws.{counted-none, counted-more}
 use Rattle.fw_command.proofs.WritingLaws.{written_nothing, written_more}
 use Rattle.fw_run.proofs.TakenLaws.{taken_part, taken_more}
 use Rattle.fw_run.specs.declared.fault.RunFault.TheVariants as stop
-use Rattle.fw_run.specs.declared.tally.Tally.{Tally}
+use Rattle.fw_run.specs.declared.tally.StepCounts.{StepCounts}
 use Rattle.fw_run.specs.Items.{ItemRun}
 use Rattle.fw_run.specs.Performing.{IsLeftAfter, PrintsItem, AreFew}
 use Rattle.fw_run.specs.Printed.{outcomes_text, is_idle}
@@ -52,7 +52,7 @@ step_left old new before after step (fault.Damaged id) faulted unharmed sys stat
 step_left old new before after step fault.NoMemory faulted unharmed sys state st = tt
 
 -- the engine took no step
-pub step_stopped : (T : Type 0) (old new : Engine) (before after : Option Records) (step : Step) (tally : Tally) (f : EngineFault) (view : SinkView) → tally.sum < 2 ^ 64
+pub step_stopped : (T : Type 0) (old new : Engine) (before after : Option Records) (step : Step) (tally : StepCounts) (f : EngineFault) (view : SinkView) → tally.sum < 2 ^ 64
     → ((sys : System) (state : Machine) → StandsFor sys old before state → IsErrOf {T = Stepped} (Err f) fault.StoreFault → IsLeftBy sys state step (λ next. StandsFor sys new after next))
     → ((id : ℕ) (sys : System) (state : Machine) → StandsFor sys old before state → IsErrOf {T = Stepped} (Err f) (fault.Damaged id) → (before ≡ None) × IsStepEnabled sys state Recover × StandsFor sys new after state)
     → PrintsItem {T = T} old before (One step) tally (Err (stop.Engine f)) new after tally view view
@@ -83,7 +83,7 @@ line_of-step sys flow new after state stepped e st =
     ap (λ (f : Dataflow). outcome_text f (outcome_of stepped)) (e ∙ st.flow) ∙ sym (text_of_one sys.flow (outcome_of stepped))
 
 -- it took the step, and its lines were cut off
-pub step_begun : (T : Type 0) (old new : Engine) (before after : Option Records) (step : Step) (tally counts : Tally) (flow : Dataflow) (stepped : Stepped) (f : OutFault) (first last : SinkView)
+pub step_begun : (T : Type 0) (old new : Engine) (before after : Option Records) (step : Step) (tally counts : StepCounts) (flow : Dataflow) (stepped : Stepped) (f : OutFault) (first last : SinkView)
     → flow ≡ flow_of new → ((sys : System) (state : Machine) → StandsFor sys old before state → Trusts sys state step before → FollowsStep sys state step stepped new after)
     → IsCutOff (outcome_text flow (outcome_of stepped)) f first last → PrintsItem {T = T} old before (One step) tally (Err (stop.Out f)) new after counts first last
 step_begun T old new before after step tally counts flow stepped f first last e follows c =
@@ -101,7 +101,7 @@ step_begun T old new before after step tally counts flow stepped f first last e 
     }
 
 -- or were written
-pub step_taken : {T : Type 0} (old new : Engine) (before after : Option Records) (step : Step) (tally counts : Tally) (flow : Dataflow) (stepped : Stepped) (value : T) (first last : SinkView)
+pub step_taken : {T : Type 0} (old new : Engine) (before after : Option Records) (step : Step) (tally counts : StepCounts) (flow : Dataflow) (stepped : Stepped) (value : T) (first last : SinkView)
     → flow ≡ flow_of new → ((sys : System) (state : Machine) → StandsFor sys old before state → Trusts sys state step before → FollowsStep sys state step stepped new after)
     → counts ≡ with_tally tally (tally_of (outcome_of stepped ∷ [])) → IsWritten (outcome_text flow (outcome_of stepped)) first last
     → PrintsItem {T = T} old before (One step) tally (Ok value) new after counts first last
@@ -122,7 +122,7 @@ step_taken old new before after step tally counts flow stepped value first last 
 
 -- From the state so many steps were taken by themselves, each the first that was enabled; so they are counted, and these are their
 -- lines; and the engine stands for the state to which they led.
-pub record AutoGoes (sys : System) (state : Machine) (count : ℕ) (tally counts : Tally) (bytes : List ℕ) (engine : Engine) (records : Option Records) : Type 0 where
+pub record AutoGoes (sys : System) (state : Machine) (count : ℕ) (tally counts : StepCounts) (bytes : List ℕ) (engine : Engine) (records : Option Records) : Type 0 where
   pub steps : List Step
   pub full : length steps ≡ count
   pub now : Machine
@@ -134,12 +134,12 @@ pub record AutoGoes (sys : System) (state : Machine) (count : ℕ) (tally counts
   pub stands : StandsFor sys engine records now
 
 -- so it was from each state for which the engine stood, and the lines were written
-pub record IsAutoSoFar (old new : Engine) (before after : Option Records) (count : ℕ) (tally counts : Tally) (first last : SinkView) : Type 0 where
+pub record IsAutoSoFar (old new : Engine) (before after : Option Records) (count : ℕ) (tally counts : StepCounts) (first last : SinkView) : Type 0 where
   pub bytes : List ℕ
   pub written : IsWritten bytes first last
   pub goes : (sys : System) (state : Machine) → StandsFor sys old before state → AutoGoes sys state count tally counts bytes new after
 
-pub auto-none : (engine : Engine) (records : Option Records) (tally : Tally) (view : SinkView) → tally.sum < 2 ^ 64 → IsAutoSoFar engine engine records records 0 tally tally view view
+pub auto-none : (engine : Engine) (records : Option Records) (tally : StepCounts) (view : SinkView) → tally.sum < 2 ^ 64 → IsAutoSoFar engine engine records records 0 tally tally view view
 auto-none engine records tally view fits = record {
   bytes = [];
   written = written_nothing view;
@@ -148,7 +148,7 @@ auto-none engine records tally view fits = record {
 }
 
 -- one step more
-more_goes : (sys : System) (state : Machine) (count : ℕ) (tally counts more : Tally) (bytes : List ℕ) (mid new : Engine) (between after : Option Records) (flow : Dataflow) (shown : Effect) (next : Machine)
+more_goes : (sys : System) (state : Machine) (count : ℕ) (tally counts more : StepCounts) (bytes : List ℕ) (mid new : Engine) (between after : Option Records) (flow : Dataflow) (shown : Effect) (next : Machine)
     → (g : AutoGoes sys state count tally counts bytes mid between) → more ≡ with_tally counts (tally_of (did shown ∷ [])) → flow ≡ flow_of new → TakesFirst sys g.now (auto_steps sys.flow) next (did shown) → StandsFor sys new after next
     → AutoGoes sys state (count + 1) tally more (bytes ++ outcome_text flow (did shown)) new after
 more_goes sys state count tally counts more bytes mid new between after flow shown next g i e t st =
@@ -163,13 +163,13 @@ more_goes sys state count tally counts more bytes mid new between after flow sho
       comes = subst (λ n. IsAutoRun sys state n (g.steps ++ t.0 ∷ []) next) (sym longer) (auto-goes_on sys state g.now next g.steps (t.0 ∷ []) (suc zero) g.comes one);
       outcomes = g.outcomes ++ did shown ∷ [];
       run = runs-go_on sys state g.now next g.steps (t.0 ∷ []) g.outcomes (did shown ∷ []) g.run (next, t.1.leads, refl);
-      counted = i ∙ ap (λ (t : Tally). with_tally t (tally_of (did shown ∷ []))) g.counted ∙ counted-more tally g.outcomes (did shown ∷ []);
+      counted = i ∙ ap (λ (t : StepCounts). with_tally t (tally_of (did shown ∷ []))) g.counted ∙ counted-more tally g.outcomes (did shown ∷ []);
       text = ap (λ (b : List ℕ). b ++ outcome_text flow (did shown)) g.text ∙ ap (λ (b : List ℕ). outcomes_text sys.flow g.outcomes ++ b) line
           ∙ sym (text-append sys.flow g.outcomes (did shown ∷ []));
       stands = st;
     }
 
-pub auto-more : (old mid new : Engine) (before between after : Option Records) (flow : Dataflow) (stepped : Stepped) (count : ℕ) (tally counts more : Tally) (first middle last : SinkView)
+pub auto-more : (old mid new : Engine) (before between after : Option Records) (flow : Dataflow) (stepped : Stepped) (count : ℕ) (tally counts more : StepCounts) (first middle last : SinkView)
     → IsAutoSoFar old mid before between count tally counts first middle → more ≡ with_tally counts (tally_of (outcome_of stepped ∷ [])) → flow ≡ flow_of new
     → ((sys : System) (state : Machine) → StandsFor sys mid between state → FollowsFirstStep sys state stepped new after)
     → is_idle (outcome_of stepped) ≡ false → IsWritten (outcome_text flow (outcome_of stepped)) middle last
@@ -191,7 +191,7 @@ auto_on sys state now last steps others rest most c d e =
     subst (λ n. IsAutoRun sys state n (steps ++ others) last) e (auto-goes_on sys state now last steps others rest c d)
 
 -- they end where none is enabled
-pub auto-ends : {T : Type 0} (old mid new : Engine) (before between after : Option Records) (stepped : Stepped) (count most : ℕ) (tally counts : Tally) (value : T) (first last : SinkView)
+pub auto-ends : {T : Type 0} (old mid new : Engine) (before between after : Option Records) (stepped : Stepped) (count most : ℕ) (tally counts : StepCounts) (value : T) (first last : SinkView)
     → IsAutoSoFar old mid before between count tally counts first last → count < most
     → ((sys : System) (state : Machine) → StandsFor sys mid between state → FollowsFirstStep sys state stepped new after)
     → is_idle (outcome_of stepped) ≡ true → PrintsItem {T = T} old before (Auto most) tally (Ok value) new after counts first last
@@ -215,7 +215,7 @@ auto-ends old mid new before between after Idle count most tally counts value fi
 }
 
 -- or where as many were taken as may be
-pub auto-full : {T : Type 0} (old new : Engine) (before after : Option Records) (count most : ℕ) (tally counts : Tally) (value : T) (first last : SinkView)
+pub auto-full : {T : Type 0} (old new : Engine) (before after : Option Records) (count most : ℕ) (tally counts : StepCounts) (value : T) (first last : SinkView)
     → IsAutoSoFar old new before after count tally counts first last → count ≡ most → PrintsItem {T = T} old before (Auto most) tally (Ok value) new after counts first last
 auto-full old new before after count most tally counts value first last s all = record {
   bytes = s.bytes;
@@ -237,7 +237,7 @@ auto-full old new before after count most tally counts value first last s all = 
 }
 
 -- the lines of a step were cut off
-pub auto_begun : (T : Type 0) (old mid new : Engine) (before between after : Option Records) (flow : Dataflow) (stepped : Stepped) (count most : ℕ) (tally counts more : Tally) (f : OutFault)
+pub auto_begun : (T : Type 0) (old mid new : Engine) (before between after : Option Records) (flow : Dataflow) (stepped : Stepped) (count most : ℕ) (tally counts more : StepCounts) (f : OutFault)
     (first middle last : SinkView) → IsAutoSoFar old mid before between count tally counts first middle → count < most
     → more ≡ with_tally counts (tally_of (outcome_of stepped ∷ [])) → flow ≡ flow_of new
     → ((sys : System) (state : Machine) → StandsFor sys mid between state → FollowsFirstStep sys state stepped new after)
@@ -283,7 +283,7 @@ auto_left mid new before between after most (fault.Damaged id) calls faulted unh
 auto_left mid new before between after most fault.NoMemory calls faulted unharmed sys state st = tt
 
 -- the engine took no step more
-pub auto_stopped : (T : Type 0) (old mid new : Engine) (before between after : Option Records) (count most : ℕ) (tally counts : Tally) (f : EngineFault) (first last : SinkView)
+pub auto_stopped : (T : Type 0) (old mid new : Engine) (before between after : Option Records) (count most : ℕ) (tally counts : StepCounts) (f : EngineFault) (first last : SinkView)
     → IsAutoSoFar old mid before between count tally counts first last → count < most
     → ((sys : System) (state : Machine) → StandsFor sys mid between state → IsErrOf {T = Stepped} (Err f) fault.StoreFault → FirstMayCall sys state)
     → ((sys : System) (state : Machine) → StandsFor sys mid between state → IsErrOf {T = Stepped} (Err f) fault.StoreFault → StandsFor sys new after state)
@@ -310,17 +310,17 @@ auto_stopped T old mid new before between after count most tally counts f first 
 -- ---- how many steps were counted
 
 -- an engine that took no step leaves the tally, and of its steps there were fewer than the item asks for
-pub few_stopped : (T : Type 0) (item : Item) (count : ℕ) (tally counts : Tally) (f : EngineFault) → AreOfSteps counts → counts.steps ≡ tally.steps + count → count < steps_in item
+pub few_stopped : (T : Type 0) (item : Item) (count : ℕ) (tally counts : StepCounts) (f : EngineFault) → AreOfSteps counts → counts.steps ≡ tally.steps + count → count < steps_in item
     → AreFew {T = T} item (Err (stop.Engine f)) tally counts
 few_stopped T item count tally counts fault.StoreFault are e below = (are, omega (arith, e, below))
 few_stopped T item count tally counts (fault.Damaged id) are e below = (are, omega (arith, e, below))
 few_stopped T item count tally counts fault.NoMemory are e below = (are, omega (arith, e, below))
 
 -- there are no more than the item asks for where its lines were written or cut off
-pub few_taken : {T : Type 0} (item : Item) (count : ℕ) (tally counts : Tally) (value : T) → AreOfSteps counts → counts.steps ≡ tally.steps + count → count ≤ steps_in item
+pub few_taken : {T : Type 0} (item : Item) (count : ℕ) (tally counts : StepCounts) (value : T) → AreOfSteps counts → counts.steps ≡ tally.steps + count → count ≤ steps_in item
     → AreFew {T = T} item (Ok value) tally counts
 few_taken item count tally counts value are e below = (are, omega (arith, e, below))
 
-pub few_cut : (T : Type 0) (item : Item) (count : ℕ) (tally counts : Tally) (f : OutFault) → AreOfSteps counts → counts.steps ≡ tally.steps + count → count ≤ steps_in item
+pub few_cut : (T : Type 0) (item : Item) (count : ℕ) (tally counts : StepCounts) (f : OutFault) → AreOfSteps counts → counts.steps ≡ tally.steps + count → count ≤ steps_in item
     → AreFew {T = T} item (Err (stop.Out f)) tally counts
 few_cut T item count tally counts f are e below = (are, omega (arith, e, below))

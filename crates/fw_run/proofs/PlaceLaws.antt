@@ -3,7 +3,7 @@ use Rattle.std.proofs.Common.{◌≡◌, ℕ, zero, suc, get_or, ◌+◌, ◌<�
 use Rattle.std.proofs.lemmas.List.{take-append-drop, drop_more, take_more}
 use Rattle.fw_schedule.specs.declared.item.Item.{Item}
 use Rattle.fw_schedule.specs.Schedule.{steps_in, step_count, step_limit}
-use Rattle.fw_run.specs.declared.tally.Tally.{Tally}
+use Rattle.fw_run.specs.declared.tally.StepCounts.{StepCounts}
 use Rattle.fw_run.specs.Performing.{HasRoom}
 use Rattle.fw_run.specs.Tallies.{AreOfSteps}
 
@@ -32,11 +32,11 @@ count-first [] (suc i) = omega arith
 count-first (x ∷ xs) (suc i) = omega (arith, count-first xs i)
 
 -- so there is room for the steps of the next one
-pub room_at : (xs : List Item) (i : ℕ) (tally : Tally) (item : Item) → i < length xs → item ≡ get_or xs i item → AreOfSteps tally → tally.steps ≤ step_count (take i xs)
+pub room_at : (xs : List Item) (i : ℕ) (tally : StepCounts) (item : Item) → i < length xs → item ≡ get_or xs i item → AreOfSteps tally → tally.steps ≤ step_count (take i xs)
     → step_count xs ≤ step_limit → HasRoom tally item
 room_at xs i tally item below e are h fits = record { of_steps = are; few = omega (arith, count-more xs i below item e, count-first xs (i + 1), h, fits) }
 
 -- and no more steps are counted than the items ask for
-pub counts-next : (xs : List Item) (i : ℕ) (tally counts : Tally) (item : Item) → i < length xs → item ≡ get_or xs i item → tally.steps ≤ step_count (take i xs)
+pub counts-next : (xs : List Item) (i : ℕ) (tally counts : StepCounts) (item : Item) → i < length xs → item ≡ get_or xs i item → tally.steps ≤ step_count (take i xs)
     → counts.steps ≤ tally.steps + steps_in item → counts.steps ≤ step_count (take (i + 1) xs)
 counts-next xs i tally counts item below e h k = omega (arith, count-more xs i below item e, h, k)

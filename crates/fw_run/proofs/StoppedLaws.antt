@@ -14,7 +14,7 @@ use Rattle.fw_keep.specs.Stored.{Records}
 use Rattle.fw_run.proofs.ItemLaws.{item-run}
 use Rattle.fw_run.proofs.ItemPrintLaws.{auto_on}
 use Rattle.fw_run.proofs.RunLaws.{text-append}
-use Rattle.fw_run.specs.declared.tally.Tally.{Tally}
+use Rattle.fw_run.specs.declared.tally.StepCounts.{StepCounts}
 use Rattle.fw_run.specs.Performing.{IsItemBegun, IsItemStopped}
 use Rattle.fw_run.specs.Printed.{outcomes_text}
 
@@ -25,7 +25,7 @@ no_outcomes sys state now [] (o ∷ outcomes) e run = absurd run
 no_outcomes sys state now (s ∷ begun) outcomes e run = absurd (cc)
 
 -- where an item was stopped it goes on
-pub stopped_begun : (sys : System) (item : Item) (state : Machine) (steps : List Step) (outcomes : List Outcome) (tally counts : Tally) (bytes : List ℕ) (IsSo : Machine → Type 0)
+pub stopped_begun : (sys : System) (item : Item) (state : Machine) (steps : List Step) (outcomes : List Outcome) (tally counts : StepCounts) (bytes : List ℕ) (IsSo : Machine → Type 0)
     → IsWellFormedSystem sys → Run sys (first_state sys) steps outcomes state → IsItemStopped sys state item tally counts bytes IsSo → IsItemBegun sys state item bytes
 stopped_begun sys (One step) state steps outcomes tally counts bytes IsSo w r t =
     let found = item-run sys w steps outcomes state r (One step) in

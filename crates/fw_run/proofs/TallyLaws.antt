@@ -7,7 +7,7 @@ use Rattle.fw_bag.specs.declared.rec.Rec.{Rec}
 use Rattle.fw_bag.specs.Keyed.{plus}
 use Rattle.fw_flow.specs.Counting.{how_many}
 use Rattle.fw_model.specs.Steps.{Outcome}
-use Rattle.fw_run.specs.declared.tally.Tally.{Tally}
+use Rattle.fw_run.specs.declared.tally.StepCounts.{StepCounts}
 use Rattle.fw_run.proofs.ReportLaws.{shown_in-append, shown_in-came}
 use Rattle.fw_run.specs.Printed.{is_idle, idle_count}
 use Rattle.fw_run.specs.Reports.{Report, came, shown_in}
@@ -60,22 +60,22 @@ one_at_most test outcome = few (test outcome)
 -- ---- tallies
 
 -- tallies with the same counts and the same sum are one
-pub same_tally : (one other : Tally) → one.steps ≡ other.steps → one.idle ≡ other.idle → one.cuts ≡ other.cuts → one.acks ≡ other.acks → one.sum ≡ other.sum → one ≡ other
+pub same_tally : (one other : StepCounts) → one.steps ≡ other.steps → one.idle ≡ other.idle → one.cuts ≡ other.cuts → one.acks ≡ other.acks → one.sum ≡ other.sum → one ≡ other
 same_tally one other steps idle cuts acks sum =
-    let of_steps : ℕ → Tally = λ n. record { steps = n; idle = one.idle; cuts = one.cuts; acks = one.acks; sum = one.sum } in
-    let of_idle : ℕ → Tally = λ n. record { steps = other.steps; idle = n; cuts = one.cuts; acks = one.acks; sum = one.sum } in
-    let of_cuts : ℕ → Tally = λ n. record { steps = other.steps; idle = other.idle; cuts = n; acks = one.acks; sum = one.sum } in
-    let of_acks : ℕ → Tally = λ n. record { steps = other.steps; idle = other.idle; cuts = other.cuts; acks = n; sum = one.sum } in
-    let of_sum : ℕ → Tally = λ n. record { steps = other.steps; idle = other.idle; cuts = other.cuts; acks = other.acks; sum = n } in
+    let of_steps : ℕ → StepCounts = λ n. record { steps = n; idle = one.idle; cuts = one.cuts; acks = one.acks; sum = one.sum } in
+    let of_idle : ℕ → StepCounts = λ n. record { steps = other.steps; idle = n; cuts = one.cuts; acks = one.acks; sum = one.sum } in
+    let of_cuts : ℕ → StepCounts = λ n. record { steps = other.steps; idle = other.idle; cuts = n; acks = one.acks; sum = one.sum } in
+    let of_acks : ℕ → StepCounts = λ n. record { steps = other.steps; idle = other.idle; cuts = other.cuts; acks = n; sum = one.sum } in
+    let of_sum : ℕ → StepCounts = λ n. record { steps = other.steps; idle = other.idle; cuts = other.cuts; acks = other.acks; sum = n } in
     ap of_steps steps ∙ ap of_idle idle ∙ ap of_cuts cuts ∙ ap of_acks acks ∙ ap of_sum sum
 
 -- no steps change nothing
-pub counted-none : (tally : Tally) → tally.sum < 2 ^ 64 → tally ≡ with_tally tally (tally_of [])
+pub counted-none : (tally : StepCounts) → tally.sum < 2 ^ 64 → tally ≡ with_tally tally (tally_of [])
 counted-none tally fits =
     same_tally tally (with_tally tally (tally_of [])) (omega arith) (omega arith) (omega arith) (omega arith) (sym (nothing_last tally.sum fits))
 
 -- steps that are counted behind others
-pub counted-more : (tally : Tally) (outcomes others : List Outcome) → with_tally (with_tally tally (tally_of outcomes)) (tally_of others) ≡ with_tally tally (tally_of (outcomes ++ others))
+pub counted-more : (tally : StepCounts) (outcomes others : List Outcome) → with_tally (with_tally tally (tally_of outcomes)) (tally_of others) ≡ with_tally tally (tally_of (outcomes ++ others))
 counted-more tally outcomes others =
     let steps = length-append outcomes others in
     let idle = how_many-append is_idle outcomes others in
@@ -106,7 +106,7 @@ tally_shown-came outcomes =
     (ap (how_many is_acknowledgement) shown) (ap acknowledged_sum shown)
 
 -- and of one more in which it did
-pub tally_shown-fault : (old counts : Tally) (outcomes : List Outcome) (reports : List Report) → counts ≡ with_tally old (tally_of outcomes) → shown_in reports ≡ outcomes
+pub tally_shown-fault : (old counts : StepCounts) (outcomes : List Outcome) (reports : List Report) → counts ≡ with_tally old (tally_of outcomes) → shown_in reports ≡ outcomes
     → length reports ≡ length outcomes + 1 → with_step counts ≡ with_tally old (tally_shown reports)
 tally_shown-fault old counts outcomes reports e shown longer =
     let first : with_step counts ≡ with_step (with_tally old (tally_of outcomes)) = ap with_step e in
@@ -118,7 +118,7 @@ tally_shown-fault old counts outcomes reports e shown longer =
 pub of_steps-none : AreOfSteps (tally_of [])
 of_steps-none = record { idle = omega arith; cuts = omega arith; acks = omega arith; sum = omega arith }
 
-pub of_steps-more : (old new : Tally) (outcome : Outcome) → AreOfSteps old → new ≡ with_tally old (tally_of (outcome ∷ [])) → AreOfSteps new
+pub of_steps-more : (old new : StepCounts) (outcome : Outcome) → AreOfSteps old → new ≡ with_tally old (tally_of (outcome ∷ [])) → AreOfSteps new
 of_steps-more old new outcome are e = subst AreOfSteps (sym e) (record {
   idle = omega (arith, are.idle, one_at_most is_idle outcome);
   cuts = omega (arith, are.cuts, one_at_most is_recovered outcome);
@@ -126,5 +126,5 @@ of_steps-more old new outcome are e = subst AreOfSteps (sym e) (record {
   sum = plus-fits old.sum (acknowledged_sum (outcome ∷ []));
 })
 
-pub steps-more : (old new : Tally) (outcome : Outcome) → new ≡ with_tally old (tally_of (outcome ∷ [])) → new.steps ≡ old.steps + 1
-steps-more old new outcome e = ap (λ (tally : Tally). tally.steps) e
+pub steps-more : (old new : StepCounts) (outcome : Outcome) → new ≡ with_tally old (tally_of (outcome ∷ [])) → new.steps ≡ old.steps + 1
+steps-more old new outcome e = ap (λ (tally : StepCounts). tally.steps) e

@@ -33,7 +33,7 @@ use Rattle.fw_run.proofs.TakenLaws.{taken_on}
 use Rattle.fw_command.proofs.WritingLaws.{written_nothing, written_more}
 use Rattle.fw_run.specs.declared.fault.RunFault.{RunFault}
 use Rattle.fw_run.specs.declared.fault.RunFault.TheVariants as stop
-use Rattle.fw_run.specs.declared.tally.Tally.{Tally}
+use Rattle.fw_run.specs.declared.tally.StepCounts.{StepCounts}
 use Rattle.fw_run.specs.Enduring.{EnduredRun, RoseBy}
 use Rattle.fw_run.specs.Performing.{IsTaken, TrustsItem, IsLeftAfter}
 use Rattle.fw_run.specs.Printed.{outcomes_text}
@@ -60,7 +60,7 @@ begins-more goes_on sys items bytes more b = record {
   text = ap (λ (t : List ℕ). t ++ more) b.text ∙ append_assoc (reports_text sys.flow 0 b.run.of_items.reports) b.others more;
 }
 
-begins-all : (goes_on : Bool) (sys : System) (items : List Item) (tally : Tally) (count : ℕ) (bytes : List ℕ) (IsSo : Machine → Type 0) → IsSoFar goes_on sys items tally count bytes IsSo
+begins-all : (goes_on : Bool) (sys : System) (items : List Item) (tally : StepCounts) (count : ℕ) (bytes : List ℕ) (IsSo : Machine → Type 0) → IsSoFar goes_on sys items tally count bytes IsSo
     → BeginsThrough goes_on sys items bytes
 begins-all goes_on sys items tally count bytes IsSo s =
     record { run = s.run; others = []; text = s.text ∙ sym (append-nil (reports_text sys.flow 0 s.run.of_items.reports)) }
@@ -77,7 +77,7 @@ begins-first goes_on sys items bytes e b =
 
 -- ---- one item more
 
-pub taken-none : (goes_on : Bool) (Tells : Type 0) (sys : System) (items : List Item) (engine : Engine) (records : Option Records) (tally : Tally) (view : SinkView) → tally ≡ tally_of []
+pub taken-none : (goes_on : Bool) (Tells : Type 0) (sys : System) (items : List Item) (engine : Engine) (records : Option Records) (tally : StepCounts) (view : SinkView) → tally ≡ tally_of []
     → StandsFor sys engine records (first_state sys) → AreTaken goes_on Tells sys items 0 tally 0 (StandsFor sys engine records) view view
 taken-none goes_on Tells sys items engine records tally view e st = record {
   bytes = [];
@@ -87,24 +87,24 @@ taken-none goes_on Tells sys items engine records tally view e st = record {
 }
 
 -- an item was taken after others
-so_far-next : (goes_on : Bool) (sys : System) (items : List Item) (item : Item) (old new : Engine) (before after : Option Records) (tally counts : Tally) (count more : ℕ) (bytes others : List ℕ)
+so_far-next : (goes_on : Bool) (sys : System) (items : List Item) (item : Item) (old new : Engine) (before after : Option Records) (tally counts : StepCounts) (count more : ℕ) (bytes others : List ℕ)
     → (s : IsSoFar goes_on sys items tally count bytes (StandsFor sys old before)) → IsItemEndured goes_on sys s.run.of_items.last item tally counts more others new after
     → IsSoFar goes_on sys (items ++ item ∷ []) counts (count + more) (bytes ++ others) (StandsFor sys new after)
 so_far-next goes_on sys items item old new before after tally counts count more bytes others s t =
     let earlier = s.run.of_items.reports in
     let later = t.of_item.reports in
-    let number : tally.steps ≡ 0 + length earlier = omega (arith, ap (λ (c : Tally). c.steps) s.counted) in
+    let number : tally.steps ≡ 0 + length earlier = omega (arith, ap (λ (c : StepCounts). c.steps) s.counted) in
     record {
       run = through-next goes_on sys items item s.run t.of_item t.may;
       text = ap (λ (b : List ℕ). b ++ others) s.text
           ∙ ap (λ (b : List ℕ). reports_text sys.flow 0 earlier ++ b) (t.text ∙ ap (λ (n : ℕ). reports_text sys.flow n later) number)
           ∙ sym (reports_text-append sys.flow 0 earlier later);
-      counted = t.counted ∙ ap (λ (c : Tally). with_tally c (tally_shown later)) s.counted ∙ tally_shown-append earlier later;
+      counted = t.counted ∙ ap (λ (c : StepCounts). with_tally c (tally_shown later)) s.counted ∙ tally_shown-append earlier later;
       faults = omega (arith, t.faults, s.faults, faults-append earlier later);
       so = t.stands;
     }
 
-pub taken-more : (goes_on : Bool) (Tells : Type 0) (sys : System) (items : List Item) (i : ℕ) (old new : Engine) (before after : Option Records) (item : Item) (tally counts : Tally) (count more : ℕ)
+pub taken-more : (goes_on : Bool) (Tells : Type 0) (sys : System) (items : List Item) (i : ℕ) (old new : Engine) (before after : Option Records) (item : Item) (tally counts : StepCounts) (count more : ℕ)
     (IsCount : ℕ → Type 0) (first middle last : SinkView) → (Tells → IsSome before) → AreTaken goes_on Tells sys items i tally count (StandsFor sys old before) first middle
     → i < length items → item ≡ get_or items i item → PrintsThrough goes_on old before item tally IsCount (Ok more) new after counts middle last
     → AreTaken goes_on Tells sys items (i + 1) counts (count + more) (StandsFor sys new after) first last
@@ -134,7 +134,7 @@ taken-more goes_on Tells sys items i old new before after item tally counts coun
     ]
 
 -- all items were taken, and the store holds the writes of the last state
-pub taken-all : (goes_on : Bool) (Tells : Type 0) (sys : System) (items : List Item) (i : ℕ) (engine : Engine) (records : Option Records) (tally : Tally) (count : ℕ) (first last : SinkView)
+pub taken-all : (goes_on : Bool) (Tells : Type 0) (sys : System) (items : List Item) (i : ℕ) (engine : Engine) (records : Option Records) (tally : StepCounts) (count : ℕ) (first last : SinkView)
     → AreAscending (ids_of (keep_of engine).entries) → AreTaken goes_on Tells sys items i tally count (StandsFor sys engine records) first last → length items ≤ i
     → AreTaken goes_on Tells sys items (length items) tally count (HoldsWrites sys records) first last
 taken-all goes_on Tells sys items i engine records tally count first last ordered u h = record {
@@ -170,7 +170,7 @@ part_of-first goes_on sys w items others r bytes more IsCount e is =
     }
 
 -- what a fault in an item says of its lines
-fault_broken : (goes_on : Bool) (sys : System) (item : Item) (state : Machine) (steps : List Step) (outcomes : List Outcome) (old counts : Tally) (bytes : List ℕ) (IsCount : ℕ → Type 0) (f : RunFault)
+fault_broken : (goes_on : Bool) (sys : System) (item : Item) (state : Machine) (steps : List Step) (outcomes : List Outcome) (old counts : StepCounts) (bytes : List ℕ) (IsCount : ℕ → Type 0) (f : RunFault)
     (before : Option Records) (new : Engine) (after : Option Records) → IsWellFormedSystem sys → Run sys (first_state sys) steps outcomes state
     → TrustsItem sys state item before → EnduresItem goes_on sys state item old counts bytes IsCount (Err f) before new after
     → IsItemBroken goes_on sys state item old bytes (IsCountAt f IsCount)
@@ -186,7 +186,7 @@ rose_at (stop.Engine (fault.Damaged id)) a b c n k e h = rose_more a b c n k e h
 rose_at (stop.Engine fault.NoMemory) a b c n k e h = rose_more a b c n k e h
 
 -- the run stops in the item of this place
-pub cut_off-at : (goes_on : Bool) (Tells : Type 0) (sys : System) (items : List Item) (i : ℕ) (old new : Engine) (before after : Option Records) (item : Item) (tally counts : Tally)
+pub cut_off-at : (goes_on : Bool) (Tells : Type 0) (sys : System) (items : List Item) (i : ℕ) (old new : Engine) (before after : Option Records) (item : Item) (tally counts : StepCounts)
     (count a b c : ℕ) (f : RunFault) (first middle last : SinkView) → IsWellFormedSystem sys → (Tells → IsSome before)
     → AreTaken goes_on Tells sys items i tally count (StandsFor sys old before) first middle → i < length items → item ≡ get_or items i item
     → PrintsThrough goes_on old before item tally (RoseBy b c) (Err f) new after counts middle last → RoseBy a b count
@@ -207,7 +207,7 @@ cut_off-at goes_on Tells sys items i old new before after item tally counts coun
         let trusts = run_trusts goes_on Tells sys (take i items) item before told known s.run in
         let broken = fault_broken goes_on sys item r.last r.steps (outcomes_in r.reports) tally counts p.bytes (RoseBy b c) f before new after w r.run trusts (p.does sys r.last s.so) in
         let next = through-next goes_on sys (take i items) item s.run broken.of_item broken.may in
-        let number : tally.steps ≡ 0 + length r.reports = omega (arith, ap (λ (c : Tally). c.steps) s.counted) in
+        let number : tally.steps ≡ 0 + length r.reports = omega (arith, ap (λ (c : StepCounts). c.steps) s.counted) in
         let lines : reports_text sys.flow 0 next.of_items.reports ≡ (u.bytes ++ p.bytes) ++ broken.others =
         reports_text-append sys.flow 0 r.reports broken.of_item.reports
         ∙ ap (λ (t : List ℕ). t ++ reports_text sys.flow (0 + length r.reports) broken.of_item.reports) (sym s.text)
@@ -250,7 +250,7 @@ left_in sys state (One step) P Q f l = left_by sys state step P Q f l
 left_in sys state (Auto most) P Q f l = (l.0, f state l.1)
 
 -- the store stops the run in the item of this place
-store_stops : (goes_on : Bool) (Tells : Type 0) (sys : System) (items : List Item) (i : ℕ) (old new : Engine) (before after : Option Records) (item : Item) (tally counts : Tally) (count : ℕ)
+store_stops : (goes_on : Bool) (Tells : Type 0) (sys : System) (items : List Item) (i : ℕ) (old new : Engine) (before after : Option Records) (item : Item) (tally counts : StepCounts) (count : ℕ)
     (IsCount : ℕ → Type 0) (first middle last : SinkView) → goes_on ≡ false → AreTaken goes_on Tells sys items i tally count (StandsFor sys old before) first middle → i < length items
     → item ≡ get_or items i item → MayCallIn sys.flow item → AreAscending (ids_of (keep_of new).entries)
     → PrintsThrough goes_on old before item tally IsCount (Err (stop.Engine fault.StoreFault)) new after counts middle last
@@ -286,7 +286,7 @@ store_stops goes_on Tells sys items i old new before after item tally counts cou
 
 -- ---- a damaged record
 
-damage_stops : (goes_on : Bool) (Tells : Type 0) (sys : System) (items : List Item) (i id : ℕ) (old new : Engine) (before after : Option Records) (given : Option (ℕ × List ℕ)) (tally counts : Tally)
+damage_stops : (goes_on : Bool) (Tells : Type 0) (sys : System) (items : List Item) (i id : ℕ) (old new : Engine) (before after : Option Records) (given : Option (ℕ × List ℕ)) (tally counts : StepCounts)
     (count a b c : ℕ) (first middle last : SinkView) → (Tells → IsSome before) → AreTaken goes_on Tells sys items i tally count (StandsFor sys old before) first middle → i < length items
     → items ≡ take i items ++ One Recover ∷ drop (i + 1) items → flow_of old ≡ sys.flow
     → PrintsThrough goes_on old before (One Recover) tally (RoseBy b c) (Err (stop.Engine (fault.Damaged id))) new after counts middle last → IsDamaged old id given → RoseBy a b count
@@ -322,7 +322,7 @@ damage_stops goes_on Tells sys items i id old new before after given tally count
 
 -- what ends the run in the item of this place
 pub ends-at : (goes_on : Bool) (Tells : Type 0) (sys : System) (items : List Item) (i : ℕ) (start old new : Engine) (begun before after : Option Records) (given : Option (ℕ × List ℕ)) (item : Item)
-    (tally counts : Tally) (count a b c : ℕ) (f : RunFault) (first middle last : SinkView) → StandsFor sys start begun (first_state sys) → flow_of old ≡ flow_of start → (Tells → IsSome before)
+    (tally counts : StepCounts) (count a b c : ℕ) (f : RunFault) (first middle last : SinkView) → StandsFor sys start begun (first_state sys) → flow_of old ≡ flow_of start → (Tells → IsSome before)
     → AreTaken goes_on Tells sys items i tally count (StandsFor sys old before) first middle → i < length items → item ≡ get_or items i item → AreAscending (ids_of (keep_of new).entries)
     → PrintsThrough goes_on old before item tally (RoseBy b c) (Err f) new after counts middle last → RoseBy a b count
     → (IsErrOf {T = ℕ} (Err f) (stop.Engine fault.StoreFault) → (goes_on ≡ false) × MayCallIn (flow_of old) item)

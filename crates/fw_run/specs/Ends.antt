@@ -7,9 +7,9 @@ use Rattle.fw_keep.specs.Stored.{Records}
 use Rattle.fw_running.specs.declared.fault.EngineFault.TheVariants as fault
 use Rattle.fw_run.specs.declared.fault.RunFault.{RunFault}
 use Rattle.fw_run.specs.declared.fault.RunFault.TheVariants as stop
-use Rattle.fw_run.specs.declared.tally.Tally.{Tally}
+use Rattle.fw_run.specs.declared.tally.StepCounts.{StepCounts}
 use Rattle.fw_run.specs.Enduring.{PrintsEndured, RoseBy, RoseByFaults, StaysOrRose, IsEndured, IsEnduredToDamage}
-use Rattle.fw_run.specs.Fault.{faults_after}
+use Rattle.fw_run.specs.Fault.{faults_after_run}
 use Rattle.fw_run.specs.Manner.{goes_on}
 use Rattle.fw_run.specs.Performing.{WritesUntil}
 use Rattle.fw_run.specs.Printed.{done_line}
@@ -39,7 +39,7 @@ StaysIfInOneLine through_faults before after = Unit {0}
 StaysIfInOneLine (in_one_line seeded) before after = after ≡ before
 
 -- the last line of a run whose steps were counted so, and in which the store failed so often
-abbrev pub last_line_of : Manner → Tally → ℕ → List ℕ
+abbrev pub last_line_of : Manner → StepCounts → ℕ → List ℕ
 last_line_of by_lines tally faults = done_line tally.steps tally.idle
 last_line_of through_faults tally faults = endured_line tally.steps tally.idle faults
 last_line_of (in_one_line seeded) tally faults = summary_line seeded tally
@@ -95,6 +95,6 @@ pub record EndsRun (Tells : Type 0) (manner : Manner) (sys : System) (items : Li
   pub store_fault : IsErrOf answer (stop.Engine fault.StoreFault) → IsStoreFault Tells count last records before after manner sys items
   pub damaged : (id : ℕ) → IsErrOf answer (stop.Engine (fault.Damaged id)) → IsDamageIn Tells count last id given before after manner sys items
   pub none : OnOk answer (last ≡ count)
-  pub first : goes_on manner ≡ false → last ≡ faults_after answer count
+  pub first : goes_on manner ≡ false → last ≡ faults_after_run answer count
   pub some : IsErrOf answer (stop.Engine fault.StoreFault) → RoseByFaults count last
   pub rises : StaysOrRose count last

@@ -17,9 +17,9 @@ status_of (Engine (engine.Damaged id)) = Damaged id
 status_of (Engine engine.NoMemory) = NoMemory
 
 -- how often a store has failed after an answer of this kind: once more where it failed, and else as often as before
-abbrev pub faults_after : {T : Type 0} → Result T RunFault → ℕ → ℕ
-faults_after (Ok value) count = count
-faults_after (Err (Out fault)) count = count
-faults_after (Err (Engine engine.StoreFault)) count = one_more count
-faults_after (Err (Engine (engine.Damaged id))) count = count
-faults_after (Err (Engine engine.NoMemory)) count = count
+abbrev pub faults_after_run : {T : Type 0} → Result T RunFault → ℕ → ℕ
+faults_after_run (Ok value) count = count
+faults_after_run (Err (Out fault)) count = count
+faults_after_run (Err (Engine engine.StoreFault)) count = one_more count
+faults_after_run (Err (Engine (engine.Damaged id))) count = count
+faults_after_run (Err (Engine engine.NoMemory)) count = count

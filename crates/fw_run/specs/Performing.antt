@@ -20,7 +20,7 @@ use Rattle.fw_engine.specs.declared.engine.Engine.{Engine}
 use Rattle.fw_engine.specs.Engine.{StandsFor}
 use Rattle.fw_run.specs.declared.fault.RunFault.{RunFault}
 use Rattle.fw_run.specs.declared.fault.RunFault.TheVariants as stop
-use Rattle.fw_run.specs.declared.tally.Tally.{Tally}
+use Rattle.fw_run.specs.declared.tally.StepCounts.{StepCounts}
 use Rattle.fw_run.specs.Items.{ItemRun}
 use Rattle.fw_run.specs.Printed.{outcomes_text}
 use Rattle.fw_run.specs.Stopping.{ItemBegins, IsLeftIn}
@@ -61,7 +61,7 @@ TrustsItem sys state (Auto most) records = Unit {0}
 
 -- The machine takes the item from the state; these are its lines, and so it is counted; and the engine then stands for the state to
 -- which it leads.
-pub record IsItemTaken (sys : System) (state : Machine) (item : Item) (old new : Tally) (bytes : List ℕ) (engine : Engine) (records : Option Records)
+pub record IsItemTaken (sys : System) (state : Machine) (item : Item) (old new : StepCounts) (bytes : List ℕ) (engine : Engine) (records : Option Records)
     : Type 0 where
   pub of_item : ItemRun sys state item
   pub counted : new ≡ with_tally old (tally_of of_item.outcomes)
@@ -76,7 +76,7 @@ pub record IsItemBegun (sys : System) (state : Machine) (item : Item) (bytes : L
 
 -- The machine begins the item and comes to a state of which this is true; these are the lines of its steps so far, and so they are
 -- counted.
-pub record IsItemStopped (sys : System) (state : Machine) (item : Item) (old new : Tally) (bytes : List ℕ) (IsSo : Machine → Type 0) : Type 0 where
+pub record IsItemStopped (sys : System) (state : Machine) (item : Item) (old new : StepCounts) (bytes : List ℕ) (IsSo : Machine → Type 0) : Type 0 where
   pub begun : List Step
   pub now : Machine
   pub begins : ItemBegins sys state item begun now
@@ -94,7 +94,7 @@ IsLeftAfter sys item (fault.Damaged id) before new after state = (before ≡ Non
 IsLeftAfter sys item fault.NoMemory before new after state = Unit {0}
 
 -- what an answer to an item says of the bytes that were written, where the engine stood for the state
-abbrev pub DoesItem : {T : Type 0} → System → Machine → Item → Tally → Tally → List ℕ → Result T RunFault → Option Records → Engine → Option Records
+abbrev pub DoesItem : {T : Type 0} → System → Machine → Item → StepCounts → StepCounts → List ℕ → Result T RunFault → Option Records → Engine → Option Records
     → Type 0
 DoesItem sys state item old new bytes (Ok value) before engine after =
     TrustsItem sys state item before → IsItemTaken sys state item old new bytes engine after
@@ -104,18 +104,18 @@ DoesItem sys state item old new bytes (Err (stop.Engine fault)) before engine af
 
 -- What an answer to an item says: some bytes were written, and from each state for which the engine stood they are the lines of the
 -- item, or first bytes of these.
-pub record PrintsItem {T : Type 0} (old : Engine) (before : Option Records) (item : Item) (counted : Tally) (answer : Result T RunFault)
-    (new : Engine) (after : Option Records) (counts : Tally) (first last : SinkView) : Type 0 where
+pub record PrintsItem {T : Type 0} (old : Engine) (before : Option Records) (item : Item) (counted : StepCounts) (answer : Result T RunFault)
+    (new : Engine) (after : Option Records) (counts : StepCounts) (first last : SinkView) : Type 0 where
   pub bytes : List ℕ
   pub taken : IsTaken bytes answer first last
   pub does : (sys : System) (state : Machine) → StandsFor sys old before state → DoesItem sys state item counted counts bytes answer before new after
 
 -- the tally has room for the steps of the item
-pub record HasRoom (tally : Tally) (item : Item) : Type 0 where
+pub record HasRoom (tally : StepCounts) (item : Item) : Type 0 where
   pub of_steps : AreOfSteps tally
   pub few : tally.steps + steps_in item ≤ step_limit
 
 -- no more steps were counted than the item asks for; fewer, where the store failed in one
-abbrev pub AreFew : {T : Type 0} → Item → Result T RunFault → Tally → Tally → Type 0
+abbrev pub AreFew : {T : Type 0} → Item → Result T RunFault → StepCounts → StepCounts → Type 0
 AreFew item (Err (stop.Engine fault.StoreFault)) before after = AreOfSteps after × (after.steps < before.steps + steps_in item)
 AreFew item answer before after = AreOfSteps after × (after.steps ≤ before.steps + steps_in item)

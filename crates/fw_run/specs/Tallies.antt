@@ -8,7 +8,7 @@ use Rattle.fw_flow.specs.Dataflow.{System}
 use Rattle.fw_schedule.specs.declared.item.Item.{Item}
 use Rattle.fw_model.specs.Machine.{first_state}
 use Rattle.fw_model.specs.Steps.{acked, cuts, Outcome, did}
-use Rattle.fw_run.specs.declared.tally.Tally.{Tally}
+use Rattle.fw_run.specs.declared.tally.StepCounts.{StepCounts}
 use Rattle.fw_run.specs.Items.{ItemsRun}
 use Rattle.fw_run.specs.Reports.{Report, shown_in}
 use Rattle.fw_run.specs.Printed.{idle_count}
@@ -40,7 +40,7 @@ acknowledged_sum (outcome ∷ outcomes) = plus (shown_sum outcome) (acknowledged
 
 -- how many steps there were, how many were not enabled, how many recoveries and acknowledgements, and the sum of what was
 -- acknowledged
-abbrev pub tally_of : List Outcome → Tally
+abbrev pub tally_of : List Outcome → StepCounts
 tally_of outcomes = record {
   steps = length outcomes;
   idle = idle_count outcomes;
@@ -50,7 +50,7 @@ tally_of outcomes = record {
 }
 
 -- so are steps through faults of the store counted: of one in which it failed nothing is shown
-abbrev pub tally_shown : List Report → Tally
+abbrev pub tally_shown : List Report → StepCounts
 tally_shown reports = record {
   steps = length reports;
   idle = idle_count (shown_in reports);
@@ -60,11 +60,11 @@ tally_shown reports = record {
 }
 
 -- a tally with one step more of which nothing is shown
-abbrev pub with_step : Tally → Tally
+abbrev pub with_step : StepCounts → StepCounts
 with_step tally = record { steps = tally.steps + 1; idle = tally.idle; cuts = tally.cuts; acks = tally.acks; sum = tally.sum }
 
 -- two tallies as one
-abbrev pub with_tally : Tally → Tally → Tally
+abbrev pub with_tally : StepCounts → StepCounts → StepCounts
 with_tally one other = record {
   steps = one.steps + other.steps;
   idle = one.idle + other.idle;
@@ -74,20 +74,20 @@ with_tally one other = record {
 }
 
 -- each count is one of the steps, and the sum is a number of 64 bits
-pub record AreOfSteps (tally : Tally) : Type 0 where
+pub record AreOfSteps (tally : StepCounts) : Type 0 where
   pub idle : tally.idle ≤ tally.steps
   pub cuts : tally.cuts ≤ tally.steps
   pub acks : tally.acks ≤ tally.steps
   pub sum : tally.sum < 2 ^ 64
 
 -- `steps STEPS idle IDLE cuts CUTS acks ACKS sum SUM`
-abbrev pub tally_text : Tally → List ℕ
+abbrev pub tally_text : StepCounts → List ℕ
 tally_text tally =
     codes "steps " ++ (decimal tally.steps ++ (codes " idle " ++ (decimal tally.idle ++ (codes " cuts " ++ (decimal tally.cuts
     ++ (codes " acks " ++ (decimal tally.acks ++ (codes " sum " ++ decimal tally.sum))))))))
 
 -- `gen seed SEED size SIZE steps STEPS idle IDLE cuts CUTS acks ACKS sum SUM`
-abbrev pub summary_line : Seeded → Tally → List ℕ
+abbrev pub summary_line : Seeded → StepCounts → List ℕ
 summary_line seeded tally =
     codes "gen seed " ++ (decimal seeded.seed ++ (codes " size " ++ (decimal seeded.size ++ (codes " " ++ (tally_text tally ++ codes "\n")))))
 

@@ -16,7 +16,7 @@ use Rattle.fw_engine.specs.declared.engine.Engine.{Engine}
 use Rattle.fw_engine.specs.Engine.{StandsFor}
 use Rattle.fw_run.specs.declared.fault.RunFault.{RunFault}
 use Rattle.fw_run.specs.declared.fault.RunFault.TheVariants as stop
-use Rattle.fw_run.specs.declared.tally.Tally.{Tally}
+use Rattle.fw_run.specs.declared.tally.StepCounts.{StepCounts}
 use Rattle.fw_run.specs.Enduring.{ItemEndures, EnduredRun}
 use Rattle.fw_run.specs.Performing.{IsTaken, TrustsItem, IsItemStopped, IsLeftAfter}
 use Rattle.fw_run.specs.Reports.{Report, faults_in, outcomes_in, reports_text}
@@ -53,7 +53,7 @@ pub record EnduredItem (sys : System) (state : Machine) (item : Item) : Type 0 w
 
 -- The item was taken from the state, through so many faults of the store; these are the lines of its steps, and so they are counted;
 -- and the engine then stands for the state to which it leads.
-pub record IsItemEndured (goes_on : Bool) (sys : System) (state : Machine) (item : Item) (old new : Tally) (count : ℕ) (bytes : List ℕ)
+pub record IsItemEndured (goes_on : Bool) (sys : System) (state : Machine) (item : Item) (old new : StepCounts) (count : ℕ) (bytes : List ℕ)
     (engine : Engine) (records : Option Records) : Type 0 where
   pub of_item : EnduredItem sys state item
   pub may : MayFail goes_on (faults_in of_item.reports)
@@ -63,7 +63,7 @@ pub record IsItemEndured (goes_on : Bool) (sys : System) (state : Machine) (item
   pub stands : StandsFor sys engine records of_item.last
 
 -- The item is taken from the state, and these are first bytes of the lines of its steps; of the number of its faults this is true.
-pub record IsItemBroken (goes_on : Bool) (sys : System) (state : Machine) (item : Item) (old : Tally) (bytes : List ℕ) (IsCount : ℕ → Type 0)
+pub record IsItemBroken (goes_on : Bool) (sys : System) (state : Machine) (item : Item) (old : StepCounts) (bytes : List ℕ) (IsCount : ℕ → Type 0)
     : Type 0 where
   pub of_item : EnduredItem sys state item
   pub may : MayFail goes_on (faults_in of_item.reports)
@@ -79,7 +79,7 @@ IsCountAt (stop.Engine (fault.Damaged id)) IsCount count = IsCount count
 IsCountAt (stop.Engine fault.NoMemory) IsCount count = IsCount count
 
 -- what an answer to an item says of the bytes that were written, where the engine stood for the state
-abbrev pub EnduresItem : Bool → System → Machine → Item → Tally → Tally → List ℕ → (ℕ → Type 0) → Result ℕ RunFault
+abbrev pub EnduresItem : Bool → System → Machine → Item → StepCounts → StepCounts → List ℕ → (ℕ → Type 0) → Result ℕ RunFault
     → Option Records → Engine → Option Records → Type 0
 EnduresItem goes_on sys state item old new bytes IsCount (Ok count) before engine after =
     TrustsItem sys state item before → IsItemEndured goes_on sys state item old new count bytes engine after
@@ -90,8 +90,8 @@ EnduresItem goes_on sys state item old new bytes IsCount (Err (stop.Engine f)) b
 
 -- What an answer to an item says: some bytes were written, and from each state for which the engine stood they are the lines of the
 -- item's steps, or first bytes of these.
-pub record PrintsThrough (goes_on : Bool) (old : Engine) (before : Option Records) (item : Item) (counted : Tally) (IsCount : ℕ → Type 0)
-    (answer : Result ℕ RunFault) (new : Engine) (after : Option Records) (counts : Tally) (first last : SinkView) : Type 0 where
+pub record PrintsThrough (goes_on : Bool) (old : Engine) (before : Option Records) (item : Item) (counted : StepCounts) (IsCount : ℕ → Type 0)
+    (answer : Result ℕ RunFault) (new : Engine) (after : Option Records) (counts : StepCounts) (first last : SinkView) : Type 0 where
   pub bytes : List ℕ
   pub taken : IsTaken bytes answer first last
   pub does : (sys : System) (state : Machine) → StandsFor sys old before state
@@ -100,7 +100,7 @@ pub record PrintsThrough (goes_on : Bool) (old : Engine) (before : Option Record
 -- ---- items
 
 -- The items lead to a state of which this is true; so their steps and their faults are counted, and these are their lines.
-pub record IsSoFar (goes_on : Bool) (sys : System) (items : List Item) (tally : Tally) (count : ℕ) (bytes : List ℕ) (IsSo : Machine → Type 0)
+pub record IsSoFar (goes_on : Bool) (sys : System) (items : List Item) (tally : StepCounts) (count : ℕ) (bytes : List ℕ) (IsSo : Machine → Type 0)
     : Type 0 where
   pub run : ThroughRun goes_on sys items
   pub text : bytes ≡ reports_text sys.flow 0 run.of_items.reports
@@ -122,7 +122,7 @@ pub record IsPartThrough (goes_on : Bool) (sys : System) (items : List Item) (by
   pub faults : IsCount (faults_in run.of_items.reports)
 
 -- What was written of so many first items is their lines, as far as it is known what comes of them.
-pub record AreTaken (goes_on : Bool) (Tells : Type 0) (sys : System) (items : List Item) (place : ℕ) (tally : Tally) (count : ℕ)
+pub record AreTaken (goes_on : Bool) (Tells : Type 0) (sys : System) (items : List Item) (place : ℕ) (tally : StepCounts) (count : ℕ)
     (IsSo : Machine → Type 0) (first last : SinkView) : Type 0 where
   pub bytes : List ℕ
   pub written : IsWritten bytes first last
@@ -167,7 +167,7 @@ EndsItems goes_on Tells sys items (stop.Engine (fault.Damaged id)) IsCount recor
 EndsItems goes_on Tells sys items (stop.Engine fault.NoMemory) IsCount records given first last = Unit {0}
 
 -- what is answered of items: how often the store failed, or why they were not all taken
-abbrev pub TakesItems : Bool → Type 0 → System → List Item → Result ℕ RunFault → Tally → (ℕ → Type 0) → Option Records → Option (ℕ × List ℕ)
+abbrev pub TakesItems : Bool → Type 0 → System → List Item → Result ℕ RunFault → StepCounts → (ℕ → Type 0) → Option Records → Option (ℕ × List ℕ)
     → SinkView → SinkView → Type 0
 TakesItems goes_on Tells sys items (Ok count) tally IsCount records given first last =
     AreTaken goes_on Tells sys items (length items) tally count (HoldsWrites sys records) first last × IsCount count

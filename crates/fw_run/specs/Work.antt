@@ -16,7 +16,7 @@ use Rattle.fw_running.specs.declared.fault.EngineFault.TheVariants as fault
 use Rattle.fw_run.specs.declared.fault.RunFault.TheVariants as stop
 use Rattle.fw_run.specs.Ends.{PrintsOfRun, StaysIfInOneLine, IsWholeRun, IsStoreFault, IsDamageIn}
 use Rattle.fw_run.specs.Enduring.{RoseBy, RoseByFaults, StaysOrRose}
-use Rattle.fw_run.specs.Fault.{faults_after}
+use Rattle.fw_run.specs.Fault.{faults_after_run}
 use Rattle.fw_run.specs.Manner.{goes_on, told_in}
 use Rattle.fw_command.specs.Listing.{check_text}
 use Rattle.fw_run.specs.Performing.{WritesUntil}
@@ -86,9 +86,9 @@ IfRun (Check flow) IsSo = Unit {0}
 
 -- Work that does not go on through faults of its store ends at the first: it failed once if that is the answer, and else never.
 abbrev pub EndsAtFault : {T : Type 0} → Work → Result T RunFault → ℕ → ℕ → Type 0
-EndsAtFault (Run manner job) answer before after = goes_on (told_in manner) ≡ false → after ≡ faults_after answer before
-EndsAtFault (Denote fed) answer before after = after ≡ faults_after answer before
-EndsAtFault (Check flow) answer before after = after ≡ faults_after answer before
+EndsAtFault (Run manner job) answer before after = goes_on (told_in manner) ≡ false → after ≡ faults_after_run answer before
+EndsAtFault (Denote fed) answer before after = after ≡ faults_after_run answer before
+EndsAtFault (Check flow) answer before after = after ≡ faults_after_run answer before
 
 -- this stays in work that is told in one line
 abbrev pub StaysIfToldInOne : {O : Type 0} → Work → O → O → Type 0

@@ -7,14 +7,14 @@ ghost use Rattle.fw_running.specs.declared.fault.EngineFault.TheVariants as Engi
 ghost use Rattle.fw_running.specs.EffectText.{outcome_text};
 ghost use Rattle.fw_running.specs.Steps.{outcome_of};
 ghost use Rattle.fw_engine.specs.Engine.{flow_of, keep_of, IsDamaged};
-ghost use Rattle.fw_run.specs.Fault.{faults_after};
+ghost use Rattle.fw_run.specs.Fault.{faults_after_run};
 ghost use Rattle.fw_run.specs.Performing.{PrintsItem, HasRoom, AreFew};
 ghost use Rattle.fw_run.specs.Printed as spec;
 ghost use Rattle.fw_run.specs.Stopping.{MayCallIn};
 ghost use Rattle.fw_command.specs.Writing.{Writes};
 
 use crate::fault::RunFault;
-use crate::tally::Tally;
+use crate::tally::StepCounts;
 use crate::text::line_of;
 use fw_engine::{Engine, Stepped};
 use fw_flow::{Flow, Step};
@@ -27,7 +27,7 @@ pub(crate) fn perform_item<K: Store, O: Sink>(
     alloc: Global,
     engine: &mut Engine,
     item: &Item,
-    tally: &mut Tally,
+    tally: &mut StepCounts,
     store: &mut K,
     out: &mut O,
 ) -> Result<(), RunFault>
@@ -41,7 +41,7 @@ pub(crate) fn perform_item<K: Store, O: Sink>(
     ensures few { AreFew item.now result tally.old tally.new }
     ensures printed { PrintsItem engine.old (K.view store.old).records item.now tally.old result engine.new (K.view store.new).records tally.new
         (O.view out.old) (O.view out.new) }
-    ensures faults { (K.view store.new).faults ≡ faults_after result (K.view store.old).faults }
+    ensures faults { (K.view store.new).faults ≡ faults_after_run result (K.view store.old).faults }
     ensures calls { IsErrOf result (RunFault.Engine EngineFault.StoreFault) → MayCallIn (flow_of engine.old) item.now }
     ensures damaged { (id : ℕ) → IsErrOf result (RunFault.Engine (EngineFault.Damaged id)) → IsDamaged engine.old id (K.view store.new).given }
     ensures in_recovery { (id : ℕ) → IsErrOf result (RunFault.Engine (EngineFault.Damaged id)) → item.now ≡ Item.One Recover }
@@ -57,7 +57,7 @@ fn perform_step<K: Store, O: Sink>(
     alloc: Global,
     engine: &mut Engine,
     step: &Step,
-    tally: &mut Tally,
+    tally: &mut StepCounts,
     store: &mut K,
     out: &mut O,
 ) -> Result<(), RunFault>
@@ -70,7 +70,7 @@ fn perform_step<K: Store, O: Sink>(
     ensures few { AreFew (Item.One step.now) result tally.old tally.new }
     ensures printed { PrintsItem engine.old (K.view store.old).records (Item.One step.now) tally.old result engine.new (K.view store.new).records tally.new
         (O.view out.old) (O.view out.new) }
-    ensures faults { (K.view store.new).faults ≡ faults_after result (K.view store.old).faults }
+    ensures faults { (K.view store.new).faults ≡ faults_after_run result (K.view store.old).faults }
     ensures calls { IsErrOf result (RunFault.Engine EngineFault.StoreFault) → MayCallIn (flow_of engine.old) (Item.One step.now) }
     ensures damaged { (id : ℕ) → IsErrOf result (RunFault.Engine (EngineFault.Damaged id)) → IsDamaged engine.old id (K.view store.new).given }
     ensures in_recovery { (id : ℕ) → IsErrOf result (RunFault.Engine (EngineFault.Damaged id)) → step.now ≡ Recover }
@@ -86,7 +86,7 @@ fn perform_auto<K: Store, O: Sink>(
     alloc: Global,
     engine: &mut Engine,
     most: u64,
-    tally: &mut Tally,
+    tally: &mut StepCounts,
     store: &mut K,
     out: &mut O,
 ) -> Result<(), RunFault>
@@ -100,7 +100,7 @@ fn perform_auto<K: Store, O: Sink>(
     ensures few { AreFew (Item.Auto most) result tally.old tally.new }
     ensures printed { PrintsItem engine.old (K.view store.old).records (Item.Auto most) tally.old result engine.new (K.view store.new).records tally.new
         (O.view out.old) (O.view out.new) }
-    ensures faults { (K.view store.new).faults ≡ faults_after result (K.view store.old).faults }
+    ensures faults { (K.view store.new).faults ≡ faults_after_run result (K.view store.old).faults }
     ensures undamaged { (id : ℕ) → IsErrOf result (RunFault.Engine (EngineFault.Damaged id)) → ⊥ }
 {
     for _ in 0..most {

@@ -9,7 +9,7 @@ use std::fmt;
 
 /// What came of steps, counted.
 #[derive(Clone, Copy, Debug)]
-pub struct Tally {
+pub struct StepCounts {
     /// How many there were.
     pub steps: u64,
     /// How many were not enabled.
@@ -22,12 +22,12 @@ pub struct Tally {
     pub sum: u64,
 }
 
-impl Tally {
+impl StepCounts {
     /// The tally of no steps.
     pub(crate) fn new() -> Self
         ensures { result ≡ tally_of [] }
     {
-        Tally {
+        StepCounts {
             steps: 0,
             idle: 0,
             cuts: 0,
@@ -50,12 +50,12 @@ impl Tally {
                 self.sum = self.sum.wrapping_add(value_sum(recs));
             }
             Stepped::Did(Effect::Cuts(_)) => self.cuts += 1,
-            Stepped::Did(Effect::Silent | Effect::Lows(_)) => {}
+            Stepped::Did(Effect::Quiet | Effect::Lows(_)) => {}
         }
     }
 }
 
-impl fmt::Display for Tally {
+impl fmt::Display for StepCounts {
     ghost use Rattle.std.specs.Prelude.{Some};
     ghost use Rattle.fw_run.specs.Tallies.{tally_text};
 

@@ -13,7 +13,7 @@ ghost use Rattle.fw_command.specs.Words.{seeded_in};
 ghost use Rattle.fw_run.specs.declared.status.Status.TheVariants as Status;
 
 use crate::manner::Manner;
-use crate::tally::Tally;
+use crate::tally::StepCounts;
 use fw_command::GenerateWords;
 use fw_engine::Stepped;
 use fw_flow::Flow;
@@ -37,7 +37,7 @@ pub fn line_of(alloc: Global, flow: &Flow, stepped: Stepped) -> Result<Option<Ve
 pub(crate) fn last_line(
     alloc: Global,
     manner: Manner,
-    tally: Tally,
+    tally: StepCounts,
     faults: u64,
 ) -> Result<String, AllocError>
     ensures { IfOk result (λ text. string_bytes text ≡ ends.last_line_of (told_in manner) tally faults) }
@@ -74,7 +74,7 @@ pub fn endured_line(alloc: Global, steps: u64, idle: u64, faults: u64) -> Result
 pub(crate) fn summary_line(
     alloc: Global,
     words: GenerateWords,
-    tally: Tally,
+    tally: StepCounts,
 ) -> Result<String, AllocError>
     ensures { IfOk result (λ text. string_bytes text ≡ tallies.summary_line (seeded_in words) tally) }
 {

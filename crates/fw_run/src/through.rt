@@ -16,13 +16,13 @@ ghost use Rattle.fw_run.specs.Performing.{HasRoom};
 ghost use Rattle.fw_run.specs.Stopping.{MayCallIn};
 ghost use Rattle.fw_run.specs.Tallies.{AreOfSteps, tally_of};
 ghost use Rattle.fw_run.specs.Through.{PrintsThrough, TakesItems};
-ghost use Rattle.fw_run.specs.Fault.{faults_after};
+ghost use Rattle.fw_run.specs.Fault.{faults_after_run};
 ghost use Rattle.fw_command.specs.Reading.{IsReadyToRun};
 
 use crate::fault::RunFault;
 use crate::manner::Manner;
 use crate::perform::perform_item;
-use crate::tally::Tally;
+use crate::tally::StepCounts;
 use crate::text::{fault_line, last_line};
 use fw_command::Job;
 use fw_engine::{Engine, EngineFault};
@@ -52,7 +52,7 @@ pub(crate) fn perform<K: Store, O: Sink>(
         items,
     } = job;
     let mut engine = Engine::new(alloc, flow, &batches)?;
-    let mut tally = Tally::new();
+    let mut tally = StepCounts::new();
     let items = items.as_slice();
     let faults = take(alloc, manner, &mut engine, items, &mut tally, store, out)?;
     end(alloc, manner, tally, faults, out)
@@ -65,7 +65,7 @@ fn take<K: Store, O: Sink>(
     manner: Manner,
     engine: &mut Engine,
     items: &[Item],
-    tally: &mut Tally,
+    tally: &mut StepCounts,
     store: &mut K,
     out: &mut O,
 ) -> Result<u64, RunFault>
@@ -79,7 +79,7 @@ fn take<K: Store, O: Sink>(
         (seen (told_in manner) (O.view out.old)) (seen (told_in manner) (O.view out.new)) }
     ensures tells { is_some (K.view store.new).records ≡ is_some (K.view store.old).records }
     ensures none { goes_on (told_in manner) ≡ false → IfOk result (λ faults. faults ≡ 0) }
-    ensures first { goes_on (told_in manner) ≡ false → (K.view store.new).faults ≡ faults_after result (K.view store.old).faults }
+    ensures first { goes_on (told_in manner) ≡ false → (K.view store.new).faults ≡ faults_after_run result (K.view store.old).faults }
     ensures rises { StaysOrRose (K.view store.old).faults (K.view store.new).faults }
     ensures stays { StaysIfInOneLine (told_in manner) out.old out.new }
 {
@@ -99,7 +99,7 @@ fn take_items<K: Store, O: Sink>(
     goes_on: bool,
     engine: &mut Engine,
     items: &[Item],
-    tally: &mut Tally,
+    tally: &mut StepCounts,
     store: &mut K,
     out: &mut O,
 ) -> Result<u64, RunFault>
@@ -112,7 +112,7 @@ fn take_items<K: Store, O: Sink>(
         (K.view store.new).records (K.view store.new).given (O.view out.old) (O.view out.new) }
     ensures tells { is_some (K.view store.new).records ≡ is_some (K.view store.old).records }
     ensures none { goes_on ≡ false → IfOk result (λ faults. faults ≡ 0) }
-    ensures first { goes_on ≡ false → (K.view store.new).faults ≡ faults_after result (K.view store.old).faults }
+    ensures first { goes_on ≡ false → (K.view store.new).faults ≡ faults_after_run result (K.view store.old).faults }
     ensures rises { StaysOrRose (K.view store.old).faults (K.view store.new).faults }
 {
     let mut faults = 0u64;
@@ -129,7 +129,7 @@ fn take_item<K: Store, O: Sink>(
     goes_on: bool,
     engine: &mut Engine,
     item: &Item,
-    tally: &mut Tally,
+    tally: &mut StepCounts,
     store: &mut K,
     out: &mut O,
 ) -> Result<u64, RunFault>
@@ -147,7 +147,7 @@ fn take_item<K: Store, O: Sink>(
     ensures once { IfOk result (λ count. count ≤ 1) }
     ensures none { goes_on ≡ false → IfOk result (λ count. count ≡ 0) }
     ensures faults { IfOk result (RoseBy (K.view store.old).faults (K.view store.new).faults) }
-    ensures first { goes_on ≡ false → (K.view store.new).faults ≡ faults_after result (K.view store.old).faults }
+    ensures first { goes_on ≡ false → (K.view store.new).faults ≡ faults_after_run result (K.view store.old).faults }
     ensures rises { StaysOrRose (K.view store.old).faults (K.view store.new).faults }
     ensures stops { IsErrOf result (RunFault.Engine EngineFault.StoreFault) → (goes_on ≡ false) × MayCallIn (flow_of engine.old) item.now }
     ensures damaged { (id : ℕ) → IsErrOf result (RunFault.Engine (EngineFault.Damaged id)) → IsDamaged engine.old id (K.view store.new).given }
@@ -169,7 +169,7 @@ fn take_item<K: Store, O: Sink>(
 fn end<O: Sink>(
     alloc: Global,
     manner: Manner,
-    tally: Tally,
+    tally: StepCounts,
     faults: u64,
     out: &mut O,
 ) -> Result<(), RunFault>

@@ -18,7 +18,7 @@ use Rattle.fw_running.specs.declared.running.Running.{Running}
 use Rattle.fw_running.specs.declared.stepped.Effect.{Effect as Shown}
 use Rattle.fw_running.specs.declared.stepped.Stepped.{Stepped}
 use Rattle.fw_running.specs.declared.stepped.Stepped.TheVariants.{Did, Idle}
-use Rattle.fw_running.specs.Faults.{fault_of, faults_after}
+use Rattle.fw_running.specs.Faults.{fault_of, faults_after_step}
 use Rattle.fw_running.specs.Shaped.{IsShaped}
 use Rattle.fw_running.specs.Steps.{InnerAnswers, IsDamage, IsUndamaged, MayCallStore, PartAnswers, ShowsOutcome, StaysShaped, StepAnswers, TakesStep}
 use Rattle.fw_running.proofs.AnswerLaws.{no_damage}
@@ -26,7 +26,7 @@ use Rattle.fw_running.proofs.AnswerLaws.{no_damage}
 -- ---- faults
 
 -- as often as before, after a step that does not call the store
-unfaulted-counts : {T : Type 0} (result : Result T EngineFault) (count : ℕ) → (IsErrOf result fault.StoreFault → ⊥) → count ≡ faults_after result count
+unfaulted-counts : {T : Type 0} (result : Result T EngineFault) (count : ℕ) → (IsErrOf result fault.StoreFault → ⊥) → count ≡ faults_after_step result count
 unfaulted-counts (Ok x) count u = refl
 unfaulted-counts (Err fault.StoreFault) count u = absurd (u refl)
 unfaulted-counts (Err (fault.Damaged id)) count u = refl
@@ -43,7 +43,7 @@ pub busy : {A : Type 0} {shown : Shown} → ◌≡◌ {A = Result Stepped Engine
 busy e = absurd (cc)
 
 -- what the catalogue hands on of a fault counts as its own does
-pub fault-counts : (T S : Type 0) (f : KeepFault) (count : ℕ) → kept.keep_faults_after {T = T} (Err f) count ≡ faults_after {T = S} (Err (fault_of f)) count
+pub fault-counts : (T S : Type 0) (f : KeepFault) (count : ℕ) → kept.keep_faults_after {T = T} (Err f) count ≡ faults_after_step {T = S} (Err (fault_of f)) count
 fault-counts T S keep_fault.StoreFault count = refl
 fault-counts T S (keep_fault.Damaged id bytes) count = refl
 fault-counts T S keep_fault.NoMemory count = refl
@@ -271,7 +271,7 @@ module _ {old new : Running} {step : Step} where
 
 module _ {K : Type 0} {view : K → StoreView} {old new : Running} {before after : K} {result : Result Stepped EngineFault} where
   pub collection-answers : StaysShaped result new → IsStored new.parts.keep (view after).records → new.flow ≡ old.flow
-      → TakesStep old (view before).records Collect result new (view after).records → (view after).faults ≡ faults_after result (view before).faults
+      → TakesStep old (view before).records Collect result new (view after).records → (view after).faults ≡ faults_after_step result (view before).faults
       → IsUndamaged result → is_some (view after).records ≡ is_some (view before).records → OnOk result (new.parts.keep.waiting ≡ [])
       → StepAnswers view old before Collect result new after
   collection-answers shaped stored flow takes faults undamaged tells swept = record {
@@ -292,7 +292,7 @@ module _ {K : Type 0} {view : K → StoreView} {old new : Running} {before after
 
   pub recovery-answers : StaysShaped result new → IsStored new.parts.keep (view after).records → new.flow ≡ old.flow
       → TakesStep old (view before).records Recover result new (view after).records → ShowsOutcome old (view before).records Recover result
-      → (view after).faults ≡ faults_after result (view before).faults → ((id : ℕ) → IsErrOf result (fault.Damaged id) → IsDamage old id (view after).given)
+      → (view after).faults ≡ faults_after_step result (view before).faults → ((id : ℕ) → IsErrOf result (fault.Damaged id) → IsDamage old id (view after).given)
       → is_some (view after).records ≡ is_some (view before).records → (result ≡ Ok Idle → after ≡ before) → StepAnswers view old before Recover result new after
   recovery-answers shaped stored flow takes shows faults damaged tells idle = record {
     shaped = shaped;
@@ -320,14 +320,14 @@ collection-refused {K} {view} {old} {new} {store} {result} stored flow is =
 
 module _ {K : Type 0} {view : K → StoreView} {old new : Running} {before after : K} {result : Result Stepped EngineFault} where
   pub recovery-fails : (e : EngineFault) → IsErrAnd result (λ x. x ≡ e) → IsShaped new → IsStored new.parts.keep (view after).records → new.flow ≡ old.flow
-      → TakesStep old (view before).records Recover result new (view after).records → (view after).faults ≡ faults_after {T = Stepped} (Err e) (view before).faults
+      → TakesStep old (view before).records Recover result new (view after).records → (view after).faults ≡ faults_after_step {T = Stepped} (Err e) (view before).faults
       → ((id : ℕ) → IsErrOf result (fault.Damaged id) → IsDamage old id (view after).given) → is_some (view after).records ≡ is_some (view before).records
       → StepAnswers view old before Recover result new after
   recovery-fails e is shaped stored flow takes faults damaged tells =
       let at = sym (handed result e is) in
       recovery-answers (stays-shaped result new shaped) stored flow takes
       (subst (λ (r : Result Stepped EngineFault). ShowsOutcome old (view before).records Recover r) at (λ sys state s. tt))
-      (subst (λ (r : Result Stepped EngineFault). (view after).faults ≡ faults_after r (view before).faults) at faults) damaged tells
+      (subst (λ (r : Result Stepped EngineFault). (view after).faults ≡ faults_after_step r (view before).faults) at faults) damaged tells
       (subst (λ (r : Result Stepped EngineFault). r ≡ Ok Idle → after ≡ before) at (λ i. absurd (cc)))
 
   pub recovery-refused : IsErrAnd result (λ e. e ≡ fault.NoMemory) → IsStored new.parts.keep (view after).records → new.flow ≡ old.flow

@@ -20,8 +20,8 @@ is_refusal (Err (fault.Damaged id)) = false
 is_refusal (Err fault.NoMemory) = true
 
 -- how often a store has failed after a step that answered so: once more where it failed, and else as often as before
-abbrev pub faults_after : {T : Type 0} → Result T EngineFault → ℕ → ℕ
-faults_after (Ok x) count = count
-faults_after (Err fault.StoreFault) count = one_more count
-faults_after (Err (fault.Damaged id)) count = count
-faults_after (Err fault.NoMemory) count = count
+abbrev pub faults_after_step : {T : Type 0} → Result T EngineFault → ℕ → ℕ
+faults_after_step (Ok x) count = count
+faults_after_step (Err fault.StoreFault) count = one_more count
+faults_after_step (Err (fault.Damaged id)) count = count
+faults_after_step (Err fault.NoMemory) count = count

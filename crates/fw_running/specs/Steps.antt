@@ -23,16 +23,16 @@ use Rattle.fw_running.specs.declared.fault.EngineFault.{EngineFault}
 use Rattle.fw_running.specs.declared.fault.EngineFault.TheVariants as fault
 use Rattle.fw_running.specs.declared.running.Running.{Running}
 use Rattle.fw_running.specs.declared.stepped.Effect.{Effect as Shown}
-use Rattle.fw_running.specs.declared.stepped.Effect.TheVariants.{Silent, Acked, Cuts, Lows}
+use Rattle.fw_running.specs.declared.stepped.Effect.TheVariants.{Quiet, Acked, Cuts, Lows}
 use Rattle.fw_running.specs.declared.stepped.Stepped.{Stepped}
 use Rattle.fw_running.specs.declared.stepped.Stepped.TheVariants.{Did, Idle}
-use Rattle.fw_running.specs.Faults.{faults_after}
+use Rattle.fw_running.specs.Faults.{faults_after_step}
 use Rattle.fw_running.specs.Shaped.{IsShaped}
 use Rattle.fw_running.specs.Stands.{Stands}
 
 -- the machine's effect that an engine shows
 abbrev pub effect_of : Shown → Effect
-effect_of Silent = silent
+effect_of Quiet = silent
 effect_of (Acked output at recs) = acked output at recs.recs
 effect_of (Cuts choice) = cuts choice
 effect_of (Lows choice) = lows choice
@@ -183,7 +183,7 @@ pub record StepAnswers {K : Type 0} (view : K → StoreView) (old : Running) (be
   pub takes : TakesStep old (view before).records step result new (view after).records
   pub shows : step ≡ Recover → ShowsOutcome old (view before).records step result
   -- the store's count of faults rises at StoreFault alone, which comes only in a step that may call the store
-  pub faults : (view after).faults ≡ faults_after result (view before).faults
+  pub faults : (view after).faults ≡ faults_after_step result (view before).faults
   pub calls : IsErrOf result fault.StoreFault → MayCallStore old.flow step
   -- a record is damaged in a recovery alone
   pub damaged : (id : ℕ) → IsErrOf result (fault.Damaged id) → IsDamage old id (view after).given
@@ -209,7 +209,7 @@ pub record PartAnswers {T K : Type 0} (view : K → StoreView) (MayCall : Type 0
     (new : Running) (after : K) : Type 0 where
   pub stored : IsStored new.parts.keep (view after).records
   pub flow : new.flow ≡ old.flow
-  pub faults : (view after).faults ≡ faults_after result (view before).faults
+  pub faults : (view after).faults ≡ faults_after_step result (view before).faults
   pub calls : IsErrOf result fault.StoreFault → MayCall
   pub undamaged : IsUndamaged result
   pub tells : is_some (view after).records ≡ is_some (view before).records

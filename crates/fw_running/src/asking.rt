@@ -1,6 +1,6 @@
 //! A write is asked.
 ghost use Rattle.std.specs.Prelude.{◌≡◌, OnOk, OnErr};
-ghost use Rattle.fw_running.specs.Faults.{faults_after};
+ghost use Rattle.fw_running.specs.Faults.{faults_after_step};
 ghost use Rattle.fw_keep.specs.Stored.{IsStored};
 ghost use Rattle.fw_running.specs.Steps.{IsUndamaged};
 ghost use Rattle.fw_running.specs.Logging.{ChangesKeep, IsAsked, IsNotAsked};
@@ -29,7 +29,7 @@ impl Running {
         ensures stays { OnErr result (IsNotAsked self.old.parts.keep.entries self.new.parts.keep.entries
             (K.view store.old).records (K.view store.new).records) }
         ensures given { (K.view store.new).given ≡ (K.view store.old).given }
-        ensures faults { (K.view store.new).faults ≡ faults_after result (K.view store.old).faults }
+        ensures faults { (K.view store.new).faults ≡ faults_after_step result (K.view store.old).faults }
         ensures undamaged { IsUndamaged result }
     {
         if self.parts.keep.next_id() >= IDS {

@@ -45,7 +45,7 @@ impl<'a> fmt::Display for Shown<'a> {
 
     fn fmt<W: fmt::Write>(&self, f: &mut fmt::Formatter<W>) -> fmt::Result {
         match self.effect {
-            None | Some(Effect::Silent) => Ok(()),
+            None | Some(Effect::Quiet) => Ok(()),
             Some(Effect::Acked { output, at, recs }) => {
                 let line = AckLine {
                     name: name_of(self.flow, *output),

@@ -11,7 +11,7 @@ use fw_time::Stamp;
 #[derive(Debug, Drop)]
 pub enum Effect {
     /// Nothing.
-    Silent,
+    Quiet,
     /// The output acknowledged the stamp, with all the recs that it took at it.
     Acked {
         output: NodeId,

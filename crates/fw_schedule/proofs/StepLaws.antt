@@ -27,7 +27,7 @@ use Rattle.fw_schedule.specs.Grammar.{auto_of, one_step, item_of, items_of}
 use Rattle.fw_schedule.specs.Names.{are_names, node_with_name, edge_named, if_kind, node_of_kind, nodes_named}
 use Rattle.fw_schedule.specs.Schedule.{IsTimeIn, IsNodeOfKind, IsStepOf, IsItemOf, steps_in, step_count, step_limit}
 use Rattle.fw_schedule.specs.Stamps.{stamp_spelled}
-use Rattle.fw_schedule.specs.Steps.{told_in, delivery_on, notification_of, lone_step, stamped_step, named_step, is_name_at_stamp, short_step, failure_of, step_of}
+use Rattle.fw_schedule.specs.Steps.{told_stamp, delivery_on, notification_of, lone_step, stamped_step, named_step, is_name_at_stamp, short_step, failure_of, step_of}
 
 -- a name stands below the end
 below : (name : List ℕ) (names : List (List ℕ)) (o : Option ℕ) → place_of name names ≡ o → IfSome o (λ place. place < length names)
@@ -48,7 +48,7 @@ node_sound : (flow : Dataflow) (is_such : Kind → Bool) (node : Option ℕ) →
 node_sound flow is_such None h = tt
 node_sound flow is_such (Some node) h = kind_sound flow is_such node (is_such (kind_of flow node)) refl h
 
-told_sound : (bounds : Bounds) (stamp : Option (List ℕ)) → IfSome (told_in bounds stamp) (IsTimeIn bounds)
+told_sound : (bounds : Bounds) (stamp : Option (List ℕ)) → IfSome (told_stamp bounds stamp) (IsTimeIn bounds)
 told_sound bounds None = tt
 told_sound bounds (Some word) = inside (in_domain bounds (stamp_spelled word)) refl
   where
@@ -91,10 +91,10 @@ lone_sound flow verb =
     (either (IsStepOf flow) (bytes_eq verb (codes "collect")) (Ok step.Collect) (Err S1) tt tt)))
 
 delivery_sound : (flow : Dataflow) (name : List ℕ) (stamp : Option (List ℕ)) → IfOk (option_map_or (delivery_on flow stamp) (edge_named flow name) (Err S2)) (IsStepOf flow)
-delivery_sound flow name stamp = at_place flow (λ e. e < length flow.edges) (delivery_on flow stamp) (edge_named flow name) (edge_below flow name) (λ e h. made flow (IsTimeIn (bounds_of flow (receiver flow e))) (λ at. step.Deliver e at) S3 (told_in (bounds_of flow (receiver flow e)) stamp) (told_sound (bounds_of flow (receiver flow e)) stamp) (λ at k. (h, k)))
+delivery_sound flow name stamp = at_place flow (λ e. e < length flow.edges) (delivery_on flow stamp) (edge_named flow name) (edge_below flow name) (λ e h. made flow (IsTimeIn (bounds_of flow (receiver flow e))) (λ at. step.Deliver e at) S3 (told_stamp (bounds_of flow (receiver flow e)) stamp) (told_sound (bounds_of flow (receiver flow e)) stamp) (λ at k. (h, k)))
 
 notification_sound : (flow : Dataflow) (name : List ℕ) (stamp : Option (List ℕ)) → IfOk (option_map_or (notification_of flow stamp) (node_with_name flow name) (Err S2)) (IsStepOf flow)
-notification_sound flow name stamp = at_place flow (λ n. n < length flow.nodes) (notification_of flow stamp) (node_with_name flow name) (node_below flow name) (λ n h. made flow (IsTimeIn (bounds_of flow n)) (λ at. step.Notify n at) S3 (told_in (bounds_of flow n) stamp) (told_sound (bounds_of flow n) stamp) (λ at k. (h, k)))
+notification_sound flow name stamp = at_place flow (λ n. n < length flow.nodes) (notification_of flow stamp) (node_with_name flow name) (node_below flow name) (λ n h. made flow (IsTimeIn (bounds_of flow n)) (λ at. step.Notify n at) S3 (told_stamp (bounds_of flow n) stamp) (told_sound (bounds_of flow n) stamp) (λ at k. (h, k)))
 
 stamped_sound : (flow : Dataflow) (verb name : List ℕ) (stamp : Option (List ℕ)) → IfOk (stamped_step flow verb name stamp) (IsStepOf flow)
 stamped_sound flow verb name stamp =

@@ -14,17 +14,17 @@ use Rattle.fw_schedule.specs.Names.{are_names, node_with_name, edge_named, node_
 use Rattle.fw_schedule.specs.Stamps.{is_stamp, stamp_spelled}
 
 -- the stamp that a word spells, if it lies in the domain; where there is no word no stamp is told
-abbrev pub told_in : Bounds → Option (List ℕ) → Option (Option Stamp)
-told_in bounds None = Some None
-told_in bounds (Some word) = if in_domain bounds (stamp_spelled word) then Some (Some (stamp_spelled word)) else None
+abbrev pub told_stamp : Bounds → Option (List ℕ) → Option (Option Stamp)
+told_stamp bounds None = Some None
+told_stamp bounds (Some word) = if in_domain bounds (stamp_spelled word) then Some (Some (stamp_spelled word)) else None
 
 -- the delivery on an edge; S3, unless the stamp lies in the receiver's domain
 abbrev pub delivery_on : Dataflow → Option (List ℕ) → ℕ → Result Step Code
-delivery_on flow stamp edge = ok_or (option_map (Deliver edge) (told_in (bounds_of flow (receiver flow edge)) stamp)) S3
+delivery_on flow stamp edge = ok_or (option_map (Deliver edge) (told_stamp (bounds_of flow (receiver flow edge)) stamp)) S3
 
 -- the notification of a node; S3, unless the stamp lies in its domain
 abbrev pub notification_of : Dataflow → Option (List ℕ) → ℕ → Result Step Code
-notification_of flow stamp node = ok_or (option_map (Notify node) (told_in (bounds_of flow node) stamp)) S3
+notification_of flow stamp node = ok_or (option_map (Notify node) (told_stamp (bounds_of flow node) stamp)) S3
 
 -- the step of a line of one word
 abbrev pub lone_step : List ℕ → Result Step Code

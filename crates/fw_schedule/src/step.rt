@@ -6,7 +6,7 @@ ghost use Rattle.fw_lines.specs.Lines.{bytes_at, words_at};
 ghost use Rattle.fw_schedule.specs.Names.{edge_named, node_with_name};
 ghost use Rattle.fw_schedule.specs.Stamps as stamps;
 ghost use Rattle.fw_schedule.specs.Steps as spec;
-ghost use Rattle.fw_schedule.specs.Steps.{told_in};
+ghost use Rattle.fw_schedule.specs.Steps.{told_stamp};
 
 use crate::coordinates::{is_stamp, stamp_up_to};
 use crate::names::{are_names, nodes_named, output_named, source_named};
@@ -193,7 +193,7 @@ fn notification(text: &[u8], name: Span, stamp: Option<Span>, flow: &Flow) -> Re
 // The stamp that a line tells, or none where it tells none; nothing where it lies outside the domain.
 fn told(text: &[u8], stamp: Option<Span>, bounds: &Bounds) -> Option<Option<Stamp>>
     requires { IfSome stamp (λ word. stamps.is_stamp (bytes_at text.now word) ≡ true) }
-    ensures { result ≡ told_in bounds.now (option_map (bytes_at text.now) stamp) }
+    ensures { result ≡ told_stamp bounds.now (option_map (bytes_at text.now) stamp) }
 {
     match stamp {
         None => Some(None),

@@ -37,7 +37,7 @@ use Rattle.fw_stands.proofs.GrowthLaws.{settled-holds}
 use Rattle.fw_stands.proofs.KeptLaws.{fronts-grow}
 use Rattle.fw_running.specs.declared.fault.EngineFault.{EngineFault}
 use Rattle.fw_running.specs.declared.running.Running.{Running}
-use Rattle.fw_running.specs.Faults.{faults_after}
+use Rattle.fw_running.specs.Faults.{faults_after_step}
 use Rattle.fw_running.specs.Logging.{with_keep, ChangesKeep, IsAsked, IsNotAsked}
 use Rattle.fw_running.specs.Stands.{Stands}
 use Rattle.fw_running.specs.Steps.{IsUndamaged, PartAnswers}
@@ -327,7 +327,7 @@ asked-next p old mid new before between after h c l grow a = elim (cases_Bool (i
 -- ---- a write that may be asked
 
 pub asking-part : {T K : Type 0} {view : K → StoreView} {MayCall : Type 0} {old new : Running} {before after : K} {result : Result T EngineFault} → MayCall
-    → ChangesKeep old new → IsStored new.parts.keep (view after).records → (view after).faults ≡ faults_after result (view before).faults
+    → ChangesKeep old new → IsStored new.parts.keep (view after).records → (view after).faults ≡ faults_after_step result (view before).faults
     → IsUndamaged result → is_some (view after).records ≡ is_some (view before).records → PartAnswers view MayCall old before result new after
 asking-part may others stored faults undamaged tells = record {
   stored = stored;

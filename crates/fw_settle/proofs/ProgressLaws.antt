@@ -34,7 +34,7 @@ use Rattle.fw_stands.proofs.KeptLaws.{no_more-idle}
 use Rattle.fw_stands.proofs.SettlingLaws.{settled_tables-stand, ungrown_tables-stay, no_tables-stay, all_settled_traces-stand, progress-keeps}
 use Rattle.fw_running.specs.declared.fault.EngineFault.{EngineFault}
 use Rattle.fw_running.specs.declared.running.Running.{Running}
-use Rattle.fw_running.specs.declared.stepped.Effect.TheVariants.{Silent}
+use Rattle.fw_running.specs.declared.stepped.Effect.TheVariants.{Quiet}
 use Rattle.fw_running.specs.declared.stepped.Stepped.TheVariants.{Did, Idle}
 use Rattle.fw_running.specs.BroughtUp.{IsBroughtUp}
 use Rattle.fw_running.proofs.AnswerLaws.{left-answers}
@@ -218,7 +218,7 @@ idle-takes old mid before up none = λ sys state s trust.
     progress-idle sys state mid before (brought_up_stands sys state old mid before s up) (up-complete sys state old mid before s up) none
 
 pub did-takes : (old mid new : Running) (before after : Option Records) (p : ℕ) → IsBroughtUp old mid → IsShaped mid → IsNextToSettle mid 0 p
-    → Progresses mid new before after → TakesStep old before ProgressStep (Ok (Did Silent)) new after
+    → Progresses mid new before after → TakesStep old before ProgressStep (Ok (Did Quiet)) new after
 did-takes old mid new before after p up shaped first does = λ sys state s trust.
     progress-follows sys state mid new before after p (brought_up_stands sys state old mid before s up) shaped (up-complete sys state old mid before s up) first does
 

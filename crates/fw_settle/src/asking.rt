@@ -1,6 +1,6 @@
 //! Writes are asked.
 ghost use Rattle.std.specs.Prelude.{◌≡◌, ◌<◌, ◌++◌, List, Option, length, OnOk, OnErr, is_some};
-ghost use Rattle.fw_running.specs.Faults.{faults_after};
+ghost use Rattle.fw_running.specs.Faults.{faults_after_step};
 ghost use Rattle.fw_frontier.specs.Front.{IsCanonical};
 ghost use Rattle.fw_flow.specs.Dataflow.{bounds_of};
 ghost use Rattle.fw_keep.specs.declared.entry.Entry.{Entry as Write};
@@ -38,7 +38,7 @@ pub(crate) fn ask_checkpoint<K: Store>(
     ensures asked { OnOk result (AsksCheckpoint node front.now running.old running.new (K.view store.old).records (K.view store.new).records) }
     ensures stays { OnErr result (IsNotAsked running.old.parts.keep.entries running.new.parts.keep.entries
         (K.view store.old).records (K.view store.new).records) }
-    ensures faults { (K.view store.new).faults ≡ faults_after result (K.view store.old).faults }
+    ensures faults { (K.view store.new).faults ≡ faults_after_step result (K.view store.old).faults }
     ensures undamaged { IsUndamaged result }
     ensures tells { is_some (K.view store.new).records ≡ is_some (K.view store.old).records }
 {

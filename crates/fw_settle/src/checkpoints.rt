@@ -35,7 +35,7 @@ pub fn checkpoint<K: Store>(
     }
     let front = running.progress.settled()[node.place() as usize].copy()?;
     ask_checkpoint(running, node, &front, store)?;
-    Ok(Stepped::Did(Effect::Silent))
+    Ok(Stepped::Did(Effect::Quiet))
 }
 
 // Whether a node takes checkpoints when asked, is not failed, and has not taken the newest one at what is settled.
@@ -72,7 +72,7 @@ pub fn persist(running: &mut Running) -> Stepped
     ensures { InnerAnswers running.old steps.Persist (Ok result) running.new }
 {
     match running.parts.keep.persist_one() {
-        Some(_id) => Stepped::Did(Effect::Silent),
+        Some(_id) => Stepped::Did(Effect::Quiet),
         None => Stepped::Idle,
     }
 }

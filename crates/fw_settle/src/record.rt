@@ -9,7 +9,7 @@ ghost use Rattle.fw_flow.specs.Restoring.{can_resend};
 ghost use Rattle.fw_node.specs.declared.node.Node.{Node as Table};
 ghost use Rattle.fw_progress.specs.Counts.{sent_of};
 ghost use Rattle.fw_progress.specs.Trace.{HaveLists};
-ghost use Rattle.fw_record.specs.Sound.{IsRec};
+ghost use Rattle.fw_bag.specs.Bag.{IsRec};
 ghost use Rattle.fw_settle.specs.Checkpoints.{IsCoverDelivered, IsDiscarded, IsOfEdge, IsRecordedAt, AreTotalsAt, AreSendsOf, AreSendsAt, IsStateAt, logged_from, logged_at, IsLogAt, IsMadeAt};
 ghost use Rattle.fw_settle.specs.Sends.{IsEpochLimit, is_last_of, HasTaken, HasCount, HasSends};
 ghost use Rattle.fw_running.specs.Kept.{log_at, table_of};

@@ -33,7 +33,7 @@ pub fn progress<K: Store>(running: &mut Running, store: &mut K) -> Result<Steppe
     };
     ask_eager(running, store)?;
     settle_grown(running)?;
-    Ok(Stepped::Did(Effect::Silent))
+    Ok(Stepped::Did(Effect::Quiet))
 }
 
 // The first node from a place on that is not failed and has more kept than settled.

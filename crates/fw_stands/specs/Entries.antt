@@ -12,7 +12,7 @@ use Rattle.fw_record.specs.declared.record.Event.{Event}
 use Rattle.fw_record.specs.declared.record.Event.TheVariants as logged
 use Rattle.fw_record.specs.declared.record.Record.{Record}
 use Rattle.fw_record.specs.declared.record.Record.TheVariants as tagged
-use Rattle.fw_record.specs.Sound.{IsRec}
+use Rattle.fw_bag.specs.Bag.{IsRec}
 use Rattle.fw_keep.specs.declared.entry.Entry.{Entry}
 use Rattle.fw_keep.specs.declared.entry.Written.{Written}
 use Rattle.fw_keep.specs.declared.entry.Written.TheVariants as written

@@ -1,6 +1,6 @@
 //! What an event makes a node send.
 ghost use Rattle.std.specs.Prelude.{◌≡◌, ◌≤◌, ◌↔◌, ◌∷◌, [], ◌++◌, length, IsTrue, IfOk, OnOk, OnErr, option_to_list};
-ghost use Rattle.fw_table.specs.Few.{recs_of_few};
+ghost use Rattle.fw_table.specs.SmallRecs.{recs_of_few};
 
 use fw_bag::Rec;
 use fw_time::{Stamp, Time};
@@ -10,12 +10,12 @@ use std::marker::Model;
 /// Recs in order, of which one alone takes no memory. Contracts see their list.
 #[derive(Debug, Drop)]
 pub struct SentRecs {
-    few: Few,
+    few: SmallRecs,
 }
 
 // The recs: at most one in place, or more in a vector.
 #[derive(Debug, Drop)]
-enum Few {
+enum SmallRecs {
     AtMostOne(Option<Rec>),
     Many(Vec<Rec>),
 }
@@ -23,7 +23,7 @@ enum Few {
 impl Model for SentRecs {
     ghost use Rattle.std.specs.Prelude.{List};
     ghost use Rattle.fw_bag.specs.declared.rec.Rec.{Rec};
-    ghost use Rattle.fw_table.specs.Few.{recs_of_few};
+    ghost use Rattle.fw_table.specs.SmallRecs.{recs_of_few};
 
     ghost Value = { List Rec };
 
@@ -36,7 +36,7 @@ impl SentRecs {
         ensures { result ≡ option_to_list rec }
     {
         SentRecs {
-            few: Few::AtMostOne(rec),
+            few: SmallRecs::AtMostOne(rec),
         }
     }
 
@@ -45,7 +45,7 @@ impl SentRecs {
         ensures { result ≡ recs.items }
     {
         SentRecs {
-            few: Few::Many(recs),
+            few: SmallRecs::Many(recs),
         }
     }
 
@@ -57,14 +57,14 @@ impl SentRecs {
         ensures err { OnErr result (self.new ≡ self.old) }
     {
         let first = match &mut self.few {
-            Few::Many(recs) => {
+            SmallRecs::Many(recs) => {
                 recs.push(rec)?;
                 return Ok(());
             }
-            Few::AtMostOne(first) => *first,
+            SmallRecs::AtMostOne(first) => *first,
         };
         self.few = match first {
-            None => Few::AtMostOne(Some(rec)),
+            None => SmallRecs::AtMostOne(Some(rec)),
             Some(first) => pair(alloc, first, rec)?,
         };
         Ok(())
@@ -89,20 +89,20 @@ impl SentRecs {
         ensures { result.now ≡ self.now }
     {
         match &self.few {
-            Few::AtMostOne(rec) => rec.as_slice(),
-            Few::Many(recs) => recs,
+            SmallRecs::AtMostOne(rec) => rec.as_slice(),
+            SmallRecs::Many(recs) => recs,
         }
     }
 }
 
 // Two recs.
-fn pair(alloc: Global, first: Rec, second: Rec) -> Result<Few, AllocError>
+fn pair(alloc: Global, first: Rec, second: Rec) -> Result<SmallRecs, AllocError>
     ensures { IfOk result (λ few. recs_of_few few ≡ first ∷ second ∷ []) }
 {
     let mut recs = Vec::new(alloc);
     recs.push(first)?;
     recs.push(second)?;
-    Ok(Few::Many(recs))
+    Ok(SmallRecs::Many(recs))
 }
 
 /// What an event makes a node send: recs in order, all at one time.

@@ -12,8 +12,8 @@ loop-front-preserved c =
     let front : OfNode = c.front-item.result in
     let sources = c.loop-front.sources in
     record {
-      count = ap length c.give_up.ensures ∙ length-set sources front.node (given_up front.front (source_at sources front.node)) ∙ c.loop-front.invariant.count;
-      each = sources_more c.args.fronts.now c.loop-front.front-index front c.args.sources.now sources c.give_up.new.self
+      count = ap length c.acknowledge.ensures ∙ length-set sources front.node (given_up front.front (source_at sources front.node)) ∙ c.loop-front.invariant.count;
+      each = sources_more c.args.fronts.now c.loop-front.front-index front c.args.sources.now sources c.acknowledge.new.self
           c.loop-front-test.true c.loop-front.invariant.each
-          (c.give_up.ensures ∙ ap (λ (q : OfNode). with_source (given_up q.front) sources q.node) c.front-item.is);
+          (c.acknowledge.ensures ∙ ap (λ (q : OfNode). with_source (given_up q.front) sources q.node) c.front-item.is);
     }

@@ -5,6 +5,6 @@ use Rattle.fw_events.proofs.sending.send_on.Goals as goal
 
 pub returns-clause-sent : goal.returns-clause-sent
 returns-clause-sent c =
-    sends-one_ok c.log_again.result c.args.edge c.args.node (caused_by c.args.cause.now (sends_list c.args.sends.now))
-    c.args.running.now c.put_live.new.running c.log_again.new.running
-    c.put_live.ensures.others c.log_again.ensures.others c.put_live.ensures.down c.in_ok-put_live.ensures.live c.log_again.ensures.again c.log_again.ensures.never
+    sends-one_ok c.log_sent.result c.args.edge c.args.node (caused_by c.args.cause.now (sends_list c.args.sends.now))
+    c.args.running.now c.put_live.new.running c.log_sent.new.running
+    c.put_live.ensures.others c.log_sent.ensures.others c.put_live.ensures.down c.in_ok-put_live.ensures.live c.log_sent.ensures.again c.log_sent.ensures.never

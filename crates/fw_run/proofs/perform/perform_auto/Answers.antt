@@ -58,7 +58,7 @@ returns-in_err-stepped-clause-faults g c =
     let p = err_from_is_err_and c.from_residual.result c.from_residual.ensures.1 in
     let known = g.K.Store.view in
     rw (p.1, p.2) (told_after Stepped (Unit {0}) _ (known c.args.store.now).faults (known c.auto_step.new.store).faults
-    (subst (λ (before : ℕ). (known c.auto_step.new.store).faults ≡ engine.faults_after {T = Stepped} (Err c.in_err-stepped.field-0.0) before) c.loop.invariant.faults c.in_err-stepped.ensures.faults))
+    (subst (λ (before : ℕ). (known c.auto_step.new.store).faults ≡ engine.faults_after_step {T = Stepped} (Err c.in_err-stepped.field-0.0) before) c.loop.invariant.faults c.in_err-stepped.ensures.faults))
 
 pub returns-then-is_idle-clause-printed : goal.returns-then-is_idle-clause-printed
 returns-then-is_idle-clause-printed g c =

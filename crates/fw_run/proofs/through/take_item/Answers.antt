@@ -10,7 +10,7 @@ use Rattle.fw_run.specs.declared.fault.RunFault.TheVariants as stop
 use Rattle.fw_run.specs.Performing.{PrintsItem}
 use Rattle.fw_run.specs.Enduring.{RoseBy}
 use Rattle.fw_run.specs.Reports.{fault_line}
-use Rattle.fw_run.specs.Fault.{faults_after}
+use Rattle.fw_run.specs.Fault.{faults_after_run}
 use Rattle.fw_run.specs.Stopping.{MayCallIn}
 use Rattle.fw_command.specs.Writing.{Writes}
 use Rattle.fw_run.proofs.through.take_item.Goals as goal
@@ -33,7 +33,7 @@ returns-in_err-write-in-Err-Engine-StoreFault-clause-printed g c =
     rw (p.1, p.2) (through-fault_cut c.args.goes_on c.args.engine.now c.perform_item.new.engine (known c.args.store.now).records (known c.perform_item.new.store).records c.args.item.now c.args.tally.now counts
     (g.K.Store.view c.args.store.now).faults (g.K.Store.view c.perform_item.new.store).faults _ (view c.args.out.now) (view c.perform_item.new.out) (view c.write.new.self) c.if-goes_on.true
     (λ sys state st. subst (λ (flow : Dataflow). MayCallIn flow c.args.item.now) st.flow (faulted.calls is)) printed
-    (subst (λ t. Writes {T = Unit {0}} t (Err f) (view c.perform_item.new.out) (view c.write.new.self)) line written) (faulted.faults ∙ ap (λ (f : RunFault). faults_after {T = Unit {0}} (Err f) (g.K.Store.view c.args.store.now).faults) same) _)
+    (subst (λ t. Writes {T = Unit {0}} t (Err f) (view c.perform_item.new.out) (view c.write.new.self)) line written) (faulted.faults ∙ ap (λ (f : RunFault). faults_after_run {T = Unit {0}} (Err f) (g.K.Store.view c.args.store.now).faults) same) _)
 
 pub returns-in_ok-write-in-Err-Engine-StoreFault-clause-printed :
     goal.returns-in_ok-write-in-Err-Engine-StoreFault-clause-printed
@@ -67,7 +67,7 @@ returns-in_err-line-in-Err-Engine-StoreFault-clause-printed g c =
     rw (p.1, p.2) (through-fault_cut c.args.goes_on c.args.engine.now c.perform_item.new.engine (known c.args.store.now).records (known c.perform_item.new.store).records c.args.item.now c.args.tally.now counts
     (g.K.Store.view c.args.store.now).faults (g.K.Store.view c.perform_item.new.store).faults _ (view c.args.out.now) (view c.perform_item.new.out) (view c.perform_item.new.out) c.if-goes_on.true
     (λ sys state st. subst (λ (flow : Dataflow). MayCallIn flow c.args.item.now) st.flow (faulted.calls is)) printed
-    (cut_nothing (fault_line (counts.steps + 1)) (view c.perform_item.new.out)) (faulted.faults ∙ ap (λ (f : RunFault). faults_after {T = Unit {0}} (Err f) (g.K.Store.view c.args.store.now).faults) same) _)
+    (cut_nothing (fault_line (counts.steps + 1)) (view c.perform_item.new.out)) (faulted.faults ∙ ap (λ (f : RunFault). faults_after_run {T = Unit {0}} (Err f) (g.K.Store.view c.args.store.now).faults) same) _)
 
 pub returns-in-Ok-clause-printed : goal.returns-in-Ok-clause-printed
 returns-in-Ok-clause-printed g c =
@@ -91,19 +91,19 @@ pub returns-in_err-write-in-Err-Engine-StoreFault-clause-rises :
     goal.returns-in_err-write-in-Err-Engine-StoreFault-clause-rises
 returns-in_err-write-in-Err-Engine-StoreFault-clause-rises g c =
     let same : c.in-Err-Engine-StoreFault.field-0 ≡ stop.Engine fault.StoreFault = c.in-Err-Engine-StoreFault.field-0-is ∙ ap stop.Engine c.in-Err-Engine-StoreFault.field-0-0-is in
-    (1, c.in-Err-Engine-StoreFault.ensures.faults ∙ ap (λ (f : RunFault). faults_after {T = Unit {0}} (Err f) (g.K.Store.view c.args.store.now).faults) same)
+    (1, c.in-Err-Engine-StoreFault.ensures.faults ∙ ap (λ (f : RunFault). faults_after_run {T = Unit {0}} (Err f) (g.K.Store.view c.args.store.now).faults) same)
 
 pub returns-in_ok-write-in-Err-Engine-StoreFault-clause-rises :
     goal.returns-in_ok-write-in-Err-Engine-StoreFault-clause-rises
 returns-in_ok-write-in-Err-Engine-StoreFault-clause-rises g c =
     let same : c.in-Err-Engine-StoreFault.field-0 ≡ stop.Engine fault.StoreFault = c.in-Err-Engine-StoreFault.field-0-is ∙ ap stop.Engine c.in-Err-Engine-StoreFault.field-0-0-is in
-    (1, c.in-Err-Engine-StoreFault.ensures.faults ∙ ap (λ (f : RunFault). faults_after {T = Unit {0}} (Err f) (g.K.Store.view c.args.store.now).faults) same)
+    (1, c.in-Err-Engine-StoreFault.ensures.faults ∙ ap (λ (f : RunFault). faults_after_run {T = Unit {0}} (Err f) (g.K.Store.view c.args.store.now).faults) same)
 
 pub returns-in_err-line-in-Err-Engine-StoreFault-clause-rises :
     goal.returns-in_err-line-in-Err-Engine-StoreFault-clause-rises
 returns-in_err-line-in-Err-Engine-StoreFault-clause-rises g c =
     let same : c.in-Err-Engine-StoreFault.field-0 ≡ stop.Engine fault.StoreFault = c.in-Err-Engine-StoreFault.field-0-is ∙ ap stop.Engine c.in-Err-Engine-StoreFault.field-0-0-is in
-    (1, c.in-Err-Engine-StoreFault.ensures.faults ∙ ap (λ (f : RunFault). faults_after {T = Unit {0}} (Err f) (g.K.Store.view c.args.store.now).faults) same)
+    (1, c.in-Err-Engine-StoreFault.ensures.faults ∙ ap (λ (f : RunFault). faults_after_run {T = Unit {0}} (Err f) (g.K.Store.view c.args.store.now).faults) same)
 
 pub returns-in-Ok-clause-rises : goal.returns-in-Ok-clause-rises
 returns-in-Ok-clause-rises g c = (0, c.in-Ok.ensures.faults)

@@ -5,9 +5,9 @@ use Rattle.fw_run.proofs.PlaceLaws.{room_at, counts-next}
 use Rattle.fw_run.proofs.FaultCounts.{rose_more, rises_more}
 use Rattle.fw_run.proofs.ThroughLaws.{taken-none, taken-more, taken-all, cut_off-at, ends-at}
 use Rattle.fw_run.proofs.TallyLaws.{of_steps-none}
-use Rattle.fw_run.specs.declared.tally.Tally.{Tally}
+use Rattle.fw_run.specs.declared.tally.StepCounts.{StepCounts}
 use Rattle.fw_run.specs.Enduring.{with_faults, RoseBy}
-use Rattle.fw_run.specs.Fault.{faults_after}
+use Rattle.fw_run.specs.Fault.{faults_after_run}
 use Rattle.fw_run.specs.Tallies.{AreOfSteps}
 use Rattle.fw_run.proofs.through.take_items.Goals as goal
 
@@ -22,7 +22,7 @@ loop-item-init g c = record {
   tells = refl;
   flow = refl;
   of_steps = subst AreOfSteps (sym c.requires.none) of_steps-none;
-  few = omega (arith, ap (λ (t : Tally). t.steps) c.requires.none);
+  few = omega (arith, ap (λ (t : StepCounts). t.steps) c.requires.none);
   few_faults = omega arith;
   none = λ ends. refl;
   rose_by = refl;
@@ -81,7 +81,7 @@ returns-in_err-faults-clause-first g c ends =
     let known = g.K.Store.view in
     let inv = c.loop-item.invariant in
     let same : (known c.loop-item.store).faults ≡ (known c.args.store.now).faults = inv.rose_by ∙ ap (λ (n : ℕ). with_faults n (known c.args.store.now).faults) (inv.none ends) in
-    rw (p.1, p.2) (subst (λ (n : ℕ). (known c.take_item.new.store).faults ≡ faults_after {T = ℕ} (Err c.in_err-faults.field-0.0) n) same (c.in_err-faults.ensures.first ends))
+    rw (p.1, p.2) (subst (λ (n : ℕ). (known c.take_item.new.store).faults ≡ faults_after_run {T = ℕ} (Err c.in_err-faults.field-0.0) n) same (c.in_err-faults.ensures.first ends))
 
 pub returns-in_err-faults-clause-rises : goal.returns-in_err-faults-clause-rises
 returns-in_err-faults-clause-rises g c =

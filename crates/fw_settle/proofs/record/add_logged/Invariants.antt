@@ -1,7 +1,7 @@
 use Rattle.std.proofs.Common.{◌≡◌, ◌++◌, map}
 use Rattle.std.specs.List.{AllByRecursion}
 use Rattle.fw_flow.specs.declared.event.Message.{Message}
-use Rattle.fw_record.specs.Sound.{IsRec}
+use Rattle.fw_bag.specs.Bag.{IsRec}
 use Rattle.fw_record.specs.declared.logged.Logged.{Logged}
 use Rattle.fw_settle.proofs.record.add_logged.Given as goal
 

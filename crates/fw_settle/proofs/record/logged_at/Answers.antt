@@ -6,7 +6,7 @@ use Rattle.fw_frontier.specs.Front.{inside}
 use Rattle.fw_flow.specs.declared.event.Message.{Message}
 use Rattle.fw_model.specs.Filtering.{messages_from}
 use Rattle.fw_record.specs.declared.logged.Logged.{Logged}
-use Rattle.fw_record.specs.Sound.{IsRec}
+use Rattle.fw_bag.specs.Bag.{IsRec}
 use Rattle.fw_running.specs.Kept.{log_at}
 use Rattle.fw_settle.proofs.RecordLaws.{logged-next, on-some, on-none}
 use Rattle.fw_settle.proofs.record.logged_at.Goals.{in-Some+in_ok-caused_in+in_ok-add_logged, in_default}

@@ -1,6 +1,6 @@
 use Rattle.std.proofs.Common.{◌≡◌, take}
 use Rattle.std.specs.List.{AllByRecursion}
-use Rattle.fw_record.specs.Sound.{IsRec}
+use Rattle.fw_bag.specs.Bag.{IsRec}
 use Rattle.fw_record.specs.declared.logged.Logged.{Logged}
 use Rattle.fw_running.specs.Kept.{log_at}
 use Rattle.fw_settle.specs.Checkpoints.{logged_from}

@@ -1,6 +1,6 @@
 use Rattle.std.proofs.Common.{◌≡◌, ◌+◌, rules, Some, None, Err, ap, refl, subst, ◌∙◌}
 use Rattle.fw_running.specs.declared.running.Running.{Running}
-use Rattle.fw_running.specs.Faults.{faults_after}
+use Rattle.fw_running.specs.Faults.{faults_after_step}
 use Rattle.fw_running.specs.Steps.{HasEager, PartAnswers}
 use Rattle.fw_running.proofs.StepLaws.{part-err}
 use Rattle.fw_settle.specs.Settling.{IsFoundToSettle}
@@ -58,7 +58,7 @@ returns-in_err-ask_if_eager-clause-part g c =
     c.ask_if_eager.new.running c.ask_if_eager.new.store = record {
       stored = part.stored;
       flow = part.flow ∙ ap (λ (r : Running). r.flow) h.others;
-      faults = part.faults ∙ ap (faults_after {T = Unit {0}} (Err c.in_err-ask_if_eager.field-0.0)) h.faults;
+      faults = part.faults ∙ ap (faults_after_step {T = Unit {0}} (Err c.in_err-ask_if_eager.field-0.0)) h.faults;
       calls = λ f. eager (part.calls f);
       undamaged = part.undamaged;
       tells = part.tells ∙ h.tells;

@@ -8,7 +8,7 @@ use Rattle.fw_node.specs.Arrived.{arrived, place_in}
 use Rattle.fw_node.specs.Past.{past_of}
 use Rattle.fw_node.specs.TimedTable.{IsSideOf}
 use Rattle.fw_node.proofs.NodeLaws.{delivery_sends}
-use Rattle.fw_node.specs.declared.sends.Sends.TheVariants.{Together}
+use Rattle.fw_node.specs.declared.sends.Sends.TheVariants.{AtOneStamp}
 use Rattle.fw_node.proofs.NodeOfLaws.{can-send, of_node}
 use Rattle.fw_node.proofs.node.Node.deliver.Goals as goal
 
@@ -29,7 +29,7 @@ returns-in-Ok-clause-sent c = λ sys p settled before m at_is rec_is edge out no
 
 pub returns-in-Ok-clause-domain : goal.returns-in-Ok-clause-domain
 returns-in-Ok-clause-domain c = λ flow p w n.
-    can-send flow p c.args.at.now (Together c.in-Ok.sent) w (of_node flow p c.args.self.now c.args.at.now n c.requires) (c.in-Ok.ensures.at flow (kind_of flow p) n.table)
+    can-send flow p c.args.at.now (AtOneStamp c.in-Ok.sent) w (of_node flow p c.args.self.now c.args.at.now n c.requires) (c.in-Ok.ensures.at flow (kind_of flow p) n.table)
 
 pub returns-in-Ok-clause-node : goal.returns-in-Ok-clause-node
 returns-in-Ok-clause-node c = λ flow p n. record { table = c.deliver.ensures.of_kind flow (kind_of flow p) ∙ n.table; sides = n.sides; bounds = n.bounds }

@@ -13,14 +13,14 @@ returns-in_err-rec-in-Numbered c =
     ∙ numbered-none c.in-Numbered.sent.first c.in-Numbered.sent.recs c.args.place (l.0 ∙ ap (λ (rs : List Rec). nat_lt c.args.place (length rs)) c.as_slice-in-Numbered.ensures)
     ∙ sym (ap (λ s. slice_get (sends_list s) c.args.place) c.in-Numbered.is)
 
-pub returns-in_ok-rec-in-Together : goal.returns-in_ok-rec-in-Together
-returns-in_ok-rec-in-Together c =
-    let r : Rec = c.in_ok-rec-in-Together.rec.now in
-    let l = c.in_ok-rec-in-Together.ensures.lookup in
+pub returns-in_ok-rec-in-AtOneStamp : goal.returns-in_ok-rec-in-AtOneStamp
+returns-in_ok-rec-in-AtOneStamp c =
+    let r : Rec = c.in_ok-rec-in-AtOneStamp.rec.now in
+    let l = c.in_ok-rec-in-AtOneStamp.ensures.lookup in
     ap (λ (t : StampList). at_stamp t r) c.copy.ensures
-    ∙ together-some c.in-Together.sent.at c.in-Together.sent.recs c.args.place r
+    ∙ together-some c.in-AtOneStamp.sent.at c.in-AtOneStamp.sent.recs c.args.place r
     (l.0 ∙ ap (λ (rs : List Rec). nat_lt c.args.place (length rs)) c.as_slice.ensures) (l.1 ∙ ap (λ (rs : List Rec). get_or rs c.args.place r) c.as_slice.ensures)
-    ∙ sym (ap (λ s. slice_get (sends_list s) c.args.place) c.in-Together.is)
+    ∙ sym (ap (λ s. slice_get (sends_list s) c.args.place) c.in-AtOneStamp.is)
 
 pub returns-in_ok-rec-in-Numbered : goal.returns-in_ok-rec-in-Numbered
 returns-in_ok-rec-in-Numbered c =

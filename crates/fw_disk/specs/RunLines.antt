@@ -8,8 +8,8 @@ use Rattle.hex.specs.Hex.{encode_lower}
 use Rattle.fw_disk.specs.declared.claim.Claim.{Claim}
 
 -- the line of a record: the digits of its id, a space, the hexadecimal digits of its digest, and a line feed
-abbrev pub line_of : ℕ → List ℕ → List ℕ
-line_of id digest = decimal id ++ (32 ∷ []) ++ encode_lower digest ++ (10 ∷ [])
+abbrev pub digest_line : ℕ → List ℕ → List ℕ
+digest_line id digest = decimal id ++ (32 ∷ []) ++ encode_lower digest ++ (10 ∷ [])
 
 -- the digests of the records that may stand under an id that has a line
 abbrev pub digests_of : BTreeMap ℕ (Vec (List ℕ) Global) → ℕ → Option (List (List ℕ))

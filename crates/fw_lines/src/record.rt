@@ -32,7 +32,7 @@ impl RecordWord {
 }
 
 /// What a record word says: its key stands before the first colon and its value behind it.
-#[tactic(auto, unfolding(crate::specs::Inputs::record_of))]
+#[tactic(auto, unfolding(crate::specs::Inputs::record_said))]
 pub fn read_record(word: &[u8]) -> RecordWord
     ensures { result ≡ record_said word.now }
 {

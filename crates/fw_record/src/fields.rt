@@ -57,7 +57,7 @@ pub fn u64_at(bytes: &[u8]) -> Option<(u64, &[u8])>
 }
 
 /// A stamp of one to four coordinates.
-#[tactic(auto, unfolding(crate::specs::Fields::stamp_of, crate::specs::Fields::coords_of))]
+#[tactic(auto, unfolding(crate::specs::Fields::stamp_field, crate::specs::Fields::coords_of))]
 pub fn stamp_at(bytes: &[u8]) -> Option<(Stamp, &[u8])>
     ensures { IsField (λ x. (x.0, x.1.now)) result (stamp_field bytes.now) }
 {

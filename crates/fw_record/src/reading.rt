@@ -50,7 +50,7 @@ fn any_stamp(bytes: &[u8]) -> Result<(Stamp, &[u8]), ReadFault>
 }
 
 /// A front: a count, and that many stamps.
-#[tactic(auto, unfolding(crate::specs::Reading::front_of))]
+#[tactic(auto, unfolding(crate::specs::Reading::read_front))]
 fn front_at(alloc: Global, bytes: &[u8]) -> Result<(Front, &[u8]), ReadFault>
     ensures { Gives (λ x. (x.0, x.1.now)) result (read_front bytes.now) }
 {
@@ -130,7 +130,7 @@ fn totals_at(alloc: Global, bytes: &[u8]) -> Result<(Recs, &[u8]), ReadFault>
 }
 
 /// A node's table: how many messages it sent, how many from where, and its totals.
-#[tactic(auto, unfolding(crate::specs::Reading::state_of))]
+#[tactic(auto, unfolding(crate::specs::Reading::read_state))]
 fn state_at(alloc: Global, bytes: &[u8]) -> Result<(State, &[u8]), ReadFault>
     ensures { Gives (λ x. (x.0, x.1.now)) result (read_state bytes.now) }
 {
@@ -147,7 +147,7 @@ fn state_at(alloc: Global, bytes: &[u8]) -> Result<(State, &[u8]), ReadFault>
 }
 
 /// A count, and that many logged messages.
-#[tactic(auto, unfolding(crate::specs::Reading::log_of))]
+#[tactic(auto, unfolding(crate::specs::Reading::read_log))]
 fn log_at(alloc: Global, bytes: &[u8]) -> Result<(Log, &[u8]), ReadFault>
     ensures { Gives (λ x. (x.0, x.1.now)) result (read_log bytes.now) }
 {
@@ -157,7 +157,7 @@ fn log_at(alloc: Global, bytes: &[u8]) -> Result<(Log, &[u8]), ReadFault>
 }
 
 /// A checkpoint: its node, the frontier, what it covers, the state and the log.
-#[tactic(auto, unfolding(crate::specs::Reading::checkpoint_of))]
+#[tactic(auto, unfolding(crate::specs::Reading::read_checkpoint))]
 fn checkpoint_at(alloc: Global, bytes: &[u8]) -> Result<(Checkpoint, &[u8]), ReadFault>
     ensures { Gives (λ x. (x.0, x.1.now)) result (read_checkpoint bytes.now) }
 {
@@ -206,7 +206,7 @@ fn delivery_at(bytes: &[u8]) -> Result<(Event, &[u8]), ReadFault>
 }
 
 /// A notification.
-#[tactic(auto, unfolding(crate::specs::Reading::notice_of))]
+#[tactic(auto, unfolding(crate::specs::Reading::read_notice))]
 fn notice_at(bytes: &[u8]) -> Result<(Event, &[u8]), ReadFault>
     ensures { Gives (λ x. (x.0, x.1.now)) result (read_notice bytes.now) }
 {
@@ -226,7 +226,7 @@ fn event_byte_at(bytes: &[u8]) -> Result<(u8, &[u8]), ReadFault>
 }
 
 /// An event.
-#[tactic(auto, unfolding(crate::specs::Reading::event_of))]
+#[tactic(auto, unfolding(crate::specs::Reading::read_event))]
 fn event_at(bytes: &[u8]) -> Result<(Event, &[u8]), ReadFault>
     ensures { Gives (λ x. (x.0, x.1.now)) result (read_event bytes.now) }
 {
@@ -309,7 +309,7 @@ fn tag_at(bytes: &[u8]) -> Result<(u8, &[u8]), ReadFault>
 }
 
 /// The record at the front of the bytes.
-#[tactic(auto, unfolding(crate::specs::Reading::record_of))]
+#[tactic(auto, unfolding(crate::specs::Reading::read_whole_record))]
 fn record_at(alloc: Global, bytes: &[u8]) -> Result<(Record, &[u8]), ReadFault>
     ensures { Gives (λ x. (x.0, x.1.now)) result (read_whole_record bytes.now) }
 {

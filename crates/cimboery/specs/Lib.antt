@@ -14,6 +14,7 @@ pub use Rattle.fw_lines.specs.Spelling
 pub use Rattle.fw_frontier.specs.Front
 pub use Rattle.fw_frontier.specs.Frontier
 pub use Rattle.fw_frontier.specs.Least
+pub use Rattle.fw_flow.specs.BatchFaults
 pub use Rattle.fw_flow.specs.Builder
 pub use Rattle.fw_flow.specs.Check
 pub use Rattle.fw_flow.specs.Counting

@@ -21,16 +21,16 @@ pub use fw_disk::DiskStore;
 pub use fw_edge::Queue;
 pub use fw_engine::{Effect, Engine, EngineFault, Shown, Stepped};
 pub use fw_flow::{
-    BuildFault, Causes, Choice, Cut, Cuts, Domain, Edge, EdgeId, Flow, FlowBuilder, Fronts, Kind,
-    Loop, LoopId, Message, Name, Node, NodeId, Nodes, Policy, RawKind, Step,
+    BatchFault, BuildFault, Causes, Choice, Cut, Cuts, Domain, Edge, EdgeId, Flow, FlowBuilder,
+    Fronts, Kind, Loop, LoopId, Message, Name, Node, NodeId, Nodes, Policy, RawKind, Step,
 };
 pub use fw_flow_text::{FLOW_LIMIT, read_flow};
 pub use fw_frontier::Front;
 pub use fw_headline::laws::every_run_is_right;
 pub use fw_lines::{Batches, Code, INPUTS_LIMIT, ReadFault, Refusal, SourceNames, read_batches};
 pub use fw_outside::{
-    FetchFault, FileFolder, Folder, MemFolder, MemSink, MemStore, MemText, OutFault, Sink, Store,
-    StreamSink,
+    Failed, FetchFault, FileFolder, Folder, MemFolder, MemSink, MemStore, MemText, OutFault, Sink,
+    Store, StreamSink,
 };
 pub use fw_run::{Status, falkirk};
 pub use fw_schedule::{Item, SCHEDULE_LIMIT, STEP_LIMIT, Schedule, read_schedule};

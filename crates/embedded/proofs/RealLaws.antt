@@ -19,7 +19,7 @@ abbrev pub IsReal : Engine → Option Records → Type 0
 IsReal engine records = was_refused engine ≡ false → (sys : System) × (state : Machine) × StandsFor sys engine records state
 
 -- a step reads what was put, over a store that tells its records
-trusted : (sys : System) (state : Machine) (step : Step) (before : Option Records) → (before ≡ None → ⊥) → Trusts sys state step before
+trusted : (sys : System) (state : Machine) (step : Step) (after : Option Records) → (after ≡ None → ⊥) → Trusts sys state step after
 trusted sys state step None tells = absurd (tells refl)
 trusted sys state Recover (Some held) tells = tt
 trusted sys state step (Some held) tells = tt
@@ -36,16 +36,16 @@ live_before true result stays other = absurd (other (stays refl))
 
 -- where the call answers, the engine stands for the state to which the machine comes; where the store fails, for what that leaves;
 -- and where a record is damaged, for the state still
-pub step-real : (old new : Engine) (before after : Option Records) (step : Step) (result : Result Stepped EngineFault) → (before ≡ None → ⊥)
-    → ForEachState old before (λ sys state. Trusts sys state step before → IfOk result (λ stepped. FollowsStep sys state step stepped new after))
+pub step-real : (old new : Engine) (before after : Option Records) (step : Step) (result : Result Stepped EngineFault) → (after ≡ None → ⊥)
+    → ForEachState old before (λ sys state. Trusts sys state step after → IfOk result (λ stepped. FollowsStep sys state step stepped new after))
     → ForEachState old before (λ sys state. IsErrOf result fault.StoreFault → IsLeftBy sys state step (λ next. StandsFor sys new after next))
-    → ((id : ℕ) → ForEachState old before (λ sys state. IsErrOf result (fault.Damaged id) → (before ≡ None) × IsStepEnabled sys state Recover × StandsFor sys new after state))
+    → ((id : ℕ) → ForEachState old before (λ sys state. IsErrOf result (fault.Damaged id) → (after ≡ None) × IsStepEnabled sys state Recover × StandsFor sys new after state))
     → (IsErrOf result fault.NoMemory → was_refused new ≡ true)
     → (IsTrue (was_refused old) → IsErrOf result fault.NoMemory)
     → IsReal old before → IsReal new after
 step-real old new before after step (Ok stepped) tells ok faulted unharmed refused stays real live =
     let r = real (live_before (was_refused old) (Ok stepped) stays (λ e. cc)) in
-    let follows = ok r.0 r.1 r.2 (trusted r.0 r.1 step before tells) in
+    let follows = ok r.0 r.1 r.2 (trusted r.0 r.1 step after tells) in
     (r.0, follows.next, follows.stands)
 step-real old new before after step (Err fault.StoreFault) tells ok faulted unharmed refused stays real live =
     let r = real (live_before (was_refused old) (Err fault.StoreFault) stays (λ e. cc)) in

@@ -19,11 +19,11 @@ use cimboery::{
 use std::alloc::Global;
 
 fn node(flow: &Flow, name: &str) -> Result<NodeId> {
-    flow.node_named(name.as_bytes()).context("no such node")
+    flow.node_named(name).context("no such node")
 }
 
 fn edge(flow: &Flow, name: &str) -> Result<EdgeId> {
-    flow.edge_named(name.as_bytes()).context("no such edge")
+    flow.edge_named(name).context("no such edge")
 }
 
 // An engine, with the store of what its nodes write.
@@ -43,7 +43,7 @@ impl Run {
     fn of(alloc: Global, flow: Flow, batches: &Batches) -> Result<Self> {
         ensure!(flow.accepts(batches), "no engine runs this");
         let engine = Engine::new(alloc, flow, batches)?;
-        let store = MemStore::new(alloc, Vec::new(alloc));
+        let store = MemStore::new(alloc);
         Ok(Run { engine, store })
     }
 

@@ -3,23 +3,21 @@
 use crate::{Run, node};
 use anyhow::Result;
 use cimboery::{
-    Batches, BuildFault, Comparison, Condition, Field, Flow, FlowBuilder, NodeId, Policy, RawKind,
-    Rec, Selection, Term,
+    Batches, BuildFault, Comparison, Condition, Field, Flow, FlowBuilder, Policy, Rec, Selection,
+    Term,
 };
-use std::alloc::{AllocError, Global};
+use std::alloc::Global;
 
 // The orders whose price is so.
-fn priced(comparison: Comparison, price: u64) -> RawKind {
-    let selection = Selection {
+fn priced(comparison: Comparison, price: u64) -> Selection {
+    Selection {
         condition: Condition {
             field: Field::Value,
             comparison,
             term: Term::Number(price),
         },
         assignment: None,
-    };
-    let within = None;
-    RawKind::Select { selection, within }
+    }
 }
 
 // Orders below 100 are added up by customer for the shop; each order from 100 on is audited.
@@ -28,11 +26,11 @@ fn shop_flow(alloc: Global) -> Result<Flow, BuildFault> {
     let from = priced(Comparison::GreaterOrEqual, 100);
     FlowBuilder::new(alloc)
         .input("orders")?
-        .node("cheap", below, Policy::Full)?
-        .node("dear", from, Policy::Logged)?
-        .node("sums", RawKind::Total, Policy::Lazy)?
-        .output("shop")?
-        .output("audit")?
+        .select("cheap", below, Policy::Full)?
+        .select("dear", from, Policy::Logged)?
+        .total("sums", Policy::Lazy)?
+        .output_epoch("shop")?
+        .output_epoch("audit")?
         .edge("to_cheap", "orders", "cheap")?
         .edge("to_dear", "orders", "dear")?
         .edge("to_sums", "cheap", "sums")?
@@ -48,17 +46,17 @@ fn order(customer: u64, price: u64) -> Rec {
     }
 }
 
-fn two_batches(alloc: Global, orders: NodeId) -> Result<Batches, AllocError> {
-    let mut batches = Batches::new(alloc);
-    batches.add(orders.place(), &[order(1, 20), order(2, 150)])?;
-    batches.add(orders.place(), &[order(1, 70), order(4, 300)])?;
+fn two_batches(alloc: Global, flow: &Flow) -> Result<Batches> {
+    let orders = node(flow, "orders")?;
+    let mut batches = flow.no_batches(alloc);
+    flow.add_batch(&mut batches, orders, &[order(1, 20), order(2, 150)])?;
+    flow.add_batch(&mut batches, orders, &[order(1, 70), order(4, 300)])?;
     Ok(batches)
 }
 
 /// A run of the shop, at its beginning.
 pub(crate) fn shop(alloc: Global) -> Result<Run> {
     let flow = shop_flow(alloc)?;
-    let orders = node(&flow, "orders")?;
-    let batches = two_batches(alloc, orders)?;
+    let batches = two_batches(alloc, &flow)?;
     Run::of(alloc, flow, &batches)
 }

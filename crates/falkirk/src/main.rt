@@ -45,20 +45,12 @@ fn run_words<N: Sink>(rt: &HostRuntime, words: &[String], notes: &mut N) -> Stat
     let mut store = FaultlessStore::new(alloc);
     let mut out = AckSink::new(alloc, StreamSink::new(rt.stdout()));
     let status = falkirk(alloc, &words, &mut folder, &mut store, &mut out, notes);
-    tell_after(alloc, rt, call, ended(status), &out, notes);
-    status
-}
-
-// What a person is told a status by.
-fn ended(status: Status) -> Ended {
-    let refusal = match status {
-        Status::Refused(refusal) => Some(refusal),
-        _ => None,
-    };
-    Ended {
+    let ended = Ended {
         number: status.number(),
-        refusal,
-    }
+        refusal: status.refusal(),
+    };
+    tell_after(alloc, rt, call, ended, &out, notes);
+    status
 }
 
 fn out_of_memory<N: Sink>(notes: &mut N) -> Status {

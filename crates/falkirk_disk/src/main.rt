@@ -97,20 +97,12 @@ fn run_command<N: Sink>(
             let _ = notes.write(told.as_bytes());
         }
     }
-    tell_after(alloc, rt, call, ended(status), &out, notes);
-    status
-}
-
-// What a person is told a status by.
-fn ended(status: Status) -> Ended {
-    let refusal = match status {
-        Status::Refused(refusal) => Some(refusal),
-        _ => None,
-    };
-    Ended {
+    let ended = Ended {
         number: status.number(),
-        refusal,
-    }
+        refusal: status.refusal(),
+    };
+    tell_after(alloc, rt, call, ended, &out, notes);
+    status
 }
 
 // Whether these are the words of a command that runs a flow.

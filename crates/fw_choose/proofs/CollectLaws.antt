@@ -35,13 +35,11 @@ use Rattle.fw_keep.specs.Catalogue.{KeepState}
 use Rattle.fw_keep.specs.Stored as stored
 use Rattle.fw_keep.specs.Stored.{Records, KeepsBytes, Sweeps, without_ids}
 use Rattle.fw_model.specs.Auto.{IsIdle}
-use Rattle.fw_model.specs.Choice.{cut_of, IsWatermark}
+use Rattle.fw_model.specs.Choice.{cut_of, IsWatermark, IsChoiceOf, IsCanonicalCut}
 use Rattle.fw_model.specs.Machine.{Machine, events, front_of, AreCanonical}
 use Rattle.fw_model.specs.History.{injected_count}
 use Rattle.fw_model.specs.Steps.{front_of_cut, lows, did, LeadsTo}
 use Rattle.fw_model.specs.Writes.{takes_checkpoints}
-use Rattle.fw_monitor.specs.Chosen.{IsChoiceOf}
-use Rattle.fw_monitor.specs.Descent.{IsCanonicalCut}
 use Rattle.fw_progress.specs.declared.traces.Traces.{Traces}
 use Rattle.fw_progress.specs.Trace.{HaveLists, AreSettledTo}
 use Rattle.fw_progress.proofs.CutTraceLaws.{thinned-traces}
@@ -263,34 +261,36 @@ after-stands sys state old records between choice traces drops planned0 g t0 is 
     let low = watermark choice in
     let next = collected_state sys state low in
     let leads : LeadsTo sys state Collect next (lows choice) = other_low-collected sys state choice is differ in
-    let rises = low-rises sys s.well_formed state s.reached choice is in
+    let rises = low-rises sys s.apart.well_formed state s.apart.reached choice is in
     let entries = old.parts.keep.entries in
-    let planned : IsPlanned sys.flow low entries drops = subst (λ f. IsPlanned f low entries drops) s.flow planned0 in
-    let t : AreRaised sys.flow (length sys.flow.nodes) low old.traces traces = subst (λ (f : Dataflow). AreRaised f (length f.nodes) low old.traces traces) s.flow t0 in
+    let planned : IsPlanned sys.flow low entries drops = subst (λ f. IsPlanned f low entries drops) s.apart.flow planned0 in
+    let t : AreRaised sys.flow (length sys.flow.nodes) low old.traces traces = subst (λ (f : Dataflow). AreRaised f (length f.nodes) low old.traces traces) s.apart.flow t0 in
     let k = collection-keeps sys state low in
     let left = entries-left drops old.parts.keep between.keep g.entries in
     record {
-      flow = s.flow;
-      well_formed = s.well_formed;
-      reached = reached-next sys state next Collect (did (lows choice)) s.reached leads;
-      settled = s.settled;
-      failed = s.failed;
-      low = refl;
-      epochs = s.epochs;
-      tables = λ p l. k.tables p _ (s.tables p l);
-      queues = λ e l. s.queues e l ∙ sym (k.queues e);
-      logs = λ e l. ap (λ (log : MessagesState). log.messages) (g.logs.logs e)
-          ∙ collected_logs-stand sys s.well_formed state s.reached low rises entries drops planned e l (on_edge old.parts.logs e) (s.logs e l);
-      outputs = λ o l i. let b = s.outputs o l i in record { bound = b.bound ∙ sym (k.outputs.bound o); recs = λ x. b.recs x ∙ sym (k.outputs.recs o x) };
-      sources = λ p l. subst (λ (x : SourceState). IsSourceOf sys next p x) (sym (g.sources p))
-          (source-stands sys s.well_formed state low rises entries drops planned p l (source_of old p) (s.sources p l));
-      progress = s.progress;
-      traces = λ p l. all_collected_traces-stand sys s.well_formed state s.reached low rises old.traces traces t.settled p l (s.traces p l);
+      apart = record {
+        flow = s.apart.flow;
+        well_formed = s.apart.well_formed;
+        reached = reached-next sys state next Collect (did (lows choice)) s.apart.reached leads;
+        settled = s.apart.settled;
+        failed = s.apart.failed;
+        low = refl;
+        epochs = s.apart.epochs;
+        tables = λ p l. k.tables p _ (s.apart.tables p l);
+        queues = λ e l. s.apart.queues e l ∙ sym (k.queues e);
+        logs = λ e l. ap (λ (log : MessagesState). log.messages) (g.logs.logs e)
+            ∙ collected_logs-stand sys s.apart.well_formed state s.apart.reached low rises entries drops planned e l (on_edge old.parts.logs e) (s.apart.logs e l);
+        outputs = λ o l i. let b = s.apart.outputs o l i in record { bound = b.bound ∙ sym (k.outputs.bound o); recs = λ x. b.recs x ∙ sym (k.outputs.recs o x) };
+        sources = λ p l. subst (λ (x : SourceState). IsSourceOf sys next p x) (sym (g.sources p))
+            (source-stands sys s.apart.well_formed state low rises entries drops planned p l (source_of old p) (s.apart.sources p l));
+        progress = s.apart.progress;
+        entries = subst (λ es. AreEntriesOf sys next es (uncollected next)) (sym left)
+            (entries_after_collection sys s.apart.well_formed state s.apart.reached next (lows choice) leads entries s.apart.entries drops planned);
+        stored = subst (λ es. AreStored sys next records es (uncollected next)) (sym left)
+            (records_after_collection sys s.apart.well_formed state s.apart.reached next (lows choice) leads entries s.apart.entries records s.apart.stored drops planned);
+      };
+      traces = λ p l. all_collected_traces-stand sys s.apart.well_formed state s.apart.reached low rises old.traces traces t.settled p l (s.traces p l);
       lost = λ p full t. both-lead (s.lost p full t) ((k.lost p t).1, (k.lost p t).0);
-      entries = subst (λ es. AreEntriesOf sys next es (uncollected next)) (sym left)
-          (entries_after_collection sys s.well_formed state s.reached next (lows choice) leads entries s.entries drops planned);
-      stored = subst (λ es. AreStored sys next records es (uncollected next)) (sym left)
-          (records_after_collection sys s.well_formed state s.reached next (lows choice) leads entries s.entries records s.stored drops planned);
     }
 
 -- ---- of the engine that the calls leave
@@ -308,14 +308,14 @@ pub collected-stands : (sys : System) (state : Machine) (records : Option Record
     → IsWatermark sys state choice → watermark choice ≢ old.parts.low → Stands sys old records state → Stands sys new records (collected_state sys state (watermark choice))
 collected-stands sys state records choice old new c is differ s =
     subst (λ (r : Running). Stands sys r records (collected_state sys state (watermark choice))) (sym (new-is choice old new c))
-    (after-stands sys state old records c.between choice new.traces c.drops c.planned c.given_up c.traces is (λ e. differ (e ∙ sym s.low)) s)
+    (after-stands sys state old records c.between choice new.traces c.drops c.planned c.given_up c.traces is (λ e. differ (e ∙ sym s.apart.low)) s)
 
 -- a sweep leaves the entries, and their bytes
 pub swept-stands : (sys : System) (state : Machine) (old : Running) (keep : KeepState) (before after : Option Records) → keep.entries ≡ old.parts.keep.entries
     → Sweeps old.parts.keep.waiting before keep.waiting after → KeepsBytes old.parts.keep.entries before after → Stands sys old before state
     → Stands sys (with_keep keep old) after state
 swept-stands sys state old keep before after same sweeps bytes s = keep-stands sys old keep before after state s same
-    (kept_bytes_are_stored sys state old.parts.keep.entries (uncollected state) before after (without_ids sweeps.removed) sweeps.records bytes s.stored)
+    (kept_bytes_are_stored sys state old.parts.keep.entries (uncollected state) before after (without_ids sweeps.removed) sweeps.records bytes s.apart.stored)
 
 pub swept-shaped : (old : Running) (keep : KeepState) → keep.entries ≡ old.parts.keep.entries → IsShaped old → IsShaped (with_keep keep old)
 swept-shaped old keep same s =
@@ -342,7 +342,7 @@ chosen-each flow choice c = length-map choice.cuts front_of_cut ∙ c.one_cut_ea
 -- where the fronts of the choice are the low watermarks, the step is idle
 pub idle-collects : (sys : System) (state : Machine) (running : Running) (records : Option Records) (choice : Choice) → IsChosenBy running All choice → Stands sys running records state
     → watermark choice ≡ running.parts.low → IsIdle sys state Collect
-idle-collects sys state running records choice chosen s same = same_low-idle sys state choice (chosen sys records state s) (same ∙ s.low)
+idle-collects sys state running records choice chosen s same = same_low-idle sys state choice (chosen sys records state s) (same ∙ s.apart.low)
 
 pub collect-idle : (old : Running) (before : Option Records) (choice : Choice) → IsChosenBy old All choice → watermark choice ≡ old.parts.low
     → TakesStep old before Collect (Ok Idle) old before
@@ -357,7 +357,7 @@ not-same b fs gs low now h e f g k = two_ways b (h.1 (f ∙ k ∙ sym g)) e
 
 collect-leads : (sys : System) (state : Machine) (old : Running) (records : Option Records) (choice : Choice) → IsChosenBy old All choice → watermark choice ≢ old.parts.low
     → Stands sys old records state → LeadsTo sys state Collect (collected_state sys state (watermark choice)) (lows choice)
-collect-leads sys state old records choice chosen differ s = other_low-collected sys state choice (chosen sys records state s) (λ e. differ (e ∙ sym s.low))
+collect-leads sys state old records choice chosen differ s = other_low-collected sys state choice (chosen sys records state s) (λ e. differ (e ∙ sym s.apart.low))
 
 -- where they are others, the step follows the machine's
 pub raise-follows : (old new : Running) (choice : Choice) → IsChosenBy old All choice → watermark choice ≢ old.parts.low → RaisesLow (watermark choice) old new

@@ -67,8 +67,8 @@ largest-in : {E : Type 0} (sys : System) (records : Option Records) (state : Mac
     → IfOk r (IsLargestBy sys.flow (covers_of sys.flow os) (IsOffered sys.flow os)))
     → IfOk r (λ choice. IsLargest sys state (IsCandidate sys state lost kept) choice)
 largest-in sys records state running lost os r s a give =
-    let w = s.well_formed in
-    let reached = s.reached in
+    let w = s.apart.well_formed in
+    let reached = s.apart.reached in
     let can : CanChoose sys state lost = recovery-has_choice sys w reached.0 reached.1 state reached.2 lost in
     let some = can.choice in
     let by_offers = (consistent-same sys state lost os some w.flow a).1 can.consistent in
@@ -84,11 +84,11 @@ view-of : (sys : System) (records : Option Records) (state : Machine) (running :
     → AreViewsBy running lost (length running.flow.nodes) view → entries ≡ running.parts.keep.entries → Stands sys running records state
     → IsViewOf sys state (is_lost lost state) view entries
 view-of sys records state running lost view entries v e s = record {
-  well_formed = s.well_formed;
-  reached = s.reached;
-  one_each = v.one_each ∙ ap (λ (f : Dataflow). length f.nodes) s.flow;
+  well_formed = s.apart.well_formed;
+  reached = s.apart.reached;
+  one_each = v.one_each ∙ ap (λ (f : Dataflow). length f.nodes) s.apart.flow;
   nodes = v.of_state sys records state s;
-  written = entries-read sys state entries (uncollected state) (subst (λ es. AreEntriesOf sys state es (uncollected state)) (sym e) s.entries);
+  written = entries-read sys state entries (uncollected state) (subst (λ es. AreEntriesOf sys state es (uncollected state)) (sym e) s.apart.entries);
 }
 
 -- so the choice is the one of each state
@@ -100,10 +100,10 @@ pub chosen-by : {E : Type 0} (running : Running) (lost : Lost) (view : List Node
     → IfOk r (IsChosenBy running lost)
 chosen-by running lost view entries os (Err x) v e exact give = tt
 chosen-by running lost view entries os (Ok choice) v e exact give = λ sys records state s.
-    let a : AreOffersIn sys state (is_lost lost state) os = exact sys state (is_lost lost state) (sym s.flow) (view-of sys records state running lost view entries v e s) in
+    let a : AreOffersIn sys state (is_lost lost state) os = exact sys state (is_lost lost state) (sym s.apart.flow) (view-of sys records state running lost view entries v e s) in
     let given : (some : Choice) → RecordsAscend sys.flow os → IsConsistentBy sys.flow (covers_of sys.flow os) (IsOffered sys.flow os) some
     → IsLargestBy sys.flow (covers_of sys.flow os) (IsOffered sys.flow os) choice =
-    subst (λ f. (some : Choice) → RecordsAscend f os → IsConsistentBy f (covers_of f os) (IsOffered f os) some → IsLargestBy f (covers_of f os) (IsOffered f os) choice) s.flow give in
+    subst (λ f. (some : Choice) → RecordsAscend f os → IsConsistentBy f (covers_of f os) (IsOffered f os) some → IsLargestBy f (covers_of f os) (IsOffered f os) choice) s.apart.flow give in
     let r : Result Choice ℕ = Ok choice in
     chosen-is lost sys state choice (largest-in sys records state running (is_lost lost state) os r s a given)
 
@@ -328,13 +328,13 @@ each-numbered P (v ∷ h) a = (a.0, each-numbered P h a.1)
 
 legal-of : (sys : System) (records : Option Records) (state : Machine) (running : Running) → Stands sys running records state → IsLegal sys (events state.history)
 legal-of sys records state running s =
-    let r = s.reached in (reached-all sys s.well_formed r.0 r.1 state r.2).recover.holds.legal
+    let r = s.apart.reached in (reached-all sys s.apart.well_formed r.0 r.1 state r.2).recover.holds.legal
 
 -- a stamp at which an event was lost is of the node's domain
 lost-in_domain : (sys : System) (records : Option Records) (state : Machine) (running : Running) (p : ℕ) (t : Stamp) → Stands sys running records state → IsLostAt sys state p t
     → in_domain (bounds_of sys.flow p) t ≡ true
 lost-in_domain sys records state running p t s lost =
-    let w = s.well_formed in
+    let w = s.apart.well_formed in
     let inside = each-numbered (λ u. in_domain (bounds_of sys.flow (event_node sys.flow u)) (event_stamp u) ≡ true) state.history
     (legal-in_domain sys (events state.history) w.flow (has_epochs sys w) (legal-of sys records state running s)) in
     let u = lost.1 in
@@ -350,26 +350,26 @@ pub view-known : (running : Running) (lost : Lost) (p : ℕ) (raw : Stamps) (nod
     → node.lost ≡ filter (in_domain (bounds_of running.flow p)) (lost_at running p) → node.failed ≡ counts_as_failed lost (is_down running p) → IsViewBy running lost p node
 view-known running lost p raw node there given stamps table settled low border losses failed sys records state s =
     let h = events state.history in
-    let w = s.well_formed in
+    let w = s.apart.well_formed in
     let legal = legal-of sys records state running s in
-    let l : p < length sys.flow.nodes = subst (λ (f : Dataflow). p < length f.nodes) s.flow there in
+    let l : p < length sys.flow.nodes = subst (λ (f : Dataflow). p < length f.nodes) s.apart.flow there in
     let few : injected_count p h ≤ greatest_number = omega (arith, injected-few sys h legal p, w.few p) in
     record {
-      stamps = subst (λ (all : Stamps). AreStampsOf sys h p (base_of sys state p) all) (sym (stamps ∙ ap (λ f. of_domains f p raw) s.flow))
-          (stamps-stay sys h p (base_of sys state p) raw (given sys h (base_of sys state p) (sym s.flow) (has_epochs sys w) legal (s.traces p l)));
-      table = λ k. subst (λ t. IsSentTable sys h p t) (sym table) (s.progress.counts.sent p l (is-sequence (kind_of sys.flow p) k));
-      settled = settled ∙ ap (λ fs. front_of fs p) s.settled;
-      low = low ∙ ap (λ fs. front_of fs p) s.low;
+      stamps = subst (λ (all : Stamps). AreStampsOf sys h p (base_of sys state p) all) (sym (stamps ∙ ap (λ f. of_domains f p raw) s.apart.flow))
+          (stamps-stay sys h p (base_of sys state p) raw (given sys h (base_of sys state p) (sym s.apart.flow) (has_epochs sys w) legal (s.traces p l)));
+      table = λ k. subst (λ t. IsSentTable sys h p t) (sym table) (s.apart.progress.counts.sent p l (is-sequence (kind_of sys.flow p) k));
+      settled = settled ∙ ap (λ fs. front_of fs p) s.apart.settled;
+      low = low ∙ ap (λ fs. front_of fs p) s.apart.low;
       border = border-is sys state p (source_of running p) (output_of running p) (kind_of sys.flow p) node.border
-          (subst (λ f. IsBorderBy (source_of running p) (output_of running p) (kind_of f p) node.border) s.flow border) (s.sources p l) (s.outputs p l) few;
+          (subst (λ f. IsBorderBy (source_of running p) (output_of running p) (kind_of f p) node.border) s.apart.flow border) (s.apart.sources p l) (s.apart.outputs p l) few;
       losses = λ full t.
-          let is : node.lost ≡ filter (in_domain (bounds_of sys.flow p)) (lost_at running p) = losses ∙ ap (λ f. filter (in_domain (bounds_of f p)) (lost_at running p)) s.flow in
+          let is : node.lost ≡ filter (in_domain (bounds_of sys.flow p)) (lost_at running p) = losses ∙ ap (λ f. filter (in_domain (bounds_of f p)) (lost_at running p)) s.apart.flow in
           let known = s.lost p full t in
           subst (λ (ts : List Stamp). Contains ts t ↔ IsLostAt sys state p t) (sym is) (
             (λ c. known.0 (filtered-contains (in_domain (bounds_of sys.flow p)) (lost_at running p) t c)),
             (λ x. contains-filtered (in_domain (bounds_of sys.flow p)) (lost_at running p) t (lost-in_domain sys records state running p t s x) (known.1 x)),
           );
-      failed = failed ∙ ap (λ bs. counts_as_failed lost (slice_index_or bs p false)) s.failed;
+      failed = failed ∙ ap (λ bs. counts_as_failed lost (slice_index_or bs p false)) s.apart.failed;
     }
 
 -- what stands at a node's place

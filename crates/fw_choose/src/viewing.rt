@@ -5,7 +5,7 @@ ghost use Rattle.fw_flow.specs.Dataflow.{kind_of, bounds_of, greatest_number};
 ghost use Rattle.fw_collect.specs.Drops.{watermark};
 ghost use Rattle.fw_model.specs.Machine as machine;
 ghost use Rattle.fw_model.specs.Steps.{front_of_cut};
-ghost use Rattle.fw_monitor.specs.Chosen.{IsChoiceOf};
+ghost use Rattle.fw_model.specs.Choice.{IsChoiceOf};
 ghost use Rattle.fw_policy.specs.Shaped.{IsViewFor};
 ghost use Rattle.fw_progress.specs.Counts.{sent_of};
 ghost use Rattle.fw_choose.specs.Chosen as chosen;

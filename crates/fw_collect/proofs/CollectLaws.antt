@@ -22,8 +22,7 @@ use Rattle.fw_flow.specs.declared.event.Message.{Message}
 use Rattle.fw_model.specs.Auto.{edge_ids}
 use Rattle.fw_model.specs.Filtering.{messages_outside}
 use Rattle.fw_model.specs.Machine.{SerialEvent, Write, Stage, in_flight, acknowledged, collected, front_of}
-use Rattle.fw_model.specs.Steps as steps
-use Rattle.fw_model.specs.Steps.{is_in_flight, after_collection, is_given_up, collected_writes}
+use Rattle.fw_model.specs.Steps.{is_in_flight, after_collection, is_given_up, collected_writes, is_forgotten}
 use Rattle.fw_model.specs.Writes.{takes_checkpoints, is_collected, not_collected}
 use Rattle.fw_model.proofs.SortedLaws.{sorted_messages-filter}
 use Rattle.fw_model.specs.SortedMessages.{sorted_messages}
@@ -307,15 +306,15 @@ left_side_by_side R goes below entries writes same none r =
 -- however entries stand for the writes that are not collected, if each goes with its write, those that are left stand so for the
 -- writes that the machine's collection leaves, where no write in flight lies below the fronts, as none does in a collection
 pub drops_what_is_collected : (Stands : Entry → Write → Type 0) (sys : System) (h : List SerialEvent) (low : List Front)
-    → ((e : Entry) (write : Write) → Stands e write → GoesWith sys h low e write)
-    → (entries : List Entry) (drops : Drops) (writes : List Write) → IsPlanned sys.flow low entries drops
+    → (writes : List Write) → ((e : Entry) (write : Write) → Stands e write → GoesWith sys h low writes e write)
+    → (entries : List Entry) (drops : Drops) → IsPlanned sys.flow low entries drops
     → AllZip Stands entries (filter not_collected writes)
-    → AllByRecursion (λ (write : Write). steps.lies_below sys low h write.node write.written ≡ true → is_in_flight write.stage ≡ false) writes
+    → AllByRecursion (λ (write : Write). is_forgotten sys low h writes write ≡ true → is_in_flight write.stage ≡ false) writes
     → AllZip Stands (filter (λ e. not (is_dropped drops e)) entries) (filter not_collected (collected_writes sys low h writes))
-drops_what_is_collected Stands sys h low goes entries drops writes is stand none =
-    left_side_by_side Stands (is_dropped drops) (λ w. steps.lies_below sys low h w.node w.written) entries writes
+drops_what_is_collected Stands sys h low writes goes entries drops is stand none =
+    left_side_by_side Stands (is_dropped drops) (is_forgotten sys low h writes) entries writes
     (each-weaker (λ (e : Entry). is_dropped drops e ≡ is_written_given_up sys.flow low e.node e.written)
-    (λ (e : Entry). (w : Write) → Stands e w → is_dropped drops e ≡ steps.lies_below sys low h w.node w.written) entries
+    (λ (e : Entry). (w : Write) → Stands e w → is_dropped drops e ≡ is_forgotten sys low h writes w) entries
     (λ e k w x. k ∙ goes e w x) (drops_what_is_given_up sys.flow low entries drops is))
     none stand
 

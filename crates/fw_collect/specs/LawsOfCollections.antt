@@ -11,8 +11,7 @@ use Rattle.fw_flow.specs.Restoring.{can_resend}
 use Rattle.fw_model.specs.Filtering.{messages_outside}
 use Rattle.fw_model.specs.SortedMessages.{sorted_messages}
 use Rattle.fw_model.specs.Machine.{SerialEvent, Write, front_of}
-use Rattle.fw_model.specs.Steps as steps
-use Rattle.fw_model.specs.Steps.{is_given_up}
+use Rattle.fw_model.specs.Steps.{is_given_up, is_forgotten}
 use Rattle.fw_model.specs.Writes.{takes_checkpoints}
 use Rattle.fw_keep.specs.declared.entry.Entry.{Entry}
 use Rattle.fw_keep.specs.declared.entry.Written as entry
@@ -54,9 +53,9 @@ DropsBatchesOfInputs = (flow : Dataflow) (low : List Front) (entries : List Entr
 
 -- ---- what the machine collects
 
--- an entry goes with a write: what it holds is given up exactly where what the write holds lies below the fronts
-abbrev pub GoesWith : System → List SerialEvent → List Front → Entry → Write → Type 0
-GoesWith sys h low e write = is_written_given_up sys.flow low e.node e.written ≡ steps.lies_below sys low h write.node write.written
+-- an entry goes with one of these writes: what it holds is given up exactly where a collection to the fronts forgets the write
+abbrev pub GoesWith : System → List SerialEvent → List Front → List Write → Entry → Write → Type 0
+GoesWith sys h low writes e write = is_written_given_up sys.flow low e.node e.written ≡ is_forgotten sys low h writes write
 
 -- ---- what logs and inputs hold
 

@@ -66,6 +66,8 @@ pub enum DiskCall {
     Put,
     /// `get`.
     Get,
+    /// `has`.
+    Has,
     /// `remove`.
     Remove,
 }
@@ -102,6 +104,17 @@ impl DiskRefusal {
             _ => DiskRefusal::of(place, error),
         }
     }
+
+    /// The cause of a refusal by a call at a place that does not answer want of memory by itself.
+    pub(crate) fn cause(self, place: DiskPlace) -> DiskCause {
+        match self {
+            DiskRefusal::Failed(cause) => cause,
+            DiskRefusal::NoMemory => DiskCause {
+                place,
+                trouble: Trouble::System(io::Error::from(ErrorKind::OutOfMemory)),
+            },
+        }
+    }
 }
 
 impl Trouble {
@@ -135,6 +148,7 @@ impl fmt::Display for DiskCall {
         f.write_str(match self {
             DiskCall::Put => "put",
             DiskCall::Get => "get",
+            DiskCall::Has => "has",
             DiskCall::Remove => "remove",
         })
     }

@@ -2,7 +2,7 @@
 ghost use Rattle.std.specs.Prelude.{◌≡◌, ℕ, List, [], ◌∷◌, None, Some, IsOk, IsErr, IsSome, IfOk, OnOk, OnErr, option_map};
 ghost use Rattle.sha2.specs.Sha256.{sha256};
 ghost use Rattle.fw_disk.specs.RunLines.{digests_in, MayStandIn};
-ghost use Rattle.fw_outside.specs.Outside.{faults_after};
+ghost use Rattle.fw_outside.specs.Outside.{faults_after, one_more};
 
 use crate::DiskPlace;
 use crate::cause::{DiskCall, DiskCause, DiskRefusal, Fault};
@@ -10,7 +10,7 @@ use crate::claim::{Claim, claim_folder, locked_empty, record_of};
 use crate::contents::contents_of;
 use crate::folder::{Folder, place_named};
 use crate::lines::{RunLines, lines_in};
-use fw_outside::{OutFault, Store};
+use fw_outside::{Failed, OutFault, Store};
 use sha2::{Digest, Sha256};
 use std::alloc::{AllocError, Global};
 use std::fs::File;
@@ -146,12 +146,20 @@ impl<R: Files> DiskStore<'_, R> {
             Ok(()) => Ok(()),
             Err(DiskRefusal::NoMemory) => Err(OutFault::NoMemory),
             Err(DiskRefusal::Failed(cause)) => {
-                self.faults = self.faults.saturating_add(1);
-                if self.noted.len() < MOST_NOTED {
-                    let _ = self.noted.push(Fault { call, id, cause });
-                }
+                self.note(call, id, cause);
                 Err(OutFault::Failed)
             }
+        }
+    }
+
+    // Counts a call that failed, and notes it.
+    fn note(&mut self, call: DiskCall, id: u64, cause: DiskCause)
+        ensures faults { self.new.faults ≡ one_more self.old.faults }
+        ensures given_stays { option_map {U = ℕ × List ℕ} (λ given. (given.id, given.bytes.items)) self.new.given ≡ option_map {U = ℕ × List ℕ} (λ given. (given.id, given.bytes.items)) self.old.given }
+    {
+        self.faults = self.faults.saturating_add(1);
+        if self.noted.len() < MOST_NOTED {
+            let _ = self.noted.push(Fault { call, id, cause });
         }
     }
 }
@@ -206,6 +214,16 @@ impl<R: Files<File = File>> DiskStore<'_, R> {
         self.give(id, bytes, into)
     }
 
+    // Whether a file is there under an id.
+    fn is_there(&mut self, id: u64) -> Result<bool, DiskRefusal>
+        ensures stay { (other : ℕ) → digests_in self.new.claim other ≡ digests_in self.old.claim other }
+        ensures faults { self.new.faults ≡ self.old.faults }
+        ensures given { self.new.given ≡ self.old.given }
+    {
+        claim_folder(&self.folder, &mut self.claim)?;
+        self.folder.has(DiskPlace::Record(id))
+    }
+
     // Takes the record under an id out.
     fn take_out(&mut self, id: u64) -> Result<(), DiskRefusal>
         ensures none { OnOk result (IsSome (digests_in self.old.claim id) → digests_in self.new.claim id ≡ Some []) }
@@ -241,6 +259,17 @@ impl<R: Files<File = File>> Store for DiskStore<'_, R> {
         into.clear();
         let got = self.read_into(id, into);
         self.answer(DiskCall::Get, id, got)
+    }
+
+    /// Whether there is a file, which opens. One that does not is a fault, and so is want of memory.
+    fn has(&mut self, id: u64) -> Result<bool, Failed> {
+        match self.is_there(id) {
+            Ok(there) => Ok(there),
+            Err(refusal) => {
+                self.note(DiskCall::Has, id, refusal.cause(DiskPlace::Record(id)));
+                Err(Failed)
+            }
+        }
     }
 
     /// Removes the file. One that is not there is a fault. That it is gone is not flushed to the disk.

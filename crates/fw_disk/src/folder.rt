@@ -120,6 +120,18 @@ impl<'a, R: Files> Folder<'a, R> {
         ))
     }
 
+    /// Whether a file is there.
+    pub(crate) fn has(&self, place: DiskPlace) -> Result<bool, DiskRefusal> {
+        let path = self.path(place)?;
+        match fs::open(self.files, path.as_str()) {
+            Ok(_) => Ok(true),
+            Err(error) => match error.kind() {
+                ErrorKind::NotFound => Ok(false),
+                _ => Err(DiskRefusal::of(place, error)),
+            },
+        }
+    }
+
     /// The bytes of a file.
     pub(crate) fn read(&self, place: DiskPlace) -> Result<Vec<u8>, DiskRefusal> {
         let path = self.path(place)?;

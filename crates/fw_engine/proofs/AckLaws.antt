@@ -58,16 +58,16 @@ can-out sys state running o flow failed settled c =
 pub idle-acknowledges : (sys : System) (state : Machine) (running : Running) (records : Option Records) (o : ℕ) → Stands sys running records state
     → (CanAcknowledge running o → ⊥) → IsIdle sys state (Ack o)
 idle-acknowledges sys state running records o s none next effect t =
-    nothing_kept-idle sys state running.epochs s.epochs o (output_of running o) (s.outputs o t.1.declared t.1.output)
-    (λ c. none (can-out sys state running o s.flow s.failed s.settled c)) next effect t
+    nothing_kept-idle sys state running.epochs s.apart.epochs o (output_of running o) (s.apart.outputs o t.1.declared t.1.output)
+    (λ c. none (can-out sys state running o s.apart.flow s.apart.failed s.apart.settled c)) next effect t
 
 -- where it may, it acknowledges its bound
 pub acknowledges : (sys : System) (state : Machine) (running : Running) (records : Option Records) (o : ℕ) → Stands sys running records state
     → AreByNumber (output_of running o).recs → CanAcknowledge running o
     → LeadsTo sys state (Ack o) (acknowledged_state state o (output_of running o).bound) (acked o ((output_of running o).bound ∷ []) (next_recs (output_of running o)))
 acknowledges sys state running records o s n c =
-    let k = can-in sys state running o s.flow s.failed s.settled c in
-    kept-acknowledged sys state running.epochs s.epochs o (output_of running o) n (s.outputs o k.there k.output) k
+    let k = can-in sys state running o s.apart.flow s.apart.failed s.apart.settled c in
+    kept-acknowledged sys state running.epochs s.apart.epochs o (output_of running o) n (s.apart.outputs o k.there k.output) k
 
 -- ---- what is kept then
 
@@ -119,29 +119,31 @@ after-stands sys state running records o places there n c s =
     let leads = acknowledges sys state running records o s n c in
     let recs = next_recs (output_of running o) in
     record {
-      flow = s.flow;
-      well_formed = s.well_formed;
-      reached = reached-next sys state next (Ack o) (did (acked o (x ∷ []) recs)) s.reached leads;
-      settled = s.settled;
-      failed = s.failed;
-      low = s.low;
-      epochs = s.epochs;
-      tables = λ p l. k.tables p _ (s.tables p l);
-      queues = λ e l. s.queues e l ∙ sym (k.queues e);
-      logs = λ e l. s.logs e l ∙ sym (k.logs e);
-      outputs = λ q l is. elim (cases_eq q o) [
-        | inl e ↦ subst (λ p. IsOutputOf sys next p (output_of (after_ack running o places) p)) (sym e)
-            (subst (IsOutputOf sys next o) (sym (output-there running o places there))
-            (acknowledged-stands sys state s.reached o (subst (λ p. p < length sys.flow.nodes) e l) (output_of running o) n
-            (s.outputs o (subst (λ p. p < length sys.flow.nodes) e l) (subst (λ p. is_output_kind (kind_of sys.flow p) ≡ true) e is))))
-        | inr d ↦ subst (IsOutputOf sys next q) (sym (output-other running o q places d)) (k.others q d (output_of running q) (s.outputs q l is))
-      ];
-      sources = λ i l. k.sources i _ (s.sources i l);
-      progress = s.progress;
+      apart = record {
+        flow = s.apart.flow;
+        well_formed = s.apart.well_formed;
+        reached = reached-next sys state next (Ack o) (did (acked o (x ∷ []) recs)) s.apart.reached leads;
+        settled = s.apart.settled;
+        failed = s.apart.failed;
+        low = s.apart.low;
+        epochs = s.apart.epochs;
+        tables = λ p l. k.tables p _ (s.apart.tables p l);
+        queues = λ e l. s.apart.queues e l ∙ sym (k.queues e);
+        logs = λ e l. s.apart.logs e l ∙ sym (k.logs e);
+        outputs = λ q l is. elim (cases_eq q o) [
+          | inl e ↦ subst (λ p. IsOutputOf sys next p (output_of (after_ack running o places) p)) (sym e)
+              (subst (IsOutputOf sys next o) (sym (output-there running o places there))
+              (acknowledged-stands sys state s.apart.reached o (subst (λ p. p < length sys.flow.nodes) e l) (output_of running o) n
+              (s.apart.outputs o (subst (λ p. p < length sys.flow.nodes) e l) (subst (λ p. is_output_kind (kind_of sys.flow p) ≡ true) e is))))
+          | inr d ↦ subst (IsOutputOf sys next q) (sym (output-other running o q places d)) (k.others q d (output_of running q) (s.apart.outputs q l is))
+        ];
+        sources = λ i l. k.sources i _ (s.apart.sources i l);
+        progress = s.apart.progress;
+        entries = entries_after_step sys s.apart.well_formed state s.apart.reached (Ack o) next (acked o (x ∷ []) recs) leads refl running.parts.keep.entries s.apart.entries;
+        stored = records_after_step sys s.apart.well_formed state s.apart.reached (Ack o) next (acked o (x ∷ []) recs) leads refl running.parts.keep.entries records s.apart.stored;
+      };
       traces = λ p l. k.traces p running.traces (s.traces p l);
       lost = λ p full t. (λ h. (k.lost p t).1 ((s.lost p full t).0 h), λ h. (s.lost p full t).1 ((k.lost p t).0 h));
-      entries = entries_after_step sys s.well_formed state s.reached (Ack o) next (acked o (x ∷ []) recs) leads refl running.parts.keep.entries s.entries;
-      stored = records_after_step sys s.well_formed state s.reached (Ack o) next (acked o (x ∷ []) recs) leads refl running.parts.keep.entries records s.stored;
     }
 
 -- ---- of the values that the calls leave
@@ -163,21 +165,23 @@ ack-stands sys state running records o ready outputs is shaped n c s =
     let at = after-stands sys state running records o ready.outputs there n c s in
     subst (λ (all : OutputsState). Stands sys (record running { parts = record running.parts { outputs = all }; ready = ready }) records next) (sym is)
     (record {
-      flow = at.flow;
-      well_formed = at.well_formed;
-      reached = at.reached;
-      settled = at.settled;
-      failed = at.failed;
-      low = at.low;
-      epochs = at.epochs;
-      tables = at.tables;
-      queues = at.queues;
-      logs = at.logs;
-      outputs = at.outputs;
-      sources = at.sources;
-      progress = at.progress;
+      apart = record {
+        flow = at.apart.flow;
+        well_formed = at.apart.well_formed;
+        reached = at.apart.reached;
+        settled = at.apart.settled;
+        failed = at.apart.failed;
+        low = at.apart.low;
+        epochs = at.apart.epochs;
+        tables = at.apart.tables;
+        queues = at.apart.queues;
+        logs = at.apart.logs;
+        outputs = at.apart.outputs;
+        sources = at.apart.sources;
+        progress = at.apart.progress;
+        entries = at.apart.entries;
+        stored = at.apart.stored;
+      };
       traces = at.traces;
       lost = at.lost;
-      entries = at.entries;
-      stored = at.stored;
     })

@@ -30,6 +30,7 @@ step-answered {K} {view} {old} {new} {before} {after} {step} {result} live ascen
       shows = shown old.running records step result new.running left_over a.takes a.shows;
       swept = a.swept;
       tells = a.tells;
+      told_before = a.told_before;
       quiet = a.quiet;
       idle = a.idle;
       faults = a.faults;
@@ -56,7 +57,8 @@ step-refused refused stored ascending = record {
   ok = λ sys state s trust. tt;
   shows = λ sys state s. tt;
   swept = λ is. tt;
-  tells = refl;
+  tells = λ other. refl;
+  told_before = λ told. told;
   quiet = λ none. refl;
   idle = λ other is. refl;
   faults = refl;

@@ -20,15 +20,15 @@ use Rattle.fw_running.proofs.SameStateLaws.{same-stands}
 pub ready_stands : (sys : System) (state : Machine) (running : Running) (records : Option Records) (ready : ReadyState) → Stands sys running records state
     → Stands sys (record running { ready = ready }) records state
 ready_stands sys state running records ready s =
-    same-stands sys running running.parts.keep running.progress ready records records state s s.settled s.progress s.entries s.stored
+    same-stands sys running running.parts.keep running.progress ready records records state s s.apart.settled s.apart.progress s.apart.entries s.apart.stored
 
 -- a step that is enabled, and where it is the first one, answers as the first one does
 pub first_answers : (sys : System) (state other : Machine) (step : Step) (effect : Effect) (result : Result Stepped EngineFault)
-    → (new : Running) (before after : Option Records) → LeadsTo sys state step other effect
+    → (new : Running) (after : Option Records) → LeadsTo sys state step other effect
     → ((next : Machine) (shown : Effect) → LeadsTo sys state step next shown → TakesFirst sys state (auto_steps sys.flow) next (did shown))
-    → Trusts sys state step before → ((P : Machine → Type 0) → IsLeftBy sys state step P → P state) → IsUndamaged result
-    → (IsErrOf result fault.StoreFault → FirstMayCall sys state) → Answers sys state step result before new after → AnswersFirst sys state result new after
-first_answers sys state other step effect (Ok stepped) new before after leads first trusts left sound calls answers =
+    → Trusts sys state step after → ((P : Machine → Type 0) → IsLeftBy sys state step P → P state) → IsUndamaged result
+    → (IsErrOf result fault.StoreFault → FirstMayCall sys state) → Answers sys state step result new after → AnswersFirst sys state result new after
+first_answers sys state other step effect (Ok stepped) new after leads first trusts left sound calls answers =
     let f = answers trusts in
     let t = enabled_steps-taken sys state f.next step (outcome_of stepped) f.steps other effect leads in
     record {
@@ -36,7 +36,7 @@ first_answers sys state other step effect (Ok stepped) new before after leads fi
       takes = subst (λ (o : Outcome). TakesFirst sys state (auto_steps sys.flow) f.next o) (sym t.1) (first f.next t.0 t.2);
       stands = f.stands;
     }
-first_answers sys state other step effect (Err fault.StoreFault) new before after leads first trusts left sound calls answers =
+first_answers sys state other step effect (Err fault.StoreFault) new after leads first trusts left sound calls answers =
     (calls refl, left (λ next. Stands sys new after next) answers)
-first_answers sys state other step effect (Err (fault.Damaged id)) new before after leads first trusts left sound calls answers = sound
-first_answers sys state other step effect (Err fault.NoMemory) new before after leads first trusts left sound calls answers = tt
+first_answers sys state other step effect (Err (fault.Damaged id)) new after leads first trusts left sound calls answers = sound
+first_answers sys state other step effect (Err fault.NoMemory) new after leads first trusts left sound calls answers = tt

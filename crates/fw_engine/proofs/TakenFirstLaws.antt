@@ -53,7 +53,7 @@ ComesNext Earlier step = (sys : System) (state next : Machine) (effect : Effect)
 pub did-first : (Earlier : System → Machine → Type 0) (step : Step) (old new : Running) (before after : Option Records) (shown : Shown)
     → ComesNext Earlier step → IsTrusted step → TakesStep old before step (Ok (Did shown)) new after → TakesFirstAfter Earlier old before (Ok (Did shown)) new after
 did-first Earlier step old new before after shown order trusted t = λ sys state s earlier.
-    let f = t sys state s (trusted sys state before) in
+    let f = t sys state s (trusted sys state after) in
     record { next = f.next; takes = order sys state f.next (effect_of shown) earlier f.steps; stands = f.stands }
 
 -- where a step is idle, a later one is the first
@@ -62,7 +62,7 @@ pub idle-later : (Earlier Later : System → Machine → Type 0) (step : Step) (
     → IsTrusted step → TakesStep old before step (Ok Idle) mid between → TakesFirstAfter Later mid between result new after
     → TakesFirstAfter Earlier old before result new after
 idle-later Earlier Later step old mid new before between after result more trusted t later = λ sys state s earlier.
-    let f = t sys state s (trusted sys state before) in
+    let f = t sys state s (trusted sys state between) in
     later sys state (subst (λ (m : Machine). Stands sys mid between m) f.steps.1 f.stands) (more sys state earlier f.steps.0)
 
 -- a fault of progress is one of the first step
@@ -71,7 +71,7 @@ pub settle-err : (old new : Running) (before after : Option Records) (e : Engine
 settle-err old new before after fault.StoreFault eager sound t = λ sys state s none.
     let left = t sys state s in
     let enabled = left.0 in
-    (progress-calls sys state none enabled.0 enabled.1 enabled.2 (subst (λ (f : Dataflow). HasEager f) s.flow (eager refl)), left.1)
+    (progress-calls sys state none enabled.0 enabled.1 enabled.2 (subst (λ (f : Dataflow). HasEager f) s.apart.flow (eager refl)), left.1)
 settle-err old new before after (fault.Damaged id) eager sound t = λ sys state s none. sound
 settle-err old new before after fault.NoMemory eager sound t = λ sys state s none. tt
 
@@ -91,10 +91,10 @@ with_ready_stands sys state old new records ready is s =
 can_deliver-stands : (sys : System) (running : Running) (records : Option Records) (state : Machine) → Stands sys running records state
     → (e : ℕ) → e < length sys.flow.edges → is_failed state (receiver sys.flow e) ≡ false → queued sys state e ≢ [] → CanDeliver running e
 can_deliver-stands sys running records state s e l live some = record {
-  there = subst (λ (flow : Dataflow). e < length flow.edges) (sym s.flow) l;
-  live = ap (λ (flow : Dataflow). slice_index_or running.failed.items (receiver flow e) false) s.flow
+  there = subst (λ (flow : Dataflow). e < length flow.edges) (sym s.apart.flow) l;
+  live = ap (λ (flow : Dataflow). slice_index_or running.failed.items (receiver flow e) false) s.apart.flow
       ∙ down-failed sys running records state s (receiver sys.flow e) ∙ live;
-  some = λ none. some (sym (s.queues e l) ∙ none);
+  some = λ none. some (sym (s.apart.queues e l) ∙ none);
 }
 
 -- an edge on which nothing can be delivered is idle
@@ -108,7 +108,7 @@ delivered : (sys : System) (running : Running) (records : Option Records) (state
     → (next : Machine) × (effect : Effect) × LeadsTo sys state (Deliver e None) next effect
 delivered sys running records state s e l [] is some = absurd (some refl)
 delivered sys running records state s e l (m ∷ ms) is some =
-    (_, silent, first_queued-delivered sys s.well_formed state s.reached e m ms is)
+    (_, silent, first_queued-delivered sys s.apart.well_formed state s.apart.reached e m ms is)
 
 pub deliver-first : (old mid : Running) (ready : ReadyState) (new : Running) (before after : Option Records) (e : ℕ) (result : Result Stepped EngineFault)
     → mid ≡ with_ready ready old → IsFirstWhere (CanDeliver old) (Some e) → IsUndamaged result
@@ -116,13 +116,13 @@ pub deliver-first : (old mid : Running) (ready : ReadyState) (new : Running) (be
     → TakesFirstAfter NoneToPersist old before result new after
 deliver-first old mid ready new before after e result is first sound full t = λ sys state s none.
     let can = first.0 in
-    let l : e < length sys.flow.edges = subst (λ (flow : Dataflow). e < length flow.edges) s.flow can.there in
-    let d = delivered sys old before state s e l (queued sys state e) refl (λ nothing. can.some (s.queues e l ∙ nothing)) in
+    let l : e < length sys.flow.edges = subst (λ (flow : Dataflow). e < length flow.edges) s.apart.flow can.there in
+    let d = delivered sys old before state s e l (queued sys state e) refl (λ nothing. can.some (s.apart.queues e l ∙ nothing)) in
     let below : AreIdleBelow sys state delivery e = λ i k. no_delivery sys old before state s i (omega (arith, k, l)) (first.1 i k) in
-    first_answers sys state d.0 (Deliver e None) d.1 result new before after d.2
+    first_answers sys state d.0 (Deliver e None) d.1 result new after d.2
     (λ next shown leads. deliveries-next sys state none e l below next shown leads) tt (λ P left. left.1) sound
     (λ failed. delivery-calls sys state none e l below d.0 d.1 d.2
-    (subst (λ (flow : Dataflow). policy_of flow (receiver flow e) ≡ policy.Full) (ap (λ (r : Running). r.flow) is ∙ s.flow) (full failed)))
+    (subst (λ (flow : Dataflow). policy_of flow (receiver flow e) ≡ policy.Full) (ap (λ (r : Running). r.flow) is ∙ s.apart.flow) (full failed)))
     (t sys state (with_ready_stands sys state old mid before ready is s))
 
 pub deliver-later : (old mid : Running) (ready : ReadyState) (new : Running) (before after : Option Records) (result : Result Stepped EngineFault)
@@ -139,23 +139,23 @@ pub searched_stands : (sys : System) (state : Machine) (old new : Running) (reco
     → Stands sys new records state
 searched_stands sys state old new records found s = subst (λ (r : Running). Stands sys r records state) (sym found.others)
     (same-stands sys old old.parts.keep new.progress (record old.ready { growing = new.ready.growing; owing = new.ready.owing }) records records state s
-    (found.settled ∙ s.settled) (found.stands sys (events state.history) (sym s.flow) s.progress) s.entries s.stored)
+    (found.settled ∙ s.apart.settled) (found.stands sys (events state.history) (sym s.apart.flow) s.apart.progress) s.apart.entries s.apart.stored)
 
 -- a node that may not be notified is idle
 no_notification : (sys : System) (running : Running) (records : Option Records) (state : Machine) → Stands sys running records state
     → (p : ℕ) → p < length sys.flow.nodes → HasNoNotice running p → IsIdle sys state (notification p)
 no_notification sys running records state s p l none next effect leads =
     let owing : IsOwing running p = record {
-      there = subst (λ (flow : Dataflow). p < length flow.nodes) (sym s.flow) l;
+      there = subst (λ (flow : Dataflow). p < length flow.nodes) (sym s.apart.flow) l;
       live = down-failed sys running records state s p ∙ leads.2;
-      some = λ nothing. nothing_counted-idle sys state running.progress.counts s.progress.counts p l nothing None next effect leads;
+      some = λ nothing. nothing_counted-idle sys state running.progress.counts s.apart.progress.counts p l nothing None next effect leads;
     } in
-    none owing sys (events state.history) (sym s.flow) s.progress leads.0 leads.1
+    none owing sys (events state.history) (sym s.apart.flow) s.apart.progress leads.0 leads.1
 
 notified : (sys : System) (running : Running) (records : Option Records) (state : Machine) → Stands sys running records state
     → (p : ℕ) (t : Stamp) → HasNotice running p t → LeadsTo sys state (Notify p None) (with_event sys state (Notified p t)) silent
 notified sys running records state s p t n =
-    (t, n.found sys (events state.history) (sym s.flow) s.progress, sym (down-failed sys running records state s p) ∙ n.owing.live, refl, refl)
+    (t, n.found sys (events state.history) (sym s.apart.flow) s.apart.progress, sym (down-failed sys running records state s p) ∙ n.owing.live, refl, refl)
 
 -- the answer to a notification is that of the first step
 notice-answers : (T : Type 0) (sys : System) (state : Machine) (p : ℕ) (t : Stamp) (e : EngineFault) (new : Running) (after : Option Records)
@@ -171,7 +171,7 @@ pub notify-first : (T : Type 0) (old mid new : Running) (before after : Option R
 unfolding notified
 notify-first T old mid new before after p t x found n earlier taken = λ sys state s none.
     let leads = notified sys old before state s p t n in
-    let l : p < length sys.flow.nodes = subst (λ (flow : Dataflow). p < length flow.nodes) s.flow n.owing.there in
+    let l : p < length sys.flow.nodes = subst (λ (flow : Dataflow). p < length flow.nodes) s.apart.flow n.owing.there in
     let below : AreIdleBelow sys state notification p = λ i k. no_notification sys old before state s i (omega (arith, k, l)) (earlier i k) in
     record {
       next = with_event sys state (Notified p t);
@@ -185,11 +185,11 @@ pub notify-err : (T : Type 0) (old mid new : Running) (before after : Option Rec
 unfolding notified
 notify-err T old mid new before after p t e found n earlier full taken = λ sys state s none.
     let leads = notified sys old before state s p t n in
-    let l : p < length sys.flow.nodes = subst (λ (flow : Dataflow). p < length flow.nodes) s.flow n.owing.there in
+    let l : p < length sys.flow.nodes = subst (λ (flow : Dataflow). p < length flow.nodes) s.apart.flow n.owing.there in
     let below : AreIdleBelow sys state notification p = λ i k. no_notification sys old before state s i (omega (arith, k, l)) (earlier i k) in
     notice-answers T sys state p t e new after
     (λ failed. notification-calls sys state none p l below (with_event sys state (Notified p t)) silent leads
-    (subst (λ (flow : Dataflow). policy_of flow p ≡ policy.Full) (ap (λ (r : Running). r.flow) found.others ∙ s.flow) (full failed)))
+    (subst (λ (flow : Dataflow). policy_of flow p ≡ policy.Full) (ap (λ (r : Running). r.flow) found.others ∙ s.apart.flow) (full failed)))
     (taken sys state (searched_stands sys state old mid before found s) leads.2 leads.1.enabled)
 
 pub notify-later : (old mid new : Running) (before after : Option Records) (result : Result Stepped EngineFault) → IsSearched old mid
@@ -205,9 +205,9 @@ pub acknowledge-first : (old mid : Running) (ready : ReadyState) (new : Running)
     → (IsErrOf result fault.StoreFault → ⊥) → TakesStep mid records (Ack o) result new records → TakesFirstAfter NoneToSettle old records result new records
 acknowledge-first old mid ready new records o result is first numbered sound unfaulted t = λ sys state s none.
     let can = first.0 in
-    let l : o < length sys.flow.nodes = subst (λ (flow : Dataflow). o < length flow.nodes) s.flow can.there in
+    let l : o < length sys.flow.nodes = subst (λ (flow : Dataflow). o < length flow.nodes) s.apart.flow can.there in
     let below : AreIdleBelow sys state Ack o = λ i k. idle-acknowledges sys state old records i s (first.1 i k) in
-    first_answers sys state _ (Ack o) _ result new records records (acknowledges sys state old records o s numbered can)
+    first_answers sys state _ (Ack o) _ result new records (acknowledges sys state old records o s numbered can)
     (λ next shown leads. acknowledgements-next sys state none o l below next shown leads) tt (λ P left. left.1) sound
     (λ failed. absurd (unfaulted failed))
     (t sys state (with_ready_stands sys state old mid records ready is s))
@@ -225,11 +225,11 @@ acknowledge-later old mid ready new records result is first later = λ sys state
 no_injection : (sys : System) (running : Running) (records : Option Records) (state : Machine) → Stands sys running records state
     → (p : ℕ) → p < length sys.flow.nodes → (CanInject running p → ⊥) → IsIdle sys state (Inject p)
 no_injection sys running records state s p l none =
-    injects-only sys s.well_formed state s.reached p (source_of running p) (λ input. s.sources p l)
+    injects-only sys s.apart.well_formed state s.apart.reached p (source_of running p) (λ input. s.apart.sources p l)
     (λ input live some. none (record {
-      there = subst (λ (flow : Dataflow). p < length flow.nodes) (sym s.flow) l;
+      there = subst (λ (flow : Dataflow). p < length flow.nodes) (sym s.apart.flow) l;
       live = down-failed sys running records state s p ∙ live;
-      input = ap (λ (flow : Dataflow). is_input_kind (kind_of flow p)) s.flow ∙ input;
+      input = ap (λ (flow : Dataflow). is_input_kind (kind_of flow p)) s.apart.flow ∙ input;
       some = some;
     }))
 
@@ -239,7 +239,7 @@ injected : (sys : System) (running : Running) (records : Option Records) (state 
     → (next : Machine) × (effect : Effect) × LeadsTo sys state (Inject p) next effect
 injected sys running records state s p l input live None is some = absurd (some refl)
 injected sys running records state s p l input live (Some batch) is some =
-    (_, silent, next_batch-injected sys s.well_formed state s.reached p (source_of running p) (s.sources p l) input live batch is)
+    (_, silent, next_batch-injected sys s.apart.well_formed state s.apart.reached p (source_of running p) (s.apart.sources p l) input live batch is)
 
 pub inject-first : (old mid : Running) (ready : ReadyState) (new : Running) (records : Option Records) (p : ℕ) (result : Result Stepped EngineFault)
     → mid ≡ with_ready ready old → IsFirstWhere (CanInject old) (Some p) → IsUndamaged result → (IsErrOf result fault.StoreFault → ⊥)
@@ -247,12 +247,12 @@ pub inject-first : (old mid : Running) (ready : ReadyState) (new : Running) (rec
     → TakesFirstAfter NoneToAcknowledge old records result new records
 inject-first old mid ready new records p result is first sound unfaulted t = λ sys state s none.
     let can = first.0 in
-    let l : p < length sys.flow.nodes = subst (λ (flow : Dataflow). p < length flow.nodes) s.flow can.there in
-    let input : is_input_kind (kind_of sys.flow p) ≡ true = ap (λ (flow : Dataflow). is_input_kind (kind_of flow p)) (sym s.flow) ∙ can.input in
+    let l : p < length sys.flow.nodes = subst (λ (flow : Dataflow). p < length flow.nodes) s.apart.flow can.there in
+    let input : is_input_kind (kind_of sys.flow p) ≡ true = ap (λ (flow : Dataflow). is_input_kind (kind_of flow p)) (sym s.apart.flow) ∙ can.input in
     let live : is_failed state p ≡ false = sym (down-failed sys old records state s p) ∙ can.live in
     let d = injected sys old records state s p l input live (next_batch (source_of old p)) refl can.some in
     let below : AreIdleBelow sys state Inject p = λ i k. no_injection sys old records state s i (omega (arith, k, l)) (first.1 i k) in
-    first_answers sys state d.0 (Inject p) d.1 result new records records d.2
+    first_answers sys state d.0 (Inject p) d.1 result new records d.2
     (λ next shown leads. injections-last sys state none p l below next shown leads) tt (λ P left. left.1) sound
     (λ failed. absurd (unfaulted failed))
     (t sys state (with_ready_stands sys state old mid records ready is s))

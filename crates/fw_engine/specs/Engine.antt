@@ -1,5 +1,5 @@
 -- What contracts say of an engine.
-use Rattle.std.specs.Prelude.{◌≡◌, ◌≢◌, ℕ, Bool, true, List, [], Option, None, Result, Ok, IfOk, IsErrOf, IsTrue, OnOk, is_some}
+use Rattle.std.specs.Prelude.{◌≡◌, ◌≢◌, ℕ, Bool, true, List, [], Option, None, Result, Ok, IfOk, IsErrOf, IsTrue, IsSome, OnOk, is_some}
 use Rattle.fw_outside.specs.Outside.{StoreView}
 use Rattle.fw_flow.specs.declared.step.Step.{Step}
 use Rattle.fw_flow.specs.declared.step.Step.TheVariants.{Collect, Recover}
@@ -55,17 +55,18 @@ pub record EngineAnswers {K : Type 0} (view : K → StoreView) (old : Engine) (b
   pub stored : IsStored (keep_of new) (view after).records
   pub flow : flow_of new ≡ flow_of old
   pub in_order : AreAscending (ids_of (keep_of new).entries)
-  -- it goes from each state for which it stood as the machine does, unless it can't trust what it reads
-  pub ok : ForEachState old (view before).records (λ sys state. Trusts sys state step (view before).records
+  -- it goes from each state for which it stood as the machine does, unless it can't trust what it read
+  pub ok : ForEachState old (view before).records (λ sys state. Trusts sys state step (view after).records
       → IfOk result (λ stepped. FollowsStep sys state step stepped new (view after).records))
   -- What is told is the machine's outcome, also of a recovery that can't trust what it reads. For which state the engine then stands
   -- is not said.
   pub shows : ForEachState old (view before).records (λ sys state. IfOk result (λ stepped. HasOutcome sys state step (outcome_of stepped)))
   -- after a collection nothing waits for a sweep
   pub swept : step ≡ Collect → OnOk result ((keep_of new).waiting ≡ [])
-  -- A store that tells its records goes on telling them. A step that by the flow's policies never calls it leaves it as it is, and so
-  -- does an idle one that is no collection.
-  pub tells : is_some (view after).records ≡ is_some (view before).records
+  -- A store that tells its records goes on telling them, unless it ceases in a recovery, which reads; and what it tells then it told
+  -- before. A step that by the flow's policies never calls it leaves it as it is, and so does an idle one that is no collection.
+  pub tells : step ≢ Recover → is_some (view after).records ≡ is_some (view before).records
+  pub told_before : IsSome (view after).records → IsSome (view before).records
   pub quiet : (MayCallStore (flow_of old) step → ⊥) → after ≡ before
   pub idle : step ≢ Collect → result ≡ Ok Idle → after ≡ before
   -- The store's count of faults rises by one at StoreFault (at 2^64 - 1 it stays), and at no other answer. StoreFault comes only in a
@@ -75,11 +76,11 @@ pub record EngineAnswers {K : Type 0} (view : K → StoreView) (old : Engine) (b
   pub calls : IsErrOf result fault.StoreFault → MayCallStore (flow_of old) step
   pub faulted : ForEachState old (view before).records (λ sys state. IsErrOf result fault.StoreFault
       → IsLeftBy sys state step (λ next. StandsFor sys new (view after).records next))
-  -- a record is damaged in a recovery alone, over a store that does not tell its records
+  -- a record is damaged in a recovery alone, over a store that does not tell its records, or no more
   pub damaged : (id : ℕ) → IsErrOf result (fault.Damaged id) → IsDamaged old id (view after).given
   pub in_recovery : (id : ℕ) → IsErrOf result (fault.Damaged id) → step ≡ Recover
   pub unharmed : (id : ℕ) → ForEachState old (view before).records (λ sys state. IsErrOf result (fault.Damaged id)
-      → ((view before).records ≡ None) × IsStepEnabled sys state Recover × StandsFor sys new (view after).records state)
+      → ((view after).records ≡ None) × IsStepEnabled sys state Recover × StandsFor sys new (view after).records state)
   -- once memory is refused, each later step answers that
   pub refused : IsErrOf result fault.NoMemory → was_refused new ≡ true
   pub told : was_refused new ≡ is_refusal result

@@ -137,51 +137,53 @@ pub events_are_followed : EventsAreFollowed
 events_are_followed sys state v old new before after step effect s enabled live leads t writes =
     let next = with_event sys state v in
     let p = event_node sys.flow v in
-    let w = s.well_formed in
-    let r = s.reached in
-    let o : LeavesOthers sys.flow v old new = subst (λ f. LeavesOthers f v old new) s.flow t.others in
-    let d : EdgesFollow sys.flow v t.sent old new = subst (λ f. EdgesFollow f v t.sent old new) s.flow t.edges in
-    let down : (q : ℕ) (b : Bool) → is_failed state q ≡ b → is_down old q ≡ b = λ q b k. ap (λ bs. slice_index_or bs q false) s.failed ∙ k in
+    let w = s.apart.well_formed in
+    let r = s.apart.reached in
+    let o : LeavesOthers sys.flow v old new = subst (λ f. LeavesOthers f v old new) s.apart.flow t.others in
+    let d : EdgesFollow sys.flow v t.sent old new = subst (λ f. EdgesFollow f v t.sent old new) s.apart.flow t.edges in
+    let down : (q : ℕ) (b : Bool) → is_failed state q ≡ b → is_down old q ≡ b = λ q b k. ap (λ bs. slice_index_or bs q false) s.apart.failed ∙ k in
     let there = node-declared sys state w r v enabled in
-    let own = t.own sys state (sym s.flow) w r enabled live
-    (record { table = s.tables p there; output = s.outputs p there; source = s.sources p there }) in
+    let own = t.own sys state (sym s.apart.flow) w r enabled live
+    (record { table = s.apart.tables p there; output = s.apart.outputs p there; source = s.apart.sources p there }) in
     let sent = own.0 in
     record {
-      flow = o.flow ∙ s.flow;
-      well_formed = w;
-      reached = reached-next sys state next step (did effect) r leads;
-      settled = o.settled ∙ s.settled;
-      failed = o.failed ∙ s.failed;
-      low = o.low ∙ s.low;
-      epochs = λ x. subst (λ n. (x < n) ↔ HasEpoch sys.batches x) (sym o.epochs) (s.epochs x);
-      tables = λ q l. at-each p q (IsTableIn sys next q (table_of new q))
-          (λ k. subst (λ x. IsTableIn sys next x (table_of new x)) (eqb-true p q k) own.1.table)
-          (λ k. subst (IsTableIn sys next q) (sym (o.tables q k)) (tables-stay sys state v q k (table_of old q) (s.tables q l)));
-      queues = λ e l. queue-after sys state v t.sent e (queue_at old e) (queue_at new e) (queues-follow sys state w r v enabled t.sent sent e) (s.queues e l)
-          (λ k. d.queues e l (down (receiver sys.flow e) false k)) (λ k. d.down e (down (receiver sys.flow e) true k));
-      logs = λ e l. log-after sys state v t.sent e (log_at old e) (log_at new e) (logs-follow sys state w r v enabled t.sent sent e) live (s.logs e l)
-          (λ c. subst (λ low. log_at new e
-          ≡ with_messages (messages_outside (inside (front_of low (receiver sys.flow e))) (put_on sys.flow e v t.sent)) (log_at old e)) s.low (d.logs c e l))
-          (λ c. d.logs_stay c e);
-      outputs = λ q l is. at-each p q (IsOutputOf sys next q (output_of new q))
-          (λ k. subst (λ x. is_output_kind (kind_of sys.flow x) ≡ true → IsOutputOf sys next x (output_of new x)) (eqb-true p q k) own.1.output is)
-          (λ k. subst (IsOutputOf sys next q) (sym (o.outputs q k)) (outputs-stay sys state v q k (output_of old q) (s.outputs q l is)));
-      sources = λ q l. at-each p q (IsSourceOf sys next q (source_of new q))
-          (λ k. subst (λ x. IsSourceOf sys next x (source_of new x)) (eqb-true p q k) own.1.source)
-          (λ k.
-          let not = injects-here sys.flow v q k in
-          subst (IsSourceOf sys next q) (sym (o.sources q not)) (sources-stay sys state v q not (source_of old q) (s.sources q l)));
-      progress = progress-follows sys state w r v enabled t.sent sent old.progress new.progress
-          (subst (λ f. FollowsEvent f v (stamps_in t.sent) old.progress new.progress) s.flow t.progress) s.progress;
+      apart = record {
+        flow = o.flow ∙ s.apart.flow;
+        well_formed = w;
+        reached = reached-next sys state next step (did effect) r leads;
+        settled = o.settled ∙ s.apart.settled;
+        failed = o.failed ∙ s.apart.failed;
+        low = o.low ∙ s.apart.low;
+        epochs = λ x. subst (λ n. (x < n) ↔ HasEpoch sys.batches x) (sym o.epochs) (s.apart.epochs x);
+        tables = λ q l. at-each p q (IsTableIn sys next q (table_of new q))
+            (λ k. subst (λ x. IsTableIn sys next x (table_of new x)) (eqb-true p q k) own.1.table)
+            (λ k. subst (IsTableIn sys next q) (sym (o.tables q k)) (tables-stay sys state v q k (table_of old q) (s.apart.tables q l)));
+        queues = λ e l. queue-after sys state v t.sent e (queue_at old e) (queue_at new e) (queues-follow sys state w r v enabled t.sent sent e) (s.apart.queues e l)
+            (λ k. d.queues e l (down (receiver sys.flow e) false k)) (λ k. d.down e (down (receiver sys.flow e) true k));
+        logs = λ e l. log-after sys state v t.sent e (log_at old e) (log_at new e) (logs-follow sys state w r v enabled t.sent sent e) live (s.apart.logs e l)
+            (λ c. subst (λ low. log_at new e
+            ≡ with_messages (messages_outside (inside (front_of low (receiver sys.flow e))) (put_on sys.flow e v t.sent)) (log_at old e)) s.apart.low (d.logs c e l))
+            (λ c. d.logs_stay c e);
+        outputs = λ q l is. at-each p q (IsOutputOf sys next q (output_of new q))
+            (λ k. subst (λ x. is_output_kind (kind_of sys.flow x) ≡ true → IsOutputOf sys next x (output_of new x)) (eqb-true p q k) own.1.output is)
+            (λ k. subst (IsOutputOf sys next q) (sym (o.outputs q k)) (outputs-stay sys state v q k (output_of old q) (s.apart.outputs q l is)));
+        sources = λ q l. at-each p q (IsSourceOf sys next q (source_of new q))
+            (λ k. subst (λ x. IsSourceOf sys next x (source_of new x)) (eqb-true p q k) own.1.source)
+            (λ k.
+            let not = injects-here sys.flow v q k in
+            subst (IsSourceOf sys next q) (sym (o.sources q not)) (sources-stay sys state v q not (source_of old q) (s.apart.sources q l)));
+        progress = progress-follows sys state w r v enabled t.sent sent old.progress new.progress
+            (subst (λ f. FollowsEvent f v (stamps_in t.sent) old.progress new.progress) s.apart.flow t.progress) s.apart.progress;
+        entries = writes.0;
+        stored = writes.1;
+      };
       traces = λ q l. traces-follow sys state v t.sent sent old.traces new.traces
-          (subst (λ f. TracesFollow f v (stamps_in t.sent) old.traces new.traces) s.flow t.traces) q (s.traces q l);
+          (subst (λ f. TracesFollow f v (stamps_in t.sent) old.traces new.traces) s.apart.flow t.traces) q (s.traces q l);
       lost = λ q full x.
           let stays = lost-stays sys state v live q x in
           let was : Contains (lost_at new q) x ↔ IsLostAt sys state q x =
           subst (λ ls. Contains (slice_index_or ls q []) x ↔ IsLostAt sys state q x) (sym o.lost) (s.lost q full x) in
           (λ c. stays.1 (was.0 c), λ c. was.1 (stays.0 c));
-      entries = writes.0;
-      stored = writes.1;
     }
 
 -- ---- what is logged
@@ -239,11 +241,11 @@ logged_events_are_followed sys state v old new before after step effect s enable
     let next = with_event sys state v in
     let p = event_node sys.flow v in
     elim (full-or_not (policy_of sys.flow p)) [
-      | inl full ↦ logged-stands sys state s.well_formed s.reached step next effect leads v refl enabled full event told
-          old.parts.keep.entries new.parts.keep.entries before after (l.logged full) s.entries s.stored
-      | inr other ↦ unlogged-stands sys state s.well_formed s.reached step next effect leads
+      | inl full ↦ logged-stands sys state s.apart.well_formed s.apart.reached step next effect leads v refl enabled full event told
+          old.parts.keep.entries new.parts.keep.entries before after (l.logged full) s.apart.entries s.apart.stored
+      | inr other ↦ unlogged-stands sys state s.apart.well_formed s.apart.reached step next effect leads
           (ap (λ ws. state.writes ++ ws) (none-written (policy_of sys.flow p) p state.next other) ∙ append-nil state.writes)
-          old.parts.keep.entries new.parts.keep.entries before after (l.other other) s.entries s.stored
+          old.parts.keep.entries new.parts.keep.entries before after (l.other other) s.apart.entries s.apart.stored
     ]
 
 -- no event of an input is logged
@@ -252,5 +254,5 @@ pub injections_are_followed : (sys : System) (state : Machine) (v : Event) (old 
     → IsNotAsked old.parts.keep.entries new.parts.keep.entries before after → WritesStand sys (with_event sys state v) new after
 injections_are_followed sys state v old new before after p effect s leads n =
     let next = with_event sys state v in
-    unlogged-stands sys state s.well_formed s.reached (InjectStep p) next effect leads
-    (injections_are_not_logged sys s.well_formed state p next effect leads) old.parts.keep.entries new.parts.keep.entries before after n s.entries s.stored
+    unlogged-stands sys state s.apart.well_formed s.apart.reached (InjectStep p) next effect leads
+    (injections_are_not_logged sys s.apart.well_formed state p next effect leads) old.parts.keep.entries new.parts.keep.entries before after n s.apart.entries s.apart.stored

@@ -43,9 +43,9 @@ use Rattle.fw_events.proofs.AfterEventLaws.{events_are_followed, logged_events_a
 pub queue-is : (sys : System) (running : Running) (records : Option Records) (state : Machine) → Stands sys running records state
     → length running.parts.queues ≡ length running.flow.edges → (e : ℕ) → queue_at running e ≡ queued sys state e
 queue-is sys running records state s each e = elim (cases_lt e (length sys.flow.edges)) [
-  | inl l ↦ s.queues e l
+  | inl l ↦ s.apart.queues e l
   | inr past ↦
-      let edges : length running.flow.edges ≡ length sys.flow.edges = ap (λ (f : Dataflow). length f.edges) s.flow in
+      let edges : length running.flow.edges ≡ length sys.flow.edges = ap (λ (f : Dataflow). length f.edges) s.apart.flow in
       ap (λ (q : MessagesState). q.messages) (get_or_past running.parts.queues e nothing_there (omega arith)) ∙ sym (nothing-queued_past sys state e past)
 ]
 
@@ -81,7 +81,7 @@ pub failed-delivers_none : (sys : System) (running : Running) (records : Option 
     → Stands sys running records state → is_down running (receiver running.flow e) ≡ true → Follows sys state (Deliver e at) idle running records
 failed-delivers_none sys running records state e at s k =
     let here : is_failed state (receiver sys.flow e) ≡ true =
-    sym (down-failed sys running records state s (receiver sys.flow e)) ∙ ap (λ f. is_down running (receiver f e)) (sym s.flow) ∙ k in
+    sym (down-failed sys running records state s (receiver sys.flow e)) ∙ ap (λ f. is_down running (receiver f e)) (sym s.apart.flow) ∙ k in
     idle-follows sys running records state (Deliver e at) s ((failed-idle sys state (receiver sys.flow e) here).1 e at refl)
 
 -- what the machine delivers next is what the queue has next
@@ -89,7 +89,7 @@ next-is : (sys : System) (running : Running) (records : Option Records) (state :
     → Stands sys running records state → length running.parts.queues ≡ length running.flow.edges
     → next_queued running.flow e at (queue_at running e) ≡ m → next_queued sys.flow e at (queued sys state e) ≡ m
 next-is sys running records state e at m s each k =
-    ap (λ f. next_queued f e at (queued sys state e)) (sym s.flow)
+    ap (λ f. next_queued f e at (queued sys state e)) (sym s.apart.flow)
     ∙ ap (next_queued running.flow e at) (sym (queue-is sys running records state s each e)) ∙ k
 
 -- where the queue has none, nothing is delivered
@@ -98,7 +98,7 @@ pub none-delivers : (sys : System) (running : Running) (records : Option Records
     → next_queued running.flow e at (queue_at running e) ≡ None → Follows sys state (Deliver e at) idle running records
 none-delivers sys running records state e at s each k =
     idle-follows sys running records state (Deliver e at) s
-    (subst (IsDeliveryOf sys state e at) (next-is sys running records state e at None s each k) (deliveries-take_next sys state s.well_formed s.reached e at))
+    (subst (IsDeliveryOf sys state e at) (next-is sys running records state e at None s each k) (deliveries-take_next sys state s.apart.well_formed s.apart.reached e at))
 
 -- what the queue has next may be delivered
 pub next-enabled : (sys : System) (running : Running) (records : Option Records) (state : Machine) (e : ℕ) (at : Option Stamp) (m : Message)
@@ -106,7 +106,7 @@ pub next-enabled : (sys : System) (running : Running) (records : Option Records)
     → next_queued running.flow e at (queue_at running e) ≡ Some m → is_failed state (receiver sys.flow e) ≡ false
     → IsEnabled sys (events state.history) (Delivered e m)
 next-enabled sys running records state e at m s each k live =
-    ((queues-have_next sys state s.well_formed s.reached e at m live).1 (next-is sys running records state e at (Some m) s each k)).enabled
+    ((queues-have_next sys state s.apart.well_formed s.apart.reached e at m live).1 (next-is sys running records state e at (Some m) s each k)).enabled
 
 -- a node that a delivery comes to has a table, unless it is an output
 pub receiver-has_table : (sys : System) (running : Running) (records : Option Records) (state : Machine) (e : ℕ) (m : Message)
@@ -114,9 +114,9 @@ pub receiver-has_table : (sys : System) (running : Running) (records : Option Re
     → is_output_kind (kind_of sys.flow (receiver sys.flow e)) ≡ false → table_of running (receiver sys.flow e) ≢ None
 receiver-has_table sys running records state e m s k live no_output none =
     let p = receiver sys.flow e in
-    let can = deliveries-can_be_taken_in sys state s.well_formed s.reached e m k in
+    let can = deliveries-can_be_taken_in sys state s.apart.well_formed s.apart.reached e m k in
     let there : is_some (table_of running p) ≡ true =
-    (s.tables p can.declared).there ∙ ap (λ b. not (b || (is_output_kind (kind_of sys.flow p) || is_failed state p))) can.no_input
+    (s.apart.tables p can.declared).there ∙ ap (λ b. not (b || (is_output_kind (kind_of sys.flow p) || is_failed state p))) can.no_input
     ∙ ap (λ b. not (b || is_failed state p)) no_output ∙ ap not live in
     false≢true (sym (ap is_some none) ∙ there)
 
@@ -125,7 +125,7 @@ delivery-leads : (sys : System) (state : Machine) (e : ℕ) (at : Option Stamp) 
     → Stands sys old before state → length old.parts.queues ≡ length old.flow.edges → next_queued old.flow e at (queue_at old e) ≡ Some m
     → LeadsTo sys state (Deliver e at) (with_event sys state (Delivered e m)) silent
 delivery-leads sys state e at m old before s each k =
-    subst (IsDeliveryOf sys state e at) (next-is sys old before state e at (Some m) s each k) (deliveries-take_next sys state s.well_formed s.reached e at)
+    subst (IsDeliveryOf sys state e at) (next-is sys old before state e at (Some m) s each k) (deliveries-take_next sys state s.apart.well_formed s.apart.reached e at)
 
 -- where it is found, the step is enabled
 pub found-enabled : (sys : System) (state : Machine) (e : ℕ) (asked : Option Stamp) (n : Next) (old : Running) (before : Option Records)
@@ -144,11 +144,11 @@ pub delivery-follows : (sys : System) (state : Machine) (e : ℕ) (at : Option S
     → Follows sys state (Deliver e at) (did silent) new after
 delivery-follows sys state e at m old new before after s each live k taken logs =
     let alive : is_failed state (receiver sys.flow e) ≡ false =
-    sym (down-failed sys old before state s (receiver sys.flow e)) ∙ ap (λ f. is_down old (receiver f e)) (sym s.flow) ∙ live in
+    sym (down-failed sys old before state s (receiver sys.flow e)) ∙ ap (λ f. is_down old (receiver f e)) (sym s.apart.flow) ∙ live in
     let v = Delivered e m in
     let enabled = next-enabled sys old before state e at m s each k alive in
     let steps = delivery-leads sys state e at m old before s each k in
-    let logs_it = subst (λ f. LogsEvent f (receiver f e) (logged.Deliver e m.at m.rec) old.parts.keep.entries new.parts.keep.entries before after) s.flow logs in
+    let logs_it = subst (λ f. LogsEvent f (receiver f e) (logged.Deliver e m.at m.rec) old.parts.keep.entries new.parts.keep.entries before after) s.apart.flow logs in
     record {
       next = with_event sys state v;
       steps = steps;
@@ -171,15 +171,15 @@ delivery-done sys state e p asked n old mid new before after s shaped to live so
     let each = shaped.one_each.parts.queues in
     let down : is_down old (receiver old.flow e) ≡ false = ap (is_down old) (sym to) ∙ live in
     let alive : is_failed state (receiver sys.flow e) ≡ false =
-    sym (down-failed sys old before state s (receiver sys.flow e)) ∙ ap (λ f. is_down old (receiver f e)) (sym s.flow) ∙ down in
+    sym (down-failed sys old before state s (receiver sys.flow e)) ∙ ap (λ f. is_down old (receiver f e)) (sym s.apart.flow) ∙ down in
     let enabled = next-enabled sys old before state e asked m s each next.next alive in
-    let here : p ≡ receiver sys.flow e = to ∙ ap (λ f. receiver f e) s.flow in
+    let here : p ≡ receiver sys.flow e = to ∙ ap (λ f. receiver f e) s.apart.flow in
     let found : find (λ (x : Message). is_asked (Some n.at) x.at) (queue_at mid e) ≡ Some m =
     ap (λ (r : Running). find (λ (x : Message). is_asked (Some n.at) x.at) (queue_at r e)) c
     ∙ ap (λ t. find (λ (x : Message). is_asked (Some t) x.at) (queue_at old e)) (sym next.at_is) ∙ next-first old e asked m next.next in
     let table : is_output_kind (kind_of mid.flow p) ≡ false → table_of mid p ≢ None = λ kind none.
     receiver-has_table sys old before state e m s enabled alive
-    (ap (λ q. is_output_kind (kind_of sys.flow q)) (sym here) ∙ ap (λ f. is_output_kind (kind_of f p)) (sym s.flow)
+    (ap (λ q. is_output_kind (kind_of sys.flow q)) (sym here) ∙ ap (λ f. is_output_kind (kind_of f p)) (sym s.apart.flow)
     ∙ sym (ap (λ (r : Running). is_output_kind (kind_of r.flow p)) c) ∙ kind)
     (ap (table_of old) (sym here) ∙ sym (ap (λ (r : Running). table_of r p) c) ∙ none) in
     let taken = takes m next.at_is next.rec_is found (ap (λ (r : Running). is_down r p) c ∙ live) table in

@@ -175,12 +175,12 @@ failed-injects_none sys running records state s st k =
 pub other-injects_none : (sys : System) (running : Running) (records : Option Records) (state : Machine) (s : ℕ)
     → Stands sys running records state → is_input_kind (kind_of running.flow s) ≡ false → Follows sys state (Inject s) idle running records
 other-injects_none sys running records state s st k =
-    let no_input : is_input_kind (kind_of sys.flow s) ≡ false = ap (λ f. is_input_kind (kind_of f s)) (sym st.flow) ∙ k in
+    let no_input : is_input_kind (kind_of sys.flow s) ≡ false = ap (λ f. is_input_kind (kind_of f s)) (sym st.apart.flow) ∙ k in
     idle-follows sys running records state (Inject s) st ((λ other effect t. false≢true (sym no_input ∙ (t.1).input)), refl)
 
 declared : (sys : System) (running : Running) (records : Option Records) (state : Machine) (s : ℕ)
     → Stands sys running records state → is_input_kind (kind_of running.flow s) ≡ true → s < length sys.flow.nodes
-declared sys running records state s st k = kind-declared sys.flow s is_input_kind (ap (λ f. is_input_kind (kind_of f s)) (sym st.flow) ∙ k) refl
+declared sys running records state s st k = kind-declared sys.flow s is_input_kind (ap (λ f. is_input_kind (kind_of f s)) (sym st.apart.flow) ∙ k) refl
 
 alive-is : (sys : System) (running : Running) (records : Option Records) (state : Machine) (s : ℕ)
     → Stands sys running records state → is_down running s ≡ false → is_failed state s ≡ false
@@ -191,12 +191,12 @@ pub none-injects : (sys : System) (running : Running) (records : Option Records)
     → Stands sys running records state → is_down running s ≡ false → is_input_kind (kind_of running.flow s) ≡ true
     → ((source_of running s).given ≤ 2 ^ 20 → next_batch (source_of running s) ≡ None) → Follows sys state (Inject s) idle running records
 none-injects sys running records state s st live input found =
-    let w = st.well_formed in
-    let of = st.sources s (declared sys running records state s st input) in
+    let w = st.apart.well_formed in
+    let of = st.apart.sources s (declared sys running records state s st input) in
     let none = found (subst (λ n. n ≤ 2 ^ 20) (sym of.given) (w.few s)) in
     idle-follows sys running records state (Inject s) st
     (subst (IsInjectionOf sys state s (source_of running s).injected) none
-    (sources-have_next sys state w st.reached s (alive-is sys running records state s st live) (source_of running s) of))
+    (sources-have_next sys state w st.apart.reached s (alive-is sys running records state s st live) (source_of running s) of))
 
 -- an engine that injects what is next follows the machine
 pub injection-follows : (sys : System) (state : Machine) (s x : ℕ) (batch : List Rec) (old new : Running) (before after : Option Records)
@@ -204,11 +204,11 @@ pub injection-follows : (sys : System) (state : Machine) (s x : ℕ) (batch : Li
     → next_batch (source_of old s) ≡ Some batch → (source_of old s).injected ≡ x → TakesEvent (Injected s x) old new
     → IsNotAsked old.parts.keep.entries new.parts.keep.entries before after → Follows sys state (Inject s) (did silent) new after
 injection-follows sys state s x batch old new before after st live input next injected taken none =
-    let w = st.well_formed in
+    let w = st.apart.well_formed in
     let alive = alive-is sys old before state s st live in
-    let of = st.sources s (declared sys old before state s st input) in
+    let of = st.apart.sources s (declared sys old before state s st input) in
     let found : IsInjectionOf sys state s (source_of old s).injected (Some batch) =
-    subst (IsInjectionOf sys state s (source_of old s).injected) next (sources-have_next sys state w st.reached s alive (source_of old s) of) in
+    subst (IsInjectionOf sys state s (source_of old s).injected) next (sources-have_next sys state w st.apart.reached s alive (source_of old s) of) in
     let enabled : IsEnabled sys (events state.history) (Injected s x) = subst (λ n. IsEnabled sys (events state.history) (Injected s n)) injected found.0 in
     let steps : StepsTo sys state (Inject s) (with_event sys state (Injected s x)) (did silent) =
     subst (λ n. StepsTo sys state (Inject s) (with_event sys state (Injected s n)) (did silent)) injected found.2 in

@@ -117,8 +117,8 @@ pub other_kinds_idle : (sys : System) (running : Running) (records : Option Reco
 other_kinds_idle sys running records state p at s k =
     idle-follows sys running records state (Notify p at) s (
       (λ other effect leads.
-          let can = notices-can_be_taken sys state s.well_formed s.reached p leads.0 leads.1.enabled in
-          false≢true (sym k ∙ ap (λ f. is_notified_kind (kind_of f p)) s.flow ∙ can.notified)),
+          let can = notices-can_be_taken sys state s.apart.well_formed s.apart.reached p leads.0 leads.1.enabled in
+          false≢true (sym k ∙ ap (λ f. is_notified_kind (kind_of f p)) s.apart.flow ∙ can.notified)),
       refl,
     )
 
@@ -128,20 +128,20 @@ pub none_notified : (sys : System) (old new : Running) (records : Option Records
     → Follows sys state (Notify p at) idle new records
 none_notified sys old new records state p at s up none =
     idle-follows sys new records state (Notify p at) (brought_up_stands sys state old new records s up)
-    ((λ other effect leads. none sys (events state.history) (sym s.flow) s.progress leads.0 leads.1), refl)
+    ((λ other effect leads. none sys (events state.history) (sym s.apart.flow) s.apart.progress leads.0 leads.1), refl)
 
 -- the one that is found may come next
 pub found_enabled : (sys : System) (old : Running) (records : Option Records) (state : Machine) (p : ℕ) (at : Option Stamp) (t : Stamp)
     → Stands sys old records state → FindsNotice old.flow old.progress p at (Some t) → IsNextNotice sys (events state.history) p at t
-found_enabled sys old records state p at t s found = found sys (events state.history) (sym s.flow) s.progress
+found_enabled sys old records state p at t s found = found sys (events state.history) (sym s.apart.flow) s.apart.progress
 
 -- a node that may be notified has a table
 pub notified_has_table : (sys : System) (running : Running) (records : Option Records) (state : Machine) (p : ℕ) (t : Stamp)
     → Stands sys running records state → is_failed state p ≡ false → IsEnabled sys (events state.history) (Notified p t) → table_of running p ≢ None
 notified_has_table sys running records state p t s live k none =
-    let can = notices-can_be_taken sys state s.well_formed s.reached p t k in
+    let can = notices-can_be_taken sys state s.apart.well_formed s.apart.reached p t k in
     let there : is_some (table_of running p) ≡ true =
-    (s.tables p can.declared).there ∙ ap (λ b. not (b || (is_output_kind (kind_of sys.flow p) || is_failed state p))) can.no_input
+    (s.apart.tables p can.declared).there ∙ ap (λ b. not (b || (is_output_kind (kind_of sys.flow p) || is_failed state p))) can.no_input
     ∙ ap (λ b. not (b || is_failed state p)) can.no_output ∙ ap not live in
     false≢true (sym (ap is_some none) ∙ there)
 
@@ -154,7 +154,7 @@ pub notice_stands : (sys : System) (state : Machine) (p : ℕ) (t : Stamp) (old 
 notice_stands sys state p t old new before after s live enabled taken logs =
     let v = Notified p t in
     let steps : LeadsTo sys state (Notify p (Some t)) (with_event sys state v) silent = (t, this_next sys (events state.history) p t enabled, live, refl, refl) in
-    let logs_it = subst (λ f. LogsEvent f p (logged.Notify t) old.parts.keep.entries new.parts.keep.entries before after) s.flow logs in
+    let logs_it = subst (λ f. LogsEvent f p (logged.Notify t) old.parts.keep.entries new.parts.keep.entries before after) s.apart.flow logs in
     events_are_followed sys state v old new before after (Notify p (Some t)) silent s enabled live steps taken
     (logged_events_are_followed sys state v old new before after (Notify p (Some t)) silent s enabled steps (logged.Notify t) refl logs_it)
   where
@@ -190,7 +190,7 @@ notice-leaves T sys old new before after state p t fault.NoMemory s c n u = tt
 -- what a notification answers at a fault the step answers, where it is enabled
 pub fault-answers : (T : Type 0) (sys : System) (state : Machine) (p : ℕ) (t : Stamp) (at : Option Stamp) (e : EngineFault) (old new : Running) (before after : Option Records)
     → Stands sys old before state → is_down old p ≡ false → FindsNotice old.flow old.progress p at (Some t)
-    → AnswersNotice {T = T} sys state p t (Err e) new after → Answers sys state (Notify p at) (Err e) before new after
+    → AnswersNotice {T = T} sys state p t (Err e) new after → Answers sys state (Notify p at) (Err e) new after
 fault-answers T sys state p t at fault.StoreFault old new before after s live found a =
     ((with_event sys state (Notified p t), silent, notice-leads sys state p at t old before s live found), a)
 fault-answers T sys state p t at (fault.Damaged id) old new before after s live found a = absurd a

@@ -174,7 +174,7 @@ restoring_applies =
     record {
       stay_true = λ law. law totals formed total.steps_to_failure total.outcomes_to_failure output_failed reached Recover come_back (did (cuts two_epochs_kept)) recovery_is_reached.step;
       as_asked = λ law. law totals formed total.steps_to_failure total.outcomes_to_failure output_failed reached;
-      ascend = λ law. law totals formed total.steps_to_failure total.outcomes_to_failure output_failed reached [] (drop 1 output_failed.writes) (record { node = 1; written = checkpoint (until 1) (alike 0); stage = collected }) refl (lit< tt) (until 1) (alike 0) refl;
+      ascend = λ law. law totals formed total.steps_to_failure total.outcomes_to_failure output_failed reached [] (drop 1 output_failed.writes) (record { node = 1; written = checkpoint (until 1) (alike 0); base = None; depth = 0; stage = collected }) refl (lit< tt) (until 1) (alike 0) refl;
       nothing_inside = λ law. law totals formed total.steps_to_failure total.outcomes_to_failure output_failed reached;
       at_cut = λ law. law totals formed total.steps_to_failure total.outcomes_to_failure output_failed reached (is_failed output_failed) two_epochs_kept largest 1 (until 2) refl refl (λ e. absurd (cc));
       watermarks = λ law. law totals formed total.steps_to_failure total.outcomes_to_failure output_failed reached;
@@ -332,8 +332,9 @@ writes_apply =
     let formed = totals_are_well_formed.well_formed in
     let reached = failure_is_reached.reached in
     record {
-      differ = λ law. law totals formed steps_to_failure outcomes_to_failure output_failed reached [] (drop 1 output_failed.writes) (record { node = 1; written = checkpoint (until 1) (alike 0); stage = collected }) refl (until 1) (alike 0) refl;
+      differ = λ law. law totals formed steps_to_failure outcomes_to_failure output_failed reached [] (drop 1 output_failed.writes) (record { node = 1; written = checkpoint (until 1) (alike 0); base = None; depth = 0; stage = collected }) refl (until 1) (alike 0) refl;
       have_stamps = λ law. law totals formed steps_to_failure outcomes_to_failure output_failed reached;
+      chained = λ law. law totals formed steps_to_failure outcomes_to_failure output_failed reached 1 (lit< tt);
       newest = λ law. law totals formed steps_to_failure outcomes_to_failure output_failed reached 1 (until 0);
       in_order = λ law. law events_logged events_system steps_with_events outcomes_with_events event_collected collects_a_logged_event.reached;
       each_logged = λ law. law total_logged total_system steps_with_total outcomes_with_total none_collected keeps_events_of_a_total.reached 1 refl refl;

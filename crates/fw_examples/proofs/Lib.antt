@@ -4,6 +4,7 @@ pub mod AtRest
 pub mod Choosing
 pub mod Collected
 pub mod Declared
+pub mod Floors
 pub mod Fronts
 pub mod Generated
 pub mod Headline

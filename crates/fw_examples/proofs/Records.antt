@@ -3,12 +3,14 @@ use Rattle.std.proofs.Common.{[], lit<, refl, ℕ, ◌<◌, ◌^◌, ◌∷◌}
 use Rattle.fw_frontier.specs.Front.{IsCanonical}
 use Rattle.fw_flow.specs.Dataflow.{bounds_of, in_edges, kind_of, loops_of, max_of, declared_parent, out_edges, parent_of, policy_of, receiver}
 use Rattle.fw_model.specs.Choice.{until}
-use Rattle.fw_record.specs.Fields.{coords_of, stamp_field}
+use Rattle.fw_bytes.specs.Fields.{coords_of, stamp_field}
 use Rattle.fw_record.specs.OfNode.{IsCheckpointRecordOf}
 use Rattle.fw_record.specs.Reading.{delivery_of, read_event, event_record_of, key_and_value_of, read_whole_record, tag_of, whole_of}
-use Rattle.fw_record.specs.Sound.{IsCheckpoint, IsFront, IsLoggedMessage, IsSound, IsStamp}
+use Rattle.fw_bytes.specs.Sound.{IsFront, IsStamp}
+use Rattle.fw_record.specs.Sound.{IsCheckpoint, IsLoggedMessage, IsSound}
 use Rattle.fw_record.specs.declared.record.Record.TheVariants.{State}
-use Rattle.fw_record.proofs.FrontLaws.{fronts_canonical, sound_of_canonical}
+use Rattle.fw_bytes.proofs.FrontLaws.{sound_of_canonical}
+use Rattle.fw_record.proofs.FrontLaws.{fronts_canonical}
 use Rattle.fw_record.proofs.RecordLaws.{whole_again}
 use Rattle.fw_examples.specs.Flows.{loop_counts_up}
 use Rattle.fw_examples.specs.Loop.{counted_rounds, round}

@@ -13,12 +13,13 @@ use Rattle.fw_flow.specs.declared.choice.Choice.{Choice}
 use Rattle.fw_flow.specs.declared.choice.Cut.{Cut}
 use Rattle.fw_flow.specs.declared.choice.Cut.TheVariants.{At, Present}
 use Rattle.fw_model.specs.Choice.{IsCutWithin, cut_of, until}
-use Rattle.fw_model.specs.Offers.{IsOffered, IsOfferedFront, offered_by, stamps_on_from}
+use Rattle.fw_model.specs.Offers.{IsOffered, IsOfferedFront, offered_by, stamps_on_from, covers_of}
 use Rattle.fw_model.proofs.OfferLaws.{consistent-same}
-use Rattle.fw_monitor.specs.Descent.{HasConsistent, IsGreatest, choice_of}
-use Rattle.fw_monitor.specs.Inclusions.{Holds, inclusions, inclusions_to}
-use Rattle.fw_monitor.specs.Trail.{IsLoweredBy, IsStart, IsTrail, IsValueLeft}
-use Rattle.fw_monitor.proofs.FrontLaws.{all_is_everything}
+use Rattle.fw_model.specs.Lowerings.{choice_of, IsLoweredBy, IsValueLeft}
+use Rattle.fw_monitor.specs.Descent.{HasConsistent, IsGreatest}
+use Rattle.fw_model.specs.Inclusions.{Holds, inclusions, inclusions_to}
+use Rattle.fw_monitor.specs.Trail.{IsStart, IsTrail}
+use Rattle.fw_offers.proofs.FrontLaws.{all_is_everything}
 use Rattle.fw_examples.specs.OffersOfTotals.{alone_at, offers_of_totals}
 use Rattle.fw_examples.specs.RunningTotal.{total_flow, two_epochs_kept, two_kept_noting}
 use Rattle.fw_examples.specs.Trails.{TrailLeadsToLargest, trail_of_totals}
@@ -108,7 +109,7 @@ nth zero (x ∷ xs) l = x
 nth (suc n) (x ∷ xs) l = nth n xs (omega arith)
 
 -- the running total sent epoch 2 to the output, which keeps two epochs; its one checkpoint is of these
-run_lowered : IsLoweredBy total_flow offers_of_totals all_offered (record { node = 1; part = part.Cut; to = At (until 2); by = cause.Discarded 1 }) run_cut
+run_lowered : IsLoweredBy total_flow (covers_of total_flow offers_of_totals) (IsOffered total_flow offers_of_totals) all_offered (record { node = 1; part = part.Cut; to = At (until 2); by = cause.Discarded 1 }) run_cut
 unfolding kind_of policy_of bounds_of receiver sender in_edges out_edges inclusions_to phi_by_count
 run_lowered = record {
   inclusion = nth 4 (inclusions total_flow) (lit< tt);
@@ -130,7 +131,7 @@ run_lowered = record {
   with_it = refl;
 }
   where
-    below : (y : Cut) → IsValueLeft total_flow offers_of_totals all_offered (nth 4 (inclusions total_flow) (lit< tt)) y → IsCutWithin total_flow 1 y (At (until 2))
+    below : (y : Cut) → IsValueLeft total_flow (covers_of total_flow offers_of_totals) (IsOffered total_flow offers_of_totals) all_offered (nth 4 (inclusions total_flow) (lit< tt)) y → IsCutWithin total_flow 1 y (At (until 2))
     below Present is = absurd (beyond _ refl is.meets)
     below (At f) is = at is.offered.1
       where
@@ -139,7 +140,7 @@ run_lowered = record {
         at (inr e) = absurd e
 
 -- the input sent epoch 2 to the running total
-src_lowered : IsLoweredBy total_flow offers_of_totals run_cut (record { node = 0; part = part.Cut; to = At (until 2); by = cause.Discarded 0 }) both_cut
+src_lowered : IsLoweredBy total_flow (covers_of total_flow offers_of_totals) (IsOffered total_flow offers_of_totals) run_cut (record { node = 0; part = part.Cut; to = At (until 2); by = cause.Discarded 0 }) both_cut
 unfolding kind_of policy_of bounds_of receiver sender in_edges out_edges inclusions_to batches_of
 src_lowered = record {
   inclusion = nth 0 (inclusions total_flow) (lit< tt);
@@ -156,14 +157,14 @@ src_lowered = record {
   with_it = refl;
 }
   where
-    below : (y : Cut) → IsValueLeft total_flow offers_of_totals run_cut (nth 0 (inclusions total_flow) (lit< tt)) y → IsCutWithin total_flow 0 y (At (until 2))
+    below : (y : Cut) → IsValueLeft total_flow (covers_of total_flow offers_of_totals) (IsOffered total_flow offers_of_totals) run_cut (nth 0 (inclusions total_flow) (lit< tt)) y → IsCutWithin total_flow 0 y (At (until 2))
     below Present is = absurd (beyond _ refl is.meets)
     below (At f) is =
         within_outside epochs (frontier_of epochs f) (until 2) (frontier-closed epochs f) refl
         ((λ i. false≢true (is.meets (2 ∷ []) (and_from _ _ refl (sends_two (frontier_of epochs f) i)))), tt)
 
 -- notices lie in what is kept
-src_noted : IsLoweredBy total_flow offers_of_totals both_cut (record { node = 0; part = part.Note; to = At (until 2); by = cause.Own }) src_told
+src_noted : IsLoweredBy total_flow (covers_of total_flow offers_of_totals) (IsOffered total_flow offers_of_totals) both_cut (record { node = 0; part = part.Note; to = At (until 2); by = cause.Own }) src_told
 unfolding kind_of policy_of bounds_of receiver sender in_edges out_edges inclusions_to batches_of
 src_noted = record {
   inclusion = nth 2 (inclusions total_flow) (lit< tt);
@@ -185,11 +186,11 @@ src_noted = record {
   with_it = refl;
 }
   where
-    below : (y : Cut) → IsValueLeft total_flow offers_of_totals both_cut (nth 2 (inclusions total_flow) (lit< tt)) y → IsCutWithin total_flow 0 y (At (until 2))
+    below : (y : Cut) → IsValueLeft total_flow (covers_of total_flow offers_of_totals) (IsOffered total_flow offers_of_totals) both_cut (nth 2 (inclusions total_flow) (lit< tt)) y → IsCutWithin total_flow 0 y (At (until 2))
     below Present is = absurd is
     below (At f) is = is.meets
 
-run_noted : IsLoweredBy total_flow offers_of_totals src_told (record { node = 1; part = part.Note; to = At (until 2); by = cause.Own }) two_epochs_kept
+run_noted : IsLoweredBy total_flow (covers_of total_flow offers_of_totals) (IsOffered total_flow offers_of_totals) src_told (record { node = 1; part = part.Note; to = At (until 2); by = cause.Own }) two_epochs_kept
 unfolding kind_of policy_of bounds_of receiver sender in_edges out_edges inclusions_to batches_of phi_by_count
 run_noted = record {
   inclusion = nth 6 (inclusions total_flow) (lit< tt);
@@ -214,14 +215,14 @@ run_noted = record {
   with_it = refl;
 }
   where
-    below : (y : Cut) → IsValueLeft total_flow offers_of_totals src_told (nth 6 (inclusions total_flow) (lit< tt)) y → IsCutWithin total_flow 1 y (At (until 2))
+    below : (y : Cut) → IsValueLeft total_flow (covers_of total_flow offers_of_totals) (IsOffered total_flow offers_of_totals) src_told (nth 6 (inclusions total_flow) (lit< tt)) y → IsCutWithin total_flow 1 y (At (until 2))
     below Present is = absurd is
     below (At f) is = is.meets
 
 -- ---- the whole
 
 -- at the choice of the recovery nothing fails
-all_hold : AllByRecursion (Holds total_flow offers_of_totals two_epochs_kept) (inclusions total_flow)
+all_hold : AllByRecursion (Holds total_flow (covers_of total_flow offers_of_totals) two_epochs_kept) (inclusions total_flow)
 unfolding kind_of policy_of bounds_of receiver sender in_edges out_edges inclusions_to batches_of phi_by_count
 all_hold = (
   one_is_kept,

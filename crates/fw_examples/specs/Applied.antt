@@ -1,6 +1,6 @@
 -- What the laws say of their witnesses: each field is a law, asked of the state, history, choice or frontier that meets what it asks.
 use Rattle.std.specs.List.{AllByRecursion}
-use Rattle.std.specs.Prelude.{Bool, List, [], false, true, ℕ, ◌&&◌, ◌++◌, ◌==◌, ◌∷◌, ◌≡◌, ◌≢◌, ◌≤◌, drop, filter, length, map, ◌↔◌, Some, zero, suc, ◌<◌, ◌⊎◌}
+use Rattle.std.specs.Prelude.{Bool, List, [], false, true, ℕ, ◌&&◌, ◌++◌, ◌==◌, ◌∷◌, ◌≡◌, ◌≢◌, ◌≤◌, drop, filter, length, map, ◌↔◌, Some, None, zero, suc, ◌<◌, ◌⊎◌}
 use Rattle.fw_bag.specs.Bag.{how_often}
 use Rattle.fw_bag.specs.Keyed.{sorted_recs}
 use Rattle.fw_bag.specs.declared.rec.Rec.{Rec}
@@ -37,7 +37,7 @@ use Rattle.fw_model.specs.Order.{AreNumberedInOrder, IsNotifiedInOrder}
 use Rattle.fw_model.specs.Sending.{ComesFromInside, FollowsHistory, IsSentFrom, SendsAbove, SendsByStamp, SendsWithin}
 use Rattle.fw_model.specs.Settled.{IsDenotedInside, IsFull}
 use Rattle.fw_model.specs.SortedMessages.{sorted_messages, with_messages}
-use Rattle.fw_model.specs.Steps.{Effect, GrowsTo, IsTheNext, Outcome, Run, StepsTo, cuts, did, front_of_cut, is_in_flight, lies_below, newest_checkpoint}
+use Rattle.fw_model.specs.Steps.{Effect, GrowsTo, IsTheNext, Outcome, Run, StepsTo, cuts, did, front_of_cut, is_in_flight, newest_checkpoint, is_forgotten}
 use Rattle.fw_model.specs.Thinned.{ThinnedStampsCoverTheSame}
 use Rattle.fw_model.specs.Unions.{IsUnionOfChoices, IsUnion}
 use Rattle.fw_examples.specs.Flows.{loop_counts_up, pair, regroup_by_three, two_batches, out, src, big, big_to_out, numbered_both, numbers, numbered_epoch, src_to_big, value_at}
@@ -51,6 +51,8 @@ use Rattle.fw_flow.specs.WholeBags.{Timed, in_order, outputs_of, timed_where}
 use Rattle.fw_flow.specs.declared.kind.Kind.TheVariants.{Sequence}
 use Rattle.fw_model.specs.Measure.{Measure, enough_rounds}
 use Rattle.fw_model.specs.LawsOfAuto as auto
+use Rattle.fw_model.specs.LawsOfChains as chains
+use Rattle.fw_model.specs.LawsOfChains.{IsChain, links_of}
 use Rattle.fw_model.specs.LawsOfCheckpointFronts as fronts
 use Rattle.fw_model.specs.LawsOfChoices as choices
 use Rattle.fw_model.specs.LawsOfChoosing as choosing
@@ -233,11 +235,11 @@ pub record RestoringApplies : Type 0 where
   pub batch_to_come : restoring.BatchesToComeLieOutsideLow
       → node_frontier total_flow src (front_of output_failed.low src) (4 ∷ []) ≡ false
   pub collected_below : restoring.CollectedIsWhatLiesBelow
-      → AllByRecursion (λ (write : Write). (write.stage ≡ collected) ↔ (lies_below totals output_failed.low output_failed.history write.node write.written ≡ true)) output_failed.writes
+      → AllByRecursion (λ (write : Write). (write.stage ≡ collected) ↔ (is_forgotten totals output_failed.low output_failed.history output_failed.writes write ≡ true)) output_failed.writes
   pub before : Machine
   pub two_asked : length before.writes ≡ 2
   pub forgotten : restoring.WhatIsForgottenWasAcknowledged
-      → AllByRecursion (λ (write : Write). lies_below totals (map front_of_cut two_epochs_kept.cuts) before.history write.node write.written ≡ true
+      → AllByRecursion (λ (write : Write). is_forgotten totals (map front_of_cut two_epochs_kept.cuts) before.history before.writes write ≡ true
       → is_in_flight write.stage ≡ false) before.writes
 
 -- the laws of restoring, of a select that writes each event, when it fails with one of its two events collected, and of a running
@@ -251,7 +253,7 @@ pub record CollectionRestored : Type 0 where
   pub never_of_total : restoring.EventsThatMustBeKeptAreNeverCollected
       → AllByRecursion (MayKeepNothingIfCollected total_logged) none_collected.writes
   pub collected_below : restoring.CollectedIsWhatLiesBelow
-      → AllByRecursion (λ (write : Write). (write.stage ≡ collected) ↔ (lies_below events_logged event_collected.low event_collected.history write.node write.written ≡ true)) event_collected.writes
+      → AllByRecursion (λ (write : Write). (write.stage ≡ collected) ↔ (is_forgotten events_logged event_collected.low event_collected.history event_collected.writes write ≡ true)) event_collected.writes
 
 -- The laws of restoring, of logs from which something is sent again: in the loop, where nothing was collected, by the node
 -- where rounds meet to the node that counts up; and after a collection by a select to the output, from the log of each of its
@@ -370,6 +372,7 @@ pub record WritesApply : Type 0 where
       → AllByRecursion (λ (other : Write). (g : Front) (also : List Front) → other.node ≡ total_node → other.written ≡ checkpoint g also → g ≢ until 1) (drop 1 output_failed.writes)
   pub have_stamps : fronts.CheckpointsHaveStamps
       → AllByRecursion (λ (write : Write). (f : Front) (low : List Front) → write.written ≡ checkpoint f low → f ≢ no_stamps (bounds_of total_flow write.node)) output_failed.writes
+  pub chained : chains.EachStandsOnTheOneBefore → IsChain None (links_of total_node output_failed.writes)
   pub newest : writes.NewestCheckpointIsKept
       → newest_checkpoint total_node (until 0) output_failed.writes ≡ newest_checkpoint total_node (until 0) (filter not_collected output_failed.writes)
   pub in_order : writes.LoggedEventsAreInOrder → AreLoggedInOrder events_logged event_collected

@@ -1,6 +1,6 @@
 -- What the laws of collections say of whatever is planned in two states: of a select that logged two events, and of the running total
 -- with two checkpoints. That something is planned, whatever the flow, the choice and the entries, is the clause of `fw_collect::plan`.
-use Rattle.std.specs.Prelude.{List, [], false, not, true, ℕ, filter, ◌∷◌, ◌≡◌}
+use Rattle.std.specs.Prelude.{List, [], false, not, true, ℕ, filter, ◌∷◌, ◌≡◌, None}
 use Rattle.std.specs.List.{AllByRecursion, AllZip}
 use Rattle.fw_bag.specs.declared.rec.Rec.{Rec}
 use Rattle.fw_time.specs.Stamp.{in_domain}
@@ -32,7 +32,7 @@ use Rattle.fw_examples.specs.RunningTotal.{alike, come_back, total_node, total_f
 
 -- the entry of a rec that came to the select at an epoch
 abbrev pub entry_logged : ℕ → ℕ → Rec → Entry
-entry_logged id x rec = record { id = id; node = big; written = written.Event (LoggedDelivery 0 (x ∷ []) rec); acknowledged = true }
+entry_logged id x rec = record { id = id; node = big; written = written.Event (LoggedDelivery 0 (x ∷ []) rec); base = None; depth = 0; acknowledged = true }
 
 -- of epoch 0
 abbrev pub first_logged : Entry
@@ -49,8 +49,8 @@ both_logged = first_logged ∷ second_logged ∷ []
 -- the machine's writes before the collection
 abbrev pub both_written : List Write
 both_written =
-    record { node = big; written = logged_event 1; stage = acknowledged }
-    ∷ record { node = big; written = logged_event 4; stage = acknowledged }
+    record { node = big; written = logged_event 1; base = None; depth = 0; stage = acknowledged }
+    ∷ record { node = big; written = logged_event 4; base = None; depth = 0; stage = acknowledged }
     ∷ []
 
 -- its history
@@ -83,7 +83,7 @@ epochs_of_output = bounds_of events_logged.flow (receiver events_logged.flow big
 
 -- what the laws ask here beside a plan
 pub record IsToCollect : Type 0 where
-  pub entries : AllZip (GoesWith events_logged history_then all_but_the_last) both_logged both_written
+  pub entries : AllZip (GoesWith events_logged history_then all_but_the_last both_written) both_logged both_written
   pub rises : RisesTo events_logged.flow none_collected_yet all_but_the_last
   pub resends : can_resend (policy_of events_logged.flow (sender events_logged.flow big_to_out)) ≡ true
   pub in_domain : AllByRecursion (λ (m : Message). in_domain epochs_of_output m.at ≡ true) both_sent
@@ -98,7 +98,7 @@ pub record IsCollected (drops : Drops) : Type 0 where
   pub log : DropsMessagesBelowReceivers
       → log_left drops.messages.items big_to_out log_of_both ≡ record { messages = second_message ∷ []; refused = false }
   pub batches : DropsBatchesOfInputs → source_left drops.batches.items src input_of_both ≡ record { given = 2; injected = 2; held = [] }
-  pub entries : AllZip (GoesWith events_logged history_then all_but_the_last) (filter (λ e. not (is_dropped drops e)) both_logged)
+  pub entries : AllZip (GoesWith events_logged history_then all_but_the_last both_written) (filter (λ e. not (is_dropped drops e)) both_logged)
       (filter not_collected event_collected.writes)
   pub log_holds : LogsHoldWhatIsOutside → (log_left drops.messages.items big_to_out log_of_both).messages ≡ second_message ∷ []
   pub input_holds : InputsHoldWhatIsOutside → (source_left drops.batches.items src input_of_both).held ≡ []
@@ -116,6 +116,8 @@ kept_checkpoint id what =
       id = id;
       node = total_node;
       written = written.Checkpoint what (record { delivered = []; notified = []; sent = [] }) 0;
+      base = None;
+      depth = 0;
       acknowledged = true;
     }
 
@@ -126,20 +128,20 @@ both_checkpoints = kept_checkpoint 0 record_of_first ∷ kept_checkpoint 1 recor
 -- the machine's writes before the collection
 abbrev pub checkpoints_written : List Write
 checkpoints_written =
-    record { node = total_node; written = checkpoint (until 1) (alike 0); stage = acknowledged }
-    ∷ record { node = total_node; written = checkpoint (until 2) (alike 0); stage = acknowledged }
+    record { node = total_node; written = checkpoint (until 1) (alike 0); base = None; depth = 0; stage = acknowledged }
+    ∷ record { node = total_node; written = checkpoint (until 2) (alike 0); base = None; depth = 0; stage = acknowledged }
     ∷ []
 
 -- Of two checkpoints the earlier one goes, which lies strictly within the watermark.
 pub record IsEarlierCollected (drops : Drops) : Type 0 where
   pub earlier_goes : DropsWhatIsGivenUp → is_dropped drops (kept_checkpoint 0 record_of_first) ≡ true
   pub later_stays : DropsWhatIsGivenUp → is_dropped drops (kept_checkpoint 1 record_of_checkpoint) ≡ false
-  pub entries : AllZip (GoesWith totals (with_serials two_epochs) (alike 2)) (filter (λ e. not (is_dropped drops e)) both_checkpoints)
+  pub entries : AllZip (GoesWith totals (with_serials two_epochs) (alike 2) checkpoints_written) (filter (λ e. not (is_dropped drops e)) both_checkpoints)
       (filter not_collected come_back.writes)
 
 -- the laws of collections, of both
 pub record CollectionsApply : Type 0 where
   pub asked : IsToCollect
-  pub entry_logged : (drops : Drops) → IsPlanned events_logged.flow all_but_the_last both_logged drops → IsCollected drops
-  pub entries : AllZip (GoesWith totals (with_serials two_epochs) (alike 2)) both_checkpoints checkpoints_written
+  pub logged : (drops : Drops) → IsPlanned events_logged.flow all_but_the_last both_logged drops → IsCollected drops
+  pub entries : AllZip (GoesWith totals (with_serials two_epochs) (alike 2) checkpoints_written) both_checkpoints checkpoints_written
   pub checkpoints : (drops : Drops) → IsPlanned total_flow (alike 2) both_checkpoints drops → IsEarlierCollected drops

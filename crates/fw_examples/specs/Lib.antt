@@ -2,6 +2,7 @@ pub mod Answers
 pub mod Applied
 pub mod AtRest
 pub mod Collected
+pub mod Floors
 pub mod Flows
 pub mod Generated
 pub mod Headline

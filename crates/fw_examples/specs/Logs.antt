@@ -119,8 +119,8 @@ events_logged = fed (selecting policy.Full) selected_batches
 abbrev pub event_collected : Machine
 event_collected =
     both_failed
-    (record { node = big; written = logged_event 1; stage = collected }
-    ∷ record { node = big; written = logged_event 4; stage = acknowledged }
+    (record { node = big; written = logged_event 1; base = None; depth = 0; stage = collected }
+    ∷ record { node = big; written = logged_event 4; base = None; depth = 0; stage = acknowledged }
     ∷ [])
     all_but_the_last
 
@@ -161,8 +161,8 @@ checkpoints_logged = fed (selecting policy.Eager) selected_batches
 abbrev pub log_kept : Machine
 log_kept =
     both_failed
-    (record { node = big; written = checkpoint (until 1) (alike 0); stage = acknowledged }
-    ∷ record { node = big; written = checkpoint [] (alike 1); stage = acknowledged }
+    (record { node = big; written = checkpoint (until 1) (alike 0); base = None; depth = 0; stage = acknowledged }
+    ∷ record { node = big; written = checkpoint [] (alike 1); base = None; depth = 0; stage = acknowledged }
     ∷ [])
     (alike 1)
 
@@ -214,8 +214,8 @@ none_collected = record {
   next = 4;
   settled = [] ∷ [] ∷ [] ∷ [];
   writes =
-      record { node = total_node; written = logged_event 1; stage = acknowledged }
-      ∷ record { node = total_node; written = logged_event 2; stage = acknowledged }
+      record { node = total_node; written = logged_event 1; base = None; depth = 0; stage = acknowledged }
+      ∷ record { node = total_node; written = logged_event 2; base = None; depth = 0; stage = acknowledged }
       ∷ [];
   failed = false ∷ false ∷ false ∷ [];
   ack_counts = 0 ∷ 0 ∷ 1 ∷ [];

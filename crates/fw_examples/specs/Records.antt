@@ -6,7 +6,8 @@ use Rattle.fw_flow.specs.Dataflow.{bounds_of}
 use Rattle.fw_model.specs.Choice.{until}
 use Rattle.fw_record.specs.OfNode.{HasCanonicalFronts, IsRecordOfCheckpoint}
 use Rattle.fw_record.specs.Reading.{whole_of}
-use Rattle.fw_record.specs.Sound.{IsFront, IsSound, IsStamp}
+use Rattle.fw_bytes.specs.Sound.{IsFront, IsStamp}
+use Rattle.fw_record.specs.Sound.{IsSound}
 use Rattle.fw_record.specs.Spelling.{spelling}
 use Rattle.fw_record.specs.declared.logged.Logged.{Logged}
 use Rattle.fw_record.specs.declared.record.Checkpoint.{Checkpoint}

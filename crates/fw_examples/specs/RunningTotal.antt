@@ -36,7 +36,7 @@ run_to_out = 1
 
 -- the running total, with a policy
 abbrev pub summing : Policy → Node
-summing keeping = node (codes "total_node") Total keeping
+summing keeping = node (codes "run") Total keeping
 
 -- the dataflow whose running total writes checkpoints when asked
 abbrev pub total_flow : Dataflow
@@ -83,9 +83,9 @@ output_failed = record {
   next = 9;
   settled = until 3 ∷ until 3 ∷ until 2 ∷ [];
   writes =
-      record { node = total_node; written = checkpoint (until 1) (alike 0); stage = collected }
-      ∷ record { node = total_node; written = checkpoint (until 2) (alike 0); stage = acknowledged }
-      ∷ record { node = total_node; written = checkpoint (until 3) (alike 2); stage = in_flight }
+      record { node = total_node; written = checkpoint (until 1) (alike 0); base = None; depth = 0; stage = collected }
+      ∷ record { node = total_node; written = checkpoint (until 2) (alike 0); base = None; depth = 0; stage = acknowledged }
+      ∷ record { node = total_node; written = checkpoint (until 3) (alike 2); base = None; depth = 0; stage = in_flight }
       ∷ [];
   failed = false ∷ false ∷ true ∷ [];
   ack_counts = 0 ∷ 0 ∷ 2 ∷ [];
@@ -110,8 +110,8 @@ come_back = record output_failed {
   history = with_serials two_epochs;
   settled = alike 2;
   writes =
-      record { node = total_node; written = checkpoint (until 1) (alike 0); stage = collected }
-      ∷ record { node = total_node; written = checkpoint (until 2) (alike 0); stage = acknowledged }
+      record { node = total_node; written = checkpoint (until 1) (alike 0); base = None; depth = 0; stage = collected }
+      ∷ record { node = total_node; written = checkpoint (until 2) (alike 0); base = None; depth = 0; stage = acknowledged }
       ∷ [];
   failed = false ∷ false ∷ false ∷ [];
 }

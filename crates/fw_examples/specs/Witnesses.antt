@@ -313,9 +313,9 @@ pub record EpochsAreThinned : Type 0 where
 abbrev pub all_written : Machine
 all_written = record output_failed {
   writes =
-      record { node = total_node; written = checkpoint (until 1) (alike 0); stage = collected }
-      ∷ record { node = total_node; written = checkpoint (until 2) (alike 0); stage = acknowledged }
-      ∷ record { node = total_node; written = checkpoint (until 3) (alike 2); stage = acknowledged }
+      record { node = total_node; written = checkpoint (until 1) (alike 0); base = None; depth = 0; stage = collected }
+      ∷ record { node = total_node; written = checkpoint (until 2) (alike 0); base = None; depth = 0; stage = acknowledged }
+      ∷ record { node = total_node; written = checkpoint (until 3) (alike 2); base = None; depth = 0; stage = acknowledged }
       ∷ [];
 }
 

@@ -4,7 +4,7 @@ ghost use Rattle.fw_flow.specs.declared.builder.BuildFault.TheVariants.{NoMemory
 ghost use Rattle.fw_examples.specs.RunningTotal.{total_flow};
 ghost use Rattle.fw_examples.specs.Traced.{AreTracesOfTwo};
 
-use fw_flow::{BuildFault, EdgeId, Flow, FlowBuilder, NodeId, Policy, RawKind};
+use fw_flow::{BuildFault, EdgeId, Flow, FlowBuilder, NodeId, Policy};
 use fw_progress::Traces;
 use fw_time::Stamp;
 use std::alloc::Global;
@@ -15,8 +15,8 @@ pub fn totals_are_declared(alloc: Global) -> Result<Flow, BuildFault>
 {
     FlowBuilder::new(alloc)
         .input("src")?
-        .node("run", RawKind::Total, Policy::Lazy)?
-        .output("out")?
+        .total("run", Policy::Lazy)?
+        .output_epoch("out")?
         .edge("a", "src", "run")?
         .edge("b", "run", "out")?
         .build()

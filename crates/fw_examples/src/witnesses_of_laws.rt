@@ -1,5 +1,6 @@
 //! That the laws say something: where what they ask holds.
 ghost use Rattle.fw_examples.specs.Witnesses.{EachStepHasItsChoice, FailureIsReached, LoopIsReached, LowWatermarkRises, MoreIsComplete, RecoveryIsReached, SomeIsSettled, SomethingIsChosen, TotalsAreWellFormed, TwoRunsMeet, ChoicesUnite, CutsUnite, JoinIsAFrontier, LessIsConsistent, AnEpochIsClosed, NotifiedAndGoesOn, OneIsOnItsWay, TwoEpochsAreComplete, LoopIsFiltered, NumbersAreDelivered, SequenceIsFiltered, TotalsAreFiltered, EpochsAreThinned, NoStepIsTaken, TwoEpochsAreTheSame, TwoStepsAreTaken};
+ghost use Rattle.fw_examples.specs.Floors.{CoversArePoorer, EpochsAreMissing, FloorsAreThere, OffersAreAbove};
 ghost use Rattle.fw_examples.specs.InTurn.{EpochsSettleInTurn};
 ghost use Rattle.fw_examples.specs.OffersOfTotals.{CheckpointsAreOffered};
 ghost use Rattle.fw_examples.specs.Records.{FrontsAreSpelled, RecordsAreSpelled};
@@ -190,4 +191,28 @@ pub fn two_steps_are_taken()
 #[tactic(auto, using(crate::proofs::Witnesses::no_step_is_taken))]
 pub fn no_step_is_taken()
     ensures { NoStepIsTaken }
+{}
+
+/// The low watermark of a state is a floor, and of another state one above its low watermark.
+#[tactic(auto, using(crate::proofs::Floors::floors_are_there))]
+pub fn floors_are_there()
+    ensures { FloorsAreThere }
+{}
+
+/// Covers that lack what two epochs have are poorer by no more than that.
+#[tactic(auto, using(crate::proofs::Floors::covers_are_poorer))]
+pub fn covers_are_poorer()
+    ensures { CoversArePoorer }
+{}
+
+/// Two epochs of four are missing inside a base, so that the others are not thinned in the whole.
+#[tactic(auto, using(crate::proofs::Floors::epochs_are_missing))]
+pub fn epochs_are_missing()
+    ensures { EpochsAreMissing }
+{}
+
+/// Data that are what the machine offers are so above a floor.
+#[tactic(auto, using(crate::proofs::Floors::offers_are_above))]
+pub fn offers_are_above()
+    ensures { OffersAreAbove }
 {}

@@ -280,41 +280,47 @@ after-stands sys state old new records p there live g shaped s =
     let ps = p ∷ [] in
     let next = failed_state sys state ps in
     let flow = sys.flow in
-    let l : p < length flow.nodes = subst (λ (f : Dataflow). p < length f.nodes) s.flow there in
-    let up : is_failed state p ≡ false = ap (λ bs. slice_index_or bs p false) (sym s.failed) ∙ live in
+    let l : p < length flow.nodes = subst (λ (f : Dataflow). p < length f.nodes) s.apart.flow there in
+    let up : is_failed state p ≡ false = ap (λ bs. slice_index_or bs p false) (sym s.apart.failed) ∙ live in
     let one : is_one_of p ps ≡ true = alone-same p p refl in
     let leads : LeadsTo sys state (Fail ps) next silent = live_node-fails sys state ps p l one up in
-    let parts : IsGoneFrom flow p old.parts new.parts = subst (λ f. IsGoneFrom f p old.parts new.parts) s.flow g.parts in
+    let parts : IsGoneFrom flow p old.parts new.parts = subst (λ f. IsGoneFrom f p old.parts new.parts) s.apart.flow g.parts in
     let lost : new.lost.items ≡ lost_after (policy_of flow p) p old.parts.keep.entries old.lost.items =
-    subst (λ f. new.lost.items ≡ lost_after (policy_of f p) p old.parts.keep.entries old.lost.items) s.flow g.lost in
+    subst (λ f. new.lost.items ≡ lost_after (policy_of f p) p old.parts.keep.entries old.lost.items) s.apart.flow g.lost in
     let failed : new.failed.items ≡ next.failed =
-    failed-is sys state p old.failed.items new.failed.items s.failed (shaped.one_each.failed ∙ ap (λ (f : Dataflow). length f.nodes) s.flow) l g.failed in
+    failed-is sys state p old.failed.items new.failed.items s.apart.failed (shaped.one_each.failed ∙ ap (λ (f : Dataflow). length f.nodes) s.apart.flow) l g.failed in
     let k = failure-keeps sys state ps in
     let none : Option Node = None in
     let entries : new.parts.keep.entries ≡ filter (λ e. not (is_in_flight_of p e)) old.parts.keep.entries = ap (λ (keep : KeepState). keep.entries) parts.keep in
     let left : filter (λ e. not (is_in_flight_of p e)) old.parts.keep.entries ≡ filter (λ e. not (is_lost_of ps e)) old.parts.keep.entries = loses_one_by_one ps old.parts.keep.entries in
     record {
-      flow = s.flow;
-      well_formed = s.well_formed;
-      reached = reached-next sys state next (Fail ps) (did silent) s.reached leads;
-      settled = s.settled;
-      failed = failed;
-      low = parts.low ∙ s.low;
-      epochs = s.epochs;
-      tables = λ q m. subst (λ (ts : List (Option Node)). IsTableIn sys next q (table_at ts q)) (sym parts.tables) (elim (cases_eq q p) [
-        | inl e ↦ subst (λ r. IsTableIn sys next r (table_at (set old.parts.tables p none) r)) (sym e)
-            (subst (IsTableIn sys next p) (sym (get_or-set_same old.parts.tables p none none (omega (arith, there, shaped.one_each.parts.tables)))) (failed_tables-go sys state ps p l one))
-        | inr n ↦ subst (IsTableIn sys next q) (sym (get_or-set_other old.parts.tables p q none none n))
-            (other_tables-stay sys state ps q m (alone-other p q n) (table_of old q) (s.tables q m))
-      ]);
-      queues = λ e m. parts.queues.messages e ∙ ap (λ b. if b then [] else queue_at old e) (into-one flow p e m)
-          ∙ ap (λ ms. if is_one_of (receiver flow e) ps then [] else ms) (s.queues e m) ∙ sym (queues_of_failed-go sys s.well_formed state ps e m);
-      logs = λ e m. parts.logs.messages e ∙ ap (λ b. if b then [] else log_at old e) (from-one flow p e m)
-          ∙ ap (λ ms. if is_one_of (sender flow e) ps then [] else ms) (s.logs e m) ∙ sym (logs_of_failed-go sys s.well_formed state ps e m);
-      outputs = λ o m is. subst (λ os. IsOutputOf sys next o (output_at os o)) (sym parts.outputs)
-          (output-stands sys state p o old.parts.outputs.outputs (omega (arith, there, shaped.one_each.outputs)) m (s.outputs o m is));
-      sources = λ i m. subst (λ xs. IsSourceOf sys next i (source_at xs i)) (sym parts.sources) (k.sources i (source_of old i) (s.sources i m));
-      progress = s.progress;
+      apart = record {
+        flow = s.apart.flow;
+        well_formed = s.apart.well_formed;
+        reached = reached-next sys state next (Fail ps) (did silent) s.apart.reached leads;
+        settled = s.apart.settled;
+        failed = failed;
+        low = parts.low ∙ s.apart.low;
+        epochs = s.apart.epochs;
+        tables = λ q m. subst (λ (ts : List (Option Node)). IsTableIn sys next q (table_at ts q)) (sym parts.tables) (elim (cases_eq q p) [
+          | inl e ↦ subst (λ r. IsTableIn sys next r (table_at (set old.parts.tables p none) r)) (sym e)
+              (subst (IsTableIn sys next p) (sym (get_or-set_same old.parts.tables p none none (omega (arith, there, shaped.one_each.parts.tables)))) (failed_tables-go sys state ps p l one))
+          | inr n ↦ subst (IsTableIn sys next q) (sym (get_or-set_other old.parts.tables p q none none n))
+              (other_tables-stay sys state ps q m (alone-other p q n) (table_of old q) (s.apart.tables q m))
+        ]);
+        queues = λ e m. parts.queues.messages e ∙ ap (λ b. if b then [] else queue_at old e) (into-one flow p e m)
+            ∙ ap (λ ms. if is_one_of (receiver flow e) ps then [] else ms) (s.apart.queues e m) ∙ sym (queues_of_failed-go sys s.apart.well_formed state ps e m);
+        logs = λ e m. parts.logs.messages e ∙ ap (λ b. if b then [] else log_at old e) (from-one flow p e m)
+            ∙ ap (λ ms. if is_one_of (sender flow e) ps then [] else ms) (s.apart.logs e m) ∙ sym (logs_of_failed-go sys s.apart.well_formed state ps e m);
+        outputs = λ o m is. subst (λ os. IsOutputOf sys next o (output_at os o)) (sym parts.outputs)
+            (output-stands sys state p o old.parts.outputs.outputs (omega (arith, there, shaped.one_each.outputs)) m (s.apart.outputs o m is));
+        sources = λ i m. subst (λ xs. IsSourceOf sys next i (source_at xs i)) (sym parts.sources) (k.sources i (source_of old i) (s.apart.sources i m));
+        progress = s.apart.progress;
+        entries = subst (λ es. AreEntriesOf sys next es (uncollected next)) (sym (entries ∙ left))
+            (entries_after_failure sys s.apart.well_formed state s.apart.reached ps next silent leads old.parts.keep.entries s.apart.entries);
+        stored = subst (λ es. AreStored sys next records es (uncollected next)) (sym (entries ∙ left))
+            (records_after_failure sys s.apart.well_formed state s.apart.reached ps next silent leads old.parts.keep.entries s.apart.entries records s.apart.stored);
+      };
       traces = λ q m. k.traces q old.traces (s.traces q m);
       lost = λ q full t. elim (cases_eq q p) [
         | inl e ↦
@@ -324,18 +330,14 @@ after-stands sys state old new records p there live g shaped s =
             ∙ get_or-set_same old.lost.items p (stamps_in_flight p old.parts.keep.entries) [] (omega (arith, there, shaped.one_each.lost)) in
             subst (λ r. Contains (lost_at (after_fail old new) r) t ↔ IsLostAt sys next r t) (sym e)
             (subst (λ ts. Contains ts t ↔ IsLostAt sys next p t) (sym at)
-            (flip (loses_what_is_in_flight sys s.well_formed state s.reached ps next silent leads old.parts.keep.entries s.entries p f up one t)))
+            (flip (loses_what_is_in_flight sys s.apart.well_formed state s.apart.reached ps next silent leads old.parts.keep.entries s.apart.entries p f up one t)))
         | inr n ↦
             let at : lost_at (after_fail old new) q ≡ lost_at old q = ap (λ ls. get_or ls q []) lost ∙ lost-other (policy_of flow p) p q old.parts.keep.entries old.lost.items n in
             let same : is_failed next q ≡ is_failed state q = ap (λ bs. get_or bs q false) (sym failed ∙ g.failed) ∙ get_or-set_other old.failed.items p q true false n
-            ∙ ap (λ bs. get_or bs q false) s.failed in
+            ∙ ap (λ bs. get_or bs q false) s.apart.failed in
             subst (λ ts. Contains ts t ↔ IsLostAt sys next q t) (sym at) (both-lead (s.lost q full t) (stays-lost sys state next q t same
-            (λ d. losses_stay sys s.well_formed state s.reached (Fail ps) next silent leads q d (same ∙ d) t)))
+            (λ d. losses_stay sys s.apart.well_formed state s.apart.reached (Fail ps) next silent leads q d (same ∙ d) t)))
       ];
-      entries = subst (λ es. AreEntriesOf sys next es (uncollected next)) (sym (entries ∙ left))
-          (entries_after_failure sys s.well_formed state s.reached ps next silent leads old.parts.keep.entries s.entries);
-      stored = subst (λ es. AreStored sys next records es (uncollected next)) (sym (entries ∙ left))
-          (records_after_failure sys s.well_formed state s.reached ps next silent leads old.parts.keep.entries s.entries records s.stored);
     }
   where
     output-stands : (sys : System) (state : Machine) (p o : ℕ) (outs : List OutputState) → p < length outs → o < length sys.flow.nodes → IsOutputOf sys state o (output_at outs o)
@@ -409,7 +411,7 @@ more-live old ps p h = record {
 -- a node that is down once some nodes failed was so, or is one of these
 down-or : (sys : System) (state : Machine) (old now : Running) (records : Option Records) (ps : List ℕ) (q : ℕ) → q < length sys.flow.nodes
     → Stands sys now records (failed_state sys state ps) → is_down now q ≡ (is_failed state q || is_one_of q ps)
-down-or sys state old now records ps q l s = ap (λ bs. get_or bs q false) s.failed ∙ failures-add sys state ps q l
+down-or sys state old now records ps q l s = ap (λ bs. get_or bs q false) s.apart.failed ∙ failures-add sys state ps q l
 
 -- a node that is not to fail leaves all as it is
 pub down_more : (ps : List ℕ) (any : Bool) (old now : Running) (p : ℕ) → HaveFailed ps any old now → (p < length now.flow.nodes → is_down now p ≡ true)
@@ -432,10 +434,10 @@ down_more ps any old now p h down = record {
     λ sys records state s.
         let t = x.1 sys records state s in
         let same : failed_state sys state (ps ++ p ∷ []) ≡ failed_state sys state ps =
-        live_nodes-decide sys state s.reached ps (ps ++ p ∷ []) (λ q l up. one_of-more q ps p ∙ elim (cases_Bool (p == q)) [
+        live_nodes-decide sys state s.apart.reached ps (ps ++ p ∷ []) (λ q l up. one_of-more q ps p ∙ elim (cases_Bool (p == q)) [
           | inl j ↦
               let k : q ≡ p = sym (eqb-true p q j) in
-              let there : p < length now.flow.nodes = subst (λ (f : Dataflow). p < length f.nodes) (sym t.flow) (subst (λ r. r < length sys.flow.nodes) k l) in
+              let there : p < length now.flow.nodes = subst (λ (f : Dataflow). p < length f.nodes) (sym t.apart.flow) (subst (λ r. r < length sys.flow.nodes) k l) in
               let is : (is_failed state q || is_one_of q ps) ≡ true = sym (down-or sys state old now records ps q l t) ∙ subst (λ r. is_down now r ≡ true) (sym k) (down there) in
               ap (λ b. is_one_of q ps || b) j ∙ among (is_failed state q) (is_one_of q ps) up is
           | inr j ↦ ap (λ b. is_one_of q ps || b) j ∙ or-false (is_one_of q ps)
@@ -516,10 +518,10 @@ then-one sys state ps p =
 -- the first that is not failed fails alone
 first-one : (sys : System) (state : Machine) (old : Running) (records : Option Records) (ps : List ℕ) (p : ℕ) → AreDown old ps → Stands sys old records state
     → failed_state sys state (ps ++ p ∷ []) ≡ failed_state sys state (p ∷ [])
-first-one sys state old records ps p down s = live_nodes-decide sys state s.reached (p ∷ []) (ps ++ p ∷ []) (λ q l up.
-    let there : q < length old.flow.nodes = subst (λ (f : Dataflow). q < length f.nodes) (sym s.flow) l in
+first-one sys state old records ps p down s = live_nodes-decide sys state s.apart.reached (p ∷ []) (ps ++ p ∷ []) (λ q l up.
+    let there : q < length old.flow.nodes = subst (λ (f : Dataflow). q < length f.nodes) (sym s.apart.flow) l in
     let none : is_one_of q ps ≡ false = false_from_ne_true (is_one_of q ps) (λ j.
-    both_ways (is_failed state q) up (ap (λ bs. get_or bs q false) (sym s.failed) ∙ down q there j)) in
+    both_ways (is_failed state q) up (ap (λ bs. get_or bs q false) (sym s.apart.failed) ∙ down q there j)) in
     one_of-more q ps p ∙ ap (λ b. b || (p == q)) none ∙ sym (alone p q))
 
 pub live_more : (ps : List ℕ) (any : Bool) (old now next : Running) (p : ℕ) → HaveFailed ps any old now → p < length now.flow.nodes → is_down now p ≡ false → Fails p now next
@@ -557,13 +559,13 @@ live_more ps any old now next p h there live g = record {
 pub idle-fails : (sys : System) (state : Machine) (running : Running) (records : Option Records) (ps : List ℕ) → AreDown running ps → Stands sys running records state
     → IsIdle sys state (Fail ps)
 idle-fails sys state running records ps down s = all_failed-idle sys state ps (λ q l k.
-    ap (λ bs. get_or bs q false) (sym s.failed) ∙ down q (subst (λ (f : Dataflow). q < length f.nodes) (sym s.flow) l) k)
+    ap (λ bs. get_or bs q false) (sym s.apart.failed) ∙ down q (subst (λ (f : Dataflow). q < length f.nodes) (sym s.apart.flow) l) k)
 
 -- where one of them is, they fail
 pub some-fails : (sys : System) (state : Machine) (running : Running) (records : Option Records) (ps : List ℕ) → HasLive running ps → Stands sys running records state
     → LeadsTo sys state (Fail ps) (failed_state sys state ps) silent
 some-fails sys state running records ps h s =
-    live_node-fails sys state ps h.node (subst (λ (f : Dataflow). h.node < length f.nodes) s.flow h.there) h.among (ap (λ bs. get_or bs h.node false) (sym s.failed) ∙ h.live)
+    live_node-fails sys state ps h.node (subst (λ (f : Dataflow). h.node < length f.nodes) s.apart.flow h.there) h.among (ap (λ bs. get_or bs h.node false) (sym s.apart.failed) ∙ h.live)
 
 pub if_more : (ps : List ℕ) (any failed : Bool) (old now next : Running) (p : ℕ) → HaveFailed ps any old now → FailsIf p failed now next
     → HaveFailed (ps ++ p ∷ []) (any || failed) old next

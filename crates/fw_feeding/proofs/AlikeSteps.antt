@@ -1,6 +1,7 @@
 -- Where two lists of batches are alike in a state's history and the second has at least as many, a step that is enabled over the first
 -- is enabled over the second, leads to the same state and shows the same.
-use Rattle.std.proofs.Common.{◌≡◌, ℕ, zero, suc, ◌<◌, ◌≤◌, true, List, [], ◌∷◌, length, map, get_or, refl, ap, ◌∙◌, inl, inr, arith}
+use Rattle.std.proofs.Common.{◌≡◌, ℕ, zero, suc, ◌<◌, ◌≤◌, true, List, [], ◌∷◌, length, map, get_or, refl, ap, ◌∙◌, inl, inr, arith, Bool, not, ◌&&◌, ◌||◌}
+use Rattle.std.specs.List.{list_all}
 use Rattle.fw_bag.specs.declared.rec.Rec.{Rec}
 use Rattle.fw_frontier.specs.Front.{Front}
 use Rattle.fw_flow.specs.declared.choice.Cut.{Cut}
@@ -13,7 +14,7 @@ use Rattle.fw_flow.specs.declared.step.Step.TheVariants.{Inject, Deliver, Notify
 use Rattle.fw_flow.specs.Dataflow.{Dataflow, kind_of, batches_of}
 use Rattle.fw_model.specs.Choice.{kept, cut_of}
 use Rattle.fw_model.specs.Machine.{Machine, SerialEvent, Write, Written, checkpoint, logged_event, events, front_of, is_failed}
-use Rattle.fw_model.specs.Steps.{Effect, IsSettledCut, front_of_cut, lies_below, after_collection, collected_writes, HasEpoch, HasSomethingAt, LeadsTo}
+use Rattle.fw_model.specs.Steps.{Effect, IsSettledCut, front_of_cut, lies_below, after_collection, collected_writes, HasEpoch, HasSomethingAt, LeadsTo, is_forgotten, stands_on}
 use Rattle.fw_feeding.specs.Feeding.{with_batches}
 use Rattle.fw_feeding.proofs.AlikeLaws.{AreAlikeIn, alike-back, complete-alike, deliverable-alike, notifiable-alike}
 use Rattle.fw_feeding.proofs.AlikeChoices.{largest-alike}
@@ -59,14 +60,35 @@ below-alike : (flow : Dataflow) (now later : List (List (List Rec))) (low : List
 below-alike flow now later low h p (checkpoint g kept_low) = refl
 below-alike flow now later low h p (logged_event serial) = refl
 
+-- those that stand on a write lie below alike
+standing-alike : (flow : Dataflow) (now later : List (List (List Rec))) (low : List Front) (h : List SerialEvent) (stands : Write → Bool) (writes : List Write)
+    → list_all (λ (other : Write). not (stands other) || lies_below (with_batches flow now) low h other.node other.written) writes
+    ≡ list_all (λ (other : Write). not (stands other) || lies_below (with_batches flow later) low h other.node other.written) writes
+standing-alike flow now later low h stands [] = refl
+standing-alike flow now later low h stands (write ∷ writes) =
+    ap (λ b. (not (stands write) || b) && list_all (λ (other : Write). not (stands other) || lies_below (with_batches flow now) low h other.node other.written) writes)
+    (below-alike flow now later low h write.node write.written)
+    ∙ ap (λ b. (not (stands write) || lies_below (with_batches flow later) low h write.node write.written) && b) (standing-alike flow now later low h stands writes)
+
+forgotten-alike : (flow : Dataflow) (now later : List (List (List Rec))) (low : List Front) (h : List SerialEvent) (writes : List Write) (write : Write)
+    → is_forgotten (with_batches flow now) low h writes write ≡ is_forgotten (with_batches flow later) low h writes write
+forgotten-alike flow now later low h writes write =
+    ap (λ b. b && list_all (λ (other : Write). not (stands_on writes other write) || lies_below (with_batches flow now) low h other.node other.written) writes)
+    (below-alike flow now later low h write.node write.written)
+    ∙ ap (λ b. lies_below (with_batches flow later) low h write.node write.written && b) (standing-alike flow now later low h (λ other. stands_on writes other write) writes)
+
+staged-alike : (one two : Write → Bool) → ((write : Write) → one write ≡ two write) → (writes : List Write)
+    → map (λ (write : Write). record write { stage = after_collection (one write) write.stage }) writes
+    ≡ map (λ (write : Write). record write { stage = after_collection (two write) write.stage }) writes
+staged-alike one two e [] = refl
+staged-alike one two e (write ∷ writes) =
+    ap (λ b. record write { stage = after_collection b write.stage } ∷ map (λ (x : Write). record x { stage = after_collection (one x) x.stage }) writes) (e write)
+    ∙ ap (λ ws. record write { stage = after_collection (two write) write.stage } ∷ ws) (staged-alike one two e writes)
+
 collected-alike : (flow : Dataflow) (now later : List (List (List Rec))) (low : List Front) (h : List SerialEvent) (writes : List Write)
     → collected_writes (with_batches flow now) low h writes ≡ collected_writes (with_batches flow later) low h writes
-collected-alike flow now later low h [] = refl
-collected-alike flow now later low h (write ∷ writes) =
-    ap (λ b. record write { stage = after_collection b write.stage } ∷ collected_writes (with_batches flow now) low h writes)
-    (below-alike flow now later low h write.node write.written)
-    ∙ ap (λ ws. record write { stage = after_collection (lies_below (with_batches flow later) low h write.node write.written) write.stage } ∷ ws)
-    (collected-alike flow now later low h writes)
+collected-alike flow now later low h writes =
+    staged-alike (is_forgotten (with_batches flow now) low h writes) (is_forgotten (with_batches flow later) low h writes) (forgotten-alike flow now later low h writes) writes
 
 -- ---- steps
 

@@ -158,6 +158,8 @@ entries-alike flow now later state a entries writes k =
     (λ entry write one. record {
       node = one.node;
       acknowledged = one.acknowledged;
+      base = one.base;
+      depth = one.depth;
       holds = holds-alike flow now later state a write.node entry.written write.written one.holds;
     }) k
 
@@ -207,46 +209,48 @@ fed-engines_stand opened flow now later g well steps effects state run old new f
     let h = events state.history in
     let a = run-alike opened flow now later g steps effects state run in
     let on = open-runs_are_runs opened sys (first_state sys) steps effects state (open-runs_go_on opened flow now later g steps effects state run) in
-    let counts = s.progress.counts in
-    let kept = s.progress.kept in
+    let counts = s.apart.progress.counts in
+    let kept = s.apart.progress.kept in
     record {
-      flow = f.of_flow ∙ s.flow;
-      well_formed = well;
-      reached = (steps, map did effects, on);
-      settled = f.settled ∙ s.settled;
-      failed = f.failed ∙ s.failed;
-      low = f.low ∙ s.low;
-      epochs = f.epochs;
-      tables = λ p l. subst (λ t. IsTableIn sys state p t) (sym (f.tables p)) (table-alike flow now later state p _ (s.tables p l));
-      queues = λ e l. f.queues e ∙ s.queues e l ∙ queued-alike flow now later state a e;
-      logs = λ e l. f.logs e ∙ s.logs e l ∙ logged-alike flow now later state a e;
-      outputs = λ o l is. subst (λ t. IsOutputOf sys state o t) (sym (f.outputs o)) (output-alike flow now later state o _ (s.outputs o l is));
-      sources = f.sources;
-      progress = record {
-        counts = record {
-          pending = λ e l t. ap (times_in t) (f.pending e) ∙ counts.pending e l t ∙ ap (count_at t) (pending-alike flow now later h a e);
-          owed = λ p l t. ap (has_one t) (f.owed p) ∙ counts.owed p l t;
-          batches = f.batches;
-          injected = λ p l. f.injected p ∙ counts.injected p l;
-          sent = λ p l k. subst (λ table. IsSentTable sys h p table) (sym (f.sent p))
-              (λ i. counts.sent p l k i ∙ ap (count_from i) (node-alike flow now later h a.injected p));
-          in_order = λ p l k. subst EpochsAscend (sym (f.sent p)) (counts.in_order p l k);
-          epochs = λ p l k. subst (λ table. AllByRecursion (λ (entry : ℕ × ℕ). was_notified p (entry.0 ∷ []) h ≡ true) table) (sym (f.sent p)) (counts.epochs p l k);
+      apart = record {
+        flow = f.of_flow ∙ s.apart.flow;
+        well_formed = well;
+        reached = (steps, map did effects, on);
+        settled = f.settled ∙ s.apart.settled;
+        failed = f.failed ∙ s.apart.failed;
+        low = f.low ∙ s.apart.low;
+        epochs = f.epochs;
+        tables = λ p l. subst (λ t. IsTableIn sys state p t) (sym (f.tables p)) (table-alike flow now later state p _ (s.apart.tables p l));
+        queues = λ e l. f.queues e ∙ s.apart.queues e l ∙ queued-alike flow now later state a e;
+        logs = λ e l. f.logs e ∙ s.apart.logs e l ∙ logged-alike flow now later state a e;
+        outputs = λ o l is. subst (λ t. IsOutputOf sys state o t) (sym (f.outputs o)) (output-alike flow now later state o _ (s.apart.outputs o l is));
+        sources = f.sources;
+        progress = record {
+          counts = record {
+            pending = λ e l t. ap (times_in t) (f.pending e) ∙ counts.pending e l t ∙ ap (count_at t) (pending-alike flow now later h a e);
+            owed = λ p l t. ap (has_one t) (f.owed p) ∙ counts.owed p l t;
+            batches = f.batches;
+            injected = λ p l. f.injected p ∙ counts.injected p l;
+            sent = λ p l k. subst (λ table. IsSentTable sys h p table) (sym (f.sent p))
+                (λ i. counts.sent p l k i ∙ ap (count_from i) (node-alike flow now later h a.injected p));
+            in_order = λ p l k. subst EpochsAscend (sym (f.sent p)) (counts.in_order p l k);
+            epochs = λ p l k. subst (λ table. AllByRecursion (λ (entry : ℕ × ℕ). was_notified p (entry.0 ∷ []) h ≡ true) table) (sym (f.sent p)) (counts.epochs p l k);
+          };
+          kept = record {
+            admissible = subst (λ fronts. IsAdmissible sys h (family_of flow fronts)) (sym f.kept)
+                (admissible-alike flow now later h a (family_of flow old.progress.kept) kept.admissible);
+            stuck = λ p l i. subst (λ fronts. IsStuck sys h (family_of flow fronts) p) (sym f.kept)
+                (stuck-alike flow now later h a (family_of flow old.progress.kept) p
+                (kept.stuck p l (ap (λ w. is_in w p) (sym f.work) ∙ i)));
+          };
         };
-        kept = record {
-          admissible = subst (λ fronts. IsAdmissible sys h (family_of flow fronts)) (sym f.kept)
-              (admissible-alike flow now later h a (family_of flow old.progress.kept) kept.admissible);
-          stuck = λ p l i. subst (λ fronts. IsStuck sys h (family_of flow fronts) p) (sym f.kept)
-              (stuck-alike flow now later h a (family_of flow old.progress.kept) p
-              (kept.stuck p l (ap (λ w. is_in w p) (sym f.work) ∙ i)));
-        };
+        entries = subst (λ es. AreEntriesOf sys state es (uncollected state)) (sym f.entries)
+            (entries-alike flow now later state a old.parts.keep.entries (uncollected state) s.apart.entries);
+        stored = subst (λ es. AreStored sys state records es (uncollected state)) (sym f.entries)
+            (stored-alike flow now later state a records old.parts.keep.entries (uncollected state) s.apart.stored);
       };
       traces = λ p l. subst (λ t. IsTraceIn sys state p t) (sym f.traces) (trace-alike flow now later state a p old.traces (s.traces p l));
       lost = λ p is t. subst (λ ts. Contains ts t ↔ IsLostAt sys state p t) (sym (f.lost p))
           (let both = s.lost p is t in
           (λ c. lost-alike flow now later state p t (both.0 c), λ l. both.1 (lost-alike flow later now state p t l)));
-      entries = subst (λ es. AreEntriesOf sys state es (uncollected state)) (sym f.entries)
-          (entries-alike flow now later state a old.parts.keep.entries (uncollected state) s.entries);
-      stored = subst (λ es. AreStored sys state records es (uncollected state)) (sym f.entries)
-          (stored-alike flow now later state a records old.parts.keep.entries (uncollected state) s.stored);
     }

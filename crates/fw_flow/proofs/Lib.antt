@@ -1,4 +1,5 @@
 pub mod AnswerLaws
+pub mod BatchFaultLaws
 pub mod BuilderLaws
 pub mod ByRanks
 pub mod Capped

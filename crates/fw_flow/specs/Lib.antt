@@ -1,3 +1,4 @@
+pub mod BatchFaults
 pub mod Builder
 pub mod Check
 pub mod Counting

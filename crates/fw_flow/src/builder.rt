@@ -1,15 +1,14 @@
 //! Flows that are made in code.
 ghost use Rattle.std.specs.Prelude.{◌≡◌, true, false, [], Some, None, IfOk, MatchResult};
+ghost use Rattle.std.specs.Option.{option_map_or};
 ghost use Rattle.fw_lines.specs.Spelling.{is_name};
-ghost use Rattle.fw_flow.specs.declared.kind.Policy.TheVariants.{None as NoPolicy};
 ghost use Rattle.fw_flow.specs.declared.raw.Declaration.TheVariants.{Loop, Node, Edge};
-ghost use Rattle.fw_flow.specs.declared.raw.RawKind.TheVariants.{Input, OutputEpoch, Select};
 ghost use Rattle.fw_flow.specs.Builder.{Declares, DeclaresNamed, IsNameOrFault, IfBroken};
-ghost use Rattle.fw_flow.specs.Check.{IsChecked, IsFirstBroken};
+ghost use Rattle.fw_flow.specs.Check.{loop_named, IsChecked, IsFirstBroken};
 ghost use Rattle.fw_flow.specs.WellFormed.{IsWellFormed};
 
+use crate::check::loop_named;
 use crate::{Declaration, Declared, Flow, Name, Policy, RawFlow, RawKind};
-use fw_bag::Selection;
 use fw_lines::{ReadFault, Refusal};
 use std::alloc::{AllocError, Global};
 use std::marker::Model;
@@ -60,7 +59,7 @@ impl From<ReadFault> for BuildFault {
 /// which the n-th, counted from 1, has the line n. A call that fails takes the builder with it.
 #[derive(Debug)]
 pub struct FlowBuilder {
-    alloc: Global,
+    pub(crate) alloc: Global,
     raw: RawFlow,
 }
 
@@ -92,33 +91,13 @@ impl FlowBuilder {
         }
     }
 
-    /// Declares an input.
-    pub fn input(self, name: &str) -> Result<Self, BuildFault>
-        ensures { Declares self (Node name.now Input NoPolicy) result }
-    {
-        self.node(name, RawKind::Input, Policy::None)
-    }
-
-    /// Declares an output of epochs.
-    pub fn output(self, name: &str) -> Result<Self, BuildFault>
-        ensures { Declares self (Node name.now OutputEpoch NoPolicy) result }
-    {
-        self.node(name, RawKind::OutputEpoch, Policy::None)
-    }
-
-    /// Declares a select outside loops that keeps nothing.
-    pub fn select(self, name: &str, selection: Selection) -> Result<Self, BuildFault>
-        ensures { Declares self (Node name.now (Select selection None) NoPolicy) result }
-    {
-        let within = None;
-        self.node(name, RawKind::Select { selection, within }, Policy::None)
-    }
-
-    /// Declares a node, with what it does and how it is restored.
+    /// Declares a node, with what it does and how it is restored. Each kind has a word of its own beside this call, as
+    /// `FlowBuilder::total`.
     pub fn node(self, name: &str, kind: RawKind, policy: Policy) -> Result<Self, BuildFault>
         ensures { Declares self (Node name.now kind policy) result }
     {
         let name = named(self.alloc, name)?;
+        has_loop_named(&kind);
         self.declare(Declaration::Node { name, kind, policy })
     }
 
@@ -164,7 +143,7 @@ impl FlowBuilder {
     }
 
     // One declaration more, where its name is new.
-    fn declare(self, declaration: Declaration) -> Result<Self, BuildFault>
+    pub(crate) fn declare(self, declaration: Declaration) -> Result<Self, BuildFault>
         ensures { DeclaresNamed self declaration result }
     {
         let FlowBuilder { alloc, raw } = self;
@@ -179,9 +158,18 @@ impl FlowBuilder {
     }
 }
 
+// The word of the loop that a kind names, if it names one, is a name.
+fn has_loop_named(kind: &RawKind)
+    ensures { option_map_or is_name (loop_named kind.now) true ≡ true }
+{
+    if let Some(name) = loop_named(kind) {
+        let _bytes = name.as_bytes();
+    }
+}
+
 // The name of this word.
-fn named(alloc: Global, word: &str) -> Result<Name, BuildFault>
+pub(crate) fn named(alloc: Global, word: &str) -> Result<Name, BuildFault>
     ensures { IsNameOrFault word.now result }
 {
-    Name::new(alloc, word.as_bytes())?.ok_or(BuildFault::BadName)
+    Name::new(alloc, word)?.ok_or(BuildFault::BadName)
 }

@@ -77,8 +77,8 @@ fn are_names_declared(names: &NameSpaces, declaration: &Declaration) -> bool
     }
 }
 
-// The loop that the kind names, if it names one.
-fn loop_named(kind: &RawKind) -> Option<&Name>
+/// The loop that the kind names, if it names one.
+pub(crate) fn loop_named(kind: &RawKind) -> Option<&Name>
     ensures { option_copied result ≡ loop_named kind.now }
 {
     match kind {

@@ -1,7 +1,7 @@
-//! Copies of what nodes record and offer. The error of each call is want of memory.
+//! Copies of what nodes record and offer, and of lowerings. The error of each call is want of memory.
 ghost use Rattle.std.specs.Prelude.{◌≡◌, IfOk};
 
-use crate::{Counted, Cut, OfEdge, Recorded, Stamps};
+use crate::{Counted, Cut, Lowering, OfEdge, Recorded, Stamps};
 use std::alloc::AllocError;
 
 impl Cut {
@@ -13,6 +13,20 @@ impl Cut {
             Cut::Present => Ok(Cut::Present),
             Cut::At(front) => Ok(Cut::At(front.copy()?)),
         }
+    }
+}
+
+impl Lowering {
+    /// The same lowering once more.
+    pub fn copy(&self) -> Result<Self, AllocError>
+        ensures { IfOk result (λ lowering. lowering ≡ self.now) }
+    {
+        Ok(Lowering {
+            node: self.node,
+            part: self.part,
+            to: self.to.copy()?,
+            by: self.by,
+        })
     }
 }
 

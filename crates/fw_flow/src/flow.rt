@@ -206,15 +206,29 @@ impl Flow {
     }
 
     /// The node of a name, `None` where no node has it.
-    pub fn node_named(&self, name: &[u8]) -> Option<NodeId>
+    pub fn node_named(&self, name: &str) -> Option<NodeId>
+        ensures { result ≡ place_of name.now (map (λ node. node.name) self.now.nodes) }
+    {
+        self.node_spelled(name.as_bytes())
+    }
+
+    /// The edge of a name, `None` where no edge has it.
+    pub fn edge_named(&self, name: &str) -> Option<EdgeId>
+        ensures { result ≡ place_of name.now (map (λ edge. edge.name) self.now.edges) }
+    {
+        self.edge_spelled(name.as_bytes())
+    }
+
+    /// The node whose name these bytes spell, as they stand in a text; `None` where no node has it.
+    pub fn node_spelled(&self, name: &[u8]) -> Option<NodeId>
         ensures { result ≡ place_of name.now (map (λ node. node.name) self.now.nodes) }
     {
         let place = self.node_names.place_of(name)?;
         Some(NodeId::at(place as u32))
     }
 
-    /// The edge of a name, `None` where no edge has it.
-    pub fn edge_named(&self, name: &[u8]) -> Option<EdgeId>
+    /// The edge whose name these bytes spell, as they stand in a text; `None` where no edge has it.
+    pub fn edge_spelled(&self, name: &[u8]) -> Option<EdgeId>
         ensures { result ≡ place_of name.now (map (λ edge. edge.name) self.now.edges) }
     {
         let place = self.edge_names.place_of(name)?;

@@ -1,6 +1,7 @@
 //! Places of nodes, edges and loops in a dataflow.
 ghost use Rattle.std.specs.Prelude.{◌≡◌};
 
+use std::fmt;
 use std::marker::Model;
 
 /// A node, by its place in the order of lines, from 0. Contracts see the place.
@@ -64,6 +65,17 @@ impl NodeId {
         ensures { result ≡ self }
     {
         self.place
+    }
+}
+
+impl fmt::Display for NodeId {
+    ghost use Rattle.std.specs.Prelude.{Some};
+    ghost use Rattle.std.specs.Fmt.{decimal};
+
+    ghost output = { λ id. Some (decimal id) };
+
+    fn fmt<W: fmt::Write>(&self, f: &mut fmt::Formatter<W>) -> fmt::Result {
+        write!(f, "{}", self.place)
     }
 }
 

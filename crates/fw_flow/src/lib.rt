@@ -1,11 +1,13 @@
 //! Dataflows: nodes, edges, kinds and policies, events and messages, cuts and choices, and the steps of a run.
 //!
 //! A `RawFlow` takes declarations by names, `Flow::check` tests every rule and gives the `Flow`, or the first broken rule
-//! with its line; `FlowBuilder` does both for flows that are made in code. A `Flow` answers look-ups by places, also past
+//! with its line; `FlowBuilder` does both for flows that are made in code, and `Flow::add_batch` gives
+//! their inputs batches. A `Flow` answers look-ups by places, also past
 //! its end, and projects frontiers along its edges (`Flow::phi`, `Flow::psi`, `Flow::psi_back`). The other types are the
 //! words of a run, over which `fw_model` defines what a run does.
 #![tactic(auto)]
 
+mod batches;
 mod builder;
 mod check;
 mod choice;
@@ -27,12 +29,15 @@ mod raw;
 mod restoring;
 mod sending;
 mod sent_table;
+mod side;
 mod sources;
 mod step;
 mod steps;
 mod trail;
 mod walks;
+mod words;
 
+pub use batches::BatchFault;
 pub use builder::{BuildFault, FlowBuilder};
 pub use choice::{Choice, Counted, Cut, OfEdge, Offer, Offered, Recorded, Stamps};
 pub use event::{Causes, Event, Message};
@@ -45,6 +50,7 @@ pub use node::{Edge, Loop, Node};
 pub use raw::{Declaration, Declared, RawFlow, RawKind};
 pub use restoring::Restoring;
 pub use sent_table::SentTable;
+pub use side::{Inclusion, Limit, Side};
 pub use step::{Nodes, Step};
 pub use steps::Steps;
 pub use trail::{Cause, Lowering, Part, Trail};

@@ -30,8 +30,15 @@ impl Model for Name {
 }
 
 impl Name {
+    /// The name of this text, `None` where it is not one. The only error is want of memory.
+    pub fn new(alloc: Global, text: &str) -> Result<Option<Name>, AllocError>
+        ensures { IfOk result (λ name. name ≡ (if spelling.is_name text.now then Some text.now else None)) }
+    {
+        Name::from_bytes(alloc, text.as_bytes())
+    }
+
     /// The name of these bytes, `None` where they are not one. The only error is want of memory.
-    pub fn new(alloc: Global, word: &[u8]) -> Result<Option<Name>, AllocError>
+    pub fn from_bytes(alloc: Global, word: &[u8]) -> Result<Option<Name>, AllocError>
         ensures { IfOk result (λ name. name ≡ (if spelling.is_name word.now then Some word.now else None)) }
     {
         if !is_name(word) {

@@ -9,7 +9,7 @@ use crate::{Flow, Kind, NodeId};
 use fw_lines::Batches;
 
 /// How many batches a source may have.
-const BATCH_LIMIT: usize = 1 << 20;
+pub(crate) const BATCH_LIMIT: usize = 1 << 20;
 
 impl Flow {
     /// Whether the flow and the batches are a well-formed system: its sources have at most 2^20 batches each, and its other

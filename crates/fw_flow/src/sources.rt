@@ -31,7 +31,7 @@ impl Flow {
     {
         let node = NodeId::at(place);
         if self.kind(node).is_input() {
-            return sources.with(place, self.node_name(node).as_bytes());
+            return sources.with(place, self.node_name(node).as_str());
         }
         Ok(sources)
     }

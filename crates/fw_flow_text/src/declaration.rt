@@ -39,7 +39,7 @@ fn node(alloc: Global, text: &[u8], words: &[Span]) -> Result<Option<Declaration
     let [name, kind, rest @ ..] = words else {
         return Ok(None);
     };
-    let Some(name) = Name::new(alloc, capped(text, *name))? else {
+    let Some(name) = Name::from_bytes(alloc, capped(text, *name))? else {
         return Ok(None);
     };
     let Some(form) = node_form(alloc, text, capped(text, *kind), rest)? else {
@@ -77,13 +77,13 @@ fn edge_of(
 ) -> Result<Option<Declaration>, AllocError>
     ensures { IfOk result (Finds (AreWordsOf (codes "edge" ∷ name.now ∷ sender.now ∷ receiver.now ∷ []))) }
 {
-    let Some(name) = Name::new(alloc, name)? else {
+    let Some(name) = Name::from_bytes(alloc, name)? else {
         return Ok(None);
     };
-    let Some(sender) = Name::new(alloc, sender)? else {
+    let Some(sender) = Name::from_bytes(alloc, sender)? else {
         return Ok(None);
     };
-    let Some(receiver) = Name::new(alloc, receiver)? else {
+    let Some(receiver) = Name::from_bytes(alloc, receiver)? else {
         return Ok(None);
     };
     let declaration = Declaration::Edge {
@@ -124,7 +124,7 @@ fn loop_of(
     ensures { IfOk result (Finds (AreWordsOf
         (codes "loop" ∷ name.now ∷ codes "max" ∷ number.now ∷ capped_words text.now rest.now))) }
 {
-    let Some(name) = Name::new(alloc, name)? else {
+    let Some(name) = Name::from_bytes(alloc, name)? else {
         return Ok(None);
     };
     let Some(max) = numeral(number) else {

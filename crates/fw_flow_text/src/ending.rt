@@ -56,7 +56,7 @@ fn ending_within(
     let Some(policy) = policy(head, word) else {
         return Ok(None);
     };
-    let Some(name) = Name::new(alloc, name)? else {
+    let Some(name) = Name::from_bytes(alloc, name)? else {
         return Ok(None);
     };
     Ok(Some((Some(name), policy)))
@@ -115,7 +115,7 @@ fn parent_named(alloc: Global, head: &[u8], name: &[u8]) -> Result<Option<Option
     if head != b"in".as_slice() {
         return Ok(None);
     }
-    let Some(name) = Name::new(alloc, name)? else {
+    let Some(name) = Name::from_bytes(alloc, name)? else {
         return Ok(None);
     };
     Ok(Some(Some(name)))

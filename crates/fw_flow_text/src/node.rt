@@ -128,7 +128,7 @@ fn with_operand(
     if kind == b"regroup".as_slice() {
         return Ok(regroup(operand, policy));
     }
-    let Some(name) = Name::new(alloc, operand)? else {
+    let Some(name) = Name::from_bytes(alloc, operand)? else {
         return Ok(None);
     };
     Ok(leading(kind, name, policy))
@@ -177,7 +177,7 @@ fn in_loop(
     let Some(policy) = policy(head, word) else {
         return Ok(None);
     };
-    let Some(name) = Name::new(alloc, name)? else {
+    let Some(name) = Name::from_bytes(alloc, name)? else {
         return Ok(None);
     };
     Ok(standing(kind, name, policy))

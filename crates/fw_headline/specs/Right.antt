@@ -17,7 +17,7 @@ use Rattle.fw_model.specs.Denotation.{Family, IsDenotation}
 use Rattle.fw_model.specs.History.{IsLegal}
 use Rattle.fw_model.specs.Machine.{Machine, SerialEvent, Write, acknowledged, collected, events, first_state, front_of, no_stamps, ack_count_of, is_failed}
 use Rattle.fw_model.specs.Resending.{HoldsWhatIsSentAgain}
-use Rattle.fw_model.specs.Steps.{cuts, lows, Outcome, did, StepsTo, Run, IsTheNext, front_of_cut, lies_below}
+use Rattle.fw_model.specs.Steps.{cuts, lows, Outcome, did, StepsTo, Run, IsTheNext, front_of_cut, is_forgotten}
 use Rattle.fw_rest.specs.Coming.{AllComes}
 use Rattle.fw_model.specs.Writes.{takes_checkpoints, HasOne, IsCheckpointOf, IsLoggedOnce, MayKeepNothingIfCollected}
 
@@ -70,9 +70,9 @@ pub record IsRight (sys : System) (outcomes : List Outcome) (state : Machine) : 
   pub never_falls : (step : Step) (after : Machine) (outcome : Outcome) → StepsTo sys state step after outcome
       → (p : ℕ) → p < length sys.flow.nodes
       → Within (node_frontier sys.flow p (front_of state.low p)) (node_frontier sys.flow p (front_of after.low p))
-  -- a write was collected exactly where what it holds lies below
+  -- a write was collected exactly where the watermark forgets it
   pub below : AllByRecursion (λ (write : Write). (write.stage ≡ collected)
-      ↔ (lies_below sys state.low state.history write.node write.written ≡ true)) state.writes
+      ↔ (is_forgotten sys state.low state.history state.writes write ≡ true)) state.writes
   -- no logged event of a total, a sequence or a ledger was collected
   pub never_collected : AllByRecursion (MayKeepNothingIfCollected sys) state.writes
 

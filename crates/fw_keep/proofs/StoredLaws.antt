@@ -14,6 +14,8 @@ use Rattle.std.proofs.lemmas.List.Folds.{list_any-append}
 use Rattle.std.proofs.Math.Bool.{or-true}
 use Rattle.fw_lemmas.proofs.Each.{each-weaker, each-at, each-prefix, each-suffix}
 use Rattle.fw_lemmas.proofs.Orderings.{equal_by_cmp}
+use Rattle.fw_outside.specs.Outside.{StayIfTold}
+use Rattle.fw_outside.proofs.ToldLaws.{told-kept}
 use Rattle.fw_keep.specs.declared.entry.Entry.{Entry}
 use Rattle.fw_keep.specs.Catalogue.{KeepState, IsCatalogue, ids_of, is_id_among, has_entry, AreDistinct, persisted, without}
 use Rattle.fw_keep.specs.Stored.{Records, IsEmptyStore, is_held, IsStored, AreThere, without_ids, Sweeps}
@@ -192,3 +194,8 @@ last-out ids rest out n id len at value parts =
     let some : 0 < n = omega (arith, slice_get_within ids (n - 1) id at) in
     let is : out ≡ Some id = value id some ∙ ap Some (get_or_from_slice_get ids (n - 1) id id at) in
     parts ∙ ap (λ o. rest ++ option_to_list o) is
+
+-- ---- a store that may cease to tell
+
+pub stored-told : (keep : KeepState) (before after : Option Records) → StayIfTold before after → IsStored keep before → IsStored keep after
+stored-told keep before after stay s = told-kept (λ records. IsStored keep records) before after stay (λ held is. absurd cc) s

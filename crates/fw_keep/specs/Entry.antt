@@ -1,5 +1,5 @@
 -- The writes of a catalogue: what an entry has of a record, and which entries a call speaks of.
-use Rattle.std.specs.Prelude.{◌≡◌, ℕ, Bool, false, not, ◌&&◌, ◌==◌, nat_le}
+use Rattle.std.specs.Prelude.{◌≡◌, ℕ, Bool, false, not, ◌&&◌, ◌==◌, nat_le, None}
 use Rattle.fw_time.specs.Stamp.{Stamp, same}
 use Rattle.fw_frontier.specs.Front.{Front, inside, is_within}
 use Rattle.fw_flow.specs.Dataflow.{Dataflow}
@@ -27,10 +27,10 @@ abbrev pub written_of : Record → Stamps → Written
 written_of (tagged.State c) stamps = written.Checkpoint c.recorded stamps c.state.sent
 written_of (tagged.Event node event) stamps = written.Event event
 
--- the entry of a record under an id, in flight
+-- the entry of a record under an id, in flight: it has no base, since each record is whole
 abbrev pub asked : ℕ → Record → Stamps → Entry
 asked id r stamps =
-    record { id = id; node = node_of_record r; written = written_of r stamps; acknowledged = false }
+    record { id = id; node = node_of_record r; written = written_of r stamps; base = None; depth = 0; acknowledged = false }
 
 -- this is recorded in it: a frontier, and what stands for the events inside
 abbrev pub HasRecorded : Recorded → Record → Type 0

@@ -32,6 +32,11 @@ pub struct Entry {
     pub node: NodeId,
     /// What is written.
     pub written: Written,
+    /// The id of the write on which it stands: a checkpoint that holds what changed since an earlier one of its node stands on that
+    /// one. None where it is whole; an event is.
+    pub base: Option<u64>,
+    /// On how many writes it stands: its base, that one's base, and so on.
+    pub depth: u32,
     /// Whether the write is acknowledged, and not in flight.
     pub acknowledged: bool,
 }

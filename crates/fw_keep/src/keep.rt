@@ -1,6 +1,7 @@
 //! The catalogue.
 ghost use Rattle.std.specs.Prelude.{◌≡◌, ◌↔◌, ◌+◌, ◌^◌, ◌<◌, ◌++◌, [], ◌∷◌, Option, true, false, IsTrue, IsErrOf, IfOk, OnOk, OnErr, option_map, Contains};
 ghost use Rattle.std.specs.FinMap as map;
+ghost use Rattle.fw_outside.specs.Outside.{StayIfTold};
 ghost use Rattle.fw_keep.specs.Faults.{keep_faults_after};
 ghost use Rattle.fw_record.specs.Spelling.{spelling, FitsItsCounts};
 ghost use Rattle.fw_record.specs.declared.record.Record.{Record as Spelled};
@@ -224,16 +225,17 @@ impl Keep {
     /// # Errors
     ///
     /// `StoreFault` where the store fails, `Damaged` where the bytes that it gives spell no record of the write, and
-    /// `NoMemory` where memory is refused, or was refused to a call that changes the catalogue. The store's records stay.
+    /// `NoMemory` where memory is refused, or was refused to a call that changes the catalogue. The store's records stay, where
+    /// it still tells them.
     pub fn fetch<K: Store>(&self, flow: &Flow, store: &mut K, id: u64) -> Result<Record, KeepFault>
         requires there { IsTrue (has_entry id self.now.entries) }
         requires stored { IsStored self.now (K.view store.old).records }
         ensures fetched { (entry : Write) → Contains self.now.entries entry → entry.id ≡ id
             → Fetches flow.now entry (K.view store.new).given result }
-        ensures told { IsToldUnder id (K.view store.old).records result }
+        ensures told { IsToldUnder id (K.view store.new).records result }
         ensures put { (entry : Write) (what : Spelled) → Contains self.now.entries entry → entry.id ≡ id
-            → HoldsAs flow.now (K.view store.old).records entry what → GivesOnly what result }
-        ensures stays { (K.view store.new).records ≡ (K.view store.old).records }
+            → HoldsAs flow.now (K.view store.new).records entry what → GivesOnly what result }
+        ensures stays { StayIfTold (K.view store.old).records (K.view store.new).records }
         ensures given_stays { IsErrOf result KeepFault.StoreFault → (K.view store.new).given ≡ (K.view store.old).given }
         ensures faults { (K.view store.new).faults ≡ keep_faults_after result (K.view store.old).faults }
         ensures refused { IsTrue self.now.refused → IsErrOf result KeepFault.NoMemory }

@@ -22,6 +22,8 @@ fn entry_of(id: u64, what: &Record, stamps: Stamps) -> Result<Entry, AllocError>
         id,
         node: node_of(what),
         written: written_of(what, stamps)?,
+        base: None,
+        depth: 0,
         acknowledged: false,
     })
 }
@@ -65,7 +67,7 @@ pub(crate) fn put_new<K: Store>(
     let bytes = encode(alloc, what)?;
     let entry = entry_of(id, what, stamps)?;
     add(entries, waiting, entry)?;
-    let put = store.put(id, &bytes);
+    let put = store.put_vec(id, bytes);
     if put.is_err() {
         entries.pop();
     }

@@ -175,7 +175,7 @@ fn value_fault(
         (words_at text.now records.now)
         (batch_count_at batches.now (node_named sources.now (bytes_at text.now name))) }
 {
-    let Some(node) = sources.node_of(name.of(text)) else {
+    let Some(node) = sources.node_spelled(name.of(text)) else {
         return Some(Code::I2);
     };
     if has_large(text, records) {
@@ -210,7 +210,7 @@ fn take_batch(
         then spec.batch_of (words_at text.now words.now) ∷ [] else [])) }
 {
     if let [_, name, records @ ..] = words {
-        if let Some(node) = sources.node_of(name.of(text)) {
+        if let Some(node) = sources.node_spelled(name.of(text)) {
             batches.push(node, batch(alloc, text, records)?)?;
         }
     }

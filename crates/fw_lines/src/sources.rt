@@ -43,17 +43,24 @@ impl SourceNames {
     }
 
     /// These names and one more, which is not among them. The only error is want of memory.
-    pub fn with(mut self, node: u32, name: &[u8]) -> Result<Self, AllocError>
+    pub fn with(mut self, node: u32, name: &str) -> Result<Self, AllocError>
         requires { IsNone (node_named self name.now) }
         ensures { IfOk result (λ sources. sources ≡ self ++ (name.now, node) ∷ []) }
     {
-        let name = Vec::from_slice(self.alloc, name)?;
+        let name = Vec::from_slice(self.alloc, name.as_bytes())?;
         self.nodes.insert(name, node)?;
         Ok(self)
     }
 
     /// The node of a name; `None` where the name is not among them.
-    pub fn node_of(&self, name: &[u8]) -> Option<u32>
+    pub fn node_named(&self, name: &str) -> Option<u32>
+        ensures { result ≡ node_named self.now name.now }
+    {
+        self.node_spelled(name.as_bytes())
+    }
+
+    /// The node whose name these bytes spell, as they stand in a text; `None` where it is not among them.
+    pub fn node_spelled(&self, name: &[u8]) -> Option<u32>
         ensures { result ≡ node_named self.now name.now }
     {
         self.nodes.get(name).copied()

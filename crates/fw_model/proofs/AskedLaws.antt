@@ -28,7 +28,7 @@ use Rattle.fw_model.specs.Denotation.{Family, rounds}
 use Rattle.fw_model.specs.Machine.{Machine, SerialEvent, Write, Written, checkpoint, logged_event, Stage, in_flight, acknowledged, collected, no_stamps, first_state, front_of, is_failed}
 use Rattle.fw_flow.specs.declared.choice.Choice.{Choice}
 use Rattle.fw_model.specs.Choice.{kept, cut_of, kept_of, IsCandidate, IsLargest, filtered_history}
-use Rattle.fw_model.specs.Steps.{Effect, Outcome, did, idle, LeadsTo, Run, write_of_event, with_event, checkpoint_of, is_eager, GrowsTo, is_asked_for_checkpoints, checkpoint_front, checkpoints_of, last_or, newest_checkpoint, AcknowledgesOldest, is_in_flight, with_failed, is_kept_write, IsSettledCut, CutsTo, recovered_state, front_of_cut, inside_if_some, sends_inside, is_given_up, is_serial_given_up, lies_below, after_collection, collected_writes}
+use Rattle.fw_model.specs.Steps.{Effect, Outcome, did, idle, LeadsTo, Run, write_of_event, with_event, checkpoint_of, is_eager, GrowsTo, is_asked_for_checkpoints, checkpoint_front, checkpoints_of, last_or, newest_checkpoint, AcknowledgesOldest, is_in_flight, with_failed, is_kept_write, IsSettledCut, CutsTo, recovered_state, front_of_cut, inside_if_some, sends_inside, is_given_up, is_serial_given_up, lies_below, after_collection, collected_writes, is_forgotten}
 use Rattle.fw_flow.specs.declared.restoring.Restoring.TheVariants.{Checkpoints}
 use Rattle.fw_flow.specs.Restoring.{restoring_of_policy, restoring}
 use Rattle.fw_frontier.proofs.SameLaws.{same_front-itself}
@@ -39,6 +39,7 @@ use Rattle.fw_model.proofs.SameInsideLaws.{at_node, IsLowConsistent, low_length}
 use Rattle.fw_model.proofs.WriteLaws.{ArePairs, pairs-append, pairs-passed, pairs-mapped, pairs-replaced, LiesBelow, AreAscending}
 use Rattle.fw_model.proofs.LowLaws.{none-canonical}
 use Rattle.fw_model.proofs.ChoosingLaws.{CanRecover, settled_writes, watermark-grows, took-recover, first-recover}
+use Rattle.fw_model.proofs.WholeLaws.{forgotten-below}
 use Rattle.fw_model.specs.Measure.{enough_rounds}
 use Rattle.fw_model.specs.Writes.{takes_checkpoints}
 
@@ -218,19 +219,20 @@ acknowledged-well sys low next h p (checkpoint f l) far a = a
 acknowledged-well sys low next h p (logged_event s) far a = (a.0, a.1, tt, a.3)
 
 collected-given : (sys : System) (old low : List Front) (n : ℕ) (h : List SerialEvent) (p s : ℕ) → LowGrows sys old low → AreSerialsBelow n h
-    → AllByRecursion (λ (v : SerialEvent). v.serial ≡ s → event_node sys.flow v.event ≡ p) h → (far : Stage) → IsGivenUpOnce sys old h p s far
-    → IsGivenUpOnce sys low h p s (after_collection (is_serial_given_up sys low s h) far)
-collected-given sys old low n h p s g b c in_flight a = tt
-collected-given sys old low n h p s g b c collected a = (
+    → AllByRecursion (λ (v : SerialEvent). v.serial ≡ s → event_node sys.flow v.event ≡ p) h → (goes : Bool) → (goes ≡ true → is_serial_given_up sys low s h ≡ true)
+    → (far : Stage) → IsGivenUpOnce sys old h p s far → IsGivenUpOnce sys low h p s (after_collection goes far)
+collected-given sys old low n h p s g b c goes k in_flight a = tt
+collected-given sys old low n h p s g b c goes k collected a = (
   a.0,
   each-weaker (λ (v : SerialEvent). v.serial ≡ s → is_given_up sys old p (event_stamp v.event) ≡ true) (λ v. v.serial ≡ s → is_given_up sys low p (event_stamp v.event) ≡ true) h
       (λ v k e. given-grows sys old low g p (event_stamp v.event) (k e)) a.1,
 )
-collected-given sys old low n h p s g b c acknowledged a =
+collected-given sys old low n h p s g b c goes k acknowledged a =
     let N : SerialEvent → Type 0 = λ v. v.serial ≡ s → event_node sys.flow v.event ≡ p in
     let test : SerialEvent → Bool = λ v. is_given_up sys low (event_node sys.flow v.event) (event_stamp v.event) in
-    cond_both (is_serial_given_up sys low s h) collected acknowledged (λ far. IsGivenUpOnce sys low h p s far)
-    (λ e.
+    cond_both goes collected acknowledged (λ far. IsGivenUpOnce sys low h p s far)
+    (λ gone.
+    let e = k gone in
     let v = any-find (λ v. v.serial == s && test v) N h e c in
     let i = and_parts (v.0.serial == s) (test v.0) v.1 in
     let is : event_node sys.flow v.0.event ≡ p = v.2 (eqb-true v.0.serial s i.0) in
@@ -244,10 +246,10 @@ collected-given sys old low n h p s g b c acknowledged a =
     ))
     (λ e. tt)
 
-collected-well : (sys : System) (old low : List Front) (next : ℕ) (h : List SerialEvent) → LowGrows sys old low → AreSerialsBelow next h → (p : ℕ) (w : Written) (far : Stage)
-    → IsAskedWell sys old next h p w far → IsAskedWell sys low next h p w (after_collection (lies_below sys low h p w) far)
-collected-well sys old low next h g b p (checkpoint f l) far a = (a.0, a.1, λ q t i. g q t (a.2 q t i))
-collected-well sys old low next h g b p (logged_event s) far a = (a.0, a.1, collected-given sys old low next h p s g b a.1 far a.2, a.3)
+collected-well : (sys : System) (old low : List Front) (next : ℕ) (h : List SerialEvent) → LowGrows sys old low → AreSerialsBelow next h → (p : ℕ) (w : Written) (goes : Bool)
+    → (goes ≡ true → lies_below sys low h p w ≡ true) → (far : Stage) → IsAskedWell sys old next h p w far → IsAskedWell sys low next h p w (after_collection goes far)
+collected-well sys old low next h g b p (checkpoint f l) goes k far a = (a.0, a.1, λ q t i. g q t (a.2 q t i))
+collected-well sys old low next h g b p (logged_event s) goes k far a = (a.0, a.1, collected-given sys old low next h p s g b a.1 goes k far a.2, a.3)
 
 -- ---- no two hold the same
 
@@ -324,7 +326,7 @@ abbrev pub AreOthers : List ℕ → Type 0
 AreOthers [] = Unit {0}
 AreOthers (p ∷ ps) = AllByRecursion (λ q. p ≡ q → ⊥) ps × AreOthers ps
 
-others-passed : (test : ℕ → Bool) (ps : List ℕ) → AreOthers ps → AreOthers (filter test ps)
+pub others-passed : (test : ℕ → Bool) (ps : List ℕ) → AreOthers ps → AreOthers (filter test ps)
 others-passed test [] a = tt
 others-passed test (p ∷ ps) a =
     let rest = others-passed test ps a.1 in
@@ -334,7 +336,7 @@ range-from : (k m n : ℕ) → k ≤ m → AllByRecursion (λ q. k ≤ q) (range
 range-from k m zero l = tt
 range-from k m (suc n) l = (l, range-from k (m + 1) n (omega arith))
 
-range-others : (m n : ℕ) → AreOthers (range_with_len m n)
+pub range-others : (m n : ℕ) → AreOthers (range_with_len m n)
 range-others m zero = tt
 range-others m (suc n) = (
   each-weaker (λ q. m + 1 ≤ q) (λ q. m ≡ q → ⊥) (range_with_len (m + 1) n) (λ q l e. omega arith) (range-from (m + 1) (m + 1) n (at_most-refl (m + 1))),
@@ -550,16 +552,18 @@ low-grows sys state notices choice c m p = elim (cases_lt p (length sys.flow.nod
 
 collected-restore : (sys : System) (state : Machine) (low : List Front) → LowGrows sys state.low low → CanRestore sys state
     → CanRestore sys (record state { low = low; writes = collected_writes sys low state.history state.writes })
-collected-restore sys state low g c = record {
-  settled = c.settled;
-  serials = c.serials;
-  asked = each-map (IsWriteAskedWell sys low state.next state.history)
-      (λ (x : Write). record x { stage = after_collection (lies_below sys low state.history x.node x.written) x.stage }) state.writes
-      (each-weaker (IsWriteAskedWell sys state.low state.next state.history)
-      (λ (x : Write). IsAskedWell sys low state.next state.history x.node x.written (after_collection (lies_below sys low state.history x.node x.written) x.stage)) state.writes
-      (λ x a. collected-well sys state.low low state.next state.history g c.serials x.node x.written x.stage a) c.asked);
-  apart = pairs-mapped IsApart (λ x. after_collection (lies_below sys low state.history x.node x.written) x.stage) state.writes c.apart;
-}
+collected-restore sys state low g c =
+    let goes : Write → Bool = is_forgotten sys low state.history state.writes in
+    record {
+      settled = c.settled;
+      serials = c.serials;
+      asked = each-map (IsWriteAskedWell sys low state.next state.history) (λ (x : Write). record x { stage = after_collection (goes x) x.stage }) state.writes
+          (each-weaker (IsWriteAskedWell sys state.low state.next state.history)
+          (λ (x : Write). IsAskedWell sys low state.next state.history x.node x.written (after_collection (goes x) x.stage)) state.writes
+          (λ x a. collected-well sys state.low low state.next state.history g c.serials x.node x.written (goes x)
+          (forgotten-below sys low state.history state.writes x) x.stage a) c.asked);
+      apart = pairs-mapped IsApart (λ x. after_collection (goes x) x.stage) state.writes c.apart;
+    }
 
 -- ---- each state of a run
 

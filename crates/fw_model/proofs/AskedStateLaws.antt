@@ -12,7 +12,7 @@ use Rattle.fw_flow.specs.Dataflow.{System, policy_of, receiver, node_ids, is_one
 use Rattle.fw_flow.specs.WellFormed.{IsWellFormedSystem}
 use Rattle.fw_model.specs.Machine.{Machine, Write, Written, checkpoint, logged_event, acknowledged, first_state, front_of}
 use Rattle.fw_model.specs.Choice.{cut_of, filtered_history}
-use Rattle.fw_model.specs.Steps.{Effect, Outcome, did, idle, LeadsTo, StepsTo, Run, write_of_event, with_event, checkpoint_of, is_eager, is_in_flight, is_kept_write, front_of_cut, lies_below, after_collection}
+use Rattle.fw_model.specs.Steps.{Effect, Outcome, did, idle, LeadsTo, StepsTo, Run, write_of_event, with_event, checkpoint_of, is_eager, is_in_flight, is_kept_write, front_of_cut, after_collection, is_forgotten}
 use Rattle.fw_model.specs.LawsOfRestoring.{CheckpointsAreAsTheyWereAsked}
 use Rattle.fw_model.proofs.ChoosingLaws.{settled_writes}
 use Rattle.fw_model.proofs.AskedLaws.{CanRecoverAndRestore, took-reached, first-reached}
@@ -94,7 +94,7 @@ took-was_or_new sys P state Collect next effect t a =
     let low = map front_of_cut t.0.cuts in
     each-weaker W (WasOrIsNew P next) next.writes (λ x b. inl b)
     (subst (λ (m : Machine). AllByRecursion W m.writes) (sym t.3)
-    (each-map W (λ (x : Write). record x { stage = after_collection (lies_below sys low state.history x.node x.written) x.stage }) state.writes a))
+    (each-map W (λ (x : Write). record x { stage = after_collection (is_forgotten sys low state.history state.writes x) x.stage }) state.writes a))
 took-was_or_new sys P state (Ack o) next effect t a =
     let W : Write → Type 0 = λ x. P x.node x.written in
     each-weaker W (WasOrIsNew P next) next.writes (λ x b. inl b) (subst (λ (m : Machine). AllByRecursion W m.writes) (sym t.2) a)

@@ -20,7 +20,7 @@ use Rattle.fw_flow.specs.NodeFunction.{event_node}
 use Rattle.fw_flow.specs.WellFormed.{IsWellFormedSystem}
 use Rattle.fw_model.specs.Machine.{Machine, SerialEvent, Write, Written, checkpoint, logged_event, acknowledged, no_stamps, first_state, front_of}
 use Rattle.fw_model.specs.Choice.{cut_of, filtered_history}
-use Rattle.fw_model.specs.Steps.{Effect, Outcome, did, idle, write_of_event, with_event, is_eager, eager_writes, checkpoint_of, is_asked_for_checkpoints, checkpoint_front, checkpoints_of, last_or, newest_checkpoint, is_in_flight, is_kept_write, lies_below, after_collection, front_of_cut, LeadsTo, Run}
+use Rattle.fw_model.specs.Steps.{Effect, Outcome, did, idle, write_of_event, with_event, is_eager, eager_writes, checkpoint_of, is_asked_for_checkpoints, checkpoint_front, checkpoints_of, last_or, newest_checkpoint, is_in_flight, is_kept_write, after_collection, front_of_cut, LeadsTo, Run, is_forgotten}
 use Rattle.fw_frontier.proofs.SameLaws.{same_front-itself}
 use Rattle.fw_model.proofs.AskedLaws.{takes-declared, IsApart, IsAskedWell, IsWriteAskedWell, CanRecoverAndRestore, took-reached, first-reached, reached-all, eager-takes, asked-takes}
 use Rattle.fw_model.proofs.CheckpointLaws.{HoldsSettled, IsWriteSettled, settled-grows}
@@ -177,7 +177,7 @@ took-stamps sys state Collect next effect f t a =
     let low = map front_of_cut t.0.cuts in
     subst (λ (m : Machine). HaveStamps sys m.writes) (sym t.3)
     (each-map (HasWriteStamps sys)
-    (λ (write : Write). record write { stage = after_collection (lies_below sys low state.history write.node write.written) write.stage }) state.writes a)
+    (λ (write : Write). record write { stage = after_collection (is_forgotten sys low state.history state.writes write) write.stage }) state.writes a)
 took-stamps sys state (Ack o) next effect f t a = subst (λ (m : Machine). HaveStamps sys m.writes) (sym t.2) a
 
 run-stamps : (sys : System) → IsWellFormedSystem sys → (steps : List Step) (outcomes : List Outcome) (state last : Machine) → CanRecoverAndRestore sys state

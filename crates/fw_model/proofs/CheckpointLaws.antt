@@ -19,7 +19,7 @@ use Rattle.fw_flow.specs.Dataflow.{System, kind_of, policy_of, receiver, bounds_
 use Rattle.fw_model.specs.Machine.{Machine, SerialEvent, Write, Written, checkpoint, logged_event, Stage, acknowledged, first_state, front_of, is_failed}
 use Rattle.fw_flow.specs.declared.choice.Choice.{Choice}
 use Rattle.fw_model.specs.Choice.{View, HasCheckpoint, IsRestorable, cut_of, filtered_history}
-use Rattle.fw_model.specs.Steps.{Effect, Outcome, did, idle, LeadsTo, StepsTo, Run, write_of_event, checkpoint_of, is_eager, GrowsTo, AcknowledgesOldest, is_in_flight, is_kept_write, kept_writes, IsSettledCut, CutsTo, lies_below, after_collection, front_of_cut}
+use Rattle.fw_model.specs.Steps.{Effect, Outcome, did, idle, LeadsTo, StepsTo, Run, write_of_event, checkpoint_of, is_eager, GrowsTo, AcknowledgesOldest, is_in_flight, is_kept_write, kept_writes, IsSettledCut, CutsTo, after_collection, front_of_cut, is_forgotten}
 use Rattle.fw_flow.specs.declared.restoring.Restoring.{Restoring}
 use Rattle.fw_flow.specs.declared.restoring.Restoring.TheVariants.{Batches, Bound, Anything, Checkpoints, Events}
 use Rattle.fw_flow.specs.Restoring.{restoring, way_of}
@@ -133,7 +133,7 @@ took-writes sys state Collect next effect t a =
     let low = map front_of_cut t.0.cuts in
     subst (HasWritesSettled sys) (sym t.3)
     (each-map (IsWriteSettled sys state.settled)
-    (λ (write : Write). record write { stage = after_collection (lies_below sys low state.history write.node write.written) write.stage }) state.writes a)
+    (λ (write : Write). record write { stage = after_collection (is_forgotten sys low state.history state.writes write) write.stage }) state.writes a)
 took-writes sys state (Ack o) next effect t a = subst (HasWritesSettled sys) (sym t.2) a
 
 steps-writes : (sys : System) (state : Machine) (step : Step) (next : Machine) (outcome : Outcome) → StepsTo sys state step next outcome
@@ -157,7 +157,7 @@ checkpoint-within sys settled view p f (write ∷ writes) a k =
     by write.node write.written write.stage a.0 (checkpoint-within sys settled view p f writes a.1) k
   where
     by : (n : ℕ) (w : Written) (far : Stage) → HoldsSettled sys settled n w → (HasCheckpoint view p f writes → IsSettled sys settled p f)
-        → HasCheckpoint view p f (record { node = n; written = w; stage = far } ∷ writes) → IsSettled sys settled p f
+        → HasCheckpoint view p f (record write { node = n; written = w; stage = far } ∷ writes) → IsSettled sys settled p f
     by n (checkpoint g low) far h rest k = elim k [
       | inl c ↦ subst (λ q. IsSettled sys settled q f) c.0 (subst (λ x. IsSettled sys settled n x) c.1 h)
       | inr c ↦ rest c

@@ -90,18 +90,19 @@ above-some f (s ∷ ss) t = by (f s) (above-some f ss t)
     by true e = ap (λ r. leq t s || r) e
     by false e = e
 
-sent-some : (test : Message → Bool) (ms : List Message) (t : Stamp) → some_above (map (λ m. m.at) (filter test ms)) t ≡ some_of test (λ m. m.at) ms t
+-- the same of the stamps of elements that pass
+some-mapped : {X : Type 0} (test : X → Bool) (at : X → Stamp) (xs : List X) (t : Stamp) → some_above (map at (filter test xs)) t ≡ some_of test at xs t
 unfolding some_of
-sent-some test [] t = refl
-sent-some test (m ∷ ms) t = by (test m) (sent-some test ms t)
+some-mapped test at [] t = refl
+some-mapped test at (x ∷ xs) t = by (test x) (some-mapped test at xs t)
   where
-    by : (c : Bool) → some_above (map (λ m. m.at) (filter test ms)) t ≡ some_of test (λ m. m.at) ms t
-        → some_above (map (λ m. m.at) (if c then m ∷ filter test ms else filter test ms)) t ≡ ((c && leq t m.at) || some_of test (λ m. m.at) ms t)
-    by true e = ap (λ r. leq t m.at || r) e
+    by : (c : Bool) → some_above (map at (filter test xs)) t ≡ some_of test at xs t
+        → some_above (map at (if c then x ∷ filter test xs else filter test xs)) t ≡ ((c && leq t (at x)) || some_of test at xs t)
+    by true e = ap (λ r. leq t (at x) || r) e
     by false e = e
 
 -- the element passes one of two tests if it passes the first
-abbrev Divides : {X : Type 0} → (X → Bool) → (X → Bool) → (X → Bool) → X → Type 0
+abbrev pub Divides : {X : Type 0} → (X → Bool) → (X → Bool) → (X → Bool) → X → Type 0
 Divides h f g x = h x ≡ true → (f x ≡ true) ⊎ (g x ≡ true)
 
 some-divides : {X : Type 0} (h f g : X → Bool) (at : X → Stamp) (xs : List X) (t : Stamp) → AllByRecursion (Divides h f g) xs
@@ -124,7 +125,15 @@ and_divides : (d a b c : Bool) → (a ≡ true → (b || c) ≡ true) → (d && 
 and_divides true a b c h k = h k
 and_divides false a b c h k = k
 
-cover-divides : (b : Bounds) (h f g : Frontier) (ss : List Stamp) → Within h (join f g) → Within (cover b (filter h ss)) (join (cover b (filter f ss)) (cover b (filter g ss)))
+-- the cover of what passes a test lies in the covers of what passes one of two others
+pub covered-divides : {X : Type 0} (b : Bounds) (h f g : X → Bool) (at : X → Stamp) (xs : List X) → AllByRecursion (Divides h f g) xs
+    → Within (cover b (map at (filter h xs))) (join (cover b (map at (filter f xs))) (cover b (map at (filter g xs))))
+covered-divides b h f g at xs all t k =
+    and_divides (in_domain b t) (some_above (map at (filter h xs)) t) (some_above (map at (filter f xs)) t) (some_above (map at (filter g xs)) t)
+    (λ i. ap (λ c. c || some_above (map at (filter g xs)) t) (some-mapped f at xs t) ∙ ap (λ c. some_of f at xs t || c) (some-mapped g at xs t)
+    ∙ some-divides h f g at xs t all (sym (some-mapped h at xs t) ∙ i)) k
+
+pub cover-divides : (b : Bounds) (h f g : Frontier) (ss : List Stamp) → Within h (join f g) → Within (cover b (filter h ss)) (join (cover b (filter f ss)) (cover b (filter g ss)))
 cover-divides b h f g ss w t k =
     and_divides (in_domain b t) (some_above (filter h ss) t) (some_above (filter f ss) t) (some_above (filter g ss) t)
     (λ i. ap (λ c. c || some_above (filter g ss) t) (above-some f ss t) ∙ ap (λ c. some_of f (λ s. s) ss t || c) (above-some g ss t)
@@ -133,7 +142,7 @@ cover-divides b h f g ss w t k =
 -- ---- what counts inside the union of two cuts
 
 -- where either of two values divides, so does the one that a flag names
-flag-divides : (c : Bool) (h f g k m n : Frontier) → Within h (join f g) → Within k (join m n)
+pub flag-divides : (c : Bool) (h f g k m n : Frontier) → Within h (join f g) → Within k (join m n)
     → Within (if c then h else k) (join (if c then f else m) (if c then g else n))
 flag-divides true h f g k m n v w = v
 flag-divides false h f g k m n v w = w
@@ -213,16 +222,13 @@ sent-divides sys state e h f g ff fg w =
 sent-divides_cover : (sys : System) (state : Machine) (e : ℕ) (h f g : Front)
     → (let b = bounds_of sys.flow (sender sys.flow e) in Within (frontier_of b h) (join (frontier_of b f) (frontier_of b g)))
     → Within ((tallies_in sys state).sent e (At h)) (join ((tallies_in sys state).sent e (At f)) ((tallies_in sys state).sent e (At g)))
-sent-divides_cover sys state e hs fs gs w t k =
-    let ms = sent_messages sys (events state.history) e in
+sent-divides_cover sys state e hs fs gs w =
     let b = bounds_of sys.flow (sender sys.flow e) in
     let h = frontier_of b hs in
     let f = frontier_of b fs in
     let g = frontier_of b gs in
-    let from : Frontier → Message → Bool = λ x m. all_inside x m.causes in
-    and_divides (in_domain (bounds_of sys.flow (receiver sys.flow e)) t) (some_above (stamps_from h ms) t) (some_above (stamps_from f ms) t) (some_above (stamps_from g ms) t)
-    (λ i. ap (λ c. c || some_above (stamps_from g ms) t) (sent-some (from f) ms t) ∙ ap (λ c. some_of (from f) (λ m. m.at) ms t || c) (sent-some (from g) ms t)
-    ∙ some-divides (from h) (from f) (from g) (λ m. m.at) ms t (sent-divides sys state e h f g (frontier-closed b fs) (frontier-closed b gs) w) (sym (sent-some (from h) ms t) ∙ i)) k
+    covered-divides (bounds_of sys.flow (receiver sys.flow e)) (λ m. all_inside h m.causes) (λ m. all_inside f m.causes) (λ m. all_inside g m.causes) (λ m. m.at)
+    (sent_messages sys (events state.history) e) (sent-divides sys state e h f g (frontier-closed b fs) (frontier-closed b gs) w)
 
 discarded_at-divides : (sys : System) (state : Machine) (e : ℕ) (way : Restoring) (h f g : Front)
     → (let b = bounds_of sys.flow (sender sys.flow e) in Within (frontier_of b h) (join (frontier_of b f) (frontier_of b g)))

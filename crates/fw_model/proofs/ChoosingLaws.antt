@@ -20,7 +20,7 @@ use Rattle.fw_model.specs.Denotation.{Family, IsDenotation, rounds}
 use Rattle.fw_model.specs.Machine.{Machine, SerialEvent, Write, Written, checkpoint, logged_event, Stage, in_flight, acknowledged, collected, first_state, front_of, is_failed, ack_count_of}
 use Rattle.fw_flow.specs.declared.choice.Choice.{Choice}
 use Rattle.fw_model.specs.Choice.{View, kept, ever, IsRestorable, IsCandidate, cut_of, IsConsistent, IsCutWithin, IsLargest, filtered_history}
-use Rattle.fw_model.specs.Steps.{Effect, Outcome, did, idle, LeadsTo, Run, write_of_event, checkpoint_of, is_eager, eager_writes, is_in_flight, without_lost, with_failed, is_kept_write, lies_below, after_collection, front_of_cut}
+use Rattle.fw_model.specs.Steps.{Effect, Outcome, did, idle, LeadsTo, Run, write_of_event, checkpoint_of, is_eager, eager_writes, is_in_flight, without_lost, with_failed, is_kept_write, lies_below, after_collection, front_of_cut, is_forgotten}
 use Rattle.fw_model.specs.LawsOfChoosing.{LowWatermarkIsConsistent, CheckpointsAreChains, RecoveryHasAChoice, FailedNodesAreRecovered, ReachedStatesHaveOneNextState, LargestChoiceHoldsLowWatermark, LowWatermarkNeverFalls, LargestOfKeptIsLargestOfEver}
 use Rattle.fw_flow.specs.declared.restoring.Restoring.{Restoring}
 use Rattle.fw_flow.specs.declared.restoring.Restoring.TheVariants.{Batches, Bound, Anything, Checkpoints, Events}
@@ -35,6 +35,7 @@ use Rattle.fw_model.proofs.WriteLaws.{some-checkpoint, checkpoint-some, pairs-ap
 use Rattle.fw_frontier.proofs.NamesLaws.{within-is}
 use Rattle.fw_model.proofs.LowLaws.{event-low, same-low, keep-append, keep-all, keep-acknowledged, keep-failed, set-grows, candidate-ever, offered-consistent, low-any, low-within, recovery-low, watermark-front, collection-low, first-low}
 use Rattle.fw_model.proofs.DomainLaws.{has_epochs}
+use Rattle.fw_model.proofs.WholeLaws.{forgotten-below}
 use Rattle.fw_model.specs.Measure.{enough_rounds}
 use Rattle.fw_model.specs.Choosing.{AreCheckpointsChains, CanChoose, HasItsChoice, low_choice}
 use Rattle.fw_model.specs.Settled.{IsFull}
@@ -173,7 +174,7 @@ took-ascend sys state Recover next effect h a t =
     (pairs-passed (LiesBelow sys) (λ write. is_kept_write (cut_of t.1 write.node) write.written (filtered_history sys t.1 state.history)) state.writes a)
 took-ascend sys state Collect next effect h a t =
     let low = map front_of_cut t.0.cuts in
-    subst (HasAscending sys) (sym t.3) (pairs-mapped (LiesBelow sys) (λ write. after_collection (lies_below sys low state.history write.node write.written) write.stage) state.writes a)
+    subst (HasAscending sys) (sym t.3) (pairs-mapped (LiesBelow sys) (λ write. after_collection (is_forgotten sys low state.history state.writes write) write.stage) state.writes a)
 took-ascend sys state (Ack o) next effect h a t = subst (HasAscending sys) (sym t.2) a
 
 -- ---- collected checkpoints lie below at each step
@@ -198,15 +199,16 @@ acknowledged-below sys low p (logged_event s) = tt
 
 -- what is collected lies below the new low watermark, and so does what lay below the old one
 collected-below : (sys : System) (old low : List Front) (h : List SerialEvent) → ((p : ℕ) → p < length sys.flow.nodes → Within (at_node sys old p) (at_node sys low p))
-    → (p : ℕ) (w : Written) (far : Stage) → IsCollectedBelow sys old p w far → IsCollectedBelow sys low p w (after_collection (lies_below sys low h p w) far)
-collected-below sys old low h grows p (checkpoint g l) in_flight a = tt
-collected-below sys old low h grows p (checkpoint g l) collected a = λ i c v. a i c (λ t k. v t (grows p i t k))
-collected-below sys old low h grows p (checkpoint g l) acknowledged a =
-    cond_both (lies_below sys low h p (checkpoint g l)) collected acknowledged (λ far. IsCollectedBelow sys low p (checkpoint g l) far)
-    (λ e i c v. two_ways (not (is_within (front_of low p) g)) (and_parts (is_within g (front_of low p)) (not (is_within (front_of low p) g)) e).1
+    → (p : ℕ) (w : Written) (goes : Bool) → (goes ≡ true → lies_below sys low h p w ≡ true) → (far : Stage) → IsCollectedBelow sys old p w far
+    → IsCollectedBelow sys low p w (after_collection goes far)
+collected-below sys old low h grows p (checkpoint g l) goes k in_flight a = tt
+collected-below sys old low h grows p (checkpoint g l) goes k collected a = λ i c v. a i c (λ t j. v t (grows p i t j))
+collected-below sys old low h grows p (checkpoint g l) goes k acknowledged a =
+    cond_both goes collected acknowledged (λ far. IsCollectedBelow sys low p (checkpoint g l) far)
+    (λ e i c v. two_ways (not (is_within (front_of low p) g)) (and_parts (is_within g (front_of low p)) (not (is_within (front_of low p) g)) (k e)).1
     (ap not (within-is (bounds_of sys.flow p) (front_of low p) g c v)))
     (λ e. tt)
-collected-below sys old low h grows p (logged_event s) far a = tt
+collected-below sys old low h grows p (logged_event s) goes k far a = tt
 
 -- the new low watermark contains the old one
 pub watermark-grows : (sys : System) (state : Machine) (notices : List Front) (choice : Choice) → IsLowConsistent sys state notices
@@ -254,10 +256,12 @@ took-below sys family state Collect next effect f t =
     let choice = t.0 in
     let low = map front_of_cut choice.cuts in
     let grows = watermark-grows sys state f.notices choice f.watermark t.1 in
+    let goes : Write → Bool = is_forgotten sys low state.history state.writes in
     subst (HasCollectedBelow sys) (sym t.3)
-    (each-map (IsWriteCollectedBelow sys low) (λ (x : Write). record x { stage = after_collection (lies_below sys low state.history x.node x.written) x.stage }) state.writes
-    (each-weaker (IsWriteCollectedBelow sys state.low) (λ (x : Write). IsCollectedBelow sys low x.node x.written (after_collection (lies_below sys low state.history x.node x.written) x.stage)) state.writes
-    (λ x b. collected-below sys state.low low state.history grows x.node x.written x.stage b) f.lie_below))
+    (each-map (IsWriteCollectedBelow sys low) (λ (x : Write). record x { stage = after_collection (goes x) x.stage }) state.writes
+    (each-weaker (IsWriteCollectedBelow sys state.low) (λ (x : Write). IsCollectedBelow sys low x.node x.written (after_collection (goes x) x.stage)) state.writes
+    (λ x b. collected-below sys state.low low state.history grows x.node x.written (goes x) (forgotten-below sys low state.history state.writes x) x.stage b)
+    f.lie_below))
 took-below sys family state (Ack o) next effect f t = subst (HasCollectedBelow sys) (sym t.2) f.lie_below
 
 -- ---- each state of a run

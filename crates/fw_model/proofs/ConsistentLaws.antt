@@ -70,7 +70,7 @@ has_checkpoint-decided view p f [] = inr (λ k. k)
 has_checkpoint-decided view p f (write ∷ writes) = by write.node write.written write.stage (has_checkpoint-decided view p f writes)
   where
     by : (n : ℕ) (w : Written) (far : Stage) → Decided (HasCheckpoint view p f writes)
-        → Decided (HasCheckpoint view p f (record { node = n; written = w; stage = far } ∷ writes))
+        → Decided (HasCheckpoint view p f (record write { node = n; written = w; stage = far } ∷ writes))
     by n (checkpoint g low) far rest =
         decided-or
         (decided-as (λ (a : (n ≡ p) × ((g ≡ f) × (is_counted view far ≡ true))). (a.0, a.1.0, a.1.1))
@@ -84,7 +84,7 @@ logged-decided serial [] = inr (λ k. k)
 logged-decided serial (write ∷ writes) = by write.node write.written write.stage (logged-decided serial writes)
   where
     by : (n : ℕ) (w : Written) (far : Stage) → Decided (IsLogged serial writes)
-        → Decided (IsLogged serial (record { node = n; written = w; stage = far } ∷ writes))
+        → Decided (IsLogged serial (record write { node = n; written = w; stage = far } ∷ writes))
     by n (checkpoint g low) far rest = decided-or (inr (λ k. k)) rest
     by n (logged_event s) far rest = decided-or (decided-and (decided-number s serial) (decided-test (is_counted ever far) true)) rest
 

@@ -22,7 +22,7 @@ use Rattle.fw_model.specs.History.{IsEnabled}
 use Rattle.fw_model.specs.Machine.{Machine, SerialEvent, Write, Written, checkpoint, logged_event, Stage, in_flight, acknowledged, collected, events, first_state, front_of, is_failed}
 use Rattle.fw_flow.specs.declared.choice.Choice.{Choice}
 use Rattle.fw_model.specs.Choice.{kept, ever, is_counted, IsLogged, IsRestorable, IsCandidate, cut_of, kept_of, IsConsistent, filtered_history}
-use Rattle.fw_model.specs.Steps.{Effect, Outcome, did, idle, LeadsTo, Run, write_of_event, with_event, checkpoint_of, is_eager, is_in_flight, is_kept_write, front_of_cut, is_given_up, is_serial_given_up, lies_below, after_collection}
+use Rattle.fw_model.specs.Steps.{Effect, Outcome, did, idle, LeadsTo, Run, write_of_event, with_event, checkpoint_of, is_eager, is_in_flight, is_kept_write, front_of_cut, is_given_up, is_serial_given_up, lies_below, after_collection, is_forgotten}
 use Rattle.fw_model.specs.LawsOfRestoring.{WhatIsForgottenWasAcknowledged, CollectedIsWhatLiesBelow}
 use Rattle.fw_frontier.proofs.NamesLaws.{is_within-holds, within-is}
 use Rattle.fw_model.proofs.SameInsideLaws.{at_node}
@@ -31,15 +31,16 @@ use Rattle.fw_model.proofs.LowLaws.{low-within_settled, event-outside, none-with
 use Rattle.fw_model.proofs.ChoosingLaws.{settled_writes}
 use Rattle.fw_model.proofs.AskedLaws.{takes-declared, takes-restoring, takes-not_input, AreSerialsBelow, serials-each, any-find, LowGrows, given-stamp, given-grows, IsAskedWell, IsWriteAskedWell, IsApart, low-grows, CanRecoverAndRestore, took-reached, first-reached, reached-all}
 use Rattle.fw_model.proofs.RestoringLaws.{full-reached, low-kept, apart-events, all-logged, full-restoring, full-declared}
+use Rattle.fw_model.proofs.WholeLaws.{forgotten-below, AreWhole, forgotten-is, took-whole, reached-whole}
 
 -- ---- writes are acknowledged in order
 
 -- the write is in flight
-abbrev Flies : Write → Type 0
+abbrev pub Flies : Write → Type 0
 Flies write = is_in_flight write.stage ≡ true
 
 -- after a write in flight all are in flight
-abbrev AreInOrder : List Write → Type 0
+abbrev pub AreInOrder : List Write → Type 0
 AreInOrder [] = Unit {0}
 AreInOrder (x ∷ xs) = (Flies x → AllByRecursion Flies xs) × AreInOrder xs
 
@@ -87,10 +88,10 @@ event-flies p q serial = tt
 asked-fly : (state : Machine) (settled : List Front) (ps : List ℕ) → AllByRecursion Flies (settled_writes state settled ps)
 asked-fly state settled ps = each-map Flies (λ p. checkpoint_of state p (front_of settled p)) ps (each-one (λ p. Flies (checkpoint_of state p (front_of settled p))) ps (λ p. refl))
 
-abbrev HasOrder : Machine → Type 0
+abbrev pub HasOrder : Machine → Type 0
 HasOrder state = AreInOrder state.writes
 
-took-order : (sys : System) (state : Machine) (step : Step) (next : Machine) (effect : Effect) → LeadsTo sys state step next effect → HasOrder state → HasOrder next
+pub took-order : (sys : System) (state : Machine) (step : Step) (next : Machine) (effect : Effect) → LeadsTo sys state step next effect → HasOrder state → HasOrder next
 took-order sys state (Inject s) next effect t a =
     subst HasOrder (sym t.3) (order-append state.writes (write_of_event (policy_of sys.flow s) s state.next) a (event-flies (policy_of sys.flow s) s state.next))
 took-order sys state (Deliver e at) next effect t a =
@@ -112,7 +113,7 @@ took-order sys state Recover next effect t a =
     subst HasOrder (sym t.7) (order-passed (λ write. is_kept_write (cut_of t.1 write.node) write.written (filtered_history sys t.1 state.history)) state.writes a)
 took-order sys state Collect next effect t a =
     let low = map front_of_cut t.0.cuts in
-    subst HasOrder (sym t.3) (order-collected (λ write. lies_below sys low state.history write.node write.written) state.writes a)
+    subst HasOrder (sym t.3) (order-collected (λ write. is_forgotten sys low state.history state.writes write) state.writes a)
 took-order sys state (Ack o) next effect t a = subst HasOrder (sym t.2) a
 
 run-order : (sys : System) (steps : List Step) (outcomes : List Outcome) (state last : Machine) → HasOrder state → Run sys state steps outcomes last → HasOrder last
@@ -153,20 +154,20 @@ below-new sys p f g l n (checkpoint x m) far i b a =
     (subst (λ q. q < length sys.flow.nodes → Within (frontier_of (bounds_of sys.flow q) x) (frontier_of (bounds_of sys.flow q) g)) a.0 (b a.0) i)
 below-new sys p f g l n (logged_event s) far i b a = absurd a
 
-flying-above : (sys : System) (p : ℕ) (f g : Front) (l : List Front) (xs : List Write) → p < length sys.flow.nodes → AreAscending sys xs → AreInOrder xs
-    → HoldsOfOne (λ (y : Write). y ≡ record { node = p; written = checkpoint g l; stage = in_flight }) xs → HoldsOfOne (IsItsCheckpoint kept p f) xs
+flying-above : (sys : System) (p : ℕ) (f g : Front) (l : List Front) (of : Write) (xs : List Write) → p < length sys.flow.nodes → AreAscending sys xs → AreInOrder xs
+    → HoldsOfOne (λ (y : Write). y ≡ record of { node = p; written = checkpoint g l; stage = in_flight }) xs → HoldsOfOne (IsItsCheckpoint kept p f) xs
     → Within (frontier_of (bounds_of sys.flow p) f) (frontier_of (bounds_of sys.flow p) g)
-flying-above sys p f g l [] i a o b c = absurd b
-flying-above sys p f g l (x ∷ xs) i a o (inl b) (inl c) =
+flying-above sys p f g l of [] i a o b c = absurd b
+flying-above sys p f g l of (x ∷ xs) i a o (inl b) (inl c) =
     absurd (two_ways (is_in_flight x.stage) (ap (λ (y : Write). is_in_flight y.stage) b) (its-lands p f x.node x.written x.stage c))
-flying-above sys p f g l (x ∷ xs) i a o (inl b) (inr c) =
+flying-above sys p f g l of (x ∷ xs) i a o (inl b) (inr c) =
     let y = some-find (IsItsCheckpoint kept p f) Flies xs c (o.0 (ap (λ (y : Write). is_in_flight y.stage) b)) in
     absurd (two_ways (is_in_flight y.0.stage) y.2 (its-lands p f y.0.node y.0.written y.0.stage y.1))
-flying-above sys p f g l (x ∷ xs) i a o (inr b) (inl c) =
-    let new : Write = record { node = p; written = checkpoint g l; stage = in_flight } in
+flying-above sys p f g l of (x ∷ xs) i a o (inr b) (inl c) =
+    let new : Write = record of { node = p; written = checkpoint g l; stage = in_flight } in
     let y = some-find (λ (y : Write). y ≡ new) (λ y. LiesBelow sys x.node x.written y.node y.written) xs b a.0 in
     below-new sys p f g l x.node x.written x.stage i (subst (λ (z : Write). LiesBelow sys x.node x.written z.node z.written) y.1 y.2) c
-flying-above sys p f g l (x ∷ xs) i a o (inr b) (inr c) = flying-above sys p f g l xs i a.1 o.1 b c
+flying-above sys p f g l of (x ∷ xs) i a o (inr b) (inr c) = flying-above sys p f g l of xs i a.1 o.1 b c
 
 -- ---- an event that is logged by a write in flight is logged by no other
 
@@ -178,18 +179,19 @@ logged-names : (s : ℕ) (w : Written) (far : Stage) → NamesEvent s w far → 
 logged-names s (checkpoint g l) far a = absurd a
 logged-names s (logged_event r) far a = ap logged_event a.0
 
-flying-alone : (s p : ℕ) (xs : List Write) → ArePairs IsApart xs → HoldsOfOne (λ (y : Write). y ≡ record { node = p; written = logged_event s; stage = in_flight }) xs
+flying-alone : (s p : ℕ) (of : Write) (xs : List Write) → ArePairs IsApart xs
+    → HoldsOfOne (λ (y : Write). y ≡ record of { node = p; written = logged_event s; stage = in_flight }) xs
     → HoldsOfOne (LogsEvent s) xs → ⊥
-flying-alone s p [] a b c = b
-flying-alone s p (x ∷ xs) a (inl b) (inl c) = two_ways (is_in_flight x.stage) (ap (λ (y : Write). is_in_flight y.stage) b) (logged-lands s x.written x.stage c)
-flying-alone s p (x ∷ xs) a (inl b) (inr c) =
+flying-alone s p of [] a b c = b
+flying-alone s p of (x ∷ xs) a (inl b) (inl c) = two_ways (is_in_flight x.stage) (ap (λ (y : Write). is_in_flight y.stage) b) (logged-lands s x.written x.stage c)
+flying-alone s p of (x ∷ xs) a (inl b) (inr c) =
     let y = some-find (LogsEvent s) (λ (y : Write). IsApart x.node x.written y.node y.written) xs c a.0 in
     apart-events s x.node x.written y.0.node y.0.written y.2 (ap (λ (z : Write). z.written) b) (logged-names s y.0.written y.0.stage y.1)
-flying-alone s p (x ∷ xs) a (inr b) (inl c) =
-    let new : Write = record { node = p; written = logged_event s; stage = in_flight } in
+flying-alone s p of (x ∷ xs) a (inr b) (inl c) =
+    let new : Write = record of { node = p; written = logged_event s; stage = in_flight } in
     let y = some-find (λ (y : Write). y ≡ new) (λ y. IsApart x.node x.written y.node y.written) xs b a.0 in
     apart-events s x.node x.written y.0.node y.0.written y.2 (logged-names s x.written x.stage c) (ap (λ (z : Write). z.written) y.1)
-flying-alone s p (x ∷ xs) a (inr b) (inr c) = flying-alone s p xs a.1 b c
+flying-alone s p of (x ∷ xs) a (inr b) (inr c) = flying-alone s p of xs a.1 b c
 
 -- ---- nothing below is in flight
 
@@ -199,14 +201,14 @@ offered-low : (sys : System) (state : Machine) (choice : Choice) → IsConsisten
 offered-low sys state choice c p l = subst (λ cut. IsCandidate sys state (λ q. true) kept p cut) (sym (watermark-front sys state choice c p l)) (c.offered p l)
 
 below-lands : (sys : System) → IsWellFormed sys.flow → (state : Machine) → CanRecoverAndRestore sys state → HasOrder state → (choice : Choice)
-    → IsConsistent sys state (IsCandidate sys state (λ p. true) kept) choice → (p : ℕ) (w : Written)
-    → HoldsOfOne (λ (y : Write). y ≡ record { node = p; written = w; stage = in_flight }) state.writes
+    → IsConsistent sys state (IsCandidate sys state (λ p. true) kept) choice → (of : Write) (p : ℕ) (w : Written)
+    → HoldsOfOne (λ (y : Write). y ≡ record of { node = p; written = w; stage = in_flight }) state.writes
     → lies_below sys (map front_of_cut choice.cuts) state.history p w ≡ true → ⊥
-below-lands sys w state r o choice c p (checkpoint g l) has k =
+below-lands sys w state r o choice c of p (checkpoint g l) has k =
     let low = map front_of_cut choice.cuts in
     let b = bounds_of sys.flow p in
     let f = front_of low p in
-    let y = some-find (λ (y : Write). y ≡ record { node = p; written = checkpoint g l; stage = in_flight })
+    let y = some-find (λ (y : Write). y ≡ record of { node = p; written = checkpoint g l; stage = in_flight })
     (IsWriteAskedWell sys state.low state.next state.history) state.writes has r.restore.asked in
     let well = subst (λ (z : Write). IsWriteAskedWell sys state.low state.next state.history z) y.1 y.2 in
     let n = takes-declared sys.flow p well.0 in
@@ -216,13 +218,13 @@ below-lands sys w state r o choice c p (checkpoint g l) has k =
     let contains : Within (frontier_of b f) (frontier_of b g) → ⊥ = λ v. two_ways (is_within f g) (within-is b f g well.1 v) (not-true (is_within f g) a.1) in
     elim (subst (λ x. IsRestorable sys state kept p x f) way offered.1) [
       | inl none ↦ contains (λ t i. none-within b (frontier_of b g) t (ap (λ os. frontier_of b os t) (sym none) ∙ i))
-      | inr at ↦ contains (flying-above sys p f g l state.writes n r.recover.ascend o has (some-checkpoint kept p f state.writes at))
+      | inr at ↦ contains (flying-above sys p f g l of state.writes n r.recover.ascend o has (some-checkpoint kept p f state.writes at))
     ]
-below-lands sys w state r o choice c p (logged_event s) has k =
+below-lands sys w state r o choice c of p (logged_event s) has k =
     let low = map front_of_cut choice.cuts in
     let b = bounds_of sys.flow p in
     let f = frontier_of b (front_of low p) in
-    let y = some-find (λ (y : Write). y ≡ record { node = p; written = logged_event s; stage = in_flight })
+    let y = some-find (λ (y : Write). y ≡ record of { node = p; written = logged_event s; stage = in_flight })
     (IsWriteAskedWell sys state.low state.next state.history) state.writes has r.restore.asked in
     let well = subst (λ (z : Write). IsWriteAskedWell sys state.low state.next state.history z) y.1 y.2 in
     let n = full-declared sys.flow p well.3 in
@@ -238,7 +240,7 @@ below-lands sys w state r o choice c p (logged_event s) has k =
     let is = eqb-true v.0.serial s i.0 in
     let at = v.2.0 is in
     let inside = given-stamp sys low p (event_stamp v.0.event) (subst (λ q. is_given_up sys low q (event_stamp v.0.event) ≡ true) at i.1) in
-    flying-alone s p state.writes r.restore.apart has (some-logged s state.writes (subst (λ x. IsLogged x state.writes) is (v.2.1 at inside)))
+    flying-alone s p of state.writes r.restore.apart has (some-logged s state.writes (subst (λ x. IsLogged x state.writes) is (v.2.1 at inside)))
 
 -- no write below the watermark of a collection is in flight
 below-each : (sys : System) → IsWellFormed sys.flow → (state : Machine) → CanRecoverAndRestore sys state → HasOrder state → (choice : Choice)
@@ -247,18 +249,22 @@ below-each : (sys : System) → IsWellFormed sys.flow → (state : Machine) → 
 below-each sys w state f o choice c =
     let low = map front_of_cut choice.cuts in
     each-in (λ (x : Write). lies_below sys low state.history x.node x.written ≡ true → is_in_flight x.stage ≡ false) state.writes
-    (λ x has k. false_from_ne_true (is_in_flight x.stage) (λ i. by x.node x.written x.stage f o c has k i))
+    (λ x has k. false_from_ne_true (is_in_flight x.stage) (λ i. by x x.node x.written x.stage f o c has k i))
   where
-    by : (n : ℕ) (v : Written) (far : Stage) → CanRecoverAndRestore sys state → HasOrder state → IsConsistent sys state (IsCandidate sys state (λ p. true) kept) choice
-        → HoldsOfOne (λ (y : Write). y ≡ record { node = n; written = v; stage = far }) state.writes
+    by : (of : Write) (n : ℕ) (v : Written) (far : Stage) → CanRecoverAndRestore sys state → HasOrder state → IsConsistent sys state (IsCandidate sys state (λ p. true) kept) choice
+        → HoldsOfOne (λ (y : Write). y ≡ record of { node = n; written = v; stage = far }) state.writes
         → lies_below sys (map front_of_cut choice.cuts) state.history n v ≡ true → is_in_flight far ≡ true → ⊥
-    by n v in_flight f o c has k i = below-lands sys w state f o choice c n v has k
-    by n v acknowledged f o c has k i = two_ways false i refl
-    by n v collected f o c has k i = two_ways false i refl
+    by of n v in_flight f o c has k i = below-lands sys w state f o choice c of n v has k
+    by of n v acknowledged f o c has k i = two_ways false i refl
+    by of n v collected f o c has k i = two_ways false i refl
 
 pub forgotten-acknowledged : WhatIsForgottenWasAcknowledged
 forgotten-acknowledged sys w steps outcomes last r choice m =
-    below-each sys w.flow last (reached-all sys w steps outcomes last r) (run-order sys steps outcomes (first_state sys) last tt r) choice m.consistent
+    let low = map front_of_cut choice.cuts in
+    each-weaker (λ (x : Write). lies_below sys low last.history x.node x.written ≡ true → is_in_flight x.stage ≡ false)
+    (λ (x : Write). is_forgotten sys low last.history last.writes x ≡ true → is_in_flight x.stage ≡ false) last.writes
+    (λ x k i. k (forgotten-below sys low last.history last.writes x i))
+    (below-each sys w.flow last (reached-all sys w steps outcomes last r) (run-order sys steps outcomes (first_state sys) last tt r) choice m.consistent)
 
 -- ---- what is collected is what lies below
 
@@ -413,16 +419,16 @@ collected-exact sys old low h p w g acknowledged n a =
 collected-exact sys old low h p w g collected n a = (λ c. g (a.0 refl), λ k. refl)
 
 took-exact : (sys : System) → IsWellFormedSystem sys → (state : Machine) (step : Step) (next : Machine) (effect : Effect) → CanRecoverAndRestore sys state → CanRecoverAndRestore sys next
-    → HasOrder state → LeadsTo sys state step next effect → AreExact sys state → AreExact sys next
-took-exact sys w state (Inject s) next effect f g o t a = subst (AreExact sys) (sym t.3) (event-exact sys w state (Injected s t.0) f t.1 a)
-took-exact sys w state (Deliver e at) next effect f g o t a = subst (AreExact sys) (sym t.3) (event-exact sys w state (Delivered e t.0) f t.1.enabled a)
-took-exact sys w state (Notify p at) next effect f g o t a = subst (AreExact sys) (sym t.3) (event-exact sys w state (Notified p t.0) f t.1.enabled a)
-took-exact sys w state ProgressStep next effect f g o t a =
+    → HasOrder state → AreWhole state.writes → LeadsTo sys state step next effect → AreExact sys state → AreExact sys next
+took-exact sys w state (Inject s) next effect f g o whole t a = subst (AreExact sys) (sym t.3) (event-exact sys w state (Injected s t.0) f t.1 a)
+took-exact sys w state (Deliver e at) next effect f g o whole t a = subst (AreExact sys) (sym t.3) (event-exact sys w state (Delivered e t.0) f t.1.enabled a)
+took-exact sys w state (Notify p at) next effect f g o whole t a = subst (AreExact sys) (sym t.3) (event-exact sys w state (Notified p t.0) f t.1.enabled a)
+took-exact sys w state ProgressStep next effect f g o whole t a =
     let settled = t.1 in
     let ps = filter (λ p. is_eager (policy_of sys.flow p) && not (same_front (front_of state.settled p) (front_of settled p))) (node_ids sys.flow) in
     asked-exact sys w.flow state next settled ps g t.3 a
-took-exact sys w state (Checkpoint p) next effect f g o t a = asked-exact sys w.flow state next state.settled (p ∷ []) g t.3 a
-took-exact sys w state Persist next effect f g o t a =
+took-exact sys w state (Checkpoint p) next effect f g o whole t a = asked-exact sys w.flow state next state.settled (p ∷ []) g t.3 a
+took-exact sys w state Persist next effect f g o whole t a =
     let k = t.1 in
     let y = k.oldest in
     let P : Write → Type 0 = IsWriteExact sys state.low state.history in
@@ -430,10 +436,10 @@ took-exact sys w state Persist next effect f g o t a =
     (subst (AllByRecursion P) (sym k.after)
     (each-replaced P k.earlier y (record y { stage = acknowledged }) k.later
     (λ b. acknowledged-exact sys state.low state.history y.node y.written y.stage k.in_flight b) (subst (AllByRecursion P) k.before a)))
-took-exact sys w state (Fail ps) next effect f g o t a =
+took-exact sys w state (Fail ps) next effect f g o whole t a =
     let P : Write → Type 0 = IsWriteExact sys state.low state.history in
     subst (AreExact sys) (sym t.4) (each-passed P P (λ write. not (is_one_of write.node ps && is_in_flight write.stage)) state.writes (λ x k b. b) a)
-took-exact sys w state Recover next effect f g o t a =
+took-exact sys w state Recover next effect f g o whole t a =
     let h = filtered_history sys t.1 state.history in
     let keeps = low-kept sys state f (is_failed state) t.1 t.5 in
     subst (AreExact sys) (sym t.7)
@@ -441,7 +447,7 @@ took-exact sys w state Recover next effect f g o t a =
     (λ write. is_kept_write (cut_of t.1 write.node) write.written h) state.writes
     (λ x k b. exact-same sys state.low state.history h x.node x.written x.stage (kept-below sys state t.1 keeps x.node x.written x.stage b.1) b.0)
     (each-both (IsWriteExact sys state.low state.history) (IsWriteAskedWell sys state.low state.next state.history) state.writes a f.restore.asked))
-took-exact sys w state Collect next effect f g o t a =
+took-exact sys w state Collect next effect f g o whole t a =
     let choice = t.0 in
     let low = map front_of_cut choice.cuts in
     let h = state.history in
@@ -450,26 +456,39 @@ took-exact sys w state Collect next effect f g o t a =
     let canonical : (p : ℕ) → p < length sys.flow.nodes → IsCanonical (bounds_of sys.flow p) (front_of low p) = λ p l. (offered-low sys state choice c p l).0 in
     let W : Write → Type 0 = IsWriteAskedWell sys state.low state.next h in
     let L : Write → Type 0 = λ x. lies_below sys low h x.node x.written ≡ true → is_in_flight x.stage ≡ false in
+    let goes : Write → Bool = is_forgotten sys low h state.writes in
     subst (AreExact sys) (sym t.3)
-    (each-map (IsWriteExact sys low h) (λ (x : Write). record x { stage = after_collection (lies_below sys low h x.node x.written) x.stage }) state.writes
+    (each-map (IsWriteExact sys low h) (λ (x : Write). record x { stage = after_collection (goes x) x.stage }) state.writes
     (each-weaker (λ (x : Write). IsWriteExact sys state.low h x × (W x × L x))
-    (λ (x : Write). IsExact sys low h x.node x.written (after_collection (lies_below sys low h x.node x.written) x.stage)) state.writes
-    (λ x b. collected-exact sys state.low low h x.node x.written
-    (below-grows sys state.low low state.next h grows canonical x.node x.written x.stage b.1.0) x.stage b.1.1 b.0)
+    (λ (x : Write). IsExact sys low h x.node x.written (after_collection (goes x) x.stage)) state.writes
+    (λ x b. subst (λ (gone : Bool). IsExact sys low h x.node x.written (after_collection gone x.stage)) (sym (forgotten-is sys low h state.writes whole x))
+    (collected-exact sys state.low low h x.node x.written
+    (below-grows sys state.low low state.next h grows canonical x.node x.written x.stage b.1.0) x.stage b.1.1 b.0))
     (each-both (IsWriteExact sys state.low h) (λ x. W x × L x) state.writes a
     (each-both W L state.writes f.restore.asked (below-each sys w.flow state f o choice c)))))
-took-exact sys w state (Ack o) next effect f g k t a = subst (AreExact sys) (sym t.2) a
+took-exact sys w state (Ack o) next effect f g k whole t a = subst (AreExact sys) (sym t.2) a
 
-run-exact : (sys : System) → IsWellFormedSystem sys → (steps : List Step) (outcomes : List Outcome) (state last : Machine) → CanRecoverAndRestore sys state → HasOrder state → AreExact sys state
-    → Run sys state steps outcomes last → AreExact sys last
-run-exact sys w [] [] state last f o a r = subst (AreExact sys) (sym r) a
-run-exact sys w [] (q ∷ os) state last f o a r = absurd r
-run-exact sys w (s ∷ ss) [] state last f o a r = absurd r
-run-exact sys w (s ∷ ss) (did effect ∷ os) state last f o a r =
+run-exact : (sys : System) → IsWellFormedSystem sys → (steps : List Step) (outcomes : List Outcome) (state last : Machine) → CanRecoverAndRestore sys state → HasOrder state
+    → AreWhole state.writes → AreExact sys state → Run sys state steps outcomes last → AreExact sys last
+run-exact sys w [] [] state last f o whole a r = subst (AreExact sys) (sym r) a
+run-exact sys w [] (q ∷ os) state last f o whole a r = absurd r
+run-exact sys w (s ∷ ss) [] state last f o whole a r = absurd r
+run-exact sys w (s ∷ ss) (did effect ∷ os) state last f o whole a r =
     let g = took-reached sys w state s r.0 effect f r.1 in
-    run-exact sys w ss os r.0 last g (took-order sys state s r.0 effect r.1 o) (took-exact sys w state s r.0 effect f g o r.1 a) r.2
-run-exact sys w (s ∷ ss) (idle ∷ os) state last f o a r =
-    run-exact sys w ss os r.0 last (subst (CanRecoverAndRestore sys) (sym r.1.1) f) (subst HasOrder (sym r.1.1) o) (subst (AreExact sys) (sym r.1.1) a) r.2
+    run-exact sys w ss os r.0 last g (took-order sys state s r.0 effect r.1 o) (took-whole sys state s r.0 effect r.1 whole)
+    (took-exact sys w state s r.0 effect f g o whole r.1 a) r.2
+run-exact sys w (s ∷ ss) (idle ∷ os) state last f o whole a r =
+    run-exact sys w ss os r.0 last (subst (CanRecoverAndRestore sys) (sym r.1.1) f) (subst HasOrder (sym r.1.1) o)
+    (subst (λ (m : Machine). AreWhole m.writes) (sym r.1.1) whole) (subst (AreExact sys) (sym r.1.1) a) r.2
 
-pub collected-below : CollectedIsWhatLiesBelow
-collected-below sys w steps outcomes last r = run-exact sys w steps outcomes (first_state sys) last (first-reached sys w) tt tt r
+-- as each write is whole, what is collected is what lies below by itself
+pub collected-below : (sys : System) → IsWellFormedSystem sys → (steps : List Step) (outcomes : List Outcome) (last : Machine) → Run sys (first_state sys) steps outcomes last
+    → AllByRecursion (λ (x : Write). (x.stage ≡ collected) ↔ (lies_below sys last.low last.history x.node x.written ≡ true)) last.writes
+collected-below sys w steps outcomes last r = run-exact sys w steps outcomes (first_state sys) last (first-reached sys w) tt tt tt r
+
+pub collected-forgotten : CollectedIsWhatLiesBelow
+collected-forgotten sys w steps outcomes last r =
+    each-weaker (λ (x : Write). (x.stage ≡ collected) ↔ (lies_below sys last.low last.history x.node x.written ≡ true))
+    (λ (x : Write). (x.stage ≡ collected) ↔ (is_forgotten sys last.low last.history last.writes x ≡ true)) last.writes
+    (λ x a. subst (λ b. (x.stage ≡ collected) ↔ (b ≡ true)) (sym (forgotten-is sys last.low last.history last.writes (reached-whole sys steps outcomes last r) x)) a)
+    (collected-below sys w steps outcomes last r)

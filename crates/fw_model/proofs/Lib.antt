@@ -1,10 +1,12 @@
 pub mod LesserLaws
 pub mod ArrivalLaws
+pub mod ArrivedLaws
 pub mod AscentLaws
 pub mod AscendingLaws
 pub mod AskedLaws
 pub mod AskedStateLaws
 pub mod BothLaws
+pub mod ChainLaws
 pub mod CheckpointFrontLaws
 pub mod AutoLaws
 pub mod CheckpointLaws
@@ -23,13 +25,16 @@ pub mod DescentLaws
 pub mod DistinctLaws
 pub mod DomainLaws
 pub mod EnabledLaws
+pub mod EnclosesLaws
 pub mod FilterLaws
 pub mod FilteredLaws
 pub mod FirstLaws
+pub mod FloorLaws
 pub mod ForgottenLaws
 pub mod FrontLaws
 pub mod FrontierLaws
 pub mod GoingOn
+pub mod InclusionLaws
 pub mod InjectionLaws
 pub mod InputLaws
 pub mod JoinLaws
@@ -59,6 +64,8 @@ pub mod PendingKeptLaws
 pub mod PendingLaws
 pub mod PendingNumberLaws
 pub mod PhiLaws
+pub mod PoorerLaws
+pub mod PoorerTrailLaws
 pub mod PrefixLaws
 pub mod ProgressLaws
 pub mod PsiBackLaws
@@ -95,3 +102,4 @@ pub mod UntilLaws
 pub mod WeightLaws
 pub mod WellFormedLaws
 pub mod WriteLaws
+pub mod WholeLaws

@@ -24,7 +24,7 @@ use Rattle.fw_flow.specs.WellFormed.{IsWellFormed, IsWellFormedSystem}
 use Rattle.fw_model.specs.Machine.{Machine, SerialEvent, Write, Written, checkpoint, logged_event, Stage, acknowledged, events, first_state, front_of, is_failed}
 use Rattle.fw_model.specs.Choice.{kept, IsLogged, IsRestorable, IsCandidate, IsLargest, cut_of, kept_of, filtered_history}
 use Rattle.fw_model.specs.Covers.{set_of}
-use Rattle.fw_model.specs.Steps.{Effect, Outcome, did, idle, LeadsTo, Run, write_of_event, with_event, checkpoint_of, is_eager, is_in_flight, with_failed, without_lost, has_serial, is_kept_write, kept_writes, recovered_state, front_of_cut, lies_below, after_collection, collected_writes, offers, AcknowledgesOldest}
+use Rattle.fw_model.specs.Steps.{Effect, Outcome, did, idle, LeadsTo, Run, write_of_event, with_event, checkpoint_of, is_eager, is_in_flight, with_failed, without_lost, has_serial, is_kept_write, kept_writes, recovered_state, front_of_cut, after_collection, collected_writes, offers, AcknowledgesOldest, is_forgotten}
 use Rattle.fw_model.specs.Writes.{LogsSerial}
 use Rattle.fw_model.proofs.LegalLaws.{legal_events-in_domain}
 use Rattle.fw_model.proofs.DomainLaws.{has_epochs}
@@ -195,7 +195,7 @@ collected-logging : (sys : System) (state : Machine) (low : List Front) → IsLo
     → IsLogging sys (record state { low = low; writes = collected_writes sys low state.history state.writes })
 collected-logging sys state low a =
     let P : Write → Type 0 = λ x. HasItsEvent sys.flow state.history x.node x.written in
-    let far : Write → Stage = λ x. after_collection (lies_below sys low state.history x.node x.written) x.stage in
+    let far : Write → Stage = λ x. after_collection (is_forgotten sys low state.history state.writes x) x.stage in
     record {
       there = each-map P (λ (x : Write). record x { stage = far x }) state.writes a.there;
       ascend = pairs-mapped IsBefore far state.writes a.ascend;

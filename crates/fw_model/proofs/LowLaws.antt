@@ -27,7 +27,7 @@ use Rattle.fw_model.specs.History.{some_at, pending_messages, was_delivered_to, 
 use Rattle.fw_model.specs.Machine.{Machine, SerialEvent, Write, Written, checkpoint, logged_event, Stage, in_flight, acknowledged, collected, events, no_stamps, first_state, front_of, ack_count_of}
 use Rattle.fw_flow.specs.declared.choice.Choice.{Choice}
 use Rattle.fw_model.specs.Choice.{View, kept, ever, is_counted, until, HasCheckpoint, IsLogged, AllLogged, IsRestorable, HoldsLow, IsCandidate, cut_of, notice_of, kept_of, IsConsistent, IsCutWithin, IsLargest, filtered_history}
-use Rattle.fw_model.specs.Steps.{write_of_event, with_event, AcknowledgesOldest, is_in_flight, has_serial, is_kept_write, IsSettledCut, CutsTo, recovered_state, lies_below, after_collection, collected_writes, front_of_cut}
+use Rattle.fw_model.specs.Steps.{write_of_event, with_event, AcknowledgesOldest, is_in_flight, has_serial, is_kept_write, IsSettledCut, CutsTo, recovered_state, lies_below, after_collection, collected_writes, front_of_cut, is_forgotten}
 use Rattle.fw_flow.specs.declared.restoring.Restoring.{Restoring}
 use Rattle.fw_flow.specs.declared.restoring.Restoring.TheVariants.{Batches, Bound, Anything, Checkpoints, Events}
 use Rattle.fw_flow.specs.Restoring.{restoring, can_resend, way_of}
@@ -46,6 +46,7 @@ use Rattle.fw_model.proofs.RunLaws.{none-inside}
 use Rattle.fw_model.proofs.RecoveryLaws.{edge-there}
 use Rattle.fw_model.proofs.SameInsideLaws.{at_node, IsSameInside, inside-refl, inside-event, inside-kept, IsLowConsistent, low_length, low_cut, low-offered, low-stays}
 use Rattle.fw_model.proofs.WriteLaws.{some-weaker, some-append, some-passed, some-mapped, some-replaced, IsCheckpointAt, IsItsCheckpoint, NamesEvent, LogsEvent, some-checkpoint, checkpoint-some, some-logged, logged-some}
+use Rattle.fw_model.proofs.WholeLaws.{forgotten-below}
 use Rattle.fw_model.specs.Settled.{IsFull}
 use Rattle.fw_model.specs.Filtering.{AreFrontiers, kept_events}
 use Rattle.fw_model.specs.Choosing.{low_choice}
@@ -525,14 +526,14 @@ still-kept below in_flight b e = e
 still-kept below acknowledged b e = ap (λ c. is_counted kept (cond c collected acknowledged)) b
 still-kept below collected b e = e
 
-checkpoint-stays : (sys : System) (low : List Front) (h : List SerialEvent) (p : ℕ) (n : ℕ) (w : Written) (far : Stage) → IsCheckpointAt kept p (front_of low p) n w far
-    → IsCheckpointAt kept p (front_of low p) n w (after_collection (lies_below sys low h n w) far)
-checkpoint-stays sys low h p n (checkpoint g l) far a =
+checkpoint-stays : (sys : System) (low : List Front) (h : List SerialEvent) (p : ℕ) (n : ℕ) (w : Written) (goes : Bool) → (goes ≡ true → lies_below sys low h n w ≡ true)
+    → (far : Stage) → IsCheckpointAt kept p (front_of low p) n w far → IsCheckpointAt kept p (front_of low p) n w (after_collection goes far)
+checkpoint-stays sys low h p n (checkpoint g l) goes k far a =
     let f = front_of low p in
     let here : lies_below sys low h n (checkpoint g l) ≡ false =
     ap (λ q. is_within g (front_of low q) && not (is_within (front_of low q) g)) a.0 ∙ ap (λ x. is_within x f && not (is_within f x)) a.1 ∙ not_both (is_within f f) in
-    (a.0, a.1, still-kept (lies_below sys low h n (checkpoint g l)) far here a.2)
-checkpoint-stays sys low h p n (logged_event s) far a = absurd a
+    (a.0, a.1, still-kept goes far (false_from_ne_true goes (λ e. two_ways (lies_below sys low h n (checkpoint g l)) (k e) here)) a.2)
+checkpoint-stays sys low h p n (logged_event s) goes k far a = absurd a
 
 counts-still : (below : Bool) (far : Stage) → is_counted ever far ≡ true → is_counted ever (after_collection below far) ≡ true
 counts-still below in_flight e = e
@@ -545,8 +546,8 @@ named-stays below serial (checkpoint g l) far a = absurd a
 named-stays below serial (logged_event s) far a = (a.0, counts-still below far a.1)
 
 -- how far a write is once the collection is done
-abbrev far_after : System → List Front → List SerialEvent → Write → Stage
-far_after sys low h x = after_collection (lies_below sys low h x.node x.written) x.stage
+abbrev far_after : System → List Front → List SerialEvent → List Write → Write → Stage
+far_after sys low h writes x = after_collection (is_forgotten sys low h writes x) x.stage
 
 collected-restorable : (sys : System) (state : Machine) (low : List Front) (p : ℕ) (way : Restoring) → IsRestorable sys state kept p way (front_of low p)
     → IsRestorable sys (with_low state low (collected_writes sys low state.history state.writes)) kept p way (front_of low p)
@@ -558,15 +559,16 @@ collected-restorable sys state low p Checkpoints a = elim a [
   | inr c ↦
       let f = front_of low p in
       inr (checkpoint-some kept p f (collected_writes sys low state.history state.writes)
-      (some-mapped (IsItsCheckpoint kept p f) (IsItsCheckpoint kept p f) (λ (x : Write). record x { stage = far_after sys low state.history x }) state.writes
-      (λ x b. checkpoint-stays sys low state.history p x.node x.written x.stage b) (some-checkpoint kept p f state.writes c)))
+      (some-mapped (IsItsCheckpoint kept p f) (IsItsCheckpoint kept p f) (λ (x : Write). record x { stage = far_after sys low state.history state.writes x }) state.writes
+      (λ x b. checkpoint-stays sys low state.history p x.node x.written (is_forgotten sys low state.history state.writes x)
+      (forgotten-below sys low state.history state.writes x) x.stage b) (some-checkpoint kept p f state.writes c)))
 ]
 collected-restorable sys state low p Events a = (
   a.0,
   logs-weaker sys p (frontier_of (bounds_of sys.flow p) (front_of low p)) state.writes (collected_writes sys low state.history state.writes)
       (λ s k. logged-some s (collected_writes sys low state.history state.writes)
-      (some-mapped (LogsEvent s) (LogsEvent s) (λ (x : Write). record x { stage = far_after sys low state.history x }) state.writes
-      (λ x b. named-stays (lies_below sys low state.history x.node x.written) s x.written x.stage b) (some-logged s state.writes k)))
+      (some-mapped (LogsEvent s) (LogsEvent s) (λ (x : Write). record x { stage = far_after sys low state.history state.writes x }) state.writes
+      (λ x b. named-stays (is_forgotten sys low state.history state.writes x) s x.written x.stage b) (some-logged s state.writes k)))
       state.history a.1,
 )
 

@@ -2,7 +2,7 @@
 use Rattle.std.proofs.Common.{◌≡◌, ◌⊎◌, inl, inr, ℕ, zero, suc, ◌<◌, Bool, true, false, cond, ◌&&◌, List, [], ◌∷◌, ◌++◌, length, map, Option, Some, None, refl, sym, ◌∙◌, ap, subst, arith}
 use Rattle.std.specs.Prelude.{filter, slice_index_or}
 use Rattle.std.specs.List.{AllByRecursion, Contains, flat_map}
-use Rattle.std.proofs.lemmas.Bool.{or_cases, or_left, or_right, cond_both, cases_Bool, and_from, and_left}
+use Rattle.std.proofs.lemmas.Bool.{or_cases, or_left, or_right, cond_both, cases_Bool, and_from, and_left, and_parts}
 use Rattle.fw_lemmas.proofs.Bools.{same_tests}
 use Rattle.fw_time.specs.Stamp.{Stamp, leq, in_domain}
 use Rattle.fw_time.specs.declared.stamp.Bounds.{Bounds}
@@ -15,8 +15,10 @@ use Rattle.fw_flow.specs.Dataflow.{System, kind_of, sender, bounds_of, send_stam
 use Rattle.fw_flow.specs.Projection.{all_inside, events_at}
 use Rattle.fw_model.specs.Covers as machine
 use Rattle.fw_model.specs.History.{sent_messages}
+use Rattle.fw_model.proofs.PhiLaws.{all_inside-monotone}
 use Rattle.fw_model.proofs.SendsLaws.{IsOfCause as IsOfItsCause, sent_by-of_cause}
 use Rattle.fw_model.proofs.SendingLaws.{send_stamp-monotone}
+use Rattle.fw_model.specs.Poorer.{IsPoorer}
 use Rattle.fw_model.specs.Thinned.{IsThinned}
 use Rattle.fw_model.proofs.ThinnedLaws.{each-contained}
 use Rattle.fw_model.specs.EventStamps.{causes_of, causes_in, StandForSent}
@@ -222,3 +224,75 @@ sent-covers sys h e base ms n s d f w b = λ i t. at t i
 
     at : (t : Stamp) → (in_domain b t && ours t) ≡ (in_domain b t && all t)
     at t = ap (λ x. in_domain b t && x) (same_tests (ours t) (all t) (there t) (back t))
+
+-- ---- where perhaps not the whole is kept
+
+-- what stands for sent messages covers no more than these from inside each set, and these besides at most what comes from the base
+pub sent_outside-covers : (sys : System) (h : List Event) (e : ℕ) (base : Frontier) (ms : List Counted) → is_sequence_kind (kind_of sys.flow (sender sys.flow e)) ≡ false
+    → StandForSent sys h (sender sys.flow e) base e ms → (f : Frontier) (b : Bounds)
+    → IsPoorer (cover b (map (λ (m : Counted). m.at) (filter (λ (m : Counted). all_inside f m.causes) ms))) (cover b (machine.stamps_from f (sent_messages sys h e)))
+    (cover b (machine.stamps_from base (sent_messages sys h e)))
+unfolding IsOfItsCause
+sent_outside-covers sys h e base ms n s f b = record {
+  within = λ t i. let p = and_parts (in_domain b t) (ours t) i in and_from (in_domain b t) (all f t) p.0 (there t p.1);
+  rest = λ t i.
+      let p = and_parts (in_domain b t) (all f t) i in
+      elim (back t p.1) [
+        | inl k ↦ or_left (in_domain b t && ours t) (in_domain b t && all base t) (and_from (in_domain b t) (ours t) p.0 k)
+        | inr k ↦ or_right (in_domain b t && ours t) (in_domain b t && all base t) (and_from (in_domain b t) (all base t) p.0 k)
+      ];
+}
+  where
+    send : Stamp → Option Stamp
+    send t = send_stamp sys.flow (sender sys.flow e) t
+
+    theirs : AllByRecursion (λ (m : Message). OfCause send m.at m.causes) (sent_messages sys h e)
+    theirs = sent_by-of_cause sys (sender sys.flow e) n (events_at sys.flow (sender sys.flow e) h)
+
+    ours : Stamp → Bool
+    ours t = some_above (map (λ (m : Counted). m.at) (filter (λ (m : Counted). all_inside f m.causes) ms)) t
+
+    all : Frontier → Stamp → Bool
+    all g t = some_above (machine.stamps_from g (sent_messages sys h e)) t
+
+    there : (t : Stamp) → ours t ≡ true → all f t ≡ true
+    there t k =
+        let o = all-over send base f (causes_in (sent_messages sys h e)) (causes_of ms) t s.thinned
+        (over-from (λ (m : Counted). m.at) (λ (m : Counted). m.causes) send f ms t s.of_cause k) in
+        from-over (λ (m : Message). m.at) (λ (m : Message). m.causes) send f (sent_messages sys h e) t theirs o.cause o.at o.there o.inside o.sends o.above
+
+    back : (t : Stamp) → all f t ≡ true → (ours t ≡ true) ⊎ (all base t ≡ true)
+    back t k =
+        let o = over-from (λ (m : Message). m.at) (λ (m : Message). m.causes) send f (sent_messages sys h e) t theirs k in
+        elim (cases_Bool (base o.cause)) [
+          | inl i ↦ inr (from-over (λ (m : Message). m.at) (λ (m : Message). m.causes) send base (sent_messages sys h e) t theirs o.cause o.at o.there i o.sends o.above)
+          | inr j ↦ inl (from-over (λ (m : Counted). m.at) (λ (m : Counted). m.causes) send f ms t s.of_cause o.cause o.at
+              (contained-one o.cause (causes_of ms)
+              (each-contained (λ x. base x ≡ false → Contains (causes_of ms) x) o.cause (causes_in (sent_messages sys h e)) (one-contained o.cause (causes_in (sent_messages sys h e)) o.there) s.thinned.outside j))
+              o.inside o.sends o.above)
+        ]
+
+-- what comes from more covers more
+pub cover-from : (b : Bounds) (f g : Frontier) (ms : List Message) → Within f g → Within (cover b (machine.stamps_from f ms)) (cover b (machine.stamps_from g ms))
+cover-from b f g ms w t i =
+    let p = and_parts (in_domain b t) (some_above (machine.stamps_from f ms) t) i in
+    and_from (in_domain b t) (some_above (machine.stamps_from g ms) t) p.0 (above ms p.1)
+  where
+    above : (xs : List Message) → some_above (machine.stamps_from f xs) t ≡ true → some_above (machine.stamps_from g xs) t ≡ true
+    above [] k = k
+    above (m ∷ xs) k = elim (cases_Bool (all_inside f m.causes)) [
+      | inl e ↦ elim (or_cases (leq t m.at) (some_above (machine.stamps_from f xs) t)
+          (sym (ap (λ c. some_above (map (λ (x : Message). x.at) (cond c (m ∷ kept f xs) (kept f xs))) t) e) ∙ k)) [
+            | inl l ↦ ap (λ c. some_above (map (λ (x : Message). x.at) (cond c (m ∷ kept g xs) (kept g xs))) t) (all_inside-monotone f g w m.causes e)
+                ∙ or_left (leq t m.at) (some_above (machine.stamps_from g xs) t) l
+            | inr r ↦ later m xs (above xs r)
+          ]
+      | inr e ↦ later m xs (above xs (sym (ap (λ c. some_above (map (λ (x : Message). x.at) (cond c (m ∷ kept f xs) (kept f xs))) t) e) ∙ k))
+    ]
+      where
+        kept : Frontier → List Message → List Message
+        kept h ys = filter (λ (x : Message). all_inside h x.causes) ys
+
+        later : (m : Message) (ys : List Message) → some_above (machine.stamps_from g ys) t ≡ true → some_above (machine.stamps_from g (m ∷ ys)) t ≡ true
+        later m ys r = cond_both (all_inside g m.causes) (m ∷ kept g ys) (kept g ys) (λ zs. some_above (map (λ (x : Message). x.at) zs) t ≡ true)
+            (λ e. or_right (leq t m.at) (some_above (machine.stamps_from g ys) t) r) (λ e. r)

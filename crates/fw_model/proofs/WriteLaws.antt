@@ -71,7 +71,7 @@ pub some-checkpoint : (view : View) (p : ℕ) (f : Front) (writes : List Write) 
 some-checkpoint view p f [] k = absurd k
 some-checkpoint view p f (write ∷ writes) k = by write.node write.written write.stage (λ c. some-checkpoint view p f writes c) k
   where
-    by : (n : ℕ) (w : Written) (far : Stage) → (HasCheckpoint view p f writes → HoldsOfOne (IsItsCheckpoint view p f) writes) → HasCheckpoint view p f (record { node = n; written = w; stage = far } ∷ writes)
+    by : (n : ℕ) (w : Written) (far : Stage) → (HasCheckpoint view p f writes → HoldsOfOne (IsItsCheckpoint view p f) writes) → HasCheckpoint view p f (record write { node = n; written = w; stage = far } ∷ writes)
         → IsCheckpointAt view p f n w far ⊎ HoldsOfOne (IsItsCheckpoint view p f) writes
     by n (checkpoint g low) far rest k = elim k [ inl c ↦ inl c | inr c ↦ inr (rest c) ]
     by n (logged_event serial) far rest k = elim k [ inl c ↦ absurd c | inr c ↦ inr (rest c) ]
@@ -81,7 +81,7 @@ checkpoint-some view p f [] k = absurd k
 checkpoint-some view p f (write ∷ writes) k = by write.node write.written write.stage (λ c. checkpoint-some view p f writes c) k
   where
     by : (n : ℕ) (w : Written) (far : Stage) → (HoldsOfOne (IsItsCheckpoint view p f) writes → HasCheckpoint view p f writes) → IsCheckpointAt view p f n w far ⊎ HoldsOfOne (IsItsCheckpoint view p f) writes
-        → HasCheckpoint view p f (record { node = n; written = w; stage = far } ∷ writes)
+        → HasCheckpoint view p f (record write { node = n; written = w; stage = far } ∷ writes)
     by n (checkpoint g low) far rest k = elim k [ inl c ↦ inl c | inr c ↦ inr (rest c) ]
     by n (logged_event serial) far rest k = elim k [ inl c ↦ absurd c | inr c ↦ inr (rest c) ]
 
@@ -89,7 +89,7 @@ pub some-logged : (serial : ℕ) (writes : List Write) → IsLogged serial write
 some-logged serial [] k = absurd k
 some-logged serial (write ∷ writes) k = by write.node write.written write.stage (λ c. some-logged serial writes c) k
   where
-    by : (n : ℕ) (w : Written) (far : Stage) → (IsLogged serial writes → HoldsOfOne (LogsEvent serial) writes) → IsLogged serial (record { node = n; written = w; stage = far } ∷ writes)
+    by : (n : ℕ) (w : Written) (far : Stage) → (IsLogged serial writes → HoldsOfOne (LogsEvent serial) writes) → IsLogged serial (record write { node = n; written = w; stage = far } ∷ writes)
         → NamesEvent serial w far ⊎ HoldsOfOne (LogsEvent serial) writes
     by n (checkpoint g low) far rest k = elim k [ inl c ↦ absurd c | inr c ↦ inr (rest c) ]
     by n (logged_event s) far rest k = elim k [ inl c ↦ inl c | inr c ↦ inr (rest c) ]
@@ -99,7 +99,7 @@ logged-some serial [] k = absurd k
 logged-some serial (write ∷ writes) k = by write.node write.written write.stage (λ c. logged-some serial writes c) k
   where
     by : (n : ℕ) (w : Written) (far : Stage) → (HoldsOfOne (LogsEvent serial) writes → IsLogged serial writes) → NamesEvent serial w far ⊎ HoldsOfOne (LogsEvent serial) writes
-        → IsLogged serial (record { node = n; written = w; stage = far } ∷ writes)
+        → IsLogged serial (record write { node = n; written = w; stage = far } ∷ writes)
     by n (checkpoint g low) far rest k = elim k [ inl c ↦ absurd c | inr c ↦ inr (rest c) ]
     by n (logged_event s) far rest k = elim k [ inl c ↦ inl c | inr c ↦ inr (rest c) ]
 

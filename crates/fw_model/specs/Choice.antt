@@ -1,5 +1,6 @@
 -- Restore candidates, and which choice of them is consistent and which is largest.
 use Rattle.std.specs.Prelude.{◌≡◌, ◌⊎◌, ℕ, ◌<◌, ◌≤◌, Bool, true, false, List, [], ◌∷◌, length, slice_index_or, filter}
+use Rattle.fw_time.specs.declared.stamp.Bounds.{Bounds}
 use Rattle.fw_frontier.specs.Frontier.{Frontier, Within}
 use Rattle.fw_frontier.specs.Front.{Front, IsCanonical}
 use Rattle.fw_flow.specs.declared.choice.Choice.{Choice}
@@ -166,3 +167,16 @@ offers_of_writes sys state = IsCandidate sys state (λ p. true) kept
 -- the low watermark: the largest choice where every node counts as failed
 abbrev pub IsWatermark : System → Machine → Choice → Type 0
 IsWatermark sys state choice = IsLargest sys state (offers_of_writes sys state) choice
+
+-- the frontier of a cut is canonical, if it has one
+abbrev pub IsCanonicalCut : Bounds → Cut → Type 0
+IsCanonicalCut bounds Present = Unit {0}
+IsCanonicalCut bounds (At f) = IsCanonical bounds f
+
+-- The choice is of the dataflow: it has one cut and one notification frontier for each node, and each frontier is canonical in its
+-- node's domain.
+pub record IsChoiceOf (flow : Dataflow) (choice : Choice) : Type 0 where
+  pub one_cut_each : length choice.cuts ≡ length flow.nodes
+  pub one_notice_each : length choice.notices ≡ length flow.nodes
+  pub cuts : (p : ℕ) → p < length flow.nodes → IsCanonicalCut (bounds_of flow p) (cut_of choice p)
+  pub notices : (p : ℕ) → p < length flow.nodes → IsCanonical (bounds_of flow p) (front_of choice.notices p)

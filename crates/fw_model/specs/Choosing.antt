@@ -31,6 +31,10 @@ HasItsChoice sys state Recover = CanChoose sys state (is_failed state)
 HasItsChoice sys state Collect = CanChoose sys state (λ p. true)
 HasItsChoice sys state step = Unit {0}
 
+-- the choice that cuts each node to its front
+abbrev pub choice_at : List Front → List Front → Choice
+choice_at fronts notices = record { cuts = map (λ f. At f) fronts; notices = notices }
+
 -- the low watermark as a choice, with these notification frontiers
 abbrev pub low_choice : Machine → List Front → Choice
-low_choice state notices = record { cuts = map (λ f. At f) state.low; notices = notices }
+low_choice state notices = choice_at state.low notices

@@ -13,7 +13,7 @@ use Rattle.fw_model.specs.History.{injected_count}
 use Rattle.fw_model.specs.Machine.{Machine, SerialEvent, Write, checkpoint, acknowledged, collected, events, no_stamps, first_state, front_of}
 use Rattle.fw_flow.specs.declared.choice.Choice.{Choice}
 use Rattle.fw_model.specs.Choice.{kept, IsCandidate, cut_of, kept_of, IsLargest, IsWatermark}
-use Rattle.fw_model.specs.Steps.{Outcome, StepsTo, Run, is_in_flight, front_of_cut, lies_below}
+use Rattle.fw_model.specs.Steps.{Outcome, StepsTo, Run, is_in_flight, front_of_cut, is_forgotten}
 use Rattle.fw_model.specs.Writes.{takes_checkpoints, CountsWritten, Ascends, IsWrittenAsAsked, NothingComesInside, IsKeptWithin, HasOne, IsCheckpointOf, IsLoggedOnce, MayKeepNothingIfCollected}
 use Rattle.fw_model.specs.Resending.{HoldsWhatIsSentAgain, LogHoldsWhatIsSentAgain}
 
@@ -102,17 +102,17 @@ abbrev pub EventsThatMustBeKeptAreNeverCollected : Type 0
 EventsThatMustBeKeptAreNeverCollected = (sys : System) → IsWellFormedSystem sys → (steps : List Step) (outcomes : List Outcome) (last : Machine)
     → Run sys (first_state sys) steps outcomes last → AllByRecursion (MayKeepNothingIfCollected sys) last.writes
 
--- in each state to which steps of a well-formed system lead from the first one, no write below the watermark that a
--- collection takes is in flight: what a collection forgets was acknowledged
+-- in each state to which steps of a well-formed system lead from the first one, no write is in flight that a collection
+-- forgets: what a collection forgets was acknowledged
 abbrev pub WhatIsForgottenWasAcknowledged : Type 0
 WhatIsForgottenWasAcknowledged = (sys : System) → IsWellFormedSystem sys → (steps : List Step) (outcomes : List Outcome) (last : Machine)
     → Run sys (first_state sys) steps outcomes last → (choice : Choice) → IsWatermark sys last choice
-    → AllByRecursion (λ (write : Write). lies_below sys (map front_of_cut choice.cuts) last.history write.node write.written ≡ true
+    → AllByRecursion (λ (write : Write). is_forgotten sys (map front_of_cut choice.cuts) last.history last.writes write ≡ true
     → is_in_flight write.stage ≡ false) last.writes
 
--- in each state to which steps of a well-formed system lead from the first one, a write was collected exactly where what it
--- holds lies below the low watermark: so the logged events of a node at a stamp are all collected, or none is
+-- in each state to which steps of a well-formed system lead from the first one, a write was collected exactly where the low
+-- watermark forgets it: so the logged events of a node at a stamp are all collected, or none is
 abbrev pub CollectedIsWhatLiesBelow : Type 0
 CollectedIsWhatLiesBelow = (sys : System) → IsWellFormedSystem sys → (steps : List Step) (outcomes : List Outcome) (last : Machine)
     → Run sys (first_state sys) steps outcomes last
-    → AllByRecursion (λ (write : Write). (write.stage ≡ collected) ↔ (lies_below sys last.low last.history write.node write.written ≡ true)) last.writes
+    → AllByRecursion (λ (write : Write). (write.stage ≡ collected) ↔ (is_forgotten sys last.low last.history last.writes write ≡ true)) last.writes

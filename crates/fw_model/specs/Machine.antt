@@ -1,5 +1,5 @@
 -- The state of the event-list machine.
-use Rattle.std.specs.Prelude.{ℕ, Bool, false, List, [], ◌∷◌, map, slice_index_or}
+use Rattle.std.specs.Prelude.{ℕ, Bool, false, List, [], ◌∷◌, map, slice_index_or, Option}
 use Rattle.fw_time.specs.declared.stamp.Bounds.{Bounds}
 use Rattle.fw_frontier.specs.Front.{Front, IsCanonical, least_stamps}
 use Rattle.fw_frontier.specs.Frontier.{Frontier}
@@ -22,10 +22,13 @@ pub data Stage : Type 0 where
   acknowledged : Stage
   collected : Stage
 
--- a write of a node
+-- A write of a node. A checkpoint may stand on an earlier one of its node: that one's front is its base, and it is one deeper. One
+-- that is whole has no base and depth 0, and so has a logged event.
 pub record Write : Type 0 where
   pub node : ℕ
   pub written : Written
+  pub base : Option Front
+  pub depth : ℕ
   pub stage : Stage
 
 -- A state: the history, the latest event first, with the next serial; for each node what is settled, whether it failed,

@@ -1,5 +1,5 @@
 -- The steps of the event-list machine: when each is enabled, to which state it leads, and what it shows.
-use Rattle.std.specs.Prelude.{◌≡◌, ◌≢◌, ◌⊎◌, ℕ, ◌+◌, ◌<◌, Bool, true, false, not, ◌&&◌, ◌||◌, ◌==◌, if◌then◌else◌, List, [], ◌∷◌, ◌++◌, map, length, Option, Some, None, slice_set, filter}
+use Rattle.std.specs.Prelude.{◌≡◌, ◌≢◌, ◌⊎◌, ℕ, ◌+◌, ◌<◌, Bool, true, false, not, ◌&&◌, ◌||◌, ◌==◌, if◌then◌else◌, List, [], ◌∷◌, ◌++◌, map, length, Option, Some, None, slice_set, filter, zero, suc}
 use Rattle.std.specs.List.{list_any, list_all, flat_map, AllByRecursion}
 use Rattle.std.specs.Ordering.{is_gt}
 use Rattle.fw_time.specs.Stamp.{Stamp, leq, same, stamp_cmp}
@@ -41,7 +41,7 @@ pub data Outcome : Type 0 where
 
 -- the write of an event of node p, if its policy logs each event
 abbrev pub write_of_event : Policy → ℕ → ℕ → List Write
-write_of_event policy.Full p serial = record { node = p; written = logged_event serial; stage = in_flight } ∷ []
+write_of_event policy.Full p serial = record { node = p; written = logged_event serial; base = None; depth = 0; stage = in_flight } ∷ []
 write_of_event other p serial = []
 
 -- the state with one more event, under the next serial
@@ -75,9 +75,43 @@ pub record IsNextNotice (sys : System) (h : List Event) (p : ℕ) (at : Option S
   pub asked : IsStampNamed at t
   pub least : (other : Stamp) → IsEnabled sys h (Notified p other) → IsStampNamed at other → is_gt (stamp_cmp t other) ≡ false
 
+-- the frontier that a write holds, if it is a checkpoint
+abbrev pub checkpoint_front : Written → List Front
+checkpoint_front (checkpoint f low) = f ∷ []
+checkpoint_front (logged_event serial) = []
+
+-- the frontiers of node p's checkpoints, in order of asking
+abbrev pub checkpoints_of : ℕ → List Write → List Front
+checkpoints_of p writes = flat_map (λ write. if write.node == p then checkpoint_front write.written else []) writes
+
+-- the last of these, or the given one where there is none
+abbrev pub last_or : Front → List Front → Front
+last_or f [] = f
+last_or f (g ∷ gs) = last_or g gs
+
+-- the frontier of the newest checkpoint of node p, or the given one where it has none
+abbrev pub newest_checkpoint : ℕ → Front → List Write → Front
+newest_checkpoint p f writes = last_or f (checkpoints_of p writes)
+
+-- the depth of the next checkpoint of node p: 0, since each is whole
+abbrev pub next_depth : ℕ → List Write → ℕ
+next_depth p writes = 0
+
+-- the base of a checkpoint of this depth, where these are the fronts of the earlier ones of its node: the last, unless it is whole
+abbrev pub base_of_depth : ℕ → List Front → Option Front
+base_of_depth zero earlier = None
+base_of_depth (suc depth) [] = None
+base_of_depth (suc depth) (f ∷ earlier) = Some (last_or f earlier)
+
 -- the checkpoint that node p asks of f
 abbrev pub checkpoint_of : Machine → ℕ → Front → Write
-checkpoint_of state p f = record { node = p; written = checkpoint f state.low; stage = in_flight }
+checkpoint_of state p f = record {
+  node = p;
+  written = checkpoint f state.low;
+  base = base_of_depth (next_depth p state.writes) (checkpoints_of p state.writes);
+  depth = next_depth p state.writes;
+  stage = in_flight;
+}
 
 -- whether the policy asks a checkpoint whenever more is settled
 abbrev pub is_eager : Policy → Bool
@@ -105,24 +139,6 @@ abbrev pub is_asked_for_checkpoints : Policy → Bool
 is_asked_for_checkpoints policy.Lazy = true
 is_asked_for_checkpoints policy.Logged = true
 is_asked_for_checkpoints other = false
-
--- the frontier that a write holds, if it is a checkpoint
-abbrev pub checkpoint_front : Written → List Front
-checkpoint_front (checkpoint f low) = f ∷ []
-checkpoint_front (logged_event serial) = []
-
--- the frontiers of node p's checkpoints, in order of asking
-abbrev pub checkpoints_of : ℕ → List Write → List Front
-checkpoints_of p writes = flat_map (λ write. if write.node == p then checkpoint_front write.written else []) writes
-
--- the last of these, or the given one where there is none
-abbrev pub last_or : Front → List Front → Front
-last_or f [] = f
-last_or f (g ∷ gs) = last_or g gs
-
--- the frontier of the newest checkpoint of node p, or the given one where it has none
-abbrev pub newest_checkpoint : ℕ → Front → List Write → Front
-newest_checkpoint p f writes = last_or f (checkpoints_of p writes)
 
 -- whether a write is in flight
 abbrev pub is_in_flight : Stage → Bool
@@ -208,21 +224,44 @@ abbrev pub is_serial_given_up : System → List Front → ℕ → List SerialEve
 is_serial_given_up sys low serial h =
     list_any (λ v. v.serial == serial && is_given_up sys low (event_node sys.flow v.event) (event_stamp v.event)) h
 
--- whether what a write of node p holds lies below the watermark, so that it is not needed again
+-- whether what a write of node p holds lies below the watermark, so that by itself it is not needed again
 abbrev pub lies_below : System → List Front → List SerialEvent → ℕ → Written → Bool
 lies_below sys low h p (checkpoint g kept_low) = is_within g (front_of low p) && not (is_within (front_of low p) g)
 lies_below sys low h p (logged_event serial) = is_serial_given_up sys low serial h
 
--- how far a write is once what lies below is collected
-abbrev pub after_collection : Bool → Stage → Stage
-after_collection below in_flight = in_flight
-after_collection below acknowledged = if below then collected else acknowledged
-after_collection below collected = collected
+-- the base of node p's checkpoint at f among these writes, if it has one
+abbrev pub base_at : ℕ → Front → List Write → Option Front
+base_at p f [] = None
+base_at p f (write ∷ writes) = if list_any (same_front f) (checkpoints_of p (write ∷ [])) then write.base else base_at p f writes
 
--- the writes with those below the watermark collected
+-- the fronts of so many checkpoints of node p on which one with this base stands: its base, the base of that one, and so on
+abbrev pub bases_down : ℕ → ℕ → Option Front → List Write → List Front
+bases_down zero p base writes = []
+bases_down (suc depth) p None writes = []
+bases_down (suc depth) p (Some f) writes = f ∷ bases_down depth p (base_at p f writes) writes
+
+-- whether a write stands on another one of its node: that is its base, or its base stands on that
+abbrev pub stands_on : List Write → Write → Write → Bool
+stands_on writes write other =
+    list_any (λ f. list_any (same_front f) (checkpoints_of write.node (other ∷ []))) (bases_down write.depth write.node write.base writes)
+
+-- Whether a write is forgotten where it is acknowledged: what it holds lies below the watermark, and so does what each write holds that
+-- stands on it.
+abbrev pub is_forgotten : System → List Front → List SerialEvent → List Write → Write → Bool
+is_forgotten sys low h writes write =
+    lies_below sys low h write.node write.written
+    && list_all (λ (other : Write). not (stands_on writes other write) || lies_below sys low h other.node other.written) writes
+
+-- how far a write is once what is forgotten is collected
+abbrev pub after_collection : Bool → Stage → Stage
+after_collection forgotten in_flight = in_flight
+after_collection forgotten acknowledged = if forgotten then collected else acknowledged
+after_collection forgotten collected = collected
+
+-- the writes with those collected that the watermark forgets
 abbrev pub collected_writes : System → List Front → List SerialEvent → List Write → List Write
 collected_writes sys low h writes =
-    map (λ (write : Write). record write { stage = after_collection (lies_below sys low h write.node write.written) write.stage }) writes
+    map (λ (write : Write). record write { stage = after_collection (is_forgotten sys low h writes write) write.stage }) writes
 
 -- some node has a batch of epoch x
 abbrev pub HasEpoch : List (List (List Rec)) → ℕ → Type 0

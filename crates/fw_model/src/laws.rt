@@ -6,6 +6,7 @@
 //! stamps of its events by `SendsByStamp`: it is no output and no sequence, a loop that it feeds back has a next counter,
 //! and the groups that it makes are not empty. A run begins in the machine's first state, and its steps are any, failures,
 //! recoveries and collections among them. A history goes on legally where the longer one is legal.
+ghost use Rattle.fw_model.specs.LawsOfChains.{EachStandsOnTheOneBefore};
 ghost use Rattle.fw_model.specs.LawsOfCheckpointFronts.{CheckpointsDiffer, CheckpointsHaveStamps};
 ghost use Rattle.fw_model.specs.LawsOfAuto.{AutoRunsAreOne, AutoRunsAreRuns, AutoRunsGoOn};
 ghost use Rattle.fw_model.specs.LawsOfChoices.{ConsistentChoicesHaveUnion, DeliveredOfUnion, DiscardedOfUnion, EachLiesWithinUnion, LargestChoiceIsOne, NotifiedOfUnion, UnionOfCandidatesIsCandidate, UnionOfConsistentIsConsistent};
@@ -15,8 +16,11 @@ ghost use Rattle.fw_model.specs.LawsOfDeliveries.{ClosedStampsStayClosed, Delive
 ghost use Rattle.fw_model.specs.LawsOfDenotation.{DenotationExists, DenotationIsInDomain, DenotationIsInOrder, DenotationIsNumbered, DenotationIsTheOnlyOne, LaterRoundsAreTheSame, MeasureExists, OutBagsDependOnLesserMeasure, RecsAtStampsDecideBag, UnchangedRoundIsDenotation};
 ghost use Rattle.fw_model.specs.LawsOfExistence.{CompleteExists, CompleteIsTheOnlyOne, FrontierHasFront, LargestChoiceExists, SettledCanGrow};
 ghost use Rattle.fw_model.specs.LawsOfFiltering.{ConsistentMeetsInclusions, FilteredHistoryIsLegal, KeptDeliveriesHaveKeptCauses, KeptEventsAreLegal, KeptEventsDeliverTheSame, KeptEventsSendTheSame, KeptEventsSendTheSameFromWithin, NothingPendingWithoutLog, PendingAtKeptStamps, PendingAtOtherStamps, PendingForCut, PendingForPresent, PhiOfKeptEvents};
+ghost use Rattle.fw_model.specs.LawsOfFloors.{CutOfAllIsAFloor, FloorsStay, LargestChoiceHoldsFloors, LowWatermarkIsAFloor, WatermarkHoldsFloors};
 ghost use Rattle.fw_model.specs.LawsOfLegalHistories.{LegalEventsAreInDomain, LegalMessagesAreInDomain, OnlyInputsInject};
-ghost use Rattle.fw_model.specs.LawsOfOffers.{ConsistentByOffersIsConsistent, LargestByOffersIsLargest};
+ghost use Rattle.fw_model.specs.LawsOfOffers.{ConsistentByOffersIsConsistent, ConsistentIsByOffersAbove, LargestByOffersAboveIsLargest, LargestByOffersIsLargest};
+ghost use Rattle.fw_model.specs.LawsOfPoorerCovers.{PoorerCoversChooseTheSame, RicherCoversChooseTheSame};
+ghost use Rattle.fw_model.specs.LawsOfPoorerTrails.{CertificateByOffersAboveIsCertificate, PoorerCoversCertifyTheSame, PoorerCoversLowerTheSame, TrailByOffersAboveIsTrail};
 ghost use Rattle.fw_model.specs.LawsOfProgress.{EventsLeaveOthersStuck, NotifiableByComplete, StuckIsComplete};
 ghost use Rattle.fw_model.specs.LawsOfProjections.{PhiByCountIsMonotone, PhiGrowsWithHistory, PhiIgnoresHistory, PhiIsFrontier, PhiIsMonotone, PhiOfEverything, PhiOfMeet, PsiIsFrontier, PsiIsMonotone, PsiOfJoin, PsiOfNothing, PsiOfUnion};
 ghost use Rattle.fw_model.specs.LawsOfRecoveries.{AcknowledgementsShowDenotationThroughRecoveries, CandidatesLieWithinSettled, DenotedIsFull, RunsStayLegalThroughRecoveries, SettledStaysDenoted, StepsKeepHistoriesLegal};
@@ -30,7 +34,7 @@ ghost use Rattle.fw_model.specs.LawsOfTables.{DeliveriesLieInside, NothingComesA
 ghost use Rattle.fw_model.specs.LawsOfInjections.{InjectedEpochsAreInOrder, UntilLeavesThatMany};
 ghost use Rattle.fw_model.specs.LawsOfPending.{FirstPendingIsNext, PendingFollowsEvents, PendingNumbersGoOn, SentIsDeliveredAndPending};
 ghost use Rattle.fw_model.specs.LawsOfWrites.{LiveNodesLogEachEvent, LoggedEventsAreInOrder, NewestCheckpointIsKept};
-ghost use Rattle.fw_model.specs.Thinned.{ThinnedStampsCoverTheSame};
+ghost use Rattle.fw_model.specs.Thinned.{StampsOutsideCoverTheRest, ThinnedStampsCoverTheSame};
 
 // The laws of times and of frontiers, each over every type of times, and that of dataflows.
 pub use fw_flow::laws::ranks_exist;
@@ -661,16 +665,22 @@ pub fn events_that_must_be_kept_are_never_collected()
     ensures { EventsThatMustBeKeptAreNeverCollected }
 {}
 
-/// In each state of a run of a well-formed system no write below the watermark that a collection takes is in flight:
-/// what a collection forgets was acknowledged.
+/// In each state of a run of a well-formed system no write is in flight that a collection forgets: what a collection
+/// forgets was acknowledged.
 pub fn what_is_forgotten_was_acknowledged()
     ensures { WhatIsForgottenWasAcknowledged }
 {}
 
-/// In each state of a run of a well-formed system a write was collected exactly where what it holds lies below the
-/// low watermark.
+/// In each state of a run of a well-formed system a write was collected exactly where the low watermark forgets it: where
+/// what it holds lies below, and so does what each write holds that stands on it.
 pub fn collected_is_what_lies_below()
     ensures { CollectedIsWhatLiesBelow }
+{}
+
+/// In each state of a run of a well-formed system each checkpoint of a node is whole, or stands on the one before it, and
+/// is one deeper.
+pub fn each_stands_on_the_one_before()
+    ensures { EachStandsOnTheOneBefore }
 {}
 
 /// Each checkpoint in a state of a run of a well-formed system was asked in an earlier state of the run, and counts
@@ -826,4 +836,78 @@ pub fn totals_sum_what_was_told()
 /// a stamp of the node's domain inside it.
 pub fn deliveries_lie_inside()
     ensures { DeliveriesLieInside }
+{}
+
+/// Where some stamps inside a base are missing, what is kept covers all but at most what those inside the base cover.
+pub fn stamps_outside_cover_the_rest()
+    ensures { StampsOutsideCoverTheRest }
+{}
+
+/// Where covers lack at most what those of a consistent choice have, the largest choice by them is the largest.
+pub fn poorer_covers_choose_the_same()
+    ensures { PoorerCoversChooseTheSame }
+{}
+
+/// And the largest choice is the largest by them, if there is one by them.
+pub fn richer_covers_choose_the_same()
+    ensures { RicherCoversChooseTheSame }
+{}
+
+/// In each state of a run of a well-formed system the low watermark is a floor.
+pub fn low_watermark_is_a_floor()
+    ensures { LowWatermarkIsAFloor }
+{}
+
+/// A step from a state of a run of a well-formed system leaves each floor a floor, if it is no collection.
+pub fn floors_stay()
+    ensures { FloorsStay }
+{}
+
+/// In each state the largest choice of what is kept holds each floor, whichever nodes count as failed.
+pub fn largest_choice_holds_floors()
+    ensures { LargestChoiceHoldsFloors }
+{}
+
+/// After a collection the low watermark holds each floor of before.
+pub fn watermark_holds_floors()
+    ensures { WatermarkHoldsFloors }
+{}
+
+/// A recovery from a state of a run of a well-formed system in which each node is failed leads to one in which the
+/// frontiers of its cuts are a floor.
+pub fn cut_of_all_is_a_floor()
+    ensures { CutOfAllIsAFloor }
+{}
+
+/// Where what nodes offer, as data, is what the machine offers in a state above a floor, each consistent choice is consistent
+/// by the data.
+pub fn consistent_is_by_offers_above()
+    ensures { ConsistentIsByOffersAbove }
+{}
+
+/// There the largest choice by the data is that of the machine.
+pub fn largest_by_offers_above_is_largest()
+    ensures { LargestByOffersAboveIsLargest }
+{}
+
+/// Where covers lack at most what those of a consistent choice have, a trail by them is the trail, and the trail is one by
+/// them.
+pub fn poorer_covers_lower_the_same()
+    ensures { PoorerCoversLowerTheSame }
+{}
+
+/// The same of certificates.
+pub fn poorer_covers_certify_the_same()
+    ensures { PoorerCoversCertifyTheSame }
+{}
+
+/// Where what nodes offer, as data, is what the machine offers in a state above a floor, the trail by the data is that of the
+/// machine.
+pub fn trail_by_offers_above_is_trail()
+    ensures { TrailByOffersAboveIsTrail }
+{}
+
+/// The same of certificates.
+pub fn certificate_by_offers_above_is_certificate()
+    ensures { CertificateByOffersAboveIsCertificate }
 {}

@@ -12,30 +12,31 @@ use Rattle.fw_flow.specs.Dataflow.{Dataflow, sender, receiver, bounds_of, node_f
 use Rattle.fw_model.specs.Machine.{front_of}
 use Rattle.fw_model.specs.Choice.{cut_of, notice_of}
 use Rattle.fw_model.specs.Covers.{set_of}
-use Rattle.fw_model.specs.Offers.{arrived_from}
-use Rattle.fw_monitor.specs.declared.side.Side.TheVariants.{Delivered, Discarded, Notified}
-use Rattle.fw_monitor.specs.declared.side.Limit.TheVariants.{Own, Note}
-use Rattle.fw_monitor.specs.declared.side.Inclusion.{Inclusion}
-use Rattle.fw_monitor.specs.declared.side.Inclusion.TheVariants.{OfCut, OfNote}
-use Rattle.fw_monitor.specs.Descent.{choice_of, left_of}
-use Rattle.fw_monitor.specs.Inclusions.{Holds, reads_cut, reads_note}
+use Rattle.fw_model.specs.Offers.{arrived_from, covers_of}
+use Rattle.fw_flow.specs.declared.side.Side.TheVariants.{Delivered, Discarded, Notified}
+use Rattle.fw_flow.specs.declared.side.Limit.TheVariants.{Own, Note}
+use Rattle.fw_flow.specs.declared.side.Inclusion.{Inclusion}
+use Rattle.fw_flow.specs.declared.side.Inclusion.TheVariants.{OfCut, OfNote}
+use Rattle.fw_model.specs.Inclusions.{left_of, Holds}
+use Rattle.fw_model.specs.Lowerings.{choice_of}
+use Rattle.fw_monitor.specs.Worklist.{reads_cut, reads_note}
 
 cut_old : (choice : Choice) (p q : ℕ) (c : Cut) → (q == p) ≡ false → cut_of (choice_of (set choice.cuts p c) choice.notices) q ≡ cut_of choice q
 cut_old choice p q c k = get_or-set_other choice.cuts p q c Present (eqb-false q p k)
 
 -- another cut of a node leaves what does not read it
 pub cut_spares : (flow : Dataflow) (offers : List Offer) (choice : Choice) (p : ℕ) (c : Cut) (i : Inclusion) → reads_cut flow p i ≡ false
-    → Holds flow offers choice i → Holds flow offers (choice_of (set choice.cuts p c) choice.notices) i
+    → Holds flow (covers_of flow offers) choice i → Holds flow (covers_of flow offers) (choice_of (set choice.cuts p c) choice.notices) i
 cut_spares flow offers choice p c (OfCut (Delivered d)) k h = λ t i.
     let n = or_parts (receiver flow d == p) (sender flow d == p) k in
     ap (λ x. arrived_from flow offers d (set_of flow (sender flow d) x) t) (cut_old choice p (sender flow d) c n.1)
-    ∙ h t (sym (ap (λ x. left_of flow offers (Delivered d) x t) (cut_old choice p (receiver flow d) c n.0)) ∙ i)
+    ∙ h t (sym (ap (λ x. left_of (covers_of flow offers) (Delivered d) x t) (cut_old choice p (receiver flow d) c n.0)) ∙ i)
 cut_spares flow offers choice p c (OfCut (Discarded e)) k h = λ t i.
     let n = or_parts (sender flow e == p) (receiver flow e == p) k in
     ap (λ x. set_of flow (receiver flow e) x t) (cut_old choice p (receiver flow e) c n.1)
-    ∙ h t (sym (ap (λ x. left_of flow offers (Discarded e) x t) (cut_old choice p (sender flow e) c n.0)) ∙ i)
+    ∙ h t (sym (ap (λ x. left_of (covers_of flow offers) (Discarded e) x t) (cut_old choice p (sender flow e) c n.0)) ∙ i)
 cut_spares flow offers choice p c (OfCut (Notified q)) k h = λ t i.
-    h t (sym (ap (λ x. left_of flow offers (Notified q) x t) (cut_old choice p q c k)) ∙ i)
+    h t (sym (ap (λ x. left_of (covers_of flow offers) (Notified q) x t) (cut_old choice p q c k)) ∙ i)
 cut_spares flow offers choice p c (OfNote (Own q)) k h = λ t i. ap (λ x. set_of flow q x t) (cut_old choice p q c k) ∙ h t i
 cut_spares flow offers choice p c (OfNote (Note d)) k h = h
 
@@ -53,7 +54,7 @@ notice_lower flow choice p q f l w t i = elim (cases_eq q p) [
 -- a lower notification frontier of a node leaves what does not have it on its right
 pub note_spares : (flow : Dataflow) (offers : List Offer) (choice : Choice) (p : ℕ) (f : Front) (i : Inclusion) → p < length choice.notices
     → Within (node_frontier flow p f) (notice_of flow choice p) → reads_note flow p i ≡ false
-    → Holds flow offers choice i → Holds flow offers (choice_of choice.cuts (set choice.notices p f)) i
+    → Holds flow (covers_of flow offers) choice i → Holds flow (covers_of flow offers) (choice_of choice.cuts (set choice.notices p f)) i
 note_spares flow offers choice p f (OfCut (Delivered d)) l w k h = h
 note_spares flow offers choice p f (OfCut (Discarded e)) l w k h = h
 note_spares flow offers choice p f (OfCut (Notified q)) l w k h = λ t i.

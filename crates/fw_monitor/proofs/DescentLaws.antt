@@ -8,73 +8,25 @@ use Rattle.fw_flow.specs.declared.choice.Choice.{Choice}
 use Rattle.fw_flow.specs.declared.choice.Cut.{Cut}
 use Rattle.fw_flow.specs.declared.choice.Cut.TheVariants.{Present, At}
 use Rattle.fw_flow.specs.declared.choice.Offer.{Offer}
-use Rattle.fw_flow.specs.Dataflow.{Dataflow, sender, receiver, bounds_of}
+use Rattle.fw_flow.specs.Dataflow.{Dataflow, bounds_of}
 use Rattle.fw_flow.specs.WellFormed.{IsWellFormed}
 use Rattle.fw_model.specs.Machine.{front_of}
-use Rattle.fw_model.specs.Choice.{cut_of, notice_of, kept_of, IsLargestBy, IsCutWithin, IsChoiceWithin}
-use Rattle.fw_model.specs.Covers.{set_of}
+use Rattle.fw_model.specs.Choice.{cut_of, notice_of, IsLargestBy, IsCutWithin, IsChoiceOf, IsCanonicalCut}
 use Rattle.fw_model.specs.Offers.{IsOffered, RecordsAscend, covers_of}
-use Rattle.fw_monitor.specs.declared.side.Side.TheVariants.{Delivered, Discarded, Notified}
-use Rattle.fw_monitor.specs.declared.side.Limit.TheVariants.{Own, Note}
-use Rattle.fw_monitor.specs.declared.side.Side.{Side}
-use Rattle.fw_monitor.specs.declared.side.Inclusion.{Inclusion}
-use Rattle.fw_monitor.specs.declared.side.Inclusion.TheVariants.{OfCut, OfNote}
+use Rattle.fw_flow.specs.declared.side.Side.TheVariants.{Delivered, Discarded, Notified}
+use Rattle.fw_flow.specs.declared.side.Limit.TheVariants.{Own, Note}
+use Rattle.fw_flow.specs.declared.side.Inclusion.{Inclusion}
+use Rattle.fw_flow.specs.declared.side.Inclusion.TheVariants.{OfCut, OfNote}
 use Rattle.fw_monitor.specs.Held.{held_count}
-use Rattle.fw_monitor.specs.Chosen.{IsChoiceOf}
-use Rattle.fw_monitor.specs.Descent.{choice_of, owner, IsSideOfFlow, IsCanonicalCut, IsConsistentOf, EnclosesConsistent, HasConsistent, cut_weight, node_weight, weight}
-use Rattle.fw_monitor.specs.Inclusions.{Holds, IsInclusionOf, node_of, note_node, right_side}
-use Rattle.fw_monitor.specs.Trail.{IsValueLeft, IsGreatestLeft, with_value}
-use Rattle.fw_monitor.proofs.HeldLaws.{sum_below-less, held-most}
-use Rattle.fw_monitor.proofs.FrontLaws.{held-less, within_everything}
-use Rattle.fw_monitor.proofs.ArrivedLaws.{arrived-monotone}
-
--- ---- what lies within
-
-pub set-monotone : (flow : Dataflow) (p : ℕ) (c d : Cut) → IsCutWithin flow p c d → Within (set_of flow p c) (set_of flow p d)
-set-monotone flow p Present Present w t k = k
-set-monotone flow p (At f) Present w t k = within_everything (bounds_of flow p) f t k
-set-monotone flow p Present (At g) w t k = absurd w
-set-monotone flow p (At f) (At g) w t k = w t k
-
--- the right sides grow with the choice
-right-monotone : (flow : Dataflow) (offers : List Offer) (i : Inclusion) (small large : Choice) → IsWellFormed flow → IsInclusionOf flow i → IsChoiceWithin flow small large
-    → Within (right_side flow offers i small) (right_side flow offers i large)
-right-monotone flow offers (OfCut (Delivered d)) small large well there w =
-    arrived-monotone flow offers d (kept_of flow small (sender flow d)) (kept_of flow large (sender flow d))
-    (set-monotone flow (sender flow d) (cut_of small (sender flow d)) (cut_of large (sender flow d)) (w.cuts (sender flow d) (well.senders_declared d there)))
-right-monotone flow offers (OfCut (Discarded e)) small large well there w =
-    set-monotone flow (receiver flow e) (cut_of small (receiver flow e)) (cut_of large (receiver flow e)) (w.cuts (receiver flow e) (well.receivers_declared e there))
-right-monotone flow offers (OfCut (Notified p)) small large well there w = w.notices p there
-right-monotone flow offers (OfNote (Own p)) small large well there w = set-monotone flow p (cut_of small p) (cut_of large p) (w.cuts p there)
-right-monotone flow offers (OfNote (Note d)) small large well there w =
-    arrived-monotone flow offers d (notice_of flow small (sender flow d)) (notice_of flow large (sender flow d)) (w.notices (sender flow d) (well.senders_declared d there))
-
--- in a consistent choice each inclusion holds
-consistent-holds : (flow : Dataflow) (offers : List Offer) (choice : Choice) → IsConsistentOf flow offers choice → (i : Inclusion) → IsInclusionOf flow i → Holds flow offers choice i
-consistent-holds flow offers choice c (OfCut (Delivered d)) there = c.delivered d there
-consistent-holds flow offers choice c (OfCut (Discarded e)) there = c.discarded e there
-consistent-holds flow offers choice c (OfCut (Notified p)) there = c.notified p there
-consistent-holds flow offers choice c (OfNote (Own p)) there = c.own p there
-consistent-holds flow offers choice c (OfNote (Note d)) there = c.notices d there
-
-pub owner-there : (flow : Dataflow) (side : Side) → IsWellFormed flow → IsSideOfFlow flow side → owner flow side < length flow.nodes
-owner-there flow (Delivered d) well there = well.receivers_declared d there
-owner-there flow (Discarded e) well there = well.senders_declared e there
-owner-there flow (Notified p) well there = there
-
-pub node-there : (flow : Dataflow) (i : Inclusion) → IsWellFormed flow → IsInclusionOf flow i → node_of flow i < length flow.nodes
-node-there flow (OfCut side) well there = owner-there flow side well there
-node-there flow (OfNote (Own p)) well there = there
-node-there flow (OfNote (Note d)) well there = well.receivers_declared d there
+use Rattle.fw_model.specs.Inclusions.{owner, Holds, IsInclusionOf, node_of, note_node}
+use Rattle.fw_model.specs.Lowerings.{choice_of, IsValueLeft, IsGreatestLeft, with_value}
+use Rattle.fw_monitor.specs.Descent.{IsConsistentOf, EnclosesConsistent, HasConsistent, cut_weight, node_weight, weight}
+use Rattle.fw_monitor.proofs.HeldLaws.{sum_below-less, held-most, held-less}
+use Rattle.fw_offers.proofs.FrontLaws.{within_everything}
+use Rattle.fw_model.proofs.ArrivedLaws.{arrived-monotone}
+use Rattle.fw_model.proofs.InclusionLaws.{right-monotone, consistent-holds, owner-there, node-there, set_there, value_of}
 
 -- ---- a list with another value at one place
-
-pub set_there : {A : Type 0} (P : ℕ → A → Type 0) (xs : List A) (n p : ℕ) (x d : A) → p < length xs → ((q : ℕ) → q < n → P q (get_or xs q d)) → P p x
-    → (q : ℕ) → q < n → P q (get_or (set xs p x) q d)
-set_there P xs n p x d l h k q m = elim (cases_eq q p) [
-  | inl e ↦ subst (λ r. P r (get_or (set xs p x) r d)) (sym e) (subst (P p) (sym (get_or-set_same xs p x d l)) k)
-  | inr e ↦ subst (P q) (sym (get_or-set_other xs p q x d e)) (h q m)
-]
 
 set_less : {A : Type 0} (size : ℕ → A → ℕ) (xs : List A) (p : ℕ) (x d : A) → p < length xs → size p x < size p (get_or xs p d)
     → (size p (get_or (set xs p x) p d) < size p (get_or xs p d)) × ((q : ℕ) → size q (get_or (set xs p x) q d) ≤ size q (get_or xs q d))
@@ -127,21 +79,16 @@ lighter_notice flow offers choice p f r l canonical w n =
 
 -- ---- what a lower value keeps
 
--- the value of a choice on the left of an inclusion
-abbrev pub value_of : Dataflow → Choice → Inclusion → Cut
-value_of flow choice (OfCut side) = cut_of choice (owner flow side)
-value_of flow choice (OfNote limit) = At (front_of choice.notices (note_node flow limit))
-
 -- that of a consistent choice is left
 pub consistent_left : (flow : Dataflow) (offers : List Offer) (i : Inclusion) (choice other : Choice) → IsWellFormed flow → IsInclusionOf flow i → EnclosesConsistent flow offers choice
-    → RecordsAscend flow offers → IsConsistentOf flow offers other → IsValueLeft flow offers choice i (value_of flow other i)
+    → RecordsAscend flow offers → IsConsistentOf flow offers other → IsValueLeft flow (covers_of flow offers) (IsOffered flow offers) choice i (value_of flow other i)
 consistent_left flow offers (OfCut side) choice other well there r a k =
     let l = owner-there flow side well there in
     let inner = r.within a other k in
     record {
       offered = k.offered (owner flow side) l;
       within = inner.cuts (owner flow side) l;
-      meets = λ t j. right-monotone flow offers (OfCut side) other choice well there inner t (consistent-holds flow offers other k (OfCut side) there t j);
+      meets = λ t j. right-monotone flow (covers_of flow offers) (OfCut side) other choice well (arrived-monotone flow offers) there inner t (consistent-holds flow (covers_of flow offers) (IsOffered flow offers) other k (OfCut side) there t j);
     }
 consistent_left flow offers (OfNote limit) choice other well there r a k =
     let l = node-there flow (OfNote limit) well there in
@@ -149,12 +96,12 @@ consistent_left flow offers (OfNote limit) choice other well there r a k =
     record {
       canonical = k.canonical (note_node flow limit) l;
       within = inner.notices (note_node flow limit) l;
-      meets = λ t j. right-monotone flow offers (OfNote limit) other choice well there inner t (consistent-holds flow offers other k (OfNote limit) there t j);
+      meets = λ t j. right-monotone flow (covers_of flow offers) (OfNote limit) other choice well (arrived-monotone flow offers) there inner t (consistent-holds flow (covers_of flow offers) (IsOffered flow offers) other k (OfNote limit) there t j);
     }
 
 -- a choice with the greatest value that is left encloses each consistent one
 pub value_encloses : (flow : Dataflow) (offers : List Offer) (i : Inclusion) (choice : Choice) (x : Cut) → IsWellFormed flow → IsInclusionOf flow i → EnclosesConsistent flow offers choice
-    → IsCanonicalCut (bounds_of flow (node_of flow i)) x → (HasConsistent flow offers → IsGreatestLeft flow offers choice i x) → EnclosesConsistent flow offers (with_value flow choice i x)
+    → IsCanonicalCut (bounds_of flow (node_of flow i)) x → (HasConsistent flow offers → IsGreatestLeft flow (covers_of flow offers) (IsOffered flow offers) choice i x) → EnclosesConsistent flow offers (with_value flow choice i x)
 value_encloses flow offers (OfCut side) choice x well there r canonical low =
     let p = owner flow side in
     let one = r.one_cut_each in
@@ -195,7 +142,7 @@ value_encloses flow offers (OfNote limit) choice (At f) well there r canonical l
 
 -- where each inclusion holds and each cut is offered, the choice is consistent
 pub consistent_of : (flow : Dataflow) (offers : List Offer) (choice : Choice) → EnclosesConsistent flow offers choice → ((p : ℕ) → p < length flow.nodes → IsOffered flow offers p (cut_of choice p))
-    → ((i : Inclusion) → IsInclusionOf flow i → Holds flow offers choice i) → IsConsistentOf flow offers choice
+    → ((i : Inclusion) → IsInclusionOf flow i → Holds flow (covers_of flow offers) choice i) → IsConsistentOf flow offers choice
 consistent_of flow offers choice r offered holds = record {
   one_cut_each = r.one_cut_each;
   one_notice_each = r.one_notice_each;
@@ -210,7 +157,7 @@ consistent_of flow offers choice r offered holds = record {
 
 -- and the largest
 pub largest_of : (flow : Dataflow) (offers : List Offer) (choice : Choice) → EnclosesConsistent flow offers choice → HasConsistent flow offers
-    → ((i : Inclusion) → IsInclusionOf flow i → Holds flow offers choice i) → IsLargestBy flow (covers_of flow offers) (IsOffered flow offers) choice
+    → ((i : Inclusion) → IsInclusionOf flow i → Holds flow (covers_of flow offers) choice i) → IsLargestBy flow (covers_of flow offers) (IsOffered flow offers) choice
 largest_of flow offers choice r has holds = record {
   consistent = consistent_of flow offers choice r (r.offered has.0 has.1.0 has.1.1) holds;
   largest = λ other k. r.within has.0 other k;

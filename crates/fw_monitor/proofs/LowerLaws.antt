@@ -15,27 +15,29 @@ use Rattle.fw_flow.specs.declared.kind.Policy.TheVariants as policies
 use Rattle.fw_flow.specs.declared.restoring.Restoring.TheVariants.{Batches}
 use Rattle.fw_flow.specs.Dataflow.{Dataflow, kind_of, policy_of, sender, receiver, bounds_of, node_frontier}
 use Rattle.fw_flow.specs.Restoring.{can_resend, way_of}
-use Rattle.fw_model.specs.Choice.{IsCutWithin}
+use Rattle.fw_model.specs.Choice.{IsCutWithin, IsCanonicalCut}
 use Rattle.fw_model.specs.Covers.{takes_its_cut, takes_its_notices, discarded_at}
-use Rattle.fw_model.specs.Offers.{IsListed, IsOffered, IsFormOf, Ascend, RecordsAscend, offered_by, records_of, range_of, delivered_to, notified_of, offered_sent, stamps_on, stamps_on_from, delivered_in, sent_in, notified_in}
+use Rattle.fw_model.specs.Offers.{IsListed, IsOffered, IsFormOf, Ascend, RecordsAscend, offered_by, records_of, range_of, delivered_to, notified_of, offered_sent, stamps_on, stamps_on_from, delivered_in, sent_in, notified_in, covers_of}
 use Rattle.fw_model.proofs.ChoiceLaws.{same_fronts, by_batches-input}
 use Rattle.fw_model.proofs.OfferLaws.{not_listed, listed-there, below_last, between-offered, offered-between, listed-offered, offered-listed}
-use Rattle.fw_monitor.specs.declared.side.Side.{Side}
-use Rattle.fw_monitor.specs.declared.side.Side.TheVariants.{Delivered, Discarded, Notified}
+use Rattle.fw_flow.specs.declared.side.Side.{Side}
+use Rattle.fw_flow.specs.declared.side.Side.TheVariants.{Delivered, Discarded, Notified}
 use Rattle.fw_monitor.specs.Kept.{front_or}
-use Rattle.fw_monitor.specs.Descent.{owner, side_bounds, left_of, IsCanonicalCut, IsLeft, IsBelow, Fits, IsLower, IsCutDown}
-use Rattle.fw_monitor.proofs.FrontLaws.{all_is_everything, within_everything}
+use Rattle.fw_model.specs.Inclusions.{owner, side_bounds, left_of}
+use Rattle.fw_offers.specs.Sides.{IsLeft}
+use Rattle.fw_monitor.specs.Descent.{IsBelow, Fits, IsLower, IsCutDown}
+use Rattle.fw_offers.proofs.FrontLaws.{all_is_everything, within_everything}
 
 -- ---- records
 
 others_fail : (flow : Dataflow) (offers : List Offer) (side : Side) (cut : Cut) (bound : Front) (f : Front) (post : List Recorded)
-    → IsCutWithin flow (owner flow side) (At f) cut → Within (left_of flow offers side (At f)) (frontier_of (side_bounds flow side) bound)
+    → IsCutWithin flow (owner flow side) (At f) cut → Within (left_of (covers_of flow offers) side (At f)) (frontier_of (side_bounds flow side) bound)
     → AllByRecursion (λ s. Fits flow offers side cut bound s → ⊥) post → AllByRecursion (λ s. s.front ≡ f → ⊥) post
 others_fail flow offers side cut bound f [] w l a = tt
 others_fail flow offers side cut bound f (s ∷ post) w l a = (
   λ e. a.0 (
     subst (λ g. IsCutWithin flow (owner flow side) (At g) cut) (sym e) w,
-    subst (λ g. Within (left_of flow offers side (At g)) (frontier_of (side_bounds flow side) bound)) (sym e) l,
+    subst (λ g. Within (left_of (covers_of flow offers) side (At g)) (frontier_of (side_bounds flow side) bound)) (sym e) l,
   ),
   others_fail flow offers side cut bound f post w l a.1,
 )
@@ -48,7 +50,7 @@ present-within flow p (At g) w = absurd w
 pub lower_listed : (flow : Dataflow) (offers : List Offer) (side : Side) (cut : Cut) (bound : Front) (pre : List Recorded) (r : Recorded) (post : List Recorded)
     → owner flow side < length flow.nodes → IsCanonical (bounds_of flow (owner flow side)) r.front
     → records_of offers (owner flow side) ≡ pre ++ r ∷ post → range_of offers (owner flow side) ≡ None
-    → (Within (left_of flow offers side cut) (frontier_of (side_bounds flow side) bound) → ⊥) → IsBelow flow (owner flow side) r.front cut
+    → (Within (left_of (covers_of flow offers) side cut) (frontier_of (side_bounds flow side) bound) → ⊥) → IsBelow flow (owner flow side) r.front cut
     → (RecordsAscend flow offers → Fits flow offers side cut bound r × AllByRecursion (λ s. Fits flow offers side cut bound s → ⊥) post)
     → IsLower flow offers side cut bound (At r.front)
 lower_listed flow offers side cut bound pre r post l c is none fails below last =
@@ -66,25 +68,25 @@ lower_listed flow offers side cut bound pre r post l c is none fails below last 
     }
   where
     at : (x : Cut) → IsOffered flow offers (owner flow side) x → IsCutWithin flow (owner flow side) x cut
-        → Within (left_of flow offers side x) (frontier_of (side_bounds flow side) bound) → AllByRecursion (λ s. Fits flow offers side cut bound s → ⊥) post
+        → Within (left_of (covers_of flow offers) side x) (frontier_of (side_bounds flow side) bound) → AllByRecursion (λ s. Fits flow offers side cut bound s → ⊥) post
         → Ascend (bounds_of flow (owner flow side)) (pre ++ r ∷ post) → IsCutWithin flow (owner flow side) x (At r.front)
     at Present offered within passes others ascending =
-        absurd (fails (subst (λ x. Within (left_of flow offers side x) (frontier_of (side_bounds flow side) bound)) (sym (present-within flow (owner flow side) cut within)) passes))
+        absurd (fails (subst (λ x. Within (left_of (covers_of flow offers) side x) (frontier_of (side_bounds flow side) bound)) (sym (present-within flow (owner flow side) cut within)) passes))
     at (At f) offered within passes others ascending =
         below_last (bounds_of flow (owner flow side)) pre r post f ascending
         (subst (IsListed f) is (listed-offered flow offers (owner flow side) f none offered)) (others_fail flow offers side cut bound f post within passes others)
 
 -- where no record fits, nothing is left
 pub none_listed : (flow : Dataflow) (offers : List Offer) (side : Side) (cut : Cut) (bound : Front) → range_of offers (owner flow side) ≡ None
-    → (Within (left_of flow offers side cut) (frontier_of (side_bounds flow side) bound) → ⊥)
+    → (Within (left_of (covers_of flow offers) side cut) (frontier_of (side_bounds flow side) bound) → ⊥)
     → AllByRecursion (λ s. Fits flow offers side cut bound s → ⊥) (records_of offers (owner flow side))
     → (x : Cut) → IsLeft flow offers side cut bound x → ⊥
 none_listed flow offers side cut bound none fails others x left = at x left.offered left.within left.passes
   where
     at : (x : Cut) → IsOffered flow offers (owner flow side) x → IsCutWithin flow (owner flow side) x cut
-        → Within (left_of flow offers side x) (frontier_of (side_bounds flow side) bound) → ⊥
+        → Within (left_of (covers_of flow offers) side x) (frontier_of (side_bounds flow side) bound) → ⊥
     at Present offered within passes =
-        fails (subst (λ x. Within (left_of flow offers side x) (frontier_of (side_bounds flow side) bound)) (sym (present-within flow (owner flow side) cut within)) passes)
+        fails (subst (λ x. Within (left_of (covers_of flow offers) side x) (frontier_of (side_bounds flow side) bound)) (sym (present-within flow (owner flow side) cut within)) passes)
     at (At f) offered within passes =
         not_listed (records_of offers (owner flow side)) f (listed-offered flow offers (owner flow side) f none offered)
         (others_fail flow offers side cut bound f (records_of offers (owner flow side)) within passes others)
@@ -124,7 +126,7 @@ base-between flow offers p (At g) least greatest is fits offered =
 
 -- a source has in all that it offers what it has as it is
 all-as-present : (flow : Dataflow) (offers : List Offer) (side : Side) → way_of flow (owner flow side) ≡ Batches
-    → left_of flow offers side (At []) ≡ left_of flow offers side Present
+    → left_of (covers_of flow offers) side (At []) ≡ left_of (covers_of flow offers) side Present
 all-as-present flow offers (Delivered d) e =
     let b = bounds_of flow (receiver flow d) in
     subst (λ way. cond (takes_its_cut way) (frontier_of b []) (delivered_in flow offers d way (At [])) ≡ delivered_in flow offers d way Present) (sym e)
@@ -150,33 +152,33 @@ all-as-present flow offers (Notified p) e =
 
 -- so all is not left of a source
 all-fails : (flow : Dataflow) (offers : List Offer) (side : Side) (cut : Cut) (bound : Front) → way_of flow (owner flow side) ≡ Batches
-    → IsCanonicalCut (bounds_of flow (owner flow side)) cut → (Within (left_of flow offers side cut) (frontier_of (side_bounds flow side) bound) → ⊥)
-    → IsCutWithin flow (owner flow side) (At []) cut → Within (left_of flow offers side (At [])) (frontier_of (side_bounds flow side) bound) → ⊥
+    → IsCanonicalCut (bounds_of flow (owner flow side)) cut → (Within (left_of (covers_of flow offers) side cut) (frontier_of (side_bounds flow side) bound) → ⊥)
+    → IsCutWithin flow (owner flow side) (At []) cut → Within (left_of (covers_of flow offers) side (At [])) (frontier_of (side_bounds flow side) bound) → ⊥
 all-fails flow offers side Present bound way c fails w l =
     fails (subst (λ x. Within x (frontier_of (side_bounds flow side) bound)) (all-as-present flow offers side way) l)
 all-fails flow offers side (At g) bound way c fails w l =
     let b = bounds_of flow (owner flow side) in
     let same : [] ≡ g = same_fronts b [] g tt c w (λ t k. ap (λ (f : Frontier). f t) (all_is_everything b) ∙ within_everything b g t k) in
-    fails (subst (λ x. Within (left_of flow offers side (At x)) (frontier_of (side_bounds flow side) bound)) same l)
+    fails (subst (λ x. Within (left_of (covers_of flow offers) side (At x)) (frontier_of (side_bounds flow side) bound)) same l)
 
 pub lower_range : (flow : Dataflow) (offers : List Offer) (side : Side) (cut : Cut) (bound f least greatest : Front)
     → range_of offers (owner flow side) ≡ Some (least, greatest) → IsFormOf (way_of flow (owner flow side)) (offered_by offers (owner flow side))
-    → IsCanonicalCut (bounds_of flow (owner flow side)) cut → (Within (left_of flow offers side cut) (frontier_of (side_bounds flow side) bound) → ⊥)
+    → IsCanonicalCut (bounds_of flow (owner flow side)) cut → (Within (left_of (covers_of flow offers) side cut) (frontier_of (side_bounds flow side) bound) → ⊥)
     → IsCutDown flow offers side (front_or cut greatest) bound f → IsLower flow offers side cut bound (At f)
 lower_range flow offers side cut bound f least greatest is fits c fails down = record {
   fails = fails;
   canonical = down.canonical;
   within = base-within flow (owner flow side) cut greatest f down.within;
-  other = λ e. fails (subst (λ x. Within (left_of flow offers side x) (frontier_of (side_bounds flow side) bound)) e down.passes);
+  other = λ e. fails (subst (λ x. Within (left_of (covers_of flow offers) side x) (frontier_of (side_bounds flow side) bound)) e down.passes);
   passes = λ ascending. down.passes;
   largest = λ ascending offered x left. at x offered left.offered left.within left.passes;
 }
   where
     at : (x : Cut) → IsOffered flow offers (owner flow side) cut → IsOffered flow offers (owner flow side) x → IsCutWithin flow (owner flow side) x cut
-        → Within (left_of flow offers side x) (frontier_of (side_bounds flow side) bound)
+        → Within (left_of (covers_of flow offers) side x) (frontier_of (side_bounds flow side) bound)
         → IsOffered flow offers (owner flow side) (At f) × IsCutWithin flow (owner flow side) x (At f)
     at Present old offered within passes =
-        absurd (fails (subst (λ x. Within (left_of flow offers side x) (frontier_of (side_bounds flow side) bound)) (sym (present-within flow (owner flow side) cut within)) passes))
+        absurd (fails (subst (λ x. Within (left_of (covers_of flow offers) side x) (frontier_of (side_bounds flow side) bound)) (sym (present-within flow (owner flow side) cut within)) passes))
     at (At g) old offered within passes = elim (between-offered flow offers (owner flow side) least greatest g is fits offered) [
       | inl i ↦
           let inner = down.largest g (within-base flow (owner flow side) cut greatest g i.1 within) passes in
@@ -186,5 +188,5 @@ lower_range flow offers side cut bound f least greatest is fits c fails down = r
           )
       | inr i ↦ absurd (all-fails flow offers side cut bound i.0 c fails
           (subst (λ h. IsCutWithin flow (owner flow side) (At h) cut) i.1 within)
-          (subst (λ h. Within (left_of flow offers side (At h)) (frontier_of (side_bounds flow side) bound)) i.1 passes))
+          (subst (λ h. Within (left_of (covers_of flow offers) side (At h)) (frontier_of (side_bounds flow side) bound)) i.1 passes))
     ]

@@ -9,26 +9,29 @@ use Rattle.fw_flow.specs.declared.choice.Offer.{Offer}
 use Rattle.fw_flow.specs.Dataflow.{Dataflow, bounds_of}
 use Rattle.fw_flow.specs.WellFormed.{IsWellFormed}
 use Rattle.fw_model.specs.Choice.{cut_of, notice_of, IsCutWithin}
-use Rattle.fw_monitor.specs.declared.side.Side.{Side}
-use Rattle.fw_monitor.specs.declared.side.Limit.{Limit}
-use Rattle.fw_monitor.specs.declared.side.Inclusion.TheVariants.{OfCut, OfNote}
-use Rattle.fw_monitor.specs.Descent.{choice_of, owner, side_bounds, right_of, IsSideOfFlow, IsLeft, IsLower, IsLowerCut, IsNoticeLowered, EnclosesConsistent, HasConsistent}
-use Rattle.fw_monitor.specs.Inclusions.{note_node, limit_of, IsLimitIn}
-use Rattle.fw_monitor.specs.Trail.{IsCutLeft, IsValueLeft, IsGreatestLeft}
+use Rattle.fw_flow.specs.declared.side.Side.{Side}
+use Rattle.fw_flow.specs.declared.side.Limit.{Limit}
+use Rattle.fw_flow.specs.declared.side.Inclusion.TheVariants.{OfCut, OfNote}
+use Rattle.fw_model.specs.Inclusions.{owner, side_bounds, right_of, IsSideOfFlow, note_node, limit_of, IsLimitIn}
+use Rattle.fw_model.specs.Lowerings.{choice_of, IsCutLeft, IsValueLeft, IsGreatestLeft}
+use Rattle.fw_offers.specs.Sides.{IsLeft}
+use Rattle.fw_monitor.specs.Descent.{IsLower, IsLowerCut, IsNoticeLowered, EnclosesConsistent, HasConsistent}
 use Rattle.fw_monitor.specs.Tests.{IsLowering, IsTested}
-use Rattle.fw_monitor.proofs.DescentLaws.{owner-there, node-there, lighter_cut, lighter_notice, consistent_left, value_encloses}
-use Rattle.fw_monitor.proofs.FrontLaws.{meet-left, meet-right, meet-largest}
+use Rattle.fw_model.proofs.InclusionLaws.{owner-there, node-there}
+use Rattle.fw_monitor.proofs.DescentLaws.{lighter_cut, lighter_notice, consistent_left, value_encloses}
+use Rattle.fw_offers.proofs.FrontLaws.{meet-left, meet-right, meet-largest}
+use Rattle.fw_model.specs.Offers.{IsOffered, covers_of}
 
 -- ---- cuts
 
 -- what is left, by the front of the right side
-left_by : (flow : Dataflow) (offers : List Offer) (side : Side) (choice : Choice) (bound : Front) (x : Cut) → IsFrontOf (side_bounds flow side) bound (right_of flow offers side choice)
-    → IsCutLeft flow offers choice side x → IsLeft flow offers side (cut_of choice (owner flow side)) bound x
+left_by : (flow : Dataflow) (offers : List Offer) (side : Side) (choice : Choice) (bound : Front) (x : Cut) → IsFrontOf (side_bounds flow side) bound (right_of flow (covers_of flow offers) side choice)
+    → IsCutLeft flow (covers_of flow offers) (IsOffered flow offers) choice side x → IsLeft flow offers side (cut_of choice (owner flow side)) bound x
 left_by flow offers side choice bound x n k = record { offered = k.offered; within = k.within; passes = λ t i. n.same t ∙ k.meets t i }
 
 cut_greatest : (flow : Dataflow) (offers : List Offer) (side : Side) (choice : Choice) (bound : Front) (new : Cut) → IsWellFormed flow → IsSideOfFlow flow side → EnclosesConsistent flow offers choice
-    → IsFrontOf (side_bounds flow side) bound (right_of flow offers side choice) → IsLower flow offers side (cut_of choice (owner flow side)) bound new
-    → HasConsistent flow offers → IsGreatestLeft flow offers choice (OfCut side) new
+    → IsFrontOf (side_bounds flow side) bound (right_of flow (covers_of flow offers) side choice) → IsLower flow offers side (cut_of choice (owner flow side)) bound new
+    → HasConsistent flow offers → IsGreatestLeft flow (covers_of flow offers) (IsOffered flow offers) choice (OfCut side) new
 cut_greatest flow offers side choice bound new well there r n low has =
     let offered = r.offered has.0 has.1.0 has.1.1 (owner flow side) (owner-there flow side well there) in
     let other = consistent_left flow offers (OfCut side) choice has.1.0 well there r has.0 has.1.1 in
@@ -42,7 +45,7 @@ cut_greatest flow offers side choice bound new well there r n low has =
     }
 
 cut_lowered : (flow : Dataflow) (offers : List Offer) (side : Side) (choice : Choice) (bound : Front) (new : Cut) → IsWellFormed flow → IsSideOfFlow flow side → EnclosesConsistent flow offers choice
-    → IsFrontOf (side_bounds flow side) bound (right_of flow offers side choice) → IsLower flow offers side (cut_of choice (owner flow side)) bound new
+    → IsFrontOf (side_bounds flow side) bound (right_of flow (covers_of flow offers) side choice) → IsLower flow offers side (cut_of choice (owner flow side)) bound new
     → IsLowering flow offers (OfCut side) choice (choice_of (set choice.cuts (owner flow side) new) choice.notices) new
 cut_lowered flow offers side choice bound new well there r n low =
     let greatest = cut_greatest flow offers side choice bound new well there r n low in
@@ -55,7 +58,7 @@ cut_lowered flow offers side choice bound new well there r n low =
     }
 
 pub cut_tested : (flow : Dataflow) (offers : List Offer) (side : Side) (cuts new : List Cut) (notices : List Front) (bound : Front) (p q : ℕ) (c v : Cut) → IsWellFormed flow → IsSideOfFlow flow side
-    → EnclosesConsistent flow offers (choice_of cuts notices) → IsFrontOf (side_bounds flow side) bound (right_of flow offers side (choice_of cuts notices)) → p ≡ owner flow side → q ≡ p → v ≡ c → new ≡ set cuts q c
+    → EnclosesConsistent flow offers (choice_of cuts notices) → IsFrontOf (side_bounds flow side) bound (right_of flow (covers_of flow offers) side (choice_of cuts notices)) → p ≡ owner flow side → q ≡ p → v ≡ c → new ≡ set cuts q c
     → IsLower flow offers side (cut_of (choice_of cuts notices) p) bound c → IsTested flow offers (OfCut side) (choice_of cuts notices) (choice_of new notices) (Some v)
 cut_tested flow offers side cuts new notices bound p q c v well there r n e f same is lower =
     let base = cut_lowered flow offers side (choice_of cuts notices) bound c well there r n (subst (λ x. IsLower flow offers side (cut_of (choice_of cuts notices) x) bound c) e lower) in
@@ -64,7 +67,7 @@ cut_tested flow offers side cuts new notices bound p q c v well there r n e f sa
 
 -- where no cut is lower, the side holds
 pub cut_stays : (flow : Dataflow) (offers : List Offer) (side : Side) (cuts : List Cut) (notices : List Front) (bound : Front) (p : ℕ) → IsWellFormed flow → IsSideOfFlow flow side
-    → EnclosesConsistent flow offers (choice_of cuts notices) → IsFrontOf (side_bounds flow side) bound (right_of flow offers side (choice_of cuts notices)) → p ≡ owner flow side
+    → EnclosesConsistent flow offers (choice_of cuts notices) → IsFrontOf (side_bounds flow side) bound (right_of flow (covers_of flow offers) side (choice_of cuts notices)) → p ≡ owner flow side
     → IsLowerCut flow offers side (cut_of (choice_of cuts notices) p) bound None → IsTested flow offers (OfCut side) (choice_of cuts notices) (choice_of cuts notices) None
 cut_stays flow offers side cuts notices bound p well there r n e none = (
   refl,
@@ -77,9 +80,9 @@ cut_stays flow offers side cuts notices bound p well there r n e none = (
 
 -- ---- notification frontiers
 
-note_greatest : (flow : Dataflow) (offers : List Offer) (limit : Limit) (choice : Choice) (bound f : Front) → IsFrontOf (bounds_of flow (note_node flow limit)) bound (limit_of flow offers limit choice)
+note_greatest : (flow : Dataflow) (offers : List Offer) (limit : Limit) (choice : Choice) (bound f : Front) → IsFrontOf (bounds_of flow (note_node flow limit)) bound (limit_of flow (covers_of flow offers) limit choice)
     → IsFrontOf (bounds_of flow (note_node flow limit)) f (meet (notice_of flow choice (note_node flow limit)) (frontier_of (bounds_of flow (note_node flow limit)) bound))
-    → IsGreatestLeft flow offers choice (OfNote limit) (At f)
+    → IsGreatestLeft flow (covers_of flow offers) (IsOffered flow offers) choice (OfNote limit) (At f)
 note_greatest flow offers limit choice bound f n m = record {
   left = record {
     canonical = m.canonical;
@@ -89,14 +92,14 @@ note_greatest flow offers limit choice bound f n m = record {
   greatest = at;
 }
   where
-    at : (x : Cut) → IsValueLeft flow offers choice (OfNote limit) x → IsCutWithin flow (note_node flow limit) x (At f)
+    at : (x : Cut) → IsValueLeft flow (covers_of flow offers) (IsOffered flow offers) choice (OfNote limit) x → IsCutWithin flow (note_node flow limit) x (At f)
     at Present k = absurd k
     at (At g) k =
         let b = bounds_of flow (note_node flow limit) in
         meet-largest b f (notice_of flow choice (note_node flow limit)) (frontier_of b bound) (frontier_of b g) m k.within (λ t i. n.same t ∙ k.meets t i)
 
 note_lowered : (flow : Dataflow) (offers : List Offer) (limit : Limit) (choice : Choice) (bound f : Front) → IsWellFormed flow → IsLimitIn flow limit → EnclosesConsistent flow offers choice
-    → IsFrontOf (bounds_of flow (note_node flow limit)) bound (limit_of flow offers limit choice)
+    → IsFrontOf (bounds_of flow (note_node flow limit)) bound (limit_of flow (covers_of flow offers) limit choice)
     → IsFrontOf (bounds_of flow (note_node flow limit)) f (meet (notice_of flow choice (note_node flow limit)) (frontier_of (bounds_of flow (note_node flow limit)) bound))
     → (Within (notice_of flow choice (note_node flow limit)) (frontier_of (bounds_of flow (note_node flow limit)) bound) → ⊥)
     → IsLowering flow offers (OfNote limit) choice (choice_of choice.cuts (set choice.notices (note_node flow limit) f)) (At f)
@@ -115,7 +118,7 @@ note_lowered flow offers limit choice bound f well there r n m fails =
     }
 
 pub note_tested : (flow : Dataflow) (offers : List Offer) (limit : Limit) (cuts : List Cut) (old new : List Front) (q : ℕ) (bound : Front) (r : Option Cut) → IsWellFormed flow → IsLimitIn flow limit
-    → EnclosesConsistent flow offers (choice_of cuts old) → IsFrontOf (bounds_of flow (note_node flow limit)) bound (limit_of flow offers limit (choice_of cuts old))
+    → EnclosesConsistent flow offers (choice_of cuts old) → IsFrontOf (bounds_of flow (note_node flow limit)) bound (limit_of flow (covers_of flow offers) limit (choice_of cuts old))
     → q ≡ note_node flow limit → IsNoticeLowered old new q bound r → IsTested flow offers (OfNote limit) (choice_of cuts old) (choice_of cuts new) r
 note_tested flow offers limit cuts old new q bound r well there enc n same low = at r (subst (λ p. IsNoticeLowered old new p bound r) same low)
   where

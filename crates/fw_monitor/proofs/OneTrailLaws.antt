@@ -1,38 +1,26 @@
 -- There is at most one trail.
-use Rattle.std.proofs.Common.{◌≡◌, ℕ, ◌<◌, List, [], ◌∷◌, ◌++◌, length, get_or, refl, sym, ap, subst, ◌∙◌}
+use Rattle.std.proofs.Common.{◌≡◌, ℕ, ◌<◌, List, [], ◌∷◌, ◌++◌, length, refl, sym, ap, subst, ◌∙◌}
 use Rattle.std.specs.List.{AllByRecursion}
-use Rattle.std.proofs.lemmas.List.{get_or_default, same_lists}
 use Rattle.fw_lemmas.proofs.Each.{each-suffix}
 use Rattle.fw_frontier.specs.Front.{IsFrontOf}
 use Rattle.fw_frontier.proofs.NamesLaws.{names-same}
 use Rattle.fw_flow.specs.declared.choice.Choice.{Choice}
 use Rattle.fw_flow.specs.declared.choice.Cut.{Cut}
-use Rattle.fw_flow.specs.declared.choice.Cut.TheVariants.{Present, At}
+use Rattle.fw_flow.specs.declared.choice.Cut.TheVariants.{Present}
 use Rattle.fw_flow.specs.declared.choice.Offer.{Offer}
 use Rattle.fw_flow.specs.declared.trail.Lowering.{Lowering}
 use Rattle.fw_flow.specs.Dataflow.{Dataflow, bounds_of}
 use Rattle.fw_model.specs.Machine.{front_of}
-use Rattle.fw_model.specs.Choice.{cut_of, IsCutWithin}
+use Rattle.fw_model.specs.Choice.{cut_of}
 use Rattle.fw_model.specs.Covers.{set_of}
-use Rattle.fw_model.proofs.ChoiceLaws.{same_fronts}
-use Rattle.fw_monitor.specs.declared.side.Inclusion.{Inclusion}
-use Rattle.fw_monitor.specs.declared.side.Inclusion.TheVariants.{OfCut, OfNote}
-use Rattle.fw_monitor.specs.Descent.{choice_of, IsCanonicalCut, HasConsistent, IsGreatest}
-use Rattle.fw_monitor.specs.Inclusions.{Holds, node_of, inclusions}
-use Rattle.fw_monitor.specs.Trail.{IsFirstFailing, IsValueLeft, IsGreatestLeft, with_value, lowering_of, IsLoweredBy, Leads, IsStart, TrailIsOne}
-
--- two cuts, each within the other, are one
-cuts-same : (flow : Dataflow) (p : ℕ) (c d : Cut) → IsCanonicalCut (bounds_of flow p) c → IsCanonicalCut (bounds_of flow p) d → IsCutWithin flow p c d → IsCutWithin flow p d c → c ≡ d
-cuts-same flow p Present Present k l v w = refl
-cuts-same flow p Present (At g) k l v w = absurd v
-cuts-same flow p (At f) Present k l v w = absurd w
-cuts-same flow p (At f) (At g) k l v w = ap At (same_fronts (bounds_of flow p) f g k l v w)
-
-pub left-canonical : (flow : Dataflow) (offers : List Offer) (choice : Choice) (i : Inclusion) (x : Cut) → IsValueLeft flow offers choice i x → IsCanonicalCut (bounds_of flow (node_of flow i)) x
-left-canonical flow offers choice (OfCut side) Present l = tt
-left-canonical flow offers choice (OfCut side) (At f) l = l.offered.0
-left-canonical flow offers choice (OfNote limit) Present l = tt
-left-canonical flow offers choice (OfNote limit) (At f) l = l.canonical
+use Rattle.fw_flow.specs.declared.side.Inclusion.{Inclusion}
+use Rattle.fw_model.specs.Lowerings.{choice_of, IsFirstFailing, IsGreatestLeft, with_value, lowering_of, IsLoweredBy, Leads}
+use Rattle.fw_monitor.specs.Descent.{HasConsistent, IsGreatest}
+use Rattle.fw_model.specs.Inclusions.{Holds, node_of, inclusions}
+use Rattle.fw_monitor.specs.Trail.{IsStart, TrailIsOne}
+use Rattle.fw_model.specs.Offers.{IsOffered, covers_of}
+use Rattle.fw_model.proofs.InclusionLaws.{cuts-same, same_each}
+use Rattle.fw_offers.proofs.OfferedLaws.{left-canonical}
 
 -- the first of a list that fails is one
 first-same : {A : Type 0} (P : A → Type 0) (xs : List A) (i : A) (us : List A) (ys : List A) (j : A) (vs : List A) → xs ++ i ∷ us ≡ ys ++ j ∷ vs
@@ -42,34 +30,34 @@ first-same P [] i us (y ∷ ys) j vs e h f k g = let s : y ≡ i = cc in absurd 
 first-same P (x ∷ xs) i us [] j vs e h f k g = let s : x ≡ j = cc in absurd (g (subst P s h.0))
 first-same P (x ∷ xs) i us (y ∷ ys) j vs e h f k g = first-same P xs i us ys j vs (cc) h.1 f k.1 g
 
-greatest-one : (flow : Dataflow) (offers : List Offer) (choice : Choice) (i : Inclusion) (x y : Cut) → IsGreatestLeft flow offers choice i x → IsGreatestLeft flow offers choice i y → x ≡ y
+greatest-one : (flow : Dataflow) (offers : List Offer) (choice : Choice) (i : Inclusion) (x y : Cut) → IsGreatestLeft flow (covers_of flow offers) (IsOffered flow offers) choice i x → IsGreatestLeft flow (covers_of flow offers) (IsOffered flow offers) choice i y → x ≡ y
 greatest-one flow offers choice i x y k l =
     cuts-same flow (node_of flow i) x y (left-canonical flow offers choice i x k.left) (left-canonical flow offers choice i y l.left) (l.greatest x k.left) (k.greatest y l.left)
 
-lowered-one : (flow : Dataflow) (offers : List Offer) (choice : Choice) (l m : Lowering) (a b : Choice) → IsLoweredBy flow offers choice l a → IsLoweredBy flow offers choice m b → (l ≡ m) × (a ≡ b)
+lowered-one : (flow : Dataflow) (offers : List Offer) (choice : Choice) (l m : Lowering) (a b : Choice) → IsLoweredBy flow (covers_of flow offers) (IsOffered flow offers) choice l a → IsLoweredBy flow (covers_of flow offers) (IsOffered flow offers) choice m b → (l ≡ m) × (a ≡ b)
 lowered-one flow offers choice l m a b k j =
     let i = k.inclusion in
     let by : i ≡ j.inclusion =
-    first-same (Holds flow offers choice) k.first.earlier i k.first.later j.first.earlier j.inclusion j.first.later (sym k.first.place ∙ j.first.place) k.first.hold k.first.fails j.first.hold j.first.fails in
-    let to : l.to ≡ m.to = greatest-one flow offers choice i l.to m.to k.greatest (subst (λ x. IsGreatestLeft flow offers choice x m.to) (sym by) j.greatest) in (
+    first-same (Holds flow (covers_of flow offers) choice) k.first.earlier i k.first.later j.first.earlier j.inclusion j.first.later (sym k.first.place ∙ j.first.place) k.first.hold k.first.fails j.first.hold j.first.fails in
+    let to : l.to ≡ m.to = greatest-one flow offers choice i l.to m.to k.greatest (subst (λ x. IsGreatestLeft flow (covers_of flow offers) (IsOffered flow offers) choice x m.to) (sym by) j.greatest) in (
       k.told ∙ ap (lowering_of flow i) to ∙ ap (λ x. lowering_of flow x m.to) by ∙ sym j.told,
       k.with_it ∙ ap (with_value flow choice i) to ∙ ap (λ x. with_value flow choice x m.to) by ∙ sym j.with_it,
     )
 
-none_fails : (flow : Dataflow) (offers : List Offer) (choice : Choice) (i : Inclusion) → AllByRecursion (Holds flow offers choice) (inclusions flow) → IsFirstFailing flow offers choice i → ⊥
+none_fails : (flow : Dataflow) (offers : List Offer) (choice : Choice) (i : Inclusion) → AllByRecursion (Holds flow (covers_of flow offers) choice) (inclusions flow) → IsFirstFailing flow (covers_of flow offers) choice i → ⊥
 none_fails flow offers choice i all first =
-    first.fails (each-suffix (Holds flow offers choice) first.earlier (i ∷ first.later) (subst (AllByRecursion (Holds flow offers choice)) first.place all)).0
+    first.fails (each-suffix (Holds flow (covers_of flow offers) choice) first.earlier (i ∷ first.later) (subst (AllByRecursion (Holds flow (covers_of flow offers) choice)) first.place all)).0
 
-leads-one : (flow : Dataflow) (offers : List Offer) (choice : Choice) (ls ms : List Lowering) (a b : Choice) → Leads flow offers choice ls a → AllByRecursion (Holds flow offers a) (inclusions flow)
-    → Leads flow offers choice ms b → AllByRecursion (Holds flow offers b) (inclusions flow) → (ls ≡ ms) × (a ≡ b)
+leads-one : (flow : Dataflow) (offers : List Offer) (choice : Choice) (ls ms : List Lowering) (a b : Choice) → Leads flow (covers_of flow offers) (IsOffered flow offers) choice ls a → AllByRecursion (Holds flow (covers_of flow offers) a) (inclusions flow)
+    → Leads flow (covers_of flow offers) (IsOffered flow offers) choice ms b → AllByRecursion (Holds flow (covers_of flow offers) b) (inclusions flow) → (ls ≡ ms) × (a ≡ b)
 leads-one flow offers choice [] [] a b k h l g = (refl, sym k ∙ l)
 leads-one flow offers choice [] (m ∷ ms) a b k h (next, low, rest) g =
-    absurd (none_fails flow offers choice low.inclusion (subst (λ c. AllByRecursion (Holds flow offers c) (inclusions flow)) (sym k) h) low.first)
+    absurd (none_fails flow offers choice low.inclusion (subst (λ c. AllByRecursion (Holds flow (covers_of flow offers) c) (inclusions flow)) (sym k) h) low.first)
 leads-one flow offers choice (l ∷ ls) [] a b (next, low, rest) h e g =
-    absurd (none_fails flow offers choice low.inclusion (subst (λ c. AllByRecursion (Holds flow offers c) (inclusions flow)) (sym e) g) low.first)
+    absurd (none_fails flow offers choice low.inclusion (subst (λ c. AllByRecursion (Holds flow (covers_of flow offers) c) (inclusions flow)) (sym e) g) low.first)
 leads-one flow offers choice (l ∷ ls) (m ∷ ms) a b (next, low, rest) h (after, lower, more) g =
     let one = lowered-one flow offers choice l m next after low lower in
-    let tail = leads-one flow offers next ls ms a b rest h (subst (λ c. Leads flow offers c ms b) (sym one.1) more) g in
+    let tail = leads-one flow offers next ls ms a b rest h (subst (λ c. Leads flow (covers_of flow offers) (IsOffered flow offers) c ms b) (sym one.1) more) g in
     (ap (λ x. x ∷ ls) one.0 ∙ ap (λ xs. m ∷ xs) tail.0, tail.1)
 
 -- the start is one, if there is a consistent choice
@@ -78,12 +66,6 @@ cut-one flow offers p c d has l a b =
     let o = has.1.1.offered p l in
     let x = cut_of has.1.0 p in
     cuts-same flow p c d a.canonical b.canonical (b.largest has.0 c (a.largest has.0 x o).0).1 (a.largest has.0 d (b.largest has.0 x o).0).1
-
--- two lists of one element a place are one, if they have the same at each
-same_each : {A : Type 0} (xs ys : List A) (n : ℕ) (d : A) → length xs ≡ n → length ys ≡ n → ((p : ℕ) → p < n → get_or xs p d ≡ get_or ys p d) → xs ≡ ys
-same_each xs ys n d e f h = same_lists xs ys (e ∙ sym f) (λ k z l.
-    let there : k < n = subst (λ m. k < m) e l in
-    get_or_default xs k z d l ∙ h k there ∙ get_or_default ys k d z (subst (λ m. k < m) (sym f) there))
 
 start-one : (flow : Dataflow) (offers : List Offer) (a b : Choice) → HasConsistent flow offers → IsStart flow offers a → IsStart flow offers b → a ≡ b
 start-one flow offers a b has s t =
@@ -96,4 +78,4 @@ start-one flow offers a b has s t =
 
 pub trail-one : TrailIsOne
 trail-one flow offers first second one two has a b =
-    leads-one flow offers a.start first second one two a.leads a.ends (subst (λ c. Leads flow offers c second two) (sym (start-one flow offers a.start b.start has a.starts b.starts)) b.leads) b.ends
+    leads-one flow offers a.start first second one two a.leads a.ends (subst (λ c. Leads flow (covers_of flow offers) (IsOffered flow offers) c second two) (sym (start-one flow offers a.start b.start has a.starts b.starts)) b.leads) b.ends

@@ -14,7 +14,8 @@ use Rattle.fw_flow.specs.declared.choice.Counted.{Counted}
 use Rattle.fw_flow.specs.Projection.{all_inside}
 use Rattle.fw_model.specs.Offers.{HasOneCause, counted_on_edge}
 use Rattle.fw_model.proofs.PhiLaws.{all_inside-monotone}
-use Rattle.fw_monitor.specs.Kept.{IsBelowStamp, IsSentKept, SentPasses}
+use Rattle.fw_offers.specs.Sides.{SentPasses}
+use Rattle.fw_monitor.specs.Kept.{IsBelowStamp, IsSentKept}
 
 pub sent_kept-none : (from to : Bounds) (e : ℕ) (front bound f : Front) → IsCanonical from front → f ≡ front → IsSentKept from to e front bound [] f
 sent_kept-none from to e front bound f c same =

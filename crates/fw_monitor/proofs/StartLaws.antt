@@ -1,8 +1,8 @@
 -- Where the descent starts.
 use Rattle.std.proofs.Common.{◌≡◌, ◌≢◌, ℕ, zero, suc, ◌+◌, ◌<◌, ◌≤◌, Bool, true, false, List, [], ◌∷◌, ◌++◌, length, take, get_or, ◌-◌, ◌==◌, Option, Some, None, refl, sym, ap, subst, ◌∙◌, inl, inr, arith}
 use Rattle.std.specs.List.{AllByRecursion}
-use Rattle.std.proofs.lemmas.Bool.{cases_lt, eqb-false}
-use Rattle.std.proofs.lemmas.List.{get_or_read, drop_all}
+use Rattle.std.proofs.lemmas.Bool.{eqb-false}
+use Rattle.std.proofs.lemmas.List.{drop_all}
 use Rattle.fw_lemmas.proofs.Lists.{split_at}
 use Rattle.fw_time.specs.declared.stamp.Bounds.{Bounds}
 use Rattle.fw_frontier.specs.Frontier.{Frontier}
@@ -18,10 +18,12 @@ use Rattle.fw_model.specs.Machine.{front_of}
 use Rattle.fw_model.specs.Choice.{cut_of, IsCutWithin}
 use Rattle.fw_model.specs.Covers.{set_of}
 use Rattle.fw_model.specs.Offers.{IsListed, IsBetween, IsOfferedFront, IsOffered, Ascend, IsRangeOf, IsRecordOf, can_stay, offered_by, offered_range, records_of, range_of, AreOffersOf}
-use Rattle.fw_monitor.specs.Descent.{choice_of, has_all, IsCanonicalCut, EnclosesConsistent, IsGreatest}
+use Rattle.fw_model.specs.Lowerings.{choice_of}
+use Rattle.fw_offers.specs.Sides.{has_all}
+use Rattle.fw_monitor.specs.Descent.{EnclosesConsistent, IsGreatest}
 use Rattle.fw_model.proofs.OfferLaws.{below_last, listed-there, offered-between, listed-offered, offered-listed}
-use Rattle.fw_monitor.proofs.DescentLaws.{set-monotone}
-use Rattle.fw_monitor.proofs.FrontLaws.{all_is_everything, within_everything}
+use Rattle.fw_model.proofs.InclusionLaws.{set-monotone}
+use Rattle.fw_offers.proofs.FrontLaws.{all_is_everything, within_everything}
 
 pub greatest_all : (flow : Dataflow) (offers : List Offer) (p : ℕ) (r s : Bool) (f : Front) → r ≡ false → r ≡ can_stay offers p → s ≡ true → s ≡ has_all (offered_by offers p) → f ≡ []
     → IsGreatest flow offers p (At f)
@@ -92,35 +94,6 @@ greatest_last flow offers p r f before last a l e is none split same =
       offered-listed flow offers p last.front canonical (subst (IsListed last.front) (sym split) (listed-there before last [])),
       below_last (bounds_of flow p) before last [] g (subst (Ascend (bounds_of flow p)) split asc) (subst (IsListed g) split (listed-offered flow offers p g none o)) tt,
     )
-
--- ---- lists of cuts
-
-at_before : {A : Type 0} (xs : List A) (x : A) (p : ℕ) (d : A) → p < length xs → get_or (xs ++ x ∷ []) p d ≡ get_or xs p d
-at_before [] x p d l = absurd (omega arith)
-at_before (y ∷ xs) x zero d l = refl
-at_before (y ∷ xs) x (suc p) d l = at_before xs x p d (omega arith)
-
-at_end : {A : Type 0} (xs : List A) (x : A) (d : A) → get_or (xs ++ x ∷ []) (length xs) d ≡ x
-at_end [] x d = refl
-at_end (y ∷ xs) x d = at_end xs x d
-
-pub each_more : {A : Type 0} (P : ℕ → A → Type 0) (xs ys : List A) (x : A) (n q : ℕ) (d : A) → ys ≡ xs ++ x ∷ [] → length xs ≡ n → q ≡ n
-    → ((p : ℕ) → p < n → P p (get_or xs p d)) → P q x → (p : ℕ) → p < n + 1 → P p (get_or ys p d)
-each_more P xs ys x n q d e c same h k p l = elim (cases_lt p n) [
-  | inl m ↦ subst (P p) (sym (ap (λ zs. get_or zs p d) e ∙ at_before xs x p d (omega arith))) (h p m)
-  | inr m ↦
-      let here : p ≡ length xs = omega arith in
-      let there : q ≡ p = omega arith in
-      let is : get_or ys p d ≡ x = ap (λ zs. get_or zs p d) e ∙ ap (λ i. get_or (xs ++ x ∷ []) i d) here ∙ at_end xs x d in
-      subst (P p) (sym is) (subst (λ i. P i x) there k)
-]
-
-pub kept_here : (flow : Dataflow) (cuts : List Cut) (i : ℕ) (x : Cut) (f : Front) → i < length cuts → x ≡ get_or cuts i x → IsFrontOf (bounds_of flow i) f (set_of flow i x)
-    → IsFrontOf (bounds_of flow i) f (set_of flow i (cut_of (choice_of cuts []) i))
-kept_here flow cuts i x f l is n = subst (λ c. IsFrontOf (bounds_of flow i) f (set_of flow i c)) (get_or_read cuts i x l is Present) n
-
-pub canonical_here : (flow : Dataflow) (cuts : List Cut) (i : ℕ) (x : Cut) → i < length cuts → x ≡ get_or cuts i x → IsCanonicalCut (bounds_of flow i) (cut_of (choice_of cuts []) i) → IsCanonicalCut (bounds_of flow i) x
-canonical_here flow cuts i x l is c = subst (IsCanonicalCut (bounds_of flow i)) (sym (get_or_read cuts i x l is Present)) c
 
 -- the last record
 pub last_is : (rs : List Recorded) (d : Recorded) (r : Bool) (f : Front) → r ≡ (length rs == 0) → r ≡ false → f ≡ (get_or rs (length rs - 1) d).front

@@ -16,14 +16,18 @@ use Rattle.fw_flow.specs.WellFormed.{IsWellFormed}
 use Rattle.fw_model.specs.Machine.{front_of}
 use Rattle.fw_model.specs.Choice.{cut_of}
 use Rattle.fw_model.specs.Covers.{set_of}
-use Rattle.fw_monitor.specs.declared.side.Inclusion.{Inclusion}
-use Rattle.fw_monitor.specs.Descent.{choice_of, HasConsistent, IsGreatest, weight}
-use Rattle.fw_monitor.specs.Inclusions.{Holds, IsInclusionOf, inclusions, number, inclusion_count, waits, after, AreMadeToWait}
-use Rattle.fw_monitor.specs.Trail.{lowering_of, IsTrail}
+use Rattle.fw_flow.specs.declared.side.Inclusion.{Inclusion}
+use Rattle.fw_model.specs.Lowerings.{choice_of, lowering_of}
+use Rattle.fw_monitor.specs.Descent.{HasConsistent, IsGreatest, weight}
+use Rattle.fw_model.specs.Inclusions.{Holds, IsInclusionOf, inclusions}
+use Rattle.fw_monitor.specs.Worklist.{number, inclusion_count, waits, after, AreMadeToWait}
+use Rattle.fw_monitor.specs.Trail.{IsTrail}
 use Rattle.fw_monitor.specs.Tests.{IsTested, IsGoing, IsFirstWaiting, IsOneTest}
 use Rattle.fw_monitor.proofs.StartLaws.{start_encloses}
 use Rattle.fw_monitor.proofs.TrailLaws.{going_held, going_lowered}
-use Rattle.fw_monitor.proofs.WorklistLaws.{inclusions-there, each-inclusion, number-below, cleared-rest, all_waits, count-most, count-all, count-none, each_number, take_next}
+use Rattle.fw_model.proofs.InclusionLaws.{inclusions-there, each-inclusion}
+use Rattle.fw_monitor.proofs.WorklistLaws.{number-below, cleared-rest, all_waits, count-most, count-all, count-none, each_number, take_next}
+use Rattle.fw_model.specs.Offers.{covers_of}
 
 -- ---- one test
 
@@ -156,7 +160,7 @@ take_all (x ∷ xs) (suc n) l = ap (λ ys. x ∷ ys) (take_all xs n (omega arith
 
 -- at the end each inclusion holds
 pub each_holds : (flow : Dataflow) (offers : List Offer) (choice : Choice) (trail : List Lowering) (waiting : List Bool) (before steps place : ℕ) → IsWellFormed flow
-    → IsAt flow offers choice trail waiting before steps place → length (inclusions flow) ≤ place → HasConsistent flow offers → (i : Inclusion) → IsInclusionOf flow i → Holds flow offers choice i
+    → IsAt flow offers choice trail waiting before steps place → length (inclusions flow) ≤ place → HasConsistent flow offers → (i : Inclusion) → IsInclusionOf flow i → Holds flow (covers_of flow offers) choice i
 each_holds flow offers choice trail waiting before steps place well a l has i m =
     let none = subst (AllByRecursion (λ j. waits flow waiting j ≡ false)) (take_all (inclusions flow) place l) a.done in
     a.going.settled has i m (each-inclusion flow (λ j. waits flow waiting j ≡ false) well none i m)
@@ -167,7 +171,7 @@ trail_ends flow offers choice trail waiting before steps place well a l has = re
   start = a.going.start;
   starts = a.going.starts;
   leads = a.going.leads has;
-  ends = each-weaker (IsInclusionOf flow) (Holds flow offers choice) (inclusions flow) (each_holds flow offers choice trail waiting before steps place well a l has) (inclusions-there flow);
+  ends = each-weaker (IsInclusionOf flow) (Holds flow (covers_of flow offers) choice) (inclusions flow) (each_holds flow offers choice trail waiting before steps place well a l has) (inclusions-there flow);
 }
 
 -- at the end each inclusion was tested

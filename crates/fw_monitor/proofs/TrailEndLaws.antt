@@ -8,15 +8,18 @@ use Rattle.fw_flow.specs.declared.trail.Lowering.{Lowering}
 use Rattle.fw_flow.specs.Dataflow.{Dataflow}
 use Rattle.fw_flow.specs.WellFormed.{IsWellFormed}
 use Rattle.fw_monitor.specs.Descent.{EnclosesConsistent}
-use Rattle.fw_monitor.specs.Inclusions.{Holds, IsInclusionOf}
-use Rattle.fw_monitor.specs.Trail.{Leads, TrailEndsAtLargest}
+use Rattle.fw_model.specs.Choice.{cut_of}
+use Rattle.fw_model.specs.Inclusions.{Holds, IsInclusionOf}
+use Rattle.fw_model.specs.Lowerings.{Leads}
+use Rattle.fw_monitor.specs.Trail.{TrailEndsAtLargest, TrailIsByOffers}
 use Rattle.fw_monitor.proofs.DescentLaws.{value_encloses, consistent_of, largest_of}
-use Rattle.fw_monitor.proofs.OneTrailLaws.{left-canonical}
+use Rattle.fw_offers.proofs.OfferedLaws.{left-canonical}
 use Rattle.fw_monitor.proofs.StartLaws.{start_encloses}
-use Rattle.fw_monitor.proofs.WorklistLaws.{each-inclusion, inclusions-there}
+use Rattle.fw_model.proofs.InclusionLaws.{each-inclusion, inclusions-there}
+use Rattle.fw_model.specs.Offers.{IsOffered, covers_of}
 
 leads-encloses : (flow : Dataflow) (offers : List Offer) (choice : Choice) (ls : List Lowering) (end : Choice) → IsWellFormed flow → EnclosesConsistent flow offers choice
-    → Leads flow offers choice ls end → EnclosesConsistent flow offers end
+    → Leads flow (covers_of flow offers) (IsOffered flow offers) choice ls end → EnclosesConsistent flow offers end
 leads-encloses flow offers choice [] end well r same = subst (EnclosesConsistent flow offers) same r
 leads-encloses flow offers choice (l ∷ ls) end well r (next, low, rest) =
     let i = low.inclusion in
@@ -28,5 +31,23 @@ pub trail-largest : TrailEndsAtLargest
 trail-largest flow offers trail end well ascending t offered =
     let s = t.starts in
     let r = leads-encloses flow offers t.start trail end well (start_encloses flow offers t.start.cuts t.start.notices s.one_cut_each s.one_notice_each s.cuts s.notices) t.leads in
-    let holds = each-inclusion flow (Holds flow offers end) well t.ends in
+    let holds = each-inclusion flow (Holds flow (covers_of flow offers) end) well t.ends in
     largest_of flow offers end r (ascending, (end, consistent_of flow offers end r offered holds)) holds
+
+pub trail-by_offers : TrailIsByOffers
+trail-by_offers flow offers trail end has t =
+    let s = t.starts in
+    record {
+      start = t.start;
+      begins = record {
+        one_cut_each = s.one_cut_each;
+        one_notice_each = s.one_notice_each;
+        cuts = λ p l. record {
+          offered = ((s.cuts p l).largest has.0 (cut_of has.1.0 p) (has.1.1.offered p l)).0;
+          greatest = λ x o. ((s.cuts p l).largest has.0 x o).1;
+        };
+        notices = s.notices;
+      };
+      leads = t.leads;
+      ends = t.ends;
+    }

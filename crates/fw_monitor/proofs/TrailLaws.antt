@@ -13,25 +13,27 @@ use Rattle.fw_flow.specs.declared.trail.Lowering.{Lowering}
 use Rattle.fw_flow.specs.Dataflow.{Dataflow, sender, receiver, bounds_of}
 use Rattle.fw_flow.specs.WellFormed.{IsWellFormed}
 use Rattle.fw_model.specs.Machine.{front_of}
-use Rattle.fw_model.specs.Offers.{arrived_from}
-use Rattle.fw_monitor.specs.declared.side.Side.{Side}
-use Rattle.fw_monitor.specs.declared.side.Side.TheVariants.{Delivered, Discarded, Notified}
-use Rattle.fw_monitor.specs.declared.side.Limit.TheVariants.{Own, Note}
-use Rattle.fw_monitor.specs.declared.side.Inclusion.{Inclusion}
-use Rattle.fw_monitor.specs.declared.side.Inclusion.TheVariants.{OfCut, OfNote}
-use Rattle.fw_monitor.specs.Descent.{owner, HasConsistent}
-use Rattle.fw_monitor.specs.Inclusions.{Holds, IsInclusionOf, note_node, node_of, may_break, number, waits, after, AreMadeToWait}
-use Rattle.fw_monitor.specs.Trail.{IsFirstFailing, IsValueLeft, with_value, lowering_of, IsLoweredBy, Leads, tests_after, degree}
+use Rattle.fw_model.specs.Offers.{arrived_from, IsOffered, covers_of}
+use Rattle.fw_flow.specs.declared.side.Side.{Side}
+use Rattle.fw_flow.specs.declared.side.Side.TheVariants.{Delivered, Discarded, Notified}
+use Rattle.fw_flow.specs.declared.side.Limit.TheVariants.{Own, Note}
+use Rattle.fw_flow.specs.declared.side.Inclusion.{Inclusion}
+use Rattle.fw_flow.specs.declared.side.Inclusion.TheVariants.{OfCut, OfNote}
+use Rattle.fw_model.specs.Inclusions.{owner, Holds, IsInclusionOf, note_node, node_of}
+use Rattle.fw_monitor.specs.Descent.{HasConsistent}
+use Rattle.fw_monitor.specs.Worklist.{may_break, number, waits, after, AreMadeToWait}
+use Rattle.fw_model.specs.Lowerings.{IsFirstFailing, IsValueLeft, with_value, lowering_of, IsLoweredBy, Leads}
+use Rattle.fw_monitor.specs.Trail.{tests_after, degree}
 use Rattle.fw_monitor.specs.Tests.{IsLowering, IsGoing, IsFirstWaiting}
 use Rattle.fw_monitor.proofs.BreakLaws.{cut_spares, note_spares}
-use Rattle.fw_monitor.proofs.DescentLaws.{node-there}
-use Rattle.fw_monitor.proofs.WorklistLaws.{inclusions-there, number-below, count-cleared, cleared-other, after-each, after-most}
+use Rattle.fw_model.proofs.InclusionLaws.{inclusions-there, node-there}
+use Rattle.fw_monitor.proofs.WorklistLaws.{number-below, count-cleared, cleared-other, after-each, after-most}
 
 -- ---- lists that lead to a choice
 
-leads_more : (flow : Dataflow) (offers : List Offer) (start choice next : Choice) (trail : List Lowering) (l : Lowering) → Leads flow offers start trail choice
-    → IsLoweredBy flow offers choice l next → Leads flow offers start (trail ++ l ∷ []) next
-leads_more flow offers start choice next [] l same low = subst (λ c. Leads flow offers c (l ∷ []) next) (sym same) (next, low, refl)
+leads_more : (flow : Dataflow) (offers : List Offer) (start choice next : Choice) (trail : List Lowering) (l : Lowering) → Leads flow (covers_of flow offers) (IsOffered flow offers) start trail choice
+    → IsLoweredBy flow (covers_of flow offers) (IsOffered flow offers) choice l next → Leads flow (covers_of flow offers) (IsOffered flow offers) start (trail ++ l ∷ []) next
+leads_more flow offers start choice next [] l same low = subst (λ c. Leads flow (covers_of flow offers) (IsOffered flow offers) c (l ∷ []) next) (sym same) (next, low, refl)
 leads_more flow offers start choice next (m ∷ trail) l (mid, step, rest) low = (mid, step, leads_more flow offers mid choice next trail l rest low)
 
 tests_after-more : (flow : Dataflow) (trail : List Lowering) (l : Lowering) → tests_after flow (trail ++ l ∷ []) ≡ tests_after flow trail + (2 + 3 * degree flow l.node)
@@ -41,8 +43,8 @@ tests_after-more flow (m ∷ trail) l = let h = tests_after-more flow trail l in
 -- ---- what a lowering leaves
 
 -- what it does not break holds as before
-spared : (flow : Dataflow) (offers : List Offer) (choice : Choice) (i j : Inclusion) (to : Cut) → node_of flow i < length choice.notices → IsValueLeft flow offers choice i to
-    → may_break flow i j ≡ false → Holds flow offers choice j → Holds flow offers (with_value flow choice i to) j
+spared : (flow : Dataflow) (offers : List Offer) (choice : Choice) (i j : Inclusion) (to : Cut) → node_of flow i < length choice.notices → IsValueLeft flow (covers_of flow offers) (IsOffered flow offers) choice i to
+    → may_break flow i j ≡ false → Holds flow (covers_of flow offers) choice j → Holds flow (covers_of flow offers) (with_value flow choice i to) j
 spared flow offers choice (OfCut side) j to l left k h = cut_spares flow offers choice (owner flow side) to j k h
 spared flow offers choice (OfNote limit) j Present l left k h = absurd left
 spared flow offers choice (OfNote limit) j (At f) l left k h = note_spares flow offers choice (note_node flow limit) f j l left.within k h
@@ -53,8 +55,8 @@ own_broken flow (Discarded e) = ap (λ b. b || receiver flow e == sender flow e)
 own_broken flow (Notified p) = eq-eqb p p refl
 
 -- the inclusion that it is by holds, if it cannot break it
-mended : (flow : Dataflow) (offers : List Offer) (choice : Choice) (i : Inclusion) (to : Cut) → node_of flow i < length choice.notices → IsValueLeft flow offers choice i to
-    → may_break flow i i ≡ false → Holds flow offers (with_value flow choice i to) i
+mended : (flow : Dataflow) (offers : List Offer) (choice : Choice) (i : Inclusion) (to : Cut) → node_of flow i < length choice.notices → IsValueLeft flow (covers_of flow offers) (IsOffered flow offers) choice i to
+    → may_break flow i i ≡ false → Holds flow (covers_of flow offers) (with_value flow choice i to) i
 mended flow offers choice (OfCut side) to l left k = absurd (both_ways (may_break flow (OfCut side) (OfCut side)) k (own_broken flow side))
 mended flow offers choice (OfNote (Own p)) Present l left k = absurd left
 mended flow offers choice (OfNote (Own p)) (At f) l left k = λ t i.
@@ -67,8 +69,8 @@ mended flow offers choice (OfNote (Note d)) (At f) l left k = λ t i.
     ∙ left.meets t (sym (ap (λ g. frontier_of (bounds_of flow p) g t) (get_or-set_same choice.notices p f [] l)) ∙ i)
 
 -- the first that waits is the first that fails, if it does
-first_failing : (flow : Dataflow) (offers : List Offer) (choice : Choice) (waiting : List Bool) (i : Inclusion) → IsFirstWaiting flow waiting i → (Holds flow offers choice i → ⊥)
-    → ((j : Inclusion) → IsInclusionOf flow j → waits flow waiting j ≡ false → Holds flow offers choice j) → IsFirstFailing flow offers choice i
+first_failing : (flow : Dataflow) (offers : List Offer) (choice : Choice) (waiting : List Bool) (i : Inclusion) → IsFirstWaiting flow waiting i → (Holds flow (covers_of flow offers) choice i → ⊥)
+    → ((j : Inclusion) → IsInclusionOf flow j → waits flow waiting j ≡ false → Holds flow (covers_of flow offers) choice j) → IsFirstFailing flow (covers_of flow offers) choice i
 first_failing flow offers choice waiting i n fails settled =
     let there = each-prefix (IsInclusionOf flow) n.earlier (i ∷ n.later) (subst (AllByRecursion (IsInclusionOf flow)) n.place (inclusions-there flow)) in
     record {
@@ -76,7 +78,7 @@ first_failing flow offers choice waiting i n fails settled =
       earlier = n.earlier;
       later = n.later;
       place = n.place;
-      hold = each-weaker (λ j. IsInclusionOf flow j × (waits flow waiting j ≡ false)) (Holds flow offers choice) n.earlier (λ j k. settled j k.0 k.1)
+      hold = each-weaker (λ j. IsInclusionOf flow j × (waits flow waiting j ≡ false)) (Holds flow (covers_of flow offers) choice) n.earlier (λ j k. settled j k.0 k.1)
           (each-both (IsInclusionOf flow) (λ j. waits flow waiting j ≡ false) n.earlier there n.done);
     }
 
@@ -98,13 +100,13 @@ going_lowered flow offers i choice next to trail waiting left before steps more 
     let many = after-most flow i in
     let asked = tests_after-more flow trail (lowering_of flow i to) in
     let flags = set waiting (number flow i) false in
-    let held : HasConsistent flow offers → (j : Inclusion) → IsInclusionOf flow j → waits flow left j ≡ false → Holds flow offers (with_value flow choice i to) j =
+    let held : HasConsistent flow offers → (j : Inclusion) → IsInclusionOf flow j → waits flow left j ≡ false → Holds flow (covers_of flow offers) (with_value flow choice i to) j =
     λ has j m k. elim (cases_Bool (may_break flow i j)) [
       | inl b ↦ absurd (both_ways (waits flow left j) k (after-each (λ x. waits flow left x ≡ true) flow i j m put.wait b))
       | inr b ↦ elim (cases_Bool (waits flow flags j)) [
         | inl t ↦ absurd (both_ways (waits flow left j) k (put.still j t))
         | inr f ↦ elim (cleared-other flow waiting i j l m f) [
-          | inl s ↦ subst (Holds flow offers (with_value flow choice i to)) (sym s) (mended flow offers choice i to here (low.greatest has).left (subst (λ x. may_break flow i x ≡ false) s b))
+          | inl s ↦ subst (Holds flow (covers_of flow offers) (with_value flow choice i to)) (sym s) (mended flow offers choice i to here (low.greatest has).left (subst (λ x. may_break flow i x ≡ false) s b))
           | inr f ↦ spared flow offers choice i j to here (low.greatest has).left b (g.settled has j m f)
         ]
       ]
@@ -112,7 +114,7 @@ going_lowered flow offers i choice next to trail waiting left before steps more 
     record {
       encloses = low.encloses;
       one_each = put.one_each ∙ length-set waiting (number flow i) false ∙ g.one_each;
-      settled = λ has j m k. subst (λ c. Holds flow offers c j) (sym low.with_it) (held has j m k);
+      settled = λ has j m k. subst (λ c. Holds flow (covers_of flow offers) c j) (sym low.with_it) (held has j m k);
       start = g.start;
       starts = g.starts;
       leads = λ has. leads_more flow offers g.start choice next trail (lowering_of flow i to) (g.leads has) (record {
@@ -127,7 +129,7 @@ going_lowered flow offers i choice next to trail waiting left before steps more 
     }
 
 pub going_held : (flow : Dataflow) (offers : List Offer) (i : Inclusion) (choice : Choice) (trail : List Lowering) (waiting : List Bool) (before steps more : ℕ)
-    → IsInclusionOf flow i → waits flow waiting i ≡ true → more ≡ steps + 1 → (HasConsistent flow offers → Holds flow offers choice i)
+    → IsInclusionOf flow i → waits flow waiting i ≡ true → more ≡ steps + 1 → (HasConsistent flow offers → Holds flow (covers_of flow offers) choice i)
     → IsGoing flow offers choice trail waiting before steps → IsGoing flow offers choice trail (set waiting (number flow i) false) before more
 going_held flow offers i choice trail waiting before steps more l w one holds g =
     let one_flag = g.one_each in
@@ -139,7 +141,7 @@ going_held flow offers i choice trail waiting before steps more l w one holds g 
       encloses = g.encloses;
       one_each = length-set waiting (number flow i) false ∙ g.one_each;
       settled = λ has j m k. elim (cleared-other flow waiting i j l m k) [
-        | inl s ↦ subst (Holds flow offers choice) (sym s) (holds has)
+        | inl s ↦ subst (Holds flow (covers_of flow offers) choice) (sym s) (holds has)
         | inr f ↦ g.settled has j m f
       ];
       start = g.start;

@@ -4,21 +4,21 @@ use Rattle.std.specs.List.{AllByRecursion}
 use Rattle.std.proofs.Math.Seq.{take-suc}
 use Rattle.std.proofs.lemmas.Bool.{eqb-true, or_cases, cases_eq, cases_lt}
 use Rattle.std.proofs.lemmas.List.{append_assoc, get_or-set_same, get_or-set_other, length-append, length-map, length-set}
-use Rattle.fw_lemmas.proofs.Each.{each-weaker, each-append, each-prefix, each-suffix, each-map, each_of-map}
+use Rattle.fw_lemmas.proofs.Each.{each-weaker, each-append, each-prefix, each-suffix, each_of-map}
 use Rattle.fw_flow.specs.Dataflow.{Dataflow, sender, receiver, in_edges, out_edges}
-use Rattle.fw_flow.specs.WellFormed.{IsWellFormed}
-use Rattle.fw_flow.proofs.EdgeLaws.{in_edges-at, in_edges-from}
-use Rattle.fw_flow.proofs.OutEdgeLaws.{out_edges-at, out_edges-from}
-use Rattle.fw_monitor.specs.declared.side.Side.{Side}
-use Rattle.fw_monitor.specs.declared.side.Limit.{Limit}
-use Rattle.fw_monitor.specs.declared.side.Side.TheVariants.{Delivered, Discarded, Notified}
-use Rattle.fw_monitor.specs.declared.side.Limit.TheVariants.{Own, Note}
-use Rattle.fw_monitor.specs.declared.side.OnEdge.{OnEdge}
-use Rattle.fw_monitor.specs.declared.side.Inclusion.{Inclusion}
-use Rattle.fw_monitor.specs.declared.side.Inclusion.TheVariants.{OfCut, OfNote}
-use Rattle.fw_monitor.specs.Descent.{owner}
-use Rattle.fw_monitor.specs.Inclusions.{IsInclusionOf, inclusion_on_edge, note_node, node_of, inclusions_at, inclusions_to, inclusions, may_break, reads_cut, reads_note, after_cut, after_note, after, number, inclusion_count, waits, count, AreMadeToWait}
+use Rattle.fw_flow.proofs.EdgeLaws.{in_edges-at}
+use Rattle.fw_flow.proofs.OutEdgeLaws.{out_edges-at}
+use Rattle.fw_flow.specs.declared.side.Side.{Side}
+use Rattle.fw_flow.specs.declared.side.Limit.{Limit}
+use Rattle.fw_flow.specs.declared.side.Side.TheVariants.{Delivered, Discarded, Notified}
+use Rattle.fw_flow.specs.declared.side.Limit.TheVariants.{Own, Note}
+use Rattle.fw_monitor.specs.declared.worklist.OnEdge.{OnEdge}
+use Rattle.fw_flow.specs.declared.side.Inclusion.{Inclusion}
+use Rattle.fw_flow.specs.declared.side.Inclusion.TheVariants.{OfCut, OfNote}
+use Rattle.fw_model.specs.Inclusions.{owner, IsInclusionOf, note_node, node_of, inclusions_at, inclusions_to}
+use Rattle.fw_monitor.specs.Worklist.{inclusion_on_edge, may_break, reads_cut, reads_note, after_cut, after_note, after, number, inclusion_count, waits, count, AreMadeToWait}
 use Rattle.fw_monitor.specs.Trail.{degree}
+use Rattle.fw_model.proofs.InclusionLaws.{ins-there, outs-there}
 
 -- ---- what holds of each of five lists in turn
 
@@ -35,72 +35,13 @@ five_of : {A : Type 0} (P : A → Type 0) (a b c d e : List A) → AllByRecursio
 five_of P a b c d e h i j k l =
     each-append P (a ++ b ++ c ++ d) e (each-append P (a ++ b ++ c) d (each-append P (a ++ b) c (each-append P a b h i) j) k) l
 
--- ---- the inclusions in the list are those of the dataflow
-
-ins-there : (flow : Dataflow) (f : ℕ → Inclusion) (p : ℕ) → ((d : ℕ) → d < length flow.edges → IsInclusionOf flow (f d)) → AllByRecursion (IsInclusionOf flow) (map f (in_edges flow p))
-ins-there flow f p h = each-map (IsInclusionOf flow) f (in_edges flow p) (in_edges-from (λ d. IsInclusionOf flow (f d)) flow p (λ d l r. h d l))
-
-outs-there : (flow : Dataflow) (f : ℕ → Inclusion) (p : ℕ) → ((d : ℕ) → d < length flow.edges → IsInclusionOf flow (f d)) → AllByRecursion (IsInclusionOf flow) (map f (out_edges flow p))
-outs-there flow f p h = each-map (IsInclusionOf flow) f (out_edges flow p) (out_edges-from (λ d. IsInclusionOf flow (f d)) flow p (λ d l r. h d l))
-
-to-there : (flow : Dataflow) (n : ℕ) → n ≤ length flow.nodes → AllByRecursion (IsInclusionOf flow) (inclusions_to flow n)
-unfolding inclusions_to
-to-there flow zero l = tt
-to-there flow (suc n) l =
-    let P = IsInclusionOf flow in
-    let here : n < length flow.nodes = omega arith in
-    let ins = map (λ d. OfCut (Delivered d)) (in_edges flow n) in
-    let outs = map (λ e. OfCut (Discarded e)) (out_edges flow n) in
-    each-append P (inclusions_to flow n) (inclusions_at flow n) (to-there flow n (omega arith))
-    (each-append P (ins ++ outs) (OfCut (Notified n) ∷ OfNote (Own n) ∷ map (λ d. OfNote (Note d)) (in_edges flow n))
-    (each-append P ins outs (ins-there flow (λ d. OfCut (Delivered d)) n (λ d m. m)) (outs-there flow (λ e. OfCut (Discarded e)) n (λ d m. m)))
-    (here, (here, ins-there flow (λ d. OfNote (Note d)) n (λ d m. m))))
-
-pub inclusions-there : (flow : Dataflow) → AllByRecursion (IsInclusionOf flow) (inclusions flow)
-inclusions-there flow = to-there flow (length flow.nodes) (omega arith)
+-- ---- the inclusions in the list
 
 pub inclusions_next : (flow : Dataflow) (ys zs : List Inclusion) (n p : ℕ) → ys ≡ inclusions_to flow n → zs ≡ ys ++ inclusions_at flow p → p ≡ n → zs ≡ inclusions_to flow (n + 1)
 unfolding inclusions_to
 inclusions_next flow ys zs n p e f k =
     let s : suc n ≡ n + 1 = omega arith in
     f ∙ ap (λ x. x ++ inclusions_at flow p) e ∙ ap (λ q. inclusions_to flow n ++ inclusions_at flow q) k ∙ ap (inclusions_to flow) s
-
--- what holds of each in the list holds of each of a node
-to-node : (flow : Dataflow) (P : Inclusion → Type 0) (n p : ℕ) → p < n → AllByRecursion P (inclusions_to flow n) → AllByRecursion P (inclusions_at flow p)
-unfolding inclusions_to
-to-node flow P zero p l a = absurd (omega arith)
-to-node flow P (suc n) p l a = elim (cases_eq p n) [
-  | inl e ↦ subst (λ q. AllByRecursion P (inclusions_at flow q)) (sym e) (each-suffix P (inclusions_to flow n) (inclusions_at flow n) a)
-  | inr k ↦ to-node flow P n p (omega arith) (each-prefix P (inclusions_to flow n) (inclusions_at flow n) a)
-]
-
--- what holds of each in the list holds of each of the dataflow
-pub each-inclusion : (flow : Dataflow) (P : Inclusion → Type 0) → IsWellFormed flow → AllByRecursion P (inclusions flow) → (i : Inclusion) → IsInclusionOf flow i → P i
-each-inclusion flow P well all = at
-  where
-    node : (p : ℕ) → p < length flow.nodes
-        → AllByRecursion (λ d. P (OfCut (Delivered d))) (in_edges flow p) × AllByRecursion (λ e. P (OfCut (Discarded e))) (out_edges flow p)
-        × P (OfCut (Notified p)) × P (OfNote (Own p)) × AllByRecursion (λ d. P (OfNote (Note d))) (in_edges flow p)
-    node p l =
-        let here = to-node flow P (length flow.nodes) p l all in
-        let ins = map (λ d. OfCut (Delivered d)) (in_edges flow p) in
-        let outs = map (λ e. OfCut (Discarded e)) (out_edges flow p) in
-        let rest = OfCut (Notified p) ∷ OfNote (Own p) ∷ map (λ d. OfNote (Note d)) (in_edges flow p) in
-        let first = each-prefix P (ins ++ outs) rest here in
-        let last = each-suffix P (ins ++ outs) rest here in (
-          each_of-map P (λ d. OfCut (Delivered d)) (in_edges flow p) (each-prefix P ins outs first),
-          each_of-map P (λ e. OfCut (Discarded e)) (out_edges flow p) (each-suffix P ins outs first),
-          last.0,
-          last.1.0,
-          each_of-map P (λ d. OfNote (Note d)) (in_edges flow p) last.1.1,
-        )
-
-    at : (i : Inclusion) → IsInclusionOf flow i → P i
-    at (OfCut (Delivered d)) l = in_edges-at (λ x. P (OfCut (Delivered x))) flow (receiver flow d) (node (receiver flow d) (well.receivers_declared d l)).0 d l refl
-    at (OfCut (Discarded e)) l = out_edges-at (λ x. P (OfCut (Discarded x))) flow (sender flow e) (node (sender flow e) (well.senders_declared e l)).1 e l refl
-    at (OfCut (Notified p)) l = (node p l).2
-    at (OfNote (Own p)) l = (node p l).3
-    at (OfNote (Note d)) l = in_edges-at (λ x. P (OfNote (Note x))) flow (receiver flow d) (node (receiver flow d) (well.receivers_declared d l)).4 d l refl
 
 pub take_next : {A : Type 0} (xs : List A) (n : ℕ) (x : A) → n < length xs → x ≡ get_or xs n x → take (n + 1) xs ≡ take n xs ++ x ∷ []
 take_next xs n x l is =

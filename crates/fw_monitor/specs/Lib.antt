@@ -1,7 +1,6 @@
-pub mod Chosen
 pub mod Held
 pub mod Kept
 pub mod Descent
-pub mod Inclusions
+pub mod Worklist
 pub mod Trail
 pub mod Tests

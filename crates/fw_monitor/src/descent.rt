@@ -1,30 +1,28 @@
 //! The largest consistent choice of what the nodes offer, and the trail of the descent to it.
 ghost use Rattle.std.specs.Prelude.{◌≡◌, ◌<◌, ◌≤◌, ◌+◌, ◌*◌, length, IfOk};
-ghost use Rattle.fw_frontier.specs.Front.{IsFrontOf};
 ghost use Rattle.fw_flow.specs.declared.choice.Choice as choices;
-ghost use Rattle.fw_flow.specs.Dataflow.{bounds_of, sender, receiver};
-ghost use Rattle.fw_model.specs.Choice.{IsConsistentBy, IsLargestBy, cut_of};
-ghost use Rattle.fw_model.specs.Covers.{set_of};
-ghost use Rattle.fw_model.specs.Machine.{front_of};
+ghost use Rattle.fw_model.specs.Choice.{IsConsistentBy, IsLargestBy, IsChoiceOf};
 ghost use Rattle.fw_model.specs.Offers as spec;
 ghost use Rattle.fw_model.specs.Offers.{IsOffered, AreOffersOf, RecordsAscend, covers_of};
-ghost use Rattle.fw_monitor.specs.Chosen.{IsChoiceOf};
-ghost use Rattle.fw_monitor.specs.Descent.{choice_of, side_bounds, right_of, IsSideOfFlow, IsCanonicalCut, EnclosesConsistent, HasConsistent, IsNoticeLowered};
-ghost use Rattle.fw_monitor.specs.declared.side.Inclusion.TheVariants as inclusions;
-ghost use Rattle.fw_monitor.specs.Inclusions.{note_node, limit_of, IsLimitIn, IsInclusionOf, inclusion_count};
+ghost use Rattle.fw_model.specs.Inclusions.{right_of, IsSideOfFlow, note_node, limit_of, IsLimitIn, IsInclusionOf};
+ghost use Rattle.fw_model.specs.Lowerings.{choice_of};
+ghost use Rattle.fw_monitor.specs.Descent.{EnclosesConsistent, HasConsistent, IsNoticeLowered};
+ghost use Rattle.fw_flow.specs.declared.side.Inclusion.TheVariants as inclusions;
+ghost use Rattle.fw_monitor.specs.Worklist.{inclusion_count};
 ghost use Rattle.fw_monitor.specs.Trail.{IsTrail, tests_after};
 ghost use Rattle.fw_monitor.specs.Tests.{IsTested, IsFirstWaiting, IsOneTest};
 
-use crate::arrived::arrived;
 use crate::lower::lowered;
-use crate::passes::owner;
-use crate::side::{Inclusion, Limit, Side};
-use crate::start::{all_kept, greatest_cuts, kept};
+use crate::start::greatest_cuts;
 use crate::trail::lowering_of;
-use crate::worklist::{after, all_wait, inclusions, note_node, number, put_all};
+use crate::worklist::{after, all_wait, inclusions, number, put_all};
 use fw_flow::laws::flow_is_well_formed;
-use fw_flow::{Choice, Cut, Cuts, EdgeId, Flow, Fronts, Lowering, NodeId, Offer, Steps, Trail};
+use fw_flow::{
+    Choice, Cut, Cuts, EdgeId, Flow, Fronts, Inclusion, Limit, Lowering, NodeId, Offer, Side,
+    Steps, Trail,
+};
 use fw_frontier::Front;
+use fw_offers::{all_kept, cut_at, limit_of, note_node, owner, right_of};
 use std::alloc::{AllocError, Global};
 use std::marker::Brand;
 use std::sync::ledger::{Blank, Ledger};
@@ -198,64 +196,6 @@ fn test<L: Ledger>(
     }
 }
 
-/// The cut of a node.
-fn cut_at(cuts: &[Cut], node: NodeId) -> &Cut
-    requires { node < length cuts.now }
-    ensures { (choice : choices.Choice) → choice.cuts ≡ cuts.now → result.now ≡ cut_of choice node }
-{
-    &cuts[node.place() as usize]
-}
-
-/// The notification frontier of a node.
-fn notice_at(notices: &[Front], node: NodeId) -> &Front
-    requires { node < length notices.now }
-    ensures { result.now ≡ front_of notices.now node }
-{
-    &notices[node.place() as usize]
-}
-
-/// In what the side has to lie. The error is want of memory.
-fn right(
-    alloc: Global,
-    flow: &Flow,
-    offers: &[Offer],
-    side: &Side,
-    cuts: &[Cut],
-    notices: &[Front],
-) -> Result<Front, AllocError>
-    requires offers { AreOffersOf flow.now offers.now }
-    requires there { IsSideOfFlow flow.now side.now }
-    requires encloses { EnclosesConsistent flow.now offers.now (choice_of cuts.now notices.now) }
-    ensures { IfOk result (λ g. IsFrontOf (side_bounds flow.now side.now) g
-        (right_of flow.now offers.now side.now (choice_of cuts.now notices.now))) }
-{
-    flow_is_well_formed(flow);
-    match side {
-        Side::Delivered(edge) => {
-            let cut = cut_at(cuts, flow.src(*edge));
-            arrived_from_cut(alloc, flow, offers, *edge, cut)
-        },
-        Side::Discarded(edge) => kept(alloc, cut_at(cuts, flow.dst(*edge))),
-        Side::Notified(node) => notice_at(notices, *node).copy(),
-    }
-}
-
-/// What of the edge comes from what its sender keeps in a cut. The error is want of memory.
-fn arrived_from_cut(
-    alloc: Global,
-    flow: &Flow,
-    offers: &[Offer],
-    edge: EdgeId,
-    cut: &Cut,
-) -> Result<Front, AllocError>
-    requires { IsCanonicalCut (bounds_of flow.now (sender flow.now edge)) cut.now }
-    ensures { IfOk result (λ g. IsFrontOf (bounds_of flow.now (receiver flow.now edge)) g
-        (spec.arrived_from flow.now offers.now edge (set_of flow.now (sender flow.now edge) cut.now))) }
-{
-    let front = kept(alloc, cut)?;
-    arrived(alloc, flow, offers, edge, &front)
-}
-
 /// Lowers the value on the left of the inclusion to the greatest one that meets it, if it does not hold; the new value, then.
 /// The error is want of memory.
 fn lower(
@@ -293,7 +233,7 @@ fn lower_cut(
     ensures { IfOk result (IsTested flow.now offers.now (inclusions.OfCut side.now) (choice_of cuts.old.items notices.now) (choice_of cuts.new.items notices.now)) }
 {
     flow_is_well_formed(flow);
-    let bound = right(alloc, flow, offers, side, cuts, notices)?;
+    let bound = right_of(alloc, flow, offers, side, cuts, notices)?;
     let node = owner(flow, *side);
     let lower = lowered(alloc, flow, offers, side, cut_at(cuts, node), &bound)?;
     match lower {
@@ -322,33 +262,9 @@ fn lower_note(
     ensures { IfOk result (IsTested flow.now offers.now (inclusions.OfNote limit.now) (choice_of cuts.now notices.old.items) (choice_of cuts.now notices.new.items)) }
 {
     flow_is_well_formed(flow);
-    let bound = within(alloc, flow, offers, limit, cuts, notices)?;
+    let bound = limit_of(alloc, flow, offers, limit, cuts, notices)?;
     let value = lower_notice(notices, note_node(flow, *limit), &bound)?;
     Ok(value)
-}
-
-/// In what a limit says that the notification frontier has to lie. The error is want of memory.
-fn within(
-    alloc: Global,
-    flow: &Flow,
-    offers: &[Offer],
-    limit: &Limit,
-    cuts: &[Cut],
-    notices: &[Front],
-) -> Result<Front, AllocError>
-    requires there { IsLimitIn flow.now limit.now }
-    requires encloses { EnclosesConsistent flow.now offers.now (choice_of cuts.now notices.now) }
-    ensures { IfOk result (λ g. IsFrontOf (bounds_of flow.now (note_node flow.now limit.now)) g
-        (limit_of flow.now offers.now limit.now (choice_of cuts.now notices.now))) }
-{
-    flow_is_well_formed(flow);
-    match limit {
-        Limit::Own(node) => kept(alloc, cut_at(cuts, *node)),
-        Limit::Note(edge) => {
-            let notice = notice_at(notices, flow.src(*edge));
-            arrived(alloc, flow, offers, *edge, notice)
-        },
-    }
 }
 
 /// Takes from the notification frontier of a node what does not lie within a bound; the new one, if there was any. The error is

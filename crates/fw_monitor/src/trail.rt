@@ -1,12 +1,10 @@
 //! How a lowering of a descent is told.
 ghost use Rattle.std.specs.Prelude.{◌≡◌};
-ghost use Rattle.fw_monitor.specs.declared.side.Inclusion.TheVariants as variants;
-ghost use Rattle.fw_monitor.specs.Trail as spec;
+ghost use Rattle.fw_flow.specs.declared.side.Inclusion.TheVariants as variants;
+ghost use Rattle.fw_model.specs.Lowerings as spec;
 
-use crate::passes::owner;
-use crate::side::{Inclusion, Limit, Side};
-use crate::worklist::note_node;
-use fw_flow::{Cause, Cut, Flow, Lowering, Part};
+use fw_flow::{Cause, Cut, Flow, Inclusion, Limit, Lowering, Part, Side};
+use fw_offers::{note_node, owner};
 
 /// The lowering of what stands on the left of an inclusion to a value.
 pub(crate) fn lowering_of(flow: &Flow, inclusion: &Inclusion, to: Cut) -> Lowering

@@ -1,19 +1,31 @@
 //! The worklist of a descent: the inclusions of a flow in order, and which of them wait for their test.
 ghost use Rattle.std.specs.Prelude.{◌≡◌, true, [], ◌∷◌, ◌++◌, map, length, IfOk};
 ghost use Rattle.std.specs.List.{AllByRecursion};
-ghost use Rattle.fw_monitor.specs.declared.side.Inclusion.TheVariants as variants;
-ghost use Rattle.fw_monitor.specs.Inclusions as spec;
-ghost use Rattle.fw_monitor.specs.Inclusions.{note_node, IsInclusionOf, number, inclusion_count, AreMadeToWait};
+ghost use Rattle.fw_flow.specs.declared.side.Inclusion.TheVariants as variants;
+ghost use Rattle.fw_model.specs.Inclusions as of_flow;
+ghost use Rattle.fw_monitor.specs.Worklist as spec;
+ghost use Rattle.fw_model.specs.Inclusions.{note_node, IsInclusionOf};
+ghost use Rattle.fw_monitor.specs.Worklist.{number, inclusion_count, AreMadeToWait};
 
-use crate::passes::owner;
-use crate::side::{Inclusion, Limit, OnEdge, Side};
 use fw_flow::laws::flow_is_well_formed;
-use fw_flow::{EdgeId, Flow, NodeId};
+use fw_flow::{EdgeId, Flow, Inclusion, Limit, NodeId, Side};
+use fw_offers::{note_node, owner};
 use std::alloc::{AllocError, Global};
+
+/// What an inclusion says of an edge.
+#[derive(Clone, Copy, Debug)]
+enum OnEdge {
+    /// What was delivered on it.
+    Delivered,
+    /// What was sent on it and cannot be sent again.
+    Discarded,
+    /// The notification frontier of its receiver.
+    Note,
+}
 
 /// The inclusions of a flow, by node. The error is want of memory.
 pub(crate) fn inclusions(alloc: Global, flow: &Flow) -> Result<Vec<Inclusion>, AllocError>
-    ensures { IfOk result (λ all. all.items ≡ spec.inclusions flow.now) }
+    ensures { IfOk result (λ all. all.items ≡ of_flow.inclusions flow.now) }
 {
     let mut all = Vec::new(alloc);
     for place in 0..flow.nodes() {
@@ -24,7 +36,7 @@ pub(crate) fn inclusions(alloc: Global, flow: &Flow) -> Result<Vec<Inclusion>, A
 
 /// Adds the inclusions of a node. The error is want of memory.
 fn add_of_node(flow: &Flow, node: NodeId, all: &mut Vec<Inclusion>) -> Result<(), AllocError>
-    ensures { IfOk result (λ u. all.new.items ≡ all.old.items ++ spec.inclusions_at flow.now node) }
+    ensures { IfOk result (λ u. all.new.items ≡ all.old.items ++ of_flow.inclusions_at flow.now node) }
 {
     add_on_edges(flow.in_edges(node), OnEdge::Delivered, all)?;
     add_on_edges(flow.out_edges(node), OnEdge::Discarded, all)?;
@@ -78,16 +90,6 @@ fn add_after_cut(flow: &Flow, node: NodeId, all: &mut Vec<Inclusion>) -> Result<
     all.push(Inclusion::OfCut(Side::Notified(node)))?;
     all.push(Inclusion::OfNote(Limit::Own(node)))?;
     Ok(())
-}
-
-/// The node whose notification frontier a limit is of.
-pub(crate) fn note_node(flow: &Flow, limit: Limit) -> NodeId
-    ensures { result ≡ note_node flow.now limit }
-{
-    match limit {
-        Limit::Own(node) => node,
-        Limit::Note(edge) => flow.dst(edge),
-    }
 }
 
 /// The number of an inclusion: those of edges come first.

@@ -1,5 +1,5 @@
 -- The finite map of a store's entries answers, changes and grows as the entries do.
-use Rattle.std.proofs.Common.{◌≡◌, ℕ, Bool, true, false, cond, List, [], ◌∷◌, map, Option, Some, None, option_map, refl, sym, ap, ◌∙◌, Vec, nat_cmp}
+use Rattle.std.proofs.Common.{◌≡◌, ℕ, Bool, true, false, cond, List, [], ◌∷◌, map, Option, Some, None, is_some, option_map, refl, sym, ap, ◌∙◌, Vec, nat_cmp}
 use Rattle.std.specs.Ordering.{eq_by_cmp}
 use Rattle.std.specs.Map.{lookup}
 use Rattle.std.specs.BTreeMap.{is_at}
@@ -26,6 +26,14 @@ find_bytes (e ∷ es) q =
 -- what the map has under an id
 pub get-record_map : (es : Entries) (q : ℕ) → get (record_map es) q ≡ bytes_at es q
 get-record_map es q = get-from_entries nat_cmp_total _ q ∙ find_bytes es q
+
+-- whether it has something there
+pub has-record_map : (es : Entries) (q : ℕ) → is_some (get (record_map es) q) ≡ is_some (lookup (is_at (nat_cmp q)) es)
+has-record_map es q = ap (λ (o : Option (List ℕ)). is_some o) (get-record_map es q) ∙ as_there (lookup (is_at (nat_cmp q)) es)
+  where
+    as_there : (o : Option (Vec ℕ Global)) → is_some (option_map (λ (w : Vec ℕ Global). w.items) o) ≡ is_some o
+    as_there None = refl
+    as_there (Some v) = refl
 
 -- entries that differ at one id make maps that differ there
 pub record_map-put : (es fs : Entries) (id : ℕ) (v : Vec ℕ Global) → ((q : ℕ) → lookup (is_at (nat_cmp q)) fs ≡ cond (is_at (nat_cmp id) q) (Some v) (lookup (is_at (nat_cmp q)) es)) → record_map fs ≡ insert (record_map es) id v.items

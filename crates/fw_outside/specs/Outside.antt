@@ -1,7 +1,8 @@
 -- What the calls of a folder, a store and a sink promise.
-use Rattle.std.specs.Prelude.{◌≡◌, ◌⊎◌, ℕ, ◌+◌, ◌-◌, ◌^◌, ◌<◌, ◌≤◌, min, max, Option, Result, Ok, Err, List, ◌++◌, length, take, IfSome, IsSomeAnd, option_map}
+use Rattle.std.specs.Prelude.{◌≡◌, ◌⊎◌, ℕ, ◌+◌, ◌-◌, ◌^◌, ◌<◌, ◌≤◌, min, max, Option, Result, Ok, Err, List, ◌++◌, length, take, IfSome, IsSome, IsSomeAnd, option_map}
 use Rattle.std.specs.Ordering.{nat_cmp}
 use Rattle.std.specs.FinMap.{FinMap}
+use Rattle.fw_outside.specs.declared.fault.Failed.{Failed as CallFailed}
 use Rattle.fw_outside.specs.declared.fault.FetchFault.{FetchFault}
 use Rattle.fw_outside.specs.declared.fault.FetchFault.TheVariants as fetch
 use Rattle.fw_outside.specs.declared.fault.OutFault.{OutFault}
@@ -20,6 +21,11 @@ abbrev pub faults_after : {T : Type 0} → Result T OutFault → ℕ → ℕ
 faults_after (Ok x) count = count
 faults_after (Err Failed) count = one_more count
 faults_after (Err NoMemory) count = count
+
+-- how often a store has failed after it was asked so whether a record is there: once more where it failed, and else as often as before
+abbrev pub has_faults_after : {T : Type 0} → Result T CallFailed → ℕ → ℕ
+has_faults_after (Ok x) count = count
+has_faults_after (Err failed) count = one_more count
 
 -- how often a sink has refused after a call that answered so: once more where it refused, and else as often as before
 abbrev pub refusals_after : {T : Type 0} → Result T OutFault → ℕ → ℕ
@@ -48,6 +54,10 @@ pub record StoreView : Type 0 where
   pub records : Option (FinMap nat_cmp (List ℕ))
   pub given : Option (ℕ × List ℕ)
   pub faults : ℕ
+
+-- The records that a store tells after a call are those that it told before; it may have ceased to tell them.
+abbrev pub StayIfTold : Option (FinMap nat_cmp (List ℕ)) → Option (FinMap nat_cmp (List ℕ)) → Type 0
+StayIfTold before after = IsSome after → after ≡ before
 
 -- What is known of a sink: all bytes that it has taken, where it tells them; how often it refused a write, by a fault or for
 -- want of memory; and how often it failed.

@@ -57,6 +57,11 @@ impl<T: Drop> From<AllocFailed<T>> for OutFault {
     }
 }
 
+/// The store failed, and counts it: why it did not say whether a record is there.
+#[derive(Clone, Copy, Debug, PartialEq, Eq, Error)]
+#[error("the store failed")]
+pub struct Failed;
+
 /// One more; a count at the end of its type stays there.
 pub(crate) fn one_more(count: u64) -> u64
     ensures exact { result ≡ spec.one_more count }

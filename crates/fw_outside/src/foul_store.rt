@@ -2,7 +2,7 @@
 ghost use Rattle.std.specs.Prelude.{◌≡◌, None, option_map};
 
 use crate::fault::one_more;
-use crate::{OutFault, Store};
+use crate::{Failed, OutFault, Store};
 use std::alloc::Global;
 use std::collections::BTreeMap;
 
@@ -81,6 +81,10 @@ impl Store for FoulStore {
         into.extend_from_slice(bytes)?;
         self.given = Some(Given { id, bytes: copy });
         Ok(())
+    }
+
+    fn has(&mut self, id: u64) -> Result<bool, Failed> {
+        Ok(self.records.contains_key(&id))
     }
 
     fn remove(&mut self, id: u64) -> Result<(), OutFault> {

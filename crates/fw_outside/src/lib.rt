@@ -13,7 +13,7 @@ mod sink;
 mod store;
 mod stream_sink;
 
-pub use fault::{FetchFault, OutFault};
+pub use fault::{Failed, FetchFault, OutFault};
 pub use file_folder::FileFolder;
 pub use folder::Folder;
 pub use foul_store::{FoulBytes, FoulStore};

@@ -4,7 +4,7 @@ ghost use Rattle.std.specs.FinMap as map;
 ghost use Rattle.fw_outside.specs.Memory.{record_map};
 
 use crate::fault::FaultPlan;
-use crate::{OutFault, Store};
+use crate::{Failed, OutFault, Store};
 use std::alloc::Global;
 use std::collections::BTreeMap;
 
@@ -45,7 +45,12 @@ impl Store for FaultlessStore {
 
     fn put(&mut self, id: u64, bytes: &[u8]) -> Result<(), OutFault> {
         let copy = bytes.to_vec(self.alloc)?;
-        match self.records.insert(id, copy) {
+        self.put_vec(id, copy)
+    }
+
+    /// The bytes are not copied.
+    fn put_vec(&mut self, id: u64, bytes: Vec<u8>) -> Result<(), OutFault> {
+        match self.records.insert(id, bytes) {
             Ok(_) => Ok(()),
             Err(_) => Err(OutFault::NoMemory),
         }
@@ -62,6 +67,10 @@ impl Store for FaultlessStore {
         Ok(())
     }
 
+    fn has(&mut self, id: u64) -> Result<bool, Failed> {
+        Ok(self.records.contains_key(&id))
+    }
+
     fn remove(&mut self, id: u64) -> Result<(), OutFault> {
         self.records.remove(&id);
         Ok(())
@@ -72,7 +81,7 @@ impl Store for FaultlessStore {
     }
 }
 
-/// A store in memory that tells its records and has a list of calls that are to fail, which change nothing.
+/// A store in memory that tells its records and may have a list of calls that are to fail, which change nothing.
 #[derive(Debug, Drop)]
 pub struct MemStore {
     store: FaultlessStore,
@@ -80,13 +89,21 @@ pub struct MemStore {
 }
 
 impl MemStore {
-    /// A store with no record, whose calls of these numbers are to fail, all its calls counted together.
-    pub fn new(alloc: Global, failing: Vec<u64>) -> Self
+    /// A store with no record.
+    pub fn new(alloc: Global) -> Self
+        ensures { ⟦<MemStore as Store>⟧.view result ≡ record { records = Some map.empty; given = None; faults = 0 } }
+    {
+        MemStore::failing_at(alloc, Vec::new(alloc))
+    }
+
+    /// A store with no record, whose calls of these numbers, from 0, are to fail: those of `put`, `get`, `has` and `remove`,
+    /// counted together.
+    pub fn failing_at(alloc: Global, calls: Vec<u64>) -> Self
         ensures { ⟦<MemStore as Store>⟧.view result ≡ record { records = Some map.empty; given = None; faults = 0 } }
     {
         MemStore {
             store: FaultlessStore::new(alloc),
-            plan: FaultPlan::new(failing),
+            plan: FaultPlan::new(calls),
         }
     }
 }
@@ -105,12 +122,27 @@ impl Store for MemStore {
         self.store.put(id, bytes)
     }
 
+    /// The bytes are not copied.
+    fn put_vec(&mut self, id: u64, bytes: Vec<u8>) -> Result<(), OutFault> {
+        if self.plan.next_fails() {
+            return Err(OutFault::Failed);
+        }
+        self.store.put_vec(id, bytes)
+    }
+
     fn get(&mut self, id: u64, into: &mut Vec<u8>) -> Result<(), OutFault> {
         if self.plan.next_fails() {
             into.clear();
             return Err(OutFault::Failed);
         }
         self.store.get(id, into)
+    }
+
+    fn has(&mut self, id: u64) -> Result<bool, Failed> {
+        if self.plan.next_fails() {
+            return Err(Failed);
+        }
+        self.store.has(id)
     }
 
     fn remove(&mut self, id: u64) -> Result<(), OutFault> {

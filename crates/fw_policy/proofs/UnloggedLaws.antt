@@ -58,7 +58,7 @@ logged-or_not serial [] = inr (λ k. k)
 logged-or_not serial (write ∷ writes) = by write.node write.written write.stage (logged-or_not serial writes)
   where
     by : (n : ℕ) (w : WrittenBy) (far : Stage) → IsLogged serial writes ⊎ (IsLogged serial writes → ⊥)
-        → IsLogged serial (record { node = n; written = w; stage = far } ∷ writes) ⊎ (IsLogged serial (record { node = n; written = w; stage = far } ∷ writes) → ⊥)
+        → IsLogged serial (record write { node = n; written = w; stage = far } ∷ writes) ⊎ (IsLogged serial (record write { node = n; written = w; stage = far } ∷ writes) → ⊥)
     by n (checkpoint f low) far rest = elim rest [ inl k ↦ inl (inr k) | inr k ↦ inr (λ a. elim a [ inl b ↦ absurd b | inr b ↦ k b ]) ]
     by n (logged_event s) far rest = elim rest [
       | inl k ↦ inl (inr k)
@@ -102,11 +102,11 @@ is-flying in_flight b e k n = refl
 is-flying acknowledged b e k n = let c : false ≡ true = sym (ap not e) ∙ k in cc
 is-flying collected b e k n = absurd (n refl)
 
-held-flies : (sys : System) (state : Machine) (q p : ℕ) (t : Stamp) (w : Written) (v : WrittenBy) (far : Stage) → ReadsAsWrite sys state q w v → q ≡ p → far ≡ in_flight
-    → IsOne t (stamp_of_written w) → FliesAt sys state p t (record { node = q; written = v; stage = far })
-held-flies sys state q p t (written.Checkpoint r stamps sent) v far h e f i = absurd i
-held-flies sys state q p t (written.Event event) (checkpoint g low) far h e f i = absurd h
-held-flies sys state q p t (written.Event event) (logged_event s) far h e f i = elim i [
+held-flies : (sys : System) (state : Machine) (of : Write) (q p : ℕ) (t : Stamp) (w : Written) (v : WrittenBy) (far : Stage) → ReadsAsWrite sys state q w v → q ≡ p → far ≡ in_flight
+    → IsOne t (stamp_of_written w) → FliesAt sys state p t (record of { node = q; written = v; stage = far })
+held-flies sys state of q p t (written.Checkpoint r stamps sent) v far h e f i = absurd i
+held-flies sys state of q p t (written.Event event) (checkpoint g low) far h e f i = absurd h
+held-flies sys state of q p t (written.Event event) (logged_event s) far h e f i = elim i [
   | inl k ↦ record {
     serial = s;
     node = e;
@@ -123,7 +123,7 @@ entry-flies sys state p t entry write k n =
     cond_both (entry.node == p && not entry.acknowledged) (stamp_of_written entry.written) [] (λ ss. IsOne t ss → FliesAt sys state p t write)
     (λ e i.
     let a = and_parts (entry.node == p) (not entry.acknowledged) e in
-    held-flies sys state write.node p t entry.written write.written write.stage k.holds (sym k.node ∙ eqb-true entry.node p a.0)
+    held-flies sys state write write.node p t entry.written write.written write.stage k.holds (sym k.node ∙ eqb-true entry.node p a.0)
     (is-flying write.stage entry.acknowledged k.acknowledged a.1 n) i)
     (λ e i. absurd i)
 

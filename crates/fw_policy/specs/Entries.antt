@@ -84,11 +84,21 @@ HoldsWhatIsWritten sys state p (written.Checkpoint recorded stamps sent) (logged
 HoldsWhatIsWritten sys state p (written.Event event) (checkpoint f low) = ⊥
 HoldsWhatIsWritten sys state p (written.Event event) (logged_event serial) = HasEventTold sys.flow p serial event state.history
 
--- an entry stands for a write: it is acknowledged exactly where the write counts among those that are kept
+-- an entry has a base exactly where the write has one
+abbrev pub HasBaseOf : Option ℕ → Option Front → Type 0
+HasBaseOf None None = Unit {0}
+HasBaseOf None (Some f) = ⊥
+HasBaseOf (Some id) None = ⊥
+HasBaseOf (Some id) (Some f) = Unit {0}
+
+-- An entry stands for a write: it is acknowledged exactly where the write counts among those that are kept, and stands on as many
+-- others.
 pub record IsEntryOf (sys : System) (state : Machine) (entry : Entry) (write : Write) : Type 0 where
   pub node : entry.node ≡ write.node
   pub acknowledged : entry.acknowledged ≡ is_counted kept write.stage
   pub holds : HoldsWhatIsWritten sys state write.node entry.written write.written
+  pub base : HasBaseOf entry.base write.base
+  pub depth : entry.depth ≡ write.depth
 
 -- one entry stands for each write, in order
 abbrev pub AreEntriesOf : System → Machine → List Entry → List Write → Type 0

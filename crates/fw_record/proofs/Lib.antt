@@ -1,6 +1,4 @@
-pub mod PartLoops
 pub mod FieldLaws
-pub mod PartLaws
 pub mod ListLaws
 pub mod CheckpointLaws
 pub mod EventLaws

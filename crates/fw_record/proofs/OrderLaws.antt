@@ -12,7 +12,8 @@ use Rattle.std.proofs.lemmas.List.Sorted.{ranks_by}
 use Rattle.fw_lemmas.proofs.Lists.{last_of}
 use Rattle.fw_bag.proofs.RecLaws.{rec_order}
 use Rattle.fw_record.specs.declared.logged.Logged.{Logged}
-use Rattle.fw_record.specs.Sound.{logged_cmp, may_follow_logged, each_may_follow}
+use Rattle.fw_bytes.specs.Sound.{each_may_follow}
+use Rattle.fw_record.specs.Sound.{logged_cmp, may_follow_logged}
 
 pub logged_order : IsTotalOrder logged_cmp
 logged_order =

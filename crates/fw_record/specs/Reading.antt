@@ -1,15 +1,14 @@
 -- Reading a record field by field, up to the first broken one.
-use Rattle.std.specs.Prelude.{◌≡◌, ℕ, zero, suc, ◌+◌, Bool, ◌&&◌, ◌||◌, ◌==◌, List, [], ◌∷◌, ◌++◌, length, Option, Some, None, Result, Ok, Err, if◌then◌else◌}
+use Rattle.std.specs.Prelude.{◌≡◌, ℕ, ◌+◌, Bool, ◌&&◌, ◌||◌, ◌==◌, List, [], length, Result, Ok, Err, if◌then◌else◌}
 use Rattle.std.specs.Int.{w16, w32, w64}
-use Rattle.fw_time.specs.Stamp.{Stamp}
+use Rattle.std.specs.List.{list_any}
 use Rattle.fw_bag.specs.declared.rec.Rec.{Rec}
-use Rattle.fw_frontier.specs.Front.{Front}
-use Rattle.fw_frontier.specs.declared.state.SentCount.{SentCount}
+use Rattle.fw_frontier.specs.declared.state.Entries.{Entries}
 use Rattle.fw_frontier.specs.declared.state.Entries.TheVariants.{Totals}
 use Rattle.fw_frontier.specs.declared.state.State.{State}
+use Rattle.fw_bytes.specs.Fields.{byte_of, number_field, stamp_field}
+use Rattle.fw_bytes.specs.Reading.{Reading, ◌>>=◌, kept_if, any, many_of, read_front, sent_counts_of}
 use Rattle.fw_flow.specs.declared.choice.OfEdge.{OfEdge}
-use Rattle.fw_record.specs.declared.fault.ReadFault.{ReadFault}
-use Rattle.fw_record.specs.declared.fault.ReadFault.TheVariants as fault
 use Rattle.fw_record.specs.declared.fault.RecordFault.{RecordFault}
 use Rattle.fw_record.specs.declared.fault.RecordFault.TheVariants as answer
 use Rattle.fw_record.specs.declared.logged.Logged.{Logged}
@@ -18,44 +17,11 @@ use Rattle.fw_record.specs.declared.record.Event.{Event}
 use Rattle.fw_record.specs.declared.record.Event.TheVariants.{Deliver, Notify}
 use Rattle.fw_record.specs.declared.record.Record.{Record}
 use Rattle.fw_record.specs.declared.record.Record.TheVariants as tagged
-use Rattle.fw_record.specs.Fields.{Field, byte_of, number_field, stamp_field, rec_of, sent_count_of, logged_of}
-use Rattle.fw_record.specs.Sound.{may_follow_stamps, may_follow_edges, may_follow_counts, may_follow_totals, may_follow_logged}
-
--- a value and the bytes after it; or how many bytes are left from the first broken field on
-abbrev pub Reading : Type 0 → Type 0
-Reading A = Result (A × List ℕ) ℕ
-
-infixl 10 ◌>>=◌
-abbrev pub ◌>>=◌ : {A B : Type 0} → Result A ℕ → (A → Result B ℕ) → Result B ℕ
-(Ok x) >>= f = f x
-(Err left) >>= f = Err left
+use Rattle.fw_record.specs.Fields.{rec_of, logged_of}
+use Rattle.fw_record.specs.Spelling.{tags, version_of}
+use Rattle.fw_record.specs.Sound.{may_follow_edges, may_follow_totals, may_follow_logged}
 
 -- ---- fields with their rules
-
--- a field at the front of the bytes: broken where the bytes end inside it or its value breaks its rule
-abbrev pub kept_if : {A : Type 0} → (A → Bool) → List ℕ → Field A → Reading A
-kept_if rule bytes None = Err (length bytes)
-kept_if rule bytes (Some x) = if rule x.0 then Ok x else Err (length bytes)
-
--- a field whose every value is allowed
-abbrev pub any : {A : Type 0} → List ℕ → Field A → Reading A
-any bytes None = Err (length bytes)
-any bytes (Some x) = Ok x
-
--- so many parts, each judged by those before it
-unfoldable pub many_of : {A : Type 0} → (List A → List ℕ → Reading A) → ℕ → List A → List ℕ → Reading (List A)
-many_of part zero before bytes = Ok (before, bytes)
-many_of part (suc n) before bytes = do
-  x ← part before bytes
-  many_of part n (before ++ x.0 ∷ []) x.1
-
--- the next stamp of a front
-abbrev pub next_stamp_of : List Stamp → List ℕ → Reading Stamp
-next_stamp_of before bytes = kept_if (may_follow_stamps before) bytes (stamp_field bytes)
-
--- the next count of what was sent
-abbrev pub next_count_of : List SentCount → List ℕ → Reading SentCount
-next_count_of before bytes = kept_if (may_follow_counts before) bytes (sent_count_of bytes)
 
 -- the next total
 abbrev pub next_total_of : List Rec → List ℕ → Reading Rec
@@ -66,12 +32,6 @@ abbrev pub next_logged_of : List Logged → List ℕ → Reading Logged
 next_logged_of before bytes = kept_if (may_follow_logged before) bytes (logged_of bytes)
 
 -- ---- a checkpoint
-
--- a front: a count, and that many stamps
-unfoldable pub read_front : List ℕ → Reading Front
-read_front bytes = do
-  count ← any bytes (number_field w32 bytes)
-  many_of next_stamp_of count.0 [] count.1
 
 -- the next edge, and its front
 unfoldable pub of_edge_of : List OfEdge → List ℕ → Reading OfEdge
@@ -86,25 +46,25 @@ of_edges_of bytes = do
   count ← any bytes (number_field w32 bytes)
   many_of of_edge_of count.0 [] count.1
 
--- a count, and that many counts of what was sent
-unfoldable pub sent_counts_of : List ℕ → Reading (List SentCount)
-sent_counts_of bytes = do
-  count ← any bytes (number_field w32 bytes)
-  many_of next_count_of count.0 [] count.1
-
 -- a count, and that many totals
 unfoldable pub totals_of : List ℕ → Reading (List Rec)
 totals_of bytes = do
   count ← any bytes (number_field w64 bytes)
   many_of next_total_of count.0 [] count.1
 
--- how many messages were sent, how many from where, and the totals
+-- what a node holds: its totals
+unfoldable pub read_entries : List ℕ → Reading Entries
+read_entries bytes = do
+  totals ← totals_of bytes
+  Ok (Totals totals.0, totals.1)
+
+-- how many messages were sent, how many from where, and what is held
 unfoldable pub read_state : List ℕ → Reading State
 read_state bytes = do
   sent ← any bytes (number_field w64 bytes)
   sends ← sent_counts_of sent.1
-  totals ← totals_of sends.1
-  Ok (record { sent = sent.0; sends = sends.0; entries = Totals totals.0 }, totals.1)
+  entries ← read_entries sends.1
+  Ok (record { sent = sent.0; sends = sends.0; entries = entries.0 }, entries.1)
 
 -- a count, and that many logged messages
 unfoldable pub read_log : List ℕ → Reading (List Logged)
@@ -167,15 +127,19 @@ read_event bytes = do
 
 -- ---- a record
 
--- whether a version has the tag: version 1 has the tag of a checkpoint, 1, and that of an event, 2
+-- whether some tag is of the version
+abbrev pub is_version : ℕ → Bool
+is_version version = list_any (λ tag. version == version_of tag) tags
+
+-- whether the version has the tag
 abbrev pub is_tag : ℕ → ℕ → Bool
-is_tag version tag = version == 1 && (tag == 1 || tag == 2)
+is_tag version tag = version == version_of tag && list_any (λ known. tag == known) tags
 
 -- the letters FW, a version, and a tag of that version
 unfoldable pub tag_of : List ℕ → Reading ℕ
 tag_of bytes = do
   magic ← kept_if (λ m. m == 18007) bytes (number_field w16 bytes)
-  version ← kept_if (λ v. v == 1) magic.1 (byte_of magic.1)
+  version ← kept_if is_version magic.1 (byte_of magic.1)
   kept_if (is_tag version.0) version.1 (byte_of version.1)
 
 -- a node and one of its events
@@ -204,21 +168,6 @@ whole_of bytes = do
   if length r.1 == 0 then Ok r.0 else Err (length r.1)
 
 -- ---- what the functions that read give
-
--- memory was refused, or this is the first broken field
-abbrev pub IsBrokenAt : {Y : Type 0} → ReadFault → Result Y ℕ → Type 0
-IsBrokenAt (fault.Broken left) reading = reading ≡ Err left
-IsBrokenAt fault.NoMemory reading = Unit {0}
-
--- what a function returned, seen by view, is what reading gives, unless memory was refused
-abbrev pub Gives : {X Y : Type 0} → (X → Y) → Result X ReadFault → Result Y ℕ → Type 0
-Gives view (Ok x) reading = reading ≡ Ok (view x)
-Gives view (Err e) reading = IsBrokenAt e reading
-
--- the same of a field
-abbrev pub IsField : {X Y : Type 0} → (X → Y) → Option X → Option Y → Type 0
-IsField view None field = field ≡ None
-IsField view (Some x) field = field ≡ Some (view x)
 
 -- the record that these bytes give, or the place in them at which the first broken field begins
 abbrev pub Decodes : List ℕ → Result Record RecordFault → Type 0

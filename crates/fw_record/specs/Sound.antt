@@ -1,19 +1,16 @@
 -- Which records have a spelling: the form of each part, and what may stand after what.
-use Rattle.std.specs.Prelude.{◌≡◌, ℕ, ◌<◌, ◌^◌, Bool, true, not, ◌&&◌, ◌||◌, ◌==◌, ◌-◌, nat_lt, List, [], ◌∷◌, ◌++◌, length, slice_get}
-use Rattle.std.specs.List.{AllByRecursion}
-use Rattle.std.specs.Option.{option_map_or}
+use Rattle.std.specs.Prelude.{ℕ, ◌<◌, ◌^◌, Bool, nat_lt, List, [], ◌∷◌}
 use Rattle.std.specs.declared.cmp.Ordering.{Ordering}
-use Rattle.std.specs.Ordering.{nat_cmp, ordering_then, is_lt, is_le}
+use Rattle.std.specs.Ordering.{nat_cmp, ordering_then, is_le}
 use Rattle.std.specs.Cmp.Lexicographic.{slice_cmp}
-use Rattle.fw_time.specs.Stamp.{Stamp, leq, stamp_cmp}
+use Rattle.fw_time.specs.Stamp.{Stamp, stamp_cmp}
 use Rattle.fw_bag.specs.declared.rec.Rec.{Rec}
 use Rattle.fw_bag.specs.Bag.{IsRec}
 use Rattle.fw_bag.specs.Rec.{rec_cmp}
-use Rattle.fw_frontier.specs.Front.{Front}
-use Rattle.fw_frontier.specs.declared.state.SentCount.{SentCount}
 use Rattle.fw_frontier.specs.declared.state.Entries.{Entries}
 use Rattle.fw_frontier.specs.declared.state.Entries.TheVariants.{Totals}
 use Rattle.fw_frontier.specs.declared.state.State.{State}
+use Rattle.fw_bytes.specs.Sound.{after_last, IsList, IsStamp, IsFront, AreSentCounts}
 use Rattle.fw_flow.specs.declared.choice.OfEdge.{OfEdge}
 use Rattle.fw_record.specs.declared.logged.Logged.{Logged}
 use Rattle.fw_record.specs.declared.record.Checkpoint.{Checkpoint}
@@ -24,26 +21,9 @@ use Rattle.fw_record.specs.declared.record.Record.TheVariants as tagged
 
 -- ---- what may stand after what
 
--- the test holds between the last of these, if there is one, and the next
-abbrev pub after_last : {A B : Type 0} → (A → B → Bool) → List A → B → Bool
-after_last precedes xs x = option_map_or (λ last. precedes last x) (slice_get xs (length xs - 1)) true
-
--- a stamp may stand before another one in a front: as many coordinates, lesser in order, and not comparable
-abbrev pub stands_before : Stamp → Stamp → Bool
-stands_before o s = (length o == length s) && (is_lt (stamp_cmp o s) && not (leq o s || leq s o))
-
--- a stamp may come next in a front
-abbrev pub may_follow_stamps : List Stamp → Stamp → Bool
-may_follow_stamps [] s = true
-may_follow_stamps (o ∷ os) s = stands_before o s && may_follow_stamps os s
-
 -- edges ascend strictly
 abbrev pub may_follow_edges : List OfEdge → ℕ → Bool
 may_follow_edges es edge = after_last (λ last next. nat_lt last.edge next) es edge
-
--- stamps ascend strictly, and each count is at least 1
-abbrev pub may_follow_counts : List SentCount → SentCount → Bool
-may_follow_counts ss s = nat_lt 0 s.count && after_last (λ last next. is_lt (stamp_cmp last.cause next.cause)) ss s
 
 -- keys ascend strictly
 abbrev pub may_follow_totals : List Rec → Rec → Bool
@@ -60,28 +40,7 @@ logged_cmp x y =
 abbrev pub may_follow_logged : List Logged → Logged → Bool
 may_follow_logged ms m = after_last (λ last next. is_le (logged_cmp last next)) ms m
 
--- each of the second list may come next after those before it
-abbrev pub each_may_follow : {A : Type 0} → (List A → A → Bool) → List A → List A → Bool
-each_may_follow rule before [] = true
-each_may_follow rule before (x ∷ xs) = rule before x && each_may_follow rule (before ++ x ∷ []) xs
-
--- a list of fewer than so many parts, each of its form and each allowed after those before it
-pub record IsList {A : Type 0} (limit : ℕ) (IsPart : A → Type 0) (rule : List A → A → Bool) (xs : List A) : Type 0 where
-  pub few : length xs < limit
-  pub parts : AllByRecursion IsPart xs
-  pub follow : each_may_follow rule [] xs ≡ true
-
 -- ---- the form of each part
-
--- a stamp has one to four coordinates of 32 bits
-pub record IsStamp (s : Stamp) : Type 0 where
-  pub some : 0 < length s
-  pub few : length s < 5
-  pub fit : AllByRecursion (λ c. c < 2 ^ 32) s
-
--- a front in its one spelling
-abbrev pub IsFront : Front → Type 0
-IsFront f = IsList (2 ^ 32) IsStamp may_follow_stamps f
 
 -- an edge with a front
 pub record IsEdgeFront (e : OfEdge) : Type 0 where
@@ -91,15 +50,6 @@ pub record IsEdgeFront (e : OfEdge) : Type 0 where
 -- edges with fronts, in order
 abbrev pub AreOfEdges : List OfEdge → Type 0
 AreOfEdges es = IsList (2 ^ 32) IsEdgeFront (λ before e. may_follow_edges before e.edge) es
-
--- a count of what was sent from a stamp
-pub record IsSentCount (s : SentCount) : Type 0 where
-  pub cause : IsStamp s.cause
-  pub count : s.count < 2 ^ 64
-
--- counts of what was sent, in order
-abbrev pub AreSentCounts : List SentCount → Type 0
-AreSentCounts ss = IsList (2 ^ 32) IsSentCount may_follow_counts ss
 
 -- totals, in order
 abbrev pub AreTotals : List Rec → Type 0

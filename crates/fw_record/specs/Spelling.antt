@@ -1,14 +1,12 @@
 -- The bytes of a record. All numbers are big-endian.
-use Rattle.std.specs.Prelude.{ℕ, ◌^◌, ◌<◌, List, [], ◌∷◌, ◌++◌, length}
-use Rattle.std.specs.Int.{w32, w64, to_be_bytes}
+use Rattle.std.specs.Prelude.{ℕ, List, [], ◌∷◌, ◌++◌, length}
 use Rattle.std.specs.List.{flat_map, AllByRecursion}
 use Rattle.fw_time.specs.Stamp.{Stamp}
 use Rattle.fw_bag.specs.declared.rec.Rec.{Rec}
-use Rattle.fw_frontier.specs.Front.{Front}
-use Rattle.fw_frontier.specs.declared.state.SentCount.{SentCount}
 use Rattle.fw_frontier.specs.declared.state.Entries.{Entries}
 use Rattle.fw_frontier.specs.declared.state.Entries.TheVariants.{Totals}
 use Rattle.fw_frontier.specs.declared.state.State.{State}
+use Rattle.fw_bytes.specs.Spelling.{u32_bytes, u64_bytes, stamp_bytes, front_bytes, sent_counts_bytes, IsCountable}
 use Rattle.fw_flow.specs.declared.choice.OfEdge.{OfEdge}
 use Rattle.fw_record.specs.declared.logged.Logged.{Logged}
 use Rattle.fw_record.specs.declared.record.Checkpoint.{Checkpoint}
@@ -17,25 +15,9 @@ use Rattle.fw_record.specs.declared.record.Event.TheVariants.{Deliver, Notify}
 use Rattle.fw_record.specs.declared.record.Record.{Record}
 use Rattle.fw_record.specs.declared.record.Record.TheVariants as tagged
 
--- four bytes
-abbrev pub u32_bytes : ℕ → List ℕ
-u32_bytes n = to_be_bytes w32 n
-
--- eight bytes
-abbrev pub u64_bytes : ℕ → List ℕ
-u64_bytes n = to_be_bytes w64 n
-
--- a byte for how many coordinates, and four bytes for each
-abbrev pub stamp_bytes : Stamp → List ℕ
-stamp_bytes s = length s ∷ flat_map u32_bytes s
-
 -- key and value
 abbrev pub rec_bytes : Rec → List ℕ
 rec_bytes r = u64_bytes r.key ++ u64_bytes r.value
-
--- how many stamps are least outside, and these; none is `all`
-abbrev pub front_bytes : Front → List ℕ
-front_bytes f = u32_bytes (length f) ++ flat_map stamp_bytes f
 
 -- an edge and its frontier
 abbrev pub of_edge_bytes : OfEdge → List ℕ
@@ -44,14 +26,6 @@ of_edge_bytes e = u32_bytes e.edge ++ front_bytes e.front
 -- how many edges, and these with their frontiers
 abbrev pub of_edges_bytes : List OfEdge → List ℕ
 of_edges_bytes es = u32_bytes (length es) ++ flat_map of_edge_bytes es
-
--- a stamp and how many messages were sent from there
-abbrev pub sent_count_bytes : SentCount → List ℕ
-sent_count_bytes s = stamp_bytes s.cause ++ u64_bytes s.count
-
--- how many counts of what was sent, and these
-abbrev pub sent_counts_bytes : List SentCount → List ℕ
-sent_counts_bytes ss = u32_bytes (length ss) ++ flat_map sent_count_bytes ss
 
 -- how many recs, and these
 abbrev pub recs_bytes : List Rec → List ℕ
@@ -93,20 +67,28 @@ abbrev pub event_bytes : Event → List ℕ
 event_bytes (Deliver edge at rec) = 1 ∷ delivery_bytes edge at rec
 event_bytes (Notify at) = 2 ∷ stamp_bytes at
 
--- the letters FW, version 1, and a tag
+-- the tags: 1 of a checkpoint, 2 of an event
+abbrev pub tags : List ℕ
+tags = 1 ∷ 2 ∷ []
+
+-- the version of the format that has a tag
+abbrev pub version_of : ℕ → ℕ
+version_of tag = 1
+
+-- the letters FW, the version that has a tag, and the tag
 abbrev pub head_bytes : ℕ → List ℕ
-head_bytes tag = 70 ∷ 87 ∷ 1 ∷ tag ∷ []
+head_bytes tag = 70 ∷ 87 ∷ version_of tag ∷ tag ∷ []
+
+-- the tag of a checkpoint, by what the node holds
+abbrev pub checkpoint_tag : Entries → ℕ
+checkpoint_tag (Totals totals) = 1
 
 -- the one spelling of a record
 abbrev pub spelling : Record → List ℕ
-spelling (tagged.State c) = head_bytes 1 ++ checkpoint_bytes c
+spelling (tagged.State c) = head_bytes (checkpoint_tag c.state.entries) ++ checkpoint_bytes c
 spelling (tagged.Event node event) = head_bytes 2 ++ u32_bytes node ++ event_bytes event
 
 -- ---- counts
-
--- The list has no more parts than a count of four bytes can say.
-abbrev pub IsCountable : {A : Type 0} → List A → Type 0
-IsCountable xs = length xs < 2 ^ 32
 
 -- So has the list of edges, and the front of each.
 pub record HasCountableEdges (es : List OfEdge) : Type 0 where

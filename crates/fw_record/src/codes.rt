@@ -3,7 +3,7 @@
 /// The letters FW.
 pub const MAGIC: u16 = 0x4657;
 
-/// The version of the format.
+/// The version of the format that has the tags below.
 pub const VERSION: u8 = 1;
 
 /// The tag of a checkpoint.

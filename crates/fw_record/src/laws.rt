@@ -1,14 +1,10 @@
 //! What holds of records and their bytes. Each function carries its laws as clauses, and does nothing.
-ghost use Rattle.std.specs.Prelude.{◌≡◌, ◌≤◌, ◌<◌, ◌^◌, ℕ, List, true, length, Ok, Err};
-ghost use Rattle.std.specs.List.{AllByRecursion};
-ghost use Rattle.fw_time.specs.declared.stamp.Bounds.{Bounds as Domain};
-ghost use Rattle.fw_time.specs.Stamp.{in_domain};
-ghost use Rattle.fw_frontier.specs.Front.{IsCanonical};
+ghost use Rattle.std.specs.Prelude.{◌≡◌, ◌≤◌, ℕ, List, length, Ok, Err};
 ghost use Rattle.fw_flow.specs.Dataflow.{Dataflow};
 ghost use Rattle.fw_record.specs.declared.record.Checkpoint.{Checkpoint as Saved};
 ghost use Rattle.fw_record.specs.declared.record.Record.{Record as Spelled};
 ghost use Rattle.fw_record.specs.Spelling.{spelling};
-ghost use Rattle.fw_record.specs.Sound.{IsStamp, IsFront, IsCheckpoint, IsSound};
+ghost use Rattle.fw_record.specs.Sound.{IsCheckpoint, IsSound};
 ghost use Rattle.fw_record.specs.OfNode.{IsCheckpointRecordOf, HasCanonicalFronts};
 ghost use Rattle.fw_record.specs.Reading.{whole_of};
 
@@ -22,14 +18,6 @@ pub fn one_spelling()
 #[tactic(auto, using(crate::proofs::PlaceLaws::left_is_inside))]
 pub fn left_is_in_the_bytes()
     ensures { (bytes : List ℕ) (left : ℕ) → whole_of bytes ≡ Err left → left ≤ length bytes }
-{}
-
-/// In a domain of stamps that have a spelling the fronts that have one are the canonical ones.
-pub fn sound_fronts_are_canonical()
-    ensures canonical { (bounds : Domain) (f : List (List ℕ))
-        → AllByRecursion (λ o. in_domain bounds o ≡ true) f → IsFront f → IsCanonical bounds f }
-    ensures sound { (bounds : Domain) (f : List (List ℕ))
-        → IsStamp bounds.greatest → length f < 2 ^ 32 → IsCanonical bounds f → IsFront f }
 {}
 
 /// The fronts of a checkpoint that has a spelling and is one of a node are canonical in their domains.

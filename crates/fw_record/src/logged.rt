@@ -1,7 +1,8 @@
 //! Messages that may have to be sent again.
 ghost use Rattle.std.specs.Prelude.{◌≡◌, [], true};
 ghost use Rattle.std.specs.List.Sorted.{IsPermutation};
-ghost use Rattle.fw_record.specs.Sound.{each_may_follow, may_follow_logged};
+ghost use Rattle.fw_bytes.specs.Sound.{each_may_follow};
+ghost use Rattle.fw_record.specs.Sound.{may_follow_logged};
 
 use crate::rules::compare_logged;
 use fw_flow::{EdgeId, Message};

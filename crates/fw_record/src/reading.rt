@@ -1,63 +1,24 @@
 //! Reading records.
 ghost use Rattle.std.specs.Prelude.{◌≡◌, ◌==◌, [], IfOk};
-ghost use Rattle.std.specs.Int.{w16, w32, w64};
-ghost use Rattle.fw_record.specs.Fields.{byte_of, number_field, stamp_field};
-ghost use Rattle.fw_record.specs.Reading.{Gives, Decodes, IsOkOrNoMemory, any, kept_if, many_of, is_event_byte, is_tag, read_front, of_edge_of, of_edges_of, sent_counts_of, totals_of, read_state, read_log, read_checkpoint, key_and_value_of, delivery_of, read_notice, read_event, event_record_of, state_record_of, tag_of, read_whole_record, whole_of};
+ghost use Rattle.std.specs.Int.{w16, w32};
+ghost use Rattle.fw_bytes.specs.Fields.{byte_of, number_field};
+ghost use Rattle.fw_bytes.specs.Reading.{Gives, kept_if, many_of};
+ghost use Rattle.fw_record.specs.Reading.{Decodes, IsOkOrNoMemory, is_event_byte, is_version, is_tag, of_edge_of, of_edges_of, totals_of, read_entries, read_state, read_log, read_checkpoint, key_and_value_of, delivery_of, read_notice, read_event, event_record_of, state_record_of, tag_of, read_whole_record, whole_of};
 ghost use Rattle.fw_record.specs.Sound.{IsSound, may_follow_edges};
 ghost use Rattle.fw_record.specs.Spelling.{spelling};
 ghost use Rattle.fw_record.specs.declared.record.Record.{Record as Spelled};
 
 use crate::codes::{CHECKPOINT, DELIVERY, EVENT, MAGIC, NOTICE, VERSION};
-use crate::fault::ReadFault;
-use crate::fields::{byte_at, stamp_at, u16_at, u32_at, u64_at};
-use crate::parts::{counts_at, messages_at, recs_at, stamps_at};
+use crate::parts::{messages_at, recs_at};
 use crate::rules::follows_edges;
 use crate::{Checkpoint, Event, Log, Record, RecordFault};
 use fw_bag::{Rec, Recs};
+use fw_bytes::{
+    ReadFault, any_stamp, any_u32, any_u64, byte_at, front_at, sent_counts_at, u16_at, u32_at,
+};
 use fw_flow::{EdgeId, NodeId, OfEdge, OfEdges, Recorded};
-use fw_frontier::{Entries, Front, SentCounts, State};
-use fw_time::Stamp;
+use fw_frontier::{Entries, State};
 use std::alloc::Global;
-
-/// Four bytes that may be any number.
-fn any_u32(bytes: &[u8]) -> Result<(u32, &[u8]), ReadFault>
-    ensures { Gives (λ x. (x.0, x.1.now)) result (any bytes.now (number_field w32 bytes.now)) }
-{
-    match u32_at(bytes) {
-        Some(read) => Ok(read),
-        None => Err(ReadFault::Broken { left: bytes.len() }),
-    }
-}
-
-/// Eight bytes that may be any number.
-fn any_u64(bytes: &[u8]) -> Result<(u64, &[u8]), ReadFault>
-    ensures { Gives (λ x. (x.0, x.1.now)) result (any bytes.now (number_field w64 bytes.now)) }
-{
-    match u64_at(bytes) {
-        Some(read) => Ok(read),
-        None => Err(ReadFault::Broken { left: bytes.len() }),
-    }
-}
-
-/// Any stamp.
-fn any_stamp(bytes: &[u8]) -> Result<(Stamp, &[u8]), ReadFault>
-    ensures { Gives (λ x. (x.0, x.1.now)) result (any bytes.now (stamp_field bytes.now)) }
-{
-    match stamp_at(bytes) {
-        Some(read) => Ok(read),
-        None => Err(ReadFault::Broken { left: bytes.len() }),
-    }
-}
-
-/// A front: a count, and that many stamps.
-#[tactic(auto, unfolding(crate::specs::Reading::read_front))]
-fn front_at(alloc: Global, bytes: &[u8]) -> Result<(Front, &[u8]), ReadFault>
-    ensures { Gives (λ x. (x.0, x.1.now)) result (read_front bytes.now) }
-{
-    let (count, rest) = any_u32(bytes)?;
-    let (stamps, rest) = stamps_at(alloc, count, rest)?;
-    Ok((Front::of_outside(stamps), rest))
-}
 
 /// The next edge.
 fn next_edge<'a>(before: &[OfEdge], bytes: &'a [u8]) -> Result<(u32, &'a [u8]), ReadFault>
@@ -109,16 +70,6 @@ fn of_edges_at(alloc: Global, bytes: &[u8]) -> Result<(OfEdges, &[u8]), ReadFaul
     Ok((OfEdges::of(fronts), rest))
 }
 
-/// A count, and that many counts of what was sent.
-#[tactic(auto, unfolding(crate::specs::Reading::sent_counts_of))]
-fn sent_counts_at(alloc: Global, bytes: &[u8]) -> Result<(SentCounts, &[u8]), ReadFault>
-    ensures { Gives (λ x. (x.0, x.1.now)) result (sent_counts_of bytes.now) }
-{
-    let (count, rest) = any_u32(bytes)?;
-    let (counts, rest) = counts_at(alloc, count, rest)?;
-    Ok((SentCounts::of(counts), rest))
-}
-
 /// A count, and that many totals.
 #[tactic(auto, unfolding(crate::specs::Reading::totals_of))]
 fn totals_at(alloc: Global, bytes: &[u8]) -> Result<(Recs, &[u8]), ReadFault>
@@ -129,15 +80,23 @@ fn totals_at(alloc: Global, bytes: &[u8]) -> Result<(Recs, &[u8]), ReadFault>
     Ok((Recs::of(totals), rest))
 }
 
-/// A node's table: how many messages it sent, how many from where, and its totals.
+/// What a node holds: its totals.
+#[tactic(auto, unfolding(crate::specs::Reading::read_entries))]
+fn entries_at(alloc: Global, bytes: &[u8]) -> Result<(Entries, &[u8]), ReadFault>
+    ensures { Gives (λ x. (x.0, x.1.now)) result (read_entries bytes.now) }
+{
+    let (totals, rest) = totals_at(alloc, bytes)?;
+    Ok((Entries::Totals(totals), rest))
+}
+
+/// A node's table: how many messages it sent, how many from where, and what it holds.
 #[tactic(auto, unfolding(crate::specs::Reading::read_state))]
 fn state_at(alloc: Global, bytes: &[u8]) -> Result<(State, &[u8]), ReadFault>
     ensures { Gives (λ x. (x.0, x.1.now)) result (read_state bytes.now) }
 {
     let (sent, rest) = any_u64(bytes)?;
     let (sends, rest) = sent_counts_at(alloc, rest)?;
-    let (totals, rest) = totals_at(alloc, rest)?;
-    let entries = Entries::Totals(totals);
+    let (entries, rest) = entries_at(alloc, rest)?;
     let state = State {
         sent,
         sends,
@@ -269,13 +228,20 @@ fn magic_at(bytes: &[u8]) -> Result<(u16, &[u8]), ReadFault>
     }
 }
 
+/// Whether some tag is of the version.
+fn has_tags(version: u8) -> bool
+    ensures { result ≡ is_version version }
+{
+    version == VERSION
+}
+
 /// The version.
 fn version_at(bytes: &[u8]) -> Result<(u8, &[u8]), ReadFault>
     ensures { Gives (λ x. (x.0, x.1.now)) result
-        (kept_if (λ v. v == 1) bytes.now (byte_of bytes.now)) }
+        (kept_if is_version bytes.now (byte_of bytes.now)) }
 {
     match byte_at(bytes) {
-        Some((version, rest)) if version == VERSION => Ok((version, rest)),
+        Some((version, rest)) if has_tags(version) => Ok((version, rest)),
         _ => Err(ReadFault::Broken { left: bytes.len() }),
     }
 }

@@ -4,33 +4,12 @@ ghost use Rattle.std.specs.Ordering.{ordering_then};
 ghost use Rattle.std.specs.Cmp.Lexicographic.{slice_cmp};
 ghost use Rattle.fw_bag.specs.Rec.{rec_cmp};
 ghost use Rattle.fw_time.specs.Stamp.{stamp_cmp};
-ghost use Rattle.fw_record.specs.Sound.{stands_before, may_follow_stamps, may_follow_edges, may_follow_counts, may_follow_totals, may_follow_logged, logged_cmp};
+ghost use Rattle.fw_record.specs.Sound.{may_follow_edges, may_follow_totals, may_follow_logged, logged_cmp};
 
 use crate::Logged;
 use fw_bag::Rec;
 use fw_flow::{Message, OfEdge};
-use fw_frontier::SentCount;
-use fw_time::Stamp;
 use std::cmp::Ordering;
-
-/// Whether one stamp may stand before another in a front.
-fn is_before(o: &Stamp, s: &Stamp) -> bool
-    ensures { result ≡ stands_before o.now s.now }
-{
-    o.len() == s.len() && o.compare(s).is_lt() && !(o.leq(s) || s.leq(o))
-}
-
-/// Whether a stamp may come next in a front.
-pub fn follows_stamps(before: &[Stamp], s: &Stamp) -> bool
-    ensures { result ≡ may_follow_stamps before.now s.now }
-{
-    for o in before {
-        if !is_before(o, s) {
-            return false;
-        }
-    }
-    true
-}
 
 /// Whether an edge may come next.
 pub fn follows_edges(before: &[OfEdge], edge: u32) -> bool
@@ -39,19 +18,6 @@ pub fn follows_edges(before: &[OfEdge], edge: u32) -> bool
     match before.last() {
         None => true,
         Some(last) => last.edge.place() < edge,
-    }
-}
-
-/// Whether a count of what was sent may come next.
-pub fn follows_counts(before: &[SentCount], next: &SentCount) -> bool
-    ensures { result ≡ may_follow_counts before.now next.now }
-{
-    if next.count == 0 {
-        return false;
-    }
-    match before.last() {
-        None => true,
-        Some(last) => last.cause.compare(&next.cause).is_lt(),
     }
 }
 

@@ -1,46 +1,19 @@
 //! How many bytes a record takes, so that memory for its spelling is asked for once.
-ghost use Rattle.std.specs.Prelude.{◌≤◌};
-
 use crate::{Checkpoint, Event, Logged, Record};
+use fw_bytes::size::{COUNT, NUMBER, of_counts, of_front, of_stamp};
 use fw_flow::OfEdge;
-use fw_frontier::{Entries, Front, SentCount};
-use fw_time::Stamp;
+use fw_frontier::Entries;
 
 /// Letters, version and tag, and the node.
 const HEAD: usize = 8;
 
-/// A number of 64 bits.
-const NUMBER: usize = 8;
-
 /// A key and a value.
 const REC: usize = 16;
-
-/// A count of fewer than 2^32, or an edge.
-const COUNT: usize = 4;
-
-fn of_stamp(stamp: &Stamp) -> usize
-    ensures { result ≤ 17 }
-{
-    1 + 4 * stamp.len()
-}
-
-fn of_front(front: &Front) -> usize {
-    front
-        .outside()
-        .iter()
-        .fold(COUNT, |size, stamp| size.saturating_add(of_stamp(stamp)))
-}
 
 fn of_edges(fronts: &[OfEdge]) -> usize {
     fronts.iter().fold(COUNT, |size, of_edge| {
         size.saturating_add(COUNT)
             .saturating_add(of_front(&of_edge.front))
-    })
-}
-
-fn of_counts(counts: &[SentCount]) -> usize {
-    counts.iter().fold(COUNT, |size, sent| {
-        size.saturating_add(of_stamp(&sent.cause) + NUMBER)
     })
 }
 

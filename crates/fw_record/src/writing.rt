@@ -1,67 +1,17 @@
 //! Writing records.
-ghost use Rattle.std.specs.Prelude.{◌≡◌, ◌<◌, ◌^◌, [], ◌∷◌, ◌++◌, OnOk, IfOk, IfSome};
+ghost use Rattle.std.specs.Prelude.{◌≡◌, [], ◌∷◌, ◌++◌, OnOk, IfOk, IfSome};
 ghost use Rattle.std.specs.List.{flat_map};
-ghost use Rattle.fw_record.specs.Spelling.{spelling, u32_bytes, u64_bytes, head_bytes, stamp_bytes, rec_bytes, front_bytes, of_edges_bytes, sent_count_bytes, sent_counts_bytes, recs_bytes, entries_bytes, state_bytes, logged_bytes, log_bytes, checkpoint_bytes, delivery_bytes, event_bytes, IsCountable, HasCountableEdges, HasCountableLists, FitsItsCounts};
+ghost use Rattle.fw_bytes.specs.Spelling.{u32_bytes, stamp_bytes, IsCountable};
+ghost use Rattle.fw_record.specs.Spelling.{spelling, version_of, checkpoint_tag, head_bytes, rec_bytes, of_edges_bytes, recs_bytes, entries_bytes, state_bytes, logged_bytes, log_bytes, checkpoint_bytes, delivery_bytes, event_bytes, HasCountableEdges, HasCountableLists, FitsItsCounts};
 
 use crate::codes::{CHECKPOINT, DELIVERY, EVENT, MAGIC, NOTICE, VERSION};
 use crate::{Checkpoint, Event, Logged, Record, size};
 use fw_bag::Rec;
+use fw_bytes::{only_coord, put_count, put_counts, put_front, put_stamp, put_u32, put_u64};
 use fw_flow::{Causes, EdgeId, OfEdge};
-use fw_frontier::{Entries, Front, SentCount, State};
+use fw_frontier::{Entries, State};
 use fw_time::Stamp;
 use std::alloc::{AllocError, Global};
-
-fn put_u32(out: &mut Vec<u8>, number: u32) -> Result<(), AllocError>
-    ensures { OnOk result (out.new.items ≡ out.old.items ++ u32_bytes number) }
-{
-    out.extend_from_slice(&number.to_be_bytes())?;
-    Ok(())
-}
-
-fn put_u64(out: &mut Vec<u8>, number: u64) -> Result<(), AllocError>
-    ensures { OnOk result (out.new.items ≡ out.old.items ++ u64_bytes number) }
-{
-    out.extend_from_slice(&number.to_be_bytes())?;
-    Ok(())
-}
-
-/// How many parts follow, in four bytes. A number that does not fit is answered as want of memory.
-fn put_count(out: &mut Vec<u8>, count: usize) -> Result<(), AllocError>
-    ensures bytes { OnOk result (out.new.items ≡ out.old.items ++ u32_bytes count) }
-    ensures counted { OnOk result (count < 2 ^ 32) }
-{
-    let Ok(count) = u32::try_from(count) else {
-        return Err(AllocError);
-    };
-    put_u32(out, count)
-}
-
-/// The coordinate of a stamp of one.
-fn only_coord(stamp: &Stamp) -> Option<u32>
-    ensures { IfSome result (λ coord. stamp.now ≡ coord ∷ []) }
-{
-    if stamp.len() != 1 {
-        return None;
-    }
-    Some(stamp.at(0))
-}
-
-/// A stamp: the number of its coordinates, and these.
-fn put_stamp(out: &mut Vec<u8>, stamp: &Stamp) -> Result<(), AllocError>
-    ensures { OnOk result (out.new.items ≡ out.old.items ++ stamp_bytes stamp.now) }
-{
-    // Most stamps are of one coordinate, and are written at once.
-    if let Some(coord) = only_coord(stamp) {
-        let [a, b, c, d] = coord.to_be_bytes();
-        out.extend_from_slice(&[1, a, b, c, d])?;
-        return Ok(());
-    }
-    out.push(stamp.len() as u8)?;
-    for i in 0..stamp.len() {
-        put_u32(out, stamp.at(i))?;
-    }
-    Ok(())
-}
 
 fn put_rec(out: &mut Vec<u8>, rec: &Rec) -> Result<(), AllocError>
     ensures { OnOk result (out.new.items ≡ out.old.items ++ rec_bytes rec.now) }
@@ -69,19 +19,6 @@ fn put_rec(out: &mut Vec<u8>, rec: &Rec) -> Result<(), AllocError>
     let [a, b, c, d, e, f, g, h] = rec.key.to_be_bytes();
     let [i, j, k, l, m, n, o, p] = rec.value.to_be_bytes();
     out.extend_from_slice(&[a, b, c, d, e, f, g, h, i, j, k, l, m, n, o, p])?;
-    Ok(())
-}
-
-/// A front: the number of its stamps outside, and these.
-fn put_front(out: &mut Vec<u8>, front: &Front) -> Result<(), AllocError>
-    ensures bytes { OnOk result (out.new.items ≡ out.old.items ++ front_bytes front.now) }
-    ensures counted { OnOk result (IsCountable front.now) }
-{
-    let stamps = front.outside();
-    put_count(out, stamps.len())?;
-    for stamp in stamps {
-        put_stamp(out, stamp)?;
-    }
     Ok(())
 }
 
@@ -96,32 +33,6 @@ fn put_of_edges(out: &mut Vec<u8>, fronts: &[OfEdge]) -> Result<(), AllocError>
         put_front(out, &of_edge.front)?;
     }
     Ok(())
-}
-
-/// Counts of what was sent, after their number.
-fn put_counts(out: &mut Vec<u8>, counts: &[SentCount]) -> Result<(), AllocError>
-    ensures bytes { OnOk result (out.new.items ≡ out.old.items ++ sent_counts_bytes counts.now) }
-    ensures counted { OnOk result (IsCountable counts.now) }
-{
-    put_count(out, counts.len())?;
-    for sent in counts {
-        put_sent(out, sent)?;
-    }
-    Ok(())
-}
-
-/// How many messages were sent from a stamp.
-fn put_sent(out: &mut Vec<u8>, sent: &SentCount) -> Result<(), AllocError>
-    ensures { OnOk result (out.new.items ≡ out.old.items ++ sent_count_bytes sent.now) }
-{
-    if let Some(coord) = only_coord(&sent.cause) {
-        let [a, b, c, d] = coord.to_be_bytes();
-        let [e, f, g, h, i, j, k, l] = sent.count.to_be_bytes();
-        out.extend_from_slice(&[1, a, b, c, d, e, f, g, h, i, j, k, l])?;
-        return Ok(());
-    }
-    put_stamp(out, &sent.cause)?;
-    put_u64(out, sent.count)
 }
 
 /// Recs, after their number.
@@ -260,13 +171,23 @@ fn put_event(out: &mut Vec<u8>, event: &Event) -> Result<(), AllocError>
     }
 }
 
-/// The letters FW, the version and a tag.
-fn put_head(out: &mut Vec<u8>, tag: u8) -> Result<(), AllocError>
+/// The letters FW, a version and a tag of it.
+fn put_head(out: &mut Vec<u8>, version: u8, tag: u8) -> Result<(), AllocError>
+    requires { version ≡ version_of tag }
     ensures { OnOk result (out.new.items ≡ out.old.items ++ head_bytes tag) }
 {
     out.extend_from_slice(&MAGIC.to_be_bytes())?;
-    out.extend_from_slice(&[VERSION, tag])?;
+    out.extend_from_slice(&[version, tag])?;
     Ok(())
+}
+
+/// The tag of a checkpoint, by what the node holds.
+fn checkpoint_tag(entries: &Entries) -> u8
+    ensures { result ≡ checkpoint_tag entries.now }
+{
+    match entries {
+        Entries::Totals(_) => CHECKPOINT,
+    }
 }
 
 /// The one spelling of a record. It asks for its memory once. The error is want of memory; a list of more parts than its
@@ -278,11 +199,11 @@ pub fn encode(alloc: Global, what: &Record) -> Result<Vec<u8>, AllocError>
     let mut out = Vec::with_capacity(alloc, size::of_record(what))?;
     match what {
         Record::State(checkpoint) => {
-            put_head(&mut out, CHECKPOINT)?;
+            put_head(&mut out, VERSION, checkpoint_tag(&checkpoint.state.entries))?;
             put_checkpoint(&mut out, checkpoint)?;
         }
         Record::Event { node, event } => {
-            put_head(&mut out, EVENT)?;
+            put_head(&mut out, VERSION, EVENT)?;
             put_u32(&mut out, node.place())?;
             put_event(&mut out, event)?;
         }

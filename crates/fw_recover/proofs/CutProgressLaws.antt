@@ -9,7 +9,7 @@ use Rattle.fw_frontier.specs.Frontier.{meet}
 use Rattle.fw_frontier.specs.Front.{Front, IsCanonical, IsFrontOf, frontier_of}
 use Rattle.fw_flow.specs.declared.choice.Cut.{Cut}
 use Rattle.fw_flow.specs.declared.choice.Cut.TheVariants.{At}
-use Rattle.fw_monitor.specs.Descent.{IsCanonicalCut}
+use Rattle.fw_model.specs.Choice.{IsCanonicalCut}
 use Rattle.fw_stands.specs.Recovered.{IsSettledBy}
 
 -- what is so at each of the first places of a list is so at one more, if it is at the element that is put behind

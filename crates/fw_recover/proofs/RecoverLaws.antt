@@ -59,14 +59,14 @@ pub record PartsStandFor (sys : System) (records : Option Records) (state : Mach
 parts-stand : (sys : System) (running : Running) (records : Option Records) (state : Machine) → Stands sys running records state
     → PartsStandFor sys records state running.parts
 parts-stand sys running records state s = record {
-  low = s.low;
-  tables = s.tables;
-  queues = s.queues;
-  logs = s.logs;
-  outputs = s.outputs;
-  sources = s.sources;
-  entries = s.entries;
-  stored = s.stored;
+  low = s.apart.low;
+  tables = s.apart.tables;
+  queues = s.apart.queues;
+  logs = s.apart.logs;
+  outputs = s.apart.outputs;
+  sources = s.apart.sources;
+  entries = s.apart.entries;
+  stored = s.apart.stored;
 }
 
 -- parts that are restored to the largest choice stand for the recovered state
@@ -164,22 +164,22 @@ pub recovered-leads : (sys : System) (records : Option Records) (state : Machine
     → (q : ℕ) → q < length sys.flow.nodes → is_failed state q ≡ true → IsRecovered choice records old new
     → LeadsTo sys state Recover (recovered_state sys state choice new.progress.settled) (cuts choice)
 recovered-leads sys records state choice old new s largest q there failed made =
-    let progress = subst (λ flow. IsProgressCut flow choice new.parts.queues old.progress new.progress) s.flow made.progress in
+    let progress = subst (λ flow. IsProgressCut flow choice new.parts.queues old.progress new.progress) s.apart.flow made.progress in
     recovers-by_step sys state choice new.progress.settled
-    (recovers sys state choice new.parts.queues old.progress new.progress s.well_formed s.reached s.settled largest progress) q there failed
+    (recovers sys state choice new.parts.queues old.progress new.progress s.apart.well_formed s.apart.reached s.apart.settled largest progress) q there failed
 
 pub recovered-stands : (sys : System) (records : Option Records) (state : Machine) (choice : Choice) (old new : Running)
     → Stands sys old records state → IsLargest sys state (offers sys state) choice → Trusts sys state Recover records
     → (q : ℕ) → q < length sys.flow.nodes → is_failed state q ≡ true → IsRecovered choice records old new
     → Follows sys state Recover (did (cuts choice)) new records
 recovered-stands sys records state choice old new s largest trust q there failed made =
-    let w = s.well_formed in
-    let progress = subst (λ flow. IsProgressCut flow choice new.parts.queues old.progress new.progress) s.flow made.progress in
-    let traces = subst (λ flow. AreTracesCut flow new.parts.keep.entries choice (length flow.nodes) old.traces new.traces) s.flow made.traces in
-    let restores = subst (λ flow. Restores flow choice records old.parts new.parts) s.flow made.restores in
+    let w = s.apart.well_formed in
+    let progress = subst (λ flow. IsProgressCut flow choice new.parts.queues old.progress new.progress) s.apart.flow made.progress in
+    let traces = subst (λ flow. AreTracesCut flow new.parts.keep.entries choice (length flow.nodes) old.traces new.traces) s.apart.flow made.traces in
+    let restores = subst (λ flow. Restores flow choice records old.parts new.parts) s.apart.flow made.restores in
     let settled = new.progress.settled in
     let next = recovered_state sys state choice settled in
-    let r = recovers sys state choice new.parts.queues old.progress new.progress w s.reached s.settled largest progress in
+    let r = recovers sys state choice new.parts.queues old.progress new.progress w s.apart.reached s.apart.settled largest progress in
     let leads : LeadsTo sys state Recover next (cuts choice) = recovered-leads sys records state choice old new s largest q there failed made in
     let before = parts-stand sys old records state s in
     let parts = parts-recovered sys records state choice settled old.parts new.parts r leads trust before restores in
@@ -188,22 +188,24 @@ recovered-stands sys records state choice old new s largest trust q there failed
       next = next;
       steps = leads;
       stands = record {
-        flow = made.flow ∙ s.flow;
-        well_formed = w;
-        reached = reached-next sys state next Recover (did (cuts choice)) s.reached leads;
-        settled = refl;
-        failed = made.failed ∙ ap (λ (flow : Dataflow). replicate (length flow.nodes) false) s.flow ∙ sym (none-down 0 (length sys.flow.nodes));
-        low = parts.low;
-        epochs = λ x. subst (λ n. (x < n) ↔ HasEpoch sys.batches x) (sym made.epochs) (s.epochs x);
-        tables = parts.tables;
-        queues = parts.queues;
-        logs = parts.logs;
-        outputs = parts.outputs;
-        sources = parts.sources;
-        progress = progress-recovered sys state choice new.parts.queues old.progress new.progress r parts.queues progress s.progress;
+        apart = record {
+          flow = made.flow ∙ s.apart.flow;
+          well_formed = w;
+          reached = reached-next sys state next Recover (did (cuts choice)) s.apart.reached leads;
+          settled = refl;
+          failed = made.failed ∙ ap (λ (flow : Dataflow). replicate (length flow.nodes) false) s.apart.flow ∙ sym (none-down 0 (length sys.flow.nodes));
+          low = parts.low;
+          epochs = λ x. subst (λ n. (x < n) ↔ HasEpoch sys.batches x) (sym made.epochs) (s.apart.epochs x);
+          tables = parts.tables;
+          queues = parts.queues;
+          logs = parts.logs;
+          outputs = parts.outputs;
+          sources = parts.sources;
+          progress = progress-recovered sys state choice new.parts.queues old.progress new.progress r parts.queues progress s.apart.progress;
+          entries = parts.entries;
+          stored = parts.stored;
+        };
         traces = traces-recovered sys records state choice settled old.parts new.parts.keep.entries r before gone old.traces new.traces traces s.traces;
         lost = λ p full t. (λ c. absurd (contains-none (slice_index_or new.lost.items p []) t (made.lost p) c), λ l. absurd (none-lost sys state choice settled p t l));
-        entries = parts.entries;
-        stored = parts.stored;
       };
     }

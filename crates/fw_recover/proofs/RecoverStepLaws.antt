@@ -51,7 +51,7 @@ none-any (false ∷ bs) e (suc q) = none-any bs e q
 none-down : (old : Running) (records : Option Records) → list_any (λ down. down) old.failed.items ≡ false
     → (sys : System) (state : Machine) → Stands sys old records state → StepsTo sys state Recover state idle
 none-down old records none sys state s = (
-  λ other effect t. two_ways (is_failed state t.0) t.4 (ap (λ down. slice_index_or down t.0 false) (sym s.failed) ∙ none-any old.failed.items none t.0),
+  λ other effect t. two_ways (is_failed state t.0) t.4 (ap (λ down. slice_index_or down t.0 false) (sym s.apart.failed) ∙ none-any old.failed.items none t.0),
   refl,
 )
 
@@ -71,8 +71,8 @@ down-there : (old : Running) (records : Option Records) → IsShaped old → lis
 down-there old records shaped some sys state s =
     let q = some-any old.failed.items some in (
       q.0,
-      subst (λ (flow : Dataflow). q.0 < length flow.nodes) s.flow (subst (λ n. q.0 < n) shaped.one_each.failed q.1),
-      ap (λ down. slice_index_or down q.0 false) (sym s.failed) ∙ q.2,
+      subst (λ (flow : Dataflow). q.0 < length flow.nodes) s.apart.flow (subst (λ n. q.0 < n) shaped.one_each.failed q.1),
+      ap (λ down. slice_index_or down q.0 false) (sym s.apart.failed) ∙ q.2,
     )
 
 -- a recovery is enabled there
@@ -80,8 +80,8 @@ pub recovery-enabled : (old : Running) (records : Option Records) → IsShaped o
     → (sys : System) (state : Machine) → Stands sys old records state → IsStepEnabled sys state Recover
 recovery-enabled old records shaped some sys state s =
     let q = down-there old records shaped some sys state s in
-    let reached = s.reached in
-    let r = failed-recovered sys s.well_formed reached.0 reached.1 state reached.2 q.0 q.1 q.2 in
+    let reached = s.apart.reached in
+    let r = failed-recovered sys s.apart.well_formed reached.0 reached.1 state reached.2 q.0 q.1 q.2 in
     (r.0, cuts r.1, r.2)
 
 -- and the engine recovers to its choice
@@ -126,8 +126,8 @@ damaged-stands : (old : Running) (choice : Choice) (records : Option Records) (g
     → IsShaped old → list_any (λ down. down) old.failed.items ≡ true
     → IsEntryDamaged old.flow choice records old.parts.keep.entries got id bytes → TakesStep old records Recover (Err (fault.Damaged id)) old records
 damaged-stands old choice records got id bytes shaped some d sys state s = (
-  untold sys state choice records old.parts.keep.entries got id bytes s.stored
-      (subst (λ flow. IsEntryDamaged flow choice records old.parts.keep.entries got id bytes) s.flow d),
+  untold sys state choice records old.parts.keep.entries got id bytes s.apart.stored
+      (subst (λ flow. IsEntryDamaged flow choice records old.parts.keep.entries got id bytes) s.apart.flow d),
   recovery-enabled old records shaped some sys state s,
   s,
 )
@@ -149,7 +149,7 @@ refusal-shaped T old keep.NoMemory s = tt
 asked-in : (old : Running) (choice : Choice) (entry : Entry) → IsChosenBy old Failed choice → is_asked_for old.flow choice entry ≡ true
     → (sys : System) (records : Option Records) (state : Machine) → Stands sys old records state → IsAskedIn sys entry state
 asked-in old choice entry chosen asked sys records state s =
-    (choice, chosen sys records state s, subst (λ flow. is_asked_for flow choice entry ≡ true) s.flow asked)
+    (choice, chosen sys records state s, subst (λ flow. is_asked_for flow choice entry ≡ true) s.apart.flow asked)
 
 -- the damage that a recovery tells
 pub refusal-damage : (old : Running) (choice : Choice) (records : Option Records) (got : Option (ℕ × List ℕ)) (why : KeepFault) → IsChosenBy old Failed choice
@@ -172,15 +172,14 @@ refusal-damage old choice records got keep.NoMemory chosen d id e = absurd (cc e
 -- ---- by what the call to the catalogue answered
 
 -- what is kept where the parts were not restored
-pub refused-stands : (old : Running) (parts : Parts) (choice : Choice) (records after : Option Records) (got : Option (ℕ × List ℕ)) (why : KeepFault)
-    (r : Result Stepped EngineFault) → IsShaped old → list_any (λ down. down) old.failed.items ≡ true → parts ≡ old.parts → after ≡ records → IsErrAnd r (λ e. e ≡ fault_of why)
+pub refused-stands : (old : Running) (parts : Parts) (choice : Choice) (records : Option Records) (got : Option (ℕ × List ℕ)) (why : KeepFault)
+    (r : Result Stepped EngineFault) → IsShaped old → list_any (λ down. down) old.failed.items ≡ true → parts ≡ old.parts → IsErrAnd r (λ e. e ≡ fault_of why)
     → IsDamagedIfSaid {T = Unit {0}} old.flow choice records old.parts.keep.entries got (Err why)
-    → TakesStep old records Recover r (record old { parts = parts }) after
-refused-stands old parts choice records after got why (Ok x) shaped some same told is d = absurd is
-refused-stands old parts choice records after got why (Err e) shaped some same told is d =
-    subst (λ x. TakesStep old records Recover (Err e) (record old { parts = x }) after) (sym same)
-    (subst (λ x. TakesStep old records Recover (Err e) old x) (sym told)
-    (subst (λ x. TakesStep old records Recover (Err x) old records) (sym is) (refusal-stands old choice records got why shaped some d)))
+    → TakesStep old records Recover r (record old { parts = parts }) records
+refused-stands old parts choice records got why (Ok x) shaped some same is d = absurd is
+refused-stands old parts choice records got why (Err e) shaped some same is d =
+    subst (λ x. TakesStep old records Recover (Err e) (record old { parts = x }) records) (sym same)
+    (subst (λ x. TakesStep old records Recover (Err x) old records) (sym is) (refusal-stands old choice records got why shaped some d))
 
 -- the damage that is told then
 pub refused-damage : (old : Running) (choice : Choice) (records : Option Records) (got : Option (ℕ × List ℕ)) (why : KeepFault) (r : Result Stepped EngineFault)

@@ -3,7 +3,7 @@ ghost use Rattle.std.specs.Prelude.{◌≡◌, OnOk};
 ghost use Rattle.std.specs.List.{list_any};
 ghost use Rattle.fw_flow.specs.declared.step.Step.TheVariants as steps;
 ghost use Rattle.fw_keep.specs.Stored.{IsStored};
-ghost use Rattle.fw_monitor.specs.Chosen.{IsChoiceOf};
+ghost use Rattle.fw_model.specs.Choice.{IsChoiceOf};
 ghost use Rattle.fw_recover.specs.CutProgress.{AreAtReceivers};
 ghost use Rattle.fw_recover.specs.Recovered.{KeepsFit, IsFollowed};
 ghost use Rattle.fw_running.specs.Shaped.{IsShaped};

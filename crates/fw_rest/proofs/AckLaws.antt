@@ -118,7 +118,7 @@ each-there (x ∷ xs) =
 
 -- ---- the stamps of outputs
 
-output-bounds : (flow : Dataflow) (o : ℕ) → is_output_kind (kind_of flow o) ≡ true → (t : Stamp) → in_domain (bounds_of flow o) t ≡ leq t (greatest_number ∷ [])
+pub output-bounds : (flow : Dataflow) (o : ℕ) → is_output_kind (kind_of flow o) ≡ true → (t : Stamp) → in_domain (bounds_of flow o) t ≡ leq t (greatest_number ∷ [])
 unfolding bounds_of
 output-bounds flow o k t = elim (output_kinds (kind_of flow o) k) [
   | inl is ↦ ap (λ kind. in_domain (bounds_of_domain flow (domain_of_kind flow kind)) t) is

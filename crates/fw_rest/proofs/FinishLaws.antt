@@ -78,7 +78,7 @@ recovered-in_flight sys state next (did effect) t =
     at_most e l = omega arith
 recovered-in_flight sys state next idle t = let writes = ap (λ (m : Machine). count_in_flight m.writes) t.1 in omega arith
 
-within-all : (sys : System) (family : Family) (state : Machine) → steps_to_rest sys family state ≤ steps_in_all sys family + count_in_flight state.writes
+pub within-all : (sys : System) (family : Family) (state : Machine) → steps_to_rest sys family state ≤ steps_in_all sys family + count_in_flight state.writes
 unfolding steps_to_rest steps_in_all
 within-all sys family state =
     let fewer : most_events sys family - length state.history ≤ most_events sys family = omega arith in

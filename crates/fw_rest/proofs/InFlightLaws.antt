@@ -1,5 +1,5 @@
 -- How many writes are in flight.
-use Rattle.std.proofs.Common.{◌≡◌, ℕ, suc, ◌+◌, ◌*◌, ◌<◌, ◌≤◌, Bool, true, false, cond, List, [], ◌∷◌, length, filter, refl, ap, ◌∙◌, arith}
+use Rattle.std.proofs.Common.{◌≡◌, ℕ, suc, ◌+◌, ◌*◌, ◌<◌, ◌≤◌, Bool, true, false, cond, List, [], ◌∷◌, length, filter, refl, ap, ◌∙◌, arith, map}
 use Rattle.std.proofs.Math.Nat.{suc-mul}
 use Rattle.std.proofs.lemmas.Bool.{cond_both}
 use Rattle.fw_frontier.specs.Front.{Front}
@@ -10,7 +10,7 @@ use Rattle.fw_flow.specs.declared.step.Step.TheVariants.{Inject, Deliver, Notify
 use Rattle.fw_flow.specs.Dataflow.{System, policy_of, node_ids}
 use Rattle.fw_flow.specs.NodeFunction.{event_node}
 use Rattle.fw_model.specs.Machine.{Machine, SerialEvent, Write, Stage, in_flight, acknowledged, collected, first_state, front_of}
-use Rattle.fw_model.specs.Steps.{Effect, Outcome, did, idle, with_event, write_of_event, checkpoint_of, eager_writes, is_in_flight, after_collection, lies_below, collected_writes, LeadsTo, StepsTo, Run}
+use Rattle.fw_model.specs.Steps.{Effect, Outcome, did, idle, with_event, write_of_event, checkpoint_of, eager_writes, is_in_flight, after_collection, collected_writes, LeadsTo, StepsTo, Run, is_forgotten}
 use Rattle.fw_rest.specs.StepsToRest.{count_in_flight}
 use Rattle.fw_rest.specs.LawsOfRest.{FewAreInFlight}
 use Rattle.fw_rest.proofs.LoweringLaws.{count-append, count-few, event-writes, eager-few, oldest-count}
@@ -35,14 +35,16 @@ collected-stage true acknowledged = refl
 collected-stage false acknowledged = refl
 collected-stage below collected = refl
 
+staged-in_flight : (goes : Write → Bool) (xs : List Write)
+    → count_in_flight (map (λ (x : Write). record x { stage = after_collection (goes x) x.stage }) xs) ≡ count_in_flight xs
+staged-in_flight goes [] = refl
+staged-in_flight goes (x ∷ xs) =
+    let left = count_in_flight (map (λ (y : Write). record y { stage = after_collection (goes y) y.stage }) xs) in
+    ap (λ b. cond b (left + 1) left) (collected-stage (goes x) x.stage) ∙ ap (λ n. cond (is_in_flight x.stage) (n + 1) n) (staged-in_flight goes xs)
+
 collected-in_flight : (sys : System) (low : List Front) (h : List SerialEvent) (xs : List Write)
     → count_in_flight (collected_writes sys low h xs) ≡ count_in_flight xs
-collected-in_flight sys low h [] = refl
-collected-in_flight sys low h (x ∷ xs) =
-    let rest = collected-in_flight sys low h xs in
-    ap (λ b. cond b (count_in_flight (collected_writes sys low h xs) + 1) (count_in_flight (collected_writes sys low h xs)))
-    (collected-stage (lies_below sys low h x.node x.written) x.stage)
-    ∙ ap (λ n. cond (is_in_flight x.stage) (n + 1) n) rest
+collected-in_flight sys low h xs = staged-in_flight (is_forgotten sys low h xs) xs
 
 -- ---- steps
 

@@ -7,3 +7,7 @@ pub mod FinishLaws
 pub mod DueLaws
 pub mod InFlightLaws
 pub mod WaitingLaws
+pub mod EpochLaws
+pub mod EagerLaws
+pub mod LeftLaws
+pub mod AskingLaws

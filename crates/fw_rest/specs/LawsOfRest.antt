@@ -5,6 +5,7 @@ use Rattle.fw_time.specs.Stamp.{Stamp, in_domain}
 use Rattle.fw_frontier.specs.Frontier.{Frontier}
 use Rattle.fw_flow.specs.declared.event.Event.{Event}
 use Rattle.fw_flow.specs.declared.step.Step.{Step}
+use Rattle.fw_flow.specs.declared.step.Step.TheVariants.{Collect}
 use Rattle.fw_flow.specs.Dataflow.{System, kind_of, receiver, bounds_of, is_output_kind, HasEpochs}
 use Rattle.fw_flow.specs.WellFormed.{IsWellFormed, IsWellFormedSystem}
 use Rattle.fw_model.specs.Auto.{IsAutoRun}
@@ -13,7 +14,8 @@ use Rattle.fw_model.specs.Denotation.{Family, IsDenotation, bag_at}
 use Rattle.fw_model.specs.History.{IsLegal, IsComplete}
 use Rattle.fw_model.specs.Machine.{Machine, events, first_state, ack_count_of}
 use Rattle.fw_model.specs.Reached.{IsReached}
-use Rattle.fw_model.specs.Steps.{Effect, Outcome, did, Run}
+use Rattle.fw_model.specs.Steps.{Effect, Outcome, did, StepsTo, Run}
+use Rattle.fw_rest.specs.Left.{HasNoRegroup, HaveAllAsked, AsksAndCollects, NothingIsLeft}
 use Rattle.fw_rest.specs.Rest.{IsAtRest, AreAllLive, HasNothingToDo, is_of_auto, HasAcknowledgedAll, HasShownAll, NothingWaits, RecoversAndGoesOn}
 use Rattle.fw_rest.specs.StepsToRest.{count_in_flight, most_events, stamps_due, steps_to_rest, steps_in_all}
 
@@ -106,3 +108,24 @@ WhatIsGivenIsAcknowledged = (sys : System) (family : Family) → IsWellFormedSys
     → (also : List Outcome) (last : Machine) → RecoversAndGoesOn sys state most also last
     → (o : ℕ) → o < length sys.flow.nodes → is_output_kind (kind_of sys.flow o) ≡ true
     → HasAcknowledgedAll sys family last o × HasShownAll sys family (outcomes ++ also) o
+
+-- In each state of a well-formed system without a regroup to which steps lead from the first one, with all nodes live, in which `auto` has
+-- nothing to do and no checkpoint is to be asked: once a collection is taken, enabled or not, nothing is left but one record of each node
+-- that takes checkpoints.
+abbrev pub RestLeavesNothing : Type 0
+RestLeavesNothing = (sys : System) (family : Family) → IsWellFormedSystem sys → IsDenotation sys family → HasNoRegroup sys.flow → (state : Machine) → IsReached sys state
+    → AreAllLive sys state → HasNothingToDo sys state → HaveAllAsked sys state
+    → (next : Machine) (outcome : Outcome) → StepsTo sys state Collect next outcome → NothingIsLeft sys next
+
+-- From each state of a well-formed system to which steps lead from the first one each node is asked for a checkpoint, `auto` goes on, and
+-- a collection is taken.
+abbrev pub AskingGoesOn : Type 0
+AskingGoesOn = (sys : System) → IsWellFormedSystem sys → (state : Machine) → IsReached sys state → (most : ℕ) → (last : Machine) × AsksAndCollects sys state most last
+
+-- In each state of a well-formed system without a regroup to which steps lead from the first one, with all nodes live, in which `auto` has
+-- nothing to do: once each node is asked for a checkpoint, and then `auto` as many steps as it takes at most, and a collection, nothing is
+-- left but one record of each node that takes checkpoints.
+abbrev pub AskingLeavesNothing : Type 0
+AskingLeavesNothing = (sys : System) (family : Family) → IsWellFormedSystem sys → IsDenotation sys family → HasNoRegroup sys.flow → (state : Machine) → IsReached sys state
+    → AreAllLive sys state → HasNothingToDo sys state → (most : ℕ) → steps_in_all sys family + length sys.flow.nodes ≤ most
+    → (last : Machine) → AsksAndCollects sys state most last → NothingIsLeft sys last

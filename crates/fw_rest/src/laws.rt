@@ -3,7 +3,7 @@
 //! In the comments a system is well formed by `IsWellFormedSystem`. A run begins in the machine's first state, and its steps are
 //! any, failures, recoveries and collections among them.
 ghost use Rattle.fw_rest.specs.Coming.{AllComesOfEachState};
-ghost use Rattle.fw_rest.specs.LawsOfRest.{AcknowledgedIsDue, AcknowledgedIsShown, AutoComesToRest, AutoTakesSoMany, EachStateGoesOn, FewAreInFlight, LegalHistoriesEnd, NothingToDoIsRest, NothingWaitsAtRest, RecoveryComesToRest, RestHasAcknowledgedAll, RestIsComplete, WhatIsGivenIsAcknowledged, StepsOfAutoEnd};
+ghost use Rattle.fw_rest.specs.LawsOfRest.{AcknowledgedIsDue, AcknowledgedIsShown, AskingGoesOn, AskingLeavesNothing, AutoComesToRest, AutoTakesSoMany, EachStateGoesOn, FewAreInFlight, LegalHistoriesEnd, NothingToDoIsRest, NothingWaitsAtRest, RecoveryComesToRest, RestHasAcknowledgedAll, RestIsComplete, RestLeavesNothing, WhatIsGivenIsAcknowledged, StepsOfAutoEnd};
 
 /// Of each state of a run of a well-formed system all comes that is denoted (`AllComes`), whatever failed.
 pub fn all_comes_of_each_state()
@@ -86,4 +86,24 @@ pub fn acknowledged_is_due()
 /// What an output has acknowledged in a run of a well-formed system, one outcome of the run shows as it is denoted.
 pub fn acknowledged_is_shown()
     ensures { AcknowledgedIsShown }
+{}
+
+/// In each state of a well-formed system without a regroup to which steps lead from the first one, with all nodes live, in which
+/// `auto` has nothing to do and no checkpoint is to be asked: once a collection is taken, nothing is left but one record of each
+/// node that takes checkpoints.
+pub fn rest_leaves_nothing()
+    ensures { RestLeavesNothing }
+{}
+
+/// From each state of a well-formed system to which steps lead from the first one each node is asked for a checkpoint, `auto` goes
+/// on, and a collection is taken.
+pub fn asking_goes_on()
+    ensures { AskingGoesOn }
+{}
+
+/// In each state of a well-formed system without a regroup to which steps lead from the first one, with all nodes live, in which
+/// `auto` has nothing to do: once each node is asked for a checkpoint, and then `auto` as many steps as it takes at most, and a
+/// collection, nothing is left but one record of each node that takes checkpoints.
+pub fn asking_leaves_nothing()
+    ensures { AskingLeavesNothing }
 {}

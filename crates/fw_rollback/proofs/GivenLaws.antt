@@ -8,6 +8,9 @@ use Rattle.std.specs.Option.{ForSome}
 use Rattle.std.specs.FinMap as map
 use Rattle.fw_lemmas.proofs.Each.{each-weaker, each-one, each-at, each_of-map, each-filter}
 use Rattle.fw_lemmas.proofs.Filters.{filter-in, filter-out}
+use Rattle.fw_lemmas.proofs.SideBySide.{zip-weaker}
+use Rattle.fw_outside.specs.Outside.{StayIfTold}
+use Rattle.fw_outside.proofs.ToldLaws.{told-kept}
 use Rattle.fw_time.specs.Stamp.{in_domain}
 use Rattle.fw_frontier.specs.Front.{Front, inside}
 use Rattle.fw_flow.specs.declared.choice.Choice.{Choice}
@@ -22,6 +25,7 @@ use Rattle.fw_record.specs.declared.logged.Logged.{Logged}
 use Rattle.fw_record.specs.declared.record.Record.{Record}
 use Rattle.fw_record.specs.declared.record.Record.TheVariants as tagged
 use Rattle.fw_record.specs.OfNode.{CanBeLogged}
+use Rattle.fw_record.specs.Spelling.{spelling}
 use Rattle.fw_keep.specs.declared.entry.Entry.{Entry}
 use Rattle.fw_keep.specs.declared.entry.Written.{Written}
 use Rattle.fw_keep.specs.declared.entry.Written.TheVariants as written
@@ -108,6 +112,23 @@ fetched-same flow choice records entries i e given l at asked h = record {
 pub fetched-one : (flow : Dataflow) (records : Option Records) (e : Entry) (r : Record) (given : Option (ℕ × List ℕ)) → Fetches flow e given (Ok r)
     → IsToldUnder e.id records (Ok r) → IsFetched flow records e r
 fetched-one flow records e r given f t = record { sound = f.1; fits = f.2; told = t }
+
+-- what was fetched is so by what the store tells after another answer
+pub fetched-told : (flow : Dataflow) (choice : Choice) (before after : Option Records) (entries : List Entry) (given : List (List Record)) → StayIfTold before after
+    → HasFetched flow choice before entries given → HasFetched flow choice after entries given
+fetched-told flow choice before after entries given stay h = record {
+  each = h.each;
+  fetched = λ p n. zip-weaker (IsFetched flow before) (IsFetched flow after) (asked_of flow choice entries p) (given_of given p)
+      (λ e r one. record {
+        sound = one.sound;
+        fits = one.fits;
+        told = told-kept (λ records. ForSome records (λ held. map.get held e.id ≡ Some (spelling r))) before after stay (λ held is. absurd (cc)) one.told;
+      }) (h.fetched p n);
+}
+
+-- what is true of two things is true of two that are the same
+pub of-both : {A B : Type 0} (P : A → B → Type 0) {a x : A} {b y : B} → a ≡ x → b ≡ y → P x y → P a b
+of-both P {a} {x} {b} {y} e f p = subst (λ c. P c b) (sym e) (subst (λ d. P x d) (sym f) p)
 
 -- a damaged record is one that the choice asks for
 pub damaged : (T : Type 0) (flow : Dataflow) (choice : Choice) (records : Option Records) (entries : List Entry) (e : Entry) (given : Option (ℕ × List ℕ)) (why : KeepFault)

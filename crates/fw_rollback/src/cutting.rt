@@ -2,6 +2,7 @@
 ghost use Rattle.std.specs.Prelude.{◌≡◌, OnOk, OnErr};
 ghost use Rattle.fw_keep.specs.Faults.{keep_faults_after};
 ghost use Rattle.fw_keep.specs.Stored.{IsStored};
+ghost use Rattle.fw_outside.specs.Outside.{StayIfTold};
 ghost use Rattle.fw_rollback.specs.Asked.{IsDamagedIfSaid};
 ghost use Rattle.fw_rollback.specs.Restored.{AreOfFlow, AreOfNodes, Restores};
 
@@ -26,7 +27,8 @@ use std::alloc::Global;
 /// # Errors
 ///
 /// `StoreFault` where the store fails, `Damaged` where the bytes of a write that is asked for spell no record of it, and
-/// `NoMemory` where memory is refused. Then the parts, and the store's records, are as they were.
+/// `NoMemory` where memory is refused. Then the parts are as they were. The store's records are in each case, where it still
+/// tells them.
 pub fn restore<K: Store>(
     alloc: Global,
     flow: &Flow,
@@ -37,15 +39,15 @@ pub fn restore<K: Store>(
     requires each { AreOfFlow flow.now parts.old }
     requires stored { IsStored parts.old.keep (K.view store.old).records }
 
-    ensures restored { OnOk result (Restores flow.now choice.now (K.view store.old).records parts.old parts.new) }
+    ensures restored { OnOk result (Restores flow.now choice.now (K.view store.new).records parts.old parts.new) }
     ensures each { AreOfFlow flow.now parts.new }
     ensures nodes { AreOfNodes flow.now parts.old.tables → AreOfNodes flow.now parts.new.tables }
     ensures stored { IsStored parts.new.keep (K.view store.new).records }
-    ensures stays { (K.view store.new).records ≡ (K.view store.old).records }
+    ensures stays { StayIfTold (K.view store.old).records (K.view store.new).records }
 
     // After a refusal the parts are as they were.
     ensures kept { OnErr result (parts.new ≡ parts.old) }
-    ensures damaged { IsDamagedIfSaid flow.now choice.now (K.view store.old).records parts.old.keep.entries (K.view store.new).given result }
+    ensures damaged { IsDamagedIfSaid flow.now choice.now (K.view store.new).records parts.old.keep.entries (K.view store.new).given result }
     ensures faults { (K.view store.new).faults ≡ keep_faults_after result (K.view store.old).faults }
 {
     let given = read(alloc, flow, choice, &parts.keep, store)?;

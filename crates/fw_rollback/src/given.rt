@@ -2,6 +2,7 @@
 ghost use Rattle.std.specs.Prelude.{◌≡◌, ◌++◌, ◌∷◌, [], length, replicate, slice_set, IfOk, OnOk};
 ghost use Rattle.fw_keep.specs.Faults.{keep_faults_after};
 ghost use Rattle.fw_keep.specs.Stored.{IsStored};
+ghost use Rattle.fw_outside.specs.Outside.{StayIfTold};
 ghost use Rattle.fw_rollback.specs.Asked.{given_of, AreFetched, IsDamagedIfSaid};
 
 use crate::asked::is_asked_for;
@@ -101,7 +102,7 @@ impl Given {
     }
 }
 
-/// Fetches the record of each write that the cuts of the choice ask for. The store's records stay.
+/// Fetches the record of each write that the cuts of the choice ask for. The store's records stay, where it still tells them.
 pub(crate) fn read<K: Store>(
     alloc: Global,
     flow: &Flow,
@@ -110,9 +111,9 @@ pub(crate) fn read<K: Store>(
     store: &mut K,
 ) -> Result<Given, KeepFault>
     requires stored { IsStored keep.now (K.view store.old).records }
-    ensures fetched { IfOk result (AreFetched flow.now choice.now (K.view store.old).records keep.now.entries) }
-    ensures damaged { IsDamagedIfSaid flow.now choice.now (K.view store.old).records keep.now.entries (K.view store.new).given result }
-    ensures stays { (K.view store.new).records ≡ (K.view store.old).records }
+    ensures fetched { IfOk result (AreFetched flow.now choice.now (K.view store.new).records keep.now.entries) }
+    ensures damaged { IsDamagedIfSaid flow.now choice.now (K.view store.new).records keep.now.entries (K.view store.new).given result }
+    ensures stays { StayIfTold (K.view store.old).records (K.view store.new).records }
     ensures faults { (K.view store.new).faults ≡ keep_faults_after result (K.view store.old).faults }
 {
     let mut given = Given::none(alloc, flow.nodes())?;
@@ -130,9 +131,9 @@ fn fetch_all<K: Store>(
 ) -> Result<(), KeepFault>
     requires stored { IsStored keep.now (K.view store.old).records }
     requires none { given.old ≡ replicate (length flow.now.nodes) [] }
-    ensures fetched { OnOk result (AreFetched flow.now choice.now (K.view store.old).records keep.now.entries given.new) }
-    ensures damaged { IsDamagedIfSaid flow.now choice.now (K.view store.old).records keep.now.entries (K.view store.new).given result }
-    ensures stays { (K.view store.new).records ≡ (K.view store.old).records }
+    ensures fetched { OnOk result (AreFetched flow.now choice.now (K.view store.new).records keep.now.entries given.new) }
+    ensures damaged { IsDamagedIfSaid flow.now choice.now (K.view store.new).records keep.now.entries (K.view store.new).given result }
+    ensures stays { StayIfTold (K.view store.old).records (K.view store.new).records }
     ensures faults { (K.view store.new).faults ≡ keep_faults_after result (K.view store.old).faults }
 {
     let entries = keep.entries();

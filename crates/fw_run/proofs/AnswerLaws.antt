@@ -88,7 +88,7 @@ answers-early known call status folder now store out early bad refused read kept
     never_falls-store (known.store store).faults (known.store store).faults (0, refl),
     never_fall-out status (known.out out) (known.out out) (early_writes status (known.out out) early),
   );
-  tells = refl;
+  told_before = λ told. told;
   answer = texts-answered (IsSome (known.store store).records) call status (record {
     bad_words = bad.0;
     refused = refused;
@@ -139,7 +139,7 @@ answers-not_read known call command job.NoMemory folder now store out e first re
 
 pub answers-done : {F K O : Type 0} (known : Known F K O) (call : Call) (command : Command) (work : Work) (folder now : F) (store left : K) (out wrote : O) → call.command ≡ Some command
     → IsWork call.told command work → EndsWork {T = Unit {0}} (IsSome (known.store left).records) work (Ok tt) (known.store store) (known.store left) (known.out out) (known.out wrote)
-    → is_some (known.store left).records ≡ is_some (known.store store).records → StaysUnlessRun work store left → known.read_faults now ≡ known.read_faults folder → KeepsFolder known.texts known.fetches call.command Done folder now
+    → (IsSome (known.store left).records → IsSome (known.store store).records) → StaysUnlessRun work store left → known.read_faults now ≡ known.read_faults folder → KeepsFolder known.texts known.fetches call.command Done folder now
     → RunAnswers known call (outside_of folder store out) Done (outside_of now left wrote)
 answers-done known call command work folder now store left out wrote e j ends telling stays read kept =
     let tells = IsSome (known.store left).records in
@@ -168,7 +168,7 @@ answers-done known call command work folder now store left out wrote e j ends te
         never_falls-store (known.store store).faults (known.store left).faults counts.rises,
         never_fall-out Done (known.out out) (known.out wrote) writes,
       );
-      tells = telling;
+      told_before = telling;
       answer = texts-answered tells call Done (record {
         bad_words = λ is. absurd (cc);
         refused = λ refusal is. absurd (cc);
@@ -203,7 +203,7 @@ no_read_fault (Engine engine.NoMemory) count = refl
 
 pub answers-fault : {F K O : Type 0} (known : Known F K O) (call : Call) (command : Command) (work : Work) (f : RunFault) (folder now : F) (store left : K) (out wrote : O) → call.command ≡ Some command
     → IsWork call.told command work → EndsWork {T = Unit {0}} (IsSome (known.store left).records) work (Err f) (known.store store) (known.store left) (known.out out) (known.out wrote)
-    → is_some (known.store left).records ≡ is_some (known.store store).records → StaysUnlessRun work store left → ((fault : EngineFault) → f ≡ Engine fault → StaysIfToldInOne work out wrote) → known.read_faults now ≡ known.read_faults folder
+    → (IsSome (known.store left).records → IsSome (known.store store).records) → StaysUnlessRun work store left → ((fault : EngineFault) → f ≡ Engine fault → StaysIfToldInOne work out wrote) → known.read_faults now ≡ known.read_faults folder
     → KeepsFolder known.texts known.fetches call.command (status_of f) folder now → RunAnswers known call (outside_of folder store out) (status_of f) (outside_of now left wrote)
 answers-fault known call command work f folder now store left out wrote e j ends telling stays quiet read kept =
     let tells = IsSome (known.store left).records in
@@ -239,7 +239,7 @@ answers-fault known call command work f folder now store left out wrote e j ends
         never_falls-store count last ends.rises,
         never_fall-out (status_of f) first final writes,
       );
-      tells = telling;
+      told_before = telling;
       answer = texts-answered tells call (status_of f) (record {
         bad_words = λ is. absurd (no_bad_words f is);
         refused = λ refusal is. absurd (no_refusal f refusal is);
@@ -300,7 +300,7 @@ told_no_memory known call before status after word a =
       store_count = counts_told call.command status NoMemory (known.store before.store).faults (known.store after.store).faults telling a.store_count;
       out_count = writes_told status NoMemory (known.out before.out) (known.out after.out) telling a.out_count;
       never_fall = a.never_fall;
-      tells = a.tells;
+      told_before = a.told_before;
       answer = record { decided = a.answer.decided; refuses = λ refusal tells first. inr (inr refl); completes = λ texts accepted tells. inr (inr (inr (inr (inr refl)))) };
     }
 

@@ -477,12 +477,6 @@ stays_seen view by_lines before after s = tt
 stays_seen view through_faults before after s = tt
 stays_seen view (in_one_line seeded) before after s = ap view s
 
--- what is known where the store tells its records at first is known where it tells them at last
-pub ends-told : (Tells : Bool) (other : Bool) (manner : Manner) (sys : System) (items : List Item) (answer : Result (Unit {0}) RunFault) (a c : ℕ) (records : Option Records) (given : Option (ℕ × List ℕ)) (first last : SinkView)
-    → other ≡ Tells → EndsRun (Tells ≡ true) manner sys items answer a c records given first last → EndsRun (other ≡ true) manner sys items answer a c records given first last
-ends-told Tells other manner sys items answer a c records given first last e h =
-    subst (λ (told : Bool). EndsRun (told ≡ true) manner sys items answer a c records given first last) (sym e) h
-
 -- no fault of an engine is told once the one line is written
 pub stays_last : {O : Type 0} (manner : Manner) (tally : StepCounts) (count : ℕ) (answer : Result (Unit {0}) RunFault) (first last : SinkView) (before after : O) (f : EngineFault)
     → (goes_on manner ≡ false → count ≡ 0) → WritesLast (last_line_of manner tally count) count answer first last → IsErrOf answer (stop.Engine f) → StaysIfInOneLine manner before after

@@ -43,8 +43,8 @@ use Rattle.fw_command.specs.Writing.{IsWritten, IsCutOff}
 -- what a fault of the engine in a step leaves
 step_left : (old new : Engine) (before after : Option Records) (step : Step) (f : EngineFault)
     → ((sys : System) (state : Machine) → StandsFor sys old before state → IsErrOf {T = Stepped} (Err f) fault.StoreFault → IsLeftBy sys state step (λ next. StandsFor sys new after next))
-    → ((id : ℕ) (sys : System) (state : Machine) → StandsFor sys old before state → IsErrOf {T = Stepped} (Err f) (fault.Damaged id) → (before ≡ None) × IsStepEnabled sys state Recover × StandsFor sys new after state)
-    → (sys : System) (state : Machine) → StandsFor sys old before state → IsLeftAfter sys (One step) f before new after state
+    → ((id : ℕ) (sys : System) (state : Machine) → StandsFor sys old before state → IsErrOf {T = Stepped} (Err f) (fault.Damaged id) → (after ≡ None) × IsStepEnabled sys state Recover × StandsFor sys new after state)
+    → (sys : System) (state : Machine) → StandsFor sys old before state → IsLeftAfter sys (One step) f new after state
 step_left old new before after step fault.StoreFault faulted unharmed sys state st = faulted sys state st refl
 step_left old new before after step (fault.Damaged id) faulted unharmed sys state st =
     let h = unharmed id sys state st refl in
@@ -54,7 +54,7 @@ step_left old new before after step fault.NoMemory faulted unharmed sys state st
 -- the engine took no step
 pub step_stopped : (T : Type 0) (old new : Engine) (before after : Option Records) (step : Step) (tally : StepCounts) (f : EngineFault) (view : SinkView) → tally.sum < 2 ^ 64
     → ((sys : System) (state : Machine) → StandsFor sys old before state → IsErrOf {T = Stepped} (Err f) fault.StoreFault → IsLeftBy sys state step (λ next. StandsFor sys new after next))
-    → ((id : ℕ) (sys : System) (state : Machine) → StandsFor sys old before state → IsErrOf {T = Stepped} (Err f) (fault.Damaged id) → (before ≡ None) × IsStepEnabled sys state Recover × StandsFor sys new after state)
+    → ((id : ℕ) (sys : System) (state : Machine) → StandsFor sys old before state → IsErrOf {T = Stepped} (Err f) (fault.Damaged id) → (after ≡ None) × IsStepEnabled sys state Recover × StandsFor sys new after state)
     → PrintsItem {T = T} old before (One step) tally (Err (stop.Engine f)) new after tally view view
 step_stopped T old new before after step tally f view fits faulted unharmed = record {
   bytes = [];
@@ -80,11 +80,11 @@ of_step sys state step stepped new after f =
 line_of-step : (sys : System) (flow : Dataflow) (new : Engine) (after : Option Records) (state : Machine) (stepped : Stepped) → flow ≡ flow_of new → StandsFor sys new after state
     → outcome_text flow (outcome_of stepped) ≡ outcomes_text sys.flow (outcome_of stepped ∷ [])
 line_of-step sys flow new after state stepped e st =
-    ap (λ (f : Dataflow). outcome_text f (outcome_of stepped)) (e ∙ st.flow) ∙ sym (text_of_one sys.flow (outcome_of stepped))
+    ap (λ (f : Dataflow). outcome_text f (outcome_of stepped)) (e ∙ st.apart.flow) ∙ sym (text_of_one sys.flow (outcome_of stepped))
 
 -- it took the step, and its lines were cut off
 pub step_begun : (T : Type 0) (old new : Engine) (before after : Option Records) (step : Step) (tally counts : StepCounts) (flow : Dataflow) (stepped : Stepped) (f : OutFault) (first last : SinkView)
-    → flow ≡ flow_of new → ((sys : System) (state : Machine) → StandsFor sys old before state → Trusts sys state step before → FollowsStep sys state step stepped new after)
+    → flow ≡ flow_of new → ((sys : System) (state : Machine) → StandsFor sys old before state → Trusts sys state step after → FollowsStep sys state step stepped new after)
     → IsCutOff (outcome_text flow (outcome_of stepped)) f first last → PrintsItem {T = T} old before (One step) tally (Err (stop.Out f)) new after counts first last
 step_begun T old new before after step tally counts flow stepped f first last e follows c =
     let part = taken_part (outcome_text flow (outcome_of stepped)) f first last c in
@@ -102,7 +102,7 @@ step_begun T old new before after step tally counts flow stepped f first last e 
 
 -- or were written
 pub step_taken : {T : Type 0} (old new : Engine) (before after : Option Records) (step : Step) (tally counts : StepCounts) (flow : Dataflow) (stepped : Stepped) (value : T) (first last : SinkView)
-    → flow ≡ flow_of new → ((sys : System) (state : Machine) → StandsFor sys old before state → Trusts sys state step before → FollowsStep sys state step stepped new after)
+    → flow ≡ flow_of new → ((sys : System) (state : Machine) → StandsFor sys old before state → Trusts sys state step after → FollowsStep sys state step stepped new after)
     → counts ≡ with_tally tally (tally_of (outcome_of stepped ∷ [])) → IsWritten (outcome_text flow (outcome_of stepped)) first last
     → PrintsItem {T = T} old before (One step) tally (Ok value) new after counts first last
 step_taken old new before after step tally counts flow stepped value first last e follows i w = record {
@@ -155,7 +155,7 @@ more_goes sys state count tally counts more bytes mid new between after flow sho
     let longer : length (g.steps ++ t.0 ∷ []) ≡ length g.steps + suc zero = length-append g.steps (t.0 ∷ []) in
     let one : IsAutoRun sys g.now (suc zero) (t.0 ∷ []) next = (next, shown, t.1, refl) in
     let line : outcome_text flow (did shown) ≡ outcomes_text sys.flow (did shown ∷ []) =
-    ap (λ (f : Dataflow). outcome_text f (did shown)) (e ∙ st.flow) ∙ sym (text_of_one sys.flow (did shown)) in
+    ap (λ (f : Dataflow). outcome_text f (did shown)) (e ∙ st.apart.flow) ∙ sym (text_of_one sys.flow (did shown)) in
     record {
       steps = g.steps ++ t.0 ∷ [];
       full = omega (arith, longer, g.full);
@@ -252,7 +252,7 @@ auto_begun T old mid new before between after flow (Did shown) count most tally 
           let g = s.goes sys state st in
           let next = follows sys g.now g.stands in
           let one = more_goes sys state count tally counts more s.bytes mid new between after flow (effect_of shown) next.next g m e next.takes next.stands in
-          let rest = item-run sys one.stands.well_formed one.stands.reached.0 one.stands.reached.1 one.now one.stands.reached.2 (Auto (most - count - 1)) in
+          let rest = item-run sys one.stands.apart.well_formed one.stands.apart.reached.0 one.stands.apart.reached.1 one.now one.stands.apart.reached.2 (Auto (most - count - 1)) in
           let all : length one.steps + (most - count - 1) ≡ most = omega (arith, below, one.full) in
           let lines : outcomes_text sys.flow (one.outcomes ++ rest.outcomes) ≡ (s.bytes ++ (part.one ++ part.other)) ++ outcomes_text sys.flow rest.outcomes =
           text-append sys.flow one.outcomes rest.outcomes
@@ -273,14 +273,14 @@ auto_begun T old mid new before between after flow (Did shown) count most tally 
 auto_begun T old mid new before between after flow Idle count most tally counts more f first middle last s below m e follows i c = absurd (true≢false i)
 
 -- what a fault of the engine in such a step leaves
-auto_left : (mid new : Engine) (before between after : Option Records) (most : ℕ) (f : EngineFault)
+auto_left : (mid new : Engine) (between after : Option Records) (most : ℕ) (f : EngineFault)
     → ((sys : System) (state : Machine) → StandsFor sys mid between state → IsErrOf {T = Stepped} (Err f) fault.StoreFault → FirstMayCall sys state)
     → ((sys : System) (state : Machine) → StandsFor sys mid between state → IsErrOf {T = Stepped} (Err f) fault.StoreFault → StandsFor sys new after state)
     → ((id : ℕ) → IsErrOf {T = Stepped} (Err f) (fault.Damaged id) → ⊥)
-    → (sys : System) (state : Machine) → StandsFor sys mid between state → IsLeftAfter sys (Auto most) f before new after state
-auto_left mid new before between after most fault.StoreFault calls faulted unharmed sys state st = (calls sys state st refl, faulted sys state st refl)
-auto_left mid new before between after most (fault.Damaged id) calls faulted unharmed sys state st = absurd (unharmed id refl)
-auto_left mid new before between after most fault.NoMemory calls faulted unharmed sys state st = tt
+    → (sys : System) (state : Machine) → StandsFor sys mid between state → IsLeftAfter sys (Auto most) f new after state
+auto_left mid new between after most fault.StoreFault calls faulted unharmed sys state st = (calls sys state st refl, faulted sys state st refl)
+auto_left mid new between after most (fault.Damaged id) calls faulted unharmed sys state st = absurd (unharmed id refl)
+auto_left mid new between after most fault.NoMemory calls faulted unharmed sys state st = tt
 
 -- the engine took no step more
 pub auto_stopped : (T : Type 0) (old mid new : Engine) (before between after : Option Records) (count most : ℕ) (tally counts : StepCounts) (f : EngineFault) (first last : SinkView)
@@ -303,7 +303,7 @@ auto_stopped T old mid new before between after count most tally counts f first 
         run = g.run;
         counted = g.counted;
         text = g.text;
-        so = auto_left mid new before between after most f calls faulted unharmed sys g.now g.stands;
+        so = auto_left mid new between after most f calls faulted unharmed sys g.now g.stands;
       };
 }
 

@@ -14,7 +14,7 @@ use Rattle.fw_run.specs.Stopping.{HoldsWrites, IsEntryIn}
 -- the store holds the writes of the state
 pub holds-writes : (sys : System) (engine : Engine) → AreAscending (ids_of (keep_of engine).entries) → (records : Option Records) (state : Machine)
     → StandsFor sys engine records state → HoldsWrites sys records state
-holds-writes sys engine ordered records state st = record { entries = engine.running.parts.keep.entries; ascending = ordered; of_writes = st.entries; held = st.stored }
+holds-writes sys engine ordered records state st = record { entries = engine.running.parts.keep.entries; ascending = ordered; of_writes = st.apart.entries; held = st.apart.stored }
 
 -- what stands beside an element
 beside : {A B : Type 0} (R : A → B → Type 0) (xs : List A) (ys : List B) (x : A) (k : ℕ) → AllZip R xs ys → k < length xs → get_or xs k x ≡ x → (y : B) × Contains ys y × R x y
@@ -29,4 +29,4 @@ beside R (a ∷ xs) (b ∷ ys) x (suc k) z h e =
 pub entry-in : (sys : System) (engine : Engine) (records : Option Records) (state : Machine) (entry : Entry) → StandsFor sys engine records state
     → Contains engine.running.parts.keep.entries entry → IsEntryIn sys entry state
 entry-in sys engine records state entry st c =
-    beside (IsEntryOf sys state) engine.running.parts.keep.entries (uncollected state) entry c.0 st.entries c.1 c.2
+    beside (IsEntryOf sys state) engine.running.parts.keep.entries (uncollected state) entry c.0 st.apart.entries c.1 c.2

@@ -105,7 +105,7 @@ so_far-next goes_on sys items item old new before after tally counts count more 
     }
 
 pub taken-more : (goes_on : Bool) (Tells : Type 0) (sys : System) (items : List Item) (i : ℕ) (old new : Engine) (before after : Option Records) (item : Item) (tally counts : StepCounts) (count more : ℕ)
-    (IsCount : ℕ → Type 0) (first middle last : SinkView) → (Tells → IsSome before) → AreTaken goes_on Tells sys items i tally count (StandsFor sys old before) first middle
+    (IsCount : ℕ → Type 0) (first middle last : SinkView) → (Tells → IsSome after) → AreTaken goes_on Tells sys items i tally count (StandsFor sys old before) first middle
     → i < length items → item ≡ get_or items i item → PrintsThrough goes_on old before item tally IsCount (Ok more) new after counts middle last
     → AreTaken goes_on Tells sys items (i + 1) counts (count + more) (StandsFor sys new after) first last
 taken-more goes_on Tells sys items i old new before after item tally counts count more IsCount first middle last told u below e p = record {
@@ -119,7 +119,7 @@ taken-more goes_on Tells sys items i old new before after item tally counts coun
     so_far k =
         let at = one_more-item items i item below e in
         let s = u.so_far (known_before goes_on Tells sys i (i + 1) items (omega arith) k) in
-        let trusts = run_trusts goes_on Tells sys (take i items) item before told (subst (IsRunKnown goes_on Tells sys) at k) s.run in
+        let trusts = run_trusts goes_on Tells sys (take i items) item after told (subst (IsRunKnown goes_on Tells sys) at k) s.run in
         subst (λ (xs : List Item). IsSoFar goes_on sys xs counts (count + more) (u.bytes ++ p.bytes) (StandsFor sys new after)) (sym at)
         (so_far-next goes_on sys (take i items) item old new before after tally counts count more u.bytes p.bytes s (p.does sys s.run.of_items.last s.so trusts))
 
@@ -132,6 +132,20 @@ taken-more goes_on Tells sys items i old new before after item tally counts coun
           (begins-all goes_on sys (take (i + 1) items) counts (count + more) (u.bytes ++ p.bytes) (StandsFor sys new after) s)
       | inr among ↦ begins-more goes_on sys (take n items) u.bytes p.bytes (u.begins n among k)
     ]
+
+-- what is known where the store tells its records is known where it still tells them
+taken-known : (goes_on : Bool) (Tells Still : Type 0) (sys : System) (items : List Item) → (Still → Tells) → IsRunKnown goes_on Still sys items → IsRunKnown goes_on Tells sys items
+taken-known goes_on Tells Still sys items so (inl still) = inl (so still)
+taken-known goes_on Tells Still sys items so (inr none) = inr none
+
+pub taken-told : {goes_on : Bool} {Tells Still : Type 0} {sys : System} {items : List Item} {i : ℕ} {tally : StepCounts} {count : ℕ} {IsSo : Machine → Type 0} {first last : SinkView}
+    → (Still → Tells) → AreTaken goes_on Tells sys items i tally count IsSo first last → AreTaken goes_on Still sys items i tally count IsSo first last
+taken-told {goes_on} {Tells} {Still} {sys} {items} {i} so u = record {
+  bytes = u.bytes;
+  written = u.written;
+  so_far = λ k. u.so_far (taken-known goes_on Tells Still sys (take i items) so k);
+  begins = λ n h k. u.begins n h (taken-known goes_on Tells Still sys (take n items) so k);
+}
 
 -- all items were taken, and the store holds the writes of the last state
 pub taken-all : (goes_on : Bool) (Tells : Type 0) (sys : System) (items : List Item) (i : ℕ) (engine : Engine) (records : Option Records) (tally : StepCounts) (count : ℕ) (first last : SinkView)
@@ -171,12 +185,12 @@ part_of-first goes_on sys w items others r bytes more IsCount e is =
 
 -- what a fault in an item says of its lines
 fault_broken : (goes_on : Bool) (sys : System) (item : Item) (state : Machine) (steps : List Step) (outcomes : List Outcome) (old counts : StepCounts) (bytes : List ℕ) (IsCount : ℕ → Type 0) (f : RunFault)
-    (before : Option Records) (new : Engine) (after : Option Records) → IsWellFormedSystem sys → Run sys (first_state sys) steps outcomes state
-    → TrustsItem sys state item before → EnduresItem goes_on sys state item old counts bytes IsCount (Err f) before new after
+    (new : Engine) (after : Option Records) → IsWellFormedSystem sys → Run sys (first_state sys) steps outcomes state
+    → TrustsItem sys state item after → EnduresItem goes_on sys state item old counts bytes IsCount (Err f) new after
     → IsItemBroken goes_on sys state item old bytes (IsCountAt f IsCount)
-fault_broken goes_on sys item state steps outcomes old counts bytes IsCount (stop.Out f) before new after w r trusts d = d trusts
-fault_broken goes_on sys item state steps outcomes old counts bytes IsCount (stop.Engine f) before new after w r trusts d =
-    item_broken goes_on sys state item old bytes (IsCountAt (stop.Engine f) IsCount) d.1 (stopped_begun sys item state steps outcomes old counts bytes (IsLeftAfter sys item f before new after) w r d.0)
+fault_broken goes_on sys item state steps outcomes old counts bytes IsCount (stop.Out f) new after w r trusts d = d trusts
+fault_broken goes_on sys item state steps outcomes old counts bytes IsCount (stop.Engine f) new after w r trusts d =
+    item_broken goes_on sys state item old bytes (IsCountAt (stop.Engine f) IsCount) d.1 (stopped_begun sys item state steps outcomes old counts bytes (IsLeftAfter sys item f new after) w r d.0)
 
 -- so often the store failed, and then so often more
 rose_at : (f : RunFault) (a b c n k : ℕ) → RoseBy a b n → IsCountAt f (RoseBy b c) k → IsCountAt f (RoseBy a c) (n + k)
@@ -187,7 +201,7 @@ rose_at (stop.Engine fault.NoMemory) a b c n k e h = rose_more a b c n k e h
 
 -- the run stops in the item of this place
 pub cut_off-at : (goes_on : Bool) (Tells : Type 0) (sys : System) (items : List Item) (i : ℕ) (old new : Engine) (before after : Option Records) (item : Item) (tally counts : StepCounts)
-    (count a b c : ℕ) (f : RunFault) (first middle last : SinkView) → IsWellFormedSystem sys → (Tells → IsSome before)
+    (count a b c : ℕ) (f : RunFault) (first middle last : SinkView) → IsWellFormedSystem sys → (Tells → IsSome after)
     → AreTaken goes_on Tells sys items i tally count (StandsFor sys old before) first middle → i < length items → item ≡ get_or items i item
     → PrintsThrough goes_on old before item tally (RoseBy b c) (Err f) new after counts middle last → RoseBy a b count
     → AreCutOff goes_on Tells sys items f (RoseBy a c) first last
@@ -204,8 +218,8 @@ cut_off-at goes_on Tells sys items i old new before after item tally counts coun
         let known = subst (IsRunKnown goes_on Tells sys) (one_more-item items i item below e) k in
         let s = u.so_far (run_known-less goes_on Tells sys (take i items) (item ∷ []) known) in
         let r = s.run.of_items in
-        let trusts = run_trusts goes_on Tells sys (take i items) item before told known s.run in
-        let broken = fault_broken goes_on sys item r.last r.steps (outcomes_in r.reports) tally counts p.bytes (RoseBy b c) f before new after w r.run trusts (p.does sys r.last s.so) in
+        let trusts = run_trusts goes_on Tells sys (take i items) item after told known s.run in
+        let broken = fault_broken goes_on sys item r.last r.steps (outcomes_in r.reports) tally counts p.bytes (RoseBy b c) f new after w r.run trusts (p.does sys r.last s.so) in
         let next = through-next goes_on sys (take i items) item s.run broken.of_item broken.may in
         let number : tally.steps ≡ 0 + length r.reports = omega (arith, ap (λ (c : StepCounts). c.steps) s.counted) in
         let lines : reports_text sys.flow 0 next.of_items.reports ≡ (u.bytes ++ p.bytes) ++ broken.others =
@@ -287,7 +301,7 @@ store_stops goes_on Tells sys items i old new before after item tally counts cou
 -- ---- a damaged record
 
 damage_stops : (goes_on : Bool) (Tells : Type 0) (sys : System) (items : List Item) (i id : ℕ) (old new : Engine) (before after : Option Records) (given : Option (ℕ × List ℕ)) (tally counts : StepCounts)
-    (count a b c : ℕ) (first middle last : SinkView) → (Tells → IsSome before) → AreTaken goes_on Tells sys items i tally count (StandsFor sys old before) first middle → i < length items
+    (count a b c : ℕ) (first middle last : SinkView) → (Tells → IsSome after) → AreTaken goes_on Tells sys items i tally count (StandsFor sys old before) first middle → i < length items
     → items ≡ take i items ++ One Recover ∷ drop (i + 1) items → flow_of old ≡ sys.flow
     → PrintsThrough goes_on old before (One Recover) tally (RoseBy b c) (Err (stop.Engine (fault.Damaged id))) new after counts middle last → IsDamaged old id given → RoseBy a b count
     → AreDamaged goes_on Tells sys items id given (RoseBy a c) first last
@@ -300,7 +314,7 @@ damage_stops goes_on Tells sys items i id old new before after given tally count
   untold = λ tells.
       let s = u.so_far (inl tells) in
       let t = (p.does sys s.run.of_items.last s.so).0 in
-      none_told before t.so.0 (told tells);
+      none_told after t.so.0 (told tells);
   entry = d.entry;
   named = d.named;
   read = d.bytes;
@@ -322,7 +336,7 @@ damage_stops goes_on Tells sys items i id old new before after given tally count
 
 -- what ends the run in the item of this place
 pub ends-at : (goes_on : Bool) (Tells : Type 0) (sys : System) (items : List Item) (i : ℕ) (start old new : Engine) (begun before after : Option Records) (given : Option (ℕ × List ℕ)) (item : Item)
-    (tally counts : StepCounts) (count a b c : ℕ) (f : RunFault) (first middle last : SinkView) → StandsFor sys start begun (first_state sys) → flow_of old ≡ flow_of start → (Tells → IsSome before)
+    (tally counts : StepCounts) (count a b c : ℕ) (f : RunFault) (first middle last : SinkView) → StandsFor sys start begun (first_state sys) → flow_of old ≡ flow_of start → (Tells → IsSome after)
     → AreTaken goes_on Tells sys items i tally count (StandsFor sys old before) first middle → i < length items → item ≡ get_or items i item → AreAscending (ids_of (keep_of new).entries)
     → PrintsThrough goes_on old before item tally (RoseBy b c) (Err f) new after counts middle last → RoseBy a b count
     → (IsErrOf {T = ℕ} (Err f) (stop.Engine fault.StoreFault) → (goes_on ≡ false) × MayCallIn (flow_of old) item)
@@ -333,11 +347,11 @@ ends-at goes_on Tells sys items i start old new begun before after given item ta
     let h = stops refl in (
       h.0,
       store_stops goes_on Tells sys items i old new before after item tally counts count (RoseBy b c) first middle last h.0 u below e
-          (subst (λ (flow : Dataflow). MayCallIn flow item) (same ∙ st.flow) h.1) ordered p,
+          (subst (λ (flow : Dataflow). MayCallIn flow item) (same ∙ st.apart.flow) h.1) ordered p,
     )
 ends-at goes_on Tells sys items i start old new begun before after given item tally counts count a b c (stop.Engine (fault.Damaged id)) first middle last st same told u below e ordered p rose stops recovers damaged =
     let recover = recovers id refl in
     damage_stops goes_on Tells sys items i id old new before after given tally counts count a b c first middle last told u below
-    (subst (λ (x : Item). items ≡ take i items ++ x ∷ drop (i + 1) items) recover (parts_at items i item below e)) (same ∙ st.flow)
+    (subst (λ (x : Item). items ≡ take i items ++ x ∷ drop (i + 1) items) recover (parts_at items i item below e)) (same ∙ st.apart.flow)
     (subst (λ (x : Item). PrintsThrough goes_on old before x tally (RoseBy b c) (Err (stop.Engine (fault.Damaged id))) new after counts middle last) recover p) (damaged id refl) rose
 ends-at goes_on Tells sys items i start old new begun before after given item tally counts count a b c (stop.Engine fault.NoMemory) first middle last st same told u below e ordered p rose stops recovers damaged = tt

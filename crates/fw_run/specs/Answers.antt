@@ -1,5 +1,5 @@
 -- What a call answers: one record of all that is promised of it.
-use Rattle.std.specs.Prelude.{◌≡◌, ◌⊎◌, ◌≤◌, ◌↔◌, ℕ, List, Option, None, IsSome, is_some}
+use Rattle.std.specs.Prelude.{◌≡◌, ◌⊎◌, ◌≤◌, ◌↔◌, ℕ, List, Option, None, IsSome}
 use Rattle.fw_outside.specs.declared.fault.OutFault.TheVariants as output
 use Rattle.fw_outside.specs.Outside.{StoreView, SinkView}
 use Rattle.fw_lines.specs.declared.refusal.Refusal.{Refusal}
@@ -86,7 +86,7 @@ pub record RunAnswers {F K O : Type 0} (known : Known F K O) (call : Call) (befo
   pub out_count : CountsWrites status (known.out before.out) (known.out after.out)
   pub never_fall : (known.read_faults before.folder ≤ known.read_faults after.folder)
       × ((known.store before.store).faults ≤ (known.store after.store).faults) × NeverFall (known.out before.out) (known.out after.out)
-  -- a store that tells its records goes on telling them
-  pub tells : is_some (known.store after.store).records ≡ is_some (known.store before.store).records
+  -- a store that tells its records at the end told them before: it may cease to tell them, and does not begin
+  pub told_before : TellsRecords known after → TellsRecords known before
   -- Which texts are refused and of which all is printed.
   pub answer : AnswersTexts (TellsRecords known after) call status

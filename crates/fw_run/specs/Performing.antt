@@ -54,7 +54,7 @@ WritesUntil bytes (Err (stop.Engine fault)) before after = IsPartWritten bytes b
 
 -- ---- an item
 
--- the item reads what was put
+-- the item reads what was put, by what the store tells afterwards
 abbrev pub TrustsItem : System → Machine → Item → Option Records → Type 0
 TrustsItem sys state (One step) records = Trusts sys state step records
 TrustsItem sys state (Auto most) records = Unit {0}
@@ -87,20 +87,20 @@ pub record IsItemStopped (sys : System) (state : Machine) (item : Item) (old new
   pub so : IsSo now
 
 -- what an engine's fault in the item leaves, where it stood for the state: after a fault of the store what that leaves; a record is
--- damaged only where the store does not tell its records, and a recovery is enabled
-abbrev pub IsLeftAfter : System → Item → EngineFault → Option Records → Engine → Option Records → Machine → Type 0
-IsLeftAfter sys item fault.StoreFault before new after state = IsLeftIn sys state item (StandsFor sys new after)
-IsLeftAfter sys item (fault.Damaged id) before new after state = (before ≡ None) × IsStepEnabled sys state Recover
-IsLeftAfter sys item fault.NoMemory before new after state = Unit {0}
+-- damaged only where the store does not tell its records, or no more, and a recovery is enabled
+abbrev pub IsLeftAfter : System → Item → EngineFault → Engine → Option Records → Machine → Type 0
+IsLeftAfter sys item fault.StoreFault new after state = IsLeftIn sys state item (StandsFor sys new after)
+IsLeftAfter sys item (fault.Damaged id) new after state = (after ≡ None) × IsStepEnabled sys state Recover
+IsLeftAfter sys item fault.NoMemory new after state = Unit {0}
 
 -- what an answer to an item says of the bytes that were written, where the engine stood for the state
-abbrev pub DoesItem : {T : Type 0} → System → Machine → Item → StepCounts → StepCounts → List ℕ → Result T RunFault → Option Records → Engine → Option Records
+abbrev pub DoesItem : {T : Type 0} → System → Machine → Item → StepCounts → StepCounts → List ℕ → Result T RunFault → Engine → Option Records
     → Type 0
-DoesItem sys state item old new bytes (Ok value) before engine after =
-    TrustsItem sys state item before → IsItemTaken sys state item old new bytes engine after
-DoesItem sys state item old new bytes (Err (stop.Out fault)) before engine after = TrustsItem sys state item before → IsItemBegun sys state item bytes
-DoesItem sys state item old new bytes (Err (stop.Engine fault)) before engine after =
-    IsItemStopped sys state item old new bytes (IsLeftAfter sys item fault before engine after)
+DoesItem sys state item old new bytes (Ok value) engine after =
+    TrustsItem sys state item after → IsItemTaken sys state item old new bytes engine after
+DoesItem sys state item old new bytes (Err (stop.Out fault)) engine after = TrustsItem sys state item after → IsItemBegun sys state item bytes
+DoesItem sys state item old new bytes (Err (stop.Engine fault)) engine after =
+    IsItemStopped sys state item old new bytes (IsLeftAfter sys item fault engine after)
 
 -- What an answer to an item says: some bytes were written, and from each state for which the engine stood they are the lines of the
 -- item, or first bytes of these.
@@ -108,7 +108,7 @@ pub record PrintsItem {T : Type 0} (old : Engine) (before : Option Records) (ite
     (new : Engine) (after : Option Records) (counts : StepCounts) (first last : SinkView) : Type 0 where
   pub bytes : List ℕ
   pub taken : IsTaken bytes answer first last
-  pub does : (sys : System) (state : Machine) → StandsFor sys old before state → DoesItem sys state item counted counts bytes answer before new after
+  pub does : (sys : System) (state : Machine) → StandsFor sys old before state → DoesItem sys state item counted counts bytes answer new after
 
 -- the tally has room for the steps of the item
 pub record HasRoom (tally : StepCounts) (item : Item) : Type 0 where

@@ -1,5 +1,5 @@
 -- The status of a command, and the line that stands for it.
-use Rattle.std.specs.Prelude.{◌≡◌, ◌⊎◌, ℕ, List, [], ◌∷◌, ◌++◌, codes}
+use Rattle.std.specs.Prelude.{◌≡◌, ◌⊎◌, ℕ, List, [], ◌∷◌, ◌++◌, Option, Some, None, codes}
 use Rattle.std.specs.Fmt.{decimal}
 use Rattle.fw_outside.specs.Outside.{SinkView, one_more, TakesPrefix}
 use Rattle.fw_lines.specs.declared.refusal.Code.{Code}
@@ -44,6 +44,11 @@ status_number WriteFault = 7
 status_number StoreFault = 8
 status_number (Damaged id) = 9
 status_number NoMemory = 10
+
+-- the refusal that a status tells, if it tells one
+abbrev pub refusal_of : Status → Option Refusal
+refusal_of (Refused refusal) = Some refusal
+refusal_of status = None
 
 -- how often a folder has failed that fails once where the status tells it, and else never
 abbrev pub read_faults_told : Status → ℕ → ℕ

@@ -80,13 +80,13 @@ IsCountAt (stop.Engine fault.NoMemory) IsCount count = IsCount count
 
 -- what an answer to an item says of the bytes that were written, where the engine stood for the state
 abbrev pub EnduresItem : Bool → System → Machine → Item → StepCounts → StepCounts → List ℕ → (ℕ → Type 0) → Result ℕ RunFault
-    → Option Records → Engine → Option Records → Type 0
-EnduresItem goes_on sys state item old new bytes IsCount (Ok count) before engine after =
-    TrustsItem sys state item before → IsItemEndured goes_on sys state item old new count bytes engine after
-EnduresItem goes_on sys state item old new bytes IsCount (Err (stop.Out f)) before engine after =
-    TrustsItem sys state item before → IsItemBroken goes_on sys state item old bytes IsCount
-EnduresItem goes_on sys state item old new bytes IsCount (Err (stop.Engine f)) before engine after =
-    IsItemStopped sys state item old new bytes (IsLeftAfter sys item f before engine after) × IsCountAt (stop.Engine f) IsCount 0
+    → Engine → Option Records → Type 0
+EnduresItem goes_on sys state item old new bytes IsCount (Ok count) engine after =
+    TrustsItem sys state item after → IsItemEndured goes_on sys state item old new count bytes engine after
+EnduresItem goes_on sys state item old new bytes IsCount (Err (stop.Out f)) engine after =
+    TrustsItem sys state item after → IsItemBroken goes_on sys state item old bytes IsCount
+EnduresItem goes_on sys state item old new bytes IsCount (Err (stop.Engine f)) engine after =
+    IsItemStopped sys state item old new bytes (IsLeftAfter sys item f engine after) × IsCountAt (stop.Engine f) IsCount 0
 
 -- What an answer to an item says: some bytes were written, and from each state for which the engine stood they are the lines of the
 -- item's steps, or first bytes of these.
@@ -95,7 +95,7 @@ pub record PrintsThrough (goes_on : Bool) (old : Engine) (before : Option Record
   pub bytes : List ℕ
   pub taken : IsTaken bytes answer first last
   pub does : (sys : System) (state : Machine) → StandsFor sys old before state
-      → EnduresItem goes_on sys state item counted counts bytes IsCount answer before new after
+      → EnduresItem goes_on sys state item counted counts bytes IsCount answer new after
 
 -- ---- items
 

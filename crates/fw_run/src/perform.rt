@@ -1,5 +1,5 @@
 //! The steps of an item are taken and what comes of them is printed.
-ghost use Rattle.std.specs.Prelude.{◌≡◌, ℕ, IsErrOf, is_some};
+ghost use Rattle.std.specs.Prelude.{◌≡◌, ℕ, IsErrOf, IsSome};
 ghost use Rattle.fw_flow.specs.declared.step.Step.TheVariants.{Recover};
 ghost use Rattle.fw_keep.specs.Catalogue.{AreAscending, ids_of};
 ghost use Rattle.fw_keep.specs.Stored.{IsStored};
@@ -36,7 +36,7 @@ pub(crate) fn perform_item<K: Store, O: Sink>(
     requires room { HasRoom tally.old item.now }
     ensures stored { IsStored (keep_of engine.new) (K.view store.new).records }
     ensures in_order { AreAscending (ids_of (keep_of engine.new).entries) }
-    ensures tells { is_some (K.view store.new).records ≡ is_some (K.view store.old).records }
+    ensures told_before { IsSome (K.view store.new).records → IsSome (K.view store.old).records }
     ensures flow { flow_of engine.new ≡ flow_of engine.old }
     ensures few { AreFew item.now result tally.old tally.new }
     ensures printed { PrintsItem engine.old (K.view store.old).records item.now tally.old result engine.new (K.view store.new).records tally.new
@@ -65,7 +65,7 @@ fn perform_step<K: Store, O: Sink>(
     requires room { HasRoom tally.old (Item.One step.now) }
     ensures stored { IsStored (keep_of engine.new) (K.view store.new).records }
     ensures in_order { AreAscending (ids_of (keep_of engine.new).entries) }
-    ensures tells { is_some (K.view store.new).records ≡ is_some (K.view store.old).records }
+    ensures told_before { IsSome (K.view store.new).records → IsSome (K.view store.old).records }
     ensures flow { flow_of engine.new ≡ flow_of engine.old }
     ensures few { AreFew (Item.One step.now) result tally.old tally.new }
     ensures printed { PrintsItem engine.old (K.view store.old).records (Item.One step.now) tally.old result engine.new (K.view store.new).records tally.new
@@ -95,7 +95,7 @@ fn perform_auto<K: Store, O: Sink>(
     requires room { HasRoom tally.old (Item.Auto most) }
     ensures stored { IsStored (keep_of engine.new) (K.view store.new).records }
     ensures in_order { AreAscending (ids_of (keep_of engine.new).entries) }
-    ensures tells { is_some (K.view store.new).records ≡ is_some (K.view store.old).records }
+    ensures told_before { IsSome (K.view store.new).records → IsSome (K.view store.old).records }
     ensures flow { flow_of engine.new ≡ flow_of engine.old }
     ensures few { AreFew (Item.Auto most) result tally.old tally.new }
     ensures printed { PrintsItem engine.old (K.view store.old).records (Item.Auto most) tally.old result engine.new (K.view store.new).records tally.new

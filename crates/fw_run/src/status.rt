@@ -1,7 +1,7 @@
 //! How a command ended.
 ghost use Rattle.std.specs.Prelude.{◌≡◌, Contains};
 ghost use Rattle.fw_run.specs.Status as spec;
-ghost use Rattle.fw_run.specs.Status.{status_number, status_numbers};
+ghost use Rattle.fw_run.specs.Status.{refusal_of, status_number, status_numbers};
 
 use fw_lines::{Code, Refusal};
 
@@ -41,6 +41,22 @@ impl Status {
             Status::StoreFault => 8,
             Status::Damaged { .. } => 9,
             Status::NoMemory => 10,
+        }
+    }
+
+    /// The refusal, where a text is refused.
+    pub fn refusal(&self) -> Option<Refusal>
+        ensures { result ≡ refusal_of self.now }
+    {
+        match self {
+            Status::Refused(refusal) => Some(*refusal),
+            Status::Done
+            | Status::BadWords
+            | Status::ReadFault
+            | Status::WriteFault
+            | Status::StoreFault
+            | Status::Damaged { .. }
+            | Status::NoMemory => None,
         }
     }
 }

@@ -1,5 +1,5 @@
 //! The steps of a schedule are taken, through faults of the store or up to the first, and what comes of them is told.
-ghost use Rattle.std.specs.Prelude.{◌≡◌, ◌+◌, ◌≤◌, ℕ, false, [], IfOk, IsErrOf, IsSome, is_some};
+ghost use Rattle.std.specs.Prelude.{◌≡◌, ◌+◌, ◌≤◌, ℕ, false, [], IfOk, IsErrOf, IsSome};
 ghost use Rattle.fw_flow.specs.declared.step.Step.TheVariants.{Recover};
 ghost use Rattle.fw_flow.specs.Dataflow.{System, system_of};
 ghost use Rattle.fw_schedule.specs.Schedule.{steps_in, step_count, step_limit};
@@ -43,7 +43,7 @@ pub(crate) fn perform<K: Store, O: Sink>(
     requires empty { IsEmptyStore (K.view store.old).records }
     ensures ends { EndsRun (IsSome (K.view store.new).records) (told_in manner) (system_of job.flow job.batches) job.items result (K.view store.old).faults
         (K.view store.new).faults (K.view store.new).records (K.view store.new).given (O.view out.old) (O.view out.new) }
-    ensures tells { is_some (K.view store.new).records ≡ is_some (K.view store.old).records }
+    ensures told_before { IsSome (K.view store.new).records → IsSome (K.view store.old).records }
     ensures nothing_told { (fault : Fault) → IsErrOf result (RunFault.Engine fault) → StaysIfInOneLine (told_in manner) out.old out.new }
 {
     let Job {
@@ -74,10 +74,10 @@ fn take<K: Store, O: Sink>(
     requires few { step_count items.now ≤ step_limit }
     requires none { tally.old ≡ tally_of [] }
     ensures taken { (sys : System) → StandsFor sys engine.old (K.view store.old).records (first_state sys)
-        → TakesItems (goes_on (told_in manner)) (IsSome (K.view store.old).records) sys items.now result tally.new
+        → TakesItems (goes_on (told_in manner)) (IsSome (K.view store.new).records) sys items.now result tally.new
         (RoseBy (K.view store.old).faults (K.view store.new).faults) (K.view store.new).records (K.view store.new).given
         (seen (told_in manner) (O.view out.old)) (seen (told_in manner) (O.view out.new)) }
-    ensures tells { is_some (K.view store.new).records ≡ is_some (K.view store.old).records }
+    ensures told_before { IsSome (K.view store.new).records → IsSome (K.view store.old).records }
     ensures none { goes_on (told_in manner) ≡ false → IfOk result (λ faults. faults ≡ 0) }
     ensures first { goes_on (told_in manner) ≡ false → (K.view store.new).faults ≡ faults_after_run result (K.view store.old).faults }
     ensures rises { StaysOrRose (K.view store.old).faults (K.view store.new).faults }
@@ -108,9 +108,9 @@ fn take_items<K: Store, O: Sink>(
     requires few { step_count items.now ≤ step_limit }
     requires none { tally.old ≡ tally_of [] }
     ensures taken { (sys : System) → StandsFor sys engine.old (K.view store.old).records (first_state sys)
-        → TakesItems goes_on (IsSome (K.view store.old).records) sys items.now result tally.new (RoseBy (K.view store.old).faults (K.view store.new).faults)
+        → TakesItems goes_on (IsSome (K.view store.new).records) sys items.now result tally.new (RoseBy (K.view store.old).faults (K.view store.new).faults)
         (K.view store.new).records (K.view store.new).given (O.view out.old) (O.view out.new) }
-    ensures tells { is_some (K.view store.new).records ≡ is_some (K.view store.old).records }
+    ensures told_before { IsSome (K.view store.new).records → IsSome (K.view store.old).records }
     ensures none { goes_on ≡ false → IfOk result (λ faults. faults ≡ 0) }
     ensures first { goes_on ≡ false → (K.view store.new).faults ≡ faults_after_run result (K.view store.old).faults }
     ensures rises { StaysOrRose (K.view store.old).faults (K.view store.new).faults }
@@ -138,7 +138,7 @@ fn take_item<K: Store, O: Sink>(
     requires room { HasRoom tally.old item.now }
     ensures stored { IsStored (keep_of engine.new) (K.view store.new).records }
     ensures in_order { AreAscending (ids_of (keep_of engine.new).entries) }
-    ensures tells { is_some (K.view store.new).records ≡ is_some (K.view store.old).records }
+    ensures told_before { IsSome (K.view store.new).records → IsSome (K.view store.old).records }
     ensures flow { flow_of engine.new ≡ flow_of engine.old }
     ensures of_steps { AreOfSteps tally.new }
     ensures few { tally.new.steps ≤ tally.old.steps + steps_in item.now }

@@ -1,5 +1,5 @@
 //! What a command does with its texts: they are read, and then it is printed what they ask for.
-ghost use Rattle.std.specs.Prelude.{◌≡◌, false, IfOk, IfErr, IsErrOf, IsSome, is_some};
+ghost use Rattle.std.specs.Prelude.{◌≡◌, false, IfOk, IfErr, IsErrOf, IsSome};
 ghost use Rattle.fw_keep.specs.Stored.{IsEmptyStore};
 ghost use Rattle.fw_running.specs.declared.fault.EngineFault.{EngineFault as Fault};
 ghost use Rattle.fw_command.specs.Command.{asks_folder};
@@ -79,7 +79,7 @@ pub(crate) fn print_work<K: Store, O: Sink>(
     requires ready { IsReadyWork work }
     requires empty { IsEmptyStore (K.view store.old).records }
     ensures ends { EndsWork (IsSome (K.view store.new).records) work result (K.view store.old) (K.view store.new) (O.view out.old) (O.view out.new) }
-    ensures tells { is_some (K.view store.new).records ≡ is_some (K.view store.old).records }
+    ensures told_before { IsSome (K.view store.new).records → IsSome (K.view store.old).records }
     ensures store_stays { StaysUnlessRun work store.old store.new }
     ensures nothing_told { (fault : Fault) → IsErrOf result (RunFault.Engine fault) → StaysIfToldInOne work out.old out.new }
 {

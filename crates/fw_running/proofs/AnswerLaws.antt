@@ -39,7 +39,7 @@ refused-after {T} result refused e n = e ∙ ap (λ (r : Result T EngineFault). 
 -- ---- the answers of a step
 
 pub taken : (old : Running) (before : Option Records) (step : Step) (result : Result Stepped EngineFault) (new : Running) (after : Option Records)
-    → TakesStep old before step result new after → (sys : System) (state : Machine) → Stands sys old before state → Trusts sys state step before
+    → TakesStep old before step result new after → (sys : System) (state : Machine) → Stands sys old before state → Trusts sys state step after
     → IfOk result (λ stepped. Follows sys state step (outcome_of stepped) new after)
 taken old before step (Ok stepped) new after t sys state s trust = t sys state s trust
 taken old before step (Err e) new after t sys state s trust = tt
@@ -63,19 +63,19 @@ shown old before (Ack o) (Ok stepped) new after t r sys state s = let f = t sys 
 pub left : (old : Running) (before : Option Records) (step : Step) (result : Result Stepped EngineFault) (new : Running) (after : Option Records)
     → TakesStep old before step result new after → (sys : System) (state : Machine) → Stands sys old before state → IsErrOf result fault.StoreFault
     → IsLeftBy sys state step (λ next. Stands sys new after next)
-left old before step result new after t sys state s e = subst (λ (r : Result Stepped EngineFault). Answers sys state step r before new after) e (t sys state s)
+left old before step result new after t sys state s e = subst (λ (r : Result Stepped EngineFault). Answers sys state step r new after) e (t sys state s)
 
 -- what a fault of the store leaves is answered at each fault that is no damage
-pub left-answers : (T : Type 0) (sys : System) (state : Machine) (step : Step) (e : EngineFault) (new : Running) (before after : Option Records)
-    → IsUndamaged {T = T} (Err e) → IsLeftBy sys state step (λ next. Stands sys new after next) → Answers sys state step (Err e) before new after
-left-answers T sys state step fault.StoreFault new before after u l = l
-left-answers T sys state step (fault.Damaged id) new before after u l = absurd u
-left-answers T sys state step fault.NoMemory new before after u l = tt
+pub left-answers : (T : Type 0) (sys : System) (state : Machine) (step : Step) (e : EngineFault) (new : Running) (after : Option Records)
+    → IsUndamaged {T = T} (Err e) → IsLeftBy sys state step (λ next. Stands sys new after next) → Answers sys state step (Err e) new after
+left-answers T sys state step fault.StoreFault new after u l = l
+left-answers T sys state step (fault.Damaged id) new after u l = absurd u
+left-answers T sys state step fault.NoMemory new after u l = tt
 
 pub unharmed : (old : Running) (before : Option Records) (step : Step) (result : Result Stepped EngineFault) (new : Running) (after : Option Records) (id : ℕ)
     → TakesStep old before step result new after → (sys : System) (state : Machine) → Stands sys old before state → IsErrOf result (fault.Damaged id)
-    → (before ≡ None) × IsStepEnabled sys state step × Stands sys new after state
-unharmed old before step result new after id t sys state s e = subst (λ (r : Result Stepped EngineFault). Answers sys state step r before new after) e (t sys state s)
+    → (after ≡ None) × IsStepEnabled sys state step × Stands sys new after state
+unharmed old before step result new after id t sys state s e = subst (λ (r : Result Stepped EngineFault). Answers sys state step r new after) e (t sys state s)
 
 -- ---- those of the first step that is enabled
 

@@ -106,9 +106,9 @@ still_up old mid progress up again of_flow =
 pub brought_up_stands : (sys : System) (state : Machine) (old new : Running) (records : Option Records) → Stands sys old records state → IsBroughtUp old new
     → Stands sys new records state
 brought_up_stands sys state old new records s up =
-    let progress : StandsForHistory sys (events state.history) new.progress = (up.fresh.complete sys (events state.history) (sym s.flow) s.progress).0 in
+    let progress : StandsForHistory sys (events state.history) new.progress = (up.fresh.complete sys (events state.history) (sym s.apart.flow) s.apart.progress).0 in
     subst (λ (r : Running). Stands sys r records state) (sym up.others)
-    (same-stands sys old old.parts.keep new.progress (record old.ready { growing = new.ready.growing }) records records state s (up.fresh.settled ∙ s.settled) progress s.entries s.stored)
+    (same-stands sys old old.parts.keep new.progress (record old.ready { growing = new.ready.growing }) records records state s (up.fresh.settled ∙ s.apart.settled) progress s.apart.entries s.apart.stored)
 
 -- and keeps its shape
 pub brought_up_shaped : (old new : Running) → IsShaped old → IsBroughtUp old new → IsShaped new

@@ -146,24 +146,26 @@ first-stands flow batches records running w f =
     let entries : running.parts.keep.entries ≡ [] = ap (λ (keep : KeepState). keep.entries) f.parts.keep in
     let nothing = first-holds_nothing sys in
     record {
-      flow = f.runs;
-      well_formed = w;
-      reached = first-reached sys;
-      settled = f.progress.settled;
-      failed = f.failed ∙ same_for_each false flow;
-      low = f.parts.low;
-      epochs = greatest_count-epochs sys running.epochs f.epochs;
-      tables = λ p l. first-table sys p (kind_of flow p) (policy_of flow p) (table_of running p) refl (f.parts.tables p l);
-      queues = λ e l. nothing-on running.parts.queues (length flow.edges) e f.parts.queues ∙ sym (nothing.queues e);
-      logs = λ e l. nothing-on running.parts.logs (length flow.edges) e f.parts.logs ∙ sym (nothing.logs e);
-      outputs = λ o l k. subst (λ (x : OutputState). IsOutputOf sys state o x)
-          (sym (all-same running.parts.outputs.outputs (length flow.nodes) o new_output (ap (λ (x : OutputsState). x.outputs) f.parts.outputs))) (nothing.outputs o);
-      sources = λ s l. source-stands sys s (source_of running s) w (source_there flow batches running.parts.sources s f.parts.sources);
-      progress = f.progress.stands;
+      apart = record {
+        flow = f.runs;
+        well_formed = w;
+        reached = first-reached sys;
+        settled = f.progress.settled;
+        failed = f.failed ∙ same_for_each false flow;
+        low = f.parts.low;
+        epochs = greatest_count-epochs sys running.epochs f.epochs;
+        tables = λ p l. first-table sys p (kind_of flow p) (policy_of flow p) (table_of running p) refl (f.parts.tables p l);
+        queues = λ e l. nothing-on running.parts.queues (length flow.edges) e f.parts.queues ∙ sym (nothing.queues e);
+        logs = λ e l. nothing-on running.parts.logs (length flow.edges) e f.parts.logs ∙ sym (nothing.logs e);
+        outputs = λ o l k. subst (λ (x : OutputState). IsOutputOf sys state o x)
+            (sym (all-same running.parts.outputs.outputs (length flow.nodes) o new_output (ap (λ (x : OutputsState). x.outputs) f.parts.outputs))) (nothing.outputs o);
+        sources = λ s l. source-stands sys s (source_of running s) w (source_there flow batches running.parts.sources s f.parts.sources);
+        progress = f.progress.stands;
+        entries = none-held (IsEntryOf sys state) running.parts.keep.entries entries;
+        stored = λ held e. none-held (IsHeldAs sys state held) running.parts.keep.entries entries;
+      };
       traces = λ p l. f.traces.none sys p (base_of sys state p);
       lost = λ p k t. (λ c. absurd (contains-none (lost_at running p) t (all-same running.lost.items (length flow.nodes) p [] f.lost) c), λ l. absurd (nothing.lost p t l));
-      entries = none-held (IsEntryOf sys state) running.parts.keep.entries entries;
-      stored = λ held e. none-held (IsHeldAs sys state held) running.parts.keep.entries entries;
     }
 
 -- ---- the shape

@@ -1,7 +1,7 @@
 -- The whole answer of a step, from those of its parts.
 use Rattle.std.proofs.Common.{◌≡◌, ℕ, Bool, true, false, [], Option, Result, Ok, Err, refl, subst, sym, ap, ◌∙◌}
 use Rattle.std.proofs.lemmas.Result.{err_from_is_err_and}
-use Rattle.std.specs.Prelude.{IsErrOf, OnOk, is_some}
+use Rattle.std.specs.Prelude.{IsErrOf, OnOk, IsSome, is_some}
 use Rattle.std.specs.Result.{IsErrAnd}
 use Rattle.fw_flow.specs.declared.step.Step.{Step}
 use Rattle.fw_flow.specs.declared.step.Step.TheVariants.{Recover, Collect}
@@ -181,7 +181,8 @@ module _ {K : Type 0} {view : K → StoreView} {old new : Running} {before after
     calls = p.calls;
     damaged = λ id e. absurd (no_damage result id p.undamaged e);
     in_recovery = λ id e. absurd (no_damage result id p.undamaged e);
-    tells = p.tells;
+    tells = λ other. p.tells;
+    told_before = λ told. sym p.tells ∙ told;
     swept = λ is. absurd (not-plain step Collect plain refl is);
     quiet = p.quiet;
     idle = λ other. idle;
@@ -195,7 +196,7 @@ module _ {K : Type 0} {view : K → StoreView} {old new : Running} {before after
     faults = a.faults;
     calls = a.calls;
     undamaged = undamaged-by result (λ id e. not-plain step Recover plain refl (a.in_recovery id e));
-    tells = a.tells;
+    tells = a.tells (not-plain step Recover plain refl);
     quiet = a.quiet;
   }
 
@@ -284,7 +285,8 @@ module _ {K : Type 0} {view : K → StoreView} {old new : Running} {before after
     calls = λ e. tt;
     damaged = λ id e. absurd (no_damage result id undamaged e);
     in_recovery = λ id e. absurd (no_damage result id undamaged e);
-    tells = tells;
+    tells = λ other. tells;
+    told_before = λ told. sym tells ∙ told;
     swept = λ is. swept;
     quiet = λ none. absurd (none tt);
     idle = λ other. absurd (other refl);
@@ -293,8 +295,8 @@ module _ {K : Type 0} {view : K → StoreView} {old new : Running} {before after
   pub recovery-answers : StaysShaped result new → IsStored new.parts.keep (view after).records → new.flow ≡ old.flow
       → TakesStep old (view before).records Recover result new (view after).records → ShowsOutcome old (view before).records Recover result
       → (view after).faults ≡ faults_after_step result (view before).faults → ((id : ℕ) → IsErrOf result (fault.Damaged id) → IsDamage old id (view after).given)
-      → is_some (view after).records ≡ is_some (view before).records → (result ≡ Ok Idle → after ≡ before) → StepAnswers view old before Recover result new after
-  recovery-answers shaped stored flow takes shows faults damaged tells idle = record {
+      → (IsSome (view after).records → IsSome (view before).records) → (result ≡ Ok Idle → after ≡ before) → StepAnswers view old before Recover result new after
+  recovery-answers shaped stored flow takes shows faults damaged told_before idle = record {
     shaped = shaped;
     stored = stored;
     flow = flow;
@@ -304,7 +306,8 @@ module _ {K : Type 0} {view : K → StoreView} {old new : Running} {before after
     calls = λ e. tt;
     damaged = damaged;
     in_recovery = λ id e. refl;
-    tells = tells;
+    tells = λ other. absurd (other refl);
+    told_before = told_before;
     swept = λ is. absurd (cc);
     quiet = λ none. absurd (none tt);
     idle = λ other. idle;
@@ -321,19 +324,19 @@ collection-refused {K} {view} {old} {new} {store} {result} stored flow is =
 module _ {K : Type 0} {view : K → StoreView} {old new : Running} {before after : K} {result : Result Stepped EngineFault} where
   pub recovery-fails : (e : EngineFault) → IsErrAnd result (λ x. x ≡ e) → IsShaped new → IsStored new.parts.keep (view after).records → new.flow ≡ old.flow
       → TakesStep old (view before).records Recover result new (view after).records → (view after).faults ≡ faults_after_step {T = Stepped} (Err e) (view before).faults
-      → ((id : ℕ) → IsErrOf result (fault.Damaged id) → IsDamage old id (view after).given) → is_some (view after).records ≡ is_some (view before).records
+      → ((id : ℕ) → IsErrOf result (fault.Damaged id) → IsDamage old id (view after).given) → (IsSome (view after).records → IsSome (view before).records)
       → StepAnswers view old before Recover result new after
-  recovery-fails e is shaped stored flow takes faults damaged tells =
+  recovery-fails e is shaped stored flow takes faults damaged told_before =
       let at = sym (handed result e is) in
       recovery-answers (stays-shaped result new shaped) stored flow takes
       (subst (λ (r : Result Stepped EngineFault). ShowsOutcome old (view before).records Recover r) at (λ sys state s. tt))
-      (subst (λ (r : Result Stepped EngineFault). (view after).faults ≡ faults_after_step r (view before).faults) at faults) damaged tells
+      (subst (λ (r : Result Stepped EngineFault). (view after).faults ≡ faults_after_step r (view before).faults) at faults) damaged told_before
       (subst (λ (r : Result Stepped EngineFault). r ≡ Ok Idle → after ≡ before) at (λ i. absurd (cc)))
 
   pub recovery-refused : IsErrAnd result (λ e. e ≡ fault.NoMemory) → IsStored new.parts.keep (view after).records → new.flow ≡ old.flow
-      → (view after).faults ≡ (view before).faults → is_some (view after).records ≡ is_some (view before).records
+      → (view after).faults ≡ (view before).faults → (IsSome (view after).records → IsSome (view before).records)
       → StepAnswers view old before Recover result new after
-  recovery-refused is stored flow faults tells =
+  recovery-refused is stored flow faults told_before =
       subst (λ (r : Result Stepped EngineFault). StepAnswers view old before Recover r new after) (sym (handed result fault.NoMemory is))
-      (recovery-answers tt stored flow (λ sys state s. tt) (λ sys state s. tt) faults (λ id e. absurd (no_damage {T = Stepped} (Err fault.NoMemory) id tt e)) tells
+      (recovery-answers tt stored flow (λ sys state s. tt) (λ sys state s. tt) faults (λ id e. absurd (no_damage {T = Stepped} (Err fault.NoMemory) id tt e)) told_before
       (λ i. absurd (cc)))

@@ -10,14 +10,16 @@ use Rattle.fw_model.specs.Reached.{IsReached}
 use Rattle.fw_model.specs.Steps.{HasEpoch}
 use Rattle.fw_keep.specs.Stored.{Records}
 use Rattle.fw_policy.specs.View.{IsLostAt}
+use Rattle.fw_progress.specs.declared.traces.Traces.{Traces}
 use Rattle.fw_progress.specs.History.{StandsForHistory}
 use Rattle.fw_stands.specs.Parts.{IsTableIn, queued, logged, IsOutputOf, IsSourceOf, IsTraceIn}
 use Rattle.fw_stands.specs.Written.{AreEntriesOf, AreStored, uncollected}
 use Rattle.fw_running.specs.declared.running.Running.{Running}
 use Rattle.fw_running.specs.Kept.{queue_at, log_at, table_of, source_of, output_of, lost_at}
 
--- The engine stands for a state of the system's machine, over these records of its store.
-pub record Stands (sys : System) (running : Running) (records : Option Records) (state : Machine) : Type 0 where
+-- All of an engine but its traces, and the stamps that it lost, stands for a state of the system's machine, over these records of
+-- its store.
+pub record StandsApart (sys : System) (running : Running) (records : Option Records) (state : Machine) : Type 0 where
   -- the two are of one system, and what both have is alike
   pub flow : running.flow ≡ sys.flow
   pub well_formed : IsWellFormedSystem sys
@@ -34,8 +36,21 @@ pub record Stands (sys : System) (running : Running) (records : Option Records) 
   pub outputs : (o : ℕ) → o < length sys.flow.nodes → is_output_kind (kind_of sys.flow o) ≡ true → IsOutputOf sys state o (output_of running o)
   pub sources : (s : ℕ) → s < length sys.flow.nodes → IsSourceOf sys state s (source_of running s)
   pub progress : StandsForHistory sys (events state.history) running.progress
-  pub traces : (p : ℕ) → p < length sys.flow.nodes → IsTraceIn sys state p running.traces
-  pub lost : (p : ℕ) → policy_of sys.flow p ≡ policy.Full → (t : Stamp) → Contains (lost_at running p) t ↔ IsLostAt sys state p t
   -- what is written
   pub entries : AreEntriesOf sys state running.parts.keep.entries (uncollected state)
   pub stored : AreStored sys state records running.parts.keep.entries (uncollected state)
+
+-- the traces are those of each node in the state
+abbrev pub KnowsTraces : System → Machine → Traces → Type 0
+KnowsTraces sys state traces = (p : ℕ) → p < length sys.flow.nodes → IsTraceIn sys state p traces
+
+-- these stamps of each node that logs its events are those at which one of them was lost
+abbrev pub KnowsLost : System → Machine → Running → Type 0
+KnowsLost sys state running = (p : ℕ) → policy_of sys.flow p ≡ policy.Full → (t : Stamp) → Contains (lost_at running p) t ↔ IsLostAt sys state p t
+
+-- The engine stands for a state of the system's machine, over these records of its store: its traces and the stamps that it lost are
+-- those of the state, and so is all else of it.
+pub record Stands (sys : System) (running : Running) (records : Option Records) (state : Machine) : Type 0 where
+  pub apart : StandsApart sys running records state
+  pub traces : KnowsTraces sys state running.traces
+  pub lost : KnowsLost sys state running

@@ -1,5 +1,5 @@
 -- What the steps of an engine promise.
-use Rattle.std.specs.Prelude.{◌≡◌, ◌≢◌, ℕ, true, false, List, [], Option, Some, None, Result, Ok, Err, IfOk, IsErrOf, OnOk, is_some}
+use Rattle.std.specs.Prelude.{◌≡◌, ◌≢◌, ℕ, true, false, List, [], Option, Some, None, Result, Ok, Err, IfOk, IsErrOf, OnOk, IsSome, is_some}
 use Rattle.std.specs.List.{Contains}
 use Rattle.fw_outside.specs.Outside.{StoreView}
 use Rattle.fw_time.specs.Stamp.{Stamp}
@@ -103,18 +103,18 @@ IsLeftBy sys state Collect P = (next : Machine) × (outcome : Outcome) × StepsT
 IsLeftBy sys state step P = IsStepEnabled sys state step × P state
 
 -- What a step answers, and what the engine stands for then, where it stood for a state: the machine's outcome and next state, if it
--- read what was put; after a fault of the store what that leaves; after damage, which no store gives that tells its records, the
--- state still, in which the step is enabled.
-abbrev pub Answers : System → Machine → Step → Result Stepped EngineFault → Option Records → Running → Option Records → Type 0
-Answers sys state step (Ok stepped) records new after = Trusts sys state step records → Follows sys state step (outcome_of stepped) new after
-Answers sys state step (Err fault.StoreFault) records new after = IsLeftBy sys state step (λ next. Stands sys new after next)
-Answers sys state step (Err (fault.Damaged id)) records new after = (records ≡ None) × IsStepEnabled sys state step × Stands sys new after state
-Answers sys state step (Err fault.NoMemory) records new after = Unit {0}
+-- read what was put, by what the store tells afterwards; after a fault of the store what that leaves; after damage, which no store
+-- gives that still tells its records, the state still, in which the step is enabled.
+abbrev pub Answers : System → Machine → Step → Result Stepped EngineFault → Running → Option Records → Type 0
+Answers sys state step (Ok stepped) new after = Trusts sys state step after → Follows sys state step (outcome_of stepped) new after
+Answers sys state step (Err fault.StoreFault) new after = IsLeftBy sys state step (λ next. Stands sys new after next)
+Answers sys state step (Err (fault.Damaged id)) new after = (after ≡ None) × IsStepEnabled sys state step × Stands sys new after state
+Answers sys state step (Err fault.NoMemory) new after = Unit {0}
 
 -- so a step does from each state for which the engine stood
 abbrev pub TakesStep : Running → Option Records → Step → Result Stepped EngineFault → Running → Option Records → Type 0
 TakesStep old before step result new after =
-    (sys : System) (state : Machine) → Stands sys old before state → Answers sys state step result before new after
+    (sys : System) (state : Machine) → Stands sys old before state → Answers sys state step result new after
 
 -- What is answered of a step is the machine's outcome in each state for which the engine stood, whatever the store gave.
 abbrev pub ShowsOutcome : Running → Option Records → Step → Result Stepped EngineFault → Type 0
@@ -188,8 +188,10 @@ pub record StepAnswers {K : Type 0} (view : K → StoreView) (old : Running) (be
   -- a record is damaged in a recovery alone
   pub damaged : (id : ℕ) → IsErrOf result (fault.Damaged id) → IsDamage old id (view after).given
   pub in_recovery : (id : ℕ) → IsErrOf result (fault.Damaged id) → step ≡ Recover
-  -- a store that tells its records goes on telling them, and after a collection nothing waits for a sweep
-  pub tells : is_some (view after).records ≡ is_some (view before).records
+  -- A store that tells its records goes on telling them, unless it ceases in a recovery, which reads; and what it tells then it told
+  -- before. After a collection nothing waits for a sweep.
+  pub tells : step ≢ Recover → is_some (view after).records ≡ is_some (view before).records
+  pub told_before : IsSome (view after).records → IsSome (view before).records
   pub swept : step ≡ Collect → OnOk result (new.parts.keep.waiting ≡ [])
   -- a step that by the flow's policies never calls the store leaves it as it is, and so does an idle one that is no collection
   pub quiet : (MayCallStore old.flow step → ⊥) → after ≡ before

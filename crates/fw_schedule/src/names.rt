@@ -36,7 +36,7 @@ pub fn nodes_named(
 {
     let mut nodes = Vec::new(alloc);
     for name in names {
-        let Some(node) = flow.node_named(name.of(text)) else {
+        let Some(node) = flow.node_spelled(name.of(text)) else {
             return Ok(None);
         };
         nodes.push(node)?;
@@ -48,7 +48,7 @@ pub fn nodes_named(
 pub fn source_named(name: &[u8], flow: &Flow) -> Option<NodeId>
     ensures { result ≡ node_of_kind flow.now is_input_kind name.now }
 {
-    let node = flow.node_named(name)?;
+    let node = flow.node_spelled(name)?;
     if flow.kind(node).is_input() {
         Some(node)
     } else {
@@ -60,7 +60,7 @@ pub fn source_named(name: &[u8], flow: &Flow) -> Option<NodeId>
 pub fn output_named(name: &[u8], flow: &Flow) -> Option<NodeId>
     ensures { result ≡ node_of_kind flow.now is_output_kind name.now }
 {
-    let node = flow.node_named(name)?;
+    let node = flow.node_spelled(name)?;
     if flow.kind(node).is_output() {
         Some(node)
     } else {

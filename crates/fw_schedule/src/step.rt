@@ -127,7 +127,7 @@ fn named_step(text: &[u8], verb: &[u8], name: Span, flow: &Flow) -> Result<Step,
             .map(Step::Inject)
             .ok_or(Code::S2)
     } else if is_word(verb, b"checkpoint") {
-        flow.node_named(name.of(text))
+        flow.node_spelled(name.of(text))
             .map(Step::Checkpoint)
             .ok_or(Code::S2)
     } else if is_word(verb, b"ack") {
@@ -166,7 +166,7 @@ fn delivery(text: &[u8], name: Span, stamp: Option<Span>, flow: &Flow) -> Result
     ensures { result ≡ option_map_or (spec.delivery_on flow.now (option_map (bytes_at text.now) stamp))
         (edge_named flow.now (bytes_at text.now name)) (Err Code.S2) }
 {
-    let Some(edge) = flow.edge_named(name.of(text)) else {
+    let Some(edge) = flow.edge_spelled(name.of(text)) else {
         return Err(Code::S2);
     };
     match told(text, stamp, &flow.domain(flow.dst(edge))) {
@@ -181,7 +181,7 @@ fn notification(text: &[u8], name: Span, stamp: Option<Span>, flow: &Flow) -> Re
     ensures { result ≡ option_map_or (spec.notification_of flow.now (option_map (bytes_at text.now) stamp))
         (node_with_name flow.now (bytes_at text.now name)) (Err Code.S2) }
 {
-    let Some(node) = flow.node_named(name.of(text)) else {
+    let Some(node) = flow.node_spelled(name.of(text)) else {
         return Err(Code::S2);
     };
     match told(text, stamp, &flow.domain(node)) {

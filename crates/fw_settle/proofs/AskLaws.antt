@@ -162,10 +162,10 @@ same-grows : (sys : System) (state : Machine) (settled : List Front) (old : Runn
     → GrowsTo sys state (family_of sys.flow old.progress.kept) settled → (p : ℕ) → p < length sys.flow.nodes
     → not (same_front (front_of state.settled p) (front_of settled p)) ≡ grows old p
 same-grows sys state settled old before s g p l =
-    ap not (fronts-grow sys s.well_formed state s.reached (family_of sys.flow old.progress.kept) settled g old.progress.kept g.complete p l)
+    ap not (fronts-grow sys s.apart.well_formed state s.apart.reached (family_of sys.flow old.progress.kept) settled g old.progress.kept g.complete p l)
     ∙ turned (is_failed state p) (has_more (front_of old.progress.kept p) (front_of state.settled p))
-    ∙ ap (λ fs. not (is_failed state p) && has_more (front_of old.progress.kept p) (front_of fs p)) (sym s.settled)
-    ∙ ap (λ fs. not (get_or fs p false) && has_more (front_of old.progress.kept p) (front_of old.progress.settled p)) (sym s.failed)
+    ∙ ap (λ fs. not (is_failed state p) && has_more (front_of old.progress.kept p) (front_of fs p)) (sym s.apart.settled)
+    ∙ ap (λ fs. not (get_or fs p false) && has_more (front_of old.progress.kept p) (front_of old.progress.settled p)) (sym s.apart.failed)
   where
     turned : (a b : Bool) → not (a || not b) ≡ (not a && b)
     turned true b = refl
@@ -188,7 +188,7 @@ grown-front : (sys : System) (state : Machine) (settled : List Front) (old : Run
 grown-front sys state settled old before s g p l live f grown =
     let b = bounds_of sys.flow p in
     names-same b f (front_of settled p) (join (node_frontier sys.flow p (front_of state.settled p)) (family_of sys.flow old.progress.kept p))
-    (subst (λ fs. IsFrontOf b f (join (frontier_of b (front_of fs p)) (frontier_of b (front_of old.progress.kept p)))) s.settled grown.1)
+    (subst (λ fs. IsFrontOf b f (join (frontier_of b (front_of fs p)) (frontier_of b (front_of old.progress.kept p)))) s.apart.settled grown.1)
     (g.each p l live)
 
 live-grows : (failed : List Bool) (settled kept : List Front) (p : ℕ) → is_growing failed settled kept p ≡ true → get_or failed p false ≡ false
@@ -204,7 +204,7 @@ pub asked-none : (old : Running) (before : Option Records) → HaveAsked 0 old o
 unfolding adds-none
 asked-none old before = record {
   adds = adds-none old.parts.keep.entries before;
-  writes = λ sys state settled s g. (tt, subst (AreStored sys state before old.parts.keep.entries) (sym (append-nil (uncollected state))) s.stored);
+  writes = λ sys state settled s g. (tt, subst (AreStored sys state before old.parts.keep.entries) (sym (append-nil (uncollected state))) s.apart.stored);
 }
 
 -- where none up to a later place is to settle, those before that have asked
@@ -216,7 +216,7 @@ asked-past old new before after place later a o l none = record {
       let same : eager_writes sys state settled (range_with_len 0 later) ≡ eager_writes sys state settled (range_with_len 0 place) =
       ap (λ n. eager_writes sys state settled (range_with_len 0 n)) (let e : later ≡ place + (later - place) = omega (arith, o) in e)
       ∙ eager-same sys state settled place (later - place) (λ p from until.
-      let there : p < length sys.flow.nodes = subst (λ flow. p < length flow.nodes) s.flow (omega (arith, until, l, o)) in
+      let there : p < length sys.flow.nodes = subst (λ flow. p < length flow.nodes) s.apart.flow (omega (arith, until, l, o)) in
       asks-grows sys state settled old before s g p there
       ∙ ap (λ b. is_eager (policy_of sys.flow p) && b) (none p from (omega (arith, until, o))) ∙ isnt (is_eager (policy_of sys.flow p))) in
       let known = a.writes sys state settled s g in (
@@ -237,7 +237,7 @@ skips p old mid new before between after a l other n = record {
   adds = adds-same old.parts.keep.entries mid.parts.keep.entries new.parts.keep.entries before between after a.adds n;
   writes = λ sys state settled s g.
       let test : asks sys state settled p ≡ false =
-      ap (λ b. b && not (same_front (front_of state.settled p) (front_of settled p))) (ap (λ flow. is_eager (policy_of flow p)) (sym s.flow) ∙ other) in
+      ap (λ b. b && not (same_front (front_of state.settled p) (front_of settled p))) (ap (λ flow. is_eager (policy_of flow p)) (sym s.apart.flow) ∙ other) in
       let same = eager-none sys state settled p test in
       let known = a.writes sys state settled s g in (
         subst (AreEntriesOf sys state a.adds.more) (sym same) known.0,
@@ -273,7 +273,7 @@ eager-asked : (sys : System) (old mid new : Running) (before between after : Opt
     → IsEntryOf sys state (asked a.asked.id (tagged.State a.checkpoint) a.stamps) (checkpoint_of state p (front_of settled p))
     × AreStored sys state after new.parts.keep.entries (writes ++ checkpoint_of state p (front_of settled p) ∷ [])
 eager-asked sys old mid new before between after state settled p f s g c l eager grow grown a writes stored =
-    let live : is_failed state p ≡ false = ap (λ fs. get_or fs p false) (sym s.failed) ∙ live-grows old.failed.items old.progress.settled old.progress.kept p grow in
+    let live : is_failed state p ≡ false = ap (λ fs. get_or fs p false) (sym s.apart.failed) ∙ live-grows old.failed.items old.progress.settled old.progress.kept p grow in
     let is : f ≡ front_of settled p = grown-front sys state settled old before s g p l live f grown in
     let within : Within (family_of sys.flow state.settled p) (node_frontier sys.flow p f) =
     subst (λ x. Within (family_of sys.flow state.settled p) (node_frontier sys.flow p x)) (sym is)
@@ -297,14 +297,14 @@ asks-one p old mid new before between after h c l eager grow f grown a = record 
   adds = adds-more old.parts.keep.entries mid.parts.keep.entries new.parts.keep.entries before between after h.adds (tagged.State a.checkpoint) a.stamps a.asked;
   writes = λ sys state settled s g.
       let writes = eager_writes sys state settled (range_with_len 0 p) in
-      let there : p < length sys.flow.nodes = subst (λ flow. p < length flow.nodes) s.flow l in
-      let is_eager_there : is_eager (policy_of sys.flow p) ≡ true = ap (λ flow. is_eager (policy_of flow p)) (sym s.flow) ∙ eager in
+      let there : p < length sys.flow.nodes = subst (λ flow. p < length flow.nodes) s.apart.flow l in
+      let is_eager_there : is_eager (policy_of sys.flow p) ≡ true = ap (λ flow. is_eager (policy_of flow p)) (sym s.apart.flow) ∙ eager in
       let test : asks sys state settled p ≡ true =
       asks-grows sys state settled old before s g p there ∙ ap (λ b. b && grows old p) is_eager_there ∙ grow in
       let more = eager-some sys state settled p test in
       let known = h.writes sys state settled s g in
       let one = eager-asked sys old mid new before between after state settled p f s g c there is_eager_there grow
-      (subst (λ flow. IsGrownAt flow old.progress.settled old.progress.kept p (Some f)) s.flow grown) a (uncollected state ++ writes) known.1 in (
+      (subst (λ flow. IsGrownAt flow old.progress.settled old.progress.kept p (Some f)) s.apart.flow grown) a (uncollected state ++ writes) known.1 in (
         subst (AreEntriesOf sys state (h.adds.more ++ asked a.asked.id (tagged.State a.checkpoint) a.stamps ∷ [])) (sym more)
             (zip-append (IsEntryOf sys state) h.adds.more writes (asked a.asked.id (tagged.State a.checkpoint) a.stamps ∷ [])
             (checkpoint_of state p (front_of settled p) ∷ []) known.0 (one.0, tt)),

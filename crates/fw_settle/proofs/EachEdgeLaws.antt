@@ -16,10 +16,12 @@ use Rattle.fw_flow.specs.Dataflow.{Dataflow, receiver, in_edges, out_edges, edge
 use Rattle.fw_flow.specs.WellFormed.{IsWellFormed}
 use Rattle.fw_flow.proofs.OutEdgeLaws.{out_edges-from}
 use Rattle.fw_model.specs.Offers.{AreFrontsOfEdges, front_of_edge}
-use Rattle.fw_record.specs.Sound.{IsFront, AreOfEdges, may_follow_edges, each_may_follow}
+use Rattle.fw_bytes.specs.Sound.{IsFront, each_may_follow}
+use Rattle.fw_record.specs.Sound.{AreOfEdges, may_follow_edges}
 use Rattle.fw_record.specs.Sound as sound
-use Rattle.fw_record.specs.Spelling.{HasCountableEdges, IsCountable}
-use Rattle.fw_record.proofs.FrontLaws.{sound_of_canonical}
+use Rattle.fw_bytes.specs.Spelling.{IsCountable}
+use Rattle.fw_record.specs.Spelling.{HasCountableEdges}
+use Rattle.fw_bytes.proofs.FrontLaws.{sound_of_canonical}
 use Rattle.fw_stands.specs.Written.{edges_of}
 use Rattle.fw_stands.proofs.SpellingLaws.{stamps_have_spellings}
 use Rattle.fw_settle.specs.Checkpoints.{IsOfEdge}

@@ -28,7 +28,8 @@ use Rattle.fw_model.proofs.SortedLaws.{same_sorted_messages, sorted_messages-fil
 use Rattle.fw_model.proofs.WeightLaws.{weigh, weigh-flat_map, weigh-map, weigh-same}
 use Rattle.fw_policy.proofs.RecordedLaws.{one-cause}
 use Rattle.fw_record.specs.declared.logged.Logged.{Logged}
-use Rattle.fw_record.specs.Sound.{IsStamp, IsOneStamp, IsLoggedMessage, IsLog}
+use Rattle.fw_bytes.specs.Sound.{IsStamp}
+use Rattle.fw_record.specs.Sound.{IsOneStamp, IsLoggedMessage, IsLog}
 use Rattle.fw_bag.specs.Bag.{IsRec}
 use Rattle.fw_stands.specs.Parts.{is_logging, logged}
 use Rattle.fw_record.specs.Log.{logged_on}

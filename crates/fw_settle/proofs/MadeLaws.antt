@@ -19,7 +19,8 @@ use Rattle.fw_model.proofs.AskedLaws.{takes-declared, takes-restoring}
 use Rattle.fw_model.proofs.DomainLaws.{has_epochs}
 use Rattle.fw_node.specs.StateOf.{totals_in}
 use Rattle.fw_record.specs.declared.record.Checkpoint.{Checkpoint}
-use Rattle.fw_record.specs.Sound.{AreTotals, AreEntries, AreSentCounts, IsCheckpoint, may_follow_totals, each_may_follow}
+use Rattle.fw_bytes.specs.Sound.{AreSentCounts, each_may_follow}
+use Rattle.fw_record.specs.Sound.{AreTotals, AreEntries, IsCheckpoint, may_follow_totals}
 use Rattle.fw_record.specs.Spelling.{HasCountableLists}
 use Rattle.fw_progress.specs.Counts.{sent_of}
 use Rattle.fw_progress.specs.Trace.{counts_sent}

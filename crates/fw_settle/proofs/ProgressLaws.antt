@@ -60,15 +60,15 @@ settled-to : (sys : System) (state : Machine) (mid : Running) (records : Option 
     → AreGrownBefore mid.flow mid.failed.items mid.progress.settled mid.progress.kept settled (length mid.flow.nodes) → IsSettledTo sys state mid settled
 settled-to sys state mid records settled p s shaped complete l is g =
     let flow = sys.flow in
-    let nodes : length mid.flow.nodes ≡ length flow.nodes = ap (λ f. length f.nodes) s.flow in
-    let canonical : (fronts : List Front) → AreCanonical mid.flow fronts → AreCanonical flow fronts = λ fronts a. subst (λ f. AreCanonical f fronts) s.flow a in
+    let nodes : length mid.flow.nodes ≡ length flow.nodes = ap (λ f. length f.nodes) s.apart.flow in
+    let canonical : (fronts : List Front) → AreCanonical mid.flow fronts → AreCanonical flow fronts = λ fronts a. subst (λ f. AreCanonical f fronts) s.apart.flow a in
     let at : AreGrownBefore flow mid.failed.items mid.progress.settled mid.progress.kept settled (length flow.nodes) =
-    subst (λ f. AreGrownBefore f mid.failed.items mid.progress.settled mid.progress.kept settled (length f.nodes)) s.flow g in
+    subst (λ f. AreGrownBefore f mid.failed.items mid.progress.settled mid.progress.kept settled (length f.nodes)) s.apart.flow g in
     record {
-      grown = (in_turn-settled sys state mid.failed.items mid.progress.settled mid.progress.kept settled s.failed s.settled (shaped.one_each.failed ∙ nodes)
+      grown = (in_turn-settled sys state mid.failed.items mid.progress.settled mid.progress.kept settled s.apart.failed s.apart.settled (shaped.one_each.failed ∙ nodes)
           (shaped.progress.settled_each ∙ nodes) (canonical mid.progress.settled shaped.progress.settled) (canonical mid.progress.kept shaped.progress.kept) complete at).0
           p (subst (λ n. p < n) nodes l) is;
-      same = λ q isnt. at.others q (λ k. isnt) ∙ ap (λ fs. front_of fs q) s.settled;
+      same = λ q isnt. at.others q (λ k. isnt) ∙ ap (λ fs. front_of fs q) s.apart.settled;
     }
 
 -- ---- tables
@@ -81,7 +81,7 @@ table-settles sys mid records state settled p None new s g l is t =
     subst (IsTableIn sys (settled_state sys state settled) p) (sym is) (no_tables-stay sys state settled p t)
 table-settles sys mid records state settled p (Some old) None s g l is t = absurd is
 table-settles sys mid records state settled p (Some old) (Some new) s g l is t =
-    settled_tables-stand sys s.well_formed state s.reached (family_of sys.flow mid.progress.kept) settled g p l old new is t
+    settled_tables-stand sys s.apart.well_formed state s.apart.reached (family_of sys.flow mid.progress.kept) settled g p l old new is t
 
 -- ---- the next state
 
@@ -98,40 +98,42 @@ settled-stands sys state mid new keep before after s shaped to h u entries store
     let n = length sys.flow.nodes in
     let k = progress-keeps sys state settled in
     record {
-      flow = s.flow;
-      well_formed = s.well_formed;
-      reached = reached-next sys state next ProgressStep (did silent) s.reached u;
-      settled = refl;
-      failed = s.failed;
-      low = s.low;
-      epochs = s.epochs;
-      tables = λ p l. elim (cases_Bool (grows mid p)) [
-        | inl is ↦
-            table-settles sys mid before state settled p (table_of mid p) (table_of new p) s to.grown l
-            (subst (λ f. IsTableSettled f p (front_of settled p) (table_of mid p) (table_of new p)) s.flow (h.tables p l is)) (s.tables p l)
-        | inr isnt ↦
-            subst (IsTableIn sys next p) (sym (h.other_tables p (λ m. isnt))) (ungrown_tables-stay sys state settled p (table_of mid p) (to.same p isnt) (s.tables p l))
-      ];
-      queues = λ e l. s.queues e l ∙ sym (k.queues e);
-      logs = λ e l. s.logs e l ∙ sym (k.logs e);
-      outputs = λ o l out.
-          let i = s.outputs o l out in
-          record { bound = i.bound ∙ sym (k.outputs.bound o); recs = λ x. i.recs x ∙ sym (k.outputs.recs o x) };
-      sources = λ p l. k.sources p (source_of mid p) (s.sources p l);
-      progress = record { counts = s.progress.counts; kept = s.progress.kept };
+      apart = record {
+        flow = s.apart.flow;
+        well_formed = s.apart.well_formed;
+        reached = reached-next sys state next ProgressStep (did silent) s.apart.reached u;
+        settled = refl;
+        failed = s.apart.failed;
+        low = s.apart.low;
+        epochs = s.apart.epochs;
+        tables = λ p l. elim (cases_Bool (grows mid p)) [
+          | inl is ↦
+              table-settles sys mid before state settled p (table_of mid p) (table_of new p) s to.grown l
+              (subst (λ f. IsTableSettled f p (front_of settled p) (table_of mid p) (table_of new p)) s.apart.flow (h.tables p l is)) (s.apart.tables p l)
+          | inr isnt ↦
+              subst (IsTableIn sys next p) (sym (h.other_tables p (λ m. isnt))) (ungrown_tables-stay sys state settled p (table_of mid p) (to.same p isnt) (s.apart.tables p l))
+        ];
+        queues = λ e l. s.apart.queues e l ∙ sym (k.queues e);
+        logs = λ e l. s.apart.logs e l ∙ sym (k.logs e);
+        outputs = λ o l out.
+            let i = s.apart.outputs o l out in
+            record { bound = i.bound ∙ sym (k.outputs.bound o); recs = λ x. i.recs x ∙ sym (k.outputs.recs o x) };
+        sources = λ p l. k.sources p (source_of mid p) (s.apart.sources p l);
+        progress = record { counts = s.apart.progress.counts; kept = s.apart.progress.kept };
+        entries = entries;
+        stored = stored;
+      };
       traces = λ p l.
-          all_settled_traces-stand sys s.well_formed state s.reached (family_of sys.flow mid.progress.kept) settled to.grown (settles_traces mid n)
+          all_settled_traces-stand sys s.apart.well_formed state s.apart.reached (family_of sys.flow mid.progress.kept) settled to.grown (settles_traces mid n)
           (λ q i.
-          ap (λ f. takes_checkpoints (policy_of f q)) (sym s.flow)
+          ap (λ f. takes_checkpoints (policy_of f q)) (sym s.apart.flow)
           ∙ (and_parts (grows mid q) (takes_checkpoints (policy_of mid.flow q)) (and_parts (nat_lt q n) (grows mid q && takes_checkpoints (policy_of mid.flow q)) i).1).1)
-          (λ q i takes. to.same q (still q i (ap (λ f. takes_checkpoints (policy_of f q)) s.flow ∙ takes)))
-          mid.traces new.traces (subst (λ f. AreSettledAt f (settles_traces mid n) settled mid.traces new.traces) s.flow h.traces) p l (s.traces p l);
+          (λ q i takes. to.same q (still q i (ap (λ f. takes_checkpoints (policy_of f q)) s.apart.flow ∙ takes)))
+          mid.traces new.traces (subst (λ f. AreSettledAt f (settles_traces mid n) settled mid.traces new.traces) s.apart.flow h.traces) p l (s.traces p l);
       lost = λ p full t. (
         λ c. (k.lost p t).1 ((s.lost p full t).0 c),
         λ i. (s.lost p full t).1 ((k.lost p t).0 i),
       );
-      entries = entries;
-      stored = stored;
     }
   where
     with-true : (b : Bool) → b ≡ (b && true)
@@ -142,7 +144,7 @@ settled-stands sys state mid new keep before after s shaped to h u entries store
     still q i takes = elim (cases_lt q (length mid.flow.nodes)) [
       | inl l ↦
           with-true (grows mid q) ∙ ap (λ b. grows mid q && b) (sym takes)
-          ∙ ap (λ b. b && (grows mid q && takes_checkpoints (policy_of mid.flow q))) (sym (lt-ltb q (length sys.flow.nodes) (subst (λ f. q < length f.nodes) s.flow l))) ∙ i
+          ∙ ap (λ b. b && (grows mid q && takes_checkpoints (policy_of mid.flow q))) (sym (lt-ltb q (length sys.flow.nodes) (subst (λ f. q < length f.nodes) s.apart.flow l))) ∙ i
       | inr past ↦ past-grows mid shaped q past
     ]
 
@@ -161,7 +163,7 @@ progress-follows sys state mid new before after p s shaped complete first does =
     let u : LeadsTo sys state ProgressStep next silent = (family_of sys.flow mid.progress.kept, settled, to.grown, refl, refl) in
     let fly = (progress_asks sys state next silent u).1 in
     let known = does.asks.writes sys state settled s to.grown in
-    let nodes : length mid.flow.nodes ≡ length sys.flow.nodes = ap (λ f. length f.nodes) s.flow in
+    let nodes : length mid.flow.nodes ≡ length sys.flow.nodes = ap (λ f. length f.nodes) s.apart.flow in
     let more = does.asks.adds.more in
     let of_writes : AreEntriesOf sys state more writes =
     subst (λ k. AreEntriesOf sys state more (eager_writes sys state settled (range_with_len 0 k))) nodes known.0 in
@@ -170,10 +172,10 @@ progress-follows sys state mid new before after p s shaped complete first does =
     (subst (λ k. AreStored sys state after asked.parts.keep.entries (uncollected state ++ eager_writes sys state settled (range_with_len 0 k))) nodes known.1) in
     let entries_then : AreEntriesOf sys next asked.parts.keep.entries (uncollected next) =
     subst (λ es. AreEntriesOf sys next es (uncollected next)) (sym does.asks.adds.entries)
-    (entries_after_asking sys s.well_formed state s.reached ProgressStep next silent u writes refl fly mid.parts.keep.entries more s.entries of_writes) in
+    (entries_after_asking sys s.apart.well_formed state s.apart.reached ProgressStep next silent u writes refl fly mid.parts.keep.entries more s.apart.entries of_writes) in
     let stored_then : AreStored sys next after asked.parts.keep.entries (uncollected next) =
     subst (λ es. AreStored sys next after es (uncollected next)) (sym does.asks.adds.entries)
-    (records_after_asking sys s.well_formed state s.reached ProgressStep next silent u writes refl fly mid.parts.keep.entries more after stored) in
+    (records_after_asking sys s.apart.well_formed state s.apart.reached ProgressStep next silent u writes refl fly mid.parts.keep.entries more after stored) in
     record {
       next = next;
       steps = u;
@@ -195,9 +197,9 @@ progress-idle sys state mid records s complete none = record {
   next = state;
   steps = (
     no_more-idle sys state mid.progress.kept complete (λ p l live.
-        ap (λ fs. has_more (front_of mid.progress.kept p) (front_of fs p)) (sym s.settled)
-        ∙ sym (ap (λ b. not b && has_more (front_of mid.progress.kept p) (front_of mid.progress.settled p)) (ap (λ fs. get_or fs p false) s.failed ∙ live))
-        ∙ none p (omega arith) (subst (λ f. p < length f.nodes) (sym s.flow) l)),
+        ap (λ fs. has_more (front_of mid.progress.kept p) (front_of fs p)) (sym s.apart.settled)
+        ∙ sym (ap (λ b. not b && has_more (front_of mid.progress.kept p) (front_of mid.progress.settled p)) (ap (λ fs. get_or fs p false) s.apart.failed ∙ live))
+        ∙ none p (omega arith) (subst (λ f. p < length f.nodes) (sym s.apart.flow) l)),
     refl,
   );
   stands = s;
@@ -209,8 +211,8 @@ progress-idle sys state mid records s complete none = record {
 up-complete : (sys : System) (state : Machine) (old mid : Running) (records : Option Records) → Stands sys old records state → IsBroughtUp old mid
     → IsComplete sys (events state.history) (family_of sys.flow mid.progress.kept)
 up-complete sys state old mid records s up =
-    subst (λ f. IsComplete sys (events state.history) (family_of f mid.progress.kept)) s.flow
-    (up.fresh.complete sys (events state.history) (sym s.flow) s.progress).1
+    subst (λ f. IsComplete sys (events state.history) (family_of f mid.progress.kept)) s.apart.flow
+    (up.fresh.complete sys (events state.history) (sym s.apart.flow) s.apart.progress).1
 
 pub idle-takes : (old mid : Running) (before : Option Records) → IsBroughtUp old mid → NoneGrowsIn mid 0 (length mid.flow.nodes)
     → TakesStep old before ProgressStep (Ok Idle) mid before
@@ -311,5 +313,5 @@ pub fault-takes : (old mid new : Running) (before after : Option Records) (p : �
     → TakesStep old before ProgressStep (Err e) new after
 fault-takes old mid new before after p e up shaped first c k u = λ sys state s.
     let stands = brought_up_stands sys state old mid before s up in
-    left-answers (Unit {0}) sys state ProgressStep e new before after u
+    left-answers (Unit {0}) sys state ProgressStep e new after u
     (progress-enabled sys state mid before p stands shaped (up-complete sys state old mid before s up) first, kept-stands sys mid new before after state stands c k)

@@ -24,7 +24,8 @@ use Rattle.fw_node.specs.NodeOf.{IsNodeOf}
 use Rattle.fw_node.specs.Past.{totals_kept}
 use Rattle.fw_node.specs.TableOf.{IsTableOf}
 use Rattle.fw_record.specs.declared.logged.Logged.{Logged}
-use Rattle.fw_record.specs.Sound.{each_may_follow, may_follow_logged}
+use Rattle.fw_bytes.specs.Sound.{each_may_follow}
+use Rattle.fw_record.specs.Sound.{may_follow_logged}
 use Rattle.fw_bag.specs.Bag.{IsRec}
 use Rattle.fw_rollback.specs.Edges.{nothing_there, on_edge}
 use Rattle.fw_settle.specs.Checkpoints.{AreTotalsAt, logged_from, logged_at, IsLogAt}

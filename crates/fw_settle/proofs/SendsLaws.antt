@@ -20,7 +20,7 @@ use Rattle.fw_frontier.specs.Front.{Front, inside}
 use Rattle.fw_frontier.specs.declared.state.SentCount.{SentCount}
 use Rattle.fw_flow.specs.Projection.{table_count}
 use Rattle.fw_flow.specs.SentTable.{EpochsAscend}
-use Rattle.fw_record.specs.Sound.{IsStamp, IsSentCount, each_may_follow, may_follow_counts}
+use Rattle.fw_bytes.specs.Sound.{IsStamp, IsSentCount, each_may_follow, may_follow_counts}
 use Rattle.fw_stands.specs.Written.{told_inside}
 use Rattle.fw_settle.specs.Checkpoints.{AreSendsOf}
 use Rattle.fw_settle.specs.Sends.{IsEpochLimit, is_last_of, HasTaken, HasCount, HasSends}

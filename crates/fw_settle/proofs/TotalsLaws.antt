@@ -19,7 +19,8 @@ use Rattle.fw_flow.specs.declared.kind.Kind.{Kind}
 use Rattle.fw_flow.specs.declared.kind.Kind.TheVariants as kind
 use Rattle.fw_model.proofs.SumLaws.{rec_cmp-test, sums-is}
 use Rattle.fw_node.specs.Past.{totals_kept}
-use Rattle.fw_record.specs.Sound.{may_follow_totals, each_may_follow}
+use Rattle.fw_bytes.specs.Sound.{each_may_follow}
+use Rattle.fw_record.specs.Sound.{may_follow_totals}
 
 -- each key is at least the first number, and greater than those before it
 abbrev Rise : ℕ → List Rec → Type 0

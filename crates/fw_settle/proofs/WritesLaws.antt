@@ -58,28 +58,30 @@ writes-stand sys old keep before after state writes step s t entries stored =
     let next : Machine = record state { writes = writes } in
     let k = writes-keep_parts sys state writes in
     record {
-      flow = s.flow;
-      well_formed = s.well_formed;
-      reached = reached-next sys state next step (did silent) s.reached t;
-      settled = s.settled;
-      failed = s.failed;
-      low = s.low;
-      epochs = s.epochs;
-      tables = λ p l. k.tables p (table_of old p) (s.tables p l);
-      queues = λ e l. s.queues e l ∙ sym (k.queues e);
-      logs = λ e l. s.logs e l ∙ sym (k.logs e);
-      outputs = λ o l out.
-          let i = s.outputs o l out in
-          record { bound = i.bound ∙ sym (k.outputs.bound o); recs = λ x. i.recs x ∙ sym (k.outputs.recs o x) };
-      sources = λ p l. k.sources p (source_of old p) (s.sources p l);
-      progress = s.progress;
+      apart = record {
+        flow = s.apart.flow;
+        well_formed = s.apart.well_formed;
+        reached = reached-next sys state next step (did silent) s.apart.reached t;
+        settled = s.apart.settled;
+        failed = s.apart.failed;
+        low = s.apart.low;
+        epochs = s.apart.epochs;
+        tables = λ p l. k.tables p (table_of old p) (s.apart.tables p l);
+        queues = λ e l. s.apart.queues e l ∙ sym (k.queues e);
+        logs = λ e l. s.apart.logs e l ∙ sym (k.logs e);
+        outputs = λ o l out.
+            let i = s.apart.outputs o l out in
+            record { bound = i.bound ∙ sym (k.outputs.bound o); recs = λ x. i.recs x ∙ sym (k.outputs.recs o x) };
+        sources = λ p l. k.sources p (source_of old p) (s.apart.sources p l);
+        progress = s.apart.progress;
+        entries = entries;
+        stored = stored;
+      };
       traces = λ p l. k.traces p old.traces (s.traces p l);
       lost = λ p full u. (
-        λ i. let l = (s.lost p full u).0 i in (losses_stay sys s.well_formed state s.reached step next silent t p l.0 l.0 u).1 l,
-        λ i. (s.lost p full u).1 ((losses_stay sys s.well_formed state s.reached step next silent t p i.0 i.0 u).0 i),
+        λ i. let l = (s.lost p full u).0 i in (losses_stay sys s.apart.well_formed state s.apart.reached step next silent t p l.0 l.0 u).1 l,
+        λ i. (s.lost p full u).1 ((losses_stay sys s.apart.well_formed state s.apart.reached step next silent t p i.0 i.0 u).0 i),
       );
-      entries = entries;
-      stored = stored;
     }
 
 -- where the entries are the same and their bytes stay, the engine stands for the same state
@@ -87,7 +89,7 @@ pub kept-stands : (sys : System) (old new : Running) (before after : Option Reco
     → KeepsEntries old.parts.keep.entries new.parts.keep.entries before after → Stands sys new after state
 kept-stands sys old new before after state s c k =
     subst (λ (r : Running). Stands sys r after state) (sym c) (keep-stands sys old new.parts.keep before after state s k.entries
-    (kept_bytes_are_stored sys state old.parts.keep.entries (uncollected state) before after k.change k.records k.bytes s.stored))
+    (kept_bytes_are_stored sys state old.parts.keep.entries (uncollected state) before after k.change k.records k.bytes s.apart.stored))
 
 -- ---- a write is acknowledged
 
@@ -106,7 +108,7 @@ pub persist-some : (sys : System) (state : Machine) (old : Running) (records : O
     → Follows sys state Persist (did silent) (with_keep (record old.parts.keep { entries = persisted old.parts.keep.entries }) old) records
 persist-some sys state old records s id is =
     let entries = old.parts.keep.entries in
-    let e = (persists_where_in_flight sys state entries s.entries).1 id is in
+    let e = (persists_where_in_flight sys state entries s.apart.entries).1 id is in
     let t = e.1 in
     let next : Machine = record state { writes = t.0 } in
     let u : LeadsTo sys state Persist next silent = (t.0, t.1, refl, refl) in
@@ -114,8 +116,8 @@ persist-some sys state old records s id is =
       next = next;
       steps = u;
       stands = writes-stand sys old (record old.parts.keep { entries = persisted entries }) records records state t.0 Persist s u
-          (entries_after_persist sys s.well_formed state s.reached next silent u entries s.entries)
-          (records_after_persist sys s.well_formed state s.reached next silent u entries s.entries records s.stored);
+          (entries_after_persist sys s.apart.well_formed state s.apart.reached next silent u entries s.apart.entries)
+          (records_after_persist sys s.apart.well_formed state s.apart.reached next silent u entries s.apart.entries records s.apart.stored);
     }
 
 -- where none is, nothing changes
@@ -126,7 +128,7 @@ persist-none sys state old records s none =
     let entries = old.parts.keep.entries in
     record {
       next = state;
-      steps = (λ other effect t. (persists_where_in_flight sys state entries s.entries).0 none other effect t, refl);
+      steps = (λ other effect t. (persists_where_in_flight sys state entries s.apart.entries).0 none other effect t, refl);
       stands = kept-stands sys old (with_keep (record old.parts.keep { entries = persisted entries }) old) records records state s refl
           (record { entries = persisted-none entries none; change = λ held. held; records = sym (option_map_id records); bytes = λ e c. refl });
     }
@@ -140,17 +142,17 @@ pub can-be_made : (sys : System) (old : Running) (records : Option Records) (sta
 can-be_made sys old records state s p f takes live c within =
     let l = takes-declared sys.flow p takes in
     record {
-      flow = s.flow;
-      well_formed = s.well_formed;
-      reached = s.reached;
+      flow = s.apart.flow;
+      well_formed = s.apart.well_formed;
+      reached = s.apart.reached;
       live = live;
       takes = takes;
       canonical = c;
       settled = within;
-      table = s.tables p l;
-      logs = λ e k. s.logs e (sender-there sys.flow p e l k);
+      table = s.apart.tables p l;
+      logs = λ e k. s.apart.logs e (sender-there sys.flow p e l k);
       traces = s.traces p l;
-      counts = s.progress.counts;
+      counts = s.apart.progress.counts;
     }
 
 -- what is asked is an entry of the write
@@ -158,7 +160,7 @@ pub asked-entry : (sys : System) (old new : Running) (before after : Option Reco
     → (a : AsksCheckpoint p f old new before after) → IsEntryOf sys state (asked a.asked.id (tagged.State a.checkpoint) a.stamps) (checkpoint_of state p f)
 asked-entry sys old new before after state p f can a =
     let h = events state.history in
-    asked_entry_is_of_write sys state (checkpoint_of state p f) refl a.asked.id (tagged.State a.checkpoint) a.stamps (made-for sys old state p f a.checkpoint can a.made)
+    asked_entry_is_of_write sys state (checkpoint_of state p f) refl refl refl a.asked.id (tagged.State a.checkpoint) a.stamps (made-for sys old state p f a.checkpoint can a.made)
     (subst (λ flow. AreStampsOf sys (events_inside (node_frontier flow p f) h) p (node_frontier flow p f) a.stamps) can.flow
     (a.held sys h (sym can.flow) (has_epochs sys can.well_formed) (reached-legal sys state can.well_formed can.reached)
     (within-front sys state p f old.traces can.takes can.settled can.traces)))
@@ -186,9 +188,9 @@ asked-takes policy.Full e = absurd (two_ways false e refl)
 checkpoint-leads : (sys : System) (state : Machine) (old : Running) (records : Option Records) → Stands sys old records state
     → (p : ℕ) → MayTakeCheckpoint old p → (next : Machine) × LeadsTo sys state (CheckpointStep p) next silent
 checkpoint-leads sys state old records s p m =
-    (takes_checkpoints_by_last_entry sys s.well_formed state s.reached old.parts.keep.entries s.entries p
-    (ap (λ f. is_asked_for_checkpoints (policy_of f p)) (sym s.flow) ∙ m.asks) (sym (down-failed sys old records state s p) ∙ m.live)).0
-    (λ e. m.other (ap (λ fs. front_of fs p) s.settled ∙ e ∙ ap (λ f. last_or (no_stamps (bounds_of f p)) (entry_fronts p old.parts.keep.entries)) (sym s.flow)))
+    (takes_checkpoints_by_last_entry sys s.apart.well_formed state s.apart.reached old.parts.keep.entries s.apart.entries p
+    (ap (λ f. is_asked_for_checkpoints (policy_of f p)) (sym s.apart.flow) ∙ m.asks) (sym (down-failed sys old records state s p) ∙ m.live)).0
+    (λ e. m.other (ap (λ fs. front_of fs p) s.apart.settled ∙ e ∙ ap (λ f. last_or (no_stamps (bounds_of f p)) (entry_fronts p old.parts.keep.entries)) (sym s.apart.flow)))
 
 -- so the step is enabled there
 pub checkpoint-enabled : (sys : System) (state : Machine) (old : Running) (records : Option Records) → Stands sys old records state
@@ -208,17 +210,17 @@ checkpoint-follows sys state old new before after s changes p e a =
     let writes = state.writes ++ checkpoint_of state p f ∷ [] in
     let next : Machine = record state { writes = writes } in
     let u : LeadsTo sys state (CheckpointStep p) next silent = (t.0, t.1, t.2, refl, refl) in
-    let can = can-be_made sys old before state s p f takes t.1 (reached-settled sys state s.well_formed s.reached p l) (λ v i. i) in
+    let can = can-be_made sys old before state s p f takes t.1 (reached-settled sys state s.apart.well_formed s.apart.reached p l) (λ v i. i) in
     let more = checkpoint_of state p f ∷ [] in
     let entry = asked a.asked.id (tagged.State a.checkpoint) a.stamps in
     let held : AreEntriesOf sys next new.parts.keep.entries (uncollected next) =
     subst (λ es. AreEntriesOf sys next es (uncollected next)) (sym a.asked.entries)
-    (entries_after_asking sys s.well_formed state s.reached (CheckpointStep p) next silent u more refl (refl, tt) entries (entry ∷ []) s.entries
+    (entries_after_asking sys s.apart.well_formed state s.apart.reached (CheckpointStep p) next silent u more refl (refl, tt) entries (entry ∷ []) s.apart.entries
     (asked-entry sys old new before after state p f can a, tt)) in
     let stored : AreStored sys next after new.parts.keep.entries (uncollected next) =
     subst (λ es. AreStored sys next after es (uncollected next)) (sym a.asked.entries)
-    (records_after_asking sys s.well_formed state s.reached (CheckpointStep p) next silent u more refl (refl, tt) entries (entry ∷ []) after
-    (subst (λ es. AreStored sys state after es (uncollected state ++ more)) a.asked.entries (asked-stored sys old new before after state p f can a (uncollected state) s.stored))) in
+    (records_after_asking sys s.apart.well_formed state s.apart.reached (CheckpointStep p) next silent u more refl (refl, tt) entries (entry ∷ []) after
+    (subst (λ es. AreStored sys state after es (uncollected state ++ more)) a.asked.entries (asked-stored sys old new before after state p f can a (uncollected state) s.apart.stored))) in
     record {
       next = next;
       steps = u;
@@ -231,7 +233,7 @@ pub may-follows : (sys : System) (state : Machine) (old new : Running) (before a
     → Follows sys state (CheckpointStep p) (did silent) new after
 may-follows sys state old new before after s c p m a =
     checkpoint-follows sys state old new before after s c p (checkpoint-leads sys state old before s p m)
-    (subst (λ fs. AsksCheckpoint p (front_of fs p) old new before after) s.settled a)
+    (subst (λ fs. AsksCheckpoint p (front_of fs p) old new before after) s.apart.settled a)
 
 -- and else nothing happens
 pub may_not-idle : (sys : System) (state : Machine) (old : Running) (records : Option Records) → Stands sys old records state
@@ -239,11 +241,11 @@ pub may_not-idle : (sys : System) (state : Machine) (old : Running) (records : O
 may_not-idle sys state old records s p isnt =
     idle-follows sys old records state (CheckpointStep p) s (
       λ next effect t. isnt (record {
-        asks = ap (λ f. is_asked_for_checkpoints (policy_of f p)) s.flow ∙ t.0;
+        asks = ap (λ f. is_asked_for_checkpoints (policy_of f p)) s.apart.flow ∙ t.0;
         live = down-failed sys old records state s p ∙ t.1;
         other = λ e.
-            (takes_checkpoints_by_last_entry sys s.well_formed state s.reached old.parts.keep.entries s.entries p t.0 t.1).1 (next, (t.0, t.1, t.2, t.3, refl))
-            (ap (λ fs. front_of fs p) (sym s.settled) ∙ e ∙ ap (λ f. last_or (no_stamps (bounds_of f p)) (entry_fronts p old.parts.keep.entries)) s.flow);
+            (takes_checkpoints_by_last_entry sys s.apart.well_formed state s.apart.reached old.parts.keep.entries s.apart.entries p t.0 t.1).1 (next, (t.0, t.1, t.2, t.3, refl))
+            (ap (λ fs. front_of fs p) (sym s.apart.settled) ∙ e ∙ ap (λ f. last_or (no_stamps (bounds_of f p)) (entry_fronts p old.parts.keep.entries)) s.apart.flow);
       }),
       refl,
     )

@@ -34,7 +34,8 @@ use Rattle.fw_node.specs.TableOf.{IsTableOf}
 use Rattle.fw_record.specs.declared.logged.Logged.{Logged}
 use Rattle.fw_record.specs.declared.record.Checkpoint.{Checkpoint}
 use Rattle.fw_record.specs.declared.record.Record.TheVariants as tagged
-use Rattle.fw_record.specs.Sound.{IsSentCount, each_may_follow, may_follow_counts, may_follow_logged}
+use Rattle.fw_bytes.specs.Sound.{IsSentCount, each_may_follow, may_follow_counts}
+use Rattle.fw_record.specs.Sound.{may_follow_logged}
 use Rattle.fw_bag.specs.Bag.{IsRec}
 use Rattle.fw_record.specs.Spelling.{HasCountableLists}
 use Rattle.fw_keep.specs.Stored.{Records}

@@ -25,7 +25,7 @@ use Rattle.fw_model.specs.Reached.{IsReached}
 use Rattle.fw_model.specs.Writes.{takes_checkpoints}
 use Rattle.fw_policy.specs.View.{base_of}
 use Rattle.fw_model.specs.SortedMessages.{sorted_messages}
-use Rattle.fw_model.specs.Steps.{after_collection, lies_below, front_of_cut, LeadsTo, lows}
+use Rattle.fw_model.specs.Steps.{after_collection, front_of_cut, LeadsTo, lows, is_forgotten}
 use Rattle.fw_model.proofs.ChoiceLaws.{bounds-input, largest-one}
 use Rattle.fw_model.proofs.ChoosingLaws.{largest-holds_low, reached}
 use Rattle.fw_model.proofs.SameInsideLaws.{low_length}
@@ -195,35 +195,35 @@ all_collected_traces-stand sys w state r low rises old new a p l t =
 staged : (Write → Stage) → Write → Write
 staged stage write = record write { stage = stage write }
 
-logged-one : (serial : ℕ) (n : ℕ) (w : Written) (far other : Stage) (one two : List Write) → is_counted ever other ≡ is_counted ever far
+logged-one : (serial : ℕ) (of : Write) (n : ℕ) (w : Written) (far other : Stage) (one two : List Write) → is_counted ever other ≡ is_counted ever far
     → (IsLogged serial one → IsLogged serial two)
-    → IsLogged serial (record { node = n; written = w; stage = far } ∷ one) → IsLogged serial (record { node = n; written = w; stage = other } ∷ two)
-logged-one serial n (checkpoint f low) far other one two e k (inl l) = absurd l
-logged-one serial n (checkpoint f low) far other one two e k (inr l) = inr (k l)
-logged-one serial n (logged_event s) far other one two e k (inl l) = inl (l.0, e ∙ l.1)
-logged-one serial n (logged_event s) far other one two e k (inr l) = inr (k l)
+    → IsLogged serial (record of { node = n; written = w; stage = far } ∷ one) → IsLogged serial (record of { node = n; written = w; stage = other } ∷ two)
+logged-one serial of n (checkpoint f low) far other one two e k (inl l) = absurd l
+logged-one serial of n (checkpoint f low) far other one two e k (inr l) = inr (k l)
+logged-one serial of n (logged_event s) far other one two e k (inl l) = inl (l.0, e ∙ l.1)
+logged-one serial of n (logged_event s) far other one two e k (inr l) = inr (k l)
 
 logged-staged : (serial : ℕ) (stage : Write → Stage) (writes : List Write) → ((write : Write) → is_counted ever (stage write) ≡ is_counted ever write.stage)
     → IsLogged serial writes → IsLogged serial (map (staged stage) writes)
 unfolding staged
 logged-staged serial stage [] e l = l
 logged-staged serial stage (x ∷ writes) e l =
-    logged-one serial x.node x.written x.stage (stage x) writes (map (staged stage) writes) (e x) (logged-staged serial stage writes e) l
+    logged-one serial x x.node x.written x.stage (stage x) writes (map (staged stage) writes) (e x) (logged-staged serial stage writes e) l
 
 staged-logged : (serial : ℕ) (stage : Write → Stage) (writes : List Write) → ((write : Write) → is_counted ever (stage write) ≡ is_counted ever write.stage)
     → IsLogged serial (map (staged stage) writes) → IsLogged serial writes
 unfolding staged
 staged-logged serial stage [] e l = l
 staged-logged serial stage (x ∷ writes) e l =
-    logged-one serial x.node x.written (stage x) x.stage (map (staged stage) writes) writes (sym (e x)) (staged-logged serial stage writes e) l
+    logged-one serial x x.node x.written (stage x) x.stage (map (staged stage) writes) writes (sym (e x)) (staged-logged serial stage writes e) l
 
 -- a collection leaves tables, queues, outputs and what is lost as they were
 pub collection-keeps : (sys : System) (state : Machine) (low : List Front) → KeepsAllButLow sys state (collected_state sys state low)
 unfolding staged
 collection-keeps sys state low =
-    let stage : Write → Stage = λ write. after_collection (lies_below sys low state.history write.node write.written) write.stage in
+    let stage : Write → Stage = λ write. after_collection (is_forgotten sys low state.history state.writes write) write.stage in
     let same : (write : Write) → is_counted ever (stage write) ≡ is_counted ever write.stage =
-    λ write. counts-collected (lies_below sys low state.history write.node write.written) write.stage in
+    λ write. counts-collected (is_forgotten sys low state.history state.writes write) write.stage in
     record {
       tables = λ p table t. record { there = t.there; of_events = t.of_events };
       queues = λ e. refl;

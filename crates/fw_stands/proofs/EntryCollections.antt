@@ -18,6 +18,7 @@ use Rattle.fw_model.specs.Steps.{Effect, LeadsTo, front_of_cut, is_given_up}
 use Rattle.fw_model.specs.Writes.{not_collected}
 use Rattle.fw_model.proofs.AskedLaws.{AreSerialsBelow, serials-each, IsAskedWell, IsWriteAskedWell, reached-all}
 use Rattle.fw_model.proofs.ForgottenLaws.{forgotten-acknowledged}
+use Rattle.fw_model.proofs.WholeLaws.{forgotten-is, reached-whole}
 use Rattle.fw_record.specs.declared.record.Event.{Event}
 use Rattle.fw_keep.specs.declared.entry.Entry.{Entry}
 use Rattle.fw_keep.specs.declared.entry.Written.{Written}
@@ -86,11 +87,12 @@ collected-left sys w state r next effect t R entry es drops is a =
     let left = filter (λ e. not (is_dropped drops e)) es in
     zip-weaker S R left (uncollected next) (λ e x s. s.1)
     (subst (λ xs. AllZip S left (filter not_collected xs)) (sym (ap (λ (m : Machine). m.writes) t.3))
-    (drops_what_is_collected S sys state.history low
+    (drops_what_is_collected S sys state.history low state.writes
     (λ e x s.
     let i = entry e x s.1 in
-    ap (λ p. is_written_given_up sys.flow low p e.written) i.node ∙ given-same sys state low x.node x.stage f.serials e.written x.written s.0 i.holds)
-    es drops state.writes planned
+    ap (λ p. is_written_given_up sys.flow low p e.written) i.node ∙ given-same sys state low x.node x.stage f.serials e.written x.written s.0 i.holds
+    ∙ sym (forgotten-is sys low state.history state.writes (reached-whole sys r.0 r.1 state r.2) x))
+    es drops planned
     (zip-right W R S es (uncollected state) (λ e x b s. (b, s)) (each-kept W not_collected state.writes f.asked) a)
     (forgotten-acknowledged sys w r.0 r.1 state r.2 t.0 t.1)))
 

@@ -53,7 +53,7 @@ use Rattle.fw_record.specs.Event.{stamp_of_event}
 use Rattle.fw_keep.specs.Entry.{is_withdrawn, asked, node_of_record, written_of, is_in_flight_of, lies_within, is_beyond, IsRecordOfEntry}
 use Rattle.fw_keep.specs.Stored.{Records, KeepsBytes}
 use Rattle.fw_record.proofs.RecordLaws.{one_spelling_lem}
-use Rattle.fw_stands.specs.Written.{told_of, IsToldAs, HasEventTold, HoldsWhatIsWritten, IsEntryOf, AreEntriesOf, uncollected, IsRecordFor, IsHeldAs, AreHeld, AreStored}
+use Rattle.fw_stands.specs.Written.{told_of, IsToldAs, HasEventTold, HoldsWhatIsWritten, HasBaseOf, IsEntryOf, AreEntriesOf, uncollected, IsRecordFor, IsHeldAs, AreHeld, AreStored}
 use Rattle.fw_stands.specs.Entries.{StaysWritten, HasStamps, entries_of_event, is_lost_of, without_lost_of}
 use Rattle.fw_stands.proofs.SideBySide.{zip-left, zip-gone}
 use Rattle.fw_policy.proofs.ReadLaws.{told-stamp}
@@ -62,7 +62,8 @@ use Rattle.fw_stands.proofs.WrittenStays.{told-below, what_is_written_stays}
 -- ---- what stands for a write that stays
 
 pub entry-stays : (sys : System) (state next : Machine) (e : Entry) (x : Write) → StaysWritten sys state next x.node x.written → IsEntryOf sys state e x → IsEntryOf sys next e x
-entry-stays sys state next e x a i = record { node = i.node; acknowledged = i.acknowledged; holds = a.held e.written i.holds }
+entry-stays sys state next e x a i =
+    record { node = i.node; acknowledged = i.acknowledged; holds = a.held e.written i.holds; base = i.base; depth = i.depth }
 
 pub held-stays : (sys : System) (state next : Machine) (held : Records) (e : Entry) (x : Write) → StaysWritten sys state next x.node x.written
     → IsHeldAs sys state held e x → IsHeldAs sys next held e x
@@ -96,13 +97,14 @@ of-record sys state p (checkpoint f low) (tagged.Event q event) stamps h s = abs
 of-record sys state p (logged_event n) (tagged.State c) stamps h s = absurd h
 of-record sys state p (logged_event n) (tagged.Event q event) stamps h s = (h.0, h.1)
 
--- the entry that is asked by the record of a write in flight is one of the write
-pub asked_entry_is_of_write : (sys : System) (state : Machine) (write : Write) → write.stage ≡ in_flight → (id : ℕ) (r : Record) (stamps : Stamps)
+-- the entry that is asked by the record of a write in flight, which is whole, is one of the write
+pub asked_entry_is_of_write : (sys : System) (state : Machine) (write : Write) → write.stage ≡ in_flight → write.base ≡ None → write.depth ≡ 0
+    → (id : ℕ) (r : Record) (stamps : Stamps)
     → IsRecordFor sys state write.node write.written r → HasStamps sys state write.node write.written stamps
     → IsEntryOf sys state (asked id r stamps) write
-asked_entry_is_of_write sys state x flies id r stamps h s =
+asked_entry_is_of_write sys state x flies whole flat id r stamps h s =
     let o = of-record sys state x.node x.written r stamps h s in
-    record { node = o.0; acknowledged = ap (is_counted kept) (sym flies); holds = o.1 }
+    record { node = o.0; acknowledged = ap (is_counted kept) (sym flies); holds = o.1; base = subst (HasBaseOf None) (sym whole) tt; depth = sym flat }
 
 -- the bytes of each entry stay
 bytes-each : (es : List Entry) (old new : Records) → KeepsBytes es (Some old) (Some new) → AllByRecursion (λ (e : Entry). map_of.get new e.id ≡ map_of.get old e.id) es
@@ -254,7 +256,7 @@ told-now sys state next v event e told =
 
 event-entries : (sys : System) (next : Machine) (p serial : ℕ) (event : Event) → HasEventTold sys.flow p serial event next.history → (asks : Policy) (id : ℕ) (stamps : Stamps)
     → AreEntriesOf sys next (entries_of_event asks p id event stamps) (write_of_event asks p serial)
-event-entries sys next p serial event told policy.Full id stamps = (record { node = refl; acknowledged = refl; holds = told }, tt)
+event-entries sys next p serial event told policy.Full id stamps = (record { node = refl; acknowledged = refl; holds = told; base = tt; depth = refl }, tt)
 event-entries sys next p serial event told policy.None id stamps = tt
 event-entries sys next p serial event told policy.Lazy id stamps = tt
 event-entries sys next p serial event told policy.Logged id stamps = tt
@@ -279,7 +281,8 @@ entries_after_event sys w state r step next effect t v e event told id stamps es
     (entries-stay sys state next es (uncollected state) (first-stay sys state next (uncollected state) more is stays) a)
     (event-entries sys next p state.next event (told-now sys state next v event e told) asks id stamps))
 
-write-full : (asks : Policy) (p serial : ℕ) → asks ≡ policy.Full → write_of_event asks p serial ≡ record { node = p; written = logged_event serial; stage = in_flight } ∷ []
+write-full : (asks : Policy) (p serial : ℕ) → asks ≡ policy.Full → write_of_event asks p serial
+    ≡ record { node = p; written = logged_event serial; base = None; depth = 0; stage = in_flight } ∷ []
 write-full policy.Full p serial e = refl
 write-full asks p serial e = absurd cc
 
@@ -297,7 +300,7 @@ pub records_after_logged_event : (sys : System) → IsWellFormedSystem sys → (
     → AreStored sys next new (entries ++ asked id (tagged.Event (event_node sys.flow v) event) stamps ∷ []) (uncollected next)
 records_after_logged_event sys w state r step next effect t v e full event told id stamps sound es old new a is k =
     let p = event_node sys.flow v in
-    let x : Write = record { node = p; written = logged_event state.next; stage = in_flight } in
+    let x : Write = record { node = p; written = logged_event state.next; base = None; depth = 0; stage = in_flight } in
     let what = tagged.Event p event in
     let left = left-asked next state.writes (x ∷ [])
     (ap (λ (m : Machine). m.writes) e ∙ ap (λ xs. state.writes ++ xs) (write-full (policy_of sys.flow p) p state.next full)) (refl, tt) in
@@ -401,7 +404,7 @@ IsKeptAs sys state held e x = IsEntryOf sys state e x × IsHeldAs sys state held
 
 acknowledged-too : (sys : System) (state : Machine) (e : Entry) (x : Write) → IsEntryOf sys state e x
     → IsEntryOf sys state (record e { acknowledged = true }) (record x { stage = acknowledged })
-acknowledged-too sys state e x i = record { node = i.node; acknowledged = refl; holds = i.holds }
+acknowledged-too sys state e x i = record { node = i.node; acknowledged = refl; holds = i.holds; base = i.base; depth = i.depth }
 
 held-too : (sys : System) (state : Machine) (held : Records) (e : Entry) (x : Write) → IsHeldAs sys state held e x
     → IsHeldAs sys state held (record e { acknowledged = true }) (record x { stage = acknowledged })

@@ -48,7 +48,8 @@ use Rattle.fw_record.specs.declared.logged.Logged.{Logged}
 use Rattle.fw_record.specs.declared.record.Checkpoint.{Checkpoint}
 use Rattle.fw_record.specs.OfNode as fits
 use Rattle.fw_record.specs.OfNode.{IsOnOneOf, count_sum, CountsFitKind, HasNumbersFor, CanBeLogged, IsLogUnder, IsCheckpointRecordOf}
-use Rattle.fw_record.specs.Sound.{each_may_follow, may_follow_counts, IsSound}
+use Rattle.fw_bytes.specs.Sound.{each_may_follow, may_follow_counts}
+use Rattle.fw_record.specs.Sound.{IsSound}
 use Rattle.fw_policy.specs.Entries.{sent_by_node}
 use Rattle.fw_record.specs.Log.{logged_on}
 use Rattle.fw_record.specs.declared.record.Record.TheVariants as tagged

@@ -1,5 +1,5 @@
 -- Writes in flight are those of declared nodes that are not failed.
-use Rattle.std.proofs.Common.{◌≡◌, ℕ, zero, suc, ◌+◌, ◌<◌, ◌≤◌, Bool, true, false, not, ◌&&◌, ◌||◌, List, [], ◌∷◌, ◌++◌, length, map, filter, refl, sym, ap, ◌∙◌, subst, inl, inr, arith, slice_index_or, slice_set}
+use Rattle.std.proofs.Common.{◌≡◌, ℕ, zero, suc, ◌+◌, ◌<◌, ◌≤◌, Bool, true, false, not, ◌&&◌, ◌||◌, List, [], ◌∷◌, ◌++◌, length, map, filter, refl, sym, ap, ◌∙◌, subst, inl, inr, arith, slice_index_or, slice_set, None}
 use Rattle.std.proofs.lemmas.Bool.{cases_Bool, cases_lt, and_parts, not-true, or_from}
 use Rattle.std.proofs.lemmas.List.{get_or_past}
 use Rattle.std.specs.List.{AllByRecursion, range_with_len}
@@ -19,7 +19,7 @@ use Rattle.fw_flow.specs.declared.step.Step.TheVariants.{Inject, Deliver, Notify
 use Rattle.fw_flow.specs.Dataflow.{System, Dataflow, policy_of, node_ids, idle_node, is_one_of}
 use Rattle.fw_flow.specs.NodeFunction.{event_node}
 use Rattle.fw_model.specs.Machine.{Machine, Write, logged_event, Stage, in_flight, acknowledged, collected, first_state, front_of, is_failed}
-use Rattle.fw_model.specs.Steps.{Effect, Outcome, did, idle, LeadsTo, StepsTo, Run, write_of_event, with_event, checkpoint_of, is_eager, eager_writes, GrowsTo, is_asked_for_checkpoints, is_in_flight, without_lost, with_failed, is_kept_write, recovered_state, front_of_cut, after_collection, collected_writes, lies_below}
+use Rattle.fw_model.specs.Steps.{Effect, Outcome, did, idle, LeadsTo, StepsTo, Run, write_of_event, with_event, checkpoint_of, is_eager, eager_writes, GrowsTo, is_asked_for_checkpoints, is_in_flight, without_lost, with_failed, is_kept_write, recovered_state, front_of_cut, after_collection, collected_writes, is_forgotten}
 use Rattle.fw_model.specs.Choice.{cut_of}
 use Rattle.fw_model.specs.Reached.{IsReached}
 use Rattle.fw_stands.specs.Failures.{failed_state, IsOfLiveNode}
@@ -42,7 +42,7 @@ is_full other = false
 -- ---- writes that are asked
 
 -- an event is logged by a write of a node whose policy is full
-event-each : (P : Write → Type 0) (kind : Policy) (p serial : ℕ) → (kind ≡ policy.Full → P (record { node = p; written = logged_event serial; stage = in_flight }))
+event-each : (P : Write → Type 0) (kind : Policy) (p serial : ℕ) → (kind ≡ policy.Full → P (record { node = p; written = logged_event serial; base = None; depth = 0; stage = in_flight }))
     → AllByRecursion P (write_of_event kind p serial)
 event-each P policy.Full p serial k = (k refl, tt)
 event-each P kind p serial k = tt
@@ -148,9 +148,9 @@ takes-live sys state Collect next effect t a =
     let low = map front_of_cut t.0.cuts in
     let made : Machine = record state { low = low; writes = collected_writes sys low state.history state.writes } in
     to-live sys state next made t.3
-    (each-map (IsOfLiveNode sys made) (λ (x : Write). record x { stage = after_collection (lies_below sys low state.history x.node x.written) x.stage }) state.writes
-    (each-weaker (IsOfLiveNode sys state) (λ x. IsOfLiveNode sys made (record x { stage = after_collection (lies_below sys low state.history x.node x.written) x.stage })) state.writes
-    (λ x k i. k (still-flying (lies_below sys low state.history x.node x.written) x.stage i)) a))
+    (each-map (IsOfLiveNode sys made) (λ (x : Write). record x { stage = after_collection (is_forgotten sys low state.history state.writes x) x.stage }) state.writes
+    (each-weaker (IsOfLiveNode sys state) (λ x. IsOfLiveNode sys made (record x { stage = after_collection (is_forgotten sys low state.history state.writes x) x.stage })) state.writes
+    (λ x k i. k (still-flying (is_forgotten sys low state.history state.writes x) x.stage i)) a))
 takes-live sys state (Ack o) next effect t a =
     let made : Machine = record state { ack_counts = slice_set state.ack_counts o (t.0 + 1) } in
     to-live sys state next made t.2 (same-failed sys state made refl state.writes a)

@@ -21,7 +21,7 @@ use Rattle.fw_model.specs.Choice.{ever, is_counted, IsLogged}
 use Rattle.fw_model.specs.Machine.{Machine, SerialEvent, Write, Stage, in_flight, acknowledged, collected, checkpoint, logged_event, front_of, is_failed, first_state}
 use Rattle.fw_model.specs.Machine.{Written as WrittenBy}
 use Rattle.fw_model.specs.Reached.{IsReached}
-use Rattle.fw_model.specs.Steps.{Effect, Outcome, did, idle, LeadsTo, Run, with_event, write_of_event, eager_writes, is_eager, checkpoint_of, is_in_flight, AcknowledgesOldest, with_failed, lies_below, after_collection, front_of_cut}
+use Rattle.fw_model.specs.Steps.{Effect, Outcome, did, idle, LeadsTo, Run, with_event, write_of_event, eager_writes, is_eager, checkpoint_of, is_in_flight, AcknowledgesOldest, with_failed, after_collection, front_of_cut, is_forgotten}
 use Rattle.fw_model.proofs.AskedLaws.{eager-takes, takes-declared, IsAskedWell, IsWriteAskedWell, reached-all}
 use Rattle.fw_model.proofs.ThinnedLaws.{each-contained}
 use Rattle.fw_model.proofs.WriteLaws.{HoldsOfOne, some-append, some-mapped, some-replaced, NamesEvent, LogsEvent, some-logged, logged-some}
@@ -101,7 +101,7 @@ took-live sys state Recover next effect t a =
     subst FlyLive (sym t.7)
     (each-one (IsLive (λ p. get_or (map (λ (q : ℕ). false) (node_ids sys.flow)) p false)) _ (λ x k. none-failed (node_ids sys.flow) x.node))
 took-live sys state Collect next effect t a =
-    let below : Write → Bool = λ x. lies_below sys (map front_of_cut t.0.cuts) state.history x.node x.written in
+    let below : Write → Bool = λ x. is_forgotten sys (map front_of_cut t.0.cuts) state.history state.writes x in
     subst FlyLive (sym t.3)
     (each-map (IsLive (is_failed state)) (λ (x : Write). record x { stage = after_collection (below x) x.stage }) state.writes
     (each-weaker (IsLive (is_failed state)) (λ (x : Write). IsLive (is_failed state) (record x { stage = after_collection (below x) x.stage })) state.writes
@@ -297,7 +297,7 @@ losses_stay sys w state r step next effect t p old new at = lost-alike sys state
     by Collect t =
         same-history sys state next p (ap (λ (m : Machine). m.history) t.3)
         (λ v n c. subst (LoggedAlike v.serial state.writes) (sym (ap (λ (m : Machine). m.writes) t.3))
-        (alike-collected v.serial (λ x. lies_below sys (map front_of_cut t.0.cuts) state.history x.node x.written) state.writes))
+        (alike-collected v.serial (is_forgotten sys (map front_of_cut t.0.cuts) state.history state.writes) state.writes))
     by (Ack o) t =
         same-history sys state next p (ap (λ (m : Machine). m.history) t.2)
         (λ v n c. subst (LoggedAlike v.serial state.writes) (sym (ap (λ (m : Machine). m.writes) t.2)) ((λ k. k), λ k. k))

@@ -26,7 +26,8 @@ use Rattle.fw_model.specs.Reached.{IsReached}
 use Rattle.fw_model.specs.History.{IsEnabled}
 use Rattle.fw_record.specs.declared.record.Event.TheVariants as told_event
 use Rattle.fw_record.specs.declared.record.Record.TheVariants as tagged
-use Rattle.fw_record.specs.Sound.{IsStamp, IsSound}
+use Rattle.fw_bytes.specs.Sound.{IsStamp}
+use Rattle.fw_record.specs.Sound.{IsSound}
 use Rattle.fw_record.specs.declared.record.Event.{Event}
 use Rattle.fw_stands.specs.Written.{told_of}
 use Rattle.fw_stands.specs.Entries.{HasRecOf64Bits}

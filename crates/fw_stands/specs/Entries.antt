@@ -1,13 +1,13 @@
 -- What stands for what is written, and what becomes of entries in a step.
-use Rattle.std.specs.Prelude.{ℕ, Bool, not, ◌&&◌, ◌==◌, if◌then◌else◌, List, [], ◌∷◌, filter}
-use Rattle.std.specs.List.{flat_map}
-use Rattle.fw_frontier.specs.Front.{Front}
+use Rattle.std.specs.Prelude.{ℕ, Bool, not, ◌&&◌, ◌==◌, if◌then◌else◌, List, [], ◌∷◌, filter, ◌≡◌, Option, Some, None, option_and_then}
+use Rattle.std.specs.List.{flat_map, list_any, AllZip}
+use Rattle.fw_frontier.specs.Front.{Front, same_front}
 use Rattle.fw_flow.specs.declared.choice.Stamps.{Stamps}
 use Rattle.fw_flow.specs.declared.kind.Policy.{Policy}
 use Rattle.fw_flow.specs.declared.kind.Policy.TheVariants as policy
 use Rattle.fw_flow.specs.Dataflow.{System, node_frontier, is_one_of}
 use Rattle.fw_model.specs.EventStamps.{AreStampsOf}
-use Rattle.fw_model.specs.Machine.{Machine, checkpoint, logged_event, Written as WrittenBy}
+use Rattle.fw_model.specs.Machine.{Machine, checkpoint, logged_event, Written as WrittenBy, Write}
 use Rattle.fw_record.specs.declared.record.Event.{Event}
 use Rattle.fw_record.specs.declared.record.Event.TheVariants as logged
 use Rattle.fw_record.specs.declared.record.Record.{Record}
@@ -65,3 +65,15 @@ entry_front (written.Event event) = []
 -- the frontiers of the checkpoints of node p, in order
 abbrev pub entry_fronts : ℕ → List Entry → List Front
 entry_fronts p entries = flat_map (λ (e : Entry). if e.node == p then entry_front e.written else []) entries
+
+-- ---- bases
+
+-- the id of the first of these entries that is of a checkpoint of node p at f, if one is
+abbrev pub id_at_front : ℕ → Front → List Entry → Option ℕ
+id_at_front p f [] = None
+id_at_front p f (e ∷ entries) = if list_any (same_front f) (entry_fronts p (e ∷ [])) then Some e.id else id_at_front p f entries
+
+-- each entry has for its base the id of the one, among all of them, that is at the front of its write's base; none where that has none
+abbrev pub AreBasesOf : List Entry → List Entry → List Write → Type 0
+AreBasesOf all entries writes =
+    AllZip (λ (e : Entry) (write : Write). e.base ≡ option_and_then (λ f. id_at_front write.node f all) write.base) entries writes

@@ -17,7 +17,7 @@ use Rattle.fw_model.specs.Machine.{Written as WrittenBy}
 use Rattle.fw_model.specs.SortedMessages.{sorted_messages}
 use Rattle.fw_node.specs.StateOf.{IsStateOf}
 use Rattle.fw_policy.specs.Entries.{IsRecorded, sent_by_node}
-pub use Rattle.fw_policy.specs.Entries.{told_of, IsToldAs, HasEventTold, events_within, count_within, HoldsWithin, HoldsWhatIsWritten, IsEntryOf, AreEntriesOf, uncollected}
+pub use Rattle.fw_policy.specs.Entries.{told_of, IsToldAs, HasEventTold, events_within, count_within, HoldsWithin, HoldsWhatIsWritten, HasBaseOf, IsEntryOf, AreEntriesOf, uncollected}
 use Rattle.fw_record.specs.declared.logged.Logged.{Logged}
 use Rattle.fw_record.specs.declared.record.Checkpoint.{Checkpoint}
 use Rattle.fw_record.specs.declared.record.Record.{Record}

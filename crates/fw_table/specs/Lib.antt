@@ -1,4 +1,4 @@
 pub mod Content
-pub mod Few
+pub mod SmallRecs
 pub mod Sent
 pub mod Sums

@@ -1,6 +1,6 @@
 //! A store on disk, and the files under it.
 use fw_disk::DiskStore;
-use fw_outside::{OutFault, Store};
+use fw_outside::{Failed, OutFault, Store};
 use row_words::{Answers, NoAnswer, Row, bytes_of, part, tell_row};
 use std::alloc::{AllocError, Global};
 use std::fmt::Write;
@@ -43,6 +43,7 @@ impl<R: Files<File = File>> Answers for OnDisk<'_, R> {
         match word {
             "put" => put(self.alloc, &mut self.store, first, words, said),
             "get" => get(self.alloc, &mut self.store, first, said),
+            "has" => has(&mut self.store, first, said),
             "remove" => remove(&mut self.store, first, said),
             "many" => many(&mut self.store, first, words, said),
             "other" => other(self.alloc, self.files, self.folder, first, said),
@@ -92,6 +93,21 @@ fn get<R: Files<File = File>>(
     let became = store.get(id.parse::<u64>()?, &mut bytes);
     say_became(became, store.faults(), said)?;
     show(&bytes, said)?;
+    Ok(())
+}
+
+/// Whether a record is there.
+fn has<R: Files<File = File>>(
+    store: &mut DiskStore<'_, R>,
+    id: &str,
+    said: &mut String,
+) -> Result<(), NoAnswer> {
+    let word = match store.has(id.parse::<u64>()?) {
+        Ok(true) => "there",
+        Ok(false) => "not there",
+        Err(Failed) => "failed",
+    };
+    write!(said, "{word} faults {}", store.faults())?;
     Ok(())
 }
 

@@ -77,7 +77,7 @@ pub fn stamp_in(alloc: Global, word: &str, bounds: &Bounds) -> Result<Stamp, NoA
 pub fn node_of(flow: &Flow, name: &str) -> Result<NodeId, NoAnswer>
     ensures { IfOk result (λ p. p < length flow.now.nodes) }
 {
-    match flow.node_named(name.as_bytes()) {
+    match flow.node_named(name) {
         Some(node) if (node.place() as usize) < flow.nodes() => Ok(node),
         _ => Err(NoAnswer::NotSpelled),
     }
@@ -87,7 +87,7 @@ pub fn node_of(flow: &Flow, name: &str) -> Result<NodeId, NoAnswer>
 pub fn edge_of(flow: &Flow, name: &str) -> Result<EdgeId, NoAnswer>
     ensures { IfOk result (λ e. e < length flow.now.edges) }
 {
-    match flow.edge_named(name.as_bytes()) {
+    match flow.edge_named(name) {
         Some(edge) if (edge.place() as usize) < flow.edges() => Ok(edge),
         _ => Err(NoAnswer::NotSpelled),
     }

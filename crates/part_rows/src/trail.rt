@@ -76,7 +76,7 @@ fn edge_name<'a>(flow: &Flow, lines: &'a str, edge: EdgeId) -> &'a str {
     for line in lines.lines() {
         if let ("edge", rest) = part(line) {
             let (name, _) = part(rest);
-            if flow.edge_named(name.as_bytes()) == Some(edge) {
+            if flow.edge_named(name) == Some(edge) {
                 return name;
             }
         }

@@ -1,7 +1,7 @@
 //! A store whose records are noted, so that a row can show them.
 ghost use Rattle.std.specs.Prelude.{◌≡◌};
 
-use fw_outside::{OutFault, Store};
+use fw_outside::{Failed, OutFault, Store};
 use row_words::show_digits;
 use std::alloc::{AllocError, Global};
 use std::collections::BTreeMap;
@@ -55,6 +55,10 @@ impl<K: Store> Store for NotedStore<K> {
 
     fn get(&mut self, id: u64, into: &mut Vec<u8>) -> Result<(), OutFault> {
         self.store.get(id, into)
+    }
+
+    fn has(&mut self, id: u64) -> Result<bool, Failed> {
+        self.store.has(id)
     }
 
     fn remove(&mut self, id: u64) -> Result<(), OutFault> {

@@ -143,7 +143,7 @@ fn tell_run(
     told: &mut String,
 ) -> Result<bool, AllocError> {
     if run.foul.is_empty() {
-        let store = MemStore::new(alloc, failing.to_vec(alloc)?);
+        let store = MemStore::failing_at(alloc, failing.to_vec(alloc)?);
         return tell_over(alloc, run, words, outside, store, told);
     }
     let store = FoulStore::new(alloc, foul_of(alloc, run)?);

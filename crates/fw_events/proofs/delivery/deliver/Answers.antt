@@ -37,7 +37,7 @@ returns-in_err-log_delivery g c =
     let e = c.in_err-log_delivery.field-0.0 in
     let log = c.in_err-log_delivery.ensures in
     step-fails refl refl (at-receiver c.args.running.now.flow c.args.edge c.dst-node.ensures log.part) c.from_residual.ensures.1 (stays-shaped {T = Unit {0}} (Err e) new log.shaped)
-    (λ sys state s. left-answers (Unit {0}) sys state step e new before after log.part.undamaged (
+    (λ sys state s. left-answers (Unit {0}) sys state step e new after log.part.undamaged (
       found-enabled sys state c.args.edge (option_copied c.args.at) c.in-Some.field-0 old before s c.requires.shaped c.in-Some.ensures,
       unasked-stands sys old new before after state s log.others log.stays,
     ))

@@ -1,5 +1,5 @@
-use Rattle.fw_model.proofs.ForgottenLaws.{collected-below}
+use Rattle.fw_model.proofs.ForgottenLaws.{collected-forgotten}
 use Rattle.fw_model.proofs.laws.collected_is_what_lies_below.Goals as goal
 
 pub returns : goal.returns
-returns c = collected-below
+returns c = collected-forgotten

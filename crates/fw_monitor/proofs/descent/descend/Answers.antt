@@ -2,12 +2,12 @@ use Rattle.std.proofs.Common.{ℕ, ◌<◌, ◌≤◌, [], length, sym, ap, subs
 use Rattle.fw_frontier.specs.Front.{IsFrontOf}
 use Rattle.fw_flow.specs.Dataflow.{bounds_of}
 use Rattle.fw_model.specs.Machine.{front_of}
-use Rattle.fw_model.specs.Choice.{cut_of, IsLargestBy}
+use Rattle.fw_model.specs.Choice.{cut_of, IsLargestBy, IsChoiceOf}
 use Rattle.fw_model.specs.Covers.{set_of}
 use Rattle.fw_model.specs.Offers.{IsOffered, covers_of}
-use Rattle.fw_monitor.specs.Chosen.{IsChoiceOf}
-use Rattle.fw_monitor.specs.Descent.{choice_of, HasConsistent}
-use Rattle.fw_monitor.specs.Inclusions.{inclusions}
+use Rattle.fw_model.specs.Lowerings.{choice_of}
+use Rattle.fw_monitor.specs.Descent.{HasConsistent}
+use Rattle.fw_model.specs.Inclusions.{inclusions}
 use Rattle.fw_monitor.specs.Trail.{IsTrail}
 use Rattle.fw_monitor.proofs.DescentLaws.{largest_of, of_flow}
 use Rattle.fw_monitor.proofs.TestLaws.{IsAt, begun, next_at, there_at, again_at, further_at, again_falls, further_falls, each_holds, trail_ends, each_tested}

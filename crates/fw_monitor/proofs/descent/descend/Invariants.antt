@@ -1,4 +1,4 @@
-use Rattle.fw_monitor.specs.Descent.{choice_of}
+use Rattle.fw_model.specs.Lowerings.{choice_of}
 use Rattle.fw_monitor.proofs.TestLaws.{IsAt, left_over}
 use Rattle.fw_monitor.proofs.descent.descend.Given as goal
 

@@ -1,6 +1,6 @@
 use Rattle.std.proofs.Common.{sym, subst, IfOk}
-use Rattle.fw_monitor.specs.declared.side.Inclusion.TheVariants.{OfCut, OfNote}
-use Rattle.fw_monitor.specs.Descent.{choice_of}
+use Rattle.fw_flow.specs.declared.side.Inclusion.TheVariants.{OfCut, OfNote}
+use Rattle.fw_model.specs.Lowerings.{choice_of}
 use Rattle.fw_monitor.specs.Tests.{IsTested}
 use Rattle.fw_monitor.proofs.descent.lower.Goals as goal
 

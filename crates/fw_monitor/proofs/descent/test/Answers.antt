@@ -1,10 +1,11 @@
 use Rattle.std.proofs.Common.{true, false, set, sym, subst, ◌∙◌, arith}
 use Rattle.std.specs.List.{AllByRecursion}
-use Rattle.fw_monitor.specs.Descent.{choice_of}
-use Rattle.fw_monitor.specs.Inclusions.{IsInclusionOf, number, AreMadeToWait}
+use Rattle.fw_model.specs.Lowerings.{choice_of}
+use Rattle.fw_model.specs.Inclusions.{IsInclusionOf}
+use Rattle.fw_monitor.specs.Worklist.{number, AreMadeToWait}
 use Rattle.fw_monitor.specs.Tests.{IsTested, IsOneTest}
 use Rattle.fw_monitor.proofs.WorklistLaws.{after-there}
-use Rattle.fw_monitor.proofs.DescentLaws.{node-there}
+use Rattle.fw_model.proofs.InclusionLaws.{node-there}
 use Rattle.fw_monitor.proofs.TestLaws.{flag_read, taken_held, taken_lowered}
 use Rattle.fw_monitor.proofs.descent.test.Goals as goal
 

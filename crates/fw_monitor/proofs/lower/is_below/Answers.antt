@@ -1,7 +1,8 @@
 use Rattle.std.proofs.Common.{◌≡◌, ◌↔◌, true, not, sym, subst}
 use Rattle.fw_flow.specs.declared.choice.Cut.{Cut}
 use Rattle.fw_flow.specs.Dataflow.{bounds_of}
-use Rattle.fw_monitor.specs.Descent.{IsCanonicalCut, IsBelow}
+use Rattle.fw_model.specs.Choice.{IsCanonicalCut}
+use Rattle.fw_monitor.specs.Descent.{IsBelow}
 use Rattle.fw_monitor.proofs.FitLaws.{below_other, not_below}
 use Rattle.fw_monitor.proofs.lower.is_below.Goals as goal
 

@@ -1,11 +1,11 @@
 use Rattle.std.proofs.Common.{[], ◌∷◌, ◌++◌, map, ap, ◌∙◌}
 use Rattle.std.proofs.lemmas.List.{append_assoc}
 use Rattle.fw_flow.specs.Dataflow.{in_edges, out_edges}
-use Rattle.fw_monitor.specs.declared.side.Side.TheVariants.{Notified}
-use Rattle.fw_monitor.specs.declared.side.Limit.TheVariants.{Own}
-use Rattle.fw_monitor.specs.declared.side.Inclusion.TheVariants.{OfCut, OfNote}
-use Rattle.fw_monitor.specs.declared.side.OnEdge.TheVariants as edge
-use Rattle.fw_monitor.specs.Inclusions.{inclusion_on_edge}
+use Rattle.fw_flow.specs.declared.side.Side.TheVariants.{Notified}
+use Rattle.fw_flow.specs.declared.side.Limit.TheVariants.{Own}
+use Rattle.fw_flow.specs.declared.side.Inclusion.TheVariants.{OfCut, OfNote}
+use Rattle.fw_monitor.specs.declared.worklist.OnEdge.TheVariants as edge
+use Rattle.fw_monitor.specs.Worklist.{inclusion_on_edge}
 use Rattle.fw_monitor.proofs.WorklistLaws.{longer, longer_on}
 use Rattle.fw_monitor.proofs.worklist.add_after_cut.Goals as goal
 

@@ -1,5 +1,5 @@
 use Rattle.std.proofs.Common.{◌≡◌, ◌++◌, map, take}
-use Rattle.fw_monitor.specs.Inclusions.{inclusion_on_edge}
+use Rattle.fw_monitor.specs.Worklist.{inclusion_on_edge}
 use Rattle.fw_monitor.proofs.worklist.add_on_edges.Given as goal
 
 abbrev pub invariant-loop-edge : goal.invariant-loop-edge

@@ -1,4 +1,4 @@
-use Rattle.fw_monitor.specs.Inclusions.{inclusions_to}
+use Rattle.fw_model.specs.Inclusions.{inclusions_to}
 use Rattle.fw_monitor.proofs.WorklistLaws.{inclusions_next}
 use Rattle.fw_monitor.proofs.worklist.inclusions.Goals as goal
 

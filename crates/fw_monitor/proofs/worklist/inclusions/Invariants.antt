@@ -1,5 +1,5 @@
 use Rattle.std.proofs.Common.{◌≡◌}
-use Rattle.fw_monitor.specs.Inclusions.{inclusions_to}
+use Rattle.fw_model.specs.Inclusions.{inclusions_to}
 use Rattle.fw_monitor.proofs.worklist.inclusions.Given as goal
 
 abbrev pub invariant-loop-place : goal.invariant-loop-place

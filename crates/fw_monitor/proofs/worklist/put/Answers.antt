@@ -1,5 +1,5 @@
 use Rattle.std.proofs.Common.{◌∷◌, [], true, set, sym, subst}
-use Rattle.fw_monitor.specs.Inclusions.{AreMadeToWait}
+use Rattle.fw_monitor.specs.Worklist.{AreMadeToWait}
 use Rattle.fw_monitor.proofs.WorklistLaws.{put_one}
 use Rattle.fw_monitor.proofs.worklist.put.Goals as goal
 

@@ -1,5 +1,5 @@
 use Rattle.std.proofs.Common.{take}
-use Rattle.fw_monitor.specs.Inclusions.{AreMadeToWait}
+use Rattle.fw_monitor.specs.Worklist.{AreMadeToWait}
 use Rattle.fw_monitor.proofs.worklist.put_all.Given as goal
 
 abbrev pub invariant-loop-inclusion : goal.invariant-loop-inclusion

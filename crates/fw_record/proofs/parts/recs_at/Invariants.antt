@@ -1,5 +1,6 @@
 use Rattle.std.proofs.Common.{◌≡◌, ◌-◌, []}
-use Rattle.fw_record.specs.Reading.{many_of, next_total_of}
+use Rattle.fw_bytes.specs.Reading.{many_of}
+use Rattle.fw_record.specs.Reading.{next_total_of}
 use Rattle.fw_record.proofs.parts.recs_at.Given as goal
 
 abbrev pub invariant-loop : goal.invariant-loop

@@ -1,7 +1,8 @@
 use Rattle.std.proofs.Common.{[]}
 use Rattle.std.proofs.lemmas.Result.{err_from_is_err_and}
-use Rattle.fw_record.specs.Reading.{many_of, of_edge_of}
-use Rattle.fw_record.proofs.PartLoops.{goes_on, ends, is_done}
+use Rattle.fw_bytes.specs.Reading.{many_of}
+use Rattle.fw_record.specs.Reading.{of_edge_of}
+use Rattle.fw_bytes.proofs.PartLoops.{goes_on, ends, is_done}
 use Rattle.fw_record.proofs.reading.of_edges_from.Goals as goal
 
 pub returns-in_err-part : goal.returns-in_err-part

@@ -1,5 +1,6 @@
 use Rattle.std.proofs.Common.{◌≡◌, ◌-◌, []}
-use Rattle.fw_record.specs.Reading.{many_of, of_edge_of}
+use Rattle.fw_bytes.specs.Reading.{many_of}
+use Rattle.fw_record.specs.Reading.{of_edge_of}
 use Rattle.fw_record.proofs.reading.of_edges_from.Given as goal
 
 abbrev pub invariant-loop : goal.invariant-loop

@@ -1,6 +1,7 @@
 use Rattle.std.proofs.Common.{◌≡◌, ◌++◌, length, take}
 use Rattle.std.specs.List.{flat_map, AllByRecursion}
-use Rattle.fw_record.specs.Spelling.{u32_bytes, of_edge_bytes, IsCountable}
+use Rattle.fw_bytes.specs.Spelling.{u32_bytes, IsCountable}
+use Rattle.fw_record.specs.Spelling.{of_edge_bytes}
 use Rattle.fw_record.proofs.writing.put_of_edges.Given as goal
 
 -- the bytes so far, and that the fronts so far have no more stamps than their counts can say

@@ -1,22 +1,23 @@
-use Rattle.std.proofs.Common.{Ok, Option, is_some, refl, sym, ap, subst, ◌∙◌}
+use Rattle.std.proofs.Common.{Ok, refl, sym, ap, subst, ◌∙◌}
 use Rattle.std.specs.List.{list_any}
 use Rattle.fw_flow.specs.declared.step.Step.TheVariants as steps
-use Rattle.fw_keep.specs.Stored.{Records, IsStored}
+use Rattle.fw_keep.specs.Stored.{IsStored}
+use Rattle.fw_outside.proofs.ToldLaws.{told-before}
 use Rattle.fw_rollback.specs.declared.parts.Parts.{Parts}
 use Rattle.fw_running.specs.declared.stepped.Effect.TheVariants.{Cuts}
 use Rattle.fw_running.specs.declared.stepped.Stepped.{Stepped}
 use Rattle.fw_running.specs.declared.stepped.Stepped.TheVariants.{Did}
 use Rattle.fw_running.specs.Faults.{fault_of}
 use Rattle.fw_running.specs.Shaped.{IsShaped}
-use Rattle.fw_running.specs.Steps.{TakesStep}
 use Rattle.fw_running.proofs.AnswerLaws.{no_damage}
+use Rattle.fw_running.proofs.SameStateLaws.{told-shows, told-takes}
 use Rattle.fw_running.proofs.StepLaws.{busy, fault-counts, recovery-answers, recovery-fails, recovery-refused}
 use Rattle.fw_recover.proofs.FollowedLaws.{followed-recovered, followed-shaped, queues-at_receivers}
 use Rattle.fw_recover.proofs.RecoverStepLaws.{recovery-done, recovery-shows, refused-damage, refused-stands, some-down}
 use Rattle.fw_recover.proofs.recovery.recover.Goals as goal
 
 pub returns-in_err-choice : goal.returns-in_err-choice
-returns-in_err-choice g c = recovery-refused c.from_residual.ensures.1 c.requires.stored refl refl refl
+returns-in_err-choice g c = recovery-refused c.from_residual.ensures.1 c.requires.stored refl refl (λ told. told)
 
 pub returns-in_err-restore : goal.returns-in_err-restore
 returns-in_err-restore g c =
@@ -31,28 +32,30 @@ returns-in_err-restore g c =
     let some = some-down old.failed.items c.any_of.result (c.any_of.ensures ∙ ap (list_any (λ down. down)) c.deref.ensures.value) c.if-not-any_of.false in
     recovery-fails (fault_of f) is
     (subst (λ (parts : Parts). IsShaped (record old { parts = parts })) (sym restored.kept) c.requires.shaped) restored.stored refl
-    (refused-stands old c.restore.new.parts choice before.records after.records after.given f result c.requires.shaped some restored.kept restored.stays is
-    restored.damaged)
-    (restored.faults ∙ fault-counts (Unit {0}) Stepped f before.faults) (refused-damage old choice before.records after.given f result c.in_ok-choice.ensures.of_state is restored.damaged)
-    (ap (λ (r : Option Records). is_some r) restored.stays)
+    (told-takes old (record old { parts = c.restore.new.parts }) before.records after.records steps.Recover result c.restore.ensures.stays
+    (refused-stands old c.restore.new.parts choice after.records after.given f result c.requires.shaped some restored.kept is restored.damaged))
+    (restored.faults ∙ fault-counts (Unit {0}) Stepped f before.faults) (refused-damage old choice after.records after.given f result c.in_ok-choice.ensures.of_state is restored.damaged)
+    (told-before before.records after.records c.restore.ensures.stays)
 
 pub returns-in_err-follow : goal.returns-in_err-follow
 returns-in_err-follow g c =
     let restored = c.in_ok-restore.ensures in
     recovery-refused c.from_residual-in_err-follow.ensures.1
     (subst (λ (parts : Parts). IsStored parts.keep (g.K.Store.view c.restore.new.store).records) (sym c.follow.ensures.parts) restored.stored)
-    c.follow.ensures.flow restored.faults (ap (λ (r : Option Records). is_some r) restored.stays)
+    c.follow.ensures.flow restored.faults (told-before _ _ c.restore.ensures.stays)
 
 pub follow-requires-clause-queues : goal.follow-requires-clause-queues
 follow-requires-clause-queues g c =
-    queues-at_receivers c.in_ok-choice.choice (g.K.Store.view c.args.store.now).records c.args.running.now c.restore.new.parts c.requires.shaped c.in_ok-restore.ensures.restored
+    queues-at_receivers c.in_ok-choice.choice (g.K.Store.view c.restore.new.store).records c.args.running.now c.restore.new.parts c.requires.shaped c.in_ok-restore.ensures.restored
     c.restore.ensures.each
 
 pub returns : goal.returns
 returns g c =
     let old = c.args.running.now in
     let choice = c.in_ok-choice.choice in
-    let records = (g.K.Store.view c.args.store.now).records in
+    let before = (g.K.Store.view c.args.store.now).records in
+    let records = (g.K.Store.view c.restore.new.store).records in
+    let stays = c.restore.ensures.stays in
     let restored = c.in_ok-restore.ensures in
     let followed = c.in_ok-follow.ensures in
     let made = followed-recovered choice records old c.follow.new.running c.restore.new.parts restored.restored followed.followed followed.flow followed.parts in
@@ -62,7 +65,8 @@ returns g c =
     (followed-shaped choice records old c.follow.new.running c.restore.new.parts c.requires.shaped restored.restored restored.each followed.followed followed.flow
     followed.parts)
     (subst (λ (parts : Parts). IsStored parts.keep (g.K.Store.view c.restore.new.store).records) (sym followed.parts) restored.stored) followed.flow
-    (subst (TakesStep old records steps.Recover (Ok (Did (Cuts choice))) c.follow.new.running) (sym restored.stays)
+    (told-takes old c.follow.new.running before records steps.Recover (Ok (Did (Cuts choice))) stays
     (recovery-done old c.follow.new.running records choice c.requires.shaped some of_state made))
-    (recovery-shows old c.follow.new.running records choice c.requires.shaped some of_state made) restored.faults (λ id e. absurd (no_damage {T = Stepped} (Ok (Did (Cuts choice))) id tt e))
-    (ap (λ (r : Option Records). is_some r) restored.stays) busy
+    (told-shows old before records steps.Recover (Ok (Did (Cuts choice))) stays
+    (recovery-shows old c.follow.new.running records choice c.requires.shaped some of_state made)) restored.faults (λ id e. absurd (no_damage {T = Stepped} (Ok (Did (Cuts choice))) id tt e))
+    (told-before before records stays) busy

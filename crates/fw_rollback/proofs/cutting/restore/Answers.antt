@@ -4,7 +4,7 @@ use Rattle.fw_rollback.proofs.cutting.restore.Goals as goal
 
 pub build-requires-clause-serve : goal.build-requires-clause-serve
 build-requires-clause-serve g c =
-    fetched-serve c.args.flow.now c.args.choice.now (g.K.Store.view c.args.store.now).records c.args.parts.now.keep.entries c.in_ok-given.given c.in_ok-given.ensures.fetched
+    fetched-serve c.args.flow.now c.args.choice.now (g.K.Store.view c.read.new.store).records c.args.parts.now.keep.entries c.in_ok-given.given c.in_ok-given.ensures.fetched
 
 pub returns-clause-restored : goal.returns-clause-restored
 returns-clause-restored g c = record {

@@ -13,7 +13,7 @@ pub loop-init : goal.loop-init
 loop-init g c = record {
   stored = c.requires.stored;
   in_order = c.requires.in_order;
-  tells = refl;
+  told_before = λ told. told;
   flow = refl;
   faults = refl;
   of_steps = c.requires.room.of_steps;
@@ -31,7 +31,7 @@ loop-preserved g c =
     record {
       stored = c.auto_step.ensures.stored;
       in_order = c.auto_step.ensures.in_order;
-      tells = c.auto_step.ensures.tells ∙ c.loop.invariant.tells;
+      told_before = λ told. c.loop.invariant.told_before (sym c.auto_step.ensures.tells ∙ told);
       flow = c.auto_step.ensures.flow ∙ c.loop.invariant.flow;
       faults = c.in_ok-stepped.ensures.faults ∙ c.loop.invariant.faults;
       of_steps = of_steps-more c.loop.tally c.count.new.self (outcome_of c.in_ok-stepped.stepped) c.loop.invariant.of_steps c.count.ensures;

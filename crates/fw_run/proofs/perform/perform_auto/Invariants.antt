@@ -1,5 +1,5 @@
 use Rattle.std.proofs.Common.{◌≡◌, ◌+◌}
-use Rattle.std.specs.Prelude.{is_some}
+use Rattle.std.specs.Prelude.{IsSome}
 use Rattle.fw_keep.specs.Catalogue.{AreAscending, ids_of}
 use Rattle.fw_keep.specs.Stored.{IsStored}
 use Rattle.fw_engine.specs.Engine.{flow_of, keep_of}
@@ -12,7 +12,7 @@ abbrev pub invariant-loop : goal.invariant-loop
 invariant-loop g l = record {
   stored : IsStored (keep_of l.engine) (g.K.Store.view l.store).records;
   in_order : AreAscending (ids_of (keep_of l.engine).entries);
-  tells : is_some (g.K.Store.view l.store).records ≡ is_some (g.K.Store.view l.fn.store).records;
+  told_before : IsSome (g.K.Store.view l.store).records → IsSome (g.K.Store.view l.fn.store).records;
   flow : flow_of l.engine ≡ flow_of l.fn.engine;
   faults : (g.K.Store.view l.store).faults ≡ (g.K.Store.view l.fn.store).faults;
   of_steps : AreOfSteps l.tally;

@@ -65,7 +65,7 @@ returns-in-Ok-print_work g c =
     let command = command_in c.in-Ok-Some.command in
     let words = sym (rw c.in-Ok-Some.field-0-is at c.in-Ok-Some.ensures.command) in
     answers-done known (call_of c.args.words.now (texts read)) command c.in-Ok.work folder read c.args.store.now c.print_work.new.store c.args.out.now c.print_work.new.out words
-    (subst (λ told. IsWork told command c.in-Ok.work) (sym c.read_work.ensures.texts_stay) c.in-Ok.ensures.work) c.in-Ok-print_work.ensures.ends c.print_work.ensures.tells c.print_work.ensures.store_stays c.in-Ok.ensures.faults
+    (subst (λ told. IsWork told command c.in-Ok.work) (sym c.read_work.ensures.texts_stay) c.in-Ok.ensures.work) c.in-Ok-print_work.ensures.ends c.print_work.ensures.told_before c.print_work.ensures.store_stays c.in-Ok.ensures.faults
     (folder_read texts g.F.Folder.fetch_count (command_of (words_in c.args.words.now)) command _ folder read words c.read_work.ensures.texts_stay c.read_work.ensures.stays c.read_work.ensures.asked_no_more)
 
 pub returns-in-Err-print_work : goal.returns-in-Err-print_work
@@ -80,6 +80,6 @@ returns-in-Err-print_work g c =
     let fault = c.in-Err-print_work.fault in
     subst (λ (status : Status). RunAnswers known call (outside_of folder c.args.store.now c.args.out.now) status (outside_of read c.print_work.new.store c.print_work.new.out)) (sym c.status_of.ensures)
     (answers-fault known call command c.in-Ok.work fault folder read c.args.store.now c.print_work.new.store c.args.out.now c.print_work.new.out words
-    (subst (λ told. IsWork told command c.in-Ok.work) (sym c.read_work.ensures.texts_stay) c.in-Ok.ensures.work) c.in-Err-print_work.ensures.ends c.print_work.ensures.tells c.print_work.ensures.store_stays
+    (subst (λ told. IsWork told command c.in-Ok.work) (sym c.read_work.ensures.texts_stay) c.in-Ok.ensures.work) c.in-Err-print_work.ensures.ends c.print_work.ensures.told_before c.print_work.ensures.store_stays
     (λ engine e. c.in-Err-print_work.ensures.nothing_told engine (ap (λ f. Err f) e)) c.in-Ok.ensures.faults
     (folder_read texts g.F.Folder.fetch_count (command_of (words_in c.args.words.now)) command _ folder read words c.read_work.ensures.texts_stay c.read_work.ensures.stays c.read_work.ensures.asked_no_more))

@@ -32,7 +32,7 @@ returns-in_err-write-in-Err-Engine-StoreFault-clause-printed g c =
     let written = writes {T = Unit {0}} c.as_bytes.result.now (Err f) (view c.perform_item.new.out) (view c.write.new.self) e.whole e.refused e.refusals e.faults in
     rw (p.1, p.2) (through-fault_cut c.args.goes_on c.args.engine.now c.perform_item.new.engine (known c.args.store.now).records (known c.perform_item.new.store).records c.args.item.now c.args.tally.now counts
     (g.K.Store.view c.args.store.now).faults (g.K.Store.view c.perform_item.new.store).faults _ (view c.args.out.now) (view c.perform_item.new.out) (view c.write.new.self) c.if-goes_on.true
-    (λ sys state st. subst (λ (flow : Dataflow). MayCallIn flow c.args.item.now) st.flow (faulted.calls is)) printed
+    (λ sys state st. subst (λ (flow : Dataflow). MayCallIn flow c.args.item.now) st.apart.flow (faulted.calls is)) printed
     (subst (λ t. Writes {T = Unit {0}} t (Err f) (view c.perform_item.new.out) (view c.write.new.self)) line written) (faulted.faults ∙ ap (λ (f : RunFault). faults_after_run {T = Unit {0}} (Err f) (g.K.Store.view c.args.store.now).faults) same) _)
 
 pub returns-in_ok-write-in-Err-Engine-StoreFault-clause-printed :
@@ -50,7 +50,7 @@ returns-in_ok-write-in-Err-Engine-StoreFault-clause-printed g c =
     let written = writes {T = Unit {0}} c.as_bytes.result.now (Ok tt) (view c.perform_item.new.out) (view c.write.new.self) e.whole e.refused e.refusals e.faults in
     through-fault c.args.goes_on c.args.engine.now c.perform_item.new.engine (known c.args.store.now).records (known c.perform_item.new.store).records c.args.item.now c.args.tally.now counts
     (RoseBy (g.K.Store.view c.args.store.now).faults (g.K.Store.view c.perform_item.new.store).faults) (view c.args.out.now) (view c.perform_item.new.out) (view c.write.new.self) c.if-goes_on.true
-    (λ sys state st. subst (λ (flow : Dataflow). MayCallIn flow c.args.item.now) st.flow (faulted.calls is)) printed
+    (λ sys state st. subst (λ (flow : Dataflow). MayCallIn flow c.args.item.now) st.apart.flow (faulted.calls is)) printed
     (subst (λ t. Writes {T = Unit {0}} t (Ok tt) (view c.perform_item.new.out) (view c.write.new.self)) line written)
 
 pub returns-in_err-line-in-Err-Engine-StoreFault-clause-printed :
@@ -66,7 +66,7 @@ returns-in_err-line-in-Err-Engine-StoreFault-clause-printed g c =
     let counts = c.perform_item.new.tally in
     rw (p.1, p.2) (through-fault_cut c.args.goes_on c.args.engine.now c.perform_item.new.engine (known c.args.store.now).records (known c.perform_item.new.store).records c.args.item.now c.args.tally.now counts
     (g.K.Store.view c.args.store.now).faults (g.K.Store.view c.perform_item.new.store).faults _ (view c.args.out.now) (view c.perform_item.new.out) (view c.perform_item.new.out) c.if-goes_on.true
-    (λ sys state st. subst (λ (flow : Dataflow). MayCallIn flow c.args.item.now) st.flow (faulted.calls is)) printed
+    (λ sys state st. subst (λ (flow : Dataflow). MayCallIn flow c.args.item.now) st.apart.flow (faulted.calls is)) printed
     (cut_nothing (fault_line (counts.steps + 1)) (view c.perform_item.new.out)) (faulted.faults ∙ ap (λ (f : RunFault). faults_after_run {T = Unit {0}} (Err f) (g.K.Store.view c.args.store.now).faults) same) _)
 
 pub returns-in-Ok-clause-printed : goal.returns-in-Ok-clause-printed

@@ -3,7 +3,7 @@ use Rattle.std.proofs.lemmas.Result.{err_from_is_err_and}
 use Rattle.std.specs.Prelude.{IsSome}
 use Rattle.fw_run.proofs.PlaceLaws.{room_at, counts-next}
 use Rattle.fw_run.proofs.FaultCounts.{rose_more, rises_more}
-use Rattle.fw_run.proofs.ThroughLaws.{taken-none, taken-more, taken-all, cut_off-at, ends-at}
+use Rattle.fw_run.proofs.ThroughLaws.{taken-none, taken-more, taken-all, taken-told, cut_off-at, ends-at}
 use Rattle.fw_run.proofs.TallyLaws.{of_steps-none}
 use Rattle.fw_run.specs.declared.tally.StepCounts.{StepCounts}
 use Rattle.fw_run.specs.Enduring.{with_faults, RoseBy}
@@ -19,7 +19,7 @@ pub loop-item-init : goal.loop-item-init
 loop-item-init g c = record {
   stored = c.requires.stored;
   in_order = c.requires.in_order;
-  tells = refl;
+  told_before = λ told. told;
   flow = refl;
   of_steps = subst AreOfSteps (sym c.requires.none) of_steps-none;
   few = omega (arith, ap (λ (t : StepCounts). t.steps) c.requires.none);
@@ -42,16 +42,16 @@ loop-item-preserved g c =
     record {
       stored = taken.stored;
       in_order = taken.in_order;
-      tells = taken.tells ∙ inv.tells;
+      told_before = λ told. inv.told_before (taken.told_before told);
       flow = taken.flow ∙ inv.flow;
       of_steps = taken.of_steps;
       few = counts-next xs i c.loop-item.tally c.take_item.new.tally c.item-item.result c.loop-item-test.true c.item-item.is inv.few taken.few;
       few_faults = omega (arith, inv.few_faults, c.in_ok-faults.ensures.once);
       none = λ ends. omega (arith, inv.none ends, c.in_ok-faults.ensures.none ends);
       rose_by = rose_more (known c.args.store.now).faults (known c.loop-item.store).faults (known c.take_item.new.store).faults c.loop-item.faults more inv.rose_by c.in_ok-faults.ensures.faults;
-      taken = λ sys st. taken-more c.args.goes_on (IsSome (known c.args.store.now).records) sys xs i c.loop-item.engine c.take_item.new.engine (known c.loop-item.store).records (known c.take_item.new.store).records
+      taken = λ sys st. taken-more c.args.goes_on (IsSome (known c.take_item.new.store).records) sys xs i c.loop-item.engine c.take_item.new.engine (known c.loop-item.store).records (known c.take_item.new.store).records
           c.item-item.result c.loop-item.tally c.take_item.new.tally c.loop-item.faults more (RoseBy (known c.loop-item.store).faults (known c.take_item.new.store).faults) (view c.args.out.now) (view c.loop-item.out)
-          (view c.take_item.new.out) (λ tells. inv.tells ∙ tells) (inv.taken sys st) c.loop-item-test.true c.item-item.is c.in_ok-faults.ensures.printed;
+          (view c.take_item.new.out) (λ told. told) (taken-told taken.told_before (inv.taken sys st)) c.loop-item-test.true c.item-item.is c.in_ok-faults.ensures.printed;
     }
 
 pub returns-in_err-faults-clause-taken : goal.returns-in_err-faults-clause-taken
@@ -60,20 +60,20 @@ returns-in_err-faults-clause-taken g c sys st =
     let known = g.K.Store.view in
     let view = g.O.Sink.view in
     let inv = c.loop-item.invariant in
-    let tells = IsSome (known c.args.store.now).records in
+    let tells = IsSome (known c.take_item.new.store).records in
     let e = c.in_err-faults.ensures in
     rw (p.1, p.2) (
       cut_off-at c.args.goes_on tells sys c.args.items.now c.loop-item.item-index c.loop-item.engine c.take_item.new.engine (known c.loop-item.store).records (known c.take_item.new.store).records c.item-item.result
           c.loop-item.tally c.take_item.new.tally c.loop-item.faults (known c.args.store.now).faults (known c.loop-item.store).faults (known c.take_item.new.store).faults _ (view c.args.out.now) (view c.loop-item.out)
-          (view c.take_item.new.out) st.well_formed (λ told. inv.tells ∙ told) (inv.taken sys st) c.loop-item-test.true c.item-item.is e.printed inv.rose_by,
+          (view c.take_item.new.out) st.apart.well_formed (λ told. told) (taken-told c.take_item.ensures.told_before (inv.taken sys st)) c.loop-item-test.true c.item-item.is e.printed inv.rose_by,
       ends-at c.args.goes_on tells sys c.args.items.now c.loop-item.item-index c.args.engine.now c.loop-item.engine c.take_item.new.engine (known c.args.store.now).records (known c.loop-item.store).records
           (known c.take_item.new.store).records (g.K.Store.view c.take_item.new.store).given c.item-item.result c.loop-item.tally c.take_item.new.tally c.loop-item.faults (known c.args.store.now).faults (known c.loop-item.store).faults
-          (known c.take_item.new.store).faults _ (view c.args.out.now) (view c.loop-item.out) (view c.take_item.new.out) st inv.flow (λ told. inv.tells ∙ told) (inv.taken sys st) c.loop-item-test.true c.item-item.is
+          (known c.take_item.new.store).faults _ (view c.args.out.now) (view c.loop-item.out) (view c.take_item.new.out) st inv.flow (λ told. told) (taken-told c.take_item.ensures.told_before (inv.taken sys st)) c.loop-item-test.true c.item-item.is
           c.take_item.ensures.in_order e.printed inv.rose_by e.stops e.in_recovery e.damaged,
     )
 
-pub returns-in_err-faults-clause-tells : goal.returns-in_err-faults-clause-tells
-returns-in_err-faults-clause-tells g c = c.take_item.ensures.tells ∙ c.loop-item.invariant.tells
+pub returns-in_err-faults-clause-told_before : goal.returns-in_err-faults-clause-told_before
+returns-in_err-faults-clause-told_before g c = λ told. c.loop-item.invariant.told_before (c.take_item.ensures.told_before told)
 
 pub returns-in_err-faults-clause-first : goal.returns-in_err-faults-clause-first
 returns-in_err-faults-clause-first g c ends =
@@ -93,13 +93,13 @@ returns-clause-taken g c sys st =
     let known = g.K.Store.view in
     let view = g.O.Sink.view in
     let inv = c.loop-item.invariant in (
-      taken-all c.args.goes_on (IsSome (known c.args.store.now).records) sys c.args.items.now c.loop-item.item-index c.loop-item.engine (known c.loop-item.store).records c.loop-item.tally c.loop-item.faults
+      taken-all c.args.goes_on (IsSome (known c.loop-item.store).records) sys c.args.items.now c.loop-item.item-index c.loop-item.engine (known c.loop-item.store).records c.loop-item.tally c.loop-item.faults
           (view c.args.out.now) (view c.loop-item.out) inv.in_order (inv.taken sys st) c.loop-item-test.false,
       inv.rose_by,
     )
 
-pub returns-clause-tells : goal.returns-clause-tells
-returns-clause-tells g c = c.loop-item.invariant.tells
+pub returns-clause-told_before : goal.returns-clause-told_before
+returns-clause-told_before g c = c.loop-item.invariant.told_before
 
 pub returns-clause-first : goal.returns-clause-first
 returns-clause-first g c ends =

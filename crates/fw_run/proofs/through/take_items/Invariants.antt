@@ -1,5 +1,5 @@
 use Rattle.std.proofs.Common.{◌≡◌, ℕ, ◌≤◌, false, take}
-use Rattle.std.specs.Prelude.{IsSome, is_some}
+use Rattle.std.specs.Prelude.{IsSome}
 use Rattle.fw_flow.specs.Dataflow.{System}
 use Rattle.fw_schedule.specs.Schedule.{step_count}
 use Rattle.fw_model.specs.Machine.{first_state}
@@ -17,7 +17,7 @@ abbrev pub invariant-loop-item : goal.invariant-loop-item
 invariant-loop-item g l = record {
   stored : IsStored (keep_of l.engine) (g.K.Store.view l.store).records;
   in_order : AreAscending (ids_of (keep_of l.engine).entries);
-  tells : is_some (g.K.Store.view l.store).records ≡ is_some (g.K.Store.view l.fn.store).records;
+  told_before : IsSome (g.K.Store.view l.store).records → IsSome (g.K.Store.view l.fn.store).records;
   flow : flow_of l.engine ≡ flow_of l.fn.engine;
   of_steps : AreOfSteps l.tally;
   few : l.tally.steps ≤ step_count (take l.item-index l.items);
@@ -25,6 +25,6 @@ invariant-loop-item g l = record {
   none : l.goes_on ≡ false → l.faults ≡ 0;
   rose_by : RoseBy (g.K.Store.view l.fn.store).faults (g.K.Store.view l.store).faults l.faults;
   taken : (sys : System) → StandsFor sys l.fn.engine (g.K.Store.view l.fn.store).records (first_state sys)
-      → AreTaken l.goes_on (IsSome (g.K.Store.view l.fn.store).records) sys l.items l.item-index l.tally l.faults
+      → AreTaken l.goes_on (IsSome (g.K.Store.view l.store).records) sys l.items l.item-index l.tally l.faults
       (StandsFor sys l.engine (g.K.Store.view l.store).records) (g.O.Sink.view l.fn.out) (g.O.Sink.view l.out);
 }

@@ -1,7 +1,7 @@
 use Rattle.std.proofs.Common.{take}
 use Rattle.std.specs.List.{AllByRecursion}
 use Rattle.fw_flow.specs.declared.choice.OfEdge.{OfEdge}
-use Rattle.fw_record.specs.Spelling.{IsCountable}
+use Rattle.fw_bytes.specs.Spelling.{IsCountable}
 use Rattle.fw_settle.proofs.checking.are_countable.Given as goal
 
 abbrev pub invariant-loop-of_edge : goal.invariant-loop-of_edge

@@ -54,7 +54,7 @@ returns-in_err-ask_checkpoint g c =
     let e = c.in_err-ask_checkpoint.field-0.0 in
     step-fails {T = Unit {0}} {mid = old} refl refl (asking-part {old = old} may.asks asked.others asked.stored asked.faults asked.undamaged asked.tells) c.from_residual-in_err-ask_checkpoint.ensures.1
     (stays-shaped {T = Unit {0}} (Err e) new asked.shaped) (λ sys state s.
-    left-answers (Unit {0}) sys state (Checkpoint c.args.node) e new before after asked.undamaged (
+    left-answers (Unit {0}) sys state (Checkpoint c.args.node) e new after asked.undamaged (
       checkpoint-enabled sys state old before s c.args.node may,
       unasked-stands sys old new before after state s asked.others asked.stays,
     ))

@@ -7,7 +7,7 @@ use Rattle.fw_engine.proofs.engine.Engine.settled.Goals as goal
 
 pub returns-clause-front : goal.returns-clause-front
 returns-clause-front c = λ records sys state s.
-    c.front_at.ensures ∙ ap (λ (fs : List Front). slice_get fs c.args.node) (c.settled.ensures ∙ s.settled)
+    c.front_at.ensures ∙ ap (λ (fs : List Front). slice_get fs c.args.node) (c.settled.ensures ∙ s.apart.settled)
 
 pub returns-clause-declared : goal.returns-clause-declared
 returns-clause-declared c = λ live.

@@ -15,7 +15,7 @@ pub returns-in-Ok-clause-put : goal.returns-in-Ok-clause-put
 returns-in-Ok-clause-put g c =
     let all : c.deref.result.now ≡ c.args.self.now.entries = c.deref.ensures.value ∙ ap (λ (k : KeepState). k.entries) c.self.view_is in
     let only : IsOnly c.args.self.now.entries c.args.id c.in-Some.entry.now = subst (λ (es : List Entry). IsOnly es c.args.id c.in-Some.entry.now) all c.in-Some.ensures.only in
-    gives_back c.args.flow.now c.args.self.now.entries c.args.id c.in-Some.entry.now c.get.new.into.items (g.K.Store.view c.args.store.now).records c.read.result only c.in-Ok.ensures.bytes c.read.ensures
+    gives_back c.args.flow.now c.args.self.now.entries c.args.id c.in-Some.entry.now c.get.new.into.items (g.K.Store.view c.get.new.self).records c.read.result only c.in-Ok.ensures.bytes c.read.ensures
 
 pub returns-in-Ok-clause-faults : goal.returns-in-Ok-clause-faults
 returns-in-Ok-clause-faults g c =

@@ -1,0 +1,6 @@
+use Rattle.std.proofs.Common.{◌≡◌, ◌-◌, []}
+use Rattle.fw_bytes.specs.Reading.{many_of, next_count_of}
+use Rattle.fw_bytes.proofs.parts.counts_at.Given as goal
+
+abbrev pub invariant-loop : goal.invariant-loop
+invariant-loop l = many_of next_count_of (l.count - l.counter) l.parts.items l.rest ≡ many_of next_count_of l.count [] l.bytes

@@ -1,0 +1,5 @@
+pub mod Fields
+pub mod Spelling
+pub mod Sound
+pub mod Reading
+pub mod Exact

@@ -30,6 +30,7 @@ pub use Rattle.fw_flow.specs.Sources
 pub use Rattle.fw_flow.specs.WellFormed
 pub use Rattle.fw_flow_text.specs.Grammar as FlowTexts
 pub use Rattle.fw_schedule.specs.Grammar as ScheduleTexts
+pub use Rattle.fw_schedule.specs.Making
 pub use Rattle.fw_schedule.specs.Schedule
 pub use Rattle.fw_model.specs.Acknowledgements
 pub use Rattle.fw_model.specs.Auto

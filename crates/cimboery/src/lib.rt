@@ -1,13 +1,16 @@
 //! A dataflow engine whose recovery undoes no more than its rules of consistency ask: all that a program which embeds it wants, in one crate.
 //!
 //! - A flow: `FlowBuilder` makes one in code, `read_flow` reads one from a text; `Flow` answers what its nodes and edges are.
-//! - What flows: `Rec`, a key and a value; `Batches`, for each input its batches by epoch, made by `Batches::add` or read by
-//!   `read_batches`; `Selection`, what a select does to a rec.
-//! - A schedule: `read_schedule` reads one from a text; an `Item` of it is a step, or `auto` and how many steps it may take.
-//! - A run: `Engine::new` takes a flow and batches of which `Flow::accepts` is true; `Engine::step` takes a `Step` and answers
+//! - What flows: `Rec`, a key and a value; `Batches`, for each input its batches by epoch, made by `Flow::no_batches` and
+//!   `Flow::add_batch` or read by `read_batches`; `Selection`, what a select does to a rec.
+//! - A schedule: `Schedule::new` and `Schedule::add` make one in code, `read_schedule` reads one from a text; an `Item` of it is a
+//!   step, or `auto` and how many steps it may take.
+//! - A run: `Engine::new` takes a flow and batches of which `Flow::accepts` is true, as it is of those of `Flow::add_batch`; `Engine::step` takes a `Step` and answers
 //!   `Stepped`, with the `Effect` that it shows, or an `EngineFault`; `Engine::auto_step` takes the first step that is enabled.
 //!   Each call is lent the `Store` of what nodes write, always the same one, which at first holds no record.
-//! - Looks at an engine: `Engine::settled`, `is_failed`, `acknowledged`, `pending`, which shows a `Queue`, and `low_watermark`.
+//! - Looks at an engine: `Engine::settled`, `is_failed`, `acknowledged`, `low_watermark`, `injected`; `table`, what stands for a
+//!   node's events; `pending`, which shows a `Queue`, and `logged`, a `MsgLog`; `kept`, what an output did not acknowledge yet;
+//!   the catalogue, `writes`, of which each `Entry` tells what is `Written`, and whether it is in flight.
 //! - Times: `Stamp`; `Front`, a frontier; `Cut` and `Choice`, to what a recovery restores the nodes.
 //! - What is true of every run, whoever takes its steps: the law `every_run_is_right`.
 //! - The command over texts: `falkirk`, with its `Folder`, `Store` and `Sink` in memory, over files (`FileFolder`, `DiskStore`,
@@ -18,7 +21,7 @@ pub use fw_bag::{
     Assignment, Bag, Comparison, Condition, Field, NewValue, Rec, Recs, Selection, Term,
 };
 pub use fw_disk::DiskStore;
-pub use fw_edge::Queue;
+pub use fw_edge::{MsgLog, Queue};
 pub use fw_engine::{Effect, Engine, EngineFault, Shown, Stepped};
 pub use fw_flow::{
     BatchFault, BuildFault, Causes, Choice, Cut, Cuts, Domain, Edge, EdgeId, Flow, FlowBuilder,
@@ -27,11 +30,12 @@ pub use fw_flow::{
 pub use fw_flow_text::{FLOW_LIMIT, read_flow};
 pub use fw_frontier::Front;
 pub use fw_headline::laws::every_run_is_right;
+pub use fw_keep::{Entry, Written};
 pub use fw_lines::{Batches, Code, INPUTS_LIMIT, ReadFault, Refusal, SourceNames, read_batches};
 pub use fw_outside::{
     Failed, FetchFault, FileFolder, Folder, MemFolder, MemSink, MemStore, MemText, OutFault, Sink,
     Store, StreamSink,
 };
 pub use fw_run::{Status, falkirk};
-pub use fw_schedule::{Item, SCHEDULE_LIMIT, STEP_LIMIT, Schedule, read_schedule};
+pub use fw_schedule::{Item, ItemFault, SCHEDULE_LIMIT, STEP_LIMIT, Schedule, read_schedule};
 pub use fw_time::{Bounds, Stamp};

@@ -2,7 +2,7 @@
 use Rattle.std.proofs.Common.{◌≡◌, ◌⊎◌, inl, inr, ℕ, ◌==◌, ◌^◌, nat_lt, ◌&&◌, ◌||◌, not, Bool, true, false, cond, List, [], ◌∷◌, Option, Some, None, Result, Ok, Err, IfOk, IsErr, refl, sym, ◌∙◌, ap, subst, codes}
 use Rattle.std.specs.Char.{is_ascii_digit}
 use Rattle.std.specs.Str.Parse.{digits_value}
-use Rattle.std.specs.Prelude.{option_and_then, is_some}
+use Rattle.std.specs.Prelude.{option_and_then, option_map, is_some}
 use Rattle.std.specs.Option.{option_or, option_map_or}
 use Rattle.std.specs.List.{fold, list_all}
 use Rattle.std.specs.Str.{bytes_eq}
@@ -23,8 +23,8 @@ use Rattle.fw_lines.specs.declared.numeral.Number.{Number}
 use Rattle.fw_lines.specs.declared.numeral.Number.TheVariants.{Value, TooLarge, NotANumber}
 use Rattle.fw_lines.specs.Spelling.{is_numeral, number_of}
 use Rattle.fw_command.specs.Forms.{form, forms, three_names, matched_command}
-use Rattle.fw_command.specs.Command.{Command, TextNames, SystemNames, run, endure, denote, check}
-use Rattle.fw_command.specs.Words.{is_operand, check_of, denote_of, gen_of, run_of, endure_of, generate_by, command_of}
+use Rattle.fw_command.specs.Command.{Command, RunVerb, TextNames, SystemNames, Manner, by_lines, through_faults, run_verbs, manner_by, run, denote, check}
+use Rattle.fw_command.specs.Words.{is_operand, check_of, denote_of, gen_of, run_of, generate_by, command_of}
 
 -- ---- a word that is an operand
 
@@ -181,13 +181,13 @@ check_stops flow = refl
 
 -- what is matched is the command
 run_matched : (flow inputs schedule : List ℕ) → is_operand flow ≡ true → is_operand inputs ≡ true → is_operand schedule ≡ true
-    → matched_command (subcommand_of forms (codes "run" ∷ flow ∷ inputs ∷ schedule ∷ [])) ≡ Some (run (record { flow = flow; inputs = inputs; schedule = schedule }))
+    → matched_command (subcommand_of forms (codes "run" ∷ flow ∷ inputs ∷ schedule ∷ [])) ≡ Some (run by_lines (record { flow = flow; inputs = inputs; schedule = schedule }))
 run_matched flow inputs schedule f i s =
     ap (λ stop. matched_command (entered (built forms) stop)) (run_stops flow inputs schedule)
     ∙ ap (λ (w : Walk). matched_command (Some (codes "run", finished (run_form (codes "run")).rules w.held))) (run_walked (codes "run") flow inputs schedule f i s)
 
 endure_matched : (flow inputs schedule : List ℕ) → is_operand flow ≡ true → is_operand inputs ≡ true → is_operand schedule ≡ true
-    → matched_command (subcommand_of forms (codes "endure" ∷ flow ∷ inputs ∷ schedule ∷ [])) ≡ Some (endure (record { flow = flow; inputs = inputs; schedule = schedule }))
+    → matched_command (subcommand_of forms (codes "endure" ∷ flow ∷ inputs ∷ schedule ∷ [])) ≡ Some (run through_faults (record { flow = flow; inputs = inputs; schedule = schedule }))
 endure_matched flow inputs schedule f i s =
     ap (λ stop. matched_command (entered (built forms) stop)) (endure_stops flow inputs schedule)
     ∙ ap (λ (w : Walk). matched_command (Some (codes "endure", finished (run_form (codes "endure")).rules w.held))) (run_walked (codes "endure") flow inputs schedule f i s)
@@ -403,38 +403,54 @@ gen_is word seed size command e =
     subst (λ w. IsMatched (w ∷ seed ∷ size ∷ []) command) (is_word word (codes "gen") t.0)
     (record { taken = gen_taken seed size f i; matched = gen_matched seed size f i ∙ t.1 })
 
--- a word and three operands
-record AreOperands (word text flow inputs schedule : List ℕ) : Type 0 where
-  pub word_is : text ≡ word
+-- three operands
+record AreOperands (flow inputs schedule : List ℕ) : Type 0 where
   pub flow_is : is_operand flow ≡ true
   pub inputs_are : is_operand inputs ≡ true
   pub schedule_is : is_operand schedule ≡ true
 
-operands_are : (word text flow inputs schedule : List ℕ) → (bytes_eq word text && is_operand flow && is_operand inputs && is_operand schedule) ≡ true
-    → AreOperands word text flow inputs schedule
-operands_are word text flow inputs schedule e =
-    let p = and_parts (bytes_eq word text && is_operand flow && is_operand inputs) (is_operand schedule) e in
-    let q = and_parts (bytes_eq word text && is_operand flow) (is_operand inputs) p.0 in
-    let r = and_parts (bytes_eq word text) (is_operand flow) q.0 in
-    record { word_is = is_word word text r.0; flow_is = r.1; inputs_are = q.1; schedule_is = p.1 }
+operands_are : (flow inputs schedule : List ℕ) → (is_operand flow && is_operand inputs && is_operand schedule) ≡ true → AreOperands flow inputs schedule
+operands_are flow inputs schedule e =
+    let p = and_parts (is_operand flow && is_operand inputs) (is_operand schedule) e in
+    let q = and_parts (is_operand flow) (is_operand inputs) p.0 in
+    record { flow_is = q.0; inputs_are = q.1; schedule_is = p.1 }
 
 run_is : (word flow inputs schedule : List ℕ) (command : Command) → run_of (word ∷ flow ∷ inputs ∷ schedule ∷ []) ≡ Some command
     → IsMatched (word ∷ flow ∷ inputs ∷ schedule ∷ []) command
-run_is word flow inputs schedule command e =
-    let names : TextNames = record { flow = flow; inputs = inputs; schedule = schedule } in
-    let t = by_test (bytes_eq word (codes "run") && is_operand flow && is_operand inputs && is_operand schedule) (run names) command e in
-    let o = operands_are word (codes "run") flow inputs schedule t.0 in
-    subst (λ w. IsMatched (w ∷ flow ∷ inputs ∷ schedule ∷ []) command) o.word_is
-    (record { taken = run_taken flow inputs schedule o.flow_is o.inputs_are o.schedule_is; matched = run_matched flow inputs schedule o.flow_is o.inputs_are o.schedule_is ∙ ap Some t.1 })
+run_is word flow inputs schedule command e = elim (cases_Bool (bytes_eq word (codes "run"))) [
+  | inl is ↦
+      let same = same_Some (run by_lines names) command (sym (ap (λ b. option_map in_manner (cond b (Some by_lines) (manner_by others word))) is) ∙ t.1) in
+      subst (λ w. IsMatched (w ∷ flow ∷ inputs ∷ schedule ∷ []) command) (is_word word (codes "run") is)
+      (record { taken = run_taken flow inputs schedule o.flow_is o.inputs_are o.schedule_is; matched = run_matched flow inputs schedule o.flow_is o.inputs_are o.schedule_is ∙ ap Some same })
+  | inr not_run ↦ endure_is (sym (ap (λ b. option_map in_manner (cond b (Some by_lines) (manner_by others word))) not_run) ∙ t.1)
+]
+  where
+    names : TextNames
+    names = record { flow = flow; inputs = inputs; schedule = schedule }
 
-endure_is : (word flow inputs schedule : List ℕ) (command : Command) → endure_of (word ∷ flow ∷ inputs ∷ schedule ∷ []) ≡ Some command
-    → IsMatched (word ∷ flow ∷ inputs ∷ schedule ∷ []) command
-endure_is word flow inputs schedule command e =
-    let names : TextNames = record { flow = flow; inputs = inputs; schedule = schedule } in
-    let t = by_test (bytes_eq word (codes "endure") && is_operand flow && is_operand inputs && is_operand schedule) (endure names) command e in
-    let o = operands_are word (codes "endure") flow inputs schedule t.0 in
-    subst (λ w. IsMatched (w ∷ flow ∷ inputs ∷ schedule ∷ []) command) o.word_is
-    (record { taken = endure_taken flow inputs schedule o.flow_is o.inputs_are o.schedule_is; matched = endure_matched flow inputs schedule o.flow_is o.inputs_are o.schedule_is ∙ ap Some t.1 })
+    in_manner : Manner → Command
+    in_manner manner = run manner names
+
+    others : List RunVerb
+    others = record { word = codes "endure"; manner = through_faults } ∷ []
+
+    t : ((is_operand flow && is_operand inputs && is_operand schedule) ≡ true) × (option_map in_manner (manner_by run_verbs word) ≡ Some command)
+    t = by_word (is_operand flow && is_operand inputs && is_operand schedule) (option_map in_manner (manner_by run_verbs word)) command e
+
+    o : AreOperands flow inputs schedule
+    o = operands_are flow inputs schedule t.0
+
+    no_run : None ≡ Some command → ⊥
+    no_run h = absurd (cc)
+
+    endure_is : option_map in_manner (manner_by others word) ≡ Some command → IsMatched (word ∷ flow ∷ inputs ∷ schedule ∷ []) command
+    endure_is h = elim (cases_Bool (bytes_eq word (codes "endure"))) [
+      | inl is ↦
+          let same = same_Some (run through_faults names) command (sym (ap (λ b. option_map in_manner (cond b (Some through_faults) None)) is) ∙ h) in
+          subst (λ w. IsMatched (w ∷ flow ∷ inputs ∷ schedule ∷ []) command) (is_word word (codes "endure") is)
+          (record { taken = endure_taken flow inputs schedule o.flow_is o.inputs_are o.schedule_is; matched = endure_matched flow inputs schedule o.flow_is o.inputs_are o.schedule_is ∙ ap Some same })
+      | inr none ↦ absurd (no_run (sym (ap (λ b. option_map in_manner (cond b (Some through_faults) None)) none) ∙ h))
+    ]
 
 command_matched : (words : List (List ℕ)) (command : Command) → command_of words ≡ Some command → IsMatched words command
 command_matched [] command e = absurd (cc)
@@ -446,12 +462,7 @@ command_matched (word ∷ one ∷ other ∷ []) command e =
       | inl d ↦ denote_is word one other command d
       | inr g ↦ gen_is word one other command (sym (or_none (gen_of words)) ∙ g)
     ]
-command_matched (word ∷ flow ∷ inputs ∷ schedule ∷ []) command e =
-    let words = word ∷ flow ∷ inputs ∷ schedule ∷ [] in
-    elim (first_or_other (run_of words) (endure_of words) command e) [
-      | inl r ↦ run_is word flow inputs schedule command r
-      | inr d ↦ endure_is word flow inputs schedule command d
-    ]
+command_matched (word ∷ flow ∷ inputs ∷ schedule ∷ []) command e = run_is word flow inputs schedule command e
 command_matched (word ∷ flow ∷ inputs ∷ schedule ∷ more ∷ rest) command e = absurd (cc)
 
 some_command : (words : List (List ℕ)) → is_some (command_of words) ≡ true → (command : Command) × (command_of words ≡ Some command)

@@ -1,5 +1,6 @@
 -- A command is one value of a record: where its texts are, and what it makes of them.
-use Rattle.std.specs.Prelude.{◌≡◌, ℕ, Bool, true, false, List, [], ◌∷◌, Option, Some, None, option_and_then}
+use Rattle.std.specs.Prelude.{◌≡◌, ℕ, Bool, true, false, if◌then◌else◌, List, [], ◌∷◌, Option, Some, None, option_and_then, codes}
+use Rattle.std.specs.Str.{bytes_eq}
 
 -- the names of the three texts of a run
 pub record TextNames : Type 0 where
@@ -35,13 +36,52 @@ pub data Origin : Type 0 where
   in_folder : List ℕ → List NamedText → Origin
   generated : Seeded → Origin
 
--- ---- what a command makes of its texts
+-- ---- how steps are taken and told
 
--- how steps are told: each by its lines; the same, and faults of the store by theirs; or what came of all in one line
-pub data Manner : Type 0 where
-  by_lines : Manner
-  through_faults : Manner
-  in_one_line : Seeded → Manner
+-- where a run begins: in the first state of the machine, where nothing was counted
+pub data Start : Type 0 where
+  at_first : Start
+
+-- what is told of a step, by the state before it: the lines of its effect
+pub data Showing : Type 0 where
+  by_effect : Showing
+
+-- how steps are taken: whether they go on where the store fails in one, or end there; and what is told of each
+pub record Course : Type 0 where
+  pub goes_on : Bool
+  pub showing : Showing
+
+-- each told by its effect
+abbrev pub shown_by_effect : Bool → Course
+shown_by_effect goes_on = record { goes_on = goes_on; showing = by_effect }
+
+-- what is told last: how many steps there were; the same, and in how many the store failed; or what came of generated texts
+pub data LastLine : Type 0 where
+  of_steps : LastLine
+  of_faults : LastLine
+  of_seed : Seeded → LastLine
+
+-- how a run is taken and told: where it begins, how its steps are taken, whether what is told of each is written, and what is last
+pub record Manner : Type 0 where
+  pub start : Start
+  pub course : Course
+  pub is_seen : Bool
+  pub last : LastLine
+
+-- each step by its lines; the first fault of the store ends the run
+abbrev pub by_lines : Manner
+by_lines = record { start = at_first; course = shown_by_effect false; is_seen = true; last = of_steps }
+
+-- the same through faults of the store, which are told by lines of their own
+abbrev pub through_faults : Manner
+through_faults = record { start = at_first; course = shown_by_effect true; is_seen = true; last = of_faults }
+
+-- what came of all in one line; the first fault of the store ends the run
+abbrev pub in_one_line : Seeded → Manner
+in_one_line seeded =
+    record { start = at_first; course = shown_by_effect false; is_seen = false; last = of_seed seeded }
+
+-- ---- what a command makes of its texts
 
 -- a command takes the steps of the schedule, and tells them in this manner; or it takes none, and tells what the flow denotes of its
 -- inputs, or lists the nodes of the flow
@@ -69,13 +109,24 @@ two_texts names = in_folder names.flow (record { name = names.inputs; read = as_
 
 -- ---- the commands
 
--- `run FLOW INPUTS SCHEDULE`: the steps of three texts, each by its lines; the first fault of the store ends it
-abbrev pub run : TextNames → Command
-run names = record { texts = three_texts names; task = takes_steps by_lines }
+-- a command that takes the steps of three texts, under its word: `WORD FLOW INPUTS SCHEDULE`
+pub record RunVerb : Type 0 where
+  pub word : List ℕ
+  pub manner : Manner
 
--- `endure FLOW INPUTS SCHEDULE`: the same through faults of the store, which are told by lines of their own
-abbrev pub endure : TextNames → Command
-endure names = record { texts = three_texts names; task = takes_steps through_faults }
+-- `run`: each step by its lines; the first fault of the store ends it. `endure`: the same through faults of the store, which are told by
+-- lines of their own
+abbrev pub run_verbs : List RunVerb
+run_verbs = record { word = codes "run"; manner = by_lines } ∷ record { word = codes "endure"; manner = through_faults } ∷ []
+
+-- the manner of a word, if it is one of these
+abbrev pub manner_by : List RunVerb → List ℕ → Option Manner
+manner_by [] word = None
+manner_by (verb ∷ verbs) word = if bytes_eq word verb.word then Some verb.manner else manner_by verbs word
+
+-- the steps of three texts, in this manner
+abbrev pub run : Manner → TextNames → Command
+run manner names = record { texts = three_texts names; task = takes_steps manner }
 
 -- `gen SEED SIZE`: the steps of generated texts, and one line on what came of them; the first fault of the store ends it
 abbrev pub generate : Seeded → Command
@@ -101,9 +152,14 @@ manner_in lists_nodes = None
 abbrev pub manner_of : Command → Option Manner
 manner_of command = manner_in command.task
 
--- the command tells in one line what came of a run
-abbrev pub IsInOneLine : Option Command → Type 0
-IsInOneLine command = (seeded : Seeded) × (option_and_then manner_of command ≡ Some (in_one_line seeded))
+-- the command takes steps up to the first fault of its store, and writes nothing that is told of one
+abbrev pub IsUnseen : Option Command → Type 0
+IsUnseen command =
+    (manner : Manner) × (option_and_then manner_of command ≡ Some manner) × (manner.course.goes_on ≡ false) × (manner.is_seen ≡ false)
+
+-- the command goes on through faults of its store
+abbrev pub GoesOnThrough : Option Command → Type 0
+GoesOnThrough command = (manner : Manner) × (option_and_then manner_of command ≡ Some manner) × (manner.course.goes_on ≡ true)
 
 -- the texts are in the folder, so that it is asked for one
 abbrev pub are_in_folder : Origin → Bool

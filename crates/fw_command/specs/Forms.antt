@@ -1,10 +1,10 @@
 -- The forms of the commands, as `clap` is told them, and the command that its matches name.
-use Rattle.std.specs.Prelude.{ℕ, true, false, if◌then◌else◌, List, [], ◌∷◌, map, Option, Some, None, option_map, option_and_then, codes}
+use Rattle.std.specs.Prelude.{ℕ, true, false, if◌then◌else◌, List, [], ◌∷◌, ◌++◌, map, Option, Some, None, option_map, option_and_then, codes}
 use Rattle.std.specs.Str.{bytes_eq}
 use Rattle.fw_lines.specs.Spelling.{number_of}
 use Rattle.clap.specs.Simple.{App, Shape, new_rule, new_shape}
 use Rattle.clap.specs.Walk.{Row, Rule, first_of}
-use Rattle.fw_command.specs.Command.{Command, TextNames, SystemNames, run, endure, denote, check}
+use Rattle.fw_command.specs.Command.{Command, Manner, RunVerb, TextNames, SystemNames, run_verbs, manner_by, run, denote, check}
 use Rattle.fw_command.specs.Words.{generate_by}
 
 -- an operand, which has to be there
@@ -23,13 +23,15 @@ three_names = codes "flow" ∷ codes "inputs" ∷ codes "schedule" ∷ []
 abbrev pub program : Shape
 program = record (new_shape (codes "falkirk")) { no_binary_name = true; disable_help_flag = true; disable_help_subcommand = true }
 
--- the program with the forms of its commands
+-- the forms of the commands
+abbrev pub command_forms : List Shape
+command_forms = map (λ (verb : RunVerb). form verb.word three_names) run_verbs
+    ++ form (codes "gen") (codes "seed" ∷ codes "size" ∷ []) ∷ form (codes "denote") (codes "flow" ∷ codes "inputs" ∷ [])
+    ∷ form (codes "check") (codes "flow" ∷ []) ∷ []
+
+-- the program with them
 abbrev pub forms : App
-forms = record {
-  top = record program { is_leaf = false };
-  subs = form (codes "run") three_names ∷ form (codes "endure") three_names ∷ form (codes "gen") (codes "seed" ∷ codes "size" ∷ [])
-      ∷ form (codes "denote") (codes "flow" ∷ codes "inputs" ∷ []) ∷ form (codes "check") (codes "flow" ∷ []) ∷ [];
-}
+forms = record { top = record program { is_leaf = false }; subs = command_forms }
 
 -- the names of the three texts of a run, if all are there
 abbrev pub names_by : Option (List ℕ) → Option (List ℕ) → Option (List ℕ) → Option TextNames
@@ -54,14 +56,18 @@ abbrev pub generate_matched : Option (List ℕ) → Option (List ℕ) → Option
 generate_matched (Some seed) (Some size) = generate_by (number_of seed) (number_of size)
 generate_matched seed size = None
 
+-- the steps of three texts in a manner, if both are there
+abbrev pub run_named : Option Manner → Option TextNames → Option Command
+run_named (Some manner) names = option_map (run manner) names
+run_named None names = None
+
 -- the command of a form's word, with what was matched of its operands
 abbrev pub command_matched : List ℕ → List Row → Option Command
 command_matched word rows =
-    if bytes_eq word (codes "run") then option_map run (names_matched rows)
-    else (if bytes_eq word (codes "endure") then option_map endure (names_matched rows)
-    else (if bytes_eq word (codes "gen") then generate_matched (first_of (codes "seed") rows) (first_of (codes "size") rows)
+    if bytes_eq word (codes "gen") then generate_matched (first_of (codes "seed") rows) (first_of (codes "size") rows)
     else (if bytes_eq word (codes "denote") then option_map denote (two_names_matched rows)
-    else (if bytes_eq word (codes "check") then option_map check (first_of (codes "flow") rows) else None))))
+    else (if bytes_eq word (codes "check") then option_map check (first_of (codes "flow") rows)
+    else run_named (manner_by run_verbs word) (names_matched rows)))
 
 -- the command that the matches name
 abbrev pub matched_command : Option (List ℕ × List Row) → Option Command

@@ -2,6 +2,7 @@ pub mod Command
 pub mod DenotationText
 pub mod Forms
 pub mod Listing
+pub mod Manner
 pub mod Reading
 pub mod Texts
 pub mod Words

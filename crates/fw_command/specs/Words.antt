@@ -1,5 +1,5 @@
 -- The words of a command.
-use Rattle.std.specs.Prelude.{ℕ, ◌≤◌, nat_le, Bool, false, not, ◌&&◌, ◌==◌, if◌then◌else◌, List, [], ◌∷◌, map, Option, Some, None, codes}
+use Rattle.std.specs.Prelude.{ℕ, ◌≤◌, nat_le, Bool, false, not, ◌&&◌, ◌==◌, if◌then◌else◌, List, [], ◌∷◌, map, Option, Some, None, option_map, codes}
 use Rattle.std.specs.Option.{option_or}
 use Rattle.std.specs.Str.{bytes_eq}
 use Rattle.std.specs.Borrow.{Bor}
@@ -7,12 +7,12 @@ use Rattle.fw_lines.specs.declared.numeral.Number.{Number}
 use Rattle.fw_lines.specs.declared.numeral.Number.TheVariants.{Value}
 use Rattle.fw_lines.specs.Spelling.{number_of}
 use Rattle.fw_generate.specs.Laws.{accepted_size_limit}
-use Rattle.fw_command.specs.Command.{Command, Seeded, SystemNames, TextNames, run, endure, generate, denote, check}
+use Rattle.fw_command.specs.Command.{Command, Manner, Seeded, SystemNames, TextNames, manner_by, run_verbs, run, generate, denote, check}
+use Rattle.fw_command.specs.Manner.{seeded_in, told_in}
 use Rattle.fw_command.specs.declared.words.DenoteWords.{DenoteWords}
-use Rattle.fw_command.specs.declared.words.GenerateWords.{GenerateWords}
 use Rattle.fw_command.specs.declared.words.RunWords.{RunWords}
 use Rattle.fw_command.specs.declared.words.CommandWords.{CommandWords}
-use Rattle.fw_command.specs.declared.words.CommandWords.TheVariants.{Run, Endure, Generate, Denote, Check}
+use Rattle.fw_command.specs.declared.words.CommandWords.TheVariants.{Run, Generate, Denote, Check}
 
 -- the bytes of the words
 abbrev pub words_in : List (Bor (List ℕ)) → List (List ℕ)
@@ -48,25 +48,17 @@ denote_of (word ∷ flow ∷ inputs ∷ []) =
     if bytes_eq word (codes "denote") && is_operand flow && is_operand inputs then Some (denote (record { flow = flow; inputs = inputs })) else None
 denote_of words = None
 
--- a run, if the words are `run` and three operands
+-- a run, if the words are the word of one and three operands
 abbrev pub run_of : List (List ℕ) → Option Command
 run_of (word ∷ flow ∷ inputs ∷ schedule ∷ []) =
-    if bytes_eq word (codes "run") && is_operand flow && is_operand inputs && is_operand schedule
-    then Some (run (record { flow = flow; inputs = inputs; schedule = schedule }))
+    if is_operand flow && is_operand inputs && is_operand schedule
+    then option_map (λ (manner : Manner). run manner (record { flow = flow; inputs = inputs; schedule = schedule })) (manner_by run_verbs word)
     else None
 run_of words = None
 
--- the same through faults of the store, if the words are `endure` and three operands
-abbrev pub endure_of : List (List ℕ) → Option Command
-endure_of (word ∷ flow ∷ inputs ∷ schedule ∷ []) =
-    if bytes_eq word (codes "endure") && is_operand flow && is_operand inputs && is_operand schedule
-    then Some (endure (record { flow = flow; inputs = inputs; schedule = schedule }))
-    else None
-endure_of words = None
-
 -- the command that words are, if they are one
 abbrev pub command_of : List (List ℕ) → Option Command
-command_of words = option_or (check_of words) (option_or (denote_of words) (option_or (gen_of words) (option_or (run_of words) (endure_of words))))
+command_of words = option_or (check_of words) (option_or (denote_of words) (option_or (gen_of words) (run_of words)))
 
 -- the names that parsed words give
 abbrev pub text_names_in : RunWords → TextNames
@@ -75,9 +67,6 @@ text_names_in words = record { flow = words.flow.now; inputs = words.inputs.now;
 abbrev pub system_names_in : DenoteWords → SystemNames
 system_names_in words = record { flow = words.flow.now; inputs = words.inputs.now }
 
-abbrev pub seeded_in : GenerateWords → Seeded
-seeded_in words = record { seed = words.seed; size = words.size }
-
 -- the size of what is generated, if texts are, is one of those that there are
 abbrev pub IsOfSize : CommandWords → Type 0
 IsOfSize (Generate words) = words.size ≤ accepted_size_limit
@@ -85,8 +74,7 @@ IsOfSize words = Unit {0}
 
 -- the command that parsed words give
 abbrev pub command_in : CommandWords → Command
-command_in (Run names) = run (text_names_in names)
-command_in (Endure names) = endure (text_names_in names)
+command_in (Run manner names) = run (told_in manner) (text_names_in names)
 command_in (Generate words) = generate (seeded_in words)
 command_in (Denote names) = denote (system_names_in names)
 command_in (Check flow) = check flow.now

@@ -3,10 +3,12 @@
 
 mod denoting;
 mod listing;
+mod manner;
 mod reading;
 mod words;
 
 pub use denoting::print_denotation;
 pub use listing::list;
+pub use manner::{LastLine, Manner};
 pub use reading::{Fed, Job, JobFault, fetch_flow, read_fed, read_generated, read_job};
 pub use words::{CommandWords, DenoteWords, GenerateWords, RunWords, parse};

@@ -9,7 +9,8 @@ ghost use Rattle.fw_schedule.specs.Grammar as schedules;
 ghost use Rattle.fw_schedule.specs.Schedule.{step_count, step_limit};
 ghost use Rattle.fw_generate.specs.Laws.{accepted_size_limit};
 ghost use Rattle.fw_command.specs.Reading.{IfJobRefused, IsTooLarge, IsJob, IsGenerated, IsFed, IsReadyToRun, read_faults_after};
-ghost use Rattle.fw_command.specs.Words.{seeded_in, text_names_in, system_names_in};
+ghost use Rattle.fw_command.specs.Manner.{seeded_in};
+ghost use Rattle.fw_command.specs.Words.{text_names_in, system_names_in};
 ghost use Rattle.fw_command.specs.Command.{three_texts, two_texts};
 ghost use Rattle.fw_command.specs.Texts.{HasText, HasFlow, IsFlowRefused, Refuses, AsksNoMore};
 

@@ -7,11 +7,13 @@ ghost use Rattle.clap.specs.Walk.{rule_of, rows_of, first_of};
 ghost use Rattle.fw_command.specs.Command.{generate};
 ghost use Rattle.fw_command.specs.Forms as spec;
 ghost use Rattle.fw_command.specs.Forms.{forms, matched_command};
-ghost use Rattle.fw_command.specs.Words.{IsOfSize, is_operand, check_of, denote_of, gen_of, run_of, endure_of, command_of, command_in, generate_by, seeded_in, text_names_in, system_names_in, words_in};
+ghost use Rattle.fw_command.specs.Words.{IsOfSize, is_operand, check_of, denote_of, gen_of, run_of, command_of, command_in, generate_by, text_names_in, system_names_in, words_in};
+ghost use Rattle.fw_command.specs.Manner.{seeded_in};
 ghost use Rattle.fw_lines.specs.Spelling.{number_of};
 ghost use Rattle.fw_generate.specs.Laws.{accepted_size_limit as greatest_size};
 ghost use Rattle.clap.specs.declared.builder.command.Command.TheViews.{out-Command as fields_of};
 
+use crate::manner::{Manner, manner_of};
 use clap::error::ErrorKind;
 use clap::{Arg, ArgMatches, Command, Error};
 use fw_generate::size_limit;
@@ -43,10 +45,8 @@ pub struct GenerateWords {
 /// A command with its operands.
 #[derive(Clone, Copy, Debug)]
 pub enum CommandWords<'a> {
-    /// The three texts are run.
-    Run(RunWords<'a>),
-    /// They are run through faults of the store.
-    Endure(RunWords<'a>),
+    /// The three texts are run, and the steps are taken and told in this manner.
+    Run(Manner, RunWords<'a>),
     /// Generated texts are run, and it is told what came of them.
     Generate(GenerateWords),
     /// It is told what the flow denotes of its inputs.
@@ -89,7 +89,7 @@ fn refused<'a>(error: &Error) -> Result<Option<CommandWords<'a>>, AllocError>
 fn is_command(words: &[&str]) -> bool
     ensures { result ≡ is_some (command_of (words_in words.now)) }
 {
-    is_check(words) || is_denote(words) || is_gen(words) || is_run(words) || is_endure(words)
+    is_check(words) || is_denote(words) || is_gen(words) || is_run(words)
 }
 
 // Whether the words are `check` and an operand.
@@ -122,24 +122,14 @@ fn is_gen(words: &[&str]) -> bool
     *command == "gen" && generate_words(seed, size).is_some()
 }
 
-// Whether the words are `run` and three operands.
+// Whether the words are that of a run and three operands.
 fn is_run(words: &[&str]) -> bool
     ensures { result ≡ is_some (run_of (words_in words.now)) }
 {
     let [command, flow, inputs, schedule] = words else {
         return false;
     };
-    *command == "run" && is_operand(flow) && is_operand(inputs) && is_operand(schedule)
-}
-
-// Whether the words are `endure` and three operands.
-fn is_endure(words: &[&str]) -> bool
-    ensures { result ≡ is_some (endure_of (words_in words.now)) }
-{
-    let [command, flow, inputs, schedule] = words else {
-        return false;
-    };
-    *command == "endure" && is_operand(flow) && is_operand(inputs) && is_operand(schedule)
+    is_operand(flow) && is_operand(inputs) && is_operand(schedule) && manner_of(*command).is_some()
 }
 
 // An operand is not empty, and no option.
@@ -228,15 +218,13 @@ fn named<'a>(matches: &ArgMatches<'a>) -> Option<CommandWords<'a>>
 {
     let (word, operands) = matches.subcommand()?;
     match word {
-        "run" => Some(CommandWords::Run(run_words(operands)?)),
-        "endure" => Some(CommandWords::Endure(run_words(operands)?)),
         "gen" => Some(CommandWords::Generate(generate_words(
             given(operands, "seed")?,
             given(operands, "size")?,
         )?)),
         "denote" => Some(CommandWords::Denote(denote_words(operands)?)),
         "check" => Some(CommandWords::Check(given(operands, "flow")?)),
-        _ => None,
+        _ => Some(CommandWords::Run(manner_of(word)?, run_words(operands)?)),
     }
 }
 

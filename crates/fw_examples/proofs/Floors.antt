@@ -1,5 +1,5 @@
 -- The low watermark is a floor, and covers without what is below one are poorer.
-use Rattle.std.proofs.Common.{Bool, [], ap, drop, false, inl, inr, lit<, not, refl, subst, sym, true, ◌&&◌, ◌∙◌, ◌∷◌, ◌≡◌}
+use Rattle.std.proofs.Common.{ap, drop, false, inl, inr, lit<, not, refl, subst, sym, true, ◌&&◌, ◌≡◌}
 use Rattle.std.proofs.lemmas.Bool.{and_from, and_parts, cases_Bool, false≢true, or_left, or_right}
 use Rattle.fw_lemmas.proofs.Bools.{two_ways}
 use Rattle.fw_time.specs.Stamp.{Stamp}

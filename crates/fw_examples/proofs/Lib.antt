@@ -1,6 +1,7 @@
 pub mod Answers
 pub mod Applied
 pub mod AtRest
+pub mod Certified
 pub mod Choosing
 pub mod Collected
 pub mod Declared

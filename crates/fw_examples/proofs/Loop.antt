@@ -1,6 +1,6 @@
 -- The loop that counts up: what its rounds come to, its complete frontiers, its recovery and its run.
 use Rattle.std.specs.List.{flat_map}
-use Rattle.std.proofs.Common.{List, None, Some, [], ap, arith, drop, false, get_or, lit<, map, not, refl, replicate, suc, take, true, ℕ, ◌++◌, ◌+◌, ◌-◌, ◌<◌, ◌∙◌, ◌∷◌, ◌≡◌}
+use Rattle.std.proofs.Common.{List, None, Some, [], ap, arith, drop, false, get_or, lit<, map, not, refl, replicate, suc, take, true, ℕ, ◌++◌, ◌+◌, ◌<◌, ◌∙◌, ◌∷◌, ◌≡◌}
 use Rattle.std.proofs.lemmas.Bool.{and_from, and_parts}
 use Rattle.std.proofs.lemmas.Bool.Decides.{nat_tests}
 use Rattle.fw_lemmas.proofs.Bools.{two_ways}

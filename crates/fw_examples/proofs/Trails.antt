@@ -1,6 +1,6 @@
 -- The trail of the descent from what the nodes of the running total offer: what is lowered, one value after the other.
 use Rattle.std.specs.List.{AllByRecursion}
-use Rattle.std.proofs.Common.{Bool, List, [], arith, drop, false, inl, inr, length, lit<, lit≤, refl, subst, suc, take, true, zero, ℕ, ◌&&◌, ◌<◌, ◌∷◌, ◌≡◌}
+use Rattle.std.proofs.Common.{Bool, List, [], drop, false, inl, inr, lit≤, refl, subst, take, true, ℕ, ◌&&◌, ◌<◌, ◌∷◌, ◌≡◌}
 use Rattle.std.proofs.lemmas.Bool.{and_from, and_parts, false≢true}
 use Rattle.fw_time.specs.Stamp.{Stamp}
 use Rattle.fw_time.specs.declared.stamp.Bounds.{Bounds}
@@ -12,10 +12,13 @@ use Rattle.fw_flow.specs.Projection.{phi_by_count}
 use Rattle.fw_flow.specs.declared.choice.Choice.{Choice}
 use Rattle.fw_flow.specs.declared.choice.Cut.{Cut}
 use Rattle.fw_flow.specs.declared.choice.Cut.TheVariants.{At, Present}
+use Rattle.fw_flow.specs.declared.side.Inclusion.TheVariants.{OfCut, OfNote}
+use Rattle.fw_flow.specs.declared.side.Limit.TheVariants.{Own}
+use Rattle.fw_flow.specs.declared.side.Side.TheVariants.{Discarded}
 use Rattle.fw_model.specs.Choice.{IsCutWithin, cut_of, until}
 use Rattle.fw_model.specs.Offers.{IsOffered, IsOfferedFront, offered_by, stamps_on_from, covers_of}
 use Rattle.fw_model.proofs.OfferLaws.{consistent-same}
-use Rattle.fw_model.specs.Lowerings.{choice_of, IsLoweredBy, IsValueLeft}
+use Rattle.fw_model.specs.Lowerings.{choice_of, IsCutLeft, IsGreatestLeft, IsLoweredBy, IsValueLeft, Leads}
 use Rattle.fw_monitor.specs.Descent.{HasConsistent, IsGreatest}
 use Rattle.fw_model.specs.Inclusions.{Holds, inclusions, inclusions_to}
 use Rattle.fw_monitor.specs.Trail.{IsStart, IsTrail}
@@ -31,19 +34,19 @@ use Rattle.fw_flow.specs.declared.trail.Cause.TheVariants as cause
 use Rattle.fw_flow.specs.declared.trail.Part.TheVariants as part
 
 -- the domain of each node
-abbrev epochs : Bounds
+abbrev pub epochs : Bounds
 epochs = record { greatest = greatest_number ∷ []; sides = false }
 
 -- ---- the choices on the way
 
 -- these cuts and notices of the input and the running total, beside what the output offers
-abbrev beside_output : Cut → Cut → Front → Front → Choice
+abbrev pub beside_output : Cut → Cut → Front → Front → Choice
 beside_output at_src at_run told_src told_run = choice_of (at_src ∷ at_run ∷ At (until 2) ∷ []) (told_src ∷ told_run ∷ until 2 ∷ [])
 
-abbrev all_offered : Choice
+abbrev pub all_offered : Choice
 all_offered = beside_output Present Present [] []
 
-abbrev run_cut : Choice
+abbrev pub run_cut : Choice
 run_cut = beside_output Present (At (until 2)) [] []
 
 abbrev both_cut : Choice
@@ -89,7 +92,7 @@ of_all : (ss : List Stamp) (t : Stamp) → cover epochs ss t ≡ true → (every
 of_all ss t i = let d = (and_parts (everything epochs t) (some_above ss t) i).0 in and_from _ _ d d
 
 -- epoch 2 is not one of the first two
-beyond : (f : Frontier) → f (2 ∷ []) ≡ true → Within f (frontier_of epochs (until 2)) → ⊥
+pub beyond : (f : Frontier) → f (2 ∷ []) ≡ true → Within f (frontier_of epochs (until 2)) → ⊥
 beyond f i w = false≢true (w (2 ∷ []) i)
 
 -- of the batches that the input sent, that of epoch 2 comes from each frontier that has this epoch
@@ -100,19 +103,80 @@ sends_two f i = go (f (3 ∷ [])) refl
     go true e = rw e refl
     go false e = rw e (rw i refl)
 
--- ---- the lowerings
-
--- the n-th of some, counted from 0
-abbrev nth : {A : Type 0} (n : ℕ) (xs : List A) → n < length xs → A
-nth n [] l = absurd (omega arith)
-nth zero (x ∷ xs) l = x
-nth (suc n) (x ∷ xs) l = nth n xs (omega arith)
+-- ---- what is left, whatever the notices
 
 -- the running total sent epoch 2 to the output, which keeps two epochs; its one checkpoint is of these
+pub run_left : (told_src told_run : Front)
+    → IsGreatestLeft total_flow (covers_of total_flow offers_of_totals) (IsOffered total_flow offers_of_totals) (beside_output Present Present told_src told_run) (OfCut (Discarded 1)) (At (until 2))
+unfolding kind_of policy_of bounds_of receiver sender
+run_left told_src told_run = record { left = record { offered = (canonical_by _ (until 2) refl, inl refl); within = tt; meets = λ t i. i }; greatest = below }
+  where
+    below : (y : Cut)
+        → IsCutLeft total_flow (covers_of total_flow offers_of_totals) (IsOffered total_flow offers_of_totals) (beside_output Present Present told_src told_run) (Discarded 1) y
+        → IsCutWithin total_flow 1 y (At (until 2))
+    below Present is = absurd (beyond _ refl is.meets)
+    below (At f) is = at is.offered.1
+      where
+        at : IsOfferedFront epochs (offered_by offers_of_totals 1) f → Within (frontier_of epochs f) (frontier_of epochs (until 2))
+        at (inl e) = subst (λ g. Within (frontier_of epochs g) (frontier_of epochs (until 2))) e (λ t i. i)
+        at (inr e) = absurd e
+
+-- the input sent epoch 2 to the running total
+pub src_left : (told_src told_run : Front)
+    → IsGreatestLeft total_flow (covers_of total_flow offers_of_totals) (IsOffered total_flow offers_of_totals) (beside_output Present (At (until 2)) told_src told_run) (OfCut (Discarded 0)) (At (until 2))
+unfolding kind_of policy_of bounds_of receiver sender batches_of
+src_left told_src told_run = record {
+  left = record {
+    offered = (canonical_by _ (until 2) refl, inl ((λ t i. i), until_more epochs 2 4 (lit≤ tt)));
+    within = tt;
+    meets = one_is_kept;
+  };
+  greatest = below;
+}
+  where
+    below : (y : Cut)
+        → IsCutLeft total_flow (covers_of total_flow offers_of_totals) (IsOffered total_flow offers_of_totals) (beside_output Present (At (until 2)) told_src told_run) (Discarded 0) y
+        → IsCutWithin total_flow 0 y (At (until 2))
+    below Present is = absurd (beyond _ refl is.meets)
+    below (At f) is =
+        within_outside epochs (frontier_of epochs f) (until 2) (frontier-closed epochs f) refl
+        ((λ i. false≢true (is.meets (2 ∷ []) (and_from _ _ refl (sends_two (frontier_of epochs f) i)))), tt)
+
+-- notices lie in what is kept
+pub src_note_left : (told_run : Front)
+    → IsGreatestLeft total_flow (covers_of total_flow offers_of_totals) (IsOffered total_flow offers_of_totals) (beside_output (At (until 2)) (At (until 2)) [] told_run) (OfNote (Own 0)) (At (until 2))
+unfolding kind_of policy_of bounds_of
+src_note_left told_run = record {
+  left = record { canonical = canonical_by _ (until 2) refl; within = λ t i. and_from _ _ (and_parts _ _ i).0 refl; meets = λ t i. i };
+  greatest = below;
+}
+  where
+    below : (y : Cut)
+        → IsValueLeft total_flow (covers_of total_flow offers_of_totals) (IsOffered total_flow offers_of_totals) (beside_output (At (until 2)) (At (until 2)) [] told_run) (OfNote (Own 0)) y
+        → IsCutWithin total_flow 0 y (At (until 2))
+    below Present is = absurd is
+    below (At f) is = is.meets
+
+pub run_note_left : (at_src : Cut) (told_src : Front)
+    → IsGreatestLeft total_flow (covers_of total_flow offers_of_totals) (IsOffered total_flow offers_of_totals) (beside_output at_src (At (until 2)) told_src []) (OfNote (Own 1)) (At (until 2))
+unfolding kind_of policy_of bounds_of
+run_note_left at_src told_src = record {
+  left = record { canonical = canonical_by _ (until 2) refl; within = λ t i. and_from _ _ (and_parts _ _ i).0 refl; meets = λ t i. i };
+  greatest = below;
+}
+  where
+    below : (y : Cut)
+        → IsValueLeft total_flow (covers_of total_flow offers_of_totals) (IsOffered total_flow offers_of_totals) (beside_output at_src (At (until 2)) told_src []) (OfNote (Own 1)) y
+        → IsCutWithin total_flow 1 y (At (until 2))
+    below Present is = absurd is
+    below (At f) is = is.meets
+
+-- ---- the lowerings
+-- each by the first inclusion that fails
 run_lowered : IsLoweredBy total_flow (covers_of total_flow offers_of_totals) (IsOffered total_flow offers_of_totals) all_offered (record { node = 1; part = part.Cut; to = At (until 2); by = cause.Discarded 1 }) run_cut
 unfolding kind_of policy_of bounds_of receiver sender in_edges out_edges inclusions_to phi_by_count
 run_lowered = record {
-  inclusion = nth 4 (inclusions total_flow) (lit< tt);
+  inclusion = OfCut (Discarded 1);
   first = record {
     fails = beyond _ refl;
     earlier = take 4 (inclusions total_flow);
@@ -127,47 +191,24 @@ run_lowered = record {
     );
   };
   told = refl;
-  greatest = record { left = record { offered = (canonical_by _ (until 2) refl, inl refl); within = tt; meets = λ t i. i }; greatest = below };
+  greatest = run_left [] [];
   with_it = refl;
 }
-  where
-    below : (y : Cut) → IsValueLeft total_flow (covers_of total_flow offers_of_totals) (IsOffered total_flow offers_of_totals) all_offered (nth 4 (inclusions total_flow) (lit< tt)) y → IsCutWithin total_flow 1 y (At (until 2))
-    below Present is = absurd (beyond _ refl is.meets)
-    below (At f) is = at is.offered.1
-      where
-        at : IsOfferedFront epochs (offered_by offers_of_totals 1) f → Within (frontier_of epochs f) (frontier_of epochs (until 2))
-        at (inl e) = subst (λ g. Within (frontier_of epochs g) (frontier_of epochs (until 2))) e (λ t i. i)
-        at (inr e) = absurd e
 
--- the input sent epoch 2 to the running total
 src_lowered : IsLoweredBy total_flow (covers_of total_flow offers_of_totals) (IsOffered total_flow offers_of_totals) run_cut (record { node = 0; part = part.Cut; to = At (until 2); by = cause.Discarded 0 }) both_cut
 unfolding kind_of policy_of bounds_of receiver sender in_edges out_edges inclusions_to batches_of
 src_lowered = record {
-  inclusion = nth 0 (inclusions total_flow) (lit< tt);
+  inclusion = OfCut (Discarded 0);
   first = record { fails = beyond _ refl; earlier = []; later = drop 1 (inclusions total_flow); place = refl; hold = tt };
   told = refl;
-  greatest = record {
-    left = record {
-      offered = (canonical_by _ (until 2) refl, inl ((λ t i. i), until_more epochs 2 4 (lit≤ tt)));
-      within = tt;
-      meets = one_is_kept;
-    };
-    greatest = below;
-  };
+  greatest = src_left [] [];
   with_it = refl;
 }
-  where
-    below : (y : Cut) → IsValueLeft total_flow (covers_of total_flow offers_of_totals) (IsOffered total_flow offers_of_totals) run_cut (nth 0 (inclusions total_flow) (lit< tt)) y → IsCutWithin total_flow 0 y (At (until 2))
-    below Present is = absurd (beyond _ refl is.meets)
-    below (At f) is =
-        within_outside epochs (frontier_of epochs f) (until 2) (frontier-closed epochs f) refl
-        ((λ i. false≢true (is.meets (2 ∷ []) (and_from _ _ refl (sends_two (frontier_of epochs f) i)))), tt)
 
--- notices lie in what is kept
 src_noted : IsLoweredBy total_flow (covers_of total_flow offers_of_totals) (IsOffered total_flow offers_of_totals) both_cut (record { node = 0; part = part.Note; to = At (until 2); by = cause.Own }) src_told
 unfolding kind_of policy_of bounds_of receiver sender in_edges out_edges inclusions_to batches_of
 src_noted = record {
-  inclusion = nth 2 (inclusions total_flow) (lit< tt);
+  inclusion = OfNote (Own 0);
   first = record {
     fails = beyond _ refl;
     earlier = take 2 (inclusions total_flow);
@@ -179,21 +220,14 @@ src_noted = record {
     );
   };
   told = refl;
-  greatest = record {
-    left = record { canonical = canonical_by _ (until 2) refl; within = λ t i. and_from _ _ (and_parts _ _ i).0 refl; meets = λ t i. i };
-    greatest = below;
-  };
+  greatest = src_note_left [];
   with_it = refl;
 }
-  where
-    below : (y : Cut) → IsValueLeft total_flow (covers_of total_flow offers_of_totals) (IsOffered total_flow offers_of_totals) both_cut (nth 2 (inclusions total_flow) (lit< tt)) y → IsCutWithin total_flow 0 y (At (until 2))
-    below Present is = absurd is
-    below (At f) is = is.meets
 
 run_noted : IsLoweredBy total_flow (covers_of total_flow offers_of_totals) (IsOffered total_flow offers_of_totals) src_told (record { node = 1; part = part.Note; to = At (until 2); by = cause.Own }) two_epochs_kept
 unfolding kind_of policy_of bounds_of receiver sender in_edges out_edges inclusions_to batches_of phi_by_count
 run_noted = record {
-  inclusion = nth 6 (inclusions total_flow) (lit< tt);
+  inclusion = OfNote (Own 1);
   first = record {
     fails = beyond _ refl;
     earlier = take 6 (inclusions total_flow);
@@ -208,21 +242,18 @@ run_noted = record {
     );
   };
   told = refl;
-  greatest = record {
-    left = record { canonical = canonical_by _ (until 2) refl; within = λ t i. and_from _ _ (and_parts _ _ i).0 refl; meets = λ t i. i };
-    greatest = below;
-  };
+  greatest = run_note_left (At (until 2)) (until 2);
   with_it = refl;
 }
-  where
-    below : (y : Cut) → IsValueLeft total_flow (covers_of total_flow offers_of_totals) (IsOffered total_flow offers_of_totals) src_told (nth 6 (inclusions total_flow) (lit< tt)) y → IsCutWithin total_flow 1 y (At (until 2))
-    below Present is = absurd is
-    below (At f) is = is.meets
 
 -- ---- the whole
 
+pub all_lowered : Leads total_flow (covers_of total_flow offers_of_totals) (IsOffered total_flow offers_of_totals) all_offered trail_of_totals two_epochs_kept
+unfolding sender receiver
+all_lowered = (run_cut, run_lowered, (both_cut, src_lowered, (src_told, src_noted, (two_epochs_kept, run_noted, refl))))
+
 -- at the choice of the recovery nothing fails
-all_hold : AllByRecursion (Holds total_flow (covers_of total_flow offers_of_totals) two_epochs_kept) (inclusions total_flow)
+pub all_hold : AllByRecursion (Holds total_flow (covers_of total_flow offers_of_totals) two_epochs_kept) (inclusions total_flow)
 unfolding kind_of policy_of bounds_of receiver sender in_edges out_edges inclusions_to batches_of phi_by_count
 all_hold = (
   one_is_kept,
@@ -252,7 +283,7 @@ unfolding sender receiver
 trail = record {
   start = all_offered;
   starts = starts;
-  leads = (run_cut, run_lowered, (both_cut, src_lowered, (src_told, src_noted, (two_epochs_kept, run_noted, refl))));
+  leads = all_lowered;
   ends = all_hold;
 }
 

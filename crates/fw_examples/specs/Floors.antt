@@ -1,5 +1,5 @@
 -- Floors of the running total, covers that lack what is below one, and stamps of which those below one are missing.
-use Rattle.std.specs.Prelude.{List, [], drop, false, not, true, ℕ, ◌&&◌, ◌∷◌, ◌≡◌}
+use Rattle.std.specs.Prelude.{[], drop, false, not, true, ◌&&◌, ◌∷◌, ◌≡◌}
 use Rattle.fw_flow.specs.Dataflow.{Dataflow, node_frontier, receiver, sender}
 use Rattle.fw_flow.specs.declared.choice.Choice.{Choice}
 use Rattle.fw_flow.specs.declared.choice.Cut.TheVariants.{At, Present}

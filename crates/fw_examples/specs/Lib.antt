@@ -1,6 +1,7 @@
 pub mod Answers
 pub mod Applied
 pub mod AtRest
+pub mod Certified
 pub mod Collected
 pub mod Floors
 pub mod Flows

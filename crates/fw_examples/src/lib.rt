@@ -38,7 +38,7 @@ pub use nested_loops::{
 pub use traces_of_totals::{totals_are_declared, two_epochs_are_traced};
 pub use what_was_told::{one_more_may_be_told, tables_apply};
 pub use witnesses_of_laws::{
-    an_epoch_is_closed, checkpoints_are_offered, choices_unite, cuts_unite,
+    an_epoch_is_closed, certificates_apply, checkpoints_are_offered, choices_unite, cuts_unite,
     each_step_has_its_choice, epochs_are_thinned, epochs_settle_in_turn, failure_is_reached,
     fronts_are_spelled, join_is_a_frontier, less_is_consistent, loop_is_filtered, loop_is_reached,
     low_watermark_rises, more_is_complete, no_step_is_taken, notified_and_goes_on,

@@ -1,5 +1,6 @@
 //! That the laws say something: where what they ask holds.
 ghost use Rattle.fw_examples.specs.Witnesses.{EachStepHasItsChoice, FailureIsReached, LoopIsReached, LowWatermarkRises, MoreIsComplete, RecoveryIsReached, SomeIsSettled, SomethingIsChosen, TotalsAreWellFormed, TwoRunsMeet, ChoicesUnite, CutsUnite, JoinIsAFrontier, LessIsConsistent, AnEpochIsClosed, NotifiedAndGoesOn, OneIsOnItsWay, TwoEpochsAreComplete, LoopIsFiltered, NumbersAreDelivered, SequenceIsFiltered, TotalsAreFiltered, EpochsAreThinned, NoStepIsTaken, TwoEpochsAreTheSame, TwoStepsAreTaken};
+ghost use Rattle.fw_examples.specs.Certified.{CertificatesApply};
 ghost use Rattle.fw_examples.specs.Floors.{CoversArePoorer, EpochsAreMissing, FloorsAreThere, OffersAreAbove};
 ghost use Rattle.fw_examples.specs.InTurn.{EpochsSettleInTurn};
 ghost use Rattle.fw_examples.specs.OffersOfTotals.{CheckpointsAreOffered};
@@ -149,6 +150,12 @@ pub fn checkpoints_are_offered()
 #[tactic(auto, using(crate::proofs::Trails::trail_leads_to_largest))]
 pub fn trail_leads_to_largest()
     ensures { TrailLeadsToLargest }
+{}
+
+/// Two certificates of that choice, what the laws of certificates say of them, and data by which no choice is consistent.
+#[tactic(auto, using(crate::proofs::Certified::certificates_apply))]
+pub fn certificates_apply()
+    ensures { CertificatesApply }
 {}
 
 /// A state in which two of three nodes have more to settle, and what the laws say of how they settle it one after the other.

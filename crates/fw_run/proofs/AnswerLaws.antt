@@ -18,11 +18,10 @@ use Rattle.fw_run.specs.declared.status.Status.TheVariants.{Done, BadWords, Refu
 use Rattle.fw_run.specs.declared.work.Work.{Work}
 use Rattle.fw_run.specs.Answers.{Outside, Known, outside_of, TellsRecords, RunAnswers}
 use Rattle.fw_run.specs.Call.{Call, CountsWrites, HasRefused, KeepsFolder, PrintsPart}
-use Rattle.fw_run.specs.Ends.{IsDamageIn, IsStoreFault, IsWholeRun}
-use Rattle.fw_run.specs.Enduring.{RoseBy}
+use Rattle.fw_run.specs.Ends.{IsDamageIn, IsStoreFault, IsWholeRun, NoFaults, NoneLeft}
 use Rattle.fw_run.specs.Fault.{status_of}
 use Rattle.fw_run.specs.Status.{HasWord, IsTellingOf, read_faults_told, status_number}
-use Rattle.fw_run.specs.Work.{EndsWork, IsWork, StaysIfToldInOne, StaysUnlessRun}
+use Rattle.fw_run.specs.Work.{EndsWork, IsWork, StaysIfUnseen, StaysUnlessRun}
 use Rattle.fw_command.specs.declared.reading.JobFault.{JobFault}
 use Rattle.fw_command.specs.declared.reading.JobFault.TheVariants as job
 use Rattle.fw_command.specs.Reading.{IfJobRefused, read_faults_after}
@@ -143,7 +142,7 @@ pub answers-done : {F K O : Type 0} (known : Known F K O) (call : Call) (command
     → RunAnswers known call (outside_of folder store out) Done (outside_of now left wrote)
 answers-done known call command work folder now store left out wrote e j ends telling stays read kept =
     let tells = IsSome (known.store left).records in
-    let printed = prints tells (λ faults others. (faults ≡ 0) × (others ≡ [])) call command work (λ text. IsWritten text (known.out out) (known.out wrote)) e j ends.printed in
+    let printed = prints tells NoFaults NoneLeft call command work (λ text. IsWritten text (known.out out) (known.out wrote)) e j ends.printed in
     let writes = writes_all ends.printed.printed (known.out out) (known.out wrote) ends.printed.written in
     let counts = counts_none call.command Done (known.store store).faults (known.store left).faults ends.none (λ is. absurd (cc)) in
     record {
@@ -203,7 +202,7 @@ no_read_fault (Engine engine.NoMemory) count = refl
 
 pub answers-fault : {F K O : Type 0} (known : Known F K O) (call : Call) (command : Command) (work : Work) (f : RunFault) (folder now : F) (store left : K) (out wrote : O) → call.command ≡ Some command
     → IsWork call.told command work → EndsWork {T = Unit {0}} (IsSome (known.store left).records) work (Err f) (known.store store) (known.store left) (known.out out) (known.out wrote)
-    → (IsSome (known.store left).records → IsSome (known.store store).records) → StaysUnlessRun work store left → ((fault : EngineFault) → f ≡ Engine fault → StaysIfToldInOne work out wrote) → known.read_faults now ≡ known.read_faults folder
+    → (IsSome (known.store left).records → IsSome (known.store store).records) → StaysUnlessRun work store left → ((fault : EngineFault) → f ≡ Engine fault → StaysIfUnseen work out wrote) → known.read_faults now ≡ known.read_faults folder
     → KeepsFolder known.texts known.fetches call.command (status_of f) folder now → RunAnswers known call (outside_of folder store out) (status_of f) (outside_of now left wrote)
 answers-fault known call command work f folder now store left out wrote e j ends telling stays quiet read kept =
     let tells = IsSome (known.store left).records in

@@ -1,5 +1,5 @@
 -- From the work of a command and what was printed of it to what a call promises.
-use Rattle.std.proofs.Common.{◌≡◌, inl, inr, ◌⊎◌, ℕ, ◌<◌, ◌≤◌, true, false, List, [], Option, Some, None, Err, refl, sym, ◌∙◌, ap, subst, arith, lit<}
+use Rattle.std.proofs.Common.{◌≡◌, inl, inr, ◌⊎◌, ℕ, ◌<◌, ◌≤◌, Bool, true, false, List, [], Option, Some, None, Err, refl, sym, ◌∙◌, ap, subst, arith, lit<}
 use Rattle.std.proofs.lemmas.Bool.{cases_Bool, false≢true}
 use Rattle.std.proofs.lemmas.Option.{same_Some}
 use Rattle.std.specs.Prelude.{IsSome, is_some, option_map, option_and_then}
@@ -11,6 +11,7 @@ use Rattle.fw_lines.specs.declared.refusal.Refusal.{Refusal}
 use Rattle.fw_flow.specs.Dataflow.{Dataflow, System, system_of}
 use Rattle.fw_schedule.specs.declared.item.Item.{Item}
 use Rattle.fw_generate.specs.Texts.{Texts}
+use Rattle.fw_keep.specs.Stored.{Records, IsEmptyStore}
 use Rattle.fw_running.specs.declared.fault.EngineFault.{EngineFault}
 use Rattle.fw_running.specs.declared.fault.EngineFault.TheVariants as engine
 use Rattle.fw_run.proofs.DecidedLaws.{texts-decided}
@@ -26,14 +27,14 @@ use Rattle.fw_run.specs.declared.work.Work.{Work}
 use Rattle.fw_run.specs.declared.work.Work.TheVariants.{Run, Denote, Check}
 use Rattle.fw_run.specs.Call.{Call, CountsFaults, Prints, HasAccepted, HasRefused, IsPrintout, PrintsPart, PrintsFirst, IsRunOf, KeepsFolder, KeepsStore, AnswersTexts, IsRunEnd, IsRefusalEnd}
 use Rattle.fw_command.specs.DenotationText.{PrintsDenotation}
-use Rattle.fw_run.specs.Ends.{PrintsOfRun, IsDamageIn, StaysIfInOneLine}
-use Rattle.fw_run.specs.Enduring.{RoseBy, RoseByFaults, StaysOrRose}
+use Rattle.fw_run.specs.Ends.{PrintsOfRun, SomeLeft, IsDamageIn, StaysUnseen}
+use Rattle.fw_run.specs.Enduring.{RoseIfOn, RoseByFaults, StaysOrRose}
 use Rattle.fw_run.specs.Fault.{faults_after_run, status_of}
-use Rattle.fw_run.specs.Manner.{goes_on, told_in}
+use Rattle.fw_command.specs.Manner.{told_in}
 use Rattle.fw_run.specs.Status.{HasWord, IsTellingOf, store_faults_told, status_number}
 use Rattle.fw_command.specs.Texts.{HasFlow, HasTexts, Accepts, Refuses, AsksNoMore, spelled_system, spelled_items}
-use Rattle.fw_command.specs.Command.{Command, check, Origin, in_folder, generated, Task, tells_denotation, lists_nodes, Manner, by_lines, through_faults, in_one_line, manner_in, manner_of, are_in_folder, IsInOneLine, asks_folder}
-use Rattle.fw_run.specs.Work.{IsWork, task_of, flow_in, Spells, EndsAtFault, IsRun, IfRun, IsTextOfWork, PrintsWork, StaysUnlessRun, StaysIfToldInOne}
+use Rattle.fw_command.specs.Command.{Command, check, Origin, in_folder, generated, Task, tells_denotation, lists_nodes, Manner, manner_in, manner_of, are_in_folder, IsUnseen, GoesOnThrough, asks_folder}
+use Rattle.fw_run.specs.Work.{IsWork, IsStoreFor, task_of, flow_in, Spells, EndsAtFault, IsRun, IfRun, IsTextOfWork, PrintsWork, StaysUnlessRun, StaysIfUnseen}
 use Rattle.fw_command.specs.Writing.{IsPartWritten, IsCutOff, WritesText}
 
 -- words are one command
@@ -57,60 +58,66 @@ work_of-flow told name flow h = record {
   spelled = tt;
 }
 
+-- a store that holds no record is as each work asks
+pub store_for : (work : Work) (records : Option Records) → IsEmptyStore records → IsStoreFor work records
+store_for (Run manner job) records empty = empty
+store_for (Denote fed) records empty = tt
+store_for (Check flow) records empty = tt
+
 -- ---- what was printed
 
 -- what the work prints is what its task prints of texts that spell it
-prints_spelled : (Tells : Type 0) (IsSo : ℕ → List ℕ → Type 0) (work : Work) (texts : Texts) (printed : List ℕ) → Spells work texts → IsTextOfWork Tells IsSo work printed
-    → Prints Tells IsSo (task_of work) texts (flow_in work) printed
-prints_spelled Tells IsSo (Run manner job) texts printed s p =
-    of_texts job.flow texts (system_of job.flow job.batches) job.items (λ sys items. PrintsOfRun Tells IsSo (told_in manner) sys items printed) s.system s.items p
-prints_spelled Tells IsSo (Denote fed) texts printed s p = subst (λ (sys : System). PrintsDenotation sys printed) s p
-prints_spelled Tells IsSo (Check flow) texts printed s p = p
+prints_spelled : (Tells : Type 0) (IsCount : Bool → ℕ → Type 0) (IsLeft : List ℕ → Type 0) (work : Work) (texts : Texts) (printed : List ℕ) → Spells work texts → IsTextOfWork Tells IsCount IsLeft work printed
+    → Prints Tells IsCount IsLeft (task_of work) texts (flow_in work) printed
+prints_spelled Tells IsCount IsLeft (Run manner job) texts printed s p =
+    of_texts job.flow texts (system_of job.flow job.batches) job.items (λ sys items. PrintsOfRun Tells IsCount IsLeft (told_in manner) sys items printed) s.system s.items p
+prints_spelled Tells IsCount IsLeft (Denote fed) texts printed s p = subst (λ (sys : System). PrintsDenotation sys printed) s p
+prints_spelled Tells IsCount IsLeft (Check flow) texts printed s p = p
 
 -- what a work prints is what the call prints that asked for it
-printout_of_work : (Tells : Type 0) (IsSo : ℕ → List ℕ → Type 0) (call : Call) (command : Command) (work : Work) (printed : List ℕ) → call.command ≡ Some command → IsWork call.told command work
-    → IsTextOfWork Tells IsSo work printed → IsPrintout Tells IsSo call printed
-printout_of_work Tells IsSo call command work printed e j p = record {
+printout_of_work : (Tells : Type 0) (IsCount : Bool → ℕ → Type 0) (IsLeft : List ℕ → Type 0) (call : Call) (command : Command) (work : Work) (printed : List ℕ) → call.command ≡ Some command → IsWork call.told command work
+    → IsTextOfWork Tells IsCount IsLeft work printed → IsPrintout Tells IsCount IsLeft call printed
+printout_of_work Tells IsCount IsLeft call command work printed e j p = record {
   texts = j.texts;
   accepted = record { command = command; words = e; there = j.there; flow = flow_in work; accepted = j.accepted };
-  text = subst (λ (task : Task). Prints Tells IsSo task j.texts (flow_in work) printed) (sym j.does) (prints_spelled Tells IsSo work j.texts printed j.spelled p);
+  text = subst (λ (task : Task). Prints Tells IsCount IsLeft task j.texts (flow_in work) printed) (sym j.does) (prints_spelled Tells IsCount IsLeft work j.texts printed j.spelled p);
 }
 
 -- and so is what was written of it
-pub prints : (Tells : Type 0) (IsSo : ℕ → List ℕ → Type 0) (call : Call) (command : Command) (work : Work) (IsPut : List ℕ → Type 0) → call.command ≡ Some command → IsWork call.told command work
-    → WritesText (IsTextOfWork Tells IsSo work) IsPut → WritesText (IsPrintout Tells IsSo call) IsPut
-prints Tells IsSo call command work IsPut e j p =
-    record { printed = p.printed; text = printout_of_work Tells IsSo call command work p.printed e j p.text; written = p.written }
+pub prints : (Tells : Type 0) (IsCount : Bool → ℕ → Type 0) (IsLeft : List ℕ → Type 0) (call : Call) (command : Command) (work : Work) (IsPut : List ℕ → Type 0) → call.command ≡ Some command → IsWork call.told command work
+    → WritesText (IsTextOfWork Tells IsCount IsLeft work) IsPut → WritesText (IsPrintout Tells IsCount IsLeft call) IsPut
+prints Tells IsCount IsLeft call command work IsPut e j p =
+    record { printed = p.printed; text = printout_of_work Tells IsCount IsLeft call command work p.printed e j p.text; written = p.written }
 
 -- what was cut off by a fault of the output
 pub prints_part : (T : Type 0) (Tells : Type 0) (call : Call) (command : Command) (work : Work) (count last : ℕ) (fault : RunFault) (of_output : OutFault) (before after : SinkView) → call.command ≡ Some command
-    → IsWork call.told command work → fault ≡ Out of_output → PrintsWork {T = T} Tells (λ faults others. RoseBy count last faults) work (Err fault) before after
+    → IsWork call.told command work → fault ≡ Out of_output → PrintsWork {T = T} Tells (RoseIfOn count last) SomeLeft work (Err fault) before after
     → PrintsPart Tells call count last of_output before after
 prints_part T Tells call command work count last fault of_output before after e j f p =
-    prints Tells (λ faults others. RoseBy count last faults) call command work (λ printed. IsCutOff printed of_output before after) e j
-    (subst (λ (g : RunFault). PrintsWork {T = T} Tells (λ faults others. RoseBy count last faults) work (Err g) before after) f p)
+    prints Tells (RoseIfOn count last) SomeLeft call command work (λ printed. IsCutOff printed of_output before after) e j
+    (subst (λ (g : RunFault). PrintsWork {T = T} Tells (RoseIfOn count last) SomeLeft work (Err g) before after) f p)
 
 -- what was cut off where memory was refused
 pub prints_no_memory : (T : Type 0) (Tells : Type 0) (call : Call) (command : Command) (work : Work) (count last : ℕ) (fault : RunFault) (before after : SinkView) → call.command ≡ Some command
-    → IsWork call.told command work → status_of fault ≡ NoMemory → PrintsWork {T = T} Tells (λ faults others. RoseBy count last faults) work (Err fault) before after
+    → IsWork call.told command work → status_of fault ≡ NoMemory → PrintsWork {T = T} Tells (RoseIfOn count last) SomeLeft work (Err fault) before after
     → PrintsPart Tells call count last output.NoMemory before after
 prints_no_memory T Tells call command work count last (Out output.Failed) before after e j f p = absurd (cc)
 prints_no_memory T Tells call command work count last (Out output.NoMemory) before after e j f p =
-    prints Tells (λ faults others. RoseBy count last faults) call command work (λ printed. IsCutOff printed output.NoMemory before after) e j p
+    prints Tells (RoseIfOn count last) SomeLeft call command work (λ printed. IsCutOff printed output.NoMemory before after) e j p
 prints_no_memory T Tells call command work count last (Engine engine.StoreFault) before after e j f p = absurd (cc)
 prints_no_memory T Tells call command work count last (Engine (engine.Damaged id)) before after e j f p = absurd (cc)
 prints_no_memory T Tells call command work count last (Engine engine.NoMemory) before after e j f p =
-    prints Tells (λ faults others. RoseBy count last faults) call command work (λ printed. IsCutOff printed output.NoMemory before after) e j
+    prints Tells (RoseIfOn count last) SomeLeft call command work (λ printed. IsCutOff printed output.NoMemory before after) e j
     (record { printed = p.printed; text = p.text; written = cut_of-part p.printed before after p.written })
 
 -- what was written where the store ended the run
 pub prints_first : (T : Type 0) (Tells : Type 0) (call : Call) (command : Command) (work : Work) (count last : ℕ) (fault : RunFault) (before after : SinkView) → call.command ≡ Some command
     → IsWork call.told command work → 8 ≤ status_number (status_of fault) → status_number (status_of fault) ≤ 9
-    → PrintsWork {T = T} Tells (λ faults others. RoseBy count last faults) work (Err fault) before after → PrintsFirst Tells call count last before after
+    → PrintsWork {T = T} Tells (RoseIfOn count last) SomeLeft work (Err fault) before after → PrintsFirst Tells call count last before after
 prints_first T Tells call command work count last (Out output.Failed) before after e j least most p = absurd (omega (arith, least))
 prints_first T Tells call command work count last (Out output.NoMemory) before after e j least most p = absurd (omega (arith, most))
 prints_first T Tells call command work count last (Engine fault) before after e j least most p =
-    prints Tells (λ faults others. RoseBy count last faults) call command work (λ printed. IsPartWritten printed before after) e j p
+    prints Tells (RoseIfOn count last) SomeLeft call command work (λ printed. IsPartWritten printed before after) e j p
 
 -- so it is where memory was refused to tell it
 pub part_of-first : (Tells : Type 0) (call : Call) (count last : ℕ) (before after : SinkView) → PrintsFirst Tells call count last before after
@@ -258,9 +265,7 @@ accepted_of-run call P r =
 -- a damaged record ends a run only where the store does not tell its records
 pub untold_of-damage : (Tells : Type 0) (count last id : ℕ) (given : Option (ℕ × List ℕ)) (before after : SinkView) (manner : Manner) (sys : System) (items : List Item)
     → IsDamageIn Tells count last id given before after manner sys items → Tells → ⊥
-untold_of-damage Tells count last id given before after by_lines sys items d = d.untold
-untold_of-damage Tells count last id given before after through_faults sys items d = d.untold
-untold_of-damage Tells count last id given before after (in_one_line seeded) sys items d = d.untold
+untold_of-damage Tells count last id given before after manner sys items d = d.untold
 
 refuses : (Tells : Type 0) (call : Call) (status : Status) → IsToldOf Tells call status → (refusal : Refusal) → IsSome call.told → HasRefused call refusal → IsRefusalEnd refusal status
 refuses Tells call Done s refusal tells first = let p = s.done refl in absurd (accepted_and_refused call p.0 refusal p.1 (λ asks. tells) first)
@@ -341,13 +346,11 @@ fault_not_done (Engine engine.NoMemory) e = absurd (cc)
 
 -- the work of a command that does not go on through faults ended at the first
 ends_at_fault : (T : Type 0) (told : Option (List ℕ → Option (List ℕ))) (f : RunFault) (before after : ℕ) (command : Command) (work : Work) → IsWork told command work
-    → (manner_of command ≡ Some through_faults → ⊥) → EndsAtFault {T = T} work (Err f) before after → after ≡ store_faults_told (status_of f) before
-ends_at_fault T told f before after command (Run manner job) j once ends = count_told T f before after (ends (first (told_in manner) (λ e. once (ap manner_in j.does ∙ ap Some e))))
-  where
-    first : (m : Manner) → (m ≡ through_faults → ⊥) → goes_on m ≡ false
-    first by_lines other = refl
-    first through_faults other = absurd (other refl)
-    first (in_one_line seeded) other = refl
+    → (GoesOnThrough (Some command) → ⊥) → EndsAtFault {T = T} work (Err f) before after → after ≡ store_faults_told (status_of f) before
+ends_at_fault T told f before after command (Run manner job) j once ends = elim (cases_Bool manner.goes_on) [
+  | inl on ↦ absurd (once (told_in manner, ap manner_in j.does, on))
+  | inr off ↦ count_told T f before after (ends off)
+]
 ends_at_fault T told f before after command (Denote fed) j once ends = count_told T f before after ends
 ends_at_fault T told f before after command (Check flow) j once ends = count_told T f before after ends
 
@@ -356,7 +359,7 @@ pub counts_fault : (T : Type 0) (told : Option (List ℕ → Option (List ℕ)))
     → StaysOrRose before after → CountsFaults command (status_of f) before after
 counts_fault T told command asked work f before after e j ends some rises = record {
   none = λ done. absurd (fault_not_done f done);
-  once = λ once. ends_at_fault T told f before after asked work j (λ through. once (ap (λ c. option_and_then manner_of c) e ∙ through)) ends;
+  once = λ once. ends_at_fault T told f before after asked work j (λ on. once (subst GoesOnThrough (sym e) on)) ends;
   some = λ is. some (ap (λ (g : RunFault). Err g) (store_of f is));
   rose = λ is. rose_by before after (some (ap (λ (g : RunFault). Err g) (store_of f is)));
   rises = rises;
@@ -384,28 +387,29 @@ counts_told command status result before after (inr t) k = record {
     quiet (inl (refusal, e)) = ap (λ (s : Status). store_faults_told s before) e
     quiet (inr (id, e)) = ap (λ (s : Status). store_faults_told s before) e
 
--- ---- a run that is told in one line
+-- ---- a run whose steps are not seen
 
 -- where the engine took no step more, it was told nothing
 pub nothing_told : {O : Type 0} (told : Option (List ℕ → Option (List ℕ))) (command : Option Command) (asked : Command) (work : Work) (f : RunFault) (before after : O) → command ≡ Some asked
-    → IsWork told asked work → ((fault : EngineFault) → f ≡ Engine fault → StaysIfToldInOne work before after) → IsInOneLine command
+    → IsWork told asked work → ((fault : EngineFault) → f ≡ Engine fault → StaysIfUnseen work before after) → IsUnseen command
     → 8 ≤ status_number (status_of f) → status_number (status_of f) ≤ 9 → after ≡ before
 nothing_told {O} told command asked work f before after e j stays one least most = stays_there f stays least most
   where
-    told_so : manner_in (task_of work) ≡ Some (in_one_line one.0)
+    told_so : manner_in (task_of work) ≡ Some one.0
     told_so = sym (ap manner_in j.does) ∙ sym (ap (λ c. option_and_then manner_of c) e) ∙ one.1
 
-    in_line : (m : Manner) → m ≡ in_one_line one.0 → StaysIfInOneLine m before after → after ≡ before
-    in_line by_lines e s = absurd (cc)
-    in_line through_faults e s = absurd (cc)
-    in_line (in_one_line seed) e s = s
+    unseen : (is_seen : Bool) → is_seen ≡ false → StaysUnseen is_seen before after → after ≡ before
+    unseen true h s = absurd (cc)
+    unseen false h s = s
 
-    of_work : (w : Work) → manner_in (task_of w) ≡ Some (in_one_line one.0) → StaysIfToldInOne w before after → after ≡ before
-    of_work (Run manner job) k s = in_line (told_in manner) (same_Some (told_in manner) (in_one_line one.0) k) s
+    of_work : (w : Work) → manner_in (task_of w) ≡ Some one.0 → StaysIfUnseen w before after → after ≡ before
+    of_work (Run manner job) k s =
+        let same : told_in manner ≡ one.0 = same_Some (told_in manner) one.0 k in
+        unseen manner.is_seen (ap (λ (m : Manner). m.is_seen) same ∙ one.3) (s (ap (λ (m : Manner). m.course.goes_on) same ∙ one.2))
     of_work (Denote fed) k s = absurd (cc)
     of_work (Check flow) k s = absurd (cc)
 
-    stays_there : (g : RunFault) → ((fault : EngineFault) → g ≡ Engine fault → StaysIfToldInOne work before after)
+    stays_there : (g : RunFault) → ((fault : EngineFault) → g ≡ Engine fault → StaysIfUnseen work before after)
         → 8 ≤ status_number (status_of g) → status_number (status_of g) ≤ 9 → after ≡ before
     stays_there (Out output.Failed) s l m = absurd (omega (arith, l))
     stays_there (Out output.NoMemory) s l m = absurd (omega (arith, m))

@@ -1,5 +1,5 @@
--- What was printed of an item, where an engine took its steps.
-use Rattle.std.proofs.Common.{◌≡◌, ℕ, zero, suc, ◌+◌, ◌-◌, ◌^◌, ◌<◌, ◌≤◌, true, false, List, [], ◌∷◌, ◌++◌, length, Option, None, Ok, Err, refl, sym, ◌∙◌, ap, subst, arith, append_assoc}
+-- What was printed of an item, where an engine took its steps, up to the first fault of its store.
+use Rattle.std.proofs.Common.{◌≡◌, inl, ℕ, zero, suc, ◌+◌, ◌-◌, ◌^◌, ◌<◌, ◌≤◌, true, false, List, [], ◌∷◌, ◌++◌, length, Option, None, Ok, Err, refl, sym, ◌∙◌, ap, subst, arith, append_assoc}
 use Rattle.std.proofs.lemmas.Bool.{false≢true, true≢false}
 use Rattle.std.proofs.lemmas.List.{append-nil, length-append}
 use Rattle.std.specs.Result.{IsErrOf}
@@ -12,10 +12,9 @@ use Rattle.fw_schedule.specs.declared.item.Item.{Item}
 use Rattle.fw_schedule.specs.declared.item.Item.TheVariants.{One, Auto}
 use Rattle.fw_schedule.specs.Schedule.{steps_in}
 use Rattle.fw_model.proofs.AutoLaws.{auto-goes_on}
-use Rattle.fw_model.proofs.GoingOn.{runs-go_on}
 use Rattle.fw_model.specs.Auto.{auto_steps, TakesFirst, IsAutoRun}
 use Rattle.fw_model.specs.Machine.{Machine}
-use Rattle.fw_model.specs.Steps.{Effect, Outcome, did, Run}
+use Rattle.fw_model.specs.Steps.{Effect, Outcome, did}
 use Rattle.fw_keep.specs.Stored.{Records}
 use Rattle.fw_running.specs.declared.fault.EngineFault.{EngineFault}
 use Rattle.fw_running.specs.declared.fault.EngineFault.TheVariants as fault
@@ -26,17 +25,28 @@ use Rattle.fw_running.specs.Steps.{effect_of, outcome_of, FirstMayCall, IsStepEn
 use Rattle.fw_engine.specs.declared.engine.Engine.{Engine}
 use Rattle.fw_engine.specs.Engine.{flow_of, StandsFor, FollowsStep, FollowsFirstStep}
 use Rattle.fw_run.proofs.ItemLaws.{item-run}
-use Rattle.fw_run.proofs.RunLaws.{text-append, text_of_one}
+use Rattle.fw_run.proofs.ReportLaws.{reports_text-append, shown-run, shown-faults, shown-on, some_reports}
 use Rattle.fw_run.proofs.TallyLaws.{counted-none, counted-more}
 use Rattle.fw_command.proofs.WritingLaws.{written_nothing, written_more}
 use Rattle.fw_run.proofs.TakenLaws.{taken_part, taken_more}
 use Rattle.fw_run.specs.declared.fault.RunFault.TheVariants as stop
 use Rattle.fw_run.specs.declared.tally.StepCounts.{StepCounts}
-use Rattle.fw_run.specs.Items.{ItemRun}
-use Rattle.fw_run.specs.Performing.{IsLeftAfter, PrintsItem, AreFew}
-use Rattle.fw_run.specs.Printed.{outcomes_text, is_idle}
-use Rattle.fw_run.specs.Tallies.{tally_of, with_tally, AreOfSteps}
+use Rattle.fw_run.specs.Enduring.{EnduredItem}
+use Rattle.fw_run.specs.Performing.{IsLeftAfter, IsCountAt, PrintsItem, AreFew}
+use Rattle.fw_run.specs.Printed.{is_idle}
+use Rattle.fw_run.specs.Reports.{Report, came, reports_text, RunShown}
+use Rattle.fw_run.specs.Tallies.{tally_of, tally_shown, with_tally, AreOfSteps}
+use Rattle.fw_command.specs.Command.{by_effect, shown_by_effect}
 use Rattle.fw_command.specs.Writing.{IsWritten, IsCutOff}
+
+-- no fault of the store is counted
+abbrev pub IsNone : ℕ → Type 0
+IsNone times = times ≡ 0
+
+none_at : (f : EngineFault) → IsCountAt (stop.Engine f) IsNone 0
+none_at fault.StoreFault = tt
+none_at (fault.Damaged id) = refl
+none_at fault.NoMemory = refl
 
 -- ---- a step
 
@@ -52,41 +62,55 @@ step_left old new before after step (fault.Damaged id) faulted unharmed sys stat
 step_left old new before after step fault.NoMemory faulted unharmed sys state st = tt
 
 -- the engine took no step
-pub step_stopped : (T : Type 0) (old new : Engine) (before after : Option Records) (step : Step) (tally : StepCounts) (f : EngineFault) (view : SinkView) → tally.sum < 2 ^ 64
+pub step_stopped : (old new : Engine) (before after : Option Records) (step : Step) (tally : StepCounts) (f : EngineFault) (view : SinkView) → tally.sum < 2 ^ 64
     → ((sys : System) (state : Machine) → StandsFor sys old before state → IsErrOf {T = Stepped} (Err f) fault.StoreFault → IsLeftBy sys state step (λ next. StandsFor sys new after next))
     → ((id : ℕ) (sys : System) (state : Machine) → StandsFor sys old before state → IsErrOf {T = Stepped} (Err f) (fault.Damaged id) → (after ≡ None) × IsStepEnabled sys state Recover × StandsFor sys new after state)
-    → PrintsItem {T = T} old before (One step) tally (Err (stop.Engine f)) new after tally view view
-step_stopped T old new before after step tally f view fits faulted unharmed = record {
+    → PrintsItem (shown_by_effect false) old before (One step) tally IsNone (Err (stop.Engine f)) new after tally view view
+step_stopped old new before after step tally f view fits faulted unharmed = record {
   bytes = [];
   taken = written_nothing view;
-  does = λ sys state st. record {
-    begun = [];
-    now = state;
-    begins = (refl, refl);
-    outcomes = [];
-    run = refl;
-    counted = counted-none tally fits;
-    text = refl;
-    so = step_left old new before after step f faulted unharmed sys state st;
-  };
+  does = λ sys state st. (
+    record {
+      begun = [];
+      now = state;
+      begins = (refl, refl);
+      reports = [];
+      run = refl;
+      text = refl;
+      counted = counted-none tally fits;
+      so = step_left old new before after step f faulted unharmed sys state st;
+    },
+    none_at f,
+  );
 }
 
--- the run of one step
-abbrev of_step : (sys : System) (state : Machine) (step : Step) (stepped : Stepped) (new : Engine) (after : Option Records) → FollowsStep sys state step stepped new after → ItemRun sys state (One step)
-of_step sys state step stepped new after f =
-    record { steps = step ∷ []; outcomes = outcome_of stepped ∷ []; last = f.next; comes = (outcome_of stepped, f.steps, refl); run = (f.next, f.steps, refl) }
+-- the report of what comes of a step
+abbrev report_of : Dataflow → Outcome → Report
+report_of flow outcome = came outcome (outcome_text flow outcome)
+
+-- what comes of one step
+abbrev of_step : (sys : System) (state : Machine) (step : Step) (stepped : Stepped) (new : Engine) (after : Option Records) → FollowsStep sys state step stepped new after
+    → EnduredItem (shown_by_effect false) sys state (One step)
+of_step sys state step stepped new after f = record {
+  steps = step ∷ [];
+  reports = report_of sys.flow (outcome_of stepped) ∷ [];
+  last = f.next;
+  endures = (report_of sys.flow (outcome_of stepped), (f.steps, refl, refl), refl);
+  run = (f.next, f.steps, refl);
+  may = refl;
+}
 
 -- the lines of a step, with the names of an engine's flow
-line_of-step : (sys : System) (flow : Dataflow) (new : Engine) (after : Option Records) (state : Machine) (stepped : Stepped) → flow ≡ flow_of new → StandsFor sys new after state
-    → outcome_text flow (outcome_of stepped) ≡ outcomes_text sys.flow (outcome_of stepped ∷ [])
-line_of-step sys flow new after state stepped e st =
-    ap (λ (f : Dataflow). outcome_text f (outcome_of stepped)) (e ∙ st.apart.flow) ∙ sym (text_of_one sys.flow (outcome_of stepped))
+line_of-step : (sys : System) (flow : Dataflow) (new : Engine) (after : Option Records) (state : Machine) (outcome : Outcome) (number : ℕ) → flow ≡ flow_of new → StandsFor sys new after state
+    → outcome_text flow outcome ≡ reports_text number (report_of sys.flow outcome ∷ [])
+line_of-step sys flow new after state outcome number e st =
+    ap (λ (f : Dataflow). outcome_text f outcome) (e ∙ st.apart.flow) ∙ sym (append-nil (outcome_text sys.flow outcome))
 
 -- it took the step, and its lines were cut off
-pub step_begun : (T : Type 0) (old new : Engine) (before after : Option Records) (step : Step) (tally counts : StepCounts) (flow : Dataflow) (stepped : Stepped) (f : OutFault) (first last : SinkView)
+pub step_begun : (old new : Engine) (before after : Option Records) (step : Step) (tally counts : StepCounts) (flow : Dataflow) (stepped : Stepped) (f : OutFault) (first last : SinkView)
     → flow ≡ flow_of new → ((sys : System) (state : Machine) → StandsFor sys old before state → Trusts sys state step after → FollowsStep sys state step stepped new after)
-    → IsCutOff (outcome_text flow (outcome_of stepped)) f first last → PrintsItem {T = T} old before (One step) tally (Err (stop.Out f)) new after counts first last
-step_begun T old new before after step tally counts flow stepped f first last e follows c =
+    → IsCutOff (outcome_text flow (outcome_of stepped)) f first last → PrintsItem (shown_by_effect false) old before (One step) tally IsNone (Err (stop.Out f)) new after counts first last
+step_begun old new before after step tally counts flow stepped f first last e follows c =
     let part = taken_part (outcome_text flow (outcome_of stepped)) f first last c in
     record {
       bytes = part.one;
@@ -96,15 +120,16 @@ step_begun T old new before after step tally counts flow stepped f first last e 
           record {
             of_item = of_step sys state step stepped new after next;
             others = part.other;
-            text = sym (line_of-step sys flow new after next.next stepped e next.stands) ∙ part.parts;
+            text = sym (line_of-step sys flow new after next.next (outcome_of stepped) tally.steps e next.stands) ∙ part.parts;
+            faults = refl;
           };
     }
 
 -- or were written
-pub step_taken : {T : Type 0} (old new : Engine) (before after : Option Records) (step : Step) (tally counts : StepCounts) (flow : Dataflow) (stepped : Stepped) (value : T) (first last : SinkView)
+pub step_taken : (old new : Engine) (before after : Option Records) (step : Step) (tally counts : StepCounts) (flow : Dataflow) (stepped : Stepped) (value : Unit {0}) (first last : SinkView)
     → flow ≡ flow_of new → ((sys : System) (state : Machine) → StandsFor sys old before state → Trusts sys state step after → FollowsStep sys state step stepped new after)
     → counts ≡ with_tally tally (tally_of (outcome_of stepped ∷ [])) → IsWritten (outcome_text flow (outcome_of stepped)) first last
-    → PrintsItem {T = T} old before (One step) tally (Ok value) new after counts first last
+    → PrintsItem (shown_by_effect false) old before (One step) tally IsNone (Ok value) new after counts first last
 step_taken old new before after step tally counts flow stepped value first last e follows i w = record {
   bytes = outcome_text flow (outcome_of stepped);
   taken = w;
@@ -112,8 +137,8 @@ step_taken old new before after step tally counts flow stepped value first last 
       let next = follows sys state st trusts in
       record {
         of_item = of_step sys state step stepped new after next;
+        text = line_of-step sys flow new after next.next (outcome_of stepped) tally.steps e next.stands;
         counted = i;
-        text = line_of-step sys flow new after next.next stepped e next.stands;
         stands = next.stands;
       };
 }
@@ -127,10 +152,10 @@ pub record AutoGoes (sys : System) (state : Machine) (count : ℕ) (tally counts
   pub full : length steps ≡ count
   pub now : Machine
   pub comes : IsAutoRun sys state (length steps) steps now
-  pub outcomes : List Outcome
-  pub run : Run sys state steps outcomes now
-  pub counted : counts ≡ with_tally tally (tally_of outcomes)
-  pub text : bytes ≡ outcomes_text sys.flow outcomes
+  pub reports : List Report
+  pub run : RunShown by_effect sys state steps reports now
+  pub counted : counts ≡ with_tally tally (tally_shown reports)
+  pub text : bytes ≡ reports_text tally.steps reports
   pub stands : StandsFor sys engine records now
 
 -- so it was from each state for which the engine stood, and the lines were written
@@ -144,7 +169,7 @@ auto-none engine records tally view fits = record {
   bytes = [];
   written = written_nothing view;
   goes = λ sys state st.
-      record { steps = []; full = refl; now = state; comes = refl; outcomes = []; run = refl; counted = counted-none tally fits; text = refl; stands = st };
+      record { steps = []; full = refl; now = state; comes = refl; reports = []; run = refl; counted = counted-none tally fits; text = refl; stands = st };
 }
 
 -- one step more
@@ -152,20 +177,20 @@ more_goes : (sys : System) (state : Machine) (count : ℕ) (tally counts more : 
     → (g : AutoGoes sys state count tally counts bytes mid between) → more ≡ with_tally counts (tally_of (did shown ∷ [])) → flow ≡ flow_of new → TakesFirst sys g.now (auto_steps sys.flow) next (did shown) → StandsFor sys new after next
     → AutoGoes sys state (count + 1) tally more (bytes ++ outcome_text flow (did shown)) new after
 more_goes sys state count tally counts more bytes mid new between after flow shown next g i e t st =
+    let report = report_of sys.flow (did shown) in
     let longer : length (g.steps ++ t.0 ∷ []) ≡ length g.steps + suc zero = length-append g.steps (t.0 ∷ []) in
     let one : IsAutoRun sys g.now (suc zero) (t.0 ∷ []) next = (next, shown, t.1, refl) in
-    let line : outcome_text flow (did shown) ≡ outcomes_text sys.flow (did shown ∷ []) =
-    ap (λ (f : Dataflow). outcome_text f (did shown)) (e ∙ st.apart.flow) ∙ sym (text_of_one sys.flow (did shown)) in
+    let line : outcome_text flow (did shown) ≡ reports_text (tally.steps + length g.reports) (report ∷ []) = line_of-step sys flow new after next (did shown) (tally.steps + length g.reports) e st in
     record {
       steps = g.steps ++ t.0 ∷ [];
       full = omega (arith, longer, g.full);
       now = next;
       comes = subst (λ n. IsAutoRun sys state n (g.steps ++ t.0 ∷ []) next) (sym longer) (auto-goes_on sys state g.now next g.steps (t.0 ∷ []) (suc zero) g.comes one);
-      outcomes = g.outcomes ++ did shown ∷ [];
-      run = runs-go_on sys state g.now next g.steps (t.0 ∷ []) g.outcomes (did shown ∷ []) g.run (next, t.1.leads, refl);
-      counted = i ∙ ap (λ (t : StepCounts). with_tally t (tally_of (did shown ∷ []))) g.counted ∙ counted-more tally g.outcomes (did shown ∷ []);
-      text = ap (λ (b : List ℕ). b ++ outcome_text flow (did shown)) g.text ∙ ap (λ (b : List ℕ). outcomes_text sys.flow g.outcomes ++ b) line
-          ∙ sym (text-append sys.flow g.outcomes (did shown ∷ []));
+      reports = g.reports ++ report ∷ [];
+      run = shown-on by_effect sys state g.now next g.steps (t.0 ∷ []) g.reports (report ∷ []) g.run (next, t.1.leads, refl, refl);
+      counted = i ∙ ap (λ (t : StepCounts). with_tally t (tally_shown (report ∷ []))) g.counted ∙ counted-more tally g.reports (report ∷ []);
+      text = ap (λ (b : List ℕ). b ++ outcome_text flow (did shown)) g.text ∙ ap (λ (b : List ℕ). reports_text tally.steps g.reports ++ b) line
+          ∙ sym (reports_text-append tally.steps g.reports (report ∷ []));
       stands = st;
     }
 
@@ -190,11 +215,23 @@ pub auto_on : (sys : System) (state now last : Machine) (steps others : List Ste
 auto_on sys state now last steps others rest most c d e =
     subst (λ n. IsAutoRun sys state n (steps ++ others) last) e (auto-goes_on sys state now last steps others rest c d)
 
+-- the steps that were taken by themselves are those of the item
+abbrev of_auto : (sys : System) (state last : Machine) (most : ℕ) (steps : List Step) (reports : List Report) → IsAutoRun sys state most steps last → RunShown by_effect sys state steps reports last
+    → EnduredItem (shown_by_effect false) sys state (Auto most)
+of_auto sys state last most steps reports comes run = record {
+  steps = steps;
+  reports = reports;
+  last = last;
+  endures = (reports, run, inl (comes, refl));
+  run = shown-run by_effect sys state last steps reports run;
+  may = shown-faults by_effect sys state last steps reports run;
+}
+
 -- they end where none is enabled
-pub auto-ends : {T : Type 0} (old mid new : Engine) (before between after : Option Records) (stepped : Stepped) (count most : ℕ) (tally counts : StepCounts) (value : T) (first last : SinkView)
+pub auto-ends : (old mid new : Engine) (before between after : Option Records) (stepped : Stepped) (count most : ℕ) (tally counts : StepCounts) (value : Unit {0}) (first last : SinkView)
     → IsAutoSoFar old mid before between count tally counts first last → count < most
     → ((sys : System) (state : Machine) → StandsFor sys mid between state → FollowsFirstStep sys state stepped new after)
-    → is_idle (outcome_of stepped) ≡ true → PrintsItem {T = T} old before (Auto most) tally (Ok value) new after counts first last
+    → is_idle (outcome_of stepped) ≡ true → PrintsItem (shown_by_effect false) old before (Auto most) tally IsNone (Ok value) new after counts first last
 auto-ends old mid new before between after (Did shown) count most tally counts value first last s below follows i = absurd (false≢true i)
 auto-ends old mid new before between after Idle count most tally counts value first last s below follows i = record {
   bytes = s.bytes;
@@ -207,43 +244,37 @@ auto-ends old mid new before between after Idle count most tally counts value fi
       let comes : IsAutoRun sys state most g.steps g.now = subst (λ (steps : List Step). IsAutoRun sys state most steps g.now) (append-nil g.steps)
       (auto_on sys state g.now g.now g.steps [] (suc (most - count - 1)) most g.comes none all) in
       record {
-        of_item = record { steps = g.steps; outcomes = g.outcomes; last = g.now; comes = comes; run = g.run };
-        counted = g.counted;
+        of_item = of_auto sys state g.now most g.steps g.reports comes g.run;
         text = g.text;
+        counted = g.counted;
         stands = subst (StandsFor sys new after) f.takes.1 f.stands;
       };
 }
 
 -- or where as many were taken as may be
-pub auto-full : {T : Type 0} (old new : Engine) (before after : Option Records) (count most : ℕ) (tally counts : StepCounts) (value : T) (first last : SinkView)
-    → IsAutoSoFar old new before after count tally counts first last → count ≡ most → PrintsItem {T = T} old before (Auto most) tally (Ok value) new after counts first last
+pub auto-full : (old new : Engine) (before after : Option Records) (count most : ℕ) (tally counts : StepCounts) (value : Unit {0}) (first last : SinkView)
+    → IsAutoSoFar old new before after count tally counts first last → count ≡ most → PrintsItem (shown_by_effect false) old before (Auto most) tally IsNone (Ok value) new after counts first last
 auto-full old new before after count most tally counts value first last s all = record {
   bytes = s.bytes;
   taken = s.written;
   does = λ sys state st trusts.
       let g = s.goes sys state st in
       record {
-        of_item = record {
-          steps = g.steps;
-          outcomes = g.outcomes;
-          last = g.now;
-          comes = subst (λ n. IsAutoRun sys state n g.steps g.now) (g.full ∙ all) g.comes;
-          run = g.run;
-        };
-        counted = g.counted;
+        of_item = of_auto sys state g.now most g.steps g.reports (subst (λ n. IsAutoRun sys state n g.steps g.now) (g.full ∙ all) g.comes) g.run;
         text = g.text;
+        counted = g.counted;
         stands = g.stands;
       };
 }
 
 -- the lines of a step were cut off
-pub auto_begun : (T : Type 0) (old mid new : Engine) (before between after : Option Records) (flow : Dataflow) (stepped : Stepped) (count most : ℕ) (tally counts more : StepCounts) (f : OutFault)
+pub auto_begun : (old mid new : Engine) (before between after : Option Records) (flow : Dataflow) (stepped : Stepped) (count most : ℕ) (tally counts more : StepCounts) (f : OutFault)
     (first middle last : SinkView) → IsAutoSoFar old mid before between count tally counts first middle → count < most
     → more ≡ with_tally counts (tally_of (outcome_of stepped ∷ [])) → flow ≡ flow_of new
     → ((sys : System) (state : Machine) → StandsFor sys mid between state → FollowsFirstStep sys state stepped new after)
     → is_idle (outcome_of stepped) ≡ false → IsCutOff (outcome_text flow (outcome_of stepped)) f middle last
-    → PrintsItem {T = T} old before (Auto most) tally (Err (stop.Out f)) new after more first last
-auto_begun T old mid new before between after flow (Did shown) count most tally counts more f first middle last s below m e follows i c =
+    → PrintsItem (shown_by_effect false) old before (Auto most) tally IsNone (Err (stop.Out f)) new after more first last
+auto_begun old mid new before between after flow (Did shown) count most tally counts more f first middle last s below m e follows i c =
     let part = taken_part (outcome_text flow (did (effect_of shown))) f middle last c in
     record {
       bytes = s.bytes ++ part.one;
@@ -252,25 +283,27 @@ auto_begun T old mid new before between after flow (Did shown) count most tally 
           let g = s.goes sys state st in
           let next = follows sys g.now g.stands in
           let one = more_goes sys state count tally counts more s.bytes mid new between after flow (effect_of shown) next.next g m e next.takes next.stands in
-          let rest = item-run sys one.stands.apart.well_formed one.stands.apart.reached.0 one.stands.apart.reached.1 one.now one.stands.apart.reached.2 (Auto (most - count - 1)) in
+          let reached = one.stands.apart.reached in
+          let rest = item-run sys one.stands.apart.well_formed reached.0 reached.1 one.now reached.2 (Auto (most - count - 1)) in
+          let told = some_reports by_effect sys one.stands.apart.well_formed one.now rest.last reached rest.steps rest.outcomes rest.run in
+          let behind = reports_text (tally.steps + length one.reports) told.0 in
           let all : length one.steps + (most - count - 1) ≡ most = omega (arith, below, one.full) in
-          let lines : outcomes_text sys.flow (one.outcomes ++ rest.outcomes) ≡ (s.bytes ++ (part.one ++ part.other)) ++ outcomes_text sys.flow rest.outcomes =
-          text-append sys.flow one.outcomes rest.outcomes
-          ∙ ap (λ (b : List ℕ). b ++ outcomes_text sys.flow rest.outcomes) (sym one.text ∙ ap (λ (b : List ℕ). s.bytes ++ b) part.parts) in
+          let run = shown-on by_effect sys state one.now rest.last one.steps rest.steps one.reports told.0 one.run told.1 in
+          let lines : reports_text tally.steps (one.reports ++ told.0) ≡ (s.bytes ++ (part.one ++ part.other)) ++ behind =
+          reports_text-append tally.steps one.reports told.0
+          ∙ ap (λ (b : List ℕ). b ++ behind) (sym one.text ∙ ap (λ (b : List ℕ). s.bytes ++ b) part.parts) in
+          let parts : (s.bytes ++ (part.one ++ part.other)) ++ behind ≡ (s.bytes ++ part.one) ++ (part.other ++ behind) =
+          ap (λ (b : List ℕ). b ++ behind) (sym (append_assoc s.bytes part.one part.other)) ∙ append_assoc (s.bytes ++ part.one) part.other behind in
+          let whole : reports_text tally.steps (one.reports ++ told.0) ≡ (s.bytes ++ part.one) ++ (part.other ++ behind) = lines ∙ parts in
           record {
-            of_item = record {
-              steps = one.steps ++ rest.steps;
-              outcomes = one.outcomes ++ rest.outcomes;
-              last = rest.last;
-              comes = auto_on sys state one.now rest.last one.steps rest.steps (most - count - 1) most one.comes rest.comes all;
-              run = runs-go_on sys state one.now rest.last one.steps rest.steps one.outcomes rest.outcomes one.run rest.run;
-            };
-            others = part.other ++ outcomes_text sys.flow rest.outcomes;
-            text = lines ∙ ap (λ (b : List ℕ). b ++ outcomes_text sys.flow rest.outcomes) (sym (append_assoc s.bytes part.one part.other))
-                ∙ append_assoc (s.bytes ++ part.one) part.other (outcomes_text sys.flow rest.outcomes);
+            of_item = of_auto sys state rest.last most (one.steps ++ rest.steps) (one.reports ++ told.0)
+                (auto_on sys state one.now rest.last one.steps rest.steps (most - count - 1) most one.comes rest.comes all) run;
+            others = part.other ++ behind;
+            text = whole;
+            faults = shown-faults by_effect sys state rest.last (one.steps ++ rest.steps) (one.reports ++ told.0) run;
           };
     }
-auto_begun T old mid new before between after flow Idle count most tally counts more f first middle last s below m e follows i c = absurd (true≢false i)
+auto_begun old mid new before between after flow Idle count most tally counts more f first middle last s below m e follows i c = absurd (true≢false i)
 
 -- what a fault of the engine in such a step leaves
 auto_left : (mid new : Engine) (between after : Option Records) (most : ℕ) (f : EngineFault)
@@ -283,28 +316,30 @@ auto_left mid new between after most (fault.Damaged id) calls faulted unharmed s
 auto_left mid new between after most fault.NoMemory calls faulted unharmed sys state st = tt
 
 -- the engine took no step more
-pub auto_stopped : (T : Type 0) (old mid new : Engine) (before between after : Option Records) (count most : ℕ) (tally counts : StepCounts) (f : EngineFault) (first last : SinkView)
+pub auto_stopped : (old mid new : Engine) (before between after : Option Records) (count most : ℕ) (tally counts : StepCounts) (f : EngineFault) (first last : SinkView)
     → IsAutoSoFar old mid before between count tally counts first last → count < most
     → ((sys : System) (state : Machine) → StandsFor sys mid between state → IsErrOf {T = Stepped} (Err f) fault.StoreFault → FirstMayCall sys state)
     → ((sys : System) (state : Machine) → StandsFor sys mid between state → IsErrOf {T = Stepped} (Err f) fault.StoreFault → StandsFor sys new after state)
     → ((id : ℕ) → IsErrOf {T = Stepped} (Err f) (fault.Damaged id) → ⊥)
-    → PrintsItem {T = T} old before (Auto most) tally (Err (stop.Engine f)) new after counts first last
-auto_stopped T old mid new before between after count most tally counts f first last s below calls faulted unharmed = record {
+    → PrintsItem (shown_by_effect false) old before (Auto most) tally IsNone (Err (stop.Engine f)) new after counts first last
+auto_stopped old mid new before between after count most tally counts f first last s below calls faulted unharmed = record {
   bytes = s.bytes;
   taken = s.written;
   does = λ sys state st.
       let g = s.goes sys state st in
-      let few : length g.steps < most = omega (arith, below, g.full) in
-      record {
-        begun = g.steps;
-        now = g.now;
-        begins = (few, g.comes);
-        outcomes = g.outcomes;
-        run = g.run;
-        counted = g.counted;
-        text = g.text;
-        so = auto_left mid new between after most f calls faulted unharmed sys g.now g.stands;
-      };
+      let few : length g.steps < most = omega (arith, below, g.full) in (
+        record {
+          begun = g.steps;
+          now = g.now;
+          begins = (few, g.comes);
+          reports = g.reports;
+          run = g.run;
+          text = g.text;
+          counted = g.counted;
+          so = auto_left mid new between after most f calls faulted unharmed sys g.now g.stands;
+        },
+        none_at f,
+      );
 }
 
 -- ---- how many steps were counted

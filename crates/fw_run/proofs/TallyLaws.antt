@@ -8,10 +8,10 @@ use Rattle.fw_bag.specs.Keyed.{plus}
 use Rattle.fw_flow.specs.Counting.{how_many}
 use Rattle.fw_model.specs.Steps.{Outcome}
 use Rattle.fw_run.specs.declared.tally.StepCounts.{StepCounts}
-use Rattle.fw_run.proofs.ReportLaws.{shown_in-append, shown_in-came}
+use Rattle.fw_run.proofs.ReportLaws.{shown_in-append, faults-append}
 use Rattle.fw_run.specs.Printed.{is_idle, idle_count}
-use Rattle.fw_run.specs.Reports.{Report, came, shown_in}
-use Rattle.fw_run.specs.Tallies.{is_recovered, is_acknowledgement, rec_sum, shown_sum, acknowledged_sum, tally_of, tally_shown, with_step, with_tally, AreOfSteps}
+use Rattle.fw_run.specs.Reports.{Report, faults_in, shown_in}
+use Rattle.fw_run.specs.Tallies.{is_recovered, is_acknowledgement, rec_sum, shown_sum, acknowledged_sum, tally_of, tally_shown, with_fault, with_tally, AreOfSteps}
 
 -- ---- sums
 
@@ -60,63 +60,54 @@ one_at_most test outcome = few (test outcome)
 -- ---- tallies
 
 -- tallies with the same counts and the same sum are one
-pub same_tally : (one other : StepCounts) → one.steps ≡ other.steps → one.idle ≡ other.idle → one.cuts ≡ other.cuts → one.acks ≡ other.acks → one.sum ≡ other.sum → one ≡ other
-same_tally one other steps idle cuts acks sum =
-    let of_steps : ℕ → StepCounts = λ n. record { steps = n; idle = one.idle; cuts = one.cuts; acks = one.acks; sum = one.sum } in
-    let of_idle : ℕ → StepCounts = λ n. record { steps = other.steps; idle = n; cuts = one.cuts; acks = one.acks; sum = one.sum } in
-    let of_cuts : ℕ → StepCounts = λ n. record { steps = other.steps; idle = other.idle; cuts = n; acks = one.acks; sum = one.sum } in
-    let of_acks : ℕ → StepCounts = λ n. record { steps = other.steps; idle = other.idle; cuts = other.cuts; acks = n; sum = one.sum } in
-    let of_sum : ℕ → StepCounts = λ n. record { steps = other.steps; idle = other.idle; cuts = other.cuts; acks = other.acks; sum = n } in
-    ap of_steps steps ∙ ap of_idle idle ∙ ap of_cuts cuts ∙ ap of_acks acks ∙ ap of_sum sum
+pub same_tally : (one other : StepCounts) → one.steps ≡ other.steps → one.idle ≡ other.idle → one.cuts ≡ other.cuts → one.acks ≡ other.acks → one.sum ≡ other.sum → one.faults ≡ other.faults → one ≡ other
+same_tally one other steps idle cuts acks sum faults =
+    let of_steps : ℕ → StepCounts = λ n. record { steps = n; idle = one.idle; cuts = one.cuts; acks = one.acks; sum = one.sum; faults = one.faults } in
+    let of_idle : ℕ → StepCounts = λ n. record { steps = other.steps; idle = n; cuts = one.cuts; acks = one.acks; sum = one.sum; faults = one.faults } in
+    let of_cuts : ℕ → StepCounts = λ n. record { steps = other.steps; idle = other.idle; cuts = n; acks = one.acks; sum = one.sum; faults = one.faults } in
+    let of_acks : ℕ → StepCounts = λ n. record { steps = other.steps; idle = other.idle; cuts = other.cuts; acks = n; sum = one.sum; faults = one.faults } in
+    let of_sum : ℕ → StepCounts = λ n. record { steps = other.steps; idle = other.idle; cuts = other.cuts; acks = other.acks; sum = n; faults = one.faults } in
+    let of_faults : ℕ → StepCounts = λ n. record { steps = other.steps; idle = other.idle; cuts = other.cuts; acks = other.acks; sum = other.sum; faults = n } in
+    ap of_steps steps ∙ ap of_idle idle ∙ ap of_cuts cuts ∙ ap of_acks acks ∙ ap of_sum sum ∙ ap of_faults faults
 
 -- no steps change nothing
-pub counted-none : (tally : StepCounts) → tally.sum < 2 ^ 64 → tally ≡ with_tally tally (tally_of [])
+pub counted-none : (tally : StepCounts) → tally.sum < 2 ^ 64 → tally ≡ with_tally tally (tally_shown [])
 counted-none tally fits =
-    same_tally tally (with_tally tally (tally_of [])) (omega arith) (omega arith) (omega arith) (omega arith) (sym (nothing_last tally.sum fits))
+    same_tally tally (with_tally tally (tally_shown [])) (omega arith) (omega arith) (omega arith) (omega arith) (sym (nothing_last tally.sum fits)) (omega arith)
 
 -- steps that are counted behind others
-pub counted-more : (tally : StepCounts) (outcomes others : List Outcome) → with_tally (with_tally tally (tally_of outcomes)) (tally_of others) ≡ with_tally tally (tally_of (outcomes ++ others))
-counted-more tally outcomes others =
-    let steps = length-append outcomes others in
-    let idle = how_many-append is_idle outcomes others in
-    let cuts = how_many-append is_recovered outcomes others in
-    let acks = how_many-append is_acknowledgement outcomes others in
-    let sums : plus (plus tally.sum (acknowledged_sum outcomes)) (acknowledged_sum others) ≡ plus tally.sum (acknowledged_sum (outcomes ++ others)) =
-    plus-plus tally.sum (acknowledged_sum outcomes) (acknowledged_sum others) ∙ ap (plus tally.sum) (sym (acknowledged-append outcomes others)) in
-    same_tally (with_tally (with_tally tally (tally_of outcomes)) (tally_of others)) (with_tally tally (tally_of (outcomes ++ others)))
-    (omega (arith, steps)) (omega (arith, idle)) (omega (arith, cuts)) (omega (arith, acks)) sums
-
--- the tally of steps through faults, and of others behind them
-pub tally_shown-append : (reports others : List Report) → with_tally (tally_shown reports) (tally_shown others) ≡ tally_shown (reports ++ others)
-tally_shown-append reports others =
-    let shown = shown_in-append reports others in
+pub counted-more : (tally : StepCounts) (reports others : List Report)
+    → with_tally (with_tally tally (tally_shown reports)) (tally_shown others) ≡ with_tally tally (tally_shown (reports ++ others))
+counted-more tally reports others =
     let one = shown_in reports in
     let other = shown_in others in
-    let counts : (test : Outcome → Bool) → how_many test one + how_many test other ≡ how_many test (shown_in (reports ++ others)) =
-    λ test. sym (ap (how_many test) shown ∙ how_many-append test one other) in
-    same_tally (with_tally (tally_shown reports) (tally_shown others)) (tally_shown (reports ++ others))
-    (sym (length-append reports others)) (counts is_idle) (counts is_recovered) (counts is_acknowledgement)
-    (sym (ap acknowledged_sum shown ∙ acknowledged-append one other))
+    let shown = shown_in-append reports others in
+    let steps = length-append reports others in
+    let faults = faults-append reports others in
+    let counts : (test : Outcome → Bool) → how_many test (shown_in (reports ++ others)) ≡ how_many test one + how_many test other =
+    λ test. ap (how_many test) shown ∙ how_many-append test one other in
+    let idle = counts is_idle in
+    let cuts = counts is_recovered in
+    let acks = counts is_acknowledgement in
+    let sums : plus (plus tally.sum (acknowledged_sum one)) (acknowledged_sum other) ≡ plus tally.sum (acknowledged_sum (shown_in (reports ++ others))) =
+    plus-plus tally.sum (acknowledged_sum one) (acknowledged_sum other)
+    ∙ ap (plus tally.sum) (sym (acknowledged-append one other) ∙ ap acknowledged_sum (sym shown)) in
+    same_tally (with_tally (with_tally tally (tally_shown reports)) (tally_shown others)) (with_tally tally (tally_shown (reports ++ others)))
+    (omega (arith, steps)) (omega (arith, idle)) (omega (arith, cuts)) (omega (arith, acks)) sums (omega (arith, faults))
 
--- of steps in which the store did not fail
-pub tally_shown-came : (outcomes : List Outcome) → tally_shown (map came outcomes) ≡ tally_of outcomes
-tally_shown-came outcomes =
-    let shown = shown_in-came outcomes in
-    same_tally (tally_shown (map came outcomes)) (tally_of outcomes) (length-map outcomes came) (ap idle_count shown) (ap (how_many is_recovered) shown)
-    (ap (how_many is_acknowledgement) shown) (ap acknowledged_sum shown)
-
--- and of one more in which it did
-pub tally_shown-fault : (old counts : StepCounts) (outcomes : List Outcome) (reports : List Report) → counts ≡ with_tally old (tally_of outcomes) → shown_in reports ≡ outcomes
-    → length reports ≡ length outcomes + 1 → with_step counts ≡ with_tally old (tally_shown reports)
-tally_shown-fault old counts outcomes reports e shown longer =
-    let first : with_step counts ≡ with_step (with_tally old (tally_of outcomes)) = ap with_step e in
-    first ∙ same_tally (with_step (with_tally old (tally_of outcomes))) (with_tally old (tally_shown reports)) (omega (arith, longer))
+-- and of one more in which the store failed
+pub counted-fault : (old counts : StepCounts) (reports all : List Report) → counts ≡ with_tally old (tally_shown reports) → shown_in all ≡ shown_in reports
+    → length all ≡ length reports + 1 → faults_in all ≡ faults_in reports + 1 → with_fault counts ≡ with_tally old (tally_shown all)
+counted-fault old counts reports all e shown longer more =
+    let first : with_fault counts ≡ with_fault (with_tally old (tally_shown reports)) = ap with_fault e in
+    first ∙ same_tally (with_fault (with_tally old (tally_shown reports))) (with_tally old (tally_shown all)) (omega (arith, longer))
     (ap (λ (os : List Outcome). old.idle + idle_count os) (sym shown)) (ap (λ (os : List Outcome). old.cuts + how_many is_recovered os) (sym shown))
     (ap (λ (os : List Outcome). old.acks + how_many is_acknowledgement os) (sym shown)) (ap (λ (os : List Outcome). plus old.sum (acknowledged_sum os)) (sym shown))
+    (omega (arith, more))
 
 -- each count stays one of the steps
 pub of_steps-none : AreOfSteps (tally_of [])
-of_steps-none = record { idle = omega arith; cuts = omega arith; acks = omega arith; sum = omega arith }
+of_steps-none = record { idle = omega arith; cuts = omega arith; acks = omega arith; sum = omega arith; faults = omega arith }
 
 pub of_steps-more : (old new : StepCounts) (outcome : Outcome) → AreOfSteps old → new ≡ with_tally old (tally_of (outcome ∷ [])) → AreOfSteps new
 of_steps-more old new outcome are e = subst AreOfSteps (sym e) (record {
@@ -124,7 +115,12 @@ of_steps-more old new outcome are e = subst AreOfSteps (sym e) (record {
   cuts = omega (arith, are.cuts, one_at_most is_recovered outcome);
   acks = omega (arith, are.acks, one_at_most is_acknowledgement outcome);
   sum = plus-fits old.sum (acknowledged_sum (outcome ∷ []));
+  faults = omega (arith, are.faults);
 })
 
 pub steps-more : (old new : StepCounts) (outcome : Outcome) → new ≡ with_tally old (tally_of (outcome ∷ [])) → new.steps ≡ old.steps + 1
 steps-more old new outcome e = ap (λ (tally : StepCounts). tally.steps) e
+
+-- what comes of a step is no fault
+pub faults-more : (old new : StepCounts) (outcome : Outcome) → new ≡ with_tally old (tally_of (outcome ∷ [])) → new.faults ≡ old.faults
+faults-more old new outcome e = let same : new.faults ≡ old.faults + 0 = ap (λ (tally : StepCounts). tally.faults) e in omega (arith, same)

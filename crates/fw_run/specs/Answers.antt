@@ -7,7 +7,7 @@ use Rattle.fw_run.specs.declared.status.Status.{Status}
 use Rattle.fw_run.specs.declared.status.Status.TheVariants.{Done, BadWords, Refused, WriteFault, StoreFault, Damaged, NoMemory}
 use Rattle.fw_run.specs.Call.{Call, AnswersTexts, CountsFaults, CountsWrites, PrintsAll, PrintsPart, PrintsFirst, LeavesStore, StopsAtStore, StopsAtDamage, HasRefused, KeepsFolder, KeepsStore}
 use Rattle.fw_run.specs.Status.{read_faults_told, status_number}
-use Rattle.fw_command.specs.Command.{IsInOneLine}
+use Rattle.fw_command.specs.Command.{IsUnseen}
 use Rattle.fw_command.specs.Writing.{NeverFall}
 
 -- what is outside of a call: a folder, a store and an output
@@ -41,8 +41,7 @@ pub record RunAnswers {F K O : Type 0} (known : Known F K O) (call : Call) (befo
     : Type 0 where
   -- 0: all that the command prints of accepted texts was written, and no write was refused; and a run left in the store the
   -- records of what its nodes wrote. What a run prints is known where the store tells its records, or no recovery reads a
-  -- checkpoint; else `run` promises the lines up to the first recovery that reads one, and `endure` and `gen` promise nothing of
-  -- what they print.
+  -- checkpoint; else a run whose steps are seen promises the lines up to the first recovery that reads one.
   pub done : status ≡ Done → PrintsAll (TellsRecords known after) call (known.out before.out) (known.out after.out)
   pub stored : status ≡ Done
       → LeavesStore (TellsRecords known after) call (known.store after.store).records (known.out before.out) (known.out after.out)
@@ -59,13 +58,13 @@ pub record RunAnswers {F K O : Type 0} (known : Known F K O) (call : Call) (befo
   -- too), the lines of the steps before were written (of generated texts nothing), and the store holds the records of what this
   -- step leaves. `endure` goes on to its end: all was written, with a line for each step in which the store failed, and the store
   -- holds the records of what its nodes wrote. That is known where the store tells its records, or no recovery before that step
-  -- (of `endure`: none at all) reads a checkpoint; else `run` promises the lines up to the first recovery that reads one. Which
-  -- records the store holds is said only where it tells them.
+  -- (of `endure`: none at all) reads a checkpoint; else `run` promises the lines up to the first recovery that reads one, and `endure`
+  -- those of what it prints (`store_part`). Which records the store holds is said only where it tells them.
   pub store_fault : status ≡ StoreFault → StopsAtStore (TellsRecords known after) call (known.store before.store).faults
       (known.store after.store).faults (known.store after.store).records (known.out before.out) (known.out after.out)
   -- 9: in a recovery the store, which does not tell its records, gave under this id bytes that spell no record of the entry with
   -- the id. Where no recovery before reads a checkpoint, this one is enabled, the entry is that of a write, and the lines of the
-  -- steps before were written (of generated texts nothing); else `run` promises the lines up to the first that reads one.
+  -- steps before were written (of generated texts nothing); else these promise the lines up to the first that reads one.
   pub damaged : (id : ℕ) → status ≡ Damaged id → StopsAtDamage (TellsRecords known after) call (known.store before.store).faults
       (known.store after.store).faults id (known.store after.store).given (known.out before.out) (known.out after.out)
   -- 8 and 9: no write was refused, whatever the store tells; and first bytes of what is printed were written, as far as that is
@@ -75,11 +74,11 @@ pub record RunAnswers {F K O : Type 0} (known : Known F K O) (call : Call) (befo
   -- 10: at any time; nothing was written, or first bytes.
   pub no_memory : status ≡ NoMemory → (after.out ≡ before.out) ⊎ PrintsPart (TellsRecords known after) call (known.store before.store).faults
       (known.store after.store).faults output.NoMemory (known.out before.out) (known.out after.out)
-  -- At 2 to 6 nothing was written, nor at 8 and 9 by a command that tells a run in one line. Whatever the status: what was asked
+  -- At 2 to 6 nothing was written, nor at 8 and 9 by a command that tells no step. Whatever the status: what was asked
   -- of the folder, that only a run changes the store, how often the store and the output failed, and that no count of faults, nor one
   -- of refusals, falls.
   pub nothing_out : 2 ≤ status_number status → status_number status ≤ 6 → after.out ≡ before.out
-  pub nothing_told : IsInOneLine call.command → 8 ≤ status_number status → status_number status ≤ 9 → after.out ≡ before.out
+  pub nothing_told : IsUnseen call.command → 8 ≤ status_number status → status_number status ≤ 9 → after.out ≡ before.out
   pub folder : KeepsFolder known.texts known.fetches call.command status before.folder after.folder
   pub store : KeepsStore call.command status before.store after.store
   pub store_count : CountsFaults call.command status (known.store before.store).faults (known.store after.store).faults

@@ -1,5 +1,5 @@
 -- What a call of `falkirk` promises of its words, its texts and what is outside.
-use Rattle.std.specs.Prelude.{◌≡◌, ◌≢◌, ◌⊎◌, ◌≤◌, ℕ, true, List, [], Option, Some, None, IsSome, option_map, option_and_then}
+use Rattle.std.specs.Prelude.{◌≡◌, ◌≢◌, ◌⊎◌, ◌≤◌, ℕ, Bool, true, List, Option, Some, None, IsSome, option_map, option_and_then}
 use Rattle.std.specs.Borrow.{Bor}
 use Rattle.fw_flow.specs.Dataflow.{Dataflow, System}
 use Rattle.fw_outside.specs.declared.fault.OutFault.{OutFault}
@@ -9,10 +9,10 @@ use Rattle.fw_schedule.specs.declared.item.Item.{Item}
 use Rattle.fw_keep.specs.Stored.{Records}
 use Rattle.fw_run.specs.declared.status.Status.{Status}
 use Rattle.fw_run.specs.declared.status.Status.TheVariants.{Done, Refused, ReadFault, WriteFault, StoreFault, Damaged, NoMemory}
-use Rattle.fw_command.specs.Command.{Command, Task, takes_steps, tells_denotation, lists_nodes, Manner, through_faults, manner_of, asks_folder}
+use Rattle.fw_command.specs.Command.{Command, Task, takes_steps, tells_denotation, lists_nodes, Manner, manner_of, GoesOnThrough, asks_folder}
 use Rattle.fw_command.specs.DenotationText.{PrintsDenotation}
-use Rattle.fw_run.specs.Ends.{PrintsOfRun, IsWholeRun, IsStoreFault, IsDamageIn}
-use Rattle.fw_run.specs.Enduring.{RoseBy, RoseByFaults, RoseOrFull, StaysOrRose}
+use Rattle.fw_run.specs.Ends.{PrintsOfRun, NoFaults, NoneLeft, SomeLeft, IsWholeRun, IsStoreFault, IsDamageIn}
+use Rattle.fw_run.specs.Enduring.{RoseIfOn, RoseByFaults, RoseOrFull, StaysOrRose}
 use Rattle.fw_command.specs.Listing.{check_text}
 use Rattle.fw_run.specs.Status.{IsTold, write_faults_told, store_faults_told, note_line, status_number}
 use Rattle.fw_generate.specs.Laws.{AreAccepted}
@@ -30,13 +30,13 @@ pub record Call : Type 0 where
 abbrev pub call_of : List (Bor (List ℕ)) → Option (List ℕ → Option (List ℕ)) → Call
 call_of words told = record { command = command_of (words_in words); told = told }
 
--- This is what a command prints of accepted texts, of which the flow's declares this dataflow, of a run as far as it is known. Through
--- faults of the store it is first bytes of that, and this is true of how many faults there are, and of the bytes that are left.
-abbrev pub Prints : Type 0 → (ℕ → List ℕ → Type 0) → Task → Texts → Dataflow → List ℕ → Type 0
-Prints Tells IsSo (takes_steps manner) texts flow printed =
-    PrintsOfRun Tells IsSo manner (spelled_system flow texts) (spelled_items flow texts) printed
-Prints Tells IsSo tells_denotation texts flow printed = PrintsDenotation (spelled_system flow texts) printed
-Prints Tells IsSo lists_nodes texts flow printed = printed ≡ check_text flow
+-- This is what a command prints of accepted texts, of which the flow's declares this dataflow; of a run, as far as it is known, it is first
+-- bytes of that: the one is true of how many faults there are, by whether it goes on through them, the other of the bytes that are left.
+abbrev pub Prints : Type 0 → (Bool → ℕ → Type 0) → (List ℕ → Type 0) → Task → Texts → Dataflow → List ℕ → Type 0
+Prints Tells IsCount IsLeft (takes_steps manner) texts flow printed =
+    PrintsOfRun Tells IsCount IsLeft manner (spelled_system flow texts) (spelled_items flow texts) printed
+Prints Tells IsCount IsLeft tells_denotation texts flow printed = PrintsDenotation (spelled_system flow texts) printed
+Prints Tells IsCount IsLeft lists_nodes texts flow printed = printed ≡ check_text flow
 
 -- ---- the texts
 
@@ -78,29 +78,29 @@ pub record AnswersTexts (Tells : Type 0) (call : Call) (status : Status) : Type 
 
 -- ---- what is outside
 
--- the text that the call prints of the texts that it accepts: that of the machine's run, as far as it is known, step by step, with
--- the faults of the store or in one line; that of the denotation; or the list of the flow's nodes
-pub record IsPrintout (Tells : Type 0) (IsSo : ℕ → List ℕ → Type 0) (call : Call) (printed : List ℕ) : Type 0 where
+-- the text that the call prints of the texts that it accepts: that of a run, as far as it is known; that of the denotation; or the list of
+-- the flow's nodes
+pub record IsPrintout (Tells : Type 0) (IsCount : Bool → ℕ → Type 0) (IsLeft : List ℕ → Type 0) (call : Call) (printed : List ℕ) : Type 0 where
   pub texts : Texts
   pub accepted : HasAccepted call texts
-  pub text : Prints Tells IsSo accepted.command.task texts accepted.flow printed
+  pub text : Prints Tells IsCount IsLeft accepted.command.task texts accepted.flow printed
 
 -- all that the call prints was written, and it tells no fault of the store
 abbrev pub PrintsAll : Type 0 → Call → SinkView → SinkView → Type 0
 PrintsAll Tells call before after =
-    WritesText (IsPrintout Tells (λ faults others. (faults ≡ 0) × (others ≡ [])) call) (λ printed. IsWritten printed before after)
+    WritesText (IsPrintout Tells NoFaults NoneLeft call) (λ printed. IsWritten printed before after)
 
 -- What the call prints was cut off by a fault: first bytes of it were written. As often as it tells that the store failed the store's
 -- count rose, from the first number to the second.
 abbrev pub PrintsPart : Type 0 → Call → ℕ → ℕ → OutFault → SinkView → SinkView → Type 0
 PrintsPart Tells call count last fault before after =
-    WritesText (IsPrintout Tells (λ faults others. RoseBy count last faults) call) (λ printed. IsCutOff printed fault before after)
+    WritesText (IsPrintout Tells (RoseIfOn count last) SomeLeft call) (λ printed. IsCutOff printed fault before after)
 
 -- First bytes of what the call prints were written, and no write was refused. As often as it tells that the store failed the store's
 -- count rose, from the first number to the second.
 abbrev pub PrintsFirst : Type 0 → Call → ℕ → ℕ → SinkView → SinkView → Type 0
 PrintsFirst Tells call count last before after =
-    WritesText (IsPrintout Tells (λ faults others. RoseBy count last faults) call) (λ printed. IsPartWritten printed before after)
+    WritesText (IsPrintout Tells (RoseIfOn count last) SomeLeft call) (λ printed. IsPartWritten printed before after)
 
 -- the call takes the steps of accepted texts, and this is true of how it tells them, and of the system and the items that the texts
 -- spell
@@ -133,7 +133,7 @@ StopsAtDamage Tells call count last id given before after = IsRunOf call (IsDama
 -- that is known. Where the status tells a fault the count rose, or stood at its end. Whatever the status, it stays or rises by faults.
 pub record CountsFaults (command : Option Command) (status : Status) (before after : ℕ) : Type 0 where
   pub none : status ≡ Done → after ≡ before
-  pub once : option_and_then manner_of command ≢ Some through_faults → after ≡ store_faults_told status before
+  pub once : (GoesOnThrough command → ⊥) → after ≡ store_faults_told status before
   pub some : status ≡ StoreFault → RoseByFaults before after
   pub rose : status ≡ StoreFault → RoseOrFull before after
   pub rises : StaysOrRose before after

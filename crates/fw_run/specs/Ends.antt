@@ -1,5 +1,5 @@
--- How a run ends, by how its steps are told.
-use Rattle.std.specs.Prelude.{◌≡◌, ℕ, ◌≤◌, false, List, [], Option, None, Result, Ok, Err, OnOk, OnErr, IsErrOf}
+-- How a run ends, by its manner.
+use Rattle.std.specs.Prelude.{◌≡◌, ℕ, ◌≤◌, Bool, true, false, List, [], ◌++◌, take, Option, None, Result, Ok, Err, OnOk, OnErr, IsErrOf}
 use Rattle.fw_outside.specs.Outside.{SinkView}
 use Rattle.fw_flow.specs.Dataflow.{System}
 use Rattle.fw_schedule.specs.declared.item.Item.{Item}
@@ -7,17 +7,14 @@ use Rattle.fw_keep.specs.Stored.{Records}
 use Rattle.fw_running.specs.declared.fault.EngineFault.TheVariants as fault
 use Rattle.fw_run.specs.declared.fault.RunFault.{RunFault}
 use Rattle.fw_run.specs.declared.fault.RunFault.TheVariants as stop
-use Rattle.fw_run.specs.declared.tally.StepCounts.{StepCounts}
-use Rattle.fw_run.specs.Enduring.{PrintsEndured, RoseBy, RoseByFaults, StaysOrRose, IsEndured, IsEnduredToDamage}
+use Rattle.fw_run.specs.Enduring.{Point, start_of, EnduredRun, IsRunKnown, RoseBy, RoseIfOn, RoseByFaults, StaysOrRose}
 use Rattle.fw_run.specs.Fault.{faults_after_run}
-use Rattle.fw_run.specs.Manner.{goes_on}
 use Rattle.fw_run.specs.Performing.{WritesUntil}
-use Rattle.fw_run.specs.Printed.{done_line}
-use Rattle.fw_run.specs.Reports.{endured_line}
-use Rattle.fw_run.specs.Stopping.{LeavesWrites, IsStoppedByStore, IsStoppedByDamage}
-use Rattle.fw_run.specs.Tallies.{PrintsSummary, summary_line}
-use Rattle.fw_run.specs.Trusting.{AreKnown, PrintsKnown}
-use Rattle.fw_command.specs.Command.{Manner, by_lines, through_faults, in_one_line}
+use Rattle.fw_run.specs.Reports.{Report, faults_in, reports_text}
+use Rattle.fw_run.specs.Stopping.{HoldsWrites}
+use Rattle.fw_run.specs.Tallies.{last_line, tally_shown, with_tally}
+use Rattle.fw_run.specs.Through.{BeginsWith, IsStoppedByStore, IsStoppedByDamage}
+use Rattle.fw_command.specs.Command.{Manner}
 use Rattle.fw_command.specs.Writing.{IsWritten, IsCutOff, WritesText}
 
 -- ---- what is told
@@ -26,23 +23,30 @@ use Rattle.fw_command.specs.Writing.{IsWritten, IsCutOff, WritesText}
 abbrev pub nowhere : SinkView
 nowhere = record { taken = None; refusals = 0; faults = 0 }
 
--- where the lines of steps go: nowhere, if one line tells all
-abbrev pub seen : Manner → SinkView → SinkView
-seen by_lines view = view
-seen through_faults view = view
-seen (in_one_line seeded) view = nowhere
+-- where the lines of steps go, if they are seen
+abbrev pub seen : Bool → SinkView → SinkView
+seen true view = view
+seen false view = nowhere
 
--- this stays in a run that is told in one line
-abbrev pub StaysIfInOneLine : {O : Type 0} → Manner → O → O → Type 0
-StaysIfInOneLine by_lines before after = Unit {0}
-StaysIfInOneLine through_faults before after = Unit {0}
-StaysIfInOneLine (in_one_line seeded) before after = after ≡ before
+-- what is written of these lines of steps, if they are seen
+abbrev pub seen_lines : Bool → List ℕ → List ℕ
+seen_lines true lines = lines
+seen_lines false lines = []
 
--- the last line of a run whose steps were counted so, and in which the store failed so often
-abbrev pub last_line_of : Manner → StepCounts → ℕ → List ℕ
-last_line_of by_lines tally faults = done_line tally.steps tally.idle
-last_line_of through_faults tally faults = endured_line tally.steps tally.idle faults
-last_line_of (in_one_line seeded) tally faults = summary_line seeded tally
+-- this stays where lines of steps are not seen
+abbrev pub StaysUnseen : {O : Type 0} → Bool → O → O → Type 0
+StaysUnseen true before after = Unit {0}
+StaysUnseen false before after = after ≡ before
+
+-- the lines of steps were written, or, where they are not seen, nothing
+abbrev pub IsSeen : Bool → SinkView → SinkView → List ℕ → Type 0
+IsSeen true before after lines = IsWritten lines before after
+IsSeen false before after lines = after ≡ before
+
+-- the whole text of a run from a point, of whose steps these are the reports: their lines, if they are seen, and the last one
+abbrev pub text_of_run : Manner → Point → List Report → List ℕ
+text_of_run manner from reports =
+    seen_lines manner.is_seen (reports_text from.counts.steps reports) ++ last_line manner.last (with_tally from.counts (tally_shown reports))
 
 -- the line was written or cut off, and where it was written a fault of the store is told, if there was one
 abbrev pub WritesLast : {T : Type 0} → List ℕ → ℕ → Result T RunFault → SinkView → SinkView → Type 0
@@ -52,49 +56,87 @@ WritesLast line faults (Err (stop.Engine fault.StoreFault)) before after = IsWri
 WritesLast line faults (Err (stop.Engine (fault.Damaged id))) before after = ⊥
 WritesLast line faults (Err (stop.Engine fault.NoMemory)) before after = ⊥
 
--- This is what a run prints, as far as it is known. Through faults of the store it is first bytes of that, and this is true of how many
--- faults there are, and of the bytes that are left.
-abbrev pub PrintsOfRun : Type 0 → (ℕ → List ℕ → Type 0) → Manner → System → List Item → List ℕ → Type 0
-PrintsOfRun Tells IsSo by_lines sys items printed = PrintsKnown Tells sys items printed
-PrintsOfRun Tells IsSo through_faults sys items printed = PrintsEndured Tells IsSo sys items printed
-PrintsOfRun Tells IsSo (in_one_line seeded) sys items printed = AreKnown Tells sys items → PrintsSummary sys items seeded printed
+-- ---- what is printed
+
+-- the point at which a run of this manner begins
+abbrev pub first_point : Manner → System → Point
+first_point manner sys = start_of manner.start sys
+
+-- it is known what comes of the items of such a run
+abbrev pub AreKnown : Manner → Type 0 → System → List Item → Type 0
+AreKnown manner Tells sys items = IsRunKnown manner.course Tells sys (first_point manner sys).state items
+
+-- The text, and bytes that are left, are the whole text of a run over the items; of the number of its faults this is true.
+pub record IsTextOf (manner : Manner) (sys : System) (items : List Item) (IsCount : ℕ → Type 0) (printed left : List ℕ) : Type 0 where
+  pub run : EnduredRun manner.course sys (first_point manner sys).state items
+  pub text : text_of_run manner (first_point manner sys) run.reports ≡ printed ++ left
+  pub faults : IsCount (faults_in run.reports)
+
+-- the text, and bytes that are left, begin with the lines of the items, if they are seen
+pub record BeginsText (manner : Manner) (sys : System) (items : List Item) (printed left : List ℕ) : Type 0 where
+  pub run : EnduredRun manner.course sys (first_point manner sys).state items
+  pub others : List ℕ
+  pub text : printed ++ left ≡ seen_lines manner.is_seen (reports_text (first_point manner sys).counts.steps run.reports) ++ others
+
+-- What a run prints, as far as it is known what comes of the items: all of its text, or first bytes of it, and the lines of first items. Of
+-- the bytes that are left the one is true; of the number of faults the other, by whether the run goes on through them.
+pub record PrintsOfRun (Tells : Type 0) (IsCount : Bool → ℕ → Type 0) (IsLeft : List ℕ → Type 0) (manner : Manner) (sys : System)
+    (items : List Item) (printed : List ℕ) : Type 0 where
+  pub whole : AreKnown manner Tells sys items
+      → (left : List ℕ) × IsLeft left × IsTextOf manner sys items (IsCount manner.course.goes_on) printed left
+  pub first : (n : ℕ) → AreKnown manner Tells sys (take n items) → (left : List ℕ) × IsLeft left × BeginsText manner sys (take n items) printed left
+
+-- no faults
+abbrev pub NoFaults : Bool → ℕ → Type 0
+NoFaults goes_on faults = faults ≡ 0
+
+-- no bytes are left
+abbrev pub NoneLeft : List ℕ → Type 0
+NoneLeft left = left ≡ []
+
+-- bytes may be left
+abbrev pub SomeLeft : List ℕ → Type 0
+SomeLeft left = Unit {0}
 
 -- ---- how a run ends
 
--- All was taken, and the store holds the writes of the last state, if it is known what comes of the items; through faults, it failed in
--- no step.
+-- The run came to its end, and its text was written. If it is known what comes of the items, that is the text of a run over them, of the
+-- number of whose faults this is true, and the store holds the writes of its last state.
+pub record IsDone (Tells : Type 0) (IsCount : ℕ → Type 0) (records : Option Records) (before after : SinkView) (manner : Manner) (sys : System)
+    (items : List Item) : Type 0 where
+  pub printed : List ℕ
+  pub written : IsWritten printed before after
+  pub done : AreKnown manner Tells sys items → (run : EnduredRun manner.course sys (first_point manner sys).state items)
+      × (printed ≡ text_of_run manner (first_point manner sys) run.reports) × IsCount (faults_in run.reports) × HoldsWrites sys records run.last
+
+-- all was taken, and the store failed in no step
 abbrev pub IsWholeRun : Type 0 → Option Records → SinkView → SinkView → Manner → System → List Item → Type 0
-IsWholeRun Tells records before after by_lines sys items = AreKnown Tells sys items → LeavesWrites sys items records
-IsWholeRun Tells records before after through_faults sys items = IsEndured Tells (λ faults. faults ≡ 0) sys items records before after
-IsWholeRun Tells records before after (in_one_line seeded) sys items = AreKnown Tells sys items → LeavesWrites sys items records
+IsWholeRun Tells records before after manner sys items = IsDone Tells (λ faults. faults ≡ 0) records before after manner sys items
 
 -- The store failed, if its count rose from the first number to the second: it ended the run, and the lines of the steps before were
--- written, or, where one line tells all, nothing; or the run went on to its end, and tells each fault.
-abbrev pub IsStoreFault : Type 0 → ℕ → ℕ → Option Records → SinkView → SinkView → Manner → System → List Item → Type 0
-IsStoreFault Tells count last records before after by_lines sys items =
-    IsStoppedByStore Tells sys items records (λ printed. IsWritten printed before after)
-IsStoreFault Tells count last records before after through_faults sys items =
-    IsEndured Tells (λ faults. (1 ≤ faults) × RoseBy count last faults) sys items records before after
-IsStoreFault Tells count last records before after (in_one_line seeded) sys items =
-    IsStoppedByStore Tells sys items records (λ printed. after ≡ before)
+-- written, if they are seen; or the run went on to its end, and tells each fault.
+pub record IsStoreFault (Tells : Type 0) (count last : ℕ) (records : Option Records) (before after : SinkView) (manner : Manner) (sys : System)
+    (items : List Item) : Type 0 where
+  pub ends : manner.course.goes_on ≡ false → IsStoppedByStore manner.course Tells sys (first_point manner sys) items records
+      (IsSeen manner.is_seen before after)
+  pub goes_on : manner.course.goes_on ≡ true
+      → IsDone Tells (λ faults. (1 ≤ faults) × RoseBy count last faults) records before after manner sys items
 
 -- a damaged record ended the run
 abbrev pub IsDamageIn : Type 0 → ℕ → ℕ → ℕ → Option (ℕ × List ℕ) → SinkView → SinkView → Manner → System → List Item → Type 0
-IsDamageIn Tells count last id given before after by_lines sys items = IsStoppedByDamage Tells sys items id given (λ printed. IsWritten printed before after)
-IsDamageIn Tells count last id given before after through_faults sys items = IsEnduredToDamage Tells (RoseBy count last) sys items id given before after
-IsDamageIn Tells count last id given before after (in_one_line seeded) sys items = IsStoppedByDamage Tells sys items id given (λ printed. after ≡ before)
+IsDamageIn Tells count last id given before after manner sys items = IsStoppedByDamage manner.course Tells sys (first_point manner sys) items id given
+    (RoseBy count last) (IsSeen manner.is_seen before after)
 
 -- What is answered of a run, in which the store's count of faults went from the first number to the second.
 pub record EndsRun (Tells : Type 0) (manner : Manner) (sys : System) (items : List Item) (answer : Result (Unit {0}) RunFault) (count last : ℕ)
     (records : Option Records) (given : Option (ℕ × List ℕ)) (before after : SinkView) : Type 0 where
-  pub printed : OnOk answer (WritesText (PrintsOfRun Tells (λ faults others. (faults ≡ 0) × (others ≡ [])) manner sys items)
-      (λ printed. WritesUntil printed answer before after))
-  pub cut_off : OnErr answer (WritesText (PrintsOfRun Tells (λ faults others. RoseBy count last faults) manner sys items)
+  pub printed : OnOk answer (WritesText (PrintsOfRun Tells NoFaults NoneLeft manner sys items) (λ printed. WritesUntil printed answer before after))
+  pub cut_off : OnErr answer (WritesText (PrintsOfRun Tells (RoseIfOn count last) SomeLeft manner sys items)
       (λ printed. WritesUntil printed answer before after))
   pub left : OnOk answer (IsWholeRun Tells records before after manner sys items)
   pub store_fault : IsErrOf answer (stop.Engine fault.StoreFault) → IsStoreFault Tells count last records before after manner sys items
   pub damaged : (id : ℕ) → IsErrOf answer (stop.Engine (fault.Damaged id)) → IsDamageIn Tells count last id given before after manner sys items
   pub none : OnOk answer (last ≡ count)
-  pub first : goes_on manner ≡ false → last ≡ faults_after_run answer count
+  pub first : manner.course.goes_on ≡ false → last ≡ faults_after_run answer count
   pub some : IsErrOf answer (stop.Engine fault.StoreFault) → RoseByFaults count last
   pub rises : StaysOrRose count last

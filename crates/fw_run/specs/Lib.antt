@@ -5,7 +5,6 @@ pub mod Ends
 pub mod Fault
 pub mod Headline
 pub mod Items
-pub mod Manner
 pub mod Performing
 pub mod Printed
 pub mod Reports
@@ -13,5 +12,4 @@ pub mod Status
 pub mod Stopping
 pub mod Tallies
 pub mod Through
-pub mod Trusting
 pub mod Work

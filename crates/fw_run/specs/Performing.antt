@@ -11,7 +11,6 @@ use Rattle.fw_schedule.specs.declared.item.Item.{Item}
 use Rattle.fw_schedule.specs.declared.item.Item.TheVariants.{One, Auto}
 use Rattle.fw_schedule.specs.Schedule.{steps_in, step_limit}
 use Rattle.fw_model.specs.Machine.{Machine}
-use Rattle.fw_model.specs.Steps.{Outcome, Run}
 use Rattle.fw_keep.specs.Stored.{Records}
 use Rattle.fw_running.specs.declared.fault.EngineFault.{EngineFault}
 use Rattle.fw_running.specs.declared.fault.EngineFault.TheVariants as fault
@@ -21,10 +20,11 @@ use Rattle.fw_engine.specs.Engine.{StandsFor}
 use Rattle.fw_run.specs.declared.fault.RunFault.{RunFault}
 use Rattle.fw_run.specs.declared.fault.RunFault.TheVariants as stop
 use Rattle.fw_run.specs.declared.tally.StepCounts.{StepCounts}
-use Rattle.fw_run.specs.Items.{ItemRun}
-use Rattle.fw_run.specs.Printed.{outcomes_text}
+use Rattle.fw_run.specs.Enduring.{EnduredItem, RoseBy}
+use Rattle.fw_run.specs.Reports.{Report, faults_in, reports_text, RunShown}
 use Rattle.fw_run.specs.Stopping.{ItemBegins, IsLeftIn}
-use Rattle.fw_run.specs.Tallies.{AreOfSteps, tally_of, with_tally}
+use Rattle.fw_run.specs.Tallies.{AreOfSteps, tally_shown, with_tally}
+use Rattle.fw_command.specs.Command.{Course, Showing}
 use Rattle.fw_command.specs.Writing.{faults_by, IsRefusedBy, IsWritten, IsPartWritten, IsCutOff}
 
 -- the bytes of a line, none where there is no line
@@ -59,31 +59,34 @@ abbrev pub TrustsItem : System → Machine → Item → Option Records → Type 
 TrustsItem sys state (One step) records = Trusts sys state step records
 TrustsItem sys state (Auto most) records = Unit {0}
 
--- The machine takes the item from the state; these are its lines, and so it is counted; and the engine then stands for the state to
--- which it leads.
-pub record IsItemTaken (sys : System) (state : Machine) (item : Item) (old new : StepCounts) (bytes : List ℕ) (engine : Engine) (records : Option Records)
-    : Type 0 where
-  pub of_item : ItemRun sys state item
-  pub counted : new ≡ with_tally old (tally_of of_item.outcomes)
-  pub text : bytes ≡ outcomes_text sys.flow of_item.outcomes
+-- The item was taken from the state; these are the lines of its steps, and so they are counted; and the engine then stands for the state
+-- to which it leads.
+pub record IsItemTaken (course : Course) (sys : System) (state : Machine) (item : Item) (old new : StepCounts) (bytes : List ℕ) (engine : Engine)
+    (records : Option Records) : Type 0 where
+  pub of_item : EnduredItem course sys state item
+  pub text : bytes ≡ reports_text old.steps of_item.reports
+  pub counted : new ≡ with_tally old (tally_shown of_item.reports)
   pub stands : StandsFor sys engine records of_item.last
 
--- the machine takes the item from the state, and these are first bytes of its lines
-pub record IsItemBegun (sys : System) (state : Machine) (item : Item) (bytes : List ℕ) : Type 0 where
-  pub of_item : ItemRun sys state item
+-- The item is taken from the state, and these are first bytes of the lines of its steps; of the number of its faults this is true.
+pub record IsItemBegun (course : Course) (sys : System) (state : Machine) (item : Item) (old : StepCounts) (bytes : List ℕ) (IsCount : ℕ → Type 0)
+    : Type 0 where
+  pub of_item : EnduredItem course sys state item
   pub others : List ℕ
-  pub text : outcomes_text sys.flow of_item.outcomes ≡ bytes ++ others
+  pub text : reports_text old.steps of_item.reports ≡ bytes ++ others
+  pub faults : IsCount (faults_in of_item.reports)
 
--- The machine begins the item and comes to a state of which this is true; these are the lines of its steps so far, and so they are
--- counted.
-pub record IsItemStopped (sys : System) (state : Machine) (item : Item) (old new : StepCounts) (bytes : List ℕ) (IsSo : Machine → Type 0) : Type 0 where
+-- The machine begins the item and comes to a state of which this is true; these are the lines of its steps so far, in none of which the
+-- store failed, and so they are counted.
+pub record IsItemStopped (showing : Showing) (sys : System) (state : Machine) (item : Item) (old new : StepCounts) (bytes : List ℕ)
+    (IsSo : Machine → Type 0) : Type 0 where
   pub begun : List Step
   pub now : Machine
   pub begins : ItemBegins sys state item begun now
-  pub outcomes : List Outcome
-  pub run : Run sys state begun outcomes now
-  pub counted : new ≡ with_tally old (tally_of outcomes)
-  pub text : bytes ≡ outcomes_text sys.flow outcomes
+  pub reports : List Report
+  pub run : RunShown showing sys state begun reports now
+  pub text : bytes ≡ reports_text old.steps reports
+  pub counted : new ≡ with_tally old (tally_shown reports)
   pub so : IsSo now
 
 -- what an engine's fault in the item leaves, where it stood for the state: after a fault of the store what that leaves; a record is
@@ -93,22 +96,32 @@ IsLeftAfter sys item fault.StoreFault new after state = IsLeftIn sys state item 
 IsLeftAfter sys item (fault.Damaged id) new after state = (after ≡ None) × IsStepEnabled sys state Recover
 IsLeftAfter sys item fault.NoMemory new after state = Unit {0}
 
+-- this is true of a number of faults, unless the store's own ends the run
+abbrev pub IsCountAt : RunFault → (ℕ → Type 0) → ℕ → Type 0
+IsCountAt (stop.Out f) IsCount count = IsCount count
+IsCountAt (stop.Engine fault.StoreFault) IsCount count = Unit {0}
+IsCountAt (stop.Engine (fault.Damaged id)) IsCount count = IsCount count
+IsCountAt (stop.Engine fault.NoMemory) IsCount count = IsCount count
+
 -- what an answer to an item says of the bytes that were written, where the engine stood for the state
-abbrev pub DoesItem : {T : Type 0} → System → Machine → Item → StepCounts → StepCounts → List ℕ → Result T RunFault → Engine → Option Records
-    → Type 0
-DoesItem sys state item old new bytes (Ok value) engine after =
-    TrustsItem sys state item after → IsItemTaken sys state item old new bytes engine after
-DoesItem sys state item old new bytes (Err (stop.Out fault)) engine after = TrustsItem sys state item after → IsItemBegun sys state item bytes
-DoesItem sys state item old new bytes (Err (stop.Engine fault)) engine after =
-    IsItemStopped sys state item old new bytes (IsLeftAfter sys item fault engine after)
+abbrev pub DoesItem : Course → System → Machine → Item → StepCounts → StepCounts → List ℕ → (ℕ → Type 0) → Result (Unit {0}) RunFault
+    → Engine → Option Records → Type 0
+DoesItem course sys state item old new bytes IsCount (Ok value) engine after =
+    TrustsItem sys state item after → IsItemTaken course sys state item old new bytes engine after
+DoesItem course sys state item old new bytes IsCount (Err (stop.Out fault)) engine after =
+    TrustsItem sys state item after → IsItemBegun course sys state item old bytes IsCount
+DoesItem course sys state item old new bytes IsCount (Err (stop.Engine fault)) engine after =
+    IsItemStopped course.showing sys state item old new bytes (IsLeftAfter sys item fault engine after)
+    × IsCountAt (stop.Engine fault) IsCount 0
 
 -- What an answer to an item says: some bytes were written, and from each state for which the engine stood they are the lines of the
--- item, or first bytes of these.
-pub record PrintsItem {T : Type 0} (old : Engine) (before : Option Records) (item : Item) (counted : StepCounts) (answer : Result T RunFault)
-    (new : Engine) (after : Option Records) (counts : StepCounts) (first last : SinkView) : Type 0 where
+-- item's steps, or first bytes of these; of the number of their faults this is true.
+pub record PrintsItem (course : Course) (old : Engine) (before : Option Records) (item : Item) (counted : StepCounts) (IsCount : ℕ → Type 0)
+    (answer : Result (Unit {0}) RunFault) (new : Engine) (after : Option Records) (counts : StepCounts) (first last : SinkView) : Type 0 where
   pub bytes : List ℕ
   pub taken : IsTaken bytes answer first last
-  pub does : (sys : System) (state : Machine) → StandsFor sys old before state → DoesItem sys state item counted counts bytes answer new after
+  pub does : (sys : System) (state : Machine) → StandsFor sys old before state
+      → DoesItem course sys state item counted counts bytes IsCount answer new after
 
 -- the tally has room for the steps of the item
 pub record HasRoom (tally : StepCounts) (item : Item) : Type 0 where
@@ -119,3 +132,7 @@ pub record HasRoom (tally : StepCounts) (item : Item) : Type 0 where
 abbrev pub AreFew : {T : Type 0} → Item → Result T RunFault → StepCounts → StepCounts → Type 0
 AreFew item (Err (stop.Engine fault.StoreFault)) before after = AreOfSteps after × (after.steps < before.steps + steps_in item)
 AreFew item answer before after = AreOfSteps after × (after.steps ≤ before.steps + steps_in item)
+
+-- the store failed, by its own count, as often as it was counted between these
+abbrev pub FailsAsCounted : StepCounts → StepCounts → ℕ → ℕ → Type 0
+FailsAsCounted old new before after = (times : ℕ) × (new.faults ≡ old.faults + times) × RoseBy before after times

@@ -4,15 +4,11 @@ use Rattle.std.specs.Fmt.{decimal}
 use Rattle.fw_bag.specs.declared.rec.Rec.{Rec}
 use Rattle.fw_bag.specs.Keyed.{plus}
 use Rattle.fw_flow.specs.Counting.{how_many}
-use Rattle.fw_flow.specs.Dataflow.{System}
-use Rattle.fw_schedule.specs.declared.item.Item.{Item}
-use Rattle.fw_model.specs.Machine.{first_state}
 use Rattle.fw_model.specs.Steps.{acked, cuts, Outcome, did}
 use Rattle.fw_run.specs.declared.tally.StepCounts.{StepCounts}
-use Rattle.fw_run.specs.Items.{ItemsRun}
-use Rattle.fw_run.specs.Reports.{Report, shown_in}
-use Rattle.fw_run.specs.Printed.{idle_count}
-use Rattle.fw_command.specs.Command.{Seeded}
+use Rattle.fw_run.specs.Reports.{Report, faults_in, shown_in}
+use Rattle.fw_run.specs.Printed.{idle_count, done_line}
+use Rattle.fw_command.specs.Command.{Seeded, LastLine, of_steps, of_faults, of_seed}
 
 -- nodes were restored
 abbrev pub is_recovered : Outcome → Bool
@@ -47,6 +43,7 @@ tally_of outcomes = record {
   cuts = how_many is_recovered outcomes;
   acks = how_many is_acknowledgement outcomes;
   sum = acknowledged_sum outcomes;
+  faults = 0;
 }
 
 -- so are steps through faults of the store counted: of one in which it failed nothing is shown
@@ -57,11 +54,19 @@ tally_shown reports = record {
   cuts = how_many is_recovered (shown_in reports);
   acks = how_many is_acknowledgement (shown_in reports);
   sum = acknowledged_sum (shown_in reports);
+  faults = faults_in reports;
 }
 
--- a tally with one step more of which nothing is shown
-abbrev pub with_step : StepCounts → StepCounts
-with_step tally = record { steps = tally.steps + 1; idle = tally.idle; cuts = tally.cuts; acks = tally.acks; sum = tally.sum }
+-- a tally with one step more, in which the store failed
+abbrev pub with_fault : StepCounts → StepCounts
+with_fault tally = record {
+  steps = tally.steps + 1;
+  idle = tally.idle;
+  cuts = tally.cuts;
+  acks = tally.acks;
+  sum = tally.sum;
+  faults = tally.faults + 1;
+}
 
 -- two tallies as one
 abbrev pub with_tally : StepCounts → StepCounts → StepCounts
@@ -71,6 +76,7 @@ with_tally one other = record {
   cuts = one.cuts + other.cuts;
   acks = one.acks + other.acks;
   sum = plus one.sum other.sum;
+  faults = one.faults + other.faults;
 }
 
 -- each count is one of the steps, and the sum is a number of 64 bits
@@ -79,6 +85,7 @@ pub record AreOfSteps (tally : StepCounts) : Type 0 where
   pub cuts : tally.cuts ≤ tally.steps
   pub acks : tally.acks ≤ tally.steps
   pub sum : tally.sum < 2 ^ 64
+  pub faults : tally.faults ≤ tally.steps
 
 -- `steps STEPS idle IDLE cuts CUTS acks ACKS sum SUM`
 abbrev pub tally_text : StepCounts → List ℕ
@@ -91,7 +98,15 @@ abbrev pub summary_line : Seeded → StepCounts → List ℕ
 summary_line seeded tally =
     codes "gen seed " ++ (decimal seeded.seed ++ (codes " size " ++ (decimal seeded.size ++ (codes " " ++ (tally_text tally ++ codes "\n")))))
 
--- this is the line of what comes of the machine's run over the items
-pub record PrintsSummary (sys : System) (items : List Item) (seeded : Seeded) (printed : List ℕ) : Type 0 where
-  pub run : ItemsRun sys (first_state sys) items
-  pub text : printed ≡ summary_line seeded (tally_of run.outcomes)
+-- ---- last lines
+
+-- `done steps STEPS idle IDLE faults FAULTS`
+abbrev pub endured_line : StepCounts → List ℕ
+endured_line tally =
+    codes "done steps " ++ (decimal tally.steps ++ (codes " idle " ++ (decimal tally.idle ++ (codes " faults " ++ (decimal tally.faults ++ codes "\n")))))
+
+-- the last line of a run whose steps were counted so
+abbrev pub last_line : LastLine → StepCounts → List ℕ
+last_line of_steps tally = done_line tally.steps tally.idle
+last_line of_faults tally = endured_line tally
+last_line (of_seed seeded) tally = summary_line seeded tally

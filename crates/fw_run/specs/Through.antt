@@ -1,5 +1,5 @@
--- Items that are taken through faults of the store, or up to the first, where an engine takes their steps.
-use Rattle.std.specs.Prelude.{◌≡◌, ◌⊎◌, ℕ, ◌+◌, ◌≤◌, Bool, true, false, List, ◌∷◌, ◌++◌, length, take, Option, Some, Result, Ok, Err}
+-- Items that are taken from a point, through faults of the store or up to the first, where an engine takes their steps.
+use Rattle.std.specs.Prelude.{◌≡◌, ℕ, ◌≤◌, false, List, ◌∷◌, ◌++◌, length, take, Option, Some, Result, Ok, Err}
 use Rattle.fw_outside.specs.Outside.{SinkView}
 use Rattle.fw_flow.specs.declared.step.Step.{Step}
 use Rattle.fw_flow.specs.declared.step.Step.TheVariants.{Recover}
@@ -7,169 +7,129 @@ use Rattle.fw_flow.specs.Dataflow.{System}
 use Rattle.fw_schedule.specs.declared.item.Item.{Item}
 use Rattle.fw_schedule.specs.declared.item.Item.TheVariants.{One}
 use Rattle.fw_model.specs.Machine.{Machine}
-use Rattle.fw_model.specs.Steps.{Run}
 use Rattle.fw_keep.specs.declared.entry.Entry.{Entry}
 use Rattle.fw_keep.specs.Stored.{Records, SpellsNone}
 use Rattle.fw_running.specs.declared.fault.EngineFault.TheVariants as fault
-use Rattle.fw_running.specs.Steps.{ReadsNoCheckpoint}
-use Rattle.fw_engine.specs.declared.engine.Engine.{Engine}
-use Rattle.fw_engine.specs.Engine.{StandsFor}
 use Rattle.fw_run.specs.declared.fault.RunFault.{RunFault}
 use Rattle.fw_run.specs.declared.fault.RunFault.TheVariants as stop
 use Rattle.fw_run.specs.declared.tally.StepCounts.{StepCounts}
-use Rattle.fw_run.specs.Enduring.{ItemEndures, EnduredRun}
-use Rattle.fw_run.specs.Performing.{IsTaken, TrustsItem, IsItemStopped, IsLeftAfter}
-use Rattle.fw_run.specs.Reports.{Report, faults_in, outcomes_in, reports_text}
-use Rattle.fw_run.specs.Stopping.{HoldsWrites, IsReadIn, IsStoppedByStore}
+use Rattle.fw_run.specs.Enduring.{Point, EnduredRun, IsRunKnown}
+use Rattle.fw_run.specs.Performing.{IsTaken, IsCountAt}
+use Rattle.fw_run.specs.Reports.{Report, faults_in, reports_text, RunShown}
+use Rattle.fw_run.specs.Stopping.{HoldsWrites, ItemBegins, MayCallIn, IsLeftIn, IsReadIn}
 use Rattle.fw_run.specs.Tallies.{tally_shown, with_tally}
+use Rattle.fw_command.specs.Command.{Course}
 use Rattle.fw_command.specs.Writing.{IsWritten}
-
--- ---- runs
-
--- how often the store may fail in a run: never in one that its first fault ends
-abbrev pub MayFail : Bool → ℕ → Type 0
-MayFail true faults = Unit {0}
-MayFail false faults = faults ≡ 0
-
--- a run of the items, in which the store fails no more often than it may
-pub record ThroughRun (goes_on : Bool) (sys : System) (items : List Item) : Type 0 where
-  pub of_items : EnduredRun sys items
-  pub may : MayFail goes_on (faults_in of_items.reports)
-
--- What comes of the items is known, but for where the store fails: it tells its records, or no recovery among them reads a checkpoint.
-abbrev pub IsRunKnown : Bool → Type 0 → System → List Item → Type 0
-IsRunKnown goes_on Tells sys items = Tells ⊎ ((earlier later : List Item) → items ≡ earlier ++ One Recover ∷ later
-    → (run : ThroughRun goes_on sys earlier) → ReadsNoCheckpoint sys run.of_items.last)
-
--- ---- an item
-
--- From the state the item leads to these steps, which the machine takes to the last one, with these reports.
-pub record EnduredItem (sys : System) (state : Machine) (item : Item) : Type 0 where
-  pub steps : List Step
-  pub reports : List Report
-  pub last : Machine
-  pub endures : ItemEndures sys state item steps reports last
-  pub run : Run sys state steps (outcomes_in reports) last
-
--- The item was taken from the state, through so many faults of the store; these are the lines of its steps, and so they are counted;
--- and the engine then stands for the state to which it leads.
-pub record IsItemEndured (goes_on : Bool) (sys : System) (state : Machine) (item : Item) (old new : StepCounts) (count : ℕ) (bytes : List ℕ)
-    (engine : Engine) (records : Option Records) : Type 0 where
-  pub of_item : EnduredItem sys state item
-  pub may : MayFail goes_on (faults_in of_item.reports)
-  pub text : bytes ≡ reports_text sys.flow old.steps of_item.reports
-  pub counted : new ≡ with_tally old (tally_shown of_item.reports)
-  pub faults : count ≡ faults_in of_item.reports
-  pub stands : StandsFor sys engine records of_item.last
-
--- The item is taken from the state, and these are first bytes of the lines of its steps; of the number of its faults this is true.
-pub record IsItemBroken (goes_on : Bool) (sys : System) (state : Machine) (item : Item) (old : StepCounts) (bytes : List ℕ) (IsCount : ℕ → Type 0)
-    : Type 0 where
-  pub of_item : EnduredItem sys state item
-  pub may : MayFail goes_on (faults_in of_item.reports)
-  pub others : List ℕ
-  pub text : reports_text sys.flow old.steps of_item.reports ≡ bytes ++ others
-  pub faults : IsCount (faults_in of_item.reports)
-
--- this is true of a number of faults, unless the store's own ends the run
-abbrev pub IsCountAt : RunFault → (ℕ → Type 0) → ℕ → Type 0
-IsCountAt (stop.Out f) IsCount count = IsCount count
-IsCountAt (stop.Engine fault.StoreFault) IsCount count = Unit {0}
-IsCountAt (stop.Engine (fault.Damaged id)) IsCount count = IsCount count
-IsCountAt (stop.Engine fault.NoMemory) IsCount count = IsCount count
-
--- what an answer to an item says of the bytes that were written, where the engine stood for the state
-abbrev pub EnduresItem : Bool → System → Machine → Item → StepCounts → StepCounts → List ℕ → (ℕ → Type 0) → Result ℕ RunFault
-    → Engine → Option Records → Type 0
-EnduresItem goes_on sys state item old new bytes IsCount (Ok count) engine after =
-    TrustsItem sys state item after → IsItemEndured goes_on sys state item old new count bytes engine after
-EnduresItem goes_on sys state item old new bytes IsCount (Err (stop.Out f)) engine after =
-    TrustsItem sys state item after → IsItemBroken goes_on sys state item old bytes IsCount
-EnduresItem goes_on sys state item old new bytes IsCount (Err (stop.Engine f)) engine after =
-    IsItemStopped sys state item old new bytes (IsLeftAfter sys item f engine after) × IsCountAt (stop.Engine f) IsCount 0
-
--- What an answer to an item says: some bytes were written, and from each state for which the engine stood they are the lines of the
--- item's steps, or first bytes of these.
-pub record PrintsThrough (goes_on : Bool) (old : Engine) (before : Option Records) (item : Item) (counted : StepCounts) (IsCount : ℕ → Type 0)
-    (answer : Result ℕ RunFault) (new : Engine) (after : Option Records) (counts : StepCounts) (first last : SinkView) : Type 0 where
-  pub bytes : List ℕ
-  pub taken : IsTaken bytes answer first last
-  pub does : (sys : System) (state : Machine) → StandsFor sys old before state
-      → EnduresItem goes_on sys state item counted counts bytes IsCount answer new after
 
 -- ---- items
 
 -- The items lead to a state of which this is true; so their steps and their faults are counted, and these are their lines.
-pub record IsSoFar (goes_on : Bool) (sys : System) (items : List Item) (tally : StepCounts) (count : ℕ) (bytes : List ℕ) (IsSo : Machine → Type 0)
-    : Type 0 where
-  pub run : ThroughRun goes_on sys items
-  pub text : bytes ≡ reports_text sys.flow 0 run.of_items.reports
-  pub counted : tally ≡ tally_shown run.of_items.reports
-  pub faults : count ≡ faults_in run.of_items.reports
-  pub so : IsSo run.of_items.last
+pub record IsSoFar (course : Course) (sys : System) (from : Point) (items : List Item) (tally : StepCounts) (bytes : List ℕ)
+    (IsSo : Machine → Type 0) : Type 0 where
+  pub run : EnduredRun course sys from.state items
+  pub text : bytes ≡ reports_text from.counts.steps run.reports
+  pub counted : tally ≡ with_tally from.counts (tally_shown run.reports)
+  pub so : IsSo run.last
 
 -- the bytes begin with the lines of the items
-pub record BeginsThrough (goes_on : Bool) (sys : System) (items : List Item) (bytes : List ℕ) : Type 0 where
-  pub run : ThroughRun goes_on sys items
+pub record BeginsWith (course : Course) (sys : System) (from : Point) (items : List Item) (bytes : List ℕ) : Type 0 where
+  pub run : EnduredRun course sys from.state items
   pub others : List ℕ
-  pub text : bytes ≡ reports_text sys.flow 0 run.of_items.reports ++ others
+  pub text : bytes ≡ reports_text from.counts.steps run.reports ++ others
+
+-- the bytes, and others behind them, begin with the lines of the items
+pub record AgreesWith (course : Course) (sys : System) (from : Point) (items : List Item) (bytes : List ℕ) : Type 0 where
+  pub left : List ℕ
+  pub begins : BeginsWith course sys from items (bytes ++ left)
 
 -- The bytes are first ones of the lines of the items; of the number of their faults this is true.
-pub record IsPartThrough (goes_on : Bool) (sys : System) (items : List Item) (bytes : List ℕ) (IsCount : ℕ → Type 0) : Type 0 where
-  pub run : ThroughRun goes_on sys items
-  pub others : List ℕ
-  pub text : reports_text sys.flow 0 run.of_items.reports ≡ bytes ++ others
-  pub faults : IsCount (faults_in run.of_items.reports)
+pub record IsPartOfLines (course : Course) (sys : System) (from : Point) (items : List Item) (bytes : List ℕ) (IsCount : ℕ → Type 0) : Type 0 where
+  pub run : EnduredRun course sys from.state items
+  pub left : List ℕ
+  pub text : reports_text from.counts.steps run.reports ≡ bytes ++ left
+  pub faults : IsCount (faults_in run.reports)
 
 -- What was written of so many first items is their lines, as far as it is known what comes of them.
-pub record AreTaken (goes_on : Bool) (Tells : Type 0) (sys : System) (items : List Item) (place : ℕ) (tally : StepCounts) (count : ℕ)
+pub record AreTaken (course : Course) (Tells : Type 0) (sys : System) (from : Point) (items : List Item) (place : ℕ) (tally : StepCounts)
     (IsSo : Machine → Type 0) (first last : SinkView) : Type 0 where
   pub bytes : List ℕ
   pub written : IsWritten bytes first last
-  pub so_far : IsRunKnown goes_on Tells sys (take place items) → IsSoFar goes_on sys (take place items) tally count bytes IsSo
-  pub begins : (n : ℕ) → n ≤ place → IsRunKnown goes_on Tells sys (take n items) → BeginsThrough goes_on sys (take n items) bytes
+  pub so_far : IsRunKnown course Tells sys from.state (take place items) → IsSoFar course sys from (take place items) tally bytes IsSo
+  pub begins : (n : ℕ) → n ≤ place → IsRunKnown course Tells sys from.state (take n items) → BeginsWith course sys from (take n items) bytes
 
--- A fault ended the run in the item of this place: what was written is first bytes of the lines of all items, as far as that is known.
-pub record AreCutOff (goes_on : Bool) (Tells : Type 0) (sys : System) (items : List Item) (f : RunFault) (IsCount : ℕ → Type 0)
+-- A fault ended the run: what was written is first bytes of the lines of the items, as far as it is known what comes of them.
+pub record AreCutOff (course : Course) (Tells : Type 0) (sys : System) (from : Point) (items : List Item) (f : RunFault) (IsCount : ℕ → Type 0)
     (first last : SinkView) : Type 0 where
-  pub place : ℕ
   pub bytes : List ℕ
   pub taken : IsTaken {T = Unit {0}} bytes (Err f) first last
-  pub begins : (n : ℕ) → n ≤ place → IsRunKnown goes_on Tells sys (take n items) → BeginsThrough goes_on sys (take n items) bytes
-  pub part : IsRunKnown goes_on Tells sys (take (place + 1) items) → IsPartThrough goes_on sys items bytes (IsCountAt f IsCount)
+  pub begins : (n : ℕ) → IsRunKnown course Tells sys from.state (take n items) → AgreesWith course sys from (take n items) bytes
+  pub part : IsRunKnown course Tells sys from.state items → IsPartOfLines course sys from items bytes (IsCountAt f IsCount)
 
--- The run was ended by a damaged record in this recovery among the items.
-pub record AreDamaged (goes_on : Bool) (Tells : Type 0) (sys : System) (items : List Item) (id : ℕ) (given : Option (ℕ × List ℕ))
-    (IsCount : ℕ → Type 0) (first last : SinkView) : Type 0 where
-  pub bytes : List ℕ
-  pub written : IsWritten bytes first last
+-- ---- where a run stops
+
+-- The items were taken and one more was begun, up to a state of which this is true; these are the lines of the steps.
+pub record StopsIn (course : Course) (sys : System) (from : Point) (items : List Item) (item : Item) (printed : List ℕ) (IsSo : Machine → Type 0)
+    : Type 0 where
+  pub before : EnduredRun course sys from.state items
+  pub begun : List Step
+  pub state : Machine
+  pub begins : ItemBegins sys before.last item begun state
+  pub reports : List Report
+  pub run : RunShown course.showing sys before.last begun reports state
+  pub text : printed ≡ reports_text from.counts.steps (before.reports ++ reports)
+  pub so : IsSo state
+
+-- The run was stopped by its store in this one of the items: in a step that may call it. If it is known what comes of the items before,
+-- these are the lines of the steps before, and the store holds the writes of what this step leaves; if that is known of first items
+-- alone, their lines come first. Of these lines this is true.
+pub record IsStoppedByStore (course : Course) (Tells : Type 0) (sys : System) (from : Point) (items : List Item) (records : Option Records)
+    (IsPut : List ℕ → Type 0) : Type 0 where
+  pub printed : List ℕ
+  pub written : IsPut printed
+  pub earlier : List Item
+  pub item : Item
+  pub later : List Item
+  pub parts : items ≡ earlier ++ item ∷ later
+  pub may_call : MayCallIn sys.flow item
+  pub first : (n : ℕ) → n ≤ length earlier → IsRunKnown course Tells sys from.state (take n items) → BeginsWith course sys from (take n items) printed
+  pub stops : IsRunKnown course Tells sys from.state earlier
+      → StopsIn course sys from earlier item printed (λ state. IsLeftIn sys state item (HoldsWrites sys records))
+
+-- The run was stopped by a damaged record in this recovery among the items: the store, which does not tell its records, gave under the id
+-- of an entry bytes that spell no record of it. If it is known what comes of the items before, the recovery is enabled and asks for the
+-- entry, which is that of a write, and these are the lines of the steps before, of the number of whose faults this is true; if that is
+-- known of first items alone, their lines come first. Of these lines this is true.
+pub record IsStoppedByDamage (course : Course) (Tells : Type 0) (sys : System) (from : Point) (items : List Item) (id : ℕ)
+    (given : Option (ℕ × List ℕ)) (IsCount : ℕ → Type 0) (IsPut : List ℕ → Type 0) : Type 0 where
+  pub printed : List ℕ
+  pub written : IsPut printed
   pub earlier : List Item
   pub later : List Item
   pub parts : items ≡ earlier ++ One Recover ∷ later
   pub untold : Tells → ⊥
   pub entry : Entry
   pub named : entry.id ≡ id
-  pub read : List ℕ
-  pub gave : given ≡ Some (id, read)
-  pub spells_none : SpellsNone sys.flow entry read
-  pub begins : (n : ℕ) → n ≤ length earlier → IsRunKnown goes_on Tells sys (take n items) → BeginsThrough goes_on sys (take n items) bytes
-  pub stops : IsRunKnown goes_on Tells sys earlier → (run : ThroughRun goes_on sys earlier)
-      × (bytes ≡ reports_text sys.flow 0 run.of_items.reports) × IsCount (faults_in run.of_items.reports) × IsReadIn sys entry run.of_items.last
+  pub bytes : List ℕ
+  pub gave : given ≡ Some (id, bytes)
+  pub spells_none : SpellsNone sys.flow entry bytes
+  pub first : (n : ℕ) → n ≤ length earlier → IsRunKnown course Tells sys from.state (take n items) → BeginsWith course sys from (take n items) printed
+  pub stops : IsRunKnown course Tells sys from.state earlier → (run : EnduredRun course sys from.state earlier)
+      × (printed ≡ reports_text from.counts.steps run.reports) × IsCount (faults_in run.reports) × IsReadIn sys entry run.last
 
 -- where the store ended the run, or a damaged record
-abbrev pub EndsItems : Bool → Type 0 → System → List Item → RunFault → (ℕ → Type 0) → Option Records → Option (ℕ × List ℕ)
+abbrev pub EndsItems : Course → Type 0 → System → Point → List Item → RunFault → (ℕ → Type 0) → Option Records → Option (ℕ × List ℕ)
     → SinkView → SinkView → Type 0
-EndsItems goes_on Tells sys items (stop.Out f) IsCount records given first last = Unit {0}
-EndsItems goes_on Tells sys items (stop.Engine fault.StoreFault) IsCount records given first last =
-    (goes_on ≡ false) × IsStoppedByStore Tells sys items records (λ printed. IsWritten printed first last)
-EndsItems goes_on Tells sys items (stop.Engine (fault.Damaged id)) IsCount records given first last =
-    AreDamaged goes_on Tells sys items id given IsCount first last
-EndsItems goes_on Tells sys items (stop.Engine fault.NoMemory) IsCount records given first last = Unit {0}
+EndsItems course Tells sys from items (stop.Out f) IsCount records given first last = Unit {0}
+EndsItems course Tells sys from items (stop.Engine fault.StoreFault) IsCount records given first last =
+    (course.goes_on ≡ false) × IsStoppedByStore course Tells sys from items records (λ printed. IsWritten printed first last)
+EndsItems course Tells sys from items (stop.Engine (fault.Damaged id)) IsCount records given first last =
+    IsStoppedByDamage course Tells sys from items id given IsCount (λ printed. IsWritten printed first last)
+EndsItems course Tells sys from items (stop.Engine fault.NoMemory) IsCount records given first last = Unit {0}
 
--- what is answered of items: how often the store failed, or why they were not all taken
-abbrev pub TakesItems : Bool → Type 0 → System → List Item → Result ℕ RunFault → StepCounts → (ℕ → Type 0) → Option Records → Option (ℕ × List ℕ)
-    → SinkView → SinkView → Type 0
-TakesItems goes_on Tells sys items (Ok count) tally IsCount records given first last =
-    AreTaken goes_on Tells sys items (length items) tally count (HoldsWrites sys records) first last × IsCount count
-TakesItems goes_on Tells sys items (Err f) tally IsCount records given first last =
-    AreCutOff goes_on Tells sys items f IsCount first last × EndsItems goes_on Tells sys items f IsCount records given first last
+-- what is answered of items: that they were taken, or why they were not all
+abbrev pub TakesItems : Course → Type 0 → System → Point → List Item → Result (Unit {0}) RunFault → StepCounts → (ℕ → Type 0) → Option Records
+    → Option (ℕ × List ℕ) → SinkView → SinkView → Type 0
+TakesItems course Tells sys from items (Ok value) tally IsCount records given first last =
+    AreTaken course Tells sys from items (length items) tally (HoldsWrites sys records) first last × IsCount tally.faults
+TakesItems course Tells sys from items (Err f) tally IsCount records given first last =
+    AreCutOff course Tells sys from items f IsCount first last × EndsItems course Tells sys from items f IsCount records given first last

@@ -1,5 +1,5 @@
 -- What a command does with what its texts spell.
-use Rattle.std.specs.Prelude.{◌≡◌, ℕ, false, List, [], Option, Result, OnOk, OnErr, IsErrOf}
+use Rattle.std.specs.Prelude.{◌≡◌, ℕ, Bool, false, List, Option, Result, OnOk, OnErr, IsErrOf}
 use Rattle.fw_outside.specs.Outside.{StoreView, SinkView}
 use Rattle.fw_flow.specs.Dataflow.{Dataflow, System, system_of}
 use Rattle.fw_flow.specs.WellFormed.{IsWellFormedSystem}
@@ -10,14 +10,15 @@ use Rattle.fw_run.specs.declared.work.Work.TheVariants.{Run, Denote, Check}
 use Rattle.fw_generate.specs.Laws.{AreAccepted}
 use Rattle.fw_generate.specs.Texts.{Texts}
 use Rattle.fw_command.specs.declared.reading.Job.{Job}
-use Rattle.fw_command.specs.Command.{Command, Task, takes_steps, tells_denotation, lists_nodes, Manner}
+use Rattle.fw_keep.specs.Stored.{Records, IsEmptyStore}
+use Rattle.fw_command.specs.Command.{Command, Task, takes_steps, tells_denotation, lists_nodes, Start, at_first, Manner}
 use Rattle.fw_command.specs.DenotationText.{PrintsDenotation}
 use Rattle.fw_running.specs.declared.fault.EngineFault.TheVariants as fault
 use Rattle.fw_run.specs.declared.fault.RunFault.TheVariants as stop
-use Rattle.fw_run.specs.Ends.{PrintsOfRun, StaysIfInOneLine, IsWholeRun, IsStoreFault, IsDamageIn}
-use Rattle.fw_run.specs.Enduring.{RoseBy, RoseByFaults, StaysOrRose}
+use Rattle.fw_run.specs.Ends.{PrintsOfRun, NoFaults, NoneLeft, SomeLeft, StaysUnseen, IsWholeRun, IsStoreFault, IsDamageIn}
+use Rattle.fw_run.specs.Enduring.{RoseIfOn, RoseByFaults, StaysOrRose}
 use Rattle.fw_run.specs.Fault.{faults_after_run}
-use Rattle.fw_run.specs.Manner.{goes_on, told_in}
+use Rattle.fw_command.specs.Manner.{told_in}
 use Rattle.fw_command.specs.Listing.{check_text}
 use Rattle.fw_run.specs.Performing.{WritesUntil}
 use Rattle.fw_command.specs.Reading.{IsReadyToRun}
@@ -62,15 +63,27 @@ IsReadyWork (Run manner job) = IsReadyToRun (system_of job.flow job.batches) job
 IsReadyWork (Denote fed) = IsWellFormedSystem (system_of fed.flow fed.batches)
 IsReadyWork (Check flow) = Unit {0}
 
+-- what a run asks of its store where it begins: that it holds no record, where it tells them
+abbrev pub IsStoreAt : Start → Option Records → Type 0
+IsStoreAt at_first records = IsEmptyStore records
+
+-- what the work asks of the store
+abbrev pub IsStoreFor : Work → Option Records → Type 0
+IsStoreFor (Run manner job) records = IsStoreAt (told_in manner).start records
+IsStoreFor (Denote fed) records = Unit {0}
+IsStoreFor (Check flow) records = Unit {0}
+
 -- this is what the work prints, of a run as far as it is known
-abbrev pub IsTextOfWork : Type 0 → (ℕ → List ℕ → Type 0) → Work → List ℕ → Type 0
-IsTextOfWork Tells IsSo (Run manner job) printed = PrintsOfRun Tells IsSo (told_in manner) (system_of job.flow job.batches) job.items printed
-IsTextOfWork Tells IsSo (Denote fed) printed = PrintsDenotation (system_of fed.flow fed.batches) printed
-IsTextOfWork Tells IsSo (Check flow) printed = printed ≡ check_text flow
+abbrev pub IsTextOfWork : Type 0 → (Bool → ℕ → Type 0) → (List ℕ → Type 0) → Work → List ℕ → Type 0
+IsTextOfWork Tells IsCount IsLeft (Run manner job) printed =
+    PrintsOfRun Tells IsCount IsLeft (told_in manner) (system_of job.flow job.batches) job.items printed
+IsTextOfWork Tells IsCount IsLeft (Denote fed) printed = PrintsDenotation (system_of fed.flow fed.batches) printed
+IsTextOfWork Tells IsCount IsLeft (Check flow) printed = printed ≡ check_text flow
 
 -- all that the work prints was written, or cut off by the fault that was answered
-abbrev pub PrintsWork : {T : Type 0} → Type 0 → (ℕ → List ℕ → Type 0) → Work → Result T RunFault → SinkView → SinkView → Type 0
-PrintsWork Tells IsSo work answer before after = WritesText (IsTextOfWork Tells IsSo work) (λ printed. WritesUntil printed answer before after)
+abbrev pub PrintsWork : {T : Type 0} → Type 0 → (Bool → ℕ → Type 0) → (List ℕ → Type 0) → Work → Result T RunFault → SinkView → SinkView → Type 0
+PrintsWork Tells IsCount IsLeft work answer before after =
+    WritesText (IsTextOfWork Tells IsCount IsLeft work) (λ printed. WritesUntil printed answer before after)
 
 -- the work takes steps, and this is true of how they are told, of its system and its items
 abbrev pub IsRun : Work → (Manner → System → List Item → Type 0) → Type 0
@@ -86,15 +99,15 @@ IfRun (Check flow) IsSo = Unit {0}
 
 -- Work that does not go on through faults of its store ends at the first: it failed once if that is the answer, and else never.
 abbrev pub EndsAtFault : {T : Type 0} → Work → Result T RunFault → ℕ → ℕ → Type 0
-EndsAtFault (Run manner job) answer before after = goes_on (told_in manner) ≡ false → after ≡ faults_after_run answer before
+EndsAtFault (Run manner job) answer before after = manner.goes_on ≡ false → after ≡ faults_after_run answer before
 EndsAtFault (Denote fed) answer before after = after ≡ faults_after_run answer before
 EndsAtFault (Check flow) answer before after = after ≡ faults_after_run answer before
 
--- this stays in work that is told in one line
-abbrev pub StaysIfToldInOne : {O : Type 0} → Work → O → O → Type 0
-StaysIfToldInOne (Run manner job) before after = StaysIfInOneLine (told_in manner) before after
-StaysIfToldInOne (Denote fed) before after = Unit {0}
-StaysIfToldInOne (Check flow) before after = Unit {0}
+-- this stays in work that the first fault of its store ends, if its steps are not seen
+abbrev pub StaysIfUnseen : {O : Type 0} → Work → O → O → Type 0
+StaysIfUnseen (Run manner job) before after = manner.goes_on ≡ false → StaysUnseen manner.is_seen before after
+StaysIfUnseen (Denote fed) before after = Unit {0}
+StaysIfUnseen (Check flow) before after = Unit {0}
 
 -- only work that takes steps changes its store
 abbrev pub StaysUnlessRun : {K : Type 0} → Work → K → K → Type 0
@@ -106,8 +119,8 @@ StaysUnlessRun (Check flow) before after = after ≡ before
 -- leaves in the store, and where the store or a damaged record ended it; and how often the store failed.
 pub record EndsWork {T : Type 0} (Tells : Type 0) (work : Work) (answer : Result T RunFault) (before after : StoreView) (out wrote : SinkView)
     : Type 0 where
-  pub printed : OnOk answer (PrintsWork Tells (λ faults others. (faults ≡ 0) × (others ≡ [])) work answer out wrote)
-  pub cut_off : OnErr answer (PrintsWork Tells (λ faults others. RoseBy before.faults after.faults faults) work answer out wrote)
+  pub printed : OnOk answer (PrintsWork Tells NoFaults NoneLeft work answer out wrote)
+  pub cut_off : OnErr answer (PrintsWork Tells (RoseIfOn before.faults after.faults) SomeLeft work answer out wrote)
   pub left : OnOk answer (IfRun work (IsWholeRun Tells after.records out wrote))
   pub store_fault : IsErrOf answer (stop.Engine fault.StoreFault)
       → IsRun work (IsStoreFault Tells before.faults after.faults after.records out wrote)

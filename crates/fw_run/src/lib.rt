@@ -3,7 +3,6 @@
 
 mod command;
 mod fault;
-mod manner;
 mod perform;
 mod run;
 mod status;

@@ -1,5 +1,5 @@
 //! The steps of an item are taken and what comes of them is printed.
-ghost use Rattle.std.specs.Prelude.{◌≡◌, ℕ, IsErrOf, IsSome};
+ghost use Rattle.std.specs.Prelude.{◌≡◌, ℕ, false, IsErrOf, IsSome};
 ghost use Rattle.fw_flow.specs.declared.step.Step.TheVariants.{Recover};
 ghost use Rattle.fw_keep.specs.Catalogue.{AreAscending, ids_of};
 ghost use Rattle.fw_keep.specs.Stored.{IsStored};
@@ -11,6 +11,7 @@ ghost use Rattle.fw_run.specs.Fault.{faults_after_run};
 ghost use Rattle.fw_run.specs.Performing.{PrintsItem, HasRoom, AreFew};
 ghost use Rattle.fw_run.specs.Printed as spec;
 ghost use Rattle.fw_run.specs.Stopping.{MayCallIn};
+ghost use Rattle.fw_command.specs.Command.{shown_by_effect};
 ghost use Rattle.fw_command.specs.Writing.{Writes};
 
 use crate::fault::RunFault;
@@ -39,8 +40,9 @@ pub(crate) fn perform_item<K: Store, O: Sink>(
     ensures told_before { IsSome (K.view store.new).records → IsSome (K.view store.old).records }
     ensures flow { flow_of engine.new ≡ flow_of engine.old }
     ensures few { AreFew item.now result tally.old tally.new }
-    ensures printed { PrintsItem engine.old (K.view store.old).records item.now tally.old result engine.new (K.view store.new).records tally.new
-        (O.view out.old) (O.view out.new) }
+    ensures none { tally.new.faults ≡ tally.old.faults }
+    ensures printed { PrintsItem (shown_by_effect false) engine.old (K.view store.old).records item.now tally.old (λ faults. faults ≡ 0)
+        result engine.new (K.view store.new).records tally.new (O.view out.old) (O.view out.new) }
     ensures faults { (K.view store.new).faults ≡ faults_after_run result (K.view store.old).faults }
     ensures calls { IsErrOf result (RunFault.Engine EngineFault.StoreFault) → MayCallIn (flow_of engine.old) item.now }
     ensures damaged { (id : ℕ) → IsErrOf result (RunFault.Engine (EngineFault.Damaged id)) → IsDamaged engine.old id (K.view store.new).given }
@@ -68,8 +70,9 @@ fn perform_step<K: Store, O: Sink>(
     ensures told_before { IsSome (K.view store.new).records → IsSome (K.view store.old).records }
     ensures flow { flow_of engine.new ≡ flow_of engine.old }
     ensures few { AreFew (Item.One step.now) result tally.old tally.new }
-    ensures printed { PrintsItem engine.old (K.view store.old).records (Item.One step.now) tally.old result engine.new (K.view store.new).records tally.new
-        (O.view out.old) (O.view out.new) }
+    ensures none { tally.new.faults ≡ tally.old.faults }
+    ensures printed { PrintsItem (shown_by_effect false) engine.old (K.view store.old).records (Item.One step.now) tally.old (λ faults. faults ≡ 0)
+        result engine.new (K.view store.new).records tally.new (O.view out.old) (O.view out.new) }
     ensures faults { (K.view store.new).faults ≡ faults_after_run result (K.view store.old).faults }
     ensures calls { IsErrOf result (RunFault.Engine EngineFault.StoreFault) → MayCallIn (flow_of engine.old) (Item.One step.now) }
     ensures damaged { (id : ℕ) → IsErrOf result (RunFault.Engine (EngineFault.Damaged id)) → IsDamaged engine.old id (K.view store.new).given }
@@ -98,8 +101,9 @@ fn perform_auto<K: Store, O: Sink>(
     ensures told_before { IsSome (K.view store.new).records → IsSome (K.view store.old).records }
     ensures flow { flow_of engine.new ≡ flow_of engine.old }
     ensures few { AreFew (Item.Auto most) result tally.old tally.new }
-    ensures printed { PrintsItem engine.old (K.view store.old).records (Item.Auto most) tally.old result engine.new (K.view store.new).records tally.new
-        (O.view out.old) (O.view out.new) }
+    ensures none { tally.new.faults ≡ tally.old.faults }
+    ensures printed { PrintsItem (shown_by_effect false) engine.old (K.view store.old).records (Item.Auto most) tally.old (λ faults. faults ≡ 0)
+        result engine.new (K.view store.new).records tally.new (O.view out.old) (O.view out.new) }
     ensures faults { (K.view store.new).faults ≡ faults_after_run result (K.view store.old).faults }
     ensures undamaged { (id : ℕ) → IsErrOf result (RunFault.Engine (EngineFault.Damaged id)) → ⊥ }
 {

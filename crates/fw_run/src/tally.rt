@@ -1,7 +1,7 @@
 //! What came of steps, counted.
 ghost use Rattle.std.specs.Prelude.{◌≡◌, ◌<◌, ◌-◌, ◌^◌, [], ◌∷◌};
 ghost use Rattle.fw_running.specs.Steps.{outcome_of};
-ghost use Rattle.fw_run.specs.Tallies.{AreOfSteps, tally_of, with_tally, rec_sum};
+ghost use Rattle.fw_run.specs.Tallies.{AreOfSteps, tally_of, with_fault, with_tally, rec_sum};
 
 use fw_bag::Bag;
 use fw_engine::{Effect, Stepped};
@@ -20,12 +20,15 @@ pub struct StepCounts {
     pub acks: u64,
     /// The sum of all acknowledged values, modulo 2^64.
     pub sum: u64,
+    /// In how many the store failed, and the run went on.
+    pub faults: u64,
 }
 
 impl StepCounts {
     /// The tally of no steps.
     pub(crate) fn new() -> Self
-        ensures { result ≡ tally_of [] }
+        ensures none { result ≡ tally_of [] }
+        ensures of_steps { AreOfSteps result }
     {
         StepCounts {
             steps: 0,
@@ -33,6 +36,7 @@ impl StepCounts {
             cuts: 0,
             acks: 0,
             sum: 0,
+            faults: 0,
         }
     }
 
@@ -52,6 +56,16 @@ impl StepCounts {
             Stepped::Did(Effect::Cuts(_)) => self.cuts += 1,
             Stepped::Did(Effect::Quiet | Effect::Lows(_)) => {}
         }
+    }
+
+    /// Counts one step more, in which the store failed.
+    pub(crate) fn count_fault(&mut self)
+        requires steps { self.old.steps < 2 ^ 64 - 1 }
+        requires of_steps { AreOfSteps self.old }
+        ensures { self.new ≡ with_fault self.old }
+    {
+        self.steps += 1;
+        self.faults += 1;
     }
 }
 

@@ -2,19 +2,16 @@
 ghost use Rattle.std.specs.Prelude.{◌≡◌, IfOk, string_bytes};
 ghost use Rattle.fw_running.specs.EffectText.{outcome_text};
 ghost use Rattle.fw_running.specs.Steps.{outcome_of};
-ghost use Rattle.fw_run.specs.Ends as ends;
-ghost use Rattle.fw_run.specs.Manner.{told_in};
 ghost use Rattle.fw_run.specs.Printed as spec;
 ghost use Rattle.fw_run.specs.Reports as reports;
 ghost use Rattle.fw_run.specs.Performing.{shown_bytes};
 ghost use Rattle.fw_run.specs.Status.{note_line};
 ghost use Rattle.fw_run.specs.Tallies as tallies;
-ghost use Rattle.fw_command.specs.Words.{seeded_in};
+ghost use Rattle.fw_command.specs.Manner.{last_in, seeded_in};
 ghost use Rattle.fw_run.specs.declared.status.Status.TheVariants as Status;
 
-use crate::manner::Manner;
 use crate::tally::StepCounts;
-use fw_command::GenerateWords;
+use fw_command::{GenerateWords, LastLine};
 use fw_engine::Stepped;
 use fw_flow::Flow;
 use fw_lines::Refusal;
@@ -33,19 +30,18 @@ pub fn line_of(alloc: Global, flow: &Flow, stepped: Stepped) -> Result<Option<Ve
     Ok(Some(lines.into_bytes()))
 }
 
-/// The last line of a run whose steps were counted so, and in which the store failed so often.
+/// The last line of a run whose steps were counted so.
 pub(crate) fn last_line(
     alloc: Global,
-    manner: Manner,
+    last: LastLine,
     tally: StepCounts,
-    faults: u64,
 ) -> Result<String, AllocError>
-    ensures { IfOk result (λ text. string_bytes text ≡ ends.last_line_of (told_in manner) tally faults) }
+    ensures { IfOk result (λ text. string_bytes text ≡ tallies.last_line (last_in last) tally) }
 {
-    match manner {
-        Manner::ByLines => done_line(alloc, tally.steps, tally.idle),
-        Manner::ThroughFaults => endured_line(alloc, tally.steps, tally.idle, faults),
-        Manner::InOneLine(words) => summary_line(alloc, words, tally),
+    match last {
+        LastLine::Steps => done_line(alloc, tally.steps, tally.idle),
+        LastLine::Faults => endured_line(alloc, tally),
+        LastLine::Seed(words) => summary_line(alloc, words, tally),
     }
 }
 
@@ -64,9 +60,15 @@ pub fn fault_line(alloc: Global, number: u64) -> Result<String, AllocError>
 }
 
 /// The line `done steps STEPS idle IDLE faults FAULTS`, ended by LF.
-pub fn endured_line(alloc: Global, steps: u64, idle: u64, faults: u64) -> Result<String, AllocError>
-    ensures { IfOk result (λ text. string_bytes text ≡ reports.endured_line steps idle faults) }
+pub fn endured_line(alloc: Global, tally: StepCounts) -> Result<String, AllocError>
+    ensures { IfOk result (λ text. string_bytes text ≡ tallies.endured_line tally) }
 {
+    let StepCounts {
+        steps,
+        idle,
+        faults,
+        ..
+    } = tally;
     format!(in alloc; "done steps {steps} idle {idle} faults {faults}\n")
 }
 

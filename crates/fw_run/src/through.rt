@@ -1,36 +1,36 @@
 //! The steps of a schedule are taken, through faults of the store or up to the first, and what comes of them is told.
-ghost use Rattle.std.specs.Prelude.{◌≡◌, ◌+◌, ◌≤◌, ℕ, false, [], IfOk, IsErrOf, IsSome};
+ghost use Rattle.std.specs.Prelude.{◌≡◌, ◌+◌, ◌≤◌, ℕ, false, IsErrOf, IsSome, OnOk};
 ghost use Rattle.fw_flow.specs.declared.step.Step.TheVariants.{Recover};
 ghost use Rattle.fw_flow.specs.Dataflow.{System, system_of};
 ghost use Rattle.fw_schedule.specs.Schedule.{steps_in, step_count, step_limit};
-ghost use Rattle.fw_model.specs.Machine.{first_state};
 ghost use Rattle.fw_keep.specs.Catalogue.{AreAscending, ids_of};
-ghost use Rattle.fw_keep.specs.Stored.{IsEmptyStore, IsStored};
+ghost use Rattle.fw_keep.specs.Stored.{IsStored};
 ghost use Rattle.fw_running.specs.declared.fault.EngineFault.{EngineFault as Fault};
 ghost use Rattle.fw_running.specs.declared.fault.EngineFault.TheVariants as EngineFault;
 ghost use Rattle.fw_engine.specs.Engine.{flow_of, keep_of, StandsFor, IsDamaged};
-ghost use Rattle.fw_run.specs.Enduring.{RoseBy, StaysOrRose};
-ghost use Rattle.fw_run.specs.Ends.{EndsRun, WritesLast, StaysIfInOneLine, last_line_of, seen};
-ghost use Rattle.fw_run.specs.Manner.{goes_on, told_in};
-ghost use Rattle.fw_run.specs.Performing.{HasRoom};
+ghost use Rattle.fw_run.specs.Enduring.{Point, RoseBy, StaysOrRose};
+ghost use Rattle.fw_run.specs.Ends.{EndsRun, WritesLast, StaysUnseen, seen};
+ghost use Rattle.fw_command.specs.Manner.{last_in, told_in};
+ghost use Rattle.fw_run.specs.Performing.{HasRoom, PrintsItem, FailsAsCounted};
 ghost use Rattle.fw_run.specs.Stopping.{MayCallIn};
-ghost use Rattle.fw_run.specs.Tallies.{AreOfSteps, tally_of};
-ghost use Rattle.fw_run.specs.Through.{PrintsThrough, TakesItems};
+ghost use Rattle.fw_run.specs.Tallies.{AreOfSteps, last_line as line_of_last};
+ghost use Rattle.fw_run.specs.Through.{TakesItems};
 ghost use Rattle.fw_run.specs.Fault.{faults_after_run};
+ghost use Rattle.fw_run.specs.Work.{IsStoreAt};
+ghost use Rattle.fw_command.specs.Command.{shown_by_effect};
 ghost use Rattle.fw_command.specs.Reading.{IsReadyToRun};
 
 use crate::fault::RunFault;
-use crate::manner::Manner;
 use crate::perform::perform_item;
 use crate::tally::StepCounts;
 use crate::text::{fault_line, last_line};
-use fw_command::Job;
+use fw_command::{Job, LastLine, Manner};
 use fw_engine::{Engine, EngineFault};
 use fw_outside::{OutFault, Sink, Store};
 use fw_schedule::Item;
 use std::alloc::Global;
 
-/// Takes the steps of the items over a store that is empty, tells them in this manner, and last writes what came of them. Where
+/// Takes the steps of the items over a store that is as the run asks where it begins, tells them in this manner, and last writes what came of them. Where
 /// the run goes on through faults of the store, their fault comes at the end.
 pub(crate) fn perform<K: Store, O: Sink>(
     alloc: Global,
@@ -40,11 +40,11 @@ pub(crate) fn perform<K: Store, O: Sink>(
     out: &mut O,
 ) -> Result<(), RunFault>
     requires ready { IsReadyToRun (system_of job.flow job.batches) job.items }
-    requires empty { IsEmptyStore (K.view store.old).records }
+    requires store { IsStoreAt (told_in manner).start (K.view store.old).records }
     ensures ends { EndsRun (IsSome (K.view store.new).records) (told_in manner) (system_of job.flow job.batches) job.items result (K.view store.old).faults
         (K.view store.new).faults (K.view store.new).records (K.view store.new).given (O.view out.old) (O.view out.new) }
     ensures told_before { IsSome (K.view store.new).records → IsSome (K.view store.old).records }
-    ensures nothing_told { (fault : Fault) → IsErrOf result (RunFault.Engine fault) → StaysIfInOneLine (told_in manner) out.old out.new }
+    ensures nothing_told { (fault : Fault) → IsErrOf result (RunFault.Engine fault) → manner.goes_on ≡ false → StaysUnseen manner.is_seen out.old out.new }
 {
     let Job {
         flow,
@@ -54,12 +54,11 @@ pub(crate) fn perform<K: Store, O: Sink>(
     let mut engine = Engine::new(alloc, flow, &batches)?;
     let mut tally = StepCounts::new();
     let items = items.as_slice();
-    let faults = take(alloc, manner, &mut engine, items, &mut tally, store, out)?;
-    end(alloc, manner, tally, faults, out)
+    take(alloc, manner, &mut engine, items, &mut tally, store, out)?;
+    end(alloc, manner.last, tally, out)
 }
 
-// Takes the steps of the items and counts them, and tells how often the store failed. Where one line tells all, their own lines go
-// nowhere.
+// Takes the steps of the items, from any point, and counts them on. Where they are not seen, their lines go nowhere.
 fn take<K: Store, O: Sink>(
     alloc: Global,
     manner: Manner,
@@ -68,32 +67,31 @@ fn take<K: Store, O: Sink>(
     tally: &mut StepCounts,
     store: &mut K,
     out: &mut O,
-) -> Result<u64, RunFault>
+) -> Result<(), RunFault>
     requires stored { IsStored (keep_of engine.old) (K.view store.old).records }
     requires in_order { AreAscending (ids_of (keep_of engine.old).entries) }
-    requires few { step_count items.now ≤ step_limit }
-    requires none { tally.old ≡ tally_of [] }
-    ensures taken { (sys : System) → StandsFor sys engine.old (K.view store.old).records (first_state sys)
-        → TakesItems (goes_on (told_in manner)) (IsSome (K.view store.new).records) sys items.now result tally.new
+    requires of_steps { AreOfSteps tally.old }
+    requires few { tally.old.steps + step_count items.now ≤ step_limit }
+    requires none { tally.old.faults ≡ 0 }
+    ensures taken { (sys : System) (from : Point) → from.counts ≡ tally.old → StandsFor sys engine.old (K.view store.old).records from.state
+        → TakesItems (shown_by_effect manner.goes_on) (IsSome (K.view store.new).records) sys from items.now result tally.new
         (RoseBy (K.view store.old).faults (K.view store.new).faults) (K.view store.new).records (K.view store.new).given
-        (seen (told_in manner) (O.view out.old)) (seen (told_in manner) (O.view out.new)) }
+        (seen manner.is_seen (O.view out.old)) (seen manner.is_seen (O.view out.new)) }
     ensures told_before { IsSome (K.view store.new).records → IsSome (K.view store.old).records }
-    ensures none { goes_on (told_in manner) ≡ false → IfOk result (λ faults. faults ≡ 0) }
-    ensures first { goes_on (told_in manner) ≡ false → (K.view store.new).faults ≡ faults_after_run result (K.view store.old).faults }
+    ensures none { manner.goes_on ≡ false → tally.new.faults ≡ 0 }
+    ensures first { manner.goes_on ≡ false → (K.view store.new).faults ≡ faults_after_run result (K.view store.old).faults }
     ensures rises { StaysOrRose (K.view store.old).faults (K.view store.new).faults }
-    ensures stays { StaysIfInOneLine (told_in manner) out.old out.new }
+    ensures stays { StaysUnseen manner.is_seen out.old out.new }
 {
-    match manner {
-        Manner::ByLines => take_items(alloc, false, engine, items, tally, store, out),
-        Manner::ThroughFaults => take_items(alloc, true, engine, items, tally, store, out),
-        Manner::InOneLine(_) => {
-            take_items(alloc, false, engine, items, tally, store, &mut Nowhere)
-        }
+    let goes_on = manner.goes_on;
+    match manner.is_seen {
+        true => take_items(alloc, goes_on, engine, items, tally, store, out),
+        false => take_items(alloc, goes_on, engine, items, tally, store, &mut Nowhere),
     }
 }
 
-// Takes the steps of the items, prints their lines and counts them, and tells how often the store failed; its first fault ends the
-// run, unless this is to go on.
+// Takes the steps of the items, from any point, prints their lines and counts them on; the first fault of the store ends the run, unless
+// this is to go on.
 fn take_items<K: Store, O: Sink>(
     alloc: Global,
     goes_on: bool,
@@ -102,28 +100,29 @@ fn take_items<K: Store, O: Sink>(
     tally: &mut StepCounts,
     store: &mut K,
     out: &mut O,
-) -> Result<u64, RunFault>
+) -> Result<(), RunFault>
     requires stored { IsStored (keep_of engine.old) (K.view store.old).records }
     requires in_order { AreAscending (ids_of (keep_of engine.old).entries) }
-    requires few { step_count items.now ≤ step_limit }
-    requires none { tally.old ≡ tally_of [] }
-    ensures taken { (sys : System) → StandsFor sys engine.old (K.view store.old).records (first_state sys)
-        → TakesItems goes_on (IsSome (K.view store.new).records) sys items.now result tally.new (RoseBy (K.view store.old).faults (K.view store.new).faults)
-        (K.view store.new).records (K.view store.new).given (O.view out.old) (O.view out.new) }
+    requires of_steps { AreOfSteps tally.old }
+    requires few { tally.old.steps + step_count items.now ≤ step_limit }
+    requires none { tally.old.faults ≡ 0 }
+    ensures taken { (sys : System) (from : Point) → from.counts ≡ tally.old → StandsFor sys engine.old (K.view store.old).records from.state
+        → TakesItems (shown_by_effect goes_on) (IsSome (K.view store.new).records) sys from items.now result tally.new
+        (RoseBy (K.view store.old).faults (K.view store.new).faults) (K.view store.new).records (K.view store.new).given
+        (O.view out.old) (O.view out.new) }
     ensures told_before { IsSome (K.view store.new).records → IsSome (K.view store.old).records }
-    ensures none { goes_on ≡ false → IfOk result (λ faults. faults ≡ 0) }
+    ensures none { goes_on ≡ false → tally.new.faults ≡ 0 }
     ensures first { goes_on ≡ false → (K.view store.new).faults ≡ faults_after_run result (K.view store.old).faults }
     ensures rises { StaysOrRose (K.view store.old).faults (K.view store.new).faults }
 {
-    let mut faults = 0u64;
     for item in items {
-        faults += take_item(alloc, goes_on, engine, item, tally, store, out)?;
+        take_item(alloc, goes_on, engine, item, tally, store, out)?;
     }
-    Ok(faults)
+    Ok(())
 }
 
-// Takes the steps of an item, prints their lines and counts them, and tells how often the store failed. Where the run goes on that is
-// never or once, in the last of the steps, and a line tells it.
+// Takes the steps of an item, prints their lines and counts them. Where the run goes on, the store failed never or once, in the last of
+// the steps, and a line tells it.
 fn take_item<K: Store, O: Sink>(
     alloc: Global,
     goes_on: bool,
@@ -132,7 +131,7 @@ fn take_item<K: Store, O: Sink>(
     tally: &mut StepCounts,
     store: &mut K,
     out: &mut O,
-) -> Result<u64, RunFault>
+) -> Result<(), RunFault>
     requires stored { IsStored (keep_of engine.old) (K.view store.old).records }
     requires in_order { AreAscending (ids_of (keep_of engine.old).entries) }
     requires room { HasRoom tally.old item.now }
@@ -142,11 +141,10 @@ fn take_item<K: Store, O: Sink>(
     ensures flow { flow_of engine.new ≡ flow_of engine.old }
     ensures of_steps { AreOfSteps tally.new }
     ensures few { tally.new.steps ≤ tally.old.steps + steps_in item.now }
-    ensures printed { PrintsThrough goes_on engine.old (K.view store.old).records item.now tally.old (RoseBy (K.view store.old).faults (K.view store.new).faults)
-        result engine.new (K.view store.new).records tally.new (O.view out.old) (O.view out.new) }
-    ensures once { IfOk result (λ count. count ≤ 1) }
-    ensures none { goes_on ≡ false → IfOk result (λ count. count ≡ 0) }
-    ensures faults { IfOk result (RoseBy (K.view store.old).faults (K.view store.new).faults) }
+    ensures printed { PrintsItem (shown_by_effect goes_on) engine.old (K.view store.old).records item.now tally.old
+        (RoseBy (K.view store.old).faults (K.view store.new).faults) result engine.new (K.view store.new).records tally.new (O.view out.old) (O.view out.new) }
+    ensures none { goes_on ≡ false → tally.new.faults ≡ tally.old.faults }
+    ensures counted { OnOk result (FailsAsCounted tally.old tally.new (K.view store.old).faults (K.view store.new).faults) }
     ensures first { goes_on ≡ false → (K.view store.new).faults ≡ faults_after_run result (K.view store.old).faults }
     ensures rises { StaysOrRose (K.view store.old).faults (K.view store.new).faults }
     ensures stops { IsErrOf result (RunFault.Engine EngineFault.StoreFault) → (goes_on ≡ false) × MayCallIn (flow_of engine.old) item.now }
@@ -154,12 +152,12 @@ fn take_item<K: Store, O: Sink>(
     ensures in_recovery { (id : ℕ) → IsErrOf result (RunFault.Engine (EngineFault.Damaged id)) → item.now ≡ Item.One Recover }
 {
     match perform_item(alloc, engine, item, tally, store, out) {
-        Ok(()) => Ok(0),
+        Ok(()) => Ok(()),
         Err(RunFault::Engine(EngineFault::StoreFault)) if goes_on => {
-            tally.steps += 1;
+            tally.count_fault();
             let line = fault_line(alloc, tally.steps)?;
             out.write(line.as_bytes())?;
-            Ok(1)
+            Ok(())
         }
         Err(fault) => Err(fault),
     }
@@ -168,16 +166,15 @@ fn take_item<K: Store, O: Sink>(
 // Writes the last line, and tells the fault of the store, if it failed.
 fn end<O: Sink>(
     alloc: Global,
-    manner: Manner,
+    last: LastLine,
     tally: StepCounts,
-    faults: u64,
     out: &mut O,
 ) -> Result<(), RunFault>
-    ensures { WritesLast (last_line_of (told_in manner) tally faults) faults result (O.view out.old) (O.view out.new) }
+    ensures { WritesLast (line_of_last (last_in last) tally) tally.faults result (O.view out.old) (O.view out.new) }
 {
-    let line = last_line(alloc, manner, tally, faults)?;
+    let line = last_line(alloc, last, tally)?;
     out.write(line.as_bytes())?;
-    if faults > 0 {
+    if tally.faults > 0 {
         return Err(RunFault::Engine(EngineFault::StoreFault));
     }
     Ok(())

@@ -1,19 +1,17 @@
 //! What a command does with its texts: they are read, and then it is printed what they ask for.
 ghost use Rattle.std.specs.Prelude.{◌≡◌, false, IfOk, IfErr, IsErrOf, IsSome};
-ghost use Rattle.fw_keep.specs.Stored.{IsEmptyStore};
 ghost use Rattle.fw_running.specs.declared.fault.EngineFault.{EngineFault as Fault};
 ghost use Rattle.fw_command.specs.Command.{asks_folder};
 ghost use Rattle.fw_command.specs.Reading.{IfJobRefused, read_faults_after};
 ghost use Rattle.fw_command.specs.Texts.{Refuses, AsksNoMore};
 ghost use Rattle.fw_command.specs.Words.{IsOfSize, command_in};
-ghost use Rattle.fw_run.specs.Work.{IsWork, IsReadyWork, EndsWork, StaysUnlessRun, StaysIfToldInOne};
+ghost use Rattle.fw_run.specs.Work.{IsWork, IsReadyWork, IsStoreFor, EndsWork, StaysUnlessRun, StaysIfUnseen};
 
 use crate::fault::RunFault;
-use crate::manner::Manner;
 use crate::through::perform;
 use fw_command::{
-    CommandWords, Fed, Job, JobFault, fetch_flow, list, print_denotation, read_fed, read_generated,
-    read_job,
+    CommandWords, Fed, Job, JobFault, LastLine, Manner, fetch_flow, list, print_denotation,
+    read_fed, read_generated, read_job,
 };
 use fw_flow::Flow;
 use fw_outside::{Folder, Sink, Store};
@@ -46,16 +44,19 @@ pub(crate) fn read_work<F: Folder>(
     ensures stays { asks_folder (command_in command.now) ≡ false → folder.new ≡ folder.old }
 {
     match command {
-        CommandWords::Run(names) => match read_job(alloc, names, folder) {
-            Ok(job) => Ok(Work::Run(Manner::ByLines, job)),
-            Err(fault) => Err(fault),
-        },
-        CommandWords::Endure(names) => match read_job(alloc, names, folder) {
-            Ok(job) => Ok(Work::Run(Manner::ThroughFaults, job)),
+        CommandWords::Run(manner, names) => match read_job(alloc, names, folder) {
+            Ok(job) => Ok(Work::Run(*manner, job)),
             Err(fault) => Err(fault),
         },
         CommandWords::Generate(words) => match read_generated(alloc, *words) {
-            Ok(job) => Ok(Work::Run(Manner::InOneLine(*words), job)),
+            Ok(job) => Ok(Work::Run(
+                Manner {
+                    goes_on: false,
+                    is_seen: false,
+                    last: LastLine::Seed(*words),
+                },
+                job,
+            )),
             Err(fault) => Err(fault),
         },
         CommandWords::Denote(names) => match read_fed(alloc, names, folder) {
@@ -69,7 +70,7 @@ pub(crate) fn read_work<F: Folder>(
     }
 }
 
-/// Prints what the work brings about; a run has its records in the store, which is empty.
+/// Prints what the work brings about; a run has its records in the store, which is as it asks where it begins.
 pub(crate) fn print_work<K: Store, O: Sink>(
     alloc: Global,
     work: Work,
@@ -77,11 +78,11 @@ pub(crate) fn print_work<K: Store, O: Sink>(
     out: &mut O,
 ) -> Result<(), RunFault>
     requires ready { IsReadyWork work }
-    requires empty { IsEmptyStore (K.view store.old).records }
+    requires store { IsStoreFor work (K.view store.old).records }
     ensures ends { EndsWork (IsSome (K.view store.new).records) work result (K.view store.old) (K.view store.new) (O.view out.old) (O.view out.new) }
     ensures told_before { IsSome (K.view store.new).records → IsSome (K.view store.old).records }
     ensures store_stays { StaysUnlessRun work store.old store.new }
-    ensures nothing_told { (fault : Fault) → IsErrOf result (RunFault.Engine fault) → StaysIfToldInOne work out.old out.new }
+    ensures nothing_told { (fault : Fault) → IsErrOf result (RunFault.Engine fault) → StaysIfUnseen work out.old out.new }
 {
     match work {
         Work::Run(manner, job) => perform(alloc, manner, job, store, out),

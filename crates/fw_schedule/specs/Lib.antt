@@ -1,4 +1,5 @@
 pub mod Grammar
+pub mod Making
 pub mod Names
 pub mod Schedule
 pub mod Stamps

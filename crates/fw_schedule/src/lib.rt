@@ -1,13 +1,16 @@
-//! The reader of schedules.
+//! Schedules: the reader of their texts, and those that are made in code.
 #![tactic(auto)]
 
 mod coordinates;
 mod item;
+pub mod laws;
+mod making;
 mod names;
 mod reader;
 mod schedule;
 mod step;
 
 pub use item::{Item, STEP_LIMIT};
+pub use making::ItemFault;
 pub use reader::{SCHEDULE_LIMIT, one_answer, read_schedule};
 pub use schedule::Schedule;

@@ -5,7 +5,7 @@ use crate::item::Item;
 use std::alloc::{AllocError, Global};
 use std::marker::Model;
 
-/// What a schedule asks for, in the order of its lines. Contracts see the list of its items.
+/// What a schedule asks for, in the order of its lines, read from a text or made in code. Contracts see the list of its items.
 #[derive(Debug, Drop)]
 pub struct Schedule {
     items: Vec<Item>,
@@ -21,7 +21,8 @@ impl Model for Schedule {
 }
 
 impl Schedule {
-    pub(crate) fn new(alloc: Global) -> Self
+    /// Nothing asked for yet, in memory from `alloc`. `Schedule::add` takes items of a flow.
+    pub fn new(alloc: Global) -> Self
         ensures { result ≡ [] }
     {
         Schedule {

@@ -5,7 +5,7 @@ use Rattle.fw_lines.specs.Faults.{IfRefused}
 use Rattle.fw_lines.specs.Inputs as inputs
 use Rattle.fw_schedule.specs.Grammar as schedules
 use Rattle.fw_command.proofs.TextLaws.{generated_read, flow_not_refused, inputs_not_refused, schedule_not_refused}
-use Rattle.fw_command.specs.Words.{seeded_in}
+use Rattle.fw_command.specs.Manner.{seeded_in}
 use Rattle.fw_command.proofs.reading.read_generated.Goals as goal
 
 -- what is true of a text and its sources is true of the same ones

@@ -6,7 +6,7 @@ use Rattle.fw_running.specs.Faults as engine
 use Rattle.fw_running.specs.Steps.{outcome_of}
 use Rattle.fw_run.proofs.FaultCounts.{told_after}
 use Rattle.fw_run.proofs.ItemPrintLaws.{auto-none, auto-more, auto-ends, auto-full, auto_begun, auto_stopped, few_stopped, few_taken, few_cut}
-use Rattle.fw_run.proofs.TallyLaws.{of_steps-more, steps-more}
+use Rattle.fw_run.proofs.TallyLaws.{of_steps-more, steps-more, faults-more}
 use Rattle.fw_run.proofs.perform.perform_auto.Goals as goal
 
 pub loop-init : goal.loop-init
@@ -18,6 +18,7 @@ loop-init g c = record {
   faults = refl;
   of_steps = c.requires.room.of_steps;
   counted = omega arith;
+  none = refl;
   auto = auto-none c.args.engine.now (g.K.Store.view c.args.store.now).records c.args.tally.now (g.O.Sink.view c.args.out.now) c.requires.room.of_steps.sum;
 }
 
@@ -36,6 +37,7 @@ loop-preserved g c =
       faults = c.in_ok-stepped.ensures.faults ∙ c.loop.invariant.faults;
       of_steps = of_steps-more c.loop.tally c.count.new.self (outcome_of c.in_ok-stepped.stepped) c.loop.invariant.of_steps c.count.ensures;
       counted = omega (arith, c.loop.invariant.counted, steps-more c.loop.tally c.count.new.self (outcome_of c.in_ok-stepped.stepped) c.count.ensures);
+      none = faults-more c.loop.tally c.count.new.self (outcome_of c.in_ok-stepped.stepped) c.count.ensures ∙ c.loop.invariant.none;
       auto = auto-more c.args.engine.now c.loop.engine c.auto_step.new.self (known c.args.store.now).records (known c.loop.store).records (known c.auto_step.new.store).records c.flow.result.now c.in_ok-stepped.stepped c.loop.counter
           c.args.tally.now c.loop.tally c.count.new.self (view c.args.out.now) (view c.loop.out) (view c.print.new.out) c.loop.invariant.auto c.count.ensures c.flow.ensures c.in_ok-stepped.ensures.ok (sym c.is_idle.ensures ∙ c.if-is_idle.false) c.in_ok-print.ensures;
     }
@@ -45,7 +47,7 @@ returns-in_err-stepped-clause-printed g c =
     let p = err_from_is_err_and c.from_residual.result c.from_residual.ensures.1 in
     let known = g.K.Store.view in
     let view = g.O.Sink.view in
-    rw (p.1, p.2) (auto_stopped (Unit {0}) c.args.engine.now c.loop.engine c.auto_step.new.self (known c.args.store.now).records (known c.loop.store).records (known c.auto_step.new.store).records c.loop.counter c.args.most c.args.tally.now c.loop.tally _ (view c.args.out.now) (view c.loop.out)
+    rw (p.1, p.2) (auto_stopped c.args.engine.now c.loop.engine c.auto_step.new.self (known c.args.store.now).records (known c.loop.store).records (known c.auto_step.new.store).records c.loop.counter c.args.most c.args.tally.now c.loop.tally _ (view c.args.out.now) (view c.loop.out)
     c.loop.invariant.auto c.loop-test.true c.in_err-stepped.ensures.calls c.in_err-stepped.ensures.faulted c.in_err-stepped.ensures.unharmed)
 
 pub returns-in_err-stepped-clause-few : goal.returns-in_err-stepped-clause-few
@@ -72,7 +74,7 @@ returns-in_err-print-clause-printed g c =
     let p = err_from_is_err_and c.from_residual-in_err-print.result c.from_residual-in_err-print.ensures.1 in
     let known = g.K.Store.view in
     let view = g.O.Sink.view in
-    rw (p.1, p.2) (auto_begun (Unit {0}) c.args.engine.now c.loop.engine c.auto_step.new.self (known c.args.store.now).records (known c.loop.store).records (known c.auto_step.new.store).records c.flow.result.now c.in_ok-stepped.stepped c.loop.counter c.args.most c.args.tally.now c.loop.tally c.count.new.self _
+    rw (p.1, p.2) (auto_begun c.args.engine.now c.loop.engine c.auto_step.new.self (known c.args.store.now).records (known c.loop.store).records (known c.auto_step.new.store).records c.flow.result.now c.in_ok-stepped.stepped c.loop.counter c.args.most c.args.tally.now c.loop.tally c.count.new.self _
     (view c.args.out.now) (view c.loop.out) (view c.print.new.out)
     c.loop.invariant.auto c.loop-test.true c.count.ensures c.flow.ensures c.in_ok-stepped.ensures.ok (sym c.is_idle.ensures ∙ c.if-is_idle.false) c.in_err-print.ensures)
 
@@ -97,3 +99,6 @@ returns-clause-few g c =
 pub returns-then-is_idle-clause-few : goal.returns-then-is_idle-clause-few
 returns-then-is_idle-clause-few g c =
     few_taken {T = Unit {0}} (Auto c.args.most) c.loop.counter c.args.tally.now c.loop.tally tt c.loop.invariant.of_steps c.loop.invariant.counted (omega (arith, c.loop-test.true))
+
+pub returns-in_err-print-clause-none : goal.returns-in_err-print-clause-none
+returns-in_err-print-clause-none g c = faults-more c.loop.tally c.count.new.self (outcome_of c.in_ok-stepped.stepped) c.count.ensures ∙ c.loop.invariant.none

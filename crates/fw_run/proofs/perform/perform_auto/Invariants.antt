@@ -17,5 +17,6 @@ invariant-loop g l = record {
   faults : (g.K.Store.view l.store).faults ≡ (g.K.Store.view l.fn.store).faults;
   of_steps : AreOfSteps l.tally;
   counted : l.tally.steps ≡ l.fn.tally.steps + l.counter;
+  none : l.tally.faults ≡ l.fn.tally.faults;
   auto : IsAutoSoFar l.fn.engine l.engine (g.K.Store.view l.fn.store).records (g.K.Store.view l.store).records l.counter l.fn.tally l.tally (g.O.Sink.view l.fn.out) (g.O.Sink.view l.out);
 }

@@ -5,7 +5,7 @@ use Rattle.fw_running.specs.declared.stepped.Stepped.{Stepped}
 use Rattle.fw_running.specs.Steps.{outcome_of}
 use Rattle.fw_run.proofs.FaultCounts.{told_after}
 use Rattle.fw_run.proofs.ItemPrintLaws.{step_stopped, step_begun, step_taken, few_stopped, few_taken, few_cut}
-use Rattle.fw_run.proofs.TallyLaws.{of_steps-more, steps-more}
+use Rattle.fw_run.proofs.TallyLaws.{of_steps-more, steps-more, faults-more}
 use Rattle.fw_run.proofs.perform.perform_step.Goals as goal
 
 pub returns-in_err-stepped-clause-printed : goal.returns-in_err-stepped-clause-printed
@@ -13,7 +13,7 @@ returns-in_err-stepped-clause-printed g c =
     let p = err_from_is_err_and c.from_residual.result c.from_residual.ensures.1 in
     let known = g.K.Store.view in
     let view = g.O.Sink.view in
-    rw (p.1, p.2) (step_stopped (Unit {0}) c.args.engine.now c.step.new.self (known c.args.store.now).records (known c.step.new.store).records c.args.step.now c.args.tally.now _ (view c.args.out.now) c.requires.room.of_steps.sum c.in_err-stepped.ensures.faulted c.in_err-stepped.ensures.unharmed)
+    rw (p.1, p.2) (step_stopped c.args.engine.now c.step.new.self (known c.args.store.now).records (known c.step.new.store).records c.args.step.now c.args.tally.now _ (view c.args.out.now) c.requires.room.of_steps.sum c.in_err-stepped.ensures.faulted c.in_err-stepped.ensures.unharmed)
 
 pub returns-in_err-stepped-clause-few : goal.returns-in_err-stepped-clause-few
 returns-in_err-stepped-clause-few g c =
@@ -31,7 +31,7 @@ returns-in_err-print-clause-printed g c =
     let p = err_from_is_err_and c.from_residual-in_err-print.result c.from_residual-in_err-print.ensures.1 in
     let known = g.K.Store.view in
     let view = g.O.Sink.view in
-    rw (p.1, p.2) (step_begun (Unit {0}) c.args.engine.now c.step.new.self (known c.args.store.now).records (known c.step.new.store).records c.args.step.now c.args.tally.now c.count.new.self c.flow.result.now c.in_ok-stepped.stepped _ (view c.args.out.now) (view c.print.new.out) c.flow.ensures c.in_ok-stepped.ensures.ok c.in_err-print.ensures)
+    rw (p.1, p.2) (step_begun c.args.engine.now c.step.new.self (known c.args.store.now).records (known c.step.new.store).records c.args.step.now c.args.tally.now c.count.new.self c.flow.result.now c.in_ok-stepped.stepped _ (view c.args.out.now) (view c.print.new.out) c.flow.ensures c.in_ok-stepped.ensures.ok c.in_err-print.ensures)
 
 pub returns-in_err-print-clause-few : goal.returns-in_err-print-clause-few
 returns-in_err-print-clause-few g c =
@@ -51,3 +51,9 @@ returns-clause-few g c =
     let one = outcome_of c.in_ok-stepped.stepped in
     few_taken {T = Unit {0}} (One c.args.step.now) 1 c.args.tally.now c.count.new.self tt (of_steps-more c.args.tally.now c.count.new.self one c.requires.room.of_steps c.count.ensures)
     (steps-more c.args.tally.now c.count.new.self one c.count.ensures) (omega arith)
+
+pub returns-clause-none : goal.returns-clause-none
+returns-clause-none g c = faults-more c.args.tally.now c.count.new.self (outcome_of c.in_ok-stepped.stepped) c.count.ensures
+
+pub returns-in_err-print-clause-none : goal.returns-in_err-print-clause-none
+returns-in_err-print-clause-none g c = faults-more c.args.tally.now c.count.new.self (outcome_of c.in_ok-stepped.stepped) c.count.ensures

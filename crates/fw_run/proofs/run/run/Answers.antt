@@ -1,7 +1,7 @@
 use Rattle.std.proofs.Common.{rules, ◌≡◌, Err, refl, sym, ap, subst}
 use Rattle.fw_run.proofs.AnswerLaws.{answers-done, answers-fault, answers-no_words, answers-not_read, answers-unread}
 use Rattle.fw_command.specs.declared.reading.JobFault.TheVariants as job
-use Rattle.fw_run.proofs.CallLaws.{folder_read}
+use Rattle.fw_run.proofs.CallLaws.{folder_read, store_for}
 use Rattle.fw_run.specs.declared.status.Status.{Status}
 use Rattle.fw_run.specs.Answers.{RunAnswers, known_by, outside_of}
 use Rattle.fw_run.specs.Call.{call_of}
@@ -9,6 +9,10 @@ use Rattle.fw_run.specs.Work.{IsWork}
 use Rattle.fw_command.specs.Texts.{Refuses}
 use Rattle.fw_command.specs.Words.{command_in, command_of, words_in}
 use Rattle.fw_run.proofs.run.run.Goals as goal
+
+-- the store holds no record
+pub print_work-requires-clause-store : goal.print_work-requires-clause-store
+print_work-requires-clause-store g c = store_for c.in-Ok.work (g.K.Store.view c.args.store.now).records c.requires
 
 -- the words are no command
 pub returns-in-Ok-None : goal.returns-in-Ok-None

@@ -10,7 +10,7 @@ pub returns-in-Run-clause-store_stays : goal.returns-in-Run-clause-store_stays
 returns-in-Run-clause-store_stays g c = rw c.in-Run.is tt
 
 pub returns-in-Run-clause-nothing_told : goal.returns-in-Run-clause-nothing_told
-returns-in-Run-clause-nothing_told g c fault e = rw c.in-Run.is (c.perform.ensures.nothing_told fault e)
+returns-in-Run-clause-nothing_told g c fault e = rw c.in-Run.is (λ off. c.perform.ensures.nothing_told fault e off)
 
 pub returns-in-Ok-clause-ends : goal.returns-in-Ok-clause-ends
 returns-in-Ok-clause-ends g c = rw c.in-Denote.is (record {

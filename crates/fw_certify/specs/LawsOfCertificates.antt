@@ -1,0 +1,43 @@
+-- The laws of certificates.
+use Rattle.std.specs.Prelude.{◌≡◌, ℕ, Bool, List}
+use Rattle.fw_flow.specs.declared.choice.Choice.{Choice}
+use Rattle.fw_flow.specs.declared.choice.Offer.{Offer}
+use Rattle.fw_flow.specs.declared.side.Side.{Side}
+use Rattle.fw_flow.specs.declared.trail.Lowering.{Lowering}
+use Rattle.fw_flow.specs.Dataflow.{System, Dataflow}
+use Rattle.fw_flow.specs.WellFormed.{IsWellFormed}
+use Rattle.fw_model.specs.Machine.{Machine}
+use Rattle.fw_model.specs.Covers.{covers_in}
+use Rattle.fw_model.specs.Choice.{View, IsCandidate, IsConsistentBy, IsLargestBy, IsLargest}
+use Rattle.fw_model.specs.Offers.{IsOffered, covers_of}
+use Rattle.fw_model.specs.Certificates.{IsCertificate, IsDeadEnd, IsTrailBy}
+
+-- a certificate shows that its choice is the largest of what nodes offer: neither that records ascend nor that some choice is
+-- consistent is asked
+abbrev pub CertificateShowsLargest : Type 0
+CertificateShowsLargest = (flow : Dataflow) (offers : List Offer) (ls : List Lowering) (end : Choice) → IsWellFormed flow
+    → IsCertificate flow (covers_of flow offers) (IsOffered flow offers) ls end → IsLargestBy flow (covers_of flow offers) (IsOffered flow offers) end
+
+-- and of what the machine offers in a state
+abbrev pub CertificateOfStateShowsLargest : Type 0
+CertificateOfStateShowsLargest = (sys : System) (state : Machine) (lost : ℕ → Bool) (view : View) (ls : List Lowering) (end : Choice)
+    → IsWellFormed sys.flow → IsCertificate sys.flow (covers_in sys state) (IsCandidate sys state lost view) ls end
+    → IsLargest sys state (IsCandidate sys state lost view) end
+
+-- a dead end shows that no choice is consistent
+abbrev pub DeadEndShowsNone : Type 0
+DeadEndShowsNone = (flow : Dataflow) (offers : List Offer) (ls : List Lowering) (side : Side) (choice : Choice) → IsWellFormed flow
+    → IsDeadEnd flow (covers_of flow offers) (IsOffered flow offers) ls side
+    → IsConsistentBy flow (covers_of flow offers) (IsOffered flow offers) choice → ⊥
+
+-- the trail of a descent is a certificate
+abbrev pub TrailIsCertificate : Type 0
+TrailIsCertificate = (flow : Dataflow) (offers : List Offer) (trail : List Lowering) (end : Choice)
+    → IsTrailBy flow (covers_of flow offers) (IsOffered flow offers) trail end
+    → IsCertificate flow (covers_of flow offers) (IsOffered flow offers) trail end
+
+-- two certificates of what is offered end at one choice
+abbrev pub CertificatesAgree : Type 0
+CertificatesAgree = (flow : Dataflow) (offers : List Offer) (ls ms : List Lowering) (one other : Choice) → IsWellFormed flow
+    → IsCertificate flow (covers_of flow offers) (IsOffered flow offers) ls one
+    → IsCertificate flow (covers_of flow offers) (IsOffered flow offers) ms other → one ≡ other

@@ -97,6 +97,9 @@ write_both() {
     { cat "$top/crates.txt" && echo "both: $(sed -n 's/^falkirk\(_disk\)\{0,1\}: *//p' "$top/crates.txt" | tr ' ' '\n' | sort -u | tr '\n' ' ')"; } >"$room/repo/crates.txt"
     for it in falkirk falkirk_disk; do
         sed -e '/^#!\[tactic(auto)\]$/d' -e 's/^fn main(/pub fn start(/' "$top/crates/$it/src/main.rt" >"$both/$it.rt" || return
+        for file in "$top/crates/$it/src/"*.rt; do
+            [ "$file" = "$top/crates/$it/src/main.rt" ] || { mkdir -p "$both/$it" && cp "$file" "$both/$it/"; } || return
+        done
     done
     cat >"$both/main.rt" <<'END'
 //! Both programs: which one, the name tells by which it is called.

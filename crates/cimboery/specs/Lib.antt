@@ -28,8 +28,12 @@ pub use Rattle.fw_flow.specs.Restoring
 pub use Rattle.fw_flow.specs.SentTable
 pub use Rattle.fw_flow.specs.Sources
 pub use Rattle.fw_flow.specs.WellFormed
+pub use Rattle.fw_flow_text.specs.BatchesText
+pub use Rattle.fw_flow_text.specs.FlowText
 pub use Rattle.fw_flow_text.specs.Grammar as FlowTexts
+pub use Rattle.fw_flow_text.specs.Spelled
 pub use Rattle.fw_schedule.specs.Grammar as ScheduleTexts
+pub use Rattle.fw_schedule.specs.ItemText
 pub use Rattle.fw_schedule.specs.Making
 pub use Rattle.fw_schedule.specs.Schedule
 pub use Rattle.fw_model.specs.Acknowledgements

@@ -5,6 +5,8 @@
 //!   `Flow::add_batch` or read by `read_batches`; `Selection`, what a select does to a rec.
 //! - A schedule: `Schedule::new` and `Schedule::add` make one in code, `read_schedule` reads one from a text; an `Item` of it is a
 //!   step, or `auto` and how many steps it may take.
+//! - Texts: `FlowText`, `BatchesText`, `ScheduleText`, `ItemText` and `StepText` print what was made as the readers take it, by the
+//!   laws `flow_is_read_back`, `batches_are_read_back` and `schedule_is_read_back`.
 //! - A run: `Engine::new` takes a flow and batches of which `Flow::accepts` is true, as it is of those of `Flow::add_batch`; `Engine::step` takes a `Step` and answers
 //!   `Stepped`, with the `Effect` that it shows, or an `EngineFault`; `Engine::auto_step` takes the first step that is enabled.
 //!   Each call is lent the `Store` of what nodes write, always the same one, which at first holds no record.
@@ -27,7 +29,8 @@ pub use fw_flow::{
     BatchFault, BuildFault, Causes, Choice, Cut, Cuts, Domain, Edge, EdgeId, Flow, FlowBuilder,
     Fronts, Kind, Loop, LoopId, Message, Name, Node, NodeId, Nodes, Policy, RawKind, Step,
 };
-pub use fw_flow_text::{FLOW_LIMIT, read_flow};
+pub use fw_flow_text::laws::{batches_are_read_back, flow_is_read_back};
+pub use fw_flow_text::{BatchesText, FLOW_LIMIT, FlowText, read_flow};
 pub use fw_frontier::Front;
 pub use fw_headline::laws::every_run_is_right;
 pub use fw_keep::{Entry, Written};
@@ -37,5 +40,9 @@ pub use fw_outside::{
     Store, StreamSink,
 };
 pub use fw_run::{Status, falkirk};
-pub use fw_schedule::{Item, ItemFault, SCHEDULE_LIMIT, STEP_LIMIT, Schedule, read_schedule};
+pub use fw_schedule::laws::schedule_is_read_back;
+pub use fw_schedule::{
+    Item, ItemFault, ItemText, SCHEDULE_LIMIT, STEP_LIMIT, Schedule, ScheduleText, StepText,
+    read_schedule,
+};
 pub use fw_time::{Bounds, Stamp};

@@ -1,1 +1,9 @@
 pub mod CertificateLaws
+pub mod RangeLaws
+pub mod LeftLaws
+pub mod BeginLaws
+pub mod EntryLaws
+pub mod JudgeLaws
+pub mod FollowLaws
+pub mod StateLaws
+pub mod CodeLaws

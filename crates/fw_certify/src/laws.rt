@@ -1,5 +1,5 @@
 //! The laws of certificates: each function's `ensures` is one law, and its body is empty.
-ghost use Rattle.fw_certify.specs.LawsOfCertificates.{CertificateOfStateShowsLargest, CertificateShowsLargest, CertificatesAgree, DeadEndShowsNone, TrailIsCertificate};
+ghost use Rattle.fw_certify.specs.LawsOfCertificates.{CertificateOfState, CertificateOfStateShowsLargest, CertificateShowsLargest, CertificatesAgree, DeadEndOfState, DeadEndShowsNone, TrailIsCertificate};
 
 /// A certificate shows that its choice is the largest of what nodes offer.
 pub fn certificate_shows_largest()
@@ -24,4 +24,14 @@ pub fn trail_is_certificate()
 /// Two certificates of what is offered end at one choice.
 pub fn certificates_agree()
     ensures { CertificatesAgree }
+{}
+
+/// Where data are what the machine offers in a state, a certificate over the data is one over the state, and back.
+pub fn certificate_of_state()
+    ensures { CertificateOfState }
+{}
+
+/// And a dead end over the data is one over the state.
+pub fn dead_end_of_state()
+    ensures { DeadEndOfState }
 {}

@@ -1,7 +1,16 @@
-//! Certificates: lowerings that show that a choice is the largest, as data.
+//! Certificates: lowerings that show that a choice is the largest, as data that a second checker tests.
 #![tactic(auto)]
 
+mod begin;
 mod certificate;
+mod checker;
+mod cuts;
+mod ends;
+mod entry;
+mod judge;
 pub mod laws;
+mod left;
+mod same;
 
 pub use certificate::{Certificate, explain};
+pub use checker::{Verdict, is_dead_end, verify, verify_counted};

@@ -34,6 +34,7 @@ use Rattle.fw_keep.specs.declared.fault.KeepFault.TheVariants as keep_fault
 use Rattle.fw_keep.specs.Catalogue.{KeepState}
 use Rattle.fw_keep.specs.Stored as stored
 use Rattle.fw_keep.specs.Stored.{Records, KeepsBytes, Sweeps, without_ids}
+use Rattle.fw_model.proofs.FloorLaws.{low-floor, watermark-holds}
 use Rattle.fw_model.specs.Auto.{IsIdle}
 use Rattle.fw_model.specs.Choice.{cut_of, IsWatermark, IsChoiceOf, IsCanonicalCut}
 use Rattle.fw_model.specs.Machine.{Machine, events, front_of, AreCanonical}
@@ -289,7 +290,12 @@ after-stands sys state old records between choice traces drops planned0 g t0 is 
         stored = subst (λ es. AreStored sys next records es (uncollected next)) (sym left)
             (records_after_collection sys s.apart.well_formed state s.apart.reached next (lows choice) leads entries s.apart.entries records s.apart.stored drops planned);
       };
-      traces = λ p l. all_collected_traces-stand sys s.apart.well_formed state s.apart.reached low rises old.traces traces t.settled p l (s.traces p l);
+      traces = record {
+        floor = low;
+        above = low-floor sys next s.apart.well_formed (reached-next sys state next Collect (did (lows choice)) s.apart.reached leads);
+        each = λ p l. all_collected_traces-stand sys s.traces.floor s.apart.well_formed state s.apart.reached low
+            (watermark-holds sys state s.traces.floor next (lows choice) s.traces.above leads) old.traces traces t.settled p l (s.traces.each p l);
+      };
       lost = λ p full t. both-lead (s.lost p full t) ((k.lost p t).1, (k.lost p t).0);
     }
 

@@ -17,23 +17,22 @@ use Rattle.fw_flow.specs.declared.event.Event.{Event}
 use Rattle.fw_flow.specs.declared.event.Message.{Message}
 use Rattle.fw_flow.specs.declared.kind.Kind.{Kind}
 use Rattle.fw_flow.specs.declared.kind.Kind.TheVariants.{Input, OutputEpoch, OutputNumber, Sequence}
-use Rattle.fw_flow.specs.Dataflow.{System, Dataflow, kind_of, sender, receiver, bounds_of, is_input_kind, is_output_kind, is_sequence_kind, greatest_number, HasEpochs}
+use Rattle.fw_flow.specs.Dataflow.{System, Dataflow, kind_of, sender, receiver, bounds_of, is_input_kind, is_output_kind, is_sequence_kind, greatest_number, HasEpochs, policy_of}
 use Rattle.fw_flow.specs.NodeFunction.{event_node, event_stamp}
 use Rattle.fw_flow.specs.Projection.{IsSentTable}
 use Rattle.fw_model.specs.Choice.{kept, IsCandidate, IsConsistentBy, IsLargestBy, IsLargest}
-use Rattle.fw_model.specs.Choosing.{CanChoose}
+use Rattle.fw_model.specs.Choosing.{CanChoose, choice_at}
 use Rattle.fw_model.specs.Covers.{stamp_of_notice}
-use Rattle.fw_model.specs.Thinned.{IsThinned}
-use Rattle.fw_model.specs.EventStamps.{StandForSent, StandForNumbered, AreStampsOf, IsOfCause}
+use Rattle.fw_model.specs.EventStamps.{StandForSent, StandForNumbered, AreStampsOf, IsOfCause, base_of_sent, AreStampsIf}
 use Rattle.fw_model.specs.History.{injected_count, delivered_messages, IsLegal}
 use Rattle.fw_model.specs.Machine.{Machine, SerialEvent, events, front_of}
-use Rattle.fw_model.specs.Offers.{AreAtEdgeStamps, HasOneCause, IsOffered, AreOffersIn, RecordsAscend, covers_of, counted_on_edge, stamps_on}
+use Rattle.fw_model.specs.Offers.{AreAtEdgeStamps, HasOneCause, IsOffered, AreOffersAbove, RecordsAscend, covers_of, counted_on_edge, stamps_on}
 use Rattle.fw_model.proofs.AskedLaws.{reached-all}
 use Rattle.fw_model.proofs.ChoosingLaws.{recovery-has_choice}
 use Rattle.fw_model.proofs.DomainLaws.{has_epochs}
 use Rattle.fw_model.proofs.InputLaws.{injected-few}
 use Rattle.fw_model.proofs.LegalLaws.{legal-in_domain}
-use Rattle.fw_model.proofs.OfferLaws.{consistent-same, largest-same}
+use Rattle.fw_model.proofs.PoorerLaws.{consistent-above, largest-above}
 use Rattle.fw_model.proofs.ThinnedLaws.{each-contained}
 use Rattle.fw_policy.specs.declared.view.Border.{Border}
 use Rattle.fw_policy.specs.declared.view.Border.TheVariants.{Inner, Source, Output}
@@ -46,7 +45,7 @@ use Rattle.fw_policy.proofs.ReadLaws.{entries-read}
 use Rattle.fw_keep.specs.declared.entry.Entry.{Entry}
 use Rattle.fw_keep.specs.Stored.{Records}
 use Rattle.fw_progress.specs.Counts.{sent_of}
-use Rattle.fw_progress.specs.Trace.{IsTraceOf}
+use Rattle.fw_progress.specs.Trace.{IsTraceIf}
 use Rattle.fw_border.specs.Outputs.{OutputState}
 use Rattle.fw_border.specs.Sources.{SourceState}
 use Rattle.fw_stands.specs.Parts.{IsOutputOf, IsSourceOf}
@@ -57,23 +56,25 @@ use Rattle.fw_choose.specs.Chosen.{is_lost, counts_as_failed, IsChosen, IsChosen
 use Rattle.fw_running.specs.Kept.{source_of, output_of, lost_at, is_down}
 use Rattle.fw_running.specs.Shaped.{IsShaped}
 use Rattle.fw_running.specs.Stands.{Stands}
+use Rattle.fw_model.specs.Writes.{takes_checkpoints}
+use Rattle.fw_model.specs.Thinned.{IsThinnedIf}
 
 -- ---- the choice
 
 -- some choice is consistent in each reached state, so the largest of what is offered is the machine's
 largest-in : {E : Type 0} (sys : System) (records : Option Records) (state : Machine) (running : Running) (lost : ℕ → Bool) (os : List Offer) (r : Result Choice E)
-    → Stands sys running records state → AreOffersIn sys state lost os
+    (floor : Choice) → Stands sys running records state → AreOffersAbove sys state lost floor os
     → ((some : Choice) → RecordsAscend sys.flow os → IsConsistentBy sys.flow (covers_of sys.flow os) (IsOffered sys.flow os) some
     → IfOk r (IsLargestBy sys.flow (covers_of sys.flow os) (IsOffered sys.flow os)))
     → IfOk r (λ choice. IsLargest sys state (IsCandidate sys state lost kept) choice)
-largest-in sys records state running lost os r s a give =
+largest-in sys records state running lost os r floor s a give =
     let w = s.apart.well_formed in
     let reached = s.apart.reached in
     let can : CanChoose sys state lost = recovery-has_choice sys w reached.0 reached.1 state reached.2 lost in
     let some = can.choice in
-    let by_offers = (consistent-same sys state lost os some w.flow a).1 can.consistent in
+    let by_offers = consistent-above sys state lost floor os some w.flow a can.consistent in
     IfOk-weaker r (IsLargestBy sys.flow (covers_of sys.flow os) (IsOffered sys.flow os)) (λ choice. IsLargest sys state (IsCandidate sys state lost kept) choice)
-    (λ choice g. (largest-same sys state lost os choice w.flow a).0 g) (give some a.ascending by_offers)
+    (λ choice g. largest-above sys state lost floor os choice w.flow a g) (give some a.ascending by_offers)
 
 chosen-is : (lost : Lost) (sys : System) (state : Machine) (choice : Choice) → IsLargest sys state (IsCandidate sys state (is_lost lost state) kept) choice → IsChosen lost sys state choice
 chosen-is Failed sys state choice k = k
@@ -81,11 +82,12 @@ chosen-is All sys state choice k = k
 
 -- the views and entries are what is known in the state
 view-of : (sys : System) (records : Option Records) (state : Machine) (running : Running) (lost : Lost) (view : List NodeView) (entries : List Entry)
-    → AreViewsBy running lost (length running.flow.nodes) view → entries ≡ running.parts.keep.entries → Stands sys running records state
-    → IsViewOf sys state (is_lost lost state) view entries
+    → AreViewsBy running lost (length running.flow.nodes) view → entries ≡ running.parts.keep.entries → (s : Stands sys running records state)
+    → IsViewOf sys state (is_lost lost state) s.traces.floor view entries
 view-of sys records state running lost view entries v e s = record {
   well_formed = s.apart.well_formed;
   reached = s.apart.reached;
+  above = s.traces.above;
   one_each = v.one_each ∙ ap (λ (f : Dataflow). length f.nodes) s.apart.flow;
   nodes = v.of_state sys records state s;
   written = entries-read sys state entries (uncollected state) (subst (λ es. AreEntriesOf sys state es (uncollected state)) (sym e) s.apart.entries);
@@ -94,18 +96,22 @@ view-of sys records state running lost view entries v e s = record {
 -- so the choice is the one of each state
 pub chosen-by : {E : Type 0} (running : Running) (lost : Lost) (view : List NodeView) (entries : List Entry) (os : List Offer) (r : Result Choice E)
     → AreViewsBy running lost (length running.flow.nodes) view → entries ≡ running.parts.keep.entries
-    → ((sys : System) (state : Machine) (failed : ℕ → Bool) → sys.flow ≡ running.flow → IsViewOf sys state failed view entries → AreOffersIn sys state failed os)
+    → ((sys : System) (state : Machine) (failed : ℕ → Bool) (floor : List Front) → sys.flow ≡ running.flow → (known : IsViewOf sys state failed floor view entries)
+    → AreOffersAbove sys state failed (choice_at floor known.above.notices) os)
     → ((some : Choice) → RecordsAscend running.flow os → IsConsistentBy running.flow (covers_of running.flow os) (IsOffered running.flow os) some
     → IfOk r (IsLargestBy running.flow (covers_of running.flow os) (IsOffered running.flow os)))
     → IfOk r (IsChosenBy running lost)
+unfolding view-of
 chosen-by running lost view entries os (Err x) v e exact give = tt
 chosen-by running lost view entries os (Ok choice) v e exact give = λ sys records state s.
-    let a : AreOffersIn sys state (is_lost lost state) os = exact sys state (is_lost lost state) (sym s.apart.flow) (view-of sys records state running lost view entries v e s) in
+    let floor : Choice = choice_at s.traces.floor s.traces.above.notices in
+    let a : AreOffersAbove sys state (is_lost lost state) floor os =
+    exact sys state (is_lost lost state) s.traces.floor (sym s.apart.flow) (view-of sys records state running lost view entries v e s) in
     let given : (some : Choice) → RecordsAscend sys.flow os → IsConsistentBy sys.flow (covers_of sys.flow os) (IsOffered sys.flow os) some
     → IsLargestBy sys.flow (covers_of sys.flow os) (IsOffered sys.flow os) choice =
     subst (λ f. (some : Choice) → RecordsAscend f os → IsConsistentBy f (covers_of f os) (IsOffered f os) some → IsLargestBy f (covers_of f os) (IsOffered f os) choice) s.apart.flow give in
     let r : Result Choice ℕ = Ok choice in
-    chosen-is lost sys state choice (largest-in sys records state running (is_lost lost state) os r s a given)
+    chosen-is lost sys state choice (largest-in sys records state running (is_lost lost state) os r floor s a given)
 
 -- ---- what fits the flow
 
@@ -124,11 +130,11 @@ fit-more flow n m [] node a e i =
     let same : m ≡ n = omega arith in (subst (λ k. IsViewFor flow k node) same i, tt)
 fit-more flow n m (v ∷ view) node a e i = (a.0, fit-more flow (suc n) m view node a.1 (omega arith) i)
 
-known-more : (sys : System) (state : Machine) (lost : ℕ → Bool) (n m : ℕ) (view : List NodeView) (node : NodeView) → AreNodeViewsFrom sys state lost n view
-    → n + length view ≡ m → IsNodeViewOf sys state lost m node → AreNodeViewsFrom sys state lost n (view ++ node ∷ [])
-known-more sys state lost n m [] node a e i =
-    let same : m ≡ n = omega arith in (subst (λ k. IsNodeViewOf sys state lost k node) same i, tt)
-known-more sys state lost n m (v ∷ view) node a e i = (a.0, known-more sys state lost (suc n) m view node a.1 (omega arith) i)
+known-more : (sys : System) (state : Machine) (lost : ℕ → Bool) (floor : List Front) (n m : ℕ) (view : List NodeView) (node : NodeView) → AreNodeViewsFrom sys state lost floor n view
+    → n + length view ≡ m → IsNodeViewOf sys state lost floor m node → AreNodeViewsFrom sys state lost floor n (view ++ node ∷ [])
+known-more sys state lost floor n m [] node a e i =
+    let same : m ≡ n = omega arith in (subst (λ k. IsNodeViewOf sys state lost floor k node) same i, tt)
+known-more sys state lost floor n m (v ∷ view) node a e i = (a.0, known-more sys state lost floor (suc n) m view node a.1 (omega arith) i)
 
 pub views_none : (running : Running) (lost : Lost) → AreViewsBy running lost 0 []
 views_none running lost = record { one_each = refl; of_flow = tt; of_state = λ sys records state s. tt }
@@ -139,7 +145,7 @@ views_more running lost n p view next node v at fits known is =
     subst (AreViewsBy running lost (n + 1)) (sym is) (record {
       one_each = length-append view (node ∷ []) ∙ ap (λ k. k + 1) v.one_each;
       of_flow = fit-more running.flow 0 p view node v.of_flow (omega (arith, v.one_each, at)) fits;
-      of_state = λ sys records state s. known-more sys state (is_lost lost state) 0 p view node (v.of_state sys records state s) (omega (arith, v.one_each, at)) (known sys records state s);
+      of_state = λ sys records state s. known-more sys state (is_lost lost state) s.traces.floor 0 p view node (v.of_state sys records state s) (omega (arith, v.one_each, at)) (known sys records state s);
     })
 
 -- ---- what is of the domains
@@ -236,16 +242,17 @@ no-both : (kind : Kind) → is_input_kind kind ≡ true → is_sequence_kind kin
 no-both Input i s = both_ways false refl s
 no-both kind i s = both_ways false refl i
 
-pub stamps-stay : (sys : System) (h : List Event) (p : ℕ) (base : Frontier) (raw : Stamps) → AreStampsOf sys h p base raw → AreStampsOf sys h p base (of_domains sys.flow p raw)
-stamps-stay sys h p base raw s = record {
+pub stamps-stay : (whole : Bool) (sys : System) (h : List Event) (p : ℕ) (base : Frontier) (raw : Stamps) → AreStampsIf whole sys h p base raw
+    → AreStampsIf whole sys h p base (of_domains sys.flow p raw)
+stamps-stay whole sys h p base raw s = record {
   on_edges = (edges-fit flow false raw.delivered, edges-fit flow single raw.sent);
   in_domain = stamps-fit flow p raw.notified;
-  delivered = λ d e. subst (λ (ms : List Counted). IsThinned base (map (λ (m : Message). m.at) (delivered_messages h d)) (stamps_on d ms))
+  delivered = λ d e. subst (λ (ms : List Counted). IsThinnedIf whole base (map (λ (m : Message). m.at) (delivered_messages h d)) (stamps_on d ms))
       (sym (all-on_edges flow raw.delivered s.on_edges.0)) (s.delivered d e);
-  notified = subst (λ (ts : List Stamp). IsThinned base (flat_map (stamp_of_notice p) h) ts)
+  notified = subst (λ (ts : List Stamp). IsThinnedIf whole base (flat_map (stamp_of_notice p) h) ts)
       (sym (filter-all (in_domain (bounds_of flow p)) raw.notified s.in_domain)) s.notified;
-  sent = λ n e l k. subst (λ (ms : List Counted). StandForSent sys h p base e ms) (sym (by single refl e l k n)) (s.sent n e l k);
-  numbered = λ q e l k. subst (λ (ms : List Counted). StandForNumbered sys h e ms) (sym (whole single refl q)) (s.numbered q e l k);
+  sent = λ n e l k. subst (λ (ms : List Counted). StandForSent whole sys h p (base_of_sent whole sys.flow p base) e ms) (sym (by single refl e l k n)) (s.sent n e l k);
+  numbered = λ q e l k. subst (λ (ms : List Counted). StandForNumbered sys h e ms) (sym (all_of single refl q)) (s.numbered q e l k);
 }
   where
     flow : Dataflow
@@ -266,9 +273,9 @@ stamps-stay sys h p base raw s = record {
         (each-kept (λ (m : Counted). in_domain (bounds_of flow (receiver flow m.edge)) m.at ≡ true) (λ (m : Counted). m.edge == e) raw.sent s.on_edges.1)
         (s.sent n e l k).of_cause))
 
-    whole : (b : Bool) → single ≡ b → is_sequence_kind (kind_of sys.flow p) ≡ true → filter (is_on_its_edge flow single) raw.sent ≡ raw.sent
-    whole false i q = ap (λ b. filter (is_on_its_edge flow b) raw.sent) i ∙ all-on_edges flow raw.sent s.on_edges.1
-    whole true i q = absurd (no-both (kind_of flow p) i q)
+    all_of : (b : Bool) → single ≡ b → is_sequence_kind (kind_of sys.flow p) ≡ true → filter (is_on_its_edge flow single) raw.sent ≡ raw.sent
+    all_of false i q = ap (λ b. filter (is_on_its_edge flow b) raw.sent) i ∙ all-on_edges flow raw.sent s.on_edges.1
+    all_of true i q = absurd (no-both (kind_of flow p) i q)
 
 border-is : (sys : System) (state : Machine) (p : ℕ) (source : SourceState) (output : OutputState) (kind : Kind) (x : Border) → IsBorderBy source output kind x → IsSourceOf sys state p source
     → (is_output_kind kind ≡ true → IsOutputOf sys state p output) → injected_count p (events state.history) ≤ greatest_number → IsBorderOf sys state p kind x
@@ -344,7 +351,8 @@ lost-in_domain sys records state running p t s lost =
 
 -- what is known of a node is so in each state for which the engine stands
 pub view-known : (running : Running) (lost : Lost) (p : ℕ) (raw : Stamps) (node : NodeView) → p < length running.flow.nodes
-    → ((sys : System) (h : List Event) (base : Frontier) → sys.flow ≡ running.flow → HasEpochs sys → IsLegal sys h → IsTraceOf sys h p base running.traces → AreStampsOf sys h p base raw)
+    → ((whole : Bool) (sys : System) (h : List Event) (base : Frontier) → sys.flow ≡ running.flow → HasEpochs sys → IsLegal sys h → IsTraceIf whole sys h p base running.traces
+    → AreStampsIf whole sys h p base raw)
     → node.stamps ≡ of_domains running.flow p raw → node.table ≡ sent_of running.progress.counts p
     → node.settled ≡ front_of running.progress.settled p → node.low ≡ front_of running.parts.low p → IsBorderBy (source_of running p) (output_of running p) (kind_of running.flow p) node.border
     → node.lost ≡ filter (in_domain (bounds_of running.flow p)) (lost_at running p) → node.failed ≡ counts_as_failed lost (is_down running p) → IsViewBy running lost p node
@@ -354,9 +362,10 @@ view-known running lost p raw node there given stamps table settled low border l
     let legal = legal-of sys records state running s in
     let l : p < length sys.flow.nodes = subst (λ (f : Dataflow). p < length f.nodes) s.apart.flow there in
     let few : injected_count p h ≤ greatest_number = omega (arith, injected-few sys h legal p, w.few p) in
+    let takes = takes_checkpoints (policy_of sys.flow p) in
     record {
-      stamps = subst (λ (all : Stamps). AreStampsOf sys h p (base_of sys state p) all) (sym (stamps ∙ ap (λ f. of_domains f p raw) s.apart.flow))
-          (stamps-stay sys h p (base_of sys state p) raw (given sys h (base_of sys state p) (sym s.apart.flow) (has_epochs sys w) legal (s.traces p l)));
+      stamps = subst (λ (all : Stamps). AreStampsOf sys h p (base_of sys s.traces.floor state p) all) (sym (stamps ∙ ap (λ f. of_domains f p raw) s.apart.flow))
+          (stamps-stay takes sys h p (base_of sys s.traces.floor state p) raw (given takes sys h (base_of sys s.traces.floor state p) (sym s.apart.flow) (has_epochs sys w) legal (s.traces.each p l)));
       table = λ k. subst (λ t. IsSentTable sys h p t) (sym table) (s.apart.progress.counts.sent p l (is-sequence (kind_of sys.flow p) k));
       settled = settled ∙ ap (λ fs. front_of fs p) s.apart.settled;
       low = low ∙ ap (λ fs. front_of fs p) s.apart.low;

@@ -47,15 +47,15 @@ IsChosenBy running lost choice =
 -- the view is that of node p in each state for which the engine stands
 abbrev pub IsViewBy : Running → Lost → ℕ → NodeView → Type 0
 IsViewBy running lost p node =
-    (sys : System) (records : Option Records) (state : Machine) → Stands sys running records state
-    → IsNodeViewOf sys state (is_lost lost state) p node
+    (sys : System) (records : Option Records) (state : Machine) (stands : Stands sys running records state)
+    → IsNodeViewOf sys state (is_lost lost state) stands.traces.floor p node
 
 -- The views are those of so many nodes, the first ones, in the flow and in each state for which the engine stands.
 pub record AreViewsBy (running : Running) (lost : Lost) (count : ℕ) (view : List NodeView) : Type 0 where
   pub one_each : length view ≡ count
   pub of_flow : AreViewsFrom running.flow 0 view
-  pub of_state : (sys : System) (records : Option Records) (state : Machine) → Stands sys running records state
-      → AreNodeViewsFrom sys state (is_lost lost state) 0 view
+  pub of_state : (sys : System) (records : Option Records) (state : Machine) (stands : Stands sys running records state)
+      → AreNodeViewsFrom sys state (is_lost lost state) stands.traces.floor 0 view
 
 -- what is told of a border, by what is kept of it
 abbrev pub IsBorderBy : SourceState → OutputState → Kind → Border → Type 0

@@ -29,11 +29,11 @@ pub record AreGivenUp (drops : Drops) (old new : Parts) : Type 0 where
   pub sources_each : length new.sources ≡ length old.sources
   pub sources : (s : ℕ) → source_at new.sources s ≡ source_left drops.batches.items s (source_at old.sources s)
 
--- whether the base of a node is its low watermark, among so many nodes
+-- whether the base of a node is a floor, which a collection raises to the low watermark, among so many nodes
 abbrev pub has_low_base : Dataflow → ℕ → ℕ → Bool
 has_low_base flow count p = nat_lt p count && not (takes_checkpoints (policy_of flow p))
 
--- The traces of node p, where its base is the low watermark, are thinned inside the front, and what it sent there is counted in
+-- The traces of node p, where its base is a floor, are thinned inside the front, and what it sent there is counted in
 -- all; else they are as they were.
 pub record IsRaised (flow : Dataflow) (p : ℕ) (low : Front) (old new : Traces) : Type 0 where
   pub lists : HaveLists flow new
@@ -41,7 +41,7 @@ pub record IsRaised (flow : Dataflow) (p : ℕ) (low : Front) (old new : Traces)
   pub settled : takes_checkpoints (policy_of flow p) ≡ false → AreThinnedAt flow p low old new
   pub stays : takes_checkpoints (policy_of flow p) ≡ true → new ≡ old
 
--- The traces of the nodes whose base is the low watermark, among so many, are settled to these fronts.
+-- The traces of the nodes whose base is a floor, among so many, are settled to these fronts.
 pub record AreRaised (flow : Dataflow) (count : ℕ) (low : List Front) (old new : Traces) : Type 0 where
   pub lists : HaveLists flow new
   pub settled : AreSettledAt flow (has_low_base flow count) low old new

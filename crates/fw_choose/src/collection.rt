@@ -75,7 +75,7 @@ fn give_up(running: &mut Running, choice: &Choice, low: Vec<Front>) -> Result<()
     Ok(())
 }
 
-// The traces of the nodes whose base is the low watermark are thinned inside the new one.
+// The traces of the nodes whose base is a floor are thinned inside the new low watermark.
 fn raise_bases(flow: &Flow, low: &[Front], traces: &mut Traces) -> Result<(), AllocError>
     requires lists { HaveLists flow.now traces.old }
     requires live { traces.old.refused ≡ false }

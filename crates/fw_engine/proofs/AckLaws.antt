@@ -16,6 +16,7 @@ use Rattle.fw_stands.proofs.AcknowledgementLaws.{nothing_kept-idle, kept-acknowl
 use Rattle.fw_stands.proofs.EntrySteps.{entries_after_step, records_after_step}
 use Rattle.fw_stands.proofs.AtReached.{reached-next}
 use Rattle.fw_stands.specs.Parts.{IsOutputOf}
+use Rattle.fw_running.proofs.KnownTraces.{knows-next}
 use Rattle.fw_running.specs.declared.running.Running.{Running}
 use Rattle.fw_running.specs.Kept.{is_down, output_of}
 use Rattle.fw_running.specs.Places.{IsPut}
@@ -142,7 +143,8 @@ after-stands sys state running records o places there n c s =
         entries = entries_after_step sys s.apart.well_formed state s.apart.reached (Ack o) next (acked o (x ∷ []) recs) leads refl running.parts.keep.entries s.apart.entries;
         stored = records_after_step sys s.apart.well_formed state s.apart.reached (Ack o) next (acked o (x ∷ []) recs) leads refl running.parts.keep.entries records s.apart.stored;
       };
-      traces = λ p l. k.traces p running.traces (s.traces p l);
+      traces = knows-next sys state (Ack o) next (acked o (x ∷ []) recs) running.traces running.traces s.apart.well_formed s.apart.reached refl leads s.traces
+          (λ p l. k.traces s.traces.floor p running.traces);
       lost = λ p full t. (λ h. (k.lost p t).1 ((s.lost p full t).0 h), λ h. (s.lost p full t).1 ((k.lost p t).0 h));
     }
 

@@ -46,6 +46,7 @@ use Rattle.fw_stands.proofs.EventQueueLaws.{queues-follow, logs-follow}
 use Rattle.fw_stands.proofs.EventTableLaws.{deliveries-can_be_taken_in, notices-can_be_taken, tables-stay}
 use Rattle.fw_stands.proofs.EventTraceLaws.{traces-follow, progress-follows}
 use Rattle.fw_stands.proofs.SpellingLaws.{logged_events_have_spellings}
+use Rattle.fw_running.proofs.KnownTraces.{knows-next}
 use Rattle.fw_running.specs.declared.running.Running.{Running}
 use Rattle.fw_running.specs.Kept.{queue_at, log_at, table_of, source_of, output_of, lost_at, is_down}
 use Rattle.fw_running.specs.Logging.{IsEventAsked, IsNotAsked}
@@ -177,8 +178,8 @@ events_are_followed sys state v old new before after step effect s enabled live 
         entries = writes.0;
         stored = writes.1;
       };
-      traces = λ q l. traces-follow sys state v t.sent sent old.traces new.traces
-          (subst (λ f. TracesFollow f v (stamps_in t.sent) old.traces new.traces) s.apart.flow t.traces) q (s.traces q l);
+      traces = knows-next sys state step next effect old.traces new.traces w r refl leads s.traces (λ q l.
+          traces-follow sys s.traces.floor state v t.sent sent old.traces new.traces (subst (λ f. TracesFollow f v (stamps_in t.sent) old.traces new.traces) s.apart.flow t.traces) q);
       lost = λ q full x.
           let stays = lost-stays sys state v live q x in
           let was : Contains (lost_at new q) x ↔ IsLostAt sys state q x =

@@ -12,7 +12,7 @@ use Rattle.fw_flow.specs.declared.kind.Kind.TheVariants.{Total}
 use Rattle.fw_flow.specs.Dataflow.{System, Dataflow, in_edges, kind_of, receiver, is_notified_kind}
 use Rattle.fw_flow.specs.NodeFunction.{sends}
 use Rattle.fw_flow.specs.Projection.{events_at}
-use Rattle.fw_model.specs.Machine.{events, family_of}
+use Rattle.fw_model.specs.Machine.{events}
 use Rattle.fw_model.specs.Told.{is_told, IsSumOfTold}
 use Rattle.fw_node.specs.Answers.{without_causes}
 use Rattle.fw_node.specs.Arrived.{IsOneOf}
@@ -21,6 +21,7 @@ use Rattle.fw_node.specs.Sends.{notice_sends}
 use Rattle.fw_node.specs.TableOf.{IsTableOf}
 use Rattle.fw_rollback.specs.Tables.{table_at}
 use Rattle.fw_stands.specs.Events.{AreSent}
+use Rattle.fw_stands.specs.Parts.{table_base}
 use Rattle.fw_stands.proofs.EventAnswerLaws.{events-send, notices-send}
 use Rattle.fw_stands.proofs.EventTableLaws.{deliveries-can_be_taken_in, notices-can_be_taken, tables-take_in}
 use Rattle.fw_events.specs.Taking.{TableTakes}
@@ -80,7 +81,7 @@ delivery-taken flow d m sent old new at rec ok answers at_is rec_is = λ sys sta
     let p = receiver sys.flow d in
     let h = events state.history in
     let can = deliveries-can_be_taken_in sys state w r d m enabled in
-    let settled = family_of sys.flow state.settled p in
+    let settled = table_base sys state p in
     let before = events_at sys.flow p h in
     let unsettled : settled at ≡ false = ap settled (sym at_is) ∙ can.unsettled in
     let untold : is_notified_kind (kind_of sys.flow p) ≡ true → is_told before at ≡ false = λ k. ap (is_told before) (sym at_is) ∙ can.untold k in (
@@ -98,7 +99,7 @@ pub notice-taken : (flow : Dataflow) (p : ℕ) (sent : List (Stamp × Rec)) (old
 notice-taken flow p sent old new at ok answers = λ sys state is w r enabled table.
     let h = events state.history in
     let can = notices-can_be_taken sys state w r p at enabled in
-    let settled = family_of sys.flow state.settled p in
+    let settled = table_base sys state p in
     let before = events_at sys.flow p h in (
       subst (AreSent sys h (Notify p at)) (sym (answers sys.flow p settled before can.unsettled can.untold can.sums table.of_events)) (notices-send sys h p at),
       tables-take_in sys state (Notify p at) p refl (sym table.there) new (ok sys.flow p settled before can.unsettled can.untold table.of_events),

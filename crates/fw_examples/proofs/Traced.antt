@@ -1,28 +1,29 @@
 -- The traces of the running total follow its events.
-use Rattle.std.proofs.Common.{[], drop, lit<, refl, ℕ, ◌∷◌, ◌≡◌}
+use Rattle.std.proofs.Common.{[], drop, lit<, refl, ℕ, Bool, true, ◌∷◌, ◌≡◌}
 use Rattle.fw_frontier.specs.Frontier.{Frontier, nothing}
 use Rattle.fw_flow.specs.Dataflow.{Dataflow, System, batches_of, bounds_of, kind_of, receiver, sender}
 use Rattle.fw_flow.specs.NodeFunction.{sends}
 use Rattle.fw_flow.specs.declared.event.Event.TheVariants.{Deliver as Delivered, Inject as Injected, Notify as Notified}
-use Rattle.fw_progress.specs.Trace.{IsTraceOf, TracesFollow}
+use Rattle.fw_progress.specs.Trace.{IsTraceIf, TracesFollow}
 use Rattle.fw_progress.specs.declared.traces.Traces.{Traces}
 use Rattle.fw_examples.specs.RunningTotal.{valued_at_epoch, totals, two_epochs}
 use Rattle.fw_examples.specs.Traced.{AreTracesOfTwo, two_more_sent}
 
-two_traced : (flow : Dataflow) (none empty sent came told out : Traces) → totals.flow ≡ flow → ((sys : System) (p : ℕ) (base : Frontier) → IsTraceOf sys [] p base none)
+two_traced : (flow : Dataflow) (none empty sent came told out : Traces) → totals.flow ≡ flow → ((whole : Bool) (sys : System) (p : ℕ) (base : Frontier) → IsTraceIf whole sys [] p base none)
     → TracesFollow flow (Injected 0 0) [] none empty
     → TracesFollow flow (Injected 0 1) ((1 ∷ []) ∷ []) empty sent
     → TracesFollow flow (Delivered 0 (valued_at_epoch 1 10)) [] sent came
     → TracesFollow flow (Notified 1 (1 ∷ [])) ((1 ∷ []) ∷ []) came told
     → TracesFollow flow (Delivered 1 (valued_at_epoch 1 10)) [] told out
-    → (base : Frontier) → IsTraceOf totals two_epochs 1 base out
+    → (base : Frontier) → IsTraceIf true totals two_epochs 1 base out
 unfolding kind_of receiver sender sends batches_of bounds_of
 two_traced flow none empty sent came told out same first a b c d e base =
-    e totals (drop 1 two_epochs) same refl 1 base
-    (d totals (drop 2 two_epochs) same refl 1 base (c totals (drop 3 two_epochs) same refl 1 base (b totals (drop 4 two_epochs) same refl 1 base (a totals [] same refl 1 base (first totals 1 base)))))
+    e true totals (drop 1 two_epochs) same refl 1 base
+    (d true totals (drop 2 two_epochs) same refl 1 base (c true totals (drop 3 two_epochs) same refl 1 base (b true totals (drop 4 two_epochs) same refl 1 base
+    (a true totals [] same refl 1 base (first true totals 1 base)))))
 
 -- where they are its traces of two epochs, they tell epoch 1, and are its traces once the input sent more
-pub two_told : (traces : Traces) → ((base : Frontier) → IsTraceOf totals two_epochs 1 base traces) → AreTracesOfTwo traces
+pub two_told : (traces : Traces) → ((base : Frontier) → IsTraceIf true totals two_epochs 1 base traces) → AreTracesOfTwo traces
 unfolding kind_of receiver sender sends batches_of bounds_of
 two_told traces two =
     let all = two nothing in
@@ -32,10 +33,10 @@ two_told traces two =
       told = all.notified.outside.0 refl;
       sent = (all.sent (1, lit< tt, refl) refl).outside.0 refl;
       same = refl;
-      two_more = λ law base. law totals two_epochs two_more_sent 1 base traces refl (two base);
+      two_more = λ law base. law true totals two_epochs two_more_sent 1 base traces refl (two base);
     }
 
-pub traces_of_two : (flow : Dataflow) (none empty sent came told out : Traces) → totals.flow ≡ flow → ((sys : System) (p : ℕ) (base : Frontier) → IsTraceOf sys [] p base none)
+pub traces_of_two : (flow : Dataflow) (none empty sent came told out : Traces) → totals.flow ≡ flow → ((whole : Bool) (sys : System) (p : ℕ) (base : Frontier) → IsTraceIf whole sys [] p base none)
     → TracesFollow flow (Injected 0 0) [] none empty
     → TracesFollow flow (Injected 0 1) ((1 ∷ []) ∷ []) empty sent
     → TracesFollow flow (Delivered 0 (valued_at_epoch 1 10)) [] sent came

@@ -45,6 +45,7 @@ use Rattle.fw_stands.proofs.FlightLaws.{live_nodes-decide}
 use Rattle.fw_stands.proofs.LossLaws.{losses_stay}
 use Rattle.fw_stands.proofs.AtReached.{reached-next}
 use Rattle.fw_time.specs.Stamp.{Stamp}
+use Rattle.fw_running.proofs.KnownTraces.{knows-next}
 use Rattle.fw_running.specs.declared.running.Running.{Running}
 use Rattle.fw_fail.specs.Failing.{AreGone, IsGoneFrom, lost_after, Fails, FailsIf}
 use Rattle.fw_running.specs.Kept.{queue_at, log_at, table_of, source_of, output_of, lost_at, is_down}
@@ -321,7 +322,7 @@ after-stands sys state old new records p there live g shaped s =
         stored = subst (λ es. AreStored sys next records es (uncollected next)) (sym (entries ∙ left))
             (records_after_failure sys s.apart.well_formed state s.apart.reached ps next silent leads old.parts.keep.entries s.apart.entries records s.apart.stored);
       };
-      traces = λ q m. k.traces q old.traces (s.traces q m);
+      traces = knows-next sys state (Fail ps) next silent old.traces old.traces s.apart.well_formed s.apart.reached refl leads s.traces (λ q m. k.traces s.traces.floor q old.traces);
       lost = λ q full t. elim (cases_eq q p) [
         | inl e ↦
             let f : policy_of flow p ≡ policy.Full = ap (λ r. policy_of flow r) (sym e) ∙ full in

@@ -1,5 +1,5 @@
 -- An engine that is fed stands over the later batches for the state for which it stood.
-use Rattle.std.proofs.Common.{◌≡◌, ◌↔◌, ℕ, true, cond, List, [], ◌∷◌, length, map, Option, sym, ap, subst, ◌∙◌}
+use Rattle.std.proofs.Common.{◌≡◌, ◌↔◌, ℕ, true, cond, List, [], ◌∷◌, length, map, Option, sym, ap, subst, ◌∙◌, Bool}
 use Rattle.std.specs.List.{AllByRecursion, Contains}
 use Rattle.fw_lemmas.proofs.Each.{each-kept}
 use Rattle.fw_lemmas.proofs.SideBySide.{zip-weaker}
@@ -17,16 +17,18 @@ use Rattle.fw_flow.specs.NodeFunction.{event_stamp}
 use Rattle.fw_flow.specs.Projection.{count_from, IsSentTable}
 use Rattle.fw_flow.specs.Restoring.{can_resend}
 use Rattle.fw_flow.specs.SentTable.{EpochsAscend}
-use Rattle.fw_model.specs.EventStamps.{causes_of, causes_in, AreStampsOf}
+use Rattle.fw_model.specs.EventStamps.{causes_of, causes_in, base_of_sent, AreStampsIf}
 use Rattle.fw_model.specs.Filtering.{messages_from, messages_outside}
 use Rattle.fw_model.specs.History.{was_notified, IsAdmissible}
 use Rattle.fw_model.specs.LawsOfProgress.{IsStuck}
+use Rattle.fw_model.specs.Choice.{kept}
+use Rattle.fw_model.specs.Choosing.{choice_at}
 use Rattle.fw_model.specs.Machine.{Machine, Write, checkpoint, logged_event, events, family_of, is_failed, first_state}
 use Rattle.fw_model.specs.Machine.{Written as WrittenBy}
 use Rattle.fw_model.specs.Offers.{counted_on_edge, stamps_on_from}
 use Rattle.fw_model.specs.SortedMessages.{sorted_messages}
 use Rattle.fw_model.specs.Steps.{did}
-use Rattle.fw_model.specs.Thinned.{IsThinned}
+use Rattle.fw_model.specs.Thinned.{IsThinned, IsThinnedIf}
 use Rattle.fw_policy.specs.Entries.{IsRecorded}
 use Rattle.fw_policy.specs.View.{base_of, IsLostAt}
 use Rattle.fw_progress.specs.Counts.{is_in}
@@ -48,8 +50,9 @@ use Rattle.fw_stands.specs.Written.{events_within, count_within, HoldsWhatIsWrit
 use Rattle.fw_feeding.specs.Feeding.{with_batches}
 use Rattle.fw_feeding.specs.LawsOfFeeding.{FedEnginesStand}
 use Rattle.fw_feeding.proofs.AlikeLaws.{InjectsAlike, AreAlikeIn, alike-back, node-alike, messages-alike, pending-alike, phi-alike, quiet-alike, epochs-alike, admissible-alike}
-use Rattle.fw_feeding.proofs.AlikeChoices.{discarded-alike}
+use Rattle.fw_feeding.proofs.AlikeChoices.{consistent-alike, discarded-alike}
 use Rattle.fw_feeding.proofs.OpenRunLaws.{open-runs_go_on, open-runs_are_runs, run-alike}
+use Rattle.fw_model.specs.Writes.{takes_checkpoints}
 
 -- ---- parts
 
@@ -74,14 +77,15 @@ output-alike : (flow : Dataflow) (now later : List (List (List Rec))) (state : M
 output-alike flow now later state o output t = record { bound = t.bound; recs = t.recs }
 
 trace-alike : (flow : Dataflow) (now later : List (List (List Rec))) (state : Machine) → AreAlikeIn flow now later (events state.history)
-    → (p : ℕ) (traces : Traces) → IsTraceIn (with_batches flow now) state p traces → IsTraceIn (with_batches flow later) state p traces
-trace-alike flow now later state a p traces t =
+    → (floor : List Front) (p : ℕ) (traces : Traces) → IsTraceIn (with_batches flow now) floor state p traces → IsTraceIn (with_batches flow later) floor state p traces
+trace-alike flow now later state a floor p traces t =
     let same = node-alike flow now later (events state.history) a.injected p in
-    let base = base_of (with_batches flow now) state p in
+    let base = base_of (with_batches flow now) floor state p in
+    let takes = takes_checkpoints (policy_of flow p) in
     record {
       delivered = t.delivered;
       notified = t.notified;
-      sent = λ o k. subst (λ ms. IsThinned base (causes_in ms) (stamps_where_sent traces p)) same (t.sent o k);
+      sent = λ o k. subst (λ ms. IsThinnedIf takes (base_of_sent takes flow p base) (causes_in ms) (stamps_where_sent traces p)) same (t.sent o k);
       counted = λ k. subst (λ ms. IsSentTally base ms (counted_of traces p)) same (t.counted k);
     }
 
@@ -115,16 +119,16 @@ recorded-alike flow now later state a p f r k = record {
   discarded = λ e l s. k.discarded e l s ∙ discarded-alike flow now later state a e (At f);
 }
 
-stamps-alike : (flow : Dataflow) (now later : List (List (List Rec))) (h : List Event) → AllByRecursion (InjectsAlike flow now later) h
-    → (p : ℕ) (base : Frontier) (stamps : Stamps) → AreStampsOf (with_batches flow now) h p base stamps → AreStampsOf (with_batches flow later) h p base stamps
-stamps-alike flow now later h a p base stamps k = record {
+stamps-alike : (whole : Bool) (flow : Dataflow) (now later : List (List (List Rec))) (h : List Event) → AllByRecursion (InjectsAlike flow now later) h
+    → (p : ℕ) (base : Frontier) (stamps : Stamps) → AreStampsIf whole (with_batches flow now) h p base stamps → AreStampsIf whole (with_batches flow later) h p base stamps
+stamps-alike whole flow now later h a p base stamps k = record {
   on_edges = k.on_edges;
   in_domain = k.in_domain;
   delivered = k.delivered;
   notified = k.notified;
   sent = λ s e l q. let stand = k.sent s e l q in record {
     of_cause = stand.of_cause;
-    thinned = subst (λ ms. IsThinned base (causes_in ms) (causes_of (counted_on_edge e stamps.sent))) (messages-alike flow now later h a e) stand.thinned;
+    thinned = subst (λ ms. IsThinnedIf whole (base_of_sent whole flow p base) (causes_in ms) (causes_of (counted_on_edge e stamps.sent))) (messages-alike flow now later h a e) stand.thinned;
   };
   numbered = λ s e l q. subst
       (λ ms. IsThinned (everything (bounds_of flow (receiver flow e))) (map (λ (m : Message). m.at) ms)
@@ -141,7 +145,7 @@ holds-alike : (flow : Dataflow) (now later : List (List (List Rec))) (state : Ma
     → (p : ℕ) (entry : Written) (what : WrittenBy) → HoldsWhatIsWritten (with_batches flow now) state p entry what → HoldsWhatIsWritten (with_batches flow later) state p entry what
 holds-alike flow now later state a p (written.Checkpoint recorded stamps sent) (checkpoint f low) k = record {
   recorded = recorded-alike flow now later state a p f recorded k.recorded;
-  stamps = stamps-alike flow now later (events_within (with_batches flow now) state p f)
+  stamps = stamps-alike true flow now later (events_within (with_batches flow now) state p f)
       (each-kept (InjectsAlike flow now later) (λ v. node_frontier flow p f (event_stamp v)) (events state.history) a.injected)
       p (node_frontier flow p f) stamps k.stamps;
   sent = k.sent ∙ count-within flow now later state a p f;
@@ -210,7 +214,7 @@ fed-engines_stand opened flow now later g well steps effects state run old new f
     let a = run-alike opened flow now later g steps effects state run in
     let on = open-runs_are_runs opened sys (first_state sys) steps effects state (open-runs_go_on opened flow now later g steps effects state run) in
     let counts = s.apart.progress.counts in
-    let kept = s.apart.progress.kept in
+    let before = s.apart.progress.kept in
     record {
       apart = record {
         flow = f.of_flow ∙ s.apart.flow;
@@ -238,10 +242,10 @@ fed-engines_stand opened flow now later g well steps effects state run old new f
           };
           kept = record {
             admissible = subst (λ fronts. IsAdmissible sys h (family_of flow fronts)) (sym f.kept)
-                (admissible-alike flow now later h a (family_of flow old.progress.kept) kept.admissible);
+                (admissible-alike flow now later h a (family_of flow old.progress.kept) before.admissible);
             stuck = λ p l i. subst (λ fronts. IsStuck sys h (family_of flow fronts) p) (sym f.kept)
                 (stuck-alike flow now later h a (family_of flow old.progress.kept) p
-                (kept.stuck p l (ap (λ w. is_in w p) (sym f.work) ∙ i)));
+                (before.stuck p l (ap (λ w. is_in w p) (sym f.work) ∙ i)));
           };
         };
         entries = subst (λ es. AreEntriesOf sys state es (uncollected state)) (sym f.entries)
@@ -249,7 +253,14 @@ fed-engines_stand opened flow now later g well steps effects state run old new f
         stored = subst (λ es. AreStored sys state records es (uncollected state)) (sym f.entries)
             (stored-alike flow now later state a records old.parts.keep.entries (uncollected state) s.apart.stored);
       };
-      traces = λ p l. subst (λ t. IsTraceIn sys state p t) (sym f.traces) (trace-alike flow now later state a p old.traces (s.traces p l));
+      traces = record {
+        floor = s.traces.floor;
+        above = record {
+          notices = s.traces.above.notices;
+          consistent = consistent-alike flow now later state a (λ p. true) kept (choice_at s.traces.floor s.traces.above.notices) s.traces.above.consistent;
+        };
+        each = λ p l. subst (λ t. IsTraceIn sys s.traces.floor state p t) (sym f.traces) (trace-alike flow now later state a s.traces.floor p old.traces (s.traces.each p l));
+      };
       lost = λ p is t. subst (λ ts. Contains ts t ↔ IsLostAt sys state p t) (sym (f.lost p))
           (let both = s.lost p is t in
           (λ c. lost-alike flow now later state p t (both.0 c), λ l. both.1 (lost-alike flow later now state p t l)));

@@ -4,6 +4,8 @@ use Rattle.std.proofs.lemmas.Bool.{false≢true, true≢false}
 use Rattle.std.proofs.lemmas.List.{length-map, get_or-map}
 use Rattle.std.specs.Prelude.{Result, Ok, Err, IfOk}
 use Rattle.std.specs.Bool.{OnTrue, OnFalse}
+use Rattle.std.specs.List.{IsDistinct}
+use Rattle.std.specs.Str.{bytes_eq}
 use Rattle.fw_lines.specs.declared.fault.ReadFault.{ReadFault}
 use Rattle.fw_lines.specs.declared.fault.ReadFault.TheVariants.{Refused, NoMemory}
 use Rattle.fw_lines.specs.declared.refusal.Code.{Code}
@@ -28,7 +30,7 @@ use Rattle.fw_flow.specs.Dataflow.{Dataflow, kind_of, in_edges, out_edges, edges
 use Rattle.fw_flow.specs.Draft.{IsDraftOf, LaterRulesHold}
 use Rattle.fw_flow.specs.Flow.{edges_at, IsIndexed}
 use Rattle.fw_flow.specs.Parts.{ArePartsOf, capped_kind, capped_loop, capped_node, capped_flow, places_from}
-use Rattle.fw_flow.specs.Raw.{names_of, loop_names, node_names, edge_names, node_name, edge_name, loop_in, node_in, edge_in, flow_of_declarations}
+use Rattle.fw_flow.specs.Raw.{names_of, loop_names, node_names, edge_names, loop_name, node_name, edge_name, loop_in, node_in, edge_in, flow_of_declarations}
 use Rattle.fw_flow.specs.Walks.{AreWithin, IsMadeOf, link_at, link_of, listed_kind}
 use Rattle.fw_flow.specs.WellFormed.{HasShortChain, IsInDegree, IsOutDegree, IsWellFormed}
 use Rattle.fw_flow.proofs.Capped.{from_capped, to_capped, kind_of-capped, HasShortChain-capped, JoinsDomains-capped, HasAllowedPolicy-capped, AreWalksRight-capped, IsWalkWrong-capped, HasBorders-capped, loops-capped, nodes-capped}
@@ -295,6 +297,12 @@ IsChecked-from_draft draft raw of_draft names all =
     let wf = IsWellFormed-from_rules raw names all.chains all.degrees all.domains all.walks all.policies all.limits all.borders in
     record { well_formed = wf; value = flow_of_draft draft raw of_draft wf }
 
+loop_named : (loops : List (List ℕ)) (line : ℕ) (d : Declaration)
+    → map (λ (l : Loop). l.name) (loop_in loops (record { line = line; declaration = d })) ≡ loop_name (record { line = line; declaration = d })
+loop_named loops line (ALoop name max parent) = refl
+loop_named loops line (ANode name kind policy) = refl
+loop_named loops line (AnEdge name s r) = refl
+
 node_named : (loops : List (List ℕ)) (line : ℕ) (d : Declaration)
     → map (λ (n : Node). n.name) (node_in loops (record { line = line; declaration = d })) ≡ node_name (record { line = line; declaration = d })
 node_named loops line (ALoop name max parent) = refl
@@ -307,6 +315,10 @@ edge_named nodes line (ALoop name max parent) = refl
 edge_named nodes line (ANode name kind policy) = refl
 edge_named nodes line (AnEdge name s r) = refl
 
+-- the names of the loops are those that were declared
+names_of_loops : (raw : List Declared) → loop_names raw ≡ map (λ (l : Loop). l.name) (flow_of_declarations raw).loops
+names_of_loops raw = sym (map-flat_map (λ (l : Loop). l.name) (loop_in (loop_names raw)) loop_name (λ d. loop_named (loop_names raw) d.line d.declaration) raw)
+
 -- the names of the nodes and edges are those that were declared
 pub names_of_flow : (raw : List Declared) → (node_names raw ≡ map (λ (n : Node). n.name) (flow_of_declarations raw).nodes) × (edge_names raw ≡ map (λ (e : Edge). e.name) (flow_of_declarations raw).edges)
 names_of_flow raw = (
@@ -315,14 +327,15 @@ names_of_flow raw = (
 )
 
 -- the flow of a draft that breaks no rule is kept with its names and edges
-pub IsIndexed-from_draft : (draft : Draft) (raw : List Declared) (names : NameSpaces) → names ≡ names_of raw → IsDraftOf draft raw → IsChecked raw (drafted draft)
-    → IsIndexed (drafted draft) names.nodes names.edges draft.incoming.items draft.outgoing.items
+pub IsIndexed-from_draft : (draft : Draft) (raw : List Declared) (names : NameSpaces) → names ≡ names_of raw → IsDistinct bytes_eq names.loops → IsDraftOf draft raw
+    → IsChecked raw (drafted draft) → IsIndexed (drafted draft) names.nodes names.edges draft.incoming.items draft.outgoing.items
 unfolding in_edges out_edges
-IsIndexed-from_draft draft raw names taken of_draft checked =
+IsIndexed-from_draft draft raw names taken once of_draft checked =
     let named = names_of_flow raw in
     let same = sym checked.value in
     record {
       well_formed = subst IsWellFormed same checked.well_formed;
+      loops_once = subst (IsDistinct bytes_eq) (ap (λ (n : NameSpaces). n.loops) taken ∙ names_of_loops raw ∙ ap (λ (f : Dataflow). map (λ (l : Loop). l.name) f.loops) same) once;
       names_of_nodes = ap (λ (n : NameSpaces). n.nodes) taken ∙ named.0 ∙ ap (λ (f : Dataflow). map (λ (n : Node). n.name) f.nodes) same;
       names_of_edges = ap (λ (n : NameSpaces). n.edges) taken ∙ named.1 ∙ ap (λ (f : Dataflow). map (λ (e : Edge). e.name) f.edges) same;
       edges_in = of_draft.edges_in;

@@ -1,5 +1,7 @@
 -- How the parts of a dataflow are kept for looking them up.
 use Rattle.std.specs.Prelude.{◌≡◌, ℕ, zero, suc, List, [], ◌∷◌, map}
+use Rattle.std.specs.List.{IsDistinct}
+use Rattle.std.specs.Str.{bytes_eq}
 use Rattle.std.specs.declared.alloc.Global.{Global}
 use Rattle.std.specs.declared.vec.Vec.{Vec}
 use Rattle.fw_flow.specs.Dataflow.{Dataflow, in_edges, out_edges}
@@ -11,9 +13,11 @@ edges_at [] place = []
 edges_at (edges ∷ lists) zero = edges.items
 edges_at (edges ∷ lists) (suc place) = edges_at lists place
 
--- the flow is well formed, and these are its names in order and, for each of its nodes, the edges to it and from it
+-- the flow is well formed, no two of its loops have one name, and these are the names of its nodes and edges in order and, for each
+-- of its nodes, the edges to it and from it
 pub record IsIndexed (flow : Dataflow) (nodes edges : List (List ℕ)) (incoming outgoing : List (Vec ℕ Global)) : Type 0 where
   pub well_formed : IsWellFormed flow
+  pub loops_once : IsDistinct bytes_eq (map (λ l. l.name) flow.loops)
   pub names_of_nodes : nodes ≡ map (λ node. node.name) flow.nodes
   pub names_of_edges : edges ≡ map (λ edge. edge.name) flow.edges
   pub edges_in : (p : ℕ) → edges_at incoming p ≡ in_edges flow p

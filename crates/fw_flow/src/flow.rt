@@ -3,6 +3,7 @@ ghost use Rattle.std.specs.Prelude.{◌≡◌, ◌<◌, length, map, MatchResult
 ghost use Rattle.fw_lines.specs.Faults.{IfRefused};
 ghost use Rattle.fw_flow.specs.Dataflow.{kind_of, policy_of, sender, receiver, in_edges, out_edges, domain_of, bounds_of, greatest_of, max_of, node_at};
 ghost use Rattle.fw_flow.specs.WellFormed.{IsWellFormed};
+ghost use Rattle.fw_flow.specs.DomainText.{name_of_edge};
 ghost use Rattle.fw_flow.specs.Names.{place_of};
 ghost use Rattle.fw_flow.specs.Check.{IsChecked, IsFirstBroken};
 
@@ -205,6 +206,16 @@ impl Flow {
         &self.nodes[node.place() as usize].name
     }
 
+    /// The name of an edge; past the last edge it is empty.
+    pub fn edge_name(&self, edge: EdgeId) -> &str
+        ensures { result.now ≡ name_of_edge self.now edge }
+    {
+        match self.edges.get(edge.place() as usize) {
+            Some(edge) => edge.name.as_str(),
+            None => "",
+        }
+    }
+
     /// The node of a name, `None` where no node has it.
     pub fn node_named(&self, name: &str) -> Option<NodeId>
         ensures { result ≡ place_of name.now (map (λ node. node.name) self.now.nodes) }
@@ -243,6 +254,7 @@ impl Flow {
         ensures well_formed { IfOk result IsWellFormed }
     {
         let RawFlow { names, declared } = raw;
+        names.loops.are_distinct();
         refuse(Code::F3, undeclared_line(&names, &declared))?;
         let limit_line = limit_line(&declared);
         let draft = Draft::of(alloc, &names, declared)?;

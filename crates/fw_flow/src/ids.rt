@@ -95,6 +95,17 @@ impl EdgeId {
     }
 }
 
+impl fmt::Display for EdgeId {
+    ghost use Rattle.std.specs.Prelude.{Some};
+    ghost use Rattle.std.specs.Fmt.{decimal};
+
+    ghost output = { λ id. Some (decimal id) };
+
+    fn fmt<W: fmt::Write>(&self, f: &mut fmt::Formatter<W>) -> fmt::Result {
+        write!(f, "{}", self.place)
+    }
+}
+
 impl LoopId {
     /// The loop at a place, from 0.
     pub const fn at(place: u32) -> Self

@@ -1,9 +1,10 @@
-//! Facts about the definitions of dataflows, each proved as a function that does nothing.
-ghost use Rattle.std.specs.Prelude.{◌≡◌, ◌⊎◌, ℕ, ◌<◌, List, length, map};
-ghost use Rattle.std.specs.List.{IsDistinct};
+//! Facts about the definitions of dataflows, each proved as a function that does nothing, or walks.
+ghost use Rattle.std.specs.Prelude.{◌≡◌, ◌⊎◌, ℕ, ◌<◌, true, List, length, map};
+ghost use Rattle.std.specs.List.{AllByRecursion, IsDistinct};
 ghost use Rattle.std.specs.Str.{bytes_eq};
 ghost use Rattle.fw_lines.specs.declared.refusal.Refusal.{Refusal};
 ghost use Rattle.fw_lines.specs.Batches.{batches_at, AreBatchesOf};
+ghost use Rattle.fw_lines.specs.Spelling.{is_name};
 ghost use Rattle.fw_flow.specs.declared.raw.Declared.{Declared};
 ghost use Rattle.fw_flow.specs.Check.{IsChecked, IsFirstBroken};
 ghost use Rattle.fw_time.specs.Stamp.{nest};
@@ -14,7 +15,7 @@ ghost use Rattle.fw_flow.specs.Sources.{sources_of};
 ghost use Rattle.fw_flow.specs.Ranks.{RanksExist};
 ghost use Rattle.fw_flow.specs.WellFormed.{IsWellFormed, IsWellFormedSystem};
 
-use crate::{Flow, RawFlow};
+use crate::{Edge, Flow, Loop, Node, RawFlow};
 use fw_lines::Batches;
 
 /// The nodes of each well-formed dataflow have ranks.
@@ -38,13 +39,49 @@ pub fn system_is_well_formed(flow: &Flow, batches: &Batches)
     flow_is_well_formed(flow);
 }
 
-/// No two nodes of a flow have one name, and no two edges.
+/// No two loops of a flow have one name, no two nodes, and no two edges.
 pub fn names_are_distinct(flow: &Flow)
+    ensures loops { IsDistinct bytes_eq (map (λ a_loop. a_loop.name) flow.now.loops) }
     ensures nodes { IsDistinct bytes_eq (map (λ node. node.name) flow.now.nodes) }
     ensures edges { IsDistinct bytes_eq (map (λ edge. edge.name) flow.now.edges) }
 {
     flow.node_names.are_distinct();
     flow.edge_names.are_distinct();
+}
+
+/// The loops, nodes and edges of a flow have names. It walks over them.
+pub fn names_are_names(flow: &Flow)
+    ensures loops { AllByRecursion (λ a_loop. is_name a_loop.name ≡ true) flow.now.loops }
+    ensures nodes { AllByRecursion (λ node. is_name node.name ≡ true) flow.now.nodes }
+    ensures edges { AllByRecursion (λ edge. is_name edge.name ≡ true) flow.now.edges }
+{
+    loops_have_names(flow.loops.as_slice());
+    nodes_have_names(flow.nodes.as_slice());
+    edges_have_names(flow.edges.as_slice());
+}
+
+fn loops_have_names(loops: &[Loop])
+    ensures { AllByRecursion (λ a_loop. is_name a_loop.name ≡ true) loops.now }
+{
+    for a_loop in loops {
+        let _ = a_loop.name.as_bytes();
+    }
+}
+
+fn nodes_have_names(nodes: &[Node])
+    ensures { AllByRecursion (λ node. is_name node.name ≡ true) nodes.now }
+{
+    for node in nodes {
+        let _ = node.name.as_bytes();
+    }
+}
+
+fn edges_have_names(edges: &[Edge])
+    ensures { AllByRecursion (λ edge. is_name edge.name ≡ true) edges.now }
+{
+    for edge in edges {
+        let _ = edge.name.as_bytes();
+    }
 }
 
 /// No two loops that are declared have one name, no two nodes, and no two edges.

@@ -4,7 +4,7 @@ use crate::{Kind, LoopId, Name, NodeId, Policy};
 /// A loop, with its greatest counter.
 #[derive(Debug, Drop)]
 pub struct Loop {
-    /// Its name. No other loop that a `RawFlow` declares has it, by `laws::declared_names_are_distinct`.
+    /// Its name. No other loop of a `Flow` has it, by `laws::names_are_distinct`.
     pub name: Name,
     /// The greatest counter of a stamp of the loop, from 1 to 1024 in a well-formed flow.
     pub max: u32,

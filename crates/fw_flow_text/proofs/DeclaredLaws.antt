@@ -30,7 +30,7 @@ abbrev AreWritable : List Declared → Type 0
 AreWritable declared = AllByRecursion (λ d. IsWritable d.declaration) declared
 
 -- a declaration, on the line of this number
-abbrev on_line : ℕ → Declaration → Declared
+abbrev pub on_line : ℕ → Declaration → Declared
 on_line number declaration = record { line = number; declaration = declaration }
 
 no_words : (words : List (List ℕ)) → are_there words ≡ false → words ≡ []

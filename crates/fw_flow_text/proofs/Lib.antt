@@ -1,7 +1,11 @@
+pub mod BatchesReadLaws
+pub mod BatchesTextLaws
 pub mod ByteLaws
 pub mod DeclaredLaws
+pub mod PlainLaws
 pub mod ReadLaws
 pub mod Reading
 pub mod ReadingLaws
 pub mod SpelledLaws
 pub mod FoundLaws
+pub mod WrittenLaws

@@ -62,7 +62,8 @@ all_digits-more n ds e =
     ∙ ap (λ b. b && list_all is_ascii_digit ((48 + n % 10) ∷ [])) e
     ∙ all_digits-one (n % 10) (omega arith)
 
-decimal_digits : (n : ℕ) → n < 2 ^ 64 → list_all is_ascii_digit (decimal n) ≡ true
+-- a number is written by digits
+pub decimal_digits : (n : ℕ) → n < 2 ^ 64 → list_all is_ascii_digit (decimal n) ≡ true
 decimal_digits n h = decimal_by_steps (λ m ds. list_all is_ascii_digit ds ≡ true) all_digits-one (λ m ds low e. all_digits-more m ds e) n h
 
 not_zero : (b : ℕ) → 48 < b → not (b == 48) ≡ true

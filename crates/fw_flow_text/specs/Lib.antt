@@ -1,3 +1,5 @@
+pub mod BatchesText
+pub mod FlowText
 pub mod Grammar
 pub mod Laws
 pub mod Spelled

@@ -15,3 +15,4 @@ pub mod PlaneSteps
 pub mod PlaneLaws
 pub mod LeastLaws
 pub mod SameLaws
+pub mod TopLaws

@@ -2,6 +2,7 @@ pub mod Frontier
 pub mod Front
 pub mod Least
 pub mod Outside
+pub mod Tops
 pub mod Few
 pub mod FrontText
 pub mod Below

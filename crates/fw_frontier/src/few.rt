@@ -159,7 +159,7 @@ impl Few {
     }
 
     // Where more of them are kept.
-    fn allocator(&self) -> Global {
+    pub fn allocator(&self) -> Global {
         match self {
             Few::One(alloc, _) => *alloc,
             Few::Many(stamps) => *stamps.allocator(),

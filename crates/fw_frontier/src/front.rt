@@ -6,9 +6,10 @@ ghost use Rattle.fw_time.specs.Stamp.{leq, in_domain};
 ghost use Rattle.fw_frontier.specs.Frontier.{nothing, meet, join, cover, without_above, Within};
 ghost use Rattle.fw_frontier.specs.Front.{inside, frontier_of, same_front, is_within, IsCanonical, IsFrontOf};
 ghost use Rattle.fw_frontier.specs.Least.{AreLeastOf};
+ghost use Rattle.fw_frontier.specs.Tops.{AreIncomparable};
 
 use crate::few::Few;
-use crate::outside;
+use crate::{outside, tops};
 use fw_time::{Bounds, Stamp};
 use std::alloc::{AllocError, Global};
 use std::fmt;
@@ -184,6 +185,17 @@ impl Front {
     {
         let outside = self.outside.without(t)?;
         Ok(Front { outside })
+    }
+
+    /// The greatest stamps of a domain inside it: what is at most one of them is all that is inside.
+    pub fn greatest(&self, bounds: &Bounds) -> Result<Vec<Stamp>, AllocError>
+        ensures cover { IfOk result
+            (λ tops. (t : List ℕ) → cover bounds.now tops.items t ≡ frontier_of bounds.now self.now t) }
+        ensures domain { IfOk result
+            (λ tops. AllByRecursion (λ s. in_domain bounds.now s ≡ true) tops.items) }
+        ensures apart { IfOk result (λ tops. AreIncomparable tops.items) }
+    {
+        tops::inside(self.outside.allocator(), self.outside(), bounds)
     }
 }
 

@@ -10,6 +10,7 @@ mod outside;
 mod planes;
 mod stairs;
 mod state;
+mod tops;
 
 pub use below::Below;
 pub use front::Front;

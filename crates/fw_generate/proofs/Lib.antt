@@ -2,7 +2,6 @@ pub mod Below
 pub mod DrawnLaws
 pub mod FlowLaws
 pub mod InputLaws
-pub mod NumberLaws
 pub mod ScheduleLaws
 pub mod WellFormed
 pub mod Writing

@@ -11,7 +11,7 @@ use Rattle.fw_headline.specs.Right.{IsAllThere, IsRight, EveryRunIsRight}
 use Rattle.fw_model.proofs.ChoosingLaws.{kept-is_ever, recovery-has_choice, failed-recovered, reached-one_next, never-falls}
 use Rattle.fw_model.proofs.DenotationLaws.{denotation-exists, denotation-only}
 use Rattle.fw_model.proofs.DomainLaws.{has_epochs}
-use Rattle.fw_model.proofs.ForgottenLaws.{collected-forgotten}
+use Rattle.fw_model.proofs.CollectedLaws.{collected-forgotten}
 use Rattle.fw_model.proofs.LargestLaws.{largest-exists}
 use Rattle.fw_model.proofs.RecoveryLaws.{runs-legal, acknowledged-denoted}
 use Rattle.fw_model.proofs.RestoringLaws.{never-collected, cuts-kept, cut_batches-outside, events-logged, logs-hold}

@@ -1,15 +1,13 @@
 -- The checkpoints of a node are a chain.
-use Rattle.std.proofs.Common.{◌≡◌, ◌⊎◌, ℕ, ◌+◌, ◌<◌, Bool, true, false, not, ◌&&◌, ◌==◌, cond, List, [], ◌∷◌, ◌++◌, length, filter, map, refl, sym, ap, subst, ◌∙◌, inl, inr, Option, Some, None, append_assoc}
+use Rattle.std.proofs.Common.{◌≡◌, ◌⊎◌, ℕ, ◌<◌, Bool, true, false, not, ◌&&◌, ◌==◌, cond, List, [], ◌∷◌, ◌++◌, length, filter, map, refl, sym, ap, subst, ◌∙◌, inl, inr, Option, Some, None, append_assoc}
 use Rattle.std.specs.List.{AllByRecursion}
 use Rattle.std.proofs.lemmas.Bool.{cases_Bool, and_parts, cond_both, eqb-true, false_from_ne_true}
 use Rattle.fw_lemmas.proofs.Bools.{two_ways}
-use Rattle.fw_lemmas.proofs.Each.{each-weaker, each-both}
-use Rattle.fw_frontier.specs.Frontier.{Within}
-use Rattle.fw_frontier.specs.Front.{Front, frontier_of, IsCanonical, same_front, is_within}
+use Rattle.fw_lemmas.proofs.Each.{each-weaker}
+use Rattle.fw_frontier.specs.Front.{Front, IsCanonical, same_front}
 use Rattle.fw_frontier.proofs.NamesLaws.{is_within-holds, within-is}
 use Rattle.fw_flow.specs.declared.choice.Cut.{Cut}
 use Rattle.fw_flow.specs.declared.choice.Cut.TheVariants.{Present, At}
-use Rattle.fw_flow.specs.declared.event.Event.{Event}
 use Rattle.fw_flow.specs.declared.kind.Policy.{Policy}
 use Rattle.fw_flow.specs.declared.kind.Policy.TheVariants as policy
 use Rattle.fw_flow.specs.declared.step.Step.{Step}
@@ -28,7 +26,7 @@ use Rattle.fw_model.proofs.ForgottenLaws.{Flies, AreInOrder, took-order}
 -- ---- lists of links
 
 -- the links of one write
-abbrev link_at : ℕ → Write → List Link
+abbrev pub link_at : ℕ → Write → List Link
 link_at p x = cond (x.node == p) (link_of x.base x.depth x.written) []
 
 last_link : Option Link → List Link → Option Link
@@ -116,7 +114,7 @@ links-replaced p (x ∷ xs) y far ys = ap (λ ls. link_at p x ++ ls) (links-repl
 -- ---- a first part of a chain
 
 -- after a checkpoint of node p that goes, all of them go
-abbrev KeepsFirst : ℕ → (Write → Bool) → List Write → Type 0
+abbrev pub KeepsFirst : ℕ → (Write → Bool) → List Write → Type 0
 KeepsFirst p keep [] = Unit {0}
 KeepsFirst p keep (x ∷ xs) =
     (keep x ≡ false → (link_at p x ≡ []) ⊎ AllByRecursion (λ (y : Write). keep y ≡ true → link_at p y ≡ []) xs) × KeepsFirst p keep xs
@@ -144,14 +142,14 @@ chain-first p keep (x ∷ xs) last k a =
 
 -- ---- a failure: what is in flight is the last
 
-not-false : (b : Bool) → not b ≡ false → b ≡ true
+pub not-false : (b : Bool) → not b ≡ false → b ≡ true
 not-false true e = refl
 not-false false e = absurd (two_ways true refl e)
 
-abbrev is_left : List ℕ → Write → Bool
+abbrev pub is_left : List ℕ → Write → Bool
 is_left ps write = not (is_one_of write.node ps && is_in_flight write.stage)
 
-failed-first : (p : ℕ) (ps : List ℕ) (xs : List Write) → AreInOrder xs → KeepsFirst p (is_left ps) xs
+pub failed-first : (p : ℕ) (ps : List ℕ) (xs : List Write) → AreInOrder xs → KeepsFirst p (is_left ps) xs
 failed-first p ps [] a = tt
 failed-first p ps (x ∷ xs) a = (
   λ e. elim (cases_Bool (x.node == p)) [
@@ -190,7 +188,7 @@ gone-after sys p cut h i canonical b d (checkpoint g l) gone = inr after
     after c e (checkpoint k m) below stays =
         absurd (two_ways (is_kept_write cut (checkpoint g l) h) (kept-before sys p cut h i canonical g k l m below stays) gone)
 
-recovered-first : (sys : System) (p : ℕ) (cut : ℕ → Cut) (h : List SerialEvent) → p < length sys.flow.nodes
+pub recovered-first : (sys : System) (p : ℕ) (cut : ℕ → Cut) (h : List SerialEvent) → p < length sys.flow.nodes
     → ((f : Front) → cut p ≡ At f → IsCanonical (bounds_of sys.flow p) f) → (xs : List Write) → AreAscending sys xs
     → KeepsFirst p (λ write. is_kept_write (cut write.node) write.written h) xs
 recovered-first sys p cut h i canonical [] a = tt
@@ -219,14 +217,14 @@ recovered-first sys p cut h i canonical (x ∷ xs) a = (
 
 -- ---- each state of a run
 
-abbrev HasChain : ℕ → Machine → Type 0
+abbrev pub HasChain : ℕ → Machine → Type 0
 HasChain p state = IsChain None (links_of p state.writes)
 
 chain-event : (sys : System) (state : Machine) (p q : ℕ) → HasChain p state → IsChain None (links_of p (state.writes ++ write_of_event (policy_of sys.flow q) q state.next))
 chain-event sys state p q a =
     chain-more p state.writes (write_of_event (policy_of sys.flow q) q state.next) (event-none (policy_of sys.flow q) p q state.next) a
 
-took-chain : (sys : System) (state : Machine) (step : Step) (next : Machine) (effect : Effect) → CanRecoverAndRestore sys state → AreInOrder state.writes
+pub took-chain : (sys : System) (state : Machine) (step : Step) (next : Machine) (effect : Effect) → CanRecoverAndRestore sys state → AreInOrder state.writes
     → LeadsTo sys state step next effect → (p : ℕ) → p < length sys.flow.nodes → HasChain p state → HasChain p next
 took-chain sys state (Inject s) next effect f o t p i a = subst (HasChain p) (sym t.3) (chain-event sys state p s a)
 took-chain sys state (Deliver e at) next effect f o t p i a = subst (HasChain p) (sym t.3) (chain-event sys state p (receiver sys.flow e) a)

@@ -1,37 +1,34 @@
--- What a collection forgets was acknowledged, and what is collected is what lies below the watermark.
+-- What a collection forgets was acknowledged, and what lies below the watermark still does after each step.
 use Rattle.std.proofs.Common.{◌≡◌, ◌↔◌, ℕ, ◌<◌, Bool, true, false, not, ◌&&◌, ◌||◌, ◌==◌, List, [], ◌∷◌, ◌++◌, length, filter, map, refl, sym, ap, subst, ◌∙◌, inl, inr, arith}
 use Rattle.std.specs.List.{AllByRecursion, list_any}
 use Rattle.std.proofs.lemmas.Bool.{not-true, and_parts, and_from, or_parts, or_cases, or_left, or_right, cond_both, eqb-true, false_from_ne_true}
 use Rattle.fw_lemmas.proofs.Bools.{two_ways}
-use Rattle.fw_lemmas.proofs.Each.{each-weaker, each-both, each-one, each-append, each-suffix, each-map, each_of-map, each-passed, each-replaced}
+use Rattle.fw_lemmas.proofs.Each.{each-weaker, each-both, each-one, each-append, each-map, each-passed}
 use Rattle.fw_lemmas.proofs.Filters.{any-filter}
 use Rattle.fw_lemmas.proofs.Numbers.{at_most-refl}
 use Rattle.fw_frontier.specs.Frontier.{Within}
 use Rattle.fw_frontier.specs.Front.{Front, frontier_of, IsCanonical, same_front, is_within}
 use Rattle.fw_flow.specs.declared.choice.Cut.TheVariants.{At}
-use Rattle.fw_flow.specs.declared.event.Event.{Event}
-use Rattle.fw_flow.specs.declared.event.Event.TheVariants.{Inject as Injected, Deliver as Delivered, Notify as Notified}
 use Rattle.fw_flow.specs.declared.kind.Policy.{Policy}
 use Rattle.fw_flow.specs.declared.kind.Policy.TheVariants as policy
 use Rattle.fw_flow.specs.declared.step.Step.{Step}
 use Rattle.fw_flow.specs.declared.step.Step.TheVariants.{Inject, Deliver, Notify, Progress as ProgressStep, Checkpoint, Persist, Fail, Recover, Collect, Ack}
 use Rattle.fw_flow.specs.Dataflow.{System, kind_of, policy_of, receiver, bounds_of, node_ids, is_one_of}
 use Rattle.fw_flow.specs.NodeFunction.{event_node, event_stamp}
-use Rattle.fw_flow.specs.WellFormed.{IsWellFormed, IsWellFormedSystem}
-use Rattle.fw_model.specs.History.{IsEnabled}
-use Rattle.fw_model.specs.Machine.{Machine, SerialEvent, Write, Written, checkpoint, logged_event, Stage, in_flight, acknowledged, collected, events, first_state, front_of, is_failed}
+use Rattle.fw_flow.specs.WellFormed.{IsWellFormed}
+use Rattle.fw_model.specs.Machine.{Machine, SerialEvent, Write, Written, checkpoint, logged_event, Stage, in_flight, acknowledged, collected, first_state, front_of}
 use Rattle.fw_flow.specs.declared.choice.Choice.{Choice}
 use Rattle.fw_model.specs.Choice.{kept, ever, is_counted, IsLogged, IsRestorable, IsCandidate, cut_of, kept_of, IsConsistent, filtered_history}
-use Rattle.fw_model.specs.Steps.{Effect, Outcome, did, idle, LeadsTo, Run, write_of_event, with_event, checkpoint_of, is_eager, is_in_flight, is_kept_write, front_of_cut, is_given_up, is_serial_given_up, lies_below, after_collection, is_forgotten}
-use Rattle.fw_model.specs.LawsOfRestoring.{WhatIsForgottenWasAcknowledged, CollectedIsWhatLiesBelow}
+use Rattle.fw_model.specs.Steps.{Effect, Outcome, did, idle, LeadsTo, Run, write_of_event, checkpoint_of, is_eager, is_in_flight, is_kept_write, front_of_cut, is_given_up, is_serial_given_up, lies_below, after_collection, is_forgotten}
+use Rattle.fw_model.specs.LawsOfRestoring.{WhatIsForgottenWasAcknowledged}
 use Rattle.fw_frontier.proofs.NamesLaws.{is_within-holds, within-is}
 use Rattle.fw_model.proofs.SameInsideLaws.{at_node}
 use Rattle.fw_model.proofs.WriteLaws.{HoldsOfOne, IsCheckpointAt, IsItsCheckpoint, NamesEvent, LogsEvent, some-checkpoint, some-logged, ArePairs, LiesBelow, AreAscending}
-use Rattle.fw_model.proofs.LowLaws.{low-within_settled, event-outside, none-within, watermark-front, kept-counts}
+use Rattle.fw_model.proofs.LowLaws.{low-within_settled, none-within, watermark-front, kept-counts}
 use Rattle.fw_model.proofs.ChoosingLaws.{settled_writes}
-use Rattle.fw_model.proofs.AskedLaws.{takes-declared, takes-restoring, takes-not_input, AreSerialsBelow, serials-each, any-find, LowGrows, given-stamp, given-grows, IsAskedWell, IsWriteAskedWell, IsApart, low-grows, CanRecoverAndRestore, took-reached, first-reached, reached-all}
-use Rattle.fw_model.proofs.RestoringLaws.{full-reached, low-kept, apart-events, all-logged, full-restoring, full-declared}
-use Rattle.fw_model.proofs.WholeLaws.{forgotten-below, AreWhole, forgotten-is, took-whole, reached-whole}
+use Rattle.fw_model.proofs.AskedLaws.{takes-declared, takes-restoring, takes-not_input, AreSerialsBelow, serials-each, any-find, LowGrows, given-stamp, given-grows, IsAskedWell, IsWriteAskedWell, IsApart, CanRecoverAndRestore, reached-all}
+use Rattle.fw_model.proofs.RestoringLaws.{apart-events, all-logged, full-restoring, full-declared}
+use Rattle.fw_model.proofs.WholeLaws.{forgotten-below}
 
 -- ---- writes are acknowledged in order
 
@@ -81,7 +78,7 @@ order-collected below (x ∷ xs) a = (
   order-collected below xs a.1,
 )
 
-event-flies : (p : Policy) (q serial : ℕ) → AllByRecursion Flies (write_of_event p q serial)
+pub event-flies : (p : Policy) (q serial : ℕ) → AllByRecursion Flies (write_of_event p q serial)
 event-flies policy.Full q serial = (refl, tt)
 event-flies p q serial = tt
 
@@ -125,7 +122,7 @@ run-order sys (s ∷ ss) (idle ∷ os) state last a r = run-order sys ss os r.0 
 
 -- ---- elements of a list
 
-some-find : {A : Type 0} (P Q : A → Type 0) (xs : List A) → HoldsOfOne P xs → AllByRecursion Q xs → (x : A) × P x × Q x
+pub some-find : {A : Type 0} (P Q : A → Type 0) (xs : List A) → HoldsOfOne P xs → AllByRecursion Q xs → (x : A) × P x × Q x
 some-find P Q [] a b = absurd a
 some-find P Q (x ∷ xs) (inl a) b = (x, a, b.0)
 some-find P Q (x ∷ xs) (inr a) b = some-find P Q xs a b.1
@@ -196,7 +193,7 @@ flying-alone s p of (x ∷ xs) a (inr b) (inr c) = flying-alone s p of xs a.1 b 
 -- ---- nothing below is in flight
 
 -- the watermark of a collection is offered at each node
-offered-low : (sys : System) (state : Machine) (choice : Choice) → IsConsistent sys state (IsCandidate sys state (λ p. true) kept) choice → (p : ℕ)
+pub offered-low : (sys : System) (state : Machine) (choice : Choice) → IsConsistent sys state (IsCandidate sys state (λ p. true) kept) choice → (p : ℕ)
     → p < length sys.flow.nodes → IsCandidate sys state (λ q. true) kept p (At (front_of (map front_of_cut choice.cuts) p))
 offered-low sys state choice c p l = subst (λ cut. IsCandidate sys state (λ q. true) kept p cut) (sym (watermark-front sys state choice c p l)) (c.offered p l)
 
@@ -243,7 +240,7 @@ below-lands sys w state r o choice c of p (logged_event s) has k =
     flying-alone s p of state.writes r.restore.apart has (some-logged s state.writes (subst (λ x. IsLogged x state.writes) is (v.2.1 at inside)))
 
 -- no write below the watermark of a collection is in flight
-below-each : (sys : System) → IsWellFormed sys.flow → (state : Machine) → CanRecoverAndRestore sys state → HasOrder state → (choice : Choice)
+pub below-each : (sys : System) → IsWellFormed sys.flow → (state : Machine) → CanRecoverAndRestore sys state → HasOrder state → (choice : Choice)
     → IsConsistent sys state (IsCandidate sys state (λ p. true) kept) choice
     → AllByRecursion (λ (x : Write). lies_below sys (map front_of_cut choice.cuts) state.history x.node x.written ≡ true → is_in_flight x.stage ≡ false) state.writes
 below-each sys w state f o choice c =
@@ -266,28 +263,13 @@ forgotten-acknowledged sys w steps outcomes last r choice m =
     (λ x k i. k (forgotten-below sys low last.history last.writes x i))
     (below-each sys w.flow last (reached-all sys w steps outcomes last r) (run-order sys steps outcomes (first_state sys) last tt r) choice m.consistent)
 
--- ---- what is collected is what lies below
-
--- what is written was collected exactly where it lies below the watermark
-abbrev IsExact : System → List Front → List SerialEvent → ℕ → Written → Stage → Type 0
-IsExact sys low h p w far = (far ≡ collected) ↔ (lies_below sys low h p w ≡ true)
-
-abbrev IsWriteExact : System → List Front → List SerialEvent → Write → Type 0
-IsWriteExact sys low h x = IsExact sys low h x.node x.written x.stage
-
-abbrev AreExact : System → Machine → Type 0
-AreExact sys state = AllByRecursion (IsWriteExact sys state.low state.history) state.writes
-
--- where it lies below in one history as in another
-exact-same : (sys : System) (low : List Front) (h k : List SerialEvent) (p : ℕ) (w : Written) (far : Stage) → lies_below sys low k p w ≡ lies_below sys low h p w
-    → IsExact sys low h p w far → IsExact sys low k p w far
-exact-same sys low h k p w far e a = (λ c. e ∙ a.0 c, λ b. a.1 (sym e ∙ b))
+-- ---- what lies below, from state to state
 
 -- what is in flight and not below
-exact-new : (b : Bool) → (b ≡ true → ⊥) → (in_flight ≡ collected) ↔ (b ≡ true)
+pub exact-new : (b : Bool) → (b ≡ true → ⊥) → (in_flight ≡ collected) ↔ (b ≡ true)
 exact-new b n = (λ c. absurd (cc c), λ k. absurd (n k))
 
-later-below : (sys : System) (low : List Front) (v : SerialEvent) (h : List SerialEvent) (p : ℕ) (w : Written) (far : Stage) → IsAskedWell sys low v.serial h p w far
+pub later-below : (sys : System) (low : List Front) (v : SerialEvent) (h : List SerialEvent) (p : ℕ) (w : Written) (far : Stage) → IsAskedWell sys low v.serial h p w far
     → lies_below sys low (v ∷ h) p w ≡ lies_below sys low h p w
 later-below sys low v h p (checkpoint g l) far a = refl
 later-below sys low v h p (logged_event s) far a =
@@ -296,7 +278,7 @@ later-below sys low v h p (logged_event s) far a =
     ap (λ b. b && given || is_serial_given_up sys low s h)
     (false_from_ne_true (v.serial == s) (λ e. let is = eqb-true v.serial s e in absurd (omega arith)))
 
-new-not_below : (sys : System) (low : List Front) (v : SerialEvent) (h : List SerialEvent) → AreSerialsBelow v.serial h
+pub new-not_below : (sys : System) (low : List Front) (v : SerialEvent) (h : List SerialEvent) → AreSerialsBelow v.serial h
     → at_node sys low (event_node sys.flow v.event) (event_stamp v.event) ≡ false → (p : ℕ) → lies_below sys low (v ∷ h) p (logged_event v.serial) ≡ true → ⊥
 new-not_below sys low v h a out p k =
     let given : SerialEvent → Bool = λ u. is_given_up sys low (event_node sys.flow u.event) (event_stamp u.event) in
@@ -309,28 +291,8 @@ new-not_below sys low v h a out p k =
           absurd (omega arith)
     ]
 
-event-exact : (sys : System) → IsWellFormedSystem sys → (state : Machine) (v : Event) → CanRecoverAndRestore sys state → IsEnabled sys (events state.history) v → AreExact sys state
-    → AreExact sys (with_event sys state v)
-event-exact sys w state v f k a =
-    let p = event_node sys.flow v in
-    let now : SerialEvent = record { serial = state.next; event = v } in
-    each-append (IsWriteExact sys state.low (now ∷ state.history)) state.writes (write_of_event (policy_of sys.flow p) p state.next)
-    (each-weaker (λ (x : Write). IsWriteExact sys state.low state.history x × IsWriteAskedWell sys state.low state.next state.history x)
-    (IsWriteExact sys state.low (now ∷ state.history)) state.writes
-    (λ x b. exact-same sys state.low state.history (now ∷ state.history) x.node x.written x.stage
-    (later-below sys state.low now state.history x.node x.written x.stage b.1) b.0)
-    (each-both (IsWriteExact sys state.low state.history) (IsWriteAskedWell sys state.low state.next state.history) state.writes a f.restore.asked))
-    (asked (policy_of sys.flow p) refl
-    (λ full. event-outside sys state f.recover.notices v w.flow (full-reached sys state w f) f.recover.lie_settled f.recover.watermark k p (full-declared sys.flow p full) refl))
-  where
-    asked : (pol : Policy) → policy_of sys.flow (event_node sys.flow v) ≡ pol
-        → (policy_of sys.flow (event_node sys.flow v) ≡ policy.Full → at_node sys state.low (event_node sys.flow v) (event_stamp v) ≡ false)
-        → AllByRecursion (IsWriteExact sys state.low (record { serial = state.next; event = v } ∷ state.history)) (write_of_event pol (event_node sys.flow v) state.next)
-    asked policy.Full e out = (exact-new _ (new-not_below sys state.low (record { serial = state.next; event = v }) state.history f.restore.serials (out e) (event_node sys.flow v)), tt)
-    asked pol e out = tt
-
 -- a checkpoint of what is settled is not below
-settled-not_below : (sys : System) → IsWellFormed sys.flow → (state : Machine) → CanRecoverAndRestore sys state → (p : ℕ) (l : List Front) (far : Stage)
+pub settled-not_below : (sys : System) → IsWellFormed sys.flow → (state : Machine) → CanRecoverAndRestore sys state → (p : ℕ) (l : List Front) (far : Stage)
     → IsAskedWell sys state.low state.next state.history p (checkpoint (front_of state.settled p) l) far
     → lies_below sys state.low state.history p (checkpoint (front_of state.settled p) l) ≡ true → ⊥
 settled-not_below sys w state f p l far a k =
@@ -340,28 +302,8 @@ settled-not_below sys w state f p l far a k =
     let within = low-within_settled sys state f.recover.notices f.recover.lie_settled f.recover.watermark p n (takes-not_input sys.flow w p a.0) in
     two_ways (is_within low g) (within-is (bounds_of sys.flow p) low g a.1 within) (not-true (is_within low g) (and_parts (is_within g low) (not (is_within low g)) k).1)
 
-asked-exact : (sys : System) → IsWellFormed sys.flow → (state next : Machine) (settled : List Front) (ps : List ℕ) → CanRecoverAndRestore sys next
-    → next ≡ record state { settled = settled; writes = state.writes ++ settled_writes state settled ps } → AreExact sys state → AreExact sys next
-asked-exact sys w state next settled ps g e a =
-    let now : Machine = record state { settled = settled; writes = state.writes ++ settled_writes state settled ps } in
-    let f : CanRecoverAndRestore sys now = subst (CanRecoverAndRestore sys) e g in
-    let asks : ℕ → Write = λ p. checkpoint_of state p (front_of settled p) in
-    let W : Write → Type 0 = IsWriteAskedWell sys state.low state.next state.history in
-    let more = each_of-map W asks ps (each-suffix W state.writes (settled_writes state settled ps) f.restore.asked) in
-    subst (AreExact sys) (sym e)
-    (each-append (IsWriteExact sys state.low state.history) state.writes (settled_writes state settled ps) a
-    (each-map (IsWriteExact sys state.low state.history) asks ps
-    (each-weaker (λ p. W (asks p)) (λ p. IsWriteExact sys state.low state.history (asks p)) ps
-    (λ p b. exact-new _ (settled-not_below sys w now f p state.low in_flight b)) more)))
-
-acknowledged-exact : (sys : System) (low : List Front) (h : List SerialEvent) (p : ℕ) (w : Written) (far : Stage) → is_in_flight far ≡ true → IsExact sys low h p w far
-    → IsExact sys low h p w acknowledged
-acknowledged-exact sys low h p w in_flight i a = (λ c. absurd (cc c), λ k. let c = a.1 k in absurd (cc c))
-acknowledged-exact sys low h p w acknowledged i a = a
-acknowledged-exact sys low h p w collected i a = absurd (cc)
-
 -- a recovery keeps each event that is given up
-kept-below : (sys : System) (state : Machine) (choice : Choice) → ((p : ℕ) → p < length sys.flow.nodes → Within (at_node sys state.low p) (kept_of sys.flow choice p))
+pub kept-below : (sys : System) (state : Machine) (choice : Choice) → ((p : ℕ) → p < length sys.flow.nodes → Within (at_node sys state.low p) (kept_of sys.flow choice p))
     → (p : ℕ) (w : Written) (far : Stage) → IsAskedWell sys state.low state.next state.history p w far
     → lies_below sys state.low (filtered_history sys choice state.history) p w ≡ lies_below sys state.low state.history p w
 kept-below sys state choice k p (checkpoint g l) far a = refl
@@ -387,7 +329,7 @@ any-weaker test more (x ∷ xs) w k = elim (or_cases (test x) (list_any test xs)
 ]
 
 -- what lay below lies below the greater watermark
-below-grows : (sys : System) (old low : List Front) (next : ℕ) (h : List SerialEvent) → LowGrows sys old low
+pub below-grows : (sys : System) (old low : List Front) (next : ℕ) (h : List SerialEvent) → LowGrows sys old low
     → ((p : ℕ) → p < length sys.flow.nodes → IsCanonical (bounds_of sys.flow p) (front_of low p)) → (p : ℕ) (w : Written) (far : Stage)
     → IsAskedWell sys old next h p w far → lies_below sys old h p w ≡ true → lies_below sys low h p w ≡ true
 below-grows sys old low next h g c p (checkpoint f l) far a k =
@@ -408,87 +350,3 @@ below-grows sys old low next h g c p (logged_event s) far a k =
     (λ v e.
     let i = and_parts (v.serial == s) (is_given_up sys old (event_node sys.flow v.event) (event_stamp v.event)) e in
     and_from (v.serial == s) (is_given_up sys low (event_node sys.flow v.event) (event_stamp v.event)) i.0 (given-grows sys old low g (event_node sys.flow v.event) (event_stamp v.event) i.1)) k
-
-collected-exact : (sys : System) (old low : List Front) (h : List SerialEvent) (p : ℕ) (w : Written) → (lies_below sys old h p w ≡ true → lies_below sys low h p w ≡ true)
-    → (far : Stage) → (lies_below sys low h p w ≡ true → is_in_flight far ≡ false) → IsExact sys old h p w far
-    → IsExact sys low h p w (after_collection (lies_below sys low h p w) far)
-collected-exact sys old low h p w g in_flight n a = exact-new _ (λ k. two_ways true refl (n k))
-collected-exact sys old low h p w g acknowledged n a =
-    let below = lies_below sys low h p w in
-    cond_both below collected acknowledged (λ far. IsExact sys low h p w far) (λ e. (λ c. e, λ k. refl)) (λ e. (λ c. absurd (cc c), λ k. absurd (two_ways below k e)))
-collected-exact sys old low h p w g collected n a = (λ c. g (a.0 refl), λ k. refl)
-
-took-exact : (sys : System) → IsWellFormedSystem sys → (state : Machine) (step : Step) (next : Machine) (effect : Effect) → CanRecoverAndRestore sys state → CanRecoverAndRestore sys next
-    → HasOrder state → AreWhole state.writes → LeadsTo sys state step next effect → AreExact sys state → AreExact sys next
-took-exact sys w state (Inject s) next effect f g o whole t a = subst (AreExact sys) (sym t.3) (event-exact sys w state (Injected s t.0) f t.1 a)
-took-exact sys w state (Deliver e at) next effect f g o whole t a = subst (AreExact sys) (sym t.3) (event-exact sys w state (Delivered e t.0) f t.1.enabled a)
-took-exact sys w state (Notify p at) next effect f g o whole t a = subst (AreExact sys) (sym t.3) (event-exact sys w state (Notified p t.0) f t.1.enabled a)
-took-exact sys w state ProgressStep next effect f g o whole t a =
-    let settled = t.1 in
-    let ps = filter (λ p. is_eager (policy_of sys.flow p) && not (same_front (front_of state.settled p) (front_of settled p))) (node_ids sys.flow) in
-    asked-exact sys w.flow state next settled ps g t.3 a
-took-exact sys w state (Checkpoint p) next effect f g o whole t a = asked-exact sys w.flow state next state.settled (p ∷ []) g t.3 a
-took-exact sys w state Persist next effect f g o whole t a =
-    let k = t.1 in
-    let y = k.oldest in
-    let P : Write → Type 0 = IsWriteExact sys state.low state.history in
-    subst (AreExact sys) (sym t.2)
-    (subst (AllByRecursion P) (sym k.after)
-    (each-replaced P k.earlier y (record y { stage = acknowledged }) k.later
-    (λ b. acknowledged-exact sys state.low state.history y.node y.written y.stage k.in_flight b) (subst (AllByRecursion P) k.before a)))
-took-exact sys w state (Fail ps) next effect f g o whole t a =
-    let P : Write → Type 0 = IsWriteExact sys state.low state.history in
-    subst (AreExact sys) (sym t.4) (each-passed P P (λ write. not (is_one_of write.node ps && is_in_flight write.stage)) state.writes (λ x k b. b) a)
-took-exact sys w state Recover next effect f g o whole t a =
-    let h = filtered_history sys t.1 state.history in
-    let keeps = low-kept sys state f (is_failed state) t.1 t.5 in
-    subst (AreExact sys) (sym t.7)
-    (each-passed (λ (x : Write). IsWriteExact sys state.low state.history x × IsWriteAskedWell sys state.low state.next state.history x) (IsWriteExact sys state.low h)
-    (λ write. is_kept_write (cut_of t.1 write.node) write.written h) state.writes
-    (λ x k b. exact-same sys state.low state.history h x.node x.written x.stage (kept-below sys state t.1 keeps x.node x.written x.stage b.1) b.0)
-    (each-both (IsWriteExact sys state.low state.history) (IsWriteAskedWell sys state.low state.next state.history) state.writes a f.restore.asked))
-took-exact sys w state Collect next effect f g o whole t a =
-    let choice = t.0 in
-    let low = map front_of_cut choice.cuts in
-    let h = state.history in
-    let c = t.1.consistent in
-    let grows = low-grows sys state f.recover.notices choice f.recover.watermark t.1 in
-    let canonical : (p : ℕ) → p < length sys.flow.nodes → IsCanonical (bounds_of sys.flow p) (front_of low p) = λ p l. (offered-low sys state choice c p l).0 in
-    let W : Write → Type 0 = IsWriteAskedWell sys state.low state.next h in
-    let L : Write → Type 0 = λ x. lies_below sys low h x.node x.written ≡ true → is_in_flight x.stage ≡ false in
-    let goes : Write → Bool = is_forgotten sys low h state.writes in
-    subst (AreExact sys) (sym t.3)
-    (each-map (IsWriteExact sys low h) (λ (x : Write). record x { stage = after_collection (goes x) x.stage }) state.writes
-    (each-weaker (λ (x : Write). IsWriteExact sys state.low h x × (W x × L x))
-    (λ (x : Write). IsExact sys low h x.node x.written (after_collection (goes x) x.stage)) state.writes
-    (λ x b. subst (λ (gone : Bool). IsExact sys low h x.node x.written (after_collection gone x.stage)) (sym (forgotten-is sys low h state.writes whole x))
-    (collected-exact sys state.low low h x.node x.written
-    (below-grows sys state.low low state.next h grows canonical x.node x.written x.stage b.1.0) x.stage b.1.1 b.0))
-    (each-both (IsWriteExact sys state.low h) (λ x. W x × L x) state.writes a
-    (each-both W L state.writes f.restore.asked (below-each sys w.flow state f o choice c)))))
-took-exact sys w state (Ack o) next effect f g k whole t a = subst (AreExact sys) (sym t.2) a
-
-run-exact : (sys : System) → IsWellFormedSystem sys → (steps : List Step) (outcomes : List Outcome) (state last : Machine) → CanRecoverAndRestore sys state → HasOrder state
-    → AreWhole state.writes → AreExact sys state → Run sys state steps outcomes last → AreExact sys last
-run-exact sys w [] [] state last f o whole a r = subst (AreExact sys) (sym r) a
-run-exact sys w [] (q ∷ os) state last f o whole a r = absurd r
-run-exact sys w (s ∷ ss) [] state last f o whole a r = absurd r
-run-exact sys w (s ∷ ss) (did effect ∷ os) state last f o whole a r =
-    let g = took-reached sys w state s r.0 effect f r.1 in
-    run-exact sys w ss os r.0 last g (took-order sys state s r.0 effect r.1 o) (took-whole sys state s r.0 effect r.1 whole)
-    (took-exact sys w state s r.0 effect f g o whole r.1 a) r.2
-run-exact sys w (s ∷ ss) (idle ∷ os) state last f o whole a r =
-    run-exact sys w ss os r.0 last (subst (CanRecoverAndRestore sys) (sym r.1.1) f) (subst HasOrder (sym r.1.1) o)
-    (subst (λ (m : Machine). AreWhole m.writes) (sym r.1.1) whole) (subst (AreExact sys) (sym r.1.1) a) r.2
-
--- as each write is whole, what is collected is what lies below by itself
-pub collected-below : (sys : System) → IsWellFormedSystem sys → (steps : List Step) (outcomes : List Outcome) (last : Machine) → Run sys (first_state sys) steps outcomes last
-    → AllByRecursion (λ (x : Write). (x.stage ≡ collected) ↔ (lies_below sys last.low last.history x.node x.written ≡ true)) last.writes
-collected-below sys w steps outcomes last r = run-exact sys w steps outcomes (first_state sys) last (first-reached sys w) tt tt tt r
-
-pub collected-forgotten : CollectedIsWhatLiesBelow
-collected-forgotten sys w steps outcomes last r =
-    each-weaker (λ (x : Write). (x.stage ≡ collected) ↔ (lies_below sys last.low last.history x.node x.written ≡ true))
-    (λ (x : Write). (x.stage ≡ collected) ↔ (is_forgotten sys last.low last.history last.writes x ≡ true)) last.writes
-    (λ x a. subst (λ b. (x.stage ≡ collected) ↔ (b ≡ true)) (sym (forgotten-is sys last.low last.history last.writes (reached-whole sys steps outcomes last r) x)) a)
-    (collected-below sys w steps outcomes last r)

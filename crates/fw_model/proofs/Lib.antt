@@ -7,6 +7,10 @@ pub mod AskedLaws
 pub mod AskedStateLaws
 pub mod BothLaws
 pub mod ChainLaws
+pub mod SpanLaws
+pub mod StandingLaws
+pub mod GoneLaws
+pub mod CollectedLaws
 pub mod CheckpointFrontLaws
 pub mod AutoLaws
 pub mod CheckpointLaws

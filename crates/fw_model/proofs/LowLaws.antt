@@ -516,7 +516,7 @@ unchanged-consistent sys state low writes choice offered c = record {
   notices = c.notices;
 }
 
-not_both : (b : Bool) → (b && not b) ≡ false
+pub not_both : (b : Bool) → (b && not b) ≡ false
 not_both true = refl
 not_both false = refl
 

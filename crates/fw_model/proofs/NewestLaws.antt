@@ -1,5 +1,5 @@
 -- The newest checkpoint of a node is never collected.
-use Rattle.std.proofs.Common.{◌≡◌, ◌↔◌, ℕ, ◌<◌, true, false, not, ◌==◌, List, [], ◌∷◌, ◌++◌, length, filter, cond, refl, sym, ap, subst, ◌∙◌, inl, inr}
+use Rattle.std.proofs.Common.{◌≡◌, ℕ, ◌<◌, true, false, not, ◌==◌, List, [], ◌∷◌, ◌++◌, length, filter, cond, refl, sym, ap, subst, ◌∙◌, inl, inr}
 use Rattle.std.specs.List.{AllByRecursion}
 use Rattle.std.proofs.lemmas.Bool.{not-true, and_parts, cond_both, cases_Bool, eqb-true, eq-eqb}
 use Rattle.fw_lemmas.proofs.Bools.{two_ways}
@@ -17,7 +17,7 @@ use Rattle.fw_frontier.proofs.NamesLaws.{within-is}
 use Rattle.fw_model.proofs.LowLaws.{none-within}
 use Rattle.fw_model.proofs.SameInsideLaws.{low-offered}
 use Rattle.fw_model.proofs.AskedLaws.{takes-declared, takes-restoring, IsAskedWell, IsWriteAskedWell, AreAskedWell, reached-all, last-append}
-use Rattle.fw_model.proofs.ForgottenLaws.{collected-below}
+use Rattle.fw_model.proofs.CollectedLaws.{collected-lies}
 use Rattle.fw_model.specs.LawsOfWrites.{NewestCheckpointIsKept}
 
 -- ---- the fronts of checkpoints
@@ -152,10 +152,10 @@ newest-kept sys w steps outcomes last r p f =
           let way = takes-restoring (kind_of sys.flow p) (policy_of sys.flow p) (w.flow.policies p l) takes in
           let offered = low-offered sys last reached.recover.notices reached.recover.watermark p l in
           let below : AllByRecursion (IsForgottenBelow p low) last.writes =
-          each-weaker (λ (y : Write). (y.stage ≡ collected) ↔ (lies_below sys last.low last.history y.node y.written ≡ true)) (IsForgottenBelow p low) last.writes
+          each-weaker (λ (y : Write). y.stage ≡ collected → lies_below sys last.low last.history y.node y.written ≡ true) (IsForgottenBelow p low) last.writes
           (λ y a g m e i c.
-          let under = subst (λ v. lies_below sys last.low last.history p v ≡ true) i (subst (λ q. lies_below sys last.low last.history q y.written ≡ true) e (a.0 c)) in
-          not-true (is_within low g) (and_parts (is_within g low) (not (is_within low g)) under).1) (collected-below sys w steps outcomes last r) in
+          let under = subst (λ v. lies_below sys last.low last.history p v ≡ true) i (subst (λ q. lies_below sys last.low last.history q y.written ≡ true) e (a c)) in
+          not-true (is_within low g) (and_parts (is_within g low) (not (is_within low g)) under).1) (collected-lies sys w steps outcomes last r) in
           elim (subst (λ x. IsRestorable sys last kept p x low) way offered.1) [
             | inr has ↦
                 (newest-from sys last.low last.next last.history p low l last.writes (some-checkpoint kept p low last.writes has) reached.recover.ascend reached.restore.asked below).same f

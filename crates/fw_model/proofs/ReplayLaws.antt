@@ -1,5 +1,5 @@
 -- The logged events that are left send what is to be sent again: what lacks was given up.
-use Rattle.std.proofs.Common.{◌≡◌, ◌↔◌, ℕ, zero, suc, ◌+◌, ◌<◌, Bool, true, false, cond, not, ◌&&◌, ◌==◌, List, [], ◌∷◌, length, filter, get_or, Some, refl, sym, ap, ◌∙◌, inl, inr, arith}
+use Rattle.std.proofs.Common.{◌≡◌, ℕ, zero, suc, ◌+◌, ◌<◌, Bool, true, false, cond, not, ◌&&◌, ◌==◌, List, [], ◌∷◌, length, filter, get_or, Some, refl, sym, ap, ◌∙◌, inl, inr, arith}
 use Rattle.std.specs.List.{AllByRecursion, list_any, list_all}
 use Rattle.std.proofs.lemmas.Bool.{not-true, and_parts, and_from, and_left, and_right, or_from, or_left, or_right, cond_both, cases_Bool, eqb-true, eq-eqb, false_from_ne_true}
 use Rattle.fw_lemmas.proofs.Bools.{two_ways}
@@ -20,7 +20,7 @@ use Rattle.fw_flow.specs.Projection.{events_at, all_inside}
 use Rattle.fw_flow.specs.WellFormed.{may_keep_nothing}
 use Rattle.fw_model.specs.Machine.{SerialEvent, Write, Written, checkpoint, logged_event, Stage, in_flight, acknowledged, collected, events, front_of}
 use Rattle.fw_model.specs.Choice.{ever, is_counted}
-use Rattle.fw_model.specs.Steps.{inside_if_some, sends_inside, is_given_up, is_serial_given_up, lies_below}
+use Rattle.fw_model.specs.Steps.{inside_if_some, sends_inside, is_given_up, is_serial_given_up}
 use Rattle.fw_model.specs.Filtering.{events_inside, messages_from, messages_outside}
 use Rattle.fw_model.specs.Resending.{at_receiver}
 use Rattle.fw_model.specs.Writes.{IsLoggedOnce}
@@ -29,7 +29,7 @@ use Rattle.fw_model.proofs.FilteredLaws.{set-frontier}
 use Rattle.fw_model.proofs.SendsLaws.{IsOfCause, sent_by-of_cause}
 use Rattle.fw_model.proofs.AskedLaws.{reached-all}
 use Rattle.fw_model.proofs.RestoringLaws.{events-logged}
-use Rattle.fw_model.proofs.ForgottenLaws.{collected-below}
+use Rattle.fw_model.proofs.CollectedLaws.{IsLoggedExact, collected-logged}
 use Rattle.fw_model.specs.LawsOfReplay.{is_its_log, has_log, not_given_up, ReplayedEventsAreThoseNotGivenUp, ReplayedEventsSendTheSame}
 use Rattle.fw_model.proofs.SendPartLaws.{part-sends, passing-send}
 
@@ -52,13 +52,13 @@ any-none test [] a = refl
 any-none test (x ∷ xs) a = or_from (test x) (list_any test xs) a.0 (any-none test xs a.1)
 
 -- an event that is given up has no log
-given-log : (sys : System) (low : List Front) (h : List SerialEvent) (s : ℕ) → is_serial_given_up sys low s h ≡ true → (n : ℕ) (w : Written) (far : Stage)
-    → (far ≡ collected) ↔ (lies_below sys low h n w ≡ true) → is_its_log s w far ≡ false
-given-log sys low h s k n (logged_event r) acknowledged a = false_from_ne_true (r == s) (λ e.
+given-log : (sys : System) (low : List Front) (h : List SerialEvent) (s : ℕ) → is_serial_given_up sys low s h ≡ true → (w : Written) (far : Stage)
+    → IsLoggedExact sys low h w far → is_its_log s w far ≡ false
+given-log sys low h s k (logged_event r) acknowledged a = false_from_ne_true (r == s) (λ e.
     let c = a.1 (ap (λ i. is_serial_given_up sys low i h) (eqb-true r s e) ∙ k) in absurd (cc c))
-given-log sys low h s k n (logged_event r) in_flight a = refl
-given-log sys low h s k n (logged_event r) collected a = refl
-given-log sys low h s k n (checkpoint g l) far a = refl
+given-log sys low h s k (logged_event r) in_flight a = refl
+given-log sys low h s k (logged_event r) collected a = refl
+given-log sys low h s k (checkpoint g l) far a = refl
 
 -- one that was acknowledged and not collected has
 its-log : (s : ℕ) (w : Written) (far : Stage) → w ≡ logged_event s → is_counted ever far ≡ true → (far ≡ collected → ⊥) → is_its_log s w far ≡ true
@@ -72,7 +72,7 @@ its-log s (logged_event r) acknowledged e c n = eq-eqb r s (ap serial_in e)
 its-log s (logged_event r) collected e c n = absurd (n refl)
 
 has-log : (sys : System) (low : List Front) (p : ℕ) (v : SerialEvent) (h : List SerialEvent) (writes : List Write)
-    → AllByRecursion (λ (x : Write). (x.stage ≡ collected) ↔ (lies_below sys low h x.node x.written ≡ true)) writes → event_node sys.flow v.event ≡ p
+    → AllByRecursion (λ (x : Write). IsLoggedExact sys low h x.written x.stage) writes → event_node sys.flow v.event ≡ p
     → (is_given_up sys low (event_node sys.flow v.event) (event_stamp v.event) ≡ true → is_serial_given_up sys low v.serial h ≡ true) → IsLoggedOnce sys low p v writes
     → has_log v.serial writes ≡ not_given_up sys low p (event_stamp v.event)
 has-log sys low p v h writes exact e own once =
@@ -81,8 +81,8 @@ has-log sys low p v h writes exact e own once =
     elim (cases_Bool (is_given_up sys low p t)) [
       | inl g ↦
           any-none log writes
-          (each-weaker (λ (x : Write). (x.stage ≡ collected) ↔ (lies_below sys low h x.node x.written ≡ true)) (λ x. log x ≡ false) writes
-          (λ x a. given-log sys low h v.serial (own (ap (λ q. is_given_up sys low q t) e ∙ g)) x.node x.written x.stage a) exact)
+          (each-weaker (λ (x : Write). IsLoggedExact sys low h x.written x.stage) (λ x. log x ≡ false) writes
+          (λ x a. given-log sys low h v.serial (own (ap (λ q. is_given_up sys low q t) e ∙ g)) x.written x.stage a) exact)
           ∙ sym (ap not g)
       | inr g ↦
           let o = once.only in
@@ -191,7 +191,7 @@ replayed-those sys w steps outcomes last r lost choice m p f full cut =
     let low = last.low in
     let b = frontier_of (bounds_of sys.flow p) f in
     let g = not_given_up sys low p in
-    let exact = collected-below sys w steps outcomes last r in
+    let exact = collected-logged sys w steps outcomes last r in
     let Own : SerialEvent → Type 0 = λ v. is_given_up sys low (event_node sys.flow v.event) (event_stamp v.event) ≡ true → is_serial_given_up sys low v.serial h ≡ true in
     let Once : SerialEvent → Type 0 = λ v. event_node sys.flow v.event ≡ p → b (event_stamp v.event) ≡ true → IsLoggedOnce sys low p v last.writes in
     replayed-are sys p b g (λ serial. has_log serial last.writes) h

@@ -19,8 +19,8 @@ use Rattle.fw_model.proofs.PhiLaws.{all_inside-monotone}
 use Rattle.fw_model.proofs.SendsLaws.{IsOfCause as IsOfItsCause, sent_by-of_cause}
 use Rattle.fw_model.proofs.SendingLaws.{send_stamp-monotone}
 use Rattle.fw_model.specs.Poorer.{IsPoorer}
-use Rattle.fw_model.specs.Thinned.{IsThinned}
-use Rattle.fw_model.proofs.ThinnedLaws.{each-contained}
+use Rattle.fw_model.specs.Thinned.{IsThinned, IsThinnedIf}
+use Rattle.fw_model.proofs.ThinnedLaws.{each-contained, thinned-whole}
 use Rattle.fw_model.specs.EventStamps.{causes_of, causes_in, StandForSent}
 
 -- ---- one of a list
@@ -163,9 +163,9 @@ thinned-over send base f all kept u h w o each k = elim (cases_Bool (base k.caus
   }
 ]
 
-all-over : (send : Stamp → Option Stamp) (base f : Frontier) (all kept : List Stamp) (u : Stamp) → IsThinned base all kept
+all-over : (send : Stamp → Option Stamp) (whole : Bool) (base f : Frontier) (all kept : List Stamp) (u : Stamp) → IsThinnedIf whole base all kept
     → SendsOver send f kept u → SendsOver send f all u
-all-over send base f all kept u h k = record {
+all-over send whole base f all kept u h k = record {
   cause = k.cause;
   at = k.at;
   there = contained-one k.cause all (each-contained (Contains all) k.cause kept (one-contained k.cause kept k.there) h.among);
@@ -185,7 +185,7 @@ all-send at causes send (x ∷ xs) a =
 
 -- what stands for sent messages covers the same as these, from inside each set that holds the base
 pub sent-covers : (sys : System) (h : List Event) (e : ℕ) (base : Frontier) (ms : List Counted) → is_sequence_kind (kind_of sys.flow (sender sys.flow e)) ≡ false
-    → StandForSent sys h (sender sys.flow e) base e ms → ((t : Stamp) → base t ≡ true → in_domain (bounds_of sys.flow (sender sys.flow e)) t ≡ true)
+    → StandForSent true sys h (sender sys.flow e) base e ms → ((t : Stamp) → base t ≡ true → in_domain (bounds_of sys.flow (sender sys.flow e)) t ≡ true)
     → (f : Frontier) → Within base f → (b : Bounds)
     → cover b (map (λ (m : Counted). m.at) (filter (λ (m : Counted). all_inside f m.causes) ms)) ≡ cover b (machine.stamps_from f (sent_messages sys h e))
 unfolding IsOfItsCause
@@ -211,13 +211,14 @@ sent-covers sys h e base ms n s d f w b = λ i t. at t i
 
     there : (t : Stamp) → ours t ≡ true → all t ≡ true
     there t k =
-        let o = all-over send base f (causes_in (sent_messages sys h e)) (causes_of ms) t s.thinned
+        let o = all-over send true base f (causes_in (sent_messages sys h e)) (causes_of ms) t s.thinned
         (over-from (λ (m : Counted). m.at) (λ (m : Counted). m.causes) send f ms t s.of_cause k) in
         from-over (λ (m : Message). m.at) (λ (m : Message). m.causes) send f (sent_messages sys h e) t theirs o.cause o.at o.there o.inside o.sends o.above
 
     back : (t : Stamp) → all t ≡ true → ours t ≡ true
     back t k =
-        let o = thinned-over send base f (causes_in (sent_messages sys h e)) (causes_of ms) t s.thinned w order
+        let o = thinned-over send base f (causes_in (sent_messages sys h e)) (causes_of ms) t
+        (thinned-whole base (causes_in (sent_messages sys h e)) (causes_of ms) s.thinned) w order
         (all-send (λ (m : Counted). m.at) (λ (m : Counted). m.causes) send ms s.of_cause)
         (over-from (λ (m : Message). m.at) (λ (m : Message). m.causes) send f (sent_messages sys h e) t theirs k) in
         from-over (λ (m : Counted). m.at) (λ (m : Counted). m.causes) send f ms t s.of_cause o.cause o.at o.there o.inside o.sends o.above
@@ -228,12 +229,12 @@ sent-covers sys h e base ms n s d f w b = λ i t. at t i
 -- ---- where perhaps not the whole is kept
 
 -- what stands for sent messages covers no more than these from inside each set, and these besides at most what comes from the base
-pub sent_outside-covers : (sys : System) (h : List Event) (e : ℕ) (base : Frontier) (ms : List Counted) → is_sequence_kind (kind_of sys.flow (sender sys.flow e)) ≡ false
-    → StandForSent sys h (sender sys.flow e) base e ms → (f : Frontier) (b : Bounds)
+pub sent_outside-covers : (whole : Bool) (sys : System) (h : List Event) (e : ℕ) (base : Frontier) (ms : List Counted) → is_sequence_kind (kind_of sys.flow (sender sys.flow e)) ≡ false
+    → StandForSent whole sys h (sender sys.flow e) base e ms → (f : Frontier) (b : Bounds)
     → IsPoorer (cover b (map (λ (m : Counted). m.at) (filter (λ (m : Counted). all_inside f m.causes) ms))) (cover b (machine.stamps_from f (sent_messages sys h e)))
     (cover b (machine.stamps_from base (sent_messages sys h e)))
 unfolding IsOfItsCause
-sent_outside-covers sys h e base ms n s f b = record {
+sent_outside-covers whole sys h e base ms n s f b = record {
   within = λ t i. let p = and_parts (in_domain b t) (ours t) i in and_from (in_domain b t) (all f t) p.0 (there t p.1);
   rest = λ t i.
       let p = and_parts (in_domain b t) (all f t) i in
@@ -257,7 +258,7 @@ sent_outside-covers sys h e base ms n s f b = record {
 
     there : (t : Stamp) → ours t ≡ true → all f t ≡ true
     there t k =
-        let o = all-over send base f (causes_in (sent_messages sys h e)) (causes_of ms) t s.thinned
+        let o = all-over send whole base f (causes_in (sent_messages sys h e)) (causes_of ms) t s.thinned
         (over-from (λ (m : Counted). m.at) (λ (m : Counted). m.causes) send f ms t s.of_cause k) in
         from-over (λ (m : Message). m.at) (λ (m : Message). m.causes) send f (sent_messages sys h e) t theirs o.cause o.at o.there o.inside o.sends o.above
 

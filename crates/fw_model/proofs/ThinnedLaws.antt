@@ -97,6 +97,10 @@ thinned-if whole base all kept h = record { among = h.among; outside = h.outside
 pub thinned-whole : (base : Frontier) (all kept : List Stamp) → IsThinnedIf true base all kept → IsThinned base all kept
 thinned-whole base all kept h = record { among = h.among; outside = h.outside; inside = h.inside refl }
 
+-- where perhaps the whole is asked, not the whole is
+pub thinned-less : (whole : Bool) (base : Frontier) (all kept : List Stamp) → IsThinnedIf whole base all kept → IsThinnedIf false base all kept
+thinned-less whole base all kept h = record { among = h.among; outside = h.outside; inside = λ e. absurd (cc) }
+
 covers : (bounds : Bounds) (f : Frontier) (ss : List Stamp) (t : Stamp) → in_domain bounds t ≡ true → IsUnder f ss t → cover bounds (filter f ss) t ≡ true
 covers bounds f ss t d u = and_from (in_domain bounds t) (some_above (filter f ss) t) d (under-above f ss t u)
 

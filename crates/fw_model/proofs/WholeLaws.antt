@@ -1,5 +1,5 @@
 -- Each write is whole, so that none stands on another, and what is forgotten is what lies below.
-use Rattle.std.proofs.Common.{◌≡◌, ℕ, zero, suc, Bool, true, false, not, ◌&&◌, ◌||◌, List, [], ◌∷◌, ◌++◌, filter, map, refl, sym, ap, subst, ◌∙◌, Option, None}
+use Rattle.std.proofs.Common.{◌≡◌, ℕ, zero, suc, Bool, true, false, not, ◌&&◌, ◌||◌, List, [], ◌∷◌, filter, map, refl, sym, ap, subst, ◌∙◌, Option, None}
 use Rattle.std.specs.List.{AllByRecursion, list_any, list_all}
 use Rattle.std.proofs.lemmas.Bool.{and_parts}
 use Rattle.fw_lemmas.proofs.Each.{each-one, each-append, each-map, each-passed, each-replaced}
@@ -30,7 +30,7 @@ IsWhole x = x.base ≡ None
 abbrev pub AreWhole : List Write → Type 0
 AreWhole writes = AllByRecursion IsWhole writes
 
-none-down : (depth p : ℕ) (writes : List Write) → bases_down depth p None writes ≡ []
+pub none-down : (depth p : ℕ) (writes : List Write) → bases_down depth p None writes ≡ []
 none-down zero p writes = refl
 none-down (suc depth) p writes = refl
 
@@ -46,7 +46,7 @@ all-stand_apart writes test x (y ∷ ys) a =
     ap (λ b. (not b || test y) && list_all (λ (z : Write). not (stands_on writes z x) || test z) ys) (stands-on_none writes y x a.0)
     ∙ all-stand_apart writes test x ys a.1
 
-and-true : (b : Bool) → (b && true) ≡ b
+pub and-true : (b : Bool) → (b && true) ≡ b
 and-true true = refl
 and-true false = refl
 

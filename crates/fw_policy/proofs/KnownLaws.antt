@@ -62,21 +62,21 @@ each-of : (P : Stamp → Type 0) (ss : List Stamp) → ((t : Stamp) → IsOne t 
 each-of P [] h = tt
 each-of P (s ∷ ss) h = (h s (inl refl), each-of P ss (λ t i. h t (inr i)))
 
-known-from : (sys : System) (state : Machine) (lost : ℕ → Bool) (entries : List Entry) (n : ℕ) (view : List NodeView) → AreNodeViewsFrom sys state lost n view
-    → ((p : ℕ) (node : NodeView) → p < n + length view → IsNodeViewOf sys state lost p node → IsKnown sys.flow entries p node) → AreNodesKnown sys.flow entries n view
-known-from sys state lost entries n [] v k = tt
-known-from sys state lost entries n (node ∷ view) v k =
-    (k n node (omega arith) v.0, known-from sys state lost entries (suc n) view v.1 (λ p x l i. k p x (omega (arith, l)) i))
+known-from : (sys : System) (state : Machine) (lost : ℕ → Bool) (floor : List Front) (entries : List Entry) (n : ℕ) (view : List NodeView) → AreNodeViewsFrom sys state lost floor n view
+    → ((p : ℕ) (node : NodeView) → p < n + length view → IsNodeViewOf sys state lost floor p node → IsKnown sys.flow entries p node) → AreNodesKnown sys.flow entries n view
+known-from sys state lost floor entries n [] v k = tt
+known-from sys state lost floor entries n (node ∷ view) v k =
+    (k n node (omega arith) v.0, known-from sys state lost floor entries (suc n) view v.1 (λ p x l i. k p x (omega (arith, l)) i))
 
-pub are-known : (sys : System) (state : Machine) (lost : ℕ → Bool) (view : List NodeView) (entries : List Entry) → IsViewOf sys state lost view entries → AreNodesKnown sys.flow entries 0 view
-are-known sys state lost view entries v =
+pub are-known : (sys : System) (state : Machine) (lost : ℕ → Bool) (floor : List Front) (view : List NodeView) (entries : List Entry) → IsViewOf sys state lost floor view entries → AreNodesKnown sys.flow entries 0 view
+are-known sys state lost floor view entries v =
     let w = v.well_formed in
     let r = v.reached in
     let all = reached-all sys w r.0 r.1 state r.2 in
     let legal = all.recover.holds.legal in
     let inside = each-numbered (λ u. in_domain (bounds_of sys.flow (event_node sys.flow u)) (event_stamp u) ≡ true) state.history
     (legal-in_domain sys (events state.history) w.flow (has_epochs sys w) legal) in
-    known-from sys state lost entries 0 view v.nodes (λ p node l i. record {
+    known-from sys state lost floor entries 0 view v.nodes (λ p node l i. record {
       settled = subst (λ (f : Front). IsCanonical (bounds_of sys.flow p) f) (sym i.settled) (all.restore.settled p (omega (arith, l, v.one_each)));
       border = border-fits sys state p (kind_of sys.flow p) (policy_of sys.flow p) node.border (omega (arith, injected-few sys (events state.history) legal p, w.few p)) i.border;
       unlogged = λ way.

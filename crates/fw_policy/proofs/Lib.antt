@@ -1,3 +1,4 @@
+pub mod AboveLaws
 pub mod BatchLaws
 pub mod CodeLaws
 pub mod KnownLaws

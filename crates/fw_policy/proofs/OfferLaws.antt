@@ -10,7 +10,7 @@ use Rattle.fw_time.specs.declared.stamp.Bounds.{Bounds}
 use Rattle.fw_frontier.specs.Frontier.{Frontier, Within, nothing, everything, cover, meet}
 use Rattle.fw_frontier.specs.Front.{Front, inside, frontier_of, IsCanonical, IsFrontOf, is_within}
 use Rattle.fw_frontier.proofs.NamesLaws.{is_within-holds, within-is}
-use Rattle.fw_model.proofs.ThinnedLaws.{thinned-covers}
+use Rattle.fw_model.proofs.ThinnedLaws.{thinned-covers, thinned-whole}
 use Rattle.fw_flow.specs.declared.choice.Counted.{Counted}
 use Rattle.fw_flow.specs.declared.choice.Cut.{Cut}
 use Rattle.fw_flow.specs.declared.choice.Cut.TheVariants.{Present, At}
@@ -34,7 +34,7 @@ use Rattle.fw_model.specs.Choice.{kept, IsCandidate, IsRestorable, until}
 use Rattle.fw_model.specs.Covers.{takes_its_cut, takes_its_notices, covers_in, stamp_of_notice, stamps_from, stamps_inside, notified_inside, discarded_at}
 use Rattle.fw_model.specs.History.{delivered_messages, sent_messages, injected_count}
 use Rattle.fw_model.specs.Machine.{Machine, events, no_stamps, front_of, ack_count_of}
-use Rattle.fw_model.specs.Offers.{can_stay, offered_by, listed_records, records_of, offered_range, delivered_to, notified_of, offered_sent, counts_offered, IsOfferedFront, IsOffered, IsListed, counted_on_edge, stamps_on, stamps_on_from, delivered_in, sent_in, notified_in, recorded_delivered, recorded_discarded, recorded_notified, covers_of, Ascend, IsRecordOf, IsRangeOf, is_by_range, IsFormOf, HasOneCause, AreOfBatches, AreAtEdgeStamps, AreOffersOf, AreOffersIn}
+use Rattle.fw_model.specs.Offers.{can_stay, offered_by, listed_records, records_of, offered_range, delivered_to, notified_of, offered_sent, counts_offered, IsOfferedFront, IsOffered, IsListed, counted_on_edge, stamps_on, stamps_on_from, delivered_in, sent_in, notified_in, recorded_delivered, recorded_discarded, recorded_notified, covers_of, Ascend, RecordsAscend, IsRecordOf, IsRangeOf, is_by_range, IsFormOf, HasOneCause, AreOfBatches, AreAtEdgeStamps, AreOffersOf, AreOffersIn}
 use Rattle.fw_model.specs.Writes.{takes_checkpoints, is_collected, not_collected}
 use Rattle.fw_model.proofs.AskedLaws.{reached-all, takes-restoring, IsApart}
 use Rattle.fw_model.proofs.CheckpointFrontLaws.{checkpoints-have_stamps}
@@ -52,9 +52,9 @@ use Rattle.fw_policy.specs.declared.view.Border.{Border}
 use Rattle.fw_policy.specs.declared.view.Border.TheVariants.{Inner, Source, Output}
 use Rattle.fw_keep.specs.declared.entry.Entry.{Entry}
 use Rattle.fw_policy.specs.declared.view.NodeView.{NodeView}
-use Rattle.fw_model.specs.EventStamps.{IsOfCause}
+use Rattle.fw_model.specs.EventStamps.{IsOfCause, AreStampsIf}
 use Rattle.fw_policy.specs.Entries.{IsRecorded}
-use Rattle.fw_policy.specs.View.{base_of, IsLostAt, IsBorderOf, IsNodeViewOf, AreNodeViewsFrom, IsViewOf, AreReadAs}
+use Rattle.fw_policy.specs.View.{base_of, AreWholeFrom, IsLostAt, IsBorderOf, IsNodeViewOf, AreNodeViewsFrom, IsViewOf, AreReadAs}
 use Rattle.fw_policy.specs.Offering.{records_by, empty_record, holding, unlogged_stamps, below_all, IsRange, IsOfBatches, IsOfBound, OffersBy, IsOfferBy, AreOffersBy}
 use Rattle.fw_policy.proofs.BatchLaws.{batches-offered}
 use Rattle.fw_policy.proofs.NumberLaws.{numbered-covers, counted-arrive}
@@ -78,25 +78,30 @@ at-map g d (q ∷ os) zero o i = ap g i
 at-map g d (q ∷ os) (suc p) o i = at-map g d os p o i
 
 -- what node p offers, with what is known of it
-record Offers (sys : System) (state : Machine) (lost : ℕ → Bool) (entries : List Entry) (offers : List Offer) (p : ℕ) : Type 0 where
+pub record Offers (sys : System) (state : Machine) (lost : ℕ → Bool) (floor : List Front) (entries : List Entry) (offers : List Offer) (p : ℕ) : Type 0 where
   pub offer : Offer
   pub node : NodeView
   pub there : IsAt offers p offer
-  pub known : IsNodeViewOf sys state lost p node
+  pub known : IsNodeViewOf sys state lost floor p node
   pub is : IsOfferBy sys.flow entries p node offer
 
-offers-at : (sys : System) (state : Machine) (lost : ℕ → Bool) (entries : List Entry) (n p : ℕ) (view : List NodeView) (offers : List Offer)
-    → AreNodeViewsFrom sys state lost n view → AreOffersBy sys.flow entries n view offers → p < length view
-    → (offer : Offer) × (node : NodeView) × IsAt offers p offer × IsNodeViewOf sys state lost (n + p) node × IsOfferBy sys.flow entries (n + p) node offer
-offers-at sys state lost entries n p [] offers v o l = absurd (omega arith)
-offers-at sys state lost entries n p (node ∷ view) [] v o l = absurd o
-offers-at sys state lost entries n zero (node ∷ view) (offer ∷ offers) v o l =
+-- nothing that happened inside the base of node p is missing in its view
+abbrev pub IsWholeView : System → Machine → List Front → ℕ → NodeView → Type 0
+IsWholeView sys state floor p node = AreStampsIf true sys (events state.history) p (base_of sys floor state p) node.stamps
+
+offers-at : (sys : System) (state : Machine) (lost : ℕ → Bool) (floor : List Front) (entries : List Entry) (n p : ℕ) (view : List NodeView) (offers : List Offer)
+    → AreNodeViewsFrom sys state lost floor n view → AreOffersBy sys.flow entries n view offers → p < length view
+    → (offer : Offer) × (node : NodeView) × IsAt offers p offer × IsNodeViewOf sys state lost floor (n + p) node × IsOfferBy sys.flow entries (n + p) node offer
+    × (AreWholeFrom sys state floor n view → IsWholeView sys state floor (n + p) node)
+offers-at sys state lost floor entries n p [] offers v o l = absurd (omega arith)
+offers-at sys state lost floor entries n p (node ∷ view) [] v o l = absurd o
+offers-at sys state lost floor entries n zero (node ∷ view) (offer ∷ offers) v o l =
     let e : n ≡ n + 0 = omega arith in
-    (offer, node, refl, subst (λ k. IsNodeViewOf sys state lost k node) e v.0, subst (λ k. IsOfferBy sys.flow entries k node offer) e o.0)
-offers-at sys state lost entries n (suc p) (node ∷ view) (offer ∷ offers) v o l =
-    let r = offers-at sys state lost entries (suc n) p view offers v.1 o.1 (omega arith) in
+    (offer, node, refl, subst (λ k. IsNodeViewOf sys state lost floor k node) e v.0, subst (λ k. IsOfferBy sys.flow entries k node offer) e o.0, λ w. subst (λ k. IsWholeView sys state floor k node) e w.0)
+offers-at sys state lost floor entries n (suc p) (node ∷ view) (offer ∷ offers) v o l =
+    let r = offers-at sys state lost floor entries (suc n) p view offers v.1 o.1 (omega arith) in
     let e : suc n + p ≡ n + suc p = omega arith in
-    (r.0, r.1, r.2, subst (λ k. IsNodeViewOf sys state lost k r.1) e r.3, subst (λ k. IsOfferBy sys.flow entries k r.1 r.0) e r.4)
+    (r.0, r.1, r.2, subst (λ k. IsNodeViewOf sys state lost floor k r.1) e r.3, subst (λ k. IsOfferBy sys.flow entries k r.1 r.0) e r.4, λ w. subst (λ k. IsWholeView sys state floor k r.1) e (r.5 w.1))
 
 lengths : (flow : Dataflow) (entries : List Entry) (n : ℕ) (view : List NodeView) (offers : List Offer) → AreOffersBy flow entries n view offers → length offers ≡ length view
 lengths flow entries n [] [] o = refl
@@ -105,10 +110,12 @@ lengths flow entries n (node ∷ view) [] o = absurd o
 lengths flow entries n (node ∷ view) (offer ∷ offers) o = ap (λ k. suc k) (lengths flow entries (suc n) view offers o.1)
 
 -- what the proofs rest on
-record AreOffersKnown (sys : System) (state : Machine) (lost : ℕ → Bool) (entries : List Entry) (offers : List Offer) : Type 0 where
+pub record AreOffersKnown (sys : System) (state : Machine) (lost : ℕ → Bool) (floor : List Front) (entries : List Entry) (offers : List Offer) : Type 0 where
   pub well_formed : IsWellFormedSystem sys
   pub one_each : length offers ≡ length sys.flow.nodes
-  pub each : (p : ℕ) → p < length sys.flow.nodes → Offers sys state lost entries offers p
+  pub each : (p : ℕ) → p < length sys.flow.nodes → Offers sys state lost floor entries offers p
+  pub view : List NodeView
+  pub each_whole : (p : ℕ) (l : p < length sys.flow.nodes) → AreWholeFrom sys state floor 0 view → IsWholeView sys state floor p (each p l).node
   pub written : AreReadAs sys state entries (filter not_collected state.writes)
   pub under : ArePairs (IsUnder sys) (filter not_collected state.writes)
   pub low : (p : ℕ) → p < length sys.flow.nodes → IsCandidate sys state (λ q. true) kept p (At (front_of state.low p))
@@ -118,9 +125,9 @@ record AreOffersKnown (sys : System) (state : Machine) (lost : ℕ → Bool) (en
   pub in_domain : (p : ℕ) → AllByRecursion (λ v. in_domain (bounds_of sys.flow p) (event_stamp v) ≡ true) (events_at sys.flow p (events state.history))
   pub apart : (p : ℕ) → p < length sys.flow.nodes → AllByRecursion (λ (r : Recorded). r.front ≢ no_stamps (bounds_of sys.flow p)) (records_by p entries)
 
-are-there : (sys : System) (state : Machine) (lost : ℕ → Bool) (view : List NodeView) (entries : List Entry) (offers : List Offer)
-    → IsViewOf sys state lost view entries → AreOffersBy sys.flow entries 0 view offers → AreOffersKnown sys state lost entries offers
-are-there sys state lost view entries offers v o =
+pub are-there : (sys : System) (state : Machine) (lost : ℕ → Bool) (floor : List Front) (view : List NodeView) (entries : List Entry) (offers : List Offer)
+    → IsViewOf sys state lost floor view entries → AreOffersBy sys.flow entries 0 view offers → AreOffersKnown sys state lost floor entries offers
+are-there sys state lost floor view entries offers v o =
     let w = v.well_formed in
     let r = v.reached in
     let all = reached-all sys w r.0 r.1 state r.2 in
@@ -129,15 +136,20 @@ are-there sys state lost view entries offers v o =
       well_formed = w;
       one_each = lengths sys.flow entries 0 view offers o ∙ v.one_each;
       each = λ p l.
-          let k = offers-at sys state lost entries 0 p view offers v.nodes o (subst (λ n. p < n) (sym v.one_each) l) in
+          let k = offers-at sys state lost floor entries 0 p view offers v.nodes o (subst (λ n. p < n) (sym v.one_each) l) in
           let e : 0 + p ≡ p = omega arith in
           record {
             offer = k.0;
             node = k.1;
             there = k.2;
-            known = subst (λ q. IsNodeViewOf sys state lost q k.1) e k.3;
+            known = subst (λ q. IsNodeViewOf sys state lost floor q k.1) e k.3;
             is = subst (λ q. IsOfferBy sys.flow entries q k.1 k.0) e k.4;
           };
+      view = view;
+      each_whole = λ p l whole.
+          let k = offers-at sys state lost floor entries 0 p view offers v.nodes o (subst (λ n. p < n) (sym v.one_each) l) in
+          let e : 0 + p ≡ p = omega arith in
+          subst (λ q. IsWholeView sys state floor q k.1) e (k.5 whole);
       written = v.written;
       under = pairs-passed (IsUnder sys) not_collected state.writes (pairs-both (LiesBelow sys) IsApart state.writes all.recover.ascend all.restore.apart);
       low = λ p l. low-offered sys state all.recover.notices all.recover.watermark p l;
@@ -155,29 +167,29 @@ are-there sys state lost view entries offers v o =
           (each-kept _ not_collected state.writes (checkpoints-have_stamps sys w r.0 r.1 state r.2));
     }
 
-delivered-is : (sys : System) (state : Machine) (lost : ℕ → Bool) (entries : List Entry) (offers : List Offer) (p : ℕ) (o : Offers sys state lost entries offers p)
+pub delivered-is : (sys : System) (state : Machine) (lost : ℕ → Bool) (floor : List Front) (entries : List Entry) (offers : List Offer) (p : ℕ) (o : Offers sys state lost floor entries offers p)
     → delivered_to offers p ≡ o.node.stamps.delivered
-delivered-is sys state lost entries offers p o = at-map (λ (x : Offer). x.stamps.delivered) [] offers p o.offer o.there ∙ ap (λ (x : Stamps). x.delivered) o.is.stamps
+delivered-is sys state lost floor entries offers p o = at-map (λ (x : Offer). x.stamps.delivered) [] offers p o.offer o.there ∙ ap (λ (x : Stamps). x.delivered) o.is.stamps
 
-notified-is : (sys : System) (state : Machine) (lost : ℕ → Bool) (entries : List Entry) (offers : List Offer) (p : ℕ) (o : Offers sys state lost entries offers p)
+pub notified-is : (sys : System) (state : Machine) (lost : ℕ → Bool) (floor : List Front) (entries : List Entry) (offers : List Offer) (p : ℕ) (o : Offers sys state lost floor entries offers p)
     → notified_of offers p ≡ o.node.stamps.notified
-notified-is sys state lost entries offers p o = at-map (λ (x : Offer). x.stamps.notified) [] offers p o.offer o.there ∙ ap (λ (x : Stamps). x.notified) o.is.stamps
+notified-is sys state lost floor entries offers p o = at-map (λ (x : Offer). x.stamps.notified) [] offers p o.offer o.there ∙ ap (λ (x : Stamps). x.notified) o.is.stamps
 
-sent-is : (sys : System) (state : Machine) (lost : ℕ → Bool) (entries : List Entry) (offers : List Offer) (p : ℕ) (o : Offers sys state lost entries offers p)
+pub sent-is : (sys : System) (state : Machine) (lost : ℕ → Bool) (floor : List Front) (entries : List Entry) (offers : List Offer) (p : ℕ) (o : Offers sys state lost floor entries offers p)
     → offered_sent offers p ≡ o.node.stamps.sent
-sent-is sys state lost entries offers p o = at-map (λ (x : Offer). x.stamps.sent) [] offers p o.offer o.there ∙ ap (λ (x : Stamps). x.sent) o.is.stamps
+sent-is sys state lost floor entries offers p o = at-map (λ (x : Offer). x.stamps.sent) [] offers p o.offer o.there ∙ ap (λ (x : Stamps). x.sent) o.is.stamps
 
-table-is : (sys : System) (state : Machine) (lost : ℕ → Bool) (entries : List Entry) (offers : List Offer) (p : ℕ) (o : Offers sys state lost entries offers p)
+table-is : (sys : System) (state : Machine) (lost : ℕ → Bool) (floor : List Front) (entries : List Entry) (offers : List Offer) (p : ℕ) (o : Offers sys state lost floor entries offers p)
     → counts_offered offers p ≡ o.node.table
-table-is sys state lost entries offers p o = at-map (λ (x : Offer). x.table) [] offers p o.offer o.there ∙ o.is.table
+table-is sys state lost floor entries offers p o = at-map (λ (x : Offer). x.table) [] offers p o.offer o.there ∙ o.is.table
 
-offered-is : (sys : System) (state : Machine) (lost : ℕ → Bool) (entries : List Entry) (offers : List Offer) (p : ℕ) (o : Offers sys state lost entries offers p)
+offered-is : (sys : System) (state : Machine) (lost : ℕ → Bool) (floor : List Front) (entries : List Entry) (offers : List Offer) (p : ℕ) (o : Offers sys state lost floor entries offers p)
     → offered_by offers p ≡ o.offer.offered
-offered-is sys state lost entries offers p o = at-map (λ (x : Offer). x.offered) (form.Listed []) offers p o.offer o.there
+offered-is sys state lost floor entries offers p o = at-map (λ (x : Offer). x.offered) (form.Listed []) offers p o.offer o.there
 
-records-are : (sys : System) (state : Machine) (lost : ℕ → Bool) (entries : List Entry) (offers : List Offer) (p : ℕ) (o : Offers sys state lost entries offers p)
+records-are : (sys : System) (state : Machine) (lost : ℕ → Bool) (floor : List Front) (entries : List Entry) (offers : List Offer) (p : ℕ) (o : Offers sys state lost floor entries offers p)
     → records_of offers p ≡ listed_records o.offer.offered
-records-are sys state lost entries offers p o = ap listed_records (offered-is sys state lost entries offers p o)
+records-are sys state lost floor entries offers p o = ap listed_records (offered-is sys state lost floor entries offers p o)
 
 -- ---- records of a node with checkpoints
 
@@ -192,9 +204,9 @@ record IsListing (sys : System) (state : Machine) (p : ℕ) (records : List Reco
 abbrev listed_of : Dataflow → List Entry → ℕ → Front → List Recorded
 listed_of flow entries p low = holding low (empty_record (bounds_of flow p) ∷ records_by p entries)
 
-listing : (sys : System) (state : Machine) (lost : ℕ → Bool) (entries : List Entry) (offers : List Offer) → AreOffersKnown sys state lost entries offers → (p : ℕ) → p < length sys.flow.nodes
+listing : (sys : System) (state : Machine) (lost : ℕ → Bool) (floor : List Front) (entries : List Entry) (offers : List Offer) → AreOffersKnown sys state lost floor entries offers → (p : ℕ) → p < length sys.flow.nodes
     → way_of sys.flow p ≡ Checkpoints → IsListing sys state p (listed_of sys.flow entries p (front_of state.low p))
-listing sys state lost entries offers a p l way =
+listing sys state lost floor entries offers a p l way =
     let b = bounds_of sys.flow p in
     let low = front_of state.low p in
     let rs = records_by p entries in
@@ -312,31 +324,31 @@ events-right sys state p entries lost low settled (form.Between least greatest) 
     ((λ i. let j = r.0 i in let v = w.0 j.0 in ((v.0, m.1 v.1), j.1)), (λ i. r.1 (w.1 ((i.0).0, m.0 (i.0).1), i.1)))
 
 -- a node with checkpoints lists those that hold the machine's low watermark
-listed-low : (sys : System) (state : Machine) (lost : ℕ → Bool) (entries : List Entry) (offers : List Offer) (p : ℕ) (o : Offers sys state lost entries offers p) (offered : Offered)
+listed-low : (sys : System) (state : Machine) (lost : ℕ → Bool) (floor : List Front) (entries : List Entry) (offers : List Offer) (p : ℕ) (o : Offers sys state lost floor entries offers p) (offered : Offered)
     → OffersBy (bounds_of sys.flow p) entries p o.node Checkpoints offered → offered ≡ form.Listed (listed_of sys.flow entries p (front_of state.low p))
-listed-low sys state lost entries offers p o offered k = k ∙ ap (λ (low : Front). form.Listed (listed_of sys.flow entries p low)) o.known.low
+listed-low sys state lost floor entries offers p o offered k = k ∙ ap (λ (low : Front). form.Listed (listed_of sys.flow entries p low)) o.known.low
 
 -- the offer of a node is right, by the way in which it is restored
-offered-right : (sys : System) (state : Machine) (lost : ℕ → Bool) (entries : List Entry) (offers : List Offer) → AreOffersKnown sys state lost entries offers → (p : ℕ) → p < length sys.flow.nodes
-    → (o : Offers sys state lost entries offers p) → (way : Restoring) → way_of sys.flow p ≡ way → (offered : Offered)
+offered-right : (sys : System) (state : Machine) (lost : ℕ → Bool) (floor : List Front) (entries : List Entry) (offers : List Offer) → AreOffersKnown sys state lost floor entries offers → (p : ℕ) → p < length sys.flow.nodes
+    → (o : Offers sys state lost floor entries offers p) → (way : Restoring) → way_of sys.flow p ≡ way → (offered : Offered)
     → OffersBy (bounds_of sys.flow p) entries p o.node way offered → IsOfferedRight sys state p way offered
 unfolding IsOfferedRight
-offered-right sys state lost entries offers a p l o Batches e offered k =
+offered-right sys state lost floor entries offers a p l o Batches e offered k =
     let is = by_batches-input (kind_of sys.flow p) (policy_of sys.flow p) e in
     let border = of-border sys state p Input o.node.border is o.known.border in
     batches-right sys state p o.node.low o.node.border offered (bounds-input sys.flow p is) (input-few sys state p o.node.border (a.few p) border) o.known.low border k
-offered-right sys state lost entries offers a p l o Bound e offered k =
+offered-right sys state lost floor entries offers a p l o Bound e offered k =
     bound-right sys state p o.node.low o.node.settled o.node.border offered o.known.low o.known.settled
     (elim (bound-output (kind_of sys.flow p) (policy_of sys.flow p) e) [
       | inl is ↦ inl (of-border sys state p OutputEpoch o.node.border is o.known.border)
       | inr is ↦ inr (of-border sys state p OutputNumber o.node.border is o.known.border)
     ]) k
-offered-right sys state lost entries offers a p l o Anything e offered k =
+offered-right sys state lost floor entries offers a p l o Anything e offered k =
     anything-right sys state p o.node.low o.node.settled offered o.known.low o.known.settled k
-offered-right sys state lost entries offers a p l o Checkpoints e offered k =
-    subst (IsOfferedRight sys state p Checkpoints) (sym (listed-low sys state lost entries offers p o offered k)) (λ f c.
-    (listing sys state lost entries offers a p l e).offered f c)
-offered-right sys state lost entries offers a p l o Events e offered k =
+offered-right sys state lost floor entries offers a p l o Checkpoints e offered k =
+    subst (IsOfferedRight sys state p Checkpoints) (sym (listed-low sys state lost floor entries offers p o offered k)) (λ f c.
+    (listing sys state lost floor entries offers a p l e).offered f c)
+offered-right sys state lost floor entries offers a p l o Events e offered k =
     let full = events-full (kind_of sys.flow p) (policy_of sys.flow p) e in
     events-right sys state p entries o.node.lost o.node.low o.node.settled offered o.known.low o.known.settled
     (a.unlogged p full o.node.lost (o.known.losses full)) k
@@ -345,17 +357,17 @@ flips : (c d : Bool) → c ≡ not d → (c ≡ true) ↔ (d ≡ false)
 flips c true e = ((λ i. let x : false ≡ true = sym e ∙ i in cc), (λ i. cc))
 flips c false e = ((λ i. refl), (λ i. e))
 
-offered-same : (sys : System) (state : Machine) (lost : ℕ → Bool) (entries : List Entry) (offers : List Offer) → AreOffersKnown sys state lost entries offers
+pub offered-same : (sys : System) (state : Machine) (lost : ℕ → Bool) (floor : List Front) (entries : List Entry) (offers : List Offer) → AreOffersKnown sys state lost floor entries offers
     → (p : ℕ) → p < length sys.flow.nodes → (cut : Cut) → IsOffered sys.flow offers p cut ↔ IsCandidate sys state lost kept p cut
 unfolding IsOfferedRight
-offered-same sys state lost entries offers a p l Present =
+offered-same sys state lost floor entries offers a p l Present =
     let o = a.each p l in
     flips (can_stay offers p) (lost p) (at-map (λ (x : Offer). x.present) false offers p o.offer o.there ∙ o.is.present ∙ ap not o.known.failed)
-offered-same sys state lost entries offers a p l (At f) =
+offered-same sys state lost floor entries offers a p l (At f) =
     let o = a.each p l in
     let b = bounds_of sys.flow p in
-    let is = offered-is sys state lost entries offers p o in
-    let k = offered-right sys state lost entries offers a p l o (way_of sys.flow p) refl o.offer.offered o.is.offered in (
+    let is = offered-is sys state lost floor entries offers p o in
+    let k = offered-right sys state lost floor entries offers a p l o (way_of sys.flow p) refl o.offer.offered o.is.offered in (
       (λ i. let m = (k f i.0).0 (subst (λ (x : Offered). IsOfferedFront b x f) is i.1) in (i.0, m.0, m.1)),
       (λ c. (c.0, subst (λ (x : Offered). IsOfferedFront b x f) (sym is) ((k f c.0).1 (c.1, c.2)))),
     )
@@ -376,28 +388,28 @@ range-records sys p way low g (form.Between least greatest) k by_range = (tt, tt
 range-records sys p way low g (form.Batches least greatest exhausted) k by_range = absurd k
 
 -- the records of a node, by the way in which it is restored
-records-right : (sys : System) (state : Machine) (lost : ℕ → Bool) (entries : List Entry) (offers : List Offer) → AreOffersKnown sys state lost entries offers → (p : ℕ) → p < length sys.flow.nodes
-    → (o : Offers sys state lost entries offers p) → (way : Restoring) → way_of sys.flow p ≡ way → (offered : Offered)
+records-right : (sys : System) (state : Machine) (lost : ℕ → Bool) (floor : List Front) (entries : List Entry) (offers : List Offer) → AreOffersKnown sys state lost floor entries offers → (p : ℕ) → p < length sys.flow.nodes
+    → (o : Offers sys state lost floor entries offers p) → (way : Restoring) → way_of sys.flow p ≡ way → (offered : Offered)
     → OffersBy (bounds_of sys.flow p) entries p o.node way offered → AreRecordsRight sys p way offered
 unfolding AreRecordsRight
-records-right sys state lost entries offers a p l o Batches e offered k = by o.node.border k
+records-right sys state lost floor entries offers a p l o Batches e offered k = by o.node.border k
   where
     by : (x : Border) → IsOfBatches o.node.low x offered → AreRecordsRight sys p Batches offered
     by Inner k = absurd k
     by (Output n) k = absurd k
     by (Source n y) k = subst (AreRecordsRight sys p Batches) (sym k) (tt, tt, refl)
-records-right sys state lost entries offers a p l o Bound e offered k = by o.node.border k
+records-right sys state lost floor entries offers a p l o Bound e offered k = by o.node.border k
   where
     by : (x : Border) → IsOfBound (bounds_of sys.flow p) o.node.low o.node.settled x offered → AreRecordsRight sys p Bound offered
     by Inner k = absurd k
     by (Source n y) k = absurd k
     by (Output n) k = range-records sys p Bound o.node.low _ offered k refl
-records-right sys state lost entries offers a p l o Anything e offered k = range-records sys p Anything o.node.low _ offered k refl
-records-right sys state lost entries offers a p l o Checkpoints e offered k =
-    let g = listing sys state lost entries offers a p l e in
-    subst (AreRecordsRight sys p Checkpoints) (sym (listed-low sys state lost entries offers p o offered k))
+records-right sys state lost floor entries offers a p l o Anything e offered k = range-records sys p Anything o.node.low _ offered k refl
+records-right sys state lost floor entries offers a p l o Checkpoints e offered k =
+    let g = listing sys state lost floor entries offers a p l e in
+    subst (AreRecordsRight sys p Checkpoints) (sym (listed-low sys state lost floor entries offers p o offered k))
     (each-weaker (λ (r : Recorded). IsRecorded sys state p r.front r) (IsRecordOf sys.flow p) (listed_of sys.flow entries p (front_of state.low p)) (λ r c. c.of_flow) g.recorded, g.ascend, tt)
-records-right sys state lost entries offers a p l o Events e offered k = range-records sys p Events o.node.low _ offered k refl
+records-right sys state lost floor entries offers a p l o Events e offered k = range-records sys p Events o.node.low _ offered k refl
 
 -- the ends of what is offered between two frontiers
 range-ends : (b : Bounds) (low : Front) (g : Frontier) (offered : Offered) → IsRange b low g offered → IsCanonical b low → IsRangeOf b (offered_range offered)
@@ -406,10 +418,10 @@ range-ends b low g (form.Between least greatest) k c = (subst (IsCanonical b) (s
 range-ends b low g (form.Batches least greatest exhausted) k c = absurd k
 
 -- the ends of a node's range
-range-right : (sys : System) (state : Machine) (lost : ℕ → Bool) (entries : List Entry) (offers : List Offer) → AreOffersKnown sys state lost entries offers → (p : ℕ) → p < length sys.flow.nodes
-    → (o : Offers sys state lost entries offers p) → (way : Restoring) → way_of sys.flow p ≡ way → (offered : Offered) → OffersBy (bounds_of sys.flow p) entries p o.node way offered
+range-right : (sys : System) (state : Machine) (lost : ℕ → Bool) (floor : List Front) (entries : List Entry) (offers : List Offer) → AreOffersKnown sys state lost floor entries offers → (p : ℕ) → p < length sys.flow.nodes
+    → (o : Offers sys state lost floor entries offers p) → (way : Restoring) → way_of sys.flow p ≡ way → (offered : Offered) → OffersBy (bounds_of sys.flow p) entries p o.node way offered
     → IsRangeOf (bounds_of sys.flow p) (offered_range offered)
-range-right sys state lost entries offers a p l o way e offered k = at way e k
+range-right sys state lost floor entries offers a p l o way e offered k = at way e k
   where
     low : IsCanonical (bounds_of sys.flow p) o.node.low
     low = subst (IsCanonical (bounds_of sys.flow p)) (sym o.known.low) (a.low p l).0
@@ -436,37 +448,37 @@ range-right sys state lost entries offers a p l o way e offered k = at way e k
     at Events e k = range-ends (bounds_of sys.flow p) o.node.low _ offered k low
 
 -- what an input sent comes from one batch each
-sent-of_batches : (sys : System) (state : Machine) (lost : ℕ → Bool) (entries : List Entry) (offers : List Offer) → AreOffersKnown sys state lost entries offers → (e : ℕ) → e < length sys.flow.edges
+sent-of_batches : (sys : System) (state : Machine) (lost : ℕ → Bool) (floor : List Front) (entries : List Entry) (offers : List Offer) → AreOffersKnown sys state lost floor entries offers → (e : ℕ) → e < length sys.flow.edges
     → AreOfBatches (offered_by offers (sender sys.flow e)) (counted_on_edge e (offered_sent offers (sender sys.flow e)))
 unfolding AreRecordsRight
-sent-of_batches sys state lost entries offers a e l =
+sent-of_batches sys state lost floor entries offers a e l =
     let p = sender sys.flow e in
     let declared = a.well_formed.flow.senders_declared e l in
     let o = a.each p declared in
-    let fits = (records-right sys state lost entries offers a p declared o (way_of sys.flow p) refl o.offer.offered o.is.offered).2 in
-    subst (λ x. AreOfBatches x (counted_on_edge e (offered_sent offers p))) (sym (offered-is sys state lost entries offers p o)) (at o o.offer.offered fits)
+    let fits = (records-right sys state lost floor entries offers a p declared o (way_of sys.flow p) refl o.offer.offered o.is.offered).2 in
+    subst (λ x. AreOfBatches x (counted_on_edge e (offered_sent offers p))) (sym (offered-is sys state lost floor entries offers p o)) (at o o.offer.offered fits)
   where
-    at : (o : Offers sys state lost entries offers (sender sys.flow e)) (x : Offered) → IsFormOf (way_of sys.flow (sender sys.flow e)) x
+    at : (o : Offers sys state lost floor entries offers (sender sys.flow e)) (x : Offered) → IsFormOf (way_of sys.flow (sender sys.flow e)) x
         → AreOfBatches x (counted_on_edge e (offered_sent offers (sender sys.flow e)))
     at o (form.Listed records) fits = tt
     at o (form.Between least greatest) fits = tt
     at o (form.Batches least greatest exhausted) fits =
         let p = sender sys.flow e in
         let is = by_batches-input (kind_of sys.flow p) (policy_of sys.flow p) fits in
-        subst (λ ms. AllByRecursion HasOneCause (counted_on_edge e ms)) (sym (sent-is sys state lost entries offers p o))
+        subst (λ ms. AllByRecursion HasOneCause (counted_on_edge e ms)) (sym (sent-is sys state lost floor entries offers p o))
         (each-weaker (IsOfCause sys.flow p) HasOneCause (counted_on_edge e o.node.stamps.sent) (λ m c. (c.0, c.2)) (o.known.stamps.sent (ap is_sequence_kind is) e l refl).of_cause)
 
 -- ---- the base of a node
 
-base-domain : (sys : System) (state : Machine) (p : ℕ) (t : Stamp) → base_of sys state p t ≡ true → in_domain (bounds_of sys.flow p) t ≡ true
-base-domain sys state p t =
+pub base-domain : (sys : System) (floor : List Front) (state : Machine) (p : ℕ) (t : Stamp) → base_of sys floor state p t ≡ true → in_domain (bounds_of sys.flow p) t ≡ true
+base-domain sys floor state p t =
     let b = bounds_of sys.flow p in
-    cond_both (takes_checkpoints (policy_of sys.flow p)) (frontier_of b (front_of state.settled p)) (frontier_of b (front_of state.low p)) (λ g. g t ≡ true → in_domain b t ≡ true)
+    cond_both (takes_checkpoints (policy_of sys.flow p)) (frontier_of b (front_of state.settled p)) (frontier_of b (front_of floor p)) (λ g. g t ≡ true → in_domain b t ≡ true)
     (λ e i. (and_parts (in_domain b t) (inside (front_of state.settled p) t) i).0)
-    (λ e i. (and_parts (in_domain b t) (inside (front_of state.low p) t) i).0)
+    (λ e i. (and_parts (in_domain b t) (inside (front_of floor p) t) i).0)
 
 base-low : (sys : System) (state : Machine) (p : ℕ) → IsWellFormed sys.flow → p < length sys.flow.nodes → (way_of sys.flow p ≡ Checkpoints → ⊥)
-    → Within (base_of sys state p) (frontier_of (bounds_of sys.flow p) (front_of state.low p))
+    → Within (base_of sys state.low state p) (frontier_of (bounds_of sys.flow p) (front_of state.low p))
 base-low sys state p w l n =
     let b = bounds_of sys.flow p in
     cond_both (takes_checkpoints (policy_of sys.flow p)) (frontier_of b (front_of state.settled p)) (frontier_of b (front_of state.low p)) (λ g. Within g (frontier_of b (front_of state.low p)))
@@ -474,44 +486,45 @@ base-low sys state p w l n =
     (λ e t i. i)
 
 -- an offered frontier of a node without checkpoints holds its base
-base-offered : (sys : System) (state : Machine) (lost : ℕ → Bool) (entries : List Entry) (offers : List Offer) → AreOffersKnown sys state lost entries offers → (p : ℕ) → p < length sys.flow.nodes
+base-offered : (sys : System) (state : Machine) (lost : ℕ → Bool) (entries : List Entry) (offers : List Offer) → AreOffersKnown sys state lost state.low entries offers → (p : ℕ) → p < length sys.flow.nodes
     → (f : Front) → IsOffered sys.flow offers p (At f) → (way_of sys.flow p ≡ Checkpoints → ⊥)
-    → Within (base_of sys state p) (frontier_of (bounds_of sys.flow p) f)
+    → Within (base_of sys state.low state p) (frontier_of (bounds_of sys.flow p) f)
 base-offered sys state lost entries offers a p l f i n t k =
-    ((offered-same sys state lost entries offers a p l (At f)).0 i).2 t (base-low sys state p a.well_formed.flow l n t k)
+    ((offered-same sys state lost state.low entries offers a p l (At f)).0 i).2 t (base-low sys state p a.well_formed.flow l n t k)
 
 -- the record of an offered frontier of a node with checkpoints
-record-offered : (sys : System) (state : Machine) (lost : ℕ → Bool) (entries : List Entry) (offers : List Offer) → AreOffersKnown sys state lost entries offers → (p : ℕ) → p < length sys.flow.nodes
+pub record-offered : (sys : System) (state : Machine) (lost : ℕ → Bool) (floor : List Front) (entries : List Entry) (offers : List Offer) → AreOffersKnown sys state lost floor entries offers → (p : ℕ) → p < length sys.flow.nodes
     → (f : Front) → IsOffered sys.flow offers p (At f) → way_of sys.flow p ≡ Checkpoints
     → IsFound (λ (r : Recorded). IsRecorded sys state p r.front r) f (records_of offers p)
-record-offered sys state lost entries offers a p l f i e =
+record-offered sys state lost floor entries offers a p l f i e =
     let o = a.each p l in
     let b = bounds_of sys.flow p in
-    let is = listed-low sys state lost entries offers p o o.offer.offered (subst (λ way. OffersBy b entries p o.node way o.offer.offered) e o.is.offered) in
-    let d = records-are sys state lost entries offers p o ∙ ap listed_records is in
+    let is = listed-low sys state lost floor entries offers p o o.offer.offered (subst (λ way. OffersBy b entries p o.node way o.offer.offered) e o.is.offered) in
+    let d = records-are sys state lost floor entries offers p o ∙ ap listed_records is in
     found-record (λ (q : Recorded). IsRecorded sys state p q.front q) f (records_of offers p)
-    (subst (λ (rs : List Recorded). AllByRecursion (λ (q : Recorded). IsRecorded sys state p q.front q) rs) (sym d) (listing sys state lost entries offers a p l e).recorded)
-    (listed-offered sys.flow offers p f (ap offered_range (offered-is sys state lost entries offers p o ∙ is)) i)
+    (subst (λ (rs : List Recorded). AllByRecursion (λ (q : Recorded). IsRecorded sys state p q.front q) rs) (sym d) (listing sys state lost floor entries offers a p l e).recorded)
+    (listed-offered sys.flow offers p f (ap offered_range (offered-is sys state lost floor entries offers p o ∙ is)) i)
 
 -- ---- the same counts
 
-delivered-thinned : (sys : System) (state : Machine) (lost : ℕ → Bool) (entries : List Entry) (offers : List Offer) → AreOffersKnown sys state lost entries offers → (d : ℕ) → d < length sys.flow.edges
-    → (f : Frontier) → Within (base_of sys state (receiver sys.flow d)) f
+pub delivered-thinned : (sys : System) (state : Machine) (lost : ℕ → Bool) (floor : List Front) (entries : List Entry) (offers : List Offer) (a : AreOffersKnown sys state lost floor entries offers) (d : ℕ) (l : d < length sys.flow.edges)
+    → IsWholeView sys state floor (receiver sys.flow d) (a.each (receiver sys.flow d) (a.well_formed.flow.receivers_declared d l)).node → (f : Frontier) → Within (base_of sys floor state (receiver sys.flow d)) f
     → cover (bounds_of sys.flow (receiver sys.flow d)) (filter f (stamps_on d (delivered_to offers (receiver sys.flow d))))
     ≡ cover (bounds_of sys.flow (receiver sys.flow d)) (filter f (map (λ (m : Message). m.at) (delivered_messages (events state.history) d)))
-delivered-thinned sys state lost entries offers a d l f w =
+delivered-thinned sys state lost floor entries offers a d l k f w =
     let p = receiver sys.flow d in
     let b = bounds_of sys.flow p in
     let o = a.each p (a.well_formed.flow.receivers_declared d l) in
-    ap (λ (ms : List Counted). cover b (filter f (stamps_on d ms))) (delivered-is sys state lost entries offers p o)
-    ∙ thinned-covers b (base_of sys state p) (map (λ (m : Message). m.at) (delivered_messages (events state.history) d)) (stamps_on d o.node.stamps.delivered)
-    (o.known.stamps.delivered d refl) f w
+    ap (λ (ms : List Counted). cover b (filter f (stamps_on d ms))) (delivered-is sys state lost floor entries offers p o)
+    ∙ thinned-covers b (base_of sys floor state p) (map (λ (m : Message). m.at) (delivered_messages (events state.history) d)) (stamps_on d o.node.stamps.delivered)
+    (thinned-whole (base_of sys floor state p) (map (λ (m : Message). m.at) (delivered_messages (events state.history) d)) (stamps_on d o.node.stamps.delivered) (k.delivered d refl)) f w
 
-delivered-same : (sys : System) (state : Machine) (lost : ℕ → Bool) (entries : List Entry) (offers : List Offer) → AreOffersKnown sys state lost entries offers → (d : ℕ) → d < length sys.flow.edges → (cut : Cut)
+delivered-same : (sys : System) (state : Machine) (lost : ℕ → Bool) (entries : List Entry) (offers : List Offer) (a : AreOffersKnown sys state lost state.low entries offers)
+    → AreWholeFrom sys state state.low 0 a.view → (d : ℕ) → d < length sys.flow.edges → (cut : Cut)
     → IsOffered sys.flow offers (receiver sys.flow d) cut → (covers_of sys.flow offers).delivered d cut ≡ (covers_in sys state).delivered d cut
-delivered-same sys state lost entries offers a d l Present i =
-    delivered-thinned sys state lost entries offers a d l (everything (bounds_of sys.flow (receiver sys.flow d))) (λ t k. base-domain sys state (receiver sys.flow d) t k)
-delivered-same sys state lost entries offers a d l (At f) i = by (way_of sys.flow (receiver sys.flow d)) refl
+delivered-same sys state lost entries offers a whole d l Present i =
+    delivered-thinned sys state lost state.low entries offers a d l (a.each_whole (receiver sys.flow d) (a.well_formed.flow.receivers_declared d l) whole) (everything (bounds_of sys.flow (receiver sys.flow d))) (λ t k. base-domain sys state.low state (receiver sys.flow d) t k)
+delivered-same sys state lost entries offers a whole d l (At f) i = by (way_of sys.flow (receiver sys.flow d)) refl
   where
     p : ℕ
     p = receiver sys.flow d
@@ -535,32 +548,34 @@ delivered-same sys state lost entries offers a d l (At f) i = by (way_of sys.flo
     thin : (way_of sys.flow (receiver sys.flow d) ≡ Checkpoints → ⊥)
         → cover (bounds_of sys.flow (receiver sys.flow d)) (filter (node_frontier sys.flow (receiver sys.flow d) f) (stamps_on d (delivered_to offers (receiver sys.flow d))))
         ≡ cover (bounds_of sys.flow (receiver sys.flow d)) (stamps_inside (node_frontier sys.flow (receiver sys.flow d) f) (delivered_messages (events state.history) d))
-    thin n = delivered-thinned sys state lost entries offers a d l (node_frontier sys.flow (receiver sys.flow d) f) (base-offered sys state lost entries offers a (receiver sys.flow d) ps f i n)
+    thin n = delivered-thinned sys state lost state.low entries offers a d l (a.each_whole (receiver sys.flow d) ps whole) (node_frontier sys.flow (receiver sys.flow d) f) (base-offered sys state lost entries offers a (receiver sys.flow d) ps f i n)
 
     by : (way : Restoring) → way_of sys.flow (receiver sys.flow d) ≡ way → ours (way_of sys.flow (receiver sys.flow d)) ≡ theirs (way_of sys.flow (receiver sys.flow d))
     by Batches e = ap ours e ∙ thin (λ c. let x : Batches ≡ Checkpoints = sym e ∙ c in cc) ∙ sym (ap theirs e)
     by Bound e = ap ours e ∙ sym (ap theirs e)
     by Anything e = ap ours e ∙ sym (ap theirs e)
     by Checkpoints e =
-        let k = record-offered sys state lost entries offers a (receiver sys.flow d) ps f i e in
+        let k = record-offered sys state lost state.low entries offers a (receiver sys.flow d) ps f i e in
         ap ours e ∙ ap (recorded_delivered (bounds_of sys.flow (receiver sys.flow d)) d) k.at
         ∙ k.holds.delivered d l refl ∙ ap (λ (h : Front). (covers_in sys state).delivered d (At h)) k.front
     by Events e = ap ours e ∙ thin (λ c. let x : Events ≡ Checkpoints = sym e ∙ c in cc) ∙ sym (ap theirs e)
 
-notified-thinned : (sys : System) (state : Machine) (lost : ℕ → Bool) (entries : List Entry) (offers : List Offer) → AreOffersKnown sys state lost entries offers → (p : ℕ) → p < length sys.flow.nodes
-    → (f : Frontier) → Within (base_of sys state p) f
+pub notified-thinned : (sys : System) (state : Machine) (lost : ℕ → Bool) (floor : List Front) (entries : List Entry) (offers : List Offer) (a : AreOffersKnown sys state lost floor entries offers) (p : ℕ) (l : p < length sys.flow.nodes)
+    → IsWholeView sys state floor p (a.each p l).node → (f : Frontier) → Within (base_of sys floor state p) f
     → cover (bounds_of sys.flow p) (filter f (notified_of offers p)) ≡ cover (bounds_of sys.flow p) (filter f (flat_map (stamp_of_notice p) (events state.history)))
-notified-thinned sys state lost entries offers a p l f w =
+notified-thinned sys state lost floor entries offers a p l k f w =
     let b = bounds_of sys.flow p in
     let o = a.each p l in
-    ap (λ (ts : List Stamp). cover b (filter f ts)) (notified-is sys state lost entries offers p o)
-    ∙ thinned-covers b (base_of sys state p) (flat_map (stamp_of_notice p) (events state.history)) o.node.stamps.notified o.known.stamps.notified f w
+    ap (λ (ts : List Stamp). cover b (filter f ts)) (notified-is sys state lost floor entries offers p o)
+    ∙ thinned-covers b (base_of sys floor state p) (flat_map (stamp_of_notice p) (events state.history)) o.node.stamps.notified
+    (thinned-whole (base_of sys floor state p) (flat_map (stamp_of_notice p) (events state.history)) o.node.stamps.notified k.notified) f w
 
-notified-same : (sys : System) (state : Machine) (lost : ℕ → Bool) (entries : List Entry) (offers : List Offer) → AreOffersKnown sys state lost entries offers → (p : ℕ) → p < length sys.flow.nodes → (cut : Cut)
+notified-same : (sys : System) (state : Machine) (lost : ℕ → Bool) (entries : List Entry) (offers : List Offer) (a : AreOffersKnown sys state lost state.low entries offers)
+    → AreWholeFrom sys state state.low 0 a.view → (p : ℕ) → p < length sys.flow.nodes → (cut : Cut)
     → IsOffered sys.flow offers p cut → (covers_of sys.flow offers).notified p cut ≡ (covers_in sys state).notified p cut
-notified-same sys state lost entries offers a p l Present i =
-    notified-thinned sys state lost entries offers a p l (everything (bounds_of sys.flow p)) (λ t k. base-domain sys state p t k)
-notified-same sys state lost entries offers a p l (At f) i = elim (cases_Bool (takes_its_notices (kind_of sys.flow p) (policy_of sys.flow p))) [
+notified-same sys state lost entries offers a whole p l Present i =
+    notified-thinned sys state lost state.low entries offers a p l (a.each_whole p l whole) (everything (bounds_of sys.flow p)) (λ t k. base-domain sys state.low state p t k)
+notified-same sys state lost entries offers a whole p l (At f) i = elim (cases_Bool (takes_its_notices (kind_of sys.flow p) (policy_of sys.flow p))) [
   | inl e ↦ ap (λ c. cond c (node_frontier sys.flow p f) (ours (way_of sys.flow p))) e ∙ sym (ap (λ c. cond c (node_frontier sys.flow p f) theirs) e)
   | inr e ↦
       ap (λ c. cond c (node_frontier sys.flow p f) (ours (way_of sys.flow p))) e
@@ -577,20 +592,20 @@ notified-same sys state lost entries offers a p l (At f) i = elim (cases_Bool (t
     thin : (way_of sys.flow p ≡ Checkpoints → ⊥)
         → cover (bounds_of sys.flow p) (filter (node_frontier sys.flow p f) (notified_of offers p))
         ≡ cover (bounds_of sys.flow p) (notified_inside p (node_frontier sys.flow p f) (events state.history))
-    thin n = notified-thinned sys state lost entries offers a p l (node_frontier sys.flow p f) (base-offered sys state lost entries offers a p l f i n)
+    thin n = notified-thinned sys state lost state.low entries offers a p l (a.each_whole p l whole) (node_frontier sys.flow p f) (base-offered sys state lost entries offers a p l f i n)
 
     by : (way : Restoring) → way_of sys.flow p ≡ way → takes_its_notices (kind_of sys.flow p) (policy_of sys.flow p) ≡ false → ours (way_of sys.flow p) ≡ theirs
     by Batches e n = ap ours e ∙ thin (λ c. let x : Batches ≡ Checkpoints = sym e ∙ c in cc)
     by Bound e n = ap ours e ∙ thin (λ c. let x : Bound ≡ Checkpoints = sym e ∙ c in cc)
     by Anything e n = ap ours e ∙ thin (λ c. let x : Anything ≡ Checkpoints = sym e ∙ c in cc)
     by Checkpoints e n =
-        let k = record-offered sys state lost entries offers a p l f i e in
+        let k = record-offered sys state lost state.low entries offers a p l f i e in
         ap ours e ∙ ap (recorded_notified (bounds_of sys.flow p)) k.at ∙ k.holds.notified
         ∙ ap (λ (h : Front). (covers_in sys state).notified p (At h)) k.front
         ∙ ap (λ c. cond c (node_frontier sys.flow p f) theirs) n
     by Events e n = ap ours e ∙ thin (λ c. let x : Events ≡ Checkpoints = sym e ∙ c in cc)
 
-filter-split : (e : ℕ) (f : Frontier) (ms : List Counted)
+pub filter-split : (e : ℕ) (f : Frontier) (ms : List Counted)
     → filter (λ (m : Counted). m.edge == e && all_inside f m.causes) ms ≡ filter (λ (m : Counted). all_inside f m.causes) (counted_on_edge e ms)
 filter-split e f [] = refl
 filter-split e f (m ∷ ms) = by (m.edge == e) (filter-split e f ms)
@@ -601,41 +616,44 @@ filter-split e f (m ∷ ms) = by (m.edge == e) (filter-split e f ms)
     by true r = ap (λ xs. cond (all_inside f m.causes) (m ∷ xs) xs) r
     by false r = r
 
-sent-thinned : (sys : System) (state : Machine) (lost : ℕ → Bool) (entries : List Entry) (offers : List Offer) → AreOffersKnown sys state lost entries offers → (e : ℕ) → e < length sys.flow.edges
-    → is_sequence_kind (kind_of sys.flow (sender sys.flow e)) ≡ false → (f : Frontier) → Within (base_of sys state (sender sys.flow e)) f
+pub sent-thinned : (sys : System) (state : Machine) (lost : ℕ → Bool) (floor : List Front) (entries : List Entry) (offers : List Offer) (a : AreOffersKnown sys state lost floor entries offers) (e : ℕ) (l : e < length sys.flow.edges)
+    → IsWholeView sys state floor (sender sys.flow e) (a.each (sender sys.flow e) (a.well_formed.flow.senders_declared e l)).node → is_sequence_kind (kind_of sys.flow (sender sys.flow e)) ≡ false → (f : Frontier) → Within (base_of sys floor state (sender sys.flow e)) f
     → cover (bounds_of sys.flow (receiver sys.flow e)) (stamps_on_from e f (offered_sent offers (sender sys.flow e)))
     ≡ cover (bounds_of sys.flow (receiver sys.flow e)) (stamps_from f (sent_messages sys (events state.history) e))
-sent-thinned sys state lost entries offers a e l n f w =
+sent-thinned sys state lost floor entries offers a e l k n f w =
     let p = sender sys.flow e in
     let b = bounds_of sys.flow (receiver sys.flow e) in
     let o = a.each p (a.well_formed.flow.senders_declared e l) in
     let ms = o.node.stamps.sent in
-    ap (λ (xs : List Counted). cover b (stamps_on_from e f xs)) (sent-is sys state lost entries offers p o)
+    ap (λ (xs : List Counted). cover b (stamps_on_from e f xs)) (sent-is sys state lost floor entries offers p o)
     ∙ ap (λ (xs : List Counted). cover b (map (λ (m : Counted). m.at) xs)) (filter-split e f ms)
-    ∙ sent-covers sys (events state.history) e (base_of sys state p) (counted_on_edge e ms) n (o.known.stamps.sent n e l refl) (λ t k. base-domain sys state p t k) f w b
+    ∙ sent-covers sys (events state.history) e (base_of sys floor state p) (counted_on_edge e ms) n (k.sent n e l refl) (λ t i. base-domain sys floor state p t i) f w b
 
-sent-everything : (sys : System) (state : Machine) (lost : ℕ → Bool) (entries : List Entry) (offers : List Offer) → AreOffersKnown sys state lost entries offers → (e : ℕ) → e < length sys.flow.edges
+pub sent-everything : (sys : System) (state : Machine) (lost : ℕ → Bool) (floor : List Front) (entries : List Entry) (offers : List Offer) (a : AreOffersKnown sys state lost floor entries offers) (e : ℕ) (l : e < length sys.flow.edges)
+    → (is_sequence_kind (kind_of sys.flow (sender sys.flow e)) ≡ false → IsWholeView sys state floor (sender sys.flow e) (a.each (sender sys.flow e) (a.well_formed.flow.senders_declared e l)).node)
     → cover (bounds_of sys.flow (receiver sys.flow e)) (stamps_on_from e (everything (bounds_of sys.flow (sender sys.flow e))) (offered_sent offers (sender sys.flow e)))
     ≡ cover (bounds_of sys.flow (receiver sys.flow e)) (stamps_from (everything (bounds_of sys.flow (sender sys.flow e))) (sent_messages sys (events state.history) e))
-sent-everything sys state lost entries offers a e l = elim (cases_Bool (is_sequence_kind (kind_of sys.flow (sender sys.flow e)))) [
+sent-everything sys state lost floor entries offers a e l k = elim (cases_Bool (is_sequence_kind (kind_of sys.flow (sender sys.flow e)))) [
   | inl s ↦
       let p = sender sys.flow e in
       let o = a.each p (a.well_formed.flow.senders_declared e l) in
       let b = bounds_of sys.flow (receiver sys.flow e) in
-      ap (λ (xs : List Counted). cover b (stamps_on_from e (everything (bounds_of sys.flow p)) xs)) (sent-is sys state lost entries offers p o)
+      ap (λ (xs : List Counted). cover b (stamps_on_from e (everything (bounds_of sys.flow p)) xs)) (sent-is sys state lost floor entries offers p o)
       ∙ numbered-covers sys (events state.history) e o.node.stamps.sent (o.known.stamps.numbered s e l refl) (a.in_domain p)
-  | inr n ↦ sent-thinned sys state lost entries offers a e l n (everything (bounds_of sys.flow (sender sys.flow e))) (λ t k. base-domain sys state (sender sys.flow e) t k)
+  | inr n ↦ sent-thinned sys state lost floor entries offers a e l (k n) n (everything (bounds_of sys.flow (sender sys.flow e))) (λ t i. base-domain sys floor state (sender sys.flow e) t i)
 ]
 
-output-no_sequence : (kind : Kind) → (kind ≡ OutputEpoch) ⊎ (kind ≡ OutputNumber) → is_sequence_kind kind ≡ false
+pub output-no_sequence : (kind : Kind) → (kind ≡ OutputEpoch) ⊎ (kind ≡ OutputNumber) → is_sequence_kind kind ≡ false
 output-no_sequence kind (inl e) = ap is_sequence_kind e
 output-no_sequence kind (inr e) = ap is_sequence_kind e
 
-discarded-same : (sys : System) (state : Machine) (lost : ℕ → Bool) (entries : List Entry) (offers : List Offer) → AreOffersKnown sys state lost entries offers → (e : ℕ) → e < length sys.flow.edges → (cut : Cut)
+discarded-same : (sys : System) (state : Machine) (lost : ℕ → Bool) (entries : List Entry) (offers : List Offer) (a : AreOffersKnown sys state lost state.low entries offers)
+    → AreWholeFrom sys state state.low 0 a.view → (e : ℕ) → e < length sys.flow.edges → (cut : Cut)
     → IsOffered sys.flow offers (sender sys.flow e) cut → (covers_of sys.flow offers).discarded e cut ≡ (covers_in sys state).discarded e cut
-discarded-same sys state lost entries offers a e l Present i =
-    ap (λ (g : Frontier). cond (can_resend (policy_of sys.flow (sender sys.flow e))) nothing g) (sent-everything sys state lost entries offers a e l)
-discarded-same sys state lost entries offers a e l (At f) i = elim (cases_Bool (can_resend (policy_of sys.flow (sender sys.flow e)))) [
+discarded-same sys state lost entries offers a whole e l Present i =
+    ap (λ (g : Frontier). cond (can_resend (policy_of sys.flow (sender sys.flow e))) nothing g) (sent-everything sys state lost state.low entries offers a e l
+    (λ s. a.each_whole (sender sys.flow e) (a.well_formed.flow.senders_declared e l) whole))
+discarded-same sys state lost entries offers a whole e l (At f) i = elim (cases_Bool (can_resend (policy_of sys.flow (sender sys.flow e)))) [
   | inl r ↦
       ap (λ c. cond c nothing (ours (way_of sys.flow (sender sys.flow e)))) r
       ∙ sym (ap (λ c. cond c nothing (theirs (way_of sys.flow (sender sys.flow e)))) r)
@@ -661,7 +679,7 @@ discarded-same sys state lost entries offers a e l (At f) i = elim (cases_Bool (
     thin : (way_of sys.flow (sender sys.flow e) ≡ Checkpoints → ⊥) → is_sequence_kind (kind_of sys.flow (sender sys.flow e)) ≡ false
         → cover (bounds_of sys.flow (receiver sys.flow e)) (stamps_on_from e (node_frontier sys.flow (sender sys.flow e) f) (offered_sent offers (sender sys.flow e)))
         ≡ cover (bounds_of sys.flow (receiver sys.flow e)) (stamps_from (node_frontier sys.flow (sender sys.flow e) f) (sent_messages sys (events state.history) e))
-    thin n s = sent-thinned sys state lost entries offers a e l s (node_frontier sys.flow (sender sys.flow e) f) (base-offered sys state lost entries offers a (sender sys.flow e) ps f i n)
+    thin n s = sent-thinned sys state lost state.low entries offers a e l (a.each_whole (sender sys.flow e) ps whole) s (node_frontier sys.flow (sender sys.flow e) f) (base-offered sys state lost entries offers a (sender sys.flow e) ps f i n)
 
     by : (way : Restoring) → way_of sys.flow (sender sys.flow e) ≡ way → can_resend (policy_of sys.flow (sender sys.flow e)) ≡ false
         → ours (way_of sys.flow (sender sys.flow e)) ≡ theirs (way_of sys.flow (sender sys.flow e))
@@ -675,65 +693,72 @@ discarded-same sys state lost entries offers a e l (At f) i = elim (cases_Bool (
         ∙ sym (ap theirs k)
     by Anything k r = ap ours k ∙ sym (ap theirs k)
     by Checkpoints k r =
-        let c = record-offered sys state lost entries offers a (sender sys.flow e) ps f i k in
+        let c = record-offered sys state lost state.low entries offers a (sender sys.flow e) ps f i k in
         ap ours k ∙ ap (recorded_discarded (bounds_of sys.flow (receiver sys.flow e)) e) c.at
         ∙ c.holds.discarded e l refl
         ∙ ap (λ (h : Front). (covers_in sys state).discarded e (At h)) c.front
         ∙ ap (λ x. cond x nothing (theirs (way_of sys.flow (sender sys.flow e)))) r
     by Events k r = absurd (two_ways (can_resend (policy_of sys.flow p)) (ap can_resend (events-full (kind_of sys.flow p) (policy_of sys.flow p) k)) r)
 
-arrived-same : (sys : System) (state : Machine) (lost : ℕ → Bool) (entries : List Entry) (offers : List Offer) → AreOffersKnown sys state lost entries offers → (e : ℕ) → e < length sys.flow.edges → (f : Frontier)
+pub arrived-same : (sys : System) (state : Machine) (lost : ℕ → Bool) (floor : List Front) (entries : List Entry) (offers : List Offer) → AreOffersKnown sys state lost floor entries offers → (e : ℕ) → e < length sys.flow.edges → (f : Frontier)
     → (covers_of sys.flow offers).arrived e f ≡ (covers_in sys state).arrived e f
-arrived-same sys state lost entries offers a e l f =
+arrived-same sys state lost floor entries offers a e l f =
     let p = sender sys.flow e in
     let o = a.each p (a.well_formed.flow.senders_declared e l) in
     counted-arrive sys (events state.history) e (table_count f (counts_offered offers p)) f
-    (λ s. ap (table_count f) (table-is sys state lost entries offers p o) ∙ o.known.table s f)
+    (λ s. ap (table_count f) (table-is sys state lost floor entries offers p o) ∙ o.known.table s f)
 
 -- ---- all of it
 
-of_flow : (sys : System) (state : Machine) (lost : ℕ → Bool) (entries : List Entry) (offers : List Offer) → AreOffersKnown sys state lost entries offers → AreOffersOf sys.flow offers
+pub of_flow : (sys : System) (state : Machine) (lost : ℕ → Bool) (floor : List Front) (entries : List Entry) (offers : List Offer) → AreOffersKnown sys state lost floor entries offers → AreOffersOf sys.flow offers
 unfolding AreRecordsRight
-of_flow sys state lost entries offers a = record {
+of_flow sys state lost floor entries offers a = record {
   one_each = a.one_each;
   records = λ p l.
       let o = a.each p l in
-      subst (λ (rs : List Recorded). AllByRecursion (IsRecordOf sys.flow p) rs) (sym (records-are sys state lost entries offers p o))
-      (records-right sys state lost entries offers a p l o (way_of sys.flow p) refl o.offer.offered o.is.offered).0;
+      subst (λ (rs : List Recorded). AllByRecursion (IsRecordOf sys.flow p) rs) (sym (records-are sys state lost floor entries offers p o))
+      (records-right sys state lost floor entries offers a p l o (way_of sys.flow p) refl o.offer.offered o.is.offered).0;
   range = λ p l.
       let o = a.each p l in
-      subst (λ (x : Offered). IsRangeOf (bounds_of sys.flow p) (offered_range x)) (sym (offered-is sys state lost entries offers p o))
-      (range-right sys state lost entries offers a p l o (way_of sys.flow p) refl o.offer.offered o.is.offered);
+      subst (λ (x : Offered). IsRangeOf (bounds_of sys.flow p) (offered_range x)) (sym (offered-is sys state lost floor entries offers p o))
+      (range-right sys state lost floor entries offers a p l o (way_of sys.flow p) refl o.offer.offered o.is.offered);
   form_fits = λ p l.
       let o = a.each p l in
-      subst (λ (x : Offered). IsFormOf (way_of sys.flow p) x) (sym (offered-is sys state lost entries offers p o))
-      (records-right sys state lost entries offers a p l o (way_of sys.flow p) refl o.offer.offered o.is.offered).2;
+      subst (λ (x : Offered). IsFormOf (way_of sys.flow p) x) (sym (offered-is sys state lost floor entries offers p o))
+      (records-right sys state lost floor entries offers a p l o (way_of sys.flow p) refl o.offer.offered o.is.offered).2;
   delivered = λ p l.
       let o = a.each p l in
-      subst (λ (ms : List Counted). AreAtEdgeStamps sys.flow ms) (sym (delivered-is sys state lost entries offers p o)) o.known.stamps.on_edges.0;
+      subst (λ (ms : List Counted). AreAtEdgeStamps sys.flow ms) (sym (delivered-is sys state lost floor entries offers p o)) o.known.stamps.on_edges.0;
   notified = λ p l.
       let o = a.each p l in
-      subst (λ (ts : List Stamp). AllByRecursion (λ t. in_domain (bounds_of sys.flow p) t ≡ true) ts) (sym (notified-is sys state lost entries offers p o)) o.known.stamps.in_domain;
+      subst (λ (ts : List Stamp). AllByRecursion (λ t. in_domain (bounds_of sys.flow p) t ≡ true) ts) (sym (notified-is sys state lost floor entries offers p o)) o.known.stamps.in_domain;
   sent = λ p l.
       let o = a.each p l in
-      subst (λ (ms : List Counted). AreAtEdgeStamps sys.flow ms) (sym (sent-is sys state lost entries offers p o)) o.known.stamps.on_edges.1;
-  batches = sent-of_batches sys state lost entries offers a;
+      subst (λ (ms : List Counted). AreAtEdgeStamps sys.flow ms) (sym (sent-is sys state lost floor entries offers p o)) o.known.stamps.on_edges.1;
+  batches = sent-of_batches sys state lost floor entries offers a;
 }
+
+-- the records of each node ascend
+pub offers-ascend : (sys : System) (state : Machine) (lost : ℕ → Bool) (floor : List Front) (entries : List Entry) (offers : List Offer) → AreOffersKnown sys state lost floor entries offers
+    → RecordsAscend sys.flow offers
+unfolding AreRecordsRight
+offers-ascend sys state lost floor entries offers a = λ p l.
+    let x = a.each p l in
+    subst (λ (rs : List Recorded). Ascend (bounds_of sys.flow p) rs) (sym (records-are sys state lost floor entries offers p x))
+    (records-right sys state lost floor entries offers a p l x (way_of sys.flow p) refl x.offer.offered x.is.offered).1
 
 -- what is offered by what is known is what the machine offers
 pub offers-in : (sys : System) (state : Machine) (lost : ℕ → Bool) (view : List NodeView) (entries : List Entry) (offers : List Offer)
-    → AreOffersBy sys.flow entries 0 view offers → IsViewOf sys state lost view entries → AreOffersIn sys state lost offers
-unfolding AreRecordsRight
-offers-in sys state lost view entries offers o v =
-    let a = are-there sys state lost view entries offers v o in record {
-      of_flow = of_flow sys state lost entries offers a;
-      ascending = λ p l.
-          let x = a.each p l in
-          subst (λ (rs : List Recorded). Ascend (bounds_of sys.flow p) rs) (sym (records-are sys state lost entries offers p x))
-          (records-right sys state lost entries offers a p l x (way_of sys.flow p) refl x.offer.offered x.is.offered).1;
-      offered = offered-same sys state lost entries offers a;
-      delivered = delivered-same sys state lost entries offers a;
-      discarded = discarded-same sys state lost entries offers a;
-      notified = notified-same sys state lost entries offers a;
-      arrived = arrived-same sys state lost entries offers a;
+    → AreOffersBy sys.flow entries 0 view offers → IsViewOf sys state lost state.low view entries → AreWholeFrom sys state state.low 0 view
+    → AreOffersIn sys state lost offers
+unfolding are-there
+offers-in sys state lost view entries offers o v whole =
+    let a = are-there sys state lost state.low view entries offers v o in record {
+      of_flow = of_flow sys state lost state.low entries offers a;
+      ascending = offers-ascend sys state lost state.low entries offers a;
+      offered = offered-same sys state lost state.low entries offers a;
+      delivered = delivered-same sys state lost entries offers a whole;
+      discarded = discarded-same sys state lost entries offers a whole;
+      notified = notified-same sys state lost entries offers a whole;
+      arrived = arrived-same sys state lost state.low entries offers a;
     }

@@ -1,5 +1,5 @@
 -- By what nodes are restored, by their kinds and policies.
-use Rattle.std.proofs.Common.{◌≡◌, ◌⊎◌, inl, inr, ℕ, false, [], ◌∷◌, refl, ap}
+use Rattle.std.proofs.Common.{◌≡◌, ◌⊎◌, inl, inr, ℕ, true, false, [], ◌∷◌, refl, ap}
 use Rattle.fw_time.specs.Stamp.{up_to}
 use Rattle.fw_flow.specs.declared.kind.Kind.{Kind}
 use Rattle.fw_flow.specs.declared.kind.Kind.TheVariants.{Input, OutputEpoch, OutputNumber}
@@ -9,6 +9,7 @@ use Rattle.fw_flow.specs.declared.restoring.Restoring.TheVariants.{Bound, Checkp
 use Rattle.fw_flow.specs.Dataflow.{Dataflow, kind_of, policy_of, bounds_of, bounds_of_domain, domain_of_kind, greatest_number}
 use Rattle.fw_flow.specs.Restoring.{restoring_of_policy, restoring, way_of}
 use Rattle.fw_model.specs.Covers.{takes_its_notices}
+use Rattle.fw_model.specs.Writes.{takes_checkpoints}
 
 -- what is restored to what it acknowledged is an output
 pub bound-output : (kind : Kind) (p : Policy) → restoring kind p ≡ Bound → (kind ≡ OutputEpoch) ⊎ (kind ≡ OutputNumber)
@@ -50,6 +51,17 @@ checkpoints-notices kind policy.Lazy e = refl
 checkpoints-notices kind policy.Logged e = refl
 checkpoints-notices kind policy.Eager e = refl
 checkpoints-notices kind policy.Full e = refl
+
+-- and takes checkpoints
+pub checkpoints-take : (kind : Kind) (p : Policy) → restoring kind p ≡ Checkpoints → takes_checkpoints p ≡ true
+checkpoints-take Input p e = absurd (cc e)
+checkpoints-take OutputEpoch p e = absurd (cc e)
+checkpoints-take OutputNumber p e = absurd (cc e)
+checkpoints-take kind policy.None e = absurd (cc e)
+checkpoints-take kind policy.Lazy e = refl
+checkpoints-take kind policy.Logged e = refl
+checkpoints-take kind policy.Eager e = refl
+checkpoints-take kind policy.Full e = absurd (cc e)
 
 -- what is restored by its events logs each of them
 pub events-full : (kind : Kind) (p : Policy) → restoring kind p ≡ Events → p ≡ policy.Full

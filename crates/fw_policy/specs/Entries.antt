@@ -1,5 +1,5 @@
 -- What the entries of a catalogue are of a state of the machine: one for each of its writes, in order.
-use Rattle.std.specs.Prelude.{◌≡◌, ◌⊎◌, ℕ, ◌<◌, List, [], ◌∷◌, filter, length, Option, Some, None}
+use Rattle.std.specs.Prelude.{◌≡◌, ◌⊎◌, ℕ, ◌<◌, true, List, [], ◌∷◌, filter, length, Option, Some, None}
 use Rattle.std.specs.List.{AllZip}
 use Rattle.fw_frontier.specs.Front.{Front}
 use Rattle.fw_flow.specs.declared.choice.Cut.TheVariants.{At}
@@ -13,7 +13,7 @@ use Rattle.fw_flow.specs.NodeFunction.{event_node, sent_by}
 use Rattle.fw_flow.specs.Projection.{events_at}
 use Rattle.fw_model.specs.Choice.{kept, is_counted}
 use Rattle.fw_model.specs.Covers.{covers_in}
-use Rattle.fw_model.specs.EventStamps.{AreStampsOf}
+use Rattle.fw_model.specs.EventStamps.{AreStampsIf}
 use Rattle.fw_model.specs.Filtering.{events_inside, messages_from}
 use Rattle.fw_model.specs.Machine.{Machine, SerialEvent, Write, checkpoint, logged_event, events}
 use Rattle.fw_model.specs.Machine.{Written as WrittenBy}
@@ -53,7 +53,7 @@ count_within sys state p f = length (messages_from (node_frontier sys.flow p f) 
 -- they sent.
 pub record HoldsWithin (sys : System) (state : Machine) (p : ℕ) (f : Front) (held : Recorded) (where_they_are : Stamps) (count : ℕ) : Type 0 where
   pub recorded : IsRecorded sys state p f held
-  pub stamps : AreStampsOf sys (events_within sys state p f) p (node_frontier sys.flow p f) where_they_are
+  pub stamps : AreStampsIf true sys (events_within sys state p f) p (node_frontier sys.flow p f) where_they_are
   pub sent : count ≡ count_within sys state p f
 
 -- ---- events

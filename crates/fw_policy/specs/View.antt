@@ -3,6 +3,7 @@ use Rattle.std.specs.Prelude.{◌≡◌, ◌↔◌, ◌⊎◌, ℕ, suc, Bool, t
 use Rattle.std.specs.List.{AllZip, Contains}
 use Rattle.fw_time.specs.Stamp.{Stamp}
 use Rattle.fw_frontier.specs.Frontier.{Frontier}
+use Rattle.fw_frontier.specs.Front.{Front}
 use Rattle.fw_flow.specs.declared.kind.Kind.{Kind}
 use Rattle.fw_flow.specs.declared.kind.Kind.TheVariants.{Input, OutputEpoch, OutputNumber}
 use Rattle.fw_flow.specs.declared.kind.Policy.TheVariants as policy
@@ -11,7 +12,8 @@ use Rattle.fw_flow.specs.NodeFunction.{event_node, event_stamp}
 use Rattle.fw_flow.specs.Projection.{IsSentTable}
 use Rattle.fw_flow.specs.WellFormed.{IsWellFormedSystem}
 use Rattle.fw_model.specs.Choice.{IsLogged, kept, is_counted}
-use Rattle.fw_model.specs.EventStamps.{AreStampsOf}
+use Rattle.fw_model.specs.EventStamps.{AreStampsIf, AreStampsOf}
+use Rattle.fw_model.specs.Floors.{IsFloor}
 use Rattle.fw_model.specs.History.{injected_count, is_exhausted}
 use Rattle.fw_model.specs.Machine.{Machine, SerialEvent, Write, checkpoint, logged_event, events, front_of, is_failed, ack_count_of}
 use Rattle.fw_model.specs.Machine.{Written as WrittenBy}
@@ -26,12 +28,12 @@ use Rattle.fw_keep.specs.declared.entry.Written.{Written}
 use Rattle.fw_keep.specs.declared.entry.Written.TheVariants as written
 use Rattle.fw_policy.specs.declared.view.NodeView.{NodeView}
 
--- the base of a node, inside which its stamps may be thinned: what is settled where it takes checkpoints, and else its low
--- watermark
-abbrev pub base_of : System → Machine → ℕ → Frontier
-base_of sys state p =
+-- the base of a node above a floor, inside which its stamps may be thinned: what is settled where it takes checkpoints, and else the
+-- floor
+abbrev pub base_of : System → List Front → Machine → ℕ → Frontier
+base_of sys floor state p =
     if takes_checkpoints (policy_of sys.flow p) then node_frontier sys.flow p (front_of state.settled p)
-    else node_frontier sys.flow p (front_of state.low p)
+    else node_frontier sys.flow p (front_of floor p)
 
 -- the event has this serial, is one of node p and is at stamp t
 pub record IsEventAt (flow : Dataflow) (p serial : ℕ) (t : Stamp) (v : SerialEvent) : Type 0 where
@@ -83,9 +85,9 @@ pub record IsReadAs (sys : System) (state : Machine) (entry : Entry) (write : Wr
 abbrev pub AreReadAs : System → Machine → List Entry → List Write → Type 0
 AreReadAs sys state entries writes = AllZip (IsReadAs sys state) entries writes
 
--- what is known of node p is so in the state, where these nodes count as failed
-pub record IsNodeViewOf (sys : System) (state : Machine) (lost : ℕ → Bool) (p : ℕ) (node : NodeView) : Type 0 where
-  pub stamps : AreStampsOf sys (events state.history) p (base_of sys state p) node.stamps
+-- what is known of node p is so in the state above a floor, where these nodes count as failed
+pub record IsNodeViewOf (sys : System) (state : Machine) (lost : ℕ → Bool) (floor : List Front) (p : ℕ) (node : NodeView) : Type 0 where
+  pub stamps : AreStampsOf sys (events state.history) p (base_of sys floor state p) node.stamps
   pub table : is_sequence_kind (kind_of sys.flow p) ≡ true → IsSentTable sys (events state.history) p node.table
   pub settled : node.settled ≡ front_of state.settled p
   pub low : node.low ≡ front_of state.low p
@@ -94,15 +96,22 @@ pub record IsNodeViewOf (sys : System) (state : Machine) (lost : ℕ → Bool) (
   pub failed : node.failed ≡ lost p
 
 -- the views are those of the nodes from p on
-abbrev pub AreNodeViewsFrom : System → Machine → (ℕ → Bool) → ℕ → List NodeView → Type 0
-AreNodeViewsFrom sys state lost p [] = Unit {0}
-AreNodeViewsFrom sys state lost p (node ∷ view) = IsNodeViewOf sys state lost p node × AreNodeViewsFrom sys state lost (suc p) view
+abbrev pub AreNodeViewsFrom : System → Machine → (ℕ → Bool) → List Front → ℕ → List NodeView → Type 0
+AreNodeViewsFrom sys state lost floor p [] = Unit {0}
+AreNodeViewsFrom sys state lost floor p (node ∷ view) = IsNodeViewOf sys state lost floor p node × AreNodeViewsFrom sys state lost floor (suc p) view
 
--- What is known is so in a state to which steps of a well-formed system lead, where these nodes count as failed: of each node
--- what its view says, and an entry for each write that was not collected, in order of asking.
-pub record IsViewOf (sys : System) (state : Machine) (lost : ℕ → Bool) (view : List NodeView) (entries : List Entry) : Type 0 where
+-- What is known is so above a floor in a state to which steps of a well-formed system lead, where these nodes count as failed: of each
+-- node what its view says, and an entry for each write that was not collected, in order of asking.
+pub record IsViewOf (sys : System) (state : Machine) (lost : ℕ → Bool) (floor : List Front) (view : List NodeView) (entries : List Entry) : Type 0 where
   pub well_formed : IsWellFormedSystem sys
   pub reached : IsReached sys state
+  pub above : IsFloor sys state floor
   pub one_each : length view ≡ length sys.flow.nodes
-  pub nodes : AreNodeViewsFrom sys state lost 0 view
+  pub nodes : AreNodeViewsFrom sys state lost floor 0 view
   pub written : AreReadAs sys state entries (uncollected state)
+
+-- of what happened at the nodes from p on, inside the base of each, none is missing in the views
+abbrev pub AreWholeFrom : System → Machine → List Front → ℕ → List NodeView → Type 0
+AreWholeFrom sys state floor p [] = Unit {0}
+AreWholeFrom sys state floor p (node ∷ view) =
+    AreStampsIf true sys (events state.history) p (base_of sys floor state p) node.stamps × AreWholeFrom sys state floor (suc p) view

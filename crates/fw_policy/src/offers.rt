@@ -1,12 +1,14 @@
 //! What nodes offer to a recovery.
-ghost use Rattle.std.specs.Prelude.{◌≡◌, ℕ, length, Bool, IfOk};
+ghost use Rattle.std.specs.Prelude.{◌≡◌, ℕ, length, List, Bool, IfOk};
+ghost use Rattle.fw_frontier.specs.Front.{Front};
 ghost use Rattle.fw_flow.specs.Dataflow.{System};
 ghost use Rattle.fw_model.specs.Machine.{Machine};
-ghost use Rattle.fw_model.specs.Offers.{AreOffersIn, AreOffersOf};
+ghost use Rattle.fw_model.specs.Choosing.{choice_at};
+ghost use Rattle.fw_model.specs.Offers.{AreOffersAbove, AreOffersIn, AreOffersOf};
 ghost use Rattle.fw_policy.specs.Offering.{IsOfferBy};
 ghost use Rattle.fw_policy.specs.Known.{IsKnown};
 ghost use Rattle.fw_policy.specs.Shaped.{FitsFlow};
-ghost use Rattle.fw_policy.specs.View.{IsViewOf};
+ghost use Rattle.fw_policy.specs.View.{AreWholeFrom, IsViewOf};
 
 use crate::offering::offered;
 use crate::view::NodeView;
@@ -15,7 +17,8 @@ use fw_keep::Entry;
 use std::alloc::{AllocError, Global};
 
 /// What each node offers to a recovery, by its kind and policy, where so much is known of the nodes and these writes were not
-/// collected. It takes a view of each node. Of a source the offer holds two frontiers, whatever its batches. The error is
+/// collected. It takes a view of each node. Where the views lack what lies below a floor, so do the offers, and a largest
+/// choice of them is the same. Of a source the offer holds two frontiers, whatever its batches. The error is
 /// want of memory.
 pub fn candidates(
     alloc: Global,
@@ -24,8 +27,11 @@ pub fn candidates(
     entries: &[Entry],
 ) -> Result<Vec<Offer>, AllocError>
     requires { length view.now ≡ length flow.now.nodes }
-    ensures exact { (sys : System) (state : Machine) (lost : ℕ → Bool) → sys.flow ≡ flow.now → IsViewOf sys state lost view.now entries.now
-        → IfOk result (λ offers. AreOffersIn sys state lost offers.items) }
+    ensures exact { (sys : System) (state : Machine) (lost : ℕ → Bool) → sys.flow ≡ flow.now → IsViewOf sys state lost state.low view.now entries.now
+        → AreWholeFrom sys state state.low 0 view.now → IfOk result (λ offers. AreOffersIn sys state lost offers.items) }
+    ensures above { (sys : System) (state : Machine) (lost : ℕ → Bool) (floor : List Front) → sys.flow ≡ flow.now
+        → (known : IsViewOf sys state lost floor view.now entries.now)
+        → IfOk result (λ offers. AreOffersAbove sys state lost (choice_at floor known.above.notices) offers.items) }
     ensures of_flow { FitsFlow flow.now view.now entries.now → IfOk result (λ offers. AreOffersOf flow.now offers.items) }
 {
     let mut offers = Vec::new(alloc);

@@ -17,8 +17,8 @@ pub enum Border {
 #[derive(Debug, Drop)]
 pub struct NodeView {
     /// Where its events are and where they sent. They may be thinned: of the stamps inside its base, which is what is settled
-    /// where it takes checkpoints and else its low watermark, the greatest are enough. Of the numbers that a sequence sent
-    /// the last is enough.
+    /// where it takes checkpoints and else a floor, as its low watermark, the greatest are enough; below a floor some may be
+    /// missing. Of the numbers that a sequence sent the last is enough.
     pub stamps: Stamps,
     /// How many messages it sent, by epoch, if it is a sequence; else it plays no part.
     pub table: SentTable,

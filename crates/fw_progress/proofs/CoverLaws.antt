@@ -14,8 +14,9 @@ use Rattle.fw_flow.specs.Projection.{events_at, sent_count}
 use Rattle.fw_flow.specs.WellFormed.{IsWellFormed}
 use Rattle.fw_model.specs.Covers.{stamp_of_notice}
 use Rattle.fw_model.specs.History.{delivered_messages, IsLegal}
-use Rattle.fw_model.specs.Thinned.{IsThinned}
+use Rattle.fw_model.specs.Thinned.{IsThinned, IsThinnedIf}
 use Rattle.fw_model.proofs.LegalLaws.{legal_events-in_domain}
+use Rattle.fw_model.proofs.ThinnedLaws.{thinned-whole}
 use Rattle.fw_progress.specs.declared.sent_tally.SentTally.{SentTally}
 use Rattle.fw_progress.specs.declared.traces.Traces.{Traces}
 use Rattle.fw_progress.specs.Covers.{CoversDelivered, CoversNotified}
@@ -33,20 +34,20 @@ IsCoverOf bounds f kept result =
 
 pub delivered-covers : {E : Type 0} (flow : Dataflow) (e : ℕ) (f : Front) (traces : Traces) (kept : List Stamp) (bounds : Bounds) (result : Result Front E) → IsWellFormed flow → e < length flow.edges
     → kept ≡ delivered_on traces e → bounds ≡ bounds_of flow (receiver flow e) → IsCoverOf bounds f kept result
-    → (sys : System) (h : List Event) → sys.flow ≡ flow → HasEpochs sys → IsLegal sys h → IsTraceWithin sys h (receiver flow e) f traces → IfOk result (CoversDelivered sys h e f)
+    → (sys : System) (h : List Event) → sys.flow ≡ flow → HasEpochs sys → IsLegal sys h → IsTraceWithin true sys h (receiver flow e) f traces → IfOk result (CoversDelivered sys h e f)
 delivered-covers flow e f traces kept bounds result w l k i covers sys h s b legal t =
-    let now : IsTraceWithin sys h (receiver sys.flow e) f traces = subst (λ g. IsTraceWithin sys h (receiver g e) f traces) (sym s) t in
+    let now : IsTraceWithin true sys h (receiver sys.flow e) f traces = subst (λ g. IsTraceWithin true sys h (receiver g e) f traces) (sym s) t in
     let all = map (λ (m : Message). m.at) (delivered_messages h e) in
     let is : bounds ≡ bounds_of sys.flow (receiver sys.flow e) = i ∙ ap (λ g. bounds_of g (receiver g e)) (sym s) in
     subst (λ x. IfOk result (λ front. IsFrontOf x front (cover x (filter (frontier_of x f) all)))) is
     (covers now.base all
     (subst (λ x. AreOf x all) (sym is) (delivered-domain sys h e (legal_events-in_domain sys h (subst IsWellFormed (sym s) w) b legal (receiver sys.flow e))))
     (subst (λ x. Within now.base (frontier_of x f)) (sym is) now.within)
-    (subst (IsThinned now.base all) (sym k) (now.trace.delivered e (subst (λ g. e < length g.edges) (sym s) l) (λ j. receiver sys.flow e))))
+    (thinned-whole now.base all kept (subst (IsThinnedIf true now.base all) (sym k) (now.trace.delivered e (subst (λ g. e < length g.edges) (sym s) l) (λ j. receiver sys.flow e)))))
 
 pub notified-covers : {E : Type 0} (flow : Dataflow) (p : ℕ) (f : Front) (traces : Traces) (kept : List Stamp) (bounds : Bounds) (result : Result Front E) → IsWellFormed flow
     → kept ≡ stamps_notified traces p → bounds ≡ bounds_of flow p → IsCoverOf bounds f kept result
-    → (sys : System) (h : List Event) → sys.flow ≡ flow → HasEpochs sys → IsLegal sys h → IsTraceWithin sys h p f traces → IfOk result (CoversNotified sys h p f)
+    → (sys : System) (h : List Event) → sys.flow ≡ flow → HasEpochs sys → IsLegal sys h → IsTraceWithin true sys h p f traces → IfOk result (CoversNotified sys h p f)
 notified-covers flow p f traces kept bounds result w k i covers sys h s b legal t =
     let all = flat_map (stamp_of_notice p) h in
     let is : bounds ≡ bounds_of sys.flow p = i ∙ ap (λ g. bounds_of g p) (sym s) in
@@ -54,11 +55,11 @@ notified-covers flow p f traces kept bounds result w k i covers sys h s b legal 
     (covers t.base all
     (subst (λ x. AreOf x all) (sym is) (notices-domain sys h p (legal_events-in_domain sys h (subst IsWellFormed (sym s) w) b legal p)))
     (subst (λ x. Within t.base (frontier_of x f)) (sym is) t.within)
-    (subst (IsThinned t.base all) (sym k) t.trace.notified))
+    (thinned-whole t.base all kept (subst (IsThinnedIf true t.base all) (sym k) t.trace.notified)))
 
 pub sent-counts : (flow : Dataflow) (p : ℕ) (f : Front) (traces : Traces) (tally : SentTally) (n : ℕ) → IsWellFormed flow → tally ≡ counted_of traces p
     → n ≡ tally.inside + count_inside (inside f) tally.outside
-    → (sys : System) (h : List Event) → sys.flow ≡ flow → HasEpochs sys → IsLegal sys h → counts_sent flow p ≡ true → IsTraceWithin sys h p f traces
+    → (sys : System) (h : List Event) → sys.flow ≡ flow → HasEpochs sys → IsLegal sys h → counts_sent flow p ≡ true → IsTraceWithin true sys h p f traces
     → n ≡ sent_count sys h p (node_frontier flow p f)
 sent-counts flow p f traces tally n w k is sys h s b legal counts t =
     is ∙ ap (λ (x : SentTally). x.inside + count_inside (inside f) x.outside) k

@@ -19,18 +19,18 @@ use Rattle.fw_flow.specs.WellFormed.{IsWellFormed}
 use Rattle.fw_model.specs.Covers.{stamp_of_notice}
 use Rattle.fw_model.specs.Filtering.{AreFrontiers, kept_events, messages_inside, messages_from, events_inside}
 use Rattle.fw_model.specs.History.{message_on, delivered_messages, AreEventsInDomain, IsLegal}
-use Rattle.fw_model.specs.Thinned.{IsThinned}
+use Rattle.fw_model.specs.Thinned.{IsThinned, IsThinnedIf}
 use Rattle.fw_model.proofs.LegalLaws.{legal_events-in_domain}
 use Rattle.fw_model.proofs.LocalityLaws.{sends-causes, events_at-kept, sent_by-same, delivers-same}
 use Rattle.fw_model.proofs.SequenceLaws.{one_inside}
 use Rattle.fw_progress.specs.declared.sent_tally.SentTally.{SentTally}
 use Rattle.fw_progress.specs.declared.traces.Traces.{Traces}
-use Rattle.fw_model.specs.EventStamps.{causes_in}
+use Rattle.fw_model.specs.EventStamps.{causes_in, base_of_sent}
 use Rattle.fw_progress.specs.SentTally.{IsSentTally, ComeFromDomain, IsTallySettledTo, IsCountedInAll, IsTallyCutTo}
-use Rattle.fw_progress.specs.Trace.{delivered_on, stamps_notified, stamps_where_sent, counted_of, IsTraceOf, IsTraceWithin, KeepsOthers, AreSettledTo, AreThinnedAt, AreCutTo, HaveChanged}
+use Rattle.fw_progress.specs.Trace.{delivered_on, stamps_notified, stamps_where_sent, counted_of, IsTraceIf, IsTraceWithin, KeepsOthers, AreSettledTo, AreThinnedAt, AreCutTo, HaveChanged}
 use Rattle.fw_progress.specs.Traces.{AreOf, IsSettledTo, IsThinnedBy, StandsInside}
 use Rattle.fw_progress.proofs.SentTallyLaws.{tally-settle}
-use Rattle.fw_progress.proofs.TraceLaws.{thinned-settle}
+use Rattle.fw_progress.proofs.TraceLaws.{thinned-settle, settled-if, inside-if, sent_settled-if, sent_inside-if}
 
 -- ---- of a node's events alone
 
@@ -58,12 +58,12 @@ notices-at flow h p = flat_map-filter (stamp_of_notice p) (λ v. event_node flow
     each (Notify q t ∷ vs) = ((λ k. ap (λ b. cond b (t ∷ []) []) k), each vs)
 
 -- traces are those of each history in which the node has the same events
-pub same-trace : (sys : System) (h k : List Event) (p : ℕ) (base : Frontier) (traces : Traces) → events_at sys.flow p k ≡ events_at sys.flow p h
-    → IsTraceOf sys h p base traces → IsTraceOf sys k p base traces
-same-trace sys h k p base traces e t = record {
-  delivered = λ d l r. subst (λ ms. IsThinned base (map (λ (m : Message). m.at) ms) (delivered_on traces d)) (same d r) (t.delivered d l r);
-  notified = subst (λ ss. IsThinned base ss (stamps_notified traces p)) (sym (notices-at sys.flow h p) ∙ ap (flat_map (stamp_of_notice p)) (sym e) ∙ notices-at sys.flow k p) t.notified;
-  sent = λ o n. subst (λ vs. IsThinned base (causes_in (sent_by sys p vs)) (stamps_where_sent traces p)) (sym e) (t.sent o n);
+pub same-trace : (whole : Bool) (sys : System) (h k : List Event) (p : ℕ) (base : Frontier) (traces : Traces) → events_at sys.flow p k ≡ events_at sys.flow p h
+    → IsTraceIf whole sys h p base traces → IsTraceIf whole sys k p base traces
+same-trace whole sys h k p base traces e t = record {
+  delivered = λ d l r. subst (λ ms. IsThinnedIf whole base (map (λ (m : Message). m.at) ms) (delivered_on traces d)) (same d r) (t.delivered d l r);
+  notified = subst (λ ss. IsThinnedIf whole base ss (stamps_notified traces p)) (sym (notices-at sys.flow h p) ∙ ap (flat_map (stamp_of_notice p)) (sym e) ∙ notices-at sys.flow k p) t.notified;
+  sent = λ o n. subst (λ vs. IsThinnedIf whole (base_of_sent whole sys.flow p base) (causes_in (sent_by sys p vs)) (stamps_where_sent traces p)) (sym e) (t.sent o n);
   counted = λ c. subst (λ vs. IsSentTally base (sent_by sys p vs) (counted_of traces p)) (sym e) (t.counted c);
 }
   where
@@ -121,31 +121,32 @@ sent-domain sys h p a = come-of sys p (bounds_of sys.flow p) (events_at sys.flow
 -- ---- lists that change together
 
 changed-others : (flow : Dataflow) (p : ℕ) (R : List Stamp → List Stamp → Type 0) (T : SentTally → SentTally → Type 0) (old new : Traces) → HaveChanged flow p R T old new → KeepsOthers flow p old new
-changed-others flow p R T old new c sys h e q n base t = record {
-  delivered = λ d l r. subst (IsThinned base (map (λ (m : Message). m.at) (delivered_messages h d))) (sym (c.delivered.others d (λ i. n (sym r ∙ ap (λ f. receiver f d) e ∙ i)))) (t.delivered d l r);
-  notified = subst (IsThinned base (flat_map (stamp_of_notice q) h)) (sym (c.notified.others q n)) t.notified;
-  sent = λ o k. subst (IsThinned base (causes_in (sent_by sys q (events_at sys.flow q h)))) (sym (c.sent.others q n)) (t.sent o k);
+changed-others flow p R T old new c whole sys h e q n base t = record {
+  delivered = λ d l r. subst (IsThinnedIf whole base (map (λ (m : Message). m.at) (delivered_messages h d))) (sym (c.delivered.others d (λ i. n (sym r ∙ ap (λ f. receiver f d) e ∙ i)))) (t.delivered d l r);
+  notified = subst (IsThinnedIf whole base (flat_map (stamp_of_notice q) h)) (sym (c.notified.others q n)) t.notified;
+  sent = λ o k. subst (IsThinnedIf whole (base_of_sent whole sys.flow q base) (causes_in (sent_by sys q (events_at sys.flow q h)))) (sym (c.sent.others q n)) (t.sent o k);
   counted = λ k. subst (IsSentTally base (sent_by sys q (events_at sys.flow q h))) (sym (c.counted.others q n)) (t.counted k);
 }
 
 settled-traces : (flow : Dataflow) (p : ℕ) (f : Front) (old new : Traces) → HaveChanged flow p (IsSettledTo f) (IsTallySettledTo f) old new → AreSettledTo flow p f old new
 settled-traces flow p f old new change = record {
-  here = λ sys h e.
-      subst (λ g. AreEventsInDomain g h p → IsTraceWithin sys h p f old → IsTraceOf sys h p (node_frontier g p f) new) e
-      (λ a w. here sys h (subst (λ g. HaveChanged g p (IsSettledTo f) (IsTallySettledTo f) old new) (sym e) change) a w);
+  here = λ whole sys h e.
+      subst (λ g. AreEventsInDomain g h p → IsTraceWithin whole sys h p f old → IsTraceIf whole sys h p (node_frontier g p f) new) e
+      (λ a w. here whole sys h (subst (λ g. HaveChanged g p (IsSettledTo f) (IsTallySettledTo f) old new) (sym e) change) a w);
   others = changed-others flow p (IsSettledTo f) (IsTallySettledTo f) old new change;
 }
   where
-    here : (sys : System) (h : List Event) → HaveChanged sys.flow p (IsSettledTo f) (IsTallySettledTo f) old new → AreEventsInDomain sys.flow h p → IsTraceWithin sys h p f old
-        → IsTraceOf sys h p (node_frontier sys.flow p f) new
-    here sys h c a w =
+    here : (whole : Bool) (sys : System) (h : List Event) → HaveChanged sys.flow p (IsSettledTo f) (IsTallySettledTo f) old new → AreEventsInDomain sys.flow h p
+        → IsTraceWithin whole sys h p f old → IsTraceIf whole sys h p (node_frontier sys.flow p f) new
+    here whole sys h c a w =
         let b = bounds_of sys.flow p in
         let t = w.trace in
         record {
-          delivered = λ d l r. c.delivered.here d l r b w.base (map (λ (m : Message). m.at) (delivered_messages h d))
+          delivered = λ d l r. settled-if whole b f (delivered_on old d) (delivered_on new d) (c.delivered.here d l r) w.base (map (λ (m : Message). m.at) (delivered_messages h d))
               (subst (λ q. AreEventsInDomain sys.flow h q → AreOf (bounds_of sys.flow q) (map (λ (m : Message). m.at) (delivered_messages h d))) r (delivered-domain sys h d) a) w.within (t.delivered d l r);
-          notified = c.notified.here b w.base (flat_map (stamp_of_notice p) h) (notices-domain sys h p a) w.within t.notified;
-          sent = λ o k. c.sent.here b w.base (causes_in (sent_by sys p (events_at sys.flow p h))) (causes-of b _ (sent-domain sys h p a)) w.within (t.sent o k);
+          notified = settled-if whole b f (stamps_notified old p) (stamps_notified new p) c.notified.here w.base (flat_map (stamp_of_notice p) h) (notices-domain sys h p a) w.within t.notified;
+          sent = λ o k. sent_settled-if whole sys.flow p b f (stamps_where_sent old p) (stamps_where_sent new p) c.sent.here w.base (causes_in (sent_by sys p (events_at sys.flow p h)))
+              (causes-of b _ (sent-domain sys h p a)) w.within (t.sent o k);
           counted = λ k. c.counted.here b w.base (sent_by sys p (events_at sys.flow p h)) (sent-domain sys h p a) w.within (t.counted k);
         }
 
@@ -239,19 +240,19 @@ notices-kept flow keep h p =
 
 pub cut-traces : (flow : Dataflow) (p : ℕ) (f : Front) (old new : Traces) → IsWellFormed flow → HaveChanged flow p (StandsInside f) (IsTallyCutTo f) old new → AreCutTo flow p f old new
 cut-traces flow p f old new well change = record {
-  here = λ sys h keep e epochs legal fr is base w t.
+  here = λ whole sys h keep e epochs legal fr is base w t.
       let is_now : keep p ≡ node_frontier sys.flow p f = is ∙ sym (ap (λ g. node_frontier g p f) e) in
       let fr_now : AreFrontiers sys.flow keep = subst (λ g. AreFrontiers g keep) (sym e) fr in
       let w_now : Within base (node_frontier sys.flow p f) = subst (λ g. Within base (node_frontier g p f)) (sym e) w in
-      subst (λ g. IsTraceOf sys (kept_events g keep h) p base new) e
-      (here sys h keep (subst IsWellFormed (sym e) well) epochs legal fr_now is_now base w_now (subst (λ g. HaveChanged g p (StandsInside f) (IsTallyCutTo f) old new) (sym e) change) t);
+      subst (λ g. IsTraceIf whole sys (kept_events g keep h) p base new) e
+      (here whole sys h keep (subst IsWellFormed (sym e) well) epochs legal fr_now is_now base w_now (subst (λ g. HaveChanged g p (StandsInside f) (IsTallyCutTo f) old new) (sym e) change) t);
   others = changed-others flow p (StandsInside f) (IsTallyCutTo f) old new change;
 }
   where
-    here : (sys : System) (h : List Event) (keep : ℕ → Frontier) → IsWellFormed sys.flow → HasEpochs sys → IsLegal sys h → AreFrontiers sys.flow keep → keep p ≡ node_frontier sys.flow p f
-        → (base : Frontier) → Within base (node_frontier sys.flow p f) → HaveChanged sys.flow p (StandsInside f) (IsTallyCutTo f) old new → IsTraceOf sys h p base old
-        → IsTraceOf sys (kept_events sys.flow keep h) p base new
-    here sys h keep well epochs legal fr is base w c t =
+    here : (whole : Bool) (sys : System) (h : List Event) (keep : ℕ → Frontier) → IsWellFormed sys.flow → HasEpochs sys → IsLegal sys h → AreFrontiers sys.flow keep → keep p ≡ node_frontier sys.flow p f
+        → (base : Frontier) → Within base (node_frontier sys.flow p f) → HaveChanged sys.flow p (StandsInside f) (IsTallyCutTo f) old new → IsTraceIf whole sys h p base old
+        → IsTraceIf whole sys (kept_events sys.flow keep h) p base new
+    here whole sys h keep well epochs legal fr is base w c t =
         let b = bounds_of sys.flow p in
         let a = legal_events-in_domain sys h well epochs legal p in
         let sent = sent_by-same sys h keep well epochs legal fr p ∙ ap (λ g. messages_from g (sent_by sys p (events_at sys.flow p h))) is in
@@ -261,14 +262,14 @@ cut-traces flow p f old new well change = record {
               let left : map (λ (m : Message). m.at) (delivered_messages (kept_events sys.flow keep h) d) ≡ filter (node_frontier sys.flow p f) all =
               ap (map (λ (m : Message). m.at)) (delivers-same sys.flow h keep d) ∙ map-filter (keep (receiver sys.flow d)) (delivered_messages h d)
               ∙ ap (λ g. filter g all) (ap keep r ∙ is) in
-              subst (λ ss. IsThinned base ss (delivered_on new d)) (sym left)
-              (c.delivered.here d l r b base all
+              subst (λ ss. IsThinnedIf whole base ss (delivered_on new d)) (sym left)
+              (inside-if whole b f (delivered_on old d) (delivered_on new d) (c.delivered.here d l r) base all
               (subst (λ q. AreEventsInDomain sys.flow h q → AreOf (bounds_of sys.flow q) all) r (delivered-domain sys h d) a) w (t.delivered d l r));
-          notified = subst (λ ss. IsThinned base ss (stamps_notified new p)) (sym (notices-kept sys.flow keep h p ∙ ap (λ g. filter g (flat_map (stamp_of_notice p) h)) is))
-              (c.notified.here b base (flat_map (stamp_of_notice p) h) (notices-domain sys h p a) w t.notified);
-          sent = λ o k. subst (λ ss. IsThinned base ss (stamps_where_sent new p))
+          notified = subst (λ ss. IsThinnedIf whole base ss (stamps_notified new p)) (sym (notices-kept sys.flow keep h p ∙ ap (λ g. filter g (flat_map (stamp_of_notice p) h)) is))
+              (inside-if whole b f (stamps_notified old p) (stamps_notified new p) c.notified.here base (flat_map (stamp_of_notice p) h) (notices-domain sys h p a) w t.notified);
+          sent = λ o k. subst (λ ss. IsThinnedIf whole (base_of_sent whole sys.flow p base) ss (stamps_where_sent new p))
               (sym (ap causes_in sent ∙ causes-from (node_frontier sys.flow p f) (sent_by sys p (events_at sys.flow p h)) (sent-one sys p (events_at sys.flow p h))))
-              (c.sent.here b base (causes_in (sent_by sys p (events_at sys.flow p h))) (causes-of b _ (sent-domain sys h p a)) w (t.sent o k));
+              (sent_inside-if whole sys.flow p b f (stamps_where_sent old p) (stamps_where_sent new p) c.sent.here base (causes_in (sent_by sys p (events_at sys.flow p h))) (causes-of b _ (sent-domain sys h p a)) w (t.sent o k));
           counted = λ k. subst (λ ms. IsSentTally base ms (counted_of new p)) (sym sent)
               (c.counted.here b base (sent_by sys p (events_at sys.flow p h)) (sent-domain sys h p a) w (t.counted k));
         }

@@ -1,10 +1,10 @@
 -- Traces that follow events.
-use Rattle.std.proofs.Common.{◌≡◌, ◌≢◌, ℕ, suc, ◌<◌, true, false, ◌==◌, cond, List, [], ◌∷◌, ◌++◌, length, get_or, map, refl, sym, ap, subst, ◌∙◌, inl, inr, arith}
+use Rattle.std.proofs.Common.{◌≡◌, ◌≢◌, ℕ, suc, ◌<◌, Bool, true, false, ◌==◌, cond, List, [], ◌∷◌, ◌++◌, length, get_or, map, refl, sym, ap, subst, ◌∙◌, inl, inr, arith}
 use Rattle.std.specs.List.{AllByRecursion, Contains, flat_map}
 use Rattle.std.proofs.lemmas.Bool.{cases_eq, eq-eqb, eqb-true, false_from_ne_true}
 use Rattle.std.proofs.lemmas.Grind.{flat_map-append}
 use Rattle.std.proofs.lemmas.List.{length-map, map-append}
-use Rattle.std.proofs.lemmas.List.Elements.{Contains-append_right}
+use Rattle.std.proofs.lemmas.List.Elements.{Contains-append_left, Contains-append_right}
 use Rattle.fw_lemmas.proofs.Each.{each-weaker, each-append}
 use Rattle.fw_time.specs.Stamp.{Stamp}
 use Rattle.fw_frontier.specs.Frontier.{Frontier}
@@ -16,17 +16,17 @@ use Rattle.fw_flow.specs.NodeFunction.{event_node, event_stamp, sends, sent_by}
 use Rattle.fw_flow.specs.Projection.{events_at}
 use Rattle.fw_model.specs.Covers.{stamp_of_notice}
 use Rattle.fw_model.specs.History.{message_on, delivered_messages}
-use Rattle.fw_model.specs.Thinned.{IsBelowKept, IsThinned}
+use Rattle.fw_model.specs.Thinned.{IsBelowKept, IsThinned, IsThinnedIf}
 use Rattle.fw_model.proofs.LocalityLaws.{sends-causes}
 use Rattle.fw_model.proofs.ThinnedLaws.{each-contained}
 use Rattle.fw_progress.specs.declared.sent_tally.SentTally.{SentTally}
 use Rattle.fw_progress.specs.declared.traces.Traces.{Traces}
 use Rattle.fw_progress.specs.Progress.{ChangesAt}
-use Rattle.fw_model.specs.EventStamps.{causes_in}
+use Rattle.fw_model.specs.EventStamps.{causes_in, base_of_sent}
 use Rattle.fw_progress.specs.SentTally.{IsSentTally, CountsMore}
 use Rattle.fw_progress.specs.Trace.{delivered_on, stamps_notified, stamps_where_sent, counted_of, no_tally, counts_sent, TracesFollow, StandForManyMore, SentMore, CountedMore, HasSent}
 use Rattle.fw_progress.specs.Traces.{StandForOneMore}
-use Rattle.fw_progress.proofs.TraceLaws.{contains-head, contains-tail, each-had}
+use Rattle.fw_progress.proofs.TraceLaws.{contains-head, contains-tail, each-had, changed-if, thinned-itself, one_more-if}
 
 -- ---- the same stamps, however often
 
@@ -57,6 +57,18 @@ many-some at count old new some one base all (m ∷ more) l e h =
     (each-had (Contains (at ∷ all)) all (λ t d. contains-tail at all t d))))
     (one base all h)
 
+-- so much more stands where perhaps not the whole is kept
+many-if : (whole : Bool) (at : Stamp) (count : ℕ) (old new : List Stamp) → StandForManyMore at count old new → (base : Frontier) (all more : List Stamp) → length more ≡ count
+    → AllByRecursion (λ s. s ≡ at) more → IsThinnedIf whole base all old → IsThinnedIf whole base (more ++ all) new
+many-if whole at count old new f base all more l e h =
+    changed-if whole base base all old (more ++ all) (more ++ old) new (f base all more l e) (f base old more l e (thinned-itself base old))
+    (each-append (Contains (more ++ all)) more old (each-had (Contains (more ++ all)) more (λ s c. Contains-append_left more all s c))
+    (each-weaker (Contains all) (Contains (more ++ all)) old (λ s c. Contains-append_right more all s c) h.among))
+    (each-append (λ t. base t ≡ false → Contains (more ++ old) t) more all
+    (each-had (λ t. base t ≡ false → Contains (more ++ old) t) more (λ t c o. Contains-append_left more old t c))
+    (each-weaker (λ t. base t ≡ false → Contains old t) (λ t. base t ≡ false → Contains (more ++ old) t) all (λ t c o. Contains-append_right more old t (c o)) h.outside))
+    h
+
 -- ---- what a node sends by an event
 
 pub sent_by-event : (sys : System) (h : List Event) (v : Event) (p : ℕ) → event_node sys.flow v ≡ p
@@ -80,18 +92,19 @@ one_cause at (m ∷ ms) a =
 
 -- What an event changes: what is delivered on its edge, of what its node is notified, and what that sends.
 pub record Tells (flow : Dataflow) (v : Event) (count : ℕ) (old new : Traces) : Type 0 where
-  pub delivered : (d : ℕ) (base : Frontier) (all : List Stamp) → IsThinned base all (delivered_on old d)
-      → IsThinned base (map (λ (m : Message). m.at) (message_on d v) ++ all) (delivered_on new d)
-  pub notified : (q : ℕ) (base : Frontier) (all : List Stamp) → IsThinned base all (stamps_notified old q) → IsThinned base (stamp_of_notice q v ++ all) (stamps_notified new q)
+  pub delivered : (whole : Bool) (d : ℕ) (base : Frontier) (all : List Stamp) → IsThinnedIf whole base all (delivered_on old d)
+      → IsThinnedIf whole base (map (λ (m : Message). m.at) (message_on d v) ++ all) (delivered_on new d)
+  pub notified : (whole : Bool) (q : ℕ) (base : Frontier) (all : List Stamp) → IsThinnedIf whole base all (stamps_notified old q)
+      → IsThinnedIf whole base (stamp_of_notice q v ++ all) (stamps_notified new q)
   pub sends : HasSent flow (event_node flow v) (event_stamp v) count old new
 
 pub tells-follow : (flow : Dataflow) (v : Event) (sent : List Stamp) (old new : Traces) → Tells flow v (length sent) old new → TracesFollow flow v sent old new
-tells-follow flow v sent old new tells sys h e is p base t =
+tells-follow flow v sent old new tells whole sys h e is p base t =
     let told : Tells sys.flow v (length sent) old new = subst (λ f. Tells f v (length sent) old new) (sym e) tells in
     record {
-      delivered = λ d l r. subst (λ ss. IsThinned base ss (delivered_on new d)) (sym (map-append (λ (m : Message). m.at) (message_on d v) (delivered_messages h d)))
-          (told.delivered d base (map (λ (m : Message). m.at) (delivered_messages h d)) (t.delivered d l r));
-      notified = told.notified p base (flat_map (stamp_of_notice p) h) t.notified;
+      delivered = λ d l r. subst (λ ss. IsThinnedIf whole base ss (delivered_on new d)) (sym (map-append (λ (m : Message). m.at) (message_on d v) (delivered_messages h d)))
+          (told.delivered whole d base (map (λ (m : Message). m.at) (delivered_messages h d)) (t.delivered d l r));
+      notified = told.notified whole p base (flat_map (stamp_of_notice p) h) t.notified;
       sent = λ o k. sends_after told p k (t.sent o k);
       counted = λ k. counts_after told p k (t.counted k);
     }
@@ -114,17 +127,23 @@ tells-follow flow v sent old new tells sys h e is p base t =
     one : AllByRecursion (λ (m : Message). m.causes ≡ event_stamp v ∷ []) now
     one = sends-causes sys q (events_at sys.flow q h) v
 
-    sends_after : Tells sys.flow v (length sent) old new → (n : ℕ) → is_sequence_kind (kind_of sys.flow n) ≡ false → IsThinned base (causes_in (before n)) (stamps_where_sent old n)
-        → IsThinned base (causes_in (after n)) (stamps_where_sent new n)
+    base_at : ℕ → Frontier
+    base_at n = base_of_sent whole sys.flow n base
+
+    sends_after : Tells sys.flow v (length sent) old new → (n : ℕ) → is_sequence_kind (kind_of sys.flow n) ≡ false
+        → IsThinnedIf whole (base_at n) (causes_in (before n)) (stamps_where_sent old n)
+        → IsThinnedIf whole (base_at n) (causes_in (after n)) (stamps_where_sent new n)
     sends_after told n k i = elim (cases_eq n q) [
-      | inl j ↦ subst (λ x. is_sequence_kind (kind_of sys.flow x) ≡ false → IsThinned base (causes_in (before x)) (stamps_where_sent old x) → IsThinned base (causes_in (after x)) (stamps_where_sent new x)) (sym j)
+      | inl j ↦ subst (λ x. is_sequence_kind (kind_of sys.flow x) ≡ false → IsThinnedIf whole (base_at x) (causes_in (before x)) (stamps_where_sent old x)
+          → IsThinnedIf whole (base_at x) (causes_in (after x)) (stamps_where_sent new x)) (sym j)
           (λ c u.
           let parts = one_cause (event_stamp v) now one in
-          subst (λ ss. IsThinned base ss (stamps_where_sent new q)) (sym (ap causes_in (sent_by-event sys h v q refl) ∙ flat_map-append (λ (m : Message). m.causes) now (before q)))
-          (told.sends.sent.here c base (causes_in (before q)) (causes_in now) (parts.0 ∙ many) parts.1 u)) k i
+          subst (λ ss. IsThinnedIf whole (base_at q) ss (stamps_where_sent new q)) (sym (ap causes_in (sent_by-event sys h v q refl) ∙ flat_map-append (λ (m : Message). m.causes) now (before q)))
+          (many-if whole (event_stamp v) (length sent) (stamps_where_sent old q) (stamps_where_sent new q) (told.sends.sent.here c) (base_at q) (causes_in (before q)) (causes_in now)
+          (parts.0 ∙ many) parts.1 u)) k i
       | inr j ↦
-          subst (λ ms. IsThinned base (causes_in ms) (stamps_where_sent new n)) (sym (sent_by-other sys h v n (λ x. j (sym x))))
-          (subst (IsThinned base (causes_in (before n))) (sym (told.sends.sent.others n j)) i)
+          subst (λ ms. IsThinnedIf whole (base_at n) (causes_in ms) (stamps_where_sent new n)) (sym (sent_by-other sys h v n (λ x. j (sym x))))
+          (subst (IsThinnedIf whole (base_at n) (causes_in (before n))) (sym (told.sends.sent.others n j)) i)
     ]
 
     counts_after : Tells sys.flow v (length sent) old new → (n : ℕ) → counts_sent sys.flow n ≡ true → IsSentTally base (before n) (counted_of old n) → IsSentTally base (after n) (counted_of new n)
@@ -141,25 +160,25 @@ tells-follow flow v sent old new tells sys h e is p base t =
 pub delivered-tells : (flow : Dataflow) (e : ℕ) (m : Message) (count : ℕ) (old new : Traces) → ChangesAt e [] (StandForOneMore m.at) old.delivered.items new.delivered.items
     → new.notified.items ≡ old.notified.items → HasSent flow (receiver flow e) m.at count old new → Tells flow (Deliver e m) count old new
 delivered-tells flow e m count old new d n s = record {
-  delivered = λ x base all h. elim (cases_eq x e) [
-    | inl i ↦ subst (λ b. IsThinned base (map (λ (z : Message). z.at) (cond b (m ∷ []) []) ++ all) (delivered_on new x)) (sym (eq-eqb e x (sym i)))
-        (subst (λ y. IsThinned base all (delivered_on old y) → IsThinned base (m.at ∷ all) (delivered_on new y)) (sym i) (d.here base all) h)
-    | inr i ↦ subst (λ b. IsThinned base (map (λ (z : Message). z.at) (cond b (m ∷ []) []) ++ all) (delivered_on new x)) (sym (false_from_ne_true (e == x) (λ k. i (sym (eqb-true e x k)))))
-        (subst (IsThinned base all) (sym (d.others x i)) h)
+  delivered = λ whole x base all h. elim (cases_eq x e) [
+    | inl i ↦ subst (λ b. IsThinnedIf whole base (map (λ (z : Message). z.at) (cond b (m ∷ []) []) ++ all) (delivered_on new x)) (sym (eq-eqb e x (sym i)))
+        (subst (λ y. IsThinnedIf whole base all (delivered_on old y) → IsThinnedIf whole base (m.at ∷ all) (delivered_on new y)) (sym i) (one_more-if whole m.at (delivered_on old e) (delivered_on new e) d.here base all) h)
+    | inr i ↦ subst (λ b. IsThinnedIf whole base (map (λ (z : Message). z.at) (cond b (m ∷ []) []) ++ all) (delivered_on new x)) (sym (false_from_ne_true (e == x) (λ k. i (sym (eqb-true e x k)))))
+        (subst (IsThinnedIf whole base all) (sym (d.others x i)) h)
   ];
-  notified = λ q base all h. subst (IsThinned base all) (sym (ap (λ xs. get_or xs q []) n)) h;
+  notified = λ whole q base all h. subst (IsThinnedIf whole base all) (sym (ap (λ xs. get_or xs q []) n)) h;
   sends = s;
 }
 
 pub notified-tells : (flow : Dataflow) (p : ℕ) (t : Stamp) (count : ℕ) (old new : Traces) → new.delivered.items ≡ old.delivered.items
     → ChangesAt p [] (StandForOneMore t) old.notified.items new.notified.items → HasSent flow p t count old new → Tells flow (Notify p t) count old new
 notified-tells flow p t count old new d n s = record {
-  delivered = λ x base all h. subst (IsThinned base all) (sym (ap (λ xs. get_or xs x []) d)) h;
-  notified = λ q base all h. elim (cases_eq q p) [
-    | inl i ↦ subst (λ b. IsThinned base (cond b (t ∷ []) [] ++ all) (stamps_notified new q)) (sym (eq-eqb p q (sym i)))
-        (subst (λ y. IsThinned base all (stamps_notified old y) → IsThinned base (t ∷ all) (stamps_notified new y)) (sym i) (n.here base all) h)
-    | inr i ↦ subst (λ b. IsThinned base (cond b (t ∷ []) [] ++ all) (stamps_notified new q)) (sym (false_from_ne_true (p == q) (λ k. i (sym (eqb-true p q k)))))
-        (subst (IsThinned base all) (sym (n.others q i)) h)
+  delivered = λ whole x base all h. subst (IsThinnedIf whole base all) (sym (ap (λ xs. get_or xs x []) d)) h;
+  notified = λ whole q base all h. elim (cases_eq q p) [
+    | inl i ↦ subst (λ b. IsThinnedIf whole base (cond b (t ∷ []) [] ++ all) (stamps_notified new q)) (sym (eq-eqb p q (sym i)))
+        (subst (λ y. IsThinnedIf whole base all (stamps_notified old y) → IsThinnedIf whole base (t ∷ all) (stamps_notified new y)) (sym i) (one_more-if whole t (stamps_notified old p) (stamps_notified new p) n.here base all) h)
+    | inr i ↦ subst (λ b. IsThinnedIf whole base (cond b (t ∷ []) [] ++ all) (stamps_notified new q)) (sym (false_from_ne_true (p == q) (λ k. i (sym (eqb-true p q k)))))
+        (subst (IsThinnedIf whole base all) (sym (n.others q i)) h)
   ];
   sends = s;
 }
@@ -167,8 +186,8 @@ notified-tells flow p t count old new d n s = record {
 pub injected-tells : (flow : Dataflow) (p x count : ℕ) (old new : Traces) → new.delivered.items ≡ old.delivered.items
     → new.notified.items ≡ old.notified.items → HasSent flow p (x ∷ []) count old new → Tells flow (Inject p x) count old new
 injected-tells flow p x count old new d n s = record {
-  delivered = λ y base all h. subst (IsThinned base all) (sym (ap (λ xs. get_or xs y []) d)) h;
-  notified = λ q base all h. subst (IsThinned base all) (sym (ap (λ xs. get_or xs q []) n)) h;
+  delivered = λ whole y base all h. subst (IsThinnedIf whole base all) (sym (ap (λ xs. get_or xs y []) d)) h;
+  notified = λ whole q base all h. subst (IsThinnedIf whole base all) (sym (ap (λ xs. get_or xs q []) n)) h;
   sends = s;
 }
 

@@ -16,7 +16,7 @@ use Rattle.fw_flow.specs.NodeFunction.{sent_by}
 use Rattle.fw_flow.specs.Projection.{events_at, all_inside}
 use Rattle.fw_flow.specs.WellFormed.{IsWellFormed}
 use Rattle.fw_model.specs.Offers.{AreAtEdgeStamps, counted_on_edge, stamps_on}
-use Rattle.fw_model.specs.Thinned.{IsThinned}
+use Rattle.fw_model.specs.Thinned.{IsThinnedIf}
 use Rattle.fw_model.proofs.DependenceLaws.{in_edges-each}
 use Rattle.fw_model.proofs.LegalLaws.{edge_domains}
 use Rattle.fw_model.proofs.SendingLaws.{send_stamp-in_domain}
@@ -161,17 +161,17 @@ causes-send flow p (m ∷ ms) a =
     let Q : Stamp → Type 0 = λ t. (w : Stamp) × (send_stamp flow p t ≡ Some w) in
     subst (λ (cs : List Stamp). AllByRecursion Q (cs ++ causes_in ms)) (sym c.2) ((m.at, c.1), causes-send flow p ms a.1)
 
--- each kept stamp of what a node sent sends
-pub kept-send : (sys : System) (h : List Event) (p : ℕ) (base : Frontier) (kept : List Stamp) → is_sequence_kind (kind_of sys.flow p) ≡ false
-    → AreOf (bounds_of sys.flow p) (causes_in (sent_by sys p (events_at sys.flow p h))) → IsThinned base (causes_in (sent_by sys p (events_at sys.flow p h))) kept
+-- each stamp that is among the causes of what a node sent sends
+pub kept-send : (sys : System) (h : List Event) (p : ℕ) (kept : List Stamp) → is_sequence_kind (kind_of sys.flow p) ≡ false
+    → AreOf (bounds_of sys.flow p) (causes_in (sent_by sys p (events_at sys.flow p h))) → AllByRecursion (Contains (causes_in (sent_by sys p (events_at sys.flow p h)))) kept
     → AllByRecursion (Sends sys.flow p) kept
-kept-send sys h p base kept n d t =
+kept-send sys h p kept n d among =
     let all = causes_in (sent_by sys p (events_at sys.flow p h)) in
     let both : AllByRecursion (Sends sys.flow p) all =
     each-weaker (λ s. (in_domain (bounds_of sys.flow p) s ≡ true) × ((w : Stamp) × (send_stamp sys.flow p s ≡ Some w))) (Sends sys.flow p) all (λ s k. (k.0, k.1.0, k.1.1))
     (each-both (λ s. in_domain (bounds_of sys.flow p) s ≡ true) (λ s. (w : Stamp) × (send_stamp sys.flow p s ≡ Some w)) all d
     (causes-send sys.flow p (sent_by sys p (events_at sys.flow p h)) (sent_by-of_cause sys p n (events_at sys.flow p h)))) in
-    each-weaker (Contains all) (Sends sys.flow p) kept (λ s c. each-contained (Sends sys.flow p) s all c both) t.among
+    each-weaker (Contains all) (Sends sys.flow p) kept (λ s c. each-contained (Sends sys.flow p) s all c both) among
 
 -- at which stamps messages of these causes are that come from inside a set
 pub messages-inside : (flow : Dataflow) (p : ℕ) (ss : List Stamp) (e : ℕ) (f : Frontier)
@@ -209,11 +209,11 @@ pub sent-on : (flow : Dataflow) (p : ℕ) (ss : List Stamp) (e : ℕ) → e < le
 sent-on flow p ss e l r = on-once (messages_of flow p ss) (messages-own flow p ss) (out_edges flow p) e (subst (λ q. how_often (out_edges flow q) e ≡ 1) r (once-out flow e l))
 
 -- what stands for what a node sent on an edge
-pub stands-for_sent : (sys : System) (h : List Event) (p : ℕ) (base : Frontier) (ss : List Stamp) (e : ℕ) → e < length sys.flow.edges → sender sys.flow e ≡ p
-    → AllByRecursion (Sends sys.flow p) ss → IsThinned base (causes_in (sent_by sys p (events_at sys.flow p h))) ss
-    → StandForSent sys h p base e (messages_of sys.flow p ss e)
-stands-for_sent sys h p base ss e l r a t = record {
+pub stands-for_sent : (whole : Bool) (sys : System) (h : List Event) (p : ℕ) (base : Frontier) (ss : List Stamp) (e : ℕ) → e < length sys.flow.edges → sender sys.flow e ≡ p
+    → AllByRecursion (Sends sys.flow p) ss → IsThinnedIf whole base (causes_in (sent_by sys p (events_at sys.flow p h))) ss
+    → StandForSent whole sys h p base e (messages_of sys.flow p ss e)
+stands-for_sent whole sys h p base ss e l r a t = record {
   of_cause = messages-of_cause sys.flow p ss e a;
-  thinned = subst (IsThinned base (causes_in (sent_by sys (sender sys.flow e) (events_at sys.flow (sender sys.flow e) h)))) (sym (messages-causes sys.flow p ss e a))
-      (subst (λ q. IsThinned base (causes_in (sent_by sys q (events_at sys.flow q h))) ss) (sym r) t);
+  thinned = subst (IsThinnedIf whole base (causes_in (sent_by sys (sender sys.flow e) (events_at sys.flow (sender sys.flow e) h)))) (sym (messages-causes sys.flow p ss e a))
+      (subst (λ q. IsThinnedIf whole base (causes_in (sent_by sys q (events_at sys.flow q h))) ss) (sym r) t);
 }

@@ -17,10 +17,10 @@ use Rattle.fw_flow.specs.NodeFunction.{event_stamp, sends, sent_by}
 use Rattle.fw_flow.specs.Projection.{events_at, all_inside, count_from}
 use Rattle.fw_flow.proofs.OutEdgeLaws.{out_edges-from}
 use Rattle.fw_model.specs.Covers.{stamp_of_notice}
-use Rattle.fw_model.specs.EventStamps.{causes_of, causes_in, AreStampsOf}
+use Rattle.fw_model.specs.EventStamps.{causes_of, causes_in, base_of_sent, AreStampsIf}
 use Rattle.fw_model.specs.History.{delivered_messages}
 use Rattle.fw_model.specs.Offers.{counted_on_edge, stamps_on}
-use Rattle.fw_model.specs.Thinned.{IsBelowKept, IsThinned}
+use Rattle.fw_model.specs.Thinned.{IsBelowKept, IsThinnedIf}
 use Rattle.fw_model.proofs.LocalityLaws.{sends-causes}
 use Rattle.fw_model.proofs.SequenceLaws.{one_inside}
 use Rattle.fw_model.proofs.ThinnedLaws.{each-contained}
@@ -30,7 +30,7 @@ use Rattle.fw_progress.specs.Progress.{ChangesAt}
 use Rattle.fw_progress.specs.SentTally.{IsSentTally}
 use Rattle.fw_progress.specs.Tally.{count_inside}
 use Rattle.fw_progress.specs.StampData.{AreTheSame, HaveAdded, TakeUp, AreDelivered, causes_on_first, AreTold}
-use Rattle.fw_progress.specs.Trace.{delivered_on, stamps_notified, stamps_where_sent, HasOutEdge, IsTraceOf, KeepsOthers, AreEventsInside, AreRestoredTo}
+use Rattle.fw_progress.specs.Trace.{delivered_on, stamps_notified, stamps_where_sent, HasOutEdge, IsTraceIf, KeepsOthers, AreEventsInside, AreRestoredTo}
 use Rattle.fw_progress.specs.Traces.{ChangesInto}
 use Rattle.fw_progress.proofs.EventLaws.{how_often}
 use Rattle.fw_progress.proofs.OfferLaws.{once-out}
@@ -77,12 +77,12 @@ added-next ss i s old mid new l is a e =
     (added-more (take i ss) (s ∷ []) old mid new a (subst (HaveAdded (s ∷ []) mid) (sym e) (added-one s mid)))
 
 -- stamps that are the same as thinned ones are thinned
-pub same-thinned : (base : Frontier) (all ss kept : List Stamp) → AreTheSame ss kept → IsThinned base all ss → IsThinned base all kept
-same-thinned base all ss kept same h = record {
+pub same-thinned : (whole : Bool) (base : Frontier) (all ss kept : List Stamp) → AreTheSame ss kept → IsThinnedIf whole base all ss → IsThinnedIf whole base all kept
+same-thinned whole base all ss kept same h = record {
   among = each-weaker (Contains ss) (Contains all) kept (λ s c. each-contained (Contains all) s ss c h.among) same.among;
   outside = each-weaker (λ t. base t ≡ false → Contains ss t) (λ t. base t ≡ false → Contains kept t) all (λ t f o. each-contained (Contains kept) t ss (f o) same.each) h.outside;
-  inside = each-weaker (λ t. base t ≡ true → IsBelowKept base ss t) (λ t. base t ≡ true → IsBelowKept base kept t) all
-      (λ t f i. let k = f i in record { above = k.above; is_kept = each-contained (Contains kept) k.above ss k.is_kept same.each; inside = k.inside; below = k.below }) h.inside;
+  inside = λ w. each-weaker (λ t. base t ≡ true → IsBelowKept base ss t) (λ t. base t ≡ true → IsBelowKept base kept t) all
+      (λ t f i. let k = f i in record { above = k.above; is_kept = each-contained (Contains kept) k.above ss k.is_kept same.each; inside = k.inside; below = k.below }) (h.inside w);
 }
 
 -- ---- messages by their edges
@@ -137,39 +137,39 @@ from-inside sys p f vs a = count (sent_by sys p vs) (each vs a)
         more x y e = omega (arith, e)
 
 -- the messages on the first out-edge of a node stand for what it sent
-first-thinned : (sys : System) (h : List Event) (p : ℕ) (base : Frontier) (stamps : Stamps) → is_sequence_kind (kind_of sys.flow p) ≡ false → AreStampsOf sys h p base stamps → HasOutEdge sys.flow p
-    → IsThinned base (causes_in (sent_by sys p (events_at sys.flow p h))) (causes_on_first (out_edges sys.flow p) stamps.sent)
-first-thinned sys h p base stamps s a o =
+first-thinned : (whole : Bool) (sys : System) (h : List Event) (p : ℕ) (base : Frontier) (stamps : Stamps) → is_sequence_kind (kind_of sys.flow p) ≡ false → AreStampsIf whole sys h p base stamps → HasOutEdge sys.flow p
+    → IsThinnedIf whole (base_of_sent whole sys.flow p base) (causes_in (sent_by sys p (events_at sys.flow p h))) (causes_on_first (out_edges sys.flow p) stamps.sent)
+first-thinned whole sys h p base stamps s a o =
     first (out_edges sys.flow p) (subst (λ q. how_often (out_edges sys.flow q) o.0 ≡ 1) o.2 (once-out sys.flow o.0 o.1))
-    (out_edges-from (λ e. IsThinned base (causes_in (sent_by sys p (events_at sys.flow p h))) (causes_of (counted_on_edge e stamps.sent))) sys.flow p
-    (λ e l r. subst (λ q. IsThinned base (causes_in (sent_by sys q (events_at sys.flow q h))) (causes_of (counted_on_edge e stamps.sent))) r (a.sent s e l r).thinned))
+    (out_edges-from (λ e. IsThinnedIf whole (base_of_sent whole sys.flow p base) (causes_in (sent_by sys p (events_at sys.flow p h))) (causes_of (counted_on_edge e stamps.sent))) sys.flow p
+    (λ e l r. subst (λ q. IsThinnedIf whole (base_of_sent whole sys.flow p base) (causes_in (sent_by sys q (events_at sys.flow q h))) (causes_of (counted_on_edge e stamps.sent))) r (a.sent s e l r).thinned))
   where
-    first : (edges : List ℕ) → how_often edges o.0 ≡ 1 → AllByRecursion (λ e. IsThinned base (causes_in (sent_by sys p (events_at sys.flow p h))) (causes_of (counted_on_edge e stamps.sent))) edges
-        → IsThinned base (causes_in (sent_by sys p (events_at sys.flow p h))) (causes_on_first edges stamps.sent)
+    first : (edges : List ℕ) → how_often edges o.0 ≡ 1 → AllByRecursion (λ e. IsThinnedIf whole (base_of_sent whole sys.flow p base) (causes_in (sent_by sys p (events_at sys.flow p h))) (causes_of (counted_on_edge e stamps.sent))) edges
+        → IsThinnedIf whole (base_of_sent whole sys.flow p base) (causes_in (sent_by sys p (events_at sys.flow p h))) (causes_on_first edges stamps.sent)
     first [] z b = absurd (omega (arith, z))
     first (e ∷ edges) z b = b.0
 
 told-others : (flow : Dataflow) (p : ℕ) (stamps : Stamps) (n : ℕ) (old new : Traces) → AreTold flow p stamps n old new → KeepsOthers flow p old new
-told-others flow p stamps n old new c sys h e q k base t = record {
-  delivered = λ d l r. subst (IsThinned base (map (λ (m : Message). m.at) (delivered_messages h d))) (sym (c.delivered.others d (λ i. k (sym r ∙ ap (λ f. receiver f d) e ∙ i)))) (t.delivered d l r);
-  notified = subst (IsThinned base (flat_map (stamp_of_notice q) h)) (sym (c.notified.others q k)) t.notified;
-  sent = λ o s. subst (IsThinned base (causes_in (sent_by sys q (events_at sys.flow q h)))) (sym (c.sent.others q k)) (t.sent o s);
+told-others flow p stamps n old new c whole sys h e q k base t = record {
+  delivered = λ d l r. subst (IsThinnedIf whole base (map (λ (m : Message). m.at) (delivered_messages h d))) (sym (c.delivered.others d (λ i. k (sym r ∙ ap (λ f. receiver f d) e ∙ i)))) (t.delivered d l r);
+  notified = subst (IsThinnedIf whole base (flat_map (stamp_of_notice q) h)) (sym (c.notified.others q k)) t.notified;
+  sent = λ o s. subst (IsThinnedIf whole (base_of_sent whole sys.flow q base) (causes_in (sent_by sys q (events_at sys.flow q h)))) (sym (c.sent.others q k)) (t.sent o s);
   counted = λ s. subst (IsSentTally base (sent_by sys q (events_at sys.flow q h))) (sym (c.counted.others q k)) (t.counted s);
 }
 
 pub told-restored : (flow : Dataflow) (p : ℕ) (stamps : Stamps) (n : ℕ) (old new : Traces) → AreTold flow p stamps n old new → AreRestoredTo flow p stamps n old new
 told-restored flow p stamps n old new c = record {
-  here = λ sys h base e. here sys h base (subst (λ g. AreTold g p stamps n old new) (sym e) c);
+  here = λ whole sys h base e. here whole sys h base (subst (λ g. AreTold g p stamps n old new) (sym e) c);
   others = told-others flow p stamps n old new c;
 }
   where
-    here : (sys : System) (h : List Event) (base : Frontier) → AreTold sys.flow p stamps n old new → AreStampsOf sys h p base stamps → n ≡ length (sent_by sys p (events_at sys.flow p h))
-        → AreEventsInside sys.flow h p base → IsTraceOf sys h p base new
-    here sys h base t a is inside = record {
-      delivered = λ d l r. same-thinned base (map (λ (m : Message). m.at) (delivered_messages h d)) (stamps_on d stamps.delivered) (delivered_on new d) (t.delivered.here d l r) (a.delivered d r);
-      notified = same-thinned base (flat_map (stamp_of_notice p) h) stamps.notified (stamps_notified new p) t.notified.here a.notified;
-      sent = λ o s. same-thinned base (causes_in (sent_by sys p (events_at sys.flow p h))) (causes_on_first (out_edges sys.flow p) stamps.sent) (stamps_where_sent new p) (t.sent.here s)
-          (first-thinned sys h p base stamps s a o);
+    here : (whole : Bool) (sys : System) (h : List Event) (base : Frontier) → AreTold sys.flow p stamps n old new → AreStampsIf whole sys h p base stamps → n ≡ length (sent_by sys p (events_at sys.flow p h))
+        → AreEventsInside sys.flow h p base → IsTraceIf whole sys h p base new
+    here whole sys h base t a is inside = record {
+      delivered = λ d l r. same-thinned whole base (map (λ (m : Message). m.at) (delivered_messages h d)) (stamps_on d stamps.delivered) (delivered_on new d) (t.delivered.here d l r) (a.delivered d r);
+      notified = same-thinned whole base (flat_map (stamp_of_notice p) h) stamps.notified (stamps_notified new p) t.notified.here a.notified;
+      sent = λ o s. same-thinned whole (base_of_sent whole sys.flow p base) (causes_in (sent_by sys p (events_at sys.flow p h))) (causes_on_first (out_edges sys.flow p) stamps.sent) (stamps_where_sent new p) (t.sent.here s)
+          (first-thinned whole sys h p base stamps s a o);
       counted = λ s f w.
           let tally = t.counted.here in
           let all = from-inside sys p f (events_at sys.flow p h) (each-weaker (λ v. base (event_stamp v) ≡ true) (λ v. f (event_stamp v) ≡ true) (events_at sys.flow p h) (λ v i. w (event_stamp v) i) inside) in

@@ -41,7 +41,7 @@ use Rattle.fw_progress.proofs.CutTraceLaws.{causes-of, sent-domain}
 use Rattle.fw_progress.proofs.NumberLaws.{sequence-numbers, numbers-thinned}
 use Rattle.fw_progress.proofs.OfferLaws.{kept-send, messages-own, messages-on_edges, messages-inside, stands-for_sent}
 use Rattle.fw_progress.proofs.SentTallyLaws.{tally-count}
-use Rattle.fw_progress.proofs.TraceLaws.{filter-domain, kept-domain}
+use Rattle.fw_progress.proofs.TraceLaws.{among-domain, filter-domain, kept-domain}
 
 -- ---- sequences
 
@@ -133,7 +133,7 @@ messages-receiver sys h w b l e =
     (legal_messages-in_domain sys h w b l e)
 
 pub sequence-covers : (sys : System) (h : List Event) (e : ℕ) (f : Front) (traces : Traces) → IsWellFormed sys.flow → HasEpochs sys → IsLegal sys h
-    → is_sequence_kind (kind_of sys.flow (sender sys.flow e)) ≡ true → IsTraceWithin sys h (sender sys.flow e) f traces → (n : ℕ)
+    → is_sequence_kind (kind_of sys.flow (sender sys.flow e)) ≡ true → IsTraceWithin true sys h (sender sys.flow e) f traces → (n : ℕ)
     → n ≡ (counted_of traces (sender sys.flow e)).inside + count_inside (inside f) (counted_of traces (sender sys.flow e)).outside
     → CoverSent sys h e f (last_number n)
 sequence-covers sys h e f traces w b l k t n is =
@@ -154,7 +154,7 @@ sequence-covers sys h e f traces w b l k t n is =
     }
 
 pub stamps-cover : (sys : System) (h : List Event) (e : ℕ) (f : Front) (traces : Traces) → e < length sys.flow.edges → IsWellFormed sys.flow → HasEpochs sys → IsLegal sys h
-    → is_sequence_kind (kind_of sys.flow (sender sys.flow e)) ≡ false → IsTraceWithin sys h (sender sys.flow e) f traces
+    → is_sequence_kind (kind_of sys.flow (sender sys.flow e)) ≡ false → IsTraceWithin true sys h (sender sys.flow e) f traces
     → CoverSent sys h e f (send_stamps sys.flow (sender sys.flow e) (filter (inside f) (stamps_where_sent traces (sender sys.flow e))))
 stamps-cover sys h e f traces there w b l k t =
     let p = sender sys.flow e in
@@ -163,11 +163,11 @@ stamps-cover sys h e f traces there w b l k t =
     let all = causes_in (sent_by sys p (events_at sys.flow p h)) in
     let d = causes-of (bounds_of sys.flow p) (sent_by sys p (events_at sys.flow p h)) (sent-domain sys h p (legal_events-in_domain sys h w b l p)) in
     let thin = t.trace.sent (e, there, refl) k in
-    let send = kept-send sys h p t.base kept k d thin in
+    let send = kept-send sys h p kept k d thin.among in
     let ms = messages_of sys.flow p kept e in
     let B = bounds_of sys.flow (receiver sys.flow e) in
     let left : map (λ (m : Counted). m.at) (filter (λ (m : Counted). all_inside g m.causes) ms) ≡ send_stamps sys.flow p (filter (inside f) kept) =
-    messages-inside sys.flow p kept e g ∙ ap (send_stamps sys.flow p) (sym (filter-domain (bounds_of sys.flow p) f kept (kept-domain (bounds_of sys.flow p) t.base all kept d thin))) in
+    messages-inside sys.flow p kept e g ∙ ap (send_stamps sys.flow p) (sym (filter-domain (bounds_of sys.flow p) f kept (among-domain (bounds_of sys.flow p) all kept d thin.among))) in
     record {
       in_the_domain = subst (AreOf B) left
           (each-map (λ s. in_domain B s ≡ true) (λ (m : Counted). m.at) (filter (λ (m : Counted). all_inside g m.causes) ms)
@@ -177,14 +177,14 @@ stamps-cover sys h e f traces there w b l k t =
           (each-both (λ (m : Counted). m.edge ≡ e) (λ (m : Counted). in_domain (bounds_of sys.flow (receiver sys.flow m.edge)) m.at ≡ true) ms
           (messages-own sys.flow p kept e) (messages-on_edges sys.flow w p kept e refl send)))));
       covers = sym (ap (cover B) left)
-          ∙ sent-covers sys h e t.base ms k (stands-for_sent sys h p t.base kept e there refl send thin)
+          ∙ sent-covers sys h e t.base ms k (stands-for_sent true sys h p t.base kept e there refl send thin)
           (λ s i. (and_parts (in_domain (bounds_of sys.flow p) s) (inside f s) (t.within s i)).0) g t.within B;
     }
 
 -- ---- by the traces
 
 inside-covers : (sys : System) (h : List Event) (e : ℕ) (f : Front) (traces : Traces) → e < length sys.flow.edges → IsWellFormed sys.flow → HasEpochs sys → IsLegal sys h
-    → IsTraceWithin sys h (sender sys.flow e) f traces → CoverSent sys h e f (sent_inside sys.flow traces (sender sys.flow e) f)
+    → IsTraceWithin true sys h (sender sys.flow e) f traces → CoverSent sys h e f (sent_inside sys.flow traces (sender sys.flow e) f)
 inside-covers sys h e f traces there w b l t = by (is_sequence_kind (kind_of sys.flow (sender sys.flow e))) refl
   where
     p : ℕ
@@ -200,9 +200,9 @@ inside-covers sys h e f traces there w b l t = by (is_sequence_kind (kind_of sys
 -- the cover of what stands for what a node sent is that of all that it sent
 pub sent-stand : {E : Type 0} (flow : Dataflow) (e : ℕ) (f : Front) (traces : Traces) (sent : List Stamp) (bounds : Bounds) (result : Result Front E) → IsWellFormed flow → e < length flow.edges
     → sent ≡ sent_inside flow traces (sender flow e) f → bounds ≡ bounds_of flow (receiver flow e) → (AreOf bounds sent → IfOk result (λ front. IsFrontOf bounds front (cover bounds sent)))
-    → (sys : System) (h : List Event) → sys.flow ≡ flow → HasEpochs sys → IsLegal sys h → IsTraceWithin sys h (sender flow e) f traces → IfOk result (CoversSent sys h e f)
+    → (sys : System) (h : List Event) → sys.flow ≡ flow → HasEpochs sys → IsLegal sys h → IsTraceWithin true sys h (sender flow e) f traces → IfOk result (CoversSent sys h e f)
 sent-stand flow e f traces sent bounds result w there k i found sys h s b legal t =
-    let now : IsTraceWithin sys h (sender sys.flow e) f traces = subst (λ g. IsTraceWithin sys h (sender g e) f traces) (sym s) t in
+    let now : IsTraceWithin true sys h (sender sys.flow e) f traces = subst (λ g. IsTraceWithin true sys h (sender g e) f traces) (sym s) t in
     let same : sent ≡ sent_inside sys.flow traces (sender sys.flow e) f = k ∙ ap (λ g. sent_inside g traces (sender g e) f) (sym s) in
     let stand : CoverSent sys h e f sent = subst (CoverSent sys h e f) (sym same)
     (inside-covers sys h e f traces (subst (λ g. e < length g.edges) (sym s) there) (subst IsWellFormed (sym s) w) b legal now) in

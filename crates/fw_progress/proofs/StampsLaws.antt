@@ -9,8 +9,9 @@ use Rattle.std.proofs.lemmas.Result.{IfOk-weaker}
 use Rattle.fw_lemmas.proofs.Each.{each-weaker, each-one, each-map, each-kept}
 use Rattle.fw_lemmas.proofs.Filters.{filter-swap}
 use Rattle.fw_time.specs.Stamp.{Stamp, in_domain}
-use Rattle.fw_frontier.specs.Frontier.{Frontier, everything}
-use Rattle.fw_frontier.specs.Front.{Front, inside}
+use Rattle.fw_time.specs.declared.stamp.Bounds.{Bounds}
+use Rattle.fw_frontier.specs.Frontier.{Frontier, Within, everything}
+use Rattle.fw_frontier.specs.Front.{Front, inside, frontier_of}
 use Rattle.fw_frontier.proofs.NamesLaws.{frontier-closed}
 use Rattle.fw_flow.specs.declared.choice.Counted.{Counted}
 use Rattle.fw_flow.specs.declared.choice.Stamps.{Stamps}
@@ -25,19 +26,20 @@ use Rattle.fw_flow.specs.Projection.{events_at, all_inside, count_from}
 use Rattle.fw_flow.specs.WellFormed.{IsWellFormed}
 use Rattle.fw_flow.proofs.OutEdgeLaws.{out_edges-from}
 use Rattle.fw_model.specs.Covers.{stamp_of_notice}
-use Rattle.fw_model.specs.EventStamps.{causes_in, StandForSent, StandForNumbered, AreStampsOf}
+use Rattle.fw_model.specs.EventStamps.{causes_in, base_of_sent, StandForSent, StandForNumbered, AreStampsIf}
 use Rattle.fw_model.specs.Filtering.{AreFrontiers, events_inside, messages_inside, messages_from}
 use Rattle.fw_model.specs.History.{is_injection, injected_count, delivered_messages, AreEventsInDomain, IsLegal}
 use Rattle.fw_model.specs.Offers.{AreAtEdgeStamps, counted_on_edge, stamps_on_from}
-use Rattle.fw_model.specs.Thinned.{IsThinned}
+use Rattle.fw_model.specs.Thinned.{IsThinned, IsThinnedIf}
 use Rattle.fw_model.specs.Writes.{takes_checkpoints}
 use Rattle.fw_model.proofs.LegalLaws.{edge_domains, legal_events-in_domain}
 use Rattle.fw_model.proofs.LocalityLaws.{events_at-kept, sent_by-same}
 use Rattle.fw_model.proofs.SequenceLaws.{no_inject, sent_by-sequence}
+use Rattle.fw_model.proofs.ThinnedLaws.{thinned-if, thinned-whole}
 use Rattle.fw_progress.specs.declared.traces.Traces.{Traces}
 use Rattle.fw_progress.specs.Covers.{last_number}
 use Rattle.fw_progress.specs.StampData.{taken, count_taken, all_delivered, messages_of, messages_numbered, all_sent, stamps_by}
-use Rattle.fw_progress.specs.Trace.{delivered_on, stamps_notified, stamps_where_sent, counted_of, counts_sent, HasOutEdge, IsTraceOf, IsTraceWithin}
+use Rattle.fw_progress.specs.Trace.{delivered_on, stamps_notified, stamps_where_sent, counted_of, counts_sent, HasOutEdge, IsTraceIf, IsTraceWithin}
 use Rattle.fw_progress.specs.Traces.{AreOf, thinned}
 use Rattle.fw_progress.proofs.CutTraceLaws.{delivered-domain, notices-domain, sent-domain, causes-of, causes-from, sent-one, map-filter, notices-inside}
 use Rattle.fw_progress.proofs.EventLaws.{how_often}
@@ -45,13 +47,13 @@ use Rattle.fw_progress.proofs.NumberLaws.{IsNumber, sequence-numbers, numbers-th
 use Rattle.fw_progress.proofs.OfferLaws.{Sends, each-joined, on-once, once-out, delivered-on, delivered-on_edges, kept-send, messages-on_edges, sent-on, stands-for_sent}
 use Rattle.fw_progress.proofs.SentCoverLaws.{from-length, none-kept, no_injection, sequence-kind}
 use Rattle.fw_progress.proofs.SentTallyLaws.{tally-count}
-use Rattle.fw_progress.proofs.TraceLaws.{kept-domain, thinned-inside}
+use Rattle.fw_progress.proofs.TraceLaws.{among-domain, kept-domain, thinned-inside}
 
 -- Lists stand for the events of node p, thinned inside a base, as its traces do; of a sequence it is known how many messages it sent.
-record AreKept (sys : System) (h : List Event) (p : ℕ) (base : Frontier) (kept : ℕ → List Stamp) (notified sent : List Stamp) (n : ℕ) : Type 0 where
-  on_edges : (d : ℕ) → d < length sys.flow.edges → receiver sys.flow d ≡ p → IsThinned base (map (λ (m : Message). m.at) (delivered_messages h d)) (kept d)
-  notices : IsThinned base (flat_map (stamp_of_notice p) h) notified
-  sends : HasOutEdge sys.flow p → is_sequence_kind (kind_of sys.flow p) ≡ false → IsThinned base (causes_in (sent_by sys p (events_at sys.flow p h))) sent
+record AreKept (whole : Bool) (sys : System) (h : List Event) (p : ℕ) (base : Frontier) (kept : ℕ → List Stamp) (notified sent : List Stamp) (n : ℕ) : Type 0 where
+  on_edges : (d : ℕ) → d < length sys.flow.edges → receiver sys.flow d ≡ p → IsThinnedIf whole base (map (λ (m : Message). m.at) (delivered_messages h d)) (kept d)
+  notices : IsThinnedIf whole base (flat_map (stamp_of_notice p) h) notified
+  sends : HasOutEdge sys.flow p → is_sequence_kind (kind_of sys.flow p) ≡ false → IsThinnedIf whole (base_of_sent whole sys.flow p base) (causes_in (sent_by sys p (events_at sys.flow p h))) sent
   count : is_sequence_kind (kind_of sys.flow p) ≡ true → n ≡ length (sent_by sys p (events_at sys.flow p h))
 
 -- The events of node p are of its domain, and it injects nothing if it is a sequence.
@@ -156,23 +158,23 @@ edge-there flow p d l r = elim (cases_lt d (length flow.edges)) [
   | inr i ↦ let z : length flow.nodes ≡ p = sym (past_receiver flow d i) ∙ r in absurd (omega (arith, l, z))
 ]
 
-kept-stand : (sys : System) (h : List Event) (p : ℕ) (base : Frontier) (kept : ℕ → List Stamp) (notified sent : List Stamp) (n : ℕ) → IsWellFormed sys.flow → p < length sys.flow.nodes
-    → AreProper sys h p → AreKept sys h p base kept notified sent n
-    → AreStampsOf sys h p base (record { delivered = all_delivered sys.flow p kept; notified = notified; sent = all_sent sys.flow p sent n })
-kept-stand sys h p base kept notified sent n w l proper k = record {
+kept-stand : (whole : Bool) (sys : System) (h : List Event) (p : ℕ) (base : Frontier) (kept : ℕ → List Stamp) (notified sent : List Stamp) (n : ℕ) → IsWellFormed sys.flow → p < length sys.flow.nodes
+    → AreProper sys h p → AreKept whole sys h p base kept notified sent n
+    → AreStampsIf whole sys h p base (record { delivered = all_delivered sys.flow p kept; notified = notified; sent = all_sent sys.flow p sent n })
+kept-stand whole sys h p base kept notified sent n w l proper k = record {
   on_edges = (
     delivered-on_edges sys.flow p kept
-        (λ d i r. kept-domain (bounds_of sys.flow p) base (map (λ (m : Message). m.at) (delivered_messages h d)) (kept d)
+        (λ d i r. among-domain (bounds_of sys.flow p) (map (λ (m : Message). m.at) (delivered_messages h d)) (kept d)
         (subst (λ q. AreEventsInDomain sys.flow h q → AreOf (bounds_of sys.flow q) (map (λ (m : Message). m.at) (delivered_messages h d))) r (delivered-domain sys h d) proper.in_the_domain)
-        (k.on_edges d i r)),
+        (k.on_edges d i r).among),
     by (is_sequence_kind (kind_of sys.flow p)) refl,
   );
-  in_domain = kept-domain (bounds_of sys.flow p) base (flat_map (stamp_of_notice p) h) notified (notices-domain sys h p proper.in_the_domain) k.notices;
-  delivered = λ d r. let i = edge-there sys.flow p d l r in subst (IsThinned base (map (λ (m : Message). m.at) (delivered_messages h d))) (sym (delivered-on sys.flow p kept d i r)) (k.on_edges d i r);
+  in_domain = among-domain (bounds_of sys.flow p) (flat_map (stamp_of_notice p) h) notified (notices-domain sys h p proper.in_the_domain) k.notices.among;
+  delivered = λ d r. let i = edge-there sys.flow p d l r in subst (IsThinnedIf whole base (map (λ (m : Message). m.at) (delivered_messages h d))) (sym (delivered-on sys.flow p kept d i r)) (k.on_edges d i r);
   notified = k.notices;
   sent = λ s e i r.
-      subst (StandForSent sys h p base e) (sym (ap (counted_on_edge e) (all-others sys.flow p sent n s) ∙ sent-on sys.flow p sent e i r))
-      (stands-for_sent sys h p base sent e i r (sends s (e, i, r)) (k.sends (e, i, r) s));
+      subst (StandForSent whole sys h p (base_of_sent whole sys.flow p base) e) (sym (ap (counted_on_edge e) (all-others sys.flow p sent n s) ∙ sent-on sys.flow p sent e i r))
+      (stands-for_sent whole sys h p (base_of_sent whole sys.flow p base) sent e i r (sends s (e, i, r)) (k.sends (e, i, r) s));
   numbered = λ s e i r. numbered s e i r;
 }
   where
@@ -180,7 +182,7 @@ kept-stand sys h p base kept notified sent n w l proper k = record {
     causes = causes-of (bounds_of sys.flow p) (sent_by sys p (events_at sys.flow p h)) (sent-domain sys h p proper.in_the_domain)
 
     sends : is_sequence_kind (kind_of sys.flow p) ≡ false → HasOutEdge sys.flow p → AllByRecursion (Sends sys.flow p) sent
-    sends s o = kept-send sys h p base sent s causes (k.sends o s)
+    sends s o = kept-send sys h p sent s causes (k.sends o s).among
 
     numbers : (s : is_sequence_kind (kind_of sys.flow p) ≡ true) (e : ℕ) → sender sys.flow e ≡ p
         → IsThinned (everything (bounds_of sys.flow (receiver sys.flow e))) (map (λ (m : Message). m.at) (sent_by sys p (events_at sys.flow p h))) (last_number n)
@@ -236,9 +238,9 @@ proper-events sys h p w b l = record {
 counts-sequence : (flow : Dataflow) (p : ℕ) → is_sequence_kind (kind_of flow p) ≡ true → counts_sent flow p ≡ true
 counts-sequence flow p s = or_right (takes_checkpoints (policy_of flow p)) (is_sequence_kind (kind_of flow p)) s
 
-all-kept : (sys : System) (h : List Event) (p : ℕ) (base : Frontier) (traces : Traces) → IsTraceOf sys h p base traces
-    → AreKept sys h p base (λ d. taken None (delivered_on traces d)) (taken None (stamps_notified traces p)) (taken None (stamps_where_sent traces p)) (count_taken None (counted_of traces p))
-all-kept sys h p base traces t = record {
+all-kept : (whole : Bool) (sys : System) (h : List Event) (p : ℕ) (base : Frontier) (traces : Traces) → IsTraceIf whole sys h p base traces
+    → AreKept whole sys h p base (λ d. taken None (delivered_on traces d)) (taken None (stamps_notified traces p)) (taken None (stamps_where_sent traces p)) (count_taken None (counted_of traces p))
+all-kept whole sys h p base traces t = record {
   on_edges = t.delivered;
   notices = t.notified;
   sends = t.sent;
@@ -307,21 +309,27 @@ proper-inside sys h p f proper = record {
   no_batch = λ s. none-kept (is_injection p) (λ v. f (event_stamp v)) h (proper.no_batch s);
 }
 
-inside-kept : (sys : System) (h : List Event) (p : ℕ) (f : Front) (traces : Traces) → IsWellFormed sys.flow → HasEpochs sys → IsLegal sys h → IsTraceWithin sys h p f traces
-    → AreKept sys (events_inside (node_frontier sys.flow p f) h) p (node_frontier sys.flow p f) (λ d. taken (Some f) (delivered_on traces d)) (taken (Some f) (stamps_notified traces p))
+whole-inside : (bounds : Bounds) (base : Frontier) (all kept : List Stamp) (f : Front) → AreOf bounds all → Within base (frontier_of bounds f)
+    → IsThinnedIf true base all kept → IsThinnedIf true (frontier_of bounds f) (filter (frontier_of bounds f) all) (thinned f (filter (inside f) kept))
+whole-inside bounds base all kept f d w h =
+    thinned-if true (frontier_of bounds f) (filter (frontier_of bounds f) all) (thinned f (filter (inside f) kept))
+    (thinned-inside bounds base all kept f d w (thinned-whole base all kept h))
+
+inside-kept : (sys : System) (h : List Event) (p : ℕ) (f : Front) (traces : Traces) → IsWellFormed sys.flow → HasEpochs sys → IsLegal sys h → IsTraceWithin true sys h p f traces
+    → AreKept true sys (events_inside (node_frontier sys.flow p f) h) p (node_frontier sys.flow p f) (λ d. taken (Some f) (delivered_on traces d)) (taken (Some f) (stamps_notified traces p))
     (taken (Some f) (stamps_where_sent traces p)) (count_taken (Some f) (counted_of traces p))
 inside-kept sys h p f traces w b l t = record {
   on_edges = λ d i r.
       let all = map (λ (m : Message). m.at) (delivered_messages h d) in
       let same : map (λ (m : Message). m.at) (delivered_messages (events_inside g h) d) ≡ filter g all = ap (map (λ (m : Message). m.at)) (delivered-inside g h d) ∙ map-filter g (delivered_messages h d) in
-      subst (λ ss. IsThinned g ss (thinned f (filter (inside f) (delivered_on traces d)))) (sym same)
-      (thinned-inside (bounds_of sys.flow p) t.base all (delivered_on traces d) f
+      subst (λ ss. IsThinnedIf true g ss (thinned f (filter (inside f) (delivered_on traces d)))) (sym same)
+      (whole-inside (bounds_of sys.flow p) t.base all (delivered_on traces d) f
       (subst (λ q. AreEventsInDomain sys.flow h q → AreOf (bounds_of sys.flow q) all) r (delivered-domain sys h d) a) t.within (t.trace.delivered d i r));
-  notices = subst (λ ss. IsThinned g ss (thinned f (filter (inside f) (stamps_notified traces p)))) (sym (notices-inside p g h))
-      (thinned-inside (bounds_of sys.flow p) t.base (flat_map (stamp_of_notice p) h) (stamps_notified traces p) f (notices-domain sys h p a) t.within t.trace.notified);
-  sends = λ o s. subst (λ ss. IsThinned g ss (thinned f (filter (inside f) (stamps_where_sent traces p))))
+  notices = subst (λ ss. IsThinnedIf true g ss (thinned f (filter (inside f) (stamps_notified traces p)))) (sym (notices-inside p g h))
+      (whole-inside (bounds_of sys.flow p) t.base (flat_map (stamp_of_notice p) h) (stamps_notified traces p) f (notices-domain sys h p a) t.within t.trace.notified);
+  sends = λ o s. subst (λ ss. IsThinnedIf true g ss (thinned f (filter (inside f) (stamps_where_sent traces p))))
       (sym (ap causes_in (sent-inside sys h p f w b l) ∙ causes-from g ms (sent-one sys p (events_at sys.flow p h))))
-      (thinned-inside (bounds_of sys.flow p) t.base (causes_in ms) (stamps_where_sent traces p) f (causes-of (bounds_of sys.flow p) ms (sent-domain sys h p a)) t.within (t.trace.sent o s));
+      (whole-inside (bounds_of sys.flow p) t.base (causes_in ms) (stamps_where_sent traces p) f (causes-of (bounds_of sys.flow p) ms (sent-domain sys h p a)) t.within (t.trace.sent o s));
   count = λ s.
       tally-count (bounds_of sys.flow p) t.base ms f (counted_of traces p) (sent-domain sys h p a) t.within (t.trace.counted (counts-sequence sys.flow p s))
       ∙ sym (ap length (sent-inside sys h p f w b l) ∙ from-length g ms);
@@ -340,22 +348,23 @@ inside-kept sys h p f traces w b l t = record {
 
 pub all-stand : {E : Type 0} (flow : Dataflow) (p : ℕ) (traces : Traces) (result : Result Stamps E) → IsWellFormed flow → p < length flow.nodes
     → IfOk result (λ stamps. stamps ≡ stamps_by flow p None traces)
-    → (sys : System) (h : List Event) (base : Frontier) → sys.flow ≡ flow → HasEpochs sys → IsLegal sys h → IsTraceOf sys h p base traces → IfOk result (AreStampsOf sys h p base)
-all-stand flow p traces result w there given sys h base s b l t =
+    → (whole : Bool) (sys : System) (h : List Event) (base : Frontier) → sys.flow ≡ flow → HasEpochs sys → IsLegal sys h → IsTraceIf whole sys h p base traces
+    → IfOk result (AreStampsIf whole sys h p base)
+all-stand flow p traces result w there given whole sys h base s b l t =
     let well : IsWellFormed sys.flow = subst IsWellFormed (sym s) w in
-    let stand = kept-stand sys h p base _ _ _ _ well (subst (λ g. p < length g.nodes) (sym s) there) (proper-events sys h p well b l) (all-kept sys h p base traces t) in
-    IfOk-weaker result (λ stamps. stamps ≡ stamps_by flow p None traces) (AreStampsOf sys h p base)
-    (λ stamps e. subst (AreStampsOf sys h p base) (sym (e ∙ ap (λ g. stamps_by g p None traces) (sym s))) stand) given
+    let stand = kept-stand whole sys h p base _ _ _ _ well (subst (λ g. p < length g.nodes) (sym s) there) (proper-events sys h p well b l) (all-kept whole sys h p base traces t) in
+    IfOk-weaker result (λ stamps. stamps ≡ stamps_by flow p None traces) (AreStampsIf whole sys h p base)
+    (λ stamps e. subst (AreStampsIf whole sys h p base) (sym (e ∙ ap (λ g. stamps_by g p None traces) (sym s))) stand) given
 
 pub inside-stand : {E : Type 0} (flow : Dataflow) (p : ℕ) (f : Front) (traces : Traces) (result : Result Stamps E) → IsWellFormed flow → p < length flow.nodes
     → IfOk result (λ stamps. stamps ≡ stamps_by flow p (Some f) traces)
-    → (sys : System) (h : List Event) → sys.flow ≡ flow → HasEpochs sys → IsLegal sys h → IsTraceWithin sys h p f traces
-    → IfOk result (AreStampsOf sys (events_inside (node_frontier flow p f) h) p (node_frontier flow p f))
+    → (sys : System) (h : List Event) → sys.flow ≡ flow → HasEpochs sys → IsLegal sys h → IsTraceWithin true sys h p f traces
+    → IfOk result (AreStampsIf true sys (events_inside (node_frontier flow p f) h) p (node_frontier flow p f))
 inside-stand flow p f traces result w there given sys h s b l t =
     let well : IsWellFormed sys.flow = subst IsWellFormed (sym s) w in
     let g = node_frontier sys.flow p f in
-    let stand = kept-stand sys (events_inside g h) p g _ _ _ _ well (subst (λ x. p < length x.nodes) (sym s) there) (proper-inside sys h p g (proper-events sys h p well b l))
+    let stand = kept-stand true sys (events_inside g h) p g _ _ _ _ well (subst (λ x. p < length x.nodes) (sym s) there) (proper-inside sys h p g (proper-events sys h p well b l))
     (inside-kept sys h p f traces well b l t) in
-    subst (λ x. IfOk result (AreStampsOf sys (events_inside (node_frontier x p f) h) p (node_frontier x p f))) s
-    (IfOk-weaker result (λ stamps. stamps ≡ stamps_by flow p (Some f) traces) (AreStampsOf sys (events_inside g h) p g)
-    (λ stamps e. subst (AreStampsOf sys (events_inside g h) p g) (sym (e ∙ ap (λ x. stamps_by x p (Some f) traces) (sym s))) stand) given)
+    subst (λ x. IfOk result (AreStampsIf true sys (events_inside (node_frontier x p f) h) p (node_frontier x p f))) s
+    (IfOk-weaker result (λ stamps. stamps ≡ stamps_by flow p (Some f) traces) (AreStampsIf true sys (events_inside g h) p g)
+    (λ stamps e. subst (AreStampsIf true sys (events_inside g h) p g) (sym (e ∙ ap (λ x. stamps_by x p (Some f) traces) (sym s))) stand) given)

@@ -1,5 +1,5 @@
 -- Kept stamps: one more of them, thinned inside a larger base, and those inside a cut.
-use Rattle.std.proofs.Common.{◌≡◌, ◌⊎◌, inl, inr, ◌<◌, Bool, true, false, not, ◌&&◌, ◌||◌, cond, List, [], ◌∷◌, ◌++◌, length, refl, sym, ap, subst, ◌∙◌, arith}
+use Rattle.std.proofs.Common.{◌≡◌, ◌⊎◌, inl, inr, ℕ, ◌<◌, Bool, true, false, not, ◌&&◌, ◌||◌, cond, List, [], ◌∷◌, ◌++◌, length, refl, sym, ap, subst, ◌∙◌, arith}
 use Rattle.std.specs.Prelude.{filter}
 use Rattle.std.specs.List.{AllByRecursion, Contains, list_any}
 use Rattle.std.specs.BTreeMap.{is_at}
@@ -17,10 +17,13 @@ use Rattle.fw_time.proofs.StampLaws.{leq-refl, leq-trans}
 use Rattle.fw_frontier.specs.Frontier.{Frontier, Within, cover}
 use Rattle.fw_frontier.specs.Front.{Front, inside, frontier_of}
 use Rattle.fw_frontier.proofs.InsideLaws.{inside-closed}
-use Rattle.fw_model.specs.Thinned.{IsBelowKept, IsThinned}
+use Rattle.fw_flow.specs.Dataflow.{Dataflow, policy_of}
+use Rattle.fw_flow.specs.Restoring.{can_resend}
+use Rattle.fw_model.specs.EventStamps.{base_of_sent}
+use Rattle.fw_model.specs.Thinned.{IsBelowKept, IsThinned, IsThinnedIf}
 use Rattle.fw_model.proofs.CmpLaws.{stamp_cmp-equal}
 use Rattle.fw_model.proofs.ThinnedLaws.{each-contained, thinned-covers}
-use Rattle.fw_progress.specs.Traces.{has_greater_inside, thinned, AreOf}
+use Rattle.fw_progress.specs.Traces.{has_greater_inside, thinned, AreOf, StandForOneMore, IsSettledTo, StandsInside}
 
 -- ---- what a list has
 
@@ -275,10 +278,14 @@ filter-domain bounds f (s ∷ ss) d =
     ap (λ b. cond b (s ∷ filter (inside f) ss) (filter (inside f) ss)) (sym (outside-domain bounds f s d.0))
     ∙ ap (λ ts. cond (frontier_of bounds f s) (s ∷ ts) ts) (filter-domain bounds f ss d.1)
 
+-- stamps that are among those of a domain are the domain's
+pub among-domain : (bounds : Bounds) (all kept : List Stamp) → AreOf bounds all → AllByRecursion (Contains all) kept → AreOf bounds kept
+among-domain bounds all kept d among =
+    each-weaker (Contains all) (λ s. in_domain bounds s ≡ true) kept (λ s c. each-contained (λ t. in_domain bounds t ≡ true) s all c d) among
+
 -- kept stamps are the domain's where all are
 pub kept-domain : (bounds : Bounds) (base : Frontier) (all kept : List Stamp) → AreOf bounds all → IsThinned base all kept → AreOf bounds kept
-kept-domain bounds base all kept d h =
-    each-weaker (Contains all) (λ s. in_domain bounds s ≡ true) kept (λ s c. each-contained (λ t. in_domain bounds t ≡ true) s all c d) h.among
+kept-domain bounds base all kept d h = among-domain bounds all kept d h.among
 
 -- ---- inside a cut
 
@@ -317,3 +324,91 @@ pub cover-inside : (bounds : Bounds) (base : Frontier) (all kept : List Stamp) (
     → IsThinned base all kept → cover bounds (filter (inside f) kept) ≡ cover bounds (filter (frontier_of bounds f) all)
 cover-inside bounds base all kept f d w h =
     ap (cover bounds) (filter-domain bounds f kept (kept-domain bounds base all kept d h)) ∙ thinned-covers bounds base all kept h (frontier_of bounds f) w
+
+-- ---- where perhaps not the whole is kept
+
+-- stamps are thinned by themselves
+pub thinned-itself : (base : Frontier) (ss : List Stamp) → IsThinned base ss ss
+thinned-itself base ss = record {
+  among = each-itself ss;
+  outside = each-had (λ t. base t ≡ false → Contains ss t) ss (λ t c o. c);
+  inside = each-had (λ t. base t ≡ true → IsBelowKept base ss t) ss (λ t c i. record { above = t; is_kept = c; inside = i; below = leq-refl t });
+}
+
+-- What a change makes of all stamps and of the kept ones alone, it makes of these where perhaps not the whole is kept.
+pub changed-if : (whole : Bool) (base next : Frontier) (all kept more less new : List Stamp) → (IsThinned base all kept → IsThinned next more new) → IsThinned next less new
+    → AllByRecursion (Contains more) less → AllByRecursion (λ t. next t ≡ false → Contains less t) more → IsThinnedIf whole base all kept → IsThinnedIf whole next more new
+changed-if whole base next all kept more less new f g among outside h = record {
+  among = each-weaker (Contains less) (Contains more) new (λ s c. each-contained (Contains more) s less c among) g.among;
+  outside = each-weaker (λ t. next t ≡ false → Contains less t) (λ t. next t ≡ false → Contains new t) more
+      (λ t k o. each-contained (λ s. next s ≡ false → Contains new s) t less (k o) g.outside o) outside;
+  inside = λ w. (f (record { among = h.among; outside = h.outside; inside = h.inside w })).inside;
+}
+
+-- of stamps that need not be told any may be missing
+untold-if : (all kept : List Stamp) → AllByRecursion (Contains all) kept → IsThinnedIf false (λ t. true) all kept
+untold-if all kept among = record { among = among; outside = each-had (λ t. true ≡ false → Contains kept t) all (λ t c o. absurd (cc)); inside = λ w. absurd (cc) }
+
+pub one_more-if : (whole : Bool) (at : Stamp) (old new : List Stamp) → StandForOneMore at old new → (base : Frontier) (all : List Stamp) → IsThinnedIf whole base all old
+    → IsThinnedIf whole base (at ∷ all) new
+one_more-if whole at old new f base all h =
+    changed-if whole base base all old (at ∷ all) (at ∷ old) new (f base all) (f base old (thinned-itself base old))
+    (contains-head at all, each-weaker (Contains all) (Contains (at ∷ all)) old (λ s c. contains-tail at all s c) h.among) (
+      (λ o. contains-head at old),
+      each-weaker (λ t. base t ≡ false → Contains old t) (λ t. base t ≡ false → Contains (at ∷ old) t) all (λ t k o. contains-tail at old t (k o)) h.outside,
+    )
+    h
+
+-- those of a list that pass a test are among those of all that do
+among-passed : (g : Frontier) (all kept : List Stamp) → AllByRecursion (Contains all) kept → AllByRecursion (Contains (filter g all)) (filter g kept)
+among-passed g all kept among =
+    each-filter (Contains (filter g all)) g kept (each-weaker (Contains all) (λ s. g s ≡ true → Contains (filter g all) s) kept (λ s c i. has-passed g all s c i) among)
+
+pub settled-if : (whole : Bool) (bounds : Bounds) (f : Front) (old new : List Stamp) → IsSettledTo f old new → (base : Frontier) (all : List Stamp) → AreOf bounds all
+    → Within base (frontier_of bounds f) → IsThinnedIf whole base all old → IsThinnedIf whole (frontier_of bounds f) all new
+settled-if whole bounds f old new k base all d w h =
+    let g = frontier_of bounds f in
+    changed-if whole base g all old all old new (k bounds base all d w) (k bounds base old (among-domain bounds all old d h.among) w (thinned-itself base old))
+    h.among
+    (each-weaker (λ t. base t ≡ false → Contains old t) (λ t. g t ≡ false → Contains old t) all
+    (λ t c o. c (false_from_ne_true (base t) (λ e. both_ways (g t) o (w t e)))) h.outside)
+    h
+
+pub inside-if : (whole : Bool) (bounds : Bounds) (f : Front) (old new : List Stamp) → StandsInside f old new → (base : Frontier) (all : List Stamp) → AreOf bounds all
+    → Within base (frontier_of bounds f) → IsThinnedIf whole base all old → IsThinnedIf whole base (filter (frontier_of bounds f) all) new
+inside-if whole bounds f old new k base all d w h =
+    let g = frontier_of bounds f in
+    changed-if whole base base all old (filter g all) (filter g old) new (k bounds base all d w)
+    (k bounds base old (among-domain bounds all old d h.among) w (thinned-itself base old))
+    (among-passed g all old h.among)
+    (each-filter (λ t. base t ≡ false → Contains (filter g old) t) g all
+    (each-weaker (λ t. base t ≡ false → Contains old t) (λ t. g t ≡ true → base t ≡ false → Contains (filter g old) t) all (λ t c i o. has-passed g old t (c o) i) h.outside))
+    h
+
+-- where it sent, of a node that settles
+pub sent_settled-if : (whole : Bool) (flow : Dataflow) (p : ℕ) (bounds : Bounds) (f : Front) (old new : List Stamp) → IsSettledTo f old new → (base : Frontier) (all : List Stamp)
+    → AreOf bounds all → Within base (frontier_of bounds f) → IsThinnedIf whole (base_of_sent whole flow p base) all old
+    → IsThinnedIf whole (base_of_sent whole flow p (frontier_of bounds f)) all new
+sent_settled-if true flow p bounds f old new k base all d w h = settled-if true bounds f old new k base all d w h
+sent_settled-if false flow p bounds f old new k base all d w h = by (not (can_resend (policy_of flow p))) h
+  where
+    by : (told : Bool) → IsThinnedIf false (cond told base (λ t. true)) all old → IsThinnedIf false (cond told (frontier_of bounds f) (λ t. true)) all new
+    by true i = settled-if false bounds f old new k base all d w i
+    by false i =
+        untold-if all new (each-weaker (Contains old) (Contains all) new (λ s c. each-contained (Contains all) s old c i.among)
+        (k bounds base old (among-domain bounds all old d i.among) w (thinned-itself base old)).among)
+
+-- and of one that is cut
+pub sent_inside-if : (whole : Bool) (flow : Dataflow) (p : ℕ) (bounds : Bounds) (f : Front) (old new : List Stamp) → StandsInside f old new → (base : Frontier) (all : List Stamp)
+    → AreOf bounds all → Within base (frontier_of bounds f) → IsThinnedIf whole (base_of_sent whole flow p base) all old
+    → IsThinnedIf whole (base_of_sent whole flow p base) (filter (frontier_of bounds f) all) new
+sent_inside-if true flow p bounds f old new k base all d w h = inside-if true bounds f old new k base all d w h
+sent_inside-if false flow p bounds f old new k base all d w h = by (not (can_resend (policy_of flow p))) h
+  where
+    by : (told : Bool) → IsThinnedIf false (cond told base (λ t. true)) all old → IsThinnedIf false (cond told base (λ t. true)) (filter (frontier_of bounds f) all) new
+    by true i = inside-if false bounds f old new k base all d w i
+    by false i =
+        let g = frontier_of bounds f in
+        untold-if (filter g all) new (each-weaker (Contains (filter g old)) (Contains (filter g all)) new
+        (λ s c. each-contained (Contains (filter g all)) s (filter g old) c (among-passed g all old i.among))
+        (k bounds base old (among-domain bounds all old d i.among) w (thinned-itself base old)).among)

@@ -12,12 +12,12 @@ use Rattle.fw_model.specs.Machine.{Machine, events, family_of, AreCanonical}
 use Rattle.fw_model.specs.Steps.{GrowsTo}
 use Rattle.fw_progress.specs.declared.traces.Traces.{Traces}
 use Rattle.fw_progress.specs.Settle.{is_growing, AreGrownBefore, IsGrownAt, SettlesMore, NoneGrows}
-use Rattle.fw_progress.specs.Trace.{IsTraceOf}
+use Rattle.fw_progress.specs.Trace.{IsTraceIf}
 
 -- the traces of a node are those of each history in which it has the same events
 abbrev pub TracesAreOfTheNode : Type 0
-TracesAreOfTheNode = (sys : System) (h k : List Event) (p : ℕ) (base : Frontier) (traces : Traces) → events_at sys.flow p k ≡ events_at sys.flow p h
-    → IsTraceOf sys h p base traces → IsTraceOf sys k p base traces
+TracesAreOfTheNode = (whole : Bool) (sys : System) (h k : List Event) (p : ℕ) (base : Frontier) (traces : Traces) → events_at sys.flow p k ≡ events_at sys.flow p h
+    → IsTraceIf whole sys h p base traces → IsTraceIf whole sys k p base traces
 
 -- what a node is owed of the events that each node keeps is what it was owed, at the stamps that it keeps
 abbrev pub OwedStaysInsideCuts : Type 0

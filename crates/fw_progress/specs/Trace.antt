@@ -11,10 +11,10 @@ use Rattle.fw_flow.specs.Dataflow.{System, Dataflow, kind_of, policy_of, sender,
 use Rattle.fw_flow.specs.NodeFunction.{event_stamp, sent_by}
 use Rattle.fw_flow.specs.Projection.{events_at}
 use Rattle.fw_model.specs.Covers.{stamp_of_notice}
-use Rattle.fw_model.specs.EventStamps.{causes_in, AreStampsOf}
+use Rattle.fw_model.specs.EventStamps.{causes_in, base_of_sent, AreStampsIf}
 use Rattle.fw_model.specs.Filtering.{AreFrontiers, kept_events}
 use Rattle.fw_model.specs.History.{delivered_messages, AreEventsInDomain, IsLegal}
-use Rattle.fw_model.specs.Thinned.{IsThinned}
+use Rattle.fw_model.specs.Thinned.{IsThinned, IsThinnedIf}
 use Rattle.fw_model.specs.Writes.{takes_checkpoints}
 use Rattle.fw_progress.specs.declared.sent_tally.SentTally.{SentTally}
 use Rattle.fw_progress.specs.declared.traces.Traces.{Traces}
@@ -64,36 +64,42 @@ abbrev pub HasOutEdge : Dataflow → ℕ → Type 0
 HasOutEdge flow p = (e : ℕ) × (e < length flow.edges) × (sender flow e ≡ p)
 
 -- The traces of node p are those of its events in a history, thinned inside a base: where something was delivered on its in-edges,
--- of what it was notified, where its events sent something, if an edge leads from it, and how many messages they sent.
-pub record IsTraceOf (sys : System) (h : List Event) (p : ℕ) (base : Frontier) (traces : Traces) : Type 0 where
+-- of what it was notified, where its events sent something, if an edge leads from it, and how many messages they sent. Where perhaps
+-- not the whole is asked, of the stamps inside the base some may be missing, and of a node that can send again those where it sent.
+pub record IsTraceIf (whole : Bool) (sys : System) (h : List Event) (p : ℕ) (base : Frontier) (traces : Traces) : Type 0 where
   pub delivered : (d : ℕ) → d < length sys.flow.edges → receiver sys.flow d ≡ p
-      → IsThinned base (map (λ (m : Message). m.at) (delivered_messages h d)) (delivered_on traces d)
-  pub notified : IsThinned base (flat_map (stamp_of_notice p) h) (stamps_notified traces p)
+      → IsThinnedIf whole base (map (λ (m : Message). m.at) (delivered_messages h d)) (delivered_on traces d)
+  pub notified : IsThinnedIf whole base (flat_map (stamp_of_notice p) h) (stamps_notified traces p)
   pub sent : HasOutEdge sys.flow p → is_sequence_kind (kind_of sys.flow p) ≡ false
-      → IsThinned base (causes_in (sent_by sys p (events_at sys.flow p h))) (stamps_where_sent traces p)
+      → IsThinnedIf whole (base_of_sent whole sys.flow p base) (causes_in (sent_by sys p (events_at sys.flow p h))) (stamps_where_sent traces p)
   pub counted : counts_sent sys.flow p ≡ true → IsSentTally base (sent_by sys p (events_at sys.flow p h)) (counted_of traces p)
+
+-- the same, where the whole is asked of a node that takes checkpoints
+abbrev pub IsTraceOf : System → List Event → ℕ → Frontier → Traces → Type 0
+IsTraceOf sys h p base traces = IsTraceIf (takes_checkpoints (policy_of sys.flow p)) sys h p base traces
 
 -- the traces of each node are so, thinned inside its base
 abbrev pub AreTracesOf : System → List Event → (ℕ → Frontier) → Traces → Type 0
 AreTracesOf sys h bases traces = (p : ℕ) → p < length sys.flow.nodes → IsTraceOf sys h p (bases p) traces
 
 -- Those of node p are so, thinned inside a base that a frontier holds.
-pub record IsTraceWithin (sys : System) (h : List Event) (p : ℕ) (f : Front) (traces : Traces) : Type 0 where
+pub record IsTraceWithin (whole : Bool) (sys : System) (h : List Event) (p : ℕ) (f : Front) (traces : Traces) : Type 0 where
   pub base : Frontier
   pub within : Within base (node_frontier sys.flow p f)
-  pub trace : IsTraceOf sys h p base traces
+  pub trace : IsTraceIf whole sys h p base traces
 
 -- Of the other nodes the traces are what they were.
 abbrev pub KeepsOthers : Dataflow → ℕ → Traces → Traces → Type 0
 KeepsOthers flow p old new =
-    (sys : System) (h : List Event) → sys.flow ≡ flow → (q : ℕ) → q ≢ p → (base : Frontier) → IsTraceOf sys h q base old → IsTraceOf sys h q base new
+    (whole : Bool) (sys : System) (h : List Event) → sys.flow ≡ flow → (q : ℕ) → q ≢ p → (base : Frontier)
+    → IsTraceIf whole sys h q base old → IsTraceIf whole sys h q base new
 
 -- traces follow an event at which its node sends at these stamps: they are those of the history that goes on with the event, where
 -- they were those of the history before
 abbrev pub TracesFollow : Dataflow → Event → List Stamp → Traces → Traces → Type 0
 TracesFollow flow v sent old new =
-    (sys : System) (h : List Event) → sys.flow ≡ flow → stamps_sent sys h v ≡ sent → (p : ℕ) (base : Frontier)
-    → IsTraceOf sys h p base old → IsTraceOf sys (v ∷ h) p base new
+    (whole : Bool) (sys : System) (h : List Event) → sys.flow ≡ flow → stamps_sent sys h v ≡ sent → (p : ℕ) (base : Frontier)
+    → IsTraceIf whole sys h p base old → IsTraceIf whole sys (v ∷ h) p base new
 
 -- The lists of node p are changed so, and those of the others are as they were.
 pub record HaveChanged (flow : Dataflow) (p : ℕ) (R : List Stamp → List Stamp → Type 0) (T : SentTally → SentTally → Type 0) (old new : Traces) : Type 0 where
@@ -108,16 +114,16 @@ AreThinnedAt flow p f old new = HaveChanged flow p (IsThinnedBy f) (IsCountedInA
 
 -- A larger base: the traces of node p are those of its events, thinned inside the frontier.
 pub record AreSettledTo (flow : Dataflow) (p : ℕ) (f : Front) (old new : Traces) : Type 0 where
-  pub here : (sys : System) (h : List Event) → sys.flow ≡ flow → AreEventsInDomain flow h p → IsTraceWithin sys h p f old
-      → IsTraceOf sys h p (node_frontier flow p f) new
+  pub here : (whole : Bool) (sys : System) (h : List Event) → sys.flow ≡ flow → AreEventsInDomain flow h p → IsTraceWithin whole sys h p f old
+      → IsTraceIf whole sys h p (node_frontier flow p f) new
   pub others : KeepsOthers flow p old new
 
 -- A cut to a frontier that holds the base: the traces of node p are those of its events in a history of which each node keeps the
 -- events inside a frontier, node p those inside this one.
 pub record AreCutTo (flow : Dataflow) (p : ℕ) (f : Front) (old new : Traces) : Type 0 where
-  pub here : (sys : System) (h : List Event) (keep : ℕ → Frontier) → sys.flow ≡ flow → HasEpochs sys → IsLegal sys h
+  pub here : (whole : Bool) (sys : System) (h : List Event) (keep : ℕ → Frontier) → sys.flow ≡ flow → HasEpochs sys → IsLegal sys h
       → AreFrontiers flow keep → keep p ≡ node_frontier flow p f → (base : Frontier) → Within base (node_frontier flow p f)
-      → IsTraceOf sys h p base old → IsTraceOf sys (kept_events flow keep h) p base new
+      → IsTraceIf whole sys h p base old → IsTraceIf whole sys (kept_events flow keep h) p base new
   pub others : KeepsOthers flow p old new
 
 -- each event of node p is at a stamp inside
@@ -127,8 +133,8 @@ AreEventsInside flow h p f = AllByRecursion (λ v. f (event_stamp v) ≡ true) (
 -- The traces of node p are those of each history for whose events these stamps stand, thinned inside a base that has all of them, and
 -- by which it sent so many messages.
 pub record AreRestoredTo (flow : Dataflow) (p : ℕ) (stamps : Stamps) (count : ℕ) (old new : Traces) : Type 0 where
-  pub here : (sys : System) (h : List Event) (base : Frontier) → sys.flow ≡ flow → AreStampsOf sys h p base stamps
-      → count ≡ length (sent_by sys p (events_at sys.flow p h)) → AreEventsInside sys.flow h p base → IsTraceOf sys h p base new
+  pub here : (whole : Bool) (sys : System) (h : List Event) (base : Frontier) → sys.flow ≡ flow → AreStampsIf whole sys h p base stamps
+      → count ≡ length (sent_by sys p (events_at sys.flow p h)) → AreEventsInside sys.flow h p base → IsTraceIf whole sys h p base new
   pub others : KeepsOthers flow p old new
 
 -- ---- for the proofs

@@ -21,7 +21,7 @@ impl Traces {
         requires traces { AreTraces flow.now self.now }
         requires there { edge < length flow.now.edges }
         ensures cover { (sys : System) (h : List Event) → sys.flow ≡ flow.now → HasEpochs sys → IsLegal sys h
-            → IsTraceWithin sys h (receiver flow.now edge) f.now self.now → IfOk result (spec.CoversDelivered sys h edge f.now) }
+            → IsTraceWithin true sys h (receiver flow.now edge) f.now self.now → IfOk result (spec.CoversDelivered sys h edge f.now) }
         ensures stays { IsTrue self.now.refused → IsErr result }
     {
         flow_is_well_formed(flow);
@@ -37,7 +37,7 @@ impl Traces {
         requires traces { AreTraces flow.now self.now }
         requires there { node < length flow.now.nodes }
         ensures cover { (sys : System) (h : List Event) → sys.flow ≡ flow.now → HasEpochs sys → IsLegal sys h
-            → IsTraceWithin sys h node f.now self.now → IfOk result (spec.CoversNotified sys h node f.now) }
+            → IsTraceWithin true sys h node f.now self.now → IfOk result (spec.CoversNotified sys h node f.now) }
         ensures stays { IsTrue self.now.refused → IsErr result }
     {
         flow_is_well_formed(flow);
@@ -60,7 +60,7 @@ impl Traces {
         requires traces { AreTraces flow.now self.now }
         requires there { edge < length flow.now.edges }
         ensures cover { (sys : System) (h : List Event) → sys.flow ≡ flow.now → HasEpochs sys → IsLegal sys h
-            → IsTraceWithin sys h (sender flow.now edge) f.now self.now → IfOk result (spec.CoversSent sys h edge f.now) }
+            → IsTraceWithin true sys h (sender flow.now edge) f.now self.now → IfOk result (spec.CoversSent sys h edge f.now) }
         ensures stays { IsTrue self.now.refused → IsErr result }
     {
         flow_is_well_formed(flow);
@@ -78,7 +78,7 @@ impl Traces {
         requires traces { AreTraces flow.now self.now }
         requires there { node < length flow.now.nodes }
         ensures count { (sys : System) (h : List Event) → sys.flow ≡ flow.now → HasEpochs sys → IsLegal sys h
-            → counts_sent flow.now node ≡ true → IsTraceWithin sys h node f.now self.now
+            → counts_sent flow.now node ≡ true → IsTraceWithin true sys h node f.now self.now
             → IfOk result (λ n. n ≡ sent_count sys h node (node_frontier flow.now node f.now)) }
         ensures stays { IsTrue self.now.refused → IsErr result }
     {

@@ -1,15 +1,15 @@
 //! A node's traces as data for a recovery or a checkpoint.
-ghost use Rattle.std.specs.Prelude.{◌≡◌, ◌<◌, ◌++◌, ℕ, List, [], ◌∷◌, length, map, slice_index_or, option_copied, IsTrue, IsErr, IfOk, OnOk};
+ghost use Rattle.std.specs.Prelude.{◌≡◌, ◌<◌, ◌++◌, ℕ, Bool, true, List, [], ◌∷◌, length, map, slice_index_or, option_copied, IsTrue, IsErr, IfOk, OnOk};
 ghost use Rattle.std.specs.List.{flat_map};
 ghost use Rattle.fw_frontier.specs.Frontier.{Frontier};
 ghost use Rattle.fw_flow.specs.declared.event.Event.{Event};
 ghost use Rattle.fw_flow.specs.Dataflow.{System, out_edges, node_frontier, HasEpochs};
-ghost use Rattle.fw_model.specs.EventStamps.{AreStampsOf};
+ghost use Rattle.fw_model.specs.EventStamps.{AreStampsIf};
 ghost use Rattle.fw_model.specs.Filtering.{events_inside};
 ghost use Rattle.fw_model.specs.History.{IsLegal};
 ghost use Rattle.fw_progress.specs.Covers.{sent_stamp_at};
 ghost use Rattle.fw_progress.specs.StampData as spec;
-ghost use Rattle.fw_progress.specs.Trace.{AreTraces, HaveLists, IsTraceOf, IsTraceWithin};
+ghost use Rattle.fw_progress.specs.Trace.{AreTraces, HaveLists, IsTraceIf, IsTraceWithin};
 
 use crate::covers::{last_number, sends_at};
 use crate::kept_stamps::KeptStamps;
@@ -29,8 +29,8 @@ impl Traces {
     pub fn stamps(&self, alloc: Global, flow: &Flow, node: NodeId) -> Result<Stamps, AllocError>
         requires traces { AreTraces flow.now self.now }
         requires there { node < length flow.now.nodes }
-        ensures stamps { (sys : System) (h : List Event) (base : Frontier) → sys.flow ≡ flow.now → HasEpochs sys → IsLegal sys h
-            → IsTraceOf sys h node base self.now → IfOk result (AreStampsOf sys h node base) }
+        ensures stamps { (whole : Bool) (sys : System) (h : List Event) (base : Frontier) → sys.flow ≡ flow.now → HasEpochs sys → IsLegal sys h
+            → IsTraceIf whole sys h node base self.now → IfOk result (AreStampsIf whole sys h node base) }
         ensures stays { IsTrue self.now.refused → IsErr result }
     {
         flow_is_well_formed(flow);
@@ -52,8 +52,8 @@ impl Traces {
         requires traces { AreTraces flow.now self.now }
         requires there { node < length flow.now.nodes }
         ensures stamps { (sys : System) (h : List Event) → sys.flow ≡ flow.now → HasEpochs sys → IsLegal sys h
-            → IsTraceWithin sys h node f.now self.now → IfOk result (AreStampsOf sys (events_inside (node_frontier flow.now node f.now) h)
-            node (node_frontier flow.now node f.now)) }
+            → IsTraceWithin true sys h node f.now self.now → IfOk result (AreStampsIf true sys
+            (events_inside (node_frontier flow.now node f.now) h) node (node_frontier flow.now node f.now)) }
         ensures stays { IsTrue self.now.refused → IsErr result }
     {
         flow_is_well_formed(flow);

@@ -1,5 +1,5 @@
 //! Where the events of all nodes are, and how many messages they sent.
-ghost use Rattle.std.specs.Prelude.{◌≡◌, ◌<◌, ◌∷◌, [], ℕ, true, false, length, IsTrue, IsErr, IfOk, OnErr};
+ghost use Rattle.std.specs.Prelude.{◌≡◌, ◌<◌, ◌∷◌, [], ℕ, Bool, true, false, length, IsTrue, IsErr, IfOk, OnErr};
 ghost use Rattle.std.specs.List.{AllByRecursion};
 ghost use Rattle.fw_frontier.specs.Frontier.{Frontier};
 ghost use Rattle.fw_flow.specs.declared.event.Event.TheVariants as events;
@@ -9,7 +9,7 @@ ghost use Rattle.fw_model.specs.Writes as writes;
 ghost use Rattle.fw_progress.specs.Progress.{ChangesAt};
 ghost use Rattle.fw_progress.specs.SentTally.{CountsMore, IsCountedInAll, IsTallyCutTo};
 ghost use Rattle.fw_progress.specs.Trace as spec;
-ghost use Rattle.fw_progress.specs.Trace.{AreTraces, IsTraceOf, TracesFollow, AreSettledTo, AreThinnedAt, AreCutTo, no_tally, SentMore, CountedMore};
+ghost use Rattle.fw_progress.specs.Trace.{AreTraces, IsTraceIf, TracesFollow, AreSettledTo, AreThinnedAt, AreCutTo, no_tally, SentMore, CountedMore};
 ghost use Rattle.fw_progress.specs.Traces.{StandForOneMore, IsThinnedBy, StandsInside, ChangesInto};
 
 use crate::kept_stamps::KeptStamps;
@@ -22,8 +22,8 @@ use std::alloc::{AllocError, Global};
 
 /// Where the events of all nodes are and how many messages they sent, as recoveries and checkpoints ask for it. Of each node
 /// the stamps are thinned, and the messages counted in all, inside a base, which is the caller's: what is settled where the
-/// node takes checkpoints, and else its low watermark. Contracts see the parts. To traces to which memory was once refused
-/// no more is told, and they say so by an error each time.
+/// node takes checkpoints, and else a floor, as its low watermark. Contracts see the parts. To traces to which memory was
+/// once refused no more is told, and they say so by an error each time.
 #[derive(Debug, Drop)]
 pub struct Traces {
     /// For each edge at which stamps something was delivered on it.
@@ -42,7 +42,7 @@ impl Traces {
     /// Those of no event. The error is want of memory.
     pub fn new(alloc: Global, flow: &Flow) -> Result<Self, AllocError>
         ensures traces { IfOk result (AreTraces flow.now) }
-        ensures none { (sys : System) (p : ℕ) (base : Frontier) → IfOk result (IsTraceOf sys [] p base) }
+        ensures none { (whole : Bool) (sys : System) (p : ℕ) (base : Frontier) → IfOk result (IsTraceIf whole sys [] p base) }
         ensures ready { IfOk result (λ traces. traces.refused ≡ false) }
     {
         Ok(Traces {

@@ -7,6 +7,7 @@ use Rattle.fw_flow.specs.declared.choice.Choice.{Choice}
 use Rattle.fw_flow.specs.declared.step.Step.TheVariants.{Recover}
 use Rattle.fw_flow.specs.Dataflow.{System, Dataflow, sender, kind_of, is_output_kind}
 use Rattle.fw_flow.specs.WellFormed.{IsWellFormedSystem}
+use Rattle.fw_model.specs.Floors.{IsFloor}
 use Rattle.fw_model.specs.Choice.{cut_of, IsLargest}
 use Rattle.fw_model.specs.Machine.{Machine, events, front_of, is_failed}
 use Rattle.fw_model.specs.Reached.{IsReached}
@@ -35,6 +36,7 @@ use Rattle.fw_stands.proofs.EntrySteps.{entries_after_recovery, records_after_re
 use Rattle.fw_stands.proofs.ReadLaws.{recovers-by_step}
 use Rattle.fw_stands.proofs.RecoveredBorders.{none-lost, settled-by_cuts}
 use Rattle.fw_stands.proofs.RecoveredProgress.{counted-left, queues-count}
+use Rattle.fw_running.proofs.KnownTraces.{knows-next}
 use Rattle.fw_running.specs.declared.running.Running.{Running}
 use Rattle.fw_recover.specs.CutProgress.{IsProgressCut}
 use Rattle.fw_recover.specs.CutTraces.{AreTracesCut}
@@ -135,11 +137,11 @@ progress-recovered sys state choice queues old new r same c s =
 traces-recovered : (sys : System) (records : Option Records) (state : Machine) (choice : Choice) (settled : List Front) (old : Parts) (es : List Entry)
     → Recovers sys state choice settled → PartsStandFor sys records state old → es ≡ filter (λ e. not (is_undone choice e)) old.keep.entries
     → (before after : Traces) → AreTracesCut sys.flow es choice (length sys.flow.nodes) before after
-    → ((p : ℕ) → p < length sys.flow.nodes → IsTraceIn sys state p before)
-    → (p : ℕ) → p < length sys.flow.nodes → IsTraceIn sys (recovered_state sys state choice settled) p after
-traces-recovered sys records state choice settled old es r s left before after c t p l =
+    → (floor : List Front) → IsFloor sys state floor → (p : ℕ) → p < length sys.flow.nodes → IsTraceIn sys floor state p before
+    → IsTraceIn sys floor (recovered_state sys state choice settled) p after
+traces-recovered sys records state choice settled old es r s left before after c floor above p l t =
     let cut = subst (λ xs. AreTracesCut sys.flow xs choice (length sys.flow.nodes) before after) left c in
-    trace-after sys state choice settled r old.keep.entries s.entries records s.stored p l before after (cut.cut p l) (t p l)
+    trace-after sys floor state choice settled r above old.keep.entries s.entries records s.stored p l before after (cut.cut p l) t
 
 -- no node is failed any more
 none-down : (a n : ℕ) → map (λ (p : ℕ). false) (range_with_len a n) ≡ replicate n false
@@ -205,7 +207,8 @@ recovered-stands sys records state choice old new s largest trust q there failed
           entries = parts.entries;
           stored = parts.stored;
         };
-        traces = traces-recovered sys records state choice settled old.parts new.parts.keep.entries r before gone old.traces new.traces traces s.traces;
+        traces = knows-next sys state Recover next (cuts choice) old.traces new.traces w s.apart.reached refl leads s.traces
+            (traces-recovered sys records state choice settled old.parts new.parts.keep.entries r before gone old.traces new.traces traces s.traces.floor s.traces.above);
         lost = λ p full t. (λ c. absurd (contains-none (slice_index_or new.lost.items p []) t (made.lost p) c), λ l. absurd (none-lost sys state choice settled p t l));
       };
     }

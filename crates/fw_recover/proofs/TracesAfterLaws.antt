@@ -13,6 +13,7 @@ use Rattle.fw_flow.specs.declared.choice.Choice.{Choice}
 use Rattle.fw_flow.specs.declared.choice.Cut.{Cut}
 use Rattle.fw_flow.specs.declared.choice.Cut.TheVariants.{Present, At}
 use Rattle.fw_flow.specs.Dataflow.{System, policy_of, bounds_of}
+use Rattle.fw_model.specs.Floors.{IsFloor}
 use Rattle.fw_model.specs.Choice.{cut_of}
 use Rattle.fw_model.specs.Machine.{Machine, Write, checkpoint, logged_event, events, no_stamps}
 use Rattle.fw_model.specs.Machine.{Written as WrittenBy}
@@ -114,58 +115,58 @@ none-saved choice p f is self (e ∷ es) a =
 
 -- ---- the traces of a node that is cut
 
-saved-stands : (sys : System) (state : Machine) (choice : Choice) (settled : List Front) → Recovers sys state choice settled
+saved-stands : (sys : System) (floor : List Front) (state : Machine) (choice : Choice) (settled : List Front) → Recovers sys state choice settled
     → (p : ℕ) → p < length sys.flow.nodes → takes_checkpoints (policy_of sys.flow p) ≡ true → (f : Front) → cut_of choice p ≡ At f
-    → (w : Written) → HoldsAt sys state p f w → (old new : Traces) → AreSavedBy sys.flow p w old new → IsTraceIn sys (recovered_state sys state choice settled) p new
-saved-stands sys state choice settled r p l takes f is (written.Checkpoint recorded stamps sent) h old new s =
-    traces-from_checkpoints sys state choice settled r p l takes f is stamps sent h.stamps h.sent old new s
-saved-stands sys state choice settled r p l takes f is (written.Event event) h old new s = absurd h
+    → (w : Written) → HoldsAt sys state p f w → (old new : Traces) → AreSavedBy sys.flow p w old new → IsTraceIn sys floor (recovered_state sys state choice settled) p new
+saved-stands sys floor state choice settled r p l takes f is (written.Checkpoint recorded stamps sent) h old new s =
+    traces-from_checkpoints sys floor state choice settled r p l takes f is stamps sent h.stamps h.sent old new s
+saved-stands sys floor state choice settled r p l takes f is (written.Event event) h old new s = absurd h
 
-as-stands : (sys : System) (state : Machine) (choice : Choice) (settled : List Front) → Recovers sys state choice settled
+as-stands : (sys : System) (floor : List Front) (state : Machine) (choice : Choice) (settled : List Front) → Recovers sys state choice settled
     → (es : List Entry) → AreEntriesOf sys state es (uncollected state) → (records : Option Records) → AreStored sys state records es (uncollected state)
     → (p : ℕ) → p < length sys.flow.nodes → takes_checkpoints (policy_of sys.flow p) ≡ true → (f : Front) → cut_of choice p ≡ At f
     → (o : Option Entry) → find (is_saved_at p f) (filter (λ e. not (is_undone choice e)) es) ≡ o
-    → (old new : Traces) → AreSavedAs sys.flow p o old new → IsTraceIn sys (recovered_state sys state choice settled) p new
-as-stands sys state choice settled r es a records st p l takes f is (Some e) found old new s =
+    → (old new : Traces) → AreSavedAs sys.flow p o old new → IsTraceIn sys floor (recovered_state sys state choice settled) p new
+as-stands sys floor state choice settled r es a records st p l takes f is (Some e) found old new s =
     let left : Entry → Bool = λ x. not (is_undone choice x) in
     let Held : Entry → Type 0 = λ x. is_saved_at p f x ≡ true → HoldsAt sys state p f x.written in
     let h = found-passes (λ x. HoldsAt sys state p f x.written) (is_saved_at p f) (filter left es)
     (each-kept Held left es (entries-hold sys state p f es (uncollected state) a)) e found in
-    saved-stands sys state choice settled r p l takes f is e.written h old new s
-as-stands sys state choice settled r es a records st p l takes f is None found old new s =
+    saved-stands sys floor state choice settled r p l takes f is e.written h old new s
+as-stands sys floor state choice settled r es a records st p l takes f is None found old new s =
     let left : Entry → Bool = λ x. not (is_undone choice x) in
     let b = bounds_of sys.flow p in
     let self = within-is b f f (cuts-canonical sys state choice settled r p l f is) (λ t i. i) in
     let none = none-saved choice p f is self es (none-found (is_saved_at p f) (filter left es) found) in
     elim (decided-front f (no_stamps b)) [
-      | inl e ↦ traces-nothing sys state choice settled r p l (is ∙ ap At e) s.0 s.1 old new s.2
+      | inl e ↦ traces-nothing sys floor state choice settled r p l (is ∙ ap At e) s.0 s.1 old new s.2
       | inr n ↦
           let one = one-checkpoint sys state choice settled r es a records st p takes f is n in
           let no : one.entry ∷ [] ≡ [] = sym one.only ∙ none in
           absurd (cc no)
     ]
 
-at-stands : (sys : System) (state : Machine) (choice : Choice) (settled : List Front) → Recovers sys state choice settled
+at-stands : (sys : System) (floor : List Front) (state : Machine) (choice : Choice) (settled : List Front) → Recovers sys state choice settled → IsFloor sys state floor
     → (es : List Entry) → AreEntriesOf sys state es (uncollected state) → (records : Option Records) → AreStored sys state records es (uncollected state)
     → (p : ℕ) → p < length sys.flow.nodes → (cut : Cut) → cut_of choice p ≡ cut
-    → (old new : Traces) → AreTracesCutAt sys.flow (filter (λ e. not (is_undone choice e)) es) p cut old new → IsTraceIn sys state p old
-    → IsTraceIn sys (recovered_state sys state choice settled) p new
-at-stands sys state choice settled r es a records st p l Present is old new c t =
-    traces-present sys state choice settled r p l is new (subst (IsTraceIn sys state p) (sym c) t)
-at-stands sys state choice settled r es a records st p l (At f) is old new c t = elim (cases_Bool (takes_checkpoints (policy_of sys.flow p))) [
+    → (old new : Traces) → AreTracesCutAt sys.flow (filter (λ e. not (is_undone choice e)) es) p cut old new → IsTraceIn sys floor state p old
+    → IsTraceIn sys floor (recovered_state sys state choice settled) p new
+at-stands sys floor state choice settled r above es a records st p l Present is old new c t =
+    traces-present sys floor state choice settled r p l is new (subst (IsTraceIn sys floor state p) (sym c) t)
+at-stands sys floor state choice settled r above es a records st p l (At f) is old new c t = elim (cases_Bool (takes_checkpoints (policy_of sys.flow p))) [
   | inl takes ↦
-      as-stands sys state choice settled r es a records st p l takes f is
+      as-stands sys floor state choice settled r es a records st p l takes f is
       (find (is_saved_at p f) (filter (λ e. not (is_undone choice e)) es)) refl old new (c.saved takes)
-  | inr takes ↦ traces-cut sys state choice settled r p l takes f is old new (c.inside takes) t
+  | inr takes ↦ traces-cut sys floor state choice settled r above p l takes f is old new (c.inside takes) t
 ]
 
 -- the traces of a node after a recovery, where those of the nodes were cut one after the other
-pub trace-after : (sys : System) (state : Machine) (choice : Choice) (settled : List Front) → Recovers sys state choice settled
+pub trace-after : (sys : System) (floor : List Front) (state : Machine) (choice : Choice) (settled : List Front) → Recovers sys state choice settled → IsFloor sys state floor
     → (es : List Entry) → AreEntriesOf sys state es (uncollected state) → (records : Option Records) → AreStored sys state records es (uncollected state)
     → (p : ℕ) → p < length sys.flow.nodes → (old new : Traces) → IsTraceCut sys.flow (filter (λ e. not (is_undone choice e)) es) choice p old new
-    → IsTraceIn sys state p old → IsTraceIn sys (recovered_state sys state choice settled) p new
-trace-after sys state choice settled r es a records st p l old new c t =
+    → IsTraceIn sys floor state p old → IsTraceIn sys floor (recovered_state sys state choice settled) p new
+trace-after sys floor state choice settled r above es a records st p l old new c t =
     let next = recovered_state sys state choice settled in
-    c.stays sys (events next.history) refl (base_of sys next p)
-    (at-stands sys state choice settled r es a records st p l (cut_of choice p) refl c.before c.after c.cut
-    (c.was sys (events state.history) refl (base_of sys state p) t))
+    c.stays (takes_checkpoints (policy_of sys.flow p)) sys (events next.history) refl (base_of sys floor next p)
+    (at-stands sys floor state choice settled r above es a records st p l (cut_of choice p) refl c.before c.after c.cut
+    (c.was (takes_checkpoints (policy_of sys.flow p)) sys (events state.history) refl (base_of sys floor state p) t))

@@ -14,7 +14,7 @@ use Rattle.fw_keep.specs.declared.entry.Entry.{Entry}
 use Rattle.fw_keep.specs.declared.entry.Written.{Written}
 use Rattle.fw_keep.specs.declared.entry.Written.TheVariants as written
 use Rattle.fw_progress.specs.declared.traces.Traces.{Traces}
-use Rattle.fw_progress.specs.Trace.{AreCutTo, AreRestoredTo, IsTraceOf}
+use Rattle.fw_progress.specs.Trace.{AreCutTo, AreRestoredTo, IsTraceIf}
 use Rattle.fw_stands.specs.Read.{is_checkpoint_of}
 use Rattle.fw_stands.specs.Recovered.{AreNoStamps}
 
@@ -45,7 +45,8 @@ AreTracesCutAt flow entries p (At f) old new = AreTracesCutTo flow entries p f o
 -- of node p the traces are what they were
 abbrev pub KeepsTrace : Dataflow → ℕ → Traces → Traces → Type 0
 KeepsTrace flow p old new =
-    (sys : System) (h : List Event) → sys.flow ≡ flow → (base : Frontier) → IsTraceOf sys h p base old → IsTraceOf sys h p base new
+    (whole : Bool) (sys : System) (h : List Event) → sys.flow ≡ flow → (base : Frontier)
+    → IsTraceIf whole sys h p base old → IsTraceIf whole sys h p base new
 
 -- One after the other, the traces of nodes are cut, and at some time those of node p by its cut.
 pub record IsTraceCut (flow : Dataflow) (entries : List Entry) (choice : Choice) (p : ℕ) (old new : Traces) : Type 0 where

@@ -52,7 +52,8 @@ use Rattle.fw_model.proofs.AskedLaws.{takes-restoring, IsApart, IsAskedWell, IsW
 use Rattle.fw_model.proofs.ChoiceLaws.{by_batches-input}
 use Rattle.fw_model.proofs.ChoosingLaws.{checkpoints-chains, kept-is_ever, recovery-has_choice}
 use Rattle.fw_model.proofs.DomainLaws.{has_epochs, edge-bounds}
-use Rattle.fw_model.proofs.ForgottenLaws.{collected-below, still-flies}
+use Rattle.fw_model.proofs.CollectedLaws.{collected-below}
+use Rattle.fw_model.proofs.ForgottenLaws.{still-flies}
 use Rattle.fw_model.proofs.FrontLaws.{has_front}
 use Rattle.fw_model.proofs.LargestLaws.{largest-exists}
 use Rattle.fw_model.proofs.LegalLaws.{AreAllInDomain, edge_domains, legal-in_domain, legal_messages-in_domain}

@@ -15,7 +15,7 @@ use Rattle.fw_flow.specs.declared.kind.Policy.TheVariants as policy
 use Rattle.fw_flow.specs.Dataflow.{Dataflow, System, system_of, kind_of, policy_of, batches_of, batches_of_nodes, bounds_of, node_ids, is_input_kind, is_output_kind}
 use Rattle.fw_flow.specs.Restoring.{restoring, restoring_of_policy}
 use Rattle.fw_flow.specs.WellFormed.{IsWellFormedSystem}
-use Rattle.fw_model.specs.Machine.{Machine, first_state, family_of, front_of, no_stamps, AreCanonical}
+use Rattle.fw_model.specs.Machine.{Machine, first_state, front_of, no_stamps, AreCanonical}
 use Rattle.fw_keep.specs.declared.entry.Entry.{Entry}
 use Rattle.fw_keep.specs.Catalogue.{KeepState}
 use Rattle.fw_keep.specs.Stored.{Records}
@@ -25,6 +25,7 @@ use Rattle.fw_border.specs.Sources.{SourceState, source_at, unused_source}
 use Rattle.fw_node.specs.declared.node.Node.{Node}
 use Rattle.fw_node.specs.NodeOf.{IsNodeOf}
 use Rattle.fw_node.proofs.NodeOfLaws.{node-of}
+use Rattle.fw_model.proofs.FloorLaws.{low-floor}
 use Rattle.fw_policy.specs.View.{base_of}
 use Rattle.fw_rollback.specs.Edges.{on_edge, nothing_there}
 use Rattle.fw_rollback.specs.New.{IsFirstTable}
@@ -38,6 +39,7 @@ use Rattle.fw_running.specs.Kept.{queue_at, log_at, table_of, source_of, lost_at
 use Rattle.fw_running.specs.Shaped.{IsOnEdge, IsWrittenOf, IsShaped}
 use Rattle.fw_running.specs.Stands.{Stands}
 use Rattle.fw_running.specs.Starting.{IsFirst}
+use Rattle.fw_model.specs.Writes.{takes_checkpoints}
 
 -- ---- lists of one for each
 
@@ -71,7 +73,7 @@ new-some flow p policy.Full table t = t
 inner-stands : (sys : System) (p : ℕ) (table : Option Node) → is_input_kind (kind_of sys.flow p) ≡ false → is_output_kind (kind_of sys.flow p) ≡ false
     → IsSomeAnd table (IsNew sys.flow p) → IsTableIn sys (first_state sys) p table
 inner-stands sys p None i o t = absurd t
-inner-stands sys p (Some node) i o t = first_table-stands sys p i o node (t (family_of sys.flow (first_state sys).settled p))
+inner-stands sys p (Some node) i o t = first_table-stands sys p i o node t
 
 border-stands : (sys : System) (p : ℕ) (kind : Kind) (table : Option Node) → kind_of sys.flow p ≡ kind → (is_input_kind kind || is_output_kind kind) ≡ true
     → table ≡ None → IsTableIn sys (first_state sys) p table
@@ -164,7 +166,7 @@ first-stands flow batches records running w f =
         entries = none-held (IsEntryOf sys state) running.parts.keep.entries entries;
         stored = λ held e. none-held (IsHeldAs sys state held) running.parts.keep.entries entries;
       };
-      traces = λ p l. f.traces.none sys p (base_of sys state p);
+      traces = record { floor = state.low; above = low-floor sys state w (first-reached sys); each = λ p l. f.traces.none (takes_checkpoints (policy_of sys.flow p)) sys p (base_of sys state.low state p) };
       lost = λ p k t. (λ c. absurd (contains-none (lost_at running p) t (all-same running.lost.items (length flow.nodes) p [] f.lost) c), λ l. absurd (nothing.lost p t l));
     }
 

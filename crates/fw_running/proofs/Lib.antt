@@ -4,6 +4,7 @@ pub mod CountLaws
 pub mod EffectTextLaws
 pub mod FirstLaws
 pub mod KeptShapes
+pub mod KnownTraces
 pub mod PlaceLaws
 pub mod SameStateLaws
 pub mod ShownLines

@@ -1,10 +1,12 @@
 -- For which states of the machine an engine stands.
-use Rattle.std.specs.Prelude.{◌≡◌, ◌↔◌, ℕ, ◌<◌, true, Option, length}
+use Rattle.std.specs.Prelude.{◌≡◌, ◌↔◌, ℕ, ◌<◌, true, List, Option, length}
 use Rattle.std.specs.List.{Contains}
 use Rattle.fw_time.specs.Stamp.{Stamp}
 use Rattle.fw_flow.specs.declared.kind.Policy.TheVariants as policy
 use Rattle.fw_flow.specs.Dataflow.{System, kind_of, policy_of, is_output_kind}
 use Rattle.fw_flow.specs.WellFormed.{IsWellFormedSystem}
+use Rattle.fw_frontier.specs.Front.{Front}
+use Rattle.fw_model.specs.Floors.{IsFloor}
 use Rattle.fw_model.specs.Machine.{Machine, events}
 use Rattle.fw_model.specs.Reached.{IsReached}
 use Rattle.fw_model.specs.Steps.{HasEpoch}
@@ -40,9 +42,12 @@ pub record StandsApart (sys : System) (running : Running) (records : Option Reco
   pub entries : AreEntriesOf sys state running.parts.keep.entries (uncollected state)
   pub stored : AreStored sys state records running.parts.keep.entries (uncollected state)
 
--- the traces are those of each node in the state
-abbrev pub KnowsTraces : System → Machine → Traces → Type 0
-KnowsTraces sys state traces = (p : ℕ) → p < length sys.flow.nodes → IsTraceIn sys state p traces
+-- The traces are those of each node above a floor of the state: of a node that takes checkpoints all of them; of another one what
+-- happened inside the floor may be missing, and of one that can send again also where it sent.
+pub record KnowsTraces (sys : System) (state : Machine) (traces : Traces) : Type 0 where
+  pub floor : List Front
+  pub above : IsFloor sys state floor
+  pub each : (p : ℕ) → p < length sys.flow.nodes → IsTraceIn sys floor state p traces
 
 -- these stamps of each node that logs its events are those at which one of them was lost
 abbrev pub KnowsLost : System → Machine → Running → Type 0

@@ -1,5 +1,5 @@
 -- What an engine keeps where nothing has happened.
-use Rattle.std.specs.Prelude.{◌≡◌, ℕ, false, List, [], length, map, replicate}
+use Rattle.std.specs.Prelude.{◌≡◌, ℕ, false, List, [], length, map, replicate, Bool}
 use Rattle.fw_bag.specs.declared.rec.Rec.{Rec}
 use Rattle.fw_frontier.specs.Front.{Front}
 use Rattle.fw_frontier.specs.Frontier.{Frontier}
@@ -8,7 +8,7 @@ use Rattle.fw_model.specs.Machine.{no_stamps}
 use Rattle.fw_progress.specs.History.{StandsForHistory}
 use Rattle.fw_progress.specs.Progress.{Standing, IsOfFlow}
 use Rattle.fw_progress.specs.declared.traces.Traces.{Traces}
-use Rattle.fw_progress.specs.Trace.{HaveLists, IsTraceOf}
+use Rattle.fw_progress.specs.Trace.{HaveLists, IsTraceIf}
 use Rattle.fw_rollback.specs.New.{AreNew}
 use Rattle.fw_rollback.specs.Restored.{AreOfFlow}
 use Rattle.fw_stands.specs.Acknowledging.{IsGreatestCount}
@@ -29,7 +29,7 @@ pub record IsFirstProgress (flow : Dataflow) (batches : List (ℕ × List (List 
 -- Traces of no events.
 pub record AreFirstTraces (flow : Dataflow) (traces : Traces) : Type 0 where
   pub lists : HaveLists flow traces
-  pub none : (sys : System) (p : ℕ) (base : Frontier) → IsTraceOf sys [] p base traces
+  pub none : (whole : Bool) (sys : System) (p : ℕ) (base : Frontier) → IsTraceIf whole sys [] p base traces
   pub live : traces.refused ≡ false
 
 -- Nothing has happened in what an engine keeps of the flow with these batches.

@@ -1,5 +1,9 @@
 pub mod CoordinateLaws
 pub mod MakingLaws
 pub mod NameLaws
+pub mod NumberLaws
 pub mod ReadLaws
+pub mod ShownLaws
 pub mod StepLaws
+pub mod WordLaws
+pub mod WrittenLaws

@@ -14,8 +14,8 @@ use Rattle.fw_flow.specs.Dataflow.{Dataflow, kind_of, receiver, bounds_of, is_in
 use Rattle.fw_schedule.specs.declared.item.Item.{Item}
 use Rattle.fw_schedule.specs.declared.item.Item.TheVariants.{One, Auto}
 use Rattle.fw_schedule.specs.declared.making.ItemFault.{ItemFault}
-use Rattle.fw_schedule.specs.declared.making.ItemFault.TheVariants.{NoNode, NoEdge, NoInput, NoOutput, OutsideDomain, NoneFails, TooManySteps}
-use Rattle.fw_schedule.specs.Making.{node_fault, input_fault, output_fault, time_fault, delivery_fault, notification_fault, nodes_fault, failure_fault, step_fault, item_fault}
+use Rattle.fw_schedule.specs.declared.making.ItemFault.TheVariants.{NoNode, NoEdge, NoInput, NoOutput, OutsideDomain, TooManySteps}
+use Rattle.fw_schedule.specs.Making.{node_fault, time_fault, delivery_fault, nodes_fault, step_fault, item_fault}
 use Rattle.fw_schedule.specs.Schedule.{IsTimeIn, IsNodeOfKind, IsStepOf, IsItemOf, step_limit}
 
 both_none : {X : Type 0} (a b : Option X) → option_or a b ≡ None → (a ≡ None) × (b ≡ None)

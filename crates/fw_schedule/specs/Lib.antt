@@ -1,4 +1,5 @@
 pub mod Grammar
+pub mod ItemText
 pub mod Making
 pub mod Names
 pub mod Schedule

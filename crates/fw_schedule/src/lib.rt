@@ -8,9 +8,11 @@ mod making;
 mod names;
 mod reader;
 mod schedule;
+mod shown;
 mod step;
 
 pub use item::{Item, STEP_LIMIT};
 pub use making::ItemFault;
 pub use reader::{SCHEDULE_LIMIT, one_answer, read_schedule};
 pub use schedule::Schedule;
+pub use shown::{ItemText, ScheduleText, StepText};

@@ -18,7 +18,7 @@ use Rattle.fw_flow.specs.declared.choice.Stamps.{Stamps}
 use Rattle.fw_flow.specs.declared.kind.Policy.{Policy}
 use Rattle.fw_flow.specs.declared.kind.Policy.TheVariants as policy
 use Rattle.fw_flow.specs.Dataflow.{System, policy_of, bounds_of, node_frontier}
-use Rattle.fw_model.specs.EventStamps.{AreStampsOf}
+use Rattle.fw_model.specs.EventStamps.{AreStampsIf}
 use Rattle.fw_model.specs.Filtering.{events_inside}
 use Rattle.fw_model.specs.Machine.{Machine, Write, family_of, front_of, is_failed}
 use Rattle.fw_model.specs.Steps.{GrowsTo, checkpoint_of, eager_writes, is_eager}
@@ -35,6 +35,7 @@ use Rattle.fw_progress.specs.Settle.{has_more, is_growing, IsGrownAt}
 use Rattle.fw_stands.specs.Written.{AreEntriesOf, AreStored, IsEntryOf, uncollected}
 use Rattle.fw_stands.proofs.GrowthLaws.{settled-holds}
 use Rattle.fw_stands.proofs.KeptLaws.{fronts-grow}
+use Rattle.fw_stands.proofs.NodeCheckpoints.{asks_at_progress}
 use Rattle.fw_running.specs.declared.fault.EngineFault.{EngineFault}
 use Rattle.fw_running.specs.declared.running.Running.{Running}
 use Rattle.fw_running.specs.Faults.{faults_after_step}
@@ -100,16 +101,12 @@ kept-withdrawn old mid new before after a w = record {
 pub asks-made : (result : Result (Unit {0}) EngineFault) (p : ℕ) (f : Front) (old new : Running) (before after : Option Records) (checkpoint : Checkpoint) (stamps : Stamps)
     → OnOk result (IsAsked (tagged.State checkpoint) stamps old.parts.keep.entries new.parts.keep.entries before after) → IsMadeAt old p f checkpoint
     → HasCountableLists checkpoint
-    → IsSoInEachHistory old.flow old.traces p f (λ sys h. AreStampsOf sys (events_inside (node_frontier old.flow p f) h) p (node_frontier old.flow p f) stamps)
+    → IsSoInEachHistory old.flow old.traces p f (λ sys h. AreStampsIf true sys (events_inside (node_frontier old.flow p f) h) p (node_frontier old.flow p f) stamps)
     → OnOk result (AsksCheckpoint p f old new before after)
 asks-made (Ok x) p f old new before after checkpoint stamps a made few held = record { checkpoint = checkpoint; stamps = stamps; made = made; few = few; held = held; asked = a }
 asks-made (Err e) p f old new before after checkpoint stamps a made few held = tt
 
 -- ---- the writes of eager nodes
-
--- whether an eager node asks as it grows to these fronts
-abbrev asks : System → Machine → List Front → ℕ → Bool
-asks sys state settled p = is_eager (policy_of sys.flow p) && not (same_front (front_of state.settled p) (front_of settled p))
 
 range-more : (n : ℕ) → range_with_len 0 (n + 1) ≡ range_with_len 0 n ++ n ∷ []
 range-more n = sym (map-self (range_with_len 0 (n + 1))) ∙ map-range_with_len_more (λ x. x) 0 n n (omega arith) ∙ ap (λ xs. xs ++ n ∷ []) (map-self (range_with_len 0 n))
@@ -120,10 +117,10 @@ range-more n = sym (map-self (range_with_len 0 (n + 1))) ∙ map-range_with_len_
 
 -- what one node more asks
 eager-more : (sys : System) (state : Machine) (settled : List Front) (n : ℕ) → eager_writes sys state settled (range_with_len 0 (n + 1))
-    ≡ eager_writes sys state settled (range_with_len 0 n) ++ cond (asks sys state settled n) (checkpoint_of state n (front_of settled n) ∷ []) []
+    ≡ eager_writes sys state settled (range_with_len 0 n) ++ cond (asks_at_progress sys state settled n) (checkpoint_of state n (front_of settled n) ∷ []) []
 eager-more sys state settled n =
     let f : ℕ → Write = λ p. checkpoint_of state p (front_of settled p) in
-    let test : ℕ → Bool = asks sys state settled in
+    let test : ℕ → Bool = asks_at_progress sys state settled in
     ap (λ ps. map f (filter test ps)) (range-more n)
     ∙ ap (map f) (filter-append test (range_with_len 0 n) (n ∷ []))
     ∙ map-append f (filter test (range_with_len 0 n)) (filter test (n ∷ []))
@@ -133,21 +130,21 @@ eager-more sys state settled n =
     one true = refl
     one false = refl
 
-eager-none : (sys : System) (state : Machine) (settled : List Front) (n : ℕ) → asks sys state settled n ≡ false
+eager-none : (sys : System) (state : Machine) (settled : List Front) (n : ℕ) → asks_at_progress sys state settled n ≡ false
     → eager_writes sys state settled (range_with_len 0 (n + 1)) ≡ eager_writes sys state settled (range_with_len 0 n)
 eager-none sys state settled n e =
     eager-more sys state settled n
     ∙ ap (λ b. eager_writes sys state settled (range_with_len 0 n) ++ cond b (checkpoint_of state n (front_of settled n) ∷ []) []) e
     ∙ append-nil (eager_writes sys state settled (range_with_len 0 n))
 
-eager-some : (sys : System) (state : Machine) (settled : List Front) (n : ℕ) → asks sys state settled n ≡ true
+eager-some : (sys : System) (state : Machine) (settled : List Front) (n : ℕ) → asks_at_progress sys state settled n ≡ true
     → eager_writes sys state settled (range_with_len 0 (n + 1)) ≡ eager_writes sys state settled (range_with_len 0 n) ++ checkpoint_of state n (front_of settled n) ∷ []
 eager-some sys state settled n e =
     eager-more sys state settled n
     ∙ ap (λ b. eager_writes sys state settled (range_with_len 0 n) ++ cond b (checkpoint_of state n (front_of settled n) ∷ []) []) e
 
 -- where none from one place up to a later one asks, the writes are the same
-eager-same : (sys : System) (state : Machine) (settled : List Front) (from k : ℕ) → ((p : ℕ) → from ≤ p → p < from + k → asks sys state settled p ≡ false)
+eager-same : (sys : System) (state : Machine) (settled : List Front) (from k : ℕ) → ((p : ℕ) → from ≤ p → p < from + k → asks_at_progress sys state settled p ≡ false)
     → eager_writes sys state settled (range_with_len 0 (from + k)) ≡ eager_writes sys state settled (range_with_len 0 from)
 eager-same sys state settled from zero none = ap (λ n. eager_writes sys state settled (range_with_len 0 n)) (let e : from + 0 ≡ from = omega arith in e)
 eager-same sys state settled from (suc k) none =
@@ -172,9 +169,9 @@ same-grows sys state settled old before s g p l =
     turned false true = refl
     turned false false = refl
 
-asks-grows : (sys : System) (state : Machine) (settled : List Front) (old : Running) (before : Option Records) → Stands sys old before state
+pub asks-grows : (sys : System) (state : Machine) (settled : List Front) (old : Running) (before : Option Records) → Stands sys old before state
     → GrowsTo sys state (family_of sys.flow old.progress.kept) settled → (p : ℕ) → p < length sys.flow.nodes
-    → asks sys state settled p ≡ (is_eager (policy_of sys.flow p) && grows old p)
+    → asks_at_progress sys state settled p ≡ (is_eager (policy_of sys.flow p) && grows old p)
 asks-grows sys state settled old before s g p l = ap (λ b. is_eager (policy_of sys.flow p) && b) (same-grows sys state settled old before s g p l)
 
 eager-takes : (p : Policy) → is_eager p ≡ true → takes_checkpoints p ≡ true
@@ -236,7 +233,7 @@ unfolding adds-same
 skips p old mid new before between after a l other n = record {
   adds = adds-same old.parts.keep.entries mid.parts.keep.entries new.parts.keep.entries before between after a.adds n;
   writes = λ sys state settled s g.
-      let test : asks sys state settled p ≡ false =
+      let test : asks_at_progress sys state settled p ≡ false =
       ap (λ b. b && not (same_front (front_of state.settled p) (front_of settled p))) (ap (λ flow. is_eager (policy_of flow p)) (sym s.apart.flow) ∙ other) in
       let same = eager-none sys state settled p test in
       let known = a.writes sys state settled s g in (
@@ -260,6 +257,7 @@ can-keep sys old keep state p f c = record {
   settled = c.settled;
   table = c.table;
   logs = c.logs;
+  floor = c.floor;
   traces = c.traces;
   counts = c.counts;
 }
@@ -299,7 +297,7 @@ asks-one p old mid new before between after h c l eager grow f grown a = record 
       let writes = eager_writes sys state settled (range_with_len 0 p) in
       let there : p < length sys.flow.nodes = subst (λ flow. p < length flow.nodes) s.apart.flow l in
       let is_eager_there : is_eager (policy_of sys.flow p) ≡ true = ap (λ flow. is_eager (policy_of flow p)) (sym s.apart.flow) ∙ eager in
-      let test : asks sys state settled p ≡ true =
+      let test : asks_at_progress sys state settled p ≡ true =
       asks-grows sys state settled old before s g p there ∙ ap (λ b. b && grows old p) is_eager_there ∙ grow in
       let more = eager-some sys state settled p test in
       let known = h.writes sys state settled s g in

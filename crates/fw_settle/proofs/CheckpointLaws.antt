@@ -1,5 +1,5 @@
 -- A checkpoint that is made of what is kept of a node is one of the machine's, and has a spelling.
-use Rattle.std.proofs.Common.{◌≡◌, ℕ, Bool, true, false, refl, sym, ap, subst, ◌∙◌}
+use Rattle.std.proofs.Common.{◌≡◌, ℕ, Bool, true, false, List, refl, sym, ap, subst, ◌∙◌}
 use Rattle.std.specs.List.{AllByRecursion}
 use Rattle.std.proofs.lemmas.Bool.{cond-false, cond-true}
 use Rattle.fw_frontier.specs.Frontier.{Within, nothing}
@@ -25,7 +25,7 @@ use Rattle.fw_model.proofs.AskedLaws.{takes-declared, takes-restoring}
 use Rattle.fw_model.proofs.DomainLaws.{has_epochs}
 use Rattle.fw_policy.specs.Entries.{IsRecorded}
 use Rattle.fw_progress.specs.declared.traces.Traces.{Traces}
-use Rattle.fw_progress.specs.Trace.{IsTraceOf, IsTraceWithin}
+use Rattle.fw_progress.specs.Trace.{IsTraceOf, IsTraceWithin, IsTraceIf}
 use Rattle.fw_stands.specs.Parts.{IsTraceIn}
 use Rattle.fw_stands.proofs.AtReached.{reached-legal}
 use Rattle.fw_stands.proofs.SettlingLaws.{base-settled}
@@ -35,12 +35,13 @@ use Rattle.fw_settle.proofs.EachEdgeLaws.{IsAmong, zip-edges, zip-fronts, fronts
 -- ---- what traces tell
 
 -- the traces of a node that takes checkpoints are thinned inside a base that a frontier holds which holds what is settled
-pub within-front : (sys : System) (state : Machine) (p : ℕ) (f : Front) (traces : Traces) → takes_checkpoints (policy_of sys.flow p) ≡ true
-    → Within (family_of sys.flow state.settled p) (node_frontier sys.flow p f) → IsTraceIn sys state p traces → IsTraceWithin sys (events state.history) p f traces
-within-front sys state p f traces takes within t = record {
+pub within-front : (sys : System) (floor : List Front) (state : Machine) (p : ℕ) (f : Front) (traces : Traces) → takes_checkpoints (policy_of sys.flow p) ≡ true
+    → Within (family_of sys.flow state.settled p) (node_frontier sys.flow p f) → IsTraceIn sys floor state p traces → IsTraceWithin true sys (events state.history) p f traces
+within-front sys floor state p f traces takes within t = record {
   base = family_of sys.flow state.settled p;
   within = within;
-  trace = subst (λ base. IsTraceOf sys (events state.history) p base traces) (base-settled sys state p takes) t;
+  trace = subst (λ whole. IsTraceIf whole sys (events state.history) p (family_of sys.flow state.settled p) traces) takes
+      (subst (λ base. IsTraceOf sys (events state.history) p base traces) (base-settled sys floor state p takes) t);
 }
 
 no-notices : (k : Kind) (p : Policy) → takes_checkpoints p ≡ true → takes_its_notices k p ≡ false
@@ -53,7 +54,7 @@ no-notices k policy.Full e = refl
 -- ---- what is recorded
 
 delivered-counts : (sys : System) (state : Machine) (p : ℕ) (f : Front) (traces : Traces) → IsWellFormedSystem sys → IsReached sys state
-    → way_of sys.flow p ≡ Checkpoints → IsTraceWithin sys (events state.history) p f traces
+    → way_of sys.flow p ≡ Checkpoints → IsTraceWithin true sys (events state.history) p f traces
     → AllByRecursion (λ d. (front : Front) → IsCoverDelivered sys.flow traces f d front
     → IsFrontOf (bounds_of sys.flow (receiver sys.flow d)) front ((covers_in sys state).delivered d (At f))) (in_edges sys.flow p)
 delivered-counts sys state p f traces w r way t =
@@ -65,10 +66,10 @@ delivered-counts sys state p f traces w r way t =
     subst (IsFrontOf (bounds_of sys.flow q) front)
     (sym (cond-false (takes_its_cut (way_of sys.flow q)) (node_frontier sys.flow q f) ((tallies_in sys state).delivered d (At f)) (ap takes_its_cut its)))
     (told sys (events state.history) refl (has_epochs sys w) (reached-legal sys state w r)
-    (subst (λ n. IsTraceWithin sys (events state.history) n f traces) (sym e) t)))
+    (subst (λ n. IsTraceWithin true sys (events state.history) n f traces) (sym e) t)))
 
 discarded-counts : (sys : System) (state : Machine) (p : ℕ) (f : Front) (traces : Traces) → IsWellFormedSystem sys → IsReached sys state
-    → way_of sys.flow p ≡ Checkpoints → IsTraceWithin sys (events state.history) p f traces
+    → way_of sys.flow p ≡ Checkpoints → IsTraceWithin true sys (events state.history) p f traces
     → AllByRecursion (λ e. (front : Front) → IsDiscarded sys.flow traces f (can_resend (policy_of sys.flow p)) e front
     → IsFrontOf (bounds_of sys.flow (receiver sys.flow e)) front ((covers_in sys state).discarded e (At f))) (out_edges sys.flow p)
 discarded-counts sys state p f traces w r way t =
@@ -92,10 +93,10 @@ discarded-counts sys state p f traces w r way t =
         (sym (cond-false (can_resend (policy_of sys.flow q)) nothing (discarded_at sys.flow e (way_of sys.flow q) sent f) (ap (λ n. can_resend (policy_of sys.flow n)) s ∙ k)
         ∙ ap (λ (way : Restoring). discarded_at sys.flow e way sent f) (ap (way_of sys.flow) s ∙ way)))
         (told sys (events state.history) refl (has_epochs sys w) (reached-legal sys state w r)
-        (subst (λ n. IsTraceWithin sys (events state.history) n f traces) (sym s) t))
+        (subst (λ n. IsTraceWithin true sys (events state.history) n f traces) (sym s) t))
 
 pub recorded-at : (sys : System) (state : Machine) (p : ℕ) (f : Front) (traces : Traces) (r : Recorded) → IsWellFormedSystem sys → IsReached sys state
-    → takes_checkpoints (policy_of sys.flow p) ≡ true → IsCanonical (bounds_of sys.flow p) f → IsTraceWithin sys (events state.history) p f traces
+    → takes_checkpoints (policy_of sys.flow p) ≡ true → IsCanonical (bounds_of sys.flow p) f → IsTraceWithin true sys (events state.history) p f traces
     → IsRecordedAt sys.flow traces p f r → IsRecorded sys state p f r
 recorded-at sys state p f traces r w reached takes c t i =
     let flow = sys.flow in

@@ -70,7 +70,7 @@ made-so sys running state p f c can made =
       recorded = subst (λ flow. IsRecordedAt flow running.traces p f c.recorded) can.flow made.recorded;
       totals = subst (λ flow. AreTotalsAt flow (table_of running p) p f (totals_in c.state.entries)) can.flow made.state.totals;
       sent = told sys (events state.history) refl (has_epochs sys can.well_formed) (reached-legal sys state can.well_formed can.reached)
-          (within-front sys state p f running.traces can.takes can.settled can.traces) (ap (λ b. b || is_sequence_kind (kind_of sys.flow p)) can.takes);
+          (within-front sys can.floor state p f running.traces can.takes can.settled can.traces) (ap (λ b. b || is_sequence_kind (kind_of sys.flow p)) can.takes);
       sends = subst (λ flow. AreSendsAt (is_sequence_kind (kind_of flow p)) f (sent_of running.progress.counts p) c.state.sends) can.flow made.state.sends;
       log = subst (λ flow. IsLogAt flow (log_at running) p f c.log) can.flow made.log;
     }
@@ -83,7 +83,7 @@ made-for sys running state p f c can made =
     let flow = sys.flow in
     let l = takes-declared flow p can.takes in
     let so = made-so sys running state p f c can made in
-    let t = within-front sys state p f running.traces can.takes can.settled can.traces in
+    let t = within-front sys can.floor state p f running.traces can.takes can.settled can.traces in
     let way : way_of flow p ≡ Checkpoints = takes-restoring (kind_of flow p) (policy_of flow p) (w.flow.policies p l) can.takes in
     let sent = sent-within sys state p f c.state.sent so.sent in
     let k = kind_of flow p in
@@ -93,7 +93,7 @@ made-for sys running state p f c can made =
       in_each = zip-edges (IsCoverDelivered flow running.traces f) (in_edges flow p) c.recorded.delivered so.recorded.delivered;
       out_each = zip-edges (IsDiscarded flow running.traces f (can_resend (policy_of flow p))) (out_edges flow p) c.recorded.discarded so.recorded.discarded;
       table = record {
-        totals = totals-are sys state p f way can.live can.settled (table_of running p) can.table (totals_in c.state.entries) so.totals;
+        totals = totals-are sys state w can.reached p f way can.live can.settled (table_of running p) can.table (totals_in c.state.entries) so.totals;
         sent = λ is. sent ∙ numbered-within sys state w can.reached p f is;
       };
       sent = sent;

@@ -2,8 +2,9 @@
 use Rattle.std.proofs.Common.{◌≡◌, ℕ, ◌<◌, Bool, true, false, not, cond, ◌&&◌, List, [], ◌++◌, filter, map, length, get_or, refl, sym, ap, subst, ◌∙◌, inl, inr, arith}
 use Rattle.std.specs.List.{AllByRecursion, range_with_len}
 use Rattle.std.specs.Prelude.{Option, Some, None, Ok, Err, nat_lt}
-use Rattle.std.proofs.lemmas.Bool.{and_parts, both_ways, cases_Bool, cases_lt, lt-ltb}
+use Rattle.std.proofs.lemmas.Bool.{and_from, and_parts, and_right, both_ways, cases_Bool, cases_lt, lt-ltb, not-true, not-false}
 use Rattle.std.proofs.lemmas.List.{get_or_past}
+use Rattle.fw_lemmas.proofs.Bools.{first_holds, second_holds, two_ways}
 use Rattle.std.proofs.lemmas.List.FromFn.{get_or-map-range_with_len, length-map-range_with_len}
 use Rattle.fw_lemmas.proofs.Each.{each-weaker}
 use Rattle.fw_time.specs.Stamp.{in_domain, leq}
@@ -15,10 +16,12 @@ use Rattle.fw_frontier.proofs.Pairs.{excluding_pairs}
 use Rattle.fw_frontier.proofs.CanonicalLaws.{in_domain-canonical}
 use Rattle.fw_frontier.proofs.NamesLaws.{names-join, names-join_sides}
 use Rattle.fw_flow.specs.declared.step.Step.TheVariants.{Progress as ProgressStep}
-use Rattle.fw_flow.specs.Dataflow.{System, policy_of, bounds_of, node_ids}
+use Rattle.fw_flow.specs.declared.kind.Policy.{Policy}
+use Rattle.fw_flow.specs.declared.kind.Policy.TheVariants as policy
+use Rattle.fw_flow.specs.Dataflow.{System, kind_of, policy_of, bounds_of, node_ids}
 use Rattle.fw_model.specs.History.{IsComplete}
 use Rattle.fw_model.specs.Machine.{Machine, events, family_of, front_of, AreCanonical}
-use Rattle.fw_model.specs.Steps.{GrowsTo, LeadsTo, did, idle, silent, eager_writes}
+use Rattle.fw_model.specs.Steps.{GrowsTo, LeadsTo, did, idle, silent, eager_writes, is_asked_for_checkpoints, is_eager}
 use Rattle.fw_model.specs.Writes.{takes_checkpoints}
 use Rattle.fw_node.specs.declared.node.Node.{Node}
 use Rattle.fw_keep.specs.Catalogue.{KeepState}
@@ -26,12 +29,14 @@ use Rattle.fw_keep.specs.Stored.{Records}
 use Rattle.fw_progress.specs.Settle.{has_more, AreGrownBefore}
 use Rattle.fw_progress.proofs.SettleLaws.{in_turn-settled}
 use Rattle.fw_stands.specs.Settling.{settled_state, AreSettledAt}
-use Rattle.fw_stands.specs.Parts.{IsTableIn}
+use Rattle.fw_stands.specs.Parts.{settles_with_checkpoints, sums_up, IsTableIn}
 use Rattle.fw_stands.specs.Written.{AreEntriesOf, AreStored, uncollected}
 use Rattle.fw_stands.proofs.AtReached.{reached-next}
 use Rattle.fw_stands.proofs.EntrySteps.{entries_after_asking, records_after_asking, progress_asks}
 use Rattle.fw_stands.proofs.KeptLaws.{no_more-idle}
-use Rattle.fw_stands.proofs.SettlingLaws.{settled_tables-stand, ungrown_tables-stay, no_tables-stay, all_settled_traces-stand, progress-keeps}
+use Rattle.fw_stands.proofs.NodeCheckpoints.{asks_at_progress}
+use Rattle.fw_stands.proofs.SettlingLaws.{settled_tables-stand, unsettled_tables-stay, no_tables-stay, all_settled_traces-stand, progress-keeps}
+use Rattle.fw_running.proofs.KnownTraces.{knows-next}
 use Rattle.fw_running.specs.declared.fault.EngineFault.{EngineFault}
 use Rattle.fw_running.specs.declared.running.Running.{Running}
 use Rattle.fw_running.specs.declared.stepped.Effect.TheVariants.{Quiet}
@@ -45,8 +50,9 @@ use Rattle.fw_running.specs.Shaped.{IsShaped}
 use Rattle.fw_running.specs.Stands.{Stands}
 use Rattle.fw_running.specs.Steps.{Follows, TakesStep, IsStepEnabled, IsUndamaged}
 use Rattle.fw_settle.proofs.SettleLaws.{past-grows}
-use Rattle.fw_settle.proofs.WritesLaws.{kept-stands}
-use Rattle.fw_settle.specs.Settling.{grows, NoneGrowsIn, IsNextToSettle, KeepsEntries, HaveAsked, settled_into, ChangesSettled, IsTableSettled, settles_traces, HaveSettled, Progresses}
+use Rattle.fw_settle.proofs.AskLaws.{asks-grows}
+use Rattle.fw_settle.proofs.WritesLaws.{kept-stands, when_asked-with}
+use Rattle.fw_settle.specs.Settling.{grows, NoneGrowsIn, IsNextToSettle, KeepsEntries, HaveAsked, settled_into, ChangesSettled, IsTableSettled, settles_table, settles_traces, settles_when_asked, HaveSettled, Progresses}
 
 -- ---- what is settled
 
@@ -75,13 +81,63 @@ settled-to sys state mid records settled p s shaped complete l is g =
 
 -- a table that is settled, or that is not there, is that of the next state
 table-settles : (sys : System) (mid : Running) (records : Option Records) (state : Machine) (settled : List Front) (p : ℕ) (old new : Option Node) → Stands sys mid records state
-    → GrowsTo sys state (family_of sys.flow mid.progress.kept) settled → p < length sys.flow.nodes → IsTableSettled sys.flow p (front_of settled p) old new
+    → GrowsTo sys state (family_of sys.flow mid.progress.kept) settled → p < length sys.flow.nodes
+    → (settles_with_checkpoints sys.flow p ≡ true → asks_at_progress sys state settled p ≡ true) → IsTableSettled sys.flow p (front_of settled p) old new
     → IsTableIn sys state p old → IsTableIn sys (settled_state sys state settled) p new
-table-settles sys mid records state settled p None new s g l is t =
+table-settles sys mid records state settled p None new s g l asks is t =
     subst (IsTableIn sys (settled_state sys state settled) p) (sym is) (no_tables-stay sys state settled p t)
-table-settles sys mid records state settled p (Some old) None s g l is t = absurd is
-table-settles sys mid records state settled p (Some old) (Some new) s g l is t =
-    settled_tables-stand sys s.apart.well_formed state s.apart.reached (family_of sys.flow mid.progress.kept) settled g p l old new is t
+table-settles sys mid records state settled p (Some old) None s g l asks is t = absurd is
+table-settles sys mid records state settled p (Some old) (Some new) s g l asks is t =
+    settled_tables-stand sys s.apart.well_formed state s.apart.reached (family_of sys.flow mid.progress.kept) settled g p l asks old new is t
+
+-- a policy that takes checkpoints, and not when asked, is eager
+eager-else : (asks : Policy) (sums : Bool) → (takes_checkpoints asks && sums) ≡ true → not (is_asked_for_checkpoints asks && sums) ≡ true → is_eager asks ≡ true
+eager-else policy.None sums t n = absurd (two_ways false t refl)
+eager-else policy.Lazy sums t n = absurd (two_ways sums t (not-true sums n))
+eager-else policy.Logged sums t n = absurd (two_ways sums t (not-true sums n))
+eager-else policy.Eager sums t n = refl
+eager-else policy.Full sums t n = absurd (two_ways false t refl)
+
+-- and one that takes them when asked is not
+not_eager : (asks : Policy) (sums : Bool) → not (is_asked_for_checkpoints asks && sums) ≡ false → is_eager asks ≡ false
+not_eager policy.Eager sums n = absurd (two_ways true refl n)
+not_eager asks sums n = refl
+
+-- a table that settles at progress, and settles with the checkpoints, is that of a node that asks one then
+settling-asks : (sys : System) (state : Machine) (settled : List Front) (mid : Running) (before : Option Records) → Stands sys mid before state
+    → GrowsTo sys state (family_of sys.flow mid.progress.kept) settled → (p : ℕ) → p < length sys.flow.nodes → settles_table mid p ≡ true
+    → settles_with_checkpoints sys.flow p ≡ true → asks_at_progress sys state settled p ≡ true
+settling-asks sys state settled mid before s g p l is with_these =
+    let grown = first_holds (grows mid p) (not (settles_when_asked mid.flow p)) is in
+    let now = second_holds (grows mid p) (not (settles_when_asked mid.flow p)) is in
+    asks-grows sys state settled mid before s g p l
+    ∙ and_from (is_eager (policy_of sys.flow p)) (grows mid p)
+    (eager-else (policy_of sys.flow p) (sums_up (kind_of sys.flow p)) with_these (ap (λ f. not (settles_when_asked f p)) (sym s.apart.flow) ∙ now)) grown
+
+-- and of a node whose table does not settle then none is asked
+waiting-asks_none : (sys : System) (state : Machine) (settled : List Front) (mid : Running) (before : Option Records) → Stands sys mid before state
+    → GrowsTo sys state (family_of sys.flow mid.progress.kept) settled → (p : ℕ) → p < length sys.flow.nodes → settles_table mid p ≡ false
+    → asks_at_progress sys state settled p ≡ false
+waiting-asks_none sys state settled mid before s g p l isnt =
+    asks-grows sys state settled mid before s g p l ∙ elim (cases_Bool (grows mid p)) [
+      | inl is ↦
+          let waits : not (settles_when_asked mid.flow p) ≡ false = sym (ap (λ b. b && not (settles_when_asked mid.flow p)) is) ∙ isnt in
+          ap (λ b. b && grows mid p)
+          (not_eager (policy_of sys.flow p) (sums_up (kind_of sys.flow p)) (ap (λ f. not (settles_when_asked f p)) (sym s.apart.flow) ∙ waits))
+      | inr none ↦ and_right (is_eager (policy_of sys.flow p)) (grows mid p) none
+    ]
+
+-- where it does not settle with the checkpoints, what is settled of its node is as it was
+waiting-same : (sys : System) (state : Machine) (settled : List Front) (mid : Running) (before : Option Records) → Stands sys mid before state
+    → ((p : ℕ) → grows mid p ≡ false → front_of settled p ≡ front_of state.settled p) → (p : ℕ) → settles_table mid p ≡ false
+    → settles_with_checkpoints sys.flow p ≡ false → front_of settled p ≡ front_of state.settled p
+waiting-same sys state settled mid before s same p isnt without = elim (cases_Bool (grows mid p)) [
+  | inl is ↦
+      let waits : not (settles_when_asked mid.flow p) ≡ false = sym (ap (λ b. b && not (settles_when_asked mid.flow p)) is) ∙ isnt in
+      let asked : settles_when_asked sys.flow p ≡ true = ap (λ f. settles_when_asked f p) (sym s.apart.flow) ∙ not-false (settles_when_asked mid.flow p) waits in
+      absurd (two_ways (settles_with_checkpoints sys.flow p) (when_asked-with (policy_of sys.flow p) (sums_up (kind_of sys.flow p)) asked) without)
+  | inr none ↦ same p none
+]
 
 -- ---- the next state
 
@@ -106,12 +162,14 @@ settled-stands sys state mid new keep before after s shaped to h u entries store
         failed = s.apart.failed;
         low = s.apart.low;
         epochs = s.apart.epochs;
-        tables = λ p l. elim (cases_Bool (grows mid p)) [
+        tables = λ p l. elim (cases_Bool (settles_table mid p)) [
           | inl is ↦
-              table-settles sys mid before state settled p (table_of mid p) (table_of new p) s to.grown l
+              table-settles sys mid before state settled p (table_of mid p) (table_of new p) s to.grown l (settling-asks sys state settled mid before s to.grown p l is)
               (subst (λ f. IsTableSettled f p (front_of settled p) (table_of mid p) (table_of new p)) s.apart.flow (h.tables p l is)) (s.apart.tables p l)
           | inr isnt ↦
-              subst (IsTableIn sys next p) (sym (h.other_tables p (λ m. isnt))) (ungrown_tables-stay sys state settled p (table_of mid p) (to.same p isnt) (s.apart.tables p l))
+              subst (IsTableIn sys next p) (sym (h.other_tables p (λ m. isnt)))
+              (unsettled_tables-stay sys state settled p (table_of mid p) (λ k. waiting-asks_none sys state settled mid before s to.grown p l isnt)
+              (waiting-same sys state settled mid before s to.same p isnt) (s.apart.tables p l))
         ];
         queues = λ e l. s.apart.queues e l ∙ sym (k.queues e);
         logs = λ e l. s.apart.logs e l ∙ sym (k.logs e);
@@ -123,13 +181,13 @@ settled-stands sys state mid new keep before after s shaped to h u entries store
         entries = entries;
         stored = stored;
       };
-      traces = λ p l.
-          all_settled_traces-stand sys s.apart.well_formed state s.apart.reached (family_of sys.flow mid.progress.kept) settled to.grown (settles_traces mid n)
+      traces = knows-next sys state ProgressStep next silent mid.traces new.traces s.apart.well_formed s.apart.reached refl u s.traces (λ p l.
+          all_settled_traces-stand sys s.traces.floor s.apart.well_formed state s.apart.reached (family_of sys.flow mid.progress.kept) settled to.grown (settles_traces mid n)
           (λ q i.
           ap (λ f. takes_checkpoints (policy_of f q)) (sym s.apart.flow)
           ∙ (and_parts (grows mid q) (takes_checkpoints (policy_of mid.flow q)) (and_parts (nat_lt q n) (grows mid q && takes_checkpoints (policy_of mid.flow q)) i).1).1)
           (λ q i takes. to.same q (still q i (ap (λ f. takes_checkpoints (policy_of f q)) s.apart.flow ∙ takes)))
-          mid.traces new.traces (subst (λ f. AreSettledAt f (settles_traces mid n) settled mid.traces new.traces) s.apart.flow h.traces) p l (s.traces p l);
+          mid.traces new.traces (subst (λ f. AreSettledAt f (settles_traces mid n) settled mid.traces new.traces) s.apart.flow h.traces) p l);
       lost = λ p full t. (
         λ c. (k.lost p t).1 ((s.lost p full t).0 c),
         λ i. (s.lost p full t).1 ((k.lost p t).0 i),

@@ -4,13 +4,14 @@ use Rattle.std.specs.Prelude.{Some, nat_lt}
 use Rattle.std.proofs.lemmas.Bool.{and_from, both_ways, cases_Bool, cases_eq, cases_lt, eq-eqb, lt-ltb, ne_eqb}
 use Rattle.std.proofs.lemmas.Bool.Decides.{nat_tests}
 use Rattle.std.proofs.lemmas.List.{get_or_past, get_or-set_other, get_or-set_same}
+use Rattle.fw_lemmas.proofs.Bools.{first_holds, second_holds}
 use Rattle.fw_frontier.specs.Front.{Front}
 use Rattle.fw_flow.specs.Dataflow.{Dataflow, policy_of, node_frontier}
 use Rattle.fw_model.specs.Machine.{front_of}
 use Rattle.fw_model.specs.Writes.{takes_checkpoints}
 use Rattle.fw_progress.specs.declared.traces.Traces.{Traces}
 use Rattle.fw_progress.specs.Settle.{has_more, IsGrownAt, AreGrownBefore}
-use Rattle.fw_progress.specs.Trace.{AreSettledTo, IsTraceOf, IsTraceWithin}
+use Rattle.fw_progress.specs.Trace.{AreSettledTo, IsTraceWithin, IsTraceIf}
 use Rattle.fw_progress.proofs.CutTraceLaws.{thinned-traces}
 use Rattle.fw_progress.proofs.SettleLaws.{none_settled-first, others-settle_nothing, one_more-settles}
 use Rattle.fw_stands.specs.Settling.{AreSettledAt}
@@ -19,7 +20,7 @@ use Rattle.fw_rollback.specs.Tables.{table_at}
 use Rattle.fw_running.specs.declared.running.Running.{Running}
 use Rattle.fw_running.specs.Kept.{table_of}
 use Rattle.fw_running.specs.Shaped.{IsShaped}
-use Rattle.fw_settle.specs.Settling.{grows, NoneGrowsIn, settled_into, ChangesSettled, IsTableSettled, SettlesTo, SettlesNothing, SettlesKept, settles_traces, HaveSettled}
+use Rattle.fw_settle.specs.Settling.{grows, NoneGrowsIn, settled_into, ChangesSettled, IsTableSettled, settles_when_asked, settles_table, SettlesTo, SettlesNothing, SettlesKept, settles_traces, HaveSettled}
 
 -- ---- which nodes
 
@@ -58,9 +59,9 @@ past-grows running shaped p l =
 pub other-fronts : (flow : Dataflow) (test : ℕ → Bool) (fronts other : List Front) (old new : Traces) → AreSettledAt flow test fronts old new
     → ((p : ℕ) → test p ≡ true → front_of other p ≡ front_of fronts p) → AreSettledAt flow test other old new
 other-fronts flow test fronts other old new a same = record {
-  here = λ p i sys h e d t.
-      let P : Front → Type 0 = λ f. IsTraceWithin sys h p f old → IsTraceOf sys h p (node_frontier flow p f) new in
-      subst P (sym (same p i)) (a.here p i sys h e d) t;
+  here = λ p i whole sys h e d t.
+      let P : Front → Type 0 = λ f. IsTraceWithin whole sys h p f old → IsTraceIf whole sys h p (node_frontier flow p f) new in
+      subst P (sym (same p i)) (a.here p i whole sys h e d) t;
   others = a.others;
 }
 
@@ -125,7 +126,9 @@ settled-skip old new p h isnt = record {
       (none-more old p p (none-empty old p) isnt) h.settled;
   tables = λ q l g. elim (cases_lt q p) [
     | inl k ↦ h.tables q k g
-    | inr k ↦ absurd (both_ways (grows old q) (subst (λ n. grows old n ≡ false) (let e : p ≡ q = omega (arith, k, l) in e) isnt) g)
+    | inr k ↦
+        absurd (both_ways (grows old q) (subst (λ n. grows old n ≡ false) (let e : p ≡ q = omega (arith, k, l) in e) isnt)
+        (first_holds (grows old q) (not (settles_when_asked old.flow q)) g))
   ];
   other_tables = λ q n. h.other_tables q (λ l. n (omega arith));
   traces = same_nodes-settled old.flow (settles_traces old p) (settles_traces old (p + 1))
@@ -163,6 +166,10 @@ settled-one old mid new p f h c there live grown s same =
     let apart : (q : ℕ) → q ≢ p → front_of new.progress.settled q ≡ front_of before q =
     λ q n. ap (λ fs. front_of fs q) s.settled ∙ get_or-set_other before p q f [] n in
     let table_before : table_of mid p ≡ table_of old p = h.other_tables p (λ l. absurd (omega (arith, l))) in
+    let others : (q : ℕ) → q ≢ p → table_of new q ≡ table_of mid q = λ q n. elim (cases_Bool (not (settles_when_asked mid.flow p))) [
+      | inl k ↦ (s.table.settles k).others q n
+      | inr k ↦ ap (λ ts. table_at ts q) (s.table.stays k)
+    ] in
     let traces_before = other-fronts flow (settles_traces old p) before new.progress.settled old.traces mid.traces h.traces
     (λ q i. apart q (λ e. both_ways (settles_traces old p q) (ap (settles_traces old p) e ∙ own-test old p) i)) in
     record {
@@ -173,14 +180,19 @@ settled-one old mid new p f h c there live grown s same =
             subst (λ n. IsTableSettled flow n (front_of new.progress.settled n) (table_of old n) (table_of new n)) (sym e)
             (subst (λ x. IsTableSettled flow p x (table_of old p) (table_of new p)) (sym here)
             (subst (λ t. IsTableSettled flow p f t (table_of new p)) table_before
-            (subst (λ w. IsTableSettled w p f (table_of mid p) (table_of new p)) same s.table.here)))
+            (subst (λ w. IsTableSettled w p f (table_of mid p) (table_of new p)) same
+            (s.table.settles (ap (λ w. not (settles_when_asked w p)) same ∙ ap (λ k. not (settles_when_asked flow k)) (sym e)
+            ∙ second_holds (grows old q) (not (settles_when_asked flow q)) g)).here)))
         | inr n ↦
             subst (λ x. IsTableSettled flow q x (table_of old q) (table_of new q)) (sym (apart q n))
-            (subst (IsTableSettled flow q (front_of before q) (table_of old q)) (sym (s.table.others q n)) (h.tables q (omega (arith, l, n)) g))
+            (subst (IsTableSettled flow q (front_of before q) (table_of old q)) (sym (others q n)) (h.tables q (omega (arith, l, n)) g))
       ];
       other_tables = λ q n. elim (cases_eq q p) [
-        | inl e ↦ absurd (both_ways (grows old q) (n (omega (arith, e))) (ap (grows old) e ∙ is))
-        | inr d ↦ s.table.others q d ∙ h.other_tables q (λ l. n (omega (arith, l)))
+        | inl e ↦
+            let waits : not (settles_when_asked mid.flow p) ≡ false =
+            ap (λ w. not (settles_when_asked w p)) same ∙ sym (ap (λ b. b && not (settles_when_asked flow p)) is) ∙ ap (settles_table old) (sym e) ∙ n (omega (arith, e)) in
+            ap (λ k. table_of new k) e ∙ ap (λ ts. table_at ts p) (s.table.stays waits) ∙ table_before ∙ ap (λ k. table_of old k) (sym e)
+        | inr d ↦ others q d ∙ h.other_tables q (λ l. n (omega (arith, l)))
       ];
       traces = elim (cases_Bool (takes_checkpoints (policy_of flow p))) [
         | inl takes ↦

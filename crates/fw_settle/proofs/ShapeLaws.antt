@@ -1,5 +1,5 @@
 -- What is kept fits the flow after each change of a step that settles or writes.
-use Rattle.std.proofs.Common.{◌≡◌, ◌≢◌, ℕ, ◌<◌, true, false, List, [], ◌∷◌, length, refl, sym, ap, subst, ◌∙◌, inl, inr, arith}
+use Rattle.std.proofs.Common.{◌≡◌, ◌≢◌, ℕ, ◌<◌, true, false, not, List, [], length, refl, sym, ap, subst, ◌∙◌, inl, inr, arith}
 use Rattle.std.specs.Prelude.{Option, Some, IfSome, Result, Ok, Err, OnOk, OnErr, slice_set}
 use Rattle.std.specs.List.{AllByRecursion, Contains}
 use Rattle.std.proofs.lemmas.Bool.{cases_eq, both_ways}
@@ -30,7 +30,7 @@ use Rattle.fw_running.specs.Ready.{CanAcknowledgeBy, HasGrownBy}
 use Rattle.fw_running.specs.ReadyState.{ReadyState}
 use Rattle.fw_running.specs.Shaped.{IsShaped, IsWrittenOf}
 use Rattle.fw_running.proofs.KeptShapes.{logs-fit, progress-fits, queues-fit, shaped-changed, shaped-keep as keep-shaped, shaped-standing, traces-fit}
-use Rattle.fw_settle.specs.Settling.{with_traces, IsTableSettled, SettlesTable, SettlesTraces, SettlesTo}
+use Rattle.fw_settle.specs.Settling.{with_traces, IsTableSettled, settles_when_asked, SettlesTableIf, SettlesTraces, SettlesTo}
 use Rattle.fw_settle.proofs.JoinLaws.{none-kept}
 
 -- what is kept with other tables and other traces fits the flow as before, where these do
@@ -153,7 +153,7 @@ shaped-out old ready p s e t none = subst (λ (r : ReadyState). IsShaped (record
 
 -- its table and its traces are settled to it
 pub settles-to : (old first second : Running) (progress : Standing) (ready : ReadyState) (p : ℕ) (f : Front) → first ≡ with_tables first.parts.tables old
-    → SettlesTable p f old first → second ≡ with_traces second.traces first → SettlesTraces p f first.flow first.traces second.traces
+    → SettlesTableIf (not (settles_when_asked old.flow p)) p f old first → second ≡ with_traces second.traces first → SettlesTraces p f first.flow first.traces second.traces
     → progress ≡ record second.progress { settled = slice_set second.progress.settled p f }
     → SettlesTo p f old (record second { progress = progress; ready = ready })
 settles-to old first second progress ready p f c table d traces e =
@@ -162,8 +162,13 @@ settles-to old first second progress ready p f c table d traces e =
     record {
       settled = ap (λ (x : Standing). x.settled) e ∙ ap (λ fs. slice_set fs p f) now;
       table = record {
-        here = subst (λ ts. IsTableSettled old.flow p f (table_at old.parts.tables p) (table_at ts p)) (sym tables) table.here;
-        others = λ q n. ap (λ ts. table_at ts q) tables ∙ table.others q n;
+        settles = λ is.
+            let t = table.settles is in
+            record {
+              here = subst (λ ts. IsTableSettled old.flow p f (table_at old.parts.tables p) (table_at ts p)) (sym tables) t.here;
+              others = λ q n. ap (λ ts. table_at ts q) tables ∙ t.others q n;
+            };
+        stays = λ isnt. tables ∙ table.stays isnt;
       };
       traces = subst (λ (r : Running). SettlesTraces p f r.flow r.traces second.traces) c traces;
     }

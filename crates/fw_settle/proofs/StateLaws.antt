@@ -34,9 +34,10 @@ use Rattle.fw_progress.specs.declared.counts.Counts.{Counts}
 use Rattle.fw_progress.specs.Counts.{sent_of}
 use Rattle.fw_progress.specs.History.{IsCountOf}
 use Rattle.fw_policy.specs.Entries.{sent_by_node}
-use Rattle.fw_stands.specs.Parts.{has_table, IsTableIn}
+use Rattle.fw_stands.specs.Parts.{has_table, table_base, IsTableIn}
 use Rattle.fw_stands.specs.Written.{events_within, count_within, told_inside}
 use Rattle.fw_stands.proofs.AtReached.{reached-legal}
+use Rattle.fw_stands.proofs.TableBaseLaws.{base-within}
 use Rattle.fw_stands.proofs.RecoveredFacts.{legal-caused}
 use Rattle.fw_stands.proofs.RecoveredTables.{within-at}
 use Rattle.fw_settle.specs.Checkpoints.{AreTotalsAt, AreSendsOf}
@@ -60,11 +61,11 @@ table-there sys state p way live =
     ∙ ap (λ b. not (false || (false || b))) live
 
 -- what its table tells is what its events inside left
-totals-told : (sys : System) (state : Machine) (p : ℕ) (f : Front) → has_table sys state p ≡ true → Within (family_of sys.flow state.settled p) (node_frontier sys.flow p f)
+totals-told : (sys : System) (state : Machine) (p : ℕ) (f : Front) → has_table sys state p ≡ true → Within (table_base sys state p) (node_frontier sys.flow p f)
     → (table : Option Node) → IsTableIn sys state p table → (totals : List Rec) → AreTotalsAt sys.flow table p f totals
     → totals ≡ totals_kept (kind_of sys.flow p) (delivered_recs (λ d s. node_frontier sys.flow p f s) (events_at sys.flow p (events state.history)))
 totals-told sys state p f there within None t totals a = absurd (two_ways (has_table sys state p) there (sym t.there))
-totals-told sys state p f there within (Some node) t totals a = a (family_of sys.flow state.settled p) (events_at sys.flow p (events state.history)) within t.of_events
+totals-told sys state p f there within (Some node) t totals a = a (table_base sys state p) (events_at sys.flow p (events state.history)) within t.of_events
 
 recs-inside : (g : Frontier) (vs : List Event) → delivered_recs (λ d s. true) (events_inside g vs) ≡ delivered_recs (λ d s. g s) vs
 recs-inside g [] = refl
@@ -81,14 +82,14 @@ recs-inside g (Notify p t ∷ vs) =
     cond_both (g t) (Notify p t ∷ events_inside g vs) (events_inside g vs) (λ ws. delivered_recs (λ d s. true) ws ≡ delivered_recs (λ d s. g s) vs)
     (λ e. recs-inside g vs) (λ e. recs-inside g vs)
 
-pub totals-are : (sys : System) (state : Machine) (p : ℕ) (f : Front) → way_of sys.flow p ≡ Checkpoints → is_failed state p ≡ false
+pub totals-are : (sys : System) (state : Machine) → IsWellFormedSystem sys → IsReached sys state → (p : ℕ) (f : Front) → way_of sys.flow p ≡ Checkpoints → is_failed state p ≡ false
     → Within (family_of sys.flow state.settled p) (node_frontier sys.flow p f) → (table : Option Node) → IsTableIn sys state p table → (totals : List Rec)
     → AreTotalsAt sys.flow table p f totals
     → totals ≡ totals_kept (kind_of sys.flow p) (delivered_recs (λ d s. true) (events_at sys.flow p (events_within sys state p f)))
-totals-are sys state p f way live within table t totals a =
+totals-are sys state w r p f way live within table t totals a =
     let g = node_frontier sys.flow p f in
     let vs = events_at sys.flow p (events state.history) in
-    totals-told sys state p f (table-there sys state p way live) within table t totals a
+    totals-told sys state p f (table-there sys state p way live) (λ u i. within u (base-within sys w state r p u i)) table t totals a
     ∙ ap (totals_kept (kind_of sys.flow p)) (sym (recs-inside g vs) ∙ ap (delivered_recs (λ d s. true)) (sym (within-at sys state p f)))
 
 -- ---- how much it sent

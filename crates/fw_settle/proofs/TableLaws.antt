@@ -1,9 +1,10 @@
 -- The table of a node is settled.
-use Rattle.std.proofs.Common.{◌≡◌, ℕ, ◌<◌, Bool, true, List, length, set, sym, ap, subst, ◌∙◌, inl, inr, arith}
+use Rattle.std.proofs.Common.{◌≡◌, ℕ, ◌<◌, Bool, true, false, List, length, set, sym, ap, subst, ◌∙◌, inl, inr, arith}
 use Rattle.std.specs.Prelude.{Option, Some, None, IfSome, Result, Ok, Err, OnOk}
 use Rattle.std.proofs.lemmas.Bool.{cases_eq}
 use Rattle.std.proofs.lemmas.List.{get_or-set_other, get_or-set_same}
 use Rattle.std.proofs.Math.ListN.{length-set}
+use Rattle.fw_lemmas.proofs.Bools.{two_ways}
 use Rattle.fw_frontier.specs.Frontier.{Within}
 use Rattle.fw_frontier.specs.Front.{Front}
 use Rattle.fw_flow.specs.declared.event.Event.{Event}
@@ -16,7 +17,7 @@ use Rattle.fw_rollback.specs.Tables.{table_at}
 use Rattle.fw_running.specs.declared.running.Running.{Running}
 use Rattle.fw_running.specs.Kept.{table_of, with_tables}
 use Rattle.fw_running.specs.Shaped.{IsShaped}
-use Rattle.fw_settle.specs.Settling.{IsTableSettled, SettlesTable}
+use Rattle.fw_settle.specs.Settling.{IsTableSettled, SettlesTable, SettlesTableIf}
 use Rattle.fw_settle.proofs.ShapeLaws.{shaped-tables}
 
 -- the tables where one is another one, and both are of its node
@@ -68,6 +69,16 @@ no_table-settles p f old new none e = record {
   here = subst (λ o. IsTableSettled old.flow p f o (table_of new p)) (sym none) (ap (λ ts. table_at ts p) e ∙ none);
   others = λ q n. ap (λ ts. table_at ts q) e;
 }
+
+-- it settles where this is so
+pub settles-if : {E : Type 0} (result : Result (Unit {0}) E) (is_so : Bool) (p : ℕ) (f : Front) (old new : Running) → is_so ≡ true
+    → OnOk result (SettlesTable p f old new) → OnOk result (SettlesTableIf is_so p f old new)
+settles-if (Err e) is_so p f old new is t = tt
+settles-if (Ok x) is_so p f old new is t = record { settles = λ k. t; stays = λ isnt. absurd (two_ways is_so is isnt) }
+
+-- and else it stays
+pub stays-if : (is_so : Bool) (p : ℕ) (f : Front) (old new : Running) → is_so ≡ false → new.parts.tables ≡ old.parts.tables → SettlesTableIf is_so p f old new
+stays-if is_so p f old new isnt same = record { settles = λ is. absurd (two_ways is_so is isnt); stays = λ k. same }
 
 pub tables-there : (running : Running) (p : ℕ) → IsShaped running → p < length running.flow.nodes → p < length running.parts.tables
 tables-there running p s l = let each = s.one_each.parts.tables in omega (arith, each, l)

@@ -1,5 +1,5 @@
 -- Steps that change what is written alone: a checkpoint is asked, and a write is acknowledged.
-use Rattle.std.proofs.Common.{◌≡◌, ℕ, ◌<◌, ◌++◌, Bool, true, false, cond, List, [], ◌∷◌, length, Option, Some, None, refl, sym, ap, subst, ◌∙◌}
+use Rattle.std.proofs.Common.{◌≡◌, ℕ, ◌<◌, ◌++◌, ◌&&◌, Bool, true, false, cond, List, [], ◌∷◌, length, Option, Some, None, refl, sym, ap, subst, ◌∙◌, inl, inr}
 use Rattle.std.specs.List.{AllByRecursion}
 use Rattle.std.proofs.lemmas.Iterator.Adapters.{option_map_id}
 use Rattle.fw_frontier.specs.Frontier.{Within}
@@ -8,21 +8,26 @@ use Rattle.fw_flow.specs.declared.kind.Policy.{Policy}
 use Rattle.fw_flow.specs.declared.kind.Policy.TheVariants as policy
 use Rattle.fw_flow.specs.declared.step.Step.{Step}
 use Rattle.fw_flow.specs.declared.step.Step.TheVariants.{Checkpoint as CheckpointStep, Persist}
-use Rattle.fw_flow.specs.Dataflow.{System, policy_of, bounds_of, node_frontier}
-use Rattle.fw_model.specs.EventStamps.{AreStampsOf}
+use Rattle.fw_flow.specs.Dataflow.{System, kind_of, policy_of, bounds_of, node_frontier}
+use Rattle.fw_flow.specs.WellFormed.{IsWellFormedSystem}
+use Rattle.fw_model.specs.EventStamps.{AreStampsIf}
 use Rattle.fw_model.specs.Filtering.{events_inside}
 use Rattle.fw_model.specs.Machine.{Machine, Write, events, family_of, front_of, is_failed, no_stamps}
+use Rattle.fw_model.specs.Reached.{IsReached}
 use Rattle.fw_model.specs.Steps.{LeadsTo, did, idle, silent, checkpoint_of, last_or, is_asked_for_checkpoints}
 use Rattle.fw_model.specs.Writes.{takes_checkpoints}
 use Rattle.fw_model.proofs.AskedLaws.{takes-declared}
 use Rattle.fw_model.proofs.DomainLaws.{has_epochs}
 use Rattle.fw_record.specs.declared.record.Record.TheVariants as tagged
+use Rattle.fw_node.specs.declared.node.Node.{Node}
 use Rattle.fw_keep.specs.declared.entry.Entry.{Entry}
 use Rattle.fw_keep.specs.declared.entry.Written.{Written}
 use Rattle.fw_keep.specs.Catalogue.{KeepState, oldest, persisted}
 use Rattle.fw_keep.specs.Entry.{asked}
 use Rattle.fw_keep.specs.Stored.{Records}
 use Rattle.fw_stands.specs.Entries.{entry_fronts}
+use Rattle.fw_stands.specs.Parts.{settles_with_checkpoints, sums_up, IsTableIn}
+use Rattle.fw_stands.specs.Settling.{asked_state}
 use Rattle.fw_stands.specs.Written.{AreEntriesOf, AreStored, IsEntryOf, uncollected}
 use Rattle.fw_stands.proofs.AtReached.{reached-next, reached-legal, reached-settled}
 use Rattle.fw_stands.proofs.EntrySteps.{kept_bytes_are_stored, asked_entry_is_of_write, put_record_is_stored, entries_after_asking, records_after_asking, entries_after_persist, records_after_persist, persists_where_in_flight}
@@ -30,14 +35,18 @@ use Rattle.fw_stands.proofs.EntryViews.{takes_checkpoints_by_last_entry}
 use Rattle.fw_stands.proofs.FitLaws.{records_can_be_of_entries}
 use Rattle.fw_stands.proofs.LossLaws.{losses_stay}
 use Rattle.fw_stands.proofs.NumberLaws.{sender-there}
-use Rattle.fw_stands.proofs.StayingLaws.{writes-keep_parts}
+use Rattle.fw_stands.proofs.NodeCheckpoints.{checkpoints-acknowledged}
+use Rattle.fw_stands.proofs.SettlingLaws.{asked_tables-settle, unasked_tables-stay}
+use Rattle.fw_stands.proofs.StayingLaws.{writes-keep_parts, writes-keep_tables}
+use Rattle.fw_rollback.specs.Tables.{table_at}
+use Rattle.fw_running.proofs.KnownTraces.{knows-next}
 use Rattle.fw_running.proofs.SameStateLaws.{down-failed, idle-follows, keep-stands}
-use Rattle.std.proofs.lemmas.Bool.{cond_both}
-use Rattle.fw_lemmas.proofs.Bools.{two_ways}
+use Rattle.std.proofs.lemmas.Bool.{and_right, cases_Bool, cases_eq, cond_both}
+use Rattle.fw_lemmas.proofs.Bools.{first_holds, second_holds, two_ways}
 use Rattle.fw_running.specs.declared.running.Running.{Running}
 use Rattle.fw_settle.specs.Checkpoints.{AsksCheckpoint, CanBeMadeAt, MayTakeCheckpoint}
-use Rattle.fw_settle.specs.Settling.{KeepsEntries}
-use Rattle.fw_running.specs.Kept.{table_of, source_of}
+use Rattle.fw_settle.specs.Settling.{settles_when_asked, IsTableSettled, KeepsEntries, SettlesTableIf}
+use Rattle.fw_running.specs.Kept.{table_of, source_of, with_tables}
 use Rattle.fw_running.specs.Logging.{with_keep, ChangesKeep}
 use Rattle.fw_running.specs.Shaped.{IsShaped, IsWrittenOf}
 use Rattle.fw_running.specs.Stands.{Stands}
@@ -48,13 +57,14 @@ use Rattle.fw_settle.proofs.ShapeLaws.{shaped-keep}
 
 -- ---- other writes
 
--- where the writes alone are other ones, and entries and records stand for them, the engine stands for the state with them
-pub writes-stand : (sys : System) (old : Running) (keep : KeepState) (before after : Option Records) (state : Machine) (writes : List Write) (step : Step)
+-- where the writes alone are other ones, and tables, entries and records stand for the state with them, the engine stands for it
+pub writes-stand : (sys : System) (old : Running) (keep : KeepState) (tables : List (Option Node)) (before after : Option Records) (state : Machine) (writes : List Write) (step : Step)
     → Stands sys old before state → LeadsTo sys state step (record state { writes = writes }) silent
+    → ((p : ℕ) → p < length sys.flow.nodes → IsTableIn sys (record state { writes = writes }) p (table_at tables p))
     → AreEntriesOf sys (record state { writes = writes }) keep.entries (uncollected (record state { writes = writes }))
     → AreStored sys (record state { writes = writes }) after keep.entries (uncollected (record state { writes = writes }))
-    → Stands sys (with_keep keep old) after (record state { writes = writes })
-writes-stand sys old keep before after state writes step s t entries stored =
+    → Stands sys (with_tables tables (with_keep keep old)) after (record state { writes = writes })
+writes-stand sys old keep tables before after state writes step s t stand entries stored =
     let next : Machine = record state { writes = writes } in
     let k = writes-keep_parts sys state writes in
     record {
@@ -66,7 +76,7 @@ writes-stand sys old keep before after state writes step s t entries stored =
         failed = s.apart.failed;
         low = s.apart.low;
         epochs = s.apart.epochs;
-        tables = λ p l. k.tables p (table_of old p) (s.apart.tables p l);
+        tables = stand;
         queues = λ e l. s.apart.queues e l ∙ sym (k.queues e);
         logs = λ e l. s.apart.logs e l ∙ sym (k.logs e);
         outputs = λ o l out.
@@ -77,7 +87,7 @@ writes-stand sys old keep before after state writes step s t entries stored =
         entries = entries;
         stored = stored;
       };
-      traces = λ p l. k.traces p old.traces (s.traces p l);
+      traces = knows-next sys state step next silent old.traces old.traces s.apart.well_formed s.apart.reached refl t s.traces (λ p l. k.traces s.traces.floor p old.traces);
       lost = λ p full u. (
         λ i. let l = (s.lost p full u).0 i in (losses_stay sys s.apart.well_formed state s.apart.reached step next silent t p l.0 l.0 u).1 l,
         λ i. (s.lost p full u).1 ((losses_stay sys s.apart.well_formed state s.apart.reached step next silent t p i.0 i.0 u).0 i),
@@ -115,7 +125,8 @@ persist-some sys state old records s id is =
     record {
       next = next;
       steps = u;
-      stands = writes-stand sys old (record old.parts.keep { entries = persisted entries }) records records state t.0 Persist s u
+      stands = writes-stand sys old (record old.parts.keep { entries = persisted entries }) old.parts.tables records records state t.0 Persist s u
+          (λ p l. writes-keep_tables sys state t.0 (λ q. checkpoints-acknowledged q state.writes t.0 t.1) p (table_of old p) (s.apart.tables p l))
           (entries_after_persist sys s.apart.well_formed state s.apart.reached next silent u entries s.apart.entries)
           (records_after_persist sys s.apart.well_formed state s.apart.reached next silent u entries s.apart.entries records s.apart.stored);
     }
@@ -151,7 +162,8 @@ can-be_made sys old records state s p f takes live c within =
       settled = within;
       table = s.apart.tables p l;
       logs = λ e k. s.apart.logs e (sender-there sys.flow p e l k);
-      traces = s.traces p l;
+      floor = s.traces.floor;
+      traces = s.traces.each p l;
       counts = s.apart.progress.counts;
     }
 
@@ -161,9 +173,9 @@ pub asked-entry : (sys : System) (old new : Running) (before after : Option Reco
 asked-entry sys old new before after state p f can a =
     let h = events state.history in
     asked_entry_is_of_write sys state (checkpoint_of state p f) refl refl refl a.asked.id (tagged.State a.checkpoint) a.stamps (made-for sys old state p f a.checkpoint can a.made)
-    (subst (λ flow. AreStampsOf sys (events_inside (node_frontier flow p f) h) p (node_frontier flow p f) a.stamps) can.flow
+    (subst (λ flow. AreStampsIf true sys (events_inside (node_frontier flow p f) h) p (node_frontier flow p f) a.stamps) can.flow
     (a.held sys h (sym can.flow) (has_epochs sys can.well_formed) (reached-legal sys state can.well_formed can.reached)
-    (within-front sys state p f old.traces can.takes can.settled can.traces)))
+    (within-front sys can.floor state p f old.traces can.takes can.settled can.traces)))
 
 -- and its record is stored with those of the other writes
 pub asked-stored : (sys : System) (old new : Running) (before after : Option Records) (state : Machine) (p : ℕ) (f : Front) → CanBeMadeAt sys old state p f
@@ -197,11 +209,53 @@ pub checkpoint-enabled : (sys : System) (state : Machine) (old : Running) (recor
     → (p : ℕ) → MayTakeCheckpoint old p → IsStepEnabled sys state (CheckpointStep p)
 checkpoint-enabled sys state old records s p m = let e = checkpoint-leads sys state old records s p m in (e.0, silent, e.1)
 
--- a node that takes a checkpoint, as the machine does, follows it
-pub checkpoint-follows : (sys : System) (state : Machine) (old new : Running) (before after : Option Records) → Stands sys old before state → ChangesKeep old new
+-- ---- the table of a node that asks a checkpoint
+
+-- a table that settles where a checkpoint is asked settles with the checkpoints
+pub when_asked-with : (asks : Policy) (sums : Bool) → (is_asked_for_checkpoints asks && sums) ≡ true → (takes_checkpoints asks && sums) ≡ true
+when_asked-with asks true k = ap (λ b. b && true) (asked-takes asks (first_holds (is_asked_for_checkpoints asks) true k))
+when_asked-with asks false k = absurd (two_ways false (second_holds (is_asked_for_checkpoints asks) false k) refl)
+
+-- of a node that takes checkpoints when asked no other table does
+without-sums : (asks : Policy) (sums : Bool) → is_asked_for_checkpoints asks ≡ true → (is_asked_for_checkpoints asks && sums) ≡ false → (takes_checkpoints asks && sums) ≡ false
+without-sums asks sums k n = and_right (takes_checkpoints asks) sums (sym (ap (λ b. b && sums) k) ∙ n)
+
+table-settled : (sys : System) → IsWellFormedSystem sys → (state : Machine) → IsReached sys state → (p : ℕ) → settles_with_checkpoints sys.flow p ≡ true
+    → (old new : Option Node) → IsTableSettled sys.flow p (front_of state.settled p) old new → IsTableIn sys state p old → IsTableIn sys (asked_state state p) p new
+table-settled sys w state r p is None new t i = subst (IsTableIn sys (asked_state state p) p) (sym t) (record { there = i.there; of_events = tt })
+table-settled sys w state r p is (Some old) None t i = absurd t
+table-settled sys w state r p is (Some old) (Some new) t i = asked_tables-settle sys w state r p is old new t i
+
+-- where it settles then, if it does, the tables are those of the state in which the checkpoint was asked
+asked-tables : (sys : System) (state : Machine) (old mid new : Running) (records : Option Records) → Stands sys old records state → ChangesKeep old mid
+    → (p : ℕ) → is_asked_for_checkpoints (policy_of sys.flow p) ≡ true → SettlesTableIf (settles_when_asked sys.flow p) p (front_of state.settled p) mid new
+    → (q : ℕ) → q < length sys.flow.nodes → IsTableIn sys (asked_state state p) q (table_of new q)
+asked-tables sys state old mid new records s changes p asks t q l =
+    let was : (k : ℕ) → table_of mid k ≡ table_of old k = λ k. ap (λ (r : Running). table_of r k) changes in
+    let stays : (p ≡ q → settles_with_checkpoints sys.flow q ≡ false) → table_of new q ≡ table_of mid q → IsTableIn sys (asked_state state p) q (table_of new q) =
+    λ other same. subst (IsTableIn sys (asked_state state p) q) (sym (same ∙ was q)) (unasked_tables-stay sys state p q (table_of old q) other (s.apart.tables q l)) in
+    elim (cases_Bool (settles_when_asked sys.flow p)) [
+      | inl is ↦ elim (cases_eq q p) [
+        | inl same ↦
+            let here = (t.settles is).here in
+            subst (λ k. IsTableIn sys (asked_state state p) k (table_of new k)) (sym same)
+            (table-settled sys s.apart.well_formed state s.apart.reached p (when_asked-with (policy_of sys.flow p) (sums_up (kind_of sys.flow p)) is) (table_of old p) (table_of new p)
+            (subst (λ o. IsTableSettled sys.flow p (front_of state.settled p) o (table_of new p)) (was p)
+            (subst (λ f. IsTableSettled f p (front_of state.settled p) (table_of mid p) (table_of new p)) (ap (λ (r : Running). r.flow) changes ∙ s.apart.flow) here))
+            (subst (λ k. IsTableIn sys state k (table_of old k)) same (s.apart.tables q l)))
+        | inr other ↦ stays (λ e. absurd (other (sym e))) ((t.settles is).others q other)
+      ]
+      | inr isnt ↦
+          stays (λ e. subst (λ k. settles_with_checkpoints sys.flow k ≡ false) e (without-sums (policy_of sys.flow p) (sums_up (kind_of sys.flow p)) asks isnt))
+          (ap (λ ts. table_at ts q) (t.stays isnt))
+    ]
+
+-- a node that takes a checkpoint, as the machine does, and whose table settles then, if it waited for it, follows it
+pub checkpoint-follows : (sys : System) (state : Machine) (old mid new : Running) (before after : Option Records) → Stands sys old before state → ChangesKeep old mid
     → (p : ℕ) → ((next : Machine) × LeadsTo sys state (CheckpointStep p) next silent)
-    → AsksCheckpoint p (front_of state.settled p) old new before after → Follows sys state (CheckpointStep p) (did silent) new after
-checkpoint-follows sys state old new before after s changes p e a =
+    → AsksCheckpoint p (front_of state.settled p) old mid before after → new ≡ with_tables new.parts.tables mid
+    → SettlesTableIf (settles_when_asked sys.flow p) p (front_of state.settled p) mid new → Follows sys state (CheckpointStep p) (did silent) new after
+checkpoint-follows sys state old mid new before after s changes p e a tables settles =
     let f = front_of state.settled p in
     let t = e.1 in
     let takes = asked-takes (policy_of sys.flow p) t.0 in
@@ -213,27 +267,31 @@ checkpoint-follows sys state old new before after s changes p e a =
     let can = can-be_made sys old before state s p f takes t.1 (reached-settled sys state s.apart.well_formed s.apart.reached p l) (λ v i. i) in
     let more = checkpoint_of state p f ∷ [] in
     let entry = asked a.asked.id (tagged.State a.checkpoint) a.stamps in
-    let held : AreEntriesOf sys next new.parts.keep.entries (uncollected next) =
+    let held : AreEntriesOf sys next mid.parts.keep.entries (uncollected next) =
     subst (λ es. AreEntriesOf sys next es (uncollected next)) (sym a.asked.entries)
     (entries_after_asking sys s.apart.well_formed state s.apart.reached (CheckpointStep p) next silent u more refl (refl, tt) entries (entry ∷ []) s.apart.entries
-    (asked-entry sys old new before after state p f can a, tt)) in
-    let stored : AreStored sys next after new.parts.keep.entries (uncollected next) =
+    (asked-entry sys old mid before after state p f can a, tt)) in
+    let stored : AreStored sys next after mid.parts.keep.entries (uncollected next) =
     subst (λ es. AreStored sys next after es (uncollected next)) (sym a.asked.entries)
     (records_after_asking sys s.apart.well_formed state s.apart.reached (CheckpointStep p) next silent u more refl (refl, tt) entries (entry ∷ []) after
-    (subst (λ es. AreStored sys state after es (uncollected state ++ more)) a.asked.entries (asked-stored sys old new before after state p f can a (uncollected state) s.apart.stored))) in
+    (subst (λ es. AreStored sys state after es (uncollected state ++ more)) a.asked.entries (asked-stored sys old mid before after state p f can a (uncollected state) s.apart.stored))) in
     record {
       next = next;
       steps = u;
-      stands = subst (λ r. Stands sys r after next) (sym changes) (writes-stand sys old new.parts.keep before after state writes (CheckpointStep p) s u held stored);
+      stands = subst (λ r. Stands sys r after next) (sym (tables ∙ ap (with_tables new.parts.tables) changes))
+          (writes-stand sys old mid.parts.keep new.parts.tables before after state writes (CheckpointStep p) s u
+          (asked-tables sys state old mid new before s changes p t.0 settles) held stored);
     }
 
 -- so it does where the engine says that it may
-pub may-follows : (sys : System) (state : Machine) (old new : Running) (before after : Option Records) → Stands sys old before state → ChangesKeep old new
-    → (p : ℕ) → MayTakeCheckpoint old p → AsksCheckpoint p (front_of old.progress.settled p) old new before after
-    → Follows sys state (CheckpointStep p) (did silent) new after
-may-follows sys state old new before after s c p m a =
-    checkpoint-follows sys state old new before after s c p (checkpoint-leads sys state old before s p m)
-    (subst (λ fs. AsksCheckpoint p (front_of fs p) old new before after) s.apart.settled a)
+pub may-follows : (sys : System) (state : Machine) (old mid new : Running) (before after : Option Records) → Stands sys old before state → ChangesKeep old mid
+    → (p : ℕ) → MayTakeCheckpoint old p → AsksCheckpoint p (front_of old.progress.settled p) old mid before after → new ≡ with_tables new.parts.tables mid
+    → SettlesTableIf (settles_when_asked mid.flow p) p (front_of old.progress.settled p) mid new → Follows sys state (CheckpointStep p) (did silent) new after
+may-follows sys state old mid new before after s c p m a tables settles =
+    checkpoint-follows sys state old mid new before after s c p (checkpoint-leads sys state old before s p m)
+    (subst (λ fs. AsksCheckpoint p (front_of fs p) old mid before after) s.apart.settled a) tables
+    (subst (λ fs. SettlesTableIf (settles_when_asked sys.flow p) p (front_of fs p) mid new) s.apart.settled
+    (subst (λ f. SettlesTableIf (settles_when_asked f p) p (front_of old.progress.settled p) mid new) (ap (λ (r : Running). r.flow) c ∙ s.apart.flow) settles))
 
 -- and else nothing happens
 pub may_not-idle : (sys : System) (state : Machine) (old : Running) (records : Option Records) → Stands sys old records state

@@ -20,7 +20,7 @@ use Rattle.fw_flow.specs.Projection.{sent_count, table_count}
 use Rattle.fw_flow.specs.Restoring.{can_resend}
 use Rattle.fw_flow.specs.SentTable.{EpochsAscend}
 use Rattle.fw_flow.specs.WellFormed.{IsWellFormedSystem}
-use Rattle.fw_model.specs.EventStamps.{AreStampsOf}
+use Rattle.fw_model.specs.EventStamps.{AreStampsIf}
 use Rattle.fw_model.specs.Filtering.{events_inside, messages_from}
 use Rattle.fw_model.specs.History.{IsLegal}
 use Rattle.fw_model.specs.Machine.{Machine, events, family_of, front_of, is_failed, no_stamps}
@@ -53,10 +53,10 @@ use Rattle.fw_running.specs.Logging.{IsAsked}
 
 -- ---- covers
 
--- It is so in each history of which these are the traces of node p, thinned inside a base that the frontier holds.
+-- It is so in each history of which these are the whole traces of node p, thinned inside a base that the frontier holds.
 abbrev pub IsSoInEachHistory : Dataflow → Traces → ℕ → Front → (System → List Event → Type 0) → Type 0
 IsSoInEachHistory flow traces p f IsSo =
-    (sys : System) (h : List Event) → sys.flow ≡ flow → HasEpochs sys → IsLegal sys h → IsTraceWithin sys h p f traces → IsSo sys h
+    (sys : System) (h : List Event) → sys.flow ≡ flow → HasEpochs sys → IsLegal sys h → IsTraceWithin true sys h p f traces → IsSo sys h
 
 -- the front is the cover of what was delivered on edge d inside a frontier
 abbrev pub IsCoverDelivered : Dataflow → Traces → Front → ℕ → Front → Type 0
@@ -147,7 +147,8 @@ pub record CanBeMadeAt (sys : System) (running : Running) (state : Machine) (p :
   pub settled : Within (family_of sys.flow state.settled p) (node_frontier sys.flow p f)
   pub table : IsTableIn sys state p (table_of running p)
   pub logs : (e : ℕ) → sender sys.flow e ≡ p → log_at running e ≡ logged sys state e
-  pub traces : IsTraceIn sys state p running.traces
+  pub floor : List Front
+  pub traces : IsTraceIn sys floor state p running.traces
   pub counts : IsCountOf sys (events state.history) running.progress.counts
 
 -- ---- asking
@@ -165,7 +166,7 @@ pub record AsksCheckpoint (p : ℕ) (f : Front) (old new : Running) (before afte
   pub made : IsMadeAt old p f checkpoint
   pub few : HasCountableLists checkpoint
   pub held : IsSoInEachHistory old.flow old.traces p f
-      (λ sys h. AreStampsOf sys (events_inside (node_frontier old.flow p f) h) p (node_frontier old.flow p f) stamps)
+      (λ sys h. AreStampsIf true sys (events_inside (node_frontier old.flow p f) h) p (node_frontier old.flow p f) stamps)
   pub asked : IsAsked (tagged.State checkpoint) stamps old.parts.keep.entries new.parts.keep.entries before after
 
 -- ---- the steps

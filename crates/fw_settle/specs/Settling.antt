@@ -1,11 +1,11 @@
 -- Of what the step of progress is made: which nodes are to settle, what the eager ones of them ask, and what becomes of what is kept as
 -- they settle.
-use Rattle.std.specs.Prelude.{◌≡◌, ◌≢◌, ℕ, ◌<◌, ◌≤◌, Bool, true, false, ◌&&◌, nat_lt, List, ◌++◌, length, slice_set, Option, Some, None, option_map}
+use Rattle.std.specs.Prelude.{◌≡◌, ◌≢◌, ℕ, ◌<◌, ◌≤◌, Bool, true, false, not, ◌&&◌, nat_lt, List, ◌++◌, length, slice_set, Option, Some, None, option_map}
 use Rattle.std.specs.List.{range_with_len}
 use Rattle.fw_frontier.specs.Front.{Front}
-use Rattle.fw_flow.specs.Dataflow.{System, Dataflow, policy_of}
+use Rattle.fw_flow.specs.Dataflow.{System, Dataflow, kind_of, policy_of}
 use Rattle.fw_model.specs.Machine.{Machine, family_of, front_of}
-use Rattle.fw_model.specs.Steps.{GrowsTo, eager_writes, is_eager}
+use Rattle.fw_model.specs.Steps.{GrowsTo, eager_writes, is_asked_for_checkpoints, is_eager}
 use Rattle.fw_model.specs.Writes.{takes_checkpoints}
 use Rattle.fw_node.specs.declared.node.Node.{Node}
 use Rattle.fw_keep.specs.declared.entry.Entry.{Entry}
@@ -14,6 +14,7 @@ use Rattle.fw_keep.specs.Stored.{Records, KeepsBytes}
 use Rattle.fw_progress.specs.declared.traces.Traces.{Traces}
 use Rattle.fw_progress.specs.Settle.{is_growing, has_more, IsGrownAt, NoneGrows, AreGrownBefore}
 use Rattle.fw_progress.specs.Trace.{AreThinnedAt}
+use Rattle.fw_stands.specs.Parts.{sums_up}
 use Rattle.fw_stands.specs.Settling.{IsSettledTable, AreSettledAt}
 use Rattle.fw_stands.specs.Written.{uncollected, AreEntriesOf, AreStored}
 use Rattle.fw_running.specs.declared.running.Running.{Running}
@@ -117,6 +118,11 @@ settled_into new old = record old {
 abbrev pub ChangesSettled : Running → Running → Type 0
 ChangesSettled old new = new ≡ settled_into new old
 
+-- whether the table of node p settles where a checkpoint is asked of it, and not at progress: it keeps totals, and takes checkpoints
+-- when asked
+abbrev pub settles_when_asked : Dataflow → ℕ → Bool
+settles_when_asked flow p = is_asked_for_checkpoints (policy_of flow p) && sums_up (kind_of flow p)
+
 -- a node's table, if it has one, is settled to a front
 abbrev pub IsTableSettled : Dataflow → ℕ → Front → Option Node → Option Node → Type 0
 IsTableSettled flow p f None new = new ≡ None
@@ -128,15 +134,20 @@ pub record SettlesTable (p : ℕ) (f : Front) (old new : Running) : Type 0 where
   pub here : IsTableSettled old.flow p f (table_of old p) (table_of new p)
   pub others : (q : ℕ) → q ≢ p → table_of new q ≡ table_of old q
 
+-- So it is where this is so, and else all stay.
+pub record SettlesTableIf (is_so : Bool) (p : ℕ) (f : Front) (old new : Running) : Type 0 where
+  pub settles : is_so ≡ true → SettlesTable p f old new
+  pub stays : is_so ≡ false → new.parts.tables ≡ old.parts.tables
+
 -- The traces of node p, if it takes checkpoints, are thinned inside a front, and what it sent there is counted in all.
 pub record SettlesTraces (p : ℕ) (f : Front) (flow : Dataflow) (old new : Traces) : Type 0 where
   pub takes : takes_checkpoints (policy_of flow p) ≡ true → AreThinnedAt flow p f old new
   pub other : takes_checkpoints (policy_of flow p) ≡ false → new ≡ old
 
--- Node p settles this front: its table and its traces are settled to it.
+-- Node p settles this front: its traces are settled to it, and so is its table, unless that waits for a checkpoint.
 pub record SettlesTo (p : ℕ) (f : Front) (old new : Running) : Type 0 where
   pub settled : new.progress.settled ≡ slice_set old.progress.settled p f
-  pub table : SettlesTable p f old new
+  pub table : SettlesTableIf (not (settles_when_asked old.flow p)) p f old new
   pub traces : SettlesTraces p f old.flow old.traces new.traces
 
 -- Nothing settles.
@@ -155,12 +166,17 @@ pub record SettlesKept (p : ℕ) (old new : Running) : Type 0 where
 abbrev pub settles_traces : Running → ℕ → ℕ → Bool
 settles_traces running place p = nat_lt p place && (grows running p && takes_checkpoints (policy_of running.flow p))
 
--- The first so many nodes that are to settle did so: what is kept of them is settled, and their tables and traces are settled to it.
+-- whether node p is to settle, and its table then
+abbrev pub settles_table : Running → ℕ → Bool
+settles_table running p = grows running p && not (settles_when_asked running.flow p)
+
+-- The first so many nodes that are to settle did so: what is kept of them is settled, and their traces are settled to it, and their
+-- tables, but those that wait for a checkpoint.
 pub record HaveSettled (place : ℕ) (old new : Running) : Type 0 where
   pub settled : AreGrownBefore old.flow old.failed.items old.progress.settled old.progress.kept new.progress.settled place
-  pub tables : (p : ℕ) → p < place → grows old p ≡ true
+  pub tables : (p : ℕ) → p < place → settles_table old p ≡ true
       → IsTableSettled old.flow p (front_of new.progress.settled p) (table_of old p) (table_of new p)
-  pub other_tables : (p : ℕ) → (p < place → grows old p ≡ false) → table_of new p ≡ table_of old p
+  pub other_tables : (p : ℕ) → (p < place → settles_table old p ≡ false) → table_of new p ≡ table_of old p
   pub traces : AreSettledAt old.flow (settles_traces old place) new.progress.settled old.traces new.traces
 
 -- ---- the step

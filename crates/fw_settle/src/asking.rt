@@ -3,6 +3,7 @@ ghost use Rattle.std.specs.Prelude.{◌≡◌, ◌<◌, ◌++◌, List, Option, 
 ghost use Rattle.fw_running.specs.Faults.{faults_after_step};
 ghost use Rattle.fw_frontier.specs.Front.{IsCanonical};
 ghost use Rattle.fw_flow.specs.Dataflow.{bounds_of};
+ghost use Rattle.fw_model.specs.Steps as steps_of;
 ghost use Rattle.fw_keep.specs.declared.entry.Entry.{Entry as Write};
 ghost use Rattle.fw_keep.specs.Catalogue.{AreInFlight};
 ghost use Rattle.fw_keep.specs.Stored.{Records, IsStored};
@@ -13,7 +14,7 @@ ghost use Rattle.fw_running.specs.Logging.{ChangesKeep, IsNotAsked};
 
 use crate::checking::{is_countable, is_of_domains};
 use crate::record::checkpoint_at;
-use fw_flow::NodeId;
+use fw_flow::{NodeId, Policy};
 use fw_frontier::Front;
 use fw_outside::Store;
 use fw_record::Record;
@@ -65,4 +66,11 @@ pub(crate) fn withdraw_from(running: &mut Running, count: usize)
     }
     let first = entries[count].id;
     running.parts.keep.withdraw(first);
+}
+
+/// Whether a node of the policy takes checkpoints when asked.
+pub(crate) fn is_asked_for_checkpoints(policy: Policy) -> bool
+    ensures { result ≡ steps_of.is_asked_for_checkpoints policy }
+{
+    matches!(policy, Policy::Lazy | Policy::Logged)
 }

@@ -4,7 +4,6 @@ ghost use Rattle.std.specs.Option.{option_copied};
 ghost use Rattle.fw_frontier.specs.Front.{IsCanonical};
 ghost use Rattle.fw_flow.specs.Dataflow.{bounds_of};
 ghost use Rattle.fw_model.specs.Machine.{front_of, no_stamps};
-ghost use Rattle.fw_model.specs.Steps as steps_of;
 ghost use Rattle.fw_model.specs.Steps.{last_or};
 ghost use Rattle.fw_flow.specs.declared.step.Step.TheVariants as steps;
 ghost use Rattle.fw_keep.specs.Stored.{IsStored};
@@ -13,14 +12,15 @@ ghost use Rattle.fw_running.specs.Shaped.{IsShaped};
 ghost use Rattle.fw_settle.specs.Checkpoints.{MayTakeCheckpoint};
 ghost use Rattle.fw_running.specs.Steps.{InnerAnswers, StepAnswers};
 
-use crate::asking::ask_checkpoint;
-use fw_flow::{NodeId, Policy};
+use crate::asking::{ask_checkpoint, is_asked_for_checkpoints};
+use crate::tables::settle_when_asked;
+use fw_flow::NodeId;
 use fw_frontier::Front;
 use fw_keep::{Entry, Written};
 use fw_outside::Store;
 use fw_running::{Effect, EngineFault, Running, Stepped};
 
-/// The node asks a checkpoint of what is settled.
+/// The node asks a checkpoint of what is settled; if its table waited for one, it settles then.
 pub fn checkpoint<K: Store>(
     running: &mut Running,
     node: NodeId,
@@ -35,6 +35,7 @@ pub fn checkpoint<K: Store>(
     }
     let front = running.progress.settled()[node.place() as usize].copy()?;
     ask_checkpoint(running, node, &front, store)?;
+    settle_when_asked(running, node, &front)?;
     Ok(Stepped::Did(Effect::Quiet))
 }
 
@@ -75,13 +76,6 @@ pub fn persist(running: &mut Running) -> Stepped
         Some(_id) => Stepped::Did(Effect::Quiet),
         None => Stepped::Idle,
     }
-}
-
-// Whether a node of the policy takes checkpoints when asked.
-fn is_asked_for_checkpoints(policy: Policy) -> bool
-    ensures { result ≡ steps_of.is_asked_for_checkpoints policy }
-{
-    matches!(policy, Policy::Lazy | Policy::Logged)
 }
 
 // The frontier of the newest checkpoint of a node.

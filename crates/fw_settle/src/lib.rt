@@ -6,6 +6,7 @@ mod checking;
 mod checkpoints;
 mod record;
 mod settling;
+mod tables;
 
 pub use checkpoints::{checkpoint, persist};
 pub use settling::progress;

@@ -1,8 +1,7 @@
 //! The step of progress.
 ghost use Rattle.std.specs.Prelude.{◌≡◌, ◌↔◌, ◌<◌, Some, true, length, IsTrue, OnOk, OnErr};
 ghost use Rattle.fw_flow.specs.declared.step.Step.TheVariants as steps;
-ghost use Rattle.fw_frontier.specs.Front.{IsCanonical};
-ghost use Rattle.fw_flow.specs.Dataflow.{bounds_of, policy_of};
+ghost use Rattle.fw_flow.specs.Dataflow.{policy_of};
 ghost use Rattle.fw_model.specs.Machine.{front_of};
 ghost use Rattle.fw_model.specs.Steps as steps_of;
 ghost use Rattle.fw_keep.specs.Stored.{IsStored};
@@ -11,10 +10,10 @@ ghost use Rattle.fw_running.specs.Logging.{ChangesKeep, IsNotAsked};
 ghost use Rattle.fw_running.specs.Places.{IsTakenOut};
 ghost use Rattle.fw_running.specs.Shaped.{IsShaped};
 ghost use Rattle.fw_running.specs.Steps.{HasEager, PartAnswers, StepAnswers};
-ghost use Rattle.fw_running.specs.Kept.{with_tables};
-ghost use Rattle.fw_settle.specs.Settling.{grows, IsFoundToSettle, IsFoundLive, AddsEntries, KeepsEntries, AsksIfEager, HaveAsked, with_traces, ChangesSettled, SettlesTable, SettlesTraces, SettlesTo, SettlesKept, HaveSettled};
+ghost use Rattle.fw_settle.specs.Settling.{grows, IsFoundToSettle, IsFoundLive, AddsEntries, KeepsEntries, AsksIfEager, HaveAsked, with_traces, ChangesSettled, SettlesTraces, SettlesTo, SettlesKept, HaveSettled};
 
 use crate::asking::{ask_checkpoint, withdraw_from};
+use crate::tables::settle_at_progress;
 use fw_flow::{NodeId, Policy};
 use fw_frontier::Front;
 use fw_outside::Store;
@@ -203,27 +202,12 @@ fn settle_to(running: &mut Running, node: NodeId, front: Front) -> Result<(), Al
     ensures settled { OnOk result (SettlesTo node front running.old running.new) }
     ensures taken { OnOk result (IsTakenOut node running.old.ready.growing running.new.ready.growing) }
 {
-    settle_table(running, node, &front)?;
+    settle_at_progress(running, node, &front)?;
     settle_traces(running, node, &front)?;
     running.progress.settle_at(&running.flow, node, front);
     running.ready.put_output(node)?;
     running.ready.take_growing(node);
     Ok(())
-}
-
-// The table of a node, if it has one, is settled to a front.
-fn settle_table(running: &mut Running, node: NodeId, front: &Front) -> Result<(), AllocError>
-    requires shaped { IsShaped running.old }
-    requires there { node < length running.old.flow.nodes }
-    requires front { IsCanonical (bounds_of running.old.flow node) front.now }
-    ensures others { running.new ≡ with_tables running.new.parts.tables running.old }
-    ensures shaped { IsShaped running.new }
-    ensures settled { OnOk result (SettlesTable node front.now running.old running.new) }
-{
-    match running.parts.tables.get_mut(node) {
-        Some(table) => table.settle(front),
-        None => Ok(()),
-    }
 }
 
 // The traces of a node, if it takes checkpoints, are settled to a front.

@@ -374,7 +374,7 @@ acknowledgement-keeps sys state o x =
       queues = λ e. refl;
       logs = λ e. refl;
       sources = λ s source t. record { given = t.given; injected = t.injected; held = t.held };
-      traces = λ p traces t. t;
+      traces = λ floor p traces t. t;
       lost = λ p t. (
         λ a. (a.0, record { event = a.1.event; there = a.1.there; is = a.1.is; not_logged = a.1.not_logged }),
         λ a. (a.0, record { event = a.1.event; there = a.1.there; is = a.1.is; not_logged = a.1.not_logged }),

@@ -42,10 +42,12 @@ use Rattle.fw_progress.specs.Trace.{IsTraceOf, AreSettledTo}
 use Rattle.fw_progress.specs.declared.traces.Traces.{Traces}
 use Rattle.fw_stands.specs.Collecting.{collected_state, KeepsAllButLow, HaveOneEach}
 use Rattle.fw_stands.proofs.AtReached.{reached-legal}
-use Rattle.fw_stands.proofs.SettlingLaws.{base-low, base-settled, settled_to-base, trace-settled}
+use Rattle.fw_stands.proofs.SettlingLaws.{base-floor, base-settled, settled_to-base, trace-settled}
 use Rattle.fw_stands.proofs.LossLaws.{counts-collected}
 use Rattle.fw_stands.specs.Settling.{AreSettledAt}
 use Rattle.fw_stands.specs.Parts.{IsTraceIn, IsSourceOf, logged}
+use Rattle.fw_stands.proofs.NodeCheckpoints.{checkpoints-staged}
+use Rattle.fw_stands.proofs.TableBaseLaws.{same-front, same_table-stands}
 use Rattle.fw_keep.specs.declared.entry.Entry.{Entry}
 use Rattle.fw_border.specs.Sources.{SourceState}
 use Rattle.fw_edge.specs.Messages.{MessagesState}
@@ -153,40 +155,40 @@ collected_sources-stand sys w state low rises entries drops is s l input source 
 -- ---- traces
 
 -- the traces of a node that takes no checkpoints, settled to its new low watermark, are those of the state after the collection
-pub collected_traces-stand : (sys : System) → IsWellFormedSystem sys → (state : Machine) → IsReached sys state
-    → (low : List Front) → RisesTo sys.flow state.low low → (p : ℕ) → p < length sys.flow.nodes → takes_checkpoints (policy_of sys.flow p) ≡ false
+pub collected_traces-stand : (sys : System) (floor : List Front) → IsWellFormedSystem sys → (state : Machine) → IsReached sys state
+    → (low : List Front) → RisesTo sys.flow floor low → (p : ℕ) → p < length sys.flow.nodes → takes_checkpoints (policy_of sys.flow p) ≡ false
     → (old new : Traces) → AreSettledTo sys.flow p (front_of low p) old new
-    → IsTraceIn sys state p old → IsTraceIn sys (collected_state sys state low) p new
-collected_traces-stand sys w state r low rises p l c old new a t =
+    → IsTraceIn sys floor state p old → IsTraceIn sys low (collected_state sys state low) p new
+collected_traces-stand sys floor w state r low rises p l c old new a t =
     let next = collected_state sys state low in
-    subst (λ f. IsTraceOf sys (events state.history) p f new) (sym (base-low sys next p c))
-    (settled_to-base sys w state r p (front_of low p) old new a
-    (subst (λ f. Within f (family_of sys.flow low p)) (sym (base-low sys state p c)) (rises p l)) t)
+    subst (λ f. IsTraceOf sys (events state.history) p f new) (sym (base-floor sys low next p c))
+    (settled_to-base sys floor w state r p (front_of low p) old new a
+    (subst (λ f. Within f (family_of sys.flow low p)) (sym (base-floor sys floor state p c)) (rises p l)) t)
 
 -- the traces of a node that takes checkpoints are those of the state after the collection
-pub traces_with_checkpoints-stay : (sys : System) (state : Machine) (low : List Front) (p : ℕ) → takes_checkpoints (policy_of sys.flow p) ≡ true
-    → (traces : Traces) → IsTraceIn sys state p traces → IsTraceIn sys (collected_state sys state low) p traces
-traces_with_checkpoints-stay sys state low p c traces t =
+pub traces_with_checkpoints-stay : (sys : System) (floor : List Front) (state : Machine) (low : List Front) (p : ℕ) → takes_checkpoints (policy_of sys.flow p) ≡ true
+    → (traces : Traces) → IsTraceIn sys floor state p traces → IsTraceIn sys low (collected_state sys state low) p traces
+traces_with_checkpoints-stay sys floor state low p c traces t =
     let next = collected_state sys state low in
-    subst (λ f. IsTraceOf sys (events state.history) p f traces) (base-settled sys state p c ∙ sym (base-settled sys next p c)) t
+    subst (λ f. IsTraceOf sys (events state.history) p f traces) (base-settled sys floor state p c ∙ sym (base-settled sys low next p c)) t
 
 -- where the traces of the nodes that take no checkpoints are settled to their new low watermarks, the traces are those of the state
 -- after the collection
-pub all_collected_traces-stand : (sys : System) → IsWellFormedSystem sys → (state : Machine) → IsReached sys state
-    → (low : List Front) → RisesTo sys.flow state.low low → (old new : Traces)
+pub all_collected_traces-stand : (sys : System) (floor : List Front) → IsWellFormedSystem sys → (state : Machine) → IsReached sys state
+    → (low : List Front) → RisesTo sys.flow floor low → (old new : Traces)
     → AreSettledAt sys.flow (λ p. nat_lt p (length sys.flow.nodes) && not (takes_checkpoints (policy_of sys.flow p))) low old new
-    → (p : ℕ) → p < length sys.flow.nodes → IsTraceIn sys state p old → IsTraceIn sys (collected_state sys state low) p new
-all_collected_traces-stand sys w state r low rises old new a p l t =
+    → (p : ℕ) → p < length sys.flow.nodes → IsTraceIn sys floor state p old → IsTraceIn sys low (collected_state sys state low) p new
+all_collected_traces-stand sys floor w state r low rises old new a p l t =
     let next = collected_state sys state low in
     let there = nat_lt p (length sys.flow.nodes) in
     let takes = takes_checkpoints (policy_of sys.flow p) in
     let test : ℕ → Bool = λ q. nat_lt q (length sys.flow.nodes) && not (takes_checkpoints (policy_of sys.flow q)) in
     elim (cases_Bool takes) [
-      | inl c ↦ traces_with_checkpoints-stay sys state low p c new
-          (a.others p (and_right there (not takes) (ap not c)) sys (events state.history) refl (base_of sys state p) t)
-      | inr c ↦ subst (λ f. IsTraceOf sys (events state.history) p f new) (sym (base-low sys next p c))
-          (trace-settled sys w state r test low old new a p (and_from there (not takes) (lt-ltb p (length sys.flow.nodes) l) (ap not c))
-          (subst (λ f. Within f (family_of sys.flow low p)) (sym (base-low sys state p c)) (rises p l)) t)
+      | inl c ↦ traces_with_checkpoints-stay sys floor state low p c new
+          (a.others p (and_right there (not takes) (ap not c)) takes sys (events state.history) refl (base_of sys floor state p) t)
+      | inr c ↦ subst (λ f. IsTraceOf sys (events state.history) p f new) (sym (base-floor sys low next p c))
+          (trace-settled sys floor w state r test low old new a p (and_from there (not takes) (lt-ltb p (length sys.flow.nodes) l) (ap not c))
+          (subst (λ f. Within f (family_of sys.flow low p)) (sym (base-floor sys floor state p c)) (rises p l)) t)
     ]
 
 -- ---- what is lost
@@ -225,7 +227,9 @@ collection-keeps sys state low =
     let same : (write : Write) → is_counted ever (stage write) ≡ is_counted ever write.stage =
     λ write. counts-collected (is_forgotten sys low state.history state.writes write) write.stage in
     record {
-      tables = λ p table t. record { there = t.there; of_events = t.of_events };
+      tables = λ p table t.
+          let next = collected_state sys state low in
+          same_table-stands sys state next p table refl (same-front sys state next p (λ is. checkpoints-staged p stage state.writes) (λ isnt. refl)) refl t;
       queues = λ e. refl;
       outputs = record { bound = λ o. refl; recs = λ o x. refl };
       lost = λ p t. (

@@ -9,7 +9,7 @@ use Rattle.fw_flow.specs.declared.event.Event.TheVariants.{Deliver, Notify}
 use Rattle.fw_flow.specs.declared.event.Message.{Message}
 use Rattle.fw_flow.specs.declared.kind.Kind.{Kind}
 use Rattle.fw_flow.specs.declared.kind.Kind.TheVariants as kind
-use Rattle.fw_flow.specs.Dataflow.{System, Dataflow, in_edges, is_input_kind, is_notified_kind, is_one_of, is_output_kind, kind_of, receiver}
+use Rattle.fw_flow.specs.Dataflow.{System, Dataflow, in_edges, is_input_kind, is_notified_kind, is_one_of, is_output_kind, kind_of, node_frontier, receiver}
 use Rattle.fw_flow.specs.NodeFunction.{event_node}
 use Rattle.fw_flow.specs.Projection.{events_at}
 use Rattle.fw_flow.specs.WellFormed.{IsInDegree, IsWellFormed, IsWellFormedSystem}
@@ -21,7 +21,7 @@ use Rattle.fw_model.proofs.CmpLaws.{stamp_total}
 use Rattle.fw_model.proofs.DomainLaws.{has_epochs}
 use Rattle.fw_model.proofs.LowLaws.{input-is}
 use Rattle.fw_model.proofs.NothingInsideLaws.{kind-declared, settled-nothing_inside}
-use Rattle.fw_model.proofs.ToldLaws.{after-notice, totals-sum}
+use Rattle.fw_model.proofs.ToldLaws.{after-notice, settled-told, totals-sum}
 use Rattle.fw_model.specs.Steps.{with_event, StepsTo, idle, did, silent}
 use Rattle.fw_model.specs.Reached.{IsReached}
 use Rattle.fw_node.specs.Arrived.{AreOnEdges, IsOneOf}
@@ -31,8 +31,9 @@ use Rattle.fw_node.specs.declared.node.Node.{Node}
 use Rattle.fw_stands.proofs.EventBorderLaws.{enabled-domain}
 use Rattle.fw_stands.proofs.EventNextLaws.{legal-reached}
 use Rattle.fw_stands.proofs.EventQueueLaws.{none-pending_past}
-use Rattle.fw_stands.specs.Parts.{IsTableIn, has_table}
+use Rattle.fw_stands.specs.Parts.{IsTableIn, has_table, table_base}
 use Rattle.fw_stands.specs.Events.{CanTakeNotice, CanTakeIn}
+use Rattle.fw_stands.proofs.TableBaseLaws.{base-within, event-front, same_table-stands, sums-by_less, unsettled-base}
 
 -- ---- deliveries
 
@@ -80,7 +81,7 @@ deliveries-can_be_taken_in sys state w r e m k =
       no_input = n;
       on_edge = on-edge sys.flow w.flow e m l;
       in_the_domain = enabled-domain sys state w r v k;
-      unsettled = (settled-nothing_inside sys w r.0 r.1 state r.2 v k).settled n;
+      unsettled = unsettled-base sys w state r p m.at ((settled-nothing_inside sys w r.0 r.1 state r.2 v k).settled n);
       untold = λ i. after-notice sys h w.flow (has_epochs sys w) (legal-reached sys state w r) p i v k refl;
     }
 
@@ -110,9 +111,11 @@ notices-can_be_taken sys state w r p t k =
       no_input = no_input;
       no_output = notified-no_output (kind_of sys.flow p) n;
       in_the_domain = enabled-domain sys state w r v k;
-      unsettled = (settled-nothing_inside sys w r.0 r.1 state r.2 v k).settled no_input;
+      unsettled = unsettled-base sys w state r p t ((settled-nothing_inside sys w r.0 r.1 state r.2 v k).settled no_input);
       untold = after-notice sys h w.flow (has_epochs sys w) (legal-reached sys state w r) p n v k refl;
-      sums = λ is. totals-sum sys w r.0 r.1 state r.2 p is t k;
+      sums = λ is.
+          sums-by_less (family_of sys.flow state.settled p) (table_base sys state p) (events_at sys.flow p h) t (base-within sys w state r p)
+          (settled-told sys w r.0 r.1 state r.2 p n) (totals-sum sys w r.0 r.1 state r.2 p is t k);
     }
 
 -- a notification of a stamp that is asked for is taken exactly where a node that is not failed may be notified
@@ -152,27 +155,24 @@ failed-idle sys state p f = (
 
 -- a table that took an event in is that of its node after the event
 pub tables-take_in : (sys : System) (state : Machine) (v : Event) (p : ℕ) → event_node sys.flow v ≡ p → has_table sys state p ≡ true
-    → (table : Node) → IsTableOf sys.flow p (family_of sys.flow state.settled p) table (v ∷ events_at sys.flow p (events state.history))
+    → (table : Node) → IsTableOf sys.flow p (table_base sys state p) table (v ∷ events_at sys.flow p (events state.history))
     → IsTableIn sys (with_event sys state v) p (Some table)
 tables-take_in sys state v p i t table o =
     let h = events state.history in
     record {
       there = sym t;
-      of_events = subst (IsTableOf sys.flow p (family_of sys.flow state.settled p) table)
-          (sym (cond-true (event_node sys.flow v == p) (v ∷ events_at sys.flow p h) (events_at sys.flow p h) (eq-eqb (event_node sys.flow v) p i))) o;
+      of_events = subst (λ f. IsTableOf sys.flow p (node_frontier sys.flow p f) table (events_at sys.flow p (v ∷ h))) (sym (event-front sys state v p))
+          (subst (IsTableOf sys.flow p (table_base sys state p) table)
+          (sym (cond-true (event_node sys.flow v == p) (v ∷ events_at sys.flow p h) (events_at sys.flow p h) (eq-eqb (event_node sys.flow v) p i))) o);
     }
 
 -- an event of another node leaves a table
 pub tables-stay : (sys : System) (state : Machine) (v : Event) (p : ℕ) → (event_node sys.flow v == p) ≡ false
     → (table : Option Node) → IsTableIn sys state p table → IsTableIn sys (with_event sys state v) p table
-tables-stay sys state v p n None i = record { there = i.there; of_events = tt }
-tables-stay sys state v p n (Some table) i =
+tables-stay sys state v p n table i =
     let h = events state.history in
-    record {
-      there = i.there;
-      of_events = subst (IsTableOf sys.flow p (family_of sys.flow state.settled p) table)
-          (sym (cond-false (event_node sys.flow v == p) (v ∷ events_at sys.flow p h) (events_at sys.flow p h) n)) i.of_events;
-    }
+    same_table-stands sys state (with_event sys state v) p table refl (event-front sys state v p)
+    (cond-false (event_node sys.flow v == p) (v ∷ events_at sys.flow p h) (events_at sys.flow p h) n) i
 
 -- where there is no table, there is none after an event
 pub no-tables_stay : (sys : System) (state : Machine) (v : Event) (p : ℕ) → IsTableIn sys state p None → IsTableIn sys (with_event sys state v) p None

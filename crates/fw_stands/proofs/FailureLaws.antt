@@ -12,12 +12,14 @@ use Rattle.fw_model.specs.History.{pending_messages, sent_messages}
 use Rattle.fw_model.specs.Filtering.{messages_outside}
 use Rattle.fw_model.specs.Machine.{events, family_of, is_failed, ack_count_of, Machine}
 use Rattle.fw_model.specs.SortedMessages.{sorted_messages}
-use Rattle.fw_model.specs.Steps.{recs_at_output, LeadsTo, silent}
+use Rattle.fw_model.specs.Steps.{recs_at_output, LeadsTo, silent, is_in_flight}
 use Rattle.fw_model.specs.Auto.{IsIdle}
 use Rattle.std.proofs.Common.{nat_lt}
 use Rattle.fw_lemmas.proofs.Bools.{two_ways}
 use Rattle.fw_stands.specs.Failures.{failed_state, KeepsWhatSurvives}
 use Rattle.fw_stands.specs.Parts.{kept_recs, logged, queued, IsTableIn}
+use Rattle.fw_stands.proofs.NodeCheckpoints.{checkpoints-left}
+use Rattle.fw_stands.proofs.TableBaseLaws.{same-front, same_table-stands}
 use Rattle.fw_node.specs.declared.node.Node.{Node}
 
 -- ---- the step
@@ -70,11 +72,15 @@ failed_tables-go sys state ps p l i = record {
 -- the table of another node is as it was
 pub other_tables-stay : (sys : System) (state : Machine) (ps : List ℕ) (p : ℕ) → p < length sys.flow.nodes → is_one_of p ps ≡ false
     → (table : Option Node) → IsTableIn sys state p table → IsTableIn sys (failed_state sys state ps) p table
-other_tables-stay sys state ps p l i table t = record {
-  there = t.there ∙ ap (λ b. not (is_input_kind (kind_of sys.flow p) || (is_output_kind (kind_of sys.flow p) || b)))
-      (sym (failures-add sys state ps p l ∙ or-false (is_failed state p) (is_one_of p ps) i));
-  of_events = t.of_events;
-}
+other_tables-stay sys state ps p l i table t =
+    let next = failed_state sys state ps in
+    same_table-stands sys state next p table
+    (ap (λ b. not (is_input_kind (kind_of sys.flow p) || (is_output_kind (kind_of sys.flow p) || b)))
+    (failures-add sys state ps p l ∙ or-false (is_failed state p) (is_one_of p ps) i))
+    (same-front sys state next p
+    (λ is. checkpoints-left p (λ write. not (is_one_of write.node ps && is_in_flight write.stage)) state.writes
+    (λ x same. ap (λ b. not (b && is_in_flight x.stage)) (ap (λ q. is_one_of q ps) same ∙ i)))
+    (λ isnt. refl)) refl t
 
 -- nothing is queued for nodes that fail, and what is queued for others is as it was
 pub queues_of_failed-go : (sys : System) → IsWellFormedSystem sys → (state : Machine) (ps : List ℕ) (e : ℕ) → e < length sys.flow.edges
@@ -124,5 +130,5 @@ pub failure-keeps : (sys : System) (state : Machine) (ps : List ℕ) → KeepsWh
 failure-keeps sys state ps = record {
   bounds = λ o. refl;
   sources = λ s source t. record { given = t.given; injected = t.injected; held = t.held };
-  traces = λ p traces t. t;
+  traces = λ floor p traces t. t;
 }

@@ -1,3 +1,5 @@
+pub mod NodeCheckpoints
+pub mod TableBaseLaws
 pub mod EventNextLaws
 pub mod EventAnswerLaws
 pub mod EventQueueLaws

@@ -1,15 +1,15 @@
 -- Which tables nodes have after a recovery.
 use Rattle.std.proofs.Common.{◌≡◌, ℕ, ◌<◌, Bool, true, false, ◌&&◌, ◌||◌, ◌==◌, not, List, [], length, Some, refl, sym, ap, subst, ◌∙◌, inl, inr, Option, None}
-use Rattle.std.specs.Prelude.{IfSome}
 use Rattle.std.proofs.lemmas.Bool.{and_parts, cases_Bool, false_from_ne_true}
 use Rattle.fw_lemmas.proofs.Bools.{two_ways}
 use Rattle.fw_lemmas.proofs.Each.{each-weaker, each-one}
 use Rattle.fw_lemmas.proofs.Filters.{filter-all, filter-none, filter-swap}
 use Rattle.fw_time.specs.Stamp.{Stamp, in_domain}
 use Rattle.fw_frontier.specs.Frontier.{Frontier, meet, nothing}
-use Rattle.fw_frontier.specs.Front.{Front, inside, IsCanonical}
+use Rattle.fw_frontier.specs.Front.{Front, IsCanonical}
 use Rattle.fw_frontier.proofs.NamesLaws.{names-same}
 use Rattle.fw_flow.specs.declared.choice.Choice.{Choice}
+use Rattle.fw_flow.specs.declared.choice.Cut.{Cut}
 use Rattle.fw_flow.specs.declared.choice.Cut.TheVariants.{Present, At}
 use Rattle.fw_flow.specs.declared.event.Event.{Event}
 use Rattle.fw_flow.specs.declared.kind.Kind.{Kind}
@@ -28,7 +28,7 @@ use Rattle.fw_model.specs.Filtering.{events_inside}
 use Rattle.fw_model.specs.History.{was_delivered_to}
 use Rattle.fw_model.specs.LawsOfReplay.{not_given_up, replayed_events}
 use Rattle.fw_model.specs.Machine.{Machine, events, front_of, is_failed, no_stamps}
-use Rattle.fw_model.specs.Steps.{IsSettledCut, recovered_state}
+use Rattle.fw_model.specs.Steps.{IsSettledCut, is_kept_write, recovered_state}
 use Rattle.fw_model.specs.Told.{is_told, EachDelivery, AreToldInside}
 use Rattle.fw_model.proofs.LegalLaws.{legal_events-in_domain}
 use Rattle.fw_model.proofs.LocalityLaws.{events_at-kept}
@@ -42,11 +42,13 @@ use Rattle.fw_node.specs.StateOf.{IsStateOf}
 use Rattle.fw_node.specs.TableOf.{IsTableOf}
 use Rattle.fw_node.proofs.OnEdgesLaws.{events_come_on_in_edges}
 use Rattle.fw_stands.specs.Recovered.{Recovers}
-use Rattle.fw_stands.specs.Parts.{IsTableIn}
+use Rattle.fw_stands.specs.Parts.{IsTableIn, settles_with_checkpoints, table_front}
 use Rattle.fw_stands.specs.Written.{events_within, IsCheckpointFor}
 use Rattle.fw_stands.proofs.RecoveredFacts.{knows, none_failed, present_lives, cut_within-settled, events-now, none_given-up}
 use Rattle.fw_stands.proofs.RedoneLaws.{inside-both, full-inner, delivered-there, each-delivery_both, each-delivery_weaker, told-inside}
 use Rattle.fw_stands.proofs.TableLaws.{stands-also}
+use Rattle.fw_stands.proofs.NodeCheckpoints.{checkpoints-left}
+use Rattle.fw_stands.proofs.TableBaseLaws.{front-settled, newest-cut, same-front, same_table-stands}
 use Rattle.fw_record.specs.declared.record.Checkpoint.{Checkpoint}
 
 -- ---- what is settled
@@ -175,15 +177,26 @@ pub tables-present : (sys : System) (state : Machine) (choice : Choice) (settled
     → (table : Option Node) → IsTableIn sys state p table → IsTableIn sys (recovered_state sys state choice settled) p table
 tables-present sys state choice settled r p l is table t =
     let next = recovered_state sys state choice settled in
-    let Of : Front → List Event → Type 0 = λ f vs. IfSome table (λ node. IsTableOf sys.flow p (node_frontier sys.flow p f) node vs) in
-    let same : front_of settled p ≡ front_of state.settled p =
-    subst (λ c. IsSettledCut sys p c (front_of state.settled p) (front_of settled p)) is (r.cuts.each p l) in
-    record {
-      there = t.there ∙ ap (λ b. not (is_input_kind (kind_of sys.flow p) || (is_output_kind (kind_of sys.flow p) || b)))
-          (present_lives sys state choice settled r p l is ∙ sym (none_failed sys state choice settled p));
-      of_events = subst (λ f. Of f (events_at sys.flow p (events next.history))) (sym same)
-          (subst (Of (front_of state.settled p)) (sym (events-present sys state choice settled r p is)) t.of_events);
-    }
+    let front : table_front sys next p ≡ table_front sys state p =
+    same-front sys state next p
+    (λ c. checkpoints-left p (λ write. is_kept_write (cut_of choice write.node) write.written next.history) state.writes
+    (λ x same. ap (λ q. is_kept_write (cut_of choice q) x.written next.history) same ∙ ap (λ (c : Cut). is_kept_write c x.written next.history) is))
+    (λ n. subst (λ c. IsSettledCut sys p c (front_of state.settled p) (front_of settled p)) is (r.cuts.each p l)) in
+    same_table-stands sys state next p table
+    (ap (λ b. not (is_input_kind (kind_of sys.flow p) || (is_output_kind (kind_of sys.flow p) || b)))
+    (none_failed sys state choice settled p ∙ sym (present_lives sys state choice settled r p l is)))
+    front (events-present sys state choice settled r p is) t
+
+-- so far as a node is cut, which is no input and no output, its table is settled then
+cut-front : (sys : System) (state : Machine) (choice : Choice) (settled : List Front) → Recovers sys state choice settled
+    → (p : ℕ) → p < length sys.flow.nodes → (is_input_kind (kind_of sys.flow p) || is_output_kind (kind_of sys.flow p)) ≡ false
+    → (f : Front) → cut_of choice p ≡ At f → table_front sys (recovered_state sys state choice settled) p ≡ f
+cut-front sys state choice settled r p l inner f is =
+    let next = recovered_state sys state choice settled in
+    elim (cases_Bool (settles_with_checkpoints sys.flow p)) [
+      | inl c ↦ newest-cut sys state choice settled r p c f is
+      | inr n ↦ front-settled sys next p n ∙ settled-at_cut sys state choice settled r p l (not_input sys.flow p inner) f is
+    ]
 
 -- a node that is cut has a table where it stands for the events inside, and no more is settled
 tables-cut : (sys : System) (state : Machine) (choice : Choice) (settled : List Front) → Recovers sys state choice settled
@@ -196,8 +209,7 @@ tables-cut sys state choice settled r p l inner f is node t =
     let Of : Front → List Event → Type 0 = λ g vs. IsTableOf sys.flow p (node_frontier sys.flow p g) node vs in
     record {
       there = sym (has-inner (is_input_kind (kind_of sys.flow p)) (is_output_kind (kind_of sys.flow p)) (is_failed next p) inner (none_failed sys state choice settled p));
-      of_events = subst (λ g. Of g (events_at sys.flow p (events next.history)))
-          (sym (settled-at_cut sys state choice settled r p l (not_input sys.flow p inner) f is))
+      of_events = subst (λ g. Of g (events_at sys.flow p (events next.history))) (sym (cut-front sys state choice settled r p l inner f is))
           (subst (Of f) (sym (events-cut sys state choice settled p f is)) t);
     }
 

@@ -1,5 +1,5 @@
 -- The traces of nodes after a recovery.
-use Rattle.std.proofs.Common.{◌≡◌, ℕ, ◌<◌, true, false, cond, List, [], length, refl, sym, ap, subst, ◌∙◌}
+use Rattle.std.proofs.Common.{◌≡◌, ℕ, ◌<◌, true, false, cond, List, [], length, refl, sym, ap, subst, ◌∙◌, Bool}
 use Rattle.std.specs.List.{AllByRecursion}
 use Rattle.std.proofs.lemmas.Bool.{cond-true, cond-false, false_from_ne_true}
 use Rattle.fw_lemmas.proofs.Bools.{two_ways}
@@ -15,22 +15,23 @@ use Rattle.fw_flow.specs.declared.choice.Stamps.{Stamps}
 use Rattle.fw_flow.specs.Dataflow.{System, kind_of, policy_of, bounds_of, node_frontier, is_input_kind}
 use Rattle.fw_flow.specs.NodeFunction.{event_stamp, sent_by}
 use Rattle.fw_flow.specs.Projection.{events_at}
-use Rattle.fw_model.specs.Choice.{cut_of, kept_of}
+use Rattle.fw_model.specs.Choice.{IsCutWithin, cut_of, kept_of}
+use Rattle.fw_model.specs.Floors.{IsFloor}
 use Rattle.fw_model.specs.Covers.{set_of}
-use Rattle.fw_model.specs.EventStamps.{AreStampsOf, StandForNumbered, StandForSent}
+use Rattle.fw_model.specs.EventStamps.{AreStampsIf, StandForNumbered, StandForSent, base_of_sent}
 use Rattle.fw_model.specs.Filtering.{messages_from}
 use Rattle.fw_model.specs.Machine.{Machine, events, front_of, is_failed, no_stamps}
 use Rattle.fw_model.specs.Offers.{AreAtEdgeStamps, counted_on_edge, stamps_on}
 use Rattle.fw_model.specs.Steps.{IsSettledCut, recovered_state}
-use Rattle.fw_model.specs.Thinned.{IsThinned}
+use Rattle.fw_model.specs.Thinned.{IsThinned, IsThinnedIf}
 use Rattle.fw_model.specs.Writes.{takes_checkpoints}
 use Rattle.fw_model.proofs.AskedLaws.{takes-not_input}
 use Rattle.fw_model.proofs.LowLaws.{input-is, none-within}
-use Rattle.fw_model.proofs.RestoringLaws.{low-kept}
+use Rattle.fw_model.proofs.FloorLaws.{holds-floors}
 use Rattle.fw_model.proofs.SendPartLaws.{part-sends}
 use Rattle.fw_policy.specs.View.{base_of}
 use Rattle.fw_policy.specs.Entries.{count_within}
-use Rattle.fw_progress.specs.Trace.{AreEventsInside, IsTraceOf, AreRestoredTo, AreCutTo}
+use Rattle.fw_progress.specs.Trace.{AreEventsInside, IsTraceOf, AreRestoredTo, AreCutTo, IsTraceIf}
 use Rattle.fw_progress.proofs.CutTraceLaws.{same-trace}
 use Rattle.fw_progress.specs.declared.traces.Traces.{Traces}
 use Rattle.fw_stands.specs.Recovered.{Recovers, AreNoStamps}
@@ -38,42 +39,43 @@ use Rattle.fw_stands.specs.Written.{events_within}
 use Rattle.fw_stands.proofs.RecoveredFacts.{knows, events-now}
 use Rattle.fw_stands.proofs.RecoveredTables.{events-present, events-cut, settled-at_cut, within-at}
 use Rattle.fw_stands.specs.Parts.{IsTraceIn}
+use Rattle.fw_model.proofs.ThinnedLaws.{thinned-if}
 
 -- ---- a node that stays as it is
 
 -- a node that stays as it is has its traces
-pub traces-present : (sys : System) (state : Machine) (choice : Choice) (settled : List Front) → Recovers sys state choice settled
+pub traces-present : (sys : System) (floor : List Front) (state : Machine) (choice : Choice) (settled : List Front) → Recovers sys state choice settled
     → (p : ℕ) → p < length sys.flow.nodes → cut_of choice p ≡ Present
-    → (traces : Traces) → IsTraceIn sys state p traces → IsTraceIn sys (recovered_state sys state choice settled) p traces
-traces-present sys state choice settled r p l is traces t =
+    → (traces : Traces) → IsTraceIn sys floor state p traces → IsTraceIn sys floor (recovered_state sys state choice settled) p traces
+traces-present sys floor state choice settled r p l is traces t =
     let now = events (recovered_state sys state choice settled).history in
     let takes = takes_checkpoints (policy_of sys.flow p) in
-    let low = node_frontier sys.flow p (front_of state.low p) in
+    let low = node_frontier sys.flow p (front_of floor p) in
     let At_base : Front → Type 0 = λ f. IsTraceOf sys now p (cond takes (node_frontier sys.flow p f) low) traces in
     let same_front : front_of settled p ≡ front_of state.settled p =
     subst (λ c. IsSettledCut sys p c (front_of state.settled p) (front_of settled p)) is (r.cuts.each p l) in
     subst At_base (sym same_front)
-    (same-trace sys (events state.history) now p (base_of sys state p) traces (events-present sys state choice settled r p is) t)
+    (same-trace takes sys (events state.history) now p (base_of sys floor state p) traces (events-present sys state choice settled r p is) t)
 
 -- ---- a node without checkpoints
 
 -- those of a node that takes no checkpoints are cut to its cut
-pub traces-cut : (sys : System) (state : Machine) (choice : Choice) (settled : List Front) → Recovers sys state choice settled
+pub traces-cut : (sys : System) (floor : List Front) (state : Machine) (choice : Choice) (settled : List Front) → Recovers sys state choice settled → IsFloor sys state floor
     → (p : ℕ) → p < length sys.flow.nodes → takes_checkpoints (policy_of sys.flow p) ≡ false → (f : Front) → cut_of choice p ≡ At f
-    → (old new : Traces) → AreCutTo sys.flow p f old new → IsTraceIn sys state p old
-    → IsTraceIn sys (recovered_state sys state choice settled) p new
-traces-cut sys state choice settled r p l takes f is old new cut t =
+    → (old new : Traces) → AreCutTo sys.flow p f old new → IsTraceIn sys floor state p old
+    → IsTraceIn sys floor (recovered_state sys state choice settled) p new
+traces-cut sys floor state choice settled r above p l takes f is old new cut t =
     let k = knows sys state choice settled r in
     let h = events state.history in
     let next = recovered_state sys state choice settled in
-    let low = node_frontier sys.flow p (front_of state.low p) in
-    let base : base_of sys state p ≡ low = cond-false (takes_checkpoints (policy_of sys.flow p)) (node_frontier sys.flow p (front_of state.settled p)) low takes in
-    let base_now : base_of sys next p ≡ low = cond-false (takes_checkpoints (policy_of sys.flow p)) (node_frontier sys.flow p (front_of settled p)) low takes in
+    let low = node_frontier sys.flow p (front_of floor p) in
+    let base : base_of sys floor state p ≡ low = cond-false (takes_checkpoints (policy_of sys.flow p)) (node_frontier sys.flow p (front_of state.settled p)) low takes in
+    let base_now : base_of sys floor next p ≡ low = cond-false (takes_checkpoints (policy_of sys.flow p)) (node_frontier sys.flow p (front_of settled p)) low takes in
     let within : Within low (node_frontier sys.flow p f) =
-    λ s i. ap (λ c. set_of sys.flow p c s) (sym is) ∙ low-kept sys state k.all (is_failed state) choice r.largest p l s i in
+    subst (IsCutWithin sys.flow p (At (front_of floor p))) is (holds-floors sys state floor (is_failed state) choice above r.largest p l) in
     subst (λ b. IsTraceOf sys (events next.history) p b new) (sym base_now)
     (subst (λ vs. IsTraceOf sys vs p low new) (sym (events-now sys state choice settled))
-    (cut.here sys h (kept_of sys.flow choice) refl k.epochs k.legal k.keeps.kept (ap (set_of sys.flow p) is) low within
+    (cut.here (takes_checkpoints (policy_of sys.flow p)) sys h (kept_of sys.flow choice) refl k.epochs k.legal k.keeps.kept (ap (set_of sys.flow p) is) low within
     (subst (λ b. IsTraceOf sys h p b old) base t)))
 
 -- ---- a node that is cut to a checkpoint
@@ -83,11 +85,11 @@ takes-inner : (sys : System) (state : Machine) (choice : Choice) (settled : List
 takes-inner sys state choice settled r p takes =
     false_from_ne_true (is_input_kind (kind_of sys.flow p)) (λ i. takes-not_input sys.flow r.well_formed.flow p takes (input-is (kind_of sys.flow p) i))
 
-base-cut : (sys : System) (state : Machine) (choice : Choice) (settled : List Front) → Recovers sys state choice settled
+base-cut : (sys : System) (floor : List Front) (state : Machine) (choice : Choice) (settled : List Front) → Recovers sys state choice settled
     → (p : ℕ) → p < length sys.flow.nodes → takes_checkpoints (policy_of sys.flow p) ≡ true → (f : Front) → cut_of choice p ≡ At f
-    → base_of sys (recovered_state sys state choice settled) p ≡ node_frontier sys.flow p f
-base-cut sys state choice settled r p l takes f is =
-    cond-true (takes_checkpoints (policy_of sys.flow p)) (node_frontier sys.flow p (front_of settled p)) (node_frontier sys.flow p (front_of state.low p)) takes
+    → base_of sys floor (recovered_state sys state choice settled) p ≡ node_frontier sys.flow p f
+base-cut sys floor state choice settled r p l takes f is =
+    cond-true (takes_checkpoints (policy_of sys.flow p)) (node_frontier sys.flow p (front_of settled p)) (node_frontier sys.flow p (front_of floor p)) takes
     ∙ ap (node_frontier sys.flow p) (settled-at_cut sys state choice settled r p l (takes-inner sys state choice settled r p takes) f is)
 
 -- the events inside are those that the checkpoint has
@@ -107,50 +109,55 @@ part-inside sys state p f =
     (each-filter (λ v. b (event_stamp v) ≡ true) (λ v. b (event_stamp v)) vs (each-one (λ v. b (event_stamp v) ≡ true → b (event_stamp v) ≡ true) vs (λ v i. i)))
 
 -- those of a node that is cut to a checkpoint are restored by the stamps and the count of its entry
-pub traces-from_checkpoints : (sys : System) (state : Machine) (choice : Choice) (settled : List Front) → Recovers sys state choice settled
+pub traces-from_checkpoints : (sys : System) (floor : List Front) (state : Machine) (choice : Choice) (settled : List Front) → Recovers sys state choice settled
     → (p : ℕ) → p < length sys.flow.nodes → takes_checkpoints (policy_of sys.flow p) ≡ true → (f : Front) → cut_of choice p ≡ At f
-    → (stamps : Stamps) (count : ℕ) → AreStampsOf sys (events_within sys state p f) p (node_frontier sys.flow p f) stamps
+    → (stamps : Stamps) (count : ℕ) → AreStampsIf true sys (events_within sys state p f) p (node_frontier sys.flow p f) stamps
     → count ≡ count_within sys state p f
     → (old new : Traces) → AreRestoredTo sys.flow p stamps count old new
-    → IsTraceIn sys (recovered_state sys state choice settled) p new
-traces-from_checkpoints sys state choice settled r p l takes f is stamps count stand counts old new a =
+    → IsTraceIn sys floor (recovered_state sys state choice settled) p new
+traces-from_checkpoints sys floor state choice settled r p l takes f is stamps count stand counts old new a =
     let now = events (recovered_state sys state choice settled).history in
     let part = events_within sys state p f in
     let b = node_frontier sys.flow p f in
     let events_same : events_at sys.flow p now ≡ events_at sys.flow p part = events-cut sys state choice settled p f is ∙ sym (within-at sys state p f) in
-    let trace = a.here sys part b refl stand (counts ∙ sym (ap length (part-sent sys state choice settled r p f))) (part-inside sys state p f) in
-    subst (λ base. IsTraceOf sys now p base new) (sym (base-cut sys state choice settled r p l takes f is))
-    (same-trace sys part now p b new events_same trace)
+    let trace = subst (λ whole. IsTraceIf whole sys part p b new) (sym takes)
+    (a.here true sys part b refl stand (counts ∙ sym (ap length (part-sent sys state choice settled r p f))) (part-inside sys state p f)) in
+    subst (λ base. IsTraceOf sys now p base new) (sym (base-cut sys floor state choice settled r p l takes f is))
+    (same-trace (takes_checkpoints (policy_of sys.flow p)) sys part now p b new events_same trace)
 
 -- ---- a node that is cut to no stamps
 
 none-thinned : (base : Frontier) (kept : List Stamp) → kept ≡ [] → IsThinned base [] kept
 none-thinned base kept e = subst (IsThinned base []) (sym e) (record { among = tt; outside = tt; inside = tt })
 
+none-if : (whole : Bool) (base : Frontier) (kept : List Stamp) → kept ≡ [] → IsThinnedIf whole base [] kept
+none-if whole base kept e = thinned-if whole base [] kept (none-thinned base kept e)
+
 -- no stamps stand for no events
-no-stamps : (sys : System) (p : ℕ) (base : Frontier) (stamps : Stamps) → AreNoStamps stamps → AreStampsOf sys [] p base stamps
-no-stamps sys p base stamps a = record {
+no-stamps : (whole : Bool) (sys : System) (p : ℕ) (base : Frontier) (stamps : Stamps) → AreNoStamps stamps → AreStampsIf whole sys [] p base stamps
+no-stamps whole sys p base stamps a = record {
   on_edges = (subst (AreAtEdgeStamps sys.flow) (sym a.delivered) tt, subst (AreAtEdgeStamps sys.flow) (sym a.sent) tt);
   in_domain = subst (AllByRecursion (λ t. in_domain (bounds_of sys.flow p) t ≡ true)) (sym a.notified) tt;
-  delivered = λ d at. none-thinned base (stamps_on d stamps.delivered) (ap (stamps_on d) a.delivered);
-  notified = none-thinned base stamps.notified a.notified;
-  sent = λ n e l s. subst (λ ms. StandForSent sys [] p base e (counted_on_edge e ms)) (sym a.sent)
-      (record { of_cause = tt; thinned = none-thinned base [] refl });
+  delivered = λ d at. none-if whole base (stamps_on d stamps.delivered) (ap (stamps_on d) a.delivered);
+  notified = none-if whole base stamps.notified a.notified;
+  sent = λ n e l s. subst (λ ms. StandForSent whole sys [] p (base_of_sent whole sys.flow p base) e (counted_on_edge e ms)) (sym a.sent)
+      (record { of_cause = tt; thinned = none-if whole (base_of_sent whole sys.flow p base) [] refl });
   numbered = λ n e l s. subst (StandForNumbered sys [] e) (sym a.sent) (none-thinned _ [] refl);
 }
 
 -- those of a node that is cut to no stamps are restored by none
-pub traces-nothing : (sys : System) (state : Machine) (choice : Choice) (settled : List Front) → Recovers sys state choice settled
+pub traces-nothing : (sys : System) (floor : List Front) (state : Machine) (choice : Choice) (settled : List Front) → Recovers sys state choice settled
     → (p : ℕ) → p < length sys.flow.nodes → cut_of choice p ≡ At (no_stamps (bounds_of sys.flow p))
     → (stamps : Stamps) → AreNoStamps stamps → (old new : Traces) → AreRestoredTo sys.flow p stamps 0 old new
-    → IsTraceIn sys (recovered_state sys state choice settled) p new
-traces-nothing sys state choice settled r p l is stamps empty old new a =
+    → IsTraceIn sys floor (recovered_state sys state choice settled) p new
+traces-nothing sys floor state choice settled r p l is stamps empty old new a =
     let now = events (recovered_state sys state choice settled).history in
-    let base = base_of sys (recovered_state sys state choice settled) p in
+    let base = base_of sys floor (recovered_state sys state choice settled) p in
     let b = node_frontier sys.flow p (no_stamps (bounds_of sys.flow p)) in
     let vs = events_at sys.flow p (events state.history) in
     let none : events_at sys.flow p now ≡ [] =
     events-cut sys state choice settled p (no_stamps (bounds_of sys.flow p)) is
     ∙ filter-none (λ v. b (event_stamp v)) vs (each-one (λ v. b (event_stamp v) ≡ false) vs
     (λ v. false_from_ne_true (b (event_stamp v)) (λ i. two_ways false (none-within (bounds_of sys.flow p) nothing (event_stamp v) i) refl))) in
-    same-trace sys [] now p base new none (a.here sys [] base refl (no-stamps sys p base stamps empty) refl tt)
+    let whole = takes_checkpoints (policy_of sys.flow p) in
+    same-trace whole sys [] now p base new none (a.here whole sys [] base refl (no-stamps whole sys p base stamps empty) refl tt)

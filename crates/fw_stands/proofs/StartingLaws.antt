@@ -5,23 +5,25 @@ use Rattle.std.proofs.lemmas.List.FromFn.{get_or-map-range_with_len}
 use Rattle.std.specs.List.{enumerate_from}
 use Rattle.fw_lemmas.proofs.Bools.{two_ways}
 use Rattle.fw_lemmas.proofs.Lists.{none-mapped}
+use Rattle.fw_time.specs.Stamp.{Stamp}
 use Rattle.fw_bag.specs.declared.rec.Rec.{Rec}
 use Rattle.fw_frontier.specs.Front.{Front, inside}
 use Rattle.fw_frontier.specs.Frontier.{Frontier}
-use Rattle.fw_flow.specs.Dataflow.{System, kind_of, batches_of, bounds_of, receiver, node_ids, is_input_kind, is_output_kind}
+use Rattle.fw_flow.specs.Dataflow.{System, kind_of, batches_of, bounds_of, receiver, node_ids, is_input_kind, is_output_kind, policy_of}
 use Rattle.fw_flow.proofs.EdgeLaws.{kind-past}
-use Rattle.fw_model.specs.Machine.{first_state, no_stamps, front_of, is_failed, ack_count_of, family_of}
+use Rattle.fw_model.specs.Machine.{first_state, no_stamps, front_of, is_failed, ack_count_of}
 use Rattle.fw_model.proofs.ChoiceLaws.{bounds-input}
 use Rattle.fw_model.proofs.LowLaws.{input-is}
 use Rattle.fw_model.specs.Reached.{IsReached}
 use Rattle.fw_policy.specs.View.{base_of}
-use Rattle.fw_stands.specs.Parts.{is_logging, IsTraceIn, IsSourceOf, IsTableIn}
+use Rattle.fw_stands.specs.Parts.{is_logging, table_base, IsTraceIn, IsSourceOf, IsTableIn}
 use Rattle.fw_stands.specs.Starting.{HoldsNothing}
 use Rattle.fw_progress.specs.declared.traces.Traces.{Traces}
-use Rattle.fw_progress.specs.Trace.{IsTraceOf}
+use Rattle.fw_progress.specs.Trace.{IsTraceIf}
 use Rattle.fw_border.specs.Sources.{unused_source}
 use Rattle.fw_node.specs.declared.node.Node.{Node}
 use Rattle.fw_node.specs.TableOf.{IsTableOf}
+use Rattle.fw_model.specs.Writes.{takes_checkpoints}
 
 -- ---- one for each node
 
@@ -43,13 +45,13 @@ first-live sys p = none-mapped (node_ids sys.flow) p
 pub first-reached : (sys : System) → IsReached sys (first_state sys)
 first-reached sys = ([], [], refl)
 
--- the table of no events is that of a node in the first state, if the node is no input and no output
+-- the table of no events, whatever is settled, is that of a node in the first state, if the node is no input and no output
 pub first_table-stands : (sys : System) (p : ℕ) → is_input_kind (kind_of sys.flow p) ≡ false → is_output_kind (kind_of sys.flow p) ≡ false
-    → (node : Node) → IsTableOf sys.flow p (family_of sys.flow (first_state sys).settled p) node [] → IsTableIn sys (first_state sys) p (Some node)
+    → (node : Node) → ((inside : Stamp → Bool) → IsTableOf sys.flow p inside node []) → IsTableIn sys (first_state sys) p (Some node)
 first_table-stands sys p i o node t = record {
   there = sym (ap (λ b. not (b || (is_output_kind (kind_of sys.flow p) || is_failed (first_state sys) p))) i
       ∙ ap (λ b. not (b || is_failed (first_state sys) p)) o ∙ ap not (first-live sys p));
-  of_events = t;
+  of_events = t (table_base sys (first_state sys) p);
 }
 
 -- an input and an output have none
@@ -112,6 +114,6 @@ unused_source-stands sys s i = record {
 -- ---- traces
 
 -- traces of no events, thinned inside whatever base, are those of the first state
-pub first_traces-stand : (sys : System) (p : ℕ) (traces : Traces) → ((base : Frontier) → IsTraceOf sys [] p base traces)
-    → IsTraceIn sys (first_state sys) p traces
-first_traces-stand sys p traces t = t (base_of sys (first_state sys) p)
+pub first_traces-stand : (sys : System) (floor : List Front) (p : ℕ) (traces : Traces) → ((whole : Bool) (base : Frontier) → IsTraceIf whole sys [] p base traces)
+    → IsTraceIn sys floor (first_state sys) p traces
+first_traces-stand sys floor p traces t = t (takes_checkpoints (policy_of sys.flow p)) (base_of sys floor (first_state sys) p)

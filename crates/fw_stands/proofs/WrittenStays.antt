@@ -23,7 +23,7 @@ use Rattle.fw_flow.specs.Restoring.{can_resend}
 use Rattle.fw_flow.specs.WellFormed.{IsWellFormedSystem}
 use Rattle.fw_model.specs.Choice.{kept_of}
 use Rattle.fw_model.specs.Covers.{stamp_of_notice}
-use Rattle.fw_model.specs.EventStamps.{AreStampsOf, causes_in, causes_of}
+use Rattle.fw_model.specs.EventStamps.{AreStampsIf, base_of_sent, causes_in, causes_of}
 use Rattle.fw_model.specs.Filtering.{events_inside, messages_from, messages_outside}
 use Rattle.fw_model.specs.History.{message_on, delivered_messages, sent_messages, IsLegal}
 use Rattle.fw_model.specs.LawsOfWrites.{HasEventOf, HasItsEvent}
@@ -32,7 +32,7 @@ use Rattle.fw_model.specs.Offers.{counted_on_edge, stamps_on, stamps_on_from}
 use Rattle.fw_model.specs.Reached.{IsReached}
 use Rattle.fw_model.specs.SortedMessages.{sorted_messages}
 use Rattle.fw_model.specs.Steps.{Effect, did, LeadsTo}
-use Rattle.fw_model.specs.Thinned.{IsThinned}
+use Rattle.fw_model.specs.Thinned.{IsThinned, IsThinnedIf}
 use Rattle.fw_model.specs.Writes.{CountsTheSame, CountsWritten}
 use Rattle.fw_model.proofs.AskedLaws.{AreSerialsBelow, reached-all, took-reached}
 use Rattle.fw_model.proofs.DomainLaws.{has_epochs}
@@ -75,24 +75,24 @@ notices-own flow p h =
     elsewhere (Notified q t) n = cond_both (q == p) (t ∷ []) [] (λ (ts : List Stamp). ts ≡ []) (λ c. absurd (two_ways (q == p) c n)) (λ c. refl)
 
 -- the stamps stand for a node's events in each history in which these are the same
-pub stamps-own : (sys : System) (h k : List Happened) (p : ℕ) (base : Frontier) (stamps : Stamps) → events_at sys.flow p k ≡ events_at sys.flow p h
-    → AreStampsOf sys h p base stamps → AreStampsOf sys k p base stamps
-stamps-own sys h k p base stamps same a =
+pub stamps-own : (whole : Bool) (sys : System) (h k : List Happened) (p : ℕ) (base : Frontier) (stamps : Stamps) → events_at sys.flow p k ≡ events_at sys.flow p h
+    → AreStampsIf whole sys h p base stamps → AreStampsIf whole sys k p base stamps
+stamps-own whole sys h k p base stamps same a =
     let own : (e : ℕ) → sender sys.flow e ≡ p → sent_messages sys h e ≡ sent_messages sys k e =
     λ e s. subst (λ q. sent_by sys q (events_at sys.flow q h) ≡ sent_by sys q (events_at sys.flow q k)) (sym s) (ap (sent_by sys p) (sym same)) in
     record {
       on_edges = a.on_edges;
       in_domain = a.in_domain;
       delivered = λ d r.
-          subst (λ ms. IsThinned base (map (λ (m : Message). m.at) ms) (stamps_on d stamps.delivered))
+          subst (λ ms. IsThinnedIf whole base (map (λ (m : Message). m.at) ms) (stamps_on d stamps.delivered))
           (sym (delivered-own sys.flow p d r h) ∙ ap (λ vs. delivered_messages vs d) (sym same) ∙ delivered-own sys.flow p d r k) (a.delivered d r);
-      notified = subst (λ ts. IsThinned base ts stamps.notified)
+      notified = subst (λ ts. IsThinnedIf whole base ts stamps.notified)
           (sym (notices-own sys.flow p h) ∙ ap (flat_map (stamp_of_notice p)) (sym same) ∙ notices-own sys.flow p k) a.notified;
       sent = λ n e l s.
           let x = a.sent n e l s in
           record {
             of_cause = x.of_cause;
-            thinned = subst (λ ms. IsThinned base (causes_in ms) (causes_of (counted_on_edge e stamps.sent))) (own e s) x.thinned;
+            thinned = subst (λ ms. IsThinnedIf whole (base_of_sent whole sys.flow p base) (causes_in ms) (causes_of (counted_on_edge e stamps.sent))) (own e s) x.thinned;
           };
       numbered = λ n e l s.
           subst (λ ms. IsThinned (everything (bounds_of sys.flow (receiver sys.flow e))) (map (λ (m : Message). m.at) ms)
@@ -138,7 +138,7 @@ within-stays : (sys : System) (state next : Machine) (p : ℕ) (f : Front) → A
     → HoldsWithin sys state p f r s n → HoldsWithin sys next p f r s n
 within-stays sys state next p f a r s n h = record {
   recorded = recorded-stays sys state next p f a.counts r h.recorded;
-  stamps = stamps-own sys (events_within sys state p f) (events_within sys next p f) p (node_frontier sys.flow p f) s a.within h.stamps;
+  stamps = stamps-own true sys (events_within sys state p f) (events_within sys next p f) p (node_frontier sys.flow p f) s a.within h.stamps;
   sent = h.sent ∙ ap length (sym a.sent);
 }
 

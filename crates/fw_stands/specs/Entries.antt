@@ -1,12 +1,12 @@
 -- What stands for what is written, and what becomes of entries in a step.
-use Rattle.std.specs.Prelude.{ℕ, Bool, not, ◌&&◌, ◌==◌, if◌then◌else◌, List, [], ◌∷◌, filter, ◌≡◌, Option, Some, None, option_and_then}
+use Rattle.std.specs.Prelude.{ℕ, Bool, not, ◌&&◌, ◌==◌, if◌then◌else◌, List, [], ◌∷◌, filter, ◌≡◌, Option, Some, None, option_and_then, true}
 use Rattle.std.specs.List.{flat_map, list_any, AllZip}
 use Rattle.fw_frontier.specs.Front.{Front, same_front}
 use Rattle.fw_flow.specs.declared.choice.Stamps.{Stamps}
 use Rattle.fw_flow.specs.declared.kind.Policy.{Policy}
 use Rattle.fw_flow.specs.declared.kind.Policy.TheVariants as policy
 use Rattle.fw_flow.specs.Dataflow.{System, node_frontier, is_one_of}
-use Rattle.fw_model.specs.EventStamps.{AreStampsOf}
+use Rattle.fw_model.specs.EventStamps.{AreStampsIf}
 use Rattle.fw_model.specs.Machine.{Machine, checkpoint, logged_event, Written as WrittenBy, Write}
 use Rattle.fw_record.specs.declared.record.Event.{Event}
 use Rattle.fw_record.specs.declared.record.Event.TheVariants as logged
@@ -31,7 +31,7 @@ pub record StaysWritten (sys : System) (state next : Machine) (p : ℕ) (what : 
 
 -- the stamps are those of the events of a node in a checkpoint; of a logged event there are none to be kept
 abbrev pub HasStamps : System → Machine → ℕ → WrittenBy → Stamps → Type 0
-HasStamps sys state p (checkpoint f low) stamps = AreStampsOf sys (events_within sys state p f) p (node_frontier sys.flow p f) stamps
+HasStamps sys state p (checkpoint f low) stamps = AreStampsIf true sys (events_within sys state p f) p (node_frontier sys.flow p f) stamps
 HasStamps sys state p (logged_event serial) stamps = Unit {0}
 
 -- the rec that an event delivers, if it does, has two numbers of 64 bits

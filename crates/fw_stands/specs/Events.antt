@@ -14,14 +14,14 @@ use Rattle.fw_flow.specs.NodeFunction.{event_node, event_stamp, sends}
 use Rattle.fw_flow.specs.Projection.{events_at}
 use Rattle.fw_model.specs.Filtering.{messages_outside}
 use Rattle.fw_model.specs.History.{message_on, IsEnabled}
-use Rattle.fw_model.specs.Machine.{Machine, events, family_of, front_of, is_failed}
+use Rattle.fw_model.specs.Machine.{Machine, events, front_of, is_failed}
 use Rattle.fw_model.specs.SortedMessages.{sorted_messages, with_messages}
 use Rattle.fw_model.specs.Steps.{silent, did, idle, is_asked, StepsTo, with_event}
 use Rattle.fw_model.specs.Told.{is_told, IsSumOfTold}
 use Rattle.fw_node.specs.Answers.{caused_by}
 use Rattle.fw_node.specs.Arrived.{IsOneOf}
 use Rattle.fw_progress.specs.History.{stamps_sent}
-use Rattle.fw_stands.specs.Parts.{queued, is_logging, logged}
+use Rattle.fw_stands.specs.Parts.{queued, is_logging, logged, table_base}
 
 -- ---- what is delivered
 
@@ -92,26 +92,26 @@ IsInjectionOf sys state s x (Some batch) =
 -- ---- tables
 
 -- A delivery that may come next meets what its node asks: it is on an in-edge of the node, which is no input, at a stamp of its
--- domain that is not settled and, where the node is notified, of which it was not.
+-- domain that is not settled into its table and, where the node is notified, of which it was not.
 pub record CanTakeIn (sys : System) (state : Machine) (e : ℕ) (m : Message) : Type 0 where
   pub edge : e < length sys.flow.edges
   pub declared : receiver sys.flow e < length sys.flow.nodes
   pub no_input : is_input_kind (kind_of sys.flow (receiver sys.flow e)) ≡ false
   pub on_edge : IsOneOf (in_edges sys.flow (receiver sys.flow e)) e
   pub in_the_domain : in_domain (bounds_of sys.flow (receiver sys.flow e)) m.at ≡ true
-  pub unsettled : family_of sys.flow state.settled (receiver sys.flow e) m.at ≡ false
+  pub unsettled : table_base sys state (receiver sys.flow e) m.at ≡ false
   pub untold : is_notified_kind (kind_of sys.flow (receiver sys.flow e)) ≡ true
       → is_told (events_at sys.flow (receiver sys.flow e) (events state.history)) m.at ≡ false
 
 -- A notification that may come next meets what its node asks: the node is notified, and is no input and no output; the stamp is one
--- of its domain that is not settled, and of which it was not notified; and a total has the sum of what it was told.
+-- of its domain that is not settled into its table, and of which it was not notified; and a total has the sum of what it was told.
 pub record CanTakeNotice (sys : System) (state : Machine) (p : ℕ) (t : Stamp) : Type 0 where
   pub declared : p < length sys.flow.nodes
   pub notified : is_notified_kind (kind_of sys.flow p) ≡ true
   pub no_input : is_input_kind (kind_of sys.flow p) ≡ false
   pub no_output : is_output_kind (kind_of sys.flow p) ≡ false
   pub in_the_domain : in_domain (bounds_of sys.flow p) t ≡ true
-  pub unsettled : family_of sys.flow state.settled p t ≡ false
+  pub unsettled : table_base sys state p t ≡ false
   pub untold : is_told (events_at sys.flow p (events state.history)) t ≡ false
   pub sums : kind_of sys.flow p ≡ Total
-      → IsSumOfTold (family_of sys.flow state.settled p) (events_at sys.flow p (events state.history)) t
+      → IsSumOfTold (table_base sys state p) (events_at sys.flow p (events state.history)) t

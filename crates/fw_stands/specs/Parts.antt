@@ -1,19 +1,24 @@
 -- What each part of an engine holds of a state of the machine.
-use Rattle.std.specs.Prelude.{◌≡◌, ℕ, Bool, not, ◌&&◌, ◌||◌, if◌then◌else◌, ◌==◌, nat_lt, List, [], ◌∷◌, filter, length, Option, is_some, IfSome}
+use Rattle.std.specs.Prelude.{◌≡◌, ℕ, Bool, true, false, not, ◌&&◌, ◌||◌, if◌then◌else◌, ◌==◌, nat_lt, List, [], ◌∷◌, filter, length, Option, is_some, IfSome}
 use Rattle.std.specs.List.{enumerate_from}
 use Rattle.fw_time.specs.Stamp.{same}
 use Rattle.fw_bag.specs.declared.rec.Rec.{Rec}
 use Rattle.fw_bag.specs.Keyed.{sorted_recs}
-use Rattle.fw_frontier.specs.Front.{inside}
+use Rattle.fw_frontier.specs.Front.{Front, inside}
+use Rattle.fw_frontier.specs.Frontier.{Frontier}
 use Rattle.fw_flow.specs.declared.event.Message.{Message}
-use Rattle.fw_flow.specs.Dataflow.{System, kind_of, policy_of, sender, receiver, batches_of, is_input_kind, is_output_kind}
+use Rattle.fw_flow.specs.declared.kind.Kind.{Kind}
+use Rattle.fw_flow.specs.declared.kind.Kind.TheVariants.{Total, Ledger}
+use Rattle.fw_flow.specs.Dataflow.{System, Dataflow, kind_of, policy_of, sender, receiver, batches_of, bounds_of, node_frontier, is_input_kind, is_output_kind}
 use Rattle.fw_flow.specs.NodeFunction.{delivered_recs}
 use Rattle.fw_flow.specs.Projection.{events_at}
 use Rattle.fw_flow.specs.Restoring.{can_resend}
 use Rattle.fw_model.specs.Filtering.{messages_outside}
 use Rattle.fw_model.specs.History.{pending_messages, sent_messages, injected_count}
-use Rattle.fw_model.specs.Machine.{Machine, events, family_of, front_of, is_failed, ack_count_of}
+use Rattle.fw_model.specs.Machine.{Machine, events, family_of, front_of, is_failed, ack_count_of, no_stamps}
 use Rattle.fw_model.specs.SortedMessages.{sorted_messages}
+use Rattle.fw_model.specs.Steps.{newest_checkpoint}
+use Rattle.fw_model.specs.Writes.{takes_checkpoints}
 use Rattle.fw_border.specs.Outputs.{OutputState, recs_at_number}
 use Rattle.fw_border.specs.Sources.{SourceState}
 use Rattle.fw_node.specs.declared.node.Node.{Node}
@@ -28,11 +33,32 @@ use Rattle.fw_progress.specs.Trace.{IsTraceOf}
 abbrev pub has_table : System → Machine → ℕ → Bool
 has_table sys state p = not (is_input_kind (kind_of sys.flow p) || (is_output_kind (kind_of sys.flow p) || is_failed state p))
 
--- A node has a table exactly where it is to have one, and it is that of its events, where so much is settled.
+-- whether a node of the kind keeps the total of each key over all that came
+abbrev pub sums_up : Kind → Bool
+sums_up Total = true
+sums_up Ledger = true
+sums_up kind = false
+
+-- whether the table of node p settles as its checkpoints are asked: it keeps totals, and takes checkpoints
+abbrev pub settles_with_checkpoints : Dataflow → ℕ → Bool
+settles_with_checkpoints flow p = takes_checkpoints (policy_of flow p) && sums_up (kind_of flow p)
+
+-- up to where the table of node p is settled: where it settles with the checkpoints up to the newest of these, and to no stamp while
+-- there is none; else up to where the node is settled
+abbrev pub table_front : System → Machine → ℕ → Front
+table_front sys state p =
+    if settles_with_checkpoints sys.flow p then newest_checkpoint p (no_stamps (bounds_of sys.flow p)) state.writes
+    else front_of state.settled p
+
+-- the same as a frontier
+abbrev pub table_base : System → Machine → ℕ → Frontier
+table_base sys state p = node_frontier sys.flow p (table_front sys state p)
+
+-- A node has a table exactly where it is to have one, and it is that of its events, where so much is settled into it.
 pub record IsTableIn (sys : System) (state : Machine) (p : ℕ) (table : Option Node) : Type 0 where
   pub there : is_some table ≡ has_table sys state p
   pub of_events : IfSome table
-      (λ node. IsTableOf sys.flow p (family_of sys.flow state.settled p) node (events_at sys.flow p (events state.history)))
+      (λ node. IsTableOf sys.flow p (table_base sys state p) node (events_at sys.flow p (events state.history)))
 
 -- what is pending on edge e in order, and nothing where the receiver is failed
 abbrev pub queued : System → Machine → ℕ → List Message
@@ -70,6 +96,6 @@ pub record IsSourceOf (sys : System) (state : Machine) (s : ℕ) (source : Sourc
   pub held : source.held
       ≡ filter (λ batch. not (inside (front_of state.low s) (batch.0 ∷ []))) (enumerate_from 0 (batches_of sys s))
 
--- the traces of node p are those of its events in the state, thinned inside its base
-abbrev pub IsTraceIn : System → Machine → ℕ → Traces → Type 0
-IsTraceIn sys state p traces = IsTraceOf sys (events state.history) p (base_of sys state p) traces
+-- the traces of node p are those of its events in the state, thinned inside its base above a floor
+abbrev pub IsTraceIn : System → List Front → Machine → ℕ → Traces → Type 0
+IsTraceIn sys floor state p traces = IsTraceOf sys (events state.history) p (base_of sys floor state p) traces

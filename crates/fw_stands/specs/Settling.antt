@@ -1,5 +1,5 @@
 -- When more is settled, and what then becomes of tables and traces.
-use Rattle.std.specs.Prelude.{◌≡◌, ℕ, ◌++◌, Bool, true, false, List}
+use Rattle.std.specs.Prelude.{◌≡◌, ℕ, ◌++◌, Bool, true, false, List, [], ◌∷◌}
 use Rattle.fw_time.specs.Stamp.{Stamp}
 use Rattle.fw_frontier.specs.Frontier.{Frontier, Within}
 use Rattle.fw_frontier.specs.Front.{Front}
@@ -7,13 +7,13 @@ use Rattle.fw_flow.specs.declared.event.Event.{Event}
 use Rattle.fw_flow.specs.Dataflow.{System, Dataflow, kind_of, node_ids, node_frontier, is_notified_kind}
 use Rattle.fw_model.specs.History.{AreEventsInDomain}
 use Rattle.fw_model.specs.Machine.{Machine, front_of}
-use Rattle.fw_model.specs.Steps.{eager_writes}
+use Rattle.fw_model.specs.Steps.{checkpoint_of, eager_writes}
 use Rattle.fw_model.specs.Told.{AreToldInside}
 use Rattle.fw_node.specs.declared.node.Node.{Node}
 use Rattle.fw_node.specs.TableOf.{IsTableOf}
 use Rattle.fw_progress.specs.declared.traces.Traces.{Traces}
 use Rattle.fw_progress.specs.Settle.{has_more}
-use Rattle.fw_progress.specs.Trace.{IsTraceOf, IsTraceWithin}
+use Rattle.fw_progress.specs.Trace.{IsTraceWithin, IsTraceIf}
 use Rattle.fw_stands.specs.Staying.{KeepsQueues, KeepsLogs, KeepsOutputs, KeepsSources, KeepsLost}
 
 -- ---- the step
@@ -21,6 +21,10 @@ use Rattle.fw_stands.specs.Staying.{KeepsQueues, KeepsLogs, KeepsOutputs, KeepsS
 -- the state in which so much is settled, and the eager nodes that grew have asked their checkpoints
 abbrev pub settled_state : System → Machine → List Front → Machine
 settled_state sys state settled = record state { settled = settled; writes = state.writes ++ eager_writes sys state settled (node_ids sys.flow) }
+
+-- the state in which node p has asked a checkpoint of what is settled
+abbrev pub asked_state : Machine → ℕ → Machine
+asked_state state p = record state { writes = state.writes ++ checkpoint_of state p (front_of state.settled p) ∷ [] }
 
 -- What is settled of a node grows by what is kept: it is as it was where the node is failed, and where no more is kept; and where the
 -- node is not failed no more is kept than is settled then.
@@ -41,10 +45,10 @@ IsSettledTable flow p f old new = (settled : Stamp → Bool) (before : List Even
 
 -- The traces of the nodes that pass the test are settled to these fronts, and those of the others kept.
 pub record AreSettledAt (flow : Dataflow) (test : ℕ → Bool) (fronts : List Front) (old new : Traces) : Type 0 where
-  pub here : (p : ℕ) → test p ≡ true → (sys : System) (h : List Event) → sys.flow ≡ flow → AreEventsInDomain flow h p
-      → IsTraceWithin sys h p (front_of fronts p) old → IsTraceOf sys h p (node_frontier flow p (front_of fronts p)) new
-  pub others : (p : ℕ) → test p ≡ false → (sys : System) (h : List Event) → sys.flow ≡ flow → (base : Frontier)
-      → IsTraceOf sys h p base old → IsTraceOf sys h p base new
+  pub here : (p : ℕ) → test p ≡ true → (whole : Bool) (sys : System) (h : List Event) → sys.flow ≡ flow → AreEventsInDomain flow h p
+      → IsTraceWithin whole sys h p (front_of fronts p) old → IsTraceIf whole sys h p (node_frontier flow p (front_of fronts p)) new
+  pub others : (p : ℕ) → test p ≡ false → (whole : Bool) (sys : System) (h : List Event) → sys.flow ≡ flow → (base : Frontier)
+      → IsTraceIf whole sys h p base old → IsTraceIf whole sys h p base new
 
 -- ---- the rest
 

@@ -1,6 +1,7 @@
 -- What a step leaves of each part as it was.
-use Rattle.std.specs.Prelude.{◌≡◌, ◌↔◌, ℕ, Option}
+use Rattle.std.specs.Prelude.{◌≡◌, ◌↔◌, ℕ, List, Option}
 use Rattle.fw_time.specs.Stamp.{Stamp}
+use Rattle.fw_frontier.specs.Front.{Front}
 use Rattle.fw_flow.specs.Dataflow.{System}
 use Rattle.fw_model.specs.Machine.{Machine, ack_count_of}
 use Rattle.fw_border.specs.Sources.{SourceState}
@@ -30,17 +31,16 @@ pub record KeepsOutputs (sys : System) (state next : Machine) : Type 0 where
 abbrev pub KeepsSources : System → Machine → Machine → Type 0
 KeepsSources sys state next = (s : ℕ) (source : SourceState) → IsSourceOf sys state s source → IsSourceOf sys next s source
 
--- the traces of each node stand for the next state where they stood for this one
+-- above each floor the traces of each node stand for the next state where they stood for this one
 abbrev pub KeepsTraces : System → Machine → Machine → Type 0
-KeepsTraces sys state next = (p : ℕ) (traces : Traces) → IsTraceIn sys state p traces → IsTraceIn sys next p traces
+KeepsTraces sys state next = (floor : List Front) (p : ℕ) (traces : Traces) → IsTraceIn sys floor state p traces → IsTraceIn sys floor next p traces
 
 -- events at the same stamps are lost of each node
 abbrev pub KeepsLost : System → Machine → Machine → Type 0
 KeepsLost sys state next = (p : ℕ) (t : Stamp) → IsLostAt sys next p t ↔ IsLostAt sys state p t
 
--- Tables, queues, logs, outputs, inputs and traces stay as they were.
-pub record KeepsParts (sys : System) (state next : Machine) : Type 0 where
-  pub tables : KeepsTables sys state next
+-- Queues, logs, outputs, inputs and traces stay as they were.
+pub record KeepsAllButTables (sys : System) (state next : Machine) : Type 0 where
   pub queues : KeepsQueues sys state next
   pub logs : KeepsLogs sys state next
   pub outputs : KeepsOutputs sys state next

@@ -34,7 +34,7 @@ rooms_kept {T} inside old new k (e ∷ es) h = ((λ i q s. k q (h.0 i q s)), roo
 
 -- ---- recs by tests
 
-where_alike : (test other : Arrival → Bool) (came : List Arrival) → AllByRecursion (λ (a : Arrival). test a ≡ other a) came
+pub where_alike : (test other : Arrival → Bool) (came : List Arrival) → AllByRecursion (λ (a : Arrival). test a ≡ other a) came
     → recs_where test came ≡ recs_where other came
 where_alike test other [] h = refl
 where_alike test other (a ∷ came) h =

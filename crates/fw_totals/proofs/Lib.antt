@@ -3,3 +3,4 @@ pub mod MergeLaws
 pub mod NoticeLaws
 pub mod PlaceLaws
 pub mod RestoreLaws
+pub mod SinceLaws

@@ -62,7 +62,7 @@ has_shown q r rs true = refl
 has_shown q r rs false = refl
 
 module _ (p r : Arrival → Bool) (q : ℕ) where
-  values_split : (came : List Arrival) → AllByRecursion (λ (a : Arrival). (p a && r a) ≡ false) came
+  pub values_split : (came : List Arrival) → AllByRecursion (λ (a : Arrival). (p a && r a) ≡ false) came
       → value_sum q (recs_where (λ a. p a || r a) came) ≡ plus (value_sum q (recs_where r came)) (value_sum q (recs_where p came))
   values_split [] x = refl
   values_split (a ∷ came) x =
@@ -109,7 +109,7 @@ module _ (p r : Arrival → Bool) (q : ℕ) where
 none_added : (n m : ℕ) → n < 2 ^ 64 → m ≡ 0 → n ≡ plus n m
 none_added n m l h = omega arith
 
-merge_cases : (b d : Bool) (T N : ℕ) → T < 2 ^ 64 → (b ≡ false → T ≡ 0) → (d ≡ false → N ≡ 0)
+pub merge_cases : (b d : Bool) (T N : ℕ) → T < 2 ^ 64 → (b ≡ false → T ≡ 0) → (d ≡ false → N ≡ 0)
     → combined (cond b (Some T) None) (cond d (Some N) None) ≡ cond (b || d) (Some (plus T N)) None
 merge_cases true true T N l h k = ap (λ n. Some n) (plus-swap N T)
 merge_cases true false T N l h k = ap (λ n. Some n) (none_added T N l (k refl))

@@ -49,3 +49,11 @@ AreSumsIn rs xs = AllByRecursion (λ (x : Rec). x.value ≡ value_sum x.key rs) 
 -- the total of a key, where that of each key of the second recs is its sum in the first ones, and else the one before
 abbrev pub written : List Rec → List Rec → Option ℕ → ℕ → Option ℕ
 written rs xs before key = if has_key key xs then Some (value_sum key rs) else before
+
+-- ---- changes
+
+-- Written over the totals of the old recs these give the totals of all: each is the sum of its key among all, and a key that is not
+-- among them has the same sum in both.
+pub record WritesOver (changes old all : List Rec) : Type 0 where
+  pub sums : AreSumsIn all changes
+  pub found : (key : ℕ) → written all changes (sum_at key old) key ≡ sum_at key all

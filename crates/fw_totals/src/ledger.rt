@@ -1,14 +1,15 @@
 //! The running total of each key over the numbers.
-ghost use Rattle.std.specs.Prelude.{◌≡◌, ℕ, Bool, List, [], ◌∷◌, true, false, IfOk, OnOk, OnErr, IsTrue, IsErr};
+ghost use Rattle.std.specs.Prelude.{◌≡◌, ◌&&◌, not, ℕ, Bool, List, [], ◌∷◌, true, false, IfOk, OnOk, OnErr, IsTrue, IsErr};
 ghost use Rattle.fw_bag.specs.Arrivals.{Arrival, recs_of, arrival, recs_inside, AreInside, AreTimes};
 ghost use Rattle.fw_bag.specs.Keyed.{plus, value_sum};
 ghost use Rattle.fw_frontier.specs.Below.{is_below};
 ghost use Rattle.fw_frontier.specs.Frontier.{Within};
-ghost use Rattle.fw_table.specs.Sums.{sums_by_key};
+ghost use Rattle.fw_table.specs.Sums.{sums_at_keys, sums_by_key};
 ghost use Rattle.fw_totals.specs.Ledger.{IsLedger};
+ghost use Rattle.fw_totals.specs.Totals.{WritesOver};
 
 use crate::settling::Settling;
-use crate::totals::{place_at, restored};
+use crate::totals::{place_at, restored, write};
 use fw_bag::{Rec, Recs};
 use fw_frontier::Below;
 use fw_table::Sent;
@@ -137,5 +138,43 @@ impl Ledger {
             return Err(AllocError);
         }
         self.table.totals_at(f)
+    }
+
+    /// The totals of what came inside, which holds what is settled, of the keys alone to which something came outside what is
+    /// settled; in ascending order of the keys.
+    ///
+    /// It costs these keys, and the times that are not settled. It fails where memory is refused, now or earlier.
+    pub fn totals_since(&self, f: &Below) -> Result<Recs, AllocError>
+        ensures totals { (inside after : List ℕ → Bool) (came : List Arrival)
+            → ((n : ℕ) → after (n ∷ []) ≡ is_below f.now.until n) → Within inside after
+            → IsLedger inside self.now came
+            → IfOk result (λ totals. totals ≡ sums_at_keys (recs_inside (λ s. after s && not (inside s)) came) (recs_inside after came)) }
+        ensures stays { IsTrue self.now.refused → IsErr result }
+    {
+        if self.refused {
+            return Err(AllocError);
+        }
+        self.table.totals_since(f)
+    }
+
+    /// Writes totals over those of what is settled, where nothing came outside. It is for restoring.
+    ///
+    /// It fails where memory is refused, now or earlier.
+    pub fn take_changes(&mut self, totals: &[Rec]) -> Result<(), AllocError>
+        ensures ok { (inside after : List ℕ → Bool) (came all : List Arrival)
+            → AreInside inside came → AreInside after all → AreTimes ⟦<SeqNo as Time>⟧.coords all
+            → WritesOver totals.now (recs_of came) (recs_of all) → IsLedger inside self.old came
+            → OnOk result (IsLedger after self.new all) }
+        ensures refused { OnErr result (self.new.refused ≡ true) }
+        ensures stays { IsTrue self.old.refused → IsErr result }
+    {
+        if self.refused {
+            return Err(AllocError);
+        }
+        self.refused = true;
+        self.table.take_changes(totals)?;
+        write(&mut self.running, totals)?;
+        self.refused = false;
+        Ok(())
     }
 }

@@ -1,15 +1,15 @@
 //! Sums by time outside what is settled, and totals of what is settled.
-ghost use Rattle.std.specs.Prelude.{◌≡◌, ℕ, Bool, List, [], ◌∷◌, false, IfOk, OnOk, OnErr, IsOk};
+ghost use Rattle.std.specs.Prelude.{◌≡◌, ◌&&◌, not, ℕ, Bool, List, [], ◌∷◌, false, IfOk, OnOk, OnErr, IsOk};
 ghost use Rattle.std.specs.List.Sorted.{IsStrictlySortedBy};
 ghost use Rattle.std.specs.Map.{keys_of};
 ghost use Rattle.fw_bag.specs.Arrivals.{Arrival, recs_of, arrival, recs_inside, AreInside, AreTimes};
 ghost use Rattle.fw_frontier.specs.Frontier.{Within};
-ghost use Rattle.fw_table.specs.Sums.{sums_by_key};
-ghost use Rattle.fw_totals.specs.Totals.{found};
+ghost use Rattle.fw_table.specs.Sums.{sums_at_keys, sums_by_key};
+ghost use Rattle.fw_totals.specs.Totals.{found, WritesOver};
 ghost use Rattle.fw_totals.specs.Gathered.{gathered, HasRooms};
 ghost use Rattle.fw_totals.specs.Settling.{IsSettling};
 
-use crate::totals::{make_room, restored, shown, take_in};
+use crate::totals::{added, make_room, restored, shown, take_in, write};
 use fw_bag::{Rec, Recs};
 use fw_frontier::{Frontier, Logical};
 use fw_table::{Sums, keep_outside, put_at};
@@ -134,5 +134,35 @@ impl<T: Logical> Settling<T> {
         take_all::<T>(&mut totals, &self.by_time, f)?;
         let recs = shown(self.alloc, &totals)?;
         Ok(Recs::of(recs))
+    }
+
+    /// The totals of what came inside, which holds what is settled, of the keys alone to which something came outside what is
+    /// settled; in ascending order of the keys.
+    ///
+    /// It costs these keys, and the times that are not settled. It fails where memory is refused.
+    pub fn totals_since(&self, f: &T::Frontier) -> Result<Recs, AllocError>
+        ensures { (inside after : List ℕ → Bool) (came : List Arrival)
+            → ((t : T) → after (T.coords t) ≡ T.Frontier.inside f.now t) → Within inside after
+            → IsSettling T.cmp T.coords inside self.now came
+            → IfOk result (λ totals. totals ≡ sums_at_keys (recs_inside (λ s. after s && not (inside s)) came) (recs_inside after came)) }
+    {
+        let mut changed = BTreeMap::new(self.alloc);
+        make_rooms::<T>(&mut changed, &self.by_time, f)?;
+        take_all::<T>(&mut changed, &self.by_time, f)?;
+        let recs = added(self.alloc, &self.settled, &changed)?;
+        Ok(Recs::of(recs))
+    }
+
+    /// Writes totals over those of what is settled, where nothing came outside.
+    ///
+    /// It fails where memory is refused.
+    pub fn take_changes(&mut self, totals: &[Rec]) -> Result<(), AllocError>
+        ensures { (inside after : List ℕ → Bool) (came all : List Arrival)
+            → AreInside inside came → AreInside after all → AreTimes T.coords all
+            → WritesOver totals.now (recs_of came) (recs_of all) → IsSettling T.cmp T.coords inside self.old came
+            → OnOk result (IsSettling T.cmp T.coords after self.new all) }
+    {
+        write(&mut self.settled, totals)?;
+        Ok(())
     }
 }

@@ -1,5 +1,5 @@
 //! The running totals of each key over the epochs.
-ghost use Rattle.std.specs.Prelude.{◌≡◌, ◌||◌, ℕ, Bool, List, [], ◌∷◌, true, false, IfOk, OnOk, OnErr, IsTrue, IsErr};
+ghost use Rattle.std.specs.Prelude.{◌≡◌, ◌||◌, ◌&&◌, not, ℕ, Bool, List, [], ◌∷◌, true, false, IfOk, OnOk, OnErr, IsTrue, IsErr};
 ghost use Rattle.std.specs.Ordering.{nat_cmp};
 ghost use Rattle.std.specs.List.Sorted.{IsStrictlySortedBy};
 ghost use Rattle.std.specs.Map.{keys_of};
@@ -8,7 +8,7 @@ ghost use Rattle.fw_bag.specs.Arrivals.{Arrival, recs_of, arrival, recs_arrived_
 ghost use Rattle.fw_frontier.specs.Below.{is_below};
 ghost use Rattle.fw_frontier.specs.Frontier.{Within};
 ghost use Rattle.fw_table.specs.Sums.{sums_at_keys, sums_by_key};
-ghost use Rattle.fw_totals.specs.Totals.{found, raised_recs};
+ghost use Rattle.fw_totals.specs.Totals.{found, raised_recs, WritesOver};
 ghost use Rattle.fw_totals.specs.Total.{IsTotal};
 ghost use Rattle.fw_totals.specs.Gathered.{HasPlaceForEach};
 
@@ -182,5 +182,43 @@ impl Total {
             return Err(AllocError);
         }
         self.table.totals_at(f)
+    }
+
+    /// The totals of what came inside, which holds what is settled, of the keys alone to which something came outside what is
+    /// settled; in ascending order of the keys.
+    ///
+    /// It costs these keys, and the times that are not settled. It fails where memory is refused, now or earlier.
+    pub fn totals_since(&self, f: &Below) -> Result<Recs, AllocError>
+        ensures totals { (inside after taken : List ℕ → Bool) (came : List Arrival)
+            → ((n : ℕ) → after (n ∷ []) ≡ is_below f.now.until n) → Within inside after
+            → IsTotal inside taken self.now came
+            → IfOk result (λ totals. totals ≡ sums_at_keys (recs_inside (λ s. after s && not (inside s)) came) (recs_inside after came)) }
+        ensures stays { IsTrue self.now.refused → IsErr result }
+    {
+        if self.refused {
+            return Err(AllocError);
+        }
+        self.table.totals_since(f)
+    }
+
+    /// Writes totals over those of what is settled, where nothing came outside. It is for restoring.
+    ///
+    /// It fails where memory is refused, now or earlier.
+    pub fn take_changes(&mut self, totals: &[Rec]) -> Result<(), AllocError>
+        ensures ok { (inside after : List ℕ → Bool) (came all : List Arrival)
+            → AreInside inside came → AreInside after all → AreTimes ⟦<Epoch as Time>⟧.coords all
+            → WritesOver totals.now (recs_of came) (recs_of all) → IsTotal inside inside self.old came
+            → OnOk result (IsTotal after after self.new all) }
+        ensures refused { OnErr result (self.new.refused ≡ true) }
+        ensures stays { IsTrue self.old.refused → IsErr result }
+    {
+        if self.refused {
+            return Err(AllocError);
+        }
+        self.refused = true;
+        self.table.take_changes(totals)?;
+        write(&mut self.running, totals)?;
+        self.refused = false;
+        Ok(())
     }
 }

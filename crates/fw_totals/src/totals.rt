@@ -9,7 +9,7 @@ ghost use Rattle.fw_bag.specs.declared.rec.Rec.{Rec};
 ghost use Rattle.fw_bag.specs.Keyed.{has_key};
 ghost use Rattle.fw_table.specs.Sums.{entry_recs, sums_by_key};
 ghost use Rattle.fw_totals.specs.Gathered.{HasPlaceForEach};
-ghost use Rattle.fw_totals.specs.Totals.{combined, found, shown_entries, written, AreSumsIn, HasTotals};
+ghost use Rattle.fw_totals.specs.Totals.{combined, found, raised_recs, shown_entries, written, AreSumsIn, HasTotals};
 
 use fw_bag::Rec;
 use std::alloc::{AllocError, Global};
@@ -101,6 +101,25 @@ pub(crate) fn shown(
     ensures { (rs : List Rec) → HasTotals totals.now rs → IfOk result (λ recs. recs.items ≡ sums_by_key rs) }
 {
     shown_recs(alloc, totals)
+}
+
+/// The sums with the totals of other keys left out and those of theirs added, as recs, in ascending order of the keys.
+pub(crate) fn added(
+    alloc: Global,
+    totals: &BTreeMap<u64, Option<u64>>,
+    sums: &BTreeMap<u64, Option<u64>>,
+) -> Result<Vec<Rec>, AllocError>
+    ensures recs { IfOk result (λ recs. recs.items ≡ raised_recs totals.now (shown_entries sums.now.entries)) }
+    ensures ordered { IsStrictlySortedBy nat_cmp (keys_of sums.now.entries) }
+{
+    let mut recs = Vec::new(alloc);
+    for (key, sum) in sums {
+        if let Some(sum) = sum {
+            let value = sum.wrapping_add(total_at(totals, *key));
+            recs.push(Rec { key: *key, value })?;
+        }
+    }
+    Ok(recs)
 }
 
 /// Writes recs as the totals of their keys. Where each key has a place it takes no memory.

@@ -1,4 +1,4 @@
-use Rattle.fw_model.proofs.ForgottenLaws.{collected-forgotten}
+use Rattle.fw_model.proofs.CollectedLaws.{collected-forgotten}
 use Rattle.fw_model.proofs.laws.collected_is_what_lies_below.Goals as goal
 
 pub returns : goal.returns

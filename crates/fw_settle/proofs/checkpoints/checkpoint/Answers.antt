@@ -1,15 +1,17 @@
-use Rattle.std.proofs.Common.{◌≡◌, [], length, arith, refl, sym, ap, subst, ◌∙◌, Err}
+use Rattle.std.proofs.Common.{◌≡◌, ◌<◌, [], length, arith, refl, sym, ap, subst, ◌∙◌, Err}
 use Rattle.std.proofs.lemmas.Bool.{both_ways}
 use Rattle.fw_lemmas.proofs.Lists.{read_at}
 use Rattle.fw_frontier.specs.Front.{Front, IsCanonical}
 use Rattle.fw_flow.specs.declared.step.Step.TheVariants.{Checkpoint}
-use Rattle.fw_flow.specs.Dataflow.{bounds_of}
+use Rattle.fw_flow.specs.Dataflow.{Dataflow, bounds_of}
 use Rattle.fw_model.specs.Machine.{front_of}
 use Rattle.fw_running.proofs.AnswerLaws.{left-answers}
 use Rattle.fw_running.proofs.SameStateLaws.{unasked-stands}
-use Rattle.fw_running.proofs.StepLaws.{stays-shaped, step-did, step-fails, step-idle, step-refused_first}
+use Rattle.fw_running.proofs.StepLaws.{stays-shaped, step-did, step-fails, step-idle, step-refused, step-refused_first}
 use Rattle.fw_settle.proofs.AskLaws.{asking-part}
+use Rattle.fw_running.specs.declared.running.Running.{Running}
 use Rattle.fw_settle.specs.Checkpoints.{AsksCheckpoint}
+use Rattle.fw_settle.specs.Settling.{settles_when_asked, SettlesTableIf}
 use Rattle.fw_settle.proofs.WritesLaws.{checkpoint-enabled, may-follows, may_not-idle, may-there}
 use Rattle.fw_settle.proofs.checkpoints.checkpoint.Goals as goal
 
@@ -59,20 +61,55 @@ returns-in_err-ask_checkpoint g c =
       unasked-stands sys old new before after state s asked.others asked.stays,
     ))
 
+pub settle_when_asked-requires-clause-there : goal.settle_when_asked-requires-clause-there
+settle_when_asked-requires-clause-there g c =
+    let there = may-there c.args.running.now c.args.node (c.may_take.ensures.0 c.if-not-may_take.false) in
+    subst (λ (flow : Dataflow). c.args.node < length flow.nodes) (sym (ap (λ (r : Running). r.flow) c.in_ok-ask_checkpoint.ensures.others)) there
+
+pub settle_when_asked-requires-clause-front : goal.settle_when_asked-requires-clause-front
+settle_when_asked-requires-clause-front g c =
+    let running = c.args.running.now in
+    let there = may-there running c.args.node (c.may_take.ensures.0 c.if-not-may_take.false) in
+    let each = c.requires.shaped.progress.settled_each in
+    let long = ap length c.settled.ensures in
+    let here : c.index-settled-place.result ≡ front_of running.progress.settled c.args.node =
+    subst (λ fs. c.index-settled-place.result ≡ front_of fs c.args.node) c.settled.ensures
+    (read_at c.settled.result.now c.args.node c.place.result c.index-settled-place.result [] c.place.ensures (omega (arith, there, each, long, c.place.ensures)) c.index-settled-place.is) in
+    let flow = c.ask_checkpoint.new.running.flow in
+    subst (IsCanonical (bounds_of flow c.args.node)) (sym (c.in_ok-front.ensures ∙ here))
+    (subst (λ (f : Dataflow). IsCanonical (bounds_of f c.args.node) (front_of running.progress.settled c.args.node))
+    (sym (ap (λ (r : Running). r.flow) c.in_ok-ask_checkpoint.ensures.others)) (c.requires.shaped.progress.settled c.args.node))
+
+pub returns-in_err-settle_when_asked : goal.returns-in_err-settle_when_asked
+returns-in_err-settle_when_asked g c =
+    let old = c.args.running.now in
+    let may = c.may_take.ensures.0 c.if-not-may_take.false in
+    let asked = c.in_ok-ask_checkpoint.ensures in
+    let others = c.settle_when_asked.ensures.others in
+    step-refused {T = Unit {0}} {mid = old} {x = c.in_ok-ask_checkpoint.field-0} refl refl
+    (asking-part {old = old} may.asks asked.others asked.stored asked.faults asked.undamaged asked.tells)
+    (ap (λ (r : Running). r.parts.keep) others) (ap (λ (r : Running). r.flow) others) c.from_residual-in_err-settle_when_asked.ensures.1
+
 pub returns : goal.returns
 returns g c =
     let old = c.args.running.now in
-    let new = c.ask_checkpoint.new.running in
+    let mid = c.ask_checkpoint.new.running in
+    let new = c.settle_when_asked.new.running in
     let before = (g.K.Store.view c.args.store.now).records in
     let after = (g.K.Store.view c.ask_checkpoint.new.store).records in
     let may = c.may_take.ensures.0 c.if-not-may_take.false in
     let asked = c.in_ok-ask_checkpoint.ensures in
+    let settled = c.in_ok-settle_when_asked.ensures in
+    let others = c.settle_when_asked.ensures.others in
     let there = may-there old c.args.node may in
     let each = c.requires.shaped.progress.settled_each in
     let long = ap length c.settled.ensures in
     let here : c.index-settled-place.result ≡ front_of old.progress.settled c.args.node =
     subst (λ fs. c.index-settled-place.result ≡ front_of fs c.args.node) c.settled.ensures
     (read_at c.settled.result.now c.args.node c.place.result c.index-settled-place.result [] c.place.ensures (omega (arith, there, each, long, c.place.ensures)) c.index-settled-place.is) in
-    step-did {T = Unit {0}} {mid = old} {x = c.in_ok-ask_checkpoint.field-0} refl refl (asking-part {old = old} may.asks asked.others asked.stored asked.faults asked.undamaged asked.tells) refl refl asked.shaped (λ sys state s trust.
-    may-follows sys state old new before after s asked.others c.args.node may
-    (subst (λ (f : Front). AsksCheckpoint c.args.node f old new before after) (c.in_ok-front.ensures ∙ here) asked.asked))
+    step-did {T = Unit {0}} {mid = old} {x = c.in_ok-ask_checkpoint.field-0} refl refl
+    (asking-part {old = old} may.asks asked.others asked.stored asked.faults asked.undamaged asked.tells)
+    (ap (λ (r : Running). r.parts.keep) others) (ap (λ (r : Running). r.flow) others) settled.shaped (λ sys state s trust.
+    may-follows sys state old mid new before after s asked.others c.args.node may
+    (subst (λ (f : Front). AsksCheckpoint c.args.node f old mid before after) (c.in_ok-front.ensures ∙ here) asked.asked) others
+    (subst (λ (f : Front). SettlesTableIf (settles_when_asked mid.flow c.args.node) c.args.node f mid new) (c.in_ok-front.ensures ∙ here) settled.settled))

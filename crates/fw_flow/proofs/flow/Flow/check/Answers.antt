@@ -34,7 +34,7 @@ returns-in_err-test-clause-checked c =
 pub invariant_of-result : goal.invariant_of-result
 invariant_of-result c =
     let at = goal.at.invariant_of-result c in
-    IsIndexed-from_draft c.in_ok-draft.draft c.raw.inside.declared.items c.raw.inside.names c.raw.invariant.taken c.in_ok-draft.ensures.draft
+    IsIndexed-from_draft c.in_ok-draft.draft c.raw.inside.declared.items c.raw.inside.names c.raw.invariant.taken c.are_distinct.ensures c.in_ok-draft.ensures.draft
     (checked at.In_ok-test (names at.After-test) (limits at.After-test))
 
 pub returns-clause-checked : goal.returns-clause-checked

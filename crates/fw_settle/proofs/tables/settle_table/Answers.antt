@@ -6,7 +6,7 @@ use Rattle.fw_node.specs.declared.node.Node.{Node}
 use Rattle.fw_running.specs.Kept.{table_of}
 use Rattle.fw_settle.proofs.RecordLaws.{table-fits}
 use Rattle.fw_settle.proofs.TableLaws.{table-shaped, table-settles, tables-there}
-use Rattle.fw_settle.proofs.settling.settle_table.Goals as goal
+use Rattle.fw_settle.proofs.tables.settle_table.Goals as goal
 
 pub settle-requires : goal.settle-requires
 settle-requires c =

@@ -1,0 +1,5 @@
+use Rattle.std.proofs.Common.{◌≡◌, ℕ, ◌<◌, [], get_or}
+use Rattle.fw_certify.proofs.same.are_same_fronts.Given as goal
+
+abbrev pub invariant-loop-place : goal.invariant-loop-place
+invariant-loop-place l = (p : ℕ) → p < l.place → get_or l.fronts p [] ≡ get_or l.others p []

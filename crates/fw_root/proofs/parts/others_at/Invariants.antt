@@ -1,0 +1,7 @@
+use Rattle.std.proofs.Common.{◌≡◌, ◌-◌, []}
+use Rattle.fw_bytes.specs.Reading.{many_of}
+use Rattle.fw_root.specs.Reading.{next_other_of}
+use Rattle.fw_root.proofs.parts.others_at.Given as goal
+
+abbrev pub invariant-loop : goal.invariant-loop
+invariant-loop l = many_of (next_other_of l.next_id l.writes) (l.count - l.counter) l.parts.items l.rest ≡ many_of (next_other_of l.next_id l.writes) l.count [] l.bytes

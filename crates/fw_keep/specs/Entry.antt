@@ -21,11 +21,13 @@ use Rattle.fw_keep.specs.declared.entry.Written.TheVariants as written
 abbrev pub node_of_record : Record → ℕ
 node_of_record (tagged.State c) = c.node
 node_of_record (tagged.Event node event) = node
+node_of_record (tagged.Changes base c) = c.node
 
 -- what is written by a record, with these stamps of the node's events where it is a checkpoint
 abbrev pub written_of : Record → Stamps → Written
 written_of (tagged.State c) stamps = written.Checkpoint c.recorded stamps c.state.sent
 written_of (tagged.Event node event) stamps = written.Event event
+written_of (tagged.Changes base c) stamps = written.Checkpoint c.recorded stamps c.state.sent
 
 -- the entry of a record under an id, in flight: it has no base, since each record is whole
 abbrev pub asked : ℕ → Record → Stamps → Entry
@@ -36,6 +38,7 @@ asked id r stamps =
 abbrev pub HasRecorded : Recorded → Record → Type 0
 HasRecorded recorded (tagged.State c) = c.recorded ≡ recorded
 HasRecorded recorded (tagged.Event node event) = ⊥
+HasRecorded recorded (tagged.Changes base c) = ⊥
 
 -- The record can be that of a checkpoint of node p in which this is recorded.
 pub record IsRecordWith (flow : Dataflow) (p : ℕ) (held : Recorded) (r : Record) : Type 0 where

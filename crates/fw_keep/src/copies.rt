@@ -12,7 +12,7 @@ pub(crate) fn node_of(what: &Record) -> NodeId
     ensures { result ≡ node_of_record what.now }
 {
     match what {
-        Record::State(checkpoint) => checkpoint.node,
+        Record::State(checkpoint) | Record::Changes { checkpoint, .. } => checkpoint.node,
         Record::Event { node, .. } => *node,
     }
 }
@@ -22,7 +22,7 @@ pub(crate) fn written_of(what: &Record, stamps: Stamps) -> Result<Written, Alloc
     ensures { IfOk result (λ w. w ≡ written_of what.now stamps) }
 {
     match what {
-        Record::State(checkpoint) => Ok(Written::Checkpoint {
+        Record::State(checkpoint) | Record::Changes { checkpoint, .. } => Ok(Written::Checkpoint {
             recorded: checkpoint.recorded.copy()?,
             stamps,
             sent: checkpoint.state.sent,

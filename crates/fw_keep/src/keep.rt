@@ -1,5 +1,6 @@
 //! The catalogue.
 ghost use Rattle.std.specs.Prelude.{◌≡◌, ◌↔◌, ◌+◌, ◌^◌, ◌<◌, ◌++◌, [], ◌∷◌, Option, true, false, IsTrue, IsErrOf, IfOk, OnOk, OnErr, option_map, Contains};
+ghost use Rattle.std.specs.Option.{option_copied};
 ghost use Rattle.std.specs.FinMap as map;
 ghost use Rattle.fw_outside.specs.Outside.{StayIfTold};
 ghost use Rattle.fw_keep.specs.Faults.{keep_faults_after};
@@ -8,6 +9,7 @@ ghost use Rattle.fw_record.specs.declared.record.Record.{Record as Spelled};
 ghost use Rattle.fw_keep.specs.declared.entry.Entry.{Entry as Write};
 ghost use Rattle.fw_keep.specs.Entry.{asked, is_in_flight_of, is_withdrawn, is_above, is_entry_below, is_at};
 ghost use Rattle.fw_keep.specs.Catalogue.{IsCatalogue, has_entry, oldest, persisted, without};
+ghost use Rattle.fw_keep.specs.Newest.{newest_by};
 ghost use Rattle.fw_keep.specs.Stored.{Records, IsEmptyStore, IsStored, Sweeps, Fetches, IsToldUnder, GivesNoDamage, KeepsBytes, HoldsAs, GivesOnly};
 
 use crate::fetch::{entry_at, read};
@@ -15,7 +17,7 @@ use crate::going::{Above, Below, EventsAt, Going, Lost, Withdrawn, first_from, t
 use crate::persist::{acknowledged, persist_first};
 use crate::put::put_new;
 use crate::sweep::remove_waiting;
-use crate::{Entry, KeepFault};
+use crate::{Entry, KeepFault, newest};
 use fw_flow::{Flow, NodeId, Stamps};
 use fw_frontier::Front;
 use fw_outside::{OutFault, Store};
@@ -88,6 +90,13 @@ impl Keep {
         ensures { result ≡ has_entry id self.now.entries }
     {
         entry_at(&self.entries, id).is_some()
+    }
+
+    /// The newest checkpoint of a node, if it has one: in flight or acknowledged. It takes no memory.
+    pub fn newest_checkpoint(&self, node: NodeId) -> Option<&Entry>
+        ensures { option_copied result ≡ newest_by node self.now.entries }
+    {
+        newest::newest_by(&self.entries, node)
     }
 
     /// Puts a record under the next id, as a write in flight. The stamps say where the node's events are and where they sent:

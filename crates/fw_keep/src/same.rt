@@ -5,13 +5,13 @@ ghost use Rattle.fw_keep.specs.Entry.{HasRecorded};
 use fw_flow::{OfEdge, Recorded};
 use fw_record::Record;
 
-/// Whether this is recorded in the record.
+/// Whether this is recorded in the record, which is a whole checkpoint.
 pub(crate) fn has_recorded(what: &Record, recorded: &Recorded) -> bool
     ensures { IsTrue result ↔ HasRecorded recorded.now what.now }
 {
     match what {
         Record::State(checkpoint) => are_same(&checkpoint.recorded, recorded),
-        Record::Event { .. } => false,
+        Record::Event { .. } | Record::Changes { .. } => false,
     }
 }
 

@@ -221,6 +221,7 @@ first-serves flow p (tagged.State k ∷ rs) c e a =
     let same : k ≡ c = cc in
     subst (λ (x : Checkpoint). AllByRecursion (λ (l : Logged). Contains (out_edges flow p) l.edge) x.log) same a.0
 first-serves flow p (tagged.Event q event ∷ rs) c e a = absurd cc
+first-serves flow p (tagged.Changes base k ∷ rs) c e a = absurd cc
 
 -- they are on edges
 pub logged-there : (flow : Dataflow) (p : ℕ) (ls : List Logged) → AllByRecursion (λ (l : Logged). Contains (out_edges flow p) l.edge) ls

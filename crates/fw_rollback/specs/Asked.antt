@@ -96,6 +96,7 @@ abbrev pub first_checkpoint : List Record → Option Checkpoint
 first_checkpoint [] = None
 first_checkpoint (tagged.State c ∷ rs) = Some c
 first_checkpoint (tagged.Event p event ∷ rs) = None
+first_checkpoint (tagged.Changes base c ∷ rs) = None
 
 -- the events of records, in order
 abbrev pub events_of : List Record → List LoggedEvent
@@ -108,6 +109,7 @@ events_of rs = flat_map event_of rs
 abbrev pub CanServe : Dataflow → ℕ → Record → Type 0
 CanServe flow p (tagged.State c) = AllByRecursion (λ (l : Logged). Contains (out_edges flow p) l.edge) c.log
 CanServe flow p (tagged.Event q event) = in_domain (bounds_of flow p) (stamp_of_event event) ≡ true
+CanServe flow p (tagged.Changes base c) = AllByRecursion (λ (l : Logged). Contains (out_edges flow p) l.edge) c.log
 
 abbrev pub CanServeEach : Dataflow → List (List Record) → Type 0
 CanServeEach flow given = (p : ℕ) → p < length flow.nodes → AllByRecursion (CanServe flow p) (given_of given p)

@@ -48,6 +48,6 @@ fn checkpoint_of(records: &[Record]) -> Option<&Checkpoint>
 {
     match records.first()? {
         Record::State(checkpoint) => Some(checkpoint),
-        Record::Event { .. } => None,
+        Record::Event { .. } | Record::Changes { .. } => None,
     }
 }

@@ -64,8 +64,10 @@ pub record IsCheckpointFor (sys : System) (state : Machine) (p : ℕ) (f : Front
 abbrev pub IsRecordFor : System → Machine → ℕ → WrittenBy → Record → Type 0
 IsRecordFor sys state p (checkpoint f low) (tagged.State c) = IsCheckpointFor sys state p f low c
 IsRecordFor sys state p (checkpoint f low) (tagged.Event node event) = ⊥
+IsRecordFor sys state p (checkpoint f low) (tagged.Changes base c) = ⊥
 IsRecordFor sys state p (logged_event serial) (tagged.State c) = ⊥
 IsRecordFor sys state p (logged_event serial) (tagged.Event node event) = (node ≡ p) × HasEventTold sys.flow p serial event state.history
+IsRecordFor sys state p (logged_event serial) (tagged.Changes base c) = ⊥
 
 -- The records hold as an entry's the record of a write: it has a spelling, can be the entry's, and its bytes are under the
 -- entry's id.

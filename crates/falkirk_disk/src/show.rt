@@ -91,22 +91,29 @@ fn tell_bytes(
         Err(RecordFault::NoMemory) => return Err(AllocError),
     };
     match &record {
-        Record::State(checkpoint) => tell_checkpoint(alloc, flow, checkpoint, told)?,
+        Record::State(checkpoint) => tell_checkpoint(alloc, flow, None, checkpoint, told)?,
         Record::Event { node, event } => tell_event(alloc, flow, *node, event, told)?,
+        Record::Changes { base, checkpoint } => {
+            tell_checkpoint(alloc, flow, Some(*base), checkpoint, told)?
+        }
     }
     let bytes = bytes.len();
     told.push_str(&format!(in alloc; " bytes {bytes}")?)?;
     Ok(true)
 }
 
-// Tells a checkpoint.
+// Tells a checkpoint, with the id of its base where it holds changes.
 fn tell_checkpoint(
     alloc: Global,
     flow: Option<&Flow>,
+    base: Option<u64>,
     checkpoint: &Checkpoint,
     told: &mut String,
 ) -> Result<(), AllocError> {
-    told.push_str("checkpoint node ")?;
+    match base {
+        None => told.push_str("checkpoint node ")?,
+        Some(base) => told.push_str(&format!(in alloc; "changes on {base} node ")?)?,
+    }
     tell_node(alloc, flow, checkpoint.node, told)?;
     let Entries::Totals(totals) = &checkpoint.state.entries;
     let (sent, totals) = (checkpoint.state.sent, totals.as_slice().len());

@@ -191,8 +191,10 @@ record-alike flow now later state a p (checkpoint f low) (tagged.State c) k =
       log_edges = k.log_edges;
     }
 record-alike flow now later state a p (checkpoint f low) (tagged.Event node event) k = absurd k
+record-alike flow now later state a p (checkpoint f low) (tagged.Changes base c) k = absurd k
 record-alike flow now later state a p (logged_event serial) (tagged.State c) k = absurd k
 record-alike flow now later state a p (logged_event serial) (tagged.Event node event) k = k
+record-alike flow now later state a p (logged_event serial) (tagged.Changes base c) k = absurd k
 
 stored-alike : (flow : Dataflow) (now later : List (List (List Rec))) (state : Machine) → AreAlikeIn flow now later (events state.history)
     → (records : Option Records) (entries : List Entry) (writes : List Write)

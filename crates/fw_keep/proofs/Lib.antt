@@ -6,3 +6,4 @@ pub mod KeepLaws
 pub mod BytesLaws
 pub mod InFlightLaws
 pub mod TakingLaws
+pub mod NewestLaws

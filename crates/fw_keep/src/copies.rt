@@ -1,6 +1,6 @@
 //! What an entry takes of a record.
 ghost use Rattle.std.specs.Prelude.{◌≡◌, IfOk};
-ghost use Rattle.fw_keep.specs.Entry.{written_of, node_of_record};
+ghost use Rattle.fw_keep.specs.Entry.{base_of_record, written_of, node_of_record};
 
 use crate::Written;
 use fw_flow::{NodeId, Stamps};
@@ -12,8 +12,18 @@ pub(crate) fn node_of(what: &Record) -> NodeId
     ensures { result ≡ node_of_record what.now }
 {
     match what {
-        Record::State(checkpoint) => checkpoint.node,
+        Record::State(checkpoint) | Record::Changes { checkpoint, .. } => checkpoint.node,
         Record::Event { node, .. } => *node,
+    }
+}
+
+/// The id of the base of a record, if it holds changes.
+pub(crate) fn base_of(what: &Record) -> Option<u64>
+    ensures { result ≡ base_of_record what.now }
+{
+    match what {
+        Record::Changes { base, .. } => Some(*base),
+        Record::State(_) | Record::Event { .. } => None,
     }
 }
 
@@ -22,7 +32,7 @@ pub(crate) fn written_of(what: &Record, stamps: Stamps) -> Result<Written, Alloc
     ensures { IfOk result (λ w. w ≡ written_of what.now stamps) }
 {
     match what {
-        Record::State(checkpoint) => Ok(Written::Checkpoint {
+        Record::State(checkpoint) | Record::Changes { checkpoint, .. } => Ok(Written::Checkpoint {
             recorded: checkpoint.recorded.copy()?,
             stamps,
             sent: checkpoint.state.sent,

@@ -1,21 +1,25 @@
 //! The catalogue.
 ghost use Rattle.std.specs.Prelude.{◌≡◌, ◌↔◌, ◌+◌, ◌^◌, ◌<◌, ◌++◌, [], ◌∷◌, Option, true, false, IsTrue, IsErrOf, IfOk, OnOk, OnErr, option_map, Contains};
+ghost use Rattle.std.specs.Option.{option_copied};
 ghost use Rattle.std.specs.FinMap as map;
 ghost use Rattle.fw_outside.specs.Outside.{StayIfTold};
 ghost use Rattle.fw_keep.specs.Faults.{keep_faults_after};
 ghost use Rattle.fw_record.specs.Spelling.{spelling, FitsItsCounts};
 ghost use Rattle.fw_record.specs.declared.record.Record.{Record as Spelled};
 ghost use Rattle.fw_keep.specs.declared.entry.Entry.{Entry as Write};
-ghost use Rattle.fw_keep.specs.Entry.{asked, is_in_flight_of, is_withdrawn, is_above, is_entry_below, is_at};
+ghost use Rattle.fw_keep.specs.Entry.{asked_beside, IsBased, is_in_flight_of, is_withdrawn, is_above, is_at};
 ghost use Rattle.fw_keep.specs.Catalogue.{IsCatalogue, has_entry, oldest, persisted, without};
+ghost use Rattle.fw_keep.specs.Newest.{is_forgotten_below, newest_by};
 ghost use Rattle.fw_keep.specs.Stored.{Records, IsEmptyStore, IsStored, Sweeps, Fetches, IsToldUnder, GivesNoDamage, KeepsBytes, HoldsAs, GivesOnly};
 
 use crate::fetch::{entry_at, read};
-use crate::going::{Above, Below, EventsAt, Going, Lost, Withdrawn, first_from, take_out};
+use crate::going::{
+    Above, Below, EventsAt, Going, Lost, Withdrawn, first_from, kept_from, take_out,
+};
 use crate::persist::{acknowledged, persist_first};
 use crate::put::put_new;
 use crate::sweep::remove_waiting;
-use crate::{Entry, KeepFault};
+use crate::{Entry, KeepFault, newest};
 use fw_flow::{Flow, NodeId, Stamps};
 use fw_frontier::Front;
 use fw_outside::{OutFault, Store};
@@ -90,7 +94,15 @@ impl Keep {
         entry_at(&self.entries, id).is_some()
     }
 
-    /// Puts a record under the next id, as a write in flight. The stamps say where the node's events are and where they sent:
+    /// The newest checkpoint of a node, if it has one: in flight or acknowledged. It takes no memory.
+    pub fn newest_checkpoint(&self, node: NodeId) -> Option<&Entry>
+        ensures { option_copied result ≡ newest_by node self.now.entries }
+    {
+        newest::newest_by(&self.entries, node)
+    }
+
+    /// Puts a record under the next id, as a write in flight. A record of changes stands on the entry of its base, and is one deeper;
+    /// any other stands on none. The stamps say where the node's events are and where they sent:
     /// the entry of a checkpoint keeps them, that of an event does not. The next id must be below 2^63: `next_id` tells it, and
     /// each call of `ask` raises it by one.
     ///
@@ -107,11 +119,14 @@ impl Keep {
         requires stored { IsStored self.old (K.view store.old).records }
         requires few { self.old.next < 2 ^ 63 }
 
+        // A record of changes stands on the entry of an earlier checkpoint of its node.
+        requires based { IsBased self.old.entries what.now }
+
         // The write is the last one, in flight, and its bytes are under its id; none of its lists has more parts than the
         // bytes can say.
         ensures id { IfOk result (λ id. id ≡ self.old.next) }
         ensures added { OnOk result
-            (self.new.entries ≡ self.old.entries ++ asked self.old.next what.now stamps ∷ []) }
+            (self.new.entries ≡ self.old.entries ++ asked_beside self.old.entries self.old.next what.now stamps ∷ []) }
         ensures put { OnOk result ((K.view store.new).records
             ≡ option_map (λ held. map.insert held self.old.next (spelling what.now)) (K.view store.old).records) }
         ensures counted { OnOk result (FitsItsCounts what.now) }
@@ -194,12 +209,14 @@ impl Keep {
         self.forget(&Above { node, front });
     }
 
-    /// Takes the node's checkpoints out that lie strictly within the frontier. It takes no memory.
+    /// Takes the node's checkpoints out that lie strictly within the frontier and on which none stands that does not: those before the
+    /// newest whole one up to the first that is not strictly within it. It takes no memory.
     pub fn forget_below(&mut self, node: NodeId, front: &Front)
-        ensures gone { self.new ≡ without (is_entry_below node front.now) self.old }
+        ensures gone { self.new ≡ without (is_forgotten_below node front.now self.old) self.old }
         ensures stored { (records : Option Records) → IsStored self.old records → IsStored self.new records }
     {
-        self.forget(&Below { node, front });
+        let until = kept_from(&self.entries, node, front, self.next);
+        self.forget(&Below { node, front, until });
     }
 
     /// Takes the node's events at the stamp out. It takes no memory.

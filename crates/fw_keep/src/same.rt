@@ -5,12 +5,14 @@ ghost use Rattle.fw_keep.specs.Entry.{HasRecorded};
 use fw_flow::{OfEdge, Recorded};
 use fw_record::Record;
 
-/// Whether this is recorded in the record.
+/// Whether this is recorded in the record of a checkpoint, whole or of changes.
 pub(crate) fn has_recorded(what: &Record, recorded: &Recorded) -> bool
     ensures { IsTrue result ↔ HasRecorded recorded.now what.now }
 {
     match what {
-        Record::State(checkpoint) => are_same(&checkpoint.recorded, recorded),
+        Record::State(checkpoint) | Record::Changes { checkpoint, .. } => {
+            are_same(&checkpoint.recorded, recorded)
+        }
         Record::Event { .. } => false,
     }
 }

@@ -9,6 +9,7 @@ pub mod NoticeLaws
 pub mod OnEdgesLaws
 pub mod PastLaws
 pub mod RestoringLaws
+pub mod ChangingLaws
 pub mod SameTable
 pub mod SendsLaws
 pub mod TableCases

@@ -9,7 +9,7 @@ use Rattle.fw_flow.specs.declared.kind.Kind.{Kind}
 use Rattle.fw_flow.specs.declared.kind.Kind.TheVariants as kind
 use Rattle.fw_flow.specs.Dataflow.{is_notified_kind}
 use Rattle.fw_table.specs.Sent.{sent_if_at}
-use Rattle.fw_table.specs.Sums.{sums_by_key}
+use Rattle.fw_table.specs.Sums.{sums_at_keys, sums_by_key}
 use Rattle.fw_numbered.specs.Numbers.{recs_numbered}
 use Rattle.fw_node.specs.Answers.{recs_at_notice}
 use Rattle.fw_flow.specs.declared.event.Event.{Event}
@@ -69,6 +69,12 @@ abbrev pub totals_kept : Kind → List Rec → List Rec
 totals_kept kind.Total rs = sums_by_key rs
 totals_kept kind.Ledger rs = sums_by_key rs
 totals_kept k rs = []
+
+-- the totals that a node of the kind keeps of all the recs, of those keys alone that the first recs have
+abbrev pub totals_changed : Kind → List Rec → List Rec → List Rec
+totals_changed kind.Total since all = sums_at_keys since all
+totals_changed kind.Ledger since all = sums_at_keys since all
+totals_changed k since all = []
 
 -- the past where so much is settled
 abbrev pub with_settled : (Stamp → Bool) → Past → Past

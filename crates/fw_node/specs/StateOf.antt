@@ -1,5 +1,6 @@
 -- The state as which a node is recorded.
-use Rattle.std.specs.Prelude.{◌≡◌, true, List, length}
+use Rattle.std.specs.Prelude.{◌≡◌, Bool, true, not, List, length}
+use Rattle.fw_time.specs.Stamp.{Stamp}
 use Rattle.fw_bag.specs.declared.rec.Rec.{Rec}
 use Rattle.fw_frontier.specs.declared.state.Entries.{Entries}
 use Rattle.fw_frontier.specs.declared.state.Entries.TheVariants.{Totals}
@@ -8,7 +9,7 @@ use Rattle.fw_flow.specs.declared.event.Event.{Event}
 use Rattle.fw_flow.specs.declared.kind.Kind.{Kind}
 use Rattle.fw_flow.specs.declared.kind.Kind.TheVariants as kind
 use Rattle.fw_flow.specs.NodeFunction.{delivered_recs, sequence_sent}
-use Rattle.fw_node.specs.Past.{totals_kept}
+use Rattle.fw_node.specs.Past.{totals_kept, totals_changed}
 
 -- the totals that a state holds
 abbrev pub totals_in : Entries → List Rec
@@ -18,4 +19,10 @@ totals_in (Totals recs) = recs
 -- sequence how many messages it sent.
 pub record IsStateOf (k : Kind) (before : List Event) (state : State) : Type 0 where
   pub totals : totals_in state.entries ≡ totals_kept k (delivered_recs (λ d s. true) before)
+  pub sent : k ≡ kind.Sequence → state.sent ≡ length (sequence_sent before)
+
+-- The state has what changed at a node of the kind since its events inside g, where all its events are these: it holds the totals
+-- of the keys to which something came outside g, and of a sequence how many messages it sent in all.
+pub record IsStateSince (k : Kind) (g : Stamp → Bool) (before : List Event) (state : State) : Type 0 where
+  pub totals : totals_in state.entries ≡ totals_changed k (delivered_recs (λ d s. not (g s)) before) (delivered_recs (λ d s. true) before)
   pub sent : k ≡ kind.Sequence → state.sent ≡ length (sequence_sent before)

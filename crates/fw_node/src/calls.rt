@@ -1,5 +1,5 @@
 //! The calls of a node.
-ghost use Rattle.std.specs.Prelude.{◌≡◌, ℕ, List, Bool, [], ◌∷◌, true, false, IfOk, OnOk, OnErr, IsTrue, IsErr, slice_index_or};
+ghost use Rattle.std.specs.Prelude.{◌≡◌, ◌&&◌, not, ℕ, List, Bool, [], ◌∷◌, true, false, IfOk, OnOk, OnErr, IsTrue, IsErr, slice_index_or};
 ghost use Rattle.std.specs.List.{AllByRecursion};
 ghost use Rattle.fw_time.specs.Stamp.{in_domain};
 ghost use Rattle.fw_flow.specs.declared.event.Event.{Event};
@@ -9,14 +9,15 @@ ghost use Rattle.fw_flow.specs.declared.kind.Kind.TheVariants as kind;
 ghost use Rattle.fw_flow.specs.Dataflow.{Dataflow, System, batches_of, bounds_of, kind_of, in_edges, is_input_kind, is_notified_kind, node_frontier};
 ghost use Rattle.fw_flow.specs.NodeFunction.{delivered_recs, sends};
 ghost use Rattle.fw_flow.specs.WellFormed.{IsWellFormed};
+ghost use Rattle.fw_model.specs.Filtering.{events_inside};
 ghost use Rattle.fw_model.specs.Told.{is_told, AreToldInside, EachDelivery, IsSumOfTold};
 ghost use Rattle.fw_frontier.specs.Frontier.{Within};
 ghost use Rattle.fw_node.specs.Answers.{without_causes};
 ghost use Rattle.fw_node.specs.Arrived.{place_in, AreOnEdges, IsOneOf};
 ghost use Rattle.fw_node.specs.NodeOf.{stamps_of, CanBeSent, IsNodeOf};
-ghost use Rattle.fw_node.specs.Past.{totals_kept};
+ghost use Rattle.fw_node.specs.Past.{totals_kept, totals_changed};
 ghost use Rattle.fw_node.specs.Sends.{sends_list, notice_sends};
-ghost use Rattle.fw_node.specs.StateOf.{IsStateOf};
+ghost use Rattle.fw_node.specs.StateOf.{IsStateOf, IsStateSince};
 ghost use Rattle.fw_node.specs.TableOf.{IsTableOf};
 
 use crate::{Node, Sends, Table};
@@ -243,5 +244,50 @@ impl Node {
             return Err(AllocError);
         }
         self.table.totals_at(self.alloc, f, &self.bounds)
+    }
+
+    /// The totals that a total or a ledger keeps of what came inside, which holds what is settled, of the keys alone to which
+    /// something came outside what is settled, in ascending order of the keys; none of any other kind. The outside stamps are
+    /// of the domain.
+    ///
+    /// It costs these keys, and the times that are not settled. It fails where memory is refused, now or earlier.
+    pub fn totals_since(&self, f: &Front) -> Result<Recs, AllocError>
+        requires { AllByRecursion (λ o. in_domain self.now.bounds o ≡ true) f.now }
+        ensures totals { (flow : Dataflow) (p : ℕ) (settled : List ℕ → Bool) (before : List Event)
+            → Within settled (node_frontier flow p f.now) → IsTableOf flow p settled self.now before
+            → IfOk result (λ totals. totals ≡ totals_changed (kind_of flow p)
+            (delivered_recs (λ d s. node_frontier flow p f.now s && not (settled s)) before)
+            (delivered_recs (λ d s. node_frontier flow p f.now s) before)) }
+        ensures stays { IsTrue self.now.refused → IsErr result }
+    {
+        if self.refused {
+            return Err(AllocError);
+        }
+        self.table.totals_since(self.alloc, f, &self.bounds)
+    }
+
+    /// Takes in what changed since the events that the node stands for, all of them settled: then it stands for all events, and
+    /// all that came is settled. It is for restoring, from the state of a checkpoint and those of the changes on it.
+    ///
+    /// It fails where memory is refused, now or earlier; then the node stands for nothing.
+    pub fn take_changes(&mut self, state: &State) -> Result<(), AllocError>
+        ensures ok { (flow : Dataflow) (p : ℕ) (settled after : List ℕ → Bool) (before : List Event)
+            → EachDelivery (λ s. (after s ≡ true) × (in_domain (bounds_of flow p) s ≡ true)) before
+            → AreOnEdges (in_edges flow p) before
+            → IsTableOf flow p settled self.old (events_inside settled before)
+            → IsStateSince (kind_of flow p) settled before state.now
+            → OnOk result (IsTableOf flow p after self.new before) }
+        ensures live { OnOk result (self.new.refused ≡ false) }
+        ensures refused { OnErr result (self.new.refused ≡ true) }
+        ensures stays { IsTrue self.old.refused → IsErr result }
+        ensures bounds { self.new.bounds ≡ self.old.bounds }
+        ensures node { (flow : Dataflow) (p : ℕ) → IsNodeOf flow p self.old → IsNodeOf flow p self.new }
+    {
+        if self.refused {
+            return Err(AllocError);
+        }
+        let taken = self.table.take_changes(self.alloc, state);
+        self.refused = taken.is_err();
+        taken
     }
 }

@@ -1,5 +1,5 @@
 //! How a table is made.
-ghost use Rattle.std.specs.Prelude.{IfOk, ◌≡◌, ◌+◌, ◌≤◌, ◌<◌, ℕ, [], true, false, not, Bool, List, length};
+ghost use Rattle.std.specs.Prelude.{IfOk, ◌≡◌, ◌+◌, ◌≤◌, ◌<◌, ◌^◌, ℕ, [], true, false, not, Bool, List, length};
 ghost use Rattle.fw_time.specs.Stamp.{in_domain};
 ghost use Rattle.fw_flow.specs.declared.event.Event.{Event};
 ghost use Rattle.fw_flow.specs.declared.kind.Kind.{Kind};
@@ -79,13 +79,21 @@ fn staying(alloc: Global, flow: &Flow, kind: Kind, dimension: usize) -> Table
     }
 }
 
-// The totals of a state.
-fn totals_of(state: &State) -> &[Rec]
+/// The totals of a state.
+pub(crate) fn totals_of(state: &State) -> &[Rec]
     ensures { result.now ≡ totals_in state.now.entries }
 {
     match &state.entries {
         Entries::Totals(totals) => totals.as_slice(),
     }
+}
+
+/// How many messages a sequence of the state sent: no more than there are numbers.
+pub(crate) fn sent_of(state: &State) -> u64
+    ensures sent { state.now.sent ≤ 2 ^ 32 → result ≡ state.now.sent }
+    ensures few { result ≤ 2 ^ 32 }
+{
+    state.sent.min(NUMBERS)
 }
 
 impl Table {
@@ -127,10 +135,7 @@ impl Table {
     {
         match flow.kind(id) {
             Kind::Total => Ok(Table::Total(Total::from_state(alloc, totals_of(state))?)),
-            Kind::Sequence => Ok(Table::Sequence(Sequence::from_state(
-                alloc,
-                state.sent.min(NUMBERS),
-            ))),
+            Kind::Sequence => Ok(Table::Sequence(Sequence::from_state(alloc, sent_of(state)))),
             Kind::Ledger => Ok(Table::Ledger(Ledger::from_state(alloc, totals_of(state))?)),
             _ => Ok(Table::new(alloc, flow, id)),
         }

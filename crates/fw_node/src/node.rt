@@ -9,8 +9,9 @@ use std::alloc::Global;
 
 /// A node of any kind, which stands for the list of its events.
 ///
-/// A call that takes memory may be refused it: the node still stands for what came before. Where it was refused to a call
-/// that changes the node, each later call that takes memory fails too; `totals_at` changes nothing, and leaves no mark.
+/// A call that takes memory may be refused it: the node still stands for what came before, but for `take_changes`. Where it was
+/// refused to a call that changes the node, each later call that takes memory fails too; `totals_at` and `totals_since` change
+/// nothing, and leave no mark.
 pub struct Node {
     pub(crate) table: Table,
     pub(crate) sides: Vec<EdgeId>,

@@ -1,24 +1,30 @@
 //! A node's table at the depth of its domain, with stamps at its border.
-ghost use Rattle.std.specs.Prelude.{◌≡◌, ℕ, [], ◌∷◌, true, false, length, IfOk, OnOk, OnErr};
+ghost use Rattle.std.specs.Prelude.{◌≡◌, ◌&&◌, not, ℕ, Bool, List, [], ◌∷◌, true, false, length, IfOk, OnOk, OnErr};
 ghost use Rattle.std.specs.List.{AllByRecursion};
+ghost use Rattle.fw_time.specs.declared.stamp.Bounds.{Bounds as Domain};
 ghost use Rattle.fw_time.specs.Stamp.{in_domain};
 ghost use Rattle.fw_frontier.specs.Below.{is_below};
 ghost use Rattle.fw_frontier.specs.Front.{inside};
+ghost use Rattle.fw_flow.specs.declared.event.Event.{Event};
 ghost use Rattle.fw_flow.specs.declared.kind.Kind.{Kind};
 ghost use Rattle.fw_flow.specs.Dataflow.{Dataflow, send_stamp_of_kind, is_notified_kind};
-ghost use Rattle.fw_bag.specs.Arrivals.{arrival, recs_inside};
+ghost use Rattle.fw_bag.specs.Arrivals.{arrival, recs_inside, AreInside};
 ghost use Rattle.fw_frontier.specs.Frontier.{Within};
 ghost use Rattle.fw_table.specs.Sent.{sent_if_at};
+ghost use Rattle.fw_model.specs.Filtering.{events_inside};
 ghost use Rattle.fw_node.specs.Answers.{recs_for, sent_list};
+ghost use Rattle.fw_node.specs.Arrived.{arrived};
 ghost use Rattle.fw_node.specs.NodeOf.{is_table_of, AreSentAt};
 ghost use Rattle.fw_node.specs.NodeTable.{IsNodeTable, dimension_of};
-ghost use Rattle.fw_node.specs.Past.{Past, IsSumOfTaken, IsToldWhereNotified, notice_list, totals_kept, with_arrival, with_notice, with_settled};
+ghost use Rattle.fw_node.specs.Past.{Past, IsSumOfTaken, IsToldWhereNotified, notice_list, past_of, totals_kept, totals_changed, with_arrival, with_notice, with_settled};
 ghost use Rattle.fw_node.specs.Sends.{sends_list};
+ghost use Rattle.fw_node.specs.StateOf.{IsStateSince};
 ghost use Rattle.fw_node.specs.TimedTable.{IsSideOf};
 
+use crate::making::{sent_of, totals_of};
 use crate::{AtTime, InLoop, Sends};
 use fw_bag::{Rec, Recs};
-use fw_frontier::{Below, Front, Frontier};
+use fw_frontier::{Below, Front, Frontier, State};
 use fw_numbered::{Regroup, Sequence};
 use fw_stateless::Enter;
 use fw_table::Sent;
@@ -216,6 +222,55 @@ impl Table {
             Table::Total(table) => table.totals_at(&epochs_inside(alloc, f, bounds)?),
             Table::Ledger(table) => table.totals_at(&epochs_inside(alloc, f, bounds)?),
             _ => Ok(Recs::of(Vec::new(alloc))),
+        }
+    }
+
+    /// The totals of what came at stamps inside, which holds what is settled, of the keys alone to which something came
+    /// outside what is settled; in ascending order of the keys, and none of a kind that keeps no totals. The bounds are those
+    /// of the stamps.
+    ///
+    /// It fails where memory is refused.
+    pub(crate) fn totals_since(
+        &self,
+        alloc: Global,
+        f: &Front,
+        bounds: &Bounds,
+    ) -> Result<Recs, AllocError>
+        requires shape { length bounds.now.greatest ≡ dimension_of self.now }
+        requires in_domain { AllByRecursion (λ o. in_domain bounds.now o ≡ true) f.now }
+        ensures { (flow : Dataflow) (kind : Kind) (past : Past) → IsNodeTable flow self.now kind past
+            → Within past.settled (inside f.now)
+            → IfOk result (λ totals. totals ≡ totals_changed kind
+            (recs_inside (λ s. inside f.now s && not (past.settled s)) past.came) (recs_inside (inside f.now) past.came)) }
+    {
+        match self {
+            Table::Total(table) => table.totals_since(&epochs_inside(alloc, f, bounds)?),
+            Table::Ledger(table) => table.totals_since(&epochs_inside(alloc, f, bounds)?),
+            _ => Ok(Recs::of(Vec::new(alloc))),
+        }
+    }
+
+    /// Takes in what changed since all that came was settled: then all that came by then is settled.
+    ///
+    /// It fails where memory is refused.
+    pub(crate) fn take_changes(&mut self, alloc: Global, state: &State) -> Result<(), AllocError>
+        ensures ok { (flow : Dataflow) (kind : Kind) (ins : List ℕ) (bounds : Domain) (settled after : List ℕ → Bool) (before : List Event)
+            → length bounds.greatest ≡ dimension_of self.old → AreInside (in_domain bounds) (arrived ins before)
+            → AreInside after (arrived ins before)
+            → IsNodeTable flow self.old kind (past_of ins settled (events_inside settled before))
+            → IsStateSince kind settled before state.now
+            → OnOk result (IsNodeTable flow self.new kind (past_of ins after before)) }
+        ensures shape { dimension_of self.new ≡ dimension_of self.old }
+        ensures of_kind { (flow : Dataflow) (kind : Kind) → is_table_of flow kind self.new ≡ is_table_of flow kind self.old }
+    {
+        match self {
+            Table::Total(table) => table.take_changes(totals_of(state)),
+            Table::Ledger(table) => table.take_changes(totals_of(state)),
+            Table::Sequence(table) => {
+                *table = Sequence::from_state(alloc, sent_of(state));
+                Ok(())
+            }
+            _ => Ok(()),
         }
     }
 }

@@ -1,6 +1,7 @@
 pub mod FieldLaws
 pub mod ListLaws
 pub mod CheckpointLaws
+pub mod ChangesLaws
 pub mod EventLaws
 pub mod RecordLaws
 pub mod PlaceLaws

@@ -9,8 +9,9 @@ use Rattle.fw_bytes.proofs.PlaceLaws.{ReadsInside, byte_inside, number_inside, i
 use Rattle.fw_bytes.proofs.ListLaws.{any32}
 use Rattle.fw_record.specs.declared.record.Record.{Record}
 use Rattle.fw_record.specs.declared.record.Record.TheVariants as tagged
-use Rattle.fw_record.specs.Reading.{is_version, is_tag, read_checkpoint, read_event, event_record_of, state_record_of, tag_of, read_whole_record, whole_of}
+use Rattle.fw_record.specs.Reading.{is_version, is_tag, read_checkpoint, read_event, event_record_of, read_changes, state_record_of, changes_record_of, other_record_of, tag_of, read_whole_record, whole_of}
 use Rattle.fw_record.proofs.CheckpointLaws.{checkpoints}
+use Rattle.fw_record.proofs.ChangesLaws.{changes}
 use Rattle.fw_record.proofs.EventLaws.{events}
 
 event_record_inside : ReadsInside event_record_of
@@ -26,6 +27,12 @@ state_record_inside n bytes le =
     inside_then n (read_checkpoint bytes) (λ v0. Ok (tagged.State v0.0, v0.1)) (checkpoints.inside n bytes le) (λ s0 l0.
     l0)
 
+changes_record_inside : ReadsInside changes_record_of
+unfolding changes_record_of
+changes_record_inside n bytes le =
+    inside_then n (read_changes bytes) (λ v0. Ok (tagged.Changes v0.0.0 v0.0.1, v0.1)) (changes.inside n bytes le) (λ s0 l0.
+    l0)
+
 tag_inside : ReadsInside tag_of
 unfolding tag_of
 tag_inside n bytes le =
@@ -36,8 +43,9 @@ tag_inside n bytes le =
 record_inside : ReadsInside read_whole_record
 unfolding read_whole_record
 record_inside n bytes le =
-    inside_then n (tag_of bytes) (λ tag. cond (eqb tag.0 1) (state_record_of tag.1) (event_record_of tag.1)) (tag_inside n bytes le) (λ tag le'.
-    either_inside (eqb tag.0 1) n (state_record_of tag.1) (event_record_of tag.1) (state_record_inside n tag.1 le') (event_record_inside n tag.1 le'))
+    inside_then n (tag_of bytes) (λ tag. cond (eqb tag.0 1) (state_record_of tag.1) (other_record_of tag.0 tag.1)) (tag_inside n bytes le) (λ tag le'.
+    either_inside (eqb tag.0 1) n (state_record_of tag.1) (other_record_of tag.0 tag.1) (state_record_inside n tag.1 le')
+    (either_inside (eqb tag.0 2) n (event_record_of tag.1) (changes_record_of tag.1) (event_record_inside n tag.1 le') (changes_record_inside n tag.1 le')))
 
 -- ---- the whole
 

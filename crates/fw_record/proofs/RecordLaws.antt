@@ -13,15 +13,16 @@ use Rattle.fw_record.specs.declared.record.Record.{Record}
 use Rattle.fw_record.specs.declared.record.Record.TheVariants as tagged
 use Rattle.fw_bytes.specs.Fields.{byte_of, number_field}
 use Rattle.fw_bytes.specs.Spelling.{u32_bytes}
-use Rattle.fw_record.specs.Spelling.{tags, version_of, head_bytes, checkpoint_tag, checkpoint_bytes, event_bytes, spelling}
+use Rattle.fw_record.specs.Spelling.{tags, version_of, head_bytes, checkpoint_tag, checkpoint_bytes, changes_bytes, event_bytes, spelling}
 use Rattle.fw_record.specs.Sound.{IsCheckpoint, IsEvent, IsSound}
 use Rattle.fw_bytes.specs.Reading.{◌>>=◌, kept_if}
-use Rattle.fw_record.specs.Reading.{is_version, is_tag, read_event, event_record_of, state_record_of, tag_of, read_whole_record, whole_of}
+use Rattle.fw_record.specs.Reading.{is_version, is_tag, read_event, event_record_of, state_record_of, changes_record_of, other_record_of, tag_of, read_whole_record, whole_of}
 use Rattle.fw_bytes.specs.Exact.{AreBytes, AreSplit}
 use Rattle.fw_bytes.proofs.FieldLaws.{wide16, number_takes, number_again, byte_takes}
 use Rattle.fw_bytes.proofs.PartLaws.{bind_ok, ok, ok_is, guard_ok, kept, step, chosen, second}
 use Rattle.fw_bytes.proofs.ListLaws.{any32}
 use Rattle.fw_record.proofs.CheckpointLaws.{checkpoints}
+use Rattle.fw_record.proofs.ChangesLaws.{AreChanges, changes}
 use Rattle.fw_record.proofs.EventLaws.{events}
 
 -- ---- records
@@ -42,6 +43,12 @@ unfolding state_record_of
 state_record_takes bytes x fits e =
     step checkpoints (head_bytes 1 ++ bytes) (head_bytes 1) bytes (λ v0. Ok (tagged.State v0.0, v0.1)) x (AreSplit (head_bytes 1 ++ bytes) (spelling x.0) x.1 × IsSound x.0) (record { parts = refl; rest_fits = fits }) e (λ s0 f0 t0 e0.
     subst (λ (y : Record × List ℕ). AreSplit (head_bytes 1 ++ bytes) (spelling y.0) y.1 × IsSound y.0) (ok_is (tagged.State s0.0, s0.1) x e0) (rw (first_tag s0.0.state.entries) t0, f0))
+
+changes_record_takes : (bytes : List ℕ) (x : Record × List ℕ) → AreBytes bytes → changes_record_of bytes ≡ Ok x → AreSplit (head_bytes 3 ++ bytes) (spelling x.0) x.1 × IsSound x.0
+unfolding changes_record_of
+changes_record_takes bytes x fits e =
+    step changes (head_bytes 3 ++ bytes) (head_bytes 3) bytes (λ v0. Ok (tagged.Changes v0.0.0 v0.0.1, v0.1)) x (AreSplit (head_bytes 3 ++ bytes) (spelling x.0) x.1 × IsSound x.0) (record { parts = refl; rest_fits = fits }) e (λ s0 f0 t0 e0.
+    subst (λ (y : Record × List ℕ). AreSplit (head_bytes 3 ++ bytes) (spelling y.0) y.1 × IsSound y.0) (ok_is (tagged.Changes s0.0.0 s0.0.1, s0.1) x e0) (t0, f0))
 
 -- the last of several tests
 last_true : (b : Bool) → (b || false) ≡ true → b ≡ true
@@ -74,25 +81,37 @@ tag_takes bytes x fits e =
 record_takes : (bytes : List ℕ) (x : Record × List ℕ) → AreBytes bytes → read_whole_record bytes ≡ Ok x → AreSplit bytes (spelling x.0) x.1 × IsSound x.0
 unfolding read_whole_record
 record_takes bytes x fits e =
-    let s = bind_ok (tag_of bytes) (λ tag. cond (eqb tag.0 1) (state_record_of tag.1) (event_record_of tag.1)) x e in
+    let s = bind_ok (tag_of bytes) (λ tag. cond (eqb tag.0 1) (state_record_of tag.1) (other_record_of tag.0 tag.1)) x e in
     let h = tag_takes bytes s.0 fits s.1 in
-    elim (chosen (eqb s.0.0 1) (state_record_of s.0.1) (event_record_of s.0.1) (Ok x) s.2) [
+    elim (chosen (eqb s.0.0 1) (state_record_of s.0.1) (other_record_of s.0.0 s.0.1) (Ok x) s.2) [
       | inl p ↦
           let d = state_record_takes s.0.1 x h.rest_fits p.1 in
           (record { parts = h.parts ∙ ap (λ (n : ℕ). head_bytes n ++ s.0.1) (eqb-true s.0.0 1 p.0) ∙ d.0.parts; rest_fits = d.0.rest_fits }, d.1)
       | inr p ↦
-          let d = event_record_takes s.0.1 x h.rest_fits p.1 in
-          let two = second (eqb s.0.0 1) (eqb s.0.0 2 || false) h.allowed p.0 in
-          (record { parts = h.parts ∙ ap (λ (n : ℕ). head_bytes n ++ s.0.1) (eqb-true s.0.0 2 (last_true (eqb s.0.0 2) two)) ∙ d.0.parts; rest_fits = d.0.rest_fits }, d.1)
+          let others = second (eqb s.0.0 1) (eqb s.0.0 2 || (eqb s.0.0 3 || false)) h.allowed p.0 in
+          elim (chosen (eqb s.0.0 2) (event_record_of s.0.1) (changes_record_of s.0.1) (Ok x) p.1) [
+            | inl q ↦
+                let d = event_record_takes s.0.1 x h.rest_fits q.1 in
+                (record { parts = h.parts ∙ ap (λ (n : ℕ). head_bytes n ++ s.0.1) (eqb-true s.0.0 2 q.0) ∙ d.0.parts; rest_fits = d.0.rest_fits }, d.1)
+            | inr q ↦
+                let d = changes_record_takes s.0.1 x h.rest_fits q.1 in
+                let three = last_true (eqb s.0.0 3) (second (eqb s.0.0 2) (eqb s.0.0 3 || false) others q.0) in
+                (record { parts = h.parts ∙ ap (λ (n : ℕ). head_bytes n ++ s.0.1) (eqb-true s.0.0 3 three) ∙ d.0.parts; rest_fits = d.0.rest_fits }, d.1)
+          ]
     ]
 
-head_again : (tag : ℕ) (rest : List ℕ) → list_any (λ known. eqb tag known) tags ≡ true → tag_of (head_bytes tag ++ rest) ≡ Ok (tag, rest)
+-- the head of each tag is read again
+head_again : (tag : ℕ) (rest : List ℕ) → is_version (version_of tag) ≡ true → is_tag (version_of tag) tag ≡ true → tag_of (head_bytes tag ++ rest) ≡ Ok (tag, rest)
 unfolding tag_of
-head_again tag rest allowed = rw (number_again w16 (2 ^ 16) wide16 18007 (version_of tag ∷ tag ∷ rest) (omega arith), allowed) refl
+head_again tag rest known allowed = rw (number_again w16 (2 ^ 16) wide16 18007 (version_of tag ∷ tag ∷ rest) (omega arith), known, allowed) refl
 
 state_record_again : (c : Checkpoint) (rest : List ℕ) → IsCheckpoint c → state_record_of (checkpoint_bytes c ++ rest) ≡ Ok (tagged.State c, rest)
 unfolding state_record_of
 state_record_again c rest sound = rw (checkpoints.again c rest sound) refl
+
+changes_record_again : (base : ℕ) (c : Checkpoint) (rest : List ℕ) → AreChanges (base, c) → changes_record_of (changes_bytes base c ++ rest) ≡ Ok (tagged.Changes base c, rest)
+unfolding changes_record_of
+changes_record_again base c rest sound = rw (changes.again (base, c) rest sound) refl
 
 event_record_again : (node : ℕ) (v : Event) (rest : List ℕ) → node < 2 ^ 32 → IsEvent v → event_record_of (u32_bytes node ++ (event_bytes v ++ rest)) ≡ Ok (tagged.Event node v, rest)
 unfolding event_record_of
@@ -100,9 +119,10 @@ event_record_again node v rest a b = rw (any32.again node (event_bytes v ++ rest
 
 record_again : (r : Record) (rest : List ℕ) → IsSound r → read_whole_record (spelling r ++ rest) ≡ Ok (r, rest)
 unfolding read_whole_record
-record_again (tagged.State c) rest sound = rw (first_tag c.state.entries, head_again 1 (checkpoint_bytes c ++ rest) refl) (state_record_again c rest sound)
+record_again (tagged.State c) rest sound = rw (first_tag c.state.entries, head_again 1 (checkpoint_bytes c ++ rest) refl refl) (state_record_again c rest sound)
 record_again (tagged.Event node v) rest sound =
-    ap read_whole_record (ap (λ (t : List ℕ). head_bytes 2 ++ t) (append_assoc (u32_bytes node) (event_bytes v) rest)) ∙ rw (head_again 2 (u32_bytes node ++ (event_bytes v ++ rest)) refl) (event_record_again node v rest sound.0 sound.1)
+    ap read_whole_record (ap (λ (t : List ℕ). head_bytes 2 ++ t) (append_assoc (u32_bytes node) (event_bytes v) rest)) ∙ rw (head_again 2 (u32_bytes node ++ (event_bytes v ++ rest)) refl refl) (event_record_again node v rest sound.0 sound.1)
+record_again (tagged.Changes base c) rest sound = rw (head_again 3 (changes_bytes base c ++ rest) refl refl) (changes_record_again base c rest sound)
 
 -- what is read as a whole is sound, and the bytes are its spelling
 pub whole_takes : (bytes : List ℕ) (r : Record) → AreBytes bytes → whole_of bytes ≡ Ok r → IsSound r × (bytes ≡ spelling r)

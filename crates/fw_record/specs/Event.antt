@@ -17,6 +17,7 @@ stamp_of_event (Notify at) = at
 abbrev pub event_of : Record → List Event
 event_of (tagged.State c) = []
 event_of (tagged.Event p event) = event ∷ []
+event_of (tagged.Changes base c) = []
 
 -- the events as they are logged, the earliest first, where these are the events, the latest first; injections are not logged
 abbrev pub logged_events : List Happened → List Event

@@ -5,3 +5,4 @@ pub mod Spelling
 pub mod Sound
 pub mod Reading
 pub mod OfNode
+pub mod Chains

@@ -102,10 +102,38 @@ pub record IsCheckpointRecordOf (flow : Dataflow) (p : ℕ) (f : Front) (c : Che
 abbrev pub IsRecordOfCheckpoint : Dataflow → ℕ → Front → Record → Type 0
 IsRecordOfCheckpoint flow p f (tagged.State c) = IsCheckpointRecordOf flow p f c
 IsRecordOfCheckpoint flow p f (tagged.Event node event) = ⊥
+IsRecordOfCheckpoint flow p f (tagged.Changes base c) = ⊥
 
 -- It is the record of this event of node p.
 abbrev pub IsRecordOfEvent : ℕ → Event → Record → Type 0
 IsRecordOfEvent p event r = r ≡ tagged.Event p event
+
+-- ---- records of changes
+
+-- A sequence counts by stamps no more than it sent; other kinds count nothing so.
+abbrev pub CountsFitChanges : Kind → State → Type 0
+CountsFitChanges Sequence state = count_sum state.sends ≤ state.sent
+CountsFitChanges kind state = state.sends ≡ []
+
+-- The table holds changes of node p at f: it is one of the node at f, but that a sequence may have sent more than it counts.
+pub record IsTableOfChanges (flow : Dataflow) (p : ℕ) (f : Front) (state : State) : Type 0 where
+  pub causes : AllByRecursion (λ s. node_frontier flow p f s.cause ≡ true) state.sends
+  pub counts : CountsFitChanges (kind_of flow p) state
+  pub entries : TotalsFitKind (kind_of flow p) state.entries
+  pub numbers : HasNumbersFor (kind_of flow p) state.sent
+
+-- It holds changes of node p at the frontier f: it names the node, and its parts are of the node at f.
+pub record AreChangesOf (flow : Dataflow) (p : ℕ) (f : Front) (c : Checkpoint) : Type 0 where
+  pub node : c.node ≡ p
+  pub recorded : IsRecordedOf flow p f c.recorded
+  pub state : IsTableOfChanges flow p f c.state
+  pub log : IsLogOf flow p f c.log
+
+-- It is the record of changes of node p at the frontier f, on the base of this id.
+abbrev pub IsRecordOfChanges : Dataflow → ℕ → Front → ℕ → Record → Type 0
+IsRecordOfChanges flow p f id (tagged.State c) = ⊥
+IsRecordOfChanges flow p f id (tagged.Event node event) = ⊥
+IsRecordOfChanges flow p f id (tagged.Changes base c) = (base ≡ id) × AreChangesOf flow p f c
 
 -- ---- what follows for a checkpoint that has a spelling
 

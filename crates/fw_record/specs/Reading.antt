@@ -92,6 +92,30 @@ read_checkpoint bytes = do
     log.1,
   )
 
+-- a node, the frontier, the id of the base, and the other parts of a checkpoint, which are changes
+unfoldable pub read_changes : List ℕ → Reading (ℕ × Checkpoint)
+read_changes bytes = do
+  node ← any bytes (number_field w32 bytes)
+  front ← read_front node.1
+  base ← any front.1 (number_field w64 front.1)
+  notified ← read_front base.1
+  delivered ← of_edges_of notified.1
+  discarded ← of_edges_of delivered.1
+  state ← read_state discarded.1
+  log ← read_log state.1
+  Ok (
+    (
+      base.0,
+      record {
+        node = node.0;
+        recorded = record { front = front.0; notified = notified.0; delivered = delivered.0; discarded = discarded.0 };
+        state = state.0;
+        log = log.0;
+      },
+    ),
+    log.1,
+  )
+
 -- ---- an event
 
 -- a key and a value, each a field
@@ -155,11 +179,21 @@ state_record_of bytes = do
   checkpoint ← read_checkpoint bytes
   Ok (tagged.State checkpoint.0, checkpoint.1)
 
+-- changes as a record
+unfoldable pub changes_record_of : List ℕ → Reading Record
+changes_record_of bytes = do
+  changes ← read_changes bytes
+  Ok (tagged.Changes changes.0.0 changes.0.1, changes.1)
+
+-- an event, or changes, by the tag
+abbrev pub other_record_of : ℕ → List ℕ → Reading Record
+other_record_of tag bytes = if tag == 2 then event_record_of bytes else changes_record_of bytes
+
 -- the head, and what its tag says
 unfoldable pub read_whole_record : List ℕ → Reading Record
 read_whole_record bytes = do
   tag ← tag_of bytes
-  if tag.0 == 1 then state_record_of tag.1 else event_record_of tag.1
+  if tag.0 == 1 then state_record_of tag.1 else other_record_of tag.0 tag.1
 
 -- a record and no byte more
 unfoldable pub whole_of : List ℕ → Result Record ℕ

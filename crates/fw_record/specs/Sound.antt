@@ -101,3 +101,4 @@ IsEvent (Notify at) = IsStamp at
 abbrev pub IsSound : Record → Type 0
 IsSound (tagged.State c) = IsCheckpoint c
 IsSound (tagged.Event node event) = (node < 2 ^ 32) × IsEvent event
+IsSound (tagged.Changes base c) = (base < 2 ^ 64) × IsCheckpoint c

@@ -1,5 +1,5 @@
 -- The bytes of a record. All numbers are big-endian.
-use Rattle.std.specs.Prelude.{ℕ, List, [], ◌∷◌, ◌++◌, length}
+use Rattle.std.specs.Prelude.{ℕ, ◌==◌, if◌then◌else◌, List, [], ◌∷◌, ◌++◌, length}
 use Rattle.std.specs.List.{flat_map, AllByRecursion}
 use Rattle.fw_time.specs.Stamp.{Stamp}
 use Rattle.fw_bag.specs.declared.rec.Rec.{Rec}
@@ -58,6 +58,18 @@ checkpoint_bytes c =
     ++ state_bytes c.state
     ++ log_bytes c.log
 
+-- a checkpoint whose parts are changes: the id of its base stands behind the frontier
+abbrev pub changes_bytes : ℕ → Checkpoint → List ℕ
+changes_bytes base c =
+    u32_bytes c.node
+    ++ front_bytes c.recorded.front
+    ++ u64_bytes base
+    ++ front_bytes c.recorded.notified
+    ++ of_edges_bytes c.recorded.delivered
+    ++ of_edges_bytes c.recorded.discarded
+    ++ state_bytes c.state
+    ++ log_bytes c.log
+
 -- an edge, a stamp and a rec
 abbrev pub delivery_bytes : ℕ → Stamp → Rec → List ℕ
 delivery_bytes edge at rec = u32_bytes edge ++ stamp_bytes at ++ rec_bytes rec
@@ -67,13 +79,13 @@ abbrev pub event_bytes : Event → List ℕ
 event_bytes (Deliver edge at rec) = 1 ∷ delivery_bytes edge at rec
 event_bytes (Notify at) = 2 ∷ stamp_bytes at
 
--- the tags: 1 of a checkpoint, 2 of an event
+-- the tags: 1 of a checkpoint, 2 of an event, 3 of changes
 abbrev pub tags : List ℕ
-tags = 1 ∷ 2 ∷ []
+tags = 1 ∷ 2 ∷ 3 ∷ []
 
--- the version of the format that has a tag
+-- the version of the format that has a tag: changes came with the second one
 abbrev pub version_of : ℕ → ℕ
-version_of tag = 1
+version_of tag = if tag == 3 then 2 else 1
 
 -- the letters FW, the version that has a tag, and the tag
 abbrev pub head_bytes : ℕ → List ℕ
@@ -87,6 +99,7 @@ checkpoint_tag (Totals totals) = 1
 abbrev pub spelling : Record → List ℕ
 spelling (tagged.State c) = head_bytes (checkpoint_tag c.state.entries) ++ checkpoint_bytes c
 spelling (tagged.Event node event) = head_bytes 2 ++ u32_bytes node ++ event_bytes event
+spelling (tagged.Changes base c) = head_bytes 3 ++ changes_bytes base c
 
 -- ---- counts
 
@@ -107,3 +120,4 @@ pub record HasCountableLists (c : Checkpoint) : Type 0 where
 abbrev pub FitsItsCounts : Record → Type 0
 FitsItsCounts (tagged.State c) = HasCountableLists c
 FitsItsCounts (tagged.Event node event) = Unit {0}
+FitsItsCounts (tagged.Changes base c) = HasCountableLists c

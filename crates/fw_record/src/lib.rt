@@ -2,7 +2,8 @@
 //!
 //! `encode` writes the one spelling of a record. `decode` answers Ok exactly for these spellings, with the record spelled,
 //! and else the place of the first broken field. Both know no dataflow: whether a record can be one of a node at a
-//! frontier is told by `Record::is_checkpoint_of`, whether it is that of an event by `Record::is_event_of`.
+//! frontier is told by `Record::is_checkpoint_of` and, of one that holds changes, by `Record::is_changes_of`; whether it is
+//! that of an event by `Record::is_event_of`.
 #![tactic(auto)]
 
 mod codes;

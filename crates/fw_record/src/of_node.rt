@@ -1,9 +1,9 @@
-//! Whether a record can be one of a node: of a checkpoint at a frontier, or of an event.
-ghost use Rattle.std.specs.Prelude.{◌≡◌, ◌↔◌, [], true, IsTrue};
+//! Whether a record can be one of a node: of a checkpoint at a frontier, whole or as changes, or of an event.
+ghost use Rattle.std.specs.Prelude.{◌≡◌, ◌≤◌, ◌↔◌, [], true, IsTrue};
 ghost use Rattle.std.specs.List.{AllByRecursion, Contains};
 ghost use Rattle.fw_frontier.specs.declared.state.Entries.TheVariants.{Totals as Held};
 ghost use Rattle.fw_flow.specs.Dataflow.{node_frontier};
-ghost use Rattle.fw_record.specs.OfNode.{IsOnOneOf, IsRecordedOf, count_sum, CountsFitKind, TotalsFitKind, HasNumbersFor, IsTableAt, CanBeLogged, IsLogUnder, IsLogOf, IsCheckpointRecordOf, IsRecordOfCheckpoint, IsRecordOfEvent};
+ghost use Rattle.fw_record.specs.OfNode.{IsOnOneOf, IsRecordedOf, count_sum, CountsFitKind, TotalsFitKind, HasNumbersFor, IsTableAt, CanBeLogged, IsLogUnder, IsLogOf, IsCheckpointRecordOf, IsRecordOfCheckpoint, IsRecordOfEvent, CountsFitChanges, IsTableOfChanges, AreChangesOf, IsRecordOfChanges};
 
 use crate::{Checkpoint, Event, Logged, Record};
 use fw_flow::{EdgeId, Flow, Kind, NodeId, OfEdge, Policy, Recorded};
@@ -28,16 +28,41 @@ impl Checkpoint {
             && is_state_of(flow, node, front, &self.state)
             && is_log_of(flow, node, front, self.log.as_slice())
     }
+
+    /// Whether it holds changes of the node at the frontier: as `is_of`, but that a sequence may have sent more than it counts,
+    /// since it counts here what it sent since the base.
+    ///
+    /// It does not ask what lies outside the base: which front that is, a record does not say.
+    pub fn has_changes_of(&self, flow: &Flow, node: NodeId, front: &Front) -> bool
+        ensures { IsTrue result ↔ AreChangesOf flow.now node front.now self.now }
+    {
+        self.node == node
+            && is_recorded_of(flow, node, front, &self.recorded)
+            && is_state_of_changes(flow, node, front, &self.state)
+            && is_log_of(flow, node, front, self.log.as_slice())
+    }
 }
 
 impl Record {
-    /// Whether it is the record of a checkpoint of the node at the frontier (`Checkpoint::is_of`).
+    /// Whether it is the record of a whole checkpoint of the node at the frontier (`Checkpoint::is_of`).
     pub fn is_checkpoint_of(&self, flow: &Flow, node: NodeId, front: &Front) -> bool
         ensures { IsTrue result ↔ IsRecordOfCheckpoint flow.now node front.now self.now }
     {
         match self {
             Record::State(checkpoint) => checkpoint.is_of(flow, node, front),
-            Record::Event { .. } => false,
+            Record::Event { .. } | Record::Changes { .. } => false,
+        }
+    }
+
+    /// Whether it is the record of changes of the node at the frontier (`Checkpoint::has_changes_of`), on the base of this id.
+    pub fn is_changes_of(&self, flow: &Flow, node: NodeId, front: &Front, id: u64) -> bool
+        ensures { IsTrue result ↔ IsRecordOfChanges flow.now node front.now id self.now }
+    {
+        match self {
+            Record::Changes { base, checkpoint } => {
+                *base == id && checkpoint.has_changes_of(flow, node, front)
+            }
+            Record::State(_) | Record::Event { .. } => false,
         }
     }
 
@@ -50,7 +75,7 @@ impl Record {
                 node: of,
                 event: what,
             } => *of == node && *what == *event,
-            Record::State(_) => false,
+            Record::State(_) | Record::Changes { .. } => false,
         }
     }
 }
@@ -102,6 +127,16 @@ fn is_state_of(flow: &Flow, node: NodeId, front: &Front, state: &State) -> bool
         && has_numbers_for(flow.kind(node), state.sent)
 }
 
+/// Whether the table holds changes of the node at the frontier.
+fn is_state_of_changes(flow: &Flow, node: NodeId, front: &Front, state: &State) -> bool
+    ensures { IsTrue result ↔ IsTableOfChanges flow.now node front.now state.now }
+{
+    are_counts_inside(flow, node, front, state.sends.as_slice())
+        && can_count_changes(flow.kind(node), state)
+        && can_hold(flow.kind(node), &state.entries)
+        && has_numbers_for(flow.kind(node), state.sent)
+}
+
 /// Whether what is counted was sent by events inside.
 fn are_counts_inside(flow: &Flow, node: NodeId, front: &Front, counts: &[SentCount]) -> bool
     ensures { IsTrue result ↔ AllByRecursion
@@ -138,6 +173,31 @@ fn have_sum(counts: &[SentCount], sum: u64) -> bool
         left -= sent.count;
     }
     left == 0
+}
+
+/// Whether a node of the kind counts so in changes: a sequence no more than it sent, another one nothing.
+fn can_count_changes(kind: Kind, state: &State) -> bool
+    ensures { IsTrue result ↔ CountsFitChanges kind state.now }
+{
+    let counts = state.sends.as_slice();
+    match kind {
+        Kind::Sequence => have_sum_within(counts, state.sent),
+        _ => counts.is_empty(),
+    }
+}
+
+/// Whether the counts make no more than this sum.
+fn have_sum_within(counts: &[SentCount], sum: u64) -> bool
+    ensures { IsTrue result ↔ (count_sum counts.now ≤ sum) }
+{
+    let mut left = sum;
+    for sent in counts {
+        if sent.count > left {
+            return false;
+        }
+        left -= sent.count;
+    }
+    true
 }
 
 /// Whether a node of the kind holds such entries: a total and a ledger any, another one none.

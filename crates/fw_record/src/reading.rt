@@ -3,12 +3,12 @@ ghost use Rattle.std.specs.Prelude.{◌≡◌, ◌==◌, [], IfOk};
 ghost use Rattle.std.specs.Int.{w16, w32};
 ghost use Rattle.fw_bytes.specs.Fields.{byte_of, number_field};
 ghost use Rattle.fw_bytes.specs.Reading.{Gives, kept_if, many_of};
-ghost use Rattle.fw_record.specs.Reading.{Decodes, IsOkOrNoMemory, is_event_byte, is_version, is_tag, of_edge_of, of_edges_of, totals_of, read_entries, read_state, read_log, read_checkpoint, key_and_value_of, delivery_of, read_notice, read_event, event_record_of, state_record_of, tag_of, read_whole_record, whole_of};
+ghost use Rattle.fw_record.specs.Reading.{Decodes, IsOkOrNoMemory, is_event_byte, is_version, is_tag, of_edge_of, of_edges_of, totals_of, read_entries, read_state, read_log, read_checkpoint, read_changes, key_and_value_of, delivery_of, read_notice, read_event, event_record_of, state_record_of, changes_record_of, other_record_of, tag_of, read_whole_record, whole_of};
 ghost use Rattle.fw_record.specs.Sound.{IsSound, may_follow_edges};
-ghost use Rattle.fw_record.specs.Spelling.{spelling};
+ghost use Rattle.fw_record.specs.Spelling.{spelling, version_of};
 ghost use Rattle.fw_record.specs.declared.record.Record.{Record as Spelled};
 
-use crate::codes::{CHECKPOINT, DELIVERY, EVENT, MAGIC, NOTICE, VERSION};
+use crate::codes::{CHANGES, CHECKPOINT, DELIVERY, EVENT, MAGIC, NOTICE, SECOND_VERSION, VERSION};
 use crate::parts::{messages_at, recs_at};
 use crate::rules::follows_edges;
 use crate::{Checkpoint, Event, Log, Record, RecordFault};
@@ -142,6 +142,34 @@ fn checkpoint_at(alloc: Global, bytes: &[u8]) -> Result<(Checkpoint, &[u8]), Rea
     Ok((checkpoint, rest))
 }
 
+/// Changes, with the id of their base.
+#[tactic(auto, unfolding(crate::specs::Reading::read_changes))]
+fn changes_at(alloc: Global, bytes: &[u8]) -> Result<((u64, Checkpoint), &[u8]), ReadFault>
+    ensures { Gives (λ x. (x.0, x.1.now)) result (read_changes bytes.now) }
+{
+    let (node, rest) = any_u32(bytes)?;
+    let (front, rest) = front_at(alloc, rest)?;
+    let (base, rest) = any_u64(rest)?;
+    let (notified, rest) = front_at(alloc, rest)?;
+    let (delivered, rest) = of_edges_at(alloc, rest)?;
+    let (discarded, rest) = of_edges_at(alloc, rest)?;
+    let (state, rest) = state_at(alloc, rest)?;
+    let (log, rest) = log_at(alloc, rest)?;
+    let recorded = Recorded {
+        front,
+        notified,
+        delivered,
+        discarded,
+    };
+    let checkpoint = Checkpoint {
+        node: NodeId::at(node),
+        recorded,
+        state,
+        log,
+    };
+    Ok(((base, checkpoint), rest))
+}
+
 /// A key and a value, each a field.
 #[tactic(auto, unfolding(crate::specs::Reading::key_and_value_of))]
 fn key_and_value_at(bytes: &[u8]) -> Result<(Rec, &[u8]), ReadFault>
@@ -217,6 +245,26 @@ fn state_record_at(alloc: Global, bytes: &[u8]) -> Result<(Record, &[u8]), ReadF
     Ok((Record::State(checkpoint), rest))
 }
 
+/// Changes as a record.
+#[tactic(auto, unfolding(crate::specs::Reading::changes_record_of))]
+fn changes_record_at(alloc: Global, bytes: &[u8]) -> Result<(Record, &[u8]), ReadFault>
+    ensures { Gives (λ x. (x.0, x.1.now)) result (changes_record_of bytes.now) }
+{
+    let ((base, checkpoint), rest) = changes_at(alloc, bytes)?;
+    Ok((Record::Changes { base, checkpoint }, rest))
+}
+
+/// An event, or changes, by the tag.
+fn other_record_at(alloc: Global, tag: u8, bytes: &[u8]) -> Result<(Record, &[u8]), ReadFault>
+    ensures { Gives (λ x. (x.0, x.1.now)) result (other_record_of tag bytes.now) }
+{
+    if tag == EVENT {
+        event_record_at(bytes)
+    } else {
+        changes_record_at(alloc, bytes)
+    }
+}
+
 /// The letters FW, one field.
 fn magic_at(bytes: &[u8]) -> Result<(u16, &[u8]), ReadFault>
     ensures { Gives (λ x. (x.0, x.1.now)) result
@@ -232,7 +280,7 @@ fn magic_at(bytes: &[u8]) -> Result<(u16, &[u8]), ReadFault>
 fn has_tags(version: u8) -> bool
     ensures { result ≡ is_version version }
 {
-    version == VERSION
+    version == VERSION || version == SECOND_VERSION
 }
 
 /// The version.
@@ -246,11 +294,22 @@ fn version_at(bytes: &[u8]) -> Result<(u8, &[u8]), ReadFault>
     }
 }
 
+/// The version that has a tag.
+fn version_of(tag: u8) -> u8
+    ensures { result ≡ version_of tag }
+{
+    if tag == CHANGES {
+        SECOND_VERSION
+    } else {
+        VERSION
+    }
+}
+
 /// Whether a version has the tag.
 fn has_tag(version: u8, tag: u8) -> bool
     ensures { result ≡ is_tag version tag }
 {
-    version == VERSION && (tag == CHECKPOINT || tag == EVENT)
+    version == version_of(tag) && (tag == CHECKPOINT || tag == EVENT || tag == CHANGES)
 }
 
 /// A tag of the version.
@@ -283,7 +342,7 @@ fn record_at(alloc: Global, bytes: &[u8]) -> Result<(Record, &[u8]), ReadFault>
     if tag == CHECKPOINT {
         state_record_at(alloc, rest)
     } else {
-        event_record_at(rest)
+        other_record_at(alloc, tag, rest)
     }
 }
 

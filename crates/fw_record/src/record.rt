@@ -10,6 +10,8 @@ use fw_time::Stamp;
 
 /// What a node's events inside a frontier made: from it the node is restored.
 ///
+/// In `Record::Changes` the counts of `state`, its totals and the log are changes alone, and all else is whole.
+///
 /// It may be one that has no spelling, as where a list is not in order: `IsCheckpoint` says which have one.
 #[derive(Debug, Drop)]
 pub struct Checkpoint {
@@ -64,4 +66,7 @@ pub enum Record {
     State(Checkpoint),
     /// One of its events.
     Event { node: NodeId, event: Event },
+    /// What its events inside a frontier made, as changes since the checkpoint under the id `base`, which lies inside: what was
+    /// counted and logged since, and the totals of the keys to which something came since.
+    Changes { base: u64, checkpoint: Checkpoint },
 }

@@ -61,5 +61,8 @@ pub fn of_record(what: &Record) -> usize {
     match what {
         Record::State(checkpoint) => of_checkpoint(checkpoint).saturating_add(HEAD),
         Record::Event { event, .. } => of_event(event).saturating_add(HEAD),
+        Record::Changes { checkpoint, .. } => {
+            of_checkpoint(checkpoint).saturating_add(HEAD + NUMBER)
+        }
     }
 }

@@ -2,9 +2,9 @@
 ghost use Rattle.std.specs.Prelude.{◌≡◌, [], ◌∷◌, ◌++◌, OnOk, IfOk, IfSome};
 ghost use Rattle.std.specs.List.{flat_map};
 ghost use Rattle.fw_bytes.specs.Spelling.{u32_bytes, stamp_bytes, IsCountable};
-ghost use Rattle.fw_record.specs.Spelling.{spelling, version_of, checkpoint_tag, head_bytes, rec_bytes, of_edges_bytes, recs_bytes, entries_bytes, state_bytes, logged_bytes, log_bytes, checkpoint_bytes, delivery_bytes, event_bytes, HasCountableEdges, HasCountableLists, FitsItsCounts};
+ghost use Rattle.fw_record.specs.Spelling.{spelling, version_of, checkpoint_tag, head_bytes, rec_bytes, of_edges_bytes, recs_bytes, entries_bytes, state_bytes, logged_bytes, log_bytes, checkpoint_bytes, changes_bytes, delivery_bytes, event_bytes, HasCountableEdges, HasCountableLists, FitsItsCounts};
 
-use crate::codes::{CHECKPOINT, DELIVERY, EVENT, MAGIC, NOTICE, VERSION};
+use crate::codes::{CHANGES, CHECKPOINT, DELIVERY, EVENT, MAGIC, NOTICE, SECOND_VERSION, VERSION};
 use crate::{Checkpoint, Event, Logged, Record, size};
 use fw_bag::Rec;
 use fw_bytes::{only_coord, put_count, put_counts, put_front, put_stamp, put_u32, put_u64};
@@ -146,6 +146,22 @@ fn put_checkpoint(out: &mut Vec<u8>, checkpoint: &Checkpoint) -> Result<(), Allo
     put_log(out, checkpoint.log.as_slice())
 }
 
+/// Changes on the base of an id, behind their head.
+fn put_changes(out: &mut Vec<u8>, base: u64, checkpoint: &Checkpoint) -> Result<(), AllocError>
+    ensures bytes { OnOk result (out.new.items ≡ out.old.items ++ changes_bytes base checkpoint.now) }
+    ensures counted { OnOk result (HasCountableLists checkpoint.now) }
+{
+    let recorded = &checkpoint.recorded;
+    put_u32(out, checkpoint.node.place())?;
+    put_front(out, &recorded.front)?;
+    put_u64(out, base)?;
+    put_front(out, &recorded.notified)?;
+    put_of_edges(out, recorded.delivered.as_slice())?;
+    put_of_edges(out, recorded.discarded.as_slice())?;
+    put_state(out, &checkpoint.state)?;
+    put_log(out, checkpoint.log.as_slice())
+}
+
 /// A delivery, behind its byte.
 fn put_delivery(out: &mut Vec<u8>, edge: EdgeId, at: &Stamp, rec: &Rec) -> Result<(), AllocError>
     ensures { OnOk result (out.new.items ≡ out.old.items ++ delivery_bytes edge at.now rec.now) }
@@ -206,6 +222,10 @@ pub fn encode(alloc: Global, what: &Record) -> Result<Vec<u8>, AllocError>
             put_head(&mut out, VERSION, EVENT)?;
             put_u32(&mut out, node.place())?;
             put_event(&mut out, event)?;
+        }
+        Record::Changes { base, checkpoint } => {
+            put_head(&mut out, SECOND_VERSION, CHANGES)?;
+            put_changes(&mut out, *base, checkpoint)?;
         }
     }
     Ok(out)

@@ -78,6 +78,7 @@ fetched-log flow records p (x ∷ es) (tagged.State k ∷ rs) c a z e =
     let same : k ≡ c = cc in
     subst (CanBeLogOf flow p) same (subst (λ q. CanBeLogOf flow q k) a.0 (written-log flow x.node x.written k z.0.fits))
 fetched-log flow records p (x ∷ es) (tagged.Event q event ∷ rs) c a z e = absurd (cc e)
+fetched-log flow records p (x ∷ es) (tagged.Changes base k ∷ rs) c a z e = absurd (cc e)
 
 asked-node : (flow : Dataflow) (choice : Choice) (entries : List Entry) (p : ℕ) → AllByRecursion (λ (e : Entry). e.node ≡ p) (asked_of flow choice entries p)
 asked-node flow choice entries p =

@@ -113,6 +113,7 @@ same-events : (rs : List Record) → events_of rs ≡ flat_map event_of rs
 same-events [] = refl
 same-events (tagged.State c ∷ rs) = same-events rs
 same-events (tagged.Event q event ∷ rs) = ap (λ ls. event ∷ ls) (same-events rs)
+same-events (tagged.Changes base c ∷ rs) = same-events rs
 
 -- the events that are left of a node that logs each event are those of the records that were fetched, and can be done again
 pub events-read : (sys : System) (state : Machine) (choice : Choice) (settled : List Front) → Recovers sys state choice settled

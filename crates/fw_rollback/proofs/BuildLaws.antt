@@ -27,11 +27,11 @@ use Rattle.fw_record.specs.declared.logged.Logged.{Logged}
 use Rattle.fw_record.specs.declared.record.Record.TheVariants as tagged
 use Rattle.fw_node.specs.Arrived.{AreOnEdges}
 use Rattle.fw_node.specs.NodeOf.{IsNodeOf}
-use Rattle.fw_node.specs.StateOf.{IsStateOf}
+use Rattle.fw_node.specs.StateOf.{IsStateOf, IsStateSince}
 use Rattle.fw_node.specs.TableOf.{IsTableOf}
 use Rattle.fw_node.proofs.NodeLaws.{each_of}
 use Rattle.fw_rollback.proofs.ListLaws.{out_edges-there}
-use Rattle.fw_rollback.proofs.LogLaws.{with_messages-nothing}
+use Rattle.fw_rollback.proofs.LogLaws.{log_of-same, with_messages-nothing}
 use Rattle.fw_flow.specs.Restoring.{way_of}
 use Rattle.fw_model.specs.Choice.{cut_of}
 use Rattle.fw_record.specs.declared.record.Checkpoint.{Checkpoint}
@@ -41,8 +41,16 @@ use Rattle.fw_node.specs.declared.node.Node.{Node}
 use Rattle.fw_rollback.specs.Asked.{front_at, first_checkpoint, given_of, events_of, CanServe}
 use Rattle.fw_rollback.specs.Built.{by_cut, AreNodesBuilt, AreQueuesBuilt, log_after}
 use Rattle.fw_rollback.specs.Edges.{on_edge, nothing_there, IsOnEdge}
+use Rattle.fw_record.specs.Chains.{changes_of, logged_in_all, states_of}
 use Rattle.fw_record.specs.Log.{logged_on}
-use Rattle.fw_rollback.specs.Restored.{HasLogs, HasDone, IsBuilt, IsFromCheckpoint, log_of, log_left_outside}
+use Rattle.fw_frontier.specs.declared.state.State.{State}
+use Rattle.fw_model.specs.Filtering.{events_inside}
+use Rattle.fw_model.proofs.SentLaws.{copy}
+use Rattle.fw_model.proofs.SortedLaws.{same_sorted_messages}
+use Rattle.fw_model.proofs.WeightLaws.{weigh, weigh-append}
+use Rattle.fw_node.specs.ChainOf.{IsOfChain}
+use Rattle.fw_node.proofs.ChainLaws.{chain-first, chain-more}
+use Rattle.fw_rollback.specs.Restored.{HasLogs, HasDone, IsBuilt, IsFromChain, log_of, log_left_outside}
 use Rattle.fw_rollback.specs.Tables.{table_at}
 
 -- ---- logs of other nodes
@@ -55,10 +63,10 @@ pub has_logs-stay : (flow : Dataflow) (p : ℕ) (logs next : List MessagesState)
     → HasLogs flow p logs log → HasLogs flow p next log
 has_logs-stay flow p logs next log k h e l s = k e l s ∙ h e l s
 
-from_checkpoint-stays : (flow : Dataflow) (low : List Front) (p : ℕ) (f : Front) (c : Option Checkpoint) (node : Node) (logs next : List MessagesState)
-    → KeepsLogs flow p logs next → IsFromCheckpoint flow low p f c node logs → IsFromCheckpoint flow low p f c node next
-from_checkpoint-stays flow low p f None node logs next k h = (h.0, has_logs-stay flow p logs next (λ e. nothing_there) k h.1)
-from_checkpoint-stays flow low p f (Some c) node logs next k h = (h.0, h.1, λ e l s. k e l s ∙ h.2 e l s)
+from_chain-stays : (flow : Dataflow) (low : List Front) (p : ℕ) (c : Option Checkpoint) (later : List Checkpoint) (node : Node) (logs next : List MessagesState)
+    → KeepsLogs flow p logs next → IsFromChain flow low p c later node logs → IsFromChain flow low p c later node next
+from_chain-stays flow low p None later node logs next k h = (h.0, has_logs-stay flow p logs next (λ e. nothing_there) k h.1)
+from_chain-stays flow low p (Some c) later node logs next k h = (h.0, h.1, λ e l s. k e l s ∙ h.2 e l s)
 
 some-and : {A : Type 0} (P Q : A → Type 0) (o : Option A) → ((x : A) → P x → Q x) → IsSomeAnd o P → IsSomeAnd o Q
 some-and P Q None f h = absurd h
@@ -71,8 +79,8 @@ built-stays flow low p f given Batches table logs next k h = (h.0, has_logs-stay
 built-stays flow low p f given Bound table logs next k h = (h.0, has_logs-stay flow p logs next (λ e. nothing_there) k h.1)
 built-stays flow low p f given Anything table logs next k h = (h.0, has_logs-stay flow p logs next (λ e. nothing_there) k h.1)
 built-stays flow low p f given Checkpoints table logs next k h =
-    some-and (λ node. IsFromCheckpoint flow low p f (first_checkpoint given) node logs) (λ node. IsFromCheckpoint flow low p f (first_checkpoint given) node next) table
-    (λ node. from_checkpoint-stays flow low p f (first_checkpoint given) node logs next k) h
+    some-and (λ node. IsFromChain flow low p (first_checkpoint given) (changes_of given) node logs) (λ node. IsFromChain flow low p (first_checkpoint given) (changes_of given) node next) table
+    (λ node. from_chain-stays flow low p (first_checkpoint given) (changes_of given) node logs next k) h
 built-stays flow low p f given Events table logs next k h =
     some-and (λ node. HasDone flow low p f (events_of given) node logs) (λ node. HasDone flow low p f (events_of given) node next) table
     (λ node d. record { of_node = d.of_node; own = λ e l s. subst (λ (x : MessagesState). AllByRecursion (IsOnEdge flow e) x.messages) (sym (k e l s)) (d.own e l s); table = d.table; sent = λ batches events a e l s. k e l s ∙ d.sent batches events a e l s }) h
@@ -221,6 +229,7 @@ first-serves flow p (tagged.State k ∷ rs) c e a =
     let same : k ≡ c = cc in
     subst (λ (x : Checkpoint). AllByRecursion (λ (l : Logged). Contains (out_edges flow p) l.edge) x.log) same a.0
 first-serves flow p (tagged.Event q event ∷ rs) c e a = absurd cc
+first-serves flow p (tagged.Changes base k ∷ rs) c e a = absurd cc
 
 -- they are on edges
 pub logged-there : (flow : Dataflow) (p : ℕ) (ls : List Logged) → AllByRecursion (λ (l : Logged). Contains (out_edges flow p) l.edge) ls
@@ -236,27 +245,50 @@ logged-apart flow p ls a e n =
     each-weaker (λ (l : Logged). Contains (out_edges flow p) l.edge) (λ (l : Logged). l.edge ≢ e) ls
     (λ l k s. n (ap (sender flow) (sym s) ∙ each-contained (λ d. sender flow d ≡ p) l.edge (out_edges flow p) k (out_edges-from (λ d. sender flow d ≡ p) flow p (λ d i r. r)))) a
 
--- a node that is restored from a checkpoint, with its logs
-pub restored-some : {E : Type 0} (flow : Dataflow) (low : List Front) (p : ℕ) (f : Front) (rs : List Record) (c : Checkpoint) (r : Result Node E) (old new : List MessagesState)
+-- a node that is restored from a checkpoint and takes in the changes since, with its logs
+pub restored-chain : (flow : Dataflow) (low : List Front) (p : ℕ) (rs : List Record) (c : Checkpoint) (first last : Node) (old mid new : List MessagesState)
     → Some c ≡ first_checkpoint rs → HasLogs flow p old (λ e. nothing_there)
     → ((settled : Stamp → Bool) (before : List Event) → EachDelivery (λ s. (settled s ≡ true) × (in_domain (bounds_of flow p) s ≡ true)) before
-    → AreOnEdges (in_edges flow p) before → IsStateOf (kind_of flow p) before c.state → IfOk r (λ node. IsTableOf flow p settled node before))
-    → IfOk r (IsNodeOf flow p)
-    → ((e : ℕ) (ms : List Message) → on_edge old e ≡ log_of flow low e ms → on_edge new e ≡ log_of flow low e (logged_on e c.log ++ ms))
-    → IfOk r (λ node. IsFromCheckpoint flow low p f (first_checkpoint rs) node new)
-restored-some flow low p f rs c (Err x) old new e empty table of_node logs = tt
-restored-some flow low p f rs c (Ok node) old new e empty table of_node logs =
-    subst (λ (k : Option Checkpoint). IsFromCheckpoint flow low p f k node new) e (
-      of_node,
-      λ before inside_f on state. table (node_frontier flow p f) before
-          (each_of (λ s. node_frontier flow p f s ≡ true) (λ s. (node_frontier flow p f s ≡ true) × (in_domain (bounds_of flow p) s ≡ true))
-          (λ s k. (k, (and_parts (in_domain (bounds_of flow p) s) (inside f s) k).0)) before inside_f) on state,
-      λ d l r. logs d [] (empty d l r) ∙ ap (log_of flow low d) (append-nil (logged_on d c.log)),
+    → AreOnEdges (in_edges flow p) before → IsStateOf (kind_of flow p) before c.state → IsTableOf flow p settled first before)
+    → IsNodeOf flow p first
+    → ((e : ℕ) (ms : List Message) → on_edge old e ≡ log_of flow low e ms → on_edge mid e ≡ log_of flow low e (logged_on e c.log ++ ms))
+    → ((f : Front) (state : State) → IsOfChain flow p f state [] first → IsOfChain flow p f state (states_of (changes_of rs)) last)
+    → (IsNodeOf flow p first → IsNodeOf flow p last)
+    → ((e : ℕ) (ms : List Message) → on_edge mid e ≡ log_of flow low e ms → on_edge new e ≡ log_of flow low e (ms ++ logged_in_all e (changes_of rs)))
+    → IsFromChain flow low p (first_checkpoint rs) (changes_of rs) last new
+restored-chain flow low p rs c first last old mid new e empty table of_node logs chain stays more =
+    subst (λ (k : Option Checkpoint). IsFromChain flow low p k (changes_of rs) last new) e (
+      stays of_node,
+      chain c.recorded.front c.state (chain-first flow p c.recorded.front c.state first table),
+      λ d l r. more d (logged_on d c.log) (logs d [] (empty d l r) ∙ ap (log_of flow low d) (append-nil (logged_on d c.log))),
     )
 
+-- a node that takes in the changes of one record
+pub one-taken : (flow : Dataflow) (p : ℕ) (f : Front) (state : State) (done : List (Front × State)) (c : Checkpoint) (node next : Node) → IsOfChain flow p f state done node
+    → ((settled after : Stamp → Bool) (before : List Event) → EachDelivery (λ s. (after s ≡ true) × (in_domain (bounds_of flow p) s ≡ true)) before
+    → AreOnEdges (in_edges flow p) before → IsTableOf flow p settled node (events_inside settled before) → IsStateSince (kind_of flow p) settled before c.state
+    → IsTableOf flow p after next before)
+    → IsOfChain flow p f state (done ++ states_of (c ∷ [])) next
+one-taken flow p f state done c node next stands takes = chain-more flow p f state done (c.recorded.front, c.state) node next stands takes
+
+-- its messages behind those that the log has
+pub one-logged : (flow : Dataflow) (low : List Front) (e : ℕ) (c : Checkpoint) (ms : List Message) (log : MessagesState) → log ≡ log_of flow low e (logged_on e c.log ++ ms)
+    → log ≡ log_of flow low e (ms ++ logged_in_all e (c ∷ []))
+one-logged flow low e c ms log is =
+    is
+    ∙ log_of-same flow low e (logged_on e c.log ++ ms) (ms ++ (logged_on e c.log ++ []))
+    (same_sorted_messages (logged_on e c.log ++ ms) (ms ++ (logged_on e c.log ++ []))
+    (λ q.
+    let own = logged_on e c.log in
+    weigh-append (copy q) own ms ∙ plus-swap (weigh (copy q) own) (weigh (copy q) ms)
+    ∙ ap (λ xs. weigh (copy q) ms + weigh (copy q) xs) (sym (append-nil own)) ∙ sym (weigh-append (copy q) ms (own ++ []))))
+  where
+    plus-swap : (a b : ℕ) → a + b ≡ b + a
+    plus-swap a b = omega arith
+
 -- a node without a checkpoint
-pub restored-none : {E : Type 0} (flow : Dataflow) (low : List Front) (p : ℕ) (f : Front) (rs : List Record) (r : Result Node E) (logs : List MessagesState)
+pub restored-none : {E : Type 0} (flow : Dataflow) (low : List Front) (p : ℕ) (rs : List Record) (later : List Checkpoint) (r : Result Node E) (logs : List MessagesState)
     → None ≡ first_checkpoint rs → HasLogs flow p logs (λ e. nothing_there) → ((settled : Stamp → Bool) → IfOk r (λ node. IsTableOf flow p settled node []))
-    → IfOk r (λ node. IsFromCheckpoint flow low p f (first_checkpoint rs) node logs)
-restored-none flow low p f rs (Err x) logs e empty new = tt
-restored-none flow low p f rs (Ok node) logs e empty new = subst (λ (k : Option Checkpoint). IsFromCheckpoint flow low p f k node logs) e (new, empty)
+    → IfOk r (λ node. IsFromChain flow low p (first_checkpoint rs) later node logs)
+restored-none flow low p rs later (Err x) logs e empty new = tt
+restored-none flow low p rs later (Ok node) logs e empty new = subst (λ (k : Option Checkpoint). IsFromChain flow low p k later node logs) e (new, empty)

@@ -162,6 +162,7 @@ serves : (flow : Dataflow) (p : ℕ) (g : Front) (way : Restoring) (what : Writt
 serves flow p g way (written.Checkpoint recorded stamps sent) (tagged.State c) n f =
     each-weaker (CanBeLogged flow p recorded.front) (λ (l : Logged). Contains (out_edges flow p) l.edge) c.log (λ l k. k.edge) f.of_node.log.messages
 serves flow p g way (written.Checkpoint recorded stamps sent) (tagged.Event q event) n f = absurd f.of_node
+serves flow p g way (written.Checkpoint recorded stamps sent) (tagged.Changes base c) n f = absurd f.of_node
 serves flow p g Events (written.Event event) r n f =
     subst (CanServe flow p) (sym f) (and_parts (in_domain (bounds_of flow p) (stamp_of_event event)) (inside g (stamp_of_event event)) n).0
 serves flow p g Batches (written.Event event) r n f = absurd (false≢true n)

@@ -122,6 +122,7 @@ fn do_record(
 {
     match what {
         Record::State(_) => Ok(()),
+        Record::Changes { .. } => Ok(()),
         Record::Event { event, .. } => do_again(flow, node, low, event, table, logs),
     }
 }

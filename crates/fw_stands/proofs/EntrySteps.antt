@@ -94,8 +94,10 @@ of-record : (sys : System) (state : Machine) (p : ℕ) (what : WrittenBy) (r : R
     → (node_of_record r ≡ p) × HoldsWhatIsWritten sys state p (written_of r stamps) what
 of-record sys state p (checkpoint f low) (tagged.State c) stamps h s = (h.node, record { recorded = h.recorded; stamps = s; sent = h.sent })
 of-record sys state p (checkpoint f low) (tagged.Event q event) stamps h s = absurd h
+of-record sys state p (checkpoint f low) (tagged.Changes base c) stamps h s = absurd h
 of-record sys state p (logged_event n) (tagged.State c) stamps h s = absurd h
 of-record sys state p (logged_event n) (tagged.Event q event) stamps h s = (h.0, h.1)
+of-record sys state p (logged_event n) (tagged.Changes base c) stamps h s = absurd h
 
 -- the entry that is asked by the record of a write in flight, which is whole, is one of the write
 pub asked_entry_is_of_write : (sys : System) (state : Machine) (write : Write) → write.stage ≡ in_flight → write.base ≡ None → write.depth ≡ 0

@@ -34,9 +34,12 @@ pub mod RecoveredQueues
 pub mod RedoneLaws
 pub mod TableLaws
 pub mod RecoveredTables
+pub mod RecoveredChains
 pub mod LoggedOrder
 pub mod RecoveredBorders
 pub mod RecoveredProgress
 pub mod RecoveredTraces
 pub mod ReadLaws
+pub mod ReadChains
+pub mod ChainRecords
 pub mod StartingLaws

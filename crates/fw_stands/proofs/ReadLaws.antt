@@ -196,6 +196,7 @@ as-checkpoint : (sys : System) (state : Machine) (p : ℕ) (f : Front) (low : Li
     → (c : Checkpoint) × (r ≡ tagged.State c) × IsCheckpointFor sys state p f low c
 as-checkpoint sys state p f low (tagged.State c) a = (c, refl, a)
 as-checkpoint sys state p f low (tagged.Event q event) a = absurd a
+as-checkpoint sys state p f low (tagged.Changes base c) a = absurd a
 
 -- a record that is held as an entry's is the checkpoint of its write
 pub read-checkpoints : (sys : System) (state : Machine) (held : Records) (entry : Entry) (write : Write) → IsHeldAs sys state held entry write

@@ -104,7 +104,7 @@ logs-present sys state choice settled r e l is =
 -- ---- a sender that is cut
 
 -- its log has what comes from inside the cut
-logged-cut : (sys : System) (state : Machine) (choice : Choice) (settled : List Front) → Recovers sys state choice settled
+pub logged-cut : (sys : System) (state : Machine) (choice : Choice) (settled : List Front) → Recovers sys state choice settled
     → (e : ℕ) → can_resend (policy_of sys.flow (sender sys.flow e)) ≡ true → (f : Front) → cut_of choice (sender sys.flow e) ≡ At f
     → logged sys (recovered_state sys state choice settled) e ≡ sorted_messages (logged_messages sys state state.low e (node_frontier sys.flow (sender sys.flow e) f))
 logged-cut sys state choice settled r e can f is =
@@ -141,7 +141,7 @@ logs-of_nothing sys state choice settled r e l is =
 -- ---- from a checkpoint
 
 -- what lies outside two frontiers, of which the first lies within the second
-outside-both : (f g : Frontier) → Within f g → (ms : List Message) → messages_outside g (messages_outside f ms) ≡ messages_outside g ms
+pub outside-both : (f g : Frontier) → Within f g → (ms : List Message) → messages_outside g (messages_outside f ms) ≡ messages_outside g ms
 outside-both f g w ms =
     filter-inner (λ (m : Message). not (g m.at)) (λ m. not (f m.at)) ms
     (each-one (λ (m : Message). not (g m.at) ≡ true → not (f m.at) ≡ true) ms (λ m k. by (f m.at) (g m.at) (w m.at) k))

@@ -124,7 +124,7 @@ inner-anything flow p way =
     inner-way (kind_of flow p) (policy_of flow p)
     (λ e. let x : Batches ≡ Anything = sym e ∙ way in absurd (cc x)) (λ e. let x : Bound ≡ Anything = sym e ∙ way in absurd (cc x))
 
-inner-checkpoints : (flow : Dataflow) (p : ℕ) → way_of flow p ≡ Checkpoints → (is_input_kind (kind_of flow p) || is_output_kind (kind_of flow p)) ≡ false
+pub inner-checkpoints : (flow : Dataflow) (p : ℕ) → way_of flow p ≡ Checkpoints → (is_input_kind (kind_of flow p) || is_output_kind (kind_of flow p)) ≡ false
 inner-checkpoints flow p way =
     inner-way (kind_of flow p) (policy_of flow p)
     (λ e. let x : Batches ≡ Checkpoints = sym e ∙ way in absurd (cc x)) (λ e. let x : Bound ≡ Checkpoints = sym e ∙ way in absurd (cc x))
@@ -199,7 +199,7 @@ cut-front sys state choice settled r p l inner f is =
     ]
 
 -- a node that is cut has a table where it stands for the events inside, and no more is settled
-tables-cut : (sys : System) (state : Machine) (choice : Choice) (settled : List Front) → Recovers sys state choice settled
+pub tables-cut : (sys : System) (state : Machine) (choice : Choice) (settled : List Front) → Recovers sys state choice settled
     → (p : ℕ) → p < length sys.flow.nodes → (is_input_kind (kind_of sys.flow p) || is_output_kind (kind_of sys.flow p)) ≡ false
     → (f : Front) → cut_of choice p ≡ At f
     → (node : Node) → IsTableOf sys.flow p (node_frontier sys.flow p f) node (events_inside (node_frontier sys.flow p f) (events_at sys.flow p (events state.history)))
@@ -214,12 +214,12 @@ tables-cut sys state choice settled r p l inner f is node t =
     }
 
 -- what is known of the events inside a cut
-record AreInside (flow : Dataflow) (p : ℕ) (f : Frontier) (vs : List Event) : Type 0 where
+pub record AreInside (flow : Dataflow) (p : ℕ) (f : Frontier) (vs : List Event) : Type 0 where
   pub inside : EachDelivery (λ s. f s ≡ true) vs
   pub in_the_domain : EachDelivery (λ s. in_domain (bounds_of flow p) s ≡ true) vs
   pub on_edges : AreOnEdges (in_edges flow p) vs
 
-are-inside : (sys : System) (state : Machine) (choice : Choice) (settled : List Front) → Recovers sys state choice settled
+pub are-inside : (sys : System) (state : Machine) (choice : Choice) (settled : List Front) → Recovers sys state choice settled
     → (p : ℕ) → p < length sys.flow.nodes → (k : Frontier) → AreInside sys.flow p k (events_inside k (events_at sys.flow p (events state.history)))
 are-inside sys state choice settled r p l k =
     let known = knows sys state choice settled r in

@@ -238,6 +238,7 @@ written-stays sys w state next l m told p (checkpoint f low) c k =
     records : (r : Record) → AreAlike sys state next p f → IsRecordFor sys state p (checkpoint f low) r → IsRecordFor sys next p (checkpoint f low) r
     records (tagged.State c) a h = checkpoint-stays sys state next p f a low c h
     records (tagged.Event q event) a h = absurd h
+    records (tagged.Changes base c) a h = absurd h
 written-stays sys w state next l m told p (logged_event s) c k = record { held = holds; spelled = records }
   where
     holds : (entry : Written) → HoldsWhatIsWritten sys state p entry (logged_event s) → HoldsWhatIsWritten sys next p entry (logged_event s)
@@ -247,6 +248,7 @@ written-stays sys w state next l m told p (logged_event s) c k = record { held =
     records : (r : Record) → IsRecordFor sys state p (logged_event s) r → IsRecordFor sys next p (logged_event s) r
     records (tagged.State c) h = absurd h
     records (tagged.Event q event) h = (h.0, told p s event k h.1)
+    records (tagged.Changes base c) h = absurd h
 
 -- where a state is reached the next one is
 pub reached-next : (sys : System) (state : Machine) → IsReached sys state → (step : Step) (next : Machine) (effect : Effect) → LeadsTo sys state step next effect → IsReached sys next

@@ -23,6 +23,16 @@ returns-in-State-clause-logs c = λ logged st sent.
     subst (λ (ls : List LoggedEvent). HaveSent c.args.flow.now c.args.low.now c.args.node ls c.args.logs.now)
     (sym (ap (λ (r : Record). logged ++ event_of r) c.in-State.is ∙ append-nil logged)) sent
 
+pub returns-in-Changes-clause-table : goal.returns-in-Changes-clause-table
+returns-in-Changes-clause-table c = λ logged st.
+    subst (λ (ls : List LoggedEvent). StandsForRedone c.args.flow.now c.args.node ls c.args.table.now)
+    (sym (ap (λ (r : Record). logged ++ event_of r) c.in-Changes.is ∙ append-nil logged)) st
+
+pub returns-in-Changes-clause-logs : goal.returns-in-Changes-clause-logs
+returns-in-Changes-clause-logs c = λ logged st sent.
+    subst (λ (ls : List LoggedEvent). HaveSent c.args.flow.now c.args.low.now c.args.node ls c.args.logs.now)
+    (sym (ap (λ (r : Record). logged ++ event_of r) c.in-Changes.is ∙ append-nil logged)) sent
+
 pub returns-in-Event-clause-table : goal.returns-in-Event-clause-table
 returns-in-Event-clause-table c = λ logged st.
     subst (λ (r : Record). OnOk c.do_again.result (StandsForRedone c.args.flow.now c.args.node (logged ++ event_of r) c.do_again.new.table))

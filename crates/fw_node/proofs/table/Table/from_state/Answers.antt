@@ -1,4 +1,4 @@
-use Rattle.std.proofs.Common.{◌≡◌, ◌||◌, ℕ, List, [], Bool, true, false, length, sym, ap, ◌∙◌, subst, arith}
+use Rattle.std.proofs.Common.{◌≡◌, ◌||◌, ◌≤◌, ◌^◌, ℕ, List, [], Bool, true, false, length, sym, ap, ◌∙◌, subst, arith}
 use Rattle.fw_bag.specs.declared.rec.Rec.{Rec}
 use Rattle.fw_bag.specs.Arrivals.{Arrival, recs_of}
 use Rattle.fw_flow.specs.declared.kind.Kind.{Kind}
@@ -44,10 +44,8 @@ returns-in-Sequence-clause-table c = λ ins settled before i d st.
     let is : kind_of c.args.flow.now c.args.id ≡ kind.Sequence = sym c.kind.ensures ∙ c.in-Sequence.is in
     let came : List Arrival = arrived ins before in
     let gone : List ℕ → Bool = λ s. settled s || is_told before s in
-    let a = c.min.ensures in
     let b = st.sent is in
-    let f = few_sent before in
-    let sent : c.min.result ≡ length (sequence_sent before) = omega arith in
+    let sent : c.sent_of.result ≡ length (sequence_sent before) = c.sent_of.ensures.sent (subst (λ n. n ≤ 2 ^ 32) (sym b) (few_sent before)) ∙ b in
     let P : Kind → Type 0 = λ k. IsNodeTable c.args.flow.now (table.Sequence x) k (past_of ins settled before) in
     let Q : ℕ → Type 0 = λ n. IsSequence gone x came n in
     subst P (sym is) (subst Q sent (c.from_state-in-Sequence.ensures.table gone came (inside_or settled (is_told before) came i)))

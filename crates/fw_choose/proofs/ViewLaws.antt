@@ -1,9 +1,8 @@
 -- What an engine knows of its nodes is so in each state for which it stands, and of its flow.
-use Rattle.std.proofs.Common.{◌≡◌, ◌↔◌, ◌⊎◌, inl, inr, ℕ, zero, suc, ◌+◌, ◌<◌, ◌≤◌, Bool, true, false, not, cond, ◌||◌, ◌==◌, List, [], ◌∷◌, ◌++◌, length, map, filter, get_or, slice_index_or, Option, Result, Ok, Err, IfOk, refl, sym, ◌∙◌, ap, subst, arith}
+use Rattle.std.proofs.Common.{◌≡◌, ◌↔◌, ◌⊎◌, inl, inr, ℕ, zero, suc, ◌+◌, ◌<◌, ◌≤◌, Bool, true, false, not, cond, ◌||◌, ◌==◌, List, [], ◌∷◌, ◌++◌, length, map, filter, get_or, slice_index_or, Option, refl, sym, ◌∙◌, ap, subst, arith}
 use Rattle.std.specs.List.{AllByRecursion, Contains, flat_map}
 use Rattle.std.proofs.lemmas.Bool.{and_parts, and_from, eqb-true, both_ways}
 use Rattle.std.proofs.lemmas.List.{get_or_default, length-append}
-use Rattle.std.proofs.lemmas.Result.{IfOk-weaker}
 use Rattle.fw_lemmas.proofs.Each.{each-weaker, each-both, each-one, each-filter, each-kept}
 use Rattle.fw_lemmas.proofs.Filters.{filter-all}
 use Rattle.fw_time.specs.Stamp.{Stamp, in_domain}
@@ -20,6 +19,7 @@ use Rattle.fw_flow.specs.declared.kind.Kind.TheVariants.{Input, OutputEpoch, Out
 use Rattle.fw_flow.specs.Dataflow.{System, Dataflow, kind_of, sender, receiver, bounds_of, is_input_kind, is_output_kind, is_sequence_kind, greatest_number, HasEpochs, policy_of}
 use Rattle.fw_flow.specs.NodeFunction.{event_node, event_stamp}
 use Rattle.fw_flow.specs.Projection.{IsSentTable}
+use Rattle.fw_model.specs.Certificates.{IsTrailBy}
 use Rattle.fw_model.specs.Choice.{kept, IsCandidate, IsConsistentBy, IsLargestBy, IsLargest}
 use Rattle.fw_model.specs.Choosing.{CanChoose, choice_at}
 use Rattle.fw_model.specs.Covers.{stamp_of_notice}
@@ -33,7 +33,11 @@ use Rattle.fw_model.proofs.DomainLaws.{has_epochs}
 use Rattle.fw_model.proofs.InputLaws.{injected-few}
 use Rattle.fw_model.proofs.LegalLaws.{legal-in_domain}
 use Rattle.fw_model.proofs.PoorerLaws.{consistent-above, largest-above}
+use Rattle.fw_model.proofs.PoorerTrailLaws.{trail-above}
 use Rattle.fw_model.proofs.ThinnedLaws.{each-contained}
+use Rattle.fw_monitor.specs.Descent.{HasConsistent}
+use Rattle.fw_monitor.specs.Trail.{IsTrail}
+use Rattle.fw_monitor.proofs.TrailEndLaws.{trail-by_offers}
 use Rattle.fw_policy.specs.declared.view.Border.{Border}
 use Rattle.fw_policy.specs.declared.view.Border.TheVariants.{Inner, Source, Output}
 use Rattle.fw_policy.specs.declared.view.NodeView.{NodeView}
@@ -50,9 +54,11 @@ use Rattle.fw_border.specs.Outputs.{OutputState}
 use Rattle.fw_border.specs.Sources.{SourceState}
 use Rattle.fw_stands.specs.Parts.{IsOutputOf, IsSourceOf}
 use Rattle.fw_running.specs.declared.running.Running.{Running}
+use Rattle.fw_choose.specs.declared.outlook.Outlook.{Outlook}
+use Rattle.fw_choose.specs.Outlooks.{IsOutlookBy}
 use Rattle.fw_choose.specs.declared.viewing.Lost.{Lost}
 use Rattle.fw_choose.specs.declared.viewing.Lost.TheVariants.{Failed, All}
-use Rattle.fw_choose.specs.Chosen.{is_lost, counts_as_failed, IsChosen, IsChosenBy, IsViewBy, AreViewsBy, IsBorderBy, is_on_its_edge, of_domains}
+use Rattle.fw_choose.specs.Chosen.{is_lost, counts_as_failed, IsChosen, IsViewBy, AreViewsBy, IsBorderBy, is_on_its_edge, of_domains}
 use Rattle.fw_running.specs.Kept.{source_of, output_of, lost_at, is_down}
 use Rattle.fw_running.specs.Shaped.{IsShaped}
 use Rattle.fw_running.specs.Stands.{Stands}
@@ -60,21 +66,6 @@ use Rattle.fw_model.specs.Writes.{takes_checkpoints}
 use Rattle.fw_model.specs.Thinned.{IsThinnedIf}
 
 -- ---- the choice
-
--- some choice is consistent in each reached state, so the largest of what is offered is the machine's
-largest-in : {E : Type 0} (sys : System) (records : Option Records) (state : Machine) (running : Running) (lost : ℕ → Bool) (os : List Offer) (r : Result Choice E)
-    (floor : Choice) → Stands sys running records state → AreOffersAbove sys state lost floor os
-    → ((some : Choice) → RecordsAscend sys.flow os → IsConsistentBy sys.flow (covers_of sys.flow os) (IsOffered sys.flow os) some
-    → IfOk r (IsLargestBy sys.flow (covers_of sys.flow os) (IsOffered sys.flow os)))
-    → IfOk r (λ choice. IsLargest sys state (IsCandidate sys state lost kept) choice)
-largest-in sys records state running lost os r floor s a give =
-    let w = s.apart.well_formed in
-    let reached = s.apart.reached in
-    let can : CanChoose sys state lost = recovery-has_choice sys w reached.0 reached.1 state reached.2 lost in
-    let some = can.choice in
-    let by_offers = consistent-above sys state lost floor os some w.flow a can.consistent in
-    IfOk-weaker r (IsLargestBy sys.flow (covers_of sys.flow os) (IsOffered sys.flow os)) (λ choice. IsLargest sys state (IsCandidate sys state lost kept) choice)
-    (λ choice g. largest-above sys state lost floor os choice w.flow a g) (give some a.ascending by_offers)
 
 chosen-is : (lost : Lost) (sys : System) (state : Machine) (choice : Choice) → IsLargest sys state (IsCandidate sys state (is_lost lost state) kept) choice → IsChosen lost sys state choice
 chosen-is Failed sys state choice k = k
@@ -93,25 +84,43 @@ view-of sys records state running lost view entries v e s = record {
   written = entries-read sys state entries (uncollected state) (subst (λ es. AreEntriesOf sys state es (uncollected state)) (sym e) s.apart.entries);
 }
 
--- so the choice is the one of each state
-pub chosen-by : {E : Type 0} (running : Running) (lost : Lost) (view : List NodeView) (entries : List Entry) (os : List Offer) (r : Result Choice E)
-    → AreViewsBy running lost (length running.flow.nodes) view → entries ≡ running.parts.keep.entries
+-- some choice is consistent in each reached state, so the descent over what is offered is that of the machine
+pub outlook-by : (running : Running) (lost : Lost) (view : List NodeView) (entries : List Entry) (os : List Offer) (outlook : Outlook)
+    → AreViewsBy running lost (length running.flow.nodes) view → entries ≡ running.parts.keep.entries → os ≡ outlook.candidates.items
     → ((sys : System) (state : Machine) (failed : ℕ → Bool) (floor : List Front) → sys.flow ≡ running.flow → (known : IsViewOf sys state failed floor view entries)
-    → AreOffersAbove sys state failed (choice_at floor known.above.notices) os)
+    → AreOffersAbove sys state failed (choice_at floor known.above.notices) outlook.candidates.items)
     → ((some : Choice) → RecordsAscend running.flow os → IsConsistentBy running.flow (covers_of running.flow os) (IsOffered running.flow os) some
-    → IfOk r (IsLargestBy running.flow (covers_of running.flow os) (IsOffered running.flow os)))
-    → IfOk r (IsChosenBy running lost)
+    → IsLargestBy running.flow (covers_of running.flow os) (IsOffered running.flow os) outlook.descent.choice)
+    → (HasConsistent running.flow os → IsTrail running.flow os outlook.descent.trail outlook.descent.choice)
+    → IsOutlookBy running lost outlook
 unfolding view-of
-chosen-by running lost view entries os (Err x) v e exact give = tt
-chosen-by running lost view entries os (Ok choice) v e exact give = λ sys records state s.
+outlook-by running lost view entries others outlook v e is exact give found = λ sys records state s.
+    let os = outlook.candidates.items in
+    let choice = outlook.descent.choice in
+    let trail = outlook.descent.trail in
+    let failed = is_lost lost state in
+    let w = s.apart.well_formed in
+    let reached = s.apart.reached in
     let floor : Choice = choice_at s.traces.floor s.traces.above.notices in
-    let a : AreOffersAbove sys state (is_lost lost state) floor os =
-    exact sys state (is_lost lost state) s.traces.floor (sym s.apart.flow) (view-of sys records state running lost view entries v e s) in
-    let given : (some : Choice) → RecordsAscend sys.flow os → IsConsistentBy sys.flow (covers_of sys.flow os) (IsOffered sys.flow os) some
-    → IsLargestBy sys.flow (covers_of sys.flow os) (IsOffered sys.flow os) choice =
-    subst (λ f. (some : Choice) → RecordsAscend f os → IsConsistentBy f (covers_of f os) (IsOffered f os) some → IsLargestBy f (covers_of f os) (IsOffered f os) choice) s.apart.flow give in
-    let r : Result Choice ℕ = Ok choice in
-    chosen-is lost sys state choice (largest-in sys records state running (is_lost lost state) os r floor s a given)
+    let a : AreOffersAbove sys state failed floor os =
+    exact sys state failed s.traces.floor (sym s.apart.flow) (view-of sys records state running lost view entries v e s) in
+    let can : CanChoose sys state failed = recovery-has_choice sys w reached.0 reached.1 state reached.2 failed in
+    let consistent = consistent-above sys state failed floor os can.choice w.flow a can.consistent in
+    let has : HasConsistent sys.flow os = (a.ascending, (can.choice, consistent)) in
+    let largest : IsLargestBy sys.flow (covers_of sys.flow os) (IsOffered sys.flow os) choice =
+    subst (λ f. (some : Choice) → RecordsAscend f os → IsConsistentBy f (covers_of f os) (IsOffered f os) some → IsLargestBy f (covers_of f os) (IsOffered f os) choice) s.apart.flow
+    (subst (λ (xs : List Offer). (some : Choice) → RecordsAscend running.flow xs → IsConsistentBy running.flow (covers_of running.flow xs) (IsOffered running.flow xs) some
+    → IsLargestBy running.flow (covers_of running.flow xs) (IsOffered running.flow xs) choice) is give) can.choice a.ascending consistent in
+    let led : IsTrail sys.flow os trail choice =
+    subst (λ f. HasConsistent f os → IsTrail f os trail choice) s.apart.flow
+    (subst (λ (xs : List Offer). HasConsistent running.flow xs → IsTrail running.flow xs trail choice) is found) has in
+    let by_data : IsTrailBy sys.flow (covers_of sys.flow os) (IsOffered sys.flow os) trail choice = trail-by_offers sys.flow os trail choice has led in
+    record {
+      offers = a.of_flow;
+      choice = chosen-is lost sys state choice (largest-above sys state failed floor os choice w.flow a largest);
+      trail = (trail-above sys state failed floor os trail choice w.flow a).0 by_data;
+      by_data = by_data;
+    }
 
 -- ---- what fits the flow
 

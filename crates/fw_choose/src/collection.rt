@@ -12,7 +12,8 @@ ghost use Rattle.fw_choose.specs.Collecting.{AreLeft, AreGivenUp, IsRaised, AreR
 ghost use Rattle.fw_running.specs.Shaped.{HasOneEach, IsShaped};
 ghost use Rattle.fw_running.specs.Steps.{StepAnswers, TakesStep};
 
-use crate::viewing::{Lost, choose, fronts_of};
+use crate::outlook::choose;
+use crate::viewing::{Lost, fronts_of};
 use fw_collect::{Drops, apply, plan};
 use fw_flow::{Choice, Flow, Fronts, NodeId, OfEdge};
 use fw_frontier::Front;

@@ -2,7 +2,9 @@
 #![tactic(auto)]
 
 mod collection;
+mod outlook;
 mod viewing;
 
 pub use collection::collect;
-pub use viewing::{Lost, choose};
+pub use outlook::{Outlook, choose, outlook_of};
+pub use viewing::Lost;

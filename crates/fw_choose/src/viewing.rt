@@ -5,11 +5,10 @@ ghost use Rattle.fw_flow.specs.Dataflow.{kind_of, bounds_of, greatest_number};
 ghost use Rattle.fw_collect.specs.Drops.{watermark};
 ghost use Rattle.fw_model.specs.Machine as machine;
 ghost use Rattle.fw_model.specs.Steps.{front_of_cut};
-ghost use Rattle.fw_model.specs.Choice.{IsChoiceOf};
 ghost use Rattle.fw_policy.specs.Shaped.{IsViewFor};
 ghost use Rattle.fw_progress.specs.Counts.{sent_of};
 ghost use Rattle.fw_choose.specs.Chosen as chosen;
-ghost use Rattle.fw_choose.specs.Chosen.{IsChosenBy, IsViewBy, AreViewsBy, IsBorderBy, is_on_its_edge, of_domains};
+ghost use Rattle.fw_choose.specs.Chosen.{IsViewBy, AreViewsBy, IsBorderBy, is_on_its_edge, of_domains};
 ghost use Rattle.fw_running.specs.Kept.{source_of, output_of, lost_at, is_down};
 ghost use Rattle.fw_running.specs.Shaped.{IsShaped};
 
@@ -17,8 +16,7 @@ use fw_flow::{
     Choice, Counted, CountedMessages, Cut, Flow, Kind, NodeId, Notices, SentTable, Stamps,
 };
 use fw_frontier::Front;
-use fw_monitor::largest;
-use fw_policy::{Border, NodeView, candidates};
+use fw_policy::{Border, NodeView};
 use fw_running::Running;
 use fw_time::Bounds;
 use std::alloc::{AllocError, Global};
@@ -32,24 +30,8 @@ pub enum Lost {
     All,
 }
 
-/// The largest choice where these nodes count as failed. The error is want of memory.
-pub fn choose(running: &Running, lost: Lost) -> Result<Choice, AllocError>
-    requires { IsShaped running.now }
-    ensures of_flow { IfOk result (IsChoiceOf running.now.flow) }
-    ensures of_state { IfOk result (IsChosenBy running.now lost) }
-{
-    let view = views(running, lost)?;
-    let offers = candidates(
-        running.alloc,
-        &running.flow,
-        &view,
-        running.parts.keep.entries(),
-    )?;
-    largest(running.alloc, &running.flow, &offers)
-}
-
-// What is known of each node, in order of the nodes.
-fn views(running: &Running, lost: Lost) -> Result<Vec<NodeView>, AllocError>
+/// What is known of each node, in order of the nodes. The error is want of memory.
+pub(crate) fn views(running: &Running, lost: Lost) -> Result<Vec<NodeView>, AllocError>
     requires { IsShaped running.now }
     ensures { IfOk result (λ view. AreViewsBy running.now lost (length running.now.flow.nodes) view.items) }
 {

@@ -1,3 +1,5 @@
+pub mod HeadLaws
+pub mod HeapLaws
 pub mod LogLaws
 pub mod PileLaws
 pub mod PiledLaws

@@ -90,7 +90,8 @@ unfolding weigh
 weighed-from w n [] = omega arith
 weighed-from w n (x ∷ xs) = let h = weighed-from w (n + w x) xs in omega arith
 
-permuted-weigh : (w : Message → ℕ) (xs ys : List Message) → IsPermutation xs ys → weigh w ys ≡ weigh w xs
+-- in another order they weigh the same
+pub permuted-weigh : (w : Message → ℕ) (xs ys : List Message) → IsPermutation xs ys → weigh w ys ≡ weigh w xs
 permuted-weigh w xs ys p =
     let a = weighed-from w 0 xs in
     let b = weighed-from w 0 ys in

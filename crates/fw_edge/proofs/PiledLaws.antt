@@ -51,12 +51,12 @@ by_stamp m x s t o a b e n =
     then_first o (stamp_cmp m.at x.at) (ordering_then (rec_cmp m.rec x.rec) (slice_cmp stamp_cmp m.causes x.causes)) (ap (λ u. stamp_cmp u x.at) a ∙ ap (stamp_cmp s) b ∙ e) n
 
 -- the messages at a stamp stand to one at another stamp as the stamps do
-pile_stands : (m : Message) (s t : Stamp) (o : Ordering) (xs : List Message) → m.at ≡ s → stamp_cmp s t ≡ o → o ≢ Equal
+pub pile_stands : (m : Message) (s t : Stamp) (o : Ordering) (xs : List Message) → m.at ≡ s → stamp_cmp s t ≡ o → o ≢ Equal
     → AllByRecursion (λ x. x.at ≡ t) xs → AllByRecursion (λ x. message_cmp m x ≡ o) xs
 pile_stands m s t o xs a e n h = each-weaker (λ x. x.at ≡ t) (λ x. message_cmp m x ≡ o) xs (λ x b. by_stamp m x s t o a b e n) h
 
 -- the messages of later piles come after one at an earlier stamp
-piles_later : (m : Message) (s : Stamp) (es : Piles) → m.at ≡ s → AllByRecursion (λ t. stamp_cmp s t ≡ Less) (keys_of es)
+pub piles_later : (m : Message) (s : Stamp) (es : Piles) → m.at ≡ s → AllByRecursion (λ t. stamp_cmp s t ≡ Less) (keys_of es)
     → AllByRecursion (λ pile. IsPile pile.0 pile.1) es → AllByRecursion (λ x. message_cmp m x ≡ Less) (piled_messages es)
 piles_later m s [] a l h = tt
 piles_later m s (e ∷ es) a l h =
@@ -64,18 +64,18 @@ piles_later m s (e ∷ es) a l h =
 
 -- ---- a message put in
 
-put-before : (m : Message) (ys : List Message) → AllByRecursion (λ y. message_cmp m y ≡ Less) ys → with_message m ys ≡ m ∷ ys
+pub put-before : (m : Message) (ys : List Message) → AllByRecursion (λ y. message_cmp m y ≡ Less) ys → with_message m ys ≡ m ∷ ys
 put-before m [] a = refl
 put-before m (y ∷ ys) a = cond-true (is_le (message_cmp m y)) (m ∷ y ∷ ys) (y ∷ with_message m ys) (ap is_le a.0)
 
-put-left : (m : Message) (xs ys : List Message) → AllByRecursion (λ y. message_cmp m y ≡ Less) ys → with_message m (xs ++ ys) ≡ with_message m xs ++ ys
+pub put-left : (m : Message) (xs ys : List Message) → AllByRecursion (λ y. message_cmp m y ≡ Less) ys → with_message m (xs ++ ys) ≡ with_message m xs ++ ys
 put-left m [] ys a = put-before m ys a
 put-left m (x ∷ xs) ys a =
     cond_both (is_le (message_cmp m x)) (m ∷ x ∷ xs) (x ∷ with_message m xs) (λ zs. with_message m (x ∷ xs ++ ys) ≡ zs ++ ys)
     (λ e. cond-true (is_le (message_cmp m x)) (m ∷ x ∷ xs ++ ys) (x ∷ with_message m (xs ++ ys)) e)
     (λ e. cond-false (is_le (message_cmp m x)) (m ∷ x ∷ xs ++ ys) (x ∷ with_message m (xs ++ ys)) e ∙ ap (λ zs. x ∷ zs) (put-left m xs ys a))
 
-put-right : (m : Message) (xs ys : List Message) → AllByRecursion (λ x. message_cmp m x ≡ Greater) xs → with_message m (xs ++ ys) ≡ xs ++ with_message m ys
+pub put-right : (m : Message) (xs ys : List Message) → AllByRecursion (λ x. message_cmp m x ≡ Greater) xs → with_message m (xs ++ ys) ≡ xs ++ with_message m ys
 put-right m [] ys a = refl
 put-right m (x ∷ xs) ys a =
     cond-false (is_le (message_cmp m x)) (m ∷ x ∷ xs ++ ys) (x ∷ with_message m (xs ++ ys)) (ap is_le a.0) ∙ ap (λ zs. x ∷ zs) (put-right m xs ys a.1)
@@ -213,7 +213,7 @@ piled-put_new m (e ∷ es) a h = put_new_cases m e es a (piled-put_new m es (res
 
 -- ---- a message taken out
 
-without-right : (m : Message) (xs ys : List Message) → AllByRecursion (λ x. message_cmp m x ≡ Greater) xs → messages_without m (xs ++ ys) ≡ xs ++ messages_without m ys
+pub without-right : (m : Message) (xs ys : List Message) → AllByRecursion (λ x. message_cmp m x ≡ Greater) xs → messages_without m (xs ++ ys) ≡ xs ++ messages_without m ys
 without-right m [] ys a = refl
 without-right m (x ∷ xs) ys a = without-later m x (xs ++ ys) (ap is_eq a.0) ∙ ap (λ zs. x ∷ zs) (without-right m xs ys a.1)
 
@@ -262,14 +262,14 @@ stamp_test t s = elim (cases_Bool (at_stamp t s)) [
 ]
 
 -- each message of a pile answers the test of a stamp as the pile's stamp does
-pile_answers : (t s : Stamp) (b : Bool) (xs : List Message) → AllByRecursion (λ m. m.at ≡ s) xs → at_stamp t s ≡ b → AllByRecursion (λ m. same t m.at ≡ b) xs
+pub pile_answers : (t s : Stamp) (b : Bool) (xs : List Message) → AllByRecursion (λ m. m.at ≡ s) xs → at_stamp t s ≡ b → AllByRecursion (λ m. same t m.at ≡ b) xs
 pile_answers t s b xs h e = each-weaker (λ m. m.at ≡ s) (λ m. same t m.at ≡ b) xs (λ m k. ap (same t) k ∙ sym (stamp_test t s) ∙ e) h
 
-find-past : (test : Message → Bool) (xs ys : List Message) → AllByRecursion (λ x. test x ≡ false) xs → find test (xs ++ ys) ≡ find test ys
+pub find-past : (test : Message → Bool) (xs ys : List Message) → AllByRecursion (λ x. test x ≡ false) xs → find test (xs ++ ys) ≡ find test ys
 find-past test [] ys a = refl
 find-past test (x ∷ xs) ys a = cond-false (test x) (Some x) (find test (xs ++ ys)) a.0 ∙ find-past test xs ys a.1
 
-find-first : (test : Message → Bool) (xs ys : List Message) → xs ≢ [] → AllByRecursion (λ x. test x ≡ true) xs → find test (xs ++ ys) ≡ slice_get xs 0
+pub find-first : (test : Message → Bool) (xs ys : List Message) → xs ≢ [] → AllByRecursion (λ x. test x ≡ true) xs → find test (xs ++ ys) ≡ slice_get xs 0
 find-first test [] ys n a = absurd (n refl)
 find-first test (x ∷ xs) ys n a = cond-true (test x) (Some x) (find test (xs ++ ys)) a.0
 
@@ -286,17 +286,9 @@ find-piled t (e ∷ es) a = elim (cases_Bool (at_stamp t e.0)) [
       ∙ ap (λ o. slice_get (unwrap_or o []) 0) (sym (cond-false (at_stamp t e.0) (Some e.1) (lookup (at_stamp t) es) q))
 ]
 
--- the first message of all is the first at the first stamp
-pub find-front : (e : Stamp × List Message) (es : Piles) → IsPile e.0 e.1
-    → find (λ m. true) (piled_messages (e ∷ es)) ≡ find (λ m. same e.0 m.at) (piled_messages (e ∷ es))
-find-front e es p =
-    let here = pile_answers e.0 e.0 true e.1 p.there (ap is_eq (tied_itself stamp_total e.0)) in
-    find-first (λ m. true) e.1 (piled_messages es) p.some (each-weaker (λ m. m.at ≡ e.0) (λ m. true ≡ true) e.1 (λ m k. refl) p.there)
-    ∙ sym (find-first (λ m. same e.0 m.at) e.1 (piled_messages es) p.some here)
-
 -- ---- how many are at a stamp
 
-how_many-append : (test : Message → Bool) (xs ys : List Message) → how_many test (xs ++ ys) ≡ how_many test xs + how_many test ys
+pub how_many-append : (test : Message → Bool) (xs ys : List Message) → how_many test (xs ++ ys) ≡ how_many test xs + how_many test ys
 how_many-append test [] ys = omega arith
 how_many-append test (x ∷ xs) ys =
     let h = how_many-append test xs ys in
@@ -308,7 +300,7 @@ how_many-all : (test : Message → Bool) (xs : List Message) → AllByRecursion 
 how_many-all test [] a = refl
 how_many-all test (x ∷ xs) a = let h = how_many-all test xs a.1 in cond-true (test x) (how_many test xs + 1) (how_many test xs) a.0 ∙ omega arith
 
-how_many-none : (test : Message → Bool) (xs : List Message) → AllByRecursion (λ x. test x ≡ false) xs → how_many test xs ≡ 0
+pub how_many-none : (test : Message → Bool) (xs : List Message) → AllByRecursion (λ x. test x ≡ false) xs → how_many test xs ≡ 0
 how_many-none test [] a = refl
 how_many-none test (x ∷ xs) a = cond-false (test x) (how_many test xs + 1) (how_many test xs) a.0 ∙ how_many-none test xs a.1
 
@@ -358,7 +350,7 @@ pub long : (xs : List Message) → 0 < length xs → xs ≢ []
 long [] l e = absurd (omega arith)
 long (x ∷ xs) l e = cc
 
-kept_pile : (p : Message → Bool) (t : Stamp) (xs : List Message) → IsPile t xs → 0 < length (filter p xs) → IsPile t (filter p xs)
+pub kept_pile : (p : Message → Bool) (t : Stamp) (xs : List Message) → IsPile t xs → 0 < length (filter p xs) → IsPile t (filter p xs)
 kept_pile p t xs a l = record {
   some = long (filter p xs) l;
   ascending = sorted_messages-filter p xs ∙ ap (filter p) a.ascending;
@@ -410,14 +402,9 @@ ascending-piled (e ∷ es) a =
 pub piled-in_order : (es : Piles) → ArePiles es → sorted_messages (piled_messages es) ≡ piled_messages es
 piled-in_order es a = sorted_messages-ascending (piled_messages es) (ascending-piled es a)
 
-appended_none : (xs ys : List Message) → xs ++ ys ≡ [] → xs ≡ []
+pub appended_none : (xs ys : List Message) → xs ++ ys ≡ [] → xs ≡ []
 appended_none [] ys e = refl
 appended_none (x ∷ xs) ys e = absurd (cc)
-
--- there are no messages where there are no piles
-pub no_piles : (es : Piles) → EachIsPile es → piled_messages es ≡ [] → es ≡ []
-no_piles [] a e = refl
-no_piles (e ∷ es) a h = absurd (a.0.some (appended_none e.1 (piled_messages es) h))
 
 -- ---- what is done to one pile
 
@@ -463,18 +450,6 @@ taken_at t (m ∷ v) left es after r a h l k n =
 pub not_none : (P : Type 0) (v : List Message) (r : Option Message) → v ≢ [] → r ≡ slice_get v 0 → IfNone r P
 not_none P [] r n k = absurd (n refl)
 not_none P (m ∷ v) r n k = rw k tt
-
--- the first message is that of the first pile
-pub front_of : (t : Stamp) (v : List Message) (es : Piles) → EachIsPile es → slice_get es 0 ≡ Some (t, v)
-    → (find (λ m. true) (piled_messages es) ≡ find (λ m. same t m.at) (piled_messages es)) × (slice_get v 0 ≡ find (λ m. true) (piled_messages es))
-front_of t v [] a h = absurd (cc)
-front_of t v (e ∷ es) a h =
-    let s : e.0 ≡ t = cc in
-    let xs : e.1 ≡ v = cc in (
-      find-front e es a.0 ∙ ap (λ u. find (λ m. same u m.at) (piled_messages (e ∷ es))) s,
-      ap (λ ys. slice_get ys 0) (sym xs)
-          ∙ sym (find-first (λ m. true) e.1 (piled_messages es) a.0.some (each-weaker (λ m. m.at ≡ e.0) (λ m. true ≡ true) e.1 (λ m k. refl) a.0.there)),
-    )
 
 -- ---- messages put in one after the other
 

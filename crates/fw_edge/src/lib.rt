@@ -1,9 +1,10 @@
 //! What is on an edge: what is pending for its receiver (`Queue`), and what its sender may have to send again (`MsgLog`).
 //!
 //! Contracts see each as the ascending list of its messages, by stamp, then rec, then causes, with a mark of whether memory
-//! was refused to it. Of what is pending the different messages are kept with their counts, found by stamp: putting and taking
-//! cost the logarithm of the stamps and of the different messages at one. A log keeps its messages in the order of appending:
-//! one more costs one comparison, and copies are sorted where the messages are not known to ascend.
+//! was refused to it. What is pending at a stamp is a heap; that of the least stamp stands apart, and the others are found by
+//! stamp: putting and taking at the least stamp cost the logarithm of the messages at it, and elsewhere that of the stamps
+//! besides. A log keeps its messages in the order of appending: one more costs one comparison, and copies are sorted where the
+//! messages are not known to ascend.
 #![tactic(auto)]
 
 mod bag;

@@ -1,13 +1,12 @@
 //! Messages by their stamps.
-ghost use Rattle.std.specs.Prelude.{◌≡◌, ◌↔◌, [], find, true, IsTrue, IfSome, IfNone, OnOk, OnErr};
+ghost use Rattle.std.specs.Prelude.{◌≡◌, find, IfSome, IfNone, OnOk, OnErr};
 ghost use Rattle.std.specs.Option.{option_copied};
 ghost use Rattle.fw_time.specs.Stamp.{same};
 ghost use Rattle.fw_frontier.specs.Front.{inside};
 ghost use Rattle.fw_flow.specs.Counting.{how_many};
 ghost use Rattle.fw_flow.specs.Message.{messages_without};
 ghost use Rattle.fw_model.specs.Filtering.{messages_from};
-ghost use Rattle.fw_model.specs.SortedMessages.{with_message, sorted_messages};
-ghost use Rattle.fw_model.specs.Steps.{is_asked};
+ghost use Rattle.fw_model.specs.SortedMessages.{with_message};
 ghost use Rattle.fw_edge.specs.Piles.{piled_messages, ArePiles};
 
 use crate::pile::Pile;
@@ -18,7 +17,7 @@ use std::alloc::{AllocError, Global};
 use std::collections::BTreeMap;
 use std::collections::btree_map::Entry;
 
-/// Puts a message in. It fails where memory is refused, and where the number at its stamp would not fit a `usize`.
+/// Puts a message in. The error is want of memory.
 pub fn put(
     alloc: Global,
     piles: &mut BTreeMap<Stamp, Pile>,
@@ -30,9 +29,9 @@ pub fn put(
     ensures err { OnErr result (piles.new.entries ≡ piles.old.entries) }
 {
     match piles.entry(message.at.copy())? {
-        Entry::Occupied(pile) => pile.into_mut().put(alloc, message)?,
+        Entry::Occupied(pile) => pile.into_mut().put(message)?,
         Entry::Vacant(place) => {
-            place.insert(Pile::of(message));
+            place.insert(Pile::of(alloc, message)?);
         }
     }
     Ok(())
@@ -55,62 +54,12 @@ pub fn take_at(piles: &mut BTreeMap<Stamp, Pile>, at: &Stamp) -> Option<Message>
     message
 }
 
-// Takes the first message of all out.
-fn take_front(piles: &mut BTreeMap<Stamp, Pile>) -> Option<Message>
-    requires { ArePiles piles.old.entries }
-    ensures piles { ArePiles piles.new.entries }
-    ensures value { result ≡ find (λ m. true) (piled_messages piles.old.entries) }
-    ensures taken { IfSome result
-        (λ m. piled_messages piles.new.entries ≡ messages_without m (piled_messages piles.old.entries)) }
-    ensures unchanged { IfNone result (piles.new.entries ≡ piles.old.entries) }
-{
-    let (first, _) = piles.first_key_value()?;
-    let at = first.copy();
-    take_at(piles, &at)
-}
-
-/// Takes the first message out that is at the stamp, if one is asked for.
-pub fn take(piles: &mut BTreeMap<Stamp, Pile>, at: Option<&Stamp>) -> Option<Message>
-    requires { ArePiles piles.old.entries }
-    ensures piles { ArePiles piles.new.entries }
-    ensures value { result ≡ find (λ m. is_asked (option_copied at.entry) m.at) (piled_messages piles.old.entries) }
-    ensures taken { IfSome result
-        (λ m. piled_messages piles.new.entries ≡ messages_without m (piled_messages piles.old.entries)) }
-    ensures unchanged { IfNone result (piles.new.entries ≡ piles.old.entries) }
-{
-    match at {
-        Some(at) => take_at(piles, at),
-        None => take_front(piles),
-    }
-}
-
-// The first message at a stamp.
-fn first_at<'a>(piles: &'a BTreeMap<Stamp, Pile>, at: &Stamp) -> Option<&'a Message>
+/// The first message at a stamp.
+pub fn first_at<'a>(piles: &'a BTreeMap<Stamp, Pile>, at: &Stamp) -> Option<&'a Message>
     requires { ArePiles piles.now.entries }
     ensures { option_copied result ≡ find (λ m. same at.now m.at) (piled_messages piles.now.entries) }
 {
     piles.get(at)?.first()
-}
-
-// The first message of all.
-fn front(piles: &BTreeMap<Stamp, Pile>) -> Option<&Message>
-    requires { ArePiles piles.now.entries }
-    ensures { option_copied result ≡ find (λ m. true) (piled_messages piles.now.entries) }
-{
-    let (_, pile) = piles.first_key_value()?;
-    pile.first()
-}
-
-/// The first message that is at the stamp, if one is asked for.
-pub fn first<'a>(piles: &'a BTreeMap<Stamp, Pile>, at: Option<&Stamp>) -> Option<&'a Message>
-    requires { ArePiles piles.now.entries }
-    ensures { option_copied result
-        ≡ find (λ m. is_asked (option_copied at.entry) m.at) (piled_messages piles.now.entries) }
-{
-    match at {
-        Some(at) => first_at(piles, at),
-        None => front(piles),
-    }
 }
 
 /// How many messages are at a stamp.
@@ -122,15 +71,6 @@ pub fn count_at(piles: &BTreeMap<Stamp, Pile>, at: &Stamp) -> usize
         Some(pile) => pile.len(),
         None => 0,
     }
-}
-
-/// Whether there is no message.
-pub fn is_empty(piles: &BTreeMap<Stamp, Pile>) -> bool
-    requires { ArePiles piles.now.entries }
-    ensures empty { IsTrue result ↔ (piled_messages piles.now.entries ≡ []) }
-    ensures ascending { sorted_messages (piled_messages piles.now.entries) ≡ piled_messages piles.now.entries }
-{
-    piles.is_empty()
 }
 
 /// Keeps the messages all of whose causes are inside.

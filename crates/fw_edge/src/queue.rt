@@ -51,8 +51,7 @@ impl Queue {
 
     /// Puts a message in.
     ///
-    /// It fails where memory is refused, now or earlier, and where the number of messages at one stamp would not fit a
-    /// `usize`.
+    /// It fails where memory is refused, now or earlier.
     pub fn put(&mut self, message: Message) -> Result<(), AllocError>
         ensures ok { OnOk result (self.new ≡ record { messages = with_message message self.old.messages; refused = false }) }
         ensures err { OnErr result (self.new ≡ record { messages = self.old.messages; refused = true }) }

@@ -1,7 +1,7 @@
 //! The stamps at which messages are pending.
-ghost use Rattle.std.specs.Prelude.{◌≡◌, length, map};
+ghost use Rattle.std.specs.Prelude.{◌≡◌, ◌++◌, length, map};
 ghost use Rattle.std.specs.Iterator.{YieldsFirstBy, item_count};
-ghost use Rattle.fw_edge.specs.Piles.{piled_messages, ArePiles};
+ghost use Rattle.fw_edge.specs.Piles.{piled_messages, AreApart};
 ghost use Rattle.fw_edge.specs.Stamps.{counted_stamps};
 
 use crate::pile::Pile;
@@ -14,24 +14,28 @@ use std::marker::Model;
 /// left.
 #[derive(Drop)]
 pub struct PendingStamps<'a> {
+    head: Option<(&'a Stamp, usize)>,
     piles: btree_map::Iter<'a, Stamp, Pile>,
 }
 
 impl<'a> Model for PendingStamps<'a> {
-    ghost use Rattle.std.specs.Prelude.{ℕ, List, length, map};
+    ghost use Rattle.std.specs.Prelude.{ℕ, List, ◌++◌, length, map};
+    ghost use Rattle.fw_edge.specs.Stamps.{counted_first};
 
     ghost Value = { List (List ℕ × ℕ) };
 
-    ghost view = { λ left. map (λ pile. (pile.0, length pile.1)) left.piles };
+    ghost view = { λ left. counted_first left.head ++ map (λ pile. (pile.0, length pile.1)) left.piles };
 }
 
 impl<'a> PendingStamps<'a> {
-    /// What goes over the stamps of these piles.
-    pub(crate) fn over(piles: &'a BTreeMap<Stamp, Pile>) -> Self
-        requires { ArePiles piles.now.entries }
-        ensures { result ≡ counted_stamps (piled_messages piles.now.entries) }
+    /// What goes over the least stamp and those of these piles.
+    pub(crate) fn over(at: &'a Stamp, head: &'a Pile, piles: &'a BTreeMap<Stamp, Pile>) -> Self
+        requires { AreApart at.now head.now piles.now.entries }
+        ensures { result ≡ counted_stamps (head.now ++ piled_messages piles.now.entries) }
     {
+        let len = head.len();
         PendingStamps {
+            head: (len > 0).then_some((at, len)),
             piles: piles.iter(),
         }
     }
@@ -45,6 +49,9 @@ impl<'a> Iterator for PendingStamps<'a> {
     ghost remaining = { item_count (λ left. left) };
 
     fn next(&mut self) -> Option<(&'a Stamp, usize)> {
+        if let Some(head) = self.head.take() {
+            return Some(head);
+        }
         let (at, pile) = self.piles.next()?;
         Some((at, pile.len()))
     }

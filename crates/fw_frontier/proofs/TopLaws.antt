@@ -1,13 +1,12 @@
 -- The greatest stamps inside a frontier: what they cover, that no two are comparable, and that the rest is none of the domain's.
-use Rattle.std.proofs.Common.{◌≡◌, ℕ, zero, suc, ◌+◌, ◌-◌, ◌<◌, ◌≤◌, Bool, true, false, not, ◌&&◌, ◌||◌, nat_le, nat_lt, nat_eq, cond, List, [], ◌∷◌, ◌++◌, length, get_or, set, filter, refl, sym, ap, ◌∙◌, arith}
-use Rattle.std.proofs.lemmas.Bool.{and_from, and_parts}
+use Rattle.std.proofs.Common.{◌≡◌, ℕ, zero, suc, ◌-◌, ◌<◌, ◌≤◌, Bool, true, false, not, ◌&&◌, ◌||◌, nat_le, nat_lt, nat_eq, cond, List, [], ◌∷◌, ◌++◌, length, get_or, set, filter, refl, sym, ap, ◌∙◌, arith}
+use Rattle.std.proofs.lemmas.Bool.{and_from}
 use Rattle.std.proofs.lemmas.Bool.Decides.{nat_tests}
 use Rattle.std.proofs.Math.Bool.{and-false, or-true, or-false, and_assoc}
 use Rattle.std.specs.List.{AllByRecursion}
-use Rattle.fw_lemmas.proofs.Bools.{two_ways, same_tests}
-use Rattle.fw_lemmas.proofs.Each.{each-weaker, each-append, each-kept, each-passed, each-filter, each-one}
+use Rattle.fw_lemmas.proofs.Each.{each-weaker, each-both, each-append, each-kept, each-passed, each-filter, each-one}
 use Rattle.fw_time.specs.declared.stamp.Bounds.{Bounds}
-use Rattle.fw_time.specs.Stamp.{Stamp, leq, in_domain, is_of_side, counts, up_to}
+use Rattle.fw_time.specs.Stamp.{Stamp, leq, lesser, in_domain, is_of_side, counts}
 use Rattle.fw_time.proofs.StampLaws.{leq-refl, leq-trans, leq-length}
 use Rattle.fw_time.proofs.DomainLaws.{domain-leq, domain-counts, domain-between}
 use Rattle.fw_frontier.specs.Frontier.{some_above, cover}
@@ -440,3 +439,34 @@ tops-domain b os = each-filter (λ s. in_domain b s ≡ true) (in_domain b) (top
 
 pub tops-apart : (b : Bounds) (os : Front) → AreIncomparable (tops_inside b os)
 tops-apart b os = apart-filter (in_domain b) (tops_left os (domain_tops b)) (apart-tops_left os (domain_tops b) (domain-apart b))
+
+-- none is lesser than one of them
+lesser-not : (s t : Stamp) → leq s t ≡ false → lesser s t ≡ false
+lesser-not s t e = ap (λ b. b && not (leq t s)) e
+
+lesser-self : (s : Stamp) → lesser s s ≡ false
+lesser-self s = by (leq s s)
+  where
+    by : (b : Bool) → (b && not b) ≡ false
+    by true = refl
+    by false = refl
+
+left-not : (a b : Bool) → (a || b) ≡ false → a ≡ false
+left-not true b e = e
+left-not false b e = refl
+
+right-not : (a b : Bool) → (a || b) ≡ false → b ≡ false
+right-not true b e = no (sym e)
+right-not false b e = e
+
+apart-greatest : (ss : List Stamp) → AreIncomparable ss → AllByRecursion (λ s. AllByRecursion (λ t. lesser s t ≡ false) ss) ss
+apart-greatest [] h = tt
+apart-greatest (s ∷ ss) h = (
+  (lesser-self s, each-weaker (λ t. (leq s t || leq t s) ≡ false) (λ t. lesser s t ≡ false) ss (λ t e. lesser-not s t (left-not (leq s t) (leq t s) e)) h.0),
+  each-both (λ t. lesser t s ≡ false) (λ t. AllByRecursion (λ u. lesser t u ≡ false) ss) ss
+      (each-weaker (λ t. (leq s t || leq t s) ≡ false) (λ t. lesser t s ≡ false) ss (λ t e. lesser-not t s (right-not (leq s t) (leq t s) e)) h.0)
+      (apart-greatest ss h.1),
+)
+
+pub tops-greatest : (b : Bounds) (os : Front) → AllByRecursion (λ s. AllByRecursion (λ t. lesser s t ≡ false) (tops_inside b os)) (tops_inside b os)
+tops-greatest b os = apart-greatest (tops_inside b os) (tops-apart b os)

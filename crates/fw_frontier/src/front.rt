@@ -1,8 +1,8 @@
 //! The frontier of any domain, by its least outside stamps.
-ghost use Rattle.std.specs.Prelude.{◌≡◌, ◌↔◌, ◌&&◌, ◌++◌, ℕ, List, true, not, [], ◌∷◌, IsTrue, IsSome, IfSome, IfOk};
+ghost use Rattle.std.specs.Prelude.{◌≡◌, ◌↔◌, ◌&&◌, ◌++◌, ℕ, List, true, false, not, [], ◌∷◌, IsTrue, IsSome, IfSome, IfOk};
 ghost use Rattle.std.specs.List.{AllByRecursion};
 ghost use Rattle.fw_time.specs.declared.stamp.Bounds.{Bounds as Domain};
-ghost use Rattle.fw_time.specs.Stamp.{leq, in_domain};
+ghost use Rattle.fw_time.specs.Stamp.{leq, lesser, in_domain};
 ghost use Rattle.fw_frontier.specs.Frontier.{nothing, meet, join, cover, without_above, Within};
 ghost use Rattle.fw_frontier.specs.Front.{inside, frontier_of, same_front, is_within, IsCanonical, IsFrontOf};
 ghost use Rattle.fw_frontier.specs.Least.{AreLeastOf};
@@ -194,6 +194,8 @@ impl Front {
         ensures domain { IfOk result
             (λ tops. AllByRecursion (λ s. in_domain bounds.now s ≡ true) tops.items) }
         ensures apart { IfOk result (λ tops. AreIncomparable tops.items) }
+        ensures greatest { IfOk result
+            (λ tops. AllByRecursion (λ s. AllByRecursion (λ t. lesser s t ≡ false) tops.items) tops.items) }
     {
         tops::inside(self.outside.allocator(), self.outside(), bounds)
     }

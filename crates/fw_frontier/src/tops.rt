@@ -1,7 +1,7 @@
 //! The greatest stamps inside a frontier.
-ghost use Rattle.std.specs.Prelude.{◌≡◌, ◌<◌, ℕ, List, [], true, not, set, length, filter, IfOk, OnOk};
+ghost use Rattle.std.specs.Prelude.{◌≡◌, ◌<◌, ℕ, List, [], true, false, not, set, length, filter, IfOk, OnOk};
 ghost use Rattle.std.specs.List.{AllByRecursion};
-ghost use Rattle.fw_time.specs.Stamp.{leq, in_domain};
+ghost use Rattle.fw_time.specs.Stamp.{leq, lesser, in_domain};
 ghost use Rattle.fw_frontier.specs.Front.{frontier_of};
 ghost use Rattle.fw_frontier.specs.Frontier.{some_above, cover};
 ghost use Rattle.fw_frontier.specs.Tops.{AreIncomparable, with_top, with_lowered, with_left, with_all_left, tops_left, domain_tops};
@@ -130,6 +130,8 @@ pub fn inside(alloc: Global, outside: &[Stamp], bounds: &Bounds) -> Result<Vec<S
     ensures domain { IfOk result
         (λ tops. AllByRecursion (λ s. in_domain bounds.now s ≡ true) tops.items) }
     ensures apart { IfOk result (λ tops. AreIncomparable tops.items) }
+    ensures greatest { IfOk result
+        (λ tops. AllByRecursion (λ s. AllByRecursion (λ t. lesser s t ≡ false) tops.items) tops.items) }
 {
     let mut tops = left_of_domain(alloc, outside, bounds)?;
     outside::keep_in_domain(&mut tops, bounds);

@@ -118,7 +118,7 @@ logged-event : (asks : Policy) (p serial : ℕ) → AllByRecursion IsWholeIfLogg
 logged-event policy.Full p serial = ((λ s e. refl), tt)
 logged-event asks p serial = tt
 
-abbrev HasLogged : Machine → Type 0
+abbrev pub HasLogged : Machine → Type 0
 HasLogged state = AllByRecursion IsWholeIfLogged state.writes
 
 logged-asked : (state : Machine) (settled : List Front) (ps : List ℕ) → AllByRecursion IsWholeIfLogged (settled_writes state settled ps)
@@ -156,12 +156,12 @@ took-logged sys state (Ack o) next effect t a = subst HasLogged (sym t.2) a
 -- ---- steps
 
 -- what of a state the law rests on
-record CanForget (sys : System) (state : Machine) : Type 0 where
-  reached : CanRecoverAndRestore sys state
-  order : AreInOrder state.writes
-  chain : (p : ℕ) → p < length sys.flow.nodes → HasChain p state
-  logged : HasLogged state
-  exact : AreGoneExact sys state.low state.history state.writes
+pub record CanForget (sys : System) (state : Machine) : Type 0 where
+  pub reached : CanRecoverAndRestore sys state
+  pub order : AreInOrder state.writes
+  pub chain : (p : ℕ) → p < length sys.flow.nodes → HasChain p state
+  pub logged : HasLogged state
+  pub exact : AreGoneExact sys state.low state.history state.writes
 
 exact-history : (sys : System) (low : List Front) (h k : List SerialEvent) (xs : List Write)
     → AllByRecursion (λ (x : Write). lies_below sys low k x.node x.written ≡ lies_below sys low h x.node x.written) xs → AreGoneExact sys low h xs → AreGoneExact sys low k xs
@@ -379,7 +379,7 @@ exact-at : (sys : System) (low : List Front) (h : List SerialEvent) (xs : List W
 exact-at sys low h [] x ys a = a.0
 exact-at sys low h (z ∷ xs) x ys a = exact-at sys low h xs x ys a.1
 
-reached-forget : (sys : System) → IsWellFormedSystem sys → (steps : List Step) (outcomes : List Outcome) (last : Machine) → Run sys (first_state sys) steps outcomes last
+pub reached-forget : (sys : System) → IsWellFormedSystem sys → (steps : List Step) (outcomes : List Outcome) (last : Machine) → Run sys (first_state sys) steps outcomes last
     → CanForget sys last
 reached-forget sys w steps outcomes last r =
     run-forget sys w steps outcomes (first_state sys) last (record {

@@ -11,6 +11,7 @@ pub mod SpanLaws
 pub mod StandingLaws
 pub mod GoneLaws
 pub mod CollectedLaws
+pub mod KeptChainLaws
 pub mod CheckpointFrontLaws
 pub mod AutoLaws
 pub mod CheckpointLaws

@@ -1,5 +1,5 @@
 -- Laws of what checkpoints stand on: those of a node are a chain, whichever of them are whole.
-use Rattle.std.specs.Prelude.{◌≡◌, ◌⊎◌, ℕ, ◌+◌, ◌<◌, ◌==◌, if◌then◌else◌, List, [], ◌∷◌, length, Option, Some, None}
+use Rattle.std.specs.Prelude.{◌≡◌, ◌⊎◌, ℕ, ◌+◌, ◌<◌, ◌==◌, if◌then◌else◌, List, [], ◌∷◌, filter, length, Option, Some, None}
 use Rattle.std.specs.List.{flat_map}
 use Rattle.fw_frontier.specs.Front.{Front}
 use Rattle.fw_flow.specs.declared.step.Step.{Step}
@@ -7,6 +7,7 @@ use Rattle.fw_flow.specs.Dataflow.{System}
 use Rattle.fw_flow.specs.WellFormed.{IsWellFormedSystem}
 use Rattle.fw_model.specs.Machine.{Machine, Write, Written, checkpoint, logged_event, first_state}
 use Rattle.fw_model.specs.Steps.{Outcome, Run}
+use Rattle.fw_model.specs.Writes.{not_collected}
 
 -- A checkpoint in a chain: its front, its base and its depth.
 pub record Link : Type 0 where
@@ -42,3 +43,9 @@ IsChain last (link ∷ links) = StandsOnLast last link × IsChain (Some link) li
 abbrev pub EachStandsOnTheOneBefore : Type 0
 EachStandsOnTheOneBefore = (sys : System) → IsWellFormedSystem sys → (steps : List Step) (outcomes : List Outcome) (last : Machine)
     → Run sys (first_state sys) steps outcomes last → (p : ℕ) → p < length sys.flow.nodes → IsChain None (links_of p last.writes)
+
+-- in each such state those of them that were not collected are a chain by themselves: the first of them is whole, and each of the others is
+-- whole, or stands on the one before it, which was not collected either
+abbrev pub WhatIsNotCollectedIsAChain : Type 0
+WhatIsNotCollectedIsAChain = (sys : System) → IsWellFormedSystem sys → (steps : List Step) (outcomes : List Outcome) (last : Machine)
+    → Run sys (first_state sys) steps outcomes last → (p : ℕ) → p < length sys.flow.nodes → IsChain None (links_of p (filter not_collected last.writes))

@@ -6,7 +6,7 @@
 //! stamps of its events by `SendsByStamp`: it is no output and no sequence, a loop that it feeds back has a next counter,
 //! and the groups that it makes are not empty. A run begins in the machine's first state, and its steps are any, failures,
 //! recoveries and collections among them. A history goes on legally where the longer one is legal.
-ghost use Rattle.fw_model.specs.LawsOfChains.{EachStandsOnTheOneBefore};
+ghost use Rattle.fw_model.specs.LawsOfChains.{EachStandsOnTheOneBefore, WhatIsNotCollectedIsAChain};
 ghost use Rattle.fw_model.specs.LawsOfCheckpointFronts.{CheckpointsDiffer, CheckpointsHaveStamps};
 ghost use Rattle.fw_model.specs.LawsOfAuto.{AutoRunsAreOne, AutoRunsAreRuns, AutoRunsGoOn};
 ghost use Rattle.fw_model.specs.LawsOfChoices.{ConsistentChoicesHaveUnion, DeliveredOfUnion, DiscardedOfUnion, EachLiesWithinUnion, LargestChoiceIsOne, NotifiedOfUnion, UnionOfCandidatesIsCandidate, UnionOfConsistentIsConsistent};
@@ -681,6 +681,12 @@ pub fn collected_is_what_lies_below()
 /// is one deeper.
 pub fn each_stands_on_the_one_before()
     ensures { EachStandsOnTheOneBefore }
+{}
+
+/// In each state of a run of a well-formed system the checkpoints of a node that were not collected are a chain by themselves:
+/// the first is whole.
+pub fn what_is_not_collected_is_a_chain()
+    ensures { WhatIsNotCollectedIsAChain }
 {}
 
 /// Each checkpoint in a state of a run of a well-formed system was asked in an earlier state of the run, and counts

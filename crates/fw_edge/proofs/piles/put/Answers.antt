@@ -40,18 +40,18 @@ returns-in_ok-put-in-Occupied c =
     let with_it = subst (λ d. piled_messages (map_with_value d left).entries ≡ with_message m (piled_messages es)) c.in-Occupied.is put in
     record { piles = search (rules, held); ok = search (rules, with_it); err = search rules }
 
-pub returns-in-Vacant : goal.returns-in-Vacant
-returns-in-Vacant c =
+pub returns-in_ok-of-in-Vacant : goal.returns-in_ok-of-in-Vacant
+returns-in_ok-of-in-Vacant c =
     let m = c.args.message in
     let es = c.args.piles.now.entries in
-    let made = c.of.result in
+    let made = c.in_ok-of-in-Vacant.field-0 in
     let none : lookup (at_stamp c.copy.result) es ≡ None = rw c.in-Vacant.is at c.in_ok-pile.ensures.found in
     let absent = ap (λ (s : Stamp). lookup (at_stamp s) es) (sym c.copy.ensures) ∙ none in
     let written = c.in_ok-pile.ensures.update.1 made ∙ ap (λ s. insert_entry stamp_cmp es s made) c.copy.ensures in
-    let pile = subst (IsPile m.at) (sym c.of.ensures) (single_pile m) in
+    let pile = subst (IsPile m.at) (sym c.in_ok-of-in-Vacant.ensures) (single_pile m) in
     let each = subst EachIsPile (sym written) (piles-insert_entry m.at made es pile c.requires.each) in
     let all : ArePiles (map_with_value c.in_ok-pile.field-0 made).entries = record { ordered = c.in_ok-pile.ensures.update.2 made; each = each } in
     let held = subst (λ d. ArePiles (map_with_value d made).entries) c.in-Vacant.is all in
-    let put = ap piled_messages written ∙ ap (λ w. piled_messages (insert_entry stamp_cmp es m.at w)) c.of.ensures ∙ piled-put_new m es c.requires absent in
+    let put = ap piled_messages written ∙ ap (λ w. piled_messages (insert_entry stamp_cmp es m.at w)) c.in_ok-of-in-Vacant.ensures ∙ piled-put_new m es c.requires absent in
     let with_it = subst (λ d. piled_messages (map_with_value d made).entries ≡ with_message m (piled_messages es)) c.in-Vacant.is put in
     record { piles = search (rules, held); ok = search (rules, with_it); err = search rules }

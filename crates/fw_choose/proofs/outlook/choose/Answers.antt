@@ -1,0 +1,4 @@
+use Rattle.fw_choose.proofs.outlook.choose.Goals as goal
+
+pub returns-clause-of_state : goal.returns-clause-of_state
+returns-clause-of_state c = λ sys records state stands. (c.in_ok-outlook.ensures.of_state sys records state stands).choice

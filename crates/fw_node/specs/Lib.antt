@@ -11,4 +11,3 @@ pub mod StateOf
 pub mod TableOf
 pub mod TimedTable
 pub mod ChainOf
-pub mod ChainOf

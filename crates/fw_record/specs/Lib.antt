@@ -5,4 +5,3 @@ pub mod Spelling
 pub mod Sound
 pub mod Reading
 pub mod OfNode
-pub mod Chains

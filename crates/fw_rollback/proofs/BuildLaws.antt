@@ -41,7 +41,7 @@ use Rattle.fw_node.specs.declared.node.Node.{Node}
 use Rattle.fw_rollback.specs.Asked.{front_at, first_checkpoint, given_of, events_of, CanServe}
 use Rattle.fw_rollback.specs.Built.{by_cut, AreNodesBuilt, AreQueuesBuilt, log_after}
 use Rattle.fw_rollback.specs.Edges.{on_edge, nothing_there, IsOnEdge}
-use Rattle.fw_record.specs.Chains.{changes_of, logged_in_all, states_of}
+use Rattle.fw_keep.specs.Chains.{changes_of, logged_in_all, states_of}
 use Rattle.fw_record.specs.Log.{logged_on}
 use Rattle.fw_frontier.specs.declared.state.State.{State}
 use Rattle.fw_model.specs.Filtering.{events_inside}

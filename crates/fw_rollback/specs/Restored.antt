@@ -42,7 +42,7 @@ use Rattle.fw_rollback.specs.declared.parts.Parts.{Parts}
 use Rattle.fw_rollback.specs.Asked.{AreFetched, first_checkpoint, events_of, given_of}
 use Rattle.fw_rollback.specs.Replay.{AreDoneAgain}
 use Rattle.fw_keep.specs.Entry.{is_beyond}
-use Rattle.fw_record.specs.Chains.{changes_of, logged_in_all, states_of}
+use Rattle.fw_keep.specs.Chains.{changes_of, logged_in_all, states_of}
 
 -- ---- logs
 

@@ -7,7 +7,7 @@ ghost use Rattle.fw_flow.specs.declared.event.Message.{Message as Sent};
 ghost use Rattle.fw_flow.specs.Dataflow.{sender};
 ghost use Rattle.fw_node.specs.ChainOf.{IsOfChain};
 ghost use Rattle.fw_node.specs.NodeOf.{IsNodeOf};
-ghost use Rattle.fw_record.specs.Chains.{changes_in, changes_of, logged_in_all, states_of};
+ghost use Rattle.fw_keep.specs.Chains.{changes_in, changes_of, logged_in_all, states_of};
 ghost use Rattle.fw_rollback.specs.Edges.{on_edge, nothing_there};
 ghost use Rattle.fw_rollback.specs.Asked as asked;
 ghost use Rattle.fw_rollback.specs.Asked.{CanServe};

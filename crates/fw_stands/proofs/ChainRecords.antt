@@ -15,7 +15,7 @@ use Rattle.fw_node.specs.ChainOf.{last_front}
 use Rattle.fw_record.specs.declared.record.Checkpoint.{Checkpoint}
 use Rattle.fw_record.specs.declared.record.Record.{Record}
 use Rattle.fw_record.specs.declared.record.Record.TheVariants as tagged
-use Rattle.fw_record.specs.Chains.{changes_in, changes_of, states_of}
+use Rattle.fw_keep.specs.Chains.{changes_in, changes_of, states_of}
 use Rattle.fw_record.specs.Spelling.{spelling}
 use Rattle.fw_record.proofs.RecordLaws.{one_spelling_lem}
 use Rattle.fw_keep.specs.declared.entry.Entry.{Entry}

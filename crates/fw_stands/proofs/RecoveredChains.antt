@@ -35,7 +35,7 @@ use Rattle.fw_node.specs.ChainOf.{last_front, HaveChanges, IsOfChain}
 use Rattle.fw_node.specs.StateOf.{IsStateOf, IsStateSince}
 use Rattle.fw_node.specs.TableOf.{IsTableOf}
 use Rattle.fw_record.specs.declared.record.Checkpoint.{Checkpoint}
-use Rattle.fw_record.specs.Chains.{logged_in_all, states_of}
+use Rattle.fw_keep.specs.Chains.{logged_in_all, states_of}
 use Rattle.fw_record.specs.Log.{logged_on}
 use Rattle.fw_stands.specs.Chains.{EachIsNext, IsChainFor}
 use Rattle.fw_stands.specs.Parts.{IsTableIn, logged}

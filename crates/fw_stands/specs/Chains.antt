@@ -8,7 +8,7 @@ use Rattle.fw_model.specs.Machine.{Machine, checkpoint}
 use Rattle.fw_model.specs.Writes.{IsKeptWithin}
 use Rattle.fw_node.specs.ChainOf.{last_front}
 use Rattle.fw_record.specs.declared.record.Checkpoint.{Checkpoint}
-use Rattle.fw_record.specs.Chains.{states_of}
+use Rattle.fw_keep.specs.Chains.{states_of}
 use Rattle.fw_stands.specs.Written.{IsChangesFor, IsCheckpointFor}
 
 -- The checkpoint follows one of node p at g: it holds what changed since, was asked at a front that holds g, and with watermarks that lie

@@ -42,4 +42,6 @@ pub mod RecoveredTraces
 pub mod ReadLaws
 pub mod ReadChains
 pub mod ChainRecords
+pub mod CutChains
+pub mod BaseSteps
 pub mod StartingLaws

@@ -5,7 +5,7 @@ use Rattle.std.specs.Option.{option_or}
 use Rattle.std.proofs.lemmas.Bool.{cases_Bool}
 use Rattle.std.proofs.lemmas.List.Elements.{filter-append}
 use Rattle.fw_lemmas.proofs.Bools.{two_ways}
-use Rattle.fw_lemmas.proofs.Each.{each-both, each-kept, each-passed, each-suffix, each-weaker}
+use Rattle.fw_lemmas.proofs.Each.{each-both, each-kept, each-passed, each-weaker}
 use Rattle.fw_lemmas.proofs.Filters.{filter-in}
 use Rattle.fw_lemmas.proofs.SideBySide.{zip-both, zip-right, zip-weaker}
 use Rattle.fw_frontier.specs.Front.{Front, frontier_of, is_within, IsCanonical}
@@ -29,6 +29,7 @@ use Rattle.fw_model.proofs.ForgottenLaws.{AreInOrder}
 use Rattle.fw_model.proofs.KeptChainLaws.{kept-are_chain}
 use Rattle.fw_model.proofs.LowLaws.{none-canonical, none-within}
 use Rattle.fw_model.proofs.RestoringLaws.{cuts-kept, watermarks-today}
+use Rattle.fw_model.proofs.StandingLaws.{pairs-before}
 use Rattle.fw_model.proofs.WriteLaws.{ArePairs, LiesBelow, pairs-passed}
 use Rattle.fw_record.specs.declared.record.Checkpoint.{Checkpoint}
 use Rattle.fw_record.specs.declared.record.Record.{Record}
@@ -53,12 +54,6 @@ as-written f (logged_event s) e = absurd (cc e)
 
 front-is : (g f : Front) (l low : List Front) → checkpoint g l ≡ checkpoint f low → g ≡ f
 front-is g f l low e = first-is g f (ap checkpoint_front e)
-
--- of pairs each one before another is one with it
-pairs-before : (R : ℕ → WrittenBy → ℕ → WrittenBy → Type 0) (xs : List Write) (y : Write) (ys : List Write) → ArePairs R (xs ++ y ∷ ys)
-    → AllByRecursion (λ (u : Write). R u.node u.written y.node y.written) xs
-pairs-before R [] y ys a = tt
-pairs-before R (x ∷ xs) y ys a = ((each-suffix (λ (u : Write). R x.node x.written u.node u.written) xs (y ∷ ys) a.0).0, pairs-before R xs y ys a.1)
 
 -- where a node that takes checkpoints is cut to a front with a stamp inside, the entries from the newest whole one within it up to it stand
 -- for a chain

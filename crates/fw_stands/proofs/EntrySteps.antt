@@ -401,7 +401,7 @@ persist-zip R tells may (x ∷ xs) o later none fly es r =
         let gone : not_collected x ≡ false = ap (λ far. not (is_collected far)) e in
         subst (AllZip R (persisted es)) (sym (filter-out not_collected x after gone)) (rest es (subst (AllZip R es) (filter-out not_collected x before gone) r))
 
-persist-left : (R : Entry → Write → Type 0) → TellsAcknowledged R → MayBeAcknowledged R → (writes next : List Write) → AcknowledgesOldest writes next → (es : List Entry)
+pub persist-left : (R : Entry → Write → Type 0) → TellsAcknowledged R → MayBeAcknowledged R → (writes next : List Write) → AcknowledgesOldest writes next → (es : List Entry)
     → AllZip R es (filter not_collected writes) → AllZip R (persisted es) (filter not_collected next)
 persist-left R tells may writes next k es r =
     subst (λ xs. AllZip R (persisted es) (filter not_collected xs)) (sym k.after)
@@ -411,7 +411,7 @@ persist-left R tells may writes next k es r =
 abbrev pub IsKeptAs : System → Machine → Records → Entry → Write → Type 0
 IsKeptAs sys state held e x = IsEntryOf sys state e x × IsHeldAs sys state held e x
 
-acknowledged-too : (sys : System) (state : Machine) (e : Entry) (x : Write) → IsEntryOf sys state e x
+pub acknowledged-too : (sys : System) (state : Machine) (e : Entry) (x : Write) → IsEntryOf sys state e x
     → IsEntryOf sys state (record e { acknowledged = true }) (record x { stage = acknowledged })
 acknowledged-too sys state e x i = record { node = i.node; acknowledged = refl; holds = i.holds; base = i.base; depth = i.depth }
 
@@ -563,7 +563,7 @@ lost-alike in_flight k = refl
 lost-alike acknowledged k = refl
 lost-alike collected k = absurd cc
 
-lost-same : (sys : System) (state : Machine) (ps : List ℕ) (e : Entry) (x : Write) → not_collected x ≡ true → IsEntryOf sys state e x
+pub lost-same : (sys : System) (state : Machine) (ps : List ℕ) (e : Entry) (x : Write) → not_collected x ≡ true → IsEntryOf sys state e x
     → not (is_lost_of ps e) ≡ not (is_one_of x.node ps && is_in_flight x.stage)
 lost-same sys state ps e x left i =
     ap (λ n. not (is_one_of n ps && not e.acknowledged)) i.node
@@ -693,7 +693,7 @@ not-not : (b : Bool) → not (not b) ≡ b
 not-not true = refl
 not-not false = refl
 
-undone-same : (sys : System) (state : Machine) (choice : Choice) → AreSerialsBelow state.next state.history → AreInDomains sys state.history → (e : Entry) (x : Write)
+pub undone-same : (sys : System) (state : Machine) (choice : Choice) → AreSerialsBelow state.next state.history → AreInDomains sys state.history → (e : Entry) (x : Write)
     → IsEntryOf sys state e x → not (is_beyond (cut_of choice e.node) e) ≡ is_kept_write (cut_of choice x.node) x.written (filtered_history sys choice state.history)
 undone-same sys state choice o d e x i =
     ap (λ p. not (is_beyond (cut_of choice p) e)) i.node ∙ by (cut_of choice x.node) refl
@@ -706,13 +706,13 @@ undone-same sys state choice o d e x i =
 shown : (a b : Choice) → cuts a ≡ cuts b → b ≡ a
 shown a b e = cc
 
-domains : (sys : System) → IsWellFormedSystem sys → (state : Machine) → IsReached sys state → AreInDomains sys state.history
+pub domains : (sys : System) → IsWellFormedSystem sys → (state : Machine) → IsReached sys state → AreInDomains sys state.history
 domains sys w state r =
     each-numbered (λ v. in_domain (bounds_of sys.flow (event_node sys.flow v)) (event_stamp v) ≡ true) state.history
     (legal-in_domain sys (events state.history) w.flow (has_epochs sys w) (reached-all sys w r.0 r.1 state r.2).recover.holds.legal)
 
 -- what is left of the writes in a recovery
-recovered-left : (sys : System) (state : Machine) (choice : Choice) (next : Machine) → LeadsTo sys state Recover next (cuts choice)
+pub recovered-left : (sys : System) (state : Machine) (choice : Choice) (next : Machine) → LeadsTo sys state Recover next (cuts choice)
     → next.writes ≡ filter (λ (x : Write). is_kept_write (cut_of choice x.node) x.written (filtered_history sys choice state.history)) state.writes
 recovered-left sys state choice next t =
     ap (λ (m : Machine). m.writes) t.7

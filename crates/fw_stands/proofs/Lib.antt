@@ -9,6 +9,7 @@ pub mod EventTableLaws
 pub mod EventTraceLaws
 pub mod EventPutLaws
 pub mod EntryCollections
+pub mod ForgottenEntries
 pub mod EntrySteps
 pub mod EntryViews
 pub mod FitLaws

@@ -15,7 +15,7 @@ use Rattle.fw_frontier.proofs.NamesLaws.{is_within-holds, within-is}
 use Rattle.fw_flow.specs.Dataflow.{System, bounds_of}
 use Rattle.fw_model.specs.Machine.{Machine, SerialEvent, Stage, Write, in_flight, acknowledged, collected, checkpoint, logged_event, front_of}
 use Rattle.fw_model.specs.Machine.{Written as WrittenBy}
-use Rattle.fw_model.specs.Steps.{is_forgotten}
+use Rattle.fw_model.specs.Steps.{is_forgotten, is_serial_given_up}
 use Rattle.fw_model.specs.Writes.{is_collected, not_collected}
 use Rattle.fw_model.proofs.AskedLaws.{IsAskedWell, IsWriteAskedWell, takes-declared}
 use Rattle.fw_model.proofs.CollectedLaws.{CanForget}
@@ -322,16 +322,18 @@ pub record IsToBeCollected (sys : System) (state : Machine) (low : List Front) (
   pub catalogue : IsCatalogue keep
   pub entries : AreEntriesOf sys state keep.entries (uncollected state)
 
--- the entry of a checkpoint goes exactly where its write is forgotten
-abbrev pub GoesForgotten : System → Machine → List Front → KeepState → Entry → Write → Type 0
-GoesForgotten sys state low keep e x = (g : Front) (l : List Front) → x.written ≡ checkpoint g l
-    → is_forgotten_below e.node (front_of low e.node) keep e ≡ is_forgotten sys low state.history state.writes x
+-- The entry of a checkpoint goes exactly where its write is forgotten; and a logged event is exactly where it is given up.
+pub record GoesForgotten (sys : System) (state : Machine) (low : List Front) (keep : KeepState) (e : Entry) (x : Write) : Type 0 where
+  pub of_checkpoint : (g : Front) (l : List Front) → x.written ≡ checkpoint g l
+      → is_forgotten_below e.node (front_of low e.node) keep e ≡ is_forgotten sys low state.history state.writes x
+  pub of_event : (s : ℕ) → x.written ≡ logged_event s → is_serial_given_up sys low s state.history ≡ is_forgotten sys low state.history state.writes x
 
 goes-here : (sys : System) (state : Machine) (low : List Front) (keep : KeepState) → IsToBeCollected sys state low keep
     → (xs : List Write) (y : Write) (ys : List Write) → state.writes ≡ xs ++ y ∷ ys → not_collected y ≡ true
     → (before : List Entry) (e : Entry) (after : List Entry) → keep.entries ≡ before ++ e ∷ after
     → AreEntriesOf sys state before (filter not_collected xs) → IsEntryOf sys state e y → AreEntriesOf sys state after (filter not_collected ys)
-    → GoesForgotten sys state low keep e y
+    → (g : Front) (l : List Front) → y.written ≡ checkpoint g l
+    → is_forgotten_below e.node (front_of low e.node) keep e ≡ is_forgotten sys low state.history state.writes y
 goes-here sys state low keep c xs y ys split stays before e after parts b i d g l is =
     let p = y.node in
     let f = front_of low p in
@@ -366,6 +368,13 @@ goes-here sys state low keep c xs y ys split stays before e after parts b i d g 
     ∙ sym (ap (λ w. gone_before sys low h p w ys) is)
     ∙ sym (forgotten-gone sys low h state.writes known.restore.apart c.can.logged xs y ys split (λ f m what. c.can.chain p declared))
 
+given_up-here : (sys : System) (state : Machine) (low : List Front) → CanForget sys state → (xs : List Write) (y : Write) (ys : List Write) → state.writes ≡ xs ++ y ∷ ys
+    → (s : ℕ) → y.written ≡ logged_event s → is_serial_given_up sys low s state.history ≡ is_forgotten sys low state.history state.writes y
+given_up-here sys state low can xs y ys split s is =
+    sym (ap (λ w. gone_before sys low state.history y.node w ys) is)
+    ∙ sym (forgotten-gone sys low state.history state.writes can.reached.restore.apart can.logged xs y ys split
+    (λ f m what. absurd (let c : logged_event s ≡ checkpoint f m = sym is ∙ what in cc)))
+
 along : (sys : System) (state : Machine) (low : List Front) (keep : KeepState) → IsToBeCollected sys state low keep
     → (ys xs : List Write) → state.writes ≡ xs ++ ys → (before es : List Entry) → keep.entries ≡ before ++ es
     → AreEntriesOf sys state before (filter not_collected xs) → AreEntriesOf sys state es (filter not_collected ys)
@@ -392,14 +401,17 @@ along sys state low keep c (y ∷ ys) xs split before es parts b z = elim (cases
         → AllZip (GoesForgotten sys state low keep) es (y ∷ filter not_collected ys)
     by [] parts stays z = absurd z
     by (e ∷ es) parts stays z = (
-      goes-here sys state low keep c xs y ys split stays before e es parts b z.0 z.1,
+      record {
+        of_checkpoint = goes-here sys state low keep c xs y ys split stays before e es parts b z.0 z.1;
+        of_event = given_up-here sys state low c.can xs y ys split;
+      },
       along sys state low keep c ys (xs ++ y ∷ []) more (before ++ e ∷ []) es (parts ∙ sym (append_assoc before (e ∷ []) es))
           (subst (AreEntriesOf sys state (before ++ e ∷ []))
           (sym (filter-append not_collected xs (y ∷ []) ∙ ap (λ us. filter not_collected xs ++ us) (filter-in not_collected y [] stays)))
           (zip-append (IsEntryOf sys state) before (filter not_collected xs) (e ∷ []) (y ∷ []) b (z.0, tt))) z.1,
     )
 
--- the entries of checkpoints go exactly where their writes are forgotten
-pub checkpoints_go_forgotten : (sys : System) (state : Machine) (low : List Front) (keep : KeepState) → IsToBeCollected sys state low keep
+-- the entries go exactly where their writes are forgotten
+pub entries_go_forgotten : (sys : System) (state : Machine) (low : List Front) (keep : KeepState) → IsToBeCollected sys state low keep
     → AllZip (GoesForgotten sys state low keep) keep.entries (uncollected state)
-checkpoints_go_forgotten sys state low keep c = along sys state low keep c state.writes [] refl [] keep.entries refl tt c.entries
+entries_go_forgotten sys state low keep c = along sys state low keep c state.writes [] refl [] keep.entries refl tt c.entries

@@ -14,6 +14,7 @@ returns-clause-collected c =
     record {
       rest = refl;
       drops = drops;
+      catalogue = c.entries.ensures.catalogue;
       planned = subst (λ (es : List Entry). IsPlanned old.flow (watermark c.args.choice.now) es drops) c.entries.ensures.all c.in_ok-drops.ensures;
       between = between;
       given_up = c.drop_from.ensures;

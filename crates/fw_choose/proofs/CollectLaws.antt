@@ -189,7 +189,7 @@ given old between low = record old { keep = between.keep; logs = between.logs; s
 abbrev pub after_collect : Running → Parts → List Front → Traces → Running
 after_collect old between low traces = record old { parts = given old.parts between low; traces = traces }
 
-entries-left : (drops : Drops) (old new : KeepState) → Forgets (is_dropped drops) old new → new.entries ≡ filter (λ e. not (is_dropped drops e)) old.entries
+entries-left : (drops : Drops) (old new : KeepState) → Forgets (is_dropped drops old) old new → new.entries ≡ filter (λ e. not (is_dropped drops old e)) old.entries
 entries-left drops old new f = ap (λ (keep : KeepState). keep.entries) f.left
 
 after-shaped : (old : Running) (between : Parts) (low : List Front) (traces : Traces) (drops : Drops) → AreGivenUp drops old.parts between
@@ -215,7 +215,7 @@ after-shaped old between low traces drops g t each canonical s =
       logs = λ e. subst (λ (log : MessagesState). AllByRecursion (IsOnEdge flow e) log.messages) (sym (g.logs.logs e))
           (left-messages drops.messages.items e (on_edge old.parts.logs e) (IsOnEdge flow e) (s.logs e));
       entries = subst (λ es. AllByRecursion (λ (entry : Entry). IsWrittenOf flow entry.node entry.written) es) (sym (entries-left drops old.parts.keep between.keep g.entries))
-          (each-kept (λ (entry : Entry). IsWrittenOf flow entry.node entry.written) (λ e. not (is_dropped drops e)) old.parts.keep.entries s.entries);
+          (each-kept (λ (entry : Entry). IsWrittenOf flow entry.node entry.written) (λ e. not (is_dropped drops old.parts.keep e)) old.parts.keep.entries s.entries);
       live = s.live;
       traced = t.live;
       ready = record {

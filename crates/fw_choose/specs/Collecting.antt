@@ -24,7 +24,7 @@ pub record AreLeft (fronts : List OfEdge) (old new : List MessagesState) : Type 
 -- What is to be given up is gone from the catalogue, the logs and the inputs, and the rest of the parts is as it was.
 pub record AreGivenUp (drops : Drops) (old new : Parts) : Type 0 where
   pub rest : new ≡ record old { keep = new.keep; logs = new.logs; sources = new.sources }
-  pub entries : Forgets (is_dropped drops) old.keep new.keep
+  pub entries : Forgets (is_dropped drops old.keep) old.keep new.keep
   pub logs : AreLeft drops.messages.items old.logs new.logs
   pub sources_each : length new.sources ≡ length old.sources
   pub sources : (s : ℕ) → source_at new.sources s ≡ source_left drops.batches.items s (source_at old.sources s)

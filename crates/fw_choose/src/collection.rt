@@ -109,7 +109,7 @@ fn raise_base(
 
 // What is given up goes.
 fn drop_from(drops: &Drops, parts: &mut Parts)
-    requires once { AreOfDifferentNodes drops.now.records.items }
+    requires { AreOfDifferentNodes drops.now.records.items }
     ensures { AreGivenUp drops.now parts.old parts.new }
 {
     apply(drops, &mut parts.keep, &mut parts.sources);

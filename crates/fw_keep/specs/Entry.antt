@@ -1,5 +1,5 @@
 -- The writes of a catalogue: what an entry has of a record, and which entries a call speaks of.
-use Rattle.std.specs.Prelude.{◌≡◌, ℕ, ◌+◌, ◌<◌, ◌^◌, Bool, true, false, not, ◌&&◌, ◌==◌, if◌then◌else◌, nat_le, List, [], ◌∷◌, Option, Some, None}
+use Rattle.std.specs.Prelude.{◌≡◌, ℕ, ◌+◌, Bool, true, false, not, ◌&&◌, ◌==◌, if◌then◌else◌, nat_le, List, [], ◌∷◌, Option, Some, None}
 use Rattle.std.specs.List.{Contains}
 use Rattle.fw_time.specs.Stamp.{Stamp, same}
 use Rattle.fw_frontier.specs.Front.{Front, inside, is_within}
@@ -40,17 +40,17 @@ abbrev pub base_of_record : Record → Option ℕ
 base_of_record (tagged.Changes base c) = Some base
 base_of_record other = None
 
--- the depth of the entry of an id; 0 where there is none
-abbrev pub depth_of_id : ℕ → List Entry → ℕ
-depth_of_id id [] = 0
-depth_of_id id (e ∷ es) = if e.id == id then e.depth else depth_of_id id es
+-- the depth of the entry of this id; 0 where there is none
+abbrev pub depth_at : ℕ → List Entry → ℕ
+depth_at id [] = 0
+depth_at id (e ∷ es) = if e.id == id then e.depth else depth_at id es
 
--- how deep what stands on this base is: one deeper than it
+-- how deep it is what stands on this base: one deeper than that; 0 where it has no base
 abbrev pub depth_on : Option ℕ → List Entry → ℕ
 depth_on None es = 0
-depth_on (Some id) es = depth_of_id id es + 1
+depth_on (Some base) es = depth_at base es + 1
 
--- the entry of a record under an id, in flight, beside these others
+-- the entry of a record under an id, in flight, beside these earlier ones
 abbrev pub asked_beside : List Entry → ℕ → Record → Stamps → Entry
 asked_beside es id r stamps = record {
   id = id;
@@ -61,20 +61,19 @@ asked_beside es id r stamps = record {
   acknowledged = false;
 }
 
--- the entry of a record that is whole: beside no others
+-- the entry of a record that is whole, which stands on no other
 abbrev pub asked : ℕ → Record → Stamps → Entry
 asked id r stamps = asked_beside [] id r stamps
 
--- An entry has this id, is of a checkpoint of node p, and is not as deep as can be told.
+-- One of these entries has this id, and is a checkpoint of node p.
 pub record IsBase (es : List Entry) (id p : ℕ) : Type 0 where
   pub entry : Entry
   pub there : Contains es entry
   pub named : entry.id ≡ id
-  pub node : entry.node ≡ p
+  pub of_node : entry.node ≡ p
   pub of_checkpoint : is_checkpoint entry.written ≡ true
-  pub shallow : entry.depth + 1 < 2 ^ 32
 
--- a record of changes stands on an entry that is there
+-- where the record holds changes, its base is one of these entries, a checkpoint of its node
 abbrev pub IsBased : List Entry → Record → Type 0
 IsBased es (tagged.Changes base c) = IsBase es base c.node
 IsBased es other = Unit {0}

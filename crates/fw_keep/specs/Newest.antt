@@ -8,27 +8,34 @@ use Rattle.fw_keep.specs.declared.entry.Written.TheVariants as written
 use Rattle.fw_keep.specs.Catalogue.{KeepState}
 use Rattle.fw_keep.specs.Entry.{is_checkpoint, is_checkpoint_below, is_entry_below}
 
+-- whether the entry is a checkpoint of node p
+abbrev pub is_checkpoint_of : ℕ → Entry → Bool
+is_checkpoint_of p e = (e.node == p) && is_checkpoint e.written
+
 -- the entry, if it is a checkpoint of node p
 abbrev pub checkpoint_by : ℕ → Entry → Option Entry
-checkpoint_by p e = if (e.node == p) && is_checkpoint e.written then Some e else None
+checkpoint_by p e = if is_checkpoint_of p e then Some e else None
 
 -- the last of these entries that is a checkpoint of node p, if one is
 abbrev pub newest_by : ℕ → List Entry → Option Entry
 newest_by p [] = None
 newest_by p (e ∷ es) = option_or (newest_by p es) (checkpoint_by p e)
 
--- the id from which on node p's checkpoints stay, where those strictly within f are forgotten: that of the newest whole one up to the
--- first that is not strictly within f. Where all are, it is the one past the last; `last` is the whole one so far.
-abbrev pub kept_from : ℕ → Front → ℕ → ℕ → List Entry → ℕ
-kept_from p f past last [] = past
-kept_from p f past last (e ∷ es) =
-    if (e.node == p) && is_checkpoint e.written then
-    (if is_checkpoint_below f e.written then kept_from p f past (if e.depth == 0 then e.id else last) es else (if e.depth == 0 then e.id else last))
-    else kept_from p f past last es
+-- the entry's id if it is whole, and else this one
+abbrev pub whole_or : ℕ → Entry → ℕ
+whole_or id e = if e.depth == 0 then e.id else id
 
--- whether an entry goes where node p's checkpoints strictly within f are forgotten: it is one, and none stands on it that is not
+-- The id from which on node p's checkpoints stay, where those strictly within f are forgotten: that of the newest whole one up to the first
+-- that does not lie strictly within f, and this last one where all do. The newest whole one before these entries has the id given first.
+abbrev pub stay_from : ℕ → Front → ℕ → ℕ → List Entry → ℕ
+stay_from p f whole last [] = last
+stay_from p f whole last (e ∷ es) =
+    if not (is_checkpoint_of p e) then stay_from p f whole last es
+    else (if is_checkpoint_below f e.written then stay_from p f (whole_or whole e) last es else whole_or whole e)
+
+-- whether the entry goes where node p's checkpoints strictly within f are forgotten: it is one, before all those that stay
 abbrev pub is_forgotten_below : ℕ → Front → KeepState → Entry → Bool
-is_forgotten_below p f keep e = is_entry_below p f e && nat_lt e.id (kept_from p f keep.next 0 keep.entries)
+is_forgotten_below p f keep e = is_entry_below p f e && nat_lt e.id (stay_from p f 0 keep.next keep.entries)
 
 -- the front of what is written, if it is a checkpoint that lies within a frontier
 abbrev pub front_within : Front → Written → Option Front

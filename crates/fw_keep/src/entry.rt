@@ -1,7 +1,7 @@
 //! The writes of a catalogue.
 ghost use Rattle.std.specs.Prelude.{◌≡◌, ◌↔◌, [], IsTrue};
-ghost use Rattle.fw_keep.specs.Newest.{is_written_between};
-ghost use Rattle.fw_keep.specs.Entry.{lies_within, is_checkpoint, is_checkpoint_below, is_event_at, IsRecordOn, IsRecordOfEntry};
+ghost use Rattle.fw_keep.specs.Newest.{is_checkpoint_of, is_written_between, whole_or};
+ghost use Rattle.fw_keep.specs.Entry.{lies_within, is_checkpoint_below, is_event_at, IsRecordOn, IsRecordOfEntry};
 
 use crate::same::has_recorded;
 use fw_flow::{CountedMessages, Flow, NodeId, Notices, Recorded, Stamps};
@@ -33,11 +33,11 @@ pub struct Entry {
     pub node: NodeId,
     /// What is written.
     pub written: Written,
-    /// The id of the write on which it stands: a checkpoint that holds what changed since an earlier one of its node stands on that
-    /// one. None where it is whole; an event is.
+    /// The id of the write on which it stands: a checkpoint that holds what changed since an earlier one of its node stands on
+    /// that one. None where it is whole; an event is.
     pub base: Option<u64>,
     /// On how many writes it stands: its base, that one's base, and so on.
-    pub depth: u32,
+    pub depth: u64,
     /// Whether the write is acknowledged, and not in flight.
     pub acknowledged: bool,
 }
@@ -67,6 +67,20 @@ impl Entry {
             Written::Event(event) => what.is_event_of(self.node, event),
         }
     }
+
+    /// Whether it is a checkpoint of the node.
+    pub fn is_checkpoint_of(&self, node: NodeId) -> bool
+        ensures { result ≡ is_checkpoint_of node self.now }
+    {
+        self.node == node && matches!(self.written, Written::Checkpoint { .. })
+    }
+
+    /// Its id if it is whole, and else this one.
+    pub(crate) fn whole_or(&self, id: u64) -> u64
+        ensures { result ≡ whole_or id self.now }
+    {
+        if self.depth == 0 { self.id } else { id }
+    }
 }
 
 /// Whether the record can be that of a checkpoint of the node at the frontier: of a whole one where there is no base, and else
@@ -89,13 +103,6 @@ impl Written {
             Written::Checkpoint { recorded, .. } => recorded.front.subset(front),
             Written::Event(event) => front.contains(event.at()),
         }
-    }
-
-    /// Whether it is a checkpoint.
-    pub fn is_checkpoint(&self) -> bool
-        ensures { result ≡ is_checkpoint self.now }
-    {
-        matches!(self, Written::Checkpoint { .. })
     }
 
     /// Whether it is a checkpoint strictly within a frontier.

@@ -82,22 +82,20 @@ impl Going for Below<'_> {
 }
 
 /// The id from which on the node's checkpoints stay, where those strictly within the frontier are forgotten: that of the newest
-/// whole one up to the first that is not strictly within it; the one past the last where all are.
-pub(crate) fn kept_from(entries: &[Entry], node: NodeId, front: &Front, past: u64) -> u64
-    ensures { result ≡ spec.kept_from node front.now past 0 entries.now }
+/// whole one up to the first that does not lie strictly within it, and this last one where all do.
+pub(crate) fn stay_from(entries: &[Entry], node: NodeId, front: &Front, last: u64) -> u64
+    ensures { result ≡ spec.stay_from node front.now 0 last entries.now }
 {
-    let mut last = 0;
+    let mut whole = 0;
     for entry in entries {
-        if entry.node == node && entry.written.is_checkpoint() {
-            if entry.depth == 0 {
-                last = entry.id;
-            }
+        if entry.is_checkpoint_of(node) {
+            whole = entry.whole_or(whole);
             if !entry.written.lies_below(front) {
-                return last;
+                return whole;
             }
         }
     }
-    past
+    last
 }
 
 /// The node's events at the stamp.

@@ -14,7 +14,7 @@ ghost use Rattle.fw_keep.specs.Stored.{Records, IsEmptyStore, IsStored, Sweeps, 
 
 use crate::fetch::{entry_at, read};
 use crate::going::{
-    Above, Below, EventsAt, Going, Lost, Withdrawn, first_from, kept_from, take_out,
+    Above, Below, EventsAt, Going, Lost, Withdrawn, first_from, stay_from, take_out,
 };
 use crate::persist::{acknowledged, persist_first};
 use crate::put::put_new;
@@ -101,10 +101,10 @@ impl Keep {
         newest::newest_by(&self.entries, node)
     }
 
-    /// Puts a record under the next id, as a write in flight. A record of changes stands on the entry of its base, and is one deeper;
-    /// any other stands on none. The stamps say where the node's events are and where they sent:
-    /// the entry of a checkpoint keeps them, that of an event does not. The next id must be below 2^63: `next_id` tells it, and
-    /// each call of `ask` raises it by one.
+    /// Puts a record under the next id, as a write in flight. One of changes stands on the entry of its base, which must be there
+    /// and a checkpoint of the same node, and is one deeper than that; any other stands on none. The stamps say where the node's
+    /// events are and where they sent: the entry of a checkpoint keeps them, that of an event does not. The next id must be below
+    /// 2^63: `next_id` tells it, and each call of `ask` raises it by one.
     ///
     /// # Errors
     ///
@@ -118,8 +118,6 @@ impl Keep {
     ) -> Result<u64, KeepFault>
         requires stored { IsStored self.old (K.view store.old).records }
         requires few { self.old.next < 2 ^ 63 }
-
-        // A record of changes stands on the entry of an earlier checkpoint of its node.
         requires based { IsBased self.old.entries what.now }
 
         // The write is the last one, in flight, and its bytes are under its id; none of its lists has more parts than the
@@ -209,13 +207,14 @@ impl Keep {
         self.forget(&Above { node, front });
     }
 
-    /// Takes the node's checkpoints out that lie strictly within the frontier and on which none stands that does not: those before the
-    /// newest whole one up to the first that is not strictly within it. It takes no memory.
+    /// Takes the node's checkpoints out that lie strictly within the frontier and on which none stands that does not: of those
+    /// before the first that does not lie strictly within it, what comes before the newest whole one up to that. It takes no
+    /// memory.
     pub fn forget_below(&mut self, node: NodeId, front: &Front)
         ensures gone { self.new ≡ without (is_forgotten_below node front.now self.old) self.old }
         ensures stored { (records : Option Records) → IsStored self.old records → IsStored self.new records }
     {
-        let until = kept_from(&self.entries, node, front, self.next);
+        let until = stay_from(&self.entries, node, front, self.next);
         self.forget(&Below { node, front, until });
     }
 

@@ -1,13 +1,14 @@
 //! A record is put into a store, with its entry.
-ghost use Rattle.std.specs.Prelude.{◌≡◌, ◌+◌, ◌≤◌, ◌<◌, ◌^◌, ◌++◌, [], ◌∷◌, None, vec_len, IfOk, IfSome, OnOk, OnErr, option_map};
+ghost use Rattle.std.specs.Prelude.{◌≡◌, ◌+◌, ◌≤◌, ◌<◌, ◌^◌, ◌++◌, [], ◌∷◌, None, vec_len, IfOk, OnOk, OnErr, option_map};
 ghost use Rattle.std.specs.Vec.{vec_capacity};
 ghost use Rattle.std.specs.Option.{ForSome};
+ghost use Rattle.std.specs.List.{AllByRecursion};
 ghost use Rattle.std.specs.FinMap as map;
 ghost use Rattle.fw_outside.specs.Outside.{faults_after};
 ghost use Rattle.fw_record.specs.Spelling.{spelling, FitsItsCounts};
-ghost use Rattle.fw_keep.specs.Catalogue.{AreAscending, ids_of};
+ghost use Rattle.fw_keep.specs.Catalogue.{AreAscending, AreShallow, ids_of};
 ghost use Rattle.fw_keep.specs.Entry as spec;
-ghost use Rattle.fw_keep.specs.Entry.{asked_beside, depth_of_id, IsBased};
+ghost use Rattle.fw_keep.specs.Entry.{asked_beside};
 
 use crate::Entry;
 use crate::copies::{base_of, node_of, written_of};
@@ -17,25 +18,24 @@ use fw_outside::{OutFault, Store};
 use fw_record::{Record, encode};
 use std::alloc::{AllocError, Global};
 
-/// How deep what stands on this base is: one deeper than its entry.
-fn depth_on(entries: &[Entry], base: Option<u64>) -> u32
+/// How deep it is what stands on this base: one deeper than that; 0 where it has no base.
+fn depth_on(entries: &[Entry], base: Option<u64>) -> u64
     requires ascending { AreAscending (ids_of entries.now) }
-    requires shallow { IfSome base (λ id. depth_of_id id entries.now + 1 < 2 ^ 32) }
+    requires shallow { AreShallow entries.now }
+    requires few { AllByRecursion (λ e. e.id < 2 ^ 63) entries.now }
     ensures { result ≡ spec.depth_on base entries.now }
 {
     match base {
-        Some(id) => match entry_at(entries, id) {
-            Some(entry) => entry.depth + 1,
-            None => 1,
-        },
+        Some(id) => entry_at(entries, id).map_or(0, |entry| entry.depth) + 1,
         None => 0,
     }
 }
 
-/// The entry of a record under an id, beside these others. The error is want of memory.
+/// The entry of a record under an id, beside these earlier ones. The error is want of memory.
 fn entry_of(entries: &[Entry], id: u64, what: &Record, stamps: Stamps) -> Result<Entry, AllocError>
     requires ascending { AreAscending (ids_of entries.now) }
-    requires based { IsBased entries.now what.now }
+    requires shallow { AreShallow entries.now }
+    requires few { AllByRecursion (λ e. e.id < 2 ^ 63) entries.now }
     ensures { IfOk result (λ e. e ≡ asked_beside entries.now id what.now stamps) }
 {
     let base = base_of(what);
@@ -74,7 +74,8 @@ pub(crate) fn put_new<K: Store>(
 ) -> Result<(), OutFault>
     requires room { vec_len waiting.old + vec_len entries.old ≤ vec_capacity waiting.old }
     requires ascending { AreAscending (ids_of entries.old.items) }
-    requires based { IsBased entries.old.items what.now }
+    requires shallow { AreShallow entries.old.items }
+    requires few { AllByRecursion (λ e. e.id < 2 ^ 63) entries.old.items }
     requires fresh { ForSome (K.view store.old).records (λ held. map.get held id ≡ None) }
     ensures added { OnOk result (entries.new.items ≡ entries.old.items ++ asked_beside entries.old.items id what.now stamps ∷ []) }
     ensures kept { OnErr result (entries.new.items ≡ entries.old.items) }

@@ -9,6 +9,7 @@ pub mod EventTableLaws
 pub mod EventTraceLaws
 pub mod EventPutLaws
 pub mod EntryCollections
+pub mod ForgottenEntries
 pub mod EntrySteps
 pub mod EntryViews
 pub mod FitLaws
@@ -42,4 +43,6 @@ pub mod RecoveredTraces
 pub mod ReadLaws
 pub mod ReadChains
 pub mod ChainRecords
+pub mod CutChains
+pub mod BaseSteps
 pub mod StartingLaws

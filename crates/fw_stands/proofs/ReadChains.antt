@@ -29,41 +29,41 @@ use Rattle.fw_stands.specs.Written.{HoldsWhatIsWritten, IsEntryOf}
 -- ---- an entry and its write
 
 -- whether a checkpoint is written that lies within f
-abbrev is_written_open : Front → Written → Bool
+abbrev pub is_written_open : Front → Written → Bool
 is_written_open f (written.Checkpoint recorded stamps sent) = is_within recorded.front f
 is_written_open f (written.Event event) = false
 
 -- whether the entry is an acknowledged one of such a checkpoint of node p
-abbrev is_open : ℕ → Front → Entry → Bool
+abbrev pub is_open : ℕ → Front → Entry → Bool
 is_open p f e = (e.node == p) && (e.acknowledged && is_written_open f e.written)
 
 -- the fronts and the links of one write
 abbrev front_here : ℕ → Write → List Front
 front_here p w = cond (w.node == p) (checkpoint_front w.written) []
 
-abbrev link_here : ℕ → Write → List Link
+abbrev pub link_here : ℕ → Write → List Link
 link_here p w = cond (w.node == p) (link_of w.base w.depth w.written) []
 
 -- whether a front lies within f and not strictly within another
-abbrev is_front_between : Front → Front → Front → Bool
+abbrev pub is_front_between : Front → Front → Front → Bool
 is_front_between k f g = is_within g f && not (is_within g k && not (is_within k g))
 
 -- It is no checkpoint of node p.
-record IsOther (p : ℕ) (e : Entry) (w : Write) : Type 0 where
-  opened : (f : Front) → is_open p f e ≡ false
-  between : (k f : Front) → is_between p k f e ≡ false
-  whole : (f : Front) → whole_front p f e ≡ None
-  link : link_here p w ≡ []
+pub record IsOther (p : ℕ) (e : Entry) (w : Write) : Type 0 where
+  pub opened : (f : Front) → is_open p f e ≡ false
+  pub between : (k f : Front) → is_between p k f e ≡ false
+  pub whole : (f : Front) → whole_front p f e ≡ None
+  pub link : link_here p w ≡ []
 
 -- It is a checkpoint of node p.
-record IsOwn (p : ℕ) (e : Entry) (w : Write) : Type 0 where
-  front : Front
-  low : List Front
-  node : w.node ≡ p
-  of : w.written ≡ checkpoint front low
-  opened : (f : Front) → is_open p f e ≡ (is_counted kept w.stage && is_within front f)
-  between : (k f : Front) → is_between p k f e ≡ (is_counted kept w.stage && is_front_between k f front)
-  whole : (f : Front) → whole_front p f e ≡ cond (w.depth == 0) (cond (is_within front f) (Some front) None) None
+pub record IsOwn (p : ℕ) (e : Entry) (w : Write) : Type 0 where
+  pub front : Front
+  pub low : List Front
+  pub node : w.node ≡ p
+  pub of : w.written ≡ checkpoint front low
+  pub opened : (f : Front) → is_open p f e ≡ (is_counted kept w.stage && is_within front f)
+  pub between : (k f : Front) → is_between p k f e ≡ (is_counted kept w.stage && is_front_between k f front)
+  pub whole : (f : Front) → whole_front p f e ≡ cond (w.depth == 0) (cond (is_within front f) (Some front) None) None
 
 and-false : (a : Bool) → (a && false) ≡ false
 and-false true = refl
@@ -89,8 +89,8 @@ none-both : (b : Bool) → cond b no_front no_front ≡ no_front
 none-both true = refl
 none-both false = refl
 
-
-viewed : (sys : System) (state : Machine) (p : ℕ) (e : Entry) (w : Write) → IsEntryOf sys state e w → IsOther p e w ⊎ IsOwn p e w
+-- the entry of a write is one of a checkpoint of node p, or of none
+pub viewed : (sys : System) (state : Machine) (p : ℕ) (e : Entry) (w : Write) → IsEntryOf sys state e w → IsOther p e w ⊎ IsOwn p e w
 viewed sys state p e w a = elim (cases_Bool (w.node == p)) [
   | inr other ↦
       let there : (e.node == p) ≡ false = ap (λ n. n == p) a.node ∙ other in
@@ -145,7 +145,7 @@ whole-at_zero (Some last) link (inr on) z = let deeper = on.1 in absurd (omega a
 -- ---- fronts in order
 
 -- of two checkpoints of node p the first lies strictly within the second
-abbrev IsBefore : ℕ → ℕ → WrittenBy → ℕ → WrittenBy → Type 0
+abbrev pub IsBefore : ℕ → ℕ → WrittenBy → ℕ → WrittenBy → Type 0
 IsBefore p n w q v = (g k : Front) (l m : List Front) → n ≡ p → q ≡ p → w ≡ checkpoint g l → v ≡ checkpoint k m → (is_within g k ≡ true) × (is_within k g ≡ false)
 
 -- a front lies about that of the last link so far, if there is one
@@ -448,9 +448,9 @@ counted-there collected there landed = absurd (two_ways false there refl)
 
 -- before an acknowledged write none is in flight
 pub landed-before : (before : List Write) (one : Write) (after : List Write) → AreInOrder (before ++ one ∷ after) → (is_in_flight one.stage ≡ true → ⊥)
-    → AllByRecursion (λ (u : Write). not_collected u ≡ true) before → AllByRecursion (λ (u : Write). is_counted kept u.stage ≡ true) before
-landed-before [] one after order landed there = tt
-landed-before (u ∷ before) one after order landed there = (
-  counted-there u.stage there.0 (λ flies. landed ((each-suffix Flies before (one ∷ after) (order.0 flies)).0)),
-  landed-before before one after order.1 landed there.1,
+    → AllByRecursion (λ (u : Write). not_collected u ≡ true → is_counted kept u.stage ≡ true) before
+landed-before [] one after order landed = tt
+landed-before (u ∷ before) one after order landed = (
+  (λ there. counted-there u.stage there (λ flies. landed ((each-suffix Flies before (one ∷ after) (order.0 flies)).0))),
+  landed-before before one after order.1 landed,
 )

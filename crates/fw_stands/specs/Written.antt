@@ -87,11 +87,12 @@ pub record IsChangesFor (sys : System) (state : Machine) (p : ℕ) (g f : Front)
   pub log : (e : ℕ) → sender sys.flow e ≡ p → sorted_messages (logged_on e c.log) ≡ sorted_messages (to_log_since sys state p g f low e)
   pub log_edges : (l : Logged) → Contains c.log l → sender sys.flow l.edge ≡ p
 
--- the record is the one of a write of node p: of a checkpoint that has no base a whole one, and else the changes since that
+-- the record is the one of a write of node p: of a checkpoint that has no base a whole one, and else the changes since that; of a logged
+-- event, which has none, the event
 abbrev pub IsRecordFor : System → Machine → ℕ → Option Front → WrittenBy → Record → Type 0
 IsRecordFor sys state p None (checkpoint f low) (tagged.State c) = IsCheckpointFor sys state p f low c
 IsRecordFor sys state p (Some g) (checkpoint f low) (tagged.Changes id c) = IsChangesFor sys state p g f low c
-IsRecordFor sys state p base (logged_event serial) (tagged.Event node event) = (node ≡ p) × HasEventTold sys.flow p serial event state.history
+IsRecordFor sys state p None (logged_event serial) (tagged.Event node event) = (node ≡ p) × HasEventTold sys.flow p serial event state.history
 IsRecordFor sys state p base what r = ⊥
 
 -- The records hold as an entry's the record of a write: it has a spelling, can be the entry's, and its bytes are under the

@@ -92,10 +92,8 @@ fn whole_front<'a>(choice: &Choice, entry: &'a Entry) -> Option<&'a Front>
 {
     let front = front_of(choice, entry.node)?;
     match &entry.written {
-        Written::Checkpoint { recorded, .. }
-            if entry.depth == 0 && recorded.front.subset(front) => {
-            Some(&recorded.front)
-        }
+        Written::Checkpoint { recorded, .. } if entry.depth == 0 && recorded.front.subset(front) =>
+            { Some(&recorded.front) }
         _ => None,
     }
 }

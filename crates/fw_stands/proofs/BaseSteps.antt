@@ -129,22 +129,22 @@ id-left p f stays (e ∷ es) a there = elim (cases_Bool (has_front p f e)) [
   | inl has ↦
       let here : (xs : List Entry) → id_at_front p f (e ∷ xs) ≡ Some e.id = λ xs. ap (λ b. cond b (Some e.id) (id_at_front p f xs)) has in
       elim (cases_Bool (stays e)) [
-        | inl in ↦ ap (λ b. id_at_front p f (cond b (e ∷ filter stays es) (filter stays es))) in ∙ here (filter stays es) ∙ sym (here es)
-        | inr out ↦
+        | inl on ↦ ap (λ b. id_at_front p f (cond b (e ∷ filter stays es) (filter stays es))) on ∙ here (filter stays es) ∙ sym (here es)
+        | inr off ↦
             absurd (two_ways (list_any (has_front p f) (filter stays es))
-            (sym (ap (λ b. list_any (has_front p f) (cond b (e ∷ filter stays es) (filter stays es))) out) ∙ there)
+            (sym (ap (λ b. list_any (has_front p f) (cond b (e ∷ filter stays es) (filter stays es))) off) ∙ there)
             (none-any (has_front p f) (filter stays es) (each-kept (λ o. has_front p f o ≡ false) stays es (a.0 f has))))
       ]
   | inr hasnt ↦
       let past : (xs : List Entry) → id_at_front p f (e ∷ xs) ≡ id_at_front p f xs = λ xs. ap (λ b. cond b (Some e.id) (id_at_front p f xs)) hasnt in
       elim (cases_Bool (stays e)) [
-        | inl in ↦
+        | inl on ↦
             let rest = id-left p f stays es a.1
-            (sym (ap (λ b. b || list_any (has_front p f) (filter stays es)) hasnt) ∙ sym (ap (λ b. list_any (has_front p f) (cond b (e ∷ filter stays es) (filter stays es))) in) ∙ there) in
-            ap (λ b. id_at_front p f (cond b (e ∷ filter stays es) (filter stays es))) in ∙ past (filter stays es) ∙ rest ∙ sym (past es)
-        | inr out ↦
-            let rest = id-left p f stays es a.1 (sym (ap (λ b. list_any (has_front p f) (cond b (e ∷ filter stays es) (filter stays es))) out) ∙ there) in
-            ap (λ b. id_at_front p f (cond b (e ∷ filter stays es) (filter stays es))) out ∙ rest ∙ sym (past es)
+            (sym (ap (λ b. b || list_any (has_front p f) (filter stays es)) hasnt) ∙ sym (ap (λ b. list_any (has_front p f) (cond b (e ∷ filter stays es) (filter stays es))) on) ∙ there) in
+            ap (λ b. id_at_front p f (cond b (e ∷ filter stays es) (filter stays es))) on ∙ past (filter stays es) ∙ rest ∙ sym (past es)
+        | inr off ↦
+            let rest = id-left p f stays es a.1 (sym (ap (λ b. list_any (has_front p f) (cond b (e ∷ filter stays es) (filter stays es))) off) ∙ there) in
+            ap (λ b. id_at_front p f (cond b (e ∷ filter stays es) (filter stays es))) off ∙ rest ∙ sym (past es)
       ]
 ]
 
@@ -387,7 +387,10 @@ bases_after_recovery sys w state r choice next t es a b =
 pub record IsNewestEntry (sys : System) (state : Machine) (entries : List Entry) (writes : List Write) (p : ℕ) (e : Entry) : Type 0 where
   pub among : Contains entries e
   pub write : Write
-  pub there : Contains writes write
+  pub earlier : List Write
+  pub later : List Write
+  pub there : writes ≡ earlier ++ write ∷ later
+  pub none : checkpoints_of p later ≡ []
   pub of_write : IsEntryOf sys state e write
   pub node : write.node ≡ p
   pub front : Front
@@ -437,7 +440,10 @@ newest-among sys state p (z ∷ es) (x ∷ xs) a d e k = by (newest_by p es) ref
         record {
           among = Contains-append_right (z ∷ []) es e rest.among;
           write = rest.write;
-          there = Contains-append_right (x ∷ []) xs rest.write rest.there;
+          earlier = x ∷ rest.earlier;
+          later = rest.later;
+          there = ap (λ ys. x ∷ ys) rest.there;
+          none = rest.none;
           of_write = rest.of_write;
           node = rest.node;
           front = rest.front;
@@ -458,7 +464,10 @@ newest-among sys state p (z ∷ es) (x ∷ xs) a d e k = by (newest_by p es) ref
         record {
           among = (0, omega arith, same);
           write = x;
-          there = (0, omega arith, refl);
+          earlier = [];
+          later = xs;
+          there = refl;
+          none = none;
           of_write = subst (λ y. IsEntryOf sys state y x) same a.0;
           node = node;
           front = is.0;

@@ -43,7 +43,7 @@ use Rattle.fw_stands.specs.Read.{is_between, IsChainRead}
 use Rattle.fw_stands.specs.Recovered.{Recovers}
 use Rattle.fw_stands.specs.Written.{AreEntriesOf, IsEntryOf, IsHeldAs, AreStored, uncollected}
 use Rattle.fw_stands.proofs.ChainRecords.{IsReadAs, chain-for}
-use Rattle.fw_stands.proofs.ReadChains.{IsBefore, before-pairs, chain-read, landed-before, viewed}
+use Rattle.fw_stands.proofs.ReadChains.{IsBefore, before-pairs, chain-read, landed-before, none-both, viewed}
 use Rattle.fw_stands.proofs.ReadLaws.{first-is}
 
 -- ---- the entries
@@ -115,13 +115,9 @@ none-first sys state p e w i asked some = elim (viewed sys state p e w i) [
       ∙ elim (cases_Bool (is_within o.front none)) [
         | inl within ↦
             absurd (out (same_fronts b o.front none canonical (none-canonical b) (is_within-holds b o.front none within) (none-within b (frontier_of b o.front))))
-        | inr without ↦ ap (λ c. cond (w.depth == 0) (cond c (Some o.front) None) None) without ∙ both-none (w.depth == 0)
+        | inr without ↦ ap (λ c. cond (w.depth == 0) (cond c (Some o.front) None) None) without ∙ none-both (w.depth == 0)
       ]
 ]
-  where
-    both-none : (b : Bool) → cond b (None {A = Front}) None ≡ None
-    both-none true = refl
-    both-none false = refl
 
 -- no whole one lies within no stamps
 pub no-chain : (sys : System) → IsWellFormedSystem sys → (state : Machine) → IsReached sys state

@@ -6,20 +6,23 @@ use Rattle.std.proofs.lemmas.Bool.Decides.{nat_tests}
 use Rattle.std.proofs.lemmas.List.{append_assoc, append-nil}
 use Rattle.std.proofs.lemmas.List.Elements.{filter-append}
 use Rattle.fw_lemmas.proofs.Bools.{two_ways}
-use Rattle.fw_lemmas.proofs.Each.{each-kept, each-suffix, each-weaker, each_of-map}
+use Rattle.fw_lemmas.proofs.Each.{each-filter, each-kept, each-one, each-suffix, each-weaker, each_of-map}
 use Rattle.fw_lemmas.proofs.Filters.{filter-in, filter-out}
 use Rattle.fw_lemmas.proofs.SideBySide.{zip-append}
 use Rattle.fw_frontier.specs.Frontier.{Within}
 use Rattle.fw_frontier.specs.Front.{Front, frontier_of, is_within, IsCanonical}
 use Rattle.fw_frontier.proofs.NamesLaws.{is_within-holds, within-is}
 use Rattle.fw_flow.specs.Dataflow.{System, bounds_of}
+use Rattle.fw_flow.specs.WellFormed.{IsWellFormedSystem}
 use Rattle.fw_model.specs.Machine.{Machine, SerialEvent, Stage, Write, in_flight, acknowledged, collected, checkpoint, logged_event, front_of}
 use Rattle.fw_model.specs.Machine.{Written as WrittenBy}
-use Rattle.fw_model.specs.Steps.{is_forgotten, is_serial_given_up}
+use Rattle.fw_model.specs.Reached.{IsReached}
+use Rattle.fw_model.specs.Steps.{checkpoint_front, checkpoints_of, is_forgotten, is_serial_given_up}
 use Rattle.fw_model.specs.Writes.{is_collected, not_collected}
 use Rattle.fw_model.proofs.AskedLaws.{IsAskedWell, IsWriteAskedWell, takes-declared}
-use Rattle.fw_model.proofs.CollectedLaws.{CanForget}
+use Rattle.fw_model.proofs.CollectedLaws.{CanForget, reached-forget}
 use Rattle.fw_model.proofs.GoneLaws.{strictly, gone_before, forgotten-gone, AreGoneExact, IsGoneExact}
+use Rattle.fw_model.proofs.SameInsideLaws.{low-offered}
 use Rattle.fw_model.proofs.SpanLaws.{spanned_at, spanned, spanned-append}
 use Rattle.fw_model.proofs.StandingLaws.{pairs-before}
 use Rattle.fw_model.proofs.WriteLaws.{ArePairs}
@@ -30,6 +33,7 @@ use Rattle.fw_keep.specs.Catalogue.{KeepState, AreAscending, IsCatalogue, ids_of
 use Rattle.fw_keep.specs.Entry.{is_checkpoint, is_checkpoint_below}
 use Rattle.fw_keep.specs.Newest.{is_checkpoint_of, is_forgotten_below, stay_from, whole_or}
 use Rattle.fw_policy.specs.Entries.{HoldsWhatIsWritten, IsEntryOf, AreEntriesOf, uncollected}
+use Rattle.fw_stands.proofs.BaseSteps.{IsNewestEntry}
 use Rattle.fw_stands.proofs.ReadChains.{IsBefore, before-pairs}
 
 -- ---- an entry and its write
@@ -179,12 +183,12 @@ module _ (sys : System) (state : Machine) (low : List Front) (p : ℕ) where
         let below : is_checkpoint_below f e.written ≡ test g = o.below f ∙ ap test same in
         ap (λ d. d && nat_lt e.id (stay_from p f 0 next (before ++ e ∷ after))) below
         ∙ elim (cases_Bool (test g)) [
-          | inr out ↦ ap (λ d. d && nat_lt e.id (stay_from p f 0 next (before ++ e ∷ after))) out ∙ sym (ap (λ d. d && spanned p test true vs) out)
-          | inl in ↦
-              let to = stay-before e.id 0 next (omega arith) before us b less (down in) (e ∷ after) in
+          | inr off ↦ ap (λ d. d && nat_lt e.id (stay_from p f 0 next (before ++ e ∷ after))) off ∙ sym (ap (λ d. d && spanned p test true vs) off)
+          | inl on ↦
+              let to = stay-before e.id 0 next (omega arith) before us b less (down on) (e ∷ after) in
               let up : whole_or to.0 e ≤ e.id = let m = to.1 in cond_both (e.depth == 0) e.id to.0 (λ k. k ≤ e.id) (λ j. omega arith) (λ j. m) in
               ap (λ n. test g && nat_lt e.id n)
-              (to.2 ∙ stay-taken p f to.0 next e after o.entry ∙ ap (λ d. cond d (stay_from p f (whole_or to.0 e) next after) (whole_or to.0 e)) (below ∙ in))
+              (to.2 ∙ stay-taken p f to.0 next e after o.entry ∙ ap (λ d. cond d (stay_from p f (whole_or to.0 e) next after) (whole_or to.0 e)) (below ∙ on))
               ∙ ap (λ d. test g && d) (stay-behind e.id (whole_or to.0 e) next up drawn after vs c more)
         ]
   ]
@@ -317,7 +321,7 @@ around (o ∷ before) e after a =
 -- What is known of a collection to these fronts.
 pub record IsToBeCollected (sys : System) (state : Machine) (low : List Front) (keep : KeepState) : Type 0 where
   pub now : (p : ℕ) → p < length sys.flow.nodes → IsCanonical (bounds_of sys.flow p) (front_of state.low p)
-  pub then : (p : ℕ) → p < length sys.flow.nodes → IsCanonical (bounds_of sys.flow p) (front_of low p)
+  pub later : (p : ℕ) → p < length sys.flow.nodes → IsCanonical (bounds_of sys.flow p) (front_of low p)
   pub can : CanForget sys state
   pub catalogue : IsCatalogue keep
   pub entries : AreEntriesOf sys state keep.entries (uncollected state)
@@ -356,10 +360,10 @@ goes-here sys state low keep c xs y ys split stays before e after parts b i d g 
     let drawn = (each-suffix (λ (o : Entry). o.id < keep.next) before (e ∷ after)
     (subst (AllByRecursion (λ (o : Entry). o.id < keep.next)) parts (each_of-map (λ id. id < keep.next) (λ (o : Entry). o.id) keep.entries c.catalogue.drawn))).0 in
     let goes = goes-alike sys state low p before (filter not_collected xs) e y after (filter not_collected ys) b i d keep.next ids.0 ids.1 drawn g l refl is
-    (λ in.
+    (λ on.
     each-weaker (λ (u : Write). IsBefore p u.node u.written y.node y.written)
     (λ (u : Write). (k : Front) (m : List Front) → u.node ≡ p → u.written ≡ checkpoint k m → test k ≡ true) (filter not_collected xs)
-    (λ u r k m at what. strictly-down sys low p (c.then p declared) k g own.1 (r k g m l at refl what is).0 in)
+    (λ u r k m at what. strictly-down sys low p (c.later p declared) k g own.1 (r k g m l at refl what is).0 on)
     (each-kept (λ (u : Write). IsBefore p u.node u.written y.node y.written) not_collected xs (pairs-before (IsBefore p) xs y ys pairs))) in
     ap (λ q. is_forgotten_below q (front_of low q) keep e) i.node
     ∙ ap (λ v. (v && is_checkpoint_below f e.written) && nat_lt e.id (stay_from p f 0 keep.next keep.entries)) (eq-eqb e.node p i.node)
@@ -390,8 +394,8 @@ along sys state low keep c (y ∷ ys) xs split before es parts b z = elim (cases
       (sym (filter-append not_collected xs (y ∷ []) ∙ ap (λ us. filter not_collected xs ++ us) (filter-out not_collected y [] gone) ∙ append-nil (filter not_collected xs))) b)
       (subst (AreEntriesOf sys state es) out z))
   | inl stays ↦
-      let in = filter-in not_collected y ys stays in
-      subst (AllZip (GoesForgotten sys state low keep) es) (sym in) (by es parts stays (subst (AreEntriesOf sys state es) in z))
+      let there = filter-in not_collected y ys stays in
+      subst (AllZip (GoesForgotten sys state low keep) es) (sym there) (by es parts stays (subst (AreEntriesOf sys state es) there z))
 ]
   where
     more : state.writes ≡ (xs ++ y ∷ []) ++ ys
@@ -415,3 +419,94 @@ along sys state low keep c (y ∷ ys) xs split before es parts b z = elim (cases
 pub entries_go_forgotten : (sys : System) (state : Machine) (low : List Front) (keep : KeepState) → IsToBeCollected sys state low keep
     → AllZip (GoesForgotten sys state low keep) keep.entries (uncollected state)
 entries_go_forgotten sys state low keep c = along sys state low keep c state.writes [] refl [] keep.entries refl tt c.entries
+
+-- ---- the newest checkpoint
+
+-- The write is the last of these that is a checkpoint of node p.
+pub record IsLastOf (p : ℕ) (writes : List Write) (write : Write) : Type 0 where
+  pub earlier : List Write
+  pub later : List Write
+  pub there : writes ≡ earlier ++ write ∷ later
+  pub none : checkpoints_of p later ≡ []
+
+-- where what passes is split, all is
+record IsSplit (writes : List Write) (one : Write) (later : List Write) : Type 0 where
+  before : List Write
+  after : List Write
+  there : writes ≡ before ++ one ∷ after
+  left : filter not_collected after ≡ later
+
+split-of : (ws earlier : List Write) (one : Write) (later : List Write) → filter not_collected ws ≡ earlier ++ one ∷ later → IsSplit ws one later
+split-of [] [] one later e = absurd (cc e)
+split-of [] (z ∷ earlier) one later e = absurd (cc e)
+split-of (w ∷ ws) earlier one later e = elim (cases_Bool (not_collected w)) [
+  | inr gone ↦
+      let rest = split-of ws earlier one later (sym (filter-out not_collected w ws gone) ∙ e) in
+      record { before = w ∷ rest.before; after = rest.after; there = ap (λ xs. w ∷ xs) rest.there; left = rest.left }
+  | inl stays ↦ by earlier (sym (filter-in not_collected w ws stays) ∙ e)
+]
+  where
+    first-of : (x y : Write) (xs ys : List Write) → x ∷ xs ≡ y ∷ ys → x ≡ y
+    first-of x y xs ys k = cc
+
+    rest-of : (x y : Write) (xs ys : List Write) → x ∷ xs ≡ y ∷ ys → xs ≡ ys
+    rest-of x y xs ys k = cc
+
+    by : (earlier : List Write) → w ∷ filter not_collected ws ≡ earlier ++ one ∷ later → IsSplit (w ∷ ws) one later
+    by [] k = record {
+      before = [];
+      after = ws;
+      there = ap (λ x. x ∷ ws) (first-of w one (filter not_collected ws) later k);
+      left = rest-of w one (filter not_collected ws) later k;
+    }
+    by (z ∷ earlier) k =
+        let rest = split-of ws earlier one later (rest-of w z (filter not_collected ws) (earlier ++ one ∷ later) k) in
+        record { before = w ∷ rest.before; after = rest.after; there = ap (λ xs. w ∷ xs) rest.there; left = rest.left }
+
+there-checkpoints : (p : ℕ) (xs : List Write) → AllByRecursion (IsThere p) xs → checkpoints_of p (filter not_collected xs) ≡ checkpoints_of p xs
+there-checkpoints p [] a = refl
+there-checkpoints p (x ∷ xs) a =
+    let rest = there-checkpoints p xs a.1 in
+    cond_both (not_collected x) (x ∷ filter not_collected xs) (filter not_collected xs) (λ ys. checkpoints_of p ys ≡ checkpoints_of p (x ∷ xs))
+    (λ e. ap (λ fs. cond (x.node == p) (checkpoint_front x.written) [] ++ fs) rest)
+    (λ e. rest ∙ sym (ap (λ fs. fs ++ checkpoints_of p xs)
+    (cond_both (x.node == p) (checkpoint_front x.written) [] (λ fs. fs ≡ []) (λ own. none x.written refl (eqb-true x.node p own) e) (λ other. refl))))
+  where
+    none : (w : WrittenBy) → x.written ≡ w → x.node ≡ p → not_collected x ≡ false → checkpoint_front x.written ≡ []
+    none (checkpoint g l) is at gone = absurd (a.0 gone g l at is)
+    none (logged_event s) is at gone = ap checkpoint_front is
+
+-- the write of the last entry of a checkpoint of node p is the node's last one of all
+pub newest_entry_is_of_last_write : (sys : System) → IsWellFormedSystem sys → (state : Machine) → IsReached sys state
+    → (entries : List Entry) (p : ℕ) (e : Entry) → (n : IsNewestEntry sys state entries (uncollected state) p e) → IsLastOf p state.writes n.write
+newest_entry_is_of_last_write sys w state r es p e n =
+    let x = n.write in
+    let can = reached-forget sys w r.0 r.1 state r.2 in
+    let known = can.reached in
+    let h = state.history in
+    let s = split-of state.writes n.earlier x n.later n.there in
+    let Asked : Write → Type 0 = IsWriteAskedWell sys state.low state.next h in
+    let asked : AllByRecursion Asked (s.before ++ x ∷ s.after) = subst (AllByRecursion Asked) s.there known.restore.asked in
+    let here = each-suffix Asked s.before (x ∷ s.after) asked in
+    let own = subst (λ v. IsAskedWell sys state.low state.next h x.node v x.stage) n.of_checkpoint here.0 in
+    let declared : p < length sys.flow.nodes = subst (λ q. q < length sys.flow.nodes) n.node (takes-declared sys.flow x.node own.0) in
+    let pairs : ArePairs (IsBefore p) (s.before ++ x ∷ s.after) =
+    subst (ArePairs (IsBefore p)) s.there (before-pairs sys state.low state.next h p declared state.writes known.recover.ascend known.restore.apart known.restore.asked) in
+    let canonical = each-weaker Asked (λ (z : Write). (k : Front) (m : List Front) → z.node ≡ p → z.written ≡ checkpoint k m → IsCanonical (bounds_of sys.flow p) k) s.after
+    (λ z a k m at what. subst (λ q. IsCanonical (bounds_of sys.flow q) k) at (subst (λ v. IsAskedWell sys state.low state.next h z.node v z.stage) what a).1)
+    here.1 in
+    let stays : not_collected x ≡ true =
+    (each-suffix (λ (z : Write). not_collected z ≡ true) n.earlier (x ∷ n.later)
+    (subst (AllByRecursion (λ (z : Write). not_collected z ≡ true)) n.there (passes-all state.writes))).0 in
+    let there =
+    there-behind sys state.low h p (low-offered sys state known.recover.notices known.recover.watermark p declared).0 x n.front n.low n.node n.of_checkpoint stays [] s.after
+    (pairs-behind (IsBefore p) s.before (x ∷ s.after) pairs) (exact-from sys state.low h s.before (x ∷ s.after) (subst (AreGoneExact sys state.low h) s.there can.exact)) canonical in
+    record {
+      earlier = s.before;
+      later = s.after;
+      there = s.there;
+      none = sym (there-checkpoints p s.after there) ∙ ap (checkpoints_of p) s.left ∙ n.none;
+    }
+  where
+    passes-all : (ws : List Write) → AllByRecursion (λ (z : Write). not_collected z ≡ true) (filter not_collected ws)
+    passes-all ws = each-filter (λ (z : Write). not_collected z ≡ true) not_collected ws (each-one (λ (z : Write). not_collected z ≡ true → not_collected z ≡ true) ws (λ z k. k))

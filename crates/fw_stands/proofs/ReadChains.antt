@@ -82,10 +82,10 @@ one-of P Q [] a b = absurd a
 one-of P Q (x ∷ xs) (inl a) b = (x, a, b.0)
 one-of P Q (x ∷ xs) (inr a) b = one-of P Q xs a b.1
 
-abbrev no_front : Option Front
+abbrev pub no_front : Option Front
 no_front = None
 
-none-both : (b : Bool) → cond b no_front no_front ≡ no_front
+pub none-both : (b : Bool) → cond b no_front no_front ≡ no_front
 none-both true = refl
 none-both false = refl
 

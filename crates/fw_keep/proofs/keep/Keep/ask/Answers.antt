@@ -1,4 +1,4 @@
-use Rattle.std.proofs.Common.{◌≡◌, [], ◌∷◌, ◌++◌, refl, sym, subst, arith}
+use Rattle.std.proofs.Common.{◌≡◌, ◌<◌, ◌^◌, [], ◌∷◌, ◌++◌, refl, sym, subst, arith}
 use Rattle.std.specs.Prelude.{option_map}
 use Rattle.std.specs.FinMap as records
 use Rattle.std.proofs.lemmas.Result.{IfErr-at_err}
@@ -7,6 +7,9 @@ use Rattle.fw_keep.specs.Entry.{asked_beside, IsBased}
 use Rattle.fw_keep.specs.Catalogue.{KeepState}
 use Rattle.fw_keep.specs.Stored.{IsStored, KeepsBytes}
 use Rattle.fw_keep.specs.Inside.{keep_state_of}
+use Rattle.fw_lemmas.proofs.Each.{each-weaker, each_of-map}
+use Rattle.fw_keep.specs.declared.entry.Entry.{Entry}
+use Rattle.fw_keep.proofs.DepthLaws.{deep-asked}
 use Rattle.fw_keep.proofs.BytesLaws.{bytes-put}
 use Rattle.fw_keep.proofs.KeepLaws.{sound-drawn, sound-added}
 use Rattle.fw_keep.proofs.StoredLaws.{stored-fresh, stored-same, stored-added}
@@ -19,7 +22,9 @@ put_new-put-requires-clause-fresh g c =
 
 pub invariant_of-self-in-Ok : goal.invariant_of-self-in-Ok
 invariant_of-self-in-Ok g c =
-    sound-added c.self.inside _ (asked_beside c.self.inside.entries.items c.self.inside.next c.args.what.now c.args.stamps) refl refl c.self.invariant c.in-Ok.ensures.added c.put_new-put.ensures.waiting (omega arith) refl refl c.put_new-put.ensures.room
+    sound-added c.self.inside _ (asked_beside c.self.inside.entries.items c.self.inside.next c.args.what.now c.args.stamps) refl
+    (deep-asked c.self.inside.entries.items c.self.inside.next c.args.what.now c.args.stamps (subst (λ (k : KeepState). IsBased k.entries c.args.what.now) (sym c.self.view_is) c.requires.based)
+    c.self.invariant.catalogue.shallow c.self.invariant.catalogue.drawn) refl c.self.invariant c.in-Ok.ensures.added c.put_new-put.ensures.waiting (omega arith) refl refl c.put_new-put.ensures.room
 
 pub invariant_of-self-in-Err-Failed : goal.invariant_of-self-in-Err-Failed
 invariant_of-self-in-Err-Failed g c =
@@ -50,5 +55,10 @@ returns-in-Ok-clause-bytes g c =
 pub put_new-put-requires-clause-ascending : goal.put_new-put-requires-clause-ascending
 put_new-put-requires-clause-ascending g c = c.self.invariant.catalogue.ascending
 
-pub put_new-put-requires-clause-based : goal.put_new-put-requires-clause-based
-put_new-put-requires-clause-based g c = subst (λ (k : KeepState). IsBased k.entries c.args.what.now) (sym c.self.view_is) c.requires.based
+pub put_new-put-requires-clause-shallow : goal.put_new-put-requires-clause-shallow
+put_new-put-requires-clause-shallow g c = c.self.invariant.catalogue.shallow
+
+pub put_new-put-requires-clause-few : goal.put_new-put-requires-clause-few
+put_new-put-requires-clause-few g c =
+    let few : c.self.inside.next < 2 ^ 63 = subst (λ (k : KeepState). k.next < 2 ^ 63) (sym c.self.view_is) c.requires.few in
+    each_of-map (λ id. id < 2 ^ 63) (λ (e : Entry). e.id) c.self.inside.entries.items (each-weaker _ _ _ (λ id l. omega arith) c.self.invariant.catalogue.drawn)

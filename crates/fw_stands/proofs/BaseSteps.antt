@@ -197,13 +197,13 @@ chain-based p all last before [] e c a = tt
 chain-based p all last before (x ∷ xs) e c a =
     let rest : IsRest p all xs = λ l d b. chain-based p all l (before ++ x ∷ []) xs (e ∙ sym (append_assoc before (x ∷ []) xs)) d b in
     elim (cases_Bool (x.node == p)) [
-  | inr other ↦
-      let none : cond (x.node == p) (link_of x.base x.depth x.written) [] ≡ [] = ap (λ b. cond b (link_of x.base x.depth x.written) []) other in (
-        λ i. absurd (two_ways (x.node == p) (eq-eqb x.node p i) other),
-        rest last (subst (λ ls. IsChain last (ls ++ links_of p xs)) none c) a,
-      )
-  | inl own ↦ by rest (ap (λ b. cond b (link_of x.base x.depth x.written) []) own) x.written refl
-]
+      | inr other ↦
+          let none : cond (x.node == p) (link_of x.base x.depth x.written) [] ≡ [] = ap (λ b. cond b (link_of x.base x.depth x.written) []) other in (
+            λ i. absurd (two_ways (x.node == p) (eq-eqb x.node p i) other),
+            rest last (subst (λ ls. IsChain last (ls ++ links_of p xs)) none c) a,
+          )
+      | inl own ↦ by rest (ap (λ b. cond b (link_of x.base x.depth x.written) []) own) x.written refl
+    ]
   where
     by : IsRest p all xs → cond (x.node == p) (link_of x.base x.depth x.written) [] ≡ link_of x.base x.depth x.written → (w : WrittenBy) → x.written ≡ w → AllByRecursion (IsBasedAmong p all) (x ∷ xs)
     by rest own (logged_event s) is = (

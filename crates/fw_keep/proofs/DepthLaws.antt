@@ -1,5 +1,5 @@
 -- How deep entries are.
-use Rattle.std.proofs.Common.{◌≡◌, ℕ, ◌+◌, ◌<◌, ◌≤◌, false, true, ◌==◌, ◌||◌, cond, List, [], ◌∷◌, refl, sym, ap, subst, ◌∙◌, arith}
+use Rattle.std.proofs.Common.{◌≡◌, ℕ, ◌<◌, ◌≤◌, false, true, ◌==◌, ◌||◌, cond, List, [], ◌∷◌, refl, sym, ap, subst, ◌∙◌, arith}
 use Rattle.std.specs.List.{AllByRecursion}
 use Rattle.std.proofs.lemmas.Bool.{cond_both, eqb-true}
 use Rattle.std.proofs.lemmas.List.Elements.{All-contains, All-from_recursion}
@@ -44,3 +44,9 @@ deep-asked es next (tagged.Changes base c) stamps based shallow drawn =
     All-contains (λ (e : Entry). e.id < next) es based.entry (All-from_recursion _ es (each_of-map (λ id. id < next) (λ (e : Entry). e.id) es drawn)) based.there in
     let deep : depth_at base es ≤ base = depth-below base es shallow in
     omega (arith, below, deep, based.named)
+
+-- nor so great that one more is too much
+pub depth-small : (id n : ℕ) (es : List Entry) → AreShallow es → AllByRecursion (λ (e : Entry). e.id < n) es → 0 < n → depth_at id es < n
+depth-small id n [] h few some = some
+depth-small id n (e ∷ es) h few some =
+    cond_both (e.id == id) e.depth (depth_at id es) (λ d. d < n) (λ k. omega (arith, h.0, few.0)) (λ k. depth-small id n es h.1 few.1 some)

@@ -1,5 +1,5 @@
 -- The newest checkpoint of a node among entries, and the newest whole one that lies within a frontier.
-use Rattle.std.specs.Prelude.{ℕ, Bool, true, false, not, ◌&&◌, ◌==◌, if◌then◌else◌, nat_lt, List, [], ◌∷◌, Option, Some, None}
+use Rattle.std.specs.Prelude.{ℕ, Bool, false, not, ◌&&◌, ◌==◌, if◌then◌else◌, nat_lt, List, [], ◌∷◌, Option, Some, None}
 use Rattle.std.specs.Option.{option_or}
 use Rattle.fw_frontier.specs.Front.{Front, is_within}
 use Rattle.fw_keep.specs.declared.entry.Entry.{Entry}

@@ -18,6 +18,17 @@ use fw_outside::{OutFault, Store};
 use fw_record::{Record, encode};
 use std::alloc::{AllocError, Global};
 
+/// The depth of the entry of this id; 0 where there is none.
+fn depth_at(entries: &[Entry], id: u64) -> u64
+    requires ascending { AreAscending (ids_of entries.now) }
+    ensures { result ≡ spec.depth_at id entries.now }
+{
+    match entry_at(entries, id) {
+        Some(entry) => entry.depth,
+        None => 0,
+    }
+}
+
 /// How deep it is what stands on this base: one deeper than that; 0 where it has no base.
 fn depth_on(entries: &[Entry], base: Option<u64>) -> u64
     requires ascending { AreAscending (ids_of entries.now) }
@@ -26,7 +37,7 @@ fn depth_on(entries: &[Entry], base: Option<u64>) -> u64
     ensures { result ≡ spec.depth_on base entries.now }
 {
     match base {
-        Some(id) => entry_at(entries, id).map_or(0, |entry| entry.depth) + 1,
+        Some(id) => depth_at(entries, id) + 1,
         None => 0,
     }
 }

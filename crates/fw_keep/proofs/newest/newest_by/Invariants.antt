@@ -1,4 +1,4 @@
-use Rattle.std.proofs.Common.{◌≡◌, ℕ, length}
+use Rattle.std.proofs.Common.{◌≡◌, length}
 use Rattle.fw_keep.specs.Newest.{newest_by}
 use Rattle.fw_keep.proofs.newest.newest_by.Given as goal
 

@@ -1,4 +1,4 @@
-use Rattle.std.proofs.Common.{◌≡◌, ℕ, length}
+use Rattle.std.proofs.Common.{◌≡◌, length}
 use Rattle.fw_keep.specs.Newest.{whole_within}
 use Rattle.fw_keep.proofs.newest.whole_within.Given as goal
 

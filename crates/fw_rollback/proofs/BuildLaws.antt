@@ -246,6 +246,12 @@ logged-apart flow p ls a e n =
     each-weaker (λ (l : Logged). Contains (out_edges flow p) l.edge) (λ (l : Logged). l.edge ≢ e) ls
     (λ l k s. n (ap (sender flow) (sym s) ∙ each-contained (λ d. sender flow d ≡ p) l.edge (out_edges flow p) k (out_edges-from (λ d. sender flow d ≡ p) flow p (λ d i r. r)))) a
 
+-- those of the first record, where it is a checkpoint
+pub first-apart : (flow : Dataflow) (p : ℕ) (rs : List Record) (c : Checkpoint) (ls : List Logged) → Some c ≡ first_checkpoint rs → AllByRecursion (CanServe flow p) rs
+    → ls ≡ c.log → (e : ℕ) → sender flow e ≢ p → AllByRecursion (λ (l : Logged). l.edge ≢ e) ls
+first-apart flow p rs c ls e a same d n =
+    subst (λ (xs : List Logged). AllByRecursion (λ (l : Logged). l.edge ≢ d) xs) (sym same) (logged-apart flow p c.log (first-serves flow p rs c e a) d n)
+
 -- a node that is restored from a checkpoint and takes in the changes since, with its logs
 pub restored-chain : (flow : Dataflow) (low : List Front) (p : ℕ) (rs : List Record) (c : Checkpoint) (first last : Node) (old mid new : List MessagesState)
     → Some c ≡ first_checkpoint rs → HasLogs flow p old (λ e. nothing_there)
@@ -265,12 +271,14 @@ restored-chain flow low p rs c first last old mid new e empty table of_node logs
     )
 
 -- a node that takes in the changes of one record
-pub one-taken : (flow : Dataflow) (p : ℕ) (f : Front) (state : State) (done : List (Front × State)) (c : Checkpoint) (node next : Node) → IsOfChain flow p f state done node
+pub one-taken : {T E : Type 0} (flow : Dataflow) (p : ℕ) (f : Front) (state : State) (done : List (Front × State)) (c : Checkpoint) (node next : Node) (r : Result T E)
+    → IsOfChain flow p f state done node
     → ((settled after : Stamp → Bool) (before : List Event) → EachDelivery (λ s. (after s ≡ true) × (in_domain (bounds_of flow p) s ≡ true)) before
     → AreOnEdges (in_edges flow p) before → IsTableOf flow p settled node (events_inside settled before) → IsStateSince (kind_of flow p) settled before c.state
-    → IsTableOf flow p after next before)
-    → IsOfChain flow p f state (done ++ states_of (c ∷ [])) next
-one-taken flow p f state done c node next stands takes = chain-more flow p f state done (c.recorded.front, c.state) node next stands takes
+    → OnOk r (IsTableOf flow p after next before))
+    → OnOk r (IsOfChain flow p f state (done ++ states_of (c ∷ [])) next)
+one-taken flow p f state done c node next (Err x) stands takes = tt
+one-taken flow p f state done c node next (Ok x) stands takes = chain-more flow p f state done (c.recorded.front, c.state) node next stands takes
 
 -- its messages behind those that the log has
 pub one-logged : (flow : Dataflow) (low : List Front) (e : ℕ) (c : Checkpoint) (ms : List Message) (log : MessagesState) → log ≡ log_of flow low e (logged_on e c.log ++ ms)

@@ -187,34 +187,36 @@ on-last p all (Some l) link (inr on) a f e =
     let same : l.front ≡ f = cc in
     subst (λ g. list_any (is_at_front p g) all ≡ true) same a
 
+-- so it is of those that come next
+abbrev IsRest : ℕ → List Write → List Write → Type 0
+IsRest p all xs = (last : Option Link) → IsChain last (links_of p xs) → IsLastAmong p all last → AllByRecursion (IsBasedAmong p all) xs
+
 chain-based : (p : ℕ) (all : List Write) (last : Option Link) (before xs : List Write) → all ≡ before ++ xs → IsChain last (links_of p xs) → IsLastAmong p all last
     → AllByRecursion (IsBasedAmong p all) xs
 chain-based p all last before [] e c a = tt
-chain-based p all last before (x ∷ xs) e c a = elim (cases_Bool (x.node == p)) [
-  | inr other ↦
-      let none : cond (x.node == p) (link_of x.base x.depth x.written) [] ≡ [] = ap (λ b. cond b (link_of x.base x.depth x.written) []) other in (
-        λ i. absurd (two_ways (x.node == p) (eq-eqb x.node p i) other),
-        chain-based p all last (before ++ x ∷ []) xs more (subst (λ ls. IsChain last (ls ++ links_of p xs)) none c) a,
-      )
-  | inl own ↦ by (ap (λ b. cond b (link_of x.base x.depth x.written) []) own) x.written refl
-]
+chain-based p all last before (x ∷ xs) e c a =
+    let rest : IsRest p all xs = λ l d b. chain-based p all l (before ++ x ∷ []) xs (e ∙ sym (append_assoc before (x ∷ []) xs)) d b in
+    elim (cases_Bool (x.node == p)) [
+      | inr other ↦
+          let none : cond (x.node == p) (link_of x.base x.depth x.written) [] ≡ [] = ap (λ b. cond b (link_of x.base x.depth x.written) []) other in (
+            λ i. absurd (two_ways (x.node == p) (eq-eqb x.node p i) other),
+            rest last (subst (λ ls. IsChain last (ls ++ links_of p xs)) none c) a,
+          )
+      | inl own ↦ by rest (ap (λ b. cond b (link_of x.base x.depth x.written) []) own) x.written refl
+    ]
   where
-    more : all ≡ (before ++ x ∷ []) ++ xs
-    more = e ∙ sym (append_assoc before (x ∷ []) xs)
-
-    by : cond (x.node == p) (link_of x.base x.depth x.written) [] ≡ link_of x.base x.depth x.written → (w : WrittenBy) → x.written ≡ w → AllByRecursion (IsBasedAmong p all) (x ∷ xs)
-    by own (logged_event s) is = (
+    by : IsRest p all xs → cond (x.node == p) (link_of x.base x.depth x.written) [] ≡ link_of x.base x.depth x.written → (w : WrittenBy) → x.written ≡ w → AllByRecursion (IsBasedAmong p all) (x ∷ xs)
+    by rest own (logged_event s) is = (
       λ i g low k. absurd (let c : logged_event s ≡ checkpoint g low = sym is ∙ k in cc),
-      chain-based p all last (before ++ x ∷ []) xs more
-          (subst (λ ls. IsChain last (ls ++ links_of p xs)) (own ∙ ap (link_of x.base x.depth) is) c) a,
+      rest last (subst (λ ls. IsChain last (ls ++ links_of p xs)) (own ∙ ap (link_of x.base x.depth) is) c) a,
     )
-    by own (checkpoint g low) is =
+    by rest own (checkpoint g low) is =
         let link : Link = record { front = g; base = x.base; depth = x.depth } in
         let on : IsChain last (link ∷ links_of p xs) = subst (λ ls. IsChain last (ls ++ links_of p xs)) (own ∙ ap (link_of x.base x.depth) is) c in (
           λ i h m k f b. on-last p all last link on.0 a f b,
           elim (cases_Bool (x.node == p)) [
             | inl mine ↦
-                chain-based p all (Some link) (before ++ x ∷ []) xs more on.1
+                rest (Some link) on.1
                 (subst (λ ys. list_any (is_at_front p g) ys ≡ true) (sym e) (some-here (is_at_front p g) before x xs (at-is p g low x (eqb-true x.node p mine) is)))
             | inr other ↦
                 let none : cond (x.node == p) (link_of x.base x.depth x.written) [] ≡ [] = ap (λ b. cond b (link_of x.base x.depth x.written) []) other in
@@ -402,14 +404,15 @@ pub record IsNewestEntry (sys : System) (state : Machine) (entries : List Entry)
 
 none-newest : (p : ℕ) (es : List Entry) → newest_by p es ≡ None → entry_fronts p es ≡ []
 none-newest p [] k = refl
-none-newest p (e ∷ es) k = by (newest_by p es) refl (is_checkpoint_of p e) refl k
+none-newest p (e ∷ es) k = by (none-newest p es) (newest_by p es) refl (is_checkpoint_of p e) refl k
   where
-    by : (o : Option Entry) → newest_by p es ≡ o → (b : Bool) → is_checkpoint_of p e ≡ b → option_or o (cond b (Some e) None) ≡ None → entry_fronts p (e ∷ es) ≡ []
-    by (Some x) h b j k = absurd (let c : Some x ≡ None = k in cc)
-    by None h true j k = absurd (let c : Some e ≡ None = k in cc)
-    by None h false j k =
+    by : (newest_by p es ≡ None → entry_fronts p es ≡ []) → (o : Option Entry) → newest_by p es ≡ o → (b : Bool) → is_checkpoint_of p e ≡ b
+        → option_or o (cond b (Some e) None) ≡ None → entry_fronts p (e ∷ es) ≡ []
+    by rest (Some x) h b j k = absurd (let c : Some x ≡ None = k in cc)
+    by rest None h true j k = absurd (let c : Some e ≡ None = k in cc)
+    by rest None h false j k =
         ap (λ fs. fs ++ entry_fronts p es) (cond_both (e.node == p) (entry_front e.written) [] (λ fs. fs ≡ []) (λ own. other e.written (sym (ap (λ b. b && is_checkpoint e.written) own) ∙ j)) (λ n. refl))
-        ∙ none-newest p es h
+        ∙ rest h
       where
         other : (w : Written) → is_checkpoint w ≡ false → entry_front w ≡ []
         other (written.Checkpoint r t n) i = absurd (two_ways true refl i)
@@ -429,12 +432,12 @@ newest-among : (sys : System) (state : Machine) (p : ℕ) (es : List Entry) (xs 
     → IsNewestEntry sys state es xs p e
 newest-among sys state p [] xs a d e k = absurd (let c : None ≡ Some e = k in cc)
 newest-among sys state p (z ∷ es) [] a d e k = absurd a
-newest-among sys state p (z ∷ es) (x ∷ xs) a d e k = by (newest_by p es) refl (is_checkpoint_of p z) refl k
+newest-among sys state p (z ∷ es) (x ∷ xs) a d e k = by (newest-among sys state p es xs a.1 d.1 e) (newest_by p es) refl (is_checkpoint_of p z) refl k
   where
-    by : (o : Option Entry) → newest_by p es ≡ o → (b : Bool) → is_checkpoint_of p z ≡ b → option_or o (cond b (Some z) None) ≡ Some e
-        → IsNewestEntry sys state (z ∷ es) (x ∷ xs) p e
-    by (Some y) h b j k =
-        let rest = newest-among sys state p es xs a.1 d.1 e (h ∙ k) in
+    by : (newest_by p es ≡ Some e → IsNewestEntry sys state es xs p e) → (o : Option Entry) → newest_by p es ≡ o → (b : Bool) → is_checkpoint_of p z ≡ b
+        → option_or o (cond b (Some z) None) ≡ Some e → IsNewestEntry sys state (z ∷ es) (x ∷ xs) p e
+    by later (Some y) h b j k =
+        let rest = later (h ∙ k) in
         let past : has_front p rest.front z ≡ false =
         false_from_ne_true (has_front p rest.front z) (λ has. two_ways (list_any (has_front p rest.front) es) rest.at (none-any (has_front p rest.front) es (d.0 rest.front has))) in
         record {
@@ -453,8 +456,8 @@ newest-among sys state p (z ∷ es) (x ∷ xs) a d e k = by (newest_by p es) ref
           at = or_right (has_front p rest.front z) (list_any (has_front p rest.front) es) rest.at;
           named = ap (λ b. cond b (Some z.id) (id_at_front p rest.front es)) past ∙ rest.named;
         }
-    by None h false j k = absurd (let c : None ≡ Some e = k in cc)
-    by None h true j k =
+    by later None h false j k = absurd (let c : None ≡ Some e = k in cc)
+    by later None h true j k =
         let same : z ≡ e = some-entry z e k in
         let parts = and_parts (z.node == p) (is_checkpoint z.written) j in
         let node : x.node ≡ p = sym (a.0).node ∙ eqb-true z.node p parts.0 in

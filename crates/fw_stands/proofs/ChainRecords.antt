@@ -78,8 +78,7 @@ read-later sys state held p g (w ∷ ws) (e ∷ es) (r ∷ rs) stand zip read =
     ap (λ b. last_or g (cond b (checkpoint_front w.written) [] ++ checkpoints_of p ws)) (eq-eqb w.node p on.node)
     ∙ ap (λ x. last_or g (checkpoint_front x ++ checkpoints_of p ws)) on.of_checkpoint in
     subst (λ x. EachIsNext sys state p g (changes_in x ++ changes_of rs) × (last_front g (states_of (changes_in x ++ changes_of rs)) ≡ last_or g (checkpoints_of p (w ∷ ws))))
-    (sym got.2)
-    (
+    (sym got.2) (
       (one, subst (λ x. EachIsNext sys state p x (changes_of rs)) (sym same) rest.0),
       ap (λ x. last_front x (states_of (changes_of rs))) same ∙ rest.1 ∙ sym here,
     )

@@ -1,5 +1,5 @@
 -- Which chain of checkpoints is read for a node that is cut: one that ends at the cut, and none where that has no stamps.
-use Rattle.std.proofs.Common.{◌≡◌, ◌≢◌, ℕ, ◌<◌, Bool, true, false, cond, List, [], ◌∷◌, ◌++◌, filter, length, Option, Some, None, refl, sym, ap, subst, ◌∙◌, inl, inr, arith}
+use Rattle.std.proofs.Common.{◌≡◌, ◌≢◌, ℕ, ◌<◌, Bool, true, false, cond, ◌==◌, List, [], ◌∷◌, ◌++◌, filter, length, Option, Some, None, refl, sym, ap, subst, ◌∙◌, inl, inr, arith}
 use Rattle.std.specs.List.{AllByRecursion, AllZip}
 use Rattle.std.specs.Option.{option_or}
 use Rattle.std.proofs.lemmas.Bool.{cases_Bool}
@@ -146,7 +146,8 @@ pub record AreRecordsOfChain (sys : System) (state : Machine) (p : ℕ) (f : Fro
   pub all : rs ≡ tagged.State first ∷ more
   pub chain : IsChainFor sys state p f first (changes_of more)
 
-chain-weaker : (R S : Entry → Write → Type 0) → ((e : Entry) (w : Write) → R e w → S e w) → (entries : List Entry) (p : ℕ) (f : Front) → IsChainRead R entries p f
+-- a chain in one relation is one in a weaker one
+abbrev chain-weaker : (R S : Entry → Write → Type 0) → ((e : Entry) (w : Write) → R e w → S e w) → (entries : List Entry) (p : ℕ) (f : Front) → IsChainRead R entries p f
     → IsChainRead S entries p f
 chain-weaker R S weaker es p f c = record {
   whole = c.whole;

@@ -182,7 +182,8 @@ asked-left xs more fly =
     filter-append not_collected xs more
     ∙ ap (λ ys. filter not_collected xs ++ ys) (filter-all not_collected more (each-weaker (λ (x : Write). x.stage ≡ in_flight) (λ x. not_collected x ≡ true) more flying-left fly))
 
-left-asked : (next : Machine) (xs more : List Write) → next.writes ≡ xs ++ more → AllByRecursion (λ (x : Write). x.stage ≡ in_flight) more
+-- the writes that are left, where some are asked behind
+pub left-asked : (next : Machine) (xs more : List Write) → next.writes ≡ xs ++ more → AllByRecursion (λ (x : Write). x.stage ≡ in_flight) more
     → uncollected next ≡ filter not_collected xs ++ more
 left-asked next xs more e fly = ap (filter not_collected) e ∙ asked-left xs more fly
 

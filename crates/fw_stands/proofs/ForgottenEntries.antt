@@ -395,21 +395,23 @@ along sys state low keep c (y ∷ ys) xs split before es parts b z = elim (cases
       (subst (AreEntriesOf sys state es) out z))
   | inl stays ↦
       let there = filter-in not_collected y ys stays in
-      subst (AllZip (GoesForgotten sys state low keep) es) (sym there) (by es parts stays (subst (AreEntriesOf sys state es) there z))
+      subst (AllZip (GoesForgotten sys state low keep) es) (sym there) (by (along sys state low keep c ys (xs ++ y ∷ []) more) es parts stays (subst (AreEntriesOf sys state es) there z))
 ]
   where
     more : state.writes ≡ (xs ++ y ∷ []) ++ ys
     more = split ∙ sym (append_assoc xs (y ∷ []) ys)
 
-    by : (es : List Entry) → keep.entries ≡ before ++ es → not_collected y ≡ true → AreEntriesOf sys state es (y ∷ filter not_collected ys)
+    by : ((before es : List Entry) → keep.entries ≡ before ++ es → AreEntriesOf sys state before (filter not_collected (xs ++ y ∷ []))
+        → AreEntriesOf sys state es (filter not_collected ys) → AllZip (GoesForgotten sys state low keep) es (filter not_collected ys))
+        → (es : List Entry) → keep.entries ≡ before ++ es → not_collected y ≡ true → AreEntriesOf sys state es (y ∷ filter not_collected ys)
         → AllZip (GoesForgotten sys state low keep) es (y ∷ filter not_collected ys)
-    by [] parts stays z = absurd z
-    by (e ∷ es) parts stays z = (
+    by rest [] parts stays z = absurd z
+    by rest (e ∷ es) parts stays z = (
       record {
         of_checkpoint = goes-here sys state low keep c xs y ys split stays before e es parts b z.0 z.1;
         of_event = given_up-here sys state low c.can xs y ys split;
       },
-      along sys state low keep c ys (xs ++ y ∷ []) more (before ++ e ∷ []) es (parts ∙ sym (append_assoc before (e ∷ []) es))
+      rest (before ++ e ∷ []) es (parts ∙ sym (append_assoc before (e ∷ []) es))
           (subst (AreEntriesOf sys state (before ++ e ∷ []))
           (sym (filter-append not_collected xs (y ∷ []) ∙ ap (λ us. filter not_collected xs ++ us) (filter-in not_collected y [] stays)))
           (zip-append (IsEntryOf sys state) before (filter not_collected xs) (e ∷ []) (y ∷ []) b (z.0, tt))) z.1,
@@ -443,7 +445,7 @@ split-of (w ∷ ws) earlier one later e = elim (cases_Bool (not_collected w)) [
   | inr gone ↦
       let rest = split-of ws earlier one later (sym (filter-out not_collected w ws gone) ∙ e) in
       record { before = w ∷ rest.before; after = rest.after; there = ap (λ xs. w ∷ xs) rest.there; left = rest.left }
-  | inl stays ↦ by earlier (sym (filter-in not_collected w ws stays) ∙ e)
+  | inl stays ↦ by (λ us one. split-of ws us one later) earlier (sym (filter-in not_collected w ws stays) ∙ e)
 ]
   where
     first-of : (x y : Write) (xs ys : List Write) → x ∷ xs ≡ y ∷ ys → x ≡ y
@@ -452,16 +454,16 @@ split-of (w ∷ ws) earlier one later e = elim (cases_Bool (not_collected w)) [
     rest-of : (x y : Write) (xs ys : List Write) → x ∷ xs ≡ y ∷ ys → xs ≡ ys
     rest-of x y xs ys k = cc
 
-    by : (earlier : List Write) → w ∷ filter not_collected ws ≡ earlier ++ one ∷ later → IsSplit (w ∷ ws) one later
-    by [] k = record {
+    by : ((us : List Write) (x : Write) → filter not_collected ws ≡ us ++ x ∷ later → IsSplit ws x later) → (earlier : List Write) → w ∷ filter not_collected ws ≡ earlier ++ one ∷ later → IsSplit (w ∷ ws) one later
+    by rest [] k = record {
       before = [];
       after = ws;
       there = ap (λ x. x ∷ ws) (first-of w one (filter not_collected ws) later k);
       left = rest-of w one (filter not_collected ws) later k;
     }
-    by (z ∷ earlier) k =
-        let rest = split-of ws earlier one later (rest-of w z (filter not_collected ws) (earlier ++ one ∷ later) k) in
-        record { before = w ∷ rest.before; after = rest.after; there = ap (λ xs. w ∷ xs) rest.there; left = rest.left }
+    by rest (z ∷ earlier) k =
+        let more = rest earlier one (rest-of w z (filter not_collected ws) (earlier ++ one ∷ later) k) in
+        record { before = w ∷ more.before; after = more.after; there = ap (λ xs. w ∷ xs) more.there; left = more.left }
 
 there-checkpoints : (p : ℕ) (xs : List Write) → AllByRecursion (IsThere p) xs → checkpoints_of p (filter not_collected xs) ≡ checkpoints_of p xs
 there-checkpoints p [] a = refl

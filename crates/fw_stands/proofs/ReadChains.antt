@@ -328,8 +328,7 @@ module _ (sys : System) (state : Machine) (R : Entry → Write → Type 0) (entr
       let here : (whole_front p f e ≡ None) × (is_open p f e ≡ false) = elim (viewed sys state p e w (entry e w z.0)) [
         | inl o ↦ (o.whole f, o.opened f)
         | inr o ↦
-            let outside = (a.0 o.front o.low o.node o.of).1 in
-            (
+            let outside = (a.0 o.front o.low o.node o.of).1 in (
               o.whole f ∙ ap (λ b. cond (w.depth == 0) (cond b (Some o.front) None) None) outside ∙ none-both (w.depth == 0),
               o.opened f ∙ ap (λ b. is_counted kept w.stage && b) outside ∙ and-false (is_counted kept w.stage),
             )
@@ -424,9 +423,9 @@ before-each sys low next h p declared n w near q v far below apart one other = �
     let up : Within (frontier_of b g) (frontier_of b k) = lies refl declared in (
       within-is b g k second.1 up,
       false_from_ne_true (is_within k g) (λ e.
-      differ refl (names-same b g k (frontier_of b k)
-      (record { canonical = first.1; same = λ t. either-way (frontier_of b g t) (frontier_of b k t) (up t) (is_within-holds b k g e t) })
-      (record { canonical = second.1; same = λ t. refl }))),
+          differ refl (names-same b g k (frontier_of b k)
+          (record { canonical = first.1; same = λ t. either-way (frontier_of b g t) (frontier_of b k t) (up t) (is_within-holds b k g e t) })
+          (record { canonical = second.1; same = λ t. refl }))),
     )
 
 pub before-pairs : (sys : System) (low : List Front) (next : ℕ) (h : List SerialEvent) (p : ℕ) → p < length sys.flow.nodes → (xs : List Write) → AreAscending sys xs → ArePairs IsApart xs

@@ -167,23 +167,6 @@ one-checkpoint sys state choice settled r es a records s p takes f is some =
       holds = subst (λ q. HoldsWithin sys state q f w.recorded w.stamps w.sent) only.is_such.0 w.holds;
     }
 
-no-front : (sys : System) (p : ℕ) (n : ℕ) (w : WrittenBy) → ((f : Front) (low : List Front) → w ≡ checkpoint f low → f ≢ no_stamps (bounds_of sys.flow n))
-    → n ≡ p → checkpoint_front w ≡ no_stamps (bounds_of sys.flow p) ∷ [] → ⊥
-no-front sys p n (checkpoint g low) h e i = h g low refl (first-is g (no_stamps (bounds_of sys.flow p)) i ∙ ap (λ q. no_stamps (bounds_of sys.flow q)) (sym e))
-no-front sys p n (logged_event s) h e i = absurd (cc i)
-
--- none is of a checkpoint of no stamps
-pub no-checkpoint : (sys : System) (state : Machine) → IsWellFormedSystem sys → IsReached sys state
-    → (entries : List Entry) → AreEntriesOf sys state entries (filter not_collected state.writes) → (p : ℕ)
-    → filter (is_checkpoint_at p (no_stamps (bounds_of sys.flow p))) entries ≡ []
-no-checkpoint sys state w reached es a p =
-    let f = no_stamps (bounds_of sys.flow p) in
-    let Has : Write → Type 0 = λ x. (g : Front) (low : List Front) → x.written ≡ checkpoint g low → g ≢ no_stamps (bounds_of sys.flow x.node) in
-    none-pass sys state p f es (filter not_collected state.writes) a
-    (each-weaker Has (λ x. IsCheckpointOf p f x → ⊥) (filter not_collected state.writes)
-    (λ x h i. no-front sys p x.node x.written h i.0 i.1)
-    (each-kept Has not_collected state.writes (checkpoints-have_stamps sys w reached.0 reached.1 state reached.2)))
-
 -- ---- the step
 
 -- a recovery of the machine recovers

@@ -226,8 +226,7 @@ have-changes : (sys : System) (state : Machine) (p : ℕ) (b : Frontier) (cs : L
 have-changes sys state p b [] g follow w = tt
 have-changes sys state p b (c ∷ cs) g follow w =
     let f = c.recorded.front in
-    let to_last = within-last sys state p cs f follow.1 in
-    (
+    let to_last = within-last sys state p cs f follow.1 in (
       follow.0.later,
       subst (λ us. IsStateSince (kind_of sys.flow p) (node_frontier sys.flow p g) us c.state) (inner-events sys state p b f (λ t i. w t (to_last t i)))
           follow.0.changes.table,

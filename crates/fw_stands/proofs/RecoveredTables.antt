@@ -269,22 +269,6 @@ within-at sys state p f =
     filter-swap (λ v. event_node sys.flow v == p) (λ v. b (event_stamp v)) (λ v. b (event_stamp v)) h
     (each-one (λ v. (event_node sys.flow v == p) ≡ true → b (event_stamp v) ≡ b (event_stamp v)) h (λ v e. refl))
 
--- a node that is cut to a checkpoint has a table that stands for all events inside of which the checkpoint's state is the one
-pub tables-from_checkpoints : (sys : System) (state : Machine) (choice : Choice) (settled : List Front) → Recovers sys state choice settled
-    → (p : ℕ) → p < length sys.flow.nodes → way_of sys.flow p ≡ Checkpoints → (f : Front) → cut_of choice p ≡ At f
-    → (low : List Front) (c : Checkpoint) → IsCheckpointFor sys state p f low c
-    → (node : Node) → ((before : List Event) → EachDelivery (λ s. node_frontier sys.flow p f s ≡ true) before
-    → AreOnEdges (in_edges sys.flow p) before → IsStateOf (kind_of sys.flow p) before c.state
-    → IsTableOf sys.flow p (node_frontier sys.flow p f) node before)
-    → IsTableIn sys (recovered_state sys state choice settled) p (Some node)
-tables-from_checkpoints sys state choice settled r p l way f is low c held node built =
-    let b = node_frontier sys.flow p f in
-    let vs = events_inside b (events_at sys.flow p (events state.history)) in
-    let a = are-inside sys state choice settled r p l b in
-    let State : List Event → Type 0 = λ us. IsStateOf (kind_of sys.flow p) us c.state in
-    tables-cut sys state choice settled r p l (inner-checkpoints sys.flow p way) f is node
-    (built vs a.inside a.on_edges (subst State (within-at sys state p f) held.table))
-
 -- ---- from logged events
 
 -- those that are left are the node's inside the cut that are not given up

@@ -31,4 +31,3 @@ pub record IsChainFor (sys : System) (state : Machine) (p : ℕ) (f : Front) (fi
   pub kept : IsKeptWithin sys state.low (checkpoint first.recorded.front low)
   pub each : EachIsNext sys state p first.recorded.front later
   pub last : last_front first.recorded.front (states_of later) ≡ f
-

@@ -76,8 +76,7 @@ changes-inner : (flow : Dataflow) (p : ℕ) (b : Frontier) (before : List Event)
     → Within (node_frontier flow p (last_front g cs)) b → HaveChanges flow p before g cs → HaveChanges flow p (events_inside b before) g cs
 changes-inner flow p b before [] g w h = tt
 changes-inner flow p b before (c ∷ cs) g w h =
-    let to_last = within-last flow p before cs c.0 h.2 in
-    (
+    let to_last = within-last flow p before cs c.0 h.2 in (
       h.0,
       subst (λ us. IsStateSince (kind_of flow p) (node_frontier flow p g) us c.1) (sym (inner (node_frontier flow p c.0) b (λ t i. w t (to_last t i)) before)) h.1,
       changes-inner flow p b before cs c.0 w h.2,

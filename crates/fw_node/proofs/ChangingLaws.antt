@@ -24,7 +24,7 @@ use Rattle.fw_node.specs.declared.table.Table.TheVariants as table
 use Rattle.fw_node.specs.Arrived.{arrived}
 use Rattle.fw_node.specs.LoopTable.{IsLoopTable}
 use Rattle.fw_node.specs.NodeTable.{IsNodeTable, epoch_cmp, epoch_coords, nest_cmp, nest_coords}
-use Rattle.fw_node.specs.Past.{Past, past_of, unsettled}
+use Rattle.fw_node.specs.Past.{past_of, unsettled}
 use Rattle.fw_node.specs.TimedTable.{IsTimedTable}
 use Rattle.fw_node.proofs.EventLaws.{all_recs, by_stamp}
 use Rattle.fw_node.proofs.ForgettingLaws.{events_inside_arrive}
@@ -93,13 +93,7 @@ written_over ins inside before totals is =
 -- ---- tables that keep nothing of what is settled
 
 module _ (flow : Dataflow) (ins : List ℕ) (inside after : Stamp → Bool) (before : List Event) (i : AreInside after (arrived ins before)) where
-  earlier : Past
-  earlier = past_of ins inside (events_inside inside before)
-
-  later : Past
-  later = past_of ins after before
-
-  none_left : unsettled earlier ≡ unsettled later
+  none_left : unsettled (past_of ins inside (events_inside inside before)) ≡ unsettled (past_of ins after before)
   none_left = none_outside inside (arrived ins (events_inside inside before)) (inside_arrived ins inside before) ∙ sym (none_outside after (arrived ins before) i)
 
   -- a table of another kind stays as it is

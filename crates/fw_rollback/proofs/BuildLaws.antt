@@ -1,5 +1,5 @@
 -- What is built, node by node and edge by edge.
-use Rattle.std.proofs.Common.{◌≡◌, ◌≢◌, ℕ, ◌+◌, ◌≤◌, ◌<◌, Bool, true, false, List, [], ◌∷◌, ◌++◌, length, set, replicate, Option, Some, None, Result, Ok, Err, sym, ap, subst, ◌∙◌, inl, inr, arith}
+use Rattle.std.proofs.Common.{◌≡◌, ◌≢◌, ℕ, ◌+◌, ◌≤◌, ◌<◌, Bool, true, false, List, [], ◌∷◌, ◌++◌, append_assoc, length, set, take, get_or, replicate, Option, Some, None, Result, Ok, Err, sym, ap, subst, ◌∙◌, inl, inr, arith}
 use Rattle.std.specs.Prelude.{slice_get, IsSomeAnd, IfOk, OnOk}
 use Rattle.std.proofs.lemmas.Option.{get_or_from_slice_get, slice_get-get_or}
 use Rattle.std.proofs.lemmas.Bool.{cases_lt, cases_eq}
@@ -12,7 +12,8 @@ use Rattle.fw_flow.specs.declared.restoring.Restoring.{Restoring}
 use Rattle.fw_flow.specs.declared.restoring.Restoring.TheVariants.{Batches, Bound, Anything, Checkpoints, Events}
 use Rattle.std.specs.List.{AllByRecursion, Contains}
 use Rattle.std.proofs.lemmas.Bool.{and_parts}
-use Rattle.std.proofs.lemmas.List.{append-nil}
+use Rattle.std.proofs.lemmas.Grind.{flat_map-append}
+use Rattle.std.proofs.lemmas.List.{append-nil, map-append, take_more}
 use Rattle.fw_lemmas.proofs.Each.{each-weaker}
 use Rattle.fw_time.specs.Stamp.{Stamp, in_domain}
 use Rattle.fw_flow.specs.declared.event.Event.{Event}
@@ -41,7 +42,7 @@ use Rattle.fw_node.specs.declared.node.Node.{Node}
 use Rattle.fw_rollback.specs.Asked.{front_at, first_checkpoint, given_of, events_of, CanServe}
 use Rattle.fw_rollback.specs.Built.{by_cut, AreNodesBuilt, AreQueuesBuilt, log_after}
 use Rattle.fw_rollback.specs.Edges.{on_edge, nothing_there, IsOnEdge}
-use Rattle.fw_keep.specs.Chains.{changes_of, logged_in_all, states_of}
+use Rattle.fw_keep.specs.Chains.{changes_in, changes_of, logged_in_all, states_of}
 use Rattle.fw_record.specs.Log.{logged_on}
 use Rattle.fw_frontier.specs.declared.state.State.{State}
 use Rattle.fw_model.specs.Filtering.{events_inside}
@@ -245,6 +246,12 @@ logged-apart flow p ls a e n =
     each-weaker (λ (l : Logged). Contains (out_edges flow p) l.edge) (λ (l : Logged). l.edge ≢ e) ls
     (λ l k s. n (ap (sender flow) (sym s) ∙ each-contained (λ d. sender flow d ≡ p) l.edge (out_edges flow p) k (out_edges-from (λ d. sender flow d ≡ p) flow p (λ d i r. r)))) a
 
+-- those of the first record, where it is a checkpoint
+pub first-apart : (flow : Dataflow) (p : ℕ) (rs : List Record) (c : Checkpoint) (ls : List Logged) → Some c ≡ first_checkpoint rs → AllByRecursion (CanServe flow p) rs
+    → ls ≡ c.log → (e : ℕ) → sender flow e ≢ p → AllByRecursion (λ (l : Logged). l.edge ≢ e) ls
+first-apart flow p rs c ls e a same d n =
+    subst (λ (xs : List Logged). AllByRecursion (λ (l : Logged). l.edge ≢ d) xs) (sym same) (logged-apart flow p c.log (first-serves flow p rs c e a) d n)
+
 -- a node that is restored from a checkpoint and takes in the changes since, with its logs
 pub restored-chain : (flow : Dataflow) (low : List Front) (p : ℕ) (rs : List Record) (c : Checkpoint) (first last : Node) (old mid new : List MessagesState)
     → Some c ≡ first_checkpoint rs → HasLogs flow p old (λ e. nothing_there)
@@ -264,12 +271,14 @@ restored-chain flow low p rs c first last old mid new e empty table of_node logs
     )
 
 -- a node that takes in the changes of one record
-pub one-taken : (flow : Dataflow) (p : ℕ) (f : Front) (state : State) (done : List (Front × State)) (c : Checkpoint) (node next : Node) → IsOfChain flow p f state done node
+pub one-taken : {T E : Type 0} (flow : Dataflow) (p : ℕ) (f : Front) (state : State) (done : List (Front × State)) (c : Checkpoint) (node next : Node) (r : Result T E)
+    → IsOfChain flow p f state done node
     → ((settled after : Stamp → Bool) (before : List Event) → EachDelivery (λ s. (after s ≡ true) × (in_domain (bounds_of flow p) s ≡ true)) before
     → AreOnEdges (in_edges flow p) before → IsTableOf flow p settled node (events_inside settled before) → IsStateSince (kind_of flow p) settled before c.state
-    → IsTableOf flow p after next before)
-    → IsOfChain flow p f state (done ++ states_of (c ∷ [])) next
-one-taken flow p f state done c node next stands takes = chain-more flow p f state done (c.recorded.front, c.state) node next stands takes
+    → OnOk r (IsTableOf flow p after next before))
+    → OnOk r (IsOfChain flow p f state (done ++ states_of (c ∷ [])) next)
+one-taken flow p f state done c node next (Err x) stands takes = tt
+one-taken flow p f state done c node next (Ok x) stands takes = chain-more flow p f state done (c.recorded.front, c.state) node next stands takes
 
 -- its messages behind those that the log has
 pub one-logged : (flow : Dataflow) (low : List Front) (e : ℕ) (c : Checkpoint) (ms : List Message) (log : MessagesState) → log ≡ log_of flow low e (logged_on e c.log ++ ms)
@@ -285,6 +294,39 @@ one-logged flow low e c ms log is =
   where
     plus-swap : (a b : ℕ) → a + b ≡ b + a
     plus-swap a b = omega arith
+
+-- ---- one record more of those that a node takes in
+
+changes-more : (rs : List Record) (i : ℕ) (r : Record) → i < length rs → r ≡ get_or rs i r → changes_of (take (i + 1) rs) ≡ changes_of (take i rs) ++ changes_in r
+changes-more rs i r l at =
+    ap changes_of (take_more rs i r l) ∙ flat_map-append changes_in (take i rs) (get_or rs i r ∷ [])
+    ∙ ap (λ xs. changes_of (take i rs) ++ xs) (append-nil (changes_in (get_or rs i r)) ∙ ap changes_in (sym at))
+
+-- the node stands for a chain that is longer by what the record holds
+pub taken-more : (flow : Dataflow) (p : ℕ) (rs : List Record) (i : ℕ) (r : Record) (first now next : Node) → i < length rs → r ≡ get_or rs i r
+    → ((f : Front) (state : State) → IsOfChain flow p f state [] first → IsOfChain flow p f state (states_of (changes_of (take i rs))) now)
+    → ((f : Front) (state : State) (done : List (Front × State)) → IsOfChain flow p f state done now → IsOfChain flow p f state (done ++ states_of (changes_in r)) next)
+    → (f : Front) (state : State) → IsOfChain flow p f state [] first → IsOfChain flow p f state (states_of (changes_of (take (i + 1) rs))) next
+taken-more flow p rs i r first now next l at before one f state h =
+    let front_and_state : Checkpoint → Front × State = λ c. (c.recorded.front, c.state) in
+    let all : states_of (changes_of (take (i + 1) rs)) ≡ states_of (changes_of (take i rs)) ++ states_of (changes_in r) =
+    ap states_of (changes-more rs i r l at) ∙ map-append front_and_state (changes_of (take i rs)) (changes_in r) in
+    subst (λ cs. IsOfChain flow p f state cs next) (sym all) (one f state (states_of (changes_of (take i rs))) (before f state h))
+
+-- and so do the logs hold its messages
+pub logged-more : (flow : Dataflow) (low : List Front) (rs : List Record) (i : ℕ) (r : Record) (first now next : List MessagesState) → i < length rs → r ≡ get_or rs i r
+    → ((e : ℕ) (ms : List Message) → on_edge first e ≡ log_of flow low e ms → on_edge now e ≡ log_of flow low e (ms ++ logged_in_all e (changes_of (take i rs))))
+    → ((e : ℕ) (ms : List Message) → on_edge now e ≡ log_of flow low e ms → on_edge next e ≡ log_of flow low e (ms ++ logged_in_all e (changes_in r)))
+    → (e : ℕ) (ms : List Message) → on_edge first e ≡ log_of flow low e ms → on_edge next e ≡ log_of flow low e (ms ++ logged_in_all e (changes_of (take (i + 1) rs)))
+logged-more flow low rs i r first now next l at before one e ms h =
+    let earlier = logged_in_all e (changes_of (take i rs)) in
+    let log : Checkpoint → List Message = λ c. logged_on e c.log in
+    let all : logged_in_all e (changes_of (take (i + 1) rs)) ≡ earlier ++ logged_in_all e (changes_in r) =
+    ap (logged_in_all e) (changes-more rs i r l at) ∙ flat_map-append log (changes_of (take i rs)) (changes_in r) in
+    one e (ms ++ earlier) (before e ms h)
+    ∙ ap (log_of flow low e) (append_assoc ms earlier (logged_in_all e (changes_in r)) ∙ ap (λ (xs : List Message). ms ++ xs) (sym all))
+
+-- ---- no checkpoint
 
 -- a node without a checkpoint
 pub restored-none : {E : Type 0} (flow : Dataflow) (low : List Front) (p : ℕ) (rs : List Record) (later : List Checkpoint) (r : Result Node E) (logs : List MessagesState)

@@ -28,7 +28,7 @@ use Rattle.fw_keep.specs.declared.fault.KeepFault.{KeepFault}
 use Rattle.fw_keep.specs.declared.fault.KeepFault.TheVariants as fault
 use Rattle.fw_record.specs.Event.{stamp_of_event}
 use Rattle.fw_keep.specs.Entry.{IsRecordOfEntry}
-use Rattle.fw_keep.specs.Newest.{is_written_between, whole_within}
+use Rattle.fw_keep.specs.Newest.{is_written_between, whole_front, whole_within}
 use Rattle.fw_keep.specs.Stored.{Records, SpellsNone}
 use Rattle.fw_record.specs.Event.{event_of}
 
@@ -40,6 +40,10 @@ front_at (At f) = Some f
 -- the front of the newest whole checkpoint of node p within its cut, if it is cut and has one
 abbrev pub whole_in_cut : Choice → List Entry → ℕ → Option Front
 whole_in_cut choice entries p = option_and_then (λ f. whole_within p f entries) (front_at (cut_of choice p))
+
+-- the front of the entry, if node p is cut and the entry is a whole checkpoint of it within its cut
+abbrev pub whole_front_in_cut : Choice → ℕ → Entry → Option Front
+whole_front_in_cut choice p e = option_and_then (λ f. whole_front p f e) (front_at (cut_of choice p))
 
 -- these are those of each node
 abbrev pub AreWholes : Choice → List Entry → List (Option Front) → Type 0

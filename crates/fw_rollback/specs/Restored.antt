@@ -1,6 +1,6 @@
 -- What an engine keeps after a recovery, of what it kept before, of the choice, and of the records that were fetched. It
 -- speaks of no history.
-use Rattle.std.specs.Prelude.{◌≡◌, ℕ, ◌<◌, Bool, true, false, List, [], length, Option, Some, None, IfSome, IsSomeAnd}
+use Rattle.std.specs.Prelude.{◌≡◌, ℕ, ◌<◌, Bool, true, false, List, [], ◌∷◌, length, Option, Some, None, IfSome, IsSomeAnd}
 use Rattle.std.specs.List.{AllByRecursion}
 use Rattle.fw_time.specs.Stamp.{Stamp, in_domain}
 use Rattle.fw_bag.specs.declared.rec.Rec.{Rec}

@@ -1,16 +1,16 @@
 //! Which writes the cuts of a choice ask for.
-ghost use Rattle.std.specs.Prelude.{◌≡◌, List, None, IfOk, slice_index_or};
+ghost use Rattle.std.specs.Prelude.{◌≡◌, List, Some, None, IfOk, replicate, slice_index_or, slice_set};
 ghost use Rattle.std.specs.Option.{option_copied};
 ghost use Rattle.fw_flow.specs.Dataflow.{node_frontier};
 ghost use Rattle.fw_flow.specs.Restoring as restoring;
 ghost use Rattle.fw_model.specs.Choice.{cut_of};
 ghost use Rattle.fw_rollback.specs.Asked as spec;
 ghost use Rattle.fw_keep.specs.declared.entry.Entry.{Entry as Write};
-ghost use Rattle.fw_rollback.specs.Asked.{front_at, AreWholes};
+ghost use Rattle.fw_rollback.specs.Asked.{front_at, whole_front_in_cut, AreWholes};
 
 use fw_flow::{Choice, Cut, Flow, NodeId, Restoring};
 use fw_frontier::Front;
-use fw_keep::{Entry, Written, whole_within};
+use fw_keep::{Entry, Written};
 use fw_time::Stamp;
 use std::alloc::{AllocError, Global};
 use std::marker::Model;
@@ -41,8 +41,7 @@ impl Model for Wholes {
 }
 
 impl Wholes {
-    /// Those among these entries, of each node that has a cut. It takes time in proportion to the entries of each that come after
-    /// its own. The only error is want of memory.
+    /// Those among these entries, by one pass over them. The only error is want of memory.
     pub(crate) fn among(
         alloc: Global,
         choice: &Choice,
@@ -50,12 +49,33 @@ impl Wholes {
     ) -> Result<Self, AllocError>
         ensures { IfOk result (AreWholes choice.now entries.now) }
     {
-        let cuts = choice.cuts.as_slice().len();
-        let mut fronts = Vec::with_capacity(alloc, cuts)?;
-        for place in 0..cuts {
-            fronts.push(whole_in_cut(choice, entries, NodeId::at(place as u32))?)?;
+        let mut wholes = Wholes::none(alloc, choice.cuts.as_slice().len())?;
+        for entry in entries {
+            if let Some(front) = whole_front(choice, entry) {
+                wholes.set(entry.node, front.copy()?);
+            }
+        }
+        Ok(wholes)
+    }
+
+    /// None, of so many nodes.
+    fn none(alloc: Global, nodes: usize) -> Result<Self, AllocError>
+        ensures { IfOk result (λ wholes. wholes ≡ replicate nodes None) }
+    {
+        let mut fronts = Vec::with_capacity(alloc, nodes)?;
+        for _place in 0..nodes {
+            fronts.push(None)?;
         }
         Ok(Wholes { fronts })
+    }
+
+    /// Puts a front in place of that of a node; past the last node it does nothing.
+    fn set(&mut self, node: NodeId, front: Front)
+        ensures { self.new ≡ slice_set self.old node (Some front) }
+    {
+        if let Some(place) = self.fronts.get_mut(node.place() as usize) {
+            *place = Some(front);
+        }
     }
 
     /// That of a node, if it has one.
@@ -66,20 +86,15 @@ impl Wholes {
     }
 }
 
-/// The front of a node's newest whole checkpoint within its cut, if it is cut and has one.
-fn whole_in_cut(
-    choice: &Choice,
-    entries: &[Entry],
-    node: NodeId,
-) -> Result<Option<Front>, AllocError>
-    ensures { IfOk result (λ whole. whole ≡ spec.whole_in_cut choice.now entries.now node) }
+/// The front of the entry, if it is a whole checkpoint within the cut of its node.
+fn whole_front<'a>(choice: &Choice, entry: &'a Entry) -> Option<&'a Front>
+    ensures { option_copied result ≡ whole_front_in_cut choice.now entry.now.node entry.now }
 {
-    match front_of(choice, node) {
-        Some(front) => match whole_within(entries, node, front) {
-            Some(whole) => Ok(Some(whole.copy()?)),
-            None => Ok(None),
-        },
-        None => Ok(None),
+    let front = front_of(choice, entry.node)?;
+    match &entry.written {
+        Written::Checkpoint { recorded, .. } if entry.depth == 0 && recorded.front.subset(front) =>
+            { Some(&recorded.front) }
+        _ => None,
     }
 }
 
@@ -106,10 +121,13 @@ fn is_needed(
     front: &Front,
     written: &Written,
 ) -> bool
-    ensures { result ≡ spec.is_needed flow.now (option_copied whole) node front.now (restoring.way_of flow.now node) written.now }
+    ensures { result ≡ spec.is_needed flow.now (option_copied whole.entry) node front.now (restoring.way_of flow.now node) written.now }
 {
     match flow.restoring(node) {
-        Restoring::Checkpoints => whole.is_some_and(|whole| written.lies_between(whole, front)),
+        Restoring::Checkpoints => match whole {
+            Some(whole) => written.lies_between(whole, front),
+            None => false,
+        },
         Restoring::Events => match written {
             Written::Event(event) => is_inside(flow, node, front, event.at()),
             Written::Checkpoint { .. } => false,

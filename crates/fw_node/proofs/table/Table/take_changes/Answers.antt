@@ -1,4 +1,4 @@
-use Rattle.std.proofs.Common.{◌≡◌, ◌||◌, ◌≤◌, ◌^◌, ℕ, List, Bool, length, OnOk, sym, ap, ◌∙◌, subst}
+use Rattle.std.proofs.Common.{◌≡◌, ◌||◌, ◌≤◌, ◌^◌, ℕ, List, Bool, length, OnOk, refl, sym, ap, ◌∙◌, subst}
 use Rattle.std.proofs.lemmas.Result.{on_ok_weaker}
 use Rattle.fw_bag.specs.Arrivals.{Arrival}
 use Rattle.fw_flow.specs.NodeFunction.{sequence_sent}

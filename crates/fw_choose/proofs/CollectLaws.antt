@@ -31,7 +31,7 @@ use Rattle.fw_frontier.proofs.SameLaws.{same_front-is, same_front-itself}
 use Rattle.fw_keep.specs.declared.entry.Entry.{Entry}
 use Rattle.fw_keep.specs.declared.fault.KeepFault.{KeepFault}
 use Rattle.fw_keep.specs.declared.fault.KeepFault.TheVariants as keep_fault
-use Rattle.fw_keep.specs.Catalogue.{KeepState}
+use Rattle.fw_keep.specs.Catalogue.{KeepState, IsCatalogue}
 use Rattle.fw_keep.specs.Stored as stored
 use Rattle.fw_keep.specs.Stored.{Records, KeepsBytes, Sweeps, without_ids}
 use Rattle.fw_model.proofs.FloorLaws.{low-floor, watermark-holds}
@@ -47,11 +47,12 @@ use Rattle.fw_progress.proofs.CutTraceLaws.{thinned-traces}
 use Rattle.fw_rollback.specs.declared.parts.Parts.{Parts}
 use Rattle.fw_rollback.specs.Edges.{IsOnEdge, on_edge, nothing_there}
 use Rattle.fw_stands.specs.Collecting.{collected_state}
+use Rattle.fw_stands.specs.Entries.{AreBasesOf}
 use Rattle.fw_stands.specs.Settling.{AreSettledAt}
 use Rattle.fw_stands.specs.Parts.{IsSourceOf}
 use Rattle.fw_stands.specs.Written.{AreEntriesOf, AreStored, uncollected}
 use Rattle.fw_stands.proofs.CollectingLaws.{same_low-idle, other_low-collected, low-rises, collected_logs-stand, collected_sources-stand, all_collected_traces-stand, collection-keeps}
-use Rattle.fw_stands.proofs.EntryCollections.{entries_after_collection, records_after_collection}
+use Rattle.fw_stands.proofs.EntryCollections.{bases_after_collection, entries_after_collection, records_after_collection}
 use Rattle.fw_stands.proofs.EntrySteps.{kept_bytes_are_stored}
 use Rattle.fw_stands.proofs.SettlingLaws.{none-settled_yet, one_more-settled, same_nodes-settled}
 use Rattle.fw_stands.proofs.AtReached.{reached-next}
@@ -189,7 +190,7 @@ given old between low = record old { keep = between.keep; logs = between.logs; s
 abbrev pub after_collect : Running → Parts → List Front → Traces → Running
 after_collect old between low traces = record old { parts = given old.parts between low; traces = traces }
 
-entries-left : (drops : Drops) (old new : KeepState) → Forgets (is_dropped drops) old new → new.entries ≡ filter (λ e. not (is_dropped drops e)) old.entries
+entries-left : (drops : Drops) (old new : KeepState) → Forgets (is_dropped drops old) old new → new.entries ≡ filter (λ e. not (is_dropped drops old e)) old.entries
 entries-left drops old new f = ap (λ (keep : KeepState). keep.entries) f.left
 
 after-shaped : (old : Running) (between : Parts) (low : List Front) (traces : Traces) (drops : Drops) → AreGivenUp drops old.parts between
@@ -215,7 +216,7 @@ after-shaped old between low traces drops g t each canonical s =
       logs = λ e. subst (λ (log : MessagesState). AllByRecursion (IsOnEdge flow e) log.messages) (sym (g.logs.logs e))
           (left-messages drops.messages.items e (on_edge old.parts.logs e) (IsOnEdge flow e) (s.logs e));
       entries = subst (λ es. AllByRecursion (λ (entry : Entry). IsWrittenOf flow entry.node entry.written) es) (sym (entries-left drops old.parts.keep between.keep g.entries))
-          (each-kept (λ (entry : Entry). IsWrittenOf flow entry.node entry.written) (λ e. not (is_dropped drops e)) old.parts.keep.entries s.entries);
+          (each-kept (λ (entry : Entry). IsWrittenOf flow entry.node entry.written) (λ e. not (is_dropped drops old.parts.keep e)) old.parts.keep.entries s.entries);
       live = s.live;
       traced = t.live;
       ready = record {
@@ -255,10 +256,10 @@ source-stands sys w state low rises entries drops planned p l source s = elim (c
 ]
 
 after-stands : (sys : System) (state : Machine) (old : Running) (records : Option Records) (between : Parts) (choice : Choice) (traces : Traces) (drops : Drops)
-    → IsPlanned old.flow (watermark choice) old.parts.keep.entries drops → AreGivenUp drops old.parts between
+    → IsCatalogue old.parts.keep → IsPlanned old.flow (watermark choice) old.parts.keep.entries drops → AreGivenUp drops old.parts between
     → AreRaised old.flow (length old.flow.nodes) (watermark choice) old.traces traces → IsWatermark sys state choice → watermark choice ≢ state.low → Stands sys old records state
     → Stands sys (after_collect old between (watermark choice) traces) records (collected_state sys state (watermark choice))
-after-stands sys state old records between choice traces drops planned0 g t0 is differ s =
+after-stands sys state old records between choice traces drops catalogue planned0 g t0 is differ s =
     let low = watermark choice in
     let next = collected_state sys state low in
     let leads : LeadsTo sys state Collect next (lows choice) = other_low-collected sys state choice is differ in
@@ -286,9 +287,11 @@ after-stands sys state old records between choice traces drops planned0 g t0 is 
             (source-stands sys s.apart.well_formed state low rises entries drops planned p l (source_of old p) (s.apart.sources p l));
         progress = s.apart.progress;
         entries = subst (λ es. AreEntriesOf sys next es (uncollected next)) (sym left)
-            (entries_after_collection sys s.apart.well_formed state s.apart.reached next (lows choice) leads entries s.apart.entries drops planned);
+            (entries_after_collection sys s.apart.well_formed state s.apart.reached next (lows choice) leads old.parts.keep catalogue s.apart.entries drops planned);
+        bases = subst (λ es. AreBasesOf es es (uncollected next)) (sym left)
+            (bases_after_collection sys s.apart.well_formed state s.apart.reached next (lows choice) leads old.parts.keep catalogue s.apart.entries s.apart.bases drops planned);
         stored = subst (λ es. AreStored sys next records es (uncollected next)) (sym left)
-            (records_after_collection sys s.apart.well_formed state s.apart.reached next (lows choice) leads entries s.apart.entries records s.apart.stored drops planned);
+            (records_after_collection sys s.apart.well_formed state s.apart.reached next (lows choice) leads old.parts.keep catalogue s.apart.entries records s.apart.stored drops planned);
       };
       traces = record {
         floor = low;
@@ -314,7 +317,7 @@ pub collected-stands : (sys : System) (state : Machine) (records : Option Record
     → IsWatermark sys state choice → watermark choice ≢ old.parts.low → Stands sys old records state → Stands sys new records (collected_state sys state (watermark choice))
 collected-stands sys state records choice old new c is differ s =
     subst (λ (r : Running). Stands sys r records (collected_state sys state (watermark choice))) (sym (new-is choice old new c))
-    (after-stands sys state old records c.between choice new.traces c.drops c.planned c.given_up c.traces is (λ e. differ (e ∙ sym s.apart.low)) s)
+    (after-stands sys state old records c.between choice new.traces c.drops c.catalogue c.planned c.given_up c.traces is (λ e. differ (e ∙ sym s.apart.low)) s)
 
 -- a sweep leaves the entries, and their bytes
 pub swept-stands : (sys : System) (state : Machine) (old : Running) (keep : KeepState) (before after : Option Records) → keep.entries ≡ old.parts.keep.entries

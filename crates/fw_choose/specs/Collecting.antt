@@ -2,6 +2,7 @@
 use Rattle.std.specs.Prelude.{◌≡◌, ℕ, Bool, true, false, not, ◌&&◌, nat_lt, List, length}
 use Rattle.fw_border.specs.Sources.{source_at}
 use Rattle.fw_collect.specs.declared.drops.Drops.{Drops}
+use Rattle.fw_keep.specs.Catalogue.{IsCatalogue}
 use Rattle.fw_collect.specs.Drops.{IsPlanned}
 use Rattle.fw_collect.specs.Dropped.{Forgets, is_dropped, log_left, source_left}
 use Rattle.fw_edge.specs.Messages.{MessagesState}
@@ -24,7 +25,7 @@ pub record AreLeft (fronts : List OfEdge) (old new : List MessagesState) : Type 
 -- What is to be given up is gone from the catalogue, the logs and the inputs, and the rest of the parts is as it was.
 pub record AreGivenUp (drops : Drops) (old new : Parts) : Type 0 where
   pub rest : new ≡ record old { keep = new.keep; logs = new.logs; sources = new.sources }
-  pub entries : Forgets (is_dropped drops) old.keep new.keep
+  pub entries : Forgets (is_dropped drops old.keep) old.keep new.keep
   pub logs : AreLeft drops.messages.items old.logs new.logs
   pub sources_each : length new.sources ≡ length old.sources
   pub sources : (s : ℕ) → source_at new.sources s ≡ source_left drops.batches.items s (source_at old.sources s)
@@ -51,6 +52,7 @@ pub record AreRaised (flow : Dataflow) (count : ℕ) (low : List Front) (old new
 pub record RaisesLow (low : List Front) (old new : Running) : Type 0 where
   pub rest : new ≡ record old { parts = new.parts; traces = new.traces }
   pub drops : Drops
+  pub catalogue : IsCatalogue old.parts.keep
   pub planned : IsPlanned old.flow low old.parts.keep.entries drops
   pub between : Parts
   pub given_up : AreGivenUp drops old.parts between

@@ -1,23 +1,29 @@
 -- What the loops of a collection leave.
-use Rattle.std.proofs.Common.{◌≡◌, ℕ, ◌+◌, ◌-◌, ◌<◌, Bool, true, false, not, ◌&&◌, ◌||◌, ◌==◌, cond, List, [], ◌∷◌, length, take, get_or, set, length-set, Option, refl, sym, ap, ◌∙◌, inl, inr, arith}
-use Rattle.std.proofs.lemmas.Bool.{cases_Bool, cases_lt, cases_eq, eq-eqb, ne_eqb, cond-true, cond-false, not_from_true, not_from_false, or_left, or_right, or_from}
+use Rattle.std.proofs.Common.{◌≡◌, ℕ, zero, suc, ◌+◌, ◌-◌, ◌<◌, nat_lt, Bool, true, false, not, ◌&&◌, ◌||◌, ◌==◌, cond, List, [], ◌∷◌, length, map, take, get_or, set, length-set, Option, refl, sym, ap, ◌∙◌, inl, inr, arith}
+use Rattle.std.proofs.lemmas.Bool.{cases_Bool, cases_lt, cases_eq, eq-eqb, eqb-true, ne_eqb, true≢false, false_from_ne_true, cond-true, cond-false, not_from_true, not_from_false, or_left, or_right, or_from}
 use Rattle.std.proofs.lemmas.List.{get_or-set_same, get_or-set_other, get_or_past}
 use Rattle.std.proofs.lemmas.List.Folds.{list_any-append, list_any_more}
-use Rattle.std.specs.List.{filter, list_any}
+use Rattle.std.specs.List.{AllByRecursion, filter, list_any}
 use Rattle.std.proofs.Math.Bool.{or-false}
 use Rattle.fw_lemmas.proofs.Bools.{or_swap}
 use Rattle.fw_lemmas.proofs.Filters.{filter-in, filter-out}
 use Rattle.fw_keep.specs.declared.entry.Entry.{Entry}
 use Rattle.fw_keep.specs.Catalogue.{KeepState, is_id_among, has_entry, ids_of, without}
+use Rattle.fw_keep.specs.Entry.{is_checkpoint, is_checkpoint_below, is_entry_below}
+use Rattle.fw_keep.specs.Newest.{is_checkpoint_of, is_forgotten_below, stay_from, whole_or}
 use Rattle.fw_keep.specs.Stored.{Records, IsStored}
 use Rattle.fw_bag.specs.declared.rec.Rec.{Rec}
-use Rattle.fw_frontier.specs.Front.{inside}
+use Rattle.fw_frontier.specs.Front.{Front, inside}
 use Rattle.fw_flow.specs.declared.choice.OfEdge.{OfEdge}
 use Rattle.fw_flow.specs.declared.event.Message.{Message}
 use Rattle.fw_edge.specs.Messages.{MessagesState}
 use Rattle.fw_border.specs.Sources.{SourceState, unused_source, source_at, with_source, given_up}
 use Rattle.fw_collect.specs.declared.drops.OfNode.{OfNode}
-use Rattle.fw_collect.specs.Dropped.{Forgets, log_at_place, log_outside, with_log_outside, log_left, is_inside_edge, is_inside_node, source_left}
+use Rattle.fw_collect.specs.Dropped.{AreOfDifferentNodes, Forgets, is_below_some, log_at_place, log_outside, with_log_outside, log_left, is_inside_edge, is_inside_node, source_left}
+
+or_none : (a b : Bool) → (a || b) ≡ false → (a ≡ false) × (b ≡ false)
+or_none true b h = absurd (true≢false h)
+or_none false b h = (refl, h)
 
 -- ---- filters
 
@@ -129,6 +135,71 @@ pub forgets_more : {D : Type 0} (goes : D → Entry → Bool) (ds : List D) (i :
 forgets_more goes ds i d first now next l so_far is stored =
     forgets_then (λ e. list_any (λ x. goes x e) (take i ds)) (goes (get_or ds i d)) (λ e. list_any (λ x. goes x e) (take (i + 1) ds)) first now next
     (λ e. list_any_more (λ x. goes x e) ds i d l) so_far (forgets-one (goes (get_or ds i d)) now next is stored)
+
+-- ---- checkpoints
+
+stay-passed : (p : ℕ) (f : Front) (whole last : ℕ) (e : Entry) (es : List Entry) → (e.node == p) ≡ false → stay_from p f whole last (e ∷ es) ≡ stay_from p f whole last es
+stay-passed p f whole last e es apart =
+    ap (λ b. cond (not (b && is_checkpoint e.written)) (stay_from p f whole last es) (cond (is_checkpoint_below f e.written) (stay_from p f (whole_or whole e) last es) (whole_or whole e))) apart
+
+-- from which id on a node's checkpoints stay does not change where entries of other nodes go
+stay-kept : (p : ℕ) (f : Front) (whole last : ℕ) (goes : Entry → Bool) → ((e : Entry) → (e.node == p) ≡ true → goes e ≡ false) → (es : List Entry)
+    → stay_from p f whole last (filter (λ e. not (goes e)) es) ≡ stay_from p f whole last es
+stay-kept p f whole last goes stays [] = refl
+stay-kept p f whole last goes stays (e ∷ es) =
+    let keeps : Entry → Bool = λ x. not (goes x) in
+    let kept : List Entry = filter keeps es in
+    let rest = stay-kept p f whole last goes stays es in
+    let here = whole_or whole e in
+    let below = is_checkpoint_below f e.written in
+    let other = not (is_checkpoint_of p e) in
+    elim (cases_Bool (goes e)) [
+      | inl g ↦ ap (stay_from p f whole last) (filter-out keeps e es (not_from_true (goes e) g)) ∙ rest
+          ∙ sym (stay-passed p f whole last e es (false_from_ne_true (e.node == p) (λ k. true≢false (sym g ∙ stays e k))))
+      | inr g ↦ ap (stay_from p f whole last) (filter-in keeps e es (not_from_false (goes e) g))
+          ∙ ap (λ n. cond other n (cond below (stay_from p f here last kept) here)) rest
+          ∙ ap (λ n. cond other (stay_from p f whole last es) (cond below n here)) (stay-kept p f here last goes stays es)
+    ]
+
+-- of entries of another node none goes
+none-below : (p : ℕ) (keep : KeepState) (e : Entry) (records : List OfNode) → AllByRecursion (λ (d : OfNode). (p == d.node) ≡ false) records → (e.node == p) ≡ true
+    → is_below_some records keep e ≡ false
+none-below p keep e [] apart own = refl
+none-below p keep e (d ∷ ds) apart own =
+    ap (λ b. ((b && is_checkpoint_below d.front e.written) && nat_lt e.id (stay_from d.node d.front 0 keep.next keep.entries)) || is_below_some ds keep e)
+    (ap (λ n. n == d.node) (eqb-true e.node p own) ∙ apart.0)
+    ∙ none-below p keep e ds apart.1 own
+
+not-among : (p : ℕ) (ds : List OfNode) (i : ℕ) (d : OfNode) → i < length ds → is_id_among p (map (λ (x : OfNode). x.node) ds) ≡ false → ((get_or ds i d).node == p) ≡ false
+not-among p [] i d l none = absurd (omega arith)
+not-among p (x ∷ xs) zero d l none = (or_none (x.node == p) (is_id_among p (map (λ (y : OfNode). y.node) xs)) none).0
+not-among p (x ∷ xs) (suc i) d l none = not-among p xs i d (omega arith) (or_none (x.node == p) (is_id_among p (map (λ (y : OfNode). y.node) xs)) none).1
+
+-- where the nodes are different each is none of those before it
+others-before : (ds : List OfNode) (i : ℕ) (d : OfNode) → i < length ds → AreOfDifferentNodes ds → AllByRecursion (λ (x : OfNode). ((get_or ds i d).node == x.node) ≡ false) (take i ds)
+others-before [] i d l once = absurd (omega arith)
+others-before (x ∷ xs) zero d l once = tt
+others-before (x ∷ xs) (suc i) d l once = (not-among x.node xs i d (omega arith) once.0, others-before xs i d (omega arith) once.1)
+
+-- one call more of those that take checkpoints out
+pub forgets_below_more : (records : List OfNode) (i : ℕ) (d : OfNode) (first now next : KeepState) → i < length records → AreOfDifferentNodes records
+    → Forgets (is_below_some (take i records) first) first now
+    → next ≡ without (is_forgotten_below (get_or records i d).node (get_or records i d).front now) now
+    → ((all : Option Records) → IsStored now all → IsStored next all)
+    → Forgets (is_below_some (take (i + 1) records) first) first next
+forgets_below_more records i d first now next l once so_far is stored =
+    let one : OfNode = get_or records i d in
+    let goes : Entry → Bool = is_below_some (take i records) first in
+    let before = others-before records i d l once in
+    let same : (e : Entry) → is_forgotten_below one.node one.front now e ≡ is_forgotten_below one.node one.front first e = λ e.
+    ap (λ (k : KeepState). is_forgotten_below one.node one.front k e) so_far.left
+    ∙ ap (λ n. is_entry_below one.node one.front e && nat_lt e.id n)
+    (stay-kept one.node one.front 0 first.next goes (λ x own. none-below one.node first x (take i records) before own) first.entries) in
+    forgets_then goes (is_forgotten_below one.node one.front now) (is_below_some (take (i + 1) records) first) first now next
+    (λ e. list_any_more (λ (x : OfNode). is_forgotten_below x.node x.front first e) records i d l ∙ ap (λ b. goes e || b) (sym (same e)))
+    so_far (forgets-one (is_forgotten_below one.node one.front now) now next is stored)
+
+-- ---- events
 
 -- one more of a list that is the one before it
 pub forgets_again : {D : Type 0} (goes : D → Entry → Bool) (ds : List D) (i : ℕ) (d : D) (first now : KeepState) → i < length ds

@@ -1,12 +1,12 @@
 -- What is planned and given up is what the machine's collection takes.
-use Rattle.std.proofs.Common.{◌≡◌, ℕ, zero, suc, ◌+◌, ◌<◌, ◌≤◌, Bool, true, false, not, ◌&&◌, ◌||◌, ◌==◌, cond, List, [], ◌∷◌, ◌++◌, length, map, refl, sym, ap, ◌∙◌, subst, inl, inr, arith}
-use Rattle.std.proofs.lemmas.Bool.{cases_Bool, cases_lt, cases_eq, and_from, eq-eqb, eqb-true, and_parts, or_cases, or_right, or_left, true≢false, false_from_ne_true, not_from_true, not_from_false, not-true}
+use Rattle.std.proofs.Common.{◌≡◌, ℕ, zero, suc, ◌+◌, ◌<◌, ◌≤◌, nat_lt, Bool, true, false, not, ◌&&◌, ◌||◌, ◌==◌, cond, List, [], ◌∷◌, ◌++◌, length, map, refl, sym, ap, ◌∙◌, subst, inl, inr, arith}
+use Rattle.std.proofs.lemmas.Bool.{cases_Bool, cond_both, ne_eqb, cases_lt, cases_eq, and_from, eq-eqb, eqb-true, and_parts, or_cases, or_right, or_left, true≢false, false_from_ne_true, not_from_true, not_from_false, not-true}
 use Rattle.std.proofs.lemmas.List.{get_or_past}
 use Rattle.std.proofs.lemmas.List.Folds.{list_any-append}
 use Rattle.std.specs.List.{filter, list_any, range_with_len, AllByRecursion, AllZip}
 use Rattle.std.proofs.Math.Bool.{or-false, and-false}
 use Rattle.fw_lemmas.proofs.Bools.{same_tests}
-use Rattle.fw_lemmas.proofs.Each.{each-weaker}
+use Rattle.fw_lemmas.proofs.Each.{each-weaker, each-kept}
 use Rattle.fw_lemmas.proofs.Filters.{filter-in, filter-out, filter-inner, filter-same_on}
 use Rattle.fw_time.specs.Stamp.{Stamp, same, in_domain}
 use Rattle.fw_time.specs.declared.stamp.Bounds.{Bounds}
@@ -32,13 +32,15 @@ use Rattle.fw_keep.specs.declared.entry.Entry.{Entry}
 use Rattle.fw_keep.specs.declared.entry.Written as entry
 use Rattle.fw_keep.specs.declared.entry.Written.TheVariants as written
 use Rattle.fw_record.specs.Event.{stamp_of_event}
-use Rattle.fw_keep.specs.Entry.{is_checkpoint_below, is_event_at, is_entry_below, is_at}
+use Rattle.fw_keep.specs.Catalogue.{KeepState, AreDistinct, is_id_among}
+use Rattle.fw_keep.specs.Entry.{is_checkpoint_below, is_event_at, is_at}
+use Rattle.fw_keep.specs.Newest.{is_forgotten_below, stay_from}
 use Rattle.fw_collect.specs.declared.drops.AtNode.{AtNode}
 use Rattle.fw_collect.specs.declared.drops.OfNode.{OfNode}
 use Rattle.fw_collect.specs.declared.drops.Drops.{Drops}
 use Rattle.fw_collect.specs.Drops.{IsPlanned, of_node, without_batches, dropped_records, dropped_events, dropped_messages, dropped_batches, given_up_event}
-use Rattle.fw_collect.specs.Dropped.{is_dropped, is_below_some, is_at_some, is_inside_edge, is_inside_node, log_outside, log_left, source_left}
-use Rattle.fw_collect.specs.LawsOfCollections.{is_written_given_up, DropsWhatIsGivenUp, DropsMessagesBelowReceivers, DropsBatchesOfInputs, GoesWith, LogsHoldWhatIsOutside, InputsHoldWhatIsOutside}
+use Rattle.fw_collect.specs.Dropped.{AreOfDifferentNodes, is_dropped, is_below_some, is_at_some, is_inside_edge, is_inside_node, log_outside, log_left, source_left}
+use Rattle.fw_collect.specs.LawsOfCollections.{is_written_given_up, is_entry_given_up, DropsWhatIsGivenUp, DropsMessagesBelowReceivers, DropsBatchesOfInputs, GoesWith, LogsHoldWhatIsOutside, InputsHoldWhatIsOutside}
 use Rattle.fw_collect.proofs.ApplyLaws.{filter_then, filter_nothing, cond_ap}
 
 -- ---- one place of those that pass a test
@@ -99,13 +101,25 @@ policy-past flow p l = ap (λ (n : Node). takes_checkpoints n.policy) (get_or_pa
 
 -- ---- entries
 
--- which entries the fronts of nodes take out
-below-planned : (flow : Dataflow) (low : List Front) (e : Entry)
-    → is_below_some (dropped_records flow low) e ≡ (takes_checkpoints (policy_of flow e.node) && is_checkpoint_below (front_of low e.node) e.written)
-below-planned flow low e =
+any-alike : {X : Type 0} (test look : X → Bool) → ((x : X) → test x ≡ look x) → (xs : List X) → list_any test xs ≡ list_any look xs
+any-alike test look same [] = refl
+any-alike test look same (x ∷ xs) = ap (λ b. b || list_any test xs) (same x) ∙ ap (λ b. look x || b) (any-alike test look same xs)
+
+and-assoc : (a b c : Bool) → ((a && b) && c) ≡ (a && (b && c))
+and-assoc true b c = refl
+and-assoc false b c = refl
+
+-- which entries of a catalogue the fronts of nodes take out
+below-planned : (flow : Dataflow) (low : List Front) (keep : KeepState) (e : Entry)
+    → is_below_some (dropped_records flow low) keep e ≡ (takes_checkpoints (policy_of flow e.node) && is_forgotten_below e.node (front_of low e.node) keep e)
+below-planned flow low keep e =
     let test : ℕ → Bool = λ p. takes_checkpoints (policy_of flow p) in
-    any-map (λ (d : OfNode). is_entry_below d.node d.front e) (of_node low) (filter test (node_ids flow))
-    ∙ any-of_place test (λ p. is_checkpoint_below (front_of low p) e.written) e.node (length flow.nodes) (policy-past flow e.node)
+    let before : ℕ → Bool = λ p. nat_lt e.id (stay_from p (front_of low p) 0 keep.next keep.entries) in
+    let below : ℕ → Bool = λ p. is_checkpoint_below (front_of low p) e.written in
+    any-map (λ (d : OfNode). is_forgotten_below d.node d.front keep e) (of_node low) (filter test (node_ids flow))
+    ∙ any-alike (λ p. is_forgotten_below p (front_of low p) keep e) (λ p. (e.node == p) && (below p && before p)) (λ p. and-assoc (e.node == p) (below p) (before p)) (filter test (node_ids flow))
+    ∙ any-of_place test (λ p. below p && before p) e.node (length flow.nodes) (policy-past flow e.node)
+    ∙ ap (λ b. test e.node && ((b && below e.node) && before e.node)) (sym (eq-eqb e.node e.node refl))
 
 -- whether what is written of node p is an event that is given up
 is-event_given_up : Dataflow → List Front → ℕ → entry.Written → Bool
@@ -170,25 +184,61 @@ events-complete flow low (x ∷ es) =
           (λ e k h. list_any-append (look e) here later ∙ or_right (is_at_some here e) (is_at_some later e) (k h)) (events-complete flow low es),
     )
 
-both-are : (flow : Dataflow) (low : List Front) (p : ℕ) (w : entry.Written)
-    → ((takes_checkpoints (policy_of flow p) && is_checkpoint_below (front_of low p) w) || is-event_given_up flow low p w) ≡ is_written_given_up flow low p w
+both-are : (flow : Dataflow) (low : List Front) (keep : KeepState) (e : Entry) (w : entry.Written) → e.written ≡ w
+    → ((takes_checkpoints (policy_of flow e.node) && is_forgotten_below e.node (front_of low e.node) keep e) || is-event_given_up flow low e.node w)
+    ≡ is_written_given_up flow low keep e w
 unfolding is-event_given_up
-both-are flow low p (written.Checkpoint recorded stamps sent) = or-false (takes_checkpoints (policy_of flow p) && is_checkpoint_below (front_of low p) (written.Checkpoint recorded stamps sent))
-both-are flow low p (written.Event event) =
-    ap (λ b. b || is_given_up (without_batches flow) low p (stamp_of_event event)) (and-false (takes_checkpoints (policy_of flow p)))
+both-are flow low keep e (written.Checkpoint recorded stamps sent) is = or-false (takes_checkpoints (policy_of flow e.node) && is_forgotten_below e.node (front_of low e.node) keep e)
+both-are flow low keep e (written.Event event) is =
+    let f = front_of low e.node in
+    let takes = takes_checkpoints (policy_of flow e.node) in
+    let before = nat_lt e.id (stay_from e.node f 0 keep.next keep.entries) in
+    let goes = is_given_up (without_batches flow) low e.node (stamp_of_event event) in
+    ap (λ v. (takes && (((e.node == e.node) && is_checkpoint_below f v) && before)) || goes) is
+    ∙ ap (λ b. (takes && (b && before)) || goes) (and-false (e.node == e.node))
+    ∙ ap (λ b. b || goes) (and-false takes)
 
 pub drops_what_is_given_up : DropsWhatIsGivenUp
-drops_what_is_given_up flow low entries drops is =
-    each-weaker (λ (e : Entry). is-event_given_up flow low e.node e.written ≡ true → is_at_some (dropped_events flow low entries) e ≡ true)
-    (λ (e : Entry). is_dropped drops e ≡ is_written_given_up flow low e.node e.written) entries
+drops_what_is_given_up flow low keep drops is =
+    let events = dropped_events flow low keep.entries in
+    each-weaker (λ (e : Entry). is-event_given_up flow low e.node e.written ≡ true → is_at_some events e ≡ true)
+    (λ (e : Entry). is_dropped drops keep e ≡ is_entry_given_up flow low keep e) keep.entries
     (λ e complete.
-    ap (λ ds. is_below_some ds e || is_at_some drops.events.items e) is.records
-    ∙ ap (λ ds. is_below_some (dropped_records flow low) e || is_at_some ds e) is.events
-    ∙ ap (λ b. b || is_at_some (dropped_events flow low entries) e) (below-planned flow low e)
-    ∙ ap (λ b. (takes_checkpoints (policy_of flow e.node) && is_checkpoint_below (front_of low e.node) e.written) || b)
-    (same_tests (is_at_some (dropped_events flow low entries) e) (is-event_given_up flow low e.node e.written) (events-sound flow low entries e) complete)
-    ∙ both-are flow low e.node e.written)
-    (events-complete flow low entries)
+    ap (λ ds. is_below_some ds keep e || is_at_some drops.events.items e) is.records
+    ∙ ap (λ ds. is_below_some (dropped_records flow low) keep e || is_at_some ds e) is.events
+    ∙ ap (λ b. b || is_at_some events e) (below-planned flow low keep e)
+    ∙ ap (λ b. (takes_checkpoints (policy_of flow e.node) && is_forgotten_below e.node (front_of low e.node) keep e) || b)
+    (same_tests (is_at_some events e) (is-event_given_up flow low e.node e.written) (events-sound flow low keep.entries e) complete)
+    ∙ both-are flow low keep e e.written refl)
+    (events-complete flow low keep.entries)
+
+-- ---- the nodes of a plan
+
+ascend-from : (a n : ℕ) → AllByRecursion (λ p. a ≤ p) (range_with_len a n)
+ascend-from a zero = tt
+ascend-from a (suc n) = (omega arith, each-weaker _ _ (range_with_len (a + 1) n) (λ p l. omega arith) (ascend-from (a + 1) n))
+
+none-of : (p : ℕ) (ps : List ℕ) → AllByRecursion (λ q. p < q) ps → is_id_among p ps ≡ false
+none-of p [] above = refl
+none-of p (q ∷ qs) above = ap (λ b. b || is_id_among p qs) (ne_eqb q p (λ e. omega (arith, above.0, e))) ∙ none-of p qs above.1
+
+picked-once : (test : ℕ → Bool) (a n : ℕ) → AreDistinct (filter test (range_with_len a n))
+picked-once test a zero = tt
+picked-once test a (suc n) =
+    let rest = picked-once test (a + 1) n in
+    cond_both (test a) (a ∷ filter test (range_with_len (a + 1) n)) (filter test (range_with_len (a + 1) n)) AreDistinct
+    (λ k. (none-of a (filter test (range_with_len (a + 1) n)) (each-kept (λ p. a < p) test (range_with_len (a + 1) n) (each-weaker _ _ (range_with_len (a + 1) n) (λ p l. omega arith) (ascend-from (a + 1) n))), rest))
+    (λ k. rest)
+
+map-of_node : (low : List Front) (ps : List ℕ) → map (λ (d : OfNode). d.node) (map (of_node low) ps) ≡ ps
+map-of_node low [] = refl
+map-of_node low (p ∷ ps) = ap (λ qs. p ∷ qs) (map-of_node low ps)
+
+-- a plan has each node once
+pub planned-once : (flow : Dataflow) (low : List Front) (entries : List Entry) (drops : Drops) → IsPlanned flow low entries drops → AreOfDifferentNodes drops.records.items
+planned-once flow low entries drops is =
+    let test : ℕ → Bool = λ p. takes_checkpoints (policy_of flow p) in
+    subst AreOfDifferentNodes (sym is.records) (subst AreDistinct (sym (map-of_node low (filter test (node_ids flow)))) (picked-once test 0 (length flow.nodes)))
 
 -- ---- messages and batches
 
@@ -306,16 +356,16 @@ left_side_by_side R goes below entries writes same none r =
 -- however entries stand for the writes that are not collected, if each goes with its write, those that are left stand so for the
 -- writes that the machine's collection leaves, where no write in flight lies below the fronts, as none does in a collection
 pub drops_what_is_collected : (Stands : Entry → Write → Type 0) (sys : System) (h : List SerialEvent) (low : List Front)
-    → (writes : List Write) → ((e : Entry) (write : Write) → Stands e write → GoesWith sys h low writes e write)
-    → (entries : List Entry) (drops : Drops) → IsPlanned sys.flow low entries drops
-    → AllZip Stands entries (filter not_collected writes)
+    → (writes : List Write) (keep : KeepState) → ((e : Entry) (write : Write) → Stands e write → GoesWith sys h low writes keep e write)
+    → (drops : Drops) → IsPlanned sys.flow low keep.entries drops
+    → AllZip Stands keep.entries (filter not_collected writes)
     → AllByRecursion (λ (write : Write). is_forgotten sys low h writes write ≡ true → is_in_flight write.stage ≡ false) writes
-    → AllZip Stands (filter (λ e. not (is_dropped drops e)) entries) (filter not_collected (collected_writes sys low h writes))
-drops_what_is_collected Stands sys h low writes goes entries drops is stand none =
-    left_side_by_side Stands (is_dropped drops) (is_forgotten sys low h writes) entries writes
-    (each-weaker (λ (e : Entry). is_dropped drops e ≡ is_written_given_up sys.flow low e.node e.written)
-    (λ (e : Entry). (w : Write) → Stands e w → is_dropped drops e ≡ is_forgotten sys low h writes w) entries
-    (λ e k w x. k ∙ goes e w x) (drops_what_is_given_up sys.flow low entries drops is))
+    → AllZip Stands (filter (λ e. not (is_dropped drops keep e)) keep.entries) (filter not_collected (collected_writes sys low h writes))
+drops_what_is_collected Stands sys h low writes keep goes drops is stand none =
+    left_side_by_side Stands (is_dropped drops keep) (is_forgotten sys low h writes) keep.entries writes
+    (each-weaker (λ (e : Entry). is_dropped drops keep e ≡ is_entry_given_up sys.flow low keep e)
+    (λ (e : Entry). (w : Write) → Stands e w → is_dropped drops keep e ≡ is_forgotten sys low h writes w) keep.entries
+    (λ e k w x. k ∙ goes e w x) (drops_what_is_given_up sys.flow low keep drops is))
     none stand
 
 -- ---- what logs and inputs hold

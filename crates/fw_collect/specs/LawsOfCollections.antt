@@ -17,7 +17,8 @@ use Rattle.fw_keep.specs.declared.entry.Entry.{Entry}
 use Rattle.fw_keep.specs.declared.entry.Written as entry
 use Rattle.fw_keep.specs.declared.entry.Written.TheVariants as written
 use Rattle.fw_record.specs.Event.{stamp_of_event}
-use Rattle.fw_keep.specs.Entry.{is_checkpoint_below}
+use Rattle.fw_keep.specs.Catalogue.{KeepState}
+use Rattle.fw_keep.specs.Newest.{is_forgotten_below}
 use Rattle.fw_edge.specs.Messages.{MessagesState}
 use Rattle.fw_border.specs.Sources.{SourceState, given_up}
 use Rattle.fw_collect.specs.declared.drops.Drops.{Drops}
@@ -26,17 +27,20 @@ use Rattle.fw_collect.specs.Dropped.{is_dropped, log_outside, log_left, source_l
 
 -- ---- what the plan gives up
 
--- whether what is written of node p is given up, where the low watermark rises to these fronts: a checkpoint strictly within
--- the node's, an event at a stamp that is given up
-abbrev pub is_written_given_up : Dataflow → List Front → ℕ → entry.Written → Bool
-is_written_given_up flow low p (written.Checkpoint recorded stamps sent) =
-    takes_checkpoints (policy_of flow p) && is_checkpoint_below (front_of low p) (written.Checkpoint recorded stamps sent)
-is_written_given_up flow low p (written.Event event) = is_given_up (without_batches flow) low p (stamp_of_event event)
+-- whether what is written in an entry of a catalogue is given up, where the low watermark rises to these fronts: a checkpoint that is
+-- forgotten below its node's, an event at a stamp that is given up
+abbrev pub is_written_given_up : Dataflow → List Front → KeepState → Entry → entry.Written → Bool
+is_written_given_up flow low keep e (written.Checkpoint recorded stamps sent) =
+    takes_checkpoints (policy_of flow e.node) && is_forgotten_below e.node (front_of low e.node) keep e
+is_written_given_up flow low keep e (written.Event event) = is_given_up (without_batches flow) low e.node (stamp_of_event event)
 
--- of these entries those go that are given up, each by itself: an event's stamp takes no other event with it
+abbrev pub is_entry_given_up : Dataflow → List Front → KeepState → Entry → Bool
+is_entry_given_up flow low keep e = is_written_given_up flow low keep e e.written
+
+-- of the entries of a catalogue those go that are given up, each by itself: an event's stamp takes no other event with it
 abbrev pub DropsWhatIsGivenUp : Type 0
-DropsWhatIsGivenUp = (flow : Dataflow) (low : List Front) (entries : List Entry) (drops : Drops) → IsPlanned flow low entries drops
-    → AllByRecursion (λ (e : Entry). is_dropped drops e ≡ is_written_given_up flow low e.node e.written) entries
+DropsWhatIsGivenUp = (flow : Dataflow) (low : List Front) (keep : KeepState) (drops : Drops) → IsPlanned flow low keep.entries drops
+    → AllByRecursion (λ (e : Entry). is_dropped drops keep e ≡ is_entry_given_up flow low keep e) keep.entries
 
 -- the log of each edge loses the messages inside the receiver's front, where the sender may send again; no other one does
 abbrev pub DropsMessagesBelowReceivers : Type 0
@@ -53,9 +57,9 @@ DropsBatchesOfInputs = (flow : Dataflow) (low : List Front) (entries : List Entr
 
 -- ---- what the machine collects
 
--- an entry goes with one of these writes: what it holds is given up exactly where a collection to the fronts forgets the write
-abbrev pub GoesWith : System → List SerialEvent → List Front → List Write → Entry → Write → Type 0
-GoesWith sys h low writes e write = is_written_given_up sys.flow low e.node e.written ≡ is_forgotten sys low h writes write
+-- an entry of a catalogue goes with one of these writes: it is given up exactly where a collection to the fronts forgets the write
+abbrev pub GoesWith : System → List SerialEvent → List Front → List Write → KeepState → Entry → Write → Type 0
+GoesWith sys h low writes keep e write = is_entry_given_up sys.flow low keep e ≡ is_forgotten sys low h writes write
 
 -- ---- what logs and inputs hold
 

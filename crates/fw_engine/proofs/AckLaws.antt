@@ -13,6 +13,7 @@ use Rattle.fw_model.specs.Steps.{acked, did, LeadsTo}
 use Rattle.fw_model.specs.Auto.{IsIdle}
 use Rattle.fw_stands.specs.Acknowledging.{acknowledged_state, CanAcknowledgeIn}
 use Rattle.fw_stands.proofs.AcknowledgementLaws.{nothing_kept-idle, kept-acknowledged, acknowledged-stands, acknowledgement-keeps}
+use Rattle.fw_stands.proofs.BaseSteps.{bases_after_step}
 use Rattle.fw_stands.proofs.EntrySteps.{entries_after_step, records_after_step}
 use Rattle.fw_stands.proofs.AtReached.{reached-next}
 use Rattle.fw_stands.specs.Parts.{IsOutputOf}
@@ -141,6 +142,7 @@ after-stands sys state running records o places there n c s =
         sources = λ i l. k.sources i _ (s.apart.sources i l);
         progress = s.apart.progress;
         entries = entries_after_step sys s.apart.well_formed state s.apart.reached (Ack o) next (acked o (x ∷ []) recs) leads refl running.parts.keep.entries s.apart.entries;
+        bases = bases_after_step state next refl running.parts.keep.entries s.apart.bases;
         stored = records_after_step sys s.apart.well_formed state s.apart.reached (Ack o) next (acked o (x ∷ []) recs) leads refl running.parts.keep.entries records s.apart.stored;
       };
       traces = knows-next sys state (Ack o) next (acked o (x ∷ []) recs) running.traces running.traces s.apart.well_formed s.apart.reached refl leads s.traces
@@ -182,6 +184,7 @@ ack-stands sys state running records o ready outputs is shaped n c s =
         sources = at.apart.sources;
         progress = at.apart.progress;
         entries = at.apart.entries;
+        bases = at.apart.bases;
         stored = at.apart.stored;
       };
       traces = at.traces;

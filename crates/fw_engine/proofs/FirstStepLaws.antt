@@ -20,7 +20,8 @@ use Rattle.fw_running.proofs.SameStateLaws.{same-stands}
 pub ready_stands : (sys : System) (state : Machine) (running : Running) (records : Option Records) (ready : ReadyState) → Stands sys running records state
     → Stands sys (record running { ready = ready }) records state
 ready_stands sys state running records ready s =
-    same-stands sys running running.parts.keep running.progress ready records records state s s.apart.settled s.apart.progress s.apart.entries s.apart.stored
+    same-stands sys running running.parts.keep running.progress ready records records state s s.apart.settled s.apart.progress s.apart.entries
+    s.apart.bases s.apart.stored
 
 -- a step that is enabled, and where it is the first one, answers as the first one does
 pub first_answers : (sys : System) (state other : Machine) (step : Step) (effect : Effect) (result : Result Stepped EngineFault)

@@ -139,7 +139,7 @@ pub searched_stands : (sys : System) (state : Machine) (old new : Running) (reco
     → Stands sys new records state
 searched_stands sys state old new records found s = subst (λ (r : Running). Stands sys r records state) (sym found.others)
     (same-stands sys old old.parts.keep new.progress (record old.ready { growing = new.ready.growing; owing = new.ready.owing }) records records state s
-    (found.settled ∙ s.apart.settled) (found.stands sys (events state.history) (sym s.apart.flow) s.apart.progress) s.apart.entries s.apart.stored)
+    (found.settled ∙ s.apart.settled) (found.stands sys (events state.history) (sym s.apart.flow) s.apart.progress) s.apart.entries s.apart.bases s.apart.stored)
 
 -- a node that may not be notified is idle
 no_notification : (sys : System) (running : Running) (records : Option Records) (state : Machine) → Stands sys running records state

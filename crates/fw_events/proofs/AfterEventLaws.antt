@@ -35,9 +35,10 @@ use Rattle.fw_policy.specs.View.{IsLostAt}
 use Rattle.fw_progress.specs.History.{FollowsEvent}
 use Rattle.fw_progress.specs.Trace.{TracesFollow}
 use Rattle.fw_stands.specs.Events.{put_on, LogFollows, QueueFollows}
-use Rattle.fw_stands.specs.Entries.{entries_of_event}
+use Rattle.fw_stands.specs.Entries.{entries_of_event, AreBasesOf}
 use Rattle.fw_stands.specs.Parts.{queued, is_logging, logged, IsTableIn, IsOutputOf, IsSourceOf}
 use Rattle.fw_stands.specs.Written.{told_of, uncollected, AreEntriesOf, AreStored}
+use Rattle.fw_stands.proofs.BaseSteps.{bases_after_event, bases_after_step}
 use Rattle.fw_stands.proofs.EntrySteps.{entries_after_event, entries_after_step, records_after_logged_event, records_after_step, injections_are_not_logged}
 use Rattle.fw_stands.proofs.EventBorderLaws.{outputs-stay, sources-stay}
 use Rattle.fw_stands.proofs.AtReached.{reached-next}
@@ -176,7 +177,8 @@ events_are_followed sys state v old new before after step effect s enabled live 
         progress = progress-follows sys state w r v enabled t.sent sent old.progress new.progress
             (subst (λ f. FollowsEvent f v (stamps_in t.sent) old.progress new.progress) s.apart.flow t.progress) s.apart.progress;
         entries = writes.0;
-        stored = writes.1;
+        bases = writes.1;
+        stored = writes.2;
       };
       traces = knows-next sys state step next effect old.traces new.traces w r refl leads s.traces (λ q l.
           traces-follow sys s.traces.floor state v t.sent sent old.traces new.traces (subst (λ f. TracesFollow f v (stamps_in t.sent) old.traces new.traces) s.apart.flow t.traces) q);
@@ -209,9 +211,9 @@ logged-stands : (sys : System) (state : Machine) → IsWellFormedSystem sys → 
     → LeadsTo sys state step next effect → (v : Event) → next ≡ with_event sys state v → IsEnabled sys (events state.history) v
     → policy_of sys.flow (event_node sys.flow v) ≡ policy.Full → (event : Told) → told_of v ≡ Some event
     → (old new : List Entry) (before after : Option Records) → IsEventAsked (event_node sys.flow v) event old new before after
-    → AreEntriesOf sys state old (uncollected state) → AreStored sys state before old (uncollected state)
-    → AreEntriesOf sys next new (uncollected next) × AreStored sys next after new (uncollected next)
-logged-stands sys state w r step next effect leads v is enabled full event told old new before after l entries stored =
+    → AreEntriesOf sys state old (uncollected state) → AreBasesOf old old (uncollected state) → AreStored sys state before old (uncollected state)
+    → AreEntriesOf sys next new (uncollected next) × AreBasesOf new new (uncollected next) × AreStored sys next after new (uncollected next)
+logged-stands sys state w r step next effect leads v is enabled full event told old new before after l entries bases stored =
     let p = event_node sys.flow v in
     let a = l.asked in
     let all = old ++ asked a.id (tagged.Event p event) l.stamps ∷ [] in
@@ -219,9 +221,13 @@ logged-stands sys state w r step next effect leads v is enabled full event told 
     let then_entries : AreEntriesOf sys next all (uncollected next) =
     subst (λ asks. AreEntriesOf sys next (old ++ entries_of_event asks p a.id event l.stamps) (uncollected next)) full
     (entries_after_event sys w state r step next effect leads v is event told a.id l.stamps old entries) in
+    let then_bases : AreBasesOf all all (uncollected next) =
+    subst (λ asks. let es = old ++ entries_of_event asks p a.id event l.stamps in AreBasesOf es es (uncollected next)) full
+    (bases_after_event sys state next v is event a.id l.stamps old entries bases) in
     let then_stored : AreStored sys next after all (uncollected next) =
     records_after_logged_event sys w state r step next effect leads v is full event told a.id l.stamps sound old before after stored a.records a.bytes in (
       subst (λ es. AreEntriesOf sys next es (uncollected next)) (sym a.entries) then_entries,
+      subst (λ es. AreBasesOf es es (uncollected next)) (sym a.entries) then_bases,
       subst (λ es. AreStored sys next after es (uncollected next)) (sym a.entries) then_stored,
     )
 
@@ -229,10 +235,11 @@ logged-stands sys state w r step next effect leads v is enabled full event told 
 unlogged-stands : (sys : System) (state : Machine) → IsWellFormedSystem sys → IsReached sys state → (step : Step) (next : Machine) (effect : Effect)
     → LeadsTo sys state step next effect → next.writes ≡ state.writes
     → (old new : List Entry) (before after : Option Records) → IsNotAsked old new before after
-    → AreEntriesOf sys state old (uncollected state) → AreStored sys state before old (uncollected state)
-    → AreEntriesOf sys next new (uncollected next) × AreStored sys next after new (uncollected next)
-unlogged-stands sys state w r step next effect leads is old new before after n entries stored = (
+    → AreEntriesOf sys state old (uncollected state) → AreBasesOf old old (uncollected state) → AreStored sys state before old (uncollected state)
+    → AreEntriesOf sys next new (uncollected next) × AreBasesOf new new (uncollected next) × AreStored sys next after new (uncollected next)
+unlogged-stands sys state w r step next effect leads is old new before after n entries bases stored = (
   subst (λ es. AreEntriesOf sys next es (uncollected next)) (sym n.entries) (entries_after_step sys w state r step next effect leads is old entries),
+  subst (λ es. AreBasesOf es es (uncollected next)) (sym n.entries) (bases_after_step state next is old bases),
   subst (λ es. AreStored sys next after es (uncollected next)) (sym n.entries)
       (subst (λ all. AreStored sys next all old (uncollected next)) (sym n.records) (records_after_step sys w state r step next effect leads is old before stored)),
 )
@@ -243,10 +250,10 @@ logged_events_are_followed sys state v old new before after step effect s enable
     let p = event_node sys.flow v in
     elim (full-or_not (policy_of sys.flow p)) [
       | inl full ↦ logged-stands sys state s.apart.well_formed s.apart.reached step next effect leads v refl enabled full event told
-          old.parts.keep.entries new.parts.keep.entries before after (l.logged full) s.apart.entries s.apart.stored
+          old.parts.keep.entries new.parts.keep.entries before after (l.logged full) s.apart.entries s.apart.bases s.apart.stored
       | inr other ↦ unlogged-stands sys state s.apart.well_formed s.apart.reached step next effect leads
           (ap (λ ws. state.writes ++ ws) (none-written (policy_of sys.flow p) p state.next other) ∙ append-nil state.writes)
-          old.parts.keep.entries new.parts.keep.entries before after (l.other other) s.apart.entries s.apart.stored
+          old.parts.keep.entries new.parts.keep.entries before after (l.other other) s.apart.entries s.apart.bases s.apart.stored
     ]
 
 -- no event of an input is logged
@@ -256,4 +263,4 @@ pub injections_are_followed : (sys : System) (state : Machine) (v : Event) (old 
 injections_are_followed sys state v old new before after p effect s leads n =
     let next = with_event sys state v in
     unlogged-stands sys state s.apart.well_formed s.apart.reached (InjectStep p) next effect leads
-    (injections_are_not_logged sys s.apart.well_formed state p next effect leads) old.parts.keep.entries new.parts.keep.entries before after n s.apart.entries s.apart.stored
+    (injections_are_not_logged sys s.apart.well_formed state p next effect leads) old.parts.keep.entries new.parts.keep.entries before after n s.apart.entries s.apart.bases s.apart.stored

@@ -20,6 +20,7 @@ use Rattle.fw_record.specs.declared.record.Event.{Event as Logged}
 use Rattle.fw_keep.specs.Stored.{Records}
 use Rattle.fw_progress.specs.History.{FollowsEvent}
 use Rattle.fw_progress.specs.Trace.{TracesFollow}
+use Rattle.fw_stands.specs.Entries.{AreBasesOf}
 use Rattle.fw_stands.specs.Events.{put_on, AreSent}
 use Rattle.fw_stands.specs.Parts.{IsTableIn, IsOutputOf, IsSourceOf}
 use Rattle.fw_stands.specs.Written.{told_of, uncollected, AreEntriesOf, AreStored}
@@ -82,7 +83,8 @@ pub record TakesEvent (v : Event) (old new : Running) : Type 0 where
 -- entries and records stand for the writes of a state
 abbrev pub WritesStand : System → Machine → Running → Option Records → Type 0
 WritesStand sys state running records =
-    AreEntriesOf sys state running.parts.keep.entries (uncollected state) × AreStored sys state records running.parts.keep.entries (uncollected state)
+    let entries = running.parts.keep.entries in
+    AreEntriesOf sys state entries (uncollected state) × AreBasesOf entries entries (uncollected state) × AreStored sys state records entries (uncollected state)
 
 -- where an event may come next at a node that is not failed, an engine that takes it stands for the state with the event, if its
 -- entries do

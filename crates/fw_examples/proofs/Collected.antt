@@ -10,7 +10,7 @@ use Rattle.fw_collect.specs.declared.drops.Drops.{Drops}
 use Rattle.fw_collect.specs.Drops.{IsPlanned}
 use Rattle.fw_collect.specs.LawsOfCollections.{GoesWith, RisesTo}
 use Rattle.fw_collect.proofs.CollectLaws.{drops_what_is_collected}
-use Rattle.fw_examples.specs.Collected.{CollectionsApply, IsCollected, IsEarlierCollected, IsToCollect, both_batches, both_checkpoints, both_logged, both_sent, both_written, checkpoints_written, history_then, input_of_both, log_of_both, none_collected_yet}
+use Rattle.fw_examples.specs.Collected.{CollectionsApply, IsCollected, IsEarlierCollected, IsToCollect, catalogue_of, both_batches, both_checkpoints, both_logged, both_sent, both_written, checkpoints_written, history_then, input_of_both, log_of_both, none_collected_yet}
 use Rattle.fw_examples.specs.Logs.{all_but_the_last, events_logged, none}
 use Rattle.fw_examples.specs.Loop.{with_serials}
 use Rattle.fw_examples.specs.RunningTotal.{alike, total_flow, totals, two_epochs}
@@ -18,12 +18,12 @@ use Rattle.fw_examples.proofs.Choosing.{lies}
 use Rattle.fw_examples.proofs.Fronts.{by_three}
 
 -- of the two events of the select that of epoch 0 goes with its write, and that of epoch 1 stays with its
-logged_entries : AllZip (GoesWith events_logged history_then all_but_the_last both_written) both_logged both_written
+logged_entries : AllZip (GoesWith events_logged history_then all_but_the_last both_written (catalogue_of both_logged)) both_logged both_written
 unfolding kind_of bounds_of policy_of receiver sender out_edges phi
 logged_entries = (refl, (refl, tt))
 
 -- and so of the two checkpoints
-checkpoint_entries : AllZip (GoesWith totals (with_serials two_epochs) (alike 2) checkpoints_written) both_checkpoints checkpoints_written
+checkpoint_entries : AllZip (GoesWith totals (with_serials two_epochs) (alike 2) checkpoints_written (catalogue_of both_checkpoints)) both_checkpoints checkpoints_written
 unfolding kind_of bounds_of policy_of receiver sender out_edges phi
 checkpoint_entries = (refl, (refl, tt))
 
@@ -48,12 +48,12 @@ to_collect = record {
 logged : (drops : Drops) → IsPlanned events_logged.flow all_but_the_last both_logged drops → IsCollected drops
 unfolding kind_of bounds_of policy_of receiver sender out_edges phi
 logged drops planned = record {
-  first_goes = λ law. (law events_logged.flow all_but_the_last both_logged drops planned).0;
-  second_stays = λ law. (law events_logged.flow all_but_the_last both_logged drops planned).1.0;
+  first_goes = λ law. (law events_logged.flow all_but_the_last (catalogue_of both_logged) drops planned).0;
+  second_stays = λ law. (law events_logged.flow all_but_the_last (catalogue_of both_logged) drops planned).1.0;
   log = λ law. law events_logged.flow all_but_the_last both_logged drops planned 1 log_of_both (lit< tt);
   batches = λ law. law events_logged.flow all_but_the_last both_logged drops planned 0 input_of_both (lit< tt);
-  entries = drops_what_is_collected (GoesWith events_logged history_then all_but_the_last both_written) events_logged history_then all_but_the_last both_written (λ e write k. k)
-      both_logged drops planned logged_entries ((λ e. refl), ((λ e. refl), tt));
+  entries = drops_what_is_collected (GoesWith events_logged history_then all_but_the_last both_written (catalogue_of both_logged)) events_logged history_then all_but_the_last both_written
+      (catalogue_of both_logged) (λ e write k. k) drops planned logged_entries ((λ e. refl), ((λ e. refl), tt));
   log_holds = λ law. law events_logged.flow none_collected_yet all_but_the_last both_logged drops planned rises 1 log_of_both both_sent (lit< tt) (lit< tt) refl (refl, (refl, tt)) refl;
   input_holds = λ law. law events_logged.flow none_collected_yet all_but_the_last both_logged drops planned rises 0 input_of_both both_batches (lit< tt) refl (refl, (refl, tt)) refl;
 }
@@ -61,10 +61,10 @@ logged drops planned = record {
 checkpoints : (drops : Drops) → IsPlanned total_flow (alike 2) both_checkpoints drops → IsEarlierCollected drops
 unfolding kind_of bounds_of policy_of receiver sender out_edges phi
 checkpoints drops planned = record {
-  earlier_goes = λ law. (law total_flow (alike 2) both_checkpoints drops planned).0;
-  later_stays = λ law. (law total_flow (alike 2) both_checkpoints drops planned).1.0;
-  entries = drops_what_is_collected (GoesWith totals (with_serials two_epochs) (alike 2) checkpoints_written) totals (with_serials two_epochs) (alike 2) checkpoints_written (λ e write k. k)
-      both_checkpoints drops planned checkpoint_entries ((λ e. refl), ((λ e. refl), tt));
+  earlier_goes = λ law. (law total_flow (alike 2) (catalogue_of both_checkpoints) drops planned).0;
+  later_stays = λ law. (law total_flow (alike 2) (catalogue_of both_checkpoints) drops planned).1.0;
+  entries = drops_what_is_collected (GoesWith totals (with_serials two_epochs) (alike 2) checkpoints_written (catalogue_of both_checkpoints)) totals (with_serials two_epochs) (alike 2) checkpoints_written
+      (catalogue_of both_checkpoints) (λ e write k. k) drops planned checkpoint_entries ((λ e. refl), ((λ e. refl), tt));
 }
 
 pub collections_apply : CollectionsApply

@@ -16,6 +16,7 @@ use Rattle.fw_model.specs.Writes.{not_collected}
 use Rattle.fw_record.specs.declared.record.Event.TheVariants.{Deliver as LoggedDelivery}
 use Rattle.fw_keep.specs.declared.entry.Entry.{Entry}
 use Rattle.fw_keep.specs.declared.entry.Written.TheVariants as written
+use Rattle.fw_keep.specs.Catalogue.{KeepState}
 use Rattle.fw_edge.specs.Messages.{MessagesState}
 use Rattle.fw_border.specs.Sources.{SourceState}
 use Rattle.fw_collect.specs.declared.drops.Drops.{Drops}
@@ -27,6 +28,10 @@ use Rattle.fw_examples.specs.Logs.{all_but_the_last, event_collected, events_log
 use Rattle.fw_examples.specs.Loop.{with_serials}
 use Rattle.fw_examples.specs.OffersOfTotals.{record_of_checkpoint, recorded_up_to}
 use Rattle.fw_examples.specs.RunningTotal.{alike, come_back, total_node, total_flow, totals, two_epochs}
+
+-- the state of a catalogue of two writes, of which no bytes wait
+abbrev pub catalogue_of : List Entry → KeepState
+catalogue_of entries = record { entries = entries; next = 2; waiting = []; refused = false }
 
 -- ---- a select that logged two events
 
@@ -83,7 +88,7 @@ epochs_of_output = bounds_of events_logged.flow (receiver events_logged.flow big
 
 -- what the laws ask here beside a plan
 pub record IsToCollect : Type 0 where
-  pub entries : AllZip (GoesWith events_logged history_then all_but_the_last both_written) both_logged both_written
+  pub entries : AllZip (GoesWith events_logged history_then all_but_the_last both_written (catalogue_of both_logged)) both_logged both_written
   pub rises : RisesTo events_logged.flow none_collected_yet all_but_the_last
   pub resends : can_resend (policy_of events_logged.flow (sender events_logged.flow big_to_out)) ≡ true
   pub in_domain : AllByRecursion (λ (m : Message). in_domain epochs_of_output m.at ≡ true) both_sent
@@ -93,12 +98,12 @@ pub record IsToCollect : Type 0 where
 
 -- The event of epoch 0 goes, and the message of epoch 0, and both batches; the event of epoch 1 stays, and its message.
 pub record IsCollected (drops : Drops) : Type 0 where
-  pub first_goes : DropsWhatIsGivenUp → is_dropped drops first_logged ≡ true
-  pub second_stays : DropsWhatIsGivenUp → is_dropped drops second_logged ≡ false
+  pub first_goes : DropsWhatIsGivenUp → is_dropped drops (catalogue_of both_logged) first_logged ≡ true
+  pub second_stays : DropsWhatIsGivenUp → is_dropped drops (catalogue_of both_logged) second_logged ≡ false
   pub log : DropsMessagesBelowReceivers
       → log_left drops.messages.items big_to_out log_of_both ≡ record { messages = second_message ∷ []; refused = false }
   pub batches : DropsBatchesOfInputs → source_left drops.batches.items src input_of_both ≡ record { given = 2; injected = 2; held = [] }
-  pub entries : AllZip (GoesWith events_logged history_then all_but_the_last both_written) (filter (λ e. not (is_dropped drops e)) both_logged)
+  pub entries : AllZip (GoesWith events_logged history_then all_but_the_last both_written (catalogue_of both_logged)) (filter (λ e. not (is_dropped drops (catalogue_of both_logged) e)) both_logged)
       (filter not_collected event_collected.writes)
   pub log_holds : LogsHoldWhatIsOutside → (log_left drops.messages.items big_to_out log_of_both).messages ≡ second_message ∷ []
   pub input_holds : InputsHoldWhatIsOutside → (source_left drops.batches.items src input_of_both).held ≡ []
@@ -134,14 +139,14 @@ checkpoints_written =
 
 -- Of two checkpoints the earlier one goes, which lies strictly within the watermark.
 pub record IsEarlierCollected (drops : Drops) : Type 0 where
-  pub earlier_goes : DropsWhatIsGivenUp → is_dropped drops (kept_checkpoint 0 record_of_first) ≡ true
-  pub later_stays : DropsWhatIsGivenUp → is_dropped drops (kept_checkpoint 1 record_of_checkpoint) ≡ false
-  pub entries : AllZip (GoesWith totals (with_serials two_epochs) (alike 2) checkpoints_written) (filter (λ e. not (is_dropped drops e)) both_checkpoints)
+  pub earlier_goes : DropsWhatIsGivenUp → is_dropped drops (catalogue_of both_checkpoints) (kept_checkpoint 0 record_of_first) ≡ true
+  pub later_stays : DropsWhatIsGivenUp → is_dropped drops (catalogue_of both_checkpoints) (kept_checkpoint 1 record_of_checkpoint) ≡ false
+  pub entries : AllZip (GoesWith totals (with_serials two_epochs) (alike 2) checkpoints_written (catalogue_of both_checkpoints)) (filter (λ e. not (is_dropped drops (catalogue_of both_checkpoints) e)) both_checkpoints)
       (filter not_collected come_back.writes)
 
 -- the laws of collections, of both
 pub record CollectionsApply : Type 0 where
   pub asked : IsToCollect
   pub logged : (drops : Drops) → IsPlanned events_logged.flow all_but_the_last both_logged drops → IsCollected drops
-  pub entries : AllZip (GoesWith totals (with_serials two_epochs) (alike 2) checkpoints_written) both_checkpoints checkpoints_written
+  pub entries : AllZip (GoesWith totals (with_serials two_epochs) (alike 2) checkpoints_written (catalogue_of both_checkpoints)) both_checkpoints checkpoints_written
   pub checkpoints : (drops : Drops) → IsPlanned total_flow (alike 2) both_checkpoints drops → IsEarlierCollected drops

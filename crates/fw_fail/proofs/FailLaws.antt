@@ -34,10 +34,11 @@ use Rattle.fw_policy.specs.View.{IsLostAt}
 use Rattle.fw_rollback.specs.Edges.{IsOnEdge, on_edge}
 use Rattle.fw_rollback.specs.Tables.{table_at}
 use Rattle.fw_policy.specs.Offering.{stamps_in_flight}
-use Rattle.fw_stands.specs.Entries.{is_lost_of}
+use Rattle.fw_stands.specs.Entries.{is_lost_of, AreBasesOf}
 use Rattle.fw_stands.specs.Failures.{failed_state}
 use Rattle.fw_stands.specs.Parts.{IsTableIn, IsOutputOf, IsSourceOf, kept_recs}
 use Rattle.fw_stands.specs.Written.{AreEntriesOf, AreStored, uncollected}
+use Rattle.fw_stands.proofs.BaseSteps.{bases_after_failure}
 use Rattle.fw_stands.proofs.EntrySteps.{entries_after_failure, records_after_failure, loses_one_by_one}
 use Rattle.fw_stands.proofs.EntryViews.{loses_what_is_in_flight}
 use Rattle.fw_stands.proofs.FailureLaws.{live_node-fails, all_failed-idle, failures-add, failed_tables-go, other_tables-stay, queues_of_failed-go, logs_of_failed-go, outputs_of_failed-go, failure-keeps}
@@ -319,6 +320,8 @@ after-stands sys state old new records p there live g shaped s =
         progress = s.apart.progress;
         entries = subst (λ es. AreEntriesOf sys next es (uncollected next)) (sym (entries ∙ left))
             (entries_after_failure sys s.apart.well_formed state s.apart.reached ps next silent leads old.parts.keep.entries s.apart.entries);
+        bases = subst (λ es. AreBasesOf es es (uncollected next)) (sym (entries ∙ left))
+            (bases_after_failure sys s.apart.well_formed state s.apart.reached ps next silent leads old.parts.keep.entries s.apart.entries s.apart.bases);
         stored = subst (λ es. AreStored sys next records es (uncollected next)) (sym (entries ∙ left))
             (records_after_failure sys s.apart.well_formed state s.apart.reached ps next silent leads old.parts.keep.entries s.apart.entries records s.apart.stored);
       };

@@ -1,5 +1,5 @@
 -- An engine that is fed stands over the later batches for the state for which it stood.
-use Rattle.std.proofs.Common.{◌≡◌, ◌↔◌, ℕ, true, cond, List, [], ◌∷◌, length, map, Option, sym, ap, subst, ◌∙◌, Bool}
+use Rattle.std.proofs.Common.{◌≡◌, ◌↔◌, ℕ, true, cond, List, [], ◌∷◌, length, map, Option, Some, None, sym, ap, subst, ◌∙◌, Bool}
 use Rattle.std.specs.List.{AllByRecursion, Contains}
 use Rattle.fw_lemmas.proofs.Each.{each-kept}
 use Rattle.fw_lemmas.proofs.SideBySide.{zip-weaker}
@@ -46,7 +46,8 @@ use Rattle.fw_keep.specs.Stored.{Records}
 use Rattle.fw_border.specs.Outputs.{OutputState}
 use Rattle.fw_node.specs.declared.node.Node.{Node}
 use Rattle.fw_stands.specs.Parts.{IsTableIn, queued, is_logging, logged, IsOutputOf, IsTraceIn}
-use Rattle.fw_stands.specs.Written.{events_within, count_within, HoldsWhatIsWritten, IsEntryOf, AreEntriesOf, to_log, IsRecordFor, IsHeldAs, AreStored, uncollected}
+use Rattle.fw_stands.specs.Entries.{AreBasesOf}
+use Rattle.fw_stands.specs.Written.{events_within, count_within, HoldsWhatIsWritten, IsEntryOf, AreEntriesOf, messages_since, to_log, to_log_since, IsRecordFor, IsHeldAs, AreStored, uncollected}
 use Rattle.fw_feeding.specs.Feeding.{with_batches}
 use Rattle.fw_feeding.specs.LawsOfFeeding.{FedEnginesStand}
 use Rattle.fw_feeding.proofs.AlikeLaws.{InjectsAlike, AreAlikeIn, alike-back, node-alike, messages-alike, pending-alike, phi-alike, quiet-alike, epochs-alike, admissible-alike}
@@ -174,9 +175,17 @@ to_log-alike flow now later state a p f low e =
     (messages_outside (family_of flow low (receiver flow e)) (messages_from (node_frontier flow p f) ms)) [])
     (messages-alike flow now later (events state.history) a.injected e)
 
+to_log_since-alike : (flow : Dataflow) (now later : List (List (List Rec))) (state : Machine) → AreAlikeIn flow now later (events state.history)
+    → (p : ℕ) (g f : Front) (low : List Front) (e : ℕ) → to_log_since (with_batches flow now) state p g f low e ≡ to_log_since (with_batches flow later) state p g f low e
+to_log_since-alike flow now later state a p g f low e =
+    ap (λ ms. cond (can_resend (policy_of flow p))
+    (messages_outside (family_of flow low (receiver flow e)) (messages_since (node_frontier flow p g) (node_frontier flow p f) ms)) [])
+    (messages-alike flow now later (events state.history) a.injected e)
+
 record-alike : (flow : Dataflow) (now later : List (List (List Rec))) (state : Machine) → AreAlikeIn flow now later (events state.history)
-    → (p : ℕ) (what : WrittenBy) (r : Record) → IsRecordFor (with_batches flow now) state p what r → IsRecordFor (with_batches flow later) state p what r
-record-alike flow now later state a p (checkpoint f low) (tagged.State c) k =
+    → (p : ℕ) (base : Option Front) (what : WrittenBy) (r : Record) → IsRecordFor (with_batches flow now) state p base what r
+    → IsRecordFor (with_batches flow later) state p base what r
+record-alike flow now later state a p None (checkpoint f low) (tagged.State c) k =
     let same = node-alike flow now later (events state.history) a.injected p in
     record {
       node = k.node;
@@ -190,11 +199,30 @@ record-alike flow now later state a p (checkpoint f low) (tagged.State c) k =
       log = λ e s. k.log e s ∙ ap sorted_messages (to_log-alike flow now later state a p f low e);
       log_edges = k.log_edges;
     }
-record-alike flow now later state a p (checkpoint f low) (tagged.Event node event) k = absurd k
-record-alike flow now later state a p (checkpoint f low) (tagged.Changes base c) k = absurd k
-record-alike flow now later state a p (logged_event serial) (tagged.State c) k = absurd k
-record-alike flow now later state a p (logged_event serial) (tagged.Event node event) k = k
-record-alike flow now later state a p (logged_event serial) (tagged.Changes base c) k = absurd k
+record-alike flow now later state a p (Some g) (checkpoint f low) (tagged.Changes id c) k =
+    let same = node-alike flow now later (events state.history) a.injected p in
+    record {
+      node = k.node;
+      recorded = recorded-alike flow now later state a p f c.recorded k.recorded;
+      in_each = k.in_each;
+      out_each = k.out_each;
+      table = k.table;
+      sent = k.sent ∙ count-within flow now later state a p f;
+      sends = λ is h. k.sends is h ∙ ap (λ ms. length (messages_from h (messages_since (node_frontier flow p g) (node_frontier flow p f) ms))) same;
+      sends_none = k.sends_none;
+      log = λ e s. k.log e s ∙ ap sorted_messages (to_log_since-alike flow now later state a p g f low e);
+      log_edges = k.log_edges;
+    }
+record-alike flow now later state a p None (checkpoint f low) (tagged.Event node event) k = absurd k
+record-alike flow now later state a p None (checkpoint f low) (tagged.Changes id c) k = absurd k
+record-alike flow now later state a p None (logged_event serial) (tagged.State c) k = absurd k
+record-alike flow now later state a p None (logged_event serial) (tagged.Event node event) k = k
+record-alike flow now later state a p None (logged_event serial) (tagged.Changes id c) k = absurd k
+record-alike flow now later state a p (Some g) (checkpoint f low) (tagged.State c) k = absurd k
+record-alike flow now later state a p (Some g) (checkpoint f low) (tagged.Event node event) k = absurd k
+record-alike flow now later state a p (Some g) (logged_event serial) (tagged.State c) k = absurd k
+record-alike flow now later state a p (Some g) (logged_event serial) (tagged.Event node event) k = absurd k
+record-alike flow now later state a p (Some g) (logged_event serial) (tagged.Changes id c) k = absurd k
 
 stored-alike : (flow : Dataflow) (now later : List (List (List Rec))) (state : Machine) → AreAlikeIn flow now later (events state.history)
     → (records : Option Records) (entries : List Entry) (writes : List Write)
@@ -204,7 +232,7 @@ stored-alike flow now later state a records entries writes k = λ held e.
     (λ entry write one. record {
       what = one.what;
       of_entry = one.of_entry;
-      of_write = record-alike flow now later state a write.node write.written one.what one.of_write;
+      of_write = record-alike flow now later state a write.node write.base write.written one.what one.of_write;
     }) (k held e)
 
 -- ---- the engine
@@ -252,6 +280,7 @@ fed-engines_stand opened flow now later g well steps effects state run old new f
         };
         entries = subst (λ es. AreEntriesOf sys state es (uncollected state)) (sym f.entries)
             (entries-alike flow now later state a old.parts.keep.entries (uncollected state) s.apart.entries);
+        bases = subst (λ es. AreBasesOf es es (uncollected state)) (sym f.entries) s.apart.bases;
         stored = subst (λ es. AreStored sys state records es (uncollected state)) (sym f.entries)
             (stored-alike flow now later state a records old.parts.keep.entries (uncollected state) s.apart.stored);
       };

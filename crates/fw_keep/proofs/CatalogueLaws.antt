@@ -4,8 +4,8 @@ use Rattle.std.specs.List.{AllByRecursion}
 use Rattle.fw_keep.specs.declared.entry.Entry.{Entry}
 use Rattle.fw_keep.specs.Catalogue.{KeepState, IsCatalogue, ids_of, is_id_among, has_entry, AreDistinct, persisted, without}
 use Rattle.std.proofs.lemmas.Bool.{ne_eqb}
-use Rattle.fw_lemmas.proofs.Each.{each-weaker, each-append, each-prefix}
-use Rattle.fw_keep.proofs.IdLaws.{among-append, distinct-prefix, ids-more, ascending-distinct, ascending-more, distinct-append, ascending-kept, ids-kept, none_kept, none_goes, gone-apart, ids-persisted}
+use Rattle.fw_lemmas.proofs.Each.{each-weaker, each-append, each-prefix, each-kept}
+use Rattle.fw_keep.proofs.IdLaws.{among-append, distinct-prefix, ids-more, ascending-distinct, ascending-more, distinct-append, ascending-kept, ids-kept, none_kept, none_goes, gone-apart, ids-persisted, shallow-persisted}
 
 -- states with the same parts are one
 pub same-state : (a b : KeepState) → a.entries ≡ b.entries → a.next ≡ b.next → a.waiting ≡ b.waiting → a.refused ≡ b.refused → a ≡ b
@@ -23,17 +23,19 @@ catalogue-drawn keep next refused le h = record {
   apart = h.apart;
   drawn = each-weaker _ _ (ids_of keep.entries) (λ id l. omega arith) h.drawn;
   waiting_drawn = each-weaker _ _ keep.waiting (λ id l. omega arith) h.waiting_drawn;
+  shallow = h.shallow;
 }
 
 -- an entry is added under the next id
-pub catalogue-added : (keep : KeepState) (e : Entry) (next : ℕ) → e.id ≡ keep.next → keep.next < next → IsCatalogue keep
+pub catalogue-added : (keep : KeepState) (e : Entry) (next : ℕ) → e.id ≡ keep.next → e.depth ≤ e.id → keep.next < next → IsCatalogue keep
     → IsCatalogue (record keep { entries = keep.entries ++ e ∷ []; next = next })
-catalogue-added keep e next same le h = record {
+catalogue-added keep e next same shallow le h = record {
   ascending = rw (ids-more keep.entries e, same) (ascending-more (ids_of keep.entries) keep.next h.ascending h.drawn);
   distinct = h.distinct;
   apart = apart_of keep.waiting h.apart h.waiting_drawn;
   drawn = rw (ids-more keep.entries e, same) (each-append _ (ids_of keep.entries) (keep.next ∷ []) (each-weaker _ _ (ids_of keep.entries) (λ id l. omega arith) h.drawn) (omega arith, tt));
   waiting_drawn = each-weaker _ _ keep.waiting (λ id l. omega arith) h.waiting_drawn;
+  shallow = each-append _ keep.entries (e ∷ []) h.shallow (shallow, tt);
 }
   where
     apart_of : (ids : List ℕ) → AllByRecursion (λ id. has_entry id keep.entries ≡ false) ids → AllByRecursion (λ id. id < keep.next) ids
@@ -53,6 +55,7 @@ catalogue-without goes keep h =
       apart = each-append _ keep.waiting (ids_of gone) (each-weaker _ _ keep.waiting (λ id none. none_kept goes keep.entries id none) h.apart) (gone-apart goes keep.entries h.ascending);
       drawn = ids-kept _ (λ e. not (goes e)) keep.entries h.drawn;
       waiting_drawn = each-append _ keep.waiting (ids_of gone) h.waiting_drawn (ids-kept _ goes keep.entries h.drawn);
+      shallow = each-kept _ (λ e. not (goes e)) keep.entries h.shallow;
     }
 
 -- a write is acknowledged
@@ -65,6 +68,7 @@ catalogue-persisted keep h =
       apart = subst (λ (all : List ℕ). AllByRecursion (λ id. is_id_among id all ≡ false) keep.waiting) (sym ids) h.apart;
       drawn = rw ids h.drawn;
       waiting_drawn = h.waiting_drawn;
+      shallow = shallow-persisted keep.entries h.shallow;
     }
 
 -- some of what waited is left
@@ -76,4 +80,5 @@ catalogue-swept keep left removed refused parts h = record {
   apart = each-prefix _ left removed (subst (AllByRecursion (λ id. has_entry id keep.entries ≡ false)) parts h.apart);
   drawn = h.drawn;
   waiting_drawn = each-prefix _ left removed (subst (AllByRecursion (λ id. id < keep.next)) parts h.waiting_drawn);
+  shallow = h.shallow;
 }

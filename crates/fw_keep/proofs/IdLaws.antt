@@ -9,7 +9,7 @@ use Rattle.std.proofs.Math.Bool.{or-true}
 use Rattle.fw_lemmas.proofs.Bools.{or_swap}
 use Rattle.fw_lemmas.proofs.Each.{each-weaker, each-append}
 use Rattle.fw_keep.specs.declared.entry.Entry.{Entry}
-use Rattle.fw_keep.specs.Catalogue.{ids_of, is_id_among, has_entry, AreAscending, AreDistinct, persisted}
+use Rattle.fw_keep.specs.Catalogue.{ids_of, is_id_among, has_entry, AreAscending, AreDistinct, AreShallow, persisted}
 
 -- ---- ids
 
@@ -36,11 +36,11 @@ pub distinct-append : (xs ys : List ℕ) → AreDistinct xs → AreDistinct ys �
 distinct-append [] ys a b apart = b
 distinct-append (x ∷ xs) ys a b apart = (among-append x xs ys a.0 apart.0, distinct-append xs ys a.1 b apart.1)
 
-or_left : (a b : Bool) → (a || b) ≡ false → a ≡ false
+pub or_left : (a b : Bool) → (a || b) ≡ false → a ≡ false
 or_left true b h = h
 or_left false b h = refl
 
-or_right : (a b : Bool) → (a || b) ≡ false → b ≡ false
+pub or_right : (a b : Bool) → (a || b) ≡ false → b ≡ false
 or_right true b h = absurd cc
 or_right false b h = h
 
@@ -153,6 +153,15 @@ ids-persisted (e ∷ es) =
     elim e.acknowledged as (λ b. ids_of (cond b (e ∷ persisted es) (record e { acknowledged = true } ∷ es)) ≡ ids_of (e ∷ es)) [
       | true ↦ ap (λ ids. e.id ∷ ids) (ids-persisted es)
       | false ↦ refl
+    ]
+
+-- and so does how deep each is
+pub shallow-persisted : (es : List Entry) → AreShallow es → AreShallow (persisted es)
+shallow-persisted [] h = tt
+shallow-persisted (e ∷ es) h =
+    elim e.acknowledged as (λ b. AreShallow (cond b (e ∷ persisted es) (record e { acknowledged = true } ∷ es))) [
+      | true ↦ (h.0, shallow-persisted es h.1)
+      | false ↦ h
     ]
 
 -- what goes and what is kept are all

@@ -2,6 +2,7 @@ pub mod IdLaws
 pub mod CatalogueLaws
 pub mod StoredLaws
 pub mod EntryLaws
+pub mod DepthLaws
 pub mod KeepLaws
 pub mod BytesLaws
 pub mod InFlightLaws

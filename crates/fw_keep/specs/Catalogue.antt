@@ -33,14 +33,19 @@ abbrev pub AreDistinct : List ℕ → Type 0
 AreDistinct [] = Unit {0}
 AreDistinct (id ∷ ids) = (is_id_among id ids ≡ false) × AreDistinct ids
 
--- It is the state of a catalogue: the ids of its entries ascend; those that wait are others, each once; and all of them were
--- drawn before the next one.
+-- no entry stands on more others than ids are below its own
+abbrev pub AreShallow : List Entry → Type 0
+AreShallow es = AllByRecursion (λ (e : Entry). e.depth ≤ e.id) es
+
+-- It is the state of a catalogue: the ids of its entries ascend; those that wait are others, each once; all of them were drawn before
+-- the next one; and no entry is deeper than its id.
 pub record IsCatalogue (keep : KeepState) : Type 0 where
   pub ascending : AreAscending (ids_of keep.entries)
   pub distinct : AreDistinct keep.waiting
   pub apart : AllByRecursion (λ id. has_entry id keep.entries ≡ false) keep.waiting
   pub drawn : AllByRecursion (λ id. id < keep.next) (ids_of keep.entries)
   pub waiting_drawn : AllByRecursion (λ id. id < keep.next) keep.waiting
+  pub shallow : AreShallow keep.entries
 
 -- the id of the first entry in flight, if there is one
 abbrev pub oldest : List Entry → Option ℕ

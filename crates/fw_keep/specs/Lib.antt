@@ -1,5 +1,6 @@
 pub mod Entry
 pub mod Catalogue
+pub mod Chains
 pub mod Newest
 pub mod Stored
 pub mod Inside

@@ -1,6 +1,6 @@
 //! What an entry takes of a record.
 ghost use Rattle.std.specs.Prelude.{◌≡◌, IfOk};
-ghost use Rattle.fw_keep.specs.Entry.{written_of, node_of_record};
+ghost use Rattle.fw_keep.specs.Entry.{base_of_record, written_of, node_of_record};
 
 use crate::Written;
 use fw_flow::{NodeId, Stamps};
@@ -14,6 +14,16 @@ pub(crate) fn node_of(what: &Record) -> NodeId
     match what {
         Record::State(checkpoint) | Record::Changes { checkpoint, .. } => checkpoint.node,
         Record::Event { node, .. } => *node,
+    }
+}
+
+/// The id of the base of a record, if it holds changes.
+pub(crate) fn base_of(what: &Record) -> Option<u64>
+    ensures { result ≡ base_of_record what.now }
+{
+    match what {
+        Record::Changes { base, .. } => Some(*base),
+        Record::State(_) | Record::Event { .. } => None,
     }
 }
 

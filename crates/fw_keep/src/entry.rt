@@ -1,6 +1,7 @@
 //! The writes of a catalogue.
 ghost use Rattle.std.specs.Prelude.{◌≡◌, ◌↔◌, [], IsTrue};
-ghost use Rattle.fw_keep.specs.Entry.{lies_within, is_checkpoint_below, is_event_at, IsRecordOfEntry};
+ghost use Rattle.fw_keep.specs.Newest.{is_checkpoint_of, is_written_between, whole_or};
+ghost use Rattle.fw_keep.specs.Entry.{lies_within, is_checkpoint_below, is_event_at, IsRecordOn, IsRecordOfEntry};
 
 use crate::same::has_recorded;
 use fw_flow::{CountedMessages, Flow, NodeId, Notices, Recorded, Stamps};
@@ -32,11 +33,11 @@ pub struct Entry {
     pub node: NodeId,
     /// What is written.
     pub written: Written,
-    /// The id of the write on which it stands: a checkpoint that holds what changed since an earlier one of its node stands on that
-    /// one. None where it is whole; an event is.
+    /// The id of the write on which it stands: a checkpoint that holds what changed since an earlier one of its node stands on
+    /// that one. None where it is whole; an event is.
     pub base: Option<u64>,
     /// On how many writes it stands: its base, that one's base, and so on.
-    pub depth: u32,
+    pub depth: u64,
     /// Whether the write is acknowledged, and not in flight.
     pub acknowledged: bool,
 }
@@ -53,18 +54,43 @@ pub fn no_stamps(alloc: Global) -> Stamps
 }
 
 impl Entry {
-    /// Whether the record can be that of the entry: of a checkpoint of its node (`Record::is_checkpoint_of`) in which the same
-    /// is recorded, or of its event.
+    /// Whether the record can be that of the entry: of a checkpoint of its node in which the same is recorded, of a whole one
+    /// (`Record::is_checkpoint_of`) or of changes on the entry's base (`Record::is_changes_of`), or of its event.
     pub fn has_record(&self, flow: &Flow, what: &Record) -> bool
         ensures { IsTrue result ↔ IsRecordOfEntry flow.now self.now what.now }
     {
         match &self.written {
             Written::Checkpoint { recorded, .. } => {
                 has_recorded(what, recorded)
-                    && what.is_checkpoint_of(flow, self.node, &recorded.front)
+                    && is_record_on(what, flow, self.node, &recorded.front, self.base)
             }
             Written::Event(event) => what.is_event_of(self.node, event),
         }
+    }
+
+    /// Whether it is a checkpoint of the node.
+    pub fn is_checkpoint_of(&self, node: NodeId) -> bool
+        ensures { result ≡ is_checkpoint_of node self.now }
+    {
+        self.node == node && matches!(self.written, Written::Checkpoint { .. })
+    }
+
+    /// Its id if it is whole, and else this one.
+    pub(crate) fn whole_or(&self, id: u64) -> u64
+        ensures { result ≡ whole_or id self.now }
+    {
+        if self.depth == 0 { self.id } else { id }
+    }
+}
+
+/// Whether the record can be that of a checkpoint of the node at the frontier: of a whole one where there is no base, and else
+/// of changes on it.
+fn is_record_on(what: &Record, flow: &Flow, node: NodeId, front: &Front, base: Option<u64>) -> bool
+    ensures { IsTrue result ↔ IsRecordOn flow.now node front.now base what.now }
+{
+    match base {
+        Some(id) => what.is_changes_of(flow, node, front, id),
+        None => what.is_checkpoint_of(flow, node, front),
     }
 }
 
@@ -86,6 +112,18 @@ impl Written {
         match self {
             Written::Checkpoint { recorded, .. } => {
                 recorded.front.subset(front) && !front.subset(&recorded.front)
+            }
+            Written::Event(_) => false,
+        }
+    }
+
+    /// Whether it is a checkpoint that lies within a frontier, and not strictly within an earlier one.
+    pub fn lies_between(&self, earlier: &Front, front: &Front) -> bool
+        ensures { result ≡ is_written_between earlier.now front.now self.now }
+    {
+        match self {
+            Written::Checkpoint { recorded, .. } => {
+                recorded.front.subset(front) && !self.lies_below(earlier)
             }
             Written::Event(_) => false,
         }

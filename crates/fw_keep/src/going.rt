@@ -1,9 +1,10 @@
 //! Which entries a call takes out.
-ghost use Rattle.std.specs.Prelude.{◌≡◌, ◌+◌, ◌<◌, ◌≤◌, ◌++◌, Bool, false, not, filter, length, take, drop, vec_len};
+ghost use Rattle.std.specs.Prelude.{◌≡◌, ◌+◌, ◌<◌, ◌≤◌, ◌++◌, Bool, false, not, ◌&&◌, nat_lt, filter, length, take, drop, vec_len};
 ghost use Rattle.std.specs.List.{AllByRecursion};
 ghost use Rattle.std.specs.Vec.{vec_capacity};
 ghost use Rattle.fw_keep.specs.declared.entry.Entry.{Entry as Write};
 ghost use Rattle.fw_keep.specs.Catalogue.{AreAscending, ids_of};
+ghost use Rattle.fw_keep.specs.Newest as spec;
 ghost use Rattle.fw_keep.specs.Entry.{is_in_flight_of, is_withdrawn, is_above, is_entry_below, is_at};
 
 use crate::Entry;
@@ -64,19 +65,37 @@ impl Going for Above<'_> {
     }
 }
 
-/// The node's checkpoints strictly within the frontier.
+/// The node's checkpoints strictly within the frontier, before an id.
 #[derive(Clone, Copy)]
 pub(crate) struct Below<'a> {
     pub(crate) node: NodeId,
     pub(crate) front: &'a Front,
+    pub(crate) until: u64,
 }
 
 impl Going for Below<'_> {
-    ghost goes = { λ going e. is_entry_below going.node going.front.now e };
+    ghost goes = { λ going e. is_entry_below going.node going.front.now e && nat_lt e.id going.until };
 
     fn takes(&self, entry: &Entry) -> bool {
-        entry.node == self.node && entry.written.lies_below(self.front)
+        entry.node == self.node && entry.written.lies_below(self.front) && entry.id < self.until
     }
+}
+
+/// The id from which on the node's checkpoints stay, where those strictly within the frontier are forgotten: that of the newest
+/// whole one up to the first that does not lie strictly within it, and this last one where all do.
+pub(crate) fn stay_from(entries: &[Entry], node: NodeId, front: &Front, last: u64) -> u64
+    ensures { result ≡ spec.stay_from node front.now 0 last entries.now }
+{
+    let mut whole = 0;
+    for entry in entries {
+        if entry.is_checkpoint_of(node) {
+            whole = entry.whole_or(whole);
+            if !entry.written.lies_below(front) {
+                return whole;
+            }
+        }
+    }
+    last
 }
 
 /// The node's events at the stamp.

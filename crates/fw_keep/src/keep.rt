@@ -7,13 +7,15 @@ ghost use Rattle.fw_keep.specs.Faults.{keep_faults_after};
 ghost use Rattle.fw_record.specs.Spelling.{spelling, FitsItsCounts};
 ghost use Rattle.fw_record.specs.declared.record.Record.{Record as Spelled};
 ghost use Rattle.fw_keep.specs.declared.entry.Entry.{Entry as Write};
-ghost use Rattle.fw_keep.specs.Entry.{asked, is_in_flight_of, is_withdrawn, is_above, is_entry_below, is_at};
+ghost use Rattle.fw_keep.specs.Entry.{asked_beside, IsBased, is_in_flight_of, is_withdrawn, is_above, is_at};
 ghost use Rattle.fw_keep.specs.Catalogue.{IsCatalogue, has_entry, oldest, persisted, without};
-ghost use Rattle.fw_keep.specs.Newest.{newest_by};
+ghost use Rattle.fw_keep.specs.Newest.{is_forgotten_below, newest_by};
 ghost use Rattle.fw_keep.specs.Stored.{Records, IsEmptyStore, IsStored, Sweeps, Fetches, IsToldUnder, GivesNoDamage, KeepsBytes, HoldsAs, GivesOnly};
 
 use crate::fetch::{entry_at, read};
-use crate::going::{Above, Below, EventsAt, Going, Lost, Withdrawn, first_from, take_out};
+use crate::going::{
+    Above, Below, EventsAt, Going, Lost, Withdrawn, first_from, stay_from, take_out,
+};
 use crate::persist::{acknowledged, persist_first};
 use crate::put::put_new;
 use crate::sweep::remove_waiting;
@@ -99,9 +101,10 @@ impl Keep {
         newest::newest_by(&self.entries, node)
     }
 
-    /// Puts a record under the next id, as a write in flight. The stamps say where the node's events are and where they sent:
-    /// the entry of a checkpoint keeps them, that of an event does not. The next id must be below 2^63: `next_id` tells it, and
-    /// each call of `ask` raises it by one.
+    /// Puts a record under the next id, as a write in flight. One of changes stands on the entry of its base, which must be there
+    /// and a checkpoint of the same node, and is one deeper than that; any other stands on none. The stamps say where the node's
+    /// events are and where they sent: the entry of a checkpoint keeps them, that of an event does not. The next id must be below
+    /// 2^63: `next_id` tells it, and each call of `ask` raises it by one.
     ///
     /// # Errors
     ///
@@ -115,12 +118,13 @@ impl Keep {
     ) -> Result<u64, KeepFault>
         requires stored { IsStored self.old (K.view store.old).records }
         requires few { self.old.next < 2 ^ 63 }
+        requires based { IsBased self.old.entries what.now }
 
         // The write is the last one, in flight, and its bytes are under its id; none of its lists has more parts than the
         // bytes can say.
         ensures id { IfOk result (λ id. id ≡ self.old.next) }
         ensures added { OnOk result
-            (self.new.entries ≡ self.old.entries ++ asked self.old.next what.now stamps ∷ []) }
+            (self.new.entries ≡ self.old.entries ++ asked_beside self.old.entries self.old.next what.now stamps ∷ []) }
         ensures put { OnOk result ((K.view store.new).records
             ≡ option_map (λ held. map.insert held self.old.next (spelling what.now)) (K.view store.old).records) }
         ensures counted { OnOk result (FitsItsCounts what.now) }
@@ -203,12 +207,15 @@ impl Keep {
         self.forget(&Above { node, front });
     }
 
-    /// Takes the node's checkpoints out that lie strictly within the frontier. It takes no memory.
+    /// Takes the node's checkpoints out that lie strictly within the frontier and on which none stands that does not: of those
+    /// before the first that does not lie strictly within it, what comes before the newest whole one up to that. It takes no
+    /// memory.
     pub fn forget_below(&mut self, node: NodeId, front: &Front)
-        ensures gone { self.new ≡ without (is_entry_below node front.now) self.old }
+        ensures gone { self.new ≡ without (is_forgotten_below node front.now self.old) self.old }
         ensures stored { (records : Option Records) → IsStored self.old records → IsStored self.new records }
     {
-        self.forget(&Below { node, front });
+        let until = stay_from(&self.entries, node, front, self.next);
+        self.forget(&Below { node, front, until });
     }
 
     /// Takes the node's events at the stamp out. It takes no memory.

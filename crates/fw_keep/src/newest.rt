@@ -25,10 +25,7 @@ pub(crate) fn newest_by(entries: &[Entry], node: NodeId) -> Option<&Entry>
 fn checkpoint_by(entry: &Entry, node: NodeId) -> Option<&Entry>
     ensures { option_copied result ≡ spec.checkpoint_by node entry.now }
 {
-    match &entry.written {
-        Written::Checkpoint { .. } if entry.node == node => Some(entry),
-        _ => None,
-    }
+    entry.is_checkpoint_of(node).then_some(entry)
 }
 
 /// The front of the newest checkpoint of a node that is whole and lies within the frontier, if there is one. From it on, up to the

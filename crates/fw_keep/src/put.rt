@@ -1,29 +1,61 @@
 //! A record is put into a store, with its entry.
-ghost use Rattle.std.specs.Prelude.{◌≡◌, ◌+◌, ◌≤◌, ◌++◌, [], ◌∷◌, None, vec_len, IfOk, OnOk, OnErr, option_map};
+ghost use Rattle.std.specs.Prelude.{◌≡◌, ◌+◌, ◌≤◌, ◌<◌, ◌^◌, ◌++◌, [], ◌∷◌, None, vec_len, IfOk, OnOk, OnErr, option_map};
 ghost use Rattle.std.specs.Vec.{vec_capacity};
 ghost use Rattle.std.specs.Option.{ForSome};
+ghost use Rattle.std.specs.List.{AllByRecursion};
 ghost use Rattle.std.specs.FinMap as map;
 ghost use Rattle.fw_outside.specs.Outside.{faults_after};
 ghost use Rattle.fw_record.specs.Spelling.{spelling, FitsItsCounts};
-ghost use Rattle.fw_keep.specs.Entry.{asked};
+ghost use Rattle.fw_keep.specs.Catalogue.{AreAscending, AreShallow, ids_of};
+ghost use Rattle.fw_keep.specs.Entry as spec;
+ghost use Rattle.fw_keep.specs.Entry.{asked_beside};
 
 use crate::Entry;
-use crate::copies::{node_of, written_of};
+use crate::copies::{base_of, node_of, written_of};
+use crate::fetch::entry_at;
 use fw_flow::Stamps;
 use fw_outside::{OutFault, Store};
 use fw_record::{Record, encode};
 use std::alloc::{AllocError, Global};
 
-/// The entry of a record under an id. The error is want of memory.
-fn entry_of(id: u64, what: &Record, stamps: Stamps) -> Result<Entry, AllocError>
-    ensures { IfOk result (λ e. e ≡ asked id what.now stamps) }
+/// The depth of the entry of this id; 0 where there is none.
+fn depth_at(entries: &[Entry], id: u64) -> u64
+    requires ascending { AreAscending (ids_of entries.now) }
+    ensures { result ≡ spec.depth_at id entries.now }
 {
+    match entry_at(entries, id) {
+        Some(entry) => entry.depth,
+        None => 0,
+    }
+}
+
+/// How deep it is what stands on this base: one deeper than that; 0 where it has no base.
+fn depth_on(entries: &[Entry], base: Option<u64>) -> u64
+    requires ascending { AreAscending (ids_of entries.now) }
+    requires shallow { AreShallow entries.now }
+    requires few { AllByRecursion (λ e. e.id < 2 ^ 63) entries.now }
+    ensures { result ≡ spec.depth_on base entries.now }
+{
+    match base {
+        Some(id) => depth_at(entries, id) + 1,
+        None => 0,
+    }
+}
+
+/// The entry of a record under an id, beside these earlier ones. The error is want of memory.
+fn entry_of(entries: &[Entry], id: u64, what: &Record, stamps: Stamps) -> Result<Entry, AllocError>
+    requires ascending { AreAscending (ids_of entries.now) }
+    requires shallow { AreShallow entries.now }
+    requires few { AllByRecursion (λ e. e.id < 2 ^ 63) entries.now }
+    ensures { IfOk result (λ e. e ≡ asked_beside entries.now id what.now stamps) }
+{
+    let base = base_of(what);
     Ok(Entry {
         id,
         node: node_of(what),
         written: written_of(what, stamps)?,
-        base: None,
-        depth: 0,
+        base,
+        depth: depth_on(entries, base),
         acknowledged: false,
     })
 }
@@ -52,8 +84,11 @@ pub(crate) fn put_new<K: Store>(
     stamps: Stamps,
 ) -> Result<(), OutFault>
     requires room { vec_len waiting.old + vec_len entries.old ≤ vec_capacity waiting.old }
+    requires ascending { AreAscending (ids_of entries.old.items) }
+    requires shallow { AreShallow entries.old.items }
+    requires few { AllByRecursion (λ e. e.id < 2 ^ 63) entries.old.items }
     requires fresh { ForSome (K.view store.old).records (λ held. map.get held id ≡ None) }
-    ensures added { OnOk result (entries.new.items ≡ entries.old.items ++ asked id what.now stamps ∷ []) }
+    ensures added { OnOk result (entries.new.items ≡ entries.old.items ++ asked_beside entries.old.items id what.now stamps ∷ []) }
     ensures kept { OnErr result (entries.new.items ≡ entries.old.items) }
     ensures waiting { waiting.new.items ≡ waiting.old.items }
     ensures room { vec_len waiting.new + vec_len entries.new ≤ vec_capacity waiting.new }
@@ -65,7 +100,7 @@ pub(crate) fn put_new<K: Store>(
     ensures faults { (K.view store.new).faults ≡ faults_after result (K.view store.old).faults }
 {
     let bytes = encode(alloc, what)?;
-    let entry = entry_of(id, what, stamps)?;
+    let entry = entry_of(entries, id, what, stamps)?;
     add(entries, waiting, entry)?;
     let put = store.put_vec(id, bytes);
     if put.is_err() {

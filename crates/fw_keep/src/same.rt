@@ -5,13 +5,15 @@ ghost use Rattle.fw_keep.specs.Entry.{HasRecorded};
 use fw_flow::{OfEdge, Recorded};
 use fw_record::Record;
 
-/// Whether this is recorded in the record, which is a whole checkpoint.
+/// Whether this is recorded in the record of a checkpoint, whole or of changes.
 pub(crate) fn has_recorded(what: &Record, recorded: &Recorded) -> bool
     ensures { IsTrue result ↔ HasRecorded recorded.now what.now }
 {
     match what {
-        Record::State(checkpoint) => are_same(&checkpoint.recorded, recorded),
-        Record::Event { .. } | Record::Changes { .. } => false,
+        Record::State(checkpoint) | Record::Changes { checkpoint, .. } => {
+            are_same(&checkpoint.recorded, recorded)
+        }
+        Record::Event { .. } => false,
     }
 }
 

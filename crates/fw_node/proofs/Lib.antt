@@ -13,3 +13,4 @@ pub mod ChangingLaws
 pub mod SameTable
 pub mod SendsLaws
 pub mod TableCases
+pub mod ChainLaws

@@ -10,3 +10,4 @@ pub mod Sends
 pub mod StateOf
 pub mod TableOf
 pub mod TimedTable
+pub mod ChainOf

@@ -4,7 +4,7 @@ use Rattle.std.specs.Prelude.{IsSomeAnd}
 use Rattle.std.specs.List.{AllByRecursion, AllZip}
 use Rattle.std.proofs.lemmas.Bool.{and_parts, cases_lt, eqb-true}
 use Rattle.std.proofs.lemmas.List.{get_or_past}
-use Rattle.fw_lemmas.proofs.Each.{each-weaker, each-one, each-map, each-filter}
+use Rattle.fw_lemmas.proofs.Each.{each-append, each-weaker, each-one, each-map, each-filter}
 use Rattle.fw_time.specs.Stamp.{in_domain}
 use Rattle.fw_frontier.specs.Front.{Front, inside}
 use Rattle.fw_flow.specs.declared.choice.Choice.{Choice}
@@ -27,7 +27,8 @@ use Rattle.fw_record.specs.OfNode.{CanBeLogged}
 use Rattle.fw_keep.specs.declared.entry.Entry.{Entry}
 use Rattle.fw_keep.specs.declared.entry.Written.{Written}
 use Rattle.fw_keep.specs.declared.entry.Written.TheVariants as written
-use Rattle.fw_keep.specs.Entry.{IsRecordAs}
+use Rattle.fw_keep.specs.Chains.{changes_of, logged_in_all}
+use Rattle.fw_keep.specs.Entry.{IsRecordAs, IsRecordOn}
 use Rattle.fw_keep.specs.Stored.{Records}
 use Rattle.fw_edge.specs.Messages.{MessagesState}
 use Rattle.fw_node.specs.declared.node.Node.{Node}
@@ -35,7 +36,7 @@ use Rattle.fw_rollback.specs.declared.parts.Parts.{Parts}
 use Rattle.fw_rollback.specs.Asked.{IsFetched, asked_of, first_checkpoint, events_of, given_of, is_asked_for}
 use Rattle.fw_rollback.specs.Edges.{IsOnEdge, nothing_there, on_edge}
 use Rattle.fw_record.specs.Log.{logged_on}
-use Rattle.fw_rollback.specs.Restored.{AreOfFlow, HasDone, HasLogs, IsBuilt, IsCutTo, IsFromCheckpoint, Restores}
+use Rattle.fw_rollback.specs.Restored.{AreOfFlow, HasDone, HasLogs, IsBuilt, IsCutTo, IsFromChain, Restores}
 use Rattle.fw_rollback.specs.Tables.{table_at}
 
 -- each message is one of its edge
@@ -65,26 +66,57 @@ record CanBeLogOf (flow : Dataflow) (p : ℕ) (c : Checkpoint) : Type 0 where
   pub front : Front
   pub messages : AllByRecursion (CanBeLogged flow p front) c.log
 
-written-log : (flow : Dataflow) (p : ℕ) (what : Written) (c : Checkpoint) → IsRecordAs flow p what (tagged.State c) → CanBeLogOf flow p c
-written-log flow p (written.Checkpoint recorded stamps sent) c h = record { front = recorded.front; messages = h.of_node.log.messages }
-written-log flow p (written.Event event) c h = absurd (cc h)
+-- so can those of the record, if it holds a checkpoint or changes
+HasOwnLog : Dataflow → ℕ → Record → Type 0
+HasOwnLog flow p (tagged.State c) = CanBeLogOf flow p c
+HasOwnLog flow p (tagged.Event q event) = Unit {0}
+HasOwnLog flow p (tagged.Changes base c) = CanBeLogOf flow p c
 
-fetched-log : (flow : Dataflow) (records : Option Records) (p : ℕ) (es : List Entry) (rs : List Record) (c : Checkpoint) → AllByRecursion (λ (e : Entry). e.node ≡ p) es
-    → AllZip (IsFetched flow records) es rs → first_checkpoint rs ≡ Some c → CanBeLogOf flow p c
-fetched-log flow records p [] [] c a z e = absurd (cc e)
-fetched-log flow records p [] (r ∷ rs) c a z e = absurd z
-fetched-log flow records p (x ∷ es) [] c a z e = absurd z
-fetched-log flow records p (x ∷ es) (tagged.State k ∷ rs) c a z e =
+on-log : (flow : Dataflow) (p : ℕ) (f : Front) (base : Option ℕ) (r : Record) → IsRecordOn flow p f base r → HasOwnLog flow p r
+on-log flow p f None (tagged.State c) h = record { front = f; messages = h.log.messages }
+on-log flow p f None (tagged.Event q event) h = tt
+on-log flow p f None (tagged.Changes id c) h = absurd h
+on-log flow p f (Some base) (tagged.State c) h = absurd h
+on-log flow p f (Some base) (tagged.Event q event) h = tt
+on-log flow p f (Some base) (tagged.Changes id c) h = record { front = f; messages = h.1.log.messages }
+
+written-log : (flow : Dataflow) (p : ℕ) (base : Option ℕ) (what : Written) (r : Record) → IsRecordAs flow p base what r → HasOwnLog flow p r
+written-log flow p base (written.Checkpoint recorded stamps sent) r h = on-log flow p recorded.front base r h.of_node
+written-log flow p base (written.Event event) r h = subst (HasOwnLog flow p) (sym h) tt
+
+fetched-log : (flow : Dataflow) (records : Option Records) (p : ℕ) (es : List Entry) (rs : List Record) → AllByRecursion (λ (e : Entry). e.node ≡ p) es
+    → AllZip (IsFetched flow records) es rs → AllByRecursion (HasOwnLog flow p) rs
+fetched-log flow records p es [] a z = tt
+fetched-log flow records p [] (r ∷ rs) a z = absurd z
+fetched-log flow records p (x ∷ es) (r ∷ rs) a z =
+    (subst (λ q. HasOwnLog flow q r) a.0 (written-log flow x.node x.base x.written r z.0.fits), fetched-log flow records p es rs a.1 z.1)
+
+first-log : (flow : Dataflow) (p : ℕ) (rs : List Record) (c : Checkpoint) → AllByRecursion (HasOwnLog flow p) rs → first_checkpoint rs ≡ Some c → CanBeLogOf flow p c
+first-log flow p [] c a e = absurd (cc e)
+first-log flow p (tagged.State k ∷ rs) c a e =
     let same : k ≡ c = cc in
-    subst (CanBeLogOf flow p) same (subst (λ q. CanBeLogOf flow q k) a.0 (written-log flow x.node x.written k z.0.fits))
-fetched-log flow records p (x ∷ es) (tagged.Event q event ∷ rs) c a z e = absurd (cc e)
-fetched-log flow records p (x ∷ es) (tagged.Changes base k ∷ rs) c a z e = absurd (cc e)
+    subst (CanBeLogOf flow p) same a.0
+first-log flow p (tagged.Event q event ∷ rs) c a e = absurd (cc e)
+first-log flow p (tagged.Changes base k ∷ rs) c a e = absurd (cc e)
+
+changes-log : (flow : Dataflow) (p : ℕ) (rs : List Record) → AllByRecursion (HasOwnLog flow p) rs → AllByRecursion (CanBeLogOf flow p) (changes_of rs)
+changes-log flow p [] a = tt
+changes-log flow p (tagged.State k ∷ rs) a = changes-log flow p rs a.1
+changes-log flow p (tagged.Event q event ∷ rs) a = changes-log flow p rs a.1
+changes-log flow p (tagged.Changes base k ∷ rs) a = (a.0, changes-log flow p rs a.1)
 
 asked-node : (flow : Dataflow) (choice : Choice) (entries : List Entry) (p : ℕ) → AllByRecursion (λ (e : Entry). e.node ≡ p) (asked_of flow choice entries p)
 asked-node flow choice entries p =
-    let test = λ (e : Entry). (e.node == p) && is_asked_for flow choice e in
+    let test = λ (e : Entry). (e.node == p) && is_asked_for flow choice entries e in
     each-filter (λ (e : Entry). e.node ≡ p) test entries
-    (each-one (λ (e : Entry). test e ≡ true → e.node ≡ p) entries (λ e i. eqb-true e.node p (and_parts (e.node == p) (is_asked_for flow choice e) i).0))
+    (each-one (λ (e : Entry). test e ≡ true → e.node ≡ p) entries (λ e i. eqb-true e.node p (and_parts (e.node == p) (is_asked_for flow choice entries e) i).0))
+
+-- what these checkpoints logged on an edge from the node is the edge's
+chain-fit : (flow : Dataflow) (p : ℕ) (e : ℕ) → sender flow e ≡ p → (cs : List Checkpoint) → AllByRecursion (CanBeLogOf flow p) cs
+    → AllByRecursion (IsOnEdge flow e) (logged_in_all e cs)
+chain-fit flow p e s [] a = tt
+chain-fit flow p e s (c ∷ cs) a =
+    each-append (IsOnEdge flow e) (logged_on e c.log) (logged_in_all e cs) (logged-fit flow p a.0.front e s c.log a.0.messages) (chain-fit flow p e s cs a.1)
 
 -- ---- what is built
 
@@ -92,34 +124,35 @@ nothing-fits : (flow : Dataflow) (p : ℕ) (logs : List MessagesState) → HasLo
     → AllByRecursion (IsOnEdge flow e) (on_edge logs e).messages
 nothing-fits flow p logs h e l s = subst (λ (log : MessagesState). AllByRecursion (IsOnEdge flow e) log.messages) (sym (h e l s)) tt
 
-checkpoint-fits : (flow : Dataflow) (low : List Front) (p : ℕ) (f : Front) (c : Option Checkpoint) → ((k : Checkpoint) → c ≡ Some k → CanBeLogOf flow p k)
-    → (node : Node) (logs : List MessagesState) → IsFromCheckpoint flow low p f c node logs → (e : ℕ) → e < length flow.edges → sender flow e ≡ p
+chain-fits : (flow : Dataflow) (low : List Front) (p : ℕ) (c : Option Checkpoint) → ((k : Checkpoint) → c ≡ Some k → CanBeLogOf flow p k)
+    → (later : List Checkpoint) → AllByRecursion (CanBeLogOf flow p) later
+    → (node : Node) (logs : List MessagesState) → IsFromChain flow low p c later node logs → (e : ℕ) → e < length flow.edges → sender flow e ≡ p
     → AllByRecursion (IsOnEdge flow e) (on_edge logs e).messages
-checkpoint-fits flow low p f None can node logs h e l s = nothing-fits flow p logs h.1 e l s
-checkpoint-fits flow low p f (Some c) can node logs h e l s =
-    let log = can c refl in
+chain-fits flow low p None can later more node logs h e l s = nothing-fits flow p logs h.1 e l s
+chain-fits flow low p (Some c) can later more node logs h e l s =
+    let all = logged_in_all e (c ∷ later) in
     subst (λ (x : MessagesState). AllByRecursion (IsOnEdge flow e) x.messages) (sym (h.2 e l s))
-    (each-sorted_messages (IsOnEdge flow e) (messages_outside (inside (front_of low (receiver flow e))) (logged_on e c.log))
-    (each-filter (IsOnEdge flow e) _ (logged_on e c.log)
-    (each-weaker (IsOnEdge flow e) _ (logged_on e c.log) (λ m k i. k) (logged-fit flow p log.front e s c.log log.messages))))
+    (each-sorted_messages (IsOnEdge flow e) (messages_outside (inside (front_of low (receiver flow e))) all)
+    (each-filter (IsOnEdge flow e) _ all
+    (each-weaker (IsOnEdge flow e) _ all (λ m k i. k) (chain-fit flow p e s (c ∷ later) (can c refl, more)))))
 
 some-and : {A : Type 0} (P : A → Type 0) (G : Type 0) (o : Option A) → IsSomeAnd o P → ((x : A) → P x → G) → G
 some-and P G None h f = absurd h
 some-and P G (Some x) h f = f x h
 
-built-fits : (flow : Dataflow) (low : List Front) (p : ℕ) (f : Front) (given : List Record) → ((c : Checkpoint) → first_checkpoint given ≡ Some c → CanBeLogOf flow p c)
+built-fits : (flow : Dataflow) (low : List Front) (p : ℕ) (f : Front) (given : List Record) → AllByRecursion (HasOwnLog flow p) given
     → (way : Restoring) (table : Option Node) (logs : List MessagesState) → IsBuilt flow low p f given way table logs
     → (e : ℕ) → e < length flow.edges → sender flow e ≡ p → AllByRecursion (IsOnEdge flow e) (on_edge logs e).messages
 built-fits flow low p f given can Batches table logs b e l s = nothing-fits flow p logs b.1 e l s
 built-fits flow low p f given can Bound table logs b e l s = nothing-fits flow p logs b.1 e l s
 built-fits flow low p f given can Anything table logs b e l s = nothing-fits flow p logs b.1 e l s
 built-fits flow low p f given can Checkpoints table logs b e l s =
-    some-and (λ node. IsFromCheckpoint flow low p f (first_checkpoint given) node logs) _ table b
-    (λ node h. checkpoint-fits flow low p f (first_checkpoint given) can node logs h e l s)
+    some-and (λ node. IsFromChain flow low p (first_checkpoint given) (changes_of given) node logs) _ table b
+    (λ node h. chain-fits flow low p (first_checkpoint given) (λ k is. first-log flow p given k can is) (changes_of given) (changes-log flow p given can) node logs h e l s)
 built-fits flow low p f given can Events table logs b e l s =
     some-and (λ node. HasDone flow low p f (events_of given) node logs) _ table b (λ node h. h.own e l s)
 
-cut-fits : (flow : Dataflow) (p : ℕ) (old new : Parts) (given : List Record) → ((c : Checkpoint) → first_checkpoint given ≡ Some c → CanBeLogOf flow p c)
+cut-fits : (flow : Dataflow) (p : ℕ) (old new : Parts) (given : List Record) → AllByRecursion (HasOwnLog flow p) given
     → AreOnEdges flow old.logs → (cut : Cut) → IsCutTo flow p old given new cut
     → (e : ℕ) → e < length flow.edges → sender flow e ≡ p → AllByRecursion (IsOnEdge flow e) (on_edge new.logs e).messages
 cut-fits flow p old new given can logs Present h e l s =
@@ -135,7 +168,7 @@ logs-fit flow choice records old new w r each logs = λ e. elim (cases_lt e (len
       let there = w.senders_declared e l in
       let given = given_of r.given p in
       cut-fits flow p old new given
-      (λ c is. fetched-log flow records p (asked_of flow choice old.keep.entries p) given c (asked-node flow choice old.keep.entries p) (r.fetched p there) is)
+      (fetched-log flow records p (asked_of flow choice old.keep.entries p) given (asked-node flow choice old.keep.entries p) (r.fetched p there))
       logs (cut_of choice p) (r.restored.nodes p there) e l refl
   | inr past ↦
       subst (λ (log : MessagesState). AllByRecursion (IsOnEdge flow e) log.messages)

@@ -30,6 +30,7 @@ use Rattle.fw_model.specs.Writes.{takes_checkpoints}
 use Rattle.fw_model.proofs.InputLaws.{injected-few}
 use Rattle.fw_record.specs.declared.record.Record.{Record}
 use Rattle.fw_keep.specs.declared.entry.Entry.{Entry}
+use Rattle.fw_keep.specs.Chains.{changes_of}
 use Rattle.fw_keep.specs.Stored.{Records}
 use Rattle.fw_edge.specs.Messages.{MessagesState}
 use Rattle.fw_border.specs.Outputs.{OutputState}
@@ -38,18 +39,19 @@ use Rattle.fw_node.specs.declared.node.Node.{Node}
 use Rattle.fw_rollback.specs.declared.parts.Parts.{Parts}
 use Rattle.fw_rollback.specs.Asked.{asked_of, first_checkpoint, events_of, IsFetched}
 use Rattle.fw_rollback.specs.Edges.{on_edge}
-use Rattle.fw_rollback.specs.Restored.{HasDone, IsBuilt, IsCutTo, IsFromCheckpoint, output_after, queue_after}
+use Rattle.fw_rollback.specs.Restored.{HasDone, IsBuilt, IsCutTo, IsFromChain, output_after, queue_after}
 use Rattle.fw_rollback.specs.Tables.{table_at}
 use Rattle.fw_stands.specs.Recovered.{Recovers}
 use Rattle.fw_stands.specs.Parts.{IsOutputOf, IsSourceOf, IsTableIn, logged, queued}
 use Rattle.fw_stands.specs.Written.{AreEntriesOf, AreStored, uncollected}
 use Rattle.fw_stands.proofs.AtReached.{reached-legal}
+use Rattle.fw_stands.proofs.RecoveredChains.{logs-from_chains, tables-from_chains}
 use Rattle.fw_stands.proofs.RecoveredBorders.{recs-cut, recs-present, sources-rolled}
-use Rattle.fw_stands.proofs.RecoveredLogs.{logged-none, logs-from_checkpoints, logs-from_replay, logs-of_nothing, logs-present, others-have_no_log}
+use Rattle.fw_stands.proofs.RecoveredLogs.{logged-none, logs-from_replay, logs-of_nothing, logs-present, others-have_no_log}
 use Rattle.fw_stands.proofs.RecoveredQueues.{queues-cut, queues-present}
-use Rattle.fw_stands.proofs.RecoveredTables.{cuts-canonical, replayed-told, tables-borders, tables-from_checkpoints, tables-from_replay, tables-new, tables-nothing, tables-present}
+use Rattle.fw_stands.proofs.RecoveredTables.{cuts-canonical, replayed-told, tables-borders, tables-from_replay, tables-new, tables-nothing, tables-present}
 use Rattle.fw_running.specs.Steps.{Trusts}
-use Rattle.fw_recover.proofs.ReadingLaws.{checkpoint-read, events-read}
+use Rattle.fw_recover.proofs.ReadingLaws.{checkpoints-read, events-read}
 
 -- ---- ways
 
@@ -117,22 +119,26 @@ some-and : {A : Type 0} (P : A → Type 0) (Q : Option A → Type 0) (o : Option
 some-and P Q None h f = absurd h
 some-and P Q (Some x) h f = f x h
 
--- the table that is built for a node from the checkpoint that was read
+-- what is built from the records of a chain
+abbrev FromRecords : System → List Front → ℕ → List Record → Node → List MessagesState → Type 0
+FromRecords sys low p rs node logs = IsFromChain sys.flow low p (first_checkpoint rs) (changes_of rs) node logs
+
+-- the table that is built for a node from the checkpoints that were read
 table-saved : (sys : System) (state : Machine) (choice : Choice) (settled : List Front) (records : Option Records) (p : ℕ) (given : List Record)
     → IsGiven sys state choice settled records p given → way_of sys.flow p ≡ Checkpoints → (f : Front) → cut_of choice p ≡ At f
-    → (node : Node) (logs : List MessagesState) → IsFromCheckpoint sys.flow state.low p f (first_checkpoint given) node logs
+    → (node : Node) (logs : List MessagesState) → FromRecords sys state.low p given node logs
     → IsTableIn sys (recovered_state sys state choice settled) p (Some node)
 table-saved sys state choice settled records p given g way f is node logs built =
     let r = g.recovers in
     let kind = kind_of sys.flow p in
     let takes = checkpoints-take kind (policy_of sys.flow p) way in
-    elim (checkpoint-read sys state choice settled r g.entries g.of_writes records g.stored g.trusts given p f g.declared way takes is g.fetched) [
+    elim (checkpoints-read sys state choice settled r g.entries g.of_writes records g.stored g.trusts given p f g.declared way takes is g.fetched) [
       | inl none ↦
-          let new = subst (λ c. IsFromCheckpoint sys.flow state.low p f c node logs) none.none built in
+          let new = subst (λ c. IsFromChain sys.flow state.low p c (changes_of given) node logs) none.none built in
           tables-nothing sys state choice settled r p g.declared (checkpoints-inner kind (policy_of sys.flow p) way) (is ∙ ap At none.front) node new.0
-      | inr one ↦
-          let saved = subst (λ c. IsFromCheckpoint sys.flow state.low p f c node logs) one.one built in
-          tables-from_checkpoints sys state choice settled r p g.declared way f is one.low one.saved one.of_write node saved.1
+      | inr read ↦
+          let saved = subst (λ rs. FromRecords sys state.low p rs node logs) read.all built in
+          tables-from_chains sys state choice settled r p g.declared way f is read.first (changes_of read.more) read.chain node saved.1
     ]
 
 -- that of a node that does its events again
@@ -191,20 +197,20 @@ table-after sys state choice settled records p given g old new low made t =
 log-saved : (sys : System) (state : Machine) (choice : Choice) (settled : List Front) (records : Option Records) (e : ℕ) (given : List Record)
     → IsGiven sys state choice settled records (sender sys.flow e) given → e < length sys.flow.edges
     → way_of sys.flow (sender sys.flow e) ≡ Checkpoints → (f : Front) → cut_of choice (sender sys.flow e) ≡ At f
-    → (node : Node) (logs : List MessagesState) → IsFromCheckpoint sys.flow state.low (sender sys.flow e) f (first_checkpoint given) node logs
+    → (node : Node) (logs : List MessagesState) → FromRecords sys state.low (sender sys.flow e) given node logs
     → (on_edge logs e).messages ≡ logged sys (recovered_state sys state choice settled) e
 log-saved sys state choice settled records e given g l way f is node logs built =
     let r = g.recovers in
     let p = sender sys.flow e in
     let takes = checkpoints-take (kind_of sys.flow p) (policy_of sys.flow p) way in
-    elim (checkpoint-read sys state choice settled r g.entries g.of_writes records g.stored g.trusts given p f g.declared way takes is g.fetched) [
+    elim (checkpoints-read sys state choice settled r g.entries g.of_writes records g.stored g.trusts given p f g.declared way takes is g.fetched) [
       | inl none ↦
-          let new = subst (λ c. IsFromCheckpoint sys.flow state.low p f c node logs) none.none built in
+          let new = subst (λ c. IsFromChain sys.flow state.low p c (changes_of given) node logs) none.none built in
           ap (λ (log : MessagesState). log.messages) (new.1 e l refl) ∙ sym (logs-of_nothing sys state choice settled r e l (is ∙ ap At none.front))
-      | inr one ↦
-          let saved = subst (λ c. IsFromCheckpoint sys.flow state.low p f c node logs) one.one built in
+      | inr read ↦
+          let saved = subst (λ rs. FromRecords sys state.low p rs node logs) read.all built in
           ap (λ (log : MessagesState). log.messages) (saved.2 e l refl)
-          ∙ sym (logs-from_checkpoints sys state choice settled r e l f is one.write one.low one.there one.of_checkpoint one.saved one.of_write)
+          ∙ sym (logs-from_chains sys state choice settled r e f is read.first (changes_of read.more) read.chain)
     ]
 
 log-done : (sys : System) (state : Machine) (choice : Choice) (settled : List Front) (records : Option Records) (e : ℕ) (given : List Record)

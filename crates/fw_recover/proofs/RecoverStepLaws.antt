@@ -146,10 +146,11 @@ refusal-shaped T old (keep.Damaged id bytes) s = s
 refusal-shaped T old keep.NoMemory s = tt
 
 -- the largest choice asks for the entry
-asked-in : (old : Running) (choice : Choice) (entry : Entry) → IsChosenBy old Failed choice → is_asked_for old.flow choice entry ≡ true
-    → (sys : System) (records : Option Records) (state : Machine) → Stands sys old records state → IsAskedIn sys entry state
-asked-in old choice entry chosen asked sys records state s =
-    (choice, chosen sys records state s, subst (λ flow. is_asked_for flow choice entry ≡ true) s.apart.flow asked)
+asked-in : (old : Running) (choice : Choice) (entries : List Entry) (entry : Entry) → IsChosenBy old Failed choice
+    → is_asked_for old.flow choice entries entry ≡ true
+    → (sys : System) (records : Option Records) (state : Machine) → Stands sys old records state → IsAskedIn sys entries entry state
+asked-in old choice entries entry chosen asked sys records state s =
+    (choice, chosen sys records state s, subst (λ flow. is_asked_for flow choice entries entry ≡ true) s.apart.flow asked)
 
 -- the damage that a recovery tells
 pub refusal-damage : (old : Running) (choice : Choice) (records : Option Records) (got : Option (ℕ × List ℕ)) (why : KeepFault) → IsChosenBy old Failed choice
@@ -165,7 +166,7 @@ refusal-damage old choice records got (keep.Damaged at bytes) chosen d id e =
       bytes = bytes.items;
       gave = d.given;
       spells_none = d.none;
-      asked = asked-in old choice d.entry chosen d.asked;
+      asked = asked-in old choice old.parts.keep.entries d.entry chosen d.asked;
     })
 refusal-damage old choice records got keep.NoMemory chosen d id e = absurd (cc e)
 

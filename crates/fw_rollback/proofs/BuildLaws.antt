@@ -1,5 +1,5 @@
 -- What is built, node by node and edge by edge.
-use Rattle.std.proofs.Common.{◌≡◌, ◌≢◌, ℕ, ◌+◌, ◌≤◌, ◌<◌, Bool, true, false, List, [], ◌∷◌, ◌++◌, length, set, replicate, Option, Some, None, Result, Ok, Err, sym, ap, subst, ◌∙◌, inl, inr, arith}
+use Rattle.std.proofs.Common.{◌≡◌, ◌≢◌, ℕ, ◌+◌, ◌≤◌, ◌<◌, Bool, true, false, List, [], ◌∷◌, ◌++◌, append_assoc, length, set, take, get_or, replicate, Option, Some, None, Result, Ok, Err, sym, ap, subst, ◌∙◌, inl, inr, arith}
 use Rattle.std.specs.Prelude.{slice_get, IsSomeAnd, IfOk, OnOk}
 use Rattle.std.proofs.lemmas.Option.{get_or_from_slice_get, slice_get-get_or}
 use Rattle.std.proofs.lemmas.Bool.{cases_lt, cases_eq}
@@ -12,7 +12,8 @@ use Rattle.fw_flow.specs.declared.restoring.Restoring.{Restoring}
 use Rattle.fw_flow.specs.declared.restoring.Restoring.TheVariants.{Batches, Bound, Anything, Checkpoints, Events}
 use Rattle.std.specs.List.{AllByRecursion, Contains}
 use Rattle.std.proofs.lemmas.Bool.{and_parts}
-use Rattle.std.proofs.lemmas.List.{append-nil}
+use Rattle.std.proofs.lemmas.Grind.{flat_map-append}
+use Rattle.std.proofs.lemmas.List.{append-nil, map-append, take_more}
 use Rattle.fw_lemmas.proofs.Each.{each-weaker}
 use Rattle.fw_time.specs.Stamp.{Stamp, in_domain}
 use Rattle.fw_flow.specs.declared.event.Event.{Event}
@@ -27,11 +28,11 @@ use Rattle.fw_record.specs.declared.logged.Logged.{Logged}
 use Rattle.fw_record.specs.declared.record.Record.TheVariants as tagged
 use Rattle.fw_node.specs.Arrived.{AreOnEdges}
 use Rattle.fw_node.specs.NodeOf.{IsNodeOf}
-use Rattle.fw_node.specs.StateOf.{IsStateOf}
+use Rattle.fw_node.specs.StateOf.{IsStateOf, IsStateSince}
 use Rattle.fw_node.specs.TableOf.{IsTableOf}
 use Rattle.fw_node.proofs.NodeLaws.{each_of}
 use Rattle.fw_rollback.proofs.ListLaws.{out_edges-there}
-use Rattle.fw_rollback.proofs.LogLaws.{with_messages-nothing}
+use Rattle.fw_rollback.proofs.LogLaws.{log_of-same, with_messages-nothing}
 use Rattle.fw_flow.specs.Restoring.{way_of}
 use Rattle.fw_model.specs.Choice.{cut_of}
 use Rattle.fw_record.specs.declared.record.Checkpoint.{Checkpoint}
@@ -41,8 +42,16 @@ use Rattle.fw_node.specs.declared.node.Node.{Node}
 use Rattle.fw_rollback.specs.Asked.{front_at, first_checkpoint, given_of, events_of, CanServe}
 use Rattle.fw_rollback.specs.Built.{by_cut, AreNodesBuilt, AreQueuesBuilt, log_after}
 use Rattle.fw_rollback.specs.Edges.{on_edge, nothing_there, IsOnEdge}
+use Rattle.fw_keep.specs.Chains.{changes_in, changes_of, logged_in_all, states_of}
 use Rattle.fw_record.specs.Log.{logged_on}
-use Rattle.fw_rollback.specs.Restored.{HasLogs, HasDone, IsBuilt, IsFromCheckpoint, log_of, log_left_outside}
+use Rattle.fw_frontier.specs.declared.state.State.{State}
+use Rattle.fw_model.specs.Filtering.{events_inside}
+use Rattle.fw_model.proofs.SentLaws.{copy}
+use Rattle.fw_model.proofs.SortedLaws.{same_sorted_messages}
+use Rattle.fw_model.proofs.WeightLaws.{weigh, weigh-append}
+use Rattle.fw_node.specs.ChainOf.{IsOfChain}
+use Rattle.fw_node.proofs.ChainLaws.{chain-first, chain-more}
+use Rattle.fw_rollback.specs.Restored.{HasLogs, HasDone, IsBuilt, IsFromChain, log_of, log_left_outside}
 use Rattle.fw_rollback.specs.Tables.{table_at}
 
 -- ---- logs of other nodes
@@ -55,10 +64,10 @@ pub has_logs-stay : (flow : Dataflow) (p : ℕ) (logs next : List MessagesState)
     → HasLogs flow p logs log → HasLogs flow p next log
 has_logs-stay flow p logs next log k h e l s = k e l s ∙ h e l s
 
-from_checkpoint-stays : (flow : Dataflow) (low : List Front) (p : ℕ) (f : Front) (c : Option Checkpoint) (node : Node) (logs next : List MessagesState)
-    → KeepsLogs flow p logs next → IsFromCheckpoint flow low p f c node logs → IsFromCheckpoint flow low p f c node next
-from_checkpoint-stays flow low p f None node logs next k h = (h.0, has_logs-stay flow p logs next (λ e. nothing_there) k h.1)
-from_checkpoint-stays flow low p f (Some c) node logs next k h = (h.0, h.1, λ e l s. k e l s ∙ h.2 e l s)
+from_chain-stays : (flow : Dataflow) (low : List Front) (p : ℕ) (c : Option Checkpoint) (later : List Checkpoint) (node : Node) (logs next : List MessagesState)
+    → KeepsLogs flow p logs next → IsFromChain flow low p c later node logs → IsFromChain flow low p c later node next
+from_chain-stays flow low p None later node logs next k h = (h.0, has_logs-stay flow p logs next (λ e. nothing_there) k h.1)
+from_chain-stays flow low p (Some c) later node logs next k h = (h.0, h.1, λ e l s. k e l s ∙ h.2 e l s)
 
 some-and : {A : Type 0} (P Q : A → Type 0) (o : Option A) → ((x : A) → P x → Q x) → IsSomeAnd o P → IsSomeAnd o Q
 some-and P Q None f h = absurd h
@@ -71,8 +80,8 @@ built-stays flow low p f given Batches table logs next k h = (h.0, has_logs-stay
 built-stays flow low p f given Bound table logs next k h = (h.0, has_logs-stay flow p logs next (λ e. nothing_there) k h.1)
 built-stays flow low p f given Anything table logs next k h = (h.0, has_logs-stay flow p logs next (λ e. nothing_there) k h.1)
 built-stays flow low p f given Checkpoints table logs next k h =
-    some-and (λ node. IsFromCheckpoint flow low p f (first_checkpoint given) node logs) (λ node. IsFromCheckpoint flow low p f (first_checkpoint given) node next) table
-    (λ node. from_checkpoint-stays flow low p f (first_checkpoint given) node logs next k) h
+    some-and (λ node. IsFromChain flow low p (first_checkpoint given) (changes_of given) node logs) (λ node. IsFromChain flow low p (first_checkpoint given) (changes_of given) node next) table
+    (λ node. from_chain-stays flow low p (first_checkpoint given) (changes_of given) node logs next k) h
 built-stays flow low p f given Events table logs next k h =
     some-and (λ node. HasDone flow low p f (events_of given) node logs) (λ node. HasDone flow low p f (events_of given) node next) table
     (λ node d. record { of_node = d.of_node; own = λ e l s. subst (λ (x : MessagesState). AllByRecursion (IsOnEdge flow e) x.messages) (sym (k e l s)) (d.own e l s); table = d.table; sent = λ batches events a e l s. k e l s ∙ d.sent batches events a e l s }) h
@@ -237,27 +246,91 @@ logged-apart flow p ls a e n =
     each-weaker (λ (l : Logged). Contains (out_edges flow p) l.edge) (λ (l : Logged). l.edge ≢ e) ls
     (λ l k s. n (ap (sender flow) (sym s) ∙ each-contained (λ d. sender flow d ≡ p) l.edge (out_edges flow p) k (out_edges-from (λ d. sender flow d ≡ p) flow p (λ d i r. r)))) a
 
--- a node that is restored from a checkpoint, with its logs
-pub restored-some : {E : Type 0} (flow : Dataflow) (low : List Front) (p : ℕ) (f : Front) (rs : List Record) (c : Checkpoint) (r : Result Node E) (old new : List MessagesState)
+-- those of the first record, where it is a checkpoint
+pub first-apart : (flow : Dataflow) (p : ℕ) (rs : List Record) (c : Checkpoint) (ls : List Logged) → Some c ≡ first_checkpoint rs → AllByRecursion (CanServe flow p) rs
+    → ls ≡ c.log → (e : ℕ) → sender flow e ≢ p → AllByRecursion (λ (l : Logged). l.edge ≢ e) ls
+first-apart flow p rs c ls e a same d n =
+    subst (λ (xs : List Logged). AllByRecursion (λ (l : Logged). l.edge ≢ d) xs) (sym same) (logged-apart flow p c.log (first-serves flow p rs c e a) d n)
+
+-- a node that is restored from a checkpoint and takes in the changes since, with its logs
+pub restored-chain : (flow : Dataflow) (low : List Front) (p : ℕ) (rs : List Record) (c : Checkpoint) (first last : Node) (old mid new : List MessagesState)
     → Some c ≡ first_checkpoint rs → HasLogs flow p old (λ e. nothing_there)
     → ((settled : Stamp → Bool) (before : List Event) → EachDelivery (λ s. (settled s ≡ true) × (in_domain (bounds_of flow p) s ≡ true)) before
-    → AreOnEdges (in_edges flow p) before → IsStateOf (kind_of flow p) before c.state → IfOk r (λ node. IsTableOf flow p settled node before))
-    → IfOk r (IsNodeOf flow p)
-    → ((e : ℕ) (ms : List Message) → on_edge old e ≡ log_of flow low e ms → on_edge new e ≡ log_of flow low e (logged_on e c.log ++ ms))
-    → IfOk r (λ node. IsFromCheckpoint flow low p f (first_checkpoint rs) node new)
-restored-some flow low p f rs c (Err x) old new e empty table of_node logs = tt
-restored-some flow low p f rs c (Ok node) old new e empty table of_node logs =
-    subst (λ (k : Option Checkpoint). IsFromCheckpoint flow low p f k node new) e (
-      of_node,
-      λ before inside_f on state. table (node_frontier flow p f) before
-          (each_of (λ s. node_frontier flow p f s ≡ true) (λ s. (node_frontier flow p f s ≡ true) × (in_domain (bounds_of flow p) s ≡ true))
-          (λ s k. (k, (and_parts (in_domain (bounds_of flow p) s) (inside f s) k).0)) before inside_f) on state,
-      λ d l r. logs d [] (empty d l r) ∙ ap (log_of flow low d) (append-nil (logged_on d c.log)),
+    → AreOnEdges (in_edges flow p) before → IsStateOf (kind_of flow p) before c.state → IsTableOf flow p settled first before)
+    → IsNodeOf flow p first
+    → ((e : ℕ) (ms : List Message) → on_edge old e ≡ log_of flow low e ms → on_edge mid e ≡ log_of flow low e (logged_on e c.log ++ ms))
+    → ((f : Front) (state : State) → IsOfChain flow p f state [] first → IsOfChain flow p f state (states_of (changes_of rs)) last)
+    → (IsNodeOf flow p first → IsNodeOf flow p last)
+    → ((e : ℕ) (ms : List Message) → on_edge mid e ≡ log_of flow low e ms → on_edge new e ≡ log_of flow low e (ms ++ logged_in_all e (changes_of rs)))
+    → IsFromChain flow low p (first_checkpoint rs) (changes_of rs) last new
+restored-chain flow low p rs c first last old mid new e empty table of_node logs chain stays more =
+    subst (λ (k : Option Checkpoint). IsFromChain flow low p k (changes_of rs) last new) e (
+      stays of_node,
+      chain c.recorded.front c.state (chain-first flow p c.recorded.front c.state first table),
+      λ d l r. more d (logged_on d c.log) (logs d [] (empty d l r) ∙ ap (log_of flow low d) (append-nil (logged_on d c.log))),
     )
 
+-- a node that takes in the changes of one record
+pub one-taken : {T E : Type 0} (flow : Dataflow) (p : ℕ) (f : Front) (state : State) (done : List (Front × State)) (c : Checkpoint) (node next : Node) (r : Result T E)
+    → IsOfChain flow p f state done node
+    → ((settled after : Stamp → Bool) (before : List Event) → EachDelivery (λ s. (after s ≡ true) × (in_domain (bounds_of flow p) s ≡ true)) before
+    → AreOnEdges (in_edges flow p) before → IsTableOf flow p settled node (events_inside settled before) → IsStateSince (kind_of flow p) settled before c.state
+    → OnOk r (IsTableOf flow p after next before))
+    → OnOk r (IsOfChain flow p f state (done ++ states_of (c ∷ [])) next)
+one-taken flow p f state done c node next (Err x) stands takes = tt
+one-taken flow p f state done c node next (Ok x) stands takes = chain-more flow p f state done (c.recorded.front, c.state) node next stands takes
+
+-- its messages behind those that the log has
+pub one-logged : (flow : Dataflow) (low : List Front) (e : ℕ) (c : Checkpoint) (ms : List Message) (log : MessagesState) → log ≡ log_of flow low e (logged_on e c.log ++ ms)
+    → log ≡ log_of flow low e (ms ++ logged_in_all e (c ∷ []))
+one-logged flow low e c ms log is =
+    is
+    ∙ log_of-same flow low e (logged_on e c.log ++ ms) (ms ++ (logged_on e c.log ++ []))
+    (same_sorted_messages (logged_on e c.log ++ ms) (ms ++ (logged_on e c.log ++ []))
+    (λ q.
+    let own = logged_on e c.log in
+    weigh-append (copy q) own ms ∙ plus-swap (weigh (copy q) own) (weigh (copy q) ms)
+    ∙ ap (λ xs. weigh (copy q) ms + weigh (copy q) xs) (sym (append-nil own)) ∙ sym (weigh-append (copy q) ms (own ++ []))))
+  where
+    plus-swap : (a b : ℕ) → a + b ≡ b + a
+    plus-swap a b = omega arith
+
+-- ---- one record more of those that a node takes in
+
+changes-more : (rs : List Record) (i : ℕ) (r : Record) → i < length rs → r ≡ get_or rs i r → changes_of (take (i + 1) rs) ≡ changes_of (take i rs) ++ changes_in r
+changes-more rs i r l at =
+    ap changes_of (take_more rs i r l) ∙ flat_map-append changes_in (take i rs) (get_or rs i r ∷ [])
+    ∙ ap (λ xs. changes_of (take i rs) ++ xs) (append-nil (changes_in (get_or rs i r)) ∙ ap changes_in (sym at))
+
+-- the node stands for a chain that is longer by what the record holds
+pub taken-more : (flow : Dataflow) (p : ℕ) (rs : List Record) (i : ℕ) (r : Record) (first now next : Node) → i < length rs → r ≡ get_or rs i r
+    → ((f : Front) (state : State) → IsOfChain flow p f state [] first → IsOfChain flow p f state (states_of (changes_of (take i rs))) now)
+    → ((f : Front) (state : State) (done : List (Front × State)) → IsOfChain flow p f state done now → IsOfChain flow p f state (done ++ states_of (changes_in r)) next)
+    → (f : Front) (state : State) → IsOfChain flow p f state [] first → IsOfChain flow p f state (states_of (changes_of (take (i + 1) rs))) next
+taken-more flow p rs i r first now next l at before one f state h =
+    let front_and_state : Checkpoint → Front × State = λ c. (c.recorded.front, c.state) in
+    let all : states_of (changes_of (take (i + 1) rs)) ≡ states_of (changes_of (take i rs)) ++ states_of (changes_in r) =
+    ap states_of (changes-more rs i r l at) ∙ map-append front_and_state (changes_of (take i rs)) (changes_in r) in
+    subst (λ cs. IsOfChain flow p f state cs next) (sym all) (one f state (states_of (changes_of (take i rs))) (before f state h))
+
+-- and so do the logs hold its messages
+pub logged-more : (flow : Dataflow) (low : List Front) (rs : List Record) (i : ℕ) (r : Record) (first now next : List MessagesState) → i < length rs → r ≡ get_or rs i r
+    → ((e : ℕ) (ms : List Message) → on_edge first e ≡ log_of flow low e ms → on_edge now e ≡ log_of flow low e (ms ++ logged_in_all e (changes_of (take i rs))))
+    → ((e : ℕ) (ms : List Message) → on_edge now e ≡ log_of flow low e ms → on_edge next e ≡ log_of flow low e (ms ++ logged_in_all e (changes_in r)))
+    → (e : ℕ) (ms : List Message) → on_edge first e ≡ log_of flow low e ms → on_edge next e ≡ log_of flow low e (ms ++ logged_in_all e (changes_of (take (i + 1) rs)))
+logged-more flow low rs i r first now next l at before one e ms h =
+    let earlier = logged_in_all e (changes_of (take i rs)) in
+    let log : Checkpoint → List Message = λ c. logged_on e c.log in
+    let all : logged_in_all e (changes_of (take (i + 1) rs)) ≡ earlier ++ logged_in_all e (changes_in r) =
+    ap (logged_in_all e) (changes-more rs i r l at) ∙ flat_map-append log (changes_of (take i rs)) (changes_in r) in
+    one e (ms ++ earlier) (before e ms h)
+    ∙ ap (log_of flow low e) (append_assoc ms earlier (logged_in_all e (changes_in r)) ∙ ap (λ (xs : List Message). ms ++ xs) (sym all))
+
+-- ---- no checkpoint
+
 -- a node without a checkpoint
-pub restored-none : {E : Type 0} (flow : Dataflow) (low : List Front) (p : ℕ) (f : Front) (rs : List Record) (r : Result Node E) (logs : List MessagesState)
+pub restored-none : {E : Type 0} (flow : Dataflow) (low : List Front) (p : ℕ) (rs : List Record) (later : List Checkpoint) (r : Result Node E) (logs : List MessagesState)
     → None ≡ first_checkpoint rs → HasLogs flow p logs (λ e. nothing_there) → ((settled : Stamp → Bool) → IfOk r (λ node. IsTableOf flow p settled node []))
-    → IfOk r (λ node. IsFromCheckpoint flow low p f (first_checkpoint rs) node logs)
-restored-none flow low p f rs (Err x) logs e empty new = tt
-restored-none flow low p f rs (Ok node) logs e empty new = subst (λ (k : Option Checkpoint). IsFromCheckpoint flow low p f k node logs) e (new, empty)
+    → IfOk r (λ node. IsFromChain flow low p (first_checkpoint rs) later node logs)
+restored-none flow low p rs later (Err x) logs e empty new = tt
+restored-none flow low p rs later (Ok node) logs e empty new = subst (λ (k : Option Checkpoint). IsFromChain flow low p k later node logs) e (new, empty)

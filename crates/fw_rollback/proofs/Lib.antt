@@ -1,3 +1,4 @@
+pub mod AskedLaws
 pub mod BuildLaws
 pub mod CutLaws
 pub mod GivenLaws

@@ -1,11 +1,11 @@
 -- Which writes the cuts of a choice ask for, and the records that were fetched of them.
 use Rattle.std.specs.Prelude.{◌≡◌, ℕ, ◌<◌, Bool, true, false, ◌&&◌, ◌==◌}
 use Rattle.std.specs.Prelude.{List, [], ◌∷◌, length, filter, Option, Some, None, Result, Ok, Err, slice_index_or}
-use Rattle.std.specs.Option.{ForSome}
+use Rattle.std.specs.Option.{ForSome, option_and_then}
 use Rattle.std.specs.List.{AllByRecursion, AllZip, Contains, flat_map}
 use Rattle.std.specs.FinMap as map
 use Rattle.fw_time.specs.Stamp.{in_domain}
-use Rattle.fw_frontier.specs.Front.{Front, same_front}
+use Rattle.fw_frontier.specs.Front.{Front}
 use Rattle.fw_flow.specs.declared.choice.Choice.{Choice}
 use Rattle.fw_flow.specs.declared.choice.Cut.{Cut}
 use Rattle.fw_flow.specs.declared.choice.Cut.TheVariants.{Present, At}
@@ -28,6 +28,7 @@ use Rattle.fw_keep.specs.declared.fault.KeepFault.{KeepFault}
 use Rattle.fw_keep.specs.declared.fault.KeepFault.TheVariants as fault
 use Rattle.fw_record.specs.Event.{stamp_of_event}
 use Rattle.fw_keep.specs.Entry.{IsRecordOfEntry}
+use Rattle.fw_keep.specs.Newest.{is_written_between, whole_front, whole_within}
 use Rattle.fw_keep.specs.Stored.{Records, SpellsNone}
 use Rattle.fw_record.specs.Event.{event_of}
 
@@ -36,24 +37,37 @@ abbrev pub front_at : Cut → Option Front
 front_at Present = None
 front_at (At f) = Some f
 
--- whether node p needs what is written, where it is restored in this way to f: its checkpoint at f, or each event inside
-abbrev pub is_needed : Dataflow → ℕ → Front → Restoring → Written → Bool
-is_needed flow p f Checkpoints (written.Checkpoint recorded stamps sent) = same_front recorded.front f
-is_needed flow p f Events (written.Event event) = node_frontier flow p f (stamp_of_event event)
-is_needed flow p f way what = false
+-- the front of the newest whole checkpoint of node p within its cut, if it is cut and has one
+abbrev pub whole_in_cut : Choice → List Entry → ℕ → Option Front
+whole_in_cut choice entries p = option_and_then (λ f. whole_within p f entries) (front_at (cut_of choice p))
 
--- whether the cut of its node asks for the entry: it is acknowledged, and the node needs it
-abbrev pub is_asked_at : Dataflow → Cut → Entry → Bool
-is_asked_at flow Present e = false
-is_asked_at flow (At f) e = e.acknowledged && is_needed flow e.node f (way_of flow e.node) e.written
+-- the front of the entry, if node p is cut and the entry is a whole checkpoint of it within its cut
+abbrev pub whole_front_in_cut : Choice → ℕ → Entry → Option Front
+whole_front_in_cut choice p e = option_and_then (λ f. whole_front p f e) (front_at (cut_of choice p))
 
--- whether the choice asks for the entry
-abbrev pub is_asked_for : Dataflow → Choice → Entry → Bool
-is_asked_for flow choice e = is_asked_at flow (cut_of choice e.node) e
+-- these are those of each node
+abbrev pub AreWholes : Choice → List Entry → List (Option Front) → Type 0
+AreWholes choice entries wholes = (p : ℕ) → slice_index_or wholes p None ≡ whole_in_cut choice entries p
+
+-- whether node p needs what is written, where it is restored in this way to f, and this is the front of the newest whole one of its
+-- checkpoints within f: its checkpoints from that one up to f, or each event inside
+abbrev pub is_needed : Dataflow → Option Front → ℕ → Front → Restoring → Written → Bool
+is_needed flow (Some whole) p f Checkpoints what = is_written_between whole f what
+is_needed flow whole p f Events (written.Event event) = node_frontier flow p f (stamp_of_event event)
+is_needed flow whole p f way what = false
+
+-- whether the cut of its node asks for the entry, among these: it is acknowledged, and the node needs it
+abbrev pub is_asked_at : Dataflow → List Entry → Cut → Entry → Bool
+is_asked_at flow entries Present e = false
+is_asked_at flow entries (At f) e = e.acknowledged && is_needed flow (whole_within e.node f entries) e.node f (way_of flow e.node) e.written
+
+-- whether the choice asks for the entry, among these
+abbrev pub is_asked_for : Dataflow → Choice → List Entry → Entry → Bool
+is_asked_for flow choice entries e = is_asked_at flow entries (cut_of choice e.node) e
 
 -- the entries of node p that its cut asks for, in order
 abbrev pub asked_of : Dataflow → Choice → List Entry → ℕ → List Entry
-asked_of flow choice entries p = filter (λ e. (e.node == p) && is_asked_for flow choice e) entries
+asked_of flow choice entries p = filter (λ e. (e.node == p) && is_asked_for flow choice entries e) entries
 
 -- the records of node p, where these are those of each node
 abbrev pub given_of : List (List Record) → ℕ → List Record
@@ -76,7 +90,7 @@ pub record IsEntryDamaged (flow : Dataflow) (choice : Choice) (records : Option 
     (id : ℕ) (bytes : List ℕ) : Type 0 where
   pub entry : Entry
   pub there : Contains entries entry
-  pub asked : is_asked_for flow choice entry ≡ true
+  pub asked : is_asked_for flow choice entries entry ≡ true
   pub named : entry.id ≡ id
   pub given : got ≡ Some (id, bytes)
   pub told : ForSome records (λ held. map.get held id ≡ Some bytes)

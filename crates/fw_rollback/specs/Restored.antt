@@ -1,6 +1,6 @@
 -- What an engine keeps after a recovery, of what it kept before, of the choice, and of the records that were fetched. It
 -- speaks of no history.
-use Rattle.std.specs.Prelude.{◌≡◌, ℕ, ◌<◌, Bool, true, false, List, [], length, Option, Some, None, IfSome, IsSomeAnd}
+use Rattle.std.specs.Prelude.{◌≡◌, ℕ, ◌<◌, Bool, true, false, List, [], ◌∷◌, length, Option, Some, None, IfSome, IsSomeAnd}
 use Rattle.std.specs.List.{AllByRecursion}
 use Rattle.fw_time.specs.Stamp.{Stamp, in_domain}
 use Rattle.fw_bag.specs.declared.rec.Rec.{Rec}
@@ -33,7 +33,7 @@ use Rattle.fw_rollback.specs.Edges.{on_edge, nothing_there, IsOnEdge}
 use Rattle.fw_node.specs.declared.node.Node.{Node}
 use Rattle.fw_node.specs.Arrived.{AreOnEdges}
 use Rattle.fw_node.specs.NodeOf.{IsNodeOf}
-use Rattle.fw_node.specs.StateOf.{IsStateOf}
+use Rattle.fw_node.specs.ChainOf.{IsOfChain}
 use Rattle.fw_node.specs.TableOf.{IsTableOf}
 use Rattle.fw_rollback.specs.Tables.{table_at}
 use Rattle.fw_border.specs.Outputs.{OutputState, output_at, cleared}
@@ -42,7 +42,7 @@ use Rattle.fw_rollback.specs.declared.parts.Parts.{Parts}
 use Rattle.fw_rollback.specs.Asked.{AreFetched, first_checkpoint, events_of, given_of}
 use Rattle.fw_rollback.specs.Replay.{AreDoneAgain}
 use Rattle.fw_keep.specs.Entry.{is_beyond}
-use Rattle.fw_record.specs.Log.{logged_on}
+use Rattle.fw_keep.specs.Chains.{changes_of, logged_in_all, states_of}
 
 -- ---- logs
 
@@ -65,12 +65,6 @@ HaveOwnMessages flow p logs = (e : ℕ) → e < length flow.edges → sender flo
 abbrev pub IsNew : Dataflow → ℕ → Node → Type 0
 IsNew flow p node = (settled : Stamp → Bool) → IsTableOf flow p settled node []
 
--- the node stands for all events inside f that have this state
-abbrev pub IsOfState : Dataflow → ℕ → Front → State → Node → Type 0
-IsOfState flow p f state node =
-    (before : List Event) → EachDelivery (λ s. node_frontier flow p f s ≡ true) before → AreOnEdges (in_edges flow p) before
-    → IsStateOf (kind_of flow p) before state → IsTableOf flow p (node_frontier flow p f) node before
-
 -- the logs of the edges from node p have what these logged events sent, done again
 abbrev pub HaveSent : Dataflow → List Front → ℕ → List LoggedEvent → List MessagesState → Type 0
 HaveSent flow low p logged logs =
@@ -88,19 +82,20 @@ pub record HasDone (flow : Dataflow) (low : List Front) (p : ℕ) (f : Front) (l
       → AllByRecursion (λ o. in_domain (bounds_of flow p) o ≡ true) f → IsTableOf flow p (node_frontier flow p f) node events
   pub sent : HaveSent flow low p logged logs
 
--- the node is restored from its checkpoint, and the logs of its edges have the messages that this holds; where there is none it is a
--- new one, and the logs are empty
-abbrev pub IsFromCheckpoint : Dataflow → List Front → ℕ → Front → Option Checkpoint → Node → List MessagesState → Type 0
-IsFromCheckpoint flow low p f None node logs = IsNew flow p node × HasLogs flow p logs (λ e. nothing_there)
-IsFromCheckpoint flow low p f (Some c) node logs =
-    IsNodeOf flow p node × IsOfState flow p f c.state node × HasLogs flow p logs (λ e. log_of flow low e (logged_on e c.log))
+-- the node is restored from its first checkpoint and the changes since, and the logs of its edges have the messages that these hold; where
+-- there is none it is a new one, and the logs are empty
+abbrev pub IsFromChain : Dataflow → List Front → ℕ → Option Checkpoint → List Checkpoint → Node → List MessagesState → Type 0
+IsFromChain flow low p None later node logs = IsNew flow p node × HasLogs flow p logs (λ e. nothing_there)
+IsFromChain flow low p (Some c) later node logs =
+    IsNodeOf flow p node × IsOfChain flow p c.recorded.front c.state (states_of later) node
+    × HasLogs flow p logs (λ e. log_of flow low e (logged_in_all e (c ∷ later)))
 
 -- what node p has after it was cut to f, by the way in which it is restored
 abbrev pub IsBuilt : Dataflow → List Front → ℕ → Front → List Record → Restoring → Option Node → List MessagesState → Type 0
 IsBuilt flow low p f given Batches table logs = (table ≡ None) × HasLogs flow p logs (λ e. nothing_there)
 IsBuilt flow low p f given Bound table logs = (table ≡ None) × HasLogs flow p logs (λ e. nothing_there)
 IsBuilt flow low p f given Anything table logs = IsSomeAnd table (IsNew flow p) × HasLogs flow p logs (λ e. nothing_there)
-IsBuilt flow low p f given Checkpoints table logs = IsSomeAnd table (λ node. IsFromCheckpoint flow low p f (first_checkpoint given) node logs)
+IsBuilt flow low p f given Checkpoints table logs = IsSomeAnd table (λ node. IsFromChain flow low p (first_checkpoint given) (changes_of given) node logs)
 IsBuilt flow low p f given Events table logs = IsSomeAnd table (λ node. HasDone flow low p f (events_of given) node logs)
 
 -- what node p has after its cut: all as it was, or what is built

@@ -1,16 +1,19 @@
 //! Which writes the cuts of a choice ask for.
-ghost use Rattle.std.specs.Prelude.{◌≡◌};
+ghost use Rattle.std.specs.Prelude.{◌≡◌, List, Some, None, IfOk, replicate, slice_index_or, slice_set};
 ghost use Rattle.std.specs.Option.{option_copied};
 ghost use Rattle.fw_flow.specs.Dataflow.{node_frontier};
 ghost use Rattle.fw_flow.specs.Restoring as restoring;
 ghost use Rattle.fw_model.specs.Choice.{cut_of};
 ghost use Rattle.fw_rollback.specs.Asked as spec;
-ghost use Rattle.fw_rollback.specs.Asked.{front_at};
+ghost use Rattle.fw_keep.specs.declared.entry.Entry.{Entry as Write};
+ghost use Rattle.fw_rollback.specs.Asked.{front_at, whole_front_in_cut, AreWholes};
 
 use fw_flow::{Choice, Cut, Flow, NodeId, Restoring};
 use fw_frontier::Front;
 use fw_keep::{Entry, Written};
 use fw_time::Stamp;
+use std::alloc::{AllocError, Global};
+use std::marker::Model;
 
 /// The frontier to which a node is cut; none where it stays as it is.
 pub(crate) fn front_of(choice: &Choice, node: NodeId) -> Option<&Front>
@@ -22,32 +25,114 @@ pub(crate) fn front_of(choice: &Choice, node: NodeId) -> Option<&Front>
     }
 }
 
-/// Whether the cut of its node asks for the write: an acknowledged checkpoint at the frontier of the cut, where the node is
-/// restored by checkpoints; an acknowledged event inside, where it is restored by its events.
-pub(crate) fn is_asked_for(flow: &Flow, choice: &Choice, entry: &Entry) -> bool
-    ensures { result ≡ spec.is_asked_for flow.now choice.now entry.now }
+/// For each node the front of the newest whole checkpoint within its cut, if it is cut and has one. Contracts see their list.
+#[derive(Debug, Drop)]
+pub(crate) struct Wholes {
+    fronts: Vec<Option<Front>>,
+}
+
+impl Model for Wholes {
+    ghost use Rattle.std.specs.Prelude.{List, Option};
+    ghost use Rattle.fw_frontier.specs.Front.{Front};
+
+    ghost Value = { List (Option Front) };
+
+    ghost view = { λ wholes. wholes.fronts.items };
+}
+
+impl Wholes {
+    /// Those among these entries, by one pass over them. The only error is want of memory.
+    pub(crate) fn among(
+        alloc: Global,
+        choice: &Choice,
+        entries: &[Entry],
+    ) -> Result<Self, AllocError>
+        ensures { IfOk result (AreWholes choice.now entries.now) }
+    {
+        let mut wholes = Wholes::none(alloc, choice.cuts.as_slice().len())?;
+        for entry in entries {
+            if let Some(front) = whole_front(choice, entry) {
+                wholes.set(entry.node, front.copy()?);
+            }
+        }
+        Ok(wholes)
+    }
+
+    /// None, of so many nodes.
+    fn none(alloc: Global, nodes: usize) -> Result<Self, AllocError>
+        ensures { IfOk result (λ wholes. wholes ≡ replicate nodes None) }
+    {
+        let mut fronts = Vec::with_capacity(alloc, nodes)?;
+        for _place in 0..nodes {
+            fronts.push(None)?;
+        }
+        Ok(Wholes { fronts })
+    }
+
+    /// Puts a front in place of that of a node; past the last node it does nothing.
+    fn set(&mut self, node: NodeId, front: Front)
+        ensures { self.new ≡ slice_set self.old node (Some front) }
+    {
+        if let Some(place) = self.fronts.get_mut(node.place() as usize) {
+            *place = Some(front);
+        }
+    }
+
+    /// That of a node, if it has one.
+    fn of(&self, node: NodeId) -> Option<&Front>
+        ensures { option_copied result ≡ slice_index_or self.now node None }
+    {
+        self.fronts.get(node.place() as usize)?.as_ref()
+    }
+}
+
+/// The front of the entry, if it is a whole checkpoint within the cut of its node.
+fn whole_front<'a>(choice: &Choice, entry: &'a Entry) -> Option<&'a Front>
+    ensures { option_copied result ≡ whole_front_in_cut choice.now entry.now.node entry.now }
+{
+    let front = front_of(choice, entry.node)?;
+    match &entry.written {
+        Written::Checkpoint { recorded, .. } if entry.depth == 0 && recorded.front.subset(front) =>
+            { Some(&recorded.front) }
+        _ => None,
+    }
+}
+
+/// Whether the cut of its node asks for the write, one of these: an acknowledged checkpoint from the node's newest whole one within
+/// the cut up to it, where the node is restored by checkpoints; an acknowledged event inside, where it is restored by its events.
+pub(crate) fn is_asked_for(flow: &Flow, choice: &Choice, wholes: &Wholes, entry: &Entry) -> bool
+    ensures { (entries : List Write) → AreWholes choice.now entries wholes.now
+        → result ≡ spec.is_asked_for flow.now choice.now entries entry.now }
 {
     match front_of(choice, entry.node) {
-        Some(front) => entry.acknowledged && is_needed(flow, entry.node, front, &entry.written),
+        Some(front) => {
+            let whole = wholes.of(entry.node);
+            entry.acknowledged && is_needed(flow, whole, entry.node, front, &entry.written)
+        }
         None => false,
     }
 }
 
-/// Whether a node is restored to the frontier by what is written.
-fn is_needed(flow: &Flow, node: NodeId, front: &Front, written: &Written) -> bool
-    ensures { result ≡ spec.is_needed flow.now node front.now (restoring.way_of flow.now node) written.now }
+/// Whether a node is restored to the frontier by what is written, where this is the front of its newest whole checkpoint within.
+fn is_needed(
+    flow: &Flow,
+    whole: Option<&Front>,
+    node: NodeId,
+    front: &Front,
+    written: &Written,
+) -> bool
+    ensures { result ≡ spec.is_needed flow.now (option_copied whole.entry) node front.now (restoring.way_of flow.now node) written.now }
 {
-    match written {
-        Written::Checkpoint { recorded, .. } => match flow.restoring(node) {
-            Restoring::Checkpoints => recorded.front.same(front),
-            Restoring::Batches | Restoring::Bound | Restoring::Anything | Restoring::Events =>
-                false,
+    match flow.restoring(node) {
+        Restoring::Checkpoints => match whole {
+            Some(whole) => written.lies_between(whole, front),
+            None => false,
         },
-        Written::Event(event) => match flow.restoring(node) {
-            Restoring::Events => is_inside(flow, node, front, event.at()),
-            Restoring::Batches | Restoring::Bound | Restoring::Anything | Restoring::Checkpoints =>
-                false,
+        Restoring::Events => match written {
+            Written::Event(event) => is_inside(flow, node, front, event.at()),
+            Written::Checkpoint { .. } => false,
         },
+        Restoring::Batches | Restoring::Bound | Restoring::Anything => false,
     }
 }
 

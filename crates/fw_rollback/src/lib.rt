@@ -1,7 +1,7 @@
 //! What an engine keeps that a recovery cuts (`Parts`), and its restoring (`restore`).
 //!
-//! Each node that is cut to a frontier is built anew, whether it failed or not: from nothing, from its checkpoint there, or by
-//! doing its logged events again. All is read and built before anything changes, so that a refusal leaves everything as it was.
+//! Each node that is cut to a frontier is built anew, whether it failed or not: from nothing, from its checkpoints up to there,
+//! or by doing its logged events again. All is read and built before anything changes, so that a refusal leaves everything as it was.
 #![tactic(auto)]
 
 mod asked;

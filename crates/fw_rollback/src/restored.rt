@@ -1,12 +1,17 @@
-//! A node is restored from its checkpoint.
-ghost use Rattle.std.specs.Prelude.{◌≡◌, ◌≢◌, ℕ, List, length, IfOk};
+//! A node is restored from its checkpoints.
+ghost use Rattle.std.specs.Prelude.{◌≡◌, ◌≢◌, ◌++◌, ℕ, List, [], length, IfOk, OnOk};
 ghost use Rattle.std.specs.List.{AllByRecursion};
 ghost use Rattle.std.specs.Option.{option_copied};
+ghost use Rattle.fw_frontier.specs.declared.state.State.{State as Kept};
+ghost use Rattle.fw_flow.specs.declared.event.Message.{Message as Sent};
 ghost use Rattle.fw_flow.specs.Dataflow.{sender};
+ghost use Rattle.fw_node.specs.ChainOf.{IsOfChain};
+ghost use Rattle.fw_node.specs.NodeOf.{IsNodeOf};
+ghost use Rattle.fw_keep.specs.Chains.{changes_in, changes_of, logged_in_all, states_of};
 ghost use Rattle.fw_rollback.specs.Edges.{on_edge, nothing_there};
 ghost use Rattle.fw_rollback.specs.Asked as asked;
 ghost use Rattle.fw_rollback.specs.Asked.{CanServe};
-ghost use Rattle.fw_rollback.specs.Restored.{HasLogs, IsFromCheckpoint};
+ghost use Rattle.fw_rollback.specs.Restored.{HasLogs, IsFromChain, log_of};
 
 use crate::Logs;
 use crate::logging::log_recorded;
@@ -15,8 +20,9 @@ use fw_node::Node;
 use fw_record::{Checkpoint, Record};
 use std::alloc::{AllocError, Global};
 
-/// The table of a node that is restored from the first of these records, and the node's logs with the messages that this
-/// holds but for what lies inside the receivers' low watermarks; where there is no checkpoint the node begins anew.
+/// The table of a node that is restored from these records, of which the first has its whole state and each later one what
+/// changed since the one before it, and the node's logs with the messages that they hold but for what lies inside the
+/// receivers' low watermarks; where the first is no whole checkpoint the node begins anew.
 pub(crate) fn restored(
     alloc: Global,
     flow: &Flow,
@@ -28,17 +34,72 @@ pub(crate) fn restored(
     requires serve { AllByRecursion (CanServe flow.now node) records.now }
     requires each { length logs.old ≡ length flow.now.edges }
     requires empty { HasLogs flow.now node logs.old (λ e. nothing_there) }
-    ensures built { (f : List (List ℕ)) → IfOk result
-        (λ table. IsFromCheckpoint flow.now low.now node f (asked.first_checkpoint records.now) table logs.new) }
+    ensures built { IfOk result
+        (λ table. IsFromChain flow.now low.now node (asked.first_checkpoint records.now) (changes_of records.now) table logs.new) }
     ensures others { (e : ℕ) → sender flow.now e ≢ node → on_edge logs.new e ≡ on_edge logs.old e }
     ensures each { length logs.new ≡ length logs.old }
 {
     match checkpoint_of(records) {
         Some(checkpoint) => {
             log_recorded(flow, low, checkpoint.log.as_slice(), logs)?;
-            Node::from_state(alloc, flow, node, &checkpoint.state)
+            let mut table = Node::from_state(alloc, flow, node, &checkpoint.state)?;
+            take_each(flow, node, low, records, &mut table, logs)?;
+            Ok(table)
         }
         None => Node::new(alloc, flow, node),
+    }
+}
+
+/// Has a node take in the changes that these records hold, one after the other, and appends their messages to its logs.
+fn take_each(
+    flow: &Flow,
+    node: NodeId,
+    low: &Fronts,
+    records: &[Record],
+    table: &mut Node,
+    logs: &mut Logs,
+) -> Result<(), AllocError>
+    requires serve { AllByRecursion (CanServe flow.now node) records.now }
+    requires each { length logs.old ≡ length flow.now.edges }
+    ensures chain { (f : List (List ℕ)) (state : Kept) → IsOfChain flow.now node f state [] table.old
+        → OnOk result (IsOfChain flow.now node f state (states_of (changes_of records.now)) table.new) }
+    ensures node { IsNodeOf flow.now node table.old → IsNodeOf flow.now node table.new }
+    ensures logged { (e : ℕ) (ms : List Sent) → on_edge logs.old e ≡ log_of flow.now low.now e ms
+        → OnOk result (on_edge logs.new e ≡ log_of flow.now low.now e (ms ++ logged_in_all e (changes_of records.now))) }
+    ensures others { (e : ℕ) → sender flow.now e ≢ node → on_edge logs.new e ≡ on_edge logs.old e }
+    ensures each { length logs.new ≡ length logs.old }
+{
+    for what in records {
+        take_one(flow, node, low, what, table, logs)?;
+    }
+    Ok(())
+}
+
+/// Has a node take in the changes that the record holds, if it holds changes, and appends their messages to its logs.
+fn take_one(
+    flow: &Flow,
+    node: NodeId,
+    low: &Fronts,
+    what: &Record,
+    table: &mut Node,
+    logs: &mut Logs,
+) -> Result<(), AllocError>
+    requires serve { CanServe flow.now node what.now }
+    requires each { length logs.old ≡ length flow.now.edges }
+    ensures chain { (f : List (List ℕ)) (state : Kept) (done : List (List (List ℕ) × Kept)) → IsOfChain flow.now node f state done table.old
+        → OnOk result (IsOfChain flow.now node f state (done ++ states_of (changes_in what.now)) table.new) }
+    ensures node { IsNodeOf flow.now node table.old → IsNodeOf flow.now node table.new }
+    ensures logged { (e : ℕ) (ms : List Sent) → on_edge logs.old e ≡ log_of flow.now low.now e ms
+        → OnOk result (on_edge logs.new e ≡ log_of flow.now low.now e (ms ++ logged_in_all e (changes_in what.now))) }
+    ensures others { (e : ℕ) → sender flow.now e ≢ node → on_edge logs.new e ≡ on_edge logs.old e }
+    ensures each { length logs.new ≡ length logs.old }
+{
+    match what {
+        Record::Changes { checkpoint, .. } => {
+            log_recorded(flow, low, checkpoint.log.as_slice(), logs)?;
+            table.take_changes(&checkpoint.state)
+        }
+        Record::State(_) | Record::Event { .. } => Ok(()),
     }
 }
 

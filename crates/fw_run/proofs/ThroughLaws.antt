@@ -23,7 +23,7 @@ use Rattle.fw_run.proofs.EnduringLaws.{endured-none, endured-next, goes-on, run_
 use Rattle.fw_run.proofs.FaultCounts.{rose_more}
 use Rattle.fw_run.proofs.PlaceLaws.{parts_at, one_more-item, take_take}
 use Rattle.fw_run.proofs.ReportLaws.{faults-append, reached-on, reports_text-append, no_reports}
-use Rattle.fw_run.proofs.StandingLaws.{holds-writes, entry-in}
+use Rattle.fw_run.proofs.StandingLaws.{holds-writes}
 use Rattle.fw_run.proofs.StoppedLaws.{stopped_begun, none_told}
 use Rattle.fw_run.proofs.TallyLaws.{counted-none, counted-more}
 use Rattle.fw_run.proofs.TakenLaws.{taken_on}
@@ -352,7 +352,7 @@ damage_stops course Tells sys from items i id old new before after given tally c
       let text : u.bytes ++ p.bytes ≡ reports_text from.counts.steps s.run.reports = ap (λ (b : List ℕ). u.bytes ++ b) nothing ∙ append-nil u.bytes ∙ s.text in
       let enabled : IsStepEnabled sys state Recover = subst (λ (m : Machine). IsStepEnabled sys m Recover) t.begins.1 t.so.1 in
       let count_now : RoseBy a c tally.faults = found.1 ∙ rose in
-      (s.run, text, subst (RoseBy a c) (counted_faults from tally s.run.reports unfailed s.counted) count_now, (enabled, d.asked sys before state s.so, entry-in sys old before state d.entry s.so d.there));
+      (s.run, text, subst (RoseBy a c) (counted_faults from tally s.run.reports unfailed s.counted) count_now, (enabled, (keep_of old).entries, s.so.apart.entries, d.there, d.asked sys before state s.so));
 }
 
 -- what ends the run in the item of this place

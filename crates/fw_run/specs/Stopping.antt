@@ -7,11 +7,11 @@ use Rattle.fw_flow.specs.Dataflow.{Dataflow, System}
 use Rattle.fw_schedule.specs.declared.item.Item.{Item}
 use Rattle.fw_schedule.specs.declared.item.Item.TheVariants.{One, Auto}
 use Rattle.fw_model.specs.Auto.{IsAutoRun}
-use Rattle.fw_model.specs.Machine.{Machine, Write}
+use Rattle.fw_model.specs.Machine.{Machine}
 use Rattle.fw_keep.specs.declared.entry.Entry.{Entry}
 use Rattle.fw_keep.specs.Catalogue.{AreAscending, ids_of}
 use Rattle.fw_keep.specs.Stored.{Records}
-use Rattle.fw_stands.specs.Written.{IsEntryOf, AreEntriesOf, AreStored, uncollected}
+use Rattle.fw_stands.specs.Written.{AreEntriesOf, AreStored, uncollected}
 use Rattle.fw_running.specs.Steps.{FirstMayCall, MayCallStore, IsStepEnabled, IsLeftBy, IsAskedIn}
 
 -- ---- what a store holds
@@ -41,11 +41,9 @@ abbrev pub IsLeftIn : System → Machine → Item → (Machine → Type 0) → T
 IsLeftIn sys state (One step) P = IsLeftBy sys state step P
 IsLeftIn sys state (Auto most) P = FirstMayCall sys state × P state
 
--- the entry is that of a write of the state that was not collected
-abbrev pub IsEntryIn : System → Entry → Machine → Type 0
-IsEntryIn sys entry state = (write : Write) × Contains (uncollected state) write × IsEntryOf sys state entry write
-
--- a recovery is enabled in the state, its largest choice asks for the record of the entry, and the entry is that of a write of the state
--- that was not collected
+-- a recovery is enabled in the state, and its largest choice asks for the record of the entry, which is one of those of the writes of the
+-- state that were not collected
 abbrev pub IsReadIn : System → Entry → Machine → Type 0
-IsReadIn sys entry state = IsStepEnabled sys state Recover × IsAskedIn sys entry state × IsEntryIn sys entry state
+IsReadIn sys entry state =
+    IsStepEnabled sys state Recover
+    × (entries : List Entry) × AreEntriesOf sys state entries (uncollected state) × Contains entries entry × IsAskedIn sys entries entry state

@@ -108,7 +108,8 @@ pub brought_up_stands : (sys : System) (state : Machine) (old new : Running) (re
 brought_up_stands sys state old new records s up =
     let progress : StandsForHistory sys (events state.history) new.progress = (up.fresh.complete sys (events state.history) (sym s.apart.flow) s.apart.progress).0 in
     subst (λ (r : Running). Stands sys r records state) (sym up.others)
-    (same-stands sys old old.parts.keep new.progress (record old.ready { growing = new.ready.growing }) records records state s (up.fresh.settled ∙ s.apart.settled) progress s.apart.entries s.apart.stored)
+    (same-stands sys old old.parts.keep new.progress (record old.ready { growing = new.ready.growing }) records records state s (up.fresh.settled ∙ s.apart.settled) progress s.apart.entries s.apart.bases
+    s.apart.stored)
 
 -- and keeps its shape
 pub brought_up_shaped : (old new : Running) → IsShaped old → IsBroughtUp old new → IsShaped new

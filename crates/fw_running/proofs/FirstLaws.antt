@@ -30,6 +30,7 @@ use Rattle.fw_policy.specs.View.{base_of}
 use Rattle.fw_rollback.specs.Edges.{on_edge, nothing_there}
 use Rattle.fw_rollback.specs.New.{IsFirstTable}
 use Rattle.fw_rollback.specs.Restored.{IsNew}
+use Rattle.fw_stands.specs.Entries.{AreBasesOf}
 use Rattle.fw_stands.specs.Parts.{IsTableIn, IsOutputOf, IsSourceOf}
 use Rattle.fw_stands.specs.Written.{IsEntryOf, IsHeldAs}
 use Rattle.fw_stands.proofs.AcknowledgementLaws.{greatest_count-epochs}
@@ -164,6 +165,7 @@ first-stands flow batches records running w f =
         sources = λ s l. source-stands sys s (source_of running s) w (source_there flow batches running.parts.sources s f.parts.sources);
         progress = f.progress.stands;
         entries = none-held (IsEntryOf sys state) running.parts.keep.entries entries;
+        bases = subst (λ es. AreBasesOf running.parts.keep.entries es []) (sym entries) tt;
         stored = λ held e. none-held (IsHeldAs sys state held) running.parts.keep.entries entries;
       };
       traces = record { floor = state.low; above = low-floor sys state w (first-reached sys); each = λ p l. f.traces.none (takes_checkpoints (policy_of sys.flow p)) sys p (base_of sys state.low state p) };

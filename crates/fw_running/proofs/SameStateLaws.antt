@@ -10,6 +10,7 @@ use Rattle.fw_keep.specs.Catalogue.{KeepState}
 use Rattle.fw_keep.specs.Stored.{Records}
 use Rattle.fw_progress.specs.History.{StandsForHistory}
 use Rattle.fw_progress.specs.Progress.{Standing}
+use Rattle.fw_stands.specs.Entries.{AreBasesOf}
 use Rattle.fw_stands.specs.Written.{AreEntriesOf, AreStored, uncollected}
 use Rattle.fw_running.specs.declared.fault.EngineFault.{EngineFault}
 use Rattle.fw_running.specs.declared.running.Running.{Running}
@@ -28,9 +29,9 @@ down-failed sys running records state s p = ap (λ bs. slice_index_or bs p false
 -- an engine with another catalogue, other progress and other places stands for the same state, where catalogue and progress do
 pub same-stands : (sys : System) (old : Running) (keep : KeepState) (progress : Standing) (ready : ReadyState) (before after : Option Records) (state : Machine)
     → Stands sys old before state → progress.settled ≡ state.settled → StandsForHistory sys (events state.history) progress
-    → AreEntriesOf sys state keep.entries (uncollected state) → AreStored sys state after keep.entries (uncollected state)
-    → Stands sys (record old { parts = record old.parts { keep = keep }; progress = progress; ready = ready }) after state
-same-stands sys old keep progress ready before after state s settled stands entries stored = record {
+    → AreEntriesOf sys state keep.entries (uncollected state) → AreBasesOf keep.entries keep.entries (uncollected state)
+    → AreStored sys state after keep.entries (uncollected state) → Stands sys (record old { parts = record old.parts { keep = keep }; progress = progress; ready = ready }) after state
+same-stands sys old keep progress ready before after state s settled stands entries bases stored = record {
   apart = record {
     flow = s.apart.flow;
     well_formed = s.apart.well_formed;
@@ -46,6 +47,7 @@ same-stands sys old keep progress ready before after state s settled stands entr
     sources = s.apart.sources;
     progress = stands;
     entries = entries;
+    bases = bases;
     stored = stored;
   };
   traces = s.traces;
@@ -58,6 +60,7 @@ pub keep-stands : (sys : System) (old : Running) (keep : KeepState) (before afte
 keep-stands sys old keep before after state s same stored =
     same-stands sys old keep old.progress old.ready before after state s s.apart.settled s.apart.progress
     (subst (λ es. AreEntriesOf sys state es (uncollected state)) (sym same) s.apart.entries)
+    (subst (λ es. AreBasesOf es es (uncollected state)) (sym same) s.apart.bases)
     (subst (λ es. AreStored sys state after es (uncollected state)) (sym same) stored)
 
 -- and so it does over what its store still tells
@@ -79,6 +82,7 @@ told-stands sys running before after state stay s = record {
     sources = s.apart.sources;
     progress = s.apart.progress;
     entries = s.apart.entries;
+    bases = s.apart.bases;
     stored = told-kept (λ records. AreStored sys state records running.parts.keep.entries (uncollected state)) before after stay (λ held is. absurd (cc)) s.apart.stored;
   };
   traces = s.traces;

@@ -10,7 +10,7 @@ use Rattle.fw_record.specs.declared.record.Record.TheVariants as tagged
 use Rattle.fw_record.specs.Spelling.{spelling}
 use Rattle.fw_keep.specs.declared.entry.Entry.{Entry}
 use Rattle.fw_keep.specs.Catalogue.{KeepState}
-use Rattle.fw_keep.specs.Entry.{asked}
+use Rattle.fw_keep.specs.Entry.{asked_beside}
 use Rattle.fw_keep.specs.Stored.{Records, KeepsBytes}
 use Rattle.fw_stands.specs.Entries.{HasRecOf64Bits}
 use Rattle.fw_running.specs.declared.running.Running.{Running}
@@ -27,7 +27,7 @@ ChangesKeep old new = new ≡ with_keep new.parts.keep old
 -- beside those of the others.
 pub record IsAsked (what : Record) (stamps : Stamps) (old new : List Entry) (before after : Option Records) : Type 0 where
   pub id : ℕ
-  pub entries : new ≡ old ++ asked id what stamps ∷ []
+  pub entries : new ≡ old ++ asked_beside old id what stamps ∷ []
   pub records : after ≡ option_map (λ held. map_of.insert held id (spelling what)) before
   pub bytes : KeepsBytes old before after
 

@@ -15,6 +15,7 @@ use Rattle.fw_policy.specs.View.{IsLostAt}
 use Rattle.fw_progress.specs.declared.traces.Traces.{Traces}
 use Rattle.fw_progress.specs.History.{StandsForHistory}
 use Rattle.fw_stands.specs.Parts.{IsTableIn, queued, logged, IsOutputOf, IsSourceOf, IsTraceIn}
+use Rattle.fw_stands.specs.Entries.{AreBasesOf}
 use Rattle.fw_stands.specs.Written.{AreEntriesOf, AreStored, uncollected}
 use Rattle.fw_running.specs.declared.running.Running.{Running}
 use Rattle.fw_running.specs.Kept.{queue_at, log_at, table_of, source_of, output_of, lost_at}
@@ -40,6 +41,7 @@ pub record StandsApart (sys : System) (running : Running) (records : Option Reco
   pub progress : StandsForHistory sys (events state.history) running.progress
   -- what is written
   pub entries : AreEntriesOf sys state running.parts.keep.entries (uncollected state)
+  pub bases : AreBasesOf running.parts.keep.entries running.parts.keep.entries (uncollected state)
   pub stored : AreStored sys state records running.parts.keep.entries (uncollected state)
 
 -- The traces are those of each node above a floor of the state: of a node that takes checkpoints all of them; of another one what

@@ -154,9 +154,10 @@ IsUndamaged (Err fault.StoreFault) = Unit {0}
 IsUndamaged (Err (fault.Damaged id)) = ⊥
 IsUndamaged (Err fault.NoMemory) = Unit {0}
 
--- the largest choice of a recovery from the state asks for the record of the entry
-abbrev pub IsAskedIn : System → Entry → Machine → Type 0
-IsAskedIn sys entry state = (choice : Choice) × IsLargest sys state (offers sys state) choice × (is_asked_for sys.flow choice entry ≡ true)
+-- the largest choice of a recovery from the state asks for the record of the entry, which is one of these
+abbrev pub IsAskedIn : System → List Entry → Entry → Machine → Type 0
+IsAskedIn sys entries entry state =
+    (choice : Choice) × IsLargest sys state (offers sys state) choice × (is_asked_for sys.flow choice entries entry ≡ true)
 
 -- The store gave under the id bytes that spell no record of the entry, for which the largest choice asks in each state for which what is
 -- kept stands.
@@ -167,7 +168,8 @@ pub record IsDamage (running : Running) (id : ℕ) (given : Option (ℕ × List 
   pub bytes : List ℕ
   pub gave : given ≡ Some (id, bytes)
   pub spells_none : SpellsNone running.flow entry bytes
-  pub asked : (sys : System) (records : Option Records) (state : Machine) → Stands sys running records state → IsAskedIn sys entry state
+  pub asked : (sys : System) (records : Option Records) (state : Machine) → Stands sys running records state
+      → IsAskedIn sys running.parts.keep.entries entry state
 
 -- ---- the whole answer
 

@@ -1,6 +1,7 @@
 //! A write is asked.
 ghost use Rattle.std.specs.Prelude.{◌≡◌, OnOk, OnErr};
 ghost use Rattle.fw_running.specs.Faults.{faults_after_step};
+ghost use Rattle.fw_keep.specs.Entry.{IsBased};
 ghost use Rattle.fw_keep.specs.Stored.{IsStored};
 ghost use Rattle.fw_running.specs.Steps.{IsUndamaged};
 ghost use Rattle.fw_running.specs.Logging.{ChangesKeep, IsAsked, IsNotAsked};
@@ -14,7 +15,8 @@ use fw_record::Record;
 const IDS: u64 = 1 << 63;
 
 impl Running {
-    /// A write is asked. That no id is left is answered as want of memory.
+    /// A write is asked; one of changes on the entry of its base, which must be there (`Keep::ask`). That no id is left is
+    /// answered as want of memory.
     pub fn ask<K: Store>(
         &mut self,
         what: &Record,
@@ -22,6 +24,7 @@ impl Running {
         store: &mut K,
     ) -> Result<(), EngineFault>
         requires stored { IsStored self.old.parts.keep (K.view store.old).records }
+        requires based { IsBased self.old.parts.keep.entries what.now }
         ensures others { ChangesKeep self.old self.new }
         ensures stored { IsStored self.new.parts.keep (K.view store.new).records }
         ensures asked { OnOk result (IsAsked what.now stamps self.old.parts.keep.entries self.new.parts.keep.entries

@@ -5,36 +5,41 @@ use Rattle.std.proofs.lemmas.Bool.{eqb-true, eq-eqb, false_from_ne_true}
 use Rattle.std.proofs.Math.Bool.{or-false}
 use Rattle.fw_lemmas.proofs.Each.{each-kept}
 use Rattle.fw_lemmas.proofs.SideBySide.{zip-weaker, zip-right, zip-both}
-use Rattle.fw_frontier.specs.Front.{Front, is_within}
+use Rattle.fw_frontier.specs.Front.{Front}
 use Rattle.fw_flow.specs.declared.step.Step.TheVariants.{Collect}
-use Rattle.fw_flow.specs.Dataflow.{System, Dataflow}
+use Rattle.fw_flow.specs.Dataflow.{System, Dataflow, policy_of}
 use Rattle.fw_flow.specs.NodeFunction.{event_node, event_stamp}
 use Rattle.fw_flow.specs.WellFormed.{IsWellFormedSystem}
 use Rattle.fw_model.specs.Machine.{Machine, SerialEvent, Write, Stage, checkpoint, logged_event, front_of}
 use Rattle.fw_model.specs.Machine.{Written as WrittenBy}
 use Rattle.fw_model.specs.Reached.{IsReached}
-use Rattle.fw_model.specs.Steps as steps
-use Rattle.fw_model.specs.Steps.{Effect, LeadsTo, front_of_cut, is_given_up}
-use Rattle.fw_model.specs.Writes.{not_collected}
+use Rattle.fw_model.specs.Steps.{Effect, LeadsTo, front_of_cut, is_forgotten, is_given_up}
+use Rattle.fw_model.specs.Writes.{not_collected, takes_checkpoints}
 use Rattle.fw_model.proofs.AskedLaws.{AreSerialsBelow, serials-each, IsAskedWell, IsWriteAskedWell, reached-all}
+use Rattle.fw_model.proofs.CollectedLaws.{reached-forget}
 use Rattle.fw_model.proofs.ForgottenLaws.{forgotten-acknowledged}
-use Rattle.fw_model.proofs.WholeLaws.{forgotten-is, reached-whole}
+use Rattle.fw_model.proofs.SameInsideLaws.{low-offered}
 use Rattle.fw_record.specs.declared.record.Event.{Event}
 use Rattle.fw_keep.specs.declared.entry.Entry.{Entry}
 use Rattle.fw_keep.specs.declared.entry.Written.{Written}
 use Rattle.fw_keep.specs.declared.entry.Written.TheVariants as written
+use Rattle.fw_keep.specs.Catalogue.{KeepState, IsCatalogue}
+use Rattle.fw_keep.specs.Newest.{is_forgotten_below}
 use Rattle.fw_keep.specs.Stored.{Records}
 use Rattle.fw_record.specs.Event.{stamp_of_event}
 use Rattle.fw_collect.specs.declared.drops.Drops.{Drops}
 use Rattle.fw_collect.specs.Drops.{IsPlanned}
 use Rattle.fw_collect.specs.Dropped.{is_dropped}
-use Rattle.fw_collect.specs.LawsOfCollections.{is_written_given_up}
+use Rattle.fw_collect.specs.LawsOfCollections.{is_entry_given_up, is_written_given_up}
 use Rattle.fw_collect.proofs.CollectLaws.{drops_what_is_collected}
 use Rattle.fw_stands.specs.Written.{IsToldAs, HasEventTold, HoldsWhatIsWritten, IsEntryOf, uncollected, IsHeldAs, AreStored}
-use Rattle.fw_stands.proofs.WrittenStays.{told-below}
+use Rattle.fw_stands.specs.Entries.{AreBasesOf}
+use Rattle.fw_stands.proofs.BaseSteps.{IsBaseAmong, IsBasedEntry, bases_are_left}
+use Rattle.fw_stands.proofs.ForgottenEntries.{GoesForgotten, IsToBeCollected, entries_go_forgotten}
+use Rattle.fw_stands.proofs.WrittenStays.{reached-next, told-below}
 use Rattle.fw_policy.proofs.ReadLaws.{told-stamp}
 use Rattle.fw_policy.specs.Entries.{AreEntriesOf}
-use Rattle.fw_stands.proofs.EntrySteps.{IsKeptAs, entries-stay, records-stay, left-stay}
+use Rattle.fw_stands.proofs.EntrySteps.{entries-stay, records-stay, left-stay}
 
 -- ---- the event of a serial
 
@@ -59,65 +64,99 @@ serial-any flow p s n event test b (v ∷ h) o k (inr a) =
     ap (λ c. (c && test v) || list_any (λ u. u.serial == s && test u) h) (false_from_ne_true (v.serial == s) (λ i. let j = eqb-true v.serial s i in absurd (omega arith)))
     ∙ serial-any flow p s v.serial event test b h o.1 k a
 
--- what is given up is what lies below
-given-same : (sys : System) (state : Machine) (low : List Front) (p : ℕ) (far : Stage) → AreSerialsBelow state.next state.history → (entry : Written) (what : WrittenBy)
-    → IsAskedWell sys state.low state.next state.history p what far → HoldsWhatIsWritten sys state p entry what
-    → is_written_given_up sys.flow low p entry ≡ steps.lies_below sys low state.history p what
-given-same sys state low p far o (written.Checkpoint r s n) (checkpoint f l) w h =
-    let below : Front → Bool = λ g. is_within g (front_of low p) && not (is_within (front_of low p) g) in
-    ap (λ b. b && below r.front) w.0 ∙ ap below (h.recorded).front
-given-same sys state low p far o (written.Checkpoint r t n) (logged_event s) w h = absurd h
-given-same sys state low p far o (written.Event event) (checkpoint f l) w h = absurd h
-given-same sys state low p far o (written.Event event) (logged_event s) w h =
-    sym (serial-any sys.flow p s state.next event (λ v. is_given_up sys low (event_node sys.flow v.event) (event_stamp v.event))
-    (is_given_up sys low p (stamp_of_event event)) state.history o
-    (λ v a. ap (λ q. is_given_up sys low q (event_stamp v.event)) a.node ∙ ap (is_given_up sys low p) (sym (told-stamp v.event event a.told))) h)
+-- what is given up of the entry of a write is what is forgotten
+given-same : (sys : System) (state : Machine) (low : List Front) (keep : KeepState) (e : Entry) (x : Write) → AreSerialsBelow state.next state.history
+    → IsWriteAskedWell sys state.low state.next state.history x → IsEntryOf sys state e x → GoesForgotten sys state low keep e x
+    → is_entry_given_up sys.flow low keep e ≡ is_forgotten sys low state.history state.writes x
+given-same sys state low keep e x o asked i g = by e.written x.written refl i.holds
+  where
+    by : (w : Written) (v : WrittenBy) → x.written ≡ v → HoldsWhatIsWritten sys state x.node w v
+        → is_written_given_up sys.flow low keep e w ≡ is_forgotten sys low state.history state.writes x
+    by (written.Checkpoint r s n) (checkpoint f l) k h =
+        let takes = (subst (λ v. IsAskedWell sys state.low state.next state.history x.node v x.stage) k asked).0 in
+        ap (λ b. b && is_forgotten_below e.node (front_of low e.node) keep e) (ap (λ q. takes_checkpoints (policy_of sys.flow q)) i.node ∙ takes) ∙ g.of_checkpoint f l k
+    by (written.Checkpoint r t n) (logged_event s) k h = absurd h
+    by (written.Event event) (checkpoint f l) k h = absurd h
+    by (written.Event event) (logged_event s) k h =
+        ap (λ q. is_given_up sys low q (stamp_of_event event)) i.node
+        ∙ sym (serial-any sys.flow x.node s state.next event (λ v. is_given_up sys low (event_node sys.flow v.event) (event_stamp v.event))
+        (is_given_up sys low x.node (stamp_of_event event)) state.history o
+        (λ v a. ap (λ q. is_given_up sys low q (event_stamp v.event)) a.node ∙ ap (is_given_up sys low x.node) (sym (told-stamp v.event event a.told))) h)
+        ∙ g.of_event s k
 
 -- ---- what is left
 
+to-collect : (sys : System) → IsWellFormedSystem sys → (state : Machine) → IsReached sys state → (next : Machine) → IsReached sys next → (keep : KeepState) → IsCatalogue keep
+    → AreEntriesOf sys state keep.entries (uncollected state) → IsToBeCollected sys state next.low keep
+to-collect sys w state r next s keep c a =
+    let can = reached-forget sys w r.0 r.1 state r.2 in
+    let now = can.reached.recover in
+    let later = (reached-all sys w s.0 s.1 next s.2).recover in
+    record {
+      now = λ p l. (low-offered sys state now.notices now.watermark p l).0;
+      later = λ p l. (low-offered sys next later.notices later.watermark p l).0;
+      can = can;
+      catalogue = c;
+      entries = a;
+    }
+
 collected-left : (sys : System) → IsWellFormedSystem sys → (state : Machine) → IsReached sys state → (next : Machine) (effect : Effect) → LeadsTo sys state Collect next effect
-    → (R : Entry → Write → Type 0) → ((e : Entry) (x : Write) → R e x → IsEntryOf sys state e x) → (es : List Entry) (drops : Drops) → IsPlanned sys.flow next.low es drops
-    → AllZip R es (uncollected state) → AllZip R (filter (λ e. not (is_dropped drops e)) es) (uncollected next)
-collected-left sys w state r next effect t R entry es drops is a =
+    → (R : Entry → Write → Type 0) → (keep : KeepState) → IsCatalogue keep → AreEntriesOf sys state keep.entries (uncollected state)
+    → (drops : Drops) → IsPlanned sys.flow next.low keep.entries drops
+    → AllZip R keep.entries (uncollected state) → AllZip R (filter (λ e. not (is_dropped drops keep e)) keep.entries) (uncollected next)
+collected-left sys w state r next effect t R keep c entries drops is a =
     let f = (reached-all sys w r.0 r.1 state r.2).restore in
     let low : List Front = map front_of_cut t.0.cuts in
+    let es = keep.entries in
+    let same : next.low ≡ low = ap (λ (m : Machine). m.low) t.3 in
     let W : Write → Type 0 = IsWriteAskedWell sys state.low state.next state.history in
-    let S : Entry → Write → Type 0 = λ e x. W x × R e x in
-    let planned = subst (λ l. IsPlanned sys.flow l es drops) (ap (λ (m : Machine). m.low) t.3) is in
-    let left = filter (λ e. not (is_dropped drops e)) es in
-    zip-weaker S R left (uncollected next) (λ e x s. s.1)
+    let G : Entry → Write → Type 0 = GoesForgotten sys state low keep in
+    let E : Entry → Write → Type 0 = λ e x. IsEntryOf sys state e x × R e x in
+    let B : Entry → Write → Type 0 = λ e x. G e x × E e x in
+    let S : Entry → Write → Type 0 = λ e x. W x × B e x in
+    let go : AllZip G es (uncollected state) =
+    subst (λ l. AllZip (GoesForgotten sys state l keep) es (uncollected state)) same
+    (entries_go_forgotten sys state next.low keep (to-collect sys w state r next (reached-next sys state r Collect next effect t) keep c entries)) in
+    let left = filter (λ e. not (is_dropped drops keep e)) es in
+    zip-weaker S R left (uncollected next) (λ e x s. s.1.1.1)
     (subst (λ xs. AllZip S left (filter not_collected xs)) (sym (ap (λ (m : Machine). m.writes) t.3))
-    (drops_what_is_collected S sys state.history low state.writes
-    (λ e x s.
-    let i = entry e x s.1 in
-    ap (λ p. is_written_given_up sys.flow low p e.written) i.node ∙ given-same sys state low x.node x.stage f.serials e.written x.written s.0 i.holds
-    ∙ sym (forgotten-is sys low state.history state.writes (reached-whole sys r.0 r.1 state r.2) x))
-    es drops planned
-    (zip-right W R S es (uncollected state) (λ e x b s. (b, s)) (each-kept W not_collected state.writes f.asked) a)
+    (drops_what_is_collected S sys state.history low state.writes keep
+    (λ e x s. given-same sys state low keep e x f.serials s.0 s.1.1.0 s.1.0) drops
+    (subst (λ l. IsPlanned sys.flow l es drops) same is)
+    (zip-right W B S es (uncollected state) (λ e x b s. (b, s)) (each-kept W not_collected state.writes f.asked)
+    (zip-both G E es (uncollected state) go (zip-both (IsEntryOf sys state) R es (uncollected state) entries a)))
     (forgotten-acknowledged sys w r.0 r.1 state r.2 t.0 t.1)))
 
--- the entries go that are planned to go, where the low watermark rises to the one of the next state
+-- the entries of a catalogue go that are planned to go, where the low watermark rises to the one of the next state
 pub entries_after_collection : (sys : System) → IsWellFormedSystem sys → (state : Machine) → IsReached sys state
     → (next : Machine) (effect : Effect) → LeadsTo sys state Collect next effect
-    → (entries : List Entry) → AreEntriesOf sys state entries (uncollected state)
-    → (drops : Drops) → IsPlanned sys.flow next.low entries drops
-    → AreEntriesOf sys next (filter (λ e. not (is_dropped drops e)) entries) (uncollected next)
-entries_after_collection sys w state r next effect t es a drops is =
-    entries-stay sys state next (filter (λ e. not (is_dropped drops e)) es) (uncollected next) (left-stay sys w state r Collect next effect t)
-    (collected-left sys w state r next effect t (IsEntryOf sys state) (λ e x i. i) es drops is a)
+    → (keep : KeepState) → IsCatalogue keep → AreEntriesOf sys state keep.entries (uncollected state)
+    → (drops : Drops) → IsPlanned sys.flow next.low keep.entries drops
+    → AreEntriesOf sys next (filter (λ e. not (is_dropped drops keep e)) keep.entries) (uncollected next)
+entries_after_collection sys w state r next effect t keep c a drops is =
+    entries-stay sys state next (filter (λ e. not (is_dropped drops keep e)) keep.entries) (uncollected next) (left-stay sys w state r Collect next effect t)
+    (collected-left sys w state r next effect t (IsEntryOf sys state) keep c a drops is a)
+
+-- the bases of those that are left are left
+pub bases_after_collection : (sys : System) → IsWellFormedSystem sys → (state : Machine) → IsReached sys state
+    → (next : Machine) (effect : Effect) → LeadsTo sys state Collect next effect
+    → (keep : KeepState) → IsCatalogue keep → AreEntriesOf sys state keep.entries (uncollected state) → AreBasesOf keep.entries keep.entries (uncollected state)
+    → (drops : Drops) → IsPlanned sys.flow next.low keep.entries drops
+    → let left = filter (λ e. not (is_dropped drops keep e)) keep.entries in AreBasesOf left left (uncollected next)
+bases_after_collection sys w state r next effect t keep c a b drops is =
+    bases_are_left sys w state next r (reached-next sys state r Collect next effect t) keep.entries a (λ e. not (is_dropped drops keep e))
+    (collected-left sys w state r next effect t (IsBasedEntry sys state keep.entries) keep c a drops is
+    (zip-both (IsEntryOf sys state) (IsBaseAmong keep.entries) keep.entries (uncollected state) a b))
 
 -- and the records of those that are left are stored
 pub records_after_collection : (sys : System) → IsWellFormedSystem sys → (state : Machine) → IsReached sys state
     → (next : Machine) (effect : Effect) → LeadsTo sys state Collect next effect
-    → (entries : List Entry) → AreEntriesOf sys state entries (uncollected state)
-    → (records : Option Records) → AreStored sys state records entries (uncollected state)
-    → (drops : Drops) → IsPlanned sys.flow next.low entries drops
-    → AreStored sys next records (filter (λ e. not (is_dropped drops e)) entries) (uncollected next)
-records_after_collection sys w state r next effect t es a all s drops is =
-    let left = filter (λ e. not (is_dropped drops e)) es in
+    → (keep : KeepState) → IsCatalogue keep → AreEntriesOf sys state keep.entries (uncollected state)
+    → (records : Option Records) → AreStored sys state records keep.entries (uncollected state)
+    → (drops : Drops) → IsPlanned sys.flow next.low keep.entries drops
+    → AreStored sys next records (filter (λ e. not (is_dropped drops keep e)) keep.entries) (uncollected next)
+records_after_collection sys w state r next effect t keep c a all s drops is =
+    let left = filter (λ e. not (is_dropped drops keep e)) keep.entries in
     records-stay sys state next all left (uncollected next) (left-stay sys w state r Collect next effect t)
     (λ held f.
-    let R : Entry → Write → Type 0 = IsKeptAs sys state held in
-    let H : Entry → Write → Type 0 = λ e x. IsHeldAs sys state held e x in
-    zip-weaker R H left (uncollected next) (λ e x k. k.1)
-    (collected-left sys w state r next effect t R (λ e x k. k.0) es drops is (zip-both (IsEntryOf sys state) H es (uncollected state) a (s held f))))
+    collected-left sys w state r next effect t (λ e x. IsHeldAs sys state held e x) keep c a drops is (s held f))

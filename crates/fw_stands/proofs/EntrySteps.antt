@@ -50,7 +50,7 @@ use Rattle.fw_keep.specs.declared.entry.Written.{Written}
 use Rattle.fw_keep.specs.declared.entry.Written.TheVariants as written
 use Rattle.fw_keep.specs.Catalogue.{oldest, persisted, ids_of}
 use Rattle.fw_record.specs.Event.{stamp_of_event}
-use Rattle.fw_keep.specs.Entry.{is_withdrawn, asked, node_of_record, written_of, is_in_flight_of, lies_within, is_beyond, IsRecordOfEntry}
+use Rattle.fw_keep.specs.Entry.{is_withdrawn, asked, asked_beside, base_of_record, depth_on, node_of_record, written_of, is_in_flight_of, lies_within, is_beyond, IsRecordOfEntry}
 use Rattle.fw_keep.specs.Stored.{Records, KeepsBytes}
 use Rattle.fw_record.proofs.RecordLaws.{one_spelling_lem}
 use Rattle.fw_stands.specs.Written.{told_of, IsToldAs, HasEventTold, HoldsWhatIsWritten, HasBaseOf, IsEntryOf, AreEntriesOf, uncollected, IsRecordFor, IsHeldAs, AreHeld, AreStored}
@@ -61,52 +61,59 @@ use Rattle.fw_stands.proofs.WrittenStays.{told-below, what_is_written_stays}
 
 -- ---- what stands for a write that stays
 
-pub entry-stays : (sys : System) (state next : Machine) (e : Entry) (x : Write) → StaysWritten sys state next x.node x.written → IsEntryOf sys state e x → IsEntryOf sys next e x
+pub entry-stays : (sys : System) (state next : Machine) (e : Entry) (x : Write) → StaysWritten sys state next x.node x.base x.written → IsEntryOf sys state e x → IsEntryOf sys next e x
 entry-stays sys state next e x a i =
     record { node = i.node; acknowledged = i.acknowledged; holds = a.held e.written i.holds; base = i.base; depth = i.depth }
 
-pub held-stays : (sys : System) (state next : Machine) (held : Records) (e : Entry) (x : Write) → StaysWritten sys state next x.node x.written
+pub held-stays : (sys : System) (state next : Machine) (held : Records) (e : Entry) (x : Write) → StaysWritten sys state next x.node x.base x.written
     → IsHeldAs sys state held e x → IsHeldAs sys next held e x
 held-stays sys state next held e x a h = record { what = h.what; of_entry = h.of_entry; of_write = a.spelled h.what h.of_write }
 
 abbrev pub AllStay : System → Machine → Machine → List Write → Type 0
-AllStay sys state next writes = AllByRecursion (λ (x : Write). StaysWritten sys state next x.node x.written) writes
+AllStay sys state next writes = AllByRecursion (λ (x : Write). StaysWritten sys state next x.node x.base x.written) writes
 
 pub entries-stay : (sys : System) (state next : Machine) (es : List Entry) (xs : List Write) → AllStay sys state next xs → AreEntriesOf sys state es xs → AreEntriesOf sys next es xs
 entries-stay sys state next es xs =
-    zip-right (λ (x : Write). StaysWritten sys state next x.node x.written) (IsEntryOf sys state) (IsEntryOf sys next) es xs (λ e x a i. entry-stays sys state next e x a i)
+    zip-right (λ (x : Write). StaysWritten sys state next x.node x.base x.written) (IsEntryOf sys state) (IsEntryOf sys next) es xs (λ e x a i. entry-stays sys state next e x a i)
 
 pub records-stay : (sys : System) (state next : Machine) (all : Option Records) (es : List Entry) (xs : List Write) → AllStay sys state next xs → AreStored sys state all es xs
     → AreStored sys next all es xs
 records-stay sys state next all es xs stays a = λ held f.
-    zip-right (λ (x : Write). StaysWritten sys state next x.node x.written) (λ (e : Entry) (x : Write). IsHeldAs sys state held e x)
+    zip-right (λ (x : Write). StaysWritten sys state next x.node x.base x.written) (λ (e : Entry) (x : Write). IsHeldAs sys state held e x)
     (λ (e : Entry) (x : Write). IsHeldAs sys next held e x) es xs (λ e x b i. held-stays sys state next held e x b i) stays (a held f)
 
 -- the uncollected writes of the next state
 pub left-stay : (sys : System) → IsWellFormedSystem sys → (state : Machine) → IsReached sys state → (step : Step) (next : Machine) (effect : Effect) → LeadsTo sys state step next effect
     → AllStay sys state next (uncollected next)
 left-stay sys w state r step next effect t =
-    each-kept (λ (x : Write). StaysWritten sys state next x.node x.written) not_collected next.writes (what_is_written_stays sys w state r step next effect t)
+    each-kept (λ (x : Write). StaysWritten sys state next x.node x.base x.written) not_collected next.writes (what_is_written_stays sys w state r step next effect t)
 
 -- ---- one more write
 
-of-record : (sys : System) (state : Machine) (p : ℕ) (what : WrittenBy) (r : Record) (stamps : Stamps) → IsRecordFor sys state p what r → HasStamps sys state p what stamps
-    → (node_of_record r ≡ p) × HoldsWhatIsWritten sys state p (written_of r stamps) what
-of-record sys state p (checkpoint f low) (tagged.State c) stamps h s = (h.node, record { recorded = h.recorded; stamps = s; sent = h.sent })
-of-record sys state p (checkpoint f low) (tagged.Event q event) stamps h s = absurd h
-of-record sys state p (checkpoint f low) (tagged.Changes base c) stamps h s = absurd h
-of-record sys state p (logged_event n) (tagged.State c) stamps h s = absurd h
-of-record sys state p (logged_event n) (tagged.Event q event) stamps h s = (h.0, h.1)
-of-record sys state p (logged_event n) (tagged.Changes base c) stamps h s = absurd h
+of-record : (sys : System) (state : Machine) (p : ℕ) (base : Option Front) (what : WrittenBy) (r : Record) (stamps : Stamps) → IsRecordFor sys state p base what r
+    → HasStamps sys state p what stamps
+    → (node_of_record r ≡ p) × HoldsWhatIsWritten sys state p (written_of r stamps) what × HasBaseOf (base_of_record r) base
+of-record sys state p None (checkpoint f low) (tagged.State c) stamps h s = (h.node, record { recorded = h.recorded; stamps = s; sent = h.sent }, tt)
+of-record sys state p None (checkpoint f low) (tagged.Event q event) stamps h s = absurd h
+of-record sys state p None (checkpoint f low) (tagged.Changes id c) stamps h s = absurd h
+of-record sys state p None (logged_event n) (tagged.State c) stamps h s = absurd h
+of-record sys state p None (logged_event n) (tagged.Event q event) stamps h s = (h.0, h.1, tt)
+of-record sys state p None (logged_event n) (tagged.Changes id c) stamps h s = absurd h
+of-record sys state p (Some g) (checkpoint f low) (tagged.State c) stamps h s = absurd h
+of-record sys state p (Some g) (checkpoint f low) (tagged.Event q event) stamps h s = absurd h
+of-record sys state p (Some g) (checkpoint f low) (tagged.Changes id c) stamps h s = (h.node, record { recorded = h.recorded; stamps = s; sent = h.sent }, tt)
+of-record sys state p (Some g) (logged_event n) (tagged.State c) stamps h s = absurd h
+of-record sys state p (Some g) (logged_event n) (tagged.Event q event) stamps h s = absurd h
+of-record sys state p (Some g) (logged_event n) (tagged.Changes id c) stamps h s = absurd h
 
--- the entry that is asked by the record of a write in flight, which is whole, is one of the write
-pub asked_entry_is_of_write : (sys : System) (state : Machine) (write : Write) → write.stage ≡ in_flight → write.base ≡ None → write.depth ≡ 0
-    → (id : ℕ) (r : Record) (stamps : Stamps)
-    → IsRecordFor sys state write.node write.written r → HasStamps sys state write.node write.written stamps
-    → IsEntryOf sys state (asked id r stamps) write
-asked_entry_is_of_write sys state x flies whole flat id r stamps h s =
-    let o = of-record sys state x.node x.written r stamps h s in
-    record { node = o.0; acknowledged = ap (is_counted kept) (sym flies); holds = o.1; base = subst (HasBaseOf None) (sym whole) tt; depth = sym flat }
+-- the entry that is asked beside others by the record of a write in flight is one of the write, if it stands on as many others
+pub asked_entry_is_of_write : (sys : System) (state : Machine) (write : Write) → write.stage ≡ in_flight
+    → (entries : List Entry) (id : ℕ) (r : Record) (stamps : Stamps) → depth_on (base_of_record r) entries ≡ write.depth
+    → IsRecordFor sys state write.node write.base write.written r → HasStamps sys state write.node write.written stamps
+    → IsEntryOf sys state (asked_beside entries id r stamps) write
+asked_entry_is_of_write sys state x flies es id r stamps deep h s =
+    let o = of-record sys state x.node x.base x.written r stamps h s in
+    record { node = o.0; acknowledged = ap (is_counted kept) (sym flies); holds = o.1; base = o.2; depth = deep }
 
 -- the bytes of each entry stay
 bytes-each : (es : List Entry) (old new : Records) → KeepsBytes es (Some old) (Some new) → AllByRecursion (λ (e : Entry). map_of.get new e.id ≡ map_of.get old e.id) es
@@ -145,10 +152,10 @@ under-put (Some first) id bytes new held is f =
 pub put_record_is_stored : (sys : System) (state : Machine) (entries : List Entry) (writes : List Write) (write : Write)
     → (id : ℕ) (r : Record) (stamps : Stamps)
     → (old new : Option Records) → AreStored sys state old entries writes → KeepsBytes entries old new
-    → new ≡ option_map (λ held. map_of.insert held id (spelling r)) old → IsSound r → IsRecordFor sys state write.node write.written r
-    → IsRecordOfEntry sys.flow (asked id r stamps) r → AreStored sys state new (entries ++ asked id r stamps ∷ []) (writes ++ write ∷ [])
+    → new ≡ option_map (λ held. map_of.insert held id (spelling r)) old → IsSound r → IsRecordFor sys state write.node write.base write.written r
+    → IsRecordOfEntry sys.flow (asked_beside entries id r stamps) r → AreStored sys state new (entries ++ asked_beside entries id r stamps ∷ []) (writes ++ write ∷ [])
 put_record_is_stored sys state es xs x id r stamps old new a k is sound of fits = λ held f.
-    zip-append (λ (e : Entry) (y : Write). IsHeldAs sys state held e y) es xs (asked id r stamps ∷ []) (x ∷ [])
+    zip-append (λ (e : Entry) (y : Write). IsHeldAs sys state held e y) es xs (asked_beside es id r stamps ∷ []) (x ∷ [])
     (kept_bytes_are_stored sys state es xs old new (λ (m : Records). map_of.insert m id (spelling r)) is k a held f)
     (record { what = r; of_entry = record { sound = sound; of_entry = fits; bytes = under-put old id (spelling r) new held is f }; of_write = of }, tt)
 
@@ -156,14 +163,14 @@ put_record_is_stored sys state es xs x id r stamps old new a k is sound of fits 
 pub read_records_are_of_writes : (sys : System) (state : Machine) (held : Records) (entries : List Entry) (writes : List Write)
     → AreHeld sys state held entries writes
     → AllZip (λ (entry : Entry) (write : Write). (r : Record) → IsSound r → map_of.get held entry.id ≡ Some (spelling r)
-    → IsRecordFor sys state write.node write.written r) entries writes
+    → IsRecordFor sys state write.node write.base write.written r) entries writes
 read_records_are_of_writes sys state held es xs =
     zip-weaker (IsHeldAs sys state held)
-    (λ (e : Entry) (x : Write). (r : Record) → IsSound r → map_of.get held e.id ≡ Some (spelling r) → IsRecordFor sys state x.node x.written r) es xs
+    (λ (e : Entry) (x : Write). (r : Record) → IsSound r → map_of.get held e.id ≡ Some (spelling r) → IsRecordFor sys state x.node x.base x.written r) es xs
     (λ e x h r sound read.
     let o = h.of_entry in
     let same : spelling h.what ≡ spelling r = let c : Some (spelling h.what) ≡ Some (spelling r) = sym o.bytes ∙ read in cc in
-    subst (IsRecordFor sys state x.node x.written) (one_spelling_lem h.what r o.sound sound same) h.of_write)
+    subst (IsRecordFor sys state x.node x.base x.written) (one_spelling_lem h.what r o.sound sound same) h.of_write)
 
 -- ---- the writes that a step asks
 
@@ -175,16 +182,17 @@ asked-left xs more fly =
     filter-append not_collected xs more
     ∙ ap (λ ys. filter not_collected xs ++ ys) (filter-all not_collected more (each-weaker (λ (x : Write). x.stage ≡ in_flight) (λ x. not_collected x ≡ true) more flying-left fly))
 
-left-asked : (next : Machine) (xs more : List Write) → next.writes ≡ xs ++ more → AllByRecursion (λ (x : Write). x.stage ≡ in_flight) more
+-- the writes that are left, where some are asked behind
+pub left-asked : (next : Machine) (xs more : List Write) → next.writes ≡ xs ++ more → AllByRecursion (λ (x : Write). x.stage ≡ in_flight) more
     → uncollected next ≡ filter not_collected xs ++ more
 left-asked next xs more e fly = ap (filter not_collected) e ∙ asked-left xs more fly
 
 -- what was there and what is asked stays
 first-stay : (sys : System) (state next : Machine) (xs more : List Write) → uncollected next ≡ xs ++ more → AllStay sys state next (uncollected next) → AllStay sys state next xs
-first-stay sys state next xs more e a = each-prefix (λ (x : Write). StaysWritten sys state next x.node x.written) xs more (subst (AllStay sys state next) e a)
+first-stay sys state next xs more e a = each-prefix (λ (x : Write). StaysWritten sys state next x.node x.base x.written) xs more (subst (AllStay sys state next) e a)
 
 later-stay : (sys : System) (state next : Machine) (xs more : List Write) → uncollected next ≡ xs ++ more → AllStay sys state next (uncollected next) → AllStay sys state next more
-later-stay sys state next xs more e a = each-suffix (λ (x : Write). StaysWritten sys state next x.node x.written) xs more (subst (AllStay sys state next) e a)
+later-stay sys state next xs more e a = each-suffix (λ (x : Write). StaysWritten sys state next x.node x.base x.written) xs more (subst (AllStay sys state next) e a)
 
 -- a step that asks writes adds the entries of them, which stand for what is written in the state before
 pub entries_after_asking : (sys : System) → IsWellFormedSystem sys → (state : Machine) → IsReached sys state
@@ -394,7 +402,7 @@ persist-zip R tells may (x ∷ xs) o later none fly es r =
         let gone : not_collected x ≡ false = ap (λ far. not (is_collected far)) e in
         subst (AllZip R (persisted es)) (sym (filter-out not_collected x after gone)) (rest es (subst (AllZip R es) (filter-out not_collected x before gone) r))
 
-persist-left : (R : Entry → Write → Type 0) → TellsAcknowledged R → MayBeAcknowledged R → (writes next : List Write) → AcknowledgesOldest writes next → (es : List Entry)
+pub persist-left : (R : Entry → Write → Type 0) → TellsAcknowledged R → MayBeAcknowledged R → (writes next : List Write) → AcknowledgesOldest writes next → (es : List Entry)
     → AllZip R es (filter not_collected writes) → AllZip R (persisted es) (filter not_collected next)
 persist-left R tells may writes next k es r =
     subst (λ xs. AllZip R (persisted es) (filter not_collected xs)) (sym k.after)
@@ -404,7 +412,7 @@ persist-left R tells may writes next k es r =
 abbrev pub IsKeptAs : System → Machine → Records → Entry → Write → Type 0
 IsKeptAs sys state held e x = IsEntryOf sys state e x × IsHeldAs sys state held e x
 
-acknowledged-too : (sys : System) (state : Machine) (e : Entry) (x : Write) → IsEntryOf sys state e x
+pub acknowledged-too : (sys : System) (state : Machine) (e : Entry) (x : Write) → IsEntryOf sys state e x
     → IsEntryOf sys state (record e { acknowledged = true }) (record x { stage = acknowledged })
 acknowledged-too sys state e x i = record { node = i.node; acknowledged = refl; holds = i.holds; base = i.base; depth = i.depth }
 
@@ -556,7 +564,7 @@ lost-alike in_flight k = refl
 lost-alike acknowledged k = refl
 lost-alike collected k = absurd cc
 
-lost-same : (sys : System) (state : Machine) (ps : List ℕ) (e : Entry) (x : Write) → not_collected x ≡ true → IsEntryOf sys state e x
+pub lost-same : (sys : System) (state : Machine) (ps : List ℕ) (e : Entry) (x : Write) → not_collected x ≡ true → IsEntryOf sys state e x
     → not (is_lost_of ps e) ≡ not (is_one_of x.node ps && is_in_flight x.stage)
 lost-same sys state ps e x left i =
     ap (λ n. not (is_one_of n ps && not e.acknowledged)) i.node
@@ -686,7 +694,7 @@ not-not : (b : Bool) → not (not b) ≡ b
 not-not true = refl
 not-not false = refl
 
-undone-same : (sys : System) (state : Machine) (choice : Choice) → AreSerialsBelow state.next state.history → AreInDomains sys state.history → (e : Entry) (x : Write)
+pub undone-same : (sys : System) (state : Machine) (choice : Choice) → AreSerialsBelow state.next state.history → AreInDomains sys state.history → (e : Entry) (x : Write)
     → IsEntryOf sys state e x → not (is_beyond (cut_of choice e.node) e) ≡ is_kept_write (cut_of choice x.node) x.written (filtered_history sys choice state.history)
 undone-same sys state choice o d e x i =
     ap (λ p. not (is_beyond (cut_of choice p) e)) i.node ∙ by (cut_of choice x.node) refl
@@ -699,13 +707,13 @@ undone-same sys state choice o d e x i =
 shown : (a b : Choice) → cuts a ≡ cuts b → b ≡ a
 shown a b e = cc
 
-domains : (sys : System) → IsWellFormedSystem sys → (state : Machine) → IsReached sys state → AreInDomains sys state.history
+pub domains : (sys : System) → IsWellFormedSystem sys → (state : Machine) → IsReached sys state → AreInDomains sys state.history
 domains sys w state r =
     each-numbered (λ v. in_domain (bounds_of sys.flow (event_node sys.flow v)) (event_stamp v) ≡ true) state.history
     (legal-in_domain sys (events state.history) w.flow (has_epochs sys w) (reached-all sys w r.0 r.1 state r.2).recover.holds.legal)
 
 -- what is left of the writes in a recovery
-recovered-left : (sys : System) (state : Machine) (choice : Choice) (next : Machine) → LeadsTo sys state Recover next (cuts choice)
+pub recovered-left : (sys : System) (state : Machine) (choice : Choice) (next : Machine) → LeadsTo sys state Recover next (cuts choice)
     → next.writes ≡ filter (λ (x : Write). is_kept_write (cut_of choice x.node) x.written (filtered_history sys choice state.history)) state.writes
 recovered-left sys state choice next t =
     ap (λ (m : Machine). m.writes) t.7

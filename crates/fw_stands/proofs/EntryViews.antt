@@ -1,13 +1,10 @@
 -- What entries tell: the newest checkpoint, and what is lost with a node.
-use Rattle.std.proofs.Common.{◌≡◌, ◌↔◌, ℕ, Bool, true, false, cond, not, ◌&&◌, ◌||◌, ◌==◌, List, [], ◌∷◌, ◌++◌, length, refl, sym, ap, subst, ◌∙◌, inl, inr, ◌⊎◌, arith, ◌≢◌, Option, Some, None}
+use Rattle.std.proofs.Common.{◌≡◌, ◌↔◌, ℕ, Bool, true, false, cond, not, ◌&&◌, ◌||◌, ◌==◌, List, [], ◌∷◌, ◌++◌, length, refl, sym, ap, subst, ◌∙◌, inl, inr, ◌⊎◌, arith, ◌≢◌}
 use Rattle.std.specs.List.{Contains}
-use Rattle.std.specs.Prelude.{option_and_then}
 use Rattle.std.proofs.lemmas.Bool.{or_right}
 use Rattle.std.proofs.lemmas.List.{append-nil}
 use Rattle.std.proofs.lemmas.List.FromFn.{get_or-map-range_with_len}
 use Rattle.fw_lemmas.proofs.Bools.{two_ways}
-use Rattle.fw_lemmas.proofs.Each.{each-kept}
-use Rattle.fw_lemmas.proofs.SideBySide.{zip-right}
 use Rattle.fw_time.specs.Stamp.{Stamp}
 use Rattle.fw_flow.specs.declared.kind.Policy.TheVariants as policy
 use Rattle.fw_flow.specs.declared.step.Step.TheVariants.{Fail, Checkpoint as CheckpointStep}
@@ -24,7 +21,6 @@ use Rattle.fw_model.proofs.LoggedLaws.{live-logged}
 use Rattle.fw_model.proofs.NewestLaws.{newest-kept}
 use Rattle.fw_model.proofs.RestoringLaws.{full-declared}
 use Rattle.fw_model.proofs.ThinnedLaws.{each-contained}
-use Rattle.fw_model.proofs.WholeLaws.{IsWhole, reached-whole}
 use Rattle.fw_model.proofs.WriteLaws.{some-passed, NamesEvent, LogsEvent, some-logged, logged-some}
 use Rattle.fw_keep.specs.declared.entry.Entry.{Entry}
 use Rattle.fw_keep.specs.declared.entry.Written.{Written}
@@ -35,8 +31,8 @@ use Rattle.fw_model.proofs.SentStandLaws.{IsOne, one-contained, contained-one}
 use Rattle.fw_model.specs.Reached.{IsReached}
 use Rattle.fw_policy.proofs.ReadLaws.{entries-read}
 use Rattle.fw_policy.proofs.UnloggedLaws.{IsOfEntries, unlogged-is, unlogged-has, some-filtered}
-use Rattle.fw_stands.specs.Written.{HoldsWhatIsWritten, AreEntriesOf, uncollected, HasBaseOf, IsEntryOf}
-use Rattle.fw_stands.specs.Entries.{entry_front, entry_fronts, id_at_front, AreBasesOf}
+use Rattle.fw_stands.specs.Written.{HoldsWhatIsWritten, AreEntriesOf, uncollected}
+use Rattle.fw_stands.specs.Entries.{entry_front, entry_fronts}
 use Rattle.fw_frontier.specs.Front.{Front}
 
 -- ---- the newest checkpoint
@@ -47,7 +43,8 @@ front-alike sys state p (written.Checkpoint r t n) (logged_event s) h = absurd h
 front-alike sys state p (written.Event event) (checkpoint f low) h = absurd h
 front-alike sys state p (written.Event event) (logged_event s) h = refl
 
-fronts-alike : (sys : System) (state : Machine) (p : ℕ) (es : List Entry) (xs : List Write) → AreEntriesOf sys state es xs → entry_fronts p es ≡ checkpoints_of p xs
+-- the checkpoints of a node stand in the entries as among the writes
+pub fronts-alike : (sys : System) (state : Machine) (p : ℕ) (es : List Entry) (xs : List Write) → AreEntriesOf sys state es xs → entry_fronts p es ≡ checkpoints_of p xs
 fronts-alike sys state p [] [] a = refl
 fronts-alike sys state p [] (x ∷ xs) a = absurd a
 fronts-alike sys state p (e ∷ es) [] a = absurd a
@@ -62,21 +59,6 @@ pub last_entry_is_of_newest_checkpoint : (sys : System) → IsWellFormedSystem s
     → (p : ℕ) (f : Front) → last_or f (entry_fronts p entries) ≡ newest_checkpoint p f state.writes
 last_entry_is_of_newest_checkpoint sys w state r es a p f =
     ap (last_or f) (fronts-alike sys state p es (uncollected state) a) ∙ sym (newest-kept sys w r.0 r.1 state r.2 p f)
-
--- ---- bases
-
-none-base : (base : Option ℕ) → HasBaseOf base None → base ≡ None
-none-base None h = refl
-none-base (Some id) h = absurd h
-
--- the base of an entry is the id of the entry at the front of its write's base
-pub bases_are_of_entries : (sys : System) (state : Machine) → IsReached sys state → (entries : List Entry) → AreEntriesOf sys state entries (uncollected state)
-    → AreBasesOf entries entries (uncollected state)
-bases_are_of_entries sys state r es a =
-    zip-right IsWhole (IsEntryOf sys state) (λ (e : Entry) (x : Write). e.base ≡ option_and_then (λ f. id_at_front x.node f es) x.base) es (uncollected state)
-    (λ e x whole i.
-    none-base e.base (subst (HasBaseOf e.base) whole i.base) ∙ sym (ap (option_and_then (λ f. id_at_front x.node f es)) whole))
-    (each-kept IsWhole not_collected state.writes (reached-whole sys r.0 r.1 state r.2)) a
 
 -- a node that takes checkpoints when asked and is not failed takes one exactly where what is settled is not the frontier of the
 -- last entry of a checkpoint of the node, or no stamps where there is none

@@ -1,5 +1,5 @@
 -- The record of a checkpoint of a node can be that of its entry.
-use Rattle.std.proofs.Common.{◌≡◌, ℕ, ◌+◌, ◌<◌, ◌≤◌, ◌^◌, Bool, true, false, cond, not, ◌==◌, nat_lt, List, [], ◌∷◌, ◌++◌, length, filter, refl, sym, ap, subst, ◌∙◌, arith}
+use Rattle.std.proofs.Common.{◌≡◌, Option, Some, None, ℕ, ◌+◌, ◌<◌, ◌≤◌, ◌^◌, Bool, true, false, cond, not, ◌==◌, nat_lt, List, [], ◌∷◌, ◌++◌, length, filter, refl, sym, ap, subst, ◌∙◌, arith}
 use Rattle.std.specs.List.{AllByRecursion, Contains}
 use Rattle.std.proofs.lemmas.Bool.{and_parts, cond_both, eq-eqb}
 use Rattle.std.proofs.lemmas.Bool.Decides.{nat_tests}
@@ -17,13 +17,14 @@ use Rattle.fw_frontier.specs.declared.state.SentCount.{SentCount}
 use Rattle.fw_frontier.specs.declared.state.State.{State}
 use Rattle.fw_frontier.proofs.CanonicalLaws.{in_domain-canonical}
 use Rattle.fw_flow.specs.declared.choice.OfEdge.{OfEdge}
+use Rattle.fw_flow.specs.declared.choice.Recorded.{Recorded}
 use Rattle.fw_flow.specs.declared.event.Message.{Message}
 use Rattle.fw_flow.specs.declared.kind.Kind.{Kind}
 use Rattle.fw_flow.specs.declared.kind.Kind.TheVariants as kind
 use Rattle.fw_flow.specs.declared.kind.Policy.{Policy}
 use Rattle.fw_flow.specs.declared.kind.Policy.TheVariants as policy
 use Rattle.fw_flow.specs.Dataflow.{System, Dataflow, kind_of, policy_of, sender, receiver, in_edges, out_edges, bounds_of, bounds_of_edge, node_frontier, is_sequence_kind}
-use Rattle.fw_flow.specs.NodeFunction.{delivered_recs}
+use Rattle.fw_flow.specs.NodeFunction.{delivered_recs, sequence_sent}
 use Rattle.fw_flow.specs.Projection.{events_at, all_inside}
 use Rattle.fw_flow.specs.Restoring.{can_resend}
 use Rattle.fw_flow.specs.WellFormed.{IsWellFormedSystem}
@@ -31,7 +32,7 @@ use Rattle.fw_flow.proofs.OutEdgeLaws.{out_edges-at}
 use Rattle.fw_flow.specs.declared.choice.Stamps.{Stamps}
 use Rattle.fw_model.specs.Filtering.{messages_from, messages_outside}
 use Rattle.fw_model.specs.History.{sent_messages}
-use Rattle.fw_model.specs.Machine.{Machine, events, family_of}
+use Rattle.fw_model.specs.Machine.{Machine, checkpoint, events, family_of}
 use Rattle.fw_model.specs.Offers.{AreFrontsOfEdges}
 use Rattle.fw_model.specs.Reached.{IsReached}
 use Rattle.fw_model.specs.SortedMessages.{with_message, sorted_messages}
@@ -41,7 +42,7 @@ use Rattle.fw_model.proofs.DomainLaws.{has_epochs}
 use Rattle.fw_model.proofs.LegalLaws.{legal_messages-in_domain, edge-receiver}
 use Rattle.fw_model.proofs.SortedLaws.{each-sorted_messages}
 use Rattle.fw_model.proofs.ThinnedLaws.{each-contained}
-use Rattle.fw_node.specs.Past.{totals_kept}
+use Rattle.fw_node.specs.Past.{totals_changed, totals_kept}
 use Rattle.fw_node.specs.StateOf.{totals_in}
 use Rattle.fw_node.proofs.RestoringLaws.{few_sent}
 use Rattle.fw_record.specs.declared.logged.Logged.{Logged}
@@ -50,12 +51,14 @@ use Rattle.fw_record.specs.OfNode as fits
 use Rattle.fw_record.specs.OfNode.{IsOnOneOf, count_sum, CountsFitKind, HasNumbersFor, CanBeLogged, IsLogUnder, IsCheckpointRecordOf}
 use Rattle.fw_bytes.specs.Sound.{each_may_follow, may_follow_counts}
 use Rattle.fw_record.specs.Sound.{IsSound}
-use Rattle.fw_policy.specs.Entries.{sent_by_node}
+use Rattle.fw_policy.specs.Entries.{IsRecorded, count_within, sent_by_node}
 use Rattle.fw_record.specs.Log.{logged_on}
+use Rattle.fw_record.specs.declared.record.Record.{Record}
 use Rattle.fw_record.specs.declared.record.Record.TheVariants as tagged
-use Rattle.fw_stands.specs.Written.{events_within, edges_of, to_log, told_inside, IsCheckpointFor}
+use Rattle.fw_stands.specs.Written.{events_within, edges_of, messages_since, to_log, to_log_since, told_inside, IsChangesFor, IsCheckpointFor, IsRecordFor}
 use Rattle.fw_stands.proofs.NumberLaws.{sender-there, ledger-few}
-use Rattle.fw_keep.specs.Entry.{IsRecordOfEntry, asked}
+use Rattle.fw_keep.specs.declared.entry.Entry.{Entry}
+use Rattle.fw_keep.specs.Entry.{IsRecordOfEntry, asked_beside}
 
 -- ---- fronts
 
@@ -144,52 +147,117 @@ each_of-sorted P [] a = tt
 each_of-sorted P (x ∷ xs) a = let b = each_of-with_message P x (sorted_messages xs) a in (b.0, each_of-sorted P xs b.1)
 
 -- what holds of each message that is to be logged holds of each that is
-logged-each : (sys : System) (state : Machine) (p : ℕ) (f : Front) (low : List Front) (c : Checkpoint) → IsCheckpointFor sys state p f low c → (P : ℕ → Message → Type 0)
-    → ((e : ℕ) → sender sys.flow e ≡ p → AllByRecursion (P e) (to_log sys state p f low e)) → AllByRecursion (λ (l : Logged). P l.edge l.message) c.log
-logged-each sys state p f low c h P k =
-    each-weaker (Contains c.log) (λ (l : Logged). P l.edge l.message) c.log
+logged-each : (flow : Dataflow) (p : ℕ) (all : ℕ → List Message) (log : List Logged) → ((l : Logged) → Contains log l → sender flow l.edge ≡ p)
+    → ((e : ℕ) → sender flow e ≡ p → sorted_messages (logged_on e log) ≡ sorted_messages (all e)) → (P : ℕ → Message → Type 0)
+    → ((e : ℕ) → sender flow e ≡ p → AllByRecursion (P e) (all e)) → AllByRecursion (λ (l : Logged). P l.edge l.message) log
+logged-each flow p all log edges same P k =
+    each-weaker (Contains log) (λ (l : Logged). P l.edge l.message) log
     (λ l there.
     let e = l.edge in
-    let s = h.log_edges l there in
-    let sorted = subst (AllByRecursion (P e)) (sym (h.log e s)) (each-sorted_messages (P e) (to_log sys state p f low e) (k e s)) in
-    let each = each_of-filter (λ (x : Logged). P e x.message) (λ (x : Logged). x.edge == e) c.log
-    (each_of-map (P e) (λ (x : Logged). x.message) (filter (λ (x : Logged). x.edge == e) c.log) (each_of-sorted (P e) (logged_on e c.log) sorted)) in
-    each-contained (λ (x : Logged). (x.edge == e) ≡ true → P e x.message) l c.log there each (eq-eqb e e refl))
-    (each-there c.log)
+    let s = edges l there in
+    let sorted = subst (AllByRecursion (P e)) (sym (same e s)) (each-sorted_messages (P e) (all e) (k e s)) in
+    let each = each_of-filter (λ (x : Logged). P e x.message) (λ (x : Logged). x.edge == e) log
+    (each_of-map (P e) (λ (x : Logged). x.message) (filter (λ (x : Logged). x.edge == e) log) (each_of-sorted (P e) (logged_on e log) sorted)) in
+    each-contained (λ (x : Logged). (x.edge == e) ≡ true → P e x.message) l log there each (eq-eqb e e refl))
+    (each-there log)
 
 -- a message of the log of a node at a frontier
 abbrev IsFrom : Dataflow → ℕ → Front → ℕ → Message → Type 0
 IsFrom flow p f e m = (in_domain (bounds_of flow (receiver flow e)) m.at ≡ true) × AllByRecursion (λ t. node_frontier flow p f t ≡ true) m.causes
 
-to_log-from : (sys : System) → IsWellFormedSystem sys → (state : Machine) → IsReached sys state → (p : ℕ) (f : Front) (low : List Front) (e : ℕ)
-    → AllByRecursion (IsFrom sys.flow p f e) (to_log sys state p f low e)
-to_log-from sys w state r p f low e =
+-- what was sent from inside the frontier
+sent-from : (sys : System) → IsWellFormedSystem sys → (state : Machine) → IsReached sys state → (p : ℕ) (f : Front) (e : ℕ)
+    → AllByRecursion (IsFrom sys.flow p f e) (messages_from (node_frontier sys.flow p f) (sent_messages sys (events state.history) e))
+sent-from sys w state r p f e =
     let g : Frontier = node_frontier sys.flow p f in
     let ms = sent_messages sys (events state.history) e in
     let legal = (reached-all sys w r.0 r.1 state r.2).recover.holds.legal in
-    let low_there = family_of sys.flow low (receiver sys.flow e) in
-    cond_both (can_resend (policy_of sys.flow p)) (messages_outside low_there (messages_from g ms)) [] (AllByRecursion (IsFrom sys.flow p f e))
-    (λ k. each-kept (IsFrom sys.flow p f e) (λ (m : Message). not (low_there m.at)) (messages_from g ms)
-    (each-filter (IsFrom sys.flow p f e) (λ (m : Message). all_inside g m.causes) ms
+    each-filter (IsFrom sys.flow p f e) (λ (m : Message). all_inside g m.causes) ms
     (each-weaker (λ (m : Message). in_domain (bounds_of_edge sys.flow e) m.at ≡ true) (λ m. all_inside g m.causes ≡ true → IsFrom sys.flow p f e m) ms
     (λ m d i. (edge-receiver sys.flow w.flow e m.at d, each-of_all g m.causes i))
-    (legal_messages-in_domain sys (events state.history) w.flow (has_epochs sys w) legal e))))
+    (legal_messages-in_domain sys (events state.history) w.flow (has_epochs sys w) legal e))
+
+to_log-from : (sys : System) → IsWellFormedSystem sys → (state : Machine) → IsReached sys state → (p : ℕ) (f : Front) (low : List Front) (e : ℕ)
+    → AllByRecursion (IsFrom sys.flow p f e) (to_log sys state p f low e)
+to_log-from sys w state r p f low e =
+    let ms = messages_from (node_frontier sys.flow p f) (sent_messages sys (events state.history) e) in
+    let low_there = family_of sys.flow low (receiver sys.flow e) in
+    cond_both (can_resend (policy_of sys.flow p)) (messages_outside low_there ms) [] (AllByRecursion (IsFrom sys.flow p f e))
+    (λ k. each-kept (IsFrom sys.flow p f e) (λ (m : Message). not (low_there m.at)) ms (sent-from sys w state r p f e))
+    (λ k. tt)
+
+to_log_since-from : (sys : System) → IsWellFormedSystem sys → (state : Machine) → IsReached sys state → (p : ℕ) (g f : Front) (low : List Front) (e : ℕ)
+    → AllByRecursion (IsFrom sys.flow p f e) (to_log_since sys state p g f low e)
+to_log_since-from sys w state r p g f low e =
+    let ms = sent_messages sys (events state.history) e in
+    let low_there = family_of sys.flow low (receiver sys.flow e) in
+    let since : Message → Bool = λ m. not (all_inside (node_frontier sys.flow p g) m.causes) in
+    cond_both (can_resend (policy_of sys.flow p)) (messages_outside low_there (messages_since (node_frontier sys.flow p g) (node_frontier sys.flow p f) ms)) []
+    (AllByRecursion (IsFrom sys.flow p f e))
+    (λ k. each-kept (IsFrom sys.flow p f e) (λ (m : Message). not (low_there m.at)) (messages_since (node_frontier sys.flow p g) (node_frontier sys.flow p f) ms)
+    (each-kept (IsFrom sys.flow p f e) since (messages_from (node_frontier sys.flow p f) ms) (sent-from sys w state r p f e)))
     (λ k. tt)
 
 none-logged : (log : List Logged) → AllByRecursion (λ (l : Logged). ⊥) log → log ≡ []
 none-logged [] a = refl
 none-logged (l ∷ log) a = absurd a.0
 
-lazy-none : (sys : System) (state : Machine) (p : ℕ) (f : Front) (low : List Front) (e : ℕ) → policy_of sys.flow p ≡ policy.Lazy → to_log sys state p f low e ≡ []
-lazy-none sys state p f low e lazy =
-    ap (λ asks. cond (can_resend asks)
-    (messages_outside (family_of sys.flow low (receiver sys.flow e)) (messages_from (node_frontier sys.flow p f) (sent_messages sys (events state.history) e))) []) lazy
+lazy-none : (asks : Policy) (ms : List Message) → asks ≡ policy.Lazy → cond (can_resend asks) ms [] ≡ []
+lazy-none asks ms lazy = ap (λ x. cond (can_resend x) ms []) lazy
 
 log-under : (asks : Policy) (log : List Logged) → (asks ≡ policy.Lazy → log ≡ []) → IsLogUnder asks log
 log-under policy.Lazy log k = k refl
 log-under asks log k = tt
 
+-- each of these messages may be in the log
+log-fits : (flow : Dataflow) (p : ℕ) (f : Front) (all : ℕ → List Message) (log : List Logged) → p < length flow.nodes
+    → ((l : Logged) → Contains log l → sender flow l.edge ≡ p)
+    → ((e : ℕ) → sender flow e ≡ p → sorted_messages (logged_on e log) ≡ sorted_messages (all e))
+    → ((e : ℕ) → AllByRecursion (IsFrom flow p f e) (all e)) → (policy_of flow p ≡ policy.Lazy → (e : ℕ) → all e ≡ []) → fits.IsLogOf flow p f log
+log-fits flow p f all log l edges same from lazy = record {
+  messages = each-weaker (λ (x : Logged). Contains log x × IsFrom flow p f x.edge x.message) (CanBeLogged flow p f) log
+      (λ x a.
+      let s = edges x a.0 in
+      record {
+        edge = out_edges-at (Contains (out_edges flow p)) flow p (each-there (out_edges flow p)) x.edge (sender-there flow p x.edge l s) s;
+        at = a.1.0;
+        causes = a.1.1;
+      })
+      (each-both (Contains log) (λ (x : Logged). IsFrom flow p f x.edge x.message) log (each-there log)
+      (logged-each flow p all log edges same (IsFrom flow p f) (λ e s. from e)));
+  policy = log-under (policy_of flow p) log (λ is.
+      none-logged log (logged-each flow p all log edges same (λ e m. ⊥) (λ e s. subst (AllByRecursion (λ (m : Message). ⊥)) (sym (lazy is e)) tt)));
+}
+
 -- ---- the record
+
+recorded-fits : (sys : System) (state : Machine) (p : ℕ) (f : Front) (held : Recorded) → IsRecorded sys state p f held → edges_of held.delivered ≡ in_edges sys.flow p
+    → edges_of held.discarded ≡ out_edges sys.flow p → fits.IsRecordedOf sys.flow p f held
+recorded-fits sys state p f held h ins outs = record {
+  front = h.front;
+  notified = in_domain-canonical (bounds_of sys.flow p) held.notified h.of_flow.notified;
+  delivered = on-edges sys.flow (in_edges sys.flow p) held.delivered h.of_flow.delivered ins;
+  discarded = on-edges sys.flow (out_edges sys.flow p) held.discarded h.of_flow.discarded outs;
+}
+
+fewer : (test : Message → Bool) (ms : List Message) → length (filter test ms) ≤ length ms
+fewer test [] = omega arith
+fewer test (m ∷ ms) =
+    let rest = fewer test ms in
+    cond_both (test m) (m ∷ filter test ms) (filter test ms) (λ xs. length xs ≤ length (m ∷ ms)) (λ e. omega arith) (λ e. omega arith)
+
+sent-fits : (sys : System) → IsWellFormedSystem sys → (state : Machine) → IsReached sys state → (p : ℕ) (f : Front) → p < length sys.flow.nodes → (sent : ℕ)
+    → sent ≡ count_within sys state p f
+    → (kind_of sys.flow p ≡ kind.Sequence → sent ≡ length (sequence_sent (events_at sys.flow p (events_within sys state p f)))) → HasNumbersFor (kind_of sys.flow p) sent
+sent-fits sys w state r p f l sent counted numbered =
+    let g : Frontier = node_frontier sys.flow p f in
+    let legal = (reached-all sys w r.0 r.1 state r.2).recover.holds.legal in
+    numbers-for (kind_of sys.flow p) sent
+    (λ k. let a = numbered k in let b = few_sent (events_at sys.flow p (events_within sys state p f)) in omega arith)
+    (λ k.
+    let b = fewer (λ m. all_inside g m.causes) (sent_by_node sys (events state.history) p) in
+    let d = ledger-few sys (events state.history) w.flow (has_epochs sys w) legal p l k in
+    omega arith)
 
 checkpoint-fits : (sys : System) → IsWellFormedSystem sys → (state : Machine) → IsReached sys state → (p : ℕ) (f : Front) (low : List Front) (c : Checkpoint)
     → takes_checkpoints (policy_of sys.flow p) ≡ true → each_may_follow may_follow_counts [] c.state.sends ≡ true → IsCheckpointFor sys state p f low c
@@ -197,7 +265,6 @@ checkpoint-fits : (sys : System) → IsWellFormedSystem sys → (state : Machine
 checkpoint-fits sys w state r p f low c takes follow h =
     let flow = sys.flow in
     let l = takes-declared flow p takes in
-    let legal = (reached-all sys w r.0 r.1 state r.2).recover.holds.legal in
     let g : Frontier = node_frontier flow p f in
     let ms = messages_from g (sent_by_node sys (events state.history) p) in
     let positive = positive-each [] c.state.sends follow in
@@ -205,59 +272,90 @@ checkpoint-fits sys w state r p f low c takes follow h =
     λ k. sym (told-all c.state.sends) ∙ h.sends k (λ t. true) ∙ ap length (from-all ms) in
     let within : is_sequence_kind (kind_of flow p) ≡ true → told_inside g c.state.sends ≡ count_sum c.state.sends =
     λ k. h.sends k g ∙ ap length (from-twice g (sent_by_node sys (events state.history) p)) ∙ sym (all k) in
-    let vs = events_at flow p (events_within sys state p f) in
     record {
       node = h.node;
-      recorded = record {
-        front = h.recorded.front;
-        notified = in_domain-canonical (bounds_of flow p) c.recorded.notified h.recorded.of_flow.notified;
-        delivered = on-edges flow (in_edges flow p) c.recorded.delivered h.recorded.of_flow.delivered h.in_each;
-        discarded = on-edges flow (out_edges flow p) c.recorded.discarded h.recorded.of_flow.discarded h.out_each;
-      };
+      recorded = recorded-fits sys state p f c.recorded h.recorded h.in_each h.out_each;
       state = record {
         causes = causes-of flow g (is_sequence_kind (kind_of flow p)) (kind_of flow p) c.state.sends refl
             (λ k. all-told g c.state.sends positive (within k)) h.sends_none;
         counts = counts-of (kind_of flow p) c.state (λ k. all k ∙ sym h.sent) h.sends_none;
-        entries = entries-of (kind_of flow p) c.state.entries (delivered_recs (λ d s. true) vs) h.table.totals;
-        numbers = numbers-for (kind_of flow p) c.state.sent
-            (λ k. let a = h.table.sent k in let b = few_sent vs in omega arith)
-            (λ k.
-            let a = h.sent in
-            let b = fewer g (sent_by_node sys (events state.history) p) in
-            let d = ledger-few sys (events state.history) w.flow (has_epochs sys w) legal p l k in
-            omega arith);
+        entries = entries-of (kind_of flow p) c.state.entries (delivered_recs (λ d s. true) (events_at flow p (events_within sys state p f))) h.table.totals;
+        numbers = sent-fits sys w state r p f l c.state.sent h.sent h.table.sent;
       };
-      log = record {
-        messages = each-weaker (λ (x : Logged). Contains c.log x × IsFrom flow p f x.edge x.message) (CanBeLogged flow p f) c.log
-            (λ x a.
-            let s = h.log_edges x a.0 in
-            record {
-              edge = out_edges-at (Contains (out_edges flow p)) flow p (each-there (out_edges flow p)) x.edge (sender-there flow p x.edge l s) s;
-              at = a.1.0;
-              causes = a.1.1;
-            })
-            (each-both (Contains c.log) (λ (x : Logged). IsFrom flow p f x.edge x.message) c.log (each-there c.log)
-            (logged-each sys state p f low c h (IsFrom flow p f) (λ e s. to_log-from sys w state r p f low e)));
-        policy = log-under (policy_of flow p) c.log (λ lazy.
-            none-logged c.log (logged-each sys state p f low c h (λ e m. ⊥)
-            (λ e s. subst (AllByRecursion (λ (m : Message). ⊥)) (sym (lazy-none sys state p f low e lazy)) tt)));
-      };
+      log = log-fits flow p f (to_log sys state p f low) c.log l h.log_edges h.log (to_log-from sys w state r p f low)
+          (λ lazy e. lazy-none (policy_of flow p) (messages_outside (family_of flow low (receiver flow e)) (messages_from g (sent_messages sys (events state.history) e))) lazy);
     }
-  where
-    fewer : (f : Frontier) (ms : List Message) → length (messages_from f ms) ≤ length ms
-    fewer f [] = omega arith
-    fewer f (m ∷ ms) =
-        let rest = fewer f ms in
-        cond_both (all_inside f m.causes) (m ∷ messages_from f ms) (messages_from f ms) (λ xs. length xs ≤ length (m ∷ ms)) (λ e. omega arith) (λ e. omega arith)
 
--- in each state to which steps of a well-formed system lead, the record of a checkpoint of a node that takes them can be that of
--- the entry that is asked by it, if it has a spelling
+-- ---- changes
+
+-- what came since is from inside
+since-from : (g f : Frontier) (ms : List Message) → messages_from f (messages_since g f ms) ≡ messages_since g f ms
+since-from g f ms =
+    let inside : Message → Bool = λ m. all_inside f m.causes in
+    filter-all inside (messages_since g f ms)
+    (each-kept (λ (m : Message). inside m ≡ true) (λ m. not (all_inside g m.causes)) (messages_from f ms)
+    (each-filter (λ (m : Message). inside m ≡ true) inside ms (each-one (λ m. inside m ≡ true → inside m ≡ true) ms (λ m e. e))))
+
+changes-counts : (k : Kind) (s : State) → (is_sequence_kind k ≡ true → count_sum s.sends ≤ s.sent) → (is_sequence_kind k ≡ false → s.sends ≡ []) → fits.CountsFitChanges k s
+changes-counts kind.Sequence s a b = a refl
+changes-counts k s a b = b refl
+
+changed-of : (k : Kind) (entries : Entries) (since all : List Rec) → totals_in entries ≡ totals_changed k since all → fits.TotalsFitKind k entries
+changed-of kind.Total entries since all e = tt
+changed-of kind.Ledger entries since all e = tt
+changed-of k (Totals recs) since all e = ap Totals e
+
+changes-fit : (sys : System) → IsWellFormedSystem sys → (state : Machine) → IsReached sys state → (p : ℕ) (g f : Front) (low : List Front) (c : Checkpoint)
+    → takes_checkpoints (policy_of sys.flow p) ≡ true → each_may_follow may_follow_counts [] c.state.sends ≡ true → IsChangesFor sys state p g f low c
+    → fits.AreChangesOf sys.flow p f c
+changes-fit sys w state r p g f low c takes follow h =
+    let flow = sys.flow in
+    let l = takes-declared flow p takes in
+    let base : Frontier = node_frontier flow p g in
+    let front : Frontier = node_frontier flow p f in
+    let sent = sent_by_node sys (events state.history) p in
+    let ms = messages_since base front sent in
+    let positive = positive-each [] c.state.sends follow in
+    let all : is_sequence_kind (kind_of flow p) ≡ true → count_sum c.state.sends ≡ length ms =
+    λ k. sym (told-all c.state.sends) ∙ h.sends k (λ t. true) ∙ ap length (from-all ms) in
+    let within : is_sequence_kind (kind_of flow p) ≡ true → told_inside front c.state.sends ≡ count_sum c.state.sends =
+    λ k. h.sends k front ∙ ap length (since-from base front sent) ∙ sym (all k) in
+    let vs = events_at flow p (events_within sys state p f) in
+    record {
+      node = h.node;
+      recorded = recorded-fits sys state p f c.recorded h.recorded h.in_each h.out_each;
+      state = record {
+        causes = causes-of flow front (is_sequence_kind (kind_of flow p)) (kind_of flow p) c.state.sends refl
+            (λ k. all-told front c.state.sends positive (within k)) h.sends_none;
+        counts = changes-counts (kind_of flow p) c.state
+            (λ k. let a = all k in let b = h.sent in let d = fewer (λ m. not (all_inside base m.causes)) (messages_from front sent) in omega arith) h.sends_none;
+        entries = changed-of (kind_of flow p) c.state.entries (delivered_recs (λ d s. not (base s)) vs) (delivered_recs (λ d s. true) vs) h.table.totals;
+        numbers = sent-fits sys w state r p f l c.state.sent h.sent h.table.sent;
+      };
+      log = log-fits flow p f (to_log_since sys state p g f low) c.log l h.log_edges h.log (to_log_since-from sys w state r p g f low)
+          (λ lazy e.
+          lazy-none (policy_of flow p) (messages_outside (family_of flow low (receiver flow e)) (messages_since base front (sent_messages sys (events state.history) e))) lazy);
+    }
+
+-- in each state to which steps of a well-formed system lead, the record of a checkpoint of a node that takes them, a whole one or changes,
+-- can be that of the entry that is asked by it beside others, if it has a spelling
 pub records_can_be_of_entries : (sys : System) → IsWellFormedSystem sys → (state : Machine) → IsReached sys state
-    → (p : ℕ) (f : Front) (low : List Front) (c : Checkpoint) → takes_checkpoints (policy_of sys.flow p) ≡ true → IsSound (tagged.State c)
-    → IsCheckpointFor sys state p f low c → (id : ℕ) (stamps : Stamps) → IsRecordOfEntry sys.flow (asked id (tagged.State c) stamps) (tagged.State c)
-records_can_be_of_entries sys w state r p f low c takes sound h id stamps =
+    → (p : ℕ) (base : Option Front) (f : Front) (low : List Front) (r : Record) → takes_checkpoints (policy_of sys.flow p) ≡ true → IsSound r
+    → IsRecordFor sys state p base (checkpoint f low) r
+    → (entries : List Entry) (id : ℕ) (stamps : Stamps) → IsRecordOfEntry sys.flow (asked_beside entries id r stamps) r
+records_can_be_of_entries sys w state r p None f low (tagged.State c) takes sound h es id stamps =
     let fit = checkpoint-fits sys w state r p f low c takes sound.state.sends.follow h in
     record {
       of_node = subst (λ q. IsCheckpointRecordOf sys.flow q c.recorded.front c) (sym h.node) (subst (λ g. IsCheckpointRecordOf sys.flow p g c) (sym h.recorded.front) fit);
+      recorded = refl;
+    }
+records_can_be_of_entries sys w state r p None f low (tagged.Event q event) takes sound h es id stamps = absurd h
+records_can_be_of_entries sys w state r p None f low (tagged.Changes on c) takes sound h es id stamps = absurd h
+records_can_be_of_entries sys w state r p (Some g) f low (tagged.State c) takes sound h es id stamps = absurd h
+records_can_be_of_entries sys w state r p (Some g) f low (tagged.Event q event) takes sound h es id stamps = absurd h
+records_can_be_of_entries sys w state r p (Some g) f low (tagged.Changes on c) takes sound h es id stamps =
+    let fit = changes-fit sys w state r p g f low c takes sound.1.state.sends.follow h in
+    record {
+      of_node = (refl, subst (λ q. fits.AreChangesOf sys.flow q c.recorded.front c) (sym h.node) (subst (λ x. fits.AreChangesOf sys.flow p x c) (sym h.recorded.front) fit));
       recorded = refl;
     }

@@ -9,6 +9,7 @@ pub mod EventTableLaws
 pub mod EventTraceLaws
 pub mod EventPutLaws
 pub mod EntryCollections
+pub mod ForgottenEntries
 pub mod EntrySteps
 pub mod EntryViews
 pub mod FitLaws
@@ -34,9 +35,14 @@ pub mod RecoveredQueues
 pub mod RedoneLaws
 pub mod TableLaws
 pub mod RecoveredTables
+pub mod RecoveredChains
 pub mod LoggedOrder
 pub mod RecoveredBorders
 pub mod RecoveredProgress
 pub mod RecoveredTraces
 pub mod ReadLaws
+pub mod ReadChains
+pub mod ChainRecords
+pub mod CutChains
+pub mod BaseSteps
 pub mod StartingLaws

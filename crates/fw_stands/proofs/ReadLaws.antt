@@ -7,7 +7,6 @@ use Rattle.std.proofs.lemmas.List.Elements.{filter-append, Contains-append_right
 use Rattle.fw_lemmas.proofs.Bools.{two_ways}
 use Rattle.fw_lemmas.proofs.Each.{each-weaker, each-kept}
 use Rattle.fw_lemmas.proofs.Filters.{filter-in, filter-out}
-use Rattle.fw_lemmas.proofs.Options.{some-is}
 use Rattle.fw_frontier.specs.Front.{Front}
 use Rattle.fw_frontier.proofs.SameLaws.{same_front-is, same_front-from}
 use Rattle.fw_flow.specs.declared.choice.Recorded.{Recorded}
@@ -25,17 +24,12 @@ use Rattle.fw_model.specs.Writes.{IsCheckpointOf, not_collected, takes_checkpoin
 use Rattle.fw_model.proofs.CheckpointFrontLaws.{checkpoints-have_stamps}
 use Rattle.fw_model.proofs.RestoringLaws.{cuts-kept}
 use Rattle.fw_model.specs.Reached.{IsReached}
-use Rattle.fw_record.specs.declared.record.Checkpoint.{Checkpoint}
-use Rattle.fw_record.specs.declared.record.Record.{Record}
-use Rattle.fw_record.specs.declared.record.Record.TheVariants as tagged
-use Rattle.fw_record.proofs.RecordLaws.{one_spelling_lem}
-use Rattle.fw_record.specs.Spelling.{spelling}
 use Rattle.fw_keep.specs.declared.entry.Entry.{Entry}
 use Rattle.fw_keep.specs.declared.entry.Written.{Written}
 use Rattle.fw_keep.specs.declared.entry.Written.TheVariants as written
-use Rattle.fw_keep.specs.Stored.{Records, HoldsAs}
+use Rattle.fw_keep.specs.Stored.{Records}
 use Rattle.fw_stands.specs.Read.{is_checkpoint_at, is_checkpoint_of, HasOnlyCheckpoint}
-use Rattle.fw_stands.specs.Written.{HoldsWhatIsWritten, HoldsWithin, IsCheckpointFor, IsEntryOf, IsHeldAs, IsRecordFor, AreStored}
+use Rattle.fw_stands.specs.Written.{HoldsWhatIsWritten, HoldsWithin, IsEntryOf, IsHeldAs, AreStored}
 use Rattle.fw_stands.specs.Recovered.{Recovers}
 use Rattle.fw_policy.specs.Entries.{AreEntriesOf}
 
@@ -66,7 +60,7 @@ record IsWritten (sys : System) (state : Machine) (p : ℕ) (f : Front) (e : Wri
   pub holds : HoldsWithin sys state p f recorded stamps sent
   pub front : is_checkpoint_of f e ≡ true
 
-first-is : (g f : Front) → g ∷ [] ≡ f ∷ [] → g ≡ f
+pub first-is : (g f : Front) → g ∷ [] ≡ f ∷ [] → g ≡ f
 first-is g f e = ap first e
   where
     first : List Front → Front
@@ -172,40 +166,6 @@ one-checkpoint sys state choice settled r es a records s p takes f is some =
       what = w.what;
       holds = subst (λ q. HoldsWithin sys state q f w.recorded w.stamps w.sent) only.is_such.0 w.holds;
     }
-
-no-front : (sys : System) (p : ℕ) (n : ℕ) (w : WrittenBy) → ((f : Front) (low : List Front) → w ≡ checkpoint f low → f ≢ no_stamps (bounds_of sys.flow n))
-    → n ≡ p → checkpoint_front w ≡ no_stamps (bounds_of sys.flow p) ∷ [] → ⊥
-no-front sys p n (checkpoint g low) h e i = h g low refl (first-is g (no_stamps (bounds_of sys.flow p)) i ∙ ap (λ q. no_stamps (bounds_of sys.flow q)) (sym e))
-no-front sys p n (logged_event s) h e i = absurd (cc i)
-
--- none is of a checkpoint of no stamps
-pub no-checkpoint : (sys : System) (state : Machine) → IsWellFormedSystem sys → IsReached sys state
-    → (entries : List Entry) → AreEntriesOf sys state entries (filter not_collected state.writes) → (p : ℕ)
-    → filter (is_checkpoint_at p (no_stamps (bounds_of sys.flow p))) entries ≡ []
-no-checkpoint sys state w reached es a p =
-    let f = no_stamps (bounds_of sys.flow p) in
-    let Has : Write → Type 0 = λ x. (g : Front) (low : List Front) → x.written ≡ checkpoint g low → g ≢ no_stamps (bounds_of sys.flow x.node) in
-    none-pass sys state p f es (filter not_collected state.writes) a
-    (each-weaker Has (λ x. IsCheckpointOf p f x → ⊥) (filter not_collected state.writes)
-    (λ x h i. no-front sys p x.node x.written h i.0 i.1)
-    (each-kept Has not_collected state.writes (checkpoints-have_stamps sys w reached.0 reached.1 state reached.2)))
-
--- ---- records
-
-as-checkpoint : (sys : System) (state : Machine) (p : ℕ) (f : Front) (low : List Front) (r : Record) → IsRecordFor sys state p (checkpoint f low) r
-    → (c : Checkpoint) × (r ≡ tagged.State c) × IsCheckpointFor sys state p f low c
-as-checkpoint sys state p f low (tagged.State c) a = (c, refl, a)
-as-checkpoint sys state p f low (tagged.Event q event) a = absurd a
-as-checkpoint sys state p f low (tagged.Changes base c) a = absurd a
-
--- a record that is held as an entry's is the checkpoint of its write
-pub read-checkpoints : (sys : System) (state : Machine) (held : Records) (entry : Entry) (write : Write) → IsHeldAs sys state held entry write
-    → (f : Front) (low : List Front) → write.written ≡ checkpoint f low → (r : Record) → HoldsAs sys.flow (Some held) entry r
-    → (c : Checkpoint) × (r ≡ tagged.State c) × IsCheckpointFor sys state write.node f low c
-read-checkpoints sys state held entry write h f low is r a =
-    let same : h.what ≡ r = one_spelling_lem h.what r h.of_entry.sound a.sound (some-is (spelling h.what) (spelling r) (sym h.of_entry.bytes ∙ a.bytes)) in
-    as-checkpoint sys state write.node f low r
-    (subst (λ w. IsRecordFor sys state write.node w r) is (subst (IsRecordFor sys state write.node write.written) same h.of_write))
 
 -- ---- the step
 

@@ -104,7 +104,7 @@ logs-present sys state choice settled r e l is =
 -- ---- a sender that is cut
 
 -- its log has what comes from inside the cut
-logged-cut : (sys : System) (state : Machine) (choice : Choice) (settled : List Front) → Recovers sys state choice settled
+pub logged-cut : (sys : System) (state : Machine) (choice : Choice) (settled : List Front) → Recovers sys state choice settled
     → (e : ℕ) → can_resend (policy_of sys.flow (sender sys.flow e)) ≡ true → (f : Front) → cut_of choice (sender sys.flow e) ≡ At f
     → logged sys (recovered_state sys state choice settled) e ≡ sorted_messages (logged_messages sys state state.low e (node_frontier sys.flow (sender sys.flow e) f))
 logged-cut sys state choice settled r e can f is =
@@ -138,10 +138,10 @@ logs-of_nothing sys state choice settled r e l is =
           ∙ ap (λ ms. sorted_messages (messages_outside (at_receiver sys state.low e) ms)) (none-from sys p (events_at sys.flow p (events state.history)))
     ]
 
--- ---- from a checkpoint
+-- ---- two watermarks
 
 -- what lies outside two frontiers, of which the first lies within the second
-outside-both : (f g : Frontier) → Within f g → (ms : List Message) → messages_outside g (messages_outside f ms) ≡ messages_outside g ms
+pub outside-both : (f g : Frontier) → Within f g → (ms : List Message) → messages_outside g (messages_outside f ms) ≡ messages_outside g ms
 outside-both f g w ms =
     filter-inner (λ (m : Message). not (g m.at)) (λ m. not (f m.at)) ms
     (each-one (λ (m : Message). not (g m.at) ≡ true → not (f m.at) ≡ true) ms (λ m k. by (f m.at) (g m.at) (w m.at) k))
@@ -149,51 +149,6 @@ outside-both f g w ms =
     by : (a b : Bool) → (a ≡ true → b ≡ true) → not b ≡ true → not a ≡ true
     by true b h k = absurd (two_ways (not b) k (ap not (h refl)))
     by false b h k = refl
-
--- the watermark that is kept with a checkpoint lies within today's
-kept-today : (sys : System) (state : Machine) → IsWellFormedSystem sys → IsReached sys state → (write : Write) (f : Front) (low : List Front)
-    → Contains state.writes write → write.written ≡ checkpoint f low → (e : ℕ) → Within (at_receiver sys low e) (at_receiver sys state.low e)
-kept-today sys state w reached write f low has is e =
-    subst (IsKeptWithin sys state.low) is
-    (each-contained (λ (x : Write). IsKeptWithin sys state.low x.written) state.writes write (watermarks-today sys w reached.0 reached.1 state reached.2) has)
-    (receiver sys.flow e)
-
--- the log of a sender that is cut to a checkpoint is what the checkpoint's record holds on the edge, but for what lies inside
--- today's low watermark of the receiver
-pub logs-from_checkpoints : (sys : System) (state : Machine) (choice : Choice) (settled : List Front) → Recovers sys state choice settled
-    → (e : ℕ) → e < length sys.flow.edges → (f : Front) → cut_of choice (sender sys.flow e) ≡ At f
-    → (write : Write) (low : List Front) → Contains state.writes write → write.written ≡ checkpoint f low
-    → (c : Checkpoint) → IsCheckpointFor sys state (sender sys.flow e) f low c
-    → logged sys (recovered_state sys state choice settled) e
-    ≡ sorted_messages (messages_outside (inside (front_of state.low (receiver sys.flow e))) (logged_on e c.log))
-logs-from_checkpoints sys state choice settled r e l f is write low has written c held =
-    let ms = logged_on e c.log in
-    let same = held.log e refl in
-    let w = r.well_formed.flow in
-    let k = knows sys state choice settled r in
-    let p = sender sys.flow e in
-    let q = receiver sys.flow e in
-    let today = inside (front_of state.low q) in
-    let outside : Message → Bool = λ m. not (today m.at) in
-    let from = messages_from (node_frontier sys.flow p f) (sent_messages sys (events state.history) e) in
-    let kept = at_receiver sys low e in
-    let now = at_receiver sys state.low e in
-    let P : Message → Type 0 = λ m. in_domain (bounds_of sys.flow q) m.at ≡ true in
-    let at : AllByRecursion P (messages_outside kept from) = each-kept P (λ m. not (kept m.at)) from
-    (each-kept P (λ m. all_inside (node_frontier sys.flow p f) m.causes) (sent_messages sys (events state.history) e) (legal-at sys (events state.history) w k.epochs k.legal e)) in
-    let log : sorted_messages (messages_outside today ms) ≡ sorted_messages (messages_outside today (to_log sys state p f low e)) =
-    sorted_messages-filter outside ms ∙ ap (messages_outside today) same ∙ sym (sorted_messages-filter outside (to_log sys state p f low e)) in
-    let can_log : Bool = can_resend (policy_of sys.flow p) in
-    sym (log ∙ elim (cases_Bool can_log) [
-      | inr cannot ↦
-          ap (λ ys. sorted_messages (messages_outside today ys)) (cond-false can_log (messages_outside kept from) [] cannot)
-          ∙ sym (logged-none sys (recovered_state sys state choice settled) e cannot)
-      | inl can ↦
-          ap (λ ys. sorted_messages (messages_outside today ys)) (cond-true can_log (messages_outside kept from) [] can)
-          ∙ ap sorted_messages (sym (outside-front sys.flow q (front_of state.low q) (messages_outside kept from) at)
-          ∙ outside-both kept now (kept-today sys state r.well_formed r.reached write f low has written e) from)
-          ∙ sym (logged-cut sys state choice settled r e can f is)
-    ])
 
 -- ---- from logged events
 

@@ -124,7 +124,7 @@ inner-anything flow p way =
     inner-way (kind_of flow p) (policy_of flow p)
     (λ e. let x : Batches ≡ Anything = sym e ∙ way in absurd (cc x)) (λ e. let x : Bound ≡ Anything = sym e ∙ way in absurd (cc x))
 
-inner-checkpoints : (flow : Dataflow) (p : ℕ) → way_of flow p ≡ Checkpoints → (is_input_kind (kind_of flow p) || is_output_kind (kind_of flow p)) ≡ false
+pub inner-checkpoints : (flow : Dataflow) (p : ℕ) → way_of flow p ≡ Checkpoints → (is_input_kind (kind_of flow p) || is_output_kind (kind_of flow p)) ≡ false
 inner-checkpoints flow p way =
     inner-way (kind_of flow p) (policy_of flow p)
     (λ e. let x : Batches ≡ Checkpoints = sym e ∙ way in absurd (cc x)) (λ e. let x : Bound ≡ Checkpoints = sym e ∙ way in absurd (cc x))
@@ -199,7 +199,7 @@ cut-front sys state choice settled r p l inner f is =
     ]
 
 -- a node that is cut has a table where it stands for the events inside, and no more is settled
-tables-cut : (sys : System) (state : Machine) (choice : Choice) (settled : List Front) → Recovers sys state choice settled
+pub tables-cut : (sys : System) (state : Machine) (choice : Choice) (settled : List Front) → Recovers sys state choice settled
     → (p : ℕ) → p < length sys.flow.nodes → (is_input_kind (kind_of sys.flow p) || is_output_kind (kind_of sys.flow p)) ≡ false
     → (f : Front) → cut_of choice p ≡ At f
     → (node : Node) → IsTableOf sys.flow p (node_frontier sys.flow p f) node (events_inside (node_frontier sys.flow p f) (events_at sys.flow p (events state.history)))
@@ -214,12 +214,12 @@ tables-cut sys state choice settled r p l inner f is node t =
     }
 
 -- what is known of the events inside a cut
-record AreInside (flow : Dataflow) (p : ℕ) (f : Frontier) (vs : List Event) : Type 0 where
+pub record AreInside (flow : Dataflow) (p : ℕ) (f : Frontier) (vs : List Event) : Type 0 where
   pub inside : EachDelivery (λ s. f s ≡ true) vs
   pub in_the_domain : EachDelivery (λ s. in_domain (bounds_of flow p) s ≡ true) vs
   pub on_edges : AreOnEdges (in_edges flow p) vs
 
-are-inside : (sys : System) (state : Machine) (choice : Choice) (settled : List Front) → Recovers sys state choice settled
+pub are-inside : (sys : System) (state : Machine) (choice : Choice) (settled : List Front) → Recovers sys state choice settled
     → (p : ℕ) → p < length sys.flow.nodes → (k : Frontier) → AreInside sys.flow p k (events_inside k (events_at sys.flow p (events state.history)))
 are-inside sys state choice settled r p l k =
     let known = knows sys state choice settled r in
@@ -268,22 +268,6 @@ within-at sys state p f =
     let h = events state.history in
     filter-swap (λ v. event_node sys.flow v == p) (λ v. b (event_stamp v)) (λ v. b (event_stamp v)) h
     (each-one (λ v. (event_node sys.flow v == p) ≡ true → b (event_stamp v) ≡ b (event_stamp v)) h (λ v e. refl))
-
--- a node that is cut to a checkpoint has a table that stands for all events inside of which the checkpoint's state is the one
-pub tables-from_checkpoints : (sys : System) (state : Machine) (choice : Choice) (settled : List Front) → Recovers sys state choice settled
-    → (p : ℕ) → p < length sys.flow.nodes → way_of sys.flow p ≡ Checkpoints → (f : Front) → cut_of choice p ≡ At f
-    → (low : List Front) (c : Checkpoint) → IsCheckpointFor sys state p f low c
-    → (node : Node) → ((before : List Event) → EachDelivery (λ s. node_frontier sys.flow p f s ≡ true) before
-    → AreOnEdges (in_edges sys.flow p) before → IsStateOf (kind_of sys.flow p) before c.state
-    → IsTableOf sys.flow p (node_frontier sys.flow p f) node before)
-    → IsTableIn sys (recovered_state sys state choice settled) p (Some node)
-tables-from_checkpoints sys state choice settled r p l way f is low c held node built =
-    let b = node_frontier sys.flow p f in
-    let vs = events_inside b (events_at sys.flow p (events state.history)) in
-    let a = are-inside sys state choice settled r p l b in
-    let State : List Event → Type 0 = λ us. IsStateOf (kind_of sys.flow p) us c.state in
-    tables-cut sys state choice settled r p l (inner-checkpoints sys.flow p way) f is node
-    (built vs a.inside a.on_edges (subst State (within-at sys state p f) held.table))
 
 -- ---- from logged events
 

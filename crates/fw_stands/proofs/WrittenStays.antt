@@ -1,5 +1,5 @@
 -- What stands for a write stands for it after each step.
-use Rattle.std.proofs.Common.{◌≡◌, ℕ, ◌<◌, Bool, true, false, cond, ◌==◌, List, [], ◌∷◌, ◌++◌, length, filter, map, refl, sym, ap, subst, ◌∙◌, inl, inr, arith}
+use Rattle.std.proofs.Common.{◌≡◌, ℕ, ◌<◌, Bool, true, false, cond, not, ◌==◌, List, [], ◌∷◌, ◌++◌, length, filter, map, Option, Some, None, refl, sym, ap, subst, ◌∙◌, inl, inr, arith}
 use Rattle.std.specs.List.{flat_map, AllByRecursion}
 use Rattle.std.proofs.lemmas.Bool.{cond_both, eqb-true, eq-eqb}
 use Rattle.fw_lemmas.proofs.Bools.{two_ways}
@@ -18,7 +18,7 @@ use Rattle.fw_flow.specs.declared.step.Step.{Step}
 use Rattle.fw_flow.specs.declared.step.Step.TheVariants.{Inject, Deliver, Notify, Progress as ProgressStep, Checkpoint as CheckpointStep, Persist, Fail, Recover, Collect, Ack}
 use Rattle.fw_flow.specs.Dataflow.{System, Dataflow, kind_of, policy_of, sender, receiver, bounds_of, node_frontier}
 use Rattle.fw_flow.specs.NodeFunction.{event_node, event_stamp, sent_by, sequence_sent, delivered_recs}
-use Rattle.fw_flow.specs.Projection.{events_at}
+use Rattle.fw_flow.specs.Projection.{all_inside, events_at}
 use Rattle.fw_flow.specs.Restoring.{can_resend}
 use Rattle.fw_flow.specs.WellFormed.{IsWellFormedSystem}
 use Rattle.fw_model.specs.Choice.{kept_of}
@@ -42,6 +42,7 @@ use Rattle.fw_model.proofs.LoggedLaws.{logged-in_order}
 use Rattle.fw_model.proofs.RestoringLaws.{took-true}
 use Rattle.fw_model.proofs.SendPartLaws.{parts-send}
 use Rattle.fw_node.specs.Past.{totals_kept}
+use Rattle.fw_node.specs.StateOf.{IsStateSince}
 use Rattle.fw_policy.specs.Entries.{IsRecorded, sent_by_node}
 use Rattle.fw_record.specs.declared.record.Checkpoint.{Checkpoint}
 use Rattle.fw_record.specs.declared.record.Event.{Event}
@@ -49,7 +50,7 @@ use Rattle.fw_record.specs.declared.record.Record.{Record}
 use Rattle.fw_record.specs.declared.record.Record.TheVariants as tagged
 use Rattle.fw_keep.specs.declared.entry.Written.{Written}
 use Rattle.fw_keep.specs.declared.entry.Written.TheVariants as written
-use Rattle.fw_stands.specs.Written.{HasEventTold, events_within, HoldsWithin, HoldsWhatIsWritten, IsCheckpointFor, IsRecordFor}
+use Rattle.fw_stands.specs.Written.{HasEventTold, events_within, HoldsWithin, HoldsWhatIsWritten, IsChangesFor, IsCheckpointFor, IsRecordFor}
 use Rattle.fw_stands.specs.Entries.{StaysWritten}
 
 -- ---- what a node's stamps stand for hangs on its events alone
@@ -163,6 +164,25 @@ checkpoint-stays sys state next p f a low c h =
       log_edges = h.log_edges;
     }
 
+changes-stay : (sys : System) (state next : Machine) (p : ℕ) (f : Front) → AreAlike sys state next p f → (g : Front) (low : List Front) (c : Checkpoint)
+    → IsChangesFor sys state p g f low c → IsChangesFor sys next p g f low c
+changes-stay sys state next p f a g low c h =
+    let since : List Message → List Message = λ ms. filter (λ m. not (all_inside (node_frontier sys.flow p g) m.causes)) ms in
+    record {
+      node = h.node;
+      recorded = recorded-stays sys state next p f a.counts c.recorded h.recorded;
+      in_each = h.in_each;
+      out_each = h.out_each;
+      table = subst (λ vs. IsStateSince (kind_of sys.flow p) (node_frontier sys.flow p g) vs c.state) (sym a.within) h.table;
+      sent = h.sent ∙ ap length (sym a.sent);
+      sends = λ k i. h.sends k i ∙ ap (λ ms. length (messages_from i (since ms))) (sym a.sent);
+      sends_none = h.sends_none;
+      log = λ e s. h.log e s
+          ∙ ap (λ ms. sorted_messages (cond (can_resend (policy_of sys.flow p)) (messages_outside (family_of sys.flow low (receiver sys.flow e)) (since ms)) []))
+          (sym (a.counts.part.sent e s));
+      log_edges = h.log_edges;
+    }
+
 -- ---- a logged event
 
 pub told-below : (flow : Dataflow) (p s n : ℕ) (event : Event) (h : List SerialEvent) → AreSerialsBelow n h → HasEventTold flow p s event h → s < n
@@ -225,30 +245,36 @@ told-step sys state b (Ack o) next effect t = told-same sys.flow state next (ap 
 -- ---- what is written
 
 written-stays : (sys : System) → IsWellFormedSystem sys → (state next : Machine) → IsLegal sys (events state.history) → IsLegal sys (events next.history)
-    → ToldStay sys.flow state next → (p : ℕ) (what : WrittenBy) → CountsWritten sys state next p what → HasItsEvent sys.flow next.history p what
-    → StaysWritten sys state next p what
-written-stays sys w state next l m told p (checkpoint f low) c k =
+    → ToldStay sys.flow state next → (p : ℕ) (base : Option Front) (what : WrittenBy) → CountsWritten sys state next p what → HasItsEvent sys.flow next.history p what
+    → StaysWritten sys state next p base what
+written-stays sys w state next l m told p base (checkpoint f low) c k =
     let a = alike sys w state next l m p f c in
-    record { held = λ entry h. holds entry a h; spelled = λ r h. records r a h }
+    record { held = λ entry h. holds entry a h; spelled = λ r h. records base r a h }
   where
     holds : (entry : Written) → AreAlike sys state next p f → HoldsWhatIsWritten sys state p entry (checkpoint f low) → HoldsWhatIsWritten sys next p entry (checkpoint f low)
     holds (written.Checkpoint r s n) a h = within-stays sys state next p f a r s n h
     holds (written.Event event) a h = absurd h
 
-    records : (r : Record) → AreAlike sys state next p f → IsRecordFor sys state p (checkpoint f low) r → IsRecordFor sys next p (checkpoint f low) r
-    records (tagged.State c) a h = checkpoint-stays sys state next p f a low c h
-    records (tagged.Event q event) a h = absurd h
-    records (tagged.Changes base c) a h = absurd h
-written-stays sys w state next l m told p (logged_event s) c k = record { held = holds; spelled = records }
+    records : (b : Option Front) (r : Record) → AreAlike sys state next p f → IsRecordFor sys state p b (checkpoint f low) r → IsRecordFor sys next p b (checkpoint f low) r
+    records None (tagged.State c) a h = checkpoint-stays sys state next p f a low c h
+    records None (tagged.Event q event) a h = absurd h
+    records None (tagged.Changes id c) a h = absurd h
+    records (Some g) (tagged.State c) a h = absurd h
+    records (Some g) (tagged.Event q event) a h = absurd h
+    records (Some g) (tagged.Changes id c) a h = changes-stay sys state next p f a g low c h
+written-stays sys w state next l m told p base (logged_event s) c k = record { held = holds; spelled = records base }
   where
     holds : (entry : Written) → HoldsWhatIsWritten sys state p entry (logged_event s) → HoldsWhatIsWritten sys next p entry (logged_event s)
     holds (written.Checkpoint r t n) h = absurd h
     holds (written.Event event) h = told p s event k h
 
-    records : (r : Record) → IsRecordFor sys state p (logged_event s) r → IsRecordFor sys next p (logged_event s) r
-    records (tagged.State c) h = absurd h
-    records (tagged.Event q event) h = (h.0, told p s event k h.1)
-    records (tagged.Changes base c) h = absurd h
+    records : (b : Option Front) (r : Record) → IsRecordFor sys state p b (logged_event s) r → IsRecordFor sys next p b (logged_event s) r
+    records None (tagged.State c) h = absurd h
+    records None (tagged.Event q event) h = (h.0, told p s event k h.1)
+    records None (tagged.Changes id c) h = absurd h
+    records (Some g) (tagged.State c) h = absurd h
+    records (Some g) (tagged.Event q event) h = absurd h
+    records (Some g) (tagged.Changes id c) h = absurd h
 
 -- where a state is reached the next one is
 pub reached-next : (sys : System) (state : Machine) → IsReached sys state → (step : Step) (next : Machine) (effect : Effect) → LeadsTo sys state step next effect → IsReached sys next
@@ -259,7 +285,7 @@ reached-next sys state r step next effect t =
 -- writes after it: asked in that step or before, and in a recovery those that lie within the cuts of their nodes
 pub what_is_written_stays : (sys : System) → IsWellFormedSystem sys → (state : Machine) → IsReached sys state
     → (step : Step) (next : Machine) (effect : Effect) → LeadsTo sys state step next effect
-    → AllByRecursion (λ (write : Write). StaysWritten sys state next write.node write.written) next.writes
+    → AllByRecursion (λ (write : Write). StaysWritten sys state next write.node write.base write.written) next.writes
 what_is_written_stays sys w state r step next effect t =
     let f = reached-all sys w r.0 r.1 state r.2 in
     let g = took-reached sys w state step next effect f t in
@@ -267,6 +293,6 @@ what_is_written_stays sys w state r step next effect t =
     let there = (logged-in_order sys w also.0 also.1 next also.2).there in
     let Counts : Write → Type 0 = λ x. CountsWritten sys state next x.node x.written in
     let Has : Write → Type 0 = λ x. HasItsEvent sys.flow next.history x.node x.written in
-    each-weaker (λ x. Counts x × Has x) (λ (x : Write). StaysWritten sys state next x.node x.written) next.writes
-    (λ x a. written-stays sys w state next f.recover.holds.legal g.recover.holds.legal (told-step sys state f.restore.serials step next effect t) x.node x.written a.0 a.1)
+    each-weaker (λ x. Counts x × Has x) (λ (x : Write). StaysWritten sys state next x.node x.base x.written) next.writes
+    (λ x a. written-stays sys w state next f.recover.holds.legal g.recover.holds.legal (told-step sys state f.restore.serials step next effect t) x.node x.base x.written a.0 a.1)
     (each-both Counts Has next.writes (took-true sys w state step next effect f g t) there)

@@ -21,11 +21,11 @@ use Rattle.fw_stands.specs.Written.{HoldsWhatIsWritten, events_within, IsRecordF
 
 -- ---- what is written stays
 
--- What stands for what is written of node p in a state stands for it in the next one: what an entry holds of it, and the
+-- What stands for what is written of node p on this base in a state stands for it in the next one: what an entry holds of it, and the
 -- record of it.
-pub record StaysWritten (sys : System) (state next : Machine) (p : ℕ) (what : WrittenBy) : Type 0 where
+pub record StaysWritten (sys : System) (state next : Machine) (p : ℕ) (base : Option Front) (what : WrittenBy) : Type 0 where
   pub held : (entry : Written) → HoldsWhatIsWritten sys state p entry what → HoldsWhatIsWritten sys next p entry what
-  pub spelled : (r : Record) → IsRecordFor sys state p what r → IsRecordFor sys next p what r
+  pub spelled : (r : Record) → IsRecordFor sys state p base what r → IsRecordFor sys next p base what r
 
 -- ---- one more write
 

@@ -1,6 +1,7 @@
 pub mod Entries
 pub mod Parts
 pub mod Written
+pub mod Chains
 pub mod Events
 pub mod Staying
 pub mod Settling

@@ -1,15 +1,17 @@
--- By which entry a node is restored that takes checkpoints.
-use Rattle.std.specs.Prelude.{◌≡◌, ℕ, Bool, false, ◌&&◌, ◌==◌, List, [], ◌∷◌, filter, Option}
-use Rattle.std.specs.List.{Contains}
+-- By which entries a node is restored that takes checkpoints.
+use Rattle.std.specs.Prelude.{◌≡◌, ℕ, Bool, true, false, ◌&&◌, ◌==◌, List, [], ◌∷◌, filter, Option, Some, None}
+use Rattle.std.specs.List.{AllZip, Contains}
 use Rattle.std.specs.Option.{ForSome}
-use Rattle.fw_frontier.specs.Front.{Front, same_front}
+use Rattle.fw_frontier.specs.Front.{Front, is_within, same_front}
 use Rattle.fw_flow.specs.declared.choice.Recorded.{Recorded}
 use Rattle.fw_flow.specs.declared.choice.Stamps.{Stamps}
 use Rattle.fw_flow.specs.Dataflow.{System}
 use Rattle.fw_model.specs.Machine.{Machine, Write, checkpoint}
+use Rattle.fw_model.specs.Steps.{last_or, checkpoints_of}
 use Rattle.fw_keep.specs.declared.entry.Entry.{Entry}
 use Rattle.fw_keep.specs.declared.entry.Written.{Written}
 use Rattle.fw_keep.specs.declared.entry.Written.TheVariants as written
+use Rattle.fw_keep.specs.Newest.{is_written_between, whole_within}
 use Rattle.fw_keep.specs.Stored.{Records}
 use Rattle.fw_stands.specs.Written.{HoldsWithin, IsEntryOf, IsHeldAs}
 
@@ -39,3 +41,43 @@ pub record HasOnlyCheckpoint (sys : System) (state : Machine) (records : Option 
   pub sent : ℕ
   pub what : entry.written ≡ written.Checkpoint recorded stamps sent
   pub holds : HoldsWithin sys state p f recorded stamps sent
+
+-- ---- chains
+
+-- whether the entry is an acknowledged one of a checkpoint of node p, from the one at an earlier front up to f
+abbrev pub is_between : ℕ → Front → Front → Entry → Bool
+is_between p whole f e = (e.node == p) && (e.acknowledged && is_written_between whole f e.written)
+
+-- The write is a checkpoint of node p, and stands on the one at g, which lies within it.
+pub record IsCheckpointOn (p : ℕ) (g : Front) (w : Write) : Type 0 where
+  pub front : Front
+  pub low : List Front
+  pub node : w.node ≡ p
+  pub of_checkpoint : w.written ≡ checkpoint front low
+  pub base : w.base ≡ Some g
+  pub above : is_within g front ≡ true
+
+-- each of these checkpoints of node p stands on the one before it, and the first of them on the one at g
+abbrev pub StandOn : ℕ → Front → List Write → Type 0
+StandOn p g [] = Unit {0}
+StandOn p g (w ∷ ws) = (on : IsCheckpointOn p g w) × StandOn p on.front ws
+
+-- The acknowledged entries of node p's checkpoints from the newest whole one within f up to f stand for a chain of writes that ends at f:
+-- the first is whole, and each later one stands on the one before it.
+pub record IsChainRead (R : Entry → Write → Type 0) (entries : List Entry) (p : ℕ) (f : Front) : Type 0 where
+  pub whole : Front
+  pub newest : whole_within p f entries ≡ Some whole
+  pub first : Entry
+  pub later : List Entry
+  pub only : filter (is_between p whole f) entries ≡ first ∷ later
+  pub write : Write
+  pub writes : List Write
+  pub of_first : R first write
+  pub of_later : AllZip R later writes
+  pub low : List Front
+  pub node : write.node ≡ p
+  pub of_checkpoint : write.written ≡ checkpoint whole low
+  pub base : write.base ≡ None
+  pub depth : write.depth ≡ 0
+  pub each : StandOn p whole writes
+  pub ends : last_or whole (checkpoints_of p writes) ≡ f

@@ -4,6 +4,7 @@ use Rattle.fw_frontier.specs.Front.{Front}
 use Rattle.fw_keep.specs.declared.entry.Entry.{Entry}
 use Rattle.fw_rollback.specs.declared.parts.Parts.{Parts}
 use Rattle.fw_choose.specs.Collecting.{AreRaised}
+use Rattle.fw_collect.proofs.CollectLaws.{planned-once}
 use Rattle.fw_choose.proofs.collection.give_up.Goals as goal
 
 pub returns-clause-collected : goal.returns-clause-collected
@@ -14,6 +15,7 @@ returns-clause-collected c =
     record {
       rest = refl;
       drops = drops;
+      catalogue = c.entries.ensures.catalogue;
       planned = subst (λ (es : List Entry). IsPlanned old.flow (watermark c.args.choice.now) es drops) c.entries.ensures.all c.in_ok-drops.ensures;
       between = between;
       given_up = c.drop_from.ensures;
@@ -21,3 +23,6 @@ returns-clause-collected c =
       traces = subst (λ (fs : List Front). AreRaised old.flow (length old.flow.nodes) fs old.traces c.raise_bases.new.traces) (c.deref.ensures.value ∙ c.requires.low)
           c.in_ok-raise_bases.ensures;
     }
+
+pub drop_from-requires : goal.drop_from-requires
+drop_from-requires c = planned-once c.args.running.now.flow (watermark c.args.choice.now) _ c.in_ok-drops.drops c.in_ok-drops.ensures

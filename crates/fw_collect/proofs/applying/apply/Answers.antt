@@ -11,7 +11,8 @@ returns-clause-entries c =
     let drops = c.args.drops.now in
     let records = c.deref.result.now in
     let events = c.deref-2.result.now in
-    forgets_then (is_below_some records) (is_at_some events) (is_dropped drops) c.args.keep.now c.forget_records.new.keep c.forget_events.new.keep
-    (λ (e : Entry). ap (λ (ds : List OfNode). is_below_some ds e || is_at_some drops.events.items e) (sym c.deref.ensures.value)
-    ∙ ap (λ (ds : List AtNode). is_below_some records e || is_at_some ds e) (sym c.deref-2.ensures.value))
+    let keep = c.args.keep.now in
+    forgets_then (is_below_some records keep) (is_at_some events) (is_dropped drops keep) keep c.forget_records.new.keep c.forget_events.new.keep
+    (λ (e : Entry). ap (λ (ds : List OfNode). is_below_some ds keep e || is_at_some drops.events.items e) (sym c.deref.ensures.value)
+    ∙ ap (λ (ds : List AtNode). is_below_some records keep e || is_at_some ds e) (sym c.deref-2.ensures.value))
     c.forget_records.ensures c.forget_events.ensures

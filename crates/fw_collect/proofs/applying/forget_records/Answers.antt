@@ -1,8 +1,8 @@
 use Rattle.std.proofs.Common.{◌∙◌, ap}
 use Rattle.fw_keep.specs.Catalogue.{without}
-use Rattle.fw_keep.specs.Entry.{is_entry_below}
+use Rattle.fw_keep.specs.Newest.{is_forgotten_below}
 use Rattle.fw_collect.specs.declared.drops.OfNode.{OfNode}
-use Rattle.fw_collect.proofs.ApplyLaws.{forgets_nothing, forgets_more}
+use Rattle.fw_collect.proofs.ApplyLaws.{forgets_nothing, forgets_below_more}
 use Rattle.fw_collect.proofs.applying.forget_records.Goals as goal
 
 pub loop-record-init : goal.loop-record-init
@@ -10,7 +10,7 @@ loop-record-init c = forgets_nothing c.args.keep.now
 
 pub loop-record-preserved : goal.loop-record-preserved
 loop-record-preserved c =
-    forgets_more (λ (d : OfNode). is_entry_below d.node d.front) c.args.records.now c.loop-record.record-index c.record-item.result
-    c.args.keep.now c.loop-record.keep c.forget_below.new.self c.loop-record-test.true c.loop-record.invariant
-    (c.forget_below.ensures.gone ∙ ap (λ (d : OfNode). without (is_entry_below d.node d.front) c.loop-record.keep) c.record-item.is)
+    forgets_below_more c.args.records.now c.loop-record.record-index c.record-item.result
+    c.args.keep.now c.loop-record.keep c.forget_below.new.self c.loop-record-test.true c.requires c.loop-record.invariant
+    (c.forget_below.ensures.gone ∙ ap (λ (d : OfNode). without (is_forgotten_below d.node d.front c.loop-record.keep) c.loop-record.keep) c.record-item.is)
     c.forget_below.ensures.stored

@@ -27,7 +27,8 @@ returns-in_err-fetch-clause-damaged g c =
     let there = entry-among c.entries-entries.result.now entries c.loop-entry.entry-index e c.entries-entries.ensures.all c.loop-entry-test.true c.entry-item.is in
     let p = err_from_is_err_and c.from_residual.result c.from_residual.ensures.1 in
     let here : IsDamagedIfSaid {T = Unit {0}} c.args.flow.now c.args.choice.now left.records entries left.given (Err why) =
-    damaged (Unit {0}) c.args.flow.now c.args.choice.now left.records entries e left.given why there (sym c.is_asked_for.ensures ∙ c.if-is_asked_for.true)
+    damaged (Unit {0}) c.args.flow.now c.args.choice.now left.records entries e left.given why there
+    (sym (c.is_asked_for.ensures entries c.requires.wholes) ∙ c.if-is_asked_for.true)
     (c.in_err-fetch.ensures.fetched e there refl) c.in_err-fetch.ensures.told in
     rw (p.1, p.2) here
 
@@ -41,26 +42,27 @@ pub loop-entry-preserved : goal.loop-entry-preserved
 loop-entry-preserved g c =
     let flow = c.args.flow.now in
     let choice = c.args.choice.now in
-    let all = c.entries-entries.result.now in
+    let all = c.args.keep.now.entries in
+    let some = c.entries-entries.result.now in
     let i = c.loop-entry.entry-index in
     let e : Entry = c.entry-item.result in
     let inv = c.loop-entry.invariant in
     let before = (g.K.Store.view c.loop-entry.store).records in
-    let P : Option Records → List (List Record) → Type 0 = λ records given. HasFetched flow choice records (take (i + 1) all) given in
+    let P : Option Records → List (List Record) → Type 0 = λ records given. HasFetched flow choice records all (take (i + 1) some) given in
     let Q : Option Records → Type 0 = λ records. StayIfTold (g.K.Store.view c.args.store.now).records records in
     let R : Option Records → Type 0 = λ records. IsStored c.args.keep.now records in
     elim c.if-is_asked_for.branch [
       | then-is_asked_for+in_ok-fetch+in_ok-add w ↦
-          let there = entry-among all c.args.keep.now.entries i e c.entries-entries.ensures.all c.loop-entry-test.true c.entry-item.is in
+          let there = entry-among some all i e c.entries-entries.ensures.all c.loop-entry-test.true c.entry-item.is in
           let r : Record = w.in_ok-fetch.field-0 in
           let left = g.K.Store.view w.fetch.new.store in
           let one = fetched-one flow left.records e r left.given (w.in_ok-fetch.ensures.fetched e there refl) w.in_ok-fetch.ensures.told in
-          let so_far = fetched-told flow choice before left.records (take i all) c.loop-entry.given w.fetch.ensures.stays inv.fetched in
+          let so_far = fetched-told flow choice before left.records all (take i some) c.loop-entry.given w.fetch.ensures.stays inv.fetched in
           let same = ap (λ s. (g.K.Store.view s).records) w.store-is in
           record {
             fetched = of-both P same w.given-is
-                (fetched-more flow choice left.records all i e r c.loop-entry.given w.add.new.self c.loop-entry-test.true c.entry-item.is
-                (sym c.is_asked_for.ensures ∙ w.if-is_asked_for.true) so_far one w.in_ok-add.ensures);
+                (fetched-more flow choice left.records all some i e c.loop-entry-test.true c.entry-item.is r c.loop-entry.given w.add.new.self
+                (sym (c.is_asked_for.ensures all c.requires.wholes) ∙ w.if-is_asked_for.true) so_far one w.in_ok-add.ensures);
             stays = subst Q (sym same) (told-on _ before left.records inv.stays w.fetch.ensures.stays);
             stored = subst R (sym same) (stored-told c.args.keep.now before left.records w.fetch.ensures.stays inv.stored);
             faults = ap (λ s. (g.K.Store.view s).faults) w.store-is ∙ (w.in_ok-fetch.ensures.faults ∙ inv.faults);
@@ -69,8 +71,8 @@ loop-entry-preserved g c =
           let same = ap (λ s. (g.K.Store.view s).records) w.store-is in
           record {
             fetched = of-both P same w.given-is
-                (fetched-same flow choice before all i e c.loop-entry.given c.loop-entry-test.true c.entry-item.is
-                (sym c.is_asked_for.ensures ∙ w.if-is_asked_for.false) inv.fetched);
+                (fetched-same flow choice before all some i e c.loop-entry-test.true c.entry-item.is c.loop-entry.given
+                (sym (c.is_asked_for.ensures all c.requires.wholes) ∙ w.if-is_asked_for.false) inv.fetched);
             stays = subst Q (sym same) inv.stays;
             stored = subst R (sym same) inv.stored;
             faults = ap (λ s. (g.K.Store.view s).faults) w.store-is ∙ inv.faults;

@@ -148,8 +148,8 @@ id-left p f stays (e ∷ es) a there = elim (cases_Bool (has_front p f e)) [
       ]
 ]
 
--- it stays with more behind
-id-before : (p : ℕ) (f : Front) (id : ℕ) (es more : List Entry) → id_at_front p f es ≡ Some id → id_at_front p f (es ++ more) ≡ Some id
+-- the id at a front stays that with more entries behind
+pub id-before : (p : ℕ) (f : Front) (id : ℕ) (es more : List Entry) → id_at_front p f es ≡ Some id → id_at_front p f (es ++ more) ≡ Some id
 id-before p f id [] more k = absurd (let c : None ≡ Some id = k in cc)
 id-before p f id (e ∷ es) more k =
     cond_both (has_front p f e) (Some e.id) (id_at_front p f (es ++ more)) (λ o. o ≡ Some id)

@@ -1,5 +1,5 @@
 -- Which entries are asked for, by the front of the newest whole checkpoint within each cut.
-use Rattle.std.proofs.Common.{◌≡◌, ◌≢◌, ℕ, zero, suc, ◌<◌, Bool, false, ◌&&◌, ◌==◌, cond, List, ◌++◌, ◌∷◌, [], length, get_or, set, replicate, Option, Some, None, option_and_then, sym, ap, subst, ◌∙◌, inl, inr, refl, arith}
+use Rattle.std.proofs.Common.{◌≡◌, ◌≢◌, ℕ, ◌<◌, Bool, false, ◌&&◌, ◌==◌, cond, List, ◌++◌, ◌∷◌, [], length, get_or, set, Option, Some, None, option_and_then, sym, ap, subst, ◌∙◌, inl, inr, refl, arith}
 use Rattle.std.proofs.lemmas.Bool.{cases_eq, cases_lt, ne_eqb}
 use Rattle.std.proofs.lemmas.List.{get_or_past, get_or-set_same, get_or-set_other}
 use Rattle.fw_frontier.specs.Front.{Front}
@@ -92,19 +92,6 @@ module _ (choice : Choice) (es more : List Entry) (e : Entry) (last : more ≡ e
         h p ∙ sym (subst P same (before e.node (cut_of choice e.node) is))
     | inr apart ↦ h p ∙ sym (other p (cut_of choice p) apart)
   ]
-
--- of no entries there is none
-pub wholes-none : (choice : Choice) (n : ℕ) → AreWholes choice [] (replicate n None)
-wholes-none choice n p = of-nothing n p ∙ sym (by (cut_of choice p))
-  where
-    of-nothing : (n p : ℕ) → get_or (replicate n None) p None ≡ None {A = Front}
-    of-nothing zero p = refl
-    of-nothing (suc n) zero = refl
-    of-nothing (suc n) (suc p) = of-nothing n p
-
-    by : (cut : Cut) → by_front (front_at cut) (λ f. whole_within p f []) ≡ None
-    by Present = refl
-    by (At f) = refl
 
 -- ---- what is asked for
 

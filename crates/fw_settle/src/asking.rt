@@ -12,12 +12,12 @@ ghost use Rattle.fw_running.specs.Shaped.{IsShaped};
 ghost use Rattle.fw_running.specs.Steps.{IsUndamaged};
 ghost use Rattle.fw_running.specs.Logging.{ChangesKeep, IsNotAsked};
 
-use crate::base::{front_of_entry, next_base, record_on};
 use crate::checking::{is_countable, is_of_domains};
 use crate::record::checkpoint_at;
 use fw_flow::{NodeId, Policy};
 use fw_frontier::Front;
 use fw_outside::Store;
+use fw_record::Record;
 use fw_running::{EngineFault, Running};
 
 /// A node asks a checkpoint at a frontier, which holds what is settled. A fault leaves all as it was. A checkpoint of more
@@ -43,16 +43,14 @@ pub(crate) fn ask_checkpoint<K: Store>(
     ensures undamaged { IsUndamaged result }
     ensures tells { is_some (K.view store.new).records ≡ is_some (K.view store.old).records }
 {
-    let base = next_base(&running.parts.keep, node);
-    let checkpoint = checkpoint_at(running, node, front_of_entry(base), front)?;
+    let checkpoint = checkpoint_at(running, node, front)?;
     if !is_countable(&checkpoint) || !is_of_domains(&running.flow, node, &checkpoint.recorded) {
         return Err(EngineFault::NoMemory);
     }
     let stamps = running
         .traces
         .stamps_inside(running.alloc, &running.flow, node, front)?;
-    let what = record_on(base, checkpoint);
-    running.ask(&what, stamps, store)
+    running.ask(&Record::State(checkpoint), stamps, store)
 }
 
 /// The writes in flight behind the first so many are withdrawn.

@@ -2,7 +2,6 @@
 #![tactic(auto)]
 
 mod asking;
-mod base;
 mod checking;
 mod checkpoints;
 mod record;

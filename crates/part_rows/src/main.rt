@@ -9,6 +9,7 @@ mod nodes;
 mod outside;
 mod progress;
 mod records;
+mod restored;
 mod spell;
 mod trail;
 mod values;

@@ -3,7 +3,7 @@ ghost use Rattle.std.specs.Prelude.{◌≡◌, ◌<◌, length, IfOk, true};
 ghost use Rattle.fw_time.specs.Stamp.{in_domain};
 ghost use Rattle.fw_frontier.specs.Front.{IsCanonical};
 
-use fw_flow::{EdgeId, Flow, NodeId, SentTable};
+use fw_flow::{Cut, EdgeId, Flow, NodeId, SentTable};
 use fw_frontier::Front;
 use fw_time::{Bounds, Stamp};
 use row_words::{NoAnswer, part, stamp_of, stamps_of};
@@ -25,6 +25,15 @@ fn outside_of(alloc: Global, text: &str) -> Result<Vec<Stamp>, NoAnswer> {
 pub fn front_of(alloc: Global, text: &str) -> Result<Front, NoAnswer> {
     let outside = outside_of(alloc, text)?;
     Ok(Front::until(alloc, &outside)?)
+}
+
+/// The cut that is spelled `present`, or as a frontier.
+pub fn cut_of(alloc: Global, text: &str) -> Result<Cut, NoAnswer> {
+    if text == "present" {
+        Ok(Cut::Present)
+    } else {
+        Ok(Cut::At(front_of(alloc, text)?))
+    }
 }
 
 /// The frontier of a domain that is spelled so.

@@ -1,5 +1,6 @@
 //! What a recovery makes of the parts of an engine.
 ghost use Rattle.std.specs.Prelude.{Option, IfOk};
+ghost use Rattle.fw_keep.specs.Entry.{IsBased};
 ghost use Rattle.fw_keep.specs.Stored.{Records, IsEmptyStore, IsStored};
 ghost use Rattle.fw_rollback.specs.Restored.{AreOfFlow};
 
@@ -141,7 +142,7 @@ impl Kept<'_> {
     }
 }
 
-/// Writes a record and acknowledges the oldest write in flight.
+/// Writes a record that is whole, and acknowledges the oldest write in flight.
 fn write_one(
     alloc: Global,
     keep: &mut Keep,
@@ -149,6 +150,23 @@ fn write_one(
     record: &Record,
 ) -> Result<(), NoAnswer>
     requires { IsStored keep.old (⟦<MemStore as Store>⟧.view store.old).records }
+    ensures { IsStored keep.new (⟦<MemStore as Store>⟧.view store.new).records }
+{
+    match record {
+        Record::Changes { .. } => Err(NoAnswer::NotSpelled),
+        Record::State(_) | Record::Event { .. } => write_based(alloc, keep, store, record),
+    }
+}
+
+/// Writes a record whose base, if it has one, is there, and acknowledges the oldest write in flight.
+fn write_based(
+    alloc: Global,
+    keep: &mut Keep,
+    store: &mut MemStore,
+    record: &Record,
+) -> Result<(), NoAnswer>
+    requires { IsStored keep.old (⟦<MemStore as Store>⟧.view store.old).records }
+    requires { IsBased keep.old.entries record.now }
     ensures { IsStored keep.new (⟦<MemStore as Store>⟧.view store.new).records }
 {
     if keep.next_id() > WRITES {

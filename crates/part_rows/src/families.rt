@@ -1,6 +1,6 @@
 //! What answers the rows of a file, by its ending.
 use crate::domain::tell_domain;
-use crate::{disk, nodes, outside, progress, restored, values};
+use crate::{disk, nodes, outside, progress, restored, texts, values};
 use fw_flow::Flow;
 use fw_flow_text::read_flow;
 use fw_lines::ReadFault;
@@ -85,6 +85,7 @@ fn tell_of_flow(
         "nodes" => nodes::tell(alloc, flow, row, told),
         "progress" => progress::tell(alloc, flow, row, told),
         "restored" => restored::tell(alloc, flow, row, told),
+        "texts" => texts::tell(alloc, flow, row, told),
         _ => values::tell(alloc, flow, row, told),
     }
 }

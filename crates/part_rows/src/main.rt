@@ -11,6 +11,7 @@ mod progress;
 mod records;
 mod restored;
 mod spell;
+mod texts;
 mod trail;
 mod values;
 

@@ -1,6 +1,6 @@
 //! What answers the rows of a file, by its ending.
 use crate::domain::tell_domain;
-use crate::{disk, nodes, outside, progress, restored, texts, values};
+use crate::{certificates, disk, nodes, outside, progress, restored, texts, values};
 use fw_flow::Flow;
 use fw_flow_text::read_flow;
 use fw_lines::ReadFault;
@@ -82,6 +82,7 @@ fn tell_of_flow(
     told: &mut String,
 ) -> Result<(), AllocError> {
     match family {
+        "certificates" => certificates::tell(alloc, flow, row, told),
         "nodes" => nodes::tell(alloc, flow, row, told),
         "progress" => progress::tell(alloc, flow, row, told),
         "restored" => restored::tell(alloc, flow, row, told),

@@ -11,6 +11,7 @@ mod outside;
 mod progress;
 mod records;
 mod restored;
+mod roots;
 mod spell;
 mod texts;
 mod trail;

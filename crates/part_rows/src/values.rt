@@ -1,6 +1,7 @@
 //! What declarations are as a flow, what its edges make of frontiers, and which records are those of its nodes.
 use crate::choices::tell_choice;
 use crate::records::{of_node, read};
+use crate::roots;
 use crate::spell::{edge_of, front_in, table_of};
 use fw_flow::{EdgeId, Flow, SentTable};
 use fw_frontier::Front;
@@ -59,6 +60,8 @@ impl Answers for Values<'_> {
             }
             "checkpoint" | "event" => of_node(self.alloc, self.flow, self.lines, line, said),
             "read" => read(self.alloc, self.lines, rest, said),
+            "head" => roots::head(self.alloc, self.lines, rest, said),
+            "root" => roots::root(self.alloc, self.flow, self.lines, rest, said),
             _ => Err(NoAnswer::NotAsked),
         }
     }

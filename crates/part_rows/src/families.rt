@@ -23,23 +23,11 @@ pub fn tell_file<R: Files<File = File>>(
     };
     let rows = rows_of(alloc, text)?;
     let mut told = String::new(alloc);
-    tell_rows(alloc, files, family, &rows, &mut told)?;
-    Ok(told)
-}
-
-/// Tells rows.
-fn tell_rows<R: Files<File = File>>(
-    alloc: Global,
-    files: &R,
-    family: &str,
-    rows: &[Row<'_>],
-    told: &mut String,
-) -> Result<(), AllocError> {
-    for row in rows {
-        tell_name(row.name, told)?;
-        tell_row(alloc, files, family, *row, told)?;
+    for row in &rows {
+        tell_name(row.name, &mut told)?;
+        tell_row(alloc, files, family, *row, &mut told)?;
     }
-    Ok(())
+    Ok(told)
 }
 
 /// Tells the answers to the lines of a row.

@@ -67,7 +67,7 @@ impl Answers for Values<'_> {
     }
 }
 
-/// Says a frontier as an edge projects it.
+/// Says a frontier as an edge projects it: `phi`, `psi`, or `back` for psi backwards.
 fn say_projected(
     alloc: Global,
     flow: &Flow,
@@ -76,26 +76,14 @@ fn say_projected(
     text: &str,
     said: &mut String,
 ) -> Result<(), NoAnswer> {
-    let front = projected(alloc, flow, sent, word, text)?;
-    write!(said, "{front}")?;
-    Ok(())
-}
-
-/// A frontier as an edge projects it: `phi`, `psi`, or `back` for psi backwards.
-fn projected(
-    alloc: Global,
-    flow: &Flow,
-    sent: &SentTable,
-    word: &str,
-    text: &str,
-) -> Result<Front, NoAnswer> {
     let (edge, front) = part(text);
     let edge = edge_of(flow, edge)?;
-    if word == "back" {
-        back(alloc, flow, edge, front)
+    let front = if word == "back" {
+        back(alloc, flow, edge, front)?
     } else {
-        forth(alloc, flow, sent, word, edge, front)
-    }
+        forth(alloc, flow, sent, word, edge, front)?
+    };
+    Ok(write!(said, "{front}")?)
 }
 
 /// A frontier of an edge's receiver, through psi backwards.

@@ -1,5 +1,5 @@
 -- Certificates of the running total, and a dead end.
-use Rattle.std.proofs.Common.{[], lit<, refl, true, ◌∷◌, ◌≡◌}
+use Rattle.std.proofs.Common.{[], lit<, refl, true, ◌∷◌, ◌≡◌, Some, sym, ap, subst, ◌∙◌, inl, arith}
 use Rattle.std.proofs.lemmas.Bool.{false≢true}
 use Rattle.fw_frontier.specs.Front.{IsFrontOf}
 use Rattle.fw_frontier.specs.Frontier.{everything}
@@ -9,23 +9,28 @@ use Rattle.fw_flow.specs.declared.choice.Choice.{Choice}
 use Rattle.fw_flow.specs.declared.choice.Cut.{Cut}
 use Rattle.fw_flow.specs.declared.choice.Cut.TheVariants.{At, Present}
 use Rattle.fw_flow.specs.declared.choice.Offer.{Offer}
+use Rattle.fw_flow.specs.declared.trail.Lowering.{Lowering}
 use Rattle.fw_flow.specs.declared.side.Inclusion.TheVariants.{OfCut, OfNote}
 use Rattle.fw_flow.specs.declared.side.Limit.TheVariants as limit
 use Rattle.fw_flow.specs.declared.side.Side.TheVariants.{Discarded}
 use Rattle.fw_model.specs.Certificates.{IsBeginning, IsDeadEnd, IsGreatestOffered, IsTrailBy}
 use Rattle.fw_model.specs.Choice.{IsCutWithin, kept, until}
-use Rattle.fw_model.specs.Inclusions.{inclusions_to}
+use Rattle.fw_model.specs.Inclusions.{Holds, inclusions_to}
 use Rattle.fw_model.specs.LawsOfPoorerTrails.{CertificateByOffersAboveIsCertificate}
 use Rattle.fw_model.specs.Lowerings.{IsCutLeft, LeadRight}
 use Rattle.fw_model.specs.Machine.{is_failed}
 use Rattle.fw_model.specs.Offers.{IsOffered, covers_of}
-use Rattle.fw_offers.proofs.FrontLaws.{all_is_everything}
-use Rattle.fw_examples.specs.Certified.{CertificatesApply, IsCertificateOfTotals, certificate_of_totals, offer_without_checkpoint, offers_without_checkpoint}
+use Rattle.fw_offers.proofs.FrontLaws.{all_is_everything, within_everything}
+use Rattle.fw_certify.specs.Checked.{IsVerdict, said_inclusion}
+use Rattle.fw_certify.specs.declared.checker.Verdict.TheVariants.{No}
+use Rattle.fw_certify.proofs.EntryLaws.{said-one}
+use Rattle.fw_examples.specs.Certified.{CertificatesApply, IsCertificateOfTotals, certificate_of_totals, held_lowering, offer_without_checkpoint, offers_without_checkpoint}
 use Rattle.fw_examples.specs.OffersOfTotals.{offer_of_input, offer_of_output, offer_of_total, offers_of_totals}
 use Rattle.fw_examples.specs.RunningTotal.{output_failed, total_flow, totals, two_epochs_kept}
 use Rattle.fw_examples.specs.Trails.{trail_of_totals}
 use Rattle.fw_examples.proofs.Floors.{offers_are_above}
 use Rattle.fw_examples.proofs.Fronts.{by_three, canonical_by}
+use Rattle.fw_examples.proofs.OffersOfTotals.{checkpoints_are_offered}
 use Rattle.fw_examples.proofs.Trails.{all_hold, all_lowered, all_offered, beside_output, beyond, epochs, run_cut, run_left, run_note_left, src_left, src_note_left}
 use Rattle.fw_examples.proofs.Witnesses.{totals_are_well_formed}
 
@@ -86,6 +91,27 @@ certificate = record { start = all_offered; begins = begins; leads = leads; ends
 by_trail : IsTrailBy total_flow (covers_of total_flow offers_of_totals) (IsOffered total_flow offers_of_totals) trail_of_totals two_epochs_kept
 by_trail = record { start = all_offered; begins = begins; leads = all_lowered; ends = all_hold }
 
+-- ---- a wrong lowering
+
+note_holds : Holds total_flow (covers_of total_flow offers_of_totals) all_offered (OfNote (limit.Own 0))
+unfolding kind_of policy_of bounds_of
+note_holds t k = within_everything epochs [] t k
+
+wrong : IsVerdict total_flow (covers_of total_flow offers_of_totals) (IsOffered total_flow offers_of_totals) (held_lowering ∷ []) two_epochs_kept (No 0)
+wrong = inl (record {
+  first = omega arith;
+  start = all_offered;
+  begins = begins;
+  mid = all_offered;
+  leads = refl;
+  wrong = λ l next at low.
+      let both : Some held_lowering ≡ Some l = at in
+      let same : l ≡ held_lowering = cc in
+      low.fails (subst (Holds total_flow (covers_of total_flow offers_of_totals) all_offered)
+      (sym (said-one total_flow l low.inclusion low.told ∙ ap (λ (x : Lowering). said_inclusion x.node x.by) same)) note_holds);
+  end = λ e. absurd (omega arith);
+})
+
 -- ---- a dead end
 
 dead_end : IsDeadEnd total_flow (covers_of total_flow offers_without_checkpoint) (IsOffered total_flow offers_without_checkpoint) [] (Discarded 1)
@@ -109,6 +135,8 @@ certificates_apply =
       certificate = certificate;
       largest = λ law. law total_flow offers_of_totals certificate_of_totals two_epochs_kept flow certificate;
       agree = λ law ls end is. law total_flow offers_of_totals ls certificate_of_totals end two_epochs_kept flow is certificate;
+      exactly_of_state = λ law. (law totals output_failed (is_failed output_failed) offers_of_totals certificate_of_totals two_epochs_kept flow checkpoints_are_offered.same).0 certificate;
+      wrong = wrong;
       of_state = in_state;
       largest_of_state = λ by law. law totals output_failed (is_failed output_failed) kept certificate_of_totals two_epochs_kept flow (in_state by);
       dead_end = dead_end;

@@ -2,6 +2,7 @@ pub mod Answers
 pub mod Applied
 pub mod AtRest
 pub mod Certified
+pub mod Changed
 pub mod Choosing
 pub mod Collected
 pub mod Declared
@@ -19,6 +20,7 @@ pub mod OffersOfTotals
 pub mod Plays
 pub mod Progress
 pub mod Records
+pub mod Roots
 pub mod Settling
 pub mod Told
 pub mod TotalRuns

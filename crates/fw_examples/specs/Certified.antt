@@ -14,7 +14,9 @@ use Rattle.fw_model.specs.Covers.{covers_in}
 use Rattle.fw_model.specs.LawsOfPoorerTrails.{CertificateByOffersAboveIsCertificate}
 use Rattle.fw_model.specs.Machine.{is_failed}
 use Rattle.fw_model.specs.Offers.{IsOffered, covers_of}
-use Rattle.fw_certify.specs.LawsOfCertificates.{CertificateOfStateShowsLargest, CertificateShowsLargest, CertificatesAgree, DeadEndShowsNone, TrailIsCertificate}
+use Rattle.fw_certify.specs.Checked.{IsVerdict}
+use Rattle.fw_certify.specs.declared.checker.Verdict.TheVariants.{No}
+use Rattle.fw_certify.specs.LawsOfCertificates.{CertificateOfState, CertificateOfStateShowsLargest, CertificateShowsLargest, CertificatesAgree, DeadEndShowsNone, TrailIsCertificate}
 use Rattle.fw_examples.specs.Flows.{src}
 use Rattle.fw_examples.specs.OffersOfTotals.{alone_at, offer_of_input, offer_of_output, offers_of_totals}
 use Rattle.fw_examples.specs.RunningTotal.{output_failed, run_to_out, src_to_run, total_flow, total_node, totals, two_epochs_kept}
@@ -32,6 +34,10 @@ certificate_of_totals =
     ∷ record { node = src; part = part.Cut; to = At (until 2); by = cause.Discarded src_to_run }
     ∷ record { node = src; part = part.Note; to = At (until 2); by = cause.Own }
     ∷ []
+
+-- a lowering that is wrong at first: the notification frontier of the input lies within what it keeps
+abbrev pub held_lowering : Lowering
+held_lowering = record { node = src; part = part.Note; to = At (until 2); by = cause.Own }
 
 -- the running total without its checkpoint: it can stay as it is, and be restored to nothing
 abbrev pub offer_without_checkpoint : Offer
@@ -51,7 +57,7 @@ offers_without_checkpoint = offer_of_input ∷ offer_without_checkpoint ∷ offe
 
 -- The trail is a certificate, and another one has its lowerings in another order; by either the choice of the recovery is the largest, by
 -- the data and in the state, and no certificate ends elsewhere. Without its checkpoint the running total, which sent the output more
--- than this keeps, has nothing that is left: a dead end, so that no choice is consistent.
+-- than this keeps, has nothing that is left: a dead end, so that no choice is consistent. A lowering of what holds is wrong at its place.
 pub record CertificatesApply : Type 0 where
   pub trail : IsTrailBy total_flow (covers_of total_flow offers_of_totals) (IsOffered total_flow offers_of_totals) trail_of_totals two_epochs_kept
   pub by_trail : TrailIsCertificate → IsCertificateOfTotals trail_of_totals two_epochs_kept
@@ -59,6 +65,10 @@ pub record CertificatesApply : Type 0 where
   pub largest : CertificateShowsLargest
       → IsLargestBy total_flow (covers_of total_flow offers_of_totals) (IsOffered total_flow offers_of_totals) two_epochs_kept
   pub agree : CertificatesAgree → (ls : List Lowering) (end : Choice) → IsCertificateOfTotals ls end → end ≡ two_epochs_kept
+  pub exactly_of_state : CertificateOfState
+      → IsCertificate total_flow (covers_in totals output_failed) (IsCandidate totals output_failed (is_failed output_failed) kept) certificate_of_totals
+      two_epochs_kept
+  pub wrong : IsVerdict total_flow (covers_of total_flow offers_of_totals) (IsOffered total_flow offers_of_totals) (held_lowering ∷ []) two_epochs_kept (No 0)
   pub of_state : CertificateByOffersAboveIsCertificate
       → IsCertificate total_flow (covers_in totals output_failed) (IsCandidate totals output_failed (is_failed output_failed) kept) certificate_of_totals
       two_epochs_kept

@@ -2,6 +2,7 @@ pub mod Answers
 pub mod Applied
 pub mod AtRest
 pub mod Certified
+pub mod Changed
 pub mod Collected
 pub mod Floors
 pub mod Flows
@@ -15,6 +16,7 @@ pub mod Loop
 pub mod Nested
 pub mod OffersOfTotals
 pub mod Records
+pub mod Roots
 pub mod RunningTotal
 pub mod Told
 pub mod Traced

@@ -1,10 +1,12 @@
 //! That the laws say something: where what they ask holds.
 ghost use Rattle.fw_examples.specs.Witnesses.{EachStepHasItsChoice, FailureIsReached, LoopIsReached, LowWatermarkRises, MoreIsComplete, RecoveryIsReached, SomeIsSettled, SomethingIsChosen, TotalsAreWellFormed, TwoRunsMeet, ChoicesUnite, CutsUnite, JoinIsAFrontier, LessIsConsistent, AnEpochIsClosed, NotifiedAndGoesOn, OneIsOnItsWay, TwoEpochsAreComplete, LoopIsFiltered, NumbersAreDelivered, SequenceIsFiltered, TotalsAreFiltered, EpochsAreThinned, NoStepIsTaken, TwoEpochsAreTheSame, TwoStepsAreTaken};
 ghost use Rattle.fw_examples.specs.Certified.{CertificatesApply};
+ghost use Rattle.fw_examples.specs.Changed.{ChangesAreJoined};
 ghost use Rattle.fw_examples.specs.Floors.{CoversArePoorer, EpochsAreMissing, FloorsAreThere, OffersAreAbove};
 ghost use Rattle.fw_examples.specs.InTurn.{EpochsSettleInTurn};
 ghost use Rattle.fw_examples.specs.OffersOfTotals.{CheckpointsAreOffered};
 ghost use Rattle.fw_examples.specs.Records.{FrontsAreSpelled, RecordsAreSpelled};
+ghost use Rattle.fw_examples.specs.Roots.{RootsAreSpelled};
 ghost use Rattle.fw_examples.specs.Trails.{TrailLeadsToLargest};
 
 /// The running total is a system that the laws are about.
@@ -168,6 +170,18 @@ pub fn epochs_settle_in_turn()
 #[tactic(auto, using(crate::proofs::Records::records_are_spelled))]
 pub fn records_are_spelled()
     ensures { RecordsAreSpelled }
+{}
+
+/// A root of the running total that has a spelling, and what the laws of roots say of it.
+#[tactic(auto, using(crate::proofs::Roots::roots_are_spelled))]
+pub fn roots_are_spelled()
+    ensures { RootsAreSpelled }
+{}
+
+/// The total of one key of two changed, and what the law of changes says of it.
+#[tactic(auto, using(crate::proofs::Changed::changes_are_joined))]
+pub fn changes_are_joined()
+    ensures { ChangesAreJoined }
 {}
 
 /// A canonical front of a loop that a record can hold.

@@ -237,8 +237,8 @@ fn line_of<'a>(lines: &'a str, name: &[u8]) -> &'a str {
     ""
 }
 
-// What the nodes offer, by a line each.
-fn offers(alloc: Global, flow: &Flow, lines: &str) -> Result<Vec<Offer>, NoAnswer>
+/// What the nodes offer, by a line each.
+pub fn offers(alloc: Global, flow: &Flow, lines: &str) -> Result<Vec<Offer>, NoAnswer>
     ensures { IfOk result (λ offers. AreOffersOf flow.now offers.items) }
 {
     let mut offers = Vec::new(alloc);

@@ -1,6 +1,6 @@
 //! What answers the rows of a file, by its ending.
 use crate::domain::tell_domain;
-use crate::{disk, nodes, outside, progress, restored, values};
+use crate::{certificates, disk, nodes, outside, progress, restored, texts, values};
 use fw_flow::Flow;
 use fw_flow_text::read_flow;
 use fw_lines::ReadFault;
@@ -23,23 +23,11 @@ pub fn tell_file<R: Files<File = File>>(
     };
     let rows = rows_of(alloc, text)?;
     let mut told = String::new(alloc);
-    tell_rows(alloc, files, family, &rows, &mut told)?;
-    Ok(told)
-}
-
-/// Tells rows.
-fn tell_rows<R: Files<File = File>>(
-    alloc: Global,
-    files: &R,
-    family: &str,
-    rows: &[Row<'_>],
-    told: &mut String,
-) -> Result<(), AllocError> {
-    for row in rows {
-        tell_name(row.name, told)?;
-        tell_row(alloc, files, family, *row, told)?;
+    for row in &rows {
+        tell_name(row.name, &mut told)?;
+        tell_row(alloc, files, family, *row, &mut told)?;
     }
-    Ok(())
+    Ok(told)
 }
 
 /// Tells the answers to the lines of a row.
@@ -82,9 +70,11 @@ fn tell_of_flow(
     told: &mut String,
 ) -> Result<(), AllocError> {
     match family {
+        "certificates" => certificates::tell(alloc, flow, row, told),
         "nodes" => nodes::tell(alloc, flow, row, told),
         "progress" => progress::tell(alloc, flow, row, told),
         "restored" => restored::tell(alloc, flow, row, told),
+        "texts" => texts::tell(alloc, flow, row, told),
         _ => values::tell(alloc, flow, row, told),
     }
 }

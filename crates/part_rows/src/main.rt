@@ -1,6 +1,7 @@
 //! Rows of data: calls of the parts. The arguments name the files of rows, in order; `docs/rows.md` has their formats.
 #![tactic(auto)]
 
+mod certificates;
 mod choices;
 mod disk;
 mod domain;
@@ -10,7 +11,9 @@ mod outside;
 mod progress;
 mod records;
 mod restored;
+mod roots;
 mod spell;
+mod texts;
 mod trail;
 mod values;
 

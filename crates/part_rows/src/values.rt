@@ -1,6 +1,7 @@
 //! What declarations are as a flow, what its edges make of frontiers, and which records are those of its nodes.
 use crate::choices::tell_choice;
 use crate::records::{of_node, read};
+use crate::roots;
 use crate::spell::{edge_of, front_in, table_of};
 use fw_flow::{EdgeId, Flow, SentTable};
 use fw_frontier::Front;
@@ -59,12 +60,14 @@ impl Answers for Values<'_> {
             }
             "checkpoint" | "event" => of_node(self.alloc, self.flow, self.lines, line, said),
             "read" => read(self.alloc, self.lines, rest, said),
+            "head" => roots::head(self.alloc, self.lines, rest, said),
+            "root" => roots::root(self.alloc, self.flow, self.lines, rest, said),
             _ => Err(NoAnswer::NotAsked),
         }
     }
 }
 
-/// Says a frontier as an edge projects it.
+/// Says a frontier as an edge projects it: `phi`, `psi`, or `back` for psi backwards.
 fn say_projected(
     alloc: Global,
     flow: &Flow,
@@ -73,26 +76,14 @@ fn say_projected(
     text: &str,
     said: &mut String,
 ) -> Result<(), NoAnswer> {
-    let front = projected(alloc, flow, sent, word, text)?;
-    write!(said, "{front}")?;
-    Ok(())
-}
-
-/// A frontier as an edge projects it: `phi`, `psi`, or `back` for psi backwards.
-fn projected(
-    alloc: Global,
-    flow: &Flow,
-    sent: &SentTable,
-    word: &str,
-    text: &str,
-) -> Result<Front, NoAnswer> {
     let (edge, front) = part(text);
     let edge = edge_of(flow, edge)?;
-    if word == "back" {
-        back(alloc, flow, edge, front)
+    let front = if word == "back" {
+        back(alloc, flow, edge, front)?
     } else {
-        forth(alloc, flow, sent, word, edge, front)
-    }
+        forth(alloc, flow, sent, word, edge, front)?
+    };
+    Ok(write!(said, "{front}")?)
 }
 
 /// A frontier of an edge's receiver, through psi backwards.

@@ -1,5 +1,5 @@
 -- Where the entries of a certificate lead: to one choice, of the dataflow.
-use Rattle.std.proofs.Common.{◌≡◌, ◌⊎◌, ◌↔◌, ℕ, suc, ◌+◌, ◌<◌, ◌≤◌, Bool, false, List, [], ◌∷◌, ◌++◌, length, take, get_or, Some, zero, refl, sym, ap, subst, ◌∙◌, inl, arith}
+use Rattle.std.proofs.Common.{◌≡◌, ◌⊎◌, ◌↔◌, ℕ, suc, ◌+◌, ◌<◌, ◌≤◌, Bool, false, List, [], ◌∷◌, ◌++◌, length, take, get_or, Some, zero, refl, sym, ap, subst, ◌∙◌, inl, inr, arith}
 use Rattle.std.specs.Prelude.{slice_get}
 use Rattle.std.specs.List.{AllByRecursion}
 use Rattle.std.proofs.Math.Seq.{take-suc}
@@ -28,8 +28,10 @@ use Rattle.fw_model.specs.Certificates.{IsBeginning, IsCertificate, IsDeadEnd}
 use Rattle.fw_model.specs.Offers.{IsOffered, covers_of}
 use Rattle.fw_model.proofs.InclusionLaws.{cuts-same, each-inclusion, inclusions-there, same_each}
 use Rattle.fw_offers.proofs.OfferedLaws.{offered-canonical}
-use Rattle.fw_certify.specs.Checked.{AreRightSoFar, HoldAtNode, HoldOnEdge, IsJudged, IsVerdict}
-use Rattle.fw_certify.specs.declared.checker.Verdict.TheVariants.{No}
+use Rattle.fw_certify.specs.Checked.{AreRightSoFar, HoldAtNode, HoldOnEdge, IsJudged, IsRightUpTo, IsVerdict}
+use Rattle.fw_certify.specs.declared.checker.Verdict.{Verdict}
+use Rattle.fw_certify.specs.declared.checker.Verdict.TheVariants.{Yes, No}
+use Rattle.fw_certify.specs.LawsOfCertificates.{CertificateIsSaidYes}
 use Rattle.fw_certify.specs.Followed.{IsNoneLeft, IsWrongAt}
 use Rattle.fw_certify.proofs.JudgeLaws.{next-one}
 
@@ -217,3 +219,32 @@ dead_end-is flow offers ls side end there s = (
   λ none. record { start = s.start; begins = s.begins; end = end; leads = s.leads; of_flow = there; none = none },
   λ d. subst (IsNoneLeft flow offers side) (so_far-one flow offers ls d.end end (record { start = d.start; begins = d.begins; leads = d.leads }) s) d.none,
 )
+
+-- the one right verdict on a certificate is yes
+pub certificate-yes : CertificateIsSaidYes
+certificate-yes flow offers ls end verdict c v = by verdict v
+  where
+    so_far : AreRightSoFar flow (covers_of flow offers) (IsOffered flow offers) ls end
+    so_far = record { start = c.start; begins = c.begins; leads = c.leads }
+
+    stops : (at : ℕ) → IsRightUpTo flow (covers_of flow offers) (IsOffered flow offers) ls end at → (at < length ls) ⊎ (length ls ≤ at) → ⊥
+    stops at u (inl before) =
+        wrong-nowhere flow offers ls at end
+        (record { before = before; mid = u.mid; right = record { start = u.start; begins = u.begins; leads = u.leads }; wrong = u.wrong }) so_far
+    stops at u (inr past) =
+        let same : u.mid ≡ end = so_far-one flow offers ls u.mid end
+        (all-so_far flow offers ls at u.mid past (record { start = u.start; begins = u.begins; leads = u.leads })) so_far in
+        u.end (let f = u.first in omega arith) (same, subst (λ m. AllByRecursion (Holds flow (covers_of flow offers) m) (inclusions flow)) (sym same) c.ends)
+
+    either : (n m : ℕ) → (n < m) ⊎ (m ≤ n)
+    either n zero = inr (omega arith)
+    either zero (suc m) = inl (omega arith)
+    either (suc n) (suc m) = elim (either n m) [
+      | inl l ↦ inl (omega (arith, l))
+      | inr l ↦ inr (omega (arith, l))
+    ]
+
+    by : (w : Verdict) → IsVerdict flow (covers_of flow offers) (IsOffered flow offers) ls end w → w ≡ Yes
+    by Yes k = refl
+    by (No at) (inl u) = absurd (stops at u (either at (length ls)))
+    by (No at) (inr none) = absurd (none.1 c.start c.begins)

@@ -7,3 +7,4 @@ pub mod JudgeLaws
 pub mod FollowLaws
 pub mod StateLaws
 pub mod CodeLaws
+pub mod ShownLaws

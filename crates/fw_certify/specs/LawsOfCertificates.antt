@@ -11,6 +11,9 @@ use Rattle.fw_model.specs.Covers.{covers_in}
 use Rattle.fw_model.specs.Choice.{View, kept, IsCandidate, IsConsistentBy, IsLargestBy, IsLargest}
 use Rattle.fw_model.specs.Offers.{AreOffersIn, IsOffered, covers_of}
 use Rattle.fw_model.specs.Certificates.{IsCertificate, IsDeadEnd, IsTrailBy}
+use Rattle.fw_certify.specs.Checked.{IsVerdict}
+use Rattle.fw_certify.specs.declared.checker.Verdict.{Verdict}
+use Rattle.fw_certify.specs.declared.checker.Verdict.TheVariants.{Yes}
 
 -- a certificate shows that its choice is the largest of what nodes offer: neither that records ascend nor that some choice is
 -- consistent is asked
@@ -35,6 +38,12 @@ abbrev pub TrailIsCertificate : Type 0
 TrailIsCertificate = (flow : Dataflow) (offers : List Offer) (trail : List Lowering) (end : Choice)
     → IsTrailBy flow (covers_of flow offers) (IsOffered flow offers) trail end
     → IsCertificate flow (covers_of flow offers) (IsOffered flow offers) trail end
+
+-- the one right verdict on a certificate is yes
+abbrev pub CertificateIsSaidYes : Type 0
+CertificateIsSaidYes = (flow : Dataflow) (offers : List Offer) (ls : List Lowering) (end : Choice) (verdict : Verdict)
+    → IsCertificate flow (covers_of flow offers) (IsOffered flow offers) ls end
+    → IsVerdict flow (covers_of flow offers) (IsOffered flow offers) ls end verdict → verdict ≡ Yes
 
 -- two certificates of what is offered end at one choice
 abbrev pub CertificatesAgree : Type 0

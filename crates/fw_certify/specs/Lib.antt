@@ -1,3 +1,4 @@
+pub mod CertificateText
 pub mod Checked
 pub mod Followed
 pub mod LawsOfCertificates

@@ -1,5 +1,5 @@
 //! The laws of certificates: each function's `ensures` is one law, and its body is empty.
-ghost use Rattle.fw_certify.specs.LawsOfCertificates.{CertificateOfState, CertificateOfStateShowsLargest, CertificateShowsLargest, CertificatesAgree, DeadEndOfState, DeadEndShowsNone, TrailIsCertificate};
+ghost use Rattle.fw_certify.specs.LawsOfCertificates.{CertificateIsSaidYes, CertificateOfState, CertificateOfStateShowsLargest, CertificateShowsLargest, CertificatesAgree, DeadEndOfState, DeadEndShowsNone, TrailIsCertificate};
 
 /// A certificate shows that its choice is the largest of what nodes offer.
 pub fn certificate_shows_largest()
@@ -19,6 +19,11 @@ pub fn dead_end_shows_none()
 /// The trail of a descent is a certificate.
 pub fn trail_is_certificate()
     ensures { TrailIsCertificate }
+{}
+
+/// The one right verdict on a certificate is yes.
+pub fn certificate_is_said_yes()
+    ensures { CertificateIsSaidYes }
 {}
 
 /// Two certificates of what is offered end at one choice.

@@ -11,6 +11,8 @@ mod judge;
 pub mod laws;
 mod left;
 mod same;
+mod shown;
 
 pub use certificate::{Certificate, explain};
 pub use checker::{Verdict, is_dead_end, verify, verify_counted};
+pub use shown::DownLines;

@@ -24,5 +24,6 @@ pub mod Told
 pub mod TotalRuns
 pub mod Traced
 pub mod Trails
+pub mod TrailsOfState
 pub mod WellFormed
 pub mod Witnesses

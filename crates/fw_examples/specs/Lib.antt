@@ -19,4 +19,5 @@ pub mod RunningTotal
 pub mod Told
 pub mod Traced
 pub mod Trails
+pub mod TrailsOfState
 pub mod Witnesses

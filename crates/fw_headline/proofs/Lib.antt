@@ -1,2 +1,9 @@
+pub mod CandidateLaws
+pub mod GreatestLaws
+pub mod ListLaws
+pub mod LoweredLaws
+pub mod OneTrailLaws
 pub mod RightLaws
 pub mod RunLaws
+pub mod TrailLaws
+pub mod WithinLaws

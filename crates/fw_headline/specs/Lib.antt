@@ -1,1 +1,2 @@
+pub mod LawsOfTrails
 pub mod Right

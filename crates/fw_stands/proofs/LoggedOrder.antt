@@ -479,7 +479,7 @@ replayed-of_entries sys state w reached es a p f =
 -- ---- by records
 
 -- a record that can be that of an entry of an event inside tells the event
-record-tells : (sys : System) (f : Frontier) (e : Entry) (what : Written) (r : Record) → is_event_inside f what ≡ true → IsRecordAs sys.flow e.node what r
+record-tells : (sys : System) (f : Frontier) (e : Entry) (what : Written) (r : Record) → is_event_inside f what ≡ true → IsRecordAs sys.flow e.node e.base what r
     → event_of r ≡ event_in what
 record-tells sys f e (written.Checkpoint recorded stamps sent) r i a = absurd (two_ways false i refl)
 record-tells sys f e (written.Event event) r i a = ap event_of a

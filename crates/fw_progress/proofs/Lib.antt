@@ -13,6 +13,7 @@ pub mod CutCountLaws
 pub mod NoticeLaws
 pub mod SettleLaws
 pub mod TraceLaws
+pub mod KeptLaws
 pub mod SentTallyLaws
 pub mod FollowTraceLaws
 pub mod CutTraceLaws

@@ -3,6 +3,7 @@ pub mod EngineLaws
 pub mod FirstCallLaws
 pub mod FirstStepLaws
 pub mod LookLaws
+pub mod OutlookLaws
 pub mod QuietLaws
 pub mod SearchLaws
 pub mod StableLaws

@@ -1,10 +1,10 @@
 -- What contracts say of an engine.
-use Rattle.std.specs.Prelude.{◌≡◌, ◌≢◌, ℕ, Bool, true, List, [], Option, None, Result, Ok, IfOk, IsErrOf, IsTrue, IsSome, OnOk, is_some}
+use Rattle.std.specs.Prelude.{◌≡◌, ◌≢◌, ℕ, Bool, true, false, List, [], Option, None, Result, Ok, IfOk, IsErrOf, IsTrue, IsSome, OnOk, is_some}
 use Rattle.fw_outside.specs.Outside.{StoreView}
 use Rattle.fw_flow.specs.declared.step.Step.{Step}
 use Rattle.fw_flow.specs.declared.step.Step.TheVariants.{Collect, Recover}
 use Rattle.fw_flow.specs.Dataflow.{Dataflow, System}
-use Rattle.fw_model.specs.Machine.{Machine}
+use Rattle.fw_model.specs.Machine.{Machine, is_failed}
 use Rattle.fw_keep.specs.Catalogue.{KeepState, AreAscending, ids_of}
 use Rattle.fw_keep.specs.Stored.{Records, IsStored}
 use Rattle.fw_engine.specs.declared.engine.Engine.{Engine}
@@ -35,6 +35,10 @@ StandsFor sys engine records state = Stands sys engine.running records state
 -- P holds of each system and state for which it stands over these records
 abbrev pub ForEachState : Engine → Option Records → (System → Machine → Type 0) → Type 0
 ForEachState engine records P = (sys : System) (state : Machine) → StandsFor sys engine records state → P sys state
+
+-- no node is failed
+abbrev pub IsNoneFailed : Machine → Type 0
+IsNoneFailed state = (p : ℕ) → is_failed state p ≡ false
 
 -- what came of a step is the machine's outcome from the state, and it stands for the state to which the machine comes
 abbrev pub FollowsStep : System → Machine → Step → Stepped → Engine → Option Records → Type 0

@@ -11,7 +11,9 @@ mod acknowledgement;
 mod auto;
 mod engine;
 mod looks;
+mod outlook;
 mod taking;
 
 pub use engine::Engine;
+pub use fw_choose::Outlook;
 pub use fw_running::{Effect, EngineFault, Shown, Stepped};

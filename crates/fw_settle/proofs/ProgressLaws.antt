@@ -1,12 +1,13 @@
 -- The step of progress: what it makes of what is kept stands for the next state.
-use Rattle.std.proofs.Common.{◌≡◌, ℕ, ◌<◌, Bool, true, false, not, cond, ◌&&◌, List, [], ◌++◌, filter, map, length, get_or, refl, sym, ap, subst, ◌∙◌, inl, inr, arith}
+use Rattle.std.proofs.Common.{◌≡◌, ℕ, ◌<◌, Bool, true, false, not, cond, ◌&&◌, List, [], ◌∷◌, ◌++◌, filter, map, length, get_or, refl, sym, ap, subst, ◌∙◌, inl, inr, arith}
 use Rattle.std.specs.List.{AllByRecursion, range_with_len}
-use Rattle.std.specs.Prelude.{Option, Some, None, Ok, Err, nat_lt}
+use Rattle.std.specs.Prelude.{Option, Some, None, option_and_then, Ok, Err, nat_lt}
 use Rattle.std.proofs.lemmas.Bool.{and_from, and_parts, and_right, both_ways, cases_Bool, cases_lt, lt-ltb, not-true, not-false}
 use Rattle.std.proofs.lemmas.List.{get_or_past}
 use Rattle.fw_lemmas.proofs.Bools.{first_holds, second_holds, two_ways}
 use Rattle.std.proofs.lemmas.List.FromFn.{get_or-map-range_with_len, length-map-range_with_len}
 use Rattle.fw_lemmas.proofs.Each.{each-weaker}
+use Rattle.fw_lemmas.proofs.SideBySide.{zip-right}
 use Rattle.fw_time.specs.Stamp.{in_domain, leq}
 use Rattle.fw_time.specs.declared.stamp.Bounds.{Bounds}
 use Rattle.fw_time.proofs.DomainLaws.{domain-leq}
@@ -20,18 +21,21 @@ use Rattle.fw_flow.specs.declared.kind.Policy.{Policy}
 use Rattle.fw_flow.specs.declared.kind.Policy.TheVariants as policy
 use Rattle.fw_flow.specs.Dataflow.{System, kind_of, policy_of, bounds_of, node_ids}
 use Rattle.fw_model.specs.History.{IsComplete}
-use Rattle.fw_model.specs.Machine.{Machine, events, family_of, front_of, AreCanonical}
-use Rattle.fw_model.specs.Steps.{GrowsTo, LeadsTo, did, idle, silent, eager_writes, is_asked_for_checkpoints, is_eager}
+use Rattle.fw_model.specs.Machine.{Machine, Write, events, family_of, front_of, AreCanonical}
+use Rattle.fw_model.specs.Steps.{GrowsTo, LeadsTo, did, idle, silent, checkpoint_of, eager_writes, is_asked_for_checkpoints, is_eager}
 use Rattle.fw_model.specs.Writes.{takes_checkpoints}
 use Rattle.fw_node.specs.declared.node.Node.{Node}
+use Rattle.fw_keep.specs.declared.entry.Entry.{Entry}
 use Rattle.fw_keep.specs.Catalogue.{KeepState}
 use Rattle.fw_keep.specs.Stored.{Records}
 use Rattle.fw_progress.specs.Settle.{has_more, AreGrownBefore}
 use Rattle.fw_progress.proofs.SettleLaws.{in_turn-settled}
+use Rattle.fw_stands.specs.Entries.{id_at_front, AreBasesOf}
 use Rattle.fw_stands.specs.Settling.{settled_state, AreSettledAt}
 use Rattle.fw_stands.specs.Parts.{settles_with_checkpoints, sums_up, IsTableIn}
-use Rattle.fw_stands.specs.Written.{AreEntriesOf, AreStored, uncollected}
+use Rattle.fw_stands.specs.Written.{AreEntriesOf, AreStored, HasBaseOf, IsEntryOf, uncollected}
 use Rattle.fw_stands.proofs.AtReached.{reached-next}
+use Rattle.fw_stands.proofs.BaseSteps.{bases_after_asking}
 use Rattle.fw_stands.proofs.EntrySteps.{entries_after_asking, records_after_asking, progress_asks}
 use Rattle.fw_stands.proofs.KeptLaws.{no_more-idle}
 use Rattle.fw_stands.proofs.NodeCheckpoints.{asks_at_progress}
@@ -139,6 +143,29 @@ waiting-same sys state settled mid before s same p isnt without = elim (cases_Bo
   | inr none ↦ same p none
 ]
 
+-- ---- bases
+
+-- the checkpoints that are asked have none
+eager-whole : (sys : System) (state : Machine) (settled : List Front) (ps : List ℕ) → AllByRecursion (λ (w : Write). w.base ≡ None) (eager_writes sys state settled ps)
+eager-whole sys state settled ps = whole (filter (asks_at_progress sys state settled) ps)
+  where
+    whole : (qs : List ℕ) → AllByRecursion (λ (w : Write). w.base ≡ None) (map (λ p. checkpoint_of state p (front_of settled p)) qs)
+    whole [] = tt
+    whole (q ∷ qs) = (refl, whole qs)
+
+-- so their entries have none
+whole-bases : (sys : System) (state : Machine) (all more : List Entry) (writes : List Write) → AllByRecursion (λ (w : Write). w.base ≡ None) writes
+    → AreEntriesOf sys state more writes → AreBasesOf all more writes
+whole-bases sys state all more writes =
+    zip-right (λ (w : Write). w.base ≡ None) (IsEntryOf sys state)
+    (λ (e : Entry) (w : Write). e.base ≡ option_and_then (λ f. id_at_front w.node f all) w.base) more writes (λ e w whole i. none-on w.node e.base w.base whole i.base)
+  where
+    none-on : (n : ℕ) (id : Option ℕ) (f : Option Front) → f ≡ None → HasBaseOf id f → id ≡ option_and_then (λ g. id_at_front n g all) f
+    none-on n None None e h = refl
+    none-on n None (Some f) e h = absurd h
+    none-on n (Some id) None e h = absurd h
+    none-on n (Some id) (Some f) e h = absurd (let c : Some f ≡ None = e in cc)
+
 -- ---- the next state
 
 -- the engine that settled more stands for the state in which so much is settled
@@ -146,9 +173,10 @@ settled-stands : (sys : System) (state : Machine) (mid new : Running) (keep : Ke
     → (settles : IsSettledTo sys state mid new.progress.settled) → HaveSettled (length sys.flow.nodes) mid new
     → LeadsTo sys state ProgressStep (settled_state sys state new.progress.settled) silent
     → AreEntriesOf sys (settled_state sys state new.progress.settled) keep.entries (uncollected (settled_state sys state new.progress.settled))
+    → AreBasesOf keep.entries keep.entries (uncollected (settled_state sys state new.progress.settled))
     → AreStored sys (settled_state sys state new.progress.settled) after keep.entries (uncollected (settled_state sys state new.progress.settled))
     → Stands sys (settled_into new (with_keep keep mid)) after (settled_state sys state new.progress.settled)
-settled-stands sys state mid new keep before after s shaped to h u entries stored =
+settled-stands sys state mid new keep before after s shaped to h u entries bases stored =
     let settled = new.progress.settled in
     let next = settled_state sys state settled in
     let n = length sys.flow.nodes in
@@ -179,6 +207,7 @@ settled-stands sys state mid new keep before after s shaped to h u entries store
         sources = λ p l. k.sources p (source_of mid p) (s.apart.sources p l);
         progress = record { counts = s.apart.progress.counts; kept = s.apart.progress.kept };
         entries = entries;
+        bases = bases;
         stored = stored;
       };
       traces = knows-next sys state ProgressStep next silent mid.traces new.traces s.apart.well_formed s.apart.reached refl u s.traces (λ p l.
@@ -231,6 +260,10 @@ progress-follows sys state mid new before after p s shaped complete first does =
     let entries_then : AreEntriesOf sys next asked.parts.keep.entries (uncollected next) =
     subst (λ es. AreEntriesOf sys next es (uncollected next)) (sym does.asks.adds.entries)
     (entries_after_asking sys s.apart.well_formed state s.apart.reached ProgressStep next silent u writes refl fly mid.parts.keep.entries more s.apart.entries of_writes) in
+    let bases_then : AreBasesOf asked.parts.keep.entries asked.parts.keep.entries (uncollected next) =
+    subst (λ es. AreBasesOf es es (uncollected next)) (sym does.asks.adds.entries)
+    (bases_after_asking sys state next writes refl fly mid.parts.keep.entries more s.apart.entries s.apart.bases
+    (whole-bases sys state (mid.parts.keep.entries ++ more) more writes (eager-whole sys state settled (node_ids sys.flow)) of_writes)) in
     let stored_then : AreStored sys next after asked.parts.keep.entries (uncollected next) =
     subst (λ es. AreStored sys next after es (uncollected next)) (sym does.asks.adds.entries)
     (records_after_asking sys s.apart.well_formed state s.apart.reached ProgressStep next silent u writes refl fly mid.parts.keep.entries more after stored) in
@@ -238,7 +271,7 @@ progress-follows sys state mid new before after p s shaped complete first does =
       next = next;
       steps = u;
       stands = subst (λ (r : Running). Stands sys r after next) (sym (does.others ∙ ap (settled_into new) does.keeps))
-          (settled-stands sys state mid new asked.parts.keep before after s shaped to (subst (λ k. HaveSettled k mid new) nodes h) u entries_then stored_then);
+          (settled-stands sys state mid new asked.parts.keep before after s shaped to (subst (λ k. HaveSettled k mid new) nodes h) u entries_then bases_then stored_then);
     }
   where
     settled-with : (mid asked new : Running) (n : ℕ) → ChangesKeep mid asked → HaveSettled n asked new → HaveSettled n mid new

@@ -25,11 +25,12 @@ use Rattle.fw_keep.specs.declared.entry.Written.{Written}
 use Rattle.fw_keep.specs.Catalogue.{KeepState, oldest, persisted}
 use Rattle.fw_keep.specs.Entry.{asked}
 use Rattle.fw_keep.specs.Stored.{Records}
-use Rattle.fw_stands.specs.Entries.{entry_fronts}
+use Rattle.fw_stands.specs.Entries.{entry_fronts, AreBasesOf}
 use Rattle.fw_stands.specs.Parts.{settles_with_checkpoints, sums_up, IsTableIn}
 use Rattle.fw_stands.specs.Settling.{asked_state}
 use Rattle.fw_stands.specs.Written.{AreEntriesOf, AreStored, IsEntryOf, uncollected}
 use Rattle.fw_stands.proofs.AtReached.{reached-next, reached-legal, reached-settled}
+use Rattle.fw_stands.proofs.BaseSteps.{bases_after_asking, bases_after_persist}
 use Rattle.fw_stands.proofs.EntrySteps.{kept_bytes_are_stored, asked_entry_is_of_write, put_record_is_stored, entries_after_asking, records_after_asking, entries_after_persist, records_after_persist, persists_where_in_flight}
 use Rattle.fw_stands.proofs.EntryViews.{takes_checkpoints_by_last_entry}
 use Rattle.fw_stands.proofs.FitLaws.{records_can_be_of_entries}
@@ -57,14 +58,15 @@ use Rattle.fw_settle.proofs.ShapeLaws.{shaped-keep}
 
 -- ---- other writes
 
--- where the writes alone are other ones, and tables, entries and records stand for the state with them, the engine stands for it
+-- where the writes alone are other ones, and tables, entries, their bases and records stand for the state with them, the engine stands for it
 pub writes-stand : (sys : System) (old : Running) (keep : KeepState) (tables : List (Option Node)) (before after : Option Records) (state : Machine) (writes : List Write) (step : Step)
     → Stands sys old before state → LeadsTo sys state step (record state { writes = writes }) silent
     → ((p : ℕ) → p < length sys.flow.nodes → IsTableIn sys (record state { writes = writes }) p (table_at tables p))
     → AreEntriesOf sys (record state { writes = writes }) keep.entries (uncollected (record state { writes = writes }))
+    → AreBasesOf keep.entries keep.entries (uncollected (record state { writes = writes }))
     → AreStored sys (record state { writes = writes }) after keep.entries (uncollected (record state { writes = writes }))
     → Stands sys (with_tables tables (with_keep keep old)) after (record state { writes = writes })
-writes-stand sys old keep tables before after state writes step s t stand entries stored =
+writes-stand sys old keep tables before after state writes step s t stand entries bases stored =
     let next : Machine = record state { writes = writes } in
     let k = writes-keep_parts sys state writes in
     record {
@@ -85,6 +87,7 @@ writes-stand sys old keep tables before after state writes step s t stand entrie
         sources = λ p l. k.sources p (source_of old p) (s.apart.sources p l);
         progress = s.apart.progress;
         entries = entries;
+        bases = bases;
         stored = stored;
       };
       traces = knows-next sys state step next silent old.traces old.traces s.apart.well_formed s.apart.reached refl t s.traces (λ p l. k.traces s.traces.floor p old.traces);
@@ -128,6 +131,7 @@ persist-some sys state old records s id is =
       stands = writes-stand sys old (record old.parts.keep { entries = persisted entries }) old.parts.tables records records state t.0 Persist s u
           (λ p l. writes-keep_tables sys state t.0 (λ q. checkpoints-acknowledged q state.writes t.0 t.1) p (table_of old p) (s.apart.tables p l))
           (entries_after_persist sys s.apart.well_formed state s.apart.reached next silent u entries s.apart.entries)
+          (bases_after_persist sys state next silent u entries s.apart.entries s.apart.bases)
           (records_after_persist sys s.apart.well_formed state s.apart.reached next silent u entries s.apart.entries records s.apart.stored);
     }
 
@@ -172,7 +176,7 @@ pub asked-entry : (sys : System) (old new : Running) (before after : Option Reco
     → (a : AsksCheckpoint p f old new before after) → IsEntryOf sys state (asked a.asked.id (tagged.State a.checkpoint) a.stamps) (checkpoint_of state p f)
 asked-entry sys old new before after state p f can a =
     let h = events state.history in
-    asked_entry_is_of_write sys state (checkpoint_of state p f) refl refl refl a.asked.id (tagged.State a.checkpoint) a.stamps (made-for sys old state p f a.checkpoint can a.made)
+    asked_entry_is_of_write sys state (checkpoint_of state p f) refl [] a.asked.id (tagged.State a.checkpoint) a.stamps refl (made-for sys old state p f a.checkpoint can a.made)
     (subst (λ flow. AreStampsIf true sys (events_inside (node_frontier flow p f) h) p (node_frontier flow p f) a.stamps) can.flow
     (a.held sys h (sym can.flow) (has_epochs sys can.well_formed) (reached-legal sys state can.well_formed can.reached)
     (within-front sys can.floor state p f old.traces can.takes can.settled can.traces)))
@@ -187,7 +191,7 @@ asked-stored sys old new before after state p f can a writes stored =
     let sound = made-sound sys old state p f a.checkpoint can a.made a.few in
     subst (λ es. AreStored sys state after es (writes ++ checkpoint_of state p f ∷ [])) (sym a.asked.entries)
     (put_record_is_stored sys state old.parts.keep.entries writes (checkpoint_of state p f) a.asked.id r a.stamps before after stored a.asked.bytes a.asked.records sound is
-    (records_can_be_of_entries sys can.well_formed state can.reached p f state.low a.checkpoint can.takes sound is a.asked.id a.stamps))
+    (records_can_be_of_entries sys can.well_formed state can.reached p None f state.low r can.takes sound is old.parts.keep.entries a.asked.id a.stamps))
 
 pub asked-takes : (p : Policy) → is_asked_for_checkpoints p ≡ true → takes_checkpoints p ≡ true
 asked-takes policy.None e = absurd (two_ways false e refl)
@@ -271,6 +275,9 @@ checkpoint-follows sys state old mid new before after s changes p e a tables set
     subst (λ es. AreEntriesOf sys next es (uncollected next)) (sym a.asked.entries)
     (entries_after_asking sys s.apart.well_formed state s.apart.reached (CheckpointStep p) next silent u more refl (refl, tt) entries (entry ∷ []) s.apart.entries
     (asked-entry sys old mid before after state p f can a, tt)) in
+    let bases : AreBasesOf mid.parts.keep.entries mid.parts.keep.entries (uncollected next) =
+    subst (λ es. AreBasesOf es es (uncollected next)) (sym a.asked.entries)
+    (bases_after_asking sys state next more refl (refl, tt) entries (entry ∷ []) s.apart.entries s.apart.bases (refl, tt)) in
     let stored : AreStored sys next after mid.parts.keep.entries (uncollected next) =
     subst (λ es. AreStored sys next after es (uncollected next)) (sym a.asked.entries)
     (records_after_asking sys s.apart.well_formed state s.apart.reached (CheckpointStep p) next silent u more refl (refl, tt) entries (entry ∷ []) after
@@ -280,7 +287,7 @@ checkpoint-follows sys state old mid new before after s changes p e a tables set
       steps = u;
       stands = subst (λ r. Stands sys r after next) (sym (tables ∙ ap (with_tables new.parts.tables) changes))
           (writes-stand sys old mid.parts.keep new.parts.tables before after state writes (CheckpointStep p) s u
-          (asked-tables sys state old mid new before s changes p t.0 settles) held stored);
+          (asked-tables sys state old mid new before s changes p t.0 settles) held bases stored);
     }
 
 -- so it does where the engine says that it may

@@ -116,7 +116,8 @@ outlook-by running lost view entries others outlook v e is exact give found = λ
     (subst (λ (xs : List Offer). HasConsistent running.flow xs → IsTrail running.flow xs trail choice) is found) has in
     let by_data : IsTrailBy sys.flow (covers_of sys.flow os) (IsOffered sys.flow os) trail choice = trail-by_offers sys.flow os trail choice has led in
     record {
-      offers = a.of_flow;
+      floor = floor;
+      offers = a;
       choice = chosen-is lost sys state choice (largest-above sys state failed floor os choice w.flow a largest);
       trail = (trail-above sys state failed floor os trail choice w.flow a).0 by_data;
       by_data = by_data;

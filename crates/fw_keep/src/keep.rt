@@ -207,9 +207,10 @@ impl Keep {
         self.forget(&Above { node, front });
     }
 
-    /// Takes the node's checkpoints out that lie strictly within the frontier and on which none stands that does not: of those
-    /// before the first that does not lie strictly within it, what comes before the newest whole one up to that. It takes no
-    /// memory.
+    /// Takes the node's checkpoints out that lie strictly within the frontier and come, in the order of asking, before the newest
+    /// whole one up to the first that does not lie strictly within it; where all lie strictly within, all go. Where fronts
+    /// ascend and each checkpoint that is not whole stands on the one before it, as in an engine, these are those on which none
+    /// stands that stays. It takes no memory.
     pub fn forget_below(&mut self, node: NodeId, front: &Front)
         ensures gone { self.new ≡ without (is_forgotten_below node front.now self.old) self.old }
         ensures stored { (records : Option Records) → IsStored self.old records → IsStored self.new records }

@@ -67,7 +67,7 @@ record CanBeLogOf (flow : Dataflow) (p : ℕ) (c : Checkpoint) : Type 0 where
   pub messages : AllByRecursion (CanBeLogged flow p front) c.log
 
 -- so can those of the record, if it holds a checkpoint or changes
-HasOwnLog : Dataflow → ℕ → Record → Type 0
+abbrev HasOwnLog : Dataflow → ℕ → Record → Type 0
 HasOwnLog flow p (tagged.State c) = CanBeLogOf flow p c
 HasOwnLog flow p (tagged.Event q event) = Unit {0}
 HasOwnLog flow p (tagged.Changes base c) = CanBeLogOf flow p c

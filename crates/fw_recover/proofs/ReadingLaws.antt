@@ -1,7 +1,7 @@
 -- What a recovery reads for a node: its checkpoints, or its events.
 use Rattle.std.proofs.Common.{◌≡◌, ◌≢◌, ℕ, ◌<◌, Bool, true, false, ◌&&◌, ◌==◌, List, [], ◌∷◌, ◌++◌, length, filter, Option, Some, None, refl, sym, ap, subst, ◌∙◌, inl, inr}
 use Rattle.std.specs.Prelude.{◌⊎◌}
-use Rattle.std.specs.List.{AllZip, Contains, flat_map}
+use Rattle.std.specs.List.{AllZip, flat_map}
 use Rattle.std.proofs.lemmas.Bool.{cases_Bool, eqb-true}
 use Rattle.fw_lemmas.proofs.Bools.{two_ways}
 use Rattle.fw_lemmas.proofs.Each.{each-one}
@@ -20,7 +20,7 @@ use Rattle.fw_flow.specs.Dataflow.{System, Dataflow, policy_of, bounds_of, node_
 use Rattle.fw_flow.specs.Restoring.{way_of}
 use Rattle.fw_model.specs.Choice.{cut_of}
 use Rattle.fw_model.specs.LawsOfReplay.{replayed_events}
-use Rattle.fw_model.specs.Machine.{Machine, Write, checkpoint, no_stamps}
+use Rattle.fw_model.specs.Machine.{Machine, no_stamps}
 use Rattle.fw_model.specs.Writes.{takes_checkpoints}
 use Rattle.fw_model.proofs.ChoiceLaws.{same_fronts}
 use Rattle.fw_model.proofs.CmpLaws.{decided-front}

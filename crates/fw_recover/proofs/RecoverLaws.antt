@@ -29,9 +29,11 @@ use Rattle.fw_rollback.specs.Restored.{Restores, is_undone}
 use Rattle.fw_rollback.specs.Tables.{table_at}
 use Rattle.fw_stands.specs.Recovered.{Recovers}
 use Rattle.fw_stands.specs.Parts.{IsOutputOf, IsSourceOf, IsTableIn, IsTraceIn, logged, queued}
+use Rattle.fw_stands.specs.Entries.{AreBasesOf}
 use Rattle.fw_stands.specs.Recovered.{IsSettledBy}
 use Rattle.fw_stands.specs.Written.{AreEntriesOf, AreStored, uncollected}
 use Rattle.fw_stands.proofs.AtReached.{reached-legal, reached-next}
+use Rattle.fw_stands.proofs.BaseSteps.{bases_after_recovery}
 use Rattle.fw_stands.proofs.EntrySteps.{entries_after_recovery, records_after_recovery}
 use Rattle.fw_stands.proofs.ReadLaws.{recovers-by_step}
 use Rattle.fw_stands.proofs.RecoveredBorders.{none-lost, settled-by_cuts}
@@ -206,6 +208,8 @@ recovered-stands sys records state choice old new s largest trust q there failed
           progress = progress-recovered sys state choice new.parts.queues old.progress new.progress r parts.queues progress s.apart.progress;
           entries = parts.entries;
           stored = parts.stored;
+          bases = subst (λ es. AreBasesOf es es (uncollected next)) (sym gone)
+              (bases_after_recovery sys w state s.apart.reached choice next leads old.parts.keep.entries s.apart.entries s.apart.bases);
         };
         traces = knows-next sys state Recover next (cuts choice) old.traces new.traces w s.apart.reached refl leads s.traces
             (traces-recovered sys records state choice settled old.parts new.parts.keep.entries r before gone old.traces new.traces traces s.traces.floor s.traces.above);

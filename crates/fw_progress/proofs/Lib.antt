@@ -13,7 +13,6 @@ pub mod CutCountLaws
 pub mod NoticeLaws
 pub mod SettleLaws
 pub mod TraceLaws
-pub mod KeptLaws
 pub mod SentTallyLaws
 pub mod FollowTraceLaws
 pub mod CutTraceLaws

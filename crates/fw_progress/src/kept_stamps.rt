@@ -1,7 +1,6 @@
 //! Stamps that are kept thinned inside a base.
-ghost use Rattle.std.specs.Prelude.{◌≡◌, ◌≤◌, ◌||◌, ◌&&◌, not, [], ◌∷◌, ◌++◌, List, ℕ, filter, insert, length, None, IfSome, IfNone, IfOk, OnErr};
+ghost use Rattle.std.specs.Prelude.{◌≡◌, ◌↔◌, ◌-◌, ◌||◌, ◌&&◌, not, [], ◌∷◌, ◌++◌, List, ℕ, filter, length, slice_get, Some, None, IsTrue, IfSome, IfOk, OnErr};
 ghost use Rattle.std.specs.List.{list_any};
-ghost use Rattle.std.specs.List.Sorted.{IsStrictlySortedBy};
 ghost use Rattle.std.specs.BTreeSet.{insert_key};
 ghost use Rattle.fw_time.specs.Stamp.{lesser, leq, stamp_cmp};
 ghost use Rattle.fw_frontier.specs.Frontier.{Frontier, Within, cover};
@@ -14,28 +13,23 @@ ghost use Rattle.fw_progress.specs.Traces.{has_greater_inside, is_lesser_than_to
 use fw_frontier::Front;
 use fw_time::{Bounds, Stamp};
 use std::alloc::{AllocError, Global};
-use std::cmp::Ordering;
+use std::collections::BTreeSet;
 use std::marker::Model;
 
 /// Stamps that stand for a list of stamps: all of the list that lie outside a base, and inside it at least the greatest. The
-/// base is the caller's. They lie in one ascending row, since most that are added are greater than all that are there. Contracts
-/// see the stamps, in ascending order, each once.
+/// base is the caller's. Contracts see the stamps, in ascending order, each once.
 #[derive(Debug, Drop)]
 pub struct KeptStamps {
     alloc: Global,
-    stamps: Vec<Stamp>,
+    stamps: BTreeSet<Stamp>,
 }
 
 impl Model for KeptStamps {
     ghost use Rattle.std.specs.Prelude.{ℕ, List};
-    ghost use Rattle.std.specs.List.Sorted.{IsStrictlySortedBy};
-    ghost use Rattle.fw_time.specs.Stamp.{stamp_cmp};
 
     ghost Value = { List (List ℕ) };
 
-    ghost view = { λ kept. kept.stamps.items };
-
-    ghost invariant = { λ kept. IsStrictlySortedBy stamp_cmp kept.stamps.items };
+    ghost view = { λ kept. kept.stamps.keys };
 }
 
 impl KeptStamps {
@@ -45,7 +39,7 @@ impl KeptStamps {
     {
         KeptStamps {
             alloc,
-            stamps: Vec::new(alloc),
+            stamps: BTreeSet::new(alloc),
         }
     }
 
@@ -64,9 +58,10 @@ impl KeptStamps {
         ensures value { IfOk result (λ u. self.new ≡ insert_key stamp_cmp self.old at.now) }
         ensures err { OnErr result (self.new ≡ self.old) }
     {
-        if let Some(i) = place_for(&self.stamps, at) {
-            self.stamps.insert(i, at.copy())?;
+        if is_last(&self.stamps, at) {
+            return Ok(());
         }
+        self.stamps.insert(at.copy())?;
         Ok(())
     }
 
@@ -159,19 +154,14 @@ impl KeptStamps {
     }
 }
 
-/// Where a stamp goes among ascending ones, if it is not there. The last one is looked at first.
-fn place_for(stamps: &[Stamp], at: &Stamp) -> Option<usize>
-    requires { IsStrictlySortedBy stamp_cmp stamps.now }
-    ensures place { IfSome result (λ i. (i ≤ length stamps.now) × (insert stamps.now i at.now ≡ insert_key stamp_cmp stamps.now at.now)) }
-    ensures there { IfNone result (insert_key stamp_cmp stamps.now at.now ≡ stamps.now) }
+/// Whether this is the last of the stamps, which needs no search among them.
+fn is_last(stamps: &BTreeSet<Stamp>, at: &Stamp) -> bool
+    ensures last { IsTrue result ↔ (slice_get stamps.now.keys (length stamps.now.keys - 1) ≡ Some at.now) }
+    ensures there { IsTrue result → insert_key stamp_cmp stamps.now.keys at.now ≡ stamps.now.keys }
 {
-    let Some(last) = stamps.last() else {
-        return Some(0);
-    };
-    match last.cmp(at) {
-        Ordering::Less => Some(stamps.len()),
-        Ordering::Equal => None,
-        Ordering::Greater => stamps.binary_search(at).err(),
+    match stamps.last() {
+        Some(last) => last == at,
+        None => false,
     }
 }
 
@@ -190,9 +180,9 @@ fn has_greater(tops: &[Stamp], stamp: &Stamp) -> bool
 }
 
 /// The last of the stamps inside a frontier, where each that is inside is at or above the one before it. It takes no memory.
-fn top_of_chain(stamps: &[Stamp], base: &Front) -> Option<Stamp>
-    ensures value { result ≡ top_from base.now None stamps.now }
-    ensures greatest { IfSome result (λ top. (s : List ℕ) → lesser s top ≡ has_greater_inside base.now stamps.now s) }
+fn top_of_chain(stamps: &BTreeSet<Stamp>, base: &Front) -> Option<Stamp>
+    ensures value { result ≡ top_from base.now None stamps.now.keys }
+    ensures greatest { IfSome result (λ top. (s : List ℕ) → lesser s top ≡ has_greater_inside base.now stamps.now.keys s) }
 {
     let mut top = None;
     for stamp in stamps {
@@ -217,9 +207,13 @@ fn raised(top: &Option<Stamp>, stamp: &Stamp) -> Option<Stamp>
 }
 
 /// Those of the stamps inside a frontier that are at or below no later one. The error is want of memory.
-fn greatest_inside(alloc: Global, stamps: &[Stamp], base: &Front) -> Result<Vec<Stamp>, AllocError>
+fn greatest_inside(
+    alloc: Global,
+    stamps: &BTreeSet<Stamp>,
+    base: &Front,
+) -> Result<Vec<Stamp>, AllocError>
     ensures { IfOk result
-        (λ tops. (s : List ℕ) → list_any (lesser s) tops.items ≡ has_greater_inside base.now stamps.now s) }
+        (λ tops. (s : List ℕ) → list_any (lesser s) tops.items ≡ has_greater_inside base.now stamps.now.keys s) }
 {
     let mut tops = Vec::new(alloc);
     for stamp in stamps {

@@ -34,7 +34,7 @@ fn given(alloc: Global, flow: &Flow, counts: &Counts, node: NodeId) -> Result<Fr
 }
 
 /// What is inside both; where one has all stamps it is the other. The error is want of memory.
-pub(crate) fn met(one: Front, other: Front) -> Result<Front, AllocError>
+fn met(one: Front, other: Front) -> Result<Front, AllocError>
     ensures { (bounds : Domain) → IsCanonical bounds one → IsCanonical bounds other
         → IfOk result (λ f. IsFrontOf bounds f (meet (frontier_of bounds one) (frontier_of bounds other))) }
 {

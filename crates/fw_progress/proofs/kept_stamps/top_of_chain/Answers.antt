@@ -1,21 +1,24 @@
-use Rattle.std.proofs.Common.{◌≡◌, ◌+◌, drop, sym, ◌∙◌}
-use Rattle.fw_progress.proofs.KeptLaws.{IsTopUpTo, top-inside, top-outside}
-use Rattle.fw_progress.proofs.kept_stamps.top_of_chain.Goals.{then-contains+in_ok-next, else-contains}
+use Rattle.std.proofs.Common.{◌≡◌, ◌||◌, ◌&&◌, Bool, true, false, rules, ap, sym, ◌∙◌}
+use Rattle.fw_time.specs.Stamp.{lesser}
+use Rattle.fw_frontier.specs.Front.{inside}
+use Rattle.fw_progress.specs.Traces.{has_greater_inside, is_lesser_than_top}
 use Rattle.fw_progress.proofs.kept_stamps.top_of_chain.Goals as goal
 
-pub loop-stamp-preserved : goal.loop-stamp-preserved
-loop-stamp-preserved c =
-    let base = c.args.base.now in
-    let stamps = c.args.stamps.now in
-    let top = c.loop-stamp.top in
-    let now = c.if-contains.top in
-    let i = c.loop-stamp.stamp-index in
-    let stamp = c.stamp-item.result in
-    let on : IsTopUpTo base now (drop (i + 1) stamps) stamps = elim c.if-contains.branch [
-      | then-contains+in_ok-next w ↦
-          top-inside base top now w.in_ok-next.next stamps i stamp c.loop-stamp-test.true c.stamp-item.is (sym c.contains.ensures ∙ w.if-contains.true)
-          (sym w.in_ok-next.ensures.value) w.in_ok-next.ensures.greater w.top-is c.loop-stamp.invariant
-      | else-contains w ↦
-          top-outside base top now stamps i stamp c.loop-stamp-test.true c.stamp-item.is (sym c.contains.ensures ∙ w.if-contains.false) w.top-is c.loop-stamp.invariant
-    ] in
-    on
+-- one stamp more that is inside
+more : (i a b n h k : Bool) → n ≡ (a || b) → i ≡ true → (a || ((i && b) || h)) ≡ k → (n || h) ≡ k
+more true true b n h k e f g = ap (λ x. x || h) e ∙ g
+more true false b n h k e f g = ap (λ x. x || h) e ∙ g
+more false a b n h k e f g = cc
+
+pub loop-stamp-preserved-then-contains : goal.loop-stamp-preserved-then-contains
+loop-stamp-preserved-then-contains c = record {
+  value = search rules;
+  greatest = λ s.
+      let base = c.args.base.now in
+      let top = c.loop-stamp.top in
+      let rest = c.next.new.self in
+      let stamp = c.in-Some.stamp.now in
+      more (inside base stamp) (is_lesser_than_top top s) (lesser s stamp) (lesser s c.in_ok-next.next) (has_greater_inside base rest s) (has_greater_inside base c.args.stamps.now.keys s)
+      (c.in_ok-next.ensures.greater s) (sym c.contains.ensures ∙ c.if-contains.true)
+      (ap (λ ss. is_lesser_than_top top s || has_greater_inside base ss s) (sym c.in-Some.ensures.steps) ∙ c.loop-stamp.invariant.greatest s);
+}

@@ -1,4 +1,4 @@
-use Rattle.std.proofs.Common.{◌≡◌, ◌||◌, List, ℕ, None, drop}
+use Rattle.std.proofs.Common.{◌≡◌, ◌||◌, List, ℕ, None}
 use Rattle.fw_progress.specs.Traces.{has_greater_inside, is_lesser_than_top, top_from}
 use Rattle.fw_progress.proofs.kept_stamps.top_of_chain.Given as goal
 
@@ -6,6 +6,6 @@ use Rattle.fw_progress.proofs.kept_stamps.top_of_chain.Given as goal
 -- where all have one
 abbrev pub invariant-loop-stamp : goal.invariant-loop-stamp
 invariant-loop-stamp l = record {
-  value : top_from l.base l.top (drop l.stamp-index l.stamps) ≡ top_from l.base None l.stamps;
-  greatest : (s : List ℕ) → (is_lesser_than_top l.top s || has_greater_inside l.base (drop l.stamp-index l.stamps) s) ≡ has_greater_inside l.base l.stamps s;
+  value : top_from l.base l.top l.stamp-iterator ≡ top_from l.base None l.stamps.keys;
+  greatest : (s : List ℕ) → (is_lesser_than_top l.top s || has_greater_inside l.base l.stamp-iterator s) ≡ has_greater_inside l.base l.stamps.keys s;
 }

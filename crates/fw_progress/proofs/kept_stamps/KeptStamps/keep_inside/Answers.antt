@@ -3,21 +3,15 @@ use Rattle.std.specs.Prelude.{filter}
 use Rattle.std.proofs.lemmas.Fn.{filter_same}
 use Rattle.fw_frontier.specs.Front.{inside, frontier_of}
 use Rattle.fw_model.specs.Thinned.{IsThinned}
-use Rattle.fw_progress.proofs.KeptLaws.{sorted-kept}
 use Rattle.fw_progress.proofs.TraceLaws.{thinned-cut}
 use Rattle.fw_progress.proofs.kept_stamps.KeptStamps.keep_inside.Goals as goal
 
 pub returns-clause-value : goal.returns-clause-value
 returns-clause-value c =
-    let left : c.retain.new.self.items ≡ filter (inside c.args.f.now) c.self.inside.stamps.items =
+    let left : c.retain.new.self.keys ≡ filter (inside c.args.f.now) c.self.inside.stamps.keys =
     filter_same _ (inside c.args.f.now) _ (λ x b f' k. search rules) _ _ c.retain.ensures.filtered in
     left ∙ ap (filter (inside c.args.f.now)) c.self.view_is
 
 pub returns-clause-thinned : goal.returns-clause-thinned
 returns-clause-thinned c = λ bounds base all d w h.
     subst (IsThinned base (filter (frontier_of bounds c.args.f.now) all)) (sym (returns-clause-value c)) (thinned-cut bounds base all c.args.self.now c.args.f.now d w h)
-
-pub invariant_of-self : goal.invariant_of-self
-invariant_of-self c =
-    sorted-kept (inside c.args.f.now) c.self.inside.stamps.items c.retain.new.self.items (filter_same _ (inside c.args.f.now) _ (λ x b f' k. search rules) _ _ c.retain.ensures.filtered)
-    c.self.invariant

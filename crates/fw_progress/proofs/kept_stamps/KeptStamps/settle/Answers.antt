@@ -7,18 +7,17 @@ use Rattle.fw_time.specs.Stamp.{lesser}
 use Rattle.fw_frontier.specs.Front.{frontier_of}
 use Rattle.fw_model.specs.Thinned.{IsThinned}
 use Rattle.fw_progress.specs.Traces.{has_greater_inside, thinned}
-use Rattle.fw_progress.proofs.KeptLaws.{sorted-kept}
 use Rattle.fw_progress.proofs.TraceLaws.{thinned-few, thinned-settle}
 use Rattle.fw_progress.proofs.kept_stamps.KeptStamps.settle.Goals as goal
 
 pub returns-clause-value : goal.returns-clause-value
 returns-clause-value c =
     let tops = c.in_ok-tops.tops.items in
-    let old = c.self.inside.stamps.items in
+    let old = c.self.inside.stamps.keys in
     let base = c.args.base.now in
-    let left : c.retain-2.new.self.items ≡ filter (λ s. not (list_any (lesser s) tops)) old =
+    let left : c.retain-2.new.self.keys ≡ filter (λ s. not (list_any (lesser s) tops)) old =
     filter_same _ (λ s. not (list_any (lesser s) tops)) _ (λ x b f' k. search rules) _ _ c.retain-2.ensures.filtered in
-    left ∙ filter_agree (λ s. not (list_any (lesser s) tops)) (λ s. not (has_greater_inside base old s)) (λ s. ap not (c.in_ok-tops.ensures s ∙ ap (λ ss. has_greater_inside base ss s) c.deref-2.ensures.value)) old
+    left ∙ filter_agree (λ s. not (list_any (lesser s) tops)) (λ s. not (has_greater_inside base old s)) (λ s. ap not (c.in_ok-tops.ensures s)) old
     ∙ ap (thinned base) c.self.view_is
 
 pub returns-clause-thinned : goal.returns-clause-thinned
@@ -28,10 +27,10 @@ returns-clause-thinned c = λ bounds before all d w h.
 pub returns-in-Some-clause-value : goal.returns-in-Some-clause-value
 returns-in-Some-clause-value c =
     let top = c.in-Some.top in
-    let old = c.self.inside.stamps.items in
+    let old = c.self.inside.stamps.keys in
     let base = c.args.base.now in
-    let left : c.retain.new.self.items ≡ filter (λ s. not (lesser s top)) old = filter_same _ (λ s. not (lesser s top)) _ (λ x b f' k. search rules) _ _ c.retain.ensures.filtered in
-    left ∙ filter_agree (λ s. not (lesser s top)) (λ s. not (has_greater_inside base old s)) (λ s. ap not (c.in-Some.ensures.greatest s ∙ ap (λ ss. has_greater_inside base ss s) c.deref.ensures.value)) old ∙ ap (thinned base) c.self.view_is
+    let left : c.retain.new.self.keys ≡ filter (λ s. not (lesser s top)) old = filter_same _ (λ s. not (lesser s top)) _ (λ x b f' k. search rules) _ _ c.retain.ensures.filtered in
+    left ∙ filter_agree (λ s. not (lesser s top)) (λ s. not (has_greater_inside base old s)) (λ s. ap not (c.in-Some.ensures.greatest s)) old ∙ ap (thinned base) c.self.view_is
 
 pub returns-in-Some-clause-thinned : goal.returns-in-Some-clause-thinned
 returns-in-Some-clause-thinned c = λ bounds before all d w h.
@@ -39,21 +38,9 @@ returns-in-Some-clause-thinned c = λ bounds before all d w h.
 
 pub returns-then-len-lt2-clause-value : goal.returns-then-len-lt2-clause-value
 returns-then-len-lt2-clause-value c =
-    let few : length c.self.inside.stamps.items < 2 = omega (arith, c.if-len-lt2.true, c.len.ensures, c.self.inside.stamps.ok.0) in
+    let few : length c.self.inside.stamps.keys < 2 = omega (arith, c.if-len-lt2.true, c.len.ensures.len) in
     sym (thinned-few c.args.base.now c.args.self.now (subst (λ ss. length ss < 2) c.self.view_is few))
 
 pub returns-then-len-lt2-clause-thinned : goal.returns-then-len-lt2-clause-thinned
 returns-then-len-lt2-clause-thinned c = λ bounds before all d w h.
     subst (IsThinned (frontier_of bounds c.args.base.now) all) (sym (returns-then-len-lt2-clause-value c)) (thinned-settle bounds before all c.args.self.now c.args.base.now d w h)
-
-pub invariant_of-self : goal.invariant_of-self
-invariant_of-self c =
-    let top = c.in-Some.top in
-    sorted-kept (λ s. not (lesser s top)) c.self.inside.stamps.items c.retain.new.self.items
-    (filter_same _ (λ s. not (lesser s top)) _ (λ x b f' k. search rules) _ _ c.retain.ensures.filtered) c.self.invariant
-
-pub invariant_of-self-2 : goal.invariant_of-self-2
-invariant_of-self-2 c =
-    let tops = c.in_ok-tops.tops.items in
-    sorted-kept (λ s. not (list_any (lesser s) tops)) c.self.inside.stamps.items c.retain-2.new.self.items
-    (filter_same _ (λ s. not (list_any (lesser s) tops)) _ (λ x b f' k. search rules) _ _ c.retain-2.ensures.filtered) c.self.invariant

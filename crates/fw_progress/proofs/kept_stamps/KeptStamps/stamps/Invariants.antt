@@ -1,5 +1,6 @@
-use Rattle.std.proofs.Common.{◌≡◌, take}
+use Rattle.std.proofs.Common.{◌≡◌, ◌++◌}
 use Rattle.fw_progress.proofs.kept_stamps.KeptStamps.stamps.Given as goal
 
+-- the stamps taken so far, and those to come
 abbrev pub invariant-loop-stamp : goal.invariant-loop-stamp
-invariant-loop-stamp l = l.stamps.items ≡ take l.stamp-index l.stamp-items
+invariant-loop-stamp l = l.stamps.items ++ l.stamp-iterator ≡ l.self

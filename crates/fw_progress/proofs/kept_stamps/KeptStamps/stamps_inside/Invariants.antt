@@ -1,8 +1,8 @@
-use Rattle.std.proofs.Common.{◌≡◌, take}
+use Rattle.std.proofs.Common.{◌≡◌, ◌++◌}
 use Rattle.std.specs.Prelude.{filter}
 use Rattle.fw_frontier.specs.Front.{inside}
 use Rattle.fw_progress.proofs.kept_stamps.KeptStamps.stamps_inside.Given as goal
 
--- those so far that are inside were taken
+-- the stamps taken so far, and those to come that are inside
 abbrev pub invariant-loop-stamp : goal.invariant-loop-stamp
-invariant-loop-stamp l = l.stamps.items ≡ filter (inside l.f) (take l.stamp-index l.stamp-items)
+invariant-loop-stamp l = l.stamps.items ++ filter (inside l.f) l.stamp-iterator ≡ filter (inside l.f) l.self

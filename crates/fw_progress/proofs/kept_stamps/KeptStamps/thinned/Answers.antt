@@ -19,7 +19,7 @@ returns-clause-value c =
     filter_same _ (λ s. not (list_any (lesser s) tops)) _ (λ x b f' k. search rules) _ _ c.retain.ensures.filtered in
     left ∙ ap (filter (λ s. not (list_any (lesser s) tops))) c.in_ok-kept.ensures
     ∙ filter_agree (λ s. not (list_any (lesser s) tops)) (λ s. not (has_greater_inside f (filter (inside f) old) s))
-    (λ s. ap not (c.in_ok-tops.ensures s ∙ ap (λ ss. has_greater_inside f ss s) (c.deref.ensures.value ∙ c.self.view_is) ∙ sym (has-inside_of f old s))) (filter (inside f) old)
+    (λ s. ap not (c.in_ok-tops.ensures s ∙ ap (λ ss. has_greater_inside f ss s) c.self.view_is ∙ sym (has-inside_of f old s))) (filter (inside f) old)
 
 pub returns-clause-thinned : goal.returns-clause-thinned
 returns-clause-thinned c = λ bounds base all d w h.

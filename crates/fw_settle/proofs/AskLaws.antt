@@ -29,7 +29,7 @@ use Rattle.fw_record.specs.declared.record.Record.TheVariants as tagged
 use Rattle.fw_record.specs.Spelling.{spelling, HasCountableLists}
 use Rattle.fw_keep.specs.declared.entry.Entry.{Entry}
 use Rattle.fw_keep.specs.Catalogue.{KeepState, AreInFlight}
-use Rattle.fw_keep.specs.Entry.{asked}
+use Rattle.fw_keep.specs.Entry.{asked, asked_beside}
 use Rattle.fw_keep.specs.Stored.{Records, IsStored, KeepsBytes}
 use Rattle.fw_progress.specs.Settle.{has_more, is_growing, IsGrownAt}
 use Rattle.fw_stands.specs.Written.{AreEntriesOf, AreStored, IsEntryOf, uncollected}
@@ -78,9 +78,9 @@ adds-same old mid new before between after a n = record {
 pub adds-more : (old mid new : List Entry) (before between after : Option Records) → AddsEntries old mid before between
     → (what : Record) (stamps : Stamps) → IsAsked what stamps mid new between after → AddsEntries old new before after
 adds-more old mid new before between after a what stamps is = record {
-  more = a.more ++ asked is.id what stamps ∷ [];
-  entries = is.entries ∙ ap (λ es. es ++ asked is.id what stamps ∷ []) a.entries ∙ append_assoc old a.more (asked is.id what stamps ∷ []);
-  in_flight = each-append (λ (e : Entry). e.acknowledged ≡ false) a.more (asked is.id what stamps ∷ []) a.in_flight (refl, tt);
+  more = a.more ++ asked_beside mid is.id what stamps ∷ [];
+  entries = is.entries ∙ ap (λ es. es ++ asked_beside mid is.id what stamps ∷ []) a.entries ∙ append_assoc old a.more (asked_beside mid is.id what stamps ∷ []);
+  in_flight = each-append (λ (e : Entry). e.acknowledged ≡ false) a.more (asked_beside mid is.id what stamps ∷ []) a.in_flight (refl, tt);
   change = λ held. map_of.insert (a.change held) is.id (spelling what);
   records = is.records ∙ ap (option_map (λ held. map_of.insert held is.id (spelling what))) a.records
       ∙ map-both a.change (λ held. map_of.insert held is.id (spelling what)) before;

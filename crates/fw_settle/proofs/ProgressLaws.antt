@@ -1,12 +1,12 @@
 -- The step of progress: what it makes of what is kept stands for the next state.
-use Rattle.std.proofs.Common.{◌≡◌, ℕ, ◌<◌, Bool, true, false, not, cond, ◌&&◌, List, [], ◌++◌, filter, map, length, get_or, refl, sym, ap, subst, ◌∙◌, inl, inr, arith}
+use Rattle.std.proofs.Common.{◌≡◌, ℕ, ◌<◌, Bool, true, false, not, cond, ◌&&◌, List, [], ◌∷◌, ◌++◌, filter, map, length, get_or, refl, sym, ap, subst, ◌∙◌, inl, inr, arith}
 use Rattle.std.specs.List.{AllByRecursion, range_with_len}
-use Rattle.std.specs.Prelude.{Option, Some, None, Ok, Err, nat_lt, option_and_then}
+use Rattle.std.specs.Prelude.{Option, Some, None, option_and_then, Ok, Err, nat_lt}
 use Rattle.std.proofs.lemmas.Bool.{and_from, and_parts, and_right, both_ways, cases_Bool, cases_lt, lt-ltb, not-true, not-false}
 use Rattle.std.proofs.lemmas.List.{get_or_past}
 use Rattle.fw_lemmas.proofs.Bools.{first_holds, second_holds, two_ways}
 use Rattle.std.proofs.lemmas.List.FromFn.{get_or-map-range_with_len, length-map-range_with_len}
-use Rattle.fw_lemmas.proofs.Each.{each-map, each-one, each-weaker}
+use Rattle.fw_lemmas.proofs.Each.{each-weaker}
 use Rattle.fw_lemmas.proofs.SideBySide.{zip-right}
 use Rattle.fw_time.specs.Stamp.{in_domain, leq}
 use Rattle.fw_time.specs.declared.stamp.Bounds.{Bounds}
@@ -22,7 +22,7 @@ use Rattle.fw_flow.specs.declared.kind.Policy.TheVariants as policy
 use Rattle.fw_flow.specs.Dataflow.{System, kind_of, policy_of, bounds_of, node_ids}
 use Rattle.fw_model.specs.History.{IsComplete}
 use Rattle.fw_model.specs.Machine.{Machine, Write, events, family_of, front_of, AreCanonical}
-use Rattle.fw_model.specs.Steps.{GrowsTo, LeadsTo, checkpoint_of, did, idle, silent, eager_writes, is_asked_for_checkpoints, is_eager}
+use Rattle.fw_model.specs.Steps.{GrowsTo, LeadsTo, did, idle, silent, checkpoint_of, eager_writes, is_asked_for_checkpoints, is_eager}
 use Rattle.fw_model.specs.Writes.{takes_checkpoints}
 use Rattle.fw_node.specs.declared.node.Node.{Node}
 use Rattle.fw_keep.specs.declared.entry.Entry.{Entry}
@@ -30,11 +30,11 @@ use Rattle.fw_keep.specs.Catalogue.{KeepState}
 use Rattle.fw_keep.specs.Stored.{Records}
 use Rattle.fw_progress.specs.Settle.{has_more, AreGrownBefore}
 use Rattle.fw_progress.proofs.SettleLaws.{in_turn-settled}
+use Rattle.fw_stands.specs.Entries.{id_at_front, AreBasesOf}
 use Rattle.fw_stands.specs.Settling.{settled_state, AreSettledAt}
 use Rattle.fw_stands.specs.Parts.{settles_with_checkpoints, sums_up, IsTableIn}
 use Rattle.fw_stands.specs.Written.{AreEntriesOf, AreStored, HasBaseOf, IsEntryOf, uncollected}
 use Rattle.fw_stands.proofs.AtReached.{reached-next}
-use Rattle.fw_stands.specs.Entries.{AreBasesOf, id_at_front}
 use Rattle.fw_stands.proofs.BaseSteps.{bases_after_asking}
 use Rattle.fw_stands.proofs.EntrySteps.{entries_after_asking, records_after_asking, progress_asks}
 use Rattle.fw_stands.proofs.KeptLaws.{no_more-idle}
@@ -143,24 +143,28 @@ waiting-same sys state settled mid before s same p isnt without = elim (cases_Bo
   | inr none ↦ same p none
 ]
 
--- ---- the bases
+-- ---- bases
 
-none-base : (base : Option ℕ) → HasBaseOf base None → base ≡ None
-none-base None h = refl
-none-base (Some id) h = absurd h
+-- the checkpoints that are asked have none
+eager-whole : (sys : System) (state : Machine) (settled : List Front) (ps : List ℕ) → AllByRecursion (λ (w : Write). w.base ≡ None) (eager_writes sys state settled ps)
+eager-whole sys state settled ps = whole (filter (asks_at_progress sys state settled) ps)
+  where
+    whole : (qs : List ℕ) → AllByRecursion (λ (w : Write). w.base ≡ None) (map (λ p. checkpoint_of state p (front_of settled p)) qs)
+    whole [] = tt
+    whole (q ∷ qs) = (refl, whole qs)
 
--- of whole writes no entry has a base
-whole-bases : (sys : System) (state : Machine) (all es : List Entry) (xs : List Write) → AreEntriesOf sys state es xs → AllByRecursion (λ (x : Write). x.base ≡ None) xs
-    → AreBasesOf all es xs
-whole-bases sys state all es xs a whole =
-    zip-right (λ (x : Write). x.base ≡ None) (IsEntryOf sys state) (λ (e : Entry) (x : Write). e.base ≡ option_and_then (λ f. id_at_front x.node f all) x.base) es xs
-    (λ e x w i. none-base e.base (subst (HasBaseOf e.base) w i.base) ∙ sym (ap (option_and_then (λ f. id_at_front x.node f all)) w)) whole a
-
--- what eager nodes ask is whole
-eager-whole : (sys : System) (state : Machine) (settled : List Front) (ps : List ℕ) → AllByRecursion (λ (x : Write). x.base ≡ None) (eager_writes sys state settled ps)
-eager-whole sys state settled ps =
-    each-map (λ (x : Write). x.base ≡ None) (λ p. checkpoint_of state p (front_of settled p)) (filter (asks_at_progress sys state settled) ps)
-    (each-one (λ p. None ≡ None) (filter (asks_at_progress sys state settled) ps) (λ p. refl))
+-- so their entries have none
+whole-bases : (sys : System) (state : Machine) (all more : List Entry) (writes : List Write) → AllByRecursion (λ (w : Write). w.base ≡ None) writes
+    → AreEntriesOf sys state more writes → AreBasesOf all more writes
+whole-bases sys state all more writes =
+    zip-right (λ (w : Write). w.base ≡ None) (IsEntryOf sys state)
+    (λ (e : Entry) (w : Write). e.base ≡ option_and_then (λ f. id_at_front w.node f all) w.base) more writes (λ e w whole i. none-on w.node e.base w.base whole i.base)
+  where
+    none-on : (n : ℕ) (id : Option ℕ) (f : Option Front) → f ≡ None → HasBaseOf id f → id ≡ option_and_then (λ g. id_at_front n g all) f
+    none-on n None None e h = refl
+    none-on n None (Some f) e h = absurd h
+    none-on n (Some id) None e h = absurd h
+    none-on n (Some id) (Some f) e h = absurd (let c : Some f ≡ None = e in cc)
 
 -- ---- the next state
 
@@ -259,7 +263,7 @@ progress-follows sys state mid new before after p s shaped complete first does =
     let bases_then : AreBasesOf asked.parts.keep.entries asked.parts.keep.entries (uncollected next) =
     subst (λ es. AreBasesOf es es (uncollected next)) (sym does.asks.adds.entries)
     (bases_after_asking sys state next writes refl fly mid.parts.keep.entries more s.apart.entries s.apart.bases
-    (whole-bases sys state (mid.parts.keep.entries ++ more) more writes of_writes (eager-whole sys state settled (node_ids sys.flow)))) in
+    (whole-bases sys state (mid.parts.keep.entries ++ more) more writes (eager-whole sys state settled (node_ids sys.flow)) of_writes)) in
     let stored_then : AreStored sys next after asked.parts.keep.entries (uncollected next) =
     subst (λ es. AreStored sys next after es (uncollected next)) (sym does.asks.adds.entries)
     (records_after_asking sys s.apart.well_formed state s.apart.reached ProgressStep next silent u writes refl fly mid.parts.keep.entries more after stored) in

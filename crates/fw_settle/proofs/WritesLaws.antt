@@ -58,7 +58,7 @@ use Rattle.fw_settle.proofs.ShapeLaws.{shaped-keep}
 
 -- ---- other writes
 
--- where the writes alone are other ones, and tables, entries and records stand for the state with them, the engine stands for it
+-- where the writes alone are other ones, and tables, entries, their bases and records stand for the state with them, the engine stands for it
 pub writes-stand : (sys : System) (old : Running) (keep : KeepState) (tables : List (Option Node)) (before after : Option Records) (state : Machine) (writes : List Write) (step : Step)
     → Stands sys old before state → LeadsTo sys state step (record state { writes = writes }) silent
     → ((p : ℕ) → p < length sys.flow.nodes → IsTableIn sys (record state { writes = writes }) p (table_at tables p))
@@ -176,7 +176,7 @@ pub asked-entry : (sys : System) (old new : Running) (before after : Option Reco
     → (a : AsksCheckpoint p f old new before after) → IsEntryOf sys state (asked a.asked.id (tagged.State a.checkpoint) a.stamps) (checkpoint_of state p f)
 asked-entry sys old new before after state p f can a =
     let h = events state.history in
-    asked_entry_is_of_write sys state (checkpoint_of state p f) refl old.parts.keep.entries a.asked.id (tagged.State a.checkpoint) a.stamps refl (made-for sys old state p f a.checkpoint can a.made)
+    asked_entry_is_of_write sys state (checkpoint_of state p f) refl [] a.asked.id (tagged.State a.checkpoint) a.stamps refl (made-for sys old state p f a.checkpoint can a.made)
     (subst (λ flow. AreStampsIf true sys (events_inside (node_frontier flow p f) h) p (node_frontier flow p f) a.stamps) can.flow
     (a.held sys h (sym can.flow) (has_epochs sys can.well_formed) (reached-legal sys state can.well_formed can.reached)
     (within-front sys can.floor state p f old.traces can.takes can.settled can.traces)))

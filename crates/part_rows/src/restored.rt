@@ -165,8 +165,8 @@ fn write_based(
     store: &mut MemStore,
     record: &Record,
 ) -> Result<(), NoAnswer>
-    requires { IsStored keep.old (⟦<MemStore as Store>⟧.view store.old).records }
-    requires { IsBased keep.old.entries record.now }
+    requires stored { IsStored keep.old (⟦<MemStore as Store>⟧.view store.old).records }
+    requires based { IsBased keep.old.entries record.now }
     ensures { IsStored keep.new (⟦<MemStore as Store>⟧.view store.new).records }
 {
     if keep.next_id() > WRITES {

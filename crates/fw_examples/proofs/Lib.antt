@@ -20,7 +20,6 @@ pub mod OffersOfTotals
 pub mod Plays
 pub mod Progress
 pub mod Records
-pub mod Roots
 pub mod Settling
 pub mod Told
 pub mod TotalRuns

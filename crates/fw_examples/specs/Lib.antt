@@ -16,7 +16,6 @@ pub mod Loop
 pub mod Nested
 pub mod OffersOfTotals
 pub mod Records
-pub mod Roots
 pub mod RunningTotal
 pub mod Told
 pub mod Traced

@@ -6,7 +6,6 @@ ghost use Rattle.fw_examples.specs.Floors.{CoversArePoorer, EpochsAreMissing, Fl
 ghost use Rattle.fw_examples.specs.InTurn.{EpochsSettleInTurn};
 ghost use Rattle.fw_examples.specs.OffersOfTotals.{CheckpointsAreOffered};
 ghost use Rattle.fw_examples.specs.Records.{FrontsAreSpelled, RecordsAreSpelled};
-ghost use Rattle.fw_examples.specs.Roots.{RootsAreSpelled};
 ghost use Rattle.fw_examples.specs.Trails.{TrailLeadsToLargest};
 
 /// The running total is a system that the laws are about.
@@ -170,12 +169,6 @@ pub fn epochs_settle_in_turn()
 #[tactic(auto, using(crate::proofs::Records::records_are_spelled))]
 pub fn records_are_spelled()
     ensures { RecordsAreSpelled }
-{}
-
-/// A root of the running total that has a spelling, and what the laws of roots say of it.
-#[tactic(auto, using(crate::proofs::Roots::roots_are_spelled))]
-pub fn roots_are_spelled()
-    ensures { RootsAreSpelled }
 {}
 
 /// The total of one key of two changed, and what the law of changes says of it.

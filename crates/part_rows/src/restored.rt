@@ -163,16 +163,16 @@ fn write_based(
     alloc: Global,
     keep: &mut Keep,
     store: &mut MemStore,
-    record: &Record,
+    what: &Record,
 ) -> Result<(), NoAnswer>
     requires stored { IsStored keep.old (⟦<MemStore as Store>⟧.view store.old).records }
-    requires based { IsBased keep.old.entries record.now }
+    requires based { IsBased keep.old.entries what.now }
     ensures { IsStored keep.new (⟦<MemStore as Store>⟧.view store.new).records }
 {
     if keep.next_id() > WRITES {
         return Err(NoAnswer::NotSpelled);
     }
-    let asked = keep.ask(store, record, no_stamps(alloc));
+    let asked = keep.ask(store, what, no_stamps(alloc));
     keep.persist_one();
     match asked {
         Ok(_) => Ok(()),

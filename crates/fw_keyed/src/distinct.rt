@@ -3,12 +3,13 @@ ghost use Rattle.std.specs.Prelude.{◌≡◌, not, ℕ, List, Bool, [], ◌∷�
 ghost use Rattle.fw_bag.specs.declared.rec.Rec.{Rec};
 ghost use Rattle.fw_bag.specs.Arrivals.{Arrival, arrivals_inside, arrival, recs_arrived_at};
 ghost use Rattle.fw_bag.specs.Keyed.{is_among};
+ghost use Rattle.fw_frontier.specs.declared.state.Entries.TheVariants.{Totals};
 ghost use Rattle.fw_keyed.specs.Seen.{HasSeen};
 ghost use Rattle.fw_keyed.specs.Tables.{IsDistinct};
 
 use fw_bag::Rec;
-use fw_frontier::Logical;
-use fw_table::{Content, Sent, keep_outside, put_at};
+use fw_frontier::{Logical, State};
+use fw_table::{Content, Sent, empty_state, keep_outside, put_at};
 use std::alloc::{AllocError, Global};
 use std::collections::{BTreeMap, BTreeSet};
 
@@ -114,5 +115,12 @@ impl<T: Logical> Distinct<T> {
         ensures live { self.new.refused ≡ self.old.refused }
     {
         keep_outside(&mut self.seen, f);
+    }
+
+    /// The state at f as it changed since g: of what is settled the table keeps nothing. It takes no memory.
+    pub fn state_since(&self, _g: &T::Frontier, _f: &T::Frontier) -> State
+        ensures { result ≡ record { sent = 0; sends = []; entries = Totals [] } }
+    {
+        empty_state(self.alloc)
     }
 }

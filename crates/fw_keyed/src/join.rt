@@ -3,12 +3,13 @@ ghost use Rattle.std.specs.Prelude.{◌≡◌, ◌<◌, ℕ, List, Bool, [], ◌
 ghost use Rattle.fw_bag.specs.declared.rec.Rec.{Rec};
 ghost use Rattle.fw_bag.specs.Arrivals.{Arrival, arrivals_inside, arrival};
 ghost use Rattle.fw_bag.specs.Keyed.{joined_rec};
+ghost use Rattle.fw_frontier.specs.declared.state.Entries.TheVariants.{Totals};
 ghost use Rattle.fw_keyed.specs.Sides.{HasValues, sums_with, values_with, recs_across, AreOfTwo};
 ghost use Rattle.fw_keyed.specs.Tables.{IsJoin};
 
 use fw_bag::Rec;
-use fw_frontier::Logical;
-use fw_table::{Content, Sent, SentRecs, keep_outside, put_at};
+use fw_frontier::{Logical, State};
+use fw_table::{Content, Sent, SentRecs, empty_state, keep_outside, put_at};
 use std::alloc::{AllocError, Global};
 use std::collections::BTreeMap;
 
@@ -174,5 +175,12 @@ impl<T: Logical> Join<T> {
         ensures live { self.new.refused ≡ self.old.refused }
     {
         keep_outside(&mut self.sides, f);
+    }
+
+    /// The state at f as it changed since g: of what is settled the table keeps nothing. It takes no memory.
+    pub fn state_since(&self, _g: &T::Frontier, _f: &T::Frontier) -> State
+        ensures { result ≡ record { sent = 0; sends = []; entries = Totals [] } }
+    {
+        empty_state(self.alloc)
     }
 }

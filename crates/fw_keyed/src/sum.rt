@@ -2,11 +2,12 @@
 ghost use Rattle.std.specs.Prelude.{◌≡◌, not, ℕ, List, Bool, [], ◌∷◌, IfOk, OnOk, OnErr, IsTrue, IsErr, true, false};
 ghost use Rattle.fw_bag.specs.Arrivals.{Arrival, arrivals_inside, arrival, recs_arrived_at};
 ghost use Rattle.fw_table.specs.Sums.{sums_by_key};
+ghost use Rattle.fw_frontier.specs.declared.state.Entries.TheVariants.{Totals};
 ghost use Rattle.fw_keyed.specs.Tables.{IsSum};
 
 use fw_bag::Rec;
-use fw_frontier::Logical;
-use fw_table::{Sent, SentRecs, Sums, keep_outside, put_at};
+use fw_frontier::{Logical, State};
+use fw_table::{Sent, SentRecs, Sums, empty_state, keep_outside, put_at};
 use std::alloc::{AllocError, Global};
 use std::collections::BTreeMap;
 
@@ -97,5 +98,12 @@ impl<T: Logical> Sum<T> {
         ensures live { self.new.refused ≡ self.old.refused }
     {
         keep_outside(&mut self.sums, f);
+    }
+
+    /// The state at f as it changed since g: of what is settled the table keeps nothing. It takes no memory.
+    pub fn state_since(&self, _g: &T::Frontier, _f: &T::Frontier) -> State
+        ensures { result ≡ record { sent = 0; sends = []; entries = Totals [] } }
+    {
+        empty_state(self.alloc)
     }
 }

@@ -1,23 +1,29 @@
 -- A node stands for a chain of states that is one longer, where it takes in what changed.
-use Rattle.std.proofs.Common.{◌≡◌, ℕ, Bool, true, List, [], ◌∷◌, ◌++◌, refl, sym, subst, inl, inr}
+use Rattle.std.proofs.Common.{◌≡◌, ◌∙◌, ℕ, Bool, true, not, List, [], ◌∷◌, ◌++◌, length, refl, sym, ap, subst, inl, inr}
 use Rattle.std.proofs.lemmas.Bool.{and_parts, cases_Bool}
 use Rattle.fw_lemmas.proofs.Each.{each-one}
 use Rattle.fw_lemmas.proofs.Filters.{filter-in, filter-inner, filter-out}
 use Rattle.fw_time.specs.Stamp.{Stamp, in_domain}
+use Rattle.fw_bag.specs.declared.rec.Rec.{Rec}
 use Rattle.fw_frontier.specs.Frontier.{Frontier, Within}
 use Rattle.fw_frontier.specs.Front.{Front, inside}
 use Rattle.fw_frontier.specs.declared.state.State.{State}
 use Rattle.fw_flow.specs.declared.event.Event.{Event}
 use Rattle.fw_flow.specs.declared.event.Event.TheVariants.{Inject, Deliver, Notify}
+use Rattle.fw_flow.specs.declared.event.Message.{Message}
+use Rattle.fw_flow.specs.declared.kind.Kind.{Kind}
 use Rattle.fw_flow.specs.Dataflow.{Dataflow, kind_of, in_edges, bounds_of, node_frontier}
-use Rattle.fw_flow.specs.NodeFunction.{event_stamp}
+use Rattle.fw_flow.specs.NodeFunction.{delivered_recs, event_stamp}
 use Rattle.fw_model.specs.Filtering.{events_inside}
 use Rattle.fw_model.specs.Told.{EachDelivery}
 use Rattle.fw_node.specs.declared.node.Node.{Node}
 use Rattle.fw_node.specs.Arrived.{AreOnEdges}
-use Rattle.fw_node.specs.ChainOf.{last_front, HaveChanges, IsOfChain}
+use Rattle.fw_node.specs.ChainOf.{last_front, HaveChanges, IsOfChain, OneStateIsAChain}
+use Rattle.fw_node.specs.Past.{totals_changed, totals_kept}
 use Rattle.fw_node.specs.StateOf.{IsStateOf, IsStateSince}
 use Rattle.fw_node.specs.TableOf.{IsTableOf}
+use Rattle.fw_node.proofs.InsideLaws.{recs-whole, sent-whole}
+use Rattle.fw_node.proofs.NodeLaws.{each_of}
 
 -- ---- events inside
 
@@ -93,6 +99,41 @@ changes-parts : (flow : Dataflow) (p : ℕ) (before : List Event) (done : List (
 changes-parts flow p before [] g c h = (tt, (h.0, h.1))
 changes-parts flow p before (d ∷ done) g c h = let r = changes-parts flow p before done d.0 c h.2 in ((h.0, h.1, r.0), r.1)
 
+-- ---- all deliveries inside
+
+-- where all deliveries lie inside, the events inside have the state that all have
+state-inside : (k : Kind) (b : Frontier) (before : List Event) (state : State) → EachDelivery (λ s. b s ≡ true) before
+    → IsStateOf k before state → IsStateOf k (events_inside b before) state
+state-inside k b before state each h = record {
+  totals = h.totals ∙ sym (ap (totals_kept k) (recs-whole (λ s. true) b before each));
+  sent = λ is. h.sent is ∙ sym (ap (λ (ms : List Message). length ms) (sent-whole b before each));
+}
+
+-- and all have the state of the events inside
+state-whole : (k : Kind) (b : Frontier) (before : List Event) (state : State) → EachDelivery (λ s. b s ≡ true) before
+    → IsStateOf k (events_inside b before) state → IsStateOf k before state
+state-whole k b before state each h = record {
+  totals = h.totals ∙ ap (totals_kept k) (recs-whole (λ s. true) b before each);
+  sent = λ is. h.sent is ∙ ap (λ (ms : List Message). length ms) (sent-whole b before each);
+}
+
+-- so it is with what changed
+since-whole : (k : Kind) (g : Stamp → Bool) (b : Frontier) (before : List Event) (state : State) → EachDelivery (λ s. b s ≡ true) before
+    → IsStateSince k g (events_inside b before) state → IsStateSince k g before state
+since-whole k g b before state each h = record {
+  totals = h.totals
+      ∙ ap (λ (rs : List Rec). totals_changed k rs (delivered_recs (λ d s. true) (events_inside b before))) (recs-whole (λ s. not (g s)) b before each)
+      ∙ ap (totals_changed k (delivered_recs (λ d s. not (g s)) before)) (recs-whole (λ s. true) b before each);
+  sent = λ is. h.sent is ∙ ap (λ (ms : List Message). length ms) (sent-whole b before each);
+}
+
+-- the stamps inside a front are the domain's
+in-domain : (flow : Dataflow) (p : ℕ) (f : Front) (before : List Event) → EachDelivery (λ s. node_frontier flow p f s ≡ true) before
+    → EachDelivery (λ s. (node_frontier flow p f s ≡ true) × (in_domain (bounds_of flow p) s ≡ true)) before
+in-domain flow p f before each =
+    each_of (λ s. node_frontier flow p f s ≡ true) (λ s. (node_frontier flow p f s ≡ true) × (in_domain (bounds_of flow p) s ≡ true))
+    (λ s i. (i, (and_parts (in_domain (bounds_of flow p) s) (inside f s) i).0)) before each
+
 -- ---- one more
 
 -- a node that stands for a chain and takes in what changed up to another front stands for the longer chain
@@ -106,18 +147,15 @@ chain-more flow p f state done c node next stands takes = λ before all on first
     let k = node_frontier flow p last in
     let b = node_frontier flow p c.0 in
     let parts = changes-parts flow p before done f c changes in
-    let whole : events_inside b before ≡ before = subst (λ x. events_inside (node_frontier flow p x) before ≡ before) (last-more f done c) all in
+    let each : EachDelivery (λ s. b s ≡ true) before =
+    subst (λ (x : Front). EachDelivery (λ s. node_frontier flow p x s ≡ true) before) (last-more f done c) all in
     let from_first = within-last flow p before done f parts.0 in
-    let Inside : Stamp → Type 0 = λ s. (b s ≡ true) × (in_domain (bounds_of flow p) s ≡ true) in
     subst (λ x. IsTableOf flow p (node_frontier flow p x) next before) (sym (last-more f done c))
-    (takes k b before
-    (subst (EachDelivery Inside) whole
-    (deliveries-inside Inside b (λ s i. (i, (and_parts (in_domain (bounds_of flow p) s) (inside c.0 s) i).0)) before))
-    on
-    (stands (events_inside k before) (inner k k (λ t i. i) before) (on_edges-inside (in_edges flow p) k before on)
+    (takes k b before (in-domain flow p c.0 before each) on
+    (stands (events_inside k before) (deliveries-inside (λ s. k s ≡ true) k (λ s i. i) before) (on_edges-inside (in_edges flow p) k before on)
     (subst (λ us. IsStateOf (kind_of flow p) us state) (sym (inner (node_frontier flow p f) k from_first before)) first)
     (changes-inner flow p k before done f (λ t i. i) parts.0))
-    (subst (λ us. IsStateSince (kind_of flow p) k us c.1) whole parts.1.1))
+    (since-whole (kind_of flow p) k b before c.1 each parts.1.1))
 
 -- a node that stands for all events inside f that have a state stands for the chain of this one alone
 pub chain-first : (flow : Dataflow) (p : ℕ) (f : Front) (state : State) (node : Node)
@@ -126,7 +164,8 @@ pub chain-first : (flow : Dataflow) (p : ℕ) (f : Front) (state : State) (node 
     → IsOfChain flow p f state [] node
 chain-first flow p f state node of = λ before all on first changes.
     let b = node_frontier flow p f in
-    let Inside : Stamp → Type 0 = λ s. (b s ≡ true) × (in_domain (bounds_of flow p) s ≡ true) in
-    of b before
-    (subst (EachDelivery Inside) all (deliveries-inside Inside b (λ s i. (i, (and_parts (in_domain (bounds_of flow p) s) (inside f s) i).0)) before))
-    on (subst (λ us. IsStateOf (kind_of flow p) us state) all first)
+    of b before (in-domain flow p f before all) on (state-whole (kind_of flow p) b before state all first)
+
+pub one_state_is_a_chain : OneStateIsAChain
+one_state_is_a_chain flow p f state node chain = λ before all on is.
+    chain before all on (state-inside (kind_of flow p) (node_frontier flow p f) before state all is) tt

@@ -1,5 +1,6 @@
 pub mod EventLaws
 pub mod ForgettingLaws
+pub mod InsideLaws
 pub mod KindCases
 pub mod LoopCases
 pub mod MakingLaws
@@ -12,5 +13,6 @@ pub mod RestoringLaws
 pub mod ChangingLaws
 pub mod SameTable
 pub mod SendsLaws
+pub mod StateLaws
 pub mod TableCases
 pub mod ChainLaws

@@ -10,6 +10,7 @@ ghost use Rattle.fw_flow.specs.Dataflow.{Dataflow, System, batches_of, bounds_of
 ghost use Rattle.fw_flow.specs.NodeFunction.{delivered_recs, sends};
 ghost use Rattle.fw_flow.specs.WellFormed.{IsWellFormed};
 ghost use Rattle.fw_model.specs.Filtering.{events_inside};
+ghost use Rattle.fw_model.specs.Order.{notified_stamps};
 ghost use Rattle.fw_model.specs.Told.{is_told, AreToldInside, EachDelivery, IsSumOfTold};
 ghost use Rattle.fw_frontier.specs.Frontier.{Within};
 ghost use Rattle.fw_node.specs.Answers.{without_causes};
@@ -264,6 +265,28 @@ impl Node {
             return Err(AllocError);
         }
         self.table.totals_since(self.alloc, f, &self.bounds)
+    }
+
+    /// The state of the node's events inside f, as it changed since those inside g: of a total and a ledger the totals of the keys
+    /// alone to which something came outside g, and of a sequence how many messages it sent in all. Taken in by `take_changes`, it
+    /// makes a node of the events inside g one of those inside f. What is settled lies inside g, and g inside f; a sequence was
+    /// notified of nothing outside f. The outside stamps are of the domain. How much was sent at which stamps it does not tell.
+    ///
+    /// It costs the keys, and the times that are not settled. It fails where memory is refused, now or earlier.
+    pub fn state_since(&self, g: &Front, f: &Front) -> Result<State, AllocError>
+        requires earlier { AllByRecursion (λ o. in_domain self.now.bounds o ≡ true) g.now }
+        requires later { AllByRecursion (λ o. in_domain self.now.bounds o ≡ true) f.now }
+        ensures state { (flow : Dataflow) (p : ℕ) (settled : List ℕ → Bool) (before : List Event)
+            → Within settled (node_frontier flow p g.now) → Within (node_frontier flow p g.now) (node_frontier flow p f.now)
+            → (kind_of flow p ≡ kind.Sequence → AllByRecursion (λ t. node_frontier flow p f.now t ≡ true) (notified_stamps before))
+            → IsTableOf flow p settled self.now before
+            → IfOk result (IsStateSince (kind_of flow p) (node_frontier flow p g.now) (events_inside (node_frontier flow p f.now) before)) }
+        ensures stays { IsTrue self.now.refused → IsErr result }
+    {
+        if self.refused {
+            return Err(AllocError);
+        }
+        self.table.state_since(self.alloc, g, f, &self.bounds)
     }
 
     /// Takes in what changed since the events that the node stands for, all of them settled: then it stands for all events, and

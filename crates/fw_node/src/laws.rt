@@ -1,4 +1,6 @@
-//! The laws of answers: what a node answers from what came to it is what the node function gives for its events.
+//! The laws of answers: what a node answers from what came to it is what the node function gives for its events; and of a node that
+//! is restored.
+ghost use Rattle.fw_node.specs.ChainOf.{OneStateIsAChain};
 ghost use Rattle.fw_node.specs.LawsOfAnswers.{DeliveriesAnswer, NotificationsAnswer, NoticesAreSends, DeliveriesNeedTheirTime, NotificationsNeedTheirTime, EventsInsideArrive, EventsComeOnInEdges};
 
 /// What a delivery makes a node send that is no sequence follows from what came to it.
@@ -41,4 +43,9 @@ pub fn events_inside_arrive()
 /// Each delivery among the events of a node of a flow is on one of its in-edges, and among those at stamps inside too.
 pub fn events_come_on_in_edges()
     ensures { EventsComeOnInEdges }
+{}
+
+/// A node that stands for a chain of one state alone stands for all events that have this state and whose deliveries lie inside.
+pub fn one_state_is_a_chain()
+    ensures { OneStateIsAChain }
 {}

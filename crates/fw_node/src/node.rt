@@ -10,8 +10,8 @@ use std::alloc::Global;
 /// A node of any kind, which stands for the list of its events.
 ///
 /// A call that takes memory may be refused it: the node still stands for what came before, but for `take_changes`. Where it was
-/// refused to a call that changes the node, each later call that takes memory fails too; `totals_at` and `totals_since` change
-/// nothing, and leave no mark.
+/// refused to a call that changes the node, each later call that takes memory fails too; `totals_at`, `totals_since` and
+/// `state_since` change nothing, and leave no mark.
 pub struct Node {
     pub(crate) table: Table,
     pub(crate) sides: Vec<EdgeId>,

@@ -18,7 +18,7 @@ ghost use Rattle.fw_node.specs.NodeOf.{is_table_of, AreSentAt};
 ghost use Rattle.fw_node.specs.NodeTable.{IsNodeTable, dimension_of};
 ghost use Rattle.fw_node.specs.Past.{Past, IsSumOfTaken, IsToldWhereNotified, notice_list, past_of, totals_kept, totals_changed, with_arrival, with_notice, with_settled};
 ghost use Rattle.fw_node.specs.Sends.{sends_list};
-ghost use Rattle.fw_node.specs.StateOf.{IsStateSince};
+ghost use Rattle.fw_node.specs.StateOf.{IsPastSince, IsStateSince};
 ghost use Rattle.fw_node.specs.TimedTable.{IsSideOf};
 
 use crate::making::{sent_of, totals_of};
@@ -27,7 +27,7 @@ use fw_bag::{Rec, Recs};
 use fw_frontier::{Below, Front, Frontier, State};
 use fw_numbered::{Regroup, Sequence};
 use fw_stateless::Enter;
-use fw_table::Sent;
+use fw_table::{Sent, empty_state};
 use fw_time::{Bounds, Epoch, Nest, SeqNo, Stamp, Time};
 use fw_totals::{Ledger, Total};
 use std::alloc::{AllocError, Global};
@@ -247,6 +247,44 @@ impl Table {
             Table::Total(table) => table.totals_since(&epochs_inside(alloc, f, bounds)?),
             Table::Ledger(table) => table.totals_since(&epochs_inside(alloc, f, bounds)?),
             _ => Ok(Recs::of(Vec::new(alloc))),
+        }
+    }
+
+    /// The state of what came at stamps inside f, as it changed since what came inside g. What is settled lies inside g, and g
+    /// inside f. The bounds are those of the stamps.
+    ///
+    /// It fails where memory is refused.
+    pub(crate) fn state_since(
+        &self,
+        alloc: Global,
+        g: &Front,
+        f: &Front,
+        bounds: &Bounds,
+    ) -> Result<State, AllocError>
+        requires shape { length bounds.now.greatest ≡ dimension_of self.now }
+        requires earlier { AllByRecursion (λ o. in_domain bounds.now o ≡ true) g.now }
+        requires later { AllByRecursion (λ o. in_domain bounds.now o ≡ true) f.now }
+        ensures { (flow : Dataflow) (kind : Kind) (past : Past) → IsNodeTable flow self.now kind past
+            → Within past.settled (inside g.now) → Within (inside g.now) (inside f.now)
+            → IfOk result (IsPastSince kind (inside g.now) (inside f.now) past) }
+    {
+        match self {
+            Table::Total(table) => {
+                let since = epochs_inside(alloc, g, bounds)?;
+                let until = epochs_inside(alloc, f, bounds)?;
+                table.state_since(&since, &until)
+            }
+            Table::Ledger(table) => {
+                let since = epochs_inside(alloc, g, bounds)?;
+                let until = epochs_inside(alloc, f, bounds)?;
+                table.state_since(&since, &until)
+            }
+            Table::Sequence(table) => {
+                let since = epochs_inside(alloc, g, bounds)?;
+                let until = epochs_inside(alloc, f, bounds)?;
+                Ok(table.state_since(&since, &until))
+            }
+            _ => Ok(empty_state(alloc)),
         }
     }
 

@@ -4,11 +4,12 @@ ghost use Rattle.fw_time.specs.Stamp.{same};
 ghost use Rattle.fw_bag.specs.Arrivals.{Arrival, arrival, recs_arrived_at, AreInside};
 ghost use Rattle.fw_bag.specs.Keyed.{sorted_recs};
 ghost use Rattle.fw_frontier.specs.Below.{is_below};
+ghost use Rattle.fw_frontier.specs.declared.state.Entries.TheVariants.{Totals};
 ghost use Rattle.fw_numbered.specs.Numbers.{at_numbers, recs_numbered};
 
-use fw_bag::{Bag, Rec};
-use fw_frontier::Below;
-use fw_table::{Content, SentRecs, keep_outside, put_at};
+use fw_bag::{Bag, Rec, Recs};
+use fw_frontier::{Below, State};
+use fw_table::{Content, SentRecs, keep_outside, put_at, state_of};
 use fw_time::Epoch;
 use std::alloc::{AllocError, Global};
 use std::collections::BTreeMap;
@@ -178,5 +179,14 @@ impl Sequence {
         ensures live { self.new.refused ≡ self.old.refused }
     {
         keep_outside(&mut self.held, f);
+    }
+
+    /// The state at f as it changed since g: how many messages it sent in all. That is the state at f where it was notified of no
+    /// epoch outside f. How many it sent at each epoch it does not tell. It takes no memory.
+    pub fn state_since(&self, _g: &Below, _f: &Below) -> State
+        ensures { (gone : List ℕ → Bool) (came : List Arrival) (n : ℕ) → IsSequence gone self.now came n
+            → result ≡ record { sent = n; sends = []; entries = Totals [] } }
+    {
+        state_of(self.alloc, self.next, Recs::of(Vec::new(self.alloc)))
     }
 }

@@ -130,6 +130,29 @@ module _ {T : Type 0} (cmp : T → T → Ordering) (coords : T → Stamp) (apart
       none (λ k. empty k ∙ sym (ap (sum_at k) (none_there rest))) (times_kept (λ s. not (inside s)) came times) q
       ∙ ap (sum_at q) (where_both inside after came)
 
+  -- what came since a frontier that holds what is settled came since what is settled
+  later_cases : (a b i : Bool) → (i ≡ true → b ≡ true) → ((a && not b) && not i) ≡ (a && not b)
+  later_cases false b i h = refl
+  later_cases true true i h = refl
+  later_cases true false true h = sym (ap not (h refl))
+  later_cases true false false h = refl
+
+  later : (inside before after : Stamp → Bool) → ((s : Stamp) → inside s ≡ true → before s ≡ true) → (came : List Arrival)
+      → AllByRecursion (λ (a : Arrival). since inside (since before after) a.at ≡ since before after a.at) came
+  later inside before after sub [] = tt
+  later inside before after sub (a ∷ came) = (later_cases (after a.at) (before a.at) (inside a.at) (sub a.at), later inside before after sub came)
+
+  -- taken into no totals, the times inside a frontier, but for those inside an earlier one, give the totals of what came since that
+  pub gathers_between : (earlier into : T → Bool) (inside before after : Stamp → Bool) → ((t : T) → before (coords t) ≡ earlier t) → ((t : T) → after (coords t) ≡ into t)
+      → ((s : Stamp) → inside s ≡ true → before s ≡ true) → (table : BTreeMap T Sums) (came : List Arrival)
+      → IsStrictlySortedBy cmp (keys_of table.entries) → IsTable cmp coords holds_sums table (arrivals_inside (λ s. not (inside s)) came)
+      → (none : BTreeMap ℕ (Option ℕ)) → ((q : ℕ) → found none q ≡ None) → AreTimes coords came → (q : ℕ)
+      → gathered (λ t. into t && not (earlier t)) q (found none q) table.entries ≡ sum_at q (recs_inside (since before after) came)
+  gathers_between earlier into inside before after at_g at_f sub table came sorted held none empty times q =
+      gathers_since (λ t. into t && not (earlier t)) inside (since before after)
+      (λ t. ap (λ b. b && not (before (coords t))) (at_f t) ∙ ap (λ b. into t && not b) (at_g t)) table came sorted held none empty times q
+      ∙ ap (sum_at q) (where_alike (λ a. since inside (since before after) a.at) (λ a. since before after a.at) came (later inside before after sub came))
+
 -- ---- with the totals before them
 
 module _ (totals : BTreeMap ℕ (Option ℕ)) (es : List (ℕ × ℕ)) (now all : List Rec) (held : (q : ℕ) → lookup (is_at (nat_cmp q)) es ≡ sum_at q now)

@@ -4,6 +4,7 @@ ghost use Rattle.fw_bag.specs.Arrivals.{Arrival, recs_of, arrival, recs_inside, 
 ghost use Rattle.fw_bag.specs.Keyed.{plus, value_sum};
 ghost use Rattle.fw_frontier.specs.Below.{is_below};
 ghost use Rattle.fw_frontier.specs.Frontier.{Within};
+ghost use Rattle.fw_frontier.specs.declared.state.Entries.TheVariants.{Totals};
 ghost use Rattle.fw_table.specs.Sums.{sums_at_keys, sums_by_key};
 ghost use Rattle.fw_totals.specs.Ledger.{IsLedger};
 ghost use Rattle.fw_totals.specs.Totals.{WritesOver};
@@ -11,8 +12,8 @@ ghost use Rattle.fw_totals.specs.Totals.{WritesOver};
 use crate::settling::Settling;
 use crate::totals::{place_at, restored, write};
 use fw_bag::{Rec, Recs};
-use fw_frontier::Below;
-use fw_table::Sent;
+use fw_frontier::{Below, State};
+use fw_table::{Sent, state_of};
 use fw_time::{SeqNo, Time};
 use std::alloc::{AllocError, Global};
 use std::collections::BTreeMap;
@@ -155,6 +156,29 @@ impl Ledger {
             return Err(AllocError);
         }
         self.table.totals_since(f)
+    }
+
+    /// The state at f of the keys alone to which something came outside g: their totals of what came inside f, in ascending order
+    /// of the keys. What is settled lies inside g, and g inside f. How much was sent it does not tell.
+    ///
+    /// It costs the keys, and the times that are not settled. It fails where memory is refused, now or earlier.
+    pub fn state_since(&self, g: &Below, f: &Below) -> Result<State, AllocError>
+        ensures state { (inside before after : List ℕ → Bool) (came : List Arrival)
+            → ((n : ℕ) → before (n ∷ []) ≡ is_below g.now.until n) → Within inside before
+            → ((n : ℕ) → after (n ∷ []) ≡ is_below f.now.until n) → Within before after
+            → IsLedger inside self.now came
+            → IfOk result (λ state. state ≡ record {
+              sent = 0;
+              sends = [];
+              entries = Totals (sums_at_keys (recs_inside (λ s. after s && not (before s)) came) (recs_inside after came));
+            }) }
+        ensures stays { IsTrue self.now.refused → IsErr result }
+    {
+        if self.refused {
+            return Err(AllocError);
+        }
+        let totals = self.table.totals_between(g, f)?;
+        Ok(state_of(self.alloc, 0, totals))
     }
 
     /// Writes totals over those of what is settled, where nothing came outside. It is for restoring.

@@ -4,8 +4,8 @@
 //! Beside both they keep the running total of each key.
 //!
 //! Where memory is refused a table still is that of what came before, but one that is being restored by `take_changes`. Where
-//! it was refused to a call that changes the table, each later call that takes memory fails; `totals_at` and `totals_since`
-//! change nothing, and leave no mark.
+//! it was refused to a call that changes the table, each later call that takes memory fails; `totals_at`, `totals_since` and
+//! `state_since` change nothing, and leave no mark.
 #![tactic(auto)]
 
 pub mod laws;

@@ -52,6 +52,24 @@ fn take_all<T: Logical>(
     Ok(())
 }
 
+// Takes the sums of the times inside, but of those inside an earlier frontier, into the totals.
+fn take_since<T: Logical>(
+    totals: &mut BTreeMap<u64, Option<u64>>,
+    by_time: &BTreeMap<T, Sums>,
+    g: &T::Frontier,
+    f: &T::Frontier,
+) -> Result<(), AllocError>
+    ensures { OnOk result ((q : ℕ) → found totals.new q
+        ≡ gathered (λ t. T.Frontier.inside f.now t && not (T.Frontier.inside g.now t)) q (found totals.old q) by_time.now.entries) }
+{
+    for (t, sums) in by_time {
+        if f.contains(t) && !g.contains(t) {
+            take_in(totals, &sums.by_key)?;
+        }
+    }
+    Ok(())
+}
+
 /// The sums of each key at each time outside what is settled, and the totals of what is settled.
 #[derive(Drop)]
 pub struct Settling<T: Ord> {
@@ -150,6 +168,26 @@ impl<T: Logical> Settling<T> {
         make_rooms::<T>(&mut changed, &self.by_time, f)?;
         take_all::<T>(&mut changed, &self.by_time, f)?;
         let recs = added(self.alloc, &self.settled, &changed)?;
+        Ok(Recs::of(recs))
+    }
+
+    /// The totals of what came inside f, of the keys alone to which something came outside g; in ascending order of the keys. What
+    /// is settled lies inside g, and g inside f.
+    ///
+    /// It costs the keys, and the times that are not settled. It fails where memory is refused.
+    pub fn totals_between(&self, g: &T::Frontier, f: &T::Frontier) -> Result<Recs, AllocError>
+        ensures { (inside before after : List ℕ → Bool) (came : List Arrival)
+            → ((t : T) → before (T.coords t) ≡ T.Frontier.inside g.now t) → Within inside before
+            → ((t : T) → after (T.coords t) ≡ T.Frontier.inside f.now t) → Within before after
+            → IsSettling T.cmp T.coords inside self.now came
+            → IfOk result (λ totals. totals ≡ sums_at_keys (recs_inside (λ s. after s && not (before s)) came) (recs_inside after came)) }
+    {
+        let settled = shown(self.alloc, &self.settled)?;
+        let mut totals = restored(self.alloc, &settled)?;
+        take_all::<T>(&mut totals, &self.by_time, g)?;
+        let mut later = BTreeMap::new(self.alloc);
+        take_since::<T>(&mut later, &self.by_time, g, f)?;
+        let recs = added(self.alloc, &totals, &later)?;
         Ok(Recs::of(recs))
     }
 

@@ -1,7 +1,7 @@
 //! The step of a collection.
 ghost use Rattle.std.specs.Prelude.{◌≡◌, ◌↔◌, ◌<◌, ◌≢◌, ℕ, false, length, Option, Ok, IsTrue, IfOk, OnOk};
 ghost use Rattle.fw_collect.specs.Drops.{watermark};
-ghost use Rattle.fw_collect.specs.Dropped.{AreOfDifferentNodes, log_outside};
+ghost use Rattle.fw_collect.specs.Dropped.{log_outside};
 ghost use Rattle.fw_flow.specs.declared.step.Step.TheVariants as steps;
 ghost use Rattle.fw_frontier.specs.Front.{same_front};
 ghost use Rattle.fw_keep.specs.Stored.{Records, IsStored};
@@ -109,7 +109,6 @@ fn raise_base(
 
 // What is given up goes.
 fn drop_from(drops: &Drops, parts: &mut Parts)
-    requires { AreOfDifferentNodes drops.now.records.items }
     ensures { AreGivenUp drops.now parts.old parts.new }
 {
     apply(drops, &mut parts.keep, &mut parts.sources);

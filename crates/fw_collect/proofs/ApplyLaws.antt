@@ -1,14 +1,14 @@
 -- What the loops of a collection leave.
-use Rattle.std.proofs.Common.{◌≡◌, ℕ, zero, suc, ◌+◌, ◌-◌, ◌<◌, nat_lt, Bool, true, false, not, ◌&&◌, ◌||◌, ◌==◌, cond, List, [], ◌∷◌, length, map, take, get_or, set, length-set, Option, refl, sym, ap, ◌∙◌, inl, inr, arith}
+use Rattle.std.proofs.Common.{◌≡◌, ℕ, ◌+◌, ◌-◌, ◌<◌, nat_lt, Bool, true, false, not, ◌&&◌, ◌||◌, ◌==◌, cond, List, [], ◌∷◌, ◌++◌, length, map, take, get_or, set, length-set, Option, refl, sym, ap, ◌∙◌, inl, inr, arith}
 use Rattle.std.proofs.lemmas.Bool.{cases_Bool, cases_lt, cases_eq, eq-eqb, eqb-true, ne_eqb, true≢false, false_from_ne_true, cond-true, cond-false, not_from_true, not_from_false, or_left, or_right, or_from}
-use Rattle.std.proofs.lemmas.List.{get_or-set_same, get_or-set_other, get_or_past}
+use Rattle.std.proofs.lemmas.List.{get_or-set_same, get_or-set_other, get_or_past, take_more}
 use Rattle.std.proofs.lemmas.List.Folds.{list_any-append, list_any_more}
-use Rattle.std.specs.List.{AllByRecursion, filter, list_any}
+use Rattle.std.specs.List.{filter, list_any}
 use Rattle.std.proofs.Math.Bool.{or-false}
 use Rattle.fw_lemmas.proofs.Bools.{or_swap}
 use Rattle.fw_lemmas.proofs.Filters.{filter-in, filter-out}
 use Rattle.fw_keep.specs.declared.entry.Entry.{Entry}
-use Rattle.fw_keep.specs.Catalogue.{KeepState, is_id_among, has_entry, ids_of, without}
+use Rattle.fw_keep.specs.Catalogue.{KeepState, AreDistinct, is_id_among, has_entry, ids_of, without}
 use Rattle.fw_keep.specs.Entry.{is_checkpoint, is_checkpoint_below, is_entry_below}
 use Rattle.fw_keep.specs.Newest.{is_checkpoint_of, is_forgotten_below, stay_from, whole_or}
 use Rattle.fw_keep.specs.Stored.{Records, IsStored}
@@ -19,7 +19,7 @@ use Rattle.fw_flow.specs.declared.event.Message.{Message}
 use Rattle.fw_edge.specs.Messages.{MessagesState}
 use Rattle.fw_border.specs.Sources.{SourceState, unused_source, source_at, with_source, given_up}
 use Rattle.fw_collect.specs.declared.drops.OfNode.{OfNode}
-use Rattle.fw_collect.specs.Dropped.{AreOfDifferentNodes, Forgets, is_below_some, log_at_place, log_outside, with_log_outside, log_left, is_inside_edge, is_inside_node, source_left}
+use Rattle.fw_collect.specs.Dropped.{Forgets, is_below_some, log_at_place, log_outside, with_log_outside, log_left, is_inside_edge, is_inside_node, source_left}
 
 or_none : (a b : Bool) → (a || b) ≡ false → (a ≡ false) × (b ≡ false)
 or_none true b h = absurd (true≢false h)
@@ -161,43 +161,88 @@ stay-kept p f whole last goes stays (e ∷ es) =
           ∙ ap (λ n. cond other (stay_from p f whole last es) (cond below n here)) (stay-kept p f here last goes stays es)
     ]
 
--- of entries of another node none goes
-none-below : (p : ℕ) (keep : KeepState) (e : Entry) (records : List OfNode) → AllByRecursion (λ (d : OfNode). (p == d.node) ≡ false) records → (e.node == p) ≡ true
-    → is_below_some records keep e ≡ false
-none-below p keep e [] apart own = refl
-none-below p keep e (d ∷ ds) apart own =
-    ap (λ b. ((b && is_checkpoint_below d.front e.written) && nat_lt e.id (stay_from d.node d.front 0 keep.next keep.entries)) || is_below_some ds keep e)
-    (ap (λ n. n == d.node) (eqb-true e.node p own) ∙ apart.0)
-    ∙ none-below p keep e ds apart.1 own
+-- what the fronts beside these nodes leave, one after the other
+left_below : List OfNode → KeepState → KeepState
+left_below [] keep = keep
+left_below (d ∷ ds) keep = left_below ds (without (is_forgotten_below d.node d.front keep) keep)
 
-not-among : (p : ℕ) (ds : List OfNode) (i : ℕ) (d : OfNode) → i < length ds → is_id_among p (map (λ (x : OfNode). x.node) ds) ≡ false → ((get_or ds i d).node == p) ≡ false
-not-among p [] i d l none = absurd (omega arith)
-not-among p (x ∷ xs) zero d l none = (or_none (x.node == p) (is_id_among p (map (λ (y : OfNode). y.node) xs)) none).0
-not-among p (x ∷ xs) (suc i) d l none = not-among p xs i d (omega arith) (or_none (x.node == p) (is_id_among p (map (λ (y : OfNode). y.node) xs)) none).1
+left-entries : (ds : List OfNode) (keep : KeepState) → (left_below ds keep).entries ≡ filter (λ e. not (is_below_some ds keep e)) keep.entries
+unfolding left_below
+left-entries [] keep = sym (filter_nothing keep.entries)
+left-entries (d ∷ ds) keep =
+    let goes : Entry → Bool = is_forgotten_below d.node d.front keep in
+    let left : KeepState = without goes keep in
+    left-entries ds left ∙ filter_then goes (is_below_some ds left) (is_below_some (d ∷ ds) keep) (λ e. refl) keep.entries
 
--- where the nodes are different each is none of those before it
-others-before : (ds : List OfNode) (i : ℕ) (d : OfNode) → i < length ds → AreOfDifferentNodes ds → AllByRecursion (λ (x : OfNode). ((get_or ds i d).node == x.node) ≡ false) (take i ds)
-others-before [] i d l once = absurd (omega arith)
-others-before (x ∷ xs) zero d l once = tt
-others-before (x ∷ xs) (suc i) d l once = (not-among x.node xs i d (omega arith) once.0, others-before xs i d (omega arith) once.1)
+left-next : (ds : List OfNode) (keep : KeepState) → (left_below ds keep).next ≡ keep.next
+unfolding left_below
+left-next [] keep = refl
+left-next (d ∷ ds) keep = left-next ds (without (is_forgotten_below d.node d.front keep) keep)
+
+-- one front more finds what the others left
+below-last : (ds : List OfNode) (d : OfNode) (keep : KeepState) (e : Entry)
+    → is_below_some (ds ++ d ∷ []) keep e ≡ (is_below_some ds keep e || is_forgotten_below d.node d.front (left_below ds keep) e)
+unfolding left_below
+below-last [] d keep e = or-false (is_forgotten_below d.node d.front keep e)
+below-last (x ∷ ds) d keep e =
+    let goes : Entry → Bool = is_forgotten_below x.node x.front keep in
+    let left : KeepState = without goes keep in
+    ap (λ b. goes e || b) (below-last ds d left e)
+    ∙ sym (or-assoc (goes e) (is_below_some ds left e) (is_forgotten_below d.node d.front (left_below ds left) e))
 
 -- one call more of those that take checkpoints out
-pub forgets_below_more : (records : List OfNode) (i : ℕ) (d : OfNode) (first now next : KeepState) → i < length records → AreOfDifferentNodes records
+pub forgets_below_more : (records : List OfNode) (i : ℕ) (d : OfNode) (first now next : KeepState) → i < length records
     → Forgets (is_below_some (take i records) first) first now
     → next ≡ without (is_forgotten_below (get_or records i d).node (get_or records i d).front now) now
     → ((all : Option Records) → IsStored now all → IsStored next all)
     → Forgets (is_below_some (take (i + 1) records) first) first next
-forgets_below_more records i d first now next l once so_far is stored =
+forgets_below_more records i d first now next l so_far is stored =
     let one : OfNode = get_or records i d in
-    let goes : Entry → Bool = is_below_some (take i records) first in
-    let before = others-before records i d l once in
-    let same : (e : Entry) → is_forgotten_below one.node one.front now e ≡ is_forgotten_below one.node one.front first e = λ e.
+    let earlier : List OfNode = take i records in
+    let goes : Entry → Bool = is_below_some earlier first in
+    let found : ℕ → List Entry → Entry → Bool = λ n es e. is_entry_below one.node one.front e && nat_lt e.id (stay_from one.node one.front 0 n es) in
+    let same : (e : Entry) → is_forgotten_below one.node one.front now e ≡ is_forgotten_below one.node one.front (left_below earlier first) e = λ e.
     ap (λ (k : KeepState). is_forgotten_below one.node one.front k e) so_far.left
-    ∙ ap (λ n. is_entry_below one.node one.front e && nat_lt e.id n)
-    (stay-kept one.node one.front 0 first.next goes (λ x own. none-below one.node first x (take i records) before own) first.entries) in
+    ∙ ap (λ es. found first.next es e) (sym (left-entries earlier first))
+    ∙ ap (λ n. found n (left_below earlier first).entries e) (sym (left-next earlier first)) in
     forgets_then goes (is_forgotten_below one.node one.front now) (is_below_some (take (i + 1) records) first) first now next
-    (λ e. list_any_more (λ (x : OfNode). is_forgotten_below x.node x.front first e) records i d l ∙ ap (λ b. goes e || b) (sym (same e)))
+    (λ e. ap (λ ds. is_below_some ds first e) (take_more records i d l) ∙ below-last earlier one first e ∙ ap (λ b. goes e || b) (sym (same e)))
     so_far (forgets-one (is_forgotten_below one.node one.front now) now next is stored)
+
+-- ---- checkpoints of different nodes
+
+-- the fronts are of different nodes
+abbrev pub AreOfDifferentNodes : List OfNode → Type 0
+AreOfDifferentNodes fronts = AreDistinct (map (λ (d : OfNode). d.node) fronts)
+
+-- what goes of a node's entries does not change where entries of another one went
+others-alike : (d : OfNode) (keep : KeepState) (e : Entry) (x : OfNode) → (x.node == d.node) ≡ false
+    → is_forgotten_below x.node x.front (without (is_forgotten_below d.node d.front keep) keep) e ≡ is_forgotten_below x.node x.front keep e
+others-alike d keep e x apart =
+    ap (λ n. is_entry_below x.node x.front e && nat_lt e.id n)
+    (stay-kept x.node x.front 0 keep.next (is_forgotten_below d.node d.front keep)
+    (λ other own.
+    ap (λ b. (b && is_checkpoint_below d.front other.written) && nat_lt other.id (stay_from d.node d.front 0 keep.next keep.entries))
+    (ap (λ n. n == d.node) (eqb-true other.node x.node own) ∙ apart))
+    keep.entries)
+
+each-alike : (d : OfNode) (keep : KeepState) (e : Entry) (xs : List OfNode) → is_id_among d.node (map (λ (x : OfNode). x.node) xs) ≡ false
+    → list_any (λ (x : OfNode). is_forgotten_below x.node x.front (without (is_forgotten_below d.node d.front keep) keep) e) xs
+    ≡ list_any (λ (x : OfNode). is_forgotten_below x.node x.front keep e) xs
+each-alike d keep e [] apart = refl
+each-alike d keep e (x ∷ xs) apart =
+    let left : KeepState = without (is_forgotten_below d.node d.front keep) keep in
+    let parts = or_none (x.node == d.node) (is_id_among d.node (map (λ (y : OfNode). y.node) xs)) apart in
+    ap (λ b. b || list_any (λ (y : OfNode). is_forgotten_below y.node y.front left e) xs) (others-alike d keep e x parts.0)
+    ∙ ap (λ b. is_forgotten_below x.node x.front keep e || b) (each-alike d keep e xs parts.1)
+
+-- where the nodes are different each front finds of its node what was there at first
+pub below-each : (ds : List OfNode) (keep : KeepState) (e : Entry) → AreOfDifferentNodes ds
+    → is_below_some ds keep e ≡ list_any (λ (d : OfNode). is_forgotten_below d.node d.front keep e) ds
+below-each [] keep e once = refl
+below-each (d ∷ ds) keep e once =
+    ap (λ b. is_forgotten_below d.node d.front keep e || b)
+    (below-each ds (without (is_forgotten_below d.node d.front keep) keep) e once.1 ∙ each-alike d keep e ds once.0)
 
 -- ---- events
 

@@ -39,9 +39,9 @@ use Rattle.fw_collect.specs.declared.drops.AtNode.{AtNode}
 use Rattle.fw_collect.specs.declared.drops.OfNode.{OfNode}
 use Rattle.fw_collect.specs.declared.drops.Drops.{Drops}
 use Rattle.fw_collect.specs.Drops.{IsPlanned, of_node, without_batches, dropped_records, dropped_events, dropped_messages, dropped_batches, given_up_event}
-use Rattle.fw_collect.specs.Dropped.{AreOfDifferentNodes, is_dropped, is_below_some, is_at_some, is_inside_edge, is_inside_node, log_outside, log_left, source_left}
+use Rattle.fw_collect.specs.Dropped.{is_dropped, is_below_some, is_at_some, is_inside_edge, is_inside_node, log_outside, log_left, source_left}
 use Rattle.fw_collect.specs.LawsOfCollections.{is_written_given_up, is_entry_given_up, DropsWhatIsGivenUp, DropsMessagesBelowReceivers, DropsBatchesOfInputs, GoesWith, LogsHoldWhatIsOutside, InputsHoldWhatIsOutside}
-use Rattle.fw_collect.proofs.ApplyLaws.{filter_then, filter_nothing, cond_ap}
+use Rattle.fw_collect.proofs.ApplyLaws.{AreOfDifferentNodes, below-each, filter_then, filter_nothing, cond_ap}
 
 -- ---- one place of those that pass a test
 
@@ -99,6 +99,34 @@ policy-past : (flow : Dataflow) (p : ℕ) → length flow.nodes ≤ p → takes_
 unfolding policy_of
 policy-past flow p l = ap (λ (n : Node). takes_checkpoints n.policy) (get_or_past flow.nodes p idle_node l)
 
+-- ---- the nodes of a plan
+
+ascend-from : (a n : ℕ) → AllByRecursion (λ p. a ≤ p) (range_with_len a n)
+ascend-from a zero = tt
+ascend-from a (suc n) = (omega arith, each-weaker _ _ (range_with_len (a + 1) n) (λ p l. omega arith) (ascend-from (a + 1) n))
+
+none-of : (p : ℕ) (ps : List ℕ) → AllByRecursion (λ q. p < q) ps → is_id_among p ps ≡ false
+none-of p [] above = refl
+none-of p (q ∷ qs) above = ap (λ b. b || is_id_among p qs) (ne_eqb q p (λ e. omega (arith, above.0, e))) ∙ none-of p qs above.1
+
+picked-once : (test : ℕ → Bool) (a n : ℕ) → AreDistinct (filter test (range_with_len a n))
+picked-once test a zero = tt
+picked-once test a (suc n) =
+    let rest = picked-once test (a + 1) n in
+    cond_both (test a) (a ∷ filter test (range_with_len (a + 1) n)) (filter test (range_with_len (a + 1) n)) AreDistinct
+    (λ k. (none-of a (filter test (range_with_len (a + 1) n)) (each-kept (λ p. a < p) test (range_with_len (a + 1) n) (each-weaker _ _ (range_with_len (a + 1) n) (λ p l. omega arith) (ascend-from (a + 1) n))), rest))
+    (λ k. rest)
+
+map-of_node : (low : List Front) (ps : List ℕ) → map (λ (d : OfNode). d.node) (map (of_node low) ps) ≡ ps
+map-of_node low [] = refl
+map-of_node low (p ∷ ps) = ap (λ qs. p ∷ qs) (map-of_node low ps)
+
+-- a plan has each node once
+planned-once : (flow : Dataflow) (low : List Front) → AreOfDifferentNodes (dropped_records flow low)
+planned-once flow low =
+    let test : ℕ → Bool = λ p. takes_checkpoints (policy_of flow p) in
+    subst AreDistinct (sym (map-of_node low (filter test (node_ids flow)))) (picked-once test 0 (length flow.nodes))
+
 -- ---- entries
 
 any-alike : {X : Type 0} (test look : X → Bool) → ((x : X) → test x ≡ look x) → (xs : List X) → list_any test xs ≡ list_any look xs
@@ -116,7 +144,8 @@ below-planned flow low keep e =
     let test : ℕ → Bool = λ p. takes_checkpoints (policy_of flow p) in
     let before : ℕ → Bool = λ p. nat_lt e.id (stay_from p (front_of low p) 0 keep.next keep.entries) in
     let below : ℕ → Bool = λ p. is_checkpoint_below (front_of low p) e.written in
-    any-map (λ (d : OfNode). is_forgotten_below d.node d.front keep e) (of_node low) (filter test (node_ids flow))
+    below-each (dropped_records flow low) keep e (planned-once flow low)
+    ∙ any-map (λ (d : OfNode). is_forgotten_below d.node d.front keep e) (of_node low) (filter test (node_ids flow))
     ∙ any-alike (λ p. is_forgotten_below p (front_of low p) keep e) (λ p. (e.node == p) && (below p && before p)) (λ p. and-assoc (e.node == p) (below p) (before p)) (filter test (node_ids flow))
     ∙ any-of_place test (λ p. below p && before p) e.node (length flow.nodes) (policy-past flow e.node)
     ∙ ap (λ b. test e.node && ((b && below e.node) && before e.node)) (sym (eq-eqb e.node e.node refl))
@@ -211,34 +240,6 @@ drops_what_is_given_up flow low keep drops is =
     (same_tests (is_at_some events e) (is-event_given_up flow low e.node e.written) (events-sound flow low keep.entries e) complete)
     ∙ both-are flow low keep e e.written refl)
     (events-complete flow low keep.entries)
-
--- ---- the nodes of a plan
-
-ascend-from : (a n : ℕ) → AllByRecursion (λ p. a ≤ p) (range_with_len a n)
-ascend-from a zero = tt
-ascend-from a (suc n) = (omega arith, each-weaker _ _ (range_with_len (a + 1) n) (λ p l. omega arith) (ascend-from (a + 1) n))
-
-none-of : (p : ℕ) (ps : List ℕ) → AllByRecursion (λ q. p < q) ps → is_id_among p ps ≡ false
-none-of p [] above = refl
-none-of p (q ∷ qs) above = ap (λ b. b || is_id_among p qs) (ne_eqb q p (λ e. omega (arith, above.0, e))) ∙ none-of p qs above.1
-
-picked-once : (test : ℕ → Bool) (a n : ℕ) → AreDistinct (filter test (range_with_len a n))
-picked-once test a zero = tt
-picked-once test a (suc n) =
-    let rest = picked-once test (a + 1) n in
-    cond_both (test a) (a ∷ filter test (range_with_len (a + 1) n)) (filter test (range_with_len (a + 1) n)) AreDistinct
-    (λ k. (none-of a (filter test (range_with_len (a + 1) n)) (each-kept (λ p. a < p) test (range_with_len (a + 1) n) (each-weaker _ _ (range_with_len (a + 1) n) (λ p l. omega arith) (ascend-from (a + 1) n))), rest))
-    (λ k. rest)
-
-map-of_node : (low : List Front) (ps : List ℕ) → map (λ (d : OfNode). d.node) (map (of_node low) ps) ≡ ps
-map-of_node low [] = refl
-map-of_node low (p ∷ ps) = ap (λ qs. p ∷ qs) (map-of_node low ps)
-
--- a plan has each node once
-pub planned-once : (flow : Dataflow) (low : List Front) (entries : List Entry) (drops : Drops) → IsPlanned flow low entries drops → AreOfDifferentNodes drops.records.items
-planned-once flow low entries drops is =
-    let test : ℕ → Bool = λ p. takes_checkpoints (policy_of flow p) in
-    subst AreOfDifferentNodes (sym is.records) (subst AreDistinct (sym (map-of_node low (filter test (node_ids flow)))) (picked-once test 0 (length flow.nodes)))
 
 -- ---- messages and batches
 

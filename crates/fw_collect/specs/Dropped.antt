@@ -1,5 +1,5 @@
 -- What is left where a collection gives things up.
-use Rattle.std.specs.Prelude.{◌≡◌, ℕ, Bool, false, not, ◌&&◌, ◌||◌, ◌==◌, List, [], ◌∷◌, map, filter, slice_index_or, slice_set, Option}
+use Rattle.std.specs.Prelude.{◌≡◌, ℕ, Bool, false, not, ◌&&◌, ◌||◌, ◌==◌, List, [], ◌∷◌, filter, slice_index_or, slice_set, Option}
 use Rattle.std.specs.List.{list_any}
 use Rattle.fw_time.specs.Stamp.{Stamp}
 use Rattle.fw_frontier.specs.Front.{Front, inside}
@@ -8,7 +8,7 @@ use Rattle.fw_model.specs.Filtering.{messages_outside}
 use Rattle.fw_edge.specs.Messages.{MessagesState}
 use Rattle.fw_border.specs.Sources.{SourceState}
 use Rattle.fw_keep.specs.declared.entry.Entry.{Entry}
-use Rattle.fw_keep.specs.Catalogue.{KeepState, AreDistinct, is_id_among, has_entry}
+use Rattle.fw_keep.specs.Catalogue.{KeepState, is_id_among, has_entry, without}
 use Rattle.fw_keep.specs.Entry.{is_at}
 use Rattle.fw_keep.specs.Newest.{is_forgotten_below}
 use Rattle.fw_keep.specs.Stored.{Records, IsStored}
@@ -18,9 +18,12 @@ use Rattle.fw_collect.specs.declared.drops.OfNode.{OfNode}
 
 -- ---- entries
 
--- whether the entry of a catalogue goes where the checkpoints are forgotten that lie strictly within the fronts beside these nodes
+-- whether the entry of a catalogue goes where the checkpoints are forgotten that lie strictly within the fronts beside these nodes, one front
+-- after the other: each finds what those before it left
 abbrev pub is_below_some : List OfNode → KeepState → Entry → Bool
-is_below_some records keep e = list_any (λ (d : OfNode). is_forgotten_below d.node d.front keep e) records
+is_below_some [] keep e = false
+is_below_some (d ∷ ds) keep e =
+    is_forgotten_below d.node d.front keep e || is_below_some ds (without (is_forgotten_below d.node d.front keep) keep) e
 
 -- whether the entry is an event of one of these nodes at the stamp beside it
 abbrev pub is_at_some : List AtNode → Entry → Bool
@@ -29,10 +32,6 @@ is_at_some events e = list_any (λ (d : AtNode). is_at d.node d.at e) events
 -- whether the entry of a catalogue is given up
 abbrev pub is_dropped : Drops → KeepState → Entry → Bool
 is_dropped drops keep e = is_below_some drops.records.items keep e || is_at_some drops.events.items e
-
--- the fronts are of different nodes
-abbrev pub AreOfDifferentNodes : List OfNode → Type 0
-AreOfDifferentNodes fronts = AreDistinct (map (λ (d : OfNode). d.node) fronts)
 
 -- The entries at which the test gives true are gone, and their ids wait beside those that waited; what a store holds of the
 -- catalogue stays the same.

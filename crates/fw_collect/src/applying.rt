@@ -2,7 +2,7 @@
 ghost use Rattle.std.specs.Prelude.{◌≡◌, ◌↔◌, ◌<◌, ◌-◌, ℕ, IsTrue, length, slice_index_or};
 ghost use Rattle.fw_collect.specs.declared.drops.AtNode.{AtNode as Event};
 ghost use Rattle.fw_border.specs.Sources.{source_at};
-ghost use Rattle.fw_collect.specs.Dropped.{AreOfDifferentNodes, is_below_some, is_at_some, is_dropped, Forgets, source_left};
+ghost use Rattle.fw_collect.specs.Dropped.{is_below_some, is_at_some, is_dropped, Forgets, source_left};
 
 use crate::drops::{AtNode, Drops, OfNode};
 use fw_border::Sources;
@@ -11,11 +11,10 @@ use fw_keep::Keep;
 /// Takes what is given up out of the catalogue and the inputs, and nothing else; the logs are the caller's. The bytes of the
 /// entries that go then wait for a sweep.
 ///
-/// The fronts below which checkpoints go must be of different nodes, as `plan` has them. What is beside an input that is not
-/// there is passed over. It takes no memory, and time in proportion to the entries for each node that takes checkpoints and
-/// each event, those that repeat the one before them left out; and else to the batches that go.
+/// The fronts are gone through in order: where a node is named twice, as no `plan` does, the second finds what the first left.
+/// What is beside an input that is not there is passed over. It takes no memory, and time in proportion to the entries for each
+/// node that takes checkpoints and each event, those that repeat the one before them left out; and else to the batches that go.
 pub fn apply(drops: &Drops, keep: &mut Keep, sources: &mut Sources)
-    requires once { AreOfDifferentNodes drops.now.records.items }
     ensures entries { Forgets (is_dropped drops.now keep.old) keep.old keep.new }
     ensures inputs { length sources.new ≡ length sources.old }
     ensures batches { (s : ℕ) → source_at sources.new s ≡ source_left drops.now.batches.items s (source_at sources.old s) }
@@ -26,9 +25,8 @@ pub fn apply(drops: &Drops, keep: &mut Keep, sources: &mut Sources)
 }
 
 /// Takes the checkpoints of these nodes out that lie strictly within the front beside them and on which none stands that does
-/// not.
+/// not, one node after the other.
 fn forget_records(records: &[OfNode], keep: &mut Keep)
-    requires { AreOfDifferentNodes records.now }
     ensures { Forgets (is_below_some records.now keep.old) keep.old keep.new }
 {
     for record in records {

@@ -8,3 +8,6 @@ pub mod BytesLaws
 pub mod InFlightLaws
 pub mod TakingLaws
 pub mod NewestLaws
+pub mod JoinedLaws
+pub mod ChainLaws
+pub mod FetchLaws

@@ -3,5 +3,6 @@ pub mod Catalogue
 pub mod Chains
 pub mod Newest
 pub mod Stored
+pub mod Joined
 pub mod Inside
 pub mod Faults

@@ -68,6 +68,13 @@ Fetches flow e given (Err (fault.Damaged at bytes)) =
 Fetches flow e given (Err fault.StoreFault) = Unit {0}
 Fetches flow e given (Err fault.NoMemory) = Unit {0}
 
+-- The record was fetched of the entry: it is one that can be the entry's, and where the store tells its records the one under
+-- the entry's id.
+pub record IsFetched (flow : Dataflow) (records : Option Records) (e : Entry) (r : Record) : Type 0 where
+  pub sound : IsSound r
+  pub fits : IsRecordOfEntry flow e r
+  pub told : ForSome records (λ held. map.get held e.id ≡ Some (spelling r))
+
 -- the bytes by which the answer came are those under the id, where the store tells its records
 abbrev pub IsToldUnder : ℕ → Option Records → Result Record KeepFault → Type 0
 IsToldUnder id records (Ok r) = ForSome records (λ held. map.get held id ≡ Some (spelling r))

@@ -1,12 +1,17 @@
 //! The record of an entry is read from the bytes that a store gave.
-ghost use Rattle.std.specs.Prelude.{◌≡◌, length, is_some, IfSome};
+ghost use Rattle.std.specs.Prelude.{◌≡◌, length, is_some, true, IfOk, IfErr, IfSome};
 ghost use Rattle.std.specs.Ordering.{nat_cmp};
+ghost use Rattle.std.specs.List.{AllByRecursion, AllZip};
 ghost use Rattle.std.specs.List.Sorted.{IsBinarySearchResult, IsSearchInRange};
 ghost use Rattle.fw_keep.specs.Catalogue.{AreAscending, IsOnly, has_entry, ids_of};
-ghost use Rattle.fw_keep.specs.Stored.{ReadsAs};
+ghost use Rattle.fw_outside.specs.Outside.{StayIfTold};
+ghost use Rattle.fw_keep.specs.Faults.{keep_faults_after};
+ghost use Rattle.fw_keep.specs.Joined.{IsFetchedAt, IsDamagedAt};
+ghost use Rattle.fw_keep.specs.Stored.{IsStored, ReadsAs};
 
-use crate::{Entry, KeepFault};
+use crate::{Entry, Keep, KeepFault};
 use fw_flow::Flow;
+use fw_outside::Store;
 use fw_record::{Record, RecordFault, decode};
 use std::alloc::Global;
 
@@ -47,4 +52,26 @@ pub(crate) fn read(
             bytes,
         }),
     }
+}
+
+/// The records of the writes of these ids, in order. The reading stops at the first whose bytes are wrong.
+pub(crate) fn fetch_each<K: Store>(
+    alloc: Global,
+    keep: &Keep,
+    flow: &Flow,
+    store: &mut K,
+    ids: &[u64],
+) -> Result<Vec<Record>, KeepFault>
+    requires there { AllByRecursion (λ id. has_entry id keep.now.entries ≡ true) ids.now }
+    requires stored { IsStored keep.now (K.view store.old).records }
+    ensures fetched { IfOk result (λ rs. AllZip (IsFetchedAt flow.now (K.view store.new).records keep.now.entries) ids.now rs.items) }
+    ensures damaged { IfErr result (IsDamagedAt flow.now (K.view store.new).records (K.view store.new).given keep.now.entries ids.now) }
+    ensures stays { StayIfTold (K.view store.old).records (K.view store.new).records }
+    ensures faults { (K.view store.new).faults ≡ keep_faults_after result (K.view store.old).faults }
+{
+    let mut records = Vec::new(alloc);
+    for id in ids {
+        records.push(keep.fetch_one(flow, store, *id)?)?;
+    }
+    Ok(records)
 }

@@ -1,5 +1,6 @@
 //! The catalogue.
-ghost use Rattle.std.specs.Prelude.{◌≡◌, ◌↔◌, ◌+◌, ◌^◌, ◌<◌, ◌++◌, [], ◌∷◌, Option, true, false, IsTrue, IsErrOf, IfOk, OnOk, OnErr, option_map, Contains};
+ghost use Rattle.std.specs.Prelude.{◌≡◌, ◌↔◌, ◌+◌, ◌^◌, ◌<◌, ◌++◌, [], ◌∷◌, Option, true, false, IsTrue, IsErrOf, IfOk, OnOk, OnErr, option_map, Contains, List};
+ghost use Rattle.std.specs.List.{AllZip};
 ghost use Rattle.std.specs.Option.{option_copied};
 ghost use Rattle.std.specs.FinMap as map;
 ghost use Rattle.fw_outside.specs.Outside.{StayIfTold};
@@ -10,12 +11,15 @@ ghost use Rattle.fw_keep.specs.declared.entry.Entry.{Entry as Write};
 ghost use Rattle.fw_keep.specs.Entry.{asked_beside, IsBased, is_in_flight_of, is_withdrawn, is_above, is_at};
 ghost use Rattle.fw_keep.specs.Catalogue.{IsCatalogue, has_entry, oldest, persisted, without};
 ghost use Rattle.fw_keep.specs.Newest.{is_forgotten_below, newest_by};
+ghost use Rattle.fw_keep.specs.Joined.{FetchesOver, GivesJoined, bases_of};
 ghost use Rattle.fw_keep.specs.Stored.{Records, IsEmptyStore, IsStored, Sweeps, Fetches, IsToldUnder, GivesNoDamage, KeepsBytes, HoldsAs, GivesOnly};
 
-use crate::fetch::{entry_at, read};
+use crate::chain::chain_to;
+use crate::fetch::{entry_at, fetch_each, read};
 use crate::going::{
     Above, Below, EventsAt, Going, Lost, Withdrawn, first_from, stay_from, take_out,
 };
+use crate::joined::joined;
 use crate::persist::{acknowledged, persist_first};
 use crate::put::put_new;
 use crate::sweep::remove_waiting;
@@ -237,14 +241,20 @@ impl Keep {
         self.persisted = acknowledged(&self.entries);
     }
 
-    /// The record of a write, which can be one of its node in this flow.
+    /// The record of a write as it was put, which can be one of its node in this flow: where the write stands on another one it holds
+    /// changes (`fetch` joins them).
     ///
     /// # Errors
     ///
     /// `StoreFault` where the store fails, `Damaged` where the bytes that it gives spell no record of the write, and
     /// `NoMemory` where memory is refused, or was refused to a call that changes the catalogue. The store's records stay, where
     /// it still tells them.
-    pub fn fetch<K: Store>(&self, flow: &Flow, store: &mut K, id: u64) -> Result<Record, KeepFault>
+    pub fn fetch_one<K: Store>(
+        &self,
+        flow: &Flow,
+        store: &mut K,
+        id: u64,
+    ) -> Result<Record, KeepFault>
         requires there { IsTrue (has_entry id self.now.entries) }
         requires stored { IsStored self.now (K.view store.old).records }
         ensures fetched { (entry : Write) → Contains self.now.entries entry → entry.id ≡ id
@@ -269,6 +279,40 @@ impl Keep {
             Err(OutFault::Failed) => Err(KeepFault::StoreFault),
             Err(OutFault::NoMemory) => Err(KeepFault::NoMemory),
         }
+    }
+
+    /// What the record of a write spells together with those of the writes on which it stands, as one record. These are read first,
+    /// the lowest first, and the write's own last. The record of a checkpoint is whole where the lowest is: it has the frontier, the
+    /// covers and how many messages were sent of the last, the counts and messages of all, and of each key the last total. Any other
+    /// record is given as it is.
+    ///
+    /// # Errors
+    ///
+    /// `StoreFault` where the store fails, `Damaged` with the first id whose bytes spell no record of its write, which is the last
+    /// that was read, and `NoMemory` where memory is refused, or was refused to a call that changes the catalogue. The store's
+    /// records stay, where it still tells them.
+    pub fn fetch<K: Store>(&self, flow: &Flow, store: &mut K, id: u64) -> Result<Record, KeepFault>
+        requires there { IsTrue (has_entry id self.now.entries) }
+        requires stored { IsStored self.now (K.view store.old).records }
+        ensures fetched { (entry : Write) → Contains self.now.entries entry → entry.id ≡ id
+            → FetchesOver flow.now (K.view store.new).records (K.view store.new).given (bases_of self.now.entries entry) entry result }
+        ensures put { (entry : Write) (under : List Spelled) (own : Spelled) → Contains self.now.entries entry → entry.id ≡ id
+            → AllZip (HoldsAs flow.now (K.view store.new).records) (bases_of self.now.entries entry) under
+            → HoldsAs flow.now (K.view store.new).records entry own → GivesJoined under own result }
+        ensures stays { StayIfTold (K.view store.old).records (K.view store.new).records }
+        ensures faults { (K.view store.new).faults ≡ keep_faults_after result (K.view store.old).faults }
+        ensures refused { IsTrue self.now.refused → IsErrOf result KeepFault.NoMemory }
+    {
+        if self.refused {
+            return Err(KeepFault::NoMemory);
+        }
+        let Some(entry) = entry_at(&self.entries, id) else {
+            unreachable!()
+        };
+        let bases = chain_to(self.alloc, &self.entries, entry.base)?;
+        let under = fetch_each(self.alloc, self, flow, store, &bases)?;
+        let own = self.fetch_one(flow, store, id)?;
+        Ok(joined(self.alloc, &under, own)?)
     }
 
     /// Removes from the store the bytes that are without an entry, the last that came to wait first.

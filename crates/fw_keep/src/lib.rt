@@ -5,11 +5,13 @@
 //! records, there is one under exactly the ids of the entries and those that wait. Each call keeps that.
 #![tactic(auto)]
 
+mod chain;
 mod copies;
 mod entry;
 mod fault;
 mod fetch;
 mod going;
+mod joined;
 mod keep;
 mod newest;
 mod persist;

@@ -29,11 +29,12 @@ use Rattle.fw_keep.specs.declared.entry.Written.{Written}
 use Rattle.fw_keep.specs.declared.entry.Written.TheVariants as written
 use Rattle.fw_keep.specs.Chains.{changes_of, logged_in_all}
 use Rattle.fw_keep.specs.Entry.{IsRecordAs, IsRecordOn}
-use Rattle.fw_keep.specs.Stored.{Records}
+use Rattle.fw_keep.specs.Stored.{Records, IsFetched}
 use Rattle.fw_edge.specs.Messages.{MessagesState}
 use Rattle.fw_node.specs.declared.node.Node.{Node}
 use Rattle.fw_rollback.specs.declared.parts.Parts.{Parts}
-use Rattle.fw_rollback.specs.Asked.{IsFetched, asked_of, first_checkpoint, events_of, given_of, is_asked_for}
+use Rattle.fw_rollback.specs.Asked.{asked_of, first_checkpoint, first_up_to, events_of, given_of, is_asked_for}
+use Rattle.fw_rollback.proofs.BuildLaws.{up_to-parts}
 use Rattle.fw_rollback.specs.Edges.{IsOnEdge, nothing_there, on_edge}
 use Rattle.fw_record.specs.Log.{logged_on}
 use Rattle.fw_rollback.specs.Restored.{AreOfFlow, HasDone, HasLogs, IsBuilt, IsCutTo, IsFromChain, Restores}
@@ -124,14 +125,14 @@ nothing-fits : (flow : Dataflow) (p : ℕ) (logs : List MessagesState) → HasLo
     → AllByRecursion (IsOnEdge flow e) (on_edge logs e).messages
 nothing-fits flow p logs h e l s = subst (λ (log : MessagesState). AllByRecursion (IsOnEdge flow e) log.messages) (sym (h e l s)) tt
 
-chain-fits : (flow : Dataflow) (low : List Front) (p : ℕ) (c : Option Checkpoint) → ((k : Checkpoint) → c ≡ Some k → CanBeLogOf flow p k)
+chain-fits : (flow : Dataflow) (low : List Front) (p : ℕ) (f : Front) (c : Option Checkpoint) → ((k : Checkpoint) → c ≡ Some k → CanBeLogOf flow p k)
     → (later : List Checkpoint) → AllByRecursion (CanBeLogOf flow p) later
-    → (node : Node) (logs : List MessagesState) → IsFromChain flow low p c later node logs → (e : ℕ) → e < length flow.edges → sender flow e ≡ p
+    → (node : Node) (logs : List MessagesState) → IsFromChain flow low p f c later node logs → (e : ℕ) → e < length flow.edges → sender flow e ≡ p
     → AllByRecursion (IsOnEdge flow e) (on_edge logs e).messages
-chain-fits flow low p None can later more node logs h e l s = nothing-fits flow p logs h.1 e l s
-chain-fits flow low p (Some c) can later more node logs h e l s =
+chain-fits flow low p f None can later more node logs h e l s = nothing-fits flow p logs h.1 e l s
+chain-fits flow low p f (Some c) can later more node logs h e l s =
     let all = logged_in_all e (c ∷ later) in
-    subst (λ (x : MessagesState). AllByRecursion (IsOnEdge flow e) x.messages) (sym (h.2 e l s))
+    subst (λ (x : MessagesState). AllByRecursion (IsOnEdge flow e) x.messages) (sym (h.3 e l s))
     (each-sorted_messages (IsOnEdge flow e) (messages_outside (inside (front_of low (receiver flow e))) all)
     (each-filter (IsOnEdge flow e) _ all
     (each-weaker (IsOnEdge flow e) _ all (λ m k i. k) (chain-fit flow p e s (c ∷ later) (can c refl, more)))))
@@ -147,8 +148,9 @@ built-fits flow low p f given can Batches table logs b e l s = nothing-fits flow
 built-fits flow low p f given can Bound table logs b e l s = nothing-fits flow p logs b.1 e l s
 built-fits flow low p f given can Anything table logs b e l s = nothing-fits flow p logs b.1 e l s
 built-fits flow low p f given can Checkpoints table logs b e l s =
-    some-and (λ node. IsFromChain flow low p (first_checkpoint given) (changes_of given) node logs) _ table b
-    (λ node h. chain-fits flow low p (first_checkpoint given) (λ k is. first-log flow p given k can is) (changes_of given) (changes-log flow p given can) node logs h e l s)
+    some-and (λ node. IsFromChain flow low p f (first_up_to f given) (changes_of given) node logs) _ table b
+    (λ node h. chain-fits flow low p f (first_up_to f given) (λ k is. first-log flow p given k can (sym (up_to-parts f given k (sym is)).0)) (changes_of given)
+    (changes-log flow p given can) node logs h e l s)
 built-fits flow low p f given can Events table logs b e l s =
     some-and (λ node. HasDone flow low p f (events_of given) node logs) _ table b (λ node h. h.own e l s)
 

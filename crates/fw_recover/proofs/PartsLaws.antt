@@ -1,10 +1,11 @@
 -- What the parts hold after a recovery, node by node by the way in which it is restored, and edge by edge.
-use Rattle.std.proofs.Common.{◌≡◌, ◌≢◌, ℕ, ◌<◌, true, false, ◌||◌, not, List, [], ◌∷◌, length, filter, Option, Some, None, refl, sym, ap, subst, ◌∙◌, inl, inr, arith}
+use Rattle.std.proofs.Common.{◌≡◌, ◌≢◌, ℕ, ◌<◌, true, false, cond, ◌||◌, not, List, [], ◌∷◌, length, filter, Option, Some, None, refl, sym, ap, subst, ◌∙◌, inl, inr, arith}
 use Rattle.std.specs.Prelude.{IsSomeAnd}
 use Rattle.std.specs.List.{AllZip, enumerate_from}
 use Rattle.std.proofs.lemmas.Bool.{cases_Bool}
 use Rattle.fw_frontier.specs.Front.{Front, inside}
 use Rattle.fw_frontier.proofs.CanonicalLaws.{in_domain-canonical}
+use Rattle.fw_frontier.proofs.SameLaws.{same_front-from}
 use Rattle.fw_flow.specs.declared.choice.Choice.{Choice}
 use Rattle.fw_flow.specs.declared.choice.Cut.{Cut}
 use Rattle.fw_flow.specs.declared.choice.Cut.TheVariants.{Present, At}
@@ -28,17 +29,21 @@ use Rattle.fw_model.specs.SortedMessages.{sorted_messages}
 use Rattle.fw_model.specs.Steps.{front_of_cut, recovered_state}
 use Rattle.fw_model.specs.Writes.{takes_checkpoints}
 use Rattle.fw_model.proofs.InputLaws.{injected-few}
+use Rattle.fw_record.specs.declared.record.Checkpoint.{Checkpoint}
 use Rattle.fw_record.specs.declared.record.Record.{Record}
+use Rattle.fw_record.specs.declared.record.Record.TheVariants as tagged
 use Rattle.fw_keep.specs.declared.entry.Entry.{Entry}
-use Rattle.fw_keep.specs.Chains.{changes_of}
-use Rattle.fw_keep.specs.Stored.{Records}
+use Rattle.fw_keep.specs.Chains.{changes_of, states_of}
+use Rattle.fw_keep.specs.Stored.{Records, IsFetched}
 use Rattle.fw_edge.specs.Messages.{MessagesState}
 use Rattle.fw_border.specs.Outputs.{OutputState}
 use Rattle.fw_border.specs.Sources.{SourceState, rolled_source, epochs_inside}
 use Rattle.fw_node.specs.declared.node.Node.{Node}
+use Rattle.fw_node.specs.ChainOf.{last_front}
 use Rattle.fw_rollback.specs.declared.parts.Parts.{Parts}
-use Rattle.fw_rollback.specs.Asked.{asked_of, first_checkpoint, events_of, IsFetched}
+use Rattle.fw_rollback.specs.Asked.{asked_of, first_checkpoint, first_up_to, events_of}
 use Rattle.fw_rollback.specs.Edges.{on_edge}
+use Rattle.fw_rollback.proofs.BuildLaws.{up_to-none}
 use Rattle.fw_rollback.specs.Restored.{HasDone, IsBuilt, IsCutTo, IsFromChain, output_after, queue_after}
 use Rattle.fw_rollback.specs.Tables.{table_at}
 use Rattle.fw_stands.specs.Recovered.{Recovers}
@@ -120,13 +125,28 @@ some-and P Q None h f = absurd h
 some-and P Q (Some x) h f = f x h
 
 -- what is built from the records of a chain
-abbrev FromRecords : System → List Front → ℕ → List Record → Node → List MessagesState → Type 0
-FromRecords sys low p rs node logs = IsFromChain sys.flow low p (first_checkpoint rs) (changes_of rs) node logs
+abbrev FromRecords : System → List Front → ℕ → Front → List Record → Node → List MessagesState → Type 0
+FromRecords sys low p f rs node logs = IsFromChain sys.flow low p f (first_up_to f rs) (changes_of rs) node logs
+
+-- where nothing was read the node is a new one
+from-none : (sys : System) (low : List Front) (p : ℕ) (f : Front) (rs : List Record) (node : Node) (logs : List MessagesState) → first_checkpoint rs ≡ None
+    → FromRecords sys low p f rs node logs → IsFromChain sys.flow low p f None (changes_of rs) node logs
+from-none sys low p f rs node logs none built =
+    subst (λ c. IsFromChain sys.flow low p f c (changes_of rs) node logs) (sym (up_to-none f rs (sym none))) built
+
+-- where a chain was read that leads up to the cut the node is restored from it
+from-chain : (sys : System) (low : List Front) (p : ℕ) (f : Front) (rs : List Record) (node : Node) (logs : List MessagesState) (first : Checkpoint) (more : List Record)
+    → rs ≡ tagged.State first ∷ more → last_front first.recorded.front (states_of (changes_of more)) ≡ f → FromRecords sys low p f rs node logs
+    → IsFromChain sys.flow low p f (Some first) (changes_of more) node logs
+from-chain sys low p f rs node logs first more all last built =
+    let is : first_up_to f (tagged.State first ∷ more) ≡ Some first =
+    ap (λ b. cond b (Some first) None) (same_front-from (last_front first.recorded.front (states_of (changes_of more))) f last) in
+    subst (λ c. IsFromChain sys.flow low p f c (changes_of more) node logs) is (subst (λ xs. FromRecords sys low p f xs node logs) all built)
 
 -- the table that is built for a node from the checkpoints that were read
 table-saved : (sys : System) (state : Machine) (choice : Choice) (settled : List Front) (records : Option Records) (p : ℕ) (given : List Record)
     → IsGiven sys state choice settled records p given → way_of sys.flow p ≡ Checkpoints → (f : Front) → cut_of choice p ≡ At f
-    → (node : Node) (logs : List MessagesState) → FromRecords sys state.low p given node logs
+    → (node : Node) (logs : List MessagesState) → FromRecords sys state.low p f given node logs
     → IsTableIn sys (recovered_state sys state choice settled) p (Some node)
 table-saved sys state choice settled records p given g way f is node logs built =
     let r = g.recovers in
@@ -134,11 +154,11 @@ table-saved sys state choice settled records p given g way f is node logs built 
     let takes = checkpoints-take kind (policy_of sys.flow p) way in
     elim (checkpoints-read sys state choice settled r g.entries g.of_writes records g.stored g.trusts given p f g.declared way takes is g.fetched) [
       | inl none ↦
-          let new = subst (λ c. IsFromChain sys.flow state.low p c (changes_of given) node logs) none.none built in
+          let new = from-none sys state.low p f given node logs none.none built in
           tables-nothing sys state choice settled r p g.declared (checkpoints-inner kind (policy_of sys.flow p) way) (is ∙ ap At none.front) node new.0
       | inr read ↦
-          let saved = subst (λ rs. FromRecords sys state.low p rs node logs) read.all built in
-          tables-from_chains sys state choice settled r p g.declared way f is read.first (changes_of read.more) read.chain node saved.1
+          let saved = from-chain sys state.low p f given node logs read.first read.more read.all read.chain.last built in
+          tables-from_chains sys state choice settled r p g.declared way f is read.first (changes_of read.more) read.chain node saved.2
     ]
 
 -- that of a node that does its events again
@@ -197,7 +217,7 @@ table-after sys state choice settled records p given g old new low made t =
 log-saved : (sys : System) (state : Machine) (choice : Choice) (settled : List Front) (records : Option Records) (e : ℕ) (given : List Record)
     → IsGiven sys state choice settled records (sender sys.flow e) given → e < length sys.flow.edges
     → way_of sys.flow (sender sys.flow e) ≡ Checkpoints → (f : Front) → cut_of choice (sender sys.flow e) ≡ At f
-    → (node : Node) (logs : List MessagesState) → FromRecords sys state.low (sender sys.flow e) given node logs
+    → (node : Node) (logs : List MessagesState) → FromRecords sys state.low (sender sys.flow e) f given node logs
     → (on_edge logs e).messages ≡ logged sys (recovered_state sys state choice settled) e
 log-saved sys state choice settled records e given g l way f is node logs built =
     let r = g.recovers in
@@ -205,11 +225,11 @@ log-saved sys state choice settled records e given g l way f is node logs built 
     let takes = checkpoints-take (kind_of sys.flow p) (policy_of sys.flow p) way in
     elim (checkpoints-read sys state choice settled r g.entries g.of_writes records g.stored g.trusts given p f g.declared way takes is g.fetched) [
       | inl none ↦
-          let new = subst (λ c. IsFromChain sys.flow state.low p c (changes_of given) node logs) none.none built in
+          let new = from-none sys state.low p f given node logs none.none built in
           ap (λ (log : MessagesState). log.messages) (new.1 e l refl) ∙ sym (logs-of_nothing sys state choice settled r e l (is ∙ ap At none.front))
       | inr read ↦
-          let saved = subst (λ rs. FromRecords sys state.low p rs node logs) read.all built in
-          ap (λ (log : MessagesState). log.messages) (saved.2 e l refl)
+          let saved = from-chain sys state.low p f given node logs read.first read.more read.all read.chain.last built in
+          ap (λ (log : MessagesState). log.messages) (saved.3 e l refl)
           ∙ sym (logs-from_chains sys state choice settled r e f is read.first (changes_of read.more) read.chain)
     ]
 

@@ -1,11 +1,11 @@
 -- What a recovery reads for a node: its checkpoints, or its events.
-use Rattle.std.proofs.Common.{◌≡◌, ◌≢◌, ℕ, ◌<◌, Bool, true, false, ◌&&◌, ◌==◌, List, [], ◌∷◌, ◌++◌, length, filter, Option, Some, None, refl, sym, ap, subst, ◌∙◌, inl, inr}
+use Rattle.std.proofs.Common.{◌≡◌, ◌≢◌, ℕ, ◌<◌, Bool, true, false, cond, ◌&&◌, ◌==◌, List, [], ◌∷◌, ◌++◌, length, filter, Option, Some, None, refl, sym, ap, subst, ◌∙◌, inl, inr}
 use Rattle.std.specs.Prelude.{◌⊎◌}
 use Rattle.std.specs.List.{AllZip, flat_map}
-use Rattle.std.proofs.lemmas.Bool.{cases_Bool, eqb-true}
+use Rattle.std.proofs.lemmas.Bool.{cases_Bool, eqb-true, or_left, or_right}
 use Rattle.fw_lemmas.proofs.Bools.{two_ways}
 use Rattle.fw_lemmas.proofs.Each.{each-one}
-use Rattle.fw_lemmas.proofs.Filters.{filter-none, filter-same_on}
+use Rattle.fw_lemmas.proofs.Filters.{filter-none, filter-out, filter-same_on}
 use Rattle.fw_lemmas.proofs.SideBySide.{zip-weaker}
 use Rattle.fw_frontier.specs.Frontier.{Within}
 use Rattle.fw_frontier.specs.Front.{Front, IsCanonical, frontier_of}
@@ -34,16 +34,17 @@ use Rattle.fw_keep.specs.declared.entry.Written.{Written}
 use Rattle.fw_keep.specs.declared.entry.Written.TheVariants as written
 use Rattle.fw_keep.specs.Entry.{IsRecordOfEntry}
 use Rattle.fw_keep.specs.Newest.{is_written_between, whole_within}
-use Rattle.fw_keep.specs.Stored.{Records, HoldsAs}
-use Rattle.fw_rollback.specs.Asked.{is_needed, is_asked_at, is_asked_for, asked_of, first_checkpoint, events_of, IsFetched}
+use Rattle.fw_keep.specs.Stored.{Records, HoldsAs, IsFetched}
+use Rattle.fw_rollback.specs.Asked.{is_at_cut, is_written_at, has_one_at_cut, read_from, is_needed, is_asked_at, is_asked_for, asked_of, first_checkpoint, events_of}
 use Rattle.fw_record.specs.Event.{logged_events, event_of}
 use Rattle.fw_rollback.specs.Replay.{AreDoneAgain, CanBeDone}
 use Rattle.fw_stands.specs.Recovered.{Recovers}
-use Rattle.fw_stands.specs.Read.{is_between}
+use Rattle.fw_stands.specs.Read.{is_between, is_checkpoint_at, is_checkpoint_of}
 use Rattle.fw_stands.specs.Redone.{CanBeRedone, is_event_inside, is_logged_inside}
 use Rattle.fw_stands.specs.Written.{AreEntriesOf, AreStored, uncollected}
 use Rattle.fw_stands.proofs.CutChains.{AreRecordsOfChain, chain-of_records, no-chain}
 use Rattle.fw_stands.proofs.LoggedOrder.{replayed-of_records}
+use Rattle.fw_stands.proofs.ReadLaws.{one-checkpoint}
 use Rattle.fw_stands.proofs.RecoveredTables.{cuts-canonical}
 use Rattle.fw_stands.proofs.RedoneLaws.{replayed-redone}
 use Rattle.fw_running.specs.Steps.{HasNoStamp, Trusts}
@@ -68,7 +69,7 @@ can-be_done flow p (Notify q t ∷ vs) c = (c.0, c.1, c.2, can-be_done flow p vs
 
 -- of the entries the choice asks for those of a node at which a test is true
 asked-by : (flow : Dataflow) (choice : Choice) (es : List Entry) (p : ℕ) (f : Front) → cut_of choice p ≡ At f → (test : Written → Bool)
-    → ((w : Written) → is_needed flow (whole_within p f es) p f (way_of flow p) w ≡ test w) → (e : Entry)
+    → ((w : Written) → is_needed flow (read_from p f es) p f (way_of flow p) w ≡ test w) → (e : Entry)
     → ((e.node == p) && is_asked_for flow choice es e) ≡ ((e.node == p) && (e.acknowledged && test e.written))
 asked-by flow choice es p f is test needed e = elim (cases_Bool (e.node == p)) [
   | inl i ↦
@@ -96,8 +97,38 @@ needs-events flow None p f (written.Event event) = refl
 needs-events flow (Some whole) p f (written.Checkpoint recorded stamps sent) = refl
 needs-events flow (Some whole) p f (written.Event event) = refl
 
+-- one of the entries is one at the cut where a filter leaves one
+at-cut : (p : ℕ) (f : Front) (e : Entry) → is_at_cut p (At f) e ≡ is_checkpoint_at p f e
+at-cut p f e = ap (λ b. (e.node == p) && (e.acknowledged && b)) (same e.written)
+  where
+    same : (w : Written) → is_written_at f w ≡ is_checkpoint_of f w
+    same (written.Checkpoint recorded stamps sent) = refl
+    same (written.Event event) = refl
+
+one-there : (p : ℕ) (f : Front) (es : List Entry) (e : Entry) → filter (is_checkpoint_at p f) es ≡ e ∷ [] → has_one_at_cut p (At f) es ≡ true
+one-there p f [] e is = absurd cc
+one-there p f (x ∷ es) e is = elim (cases_Bool (is_checkpoint_at p f x)) [
+  | inl i ↦ or_left (is_at_cut p (At f) x) (has_one_at_cut p (At f) es) (at-cut p f x ∙ i)
+  | inr o ↦ or_right (is_at_cut p (At f) x) (has_one_at_cut p (At f) es) (one-there p f es e (sym (filter-out (is_checkpoint_at p f) x es o) ∙ is))
+]
+
+-- where one stands there they are read from the newest whole one on
+read-whole : (p : ℕ) (f whole : Front) (es : List Entry) → has_one_at_cut p (At f) es ≡ true → whole_within p f es ≡ Some whole → read_from p f es ≡ Some whole
+read-whole p f whole es there newest = ap (λ b. cond b (whole_within p f es) None) there ∙ newest
+
+-- where there is no whole one within the cut none is read
+read-none : (p : ℕ) (f : Front) (es : List Entry) → whole_within p f es ≡ None → read_from p f es ≡ None
+read-none p f es newest = ap (λ o. cond (has_one_at_cut p (At f) es) o None) newest ∙ either (has_one_at_cut p (At f) es)
+  where
+    none : Option Front
+    none = None
+
+    either : (b : Bool) → cond b none none ≡ none
+    either true = refl
+    either false = refl
+
 asked-checkpoints : (flow : Dataflow) (choice : Choice) (es : List Entry) (p : ℕ) (f whole : Front) → way_of flow p ≡ Checkpoints → cut_of choice p ≡ At f
-    → whole_within p f es ≡ Some whole → asked_of flow choice es p ≡ filter (is_between p whole f) es
+    → read_from p f es ≡ Some whole → asked_of flow choice es p ≡ filter (is_between p whole f) es
 asked-checkpoints flow choice es p f whole way is newest =
     filter-same_on (λ e. (e.node == p) && is_asked_for flow choice es e) (is_between p whole f) es
     (each-one (λ e. ((e.node == p) && is_asked_for flow choice es e) ≡ is_between p whole f e) es
@@ -106,7 +137,7 @@ asked-checkpoints flow choice es p f whole way is newest =
     ap (λ o. is_needed flow o p f (way_of flow p) w) newest ∙ ap (λ x. is_needed flow (Some whole) p f x w) way ∙ needs-whole flow p f whole w)))
 
 asked-nothing : (flow : Dataflow) (choice : Choice) (es : List Entry) (p : ℕ) (f : Front) → way_of flow p ≡ Checkpoints → cut_of choice p ≡ At f
-    → whole_within p f es ≡ None → asked_of flow choice es p ≡ []
+    → read_from p f es ≡ None → asked_of flow choice es p ≡ []
 asked-nothing flow choice es p f way is newest =
     filter-none (λ e. (e.node == p) && is_asked_for flow choice es e) es
     (each-one (λ e. ((e.node == p) && is_asked_for flow choice es e) ≡ false) es
@@ -126,7 +157,7 @@ asked-events flow choice es p f way is =
     filter-same_on (λ e. (e.node == p) && is_asked_for flow choice es e) (is_logged_inside p (node_frontier flow p f)) es
     (each-one (λ e. ((e.node == p) && is_asked_for flow choice es e) ≡ is_logged_inside p (node_frontier flow p f) e) es
     (asked-by flow choice es p f is (is_event_inside (node_frontier flow p f))
-    (λ w. ap (λ x. is_needed flow (whole_within p f es) p f x w) way ∙ needs-events flow (whole_within p f es) p f w)))
+    (λ w. ap (λ x. is_needed flow (read_from p f es) p f x w) way ∙ needs-events flow (read_from p f es) p f w)))
 
 -- ---- the events of a node
 
@@ -184,7 +215,7 @@ read-nothing : (sys : System) (state : Machine) (choice : Choice) (settled : Lis
     → way_of sys.flow p ≡ Checkpoints → cut_of choice p ≡ At f → AllZip (IsFetched sys.flow records) (asked_of sys.flow choice es p) rs
     → f ≡ no_stamps (bounds_of sys.flow p) → ReadNone sys p f rs
 read-nothing sys state choice settled r es a records rs p f way is z e =
-    let none : whole_within p f es ≡ None = ap (λ g. whole_within p g es) e ∙ no-chain sys r.well_formed state r.reached es a p in
+    let none : read_from p f es ≡ None = read-none p f es (ap (λ g. whole_within p g es) e ∙ no-chain sys r.well_formed state r.reached es a p) in
     record { front = e; none = none-fetched sys.flow records (asked_of sys.flow choice es p) rs (asked-nothing sys.flow choice es p f way is none) z }
 
 -- what was fetched from a store that tells its records it holds
@@ -200,8 +231,10 @@ read-told : (sys : System) (state : Machine) (choice : Choice) (settled : List F
     → AreRecordsOfChain sys state p f rs
 read-told sys state choice settled r es a held s rs p f way takes is z some =
     let c = chain-of_records sys state choice settled r es a held s p takes f is some in
+    let one = one-checkpoint sys state choice settled r es a (Some held) s p takes f is some in
+    let newest = read-whole p f c.0 es (one-there p f es one.entry one.only) c.1 in
     c.2 rs
-    (subst (λ xs. AllZip (HoldsAs sys.flow (Some held)) xs rs) (asked-checkpoints sys.flow choice es p f c.0 way is c.1)
+    (subst (λ xs. AllZip (HoldsAs sys.flow (Some held)) xs rs) (asked-checkpoints sys.flow choice es p f c.0 way is newest)
     (fetched-held sys.flow held (asked_of sys.flow choice es p) rs z))
 
 -- what is read of a node that is restored by its checkpoints, where the store tells its records or nothing is read

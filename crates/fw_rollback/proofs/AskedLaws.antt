@@ -1,21 +1,18 @@
--- Which entries are asked for, by the front of the newest whole checkpoint within each cut.
-use Rattle.std.proofs.Common.{◌≡◌, ◌≢◌, ℕ, ◌<◌, Bool, false, ◌&&◌, ◌==◌, cond, List, ◌++◌, ◌∷◌, [], length, get_or, set, Option, Some, None, option_and_then, sym, ap, subst, ◌∙◌, inl, inr, refl, arith}
-use Rattle.std.proofs.lemmas.Bool.{cases_eq, cases_lt, ne_eqb}
+-- Which entries are asked for, by the newest whole checkpoint within each cut and by whether one stands exactly there.
+use Rattle.std.proofs.Common.{◌≡◌, ◌≢◌, ℕ, ◌<◌, Bool, true, false, ◌&&◌, ◌||◌, ◌==◌, cond, List, ◌++◌, ◌∷◌, [], length, get_or, set, Option, Some, None, option_and_then, sym, ap, subst, ◌∙◌, inl, inr, refl, arith}
+use Rattle.std.proofs.lemmas.Bool.{cases_eq, cases_lt, false≢true, ne_eqb, or_right}
 use Rattle.std.proofs.lemmas.List.{get_or_past, get_or-set_same, get_or-set_other}
+use Rattle.std.proofs.lemmas.List.Folds.{list_any-append}
+use Rattle.std.proofs.Math.Bool.{or-false}
 use Rattle.fw_frontier.specs.Front.{Front}
 use Rattle.fw_flow.specs.declared.choice.Choice.{Choice}
 use Rattle.fw_flow.specs.declared.choice.Cut.{Cut}
 use Rattle.fw_flow.specs.declared.choice.Cut.TheVariants.{Present, At}
-use Rattle.fw_flow.specs.Dataflow.{Dataflow}
-use Rattle.fw_flow.specs.Restoring.{way_of}
 use Rattle.fw_model.specs.Choice.{cut_of}
 use Rattle.fw_keep.specs.declared.entry.Entry.{Entry}
 use Rattle.fw_keep.specs.Newest.{front_within, whole_front, whole_within}
 use Rattle.fw_keep.proofs.NewestLaws.{whole-here, whole-before}
-use Rattle.fw_rollback.specs.Asked.{front_at, whole_front_in_cut, whole_in_cut, AreWholes, is_needed, is_asked_at, is_asked_for}
-
-some-same : {A : Type 0} {x y : A} → Some x ≡ Some y → x ≡ y
-some-same e = cc
+use Rattle.fw_rollback.specs.Asked.{front_at, is_at_cut, is_written_at, has_one_at_cut, whole_front_in_cut, whole_in_cut, AreEnds, AreWholes}
 
 -- by the front of a cut, if it has one
 abbrev by_front : Option Front → (Front → Option Front) → Option Front
@@ -34,19 +31,6 @@ cut-there choice e g is = elim (cases_lt e.node (length choice.cuts)) [
     none-cut z = cc
 
 -- ---- the front of the newest whole one
-
--- the front of an entry whose node is cut to f
-pub front-cut : (choice : Choice) (p : ℕ) (e : Entry) (f : Front) (front : Option Front) → Some f ≡ front_at (cut_of choice p) → front ≡ whole_front p f e
-    → front ≡ whole_front_in_cut choice p e
-front-cut choice p e f front at is = by (cut_of choice p) at
-  where
-    of : Option Front → Option Front
-    of None = None
-    of (Some g) = whole_front p g e
-
-    by : (cut : Cut) → Some f ≡ front_at cut → front ≡ of (front_at cut)
-    by Present a = absurd cc
-    by (At g) a = is ∙ ap (λ x. whole_front p x e) (some-same a)
 
 -- another node's entry has none
 front-of_other : (p : ℕ) (f : Front) (e : Entry) → e.node ≢ p → whole_front p f e ≡ None
@@ -93,30 +77,52 @@ module _ (choice : Choice) (es more : List Entry) (e : Entry) (last : more ≡ e
     | inr apart ↦ h p ∙ sym (other p (cut_of choice p) apart)
   ]
 
--- ---- what is asked for
+-- ---- whether one stands at the cut
 
--- an entry of a node that is cut to f, where this is the front of its newest whole checkpoint within
-pub asked-cut : (flow : Dataflow) (choice : Choice) (entries : List Entry) (e : Entry) (f : Front) (whole : Option Front)
-    → Some f ≡ front_at (cut_of choice e.node) → whole ≡ whole_in_cut choice entries e.node
-    → e.acknowledged && is_needed flow whole e.node f (way_of flow e.node) e.written ≡ is_asked_for flow choice entries e
-asked-cut flow choice entries e f whole at is = by (cut_of choice e.node) at is
-  where
-    of : Option Front → Option Front
-    of None = None
-    of (Some g) = whole_within e.node g entries
+-- there is a cut of a node that has a checkpoint there
+end-there : (choice : Choice) (e : Entry) → is_at_cut e.node (cut_of choice e.node) e ≡ true → e.node < length choice.cuts
+end-there choice e is = elim (cases_lt e.node (length choice.cuts)) [
+  | inl l ↦ l
+  | inr past ↦
+      let cut : cut_of choice e.node ≡ Present = get_or_past choice.cuts e.node Present past in
+      absurd (false≢true (sym (ap (λ c. is_at_cut e.node c e) cut) ∙ is))
+]
 
-    by : (cut : Cut) → Some f ≡ front_at cut → whole ≡ of (front_at cut)
-        → e.acknowledged && is_needed flow whole e.node f (way_of flow e.node) e.written ≡ is_asked_at flow entries cut e
-    by Present a i = absurd cc
-    by (At g) a i =
-        ap (λ x. e.acknowledged && is_needed flow whole e.node x (way_of flow e.node) e.written) (some-same a)
-        ∙ ap (λ w. e.acknowledged && is_needed flow w e.node g (way_of flow e.node) e.written) i
+-- another node's entry does not
+at-other : (p : ℕ) (cut : Cut) (e : Entry) → e.node ≢ p → is_at_cut p cut e ≡ false
+at-other p Present e other = refl
+at-other p (At f) e other = ap (λ b. b && (e.acknowledged && is_written_at f e.written)) (ne_eqb e.node p other)
 
--- an entry of a node that is not cut
-pub asked-present : (flow : Dataflow) (choice : Choice) (entries : List Entry) (e : Entry) → None ≡ front_at (cut_of choice e.node)
-    → false ≡ is_asked_for flow choice entries e
-asked-present flow choice entries e at = by (cut_of choice e.node) at
-  where
-    by : (cut : Cut) → None ≡ front_at cut → false ≡ is_asked_at flow entries cut e
-    by Present a = refl
-    by (At g) a = absurd cc
+-- with one entry more that one does, or what it was
+module _ (choice : Choice) (es more : List Entry) (e : Entry) (last : more ≡ es ++ e ∷ []) where
+  ends-more : (p : ℕ) (cut : Cut) → has_one_at_cut p cut more ≡ (has_one_at_cut p cut es || is_at_cut p cut e)
+  ends-more p cut =
+      ap (has_one_at_cut p cut) last ∙ list_any-append (is_at_cut p cut) es (e ∷ []) ∙ ap (λ b. has_one_at_cut p cut es || b) (or-false (is_at_cut p cut e))
+
+  ends-same : (p : ℕ) (cut : Cut) → is_at_cut p cut e ≡ false → has_one_at_cut p cut more ≡ has_one_at_cut p cut es
+  ends-same p cut is = ends-more p cut ∙ ap (λ b. has_one_at_cut p cut es || b) is ∙ or-false (has_one_at_cut p cut es)
+
+  -- the entry does, and that was noted
+  pub ends-set : (ends next : List Bool) → length ends ≡ length choice.cuts → is_at_cut e.node (cut_of choice e.node) e ≡ true → next ≡ set ends e.node true
+      → AreEnds choice es ends → AreEnds choice more next
+  ends-set ends next each is put h p = elim (cases_eq e.node p) [
+    | inl same ↦
+        let cut = cut_of choice e.node in
+        let at : e.node < length ends = omega (arith, each, end-there choice e is) in
+        ap (λ (bs : List Bool). get_or bs p false) put ∙ ap (λ q. get_or (set ends e.node true) q false) (sym same)
+        ∙ get_or-set_same ends e.node true false at
+        ∙ sym (ap (λ q. has_one_at_cut q (cut_of choice q) more) (sym same) ∙ ends-more e.node cut
+        ∙ or_right (has_one_at_cut e.node cut es) (is_at_cut e.node cut e) is)
+    | inr apart ↦
+        ap (λ (bs : List Bool). get_or bs p false) put ∙ get_or-set_other ends e.node p true false (λ s. apart (sym s))
+        ∙ h p ∙ sym (ends-same p (cut_of choice p) (at-other p (cut_of choice p) e apart))
+  ]
+
+  -- it does not
+  pub ends-stay : (ends : List Bool) → is_at_cut e.node (cut_of choice e.node) e ≡ false → AreEnds choice es ends → AreEnds choice more ends
+  ends-stay ends is h p = elim (cases_eq e.node p) [
+    | inl same ↦
+        let P : ℕ → Type 0 = λ q. has_one_at_cut q (cut_of choice q) more ≡ has_one_at_cut q (cut_of choice q) es in
+        h p ∙ sym (subst P same (ends-same e.node (cut_of choice e.node) is))
+    | inr apart ↦ h p ∙ sym (ends-same p (cut_of choice p) (at-other p (cut_of choice p) e apart))
+  ]

@@ -1,10 +1,11 @@
 -- What is built, node by node and edge by edge.
-use Rattle.std.proofs.Common.{◌≡◌, ◌≢◌, ℕ, ◌+◌, ◌≤◌, ◌<◌, Bool, true, false, List, [], ◌∷◌, ◌++◌, append_assoc, length, set, take, get_or, replicate, Option, Some, None, Result, Ok, Err, sym, ap, subst, ◌∙◌, inl, inr, arith}
+use Rattle.std.proofs.Common.{◌≡◌, ◌≢◌, ℕ, ◌+◌, ◌≤◌, ◌<◌, Bool, true, false, cond, List, [], ◌∷◌, ◌++◌, append_assoc, length, set, take, get_or, replicate, Option, Some, None, option_and_then, Result, Ok, Err, refl, sym, ap, subst, ◌∙◌, inl, inr, arith}
 use Rattle.std.specs.Prelude.{slice_get, IsSomeAnd, IfOk, OnOk}
 use Rattle.std.proofs.lemmas.Option.{get_or_from_slice_get, slice_get-get_or}
-use Rattle.std.proofs.lemmas.Bool.{cases_lt, cases_eq}
+use Rattle.std.proofs.lemmas.Bool.{cases_Bool, cases_lt, cases_eq}
 use Rattle.std.proofs.lemmas.List.{get_or-set_same, get_or-replicate, length-replicate}
-use Rattle.fw_frontier.specs.Front.{Front, inside}
+use Rattle.fw_frontier.specs.Front.{Front, inside, same_front}
+use Rattle.fw_frontier.proofs.SameLaws.{same_front-is}
 use Rattle.fw_flow.specs.declared.choice.Choice.{Choice}
 use Rattle.fw_flow.specs.declared.choice.Cut.{Cut}
 use Rattle.fw_flow.specs.declared.choice.Cut.TheVariants.{Present, At}
@@ -39,7 +40,7 @@ use Rattle.fw_record.specs.declared.record.Checkpoint.{Checkpoint}
 use Rattle.fw_record.specs.declared.record.Record.{Record}
 use Rattle.fw_edge.specs.Messages.{MessagesState}
 use Rattle.fw_node.specs.declared.node.Node.{Node}
-use Rattle.fw_rollback.specs.Asked.{front_at, first_checkpoint, given_of, events_of, CanServe}
+use Rattle.fw_rollback.specs.Asked.{front_at, first_checkpoint, first_up_to, leads_to, given_of, events_of, CanServe}
 use Rattle.fw_rollback.specs.Built.{by_cut, AreNodesBuilt, AreQueuesBuilt, log_after}
 use Rattle.fw_rollback.specs.Edges.{on_edge, nothing_there, IsOnEdge}
 use Rattle.fw_keep.specs.Chains.{changes_in, changes_of, logged_in_all, states_of}
@@ -49,10 +50,13 @@ use Rattle.fw_model.specs.Filtering.{events_inside}
 use Rattle.fw_model.proofs.SentLaws.{copy}
 use Rattle.fw_model.proofs.SortedLaws.{same_sorted_messages}
 use Rattle.fw_model.proofs.WeightLaws.{weigh, weigh-append}
-use Rattle.fw_node.specs.ChainOf.{IsOfChain}
+use Rattle.fw_node.specs.ChainOf.{last_front, IsOfChain}
 use Rattle.fw_node.proofs.ChainLaws.{chain-first, chain-more}
 use Rattle.fw_rollback.specs.Restored.{HasLogs, HasDone, IsBuilt, IsFromChain, log_of, log_left_outside}
 use Rattle.fw_rollback.specs.Tables.{table_at}
+
+some-same : {A : Type 0} {a b : A} → Some a ≡ Some b → a ≡ b
+some-same e = cc
 
 -- ---- logs of other nodes
 
@@ -64,10 +68,10 @@ pub has_logs-stay : (flow : Dataflow) (p : ℕ) (logs next : List MessagesState)
     → HasLogs flow p logs log → HasLogs flow p next log
 has_logs-stay flow p logs next log k h e l s = k e l s ∙ h e l s
 
-from_chain-stays : (flow : Dataflow) (low : List Front) (p : ℕ) (c : Option Checkpoint) (later : List Checkpoint) (node : Node) (logs next : List MessagesState)
-    → KeepsLogs flow p logs next → IsFromChain flow low p c later node logs → IsFromChain flow low p c later node next
-from_chain-stays flow low p None later node logs next k h = (h.0, has_logs-stay flow p logs next (λ e. nothing_there) k h.1)
-from_chain-stays flow low p (Some c) later node logs next k h = (h.0, h.1, λ e l s. k e l s ∙ h.2 e l s)
+from_chain-stays : (flow : Dataflow) (low : List Front) (p : ℕ) (f : Front) (c : Option Checkpoint) (later : List Checkpoint) (node : Node) (logs next : List MessagesState)
+    → KeepsLogs flow p logs next → IsFromChain flow low p f c later node logs → IsFromChain flow low p f c later node next
+from_chain-stays flow low p f None later node logs next k h = (h.0, has_logs-stay flow p logs next (λ e. nothing_there) k h.1)
+from_chain-stays flow low p f (Some c) later node logs next k h = (h.0, h.1, h.2, λ e l s. k e l s ∙ h.3 e l s)
 
 some-and : {A : Type 0} (P Q : A → Type 0) (o : Option A) → ((x : A) → P x → Q x) → IsSomeAnd o P → IsSomeAnd o Q
 some-and P Q None f h = absurd h
@@ -80,8 +84,8 @@ built-stays flow low p f given Batches table logs next k h = (h.0, has_logs-stay
 built-stays flow low p f given Bound table logs next k h = (h.0, has_logs-stay flow p logs next (λ e. nothing_there) k h.1)
 built-stays flow low p f given Anything table logs next k h = (h.0, has_logs-stay flow p logs next (λ e. nothing_there) k h.1)
 built-stays flow low p f given Checkpoints table logs next k h =
-    some-and (λ node. IsFromChain flow low p (first_checkpoint given) (changes_of given) node logs) (λ node. IsFromChain flow low p (first_checkpoint given) (changes_of given) node next) table
-    (λ node. from_chain-stays flow low p (first_checkpoint given) (changes_of given) node logs next k) h
+    some-and (λ node. IsFromChain flow low p f (first_up_to f given) (changes_of given) node logs) (λ node. IsFromChain flow low p f (first_up_to f given) (changes_of given) node next) table
+    (λ node. from_chain-stays flow low p f (first_up_to f given) (changes_of given) node logs next k) h
 built-stays flow low p f given Events table logs next k h =
     some-and (λ node. HasDone flow low p f (events_of given) node logs) (λ node. HasDone flow low p f (events_of given) node next) table
     (λ node d. record { of_node = d.of_node; own = λ e l s. subst (λ (x : MessagesState). AllByRecursion (IsOnEdge flow e) x.messages) (sym (k e l s)) (d.own e l s); table = d.table; sent = λ batches events a e l s. k e l s ∙ d.sent batches events a e l s }) h
@@ -163,9 +167,6 @@ pub queue-filled : {T E : Type 0} (flow : Dataflow) (choice : Choice) (kept buil
 queue-filled flow choice kept built e front g x (Err y) next at cut got h = tt
 queue-filled flow choice kept built e front g x (Ok y) next at cut got h =
     h ∙ ap (λ f. log_left_outside f x) (some-same (at ∙ ap front_at cut)) ∙ ap (log_left_outside g) (log-got (cut_of choice (sender flow e)) kept built e x got)
-  where
-    some-same : {A : Type 0} {a b : A} → Some a ≡ Some b → a ≡ b
-    some-same e = cc
 
 -- an empty queue into which what a log holds outside a frontier is put holds just that
 pub queue-put : {T E : Type 0} (front : Front) (log : MessagesState) (ms : List Message) (qs : List MessagesState) (e : ℕ) (old new : MessagesState) (r : Result T E)
@@ -222,6 +223,27 @@ filled-more flow choice kept built n d queues next at h here others long = recor
 
 -- ---- checkpoints
 
+-- what is known of the first record where it is a checkpoint that leads up to f
+pub up_to-parts : (f : Front) (rs : List Record) (c : Checkpoint) → Some c ≡ first_up_to f rs → (Some c ≡ first_checkpoint rs) × (leads_to c rs ≡ f)
+up_to-parts f rs c e = by (first_checkpoint rs) e
+  where
+    if_there : Bool → Checkpoint → Option Checkpoint
+    if_there b k = cond b (Some k) None
+
+    by : (o : Option Checkpoint) → Some c ≡ option_and_then (λ k. if_there (same_front (leads_to k rs) f) k) o → (Some c ≡ o) × (leads_to c rs ≡ f)
+    by None i = absurd cc
+    by (Some k) i = elim (cases_Bool (same_front (leads_to k rs) f)) [
+      | inl s ↦
+          let is : Some c ≡ Some k = i ∙ ap (λ b. if_there b k) s in
+          (is, ap (λ x. leads_to x rs) (some-same is) ∙ same_front-is (leads_to k rs) f s)
+      | inr s ↦
+          let is : Some c ≡ None = i ∙ ap (λ b. if_there b k) s in
+          absurd cc
+    ]
+
+pub up_to-none : (f : Front) (rs : List Record) → None ≡ first_checkpoint rs → None ≡ first_up_to f rs
+up_to-none f rs e = ap (λ o. option_and_then (λ c. cond (same_front (leads_to c rs) f) (Some c) None) o) e
+
 -- the messages of the first record serve, where it is a checkpoint
 pub first-serves : (flow : Dataflow) (p : ℕ) (rs : List Record) (c : Checkpoint) → Some c ≡ first_checkpoint rs → AllByRecursion (CanServe flow p) rs
     → AllByRecursion (λ (l : Logged). Contains (out_edges flow p) l.edge) c.log
@@ -253,8 +275,8 @@ first-apart flow p rs c ls e a same d n =
     subst (λ (xs : List Logged). AllByRecursion (λ (l : Logged). l.edge ≢ d) xs) (sym same) (logged-apart flow p c.log (first-serves flow p rs c e a) d n)
 
 -- a node that is restored from a checkpoint and takes in the changes since, with its logs
-pub restored-chain : (flow : Dataflow) (low : List Front) (p : ℕ) (rs : List Record) (c : Checkpoint) (first last : Node) (old mid new : List MessagesState)
-    → Some c ≡ first_checkpoint rs → HasLogs flow p old (λ e. nothing_there)
+pub restored-chain : (flow : Dataflow) (low : List Front) (p : ℕ) (f : Front) (rs : List Record) (c : Checkpoint) (first last : Node) (old mid new : List MessagesState)
+    → Some c ≡ first_up_to f rs → HasLogs flow p old (λ e. nothing_there)
     → ((settled : Stamp → Bool) (before : List Event) → EachDelivery (λ s. (settled s ≡ true) × (in_domain (bounds_of flow p) s ≡ true)) before
     → AreOnEdges (in_edges flow p) before → IsStateOf (kind_of flow p) before c.state → IsTableOf flow p settled first before)
     → IsNodeOf flow p first
@@ -262,9 +284,10 @@ pub restored-chain : (flow : Dataflow) (low : List Front) (p : ℕ) (rs : List R
     → ((f : Front) (state : State) → IsOfChain flow p f state [] first → IsOfChain flow p f state (states_of (changes_of rs)) last)
     → (IsNodeOf flow p first → IsNodeOf flow p last)
     → ((e : ℕ) (ms : List Message) → on_edge mid e ≡ log_of flow low e ms → on_edge new e ≡ log_of flow low e (ms ++ logged_in_all e (changes_of rs)))
-    → IsFromChain flow low p (first_checkpoint rs) (changes_of rs) last new
-restored-chain flow low p rs c first last old mid new e empty table of_node logs chain stays more =
-    subst (λ (k : Option Checkpoint). IsFromChain flow low p k (changes_of rs) last new) e (
+    → IsFromChain flow low p f (first_up_to f rs) (changes_of rs) last new
+restored-chain flow low p f rs c first last old mid new e empty table of_node logs chain stays more =
+    subst (λ (k : Option Checkpoint). IsFromChain flow low p f k (changes_of rs) last new) e (
+      (up_to-parts f rs c e).1,
       stays of_node,
       chain c.recorded.front c.state (chain-first flow p c.recorded.front c.state first table),
       λ d l r. more d (logged_on d c.log) (logs d [] (empty d l r) ∙ ap (log_of flow low d) (append-nil (logged_on d c.log))),
@@ -302,6 +325,33 @@ changes-more rs i r l at =
     ap changes_of (take_more rs i r l) ∙ flat_map-append changes_in (take i rs) (get_or rs i r ∷ [])
     ∙ ap (λ xs. changes_of (take i rs) ++ xs) (append-nil (changes_in (get_or rs i r)) ∙ ap changes_in (sym at))
 
+-- where it holds changes the chain leads up to their front
+pub leads-on : (c : Checkpoint) (rs : List Record) (i : ℕ) (r : Record) {base : ℕ} {k : Checkpoint} → i < length rs → r ≡ get_or rs i r → r ≡ tagged.Changes base k
+    → k.recorded.front ≡ leads_to c (take (i + 1) rs)
+leads-on c rs i r {k = k} l at is =
+    let front_and_state : Checkpoint → Front × State = λ x. (x.recorded.front, x.state) in
+    let before = changes_of (take i rs) in
+    let all : changes_of (take (i + 1) rs) ≡ before ++ k ∷ [] = changes-more rs i r l at ∙ ap (λ x. before ++ changes_in x) is in
+    sym (ap (λ cs. last_front c.recorded.front (states_of cs)) all
+    ∙ ap (last_front c.recorded.front) (map-append front_and_state before (k ∷ []))
+    ∙ last-of c.recorded.front (states_of before) (front_and_state k))
+  where
+    last-of : (f : Front) (done : List (Front × State)) (one : Front × State) → last_front f (done ++ one ∷ []) ≡ one.0
+    last-of f [] one = refl
+    last-of f (d ∷ done) one = last-of d.0 done one
+
+-- else as far as before
+pub leads-same : (c : Checkpoint) (rs : List Record) (i : ℕ) (r : Record) → i < length rs → r ≡ get_or rs i r → ((base : ℕ) (k : Checkpoint) → r ≢ tagged.Changes base k)
+    → leads_to c (take i rs) ≡ leads_to c (take (i + 1) rs)
+leads-same c rs i r l at none =
+    let before = changes_of (take i rs) in
+    sym (ap (λ cs. last_front c.recorded.front (states_of cs)) (changes-more rs i r l at ∙ ap (λ xs. before ++ xs) (nothing r none) ∙ append-nil before))
+  where
+    nothing : (x : Record) → ((base : ℕ) (k : Checkpoint) → x ≢ tagged.Changes base k) → changes_in x ≡ []
+    nothing (tagged.State k) n = refl
+    nothing (tagged.Event q event) n = refl
+    nothing (tagged.Changes base k) n = absurd (n base k refl)
+
 -- the node stands for a chain that is longer by what the record holds
 pub taken-more : (flow : Dataflow) (p : ℕ) (rs : List Record) (i : ℕ) (r : Record) (first now next : Node) → i < length rs → r ≡ get_or rs i r
     → ((f : Front) (state : State) → IsOfChain flow p f state [] first → IsOfChain flow p f state (states_of (changes_of (take i rs))) now)
@@ -329,8 +379,8 @@ logged-more flow low rs i r first now next l at before one e ms h =
 -- ---- no checkpoint
 
 -- a node without a checkpoint
-pub restored-none : {E : Type 0} (flow : Dataflow) (low : List Front) (p : ℕ) (rs : List Record) (later : List Checkpoint) (r : Result Node E) (logs : List MessagesState)
-    → None ≡ first_checkpoint rs → HasLogs flow p logs (λ e. nothing_there) → ((settled : Stamp → Bool) → IfOk r (λ node. IsTableOf flow p settled node []))
-    → IfOk r (λ node. IsFromChain flow low p (first_checkpoint rs) later node logs)
-restored-none flow low p rs later (Err x) logs e empty new = tt
-restored-none flow low p rs later (Ok node) logs e empty new = subst (λ (k : Option Checkpoint). IsFromChain flow low p k later node logs) e (new, empty)
+pub restored-none : {E : Type 0} (flow : Dataflow) (low : List Front) (p : ℕ) (f : Front) (rs : List Record) (later : List Checkpoint) (r : Result Node E) (logs : List MessagesState)
+    → None ≡ first_up_to f rs → HasLogs flow p logs (λ e. nothing_there) → ((settled : Stamp → Bool) → IfOk r (λ node. IsTableOf flow p settled node []))
+    → IfOk r (λ node. IsFromChain flow low p f (first_up_to f rs) later node logs)
+restored-none flow low p f rs later (Err x) logs e empty new = tt
+restored-none flow low p f rs later (Ok node) logs e empty new = subst (λ (k : Option Checkpoint). IsFromChain flow low p f k later node logs) e (new, empty)

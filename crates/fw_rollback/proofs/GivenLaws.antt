@@ -35,9 +35,8 @@ use Rattle.fw_keep.specs.Catalogue.{has_entry, ids_of}
 use Rattle.fw_keep.proofs.IdLaws.{among-self}
 use Rattle.fw_record.specs.Event.{stamp_of_event}
 use Rattle.fw_keep.specs.Entry.{IsRecordAs, IsRecordOn}
-use Rattle.fw_keep.specs.Newest.{whole_within}
-use Rattle.fw_keep.specs.Stored.{Records, Fetches, IsToldUnder}
-use Rattle.fw_rollback.specs.Asked.{is_needed, is_asked_at, is_asked_for, asked_of, given_of, IsFetched, AreFetched, IsDamagedIfSaid, CanServe, CanServeEach}
+use Rattle.fw_keep.specs.Stored.{Records, Fetches, IsToldUnder, IsFetched}
+use Rattle.fw_rollback.specs.Asked.{read_from, is_needed, is_asked_at, is_asked_for, asked_of, given_of, AreFetched, IsDamagedIfSaid, CanServe, CanServeEach}
 use Rattle.fw_rollback.proofs.ListLaws.{zip-push, zip-each}
 
 -- ---- one entry more
@@ -165,7 +164,7 @@ needed flow choice all p e h =
     by : (cut : Cut) → is_asked_at flow all cut e ≡ true → IsNeeded flow e
     by Present a = absurd (false≢true a)
     by (At g) a =
-        let whole = whole_within e.node g all in
+        let whole = read_from e.node g all in
         (whole, g, (and_parts e.acknowledged (is_needed flow whole e.node g (way_of flow e.node) e.written) a).1)
 
 -- a record of a checkpoint has its messages on edges of its node, whole or of changes

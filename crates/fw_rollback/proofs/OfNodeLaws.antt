@@ -18,7 +18,7 @@ use Rattle.fw_node.specs.declared.node.Node.{Node}
 use Rattle.fw_node.specs.NodeOf.{IsNodeOf}
 use Rattle.fw_node.proofs.NodeOfLaws.{node-of}
 use Rattle.fw_rollback.specs.declared.parts.Parts.{Parts}
-use Rattle.fw_rollback.specs.Asked.{first_checkpoint, events_of, given_of}
+use Rattle.fw_rollback.specs.Asked.{first_up_to, events_of, given_of}
 use Rattle.fw_rollback.specs.New.{AreFirstTables, IsFirstTable}
 use Rattle.fw_rollback.specs.Restored.{HasDone, IsBuilt, IsCutTo, IsFromChain, IsNew, AreOfNodes, IsRestored}
 use Rattle.fw_rollback.specs.Tables.{table_at}
@@ -34,10 +34,10 @@ if-none Q o e = subst (λ (x : Option Node). IfSome x Q) (sym e) tt
 of-new : (flow : Dataflow) (p : ℕ) (node : Node) → IsNew flow p node → IsNodeOf flow p node
 of-new flow p node h = node-of flow p (λ s. false) node [] (h (λ s. false))
 
-of-chain : (flow : Dataflow) (low : List Front) (p : ℕ) (c : Option Checkpoint) (later : List Checkpoint) (node : Node) (logs : List MessagesState)
-    → IsFromChain flow low p c later node logs → IsNodeOf flow p node
-of-chain flow low p None later node logs h = of-new flow p node h.0
-of-chain flow low p (Some c) later node logs h = h.0
+of-chain : (flow : Dataflow) (low : List Front) (p : ℕ) (f : Front) (c : Option Checkpoint) (later : List Checkpoint) (node : Node) (logs : List MessagesState)
+    → IsFromChain flow low p f c later node logs → IsNodeOf flow p node
+of-chain flow low p f None later node logs h = of-new flow p node h.0
+of-chain flow low p f (Some c) later node logs h = h.1
 
 -- what is built for a node is of its place
 of-built : (flow : Dataflow) (low : List Front) (p : ℕ) (f : Front) (given : List Record) (way : Restoring) (table : Option Node) (logs : List MessagesState)
@@ -46,8 +46,8 @@ of-built flow low p f given Batches table logs h = if-none (IsNodeOf flow p) tab
 of-built flow low p f given Bound table logs h = if-none (IsNodeOf flow p) table h.0
 of-built flow low p f given Anything table logs h = if-some-and (IsNew flow p) (IsNodeOf flow p) table (of-new flow p) h.0
 of-built flow low p f given Checkpoints table logs h =
-    if-some-and (λ node. IsFromChain flow low p (first_checkpoint given) (changes_of given) node logs) (IsNodeOf flow p) table
-    (λ node. of-chain flow low p (first_checkpoint given) (changes_of given) node logs) h
+    if-some-and (λ node. IsFromChain flow low p f (first_up_to f given) (changes_of given) node logs) (IsNodeOf flow p) table
+    (λ node. of-chain flow low p f (first_up_to f given) (changes_of given) node logs) h
 of-built flow low p f given Events table logs h =
     if-some-and (λ node. HasDone flow low p f (events_of given) node logs) (IsNodeOf flow p) table (λ node d. d.of_node) h
 

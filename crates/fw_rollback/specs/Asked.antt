@@ -1,11 +1,11 @@
 -- Which writes the cuts of a choice ask for, and the records that were fetched of them.
-use Rattle.std.specs.Prelude.{◌≡◌, ℕ, ◌<◌, Bool, true, false, ◌&&◌, ◌==◌}
+use Rattle.std.specs.Prelude.{◌≡◌, ℕ, ◌<◌, Bool, true, false, ◌&&◌, ◌==◌, if◌then◌else◌}
 use Rattle.std.specs.Prelude.{List, [], ◌∷◌, length, filter, Option, Some, None, Result, Ok, Err, slice_index_or}
 use Rattle.std.specs.Option.{ForSome, option_and_then}
-use Rattle.std.specs.List.{AllByRecursion, AllZip, Contains, flat_map}
+use Rattle.std.specs.List.{AllByRecursion, AllZip, Contains, flat_map, list_any}
 use Rattle.std.specs.FinMap as map
 use Rattle.fw_time.specs.Stamp.{in_domain}
-use Rattle.fw_frontier.specs.Front.{Front}
+use Rattle.fw_frontier.specs.Front.{Front, same_front}
 use Rattle.fw_flow.specs.declared.choice.Choice.{Choice}
 use Rattle.fw_flow.specs.declared.choice.Cut.{Cut}
 use Rattle.fw_flow.specs.declared.choice.Cut.TheVariants.{Present, At}
@@ -19,23 +19,42 @@ use Rattle.fw_record.specs.declared.record.Checkpoint.{Checkpoint}
 use Rattle.fw_record.specs.declared.record.Event.{Event as LoggedEvent}
 use Rattle.fw_record.specs.declared.record.Record.{Record}
 use Rattle.fw_record.specs.declared.record.Record.TheVariants as tagged
-use Rattle.fw_record.specs.Sound.{IsSound}
-use Rattle.fw_record.specs.Spelling.{spelling}
 use Rattle.fw_keep.specs.declared.entry.Entry.{Entry}
 use Rattle.fw_keep.specs.declared.entry.Written.{Written}
 use Rattle.fw_keep.specs.declared.entry.Written.TheVariants as written
 use Rattle.fw_keep.specs.declared.fault.KeepFault.{KeepFault}
 use Rattle.fw_keep.specs.declared.fault.KeepFault.TheVariants as fault
 use Rattle.fw_record.specs.Event.{stamp_of_event}
+use Rattle.fw_keep.specs.Chains.{changes_of, states_of}
 use Rattle.fw_keep.specs.Entry.{IsRecordOfEntry}
 use Rattle.fw_keep.specs.Newest.{is_written_between, whole_front, whole_within}
-use Rattle.fw_keep.specs.Stored.{Records, SpellsNone}
+use Rattle.fw_keep.specs.Stored.{Records, SpellsNone, IsFetched}
+use Rattle.fw_node.specs.ChainOf.{last_front}
 use Rattle.fw_record.specs.Event.{event_of}
+use Rattle.fw_rollback.specs.declared.asked.Found.{Found}
 
 -- the frontier of a cut; none where the node stays as it is
 abbrev pub front_at : Cut → Option Front
 front_at Present = None
 front_at (At f) = Some f
+
+-- whether a checkpoint is written whose front this is
+abbrev pub is_written_at : Front → Written → Bool
+is_written_at f (written.Checkpoint recorded stamps sent) = same_front recorded.front f
+is_written_at f (written.Event event) = false
+
+-- whether the entry is an acknowledged one of a checkpoint of node p that stands exactly at the cut
+abbrev pub is_at_cut : ℕ → Cut → Entry → Bool
+is_at_cut p Present e = false
+is_at_cut p (At f) e = (e.node == p) && (e.acknowledged && is_written_at f e.written)
+
+-- whether one of these entries is such a one
+abbrev pub has_one_at_cut : ℕ → Cut → List Entry → Bool
+has_one_at_cut p cut entries = list_any (is_at_cut p cut) entries
+
+-- these say of each node whether one of the entries stands at its cut
+abbrev pub AreEnds : Choice → List Entry → List Bool → Type 0
+AreEnds choice entries ends = (p : ℕ) → slice_index_or ends p false ≡ has_one_at_cut p (cut_of choice p) entries
 
 -- the front of the newest whole checkpoint of node p within its cut, if it is cut and has one
 abbrev pub whole_in_cut : Choice → List Entry → ℕ → Option Front
@@ -49,8 +68,18 @@ whole_front_in_cut choice p e = option_and_then (λ f. whole_front p f e) (front
 abbrev pub AreWholes : Choice → List Entry → List (Option Front) → Type 0
 AreWholes choice entries wholes = (p : ℕ) → slice_index_or wholes p None ≡ whole_in_cut choice entries p
 
--- whether node p needs what is written, where it is restored in this way to f, and this is the front of the newest whole one of its
--- checkpoints within f: its checkpoints from that one up to f, or each event inside
+-- What an engine finds of the nodes that are cut is so for each of them.
+pub record AreFound (choice : Choice) (entries : List Entry) (found : Found) : Type 0 where
+  pub wholes : AreWholes choice entries found.wholes
+  pub ends : AreEnds choice entries found.ends
+
+-- the front from which on the checkpoints of node p are read where it is cut to f: that of its newest whole one within f, where one of its
+-- checkpoints stands exactly at f; else none is read
+abbrev pub read_from : ℕ → Front → List Entry → Option Front
+read_from p f entries = if has_one_at_cut p (At f) entries then whole_within p f entries else None
+
+-- whether node p needs what is written, where it is restored in this way to f, and its checkpoints are read from this front on: those up to f,
+-- or each event inside
 abbrev pub is_needed : Dataflow → Option Front → ℕ → Front → Restoring → Written → Bool
 is_needed flow (Some whole) p f Checkpoints what = is_written_between whole f what
 is_needed flow whole p f Events (written.Event event) = node_frontier flow p f (stamp_of_event event)
@@ -59,7 +88,7 @@ is_needed flow whole p f way what = false
 -- whether the cut of its node asks for the entry, among these: it is acknowledged, and the node needs it
 abbrev pub is_asked_at : Dataflow → List Entry → Cut → Entry → Bool
 is_asked_at flow entries Present e = false
-is_asked_at flow entries (At f) e = e.acknowledged && is_needed flow (whole_within e.node f entries) e.node f (way_of flow e.node) e.written
+is_asked_at flow entries (At f) e = e.acknowledged && is_needed flow (read_from e.node f entries) e.node f (way_of flow e.node) e.written
 
 -- whether the choice asks for the entry, among these
 abbrev pub is_asked_for : Dataflow → Choice → List Entry → Entry → Bool
@@ -72,13 +101,6 @@ asked_of flow choice entries p = filter (λ e. (e.node == p) && is_asked_for flo
 -- the records of node p, where these are those of each node
 abbrev pub given_of : List (List Record) → ℕ → List Record
 given_of given p = slice_index_or given p []
-
--- The record was fetched of the entry: it is one that can be the entry's, and where the store tells its records the one under
--- the entry's id.
-pub record IsFetched (flow : Dataflow) (records : Option Records) (e : Entry) (r : Record) : Type 0 where
-  pub sound : IsSound r
-  pub fits : IsRecordOfEntry flow e r
-  pub told : ForSome records (λ held. map.get held e.id ≡ Some (spelling r))
 
 -- for each node one record was fetched of each entry that its cut asks for, in order
 abbrev pub AreFetched : Dataflow → Choice → Option Records → List Entry → List (List Record) → Type 0
@@ -111,6 +133,14 @@ first_checkpoint [] = None
 first_checkpoint (tagged.State c ∷ rs) = Some c
 first_checkpoint (tagged.Event p event ∷ rs) = None
 first_checkpoint (tagged.Changes base c ∷ rs) = None
+
+-- the front up to which this checkpoint leads with the changes that records hold: that of the last of these, or its own
+abbrev pub leads_to : Checkpoint → List Record → Front
+leads_to c rs = last_front c.recorded.front (states_of (changes_of rs))
+
+-- the same checkpoint, if with the changes that the records hold it leads exactly to f
+abbrev pub first_up_to : Front → List Record → Option Checkpoint
+first_up_to f rs = option_and_then (λ c. if same_front (leads_to c rs) f then Some c else None) (first_checkpoint rs)
 
 -- the events of records, in order
 abbrev pub events_of : List Record → List LoggedEvent

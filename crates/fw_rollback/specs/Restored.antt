@@ -33,13 +33,13 @@ use Rattle.fw_rollback.specs.Edges.{on_edge, nothing_there, IsOnEdge}
 use Rattle.fw_node.specs.declared.node.Node.{Node}
 use Rattle.fw_node.specs.Arrived.{AreOnEdges}
 use Rattle.fw_node.specs.NodeOf.{IsNodeOf}
-use Rattle.fw_node.specs.ChainOf.{IsOfChain}
+use Rattle.fw_node.specs.ChainOf.{last_front, IsOfChain}
 use Rattle.fw_node.specs.TableOf.{IsTableOf}
 use Rattle.fw_rollback.specs.Tables.{table_at}
 use Rattle.fw_border.specs.Outputs.{OutputState, output_at, cleared}
 use Rattle.fw_border.specs.Sources.{source_at, rolled_source}
 use Rattle.fw_rollback.specs.declared.parts.Parts.{Parts}
-use Rattle.fw_rollback.specs.Asked.{AreFetched, first_checkpoint, events_of, given_of}
+use Rattle.fw_rollback.specs.Asked.{AreFetched, first_up_to, events_of, given_of}
 use Rattle.fw_rollback.specs.Replay.{AreDoneAgain}
 use Rattle.fw_keep.specs.Entry.{is_beyond}
 use Rattle.fw_keep.specs.Chains.{changes_of, logged_in_all, states_of}
@@ -82,12 +82,12 @@ pub record HasDone (flow : Dataflow) (low : List Front) (p : ℕ) (f : Front) (l
       → AllByRecursion (λ o. in_domain (bounds_of flow p) o ≡ true) f → IsTableOf flow p (node_frontier flow p f) node events
   pub sent : HaveSent flow low p logged logs
 
--- the node is restored from its first checkpoint and the changes since, and the logs of its edges have the messages that these hold; where
--- there is none it is a new one, and the logs are empty
-abbrev pub IsFromChain : Dataflow → List Front → ℕ → Option Checkpoint → List Checkpoint → Node → List MessagesState → Type 0
-IsFromChain flow low p None later node logs = IsNew flow p node × HasLogs flow p logs (λ e. nothing_there)
-IsFromChain flow low p (Some c) later node logs =
-    IsNodeOf flow p node × IsOfChain flow p c.recorded.front c.state (states_of later) node
+-- the node is restored from its first checkpoint and the changes since, which lead up to f, and the logs of its edges have the messages that
+-- these hold; where there is none it is a new one, and the logs are empty
+abbrev pub IsFromChain : Dataflow → List Front → ℕ → Front → Option Checkpoint → List Checkpoint → Node → List MessagesState → Type 0
+IsFromChain flow low p f None later node logs = IsNew flow p node × HasLogs flow p logs (λ e. nothing_there)
+IsFromChain flow low p f (Some c) later node logs =
+    (last_front c.recorded.front (states_of later) ≡ f) × IsNodeOf flow p node × IsOfChain flow p c.recorded.front c.state (states_of later) node
     × HasLogs flow p logs (λ e. log_of flow low e (logged_in_all e (c ∷ later)))
 
 -- what node p has after it was cut to f, by the way in which it is restored
@@ -95,7 +95,7 @@ abbrev pub IsBuilt : Dataflow → List Front → ℕ → Front → List Record �
 IsBuilt flow low p f given Batches table logs = (table ≡ None) × HasLogs flow p logs (λ e. nothing_there)
 IsBuilt flow low p f given Bound table logs = (table ≡ None) × HasLogs flow p logs (λ e. nothing_there)
 IsBuilt flow low p f given Anything table logs = IsSomeAnd table (IsNew flow p) × HasLogs flow p logs (λ e. nothing_there)
-IsBuilt flow low p f given Checkpoints table logs = IsSomeAnd table (λ node. IsFromChain flow low p (first_checkpoint given) (changes_of given) node logs)
+IsBuilt flow low p f given Checkpoints table logs = IsSomeAnd table (λ node. IsFromChain flow low p f (first_up_to f given) (changes_of given) node logs)
 IsBuilt flow low p f given Events table logs = IsSomeAnd table (λ node. HasDone flow low p f (events_of given) node logs)
 
 -- what node p has after its cut: all as it was, or what is built

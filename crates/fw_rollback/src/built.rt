@@ -178,7 +178,9 @@ fn build_node(
     match flow.restoring(node) {
         Restoring::Batches | Restoring::Bound => Ok(None),
         Restoring::Anything => Ok(Some(Node::new(alloc, flow, node)?)),
-        Restoring::Checkpoints => Ok(Some(restored(alloc, flow, node, low, records, logs)?)),
+        Restoring::Checkpoints => {
+            Ok(Some(restored(alloc, flow, node, front, low, records, logs)?))
+        }
         Restoring::Events => Ok(Some(replayed(alloc, flow, node, front, low, records, logs)?)),
     }
 }

@@ -3,9 +3,9 @@ ghost use Rattle.std.specs.Prelude.{◌≡◌, ◌++◌, ◌∷◌, [], length, 
 ghost use Rattle.fw_keep.specs.Faults.{keep_faults_after};
 ghost use Rattle.fw_keep.specs.Stored.{IsStored};
 ghost use Rattle.fw_outside.specs.Outside.{StayIfTold};
-ghost use Rattle.fw_rollback.specs.Asked.{given_of, AreFetched, AreWholes, IsDamagedIfSaid};
+ghost use Rattle.fw_rollback.specs.Asked.{given_of, AreFetched, AreFound, IsDamagedIfSaid};
 
-use crate::asked::{Wholes, is_asked_for};
+use crate::asked::{Found, is_asked_for};
 use fw_flow::{Choice, Flow, NodeId};
 use fw_keep::{Keep, KeepFault};
 use fw_outside::Store;
@@ -117,8 +117,8 @@ pub(crate) fn read<K: Store>(
     ensures faults { (K.view store.new).faults ≡ keep_faults_after result (K.view store.old).faults }
 {
     let mut given = Given::none(alloc, flow.nodes())?;
-    let wholes = Wholes::among(alloc, choice, keep.entries())?;
-    fetch_all(flow, choice, &wholes, keep, store, &mut given)?;
+    let found = Found::among(alloc, choice, keep.entries())?;
+    fetch_all(flow, choice, &found, keep, store, &mut given)?;
     Ok(given)
 }
 
@@ -126,12 +126,12 @@ pub(crate) fn read<K: Store>(
 fn fetch_all<K: Store>(
     flow: &Flow,
     choice: &Choice,
-    wholes: &Wholes,
+    found: &Found,
     keep: &Keep,
     store: &mut K,
     given: &mut Given,
 ) -> Result<(), KeepFault>
-    requires wholes { AreWholes choice.now keep.now.entries wholes.now }
+    requires found { AreFound choice.now keep.now.entries found.now }
     requires stored { IsStored keep.now (K.view store.old).records }
     requires none { given.old ≡ replicate (length flow.now.nodes) [] }
     ensures fetched { OnOk result (AreFetched flow.now choice.now (K.view store.new).records keep.now.entries given.new) }
@@ -141,8 +141,8 @@ fn fetch_all<K: Store>(
 {
     let entries = keep.entries();
     for entry in entries {
-        if is_asked_for(flow, choice, wholes, entry) {
-            given.add(entry.node, keep.fetch(flow, store, entry.id)?)?;
+        if is_asked_for(flow, choice, found, entry) {
+            given.add(entry.node, keep.fetch_one(flow, store, entry.id)?)?;
         }
     }
     Ok(())

@@ -16,17 +16,20 @@ ghost use Rattle.fw_rollback.specs.Restored.{HasLogs, IsFromChain, log_of};
 use crate::Logs;
 use crate::logging::log_recorded;
 use fw_flow::{Flow, Fronts, NodeId};
+use fw_frontier::Front;
 use fw_node::Node;
 use fw_record::{Checkpoint, Record};
 use std::alloc::{AllocError, Global};
 
-/// The table of a node that is restored from these records, of which the first has its whole state and each later one what
-/// changed since the one before it, and the node's logs with the messages that they hold but for what lies inside the
-/// receivers' low watermarks; where the first is no whole checkpoint the node begins anew.
+/// The table of a node that is restored to the frontier from these records, of which the first has its whole state and each later
+/// one what changed since the one before it, and the node's logs with the messages that they hold but for what lies inside the
+/// receivers' low watermarks. Where the first is no whole checkpoint, or they do not lead up to the frontier, the node begins
+/// anew.
 pub(crate) fn restored(
     alloc: Global,
     flow: &Flow,
     node: NodeId,
+    front: &Front,
     low: &Fronts,
     records: &[Record],
     logs: &mut Logs,
@@ -35,11 +38,11 @@ pub(crate) fn restored(
     requires each { length logs.old ≡ length flow.now.edges }
     requires empty { HasLogs flow.now node logs.old (λ e. nothing_there) }
     ensures built { IfOk result
-        (λ table. IsFromChain flow.now low.now node (asked.first_checkpoint records.now) (changes_of records.now) table logs.new) }
+        (λ table. IsFromChain flow.now low.now node front.now (asked.first_up_to front.now records.now) (changes_of records.now) table logs.new) }
     ensures others { (e : ℕ) → sender flow.now e ≢ node → on_edge logs.new e ≡ on_edge logs.old e }
     ensures each { length logs.new ≡ length logs.old }
 {
-    match checkpoint_of(records) {
+    match first_up_to(records, front) {
         Some(checkpoint) => {
             log_recorded(flow, low, checkpoint.log.as_slice(), logs)?;
             let mut table = Node::from_state(alloc, flow, node, &checkpoint.state)?;
@@ -103,8 +106,33 @@ fn take_one(
     }
 }
 
+/// The checkpoint of which the first record is, if with the changes that the others hold it leads exactly to the frontier.
+fn first_up_to<'a>(records: &'a [Record], front: &Front) -> Option<&'a Checkpoint>
+    ensures { option_copied result ≡ asked.first_up_to front.now records.now }
+{
+    let first = first_checkpoint(records)?;
+    last_front(first, records).same(front).then_some(first)
+}
+
+/// The front up to which the checkpoint leads with the changes that these records hold: that of the last of these, or its own.
+fn last_front<'a>(checkpoint: &'a Checkpoint, records: &'a [Record]) -> &'a Front
+    ensures { result.now ≡ asked.leads_to checkpoint.now records.now }
+{
+    let mut last = &checkpoint.recorded.front;
+    for what in records {
+        if let Record::Changes {
+            checkpoint: later,
+            ..
+        } = what
+        {
+            last = &later.recorded.front;
+        }
+    }
+    last
+}
+
 /// The checkpoint of which the first record is, if there is one.
-fn checkpoint_of(records: &[Record]) -> Option<&Checkpoint>
+fn first_checkpoint(records: &[Record]) -> Option<&Checkpoint>
     ensures { option_copied result ≡ asked.first_checkpoint records.now }
 {
     match records.first()? {

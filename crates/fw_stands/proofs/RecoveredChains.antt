@@ -247,10 +247,9 @@ tables-from_chains sys state choice settled r p l way f is first later chain nod
     let vs = events_inside b all in
     let State : List Event → Type 0 = λ us. IsStateOf (kind_of sys.flow p) us first.state in
     let Of : Front → Type 0 = λ x. IsTableOf sys.flow p (node_frontier sys.flow p x) node (events_inside (node_frontier sys.flow p x) all) in
-    let inside : Event → Bool = λ v. b (event_stamp v) in
+    let cut = are-inside sys state choice settled r p l b in
     tables-cut sys state choice settled r p l (inner-checkpoints sys.flow p way) f is node
     (subst Of chain.last
-    (built vs (filter-inner inside inside all (each-one (λ (v : Event). inside v ≡ true → inside v ≡ true) all (λ v i. i)))
-    (are-inside sys state choice settled r p l b).on_edges
+    (built vs cut.inside cut.on_edges
     (subst State (inner-events sys state p b g (within-last sys state p later g chain.each)) chain.whole.table)
     (have-changes sys state p b later g chain.each (λ t i. i))))

@@ -4,7 +4,6 @@ use Rattle.fw_frontier.specs.Front.{Front}
 use Rattle.fw_keep.specs.declared.entry.Entry.{Entry}
 use Rattle.fw_rollback.specs.declared.parts.Parts.{Parts}
 use Rattle.fw_choose.specs.Collecting.{AreRaised}
-use Rattle.fw_collect.proofs.CollectLaws.{planned-once}
 use Rattle.fw_choose.proofs.collection.give_up.Goals as goal
 
 pub returns-clause-collected : goal.returns-clause-collected
@@ -23,6 +22,3 @@ returns-clause-collected c =
       traces = subst (λ (fs : List Front). AreRaised old.flow (length old.flow.nodes) fs old.traces c.raise_bases.new.traces) (c.deref.ensures.value ∙ c.requires.low)
           c.in_ok-raise_bases.ensures;
     }
-
-pub drop_from-requires : goal.drop_from-requires
-drop_from-requires c = planned-once c.args.running.now.flow (watermark c.args.choice.now) _ c.in_ok-drops.drops c.in_ok-drops.ensures

@@ -11,6 +11,6 @@ loop-record-init c = forgets_nothing c.args.keep.now
 pub loop-record-preserved : goal.loop-record-preserved
 loop-record-preserved c =
     forgets_below_more c.args.records.now c.loop-record.record-index c.record-item.result
-    c.args.keep.now c.loop-record.keep c.forget_below.new.self c.loop-record-test.true c.requires c.loop-record.invariant
+    c.args.keep.now c.loop-record.keep c.forget_below.new.self c.loop-record-test.true c.loop-record.invariant
     (c.forget_below.ensures.gone ∙ ap (λ (d : OfNode). without (is_forgotten_below d.node d.front c.loop-record.keep) c.loop-record.keep) c.record-item.is)
     c.forget_below.ensures.stored

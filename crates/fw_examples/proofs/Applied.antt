@@ -5,7 +5,7 @@ use Rattle.fw_flow.specs.declared.choice.Cut.TheVariants.{At}
 use Rattle.fw_flow.specs.declared.event.Event.TheVariants.{Deliver as Delivered, Inject as Injected, Deliver, Inject, Notify}
 use Rattle.fw_flow.specs.declared.step.Step.TheVariants.{Collect, Recover}
 use Rattle.fw_model.specs.Choice.{ever, kept, until}
-use Rattle.fw_model.specs.Machine.{events, first_state, is_failed, checkpoint, collected}
+use Rattle.fw_model.specs.Machine.{events, first_state, is_failed, checkpoint, acknowledged}
 use Rattle.fw_model.specs.Steps.{cuts, did, lows, silent}
 use Rattle.fw_examples.specs.Flows.{loop_counts_up, pair, two_batches, regroup_by_three, out, numbered_both, numbers, numbered_epoch, value_at}
 use Rattle.fw_examples.specs.Applied.{ChoicesApply, ChoosingApplies, DeliveriesApply, FilteringApplies, LegalHistoriesApply, RunsApply, StepsApply, CollectionRestored, LogsRestored, RestoringApplies, DenotationApplies, ProjectionsApply, SendingApplies, AutoApplies, EventsApply, ReplayApplies, ThinnedApplies, WritesApply, begun, both_epochs, counted, counted_once_more, one_or_other, still_needed}
@@ -174,7 +174,7 @@ restoring_applies =
     record {
       stay_true = λ law. law totals formed total.steps_to_failure total.outcomes_to_failure output_failed reached Recover come_back (did (cuts two_epochs_kept)) recovery_is_reached.step;
       as_asked = λ law. law totals formed total.steps_to_failure total.outcomes_to_failure output_failed reached;
-      ascend = λ law. law totals formed total.steps_to_failure total.outcomes_to_failure output_failed reached [] (drop 1 output_failed.writes) (record { node = 1; written = checkpoint (until 1) (alike 0); base = None; depth = 0; stage = collected }) refl (lit< tt) (until 1) (alike 0) refl;
+      ascend = λ law. law totals formed total.steps_to_failure total.outcomes_to_failure output_failed reached [] (drop 1 output_failed.writes) (record { node = 1; written = checkpoint (until 1) (alike 0); base = None; depth = 0; stage = acknowledged }) refl (lit< tt) (until 1) (alike 0) refl;
       nothing_inside = λ law. law totals formed total.steps_to_failure total.outcomes_to_failure output_failed reached;
       at_cut = λ law. law totals formed total.steps_to_failure total.outcomes_to_failure output_failed reached (is_failed output_failed) two_epochs_kept largest 1 (until 2) refl refl (λ e. absurd (cc));
       watermarks = λ law. law totals formed total.steps_to_failure total.outcomes_to_failure output_failed reached;
@@ -332,7 +332,7 @@ writes_apply =
     let formed = totals_are_well_formed.well_formed in
     let reached = failure_is_reached.reached in
     record {
-      differ = λ law. law totals formed steps_to_failure outcomes_to_failure output_failed reached [] (drop 1 output_failed.writes) (record { node = 1; written = checkpoint (until 1) (alike 0); base = None; depth = 0; stage = collected }) refl (until 1) (alike 0) refl;
+      differ = λ law. law totals formed steps_to_failure outcomes_to_failure output_failed reached [] (drop 1 output_failed.writes) (record { node = 1; written = checkpoint (until 1) (alike 0); base = None; depth = 0; stage = acknowledged }) refl (until 1) (alike 0) refl;
       have_stamps = λ law. law totals formed steps_to_failure outcomes_to_failure output_failed reached;
       chained = λ law. law totals formed steps_to_failure outcomes_to_failure output_failed reached 1 (lit< tt);
       newest = λ law. law totals formed steps_to_failure outcomes_to_failure output_failed reached 1 (until 0);

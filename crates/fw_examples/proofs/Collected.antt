@@ -10,10 +10,10 @@ use Rattle.fw_collect.specs.declared.drops.Drops.{Drops}
 use Rattle.fw_collect.specs.Drops.{IsPlanned}
 use Rattle.fw_collect.specs.LawsOfCollections.{GoesWith, RisesTo}
 use Rattle.fw_collect.proofs.CollectLaws.{drops_what_is_collected}
-use Rattle.fw_examples.specs.Collected.{CollectionsApply, IsCollected, IsEarlierCollected, IsToCollect, catalogue_of, both_batches, both_checkpoints, both_logged, both_sent, both_written, checkpoints_written, history_then, input_of_both, log_of_both, none_collected_yet}
+use Rattle.fw_examples.specs.Collected.{AreBothLeft, CollectionsApply, IsCollected, IsEarlierCollected, IsToCollect, catalogue_of, both_batches, both_checkpoints, both_in_a_chain, both_logged, both_sent, both_written, checkpoints_written, history_then, input_of_both, log_of_both, none_collected_yet}
 use Rattle.fw_examples.specs.Logs.{all_but_the_last, events_logged, none}
 use Rattle.fw_examples.specs.Loop.{with_serials}
-use Rattle.fw_examples.specs.RunningTotal.{alike, total_flow, totals, two_epochs}
+use Rattle.fw_examples.specs.RunningTotal.{alike, come_back, total_flow, totals, two_epochs}
 use Rattle.fw_examples.proofs.Choosing.{lies}
 use Rattle.fw_examples.proofs.Fronts.{by_three}
 
@@ -26,6 +26,11 @@ logged_entries = (refl, (refl, tt))
 checkpoint_entries : AllZip (GoesWith totals (with_serials two_epochs) (alike 2) checkpoints_written (catalogue_of both_checkpoints)) both_checkpoints checkpoints_written
 unfolding kind_of bounds_of policy_of receiver sender out_edges phi
 checkpoint_entries = (refl, (refl, tt))
+
+-- and of two of which the later one stands on the earlier
+chained_entries : AllZip (GoesWith totals (with_serials two_epochs) (alike 2) come_back.writes (catalogue_of both_in_a_chain)) both_in_a_chain come_back.writes
+unfolding kind_of bounds_of policy_of receiver sender out_edges phi
+chained_entries = (refl, (refl, tt))
 
 -- nothing lies within everything
 rises : RisesTo events_logged.flow none_collected_yet all_but_the_last
@@ -63,9 +68,19 @@ unfolding kind_of bounds_of policy_of receiver sender out_edges phi
 checkpoints drops planned = record {
   earlier_goes = λ law. (law total_flow (alike 2) (catalogue_of both_checkpoints) drops planned).0;
   later_stays = λ law. (law total_flow (alike 2) (catalogue_of both_checkpoints) drops planned).1.0;
+  one_left = refl;
   entries = drops_what_is_collected (GoesWith totals (with_serials two_epochs) (alike 2) checkpoints_written (catalogue_of both_checkpoints)) totals (with_serials two_epochs) (alike 2) checkpoints_written
       (catalogue_of both_checkpoints) (λ e write k. k) drops planned checkpoint_entries ((λ e. refl), ((λ e. refl), tt));
 }
 
+in_a_chain : (drops : Drops) → IsPlanned total_flow (alike 2) both_in_a_chain drops → AreBothLeft drops
+unfolding kind_of bounds_of policy_of receiver sender out_edges phi
+in_a_chain drops planned = record {
+  earlier_stays = λ law. (law total_flow (alike 2) (catalogue_of both_in_a_chain) drops planned).0;
+  later_stays = λ law. (law total_flow (alike 2) (catalogue_of both_in_a_chain) drops planned).1.0;
+  entries = drops_what_is_collected (GoesWith totals (with_serials two_epochs) (alike 2) come_back.writes (catalogue_of both_in_a_chain)) totals (with_serials two_epochs) (alike 2) come_back.writes
+      (catalogue_of both_in_a_chain) (λ e write k. k) drops planned chained_entries ((λ e. refl), ((λ e. refl), tt));
+}
+
 pub collections_apply : CollectionsApply
-collections_apply = record { asked = to_collect; logged = logged; entries = checkpoint_entries; checkpoints = checkpoints }
+collections_apply = record { asked = to_collect; logged = logged; entries = checkpoint_entries; checkpoints = checkpoints; in_a_chain = in_a_chain }

@@ -2,6 +2,7 @@ pub mod Answers
 pub mod Applied
 pub mod AtRest
 pub mod Certified
+pub mod Chained
 pub mod Changed
 pub mod Choosing
 pub mod Collected

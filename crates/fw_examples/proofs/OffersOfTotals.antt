@@ -66,7 +66,8 @@ unfolding kind_of policy_of bounds_of batches_of
 input_restorable f (c, inl k, w) = (c, inl (w, subst (λ g. Within (frontier_of epochs g) (frontier_of epochs (until 4))) (sym k.2) (until_more epochs k.0 4 k.1)))
 input_restorable f (c, inr e, w) = absurd (false≢true e.0)
 
--- the running total can be restored to its acknowledged checkpoint alone: to nothing not, since that lacks the low watermark
+-- the running total can be restored to its later acknowledged checkpoint alone: to the earlier one not, nor to nothing, since these lack
+-- the low watermark
 total_listed : (f : Front) → IsOffered total_flow offers_of_totals 1 (At f) → IsCandidate totals output_failed (is_failed output_failed) kept 1 (At f)
 unfolding kind_of policy_of bounds_of
 total_listed f (c, inl e) = (c, inr (inr (inl (refl, e, refl))), holds_two f 2 (lit≤ tt) e)
@@ -75,7 +76,7 @@ total_listed f (c, inr e) = absurd e
 total_restorable : (f : Front) → IsCandidate totals output_failed (is_failed output_failed) kept 1 (At f) → IsOffered total_flow offers_of_totals 1 (At f)
 unfolding kind_of policy_of bounds_of
 total_restorable f (c, inl e, w) = absurd (lacks_one f 0 (lit< tt) e w)
-total_restorable f (c, inr (inl is), w) = absurd (false≢true is.2)
+total_restorable f (c, inr (inl is), w) = absurd (lacks_one f 1 (lit< tt) (sym is.1) w)
 total_restorable f (c, inr (inr (inl is)), w) = (c, inl is.1)
 total_restorable f (c, inr (inr (inr (inl is))), w) = absurd (false≢true is.2)
 total_restorable f (c, inr (inr (inr (inr e))), w) = absurd e

@@ -216,8 +216,8 @@ pub record FilteringApplies : Type 0 where
 
 -- ---- what the laws of restoring say
 
--- the laws of restoring, of the state of the failure, in which a checkpoint is collected, one acknowledged and one in flight,
--- and of the recovery that keeps two epochs
+-- the laws of restoring, of the state of the failure, in which two checkpoints are acknowledged and one is in flight, and of the
+-- recovery that keeps two epochs
 pub record RestoringApplies : Type 0 where
   pub stay_true : restoring.CheckpointsStayTrue
       → AllByRecursion (λ (write : Write). CountsWritten totals output_failed come_back write.node write.written) come_back.writes

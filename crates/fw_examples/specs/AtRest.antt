@@ -14,7 +14,7 @@ use Rattle.fw_examples.specs.RunningTotal.{outcomes_to_failure, output_failed, t
 
 -- The laws of rest, of the state in which the output is failed, two of five epochs are acknowledged and a checkpoint is in flight: a
 -- recovery and 136 steps bring all five to the output; and once each node is asked for a checkpoint, and 138 steps and a collection are
--- taken, one record is left.
+-- taken, the newest record is left, with those on which it stands.
 pub record RestApplies : Type 0 where
   pub due : stamps_due totals totals_denoted out ≡ 5
   pub enough : steps_in_all totals totals_denoted + count_in_flight output_failed.writes ≡ 136

@@ -1,6 +1,6 @@
 -- What the laws of collections say of whatever is planned in two states: of a select that logged two events, and of the running total
 -- with two checkpoints. That something is planned, whatever the flow, the choice and the entries, is the clause of `fw_collect::plan`.
-use Rattle.std.specs.Prelude.{List, [], false, not, true, ℕ, filter, ◌∷◌, ◌≡◌, None}
+use Rattle.std.specs.Prelude.{List, [], false, not, true, ℕ, filter, ◌∷◌, ◌≡◌, None, Option, Some}
 use Rattle.std.specs.List.{AllByRecursion, AllZip}
 use Rattle.fw_bag.specs.declared.rec.Rec.{Rec}
 use Rattle.fw_time.specs.Stamp.{in_domain}
@@ -12,6 +12,7 @@ use Rattle.fw_flow.specs.declared.choice.Recorded.{Recorded}
 use Rattle.fw_flow.specs.declared.event.Message.{Message}
 use Rattle.fw_model.specs.Choice.{until}
 use Rattle.fw_model.specs.Machine.{SerialEvent, Write, acknowledged, checkpoint, logged_event}
+use Rattle.fw_model.specs.Steps.{checkpoints_of, collected_writes}
 use Rattle.fw_model.specs.Writes.{not_collected}
 use Rattle.fw_record.specs.declared.record.Event.TheVariants.{Deliver as LoggedDelivery}
 use Rattle.fw_keep.specs.declared.entry.Entry.{Entry}
@@ -114,34 +115,58 @@ pub record IsCollected (drops : Drops) : Type 0 where
 abbrev pub record_of_first : Recorded
 record_of_first = recorded_up_to (until 1) (until 0)
 
--- the entry of a checkpoint
-abbrev pub kept_checkpoint : ℕ → Recorded → Entry
-kept_checkpoint id what =
+-- the entry of a checkpoint, which stands on one with this id and on so many in all
+abbrev pub kept_checkpoint : ℕ → Option ℕ → ℕ → Recorded → Entry
+kept_checkpoint id base depth what =
     record {
       id = id;
       node = total_node;
       written = written.Checkpoint what (record { delivered = []; notified = []; sent = [] }) 0;
-      base = None;
-      depth = 0;
+      base = base;
+      depth = depth;
       acknowledged = true;
     }
 
--- the entries of both
-abbrev pub both_checkpoints : List Entry
-both_checkpoints = kept_checkpoint 0 record_of_first ∷ kept_checkpoint 1 record_of_checkpoint ∷ []
+-- the entry of the earlier one, which is whole
+abbrev pub earlier_entry : Entry
+earlier_entry = kept_checkpoint 0 None 0 record_of_first
 
--- the machine's writes before the collection
+-- the entry of the later one, where it is whole too
+abbrev pub whole_entry : Entry
+whole_entry = kept_checkpoint 1 None 0 record_of_checkpoint
+
+-- and where it holds what changed since the earlier one
+abbrev pub changes_entry : Entry
+changes_entry = kept_checkpoint 1 (Some 0) 1 record_of_checkpoint
+
+-- the entries of two whole ones
+abbrev pub both_checkpoints : List Entry
+both_checkpoints = earlier_entry ∷ whole_entry ∷ []
+
+-- the machine's writes of two whole ones before the collection
 abbrev pub checkpoints_written : List Write
 checkpoints_written =
     record { node = total_node; written = checkpoint (until 1) (alike 0); base = None; depth = 0; stage = acknowledged }
     ∷ record { node = total_node; written = checkpoint (until 2) (alike 0); base = None; depth = 0; stage = acknowledged }
     ∷ []
 
--- Of two checkpoints the earlier one goes, which lies strictly within the watermark.
+-- Of two whole checkpoints the earlier one goes, which lies strictly within the watermark.
 pub record IsEarlierCollected (drops : Drops) : Type 0 where
-  pub earlier_goes : DropsWhatIsGivenUp → is_dropped drops (catalogue_of both_checkpoints) (kept_checkpoint 0 record_of_first) ≡ true
-  pub later_stays : DropsWhatIsGivenUp → is_dropped drops (catalogue_of both_checkpoints) (kept_checkpoint 1 record_of_checkpoint) ≡ false
+  pub earlier_goes : DropsWhatIsGivenUp → is_dropped drops (catalogue_of both_checkpoints) earlier_entry ≡ true
+  pub later_stays : DropsWhatIsGivenUp → is_dropped drops (catalogue_of both_checkpoints) whole_entry ≡ false
+  pub one_left : checkpoints_of total_node (filter not_collected (collected_writes totals (alike 2) (with_serials two_epochs) checkpoints_written)) ≡ until 2 ∷ []
   pub entries : AllZip (GoesWith totals (with_serials two_epochs) (alike 2) checkpoints_written (catalogue_of both_checkpoints)) (filter (λ e. not (is_dropped drops (catalogue_of both_checkpoints) e)) both_checkpoints)
+      (filter not_collected (collected_writes totals (alike 2) (with_serials two_epochs) checkpoints_written))
+
+-- the entries where the later one stands on the earlier, as the running total writes them
+abbrev pub both_in_a_chain : List Entry
+both_in_a_chain = earlier_entry ∷ changes_entry ∷ []
+
+-- Then the earlier one stays too, though it lies strictly within the watermark.
+pub record AreBothLeft (drops : Drops) : Type 0 where
+  pub earlier_stays : DropsWhatIsGivenUp → is_dropped drops (catalogue_of both_in_a_chain) earlier_entry ≡ false
+  pub later_stays : DropsWhatIsGivenUp → is_dropped drops (catalogue_of both_in_a_chain) changes_entry ≡ false
+  pub entries : AllZip (GoesWith totals (with_serials two_epochs) (alike 2) come_back.writes (catalogue_of both_in_a_chain)) (filter (λ e. not (is_dropped drops (catalogue_of both_in_a_chain) e)) both_in_a_chain)
       (filter not_collected come_back.writes)
 
 -- the laws of collections, of both
@@ -150,3 +175,4 @@ pub record CollectionsApply : Type 0 where
   pub logged : (drops : Drops) → IsPlanned events_logged.flow all_but_the_last both_logged drops → IsCollected drops
   pub entries : AllZip (GoesWith totals (with_serials two_epochs) (alike 2) checkpoints_written (catalogue_of both_checkpoints)) both_checkpoints checkpoints_written
   pub checkpoints : (drops : Drops) → IsPlanned total_flow (alike 2) both_checkpoints drops → IsEarlierCollected drops
+  pub in_a_chain : (drops : Drops) → IsPlanned total_flow (alike 2) both_in_a_chain drops → AreBothLeft drops

@@ -162,7 +162,7 @@ abbrev pub log_kept : Machine
 log_kept =
     both_failed
     (record { node = big; written = checkpoint (until 1) (alike 0); base = None; depth = 0; stage = acknowledged }
-    ∷ record { node = big; written = checkpoint [] (alike 1); base = None; depth = 0; stage = acknowledged }
+    ∷ record { node = big; written = checkpoint [] (alike 1); base = Some (until 1); depth = 1; stage = acknowledged }
     ∷ [])
     (alike 1)
 

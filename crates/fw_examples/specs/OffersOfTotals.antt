@@ -44,7 +44,7 @@ offer_of_input = record {
   table = [];
 }
 
--- The running total lists its one checkpoint that is acknowledged and not collected.
+-- The running total lists its one checkpoint that is acknowledged and holds the low watermark.
 abbrev pub offer_of_total : Offer
 offer_of_total = record {
   present = true;

@@ -16,7 +16,7 @@ use Rattle.fw_flow.specs.declared.step.Step.{Step}
 use Rattle.fw_flow.specs.declared.step.Step.TheVariants.{Ack, Checkpoint, Collect, Deliver, Fail, Inject, Notify, Persist, Progress, Recover}
 use Rattle.fw_model.specs.Choice.{until}
 use Rattle.fw_model.specs.Denotation.{Family, rounds}
-use Rattle.fw_model.specs.Machine.{Machine, acknowledged, checkpoint, collected, in_flight}
+use Rattle.fw_model.specs.Machine.{Machine, acknowledged, checkpoint, in_flight}
 use Rattle.fw_model.specs.Steps.{Outcome, acked, cuts, did, lows, silent}
 use Rattle.fw_examples.specs.Flows.{fed, in_a_row, node, pair, out, src}
 use Rattle.fw_examples.specs.Loop.{with_serials}
@@ -76,16 +76,16 @@ next_epochs = Injected src 3 ∷ Notified total_node (2 ∷ []) ∷ Delivered sr
 abbrev pub alike : ℕ → List Front
 alike k = until k ∷ until k ∷ until k ∷ []
 
--- The output failed. A checkpoint was collected, a later one is acknowledged, and the latest is in flight.
+-- The output failed. A checkpoint is acknowledged, and another one that stands on it; the latest, which stands on that, is in flight.
 abbrev pub output_failed : Machine
 output_failed = record {
   history = with_serials (next_epochs ++ two_epochs);
   next = 9;
   settled = until 3 ∷ until 3 ∷ until 2 ∷ [];
   writes =
-      record { node = total_node; written = checkpoint (until 1) (alike 0); base = None; depth = 0; stage = collected }
-      ∷ record { node = total_node; written = checkpoint (until 2) (alike 0); base = None; depth = 0; stage = acknowledged }
-      ∷ record { node = total_node; written = checkpoint (until 3) (alike 2); base = None; depth = 0; stage = in_flight }
+      record { node = total_node; written = checkpoint (until 1) (alike 0); base = None; depth = 0; stage = acknowledged }
+      ∷ record { node = total_node; written = checkpoint (until 2) (alike 0); base = Some (until 1); depth = 1; stage = acknowledged }
+      ∷ record { node = total_node; written = checkpoint (until 3) (alike 2); base = Some (until 2); depth = 2; stage = in_flight }
       ∷ [];
   failed = false ∷ false ∷ true ∷ [];
   ack_counts = 0 ∷ 0 ∷ 2 ∷ [];
@@ -110,8 +110,8 @@ come_back = record output_failed {
   history = with_serials two_epochs;
   settled = alike 2;
   writes =
-      record { node = total_node; written = checkpoint (until 1) (alike 0); base = None; depth = 0; stage = collected }
-      ∷ record { node = total_node; written = checkpoint (until 2) (alike 0); base = None; depth = 0; stage = acknowledged }
+      record { node = total_node; written = checkpoint (until 1) (alike 0); base = None; depth = 0; stage = acknowledged }
+      ∷ record { node = total_node; written = checkpoint (until 2) (alike 0); base = Some (until 1); depth = 1; stage = acknowledged }
       ∷ [];
   failed = false ∷ false ∷ false ∷ [];
 }

@@ -1,5 +1,5 @@
 -- Witnesses for the laws: what they ask holds of the running total, of the loop and of a sequence, where what they say is not empty.
-use Rattle.std.specs.Prelude.{List, None, [], drop, false, length, map, true, ℕ, ◌++◌, ◌<◌, ◌∷◌, ◌≡◌, ◌≢◌}
+use Rattle.std.specs.Prelude.{List, None, Some, [], drop, false, length, map, true, ℕ, ◌++◌, ◌<◌, ◌∷◌, ◌≡◌, ◌≢◌}
 use Rattle.fw_bag.specs.Bag.{how_often}
 use Rattle.fw_time.specs.Stamp.{Stamp}
 use Rattle.fw_frontier.specs.Front.{Front}
@@ -22,7 +22,7 @@ use Rattle.fw_model.specs.Covers.{covers_in}
 use Rattle.fw_model.specs.Denotation.{IsDenotation, bag_at, rounds}
 use Rattle.fw_model.specs.Filtering.{AreFrontiers, ComeFromKept, IsConsistentlyKept, MeetsInclusions, kept_events, messages_from}
 use Rattle.fw_model.specs.History.{IsAdmissible, IsClosedFor, IsComplete, IsEnabled, IsLegal, delivered_messages, pending_messages, recs_at, sent_messages}
-use Rattle.fw_model.specs.Machine.{Machine, Write, acknowledged, checkpoint, collected, events, first_state, front_of, in_flight, is_failed}
+use Rattle.fw_model.specs.Machine.{Machine, Write, acknowledged, checkpoint, events, first_state, front_of, in_flight, is_failed}
 use Rattle.fw_model.specs.Settled.{HasMoreToSettle, IsCutWithinSettled, IsDenotedInside, IsFull}
 use Rattle.fw_model.specs.Steps.{HaveNoRecovery, Run, StepsTo, cuts, did, lows, silent, with_event}
 use Rattle.fw_model.specs.Thinned.{IsThinned}
@@ -38,13 +38,13 @@ pub record TotalsAreWellFormed : Type 0 where
   pub epochs : HasEpochs totals
   pub denoted : IsDenotation totals totals_denoted
 
--- A state that is reached without a recovery: an output is failed, a checkpoint was collected, a later one is acknowledged, and
--- the latest is in flight; a message is pending on each edge, and two epochs were acknowledged, with what is denoted.
+-- A state that is reached without a recovery: an output is failed, two checkpoints are acknowledged, and the latest is in flight; a
+-- message is pending on each edge, and two epochs were acknowledged, with what is denoted.
 pub record FailureIsReached : Type 0 where
   pub no_recovery : HaveNoRecovery steps_to_failure
   pub reached : Run totals (first_state totals) steps_to_failure outcomes_to_failure output_failed
   pub failed : is_failed output_failed out ≡ true
-  pub written : map (λ (write : Write). write.stage) output_failed.writes ≡ collected ∷ acknowledged ∷ in_flight ∷ []
+  pub written : map (λ (write : Write). write.stage) output_failed.writes ≡ acknowledged ∷ acknowledged ∷ in_flight ∷ []
   pub pending_for_total : pending_messages totals (events output_failed.history) src_to_run ≡ valued_at_epoch 3 1 ∷ []
   pub pending_for_output : pending_messages totals (events output_failed.history) run_to_out ≡ valued_at_epoch 2 15 ∷ []
   pub acknowledged : stamps_acknowledged out outcomes_to_failure ≡ (0 ∷ []) ∷ (1 ∷ []) ∷ []
@@ -77,8 +77,8 @@ pub record SomeIsSettled : Type 0 where
   pub candidate : IsCandidate totals output_failed (is_failed output_failed) kept total_node (At (until 2))
   pub enabled : IsEnabled totals (events output_failed.history) (Delivered src_to_run (valued_at_epoch 3 1))
 
--- There the largest choice keeps two epochs of four, as the low watermark does, and checkpoints are chains; a checkpoint that
--- was collected is offered only where what was collected counts.
+-- There the largest choice keeps two epochs of four, as the low watermark does, and checkpoints are chains; a checkpoint below the
+-- low watermark, which is there since another one stands on it, is offered only where what was collected counts.
 pub record SomethingIsChosen : Type 0 where
   pub largest : IsLargest totals output_failed (IsCandidate totals output_failed (is_failed output_failed) kept) two_epochs_kept
   pub low : output_failed.low ≡ alike 2
@@ -313,9 +313,9 @@ pub record EpochsAreThinned : Type 0 where
 abbrev pub all_written : Machine
 all_written = record output_failed {
   writes =
-      record { node = total_node; written = checkpoint (until 1) (alike 0); base = None; depth = 0; stage = collected }
-      ∷ record { node = total_node; written = checkpoint (until 2) (alike 0); base = None; depth = 0; stage = acknowledged }
-      ∷ record { node = total_node; written = checkpoint (until 3) (alike 2); base = None; depth = 0; stage = acknowledged }
+      record { node = total_node; written = checkpoint (until 1) (alike 0); base = None; depth = 0; stage = acknowledged }
+      ∷ record { node = total_node; written = checkpoint (until 2) (alike 0); base = Some (until 1); depth = 1; stage = acknowledged }
+      ∷ record { node = total_node; written = checkpoint (until 3) (alike 2); base = Some (until 2); depth = 2; stage = acknowledged }
       ∷ [];
 }
 

@@ -2,6 +2,7 @@
 //! should.
 #![tactic(auto)]
 
+mod chains_of_checkpoints;
 mod inclusions;
 mod kinds_send;
 mod laws_applied;
@@ -13,6 +14,7 @@ mod trails_of_state;
 mod what_was_told;
 mod witnesses_of_laws;
 
+pub use chains_of_checkpoints::{changes_are_kept, ninth_is_whole};
 pub use inclusions::{
     delivered_is_needed, discarded_is_needed, leaves_out_one, notices_are_needed,
     notified_is_needed, one_select_is_well_formed, own_is_needed, two_sources_is_well_formed,

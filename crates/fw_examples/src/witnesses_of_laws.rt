@@ -38,7 +38,7 @@ pub fn some_is_settled()
     ensures { SomeIsSettled }
 {}
 
-/// There is a largest choice, strictly between nothing and all, and a checkpoint that was collected.
+/// There is a largest choice, strictly between nothing and all, and a checkpoint that is not offered any more.
 #[tactic(auto, using(crate::proofs::Witnesses::something_is_chosen))]
 pub fn something_is_chosen()
     ensures { SomethingIsChosen }

@@ -16,7 +16,7 @@ use Rattle.fw_flow.specs.declared.side.Inclusion.{Inclusion}
 use Rattle.fw_flow.specs.declared.side.Inclusion.TheVariants.{OfCut, OfNote}
 use Rattle.fw_flow.specs.Dataflow.{System, Dataflow, bounds_of, bounds_of_domain, sender}
 use Rattle.fw_flow.specs.WellFormed.{IsWellFormed}
-use Rattle.fw_headline.proofs.CandidateLaws.{candidate-decided}
+use Rattle.fw_model.proofs.ConsistentLaws.{candidate-decided}
 use Rattle.fw_headline.proofs.ListLaws.{greatest-in, list_of-places}
 use Rattle.fw_headline.proofs.WithinLaws.{cut_within-decided, left-decided}
 use Rattle.fw_model.proofs.ChoiceLaws.{candidates-union, delivered-union, discarded-union, notified-union}
@@ -112,7 +112,7 @@ greatest-offered : (sys : System) (state : Machine) (lost : ℕ → Bool) → Ar
     → (top : Cut) × Offered sys state lost p top × P top × ((x : Cut) → Offered sys state lost p x → P x → IsCutWithin sys.flow p x top)
 greatest-offered sys state lost chains p l P decided keeps one offered k =
     let O : Cut → Type 0 = λ x. Offered sys state lost p x × P x in
-    let g = greatest-in O (λ x y. IsCutWithin sys.flow p x y) (λ x. decided-and (candidate-decided sys state lost p x) (decided x)) (cut-itself sys p) (cut-along sys p) both (cuts_at sys p) one (offered, k) in
+    let g = greatest-in O (λ x y. IsCutWithin sys.flow p x y) (λ x. decided-and (candidate-decided sys state lost kept p x) (decided x)) (cut-itself sys p) (cut-along sys p) both (cuts_at sys p) one (offered, k) in
     (g.0, g.1.0, g.1.1, λ x o j. each-in (λ y. O y → IsCutWithin sys.flow p y g.0) x (cuts_at sys p) (in-cuts sys state lost p x o) g.3 (o, j))
   where
     both : (x y : Cut) → Offered sys state lost p x × P x → Offered sys state lost p y × P y

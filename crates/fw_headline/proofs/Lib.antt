@@ -1,4 +1,4 @@
-pub mod CandidateLaws
+pub mod BasesLaws
 pub mod GreatestLaws
 pub mod ListLaws
 pub mod LoweredLaws

@@ -6,6 +6,7 @@ use Rattle.fw_flow.specs.declared.step.Step.TheVariants.{Recover, Collect}
 use Rattle.fw_flow.specs.Dataflow.{System}
 use Rattle.fw_flow.specs.WellFormed.{IsWellFormedSystem}
 use Rattle.fw_rest.proofs.FinishLaws.{all-comes}
+use Rattle.fw_headline.proofs.BasesLaws.{cuts-kept_with_bases}
 use Rattle.fw_headline.proofs.RunLaws.{one-run}
 use Rattle.fw_headline.specs.Right.{IsAllThere, IsRight, EveryRunIsRight}
 use Rattle.fw_model.proofs.ChoosingLaws.{kept-is_ever, recovery-has_choice, failed-recovered, reached-one_next, never-falls}
@@ -14,7 +15,7 @@ use Rattle.fw_model.proofs.DomainLaws.{has_epochs}
 use Rattle.fw_model.proofs.CollectedLaws.{collected-forgotten}
 use Rattle.fw_model.proofs.LargestLaws.{largest-exists}
 use Rattle.fw_model.proofs.RecoveryLaws.{runs-legal, acknowledged-denoted}
-use Rattle.fw_model.proofs.RestoringLaws.{never-collected, cuts-kept, cut_batches-outside, events-logged, logs-hold}
+use Rattle.fw_model.proofs.RestoringLaws.{never-collected, cut_batches-outside, events-logged, logs-hold}
 use Rattle.fw_model.proofs.RunLaws.{acknowledgements-in_order}
 use Rattle.fw_model.specs.Choice.{View, kept, ever, IsCandidate, IsLargest, IsWatermark}
 use Rattle.fw_model.specs.Denotation.{rounds}
@@ -67,7 +68,7 @@ all-there : (sys : System) → IsWellFormedSystem sys → (steps : List Step) (o
     → (lost : ℕ → Bool) (choice : Choice) → IsLargest sys state (IsCandidate sys state lost kept) choice → IsAllThere sys state lost choice
 all-there sys w steps outcomes state r lost choice l = record {
   of_ever = (kept-is_ever sys w steps outcomes state r lost choice).0 l;
-  checkpoints = cuts-kept sys w steps outcomes state r lost choice l;
+  checkpoints = cuts-kept_with_bases sys w steps outcomes state r lost choice l;
   logged_events = events-logged sys w steps outcomes state r lost choice l;
   messages = logs-hold sys w steps outcomes state r lost choice l;
   batches = cut_batches-outside sys w steps outcomes state r lost choice l;

@@ -1,5 +1,5 @@
 -- The headline: what is true wherever steps lead from the first state of a well-formed system.
-use Rattle.std.specs.Prelude.{◌≡◌, ◌≢◌, ◌↔◌, ◌<◌, ℕ, Bool, true, false, List, [], ◌∷◌, length, map}
+use Rattle.std.specs.Prelude.{◌≡◌, ◌≢◌, ◌↔◌, ◌<◌, ℕ, zero, suc, Bool, true, false, Option, Some, None, List, [], ◌∷◌, length, map}
 use Rattle.std.specs.List.{AllByRecursion}
 use Rattle.fw_frontier.specs.Frontier.{Within}
 use Rattle.fw_frontier.specs.Front.{Front}
@@ -21,14 +21,30 @@ use Rattle.fw_model.specs.Steps.{cuts, lows, Outcome, did, StepsTo, Run, IsTheNe
 use Rattle.fw_rest.specs.Coming.{AllComes}
 use Rattle.fw_model.specs.Writes.{takes_checkpoints, HasOne, IsCheckpointOf, IsLoggedOnce, MayKeepNothingIfCollected}
 
+-- exactly one of these writes is a checkpoint of node p at f, and it is acknowledged, so neither in flight nor collected, and has this base
+-- and depth
+pub record IsKeptAt (writes : List Write) (p : ℕ) (f : Front) (base : Option Front) (depth : ℕ) : Type 0 where
+  pub only : HasOne (IsCheckpointOf p f) writes
+  pub acknowledged : only.one.stage ≡ acknowledged
+  pub its_base : only.one.base ≡ base
+  pub its_depth : only.one.depth ≡ depth
+
+-- node p's checkpoint at f is so deep, and is kept with all on which it stands: its base, that one's base, and so on, each one less deep,
+-- down to a whole one
+abbrev pub IsKeptWithBases : List Write → ℕ → ℕ → Front → Type 0
+IsKeptWithBases writes p zero f = IsKeptAt writes p f None 0
+IsKeptWithBases writes p (suc depth) f =
+    (base : Front) × IsKeptAt writes p f (Some base) (suc depth) × IsKeptWithBases writes p depth base
+
 -- All is there that a restoration to a largest choice needs, where these nodes count as failed.
 pub record IsAllThere (sys : System) (state : Machine) (lost : ℕ → Bool) (choice : Choice) : Type 0 where
   -- the choice is also the largest over all that was ever acknowledged and not undone
   pub of_ever : IsLargest sys state (IsCandidate sys state lost ever) choice
-  -- a node that takes checkpoints, if its cut has a stamp, has exactly one there, acknowledged and not collected
+  -- a node that takes checkpoints, if its cut has a stamp, has exactly one there, and exactly one at each front on which that one stands,
+  -- down to a whole one: each of them acknowledged and not collected
   pub checkpoints : (p : ℕ) (f : Front) → takes_checkpoints (policy_of sys.flow p) ≡ true → cut_of choice p ≡ At f
       → f ≢ no_stamps (bounds_of sys.flow p)
-      → (only : HasOne (IsCheckpointOf p f) state.writes) × (only.one.stage ≡ acknowledged)
+      → (depth : ℕ) × IsKeptWithBases state.writes p depth f
   -- each event inside the cut of a node that logs each is logged once, and collected only where what was logged at its stamp is given up
   pub logged_events : (p : ℕ) (f : Front) → policy_of sys.flow p ≡ policy.Full → cut_of choice p ≡ At f
       → AllByRecursion (λ (v : SerialEvent). event_node sys.flow v.event ≡ p → node_frontier sys.flow p f (event_stamp v.event) ≡ true

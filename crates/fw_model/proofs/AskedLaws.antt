@@ -39,7 +39,7 @@ use Rattle.fw_model.proofs.SameInsideLaws.{at_node, IsLowConsistent, low_length}
 use Rattle.fw_model.proofs.WriteLaws.{ArePairs, pairs-append, pairs-passed, pairs-mapped, pairs-replaced, LiesBelow, AreAscending}
 use Rattle.fw_model.proofs.LowLaws.{none-canonical}
 use Rattle.fw_model.proofs.ChoosingLaws.{CanRecover, settled_writes, watermark-grows, took-recover, first-recover}
-use Rattle.fw_model.proofs.WholeLaws.{forgotten-below}
+use Rattle.fw_model.proofs.BelowLaws.{forgotten-below}
 use Rattle.fw_model.specs.Measure.{enough_rounds}
 use Rattle.fw_model.specs.Writes.{takes_checkpoints}
 

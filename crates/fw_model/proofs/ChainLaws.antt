@@ -1,7 +1,8 @@
 -- The checkpoints of a node are a chain.
-use Rattle.std.proofs.Common.{◌≡◌, ◌⊎◌, ℕ, ◌<◌, Bool, true, false, not, ◌&&◌, ◌==◌, cond, List, [], ◌∷◌, ◌++◌, length, filter, map, refl, sym, ap, subst, ◌∙◌, inl, inr, Option, Some, None, append_assoc}
+use Rattle.std.proofs.Common.{◌≡◌, ◌⊎◌, ℕ, ◌<◌, Bool, true, false, not, ◌&&◌, ◌==◌, cond, List, [], ◌∷◌, ◌++◌, length, filter, map, refl, sym, ap, subst, ◌∙◌, inl, inr, zero, suc, ◌+◌, nat_lt, Option, Some, None, append_assoc, add-one}
 use Rattle.std.specs.List.{AllByRecursion}
 use Rattle.std.proofs.lemmas.Bool.{cases_Bool, and_parts, cond_both, eqb-true, false_from_ne_true}
+use Rattle.std.proofs.lemmas.List.{map-append}
 use Rattle.fw_lemmas.proofs.Bools.{two_ways}
 use Rattle.fw_lemmas.proofs.Each.{each-weaker}
 use Rattle.fw_frontier.specs.Front.{Front, IsCanonical, same_front}
@@ -16,7 +17,7 @@ use Rattle.fw_flow.specs.Dataflow.{System, policy_of, receiver, bounds_of, node_
 use Rattle.fw_flow.specs.WellFormed.{IsWellFormedSystem}
 use Rattle.fw_model.specs.Machine.{Machine, SerialEvent, Write, Written, checkpoint, logged_event, Stage, acknowledged, first_state, front_of, is_failed}
 use Rattle.fw_model.specs.Choice.{kept, IsCandidate, cut_of, filtered_history}
-use Rattle.fw_model.specs.Steps.{Effect, Outcome, did, idle, LeadsTo, Run, write_of_event, checkpoint_of, checkpoints_of, next_depth, base_of_depth, is_eager, is_in_flight, is_kept_write, front_of_cut, is_forgotten, after_collection}
+use Rattle.fw_model.specs.Steps.{Effect, Outcome, did, idle, LeadsTo, Run, write_of_event, checkpoint_of, checkpoint_front, checkpoints_of, checkpoint_depth, depths_of, depth_after, next_depth, base_of_depth, is_eager, is_in_flight, is_kept_write, front_of_cut, is_forgotten, after_collection}
 use Rattle.fw_model.specs.LawsOfChains.{Link, link_of, links_of, IsWholeLink, StandsOnLast, IsChain, EachStandsOnTheOneBefore}
 use Rattle.fw_model.proofs.WriteLaws.{LiesBelow, IsWriteBelow, AreAscending}
 use Rattle.fw_model.proofs.ChoosingLaws.{settled_writes}
@@ -29,12 +30,11 @@ use Rattle.fw_model.proofs.ForgottenLaws.{Flies, AreInOrder, took-order}
 abbrev pub link_at : ℕ → Write → List Link
 link_at p x = cond (x.node == p) (link_of x.base x.depth x.written) []
 
-last_link : Option Link → List Link → Option Link
+abbrev pub last_link : Option Link → List Link → Option Link
 last_link last [] = last
 last_link last (l ∷ ls) = last_link (Some l) ls
 
 chain-append : (last : Option Link) (xs ys : List Link) → IsChain last xs → IsChain (last_link last xs) ys → IsChain last (xs ++ ys)
-unfolding last_link
 chain-append last [] ys a b = b
 chain-append last (x ∷ xs) ys a b = (a.0, chain-append (Some x) xs ys a.1 b)
 
@@ -66,13 +66,65 @@ next_link state p f = record {
   depth = next_depth p state.writes;
 }
 
-whole-stands : (last : Option Link) (link : Link) → IsWholeLink link → StandsOnLast last link
-whole-stands None link w = w
-whole-stands (Some last) link w = inl w
+-- ---- what the rule of the depth gives: the link after these
 
--- what the rule of the depth has to give
+pub depths-are : (p : ℕ) (xs : List Write) → depths_of p xs ≡ map (λ (l : Link). l.depth) (links_of p xs)
+depths-are p [] = refl
+depths-are p (x ∷ xs) =
+    ap (λ ds. ds ++ depths_of p xs) (by (x.node == p) x.written) ∙ ap (λ ds. map (λ (l : Link). l.depth) (link_at p x) ++ ds) (depths-are p xs)
+    ∙ sym (map-append (λ (l : Link). l.depth) (link_at p x) (links_of p xs))
+  where
+    by : (own : Bool) (w : Written) → cond own (checkpoint_depth x.depth w) [] ≡ map (λ (l : Link). l.depth) (cond own (link_of x.base x.depth w) [])
+    by true (checkpoint f low) = refl
+    by true (logged_event serial) = refl
+    by false w = refl
+
+pub fronts-are : (p : ℕ) (xs : List Write) → checkpoints_of p xs ≡ map (λ (l : Link). l.front) (links_of p xs)
+fronts-are p [] = refl
+fronts-are p (x ∷ xs) =
+    ap (λ fs. fs ++ checkpoints_of p xs) (by (x.node == p) x.written) ∙ ap (λ fs. map (λ (l : Link). l.front) (link_at p x) ++ fs) (fronts-are p xs)
+    ∙ sym (map-append (λ (l : Link). l.front) (link_at p x) (links_of p xs))
+  where
+    by : (own : Bool) (w : Written) → cond own (checkpoint_front w) [] ≡ map (λ (l : Link). l.front) (cond own (link_of x.base x.depth w) [])
+    by true (checkpoint f low) = refl
+    by true (logged_event serial) = refl
+    by false w = refl
+
+-- the link of a checkpoint of f, of the depth and on the base that it has after these fronts and depths
+abbrev link_after : Front → List Front → List ℕ → Link
+link_after f fs ds = record { front = f; base = base_of_depth (depth_after ds) fs; depth = depth_after ds }
+
+on-last : (f : Front) (last : Link) (d : ℕ) → (d ≡ last.depth + 1) ⊎ (d ≡ 0)
+    → StandsOnLast (Some last) (record { front = f; base = base_of_depth d (last.front ∷ []); depth = d })
+on-last f last d (inl deeper) = inr (ap (λ n. base_of_depth n (last.front ∷ [])) (deeper ∙ add-one last.depth), deeper)
+on-last f last d (inr whole) = inl (ap (λ n. base_of_depth n (last.front ∷ [])) whole, whole)
+
+-- of the fronts before it the base is the last
+base-of_last : (d : ℕ) (f g : Front) (gs : List Front) → base_of_depth d (f ∷ g ∷ gs) ≡ base_of_depth d (g ∷ gs)
+base-of_last zero f g gs = refl
+base-of_last (suc d) f g gs = refl
+
+after-stands : (f : Front) (l : Link) (ls : List Link)
+    → StandsOnLast (last_link (Some l) ls) (link_after f (l.front ∷ map (λ (m : Link). m.front) ls) (l.depth ∷ map (λ (m : Link). m.depth) ls))
+after-stands f l [] =
+    on-last f l (cond (nat_lt l.depth 7) (l.depth + 1) 0)
+    (cond_both (nat_lt l.depth 7) (l.depth + 1) 0 (λ d. (d ≡ l.depth + 1) ⊎ (d ≡ 0)) (λ e. inl refl) (λ e. inr refl))
+after-stands f l (m ∷ ms) =
+    let d = depth_after (m.depth ∷ map (λ (n : Link). n.depth) ms) in
+    subst (λ (base : Option Front). StandsOnLast (last_link (Some m) ms) (record { front = f; base = base; depth = d }))
+    (sym (base-of_last d l.front m.front (map (λ (n : Link). n.front) ms)))
+    (after-stands f m ms)
+
+chain-next : (f : Front) (ls : List Link) → StandsOnLast (last_link None ls) (link_after f (map (λ (l : Link). l.front) ls) (map (λ (l : Link). l.depth) ls))
+chain-next f [] = (refl, refl)
+chain-next f (l ∷ ls) = after-stands f l ls
+
 next-stands : (state : Machine) (p : ℕ) (f : Front) → StandsOnLast (last_link None (links_of p state.writes)) (next_link state p f)
-next-stands state p f = whole-stands (last_link None (links_of p state.writes)) (next_link state p f) (refl, refl)
+next-stands state p f =
+    let last = last_link None (links_of p state.writes) in
+    subst (λ fs. StandsOnLast last (link_after f fs (depths_of p state.writes))) (sym (fronts-are p state.writes))
+    (subst (λ ds. StandsOnLast last (link_after f (map (λ (l : Link). l.front) (links_of p state.writes)) ds)) (sym (depths-are p state.writes))
+    (chain-next f (links_of p state.writes)))
 
 none-asked : (p : ℕ) (state : Machine) (settled : List Front) (qs : List ℕ) → AllByRecursion (λ q. p ≡ q → ⊥) qs → links_of p (settled_writes state settled qs) ≡ []
 none-asked p state settled [] n = refl

@@ -35,7 +35,7 @@ use Rattle.fw_model.proofs.WriteLaws.{some-checkpoint, checkpoint-some, pairs-ap
 use Rattle.fw_frontier.proofs.NamesLaws.{within-is}
 use Rattle.fw_model.proofs.LowLaws.{event-low, same-low, keep-append, keep-all, keep-acknowledged, keep-failed, set-grows, candidate-ever, offered-consistent, low-any, low-within, recovery-low, watermark-front, collection-low, first-low}
 use Rattle.fw_model.proofs.DomainLaws.{has_epochs}
-use Rattle.fw_model.proofs.WholeLaws.{forgotten-below}
+use Rattle.fw_model.proofs.BelowLaws.{forgotten-below}
 use Rattle.fw_model.specs.Measure.{enough_rounds}
 use Rattle.fw_model.specs.Choosing.{AreCheckpointsChains, CanChoose, HasItsChoice, low_choice}
 use Rattle.fw_model.specs.Settled.{IsFull}

@@ -33,7 +33,7 @@ use Rattle.fw_model.proofs.ChoosingLaws.{settled_writes}
 use Rattle.fw_model.proofs.AskedLaws.{takes-declared, takes-restoring, IsAskedWell, IsWriteAskedWell, low-grows, CanRecoverAndRestore, took-reached, first-reached}
 use Rattle.fw_model.proofs.RestoringLaws.{full-reached, full-declared, low-kept}
 use Rattle.fw_model.proofs.ForgottenLaws.{AreInOrder, took-order, some-find, below-each, later-below, new-not_below, settled-not_below, kept-below, below-grows, exact-new, offered-low}
-use Rattle.fw_model.proofs.WholeLaws.{forgotten-below, forgotten-is, reached-whole}
+use Rattle.fw_model.proofs.BelowLaws.{forgotten-below}
 use Rattle.fw_model.proofs.ChainLaws.{link_at, KeepsFirst, is_left, failed-first, recovered-first, HasChain, took-chain}
 use Rattle.fw_model.proofs.SpanLaws.{IsFailing, IsKeptStop}
 use Rattle.fw_model.proofs.StandingLaws.{IsWholeIfLogged, pairs-before, each-from}
@@ -423,12 +423,3 @@ collected-lies sys w steps outcomes last r =
     each-weaker (λ (x : Write). (x.stage ≡ collected) ↔ (is_forgotten sys last.low last.history last.writes x ≡ true))
     (λ (x : Write). x.stage ≡ collected → lies_below sys last.low last.history x.node x.written ≡ true) last.writes
     (λ x a c. forgotten-below sys last.low last.history last.writes x (a.0 c)) (collected-forgotten sys w steps outcomes last r)
-
--- as long as each write is whole, what lies below was collected
-pub collected-below : (sys : System) → IsWellFormedSystem sys → (steps : List Step) (outcomes : List Outcome) (last : Machine) → Run sys (first_state sys) steps outcomes last
-    → AllByRecursion (λ (x : Write). (x.stage ≡ collected) ↔ (lies_below sys last.low last.history x.node x.written ≡ true)) last.writes
-collected-below sys w steps outcomes last r =
-    each-weaker (λ (x : Write). (x.stage ≡ collected) ↔ (is_forgotten sys last.low last.history last.writes x ≡ true))
-    (λ (x : Write). (x.stage ≡ collected) ↔ (lies_below sys last.low last.history x.node x.written ≡ true)) last.writes
-    (λ x a. subst (λ b. (x.stage ≡ collected) ↔ (b ≡ true)) (forgotten-is sys last.low last.history last.writes (reached-whole sys steps outcomes last r) x) a)
-    (collected-forgotten sys w steps outcomes last r)

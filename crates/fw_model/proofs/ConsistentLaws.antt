@@ -29,7 +29,7 @@ use Rattle.fw_model.proofs.StampLists.{find_stamp}
 -- ---- within
 
 -- what is inside a frontier of a domain lies within another, or does not
-decided-within : (b : Bounds) (f g : Frontier) → ((t : Stamp) → f t ≡ true → in_domain b t ≡ true) → Decided (Within f g)
+pub decided-within : (b : Bounds) (f g : Frontier) → ((t : Stamp) → f t ≡ true → in_domain b t ≡ true) → Decided (Within f g)
 decided-within b f g d = elim (find_stamp (λ t. f t && not (g t)) b.greatest) [
   | inl w ↦
       let a = and_parts (f w.0) (not (g w.0)) w.2 in
@@ -40,19 +40,19 @@ decided-within b f g d = elim (find_stamp (λ t. f t && not (g t)) b.greatest) [
   ])
 ]
 
-within-front : (b : Bounds) (os : Front) (g : Frontier) → Decided (Within (frontier_of b os) g)
+pub within-front : (b : Bounds) (os : Front) (g : Frontier) → Decided (Within (frontier_of b os) g)
 within-front b os g = decided-within b (frontier_of b os) g (λ t i. (and_parts (in_domain b t) (inside os t) i).0)
 
-within-cover : (b : Bounds) (ss : List Stamp) (g : Frontier) → Decided (Within (cover b ss) g)
+pub within-cover : (b : Bounds) (ss : List Stamp) (g : Frontier) → Decided (Within (cover b ss) g)
 within-cover b ss g = decided-within b (cover b ss) g (λ t i. (and_parts (in_domain b t) (some_above ss t) i).0)
 
-within-flag : (c : Bool) (f g h : Frontier) → Decided (Within f h) → Decided (Within g h) → Decided (Within (if c then f else g) h)
+pub within-flag : (c : Bool) (f g h : Frontier) → Decided (Within f h) → Decided (Within g h) → Decided (Within (if c then f else g) h)
 within-flag true f g h p q = p
 within-flag false f g h p q = q
 
 -- ---- candidates
 
-canonical-decided : (b : Bounds) (os : Front) → Decided (IsCanonical b os)
+pub canonical-decided : (b : Bounds) (os : Front) → Decided (IsCanonical b os)
 canonical-decided b [] = inl tt
 canonical-decided b (o ∷ os) =
     decided-and
@@ -96,7 +96,7 @@ all_logged-decided sys p f writes (v ∷ h) =
     (decided-if (decided-test (f (event_stamp v.event)) true) (logged-decided v.serial writes)))
     (all_logged-decided sys p f writes h)
 
-restorable-decided : (sys : System) (state : Machine) (view : View) (p : ℕ) (way : Restoring) (f : Front) → Decided (IsRestorable sys state view p way f)
+pub restorable-decided : (sys : System) (state : Machine) (view : View) (p : ℕ) (way : Restoring) (f : Front) → Decided (IsRestorable sys state view p way f)
 restorable-decided sys state view p Batches f =
     let n = injected_count p (events state.history) in
     decided-or (until-decided n)
@@ -121,7 +121,7 @@ holds_low-decided : (b : Bounds) (view : View) (low : Front) (f : Frontier) → 
 holds_low-decided b kept low f = within-front b low f
 holds_low-decided b ever low f = inl tt
 
-candidate-decided : (sys : System) (state : Machine) (lost : ℕ → Bool) (view : View) (p : ℕ) (cut : Cut) → Decided (IsCandidate sys state lost view p cut)
+pub candidate-decided : (sys : System) (state : Machine) (lost : ℕ → Bool) (view : View) (p : ℕ) (cut : Cut) → Decided (IsCandidate sys state lost view p cut)
 candidate-decided sys state lost view p Present = decided-test (lost p) false
 candidate-decided sys state lost view p (At f) =
     let b = bounds_of sys.flow p in
@@ -133,7 +133,7 @@ candidate-decided sys state lost view p (At f) =
 
 -- ---- the inclusions of a choice
 
-delivered-decided : (sys : System) (state : Machine) (d : ℕ) (cut : Cut) (g : Frontier) → Decided (Within ((covers_in sys state).delivered d cut) g)
+pub delivered-decided : (sys : System) (state : Machine) (d : ℕ) (cut : Cut) (g : Frontier) → Decided (Within ((covers_in sys state).delivered d cut) g)
 delivered-decided sys state d Present g =
     let b = bounds_of sys.flow (receiver sys.flow d) in
     within-cover b (stamps_inside (everything b) (delivered_messages (events state.history) d)) g
@@ -143,7 +143,7 @@ delivered-decided sys state d (At f) g =
     let ss = stamps_inside (frontier_of b f) (delivered_messages (events state.history) d) in
     within-flag (takes_its_cut (way_of sys.flow p)) (frontier_of b f) (cover b ss) g (within-front b f g) (within-cover b ss g)
 
-notified-decided : (sys : System) (state : Machine) (p : ℕ) (cut : Cut) (g : Frontier) → Decided (Within ((covers_in sys state).notified p cut) g)
+pub notified-decided : (sys : System) (state : Machine) (p : ℕ) (cut : Cut) (g : Frontier) → Decided (Within ((covers_in sys state).notified p cut) g)
 notified-decided sys state p Present g =
     within-cover (bounds_of sys.flow p) (notified_inside p (everything (bounds_of sys.flow p)) (events state.history)) g
 notified-decided sys state p (At f) g =
@@ -151,25 +151,25 @@ notified-decided sys state p (At f) g =
     let ss = notified_inside p (frontier_of b f) (events state.history) in
     within-flag (takes_its_notices (kind_of sys.flow p) (policy_of sys.flow p)) (frontier_of b f) (cover b ss) g (within-front b f g) (within-cover b ss g)
 
-sent-decided : (sys : System) (state : Machine) (e : ℕ) (cut : Cut) (g : Frontier) → Decided (Within ((tallies_in sys state).sent e cut) g)
+pub sent-decided : (sys : System) (state : Machine) (e : ℕ) (cut : Cut) (g : Frontier) → Decided (Within ((tallies_in sys state).sent e cut) g)
 sent-decided sys state e cut g =
     within-cover (bounds_of sys.flow (receiver sys.flow e)) (stamps_from (set_of sys.flow (sender sys.flow e) cut) (sent_messages sys (events state.history) e)) g
 
-psi-decided : (sys : System) (e : ℕ) (f g : Frontier) → Decided (Within (psi sys.flow e f) g)
+pub psi-decided : (sys : System) (e : ℕ) (f g : Frontier) → Decided (Within (psi sys.flow e f) g)
 unfolding psi
 psi-decided sys e f g =
     decided-within (bounds_of_edge sys.flow e) (psi sys.flow e f) g
     (λ t i. (and_parts (in_domain (bounds_of_edge sys.flow e) t) (psi_of_kind (greatest_of_kind sys.flow (kind_of sys.flow (sender sys.flow e))) (kind_of sys.flow (sender sys.flow e)) f t) i).0)
 
-discarded_at-decided : (sys : System) (state : Machine) (e : ℕ) (way : Restoring) (f : Front) (g : Frontier)
+pub discarded_at-decided : (sys : System) (state : Machine) (e : ℕ) (way : Restoring) (f : Front) (g : Frontier)
     → Decided (Within (discarded_at sys.flow e way ((tallies_in sys state).sent e (At f)) f) g)
 discarded_at-decided sys state e Anything f g = psi-decided sys e (frontier_of (bounds_of sys.flow (sender sys.flow e)) f) g
 discarded_at-decided sys state e way f g = sent-decided sys state e (At f) g
 
-none-within : (g : Frontier) → Decided (Within nothing g)
+pub none-within : (g : Frontier) → Decided (Within nothing g)
 none-within g = inl (λ t i. absurd (two_ways false i refl))
 
-discarded-decided : (sys : System) (state : Machine) (e : ℕ) (cut : Cut) (g : Frontier) → Decided (Within ((covers_in sys state).discarded e cut) g)
+pub discarded-decided : (sys : System) (state : Machine) (e : ℕ) (cut : Cut) (g : Frontier) → Decided (Within ((covers_in sys state).discarded e cut) g)
 discarded-decided sys state e Present g =
     within-flag (can_resend (policy_of sys.flow (sender sys.flow e))) nothing ((tallies_in sys state).sent e Present) g (none-within g) (sent-decided sys state e Present g)
 discarded-decided sys state e (At f) g =

@@ -28,7 +28,7 @@ use Rattle.fw_model.proofs.LowLaws.{low-within_settled, none-within, watermark-f
 use Rattle.fw_model.proofs.ChoosingLaws.{settled_writes}
 use Rattle.fw_model.proofs.AskedLaws.{takes-declared, takes-restoring, takes-not_input, AreSerialsBelow, serials-each, any-find, LowGrows, given-stamp, given-grows, IsAskedWell, IsWriteAskedWell, IsApart, CanRecoverAndRestore, reached-all}
 use Rattle.fw_model.proofs.RestoringLaws.{apart-events, all-logged, full-restoring, full-declared}
-use Rattle.fw_model.proofs.WholeLaws.{forgotten-below}
+use Rattle.fw_model.proofs.BelowLaws.{forgotten-below}
 
 -- ---- writes are acknowledged in order
 

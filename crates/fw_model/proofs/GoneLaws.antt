@@ -11,7 +11,7 @@ use Rattle.fw_model.specs.Steps.{lies_below, is_forgotten, stands_on, bases_down
 use Rattle.fw_model.specs.LawsOfChains.{links_of, IsChain}
 use Rattle.fw_model.proofs.WriteLaws.{HoldsOfOne, ArePairs}
 use Rattle.fw_model.proofs.AskedLaws.{IsApart}
-use Rattle.fw_model.proofs.WholeLaws.{and-true}
+use Rattle.fw_model.proofs.BelowLaws.{and-true}
 use Rattle.fw_model.proofs.ChainLaws.{KeepsFirst}
 use Rattle.fw_model.proofs.SpanLaws.{spanned_at, spanned, spanned-append, spanned-staged, IsStop, spanned-stopped, IsKeptStop, spanned-first}
 use Rattle.fw_model.proofs.StandingLaws.{IsWholeIfLogged, TestsFronts, any-never, all_pass, stand-by-order}

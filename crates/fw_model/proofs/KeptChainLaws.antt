@@ -29,10 +29,10 @@ abbrev Passes : ℕ → (Front → Bool) → Write → Type 0
 Passes p test y = (y.node ≡ p) × IsPassing test y.written
 
 -- what was collected is no checkpoint of node p
-abbrev IsThere : ℕ → Write → Type 0
+abbrev pub IsThere : ℕ → Write → Type 0
 IsThere p x = not_collected x ≡ false → link_at p x ≡ []
 
-abbrev AreThere : ℕ → List Write → Type 0
+abbrev pub AreThere : ℕ → List Write → Type 0
 AreThere p xs = AllByRecursion (IsThere p) xs
 
 gone-stage : (far : Stage) → not (is_collected far) ≡ false → far ≡ collected
@@ -40,15 +40,15 @@ gone-stage in_flight e = absurd (two_ways true refl e)
 gone-stage acknowledged e = absurd (two_ways true refl e)
 gone-stage collected e = refl
 
-stage-gone : (far : Stage) → not (is_collected far) ≡ true → far ≡ collected → ⊥
+pub stage-gone : (far : Stage) → not (is_collected far) ≡ true → far ≡ collected → ⊥
 stage-gone far e c = two_ways (not (is_collected far)) e (ap (λ s. not (is_collected s)) c)
 
 -- ---- what lies below what lies strictly within does too
 
 -- What is known of node p: its low front, and that of each of its checkpoints, name their frontiers.
-record IsOrderly (sys : System) (low : List Front) (p : ℕ) : Type 0 where
-  declared : p < length sys.flow.nodes
-  canonical : IsCanonical (bounds_of sys.flow p) (front_of low p)
+pub record IsOrderly (sys : System) (low : List Front) (p : ℕ) : Type 0 where
+  pub declared : p < length sys.flow.nodes
+  pub canonical : IsCanonical (bounds_of sys.flow p) (front_of low p)
 
 strictly-below : (sys : System) (low : List Front) (p : ℕ) → IsOrderly sys low p → (g k : Front) → IsCanonical (bounds_of sys.flow p) k
     → Within (frontier_of (bounds_of sys.flow p) g) (frontier_of (bounds_of sys.flow p) k) → strictly low p k ≡ true → strictly low p g ≡ true
@@ -68,7 +68,7 @@ passes-before sys low next h p o g l n (checkpoint k m) far below asked at pass 
     strictly-below sys low p o g k (subst (λ q. IsCanonical (bounds_of sys.flow q) k) at asked.1) (below (sym at) o.declared) pass
 passes-before sys low next h p o g l n (logged_event s) far below asked at pass = absurd pass
 
-some-passes : (sys : System) (low : List Front) (next : ℕ) (h : List SerialEvent) (p : ℕ) → IsOrderly sys low p → (g : Front) (l : List Front) (zs : List Write)
+pub some-passes : (sys : System) (low : List Front) (next : ℕ) (h : List SerialEvent) (p : ℕ) → IsOrderly sys low p → (g : Front) (l : List Front) (zs : List Write)
     → AllByRecursion (λ (y : Write). LiesBelow sys p (checkpoint g l) y.node y.written) zs → AllByRecursion (IsWriteAskedWell sys low next h) zs
     → HoldsOfOne (Passes p (strictly low p)) zs → strictly low p g ≡ true
 some-passes sys low next h p o g l [] below asked some = absurd some
@@ -79,34 +79,34 @@ some-passes sys low next h p o g l (y ∷ zs) below asked (inr later) = some-pas
 -- ---- either all are there, or the next ones pass
 
 -- one of node p's checkpoints was collected: then those up to the next whole one pass, and one does
-abbrev SomeGone : List Front → ℕ → List Write → Type 0
+abbrev pub SomeGone : List Front → ℕ → List Write → Type 0
 SomeGone low p xs = (spanned p (strictly low p) true xs ≡ true) × HoldsOfOne (Passes p (strictly low p)) xs
 
-span-other : (p : ℕ) (test : Front → Bool) (z : Write) (zs : List Write) → (z.node == p) ≡ false → spanned p test true (z ∷ zs) ≡ spanned p test true zs
+pub span-other : (p : ℕ) (test : Front → Bool) (z : Write) (zs : List Write) → (z.node == p) ≡ false → spanned p test true (z ∷ zs) ≡ spanned p test true zs
 span-other p test z zs other = ap (λ c. cond c (spanned_at test z.depth z.written (spanned p test true zs)) (spanned p test true zs)) other
 
-span-own : (p : ℕ) (test : Front → Bool) (z : Write) (zs : List Write) (w : Written) → (z.node == p) ≡ true → z.written ≡ w
+pub span-own : (p : ℕ) (test : Front → Bool) (z : Write) (zs : List Write) (w : Written) → (z.node == p) ≡ true → z.written ≡ w
     → spanned p test true (z ∷ zs) ≡ spanned_at test z.depth w (spanned p test true zs)
 span-own p test z zs w mine e =
     ap (λ c. cond c (spanned_at test z.depth z.written (spanned p test true zs)) (spanned p test true zs)) mine
     ∙ ap (λ v. spanned_at test z.depth v (spanned p test true zs)) e
 
-link-own : (p : ℕ) (z : Write) (w : Written) → (z.node == p) ≡ true → z.written ≡ w → link_at p z ≡ link_of z.base z.depth w
+pub link-own : (p : ℕ) (z : Write) (w : Written) → (z.node == p) ≡ true → z.written ≡ w → link_at p z ≡ link_of z.base z.depth w
 link-own p z w mine e = ap (λ b. cond b (link_of z.base z.depth z.written) []) mine ∙ ap (link_of z.base z.depth) e
 
-link-none : (p : ℕ) (z : Write) → (z.node == p) ≡ false → link_at p z ≡ []
+pub link-none : (p : ℕ) (z : Write) → (z.node == p) ≡ false → link_at p z ≡ []
 link-none p z other = ap (λ b. cond b (link_of z.base z.depth z.written) []) other
 
 deep-or : (b c : Bool) → c ≡ true → cond b true c ≡ true
 deep-or true c e = refl
 deep-or false c e = e
 
-gone-own : (sys : System) (low : List Front) (h : List SerialEvent) (p : ℕ) (z : Write) (zs : List Write) (g : Front) (l : List Front) → z.node ≡ p → z.written ≡ checkpoint g l
+pub gone-own : (sys : System) (low : List Front) (h : List SerialEvent) (p : ℕ) (z : Write) (zs : List Write) (g : Front) (l : List Front) → z.node ≡ p → z.written ≡ checkpoint g l
     → gone_before sys low h z.node z.written zs ≡ (strictly low p g && spanned p (strictly low p) true zs)
 gone-own sys low h p z zs g l at e =
     ap (λ q. gone_before sys low h q z.written zs) at ∙ ap (λ w. gone_before sys low h p w zs) e
 
-all-or-some : (sys : System) (low : List Front) (next : ℕ) (h : List SerialEvent) (p : ℕ) → IsOrderly sys low p → (xs : List Write) → AreAscending sys xs
+pub all-or-some : (sys : System) (low : List Front) (next : ℕ) (h : List SerialEvent) (p : ℕ) → IsOrderly sys low p → (xs : List Write) → AreAscending sys xs
     → AllByRecursion (IsWriteAskedWell sys low next h) xs → AreGoneExact sys low h xs → AreThere p xs ⊎ SomeGone low p xs
 all-or-some sys low next h p o [] a w x = inl tt
 all-or-some sys low next h p o (z ∷ zs) a w x =
@@ -148,7 +148,7 @@ all-or-some sys low next h p o (z ∷ zs) a w x =
 
 -- ---- the chain
 
-there-links : (p : ℕ) (xs : List Write) → AreThere p xs → links_of p (filter not_collected xs) ≡ links_of p xs
+pub there-links : (p : ℕ) (xs : List Write) → AreThere p xs → links_of p (filter not_collected xs) ≡ links_of p xs
 there-links p [] a = refl
 there-links p (x ∷ xs) a =
     let rest = there-links p xs a.1 in

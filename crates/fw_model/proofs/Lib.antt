@@ -5,6 +5,7 @@ pub mod AscentLaws
 pub mod AscendingLaws
 pub mod AskedLaws
 pub mod AskedStateLaws
+pub mod BelowLaws
 pub mod BothLaws
 pub mod ChainLaws
 pub mod SpanLaws
@@ -54,6 +55,7 @@ pub mod LoggedLaws
 pub mod LowLaws
 pub mod MeasureLaws
 pub mod MeetLaws
+pub mod NewestLinkLaws
 pub mod NewestLaws
 pub mod NothingInsideLaws
 pub mod NotifiedLaws
@@ -89,6 +91,7 @@ pub mod SentStandLaws
 pub mod SequenceLaws
 pub mod SequencedLaws
 pub mod SettleLaws
+pub mod ShallowLaws
 pub mod ShownLaws
 pub mod SomeNextLaws
 pub mod SortedLaws
@@ -107,4 +110,3 @@ pub mod UntilLaws
 pub mod WeightLaws
 pub mod WellFormedLaws
 pub mod WriteLaws
-pub mod WholeLaws

@@ -46,7 +46,7 @@ use Rattle.fw_model.proofs.RunLaws.{none-inside}
 use Rattle.fw_model.proofs.RecoveryLaws.{edge-there}
 use Rattle.fw_model.proofs.SameInsideLaws.{at_node, IsSameInside, inside-refl, inside-event, inside-kept, IsLowConsistent, low_length, low_cut, low-offered, low-stays}
 use Rattle.fw_model.proofs.WriteLaws.{some-weaker, some-append, some-passed, some-mapped, some-replaced, IsCheckpointAt, IsItsCheckpoint, NamesEvent, LogsEvent, some-checkpoint, checkpoint-some, some-logged, logged-some}
-use Rattle.fw_model.proofs.WholeLaws.{forgotten-below}
+use Rattle.fw_model.proofs.BelowLaws.{forgotten-below}
 use Rattle.fw_model.specs.Settled.{IsFull}
 use Rattle.fw_model.specs.Filtering.{AreFrontiers, kept_events}
 use Rattle.fw_model.specs.Choosing.{low_choice}

@@ -9,7 +9,7 @@ use Rattle.fw_frontier.proofs.SameLaws.{same_front-is, same_front-itself}
 use Rattle.fw_model.specs.Machine.{Write, Written, checkpoint, logged_event}
 use Rattle.fw_model.specs.Steps.{checkpoint_front, checkpoints_of, base_at, bases_down, stands_on}
 use Rattle.fw_model.specs.LawsOfChains.{Link, link_of, links_of, IsWholeLink, StandsOnLast, IsChain}
-use Rattle.fw_model.proofs.WholeLaws.{none-down}
+use Rattle.fw_model.proofs.BelowLaws.{none-down}
 use Rattle.fw_model.proofs.ChainLaws.{link_at}
 use Rattle.fw_model.proofs.WriteLaws.{ArePairs}
 use Rattle.fw_model.proofs.AskedLaws.{IsApart}

@@ -1,12 +1,12 @@
 -- Laws of what checkpoints stand on: those of a node are a chain, whichever of them are whole.
-use Rattle.std.specs.Prelude.{◌≡◌, ◌⊎◌, ℕ, ◌+◌, ◌<◌, ◌==◌, if◌then◌else◌, List, [], ◌∷◌, filter, length, Option, Some, None}
-use Rattle.std.specs.List.{flat_map}
+use Rattle.std.specs.Prelude.{◌≡◌, ◌⊎◌, ℕ, ◌+◌, ◌<◌, ◌≤◌, ◌==◌, if◌then◌else◌, List, [], ◌∷◌, filter, length, Option, Some, None}
+use Rattle.std.specs.List.{AllByRecursion, flat_map}
 use Rattle.fw_frontier.specs.Front.{Front}
 use Rattle.fw_flow.specs.declared.step.Step.{Step}
 use Rattle.fw_flow.specs.Dataflow.{System}
 use Rattle.fw_flow.specs.WellFormed.{IsWellFormedSystem}
 use Rattle.fw_model.specs.Machine.{Machine, Write, Written, checkpoint, logged_event, first_state}
-use Rattle.fw_model.specs.Steps.{Outcome, Run}
+use Rattle.fw_model.specs.Steps.{Outcome, Run, checkpoints_of, next_depth, base_of_depth}
 use Rattle.fw_model.specs.Writes.{not_collected}
 
 -- A checkpoint in a chain: its front, its base and its depth.
@@ -49,3 +49,20 @@ EachStandsOnTheOneBefore = (sys : System) → IsWellFormedSystem sys → (steps 
 abbrev pub WhatIsNotCollectedIsAChain : Type 0
 WhatIsNotCollectedIsAChain = (sys : System) → IsWellFormedSystem sys → (steps : List Step) (outcomes : List Outcome) (last : Machine)
     → Run sys (first_state sys) steps outcomes last → (p : ℕ) → p < length sys.flow.nodes → IsChain None (links_of p (filter not_collected last.writes))
+
+-- in each such state the next checkpoint of a node has its depth and its base by what was not collected alone
+abbrev pub TheNextStandsOnWhatIsLeft : Type 0
+TheNextStandsOnWhatIsLeft = (sys : System) → IsWellFormedSystem sys → (steps : List Step) (outcomes : List Outcome) (last : Machine)
+    → Run sys (first_state sys) steps outcomes last → (p : ℕ) → p < length sys.flow.nodes
+    → (next_depth p (filter not_collected last.writes) ≡ next_depth p last.writes)
+    × (base_of_depth (next_depth p last.writes) (checkpoints_of p (filter not_collected last.writes))
+    ≡ base_of_depth (next_depth p last.writes) (checkpoints_of p last.writes))
+
+-- the write stands on seven others at most
+abbrev pub IsShallow : Write → Type 0
+IsShallow write = write.depth ≤ 7
+
+-- in each state of a run each write does
+abbrev pub EachStandsOnFew : Type 0
+EachStandsOnFew = (sys : System) (steps : List Step) (outcomes : List Outcome) (last : Machine) → Run sys (first_state sys) steps outcomes last
+    → AllByRecursion IsShallow last.writes

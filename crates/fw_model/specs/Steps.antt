@@ -1,5 +1,5 @@
 -- The steps of the event-list machine: when each is enabled, to which state it leads, and what it shows.
-use Rattle.std.specs.Prelude.{◌≡◌, ◌≢◌, ◌⊎◌, ℕ, ◌+◌, ◌<◌, Bool, true, false, not, ◌&&◌, ◌||◌, ◌==◌, if◌then◌else◌, List, [], ◌∷◌, ◌++◌, map, length, Option, Some, None, slice_set, filter, zero, suc}
+use Rattle.std.specs.Prelude.{◌≡◌, ◌≢◌, ◌⊎◌, ℕ, ◌+◌, ◌<◌, Bool, true, false, not, ◌&&◌, ◌||◌, ◌==◌, nat_lt, if◌then◌else◌, List, [], ◌∷◌, ◌++◌, map, length, Option, Some, None, slice_set, filter, zero, suc}
 use Rattle.std.specs.List.{list_any, list_all, flat_map, AllByRecursion}
 use Rattle.std.specs.Ordering.{is_gt}
 use Rattle.fw_time.specs.Stamp.{Stamp, leq, same, stamp_cmp}
@@ -93,9 +93,24 @@ last_or f (g ∷ gs) = last_or g gs
 abbrev pub newest_checkpoint : ℕ → Front → List Write → Front
 newest_checkpoint p f writes = last_or f (checkpoints_of p writes)
 
--- the depth of the next checkpoint of node p: 0, since each is whole
+-- the depth of what is written, if it is a checkpoint
+abbrev pub checkpoint_depth : ℕ → Written → List ℕ
+checkpoint_depth depth (checkpoint f low) = depth ∷ []
+checkpoint_depth depth (logged_event serial) = []
+
+-- the depths of node p's checkpoints, in order of asking
+abbrev pub depths_of : ℕ → List Write → List ℕ
+depths_of p writes = flat_map (λ write. if write.node == p then checkpoint_depth write.depth write.written else []) writes
+
+-- the depth of a checkpoint after those of these depths: one more than the last, and 0 where there is none or the last is 7 or more
+abbrev pub depth_after : List ℕ → ℕ
+depth_after [] = 0
+depth_after (depth ∷ []) = if nat_lt depth 7 then depth + 1 else 0
+depth_after (first ∷ depth ∷ depths) = depth_after (depth ∷ depths)
+
+-- the depth of the next checkpoint of node p
 abbrev pub next_depth : ℕ → List Write → ℕ
-next_depth p writes = 0
+next_depth p writes = depth_after (depths_of p writes)
 
 -- the base of a checkpoint of this depth, where these are the fronts of the earlier ones of its node: the last, unless it is whole
 abbrev pub base_of_depth : ℕ → List Front → Option Front

@@ -6,7 +6,7 @@
 //! stamps of its events by `SendsByStamp`: it is no output and no sequence, a loop that it feeds back has a next counter,
 //! and the groups that it makes are not empty. A run begins in the machine's first state, and its steps are any, failures,
 //! recoveries and collections among them. A history goes on legally where the longer one is legal.
-ghost use Rattle.fw_model.specs.LawsOfChains.{EachStandsOnTheOneBefore, WhatIsNotCollectedIsAChain};
+ghost use Rattle.fw_model.specs.LawsOfChains.{EachStandsOnFew, EachStandsOnTheOneBefore, TheNextStandsOnWhatIsLeft, WhatIsNotCollectedIsAChain};
 ghost use Rattle.fw_model.specs.LawsOfCheckpointFronts.{CheckpointsDiffer, CheckpointsHaveStamps};
 ghost use Rattle.fw_model.specs.LawsOfAuto.{AutoRunsAreOne, AutoRunsAreRuns, AutoRunsGoOn};
 ghost use Rattle.fw_model.specs.LawsOfChoices.{ConsistentChoicesHaveUnion, DeliveredOfUnion, DiscardedOfUnion, EachLiesWithinUnion, LargestChoiceIsOne, NotifiedOfUnion, UnionOfCandidatesIsCandidate, UnionOfConsistentIsConsistent};
@@ -687,6 +687,17 @@ pub fn each_stands_on_the_one_before()
 /// the first is whole.
 pub fn what_is_not_collected_is_a_chain()
     ensures { WhatIsNotCollectedIsAChain }
+{}
+
+/// In each state of a run of a well-formed system the next checkpoint of a node has its depth and its base by what was not
+/// collected alone.
+pub fn the_next_stands_on_what_is_left()
+    ensures { TheNextStandsOnWhatIsLeft }
+{}
+
+/// In each state of a run each write stands on seven others at most.
+pub fn each_stands_on_few()
+    ensures { EachStandsOnFew }
 {}
 
 /// Each checkpoint in a state of a run of a well-formed system was asked in an earlier state of the run, and counts

@@ -1,5 +1,5 @@
 -- Once each node is asked for a checkpoint and nothing waits, no checkpoint is to be asked.
-use Rattle.std.proofs.Common.{◌≡◌, ℕ, zero, suc, ◌+◌, ◌<◌, ◌≤◌, Bool, true, false, ◌==◌, cond, List, [], ◌∷◌, ◌++◌, length, map, slice_index_or, refl, sym, ap, subst, ◌∙◌, inl, inr, arith}
+use Rattle.std.proofs.Common.{◌≡◌, ℕ, zero, suc, ◌+◌, ◌<◌, ◌≤◌, Bool, true, false, ◌==◌, List, [], ◌∷◌, ◌++◌, length, map, slice_index_or, refl, sym, ap, subst, ◌∙◌, inl, inr, arith}
 use Rattle.std.specs.List.{AllByRecursion, range_with_len}
 use Rattle.std.proofs.lemmas.Bool.{cases_Bool, cases_lt, cond_both, eqb-true}
 use Rattle.std.proofs.lemmas.List.FromFn.{length-range_with_len}
@@ -13,14 +13,13 @@ use Rattle.fw_flow.specs.declared.step.Step.TheVariants.{Inject, Deliver, Notify
 use Rattle.fw_flow.specs.Dataflow.{System, policy_of, bounds_of, node_ids, node_frontier}
 use Rattle.fw_flow.specs.WellFormed.{IsWellFormedSystem}
 use Rattle.fw_model.specs.Auto.{IsAutoRun}
-use Rattle.fw_model.specs.Machine.{Machine, Write, events, front_of, is_failed, no_stamps, first_state}
+use Rattle.fw_model.specs.Machine.{Machine, Write, front_of, is_failed, no_stamps, first_state}
 use Rattle.fw_model.specs.Reached.{IsReached}
 use Rattle.fw_model.specs.Steps.{Effect, Outcome, did, idle, silent, LeadsTo, StepsTo, Run, checkpoint_of, is_asked_for_checkpoints, newest_checkpoint, GrowsTo, is_in_flight}
 use Rattle.fw_model.proofs.AskedLaws.{reached-all}
 use Rattle.fw_model.proofs.AutoLaws.{auto-one, auto-runs}
 use Rattle.fw_model.proofs.ChoosingLaws.{reached-one_next}
 use Rattle.fw_model.proofs.GoingOn.{runs-go_on}
-use Rattle.fw_rest.specs.Left.{HasNoRegroup, AsksAndCollects}
 use Rattle.fw_rest.specs.LawsOfRest.{AskingGoesOn, AskingLeavesNothing}
 use Rattle.fw_rest.specs.Rest.{AreAllLive, is_of_auto}
 use Rattle.fw_rest.specs.StepsToRest.{count_in_flight}

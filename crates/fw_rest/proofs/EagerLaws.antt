@@ -1,13 +1,13 @@
 -- An eager node's newest checkpoint holds all that is settled at it.
 use Rattle.std.proofs.Common.{◌≡◌, ℕ, zero, suc, ◌+◌, ◌<◌, ◌≤◌, Bool, true, false, not, ◌&&◌, ◌||◌, ◌==◌, cond, List, [], ◌∷◌, ◌++◌, length, map, filter, refl, sym, ap, subst, ◌∙◌, inl, inr, arith}
-use Rattle.std.specs.List.{AllByRecursion, range_with_len, flat_map}
-use Rattle.std.proofs.lemmas.Bool.{cases_Bool, cases_eq, cases_lt, and_parts, and_from, cond_both, eqb-true, eq-eqb, eqb-false, not-true, or_cases, or_left, or_right}
+use Rattle.std.specs.List.{AllByRecursion, range_with_len}
+use Rattle.std.proofs.lemmas.Bool.{cases_Bool, cases_eq, and_from, cond_both, eqb-true, eq-eqb}
 use Rattle.fw_lemmas.proofs.Bools.{two_ways}
 use Rattle.std.proofs.lemmas.List.FromFn.{get_or-map-range_with_len}
 use Rattle.fw_lemmas.proofs.Each.{each-weaker, each-both, each-one}
 use Rattle.fw_lemmas.proofs.Filters.{filter-in, filter-out}
 use Rattle.fw_frontier.specs.Frontier.{Frontier, Within, meet}
-use Rattle.fw_frontier.specs.Front.{Front, frontier_of, same_front, is_within, IsCanonical, IsFrontOf}
+use Rattle.fw_frontier.specs.Front.{Front, frontier_of, same_front, is_within, IsCanonical}
 use Rattle.fw_frontier.proofs.NamesLaws.{names-same, is_within-holds, within-is}
 use Rattle.fw_frontier.proofs.SameLaws.{same_front-is}
 use Rattle.fw_flow.specs.declared.choice.Cut.{Cut}
@@ -26,10 +26,10 @@ use Rattle.fw_flow.specs.Dataflow.{System, kind_of, policy_of, bounds_of, is_inp
 use Rattle.fw_flow.specs.NodeFunction.{event_node}
 use Rattle.fw_flow.specs.WellFormed.{IsWellFormedSystem}
 use Rattle.fw_model.specs.Choice.{kept, cut_of, filtered_history, IsCandidate, IsRestorable}
-use Rattle.fw_model.specs.Machine.{Machine, SerialEvent, Write, Written, checkpoint, logged_event, Stage, in_flight, acknowledged, collected, events, first_state, front_of, is_failed, no_stamps}
+use Rattle.fw_model.specs.Machine.{Machine, SerialEvent, Write, Written, checkpoint, logged_event, Stage, acknowledged, first_state, front_of, is_failed, no_stamps}
 use Rattle.fw_model.specs.Reached.{IsReached}
-use Rattle.fw_model.specs.Steps.{Effect, Outcome, did, idle, LeadsTo, StepsTo, Run, write_of_event, with_event, checkpoint_of, is_eager, eager_writes, is_asked_for_checkpoints, checkpoint_front, checkpoints_of, last_or, newest_checkpoint, AcknowledgesOldest, is_in_flight, without_lost, with_failed, is_kept_write, kept_writes, IsSettledCut, CutsTo, recovered_state, front_of_cut, is_forgotten, after_collection, collected_writes, GrowsTo}
-use Rattle.fw_model.proofs.AskedLaws.{last-append, takes-declared, eager-takes, takes-restoring, takes-not_input, IsAskedWell, IsWriteAskedWell, AreAskedWell, CanRecoverAndRestore, reached-all, took-reached}
+use Rattle.fw_model.specs.Steps.{Effect, Outcome, did, idle, LeadsTo, StepsTo, Run, write_of_event, with_event, checkpoint_of, is_eager, eager_writes, is_asked_for_checkpoints, checkpoint_front, checkpoints_of, last_or, newest_checkpoint, AcknowledgesOldest, is_in_flight, without_lost, with_failed, is_kept_write, kept_writes, IsSettledCut, CutsTo, recovered_state, front_of_cut, is_forgotten, after_collection, GrowsTo}
+use Rattle.fw_model.proofs.AskedLaws.{last-append, takes-declared, eager-takes, takes-restoring, takes-not_input, IsAskedWell, IsWriteAskedWell, AreAskedWell, CanRecoverAndRestore, reached-all}
 use Rattle.fw_model.proofs.CheckpointFrontLaws.{checkpoints-have_stamps}
 use Rattle.fw_model.proofs.CheckpointLaws.{candidates-within_settled}
 use Rattle.fw_model.proofs.ChoiceLaws.{same_fronts}

@@ -1,18 +1,17 @@
 -- Where no node numbers epochs anew, each event outside the numbers is at an epoch of which some node has a batch.
-use Rattle.std.proofs.Common.{◌≡◌, ℕ, zero, suc, ◌+◌, ◌<◌, ◌≤◌, max, Bool, true, false, not, ◌&&◌, ◌==◌, nat_lt, cond, List, [], ◌∷◌, ◌++◌, length, slice_index_or, Option, Some, None, refl, sym, ap, ◌∙◌, inl, inr, arith}
+use Rattle.std.proofs.Common.{◌≡◌, ℕ, zero, suc, ◌+◌, ◌<◌, ◌≤◌, true, false, not, ◌&&◌, ◌==◌, List, [], ◌∷◌, ◌++◌, length, slice_index_or, Option, Some, None, refl, sym, ap, ◌∙◌, inl, inr, arith}
 use Rattle.std.specs.List.{AllByRecursion}
 use Rattle.std.proofs.lemmas.Bool.{and_parts, or_cases, cond_both, eqb-true}
-use Rattle.fw_lemmas.proofs.Each.{each-weaker, each-append, each-both}
+use Rattle.fw_lemmas.proofs.Each.{each-weaker, each-append}
 use Rattle.fw_bag.specs.declared.rec.Rec.{Rec}
 use Rattle.fw_time.specs.Stamp.{Stamp, leq, same, nest, outer, counter, in_domain}
 use Rattle.fw_flow.specs.declared.event.Event.{Event}
 use Rattle.fw_flow.specs.declared.event.Event.TheVariants.{Inject, Deliver, Notify}
 use Rattle.fw_flow.specs.declared.event.Message.{Message}
-use Rattle.fw_flow.specs.declared.kind.Domain.{Domain}
 use Rattle.fw_flow.specs.declared.kind.Domain.TheVariants.{Epoch, Loop as InLoop}
 use Rattle.fw_flow.specs.declared.kind.Kind.{Kind}
 use Rattle.fw_flow.specs.declared.kind.Kind.TheVariants.{OutputNumber, Enter, Feedback, Leave, Total, Sequence, Regroup, OutputEpoch, Sum}
-use Rattle.fw_flow.specs.Dataflow.{System, Dataflow, kind_of, sender, receiver, max_of, parent_of, loops_of, greatest_in, greatest_of, domain_within, ends_within, declared_parent, domain_of, domain_of_kind, out_domain_of, out_domain_of_kind, bounds_of, bounds_of_domain, is_notified_kind, is_of_numbers, is_sequence_kind, send_stamp_of_kind, batches_of, greatest_number, HasEpochs}
+use Rattle.fw_flow.specs.Dataflow.{System, Dataflow, kind_of, sender, receiver, max_of, parent_of, loops_of, greatest_in, domain_within, ends_within, declared_parent, domain_of, domain_of_kind, out_domain_of, out_domain_of_kind, bounds_of, bounds_of_domain, is_notified_kind, is_of_numbers, is_sequence_kind, send_stamp_of_kind, batches_of, greatest_number, HasEpochs}
 use Rattle.fw_flow.specs.NodeFunction.{event_node, event_stamp, sends, sent_by}
 use Rattle.fw_flow.specs.Projection.{events_at, first_coordinate}
 use Rattle.fw_flow.specs.WellFormed.{IsWellFormed}

@@ -1,11 +1,11 @@
 -- Where nothing waits, each checkpoint is asked and a collection is taken, little is left.
-use Rattle.std.proofs.Common.{◌≡◌, ◌↔◌, ℕ, zero, suc, ◌+◌, ◌<◌, ◌≤◌, max, Bool, true, false, not, ◌&&◌, ◌||◌, ◌==◌, nat_le, nat_lt, cond, List, [], ◌∷◌, ◌++◌, length, map, filter, slice_index_or, Option, Some, None, refl, sym, ap, subst, ◌∙◌, inl, inr, ◌⊎◌, arith}
-use Rattle.std.specs.List.{AllByRecursion, list_any, list_all, flat_map}
+use Rattle.std.proofs.Common.{◌≡◌, ◌↔◌, ℕ, ◌<◌, ◌≤◌, Bool, true, false, not, ◌&&◌, ◌==◌, nat_le, nat_lt, cond, List, [], ◌∷◌, ◌++◌, length, map, filter, Option, Some, None, refl, sym, ap, subst, ◌∙◌, inl, inr, ◌⊎◌, arith}
+use Rattle.std.specs.List.{AllByRecursion, flat_map}
 use Rattle.std.proofs.lemmas.Bool.{cases_Bool, cases_lt, and_parts, and_from, or_cases, or_left, or_right, cond_both, eqb-true, eq-eqb, ltb-true, lt-ltb, leb-true, false_from_ne_true}
 use Rattle.std.proofs.lemmas.List.FromFn.{get_or-map-range_with_len, length-map-range_with_len}
 use Rattle.std.proofs.lemmas.List.{get_or_past}
 use Rattle.fw_lemmas.proofs.Bools.{two_ways}
-use Rattle.fw_lemmas.proofs.Each.{each-weaker, each-both, each-map, all-of_each}
+use Rattle.fw_lemmas.proofs.Each.{each-suffix, each-weaker, each-both, each-map, all-of_each}
 use Rattle.fw_lemmas.proofs.Orderings.{equal_from_is_eq}
 use Rattle.fw_time.specs.Stamp.{Stamp, leq, in_domain}
 use Rattle.fw_time.specs.declared.stamp.Bounds.{Bounds}
@@ -14,7 +14,6 @@ use Rattle.fw_frontier.specs.Front.{Front, inside, frontier_of, is_within, same_
 use Rattle.fw_frontier.proofs.NamesLaws.{names-same, frontier-closed}
 use Rattle.fw_frontier.proofs.SameLaws.{same_front-is, same_front-itself}
 use Rattle.fw_flow.specs.declared.choice.Choice.{Choice}
-use Rattle.fw_flow.specs.declared.choice.Cut.{Cut}
 use Rattle.fw_flow.specs.declared.choice.Cut.TheVariants.{Present, At}
 use Rattle.fw_flow.specs.declared.event.Event.{Event}
 use Rattle.fw_flow.specs.declared.event.Event.TheVariants.{Inject as Injected, Deliver as Delivered, Notify as Notified}
@@ -25,34 +24,39 @@ use Rattle.fw_flow.specs.declared.kind.Policy.{Policy}
 use Rattle.fw_flow.specs.declared.kind.Policy.TheVariants as policy
 use Rattle.fw_flow.specs.declared.restoring.Restoring.{Restoring}
 use Rattle.fw_flow.specs.declared.restoring.Restoring.TheVariants.{Batches, Bound, Anything, Checkpoints, Events}
-use Rattle.fw_flow.specs.declared.step.Step.TheVariants.{Checkpoint, Collect}
+use Rattle.fw_flow.specs.declared.step.Step.TheVariants.{Collect}
 use Rattle.fw_flow.specs.declared.node.Node.{Node}
 use Rattle.fw_flow.specs.Dataflow.{System, Dataflow, idle_node, kind_of, policy_of, sender, receiver, in_edges, out_edges, domain_of, domain_of_kind, out_domain_of, out_domain_of_kind, bounds_of, bounds_of_domain, bounds_of_edge, greatest_number, is_of_numbers, is_input_kind, is_output_kind, is_notified_kind, is_sequence_kind, batches_of, node_ids, node_frontier, send_stamp}
 use Rattle.fw_flow.specs.Message.{message_cmp, messages_without, messages_less}
 use Rattle.fw_flow.proofs.MessageLaws.{message_cmp-same}
 use Rattle.std.specs.Ordering.{is_eq}
 use Rattle.fw_flow.specs.NodeFunction.{event_node, event_stamp}
-use Rattle.fw_flow.specs.Projection.{first_coordinate, all_inside, phi, psi}
+use Rattle.fw_flow.specs.Projection.{first_coordinate, all_inside, phi}
 use Rattle.fw_flow.specs.Restoring.{restoring, restoring_of_policy, way_of, can_resend}
 use Rattle.fw_flow.proofs.OutEdgeLaws.{out_edges-from}
 use Rattle.fw_flow.specs.WholeBags.{joint_bag}
 use Rattle.fw_flow.specs.WellFormed.{may_keep_nothing, IsPolicyAllowed, IsWellFormedSystem}
-use Rattle.fw_model.specs.Choice.{ever, kept, is_counted, until, cut_of, notice_of, kept_of, HasCheckpoint, IsLogged, AllLogged, IsRestorable, IsCandidate, IsConsistent, IsChoiceWithin, IsCutWithin, IsWatermark, offers_of_writes}
+use Rattle.fw_model.specs.Choice.{ever, kept, is_counted, until, cut_of, AllLogged, IsRestorable, IsCandidate, IsConsistent, IsCutWithin, IsWatermark}
 use Rattle.fw_model.specs.Covers.{covers_in, set_of, stamps_inside, stamps_from, notified_inside, stamp_of_notice, takes_its_cut, takes_its_notices, discarded_at, tallies_in}
 use Rattle.fw_model.specs.Denotation.{Family, IsDenotation}
 use Rattle.fw_model.specs.History.{sent_messages, delivered_messages, was_delivered_to, was_notified, IsLegal}
-use Rattle.fw_model.specs.Machine.{Machine, SerialEvent, Write, Written, checkpoint, logged_event, Stage, in_flight, acknowledged, collected, events, front_of, is_failed, ack_count_of, no_stamps}
+use Rattle.fw_model.specs.Machine.{Machine, SerialEvent, Write, Written, checkpoint, logged_event, Stage, in_flight, acknowledged, collected, events, front_of, ack_count_of, no_stamps}
 use Rattle.fw_model.specs.Reached.{IsReached}
 use Rattle.fw_model.specs.Steps.{Outcome, did, idle, silent, lows, StepsTo, is_in_flight, is_asked_for_checkpoints, is_eager, checkpoint_of, checkpoint_front, checkpoints_of, last_or, newest_checkpoint, front_of_cut, is_given_up, is_serial_given_up, sends_inside, inside_if_some, lies_below, is_forgotten, after_collection, collected_writes}
-use Rattle.fw_model.specs.Writes.{takes_checkpoints, is_collected, not_collected, HasOne, LogsSerial}
+use Rattle.fw_model.specs.Writes.{takes_checkpoints, is_collected, not_collected, HasOne}
 use Rattle.fw_model.specs.LawsOfWrites.{HasEventOf, HasItsEvent, IsLoggedFor}
 use Rattle.fw_model.specs.Sending.{SendsByStamp}
 use Rattle.fw_model.proofs.FrontierLaws.{psi-frontier}
 use Rattle.fw_model.proofs.AskedLaws.{takes-restoring, IsApart, IsAskedWell, IsWriteAskedWell, reached-all}
 use Rattle.fw_model.proofs.ChoiceLaws.{by_batches-input}
-use Rattle.fw_model.proofs.ChoosingLaws.{checkpoints-chains, kept-is_ever, recovery-has_choice}
+use Rattle.fw_model.proofs.ChoosingLaws.{kept-is_ever, recovery-has_choice}
 use Rattle.fw_model.proofs.DomainLaws.{has_epochs, edge-bounds}
-use Rattle.fw_model.proofs.CollectedLaws.{collected-below}
+use Rattle.fw_model.proofs.ChainLaws.{last_link}
+use Rattle.fw_model.proofs.CollectedLaws.{IsLoggedExact, collected-forgotten, collected-lies, collected-logged, reached-forget}
+use Rattle.fw_model.proofs.KeptChainLaws.{kept-are_chain}
+use Rattle.fw_model.proofs.NewestLinkLaws.{last-link_kept}
+use Rattle.fw_model.proofs.ShallowLaws.{reached-shallow}
+use Rattle.fw_model.specs.LawsOfChains.{Link, links_of, IsShallow}
 use Rattle.fw_model.proofs.ForgottenLaws.{still-flies}
 use Rattle.fw_model.proofs.FrontLaws.{has_front}
 use Rattle.fw_model.proofs.LargestLaws.{largest-exists}
@@ -62,14 +66,16 @@ use Rattle.fw_model.proofs.LowLaws.{input-is, watermark-front}
 use Rattle.fw_model.proofs.MeetLaws.{phi-everything}
 use Rattle.fw_model.proofs.PhiLaws.{phi-monotone}
 use Rattle.fw_model.proofs.SameInsideLaws.{low-offered}
-use Rattle.fw_model.proofs.SendingLaws.{phi-by_stamp, psi-by_stamp, phi-in_domain, send_stamp-in_domain}
+use Rattle.fw_model.proofs.SendingLaws.{phi-by_stamp, psi-by_stamp, send_stamp-in_domain}
 use Rattle.fw_model.proofs.StampLaws.{in_line, line-leq}
 use Rattle.fw_model.proofs.WellFormedLaws.{senders_well_formed}
 use Rattle.fw_model.proofs.WriteLaws.{HoldsOfOne, IsCheckpointAt, IsItsCheckpoint, LogsEvent, NamesEvent, ArePairs, checkpoint-some, logged-some}
-use Rattle.fw_rest.specs.Left.{HasNoRegroup, HaveAllAsked, IsLeftOf, NothingIsLeft}
+use Rattle.fw_rest.specs.Left.{HasNoRegroup, HaveAllAsked, IsLeftOf, IsEveryLeftOf, LeavesNewest, NothingIsLeft}
+use Rattle.fw_rest.proofs.LinksLeftLaws.{EndsEvery, ends-of, last-every, none-later, deep-kept, chain-long, AreCheckpoints, count-links}
+use Rattle.fw_rest.proofs.StandsLeftLaws.{IsSettledOf, left-acknowledged, left-stands}
 use Rattle.fw_rest.specs.LawsOfRest.{RestLeavesNothing}
 use Rattle.fw_rest.specs.Rest.{AreAllLive, HasNothingToDo, IsAcknowledged}
-use Rattle.fw_rest.specs.StepsToRest.{epochs_of, number_after, stamps_of_kind, stamps_due}
+use Rattle.fw_rest.specs.StepsToRest.{epochs_of, number_after, stamps_of_kind}
 use Rattle.fw_rest.proofs.AckLaws.{output-bounds, rest-acknowledged}
 use Rattle.fw_rest.proofs.DueLaws.{output_kinds, reached-legal}
 use Rattle.fw_rest.proofs.EagerLaws.{staged-same, eager-newest, reached-more}
@@ -266,10 +272,12 @@ abbrev IsEveryOf : ℕ → ℕ → Written → Type 0
 IsEveryOf p n (checkpoint g l) = (n ≡ p) × (g ≡ [])
 IsEveryOf p n (logged_event s) = ⊥
 
--- what is left of the node holds each stamp, and what holds each stamp is left
-record IsOneOf (p : ℕ) (x : Write) : Type 0 where
-  only : IsLeftOf p x → IsEveryOf p x.node x.written
-  stays : IsCheckpointAt ever p [] x.node x.written x.stage → IsLeftOf p x × (x.stage ≡ acknowledged) × IsEveryOf p x.node x.written
+-- what holds each stamp is left
+abbrev IsOneOf : ℕ → Write → Type 0
+IsOneOf p x = IsCheckpointAt ever p [] x.node x.written x.stage → IsLeftOf p x × IsEveryOf p x.node x.written
+
+every-left : (p : ℕ) (x : Write) → IsEveryLeftOf p x → IsEveryOf p x.node x.written
+every-left p x k = subst (IsEveryOf p x.node) (sym k.every) (k.is_left.node, refl)
 
 -- two writes that are apart do not both hold each stamp
 every-apart : (p n m : ℕ) (v u : Written) → IsApart n v m u → IsEveryOf p n v → IsEveryOf p m u → ⊥
@@ -284,46 +292,40 @@ every-written p n (logged_event s) i = absurd i
 some-every : (p : ℕ) (xs : List Write) → HoldsOfOne (IsItsCheckpoint ever p []) xs → AllByRecursion (IsOneOf p) xs
     → (P : Write → Type 0) → AllByRecursion P xs → (Q : Type 0) → ((x : Write) → P x → IsEveryOf p x.node x.written → Q) → Q
 some-every p [] k a P b Q f = absurd k
-some-every p (x ∷ xs) (inl k) a P b Q f = f x b.0 (a.0.stays k).2
+some-every p (x ∷ xs) (inl k) a P b Q f = f x b.0 (a.0 k).1
 some-every p (x ∷ xs) (inr k) a P b Q f = some-every p xs k a.1 P b.1 Q f
 
 one-left : (p : ℕ) (xs : List Write) → ArePairs IsApart xs → HoldsOfOne (IsItsCheckpoint ever p []) xs → AllByRecursion (IsOneOf p) xs
-    → (only : HasOne (IsLeftOf p) xs) × (only.one.stage ≡ acknowledged) × ((low : List Front) × (only.one.written ≡ checkpoint [] low))
+    → HasOne (IsEveryLeftOf p) xs
 one-left p [] pairs k a = absurd k
 one-left p (x ∷ xs) pairs (inl k) a =
-    let s = a.0.stays k in (
-      record {
-        earlier = [];
-        one = x;
-        later = xs;
-        there = refl;
-        is_such = s.0;
-        none_earlier = tt;
-        none_later = each-weaker (λ (y : Write). IsApart x.node x.written y.node y.written × IsOneOf p y) (λ y. IsLeftOf p y → ⊥) xs
-            (λ y both left. every-apart p x.node y.node x.written y.written both.0 s.2 (both.1.only left))
-            (each-both (λ (y : Write). IsApart x.node x.written y.node y.written) (IsOneOf p) xs pairs.0 a.1);
-      },
-      s.1,
-      every-written p x.node x.written s.2,
-    )
+    let s = a.0 k in
+    let its = every-written p x.node x.written s.1 in
+    record {
+      earlier = [];
+      one = x;
+      later = xs;
+      there = refl;
+      is_such = record { is_left = s.0; low = its.0; every = its.1 };
+      none_earlier = tt;
+      none_later = each-weaker (λ (y : Write). IsApart x.node x.written y.node y.written) (λ y. IsEveryLeftOf p y → ⊥) xs
+          (λ y apart left. every-apart p x.node y.node x.written y.written apart s.1 (every-left p y left)) pairs.0;
+    }
 one-left p (x ∷ xs) pairs (inr k) a =
-    let rest = one-left p xs pairs.1 k a.1 in (
-      record {
-        earlier = x ∷ rest.0.earlier;
-        one = rest.0.one;
-        later = rest.0.later;
-        there = ap (λ ys. x ∷ ys) rest.0.there;
-        is_such = rest.0.is_such;
-        none_earlier = (
-          λ left. some-every p xs k a.1 (λ (y : Write). IsApart x.node x.written y.node y.written) pairs.0 ⊥
-              (λ y apart every. every-apart p x.node y.node x.written y.written apart (a.0.only left) every),
-          rest.0.none_earlier,
-        );
-        none_later = rest.0.none_later;
-      },
-      rest.1,
-      rest.2,
-    )
+    let rest = one-left p xs pairs.1 k a.1 in
+    record {
+      earlier = x ∷ rest.earlier;
+      one = rest.one;
+      later = rest.later;
+      there = ap (λ ys. x ∷ ys) rest.there;
+      is_such = rest.is_such;
+      none_earlier = (
+        λ left. some-every p xs k a.1 (λ (y : Write). IsApart x.node x.written y.node y.written) pairs.0 ⊥
+            (λ y apart every. every-apart p x.node y.node x.written y.written apart (every-left p x left) every),
+        rest.none_earlier,
+      );
+      none_later = rest.none_later;
+    }
 
 input-domain : (flow : Dataflow) (s x : ℕ) → kind_of flow s ≡ Input → x ≤ greatest_number → in_domain (bounds_of flow s) (x ∷ []) ≡ true
 unfolding bounds_of
@@ -964,62 +966,90 @@ module _ (sys : System) (family : Family) (w : IsWellFormedSystem sys) (den : Is
 
     -- ---- records
 
-    collected-lies : AllByRecursion (λ (x : Write). (x.stage ≡ collected) ↔ (lies_below sys next.low next.history x.node x.written ≡ true)) next.writes
-    collected-lies = collected-below sys w reached-next.0 reached-next.1 next reached-next.2
+    gone-lies : AllByRecursion (λ (x : Write). x.stage ≡ collected → lies_below sys next.low next.history x.node x.written ≡ true) next.writes
+    gone-lies = collected-lies sys w reached-next.0 reached-next.1 next reached-next.2
 
-    -- a write of a node that takes checkpoints is left where it is one of each stamp
-    its-front : (p : ℕ) → takes_checkpoints (policy_of flow p) ≡ true → front_of next.low p ≡ [] → (x : Write) → IsWriteAskedWell sys next.low next.next next.history x
-        → (x.stage ≡ collected) ↔ (lies_below sys next.low next.history x.node x.written ≡ true) → IsLeftOf p x → IsEveryOf p x.node x.written
-    its-front p k e x a iff left = by x.written refl
-      where
-        by : (v : Written) → x.written ≡ v → IsEveryOf p x.node x.written
-        by (logged_event s) is =
-            let full = (subst (λ v. IsAskedWell sys next.low next.next next.history x.node v x.stage) is a).3 in
-            absurd (not_full (policy_of flow p) k (ap (policy_of flow) (sym left.node) ∙ full))
-          where
-            not_full : (asks : Policy) → takes_checkpoints asks ≡ true → asks ≡ policy.Full → ⊥
-            not_full policy.Full i j = cc
-            not_full policy.None i j = cc
-            not_full asks i j = cc
-        by (checkpoint g l) is = subst (IsEveryOf p x.node) (sym is) (left.node, empty g (λ below. two_ways (not_collected x) left.left (ap (λ far. not (is_collected far)) (iff.1 (lies below)))))
-          where
-            lies : (is_within g [] && not (is_within [] g)) ≡ true → lies_below sys next.low next.history x.node x.written ≡ true
-            lies i =
-                ap (lies_below sys next.low next.history x.node) is
-                ∙ ap (λ f. is_within g f && not (is_within f g)) (ap (front_of next.low) left.node ∙ e) ∙ i
-
-            empty : (g : Front) → ((is_within g [] && not (is_within [] g)) ≡ true → ⊥) → g ≡ []
-            empty [] n = refl
-            empty (o ∷ os) n = absurd (n refl)
-
-    records-left : (p : ℕ) → p < length flow.nodes → takes_checkpoints (policy_of flow p) ≡ true
-        → (only : HasOne (IsLeftOf p) next.writes) × (only.one.stage ≡ acknowledged) × ((kept_low : List Front) × (only.one.written ≡ checkpoint [] kept_low))
+    records-left : (p : ℕ) → p < length flow.nodes → takes_checkpoints (policy_of flow p) ≡ true → LeavesNewest p next.writes
     records-left p l k =
         let all = reached-all sys w reached-next.0 reached-next.1 next reached-next.2 in
+        let forget = reached-forget sys w reached-next.0 reached-next.1 next reached-next.2 in
         let e = low-takes p l k in
-        let iffs = collected-lies in
         let A : Write → Type 0 = IsWriteAskedWell sys next.low next.next next.history in
-        let C : Write → Type 0 = λ x. (x.stage ≡ collected) ↔ (lies_below sys next.low next.history x.node x.written ≡ true) in
+        let C : Write → Type 0 = λ x. x.stage ≡ collected → lies_below sys next.low next.history x.node x.written ≡ true in
         let F : Write → Type 0 = λ x. is_in_flight x.stage ≡ false in
         let some = newest-there p (no_stamps (b p)) [] next.writes (none-flies-after next outcome taken) (newest-after next outcome taken p l k) (no_stamps-some flow p) in
+        let only =
         one-left p next.writes all.restore.apart some
-        (each-weaker (λ x. A x × (C x × F x)) (IsOneOf p) next.writes
-        (λ x both. record {
-          only = its-front p k e x both.0 both.1.0;
-          stays = λ its. stays-left p e x both.1.0 both.1.1 its;
-        })
-        (each-both A (λ x. C x × F x) next.writes all.restore.asked (each-both C F next.writes iffs (none-flies-after next outcome taken))))
+        (each-weaker (λ x. C x × F x) (IsOneOf p) next.writes (λ x both its. stays-left p e x both.0 both.1 its)
+        (each-both C F next.writes gone-lies (none-flies-after next outcome taken))) in
+        let one = only.one in
+        let such = only.is_such in
+        let kept = kept-are_chain sys w reached-next.0 reached-next.1 next reached-next.2 p l in
+        let deep =
+        deep-kept sys next.low next.next next.history p (record { declared = l; canonical = (low-offered sys next all.recover.notices all.recover.watermark p l).0 }) e next.writes
+        all.recover.ascend all.restore.apart (ends p l k) all.restore.asked forget.exact in
+        let link : Link = record { front = []; base = one.base; depth = one.depth } in
+        let long = chain-long (links_of p (filter not_collected next.writes)) link kept deep (last-is p l k only) in
+        let settled : AllByRecursion (IsSettledOf sys next.low next.history p next.writes) next.writes =
+        each-weaker (λ (x : Write). ((x.stage ≡ collected) ↔ (is_forgotten sys next.low next.history next.writes x ≡ true)) × (F x × A x))
+        (IsSettledOf sys next.low next.history p next.writes) next.writes
+        (λ x a. record { exact = a.0; landed = a.1.0; asked = is-checkpoint p k x a.1.1 })
+        (each-both (λ (x : Write). (x.stage ≡ collected) ↔ (is_forgotten sys next.low next.history next.writes x ≡ true)) (λ x. F x × A x) next.writes
+        (collected-forgotten sys w reached-next.0 reached-next.1 next reached-next.2)
+        (each-both F A next.writes (none-flies-after next outcome taken) all.restore.asked)) in
+        let are : AreCheckpoints p next.writes =
+        each-weaker A (λ (x : Write). x.node ≡ p → (f : Front) × ((low : List Front) × (x.written ≡ checkpoint f low))) next.writes (λ x a its. is-checkpoint p k x a its)
+        all.restore.asked in
+        record {
+          newest = only;
+          last =
+              none-later p next.writes only.earlier one only.later only.there (such.is_left.node, (such.low, such.every)) all.restore.apart (ends p l k) are;
+          left = left-stands sys next.low next.history p next.writes e settled only;
+          acknowledged = each-weaker (IsSettledOf sys next.low next.history p next.writes) (λ (x : Write). IsLeftOf p x → x.stage ≡ acknowledged) next.writes
+              (λ x a is. left-acknowledged sys next.low next.history p next.writes x a is) settled;
+          count = count-links p next.writes are ∙ long;
+          few = (each-suffix IsShallow only.earlier (one ∷ only.later)
+              (subst (AllByRecursion IsShallow) only.there (reached-shallow sys reached-next.0 reached-next.1 next reached-next.2))).0;
+        }
       where
-        stays-left : (p : ℕ) → front_of next.low p ≡ [] → (x : Write) → (x.stage ≡ collected) ↔ (lies_below sys next.low next.history x.node x.written ≡ true)
-            → is_in_flight x.stage ≡ false → IsCheckpointAt ever p [] x.node x.written x.stage → IsLeftOf p x × (x.stage ≡ acknowledged) × IsEveryOf p x.node x.written
-        stays-left p e x iff flies its = by x.written refl its
+        is-checkpoint : (p : ℕ) → takes_checkpoints (policy_of flow p) ≡ true → (x : Write) → IsWriteAskedWell sys next.low next.next next.history x → x.node ≡ p
+            → (f : Front) × ((low : List Front) × (x.written ≡ checkpoint f low))
+        is-checkpoint p k x a its = by x.written refl
+          where
+            by : (v : Written) → x.written ≡ v → (f : Front) × ((low : List Front) × (x.written ≡ checkpoint f low))
+            by (checkpoint g l) is = (g, (l, is))
+            by (logged_event s) is =
+                let full = (subst (λ v. IsAskedWell sys next.low next.next next.history x.node v x.stage) is a).3 in
+                absurd (not_full (policy_of flow p) k (ap (policy_of flow) (sym its) ∙ full))
+              where
+                not_full : (asks : Policy) → takes_checkpoints asks ≡ true → asks ≡ policy.Full → ⊥
+                not_full policy.Full i j = cc
+                not_full policy.None i j = cc
+                not_full asks i j = cc
+
+        -- the last of node p's checkpoints holds each stamp
+        ends : (p : ℕ) → p < length flow.nodes → takes_checkpoints (policy_of flow p) ≡ true → EndsEvery p next.writes
+        ends p l k = ends-of p next.writes (no_stamps (b p)) (no_stamps-some flow p) (newest-after next outcome taken p l k)
+
+        -- and it is that one
+        last-is : (p : ℕ) → p < length flow.nodes → takes_checkpoints (policy_of flow p) ≡ true → (only : HasOne (IsEveryLeftOf p) next.writes)
+            → last_link None (links_of p (filter not_collected next.writes)) ≡ Some (record { front = []; base = only.one.base; depth = only.one.depth })
+        last-is p l k only =
+            let all = reached-all sys w reached-next.0 reached-next.1 next reached-next.2 in
+            last-link_kept sys w reached-next.0 reached-next.1 next reached-next.2 p l
+            ∙ last-every p next.writes only.earlier only.one only.later only.there
+            (only.is_such.is_left.node, (only.is_such.low, only.is_such.every)) all.restore.apart (ends p l k)
+
+        stays-left : (p : ℕ) → front_of next.low p ≡ [] → (x : Write) → (x.stage ≡ collected → lies_below sys next.low next.history x.node x.written ≡ true)
+            → is_in_flight x.stage ≡ false → IsCheckpointAt ever p [] x.node x.written x.stage → IsLeftOf p x × IsEveryOf p x.node x.written
+        stays-left p e x lies flies its = by x.written refl its
           where
             at : (far : Stage) → x.stage ≡ far → lies_below sys next.low next.history x.node x.written ≡ false → x.stage ≡ acknowledged
             at in_flight s n = absurd (two_ways (is_in_flight x.stage) (ap is_in_flight s) flies)
             at acknowledged s n = s
-            at collected s n = absurd (two_ways _ (iff.0 s) n)
+            at collected s n = absurd (two_ways _ (lies s) n)
 
-            by : (v : Written) → x.written ≡ v → IsCheckpointAt ever p [] x.node v x.stage → IsLeftOf p x × (x.stage ≡ acknowledged) × IsEveryOf p x.node x.written
+            by : (v : Written) → x.written ≡ v → IsCheckpointAt ever p [] x.node v x.stage → IsLeftOf p x × IsEveryOf p x.node x.written
             by (logged_event s) is its = absurd its
             by (checkpoint g l) is its =
                 let below : lies_below sys next.low next.history x.node x.written ≡ false =
@@ -1027,7 +1057,6 @@ module _ (sys : System) (family : Family) (w : IsWellFormedSystem sys) (den : Is
                 ∙ ap (λ f. is_within [] f && not (is_within f [])) (ap (front_of next.low) its.0 ∙ e) in
                 let far = at x.stage refl below in (
                   record { node = its.0; left = ap (λ s. not (is_collected s)) far },
-                  far,
                   subst (IsEveryOf p x.node) (sym is) (its.0, its.1),
                 )
 
@@ -1038,12 +1067,12 @@ module _ (sys : System) (family : Family) (w : IsWellFormedSystem sys) (den : Is
     events-gone p full may =
         let all = reached-all sys w reached-next.0 reached-next.1 next reached-next.2 in
         let A : Write → Type 0 = IsWriteAskedWell sys next.low next.next next.history in
-        let C : Write → Type 0 = λ x. (x.stage ≡ collected) ↔ (lies_below sys next.low next.history x.node x.written ≡ true) in
+        let C : Write → Type 0 = λ x. IsLoggedExact sys next.low next.history x.written x.stage in
         let E : Write → Type 0 = λ x. HasItsEvent flow next.history x.node x.written in
         each-weaker (λ x. A x × (C x × E x)) (λ (x : Write). x.node ≡ p → x.stage ≡ collected) next.writes
-        (λ x k at. k.1.0.1 (given x at k.0 k.1.1))
+        (λ x k at. given x at k.0 k.1.1 k.1.0)
         (each-both A (λ x. C x × E x) next.writes all.restore.asked
-        (each-both C E next.writes collected-lies (logged-in_order sys w reached-next.0 reached-next.1 next reached-next.2).there))
+        (each-both C E next.writes (collected-logged sys w reached-next.0 reached-next.1 next reached-next.2) (logged-in_order sys w reached-next.0 reached-next.1 next reached-next.2).there))
       where
         there : p < length flow.nodes
         there = full-declared flow p full
@@ -1074,18 +1103,18 @@ module _ (sys : System) (family : Family) (w : IsWellFormedSystem sys) (den : Is
                 (keeps-epoch (receiver flow e) n u (sym (edge-bounds flow w.flow e u) ∙ du) (omega arith))
 
         given : (x : Write) → x.node ≡ p → IsWriteAskedWell sys next.low next.next next.history x → HasItsEvent flow next.history x.node x.written
-            → lies_below sys next.low next.history x.node x.written ≡ true
-        given x at a has = by x.written refl
+            → IsLoggedExact sys next.low next.history x.written x.stage → x.stage ≡ collected
+        given x at a has exact = by x.written refl
           where
-            by : (v : Written) → x.written ≡ v → lies_below sys next.low next.history x.node x.written ≡ true
+            by : (v : Written) → x.written ≡ v → x.stage ≡ collected
             by (checkpoint g l) is =
                 let takes = (subst (λ v. IsAskedWell sys next.low next.next next.history x.node v x.stage) is a).0 in
                 absurd (two_ways false (sym (ap (λ q. takes_checkpoints (policy_of flow q)) at ∙ ap takes_checkpoints full) ∙ takes) refl)
             by (logged_event serial) is =
-                ap (lies_below sys next.low next.history x.node) is
-                ∙ found (next.history)
+                (subst (λ v. IsLoggedExact sys next.low next.history v x.stage) is exact).1
+                (found (next.history)
                 (subst (λ vs. AllByRecursion (IsBefore flow most) (events vs) × AreAllInDomain flow (events vs)) (sym (same-history next outcome taken)) (epochs, domains))
-                (subst (λ v. HasItsEvent flow next.history x.node v) is has)
+                (subst (λ v. HasItsEvent flow next.history x.node v) is has))
               where
                 found : (vs : List SerialEvent) → AllByRecursion (IsBefore flow most) (events vs) × AreAllInDomain flow (events vs) → HasEventOf flow x.node serial vs
                     → is_serial_given_up sys next.low serial vs ≡ true

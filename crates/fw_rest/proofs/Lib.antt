@@ -10,4 +10,6 @@ pub mod WaitingLaws
 pub mod EpochLaws
 pub mod EagerLaws
 pub mod LeftLaws
+pub mod LinksLeftLaws
+pub mod StandsLeftLaws
 pub mod AskingLaws

@@ -110,8 +110,9 @@ WhatIsGivenIsAcknowledged = (sys : System) (family : Family) → IsWellFormedSys
     → HasAcknowledgedAll sys family last o × HasShownAll sys family (outcomes ++ also) o
 
 -- In each state of a well-formed system without a regroup to which steps lead from the first one, with all nodes live, in which `auto` has
--- nothing to do and no checkpoint is to be asked: once a collection is taken, enabled or not, nothing is left but one record of each node
--- that takes checkpoints.
+-- nothing to do and no checkpoint is to be asked: once a collection is taken, enabled or not, no input holds a batch and no log a message,
+-- of each node that takes checkpoints its newest write is left, with those on which it stands, and of a node that logs each event and may
+-- keep nothing no write is.
 abbrev pub RestLeavesNothing : Type 0
 RestLeavesNothing = (sys : System) (family : Family) → IsWellFormedSystem sys → IsDenotation sys family → HasNoRegroup sys.flow → (state : Machine) → IsReached sys state
     → AreAllLive sys state → HasNothingToDo sys state → HaveAllAsked sys state
@@ -123,8 +124,9 @@ abbrev pub AskingGoesOn : Type 0
 AskingGoesOn = (sys : System) → IsWellFormedSystem sys → (state : Machine) → IsReached sys state → (most : ℕ) → (last : Machine) × AsksAndCollects sys state most last
 
 -- In each state of a well-formed system without a regroup to which steps lead from the first one, with all nodes live, in which `auto` has
--- nothing to do: once each node is asked for a checkpoint, and then `auto` as many steps as it takes at most, and a collection, nothing is
--- left but one record of each node that takes checkpoints.
+-- nothing to do: once each node is asked for a checkpoint, and then `auto` as many steps as it takes at most, and a collection, no input
+-- holds a batch and no log a message, of each node that takes checkpoints its newest write is left, with those on which it stands, and of a
+-- node that logs each event and may keep nothing no write is.
 abbrev pub AskingLeavesNothing : Type 0
 AskingLeavesNothing = (sys : System) (family : Family) → IsWellFormedSystem sys → IsDenotation sys family → HasNoRegroup sys.flow → (state : Machine) → IsReached sys state
     → AreAllLive sys state → HasNothingToDo sys state → (most : ℕ) → steps_in_all sys family + length sys.flow.nodes ≤ most

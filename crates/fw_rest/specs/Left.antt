@@ -1,6 +1,7 @@
 -- What is left of a run once nothing waits, each checkpoint is asked and a collection is taken.
-use Rattle.std.specs.Prelude.{◌≡◌, ℕ, ◌<◌, true, List, [], ◌∷◌, length, map}
+use Rattle.std.specs.Prelude.{◌≡◌, ◌↔◌, ◌⊎◌, ℕ, ◌+◌, ◌<◌, ◌≤◌, ◌==◌, ◌&&◌, true, List, [], ◌∷◌, filter, length, map}
 use Rattle.std.specs.List.{AllByRecursion}
+use Rattle.fw_frontier.specs.Front.{Front}
 use Rattle.fw_flow.specs.declared.event.Message.{Message}
 use Rattle.fw_flow.specs.declared.kind.Kind.TheVariants.{Regroup}
 use Rattle.fw_flow.specs.declared.kind.Policy.TheVariants as policy
@@ -11,7 +12,7 @@ use Rattle.fw_flow.specs.WellFormed.{may_keep_nothing}
 use Rattle.fw_model.specs.Auto.{IsIdle, IsAutoRun}
 use Rattle.fw_model.specs.History.{sent_messages}
 use Rattle.fw_model.specs.Machine.{Machine, Write, acknowledged, collected, checkpoint, events, front_of}
-use Rattle.fw_model.specs.Steps.{Outcome, StepsTo, Run}
+use Rattle.fw_model.specs.Steps.{Outcome, StepsTo, Run, stands_on}
 use Rattle.fw_model.specs.Writes.{takes_checkpoints, not_collected, HasOne}
 
 -- no node numbers epochs anew
@@ -27,17 +28,36 @@ pub record IsLeftOf (p : ℕ) (write : Write) : Type 0 where
   pub node : write.node ≡ p
   pub left : not_collected write ≡ true
 
--- Of what came nothing is left but one record of each node that takes checkpoints, which holds each stamp. Each batch lies below the low
--- watermark, so no input holds one; each message that was sent lies below that of its receiver, so no log holds one; and of a node
--- that logs each event and may keep nothing each write was collected.
+-- a checkpoint of the node that was not collected and holds each stamp
+pub record IsEveryLeftOf (p : ℕ) (write : Write) : Type 0 where
+  pub is_left : IsLeftOf p write
+  pub low : List Front
+  pub every : write.written ≡ checkpoint [] low
+
+-- how many writes of node p were not collected
+abbrev pub count_left : ℕ → List Write → ℕ
+count_left p writes = length (filter (λ write. write.node == p && not_collected write) writes)
+
+-- Of node p its newest write is left, a checkpoint that holds each stamp, and besides it exactly the writes on which it stands, seven at
+-- most. Each that is left was acknowledged.
+pub record LeavesNewest (p : ℕ) (writes : List Write) : Type 0 where
+  pub newest : HasOne (IsEveryLeftOf p) writes
+  pub last : AllByRecursion (λ (write : Write). write.node ≡ p → ⊥) newest.later
+  pub left : AllByRecursion (λ (write : Write). IsLeftOf p write ↔ (IsEveryLeftOf p write ⊎ (stands_on writes newest.one write ≡ true))) writes
+  pub acknowledged : AllByRecursion (λ (write : Write). IsLeftOf p write → write.stage ≡ acknowledged) writes
+  pub count : count_left p writes ≡ newest.one.depth + 1
+  pub few : newest.one.depth ≤ 7
+
+-- Each batch lies below the low watermark, so no input holds one; each message that was sent lies below that of its receiver, so no log
+-- holds one. Of each node that takes checkpoints its newest write is left, with those on which it stands; and of a node that logs each
+-- event and may keep nothing each write was collected.
 pub record NothingIsLeft (sys : System) (state : Machine) : Type 0 where
   pub batches : (s x : ℕ) → is_input_kind (kind_of sys.flow s) ≡ true → x < length (batches_of sys s)
       → node_frontier sys.flow s (front_of state.low s) (x ∷ []) ≡ true
   pub logs : (e : ℕ) → e < length sys.flow.edges
       → AllByRecursion (λ (m : Message). node_frontier sys.flow (receiver sys.flow e) (front_of state.low (receiver sys.flow e)) m.at ≡ true)
       (sent_messages sys (events state.history) e)
-  pub records : (p : ℕ) → p < length sys.flow.nodes → takes_checkpoints (policy_of sys.flow p) ≡ true
-      → (only : HasOne (IsLeftOf p) state.writes) × (only.one.stage ≡ acknowledged) × ((low : List (List (List ℕ))) × (only.one.written ≡ checkpoint [] low))
+  pub records : (p : ℕ) → p < length sys.flow.nodes → takes_checkpoints (policy_of sys.flow p) ≡ true → LeavesNewest p state.writes
   pub events : (p : ℕ) → policy_of sys.flow p ≡ policy.Full → may_keep_nothing (kind_of sys.flow p) ≡ true
       → AllByRecursion (λ (write : Write). write.node ≡ p → write.stage ≡ collected) state.writes
 

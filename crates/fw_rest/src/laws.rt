@@ -89,8 +89,9 @@ pub fn acknowledged_is_shown()
 {}
 
 /// In each state of a well-formed system without a regroup to which steps lead from the first one, with all nodes live, in which
-/// `auto` has nothing to do and no checkpoint is to be asked: once a collection is taken, nothing is left but one record of each
-/// node that takes checkpoints.
+/// `auto` has nothing to do and no checkpoint is to be asked: once a collection is taken, enabled or not, no input holds a batch and
+/// no log a message, of each node that takes checkpoints its newest write is left, with those on which it stands, and of a node that
+/// logs each event and may keep nothing no write is.
 pub fn rest_leaves_nothing()
     ensures { RestLeavesNothing }
 {}
@@ -103,7 +104,8 @@ pub fn asking_goes_on()
 
 /// In each state of a well-formed system without a regroup to which steps lead from the first one, with all nodes live, in which
 /// `auto` has nothing to do: once each node is asked for a checkpoint, and then `auto` as many steps as it takes at most, and a
-/// collection, nothing is left but one record of each node that takes checkpoints.
+/// collection, no input holds a batch and no log a message, of each node that takes checkpoints its newest write is left, with those
+/// on which it stands, and of a node that logs each event and may keep nothing no write is.
 pub fn asking_leaves_nothing()
     ensures { AskingLeavesNothing }
 {}

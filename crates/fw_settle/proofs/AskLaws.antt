@@ -1,9 +1,9 @@
 -- What eager nodes ask as they grow.
-use Rattle.std.proofs.Common.{◌≡◌, ℕ, zero, suc, ◌+◌, ◌-◌, ◌<◌, ◌≤◌, Bool, true, false, cond, not, ◌&&◌, ◌||◌, List, [], ◌∷◌, ◌++◌, map, filter, get_or, length, refl, sym, ap, subst, ◌∙◌, inl, inr, arith}
-use Rattle.std.specs.Prelude.{Option, Some, None, option_map, Result, Ok, Err, OnOk, is_some}
+use Rattle.std.proofs.Common.{◌≡◌, ℕ, zero, suc, ◌+◌, ◌-◌, ◌<◌, ◌≤◌, Bool, true, false, cond, not, ◌&&◌, ◌||◌, ◌==◌, List, [], ◌∷◌, ◌++◌, map, filter, get_or, length, refl, sym, ap, subst, ◌∙◌, inl, inr, arith}
+use Rattle.std.specs.Prelude.{Option, Some, None, option_and_then, option_map, Result, Ok, Err, OnOk, is_some}
 use Rattle.std.specs.FinMap as map_of
-use Rattle.std.specs.List.{Contains, range_with_len}
-use Rattle.std.proofs.lemmas.Bool.{and_parts, cases_Bool}
+use Rattle.std.specs.List.{AllByRecursion, Contains, range_with_len}
+use Rattle.std.proofs.lemmas.Bool.{and_parts, cases_Bool, eqb-true, false_from_ne_true}
 use Rattle.std.proofs.lemmas.Iterator.Adapters.{option_map_id}
 use Rattle.std.proofs.lemmas.List.{append-nil, append_assoc, map-append}
 use Rattle.std.proofs.lemmas.List.Elements.{Contains-append_left, filter-append}
@@ -23,15 +23,14 @@ use Rattle.fw_model.specs.Filtering.{events_inside}
 use Rattle.fw_model.specs.Machine.{Machine, Write, family_of, front_of, is_failed}
 use Rattle.fw_model.specs.Steps.{GrowsTo, checkpoint_of, eager_writes, is_eager}
 use Rattle.fw_model.specs.Writes.{takes_checkpoints}
-use Rattle.fw_record.specs.declared.record.Checkpoint.{Checkpoint}
 use Rattle.fw_record.specs.declared.record.Record.{Record}
-use Rattle.fw_record.specs.declared.record.Record.TheVariants as tagged
-use Rattle.fw_record.specs.Spelling.{spelling, HasCountableLists}
+use Rattle.fw_record.specs.Spelling.{spelling}
 use Rattle.fw_keep.specs.declared.entry.Entry.{Entry}
 use Rattle.fw_keep.specs.Catalogue.{KeepState, AreInFlight}
-use Rattle.fw_keep.specs.Entry.{asked, asked_beside}
+use Rattle.fw_keep.specs.Entry.{asked_beside, base_of_record}
 use Rattle.fw_keep.specs.Stored.{Records, IsStored, KeepsBytes}
 use Rattle.fw_progress.specs.Settle.{has_more, is_growing, IsGrownAt}
+use Rattle.fw_stands.specs.Entries.{id_at_front, AreBasesOf}
 use Rattle.fw_stands.specs.Written.{AreEntriesOf, AreStored, IsEntryOf, uncollected}
 use Rattle.fw_stands.proofs.GrowthLaws.{settled-holds}
 use Rattle.fw_stands.proofs.KeptLaws.{fronts-grow}
@@ -43,9 +42,10 @@ use Rattle.fw_running.specs.Logging.{with_keep, ChangesKeep, IsAsked, IsNotAsked
 use Rattle.fw_running.specs.Stands.{Stands}
 use Rattle.fw_running.specs.Steps.{IsUndamaged, PartAnswers}
 use Rattle.fw_outside.specs.Outside.{StoreView}
-use Rattle.fw_settle.specs.Checkpoints.{IsSoInEachHistory, IsMadeAt, AsksCheckpoint, CanBeMadeAt}
+use Rattle.fw_settle.specs.Checkpoints.{IsSoInEachHistory, IsNextRecord, AsksCheckpoint, CanBeMadeAt, base_after, next_base}
 use Rattle.fw_settle.specs.Settling.{grows, NoneGrowsIn, AddsEntries, KeepsEntries, AsksIfEager, HaveAsked}
-use Rattle.fw_settle.proofs.WritesLaws.{asked-entry, asked-stored, can-be_made}
+use Rattle.fw_settle.proofs.BaseLaws.{IsNextBase, newest-others, next-base}
+use Rattle.fw_settle.proofs.WritesLaws.{asked-base, asked-entry, asked-stored, base_then, can-be_made}
 
 -- ---- entries
 
@@ -97,14 +97,13 @@ kept-withdrawn old mid new before after a w = record {
   bytes = a.bytes;
 }
 
--- what is made is asked where the record of it is
-pub asks-made : (result : Result (Unit {0}) EngineFault) (p : ℕ) (f : Front) (old new : Running) (before after : Option Records) (checkpoint : Checkpoint) (stamps : Stamps)
-    → OnOk result (IsAsked (tagged.State checkpoint) stamps old.parts.keep.entries new.parts.keep.entries before after) → IsMadeAt old p f checkpoint
-    → HasCountableLists checkpoint
+-- a checkpoint is asked where the record of the next one is
+pub asks-next : (result : Result (Unit {0}) EngineFault) (p : ℕ) (f : Front) (old new : Running) (before after : Option Records) (what : Record) (stamps : Stamps)
+    → OnOk result (IsAsked what stamps old.parts.keep.entries new.parts.keep.entries before after) → IsNextRecord old p f what
     → IsSoInEachHistory old.flow old.traces p f (λ sys h. AreStampsIf true sys (events_inside (node_frontier old.flow p f) h) p (node_frontier old.flow p f) stamps)
     → OnOk result (AsksCheckpoint p f old new before after)
-asks-made (Ok x) p f old new before after checkpoint stamps a made few held = record { checkpoint = checkpoint; stamps = stamps; made = made; few = few; held = held; asked = a }
-asks-made (Err e) p f old new before after checkpoint stamps a made few held = tt
+asks-next (Ok x) p f old new before after what stamps a next held = record { what = what; next = next; stamps = stamps; held = held; asked = a }
+asks-next (Err e) p f old new before after what stamps a next held = tt
 
 -- ---- the writes of eager nodes
 
@@ -201,7 +200,7 @@ pub asked-none : (old : Running) (before : Option Records) → HaveAsked 0 old o
 unfolding adds-none
 asked-none old before = record {
   adds = adds-none old.parts.keep.entries before;
-  writes = λ sys state settled s g. (tt, subst (AreStored sys state before old.parts.keep.entries) (sym (append-nil (uncollected state))) s.apart.stored);
+  writes = λ sys state settled s g. (tt, tt, subst (AreStored sys state before old.parts.keep.entries) (sym (append-nil (uncollected state))) s.apart.stored);
 }
 
 -- where none up to a later place is to settle, those before that have asked
@@ -218,7 +217,8 @@ asked-past old new before after place later a o l none = record {
       ∙ ap (λ b. is_eager (policy_of sys.flow p) && b) (none p from (omega (arith, until, o))) ∙ isnt (is_eager (policy_of sys.flow p))) in
       let known = a.writes sys state settled s g in (
         subst (AreEntriesOf sys state a.adds.more) (sym same) known.0,
-        subst (λ ws. AreStored sys state after new.parts.keep.entries (uncollected state ++ ws)) (sym same) known.1,
+        subst (AreBasesOf old.parts.keep.entries a.adds.more) (sym same) known.1,
+        subst (λ ws. AreStored sys state after new.parts.keep.entries (uncollected state ++ ws)) (sym same) known.2,
       );
 }
   where
@@ -238,9 +238,10 @@ skips p old mid new before between after a l other n = record {
       let same = eager-none sys state settled p test in
       let known = a.writes sys state settled s g in (
         subst (AreEntriesOf sys state a.adds.more) (sym same) known.0,
+        subst (AreBasesOf old.parts.keep.entries a.adds.more) (sym same) known.1,
         subst (λ ws. AreStored sys state after new.parts.keep.entries (uncollected state ++ ws)) (sym same)
             (subst (λ es. AreStored sys state after es (uncollected state ++ eager_writes sys state settled (range_with_len 0 p))) (sym n.entries)
-            (subst (λ r. AreStored sys state r mid.parts.keep.entries (uncollected state ++ eager_writes sys state settled (range_with_len 0 p))) (sym n.records) known.1)),
+            (subst (λ r. AreStored sys state r mid.parts.keep.entries (uncollected state ++ eager_writes sys state settled (range_with_len 0 p))) (sym n.records) known.2)),
       );
 }
 
@@ -262,15 +263,39 @@ can-keep sys old keep state p f c = record {
   counts = c.counts;
 }
 
--- what an eager node asks is of its write, and stored with the others
+-- the entries of the eager ones of the first so many nodes are of other nodes than the next
+of-others : (sys : System) (state : Machine) (settled : List Front) (p : ℕ) (test : ℕ → Bool) (m n : ℕ) → m + n ≤ p → (es : List Entry)
+    → AreEntriesOf sys state es (map (λ q. checkpoint_of state q (front_of settled q)) (filter test (range_with_len m n))) → AllByRecursion (λ (e : Entry). (e.node == p) ≡ false) es
+of-others sys state settled p test m zero l [] a = tt
+of-others sys state settled p test m zero l (e ∷ es) a = absurd a
+of-others sys state settled p test m (suc n) l es a = by (λ more k. of-others sys state settled p test (m + 1) n (omega (arith, l)) more k) (test m) es a
+  where
+    by : ((more : List Entry) → AreEntriesOf sys state more (map (λ q. checkpoint_of state q (front_of settled q)) (filter test (range_with_len (m + 1) n)))
+        → AllByRecursion (λ (e : Entry). (e.node == p) ≡ false) more) → (b : Bool) (es : List Entry)
+        → AreEntriesOf sys state es (map (λ q. checkpoint_of state q (front_of settled q)) (cond b (m ∷ filter test (range_with_len (m + 1) n)) (filter test (range_with_len (m + 1) n))))
+        → AllByRecursion (λ (e : Entry). (e.node == p) ≡ false) es
+    by rest false es a = rest es a
+    by rest true [] a = tt
+    by rest true (e ∷ es) a =
+        (ap (λ q. q == p) (a.0).node ∙ false_from_ne_true (m == p) (λ k. let is = eqb-true m p k in absurd (omega (arith, l, is))), rest es a.1)
+
+-- What one eager node asks: an entry of its write, on one of those that were there, and stored with the others.
+record IsEagerAsked (sys : System) (old mid new : Running) (between after : Option Records) (state : Machine) (settled : List Front) (p : ℕ) (f : Front)
+    (a : AsksCheckpoint p f mid new between after) (writes : List Write) : Type 0 where
+  of_write : IsEntryOf sys state (asked_beside mid.parts.keep.entries a.asked.id a.what a.stamps) (checkpoint_of state p (front_of settled p))
+  base : base_of_record a.what
+      ≡ option_and_then (λ g. id_at_front p g old.parts.keep.entries) (checkpoint_of state p (front_of settled p)).base
+  stored : AreStored sys state after new.parts.keep.entries (writes ++ checkpoint_of state p (front_of settled p) ∷ [])
+
 eager-asked : (sys : System) (old mid new : Running) (before between after : Option Records) (state : Machine) (settled : List Front) (p : ℕ) (f : Front)
     → Stands sys old before state → GrowsTo sys state (family_of sys.flow old.progress.kept) settled → ChangesKeep old mid
     → p < length sys.flow.nodes → is_eager (policy_of sys.flow p) ≡ true → grows old p ≡ true
+    → (more : List Entry) → mid.parts.keep.entries ≡ old.parts.keep.entries ++ more → AllByRecursion (λ (e : Entry). (e.node == p) ≡ false) more
     → IsGrownAt sys.flow old.progress.settled old.progress.kept p (Some f) → (a : AsksCheckpoint p f mid new between after)
     → (writes : List Write) → AreStored sys state between mid.parts.keep.entries writes
-    → IsEntryOf sys state (asked a.asked.id (tagged.State a.checkpoint) a.stamps) (checkpoint_of state p (front_of settled p))
-    × AreStored sys state after new.parts.keep.entries (writes ++ checkpoint_of state p (front_of settled p) ∷ [])
-eager-asked sys old mid new before between after state settled p f s g c l eager grow grown a writes stored =
+    → IsEagerAsked sys old mid new between after state settled p f a writes
+eager-asked sys old mid new before between after state settled p f s g c l eager grow more added others grown a writes stored =
+    let entries = old.parts.keep.entries in
     let live : is_failed state p ≡ false = ap (λ fs. get_or fs p false) (sym s.apart.failed) ∙ live-grows old.failed.items old.progress.settled old.progress.kept p grow in
     let is : f ≡ front_of settled p = grown-front sys state settled old before s g p l live f grown in
     let within : Within (family_of sys.flow state.settled p) (node_frontier sys.flow p f) =
@@ -278,12 +303,18 @@ eager-asked sys old mid new before between after state settled p f s g c l eager
     (settled-holds sys state (family_of sys.flow old.progress.kept) settled g p l) in
     let can : CanBeMadeAt sys mid state p f =
     subst (λ (r : Running). CanBeMadeAt sys r state p f) (sym c) (can-keep sys old mid.parts.keep state p f
-    (can-be_made sys old before state s p f (eager-takes (policy_of sys.flow p) eager) live grown.1.canonical within)) in (
-      subst (λ x. IsEntryOf sys state (asked a.asked.id (tagged.State a.checkpoint) a.stamps) (checkpoint_of state p x)) is
-          (asked-entry sys mid new between after state p f can a),
-      subst (λ x. AreStored sys state after new.parts.keep.entries (writes ++ checkpoint_of state p x ∷ [])) is
-          (asked-stored sys mid new between after state p f can a writes stored),
-    )
+    (can-be_made sys old before state s p f (eager-takes (policy_of sys.flow p) eager) live grown.1.canonical within)) in
+    let on : IsNextBase sys state p entries (base_then p mid) =
+    subst (IsNextBase sys state p entries) (ap base_after (sym (newest-others p entries more others)) ∙ ap (next_base p) (sym added))
+    (next-base sys s.apart.well_formed state s.apart.reached entries s.apart.entries p l) in
+    let still : (e : Entry) → Contains entries e → Contains mid.parts.keep.entries e = λ e k. subst (λ es. Contains es e) (sym added) (Contains-append_left entries more e k) in
+    record {
+      of_write = subst (λ x. IsEntryOf sys state (asked_beside mid.parts.keep.entries a.asked.id a.what a.stamps) (checkpoint_of state p x)) is
+          (asked-entry sys mid new between after state p f can entries on still a);
+      base = asked-base sys mid new between after state p f entries on a;
+      stored = subst (λ x. AreStored sys state after new.parts.keep.entries (writes ++ checkpoint_of state p x ∷ [])) is
+          (asked-stored sys mid new between after state p f can entries on a writes stored);
+    }
 
 -- an eager one asks its checkpoint
 asks-one : (p : ℕ) (old mid new : Running) (before between after : Option Records) → HaveAsked p old mid before between → ChangesKeep old mid
@@ -292,22 +323,27 @@ asks-one : (p : ℕ) (old mid new : Running) (before between after : Option Reco
     → HaveAsked (p + 1) old new before after
 unfolding adds-more
 asks-one p old mid new before between after h c l eager grow f grown a = record {
-  adds = adds-more old.parts.keep.entries mid.parts.keep.entries new.parts.keep.entries before between after h.adds (tagged.State a.checkpoint) a.stamps a.asked;
+  adds = adds-more old.parts.keep.entries mid.parts.keep.entries new.parts.keep.entries before between after h.adds a.what a.stamps a.asked;
   writes = λ sys state settled s g.
       let writes = eager_writes sys state settled (range_with_len 0 p) in
+      let write = checkpoint_of state p (front_of settled p) in
+      let entry = asked_beside mid.parts.keep.entries a.asked.id a.what a.stamps in
       let there : p < length sys.flow.nodes = subst (λ flow. p < length flow.nodes) s.apart.flow l in
       let is_eager_there : is_eager (policy_of sys.flow p) ≡ true = ap (λ flow. is_eager (policy_of flow p)) (sym s.apart.flow) ∙ eager in
       let test : asks_at_progress sys state settled p ≡ true =
       asks-grows sys state settled old before s g p there ∙ ap (λ b. b && grows old p) is_eager_there ∙ grow in
       let more = eager-some sys state settled p test in
       let known = h.writes sys state settled s g in
-      let one = eager-asked sys old mid new before between after state settled p f s g c there is_eager_there grow
-      (subst (λ flow. IsGrownAt flow old.progress.settled old.progress.kept p (Some f)) s.apart.flow grown) a (uncollected state ++ writes) known.1 in (
-        subst (AreEntriesOf sys state (h.adds.more ++ asked a.asked.id (tagged.State a.checkpoint) a.stamps ∷ [])) (sym more)
-            (zip-append (IsEntryOf sys state) h.adds.more writes (asked a.asked.id (tagged.State a.checkpoint) a.stamps ∷ [])
-            (checkpoint_of state p (front_of settled p) ∷ []) known.0 (one.0, tt)),
+      let one = eager-asked sys old mid new before between after state settled p f s g c there is_eager_there grow h.adds.more h.adds.entries
+      (of-others sys state settled p (asks_at_progress sys state settled) 0 p (omega arith) h.adds.more known.0)
+      (subst (λ flow. IsGrownAt flow old.progress.settled old.progress.kept p (Some f)) s.apart.flow grown) a (uncollected state ++ writes) known.2 in (
+        subst (AreEntriesOf sys state (h.adds.more ++ entry ∷ [])) (sym more)
+            (zip-append (IsEntryOf sys state) h.adds.more writes (entry ∷ []) (write ∷ []) known.0 (one.of_write, tt)),
+        subst (AreBasesOf old.parts.keep.entries (h.adds.more ++ entry ∷ [])) (sym more)
+            (zip-append (λ (e : Entry) (x : Write). e.base ≡ option_and_then (λ g. id_at_front x.node g old.parts.keep.entries) x.base) h.adds.more writes (entry ∷ []) (write ∷ [])
+            known.1 (one.base, tt)),
         subst (λ ws. AreStored sys state after new.parts.keep.entries (uncollected state ++ ws)) (sym more)
-            (subst (AreStored sys state after new.parts.keep.entries) (append_assoc (uncollected state) writes (checkpoint_of state p (front_of settled p) ∷ [])) one.1),
+            (subst (AreStored sys state after new.parts.keep.entries) (append_assoc (uncollected state) writes (write ∷ [])) one.stored),
       );
 }
 

@@ -1,4 +1,5 @@
 pub mod AskLaws
+pub mod BaseLaws
 pub mod CheckpointLaws
 pub mod EachEdgeLaws
 pub mod JoinLaws

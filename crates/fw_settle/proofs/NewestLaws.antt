@@ -1,9 +1,8 @@
 -- The newest checkpoint of a node by its entries, and whether nothing is settled.
-use Rattle.std.proofs.Common.{◌≡◌, ◌↔◌, ℕ, ◌==◌, Bool, true, false, cond, not, ◌&&◌, List, [], ◌∷◌, ◌++◌, refl, sym, ap, ◌∙◌}
-use Rattle.std.specs.Prelude.{IsTrue}
+use Rattle.std.proofs.Common.{◌≡◌, ◌↔◌, ℕ, ◌==◌, Bool, true, false, cond, not, ◌&&◌, List, [], ◌∷◌, refl, sym, ap, ◌∙◌}
+use Rattle.std.specs.Prelude.{IsTrue, Option, Some, None, unwrap_or}
+use Rattle.std.specs.Option.{option_or}
 use Rattle.std.proofs.lemmas.Bool.{and_parts, false_from_ne_true}
-use Rattle.std.proofs.lemmas.Grind.{flat_map-append}
-use Rattle.std.proofs.lemmas.List.{append-nil}
 use Rattle.fw_lemmas.proofs.Bools.{two_ways}
 use Rattle.fw_time.specs.Stamp.{origin, in_domain}
 use Rattle.fw_time.specs.declared.stamp.Bounds.{Bounds}
@@ -14,8 +13,15 @@ use Rattle.fw_frontier.specs.Front.{Front, inside, frontier_of, IsCanonical, IsF
 use Rattle.fw_frontier.proofs.NamesLaws.{frontier-closed, names-nothing, names-same}
 use Rattle.fw_model.specs.Machine.{no_stamps}
 use Rattle.fw_model.specs.Steps.{last_or}
+use Rattle.fw_model.proofs.AskedLaws.{last-append}
 use Rattle.fw_keep.specs.declared.entry.Entry.{Entry}
+use Rattle.fw_keep.specs.declared.entry.Written.{Written}
+use Rattle.fw_keep.specs.declared.entry.Written.TheVariants as written
+use Rattle.fw_keep.specs.Entry.{is_checkpoint}
+use Rattle.fw_keep.specs.Newest.{newest_by}
 use Rattle.fw_stands.specs.Entries.{entry_front, entry_fronts}
+use Rattle.fw_settle.specs.Checkpoints.{front_of_entry, written_front}
+use Rattle.fw_settle.proofs.BaseLaws.{newest-there}
 
 -- ---- nothing is settled
 
@@ -41,33 +47,31 @@ least-outside b f plain is =
 
 -- ---- the newest one
 
-last-none : (f : Front) (xs : List Front) → last_or f (xs ++ []) ≡ last_or f xs
-last-none f xs = ap (last_or f) (append-nil xs)
+-- the front of the last entry that is a checkpoint of the node is the last of their fronts
+pub newest-front : (p : ℕ) (f : Front) (es : List Entry) → unwrap_or (front_of_entry (newest_by p es)) f ≡ last_or f (entry_fronts p es)
+newest-front p f [] = refl
+newest-front p f (z ∷ es) =
+    by (newest_by p es) (newest-front p (last_or f head) es) (λ y k. (newest-there p es y k).of_checkpoint) refl
+    ∙ sym (last-append f head (entry_fronts p es))
+  where
+    head : List Front
+    head = cond (z.node == p) (entry_front z.written) []
 
-last-one : (f : Front) (xs : List Front) (y : Front) → last_or f (xs ++ y ∷ []) ≡ y
-last-one f [] y = refl
-last-one f (x ∷ xs) y = last-one x xs y
+    one : (own : Bool) (w : Written) → z.written ≡ w
+        → unwrap_or (front_of_entry (cond (own && is_checkpoint w) (Some z) None)) f ≡ last_or f (cond own (entry_front w) [])
+    one true (written.Checkpoint r t n) e = ap (λ w. unwrap_or (written_front w) f) e
+    one true (written.Event event) e = refl
+    one false w e = refl
 
--- the fronts of entries and one more
-fronts-more : (p : ℕ) (entries : List Entry) (e : Entry) → entry_fronts p (entries ++ e ∷ []) ≡ entry_fronts p entries ++ cond (e.node == p) (entry_front e.written) []
-fronts-more p entries e =
-    flat_map-append (λ (x : Entry). cond (x.node == p) (entry_front x.written) []) entries (e ∷ [])
-    ∙ ap (λ fs. entry_fronts p entries ++ fs) (append-nil (cond (e.node == p) (entry_front e.written) []))
+    there : (w : Written) → is_checkpoint w ≡ true → (g k : Front) → unwrap_or (written_front w) g ≡ unwrap_or (written_front w) k
+    there (written.Checkpoint r t n) i g k = refl
+    there (written.Event event) i g k = absurd (two_ways false i refl)
 
--- an entry that is no checkpoint of the node leaves the newest one
-pub newest-before : (p : ℕ) (f : Front) (all rest before : List Entry) (e : Entry) → rest ≡ before ++ e ∷ [] → cond (e.node == p) (entry_front e.written) [] ≡ []
-    → last_or f (entry_fronts p rest) ≡ last_or f (entry_fronts p all) → last_or f (entry_fronts p before) ≡ last_or f (entry_fronts p all)
-newest-before p f all rest before e is none same =
-    sym (last-none f (entry_fronts p before)) ∙ ap (λ fs. last_or f (entry_fronts p before ++ fs)) (sym none)
-    ∙ ap (last_or f) (sym (fronts-more p before e)) ∙ ap (λ es. last_or f (entry_fronts p es)) (sym is) ∙ same
-
--- one that is gives it
-pub newest-here : (p : ℕ) (f : Front) (all rest before : List Entry) (e : Entry) (g : Front) → rest ≡ before ++ e ∷ []
-    → cond (e.node == p) (entry_front e.written) [] ≡ g ∷ [] → last_or f (entry_fronts p rest) ≡ last_or f (entry_fronts p all)
-    → g ≡ last_or f (entry_fronts p all)
-newest-here p f all rest before e g is here same =
-    sym (last-one f (entry_fronts p before) g) ∙ ap (λ fs. last_or f (entry_fronts p before ++ fs)) (sym here)
-    ∙ ap (last_or f) (sym (fronts-more p before e)) ∙ ap (λ es. last_or f (entry_fronts p es)) (sym is) ∙ same
+    by : (o : Option Entry) → unwrap_or (front_of_entry o) (last_or f head) ≡ last_or (last_or f head) (entry_fronts p es)
+        → ((y : Entry) → o ≡ Some y → is_checkpoint y.written ≡ true) → newest_by p es ≡ o
+        → unwrap_or (front_of_entry (option_or o (cond ((z.node == p) && is_checkpoint z.written) (Some z) None))) f ≡ last_or (last_or f head) (entry_fronts p es)
+    by (Some y) rest is e = there y.written (is y refl) f (last_or f head) ∙ rest
+    by None rest is e = one (z.node == p) z.written refl ∙ rest
 
 -- ---- whether it is at what is settled
 

@@ -1,13 +1,12 @@
 -- The step of progress: what it makes of what is kept stands for the next state.
-use Rattle.std.proofs.Common.{◌≡◌, ℕ, ◌<◌, Bool, true, false, not, cond, ◌&&◌, List, [], ◌∷◌, ◌++◌, filter, map, length, get_or, refl, sym, ap, subst, ◌∙◌, inl, inr, arith}
+use Rattle.std.proofs.Common.{◌≡◌, ℕ, ◌<◌, Bool, true, false, not, cond, ◌&&◌, List, [], ◌++◌, filter, map, length, get_or, refl, sym, ap, subst, ◌∙◌, inl, inr, arith}
 use Rattle.std.specs.List.{AllByRecursion, range_with_len}
-use Rattle.std.specs.Prelude.{Option, Some, None, option_and_then, Ok, Err, nat_lt}
+use Rattle.std.specs.Prelude.{Option, Some, None, Ok, Err, nat_lt}
 use Rattle.std.proofs.lemmas.Bool.{and_from, and_parts, and_right, both_ways, cases_Bool, cases_lt, lt-ltb, not-true, not-false}
 use Rattle.std.proofs.lemmas.List.{get_or_past}
 use Rattle.fw_lemmas.proofs.Bools.{first_holds, second_holds, two_ways}
 use Rattle.std.proofs.lemmas.List.FromFn.{get_or-map-range_with_len, length-map-range_with_len}
 use Rattle.fw_lemmas.proofs.Each.{each-weaker}
-use Rattle.fw_lemmas.proofs.SideBySide.{zip-right}
 use Rattle.fw_time.specs.Stamp.{in_domain, leq}
 use Rattle.fw_time.specs.declared.stamp.Bounds.{Bounds}
 use Rattle.fw_time.proofs.DomainLaws.{domain-leq}
@@ -21,21 +20,20 @@ use Rattle.fw_flow.specs.declared.kind.Policy.{Policy}
 use Rattle.fw_flow.specs.declared.kind.Policy.TheVariants as policy
 use Rattle.fw_flow.specs.Dataflow.{System, kind_of, policy_of, bounds_of, node_ids}
 use Rattle.fw_model.specs.History.{IsComplete}
-use Rattle.fw_model.specs.Machine.{Machine, Write, events, family_of, front_of, AreCanonical}
-use Rattle.fw_model.specs.Steps.{GrowsTo, LeadsTo, did, idle, silent, checkpoint_of, eager_writes, is_asked_for_checkpoints, is_eager}
+use Rattle.fw_model.specs.Machine.{Machine, events, family_of, front_of, AreCanonical}
+use Rattle.fw_model.specs.Steps.{GrowsTo, LeadsTo, did, idle, silent, eager_writes, is_asked_for_checkpoints, is_eager}
 use Rattle.fw_model.specs.Writes.{takes_checkpoints}
 use Rattle.fw_node.specs.declared.node.Node.{Node}
-use Rattle.fw_keep.specs.declared.entry.Entry.{Entry}
 use Rattle.fw_keep.specs.Catalogue.{KeepState}
 use Rattle.fw_keep.specs.Stored.{Records}
 use Rattle.fw_progress.specs.Settle.{has_more, AreGrownBefore}
 use Rattle.fw_progress.proofs.SettleLaws.{in_turn-settled}
-use Rattle.fw_stands.specs.Entries.{id_at_front, AreBasesOf}
 use Rattle.fw_stands.specs.Settling.{settled_state, AreSettledAt}
 use Rattle.fw_stands.specs.Parts.{settles_with_checkpoints, sums_up, IsTableIn}
-use Rattle.fw_stands.specs.Written.{AreEntriesOf, AreStored, HasBaseOf, IsEntryOf, uncollected}
-use Rattle.fw_stands.proofs.AtReached.{reached-next}
+use Rattle.fw_stands.specs.Entries.{AreBasesOf}
+use Rattle.fw_stands.specs.Written.{AreEntriesOf, AreStored, uncollected}
 use Rattle.fw_stands.proofs.BaseSteps.{bases_after_asking}
+use Rattle.fw_stands.proofs.AtReached.{reached-next}
 use Rattle.fw_stands.proofs.EntrySteps.{entries_after_asking, records_after_asking, progress_asks}
 use Rattle.fw_stands.proofs.KeptLaws.{no_more-idle}
 use Rattle.fw_stands.proofs.NodeCheckpoints.{asks_at_progress}
@@ -54,6 +52,7 @@ use Rattle.fw_running.specs.Shaped.{IsShaped}
 use Rattle.fw_running.specs.Stands.{Stands}
 use Rattle.fw_running.specs.Steps.{Follows, TakesStep, IsStepEnabled, IsUndamaged}
 use Rattle.fw_settle.proofs.SettleLaws.{past-grows}
+use Rattle.fw_settle.proofs.BaseLaws.{bases-left}
 use Rattle.fw_settle.proofs.AskLaws.{asks-grows}
 use Rattle.fw_settle.proofs.WritesLaws.{kept-stands, when_asked-with}
 use Rattle.fw_settle.specs.Settling.{grows, NoneGrowsIn, IsNextToSettle, KeepsEntries, HaveAsked, settled_into, ChangesSettled, IsTableSettled, settles_table, settles_traces, settles_when_asked, HaveSettled, Progresses}
@@ -142,29 +141,6 @@ waiting-same sys state settled mid before s same p isnt without = elim (cases_Bo
       absurd (two_ways (settles_with_checkpoints sys.flow p) (when_asked-with (policy_of sys.flow p) (sums_up (kind_of sys.flow p)) asked) without)
   | inr none ↦ same p none
 ]
-
--- ---- bases
-
--- the checkpoints that are asked have none
-eager-whole : (sys : System) (state : Machine) (settled : List Front) (ps : List ℕ) → AllByRecursion (λ (w : Write). w.base ≡ None) (eager_writes sys state settled ps)
-eager-whole sys state settled ps = whole (filter (asks_at_progress sys state settled) ps)
-  where
-    whole : (qs : List ℕ) → AllByRecursion (λ (w : Write). w.base ≡ None) (map (λ p. checkpoint_of state p (front_of settled p)) qs)
-    whole [] = tt
-    whole (q ∷ qs) = (refl, whole qs)
-
--- so their entries have none
-whole-bases : (sys : System) (state : Machine) (all more : List Entry) (writes : List Write) → AllByRecursion (λ (w : Write). w.base ≡ None) writes
-    → AreEntriesOf sys state more writes → AreBasesOf all more writes
-whole-bases sys state all more writes =
-    zip-right (λ (w : Write). w.base ≡ None) (IsEntryOf sys state)
-    (λ (e : Entry) (w : Write). e.base ≡ option_and_then (λ f. id_at_front w.node f all) w.base) more writes (λ e w whole i. none-on w.node e.base w.base whole i.base)
-  where
-    none-on : (n : ℕ) (id : Option ℕ) (f : Option Front) → f ≡ None → HasBaseOf id f → id ≡ option_and_then (λ g. id_at_front n g all) f
-    none-on n None None e h = refl
-    none-on n None (Some f) e h = absurd h
-    none-on n (Some id) None e h = absurd h
-    none-on n (Some id) (Some f) e h = absurd (let c : Some f ≡ None = e in cc)
 
 -- ---- the next state
 
@@ -256,14 +232,16 @@ progress-follows sys state mid new before after p s shaped complete first does =
     subst (λ k. AreEntriesOf sys state more (eager_writes sys state settled (range_with_len 0 k))) nodes known.0 in
     let stored : AreStored sys state after (mid.parts.keep.entries ++ more) (uncollected state ++ writes) =
     subst (λ es. AreStored sys state after es (uncollected state ++ writes)) does.asks.adds.entries
-    (subst (λ k. AreStored sys state after asked.parts.keep.entries (uncollected state ++ eager_writes sys state settled (range_with_len 0 k))) nodes known.1) in
+    (subst (λ k. AreStored sys state after asked.parts.keep.entries (uncollected state ++ eager_writes sys state settled (range_with_len 0 k))) nodes known.2) in
+    let based : AreBasesOf mid.parts.keep.entries more writes =
+    subst (λ k. AreBasesOf mid.parts.keep.entries more (eager_writes sys state settled (range_with_len 0 k))) nodes known.1 in
     let entries_then : AreEntriesOf sys next asked.parts.keep.entries (uncollected next) =
     subst (λ es. AreEntriesOf sys next es (uncollected next)) (sym does.asks.adds.entries)
     (entries_after_asking sys s.apart.well_formed state s.apart.reached ProgressStep next silent u writes refl fly mid.parts.keep.entries more s.apart.entries of_writes) in
     let bases_then : AreBasesOf asked.parts.keep.entries asked.parts.keep.entries (uncollected next) =
     subst (λ es. AreBasesOf es es (uncollected next)) (sym does.asks.adds.entries)
     (bases_after_asking sys state next writes refl fly mid.parts.keep.entries more s.apart.entries s.apart.bases
-    (whole-bases sys state (mid.parts.keep.entries ++ more) more writes (eager-whole sys state settled (node_ids sys.flow)) of_writes)) in
+    (bases-left sys state mid.parts.keep.entries more more writes of_writes based)) in
     let stored_then : AreStored sys next after asked.parts.keep.entries (uncollected next) =
     subst (λ es. AreStored sys next after es (uncollected next)) (sym does.asks.adds.entries)
     (records_after_asking sys s.apart.well_formed state s.apart.reached ProgressStep next silent u writes refl fly mid.parts.keep.entries more after stored) in

@@ -1,6 +1,6 @@
 -- Of what the record of a checkpoint is made, part by part.
-use Rattle.std.proofs.Common.{◌≡◌, ℕ, ◌+◌, ◌<◌, ◌^◌, Bool, true, List, [], ◌∷◌, ◌++◌, map, length, get_or, take, inl, inr, ap, subst, sym, ◌∙◌, arith}
-use Rattle.std.specs.Prelude.{slice_get, Option, Some, None, IfSome, Result, Ok, Err, IfOk}
+use Rattle.std.proofs.Common.{◌≡◌, ℕ, ◌+◌, ◌<◌, ◌^◌, true, List, [], ◌∷◌, ◌++◌, map, length, get_or, take, inl, inr, ap, subst, sym, ◌∙◌, arith}
+use Rattle.std.specs.Prelude.{slice_get, Option, Some, None, IfSome}
 use Rattle.std.specs.List.{AllByRecursion, flat_map}
 use Rattle.std.specs.List.Sorted.{IsPermutation}
 use Rattle.std.proofs.lemmas.Grind.{flat_map-append}
@@ -9,26 +9,19 @@ use Rattle.std.proofs.lemmas.List.Sorted.{length_permutation}
 use Rattle.std.proofs.lemmas.Option.{slice_get-get_or, slice_get_cases, slice_get_within}
 use Rattle.fw_time.specs.Stamp.{in_domain}
 use Rattle.fw_time.specs.declared.stamp.Bounds.{Bounds}
-use Rattle.fw_bag.specs.declared.rec.Rec.{Rec}
-use Rattle.fw_frontier.specs.Frontier.{Within}
-use Rattle.fw_frontier.specs.Front.{Front, inside, IsCanonical}
+use Rattle.fw_frontier.specs.Front.{Front, IsCanonical}
 use Rattle.fw_frontier.proofs.CanonicalLaws.{in_domain-canonical}
-use Rattle.fw_flow.specs.declared.event.Event.{Event}
 use Rattle.fw_flow.specs.declared.event.Message.{Message}
-use Rattle.fw_flow.specs.Dataflow.{Dataflow, kind_of, bounds_of, node_frontier}
-use Rattle.fw_flow.specs.NodeFunction.{delivered_recs}
+use Rattle.fw_flow.specs.Dataflow.{Dataflow, bounds_of}
 use Rattle.fw_edge.specs.Messages.{MessagesState}
-use Rattle.fw_model.specs.Filtering.{messages_from}
 use Rattle.fw_node.specs.declared.node.Node.{Node}
 use Rattle.fw_node.specs.NodeOf.{IsNodeOf}
-use Rattle.fw_node.specs.Past.{totals_kept}
-use Rattle.fw_node.specs.TableOf.{IsTableOf}
 use Rattle.fw_record.specs.declared.logged.Logged.{Logged}
 use Rattle.fw_bytes.specs.Sound.{each_may_follow}
 use Rattle.fw_record.specs.Sound.{may_follow_logged}
 use Rattle.fw_bag.specs.Bag.{IsRec}
 use Rattle.fw_rollback.specs.Edges.{nothing_there, on_edge}
-use Rattle.fw_settle.specs.Checkpoints.{AreTotalsAt, logged_from, logged_at, IsLogAt}
+use Rattle.fw_settle.specs.Checkpoints.{logged_from, logged_at, IsLogOf}
 use Rattle.fw_settle.proofs.LogLaws.{each-permuted}
 
 -- ---- the table
@@ -40,20 +33,12 @@ table-fits flow p f None n c = tt
 table-fits flow p f (Some node) n c =
     subst (λ (b : Bounds). AllByRecursion (λ o. in_domain b o ≡ true) f) (sym n.bounds) (in_domain-canonical (bounds_of flow p) f c)
 
--- the totals of a table
-pub totals-some : {E : Type 0} (result : Result (List Rec) E) (flow : Dataflow) (p : ℕ) (f : Front) (node : Node)
-    → ((flow : Dataflow) (p : ℕ) (settled : List ℕ → Bool) (before : List Event) → Within settled (node_frontier flow p f) → IsTableOf flow p settled node before
-    → IfOk result (λ totals. totals ≡ totals_kept (kind_of flow p) (delivered_recs (λ d s. node_frontier flow p f s) before)))
-    → IfOk result (AreTotalsAt flow (Some node) p f)
-totals-some (Ok totals) flow p f node h = λ settled before w t. h flow p settled before w t
-totals-some (Err e) flow p f node h = tt
-
 -- ---- the log
 
-pub log-made : (flow : Dataflow) (logs : ℕ → List Message) (p : ℕ) (f : Front) (all log : List Logged) → all ≡ logged_at flow logs p f
+pub log-made : (flow : Dataflow) (logs : ℕ → List Message) (p : ℕ) (all log : List Logged) → all ≡ logged_at flow logs p
     → AllByRecursion (λ (l : Logged). IsRec l.message.rec) all → length all < 2 ^ 64 → IsPermutation all log → each_may_follow may_follow_logged [] log ≡ true
-    → IsLogAt flow logs p f log
-log-made flow logs p f all log is small few same follow =
+    → IsLogOf flow logs p log
+log-made flow logs p all log is small few same follow =
     let long = length_permutation all log same in
     record {
       same = subst (λ xs. IsPermutation xs log) is same;
@@ -63,15 +48,15 @@ log-made flow logs p f all log is small few same follow =
     }
 
 -- what is logged on one edge more
-pub logged-next : (f : Front) (logs : ℕ → List Message) (es : List ℕ) (i e : ℕ) (ms : List Message) (old new : List Logged) → i < length es → e ≡ get_or es i e
-    → old ≡ logged_from f logs (take i es) → ms ≡ messages_from (inside f) (logs e)
-    → new ≡ old ++ map (λ (m : Message). record { edge = e; message = m }) ms → new ≡ logged_from f logs (take (i + 1) es)
-logged-next f logs es i e ms old new l is was of put =
-    let on : ℕ → List Logged = λ d. map (λ (m : Message). record { edge = d; message = m }) (messages_from (inside f) (logs d)) in
+pub logged-next : (logs : ℕ → List Message) (es : List ℕ) (i e : ℕ) (ms : List Message) (old new : List Logged) → i < length es → e ≡ get_or es i e
+    → old ≡ logged_from logs (take i es) → ms ≡ logs e
+    → new ≡ old ++ map (λ (m : Message). record { edge = e; message = m }) ms → new ≡ logged_from logs (take (i + 1) es)
+logged-next logs es i e ms old new l is was of put =
+    let on : ℕ → List Logged = λ d. map (λ (m : Message). record { edge = d; message = m }) (logs d) in
     put
     ∙ ap (λ xs. xs ++ map (λ (m : Message). record { edge = e; message = m }) ms) was
-    ∙ ap (λ xs. logged_from f logs (take i es) ++ map (λ (m : Message). record { edge = e; message = m }) xs) of
-    ∙ ap (λ xs. logged_from f logs (take i es) ++ xs) (sym (append-nil (on e)))
+    ∙ ap (λ xs. logged_from logs (take i es) ++ map (λ (m : Message). record { edge = e; message = m }) xs) of
+    ∙ ap (λ xs. logged_from logs (take i es) ++ xs) (sym (append-nil (on e)))
     ∙ sym (flat_map-append on (take i es) (e ∷ []))
     ∙ ap (λ d. flat_map on (take i es ++ d ∷ [])) is
     ∙ ap (flat_map on) (sym (take_more es i e l))

@@ -1,5 +1,5 @@
 -- What a sequence sent is told epoch by epoch, as its table has it.
-use Rattle.std.proofs.Common.{◌≡◌, ℕ, suc, ◌+◌, ◌-◌, ◌<◌, ◌≤◌, ◌^◌, ◌&&◌, Bool, true, false, cond, List, [], ◌∷◌, ◌++◌, length, get_or, take, Some, None, refl, sym, ◌∙◌, ap, subst, inl, inr, arith}
+use Rattle.std.proofs.Common.{◌≡◌, ℕ, suc, ◌+◌, ◌-◌, ◌<◌, ◌≤◌, ◌^◌, ◌&&◌, Bool, true, false, not, cond, List, [], ◌∷◌, ◌++◌, length, get_or, take, Option, Some, None, refl, sym, ◌∙◌, ap, subst, inl, inr, arith}
 use Rattle.std.specs.Prelude.{slice_get, nat_lt, nat_le}
 use Rattle.std.specs.List.{AllByRecursion}
 use Rattle.std.specs.Option.{option_map_or}
@@ -16,14 +16,14 @@ use Rattle.fw_lemmas.proofs.Lists.{last_of}
 use Rattle.fw_time.specs.Stamp.{Stamp, leq, same, stamp_cmp}
 use Rattle.fw_time.proofs.StampLaws.{same-is}
 use Rattle.fw_frontier.specs.Frontier.{Frontier}
-use Rattle.fw_frontier.specs.Front.{Front, inside}
+use Rattle.fw_frontier.specs.Front.{Front}
 use Rattle.fw_frontier.specs.declared.state.SentCount.{SentCount}
 use Rattle.fw_flow.specs.Projection.{table_count}
 use Rattle.fw_flow.specs.SentTable.{EpochsAscend}
 use Rattle.fw_bytes.specs.Sound.{IsStamp, IsSentCount, each_may_follow, may_follow_counts}
 use Rattle.fw_stands.specs.Written.{told_inside}
-use Rattle.fw_settle.specs.Checkpoints.{AreSendsOf}
-use Rattle.fw_settle.specs.Sends.{IsEpochLimit, is_last_of, HasTaken, HasCount, HasSends}
+use Rattle.fw_settle.specs.Checkpoints.{AreSendsOf, is_stamp_since, told_epochs}
+use Rattle.fw_settle.specs.Sends.{IsEpochLimit, IsFirstSince, is_last_of, HasTaken, HasCount, HasSends}
 
 -- the last of a list is that of its rest, if there is one
 last_step : {A : Type 0} (x y : A) (zs : List A) → slice_get (x ∷ y ∷ zs) (length (x ∷ y ∷ zs) - 1) ≡ slice_get (y ∷ zs) (length (y ∷ zs) - 1)
@@ -157,17 +157,17 @@ abbrev AreUpTo : ℕ → List (ℕ × ℕ) → Type 0
 AreUpTo x table = AllByRecursion (λ (e : ℕ × ℕ). e.0 ≤ x) table
 
 -- What is told of a table as far as it was read.
-pub record AreToldOf (f : Front) (table : List (ℕ × ℕ)) (sends : List SentCount) : Type 0 where
-  pub told : (g : Frontier) → told_inside g sends ≡ table_count (λ t. inside f t && g t) table
+pub record AreToldOf (among : Frontier) (table : List (ℕ × ℕ)) (sends : List SentCount) : Type 0 where
+  pub told : (g : Frontier) → told_inside g sends ≡ table_count (λ t. among t && g t) table
   pub parts : AllByRecursion IsSentCount sends
   pub below : (x : ℕ) → AreUpTo x table → AreBelow (suc x) sends
   pub rise : EpochsAscend table → Rise 0 sends
 
-pub told-none : (f : Front) → AreToldOf f [] []
-told-none f = record { told = λ g. refl; parts = tt; below = λ x a. tt; rise = λ o. tt }
+pub told-none : (among : Frontier) → AreToldOf among [] []
+told-none among = record { told = λ g. refl; parts = tt; below = λ x a. tt; rise = λ o. tt }
 
-pub told-all : (f : Front) (table : List (ℕ × ℕ)) (sends : List SentCount) → AreToldOf f table sends → AreSendsOf f table sends
-told-all f table sends a = record { told = a.told; parts = a.parts; follow = λ o. rise-follow 0 sends (a.rise o) }
+pub told-all : (among : Frontier) (table : List (ℕ × ℕ)) (sends : List SentCount) → AreToldOf among table sends → AreSendsOf among table sends
+told-all among table sends a = record { told = a.told; parts = a.parts; follow = λ o. rise-follow 0 sends (a.rise o) }
 
 -- the order of a table and one entry more
 order-less : (table : List (ℕ × ℕ)) (x count : ℕ) → EpochsAscend (table ++ (x, count) ∷ []) → EpochsAscend table × AreUpTo x table
@@ -254,11 +254,11 @@ below-up : (x y : ℕ) (ss : List SentCount) → x ≤ y → AreBelow x ss → A
 below-up x y ss l a = each-weaker (IsBelow x) (IsBelow y) ss (λ s k. (k.0, k.1, (let m = k.2 in omega (arith, l, m)))) a
 
 -- one entry more is told
-pub told-more : (f : Front) (table : List (ℕ × ℕ)) (x count : ℕ) (old new : List SentCount) → AreToldOf f table old → HasSends (inside f (x ∷ [])) x count old new
-    → AreToldOf f (table ++ (x, count) ∷ []) new
-told-more f table x count old new a h = elim (cases_eq count 0) [
-  | inl none ↦ stays (h.none none) (λ g. ap (λ n. cond (inside f (x ∷ []) && g (x ∷ [])) n 0) none ∙ zero (inside f (x ∷ []) && g (x ∷ [])))
-  | inr some ↦ elim (cases_Bool (inside f (x ∷ []))) [
+pub told-more : (among : Frontier) (table : List (ℕ × ℕ)) (x count : ℕ) (old new : List SentCount) → AreToldOf among table old → HasSends (among (x ∷ [])) x count old new
+    → AreToldOf among (table ++ (x, count) ∷ []) new
+told-more among table x count old new a h = elim (cases_eq count 0) [
+  | inl none ↦ stays (h.none none) (λ g. ap (λ n. cond (among (x ∷ []) && g (x ∷ [])) n 0) none ∙ zero (among (x ∷ []) && g (x ∷ [])))
+  | inr some ↦ elim (cases_Bool (among (x ∷ []))) [
     | inl i ↦ grown (h.some some i) some i
     | inr o ↦ stays (h.out o) (λ g. ap (λ b. cond (b && g (x ∷ [])) count 0) o)
   ]
@@ -274,21 +274,21 @@ told-more f table x count old new a h = elim (cases_eq count 0) [
       each-prefix (λ (e : ℕ × ℕ). e.0 ≤ y) table ((x, count) ∷ []) u,
     )
 
-    stays : new ≡ old → ((g : Frontier) → cond (inside f (x ∷ []) && g (x ∷ [])) count 0 ≡ 0) → AreToldOf f (table ++ (x, count) ∷ []) new
-    stays e none = subst (AreToldOf f (table ++ (x, count) ∷ [])) (sym e) (record {
-      told = λ g. let was = a.told g in let more = count-more (λ t. inside f t && g t) table x count in let nothing = none g in omega (arith, was, more, nothing);
+    stays : new ≡ old → ((g : Frontier) → cond (among (x ∷ []) && g (x ∷ [])) count 0 ≡ 0) → AreToldOf among (table ++ (x, count) ∷ []) new
+    stays e none = subst (AreToldOf among (table ++ (x, count) ∷ [])) (sym e) (record {
+      told = λ g. let was = a.told g in let more = count-more (λ t. among t && g t) table x count in let nothing = none g in omega (arith, was, more, nothing);
       parts = a.parts;
       below = λ y u. a.below y (up y u).1;
       rise = λ o. a.rise (order-less table x count o).0;
     })
 
-    grown : HasCount (x ∷ []) count old new → (count ≡ 0 → ⊥) → inside f (x ∷ []) ≡ true → AreToldOf f (table ++ (x, count) ∷ []) new
+    grown : HasCount (x ∷ []) count old new → (count ≡ 0 → ⊥) → among (x ∷ []) ≡ true → AreToldOf among (table ++ (x, count) ∷ []) new
     grown c some i = record {
       told = λ g.
           let was = a.told g in
-          let more = count-more (λ t. inside f t && g t) table x count in
+          let more = count-more (λ t. among t && g t) table x count in
           let put = told-put g (x ∷ []) count old new c in
-          let same : cond (inside f (x ∷ []) && g (x ∷ [])) count 0 ≡ cond (g (x ∷ [])) count 0 = ap (λ b. cond (b && g (x ∷ [])) count 0) i in
+          let same : cond (among (x ∷ []) && g (x ∷ [])) count 0 ≡ cond (g (x ∷ [])) count 0 = ap (λ b. cond (b && g (x ∷ [])) count 0) i in
           omega (arith, was, more, put, same);
       parts = parts-put x count old new h.small c a.parts;
       below = λ y u. let l = (up y u).0 in below-put (suc y) x count old new (omega (arith, l)) c (a.below y (up y u).1);
@@ -304,13 +304,20 @@ taken-last cause old new x last is =
     sym (ap (λ o. option_map_or (λ (s : SentCount). same s.cause cause) o false) (last_of new x)) ∙ ap (is_last_of cause) (sym is) ∙ last in
     inl (subst (λ c. old ≡ new ++ record { cause = c; count = x.count } ∷ []) (same-is x.cause cause of_stamp) is)
 
-pub told-next : (f : Front) (table : List (ℕ × ℕ)) (limit i x count : ℕ) (old new : List SentCount) → IsEpochLimit f limit → i < length table
-    → slice_get table i ≡ Some (x, count) → AreToldOf f (take i table) old → HasSends (nat_lt x limit) x count old new → AreToldOf f (take (i + 1) table) new
-told-next f table limit i x count old new to l is a h =
+-- the epochs from the first one on and below the limit are those inside since then
+told-epoch : (since : Option Front) (f : Front) (first limit x : ℕ) → IsFirstSince since first → IsEpochLimit f limit → x < 2 ^ 32
+    → (not (nat_lt x first) && nat_lt x limit) ≡ told_epochs since f (x ∷ [])
+told-epoch since f first limit x from to l = ap (λ b. b && nat_lt x limit) (from x l) ∙ ap (λ b. is_stamp_since since (x ∷ []) && b) (to x l)
+
+pub told-next : (since : Option Front) (f : Front) (table : List (ℕ × ℕ)) (first limit i x count : ℕ) (old new : List SentCount) → IsFirstSince since first → IsEpochLimit f limit
+    → i < length table → slice_get table i ≡ Some (x, count) → AreToldOf (told_epochs since f) (take i table) old
+    → HasSends (not (nat_lt x first) && nat_lt x limit) x count old new → AreToldOf (told_epochs since f) (take (i + 1) table) new
+told-next since f table first limit i x count old new from to l is a h =
+    let among = told_epochs since f in
     let there : Some (get_or table i (x, count)) ≡ Some (x, count) = sym (slice_get-get_or table i (x, count) l) ∙ is in
     let here : get_or table i (x, count) ≡ (x, count) = cc in
-    subst (λ t. AreToldOf f t new) (sym (take_more table i (x, count) l ∙ ap (λ e. take i table ++ e ∷ []) here))
-    (told-more f (take i table) x count old new a (subst (λ b. HasSends b x count old new) (to x h.small) h))
+    subst (λ t. AreToldOf among t new) (sym (take_more table i (x, count) l ∙ ap (λ e. take i table ++ e ∷ []) here))
+    (told-more among (take i table) x count old new a (subst (λ b. HasSends b x count old new) (told-epoch since f first limit x from to h.small) h))
 
 pub told-there : (table : List (ℕ × ℕ)) (i : ℕ) → i < length table → slice_get table i ≡ None → ⊥
 told-there table i l is = let c : Some (get_or table i (0, 0)) ≡ None = sym (slice_get-get_or table i (0, 0) l) ∙ is in absurd (cc)

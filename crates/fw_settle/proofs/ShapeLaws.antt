@@ -1,6 +1,6 @@
 -- What is kept fits the flow after each change of a step that settles or writes.
 use Rattle.std.proofs.Common.{◌≡◌, ◌≢◌, ℕ, ◌<◌, true, false, not, List, [], length, refl, sym, ap, subst, ◌∙◌, inl, inr, arith}
-use Rattle.std.specs.Prelude.{Option, Some, IfSome, Result, Ok, Err, OnOk, OnErr, slice_set}
+use Rattle.std.specs.Prelude.{Option, Some, None, IfSome, Result, Ok, Err, OnOk, OnErr, slice_set}
 use Rattle.std.specs.List.{AllByRecursion, Contains}
 use Rattle.std.proofs.lemmas.Bool.{cases_eq, both_ways}
 use Rattle.std.proofs.lemmas.List.{get_or-set_other, get_or-set_same}
@@ -13,7 +13,6 @@ use Rattle.fw_model.specs.Offers.{IsRecordOf}
 use Rattle.fw_node.specs.declared.node.Node.{Node}
 use Rattle.fw_node.specs.NodeOf.{IsNodeOf}
 use Rattle.fw_record.specs.declared.record.Checkpoint.{Checkpoint}
-use Rattle.fw_record.specs.declared.record.Record.TheVariants as tagged
 use Rattle.fw_keep.specs.declared.entry.Entry.{Entry}
 use Rattle.fw_keep.specs.Stored.{Records}
 use Rattle.fw_progress.specs.declared.traces.Traces.{Traces}
@@ -30,6 +29,7 @@ use Rattle.fw_running.specs.Ready.{CanAcknowledgeBy, HasGrownBy}
 use Rattle.fw_running.specs.ReadyState.{ReadyState}
 use Rattle.fw_running.specs.Shaped.{IsShaped, IsWrittenOf}
 use Rattle.fw_running.proofs.KeptShapes.{logs-fit, progress-fits, queues-fit, shaped-changed, shaped-keep as keep-shaped, shaped-standing, traces-fit}
+use Rattle.fw_settle.specs.Checkpoints.{record_on}
 use Rattle.fw_settle.specs.Settling.{with_traces, IsTableSettled, settles_when_asked, SettlesTableIf, SettlesTraces, SettlesTo}
 use Rattle.fw_settle.proofs.JoinLaws.{none-kept}
 
@@ -54,19 +54,23 @@ shaped-same old new s c e =
     shaped-keep old new s c (subst (AllByRecursion (λ (entry : Entry). IsWrittenOf old.flow entry.node entry.written)) (sym e) s.entries)
 
 -- a checkpoint is asked
-pub shaped-asked : (old new : Running) (checkpoint : Checkpoint) (stamps : Stamps) (before after : Option Records) → IsShaped old → ChangesKeep old new
-    → IsAsked (tagged.State checkpoint) stamps old.parts.keep.entries new.parts.keep.entries before after → IsRecordOf old.flow checkpoint.node checkpoint.recorded
+pub shaped-asked : (old new : Running) (base : Option Entry) (checkpoint : Checkpoint) (stamps : Stamps) (before after : Option Records) → IsShaped old → ChangesKeep old new
+    → IsAsked (record_on base checkpoint) stamps old.parts.keep.entries new.parts.keep.entries before after → IsRecordOf old.flow checkpoint.node checkpoint.recorded
     → IsShaped new
-shaped-asked old new checkpoint stamps before after s c a r =
+shaped-asked old new None checkpoint stamps before after s c a r =
+    let P : Entry → Type 0 = λ entry. IsWrittenOf old.flow entry.node entry.written in
+    shaped-keep old new s c (subst (AllByRecursion P) (sym a.entries) (each-append P old.parts.keep.entries _ s.entries (r, tt)))
+shaped-asked old new (Some e) checkpoint stamps before after s c a r =
     let P : Entry → Type 0 = λ entry. IsWrittenOf old.flow entry.node entry.written in
     shaped-keep old new s c (subst (AllByRecursion P) (sym a.entries) (each-append P old.parts.keep.entries _ s.entries (r, tt)))
 
 -- so it does whether it is asked or not
-pub shaped-answer : (result : Result (Unit {0}) EngineFault) (old new : Running) (checkpoint : Checkpoint) (stamps : Stamps) (before after : Option Records) → IsShaped old
-    → ChangesKeep old new → OnOk result (IsAsked (tagged.State checkpoint) stamps old.parts.keep.entries new.parts.keep.entries before after)
+pub shaped-answer : (result : Result (Unit {0}) EngineFault) (old new : Running) (base : Option Entry) (checkpoint : Checkpoint) (stamps : Stamps) (before after : Option Records)
+    → IsShaped old → ChangesKeep old new
+    → OnOk result (IsAsked (record_on base checkpoint) stamps old.parts.keep.entries new.parts.keep.entries before after)
     → OnErr result (IsNotAsked old.parts.keep.entries new.parts.keep.entries before after) → IsRecordOf old.flow checkpoint.node checkpoint.recorded → IsShaped new
-shaped-answer (Ok x) old new checkpoint stamps before after s c a n r = shaped-asked old new checkpoint stamps before after s c a r
-shaped-answer (Err e) old new checkpoint stamps before after s c a n r = shaped-same old new s c n.entries
+shaped-answer (Ok x) old new base checkpoint stamps before after s c a n r = shaped-asked old new base checkpoint stamps before after s c a r
+shaped-answer (Err e) old new base checkpoint stamps before after s c a n r = shaped-same old new s c n.entries
 
 pub shaped-tables : (old new : Running) → IsShaped old → new ≡ with_tables new.parts.tables old → length new.parts.tables ≡ length old.parts.tables
     → ((p : ℕ) → p < length old.flow.nodes → IfSome (table_at new.parts.tables p) (IsNodeOf old.flow p)) → IsShaped new

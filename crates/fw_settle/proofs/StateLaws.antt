@@ -1,6 +1,9 @@
 -- The state of a checkpoint that is made of what is kept of a node is one of the machine's: its totals, and how much it sent.
-use Rattle.std.proofs.Common.{◌≡◌, ℕ, ◌+◌, ◌<◌, ◌==◌, ◌&&◌, ◌||◌, Bool, true, false, cond, not, List, [], ◌∷◌, ◌++◌, length, Option, Some, None, refl, sym, ap, ◌∙◌, arith}
+use Rattle.std.proofs.Common.{◌≡◌, ℕ, ◌+◌, ◌<◌, ◌==◌, ◌&&◌, ◌||◌, Bool, true, false, cond, not, List, [], ◌∷◌, ◌++◌, length, filter, Option, Some, None, refl, sym, ap, ◌∙◌, arith}
+use Rattle.std.specs.List.{AllByRecursion}
 use Rattle.std.proofs.lemmas.Bool.{cond_both}
+use Rattle.fw_lemmas.proofs.Each.{each-weaker}
+use Rattle.fw_lemmas.proofs.Filters.{filter-same_on}
 use Rattle.fw_lemmas.proofs.Bools.{two_ways}
 use Rattle.fw_time.specs.Stamp.{Stamp}
 use Rattle.fw_bag.specs.declared.rec.Rec.{Rec}
@@ -15,33 +18,36 @@ use Rattle.fw_flow.specs.declared.kind.Kind.{Kind}
 use Rattle.fw_flow.specs.declared.kind.Kind.TheVariants as kind
 use Rattle.fw_flow.specs.declared.kind.Policy.{Policy}
 use Rattle.fw_flow.specs.declared.restoring.Restoring.TheVariants.{Checkpoints}
-use Rattle.fw_flow.specs.Dataflow.{System, kind_of, bounds_of, node_frontier, is_input_kind, is_output_kind}
+use Rattle.fw_flow.specs.Dataflow.{System, kind_of, policy_of, bounds_of, node_frontier, is_input_kind, is_output_kind}
 use Rattle.fw_flow.specs.NodeFunction.{delivered_recs, sequence_sent, sent_by}
 use Rattle.fw_flow.specs.Projection.{events_at, all_inside, count_from, sent_count}
 use Rattle.fw_flow.specs.Restoring.{restoring, way_of}
 use Rattle.fw_flow.specs.WellFormed.{IsWellFormedSystem}
 use Rattle.fw_model.specs.Filtering.{events_inside, messages_from}
 use Rattle.fw_model.specs.History.{injected_count}
-use Rattle.fw_model.specs.Machine.{Machine, events, family_of, is_failed}
+use Rattle.fw_model.specs.Machine.{Machine, events, family_of, front_of, is_failed, no_stamps}
 use Rattle.fw_model.specs.Reached.{IsReached}
+use Rattle.fw_model.specs.Steps.{newest_checkpoint}
+use Rattle.fw_model.specs.Writes.{takes_checkpoints}
 use Rattle.fw_model.proofs.DomainLaws.{has_epochs}
 use Rattle.fw_model.proofs.LegalLaws.{only_inputs_inject}
 use Rattle.fw_model.proofs.SendPartLaws.{part-sends}
 use Rattle.fw_model.proofs.SequenceLaws.{no_inject, sent_by-sequence}
 use Rattle.fw_node.specs.declared.node.Node.{Node}
-use Rattle.fw_node.specs.Past.{totals_kept}
+use Rattle.fw_node.specs.Past.{totals_kept, totals_changed}
 use Rattle.fw_progress.specs.declared.counts.Counts.{Counts}
 use Rattle.fw_progress.specs.Counts.{sent_of}
 use Rattle.fw_progress.specs.History.{IsCountOf}
+use Rattle.fw_policy.proofs.RecordedLaws.{one-cause}
 use Rattle.fw_policy.specs.Entries.{sent_by_node}
-use Rattle.fw_stands.specs.Parts.{has_table, table_base, IsTableIn}
+use Rattle.fw_stands.specs.Parts.{has_table, sums_up, table_base, table_front, IsTableIn}
 use Rattle.fw_stands.specs.Written.{events_within, count_within, told_inside}
 use Rattle.fw_stands.proofs.AtReached.{reached-legal}
 use Rattle.fw_stands.proofs.TableBaseLaws.{base-within}
 use Rattle.fw_stands.proofs.RecoveredFacts.{legal-caused}
 use Rattle.fw_stands.proofs.RecoveredTables.{within-at}
-use Rattle.fw_settle.specs.Checkpoints.{AreTotalsAt, AreSendsOf}
-use Rattle.fw_settle.proofs.LogLaws.{from-front}
+use Rattle.fw_settle.specs.Checkpoints.{AreTotalsAt, AreTotalsSince, AreSendsOf, is_sent_since, messages_told, told_epochs}
+use Rattle.fw_settle.proofs.LogLaws.{messages_due, told-due}
 
 -- ---- the table
 
@@ -91,6 +97,53 @@ totals-are sys state w r p f way live within table t totals a =
     let vs = events_at sys.flow p (events state.history) in
     totals-told sys state p f (table-there sys state p way live) (λ u i. within u (base-within sys w state r p u i)) table t totals a
     ∙ ap (totals_kept (kind_of sys.flow p)) (sym (recs-inside g vs) ∙ ap (delivered_recs (λ d s. true)) (sym (within-at sys state p f)))
+
+-- ---- what changed of it
+
+recs-between : (g n : Frontier) (vs : List Event) → delivered_recs (λ d s. n s) (events_inside g vs) ≡ delivered_recs (λ d s. g s && n s) vs
+recs-between g n [] = refl
+recs-between g n (Inject s x ∷ vs) =
+    cond_both (g (x ∷ [])) (Inject s x ∷ events_inside g vs) (events_inside g vs) (λ ws. delivered_recs (λ d s. n s) ws ≡ delivered_recs (λ d s. g s && n s) vs)
+    (λ e. recs-between g n vs) (λ e. recs-between g n vs)
+recs-between g n (Deliver e m ∷ vs) = by (g m.at) (recs-between g n vs)
+  where
+    by : (b : Bool) → delivered_recs (λ d s. n s) (events_inside g vs) ≡ delivered_recs (λ d s. g s && n s) vs
+        → delivered_recs (λ d s. n s) (cond b (Deliver e m ∷ events_inside g vs) (events_inside g vs))
+        ≡ cond (b && n m.at) (m.rec ∷ []) [] ++ delivered_recs (λ d s. g s && n s) vs
+    by true h = ap (λ rs. cond (n m.at) (m.rec ∷ []) [] ++ rs) h
+    by false h = h
+recs-between g n (Notify p t ∷ vs) =
+    cond_both (g t) (Notify p t ∷ events_inside g vs) (events_inside g vs) (λ ws. delivered_recs (λ d s. n s) ws ≡ delivered_recs (λ d s. g s && n s) vs)
+    (λ e. recs-between g n vs) (λ e. recs-between g n vs)
+
+totals-told_since : (sys : System) (state : Machine) (p : ℕ) (g f : Front) → has_table sys state p ≡ true → Within (table_base sys state p) (node_frontier sys.flow p f)
+    → (sums_up (kind_of sys.flow p) ≡ true → table_front sys state p ≡ g) → (table : Option Node) → IsTableIn sys state p table → (totals : List Rec)
+    → AreTotalsSince sys.flow table p g f totals
+    → totals ≡ totals_changed (kind_of sys.flow p)
+    (delivered_recs (λ d s. node_frontier sys.flow p f s && not (node_frontier sys.flow p g s)) (events_at sys.flow p (events state.history)))
+    (delivered_recs (λ d s. node_frontier sys.flow p f s) (events_at sys.flow p (events state.history)))
+totals-told_since sys state p g f there within base None t totals a = absurd (two_ways (has_table sys state p) there (sym t.there))
+totals-told_since sys state p g f there within base (Some node) t totals a = a (table_front sys state p) (events_at sys.flow p (events state.history)) within base t.of_events
+
+-- what its table tells of the keys that changed is what its events inside left since its newest checkpoint
+pub totals-since : (sys : System) (state : Machine) → IsWellFormedSystem sys → IsReached sys state → (p : ℕ) (g f : Front) → takes_checkpoints (policy_of sys.flow p) ≡ true
+    → newest_checkpoint p (no_stamps (bounds_of sys.flow p)) state.writes ≡ g → way_of sys.flow p ≡ Checkpoints → is_failed state p ≡ false
+    → Within (family_of sys.flow state.settled p) (node_frontier sys.flow p f) → (table : Option Node) → IsTableIn sys state p table → (totals : List Rec)
+    → AreTotalsSince sys.flow table p g f totals
+    → totals ≡ totals_changed (kind_of sys.flow p) (delivered_recs (λ d s. not (node_frontier sys.flow p g s)) (events_at sys.flow p (events_within sys state p f)))
+    (delivered_recs (λ d s. true) (events_at sys.flow p (events_within sys state p f)))
+totals-since sys state w r p g f takes newest way live within table t totals a =
+    let inner = node_frontier sys.flow p f in
+    let after : Frontier = λ s. not (node_frontier sys.flow p g s) in
+    let vs = events_at sys.flow p (events state.history) in
+    let there = within-at sys state p f in
+    let base : sums_up (kind_of sys.flow p) ≡ true → table_front sys state p ≡ g = λ sums.
+    ap (λ b. cond b (newest_checkpoint p (no_stamps (bounds_of sys.flow p)) state.writes) (front_of state.settled p)) (ap (λ b. b && sums_up (kind_of sys.flow p)) takes ∙ sums) ∙ newest in
+    totals-told_since sys state p g f (table-there sys state p way live) (λ u i. within u (base-within sys w state r p u i)) base table t totals a
+    ∙ ap (λ rs. totals_changed (kind_of sys.flow p) rs (delivered_recs (λ d s. inner s) vs))
+    (sym (recs-between inner after vs) ∙ ap (delivered_recs (λ d s. after s)) (sym there))
+    ∙ ap (totals_changed (kind_of sys.flow p) (delivered_recs (λ d s. after s) (events_at sys.flow p (events_within sys state p f))))
+    (sym (recs-inside inner vs) ∙ ap (delivered_recs (λ d s. true)) (sym there))
 
 -- ---- how much it sent
 
@@ -156,15 +209,52 @@ count-both f g (m ∷ ms) =
         ap (λ n. cond b (n + 1) n) rest ∙ sym (ap (λ x. cond x (count_from g (messages_from f ms) + 1) (count_from g (messages_from f ms))) e)
     by false b e rest = rest
 
--- what a sequence tells of what it sent, by its table
+-- one cause is inside what is since then exactly where it was sent since then
+cause-told : (since : Option Front) (f : Front) (causes : List Stamp) (t : Stamp) → causes ≡ t ∷ []
+    → all_inside (told_epochs since f) causes ≡ (is_sent_since since causes && all_inside (inside f) causes)
+cause-told None f causes t is = refl
+cause-told (Some g) f causes t is =
+    ap (all_inside (told_epochs (Some g) f)) is ∙ four (inside g t) (inside f t)
+    ∙ sym (ap (λ cs. not (all_inside (inside g) cs) && all_inside (inside f) cs) is)
+  where
+    four : (a b : Bool) → ((not a && b) && true) ≡ (not (a && true) && (b && true))
+    four true b = refl
+    four false true = refl
+    four false false = refl
+
+filter-twice : {A : Type 0} (a b : A → Bool) (xs : List A) → filter (λ x. a x && b x) xs ≡ filter a (filter b xs)
+filter-twice a b [] = refl
+filter-twice a b (x ∷ xs) = by (a x) (b x) refl (filter-twice a b xs)
+  where
+    by : (c d : Bool) → a x ≡ c → filter (λ y. a y && b y) xs ≡ filter a (filter b xs)
+        → cond (c && d) (x ∷ filter (λ y. a y && b y) xs) (filter (λ y. a y && b y) xs) ≡ filter a (cond d (x ∷ filter b xs) (filter b xs))
+    by true true e h = ap (λ ys. x ∷ ys) h ∙ sym (ap (λ k. cond k (x ∷ filter a (filter b xs)) (filter a (filter b xs))) e)
+    by false true e h = h ∙ sym (ap (λ k. cond k (x ∷ filter a (filter b xs)) (filter a (filter b xs))) e)
+    by true false e h = h
+    by false false e h = h
+
+-- of messages with one cause each those from the epochs inside since then are those sent since then
+epochs-told : (since : Option Front) (f : Front) (ms : List Message) → AllByRecursion (λ (m : Message). (t : Stamp) × (m.causes ≡ t ∷ [])) ms
+    → messages_from (told_epochs since f) ms ≡ messages_told since f ms
+epochs-told since f ms one =
+    let after : Message → Bool = λ m. is_sent_since since m.causes in
+    let from : Message → Bool = λ m. all_inside (inside f) m.causes in
+    filter-same_on (λ (m : Message). all_inside (told_epochs since f) m.causes) (λ m. after m && from m) ms
+    (each-weaker (λ (m : Message). (t : Stamp) × (m.causes ≡ t ∷ [])) (λ m. all_inside (told_epochs since f) m.causes ≡ (after m && from m)) ms
+    (λ m c. cause-told since f m.causes c.0 c.1) one)
+    ∙ filter-twice after from ms
+
+-- what a sequence tells of what it sent since then, by its table
 pub sends-are : (sys : System) (state : Machine) → IsWellFormedSystem sys → IsReached sys state → (p : ℕ) → p < length sys.flow.nodes → kind_of sys.flow p ≡ kind.Sequence
-    → (f : Front) (counts : Counts) → IsCountOf sys (events state.history) counts → (sends : List SentCount) → AreSendsOf f (sent_of counts p) sends
-    → (g : Frontier) → told_inside g sends ≡ length (messages_from g (messages_from (node_frontier sys.flow p f) (sent_by_node sys (events state.history) p)))
-sends-are sys state w r p l is f counts k sends a g =
+    → (since : Option Front) (f : Front) (counts : Counts) → IsCountOf sys (events state.history) counts → (sends : List SentCount)
+    → AreSendsOf (told_epochs since f) (sent_of counts p) sends
+    → (g : Frontier) → told_inside g sends ≡ length (messages_from g (messages_due sys.flow p since f (sent_by_node sys (events state.history) p)))
+sends-are sys state w r p l is since f counts k sends a g =
     let h = events state.history in
     let ms = sent_by_node sys h p in
     a.told g
-    ∙ k.sent p l is (λ t. inside f t && g t)
-    ∙ count-both (inside f) g ms
-    ∙ count-length g (messages_from (inside f) ms)
-    ∙ ap (λ xs. length (messages_from g xs)) (from-front sys.flow p f ms (legal-caused sys h w.flow (has_epochs sys w) (reached-legal sys state w r) p))
+    ∙ k.sent p l is (λ t. told_epochs since f t && g t)
+    ∙ count-both (told_epochs since f) g ms
+    ∙ count-length g (messages_from (told_epochs since f) ms)
+    ∙ ap (λ xs. length (messages_from g xs)) (epochs-told since f ms (one-cause sys p (events_at sys.flow p h)))
+    ∙ ap (λ xs. length (messages_from g xs)) (told-due sys.flow p since f ms (legal-caused sys h w.flow (has_epochs sys w) (reached-legal sys state w r) p))

@@ -18,7 +18,7 @@ use Rattle.fw_bag.proofs.BagLaws.{AllByRecursion-with_rec, IsAscending-bag_sum, 
 use Rattle.fw_flow.specs.declared.kind.Kind.{Kind}
 use Rattle.fw_flow.specs.declared.kind.Kind.TheVariants as kind
 use Rattle.fw_model.proofs.SumLaws.{rec_cmp-test, sums-is}
-use Rattle.fw_node.specs.Past.{totals_kept}
+use Rattle.fw_node.specs.Past.{totals_kept, totals_changed}
 use Rattle.fw_bytes.specs.Sound.{each_may_follow}
 use Rattle.fw_record.specs.Sound.{may_follow_totals}
 
@@ -87,17 +87,17 @@ at-most_one true true = omega arith
 at-most_one true false = omega arith
 at-most_one false b = omega arith
 
-sums-rise : (rs : List Rec) → Rise 0 (sorted_recs (sums_of (distinct_keys rs) rs))
-sums-rise rs =
-    let sums = sums_of (distinct_keys rs) rs in
+sums-rise : (keys rs : List Rec) → Rise 0 (sorted_recs (sums_of (distinct_keys keys) rs))
+sums-rise keys rs =
+    let sums = sums_of (distinct_keys keys) rs in
     keys-rise (λ k. value_sum k rs) (sorted_recs sums) (IsAscending-bag_sum sums [] tt)
     (each-sorted (λ (x : Rec). x.value ≡ value_sum x.key rs) sums
-    (each-map (λ (x : Rec). x.value ≡ value_sum x.key rs) (λ (k : ℕ). record { key = k; value = value_sum k rs }) (distinct_keys rs)
-    (each-one (λ (k : ℕ). value_sum k rs ≡ value_sum k rs) (distinct_keys rs) (λ k. refl))))
+    (each-map (λ (x : Rec). x.value ≡ value_sum x.key rs) (λ (k : ℕ). record { key = k; value = value_sum k rs }) (distinct_keys keys)
+    (each-one (λ (k : ℕ). value_sum k rs ≡ value_sum k rs) (distinct_keys keys) (λ k. refl))))
     (λ q.
     let is = how_often-bag_sum q sums [] in
-    let one = sums-is q rs rs in
-    let most = at-most_one (has_key q.key rs) (q.value == value_sum q.key rs) in
+    let one = sums-is q keys rs in
+    let most = at-most_one (has_key q.key keys) (q.value == value_sum q.key rs) in
     omega (arith, is, one, most))
     0 (each-one (λ (x : Rec). 0 ≤ x.key) (sorted_recs sums) (λ x. omega arith))
 
@@ -113,6 +113,12 @@ rise-follow n (x ∷ rs) a = and_from true (each_may_follow may_follow_totals (x
 
 -- the totals that a node of the kind keeps may stand one after the other
 pub totals-follow : (k : Kind) (rs : List Rec) → each_may_follow may_follow_totals [] (totals_kept k rs) ≡ true
-totals-follow kind.Total rs = rise-follow 0 (sorted_recs (sums_of (distinct_keys rs) rs)) (sums-rise rs)
-totals-follow kind.Ledger rs = rise-follow 0 (sorted_recs (sums_of (distinct_keys rs) rs)) (sums-rise rs)
+totals-follow kind.Total rs = rise-follow 0 (sorted_recs (sums_of (distinct_keys rs) rs)) (sums-rise rs rs)
+totals-follow kind.Ledger rs = rise-follow 0 (sorted_recs (sums_of (distinct_keys rs) rs)) (sums-rise rs rs)
 totals-follow k rs = refl
+
+-- and so may those of the keys that changed
+pub changed-follow : (k : Kind) (since all : List Rec) → each_may_follow may_follow_totals [] (totals_changed k since all) ≡ true
+changed-follow kind.Total since all = rise-follow 0 (sorted_recs (sums_of (distinct_keys since) all)) (sums-rise since all)
+changed-follow kind.Ledger since all = rise-follow 0 (sorted_recs (sums_of (distinct_keys since) all)) (sums-rise since all)
+changed-follow k since all = refl

@@ -1,6 +1,7 @@
 -- Steps that change what is written alone: a checkpoint is asked, and a write is acknowledged.
-use Rattle.std.proofs.Common.{◌≡◌, ℕ, ◌<◌, ◌++◌, ◌&&◌, Bool, true, false, cond, List, [], ◌∷◌, length, Option, Some, None, refl, sym, ap, subst, ◌∙◌, inl, inr}
-use Rattle.std.specs.List.{AllByRecursion}
+use Rattle.std.proofs.Common.{◌≡◌, ℕ, ◌<◌, ◌^◌, ◌++◌, ◌&&◌, Bool, true, false, cond, List, [], ◌∷◌, length, Option, Some, None, refl, sym, ap, subst, ◌∙◌, inl, inr}
+use Rattle.std.specs.List.{AllByRecursion, Contains}
+use Rattle.std.specs.Prelude.{IfSome, option_and_then}
 use Rattle.std.proofs.lemmas.Iterator.Adapters.{option_map_id}
 use Rattle.fw_frontier.specs.Frontier.{Within}
 use Rattle.fw_frontier.specs.Front.{Front, IsCanonical}
@@ -12,26 +13,27 @@ use Rattle.fw_flow.specs.Dataflow.{System, kind_of, policy_of, bounds_of, node_f
 use Rattle.fw_flow.specs.WellFormed.{IsWellFormedSystem}
 use Rattle.fw_model.specs.EventStamps.{AreStampsIf}
 use Rattle.fw_model.specs.Filtering.{events_inside}
-use Rattle.fw_model.specs.Machine.{Machine, Write, events, family_of, front_of, is_failed, no_stamps}
+use Rattle.fw_model.specs.Machine.{Machine, Write, checkpoint, events, family_of, front_of, is_failed, no_stamps}
 use Rattle.fw_model.specs.Reached.{IsReached}
 use Rattle.fw_model.specs.Steps.{LeadsTo, did, idle, silent, checkpoint_of, last_or, is_asked_for_checkpoints}
 use Rattle.fw_model.specs.Writes.{takes_checkpoints}
 use Rattle.fw_model.proofs.AskedLaws.{takes-declared}
 use Rattle.fw_model.proofs.DomainLaws.{has_epochs}
-use Rattle.fw_record.specs.declared.record.Record.TheVariants as tagged
+use Rattle.fw_record.specs.declared.record.Checkpoint.{Checkpoint}
+use Rattle.fw_record.specs.Sound.{IsCheckpoint, IsSound}
 use Rattle.fw_node.specs.declared.node.Node.{Node}
 use Rattle.fw_keep.specs.declared.entry.Entry.{Entry}
 use Rattle.fw_keep.specs.declared.entry.Written.{Written}
 use Rattle.fw_keep.specs.Catalogue.{KeepState, oldest, persisted}
-use Rattle.fw_keep.specs.Entry.{asked}
+use Rattle.fw_keep.specs.Entry.{asked_beside, base_of_record, depth_on}
 use Rattle.fw_keep.specs.Stored.{Records}
-use Rattle.fw_stands.specs.Entries.{entry_fronts, AreBasesOf}
+use Rattle.fw_stands.specs.Entries.{entry_fronts, id_at_front, AreBasesOf}
 use Rattle.fw_stands.specs.Parts.{settles_with_checkpoints, sums_up, IsTableIn}
 use Rattle.fw_stands.specs.Settling.{asked_state}
-use Rattle.fw_stands.specs.Written.{AreEntriesOf, AreStored, IsEntryOf, uncollected}
+use Rattle.fw_stands.specs.Written.{AreEntriesOf, AreStored, IsEntryOf, IsRecordFor, uncollected}
 use Rattle.fw_stands.proofs.AtReached.{reached-next, reached-legal, reached-settled}
-use Rattle.fw_stands.proofs.BaseSteps.{bases_after_asking, bases_after_persist}
 use Rattle.fw_stands.proofs.EntrySteps.{kept_bytes_are_stored, asked_entry_is_of_write, put_record_is_stored, entries_after_asking, records_after_asking, entries_after_persist, records_after_persist, persists_where_in_flight}
+use Rattle.fw_stands.proofs.BaseSteps.{bases_after_asking, bases_after_persist}
 use Rattle.fw_stands.proofs.EntryViews.{takes_checkpoints_by_last_entry}
 use Rattle.fw_stands.proofs.FitLaws.{records_can_be_of_entries}
 use Rattle.fw_stands.proofs.LossLaws.{losses_stay}
@@ -45,20 +47,21 @@ use Rattle.fw_running.proofs.SameStateLaws.{down-failed, idle-follows, keep-stan
 use Rattle.std.proofs.lemmas.Bool.{and_right, cases_Bool, cases_eq, cond_both}
 use Rattle.fw_lemmas.proofs.Bools.{first_holds, second_holds, two_ways}
 use Rattle.fw_running.specs.declared.running.Running.{Running}
-use Rattle.fw_settle.specs.Checkpoints.{AsksCheckpoint, CanBeMadeAt, MayTakeCheckpoint}
+use Rattle.fw_settle.specs.Checkpoints.{AsksCheckpoint, CanBeMadeAt, MayTakeCheckpoint, front_of_entry, next_base, record_on}
 use Rattle.fw_settle.specs.Settling.{settles_when_asked, IsTableSettled, KeepsEntries, SettlesTableIf}
 use Rattle.fw_running.specs.Kept.{table_of, source_of, with_tables}
 use Rattle.fw_running.specs.Logging.{with_keep, ChangesKeep}
 use Rattle.fw_running.specs.Shaped.{IsShaped, IsWrittenOf}
 use Rattle.fw_running.specs.Stands.{Stands}
 use Rattle.fw_running.specs.Steps.{Follows, IsStepEnabled}
+use Rattle.fw_settle.proofs.BaseLaws.{IsNextBase, base-left, depth-there, next-base}
 use Rattle.fw_settle.proofs.CheckpointLaws.{within-front}
 use Rattle.fw_settle.proofs.MadeLaws.{made-for, made-sound}
 use Rattle.fw_settle.proofs.ShapeLaws.{shaped-keep}
 
 -- ---- other writes
 
--- where the writes alone are other ones, and tables, entries, their bases and records stand for the state with them, the engine stands for it
+-- where the writes alone are other ones, and tables, entries and records stand for the state with them, the engine stands for it
 pub writes-stand : (sys : System) (old : Running) (keep : KeepState) (tables : List (Option Node)) (before after : Option Records) (state : Machine) (writes : List Write) (step : Step)
     → Stands sys old before state → LeadsTo sys state step (record state { writes = writes }) silent
     → ((p : ℕ) → p < length sys.flow.nodes → IsTableIn sys (record state { writes = writes }) p (table_at tables p))
@@ -171,27 +174,62 @@ can-be_made sys old records state s p f takes live c within =
       counts = s.apart.progress.counts;
     }
 
+-- the entry on which what is asked stands
+abbrev pub base_then : ℕ → Running → Option Entry
+base_then p old = next_base p old.parts.keep.entries
+
+-- its record is that of the write
+asked-record : (sys : System) (old new : Running) (before after : Option Records) (state : Machine) (p : ℕ) (f : Front) → CanBeMadeAt sys old state p f
+    → (entries : List Entry) → IsNextBase sys state p entries (base_then p old) → (a : AsksCheckpoint p f old new before after)
+    → IsRecordFor sys state p (checkpoint_of state p f).base (checkpoint f state.low) a.what
+asked-record sys old new before after state p f can entries on a =
+    let n = a.next in
+    let since = front_of_entry (base_then p old) in
+    subst (λ base. IsRecordFor sys state p base (checkpoint f state.low) a.what) (sym on.base)
+    (subst (IsRecordFor sys state p since (checkpoint f state.low)) (sym n.is)
+    (on.record_for f n.checkpoint (made-for sys old state p since f n.checkpoint can on.since n.made)))
+
 -- what is asked is an entry of the write
 pub asked-entry : (sys : System) (old new : Running) (before after : Option Records) (state : Machine) (p : ℕ) (f : Front) → CanBeMadeAt sys old state p f
-    → (a : AsksCheckpoint p f old new before after) → IsEntryOf sys state (asked a.asked.id (tagged.State a.checkpoint) a.stamps) (checkpoint_of state p f)
-asked-entry sys old new before after state p f can a =
+    → (entries : List Entry) → IsNextBase sys state p entries (base_then p old) → ((e : Entry) → Contains entries e → Contains old.parts.keep.entries e)
+    → (a : AsksCheckpoint p f old new before after)
+    → IsEntryOf sys state (asked_beside old.parts.keep.entries a.asked.id a.what a.stamps) (checkpoint_of state p f)
+asked-entry sys old new before after state p f can entries on still a =
     let h = events state.history in
-    asked_entry_is_of_write sys state (checkpoint_of state p f) refl [] a.asked.id (tagged.State a.checkpoint) a.stamps refl (made-for sys old state p f a.checkpoint can a.made)
+    let n = a.next in
+    let all = old.parts.keep.entries in
+    asked_entry_is_of_write sys state (checkpoint_of state p f) refl all a.asked.id a.what a.stamps
+    (ap (λ r. depth_on (base_of_record r) all) n.is ∙ on.depth all (λ e k. depth-there all e n.ascending (still e (on.there e k))) n.checkpoint)
+    (asked-record sys old new before after state p f can entries on a)
     (subst (λ flow. AreStampsIf true sys (events_inside (node_frontier flow p f) h) p (node_frontier flow p f) a.stamps) can.flow
     (a.held sys h (sym can.flow) (has_epochs sys can.well_formed) (reached-legal sys state can.well_formed can.reached)
     (within-front sys can.floor state p f old.traces can.takes can.settled can.traces)))
 
+sound-on : (o : Option Entry) (c : Checkpoint) → IsCheckpoint c → IfSome o (λ (e : Entry). e.id < 2 ^ 64) → IsSound (record_on o c)
+sound-on None c sound small = sound
+sound-on (Some e) c sound small = (small, sound)
+
 -- and its record is stored with those of the other writes
 pub asked-stored : (sys : System) (old new : Running) (before after : Option Records) (state : Machine) (p : ℕ) (f : Front) → CanBeMadeAt sys old state p f
+    → (entries : List Entry) → IsNextBase sys state p entries (base_then p old)
     → (a : AsksCheckpoint p f old new before after) (writes : List Write) → AreStored sys state before old.parts.keep.entries writes
     → AreStored sys state after new.parts.keep.entries (writes ++ checkpoint_of state p f ∷ [])
-asked-stored sys old new before after state p f can a writes stored =
-    let r = tagged.State a.checkpoint in
-    let is = made-for sys old state p f a.checkpoint can a.made in
-    let sound = made-sound sys old state p f a.checkpoint can a.made a.few in
+asked-stored sys old new before after state p f can entries on a writes stored =
+    let n = a.next in
+    let since = front_of_entry (base_then p old) in
+    let is = asked-record sys old new before after state p f can entries on a in
+    let sound : IsSound a.what =
+    subst IsSound (sym n.is) (sound-on (base_then p old) n.checkpoint (made-sound sys old state p since f n.checkpoint can on.since n.made n.few) n.fits) in
     subst (λ es. AreStored sys state after es (writes ++ checkpoint_of state p f ∷ [])) (sym a.asked.entries)
-    (put_record_is_stored sys state old.parts.keep.entries writes (checkpoint_of state p f) a.asked.id r a.stamps before after stored a.asked.bytes a.asked.records sound is
-    (records_can_be_of_entries sys can.well_formed state can.reached p None f state.low r can.takes sound is old.parts.keep.entries a.asked.id a.stamps))
+    (put_record_is_stored sys state old.parts.keep.entries writes (checkpoint_of state p f) a.asked.id a.what a.stamps before after stored a.asked.bytes a.asked.records sound is
+    (records_can_be_of_entries sys can.well_formed state can.reached p (checkpoint_of state p f).base f state.low a.what can.takes sound is old.parts.keep.entries a.asked.id a.stamps))
+
+-- it stands on one of the entries
+pub asked-base : (sys : System) (old new : Running) (before after : Option Records) (state : Machine) (p : ℕ) (f : Front)
+    → (entries : List Entry) → IsNextBase sys state p entries (base_then p old) → (a : AsksCheckpoint p f old new before after)
+    → base_of_record a.what ≡ option_and_then (λ g. id_at_front p g entries) (checkpoint_of state p f).base
+asked-base sys old new before after state p f entries on a =
+    ap base_of_record a.next.is ∙ on.named a.next.checkpoint ∙ ap (option_and_then (λ g. id_at_front p g entries)) (sym on.base)
 
 pub asked-takes : (p : Policy) → is_asked_for_checkpoints p ≡ true → takes_checkpoints p ≡ true
 asked-takes policy.None e = absurd (two_ways false e refl)
@@ -270,18 +308,21 @@ checkpoint-follows sys state old mid new before after s changes p e a tables set
     let u : LeadsTo sys state (CheckpointStep p) next silent = (t.0, t.1, t.2, refl, refl) in
     let can = can-be_made sys old before state s p f takes t.1 (reached-settled sys state s.apart.well_formed s.apart.reached p l) (λ v i. i) in
     let more = checkpoint_of state p f ∷ [] in
-    let entry = asked a.asked.id (tagged.State a.checkpoint) a.stamps in
+    let on = next-base sys s.apart.well_formed state s.apart.reached entries s.apart.entries p l in
+    let entry = asked_beside entries a.asked.id a.what a.stamps in
+    let of_write = asked-entry sys old mid before after state p f can entries on (λ e c. c) a in
     let held : AreEntriesOf sys next mid.parts.keep.entries (uncollected next) =
     subst (λ es. AreEntriesOf sys next es (uncollected next)) (sym a.asked.entries)
     (entries_after_asking sys s.apart.well_formed state s.apart.reached (CheckpointStep p) next silent u more refl (refl, tt) entries (entry ∷ []) s.apart.entries
-    (asked-entry sys old mid before after state p f can a, tt)) in
+    (of_write, tt)) in
     let bases : AreBasesOf mid.parts.keep.entries mid.parts.keep.entries (uncollected next) =
     subst (λ es. AreBasesOf es es (uncollected next)) (sym a.asked.entries)
-    (bases_after_asking sys state next more refl (refl, tt) entries (entry ∷ []) s.apart.entries s.apart.bases (refl, tt)) in
+    (bases_after_asking sys state next more refl (refl, tt) entries (entry ∷ []) s.apart.entries s.apart.bases
+    (base-left p entries (entry ∷ []) entry.base (checkpoint_of state p f).base of_write.base (asked-base sys old mid before after state p f entries on a), tt)) in
     let stored : AreStored sys next after mid.parts.keep.entries (uncollected next) =
     subst (λ es. AreStored sys next after es (uncollected next)) (sym a.asked.entries)
     (records_after_asking sys s.apart.well_formed state s.apart.reached (CheckpointStep p) next silent u more refl (refl, tt) entries (entry ∷ []) after
-    (subst (λ es. AreStored sys state after es (uncollected state ++ more)) a.asked.entries (asked-stored sys old mid before after state p f can a (uncollected state) s.apart.stored))) in
+    (subst (λ es. AreStored sys state after es (uncollected state ++ more)) a.asked.entries (asked-stored sys old mid before after state p f can entries on a (uncollected state) s.apart.stored))) in
     record {
       next = next;
       steps = u;

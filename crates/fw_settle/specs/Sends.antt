@@ -1,9 +1,10 @@
 -- How what a sequence sent is told stamp by stamp.
-use Rattle.std.specs.Prelude.{◌≡◌, ◌⊎◌, ℕ, ◌+◌, ◌-◌, ◌<◌, ◌^◌, Bool, true, false, List, [], ◌∷◌, ◌++◌, length, slice_get, nat_lt}
+use Rattle.std.specs.Prelude.{◌≡◌, ◌⊎◌, ℕ, ◌+◌, ◌-◌, ◌<◌, ◌^◌, Bool, true, false, not, List, [], ◌∷◌, ◌++◌, length, slice_get, nat_lt, Option}
 use Rattle.std.specs.Option.{option_map_or}
 use Rattle.fw_time.specs.Stamp.{Stamp, same}
 use Rattle.fw_frontier.specs.Front.{Front, inside}
 use Rattle.fw_frontier.specs.declared.state.SentCount.{SentCount}
+use Rattle.fw_settle.specs.Checkpoints.{is_stamp_since}
 
 -- whether the last of these counts is of a stamp
 abbrev pub is_last_of : Stamp → List SentCount → Bool
@@ -32,3 +33,7 @@ pub record HasSends (is_inside : Bool) (epoch count : ℕ) (old new : List SentC
 -- the epochs inside are those below the limit
 abbrev pub IsEpochLimit : Front → ℕ → Type 0
 IsEpochLimit f limit = (epoch : ℕ) → epoch < 2 ^ 32 → nat_lt epoch limit ≡ inside f (epoch ∷ [])
+
+-- the epochs from the first one on are those outside the front since which changes are told
+abbrev pub IsFirstSince : Option Front → ℕ → Type 0
+IsFirstSince since first = (epoch : ℕ) → epoch < 2 ^ 32 → not (nat_lt epoch first) ≡ is_stamp_since since (epoch ∷ [])

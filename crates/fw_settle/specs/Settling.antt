@@ -14,6 +14,7 @@ use Rattle.fw_keep.specs.Stored.{Records, KeepsBytes}
 use Rattle.fw_progress.specs.declared.traces.Traces.{Traces}
 use Rattle.fw_progress.specs.Settle.{is_growing, has_more, IsGrownAt, NoneGrows, AreGrownBefore}
 use Rattle.fw_progress.specs.Trace.{AreThinnedAt}
+use Rattle.fw_stands.specs.Entries.{AreBasesOf}
 use Rattle.fw_stands.specs.Parts.{sums_up}
 use Rattle.fw_stands.specs.Settling.{IsSettledTable, AreSettledAt}
 use Rattle.fw_stands.specs.Written.{uncollected, AreEntriesOf, AreStored}
@@ -86,13 +87,13 @@ pub record AsksIfEager (p : ℕ) (old new : Running) (before after : Option Reco
   pub eager : is_eager (policy_of old.flow p) ≡ true → AsksAtGrown p old new before after
   pub other : is_eager (policy_of old.flow p) ≡ false → IsNotAsked old.parts.keep.entries new.parts.keep.entries before after
 
--- these entries are those of the checkpoints that the eager ones of the first so many nodes ask, and the records are stored with the
--- others, in each state for which the engine stood
+-- these entries are those of the checkpoints that the eager ones of the first so many nodes ask, each stands on one of the others, and the
+-- records are stored with these, in each state for which the engine stood
 abbrev pub AreOfEagerWrites : Running → Option Records → List Entry → List Entry → Option Records → ℕ → Type 0
 AreOfEagerWrites old before more new after place =
     (sys : System) (state : Machine) (settled : List Front) → Stands sys old before state → GrowsTo sys state (family_of sys.flow old.progress.kept) settled
     → let writes = eager_writes sys state settled (range_with_len 0 place) in
-    AreEntriesOf sys state more writes × AreStored sys state after new (uncollected state ++ writes)
+    AreEntriesOf sys state more writes × AreBasesOf old.parts.keep.entries more writes × AreStored sys state after new (uncollected state ++ writes)
 
 -- The eager ones of the first so many nodes that are to settle asked their checkpoints.
 pub record HaveAsked (place : ℕ) (old new : Running) (before after : Option Records) : Type 0 where

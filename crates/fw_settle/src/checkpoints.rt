@@ -13,10 +13,11 @@ ghost use Rattle.fw_settle.specs.Checkpoints.{MayTakeCheckpoint};
 ghost use Rattle.fw_running.specs.Steps.{InnerAnswers, StepAnswers};
 
 use crate::asking::{ask_checkpoint, is_asked_for_checkpoints};
+use crate::base::front_of_entry;
 use crate::tables::settle_when_asked;
 use fw_flow::NodeId;
 use fw_frontier::Front;
-use fw_keep::{Entry, Written};
+use fw_keep::Keep;
 use fw_outside::Store;
 use fw_running::{Effect, EngineFault, Running, Stepped};
 
@@ -61,7 +62,7 @@ fn is_newest_settled(running: &Running, node: NodeId) -> bool
         ≡ last_or (no_stamps (bounds_of running.now.flow node)) (entry_fronts node running.now.parts.keep.entries)) }
 {
     let settled = &running.progress.settled()[node.place() as usize];
-    match newest_checkpoint(running.parts.keep.entries(), node) {
+    match newest_front(&running.parts.keep, node) {
         Some(front) => front.same(settled),
         None => !settled.contains(&running.flow.domain(node).origin()),
     }
@@ -78,18 +79,9 @@ pub fn persist(running: &mut Running) -> Stepped
     }
 }
 
-// The frontier of the newest checkpoint of a node.
-fn newest_checkpoint(entries: &[Entry], node: NodeId) -> Option<&Front>
-    ensures { (f : List (List ℕ)) → unwrap_or (option_copied result) f ≡ last_or f (entry_fronts node entries.now) }
+// The front of the newest checkpoint of a node, if it has one.
+fn newest_front(keep: &Keep, node: NodeId) -> Option<&Front>
+    ensures { (f : List (List ℕ)) → unwrap_or (option_copied result) f ≡ last_or f (entry_fronts node keep.now.entries) }
 {
-    let mut rest = entries;
-    while let Some((entry, before)) = rest.split_last() {
-        if entry.node == node {
-            if let Written::Checkpoint { recorded, .. } = &entry.written {
-                return Some(&recorded.front);
-            }
-        }
-        rest = before;
-    }
-    None
+    front_of_entry(keep.newest_checkpoint(node))
 }

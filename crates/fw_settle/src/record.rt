@@ -1,17 +1,19 @@
 //! The record of a checkpoint, made of the parts.
-ghost use Rattle.std.specs.Prelude.{◌≡◌, ◌<◌, ◌^◌, ◌&&◌, ◌++◌, ◌∷◌, [], ℕ, List, true, not, nat_lt, length, map, Option, None, IsTrue, IfOk, OnOk, IfSome};
+ghost use Rattle.std.specs.Prelude.{◌≡◌, ◌<◌, ◌^◌, ◌&&◌, ◌++◌, ◌∷◌, [], ℕ, true, not, nat_lt, length, filter, map, Option, None, IfOk, OnOk, IfSome};
 ghost use Rattle.std.specs.List.{AllByRecursion, AllZip};
+ghost use Rattle.std.specs.Option.{option_copied};
 ghost use Rattle.fw_time.specs.Stamp.{in_domain, leq, same};
-ghost use Rattle.fw_frontier.specs.Front.{IsCanonical};
+ghost use Rattle.fw_frontier.specs.Front.{IsCanonical, inside};
 ghost use Rattle.fw_flow.specs.declared.event.Message.{Message as Sent};
 ghost use Rattle.fw_flow.specs.Dataflow.{kind_of, policy_of, in_edges, out_edges, bounds_of, is_sequence_kind};
+ghost use Rattle.fw_flow.specs.Projection.{all_inside};
 ghost use Rattle.fw_flow.specs.Restoring.{can_resend};
 ghost use Rattle.fw_node.specs.declared.node.Node.{Node as Table};
 ghost use Rattle.fw_progress.specs.Counts.{sent_of};
 ghost use Rattle.fw_progress.specs.Trace.{HaveLists};
 ghost use Rattle.fw_bag.specs.Bag.{IsRec};
-ghost use Rattle.fw_settle.specs.Checkpoints.{IsCoverDelivered, IsDiscarded, IsOfEdge, IsRecordedAt, AreTotalsAt, AreSendsOf, AreSendsAt, IsStateAt, logged_from, logged_at, IsLogAt, IsMadeAt};
-ghost use Rattle.fw_settle.specs.Sends.{IsEpochLimit, is_last_of, HasTaken, HasCount, HasSends};
+ghost use Rattle.fw_settle.specs.Checkpoints.{IsCoverDelivered, IsDiscarded, IsOfEdge, IsRecordedAt, AreTotalsTold, AreSendsOf, AreSendsAt, IsStateAt, is_sent_since, told_epochs, told_log, logged_at, IsLogOf, IsMadeSince};
+ghost use Rattle.fw_settle.specs.Sends.{IsEpochLimit, IsFirstSince, is_last_of, HasTaken, HasCount, HasSends};
 ghost use Rattle.fw_running.specs.Kept.{log_at, table_of};
 ghost use Rattle.fw_running.specs.Shaped.{IsShaped};
 
@@ -23,22 +25,24 @@ use fw_running::Running;
 use fw_time::Stamp;
 use std::alloc::{AllocError, Global};
 
-/// What a node's events inside a frontier made, which holds what is settled. The error is want of memory.
+/// What a node's events inside a frontier made, which holds what is settled: of its state and its log all, or what changed since
+/// its newest checkpoint, where the front of that is given. The error is want of memory.
 pub(crate) fn checkpoint_at(
     running: &Running,
     node: NodeId,
+    since: Option<&Front>,
     front: &Front,
 ) -> Result<Checkpoint, AllocError>
     requires shaped { IsShaped running.now }
     requires there { node < length running.now.flow.nodes }
     requires front { IsCanonical (bounds_of running.now.flow node) front.now }
-    ensures { IfOk result (IsMadeAt running.now node front.now) }
+    ensures { IfOk result (IsMadeSince running.now node (option_copied since.entry) front.now) }
 {
     Ok(Checkpoint {
         node,
         recorded: recorded_at(running, node, front)?,
-        state: state_at(running, node, front)?,
-        log: log_at(running, node, front)?,
+        state: state_at(running, node, since, front)?,
+        log: log_at(running, node, since, front)?,
     })
 }
 
@@ -106,58 +110,86 @@ fn discarded_on(
         .sent_cover(running.alloc, &running.flow, edge, front)
 }
 
-// What the node holds of what came inside, and how many messages it sent.
-fn state_at(running: &Running, node: NodeId, front: &Front) -> Result<State, AllocError>
+// What the node holds of what came inside, or what changed of it since a front, and how many messages it sent.
+fn state_at(
+    running: &Running,
+    node: NodeId,
+    since: Option<&Front>,
+    front: &Front,
+) -> Result<State, AllocError>
     requires shaped { IsShaped running.now }
     requires there { node < length running.now.flow.nodes }
     requires front { IsCanonical (bounds_of running.now.flow node) front.now }
-    ensures { IfOk result (IsStateAt running.now node front.now) }
+    ensures { IfOk result (IsStateAt running.now node (option_copied since.entry) front.now) }
 {
-    let totals = totals_at(running, node, front)?;
+    let totals = totals_at(running, node, since, front)?;
     have_numbers(totals.as_slice());
     Ok(State {
         sent: running.traces.sent_count(&running.flow, node, front)?,
-        sends: SentCounts::of(sends_at(running, node, front)?),
+        sends: SentCounts::of(sends_at(running, node, since, front)?),
         entries: Entries::Totals(totals),
     })
 }
 
-// What the node's table holds of what came inside; nothing where it has none.
-fn totals_at(running: &Running, node: NodeId, front: &Front) -> Result<Recs, AllocError>
+// What the node's table holds of what came inside, or of the keys that changed since it settled; nothing where it has none.
+fn totals_at(
+    running: &Running,
+    node: NodeId,
+    since: Option<&Front>,
+    front: &Front,
+) -> Result<Recs, AllocError>
     requires table { IfSome (table_of running.now node) (λ (table : Table). AllByRecursion (λ o. in_domain table.bounds o ≡ true) front.now) }
-    ensures { IfOk result (AreTotalsAt running.now.flow (table_of running.now node) node front.now) }
+    ensures { IfOk result (AreTotalsTold running.now.flow (table_of running.now node) node (option_copied since.entry) front.now) }
 {
     match running.parts.tables.get(node) {
-        Some(table) => table.totals_at(front),
+        Some(table) => match since {
+            Some(_) => table.totals_since(front),
+            None => table.totals_at(front),
+        },
         None => Ok(Recs::of(Vec::new(running.alloc))),
     }
 }
 
-// How many messages a sequence sent in each epoch inside; of other nodes nothing is told.
-fn sends_at(running: &Running, node: NodeId, front: &Front) -> Result<Vec<SentCount>, AllocError>
+// How many messages a sequence sent in each epoch inside, or of those outside an earlier front; of other nodes nothing is told.
+fn sends_at(
+    running: &Running,
+    node: NodeId,
+    since: Option<&Front>,
+    front: &Front,
+) -> Result<Vec<SentCount>, AllocError>
     requires { node < length running.now.progress.counts.sent.items }
-    ensures { IfOk result (λ sends. AreSendsAt (is_sequence_kind (kind_of running.now.flow node)) front.now
+    ensures { IfOk result (λ sends. AreSendsAt (is_sequence_kind (kind_of running.now.flow node)) (option_copied since.entry) front.now
         (sent_of running.now.progress.counts node) sends.items) }
 {
     if !running.flow.kind(node).is_sequence() {
         return Ok(Vec::new(running.alloc));
     }
     let table = &running.progress.counts().sent[node.place() as usize];
-    sends_inside(running.alloc, table, front)
+    sends_inside(running.alloc, table, since, front)
 }
 
-// What the events inside sent and may have to be sent again, in order.
-fn log_at(running: &Running, node: NodeId, front: &Front) -> Result<Log, AllocError>
+// What the events inside, or those since an earlier front, sent and may have to be sent again, in order.
+fn log_at(
+    running: &Running,
+    node: NodeId,
+    since: Option<&Front>,
+    front: &Front,
+) -> Result<Log, AllocError>
     requires { length running.now.parts.logs ≡ length running.now.flow.edges }
-    ensures { IfOk result (IsLogAt running.now.flow (log_at running.now) node front.now) }
+    ensures { IfOk result (IsLogOf running.now.flow (told_log running.now (option_copied since.entry) front.now) node) }
 {
-    Ok(Log::sorted(logged_at(running, node, front)?))
+    Ok(Log::sorted(logged_at(running, node, since, front)?))
 }
 
 // The same, edge by edge.
-fn logged_at(running: &Running, node: NodeId, front: &Front) -> Result<Vec<Logged>, AllocError>
+fn logged_at(
+    running: &Running,
+    node: NodeId,
+    since: Option<&Front>,
+    front: &Front,
+) -> Result<Vec<Logged>, AllocError>
     requires { length running.now.parts.logs ≡ length running.now.flow.edges }
-    ensures all { IfOk result (λ all. all.items ≡ logged_at running.now.flow (log_at running.now) node front.now) }
+    ensures all { IfOk result (λ all. all.items ≡ logged_at running.now.flow (told_log running.now (option_copied since.entry) front.now) node) }
     ensures small { IfOk result (λ all. AllByRecursion (λ l. IsRec l.message.rec) all.items) }
 {
     let mut all = Vec::new(running.alloc);
@@ -166,29 +198,41 @@ fn logged_at(running: &Running, node: NodeId, front: &Front) -> Result<Vec<Logge
     }
     for edge in running.flow.out_edges(node) {
         if let Some(log) = running.parts.logs.get(*edge) {
-            add_logged(&mut all, *edge, log.caused_in(front)?)?;
+            add_logged(&mut all, *edge, since, log.caused_in(front)?)?;
         }
     }
     Ok(all)
 }
 
-// What a sequence sent in each epoch of its table that is inside. The front is looked at once; of each epoch numbers are
-// compared alone. The error is want of memory, or that a sum would not fit 64 bits.
+// What a sequence sent in each epoch of its table that is inside, and outside an earlier front. The fronts are looked at once; of
+// each epoch numbers are compared alone. The error is want of memory, or that a sum would not fit 64 bits.
 fn sends_inside(
     alloc: Global,
     table: &SentTable,
+    since: Option<&Front>,
     front: &Front,
 ) -> Result<Vec<SentCount>, AllocError>
-    ensures { IfOk result (λ sends. AreSendsOf front.now table.now sends.items) }
+    ensures { IfOk result (λ sends. AreSendsOf (told_epochs (option_copied since.entry) front.now) table.now sends.items) }
 {
+    let first = first_since(since);
     let limit = limit_of(front);
-    let mut sends = Vec::with_capacity(alloc, table.len())?;
+    let mut sends = Vec::new(alloc);
     for place in 0..table.len() {
         if let Some((epoch, count)) = table.get(place) {
-            add_sends(&mut sends, limit, epoch, count)?;
+            add_sends(&mut sends, first, limit, epoch, count)?;
         }
     }
     Ok(sends)
+}
+
+// The least epoch outside an earlier front; 0 where there is none.
+fn first_since(since: Option<&Front>) -> u64
+    ensures { IsFirstSince (option_copied since.entry) result }
+{
+    match since {
+        Some(front) => limit_of(front),
+        None => 0,
+    }
 }
 
 // The least epoch outside, or a number greater than any epoch where all are inside.
@@ -212,16 +256,18 @@ fn lowered(limit: u64, o: &Stamp) -> u64
     limit.min(u64::from(o.at(0)))
 }
 
-// Adds what was sent in an epoch, if that is below the limit; nothing is not told.
+// Adds what was sent in an epoch, if that is from the first one on and below the limit; nothing is not told.
 fn add_sends(
     sends: &mut Vec<SentCount>,
+    first: u64,
     limit: u64,
     epoch: u32,
     count: u64,
 ) -> Result<(), AllocError>
-    ensures { OnOk result (HasSends (nat_lt epoch limit) epoch count sends.old.items sends.new.items) }
+    ensures { OnOk result (HasSends (not (nat_lt epoch first) && nat_lt epoch limit) epoch count sends.old.items sends.new.items) }
 {
-    if count == 0 || u64::from(epoch) >= limit {
+    let place = u64::from(epoch);
+    if count == 0 || place < first || place >= limit {
         return Ok(());
     }
     add_count(sends, epoch, count)
@@ -268,17 +314,46 @@ fn is_epoch(stamp: &Stamp, epoch: u32) -> bool
     stamp.len() == 1 && stamp.at(0) == epoch
 }
 
-// Adds messages on an edge.
-fn add_logged(all: &mut Vec<Logged>, edge: EdgeId, messages: Vec<Message>) -> Result<(), AllocError>
-    ensures added { OnOk result (all.new.items ≡ all.old.items ++ map (λ (m : Sent). record { edge = edge; message = m }) messages.items) }
+// Adds messages on an edge, or those of them that were sent since an earlier front.
+fn add_logged(
+    all: &mut Vec<Logged>,
+    edge: EdgeId,
+    since: Option<&Front>,
+    messages: Vec<Message>,
+) -> Result<(), AllocError>
+    ensures added { OnOk result (all.new.items ≡ all.old.items
+        ++ map (λ (m : Sent). record { edge = edge; message = m }) (filter (λ (m : Sent). is_sent_since (option_copied since.entry) m.causes) messages.items)) }
     ensures small { OnOk result (AllByRecursion (λ l. IsRec l.message.rec) all.old.items
         → AllByRecursion (λ l. IsRec l.message.rec) all.new.items) }
 {
     all.reserve(messages.len())?;
     for message in messages {
-        all.push(logged(edge, message))?;
+        if is_sent_since(&message, since) {
+            all.push(logged(edge, message))?;
+        }
     }
     Ok(())
+}
+
+// Whether some cause of a message is outside an earlier front; so it is where there is none.
+fn is_sent_since(message: &Message, since: Option<&Front>) -> bool
+    ensures { result ≡ is_sent_since (option_copied since.entry) message.now.causes }
+{
+    match since {
+        Some(front) => !comes_from(message, front),
+        None => true,
+    }
+}
+
+// Whether all causes of a message are inside a front.
+fn comes_from(message: &Message, front: &Front) -> bool
+    ensures { result ≡ all_inside (inside front.now) message.now.causes }
+{
+    message
+        .causes
+        .stamps()
+        .iter()
+        .all(|cause| front.contains(cause))
 }
 
 // A message on an edge, with a rec of two numbers of 64 bits.

@@ -3,13 +3,14 @@ ghost use Rattle.std.specs.Prelude.{◌≡◌, IfOk, true};
 ghost use Rattle.std.specs.List.{AllByRecursion};
 ghost use Rattle.fw_time.specs.Stamp.{in_domain};
 
-use crate::spell::{front_of, mark, stamp_in};
 use fw_bag::{Rec, Recs};
 use fw_flow::{EdgeId, Flow, NodeId};
 use fw_frontier::{Entries, Front, SentCounts, State};
 use fw_node::{Node, Sends};
 use fw_time::Bounds;
-use row_words::{Answers, NoAnswer, Row, part, rec_of, recs_of, tell_row};
+use row_words::{
+    Answers, NoAnswer, Row, front_of, mark, part, rec_of, recs_of, stamp_in, tell_row,
+};
 use std::alloc::{AllocError, Global};
 use std::fmt::Write;
 

@@ -2,14 +2,16 @@
 ghost use Rattle.std.specs.Prelude.{◌≡◌, ◌<◌, length};
 ghost use Rattle.fw_progress.specs.Progress.{IsProgressOf};
 
-use crate::spell::{edge_of, mark, node_of, stamp_in};
 use fw_bag::Rec;
 use fw_flow::{EdgeId, Flow, NodeId, Steps};
 use fw_frontier::Front;
 use fw_lines::Batches;
 use fw_progress::{Growths, Progress, can_send};
 use fw_time::Stamp;
-use row_words::{Answers, NoAnswer, Row, columns, part, stamp_of, stamps_of, tell_row};
+use row_words::{
+    Answers, NoAnswer, Row, columns, edge_of, mark, node_of, part, stamp_in, stamp_of, stamps_of,
+    tell_row,
+};
 use std::alloc::{AllocError, Global};
 use std::fmt::Write;
 use std::marker::Brand;

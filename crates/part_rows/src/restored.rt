@@ -4,8 +4,6 @@ ghost use Rattle.fw_keep.specs.Entry.{IsBased};
 ghost use Rattle.fw_keep.specs.Stored.{Records, IsEmptyStore, IsStored};
 ghost use Rattle.fw_rollback.specs.Restored.{AreOfFlow};
 
-use crate::records::record_named;
-use crate::spell::{cut_of, edge_of, mark, node_of};
 use fw_edge::{MsgLog, Queue};
 use fw_flow::{Causes, Choice, Cuts, Flow, Fronts, Message, NodeId};
 use fw_frontier::Front;
@@ -13,7 +11,10 @@ use fw_keep::{Keep, KeepFault, no_stamps};
 use fw_outside::{MemStore, Store};
 use fw_record::Record;
 use fw_rollback::{Parts, restore};
-use row_words::{Answers, NoAnswer, Row, columns, part, rec_of, stamp_of, tell_row};
+use row_words::{
+    Answers, NoAnswer, Row, columns, cut_of, edge_of, mark, node_of, part, rec_of, record_named,
+    stamp_of, tell_row,
+};
 use std::alloc::{AllocError, Global};
 use std::fmt::Write;
 

@@ -90,3 +90,12 @@ pub fn tell_name(name: &str, told: &mut String) -> Result<(), AllocError> {
     told.push_str(name)?;
     told.push('\n')
 }
+
+/// Says a mark, where something was said before it. The error is want of memory.
+pub fn mark(mark: &str, said: &mut String) -> Result<(), AllocError> {
+    if said.is_empty() {
+        Ok(())
+    } else {
+        said.push_str(mark)
+    }
+}

@@ -12,7 +12,7 @@ use Rattle.fw_flow.specs.declared.choice.Offered.TheVariants as form
 use Rattle.fw_flow.specs.Dataflow.{Dataflow, sender, receiver, bounds_of}
 use Rattle.fw_model.specs.Offers.{offered_by, listed_records, offered_range, offered_sent, counted_on_edge, HasOneCause, AreOfBatches, IsFormOf, IsRecordOf, IsRangeOf, AreAtEdgeStamps, AreOffersOf}
 use Rattle.fw_flow.specs.Restoring.{way_of}
-use Rattle.part_rows.specs.Written.{IsMessageOf, IsOfferOf, AreOffersFrom}
+use Rattle.flow_rows.specs.Written.{IsMessageOf, IsOfferOf, AreOffersFrom}
 
 each-last : {A : Type 0} (P : A → Type 0) (xs : List A) (x : A) → AllByRecursion P xs → P x → AllByRecursion P (xs ++ x ∷ [])
 each-last P [] x a i = (i, tt)

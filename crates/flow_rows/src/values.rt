@@ -2,10 +2,9 @@
 use crate::choices::tell_choice;
 use crate::records::{of_node, read};
 use crate::roots;
-use crate::spell::{edge_of, front_in, table_of};
 use fw_flow::{EdgeId, Flow, SentTable};
 use fw_frontier::Front;
-use row_words::{Answers, NoAnswer, Row, after, part, tell_row};
+use row_words::{Answers, NoAnswer, Row, after, edge_of, front_in, part, table_of, tell_row};
 use std::alloc::{AllocError, Global};
 use std::fmt::Write;
 

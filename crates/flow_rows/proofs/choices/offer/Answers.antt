@@ -1,4 +1,4 @@
-use Rattle.part_rows.proofs.choices.offer.Goals as goal
+use Rattle.flow_rows.proofs.choices.offer.Goals as goal
 
 pub returns : goal.returns
 returns c = record {

@@ -7,9 +7,8 @@ ghost use Rattle.fw_frontier.specs.Front.{IsCanonical};
 ghost use Rattle.fw_flow.specs.Dataflow.{bounds_of};
 ghost use Rattle.fw_flow.specs.declared.restoring.Restoring.TheVariants as ways;
 ghost use Rattle.fw_model.specs.Offers.{AreFrontsOfEdges, AreOffersOf, IsRecordOf, is_by_range};
-ghost use Rattle.part_rows.specs.Written.{IsMessageOf, IsOfferOf, IsOfferedBy};
+ghost use Rattle.flow_rows.specs.Written.{IsMessageOf, IsOfferOf, IsOfferedBy};
 
-use crate::spell::{edge_of, front_outside, table_of};
 use crate::trail::tell_trail;
 use fw_flow::{
     Causes, Choice, Counted, CountedMessages, Cut, EdgeId, Flow, NodeId, Notices, OfEdge, OfEdges,
@@ -18,7 +17,9 @@ use fw_flow::{
 use fw_frontier::Front;
 use fw_monitor::descent_to_largest;
 use fw_time::Stamp;
-use row_words::{NoAnswer, after, columns, part, stamp_of, stamps_of};
+use row_words::{
+    NoAnswer, after, columns, edge_of, front_outside, part, stamp_of, stamps_of, table_of,
+};
 use std::alloc::{AllocError, Global};
 use std::fmt::Write;
 

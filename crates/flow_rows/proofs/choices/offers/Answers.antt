@@ -1,7 +1,7 @@
 use Rattle.std.proofs.Common.{◌+◌, ◌∷◌, [], length, ap, ◌∙◌, arith}
 use Rattle.std.proofs.lemmas.List.{length-append}
-use Rattle.part_rows.proofs.Written.{offers_are, offers_more}
-use Rattle.part_rows.proofs.choices.offers.Goals as goal
+use Rattle.flow_rows.proofs.Written.{offers_are, offers_more}
+use Rattle.flow_rows.proofs.choices.offers.Goals as goal
 
 pub loop-place-preserved : goal.loop-place-preserved
 loop-place-preserved c =

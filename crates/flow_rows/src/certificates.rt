@@ -2,10 +2,9 @@
 ghost use Rattle.fw_model.specs.Offers.{AreOffersOf};
 
 use crate::choices::offers;
-use crate::spell::{cut_of, edge_of, front_of, node_of};
 use fw_certify::{Certificate, Verdict, is_dead_end, verify};
 use fw_flow::{Cause, Choice, Cuts, Flow, Fronts, Lowering, Offer, Part, Side};
-use row_words::{Answers, NoAnswer, Row, part, tell_row};
+use row_words::{Answers, NoAnswer, Row, cut_of, edge_of, front_of, node_of, part, tell_row};
 use std::alloc::{AllocError, Global};
 use std::fmt::Write;
 

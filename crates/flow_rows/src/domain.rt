@@ -1,10 +1,11 @@
 //! Frontiers of a domain.
 ghost use Rattle.fw_frontier.specs.Front.{IsCanonical};
 
-use crate::spell::{front_in, stamp_in};
 use fw_frontier::Front;
 use fw_time::{Bounds, Stamp};
-use row_words::{Answers, NoAnswer, Row, columns, part, stamp_of, stamps_of, tell_row};
+use row_words::{
+    Answers, NoAnswer, Row, columns, front_in, part, stamp_in, stamp_of, stamps_of, tell_row,
+};
 use std::alloc::{AllocError, Global};
 use std::fmt::Write;
 

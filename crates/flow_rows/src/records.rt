@@ -1,20 +1,11 @@
 //! What bytes say as records, and of which node they are.
-use crate::spell::{edge_of, front_in, node_of};
 use fw_flow::Flow;
 use fw_record::{Event, Record, RecordFault, decode};
-use row_words::{NoAnswer, bytes_named, part, rec_of, stamp_of};
+use row_words::{
+    NoAnswer, bytes_named, edge_of, front_in, node_of, part, rec_of, record_named, stamp_of,
+};
 use std::alloc::Global;
 use std::fmt::Write;
-
-/// The record whose bytes the lines `record` of a name spell, one after the other.
-pub fn record_named(alloc: Global, lines: &str, name: &str) -> Result<Record, NoAnswer> {
-    let bytes = bytes_named(alloc, lines, name)?;
-    match decode(alloc, &bytes) {
-        Ok(record) => Ok(record),
-        Err(RecordFault::BadRecord { .. }) => Err(NoAnswer::NotSpelled),
-        Err(RecordFault::NoMemory) => Err(NoAnswer::NoMemory),
-    }
-}
 
 /// Whether these bytes are a record, and else where the first broken field begins: `read NAME`.
 pub fn read(alloc: Global, lines: &str, name: &str, said: &mut String) -> Result<(), NoAnswer> {

@@ -1,6 +1,6 @@
 use Rattle.std.proofs.Common.{◌≡◌, length}
-use Rattle.part_rows.specs.Written.{AreOffersFrom}
-use Rattle.part_rows.proofs.choices.offers.Given as goal
+use Rattle.flow_rows.specs.Written.{AreOffersFrom}
+use Rattle.flow_rows.proofs.choices.offers.Given as goal
 
 abbrev pub invariant-loop-place : goal.invariant-loop-place
 invariant-loop-place l = record {

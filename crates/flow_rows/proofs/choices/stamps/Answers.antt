@@ -2,8 +2,8 @@ use Rattle.std.proofs.Common.{◌≡◌, true, sym, subst}
 use Rattle.std.specs.List.{AllByRecursion}
 use Rattle.fw_time.specs.Stamp.{in_domain}
 use Rattle.fw_flow.specs.Dataflow.{bounds_of}
-use Rattle.part_rows.specs.Written.{IsMessageOf}
-use Rattle.part_rows.proofs.choices.stamps.Goals as goal
+use Rattle.flow_rows.specs.Written.{IsMessageOf}
+use Rattle.flow_rows.proofs.choices.stamps.Goals as goal
 
 pub returns : goal.returns
 returns c = record {

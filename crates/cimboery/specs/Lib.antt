@@ -38,6 +38,7 @@ pub use Rattle.fw_schedule.specs.Making
 pub use Rattle.fw_schedule.specs.Schedule
 pub use Rattle.fw_model.specs.Acknowledgements
 pub use Rattle.fw_model.specs.Auto
+pub use Rattle.fw_model.specs.Certificates
 pub use Rattle.fw_model.specs.Choice
 pub use Rattle.fw_model.specs.Denotation
 pub use Rattle.fw_model.specs.Filtering
@@ -59,6 +60,9 @@ pub use Rattle.fw_running.specs.EffectText
 pub use Rattle.fw_running.specs.Faults as EngineFaults
 pub use Rattle.fw_running.specs.Stands
 pub use Rattle.fw_running.specs.Steps as EngineSteps
+pub use Rattle.fw_certify.specs.CertificateText
+pub use Rattle.fw_certify.specs.Checked
+pub use Rattle.fw_choose.specs.Outlooks
 pub use Rattle.fw_engine.specs.Engine
 pub use Rattle.fw_generate.specs.Laws as GenerateLaws
 pub use Rattle.fw_generate.specs.Texts
@@ -68,6 +72,7 @@ pub use Rattle.fw_command.specs.Words
 pub use Rattle.fw_command.specs.Writing
 pub use Rattle.fw_run.specs.Answers
 pub use Rattle.fw_run.specs.Call
+pub use Rattle.fw_run.specs.Explained
 pub use Rattle.fw_run.specs.Headline
 pub use Rattle.fw_run.specs.Items
 pub use Rattle.fw_run.specs.Status

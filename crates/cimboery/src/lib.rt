@@ -13,6 +13,8 @@
 //! - Looks at an engine: `Engine::settled`, `is_failed`, `acknowledged`, `low_watermark`, `injected`; `table`, what stands for a
 //!   node's events; `pending`, which shows a `Queue`, and `logged`, a `MsgLog`; `kept`, what an output did not acknowledge yet;
 //!   the catalogue, `writes`, of which each `Entry` tells what is `Written`, and whether it is in flight.
+//! - Why a recovery cuts no less: `Engine::outlook` has what the nodes offer and the `Descent` to the largest choice; `explain` makes a
+//!   `Certificate` of its `Trail`, and `verify` says what a checker of its own finds.
 //! - Times: `Stamp`; `Front`, a frontier; `Cut` and `Choice`, to what a recovery restores the nodes.
 //! - What is true of every run, whoever takes its steps: the law `every_run_is_right`.
 //! - The command over texts: `falkirk`, with its `Folder`, `Store` and `Sink` in memory, over files (`FileFolder`, `DiskStore`,
@@ -22,12 +24,14 @@
 pub use fw_bag::{
     Assignment, Bag, Comparison, Condition, Field, NewValue, Rec, Recs, Selection, Term,
 };
+pub use fw_certify::{Certificate, Verdict, explain, verify};
 pub use fw_disk::DiskStore;
 pub use fw_edge::{MsgLog, Queue};
-pub use fw_engine::{Effect, Engine, EngineFault, Shown, Stepped};
+pub use fw_engine::{Effect, Engine, EngineFault, Outlook, Shown, Stepped};
 pub use fw_flow::{
-    BatchFault, BuildFault, Causes, Choice, Cut, Cuts, Domain, Edge, EdgeId, Flow, FlowBuilder,
-    Fronts, Kind, Loop, LoopId, Message, Name, Node, NodeId, Nodes, Policy, RawKind, Step,
+    BatchFault, BuildFault, Cause, Causes, Choice, Cut, Cuts, Domain, Edge, EdgeId, Flow,
+    FlowBuilder, Fronts, Kind, Loop, LoopId, Lowering, Message, Name, Node, NodeId, Nodes, Offer,
+    Part, Policy, RawKind, Step, Trail,
 };
 pub use fw_flow_text::laws::{batches_are_read_back, flow_is_read_back};
 pub use fw_flow_text::{BatchesText, FLOW_LIMIT, FlowText, read_flow};
@@ -35,6 +39,7 @@ pub use fw_frontier::Front;
 pub use fw_headline::laws::every_run_is_right;
 pub use fw_keep::{Entry, Written};
 pub use fw_lines::{Batches, Code, INPUTS_LIMIT, ReadFault, Refusal, SourceNames, read_batches};
+pub use fw_monitor::Descent;
 pub use fw_outside::{
     Failed, FetchFault, FileFolder, Folder, MemFolder, MemSink, MemStore, MemText, OutFault, Sink,
     Store, StreamSink,

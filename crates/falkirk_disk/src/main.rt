@@ -108,7 +108,7 @@ fn run_command<N: Sink>(
 // Whether these are the words of a command that runs a flow.
 fn may_call_store(words: &[&str]) -> bool {
     match words.first() {
-        Some(word) => ["run", "endure", "gen"].contains(word),
+        Some(word) => ["run", "endure", "explain", "gen"].contains(word),
         None => false,
     }
 }

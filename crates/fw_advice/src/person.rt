@@ -195,7 +195,7 @@ fn unacknowledged<R: Files, S: Sink>(
     let [verb, flow, inputs, schedule] = call.words else {
         return Ok(String::new(alloc));
     };
-    if *verb != "run" && *verb != "endure" {
+    if !["run", "endure", "explain"].contains(verb) {
         return Ok(String::new(alloc));
     }
     let Ok(flow) = fetched(alloc, files, flow) else {

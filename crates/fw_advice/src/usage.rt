@@ -24,7 +24,7 @@ impl Program {
 }
 
 /// The commands.
-const COMMANDS: [Command; 5] = [
+const COMMANDS: [Command; 6] = [
     Command {
         word: "run",
         operands: "FLOW INPUTS SCHEDULE",
@@ -36,6 +36,12 @@ const COMMANDS: [Command; 5] = [
         operands: "FLOW INPUTS SCHEDULE",
         count: 3,
         does: "the same, and go on where the store fails",
+    },
+    Command {
+        word: "explain",
+        operands: "FLOW INPUTS SCHEDULE",
+        count: 3,
+        does: "as run, and tell of each recovery why its cuts are the largest",
     },
     Command {
         word: "gen",
@@ -110,7 +116,7 @@ fn add_reason(
             nearest_of(
                 alloc,
                 first.as_bytes(),
-                b"run endure gen denote check".as_slice(),
+                b"run endure explain gen denote check".as_slice(),
             )?,
             told,
         )?;

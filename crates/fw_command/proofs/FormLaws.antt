@@ -23,7 +23,7 @@ use Rattle.fw_lines.specs.declared.numeral.Number.{Number}
 use Rattle.fw_lines.specs.declared.numeral.Number.TheVariants.{Value, TooLarge, NotANumber}
 use Rattle.fw_lines.specs.Spelling.{is_numeral, number_of}
 use Rattle.fw_command.specs.Forms.{form, forms, three_names, matched_command}
-use Rattle.fw_command.specs.Command.{Command, RunVerb, TextNames, SystemNames, Manner, by_lines, through_faults, run_verbs, manner_by, run, denote, check}
+use Rattle.fw_command.specs.Command.{Command, RunVerb, TextNames, SystemNames, Manner, by_lines, by_reasons, through_faults, run_verbs, manner_by, run, denote, check}
 use Rattle.fw_command.specs.Words.{is_operand, check_of, denote_of, gen_of, run_of, generate_by, command_of}
 
 -- ---- a word that is an operand
@@ -167,6 +167,10 @@ endure_stops : (flow inputs schedule : List ℕ) → Stops (codes "endure") (flo
 unfolding walked
 endure_stops flow inputs schedule = refl
 
+explain_stops : (flow inputs schedule : List ℕ) → Stops (codes "explain") (flow ∷ inputs ∷ schedule ∷ [])
+unfolding walked
+explain_stops flow inputs schedule = refl
+
 gen_stops : (seed size : List ℕ) → Stops (codes "gen") (seed ∷ size ∷ [])
 unfolding walked
 gen_stops seed size = refl
@@ -191,6 +195,12 @@ endure_matched : (flow inputs schedule : List ℕ) → is_operand flow ≡ true 
 endure_matched flow inputs schedule f i s =
     ap (λ stop. matched_command (entered (built forms) stop)) (endure_stops flow inputs schedule)
     ∙ ap (λ (w : Walk). matched_command (Some (codes "endure", finished (run_form (codes "endure")).rules w.held))) (run_walked (codes "endure") flow inputs schedule f i s)
+
+explain_matched : (flow inputs schedule : List ℕ) → is_operand flow ≡ true → is_operand inputs ≡ true → is_operand schedule ≡ true
+    → matched_command (subcommand_of forms (codes "explain" ∷ flow ∷ inputs ∷ schedule ∷ [])) ≡ Some (run by_reasons (record { flow = flow; inputs = inputs; schedule = schedule }))
+explain_matched flow inputs schedule f i s =
+    ap (λ stop. matched_command (entered (built forms) stop)) (explain_stops flow inputs schedule)
+    ∙ ap (λ (w : Walk). matched_command (Some (codes "explain", finished (run_form (codes "explain")).rules w.held))) (run_walked (codes "explain") flow inputs schedule f i s)
 
 gen_matched : (seed size : List ℕ) → is_operand seed ≡ true → is_operand size ≡ true
     → matched_command (subcommand_of forms (codes "gen" ∷ seed ∷ size ∷ [])) ≡ generate_by (number_of seed) (number_of size)
@@ -280,6 +290,10 @@ endure_level : (flow inputs schedule : List ℕ) → top_level (codes "endure") 
 unfolding walked walk_passes
 endure_level flow inputs schedule = refl
 
+explain_level : (flow inputs schedule : List ℕ) → top_level (codes "explain") (flow ∷ inputs ∷ schedule ∷ []) ≡ true
+unfolding walked walk_passes
+explain_level flow inputs schedule = refl
+
 gen_level : (seed size : List ℕ) → top_level (codes "gen") (seed ∷ size ∷ []) ≡ true
 unfolding walked walk_passes
 gen_level seed size = refl
@@ -303,6 +317,12 @@ endure_taken : (flow inputs schedule : List ℕ) → is_operand flow ≡ true �
 endure_taken flow inputs schedule f i s =
     let operands = flow ∷ inputs ∷ schedule ∷ [] in
     top_passes (codes "endure") operands (endure_stops flow inputs schedule) (endure_level flow inputs schedule) (run_passes (codes "endure") flow inputs schedule f i s)
+
+explain_taken : (flow inputs schedule : List ℕ) → is_operand flow ≡ true → is_operand inputs ≡ true → is_operand schedule ≡ true
+    → takes forms (codes "explain" ∷ flow ∷ inputs ∷ schedule ∷ []) ≡ true
+explain_taken flow inputs schedule f i s =
+    let operands = flow ∷ inputs ∷ schedule ∷ [] in
+    top_passes (codes "explain") operands (explain_stops flow inputs schedule) (explain_level flow inputs schedule) (run_passes (codes "explain") flow inputs schedule f i s)
 
 gen_taken : (seed size : List ℕ) → is_operand seed ≡ true → is_operand size ≡ true → takes forms (codes "gen" ∷ seed ∷ size ∷ []) ≡ true
 gen_taken seed size f i =
@@ -431,8 +451,11 @@ run_is word flow inputs schedule command e = elim (cases_Bool (bytes_eq word (co
     in_manner : Manner → Command
     in_manner manner = run manner names
 
+    last_of_all : List RunVerb
+    last_of_all = record { word = codes "explain"; manner = by_reasons } ∷ []
+
     others : List RunVerb
-    others = record { word = codes "endure"; manner = through_faults } ∷ []
+    others = record { word = codes "endure"; manner = through_faults } ∷ last_of_all
 
     t : ((is_operand flow && is_operand inputs && is_operand schedule) ≡ true) × (option_map in_manner (manner_by run_verbs word) ≡ Some command)
     t = by_word (is_operand flow && is_operand inputs && is_operand schedule) (option_map in_manner (manner_by run_verbs word)) command e
@@ -443,13 +466,22 @@ run_is word flow inputs schedule command e = elim (cases_Bool (bytes_eq word (co
     no_run : None ≡ Some command → ⊥
     no_run h = absurd (cc)
 
+    explain_is : option_map in_manner (manner_by last_of_all word) ≡ Some command → IsMatched (word ∷ flow ∷ inputs ∷ schedule ∷ []) command
+    explain_is h = elim (cases_Bool (bytes_eq word (codes "explain"))) [
+      | inl is ↦
+          let same = same_Some (run by_reasons names) command (sym (ap (λ b. option_map in_manner (cond b (Some by_reasons) None)) is) ∙ h) in
+          subst (λ w. IsMatched (w ∷ flow ∷ inputs ∷ schedule ∷ []) command) (is_word word (codes "explain") is)
+          (record { taken = explain_taken flow inputs schedule o.flow_is o.inputs_are o.schedule_is; matched = explain_matched flow inputs schedule o.flow_is o.inputs_are o.schedule_is ∙ ap Some same })
+      | inr none ↦ absurd (no_run (sym (ap (λ b. option_map in_manner (cond b (Some by_reasons) None)) none) ∙ h))
+    ]
+
     endure_is : option_map in_manner (manner_by others word) ≡ Some command → IsMatched (word ∷ flow ∷ inputs ∷ schedule ∷ []) command
     endure_is h = elim (cases_Bool (bytes_eq word (codes "endure"))) [
       | inl is ↦
-          let same = same_Some (run through_faults names) command (sym (ap (λ b. option_map in_manner (cond b (Some through_faults) None)) is) ∙ h) in
+          let same = same_Some (run through_faults names) command (sym (ap (λ b. option_map in_manner (cond b (Some through_faults) (manner_by last_of_all word))) is) ∙ h) in
           subst (λ w. IsMatched (w ∷ flow ∷ inputs ∷ schedule ∷ []) command) (is_word word (codes "endure") is)
           (record { taken = endure_taken flow inputs schedule o.flow_is o.inputs_are o.schedule_is; matched = endure_matched flow inputs schedule o.flow_is o.inputs_are o.schedule_is ∙ ap Some same })
-      | inr none ↦ absurd (no_run (sym (ap (λ b. option_map in_manner (cond b (Some through_faults) None)) none) ∙ h))
+      | inr not_endure ↦ explain_is (sym (ap (λ b. option_map in_manner (cond b (Some through_faults) (manner_by last_of_all word))) not_endure) ∙ h)
     ]
 
 command_matched : (words : List (List ℕ)) (command : Command) → command_of words ≡ Some command → IsMatched words command

@@ -42,9 +42,11 @@ pub data Origin : Type 0 where
 pub data Start : Type 0 where
   at_first : Start
 
--- what is told of a step, by the state before it: the lines of its effect
+-- what is told of a step, by the state before it: the lines of its effect; and, with certificates, behind those of a recovery's cuts why
+-- they are the largest
 pub data Showing : Type 0 where
   by_effect : Showing
+  with_certificates : Showing
 
 -- how steps are taken: whether they go on where the store fails in one, or end there; and what is told of each
 pub record Course : Type 0 where
@@ -54,6 +56,10 @@ pub record Course : Type 0 where
 -- each told by its effect
 abbrev pub shown_by_effect : Bool → Course
 shown_by_effect goes_on = record { goes_on = goes_on; showing = by_effect }
+
+-- each told so; the first fault of the store ends the run
+abbrev pub up_to_fault : Showing → Course
+up_to_fault showing = record { goes_on = false; showing = showing }
 
 -- what is told last: how many steps there were; the same, and in how many the store failed; or what came of generated texts
 pub data LastLine : Type 0 where
@@ -75,6 +81,10 @@ by_lines = record { start = at_first; course = shown_by_effect false; is_seen = 
 -- the same through faults of the store, which are told by lines of their own
 abbrev pub through_faults : Manner
 through_faults = record { start = at_first; course = shown_by_effect true; is_seen = true; last = of_faults }
+
+-- each step by its lines, and a recovery by a certificate besides; the first fault of the store ends the run
+abbrev pub by_reasons : Manner
+by_reasons = record { start = at_first; course = up_to_fault with_certificates; is_seen = true; last = of_steps }
 
 -- what came of all in one line; the first fault of the store ends the run
 abbrev pub in_one_line : Seeded → Manner
@@ -115,9 +125,11 @@ pub record RunVerb : Type 0 where
   pub manner : Manner
 
 -- `run`: each step by its lines; the first fault of the store ends it. `endure`: the same through faults of the store, which are told by
--- lines of their own
+-- lines of their own. `explain`: as `run`, and each recovery by a certificate besides
 abbrev pub run_verbs : List RunVerb
-run_verbs = record { word = codes "run"; manner = by_lines } ∷ record { word = codes "endure"; manner = through_faults } ∷ []
+run_verbs =
+    record { word = codes "run"; manner = by_lines } ∷ record { word = codes "endure"; manner = through_faults }
+    ∷ record { word = codes "explain"; manner = by_reasons } ∷ []
 
 -- the manner of a word, if it is one of these
 abbrev pub manner_by : List RunVerb → List ℕ → Option Manner

@@ -9,6 +9,6 @@ mod words;
 
 pub use denoting::print_denotation;
 pub use listing::list;
-pub use manner::{LastLine, Manner};
+pub use manner::{Course, LastLine, Manner, Showing};
 pub use reading::{Fed, Job, JobFault, fetch_flow, read_fed, read_generated, read_job};
 pub use words::{CommandWords, DenoteWords, GenerateWords, RunWords, parse};

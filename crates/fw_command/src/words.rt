@@ -149,6 +149,7 @@ fn commands<'a>(alloc: Global) -> Result<Command<'a>, AllocError>
     program(alloc)
         .subcommand(run_form(alloc, "run")?)?
         .subcommand(run_form(alloc, "endure")?)?
+        .subcommand(run_form(alloc, "explain")?)?
         .subcommand(gen_form(alloc)?)?
         .subcommand(denote_form(alloc)?)?
         .subcommand(check_form(alloc)?)

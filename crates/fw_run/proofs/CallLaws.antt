@@ -347,7 +347,7 @@ fault_not_done (Engine engine.NoMemory) e = absurd (cc)
 -- the work of a command that does not go on through faults ended at the first
 ends_at_fault : (T : Type 0) (told : Option (List ℕ → Option (List ℕ))) (f : RunFault) (before after : ℕ) (command : Command) (work : Work) → IsWork told command work
     → (GoesOnThrough (Some command) → ⊥) → EndsAtFault {T = T} work (Err f) before after → after ≡ store_faults_told (status_of f) before
-ends_at_fault T told f before after command (Run manner job) j once ends = elim (cases_Bool manner.goes_on) [
+ends_at_fault T told f before after command (Run manner job) j once ends = elim (cases_Bool manner.course.goes_on) [
   | inl on ↦ absurd (once (told_in manner, ap manner_in j.does, on))
   | inr off ↦ count_told T f before after (ends off)
 ]

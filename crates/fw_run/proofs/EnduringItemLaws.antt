@@ -30,7 +30,7 @@ use Rattle.fw_run.specs.Reports.{Report, not_taken, unswept, faults_in, outcomes
 use Rattle.fw_run.specs.Performing.{IsItemTaken, IsItemBegun, IsItemStopped, IsCountAt, PrintsItem}
 use Rattle.fw_run.specs.Stopping.{MayCallIn, IsLeftIn}
 use Rattle.fw_run.specs.Tallies.{tally_shown, with_fault, with_tally}
-use Rattle.fw_command.specs.Command.{Showing, by_effect, Course, shown_by_effect}
+use Rattle.fw_command.specs.Command.{Showing, Course, up_to_fault}
 use Rattle.fw_command.specs.Writing.{IsWritten, IsCutOff}
 
 -- ---- where the store fails
@@ -145,20 +145,20 @@ fault_of_answer f g e = ap with_fault_of e
     with_fault_of x = Err x
 
 -- an item of which no fault is counted is one of each run
-abbrev of_any : (goes_on : Bool) (sys : System) (state : Machine) (item : Item) → EnduredItem (shown_by_effect false) sys state item → EnduredItem (shown_by_effect goes_on) sys state item
-of_any goes_on sys state item e =
-    record { steps = e.steps; reports = e.reports; last = e.last; endures = e.endures; run = e.run; may = may_none goes_on (faults_in e.reports) e.may }
+abbrev of_any : (course : Course) (sys : System) (state : Machine) (item : Item) → EnduredItem (up_to_fault course.showing) sys state item → EnduredItem course sys state item
+of_any course sys state item e =
+    record { steps = e.steps; reports = e.reports; last = e.last; endures = e.endures; run = e.run; may = may_none course.goes_on (faults_in e.reports) e.may }
 
 -- the item was taken, and the store did not fail
-pub through-taken : (goes_on : Bool) (old new : Engine) (before after : Option Records) (item : Item) (counted counts : StepCounts) (Never IsCount : ℕ → Type 0) (value : Unit {0}) (first last : SinkView)
-    → PrintsItem (shown_by_effect false) old before item counted Never (Ok value) new after counts first last
-    → PrintsItem (shown_by_effect goes_on) old before item counted IsCount (Ok value) new after counts first last
-through-taken goes_on old new before after item counted counts Never IsCount value first last p = record {
+pub through-taken : (course : Course) (old new : Engine) (before after : Option Records) (item : Item) (counted counts : StepCounts) (Never IsCount : ℕ → Type 0) (value : Unit {0}) (first last : SinkView)
+    → PrintsItem (up_to_fault course.showing) old before item counted Never (Ok value) new after counts first last
+    → PrintsItem course old before item counted IsCount (Ok value) new after counts first last
+through-taken course old new before after item counted counts Never IsCount value first last p = record {
   bytes = p.bytes;
   taken = p.taken;
   does = λ sys state st trusts.
       let t = p.does sys state st trusts in
-      record { of_item = of_any goes_on sys state item t.of_item; text = t.text; counted = t.counted; stands = t.stands };
+      record { of_item = of_any course sys state item t.of_item; text = t.text; counted = t.counted; stands = t.stands };
 }
 
 -- how often the store failed where it does not end the run
@@ -169,55 +169,56 @@ stopped_count (stop.Engine (fault.Damaged id)) before after e = e
 stopped_count (stop.Engine fault.NoMemory) before after e = e
 
 -- the item was not taken whole
-pub through-stopped : (goes_on : Bool) (f : RunFault) (old new : Engine) (before after : Option Records) (item : Item) (counted counts : StepCounts) (Never IsCount : ℕ → Type 0) (first last : SinkView)
-    → IsCountAt f IsCount 0 → PrintsItem (shown_by_effect false) old before item counted Never (Err f) new after counts first last
-    → PrintsItem (shown_by_effect goes_on) old before item counted IsCount (Err f) new after counts first last
-through-stopped goes_on (stop.Out f) old new before after item counted counts Never IsCount first last none p = record {
+pub through-stopped : (course : Course) (f : RunFault) (old new : Engine) (before after : Option Records) (item : Item) (counted counts : StepCounts) (Never IsCount : ℕ → Type 0) (first last : SinkView)
+    → IsCountAt f IsCount 0 → PrintsItem (up_to_fault course.showing) old before item counted Never (Err f) new after counts first last
+    → PrintsItem course old before item counted IsCount (Err f) new after counts first last
+through-stopped course (stop.Out f) old new before after item counted counts Never IsCount first last none p = record {
   bytes = p.bytes;
   taken = p.taken;
   does = λ sys state st trusts.
       let b = p.does sys state st trusts in
-      record { of_item = of_any goes_on sys state item b.of_item; others = b.others; text = b.text; faults = subst IsCount (sym b.of_item.may) none };
+      record { of_item = of_any course sys state item b.of_item; others = b.others; text = b.text; faults = subst IsCount (sym b.of_item.may) none };
 }
-through-stopped goes_on (stop.Engine f) old new before after item counted counts Never IsCount first last none p = record {
+through-stopped course (stop.Engine f) old new before after item counted counts Never IsCount first last none p = record {
   bytes = p.bytes;
   taken = p.taken;
   does = λ sys state st. ((p.does sys state st).0, none);
 }
 
 -- an item through a fault is one of a run that goes on
-abbrev of_on : (goes_on : Bool) (sys : System) (state : Machine) (item : Item) → goes_on ≡ true → EnduredItem (shown_by_effect true) sys state item → EnduredItem (shown_by_effect goes_on) sys state item
-of_on goes_on sys state item on e =
-    record { steps = e.steps; reports = e.reports; last = e.last; endures = e.endures; run = e.run; may = any_may goes_on (faults_in e.reports) on }
+abbrev of_on : (course : Course) (sys : System) (state : Machine) (item : Item) → course.goes_on ≡ true
+    → EnduredItem (record { goes_on = true; showing = course.showing }) sys state item → EnduredItem course sys state item
+of_on course sys state item on e =
+    record { steps = e.steps; reports = e.reports; last = e.last; endures = e.endures; run = e.run; may = any_may course.goes_on (faults_in e.reports) on }
 
 -- the store failed in the item, and the line that tells it was written
-pub through-fault : (goes_on : Bool) (old new : Engine) (before after : Option Records) (item : Item) (counted counts : StepCounts) (Never IsCount : ℕ → Type 0) (value : Unit {0}) (first mid last : SinkView)
-    → goes_on ≡ true → ((sys : System) (state : Machine) → StandsFor sys old before state → MayCallIn sys.flow item)
-    → PrintsItem (shown_by_effect false) old before item counted Never (Err (stop.Engine fault.StoreFault)) new after counts first mid → IsWritten (fault_line (counts.steps + 1)) mid last
-    → PrintsItem (shown_by_effect goes_on) old before item counted IsCount (Ok value) new after (with_fault counts) first last
-through-fault goes_on old new before after item counted counts Never IsCount value first mid last on calls p w = record {
+pub through-fault : (course : Course) (old new : Engine) (before after : Option Records) (item : Item) (counted counts : StepCounts) (Never IsCount : ℕ → Type 0) (value : Unit {0}) (first mid last : SinkView)
+    → course.goes_on ≡ true → ((sys : System) (state : Machine) → StandsFor sys old before state → MayCallIn sys.flow item)
+    → PrintsItem (up_to_fault course.showing) old before item counted Never (Err (stop.Engine fault.StoreFault)) new after counts first mid → IsWritten (fault_line (counts.steps + 1)) mid last
+    → PrintsItem course old before item counted IsCount (Ok value) new after (with_fault counts) first last
+through-fault course old new before after item counted counts Never IsCount value first mid last on calls p w = record {
   bytes = p.bytes ++ fault_line (counts.steps + 1);
   taken = written_more p.bytes (fault_line (counts.steps + 1)) first mid last p.taken w;
   does = λ sys state st trusts.
-      let f = item_faulted by_effect sys state item counted counts p.bytes (StandsFor sys new after) (calls sys state st) (p.does sys state st).0 in
-      record { of_item = of_on goes_on sys state item on f.of_item; text = sym f.text; counted = f.counted; stands = f.so };
+      let f = item_faulted course.showing sys state item counted counts p.bytes (StandsFor sys new after) (calls sys state st) (p.does sys state st).0 in
+      record { of_item = of_on course sys state item on f.of_item; text = sym f.text; counted = f.counted; stands = f.so };
 }
 
 -- or the line was cut off
-pub through-fault_cut : (goes_on : Bool) (old new : Engine) (before after : Option Records) (item : Item) (counted counts : StepCounts) (Never IsCount : ℕ → Type 0) (f : OutFault) (first mid last : SinkView)
-    → goes_on ≡ true → ((sys : System) (state : Machine) → StandsFor sys old before state → MayCallIn sys.flow item)
-    → PrintsItem (shown_by_effect false) old before item counted Never (Err (stop.Engine fault.StoreFault)) new after counts first mid → IsCutOff (fault_line (counts.steps + 1)) f mid last
-    → IsCount 1 → (now : StepCounts) → PrintsItem (shown_by_effect goes_on) old before item counted IsCount (Err (stop.Out f)) new after now first last
-through-fault_cut goes_on old new before after item counted counts Never IsCount f first mid last on calls p c once now =
+pub through-fault_cut : (course : Course) (old new : Engine) (before after : Option Records) (item : Item) (counted counts : StepCounts) (Never IsCount : ℕ → Type 0) (f : OutFault) (first mid last : SinkView)
+    → course.goes_on ≡ true → ((sys : System) (state : Machine) → StandsFor sys old before state → MayCallIn sys.flow item)
+    → PrintsItem (up_to_fault course.showing) old before item counted Never (Err (stop.Engine fault.StoreFault)) new after counts first mid → IsCutOff (fault_line (counts.steps + 1)) f mid last
+    → IsCount 1 → (now : StepCounts) → PrintsItem course old before item counted IsCount (Err (stop.Out f)) new after now first last
+through-fault_cut course old new before after item counted counts Never IsCount f first mid last on calls p c once now =
     let line = fault_line (counts.steps + 1) in
     let at = taken_part line f mid last c in
     record {
       bytes = p.bytes ++ at.one;
       taken = taken_more p.bytes at.one f first mid last p.taken at.taken;
       does = λ sys state st trusts.
-          let g = item_faulted by_effect sys state item counted counts p.bytes (StandsFor sys new after) (calls sys state st) (p.does sys state st).0 in
+          let g = item_faulted course.showing sys state item counted counts p.bytes (StandsFor sys new after) (calls sys state st) (p.does sys state st).0 in
           record {
-            of_item = of_on goes_on sys state item on g.of_item;
+            of_item = of_on course sys state item on g.of_item;
             others = at.other;
             text = g.text ∙ ap (λ (t : List ℕ). p.bytes ++ t) at.parts ∙ sym (append_assoc p.bytes at.one at.other);
             faults = subst IsCount (sym g.once) once;

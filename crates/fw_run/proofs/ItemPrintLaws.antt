@@ -25,6 +25,7 @@ use Rattle.fw_running.specs.Steps.{effect_of, outcome_of, FirstMayCall, IsStepEn
 use Rattle.fw_engine.specs.declared.engine.Engine.{Engine}
 use Rattle.fw_engine.specs.Engine.{flow_of, StandsFor, FollowsStep, FollowsFirstStep}
 use Rattle.fw_run.proofs.ItemLaws.{item-run}
+use Rattle.fw_run.proofs.ReasonLaws.{auto-told, lines-with}
 use Rattle.fw_run.proofs.ReportLaws.{reports_text-append, shown-run, shown-faults, shown-on, some_reports}
 use Rattle.fw_run.proofs.TallyLaws.{counted-none, counted-more}
 use Rattle.fw_command.proofs.WritingLaws.{written_nothing, written_more}
@@ -32,11 +33,12 @@ use Rattle.fw_run.proofs.TakenLaws.{taken_part, taken_more}
 use Rattle.fw_run.specs.declared.fault.RunFault.TheVariants as stop
 use Rattle.fw_run.specs.declared.tally.StepCounts.{StepCounts}
 use Rattle.fw_run.specs.Enduring.{EnduredItem}
+use Rattle.fw_run.specs.Explained.{AreReasonsFor}
 use Rattle.fw_run.specs.Performing.{IsLeftAfter, IsCountAt, PrintsItem, AreFew}
 use Rattle.fw_run.specs.Printed.{is_idle}
 use Rattle.fw_run.specs.Reports.{Report, came, reports_text, RunShown}
 use Rattle.fw_run.specs.Tallies.{tally_of, tally_shown, with_tally, AreOfSteps}
-use Rattle.fw_command.specs.Command.{by_effect, shown_by_effect}
+use Rattle.fw_command.specs.Command.{Showing, up_to_fault}
 use Rattle.fw_command.specs.Writing.{IsWritten, IsCutOff}
 
 -- no fault of the store is counted
@@ -62,11 +64,11 @@ step_left old new before after step (fault.Damaged id) faulted unharmed sys stat
 step_left old new before after step fault.NoMemory faulted unharmed sys state st = tt
 
 -- the engine took no step
-pub step_stopped : (old new : Engine) (before after : Option Records) (step : Step) (tally : StepCounts) (f : EngineFault) (view : SinkView) → tally.sum < 2 ^ 64
+pub step_stopped : (showing : Showing) (old new : Engine) (before after : Option Records) (step : Step) (tally : StepCounts) (f : EngineFault) (view : SinkView) → tally.sum < 2 ^ 64
     → ((sys : System) (state : Machine) → StandsFor sys old before state → IsErrOf {T = Stepped} (Err f) fault.StoreFault → IsLeftBy sys state step (λ next. StandsFor sys new after next))
     → ((id : ℕ) (sys : System) (state : Machine) → StandsFor sys old before state → IsErrOf {T = Stepped} (Err f) (fault.Damaged id) → (after ≡ None) × IsStepEnabled sys state Recover × StandsFor sys new after state)
-    → PrintsItem (shown_by_effect false) old before (One step) tally IsNone (Err (stop.Engine f)) new after tally view view
-step_stopped old new before after step tally f view fits faulted unharmed = record {
+    → PrintsItem (up_to_fault showing) old before (One step) tally IsNone (Err (stop.Engine f)) new after tally view view
+step_stopped showing old new before after step tally f view fits faulted unharmed = record {
   bytes = [];
   taken = written_nothing view;
   does = λ sys state st. (
@@ -84,60 +86,71 @@ step_stopped old new before after step tally f view fits faulted unharmed = reco
   );
 }
 
--- the report of what comes of a step
-abbrev report_of : Dataflow → Outcome → Report
-report_of flow outcome = came outcome (outcome_text flow outcome)
+-- the report of what comes of a step, with what is told behind its lines
+abbrev report_of : Dataflow → Outcome → List ℕ → Report
+report_of flow outcome behind = came outcome (outcome_text flow outcome ++ behind)
 
 -- what comes of one step
-abbrev of_step : (sys : System) (state : Machine) (step : Step) (stepped : Stepped) (new : Engine) (after : Option Records) → FollowsStep sys state step stepped new after
-    → EnduredItem (shown_by_effect false) sys state (One step)
-of_step sys state step stepped new after f = record {
+abbrev of_step : (showing : Showing) (sys : System) (state : Machine) (step : Step) (stepped : Stepped) (behind : List ℕ) (new : Engine) (after : Option Records)
+    → AreReasonsFor showing sys state step behind → FollowsStep sys state step stepped new after → EnduredItem (up_to_fault showing) sys state (One step)
+of_step showing sys state step stepped behind new after told f = record {
   steps = step ∷ [];
-  reports = report_of sys.flow (outcome_of stepped) ∷ [];
+  reports = report_of sys.flow (outcome_of stepped) behind ∷ [];
   last = f.next;
-  endures = (report_of sys.flow (outcome_of stepped), (f.steps, refl, refl), refl);
+  endures = (
+    report_of sys.flow (outcome_of stepped) behind,
+    (f.steps, lines-with showing sys state (outcome_of stepped) behind (told f.next (outcome_of stepped) f.steps), refl),
+    refl,
+  );
   run = (f.next, f.steps, refl);
   may = refl;
 }
 
 -- the lines of a step, with the names of an engine's flow
-line_of-step : (sys : System) (flow : Dataflow) (new : Engine) (after : Option Records) (state : Machine) (outcome : Outcome) (number : ℕ) → flow ≡ flow_of new → StandsFor sys new after state
-    → outcome_text flow outcome ≡ reports_text number (report_of sys.flow outcome ∷ [])
-line_of-step sys flow new after state outcome number e st =
-    ap (λ (f : Dataflow). outcome_text f outcome) (e ∙ st.apart.flow) ∙ sym (append-nil (outcome_text sys.flow outcome))
+line_of-step : (sys : System) (flow : Dataflow) (new : Engine) (after : Option Records) (state : Machine) (outcome : Outcome) (behind : List ℕ) (number : ℕ) → flow ≡ flow_of new
+    → StandsFor sys new after state → outcome_text flow outcome ++ behind ≡ reports_text number (report_of sys.flow outcome behind ∷ [])
+line_of-step sys flow new after state outcome behind number e st =
+    ap (λ (f : Dataflow). outcome_text f outcome ++ behind) (e ∙ st.apart.flow) ∙ sym (append-nil (outcome_text sys.flow outcome ++ behind))
+
+-- these are told behind the lines of the step, in each state for which the engine stands
+abbrev pub AreTold : Showing → Engine → Option Records → Step → List ℕ → Type 0
+AreTold showing engine records step behind = (sys : System) (state : Machine) → StandsFor sys engine records state → AreReasonsFor showing sys state step behind
 
 -- it took the step, and its lines were cut off
-pub step_begun : (old new : Engine) (before after : Option Records) (step : Step) (tally counts : StepCounts) (flow : Dataflow) (stepped : Stepped) (f : OutFault) (first last : SinkView)
-    → flow ≡ flow_of new → ((sys : System) (state : Machine) → StandsFor sys old before state → Trusts sys state step after → FollowsStep sys state step stepped new after)
-    → IsCutOff (outcome_text flow (outcome_of stepped)) f first last → PrintsItem (shown_by_effect false) old before (One step) tally IsNone (Err (stop.Out f)) new after counts first last
-step_begun old new before after step tally counts flow stepped f first last e follows c =
-    let part = taken_part (outcome_text flow (outcome_of stepped)) f first last c in
+pub step_begun : (showing : Showing) (old new : Engine) (before after : Option Records) (step : Step) (tally counts : StepCounts) (flow : Dataflow) (stepped : Stepped) (behind : List ℕ) (f : OutFault)
+    (first last : SinkView) → flow ≡ flow_of new → AreTold showing old before step behind
+    → ((sys : System) (state : Machine) → StandsFor sys old before state → Trusts sys state step after → FollowsStep sys state step stepped new after)
+    → IsCutOff (outcome_text flow (outcome_of stepped) ++ behind) f first last
+    → PrintsItem (up_to_fault showing) old before (One step) tally IsNone (Err (stop.Out f)) new after counts first last
+step_begun showing old new before after step tally counts flow stepped behind f first last e told follows c =
+    let part = taken_part (outcome_text flow (outcome_of stepped) ++ behind) f first last c in
     record {
       bytes = part.one;
       taken = part.taken;
       does = λ sys state st trusts.
           let next = follows sys state st trusts in
           record {
-            of_item = of_step sys state step stepped new after next;
+            of_item = of_step showing sys state step stepped behind new after (told sys state st) next;
             others = part.other;
-            text = sym (line_of-step sys flow new after next.next (outcome_of stepped) tally.steps e next.stands) ∙ part.parts;
+            text = sym (line_of-step sys flow new after next.next (outcome_of stepped) behind tally.steps e next.stands) ∙ part.parts;
             faults = refl;
           };
     }
 
 -- or were written
-pub step_taken : (old new : Engine) (before after : Option Records) (step : Step) (tally counts : StepCounts) (flow : Dataflow) (stepped : Stepped) (value : Unit {0}) (first last : SinkView)
-    → flow ≡ flow_of new → ((sys : System) (state : Machine) → StandsFor sys old before state → Trusts sys state step after → FollowsStep sys state step stepped new after)
-    → counts ≡ with_tally tally (tally_of (outcome_of stepped ∷ [])) → IsWritten (outcome_text flow (outcome_of stepped)) first last
-    → PrintsItem (shown_by_effect false) old before (One step) tally IsNone (Ok value) new after counts first last
-step_taken old new before after step tally counts flow stepped value first last e follows i w = record {
-  bytes = outcome_text flow (outcome_of stepped);
+pub step_taken : (showing : Showing) (old new : Engine) (before after : Option Records) (step : Step) (tally counts : StepCounts) (flow : Dataflow) (stepped : Stepped) (behind : List ℕ)
+    (value : Unit {0}) (first last : SinkView) → flow ≡ flow_of new → AreTold showing old before step behind
+    → ((sys : System) (state : Machine) → StandsFor sys old before state → Trusts sys state step after → FollowsStep sys state step stepped new after)
+    → counts ≡ with_tally tally (tally_of (outcome_of stepped ∷ [])) → IsWritten (outcome_text flow (outcome_of stepped) ++ behind) first last
+    → PrintsItem (up_to_fault showing) old before (One step) tally IsNone (Ok value) new after counts first last
+step_taken showing old new before after step tally counts flow stepped behind value first last e told follows i w = record {
+  bytes = outcome_text flow (outcome_of stepped) ++ behind;
   taken = w;
   does = λ sys state st trusts.
       let next = follows sys state st trusts in
       record {
-        of_item = of_step sys state step stepped new after next;
-        text = line_of-step sys flow new after next.next (outcome_of stepped) tally.steps e next.stands;
+        of_item = of_step showing sys state step stepped behind new after (told sys state st) next;
+        text = line_of-step sys flow new after next.next (outcome_of stepped) behind tally.steps e next.stands;
         counted = i;
         stands = next.stands;
       };
@@ -146,14 +159,14 @@ step_taken old new before after step tally counts flow stepped value first last 
 -- ---- steps that are taken by themselves
 
 -- From the state so many steps were taken by themselves, each the first that was enabled; so they are counted, and these are their
--- lines; and the engine stands for the state to which they led.
+-- lines, whatever is shown; and the engine stands for the state to which they led.
 pub record AutoGoes (sys : System) (state : Machine) (count : ℕ) (tally counts : StepCounts) (bytes : List ℕ) (engine : Engine) (records : Option Records) : Type 0 where
   pub steps : List Step
   pub full : length steps ≡ count
   pub now : Machine
   pub comes : IsAutoRun sys state (length steps) steps now
   pub reports : List Report
-  pub run : RunShown by_effect sys state steps reports now
+  pub run : (showing : Showing) → RunShown showing sys state steps reports now
   pub counted : counts ≡ with_tally tally (tally_shown reports)
   pub text : bytes ≡ reports_text tally.steps reports
   pub stands : StandsFor sys engine records now
@@ -169,7 +182,7 @@ auto-none engine records tally view fits = record {
   bytes = [];
   written = written_nothing view;
   goes = λ sys state st.
-      record { steps = []; full = refl; now = state; comes = refl; reports = []; run = refl; counted = counted-none tally fits; text = refl; stands = st };
+      record { steps = []; full = refl; now = state; comes = refl; reports = []; run = λ showing. refl; counted = counted-none tally fits; text = refl; stands = st };
 }
 
 -- one step more
@@ -177,17 +190,19 @@ more_goes : (sys : System) (state : Machine) (count : ℕ) (tally counts more : 
     → (g : AutoGoes sys state count tally counts bytes mid between) → more ≡ with_tally counts (tally_of (did shown ∷ [])) → flow ≡ flow_of new → TakesFirst sys g.now (auto_steps sys.flow) next (did shown) → StandsFor sys new after next
     → AutoGoes sys state (count + 1) tally more (bytes ++ outcome_text flow (did shown)) new after
 more_goes sys state count tally counts more bytes mid new between after flow shown next g i e t st =
-    let report = report_of sys.flow (did shown) in
+    let report = came (did shown) (outcome_text sys.flow (did shown)) in
     let longer : length (g.steps ++ t.0 ∷ []) ≡ length g.steps + suc zero = length-append g.steps (t.0 ∷ []) in
     let one : IsAutoRun sys g.now (suc zero) (t.0 ∷ []) next = (next, shown, t.1, refl) in
-    let line : outcome_text flow (did shown) ≡ reports_text (tally.steps + length g.reports) (report ∷ []) = line_of-step sys flow new after next (did shown) (tally.steps + length g.reports) e st in
+    let line : outcome_text flow (did shown) ≡ reports_text (tally.steps + length g.reports) (report ∷ []) =
+    ap (λ (f : Dataflow). outcome_text f (did shown)) (e ∙ st.apart.flow) ∙ sym (append-nil (outcome_text sys.flow (did shown))) in
     record {
       steps = g.steps ++ t.0 ∷ [];
       full = omega (arith, longer, g.full);
       now = next;
       comes = subst (λ n. IsAutoRun sys state n (g.steps ++ t.0 ∷ []) next) (sym longer) (auto-goes_on sys state g.now next g.steps (t.0 ∷ []) (suc zero) g.comes one);
       reports = g.reports ++ report ∷ [];
-      run = shown-on by_effect sys state g.now next g.steps (t.0 ∷ []) g.reports (report ∷ []) g.run (next, t.1.leads, refl, refl);
+      run = λ showing. shown-on showing sys state g.now next g.steps (t.0 ∷ []) g.reports (report ∷ []) (g.run showing)
+          (next, t.1.leads, auto-told showing sys g.now next t.0 shown t.1, refl);
       counted = i ∙ ap (λ (t : StepCounts). with_tally t (tally_shown (report ∷ []))) g.counted ∙ counted-more tally g.reports (report ∷ []);
       text = ap (λ (b : List ℕ). b ++ outcome_text flow (did shown)) g.text ∙ ap (λ (b : List ℕ). reports_text tally.steps g.reports ++ b) line
           ∙ sym (reports_text-append tally.steps g.reports (report ∷ []));
@@ -216,24 +231,24 @@ auto_on sys state now last steps others rest most c d e =
     subst (λ n. IsAutoRun sys state n (steps ++ others) last) e (auto-goes_on sys state now last steps others rest c d)
 
 -- the steps that were taken by themselves are those of the item
-abbrev of_auto : (sys : System) (state last : Machine) (most : ℕ) (steps : List Step) (reports : List Report) → IsAutoRun sys state most steps last → RunShown by_effect sys state steps reports last
-    → EnduredItem (shown_by_effect false) sys state (Auto most)
-of_auto sys state last most steps reports comes run = record {
+abbrev of_auto : (showing : Showing) (sys : System) (state last : Machine) (most : ℕ) (steps : List Step) (reports : List Report) → IsAutoRun sys state most steps last
+    → RunShown showing sys state steps reports last → EnduredItem (up_to_fault showing) sys state (Auto most)
+of_auto showing sys state last most steps reports comes run = record {
   steps = steps;
   reports = reports;
   last = last;
   endures = (reports, run, inl (comes, refl));
-  run = shown-run by_effect sys state last steps reports run;
-  may = shown-faults by_effect sys state last steps reports run;
+  run = shown-run showing sys state last steps reports run;
+  may = shown-faults showing sys state last steps reports run;
 }
 
 -- they end where none is enabled
-pub auto-ends : (old mid new : Engine) (before between after : Option Records) (stepped : Stepped) (count most : ℕ) (tally counts : StepCounts) (value : Unit {0}) (first last : SinkView)
+pub auto-ends : (showing : Showing) (old mid new : Engine) (before between after : Option Records) (stepped : Stepped) (count most : ℕ) (tally counts : StepCounts) (value : Unit {0}) (first last : SinkView)
     → IsAutoSoFar old mid before between count tally counts first last → count < most
     → ((sys : System) (state : Machine) → StandsFor sys mid between state → FollowsFirstStep sys state stepped new after)
-    → is_idle (outcome_of stepped) ≡ true → PrintsItem (shown_by_effect false) old before (Auto most) tally IsNone (Ok value) new after counts first last
-auto-ends old mid new before between after (Did shown) count most tally counts value first last s below follows i = absurd (false≢true i)
-auto-ends old mid new before between after Idle count most tally counts value first last s below follows i = record {
+    → is_idle (outcome_of stepped) ≡ true → PrintsItem (up_to_fault showing) old before (Auto most) tally IsNone (Ok value) new after counts first last
+auto-ends showing old mid new before between after (Did shown) count most tally counts value first last s below follows i = absurd (false≢true i)
+auto-ends showing old mid new before between after Idle count most tally counts value first last s below follows i = record {
   bytes = s.bytes;
   taken = s.written;
   does = λ sys state st trusts.
@@ -244,7 +259,7 @@ auto-ends old mid new before between after Idle count most tally counts value fi
       let comes : IsAutoRun sys state most g.steps g.now = subst (λ (steps : List Step). IsAutoRun sys state most steps g.now) (append-nil g.steps)
       (auto_on sys state g.now g.now g.steps [] (suc (most - count - 1)) most g.comes none all) in
       record {
-        of_item = of_auto sys state g.now most g.steps g.reports comes g.run;
+        of_item = of_auto showing sys state g.now most g.steps g.reports comes (g.run showing);
         text = g.text;
         counted = g.counted;
         stands = subst (StandsFor sys new after) f.takes.1 f.stands;
@@ -252,15 +267,15 @@ auto-ends old mid new before between after Idle count most tally counts value fi
 }
 
 -- or where as many were taken as may be
-pub auto-full : (old new : Engine) (before after : Option Records) (count most : ℕ) (tally counts : StepCounts) (value : Unit {0}) (first last : SinkView)
-    → IsAutoSoFar old new before after count tally counts first last → count ≡ most → PrintsItem (shown_by_effect false) old before (Auto most) tally IsNone (Ok value) new after counts first last
-auto-full old new before after count most tally counts value first last s all = record {
+pub auto-full : (showing : Showing) (old new : Engine) (before after : Option Records) (count most : ℕ) (tally counts : StepCounts) (value : Unit {0}) (first last : SinkView)
+    → IsAutoSoFar old new before after count tally counts first last → count ≡ most → PrintsItem (up_to_fault showing) old before (Auto most) tally IsNone (Ok value) new after counts first last
+auto-full showing old new before after count most tally counts value first last s all = record {
   bytes = s.bytes;
   taken = s.written;
   does = λ sys state st trusts.
       let g = s.goes sys state st in
       record {
-        of_item = of_auto sys state g.now most g.steps g.reports (subst (λ n. IsAutoRun sys state n g.steps g.now) (g.full ∙ all) g.comes) g.run;
+        of_item = of_auto showing sys state g.now most g.steps g.reports (subst (λ n. IsAutoRun sys state n g.steps g.now) (g.full ∙ all) g.comes) (g.run showing);
         text = g.text;
         counted = g.counted;
         stands = g.stands;
@@ -268,13 +283,13 @@ auto-full old new before after count most tally counts value first last s all = 
 }
 
 -- the lines of a step were cut off
-pub auto_begun : (old mid new : Engine) (before between after : Option Records) (flow : Dataflow) (stepped : Stepped) (count most : ℕ) (tally counts more : StepCounts) (f : OutFault)
+pub auto_begun : (showing : Showing) (old mid new : Engine) (before between after : Option Records) (flow : Dataflow) (stepped : Stepped) (count most : ℕ) (tally counts more : StepCounts) (f : OutFault)
     (first middle last : SinkView) → IsAutoSoFar old mid before between count tally counts first middle → count < most
     → more ≡ with_tally counts (tally_of (outcome_of stepped ∷ [])) → flow ≡ flow_of new
     → ((sys : System) (state : Machine) → StandsFor sys mid between state → FollowsFirstStep sys state stepped new after)
     → is_idle (outcome_of stepped) ≡ false → IsCutOff (outcome_text flow (outcome_of stepped)) f middle last
-    → PrintsItem (shown_by_effect false) old before (Auto most) tally IsNone (Err (stop.Out f)) new after more first last
-auto_begun old mid new before between after flow (Did shown) count most tally counts more f first middle last s below m e follows i c =
+    → PrintsItem (up_to_fault showing) old before (Auto most) tally IsNone (Err (stop.Out f)) new after more first last
+auto_begun showing old mid new before between after flow (Did shown) count most tally counts more f first middle last s below m e follows i c =
     let part = taken_part (outcome_text flow (did (effect_of shown))) f middle last c in
     record {
       bytes = s.bytes ++ part.one;
@@ -285,10 +300,10 @@ auto_begun old mid new before between after flow (Did shown) count most tally co
           let one = more_goes sys state count tally counts more s.bytes mid new between after flow (effect_of shown) next.next g m e next.takes next.stands in
           let reached = one.stands.apart.reached in
           let rest = item-run sys one.stands.apart.well_formed reached.0 reached.1 one.now reached.2 (Auto (most - count - 1)) in
-          let told = some_reports by_effect sys one.stands.apart.well_formed one.now rest.last reached rest.steps rest.outcomes rest.run in
+          let told = some_reports showing sys one.stands.apart.well_formed one.now rest.last reached rest.steps rest.outcomes rest.run in
           let behind = reports_text (tally.steps + length one.reports) told.0 in
           let all : length one.steps + (most - count - 1) ≡ most = omega (arith, below, one.full) in
-          let run = shown-on by_effect sys state one.now rest.last one.steps rest.steps one.reports told.0 one.run told.1 in
+          let run = shown-on showing sys state one.now rest.last one.steps rest.steps one.reports told.0 (one.run showing) told.1 in
           let lines : reports_text tally.steps (one.reports ++ told.0) ≡ (s.bytes ++ (part.one ++ part.other)) ++ behind =
           reports_text-append tally.steps one.reports told.0
           ∙ ap (λ (b : List ℕ). b ++ behind) (sym one.text ∙ ap (λ (b : List ℕ). s.bytes ++ b) part.parts) in
@@ -296,14 +311,14 @@ auto_begun old mid new before between after flow (Did shown) count most tally co
           ap (λ (b : List ℕ). b ++ behind) (sym (append_assoc s.bytes part.one part.other)) ∙ append_assoc (s.bytes ++ part.one) part.other behind in
           let whole : reports_text tally.steps (one.reports ++ told.0) ≡ (s.bytes ++ part.one) ++ (part.other ++ behind) = lines ∙ parts in
           record {
-            of_item = of_auto sys state rest.last most (one.steps ++ rest.steps) (one.reports ++ told.0)
+            of_item = of_auto showing sys state rest.last most (one.steps ++ rest.steps) (one.reports ++ told.0)
                 (auto_on sys state one.now rest.last one.steps rest.steps (most - count - 1) most one.comes rest.comes all) run;
             others = part.other ++ behind;
             text = whole;
-            faults = shown-faults by_effect sys state rest.last (one.steps ++ rest.steps) (one.reports ++ told.0) run;
+            faults = shown-faults showing sys state rest.last (one.steps ++ rest.steps) (one.reports ++ told.0) run;
           };
     }
-auto_begun old mid new before between after flow Idle count most tally counts more f first middle last s below m e follows i c = absurd (true≢false i)
+auto_begun showing old mid new before between after flow Idle count most tally counts more f first middle last s below m e follows i c = absurd (true≢false i)
 
 -- what a fault of the engine in such a step leaves
 auto_left : (mid new : Engine) (between after : Option Records) (most : ℕ) (f : EngineFault)
@@ -316,13 +331,13 @@ auto_left mid new between after most (fault.Damaged id) calls faulted unharmed s
 auto_left mid new between after most fault.NoMemory calls faulted unharmed sys state st = tt
 
 -- the engine took no step more
-pub auto_stopped : (old mid new : Engine) (before between after : Option Records) (count most : ℕ) (tally counts : StepCounts) (f : EngineFault) (first last : SinkView)
+pub auto_stopped : (showing : Showing) (old mid new : Engine) (before between after : Option Records) (count most : ℕ) (tally counts : StepCounts) (f : EngineFault) (first last : SinkView)
     → IsAutoSoFar old mid before between count tally counts first last → count < most
     → ((sys : System) (state : Machine) → StandsFor sys mid between state → IsErrOf {T = Stepped} (Err f) fault.StoreFault → FirstMayCall sys state)
     → ((sys : System) (state : Machine) → StandsFor sys mid between state → IsErrOf {T = Stepped} (Err f) fault.StoreFault → StandsFor sys new after state)
     → ((id : ℕ) → IsErrOf {T = Stepped} (Err f) (fault.Damaged id) → ⊥)
-    → PrintsItem (shown_by_effect false) old before (Auto most) tally IsNone (Err (stop.Engine f)) new after counts first last
-auto_stopped old mid new before between after count most tally counts f first last s below calls faulted unharmed = record {
+    → PrintsItem (up_to_fault showing) old before (Auto most) tally IsNone (Err (stop.Engine f)) new after counts first last
+auto_stopped showing old mid new before between after count most tally counts f first last s below calls faulted unharmed = record {
   bytes = s.bytes;
   taken = s.written;
   does = λ sys state st.
@@ -333,7 +348,7 @@ auto_stopped old mid new before between after count most tally counts f first la
           now = g.now;
           begins = (few, g.comes);
           reports = g.reports;
-          run = g.run;
+          run = g.run showing;
           text = g.text;
           counted = g.counted;
           so = auto_left mid new between after most f calls faulted unharmed sys g.now g.stands;

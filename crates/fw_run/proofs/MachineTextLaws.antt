@@ -11,22 +11,21 @@ use Rattle.fw_model.specs.Steps.{Outcome}
 use Rattle.fw_running.specs.EffectText.{outcome_text}
 use Rattle.fw_run.proofs.EnduringLaws.{came_run}
 use Rattle.fw_run.proofs.ReportLaws.{outcomes_in-append, faults-append, reports_text-append}
-use Rattle.fw_run.specs.Ends.{AreKnown, PrintsOfRun, NoFaults, NoneLeft}
 use Rattle.fw_run.specs.Enduring.{ItemEndures, ItemsEndure}
-use Rattle.fw_run.specs.Headline.{PrintsRun}
 use Rattle.fw_run.specs.Printed.{outcomes_text, idle_count, done_line, run_text}
 use Rattle.fw_run.specs.Reports.{Report, came, not_taken, unswept, faults_in, outcomes_in, shown_in, reports_text, RunShown}
+use Rattle.fw_run.specs.TellingMore.{RunPrintsMachine}
 use Rattle.fw_command.specs.Command.{by_effect, by_lines}
 
 -- ---- reports of no faults
 
-came-shown : (reports : List Report) → faults_in reports ≡ 0 → shown_in reports ≡ outcomes_in reports
+pub came-shown : (reports : List Report) → faults_in reports ≡ 0 → shown_in reports ≡ outcomes_in reports
 came-shown [] none = refl
 came-shown (came o l ∷ reports) none = ap (λ (os : List Outcome). o ∷ os) (came-shown reports none)
 came-shown (not_taken ∷ reports) none = absurd (omega (arith, none))
 came-shown (unswept o ∷ reports) none = absurd (omega (arith, none))
 
-came-length : (reports : List Report) → faults_in reports ≡ 0 → length reports ≡ length (outcomes_in reports)
+pub came-length : (reports : List Report) → faults_in reports ≡ 0 → length reports ≡ length (outcomes_in reports)
 came-length [] none = refl
 came-length (came o l ∷ reports) none = omega (arith, came-length reports none)
 came-length (not_taken ∷ reports) none = absurd (omega (arith, none))
@@ -78,9 +77,8 @@ items-text sys before state last (item ∷ items) steps reports e none =
 
 -- ---- the text
 
-pub machine_prints : (Tells : Type 0) (sys : System) (items : List Item) (printed : List ℕ) → PrintsOfRun Tells NoFaults NoneLeft by_lines sys items printed → AreKnown by_lines Tells sys items
-    → PrintsRun sys items printed
-machine_prints Tells sys items printed p k =
+pub machine_prints : RunPrintsMachine
+machine_prints records sys items printed p k =
     let whole = p.whole k in
     let left = whole.0 in
     let r = whole.2.run in

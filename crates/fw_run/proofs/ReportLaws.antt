@@ -8,8 +8,9 @@ use Rattle.fw_model.specs.Machine.{Machine, first_state}
 use Rattle.fw_model.specs.Reached.{IsReached}
 use Rattle.fw_model.specs.Steps.{Outcome, StepsTo, Run}
 use Rattle.fw_running.specs.EffectText.{outcome_text}
+use Rattle.fw_run.proofs.ReasonLaws.{lines-with, some_told}
 use Rattle.fw_run.specs.Reports.{Report, came, not_taken, unswept, is_fault, faults_in, outcomes_in, shown_in, reports_text, report_text, AreLinesOf, RunShown}
-use Rattle.fw_command.specs.Command.{Showing, by_effect}
+use Rattle.fw_command.specs.Command.{Showing}
 
 -- ---- reports
 
@@ -88,7 +89,9 @@ no_reports showing sys state now (s ∷ steps) reports e r = absurd (cc)
 -- what comes of a step has lines, in each state to which steps lead
 pub some_lines : (showing : Showing) (sys : System) → IsWellFormedSystem sys → (state : Machine) → IsReached sys state → (step : Step) (next : Machine) (outcome : Outcome)
     → StepsTo sys state step next outcome → (lines : List ℕ) × AreLinesOf showing sys state outcome lines
-some_lines by_effect sys w state reached step next outcome t = (outcome_text sys.flow outcome, refl)
+some_lines showing sys w state reached step next outcome t =
+    let told = some_told showing sys w state reached step next outcome t in
+    (outcome_text sys.flow outcome ++ told.0, lines-with showing sys state outcome told.0 told.1)
 
 -- where a step leads steps lead too
 pub reached-next : (sys : System) (state next : Machine) (step : Step) (outcome : Outcome) → IsReached sys state → StepsTo sys state step next outcome → IsReached sys next

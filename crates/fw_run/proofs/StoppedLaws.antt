@@ -1,7 +1,10 @@
 -- An item that was stopped.
-use Rattle.std.proofs.Common.{◌≡◌, inl, ℕ, ◌+◌, ◌-◌, List, [], ◌++◌, length, Option, Some, None, refl, sym, ◌∙◌, ap, subst, arith}
+use Rattle.std.proofs.Common.{◌≡◌, inl, ℕ, ◌+◌, ◌-◌, List, [], ◌++◌, length, Option, Some, None, Err, refl, sym, ◌∙◌, ap, subst, arith}
 use Rattle.std.proofs.lemmas.Bool.{false≢true}
 use Rattle.std.specs.Prelude.{IsSome}
+use Rattle.fw_outside.specs.declared.fault.OutFault.TheVariants as output
+use Rattle.fw_outside.specs.Outside.{SinkView}
+use Rattle.fw_flow.specs.declared.step.Step.{Step}
 use Rattle.fw_flow.specs.Dataflow.{System}
 use Rattle.fw_flow.specs.WellFormed.{IsWellFormedSystem}
 use Rattle.fw_schedule.specs.declared.item.Item.{Item}
@@ -11,12 +14,15 @@ use Rattle.fw_model.specs.Reached.{IsReached}
 use Rattle.fw_keep.specs.Stored.{Records}
 use Rattle.fw_run.proofs.EnduringLaws.{endured-taken, may_none}
 use Rattle.fw_run.proofs.ItemLaws.{item-run}
-use Rattle.fw_run.proofs.ItemPrintLaws.{auto_on}
+use Rattle.fw_engine.specs.declared.engine.Engine.{Engine}
+use Rattle.fw_run.proofs.ItemPrintLaws.{IsNone, auto_on}
 use Rattle.fw_run.proofs.ReportLaws.{no_reports, reached-on, reports_text-append, shown-faults, shown-on, shown-run, some_reports}
+use Rattle.fw_run.proofs.TakenLaws.{taken_nothing}
+use Rattle.fw_run.specs.declared.fault.RunFault.TheVariants as stop
 use Rattle.fw_run.specs.declared.tally.StepCounts.{StepCounts}
-use Rattle.fw_run.specs.Performing.{IsItemBegun, IsItemStopped}
+use Rattle.fw_run.specs.Performing.{IsItemBegun, IsItemStopped, PrintsItem}
 use Rattle.fw_run.specs.Reports.{Report, faults_in, outcomes_in, reports_text}
-use Rattle.fw_command.specs.Command.{Course}
+use Rattle.fw_command.specs.Command.{Course, Showing, up_to_fault}
 
 -- where an item was stopped it goes on, and the store does not fail
 pub stopped_begun : (course : Course) (sys : System) (item : Item) (state : Machine) (tally counts : StepCounts) (bytes : List ℕ) (IsSo : Machine → Type 0) (IsCount : ℕ → Type 0) → IsCount 0
@@ -52,6 +58,19 @@ stopped_begun course sys (Auto most) state tally counts bytes IsSo IsCount none 
       text = reports_text-append tally.steps t.reports told.0 ∙ ap (λ (b : List ℕ). b ++ behind) (sym t.text);
       faults = subst IsCount (sym never) none;
     }
+
+-- memory was refused before the step was taken
+pub step_refused : (showing : Showing) (engine : Engine) (records : Option Records) (step : Step) (tally : StepCounts) (view : SinkView)
+    → PrintsItem (up_to_fault showing) engine records (One step) tally IsNone (Err (stop.Out output.NoMemory)) engine records tally view view
+step_refused showing engine records step tally view = record {
+  bytes = [];
+  taken = taken_nothing view;
+  does = λ sys state st trusts.
+      let w = st.apart.well_formed in
+      let reached = st.apart.reached in
+      let found = endured-taken (up_to_fault showing) sys w state reached (One step) (item-run sys w reached.0 reached.1 state reached.2 (One step)) in
+      record { of_item = found.0; others = reports_text tally.steps found.0.reports; text = refl; faults = found.1 };
+}
 
 -- nothing is told where no records are
 pub none_told : (records : Option Records) → records ≡ None → IsSome records → ⊥

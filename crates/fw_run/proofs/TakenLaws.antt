@@ -45,6 +45,13 @@ taken_part bytes fault before after c = record {
   taken = record { taken = c.taken.2; faults = c.faults; refusals = c.refusals };
 }
 
+-- where nothing stands behind bytes they were written, or cut off
+pub written_alone : {bytes : List ℕ} {before after : SinkView} → IsWritten (bytes ++ []) before after → IsWritten bytes before after
+written_alone {bytes} {before} {after} w = subst (λ (b : List ℕ). IsWritten b before after) (append-nil bytes) w
+
+pub cut_alone : {bytes : List ℕ} {fault : OutFault} {before after : SinkView} → IsCutOff (bytes ++ []) fault before after → IsCutOff bytes fault before after
+cut_alone {bytes} {fault} {before} {after} c = subst (λ (b : List ℕ). IsCutOff b fault before after) (append-nil bytes) c
+
 -- ---- first bytes
 
 -- so they are where more was to be written

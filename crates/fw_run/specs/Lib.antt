@@ -2,6 +2,7 @@ pub mod Answers
 pub mod Call
 pub mod Enduring
 pub mod Ends
+pub mod Explained
 pub mod Fault
 pub mod Headline
 pub mod Items
@@ -11,5 +12,6 @@ pub mod Reports
 pub mod Status
 pub mod Stopping
 pub mod Tallies
+pub mod TellingMore
 pub mod Through
 pub mod Work

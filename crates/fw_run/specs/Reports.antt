@@ -7,7 +7,8 @@ use Rattle.fw_flow.specs.Dataflow.{System}
 use Rattle.fw_model.specs.Machine.{Machine}
 use Rattle.fw_model.specs.Steps.{Outcome, StepsTo}
 use Rattle.fw_running.specs.EffectText.{outcome_text}
-use Rattle.fw_command.specs.Command.{Showing, by_effect}
+use Rattle.fw_command.specs.Command.{Showing, by_effect, with_certificates}
+use Rattle.fw_run.specs.Explained.{IsToldBehind}
 
 -- ---- reports
 
@@ -44,9 +45,11 @@ shown_in (unswept outcome ∷ reports) = shown_in reports
 
 -- ---- what the machine shows
 
--- these are the lines of what comes of a step, in the state before it
+-- these are the lines of what comes of a step, in the state before it: those of its effect; and with certificates what is told behind them
 abbrev pub AreLinesOf : Showing → System → Machine → Outcome → List ℕ → Type 0
 AreLinesOf by_effect sys state outcome lines = lines ≡ outcome_text sys.flow outcome
+AreLinesOf with_certificates sys state outcome lines =
+    (behind : List ℕ) × IsToldBehind with_certificates sys state outcome behind × (lines ≡ outcome_text sys.flow outcome ++ behind)
 
 -- From a state the machine takes the steps to the last one, and these are reports of what it shows: the store failed in none.
 abbrev pub RunShown : Showing → System → Machine → List Step → List Report → Machine → Type 0

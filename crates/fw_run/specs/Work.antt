@@ -99,13 +99,13 @@ IfRun (Check flow) IsSo = Unit {0}
 
 -- Work that does not go on through faults of its store ends at the first: it failed once if that is the answer, and else never.
 abbrev pub EndsAtFault : {T : Type 0} → Work → Result T RunFault → ℕ → ℕ → Type 0
-EndsAtFault (Run manner job) answer before after = manner.goes_on ≡ false → after ≡ faults_after_run answer before
+EndsAtFault (Run manner job) answer before after = manner.course.goes_on ≡ false → after ≡ faults_after_run answer before
 EndsAtFault (Denote fed) answer before after = after ≡ faults_after_run answer before
 EndsAtFault (Check flow) answer before after = after ≡ faults_after_run answer before
 
 -- this stays in work that the first fault of its store ends, if its steps are not seen
 abbrev pub StaysIfUnseen : {O : Type 0} → Work → O → O → Type 0
-StaysIfUnseen (Run manner job) before after = manner.goes_on ≡ false → StaysUnseen manner.is_seen before after
+StaysIfUnseen (Run manner job) before after = manner.course.goes_on ≡ false → StaysUnseen manner.is_seen before after
 StaysIfUnseen (Denote fed) before after = Unit {0}
 StaysIfUnseen (Check flow) before after = Unit {0}
 

@@ -20,9 +20,9 @@ use std::alloc::Global;
 
 /// Runs a command: `words` are those after the program's name. `run FLOW INPUTS SCHEDULE` fetches and reads the
 /// three texts from the folder, takes the steps of the schedule and prints their effects to `out`; `endure FLOW INPUTS SCHEDULE`
-/// does the same, and goes on where the store fails in a step; `gen SEED SIZE` generates three texts, takes the steps and prints
-/// one line on what came of them; `denote FLOW INPUTS` reads
-/// the texts of a flow and its inputs and prints its denotation at the outputs; `check FLOW` reads the text of a flow and
+/// does the same, and goes on where the store fails in a step; `explain FLOW INPUTS SCHEDULE` does what `run` does, and prints behind
+/// the cuts of each recovery why they are the largest; `gen SEED SIZE` generates three texts, takes the steps and prints one line on
+/// what came of them; `denote FLOW INPUTS` reads the texts of a flow and its inputs and prints its denotation at the outputs; `check FLOW` reads the text of a flow and
 /// prints its nodes. Where that does not end well, one line on `notes` says why. The store is for records of what the nodes of
 /// a run write, and holds none at first.
 pub fn falkirk<F: Folder, K: Store, O: Sink, N: Sink>(

@@ -2,7 +2,9 @@
 #![tactic(auto)]
 
 mod command;
+mod explain;
 mod fault;
+pub mod laws;
 mod perform;
 mod run;
 mod status;

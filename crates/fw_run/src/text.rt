@@ -1,5 +1,5 @@
 //! The lines that are printed.
-ghost use Rattle.std.specs.Prelude.{◌≡◌, IfOk, string_bytes};
+ghost use Rattle.std.specs.Prelude.{◌≡◌, ◌++◌, IfOk, string_bytes};
 ghost use Rattle.fw_running.specs.EffectText.{outcome_text};
 ghost use Rattle.fw_running.specs.Steps.{outcome_of};
 ghost use Rattle.fw_run.specs.Printed as spec;
@@ -17,13 +17,17 @@ use fw_flow::Flow;
 use fw_lines::Refusal;
 use std::alloc::{AllocError, Global};
 
-/// The lines of what came of a step of the flow, as bytes; none stands for no line.
-pub fn line_of(alloc: Global, flow: &Flow, stepped: Stepped) -> Result<Option<Vec<u8>>, AllocError>
-    ensures { IfOk result (λ line. shown_bytes line
-        ≡ outcome_text flow.now (outcome_of stepped)) }
+/// The lines of what came of a step of the flow, and these behind them, as bytes; none stands for no line.
+pub fn lines_of(
+    alloc: Global,
+    flow: &Flow,
+    stepped: Stepped,
+    behind: &str,
+) -> Result<Option<Vec<u8>>, AllocError>
+    ensures { IfOk result (λ line. shown_bytes line ≡ outcome_text flow.now (outcome_of stepped) ++ behind.now) }
 {
     let shown = stepped.display(flow);
-    let lines = format!(in alloc; "{shown}")?;
+    let lines = format!(in alloc; "{shown}{behind}")?;
     if lines.is_empty() {
         return Ok(None);
     }

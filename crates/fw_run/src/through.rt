@@ -10,21 +10,20 @@ ghost use Rattle.fw_running.specs.declared.fault.EngineFault.TheVariants as Engi
 ghost use Rattle.fw_engine.specs.Engine.{flow_of, keep_of, StandsFor, IsDamaged};
 ghost use Rattle.fw_run.specs.Enduring.{Point, RoseBy, StaysOrRose};
 ghost use Rattle.fw_run.specs.Ends.{EndsRun, WritesLast, StaysUnseen, seen};
-ghost use Rattle.fw_command.specs.Manner.{last_in, told_in};
+ghost use Rattle.fw_command.specs.Manner.{course_in, last_in, told_in};
 ghost use Rattle.fw_run.specs.Performing.{HasRoom, PrintsItem, FailsAsCounted};
 ghost use Rattle.fw_run.specs.Stopping.{MayCallIn};
 ghost use Rattle.fw_run.specs.Tallies.{AreOfSteps, last_line as line_of_last};
 ghost use Rattle.fw_run.specs.Through.{TakesItems};
 ghost use Rattle.fw_run.specs.Fault.{faults_after_run};
 ghost use Rattle.fw_run.specs.Work.{IsStoreAt};
-ghost use Rattle.fw_command.specs.Command.{shown_by_effect};
 ghost use Rattle.fw_command.specs.Reading.{IsReadyToRun};
 
 use crate::fault::RunFault;
 use crate::perform::perform_item;
 use crate::tally::StepCounts;
 use crate::text::{fault_line, last_line};
-use fw_command::{Job, LastLine, Manner};
+use fw_command::{Course, Job, LastLine, Manner};
 use fw_engine::{Engine, EngineFault};
 use fw_outside::{OutFault, Sink, Store};
 use fw_schedule::Item;
@@ -44,7 +43,7 @@ pub(crate) fn perform<K: Store, O: Sink>(
     ensures ends { EndsRun (IsSome (K.view store.new).records) (told_in manner) (system_of job.flow job.batches) job.items result (K.view store.old).faults
         (K.view store.new).faults (K.view store.new).records (K.view store.new).given (O.view out.old) (O.view out.new) }
     ensures told_before { IsSome (K.view store.new).records → IsSome (K.view store.old).records }
-    ensures nothing_told { (fault : Fault) → IsErrOf result (RunFault.Engine fault) → manner.goes_on ≡ false → StaysUnseen manner.is_seen out.old out.new }
+    ensures nothing_told { (fault : Fault) → IsErrOf result (RunFault.Engine fault) → manner.course.goes_on ≡ false → StaysUnseen manner.is_seen out.old out.new }
 {
     let Job {
         flow,
@@ -74,19 +73,19 @@ fn take<K: Store, O: Sink>(
     requires few { tally.old.steps + step_count items.now ≤ step_limit }
     requires none { tally.old.faults ≡ 0 }
     ensures taken { (sys : System) (from : Point) → from.counts ≡ tally.old → StandsFor sys engine.old (K.view store.old).records from.state
-        → TakesItems (shown_by_effect manner.goes_on) (IsSome (K.view store.new).records) sys from items.now result tally.new
+        → TakesItems (course_in manner.course) (IsSome (K.view store.new).records) sys from items.now result tally.new
         (RoseBy (K.view store.old).faults (K.view store.new).faults) (K.view store.new).records (K.view store.new).given
         (seen manner.is_seen (O.view out.old)) (seen manner.is_seen (O.view out.new)) }
     ensures told_before { IsSome (K.view store.new).records → IsSome (K.view store.old).records }
-    ensures none { manner.goes_on ≡ false → tally.new.faults ≡ 0 }
-    ensures first { manner.goes_on ≡ false → (K.view store.new).faults ≡ faults_after_run result (K.view store.old).faults }
+    ensures none { manner.course.goes_on ≡ false → tally.new.faults ≡ 0 }
+    ensures first { manner.course.goes_on ≡ false → (K.view store.new).faults ≡ faults_after_run result (K.view store.old).faults }
     ensures rises { StaysOrRose (K.view store.old).faults (K.view store.new).faults }
     ensures stays { StaysUnseen manner.is_seen out.old out.new }
 {
-    let goes_on = manner.goes_on;
+    let course = manner.course;
     match manner.is_seen {
-        true => take_items(alloc, goes_on, engine, items, tally, store, out),
-        false => take_items(alloc, goes_on, engine, items, tally, store, &mut Nowhere),
+        true => take_items(alloc, course, engine, items, tally, store, out),
+        false => take_items(alloc, course, engine, items, tally, store, &mut Nowhere),
     }
 }
 
@@ -94,7 +93,7 @@ fn take<K: Store, O: Sink>(
 // this is to go on.
 fn take_items<K: Store, O: Sink>(
     alloc: Global,
-    goes_on: bool,
+    course: Course,
     engine: &mut Engine,
     items: &[Item],
     tally: &mut StepCounts,
@@ -107,16 +106,16 @@ fn take_items<K: Store, O: Sink>(
     requires few { tally.old.steps + step_count items.now ≤ step_limit }
     requires none { tally.old.faults ≡ 0 }
     ensures taken { (sys : System) (from : Point) → from.counts ≡ tally.old → StandsFor sys engine.old (K.view store.old).records from.state
-        → TakesItems (shown_by_effect goes_on) (IsSome (K.view store.new).records) sys from items.now result tally.new
+        → TakesItems (course_in course) (IsSome (K.view store.new).records) sys from items.now result tally.new
         (RoseBy (K.view store.old).faults (K.view store.new).faults) (K.view store.new).records (K.view store.new).given
         (O.view out.old) (O.view out.new) }
     ensures told_before { IsSome (K.view store.new).records → IsSome (K.view store.old).records }
-    ensures none { goes_on ≡ false → tally.new.faults ≡ 0 }
-    ensures first { goes_on ≡ false → (K.view store.new).faults ≡ faults_after_run result (K.view store.old).faults }
+    ensures none { course.goes_on ≡ false → tally.new.faults ≡ 0 }
+    ensures first { course.goes_on ≡ false → (K.view store.new).faults ≡ faults_after_run result (K.view store.old).faults }
     ensures rises { StaysOrRose (K.view store.old).faults (K.view store.new).faults }
 {
     for item in items {
-        take_item(alloc, goes_on, engine, item, tally, store, out)?;
+        take_item(alloc, course, engine, item, tally, store, out)?;
     }
     Ok(())
 }
@@ -125,7 +124,7 @@ fn take_items<K: Store, O: Sink>(
 // the steps, and a line tells it.
 fn take_item<K: Store, O: Sink>(
     alloc: Global,
-    goes_on: bool,
+    course: Course,
     engine: &mut Engine,
     item: &Item,
     tally: &mut StepCounts,
@@ -141,17 +140,18 @@ fn take_item<K: Store, O: Sink>(
     ensures flow { flow_of engine.new ≡ flow_of engine.old }
     ensures of_steps { AreOfSteps tally.new }
     ensures few { tally.new.steps ≤ tally.old.steps + steps_in item.now }
-    ensures printed { PrintsItem (shown_by_effect goes_on) engine.old (K.view store.old).records item.now tally.old
+    ensures printed { PrintsItem (course_in course) engine.old (K.view store.old).records item.now tally.old
         (RoseBy (K.view store.old).faults (K.view store.new).faults) result engine.new (K.view store.new).records tally.new (O.view out.old) (O.view out.new) }
-    ensures none { goes_on ≡ false → tally.new.faults ≡ tally.old.faults }
+    ensures none { course.goes_on ≡ false → tally.new.faults ≡ tally.old.faults }
     ensures counted { OnOk result (FailsAsCounted tally.old tally.new (K.view store.old).faults (K.view store.new).faults) }
-    ensures first { goes_on ≡ false → (K.view store.new).faults ≡ faults_after_run result (K.view store.old).faults }
+    ensures first { course.goes_on ≡ false → (K.view store.new).faults ≡ faults_after_run result (K.view store.old).faults }
     ensures rises { StaysOrRose (K.view store.old).faults (K.view store.new).faults }
-    ensures stops { IsErrOf result (RunFault.Engine EngineFault.StoreFault) → (goes_on ≡ false) × MayCallIn (flow_of engine.old) item.now }
+    ensures stops { IsErrOf result (RunFault.Engine EngineFault.StoreFault) → (course.goes_on ≡ false) × MayCallIn (flow_of engine.old) item.now }
     ensures damaged { (id : ℕ) → IsErrOf result (RunFault.Engine (EngineFault.Damaged id)) → IsDamaged engine.old id (K.view store.new).given }
     ensures in_recovery { (id : ℕ) → IsErrOf result (RunFault.Engine (EngineFault.Damaged id)) → item.now ≡ Item.One Recover }
 {
-    match perform_item(alloc, engine, item, tally, store, out) {
+    let Course { goes_on, showing } = course;
+    match perform_item(alloc, showing, engine, item, tally, store, out) {
         Ok(()) => Ok(()),
         Err(RunFault::Engine(EngineFault::StoreFault)) if goes_on => {
             tally.count_fault();

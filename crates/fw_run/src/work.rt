@@ -10,8 +10,8 @@ ghost use Rattle.fw_run.specs.Work.{IsWork, IsReadyWork, IsStoreFor, EndsWork, S
 use crate::fault::RunFault;
 use crate::through::perform;
 use fw_command::{
-    CommandWords, Fed, Job, JobFault, LastLine, Manner, fetch_flow, list, print_denotation,
-    read_fed, read_generated, read_job,
+    CommandWords, Course, Fed, Job, JobFault, LastLine, Manner, Showing, fetch_flow, list,
+    print_denotation, read_fed, read_generated, read_job,
 };
 use fw_flow::Flow;
 use fw_outside::{Folder, Sink, Store};
@@ -51,7 +51,10 @@ pub(crate) fn read_work<F: Folder>(
         CommandWords::Generate(words) => match read_generated(alloc, *words) {
             Ok(job) => Ok(Work::Run(
                 Manner {
-                    goes_on: false,
+                    course: Course {
+                        goes_on: false,
+                        showing: Showing::Effects,
+                    },
                     is_seen: false,
                     last: LastLine::Seed(*words),
                 },

@@ -6,6 +6,7 @@ use Rattle.fw_running.specs.Faults as engine
 use Rattle.fw_running.specs.Steps.{outcome_of}
 use Rattle.fw_run.proofs.FaultCounts.{told_after}
 use Rattle.fw_run.proofs.ItemPrintLaws.{auto-none, auto-more, auto-ends, auto-full, auto_begun, auto_stopped, few_stopped, few_taken, few_cut}
+use Rattle.fw_run.proofs.TakenLaws.{cut_alone, written_alone}
 use Rattle.fw_run.proofs.TallyLaws.{of_steps-more, steps-more, faults-more}
 use Rattle.fw_run.proofs.perform.perform_auto.Goals as goal
 
@@ -39,15 +40,15 @@ loop-preserved g c =
       counted = omega (arith, c.loop.invariant.counted, steps-more c.loop.tally c.count.new.self (outcome_of c.in_ok-stepped.stepped) c.count.ensures);
       none = faults-more c.loop.tally c.count.new.self (outcome_of c.in_ok-stepped.stepped) c.count.ensures ∙ c.loop.invariant.none;
       auto = auto-more c.args.engine.now c.loop.engine c.auto_step.new.self (known c.args.store.now).records (known c.loop.store).records (known c.auto_step.new.store).records c.flow.result.now c.in_ok-stepped.stepped c.loop.counter
-          c.args.tally.now c.loop.tally c.count.new.self (view c.args.out.now) (view c.loop.out) (view c.print.new.out) c.loop.invariant.auto c.count.ensures c.flow.ensures c.in_ok-stepped.ensures.ok (sym c.is_idle.ensures ∙ c.if-is_idle.false) c.in_ok-print.ensures;
+          c.args.tally.now c.loop.tally c.count.new.self (view c.args.out.now) (view c.loop.out) (view c.print.new.out) c.loop.invariant.auto c.count.ensures c.flow.ensures c.in_ok-stepped.ensures.ok (sym c.is_idle.ensures ∙ c.if-is_idle.false) (written_alone c.in_ok-print.ensures);
     }
 
 pub returns-in_err-stepped-clause-printed : goal.returns-in_err-stepped-clause-printed
-returns-in_err-stepped-clause-printed g c =
+returns-in_err-stepped-clause-printed g c showing =
     let p = err_from_is_err_and c.from_residual.result c.from_residual.ensures.1 in
     let known = g.K.Store.view in
     let view = g.O.Sink.view in
-    rw (p.1, p.2) (auto_stopped c.args.engine.now c.loop.engine c.auto_step.new.self (known c.args.store.now).records (known c.loop.store).records (known c.auto_step.new.store).records c.loop.counter c.args.most c.args.tally.now c.loop.tally _ (view c.args.out.now) (view c.loop.out)
+    rw (p.1, p.2) (auto_stopped showing c.args.engine.now c.loop.engine c.auto_step.new.self (known c.args.store.now).records (known c.loop.store).records (known c.auto_step.new.store).records c.loop.counter c.args.most c.args.tally.now c.loop.tally _ (view c.args.out.now) (view c.loop.out)
     c.loop.invariant.auto c.loop-test.true c.in_err-stepped.ensures.calls c.in_err-stepped.ensures.faulted c.in_err-stepped.ensures.unharmed)
 
 pub returns-in_err-stepped-clause-few : goal.returns-in_err-stepped-clause-few
@@ -63,20 +64,20 @@ returns-in_err-stepped-clause-faults g c =
     (subst (λ (before : ℕ). (known c.auto_step.new.store).faults ≡ engine.faults_after_step {T = Stepped} (Err c.in_err-stepped.field-0.0) before) c.loop.invariant.faults c.in_err-stepped.ensures.faults))
 
 pub returns-then-is_idle-clause-printed : goal.returns-then-is_idle-clause-printed
-returns-then-is_idle-clause-printed g c =
+returns-then-is_idle-clause-printed g c showing =
     let known = g.K.Store.view in
     let view = g.O.Sink.view in
-    auto-ends c.args.engine.now c.loop.engine c.auto_step.new.self (known c.args.store.now).records (known c.loop.store).records (known c.auto_step.new.store).records c.in_ok-stepped.stepped c.loop.counter c.args.most c.args.tally.now c.loop.tally tt (view c.args.out.now) (view c.loop.out)
+    auto-ends showing c.args.engine.now c.loop.engine c.auto_step.new.self (known c.args.store.now).records (known c.loop.store).records (known c.auto_step.new.store).records c.in_ok-stepped.stepped c.loop.counter c.args.most c.args.tally.now c.loop.tally tt (view c.args.out.now) (view c.loop.out)
     c.loop.invariant.auto c.loop-test.true c.in_ok-stepped.ensures.ok (sym c.is_idle.ensures ∙ c.if-is_idle.true)
 
 pub returns-in_err-print-clause-printed : goal.returns-in_err-print-clause-printed
-returns-in_err-print-clause-printed g c =
+returns-in_err-print-clause-printed g c showing =
     let p = err_from_is_err_and c.from_residual-in_err-print.result c.from_residual-in_err-print.ensures.1 in
     let known = g.K.Store.view in
     let view = g.O.Sink.view in
-    rw (p.1, p.2) (auto_begun c.args.engine.now c.loop.engine c.auto_step.new.self (known c.args.store.now).records (known c.loop.store).records (known c.auto_step.new.store).records c.flow.result.now c.in_ok-stepped.stepped c.loop.counter c.args.most c.args.tally.now c.loop.tally c.count.new.self _
+    rw (p.1, p.2) (auto_begun showing c.args.engine.now c.loop.engine c.auto_step.new.self (known c.args.store.now).records (known c.loop.store).records (known c.auto_step.new.store).records c.flow.result.now c.in_ok-stepped.stepped c.loop.counter c.args.most c.args.tally.now c.loop.tally c.count.new.self _
     (view c.args.out.now) (view c.loop.out) (view c.print.new.out)
-    c.loop.invariant.auto c.loop-test.true c.count.ensures c.flow.ensures c.in_ok-stepped.ensures.ok (sym c.is_idle.ensures ∙ c.if-is_idle.false) c.in_err-print.ensures)
+    c.loop.invariant.auto c.loop-test.true c.count.ensures c.flow.ensures c.in_ok-stepped.ensures.ok (sym c.is_idle.ensures ∙ c.if-is_idle.false) (cut_alone c.in_err-print.ensures))
 
 pub returns-in_err-print-clause-few : goal.returns-in_err-print-clause-few
 returns-in_err-print-clause-few g c =
@@ -86,11 +87,11 @@ returns-in_err-print-clause-few g c =
     (omega (arith, c.loop.invariant.counted, steps-more c.loop.tally c.count.new.self one c.count.ensures)) (omega (arith, c.loop-test.true)))
 
 pub returns-clause-printed : goal.returns-clause-printed
-returns-clause-printed g c =
+returns-clause-printed g c showing =
     let known = g.K.Store.view in
     let view = g.O.Sink.view in
     let all : c.loop.counter ≡ c.args.most = omega (arith, c.loop-test.false, c.loop.auto.counter-end) in
-    auto-full c.args.engine.now c.loop.engine (known c.args.store.now).records (known c.loop.store).records c.loop.counter c.args.most c.args.tally.now c.loop.tally tt (view c.args.out.now) (view c.loop.out) c.loop.invariant.auto all
+    auto-full showing c.args.engine.now c.loop.engine (known c.args.store.now).records (known c.loop.store).records c.loop.counter c.args.most c.args.tally.now c.loop.tally tt (view c.args.out.now) (view c.loop.out) c.loop.invariant.auto all
 
 pub returns-clause-few : goal.returns-clause-few
 returns-clause-few g c =

@@ -7,7 +7,7 @@ use Rattle.fw_run.proofs.ThroughLaws.{taken-none, taken-more, taken-all, taken-t
 use Rattle.fw_run.specs.declared.tally.StepCounts.{StepCounts}
 use Rattle.fw_run.specs.Enduring.{with_faults, RoseBy}
 use Rattle.fw_run.specs.Fault.{faults_after_run}
-use Rattle.fw_command.specs.Command.{shown_by_effect}
+use Rattle.fw_command.specs.Manner.{course_in}
 use Rattle.fw_run.proofs.through.take_items.Goals as goal
 
 pub take_item-requires-clause-room : goal.take_item-requires-clause-room
@@ -25,7 +25,7 @@ loop-item-init g c = record {
   few = omega arith;
   none = λ ends. c.requires.none;
   rose_by = ap (λ (n : ℕ). with_faults n (g.K.Store.view c.args.store.now).faults) (sym c.requires.none);
-  taken = λ sys from e st. taken-none (shown_by_effect c.args.goes_on) (IsSome (g.K.Store.view c.args.store.now).records) sys from c.args.items.now c.args.engine.now
+  taken = λ sys from e st. taken-none (course_in c.args.course) (IsSome (g.K.Store.view c.args.store.now).records) sys from c.args.items.now c.args.engine.now
       (g.K.Store.view c.args.store.now).records c.args.tally.now (g.O.Sink.view c.args.out.now) e c.requires.of_steps.sum st;
 }
 
@@ -38,7 +38,7 @@ loop-item-preserved g c =
     let inv = c.loop-item.invariant in
     let taken = c.take_item.ensures in
     let more = c.in_ok-take_item.ensures.counted in
-    let course = shown_by_effect c.args.goes_on in
+    let course = course_in c.args.course in
     record {
       stored = taken.stored;
       in_order = taken.in_order;
@@ -62,7 +62,7 @@ returns-in_err-take_item-clause-taken g c sys from e st =
     let view = g.O.Sink.view in
     let inv = c.loop-item.invariant in
     let tells = IsSome (known c.take_item.new.store).records in
-    let course = shown_by_effect c.args.goes_on in
+    let course = course_in c.args.course in
     let at = c.in_err-take_item.ensures in
     let none = ap (λ (tally : StepCounts). tally.faults) e ∙ c.requires.none in
     let u = taken-told c.take_item.ensures.told_before (inv.taken sys from e st) in
@@ -100,7 +100,7 @@ returns-clause-taken g c sys from e st =
     let known = g.K.Store.view in
     let view = g.O.Sink.view in
     let inv = c.loop-item.invariant in (
-      taken-all (shown_by_effect c.args.goes_on) (IsSome (known c.loop-item.store).records) sys from c.args.items.now c.loop-item.item-index c.loop-item.engine (known c.loop-item.store).records
+      taken-all (course_in c.args.course) (IsSome (known c.loop-item.store).records) sys from c.args.items.now c.loop-item.item-index c.loop-item.engine (known c.loop-item.store).records
           c.loop-item.tally (view c.args.out.now) (view c.loop-item.out) inv.in_order (inv.taken sys from e st) c.loop-item-test.false,
       inv.rose_by,
     )

@@ -50,9 +50,8 @@ impl Going for AtSome<'_> {
     ghost goes = { λ going e. is_at_some going.events.now e };
 
     fn takes(&self, entry: &Entry) -> bool {
-        self.events
-            .iter()
-            .any(|event| entry.node == event.node && entry.written.is_event_at(&event.at))
+        self.events.iter().any(|event| entry.node == event.node
+            && entry.written.is_event_at(&event.at))
     }
 }
 

@@ -1,7 +1,11 @@
 -- The greatest cut of a node, if there is one.
-use Rattle.std.proofs.Common.{◌≡◌, ℕ, ◌<◌, Bool, true, false, List, [], ◌∷◌, length, refl, sym, subst, ◌∙◌, inl, inr}
-use Rattle.std.specs.List.{AllByRecursion, list_all}
+use Rattle.std.proofs.Common.{◌≡◌, ◌⊎◌, ℕ, ◌<◌, Bool, true, false, cond, List, [], ◌∷◌, length, reverse, None, Some, refl, sym, ap, subst, ◌∙◌, inl, inr}
+use Rattle.std.specs.List.{AllByRecursion, find, list_all}
+use Rattle.std.specs.Option.{option_or}
+use Rattle.std.specs.Prelude.{Option}
 use Rattle.std.proofs.lemmas.Bool.{and_parts, and_from, both_ways}
+use Rattle.std.proofs.lemmas.Grind.{reverse_onto}
+use Rattle.std.proofs.lemmas.List.Folds.{find-append}
 use Rattle.fw_lemmas.proofs.Each.{each-both, each-of_all, all-of_each, each-weaker}
 use Rattle.fw_time.specs.Stamp.{in_domain}
 use Rattle.fw_time.specs.declared.stamp.Bounds.{Bounds}
@@ -23,6 +27,36 @@ use Rattle.fw_model.specs.Lowerings.{choice_of}
 use Rattle.fw_model.specs.Certificates.{IsBeginning, IsGreatestOffered}
 use Rattle.fw_certify.specs.Checked.{AreCanonicalFronts, IsGreatestFront}
 use Rattle.fw_certify.proofs.LeftLaws.{listed-each, listed-found}
+
+-- ---- the last record that passes a test
+
+back-step : (p : Recorded → Bool) (r : Recorded) (rs : List Recorded) → find p (reverse (r ∷ rs)) ≡ option_or (find p (reverse rs)) (cond (p r) (Some r) None)
+back-step p r rs = ap (find p) (reverse_onto rs r []) ∙ find-append p (reverse rs) (r ∷ [])
+
+found-either : (o : Option Recorded) (b : Bool) (r x : Recorded) → option_or o (cond b (Some r) None) ≡ Some x → (o ≡ Some x) ⊎ ((b ≡ true) × (r ≡ x))
+found-either None true r x e = inr (refl, cc)
+found-either None false r x e = absurd (cc)
+found-either (Some y) b r x e = inl e
+
+found-neither : (o : Option Recorded) (b : Bool) (r : Recorded) → option_or o (cond b (Some r) None) ≡ None → (o ≡ None) × (b ≡ false)
+found-neither None true r e = absurd (cc)
+found-neither None false r e = (refl, refl)
+found-neither (Some y) b r e = absurd (cc)
+
+-- what a search from the last record back finds is one of them, and passes
+pub found_back : (p : Recorded → Bool) (rs : List Recorded) (x : Recorded) → find p (reverse rs) ≡ Some x → IsListed x.front rs × (p x ≡ true)
+found_back p [] x e = absurd (cc)
+found_back p (r ∷ rs) x e = elim (found-either (find p (reverse rs)) (p r) r x (sym (back-step p r rs) ∙ e)) [
+  | inl h ↦ (let k : IsListed x.front rs × (p x ≡ true) = found_back p rs x h in (inr k.0, k.1))
+  | inr h ↦ (inl (ap (λ (y : Recorded). y.front) h.1), subst (λ y. p y ≡ true) h.1 h.0)
+]
+
+-- and where it finds none, none passes
+pub none_back : (p : Recorded → Bool) (rs : List Recorded) → find p (reverse rs) ≡ None → AllByRecursion (λ r. p r ≡ false) rs
+none_back p [] e = tt
+none_back p (r ∷ rs) e =
+    let k : (find p (reverse rs) ≡ None) × (p r ≡ false) = found-neither (find p (reverse rs)) (p r) r (sym (back-step p r rs) ∙ e) in
+    (k.1, none_back p rs k.0)
 
 -- ---- records
 

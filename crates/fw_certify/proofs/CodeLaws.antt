@@ -1,6 +1,6 @@
 -- What the checker's code finds, as it asks.
-use Rattle.std.proofs.Common.{◌≡◌, ◌≢◌, ◌⊎◌, ◌↔◌, ℕ, zero, suc, ◌+◌, ◌<◌, ◌≤◌, Bool, true, false, not, ◌||◌, ◌==◌, List, [], ◌∷◌, ◌++◌, length, get_or, set, take, Some, None, refl, sym, ap, subst, ◌∙◌, inl, inr, arith}
-use Rattle.std.specs.List.{AllByRecursion, list_all}
+use Rattle.std.proofs.Common.{◌≡◌, ◌↔◌, ℕ, zero, suc, ◌+◌, ◌<◌, ◌≤◌, Bool, true, false, not, ◌||◌, ◌==◌, List, [], ◌∷◌, ◌++◌, length, reverse, get_or, set, take, Some, None, refl, sym, ap, subst, ◌∙◌, inl, inr, arith}
+use Rattle.std.specs.List.{AllByRecursion, find, list_all}
 use Rattle.std.proofs.lemmas.Bool.{both_ways, eqb-false, eqb-true}
 use Rattle.std.specs.Prelude.{slice_get, IfSome, IsSome, MatchOption, Option}
 use Rattle.std.proofs.lemmas.List.{get_or_default, get_or_read, take_all, take_more}
@@ -43,9 +43,9 @@ use Rattle.fw_certify.specs.declared.checker.Verdict.{Verdict}
 use Rattle.fw_certify.specs.declared.checker.Verdict.TheVariants.{Yes, No}
 use Rattle.fw_certify.proofs.CertificateLaws.{certificate-largest}
 use Rattle.fw_certify.proofs.FollowLaws.{certificate-is, dead_end-is, dead_end-nowhere, dead_end-wrong, verdict-end, verdict-wrong}
-use Rattle.fw_certify.proofs.BeginLaws.{batches-greatest, batches-none, between-greatest, between-none, front-greatest, front-none, listed-greatest, listed-none, present-greatest}
+use Rattle.fw_certify.proofs.BeginLaws.{batches-greatest, batches-none, between-greatest, between-none, found_back, front-greatest, front-none, listed-greatest, listed-none, none_back, present-greatest}
 use Rattle.fw_certify.proofs.EntryLaws.{said-one, said-told}
-use Rattle.fw_certify.proofs.LeftLaws.{all-left, greatest-at, greatest-present, listed-found, offered-fronts, records-held}
+use Rattle.fw_certify.proofs.LeftLaws.{all-left, greatest-at, greatest-present, offered-fronts, records-held}
 use Rattle.fw_certify.proofs.JudgeLaws.{cut_greatest-is, cut_left-is, meet-is, note-present, note_greatest-is}
 
 -- ---- entries
@@ -553,13 +553,15 @@ front-same x y f g r e h k = ((λ t. e ∙ ap At (k.0 t) ∙ sym h), (λ same. k
 pub listed-front : (b : Bounds) (x : Offered) (rs s : List Recorded) (f : Front) → x ≡ form.Listed rs → s ≡ rs → IsGreatestFront b (form.Listed s) f → IsGreatestFront b x f
 listed-front b x rs s f e same k = subst (λ y. IsGreatestFront b y f) (ap form.Listed same ∙ sym e) k
 
-pub record-greatest : (b : Bounds) (rs : List Recorded) (i : ℕ) (r : Recorded) (f : Front) → AreCanonicalFronts b (form.Listed rs) → i < length rs → r ≡ get_or rs i r → f ≡ r.front
-    → list_all (λ s. is_within s.front r.front) rs ≡ true → IsGreatestFront b (form.Listed rs) f
-record-greatest b rs i r f k l is same all = subst (IsGreatestFront b (form.Listed rs)) (sym same) (listed-greatest b rs r.front k (listed-here r.front rs i r l is refl) all)
+pub record-greatest : (b : Bounds) (rs : List Recorded) (o : Option Recorded) (r : Recorded) (f : Front) → AreCanonicalFronts b (form.Listed rs) → o ≡ Some r → f ≡ r.front
+    → o ≡ find (λ x. list_all (λ s. is_within s.front x.front) rs) (reverse rs) → IsGreatestFront b (form.Listed rs) f
+record-greatest b rs o r f k is same found =
+    let one : IsListed r.front rs × (list_all (λ s. is_within s.front r.front) rs ≡ true) = found_back (λ x. list_all (λ s. is_within s.front x.front) rs) rs r (sym found ∙ is) in
+    subst (IsGreatestFront b (form.Listed rs)) (sym same) (listed-greatest b rs r.front k one.0 one.1)
 
-pub records-no_greatest : (b : Bounds) (rs : List Recorded) (i : ℕ) (f : Front) → AreCanonicalFronts b (form.Listed rs) → length rs ≤ i
-    → AllByRecursion (λ r. list_all (λ s. is_within s.front r.front) rs ≡ false) (take i rs) → IsGreatestFront b (form.Listed rs) f → ⊥
-records-no_greatest b rs i f k l none = listed-none b rs f k (subst (AllByRecursion (λ r. list_all (λ s. is_within s.front r.front) rs ≡ false)) (take_all i rs l) none)
+pub records-no_greatest : (b : Bounds) (rs : List Recorded) (o : Option Recorded) (f : Front) → AreCanonicalFronts b (form.Listed rs) → o ≡ None
+    → o ≡ find (λ x. list_all (λ s. is_within s.front x.front) rs) (reverse rs) → IsGreatestFront b (form.Listed rs) f → ⊥
+records-no_greatest b rs o f k is found = listed-none b rs f k (none_back (λ x. list_all (λ s. is_within s.front x.front) rs) rs (sym found ∙ is))
 
 pub between-front : (b : Bounds) (least greatest f : Front) (r : Bool) → IsCanonical b greatest → r ≡ true → ((r ≡ true) ↔ Within (frontier_of b least) (frontier_of b greatest)) → f ≡ greatest
     → IsGreatestFront b (form.Between least greatest) f

@@ -1,6 +1,7 @@
 //! The values that all lowerings start from.
-ghost use Rattle.std.specs.Prelude.{◌≡◌, ◌<◌, ℕ, [], length, IfOk, MatchOption};
-ghost use Rattle.std.specs.List.{list_all};
+ghost use Rattle.std.specs.Prelude.{◌≡◌, ◌<◌, ℕ, [], length, reverse, IfOk, MatchOption};
+ghost use Rattle.std.specs.List.{find, list_all};
+ghost use Rattle.std.specs.Option.{option_copied};
 ghost use Rattle.fw_time.specs.declared.stamp.Bounds.{Bounds as Domain};
 ghost use Rattle.fw_frontier.specs.Front.{Front as Outside, IsCanonical, is_within};
 ghost use Rattle.fw_flow.specs.declared.choice.Choice as choices;
@@ -129,12 +130,21 @@ fn greatest_listed(records: &[Recorded]) -> Result<Option<Front>, AllocError>
         ((front : Outside) → IsGreatestFront bounds (form.Listed records.now) front → ⊥)
         (IsGreatestFront bounds (form.Listed records.now))) }
 {
-    for record in records {
-        if holds_all(records, &record.front) {
-            return Ok(Some(record.front.copy()?));
-        }
+    match last_greatest(records) {
+        Some(record) => Ok(Some(record.front.copy()?)),
+        None => Ok(None),
     }
-    Ok(None)
+}
+
+/// The last record within whose frontier those of all lie, if there is one. The last of all is asked first: where records ascend,
+/// it is the one.
+fn last_greatest(records: &[Recorded]) -> Option<&Recorded>
+    ensures { option_copied result ≡ find (λ r. list_all (λ s. is_within s.front r.front) records.now) (reverse records.now) }
+{
+    records
+        .iter()
+        .rev()
+        .find(|record| holds_all(records, &record.front))
 }
 
 /// Whether each record's frontier lies within a frontier.

@@ -1,5 +1,5 @@
 -- What is told behind the lines of a step: in each state to which steps lead there is something to tell, and it is one.
-use Rattle.std.proofs.Common.{◌≡◌, ℕ, Bool, true, false, List, [], ◌∷◌, ◌++◌, map, length, Option, None, Result, Ok, Err, refl, sym, ◌∙◌, ap, subst}
+use Rattle.std.proofs.Common.{◌≡◌, ℕ, true, false, List, [], ◌∷◌, ◌++◌, map, length, Option, None, Result, Ok, Err, refl, sym, ◌∙◌, ap, subst}
 use Rattle.std.proofs.lemmas.Bool.{true≢false}
 use Rattle.std.specs.Fmt.{decimal}
 use Rattle.std.specs.Prelude.{IfOk, codes}
@@ -36,7 +36,7 @@ use Rattle.fw_choose.specs.declared.viewing.Lost.TheVariants as lost
 use Rattle.fw_choose.specs.Outlooks.{IsOutlookOf}
 use Rattle.fw_engine.specs.declared.engine.Engine.{Engine}
 use Rattle.fw_engine.specs.Engine.{ForEachState, IsNoneFailed, flow_of}
-use Rattle.fw_run.specs.Explained.{AreReasonsOf, AreReasonsFor, IsJudgedText, IsToldBehind, judged_text, verdict_word}
+use Rattle.fw_run.specs.Explained.{AreReasonsFor, IsJudgedText, IsToldBehind, judged_text, verdict_word}
 use Rattle.fw_run.specs.Reports.{AreLinesOf}
 use Rattle.fw_run.specs.TellingMore.{LinesAreOne}
 use Rattle.fw_command.specs.Command.{Showing, by_effect, with_certificates}
@@ -102,10 +102,6 @@ others-told showing sys state step other next outcome t = quiet-told showing sys
     none choice e =
         let shows = shows-cuts sys state next step choice (subst (StepsTo sys state step next) e t) in
         two_ways (is_recovery step) (is_recovery-of step shows.0) other
-
--- and where effects alone are shown
-pub effects-told : (sys : System) (state : Machine) (step : Step) → AreReasonsFor by_effect sys state step []
-effects-told sys state step next outcome t = refl
 
 -- and of a recovery where no node is failed
 pub none-told : (sys : System) (state : Machine) (step : Step) → IsNoneFailed state → AreReasonsFor with_certificates sys state step []

@@ -1,6 +1,5 @@
-use Rattle.std.proofs.Common.{List, ◌++◌, length, ap, subst, ◌∙◌}
-use Rattle.std.specs.Prelude.{codes, string_bytes}
-use Rattle.std.specs.Fmt.{decimal}
+use Rattle.std.proofs.Common.{length, ap, subst, ◌∙◌}
+use Rattle.std.specs.Prelude.{string_bytes}
 use Rattle.std.proofs.lemmas.Result.{IfOk-weaker}
 use Rattle.fw_model.specs.Offers.{IsOffered, covers_of}
 use Rattle.fw_certify.specs.Checked.{IsVerdict}

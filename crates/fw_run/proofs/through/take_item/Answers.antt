@@ -1,4 +1,4 @@
-use Rattle.std.proofs.Common.{rules, ◌≡◌, ℕ, ◌+◌, ◌∙◌, false, ap, sym, subst, Ok, Err, arith}
+use Rattle.std.proofs.Common.{rules, ◌≡◌, ℕ, ◌+◌, ◌∙◌, ap, sym, subst, Ok, Err, arith}
 use Rattle.std.proofs.lemmas.Result.{err_from_is_err_and}
 use Rattle.fw_flow.specs.Dataflow.{Dataflow}
 use Rattle.fw_run.proofs.EnduringItemLaws.{through-taken, through-stopped, through-fault, through-fault_cut, stopped_count, fault_of_answer}

@@ -1,5 +1,5 @@
 -- Messages in the order of appending, and in order.
-use Rattle.std.proofs.Common.{◌≡◌, ℕ, zero, suc, ◌+◌, ◌-◌, ◌≤◌, Bool, false, List, [], ◌∷◌, ◌++◌, length, filter, take, take_all, Some, refl, sym, ap, subst, ◌∙◌, get_or, arith}
+use Rattle.std.proofs.Common.{◌≡◌, ℕ, zero, suc, ◌+◌, ◌-◌, ◌≤◌, ◌&&◌, Bool, true, false, cond, List, [], ◌∷◌, ◌++◌, length, filter, take, take_all, Some, refl, sym, ap, subst, ◌∙◌, get_or, arith}
 use Rattle.std.specs.Prelude.{slice_get}
 use Rattle.std.specs.List.{fold}
 use Rattle.std.specs.List.Sorted.{IsPermutation, IsSorted}
@@ -108,6 +108,18 @@ in_order-sorted xs ys p s =
 -- of messages in order what passes is in order
 pub in_order-filter : (test : Message → Bool) (xs ys : List Message) → ys ≡ filter test xs → sorted_messages xs ≡ xs → sorted_messages ys ≡ ys
 in_order-filter test xs ys is s = subst (λ (zs : List Message). sorted_messages zs ≡ zs) (sym is) (sorted_messages-filter test xs ∙ ap (filter test) s)
+
+-- what passes both of two tests is what passes the one of what passes the other
+pub filter-both : {A : Type 0} (a b : A → Bool) (xs : List A) → filter (λ x. a x && b x) xs ≡ filter a (filter b xs)
+filter-both a b [] = refl
+filter-both a b (x ∷ xs) = by (a x) (b x) refl (filter-both a b xs)
+  where
+    by : (c d : Bool) → a x ≡ c → filter (λ y. a y && b y) xs ≡ filter a (filter b xs)
+        → cond (c && d) (x ∷ filter (λ y. a y && b y) xs) (filter (λ y. a y && b y) xs) ≡ filter a (cond d (x ∷ filter b xs) (filter b xs))
+    by true true e h = ap (λ ys. x ∷ ys) h ∙ sym (ap (λ k. cond k (x ∷ filter a (filter b xs)) (filter a (filter b xs))) e)
+    by false true e h = h ∙ sym (ap (λ k. cond k (x ∷ filter a (filter b xs)) (filter a (filter b xs))) e)
+    by true false e h = h
+    by false false e h = h
 
 -- of all messages those that pass were copied
 pub copied-all : (test : Message → Bool) (n : ℕ) (items xs copies : List Message) → items ≡ xs → length items ≤ n → copies ≡ filter test (take n items)

@@ -1,6 +1,7 @@
 //! What a node may have to send again on an edge.
-ghost use Rattle.std.specs.Prelude.{◌≡◌, ◌↔◌, [], ◌∷◌, ◌++◌, false, true, IsTrue, IsErr, IfOk, OnOk, OnErr};
+ghost use Rattle.std.specs.Prelude.{◌≡◌, ◌↔◌, ◌&&◌, [], ◌∷◌, ◌++◌, false, true, not, filter, IsTrue, IsErr, IfOk, OnOk, OnErr};
 ghost use Rattle.fw_frontier.specs.Front.{inside};
+ghost use Rattle.fw_flow.specs.Projection.{all_inside};
 ghost use Rattle.fw_model.specs.Filtering.{messages_from, messages_outside};
 ghost use Rattle.fw_model.specs.SortedMessages.{with_message, sorted_messages};
 
@@ -91,6 +92,21 @@ impl MsgLog {
         Ok(in_order(copies, self.ascends))
     }
 
+    /// Copies of the messages all of whose causes are inside, but not all inside an earlier frontier, in order. Of what came before
+    /// nothing is copied, and room is asked for as messages are. The only error is want of memory.
+    pub fn caused_since(&self, earlier: &Front, f: &Front) -> Result<Vec<Message>, AllocError>
+        ensures { IfOk result (λ ms. ms.items
+            ≡ filter (λ m. not (all_inside (inside earlier.now) m.causes)) (messages_from (inside f.now) self.now.messages)) }
+    {
+        let mut copies = Vec::new(*self.messages.allocator());
+        for message in &self.messages {
+            if comes_since(message, earlier, f) {
+                copies.push(message.copy())?;
+            }
+        }
+        Ok(in_order(copies, self.ascends))
+    }
+
     /// Whether the log has no message.
     pub fn is_empty(&self) -> bool
         ensures empty { IsTrue result ↔ (self.now.messages ≡ []) }
@@ -119,6 +135,14 @@ impl MsgLog {
     {
         self.messages.retain(|message| !f.contains(&message.at));
     }
+}
+
+// Whether all causes of a message are inside, but not all inside an earlier frontier. That is asked first: most of a long log is
+// from before.
+fn comes_since(message: &Message, earlier: &Front, f: &Front) -> bool
+    ensures { result ≡ (not (all_inside (inside earlier.now) message.now.causes) && all_inside (inside f.now) message.now.causes) }
+{
+    !comes_from(message, earlier) && comes_from(message, f)
 }
 
 // Whether messages are known to ascend with one more after them, where `ascend` tells whether they are known to.

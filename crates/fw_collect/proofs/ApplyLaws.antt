@@ -8,7 +8,7 @@ use Rattle.std.proofs.Math.Bool.{or-false}
 use Rattle.fw_lemmas.proofs.Bools.{or_swap}
 use Rattle.fw_lemmas.proofs.Filters.{filter-in, filter-out}
 use Rattle.fw_keep.specs.declared.entry.Entry.{Entry}
-use Rattle.fw_keep.specs.Catalogue.{KeepState, AreDistinct, is_id_among, has_entry, ids_of, without}
+use Rattle.fw_keep.specs.Catalogue.{KeepState, is_id_among, has_entry, ids_of, without}
 use Rattle.fw_keep.specs.Entry.{is_checkpoint, is_checkpoint_below, is_entry_below}
 use Rattle.fw_keep.specs.Newest.{is_checkpoint_of, is_forgotten_below, stay_from, whole_or}
 use Rattle.fw_keep.specs.Stored.{Records, IsStored}
@@ -19,6 +19,7 @@ use Rattle.fw_flow.specs.declared.event.Message.{Message}
 use Rattle.fw_edge.specs.Messages.{MessagesState}
 use Rattle.fw_border.specs.Sources.{SourceState, unused_source, source_at, with_source, given_up}
 use Rattle.fw_collect.specs.declared.drops.OfNode.{OfNode}
+use Rattle.fw_collect.specs.LawsOfCollections.{ForgetsBelowEach}
 use Rattle.fw_collect.specs.Dropped.{Forgets, is_below_some, log_at_place, log_outside, with_log_outside, log_left, is_inside_edge, is_inside_node, source_left}
 
 or_none : (a b : Bool) → (a || b) ≡ false → (a ≡ false) × (b ≡ false)
@@ -196,10 +197,6 @@ forgets_below_more records i d first now next l so_far is stored =
 
 -- ---- checkpoints of different nodes
 
--- the fronts are of different nodes
-abbrev pub AreOfDifferentNodes : List OfNode → Type 0
-AreOfDifferentNodes fronts = AreDistinct (map (λ (d : OfNode). d.node) fronts)
-
 -- what goes of a node's entries does not change where entries of another one went
 others-alike : (d : OfNode) (keep : KeepState) (e : Entry) (x : OfNode) → (x.node == d.node) ≡ false
     → is_forgotten_below x.node x.front (without (is_forgotten_below d.node d.front keep) keep) e ≡ is_forgotten_below x.node x.front keep e
@@ -222,12 +219,11 @@ each-alike d keep e (x ∷ xs) apart =
     ∙ ap (λ b. is_forgotten_below x.node x.front keep e || b) (each-alike d keep e xs parts.1)
 
 -- where the nodes are different each front finds of its node what was there at first
-pub below-each : (ds : List OfNode) (keep : KeepState) (e : Entry) → AreOfDifferentNodes ds
-    → is_below_some ds keep e ≡ list_any (λ (d : OfNode). is_forgotten_below d.node d.front keep e) ds
-below-each [] keep e once = refl
-below-each (d ∷ ds) keep e once =
+pub forgets_below_each : ForgetsBelowEach
+forgets_below_each [] keep e once = refl
+forgets_below_each (d ∷ ds) keep e once =
     ap (λ b. is_forgotten_below d.node d.front keep e || b)
-    (below-each ds (without (is_forgotten_below d.node d.front keep) keep) e once.1 ∙ each-alike d keep e ds once.0)
+    (forgets_below_each ds (without (is_forgotten_below d.node d.front keep) keep) e once.1 ∙ each-alike d keep e ds once.0)
 
 -- ---- places
 

@@ -40,8 +40,8 @@ use Rattle.fw_collect.specs.declared.drops.OfNode.{OfNode}
 use Rattle.fw_collect.specs.declared.drops.Drops.{Drops}
 use Rattle.fw_collect.specs.Drops.{IsPlanned, of_node, without_batches, dropped_records, dropped_events, dropped_messages, dropped_batches, given_up_event}
 use Rattle.fw_collect.specs.Dropped.{is_dropped, is_below_some, is_at_some, is_inside_edge, is_inside_node, log_outside, log_left, source_left}
-use Rattle.fw_collect.specs.LawsOfCollections.{is_written_given_up, is_entry_given_up, DropsWhatIsGivenUp, DropsMessagesBelowReceivers, DropsBatchesOfInputs, GoesWith, LogsHoldWhatIsOutside, InputsHoldWhatIsOutside}
-use Rattle.fw_collect.proofs.ApplyLaws.{AreOfDifferentNodes, below-each, filter_then, filter_nothing, cond_ap}
+use Rattle.fw_collect.specs.LawsOfCollections.{AreOfDifferentNodes, is_written_given_up, is_entry_given_up, DropsWhatIsGivenUp, DropsMessagesBelowReceivers, DropsBatchesOfInputs, GoesWith, LogsHoldWhatIsOutside, InputsHoldWhatIsOutside}
+use Rattle.fw_collect.proofs.ApplyLaws.{forgets_below_each, filter_then, filter_nothing, cond_ap}
 
 -- ---- one place of those that pass a test
 
@@ -144,7 +144,7 @@ below-planned flow low keep e =
     let test : ℕ → Bool = λ p. takes_checkpoints (policy_of flow p) in
     let before : ℕ → Bool = λ p. nat_lt e.id (stay_from p (front_of low p) 0 keep.next keep.entries) in
     let below : ℕ → Bool = λ p. is_checkpoint_below (front_of low p) e.written in
-    below-each (dropped_records flow low) keep e (planned-once flow low)
+    forgets_below_each (dropped_records flow low) keep e (planned-once flow low)
     ∙ any-map (λ (d : OfNode). is_forgotten_below d.node d.front keep e) (of_node low) (filter test (node_ids flow))
     ∙ any-alike (λ p. is_forgotten_below p (front_of low p) keep e) (λ p. (e.node == p) && (below p && before p)) (λ p. and-assoc (e.node == p) (below p) (before p)) (filter test (node_ids flow))
     ∙ any-of_place test (λ p. below p && before p) e.node (length flow.nodes) (policy-past flow e.node)

@@ -30,7 +30,7 @@ without_batches flow = record { flow = flow; batches = [] }
 abbrev pub of_node : List Front → ℕ → OfNode
 of_node low p = record { node = p; front = front_of low p }
 
--- each node that takes checkpoints, with its front: the checkpoints strictly within, on which none stands that is not, are given up
+-- each node that takes checkpoints, with its front: the checkpoints strictly within, on which none stands that stays, are given up
 abbrev pub dropped_records : Dataflow → List Front → List OfNode
 dropped_records flow low = map (of_node low) (filter (λ p. takes_checkpoints (policy_of flow p)) (node_ids flow))
 

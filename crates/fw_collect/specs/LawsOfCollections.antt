@@ -1,6 +1,6 @@
 -- Laws of collections: what is planned and given up is what the machine's collection takes.
-use Rattle.std.specs.Prelude.{◌≡◌, ℕ, ◌<◌, Bool, true, not, ◌&&◌, if◌then◌else◌, List, [], ◌∷◌, length, filter}
-use Rattle.std.specs.List.{AllByRecursion}
+use Rattle.std.specs.Prelude.{◌≡◌, ℕ, ◌<◌, Bool, true, not, ◌&&◌, if◌then◌else◌, List, [], ◌∷◌, length, filter, map}
+use Rattle.std.specs.List.{AllByRecursion, list_any}
 use Rattle.fw_time.specs.Stamp.{in_domain}
 use Rattle.fw_bag.specs.declared.rec.Rec.{Rec}
 use Rattle.fw_frontier.specs.Frontier.{Within}
@@ -17,13 +17,14 @@ use Rattle.fw_keep.specs.declared.entry.Entry.{Entry}
 use Rattle.fw_keep.specs.declared.entry.Written as entry
 use Rattle.fw_keep.specs.declared.entry.Written.TheVariants as written
 use Rattle.fw_record.specs.Event.{stamp_of_event}
-use Rattle.fw_keep.specs.Catalogue.{KeepState}
+use Rattle.fw_keep.specs.Catalogue.{KeepState, AreDistinct}
 use Rattle.fw_keep.specs.Newest.{is_forgotten_below}
 use Rattle.fw_edge.specs.Messages.{MessagesState}
 use Rattle.fw_border.specs.Sources.{SourceState, given_up}
 use Rattle.fw_collect.specs.declared.drops.Drops.{Drops}
+use Rattle.fw_collect.specs.declared.drops.OfNode.{OfNode}
 use Rattle.fw_collect.specs.Drops.{IsPlanned, without_batches}
-use Rattle.fw_collect.specs.Dropped.{is_dropped, log_outside, log_left, source_left}
+use Rattle.fw_collect.specs.Dropped.{is_below_some, is_dropped, log_outside, log_left, source_left}
 
 -- ---- what the plan gives up
 
@@ -54,6 +55,16 @@ abbrev pub DropsBatchesOfInputs : Type 0
 DropsBatchesOfInputs = (flow : Dataflow) (low : List Front) (entries : List Entry) (drops : Drops) → IsPlanned flow low entries drops
     → (s : ℕ) (source : SourceState) → s < length flow.nodes
     → source_left drops.batches.items s source ≡ (if is_input_kind (kind_of flow s) then given_up (front_of low s) source else source)
+
+-- the fronts stand beside different nodes, as those of a plan do
+abbrev pub AreOfDifferentNodes : List OfNode → Type 0
+AreOfDifferentNodes fronts = AreDistinct (map (λ (d : OfNode). d.node) fronts)
+
+-- where fronts stand beside different nodes, an entry of a catalogue goes below them exactly where it is forgotten below some one of them: none
+-- changes what another one finds
+abbrev pub ForgetsBelowEach : Type 0
+ForgetsBelowEach = (fronts : List OfNode) (keep : KeepState) (e : Entry) → AreOfDifferentNodes fronts
+    → is_below_some fronts keep e ≡ list_any (λ (d : OfNode). is_forgotten_below d.node d.front keep e) fronts
 
 -- ---- what the machine collects
 

@@ -10,9 +10,10 @@ use fw_keep::{Entry, Going, Keep};
 /// Takes what is given up out of the catalogue and the inputs, and nothing else; the logs are the caller's. The bytes of the
 /// entries that go then wait for a sweep.
 ///
-/// The fronts are gone through in order: where a node is named twice, as no `plan` does, the second finds what the first left.
-/// What is beside an input that is not there is passed over. It takes no memory. The entries are gone through once for each node
-/// that takes checkpoints, and once for all events, each compared with these; of an input the batches that go.
+/// The fronts are gone through in order: where a node is named twice, as no `plan` does, the second finds what the first left. Where
+/// none is, each finds what was there at first (`laws::forgets_below_each`). What is beside an input that is not there is passed
+/// over. It takes no memory. The entries are gone through once for each node that takes checkpoints, and once for all events, each
+/// compared with these; of an input the batches that go.
 pub fn apply(drops: &Drops, keep: &mut Keep, sources: &mut Sources)
     ensures entries { Forgets (is_dropped drops.now keep.old) keep.old keep.new }
     ensures inputs { length sources.new ≡ length sources.old }
@@ -23,8 +24,8 @@ pub fn apply(drops: &Drops, keep: &mut Keep, sources: &mut Sources)
     drop_batches(&drops.batches, sources);
 }
 
-/// Takes the checkpoints of these nodes out that lie strictly within the front beside them and on which none stands that does
-/// not, one node after the other.
+/// Takes the checkpoints of these nodes out that lie strictly within the front beside them, and on which none stands that
+/// stays, one node after the other.
 fn forget_records(records: &[OfNode], keep: &mut Keep)
     ensures { Forgets (is_below_some records.now keep.old) keep.old keep.new }
 {

@@ -24,7 +24,7 @@ pub struct AtNode {
 /// What a collection gives up.
 #[derive(Debug, Drop)]
 pub struct Drops {
-    /// Of these nodes the checkpoints strictly within the frontier.
+    /// Of these nodes the checkpoints strictly within the frontier, on which none stands that stays.
     pub records: Vec<OfNode>,
     /// Of these nodes the logged events at the stamp.
     pub events: Vec<AtNode>,

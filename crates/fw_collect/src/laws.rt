@@ -1,5 +1,12 @@
 //! Laws of collections, each a function that does nothing: its clause is the law.
-ghost use Rattle.fw_collect.specs.LawsOfCollections.{DropsWhatIsGivenUp, DropsMessagesBelowReceivers, DropsBatchesOfInputs, LogsHoldWhatIsOutside, InputsHoldWhatIsOutside};
+ghost use Rattle.fw_collect.specs.LawsOfCollections.{ForgetsBelowEach, DropsWhatIsGivenUp, DropsMessagesBelowReceivers, DropsBatchesOfInputs, LogsHoldWhatIsOutside, InputsHoldWhatIsOutside};
+
+/// Below fronts that stand beside different nodes, as those of a plan do, an entry goes exactly where it is forgotten below some one of
+/// them: none changes what another one finds.
+#[tactic(auto, using(crate::proofs::ApplyLaws::forgets_below_each))]
+pub fn forgets_below_each()
+    ensures { ForgetsBelowEach }
+{}
 
 /// Of the entries that were planned with, those go that are given up, each by itself.
 pub fn drops_what_is_given_up()

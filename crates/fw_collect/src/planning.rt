@@ -15,8 +15,8 @@ use fw_keep::{Entry, Written};
 use std::alloc::{AllocError, Global};
 
 /// What is not needed again, where the low watermark rises to the fronts of the choice: of each node that takes checkpoints
-/// those strictly within its front on which none stands that is not; the events of these entries that are given up; of each edge whose sender may send again
-/// the messages inside the receiver's front; of each input the batches inside its front.
+/// those strictly within its front, on which none stands that stays; the events of these entries that are given up; of each edge
+/// whose sender may send again the messages inside the receiver's front; of each input the batches inside its front.
 ///
 /// It takes time in proportion to the nodes, the edges and the entries, and for each a look at a front or a few. The only
 /// error is want of memory.

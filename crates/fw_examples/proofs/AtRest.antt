@@ -1,5 +1,5 @@
 -- The laws of rest, applied to the running total whose output failed.
-use Rattle.std.proofs.Common.{◌≡◌, ℕ, zero, suc, ◌≤◌, List, [], ◌∷◌, ◌++◌, refl, lit<, inl, arith}
+use Rattle.std.proofs.Common.{◌≡◌, ℕ, zero, suc, ◌≤◌, List, ◌∷◌, ◌++◌, refl, lit<, inl, arith}
 use Rattle.fw_lemmas.proofs.Numbers.{at_most-refl}
 use Rattle.fw_flow.specs.Dataflow.{batches_of, in_edges, kind_of, receiver, sender}
 use Rattle.fw_flow.specs.declared.step.Step.TheVariants.{Recover}

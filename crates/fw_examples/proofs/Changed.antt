@@ -1,5 +1,5 @@
 -- What changed of the totals of some recs since an epoch was settled.
-use Rattle.std.proofs.Common.{Bool, [], ap, refl, ◌||◌}
+use Rattle.std.proofs.Common.{Bool, ap, refl, ◌||◌}
 use Rattle.fw_time.specs.Stamp.{same}
 use Rattle.fw_frontier.specs.Frontier.{Within}
 use Rattle.fw_totals.proofs.SinceLaws.{changes_over}

@@ -1,6 +1,6 @@
 -- How the nodes of the running total settle one after the other.
-use Rattle.std.proofs.Common.{List, [], arith, false, lit<, lit≤, refl, suc, true, zero, ℕ, ◌<◌, ◌≤◌, ◌∷◌, ◌≡◌}
-use Rattle.fw_frontier.specs.Front.{Front, IsCanonical}
+use Rattle.std.proofs.Common.{[], arith, false, lit<, lit≤, refl, suc, zero, ℕ, ◌<◌, ◌≤◌, ◌∷◌, ◌≡◌}
+use Rattle.fw_frontier.specs.Front.{IsCanonical}
 use Rattle.fw_flow.specs.Dataflow.{batches_of, bounds_of, kind_of, receiver, sender}
 use Rattle.fw_flow.specs.NodeFunction.{sends}
 use Rattle.fw_model.specs.Choice.{until}

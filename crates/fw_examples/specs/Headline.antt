@@ -1,5 +1,5 @@
 -- What the headline says of the run of the running total.
-use Rattle.std.specs.Prelude.{List, [], ◌++◌, ◌∷◌}
+use Rattle.std.specs.Prelude.{[], ◌++◌, ◌∷◌}
 use Rattle.fw_flow.specs.declared.step.Step.TheVariants.{Collect, Recover}
 use Rattle.fw_headline.specs.Right.{EveryRunIsRight, IsAllThere, IsRight}
 use Rattle.fw_model.specs.Choice.{IsWatermark}

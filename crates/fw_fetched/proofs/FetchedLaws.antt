@@ -17,15 +17,14 @@ use Rattle.std.proofs.lemmas.List.Elements.{filter-append}
 use Rattle.std.proofs.lemmas.List.Sorted.{sum_by-IsPermutation}
 use Rattle.std.proofs.lemmas.List.Sums.{sum_by-cons}
 use Rattle.std.proofs.lemmas.Option.{same_Some}
-use Rattle.fw_lemmas.proofs.Each.{each-append, each-one, each-weaker}
-use Rattle.fw_lemmas.proofs.Filters.{filter-inner}
+use Rattle.fw_lemmas.proofs.Each.{each-append, each-weaker}
 use Rattle.fw_lemmas.proofs.Numbers.{eqb-sym}
 use Rattle.fw_lemmas.proofs.Orderings.{nat_cmp-less, nat_cmp-test}
 use Rattle.fw_lemmas.proofs.SideBySide.{zip-append}
 use Rattle.fw_bag.specs.declared.rec.Rec.{Rec}
 use Rattle.fw_bag.specs.Arrivals.{recs_of}
 use Rattle.fw_bag.specs.Keyed.{value_sum, has_key}
-use Rattle.fw_frontier.specs.Frontier.{Frontier, Within}
+use Rattle.fw_frontier.specs.Frontier.{Within}
 use Rattle.fw_frontier.specs.Front.{Front, same_front}
 use Rattle.fw_frontier.specs.declared.state.Entries.{Entries}
 use Rattle.fw_frontier.specs.declared.state.Entries.TheVariants.{Totals}
@@ -40,7 +39,7 @@ use Rattle.fw_flow.specs.declared.event.Message.{Message}
 use Rattle.fw_flow.specs.declared.kind.Kind.{Kind}
 use Rattle.fw_flow.specs.declared.kind.Kind.TheVariants as kind
 use Rattle.fw_flow.specs.Dataflow.{Dataflow, kind_of, in_edges, node_frontier}
-use Rattle.fw_flow.specs.NodeFunction.{delivered_recs, event_stamp}
+use Rattle.fw_flow.specs.NodeFunction.{delivered_recs}
 use Rattle.fw_model.specs.Filtering.{events_inside}
 use Rattle.fw_model.specs.Told.{EachDelivery}
 use Rattle.fw_model.specs.SortedMessages.{sorted_messages}
@@ -62,6 +61,7 @@ use Rattle.fw_keep.specs.Entry.{IsRecordAs, is_checkpoint}
 use Rattle.fw_keep.specs.Stored.{Records, IsFetched}
 use Rattle.fw_keep.specs.Chains.{changes_in, changes_of, logged_in_all, states_of}
 use Rattle.fw_keep.specs.Joined.{AreJoined, IsJoinedCheckpoint, bases_of, chain_to, held_totals, last_totals, log_of_record, total_at_key, totals_of_record, totals_over}
+use Rattle.fw_keep.proofs.JoinedLaws.{totals-append}
 use Rattle.fw_edge.specs.Messages.{MessagesState}
 use Rattle.fw_node.specs.declared.node.Node.{Node}
 use Rattle.fw_node.specs.Arrived.{arrived}
@@ -69,6 +69,7 @@ use Rattle.fw_node.specs.ChainOf.{last_front, HaveChanges, IsOfChain}
 use Rattle.fw_node.specs.Past.{totals_changed, totals_kept}
 use Rattle.fw_node.specs.StateOf.{IsStateOf, IsStateSince, totals_in}
 use Rattle.fw_node.specs.TableOf.{IsTableOf}
+use Rattle.fw_node.proofs.ChainLaws.{inner}
 use Rattle.fw_node.proofs.ChangingLaws.{written_over}
 use Rattle.fw_node.proofs.RestoringLaws.{all_came}
 use Rattle.fw_rollback.specs.Asked.{first_up_to}
@@ -139,10 +140,6 @@ sorted-put k v (e ∷ es) s = by (nat_cmp k e.0) refl (sorted-put k v es s.1)
 
 -- ---- totals that are put over others
 
-over-append : (es : List (ℕ × ℕ)) (xs ys : List Rec) → totals_over es (xs ++ ys) ≡ totals_over (totals_over es xs) ys
-over-append es [] ys = refl
-over-append es (x ∷ xs) ys = over-append (insert_entry nat_cmp es x.key x.value) xs ys
-
 sorted-over : (es : List (ℕ × ℕ)) (xs : List Rec) → IsStrictlySortedBy nat_cmp (keys_of es) → IsStrictlySortedBy nat_cmp (keys_of (totals_over es xs))
 sorted-over es [] s = s
 sorted-over es (x ∷ xs) s = sorted-over (insert_entry nat_cmp es x.key x.value) xs (sorted-put x.key x.value es s)
@@ -184,11 +181,6 @@ totals-shown es rs h = entries_are_sums_of es rs rs h.sorted h.found
 
 -- ---- totals of a chain
 
-inner : (k b : Frontier) → Within k b → (vs : List Event) → events_inside k (events_inside b vs) ≡ events_inside k vs
-inner k b w vs =
-    filter-inner (λ (v : Event). k (event_stamp v)) (λ v. b (event_stamp v)) vs
-    (each-one (λ (v : Event). k (event_stamp v) ≡ true → b (event_stamp v) ≡ true) vs (λ v. w (event_stamp v)))
-
 -- a kind keeps the totals of all that came, or none
 abbrev KeepsSums : Kind → Type 0
 KeepsSums k = ((rs : List Rec) → totals_kept k rs ≡ sums_by_key rs) × ((now all : List Rec) → totals_changed k now all ≡ sums_at_keys now all)
@@ -208,7 +200,7 @@ held-in s = by s.entries
     by (Totals rs) = refl
 
 over-parts : (es : List (ℕ × ℕ)) (xs ys zs : List Rec) → totals_over es ((xs ++ ys) ++ zs) ≡ totals_over (totals_over es xs) (ys ++ zs)
-over-parts es xs ys zs = ap (totals_over es) (append_assoc xs ys zs) ∙ over-append es xs (ys ++ zs)
+over-parts es xs ys zs = ap (totals_over es) (append_assoc xs ys zs) ∙ totals-append es xs (ys ++ zs)
 
 module _ (flow : Dataflow) (p : ℕ) (before : List Event) where
   -- what came up to a front, and since another up to it

@@ -7,15 +7,14 @@ use Rattle.std.proofs.lemmas.List.{append-nil, reverse-append, reverse-reverse}
 use Rattle.std.proofs.lemmas.List.Elements.{filter-append}
 use Rattle.std.proofs.lemmas.Option.{same_Some}
 use Rattle.fw_lemmas.proofs.Bools.{two_ways}
-use Rattle.fw_lemmas.proofs.Each.{each-append, each-both, each-kept, each-one, each-suffix, each-there, each-weaker, each_of-map}
-use Rattle.fw_lemmas.proofs.Filters.{filter-same_on}
+use Rattle.fw_lemmas.proofs.Each.{each-append, each-both, each-kept, each-suffix, each-there, each-weaker, each_of-map}
 use Rattle.fw_lemmas.proofs.SideBySide.{zip-both, zip-right}
 use Rattle.fw_frontier.specs.Front.{Front, same_front}
 use Rattle.fw_frontier.proofs.SameLaws.{same_front-is, same_front-from}
 use Rattle.fw_flow.specs.declared.choice.Choice.{Choice}
 use Rattle.fw_flow.specs.declared.choice.Cut.TheVariants.{At}
 use Rattle.fw_flow.specs.declared.restoring.Restoring.TheVariants.{Checkpoints}
-use Rattle.fw_flow.specs.Dataflow.{System, Dataflow, bounds_of, policy_of}
+use Rattle.fw_flow.specs.Dataflow.{System, bounds_of, policy_of}
 use Rattle.fw_flow.specs.Restoring.{way_of}
 use Rattle.fw_flow.specs.WellFormed.{IsWellFormedSystem}
 use Rattle.fw_model.specs.Choice.{cut_of}
@@ -32,14 +31,18 @@ use Rattle.fw_keep.specs.declared.entry.Entry.{Entry}
 use Rattle.fw_keep.specs.declared.entry.Written.{Written}
 use Rattle.fw_keep.specs.declared.entry.Written.TheVariants as written
 use Rattle.fw_keep.specs.Catalogue.{AreAscending, ids_of}
+use Rattle.fw_keep.specs.Entry.{is_written_at}
 use Rattle.fw_keep.specs.Joined.{bases_of, chain_to}
-use Rattle.fw_keep.specs.Newest.{is_written_between, whole_within}
+use Rattle.fw_keep.specs.Newest.{is_between, whole_within}
+use Rattle.fw_keep.proofs.ChainLaws.{each-reversed}
 use Rattle.fw_keep.proofs.EntryLaws.{found-only}
-use Rattle.fw_rollback.specs.Asked.{is_at_cut, is_written_at, has_one_at_cut, read_from, is_needed, is_asked_at, is_asked_for, asked_of}
+use Rattle.fw_rollback.specs.Asked.{is_at_cut, has_one_at_cut, asked_of}
+use Rattle.fw_rollback.proofs.AskedLaws.{asked-checkpoints}
 use Rattle.fw_stands.specs.Entries.{AreBasesOf, entry_fronts, id_at_front}
-use Rattle.fw_stands.specs.Read.{is_between, IsChainRead, StandOn}
+use Rattle.fw_stands.specs.Read.{IsChainRead, StandOn}
 use Rattle.fw_stands.specs.Recovered.{Recovers}
 use Rattle.fw_stands.specs.Written.{AreEntriesOf, HoldsWhatIsWritten, IsEntryOf, uncollected}
+use Rattle.fw_stands.proofs.BaseSteps.{apart-at}
 use Rattle.fw_stands.proofs.CutChains.{cut-chain}
 use Rattle.fw_stands.proofs.EntryViews.{fronts-alike}
 use Rattle.fw_fetched.specs.LawsOfFetching.{RecoveryReadsWhatIsFetched}
@@ -55,17 +58,13 @@ descend-snoc : (es : List Entry) (x : Entry) → Descend es → AllByRecursion (
 descend-snoc [] x d a = (tt, tt)
 descend-snoc (e ∷ es) x d a = (each-append (λ (y : Entry). y.id < e.id) es (x ∷ []) d.0 (a.0, tt), descend-snoc es x d.1 a.1)
 
-each-reverse : (P : Entry → Type 0) (es : List Entry) → AllByRecursion P es → AllByRecursion P (reverse es)
-each-reverse P [] a = tt
-each-reverse P (e ∷ es) a = subst (AllByRecursion P) (sym (reverse-append (e ∷ []) es)) (each-append P (reverse es) (e ∷ []) (each-reverse P es a.1) (a.0, tt))
-
 descend-reverse : (es : List Entry) → AreAscending (ids_of es) → Descend (reverse es)
 descend-reverse [] a = tt
 descend-reverse (e ∷ es) a =
     let Above : Entry → Type 0 = λ y. e.id < y.id in
     subst Descend (sym (reverse-append (e ∷ []) es))
     (descend-snoc (reverse es) e (descend-reverse es a.1)
-    (each-reverse Above es (each_of-map (λ id. e.id < id) (λ (y : Entry). y.id) es a.0)))
+    (each-reversed Above es (each_of-map (λ id. e.id < id) (λ (y : Entry). y.id) es a.0)))
 
 -- the first ones are among the second ones, in order
 abbrev AreAmong : List Entry → List Entry → Type 0
@@ -192,9 +191,6 @@ at-is p f low x i e =
     ap (λ b. list_any (same_front f) (cond b (checkpoint_front x.written) [] ++ [])) (eq-eqb x.node p i)
     ∙ ap (λ w. list_any (same_front f) (checkpoint_front w ++ [])) e ∙ ap (λ b. b || false) (same_front-from f f refl)
 
-apart-at : (n : ℕ) (w : WrittenBy) (q : ℕ) (v : WrittenBy) → IsApart n w q v → n ≡ q → (f : Front) (l m : List Front) → w ≡ checkpoint f l → v ≡ checkpoint f m → ⊥
-apart-at n w q v a i f l m j k = (subst (λ y. IsApart n (checkpoint f l) q y) k (subst (λ y. IsApart n y q v) j a)) i refl
-
 -- the entry's id is the one that is found, among these, at the front of its write
 abbrev IsFoundAt : List Entry → Entry → Write → Type 0
 IsFoundAt all e x = (g : Front) (low : List Front) → x.written ≡ checkpoint g low → id_at_front x.node g all ≡ Some e.id
@@ -276,32 +272,6 @@ module _ (sys : System) (state : Machine) where
         record { before = e ∷ rest.before; last = rest.last; is = ap (λ zs. e ∷ zs) rest.is; found = rest.found }
 
 -- ---- what is asked for
-
-asked-by : (flow : Dataflow) (choice : Choice) (es : List Entry) (p : ℕ) (f : Front) → cut_of choice p ≡ At f → (test : Written → Bool)
-    → ((w : Written) → is_needed flow (read_from p f es) p f (way_of flow p) w ≡ test w) → (e : Entry)
-    → ((e.node == p) && is_asked_for flow choice es e) ≡ ((e.node == p) && (e.acknowledged && test e.written))
-asked-by flow choice es p f is test needed e = elim (cases_Bool (e.node == p)) [
-  | inl i ↦
-      let at = eqb-true e.node p i in
-      ap (λ b. (e.node == p) && b)
-      (ap (λ q. is_asked_at flow es (cut_of choice q) (record e { node = q })) at
-      ∙ ap (λ cut. is_asked_at flow es cut (record e { node = p })) is
-      ∙ ap (λ b. e.acknowledged && b) (needed e.written))
-  | inr i ↦ ap (λ b. b && is_asked_for flow choice es e) i ∙ sym (ap (λ b. b && (e.acknowledged && test e.written)) i)
-]
-
-needs-whole : (flow : Dataflow) (p : ℕ) (f whole : Front) (w : Written) → is_needed flow (Some whole) p f Checkpoints w ≡ is_written_between whole f w
-needs-whole flow p f whole (written.Checkpoint recorded stamps sent) = refl
-needs-whole flow p f whole (written.Event event) = refl
-
-asked-checkpoints : (flow : Dataflow) (choice : Choice) (es : List Entry) (p : ℕ) (f whole : Front) → way_of flow p ≡ Checkpoints → cut_of choice p ≡ At f
-    → read_from p f es ≡ Some whole → asked_of flow choice es p ≡ filter (is_between p whole f) es
-asked-checkpoints flow choice es p f whole way is newest =
-    filter-same_on (λ e. (e.node == p) && is_asked_for flow choice es e) (is_between p whole f) es
-    (each-one (λ e. ((e.node == p) && is_asked_for flow choice es e) ≡ is_between p whole f e) es
-    (asked-by flow choice es p f is (is_written_between whole f)
-    (λ w.
-    ap (λ o. is_needed flow o p f (way_of flow p) w) newest ∙ ap (λ x. is_needed flow (Some whole) p f x w) way ∙ needs-whole flow p f whole w)))
 
 any-each : (test : Entry → Bool) (xs : List Entry) → AllByRecursion (λ x. test x ≡ true → list_any test xs ≡ true) xs
 any-each test [] = tt

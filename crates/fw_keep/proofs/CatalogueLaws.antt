@@ -5,7 +5,7 @@ use Rattle.fw_keep.specs.declared.entry.Entry.{Entry}
 use Rattle.fw_keep.specs.Catalogue.{KeepState, IsCatalogue, ids_of, is_id_among, has_entry, AreDistinct, persisted, without}
 use Rattle.std.proofs.lemmas.Bool.{ne_eqb}
 use Rattle.fw_lemmas.proofs.Each.{each-weaker, each-append, each-prefix, each-kept}
-use Rattle.fw_keep.proofs.IdLaws.{among-append, distinct-prefix, ids-more, ascending-distinct, ascending-more, distinct-append, ascending-kept, ids-kept, none_kept, none_goes, gone-apart, ids-persisted, shallow-persisted}
+use Rattle.fw_keep.proofs.IdLaws.{among-append, distinct-prefix, ids-more, ascending-distinct, ascending-more, distinct-append, ascending-kept, ids-kept, none_kept, none_goes, gone-apart, ids-persisted, depths-persisted}
 
 -- states with the same parts are one
 pub same-state : (a b : KeepState) → a.entries ≡ b.entries → a.next ≡ b.next → a.waiting ≡ b.waiting → a.refused ≡ b.refused → a ≡ b
@@ -23,19 +23,19 @@ catalogue-drawn keep next refused le h = record {
   apart = h.apart;
   drawn = each-weaker _ _ (ids_of keep.entries) (λ id l. omega arith) h.drawn;
   waiting_drawn = each-weaker _ _ keep.waiting (λ id l. omega arith) h.waiting_drawn;
-  shallow = h.shallow;
+  depths = h.depths;
 }
 
 -- an entry is added under the next id
 pub catalogue-added : (keep : KeepState) (e : Entry) (next : ℕ) → e.id ≡ keep.next → e.depth ≤ e.id → keep.next < next → IsCatalogue keep
     → IsCatalogue (record keep { entries = keep.entries ++ e ∷ []; next = next })
-catalogue-added keep e next same shallow le h = record {
+catalogue-added keep e next same depths le h = record {
   ascending = rw (ids-more keep.entries e, same) (ascending-more (ids_of keep.entries) keep.next h.ascending h.drawn);
   distinct = h.distinct;
   apart = apart_of keep.waiting h.apart h.waiting_drawn;
   drawn = rw (ids-more keep.entries e, same) (each-append _ (ids_of keep.entries) (keep.next ∷ []) (each-weaker _ _ (ids_of keep.entries) (λ id l. omega arith) h.drawn) (omega arith, tt));
   waiting_drawn = each-weaker _ _ keep.waiting (λ id l. omega arith) h.waiting_drawn;
-  shallow = each-append _ keep.entries (e ∷ []) h.shallow (shallow, tt);
+  depths = each-append _ keep.entries (e ∷ []) h.depths (depths, tt);
 }
   where
     apart_of : (ids : List ℕ) → AllByRecursion (λ id. has_entry id keep.entries ≡ false) ids → AllByRecursion (λ id. id < keep.next) ids
@@ -55,7 +55,7 @@ catalogue-without goes keep h =
       apart = each-append _ keep.waiting (ids_of gone) (each-weaker _ _ keep.waiting (λ id none. none_kept goes keep.entries id none) h.apart) (gone-apart goes keep.entries h.ascending);
       drawn = ids-kept _ (λ e. not (goes e)) keep.entries h.drawn;
       waiting_drawn = each-append _ keep.waiting (ids_of gone) h.waiting_drawn (ids-kept _ goes keep.entries h.drawn);
-      shallow = each-kept _ (λ e. not (goes e)) keep.entries h.shallow;
+      depths = each-kept _ (λ e. not (goes e)) keep.entries h.depths;
     }
 
 -- a write is acknowledged
@@ -68,7 +68,7 @@ catalogue-persisted keep h =
       apart = subst (λ (all : List ℕ). AllByRecursion (λ id. is_id_among id all ≡ false) keep.waiting) (sym ids) h.apart;
       drawn = rw ids h.drawn;
       waiting_drawn = h.waiting_drawn;
-      shallow = shallow-persisted keep.entries h.shallow;
+      depths = depths-persisted keep.entries h.depths;
     }
 
 -- some of what waited is left
@@ -80,5 +80,5 @@ catalogue-swept keep left removed refused parts h = record {
   apart = each-prefix _ left removed (subst (AllByRecursion (λ id. has_entry id keep.entries ≡ false)) parts h.apart);
   drawn = h.drawn;
   waiting_drawn = each-prefix _ left removed (subst (AllByRecursion (λ id. id < keep.next)) parts h.waiting_drawn);
-  shallow = h.shallow;
+  depths = h.depths;
 }

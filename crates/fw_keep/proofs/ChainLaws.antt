@@ -46,7 +46,7 @@ chain-each P (Some id) (e ∷ es) all = by (e.id == id) refl (chain-each P e.bas
     by true is lower later = rw is (each-append P (chain_to e.base es) (e ∷ []) lower (all.0, tt))
     by false is lower later = rw is later
 
-each-reversed : (P : Entry → Type 0) (es : List Entry) → AllByRecursion P es → AllByRecursion P (reverse es)
+pub each-reversed : (P : Entry → Type 0) (es : List Entry) → AllByRecursion P es → AllByRecursion P (reverse es)
 each-reversed P [] all = tt
 each-reversed P (e ∷ es) all =
     subst (AllByRecursion P) (sym (reverse-append (e ∷ []) es)) (each-append P (reverse es) (e ∷ []) (each-reversed P es all.1) (all.0, tt))

@@ -9,7 +9,7 @@ use Rattle.std.proofs.Math.Bool.{or-true}
 use Rattle.fw_lemmas.proofs.Bools.{or_swap}
 use Rattle.fw_lemmas.proofs.Each.{each-weaker, each-append}
 use Rattle.fw_keep.specs.declared.entry.Entry.{Entry}
-use Rattle.fw_keep.specs.Catalogue.{ids_of, is_id_among, has_entry, AreAscending, AreDistinct, AreShallow, persisted}
+use Rattle.fw_keep.specs.Catalogue.{ids_of, is_id_among, has_entry, AreAscending, AreDistinct, AreNoDeeperThanIds, persisted}
 
 -- ---- ids
 
@@ -156,11 +156,11 @@ ids-persisted (e ∷ es) =
     ]
 
 -- and so does how deep each is
-pub shallow-persisted : (es : List Entry) → AreShallow es → AreShallow (persisted es)
-shallow-persisted [] h = tt
-shallow-persisted (e ∷ es) h =
-    elim e.acknowledged as (λ b. AreShallow (cond b (e ∷ persisted es) (record e { acknowledged = true } ∷ es))) [
-      | true ↦ (h.0, shallow-persisted es h.1)
+pub depths-persisted : (es : List Entry) → AreNoDeeperThanIds es → AreNoDeeperThanIds (persisted es)
+depths-persisted [] h = tt
+depths-persisted (e ∷ es) h =
+    elim e.acknowledged as (λ b. AreNoDeeperThanIds (cond b (e ∷ persisted es) (record e { acknowledged = true } ∷ es))) [
+      | true ↦ (h.0, depths-persisted es h.1)
       | false ↦ h
     ]
 

@@ -15,7 +15,7 @@ counts-append : (es : List (Stamp × ℕ)) (xs ys : List SentCount) → counts_o
 counts-append es [] ys = refl
 counts-append es (s ∷ xs) ys = counts-append (insert_entry stamp_cmp es s.cause s.count) xs ys
 
-totals-append : (es : List (ℕ × ℕ)) (xs ys : List Rec) → totals_over es (xs ++ ys) ≡ totals_over (totals_over es xs) ys
+pub totals-append : (es : List (ℕ × ℕ)) (xs ys : List Rec) → totals_over es (xs ++ ys) ≡ totals_over (totals_over es xs) ys
 totals-append es [] ys = refl
 totals-append es (r ∷ xs) ys = totals-append (insert_entry nat_cmp es r.key r.value) xs ys
 

@@ -28,9 +28,9 @@ sound-drawn old new h entries waiting next persisted room = record {
 -- an id is drawn, and its entry is added
 pub sound-added : (old new : Inside) (e : Entry) → e.id ≡ old.next → e.depth ≤ e.id → e.acknowledged ≡ false → IsSoundInside old → new.entries.items ≡ old.entries.items ++ e ∷ [] → new.waiting.items ≡ old.waiting.items
     → old.next < new.next → new.persisted ≡ old.persisted → new.refused ≡ old.refused → vec_len new.waiting + vec_len new.entries ≤ vec_capacity new.waiting → IsSoundInside new
-sound-added old new e same shallow flying h entries waiting next persisted refused room = record {
+sound-added old new e same depths flying h entries waiting next persisted refused room = record {
   catalogue = subst IsCatalogue (sym (same-state (keep_state_of new) (record (keep_state_of old) { entries = old.entries.items ++ e ∷ []; next = new.next }) entries refl waiting refused))
-      (catalogue-added (keep_state_of old) e new.next same shallow next h.catalogue);
+      (catalogue-added (keep_state_of old) e new.next same depths next h.catalogue);
   persisted = subst (λ (es : List Entry). IsAcknowledgedUpTo new.persisted es) (sym entries) (subst (λ n. IsAcknowledgedUpTo n (old.entries.items ++ e ∷ [])) (sym persisted)
       (added old.persisted old.entries.items e flying h.persisted));
   room = room;

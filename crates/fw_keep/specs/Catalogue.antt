@@ -33,9 +33,9 @@ abbrev pub AreDistinct : List ℕ → Type 0
 AreDistinct [] = Unit {0}
 AreDistinct (id ∷ ids) = (is_id_among id ids ≡ false) × AreDistinct ids
 
--- no entry stands on more others than ids are below its own
-abbrev pub AreShallow : List Entry → Type 0
-AreShallow es = AllByRecursion (λ (e : Entry). e.depth ≤ e.id) es
+-- no entry is deeper than its id
+abbrev pub AreNoDeeperThanIds : List Entry → Type 0
+AreNoDeeperThanIds es = AllByRecursion (λ (e : Entry). e.depth ≤ e.id) es
 
 -- It is the state of a catalogue: the ids of its entries ascend; those that wait are others, each once; all of them were drawn before
 -- the next one; and no entry is deeper than its id.
@@ -45,7 +45,7 @@ pub record IsCatalogue (keep : KeepState) : Type 0 where
   pub apart : AllByRecursion (λ id. has_entry id keep.entries ≡ false) keep.waiting
   pub drawn : AllByRecursion (λ id. id < keep.next) (ids_of keep.entries)
   pub waiting_drawn : AllByRecursion (λ id. id < keep.next) keep.waiting
-  pub shallow : AreShallow keep.entries
+  pub depths : AreNoDeeperThanIds keep.entries
 
 -- the id of the first entry in flight, if there is one
 abbrev pub oldest : List Entry → Option ℕ

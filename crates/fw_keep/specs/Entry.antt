@@ -2,7 +2,7 @@
 use Rattle.std.specs.Prelude.{◌≡◌, ℕ, ◌+◌, Bool, true, false, not, ◌&&◌, ◌==◌, if◌then◌else◌, nat_le, List, [], ◌∷◌, Option, Some, None}
 use Rattle.std.specs.List.{Contains}
 use Rattle.fw_time.specs.Stamp.{Stamp, same}
-use Rattle.fw_frontier.specs.Front.{Front, inside, is_within}
+use Rattle.fw_frontier.specs.Front.{Front, inside, is_within, same_front}
 use Rattle.fw_flow.specs.Dataflow.{Dataflow}
 use Rattle.fw_flow.specs.declared.choice.Cut.{Cut}
 use Rattle.fw_flow.specs.declared.choice.Cut.TheVariants.{Present, At}
@@ -20,6 +20,11 @@ use Rattle.fw_keep.specs.declared.entry.Written.TheVariants as written
 abbrev pub is_checkpoint : Written → Bool
 is_checkpoint (written.Checkpoint recorded stamps sent) = true
 is_checkpoint (written.Event event) = false
+
+-- the front of what is written, if it is a checkpoint
+abbrev pub written_front : Written → Option Front
+written_front (written.Checkpoint recorded stamps sent) = Some recorded.front
+written_front (written.Event event) = None
 
 -- ---- what an entry has of a record
 
@@ -108,6 +113,11 @@ IsRecordOfEntry flow e r = IsRecordAs flow e.node e.base e.written r
 abbrev pub lies_within : Front → Written → Bool
 lies_within f (written.Checkpoint recorded stamps sent) = is_within recorded.front f
 lies_within f (written.Event event) = inside f (stamp_of_event event)
+
+-- whether a checkpoint is written whose front this is
+abbrev pub is_written_at : Front → Written → Bool
+is_written_at f (written.Checkpoint recorded stamps sent) = same_front recorded.front f
+is_written_at f (written.Event event) = false
 
 -- whether it is a checkpoint strictly within a frontier
 abbrev pub is_checkpoint_below : Front → Written → Bool

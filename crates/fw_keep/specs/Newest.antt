@@ -56,3 +56,7 @@ abbrev pub is_written_between : Front → Front → Written → Bool
 is_written_between whole f (written.Checkpoint recorded stamps sent) =
     is_within recorded.front f && not (is_within recorded.front whole && not (is_within whole recorded.front))
 is_written_between whole f (written.Event event) = false
+
+-- whether the entry is such a checkpoint of node p, and acknowledged
+abbrev pub is_between : ℕ → Front → Front → Entry → Bool
+is_between p whole f e = (e.node == p) && (e.acknowledged && is_written_between whole f e.written)

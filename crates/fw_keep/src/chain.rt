@@ -7,7 +7,7 @@ use crate::Entry;
 use std::alloc::{AllocError, Global};
 
 /// The ids of the write of this id, where one is given and there, and of those on which it stands: the lowest first, and that id
-/// last. It looks at no entry before the lowest.
+/// last. It looks at no entry before the lowest, if that one has no base; where a base is gone, it looks at all of them.
 #[tactic(auto, using(crate::proofs::ChainLaws::chain_taken, crate::proofs::ChainLaws::chain_passed))]
 pub(crate) fn chain_to(
     alloc: Global,

@@ -100,7 +100,8 @@ impl Keep {
 
     /// The newest checkpoint of a node, if it has one: in flight or acknowledged. It takes no memory.
     pub fn newest_checkpoint(&self, node: NodeId) -> Option<&Entry>
-        ensures { option_copied result ≡ newest_by node self.now.entries }
+        ensures newest { option_copied result ≡ newest_by node self.now.entries }
+        ensures catalogue { IsCatalogue self.now }
     {
         newest::newest_by(&self.entries, node)
     }

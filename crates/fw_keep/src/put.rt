@@ -6,7 +6,7 @@ ghost use Rattle.std.specs.List.{AllByRecursion};
 ghost use Rattle.std.specs.FinMap as map;
 ghost use Rattle.fw_outside.specs.Outside.{faults_after};
 ghost use Rattle.fw_record.specs.Spelling.{spelling, FitsItsCounts};
-ghost use Rattle.fw_keep.specs.Catalogue.{AreAscending, AreShallow, ids_of};
+ghost use Rattle.fw_keep.specs.Catalogue.{AreAscending, AreNoDeeperThanIds, ids_of};
 ghost use Rattle.fw_keep.specs.Entry as spec;
 ghost use Rattle.fw_keep.specs.Entry.{asked_beside};
 
@@ -32,7 +32,7 @@ fn depth_at(entries: &[Entry], id: u64) -> u64
 /// How deep it is what stands on this base: one deeper than that; 0 where it has no base.
 fn depth_on(entries: &[Entry], base: Option<u64>) -> u64
     requires ascending { AreAscending (ids_of entries.now) }
-    requires shallow { AreShallow entries.now }
+    requires depths { AreNoDeeperThanIds entries.now }
     requires few { AllByRecursion (λ e. e.id < 2 ^ 63) entries.now }
     ensures { result ≡ spec.depth_on base entries.now }
 {
@@ -45,7 +45,7 @@ fn depth_on(entries: &[Entry], base: Option<u64>) -> u64
 /// The entry of a record under an id, beside these earlier ones. The error is want of memory.
 fn entry_of(entries: &[Entry], id: u64, what: &Record, stamps: Stamps) -> Result<Entry, AllocError>
     requires ascending { AreAscending (ids_of entries.now) }
-    requires shallow { AreShallow entries.now }
+    requires depths { AreNoDeeperThanIds entries.now }
     requires few { AllByRecursion (λ e. e.id < 2 ^ 63) entries.now }
     ensures { IfOk result (λ e. e ≡ asked_beside entries.now id what.now stamps) }
 {
@@ -85,7 +85,7 @@ pub(crate) fn put_new<K: Store>(
 ) -> Result<(), OutFault>
     requires room { vec_len waiting.old + vec_len entries.old ≤ vec_capacity waiting.old }
     requires ascending { AreAscending (ids_of entries.old.items) }
-    requires shallow { AreShallow entries.old.items }
+    requires depths { AreNoDeeperThanIds entries.old.items }
     requires few { AllByRecursion (λ e. e.id < 2 ^ 63) entries.old.items }
     requires fresh { ForSome (K.view store.old).records (λ held. map.get held id ≡ None) }
     ensures added { OnOk result (entries.new.items ≡ entries.old.items ++ asked_beside entries.old.items id what.now stamps ∷ []) }

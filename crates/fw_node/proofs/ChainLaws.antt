@@ -18,7 +18,7 @@ use Rattle.fw_model.specs.Filtering.{events_inside}
 use Rattle.fw_model.specs.Told.{EachDelivery}
 use Rattle.fw_node.specs.declared.node.Node.{Node}
 use Rattle.fw_node.specs.Arrived.{AreOnEdges}
-use Rattle.fw_node.specs.ChainOf.{last_front, HaveChanges, IsOfChain, OneStateIsAChain}
+use Rattle.fw_node.specs.ChainOf.{last_front, HaveChanges, IsOfChain, ChainOfOneIsAState}
 use Rattle.fw_node.specs.Past.{totals_changed, totals_kept}
 use Rattle.fw_node.specs.StateOf.{IsStateOf, IsStateSince}
 use Rattle.fw_node.specs.TableOf.{IsTableOf}
@@ -28,7 +28,7 @@ use Rattle.fw_node.proofs.NodeLaws.{each_of}
 -- ---- events inside
 
 -- of the events inside b those inside k, which lies within it
-inner : (k b : Frontier) → Within k b → (vs : List Event) → events_inside k (events_inside b vs) ≡ events_inside k vs
+pub inner : (k b : Frontier) → Within k b → (vs : List Event) → events_inside k (events_inside b vs) ≡ events_inside k vs
 inner k b w vs =
     filter-inner (λ (v : Event). k (event_stamp v)) (λ v. b (event_stamp v)) vs
     (each-one (λ (v : Event). k (event_stamp v) ≡ true → b (event_stamp v) ≡ true) vs (λ v. w (event_stamp v)))
@@ -166,6 +166,6 @@ chain-first flow p f state node of = λ before all on first changes.
     let b = node_frontier flow p f in
     of b before (in-domain flow p f before all) on (state-whole (kind_of flow p) b before state all first)
 
-pub one_state_is_a_chain : OneStateIsAChain
-one_state_is_a_chain flow p f state node chain = λ before all on is.
+pub chain_of_one_is_a_state : ChainOfOneIsAState
+chain_of_one_is_a_state flow p f state node chain = λ before all on is.
     chain before all on (state-inside (kind_of flow p) (node_frontier flow p f) before state all is) tt

@@ -7,7 +7,6 @@ use Rattle.fw_time.specs.Stamp.{Stamp, in_domain}
 use Rattle.fw_time.specs.declared.time.Epoch.{Epoch}
 use Rattle.fw_time.specs.declared.time.SeqNo.{SeqNo}
 use Rattle.fw_time.specs.declared.stamp.Bounds.{Bounds}
-use Rattle.fw_time.proofs.StampLaws.{leq-length}
 use Rattle.fw_time.proofs.DomainLaws.{domain-length}
 use Rattle.fw_bag.specs.declared.rec.Rec.{Rec}
 use Rattle.fw_bag.specs.Arrivals.{Arrival, recs_of, AreInside, AreTimes}

@@ -41,6 +41,6 @@ IsOfState flow p f state node =
     → IsStateOf (kind_of flow p) before state → IsTableOf flow p (node_frontier flow p f) node before
 
 -- where a node stands for a chain of one state alone, it stands for this state
-abbrev pub OneStateIsAChain : Type 0
-OneStateIsAChain = (flow : Dataflow) (p : ℕ) (f : Front) (state : State) (node : Node) → IsOfChain flow p f state [] node
+abbrev pub ChainOfOneIsAState : Type 0
+ChainOfOneIsAState = (flow : Dataflow) (p : ℕ) (f : Front) (state : State) (node : Node) → IsOfChain flow p f state [] node
     → IsOfState flow p f state node

@@ -281,6 +281,7 @@ impl Node {
             → (kind_of flow p ≡ kind.Sequence → AllByRecursion (λ t. node_frontier flow p f.now t ≡ true) (notified_stamps before))
             → IsTableOf flow p settled self.now before
             → IfOk result (IsStateSince (kind_of flow p) (node_frontier flow p g.now) (events_inside (node_frontier flow p f.now) before)) }
+        ensures no_counts { IfOk result (λ state. state.sends ≡ []) }
         ensures stays { IsTrue self.now.refused → IsErr result }
     {
         if self.refused {

@@ -1,6 +1,6 @@
 //! The laws of answers: what a node answers from what came to it is what the node function gives for its events; and of a node that
 //! is restored.
-ghost use Rattle.fw_node.specs.ChainOf.{OneStateIsAChain};
+ghost use Rattle.fw_node.specs.ChainOf.{ChainOfOneIsAState};
 ghost use Rattle.fw_node.specs.LawsOfAnswers.{DeliveriesAnswer, NotificationsAnswer, NoticesAreSends, DeliveriesNeedTheirTime, NotificationsNeedTheirTime, EventsInsideArrive, EventsComeOnInEdges};
 
 /// What a delivery makes a node send that is no sequence follows from what came to it.
@@ -46,6 +46,6 @@ pub fn events_come_on_in_edges()
 {}
 
 /// A node that stands for a chain of one state alone stands for all events that have this state and whose deliveries lie inside.
-pub fn one_state_is_a_chain()
-    ensures { OneStateIsAChain }
+pub fn chain_of_one_is_a_state()
+    ensures { ChainOfOneIsAState }
 {}

@@ -264,9 +264,10 @@ impl Table {
         requires shape { length bounds.now.greatest ≡ dimension_of self.now }
         requires earlier { AllByRecursion (λ o. in_domain bounds.now o ≡ true) g.now }
         requires later { AllByRecursion (λ o. in_domain bounds.now o ≡ true) f.now }
-        ensures { (flow : Dataflow) (kind : Kind) (past : Past) → IsNodeTable flow self.now kind past
+        ensures state { (flow : Dataflow) (kind : Kind) (past : Past) → IsNodeTable flow self.now kind past
             → Within past.settled (inside g.now) → Within (inside g.now) (inside f.now)
             → IfOk result (IsPastSince kind (inside g.now) (inside f.now) past) }
+        ensures no_counts { IfOk result (λ state. state.sends ≡ []) }
     {
         match self {
             Table::Total(table) => {

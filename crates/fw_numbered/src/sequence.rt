@@ -184,8 +184,9 @@ impl Sequence {
     /// The state at f as it changed since g: how many messages it sent in all. That is the state at f where it was notified of no
     /// epoch outside f. How many it sent at each epoch it does not tell. It takes no memory.
     pub fn state_since(&self, _g: &Below, _f: &Below) -> State
-        ensures { (gone : List ℕ → Bool) (came : List Arrival) (n : ℕ) → IsSequence gone self.now came n
+        ensures state { (gone : List ℕ → Bool) (came : List Arrival) (n : ℕ) → IsSequence gone self.now came n
             → result ≡ record { sent = n; sends = []; entries = Totals [] } }
+        ensures no_counts { result.sends ≡ [] }
     {
         state_of(self.alloc, self.next, Recs::of(Vec::new(self.alloc)))
     }

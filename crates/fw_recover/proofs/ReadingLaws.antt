@@ -2,7 +2,7 @@
 use Rattle.std.proofs.Common.{◌≡◌, ◌≢◌, ℕ, ◌<◌, Bool, true, false, cond, ◌&&◌, ◌==◌, List, [], ◌∷◌, ◌++◌, length, filter, Option, Some, None, refl, sym, ap, subst, ◌∙◌, inl, inr}
 use Rattle.std.specs.Prelude.{◌⊎◌}
 use Rattle.std.specs.List.{AllZip, flat_map}
-use Rattle.std.proofs.lemmas.Bool.{cases_Bool, eqb-true, or_left, or_right}
+use Rattle.std.proofs.lemmas.Bool.{cases_Bool, or_left, or_right}
 use Rattle.fw_lemmas.proofs.Bools.{two_ways}
 use Rattle.fw_lemmas.proofs.Each.{each-one}
 use Rattle.fw_lemmas.proofs.Filters.{filter-none, filter-out, filter-same_on}
@@ -33,13 +33,14 @@ use Rattle.fw_keep.specs.declared.entry.Entry.{Entry}
 use Rattle.fw_keep.specs.declared.entry.Written.{Written}
 use Rattle.fw_keep.specs.declared.entry.Written.TheVariants as written
 use Rattle.fw_keep.specs.Entry.{IsRecordOfEntry}
-use Rattle.fw_keep.specs.Newest.{is_written_between, whole_within}
+use Rattle.fw_keep.specs.Newest.{whole_within}
 use Rattle.fw_keep.specs.Stored.{Records, HoldsAs, IsFetched}
-use Rattle.fw_rollback.specs.Asked.{is_at_cut, is_written_at, has_one_at_cut, read_from, is_needed, is_asked_at, is_asked_for, asked_of, first_checkpoint, events_of}
+use Rattle.fw_rollback.specs.Asked.{is_at_cut, has_one_at_cut, read_from, is_needed, is_asked_for, asked_of, first_checkpoint, events_of}
+use Rattle.fw_rollback.proofs.AskedLaws.{asked-by, asked-checkpoints}
 use Rattle.fw_record.specs.Event.{logged_events, event_of}
 use Rattle.fw_rollback.specs.Replay.{AreDoneAgain, CanBeDone}
 use Rattle.fw_stands.specs.Recovered.{Recovers}
-use Rattle.fw_stands.specs.Read.{is_between, is_checkpoint_at, is_checkpoint_of}
+use Rattle.fw_stands.specs.Read.{is_checkpoint_at}
 use Rattle.fw_stands.specs.Redone.{CanBeRedone, is_event_inside, is_logged_inside}
 use Rattle.fw_stands.specs.Written.{AreEntriesOf, AreStored, uncollected}
 use Rattle.fw_stands.proofs.CutChains.{AreRecordsOfChain, chain-of_records, no-chain}
@@ -67,25 +68,6 @@ can-be_done flow p (Notify q t ∷ vs) c = (c.0, c.1, c.2, can-be_done flow p vs
 
 -- ---- which entries are asked for
 
--- of the entries the choice asks for those of a node at which a test is true
-asked-by : (flow : Dataflow) (choice : Choice) (es : List Entry) (p : ℕ) (f : Front) → cut_of choice p ≡ At f → (test : Written → Bool)
-    → ((w : Written) → is_needed flow (read_from p f es) p f (way_of flow p) w ≡ test w) → (e : Entry)
-    → ((e.node == p) && is_asked_for flow choice es e) ≡ ((e.node == p) && (e.acknowledged && test e.written))
-asked-by flow choice es p f is test needed e = elim (cases_Bool (e.node == p)) [
-  | inl i ↦
-      let at = eqb-true e.node p i in
-      ap (λ b. (e.node == p) && b)
-      (ap (λ q. is_asked_at flow es (cut_of choice q) (record e { node = q })) at
-      ∙ ap (λ cut. is_asked_at flow es cut (record e { node = p })) is
-      ∙ ap (λ b. e.acknowledged && b) (needed e.written))
-  | inr i ↦ ap (λ b. b && is_asked_for flow choice es e) i ∙ sym (ap (λ b. b && (e.acknowledged && test e.written)) i)
-]
-
--- a node that is restored by checkpoints needs those from the newest whole one up to the cut
-needs-whole : (flow : Dataflow) (p : ℕ) (f whole : Front) (w : Written) → is_needed flow (Some whole) p f Checkpoints w ≡ is_written_between whole f w
-needs-whole flow p f whole (written.Checkpoint recorded stamps sent) = refl
-needs-whole flow p f whole (written.Event event) = refl
-
 needs-nothing : (flow : Dataflow) (p : ℕ) (f : Front) (w : Written) → is_needed flow None p f Checkpoints w ≡ false
 needs-nothing flow p f (written.Checkpoint recorded stamps sent) = refl
 needs-nothing flow p f (written.Event event) = refl
@@ -98,17 +80,10 @@ needs-events flow (Some whole) p f (written.Checkpoint recorded stamps sent) = r
 needs-events flow (Some whole) p f (written.Event event) = refl
 
 -- one of the entries is one at the cut where a filter leaves one
-at-cut : (p : ℕ) (f : Front) (e : Entry) → is_at_cut p (At f) e ≡ is_checkpoint_at p f e
-at-cut p f e = ap (λ b. (e.node == p) && (e.acknowledged && b)) (same e.written)
-  where
-    same : (w : Written) → is_written_at f w ≡ is_checkpoint_of f w
-    same (written.Checkpoint recorded stamps sent) = refl
-    same (written.Event event) = refl
-
 one-there : (p : ℕ) (f : Front) (es : List Entry) (e : Entry) → filter (is_checkpoint_at p f) es ≡ e ∷ [] → has_one_at_cut p (At f) es ≡ true
 one-there p f [] e is = absurd cc
 one-there p f (x ∷ es) e is = elim (cases_Bool (is_checkpoint_at p f x)) [
-  | inl i ↦ or_left (is_at_cut p (At f) x) (has_one_at_cut p (At f) es) (at-cut p f x ∙ i)
+  | inl i ↦ or_left (is_at_cut p (At f) x) (has_one_at_cut p (At f) es) i
   | inr o ↦ or_right (is_at_cut p (At f) x) (has_one_at_cut p (At f) es) (one-there p f es e (sym (filter-out (is_checkpoint_at p f) x es o) ∙ is))
 ]
 
@@ -126,15 +101,6 @@ read-none p f es newest = ap (λ o. cond (has_one_at_cut p (At f) es) o None) ne
     either : (b : Bool) → cond b none none ≡ none
     either true = refl
     either false = refl
-
-asked-checkpoints : (flow : Dataflow) (choice : Choice) (es : List Entry) (p : ℕ) (f whole : Front) → way_of flow p ≡ Checkpoints → cut_of choice p ≡ At f
-    → read_from p f es ≡ Some whole → asked_of flow choice es p ≡ filter (is_between p whole f) es
-asked-checkpoints flow choice es p f whole way is newest =
-    filter-same_on (λ e. (e.node == p) && is_asked_for flow choice es e) (is_between p whole f) es
-    (each-one (λ e. ((e.node == p) && is_asked_for flow choice es e) ≡ is_between p whole f e) es
-    (asked-by flow choice es p f is (is_written_between whole f)
-    (λ w.
-    ap (λ o. is_needed flow o p f (way_of flow p) w) newest ∙ ap (λ x. is_needed flow (Some whole) p f x w) way ∙ needs-whole flow p f whole w)))
 
 asked-nothing : (flow : Dataflow) (choice : Choice) (es : List Entry) (p : ℕ) (f : Front) → way_of flow p ≡ Checkpoints → cut_of choice p ≡ At f
     → read_from p f es ≡ None → asked_of flow choice es p ≡ []

@@ -23,14 +23,14 @@ use Rattle.fw_model.proofs.CmpLaws.{decided-front}
 use Rattle.fw_keep.specs.declared.entry.Entry.{Entry}
 use Rattle.fw_keep.specs.declared.entry.Written.{Written}
 use Rattle.fw_keep.specs.declared.entry.Written.TheVariants as written
-use Rattle.fw_keep.specs.Entry.{lies_within, is_beyond}
+use Rattle.fw_keep.specs.Entry.{lies_within, is_beyond, is_written_at}
 use Rattle.fw_keep.specs.Stored.{Records}
 use Rattle.fw_policy.specs.View.{base_of}
 use Rattle.fw_progress.specs.declared.traces.Traces.{Traces}
 use Rattle.fw_rollback.specs.Restored.{is_undone}
 use Rattle.fw_stands.specs.Recovered.{Recovers}
 use Rattle.fw_stands.specs.Parts.{IsTraceIn}
-use Rattle.fw_stands.specs.Read.{is_checkpoint_at, is_checkpoint_of}
+use Rattle.fw_stands.specs.Read.{is_checkpoint_at}
 use Rattle.fw_stands.specs.Written.{AreEntriesOf, AreStored, HoldsWhatIsWritten, HoldsWithin, IsEntryOf, uncollected}
 use Rattle.fw_stands.proofs.ReadLaws.{one-checkpoint}
 use Rattle.fw_stands.proofs.RecoveredTables.{cuts-canonical}
@@ -72,7 +72,7 @@ abbrev HoldsAt : System → Machine → ℕ → Front → Written → Type 0
 HoldsAt sys state p f (written.Checkpoint recorded stamps sent) = HoldsWithin sys state p f recorded stamps sent
 HoldsAt sys state p f (written.Event event) = ⊥
 
-holds-at : (sys : System) (state : Machine) (p : ℕ) (f : Front) (w : Written) (by : WrittenBy) → HoldsWhatIsWritten sys state p w by → is_checkpoint_of f w ≡ true → HoldsAt sys state p f w
+holds-at : (sys : System) (state : Machine) (p : ℕ) (f : Front) (w : Written) (by : WrittenBy) → HoldsWhatIsWritten sys state p w by → is_written_at f w ≡ true → HoldsAt sys state p f w
 holds-at sys state p f (written.Checkpoint recorded stamps sent) (checkpoint g low) h i =
     subst (λ x. HoldsWithin sys state p x recorded stamps sent) (sym h.recorded.front ∙ same_front-is recorded.front f i) h
 holds-at sys state p f (written.Checkpoint recorded stamps sent) (logged_event s) h i = absurd h
@@ -80,7 +80,7 @@ holds-at sys state p f (written.Event event) by h i = absurd (two_ways false i r
 
 entry-holds : (sys : System) (state : Machine) (p : ℕ) (f : Front) (e : Entry) (w : Write) → IsEntryOf sys state e w → is_saved_at p f e ≡ true → HoldsAt sys state p f e.written
 entry-holds sys state p f e w a i =
-    let both = and_parts (e.node == p) (is_checkpoint_of f e.written) i in
+    let both = and_parts (e.node == p) (is_written_at f e.written) i in
     let at : w.node ≡ p = sym a.node ∙ eqb-true e.node p both.0 in
     subst (λ q. HoldsAt sys state q f e.written) at (holds-at sys state w.node f e.written w.written a.holds both.1)
 
@@ -91,7 +91,7 @@ entries-hold sys state p f (e ∷ es) [] a = absurd a
 entries-hold sys state p f (e ∷ es) (w ∷ ws) a = (entry-holds sys state p f e w a.0, entries-hold sys state p f es ws a.1)
 
 -- a checkpoint at the cut of its node stays
-front-within : (f : Front) (w : Written) → is_within f f ≡ true → is_checkpoint_of f w ≡ true → lies_within f w ≡ true
+front-within : (f : Front) (w : Written) → is_within f f ≡ true → is_written_at f w ≡ true → lies_within f w ≡ true
 front-within f (written.Checkpoint recorded stamps sent) self i = ap (λ g. is_within g f) (same_front-is recorded.front f i) ∙ self
 front-within f (written.Event event) self i = absurd (two_ways false i refl)
 
@@ -103,13 +103,13 @@ none-saved choice p f is self (e ∷ es) a =
     let rest = none-saved choice p f is self es (each-later (λ x. is_saved_at p f x ≡ false) left e es a) in
     elim (cases_Bool (is_checkpoint_at p f e)) [
       | inl i ↦
-          let node = and_parts (e.node == p) (e.acknowledged && is_checkpoint_of f e.written) i in
-          let more = and_parts e.acknowledged (is_checkpoint_of f e.written) node.1 in
+          let node = and_parts (e.node == p) (e.acknowledged && is_written_at f e.written) i in
+          let more = and_parts e.acknowledged (is_written_at f e.written) node.1 in
           let stays : left e ≡ true =
           ap (λ q. not (is_beyond (cut_of choice q) e)) (eqb-true e.node p node.0) ∙ ap (λ cut. not (is_beyond cut e)) is
           ∙ ap (λ b. not (not b)) (front-within f e.written self more.1) in
           let kept = subst (AllByRecursion (λ x. is_saved_at p f x ≡ false)) (filter-in left e es stays) a in
-          absurd (two_ways (is_saved_at p f e) (and_from (e.node == p) (is_checkpoint_of f e.written) node.0 more.1) kept.0)
+          absurd (two_ways (is_saved_at p f e) (and_from (e.node == p) (is_written_at f e.written) node.0 more.1) kept.0)
       | inr i ↦ filter-out (is_checkpoint_at p f) e es i ∙ rest
     ]
 

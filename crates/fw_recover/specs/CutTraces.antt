@@ -15,12 +15,12 @@ use Rattle.fw_keep.specs.declared.entry.Written.{Written}
 use Rattle.fw_keep.specs.declared.entry.Written.TheVariants as written
 use Rattle.fw_progress.specs.declared.traces.Traces.{Traces}
 use Rattle.fw_progress.specs.Trace.{AreCutTo, AreRestoredTo, IsTraceIf}
-use Rattle.fw_stands.specs.Read.{is_checkpoint_of}
+use Rattle.fw_keep.specs.Entry.{is_written_at}
 use Rattle.fw_stands.specs.Recovered.{AreNoStamps}
 
 -- whether the entry is of a checkpoint of node p at f
 abbrev pub is_saved_at : ℕ → Front → Entry → Bool
-is_saved_at p f e = (e.node == p) && is_checkpoint_of f e.written
+is_saved_at p f e = (e.node == p) && is_written_at f e.written
 
 -- the traces of node p are those of what is written of it, if that is a checkpoint
 abbrev pub AreSavedBy : Dataflow → ℕ → Written → Traces → Traces → Type 0

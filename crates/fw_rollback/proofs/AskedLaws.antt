@@ -1,18 +1,26 @@
 -- Which entries are asked for, by the newest whole checkpoint within each cut and by whether one stands exactly there.
-use Rattle.std.proofs.Common.{◌≡◌, ◌≢◌, ℕ, ◌<◌, Bool, true, false, ◌&&◌, ◌||◌, ◌==◌, cond, List, ◌++◌, ◌∷◌, [], length, get_or, set, Option, Some, None, option_and_then, sym, ap, subst, ◌∙◌, inl, inr, refl, arith}
-use Rattle.std.proofs.lemmas.Bool.{cases_eq, cases_lt, false≢true, ne_eqb, or_right}
+use Rattle.std.proofs.Common.{◌≡◌, ◌≢◌, ℕ, ◌<◌, Bool, true, false, ◌&&◌, ◌||◌, ◌==◌, cond, List, ◌++◌, ◌∷◌, [], length, get_or, set, filter, Option, Some, None, option_and_then, sym, ap, subst, ◌∙◌, inl, inr, refl, arith}
+use Rattle.std.proofs.lemmas.Bool.{cases_Bool, cases_eq, cases_lt, eqb-true, false≢true, ne_eqb, or_right}
 use Rattle.std.proofs.lemmas.List.{get_or_past, get_or-set_same, get_or-set_other}
 use Rattle.std.proofs.lemmas.List.Folds.{list_any-append}
 use Rattle.std.proofs.Math.Bool.{or-false}
+use Rattle.fw_lemmas.proofs.Each.{each-one}
+use Rattle.fw_lemmas.proofs.Filters.{filter-same_on}
 use Rattle.fw_frontier.specs.Front.{Front}
 use Rattle.fw_flow.specs.declared.choice.Choice.{Choice}
 use Rattle.fw_flow.specs.declared.choice.Cut.{Cut}
 use Rattle.fw_flow.specs.declared.choice.Cut.TheVariants.{Present, At}
+use Rattle.fw_flow.specs.declared.restoring.Restoring.TheVariants.{Checkpoints}
+use Rattle.fw_flow.specs.Dataflow.{Dataflow}
+use Rattle.fw_flow.specs.Restoring.{way_of}
 use Rattle.fw_model.specs.Choice.{cut_of}
 use Rattle.fw_keep.specs.declared.entry.Entry.{Entry}
-use Rattle.fw_keep.specs.Newest.{front_within, whole_front, whole_within}
+use Rattle.fw_keep.specs.declared.entry.Written.{Written}
+use Rattle.fw_keep.specs.declared.entry.Written.TheVariants as written
+use Rattle.fw_keep.specs.Entry.{is_written_at}
+use Rattle.fw_keep.specs.Newest.{front_within, is_between, is_written_between, whole_front, whole_within}
 use Rattle.fw_keep.proofs.NewestLaws.{whole-here, whole-before}
-use Rattle.fw_rollback.specs.Asked.{front_at, is_at_cut, is_written_at, has_one_at_cut, whole_front_in_cut, whole_in_cut, AreEnds, AreWholes}
+use Rattle.fw_rollback.specs.Asked.{front_at, is_at_cut, has_one_at_cut, read_from, is_needed, is_asked_at, is_asked_for, asked_of, whole_front_in_cut, whole_in_cut, AreEnds, AreWholes}
 
 -- by the front of a cut, if it has one
 abbrev by_front : Option Front → (Front → Option Front) → Option Front
@@ -126,3 +134,34 @@ module _ (choice : Choice) (es more : List Entry) (e : Entry) (last : more ≡ e
         h p ∙ sym (subst P same (ends-same e.node (cut_of choice e.node) is))
     | inr apart ↦ h p ∙ sym (ends-same p (cut_of choice p) (at-other p (cut_of choice p) e apart))
   ]
+
+-- ---- what is asked for
+
+-- of the entries the choice asks for those of a node at which a test is true
+pub asked-by : (flow : Dataflow) (choice : Choice) (es : List Entry) (p : ℕ) (f : Front) → cut_of choice p ≡ At f → (test : Written → Bool)
+    → ((w : Written) → is_needed flow (read_from p f es) p f (way_of flow p) w ≡ test w) → (e : Entry)
+    → ((e.node == p) && is_asked_for flow choice es e) ≡ ((e.node == p) && (e.acknowledged && test e.written))
+asked-by flow choice es p f is test needed e = elim (cases_Bool (e.node == p)) [
+  | inl i ↦
+      let at = eqb-true e.node p i in
+      ap (λ b. (e.node == p) && b)
+      (ap (λ q. is_asked_at flow es (cut_of choice q) (record e { node = q })) at
+      ∙ ap (λ cut. is_asked_at flow es cut (record e { node = p })) is
+      ∙ ap (λ b. e.acknowledged && b) (needed e.written))
+  | inr i ↦ ap (λ b. b && is_asked_for flow choice es e) i ∙ sym (ap (λ b. b && (e.acknowledged && test e.written)) i)
+]
+
+-- a node that is restored by checkpoints needs those from the newest whole one up to the cut
+pub needs-whole : (flow : Dataflow) (p : ℕ) (f whole : Front) (w : Written) → is_needed flow (Some whole) p f Checkpoints w ≡ is_written_between whole f w
+needs-whole flow p f whole (written.Checkpoint recorded stamps sent) = refl
+needs-whole flow p f whole (written.Event event) = refl
+
+-- the checkpoints that are asked for of a node that is restored by them
+pub asked-checkpoints : (flow : Dataflow) (choice : Choice) (es : List Entry) (p : ℕ) (f whole : Front) → way_of flow p ≡ Checkpoints → cut_of choice p ≡ At f
+    → read_from p f es ≡ Some whole → asked_of flow choice es p ≡ filter (is_between p whole f) es
+asked-checkpoints flow choice es p f whole way is newest =
+    filter-same_on (λ e. (e.node == p) && is_asked_for flow choice es e) (is_between p whole f) es
+    (each-one (λ e. ((e.node == p) && is_asked_for flow choice es e) ≡ is_between p whole f e) es
+    (asked-by flow choice es p f is (is_written_between whole f)
+    (λ w.
+    ap (λ o. is_needed flow o p f (way_of flow p) w) newest ∙ ap (λ x. is_needed flow (Some whole) p f x w) way ∙ needs-whole flow p f whole w)))

@@ -12,14 +12,13 @@ use Rattle.fw_flow.specs.declared.choice.Cut.TheVariants.{Present, At}
 use Rattle.fw_flow.specs.declared.restoring.Restoring.{Restoring}
 use Rattle.fw_flow.specs.declared.restoring.Restoring.TheVariants.{Batches, Bound, Anything, Checkpoints, Events}
 use Rattle.std.specs.List.{AllByRecursion, Contains}
-use Rattle.std.proofs.lemmas.Bool.{and_parts}
 use Rattle.std.proofs.lemmas.Grind.{flat_map-append}
 use Rattle.std.proofs.lemmas.List.{append-nil, map-append, take_more}
 use Rattle.fw_lemmas.proofs.Each.{each-weaker}
 use Rattle.fw_time.specs.Stamp.{Stamp, in_domain}
 use Rattle.fw_flow.specs.declared.event.Event.{Event}
 use Rattle.fw_flow.specs.declared.event.Message.{Message}
-use Rattle.fw_flow.specs.Dataflow.{Dataflow, sender, receiver, kind_of, in_edges, out_edges, bounds_of, node_frontier}
+use Rattle.fw_flow.specs.Dataflow.{Dataflow, sender, receiver, kind_of, in_edges, out_edges, bounds_of}
 use Rattle.fw_flow.proofs.OutEdgeLaws.{out_edges-from}
 use Rattle.fw_model.specs.Filtering.{messages_outside}
 use Rattle.fw_model.specs.SortedMessages.{sorted_messages, with_messages}
@@ -31,7 +30,6 @@ use Rattle.fw_node.specs.Arrived.{AreOnEdges}
 use Rattle.fw_node.specs.NodeOf.{IsNodeOf}
 use Rattle.fw_node.specs.StateOf.{IsStateOf, IsStateSince}
 use Rattle.fw_node.specs.TableOf.{IsTableOf}
-use Rattle.fw_node.proofs.NodeLaws.{each_of}
 use Rattle.fw_rollback.proofs.ListLaws.{out_edges-there}
 use Rattle.fw_rollback.proofs.LogLaws.{log_of-same, with_messages-nothing}
 use Rattle.fw_flow.specs.Restoring.{way_of}

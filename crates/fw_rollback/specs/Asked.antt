@@ -26,7 +26,7 @@ use Rattle.fw_keep.specs.declared.fault.KeepFault.{KeepFault}
 use Rattle.fw_keep.specs.declared.fault.KeepFault.TheVariants as fault
 use Rattle.fw_record.specs.Event.{stamp_of_event}
 use Rattle.fw_keep.specs.Chains.{changes_of, states_of}
-use Rattle.fw_keep.specs.Entry.{IsRecordOfEntry}
+use Rattle.fw_keep.specs.Entry.{is_written_at}
 use Rattle.fw_keep.specs.Newest.{is_written_between, whole_front, whole_within}
 use Rattle.fw_keep.specs.Stored.{Records, SpellsNone, IsFetched}
 use Rattle.fw_node.specs.ChainOf.{last_front}
@@ -38,12 +38,7 @@ abbrev pub front_at : Cut → Option Front
 front_at Present = None
 front_at (At f) = Some f
 
--- whether a checkpoint is written whose front this is
-abbrev pub is_written_at : Front → Written → Bool
-is_written_at f (written.Checkpoint recorded stamps sent) = same_front recorded.front f
-is_written_at f (written.Event event) = false
-
--- whether the entry is an acknowledged one of a checkpoint of node p that stands exactly at the cut
+-- whether the entry is an acknowledged checkpoint of node p that stands exactly at the cut
 abbrev pub is_at_cut : ℕ → Cut → Entry → Bool
 is_at_cut p Present e = false
 is_at_cut p (At f) e = (e.node == p) && (e.acknowledged && is_written_at f e.written)
@@ -52,7 +47,7 @@ is_at_cut p (At f) e = (e.node == p) && (e.acknowledged && is_written_at f e.wri
 abbrev pub has_one_at_cut : ℕ → Cut → List Entry → Bool
 has_one_at_cut p cut entries = list_any (is_at_cut p cut) entries
 
--- these say of each node whether one of the entries stands at its cut
+-- these say of each node whether one of the entries is an acknowledged checkpoint of it that stands exactly at its cut
 abbrev pub AreEnds : Choice → List Entry → List Bool → Type 0
 AreEnds choice entries ends = (p : ℕ) → slice_index_or ends p false ≡ has_one_at_cut p (cut_of choice p) entries
 
@@ -64,17 +59,18 @@ whole_in_cut choice entries p = option_and_then (λ f. whole_within p f entries)
 abbrev pub whole_front_in_cut : Choice → ℕ → Entry → Option Front
 whole_front_in_cut choice p e = option_and_then (λ f. whole_front p f e) (front_at (cut_of choice p))
 
--- these are those of each node
+-- these are those of each node, among the entries
 abbrev pub AreWholes : Choice → List Entry → List (Option Front) → Type 0
 AreWholes choice entries wholes = (p : ℕ) → slice_index_or wholes p None ≡ whole_in_cut choice entries p
 
--- What an engine finds of the nodes that are cut is so for each of them.
+-- Of each node this is found: the front of its newest whole checkpoint within its cut, if it is cut and has one, and whether an acknowledged
+-- checkpoint of it stands exactly at its cut.
 pub record AreFound (choice : Choice) (entries : List Entry) (found : Found) : Type 0 where
   pub wholes : AreWholes choice entries found.wholes
   pub ends : AreEnds choice entries found.ends
 
--- the front from which on the checkpoints of node p are read where it is cut to f: that of its newest whole one within f, where one of its
--- checkpoints stands exactly at f; else none is read
+-- the front from which on the checkpoints of node p are read where it is cut to f: that of its newest whole one within f, in flight or
+-- acknowledged, where an acknowledged one stands exactly at f; else none is read
 abbrev pub read_from : ℕ → Front → List Entry → Option Front
 read_from p f entries = if has_one_at_cut p (At f) entries then whole_within p f entries else None
 
@@ -127,18 +123,18 @@ IsDamagedIfSaid flow choice records entries given (Err fault.NoMemory) = Unit {0
 
 -- ---- what records hold
 
--- the checkpoint of which the first record is, if there is one
+-- the whole checkpoint of which the first record is, if it is of one
 abbrev pub first_checkpoint : List Record → Option Checkpoint
 first_checkpoint [] = None
 first_checkpoint (tagged.State c ∷ rs) = Some c
 first_checkpoint (tagged.Event p event ∷ rs) = None
 first_checkpoint (tagged.Changes base c ∷ rs) = None
 
--- the front up to which this checkpoint leads with the changes that records hold: that of the last of these, or its own
+-- the front of the last changes that the records hold, or, where they hold none, of this checkpoint
 abbrev pub leads_to : Checkpoint → List Record → Front
 leads_to c rs = last_front c.recorded.front (states_of (changes_of rs))
 
--- the same checkpoint, if with the changes that the records hold it leads exactly to f
+-- the whole checkpoint of which the first record is, if the last changes that the records hold, or else it itself, are of just this front
 abbrev pub first_up_to : Front → List Record → Option Checkpoint
 first_up_to f rs = option_and_then (λ c. if same_front (leads_to c rs) f then Some c else None) (first_checkpoint rs)
 

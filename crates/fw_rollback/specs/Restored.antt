@@ -5,7 +5,6 @@ use Rattle.std.specs.List.{AllByRecursion}
 use Rattle.fw_time.specs.Stamp.{Stamp, in_domain}
 use Rattle.fw_bag.specs.declared.rec.Rec.{Rec}
 use Rattle.fw_frontier.specs.Front.{Front, inside}
-use Rattle.fw_frontier.specs.declared.state.State.{State}
 use Rattle.fw_flow.specs.declared.choice.Choice.{Choice}
 use Rattle.fw_flow.specs.declared.choice.Cut.{Cut}
 use Rattle.fw_flow.specs.declared.choice.Cut.TheVariants.{Present, At}
@@ -13,7 +12,7 @@ use Rattle.fw_flow.specs.declared.event.Event.{Event}
 use Rattle.fw_flow.specs.declared.event.Message.{Message}
 use Rattle.fw_flow.specs.declared.restoring.Restoring.{Restoring}
 use Rattle.fw_flow.specs.declared.restoring.Restoring.TheVariants.{Batches, Bound, Anything, Checkpoints, Events}
-use Rattle.fw_flow.specs.Dataflow.{Dataflow, kind_of, sender, receiver, in_edges, bounds_of, node_frontier, is_notified_kind}
+use Rattle.fw_flow.specs.Dataflow.{Dataflow, kind_of, sender, receiver, bounds_of, node_frontier, is_notified_kind}
 use Rattle.fw_flow.specs.NodeFunction.{sent_by}
 use Rattle.fw_flow.specs.Restoring.{way_of}
 use Rattle.fw_model.specs.Choice.{cut_of}
@@ -21,7 +20,7 @@ use Rattle.fw_model.specs.Filtering.{messages_outside, messages_from}
 use Rattle.fw_model.specs.Machine.{front_of}
 use Rattle.fw_model.specs.SortedMessages.{sorted_messages}
 use Rattle.fw_model.specs.Steps.{front_of_cut}
-use Rattle.fw_model.specs.Told.{EachDelivery, AreToldInside}
+use Rattle.fw_model.specs.Told.{AreToldInside}
 use Rattle.fw_record.specs.declared.record.Checkpoint.{Checkpoint}
 use Rattle.fw_record.specs.declared.record.Event.{Event as LoggedEvent}
 use Rattle.fw_record.specs.declared.record.Record.{Record}
@@ -31,7 +30,6 @@ use Rattle.fw_keep.specs.Stored.{Records}
 use Rattle.fw_edge.specs.Messages.{MessagesState}
 use Rattle.fw_rollback.specs.Edges.{on_edge, nothing_there, IsOnEdge}
 use Rattle.fw_node.specs.declared.node.Node.{Node}
-use Rattle.fw_node.specs.Arrived.{AreOnEdges}
 use Rattle.fw_node.specs.NodeOf.{IsNodeOf}
 use Rattle.fw_node.specs.ChainOf.{last_front, IsOfChain}
 use Rattle.fw_node.specs.TableOf.{IsTableOf}
@@ -82,8 +80,8 @@ pub record HasDone (flow : Dataflow) (low : List Front) (p : ℕ) (f : Front) (l
       → AllByRecursion (λ o. in_domain (bounds_of flow p) o ≡ true) f → IsTableOf flow p (node_frontier flow p f) node events
   pub sent : HaveSent flow low p logged logs
 
--- the node is restored from its first checkpoint and the changes since, which lead up to f, and the logs of its edges have the messages that
--- these hold; where there is none it is a new one, and the logs are empty
+-- the node is restored from its first checkpoint and the changes since, of which the last are of f, or, where there are none, it itself, and the
+-- logs of its edges have the messages that these hold; where there is no checkpoint it is a new one, and the logs are empty
 abbrev pub IsFromChain : Dataflow → List Front → ℕ → Front → Option Checkpoint → List Checkpoint → Node → List MessagesState → Type 0
 IsFromChain flow low p f None later node logs = IsNew flow p node × HasLogs flow p logs (λ e. nothing_there)
 IsFromChain flow low p f (Some c) later node logs =

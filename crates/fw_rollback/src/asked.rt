@@ -6,6 +6,7 @@ ghost use Rattle.fw_flow.specs.Restoring as restoring;
 ghost use Rattle.fw_model.specs.Choice.{cut_of};
 ghost use Rattle.fw_rollback.specs.Asked as spec;
 ghost use Rattle.fw_keep.specs.declared.entry.Entry.{Entry as Write};
+ghost use Rattle.fw_keep.specs.Entry as writes;
 ghost use Rattle.fw_rollback.specs.Asked.{front_at, is_at_cut, whole_front_in_cut, AreEnds, AreFound, AreWholes};
 
 use fw_flow::{Choice, Cut, Flow, NodeId, Restoring};
@@ -154,7 +155,7 @@ impl Ends {
 pub(crate) struct Found {
     /// The fronts of their newest whole checkpoints within their cuts.
     pub(crate) wholes: Wholes,
-    /// Of which a checkpoint stands exactly at the cut.
+    /// Of which an acknowledged checkpoint stands exactly at the cut.
     pub(crate) ends: Ends,
 }
 
@@ -208,7 +209,7 @@ fn is_end(choice: &Choice, entry: &Entry) -> bool
 
 /// Whether a checkpoint is written whose front this is.
 fn is_written_at(written: &Written, front: &Front) -> bool
-    ensures { result ≡ spec.is_written_at front.now written.now }
+    ensures { result ≡ writes.is_written_at front.now written.now }
 {
     match written {
         Written::Checkpoint { recorded, .. } => recorded.front.same(front),
@@ -216,9 +217,9 @@ fn is_written_at(written: &Written, front: &Front) -> bool
     }
 }
 
-/// Whether the cut of its node asks for the write, one of these. Where the node is restored by checkpoints and one of them stands exactly
-/// at the cut, it asks for the acknowledged ones from the newest whole one within the cut up to it; where it is restored by its events, for
-/// the acknowledged ones inside.
+/// Whether the cut of its node asks for the write, one of these. Where the node is restored by checkpoints and an acknowledged one stands
+/// exactly at the cut, it asks for the acknowledged ones from the newest whole one within the cut up to it; where it is restored by its
+/// events, for the acknowledged ones inside.
 pub(crate) fn is_asked_for(flow: &Flow, choice: &Choice, found: &Found, entry: &Entry) -> bool
     ensures { (entries : List Write) → AreFound choice.now entries found.now
         → result ≡ spec.is_asked_for flow.now choice.now entries entry.now }

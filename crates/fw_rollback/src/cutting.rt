@@ -17,14 +17,15 @@ use std::alloc::Global;
 
 /// Cuts what is kept of each node to the choice.
 ///
-/// Of a node that is cut to a frontier: its table and its log are built anew, from nothing, from its checkpoints from the
-/// newest whole one within the frontier up to the one exactly there, or by doing its logged events inside again; its writes
-/// that do not lie within are taken out, and their bytes wait for a sweep; an input has injected the batches inside alone, and
-/// an output has no rec. A queue to a node that stays as it is keeps what comes from what its sender keeps; one to a node that
-/// is cut has what the sender's new log holds outside the cut. All else stays.
+/// Of a node that is cut to a frontier: its table and its log are built anew, from nothing, from its checkpoints or by doing its
+/// acknowledged events inside again; its writes that do not lie within are taken out, and their bytes wait for a sweep; an input
+/// has injected the batches inside alone, and an output has no rec. A queue to a node that stays as it is keeps what comes from
+/// what its sender keeps; one to a node that is cut has what the sender's new log holds outside the cut. All else stays.
 ///
-/// Where none of a node's acknowledged checkpoints stands exactly at the frontier none is read, and the node begins anew,
-/// without a word. So it does where what was read begins with no whole checkpoint or does not lead up to the frontier.
+/// Of a node's checkpoints the acknowledged ones are read that lie within the frontier, and not strictly within the newest whole
+/// one that does. Where no acknowledged one stands exactly at the frontier none is read, and the node begins anew, without a
+/// word. So it does where the first that was read is not whole, or the last changes (the first itself, where none holds changes)
+/// are of another frontier. Whether each holds what changed since the one before it is not looked at.
 ///
 /// # Errors
 ///

@@ -21,10 +21,11 @@ use fw_node::Node;
 use fw_record::{Checkpoint, Record};
 use std::alloc::{AllocError, Global};
 
-/// The table of a node that is restored to the frontier from these records, of which the first has its whole state and each later
-/// one what changed since the one before it, and the node's logs with the messages that they hold but for what lies inside the
-/// receivers' low watermarks. Where the first is no whole checkpoint, or they do not lead up to the frontier, the node begins
-/// anew.
+/// The table of a node that is restored from these records, of which the first has its whole state and each later one what
+/// changed since the one before it, and the node's logs with the messages that they hold but for what lies inside the
+/// receivers' low watermarks. Where the first is no whole checkpoint, or the last changes (the first itself, where none holds
+/// changes) are not of this very frontier, the node begins anew. Whether the others hold what changed since the one before them
+/// is not looked at.
 pub(crate) fn restored(
     alloc: Global,
     flow: &Flow,
@@ -106,7 +107,8 @@ fn take_one(
     }
 }
 
-/// The checkpoint of which the first record is, if with the changes that the others hold it leads exactly to the frontier.
+/// The whole checkpoint of which the first record is, if the last changes that the records hold, or else it itself, are of this
+/// very frontier.
 fn first_up_to<'a>(records: &'a [Record], front: &Front) -> Option<&'a Checkpoint>
     ensures { option_copied result ≡ asked.first_up_to front.now records.now }
 {
@@ -114,7 +116,7 @@ fn first_up_to<'a>(records: &'a [Record], front: &Front) -> Option<&'a Checkpoin
     last_front(first, records).same(front).then_some(first)
 }
 
-/// The front up to which the checkpoint leads with the changes that these records hold: that of the last of these, or its own.
+/// The front of the last changes that these records hold, or, where they hold none, of the checkpoint.
 fn last_front<'a>(checkpoint: &'a Checkpoint, records: &'a [Record]) -> &'a Front
     ensures { result.now ≡ asked.leads_to checkpoint.now records.now }
 {
@@ -131,7 +133,7 @@ fn last_front<'a>(checkpoint: &'a Checkpoint, records: &'a [Record]) -> &'a Fron
     last
 }
 
-/// The checkpoint of which the first record is, if there is one.
+/// The whole checkpoint of which the first record is, if it is of one.
 fn first_checkpoint(records: &[Record]) -> Option<&Checkpoint>
     ensures { option_copied result ≡ asked.first_checkpoint records.now }
 {

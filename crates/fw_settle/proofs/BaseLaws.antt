@@ -20,13 +20,13 @@ use Rattle.fw_keep.specs.declared.entry.Entry.{Entry}
 use Rattle.fw_keep.specs.declared.entry.Written.{Written}
 use Rattle.fw_keep.specs.declared.entry.Written.TheVariants as written
 use Rattle.fw_keep.specs.Catalogue.{AreAscending, ids_of}
-use Rattle.fw_keep.specs.Entry.{base_of_record, depth_at, depth_on, is_checkpoint, IsBase, IsBased}
+use Rattle.fw_keep.specs.Entry.{base_of_record, depth_at, depth_on, is_checkpoint, written_front, IsBase, IsBased}
 use Rattle.fw_keep.specs.Newest.{is_checkpoint_of, newest_by}
 use Rattle.fw_policy.specs.Entries.{HoldsWhatIsWritten, HasBaseOf, AreEntriesOf, uncollected}
 use Rattle.fw_stands.specs.Entries.{entry_fronts, id_at_front, AreBasesOf}
 use Rattle.fw_stands.specs.Written.{IsRecordFor}
 use Rattle.fw_stands.proofs.BaseSteps.{newest_entry_is_of_write, none_is_asked}
-use Rattle.fw_settle.specs.Checkpoints.{base_after, next_base, front_of_entry, record_on, written_front}
+use Rattle.fw_settle.specs.Checkpoints.{base_after, next_base, front_of_entry, record_on}
 use Rattle.fw_settle.proofs.MadeLaws.{IsSinceNewest, IsToldFor}
 
 -- ---- among entries

@@ -1,6 +1,6 @@
 -- The newest checkpoint of a node by its entries, and whether nothing is settled.
 use Rattle.std.proofs.Common.{◌≡◌, ◌↔◌, ℕ, ◌==◌, Bool, true, false, cond, not, ◌&&◌, List, [], ◌∷◌, refl, sym, ap, ◌∙◌}
-use Rattle.std.specs.Prelude.{IsTrue, Option, Some, None, unwrap_or}
+use Rattle.std.specs.Prelude.{IsTrue, Option, Some, None, option_to_list, unwrap_or}
 use Rattle.std.specs.Option.{option_or}
 use Rattle.std.proofs.lemmas.Bool.{and_parts, false_from_ne_true}
 use Rattle.fw_lemmas.proofs.Bools.{two_ways}
@@ -17,10 +17,10 @@ use Rattle.fw_model.proofs.AskedLaws.{last-append}
 use Rattle.fw_keep.specs.declared.entry.Entry.{Entry}
 use Rattle.fw_keep.specs.declared.entry.Written.{Written}
 use Rattle.fw_keep.specs.declared.entry.Written.TheVariants as written
-use Rattle.fw_keep.specs.Entry.{is_checkpoint}
+use Rattle.fw_keep.specs.Entry.{is_checkpoint, written_front}
 use Rattle.fw_keep.specs.Newest.{newest_by}
-use Rattle.fw_stands.specs.Entries.{entry_front, entry_fronts}
-use Rattle.fw_settle.specs.Checkpoints.{front_of_entry, written_front}
+use Rattle.fw_stands.specs.Entries.{entry_fronts}
+use Rattle.fw_settle.specs.Checkpoints.{front_of_entry}
 use Rattle.fw_settle.proofs.BaseLaws.{newest-there}
 
 -- ---- nothing is settled
@@ -55,10 +55,10 @@ newest-front p f (z ∷ es) =
     ∙ sym (last-append f head (entry_fronts p es))
   where
     head : List Front
-    head = cond (z.node == p) (entry_front z.written) []
+    head = cond (z.node == p) (option_to_list (written_front z.written)) []
 
     one : (own : Bool) (w : Written) → z.written ≡ w
-        → unwrap_or (front_of_entry (cond (own && is_checkpoint w) (Some z) None)) f ≡ last_or f (cond own (entry_front w) [])
+        → unwrap_or (front_of_entry (cond (own && is_checkpoint w) (Some z) None)) f ≡ last_or f (cond own (option_to_list (written_front w)) [])
     one true (written.Checkpoint r t n) e = ap (λ w. unwrap_or (written_front w) f) e
     one true (written.Event event) e = refl
     one false w e = refl

@@ -37,9 +37,8 @@ use Rattle.fw_record.specs.declared.record.Checkpoint.{Checkpoint}
 use Rattle.fw_record.specs.declared.record.Record.{Record}
 use Rattle.fw_record.specs.declared.record.Record.TheVariants as tagged
 use Rattle.fw_keep.specs.declared.entry.Entry.{Entry}
-use Rattle.fw_keep.specs.declared.entry.Written.{Written}
-use Rattle.fw_keep.specs.declared.entry.Written.TheVariants as written
 use Rattle.fw_keep.specs.Catalogue.{AreAscending, ids_of}
+use Rattle.fw_keep.specs.Entry.{written_front}
 use Rattle.fw_keep.specs.Newest.{newest_by}
 use Rattle.fw_bytes.specs.Sound.{IsSentCount, each_may_follow, may_follow_counts}
 use Rattle.fw_record.specs.Sound.{may_follow_logged}
@@ -96,11 +95,6 @@ base_after (Some newest) = if nat_lt newest.depth 7 then Some newest else None
 -- the entry on which the next checkpoint of node p stands: that of the newest one, or none, where the next one is whole
 abbrev pub next_base : ℕ → List Entry → Option Entry
 next_base p entries = base_after (newest_by p entries)
-
--- the front of what is written, if it is a checkpoint
-abbrev pub written_front : Written → Option Front
-written_front (written.Checkpoint recorded stamps sent) = Some recorded.front
-written_front (written.Event event) = None
 
 -- the front of an entry's checkpoint, if there is one
 abbrev pub front_of_entry : Option Entry → Option Front

@@ -1,5 +1,5 @@
 -- What becomes of the bases of entries in each step: each has the id of the entry of its node at the front of its write's base.
-use Rattle.std.proofs.Common.{◌≡◌, ◌⊎◌, ℕ, ◌<◌, Bool, true, false, cond, not, ◌&&◌, ◌||◌, ◌==◌, List, [], ◌∷◌, ◌++◌, filter, length, refl, sym, ap, subst, ◌∙◌, inl, inr, Option, Some, None, arith}
+use Rattle.std.proofs.Common.{◌≡◌, ℕ, Bool, true, false, cond, not, ◌&&◌, ◌||◌, ◌==◌, List, [], ◌∷◌, ◌++◌, filter, refl, sym, ap, subst, ◌∙◌, inl, inr, Option, Some, None, option_to_list, arith}
 use Rattle.std.specs.List.{AllByRecursion, AllZip, Contains, list_any}
 use Rattle.std.specs.Option.{option_or}
 use Rattle.std.specs.Prelude.{option_and_then}
@@ -39,10 +39,10 @@ use Rattle.fw_keep.specs.declared.entry.Entry.{Entry}
 use Rattle.fw_keep.specs.declared.entry.Written.{Written}
 use Rattle.fw_keep.specs.declared.entry.Written.TheVariants as written
 use Rattle.fw_keep.specs.Catalogue.{persisted}
-use Rattle.fw_keep.specs.Entry.{is_beyond, is_checkpoint}
+use Rattle.fw_keep.specs.Entry.{is_beyond, is_checkpoint, written_front}
 use Rattle.fw_keep.specs.Newest.{is_checkpoint_of, newest_by}
 use Rattle.fw_policy.specs.Entries.{HoldsWhatIsWritten, HasBaseOf, IsEntryOf, AreEntriesOf, uncollected}
-use Rattle.fw_stands.specs.Entries.{entry_front, entry_fronts, entries_of_event, is_lost_of, id_at_front, AreBasesOf}
+use Rattle.fw_stands.specs.Entries.{entry_fronts, entries_of_event, is_lost_of, id_at_front, AreBasesOf}
 use Rattle.fw_stands.proofs.EntrySteps.{acknowledged-too, domains, event-flies, left-asked, lost-same, persist-left, recovered-left, undone-same}
 use Rattle.fw_stands.proofs.EntryViews.{fronts-alike}
 use Rattle.fw_stands.proofs.SideBySide.{zip-gone}
@@ -98,7 +98,7 @@ zip-lefts P R Q k [] xs a z = tt
 zip-lefts P R Q k (e ∷ es) [] a z = absurd z
 zip-lefts P R Q k (e ∷ es) (x ∷ xs) a z = (k e x a.0 z.0, zip-lefts P R Q k es xs a.1 z.1)
 
-apart-at : (n : ℕ) (w : WrittenBy) (q : ℕ) (v : WrittenBy) → IsApart n w q v → n ≡ q → (f : Front) (l m : List Front) → w ≡ checkpoint f l → v ≡ checkpoint f m → ⊥
+pub apart-at : (n : ℕ) (w : WrittenBy) (q : ℕ) (v : WrittenBy) → IsApart n w q v → n ≡ q → (f : Front) (l m : List Front) → w ≡ checkpoint f l → v ≡ checkpoint f m → ⊥
 apart-at n w q v a i f l m j k =
     (subst (λ y. IsApart n (checkpoint f l) q y) k (subst (λ y. IsApart n y q v) j a)) i refl
 
@@ -411,10 +411,10 @@ none-newest p (e ∷ es) k = by (none-newest p es) (newest_by p es) refl (is_che
     by rest (Some x) h b j k = absurd (let c : Some x ≡ None = k in cc)
     by rest None h true j k = absurd (let c : Some e ≡ None = k in cc)
     by rest None h false j k =
-        ap (λ fs. fs ++ entry_fronts p es) (cond_both (e.node == p) (entry_front e.written) [] (λ fs. fs ≡ []) (λ own. other e.written (sym (ap (λ b. b && is_checkpoint e.written) own) ∙ j)) (λ n. refl))
+        ap (λ fs. fs ++ entry_fronts p es) (cond_both (e.node == p) (option_to_list (written_front e.written)) [] (λ fs. fs ≡ []) (λ own. other e.written (sym (ap (λ b. b && is_checkpoint e.written) own) ∙ j)) (λ n. refl))
         ∙ rest h
       where
-        other : (w : Written) → is_checkpoint w ≡ false → entry_front w ≡ []
+        other : (w : Written) → is_checkpoint w ≡ false → option_to_list (written_front w) ≡ []
         other (written.Checkpoint r t n) i = absurd (two_ways true refl i)
         other (written.Event event) i = refl
 

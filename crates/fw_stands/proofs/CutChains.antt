@@ -1,5 +1,5 @@
 -- Which chain of checkpoints is read for a node that is cut: one that ends at the cut, and none where that has no stamps.
-use Rattle.std.proofs.Common.{◌≡◌, ◌≢◌, ℕ, ◌<◌, Bool, true, false, cond, ◌==◌, List, [], ◌∷◌, ◌++◌, filter, length, Option, Some, None, refl, sym, ap, subst, ◌∙◌, inl, inr, arith}
+use Rattle.std.proofs.Common.{◌≡◌, ◌≢◌, ℕ, true, cond, ◌==◌, List, [], ◌∷◌, ◌++◌, filter, Some, None, refl, sym, ap, subst, ◌∙◌, inl, inr}
 use Rattle.std.specs.List.{AllByRecursion, AllZip}
 use Rattle.std.specs.Option.{option_or}
 use Rattle.std.proofs.lemmas.Bool.{cases_Bool}
@@ -36,10 +36,10 @@ use Rattle.fw_record.specs.declared.record.Record.{Record}
 use Rattle.fw_record.specs.declared.record.Record.TheVariants as tagged
 use Rattle.fw_keep.specs.declared.entry.Entry.{Entry}
 use Rattle.fw_keep.specs.Chains.{changes_of}
-use Rattle.fw_keep.specs.Newest.{whole_front, whole_within}
+use Rattle.fw_keep.specs.Newest.{is_between, whole_front, whole_within}
 use Rattle.fw_keep.specs.Stored.{Records, HoldsAs}
 use Rattle.fw_stands.specs.Chains.{IsChainFor}
-use Rattle.fw_stands.specs.Read.{is_between, IsChainRead}
+use Rattle.fw_stands.specs.Read.{IsChainRead}
 use Rattle.fw_stands.specs.Recovered.{Recovers}
 use Rattle.fw_stands.specs.Written.{AreEntriesOf, IsEntryOf, IsHeldAs, AreStored, uncollected}
 use Rattle.fw_stands.proofs.ChainRecords.{IsReadAs, chain-for}

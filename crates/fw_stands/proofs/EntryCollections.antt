@@ -10,7 +10,7 @@ use Rattle.fw_flow.specs.declared.step.Step.TheVariants.{Collect}
 use Rattle.fw_flow.specs.Dataflow.{System, Dataflow, policy_of}
 use Rattle.fw_flow.specs.NodeFunction.{event_node, event_stamp}
 use Rattle.fw_flow.specs.WellFormed.{IsWellFormedSystem}
-use Rattle.fw_model.specs.Machine.{Machine, SerialEvent, Write, Stage, checkpoint, logged_event, front_of}
+use Rattle.fw_model.specs.Machine.{Machine, SerialEvent, Write, checkpoint, logged_event, front_of}
 use Rattle.fw_model.specs.Machine.{Written as WrittenBy}
 use Rattle.fw_model.specs.Reached.{IsReached}
 use Rattle.fw_model.specs.Steps.{Effect, LeadsTo, front_of_cut, is_forgotten, is_given_up}

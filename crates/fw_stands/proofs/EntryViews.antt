@@ -1,5 +1,5 @@
 -- What entries tell: the newest checkpoint, and what is lost with a node.
-use Rattle.std.proofs.Common.{◌≡◌, ◌↔◌, ℕ, Bool, true, false, cond, not, ◌&&◌, ◌||◌, ◌==◌, List, [], ◌∷◌, ◌++◌, length, refl, sym, ap, subst, ◌∙◌, inl, inr, ◌⊎◌, arith, ◌≢◌}
+use Rattle.std.proofs.Common.{◌≡◌, ◌↔◌, ℕ, Bool, true, false, cond, not, ◌&&◌, ◌||◌, ◌==◌, List, [], ◌∷◌, ◌++◌, length, option_to_list, refl, sym, ap, subst, ◌∙◌, inl, inr, ◌⊎◌, arith, ◌≢◌}
 use Rattle.std.specs.List.{Contains}
 use Rattle.std.proofs.lemmas.Bool.{or_right}
 use Rattle.std.proofs.lemmas.List.{append-nil}
@@ -15,7 +15,6 @@ use Rattle.fw_model.specs.Choice.{IsLogged}
 use Rattle.fw_model.specs.Machine.{Machine, SerialEvent, Write, Stage, in_flight, acknowledged, collected, checkpoint, logged_event, is_failed, front_of, no_stamps}
 use Rattle.fw_model.specs.Machine.{Written as WrittenBy}
 use Rattle.fw_model.specs.Steps.{Effect, LeadsTo, checkpoint_of, checkpoint_front, checkpoints_of, last_or, is_in_flight, without_lost, is_asked_for_checkpoints, silent, newest_checkpoint}
-use Rattle.fw_model.specs.Writes.{not_collected}
 use Rattle.fw_model.proofs.AskedLaws.{reached-all}
 use Rattle.fw_model.proofs.LoggedLaws.{live-logged}
 use Rattle.fw_model.proofs.NewestLaws.{newest-kept}
@@ -23,6 +22,7 @@ use Rattle.fw_model.proofs.RestoringLaws.{full-declared}
 use Rattle.fw_model.proofs.ThinnedLaws.{each-contained}
 use Rattle.fw_model.proofs.WriteLaws.{some-passed, NamesEvent, LogsEvent, some-logged, logged-some}
 use Rattle.fw_keep.specs.declared.entry.Entry.{Entry}
+use Rattle.fw_keep.specs.Entry.{written_front}
 use Rattle.fw_keep.specs.declared.entry.Written.{Written}
 use Rattle.fw_keep.specs.declared.entry.Written.TheVariants as written
 use Rattle.fw_policy.specs.View.{IsLostAt}
@@ -32,12 +32,12 @@ use Rattle.fw_model.specs.Reached.{IsReached}
 use Rattle.fw_policy.proofs.ReadLaws.{entries-read}
 use Rattle.fw_policy.proofs.UnloggedLaws.{IsOfEntries, unlogged-is, unlogged-has, some-filtered}
 use Rattle.fw_stands.specs.Written.{HoldsWhatIsWritten, AreEntriesOf, uncollected}
-use Rattle.fw_stands.specs.Entries.{entry_front, entry_fronts}
+use Rattle.fw_stands.specs.Entries.{entry_fronts}
 use Rattle.fw_frontier.specs.Front.{Front}
 
 -- ---- the newest checkpoint
 
-front-alike : (sys : System) (state : Machine) (p : ℕ) (entry : Written) (what : WrittenBy) → HoldsWhatIsWritten sys state p entry what → entry_front entry ≡ checkpoint_front what
+front-alike : (sys : System) (state : Machine) (p : ℕ) (entry : Written) (what : WrittenBy) → HoldsWhatIsWritten sys state p entry what → option_to_list (written_front entry) ≡ checkpoint_front what
 front-alike sys state p (written.Checkpoint r s n) (checkpoint f low) h = ap (λ g. g ∷ []) (h.recorded).front
 front-alike sys state p (written.Checkpoint r t n) (logged_event s) h = absurd h
 front-alike sys state p (written.Event event) (checkpoint f low) h = absurd h
@@ -49,7 +49,7 @@ fronts-alike sys state p [] [] a = refl
 fronts-alike sys state p [] (x ∷ xs) a = absurd a
 fronts-alike sys state p (e ∷ es) [] a = absurd a
 fronts-alike sys state p (e ∷ es) (x ∷ xs) a =
-    ap (λ n. cond (n == p) (entry_front e.written) [] ++ entry_fronts p es) (a.0).node
+    ap (λ n. cond (n == p) (option_to_list (written_front e.written)) [] ++ entry_fronts p es) (a.0).node
     ∙ ap (λ fs. cond (x.node == p) fs [] ++ entry_fronts p es) (front-alike sys state x.node e.written x.written (a.0).holds)
     ∙ ap (λ fs. cond (x.node == p) (checkpoint_front x.written) [] ++ fs) (fronts-alike sys state p es xs a.1)
 

@@ -22,8 +22,8 @@ use Rattle.fw_model.proofs.WriteLaws.{HoldsOfOne, ArePairs, AreAscending, LiesBe
 use Rattle.fw_keep.specs.declared.entry.Entry.{Entry}
 use Rattle.fw_keep.specs.declared.entry.Written.{Written}
 use Rattle.fw_keep.specs.declared.entry.Written.TheVariants as written
-use Rattle.fw_keep.specs.Newest.{front_within, is_written_between, whole_front, whole_within}
-use Rattle.fw_stands.specs.Read.{is_between, StandOn, IsChainRead}
+use Rattle.fw_keep.specs.Newest.{front_within, is_between, is_written_between, whole_front, whole_within}
+use Rattle.fw_stands.specs.Read.{StandOn, IsChainRead}
 use Rattle.fw_stands.specs.Written.{HoldsWhatIsWritten, IsEntryOf}
 
 -- ---- an entry and its write

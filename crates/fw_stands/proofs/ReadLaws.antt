@@ -1,11 +1,11 @@
 -- Which checkpoint is read for a node that is cut to it.
-use Rattle.std.proofs.Common.{◌≡◌, ◌≢◌, ℕ, true, false, ◌&&◌, ◌==◌, List, [], ◌∷◌, ◌++◌, filter, Option, Some, refl, sym, ap, subst, ◌∙◌, arith, ◌<◌, length}
+use Rattle.std.proofs.Common.{◌≡◌, ◌≢◌, ℕ, true, false, ◌&&◌, ◌==◌, List, [], ◌∷◌, ◌++◌, filter, Option, refl, sym, ap, subst, ◌∙◌, arith, ◌<◌, length}
 use Rattle.std.specs.List.{AllByRecursion, AllZip, Contains}
 use Rattle.std.specs.Option.{ForSome}
 use Rattle.std.proofs.lemmas.Bool.{and_parts, and_from, eqb-true, eq-eqb, false_from_ne_true}
 use Rattle.std.proofs.lemmas.List.Elements.{filter-append, Contains-append_right}
 use Rattle.fw_lemmas.proofs.Bools.{two_ways}
-use Rattle.fw_lemmas.proofs.Each.{each-weaker, each-kept}
+use Rattle.fw_lemmas.proofs.Each.{each-kept}
 use Rattle.fw_lemmas.proofs.Filters.{filter-in, filter-out}
 use Rattle.fw_frontier.specs.Front.{Front}
 use Rattle.fw_frontier.proofs.SameLaws.{same_front-is, same_front-from}
@@ -21,21 +21,21 @@ use Rattle.fw_model.specs.Machine.{Machine, Write, acknowledged, checkpoint, log
 use Rattle.fw_model.specs.Machine.{Written as WrittenBy}
 use Rattle.fw_model.specs.Steps.{checkpoint_front, LeadsTo, recovered_state, cuts, Effect}
 use Rattle.fw_model.specs.Writes.{IsCheckpointOf, not_collected, takes_checkpoints}
-use Rattle.fw_model.proofs.CheckpointFrontLaws.{checkpoints-have_stamps}
 use Rattle.fw_model.proofs.RestoringLaws.{cuts-kept}
 use Rattle.fw_model.specs.Reached.{IsReached}
 use Rattle.fw_keep.specs.declared.entry.Entry.{Entry}
 use Rattle.fw_keep.specs.declared.entry.Written.{Written}
 use Rattle.fw_keep.specs.declared.entry.Written.TheVariants as written
+use Rattle.fw_keep.specs.Entry.{is_written_at}
 use Rattle.fw_keep.specs.Stored.{Records}
-use Rattle.fw_stands.specs.Read.{is_checkpoint_at, is_checkpoint_of, HasOnlyCheckpoint}
+use Rattle.fw_stands.specs.Read.{is_checkpoint_at, HasOnlyCheckpoint}
 use Rattle.fw_stands.specs.Written.{HoldsWhatIsWritten, HoldsWithin, IsEntryOf, IsHeldAs, AreStored}
 use Rattle.fw_stands.specs.Recovered.{Recovers}
 use Rattle.fw_policy.specs.Entries.{AreEntriesOf}
 
 -- ---- entries of checkpoints and their writes
 
-front-of : (sys : System) (state : Machine) (p : ℕ) (f : Front) (e : Written) (w : WrittenBy) → HoldsWhatIsWritten sys state p e w → is_checkpoint_of f e ≡ true
+front-of : (sys : System) (state : Machine) (p : ℕ) (f : Front) (e : Written) (w : WrittenBy) → HoldsWhatIsWritten sys state p e w → is_written_at f e ≡ true
     → checkpoint_front w ≡ f ∷ []
 front-of sys state p f (written.Checkpoint recorded stamps sent) (checkpoint g low) h i =
     ap (λ x. x ∷ []) (sym h.recorded.front ∙ same_front-is recorded.front f i)
@@ -45,8 +45,8 @@ front-of sys state p f (written.Event event) w h i = absurd (two_ways false i re
 -- an entry of an acknowledged checkpoint at the frontier stands for a write of one
 is-such : (sys : System) (state : Machine) (p : ℕ) (f : Front) (e : Entry) (w : Write) → IsEntryOf sys state e w → is_checkpoint_at p f e ≡ true → IsCheckpointOf p f w
 is-such sys state p f e w a i =
-    let node = and_parts (e.node == p) (e.acknowledged && is_checkpoint_of f e.written) i in
-    let more = and_parts e.acknowledged (is_checkpoint_of f e.written) node.1 in
+    let node = and_parts (e.node == p) (e.acknowledged && is_written_at f e.written) i in
+    let more = and_parts e.acknowledged (is_written_at f e.written) node.1 in
     (sym a.node ∙ eqb-true e.node p node.0, front-of sys state w.node f e.written w.written a.holds more.1)
 
 -- What is written of a checkpoint: with these watermarks, and what its entry holds.
@@ -58,7 +58,7 @@ record IsWritten (sys : System) (state : Machine) (p : ℕ) (f : Front) (e : Wri
   pub sent : ℕ
   pub what : e ≡ written.Checkpoint recorded stamps sent
   pub holds : HoldsWithin sys state p f recorded stamps sent
-  pub front : is_checkpoint_of f e ≡ true
+  pub front : is_written_at f e ≡ true
 
 pub first-is : (g f : Front) → g ∷ [] ≡ f ∷ [] → g ≡ f
 first-is g f e = ap first e
@@ -112,8 +112,8 @@ alone : (sys : System) (state : Machine) (records : Option Records) (p : ℕ) (f
 alone sys state records p f one later such stage after [] [] before a s = absurd a
 alone sys state records p f one later such stage after [] (e ∷ es) before a s =
     let w = is-written sys state one.node f e.written one.written a.0.holds such.1 in
-    let passes = and_from (e.node == p) (e.acknowledged && is_checkpoint_of f e.written) (eq-eqb e.node p (a.0.node ∙ such.0))
-    (and_from e.acknowledged (is_checkpoint_of f e.written) (a.0.acknowledged ∙ ap (is_counted kept) stage) w.front) in
+    let passes = and_from (e.node == p) (e.acknowledged && is_written_at f e.written) (eq-eqb e.node p (a.0.node ∙ such.0))
+    (and_from e.acknowledged (is_written_at f e.written) (a.0.acknowledged ∙ ap (is_counted kept) stage) w.front) in
     record {
       entry = e;
       only = filter-in (is_checkpoint_at p f) e es passes ∙ ap (λ xs. e ∷ xs) (none-pass sys state p f es later a.1 after);

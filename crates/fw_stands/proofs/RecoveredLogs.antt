@@ -1,7 +1,7 @@
 -- What logs hold after a recovery.
 use Rattle.std.proofs.Common.{◌≡◌, ◌≢◌, ℕ, Bool, true, false, not, List, [], ◌∷◌, ◌++◌, refl, sym, ap, subst, ◌∙◌, inl, inr, ◌<◌, length}
 use Rattle.std.proofs.lemmas.Bool.{cases_Bool, cond-false, cond-true, and_from, and_left, false_from_ne_true}
-use Rattle.std.specs.List.{AllByRecursion, Contains}
+use Rattle.std.specs.List.{AllByRecursion}
 use Rattle.std.proofs.lemmas.List.Elements.{filter-append}
 use Rattle.fw_lemmas.proofs.Bools.{two_ways}
 use Rattle.fw_lemmas.proofs.Each.{each-weaker, each-one, each-kept, all-of_each}
@@ -23,31 +23,24 @@ use Rattle.fw_flow.specs.NodeFunction.{event_stamp, sends, sent_by}
 use Rattle.fw_flow.specs.Projection.{events_at, all_inside}
 use Rattle.fw_flow.specs.declared.restoring.Restoring.TheVariants.{Checkpoints, Events}
 use Rattle.fw_flow.specs.Restoring.{can_resend, restoring, way_of}
-use Rattle.fw_flow.specs.WellFormed.{IsPolicyAllowed, IsWellFormedSystem, may_keep_nothing, IsWellFormed}
+use Rattle.fw_flow.specs.WellFormed.{IsPolicyAllowed, may_keep_nothing, IsWellFormed}
 use Rattle.fw_model.specs.Choice.{cut_of, kept_of}
 use Rattle.fw_model.specs.Covers.{set_of}
 use Rattle.fw_model.specs.Filtering.{events_inside, messages_from, messages_outside}
 use Rattle.fw_model.specs.History.{sent_messages}
 use Rattle.fw_model.specs.LawsOfReplay.{not_given_up, replayed_events}
-use Rattle.fw_model.specs.Machine.{Machine, Write, checkpoint, events, family_of, front_of, is_failed, no_stamps}
-use Rattle.fw_model.specs.Reached.{IsReached}
+use Rattle.fw_model.specs.Machine.{Machine, events, family_of, front_of, is_failed, no_stamps}
 use Rattle.fw_model.specs.Resending.{at_receiver, logged_messages}
 use Rattle.fw_model.specs.SortedMessages.{sorted_messages}
 use Rattle.fw_model.specs.Steps.{recovered_state}
-use Rattle.fw_model.specs.Writes.{IsKeptWithin}
 use Rattle.fw_model.proofs.LocalityLaws.{sends-causes}
 use Rattle.fw_model.proofs.LowLaws.{none-within}
 use Rattle.fw_model.proofs.ReplayLaws.{replayed-send, replayed-those}
-use Rattle.fw_model.proofs.RestoringLaws.{watermarks-today}
 use Rattle.fw_model.proofs.SendPartLaws.{part-sends, passing-send}
 use Rattle.fw_model.proofs.SequenceLaws.{one_inside}
-use Rattle.fw_model.proofs.SortedLaws.{sorted_messages-filter}
 use Rattle.fw_stands.specs.Recovered.{Recovers}
 use Rattle.fw_stands.specs.Parts.{is_logging, logged}
-use Rattle.fw_record.specs.Log.{logged_on}
-use Rattle.fw_record.specs.declared.record.Checkpoint.{Checkpoint}
-use Rattle.fw_stands.specs.Written.{to_log, IsCheckpointFor}
-use Rattle.fw_stands.proofs.RecoveredFacts.{knows, none_failed, present_lives, IsCausedIn, legal-caused, legal-at, sent-now, outside-front, none_given-up, each-contained}
+use Rattle.fw_stands.proofs.RecoveredFacts.{knows, none_failed, present_lives, IsCausedIn, legal-caused, legal-at, sent-now, outside-front, none_given-up}
 
 -- ---- after any recovery
 

@@ -38,18 +38,16 @@ use Rattle.fw_model.proofs.RestoringLaws.{full-declared}
 use Rattle.fw_model.proofs.ToldLaws.{deliveries_lie-inside, paid-told}
 use Rattle.fw_node.specs.declared.node.Node.{Node}
 use Rattle.fw_node.specs.Arrived.{AreOnEdges}
-use Rattle.fw_node.specs.StateOf.{IsStateOf}
 use Rattle.fw_node.specs.TableOf.{IsTableOf}
 use Rattle.fw_node.proofs.OnEdgesLaws.{events_come_on_in_edges}
 use Rattle.fw_stands.specs.Recovered.{Recovers}
 use Rattle.fw_stands.specs.Parts.{IsTableIn, settles_with_checkpoints, table_front}
-use Rattle.fw_stands.specs.Written.{events_within, IsCheckpointFor}
+use Rattle.fw_stands.specs.Written.{events_within}
 use Rattle.fw_stands.proofs.RecoveredFacts.{knows, none_failed, present_lives, cut_within-settled, events-now, none_given-up}
 use Rattle.fw_stands.proofs.RedoneLaws.{inside-both, full-inner, delivered-there, each-delivery_both, each-delivery_weaker, told-inside}
 use Rattle.fw_stands.proofs.TableLaws.{stands-also}
 use Rattle.fw_stands.proofs.NodeCheckpoints.{checkpoints-left}
 use Rattle.fw_stands.proofs.TableBaseLaws.{front-settled, newest-cut, same-front, same_table-stands}
-use Rattle.fw_record.specs.declared.record.Checkpoint.{Checkpoint}
 
 -- ---- what is settled
 

@@ -1,5 +1,5 @@
 -- What stands for what is written, and what becomes of entries in a step.
-use Rattle.std.specs.Prelude.{ℕ, Bool, not, ◌&&◌, ◌==◌, if◌then◌else◌, List, [], ◌∷◌, filter, ◌≡◌, Option, Some, None, option_and_then, true}
+use Rattle.std.specs.Prelude.{ℕ, Bool, not, ◌&&◌, ◌==◌, if◌then◌else◌, List, [], ◌∷◌, filter, ◌≡◌, Option, Some, None, option_and_then, option_to_list, true}
 use Rattle.std.specs.List.{flat_map, list_any, AllZip}
 use Rattle.fw_frontier.specs.Front.{Front, same_front}
 use Rattle.fw_flow.specs.declared.choice.Stamps.{Stamps}
@@ -15,8 +15,7 @@ use Rattle.fw_record.specs.declared.record.Record.TheVariants as tagged
 use Rattle.fw_bag.specs.Bag.{IsRec}
 use Rattle.fw_keep.specs.declared.entry.Entry.{Entry}
 use Rattle.fw_keep.specs.declared.entry.Written.{Written}
-use Rattle.fw_keep.specs.declared.entry.Written.TheVariants as written
-use Rattle.fw_keep.specs.Entry.{asked, is_in_flight_of}
+use Rattle.fw_keep.specs.Entry.{asked, is_in_flight_of, written_front}
 use Rattle.fw_stands.specs.Written.{HoldsWhatIsWritten, events_within, IsRecordFor}
 
 -- ---- what is written stays
@@ -57,14 +56,9 @@ without_lost_of (p ∷ ps) entries = without_lost_of ps (filter (λ e. not (is_i
 
 -- ---- the newest checkpoint
 
--- the frontier of what is written, if it is a checkpoint
-abbrev pub entry_front : Written → List Front
-entry_front (written.Checkpoint recorded stamps sent) = recorded.front ∷ []
-entry_front (written.Event event) = []
-
 -- the frontiers of the checkpoints of node p, in order
 abbrev pub entry_fronts : ℕ → List Entry → List Front
-entry_fronts p entries = flat_map (λ (e : Entry). if e.node == p then entry_front e.written else []) entries
+entry_fronts p entries = flat_map (λ (e : Entry). if e.node == p then option_to_list (written_front e.written) else []) entries
 
 -- ---- bases
 

@@ -1,28 +1,23 @@
 -- By which entries a node is restored that takes checkpoints.
-use Rattle.std.specs.Prelude.{◌≡◌, ℕ, Bool, true, false, ◌&&◌, ◌==◌, List, [], ◌∷◌, filter, Option, Some, None}
+use Rattle.std.specs.Prelude.{◌≡◌, ℕ, Bool, true, ◌&&◌, ◌==◌, List, [], ◌∷◌, filter, Option, Some, None}
 use Rattle.std.specs.List.{AllZip, Contains}
 use Rattle.std.specs.Option.{ForSome}
-use Rattle.fw_frontier.specs.Front.{Front, is_within, same_front}
+use Rattle.fw_frontier.specs.Front.{Front, is_within}
 use Rattle.fw_flow.specs.declared.choice.Recorded.{Recorded}
 use Rattle.fw_flow.specs.declared.choice.Stamps.{Stamps}
 use Rattle.fw_flow.specs.Dataflow.{System}
 use Rattle.fw_model.specs.Machine.{Machine, Write, checkpoint}
 use Rattle.fw_model.specs.Steps.{last_or, checkpoints_of}
 use Rattle.fw_keep.specs.declared.entry.Entry.{Entry}
-use Rattle.fw_keep.specs.declared.entry.Written.{Written}
 use Rattle.fw_keep.specs.declared.entry.Written.TheVariants as written
-use Rattle.fw_keep.specs.Newest.{is_written_between, whole_within}
+use Rattle.fw_keep.specs.Entry.{is_written_at}
+use Rattle.fw_keep.specs.Newest.{is_between, whole_within}
 use Rattle.fw_keep.specs.Stored.{Records}
 use Rattle.fw_stands.specs.Written.{HoldsWithin, IsEntryOf, IsHeldAs}
 
--- whether a checkpoint at the frontier is written
-abbrev pub is_checkpoint_of : Front → Written → Bool
-is_checkpoint_of f (written.Checkpoint recorded stamps sent) = same_front recorded.front f
-is_checkpoint_of f (written.Event event) = false
-
 -- whether the entry is an acknowledged one of a checkpoint of node p at f
 abbrev pub is_checkpoint_at : ℕ → Front → Entry → Bool
-is_checkpoint_at p f e = (e.node == p) && (e.acknowledged && is_checkpoint_of f e.written)
+is_checkpoint_at p f e = (e.node == p) && (e.acknowledged && is_written_at f e.written)
 
 -- One of the entries alone is an acknowledged one of a checkpoint of node p at f. It stands for a write of the state, and where the
 -- store tells its records, they hold the record of that write.
@@ -43,10 +38,6 @@ pub record HasOnlyCheckpoint (sys : System) (state : Machine) (records : Option 
   pub holds : HoldsWithin sys state p f recorded stamps sent
 
 -- ---- chains
-
--- whether the entry is an acknowledged one of a checkpoint of node p, from the one at an earlier front up to f
-abbrev pub is_between : ℕ → Front → Front → Entry → Bool
-is_between p whole f e = (e.node == p) && (e.acknowledged && is_written_between whole f e.written)
 
 -- The write is a checkpoint of node p, and stands on the one at g, which lies within it.
 pub record IsCheckpointOn (p : ℕ) (g : Front) (w : Write) : Type 0 where

@@ -172,6 +172,7 @@ impl Ledger {
               sends = [];
               entries = Totals (sums_at_keys (recs_inside (λ s. after s && not (before s)) came) (recs_inside after came));
             }) }
+        ensures no_counts { IfOk result (λ state. state.sends ≡ []) }
         ensures stays { IsTrue self.now.refused → IsErr result }
     {
         if self.refused {

@@ -1,4 +1,4 @@
-use Rattle.std.proofs.Common.{◌≡◌, ◌≢◌, ◌<◌, ◌++◌, ℕ, List, length, Result, Ok, Err, OnOk, sym, subst}
+use Rattle.std.proofs.Common.{◌≡◌, ◌≢◌, ◌<◌, ◌++◌, List, length, Result, Ok, Err, OnOk, sym, subst}
 use Rattle.std.specs.List.{AllByRecursion, Contains}
 use Rattle.fw_flow.specs.Dataflow.{out_edges}
 use Rattle.fw_record.specs.declared.logged.Logged.{Logged}

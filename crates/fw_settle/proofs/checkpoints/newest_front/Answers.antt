@@ -6,4 +6,4 @@ use Rattle.fw_settle.proofs.checkpoints.newest_front.Goals as goal
 
 pub returns : goal.returns
 returns c = λ f.
-    ap (λ o. unwrap_or o f) (c.front_of_entry.ensures ∙ ap front_of_entry c.newest_checkpoint.ensures) ∙ newest-front c.args.node f c.args.keep.now.entries
+    ap (λ o. unwrap_or o f) (c.front_of_entry.ensures ∙ ap front_of_entry c.newest_checkpoint.ensures.newest) ∙ newest-front c.args.node f c.args.keep.now.entries

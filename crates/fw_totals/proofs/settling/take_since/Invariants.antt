@@ -1,4 +1,4 @@
-use Rattle.std.proofs.Common.{◌≡◌, ◌&&◌, not, ℕ, Bool}
+use Rattle.std.proofs.Common.{◌≡◌, ◌&&◌, not, ℕ}
 use Rattle.fw_totals.specs.Totals.{found}
 use Rattle.fw_totals.specs.Gathered.{gathered}
 use Rattle.fw_totals.proofs.settling.take_since.Given as goal

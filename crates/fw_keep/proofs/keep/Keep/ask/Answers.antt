@@ -24,7 +24,7 @@ pub invariant_of-self-in-Ok : goal.invariant_of-self-in-Ok
 invariant_of-self-in-Ok g c =
     sound-added c.self.inside _ (asked_beside c.self.inside.entries.items c.self.inside.next c.args.what.now c.args.stamps) refl
     (deep-asked c.self.inside.entries.items c.self.inside.next c.args.what.now c.args.stamps (subst (λ (k : KeepState). IsBased k.entries c.args.what.now) (sym c.self.view_is) c.requires.based)
-    c.self.invariant.catalogue.shallow c.self.invariant.catalogue.drawn) refl c.self.invariant c.in-Ok.ensures.added c.put_new-put.ensures.waiting (omega arith) refl refl c.put_new-put.ensures.room
+    c.self.invariant.catalogue.depths c.self.invariant.catalogue.drawn) refl c.self.invariant c.in-Ok.ensures.added c.put_new-put.ensures.waiting (omega arith) refl refl c.put_new-put.ensures.room
 
 pub invariant_of-self-in-Err-Failed : goal.invariant_of-self-in-Err-Failed
 invariant_of-self-in-Err-Failed g c =
@@ -55,8 +55,8 @@ returns-in-Ok-clause-bytes g c =
 pub put_new-put-requires-clause-ascending : goal.put_new-put-requires-clause-ascending
 put_new-put-requires-clause-ascending g c = c.self.invariant.catalogue.ascending
 
-pub put_new-put-requires-clause-shallow : goal.put_new-put-requires-clause-shallow
-put_new-put-requires-clause-shallow g c = c.self.invariant.catalogue.shallow
+pub put_new-put-requires-clause-depths : goal.put_new-put-requires-clause-depths
+put_new-put-requires-clause-depths g c = c.self.invariant.catalogue.depths
 
 pub put_new-put-requires-clause-few : goal.put_new-put-requires-clause-few
 put_new-put-requires-clause-few g c =

@@ -42,4 +42,4 @@ returns-clause-state c = λ flow p settled before sub more told node.
           ∙ ap (totals_changed k (delivered_recs (λ e s. not (node_frontier flow p g s)) inner)) (recs_until d (inside f) (inside g) ins before node.in_the_domain);
       sent = λ is. h.sent is ∙ sym (ap (λ (ms : List Message). length ms) (sent-told (node_frontier flow p f) before (told is)));
     })
-    (c.state_since.ensures flow k (past_of ins bounded before) first (within_domain d settled (inside g) sub) within)
+    (c.state_since.ensures.state flow k (past_of ins bounded before) first (within_domain d settled (inside g) sub) within)

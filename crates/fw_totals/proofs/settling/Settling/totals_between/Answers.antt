@@ -1,10 +1,9 @@
-use Rattle.std.proofs.Common.{◌≡◌, ◌&&◌, not, ℕ, Bool, List, None, ap, ◌∙◌}
+use Rattle.std.proofs.Common.{◌≡◌, ℕ, Bool, List, None, ap, ◌∙◌}
 use Rattle.std.specs.Map.{lookup}
 use Rattle.std.specs.Ordering.{nat_cmp}
 use Rattle.std.specs.BTreeMap.{is_at}
 use Rattle.fw_bag.specs.declared.rec.Rec.{Rec}
 use Rattle.fw_bag.specs.Arrivals.{recs_inside}
-use Rattle.fw_totals.specs.Gathered.{gathered}
 use Rattle.fw_totals.specs.Totals.{total_in, found}
 use Rattle.fw_totals.proofs.GatherLaws.{settles}
 use Rattle.fw_totals.proofs.SinceLaws.{gathers_between, shown_since}

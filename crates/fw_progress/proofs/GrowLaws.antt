@@ -20,7 +20,7 @@ use Rattle.fw_model.proofs.DescentLaws.{total, total-less, covers-at}
 use Rattle.fw_progress.specs.declared.counts.Counts.{Counts}
 use Rattle.fw_progress.specs.declared.growth.Growth.{Growth}
 use Rattle.fw_progress.specs.Counts.{come_by, target_by, IsAdmissibleBy, IsStuckBy, is_in}
-use Rattle.fw_progress.specs.Growths.{IsMore, AreGrowths, out_degrees, ArePut, IsGrown, HaveGrown, IsTakenUp}
+use Rattle.fw_progress.specs.Growths.{IsMore, IsNoMore, AreGrowths, out_degrees, ArePut, IsGrown, HaveGrown, IsTakenUp}
 use Rattle.fw_progress.proofs.TargetLaws.{target-monotone, target-less}
 
 -- ---- one front in a list of one for each node
@@ -164,14 +164,12 @@ grown_then flow counts old mid new work some rest growths more most a b =
 
 -- ---- a node is taken up
 
-pub taken_same : (flow : Dataflow) (counts : Counts) (p : ℕ) (old : List Front) (work : List ℕ) (growths : List Growth) (f : Front) → p < length flow.nodes
-    → IsFrontOf (bounds_of flow p) f (target_by flow counts (family_of flow old) p)
-    → (Within (family_of flow old p) (node_frontier flow p f) → Within (node_frontier flow p f) (family_of flow old p))
+pub taken_same : (flow : Dataflow) (counts : Counts) (p : ℕ) (old : List Front) (work : List ℕ) (growths : List Growth) → p < length flow.nodes → IsNoMore flow counts old p
     → IsTakenUp flow counts p old old work work growths growths
-taken_same flow counts p old work growths f l n back = record {
+taken_same flow counts p old work growths l none = record {
   grew = none_grown flow counts old work growths;
   admissible = λ a. a;
-  stuck = λ a out t i. back (λ s j. n.same s ∙ a.within p l s j) t (n.same t ∙ i);
+  stuck = λ a out. none (a.within p l);
 }
 
 pub taken_more : (flow : Dataflow) (counts : Counts) (p : ℕ) (old new : List Front) (work rest : List ℕ) (growths more : List Growth) (f : Front) → IsWellFormed flow → p < length old
@@ -203,6 +201,24 @@ not_within_read flow fronts p i f x r k e l is above none w =
     let b = bounds_of flow p in
     let here : x ≡ front_of fronts p = read_at fronts p i x [] e l is in
     both_ways r none ((above b k).1 (λ u m. w u (sym (ap (λ g. frontier_of b g u) here) ∙ m)))
+
+pub within_read : (flow : Dataflow) (fronts : List Front) (p i : ℕ) (f x : Front) (s : Bool) → AreCanonical flow fronts → i ≡ p → i < length fronts → x ≡ get_or fronts i x
+    → ((b : Bounds) → IsCanonical b x → (s ≡ true) ↔ Within (frontier_of b f) (frontier_of b x)) → s ≡ true → Within (node_frontier flow p f) (family_of flow fronts p)
+within_read flow fronts p i f x s c e l is below one t j =
+    let b = bounds_of flow p in
+    let here : x ≡ front_of fronts p = read_at fronts p i x [] e l is in
+    sym (ap (λ g. frontier_of b g t) here) ∙ (below b (subst (IsCanonical b) (sym here) (c p))).0 one t j
+
+-- what lies within the frontier so far is no more
+pub no_more : (flow : Dataflow) (counts : Counts) (fronts : List Front) (p i : ℕ) (left x : Front) (s : Bool) → AreCanonical flow fronts → i ≡ p → i < length fronts → x ≡ get_or fronts i x
+    → ((b : Bounds) → IsCanonical b x → (s ≡ true) ↔ Within (frontier_of b left) (frontier_of b x)) → s ≡ true
+    → Within (target_by flow counts (family_of flow fronts) p) (node_frontier flow p left) → IsNoMore flow counts fronts p
+no_more flow counts fronts p i left x s c e l is below one w above t k = within_read flow fronts p i left x s c e l is below one t (w t k)
+
+-- nor is a front that is not more
+pub not_more : (flow : Dataflow) (counts : Counts) (fronts : List Front) (p : ℕ) (f : Front) → IsFrontOf (bounds_of flow p) f (target_by flow counts (family_of flow fronts) p)
+    → (Within (family_of flow fronts p) (node_frontier flow p f) → Within (node_frontier flow p f) (family_of flow fronts p)) → IsNoMore flow counts fronts p
+not_more flow counts fronts p f n back w t k = back (λ s j. n.same s ∙ w s j) t (n.same t ∙ k)
 
 -- ---- fewer stamps are outside
 

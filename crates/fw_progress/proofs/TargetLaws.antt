@@ -1,26 +1,30 @@
 -- How far a node's frontier can go: what is read of the counts, and edge by edge.
-use Rattle.std.proofs.Common.{◌≡◌, ℕ, ◌+◌, ◌^◌, ◌<◌, ◌≤◌, Bool, true, false, not, ◌&&◌, ◌||◌, ◌==◌, nat_lt, nat_le, List, [], ◌∷◌, ◌++◌, length, get_or, take, refl, sym, ap, subst, ◌∙◌, arith}
+use Rattle.std.proofs.Common.{◌≡◌, ℕ, zero, suc, ◌+◌, ◌^◌, ◌<◌, ◌≤◌, Bool, true, false, not, ◌&&◌, ◌||◌, ◌==◌, nat_lt, nat_le, List, [], ◌∷◌, ◌++◌, length, get_or, take, refl, sym, ap, subst, ◌∙◌, arith}
 use Rattle.std.specs.List.{AllByRecursion, list_all}
 use Rattle.std.specs.Map.{keys_of}
-use Rattle.std.proofs.Math.Bool.{and-true, and_assoc}
+use Rattle.std.proofs.Math.Bool.{and-true, and-false, and_assoc}
 use Rattle.std.proofs.lemmas.Bool.{and_parts, and_from, eqb-true, false_from_ne_true, false≢true}
 use Rattle.std.proofs.lemmas.Bool.Decides.{nat_tests}
-use Rattle.std.proofs.lemmas.List.{take_more}
+use Rattle.std.proofs.lemmas.List.{take_more, take_all}
 use Rattle.fw_lemmas.proofs.Each.{each-weaker, each-at, each-of_all, all-of_each}
 use Rattle.fw_lemmas.proofs.Numbers.{count_step}
 use Rattle.fw_time.specs.Stamp.{Stamp, in_domain}
 use Rattle.fw_time.specs.declared.stamp.Bounds.{Bounds}
 use Rattle.fw_frontier.specs.Frontier.{Frontier, Within, meet}
 use Rattle.fw_frontier.specs.Front.{Front, inside, frontier_of, IsCanonical, IsFrontOf}
-use Rattle.fw_flow.specs.Dataflow.{Dataflow, kind_of, sender, receiver, in_edges, bounds_of, greatest_number, is_input_kind, node_frontier}
-use Rattle.fw_flow.specs.Projection.{first_coordinate, phi_by_count, table_count}
+use Rattle.fw_flow.specs.declared.kind.Kind.{Kind}
+use Rattle.fw_flow.specs.declared.kind.Kind.TheVariants.{Enter, Feedback, Leave, Sequence, Regroup}
+use Rattle.fw_flow.specs.Dataflow.{Dataflow, kind_of, sender, receiver, in_edges, domain_of_kind, out_domain_of_kind, greatest_of_kind, bounds_of_domain, bounds_of, greatest_number, is_input_kind, node_frontier}
+use Rattle.fw_flow.specs.Projection.{first_coordinate, phi_of_kind, phi_by_count, table_count}
+use Rattle.fw_flow.specs.WellFormed.{IsWellFormed}
 use Rattle.fw_flow.proofs.EdgeLaws.{in_edges-at, in_edges-from}
 use Rattle.fw_model.specs.Machine.{family_of}
 use Rattle.fw_model.proofs.InputLaws.{input-bounds}
 use Rattle.fw_model.proofs.PhiLaws.{phi_by_count-monotone}
 use Rattle.fw_model.proofs.StampLaws.{in_line}
 use Rattle.fw_progress.specs.declared.counts.Counts.{Counts}
-use Rattle.fw_progress.specs.Counts.{pending_of, sent_of, batches_in, injected_in, given_by, clear_by, come_by, target_by}
+use Rattle.fw_progress.specs.Counts.{AreCounts, pending_of, sent_of, batches_in, injected_in, given_by, clear_by, unpending_by, moves_stamps, carried_by, come_by, quiet_by, target_by}
+use Rattle.fw_progress.specs.Tally.{IsTallyOf}
 
 -- ---- what an input gave
 
@@ -79,16 +83,76 @@ pub met : (b : Bounds) (x y f : Front) (one other : Frontier) → IsFrontOf b x 
     → IsFrontOf b f (meet one other)
 met b x y f one other p q n = record { canonical = n.canonical; same = λ t. n.same t ∙ ap (λ c. c && frontier_of b y t) (p.same t) ∙ ap (λ c. one t && c) (q.same t) }
 
+-- a front names what it names
+named : (b : Bounds) (x : Front) → IsCanonical b x → IsFrontOf b x (frontier_of b x)
+named b x k = record { canonical = k; same = λ t. refl }
+
 -- where there are no stamps a front is met with all
-pub all-met : (b : Bounds) (x : Front) (one : Frontier) (entries : List (Stamp × ℕ)) → entries ≡ [] → IsFrontOf b x one → IsFrontOf b x (meet (frontier_of b (keys_of entries)) one)
-all-met b x one entries e n = record {
-  canonical = n.canonical;
-  same = λ t.
-      by (in_domain b t) (inside x t) ∙ ap (λ c. (in_domain b t && true) && c) (n.same t)
-      ∙ ap (λ es. frontier_of b (keys_of es) t && one t) (sym e);
+pub all-met : (b : Bounds) (x : Front) (entries : List (Stamp × ℕ)) → entries ≡ [] → IsCanonical b x → IsFrontOf b x (meet (frontier_of b x) (frontier_of b (keys_of entries)))
+all-met b x entries e k = record {
+  canonical = k;
+  same = λ t. by (in_domain b t) (inside x t) ∙ ap (λ es. frontier_of b x t && frontier_of b (keys_of es) t) (sym e);
 }
   where
-    by : (d i : Bool) → (d && i) ≡ ((d && true) && (d && i))
+    by : (d i : Bool) → (d && i) ≡ ((d && i) && (d && true))
+    by true i = sym (and-true i)
+    by false i = refl
+
+-- a front met with what is before these stamps
+pub met-before : (b : Bounds) (x quiet f : Front) (entries counted : List (Stamp × ℕ)) → counted ≡ entries → IsCanonical b x → IsFrontOf b quiet (frontier_of b (keys_of counted))
+    → IsFrontOf b f (meet (frontier_of b x) (frontier_of b quiet)) → IsFrontOf b f (meet (frontier_of b x) (frontier_of b (keys_of entries)))
+met-before b x quiet f entries counted e k q n = met b x quiet f (frontier_of b x) (frontier_of b (keys_of entries)) (named b x k) (subst (λ es. IsFrontOf b quiet (frontier_of b (keys_of es))) e q) n
+
+-- what comes on an edge, by what it carries
+pub come-carried : (flow : Dataflow) (counts : Counts) (e : ℕ) (g : Frontier) (carried f : Front) → IsFrontOf (bounds_of flow (receiver flow e)) carried (carried_by flow counts e g)
+    → IsFrontOf (bounds_of flow (receiver flow e)) f (meet (node_frontier flow (receiver flow e) carried) (unpending_by flow counts e))
+    → IsFrontOf (bounds_of flow (receiver flow e)) f (come_by flow counts e g)
+come-carried flow counts e g carried f a n = record {
+  canonical = n.canonical;
+  same = λ t. n.same t ∙ ap (λ c. c && unpending_by flow counts e t) (a.same t) ∙ turned (carried_by flow counts e g t) (unpending_by flow counts e t);
+}
+  where
+    turned : (a b : Bool) → (a && b) ≡ (b && a)
+    turned true b = sym (and-true b)
+    turned false b = sym (and-false b)
+
+-- ---- what edges carry
+
+unmoved-domain : (flow : Dataflow) (kind : Kind) → moves_stamps kind ≡ false → out_domain_of_kind flow kind ≡ domain_of_kind flow kind
+unmoved-domain flow (Enter l) e = absurd (false≢true (sym e))
+unmoved-domain flow (Feedback l) e = absurd (false≢true (sym e))
+unmoved-domain flow (Leave l) e = absurd (false≢true (sym e))
+unmoved-domain flow Sequence e = absurd (false≢true (sym e))
+unmoved-domain flow (Regroup n) e = absurd (false≢true (sym e))
+unmoved-domain flow kind e = refl
+
+unmoved-phi : (greatest : Stamp) (kind : Kind) (count : ℕ) (f : Frontier) (u : Stamp) → moves_stamps kind ≡ false → phi_of_kind greatest kind count f u ≡ f u
+unmoved-phi greatest (Enter l) count f u e = absurd (false≢true (sym e))
+unmoved-phi greatest (Feedback l) count f u e = absurd (false≢true (sym e))
+unmoved-phi greatest (Leave l) count f u e = absurd (false≢true (sym e))
+unmoved-phi greatest Sequence count f u e = absurd (false≢true (sym e))
+unmoved-phi greatest (Regroup n) count f u e = absurd (false≢true (sym e))
+unmoved-phi greatest kind count f u e = refl
+
+-- from a node that moves no stamps an edge carries its frontier as it is
+pub unmoved : (flow : Dataflow) (e : ℕ) (f : Front) (count : ℕ) → IsWellFormed flow → e < length flow.edges → moves_stamps (kind_of flow (sender flow e)) ≡ false
+    → IsCanonical (bounds_of flow (sender flow e)) f → IsFrontOf (bounds_of flow (receiver flow e)) f (phi_by_count flow count e (node_frontier flow (sender flow e) f))
+unfolding bounds_of phi_by_count
+unmoved flow e f count w l still k =
+    let kind = kind_of flow (sender flow e) in
+    let b = bounds_of_domain flow (domain_of_kind flow kind) in
+    let out = unmoved-domain flow kind still in
+    let comes : Frontier = λ u. in_domain (bounds_of_domain flow (out_domain_of_kind flow kind)) u && phi_of_kind (greatest_of_kind flow kind) kind count (frontier_of b f) u in
+    let here : IsFrontOf b f comes = record {
+      canonical = k;
+      same = λ t.
+          by (in_domain b t) (inside f t)
+          ∙ ap (λ d. in_domain (bounds_of_domain flow d) t && frontier_of b f t) (sym out)
+          ∙ ap (λ i. in_domain (bounds_of_domain flow (out_domain_of_kind flow kind)) t && i) (sym (unmoved-phi (greatest_of_kind flow kind) kind count (frontier_of b f) t still));
+    } in
+    subst (λ d. IsFrontOf (bounds_of_domain flow d) f comes) (sym out ∙ w.domains e l) here
+  where
+    by : (d i : Bool) → (d && i) ≡ (d && (d && i))
     by true i = refl
     by false i = refl
 
@@ -99,17 +163,17 @@ all-append test [] x = and-true (test x)
 all-append test (y ∷ xs) x = ap (λ b. test y && b) (all-append test xs x) ∙ sym (and_assoc (test y) (list_all test xs) (test x))
 
 -- one edge more
-left_more : (b : Bounds) (f : Frontier) (comes : ℕ → Frontier) (old come new : Front) (edges : List ℕ) (i e : ℕ) → i < length edges → e ≡ get_or edges i e
-    → IsFrontOf b old (λ t. f t && list_all (λ d. comes d t) (take i edges)) → IsFrontOf b come (comes e)
-    → IsFrontOf b new (meet (frontier_of b old) (frontier_of b come))
+left_met : (b : Bounds) (f : Frontier) (comes : ℕ → Frontier) (old new : Front) (edges : List ℕ) (i e : ℕ) → i < length edges → e ≡ get_or edges i e
+    → IsFrontOf b old (λ t. f t && list_all (λ d. comes d t) (take i edges))
+    → IsFrontOf b new (meet (frontier_of b old) (comes e))
     → IsFrontOf b new (λ t. f t && list_all (λ d. comes d t) (take (i + 1) edges))
-left_more b f comes old come new edges i e l is o a n = record {
+left_met b f comes old new edges i e l is o n = record {
   canonical = n.canonical;
   same = λ t.
       let test : ℕ → Bool = λ d. comes d t in
       let more : list_all test (take (i + 1) edges) ≡ (list_all test (take i edges) && test e) =
       ap (list_all test) (take_more edges i e l) ∙ all-append test (take i edges) (get_or edges i e) ∙ ap (λ d. list_all test (take i edges) && test d) (sym is) in
-      n.same t ∙ ap (λ c. c && frontier_of b come t) (o.same t) ∙ ap (λ c. (f t && list_all test (take i edges)) && c) (a.same t)
+      n.same t ∙ ap (λ c. c && test e) (o.same t)
       ∙ and_assoc (f t) (list_all test (take i edges)) (test e) ∙ ap (λ c. f t && c) (sym more);
 }
 
@@ -124,6 +188,18 @@ in_edge flow p edges i e es l is =
     let P : ℕ → Type 0 = λ d. (d < length flow.edges) × (receiver flow d ≡ p) in
     subst P (sym is) (each-at P edges i e l (subst (AllByRecursion P) (sym es) (in_edges-from P flow p (λ d m r. (m, r)))))
 
+-- one in-edge more, by a front of what comes on it
+pub left_by : (flow : Dataflow) (p : ℕ) (f : Frontier) (comes : ℕ → Frontier) (old come new : Front) (edges : List ℕ) (i e : ℕ)
+    → edges ≡ in_edges flow p → i < length edges → e ≡ get_or edges i e
+    → IsFrontOf (bounds_of flow p) old (λ t. f t && list_all (λ d. comes d t) (take i edges))
+    → IsFrontOf (bounds_of flow (receiver flow e)) come (comes e)
+    → (IsCanonical (bounds_of flow p) come → IsFrontOf (bounds_of flow p) new (meet (frontier_of (bounds_of flow p) old) (frontier_of (bounds_of flow p) come)))
+    → IsFrontOf (bounds_of flow p) new (λ t. f t && list_all (λ d. comes d t) (take (i + 1) edges))
+left_by flow p f comes old come new edges i e es l is o a n =
+    let here = subst (λ q. IsFrontOf (bounds_of flow q) come (comes e)) (in_edge flow p edges i e es l is).1 a in
+    let m = n here.canonical in
+    left_met (bounds_of flow p) f comes old new edges i e l is o (record { canonical = m.canonical; same = λ t. m.same t ∙ ap (λ c. frontier_of (bounds_of flow p) old t && c) (here.same t) })
+
 -- one in-edge more, by what can have come on it
 pub left_come : (flow : Dataflow) (counts : Counts) (fronts : List Front) (p : ℕ) (f : Frontier) (old come new : Front) (edges : List ℕ) (i e : ℕ)
     → edges ≡ in_edges flow p → i < length edges → e ≡ get_or edges i e
@@ -131,10 +207,75 @@ pub left_come : (flow : Dataflow) (counts : Counts) (fronts : List Front) (p : �
     → IsFrontOf (bounds_of flow (receiver flow e)) come (come_by flow counts e (family_of flow fronts (sender flow e)))
     → (IsCanonical (bounds_of flow p) come → IsFrontOf (bounds_of flow p) new (meet (frontier_of (bounds_of flow p) old) (frontier_of (bounds_of flow p) come)))
     → IsFrontOf (bounds_of flow p) new (λ t. f t && list_all (λ d. come_by flow counts d (family_of flow fronts (sender flow d)) t) (take (i + 1) edges))
-left_come flow counts fronts p f old come new edges i e es l is o a n =
-    let comes : ℕ → Frontier = λ d. come_by flow counts d (family_of flow fronts (sender flow d)) in
-    let here = subst (λ q. IsFrontOf (bounds_of flow q) come (comes e)) (in_edge flow p edges i e es l is).1 a in
-    left_more (bounds_of flow p) f comes old come new edges i e l is o here (n here.canonical)
+left_come flow counts fronts p f = left_by flow p f (λ d. come_by flow counts d (family_of flow fronts (sender flow d)))
+
+-- one in-edge more, by what it carries
+pub left_carried : (flow : Dataflow) (counts : Counts) (fronts : List Front) (p : ℕ) (old carried new : Front) (edges : List ℕ) (i e : ℕ)
+    → edges ≡ in_edges flow p → i < length edges → e ≡ get_or edges i e
+    → IsFrontOf (bounds_of flow p) old (λ t. quiet_by flow counts p t && list_all (λ d. carried_by flow counts d (family_of flow fronts (sender flow d)) t) (take i edges))
+    → IsFrontOf (bounds_of flow (receiver flow e)) carried (carried_by flow counts e (family_of flow fronts (sender flow e)))
+    → (IsCanonical (bounds_of flow p) carried → IsFrontOf (bounds_of flow p) new (meet (frontier_of (bounds_of flow p) old) (frontier_of (bounds_of flow p) carried)))
+    → IsFrontOf (bounds_of flow p) new (λ t. quiet_by flow counts p t && list_all (λ d. carried_by flow counts d (family_of flow fronts (sender flow d)) t) (take (i + 1) edges))
+left_carried flow counts fronts p = left_by flow p (quiet_by flow counts p) (λ d. carried_by flow counts d (family_of flow fronts (sender flow d)))
+
+-- one in-edge more, by what is pending on it
+pub left_quiet : (flow : Dataflow) (counts : Counts) (p : ℕ) (old new : Front) (edges : List ℕ) (i e : ℕ) → AreCounts flow counts
+    → edges ≡ in_edges flow p → i < length edges → e ≡ get_or edges i e
+    → IsFrontOf (bounds_of flow p) old (λ t. clear_by flow counts p t && list_all (λ d. unpending_by flow counts d t) (take i edges))
+    → (IsTallyOf (bounds_of flow p) (pending_of counts e) → IsFrontOf (bounds_of flow p) new (meet (frontier_of (bounds_of flow p) old) (frontier_of (bounds_of flow p) (keys_of (pending_of counts e)))))
+    → IsFrontOf (bounds_of flow p) new (λ t. clear_by flow counts p t && list_all (λ d. unpending_by flow counts d t) (take (i + 1) edges))
+left_quiet flow counts p old new edges i e a es l is o n =
+    let at = in_edge flow p edges i e es l is in
+    let m = n (subst (λ q. IsTallyOf (bounds_of flow q) (pending_of counts e)) at.1 (a.pending e at.0)) in
+    left_met (bounds_of flow p) (clear_by flow counts p) (unpending_by flow counts) old new edges i e l is o
+    (subst (λ q. IsFrontOf (bounds_of flow p) new (meet (frontier_of (bounds_of flow p) old) (node_frontier flow q (keys_of (pending_of counts e))))) (sym at.1) m)
+
+-- ---- what is pending first, and then what edges carry
+
+all-both : (f g : ℕ → Bool) (es : List ℕ) → list_all (λ e. f e && g e) es ≡ (list_all f es && list_all g es)
+all-both f g [] = refl
+all-both f g (e ∷ es) = ap (λ b. (f e && g e) && b) (all-both f g es) ∙ by (f e) (g e) (list_all f es) (list_all g es)
+  where
+    by : (a b c d : Bool) → ((a && b) && (c && d)) ≡ ((a && c) && (b && d))
+    by true true c d = refl
+    by true false c d = sym (and-false c)
+    by false b c d = refl
+
+all-taken : (test : ℕ → Bool) (i : ℕ) (es : List ℕ) → list_all test es ≡ true → list_all test (take i es) ≡ true
+all-taken test zero es k = refl
+all-taken test (suc i) [] k = refl
+all-taken test (suc i) (e ∷ es) k =
+    let both = and_parts (test e) (list_all test es) k in
+    and_from (test e) (list_all test (take i es)) both.0 (all-taken test i es both.1)
+
+target-quiet : (flow : Dataflow) (counts : Counts) (fronts : List Front) (p : ℕ) (t : Stamp)
+    → target_by flow counts (family_of flow fronts) p t ≡ (quiet_by flow counts p t && list_all (λ e. carried_by flow counts e (family_of flow fronts (sender flow e)) t) (in_edges flow p))
+target-quiet flow counts fronts p t =
+    let quiet : ℕ → Bool = λ e. unpending_by flow counts e t in
+    let carried : ℕ → Bool = λ e. carried_by flow counts e (family_of flow fronts (sender flow e)) t in
+    ap (λ b. clear_by flow counts p t && b) (all-both quiet carried (in_edges flow p))
+    ∙ sym (and_assoc (clear_by flow counts p t) (list_all quiet (in_edges flow p)) (list_all carried (in_edges flow p)))
+
+-- after all in-edges it is what the node can have
+pub left_all : (flow : Dataflow) (counts : Counts) (fronts : List Front) (p : ℕ) (left : Front) (edges : List ℕ) (i : ℕ) → edges ≡ in_edges flow p → length edges ≤ i
+    → IsFrontOf (bounds_of flow p) left (λ t. quiet_by flow counts p t && list_all (λ e. carried_by flow counts e (family_of flow fronts (sender flow e)) t) (take i edges))
+    → IsFrontOf (bounds_of flow p) left (target_by flow counts (family_of flow fronts) p)
+left_all flow counts fronts p left edges i es l n = record {
+  canonical = n.canonical;
+  same = λ t.
+      let carried : ℕ → Bool = λ e. carried_by flow counts e (family_of flow fronts (sender flow e)) t in
+      n.same t ∙ ap (λ ds. quiet_by flow counts p t && list_all carried ds) (take_all i edges l ∙ es) ∙ sym (target-quiet flow counts fronts p t);
+}
+
+-- before, the node can have no more than that
+pub left_within : (flow : Dataflow) (counts : Counts) (fronts : List Front) (p : ℕ) (left : Front) (edges : List ℕ) (i : ℕ) → edges ≡ in_edges flow p
+    → IsFrontOf (bounds_of flow p) left (λ t. quiet_by flow counts p t && list_all (λ e. carried_by flow counts e (family_of flow fronts (sender flow e)) t) (take i edges))
+    → Within (target_by flow counts (family_of flow fronts) p) (node_frontier flow p left)
+left_within flow counts fronts p left edges i es n t k =
+    let carried : ℕ → Bool = λ e. carried_by flow counts e (family_of flow fronts (sender flow e)) t in
+    let both = and_parts (quiet_by flow counts p t) (list_all carried (in_edges flow p)) (sym (target-quiet flow counts fronts p t) ∙ k) in
+    n.same t ∙ and_from (quiet_by flow counts p t) (list_all carried (take i edges)) both.0
+    (all-taken carried i edges (ap (list_all carried) es ∙ both.1))
 
 -- ---- larger families
 

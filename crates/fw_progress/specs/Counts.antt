@@ -5,6 +5,8 @@ use Rattle.std.specs.Map.{keys_of}
 use Rattle.fw_time.specs.Stamp.{Stamp, in_domain}
 use Rattle.fw_frontier.specs.Frontier.{Frontier, IsFrontier, Within, meet}
 use Rattle.fw_frontier.specs.Front.{Front}
+use Rattle.fw_flow.specs.declared.kind.Kind.{Kind}
+use Rattle.fw_flow.specs.declared.kind.Kind.TheVariants.{Enter, Feedback, Leave, Sequence, Regroup}
 use Rattle.fw_flow.specs.Dataflow.{Dataflow, kind_of, sender, receiver, in_edges, bounds_of, is_input_kind, node_frontier}
 use Rattle.fw_flow.specs.Projection.{first_coordinate, phi_by_count, table_count}
 use Rattle.fw_model.specs.Machine.{family_of}
@@ -61,10 +63,30 @@ given_by flow counts p t =
 abbrev pub clear_by : Dataflow → Counts → ℕ → Frontier
 clear_by flow counts p = meet (given_by flow counts p) (node_frontier flow p (keys_of (owed_of counts p)))
 
+-- up to where nothing is pending on an edge
+abbrev pub unpending_by : Dataflow → Counts → ℕ → Frontier
+unpending_by flow counts e = node_frontier flow (receiver flow e) (keys_of (pending_of counts e))
+
+-- whether a node of the kind sends at other stamps than those of its events
+abbrev pub moves_stamps : Kind → Bool
+moves_stamps (Enter l) = true
+moves_stamps (Feedback l) = true
+moves_stamps (Leave l) = true
+moves_stamps Sequence = true
+moves_stamps (Regroup n) = true
+moves_stamps kind = false
+
+-- all that can come on an edge by a frontier of its sender
+abbrev pub carried_by : Dataflow → Counts → ℕ → Frontier → Frontier
+carried_by flow counts e f = phi_by_count flow (table_count f (sent_of counts (sender flow e))) e f
+
 -- up to where nothing is pending on an edge, and all came that can come by a frontier of its sender
 abbrev pub come_by : Dataflow → Counts → ℕ → Frontier → Frontier
-come_by flow counts e f =
-    meet (node_frontier flow (receiver flow e) (keys_of (pending_of counts e))) (phi_by_count flow (table_count f (sent_of counts (sender flow e))) e f)
+come_by flow counts e f = meet (unpending_by flow counts e) (carried_by flow counts e f)
+
+-- up to where nothing is owed to a node and nothing is pending on its in-edges, and an input injected all
+abbrev pub quiet_by : Dataflow → Counts → ℕ → Frontier
+quiet_by flow counts p t = clear_by flow counts p t && list_all (λ e. unpending_by flow counts e t) (in_edges flow p)
 
 -- the largest frontier that a node can have, the others as they are
 abbrev pub target_by : Dataflow → Counts → (ℕ → Frontier) → ℕ → Frontier

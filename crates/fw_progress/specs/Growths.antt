@@ -7,12 +7,17 @@ use Rattle.fw_flow.specs.Dataflow.{Dataflow, receiver, out_edges, node_frontier}
 use Rattle.fw_model.specs.Machine.{family_of, AreCanonical}
 use Rattle.fw_progress.specs.declared.counts.Counts.{Counts}
 use Rattle.fw_progress.specs.declared.growth.Growth.{Growth}
-use Rattle.fw_progress.specs.Counts.{IsAdmissibleBy, IsStuckBy, is_in, AreStuckOutside, AreNodes}
+use Rattle.fw_progress.specs.Counts.{target_by, IsAdmissibleBy, IsStuckBy, is_in, AreStuckOutside, AreNodes}
 
 -- a front names more than the node has so far
 pub record IsMore (flow : Dataflow) (fronts : List Front) (p : ℕ) (front : Front) : Type 0 where
   pub above : Within (family_of flow fronts p) (node_frontier flow p front)
   pub strictly : Within (node_frontier flow p front) (family_of flow fronts p) → ⊥
+
+-- where the largest frontier that a node can have has all of the one so far, it has no more
+abbrev pub IsNoMore : Dataflow → Counts → List Front → ℕ → Type 0
+IsNoMore flow counts fronts p =
+    Within (family_of flow fronts p) (target_by flow counts (family_of flow fronts) p) → IsStuckBy flow counts fronts p
 
 -- each growth lies strictly above the node's frontier so far, and the last ones are the new frontiers
 abbrev pub AreGrowths : Dataflow → List Front → List Growth → List Front → Type 0

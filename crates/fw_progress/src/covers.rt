@@ -1,7 +1,7 @@
 //! What the traces of nodes cover.
 ghost use Rattle.std.specs.Prelude.{◌≡◌, ◌<◌, ◌++◌, ℕ, true, List, length, option_to_list, IsTrue, IsErr, IfOk, OnOk};
 ghost use Rattle.fw_flow.specs.declared.event.Event.{Event};
-ghost use Rattle.fw_flow.specs.Dataflow.{System, sender, receiver, node_frontier, HasEpochs};
+ghost use Rattle.fw_flow.specs.Dataflow.{System, sender, receiver, bounds_of, node_frontier, HasEpochs};
 ghost use Rattle.fw_flow.specs.Projection.{sent_count};
 ghost use Rattle.fw_model.specs.History.{IsLegal};
 ghost use Rattle.fw_progress.specs.Covers as spec;
@@ -11,7 +11,7 @@ use crate::traces::Traces;
 use fw_flow::laws::flow_is_well_formed;
 use fw_flow::{EdgeId, Flow, NodeId};
 use fw_frontier::Front;
-use fw_time::Stamp;
+use fw_time::{Bounds, Stamp};
 use std::alloc::{AllocError, Global};
 
 impl Traces {
@@ -158,7 +158,15 @@ fn push_sent(
 pub(crate) fn sends_at(flow: &Flow, node: NodeId, at: &Stamp) -> Option<Stamp>
     ensures { result ≡ spec.sent_stamp_at flow.now node at.now }
 {
-    if !at.in_domain(&flow.domain(node)) {
+    sends_within(flow, node, &flow.domain(node), at)
+}
+
+/// The same where the bounds of the node's domain are at hand.
+pub(crate) fn sends_within(flow: &Flow, node: NodeId, bounds: &Bounds, at: &Stamp) -> Option<Stamp>
+    requires { bounds.now ≡ bounds_of flow.now node }
+    ensures { result ≡ spec.sent_stamp_at flow.now node at.now }
+{
+    if !at.in_domain(bounds) {
         return None;
     }
     flow.send_stamp(node, at)

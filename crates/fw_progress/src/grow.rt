@@ -1,16 +1,16 @@
 //! A node's frontier grows.
-ghost use Rattle.std.specs.Prelude.{◌≡◌, ◌<◌, ◌++◌, ◌∷◌, [], true, false, length, set, IsTrue, IfOk};
+ghost use Rattle.std.specs.Prelude.{◌≡◌, ◌<◌, ◌++◌, ◌∷◌, [], true, false, length, set, IsTrue, IfSome, IfNone, IfOk};
 ghost use Rattle.fw_frontier.specs.Frontier.{Within};
-ghost use Rattle.fw_frontier.specs.Front.{IsCanonical};
+ghost use Rattle.fw_frontier.specs.Front.{IsCanonical, IsFrontOf};
 ghost use Rattle.fw_flow.specs.Dataflow.{bounds_of, node_frontier, out_edges};
 ghost use Rattle.fw_model.specs.Machine.{family_of, AreCanonical};
-ghost use Rattle.fw_progress.specs.Counts.{AreCounts};
-ghost use Rattle.fw_progress.specs.Growths.{IsMore, IsGrown, IsTakenUp};
+ghost use Rattle.fw_progress.specs.Counts.{target_by, AreCounts};
+ghost use Rattle.fw_progress.specs.Growths.{IsMore, IsNoMore, IsGrown, IsTakenUp};
 
 use crate::counts::Counts;
 use crate::growth::{Growth, Growths};
 use crate::leap::leap;
-use crate::target::target;
+use crate::target::{carried, narrow, quiet};
 use crate::worklist::Worklist;
 use fw_flow::laws::flow_is_well_formed;
 use fw_flow::{Flow, NodeId};
@@ -29,8 +29,46 @@ pub(crate) fn is_more(flow: &Flow, fronts: &[Front], node: NodeId, front: &Front
 {
     let _ = flow;
     let kept = &fronts[node.place() as usize];
-    kept.subset(front) && !front.subset(kept)
+    !front.subset(kept) && kept.subset(front)
 }
+
+/// The largest frontier that a node can have, the others as they are, if that is larger than the one that it has. The error is
+/// want of memory.
+pub(crate) fn larger(
+    alloc: Global,
+    flow: &Flow,
+    counts: &Counts,
+    fronts: &[Front],
+    node: NodeId,
+) -> Result<Option<Front>, AllocError>
+    requires there { node < length flow.now.nodes }
+    requires counts { AreCounts flow.now counts.now }
+    requires one_each { length fronts.now ≡ length flow.now.nodes }
+    requires canonical { AreCanonical flow.now fronts.now }
+    ensures most { IfOk result (λ larger. IfSome larger (λ front. IsFrontOf (bounds_of flow.now node) front
+        (target_by flow.now counts.now (family_of flow.now fronts.now) node))) }
+    ensures more { IfOk result (λ larger. IfSome larger (IsMore flow.now fronts.now node)) }
+    ensures none { IfOk result (λ larger. IfNone larger (IsNoMore flow.now counts.now fronts.now node)) }
+{
+    flow_is_well_formed(flow);
+    let kept = &fronts[node.place() as usize];
+    let mut left = quiet(alloc, flow, counts, node)?;
+    let edges = flow.in_edges(node);
+    for edge in edges {
+        if left.subset(kept) {
+            return Ok(None);
+        }
+        let carried = carried(alloc, flow, counts, fronts, *edge)?;
+        narrow(&mut left, carried)?;
+    }
+    if !is_more(flow, fronts, node, &left) {
+        return Ok(None);
+    }
+    Ok(Some(left))
+}
+
+/// For how many growths there is room from the first one on.
+const ROOM: usize = 16;
 
 /// Gives a node a larger frontier: it is listed, and the receivers of its out-edges wait. The error is want of memory.
 pub(crate) fn grow(
@@ -47,6 +85,7 @@ pub(crate) fn grow(
 {
     let copy = front.copy()?;
     fronts[node.place() as usize] = front;
+    growths.reserve(ROOM.saturating_sub(growths.len()))?;
     growths.push(Growth { node, front: copy })?;
     work.put_receivers(flow, node)
 }
@@ -69,10 +108,9 @@ fn widen(
         growths.old.items growths.new.items) }
 {
     flow_is_well_formed(flow);
-    let front = target(alloc, flow, counts, fronts, node)?;
-    if !is_more(flow, fronts, node, &front) {
+    let Some(front) = larger(alloc, flow, counts, fronts, node)? else {
         return Ok(());
-    }
+    };
     grow(flow, fronts, work, growths, node, front)
 }
 

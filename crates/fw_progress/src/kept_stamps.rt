@@ -134,11 +134,18 @@ impl KeptStamps {
         Front::cover_of(self.alloc, &stamps, bounds)
     }
 
+    /// The stamps, in ascending order.
+    pub(crate) fn as_slice(&self) -> &[Stamp]
+        ensures { result.now ≡ self.now }
+    {
+        &self.stamps
+    }
+
     /// The stamps, in ascending order. The error is want of memory.
     pub fn stamps(&self) -> Result<Vec<Stamp>, AllocError>
         ensures { IfOk result (λ stamps. stamps.items ≡ self.now) }
     {
-        let mut stamps = Vec::new(self.alloc);
+        let mut stamps = Vec::with_capacity(self.alloc, self.stamps.len())?;
         for stamp in &self.stamps {
             stamps.push(stamp.copy())?;
         }

@@ -10,7 +10,7 @@ ghost use Rattle.fw_progress.specs.Leap as spec;
 ghost use Rattle.fw_progress.specs.Leap.{IsClimbing, AreLedTo, IsMarking, unmarked, CanLeapAt, CanLeap, AreAbove, IsReachedAt, HaveReached, HaveLeapt};
 
 use crate::counts::Counts;
-use crate::grow::{grow, is_more};
+use crate::grow::{grow, is_more, larger};
 use crate::growth::{Growth, Growths};
 use crate::target::target;
 use crate::worklist::Worklist;
@@ -45,8 +45,8 @@ fn is_climbing(
     if !flow.kind(node).is_feedback() || !has_grown(growths, node) {
         return Ok(false);
     }
-    let front = target(alloc, flow, counts, fronts, node)?;
-    Ok(is_more(flow, fronts, node, &front))
+    let larger = larger(alloc, flow, counts, fronts, node)?;
+    Ok(larger.is_some())
 }
 
 /// Marks a node, and tells whether it was not marked before.

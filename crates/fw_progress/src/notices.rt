@@ -9,7 +9,7 @@ ghost use Rattle.fw_progress.specs.Notices as spec;
 ghost use Rattle.fw_progress.specs.Notices.{CanNotify, IsFirstOwed};
 
 use crate::counts::Counts;
-use crate::target::{come, met};
+use crate::target::{come, narrow};
 use fw_flow::laws::flow_is_well_formed;
 use fw_flow::{Flow, NodeId};
 use fw_frontier::Front;
@@ -86,7 +86,7 @@ fn arrived(
     let edges = flow.in_edges(node);
     for edge in edges {
         let come = come(alloc, flow, counts, fronts, *edge)?;
-        left = met(left, come)?;
+        narrow(&mut left, come)?;
     }
     Ok(left)
 }

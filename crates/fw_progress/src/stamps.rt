@@ -3,7 +3,7 @@ ghost use Rattle.std.specs.Prelude.{◌≡◌, ◌<◌, ◌++◌, ℕ, Bool, tru
 ghost use Rattle.std.specs.List.{flat_map};
 ghost use Rattle.fw_frontier.specs.Frontier.{Frontier};
 ghost use Rattle.fw_flow.specs.declared.event.Event.{Event};
-ghost use Rattle.fw_flow.specs.Dataflow.{System, out_edges, node_frontier, HasEpochs};
+ghost use Rattle.fw_flow.specs.Dataflow.{System, bounds_of, out_edges, node_frontier, HasEpochs};
 ghost use Rattle.fw_model.specs.EventStamps.{AreStampsIf};
 ghost use Rattle.fw_model.specs.Filtering.{events_inside};
 ghost use Rattle.fw_model.specs.History.{IsLegal};
@@ -11,14 +11,14 @@ ghost use Rattle.fw_progress.specs.Covers.{sent_stamp_at};
 ghost use Rattle.fw_progress.specs.StampData as spec;
 ghost use Rattle.fw_progress.specs.Trace.{AreTraces, HaveLists, IsTraceIf, IsTraceWithin};
 
-use crate::covers::{last_number, sends_at};
+use crate::covers::{last_number, sends_within};
 use crate::kept_stamps::KeptStamps;
 use crate::sent_tally::SentTally;
 use crate::traces::Traces;
 use fw_flow::laws::flow_is_well_formed;
 use fw_flow::{Causes, Counted, CountedMessages, EdgeId, Flow, NodeId, Notices, Stamps};
 use fw_frontier::Front;
-use fw_time::Stamp;
+use fw_time::{Bounds, Stamp};
 use std::alloc::{AllocError, Global};
 
 impl Traces {
@@ -78,9 +78,8 @@ impl Traces {
         let place = node.place() as usize;
         let delivered = all_delivered(alloc, flow, node, &self.delivered, f)?;
         let notified = taken(&self.notified[place], f)?;
-        let kept = taken(&self.sent[place], f)?;
         let count = count_taken(alloc, &self.counted[place], f)?;
-        let sent = all_sent(alloc, flow, node, &kept, count)?;
+        let sent = sent_taken(alloc, flow, node, &self.sent[place], f, count)?;
         Ok(Stamps {
             delivered: CountedMessages::of(delivered),
             notified: Notices::of(notified),
@@ -140,8 +139,11 @@ fn push_delivered(
     ensures { OnOk result (messages.new.items ≡ messages.old.items
         ++ map (spec.message_at edge) (spec.taken (option_copied f.entry) (slice_index_or lists.now edge []))) }
 {
-    let stamps = taken(&lists[edge.place() as usize], f)?;
-    push_at_each(messages, edge, &stamps)
+    let kept = &lists[edge.place() as usize];
+    match f {
+        None => push_at_each(messages, edge, kept.as_slice()),
+        Some(f) => push_at_each(messages, edge, &kept.thinned(f)?),
+    }
 }
 
 /// Adds one message at each of the stamps, with its own stamp for a cause. The error is want of memory.
@@ -152,6 +154,7 @@ fn push_at_each(
 ) -> Result<(), AllocError>
     ensures { OnOk result (messages.new.items ≡ messages.old.items ++ map (spec.message_at edge) stamps.now) }
 {
+    messages.reserve(stamps.len())?;
     for stamp in stamps {
         messages.push(message(edge, stamp.copy(), stamp))?;
     }
@@ -192,6 +195,23 @@ fn all_sent(
     Ok(messages)
 }
 
+/// The same at the kept stamps, or at those inside a frontier if one is given. The error is as there.
+fn sent_taken(
+    alloc: Global,
+    flow: &Flow,
+    node: NodeId,
+    kept: &KeptStamps,
+    f: Option<&Front>,
+    count: u64,
+) -> Result<Vec<Counted>, AllocError>
+    ensures { IfOk result (λ ms. ms.items ≡ spec.all_sent flow.now node (spec.taken (option_copied f.entry) kept.now) count) }
+{
+    match f {
+        None => all_sent(alloc, flow, node, kept.as_slice(), count),
+        Some(f) => all_sent(alloc, flow, node, &kept.thinned(f)?, count),
+    }
+}
+
 /// Adds one message on an out-edge of each event at these stamps that sends. The error is want of memory.
 fn push_sent(
     messages: &mut Vec<Counted>,
@@ -202,8 +222,10 @@ fn push_sent(
 ) -> Result<(), AllocError>
     ensures { OnOk result (messages.new.items ≡ messages.old.items ++ spec.messages_of flow.now node stamps.now edge) }
 {
+    messages.reserve(stamps.len())?;
+    let bounds = flow.domain(node);
     for stamp in stamps {
-        push_sent_at(messages, flow, node, edge, stamp)?;
+        push_sent_at(messages, flow, node, &bounds, edge, stamp)?;
     }
     Ok(())
 }
@@ -213,13 +235,15 @@ fn push_sent_at(
     messages: &mut Vec<Counted>,
     flow: &Flow,
     node: NodeId,
+    bounds: &Bounds,
     edge: EdgeId,
     stamp: &Stamp,
 ) -> Result<(), AllocError>
+    requires { bounds.now ≡ bounds_of flow.now node }
     ensures { OnOk result (messages.new.items
         ≡ messages.old.items ++ spec.message_of edge stamp.now (sent_stamp_at flow.now node stamp.now)) }
 {
-    if let Some(at) = sends_at(flow, node, stamp) {
+    if let Some(at) = sends_within(flow, node, bounds, stamp) {
         messages.push(message(edge, at, stamp))?;
     }
     Ok(())

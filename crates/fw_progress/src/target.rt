@@ -8,10 +8,11 @@ ghost use Rattle.fw_flow.specs.Dataflow.{sender, receiver, bounds_of};
 ghost use Rattle.fw_model.specs.Machine.{family_of, AreCanonical};
 ghost use Rattle.fw_progress.specs.Counts as spec;
 ghost use Rattle.fw_progress.specs.Counts.{AreCounts};
+ghost use Rattle.fw_progress.specs.Tally.{IsTallyOf};
 
 use crate::counts::Counts;
 use fw_flow::laws::flow_is_well_formed;
-use fw_flow::{EdgeId, Flow, NodeId};
+use fw_flow::{EdgeId, Flow, Kind, NodeId};
 use fw_frontier::Front;
 use fw_time::Stamp;
 use std::alloc::{AllocError, Global};
@@ -33,18 +34,20 @@ fn given(alloc: Global, flow: &Flow, counts: &Counts, node: NodeId) -> Result<Fr
     }
 }
 
-/// What is inside both; where one has all stamps it is the other. The error is want of memory.
-pub(crate) fn met(one: Front, other: Front) -> Result<Front, AllocError>
-    ensures { (bounds : Domain) → IsCanonical bounds one → IsCanonical bounds other
-        → IfOk result (λ f. IsFrontOf bounds f (meet (frontier_of bounds one) (frontier_of bounds other))) }
+/// Leaves of a frontier what is inside another one too. The error is want of memory.
+pub(crate) fn narrow(left: &mut Front, other: Front) -> Result<(), AllocError>
+    ensures { (bounds : Domain) → IsCanonical bounds left.old → IsCanonical bounds other
+        → IfOk result (λ u. IsFrontOf bounds left.new (meet (frontier_of bounds left.old) (frontier_of bounds other))) }
 {
-    if one.outside().is_empty() {
-        return Ok(other);
-    }
     if other.outside().is_empty() {
-        return Ok(one);
+        return Ok(());
     }
-    one.meet(&other)
+    if left.outside().is_empty() {
+        *left = other;
+        return Ok(());
+    }
+    *left = left.meet(&other)?;
+    Ok(())
 }
 
 /// Up to where nothing is owed to a node and an input injected all. The error is want of memory.
@@ -53,13 +56,70 @@ fn clear(alloc: Global, flow: &Flow, counts: &Counts, node: NodeId) -> Result<Fr
     requires counts { AreCounts flow.now counts.now }
     ensures { IfOk result (λ f. IsFrontOf (bounds_of flow.now node) f (spec.clear_by flow.now counts.now node)) }
 {
-    let given = given(alloc, flow, counts, node)?;
+    let mut left = given(alloc, flow, counts, node)?;
     let owed = &counts.owed[node.place() as usize];
     if owed.is_empty() {
-        return Ok(given);
+        return Ok(left);
     }
     let paid = owed.until(alloc)?;
-    met(given, paid)
+    narrow(&mut left, paid)?;
+    Ok(left)
+}
+
+/// Leaves of a frontier what is before all that is pending on an edge. The error is want of memory.
+fn narrow_to_pending(
+    alloc: Global,
+    counts: &Counts,
+    edge: EdgeId,
+    left: &mut Front,
+) -> Result<(), AllocError>
+    requires { edge < length counts.now.pending.items }
+    ensures { (bounds : Domain) → IsCanonical bounds left.old → IsTallyOf bounds (spec.pending_of counts.now edge)
+        → IfOk result (λ u. IsFrontOf bounds left.new
+        (meet (frontier_of bounds left.old) (frontier_of bounds (keys_of (spec.pending_of counts.now edge))))) }
+{
+    let pending = &counts.pending[edge.place() as usize];
+    if pending.is_empty() {
+        return Ok(());
+    }
+    let quiet = pending.until(alloc)?;
+    narrow(left, quiet)
+}
+
+/// Whether a node of the kind sends at other stamps than those of its events.
+fn moves_stamps(kind: Kind) -> bool
+    ensures { result ≡ spec.moves_stamps kind }
+{
+    matches!(
+        kind,
+        Kind::Enter(_) | Kind::Feedback(_) | Kind::Leave(_) | Kind::Sequence | Kind::Regroup(_)
+    )
+}
+
+/// All that can come on an edge by the frontier of its sender. The error is want of memory.
+pub(crate) fn carried(
+    alloc: Global,
+    flow: &Flow,
+    counts: &Counts,
+    fronts: &[Front],
+    edge: EdgeId,
+) -> Result<Front, AllocError>
+    requires there { edge < length flow.now.edges }
+    requires sender { sender flow.now edge < length flow.now.nodes }
+    requires counts { AreCounts flow.now counts.now }
+    requires one_each { length fronts.now ≡ length flow.now.nodes }
+    requires canonical { AreCanonical flow.now fronts.now }
+    ensures { IfOk result (λ g. IsFrontOf (bounds_of flow.now (receiver flow.now edge)) g
+        (spec.carried_by flow.now counts.now edge (family_of flow.now fronts.now (sender flow.now edge)))) }
+{
+    flow_is_well_formed(flow);
+    let src = flow.src(edge);
+    let place = src.place() as usize;
+    let front = &fronts[place];
+    if !moves_stamps(flow.kind(src)) {
+        return front.copy();
+    }
+    flow.phi(alloc, edge, front, &counts.sent[place])
 }
 
 /// Up to where nothing is pending on an edge, and all came that can come by the frontier of its sender. The error is want
@@ -79,14 +139,29 @@ pub(crate) fn come(
     ensures { IfOk result (λ g. IsFrontOf (bounds_of flow.now (receiver flow.now edge)) g
         (spec.come_by flow.now counts.now edge (family_of flow.now fronts.now (sender flow.now edge)))) }
 {
-    let place = flow.src(edge).place() as usize;
-    let arrived = flow.phi(alloc, edge, &fronts[place], &counts.sent[place])?;
-    let pending = &counts.pending[edge.place() as usize];
-    if pending.is_empty() {
-        return Ok(arrived);
+    let mut come = carried(alloc, flow, counts, fronts, edge)?;
+    narrow_to_pending(alloc, counts, edge, &mut come)?;
+    Ok(come)
+}
+
+/// Up to where nothing is owed to a node and nothing is pending on its in-edges, and an input injected all. The error is
+/// want of memory.
+pub(crate) fn quiet(
+    alloc: Global,
+    flow: &Flow,
+    counts: &Counts,
+    node: NodeId,
+) -> Result<Front, AllocError>
+    requires there { node < length flow.now.nodes }
+    requires counts { AreCounts flow.now counts.now }
+    ensures { IfOk result (λ f. IsFrontOf (bounds_of flow.now node) f (spec.quiet_by flow.now counts.now node)) }
+{
+    let mut left = clear(alloc, flow, counts, node)?;
+    let edges = flow.in_edges(node);
+    for edge in edges {
+        narrow_to_pending(alloc, counts, *edge, &mut left)?;
     }
-    let quiet = pending.until(alloc)?;
-    met(quiet, arrived)
+    Ok(left)
 }
 
 /// The largest frontier that a node can have, the others as they are. The error is want of memory.
@@ -105,11 +180,11 @@ pub(crate) fn target(
         (spec.target_by flow.now counts.now (family_of flow.now fronts.now) node)) }
 {
     flow_is_well_formed(flow);
-    let mut left = clear(alloc, flow, counts, node)?;
+    let mut left = quiet(alloc, flow, counts, node)?;
     let edges = flow.in_edges(node);
     for edge in edges {
-        let come = come(alloc, flow, counts, fronts, *edge)?;
-        left = met(left, come)?;
+        let carried = carried(alloc, flow, counts, fronts, *edge)?;
+        narrow(&mut left, carried)?;
     }
     Ok(left)
 }

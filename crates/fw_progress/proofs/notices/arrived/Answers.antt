@@ -19,6 +19,6 @@ come-requires-clause-sender c =
 
 pub loop-edge-preserved : goal.loop-edge-preserved
 loop-edge-preserved c =
-    left_come c.args.flow.now c.args.counts.now c.args.fronts.now c.args.node (in_domain (bounds_of c.args.flow.now c.args.node)) c.loop-edge.left c.in_ok-come.come c.in_ok-left.left
+    left_come c.args.flow.now c.args.counts.now c.args.fronts.now c.args.node (in_domain (bounds_of c.args.flow.now c.args.node)) c.loop-edge.left c.in_ok-come.come c.narrow.new.left
     c.in_edges-edges.result.now c.loop-edge.edge-index c.edge-item.result c.in_edges-edges.ensures c.loop-edge-test.true c.edge-item.is c.loop-edge.invariant c.in_ok-come.ensures
-    (c.in_ok-left.ensures (bounds_of c.args.flow.now c.args.node) c.loop-edge.invariant.canonical)
+    (c.in_ok-narrow.ensures (bounds_of c.args.flow.now c.args.node) c.loop-edge.invariant.canonical)

@@ -1,6 +1,5 @@
 use Rattle.std.proofs.Common.{◌≡◌, sym, subst, arith}
 use Rattle.std.specs.Map.{keys_of}
-use Rattle.std.proofs.lemmas.Result.{IfOk-weaker}
 use Rattle.fw_lemmas.proofs.Lists.{read_at}
 use Rattle.fw_frontier.specs.Front.{frontier_of, IsFrontOf}
 use Rattle.fw_flow.specs.Dataflow.{bounds_of, node_frontier}
@@ -21,6 +20,5 @@ returns c =
     let n : c.index-owed.result.now ≡ owed_of counts p = read_at counts.owed.items p c.place.result c.index-owed.result.now _ at (omega (arith, one, there, at)) c.index-owed.ensures in
     let paid = c.in_ok-paid.paid in
     let q = subst (λ es. IsFrontOf b paid (frontier_of b (keys_of es))) n (c.in_ok-paid.ensures b (subst (IsTallyOf b) (sym n) (c.requires.counts.owed p there))) in
-    let g = c.in_ok-given.ensures in
-    IfOk-weaker c.met.result _ _ (λ f m. met b c.in_ok-given.given paid f (given_by flow counts p) (node_frontier flow p (keys_of (owed_of counts p))) g q m)
-    (c.met.ensures b g.canonical q.canonical)
+    let g = c.in_ok-left.ensures in
+    met b c.in_ok-left.left paid c.narrow.new.left (given_by flow counts p) (node_frontier flow p (keys_of (owed_of counts p))) g q (c.in_ok-narrow.ensures b g.canonical q.canonical)

@@ -1,21 +1,26 @@
 use Rattle.fw_flow.specs.Dataflow.{bounds_of}
-use Rattle.fw_progress.specs.Counts.{clear_by}
-use Rattle.fw_progress.proofs.TargetLaws.{in_edge, left_come, left_none}
+use Rattle.fw_progress.specs.Counts.{quiet_by}
+use Rattle.fw_progress.proofs.TargetLaws.{in_edge, left_none, left_carried, left_all}
 use Rattle.fw_progress.proofs.target.target.Goals as goal
 
 pub loop-edge-init : goal.loop-edge-init
-loop-edge-init c = left_none (bounds_of c.args.flow.now c.args.node) c.in_ok-left.left (clear_by c.args.flow.now c.args.counts.now c.args.node) c.in_ok-left.ensures
+loop-edge-init c = left_none (bounds_of c.args.flow.now c.args.node) c.in_ok-left.left (quiet_by c.args.flow.now c.args.counts.now c.args.node) c.in_ok-left.ensures
 
-pub come-requires-clause-there : goal.come-requires-clause-there
-come-requires-clause-there c = (in_edge c.args.flow.now c.args.node c.in_edges-edges.result.now c.loop-edge.edge-index c.edge-item.result c.in_edges-edges.ensures c.loop-edge-test.true c.edge-item.is).0
+pub carried-requires-clause-there : goal.carried-requires-clause-there
+carried-requires-clause-there c = (in_edge c.args.flow.now c.args.node c.in_edges-edges.result.now c.loop-edge.edge-index c.edge-item.result c.in_edges-edges.ensures c.loop-edge-test.true c.edge-item.is).0
 
-pub come-requires-clause-sender : goal.come-requires-clause-sender
-come-requires-clause-sender c =
+pub carried-requires-clause-sender : goal.carried-requires-clause-sender
+carried-requires-clause-sender c =
     c.flow_is_well_formed.ensures.senders_declared c.edge-item.result
     (in_edge c.args.flow.now c.args.node c.in_edges-edges.result.now c.loop-edge.edge-index c.edge-item.result c.in_edges-edges.ensures c.loop-edge-test.true c.edge-item.is).0
 
 pub loop-edge-preserved : goal.loop-edge-preserved
 loop-edge-preserved c =
-    left_come c.args.flow.now c.args.counts.now c.args.fronts.now c.args.node (clear_by c.args.flow.now c.args.counts.now c.args.node) c.loop-edge.left c.in_ok-come.come c.in_ok-left-2.left
-    c.in_edges-edges.result.now c.loop-edge.edge-index c.edge-item.result c.in_edges-edges.ensures c.loop-edge-test.true c.edge-item.is c.loop-edge.invariant c.in_ok-come.ensures
-    (c.in_ok-left-2.ensures (bounds_of c.args.flow.now c.args.node) c.loop-edge.invariant.canonical)
+    left_carried c.args.flow.now c.args.counts.now c.args.fronts.now c.args.node c.loop-edge.left c.in_ok-carried.carried c.narrow.new.left
+    c.in_edges-edges.result.now c.loop-edge.edge-index c.edge-item.result c.in_edges-edges.ensures c.loop-edge-test.true c.edge-item.is c.loop-edge.invariant c.in_ok-carried.ensures
+    (c.in_ok-narrow.ensures (bounds_of c.args.flow.now c.args.node) c.loop-edge.invariant.canonical)
+
+pub returns : goal.returns
+returns c =
+    left_all c.args.flow.now c.args.counts.now c.args.fronts.now c.args.node c.loop-edge.left c.in_edges-edges.result.now c.loop-edge.edge-index
+    c.in_edges-edges.ensures c.loop-edge-test.false c.loop-edge.invariant

@@ -1,5 +1,5 @@
 -- A leap leaves a family admissible, and what its calls keep.
-use Rattle.std.proofs.Common.{◌↔◌, ◌≡◌, ◌⊎◌, ℕ, zero, suc, ◌+◌, ◌<◌, ◌≤◌, Bool, true, false, List, [], ◌∷◌, ◌++◌, length, get_or, set, refl, sym, ap, subst, ◌∙◌, inl, inr, arith}
+use Rattle.std.proofs.Common.{◌↔◌, ◌≡◌, ◌⊎◌, ℕ, zero, suc, ◌+◌, ◌<◌, ◌≤◌, Bool, true, false, ◌||◌, List, [], ◌∷◌, ◌++◌, length, get_or, set, refl, sym, ap, subst, ◌∙◌, inl, inr, arith}
 use Rattle.std.proofs.lemmas.Bool.{and_parts, cases_eq, cases_lt, both_ways}
 use Rattle.std.specs.Prelude.{IsTrue}
 use Rattle.fw_lemmas.proofs.Lists.{read_at}
@@ -15,7 +15,7 @@ use Rattle.fw_progress.specs.declared.counts.Counts.{Counts}
 use Rattle.fw_progress.specs.declared.growth.Growth.{Growth}
 use Rattle.fw_progress.specs.Counts.{target_by, IsAdmissibleBy}
 use Rattle.fw_progress.specs.Growths.{IsMore, IsGrown, HaveGrown, IsTakenUp}
-use Rattle.fw_progress.specs.Leap.{CanLeapAt, CanLeap, AreAbove, IsReachedAt, HaveReached, HaveLeapt}
+use Rattle.fw_progress.specs.Leap.{is_node_marked, CanLeapAt, CanLeap, AreAbove, IsReachedAt, HaveReached, HaveLeapt, AreLoweredBefore, AreLowered, StaysLow}
 use Rattle.fw_progress.proofs.TargetLaws.{target-monotone}
 use Rattle.fw_progress.proofs.GrowLaws.{family_new, family_old, family_grows, none_grown, one_grown, grown_then}
 use Rattle.fw_progress.proofs.StartLaws.{past-all}
@@ -196,6 +196,45 @@ one_can_leap flow counts old next n p e before here q l = elim (cases_eq q p) [
   | inl s ↦ subst (CanLeapAt flow counts old next) (sym s) here
   | inr s ↦ before q (omega (arith, l, s, e))
 ]
+
+-- a marked node has no more than it can have
+pub leap_low : (flow : Dataflow) (counts : Counts) (old next : List Front) (marks : List Bool) (p i : ℕ) (r m : Bool) → (r ≡ true) ↔ Within (family_of flow old p) (family_of flow next p) → r ≡ true
+    → AreLowered flow counts marks next → p < length flow.nodes → m ≡ is_node_marked marks i → i ≡ p → m ≡ true → IsTrue true ↔ CanLeapAt flow counts old next p
+leap_low flow counts old next marks p i r m above one low l is at marked =
+    (λ e. record { above = above.0 one; within = inr (low p l (ap (is_node_marked marks) (sym at) ∙ sym is ∙ marked)) }, λ can. refl)
+
+-- ---- the marked nodes are lowered
+
+pub low_none : (flow : Dataflow) (counts : Counts) (marks : List Bool) (fronts : List Front) → AreLoweredBefore flow counts marks 0 fronts
+low_none flow counts marks fronts p l = absurd (omega (arith, l))
+
+-- one node more that had no more
+pub low_more : (flow : Dataflow) (counts : Counts) (marks : List Bool) (n p : ℕ) (old new : List Front) (lowered more : Bool) → p ≡ n
+    → (lowered ≡ false → AreLoweredBefore flow counts marks n old) → (more ≡ false → StaysLow flow counts marks p old new)
+    → (lowered || more) ≡ false → AreLoweredBefore flow counts marks (n + 1) new
+low_more flow counts marks n p old new lowered more e before here none q l marked =
+    let both = neither lowered more none in
+    let stays = here both.1 in
+    subst (λ fs. Within (family_of flow fs q) (target_by flow counts (family_of flow fs) q)) (sym stays.same) (elim (cases_eq q p) [
+      | inl s ↦ subst (λ r. Within (family_of flow old r) (target_by flow counts (family_of flow old) r)) (sym s) (stays.within (ap (is_node_marked marks) (sym s) ∙ marked))
+      | inr s ↦ before both.0 q (omega (arith, l, s, e)) marked
+    ])
+  where
+    neither : (a b : Bool) → (a || b) ≡ false → (a ≡ false) × (b ≡ false)
+    neither true b k = absurd (cc)
+    neither false b k = (refl, k)
+
+pub low_unmarked : (flow : Dataflow) (counts : Counts) (marks : List Bool) (fronts : List Front) (p i : ℕ) (m : Bool) → i ≡ p → m ≡ is_node_marked marks i → m ≡ false → StaysLow flow counts marks p fronts fronts
+low_unmarked flow counts marks fronts p i m e is none = record { same = refl; within = λ marked. absurd (both_ways m none (is ∙ ap (is_node_marked marks) e ∙ marked)) }
+
+-- what a test against the node's target reads
+pub low_read : (flow : Dataflow) (counts : Counts) (marks : List Bool) (fronts : List Front) (p i : ℕ) (x most : Front) (r : Bool) → i ≡ p → i < length fronts → x ≡ get_or fronts i x
+    → IsFrontOf (bounds_of flow p) most (target_by flow counts (family_of flow fronts) p)
+    → ((b : Bounds) → IsCanonical b most → (r ≡ true) ↔ Within (frontier_of b x) (frontier_of b most)) → r ≡ true → StaysLow flow counts marks p fronts fronts
+low_read flow counts marks fronts p i x most r e l is names test one =
+    let b = bounds_of flow p in
+    let here : x ≡ front_of fronts p = read_at fronts p i x [] e l is in
+    record { same = refl; within = λ marked t j. sym (names.same t) ∙ (test b names.canonical).0 one t (ap (λ g. frontier_of b g t) here ∙ j) }
 
 -- ---- the marked nodes are raised
 

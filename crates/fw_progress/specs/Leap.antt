@@ -71,6 +71,20 @@ pub record HaveLeapt (flow : Dataflow) (counts : Counts) (old new : List Front) 
 
 -- ---- for the proofs
 
+-- the marked nodes before a place have no more than they can have
+abbrev pub AreLoweredBefore : Dataflow → Counts → List Bool → ℕ → List Front → Type 0
+AreLoweredBefore flow counts marks n fronts =
+    (p : ℕ) → p < n → is_node_marked marks p ≡ true → Within (family_of flow fronts p) (target_by flow counts (family_of flow fronts) p)
+
+-- all marked nodes have no more than they can have
+abbrev pub AreLowered : Dataflow → Counts → List Bool → List Front → Type 0
+AreLowered flow counts marks fronts = AreLoweredBefore flow counts marks (length flow.nodes) fronts
+
+-- nothing changed, since the node is not marked or has no more than it can have
+pub record StaysLow (flow : Dataflow) (counts : Counts) (marks : List Bool) (p : ℕ) (old new : List Front) : Type 0 where
+  pub same : new ≡ old
+  pub within : is_node_marked marks p ≡ true → Within (family_of flow old p) (target_by flow counts (family_of flow old) p)
+
 -- how many nodes are not marked
 abbrev pub unmarked : List Bool → ℕ
 unmarked [] = 0

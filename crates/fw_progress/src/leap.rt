@@ -1,5 +1,5 @@
 //! A leap over the counters of a loop.
-ghost use Rattle.std.specs.Prelude.{◌≡◌, ◌↔◌, ◌+◌, ◌*◌, ◌<◌, ◌≤◌, ◌==◌, not, true, false, [], length, slice_set, IsTrue, IfOk};
+ghost use Rattle.std.specs.Prelude.{◌≡◌, ◌↔◌, ◌+◌, ◌*◌, ◌<◌, ◌≤◌, ◌==◌, not, true, false, [], length, slice_set, IsTrue, IfSome, IfOk};
 ghost use Rattle.std.specs.List.{list_any};
 ghost use Rattle.fw_flow.specs.Dataflow.{out_edges};
 ghost use Rattle.fw_model.specs.Machine.{AreCanonical};
@@ -7,7 +7,7 @@ ghost use Rattle.fw_progress.specs.declared.growth.Growth.{Growth as Grown};
 ghost use Rattle.fw_progress.specs.Counts.{AreCounts};
 ghost use Rattle.fw_progress.specs.Growths.{HaveGrown};
 ghost use Rattle.fw_progress.specs.Leap as spec;
-ghost use Rattle.fw_progress.specs.Leap.{IsClimbing, AreLedTo, IsMarking, unmarked, CanLeapAt, CanLeap, AreAbove, IsReachedAt, HaveReached, HaveLeapt};
+ghost use Rattle.fw_progress.specs.Leap.{IsClimbing, AreLedTo, IsMarking, unmarked, CanLeapAt, CanLeap, AreAbove, IsReachedAt, HaveReached, HaveLeapt, AreLowered, StaysLow};
 
 use crate::counts::Counts;
 use crate::grow::{grow, is_more, larger};
@@ -145,12 +145,14 @@ fn raised(
     Ok(next)
 }
 
-/// Lowers a node's frontier to what it can have by the others, and tells whether it had more. The error is want of memory.
+/// Lowers the frontier of a marked node to what it can have by the others, and tells whether it had more. The error is want
+/// of memory.
 fn lower_at(
     alloc: Global,
     flow: &Flow,
     counts: &Counts,
     next: &mut Vec<Front>,
+    marks: &[bool],
     node: NodeId,
 ) -> Result<bool, AllocError>
     requires there { node < length flow.now.nodes }
@@ -159,9 +161,13 @@ fn lower_at(
     requires canonical { AreCanonical flow.now next.old.items }
     ensures one_each { IfOk result (λ b. length next.new.items ≡ length flow.now.nodes) }
     ensures canonical { IfOk result (λ b. AreCanonical flow.now next.new.items) }
+    ensures low { IfOk result (λ had_more. had_more ≡ false → StaysLow flow.now counts.now marks.now node next.old.items next.new.items) }
 {
-    let front = target(alloc, flow, counts, next, node)?;
     let place = node.place() as usize;
+    if !is_marked(marks, place) {
+        return Ok(false);
+    }
+    let front = target(alloc, flow, counts, next, node)?;
     if next[place].subset(&front) {
         return Ok(false);
     }
@@ -182,50 +188,50 @@ fn lower(
     requires canonical { AreCanonical flow.now next.old.items }
     ensures one_each { IfOk result (λ b. length next.new.items ≡ length flow.now.nodes) }
     ensures canonical { IfOk result (λ b. AreCanonical flow.now next.new.items) }
+    ensures low { IfOk result (λ had_more. had_more ≡ false → AreLowered flow.now counts.now marks.now next.new.items) }
 {
     let mut lowered = false;
     for place in 0..flow.nodes() {
-        if !is_marked(marks, place) {
-            continue;
-        }
-        let had_more = lower_at(alloc, flow, counts, next, NodeId::at(place as u32))?;
-        lowered = lowered || had_more;
+        let node = NodeId::at(place as u32);
+        lowered |= lower_at(alloc, flow, counts, next, marks, node)?;
     }
     Ok(lowered)
 }
 
 /// Frontiers that the marked nodes may have by the others as they are: from all stamps on they are lowered until none has
-/// more than it can have, in as many passes as the flow has nodes at most. The error is want of memory.
+/// more than it can have; `None` where that takes more passes than the flow has nodes. The error is want of memory.
 fn lowered(
     alloc: Global,
     flow: &Flow,
     counts: &Counts,
     fronts: &[Front],
     marks: &[bool],
-) -> Result<Vec<Front>, AllocError>
+) -> Result<Option<Vec<Front>>, AllocError>
     requires counts { AreCounts flow.now counts.now }
     requires one_each { length fronts.now ≡ length flow.now.nodes }
     requires canonical { AreCanonical flow.now fronts.now }
-    ensures one_each { IfOk result (λ next. length next.items ≡ length flow.now.nodes) }
-    ensures canonical { IfOk result (λ next. AreCanonical flow.now next.items) }
+    ensures one_each { IfOk result (λ lowered. IfSome lowered (λ next. length next.items ≡ length flow.now.nodes)) }
+    ensures canonical { IfOk result (λ lowered. IfSome lowered (λ next. AreCanonical flow.now next.items)) }
+    ensures low { IfOk result (λ lowered. IfSome lowered (λ next. AreLowered flow.now counts.now marks.now next.items)) }
 {
     let mut next = raised(alloc, flow, fronts, marks)?;
     for _ in 0..flow.nodes() {
         if !lower(alloc, flow, counts, &mut next, marks)? {
-            return Ok(next);
+            return Ok(Some(next));
         }
     }
-    Ok(next)
+    Ok(None)
 }
 
 /// Whether a node's next frontier has all of its frontier so far, and has no more, or lies within what the node can have
-/// by the next ones. The error is want of memory.
+/// by the next ones, as those of the marked nodes do. The error is want of memory.
 fn can_leap_at(
     alloc: Global,
     flow: &Flow,
     counts: &Counts,
     fronts: &[Front],
     next: &[Front],
+    marks: &[bool],
     node: NodeId,
 ) -> Result<bool, AllocError>
     requires there { node < length flow.now.nodes }
@@ -234,11 +240,15 @@ fn can_leap_at(
     requires canonical { AreCanonical flow.now fronts.now }
     requires next_each { length next.now ≡ length flow.now.nodes }
     requires next_canonical { AreCanonical flow.now next.now }
+    requires low { AreLowered flow.now counts.now marks.now next.now }
     ensures { IfOk result (λ can. IsTrue can ↔ CanLeapAt flow.now counts.now fronts.now next.now node) }
 {
     let place = node.place() as usize;
     if !fronts[place].subset(&next[place]) {
         return Ok(false);
+    }
+    if is_marked(marks, place) {
+        return Ok(true);
     }
     if next[place].subset(&fronts[place]) {
         return Ok(true);
@@ -254,16 +264,19 @@ fn can_leap(
     counts: &Counts,
     fronts: &[Front],
     next: &[Front],
+    marks: &[bool],
 ) -> Result<bool, AllocError>
     requires counts { AreCounts flow.now counts.now }
     requires one_each { length fronts.now ≡ length flow.now.nodes }
     requires canonical { AreCanonical flow.now fronts.now }
     requires next_each { length next.now ≡ length flow.now.nodes }
     requires next_canonical { AreCanonical flow.now next.now }
+    requires low { AreLowered flow.now counts.now marks.now next.now }
     ensures { IfOk result (λ can. IsTrue can ↔ CanLeap flow.now counts.now fronts.now next.now) }
 {
     for place in 0..flow.nodes() {
-        if !can_leap_at(alloc, flow, counts, fronts, next, NodeId::at(place as u32))? {
+        let node = NodeId::at(place as u32);
+        if !can_leap_at(alloc, flow, counts, fronts, next, marks, node)? {
             return Ok(false);
         }
     }
@@ -344,8 +357,10 @@ pub(crate) fn leap(
         return Ok(());
     }
     let marks = led_to(alloc, flow, node)?;
-    let next = lowered(alloc, flow, counts, fronts, &marks)?;
-    if !can_leap(alloc, flow, counts, fronts, &next)? {
+    let Some(next) = lowered(alloc, flow, counts, fronts, &marks)? else {
+        return Ok(());
+    };
+    if !can_leap(alloc, flow, counts, fronts, &next, &marks)? {
         return Ok(());
     }
     reach(flow, counts, fronts, &next, work, growths)

@@ -1,3 +1,4 @@
+pub mod BeginLaws
 pub mod BreakLaws
 pub mod CutDownLaws
 pub mod DescentLaws

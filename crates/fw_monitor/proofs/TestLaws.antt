@@ -1,9 +1,9 @@
 -- One test of an inclusion, as the calls make it, and the descent from its start to its end.
-use Rattle.std.proofs.Common.{◌≡◌, ℕ, zero, suc, ◌+◌, ◌*◌, ◌-◌, ◌<◌, ◌≤◌, Bool, true, false, List, [], ◌∷◌, ◌++◌, length, take, drop, set, get_or, Some, None, refl, sym, ap, subst, ◌∙◌, arith}
+use Rattle.std.proofs.Common.{◌≡◌, ℕ, zero, suc, ◌+◌, ◌*◌, ◌-◌, ◌<◌, ◌≤◌, Bool, true, false, List, [], ◌∷◌, ◌++◌, length, take, drop, set, get_or, Option, Some, None, refl, sym, ap, subst, ◌∙◌, inl, inr, arith}
 use Rattle.std.specs.List.{AllByRecursion}
 use Rattle.std.proofs.Math.Nat.{mul-le-mul_right, suc-mul}
-use Rattle.std.proofs.lemmas.Bool.{both_ways}
-use Rattle.std.proofs.lemmas.List.{get_or-set_same, get_or_read}
+use Rattle.std.proofs.lemmas.Bool.{both_ways, cases_eq}
+use Rattle.std.proofs.lemmas.List.{get_or-set_same, get_or-set_other, get_or_read}
 use Rattle.fw_lemmas.proofs.Each.{each-weaker, each-at, each-append}
 use Rattle.fw_lemmas.proofs.Lists.{split_at}
 use Rattle.fw_frontier.specs.Front.{Front, IsFrontOf}
@@ -19,13 +19,14 @@ use Rattle.fw_model.specs.Covers.{set_of}
 use Rattle.fw_flow.specs.declared.side.Inclusion.{Inclusion}
 use Rattle.fw_model.specs.Lowerings.{choice_of, lowering_of}
 use Rattle.fw_monitor.specs.Descent.{HasConsistent, IsGreatest, weight}
-use Rattle.fw_model.specs.Inclusions.{Holds, IsInclusionOf, inclusions}
-use Rattle.fw_monitor.specs.Worklist.{number, inclusion_count, waits, after, AreMadeToWait}
+use Rattle.fw_model.specs.Inclusions.{Holds, IsInclusionOf, node_of, inclusions, inclusions_to}
+use Rattle.fw_monitor.specs.Worklist.{number, inclusion_count, waits, after, AreBegins, AreMadeToWait}
 use Rattle.fw_monitor.specs.Trail.{IsTrail}
 use Rattle.fw_monitor.specs.Tests.{IsTested, IsGoing, IsFirstWaiting, IsOneTest}
+use Rattle.fw_monitor.proofs.BeginLaws.{back_to, begin_read}
 use Rattle.fw_monitor.proofs.StartLaws.{start_encloses}
 use Rattle.fw_monitor.proofs.TrailLaws.{going_held, going_lowered}
-use Rattle.fw_model.proofs.InclusionLaws.{inclusions-there, each-inclusion}
+use Rattle.fw_model.proofs.InclusionLaws.{inclusions-there, each-inclusion, node-there}
 use Rattle.fw_monitor.proofs.WorklistLaws.{number-below, cleared-rest, all_waits, count-most, count-all, count-none, each_number, take_next}
 use Rattle.fw_model.specs.Offers.{covers_of}
 
@@ -40,32 +41,43 @@ flag_read flow waiting i n r b e l each is k =
 
 pub taken_held : (flow : Dataflow) (offers : List Offer) (i : Inclusion) (choice next : Choice) (trail : List Lowering) (waiting : List Bool) (steps more : ℕ) → IsInclusionOf flow i
     → length waiting ≡ inclusion_count flow → waits flow waiting i ≡ true → more ≡ steps + 1 → IsTested flow offers i choice next None
-    → IsOneTest flow offers i choice next trail trail waiting (set waiting (number flow i) false) steps more false
+    → IsOneTest flow offers i choice next trail trail waiting (set waiting (number flow i) false) steps more None
 taken_held flow offers i choice next trail waiting steps more l each w one (same, holds) =
     let below = number-below flow i l in
     let there : number flow i < length waiting = omega arith in
     record {
       going = λ before g. subst (λ c. IsGoing flow offers c trail (set waiting (number flow i) false) before more) (sym same)
           (going_held flow offers i choice trail waiting before steps more l w one holds g);
-      fewer = λ e. absurd (cc);
       same = λ e. same;
       taken = λ e. get_or-set_same waiting (number flow i) false true there;
       rest = λ e j k. cleared-rest flow waiting i j there k;
+      fewer = λ p e. absurd (cc);
+      back = λ p e. absurd (cc);
+      none_before = λ p e. absurd (cc);
     }
 
-pub taken_lowered : (flow : Dataflow) (offers : List Offer) (i : Inclusion) (choice next : Choice) (to : Cut) (l : Lowering) (trail more_trail : List Lowering) (waiting left : List Bool) (steps more : ℕ) → IsWellFormed flow
+pub taken_lowered : (flow : Dataflow) (offers : List Offer) (i : Inclusion) (choice next : Choice) (to : Cut) (l : Lowering) (trail more_trail : List Lowering) (waiting left : List Bool) (steps more p : ℕ) → IsWellFormed flow
     → IsInclusionOf flow i → IsFirstWaiting flow waiting i → waits flow waiting i ≡ true → more ≡ steps + 1 → IsTested flow offers i choice next (Some to)
     → l ≡ lowering_of flow i to → more_trail ≡ trail ++ l ∷ []
-    → AreMadeToWait flow (after flow i) (set waiting (number flow i) false) left
-    → IsOneTest flow offers i choice next trail more_trail waiting left steps more true
-taken_lowered flow offers i choice next to l trail more_trail waiting left steps more well there n w one low told is put = record {
+    → AreMadeToWait flow (after flow i) (set waiting (number flow i) false) left → p ≤ node_of flow i → AllByRecursion (λ j. p ≤ node_of flow j) (after flow i)
+    → IsOneTest flow offers i choice next trail more_trail waiting left steps more (Some p)
+taken_lowered flow offers i choice next to l trail more_trail waiting left steps more p well there n w one low told is put own each = record {
   going = λ before g. subst (λ t. IsGoing flow offers next t left before more) (sym (is ∙ ap (λ x. trail ++ x ∷ []) told))
       (going_lowered flow offers i choice next to trail waiting left before steps more well there n w one low put g);
-  fewer = λ e. low.fewer;
   same = λ e. absurd (cc);
   taken = λ e. absurd (cc);
   rest = λ e. absurd (cc);
+  fewer = λ q e. low.fewer;
+  back = λ q e. subst (λ x. x ≤ node_of flow i) (some_is p q e) own;
+  none_before = λ q e j m before none. put.none_before p each j m (subst (λ x. node_of flow j < x) (sym (some_is p q e)) before)
+      (elim (cases_eq (number flow j) (number flow i)) [
+        | inl s ↦ absurd (both_ways (waits flow waiting j) none (ap (λ k. get_or waiting k true) s ∙ w))
+        | inr k ↦ get_or-set_other waiting (number flow i) (number flow j) false true k ∙ none
+      ]);
 }
+  where
+    some_is : (x y : ℕ) → Some x ≡ Some y → x ≡ y
+    some_is x y e = cc
 
 -- ---- the descent
 
@@ -114,11 +126,29 @@ pub there_at : (flow : Dataflow) (all : List Inclusion) (place : ℕ) (i : Inclu
 there_at flow all place i e l is =
     subst (IsInclusionOf flow) (sym is) (each-at (IsInclusionOf flow) all place i l (subst (AllByRecursion (IsInclusionOf flow)) (sym e) (inclusions-there flow)))
 
-pub again_at : (flow : Dataflow) (offers : List Offer) (i : Inclusion) (old new : Choice) (trail more : List Lowering) (waiting left : List Bool) (before steps next place : ℕ) (b : Bool)
-    → IsOneTest flow offers i old new trail more waiting left steps next b → IsAt flow offers old trail waiting before steps place → IsAt flow offers new more left before next 0
-again_at flow offers i old new trail more waiting left before steps next place b t a = record { going = t.going before a.going; done = tt; within = omega arith }
+-- the node to which a lowering goes back is one of the dataflow
+pub node_back : (flow : Dataflow) (offers : List Offer) (all : List Inclusion) (i : Inclusion) (old new : Choice) (trail more : List Lowering) (waiting left : List Bool) (steps next place p : ℕ) (b : Option ℕ) → b ≡ Some p
+    → IsWellFormed flow → all ≡ inclusions flow → place < length all → i ≡ get_or all place i → IsOneTest flow offers i old new trail more waiting left steps next b → p < length flow.nodes
+node_back flow offers all i old new trail more waiting left steps next place p b e well same l is t =
+    let own = t.back p e in
+    let node = node-there flow i well (there_at flow all place i same l is) in
+    omega arith
 
-pub further_at : (flow : Dataflow) (offers : List Offer) (all : List Inclusion) (i : Inclusion) (old new : Choice) (trail more : List Lowering) (waiting left : List Bool) (before steps next place : ℕ) (b : Bool) → b ≡ false
+pub again_at : (flow : Dataflow) (offers : List Offer) (all : List Inclusion) (begins : List ℕ) (i : Inclusion) (old new : Choice) (trail more : List Lowering) (waiting left : List Bool) (before steps next place p k q : ℕ) (b : Option ℕ) → b ≡ Some p
+    → IsWellFormed flow → all ≡ inclusions flow → AreBegins flow (length flow.nodes) begins → place < length all → i ≡ get_or all place i → k ≡ p → q ≡ get_or begins k q
+    → IsOneTest flow offers i old new trail more waiting left steps next b → IsAt flow offers old trail waiting before steps place → IsAt flow offers new more left before next q
+again_at flow offers all begins i old new trail more waiting left before steps next place p k q b e well same beginning l is place_is read t a =
+    let m = ap length same in
+    let node = node_back flow offers all i old new trail more waiting left steps next place p b e well same l is t in
+    let at : q ≡ length (inclusions_to flow p) = begin_read flow begins p k q beginning (omega arith) place_is read in
+    let back = back_to flow waiting left i place p (omega arith) (omega arith) (subst (λ xs. i ≡ get_or xs place i) same is) (t.back p e) (t.none_before p e) a.done in
+    record {
+      going = t.going before a.going;
+      done = subst (λ n. AllByRecursion (λ j. waits flow left j ≡ false) (take n (inclusions flow))) (sym at) back.1;
+      within = let n = back.0 in omega arith;
+    }
+
+pub further_at : (flow : Dataflow) (offers : List Offer) (all : List Inclusion) (i : Inclusion) (old new : Choice) (trail more : List Lowering) (waiting left : List Bool) (before steps next place : ℕ) (b : Option ℕ) → b ≡ None
     → all ≡ inclusions flow → place < length all → i ≡ get_or all place i
     → IsOneTest flow offers i old new trail more waiting left steps next b → IsAt flow offers old trail waiting before steps place → IsAt flow offers new more left before next (place + 1)
 further_at flow offers all i old new trail more waiting left before steps next place b e same l is t a =
@@ -132,18 +162,18 @@ further_at flow offers all i old new trail more waiting left before steps next p
       within = omega arith;
     }
 
-pub again_falls : (flow : Dataflow) (offers : List Offer) (i : Inclusion) (old new : Choice) (trail more : List Lowering) (waiting left : List Bool) (steps next place : ℕ) (b : Bool) → b ≡ true
-    → IsOneTest flow offers i old new trail more waiting left steps next b → left_over flow new 0 < left_over flow old place
+pub again_falls : (flow : Dataflow) (offers : List Offer) (i : Inclusion) (old new : Choice) (trail more : List Lowering) (waiting left : List Bool) (steps next place p q : ℕ) (b : Option ℕ) → b ≡ Some p
+    → IsOneTest flow offers i old new trail more waiting left steps next b → left_over flow new q < left_over flow old place
 unfolding left_over
-again_falls flow offers i old new trail more waiting left steps next place b e t =
-    let k = t.fewer e in
+again_falls flow offers i old new trail more waiting left steps next place p q b e t =
+    let k = t.fewer p e in
     let n = length (inclusions flow) in
     let l : suc (weight flow new) ≤ weight flow old = omega arith in
     let m = mul-le-mul_right (suc n) l in
     let s = suc-mul (weight flow new) (suc n) in
     omega arith
 
-pub further_falls : (flow : Dataflow) (offers : List Offer) (all : List Inclusion) (i : Inclusion) (old new : Choice) (trail more : List Lowering) (waiting left : List Bool) (steps next place : ℕ) (b : Bool) → b ≡ false
+pub further_falls : (flow : Dataflow) (offers : List Offer) (all : List Inclusion) (i : Inclusion) (old new : Choice) (trail more : List Lowering) (waiting left : List Bool) (steps next place : ℕ) (b : Option ℕ) → b ≡ None
     → all ≡ inclusions flow → place < length all
     → IsOneTest flow offers i old new trail more waiting left steps next b → left_over flow new (place + 1) < left_over flow old place
 unfolding left_over

@@ -253,13 +253,20 @@ count-none (false ∷ ws) h = count-none ws (λ n l. h (suc n) (omega arith))
 
 -- ---- what is put back
 
-pub put_one : (flow : Dataflow) (ws : List Bool) (i : Inclusion) → AreMadeToWait flow (i ∷ []) ws (set ws (number flow i) true)
-put_one flow ws i = record {
+pub put_one : (flow : Dataflow) (ws : List Bool) (i : Inclusion) → IsInclusionOf flow i → AreMadeToWait flow (i ∷ []) ws (set ws (number flow i) true)
+put_one flow ws i there = record {
   one_each = length-set ws (number flow i) true;
   wait = (put-same ws (number flow i), tt);
   still = λ j e. put-still ws (number flow i) (number flow j) e;
   few = count-put ws (number flow i);
   none_out = count-kept ws (number flow i);
+  none_before = λ p a j m l e. elim (cases_eq (number flow j) (number flow i)) [
+    | inl s ↦
+        let k = a.0 in
+        let here : node_of flow i < p = subst (λ x. node_of flow x < p) (number-one flow j i m there s) l in
+        absurd (omega arith)
+    | inr n ↦ get_or-set_other ws (number flow i) (number flow j) true true n ∙ e
+  ];
 }
 
 put_more : (flow : Dataflow) (is js : List Inclusion) (a b c : List Bool) → AreMadeToWait flow is a b → AreMadeToWait flow js b c → AreMadeToWait flow (is ++ js) a c
@@ -275,6 +282,8 @@ put_more flow is js a b c k l =
       still = λ j e. l.still j (k.still j e);
       few = omega arith;
       none_out = omega arith;
+      none_before = λ p h j m before e.
+          l.none_before p (each-suffix (λ i. p ≤ node_of flow i) is js h) j m before (k.none_before p (each-prefix (λ i. p ≤ node_of flow i) is js h) j m before e);
     }
 
 pub put_next : (flow : Dataflow) (all : List Inclusion) (n : ℕ) (x : Inclusion) (a b c : List Bool) → n < length all → x ≡ get_or all n x

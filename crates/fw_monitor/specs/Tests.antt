@@ -1,12 +1,12 @@
 -- For the proofs of src/descent.rt: one test of an inclusion, and what the descent keeps.
-use Rattle.std.specs.Prelude.{◌≡◌, ℕ, ◌+◌, ◌<◌, ◌≤◌, Bool, true, false, List, ◌∷◌, ◌++◌, length, Option, Some, None}
+use Rattle.std.specs.Prelude.{◌≡◌, ℕ, ◌+◌, ◌<◌, ◌≤◌, Bool, false, List, ◌∷◌, ◌++◌, length, Option, Some, None}
 use Rattle.std.specs.List.{AllByRecursion}
 use Rattle.fw_flow.specs.declared.choice.Choice.{Choice}
 use Rattle.fw_flow.specs.declared.choice.Cut.{Cut}
 use Rattle.fw_flow.specs.declared.choice.Offer.{Offer}
 use Rattle.fw_flow.specs.declared.trail.Lowering.{Lowering}
 use Rattle.fw_flow.specs.Dataflow.{Dataflow}
-use Rattle.fw_model.specs.Inclusions.{IsInclusionOf, Holds, inclusions}
+use Rattle.fw_model.specs.Inclusions.{IsInclusionOf, node_of, Holds, inclusions}
 use Rattle.fw_model.specs.Lowerings.{IsGreatestLeft, with_value, Leads}
 use Rattle.fw_flow.specs.declared.side.Inclusion.{Inclusion}
 use Rattle.fw_monitor.specs.Descent.{weight, HasConsistent, EnclosesConsistent}
@@ -47,11 +47,14 @@ pub record IsFirstWaiting (flow : Dataflow) (waiting : List Bool) (i : Inclusion
   pub place : inclusions flow ≡ earlier ++ i ∷ later
   pub done : AllByRecursion (λ j. waits flow waiting j ≡ false) earlier
 
--- one test of an inclusion, if it waits
+-- one test of an inclusion, if it waits; where a value was lowered, none of a node before this one waits anew
 pub record IsOneTest (flow : Dataflow) (offers : List Offer) (i : Inclusion) (old new : Choice) (trail more : List Lowering)
-    (waiting left : List Bool) (steps next : ℕ) (lowered : Bool) : Type 0 where
+    (waiting left : List Bool) (steps next : ℕ) (lowered : Option ℕ) : Type 0 where
   pub going : (before : ℕ) → IsGoing flow offers old trail waiting before steps → IsGoing flow offers new more left before next
-  pub fewer : lowered ≡ true → weight flow new < weight flow old
-  pub same : lowered ≡ false → new ≡ old
-  pub taken : lowered ≡ false → waits flow left i ≡ false
-  pub rest : lowered ≡ false → (j : Inclusion) → waits flow waiting j ≡ false → waits flow left j ≡ false
+  pub same : lowered ≡ None → new ≡ old
+  pub taken : lowered ≡ None → waits flow left i ≡ false
+  pub rest : lowered ≡ None → (j : Inclusion) → waits flow waiting j ≡ false → waits flow left j ≡ false
+  pub fewer : (p : ℕ) → lowered ≡ Some p → weight flow new < weight flow old
+  pub back : (p : ℕ) → lowered ≡ Some p → p ≤ node_of flow i
+  pub none_before : (p : ℕ) → lowered ≡ Some p → (j : Inclusion) → IsInclusionOf flow j → node_of flow j < p → waits flow waiting j ≡ false
+      → waits flow left j ≡ false

@@ -2,7 +2,7 @@
 use Rattle.std.specs.Prelude.{◌≡◌, ℕ, suc, ◌+◌, ◌<◌, ◌≤◌, Bool, true, false, ◌||◌, ◌==◌, List, [], ◌∷◌, ◌++◌, length, map, slice_index_or}
 use Rattle.std.specs.List.{AllByRecursion}
 use Rattle.fw_flow.specs.Dataflow.{Dataflow, sender, receiver, in_edges, out_edges}
-use Rattle.fw_model.specs.Inclusions.{owner, note_node}
+use Rattle.fw_model.specs.Inclusions.{owner, note_node, node_of, IsInclusionOf, inclusions_to}
 use Rattle.fw_flow.specs.declared.side.Side.TheVariants.{Delivered, Discarded, Notified}
 use Rattle.fw_flow.specs.declared.side.Limit.TheVariants.{Own, Note}
 use Rattle.fw_monitor.specs.declared.worklist.OnEdge.{OnEdge}
@@ -65,6 +65,11 @@ number flow (OfNote (Own p)) = length flow.edges + length flow.edges + length fl
 abbrev pub inclusion_count : Dataflow → ℕ
 inclusion_count flow = length flow.edges + length flow.edges + length flow.edges + length flow.nodes + length flow.nodes
 
+-- a list has, for each of the first n nodes, the place at which its inclusions begin
+pub record AreBegins (flow : Dataflow) (n : ℕ) (begins : List ℕ) : Type 0 where
+  pub one_each : length begins ≡ n
+  pub each : (p : ℕ) → p < n → slice_index_or begins p 0 ≡ length (inclusions_to flow p)
+
 -- whether the inclusion waits for its test, by a list of flags
 abbrev pub waits : Dataflow → List Bool → Inclusion → Bool
 waits flow waiting i = slice_index_or waiting (number flow i) true
@@ -75,10 +80,13 @@ count [] = 0
 count (true ∷ waiting) = suc (count waiting)
 count (false ∷ waiting) = count waiting
 
--- these wait now, each that waited still does, no more are added than that many, and none is taken out
+-- These wait now, each that waited still does, no more are added than that many, and none is taken out. None of a node before
+-- theirs waits anew.
 pub record AreMadeToWait (flow : Dataflow) (is : List Inclusion) (old new : List Bool) : Type 0 where
   pub one_each : length new ≡ length old
   pub wait : AllByRecursion (λ i. waits flow new i ≡ true) is
   pub still : (j : Inclusion) → waits flow old j ≡ true → waits flow new j ≡ true
   pub few : count new ≤ count old + length is
   pub none_out : count old ≤ count new
+  pub none_before : (p : ℕ) → AllByRecursion (λ i. p ≤ node_of flow i) is → (j : Inclusion) → IsInclusionOf flow j → node_of flow j < p
+      → waits flow old j ≡ false → waits flow new j ≡ false

@@ -15,7 +15,7 @@ ghost use Rattle.fw_monitor.specs.Tests.{IsTested, IsFirstWaiting, IsOneTest};
 use crate::lower::lowered;
 use crate::start::greatest_cuts;
 use crate::trail::lowering_of;
-use crate::worklist::{after, all_wait, inclusions, number, put_all};
+use crate::worklist::{after, all_wait, first_node, inclusions, node_of, number, put_all};
 use fw_flow::laws::flow_is_well_formed;
 use fw_flow::{
     Choice, Cut, Cuts, EdgeId, Flow, Fronts, Inclusion, Limit, Lowering, NodeId, Offer, Side,
@@ -104,8 +104,8 @@ fn uncounted<L: Ledger>(
 /// some cuts and frontiers. And the trail of the descent, which tells how it was found. The error is want of memory.
 ///
 /// It begins with the greatest cut of each node, and takes the inclusions that wait for their test in order: what does not
-/// hold is lowered, and what that can break waits again. Each test is one step, and each
-/// inclusion is tested at least once.
+/// hold is lowered, and what that can break waits again. After a lowering it goes on from the first node of which an inclusion
+/// can wait again. Each test is one step, and each inclusion is tested at least once.
 pub fn descend<L: Ledger>(
     alloc: Global,
     flow: &Flow,
@@ -132,14 +132,13 @@ pub fn descend<L: Ledger>(
         waiting,
         trail: Vec::new(alloc),
     };
-    let all = inclusions(alloc, flow)?;
+    let inclusions = inclusions(alloc, flow)?;
     let mut place = 0;
-    'test: while place < all.len() {
-        let lowered = test(alloc, flow, offers, &all[place], &mut going, steps)?;
-        if lowered {
-            place = 0;
-        } else {
-            place += 1;
+    'test: while place < inclusions.all.len() {
+        let inclusion = &inclusions.all[place];
+        match test(alloc, flow, offers, inclusion, &mut going, steps)? {
+            None => place += 1,
+            Some(node) => place = inclusions.begins[node.place() as usize],
         }
     }
     Ok(Descent {
@@ -151,8 +150,8 @@ pub fn descend<L: Ledger>(
     })
 }
 
-/// Tests the inclusion, if it waits, and lowers what it is of, if it does not hold; whether it did. The error is want of
-/// memory.
+/// Tests the inclusion, if it waits, and lowers what it is of, if it does not hold; then, the first node of which an inclusion
+/// may wait again. The error is want of memory.
 fn test<L: Ledger>(
     alloc: Global,
     flow: &Flow,
@@ -160,7 +159,7 @@ fn test<L: Ledger>(
     inclusion: &Inclusion,
     going: &mut Going,
     steps: &mut Steps<L>,
-) -> Result<bool, AllocError>
+) -> Result<Option<NodeId>, AllocError>
     requires offers { AreOffersOf flow.now offers.now }
     requires there { IsInclusionOf flow.now inclusion.now }
     requires next { IsFirstWaiting flow.now going.old.waiting.items inclusion.now }
@@ -173,7 +172,7 @@ fn test<L: Ledger>(
     flow_is_well_formed(flow);
     let number = number(flow, *inclusion);
     if !going.waiting[number] {
-        return Ok(false);
+        return Ok(None);
     }
     going.waiting[number] = false;
     steps.tick();
@@ -186,12 +185,12 @@ fn test<L: Ledger>(
         &mut going.notices,
     )?;
     match value {
-        None => Ok(false),
+        None => Ok(None),
         Some(to) => {
             let broken = after(alloc, flow, *inclusion)?;
             put_all(flow, &mut going.waiting, &broken);
             going.trail.push(lowering_of(flow, inclusion, to))?;
-            Ok(true)
+            Ok(Some(first_node(flow, node_of(flow, *inclusion), &broken)))
         }
     }
 }

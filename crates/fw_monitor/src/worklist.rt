@@ -1,11 +1,11 @@
 //! The worklist of a descent: the inclusions of a flow in order, and which of them wait for their test.
-ghost use Rattle.std.specs.Prelude.{◌≡◌, true, [], ◌∷◌, ◌++◌, map, length, IfOk};
+ghost use Rattle.std.specs.Prelude.{◌≡◌, ◌≤◌, true, [], ◌∷◌, ◌++◌, map, length, IfOk};
 ghost use Rattle.std.specs.List.{AllByRecursion};
 ghost use Rattle.fw_flow.specs.declared.side.Inclusion.TheVariants as variants;
 ghost use Rattle.fw_model.specs.Inclusions as of_flow;
 ghost use Rattle.fw_monitor.specs.Worklist as spec;
 ghost use Rattle.fw_model.specs.Inclusions.{note_node, IsInclusionOf};
-ghost use Rattle.fw_monitor.specs.Worklist.{number, inclusion_count, AreMadeToWait};
+ghost use Rattle.fw_monitor.specs.Worklist.{number, inclusion_count, AreBegins, AreMadeToWait};
 
 use fw_flow::laws::flow_is_well_formed;
 use fw_flow::{EdgeId, Flow, Inclusion, Limit, NodeId, Side};
@@ -23,15 +23,37 @@ enum OnEdge {
     Note,
 }
 
+/// The inclusions of a flow, by node.
+#[derive(Drop)]
+pub(crate) struct InOrder {
+    /// All of them, in order.
+    pub(crate) all: Vec<Inclusion>,
+    /// For each node, where its inclusions begin.
+    pub(crate) begins: Vec<usize>,
+}
+
 /// The inclusions of a flow, by node. The error is want of memory.
-pub(crate) fn inclusions(alloc: Global, flow: &Flow) -> Result<Vec<Inclusion>, AllocError>
-    ensures { IfOk result (λ all. all.items ≡ of_flow.inclusions flow.now) }
+pub(crate) fn inclusions(alloc: Global, flow: &Flow) -> Result<InOrder, AllocError>
+    ensures all { IfOk result (λ inclusions. inclusions.all.items ≡ of_flow.inclusions flow.now) }
+    ensures begins { IfOk result (λ inclusions. AreBegins flow.now (length flow.now.nodes) inclusions.begins.items) }
 {
-    let mut all = Vec::new(alloc);
+    let mut all = Vec::with_capacity(alloc, inclusion_count(flow))?;
+    let mut begins = Vec::with_capacity(alloc, flow.nodes())?;
     for place in 0..flow.nodes() {
+        begins.push(all.len())?;
         add_of_node(flow, NodeId::at(place as u32), &mut all)?;
     }
-    Ok(all)
+    Ok(InOrder { all, begins })
+}
+
+/// How many inclusions a flow has.
+fn inclusion_count(flow: &Flow) -> usize
+    ensures { result ≡ inclusion_count flow.now }
+{
+    flow_is_well_formed(flow);
+    let edges = flow.edges();
+    let nodes = flow.nodes();
+    edges + edges + edges + nodes + nodes
 }
 
 /// Adds the inclusions of a node. The error is want of memory.
@@ -130,15 +152,46 @@ fn limit_number(flow: &Flow, limit: Limit) -> usize
     }
 }
 
+/// The first of a node and those whose values stand on the left of these inclusions.
+pub(crate) fn first_node(flow: &Flow, node: NodeId, inclusions: &[Inclusion]) -> NodeId
+    ensures node { result ≤ node }
+    ensures each { AllByRecursion (λ i. result ≤ of_flow.node_of flow.now i) inclusions.now }
+{
+    let mut first = node;
+    for inclusion in inclusions {
+        first = earlier(first, node_of(flow, *inclusion));
+    }
+    first
+}
+
+/// The earlier of two nodes.
+fn earlier(one: NodeId, other: NodeId) -> NodeId
+    ensures one { result ≤ one }
+    ensures other { result ≤ other }
+{
+    if other.place() < one.place() {
+        other
+    } else {
+        one
+    }
+}
+
+/// The node one of whose values stands on the left of an inclusion.
+pub(crate) fn node_of(flow: &Flow, inclusion: Inclusion) -> NodeId
+    ensures { result ≡ of_flow.node_of flow.now inclusion }
+{
+    match inclusion {
+        Inclusion::OfCut(side) => owner(flow, side),
+        Inclusion::OfNote(limit) => note_node(flow, limit),
+    }
+}
+
 /// All wait. The error is want of memory.
 pub(crate) fn all_wait(alloc: Global, flow: &Flow) -> Result<Vec<bool>, AllocError>
     ensures one_each { IfOk result (λ waiting. length waiting.items ≡ inclusion_count flow.now) }
     ensures all { IfOk result (λ waiting. AllByRecursion (λ w. w ≡ true) waiting.items) }
 {
-    flow_is_well_formed(flow);
-    let edges = flow.edges();
-    let nodes = flow.nodes();
-    let all = vec![in alloc; true; edges + edges + edges + nodes + nodes]?;
+    let all = vec![in alloc; true; inclusion_count(flow)]?;
     Ok(all)
 }
 

@@ -12,6 +12,7 @@ ghost use Rattle.fw_policy.specs.View.{AreWholeFrom, IsViewOf};
 
 use crate::offering::offered;
 use crate::view::NodeView;
+use fw_flow::laws::flow_is_well_formed;
 use fw_flow::{Flow, NodeId, Offer};
 use fw_keep::Entry;
 use std::alloc::{AllocError, Global};
@@ -34,9 +35,31 @@ pub fn candidates(
         → IfOk result (λ offers. AreOffersAbove sys state lost (choice_at floor known.above.notices) offers.items) }
     ensures of_flow { FitsFlow flow.now view.now entries.now → IfOk result (λ offers. AreOffersOf flow.now offers.items) }
 {
-    let mut offers = Vec::new(alloc);
-    for place in 0..flow.nodes() {
-        offers.push(offer(alloc, flow, entries, NodeId::at(place as u32), &view[place])?)?;
+    let views = copies(alloc, view)?;
+    offers_of(alloc, flow, views, entries)
+}
+
+/// The same of views that are handed over: what they tell of stamps is moved into the offers, and not copied. The error is want
+/// of memory.
+pub fn offers_of(
+    alloc: Global,
+    flow: &Flow,
+    views: Vec<NodeView>,
+    entries: &[Entry],
+) -> Result<Vec<Offer>, AllocError>
+    requires { length views.items ≡ length flow.now.nodes }
+    ensures exact { (sys : System) (state : Machine) (lost : ℕ → Bool) → sys.flow ≡ flow.now → IsViewOf sys state lost state.low views.items entries.now
+        → AreWholeFrom sys state state.low 0 views.items → IfOk result (λ offers. AreOffersIn sys state lost offers.items) }
+    ensures above { (sys : System) (state : Machine) (lost : ℕ → Bool) (floor : List Front) → sys.flow ≡ flow.now
+        → (known : IsViewOf sys state lost floor views.items entries.now)
+        → IfOk result (λ offers. AreOffersAbove sys state lost (choice_at floor known.above.notices) offers.items) }
+    ensures of_flow { FitsFlow flow.now views.items entries.now → IfOk result (λ offers. AreOffersOf flow.now offers.items) }
+{
+    flow_is_well_formed(flow);
+    let mut offers = Vec::with_capacity(alloc, views.len())?;
+    for known in views {
+        let node = NodeId::at(offers.len() as u32);
+        offers.push(offer(alloc, flow, entries, node, known)?)?;
     }
     Ok(offers)
 }
@@ -47,17 +70,26 @@ fn offer(
     flow: &Flow,
     entries: &[Entry],
     node: NodeId,
-    known: &NodeView,
+    known: NodeView,
 ) -> Result<Offer, AllocError>
-    ensures { IsKnown flow.now entries.now node known.now → IfOk result (IsOfferBy flow.now entries.now node known.now) }
+    ensures { IsKnown flow.now entries.now node known → IfOk result (IsOfferBy flow.now entries.now node known) }
 {
-    let offered = offered(alloc, flow, entries, node, known)?;
-    let stamps = known.stamps.copy()?;
-    let table = known.table.copy()?;
+    let offered = offered(alloc, flow, entries, node, &known)?;
     Ok(Offer {
         present: !known.failed,
         offered,
-        stamps,
-        table,
+        stamps: known.stamps,
+        table: known.table,
     })
+}
+
+/// The same views once more. The error is want of memory.
+fn copies(alloc: Global, views: &[NodeView]) -> Result<Vec<NodeView>, AllocError>
+    ensures { IfOk result (λ copies. copies.items ≡ views.now) }
+{
+    let mut copies = Vec::with_capacity(alloc, views.len())?;
+    for view in views {
+        copies.push(view.copy()?)?;
+    }
+    Ok(copies)
 }

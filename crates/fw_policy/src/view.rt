@@ -1,6 +1,9 @@
 //! What an engine knows of its nodes, to say what they offer to a recovery.
+ghost use Rattle.std.specs.Prelude.{◌≡◌, IfOk};
+
 use fw_flow::{Notices, SentTable, Stamps};
 use fw_frontier::Front;
+use std::alloc::AllocError;
 
 /// Where a node meets what is outside.
 #[derive(Debug, Drop)]
@@ -32,4 +35,40 @@ pub struct NodeView {
     pub lost: Notices,
     /// Whether it counts as failed.
     pub failed: bool,
+}
+
+impl Border {
+    /// The same once more.
+    pub(crate) fn copy(&self) -> Self
+        ensures { result ≡ self.now }
+    {
+        match self {
+            Border::Inner => Border::Inner,
+            Border::Source {
+                injected,
+                exhausted,
+            } => Border::Source {
+                injected: *injected,
+                exhausted: *exhausted,
+            },
+            Border::Output { bound } => Border::Output { bound: *bound },
+        }
+    }
+}
+
+impl NodeView {
+    /// The same once more. The error is want of memory.
+    pub(crate) fn copy(&self) -> Result<Self, AllocError>
+        ensures { IfOk result (λ view. view ≡ self.now) }
+    {
+        Ok(NodeView {
+            stamps: self.stamps.copy()?,
+            table: self.table.copy()?,
+            settled: self.settled.copy()?,
+            low: self.low.copy()?,
+            border: self.border.copy(),
+            lost: self.lost.copy()?,
+            failed: self.failed,
+        })
+    }
 }

@@ -10,7 +10,7 @@ use Rattle.fw_monitor.specs.Descent.{HasConsistent}
 use Rattle.fw_model.specs.Inclusions.{inclusions}
 use Rattle.fw_monitor.specs.Trail.{IsTrail}
 use Rattle.fw_monitor.proofs.DescentLaws.{largest_of, of_flow}
-use Rattle.fw_monitor.proofs.TestLaws.{IsAt, begun, next_at, there_at, again_at, further_at, again_falls, further_falls, each_holds, trail_ends, each_tested}
+use Rattle.fw_monitor.proofs.TestLaws.{IsAt, begun, next_at, there_at, node_back, again_at, further_at, again_falls, further_falls, each_holds, trail_ends, each_tested}
 use Rattle.fw_monitor.proofs.descent.descend.Goals as goal
 
 pub test-init : goal.test-init
@@ -28,42 +28,52 @@ test-init g c =
 pub test-requires-clause-there : goal.test-requires-clause-there
 test-requires-clause-there g c =
     let t = c.test-test.true in
-    let l : c.test.place < length c.in_ok-all.all.items = omega arith in
-    there_at c.args.flow.now c.in_ok-all.all.items c.test.place c.index.result.now c.in_ok-all.ensures l c.index.ensures
+    let l : c.test.place < length c.in_ok-inclusions.inclusions.all.items = omega arith in
+    there_at c.args.flow.now c.in_ok-inclusions.inclusions.all.items c.test.place c.index-inclusion.result.now c.in_ok-inclusions.ensures.all l c.index-inclusion.ensures
 
 pub test-requires-clause-next : goal.test-requires-clause-next
 test-requires-clause-next g c =
     let t = c.test-test.true in
-    let l : c.test.place < length c.in_ok-all.all.items = omega arith in
-    next_at c.args.flow.now c.test.going.waiting.items c.in_ok-all.all.items c.test.place c.index.result.now c.in_ok-all.ensures l c.index.ensures c.test.invariant.done
+    let l : c.test.place < length c.in_ok-inclusions.inclusions.all.items = omega arith in
+    next_at c.args.flow.now c.test.going.waiting.items c.in_ok-inclusions.inclusions.all.items c.test.place c.index-inclusion.result.now c.in_ok-inclusions.ensures.all l c.index-inclusion.ensures c.test.invariant.done
 
-pub test-smaller-then-lowered : goal.test-smaller-then-lowered
-test-smaller-then-lowered g c =
-    again_falls c.args.flow.now c.args.offers.now c.index.result.now (choice_of c.test.going.cuts.items c.test.going.notices.items) (choice_of c.test-in-test.new.going.cuts.items c.test-in-test.new.going.notices.items)
-    c.test.going.trail.items c.test-in-test.new.going.trail.items c.test.going.waiting.items c.test-in-test.new.going.waiting.items c.test.steps c.test-in-test.new.steps c.test.place c.in_ok-lowered.lowered
-    c.if-lowered.true c.in_ok-lowered.ensures
+pub test-smaller-in-None : goal.test-smaller-in-None
+test-smaller-in-None g c =
+    let t = c.test-test.true in
+    let l : c.test.place < length c.in_ok-inclusions.inclusions.all.items = omega arith in
+    further_falls c.args.flow.now c.args.offers.now c.in_ok-inclusions.inclusions.all.items c.index-inclusion.result.now (choice_of c.test.going.cuts.items c.test.going.notices.items) (choice_of c.test-in-test.new.going.cuts.items c.test-in-test.new.going.notices.items)
+    c.test.going.trail.items c.test-in-test.new.going.trail.items c.test.going.waiting.items c.test-in-test.new.going.waiting.items c.test.steps c.test-in-test.new.steps c.test.place c.in_ok-test.field-0
+    c.in-None.is c.in_ok-inclusions.ensures.all l c.in_ok-test.ensures
 
-pub test-preserved-then-lowered : goal.test-preserved-then-lowered
-test-preserved-then-lowered g c =
-    again_at c.args.flow.now c.args.offers.now c.index.result.now (choice_of c.test.going.cuts.items c.test.going.notices.items) (choice_of c.test-in-test.new.going.cuts.items c.test-in-test.new.going.notices.items)
-    c.test.going.trail.items c.test-in-test.new.going.trail.items c.test.going.waiting.items c.test-in-test.new.going.waiting.items c.args.steps.now c.test.steps c.test-in-test.new.steps c.test.place c.in_ok-lowered.lowered
-    c.in_ok-lowered.ensures c.test.invariant
+pub test-preserved-in-None : goal.test-preserved-in-None
+test-preserved-in-None g c =
+    let t = c.test-test.true in
+    let l : c.test.place < length c.in_ok-inclusions.inclusions.all.items = omega arith in
+    further_at c.args.flow.now c.args.offers.now c.in_ok-inclusions.inclusions.all.items c.index-inclusion.result.now (choice_of c.test.going.cuts.items c.test.going.notices.items) (choice_of c.test-in-test.new.going.cuts.items c.test-in-test.new.going.notices.items)
+    c.test.going.trail.items c.test-in-test.new.going.trail.items c.test.going.waiting.items c.test-in-test.new.going.waiting.items c.args.steps.now c.test.steps c.test-in-test.new.steps c.test.place c.in_ok-test.field-0
+    c.in-None.is c.in_ok-inclusions.ensures.all l c.index-inclusion.ensures c.in_ok-test.ensures c.test.invariant
+
+pub index-place-requires : goal.index-place-requires
+index-place-requires g c =
+    let one = c.in_ok-inclusions.ensures.begins.one_each in
+    let at = node_back c.args.flow.now c.args.offers.now c.in_ok-inclusions.inclusions.all.items c.index-inclusion.result.now (choice_of c.test.going.cuts.items c.test.going.notices.items) (choice_of c.test-in-test.new.going.cuts.items c.test-in-test.new.going.notices.items)
+    c.test.going.trail.items c.test-in-test.new.going.trail.items c.test.going.waiting.items c.test-in-test.new.going.waiting.items c.test.steps c.test-in-test.new.steps c.test.place c.in-Some.node c.in_ok-test.field-0
+    c.in-Some.is c.flow_is_well_formed.ensures c.in_ok-inclusions.ensures.all (let t = c.test-test.true in omega arith) c.index-inclusion.ensures c.in_ok-test.ensures in
+    omega (arith, at, one, c.place.ensures)
 
 pub test-smaller : goal.test-smaller
 test-smaller g c =
-    let t = c.test-test.true in
-    let l : c.test.place < length c.in_ok-all.all.items = omega arith in
-    further_falls c.args.flow.now c.args.offers.now c.in_ok-all.all.items c.index.result.now (choice_of c.test.going.cuts.items c.test.going.notices.items) (choice_of c.test-in-test.new.going.cuts.items c.test-in-test.new.going.notices.items)
-    c.test.going.trail.items c.test-in-test.new.going.trail.items c.test.going.waiting.items c.test-in-test.new.going.waiting.items c.test.steps c.test-in-test.new.steps c.test.place c.in_ok-lowered.lowered
-    c.if-lowered.false c.in_ok-all.ensures l c.in_ok-lowered.ensures
+    again_falls c.args.flow.now c.args.offers.now c.index-inclusion.result.now (choice_of c.test.going.cuts.items c.test.going.notices.items) (choice_of c.test-in-test.new.going.cuts.items c.test-in-test.new.going.notices.items)
+    c.test.going.trail.items c.test-in-test.new.going.trail.items c.test.going.waiting.items c.test-in-test.new.going.waiting.items c.test.steps c.test-in-test.new.steps c.test.place c.in-Some.node c.index-place.result.now c.in_ok-test.field-0
+    c.in-Some.is c.in_ok-test.ensures
 
 pub test-preserved : goal.test-preserved
 test-preserved g c =
     let t = c.test-test.true in
-    let l : c.test.place < length c.in_ok-all.all.items = omega arith in
-    further_at c.args.flow.now c.args.offers.now c.in_ok-all.all.items c.index.result.now (choice_of c.test.going.cuts.items c.test.going.notices.items) (choice_of c.test-in-test.new.going.cuts.items c.test-in-test.new.going.notices.items)
-    c.test.going.trail.items c.test-in-test.new.going.trail.items c.test.going.waiting.items c.test-in-test.new.going.waiting.items c.args.steps.now c.test.steps c.test-in-test.new.steps c.test.place c.in_ok-lowered.lowered
-    c.if-lowered.false c.in_ok-all.ensures l c.index.ensures c.in_ok-lowered.ensures c.test.invariant
+    let l : c.test.place < length c.in_ok-inclusions.inclusions.all.items = omega arith in
+    again_at c.args.flow.now c.args.offers.now c.in_ok-inclusions.inclusions.all.items c.in_ok-inclusions.inclusions.begins.items c.index-inclusion.result.now (choice_of c.test.going.cuts.items c.test.going.notices.items) (choice_of c.test-in-test.new.going.cuts.items c.test-in-test.new.going.notices.items)
+    c.test.going.trail.items c.test-in-test.new.going.trail.items c.test.going.waiting.items c.test-in-test.new.going.waiting.items c.args.steps.now c.test.steps c.test-in-test.new.steps c.test.place c.in-Some.node c.place.result c.index-place.result.now c.in_ok-test.field-0
+    c.in-Some.is c.flow_is_well_formed.ensures c.in_ok-inclusions.ensures.all c.in_ok-inclusions.ensures.begins l c.index-inclusion.ensures c.place.ensures c.index-place.ensures c.in_ok-test.ensures c.test.invariant
 
 pub returns-clause-largest : goal.returns-clause-largest
 returns-clause-largest g c = λ some a k.
@@ -71,7 +81,7 @@ returns-clause-largest g c = λ some a k.
     let offers = c.args.offers.now in
     let cuts = c.test.going.cuts.items in
     let notices = c.test.going.notices.items in
-    let same = ap length c.in_ok-all.ensures in
+    let same = ap length c.in_ok-inclusions.ensures.all in
     let past : length (inclusions flow) ≤ c.test.place = let f = c.test-test.false in omega arith in
     let has : HasConsistent flow offers = (a, (some, k)) in
     let whole = largest_of flow offers (choice_of cuts notices) c.test.invariant.going.encloses has
@@ -85,7 +95,7 @@ returns-clause-trail g c = λ has.
     let offers = c.args.offers.now in
     let cuts = c.test.going.cuts.items in
     let notices = c.test.going.notices.items in
-    let same = ap length c.in_ok-all.ensures in
+    let same = ap length c.in_ok-inclusions.ensures.all in
     let past : length (inclusions flow) ≤ c.test.place = let f = c.test-test.false in omega arith in
     let whole = trail_ends flow offers (choice_of cuts notices) c.test.going.trail.items c.test.going.waiting.items c.args.steps.now c.test.steps c.test.place c.flow_is_well_formed.ensures c.test.invariant past has in
     subst (λ ls. IsTrail flow offers ls (choice_of c.of.result c.of-2.result)) (sym c.of-3.ensures)
@@ -102,7 +112,7 @@ returns-clause-of_flow g c =
 
 pub returns-clause-each_tested : goal.returns-clause-each_tested
 returns-clause-each_tested g c =
-    let same = ap length c.in_ok-all.ensures in
+    let same = ap length c.in_ok-inclusions.ensures.all in
     let past : length (inclusions c.args.flow.now) ≤ c.test.place = let f = c.test-test.false in omega arith in
     let tested = each_tested c.args.flow.now c.args.offers.now (choice_of c.test.going.cuts.items c.test.going.notices.items) c.test.going.trail.items c.test.going.waiting.items
     c.args.steps.now c.test.steps c.test.place c.flow_is_well_formed.ensures c.test.invariant past in

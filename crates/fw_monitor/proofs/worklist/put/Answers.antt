@@ -6,4 +6,4 @@ use Rattle.fw_monitor.proofs.worklist.put.Goals as goal
 pub returns : goal.returns
 returns c =
     subst (λ n. AreMadeToWait c.args.flow.now (c.args.inclusion ∷ []) c.args.waiting.now.items (set c.args.waiting.now.items n true)) (sym c.number.ensures)
-    (put_one c.args.flow.now c.args.waiting.now.items c.args.inclusion)
+    (put_one c.args.flow.now c.args.waiting.now.items c.args.inclusion c.requires.there)

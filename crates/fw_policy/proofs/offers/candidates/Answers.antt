@@ -1,41 +1,27 @@
-use Rattle.std.proofs.Common.{sym, subst, arith}
-use Rattle.std.proofs.lemmas.List.{take_all}
-use Rattle.std.specs.Prelude.{List}
-use Rattle.fw_flow.specs.Dataflow.{Dataflow}
+use Rattle.std.proofs.Common.{◌≡◌, ℕ, Bool, List, subst}
+use Rattle.std.specs.Prelude.{IfOk}
+use Rattle.fw_frontier.specs.Front.{Front}
+use Rattle.fw_flow.specs.Dataflow.{System}
+use Rattle.fw_model.specs.Choosing.{choice_at}
+use Rattle.fw_model.specs.Machine.{Machine}
+use Rattle.fw_model.specs.Offers.{AreOffersAbove, AreOffersIn, AreOffersOf}
 use Rattle.fw_policy.specs.declared.view.NodeView.{NodeView}
-use Rattle.fw_policy.specs.Known.{AreNodesKnown}
-use Rattle.fw_policy.specs.Offering.{AreOffersBy}
-use Rattle.fw_policy.proofs.AboveLaws.{offers-above}
-use Rattle.fw_policy.proofs.KnownLaws.{are-known, offer_more}
-use Rattle.fw_policy.proofs.OfferLaws.{offers-in}
-use Rattle.fw_policy.proofs.ShapedLaws.{shaped-known, shaped-offers}
+use Rattle.fw_policy.specs.Shaped.{FitsFlow}
+use Rattle.fw_policy.specs.View.{AreWholeFrom, IsViewOf}
 use Rattle.fw_policy.proofs.offers.candidates.Goals as goal
 
-pub loop-place-preserved : goal.loop-place-preserved
-loop-place-preserved c = λ k.
-    offer_more c.args.flow.now c.args.entries.now c.args.view.now c.loop-place.offers.items c.push.new.self.items c.loop-place.place c.at.result c.index-view-place.result c.in_ok-offer.field-0 k
-    (omega (arith, c.requires, c.loop-place-test.true, c.nodes-place-end.ensures.count)) c.index-view-place.is c.at.ensures (c.loop-place.invariant k) c.in_ok-offer.ensures c.in_ok-push.ensures.items
-
 pub returns-clause-exact : goal.returns-clause-exact
-returns-clause-exact c = λ sys state lost e v whole.
-    let k = subst (λ (flow : Dataflow). AreNodesKnown flow c.args.entries.now 0 c.args.view.now) e (are-known sys state lost state.low c.args.view.now c.args.entries.now v) in
-    let all = take_all c.loop-place.place c.args.view.now (omega (arith, c.requires, c.loop-place-test.false, c.nodes-place-end.ensures.count, c.loop-place.auto.place-end)) in
-    offers-in sys state lost c.args.view.now c.args.entries.now c.loop-place.offers.items
-    (subst (λ (flow : Dataflow). AreOffersBy flow c.args.entries.now 0 c.args.view.now c.loop-place.offers.items) (sym e)
-    (subst (λ (xs : List NodeView). AreOffersBy c.args.flow.now c.args.entries.now 0 xs c.loop-place.offers.items) all (c.loop-place.invariant k))) v whole
+returns-clause-exact c =
+    subst (λ (view : List NodeView). (sys : System) (state : Machine) (lost : ℕ → Bool) → sys.flow ≡ c.args.flow.now → IsViewOf sys state lost state.low view c.args.entries.now
+    → AreWholeFrom sys state state.low 0 view → IfOk c.offers_of.result (λ offers. AreOffersIn sys state lost offers.items)) c.in_ok-views.ensures c.offers_of.ensures.exact
 
 pub returns-clause-above : goal.returns-clause-above
-returns-clause-above c = λ sys state lost floor e v.
-    let k = subst (λ (flow : Dataflow). AreNodesKnown flow c.args.entries.now 0 c.args.view.now) e (are-known sys state lost floor c.args.view.now c.args.entries.now v) in
-    let all = take_all c.loop-place.place c.args.view.now (omega (arith, c.requires, c.loop-place-test.false, c.nodes-place-end.ensures.count, c.loop-place.auto.place-end)) in
-    offers-above sys state lost floor c.args.view.now c.args.entries.now c.loop-place.offers.items
-    (subst (λ (flow : Dataflow). AreOffersBy flow c.args.entries.now 0 c.args.view.now c.loop-place.offers.items) (sym e)
-    (subst (λ (xs : List NodeView). AreOffersBy c.args.flow.now c.args.entries.now 0 xs c.loop-place.offers.items) all (c.loop-place.invariant k))) v
+returns-clause-above c =
+    subst (λ (view : List NodeView). (sys : System) (state : Machine) (lost : ℕ → Bool) (floor : List Front) → sys.flow ≡ c.args.flow.now
+    → (known : IsViewOf sys state lost floor view c.args.entries.now) → IfOk c.offers_of.result (λ offers. AreOffersAbove sys state lost (choice_at floor known.above.notices) offers.items))
+    c.in_ok-views.ensures c.offers_of.ensures.above
 
 pub returns-clause-of_flow : goal.returns-clause-of_flow
-returns-clause-of_flow c = λ s.
-    let flow = c.args.flow.now in
-    let k = shaped-known flow c.args.view.now c.args.entries.now s in
-    let all = take_all c.loop-place.place c.args.view.now (omega (arith, c.requires, c.loop-place-test.false, c.nodes-place-end.ensures.count, c.loop-place.auto.place-end)) in
-    shaped-offers flow c.args.view.now c.args.entries.now c.loop-place.offers.items c.nodes-place-end.ensures.well_formed c.requires s
-    (subst (λ (xs : List NodeView). AreOffersBy flow c.args.entries.now 0 xs c.loop-place.offers.items) all (c.loop-place.invariant k))
+returns-clause-of_flow c =
+    subst (λ (view : List NodeView). FitsFlow c.args.flow.now view c.args.entries.now → IfOk c.offers_of.result (λ offers. AreOffersOf c.args.flow.now offers.items))
+    c.in_ok-views.ensures c.offers_of.ensures.of_flow

@@ -7,6 +7,7 @@ pub mod Changed
 pub mod Choosing
 pub mod Collected
 pub mod Declared
+pub mod Fetched
 pub mod Floors
 pub mod Fronts
 pub mod Generated

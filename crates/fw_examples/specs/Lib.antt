@@ -5,6 +5,7 @@ pub mod Certified
 pub mod Chained
 pub mod Changed
 pub mod Collected
+pub mod Fetched
 pub mod Floors
 pub mod Flows
 pub mod Generated

@@ -3,6 +3,7 @@
 #![tactic(auto)]
 
 mod chains_of_checkpoints;
+mod fetched_records;
 mod inclusions;
 mod kinds_send;
 mod laws_applied;
@@ -15,6 +16,7 @@ mod what_was_told;
 mod witnesses_of_laws;
 
 pub use chains_of_checkpoints::{changes_are_kept, ninth_is_whole};
+pub use fetched_records::chain_is_fetched;
 pub use inclusions::{
     delivered_is_needed, discarded_is_needed, leaves_out_one, notices_are_needed,
     notified_is_needed, one_select_is_well_formed, own_is_needed, two_sources_is_well_formed,

@@ -9,7 +9,7 @@ use fw_frontier::{Entries, Front, SentCounts, State};
 use fw_node::{Node, Sends};
 use fw_time::Bounds;
 use row_words::{
-    Answers, NoAnswer, Row, front_of, mark, part, rec_of, recs_of, stamp_in, tell_row,
+    Answers, NoAnswer, Row, columns, front_of, mark, part, rec_of, recs_of, stamp_in, tell_row,
 };
 use std::alloc::{AllocError, Global};
 use std::fmt::Write;
@@ -43,6 +43,7 @@ impl Answers for Called<'_> {
             }
             "settle" => settle(self.alloc, &mut self.node, rest),
             "totals" => totals(self.alloc, &self.node, rest, said),
+            "since" => since(self.alloc, &self.node, rest, said),
             _ => happens(self.alloc, &mut self.node, word, rest, said),
         }
     }
@@ -130,6 +131,25 @@ fn settle(alloc: Global, node: &mut Node, text: &str) -> Result<(), NoAnswer> {
 fn totals(alloc: Global, node: &Node, text: &str, said: &mut String) -> Result<(), NoAnswer> {
     let front = front_at(alloc, text, node.bounds())?;
     let totals = node.totals_at(&front)?;
+    say_recs(totals.as_slice(), said)
+}
+
+/// The state of what came inside the second of two frontiers, as it changed since what came inside the first.
+fn since(alloc: Global, node: &Node, text: &str, said: &mut String) -> Result<(), NoAnswer> {
+    let (earlier, later) = columns(text, "|");
+    let earlier = front_at(alloc, earlier.trim(), node.bounds())?;
+    let later = front_at(alloc, later.trim(), node.bounds())?;
+    let state = node.state_since(&earlier, &later)?;
+    say_state(&state, said)
+}
+
+/// Says a state: how many messages were sent, at which stamps how many, and the totals.
+fn say_state(state: &State, said: &mut String) -> Result<(), NoAnswer> {
+    write!(said, "{}", state.sent)?;
+    for sent in state.sends.as_slice() {
+        write!(said, " at {} {}", sent.cause, sent.count)?;
+    }
+    let Entries::Totals(totals) = &state.entries;
     say_recs(totals.as_slice(), said)
 }
 

@@ -1,19 +1,18 @@
-//! What a recovery makes of the parts of an engine.
-ghost use Rattle.std.specs.Prelude.{Option, IfOk};
-ghost use Rattle.fw_keep.specs.Entry.{IsBased};
-ghost use Rattle.fw_keep.specs.Stored.{Records, IsEmptyStore, IsStored};
+//! What a recovery makes of the parts of an engine, and what is fetched of their writes.
+ghost use Rattle.std.specs.Prelude.{IfOk, IsTrue};
+ghost use Rattle.fw_keep.specs.Entry.{IsBase, IsBased};
 ghost use Rattle.fw_rollback.specs.Restored.{AreOfFlow};
 
 use fw_edge::{MsgLog, Queue};
 use fw_flow::{Causes, Choice, Cuts, Flow, Fronts, Message, NodeId};
 use fw_frontier::Front;
-use fw_keep::{Keep, KeepFault, no_stamps};
-use fw_outside::{MemStore, Store};
-use fw_record::Record;
+use fw_keep::{Entry, Keep, KeepFault, no_stamps};
+use fw_outside::{FoulStore, OutFault, Store};
+use fw_record::{Record, encode};
 use fw_rollback::{Parts, restore};
 use row_words::{
-    Answers, NoAnswer, Row, columns, cut_of, edge_of, mark, node_of, part, rec_of, record_named,
-    stamp_of, tell_row,
+    Answers, NoAnswer, Row, bytes_named, columns, cut_of, edge_of, mark, node_of, part, rec_of,
+    record_named, show_digits, stamp_of, tell_row,
 };
 use std::alloc::{AllocError, Global};
 use std::fmt::Write;
@@ -21,16 +20,16 @@ use std::fmt::Write;
 /// The most writes of a row.
 const WRITES: u64 = 1_000_000;
 
-/// The parts that calls are of, with their flow, the lines of the row, and the store of what is written.
+/// The parts that calls are of, with their flow, the lines of the row, and the store of what is written, which tells nothing, so
+/// that its bytes may be damaged.
 #[derive(Drop)]
 struct Kept<'a> {
     alloc: Global,
     flow: &'a Flow,
     lines: &'a str,
     parts: Parts,
-    store: MemStore,
+    store: FoulStore,
     ghost each: { AreOfFlow flow.now parts },
-    ghost stored: { IsStored parts.keep (⟦<MemStore as Store>⟧.view store).records },
 }
 
 /// Tells the answers to calls, of the parts of a flow without batches, where nothing has happened at first.
@@ -41,15 +40,14 @@ pub fn tell(alloc: Global, flow: &Flow, row: Row<'_>, told: &mut String) -> Resu
         flow,
         lines: row.lines,
         parts,
-        store: MemStore::new(alloc),
+        store: FoulStore::new(alloc, Vec::new(alloc)),
     };
     tell_row(alloc, row, &mut kept, told)
 }
 
 /// The parts of a flow without batches, where nothing has happened.
 fn parts_of(alloc: Global, flow: &Flow) -> Result<Parts, AllocError>
-    ensures each { IfOk result (AreOfFlow flow.now) }
-    ensures stored { (records : Option Records) → IsEmptyStore records → IfOk result (λ parts. IsStored parts.keep records) }
+    ensures { IfOk result (AreOfFlow flow.now) }
 {
     let mut low = Vec::new(alloc);
     for place in 0..flow.nodes() {
@@ -61,12 +59,14 @@ fn parts_of(alloc: Global, flow: &Flow) -> Result<Parts, AllocError>
 impl Answers for Kept<'_> {
     ghost stands = { λ _. Unit {0} };
 
-    /// To `queue` and `log` what is there, to the other calls nothing.
+    /// To `fetch` what came of it, to `queue` and `log` what is there, to the other calls nothing.
     fn answer(&mut self, line: &str, said: &mut String) -> Result<(), NoAnswer> {
         let (word, rest) = part(line);
         match word {
             "loop" | "node" | "edge" | "record" => Err(NoAnswer::NotAsked),
             "write" => self.write(rest),
+            "damage" => damage(self.alloc, self.lines, &mut self.store, rest),
+            "fetch" => self.fetch(rest, said),
             "pending" => self.put_pending(rest),
             "logged" => self.put_logged(rest),
             "lose" => self.lose(rest),
@@ -83,6 +83,18 @@ impl Kept<'_> {
     fn write(&mut self, name: &str) -> Result<(), NoAnswer> {
         let record = record_named(self.alloc, self.lines, name)?;
         write_one(self.alloc, &mut self.parts.keep, &mut self.store, &record)
+    }
+
+    /// Says the record of the write of an id, joined with those on which it stands, or why there is none.
+    fn fetch(&mut self, id: &str, said: &mut String) -> Result<(), NoAnswer> {
+        let id = id.parse::<u64>()?;
+        if !self.parts.keep.has(id) {
+            return Err(NoAnswer::NotSpelled);
+        }
+        match self.parts.keep.fetch(self.flow, &mut self.store, id) {
+            Ok(record) => say_record(self.alloc, &record, said),
+            Err(fault) => say_fault(&fault, said),
+        }
     }
 
     /// These messages are pending on an edge, and no others: `EDGE MESSAGE ..`.
@@ -143,34 +155,14 @@ impl Kept<'_> {
     }
 }
 
-/// Writes a record that is whole, and acknowledges the oldest write in flight.
+/// Writes a record, and acknowledges the oldest write in flight.
 fn write_one(
     alloc: Global,
     keep: &mut Keep,
-    store: &mut MemStore,
-    record: &Record,
-) -> Result<(), NoAnswer>
-    requires { IsStored keep.old (⟦<MemStore as Store>⟧.view store.old).records }
-    ensures { IsStored keep.new (⟦<MemStore as Store>⟧.view store.new).records }
-{
-    match record {
-        Record::Changes { .. } => Err(NoAnswer::NotSpelled),
-        Record::State(_) | Record::Event { .. } => write_based(alloc, keep, store, record),
-    }
-}
-
-/// Writes a record whose base, if it has one, is there, and acknowledges the oldest write in flight.
-fn write_based(
-    alloc: Global,
-    keep: &mut Keep,
-    store: &mut MemStore,
+    store: &mut FoulStore,
     what: &Record,
-) -> Result<(), NoAnswer>
-    requires stored { IsStored keep.old (⟦<MemStore as Store>⟧.view store.old).records }
-    requires based { IsBased keep.old.entries what.now }
-    ensures { IsStored keep.new (⟦<MemStore as Store>⟧.view store.new).records }
-{
-    if keep.next_id() > WRITES {
+) -> Result<(), NoAnswer> {
+    if keep.next_id() > WRITES || !is_based(keep, what) {
         return Err(NoAnswer::NotSpelled);
     }
     let asked = keep.ask(store, what, no_stamps(alloc));
@@ -178,6 +170,67 @@ fn write_based(
     match asked {
         Ok(_) => Ok(()),
         Err(fault) => Err(fault_of(fault)),
+    }
+}
+
+/// Whether what the record stands on, if it holds changes, is one of the writes, and of a checkpoint of its node.
+fn is_based(keep: &Keep, what: &Record) -> bool
+    ensures { IsTrue result → IsBased keep.now.entries what.now }
+{
+    match what {
+        Record::Changes { base, checkpoint } => is_base(keep.entries(), *base, checkpoint.node),
+        Record::State(_) | Record::Event { .. } => true,
+    }
+}
+
+/// Whether one of the writes has this id, and is of a checkpoint of the node.
+#[tactic(auto, using(crate::proofs::Based::base_there))]
+fn is_base(entries: &[Entry], id: u64, node: NodeId) -> bool
+    ensures { IsTrue result → IsBase entries.now id node }
+{
+    entries
+        .iter()
+        .any(|entry| entry.id == id && entry.is_checkpoint_of(node))
+}
+
+/// The bytes of a name come under the id of a write, in place of those that are there: `ID NAME`.
+fn damage(alloc: Global, lines: &str, store: &mut FoulStore, words: &str) -> Result<(), NoAnswer> {
+    let (id, name) = part(words);
+    let id = id.parse::<u64>()?;
+    let bytes = bytes_named(alloc, lines, name)?;
+    done(store.remove(id))?;
+    done(store.put_vec(id, bytes))
+}
+
+/// What becomes of a call of the store.
+fn done(became: Result<(), OutFault>) -> Result<(), NoAnswer> {
+    match became {
+        Ok(()) => Ok(()),
+        Err(OutFault::Failed) => Err(NoAnswer::NotSpelled),
+        Err(OutFault::NoMemory) => Err(NoAnswer::NoMemory),
+    }
+}
+
+/// Says the bytes of a record.
+fn say_record(alloc: Global, record: &Record, said: &mut String) -> Result<(), NoAnswer> {
+    let bytes = encode(alloc, record)?;
+    show_digits(&bytes, said)?;
+    Ok(())
+}
+
+/// Says why no record was fetched: the id whose bytes are wrong, and these, or that the store failed.
+fn say_fault(fault: &KeepFault, said: &mut String) -> Result<(), NoAnswer> {
+    match fault {
+        KeepFault::Damaged { id, bytes } => {
+            write!(said, "damaged {id} ")?;
+            show_digits(bytes, said)?;
+            Ok(())
+        }
+        KeepFault::StoreFault => {
+            said.push_str("failed")?;
+            Ok(())
+        }
+        KeepFault::NoMemory => Err(NoAnswer::NoMemory),
     }
 }
 

@@ -1,5 +1,5 @@
 -- The state of a checkpoint that is made of what is kept of a node is one of the machine's: its totals, and how much it sent.
-use Rattle.std.proofs.Common.{◌≡◌, ℕ, ◌+◌, ◌<◌, ◌==◌, ◌&&◌, ◌||◌, Bool, true, false, cond, not, List, [], ◌∷◌, ◌++◌, length, filter, Option, Some, None, refl, sym, ap, ◌∙◌, arith}
+use Rattle.std.proofs.Common.{◌≡◌, ℕ, ◌+◌, ◌<◌, ◌==◌, ◌&&◌, ◌||◌, Bool, true, false, cond, not, List, [], ◌∷◌, ◌++◌, length, Option, Some, None, refl, sym, ap, ◌∙◌, arith}
 use Rattle.std.specs.List.{AllByRecursion}
 use Rattle.std.proofs.lemmas.Bool.{cond_both}
 use Rattle.fw_lemmas.proofs.Each.{each-weaker}
@@ -33,6 +33,7 @@ use Rattle.fw_model.proofs.DomainLaws.{has_epochs}
 use Rattle.fw_model.proofs.LegalLaws.{only_inputs_inject}
 use Rattle.fw_model.proofs.SendPartLaws.{part-sends}
 use Rattle.fw_model.proofs.SequenceLaws.{no_inject, sent_by-sequence}
+use Rattle.fw_edge.proofs.LogLaws.{filter-both}
 use Rattle.fw_node.specs.declared.node.Node.{Node}
 use Rattle.fw_node.specs.Past.{totals_kept, totals_changed}
 use Rattle.fw_progress.specs.declared.counts.Counts.{Counts}
@@ -222,17 +223,6 @@ cause-told (Some g) f causes t is =
     four false true = refl
     four false false = refl
 
-filter-twice : {A : Type 0} (a b : A → Bool) (xs : List A) → filter (λ x. a x && b x) xs ≡ filter a (filter b xs)
-filter-twice a b [] = refl
-filter-twice a b (x ∷ xs) = by (a x) (b x) refl (filter-twice a b xs)
-  where
-    by : (c d : Bool) → a x ≡ c → filter (λ y. a y && b y) xs ≡ filter a (filter b xs)
-        → cond (c && d) (x ∷ filter (λ y. a y && b y) xs) (filter (λ y. a y && b y) xs) ≡ filter a (cond d (x ∷ filter b xs) (filter b xs))
-    by true true e h = ap (λ ys. x ∷ ys) h ∙ sym (ap (λ k. cond k (x ∷ filter a (filter b xs)) (filter a (filter b xs))) e)
-    by false true e h = h ∙ sym (ap (λ k. cond k (x ∷ filter a (filter b xs)) (filter a (filter b xs))) e)
-    by true false e h = h
-    by false false e h = h
-
 -- of messages with one cause each those from the epochs inside since then are those sent since then
 epochs-told : (since : Option Front) (f : Front) (ms : List Message) → AllByRecursion (λ (m : Message). (t : Stamp) × (m.causes ≡ t ∷ [])) ms
     → messages_from (told_epochs since f) ms ≡ messages_told since f ms
@@ -242,7 +232,7 @@ epochs-told since f ms one =
     filter-same_on (λ (m : Message). all_inside (told_epochs since f) m.causes) (λ m. after m && from m) ms
     (each-weaker (λ (m : Message). (t : Stamp) × (m.causes ≡ t ∷ [])) (λ m. all_inside (told_epochs since f) m.causes ≡ (after m && from m)) ms
     (λ m c. cause-told since f m.causes c.0 c.1) one)
-    ∙ filter-twice after from ms
+    ∙ filter-both after from ms
 
 -- what a sequence tells of what it sent since then, by its table
 pub sends-are : (sys : System) (state : Machine) → IsWellFormedSystem sys → IsReached sys state → (p : ℕ) → p < length sys.flow.nodes → kind_of sys.flow p ≡ kind.Sequence

@@ -87,8 +87,8 @@ pub record AsksIfEager (p : ℕ) (old new : Running) (before after : Option Reco
   pub eager : is_eager (policy_of old.flow p) ≡ true → AsksAtGrown p old new before after
   pub other : is_eager (policy_of old.flow p) ≡ false → IsNotAsked old.parts.keep.entries new.parts.keep.entries before after
 
--- these entries are those of the checkpoints that the eager ones of the first so many nodes ask, each stands on one of the others, and the
--- records are stored with these, in each state for which the engine stood
+-- these entries are those of the checkpoints that the eager ones of the first so many nodes ask, each stands on that of the others at which
+-- its changes begin, a whole one on none, and the records are stored with these, in each state for which the engine stood
 abbrev pub AreOfEagerWrites : Running → Option Records → List Entry → List Entry → Option Records → ℕ → Type 0
 AreOfEagerWrites old before more new after place =
     (sys : System) (state : Machine) (settled : List Front) → Stands sys old before state → GrowsTo sys state (family_of sys.flow old.progress.kept) settled

@@ -1,23 +1,23 @@
 //! The record of a checkpoint, made of the parts.
-ghost use Rattle.std.specs.Prelude.{◌≡◌, ◌<◌, ◌^◌, ◌&&◌, ◌++◌, ◌∷◌, [], ℕ, true, not, nat_lt, length, filter, map, Option, None, IfOk, OnOk, IfSome};
+ghost use Rattle.std.specs.Prelude.{◌≡◌, ◌<◌, ◌^◌, ◌&&◌, ◌++◌, ◌∷◌, [], ℕ, true, not, nat_lt, length, map, Option, None, IfOk, OnOk, IfSome};
 ghost use Rattle.std.specs.List.{AllByRecursion, AllZip};
 ghost use Rattle.std.specs.Option.{option_copied};
 ghost use Rattle.fw_time.specs.Stamp.{in_domain, leq, same};
-ghost use Rattle.fw_frontier.specs.Front.{IsCanonical, inside};
+ghost use Rattle.fw_frontier.specs.Front.{IsCanonical};
 ghost use Rattle.fw_flow.specs.declared.event.Message.{Message as Sent};
 ghost use Rattle.fw_flow.specs.Dataflow.{kind_of, policy_of, in_edges, out_edges, bounds_of, is_sequence_kind};
-ghost use Rattle.fw_flow.specs.Projection.{all_inside};
 ghost use Rattle.fw_flow.specs.Restoring.{can_resend};
 ghost use Rattle.fw_node.specs.declared.node.Node.{Node as Table};
 ghost use Rattle.fw_progress.specs.Counts.{sent_of};
 ghost use Rattle.fw_progress.specs.Trace.{HaveLists};
 ghost use Rattle.fw_bag.specs.Bag.{IsRec};
-ghost use Rattle.fw_settle.specs.Checkpoints.{IsCoverDelivered, IsDiscarded, IsOfEdge, IsRecordedAt, AreTotalsTold, AreSendsOf, AreSendsAt, IsStateAt, is_sent_since, told_epochs, told_log, logged_at, IsLogOf, IsMadeSince};
+ghost use Rattle.fw_settle.specs.Checkpoints.{IsCoverDelivered, IsDiscarded, IsOfEdge, IsRecordedAt, AreTotalsTold, AreSendsOf, AreSendsAt, IsStateAt, messages_told, told_epochs, told_log, logged_at, IsLogOf, IsMadeSince};
 ghost use Rattle.fw_settle.specs.Sends.{IsEpochLimit, IsFirstSince, is_last_of, HasTaken, HasCount, HasSends};
 ghost use Rattle.fw_running.specs.Kept.{log_at, table_of};
 ghost use Rattle.fw_running.specs.Shaped.{IsShaped};
 
 use fw_bag::{Rec, Recs};
+use fw_edge::MsgLog;
 use fw_flow::{EdgeId, Message, NodeId, OfEdge, OfEdges, Recorded, SentTable};
 use fw_frontier::{Entries, Front, SentCount, SentCounts, State};
 use fw_record::{Checkpoint, Log, Logged};
@@ -198,10 +198,24 @@ fn logged_at(
     }
     for edge in running.flow.out_edges(node) {
         if let Some(log) = running.parts.logs.get(*edge) {
-            add_logged(&mut all, *edge, since, log.caused_in(front)?)?;
+            add_logged(&mut all, *edge, messages_told(log, since, front)?)?;
         }
     }
     Ok(all)
+}
+
+// Copies of the messages in a log that the events inside sent, or those since an earlier front, in order.
+fn messages_told(
+    log: &MsgLog,
+    since: Option<&Front>,
+    front: &Front,
+) -> Result<Vec<Message>, AllocError>
+    ensures { IfOk result (λ ms. ms.items ≡ messages_told (option_copied since.entry) front.now log.now.messages) }
+{
+    match since {
+        Some(earlier) => log.caused_since(earlier, front),
+        None => log.caused_in(front),
+    }
 }
 
 // What a sequence sent in each epoch of its table that is inside, and outside an earlier front. The fronts are looked at once; of
@@ -314,46 +328,17 @@ fn is_epoch(stamp: &Stamp, epoch: u32) -> bool
     stamp.len() == 1 && stamp.at(0) == epoch
 }
 
-// Adds messages on an edge, or those of them that were sent since an earlier front.
-fn add_logged(
-    all: &mut Vec<Logged>,
-    edge: EdgeId,
-    since: Option<&Front>,
-    messages: Vec<Message>,
-) -> Result<(), AllocError>
-    ensures added { OnOk result (all.new.items ≡ all.old.items
-        ++ map (λ (m : Sent). record { edge = edge; message = m }) (filter (λ (m : Sent). is_sent_since (option_copied since.entry) m.causes) messages.items)) }
+// Adds messages on an edge.
+fn add_logged(all: &mut Vec<Logged>, edge: EdgeId, messages: Vec<Message>) -> Result<(), AllocError>
+    ensures added { OnOk result (all.new.items ≡ all.old.items ++ map (λ (m : Sent). record { edge = edge; message = m }) messages.items) }
     ensures small { OnOk result (AllByRecursion (λ l. IsRec l.message.rec) all.old.items
         → AllByRecursion (λ l. IsRec l.message.rec) all.new.items) }
 {
     all.reserve(messages.len())?;
     for message in messages {
-        if is_sent_since(&message, since) {
-            all.push(logged(edge, message))?;
-        }
+        all.push(logged(edge, message))?;
     }
     Ok(())
-}
-
-// Whether some cause of a message is outside an earlier front; so it is where there is none.
-fn is_sent_since(message: &Message, since: Option<&Front>) -> bool
-    ensures { result ≡ is_sent_since (option_copied since.entry) message.now.causes }
-{
-    match since {
-        Some(front) => !comes_from(message, front),
-        None => true,
-    }
-}
-
-// Whether all causes of a message are inside a front.
-fn comes_from(message: &Message, front: &Front) -> bool
-    ensures { result ≡ all_inside (inside front.now) message.now.causes }
-{
-    message
-        .causes
-        .stamps()
-        .iter()
-        .all(|cause| front.contains(cause))
 }
 
 // A message on an edge, with a rec of two numbers of 64 bits.

@@ -1,14 +1,12 @@
-use Rattle.std.proofs.Common.{◌≡◌, ◌++◌, filter, map}
+use Rattle.std.proofs.Common.{◌≡◌, ◌++◌, map}
 use Rattle.std.specs.List.{AllByRecursion}
-use Rattle.std.specs.Option.{option_copied}
 use Rattle.fw_flow.specs.declared.event.Message.{Message}
 use Rattle.fw_bag.specs.Bag.{IsRec}
 use Rattle.fw_record.specs.declared.logged.Logged.{Logged}
-use Rattle.fw_settle.specs.Checkpoints.{is_sent_since}
 use Rattle.fw_settle.proofs.record.add_logged.Given as goal
 
 abbrev pub invariant-loop-message : goal.invariant-loop-message
 invariant-loop-message l = record {
-  added : l.all.items ≡ l.fn.all.items ++ map (λ (m : Message). record { edge = l.edge; message = m }) (filter (λ (m : Message). is_sent_since (option_copied l.since) m.causes) l.yielded);
+  added : l.all.items ≡ l.fn.all.items ++ map (λ (m : Message). record { edge = l.edge; message = m }) l.yielded;
   small : AllByRecursion (λ (x : Logged). IsRec x.message.rec) l.fn.all.items → AllByRecursion (λ (x : Logged). IsRec x.message.rec) l.all.items;
 }

@@ -1,16 +1,13 @@
-use Rattle.std.proofs.Common.{◌≡◌, [], List, filter, rules, Some, None, sym, ap, subst, ◌∙◌}
+use Rattle.std.proofs.Common.{◌≡◌, [], rules, Some, None, sym, ap, subst, ◌∙◌}
 use Rattle.std.specs.Prelude.{slice_get}
 use Rattle.std.specs.List.{AllByRecursion}
 use Rattle.std.specs.Option.{option_copied}
 use Rattle.std.proofs.lemmas.List.{append-nil}
-use Rattle.fw_frontier.specs.Front.{inside}
-use Rattle.fw_flow.specs.declared.event.Message.{Message}
-use Rattle.fw_model.specs.Filtering.{messages_from}
 use Rattle.fw_record.specs.declared.logged.Logged.{Logged}
 use Rattle.fw_bag.specs.Bag.{IsRec}
-use Rattle.fw_settle.specs.Checkpoints.{is_sent_since, messages_told, told_log}
+use Rattle.fw_settle.specs.Checkpoints.{messages_told, told_log}
 use Rattle.fw_settle.proofs.RecordLaws.{logged-next, on-some, on-none}
-use Rattle.fw_settle.proofs.record.logged_at.Goals.{in-Some+in_ok-caused_in+in_ok-add_logged, in_default}
+use Rattle.fw_settle.proofs.record.logged_at.Goals.{in-Some+in_ok-messages_told+in_ok-add_logged, in_default}
 use Rattle.fw_settle.proofs.record.logged_at.Goals as goal
 
 pub loop-edge-preserved : goal.loop-edge-preserved
@@ -21,15 +18,14 @@ loop-edge-preserved c =
     let logs = told_log running since f in
     let e = c.edge-item.result in
     elim c.match-get.branch [
-      | in-Some+in_ok-caused_in+in_ok-add_logged w ↦
+      | in-Some+in_ok-messages_told+in_ok-add_logged w ↦
           let log = w.in-Some.log.now in
           let got : slice_get running.parts.logs e ≡ Some log = search rules in
-          let ms : List Message = filter (λ (m : Message). is_sent_since since m.causes) w.in_ok-caused_in.field-0.items in
           record {
             all = ap (λ v. v.items) w.all-is
-                ∙ logged-next logs c.out_edges-edge-items.result.now c.loop-edge.edge-index e ms c.loop-edge.all.items w.add_logged.new.all.items
+                ∙ logged-next logs c.out_edges-edge-items.result.now c.loop-edge.edge-index e w.in_ok-messages_told.field-0.items c.loop-edge.all.items w.add_logged.new.all.items
                 c.loop-edge-test.true c.edge-item.is c.loop-edge.invariant.all
-                (ap (filter (λ (m : Message). is_sent_since since m.causes)) (w.in_ok-caused_in.ensures ∙ ap (messages_from (inside f)) (sym (on-some running.parts.logs e log got))))
+                (w.in_ok-messages_told.ensures ∙ ap (messages_told since f) (sym (on-some running.parts.logs e log got)))
                 w.in_ok-add_logged.ensures.added;
             small = subst (λ v. AllByRecursion (λ (x : Logged). IsRec x.message.rec) v.items) (sym w.all-is) (w.in_ok-add_logged.ensures.small c.loop-edge.invariant.small);
           }

@@ -9,7 +9,7 @@ ghost use Rattle.fw_running.specs.Shaped.{IsShaped};
 use crate::viewing::{Lost, views};
 use fw_flow::{Choice, Offer};
 use fw_monitor::{Descent, descent_to_largest};
-use fw_policy::candidates;
+use fw_policy::offers_of;
 use fw_running::Running;
 use std::alloc::AllocError;
 
@@ -30,10 +30,10 @@ pub fn outlook_of(running: &Running, lost: Lost) -> Result<Outlook, AllocError>
     ensures of_state { IfOk result (IsOutlookBy running.now lost) }
 {
     let view = views(running, lost)?;
-    let candidates = candidates(
+    let candidates = offers_of(
         running.alloc,
         &running.flow,
-        &view,
+        view,
         running.parts.keep.entries(),
     )?;
     let descent = descent_to_largest(running.alloc, &running.flow, &candidates)?;

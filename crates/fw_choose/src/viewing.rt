@@ -1,7 +1,7 @@
 //! What is known of the nodes and their writes, to say what they offer to a recovery.
-ghost use Rattle.std.specs.Prelude.{◌≡◌, ◌<◌, ◌≤◌, filter, length, IsTrue, IfOk};
+ghost use Rattle.std.specs.Prelude.{◌≡◌, ◌<◌, ◌≤◌, ◌==◌, ◌&&◌, ◌||◌, not, filter, length, IsTrue, IfOk};
 ghost use Rattle.fw_time.specs.Stamp.{in_domain};
-ghost use Rattle.fw_flow.specs.Dataflow.{kind_of, bounds_of, greatest_number};
+ghost use Rattle.fw_flow.specs.Dataflow.{kind_of, bounds_of, receiver, greatest_number};
 ghost use Rattle.fw_collect.specs.Drops.{watermark};
 ghost use Rattle.fw_model.specs.Machine as machine;
 ghost use Rattle.fw_model.specs.Steps.{front_of_cut};
@@ -13,12 +13,12 @@ ghost use Rattle.fw_running.specs.Kept.{source_of, output_of, lost_at, is_down};
 ghost use Rattle.fw_running.specs.Shaped.{IsShaped};
 
 use fw_flow::{
-    Choice, Counted, CountedMessages, Cut, Flow, Kind, NodeId, Notices, SentTable, Stamps,
+    Choice, Counted, CountedMessages, Cut, EdgeId, Flow, Kind, NodeId, Notices, SentTable, Stamps,
 };
 use fw_frontier::Front;
 use fw_policy::{Border, NodeView};
 use fw_running::Running;
-use fw_time::Bounds;
+use fw_time::{Bounds, Stamp};
 use std::alloc::{AllocError, Global};
 
 /// Which nodes count as failed.
@@ -95,7 +95,7 @@ fn lost_stamps(running: &Running, node: NodeId) -> Result<Notices, AllocError>
     ensures { IfOk result (λ lost. lost ≡ filter (in_domain (bounds_of running.now.flow node)) (lost_at running.now node)) }
 {
     let domain = running.flow.domain(node);
-    of_domain(running.alloc, &domain, &running.lost[node.place() as usize])
+    those_of_domain(running.alloc, &domain, &running.lost[node.place() as usize])
 }
 
 // Whether a node counts as failed.
@@ -154,7 +154,7 @@ fn of_domains(
     ensures { IfOk result (λ all. all ≡ chosen.of_domains flow.now node stamps) }
 {
     let single = flow.kind(node).is_input();
-    let notified = of_domain(alloc, &flow.domain(node), &stamps.notified)?;
+    let notified = of_domain(alloc, &flow.domain(node), stamps.notified)?;
     Ok(Stamps {
         delivered: on_their_edges(alloc, flow, false, stamps.delivered)?,
         notified,
@@ -177,12 +177,18 @@ fn on_their_edges(
     those_on_their_edges(alloc, flow, single, messages.as_slice())
 }
 
-// Whether each message is at a stamp of its edge, and of one cause where it is to be.
+// Whether each message is at a stamp of its edge, and of one cause where it is to be. The bounds are looked up once for messages
+// of one edge that stand together.
 fn are_on_their_edges(flow: &Flow, single: bool, messages: &[Counted]) -> bool
     ensures { IsTrue result → filter (is_on_its_edge flow.now single) messages.now ≡ messages.now }
 {
+    let Some(first) = messages.first() else {
+        return true;
+    };
+    let mut receiving = Receiving::on(flow, first.edge);
     for message in messages {
-        if !on_its_edge(flow, single, message) {
+        receiving = receiving.turned_to(flow, message.edge);
+        if !receiving.has(single, message) {
             return false;
         }
     }
@@ -207,16 +213,76 @@ fn those_on_their_edges(
     Ok(CountedMessages::of(all))
 }
 
+// An edge, and the bounds of its receiver's domain.
+#[derive(Drop)]
+struct Receiving {
+    edge: EdgeId,
+    bounds: Bounds,
+}
+
+impl Receiving {
+    // Those of an edge.
+    fn on(flow: &Flow, edge: EdgeId) -> Self
+        ensures edge { result.edge ≡ edge }
+        ensures bounds { result.bounds ≡ bounds_of flow.now (receiver flow.now edge) }
+    {
+        Receiving {
+            edge,
+            bounds: flow.domain(flow.dst(edge)),
+        }
+    }
+
+    // Those of an edge: these where it is the same.
+    fn turned_to(self, flow: &Flow, edge: EdgeId) -> Self
+        requires { self.bounds ≡ bounds_of flow.now (receiver flow.now self.edge) }
+        ensures edge { result.edge ≡ edge }
+        ensures bounds { result.bounds ≡ bounds_of flow.now (receiver flow.now edge) }
+    {
+        if self.edge == edge {
+            return self;
+        }
+        Receiving::on(flow, edge)
+    }
+
+    // Whether a message on the edge is at a stamp of it, and of one cause where it is to be.
+    fn has(&self, single: bool, message: &Counted) -> bool
+        ensures { result ≡ (in_domain self.now.bounds message.now.at && (not single || length message.now.causes == 1)) }
+    {
+        message.at.in_domain(&self.bounds) && (!single || message.causes.stamps().len() == 1)
+    }
+}
+
 // Whether a message is at a stamp of its edge, and of one cause where it is to be.
 fn on_its_edge(flow: &Flow, single: bool, message: &Counted) -> bool
     ensures { result ≡ is_on_its_edge flow.now single message.now }
 {
-    let domain = flow.domain(flow.dst(message.edge));
-    message.at.in_domain(&domain) && (!single || message.causes.stamps().len() == 1)
+    Receiving::on(flow, message.edge).has(single, message)
 }
 
-// The stamps that are of a domain.
-fn of_domain(alloc: Global, domain: &Bounds, stamps: &Notices) -> Result<Notices, AllocError>
+// The stamps that are of a domain. Where all are, none is copied.
+fn of_domain(alloc: Global, domain: &Bounds, stamps: Notices) -> Result<Notices, AllocError>
+    ensures { IfOk result (λ all. all ≡ filter (in_domain domain.now) stamps) }
+{
+    if are_of_domain(domain, stamps.as_slice()) {
+        return Ok(stamps);
+    }
+    those_of_domain(alloc, domain, &stamps)
+}
+
+// Whether each stamp is of a domain.
+fn are_of_domain(domain: &Bounds, stamps: &[Stamp]) -> bool
+    ensures { IsTrue result → filter (in_domain domain.now) stamps.now ≡ stamps.now }
+{
+    for stamp in stamps {
+        if !stamp.in_domain(domain) {
+            return false;
+        }
+    }
+    true
+}
+
+// Copies of the stamps that are of a domain.
+fn those_of_domain(alloc: Global, domain: &Bounds, stamps: &Notices) -> Result<Notices, AllocError>
     ensures { IfOk result (λ all. all ≡ filter (in_domain domain.now) stamps.now) }
 {
     let stamps = stamps.as_slice();

@@ -1,7 +1,6 @@
 use Rattle.std.proofs.Common.{List, length, sym, subst}
 use Rattle.fw_flow.specs.declared.choice.Offer.{Offer}
 use Rattle.fw_model.specs.Offers.{AreOffersOf}
-use Rattle.fw_policy.specs.declared.view.NodeView.{NodeView}
 use Rattle.fw_choose.specs.declared.outlook.Outlook.{Outlook}
 use Rattle.fw_choose.specs.Chosen.{AreViewsBy}
 use Rattle.fw_choose.proofs.ViewLaws.{all-fit, outlook-by}
@@ -11,25 +10,22 @@ pub descent_to_largest-requires : goal.descent_to_largest-requires
 descent_to_largest-requires c =
     let running = c.args.running.now in
     let n = length running.flow.nodes in
-    let views : AreViewsBy running c.args.lost n c.deref.result.now =
-    subst (λ (view : List NodeView). AreViewsBy running c.args.lost n view) (sym c.deref.ensures.value) c.in_ok-view.ensures in
-    subst (λ (os : List Offer). AreOffersOf running.flow os) (sym c.deref-2.ensures.value)
-    (c.in_ok-candidates.ensures.of_flow (all-fit running c.args.lost c.deref.result.now c.entries.result.now c.requires views c.entries.ensures.all))
+    let views : AreViewsBy running c.args.lost n c.in_ok-view.view.items = c.in_ok-view.ensures in
+    subst (λ (os : List Offer). AreOffersOf running.flow os) (sym c.deref.ensures.value)
+    (c.in_ok-candidates.ensures.of_flow (all-fit running c.args.lost c.in_ok-view.view.items c.entries.result.now c.requires views c.entries.ensures.all))
 
 pub returns-clause-of_flow : goal.returns-clause-of_flow
 returns-clause-of_flow c =
     let running = c.args.running.now in
     let n = length running.flow.nodes in
-    let views : AreViewsBy running c.args.lost n c.deref.result.now =
-    subst (λ (view : List NodeView). AreViewsBy running c.args.lost n view) (sym c.deref.ensures.value) c.in_ok-view.ensures in
-    c.in_ok-candidates.ensures.of_flow (all-fit running c.args.lost c.deref.result.now c.entries.result.now c.requires views c.entries.ensures.all)
+    let views : AreViewsBy running c.args.lost n c.in_ok-view.view.items = c.in_ok-view.ensures in
+    c.in_ok-candidates.ensures.of_flow (all-fit running c.args.lost c.in_ok-view.view.items c.entries.result.now c.requires views c.entries.ensures.all)
 
 pub returns-clause-of_state : goal.returns-clause-of_state
 returns-clause-of_state c =
     let running = c.args.running.now in
     let n = length running.flow.nodes in
-    let views : AreViewsBy running c.args.lost n c.deref.result.now =
-    subst (λ (view : List NodeView). AreViewsBy running c.args.lost n view) (sym c.deref.ensures.value) c.in_ok-view.ensures in
+    let views : AreViewsBy running c.args.lost n c.in_ok-view.view.items = c.in_ok-view.ensures in
     let outlook : Outlook = record { candidates = c.in_ok-candidates.candidates; descent = c.in_ok-descent.descent } in
-    outlook-by running c.args.lost c.deref.result.now c.entries.result.now c.deref-2.result.now outlook views c.entries.ensures.all c.deref-2.ensures.value
+    outlook-by running c.args.lost c.in_ok-view.view.items c.entries.result.now c.deref.result.now outlook views c.entries.ensures.all c.deref.ensures.value
     c.in_ok-candidates.ensures.above c.in_ok-descent.ensures.largest c.in_ok-descent.ensures.trail

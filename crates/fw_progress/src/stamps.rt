@@ -78,8 +78,9 @@ impl Traces {
         let place = node.place() as usize;
         let delivered = all_delivered(alloc, flow, node, &self.delivered, f)?;
         let notified = taken(&self.notified[place], f)?;
+        let kept = taken(&self.sent[place], f)?;
         let count = count_taken(alloc, &self.counted[place], f)?;
-        let sent = sent_taken(alloc, flow, node, &self.sent[place], f, count)?;
+        let sent = all_sent(alloc, flow, node, &kept, count)?;
         Ok(Stamps {
             delivered: CountedMessages::of(delivered),
             notified: Notices::of(notified),
@@ -193,23 +194,6 @@ fn all_sent(
         push_sent(&mut messages, flow, node, *edge, stamps)?;
     }
     Ok(messages)
-}
-
-/// The same at the kept stamps, or at those inside a frontier if one is given. The error is as there.
-fn sent_taken(
-    alloc: Global,
-    flow: &Flow,
-    node: NodeId,
-    kept: &KeptStamps,
-    f: Option<&Front>,
-    count: u64,
-) -> Result<Vec<Counted>, AllocError>
-    ensures { IfOk result (λ ms. ms.items ≡ spec.all_sent flow.now node (spec.taken (option_copied f.entry) kept.now) count) }
-{
-    match f {
-        None => all_sent(alloc, flow, node, kept.as_slice(), count),
-        Some(f) => all_sent(alloc, flow, node, &kept.thinned(f)?, count),
-    }
 }
 
 /// Adds one message on an out-edge of each event at these stamps that sends. The error is want of memory.

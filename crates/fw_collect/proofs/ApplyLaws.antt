@@ -59,6 +59,11 @@ or-assoc : (a b c : Bool) → ((a || b) || c) ≡ (a || (b || c))
 or-assoc true b c = refl
 or-assoc false b c = refl
 
+or-twice : (a b : Bool) → ((a || b) || b) ≡ (a || b)
+or-twice true b = refl
+or-twice false true = refl
+or-twice false false = refl
+
 -- what either of two tests takes out in turn has the id where what both take out has it
 gone-then : (f g h : Entry → Bool) → ((e : Entry) → h e ≡ (f e || g e)) → (id : ℕ) (es : List Entry)
     → (has_entry id (filter f es) || has_entry id (filter g (filter (λ e. not (f e)) es))) ≡ has_entry id (filter h es)
@@ -99,7 +104,7 @@ forgets_nothing keep = record {
     filter-none (e ∷ es) = filter-none es
 
 -- what one call takes out
-pub forgets-one : (goes : Entry → Bool) (old new : KeepState) → new ≡ without goes old
+forgets-one : (goes : Entry → Bool) (old new : KeepState) → new ≡ without goes old
     → ((records : Option Records) → IsStored old records → IsStored new records) → Forgets goes old new
 forgets-one goes old new is stored = record {
   left = is ∙ ap (λ ids. record old { entries = filter (λ e. not (goes e)) old.entries; waiting = ids }) (sym (ap (λ (k : KeepState). k.waiting) is));
@@ -121,6 +126,16 @@ forgets_then f g h a b c is one two =
           ∙ ap (λ w. is_id_among id a.waiting || w) (gone-then f g h is id a.entries);
       stored = λ records s. two.stored records (one.stored records s);
     }
+
+-- one call more of a list of them
+pub forgets_more : {D : Type 0} (goes : D → Entry → Bool) (ds : List D) (i : ℕ) (d : D) (first now next : KeepState) → i < length ds
+    → Forgets (λ e. list_any (λ x. goes x e) (take i ds)) first now
+    → next ≡ without (goes (get_or ds i d)) now
+    → ((records : Option Records) → IsStored now records → IsStored next records)
+    → Forgets (λ e. list_any (λ x. goes x e) (take (i + 1) ds)) first next
+forgets_more goes ds i d first now next l so_far is stored =
+    forgets_then (λ e. list_any (λ x. goes x e) (take i ds)) (goes (get_or ds i d)) (λ e. list_any (λ x. goes x e) (take (i + 1) ds)) first now next
+    (λ e. list_any_more (λ x. goes x e) ds i d l) so_far (forgets-one (goes (get_or ds i d)) now next is stored)
 
 -- ---- checkpoints
 
@@ -224,6 +239,25 @@ forgets_below_each [] keep e once = refl
 forgets_below_each (d ∷ ds) keep e once =
     ap (λ b. is_forgotten_below d.node d.front keep e || b)
     (forgets_below_each ds (without (is_forgotten_below d.node d.front keep) keep) e once.1 ∙ each-alike d keep e ds once.0)
+
+-- ---- events
+
+-- one more of a list that is the one before it
+pub forgets_again : {D : Type 0} (goes : D → Entry → Bool) (ds : List D) (i : ℕ) (d : D) (first now : KeepState) → i < length ds
+    → 0 < i → get_or ds (i - 1) d ≡ get_or ds i d
+    → Forgets (λ e. list_any (λ x. goes x e) (take i ds)) first now
+    → Forgets (λ e. list_any (λ x. goes x e) (take (i + 1) ds)) first now
+forgets_again goes ds i d first now l some same so_far =
+    forgets_then (λ e. list_any (λ x. goes x e) (take i ds)) (λ e. false) (λ e. list_any (λ x. goes x e) (take (i + 1) ds)) first now now
+    (λ e.
+    let j : ℕ = i - 1 in
+    let before : Bool = list_any (λ x. goes x e) (take j ds) in
+    let one : Bool = goes (get_or ds j d) e in
+    let so : list_any (λ x. goes x e) (take i ds) ≡ (before || one) = ap (λ k. list_any (λ x. goes x e) (take k ds)) (omega (arith, some)) ∙ list_any_more (λ x. goes x e) ds j d (omega (arith, l, some)) in
+    list_any_more (λ x. goes x e) ds i d l
+    ∙ ap (λ b. b || goes (get_or ds i d) e) so ∙ ap (λ x. (before || one) || goes x e) (sym same)
+    ∙ or-twice before one ∙ sym so ∙ sym (or-false (list_any (λ x. goes x e) (take i ds))))
+    so_far (forgets_nothing now)
 
 -- ---- places
 

@@ -115,13 +115,15 @@ three_held =
 -- of all three, which are four, and that what is restored from it is restored from the three.
 pub record ChainIsFetched : Type 0 where
   pub bases : bases_of (entries_under ++ entry_above ∷ []) entry_above ≡ entries_under
-  pub first : IsStateOf (kind_of logging_flow total_node) (events_inside (node_frontier logging_flow total_node (until 1)) three_epochs_came) first_saved.state
+  pub first : IsStateOf (kind_of logging_flow total_node) (events_inside (node_frontier logging_flow total_node (until 1)) three_epochs_came)
+      first_saved.state
   pub changes : HaveChanges logging_flow total_node three_epochs_came (until 1) (states_of (second_saved ∷ third_saved ∷ []))
   pub joined : IsJoinedCheckpoint records_under third_saved all_saved
   pub fetched : IsFetchedOver logging_flow (Some three_held) (Some (2, spelling record_above)) entries_under entry_above (State all_saved)
   pub messages : length (logged_in_all run_to_out (all_saved ∷ [])) ≡ 4
   pub state : JoinedHasTheState
-      → IsStateOf (kind_of logging_flow total_node) (events_inside (node_frontier logging_flow total_node (until 3)) three_epochs_came) all_saved.state
+      → IsStateOf (kind_of logging_flow total_node) (events_inside (node_frontier logging_flow total_node (until 3)) three_epochs_came)
+      all_saved.state
   pub log : JoinedLogIsAllLogs → (low : List Front)
       → log_of logging_flow low run_to_out (logged_in_all run_to_out (all_saved ∷ []))
       ≡ log_of logging_flow low run_to_out (logged_in_all run_to_out (first_saved ∷ second_saved ∷ third_saved ∷ []))

@@ -27,7 +27,7 @@ use Rattle.fw_run.specs.declared.tally.StepCounts.{StepCounts}
 use Rattle.fw_run.specs.Enduring.{Endures, EnduredItem, RoseBy}
 use Rattle.fw_run.specs.Fault.{faults_after_run}
 use Rattle.fw_run.specs.Reports.{Report, not_taken, unswept, faults_in, outcomes_in, shown_in, fault_line, reports_text}
-use Rattle.fw_run.specs.Performing.{IsItemTaken, IsItemBegun, IsItemStopped, IsCountAt, PrintsItem}
+use Rattle.fw_run.specs.Performing.{IsItemStopped, IsCountAt, PrintsItem}
 use Rattle.fw_run.specs.Stopping.{MayCallIn, IsLeftIn}
 use Rattle.fw_run.specs.Tallies.{tally_shown, with_fault, with_tally}
 use Rattle.fw_command.specs.Command.{Showing, Course, up_to_fault}

@@ -1,17 +1,16 @@
 -- Which events sent what: by the stamps at which they sent, and, where several stamps send at one, by what was delivered.
 use Rattle.std.proofs.Common.{◌≡◌, ◌⊎◌, ◌↔◌, ℕ, ◌+◌, ◌-◌, ◌<◌, Bool, true, false, cond, ◌==◌, List, [], ◌∷◌, ◌++◌, length, map, slice_index_or, Some, refl, sym, subst, ap, ◌∙◌, inl, inr, arith}
-use Rattle.std.specs.List.{AllByRecursion, Contains, flat_map}
+use Rattle.std.specs.List.{AllByRecursion, Contains}
 use Rattle.std.proofs.lemmas.Bool.{cases_lt, cond_both, eqb-true, eq-eqb}
 use Rattle.std.proofs.lemmas.List.{map-append}
 use Rattle.std.proofs.lemmas.Grind.{flat_map-append}
 use Rattle.fw_lemmas.proofs.Bools.{two_ways}
-use Rattle.fw_lemmas.proofs.Each.{each-weaker, each-append, each-map, each-both}
+use Rattle.fw_lemmas.proofs.Each.{each-weaker, each-append, each-map}
 use Rattle.fw_time.specs.Stamp.{Stamp, leq, nest, outer, counter, in_domain}
 use Rattle.fw_time.specs.Sending.{regrouped_stamp}
 use Rattle.fw_time.proofs.StampLaws.{outer-nest, counter-nest}
 use Rattle.fw_bag.specs.declared.rec.Rec.{Rec}
 use Rattle.fw_frontier.specs.Frontier.{Frontier}
-use Rattle.fw_flow.specs.declared.choice.Counted.{Counted}
 use Rattle.fw_flow.specs.declared.event.Event.{Event}
 use Rattle.fw_flow.specs.declared.event.Event.TheVariants.{Inject, Deliver, Notify}
 use Rattle.fw_flow.specs.declared.event.Message.{Message}
@@ -20,22 +19,21 @@ use Rattle.fw_flow.specs.declared.kind.Kind.TheVariants.{Input, OutputEpoch, Out
 use Rattle.fw_flow.specs.Dataflow.{System, Dataflow, kind_of, sender, receiver, in_edges, max_of, greatest_number, domain_of_kind, bounds_of, bounds_of_domain, batches_of, send_stamp, send_stamp_of_kind, is_input_kind, is_sequence_kind}
 use Rattle.fw_flow.specs.NodeFunction.{event_stamp, sends, sends_of_kind, sent_by, messages_at, messages_at_some}
 use Rattle.fw_flow.specs.Projection.{events_at}
-use Rattle.fw_flow.specs.WellFormed.{IsWellFormed, IsInDegree}
+use Rattle.fw_flow.specs.WellFormed.{IsInDegree}
 use Rattle.fw_flow.proofs.Chains.{outer_greatest}
 use Rattle.fw_model.specs.EventStamps.{causes_in, causes_of, IsOfCause}
-use Rattle.fw_model.specs.History.{AreEventsInDomain, IsLegal, delivered_messages, injected_count, message_on, sent_messages}
+use Rattle.fw_model.specs.History.{IsLegal, delivered_messages, injected_count, message_on, sent_messages}
 use Rattle.fw_model.specs.Thinned.{IsBelowKept, IsThinnedIf}
 use Rattle.fw_model.proofs.ArrivalLaws.{at_edge, in_edges-once}
 use Rattle.fw_model.proofs.DomainLaws.{edge-bounds}
 use Rattle.fw_model.proofs.JoinLaws.{delivered_at}
 use Rattle.fw_model.proofs.SendingLaws.{some_is, fed_back-some, send_stamp-in_domain}
 use Rattle.fw_model.proofs.SendsLaws.{IsAt, sends-each}
-use Rattle.fw_model.proofs.SentStandLaws.{IsOne, one-contained, contained-one, one-holds}
+use Rattle.fw_model.proofs.SentStandLaws.{IsOne, one-contained, contained-one}
 use Rattle.fw_model.proofs.StampLaws.{in_loop, nest-leq, leq-nest, in_line, leq_from, leq_to}
 use Rattle.fw_model.proofs.WeightLaws.{weigh}
 use Rattle.fw_model.proofs.ThinnedLaws.{each-contained}
 use Rattle.fw_regain.specs.Causes.{merges_stamps, tells_cause, cause_told, message_of_told, SendStampsTellCauses, GreatestSentStampsStandForSent, DeliveredStampsSend, InjectedBatchesSend}
-use Rattle.fw_regain.specs.Greatest.{AreGreatestIn}
 use Rattle.fw_regain.proofs.GreatestLaws.{greatest-above, greatest-there, each-from}
 
 -- ---- a stamp that sends, by the one at which it does

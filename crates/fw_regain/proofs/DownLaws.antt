@@ -1,13 +1,12 @@
 -- The state in which every node is failed: that steps lead to it, what is offered there, and where a recovery leads from it.
-use Rattle.std.proofs.Common.{◌≡◌, ◌⊎◌, ◌↔◌, ℕ, zero, suc, ◌+◌, ◌<◌, ◌≤◌, Bool, true, false, not, ◌&&◌, ◌||◌, ◌==◌, cond, List, [], ◌∷◌, ◌++◌, length, map, filter, refl, sym, ap, subst, ◌∙◌, inl, inr, arith}
+use Rattle.std.proofs.Common.{◌≡◌, ◌⊎◌, ◌↔◌, ℕ, zero, suc, ◌+◌, ◌<◌, ◌≤◌, Bool, true, false, not, ◌&&◌, ◌||◌, ◌==◌, List, [], ◌∷◌, ◌++◌, length, map, filter, refl, sym, ap, subst, ◌∙◌, inl, inr, arith}
 use Rattle.std.specs.List.{AllByRecursion, range_with_len}
 use Rattle.std.proofs.lemmas.Bool.{cases_Bool, cases_eq, cond_both, eq-eqb, not-true, or_left, or_right}
 use Rattle.std.proofs.lemmas.List.FromFn.{get_or-map-range_with_len, length-map-range_with_len}
 use Rattle.fw_lemmas.proofs.Bools.{two_ways}
 use Rattle.fw_lemmas.proofs.Each.{each-weaker, each-filter, each-one}
 use Rattle.fw_lemmas.proofs.Filters.{filter-all, filter-same_on}
-use Rattle.fw_time.specs.Stamp.{Stamp}
-use Rattle.fw_frontier.specs.Frontier.{Frontier, Within}
+use Rattle.fw_frontier.specs.Frontier.{Frontier}
 use Rattle.fw_frontier.specs.Front.{Front}
 use Rattle.fw_flow.specs.declared.choice.Choice.{Choice}
 use Rattle.fw_flow.specs.declared.choice.Cut.{Cut}
@@ -16,21 +15,18 @@ use Rattle.fw_flow.specs.declared.restoring.Restoring.{Restoring}
 use Rattle.fw_flow.specs.declared.restoring.Restoring.TheVariants.{Batches, Bound, Anything, Checkpoints, Events}
 use Rattle.fw_flow.specs.declared.step.Step.TheVariants.{Fail, Recover}
 use Rattle.fw_flow.specs.Dataflow.{System, node_ids, node_frontier, is_one_of}
-use Rattle.fw_flow.specs.NodeFunction.{event_node, event_stamp}
 use Rattle.fw_flow.specs.Restoring.{way_of}
-use Rattle.fw_flow.specs.WellFormed.{IsWellFormedSystem}
-use Rattle.fw_model.specs.Choice.{View, kept, ever, is_counted, IsLogged, AllLogged, HasCheckpoint, IsRestorable, IsCandidate, cut_of, IsConsistent, IsLargest, IsWatermark, IsCutWithin}
-use Rattle.fw_model.specs.Floors.{IsFloor}
+use Rattle.fw_model.specs.Choice.{View, kept, ever, is_counted, IsLogged, AllLogged, HasCheckpoint, IsRestorable, IsCandidate, cut_of, IsConsistent, IsWatermark, IsCutWithin}
 use Rattle.fw_model.specs.Machine.{Machine, SerialEvent, Write, Written, checkpoint, logged_event, Stage, in_flight, acknowledged, collected, front_of, is_failed}
 use Rattle.fw_model.specs.Reached.{IsReached}
-use Rattle.fw_model.specs.Steps.{Effect, cuts, silent, Outcome, did, idle, front_of_cut, is_in_flight, offers, without_lost, with_failed, LeadsTo, StepsTo, Run}
+use Rattle.fw_model.specs.Steps.{Effect, cuts, silent, did, idle, is_in_flight, offers, without_lost, with_failed}
 use Rattle.fw_model.proofs.ChoosingLaws.{failed-recovered}
 use Rattle.fw_model.proofs.FloorLaws.{holds-floors, cut-floor}
 use Rattle.fw_model.proofs.GoingOn.{runs-go_on}
 use Rattle.fw_model.proofs.InclusionLaws.{same_each}
-use Rattle.fw_model.proofs.LowLaws.{watermark-front, kept-counts}
+use Rattle.fw_model.proofs.LowLaws.{watermark-front}
 use Rattle.fw_model.proofs.WriteLaws.{HoldsOfOne, some-passed, IsCheckpointAt, IsItsCheckpoint, NamesEvent, LogsEvent, some-checkpoint, checkpoint-some, some-logged, logged-some}
-use Rattle.fw_regain.specs.Down.{down, IsDown, StartsAgain, AllGoDown, DownIsReached, AllAreDown, NothingFliesWhereAllAreFailed, DownOffersTheSame, DownChoosesTheWatermark, EachStateStartsAgain}
+use Rattle.fw_regain.specs.Down.{down, AllGoDown, DownIsReached, AllAreDown, NothingFliesWhereAllAreFailed, DownOffersTheSame, DownChoosesTheWatermark, EachStateStartsAgain}
 use Rattle.fw_regain.proofs.EachFailedLaws.{reached-failed}
 use Rattle.fw_regain.proofs.FlightLaws.{IsOfLive, flying-live, range-each}
 

@@ -6,7 +6,6 @@ use Rattle.std.proofs.lemmas.List.FromFn.{get_or-map-range_with_len}
 use Rattle.std.specs.List.{AllByRecursion, range_with_len}
 use Rattle.fw_lemmas.proofs.Bools.{two_ways}
 use Rattle.fw_lemmas.proofs.Each.{each-weaker, each-append, each-map, each-filter, each-replaced}
-use Rattle.fw_lemmas.proofs.Filters.{filter-same_on}
 use Rattle.fw_lemmas.proofs.Lists.{none-mapped}
 use Rattle.fw_frontier.specs.Front.{Front, same_front}
 use Rattle.fw_frontier.proofs.SameLaws.{same_front-from}

@@ -1,7 +1,7 @@
 -- The stamps of a node's events inside a checkpoint, got back from covers.
-use Rattle.std.proofs.Common.{◌≡◌, ℕ, ◌<◌, ◌≤◌, Bool, true, false, cond, List, [], ◌∷◌, ◌++◌, length, map, filter, refl, sym, ap, subst, ◌⊎◌, ◌==◌, ◌∙◌, inl, inr, arith}
+use Rattle.std.proofs.Common.{◌≡◌, ℕ, ◌<◌, Bool, true, false, cond, List, [], ◌∷◌, ◌++◌, length, map, filter, refl, sym, ap, subst, ◌⊎◌, ◌==◌, ◌∙◌, inl, inr, arith}
 use Rattle.std.specs.List.{AllByRecursion, flat_map}
-use Rattle.std.proofs.lemmas.Bool.{and_from, and_parts, cases_Bool, cases_lt, cond_both}
+use Rattle.std.proofs.lemmas.Bool.{cases_lt, cond_both}
 use Rattle.std.proofs.lemmas.List.{get_or_past}
 use Rattle.std.proofs.lemmas.List.Elements.{filter-append}
 use Rattle.fw_lemmas.proofs.Each.{each-filter, each-map, each-one, each-weaker, each-kept}
@@ -11,8 +11,6 @@ use Rattle.fw_frontier.specs.Front.{Front}
 use Rattle.fw_frontier.proofs.NamesLaws.{frontier-closed}
 use Rattle.fw_flow.specs.declared.choice.Counted.{Counted}
 use Rattle.fw_flow.specs.declared.choice.Cut.TheVariants.{At}
-use Rattle.fw_flow.specs.declared.choice.Recorded.{Recorded}
-use Rattle.fw_flow.specs.declared.choice.Stamps.{Stamps}
 use Rattle.fw_flow.specs.declared.node.Edge.{Edge}
 use Rattle.fw_flow.specs.declared.event.Event.{Event}
 use Rattle.fw_flow.specs.declared.event.Event.TheVariants.{Inject, Deliver, Notify}
@@ -21,15 +19,14 @@ use Rattle.fw_flow.specs.declared.kind.Kind.{Kind}
 use Rattle.fw_flow.specs.declared.kind.Kind.TheVariants.{Leave, Regroup, Sequence}
 use Rattle.fw_flow.specs.declared.kind.Policy.{Policy}
 use Rattle.fw_flow.specs.declared.kind.Policy.TheVariants as policy
-use Rattle.fw_flow.specs.declared.restoring.Restoring.{Restoring}
 use Rattle.fw_flow.specs.declared.restoring.Restoring.TheVariants.{Checkpoints}
 use Rattle.fw_flow.specs.Dataflow.{System, Dataflow, bounds_of, bounds_of_edge, in_edges, is_sequence_kind, kind_of, node_frontier, policy_of, receiver, sender}
 use Rattle.fw_flow.specs.NodeFunction.{event_stamp, sent_by}
 use Rattle.fw_flow.specs.Projection.{events_at, all_inside}
 use Rattle.fw_flow.specs.Restoring.{can_resend, way_of}
 use Rattle.fw_flow.specs.WellFormed.{IsWellFormed, IsWellFormedSystem}
-use Rattle.fw_model.specs.Covers.{covers_in, stamps_inside, stamps_from, stamp_of_notice, notified_inside, takes_its_cut, takes_its_notices, delivered_cover, discarded_cover, discarded_at, notified_cover}
-use Rattle.fw_model.specs.EventStamps.{AreStampsIf, StandForSent, StandForNumbered, IsOfCause, causes_in, causes_of}
+use Rattle.fw_model.specs.Covers.{covers_in, stamps_inside, stamps_from, stamp_of_notice, notified_inside, takes_its_cut, takes_its_notices, discarded_at}
+use Rattle.fw_model.specs.EventStamps.{StandForSent, causes_in, causes_of}
 use Rattle.fw_model.specs.Filtering.{events_inside, messages_from, messages_inside}
 use Rattle.fw_model.specs.History.{AreEventsInDomain, delivered_messages, sent_messages}
 use Rattle.fw_model.specs.Machine.{Machine, events}
@@ -44,7 +41,7 @@ use Rattle.fw_model.proofs.LegalLaws.{edge-receiver, legal_messages-in_domain}
 use Rattle.fw_model.proofs.LocalityLaws.{delivers-same, events_at-kept}
 use Rattle.fw_model.proofs.SendPartLaws.{part-sends}
 use Rattle.fw_regain.specs.Causes.{merges_stamps, message_of_told, tells_cause}
-use Rattle.fw_regain.specs.GotBack.{IsSentGotBack, AreGotBack, StampsAreGotBack}
+use Rattle.fw_regain.specs.GotBack.{StampsAreGotBack}
 use Rattle.fw_regain.specs.Greatest.{AreGreatestIn}
 use Rattle.fw_regain.proofs.CauseLaws.{greatest_sent-stand, delivered-send, merges-one_edge, the_edge}
 use Rattle.fw_regain.proofs.GreatestLaws.{greatest-stand}

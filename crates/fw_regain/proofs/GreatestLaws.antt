@@ -1,7 +1,7 @@
 -- The greatest stamps that cover what some stamps do are among these, and stand for them.
-use Rattle.std.proofs.Common.{◌≡◌, ℕ, zero, suc, ◌<◌, Bool, true, false, not, List, [], ◌∷◌, length, slice_index_or, refl, sym, subst, ap, ◌∙◌, inl, inr, arith}
+use Rattle.std.proofs.Common.{◌≡◌, ℕ, zero, suc, ◌<◌, true, false, not, List, [], ◌∷◌, length, slice_index_or, refl, sym, subst, ap, ◌∙◌, inl, inr, arith}
 use Rattle.std.specs.List.{AllByRecursion, Contains}
-use Rattle.std.proofs.lemmas.Bool.{and_parts, and_from, or_cases, or_left, or_right}
+use Rattle.std.proofs.lemmas.Bool.{and_parts, and_from, or_cases, or_left, or_right, true_from_ne_false}
 use Rattle.fw_lemmas.proofs.Bools.{two_ways}
 use Rattle.fw_time.specs.Stamp.{Stamp, leq, lesser, in_domain}
 use Rattle.fw_time.specs.declared.stamp.Bounds.{Bounds}
@@ -41,10 +41,6 @@ covered-above bounds some others same of s c =
     let mine : cover bounds some s ≡ true = and_from (in_domain bounds s) (some_above some s) d (above-contained s s (leq-refl s) some c.0 c.1 c.2) in
     has-above others s (and_parts (in_domain bounds s) (some_above others s) (sym (same s) ∙ mine)).1
 
-is_true : (b : Bool) → (b ≡ false → ⊥) → b ≡ true
-is_true true f = refl
-is_true false f = absurd (f refl)
-
 -- of any stamps there is a greatest one above each
 pub greatest-above : (bounds : Bounds) (f : Frontier) (all tops : List Stamp) → AllByRecursion (λ s. in_domain bounds s ≡ true) all
     → ((t : Stamp) → f t ≡ cover bounds all t) → AreGreatestIn bounds f tops → (s : Stamp) → Contains all s → HasAbove tops s
@@ -59,7 +55,7 @@ greatest-there bounds f all tops of same g s c =
     let up = leq-trans s a.above b.above a.below b.below in
     let mine = each-contained (λ x. AllByRecursion (λ other. lesser x other ≡ false) tops) s tops c g.greatest in
     let none = each-contained (λ other. lesser s other ≡ false) b.above tops b.there mine in
-    let down : leq b.above s ≡ true = is_true (leq b.above s)
+    let down : leq b.above s ≡ true = true_from_ne_false (leq b.above s)
     (λ e. two_ways (lesser s b.above) (and_from (leq s b.above) (not (leq b.above s)) up (ap not e)) none) in
     let e : a.above ≡ s = leq-antisym a.above s (leq-trans a.above b.above s b.below down) a.below in
     subst (λ x. Contains all x) e a.there

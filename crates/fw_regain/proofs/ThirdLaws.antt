@@ -1,29 +1,26 @@
 -- What a node that logs its events offers, by its third frontier; and that none of these events outside the low watermark is collected.
-use Rattle.std.proofs.Common.{◌≡◌, ◌⊎◌, ◌↔◌, ℕ, suc, ◌<◌, Bool, true, false, not, ◌&&◌, ◌||◌, ◌==◌, ◌+◌, cond, List, [], ◌∷◌, map, filter, length, refl, sym, ap, subst, ◌∙◌, inl, inr, arith}
-use Rattle.std.specs.List.{AllByRecursion, Contains, list_any}
-use Rattle.std.proofs.lemmas.Bool.{and_parts, and_from, cases_Bool, cond_both, eqb-true, eq-eqb, false_from_ne_true, not-true, or_cases, or_left, or_right}
+use Rattle.std.proofs.Common.{◌≡◌, ◌↔◌, ℕ, suc, Bool, true, false, not, ◌&&◌, ◌||◌, ◌==◌, cond, List, [], ◌∷◌, map, filter, refl, sym, ap, subst, ◌∙◌, inl, inr, arith}
+use Rattle.std.specs.List.{Contains, list_any}
+use Rattle.std.proofs.lemmas.Bool.{and_parts, and_from, cases_Bool, cond_both, eqb-true, eq-eqb, false_from_ne_true, not-true, or_cases, or_left, or_parts, or_right}
 use Rattle.fw_lemmas.proofs.Bools.{two_ways, same_tests}
 use Rattle.fw_lemmas.proofs.Each.{each-one}
 use Rattle.fw_lemmas.proofs.Filters.{filter-same_on}
 use Rattle.fw_time.specs.Stamp.{Stamp, leq}
 use Rattle.fw_time.proofs.StampLaws.{leq-refl, leq-trans}
-use Rattle.fw_frontier.specs.Frontier.{Frontier, Within}
+use Rattle.fw_frontier.specs.Frontier.{Frontier}
 use Rattle.fw_frontier.specs.Front.{Front}
 use Rattle.fw_frontier.proofs.NamesLaws.{frontier-closed}
-use Rattle.fw_flow.specs.declared.choice.Cut.TheVariants.{At}
-use Rattle.fw_flow.specs.declared.restoring.Restoring.TheVariants.{Events}
 use Rattle.fw_flow.specs.Dataflow.{System, Dataflow, bounds_of, node_frontier}
 use Rattle.fw_flow.specs.NodeFunction.{event_node, event_stamp}
-use Rattle.fw_flow.specs.Restoring.{way_of}
 use Rattle.fw_model.specs.Choice.{ever, kept, is_counted, IsLogged, AllLogged, IsRestorable, IsCandidate}
 use Rattle.fw_model.specs.Machine.{Machine, SerialEvent, Write, Written, checkpoint, logged_event, Stage, in_flight, acknowledged, collected, front_of}
 use Rattle.fw_model.specs.Steps.{is_given_up}
 use Rattle.fw_model.proofs.AskedLaws.{IsAskedWell, IsWriteAskedWell, reached-all, given-stamp}
 use Rattle.fw_model.proofs.FloorLaws.{floor_cut, low-floor}
 use Rattle.fw_model.proofs.ThinnedLaws.{each-contained}
-use Rattle.fw_model.proofs.WriteLaws.{HoldsOfOne, NamesEvent, LogsEvent, some-weaker, some-logged, logged-some}
+use Rattle.fw_model.proofs.WriteLaws.{HoldsOfOne, NamesEvent, LogsEvent, some-logged, logged-some}
 use Rattle.fw_regain.specs.Down.{down}
-use Rattle.fw_regain.specs.Third.{logs_serial, is_serial_logged, stamps_not_logged, third_of, ThirdStaysWhereAllAreDown, ThirdFrontIsOffered, ThirdHoldsLow, IsKeptLogged, NothingOutsideLowIsCollected}
+use Rattle.fw_regain.specs.Third.{logs_serial, is_serial_logged, stamps_not_logged, ThirdStaysWhereAllAreDown, ThirdFrontIsOffered, ThirdHoldsLow, IsKeptLogged, NothingOutsideLowIsCollected}
 use Rattle.fw_regain.proofs.DownLaws.{logged-land}
 use Rattle.fw_regain.proofs.GreatestLaws.{each-from}
 
@@ -104,10 +101,6 @@ none-loose sys p f writes t i (v ∷ h) a =
     ap (λ c. c || list_any (λ s. leq s t) (map (λ (u : SerialEvent). event_stamp u.event) (filter test h))) out ∙ rest)
     (λ k. rest)
 
-neither : (a b : Bool) → (a || b) ≡ false → (a ≡ false) × (b ≡ false)
-neither true b e = absurd (two_ways true refl e)
-neither false b e = (refl, e)
-
 all-logged : (sys : System) (p : ℕ) (f : Frontier) (writes : List Write) (h : List SerialEvent)
     → ((t : Stamp) → f t ≡ true → list_any (λ s. leq s t) (loose sys p writes h) ≡ false) → AllLogged sys p f writes h
 unfolding loose
@@ -122,12 +115,12 @@ all-logged sys p f writes (v ∷ h) k =
             let passes : test v ≡ true = and_from (event_node sys.flow v.event == p) (not (is_serial_logged v.serial writes))
             (eq-eqb (event_node sys.flow v.event) p e) (ap not l) in
             let none = sym (ap (λ b. list_any (λ s. leq s at) (stamps (cond b (v ∷ filter test h) (filter test h)))) passes) ∙ k at i in
-            absurd (two_ways (leq at at) (leq-refl at) (neither (leq at at) (list_any (λ s. leq s at) (stamps (filter test h))) none).0)
+            absurd (two_ways (leq at at) (leq-refl at) (or_parts (leq at at) (list_any (λ s. leq s at) (stamps (filter test h))) none).0)
       ],
       all-logged sys p f writes h (λ t i.
           cond_both (test v) (v ∷ filter test h) (filter test h)
           (λ vs. list_any (λ s. leq s t) (stamps vs) ≡ false → list_any (λ s. leq s t) (stamps (filter test h)) ≡ false)
-          (λ c n. (neither (leq at t) (list_any (λ s. leq s t) (stamps (filter test h))) n).1) (λ c n. n) (k t i)),
+          (λ c n. (or_parts (leq at t) (list_any (λ s. leq s t) (stamps (filter test h))) n).1) (λ c n. n) (k t i)),
     )
 
 pub third-offered : ThirdFrontIsOffered

@@ -4,11 +4,10 @@ use Rattle.std.specs.Prelude.{◌≡◌, ◌↔◌, ℕ, ◌<◌, Bool, true, fa
 use Rattle.std.specs.List.{AllByRecursion, Contains, list_any}
 use Rattle.fw_time.specs.Stamp.{Stamp, leq}
 use Rattle.fw_frontier.specs.Frontier.{Frontier, Within}
-use Rattle.fw_frontier.specs.Front.{Front, IsCanonical, IsFrontOf}
+use Rattle.fw_frontier.specs.Front.{Front, IsCanonical}
 use Rattle.fw_flow.specs.declared.choice.Cut.TheVariants.{At}
-use Rattle.fw_flow.specs.declared.kind.Policy.TheVariants as policy
 use Rattle.fw_flow.specs.declared.restoring.Restoring.TheVariants.{Events}
-use Rattle.fw_flow.specs.Dataflow.{System, bounds_of, node_frontier, policy_of}
+use Rattle.fw_flow.specs.Dataflow.{System, bounds_of, node_frontier}
 use Rattle.fw_flow.specs.NodeFunction.{event_node, event_stamp}
 use Rattle.fw_flow.specs.Restoring.{way_of}
 use Rattle.fw_flow.specs.WellFormed.{IsWellFormedSystem}

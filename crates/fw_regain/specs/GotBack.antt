@@ -1,0 +1,53 @@
+-- The stamps of a node's events inside a checkpoint are got back from the covers that its record holds.
+use Rattle.std.specs.Prelude.{◌≡◌, ℕ, ◌<◌, true, List, map, length}
+use Rattle.std.specs.List.{AllByRecursion}
+use Rattle.fw_time.specs.Stamp.{Stamp}
+use Rattle.fw_frontier.specs.Frontier.{everything}
+use Rattle.fw_frontier.specs.Front.{Front}
+use Rattle.fw_flow.specs.declared.choice.Cut.TheVariants.{At}
+use Rattle.fw_flow.specs.declared.choice.Recorded.{Recorded}
+use Rattle.fw_flow.specs.declared.choice.Stamps.{Stamps}
+use Rattle.fw_flow.specs.declared.kind.Policy.TheVariants as policy
+use Rattle.fw_flow.specs.Dataflow.{System, Dataflow, bounds_of, is_sequence_kind, kind_of, node_frontier, policy_of, receiver, sender}
+use Rattle.fw_flow.specs.WellFormed.{IsWellFormedSystem}
+use Rattle.fw_model.specs.Covers.{covers_in}
+use Rattle.fw_model.specs.EventStamps.{AreStampsIf, IsOfCause, causes_of}
+use Rattle.fw_model.specs.Filtering.{events_inside}
+use Rattle.fw_model.specs.Machine.{Machine, events}
+use Rattle.fw_model.specs.Offers.{AreAtEdgeStamps, counted_on_edge, front_of_edge, stamps_on, stamps_on_from}
+use Rattle.fw_model.specs.Reached.{IsReached}
+use Rattle.fw_regain.specs.Causes.{merges_stamps, message_of_told, tells_cause}
+use Rattle.fw_regain.specs.Greatest.{AreGreatestIn}
+
+-- What was sent on edge e is got back: as the greatest stamps inside the cover, with the causes that they tell; where several stamps send
+-- at one, at what was delivered; of a sequence, as the greatest numbers.
+pub record IsSentGotBack (flow : Dataflow) (p : ℕ) (r : Recorded) (stamps : Stamps) (e : ℕ) : Type 0 where
+  pub told : tells_cause (kind_of flow p) ≡ true → (tops : List Stamp)
+      × AreGreatestIn (bounds_of flow (receiver flow e)) (front_of_edge (bounds_of flow (receiver flow e)) e r.discarded) tops
+      × (counted_on_edge e stamps.sent ≡ map (message_of_told flow e) tops)
+  pub merged : merges_stamps (kind_of flow p) ≡ true → (d : ℕ) → d < length flow.edges → receiver flow d ≡ p
+      → AllByRecursion (IsOfCause flow p) (counted_on_edge e stamps.sent) × (causes_of (counted_on_edge e stamps.sent) ≡ stamps_on d stamps.delivered)
+  pub numbered : is_sequence_kind (kind_of flow p) ≡ true
+      → AreGreatestIn (bounds_of flow (receiver flow e)) (front_of_edge (bounds_of flow (receiver flow e)) e r.discarded)
+      (stamps_on_from e (everything (bounds_of flow (sender flow e))) stamps.sent)
+
+-- Stamps of node p are got back from what a record of it covers: of what was delivered and notified the greatest, and what was sent.
+pub record AreGotBack (flow : Dataflow) (p : ℕ) (r : Recorded) (stamps : Stamps) : Type 0 where
+  pub on_edges : AreAtEdgeStamps flow stamps.delivered × AreAtEdgeStamps flow stamps.sent
+  pub delivered : (d : ℕ) → d < length flow.edges → receiver flow d ≡ p
+      → AreGreatestIn (bounds_of flow p) (front_of_edge (bounds_of flow p) d r.delivered) (stamps_on d stamps.delivered)
+  pub notified : AreGreatestIn (bounds_of flow p) (node_frontier flow p r.notified) stamps.notified
+  pub sent : (e : ℕ) → e < length flow.edges → sender flow e ≡ p → IsSentGotBack flow p r stamps e
+
+-- In each state to which steps of a well-formed system lead from the first one, where a record holds the covers of the events of a node
+-- inside a front, and the node cannot send again: stamps that are got back from it stand for these events.
+abbrev pub StampsAreGotBack : Type 0
+StampsAreGotBack = (sys : System) (state : Machine) (p : ℕ) (f : Front) (r : Recorded) (stamps : Stamps) → IsWellFormedSystem sys
+    → IsReached sys state → p < length sys.flow.nodes → policy_of sys.flow p ≡ policy.Lazy
+    → ((d : ℕ) → d < length sys.flow.edges → receiver sys.flow d ≡ p
+    → front_of_edge (bounds_of sys.flow p) d r.delivered ≡ (covers_in sys state).delivered d (At f))
+    → node_frontier sys.flow p r.notified ≡ (covers_in sys state).notified p (At f)
+    → ((e : ℕ) → e < length sys.flow.edges → sender sys.flow e ≡ p
+    → front_of_edge (bounds_of sys.flow (receiver sys.flow e)) e r.discarded ≡ (covers_in sys state).discarded e (At f))
+    → AreGotBack sys.flow p r stamps
+    → AreStampsIf true sys (events_inside (node_frontier sys.flow p f) (events state.history)) p (node_frontier sys.flow p f) stamps

@@ -1,0 +1,5 @@
+pub mod Causes
+pub mod Down
+pub mod GotBack
+pub mod Greatest
+pub mod Third

@@ -10,6 +10,7 @@ pub mod Declared
 pub mod Floors
 pub mod Fronts
 pub mod Generated
+pub mod GotBack
 pub mod Headline
 pub mod InTurn
 pub mod LeavingOut

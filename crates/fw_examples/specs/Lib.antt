@@ -8,6 +8,7 @@ pub mod Collected
 pub mod Floors
 pub mod Flows
 pub mod Generated
+pub mod GotBack
 pub mod Headline
 pub mod InTurn
 pub mod Inclusions

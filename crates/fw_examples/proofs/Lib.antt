@@ -11,6 +11,7 @@ pub mod Fetched
 pub mod Floors
 pub mod Fronts
 pub mod Generated
+pub mod GotBack
 pub mod Headline
 pub mod InTurn
 pub mod LeavingOut

@@ -9,6 +9,7 @@ pub mod Fetched
 pub mod Floors
 pub mod Flows
 pub mod Generated
+pub mod GotBack
 pub mod Headline
 pub mod InTurn
 pub mod Inclusions

@@ -12,6 +12,7 @@ mod loop_counts_up;
 mod nested_loops;
 mod traces_of_totals;
 mod trails_of_state;
+mod what_is_got_back;
 mod what_was_told;
 mod witnesses_of_laws;
 
@@ -42,6 +43,7 @@ pub use nested_loops::{
 };
 pub use traces_of_totals::{totals_are_declared, two_epochs_are_traced};
 pub use trails_of_state::trails_of_state_apply;
+pub use what_is_got_back::{every_node_is_down, third_lacks_an_epoch};
 pub use what_was_told::{one_more_may_be_told, tables_apply};
 pub use witnesses_of_laws::{
     an_epoch_is_closed, certificates_apply, checkpoints_are_offered, choices_unite, cuts_unite,

@@ -41,7 +41,7 @@ use Rattle.fw_model.proofs.LegalLaws.{edge-receiver, legal_messages-in_domain}
 use Rattle.fw_model.proofs.LocalityLaws.{delivers-same, events_at-kept}
 use Rattle.fw_model.proofs.SendPartLaws.{part-sends}
 use Rattle.fw_regain.specs.Causes.{merges_stamps, message_of_told, tells_cause}
-use Rattle.fw_regain.specs.GotBack.{StampsAreGotBack}
+use Rattle.fw_regain.specs.GotBack.{ReceivedStampsAreGotBack, StampsAreGotBack}
 use Rattle.fw_regain.specs.Greatest.{AreGreatestIn}
 use Rattle.fw_regain.proofs.CauseLaws.{greatest_sent-stand, delivered-send, merges-one_edge, the_edge}
 use Rattle.fw_regain.proofs.GreatestLaws.{greatest-stand}
@@ -51,11 +51,9 @@ use Rattle.fw_regain.proofs.GreatestLaws.{greatest-stand}
 whole : (base : Frontier) (all kept : List Stamp) → IsThinned base all kept → IsThinnedIf true base all kept
 whole base all kept h = record { among = h.among; outside = h.outside; inside = λ e. h.inside }
 
-lazy-way : (sys : System) (p : ℕ) → IsWellFormedSystem sys → p < length sys.flow.nodes → policy_of sys.flow p ≡ policy.Lazy → way_of sys.flow p ≡ Checkpoints
-lazy-way sys p w l is = takes-restoring (kind_of sys.flow p) (policy_of sys.flow p) (w.flow.policies p l) (lazy-takes (policy_of sys.flow p) is)
-  where
-    lazy-takes : (q : Policy) → q ≡ policy.Lazy → takes_checkpoints q ≡ true
-    lazy-takes q e = ap takes_checkpoints e
+checkpoint-way : (sys : System) (p : ℕ) → IsWellFormedSystem sys → p < length sys.flow.nodes → takes_checkpoints (policy_of sys.flow p) ≡ true
+    → way_of sys.flow p ≡ Checkpoints
+checkpoint-way sys p w l takes = takes-restoring (kind_of sys.flow p) (policy_of sys.flow p) (w.flow.policies p l) takes
 
 delivered-is : (sys : System) (state : Machine) (d : ℕ) (f : Front) → way_of sys.flow (receiver sys.flow d) ≡ Checkpoints
     → (covers_in sys state).delivered d (At f)
@@ -64,11 +62,15 @@ delivered-is sys state d f way =
     ap (λ w. cond (takes_its_cut w) (node_frontier sys.flow (receiver sys.flow d) f)
     (cover (bounds_of sys.flow (receiver sys.flow d)) (stamps_inside (node_frontier sys.flow (receiver sys.flow d) f) (delivered_messages (events state.history) d)))) way
 
-notified-is : (sys : System) (state : Machine) (p : ℕ) (f : Front) → policy_of sys.flow p ≡ policy.Lazy
+kept-notices : (kind : Kind) (q : Policy) (all some : Frontier) → takes_checkpoints q ≡ true → cond (takes_its_notices kind q) all some ≡ some
+kept-notices kind policy.None all some takes = absurd (cc)
+kept-notices kind q all some takes = refl
+
+notified-is : (sys : System) (state : Machine) (p : ℕ) (f : Front) → takes_checkpoints (policy_of sys.flow p) ≡ true
     → (covers_in sys state).notified p (At f) ≡ cover (bounds_of sys.flow p) (notified_inside p (node_frontier sys.flow p f) (events state.history))
-notified-is sys state p f is =
-    ap (λ q. cond (takes_its_notices (kind_of sys.flow p) q) (node_frontier sys.flow p f)
-    (cover (bounds_of sys.flow p) (notified_inside p (node_frontier sys.flow p f) (events state.history)))) is
+notified-is sys state p f takes =
+    kept-notices (kind_of sys.flow p) (policy_of sys.flow p) (node_frontier sys.flow p f)
+    (cover (bounds_of sys.flow p) (notified_inside p (node_frontier sys.flow p f) (events state.history))) takes
 
 discarded-is : (sys : System) (state : Machine) (e : ℕ) (f : Front) → policy_of sys.flow (sender sys.flow e) ≡ policy.Lazy → way_of sys.flow (sender sys.flow e) ≡ Checkpoints
     → (covers_in sys state).discarded e (At f)
@@ -200,34 +202,46 @@ passed-stand flow p f all some tops x e same g =
     (λ s i. (frontier-closed (bounds_of flow p) f).inside_domain s i) has in
     greatest-stand (bounds_of flow p) base x all tops of has same g
 
+pub received-back : ReceivedStampsAreGotBack
+received-back sys state p f r stamps w l takes d n b =
+    let flow = sys.flow in
+    let h = events state.history in
+    let g = node_frontier flow p f in
+    let now = events_inside g h in
+    let at : Message → Stamp = λ m. m.at in
+    let way = checkpoint-way sys p w l takes in
+    record {
+      delivered = λ c q.
+          let there = edge_of flow c p q l in
+          passed-stand flow p f (map at (delivered_messages now c)) (map at (delivered_messages h c)) (stamps_on c stamps.delivered) (front_of_edge (bounds_of flow p) c r.delivered)
+          (ap (map at) (delivers-same flow h (λ m. g) c) ∙ ats-inside g (delivered_messages h c))
+          (delivered-read sys state p c f (front_of_edge (bounds_of flow p) c r.delivered) way q (d c there q)) (b.delivered c there q);
+      notified = passed-stand flow p f (flat_map (stamp_of_notice p) now) (flat_map (stamp_of_notice p) h) stamps.notified (node_frontier flow p r.notified) (notices-inside p g h)
+          (λ t. ap (λ y. y t) (n ∙ notified-is sys state p f takes ∙ ap (cover (bounds_of flow p)) (sym (notices-inside p g h)))) b.notified;
+    }
+
 pub got-back : StampsAreGotBack
 got-back sys state p f r stamps w reached l lazy d n s b =
     let flow = sys.flow in
     let h = events state.history in
     let g = node_frontier flow p f in
     let now = events_inside g h in
-    let way = lazy-way sys p w l lazy in
+    let takes : takes_checkpoints (policy_of flow p) ≡ true = ap takes_checkpoints lazy in
+    let way = checkpoint-way sys p w l takes in
+    let received = received-back sys state p f r stamps w l takes d n b.received in
     let at : Message → Stamp = λ m. m.at in
     let inside = at-inside flow p g h in
     let of : AreEventsInDomain flow now p =
     each-weaker (λ v. g (event_stamp v) ≡ true) (λ v. in_domain (bounds_of flow p) (event_stamp v) ≡ true) (events_at flow p now)
     (λ v i. (frontier-closed (bounds_of flow p) f).inside_domain (event_stamp v) i) inside in
-    let delivered : (c : ℕ) → receiver flow c ≡ p → IsThinned g (map at (delivered_messages now c)) (stamps_on c stamps.delivered) =
-    λ c q.
-    let there = edge_of flow c p q l in
-    passed-stand flow p f (map at (delivered_messages now c)) (map at (delivered_messages h c)) (stamps_on c stamps.delivered) (front_of_edge (bounds_of flow p) c r.delivered)
-    (ap (map at) (delivers-same flow h (λ m. g) c) ∙ ats-inside g (delivered_messages h c))
-    (delivered-read sys state p c f (front_of_edge (bounds_of flow p) c r.delivered) way q (d c there q)) (b.delivered c there q) in
     let read : (e : ℕ) → e < length flow.edges → sender flow e ≡ p → (t : Stamp)
     → front_of_edge (bounds_of flow (receiver flow e)) e r.discarded t ≡ cover (bounds_of flow (receiver flow e)) (map at (sent_messages sys now e)) t =
     λ e there q. sent-read sys state p e f (front_of_edge (bounds_of flow (receiver flow e)) e r.discarded) w reached lazy way q (s e there q) in
     record {
       on_edges = b.on_edges;
-      in_domain = b.notified.of_domain;
-      delivered = λ c q. whole g (map at (delivered_messages now c)) (stamps_on c stamps.delivered) (delivered c q);
-      notified = whole g (flat_map (stamp_of_notice p) now) stamps.notified
-          (passed-stand flow p f (flat_map (stamp_of_notice p) now) (flat_map (stamp_of_notice p) h) stamps.notified (node_frontier flow p r.notified) (notices-inside p g h)
-          (λ t. ap (λ y. y t) (n ∙ notified-is sys state p f lazy ∙ ap (cover (bounds_of flow p)) (sym (notices-inside p g h)))) b.notified);
+      in_domain = b.received.notified.of_domain;
+      delivered = λ c q. whole g (map at (delivered_messages now c)) (stamps_on c stamps.delivered) (received.delivered c q);
+      notified = whole g (flat_map (stamp_of_notice p) now) stamps.notified received.notified;
       sent = λ no e there q. elim (merges-or_tells (kind_of flow p) no) [
         | inl k ↦
             let one = merges-edge flow w.flow p l k in
@@ -240,7 +254,7 @@ got-back sys state p f r stamps w reached l lazy d n s b =
               of_cause = m.0;
               thinned = whole g (causes_in (sent_messages sys now e)) (causes_of (counted_on_edge e stamps.sent))
                   (subst (λ kept. IsThinned g (causes_in (sent_messages sys now e)) kept) (sym m.1)
-                  (subst (λ all. IsThinned g all (stamps_on c stamps.delivered)) (sym causes) (delivered c one.received)));
+                  (subst (λ all. IsThinned g all (stamps_on c stamps.delivered)) (sym causes) (received.delivered c one.received)));
             }
         | inr k ↦
             let t = (b.sent e there q).told k in

@@ -4,4 +4,5 @@ pub mod EachFailedLaws
 pub mod FlightLaws
 pub mod GotBackLaws
 pub mod GreatestLaws
+pub mod RootLaws
 pub mod ThirdLaws

@@ -3,8 +3,9 @@ ghost use Rattle.std.specs.Prelude.{IfOk};
 ghost use Rattle.fw_frontier.specs.Front.{frontier_of};
 ghost use Rattle.fw_regain.specs.Causes.{DeliveredStampsSend, GreatestSentStampsStandForSent, InjectedBatchesSend, SendStampsTellCauses};
 ghost use Rattle.fw_regain.specs.Down.{AllAreDown, AllGoDown, DownChoosesTheWatermark, DownIsReached, DownOffersTheSame, EachStateStartsAgain, NothingFliesWhereAllAreFailed};
-ghost use Rattle.fw_regain.specs.GotBack.{StampsAreGotBack};
+ghost use Rattle.fw_regain.specs.GotBack.{ReceivedStampsAreGotBack, StampsAreGotBack};
 ghost use Rattle.fw_regain.specs.Greatest.{AreGreatestIn, GreatestStampsStandForAll};
+ghost use Rattle.fw_regain.specs.RootOf.{DownHasTheSameRoots};
 ghost use Rattle.fw_regain.specs.Third.{NothingOutsideLowIsCollected, ThirdFrontIsOffered, ThirdHoldsLow, ThirdStaysWhereAllAreDown};
 
 use fw_frontier::Front;
@@ -44,7 +45,12 @@ pub fn injected_batches_send()
     ensures { InjectedBatchesSend }
 {}
 
-/// The stamps of a node's events inside a checkpoint are got back from what its record covers, where the node cannot send again.
+/// Where what was delivered to a node inside a checkpoint is, and of what it was notified, is got back from what its record covers.
+pub fn received_stamps_are_got_back()
+    ensures { ReceivedStampsAreGotBack }
+{}
+
+/// So is where it sent, if it cannot send again: the stamps stand for its events inside the checkpoint.
 pub fn stamps_are_got_back()
     ensures { StampsAreGotBack }
 {}
@@ -103,4 +109,9 @@ pub fn third_holds_low()
 /// Of the events of a node that logs them, outside the low watermark, none was collected.
 pub fn nothing_outside_low_is_collected()
     ensures { NothingOutsideLowIsCollected }
+{}
+
+/// A root of a state is one of that in which every node is failed, and the other way round.
+pub fn down_has_the_same_roots()
+    ensures { DownHasTheSameRoots }
 {}

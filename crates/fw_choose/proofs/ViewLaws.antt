@@ -23,7 +23,7 @@ use Rattle.fw_model.specs.Certificates.{IsTrailBy}
 use Rattle.fw_model.specs.Choice.{kept, IsCandidate, IsConsistentBy, IsLargestBy, IsLargest}
 use Rattle.fw_model.specs.Choosing.{CanChoose, choice_at}
 use Rattle.fw_model.specs.Covers.{stamp_of_notice}
-use Rattle.fw_model.specs.EventStamps.{StandForSent, StandForNumbered, AreStampsOf, IsOfCause, base_of_sent, AreStampsIf}
+use Rattle.fw_model.specs.EventStamps.{StandForSent, StandForNumbered, AreStampsOf, IsOfCause, base_of_sent, tells_sent, AreStampsIf}
 use Rattle.fw_model.specs.History.{injected_count, delivered_messages, IsLegal}
 use Rattle.fw_model.specs.Machine.{Machine, SerialEvent, events, front_of}
 use Rattle.fw_model.specs.Offers.{AreAtEdgeStamps, HasOneCause, IsOffered, AreOffersAbove, RecordsAscend, covers_of, counted_on_edge, stamps_on}
@@ -261,7 +261,7 @@ stamps-stay whole sys h p base raw s = record {
       (sym (all-on_edges flow raw.delivered s.on_edges.0)) (s.delivered d e);
   notified = subst (λ (ts : List Stamp). IsThinnedIf whole base (flat_map (stamp_of_notice p) h) ts)
       (sym (filter-all (in_domain (bounds_of flow p)) raw.notified s.in_domain)) s.notified;
-  sent = λ n e l k. subst (λ (ms : List Counted). StandForSent whole sys h p (base_of_sent whole sys.flow p base) e ms) (sym (by single refl e l k n)) (s.sent n e l k);
+  sent = λ n e l k. subst (λ (ms : List Counted). StandForSent (whole && tells_sent sys.flow p) sys h p (base_of_sent sys.flow p base) e ms) (sym (by single refl e l k n)) (s.sent n e l k);
   numbered = λ q e l k. subst (λ (ms : List Counted). StandForNumbered sys h e ms) (sym (all_of single refl q)) (s.numbered q e l k);
 }
   where

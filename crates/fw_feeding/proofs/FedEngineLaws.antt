@@ -17,7 +17,7 @@ use Rattle.fw_flow.specs.NodeFunction.{event_stamp}
 use Rattle.fw_flow.specs.Projection.{count_from, IsSentTable}
 use Rattle.fw_flow.specs.Restoring.{can_resend}
 use Rattle.fw_flow.specs.SentTable.{EpochsAscend}
-use Rattle.fw_model.specs.EventStamps.{causes_of, causes_in, base_of_sent, AreStampsIf}
+use Rattle.fw_model.specs.EventStamps.{causes_of, causes_in, base_of_sent, tells_sent, AreStampsIf}
 use Rattle.fw_model.specs.Filtering.{messages_from, messages_outside}
 use Rattle.fw_model.specs.History.{was_notified, IsAdmissible}
 use Rattle.fw_model.specs.LawsOfProgress.{IsStuck}
@@ -86,7 +86,7 @@ trace-alike flow now later state a floor p traces t =
     record {
       delivered = t.delivered;
       notified = t.notified;
-      sent = λ o k. subst (λ ms. IsThinnedIf takes (base_of_sent takes flow p base) (causes_in ms) (stamps_where_sent traces p)) same (t.sent o k);
+      sent = λ o k. subst (λ ms. IsThinnedIf (takes && tells_sent flow p) (base_of_sent flow p base) (causes_in ms) (stamps_where_sent traces p)) same (t.sent o k);
       counted = λ k. subst (λ ms. IsSentTally base ms (counted_of traces p)) same (t.counted k);
     }
 
@@ -129,7 +129,7 @@ stamps-alike whole flow now later h a p base stamps k = record {
   notified = k.notified;
   sent = λ s e l q. let stand = k.sent s e l q in record {
     of_cause = stand.of_cause;
-    thinned = subst (λ ms. IsThinnedIf whole (base_of_sent whole flow p base) (causes_in ms) (causes_of (counted_on_edge e stamps.sent))) (messages-alike flow now later h a e) stand.thinned;
+    thinned = subst (λ ms. IsThinnedIf (whole && tells_sent flow p) (base_of_sent flow p base) (causes_in ms) (causes_of (counted_on_edge e stamps.sent))) (messages-alike flow now later h a e) stand.thinned;
   };
   numbered = λ s e l q. subst
       (λ ms. IsThinned (everything (bounds_of flow (receiver flow e))) (map (λ (m : Message). m.at) ms)

@@ -1,5 +1,5 @@
 -- Stamps of a node's events as data: they stand for where its events are and where they sent, thinned inside a base.
-use Rattle.std.specs.Prelude.{◌≡◌, ℕ, ◌<◌, Bool, true, false, not, ◌||◌, Some, List, [], ◌∷◌, length, map, if◌then◌else◌}
+use Rattle.std.specs.Prelude.{◌≡◌, ℕ, ◌<◌, Bool, true, false, not, ◌&&◌, Some, List, [], ◌∷◌, length, map, if◌then◌else◌}
 use Rattle.std.specs.List.{AllByRecursion, flat_map}
 use Rattle.fw_time.specs.Stamp.{Stamp, in_domain}
 use Rattle.fw_frontier.specs.Frontier.{Frontier, everything}
@@ -40,16 +40,16 @@ StandForNumbered sys h e ms =
     IsThinned (everything (bounds_of sys.flow (receiver sys.flow e))) (map (λ (m : Message). m.at) (sent_messages sys h e))
     (stamps_on_from e (everything (bounds_of sys.flow (sender sys.flow e))) ms)
 
--- whether it is told where a node sent: of the whole, and of a node that cannot send again what it sent
-abbrev pub tells_sent : Bool → Dataflow → ℕ → Bool
-tells_sent whole flow p = whole || not (can_resend (policy_of flow p))
+-- whether it is told where a node sent: of one that cannot send again what it sent
+abbrev pub tells_sent : Dataflow → ℕ → Bool
+tells_sent flow p = not (can_resend (policy_of flow p))
 
 -- the base of where a node sent: where that need not be told it is everything, so that any of it may be missing
-abbrev pub base_of_sent : Bool → Dataflow → ℕ → Frontier → Frontier
-base_of_sent whole flow p base = if tells_sent whole flow p then base else λ t. true
+abbrev pub base_of_sent : Dataflow → ℕ → Frontier → Frontier
+base_of_sent flow p base = if tells_sent flow p then base else λ t. true
 
 -- The stamps stand for the events of node p in a history, thinned inside a base; where perhaps not the whole is asked, of those inside
--- it some may be missing, and of a node that can send again those where it sent.
+-- it some may be missing. Where a node sent that can send it again need not be told.
 pub record AreStampsIf (whole : Bool) (sys : System) (h : List Event) (p : ℕ) (base : Frontier) (stamps : Stamps) : Type 0 where
   pub on_edges : AreAtEdgeStamps sys.flow stamps.delivered × AreAtEdgeStamps sys.flow stamps.sent
   pub in_domain : AllByRecursion (λ t. in_domain (bounds_of sys.flow p) t ≡ true) stamps.notified
@@ -57,7 +57,7 @@ pub record AreStampsIf (whole : Bool) (sys : System) (h : List Event) (p : ℕ) 
       → IsThinnedIf whole base (map (λ (m : Message). m.at) (delivered_messages h d)) (stamps_on d stamps.delivered)
   pub notified : IsThinnedIf whole base (flat_map (stamp_of_notice p) h) stamps.notified
   pub sent : is_sequence_kind (kind_of sys.flow p) ≡ false → (e : ℕ) → e < length sys.flow.edges → sender sys.flow e ≡ p
-      → StandForSent whole sys h p (base_of_sent whole sys.flow p base) e (counted_on_edge e stamps.sent)
+      → StandForSent (whole && tells_sent sys.flow p) sys h p (base_of_sent sys.flow p base) e (counted_on_edge e stamps.sent)
   pub numbered : is_sequence_kind (kind_of sys.flow p) ≡ true → (e : ℕ) → e < length sys.flow.edges → sender sys.flow e ≡ p
       → StandForNumbered sys h e stamps.sent
 

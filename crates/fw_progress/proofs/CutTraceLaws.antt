@@ -1,6 +1,6 @@
 -- Traces inside a larger base, and in a cut.
 use Rattle.std.proofs.Common.{◌≡◌, ℕ, Bool, true, false, ◌==◌, cond, List, [], ◌∷◌, ◌++◌, map, refl, sym, ap, subst, ◌∙◌}
-use Rattle.std.specs.Prelude.{filter}
+use Rattle.std.specs.Prelude.{◌&&◌, filter}
 use Rattle.std.specs.List.{AllByRecursion, flat_map}
 use Rattle.std.proofs.lemmas.Bool.{eq-eqb, eqb-true, false_from_ne_true}
 use Rattle.fw_lemmas.proofs.Each.{each-weaker, each-append}
@@ -25,7 +25,7 @@ use Rattle.fw_model.proofs.LocalityLaws.{sends-causes, events_at-kept, sent_by-s
 use Rattle.fw_model.proofs.SequenceLaws.{one_inside}
 use Rattle.fw_progress.specs.declared.sent_tally.SentTally.{SentTally}
 use Rattle.fw_progress.specs.declared.traces.Traces.{Traces}
-use Rattle.fw_model.specs.EventStamps.{causes_in, base_of_sent}
+use Rattle.fw_model.specs.EventStamps.{causes_in, base_of_sent, tells_sent}
 use Rattle.fw_progress.specs.SentTally.{IsSentTally, ComeFromDomain, IsTallySettledTo, IsCountedInAll, IsTallyCutTo}
 use Rattle.fw_progress.specs.Trace.{delivered_on, stamps_notified, stamps_where_sent, counted_of, IsTraceIf, IsTraceWithin, KeepsOthers, AreSettledTo, AreThinnedAt, AreCutTo, HaveChanged}
 use Rattle.fw_progress.specs.Traces.{AreOf, IsSettledTo, IsThinnedBy, StandsInside}
@@ -63,7 +63,7 @@ pub same-trace : (whole : Bool) (sys : System) (h k : List Event) (p : ℕ) (bas
 same-trace whole sys h k p base traces e t = record {
   delivered = λ d l r. subst (λ ms. IsThinnedIf whole base (map (λ (m : Message). m.at) ms) (delivered_on traces d)) (same d r) (t.delivered d l r);
   notified = subst (λ ss. IsThinnedIf whole base ss (stamps_notified traces p)) (sym (notices-at sys.flow h p) ∙ ap (flat_map (stamp_of_notice p)) (sym e) ∙ notices-at sys.flow k p) t.notified;
-  sent = λ o n. subst (λ vs. IsThinnedIf whole (base_of_sent whole sys.flow p base) (causes_in (sent_by sys p vs)) (stamps_where_sent traces p)) (sym e) (t.sent o n);
+  sent = λ o n. subst (λ vs. IsThinnedIf (whole && tells_sent sys.flow p) (base_of_sent sys.flow p base) (causes_in (sent_by sys p vs)) (stamps_where_sent traces p)) (sym e) (t.sent o n);
   counted = λ c. subst (λ vs. IsSentTally base (sent_by sys p vs) (counted_of traces p)) (sym e) (t.counted c);
 }
   where
@@ -124,7 +124,7 @@ changed-others : (flow : Dataflow) (p : ℕ) (R : List Stamp → List Stamp → 
 changed-others flow p R T old new c whole sys h e q n base t = record {
   delivered = λ d l r. subst (IsThinnedIf whole base (map (λ (m : Message). m.at) (delivered_messages h d))) (sym (c.delivered.others d (λ i. n (sym r ∙ ap (λ f. receiver f d) e ∙ i)))) (t.delivered d l r);
   notified = subst (IsThinnedIf whole base (flat_map (stamp_of_notice q) h)) (sym (c.notified.others q n)) t.notified;
-  sent = λ o k. subst (IsThinnedIf whole (base_of_sent whole sys.flow q base) (causes_in (sent_by sys q (events_at sys.flow q h)))) (sym (c.sent.others q n)) (t.sent o k);
+  sent = λ o k. subst (IsThinnedIf (whole && tells_sent sys.flow q) (base_of_sent sys.flow q base) (causes_in (sent_by sys q (events_at sys.flow q h)))) (sym (c.sent.others q n)) (t.sent o k);
   counted = λ k. subst (IsSentTally base (sent_by sys q (events_at sys.flow q h))) (sym (c.counted.others q n)) (t.counted k);
 }
 
@@ -267,7 +267,7 @@ cut-traces flow p f old new well change = record {
               (subst (λ q. AreEventsInDomain sys.flow h q → AreOf (bounds_of sys.flow q) all) r (delivered-domain sys h d) a) w (t.delivered d l r));
           notified = subst (λ ss. IsThinnedIf whole base ss (stamps_notified new p)) (sym (notices-kept sys.flow keep h p ∙ ap (λ g. filter g (flat_map (stamp_of_notice p) h)) is))
               (inside-if whole b f (stamps_notified old p) (stamps_notified new p) c.notified.here base (flat_map (stamp_of_notice p) h) (notices-domain sys h p a) w t.notified);
-          sent = λ o k. subst (λ ss. IsThinnedIf whole (base_of_sent whole sys.flow p base) ss (stamps_where_sent new p))
+          sent = λ o k. subst (λ ss. IsThinnedIf (whole && tells_sent sys.flow p) (base_of_sent sys.flow p base) ss (stamps_where_sent new p))
               (sym (ap causes_in sent ∙ causes-from (node_frontier sys.flow p f) (sent_by sys p (events_at sys.flow p h)) (sent-one sys p (events_at sys.flow p h))))
               (sent_inside-if whole sys.flow p b f (stamps_where_sent old p) (stamps_where_sent new p) c.sent.here base (causes_in (sent_by sys p (events_at sys.flow p h))) (causes-of b _ (sent-domain sys h p a)) w (t.sent o k));
           counted = λ k. subst (λ ms. IsSentTally base ms (counted_of new p)) (sym sent)

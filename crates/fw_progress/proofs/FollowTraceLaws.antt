@@ -128,7 +128,7 @@ tells-follow flow v sent old new tells whole sys h e is p base t =
     one = sends-causes sys q (events_at sys.flow q h) v
 
     base_at : ℕ → Frontier
-    base_at n = base_of_sent whole sys.flow n base
+    base_at n = base_of_sent sys.flow n base
 
     sends_after : Tells sys.flow v (length sent) old new → (n : ℕ) → is_sequence_kind (kind_of sys.flow n) ≡ false
         → IsThinnedIf whole (base_at n) (causes_in (before n)) (stamps_where_sent old n)

@@ -17,7 +17,7 @@ use Rattle.fw_flow.specs.NodeFunction.{event_stamp, sends, sent_by}
 use Rattle.fw_flow.specs.Projection.{events_at, all_inside, count_from}
 use Rattle.fw_flow.proofs.OutEdgeLaws.{out_edges-from}
 use Rattle.fw_model.specs.Covers.{stamp_of_notice}
-use Rattle.fw_model.specs.EventStamps.{causes_of, causes_in, base_of_sent, AreStampsIf}
+use Rattle.fw_model.specs.EventStamps.{causes_of, causes_in, base_of_sent, tells_sent, AreStampsIf}
 use Rattle.fw_model.specs.History.{delivered_messages}
 use Rattle.fw_model.specs.Offers.{counted_on_edge, stamps_on}
 use Rattle.fw_model.specs.Thinned.{IsBelowKept, IsThinnedIf}
@@ -138,14 +138,14 @@ from-inside sys p f vs a = count (sent_by sys p vs) (each vs a)
 
 -- the messages on the first out-edge of a node stand for what it sent
 first-thinned : (whole : Bool) (sys : System) (h : List Event) (p : ℕ) (base : Frontier) (stamps : Stamps) → is_sequence_kind (kind_of sys.flow p) ≡ false → AreStampsIf whole sys h p base stamps → HasOutEdge sys.flow p
-    → IsThinnedIf whole (base_of_sent whole sys.flow p base) (causes_in (sent_by sys p (events_at sys.flow p h))) (causes_on_first (out_edges sys.flow p) stamps.sent)
+    → IsThinnedIf (whole && tells_sent sys.flow p) (base_of_sent sys.flow p base) (causes_in (sent_by sys p (events_at sys.flow p h))) (causes_on_first (out_edges sys.flow p) stamps.sent)
 first-thinned whole sys h p base stamps s a o =
     first (out_edges sys.flow p) (subst (λ q. how_often (out_edges sys.flow q) o.0 ≡ 1) o.2 (once-out sys.flow o.0 o.1))
-    (out_edges-from (λ e. IsThinnedIf whole (base_of_sent whole sys.flow p base) (causes_in (sent_by sys p (events_at sys.flow p h))) (causes_of (counted_on_edge e stamps.sent))) sys.flow p
-    (λ e l r. subst (λ q. IsThinnedIf whole (base_of_sent whole sys.flow p base) (causes_in (sent_by sys q (events_at sys.flow q h))) (causes_of (counted_on_edge e stamps.sent))) r (a.sent s e l r).thinned))
+    (out_edges-from (λ e. IsThinnedIf (whole && tells_sent sys.flow p) (base_of_sent sys.flow p base) (causes_in (sent_by sys p (events_at sys.flow p h))) (causes_of (counted_on_edge e stamps.sent))) sys.flow p
+    (λ e l r. subst (λ q. IsThinnedIf (whole && tells_sent sys.flow p) (base_of_sent sys.flow p base) (causes_in (sent_by sys q (events_at sys.flow q h))) (causes_of (counted_on_edge e stamps.sent))) r (a.sent s e l r).thinned))
   where
-    first : (edges : List ℕ) → how_often edges o.0 ≡ 1 → AllByRecursion (λ e. IsThinnedIf whole (base_of_sent whole sys.flow p base) (causes_in (sent_by sys p (events_at sys.flow p h))) (causes_of (counted_on_edge e stamps.sent))) edges
-        → IsThinnedIf whole (base_of_sent whole sys.flow p base) (causes_in (sent_by sys p (events_at sys.flow p h))) (causes_on_first edges stamps.sent)
+    first : (edges : List ℕ) → how_often edges o.0 ≡ 1 → AllByRecursion (λ e. IsThinnedIf (whole && tells_sent sys.flow p) (base_of_sent sys.flow p base) (causes_in (sent_by sys p (events_at sys.flow p h))) (causes_of (counted_on_edge e stamps.sent))) edges
+        → IsThinnedIf (whole && tells_sent sys.flow p) (base_of_sent sys.flow p base) (causes_in (sent_by sys p (events_at sys.flow p h))) (causes_on_first edges stamps.sent)
     first [] z b = absurd (omega (arith, z))
     first (e ∷ edges) z b = b.0
 
@@ -153,7 +153,7 @@ told-others : (flow : Dataflow) (p : ℕ) (stamps : Stamps) (n : ℕ) (old new :
 told-others flow p stamps n old new c whole sys h e q k base t = record {
   delivered = λ d l r. subst (IsThinnedIf whole base (map (λ (m : Message). m.at) (delivered_messages h d))) (sym (c.delivered.others d (λ i. k (sym r ∙ ap (λ f. receiver f d) e ∙ i)))) (t.delivered d l r);
   notified = subst (IsThinnedIf whole base (flat_map (stamp_of_notice q) h)) (sym (c.notified.others q k)) t.notified;
-  sent = λ o s. subst (IsThinnedIf whole (base_of_sent whole sys.flow q base) (causes_in (sent_by sys q (events_at sys.flow q h)))) (sym (c.sent.others q k)) (t.sent o s);
+  sent = λ o s. subst (IsThinnedIf (whole && tells_sent sys.flow q) (base_of_sent sys.flow q base) (causes_in (sent_by sys q (events_at sys.flow q h)))) (sym (c.sent.others q k)) (t.sent o s);
   counted = λ s. subst (IsSentTally base (sent_by sys q (events_at sys.flow q h))) (sym (c.counted.others q k)) (t.counted s);
 }
 
@@ -168,7 +168,7 @@ told-restored flow p stamps n old new c = record {
     here whole sys h base t a is inside = record {
       delivered = λ d l r. same-thinned whole base (map (λ (m : Message). m.at) (delivered_messages h d)) (stamps_on d stamps.delivered) (delivered_on new d) (t.delivered.here d l r) (a.delivered d r);
       notified = same-thinned whole base (flat_map (stamp_of_notice p) h) stamps.notified (stamps_notified new p) t.notified.here a.notified;
-      sent = λ o s. same-thinned whole (base_of_sent whole sys.flow p base) (causes_in (sent_by sys p (events_at sys.flow p h))) (causes_on_first (out_edges sys.flow p) stamps.sent) (stamps_where_sent new p) (t.sent.here s)
+      sent = λ o s. same-thinned (whole && tells_sent sys.flow p) (base_of_sent sys.flow p base) (causes_in (sent_by sys p (events_at sys.flow p h))) (causes_on_first (out_edges sys.flow p) stamps.sent) (stamps_where_sent new p) (t.sent.here s)
           (first-thinned whole sys h p base stamps s a o);
       counted = λ s f w.
           let tally = t.counted.here in

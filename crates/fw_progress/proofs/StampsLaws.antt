@@ -1,6 +1,6 @@
 -- A node's traces as data stand for its events.
 use Rattle.std.proofs.Common.{◌≡◌, inl, inr, ℕ, suc, ◌+◌, ◌<◌, ◌≤◌, Bool, true, false, ◌&&◌, ◌==◌, nat_le, cond, List, [], ◌∷◌, ◌++◌, length, map, Result, Some, None, refl, sym, ap, subst, ◌∙◌, arith}
-use Rattle.std.specs.Prelude.{filter, IfOk}
+use Rattle.std.specs.Prelude.{◌&&◌, filter, IfOk}
 use Rattle.std.specs.List.{AllByRecursion, flat_map}
 use Rattle.std.proofs.lemmas.Bool.{and_from, or_right, eq-eqb, cases_lt}
 use Rattle.std.proofs.lemmas.Bool.Decides.{nat_tests}
@@ -26,7 +26,7 @@ use Rattle.fw_flow.specs.Projection.{events_at, all_inside, count_from}
 use Rattle.fw_flow.specs.WellFormed.{IsWellFormed}
 use Rattle.fw_flow.proofs.OutEdgeLaws.{out_edges-from}
 use Rattle.fw_model.specs.Covers.{stamp_of_notice}
-use Rattle.fw_model.specs.EventStamps.{causes_in, base_of_sent, StandForSent, StandForNumbered, AreStampsIf}
+use Rattle.fw_model.specs.EventStamps.{causes_in, base_of_sent, tells_sent, StandForSent, StandForNumbered, AreStampsIf}
 use Rattle.fw_model.specs.Filtering.{AreFrontiers, events_inside, messages_inside, messages_from}
 use Rattle.fw_model.specs.History.{is_injection, injected_count, delivered_messages, AreEventsInDomain, IsLegal}
 use Rattle.fw_model.specs.Offers.{AreAtEdgeStamps, counted_on_edge, stamps_on_from}
@@ -53,7 +53,7 @@ use Rattle.fw_progress.proofs.TraceLaws.{among-domain, kept-domain, thinned-insi
 record AreKept (whole : Bool) (sys : System) (h : List Event) (p : ℕ) (base : Frontier) (kept : ℕ → List Stamp) (notified sent : List Stamp) (n : ℕ) : Type 0 where
   on_edges : (d : ℕ) → d < length sys.flow.edges → receiver sys.flow d ≡ p → IsThinnedIf whole base (map (λ (m : Message). m.at) (delivered_messages h d)) (kept d)
   notices : IsThinnedIf whole base (flat_map (stamp_of_notice p) h) notified
-  sends : HasOutEdge sys.flow p → is_sequence_kind (kind_of sys.flow p) ≡ false → IsThinnedIf whole (base_of_sent whole sys.flow p base) (causes_in (sent_by sys p (events_at sys.flow p h))) sent
+  sends : HasOutEdge sys.flow p → is_sequence_kind (kind_of sys.flow p) ≡ false → IsThinnedIf (whole && tells_sent sys.flow p) (base_of_sent sys.flow p base) (causes_in (sent_by sys p (events_at sys.flow p h))) sent
   count : is_sequence_kind (kind_of sys.flow p) ≡ true → n ≡ length (sent_by sys p (events_at sys.flow p h))
 
 -- The events of node p are of its domain, and it injects nothing if it is a sequence.
@@ -173,8 +173,8 @@ kept-stand whole sys h p base kept notified sent n w l proper k = record {
   delivered = λ d r. let i = edge-there sys.flow p d l r in subst (IsThinnedIf whole base (map (λ (m : Message). m.at) (delivered_messages h d))) (sym (delivered-on sys.flow p kept d i r)) (k.on_edges d i r);
   notified = k.notices;
   sent = λ s e i r.
-      subst (StandForSent whole sys h p (base_of_sent whole sys.flow p base) e) (sym (ap (counted_on_edge e) (all-others sys.flow p sent n s) ∙ sent-on sys.flow p sent e i r))
-      (stands-for_sent whole sys h p (base_of_sent whole sys.flow p base) sent e i r (sends s (e, i, r)) (k.sends (e, i, r) s));
+      subst (StandForSent (whole && tells_sent sys.flow p) sys h p (base_of_sent sys.flow p base) e) (sym (ap (counted_on_edge e) (all-others sys.flow p sent n s) ∙ sent-on sys.flow p sent e i r))
+      (stands-for_sent (whole && tells_sent sys.flow p) sys h p (base_of_sent sys.flow p base) sent e i r (sends s (e, i, r)) (k.sends (e, i, r) s));
   numbered = λ s e i r. numbered s e i r;
 }
   where

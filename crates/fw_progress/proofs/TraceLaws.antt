@@ -1,6 +1,6 @@
 -- Kept stamps: one more of them, thinned inside a larger base, and those inside a cut.
 use Rattle.std.proofs.Common.{◌≡◌, ◌⊎◌, inl, inr, ℕ, ◌<◌, Bool, true, false, not, ◌&&◌, ◌||◌, cond, List, [], ◌∷◌, ◌++◌, length, refl, sym, ap, subst, ◌∙◌, arith}
-use Rattle.std.specs.Prelude.{filter}
+use Rattle.std.specs.Prelude.{◌&&◌, filter}
 use Rattle.std.specs.List.{AllByRecursion, Contains, list_any}
 use Rattle.std.specs.BTreeMap.{is_at}
 use Rattle.std.specs.BTreeSet.{insert_key}
@@ -19,7 +19,7 @@ use Rattle.fw_frontier.specs.Front.{Front, inside, frontier_of}
 use Rattle.fw_frontier.proofs.InsideLaws.{inside-closed}
 use Rattle.fw_flow.specs.Dataflow.{Dataflow, policy_of}
 use Rattle.fw_flow.specs.Restoring.{can_resend}
-use Rattle.fw_model.specs.EventStamps.{base_of_sent}
+use Rattle.fw_model.specs.EventStamps.{base_of_sent, tells_sent}
 use Rattle.fw_model.specs.Thinned.{IsBelowKept, IsThinned, IsThinnedIf}
 use Rattle.fw_model.proofs.CmpLaws.{stamp_cmp-equal}
 use Rattle.fw_model.proofs.ThinnedLaws.{each-contained, thinned-covers}
@@ -387,8 +387,8 @@ inside-if whole bounds f old new k base all d w h =
 
 -- where it sent, of a node that settles
 pub sent_settled-if : (whole : Bool) (flow : Dataflow) (p : ℕ) (bounds : Bounds) (f : Front) (old new : List Stamp) → IsSettledTo f old new → (base : Frontier) (all : List Stamp)
-    → AreOf bounds all → Within base (frontier_of bounds f) → IsThinnedIf whole (base_of_sent whole flow p base) all old
-    → IsThinnedIf whole (base_of_sent whole flow p (frontier_of bounds f)) all new
+    → AreOf bounds all → Within base (frontier_of bounds f) → IsThinnedIf (whole && tells_sent flow p) (base_of_sent flow p base) all old
+    → IsThinnedIf (whole && tells_sent flow p) (base_of_sent flow p (frontier_of bounds f)) all new
 sent_settled-if true flow p bounds f old new k base all d w h = settled-if true bounds f old new k base all d w h
 sent_settled-if false flow p bounds f old new k base all d w h = by (not (can_resend (policy_of flow p))) h
   where
@@ -400,8 +400,8 @@ sent_settled-if false flow p bounds f old new k base all d w h = by (not (can_re
 
 -- and of one that is cut
 pub sent_inside-if : (whole : Bool) (flow : Dataflow) (p : ℕ) (bounds : Bounds) (f : Front) (old new : List Stamp) → StandsInside f old new → (base : Frontier) (all : List Stamp)
-    → AreOf bounds all → Within base (frontier_of bounds f) → IsThinnedIf whole (base_of_sent whole flow p base) all old
-    → IsThinnedIf whole (base_of_sent whole flow p base) (filter (frontier_of bounds f) all) new
+    → AreOf bounds all → Within base (frontier_of bounds f) → IsThinnedIf (whole && tells_sent flow p) (base_of_sent flow p base) all old
+    → IsThinnedIf (whole && tells_sent flow p) (base_of_sent flow p base) (filter (frontier_of bounds f) all) new
 sent_inside-if true flow p bounds f old new k base all d w h = inside-if true bounds f old new k base all d w h
 sent_inside-if false flow p bounds f old new k base all d w h = by (not (can_resend (policy_of flow p))) h
   where

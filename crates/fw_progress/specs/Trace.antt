@@ -1,5 +1,5 @@
 -- When traces stand for the events of a node.
-use Rattle.std.specs.Prelude.{◌≡◌, ◌≢◌, ℕ, ◌<◌, Bool, true, false, ◌||◌, List, [], ◌∷◌, ◌++◌, length, map, slice_index_or}
+use Rattle.std.specs.Prelude.{◌&&◌, ◌≡◌, ◌≢◌, ℕ, ◌<◌, Bool, true, false, ◌||◌, List, [], ◌∷◌, ◌++◌, length, map, slice_index_or}
 use Rattle.std.specs.List.{AllByRecursion, flat_map}
 use Rattle.fw_time.specs.Stamp.{Stamp}
 use Rattle.fw_frontier.specs.Frontier.{Frontier, Within}
@@ -11,7 +11,7 @@ use Rattle.fw_flow.specs.Dataflow.{System, Dataflow, kind_of, policy_of, sender,
 use Rattle.fw_flow.specs.NodeFunction.{event_stamp, sent_by}
 use Rattle.fw_flow.specs.Projection.{events_at}
 use Rattle.fw_model.specs.Covers.{stamp_of_notice}
-use Rattle.fw_model.specs.EventStamps.{causes_in, base_of_sent, AreStampsIf}
+use Rattle.fw_model.specs.EventStamps.{causes_in, base_of_sent, tells_sent, AreStampsIf}
 use Rattle.fw_model.specs.Filtering.{AreFrontiers, kept_events}
 use Rattle.fw_model.specs.History.{delivered_messages, AreEventsInDomain, IsLegal}
 use Rattle.fw_model.specs.Thinned.{IsThinned, IsThinnedIf}
@@ -71,7 +71,7 @@ pub record IsTraceIf (whole : Bool) (sys : System) (h : List Event) (p : ℕ) (b
       → IsThinnedIf whole base (map (λ (m : Message). m.at) (delivered_messages h d)) (delivered_on traces d)
   pub notified : IsThinnedIf whole base (flat_map (stamp_of_notice p) h) (stamps_notified traces p)
   pub sent : HasOutEdge sys.flow p → is_sequence_kind (kind_of sys.flow p) ≡ false
-      → IsThinnedIf whole (base_of_sent whole sys.flow p base) (causes_in (sent_by sys p (events_at sys.flow p h))) (stamps_where_sent traces p)
+      → IsThinnedIf (whole && tells_sent sys.flow p) (base_of_sent sys.flow p base) (causes_in (sent_by sys p (events_at sys.flow p h))) (stamps_where_sent traces p)
   pub counted : counts_sent sys.flow p ≡ true → IsSentTally base (sent_by sys p (events_at sys.flow p h)) (counted_of traces p)
 
 -- the same, where the whole is asked of a node that takes checkpoints

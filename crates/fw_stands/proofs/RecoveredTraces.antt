@@ -18,7 +18,7 @@ use Rattle.fw_flow.specs.Projection.{events_at}
 use Rattle.fw_model.specs.Choice.{IsCutWithin, cut_of, kept_of}
 use Rattle.fw_model.specs.Floors.{IsFloor}
 use Rattle.fw_model.specs.Covers.{set_of}
-use Rattle.fw_model.specs.EventStamps.{AreStampsIf, StandForNumbered, StandForSent, base_of_sent}
+use Rattle.fw_model.specs.EventStamps.{AreStampsIf, StandForNumbered, StandForSent, base_of_sent, tells_sent}
 use Rattle.fw_model.specs.Filtering.{messages_from}
 use Rattle.fw_model.specs.Machine.{Machine, events, front_of, is_failed, no_stamps}
 use Rattle.fw_model.specs.Offers.{AreAtEdgeStamps, counted_on_edge, stamps_on}
@@ -140,8 +140,8 @@ no-stamps whole sys p base stamps a = record {
   in_domain = subst (AllByRecursion (λ t. in_domain (bounds_of sys.flow p) t ≡ true)) (sym a.notified) tt;
   delivered = λ d at. none-if whole base (stamps_on d stamps.delivered) (ap (stamps_on d) a.delivered);
   notified = none-if whole base stamps.notified a.notified;
-  sent = λ n e l s. subst (λ ms. StandForSent whole sys [] p (base_of_sent whole sys.flow p base) e (counted_on_edge e ms)) (sym a.sent)
-      (record { of_cause = tt; thinned = none-if whole (base_of_sent whole sys.flow p base) [] refl });
+  sent = λ n e l s. subst (λ ms. StandForSent (whole && tells_sent sys.flow p) sys [] p (base_of_sent sys.flow p base) e (counted_on_edge e ms)) (sym a.sent)
+      (record { of_cause = tt; thinned = none-if (whole && tells_sent sys.flow p) (base_of_sent sys.flow p base) [] refl });
   numbered = λ n e l s. subst (StandForNumbered sys [] e) (sym a.sent) (none-thinned _ [] refl);
 }
 

@@ -58,8 +58,8 @@ pub record AreStampsIf (whole : Bool) (sys : System) (h : List Event) (p : ℕ) 
   pub notified : IsThinnedIf whole base (flat_map (stamp_of_notice p) h) stamps.notified
   pub sent : is_sequence_kind (kind_of sys.flow p) ≡ false → (e : ℕ) → e < length sys.flow.edges → sender sys.flow e ≡ p
       → StandForSent (whole && tells_sent sys.flow p) sys h p (base_of_sent sys.flow p base) e (counted_on_edge e stamps.sent)
-  pub numbered : is_sequence_kind (kind_of sys.flow p) ≡ true → (e : ℕ) → e < length sys.flow.edges → sender sys.flow e ≡ p
-      → StandForNumbered sys h e stamps.sent
+  pub numbered : is_sequence_kind (kind_of sys.flow p) ≡ true → tells_sent sys.flow p ≡ true → (e : ℕ) → e < length sys.flow.edges
+      → sender sys.flow e ≡ p → StandForNumbered sys h e stamps.sent
 
 -- the same, where the whole is asked of a node that takes checkpoints
 abbrev pub AreStampsOf : System → List Event → ℕ → Frontier → Stamps → Type 0

@@ -1,5 +1,6 @@
 -- Restore candidates, and which choice of them is consistent and which is largest.
-use Rattle.std.specs.Prelude.{◌≡◌, ◌⊎◌, ℕ, ◌<◌, ◌≤◌, Bool, true, false, List, [], ◌∷◌, length, slice_index_or, filter}
+use Rattle.std.specs.Prelude.{◌≡◌, ◌⊎◌, ℕ, ◌<◌, ◌≤◌, Bool, true, false, not, ◌&&◌, ◌||◌, ◌==◌, List, [], ◌∷◌, length, slice_index_or, filter}
+use Rattle.std.specs.List.{list_any}
 use Rattle.fw_time.specs.declared.stamp.Bounds.{Bounds}
 use Rattle.fw_frontier.specs.Frontier.{Frontier, Within}
 use Rattle.fw_frontier.specs.Front.{Front, IsCanonical}
@@ -11,6 +12,7 @@ use Rattle.fw_flow.specs.declared.restoring.Restoring.TheVariants.{Batches, Boun
 use Rattle.fw_flow.specs.Dataflow.{System, Dataflow, sender, receiver, bounds_of, node_frontier}
 use Rattle.fw_flow.specs.Restoring.{way_of}
 use Rattle.fw_flow.specs.NodeFunction.{event_node, event_stamp}
+use Rattle.fw_flow.specs.declared.event.Event.{Event}
 use Rattle.fw_model.specs.Covers.{Covers, covers_in, set_of}
 use Rattle.fw_model.specs.History.{injected_count, is_exhausted}
 use Rattle.fw_model.specs.Machine.{Machine, SerialEvent, Write, Written, checkpoint, logged_event, Stage, in_flight, acknowledged, collected, events, no_stamps, front_of, ack_count_of}
@@ -48,6 +50,20 @@ IsLogged serial (write ∷ writes) = NamesIt write.written ⊎ IsLogged serial w
     NamesIt : Written → Type 0
     NamesIt (checkpoint g low) = ⊥
     NamesIt (logged_event s) = (s ≡ serial) × (is_counted ever write.stage ≡ true)
+
+-- whether what is written logs the event of this serial
+abbrev pub logs_serial : ℕ → Written → Bool
+logs_serial serial (checkpoint f low) = false
+logs_serial serial (logged_event s) = s == serial
+
+-- whether an acknowledged write logs it, collected or not
+abbrev pub is_serial_logged : ℕ → List Write → Bool
+is_serial_logged serial writes = list_any (λ (write : Write). logs_serial serial write.written && is_counted ever write.stage) writes
+
+-- the history without the events of node p that no acknowledged write logs
+abbrev pub logged_history : System → Machine → ℕ → List Event
+logged_history sys state p =
+    events (filter (λ (v : SerialEvent). not (event_node sys.flow v.event == p) || is_serial_logged v.serial state.writes) state.history)
 
 -- each event of node p inside f is logged
 abbrev pub AllLogged : System → ℕ → Frontier → List Write → List SerialEvent → Type 0

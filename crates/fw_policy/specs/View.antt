@@ -1,22 +1,29 @@
 -- What an engine knows of a state of the machine, for what its nodes offer to a recovery.
-use Rattle.std.specs.Prelude.{◌≡◌, ◌↔◌, ◌⊎◌, ℕ, suc, Bool, true, if◌then◌else◌, List, [], ◌∷◌, length}
-use Rattle.std.specs.List.{AllZip, Contains}
-use Rattle.fw_time.specs.Stamp.{Stamp}
+use Rattle.std.specs.Prelude.{◌≡◌, ◌↔◌, ◌⊎◌, ℕ, suc, Bool, true, false, if◌then◌else◌, List, [], ◌∷◌, length, map}
+use Rattle.std.specs.List.{AllByRecursion, AllZip, Contains, flat_map}
+use Rattle.fw_time.specs.Stamp.{Stamp, leq}
 use Rattle.fw_frontier.specs.Frontier.{Frontier}
 use Rattle.fw_frontier.specs.Front.{Front}
+use Rattle.fw_flow.specs.declared.choice.Stamps.{Stamps}
+use Rattle.fw_flow.specs.declared.event.Message.{Message}
 use Rattle.fw_flow.specs.declared.kind.Kind.{Kind}
 use Rattle.fw_flow.specs.declared.kind.Kind.TheVariants.{Input, OutputEpoch, OutputNumber}
 use Rattle.fw_flow.specs.declared.kind.Policy.TheVariants as policy
-use Rattle.fw_flow.specs.Dataflow.{System, Dataflow, kind_of, policy_of, node_frontier, is_sequence_kind}
+use Rattle.fw_flow.specs.declared.restoring.Restoring.{Restoring}
+use Rattle.fw_flow.specs.declared.restoring.Restoring.TheVariants.{Batches, Bound, Anything, Checkpoints, Events}
+use Rattle.fw_flow.specs.Dataflow.{System, Dataflow, kind_of, policy_of, receiver, node_frontier, is_sequence_kind}
 use Rattle.fw_flow.specs.NodeFunction.{event_node, event_stamp}
 use Rattle.fw_flow.specs.Projection.{IsSentTable}
+use Rattle.fw_flow.specs.Restoring.{way_of}
 use Rattle.fw_flow.specs.WellFormed.{IsWellFormedSystem}
-use Rattle.fw_model.specs.Choice.{IsLogged, kept, is_counted}
+use Rattle.fw_model.specs.Choice.{IsLogged, kept, is_counted, logged_history}
+use Rattle.fw_model.specs.Covers.{stamp_of_notice}
 use Rattle.fw_model.specs.EventStamps.{AreStampsIf, AreStampsOf}
 use Rattle.fw_model.specs.Floors.{IsFloor}
-use Rattle.fw_model.specs.History.{injected_count, is_exhausted}
+use Rattle.fw_model.specs.History.{injected_count, is_exhausted, delivered_messages}
 use Rattle.fw_model.specs.Machine.{Machine, SerialEvent, Write, checkpoint, logged_event, events, front_of, is_failed, ack_count_of}
 use Rattle.fw_model.specs.Machine.{Written as WrittenBy}
+use Rattle.fw_model.specs.Offers.{stamps_on}
 use Rattle.fw_model.specs.Reached.{IsReached}
 use Rattle.fw_model.specs.Writes.{takes_checkpoints}
 use Rattle.fw_policy.specs.Entries.{IsRecorded, uncollected}
@@ -51,6 +58,40 @@ pub record IsUnlogged (sys : System) (state : Machine) (p : ℕ) (t : Stamp) : T
 -- node p failed, and an event of it at t was not logged
 abbrev pub IsLostAt : System → Machine → ℕ → Stamp → Type 0
 IsLostAt sys state p t = (is_failed state p ≡ true) × IsUnlogged sys state p t
+
+-- what is kept of stamps is among all of them, and has each that was logged and is outside a base
+abbrev pub AreLogged : Frontier → List Stamp → List Stamp → List Stamp → Type 0
+AreLogged base all logged kept = AllByRecursion (Contains all) kept × AllByRecursion (λ t. base t ≡ false → Contains kept t) logged
+
+-- The stamps are some at which something was delivered to node p, or it was notified: of those outside a base each that an acknowledged
+-- write logs.
+pub record AreStampsLogged (sys : System) (state : Machine) (p : ℕ) (base : Frontier) (stamps : Stamps) : Type 0 where
+  pub delivered : (d : ℕ) → receiver sys.flow d ≡ p
+      → AreLogged base (map (λ (m : Message). m.at) (delivered_messages (events state.history) d))
+      (map (λ (m : Message). m.at) (delivered_messages (logged_history sys state p) d)) (stamps_on d stamps.delivered)
+  pub notified : AreLogged base (flat_map (stamp_of_notice p) (events state.history))
+      (flat_map (stamp_of_notice p) (logged_history sys state p)) stamps.notified
+
+-- what is to be known of the stamps of node p above a floor, by the way in which it is restored, where it failed: of an input all, of a
+-- node that logs its events those that are logged, and of another one no more than that it was notified of these
+abbrev pub IsKnownOfFailed : System → List Front → Machine → ℕ → Stamps → Restoring → Type 0
+IsKnownOfFailed sys floor state p stamps Batches = AreStampsOf sys (events state.history) p (base_of sys floor state p) stamps
+IsKnownOfFailed sys floor state p stamps Events = AreStampsLogged sys state p (base_of sys floor state p) stamps
+IsKnownOfFailed sys floor state p stamps way = AllByRecursion (Contains (flat_map (stamp_of_notice p) (events state.history))) stamps.notified
+
+-- what is to be known of them of any node: all, where it did not fail
+abbrev pub IsKnownOf : System → List Front → Machine → ℕ → Stamps → Bool → Type 0
+IsKnownOf sys floor state p stamps true = IsKnownOfFailed sys floor state p stamps (way_of sys.flow p)
+IsKnownOf sys floor state p stamps false = AreStampsOf sys (events state.history) p (base_of sys floor state p) stamps
+
+-- some stamp of these is at or below t
+abbrev pub HasAtOrBelow : (Stamp → Type 0) → Stamp → Type 0
+HasAtOrBelow P t = (s : Stamp) × P s × (leq s t ≡ true)
+
+-- of what is settled of node p the stamps tell which lies at or above one that was lost
+abbrev pub KnowsLosses : System → Machine → ℕ → List Stamp → Type 0
+KnowsLosses sys state p gone = (t : Stamp) → node_frontier sys.flow p (front_of state.settled p) t ≡ true
+    → HasAtOrBelow (Contains gone) t ↔ HasAtOrBelow (IsLostAt sys state p) t
 
 -- where a node of the kind meets what is outside
 abbrev pub IsBorderOf : System → Machine → ℕ → Kind → Border → Type 0
@@ -87,12 +128,12 @@ AreReadAs sys state entries writes = AllZip (IsReadAs sys state) entries writes
 
 -- what is known of node p is so in the state above a floor, where these nodes count as failed
 pub record IsNodeViewOf (sys : System) (state : Machine) (lost : ℕ → Bool) (floor : List Front) (p : ℕ) (node : NodeView) : Type 0 where
-  pub stamps : AreStampsOf sys (events state.history) p (base_of sys floor state p) node.stamps
+  pub stamps : IsKnownOf sys floor state p node.stamps (lost p)
   pub table : is_sequence_kind (kind_of sys.flow p) ≡ true → IsSentTable sys (events state.history) p node.table
   pub settled : node.settled ≡ front_of state.settled p
   pub low : node.low ≡ front_of state.low p
   pub border : IsBorderOf sys state p (kind_of sys.flow p) node.border
-  pub losses : policy_of sys.flow p ≡ policy.Full → (t : Stamp) → Contains node.lost t ↔ IsLostAt sys state p t
+  pub losses : policy_of sys.flow p ≡ policy.Full → KnowsLosses sys state p node.lost
   pub failed : node.failed ≡ lost p
 
 -- the views are those of the nodes from p on

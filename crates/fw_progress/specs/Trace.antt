@@ -1,6 +1,6 @@
 -- When traces stand for the events of a node.
-use Rattle.std.specs.Prelude.{◌&&◌, ◌≡◌, ◌≢◌, ℕ, ◌<◌, Bool, true, false, ◌||◌, List, [], ◌∷◌, ◌++◌, length, map, slice_index_or}
-use Rattle.std.specs.List.{AllByRecursion, flat_map}
+use Rattle.std.specs.Prelude.{◌&&◌, ◌≡◌, ◌≢◌, ℕ, ◌<◌, Bool, true, false, List, [], ◌∷◌, ◌++◌, length, map, slice_index_or}
+use Rattle.std.specs.List.{AllByRecursion, Contains, flat_map}
 use Rattle.fw_time.specs.Stamp.{Stamp}
 use Rattle.fw_frontier.specs.Frontier.{Frontier, Within}
 use Rattle.fw_frontier.specs.Front.{Front}
@@ -43,10 +43,9 @@ no_tally = record { inside = 0; outside = [] }
 abbrev pub counted_of : Traces → ℕ → SentTally
 counted_of traces p = slice_index_or traces.counted.items p no_tally
 
--- whether it is counted how many messages a node sent: where it takes checkpoints, which tell it, and of a sequence, whose messages
--- are numbered by it
+-- whether it is counted how many messages a node sent: where it takes checkpoints, which tell it
 abbrev pub counts_sent : Dataflow → ℕ → Bool
-counts_sent flow p = takes_checkpoints (policy_of flow p) || is_sequence_kind (kind_of flow p)
+counts_sent flow p = takes_checkpoints (policy_of flow p)
 
 -- There is a list for each edge and node.
 pub record HaveLists (flow : Dataflow) (traces : Traces) : Type 0 where
@@ -65,7 +64,7 @@ HasOutEdge flow p = (e : ℕ) × (e < length flow.edges) × (sender flow e ≡ p
 
 -- The traces of node p are those of its events in a history, thinned inside a base: where something was delivered on its in-edges,
 -- of what it was notified, where its events sent something, if an edge leads from it, and how many messages they sent. Where perhaps
--- not the whole is asked, of the stamps inside the base some may be missing, and of a node that can send again those where it sent.
+-- not the whole is asked, of the stamps inside the base some may be missing. Where a node sent that can send it again need not be told.
 pub record IsTraceIf (whole : Bool) (sys : System) (h : List Event) (p : ℕ) (base : Frontier) (traces : Traces) : Type 0 where
   pub delivered : (d : ℕ) → d < length sys.flow.edges → receiver sys.flow d ≡ p
       → IsThinnedIf whole base (map (λ (m : Message). m.at) (delivered_messages h d)) (delivered_on traces d)
@@ -77,6 +76,24 @@ pub record IsTraceIf (whole : Bool) (sys : System) (h : List Event) (p : ℕ) (b
 -- the same, where the whole is asked of a node that takes checkpoints
 abbrev pub IsTraceOf : System → List Event → ℕ → Frontier → Traces → Type 0
 IsTraceOf sys h p base traces = IsTraceIf (takes_checkpoints (policy_of sys.flow p)) sys h p base traces
+
+-- What is kept of node p's traces is of its events in a history; any of it may be missing.
+pub record IsTraceAmong (sys : System) (h : List Event) (p : ℕ) (traces : Traces) : Type 0 where
+  pub delivered : (d : ℕ) → d < length sys.flow.edges → receiver sys.flow d ≡ p
+      → AllByRecursion (Contains (map (λ (m : Message). m.at) (delivered_messages h d))) (delivered_on traces d)
+  pub notified : AllByRecursion (Contains (flat_map (stamp_of_notice p) h)) (stamps_notified traces p)
+  pub sent : HasOutEdge sys.flow p → is_sequence_kind (kind_of sys.flow p) ≡ false
+      → AllByRecursion (Contains (causes_in (sent_by sys p (events_at sys.flow p h)))) (stamps_where_sent traces p)
+
+-- the stamps outside a base are among these
+abbrev pub HasOutside : Frontier → List Stamp → List Stamp → Type 0
+HasOutside base stamps kept = AllByRecursion (λ t. base t ≡ false → Contains kept t) stamps
+
+-- The traces of node p have what was delivered in these events, and of what it was notified, outside a base.
+pub record HasTraceOutside (flow : Dataflow) (these : List Event) (p : ℕ) (base : Frontier) (traces : Traces) : Type 0 where
+  pub delivered : (d : ℕ) → d < length flow.edges → receiver flow d ≡ p
+      → HasOutside base (map (λ (m : Message). m.at) (delivered_messages these d)) (delivered_on traces d)
+  pub notified : HasOutside base (flat_map (stamp_of_notice p) these) (stamps_notified traces p)
 
 -- the traces of each node are so, thinned inside its base
 abbrev pub AreTracesOf : System → List Event → (ℕ → Frontier) → Traces → Type 0

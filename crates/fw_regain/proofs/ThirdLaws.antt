@@ -12,7 +12,7 @@ use Rattle.fw_frontier.specs.Front.{Front}
 use Rattle.fw_frontier.proofs.NamesLaws.{frontier-closed}
 use Rattle.fw_flow.specs.Dataflow.{System, Dataflow, bounds_of, node_frontier}
 use Rattle.fw_flow.specs.NodeFunction.{event_node, event_stamp}
-use Rattle.fw_model.specs.Choice.{ever, kept, is_counted, IsLogged, AllLogged, IsRestorable, IsCandidate}
+use Rattle.fw_model.specs.Choice.{ever, kept, is_counted, IsLogged, AllLogged, IsRestorable, IsCandidate, logs_serial, is_serial_logged}
 use Rattle.fw_model.specs.Machine.{Machine, SerialEvent, Write, Written, checkpoint, logged_event, Stage, in_flight, acknowledged, collected, front_of}
 use Rattle.fw_model.specs.Steps.{is_given_up}
 use Rattle.fw_model.proofs.AskedLaws.{IsAskedWell, IsWriteAskedWell, reached-all, given-stamp}
@@ -20,7 +20,7 @@ use Rattle.fw_model.proofs.FloorLaws.{floor_cut, low-floor}
 use Rattle.fw_model.proofs.ThinnedLaws.{each-contained}
 use Rattle.fw_model.proofs.WriteLaws.{HoldsOfOne, NamesEvent, LogsEvent, some-logged, logged-some}
 use Rattle.fw_regain.specs.Down.{down}
-use Rattle.fw_regain.specs.Third.{logs_serial, is_serial_logged, stamps_not_logged, ThirdStaysWhereAllAreDown, ThirdFrontIsOffered, ThirdHoldsLow, IsKeptLogged, NothingOutsideLowIsCollected}
+use Rattle.fw_regain.specs.Third.{stamps_not_logged, ThirdStaysWhereAllAreDown, ThirdFrontIsOffered, ThirdHoldsLow, IsKeptLogged, NothingOutsideLowIsCollected}
 use Rattle.fw_regain.proofs.DownLaws.{logged-land}
 use Rattle.fw_regain.proofs.GreatestLaws.{each-from}
 

@@ -11,19 +11,10 @@ use Rattle.fw_flow.specs.Dataflow.{System, bounds_of, node_frontier}
 use Rattle.fw_flow.specs.NodeFunction.{event_node, event_stamp}
 use Rattle.fw_flow.specs.Restoring.{way_of}
 use Rattle.fw_flow.specs.WellFormed.{IsWellFormedSystem}
-use Rattle.fw_model.specs.Choice.{ever, kept, is_counted, IsCandidate}
-use Rattle.fw_model.specs.Machine.{Machine, SerialEvent, Write, Written, checkpoint, logged_event, acknowledged, front_of}
+use Rattle.fw_model.specs.Choice.{kept, IsCandidate, is_serial_logged}
+use Rattle.fw_model.specs.Machine.{Machine, SerialEvent, Write, logged_event, acknowledged, front_of}
 use Rattle.fw_model.specs.Reached.{IsReached}
 use Rattle.fw_regain.specs.Down.{down}
-
--- whether what is written logs the event of this serial
-abbrev pub logs_serial : ℕ → Written → Bool
-logs_serial serial (checkpoint f low) = false
-logs_serial serial (logged_event s) = s == serial
-
--- whether an acknowledged write logs it, collected or not
-abbrev pub is_serial_logged : ℕ → List Write → Bool
-is_serial_logged serial writes = list_any (λ (write : Write). logs_serial serial write.written && is_counted ever write.stage) writes
 
 -- the stamps of the events of node p that none logs
 abbrev pub stamps_not_logged : System → Machine → ℕ → List Stamp

@@ -1,6 +1,7 @@
 pub mod BroughtUp
 pub mod EffectText
 pub mod Faults
+pub mod Held
 pub mod Kept
 pub mod Logging
 pub mod Places

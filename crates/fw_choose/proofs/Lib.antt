@@ -1,2 +1,4 @@
 pub mod CollectLaws
 pub mod ViewLaws
+pub mod KnownLaws
+pub mod HeldLaws

@@ -16,6 +16,7 @@ use Rattle.fw_flow.specs.declared.event.Event.{Event}
 use Rattle.fw_flow.specs.declared.event.Message.{Message}
 use Rattle.fw_flow.specs.declared.kind.Kind.{Kind}
 use Rattle.fw_flow.specs.declared.kind.Kind.TheVariants.{Input, OutputEpoch, OutputNumber, Sequence}
+use Rattle.fw_flow.specs.declared.kind.Policy.TheVariants as policy
 use Rattle.fw_flow.specs.Dataflow.{System, Dataflow, kind_of, sender, receiver, bounds_of, is_input_kind, is_output_kind, is_sequence_kind, greatest_number, HasEpochs, policy_of}
 use Rattle.fw_flow.specs.NodeFunction.{event_node, event_stamp}
 use Rattle.fw_flow.specs.Projection.{IsSentTable}
@@ -24,12 +25,14 @@ use Rattle.fw_model.specs.Choice.{kept, IsCandidate, IsConsistentBy, IsLargestBy
 use Rattle.fw_model.specs.Choosing.{CanChoose, choice_at}
 use Rattle.fw_model.specs.Covers.{stamp_of_notice}
 use Rattle.fw_model.specs.EventStamps.{StandForSent, StandForNumbered, AreStampsOf, IsOfCause, base_of_sent, tells_sent, AreStampsIf}
+use Rattle.fw_model.specs.Floors.{IsFloor}
 use Rattle.fw_model.specs.History.{injected_count, delivered_messages, IsLegal}
 use Rattle.fw_model.specs.Machine.{Machine, SerialEvent, events, front_of}
 use Rattle.fw_model.specs.Offers.{AreAtEdgeStamps, HasOneCause, IsOffered, AreOffersAbove, RecordsAscend, covers_of, counted_on_edge, stamps_on}
 use Rattle.fw_model.proofs.AskedLaws.{reached-all}
 use Rattle.fw_model.proofs.ChoosingLaws.{recovery-has_choice}
 use Rattle.fw_model.proofs.DomainLaws.{has_epochs}
+use Rattle.fw_model.proofs.FloorLaws.{low-floor}
 use Rattle.fw_model.proofs.InputLaws.{injected-few}
 use Rattle.fw_model.proofs.LegalLaws.{legal-in_domain}
 use Rattle.fw_model.proofs.PoorerLaws.{consistent-above, largest-above}
@@ -44,7 +47,7 @@ use Rattle.fw_policy.specs.declared.view.NodeView.{NodeView}
 use Rattle.fw_policy.specs.Entries.{AreEntriesOf, uncollected}
 use Rattle.fw_record.specs.OfNode.{AreOfDomain}
 use Rattle.fw_policy.specs.Shaped.{FitsKind, IsWrittenOf, IsViewFor, AreViewsFrom, FitsFlow}
-use Rattle.fw_policy.specs.View.{IsBorderOf, IsLostAt, IsNodeViewOf, AreNodeViewsFrom, IsViewOf, base_of}
+use Rattle.fw_policy.specs.View.{IsBorderOf, IsKnownOf, IsLostAt, IsNodeViewOf, AreNodeViewsFrom, IsViewOf, KnowsLosses, base_of}
 use Rattle.fw_policy.proofs.ReadLaws.{entries-read}
 use Rattle.fw_keep.specs.declared.entry.Entry.{Entry}
 use Rattle.fw_keep.specs.Stored.{Records}
@@ -55,13 +58,14 @@ use Rattle.fw_border.specs.Sources.{SourceState}
 use Rattle.fw_stands.specs.Parts.{IsOutputOf, IsSourceOf}
 use Rattle.fw_running.specs.declared.running.Running.{Running}
 use Rattle.fw_choose.specs.declared.outlook.Outlook.{Outlook}
-use Rattle.fw_choose.specs.Outlooks.{IsOutlookBy}
+use Rattle.fw_choose.specs.Outlooks.{IsOutlookBy, IsOutlookByHeld, IsOutlookOf}
 use Rattle.fw_choose.specs.declared.viewing.Lost.{Lost}
 use Rattle.fw_choose.specs.declared.viewing.Lost.TheVariants.{Failed, All}
-use Rattle.fw_choose.specs.Chosen.{is_lost, counts_as_failed, IsChosen, IsViewBy, AreViewsBy, IsBorderBy, is_on_its_edge, of_domains}
+use Rattle.fw_choose.specs.Chosen.{is_lost, counts_as_failed, IsChosen, IsViewBy, IsViewByHeld, AreViewsBy, IsBorderBy, is_on_its_edge, of_domains}
+use Rattle.fw_choose.proofs.KnownLaws.{losses-known, stamps-known}
 use Rattle.fw_running.specs.Kept.{source_of, output_of, lost_at, is_down}
 use Rattle.fw_running.specs.Shaped.{IsShaped}
-use Rattle.fw_running.specs.Stands.{Stands}
+use Rattle.fw_running.specs.Stands.{Stands, StandsApart}
 use Rattle.fw_model.specs.Writes.{takes_checkpoints}
 use Rattle.fw_model.specs.Thinned.{IsThinnedIf}
 
@@ -73,18 +77,67 @@ chosen-is All sys state choice k = k
 
 -- the views and entries are what is known in the state
 view-of : (sys : System) (records : Option Records) (state : Machine) (running : Running) (lost : Lost) (view : List NodeView) (entries : List Entry)
-    → AreViewsBy running lost (length running.flow.nodes) view → entries ≡ running.parts.keep.entries → (s : Stands sys running records state)
-    → IsViewOf sys state (is_lost lost state) s.traces.floor view entries
-view-of sys records state running lost view entries v e s = record {
-  well_formed = s.apart.well_formed;
-  reached = s.apart.reached;
-  above = s.traces.above;
-  one_each = v.one_each ∙ ap (λ (f : Dataflow). length f.nodes) s.apart.flow;
-  nodes = v.of_state sys records state s;
-  written = entries-read sys state entries (uncollected state) (subst (λ es. AreEntriesOf sys state es (uncollected state)) (sym e) s.apart.entries);
+    → length view ≡ length running.flow.nodes → entries ≡ running.parts.keep.entries → StandsApart sys running records state
+    → (floor : List Front) → IsFloor sys state floor → AreNodeViewsFrom sys state (is_lost lost state) floor 0 view
+    → IsViewOf sys state (is_lost lost state) floor view entries
+view-of sys records state running lost view entries one_each e a floor above nodes = record {
+  well_formed = a.well_formed;
+  reached = a.reached;
+  above = above;
+  one_each = one_each ∙ ap (λ (f : Dataflow). length f.nodes) a.flow;
+  nodes = nodes;
+  written = entries-read sys state entries (uncollected state) (subst (λ es. AreEntriesOf sys state es (uncollected state)) (sym e) a.entries);
 }
 
--- some choice is consistent in each reached state, so the descent over what is offered is that of the machine
+-- what is offered by what is known is what the machine offers above a floor, and the descent over it is that of the machine, if some
+-- choice of what is offered is consistent
+record IsOutlookFrom (flow : Dataflow) (view : List NodeView) (entries : List Entry) (outlook : Outlook) : Type 0 where
+  above : (sys : System) (state : Machine) (failed : ℕ → Bool) (floor : List Front) → sys.flow ≡ flow → (known : IsViewOf sys state failed floor view entries)
+      → AreOffersAbove sys state failed (choice_at floor known.above.notices) outlook.candidates.items
+  largest : (some : Choice) → RecordsAscend flow outlook.candidates.items
+      → IsConsistentBy flow (covers_of flow outlook.candidates.items) (IsOffered flow outlook.candidates.items) some
+      → IsLargestBy flow (covers_of flow outlook.candidates.items) (IsOffered flow outlook.candidates.items) outlook.descent.choice
+  trail : HasConsistent flow outlook.candidates.items → IsTrail flow outlook.candidates.items outlook.descent.trail outlook.descent.choice
+
+-- some choice is consistent in each reached state
+outlook-in : (lost : Lost) (view : List NodeView) (entries : List Entry) (outlook : Outlook) (sys : System) (state : Machine) (floor : List Front)
+    → IsOutlookFrom sys.flow view entries outlook → IsViewOf sys state (is_lost lost state) floor view entries → IsOutlookOf sys state lost outlook
+outlook-in lost view entries outlook sys state floor from known =
+    let os = outlook.candidates.items in
+    let choice = outlook.descent.choice in
+    let trail = outlook.descent.trail in
+    let failed = is_lost lost state in
+    let w = known.well_formed in
+    let reached = known.reached in
+    let at : Choice = choice_at floor known.above.notices in
+    let a : AreOffersAbove sys state failed at os = from.above sys state failed floor refl known in
+    let can : CanChoose sys state failed = recovery-has_choice sys w reached.0 reached.1 state reached.2 failed in
+    let consistent = consistent-above sys state failed at os can.choice w.flow a can.consistent in
+    let has : HasConsistent sys.flow os = (a.ascending, (can.choice, consistent)) in
+    let by_data : IsTrailBy sys.flow (covers_of sys.flow os) (IsOffered sys.flow os) trail choice = trail-by_offers sys.flow os trail choice has (from.trail has) in
+    record {
+      floor = at;
+      offers = a;
+      choice = chosen-is lost sys state choice (largest-above sys state failed at os choice w.flow a (from.largest can.choice a.ascending consistent));
+      trail = (trail-above sys state failed at os trail choice w.flow a).0 by_data;
+      by_data = by_data;
+    }
+
+outlook-from : (running : Running) (view : List NodeView) (entries : List Entry) (os : List Offer) (outlook : Outlook) → os ≡ outlook.candidates.items
+    → ((sys : System) (state : Machine) (failed : ℕ → Bool) (floor : List Front) → sys.flow ≡ running.flow → (known : IsViewOf sys state failed floor view entries)
+    → AreOffersAbove sys state failed (choice_at floor known.above.notices) outlook.candidates.items)
+    → ((some : Choice) → RecordsAscend running.flow os → IsConsistentBy running.flow (covers_of running.flow os) (IsOffered running.flow os) some
+    → IsLargestBy running.flow (covers_of running.flow os) (IsOffered running.flow os) outlook.descent.choice)
+    → (HasConsistent running.flow os → IsTrail running.flow os outlook.descent.trail outlook.descent.choice)
+    → IsOutlookFrom running.flow view entries outlook
+outlook-from running view entries others outlook is exact give found = record {
+  above = exact;
+  largest = subst (λ (xs : List Offer). (some : Choice) → RecordsAscend running.flow xs → IsConsistentBy running.flow (covers_of running.flow xs) (IsOffered running.flow xs) some
+      → IsLargestBy running.flow (covers_of running.flow xs) (IsOffered running.flow xs) outlook.descent.choice) is give;
+  trail = subst (λ (xs : List Offer). HasConsistent running.flow xs → IsTrail running.flow xs outlook.descent.trail outlook.descent.choice) is found;
+}
+
+-- the outlook is that of each state for which the engine stands
 pub outlook-by : (running : Running) (lost : Lost) (view : List NodeView) (entries : List Entry) (os : List Offer) (outlook : Outlook)
     → AreViewsBy running lost (length running.flow.nodes) view → entries ≡ running.parts.keep.entries → os ≡ outlook.candidates.items
     → ((sys : System) (state : Machine) (failed : ℕ → Bool) (floor : List Front) → sys.flow ≡ running.flow → (known : IsViewOf sys state failed floor view entries)
@@ -93,35 +146,24 @@ pub outlook-by : (running : Running) (lost : Lost) (view : List NodeView) (entri
     → IsLargestBy running.flow (covers_of running.flow os) (IsOffered running.flow os) outlook.descent.choice)
     → (HasConsistent running.flow os → IsTrail running.flow os outlook.descent.trail outlook.descent.choice)
     → IsOutlookBy running lost outlook
-unfolding view-of
 outlook-by running lost view entries others outlook v e is exact give found = λ sys records state s.
-    let os = outlook.candidates.items in
-    let choice = outlook.descent.choice in
-    let trail = outlook.descent.trail in
-    let failed = is_lost lost state in
-    let w = s.apart.well_formed in
-    let reached = s.apart.reached in
-    let floor : Choice = choice_at s.traces.floor s.traces.above.notices in
-    let a : AreOffersAbove sys state failed floor os =
-    exact sys state failed s.traces.floor (sym s.apart.flow) (view-of sys records state running lost view entries v e s) in
-    let can : CanChoose sys state failed = recovery-has_choice sys w reached.0 reached.1 state reached.2 failed in
-    let consistent = consistent-above sys state failed floor os can.choice w.flow a can.consistent in
-    let has : HasConsistent sys.flow os = (a.ascending, (can.choice, consistent)) in
-    let largest : IsLargestBy sys.flow (covers_of sys.flow os) (IsOffered sys.flow os) choice =
-    subst (λ f. (some : Choice) → RecordsAscend f os → IsConsistentBy f (covers_of f os) (IsOffered f os) some → IsLargestBy f (covers_of f os) (IsOffered f os) choice) s.apart.flow
-    (subst (λ (xs : List Offer). (some : Choice) → RecordsAscend running.flow xs → IsConsistentBy running.flow (covers_of running.flow xs) (IsOffered running.flow xs) some
-    → IsLargestBy running.flow (covers_of running.flow xs) (IsOffered running.flow xs) choice) is give) can.choice a.ascending consistent in
-    let led : IsTrail sys.flow os trail choice =
-    subst (λ f. HasConsistent f os → IsTrail f os trail choice) s.apart.flow
-    (subst (λ (xs : List Offer). HasConsistent running.flow xs → IsTrail running.flow xs trail choice) is found) has in
-    let by_data : IsTrailBy sys.flow (covers_of sys.flow os) (IsOffered sys.flow os) trail choice = trail-by_offers sys.flow os trail choice has led in
-    record {
-      floor = floor;
-      offers = a;
-      choice = chosen-is lost sys state choice (largest-above sys state failed floor os choice w.flow a largest);
-      trail = (trail-above sys state failed floor os trail choice w.flow a).0 by_data;
-      by_data = by_data;
-    }
+    outlook-in lost view entries outlook sys state s.traces.floor
+    (subst (λ f. IsOutlookFrom f view entries outlook) s.apart.flow (outlook-from running view entries others outlook is exact give found))
+    (view-of sys records state running lost view entries v.one_each e s.apart s.traces.floor s.traces.above (v.of_state sys records state s))
+
+-- and of each of which it holds what is left
+pub outlook-by_held : (running : Running) (lost : Lost) (view : List NodeView) (entries : List Entry) (os : List Offer) (outlook : Outlook)
+    → AreViewsBy running lost (length running.flow.nodes) view → entries ≡ running.parts.keep.entries → os ≡ outlook.candidates.items
+    → ((sys : System) (state : Machine) (failed : ℕ → Bool) (floor : List Front) → sys.flow ≡ running.flow → (known : IsViewOf sys state failed floor view entries)
+    → AreOffersAbove sys state failed (choice_at floor known.above.notices) outlook.candidates.items)
+    → ((some : Choice) → RecordsAscend running.flow os → IsConsistentBy running.flow (covers_of running.flow os) (IsOffered running.flow os) some
+    → IsLargestBy running.flow (covers_of running.flow os) (IsOffered running.flow os) outlook.descent.choice)
+    → (HasConsistent running.flow os → IsTrail running.flow os outlook.descent.trail outlook.descent.choice)
+    → IsOutlookByHeld running lost outlook
+outlook-by_held running lost view entries others outlook v e is exact give found = λ sys records state s.
+    outlook-in lost view entries outlook sys state state.low
+    (subst (λ f. IsOutlookFrom f view entries outlook) s.apart.flow (outlook-from running view entries others outlook is exact give found))
+    (view-of sys records state running lost view entries v.one_each e s.apart state.low (low-floor sys state s.apart.well_formed s.apart.reached) (v.of_held sys records state s))
 
 -- ---- what fits the flow
 
@@ -147,15 +189,16 @@ known-more sys state lost floor n m [] node a e i =
 known-more sys state lost floor n m (v ∷ view) node a e i = (a.0, known-more sys state lost floor (suc n) m view node a.1 (omega arith) i)
 
 pub views_none : (running : Running) (lost : Lost) → AreViewsBy running lost 0 []
-views_none running lost = record { one_each = refl; of_flow = tt; of_state = λ sys records state s. tt }
+views_none running lost = record { one_each = refl; of_flow = tt; of_state = λ sys records state s. tt; of_held = λ sys records state s. tt }
 
 pub views_more : (running : Running) (lost : Lost) (n p : ℕ) (view next : List NodeView) (node : NodeView) → AreViewsBy running lost n view → p ≡ n
-    → IsViewFor running.flow p node → IsViewBy running lost p node → next ≡ view ++ node ∷ [] → AreViewsBy running lost (n + 1) next
-views_more running lost n p view next node v at fits known is =
+    → IsViewFor running.flow p node → IsViewBy running lost p node → IsViewByHeld running lost p node → next ≡ view ++ node ∷ [] → AreViewsBy running lost (n + 1) next
+views_more running lost n p view next node v at fits known held is =
     subst (AreViewsBy running lost (n + 1)) (sym is) (record {
       one_each = length-append view (node ∷ []) ∙ ap (λ k. k + 1) v.one_each;
       of_flow = fit-more running.flow 0 p view node v.of_flow (omega (arith, v.one_each, at)) fits;
       of_state = λ sys records state s. known-more sys state (is_lost lost state) s.traces.floor 0 p view node (v.of_state sys records state s) (omega (arith, v.one_each, at)) (known sys records state s);
+      of_held = λ sys records state s. known-more sys state (is_lost lost state) state.low 0 p view node (v.of_held sys records state s) (omega (arith, v.one_each, at)) (held sys records state s);
     })
 
 -- ---- what is of the domains
@@ -235,7 +278,7 @@ filters-turn {A = A} f g (x ∷ xs) = by (f x) (g x) refl refl (filters-turn f g
     by false false e k ih = ih
 
 -- a test that the messages of an edge pass leaves them
-same-on_edge : (test : Counted → Bool) (e : ℕ) (ms : List Counted) → AllByRecursion (λ m. test m ≡ true) (counted_on_edge e ms) → counted_on_edge e (filter test ms) ≡ counted_on_edge e ms
+pub same-on_edge : (test : Counted → Bool) (e : ℕ) (ms : List Counted) → AllByRecursion (λ m. test m ≡ true) (counted_on_edge e ms) → counted_on_edge e (filter test ms) ≡ counted_on_edge e ms
 same-on_edge test e ms a = filters-turn (λ (m : Counted). m.edge == e) test ms ∙ filter-all test (counted_on_edge e ms) a
 
 all-on_edges : (flow : Dataflow) (ms : List Counted) → AreAtEdgeStamps flow ms → filter (is_on_its_edge flow false) ms ≡ ms
@@ -262,7 +305,7 @@ stamps-stay whole sys h p base raw s = record {
   notified = subst (λ (ts : List Stamp). IsThinnedIf whole base (flat_map (stamp_of_notice p) h) ts)
       (sym (filter-all (in_domain (bounds_of flow p)) raw.notified s.in_domain)) s.notified;
   sent = λ n e l k. subst (λ (ms : List Counted). StandForSent (whole && tells_sent sys.flow p) sys h p (base_of_sent sys.flow p base) e ms) (sym (by single refl e l k n)) (s.sent n e l k);
-  numbered = λ q e l k. subst (λ (ms : List Counted). StandForNumbered sys h e ms) (sym (all_of single refl q)) (s.numbered q e l k);
+  numbered = λ q t e l k. subst (λ (ms : List Counted). StandForNumbered sys h e ms) (sym (all_of single refl q)) (s.numbered q t e l k);
 }
   where
     flow : Dataflow
@@ -317,7 +360,7 @@ contains-which {A = A} x q xs h = by h.0 h.1 h.2
     by zero l e = inl e
     by (suc k) l e = inr (k, omega (arith, l), e)
 
-filtered-contains : {A : Type 0} (f : A → Bool) (xs : List A) (q : A) → Contains (filter f xs) q → Contains xs q
+pub filtered-contains : {A : Type 0} (f : A → Bool) (xs : List A) (q : A) → Contains (filter f xs) q → Contains xs q
 filtered-contains f [] q h = h
 filtered-contains {A = A} f (x ∷ xs) q h = by (f x) (filtered-contains f xs q) h
   where
@@ -328,7 +371,7 @@ filtered-contains {A = A} f (x ∷ xs) q h = by (f x) (filtered-contains f xs q)
     ]
     by false ih k = contains-later x q xs (ih k)
 
-contains-filtered : {A : Type 0} (f : A → Bool) (xs : List A) (q : A) → f q ≡ true → Contains xs q → Contains (filter f xs) q
+pub contains-filtered : {A : Type 0} (f : A → Bool) (xs : List A) (q : A) → f q ≡ true → Contains xs q → Contains (filter f xs) q
 contains-filtered f [] q e h = h
 contains-filtered {A = A} f (x ∷ xs) q e h = elim (contains-which x q xs h) [
   | inl k ↦ subst (λ b. Contains (cond b (x ∷ filter f xs) (filter f xs)) q) (sym (ap f k ∙ e)) (0, omega arith, k)
@@ -343,53 +386,69 @@ each-numbered : (P : Event → Type 0) (h : List SerialEvent) → AllByRecursion
 each-numbered P [] a = tt
 each-numbered P (v ∷ h) a = (a.0, each-numbered P h a.1)
 
-legal-of : (sys : System) (records : Option Records) (state : Machine) (running : Running) → Stands sys running records state → IsLegal sys (events state.history)
-legal-of sys records state running s =
-    let r = s.apart.reached in (reached-all sys s.apart.well_formed r.0 r.1 state r.2).recover.holds.legal
+pub legal-of : (sys : System) (records : Option Records) (state : Machine) (running : Running) → StandsApart sys running records state → IsLegal sys (events state.history)
+legal-of sys records state running a = let r = a.reached in (reached-all sys a.well_formed r.0 r.1 state r.2).recover.holds.legal
 
 -- a stamp at which an event was lost is of the node's domain
-lost-in_domain : (sys : System) (records : Option Records) (state : Machine) (running : Running) (p : ℕ) (t : Stamp) → Stands sys running records state → IsLostAt sys state p t
+lost-in_domain : (sys : System) (records : Option Records) (state : Machine) (running : Running) (p : ℕ) (t : Stamp) → StandsApart sys running records state → IsLostAt sys state p t
     → in_domain (bounds_of sys.flow p) t ≡ true
-lost-in_domain sys records state running p t s lost =
-    let w = s.apart.well_formed in
+lost-in_domain sys records state running p t a lost =
+    let w = a.well_formed in
     let inside = each-numbered (λ u. in_domain (bounds_of sys.flow (event_node sys.flow u)) (event_stamp u) ≡ true) state.history
-    (legal-in_domain sys (events state.history) w.flow (has_epochs sys w) (legal-of sys records state running s)) in
+    (legal-in_domain sys (events state.history) w.flow (has_epochs sys w) (legal-of sys records state running a)) in
     let u = lost.1 in
     subst (λ x. in_domain (bounds_of sys.flow p) x ≡ true) u.is.stamp
     (subst (λ q. in_domain (bounds_of sys.flow q) (event_stamp u.event.event) ≡ true) u.is.node
     (each-contained (λ (x : SerialEvent). in_domain (bounds_of sys.flow (event_node sys.flow x.event)) (event_stamp x.event) ≡ true) u.event state.history u.there inside))
 
+-- what is known of a node, where that is so of its stamps, and of those at which it lost events
+pub view-apart : (running : Running) (lost : Lost) (p : ℕ) (node : NodeView) → p < length running.flow.nodes → IsViewFor running.flow p node
+    → node.table ≡ sent_of running.progress.counts p → node.settled ≡ front_of running.progress.settled p → node.low ≡ front_of running.parts.low p
+    → IsBorderBy (source_of running p) (output_of running p) (kind_of running.flow p) node.border → node.failed ≡ counts_as_failed lost (is_down running p)
+    → (sys : System) (records : Option Records) (state : Machine) → StandsApart sys running records state → (floor : List Front)
+    → IsKnownOf sys floor state p node.stamps (is_lost lost state p) → (policy_of sys.flow p ≡ policy.Full → KnowsLosses sys state p node.lost)
+    → IsNodeViewOf sys state (is_lost lost state) floor p node
+view-apart running lost p node there fits table settled low border failed sys records state a floor stamps losses =
+    let h = events state.history in
+    let l : p < length sys.flow.nodes = subst (λ (f : Dataflow). p < length f.nodes) a.flow there in
+    let few : injected_count p h ≤ greatest_number = omega (arith, injected-few sys h (legal-of sys records state running a) p, a.well_formed.few p) in
+    record {
+      fits = subst (λ f. IsViewFor f p node) a.flow fits;
+      stamps = stamps;
+      table = λ k. subst (λ t. IsSentTable sys h p t) (sym table) (a.progress.counts.sent p l (is-sequence (kind_of sys.flow p) k));
+      settled = settled ∙ ap (λ fs. front_of fs p) a.settled;
+      low = low ∙ ap (λ fs. front_of fs p) a.low;
+      border = border-is sys state p (source_of running p) (output_of running p) (kind_of sys.flow p) node.border
+          (subst (λ f. IsBorderBy (source_of running p) (output_of running p) (kind_of f p) node.border) a.flow border) (a.sources p l) (a.outputs p l) few;
+      losses = losses;
+      failed = failed ∙ ap (λ bs. counts_as_failed lost (slice_index_or bs p false)) a.failed;
+    }
+
 -- what is known of a node is so in each state for which the engine stands
-pub view-known : (running : Running) (lost : Lost) (p : ℕ) (raw : Stamps) (node : NodeView) → p < length running.flow.nodes
+pub view-known : (running : Running) (lost : Lost) (p : ℕ) (raw : Stamps) (node : NodeView) → p < length running.flow.nodes → IsViewFor running.flow p node
     → ((whole : Bool) (sys : System) (h : List Event) (base : Frontier) → sys.flow ≡ running.flow → HasEpochs sys → IsLegal sys h → IsTraceIf whole sys h p base running.traces
     → AreStampsIf whole sys h p base raw)
     → node.stamps ≡ of_domains running.flow p raw → node.table ≡ sent_of running.progress.counts p
     → node.settled ≡ front_of running.progress.settled p → node.low ≡ front_of running.parts.low p → IsBorderBy (source_of running p) (output_of running p) (kind_of running.flow p) node.border
     → node.lost ≡ filter (in_domain (bounds_of running.flow p)) (lost_at running p) → node.failed ≡ counts_as_failed lost (is_down running p) → IsViewBy running lost p node
-view-known running lost p raw node there given stamps table settled low border losses failed sys records state s =
+view-known running lost p raw node there fits given stamps table settled low border losses failed sys records state s =
     let h = events state.history in
-    let w = s.apart.well_formed in
-    let legal = legal-of sys records state running s in
+    let legal = legal-of sys records state running s.apart in
     let l : p < length sys.flow.nodes = subst (λ (f : Dataflow). p < length f.nodes) s.apart.flow there in
-    let few : injected_count p h ≤ greatest_number = omega (arith, injected-few sys h legal p, w.few p) in
     let takes = takes_checkpoints (policy_of sys.flow p) in
-    record {
-      stamps = subst (λ (all : Stamps). AreStampsOf sys h p (base_of sys s.traces.floor state p) all) (sym (stamps ∙ ap (λ f. of_domains f p raw) s.apart.flow))
-          (stamps-stay takes sys h p (base_of sys s.traces.floor state p) raw (given takes sys h (base_of sys s.traces.floor state p) (sym s.apart.flow) (has_epochs sys w) legal (s.traces.each p l)));
-      table = λ k. subst (λ t. IsSentTable sys h p t) (sym table) (s.apart.progress.counts.sent p l (is-sequence (kind_of sys.flow p) k));
-      settled = settled ∙ ap (λ fs. front_of fs p) s.apart.settled;
-      low = low ∙ ap (λ fs. front_of fs p) s.apart.low;
-      border = border-is sys state p (source_of running p) (output_of running p) (kind_of sys.flow p) node.border
-          (subst (λ f. IsBorderBy (source_of running p) (output_of running p) (kind_of f p) node.border) s.apart.flow border) (s.apart.sources p l) (s.apart.outputs p l) few;
-      losses = λ full t.
-          let is : node.lost ≡ filter (in_domain (bounds_of sys.flow p)) (lost_at running p) = losses ∙ ap (λ f. filter (in_domain (bounds_of f p)) (lost_at running p)) s.apart.flow in
-          let known = s.lost p full t in
-          subst (λ (ts : List Stamp). Contains ts t ↔ IsLostAt sys state p t) (sym is) (
-            (λ c. known.0 (filtered-contains (in_domain (bounds_of sys.flow p)) (lost_at running p) t c)),
-            (λ x. contains-filtered (in_domain (bounds_of sys.flow p)) (lost_at running p) t (lost-in_domain sys records state running p t s x) (known.1 x)),
-          );
-      failed = failed ∙ ap (λ bs. counts_as_failed lost (slice_index_or bs p false)) s.apart.failed;
-    }
+    let base = base_of sys s.traces.floor state p in
+    let all : AreStampsOf sys h p base node.stamps =
+    subst (λ (x : Stamps). AreStampsOf sys h p base x) (sym (stamps ∙ ap (λ f. of_domains f p raw) s.apart.flow))
+    (stamps-stay takes sys h p base raw (given takes sys h base (sym s.apart.flow) (has_epochs sys s.apart.well_formed) legal (s.traces.each p l))) in
+    view-apart running lost p node there fits table settled low border failed sys records state s.apart s.traces.floor
+    (stamps-known sys s.traces.floor state p node.stamps all (is_lost lost state p))
+    (λ full. losses-known sys state p node.lost (λ t.
+    let is : node.lost ≡ filter (in_domain (bounds_of sys.flow p)) (lost_at running p) = losses ∙ ap (λ f. filter (in_domain (bounds_of f p)) (lost_at running p)) s.apart.flow in
+    let known = s.lost p full t in
+    subst (λ (ts : List Stamp). Contains ts t ↔ IsLostAt sys state p t) (sym is) (
+      (λ c. known.0 (filtered-contains (in_domain (bounds_of sys.flow p)) (lost_at running p) t c)),
+      (λ x. contains-filtered (in_domain (bounds_of sys.flow p)) (lost_at running p) t (lost-in_domain sys records state running p t s.apart x) (known.1 x)),
+    )))
 
 -- what stands at a node's place
 pub at_place : {A : Type 0} (xs : List A) (q p : ℕ) (x d : A) → x ≡ get_or xs q x → q ≡ p → p < length xs → x ≡ get_or xs p d

@@ -21,6 +21,7 @@ use Rattle.fw_policy.specs.View.{IsNodeViewOf, AreNodeViewsFrom}
 use Rattle.fw_running.specs.declared.running.Running.{Running}
 use Rattle.fw_choose.specs.declared.viewing.Lost.{Lost}
 use Rattle.fw_choose.specs.declared.viewing.Lost.TheVariants.{Failed, All}
+use Rattle.fw_running.specs.Held.{StandsHeld}
 use Rattle.fw_running.specs.Stands.{Stands}
 
 -- whether a node counts as failed, by whether it is
@@ -42,6 +43,11 @@ abbrev pub IsChosenBy : Running → Lost → Choice → Type 0
 IsChosenBy running lost choice =
     (sys : System) (records : Option Records) (state : Machine) → Stands sys running records state → IsChosen lost sys state choice
 
+-- and of each state of which it holds what is left
+abbrev pub IsChosenByHeld : Running → Lost → Choice → Type 0
+IsChosenByHeld running lost choice =
+    (sys : System) (records : Option Records) (state : Machine) → StandsHeld sys running records state → IsChosen lost sys state choice
+
 -- ---- what is known of the nodes
 
 -- the view is that of node p in each state for which the engine stands
@@ -50,12 +56,21 @@ IsViewBy running lost p node =
     (sys : System) (records : Option Records) (state : Machine) (stands : Stands sys running records state)
     → IsNodeViewOf sys state (is_lost lost state) stands.traces.floor p node
 
--- The views are those of so many nodes, the first ones, in the flow and in each state for which the engine stands.
+-- and in each state of which it holds what is left, above the low watermark
+abbrev pub IsViewByHeld : Running → Lost → ℕ → NodeView → Type 0
+IsViewByHeld running lost p node =
+    (sys : System) (records : Option Records) (state : Machine) → StandsHeld sys running records state
+    → IsNodeViewOf sys state (is_lost lost state) state.low p node
+
+-- The views are those of so many nodes, the first ones, in the flow, in each state for which the engine stands, and in each of which it
+-- holds what is left.
 pub record AreViewsBy (running : Running) (lost : Lost) (count : ℕ) (view : List NodeView) : Type 0 where
   pub one_each : length view ≡ count
   pub of_flow : AreViewsFrom running.flow 0 view
   pub of_state : (sys : System) (records : Option Records) (state : Machine) (stands : Stands sys running records state)
       → AreNodeViewsFrom sys state (is_lost lost state) stands.traces.floor 0 view
+  pub of_held : (sys : System) (records : Option Records) (state : Machine) → StandsHeld sys running records state
+      → AreNodeViewsFrom sys state (is_lost lost state) state.low 0 view
 
 -- what is told of a border, by what is kept of it
 abbrev pub IsBorderBy : SourceState → OutputState → Kind → Border → Type 0

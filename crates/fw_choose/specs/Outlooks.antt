@@ -9,6 +9,7 @@ use Rattle.fw_model.specs.Machine.{Machine}
 use Rattle.fw_model.specs.Offers.{AreOffersAbove, IsOffered, covers_of}
 use Rattle.fw_keep.specs.Stored.{Records}
 use Rattle.fw_running.specs.declared.running.Running.{Running}
+use Rattle.fw_running.specs.Held.{StandsHeld}
 use Rattle.fw_running.specs.Stands.{Stands}
 use Rattle.fw_choose.specs.declared.outlook.Outlook.{Outlook}
 use Rattle.fw_choose.specs.declared.viewing.Lost.{Lost}
@@ -28,3 +29,8 @@ pub record IsOutlookOf (sys : System) (state : Machine) (lost : Lost) (outlook :
 abbrev pub IsOutlookBy : Running → Lost → Outlook → Type 0
 IsOutlookBy running lost outlook =
     (sys : System) (records : Option Records) (state : Machine) → Stands sys running records state → IsOutlookOf sys state lost outlook
+
+-- and of each state of which it holds what is left
+abbrev pub IsOutlookByHeld : Running → Lost → Outlook → Type 0
+IsOutlookByHeld running lost outlook =
+    (sys : System) (records : Option Records) (state : Machine) → StandsHeld sys running records state → IsOutlookOf sys state lost outlook

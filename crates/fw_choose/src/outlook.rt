@@ -2,8 +2,8 @@
 ghost use Rattle.std.specs.Prelude.{IfOk};
 ghost use Rattle.fw_model.specs.Choice.{IsChoiceOf};
 ghost use Rattle.fw_model.specs.Offers.{AreOffersOf};
-ghost use Rattle.fw_choose.specs.Chosen.{IsChosenBy};
-ghost use Rattle.fw_choose.specs.Outlooks.{IsOutlookBy};
+ghost use Rattle.fw_choose.specs.Chosen.{IsChosenBy, IsChosenByHeld};
+ghost use Rattle.fw_choose.specs.Outlooks.{IsOutlookBy, IsOutlookByHeld};
 ghost use Rattle.fw_running.specs.Shaped.{IsShaped};
 
 use crate::viewing::{Lost, views};
@@ -28,6 +28,7 @@ pub fn outlook_of(running: &Running, lost: Lost) -> Result<Outlook, AllocError>
     ensures of_flow { IfOk result (λ outlook. AreOffersOf running.now.flow outlook.candidates.items) }
     ensures choice { IfOk result (λ outlook. IsChoiceOf running.now.flow outlook.descent.choice) }
     ensures of_state { IfOk result (IsOutlookBy running.now lost) }
+    ensures of_held { IfOk result (IsOutlookByHeld running.now lost) }
 {
     let view = views(running, lost)?;
     let candidates = offers_of(
@@ -48,6 +49,7 @@ pub fn choose(running: &Running, lost: Lost) -> Result<Choice, AllocError>
     requires { IsShaped running.now }
     ensures of_flow { IfOk result (IsChoiceOf running.now.flow) }
     ensures of_state { IfOk result (IsChosenBy running.now lost) }
+    ensures of_held { IfOk result (IsChosenByHeld running.now lost) }
 {
     let outlook = outlook_of(running, lost)?;
     let descent = outlook.descent;

@@ -8,7 +8,7 @@ ghost use Rattle.fw_model.specs.Steps.{front_of_cut};
 ghost use Rattle.fw_policy.specs.Shaped.{IsViewFor};
 ghost use Rattle.fw_progress.specs.Counts.{sent_of};
 ghost use Rattle.fw_choose.specs.Chosen as chosen;
-ghost use Rattle.fw_choose.specs.Chosen.{IsViewBy, AreViewsBy, IsBorderBy, is_on_its_edge, of_domains};
+ghost use Rattle.fw_choose.specs.Chosen.{IsViewBy, IsViewByHeld, AreViewsBy, IsBorderBy, is_on_its_edge, of_domains};
 ghost use Rattle.fw_running.specs.Kept.{source_of, output_of, lost_at, is_down};
 ghost use Rattle.fw_running.specs.Shaped.{IsShaped};
 
@@ -48,6 +48,7 @@ fn view(running: &Running, node: NodeId, lost: Lost) -> Result<NodeView, AllocEr
     requires there { node < length running.now.flow.nodes }
     ensures of_flow { IfOk result (IsViewFor running.now.flow node) }
     ensures of_state { IfOk result (IsViewBy running.now lost node) }
+    ensures of_held { IfOk result (IsViewByHeld running.now lost node) }
 {
     let stamps = running.traces.stamps(running.alloc, &running.flow, node)?;
     Ok(NodeView {

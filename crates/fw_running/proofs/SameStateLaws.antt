@@ -15,10 +15,11 @@ use Rattle.fw_stands.specs.Written.{AreEntriesOf, AreStored, uncollected}
 use Rattle.fw_running.specs.declared.fault.EngineFault.{EngineFault}
 use Rattle.fw_running.specs.declared.running.Running.{Running}
 use Rattle.fw_running.specs.declared.stepped.Stepped.{Stepped}
+use Rattle.fw_running.specs.Held.{RecoversHeld, StandsHeld}
 use Rattle.fw_running.specs.Kept.{is_down}
 use Rattle.fw_running.specs.Logging.{with_keep, ChangesKeep, IsNotAsked}
 use Rattle.fw_running.specs.ReadyState.{ReadyState}
-use Rattle.fw_running.specs.Stands.{Stands}
+use Rattle.fw_running.specs.Stands.{Stands, StandsApart}
 use Rattle.fw_running.specs.Steps.{Follows, ShowsOutcome, TakesStep}
 
 -- what is failed is down
@@ -64,27 +65,41 @@ keep-stands sys old keep before after state s same stored =
     (subst (λ es. AreStored sys state after es (uncollected state)) (sym same) stored)
 
 -- and so it does over what its store still tells
+pub told-apart : (sys : System) (running : Running) (before after : Option Records) (state : Machine) → StayIfTold before after
+    → StandsApart sys running before state → StandsApart sys running after state
+told-apart sys running before after state stay a = record {
+  flow = a.flow;
+  well_formed = a.well_formed;
+  reached = a.reached;
+  settled = a.settled;
+  failed = a.failed;
+  low = a.low;
+  epochs = a.epochs;
+  tables = a.tables;
+  queues = a.queues;
+  logs = a.logs;
+  outputs = a.outputs;
+  sources = a.sources;
+  progress = a.progress;
+  entries = a.entries;
+  bases = a.bases;
+  stored = told-kept (λ records. AreStored sys state records running.parts.keep.entries (uncollected state)) before after stay (λ held is. absurd (cc)) a.stored;
+}
+
 pub told-stands : (sys : System) (running : Running) (before after : Option Records) (state : Machine) → StayIfTold before after → Stands sys running before state
     → Stands sys running after state
 told-stands sys running before after state stay s = record {
-  apart = record {
-    flow = s.apart.flow;
-    well_formed = s.apart.well_formed;
-    reached = s.apart.reached;
-    settled = s.apart.settled;
-    failed = s.apart.failed;
-    low = s.apart.low;
-    epochs = s.apart.epochs;
-    tables = s.apart.tables;
-    queues = s.apart.queues;
-    logs = s.apart.logs;
-    outputs = s.apart.outputs;
-    sources = s.apart.sources;
-    progress = s.apart.progress;
-    entries = s.apart.entries;
-    bases = s.apart.bases;
-    stored = told-kept (λ records. AreStored sys state records running.parts.keep.entries (uncollected state)) before after stay (λ held is. absurd (cc)) s.apart.stored;
-  };
+  apart = told-apart sys running before after state stay s.apart;
+  traces = s.traces;
+  lost = s.lost;
+}
+
+-- and holds what is left of it
+told-held : (sys : System) (running : Running) (before after : Option Records) (state : Machine) → StayIfTold before after → StandsHeld sys running before state
+    → StandsHeld sys running after state
+told-held sys running before after state stay s = record {
+  apart = told-apart sys running before after state stay s.apart;
+  down = s.down;
   traces = s.traces;
   lost = s.lost;
 }
@@ -97,6 +112,10 @@ told-takes old new before after step result stay t sys state s = t sys state (to
 pub told-shows : (old : Running) (before after : Option Records) (step : Step) (result : Result Stepped EngineFault) → StayIfTold before after
     → ShowsOutcome old after step result → ShowsOutcome old before step result
 told-shows old before after step result stay t sys state s = t sys state (told-stands sys old before after state stay s)
+
+pub told-recovers : (old new : Running) (before after : Option Records) (result : Result Stepped EngineFault) → StayIfTold before after
+    → RecoversHeld old after result new after → RecoversHeld old before result new after
+told-recovers old new before after result stay t sys state s = t sys state (told-held sys old before after state stay s)
 
 -- where nothing is asked and nothing but the catalogue is changed, the engine stands for the same state
 pub unasked-stands : (sys : System) (old new : Running) (before after : Option Records) (state : Machine) → Stands sys old before state → ChangesKeep old new

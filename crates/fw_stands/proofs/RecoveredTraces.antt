@@ -31,7 +31,7 @@ use Rattle.fw_model.proofs.FloorLaws.{holds-floors}
 use Rattle.fw_model.proofs.SendPartLaws.{part-sends}
 use Rattle.fw_policy.specs.View.{base_of}
 use Rattle.fw_policy.specs.Entries.{count_within}
-use Rattle.fw_progress.specs.Trace.{AreEventsInside, IsTraceOf, AreRestoredTo, AreCutTo, IsTraceIf}
+use Rattle.fw_progress.specs.Trace.{AreEventsInside, IsTraceAmong, IsTraceOf, AreRestoredTo, AreCutTo, IsTraceIf}
 use Rattle.fw_progress.proofs.CutTraceLaws.{same-trace}
 use Rattle.fw_progress.specs.declared.traces.Traces.{Traces}
 use Rattle.fw_stands.specs.Recovered.{Recovers, AreNoStamps}
@@ -77,6 +77,23 @@ traces-cut sys floor state choice settled r above p l takes f is old new cut t =
     (subst (λ vs. IsTraceOf sys vs p low new) (sym (events-now sys state choice settled))
     (cut.here (takes_checkpoints (policy_of sys.flow p)) sys h (kept_of sys.flow choice) refl k.epochs k.legal k.keeps.kept (ap (set_of sys.flow p) is) low within
     (subst (λ b. IsTraceOf sys h p b old) base t)))
+
+-- where its front is that of its cut, which then is its base, it is enough that they were some of what happened
+pub traces-cut_among : (sys : System) (floor : List Front) (state : Machine) (choice : Choice) (settled : List Front) → Recovers sys state choice settled
+    → (p : ℕ) → takes_checkpoints (policy_of sys.flow p) ≡ false → (f : Front) → cut_of choice p ≡ At f → front_of floor p ≡ f
+    → (old new : Traces) → AreCutTo sys.flow p f old new → IsTraceAmong sys (events state.history) p old
+    → IsTraceIn sys floor (recovered_state sys state choice settled) p new
+traces-cut_among sys floor state choice settled r p takes f is same old new cut t =
+    let k = knows sys state choice settled r in
+    let next = recovered_state sys state choice settled in
+    let base = node_frontier sys.flow p f in
+    let base_now : base_of sys floor next p ≡ base =
+    cond-false (takes_checkpoints (policy_of sys.flow p)) (node_frontier sys.flow p (front_of settled p)) (node_frontier sys.flow p (front_of floor p)) takes
+    ∙ ap (node_frontier sys.flow p) same in
+    subst (λ b. IsTraceOf sys (events next.history) p b new) (sym base_now)
+    (subst (λ whole. IsTraceIf whole sys (events next.history) p base new) (sym takes)
+    (subst (λ vs. IsTraceIf false sys vs p base new) (sym (events-now sys state choice settled))
+    (cut.among sys (events state.history) (kept_of sys.flow choice) refl k.epochs k.legal k.keeps.kept (ap (set_of sys.flow p) is) takes t)))
 
 -- ---- a node that is cut to a checkpoint
 
@@ -142,7 +159,7 @@ no-stamps whole sys p base stamps a = record {
   notified = none-if whole base stamps.notified a.notified;
   sent = λ n e l s. subst (λ ms. StandForSent (whole && tells_sent sys.flow p) sys [] p (base_of_sent sys.flow p base) e (counted_on_edge e ms)) (sym a.sent)
       (record { of_cause = tt; thinned = none-if (whole && tells_sent sys.flow p) (base_of_sent sys.flow p base) [] refl });
-  numbered = λ n e l s. subst (StandForNumbered sys [] e) (sym a.sent) (none-thinned _ [] refl);
+  numbered = λ n t e l s. subst (StandForNumbered sys [] e) (sym a.sent) (none-thinned _ [] refl);
 }
 
 -- those of a node that is cut to no stamps are restored by none

@@ -27,12 +27,13 @@ use Rattle.fw_running.specs.declared.stepped.Effect.TheVariants.{Cuts}
 use Rattle.fw_running.specs.declared.stepped.Stepped.{Stepped}
 use Rattle.fw_running.specs.declared.stepped.Stepped.TheVariants.{Did, Idle}
 use Rattle.fw_choose.specs.declared.viewing.Lost.TheVariants.{Failed}
-use Rattle.fw_choose.specs.Chosen.{IsChosenBy}
+use Rattle.fw_choose.specs.Chosen.{IsChosenBy, IsChosenByHeld}
 use Rattle.fw_running.specs.Faults.{fault_of}
+use Rattle.fw_running.specs.Held.{RecoversHeld}
 use Rattle.fw_running.specs.Shaped.{IsShaped}
-use Rattle.fw_running.specs.Stands.{Stands}
+use Rattle.fw_running.specs.Stands.{Stands, StandsApart}
 use Rattle.fw_running.specs.Steps.{IsAskedIn, IsDamage, IsStepEnabled, ShowsOutcome, StaysShaped, TakesStep}
-use Rattle.fw_recover.proofs.RecoverLaws.{IsRecovered, recovered-leads, recovered-stands}
+use Rattle.fw_recover.proofs.RecoverLaws.{IsRecovered, held-stands, recovered-leads, recovered-stands}
 
 -- ---- whether a node is failed
 
@@ -49,55 +50,68 @@ none-any (false ∷ bs) e (suc q) = none-any bs e q
 
 -- where no node is failed the machine is idle at a recovery
 none-down : (old : Running) (records : Option Records) → list_any (λ down. down) old.failed.items ≡ false
-    → (sys : System) (state : Machine) → Stands sys old records state → StepsTo sys state Recover state idle
-none-down old records none sys state s = (
-  λ other effect t. two_ways (is_failed state t.0) t.4 (ap (λ down. slice_index_or down t.0 false) (sym s.apart.failed) ∙ none-any old.failed.items none t.0),
+    → (sys : System) (state : Machine) → StandsApart sys old records state → StepsTo sys state Recover state idle
+none-down old records none sys state a = (
+  λ other effect t. two_ways (is_failed state t.0) t.4 (ap (λ down. slice_index_or down t.0 false) (sym a.failed) ∙ none-any old.failed.items none t.0),
   refl,
 )
 
 -- and so is the engine
 pub recovery-idle : (old : Running) (records : Option Records) → list_any (λ down. down) old.failed.items ≡ false
     → TakesStep old records Recover (Ok Idle) old records
-recovery-idle old records none sys state s = λ trust. record { next = state; steps = none-down old records none sys state s; stands = s }
+recovery-idle old records none sys state s = λ trust. record { next = state; steps = none-down old records none sys state s.apart; stands = s }
 
 -- which it shows
 pub idle-shows : (old : Running) (records : Option Records) → list_any (λ down. down) old.failed.items ≡ false
     → ShowsOutcome old records Recover (Ok Idle)
-idle-shows old records none sys state s = (state, none-down old records none sys state s)
+idle-shows old records none sys state s = (state, none-down old records none sys state s.apart)
+
+-- an engine that holds what is left of a state has a node that is failed
+pub held-idle : (old : Running) (records : Option Records) → list_any (λ down. down) old.failed.items ≡ false → RecoversHeld old records (Ok Idle) old records
+held-idle old records none sys state s =
+    let some = s.apart.well_formed.flow.input in
+    absurd (two_ways (is_failed state some.0) (s.down some.0 some.1) (ap (λ down. slice_index_or down some.0 false) (sym s.apart.failed) ∙ none-any old.failed.items none some.0))
 
 -- where one is, it is so in each state for which the engine stands
 down-there : (old : Running) (records : Option Records) → IsShaped old → list_any (λ down. down) old.failed.items ≡ true
-    → (sys : System) (state : Machine) → Stands sys old records state → (q : ℕ) × (q < length sys.flow.nodes) × (is_failed state q ≡ true)
-down-there old records shaped some sys state s =
+    → (sys : System) (state : Machine) → StandsApart sys old records state → (q : ℕ) × (q < length sys.flow.nodes) × (is_failed state q ≡ true)
+down-there old records shaped some sys state a =
     let q = some-any old.failed.items some in (
       q.0,
-      subst (λ (flow : Dataflow). q.0 < length flow.nodes) s.apart.flow (subst (λ n. q.0 < n) shaped.one_each.failed q.1),
-      ap (λ down. slice_index_or down q.0 false) (sym s.apart.failed) ∙ q.2,
+      subst (λ (flow : Dataflow). q.0 < length flow.nodes) a.flow (subst (λ n. q.0 < n) shaped.one_each.failed q.1),
+      ap (λ down. slice_index_or down q.0 false) (sym a.failed) ∙ q.2,
     )
 
 -- a recovery is enabled there
 pub recovery-enabled : (old : Running) (records : Option Records) → IsShaped old → list_any (λ down. down) old.failed.items ≡ true
-    → (sys : System) (state : Machine) → Stands sys old records state → IsStepEnabled sys state Recover
-recovery-enabled old records shaped some sys state s =
-    let q = down-there old records shaped some sys state s in
-    let reached = s.apart.reached in
-    let r = failed-recovered sys s.apart.well_formed reached.0 reached.1 state reached.2 q.0 q.1 q.2 in
+    → (sys : System) (state : Machine) → StandsApart sys old records state → IsStepEnabled sys state Recover
+recovery-enabled old records shaped some sys state a =
+    let q = down-there old records shaped some sys state a in
+    let reached = a.reached in
+    let r = failed-recovered sys a.well_formed reached.0 reached.1 state reached.2 q.0 q.1 q.2 in
     (r.0, cuts r.1, r.2)
 
 -- and the engine recovers to its choice
 pub recovery-done : (old new : Running) (records : Option Records) (choice : Choice) → IsShaped old → list_any (λ down. down) old.failed.items ≡ true
     → IsChosenBy old Failed choice → IsRecovered choice records old new → TakesStep old records Recover (Ok (Did (Cuts choice))) new records
 recovery-done old new records choice shaped some chosen made sys state s = λ trust.
-    let q = down-there old records shaped some sys state s in
+    let q = down-there old records shaped some sys state s.apart in
     recovered-stands sys records state choice old new s (chosen sys records state s) trust q.0 q.1 q.2 made
+
+-- also where it held what is left of a state, and then it stands in full
+pub held-done : (old new : Running) (records : Option Records) (choice : Choice) → IsShaped old → list_any (λ down. down) old.failed.items ≡ true
+    → IsChosenByHeld old Failed choice → IsRecovered choice records old new → RecoversHeld old records (Ok (Did (Cuts choice))) new records
+held-done old new records choice shaped some chosen made sys state s = λ trust.
+    let q = down-there old records shaped some sys state s.apart in
+    held-stands sys records state choice old new s (chosen sys records state s) trust q.0 q.1 q.2 made
 
 -- and shows that choice, whatever it read
 pub recovery-shows : (old new : Running) (records : Option Records) (choice : Choice) → IsShaped old → list_any (λ down. down) old.failed.items ≡ true
     → IsChosenBy old Failed choice → IsRecovered choice records old new → ShowsOutcome old records Recover (Ok (Did (Cuts choice)))
 recovery-shows old new records choice shaped some chosen made sys state s =
-    let q = down-there old records shaped some sys state s in (
+    let q = down-there old records shaped some sys state s.apart in (
       recovered_state sys state choice new.progress.settled,
-      recovered-leads sys records state choice old new s (chosen sys records state s) q.0 q.1 q.2 made,
+      recovered-leads sys records state choice old new s.apart (chosen sys records state s) q.0 q.1 q.2 made,
     )
 
 -- ---- damage
@@ -122,23 +136,30 @@ untold sys state choice (Some held) es got id bytes st d =
     let same : bytes ≡ spelling has.what = some-is bytes (spelling has.what) (sym (d.told held refl) ∙ sym under ∙ has.of_entry.bytes) in
     absurd (d.none has.what has.of_entry.sound same has.of_entry.of_entry)
 
-damaged-stands : (old : Running) (choice : Choice) (records : Option Records) (got : Option (ℕ × List ℕ)) (id : ℕ) (bytes : List ℕ)
-    → IsShaped old → list_any (λ down. down) old.failed.items ≡ true
-    → IsEntryDamaged old.flow choice records old.parts.keep.entries got id bytes → TakesStep old records Recover (Err (fault.Damaged id)) old records
-damaged-stands old choice records got id bytes shaped some d sys state s = (
-  untold sys state choice records old.parts.keep.entries got id bytes s.apart.stored
-      (subst (λ flow. IsEntryDamaged flow choice records old.parts.keep.entries got id bytes) s.apart.flow d),
-  recovery-enabled old records shaped some sys state s,
-  s,
-)
+-- where a record is damaged the store tells nothing
+damaged-untold : (old : Running) (choice : Choice) (records : Option Records) (got : Option (ℕ × List ℕ)) (id : ℕ) (bytes : List ℕ) (sys : System) (state : Machine)
+    → StandsApart sys old records state → IsEntryDamaged old.flow choice records old.parts.keep.entries got id bytes → records ≡ None
+damaged-untold old choice records got id bytes sys state a d =
+    untold sys state choice records old.parts.keep.entries got id bytes a.stored
+    (subst (λ flow. IsEntryDamaged flow choice records old.parts.keep.entries got id bytes) a.flow d)
 
 -- what a refusal of the catalogue leaves, where a node is failed
 pub refusal-stands : (old : Running) (choice : Choice) (records : Option Records) (got : Option (ℕ × List ℕ)) (why : KeepFault)
     → IsShaped old → list_any (λ down. down) old.failed.items ≡ true → IsDamagedIfSaid {T = Unit {0}} old.flow choice records old.parts.keep.entries got (Err why)
     → TakesStep old records Recover (Err (fault_of why)) old records
-refusal-stands old choice records got keep.StoreFault shaped some d sys state s = (recovery-enabled old records shaped some sys state s, s)
-refusal-stands old choice records got (keep.Damaged id bytes) shaped some d sys state s = damaged-stands old choice records got id bytes.items shaped some d sys state s
+refusal-stands old choice records got keep.StoreFault shaped some d sys state s = (recovery-enabled old records shaped some sys state s.apart, s)
+refusal-stands old choice records got (keep.Damaged id bytes) shaped some d sys state s =
+    (damaged-untold old choice records got id bytes.items sys state s.apart d, recovery-enabled old records shaped some sys state s.apart, s)
 refusal-stands old choice records got keep.NoMemory shaped some d sys state s = tt
+
+-- and where the engine holds what is left of a state
+refusal-held : (old : Running) (choice : Choice) (records : Option Records) (got : Option (ℕ × List ℕ)) (why : KeepFault)
+    → IsShaped old → list_any (λ down. down) old.failed.items ≡ true → IsDamagedIfSaid {T = Unit {0}} old.flow choice records old.parts.keep.entries got (Err why)
+    → RecoversHeld old records (Err (fault_of why)) old records
+refusal-held old choice records got keep.StoreFault shaped some d sys state s = (recovery-enabled old records shaped some sys state s.apart, s)
+refusal-held old choice records got (keep.Damaged id bytes) shaped some d sys state s =
+    (damaged-untold old choice records got id bytes.items sys state s.apart d, recovery-enabled old records shaped some sys state s.apart, s)
+refusal-held old choice records got keep.NoMemory shaped some d sys state s = tt
 
 pub refusal-shaped : (T : Type 0) (old : Running) (why : KeepFault) → IsShaped old → StaysShaped {T = T} (Err (fault_of why)) old
 refusal-shaped T old keep.StoreFault s = s
@@ -181,6 +202,20 @@ refused-stands old parts choice records got why (Ok x) shaped some same is d = a
 refused-stands old parts choice records got why (Err e) shaped some same is d =
     subst (λ x. TakesStep old records Recover (Err e) (record old { parts = x }) records) (sym same)
     (subst (λ x. TakesStep old records Recover (Err x) old records) (sym is) (refusal-stands old choice records got why shaped some d))
+
+pub refused-held : (old : Running) (parts : Parts) (choice : Choice) (records : Option Records) (got : Option (ℕ × List ℕ)) (why : KeepFault)
+    (r : Result Stepped EngineFault) → IsShaped old → list_any (λ down. down) old.failed.items ≡ true → parts ≡ old.parts → IsErrAnd r (λ e. e ≡ fault_of why)
+    → IsDamagedIfSaid {T = Unit {0}} old.flow choice records old.parts.keep.entries got (Err why)
+    → RecoversHeld old records r (record old { parts = parts }) records
+refused-held old parts choice records got why (Ok x) shaped some same is d = absurd is
+refused-held old parts choice records got why (Err e) shaped some same is d =
+    subst (λ x. RecoversHeld old records (Err e) (record old { parts = x }) records) (sym same)
+    (subst (λ x. RecoversHeld old records (Err x) old records) (sym is) (refusal-held old choice records got why shaped some d))
+
+-- where memory is refused nothing is told
+pub unanswered-held : (old new : Running) (before after : Option Records) (r : Result Stepped EngineFault) → IsErrAnd r (λ e. e ≡ fault.NoMemory) → RecoversHeld old before r new after
+unanswered-held old new before after (Ok x) is = absurd is
+unanswered-held old new before after (Err e) is = subst (λ x. RecoversHeld old before (Err x) new after) (sym is) (λ sys state s. tt)
 
 -- the damage that is told then
 pub refused-damage : (old : Running) (choice : Choice) (records : Option Records) (got : Option (ℕ × List ℕ)) (why : KeepFault) (r : Result Stepped EngineFault)

@@ -1,23 +1,33 @@
 -- The traces of nodes after a recovery.
-use Rattle.std.proofs.Common.{◌≡◌, ℕ, ◌<◌, Bool, true, false, cond, ◌&&◌, ◌==◌, not, List, [], ◌∷◌, length, filter, Option, Some, None, refl, sym, ap, subst, ◌∙◌, inl, inr}
+use Rattle.std.proofs.Common.{◌≡◌, ℕ, ◌<◌, Bool, true, false, cond, ◌&&◌, ◌==◌, not, List, [], ◌∷◌, length, map, filter, Option, Some, None, refl, sym, ap, subst, ◌∙◌, inl, inr}
 use Rattle.std.specs.Prelude.{find}
-use Rattle.std.specs.List.{AllByRecursion, AllZip}
+use Rattle.std.specs.List.{AllByRecursion, AllZip, Contains, flat_map}
 use Rattle.std.proofs.lemmas.Bool.{and_parts, and_from, cases_Bool, eqb-true}
 use Rattle.fw_lemmas.proofs.Bools.{two_ways}
 use Rattle.fw_lemmas.proofs.Each.{each-kept}
 use Rattle.fw_lemmas.proofs.Filters.{filter-in, filter-out}
+use Rattle.fw_time.specs.Stamp.{Stamp}
+use Rattle.fw_frontier.specs.Frontier.{Frontier}
 use Rattle.fw_frontier.specs.Front.{Front, is_within}
 use Rattle.fw_frontier.proofs.NamesLaws.{within-is}
 use Rattle.fw_frontier.proofs.SameLaws.{same_front-is}
 use Rattle.fw_flow.specs.declared.choice.Choice.{Choice}
 use Rattle.fw_flow.specs.declared.choice.Cut.{Cut}
 use Rattle.fw_flow.specs.declared.choice.Cut.TheVariants.{Present, At}
+use Rattle.fw_flow.specs.declared.event.Event.{Event}
+use Rattle.fw_flow.specs.declared.event.Message.{Message}
 use Rattle.fw_flow.specs.Dataflow.{System, policy_of, bounds_of}
+use Rattle.fw_flow.specs.NodeFunction.{sent_by}
+use Rattle.fw_flow.specs.Projection.{events_at}
 use Rattle.fw_model.specs.Floors.{IsFloor}
 use Rattle.fw_model.specs.Choice.{cut_of}
-use Rattle.fw_model.specs.Machine.{Machine, Write, checkpoint, logged_event, events, no_stamps}
+use Rattle.fw_model.specs.Covers.{stamp_of_notice}
+use Rattle.fw_model.specs.EventStamps.{causes_in, tells_sent}
+use Rattle.fw_model.specs.History.{delivered_messages}
+use Rattle.fw_model.specs.Machine.{Machine, Write, checkpoint, logged_event, events, front_of, no_stamps}
 use Rattle.fw_model.specs.Machine.{Written as WrittenBy}
 use Rattle.fw_model.specs.Steps.{recovered_state}
+use Rattle.fw_model.specs.Thinned.{IsThinnedIf}
 use Rattle.fw_model.specs.Writes.{takes_checkpoints}
 use Rattle.fw_model.proofs.CmpLaws.{decided-front}
 use Rattle.fw_keep.specs.declared.entry.Entry.{Entry}
@@ -27,6 +37,8 @@ use Rattle.fw_keep.specs.Entry.{lies_within, is_beyond, is_written_at}
 use Rattle.fw_keep.specs.Stored.{Records}
 use Rattle.fw_policy.specs.View.{base_of}
 use Rattle.fw_progress.specs.declared.traces.Traces.{Traces}
+use Rattle.fw_progress.specs.Trace.{delivered_on, stamps_notified, stamps_where_sent, IsTraceAmong, IsTraceIf}
+use Rattle.fw_progress.proofs.TraceLaws.{untold-if}
 use Rattle.fw_rollback.specs.Restored.{is_undone}
 use Rattle.fw_stands.specs.Recovered.{Recovers}
 use Rattle.fw_stands.specs.Parts.{IsTraceIn}
@@ -34,8 +46,8 @@ use Rattle.fw_stands.specs.Read.{is_checkpoint_at}
 use Rattle.fw_stands.specs.Written.{AreEntriesOf, AreStored, HoldsWhatIsWritten, HoldsWithin, IsEntryOf, uncollected}
 use Rattle.fw_stands.proofs.ReadLaws.{one-checkpoint}
 use Rattle.fw_stands.proofs.RecoveredTables.{cuts-canonical}
-use Rattle.fw_stands.proofs.RecoveredTraces.{traces-cut, traces-from_checkpoints, traces-nothing, traces-present}
-use Rattle.fw_recover.specs.CutTraces.{AreSavedAs, AreSavedBy, AreTracesCutAt, IsTraceCut, is_saved_at}
+use Rattle.fw_stands.proofs.RecoveredTraces.{traces-cut, traces-cut_among, traces-from_checkpoints, traces-nothing, traces-present}
+use Rattle.fw_recover.specs.CutTraces.{AreSavedAs, AreSavedBy, AreTracesCutAt, AreTracesCutTo, IsTraceCut, is_saved_at}
 
 -- ---- what is found in a list
 
@@ -170,3 +182,49 @@ trace-after sys floor state choice settled r above es a records st p l old new c
     c.stays (takes_checkpoints (policy_of sys.flow p)) sys (events next.history) refl (base_of sys floor next p)
     (at-stands sys floor state choice settled r above es a records st p l (cut_of choice p) refl c.before c.after c.cut
     (c.was (takes_checkpoints (policy_of sys.flow p)) sys (events state.history) refl (base_of sys floor state p) t))
+
+-- ---- the traces of a node of which it is told only that they were some of what happened
+
+-- of a node that counts nothing they are so above everything
+among-above : (sys : System) (h : List Event) (p : ℕ) (traces : Traces) → takes_checkpoints (policy_of sys.flow p) ≡ false → IsTraceAmong sys h p traces
+    → IsTraceIf false sys h p (λ t. true) traces
+among-above sys h p traces takes a = record {
+  delivered = λ d l r. untold-if (map (λ (m : Message). m.at) (delivered_messages h d)) (delivered_on traces d) (a.delivered d l r);
+  notified = untold-if (flat_map (stamp_of_notice p) h) (stamps_notified traces p) a.notified;
+  sent = λ o k. by (tells_sent sys.flow p) (a.sent o k);
+  counted = λ c. absurd (two_ways (takes_checkpoints (policy_of sys.flow p)) c takes);
+}
+  where
+    sent : List Stamp
+    sent = causes_in (sent_by sys p (events_at sys.flow p h))
+
+    by : (told : Bool) → AllByRecursion (Contains (causes_in (sent_by sys p (events_at sys.flow p h)))) (stamps_where_sent traces p)
+        → IsThinnedIf false (cond told (λ t. true) (λ t. true)) (causes_in (sent_by sys p (events_at sys.flow p h))) (stamps_where_sent traces p)
+    by true a = untold-if sent (stamps_where_sent traces p) a
+    by false a = untold-if sent (stamps_where_sent traces p) a
+
+above-among : (sys : System) (h : List Event) (p : ℕ) (base : Frontier) (traces : Traces) → IsTraceIf false sys h p base traces → IsTraceAmong sys h p traces
+above-among sys h p base traces t = record {
+  delivered = λ d l r. (t.delivered d l r).among;
+  notified = t.notified.among;
+  sent = λ o k. (t.sent o k).among;
+}
+
+-- the traces of a node that was cut, where the front of its cut is that of the floor: those of its checkpoint, or what is left of some
+pub trace-after_held : (sys : System) (floor : List Front) (state : Machine) (choice : Choice) (settled : List Front) → Recovers sys state choice settled
+    → (es : List Entry) → AreEntriesOf sys state es (uncollected state) → (records : Option Records) → AreStored sys state records es (uncollected state)
+    → (p : ℕ) → p < length sys.flow.nodes → (f : Front) → cut_of choice p ≡ At f → front_of floor p ≡ f
+    → (old new : Traces) → IsTraceCut sys.flow (filter (λ e. not (is_undone choice e)) es) choice p old new
+    → IsTraceAmong sys (events state.history) p old → IsTraceIn sys floor (recovered_state sys state choice settled) p new
+trace-after_held sys floor state choice settled r es a records st p l f is at old new c t =
+    let h = events state.history in
+    let next = recovered_state sys state choice settled in
+    let left = filter (λ e. not (is_undone choice e)) es in
+    let cut : AreTracesCutTo sys.flow left p f c.before c.after = subst (λ x. AreTracesCutAt sys.flow left p x c.before c.after) is c.cut in
+    c.stays (takes_checkpoints (policy_of sys.flow p)) sys (events next.history) refl (base_of sys floor next p)
+    (elim (cases_Bool (takes_checkpoints (policy_of sys.flow p))) [
+      | inl takes ↦ as-stands sys floor state choice settled r es a records st p l takes f is (find (is_saved_at p f) left) refl c.before c.after (cut.saved takes)
+      | inr takes ↦
+          traces-cut_among sys floor state choice settled r p takes f is at c.before c.after (cut.inside takes)
+          (above-among sys h p (λ t. true) c.before (c.was false sys h refl (λ t. true) (among-above sys h p old takes t)))
+    ])

@@ -24,7 +24,7 @@ pub returns-in-Fail : goal.returns-in-Fail
 returns-in-Fail g c = rw (c.in-Fail.is, ← c.as_slice.ensures) (inner-answers refl c.requires.stored c.fail.ensures)
 
 pub returns-in-Recover : goal.returns-in-Recover
-returns-in-Recover g c = rw c.in-Recover.is c.recover.ensures
+returns-in-Recover g c = rw c.in-Recover.is c.recover.ensures.answers
 
 pub returns-in-Collect : goal.returns-in-Collect
 returns-in-Collect g c = rw c.in-Collect.is c.collect.ensures

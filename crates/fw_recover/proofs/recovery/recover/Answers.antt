@@ -10,17 +10,20 @@ use Rattle.fw_running.specs.declared.stepped.Stepped.TheVariants.{Did}
 use Rattle.fw_running.specs.Faults.{fault_of}
 use Rattle.fw_running.specs.Shaped.{IsShaped}
 use Rattle.fw_running.proofs.AnswerLaws.{no_damage}
-use Rattle.fw_running.proofs.SameStateLaws.{told-shows, told-takes}
+use Rattle.fw_running.proofs.SameStateLaws.{told-recovers, told-shows, told-takes}
 use Rattle.fw_running.proofs.StepLaws.{busy, fault-counts, recovery-answers, recovery-fails, recovery-refused}
 use Rattle.fw_recover.proofs.FollowedLaws.{followed-recovered, followed-shaped, queues-at_receivers}
-use Rattle.fw_recover.proofs.RecoverStepLaws.{recovery-done, recovery-shows, refused-damage, refused-stands, some-down}
+use Rattle.fw_recover.proofs.RecoverStepLaws.{held-done, recovery-done, recovery-shows, refused-damage, refused-held, refused-stands, some-down, unanswered-held}
 use Rattle.fw_recover.proofs.recovery.recover.Goals as goal
 
-pub returns-in_err-choice : goal.returns-in_err-choice
-returns-in_err-choice g c = recovery-refused c.from_residual.ensures.1 c.requires.stored refl refl (λ told. told)
+pub returns-in_err-choice-clause-answers : goal.returns-in_err-choice-clause-answers
+returns-in_err-choice-clause-answers g c = recovery-refused c.from_residual.ensures.1 c.requires.stored refl refl (λ told. told)
 
-pub returns-in_err-restore : goal.returns-in_err-restore
-returns-in_err-restore g c =
+pub returns-in_err-choice-clause-held : goal.returns-in_err-choice-clause-held
+returns-in_err-choice-clause-held g c = unanswered-held _ _ _ _ _ c.from_residual.ensures.1
+
+pub returns-in_err-restore-clause-answers : goal.returns-in_err-restore-clause-answers
+returns-in_err-restore-clause-answers g c =
     let old = c.args.running.now in
     let choice = c.in_ok-choice.choice in
     let before = g.K.Store.view c.args.store.now in
@@ -37,20 +40,37 @@ returns-in_err-restore g c =
     (restored.faults ∙ fault-counts (Unit {0}) Stepped f before.faults) (refused-damage old choice after.records after.given f result c.in_ok-choice.ensures.of_state is restored.damaged)
     (told-before before.records after.records c.restore.ensures.stays)
 
-pub returns-in_err-follow : goal.returns-in_err-follow
-returns-in_err-follow g c =
+pub returns-in_err-restore-clause-held : goal.returns-in_err-restore-clause-held
+returns-in_err-restore-clause-held g c =
+    let old = c.args.running.now in
+    let choice = c.in_ok-choice.choice in
+    let before = g.K.Store.view c.args.store.now in
+    let after = g.K.Store.view c.restore.new.store in
+    let f = c.in_err-restore.field-0.0 in
+    let result = c.from_residual-in_err-restore.result in
+    let is = c.from_residual-in_err-restore.ensures.1 in
+    let restored = c.in_err-restore.ensures in
+    let some = some-down old.failed.items c.any_of.result (c.any_of.ensures ∙ ap (list_any (λ down. down)) c.deref.ensures.value) c.if-not-any_of.false in
+    told-recovers old (record old { parts = c.restore.new.parts }) before.records after.records result c.restore.ensures.stays
+    (refused-held old c.restore.new.parts choice after.records after.given f result c.requires.shaped some restored.kept is restored.damaged)
+
+pub returns-in_err-follow-clause-answers : goal.returns-in_err-follow-clause-answers
+returns-in_err-follow-clause-answers g c =
     let restored = c.in_ok-restore.ensures in
     recovery-refused c.from_residual-in_err-follow.ensures.1
     (subst (λ (parts : Parts). IsStored parts.keep (g.K.Store.view c.restore.new.store).records) (sym c.follow.ensures.parts) restored.stored)
     c.follow.ensures.flow restored.faults (told-before _ _ c.restore.ensures.stays)
+
+pub returns-in_err-follow-clause-held : goal.returns-in_err-follow-clause-held
+returns-in_err-follow-clause-held g c = unanswered-held _ _ _ _ _ c.from_residual-in_err-follow.ensures.1
 
 pub follow-requires-clause-queues : goal.follow-requires-clause-queues
 follow-requires-clause-queues g c =
     queues-at_receivers c.in_ok-choice.choice (g.K.Store.view c.restore.new.store).records c.args.running.now c.restore.new.parts c.requires.shaped c.in_ok-restore.ensures.restored
     c.restore.ensures.each
 
-pub returns : goal.returns
-returns g c =
+pub returns-clause-answers : goal.returns-clause-answers
+returns-clause-answers g c =
     let old = c.args.running.now in
     let choice = c.in_ok-choice.choice in
     let before = (g.K.Store.view c.args.store.now).records in
@@ -70,3 +90,16 @@ returns g c =
     (told-shows old before records steps.Recover (Ok (Did (Cuts choice))) stays
     (recovery-shows old c.follow.new.running records choice c.requires.shaped some of_state made)) restored.faults (λ id e. absurd (no_damage {T = Stepped} (Ok (Did (Cuts choice))) id tt e))
     (told-before before records stays) busy
+
+pub returns-clause-held : goal.returns-clause-held
+returns-clause-held g c =
+    let old = c.args.running.now in
+    let choice = c.in_ok-choice.choice in
+    let before = (g.K.Store.view c.args.store.now).records in
+    let records = (g.K.Store.view c.restore.new.store).records in
+    let restored = c.in_ok-restore.ensures in
+    let followed = c.in_ok-follow.ensures in
+    let made = followed-recovered choice records old c.follow.new.running c.restore.new.parts restored.restored followed.followed followed.flow followed.parts in
+    let some = some-down old.failed.items c.any_of.result (c.any_of.ensures ∙ ap (list_any (λ down. down)) c.deref.ensures.value) c.if-not-any_of.false in
+    told-recovers old c.follow.new.running before records (Ok (Did (Cuts choice))) c.restore.ensures.stays
+    (held-done old c.follow.new.running records choice c.requires.shaped some c.in_ok-choice.ensures.of_held made)

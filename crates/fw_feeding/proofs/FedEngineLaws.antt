@@ -1,5 +1,5 @@
 -- An engine that is fed stands over the later batches for the state for which it stood.
-use Rattle.std.proofs.Common.{◌≡◌, ◌↔◌, ℕ, true, cond, List, [], ◌∷◌, length, map, Option, Some, None, sym, ap, subst, ◌∙◌, Bool}
+use Rattle.std.proofs.Common.{◌≡◌, ◌↔◌, ℕ, true, ◌&&◌, cond, List, [], ◌∷◌, length, map, Option, Some, None, sym, ap, subst, ◌∙◌, Bool}
 use Rattle.std.specs.List.{AllByRecursion, Contains}
 use Rattle.fw_lemmas.proofs.Each.{each-kept}
 use Rattle.fw_lemmas.proofs.SideBySide.{zip-weaker}

@@ -2,7 +2,7 @@
 use Rattle.std.proofs.Common.{◌≡◌, ℕ, Bool, true, false, ◌==◌, cond, List, [], ◌∷◌, ◌++◌, map, refl, sym, ap, subst, ◌∙◌}
 use Rattle.std.specs.Prelude.{◌&&◌, filter}
 use Rattle.std.specs.List.{AllByRecursion, flat_map}
-use Rattle.std.proofs.lemmas.Bool.{eq-eqb, eqb-true, both_ways, false_from_ne_true}
+use Rattle.std.proofs.lemmas.Bool.{eq-eqb, eqb-true, false_from_ne_true}
 use Rattle.fw_lemmas.proofs.Each.{each-weaker, each-append}
 use Rattle.fw_lemmas.proofs.Filters.{flat_map-filter}
 use Rattle.fw_time.specs.Stamp.{Stamp, in_domain}
@@ -27,10 +27,10 @@ use Rattle.fw_progress.specs.declared.sent_tally.SentTally.{SentTally}
 use Rattle.fw_progress.specs.declared.traces.Traces.{Traces}
 use Rattle.fw_model.specs.EventStamps.{causes_in, base_of_sent, tells_sent}
 use Rattle.fw_progress.specs.SentTally.{IsSentTally, ComeFromDomain, IsTallySettledTo, IsCountedInAll, IsTallyCutTo}
-use Rattle.fw_progress.specs.Trace.{delivered_on, stamps_notified, stamps_where_sent, counted_of, counts_sent, IsTraceAmong, IsTraceIf, IsTraceWithin, KeepsOthers, AreSettledTo, AreThinnedAt, AreCutTo, HaveChanged}
+use Rattle.fw_progress.specs.Trace.{delivered_on, stamps_notified, stamps_where_sent, counted_of, IsTraceIf, IsTraceWithin, KeepsOthers, AreSettledTo, AreThinnedAt, AreCutTo, HaveChanged}
 use Rattle.fw_progress.specs.Traces.{AreOf, IsSettledTo, IsThinnedBy, StandsInside}
 use Rattle.fw_progress.proofs.SentTallyLaws.{tally-settle}
-use Rattle.fw_progress.proofs.TraceLaws.{among-inside, sent_among-inside, thinned-settle, settled-if, inside-if, sent_settled-if, sent_inside-if}
+use Rattle.fw_progress.proofs.TraceLaws.{thinned-settle, settled-if, inside-if, sent_settled-if, sent_inside-if}
 
 -- ---- of a node's events alone
 
@@ -246,41 +246,9 @@ cut-traces flow p f old new well change = record {
       let w_now : Within base (node_frontier sys.flow p f) = subst (λ g. Within base (node_frontier g p f)) (sym e) w in
       subst (λ g. IsTraceIf whole sys (kept_events g keep h) p base new) e
       (here whole sys h keep (subst IsWellFormed (sym e) well) epochs legal fr_now is_now base w_now (subst (λ g. HaveChanged g p (StandsInside f) (IsTallyCutTo f) old new) (sym e) change) t);
-  among = λ sys h keep e epochs legal fr is uncounted t.
-      let is_now : keep p ≡ node_frontier sys.flow p f = is ∙ sym (ap (λ g. node_frontier g p f) e) in
-      let fr_now : AreFrontiers sys.flow keep = subst (λ g. AreFrontiers g keep) (sym e) fr in
-      subst (λ g. IsTraceIf false sys (kept_events g keep h) p (node_frontier g p f) new) e
-      (some sys h keep (subst IsWellFormed (sym e) well) epochs legal fr_now is_now (subst (λ g. counts_sent g p ≡ false) (sym e) uncounted)
-      (subst (λ g. HaveChanged g p (StandsInside f) (IsTallyCutTo f) old new) (sym e) change) t);
   others = changed-others flow p (StandsInside f) (IsTallyCutTo f) old new change;
 }
   where
-    some : (sys : System) (h : List Event) (keep : ℕ → Frontier) → IsWellFormed sys.flow → HasEpochs sys → IsLegal sys h → AreFrontiers sys.flow keep → keep p ≡ node_frontier sys.flow p f
-        → counts_sent sys.flow p ≡ false → HaveChanged sys.flow p (StandsInside f) (IsTallyCutTo f) old new → IsTraceAmong sys h p old
-        → IsTraceIf false sys (kept_events sys.flow keep h) p (node_frontier sys.flow p f) new
-    some sys h keep well epochs legal fr is uncounted c t =
-        let b = bounds_of sys.flow p in
-        let g = node_frontier sys.flow p f in
-        let a = legal_events-in_domain sys h well epochs legal p in
-        let sends = sent_by sys p (events_at sys.flow p h) in
-        let sent = sent_by-same sys h keep well epochs legal fr p ∙ ap (λ x. messages_from x sends) is in
-        record {
-          delivered = λ d l r.
-              let all = map (λ (m : Message). m.at) (delivered_messages h d) in
-              let left : map (λ (m : Message). m.at) (delivered_messages (kept_events sys.flow keep h) d) ≡ filter g all =
-              ap (map (λ (m : Message). m.at)) (delivers-same sys.flow h keep d) ∙ map-filter (keep (receiver sys.flow d)) (delivered_messages h d)
-              ∙ ap (λ x. filter x all) (ap keep r ∙ is) in
-              subst (λ ss. IsThinnedIf false g ss (delivered_on new d)) (sym left)
-              (among-inside b f (delivered_on old d) (delivered_on new d) (c.delivered.here d l r) all
-              (subst (λ q. AreEventsInDomain sys.flow h q → AreOf (bounds_of sys.flow q) all) r (delivered-domain sys h d) a) (t.delivered d l r));
-          notified = subst (λ ss. IsThinnedIf false g ss (stamps_notified new p)) (sym (notices-kept sys.flow keep h p ∙ ap (λ x. filter x (flat_map (stamp_of_notice p) h)) is))
-              (among-inside b f (stamps_notified old p) (stamps_notified new p) c.notified.here (flat_map (stamp_of_notice p) h) (notices-domain sys h p a) t.notified);
-          sent = λ o k. subst (λ ss. IsThinnedIf false (base_of_sent sys.flow p g) ss (stamps_where_sent new p))
-              (sym (ap causes_in sent ∙ causes-from g sends (sent-one sys p (events_at sys.flow p h))))
-              (sent_among-inside sys.flow p b f (stamps_where_sent old p) (stamps_where_sent new p) c.sent.here (causes_in sends) (causes-of b _ (sent-domain sys h p a)) (t.sent o k));
-          counted = λ k. absurd (both_ways (counts_sent sys.flow p) uncounted k);
-        }
-
     here : (whole : Bool) (sys : System) (h : List Event) (keep : ℕ → Frontier) → IsWellFormed sys.flow → HasEpochs sys → IsLegal sys h → AreFrontiers sys.flow keep → keep p ≡ node_frontier sys.flow p f
         → (base : Frontier) → Within base (node_frontier sys.flow p f) → HaveChanged sys.flow p (StandsInside f) (IsTallyCutTo f) old new → IsTraceIf whole sys h p base old
         → IsTraceIf whole sys (kept_events sys.flow keep h) p base new

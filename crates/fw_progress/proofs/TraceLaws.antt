@@ -385,20 +385,6 @@ inside-if whole bounds f old new k base all d w h =
     (each-weaker (λ t. base t ≡ false → Contains old t) (λ t. g t ≡ true → base t ≡ false → Contains (filter g old) t) all (λ t c i o. has-passed g old t (c o) i) h.outside))
     h
 
--- of stamps of which any may be missing those inside a cut are all inside it, so that none is missing outside
-pub among-inside : (bounds : Bounds) (f : Front) (old new : List Stamp) → StandsInside f old new → (all : List Stamp) → AreOf bounds all
-    → AllByRecursion (Contains all) old → IsThinnedIf false (frontier_of bounds f) (filter (frontier_of bounds f) all) new
-among-inside bounds f old new k all d among =
-    let g = frontier_of bounds f in
-    let own = k bounds g old (among-domain bounds all old d among) (λ t i. i) (thinned-itself g old) in
-    record {
-      among = each-weaker (Contains (filter g old)) (Contains (filter g all)) new
-          (λ s c. each-contained (Contains (filter g all)) s (filter g old) c (among-passed g all old among)) own.among;
-      outside = each-filter (λ t. g t ≡ false → Contains new t) g all
-          (each-had (λ t. g t ≡ true → g t ≡ false → Contains new t) all (λ t c i o. absurd (both_ways (g t) o i)));
-      inside = λ w. absurd (cc);
-    }
-
 -- where it sent, of a node that settles
 pub sent_settled-if : (whole : Bool) (flow : Dataflow) (p : ℕ) (bounds : Bounds) (f : Front) (old new : List Stamp) → IsSettledTo f old new → (base : Frontier) (all : List Stamp)
     → AreOf bounds all → Within base (frontier_of bounds f) → IsThinnedIf (whole && tells_sent flow p) (base_of_sent flow p base) all old
@@ -426,15 +412,3 @@ sent_inside-if false flow p bounds f old new k base all d w h = by (not (can_res
         untold-if (filter g all) new (each-weaker (Contains (filter g old)) (Contains (filter g all)) new
         (λ s c. each-contained (Contains (filter g all)) s (filter g old) c (among-passed g all old i.among))
         (k bounds base old (among-domain bounds all old d i.among) w (thinned-itself base old)).among)
-
--- and of one of which any of that may be missing
-pub sent_among-inside : (flow : Dataflow) (p : ℕ) (bounds : Bounds) (f : Front) (old new : List Stamp) → StandsInside f old new → (all : List Stamp) → AreOf bounds all
-    → AllByRecursion (Contains all) old → IsThinnedIf false (base_of_sent flow p (frontier_of bounds f)) (filter (frontier_of bounds f) all) new
-sent_among-inside flow p bounds f old new k all d among = by (not (can_resend (policy_of flow p)))
-  where
-    g : Frontier
-    g = frontier_of bounds f
-
-    by : (told : Bool) → IsThinnedIf false (cond told (frontier_of bounds f) (λ t. true)) (filter (frontier_of bounds f) all) new
-    by true = among-inside bounds f old new k all d among
-    by false = untold-if (filter g all) new (among-inside bounds f old new k all d among).among

@@ -141,10 +141,6 @@ pub record AreCutTo (flow : Dataflow) (p : ℕ) (f : Front) (old new : Traces) :
   pub here : (whole : Bool) (sys : System) (h : List Event) (keep : ℕ → Frontier) → sys.flow ≡ flow → HasEpochs sys → IsLegal sys h
       → AreFrontiers flow keep → keep p ≡ node_frontier flow p f → (base : Frontier) → Within base (node_frontier flow p f)
       → IsTraceIf whole sys h p base old → IsTraceIf whole sys (kept_events flow keep h) p base new
-  -- where they were some of what happened, the frontier is the base: nothing is outside
-  pub among : (sys : System) (h : List Event) (keep : ℕ → Frontier) → sys.flow ≡ flow → HasEpochs sys → IsLegal sys h
-      → AreFrontiers flow keep → keep p ≡ node_frontier flow p f → counts_sent flow p ≡ false
-      → IsTraceAmong sys h p old → IsTraceIf false sys (kept_events flow keep h) p (node_frontier flow p f) new
   pub others : KeepsOthers flow p old new
 
 -- each event of node p is at a stamp inside

@@ -1,10 +1,10 @@
 -- The traces of nodes after a recovery.
 use Rattle.std.proofs.Common.{◌≡◌, ℕ, ◌<◌, Bool, true, false, cond, ◌&&◌, ◌==◌, not, List, [], ◌∷◌, length, map, filter, Option, Some, None, refl, sym, ap, subst, ◌∙◌, inl, inr}
 use Rattle.std.specs.Prelude.{find}
-use Rattle.std.specs.List.{AllByRecursion, AllZip, Contains, flat_map}
+use Rattle.std.specs.List.{AllByRecursion, AllZip, flat_map}
 use Rattle.std.proofs.lemmas.Bool.{and_parts, and_from, cases_Bool, eqb-true}
 use Rattle.fw_lemmas.proofs.Bools.{two_ways}
-use Rattle.fw_lemmas.proofs.Each.{each-kept}
+use Rattle.fw_lemmas.proofs.Each.{each-kept, each-one}
 use Rattle.fw_lemmas.proofs.Filters.{filter-in, filter-out}
 use Rattle.fw_time.specs.Stamp.{Stamp}
 use Rattle.fw_frontier.specs.Frontier.{Frontier}
@@ -22,12 +22,11 @@ use Rattle.fw_flow.specs.Projection.{events_at}
 use Rattle.fw_model.specs.Floors.{IsFloor}
 use Rattle.fw_model.specs.Choice.{cut_of}
 use Rattle.fw_model.specs.Covers.{stamp_of_notice}
-use Rattle.fw_model.specs.EventStamps.{causes_in, tells_sent}
+use Rattle.fw_model.specs.EventStamps.{causes_in}
 use Rattle.fw_model.specs.History.{delivered_messages}
 use Rattle.fw_model.specs.Machine.{Machine, Write, checkpoint, logged_event, events, front_of, no_stamps}
 use Rattle.fw_model.specs.Machine.{Written as WrittenBy}
 use Rattle.fw_model.specs.Steps.{recovered_state}
-use Rattle.fw_model.specs.Thinned.{IsThinnedIf}
 use Rattle.fw_model.specs.Writes.{takes_checkpoints}
 use Rattle.fw_model.proofs.CmpLaws.{decided-front}
 use Rattle.fw_keep.specs.declared.entry.Entry.{Entry}
@@ -37,8 +36,7 @@ use Rattle.fw_keep.specs.Entry.{lies_within, is_beyond, is_written_at}
 use Rattle.fw_keep.specs.Stored.{Records}
 use Rattle.fw_policy.specs.View.{base_of}
 use Rattle.fw_progress.specs.declared.traces.Traces.{Traces}
-use Rattle.fw_progress.specs.Trace.{delivered_on, stamps_notified, stamps_where_sent, IsTraceAmong, IsTraceIf}
-use Rattle.fw_progress.proofs.TraceLaws.{untold-if}
+use Rattle.fw_progress.specs.Trace.{IsTraceAmong, IsTraceIf}
 use Rattle.fw_rollback.specs.Restored.{is_undone}
 use Rattle.fw_stands.specs.Recovered.{Recovers}
 use Rattle.fw_stands.specs.Parts.{IsTraceIn}
@@ -46,7 +44,7 @@ use Rattle.fw_stands.specs.Read.{is_checkpoint_at}
 use Rattle.fw_stands.specs.Written.{AreEntriesOf, AreStored, HoldsWhatIsWritten, HoldsWithin, IsEntryOf, uncollected}
 use Rattle.fw_stands.proofs.ReadLaws.{one-checkpoint}
 use Rattle.fw_stands.proofs.RecoveredTables.{cuts-canonical}
-use Rattle.fw_stands.proofs.RecoveredTraces.{traces-cut, traces-cut_among, traces-from_checkpoints, traces-nothing, traces-present}
+use Rattle.fw_stands.proofs.RecoveredTraces.{some-trace, traces-cut, traces-cut_among, traces-from_checkpoints, traces-nothing, traces-present}
 use Rattle.fw_recover.specs.CutTraces.{AreSavedAs, AreSavedBy, AreTracesCutAt, AreTracesCutTo, IsTraceCut, is_saved_at}
 
 -- ---- what is found in a list
@@ -185,23 +183,13 @@ trace-after sys floor state choice settled r above es a records st p l old new c
 
 -- ---- the traces of a node of which it is told only that they were some of what happened
 
--- of a node that counts nothing they are so above everything
+-- they are so above everything, of a node of which it is not counted how much it sent
 among-above : (sys : System) (h : List Event) (p : ℕ) (traces : Traces) → takes_checkpoints (policy_of sys.flow p) ≡ false → IsTraceAmong sys h p traces
     → IsTraceIf false sys h p (λ t. true) traces
-among-above sys h p traces takes a = record {
-  delivered = λ d l r. untold-if (map (λ (m : Message). m.at) (delivered_messages h d)) (delivered_on traces d) (a.delivered d l r);
-  notified = untold-if (flat_map (stamp_of_notice p) h) (stamps_notified traces p) a.notified;
-  sent = λ o k. by (tells_sent sys.flow p) (a.sent o k);
-  counted = λ c. absurd (two_ways (takes_checkpoints (policy_of sys.flow p)) c takes);
-}
-  where
-    sent : List Stamp
-    sent = causes_in (sent_by sys p (events_at sys.flow p h))
-
-    by : (told : Bool) → AllByRecursion (Contains (causes_in (sent_by sys p (events_at sys.flow p h)))) (stamps_where_sent traces p)
-        → IsThinnedIf false (cond told (λ t. true) (λ t. true)) (causes_in (sent_by sys p (events_at sys.flow p h))) (stamps_where_sent traces p)
-    by true a = untold-if sent (stamps_where_sent traces p) a
-    by false a = untold-if sent (stamps_where_sent traces p) a
+among-above sys h p traces takes a =
+    let each : (ts : List Stamp) → AllByRecursion (λ t. true ≡ true) ts = λ ts. each-one (λ t. true ≡ true) ts (λ t. refl) in
+    some-trace sys h p (λ t. true) traces takes (λ d r. each (map (λ (m : Message). m.at) (delivered_messages h d))) (each (flat_map (stamp_of_notice p) h))
+    (each (causes_in (sent_by sys p (events_at sys.flow p h)))) a
 
 above-among : (sys : System) (h : List Event) (p : ℕ) (base : Frontier) (traces : Traces) → IsTraceIf false sys h p base traces → IsTraceAmong sys h p traces
 above-among sys h p base traces t = record {

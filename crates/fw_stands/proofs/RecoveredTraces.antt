@@ -1,9 +1,9 @@
 -- The traces of nodes after a recovery.
-use Rattle.std.proofs.Common.{◌≡◌, ℕ, ◌<◌, true, false, ◌&&◌, cond, List, [], length, refl, sym, ap, subst, ◌∙◌, Bool}
-use Rattle.std.specs.List.{AllByRecursion}
+use Rattle.std.proofs.Common.{◌≡◌, ℕ, ◌<◌, true, false, ◌&&◌, cond, List, [], length, map, filter, refl, sym, ap, subst, ◌∙◌, Bool}
+use Rattle.std.specs.List.{AllByRecursion, Contains, flat_map}
 use Rattle.std.proofs.lemmas.Bool.{cond-true, cond-false, false_from_ne_true}
 use Rattle.fw_lemmas.proofs.Bools.{two_ways}
-use Rattle.fw_lemmas.proofs.Each.{each-one, each-filter}
+use Rattle.fw_lemmas.proofs.Each.{each-one, each-filter, each-weaker}
 use Rattle.fw_lemmas.proofs.Filters.{filter-none}
 use Rattle.fw_time.specs.Stamp.{Stamp, in_domain}
 use Rattle.fw_frontier.specs.Frontier.{Frontier, Within, nothing}
@@ -12,14 +12,17 @@ use Rattle.fw_frontier.proofs.NamesLaws.{frontier-closed}
 use Rattle.fw_flow.specs.declared.choice.Choice.{Choice}
 use Rattle.fw_flow.specs.declared.choice.Cut.TheVariants.{At, Present}
 use Rattle.fw_flow.specs.declared.choice.Stamps.{Stamps}
-use Rattle.fw_flow.specs.Dataflow.{System, kind_of, policy_of, bounds_of, node_frontier, is_input_kind}
+use Rattle.fw_flow.specs.declared.event.Event.{Event}
+use Rattle.fw_flow.specs.declared.event.Message.{Message}
+use Rattle.fw_flow.specs.Dataflow.{System, Dataflow, kind_of, policy_of, receiver, bounds_of, node_frontier, is_input_kind}
 use Rattle.fw_flow.specs.NodeFunction.{event_stamp, sent_by}
 use Rattle.fw_flow.specs.Projection.{events_at}
 use Rattle.fw_model.specs.Choice.{IsCutWithin, cut_of, kept_of}
 use Rattle.fw_model.specs.Floors.{IsFloor}
-use Rattle.fw_model.specs.Covers.{set_of}
-use Rattle.fw_model.specs.EventStamps.{AreStampsIf, StandForNumbered, StandForSent, base_of_sent, tells_sent}
-use Rattle.fw_model.specs.Filtering.{messages_from}
+use Rattle.fw_model.specs.Covers.{set_of, stamp_of_notice}
+use Rattle.fw_model.specs.EventStamps.{AreStampsIf, StandForNumbered, StandForSent, base_of_sent, causes_in, tells_sent}
+use Rattle.fw_model.specs.Filtering.{kept_events, messages_from}
+use Rattle.fw_model.specs.History.{delivered_messages}
 use Rattle.fw_model.specs.Machine.{Machine, events, front_of, is_failed, no_stamps}
 use Rattle.fw_model.specs.Offers.{AreAtEdgeStamps, counted_on_edge, stamps_on}
 use Rattle.fw_model.specs.Steps.{IsSettledCut, recovered_state}
@@ -31,8 +34,10 @@ use Rattle.fw_model.proofs.FloorLaws.{holds-floors}
 use Rattle.fw_model.proofs.SendPartLaws.{part-sends}
 use Rattle.fw_policy.specs.View.{base_of}
 use Rattle.fw_policy.specs.Entries.{count_within}
-use Rattle.fw_progress.specs.Trace.{AreEventsInside, IsTraceAmong, IsTraceOf, AreRestoredTo, AreCutTo, IsTraceIf}
-use Rattle.fw_progress.proofs.CutTraceLaws.{same-trace}
+use Rattle.fw_progress.specs.SentTally.{IsTallyCutTo}
+use Rattle.fw_progress.specs.Trace.{AreEventsInside, IsTraceAmong, IsTraceOf, AreRestoredTo, AreCutTo, IsTraceIf, delivered_on, stamps_notified, stamps_where_sent}
+use Rattle.fw_progress.proofs.AmongLaws.{cut-among}
+use Rattle.fw_progress.proofs.CutTraceLaws.{delivered-kept, notices-kept, same-trace, sent-kept}
 use Rattle.fw_progress.specs.declared.traces.Traces.{Traces}
 use Rattle.fw_stands.specs.Recovered.{Recovers, AreNoStamps}
 use Rattle.fw_stands.specs.Written.{events_within}
@@ -78,22 +83,66 @@ traces-cut sys floor state choice settled r above p l takes f is old new cut t =
     (cut.here (takes_checkpoints (policy_of sys.flow p)) sys h (kept_of sys.flow choice) refl k.epochs k.legal k.keeps.kept (ap (set_of sys.flow p) is) low within
     (subst (λ b. IsTraceOf sys h p b old) base t)))
 
--- where its front is that of its cut, which then is its base, it is enough that they were some of what happened
+-- ---- traces of which it is told only that they were some of what happened
+
+-- some of these stamps are thinned inside a base that has all of them
+some-thinned : (base : Frontier) (all kept : List Stamp) → AllByRecursion (λ t. base t ≡ true) all → AllByRecursion (Contains all) kept → IsThinnedIf false base all kept
+some-thinned base all kept inside among = record {
+  among = among;
+  outside = each-weaker (λ t. base t ≡ true) (λ t. base t ≡ false → Contains kept t) all (λ t i o. absurd (two_ways (base t) i o)) inside;
+  inside = λ w. absurd (cc);
+}
+
+some-sent : (flow : Dataflow) (p : ℕ) (base : Frontier) (all kept : List Stamp) → AllByRecursion (λ t. base t ≡ true) all → AllByRecursion (Contains all) kept
+    → IsThinnedIf false (base_of_sent flow p base) all kept
+some-sent flow p base all kept inside among = by (tells_sent flow p)
+  where
+    by : (told : Bool) → IsThinnedIf false (cond told base (λ t. true)) all kept
+    by true = some-thinned base all kept inside among
+    by false = some-thinned (λ t. true) all kept (each-one (λ t. true ≡ true) all (λ t. refl)) among
+
+-- So are traces of a node of which it is not counted how much it sent, where the base has all of its events.
+pub some-trace : (sys : System) (h : List Event) (p : ℕ) (base : Frontier) (traces : Traces) → takes_checkpoints (policy_of sys.flow p) ≡ false
+    → ((d : ℕ) → receiver sys.flow d ≡ p → AllByRecursion (λ t. base t ≡ true) (map (λ (m : Message). m.at) (delivered_messages h d)))
+    → AllByRecursion (λ t. base t ≡ true) (flat_map (stamp_of_notice p) h) → AllByRecursion (λ t. base t ≡ true) (causes_in (sent_by sys p (events_at sys.flow p h)))
+    → IsTraceAmong sys h p traces → IsTraceIf false sys h p base traces
+some-trace sys h p base traces takes delivered notified sent t = record {
+  delivered = λ d l r. some-thinned base (map (λ (m : Message). m.at) (delivered_messages h d)) (delivered_on traces d) (delivered d r) (t.delivered d l r);
+  notified = some-thinned base (flat_map (stamp_of_notice p) h) (stamps_notified traces p) notified t.notified;
+  sent = λ o k. some-sent sys.flow p base (causes_in (sent_by sys p (events_at sys.flow p h))) (stamps_where_sent traces p) sent (t.sent o k);
+  counted = λ c. absurd (two_ways (takes_checkpoints (policy_of sys.flow p)) c takes);
+}
+
+each-inside : (f : Frontier) (ts : List Stamp) → AllByRecursion (λ t. f t ≡ true) (filter f ts)
+each-inside f ts = each-filter (λ t. f t ≡ true) f ts (each-one (λ t. f t ≡ true → f t ≡ true) ts (λ t i. i))
+
+-- where the front of a node that takes no checkpoints is that of its cut, which is its base then, it is enough that they were some
 pub traces-cut_among : (sys : System) (floor : List Front) (state : Machine) (choice : Choice) (settled : List Front) → Recovers sys state choice settled
     → (p : ℕ) → takes_checkpoints (policy_of sys.flow p) ≡ false → (f : Front) → cut_of choice p ≡ At f → front_of floor p ≡ f
     → (old new : Traces) → AreCutTo sys.flow p f old new → IsTraceAmong sys (events state.history) p old
     → IsTraceIn sys floor (recovered_state sys state choice settled) p new
 traces-cut_among sys floor state choice settled r p takes f is same old new cut t =
     let k = knows sys state choice settled r in
+    let w = r.well_formed.flow in
+    let h = events state.history in
     let next = recovered_state sys state choice settled in
+    let keep = kept_of sys.flow choice in
     let base = node_frontier sys.flow p f in
+    let vs = kept_events sys.flow keep h in
+    let at : keep p ≡ base = ap (set_of sys.flow p) is in
+    let Inside : List Stamp → Type 0 = AllByRecursion (λ t. base t ≡ true) in
     let base_now : base_of sys floor next p ≡ base =
     cond-false (takes_checkpoints (policy_of sys.flow p)) (node_frontier sys.flow p (front_of settled p)) (node_frontier sys.flow p (front_of floor p)) takes
     ∙ ap (node_frontier sys.flow p) same in
+    let trace : IsTraceIf false sys vs p base new =
+    some-trace sys vs p base new takes
+    (λ d e. subst Inside (sym (delivered-kept sys h keep p base at d e)) (each-inside base (map (λ (m : Message). m.at) (delivered_messages h d))))
+    (subst Inside (sym (notices-kept sys.flow keep h p ∙ ap (λ g. filter g (flat_map (stamp_of_notice p) h)) at)) (each-inside base (flat_map (stamp_of_notice p) h)))
+    (subst Inside (sym (sent-kept sys h keep w k.epochs k.legal k.keeps.kept p base at)) (each-inside base (causes_in (sent_by sys p (events_at sys.flow p h)))))
+    (cut-among sys.flow p f (IsTallyCutTo f) old new w cut.lists sys h keep refl k.epochs k.legal k.keeps.kept at t) in
     subst (λ b. IsTraceOf sys (events next.history) p b new) (sym base_now)
     (subst (λ whole. IsTraceIf whole sys (events next.history) p base new) (sym takes)
-    (subst (λ vs. IsTraceIf false sys vs p base new) (sym (events-now sys state choice settled))
-    (cut.among sys (events state.history) (kept_of sys.flow choice) refl k.epochs k.legal k.keeps.kept (ap (set_of sys.flow p) is) takes t)))
+    (subst (λ xs. IsTraceIf false sys xs p base new) (sym (events-now sys state choice settled)) trace))
 
 -- ---- a node that is cut to a checkpoint
 

@@ -61,7 +61,7 @@ IsLostAt sys state p t = (is_failed state p ≡ true) × IsUnlogged sys state p 
 
 -- what is kept of stamps is among all of them, and has each that was logged and is outside a base
 abbrev pub AreLogged : Frontier → List Stamp → List Stamp → List Stamp → Type 0
-AreLogged base all logged kept = AllByRecursion (Contains all) kept × AllByRecursion (λ t. base t ≡ false → Contains kept t) logged
+AreLogged base all logged own = AllByRecursion (Contains all) own × AllByRecursion (λ t. base t ≡ false → Contains own t) logged
 
 -- The stamps are some at which something was delivered to node p, or it was notified: of those outside a base each that an acknowledged
 -- write logs.

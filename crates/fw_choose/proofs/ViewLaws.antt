@@ -1,5 +1,5 @@
 -- What an engine knows of its nodes is so in each state for which it stands, and of its flow.
-use Rattle.std.proofs.Common.{◌≡◌, ◌↔◌, ◌⊎◌, inl, inr, ℕ, zero, suc, ◌+◌, ◌<◌, ◌≤◌, Bool, true, false, not, cond, ◌||◌, ◌==◌, List, [], ◌∷◌, ◌++◌, length, map, filter, get_or, slice_index_or, Option, refl, sym, ◌∙◌, ap, subst, arith}
+use Rattle.std.proofs.Common.{◌≡◌, ◌↔◌, ◌⊎◌, inl, inr, ℕ, zero, suc, ◌+◌, ◌<◌, ◌≤◌, Bool, true, false, not, cond, ◌&&◌, ◌||◌, ◌==◌, List, [], ◌∷◌, ◌++◌, length, map, filter, get_or, slice_index_or, Option, refl, sym, ◌∙◌, ap, subst, arith}
 use Rattle.std.specs.List.{AllByRecursion, Contains, flat_map}
 use Rattle.std.proofs.lemmas.Bool.{and_parts, and_from, eqb-true, both_ways}
 use Rattle.std.proofs.lemmas.List.{get_or_default, length-append}
@@ -262,7 +262,7 @@ stamps-stay whole sys h p base raw s = record {
   notified = subst (λ (ts : List Stamp). IsThinnedIf whole base (flat_map (stamp_of_notice p) h) ts)
       (sym (filter-all (in_domain (bounds_of flow p)) raw.notified s.in_domain)) s.notified;
   sent = λ n e l k. subst (λ (ms : List Counted). StandForSent (whole && tells_sent sys.flow p) sys h p (base_of_sent sys.flow p base) e ms) (sym (by single refl e l k n)) (s.sent n e l k);
-  numbered = λ q e l k. subst (λ (ms : List Counted). StandForNumbered sys h e ms) (sym (all_of single refl q)) (s.numbered q e l k);
+  numbered = λ q t e l k. subst (λ (ms : List Counted). StandForNumbered sys h e ms) (sym (all_of single refl q)) (s.numbered q t e l k);
 }
   where
     flow : Dataflow

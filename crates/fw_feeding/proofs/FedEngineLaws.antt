@@ -1,5 +1,5 @@
 -- An engine that is fed stands over the later batches for the state for which it stood.
-use Rattle.std.proofs.Common.{◌≡◌, ◌↔◌, ℕ, true, cond, List, [], ◌∷◌, length, map, Option, Some, None, sym, ap, subst, ◌∙◌, Bool}
+use Rattle.std.proofs.Common.{◌≡◌, ◌↔◌, ℕ, true, ◌&&◌, cond, List, [], ◌∷◌, length, map, Option, Some, None, sym, ap, subst, ◌∙◌, Bool}
 use Rattle.std.specs.List.{AllByRecursion, Contains}
 use Rattle.fw_lemmas.proofs.Each.{each-kept}
 use Rattle.fw_lemmas.proofs.SideBySide.{zip-weaker}
@@ -131,10 +131,10 @@ stamps-alike whole flow now later h a p base stamps k = record {
     of_cause = stand.of_cause;
     thinned = subst (λ ms. IsThinnedIf (whole && tells_sent flow p) (base_of_sent flow p base) (causes_in ms) (causes_of (counted_on_edge e stamps.sent))) (messages-alike flow now later h a e) stand.thinned;
   };
-  numbered = λ s e l q. subst
+  numbered = λ s t e l q. subst
       (λ ms. IsThinned (everything (bounds_of flow (receiver flow e))) (map (λ (m : Message). m.at) ms)
       (stamps_on_from e (everything (bounds_of flow (sender flow e))) stamps.sent))
-      (messages-alike flow now later h a e) (k.numbered s e l q);
+      (messages-alike flow now later h a e) (k.numbered s t e l q);
 }
 
 count-within : (flow : Dataflow) (now later : List (List (List Rec))) (state : Machine) → AreAlikeIn flow now later (events state.history)

@@ -1,5 +1,5 @@
 -- The traces of nodes after a recovery.
-use Rattle.std.proofs.Common.{◌≡◌, ℕ, ◌<◌, true, false, cond, List, [], length, refl, sym, ap, subst, ◌∙◌, Bool}
+use Rattle.std.proofs.Common.{◌≡◌, ℕ, ◌<◌, true, false, ◌&&◌, cond, List, [], length, refl, sym, ap, subst, ◌∙◌, Bool}
 use Rattle.std.specs.List.{AllByRecursion}
 use Rattle.std.proofs.lemmas.Bool.{cond-true, cond-false, false_from_ne_true}
 use Rattle.fw_lemmas.proofs.Bools.{two_ways}
@@ -142,7 +142,7 @@ no-stamps whole sys p base stamps a = record {
   notified = none-if whole base stamps.notified a.notified;
   sent = λ n e l s. subst (λ ms. StandForSent (whole && tells_sent sys.flow p) sys [] p (base_of_sent sys.flow p base) e (counted_on_edge e ms)) (sym a.sent)
       (record { of_cause = tt; thinned = none-if (whole && tells_sent sys.flow p) (base_of_sent sys.flow p base) [] refl });
-  numbered = λ n e l s. subst (StandForNumbered sys [] e) (sym a.sent) (none-thinned _ [] refl);
+  numbered = λ n t e l s. subst (StandForNumbered sys [] e) (sym a.sent) (none-thinned _ [] refl);
 }
 
 -- those of a node that is cut to no stamps are restored by none

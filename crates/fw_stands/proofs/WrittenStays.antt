@@ -1,5 +1,5 @@
 -- What stands for a write stands for it after each step.
-use Rattle.std.proofs.Common.{◌≡◌, ℕ, ◌<◌, Bool, true, false, cond, not, ◌==◌, List, [], ◌∷◌, ◌++◌, length, filter, map, Option, Some, None, refl, sym, ap, subst, ◌∙◌, inl, inr, arith}
+use Rattle.std.proofs.Common.{◌≡◌, ℕ, ◌<◌, Bool, true, false, cond, not, ◌&&◌, ◌==◌, List, [], ◌∷◌, ◌++◌, length, filter, map, Option, Some, None, refl, sym, ap, subst, ◌∙◌, inl, inr, arith}
 use Rattle.std.specs.List.{flat_map, AllByRecursion}
 use Rattle.std.proofs.lemmas.Bool.{cond_both, eqb-true, eq-eqb}
 use Rattle.fw_lemmas.proofs.Bools.{two_ways}
@@ -95,9 +95,9 @@ stamps-own whole sys h k p base stamps same a =
             of_cause = x.of_cause;
             thinned = subst (λ ms. IsThinnedIf (whole && tells_sent sys.flow p) (base_of_sent sys.flow p base) (causes_in ms) (causes_of (counted_on_edge e stamps.sent))) (own e s) x.thinned;
           };
-      numbered = λ n e l s.
+      numbered = λ n t e l s.
           subst (λ ms. IsThinned (everything (bounds_of sys.flow (receiver sys.flow e))) (map (λ (m : Message). m.at) ms)
-          (stamps_on_from e (everything (bounds_of sys.flow (sender sys.flow e))) stamps.sent)) (own e s) (a.numbered n e l s);
+          (stamps_on_from e (everything (bounds_of sys.flow (sender sys.flow e))) stamps.sent)) (own e s) (a.numbered n t e l s);
     }
 
 -- the node's events inside are those inside of the node's

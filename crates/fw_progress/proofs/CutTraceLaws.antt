@@ -1,6 +1,6 @@
 -- Traces inside a larger base, and in a cut.
-use Rattle.std.proofs.Common.{◌≡◌, ℕ, Bool, true, false, ◌==◌, cond, List, [], ◌∷◌, ◌++◌, map, refl, sym, ap, subst, ◌∙◌}
-use Rattle.std.specs.Prelude.{◌&&◌, filter}
+use Rattle.std.proofs.Common.{◌≡◌, ◌≢◌, ℕ, Bool, true, false, ◌&&◌, ◌==◌, cond, List, [], ◌∷◌, ◌++◌, map, refl, sym, ap, subst, ◌∙◌}
+use Rattle.std.specs.Prelude.{filter}
 use Rattle.std.specs.List.{AllByRecursion, flat_map}
 use Rattle.std.proofs.lemmas.Bool.{eq-eqb, eqb-true, false_from_ne_true}
 use Rattle.fw_lemmas.proofs.Each.{each-weaker, each-append}
@@ -27,7 +27,7 @@ use Rattle.fw_progress.specs.declared.sent_tally.SentTally.{SentTally}
 use Rattle.fw_progress.specs.declared.traces.Traces.{Traces}
 use Rattle.fw_model.specs.EventStamps.{causes_in, base_of_sent, tells_sent}
 use Rattle.fw_progress.specs.SentTally.{IsSentTally, ComeFromDomain, IsTallySettledTo, IsCountedInAll, IsTallyCutTo}
-use Rattle.fw_progress.specs.Trace.{delivered_on, stamps_notified, stamps_where_sent, counted_of, IsTraceIf, IsTraceWithin, KeepsOthers, AreSettledTo, AreThinnedAt, AreCutTo, HaveChanged}
+use Rattle.fw_progress.specs.Trace.{delivered_on, stamps_notified, stamps_where_sent, counted_of, IsTraceIf, IsTraceWithin, KeepsLists, KeepsOthers, AreSettledTo, AreThinnedAt, AreCutTo, HaveChanged}
 use Rattle.fw_progress.specs.Traces.{AreOf, IsSettledTo, IsThinnedBy, StandsInside}
 use Rattle.fw_progress.proofs.SentTallyLaws.{tally-settle}
 use Rattle.fw_progress.proofs.TraceLaws.{thinned-settle, settled-if, inside-if, sent_settled-if, sent_inside-if}
@@ -35,7 +35,7 @@ use Rattle.fw_progress.proofs.TraceLaws.{thinned-settle, settled-if, inside-if, 
 -- ---- of a node's events alone
 
 -- what was delivered on an edge, by its receiver's events alone
-delivered-at : (flow : Dataflow) (h : List Event) (d : ℕ) → delivered_messages (events_at flow (receiver flow d) h) d ≡ delivered_messages h d
+pub delivered-at : (flow : Dataflow) (h : List Event) (d : ℕ) → delivered_messages (events_at flow (receiver flow d) h) d ≡ delivered_messages h d
 delivered-at flow h d = flat_map-filter (message_on d) (λ v. event_node flow v == receiver flow d) h (each h)
   where
     each : (vs : List Event) → AllByRecursion (λ v. (event_node flow v == receiver flow d) ≡ false → message_on d v ≡ []) vs
@@ -48,7 +48,7 @@ delivered-at flow h d = flat_map-filter (message_on d) (λ v. event_node flow v 
     each (Notify p t ∷ vs) = ((λ k. refl), each vs)
 
 -- of what a node was notified, by its events alone
-notices-at : (flow : Dataflow) (h : List Event) (p : ℕ) → flat_map (stamp_of_notice p) (events_at flow p h) ≡ flat_map (stamp_of_notice p) h
+pub notices-at : (flow : Dataflow) (h : List Event) (p : ℕ) → flat_map (stamp_of_notice p) (events_at flow p h) ≡ flat_map (stamp_of_notice p) h
 notices-at flow h p = flat_map-filter (stamp_of_notice p) (λ v. event_node flow v == p) h (each h)
   where
     each : (vs : List Event) → AllByRecursion (λ v. (event_node flow v == p) ≡ false → stamp_of_notice p v ≡ []) vs
@@ -119,6 +119,14 @@ pub sent-domain : (sys : System) (h : List Event) (p : ℕ) → AreEventsInDomai
 sent-domain sys h p a = come-of sys p (bounds_of sys.flow p) (events_at sys.flow p h) a
 
 -- ---- lists that change together
+
+changed-lists : (flow : Dataflow) (p : ℕ) (R : List Stamp → List Stamp → Type 0) (T : SentTally → SentTally → Type 0) (old new : Traces) → HaveChanged flow p R T old new
+    → (q : ℕ) → q ≢ p → KeepsLists flow q old new
+changed-lists flow p R T old new c q n = record {
+  delivered = λ d r. c.delivered.others d (λ i. n (sym r ∙ i));
+  notified = c.notified.others q n;
+  sent = c.sent.others q n;
+}
 
 changed-others : (flow : Dataflow) (p : ℕ) (R : List Stamp → List Stamp → Type 0) (T : SentTally → SentTally → Type 0) (old new : Traces) → HaveChanged flow p R T old new → KeepsOthers flow p old new
 changed-others flow p R T old new c whole sys h e q n base t = record {
@@ -238,6 +246,20 @@ notices-kept flow keep h p =
     sym (notices-at flow (kept_events flow keep h) p) ∙ ap (flat_map (stamp_of_notice p)) (events_at-kept flow keep p h)
     ∙ notices-inside p (keep p) (events_at flow p h) ∙ ap (filter (keep p)) (notices-at flow h p)
 
+-- what was delivered on an in-edge of a node, of the events that each node keeps
+pub delivered-kept : (sys : System) (h : List Event) (keep : ℕ → Frontier) (p : ℕ) (g : Frontier) → keep p ≡ g → (d : ℕ) → receiver sys.flow d ≡ p
+    → map (λ (m : Message). m.at) (delivered_messages (kept_events sys.flow keep h) d) ≡ filter g (map (λ (m : Message). m.at) (delivered_messages h d))
+delivered-kept sys h keep p g is d r =
+    ap (map (λ (m : Message). m.at)) (delivers-same sys.flow h keep d) ∙ map-filter (keep (receiver sys.flow d)) (delivered_messages h d)
+    ∙ ap (λ f. filter f (map (λ (m : Message). m.at) (delivered_messages h d))) (ap keep r ∙ is)
+
+-- and where it sent
+pub sent-kept : (sys : System) (h : List Event) (keep : ℕ → Frontier) → IsWellFormed sys.flow → HasEpochs sys → IsLegal sys h → AreFrontiers sys.flow keep → (p : ℕ) (g : Frontier) → keep p ≡ g
+    → causes_in (sent_by sys p (events_at sys.flow p (kept_events sys.flow keep h))) ≡ filter g (causes_in (sent_by sys p (events_at sys.flow p h)))
+sent-kept sys h keep well epochs legal fr p g is =
+    ap causes_in (sent_by-same sys h keep well epochs legal fr p ∙ ap (λ f. messages_from f (sent_by sys p (events_at sys.flow p h))) is)
+    ∙ causes-from g (sent_by sys p (events_at sys.flow p h)) (sent-one sys p (events_at sys.flow p h))
+
 pub cut-traces : (flow : Dataflow) (p : ℕ) (f : Front) (old new : Traces) → IsWellFormed flow → HaveChanged flow p (StandsInside f) (IsTallyCutTo f) old new → AreCutTo flow p f old new
 cut-traces flow p f old new well change = record {
   here = λ whole sys h keep e epochs legal fr is base w t.
@@ -246,6 +268,8 @@ cut-traces flow p f old new well change = record {
       let w_now : Within base (node_frontier sys.flow p f) = subst (λ g. Within base (node_frontier g p f)) (sym e) w in
       subst (λ g. IsTraceIf whole sys (kept_events g keep h) p base new) e
       (here whole sys h keep (subst IsWellFormed (sym e) well) epochs legal fr_now is_now base w_now (subst (λ g. HaveChanged g p (StandsInside f) (IsTallyCutTo f) old new) (sym e) change) t);
+  lists = change;
+  apart = changed-lists flow p (StandsInside f) (IsTallyCutTo f) old new change;
   others = changed-others flow p (StandsInside f) (IsTallyCutTo f) old new change;
 }
   where
@@ -259,16 +283,13 @@ cut-traces flow p f old new well change = record {
         record {
           delivered = λ d l r.
               let all = map (λ (m : Message). m.at) (delivered_messages h d) in
-              let left : map (λ (m : Message). m.at) (delivered_messages (kept_events sys.flow keep h) d) ≡ filter (node_frontier sys.flow p f) all =
-              ap (map (λ (m : Message). m.at)) (delivers-same sys.flow h keep d) ∙ map-filter (keep (receiver sys.flow d)) (delivered_messages h d)
-              ∙ ap (λ g. filter g all) (ap keep r ∙ is) in
-              subst (λ ss. IsThinnedIf whole base ss (delivered_on new d)) (sym left)
+              subst (λ ss. IsThinnedIf whole base ss (delivered_on new d)) (sym (delivered-kept sys h keep p (node_frontier sys.flow p f) is d r))
               (inside-if whole b f (delivered_on old d) (delivered_on new d) (c.delivered.here d l r) base all
               (subst (λ q. AreEventsInDomain sys.flow h q → AreOf (bounds_of sys.flow q) all) r (delivered-domain sys h d) a) w (t.delivered d l r));
           notified = subst (λ ss. IsThinnedIf whole base ss (stamps_notified new p)) (sym (notices-kept sys.flow keep h p ∙ ap (λ g. filter g (flat_map (stamp_of_notice p) h)) is))
               (inside-if whole b f (stamps_notified old p) (stamps_notified new p) c.notified.here base (flat_map (stamp_of_notice p) h) (notices-domain sys h p a) w t.notified);
           sent = λ o k. subst (λ ss. IsThinnedIf (whole && tells_sent sys.flow p) (base_of_sent sys.flow p base) ss (stamps_where_sent new p))
-              (sym (ap causes_in sent ∙ causes-from (node_frontier sys.flow p f) (sent_by sys p (events_at sys.flow p h)) (sent-one sys p (events_at sys.flow p h))))
+              (sym (sent-kept sys h keep well epochs legal fr p (node_frontier sys.flow p f) is))
               (sent_inside-if whole sys.flow p b f (stamps_where_sent old p) (stamps_where_sent new p) c.sent.here base (causes_in (sent_by sys p (events_at sys.flow p h))) (causes-of b _ (sent-domain sys h p a)) w (t.sent o k));
           counted = λ k. subst (λ ms. IsSentTally base ms (counted_of new p)) (sym sent)
               (c.counted.here b base (sent_by sys p (events_at sys.flow p h)) (sent-domain sys h p a) w (t.counted k));

@@ -1,5 +1,5 @@
 -- Traces that follow events.
-use Rattle.std.proofs.Common.{◌≡◌, ◌≢◌, ℕ, suc, ◌<◌, Bool, true, false, ◌==◌, cond, List, [], ◌∷◌, ◌++◌, length, get_or, map, refl, sym, ap, subst, ◌∙◌, inl, inr, arith}
+use Rattle.std.proofs.Common.{◌≡◌, ◌≢◌, ℕ, suc, ◌<◌, Bool, true, false, ◌&&◌, ◌==◌, cond, List, [], ◌∷◌, ◌++◌, length, get_or, map, refl, sym, ap, subst, ◌∙◌, inl, inr, arith}
 use Rattle.std.specs.List.{AllByRecursion, Contains, flat_map}
 use Rattle.std.proofs.lemmas.Bool.{cases_eq, eq-eqb, eqb-true, false_from_ne_true}
 use Rattle.std.proofs.lemmas.Grind.{flat_map-append}
@@ -22,7 +22,7 @@ use Rattle.fw_model.proofs.ThinnedLaws.{each-contained}
 use Rattle.fw_progress.specs.declared.sent_tally.SentTally.{SentTally}
 use Rattle.fw_progress.specs.declared.traces.Traces.{Traces}
 use Rattle.fw_progress.specs.Progress.{ChangesAt}
-use Rattle.fw_model.specs.EventStamps.{causes_in, base_of_sent}
+use Rattle.fw_model.specs.EventStamps.{causes_in, base_of_sent, tells_sent}
 use Rattle.fw_progress.specs.SentTally.{IsSentTally, CountsMore}
 use Rattle.fw_progress.specs.Trace.{delivered_on, stamps_notified, stamps_where_sent, counted_of, no_tally, counts_sent, TracesFollow, StandForManyMore, SentMore, CountedMore, HasSent}
 use Rattle.fw_progress.specs.Traces.{StandForOneMore}
@@ -130,20 +130,23 @@ tells-follow flow v sent old new tells whole sys h e is p base t =
     base_at : ℕ → Frontier
     base_at n = base_of_sent sys.flow n base
 
+    whole_at : ℕ → Bool
+    whole_at n = whole && tells_sent sys.flow n
+
     sends_after : Tells sys.flow v (length sent) old new → (n : ℕ) → is_sequence_kind (kind_of sys.flow n) ≡ false
-        → IsThinnedIf whole (base_at n) (causes_in (before n)) (stamps_where_sent old n)
-        → IsThinnedIf whole (base_at n) (causes_in (after n)) (stamps_where_sent new n)
+        → IsThinnedIf (whole_at n) (base_at n) (causes_in (before n)) (stamps_where_sent old n)
+        → IsThinnedIf (whole_at n) (base_at n) (causes_in (after n)) (stamps_where_sent new n)
     sends_after told n k i = elim (cases_eq n q) [
-      | inl j ↦ subst (λ x. is_sequence_kind (kind_of sys.flow x) ≡ false → IsThinnedIf whole (base_at x) (causes_in (before x)) (stamps_where_sent old x)
-          → IsThinnedIf whole (base_at x) (causes_in (after x)) (stamps_where_sent new x)) (sym j)
+      | inl j ↦ subst (λ x. is_sequence_kind (kind_of sys.flow x) ≡ false → IsThinnedIf (whole_at x) (base_at x) (causes_in (before x)) (stamps_where_sent old x)
+          → IsThinnedIf (whole_at x) (base_at x) (causes_in (after x)) (stamps_where_sent new x)) (sym j)
           (λ c u.
           let parts = one_cause (event_stamp v) now one in
-          subst (λ ss. IsThinnedIf whole (base_at q) ss (stamps_where_sent new q)) (sym (ap causes_in (sent_by-event sys h v q refl) ∙ flat_map-append (λ (m : Message). m.causes) now (before q)))
-          (many-if whole (event_stamp v) (length sent) (stamps_where_sent old q) (stamps_where_sent new q) (told.sends.sent.here c) (base_at q) (causes_in (before q)) (causes_in now)
+          subst (λ ss. IsThinnedIf (whole_at q) (base_at q) ss (stamps_where_sent new q)) (sym (ap causes_in (sent_by-event sys h v q refl) ∙ flat_map-append (λ (m : Message). m.causes) now (before q)))
+          (many-if (whole_at q) (event_stamp v) (length sent) (stamps_where_sent old q) (stamps_where_sent new q) (told.sends.sent.here c) (base_at q) (causes_in (before q)) (causes_in now)
           (parts.0 ∙ many) parts.1 u)) k i
       | inr j ↦
-          subst (λ ms. IsThinnedIf whole (base_at n) (causes_in ms) (stamps_where_sent new n)) (sym (sent_by-other sys h v n (λ x. j (sym x))))
-          (subst (IsThinnedIf whole (base_at n) (causes_in (before n))) (sym (told.sends.sent.others n j)) i)
+          subst (λ ms. IsThinnedIf (whole_at n) (base_at n) (causes_in ms) (stamps_where_sent new n)) (sym (sent_by-other sys h v n (λ x. j (sym x))))
+          (subst (IsThinnedIf (whole_at n) (base_at n) (causes_in (before n))) (sym (told.sends.sent.others n j)) i)
     ]
 
     counts_after : Tells sys.flow v (length sent) old new → (n : ℕ) → counts_sent sys.flow n ≡ true → IsSentTally base (before n) (counted_of old n) → IsSentTally base (after n) (counted_of new n)

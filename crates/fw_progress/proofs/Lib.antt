@@ -26,3 +26,4 @@ pub mod RestoreLaws
 pub mod LeapLaws
 mod LedLaws
 pub mod IntoLaws
+pub mod AmongLaws

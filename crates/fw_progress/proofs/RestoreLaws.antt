@@ -1,5 +1,5 @@
 -- Data as a node's traces.
-use Rattle.std.proofs.Common.{◌≡◌, inl, inr, ℕ, suc, ◌+◌, ◌<◌, Bool, true, false, not, ◌==◌, nat_eq, cond, List, [], ◌∷◌, ◌++◌, length, get_or, take, map, refl, sym, ap, subst, ◌∙◌, arith}
+use Rattle.std.proofs.Common.{◌≡◌, ◌≢◌, inl, inr, ℕ, suc, ◌+◌, ◌<◌, Bool, true, false, not, ◌&&◌, ◌==◌, nat_eq, cond, List, [], ◌∷◌, ◌++◌, length, get_or, take, map, refl, sym, ap, subst, ◌∙◌, arith}
 use Rattle.std.specs.List.{AllByRecursion, Contains, flat_map}
 use Rattle.std.specs.BTreeSet.{insert_key}
 use Rattle.std.proofs.lemmas.Bool.{cases_eq, eq-eqb, eqb-true, false_from_ne_true}
@@ -30,7 +30,7 @@ use Rattle.fw_progress.specs.Progress.{ChangesAt}
 use Rattle.fw_progress.specs.SentTally.{IsSentTally}
 use Rattle.fw_progress.specs.Tally.{count_inside}
 use Rattle.fw_progress.specs.StampData.{AreTheSame, HaveAdded, TakeUp, AreDelivered, causes_on_first, AreTold}
-use Rattle.fw_progress.specs.Trace.{delivered_on, stamps_notified, stamps_where_sent, HasOutEdge, IsTraceIf, KeepsOthers, AreEventsInside, AreRestoredTo}
+use Rattle.fw_progress.specs.Trace.{delivered_on, stamps_notified, stamps_where_sent, HasOutEdge, IsTraceIf, KeepsLists, KeepsOthers, AreEventsInside, AreRestoredTo}
 use Rattle.fw_progress.specs.Traces.{ChangesInto}
 use Rattle.fw_progress.proofs.EventLaws.{how_often}
 use Rattle.fw_progress.proofs.OfferLaws.{once-out}
@@ -149,6 +149,13 @@ first-thinned whole sys h p base stamps s a o =
     first [] z b = absurd (omega (arith, z))
     first (e ∷ edges) z b = b.0
 
+told-lists : (flow : Dataflow) (p : ℕ) (stamps : Stamps) (n : ℕ) (old new : Traces) → AreTold flow p stamps n old new → (q : ℕ) → q ≢ p → KeepsLists flow q old new
+told-lists flow p stamps n old new c q k = record {
+  delivered = λ d r. c.delivered.others d (λ i. k (sym r ∙ i));
+  notified = c.notified.others q k;
+  sent = c.sent.others q k;
+}
+
 told-others : (flow : Dataflow) (p : ℕ) (stamps : Stamps) (n : ℕ) (old new : Traces) → AreTold flow p stamps n old new → KeepsOthers flow p old new
 told-others flow p stamps n old new c whole sys h e q k base t = record {
   delivered = λ d l r. subst (IsThinnedIf whole base (map (λ (m : Message). m.at) (delivered_messages h d))) (sym (c.delivered.others d (λ i. k (sym r ∙ ap (λ f. receiver f d) e ∙ i)))) (t.delivered d l r);
@@ -160,6 +167,7 @@ told-others flow p stamps n old new c whole sys h e q k base t = record {
 pub told-restored : (flow : Dataflow) (p : ℕ) (stamps : Stamps) (n : ℕ) (old new : Traces) → AreTold flow p stamps n old new → AreRestoredTo flow p stamps n old new
 told-restored flow p stamps n old new c = record {
   here = λ whole sys h base e. here whole sys h base (subst (λ g. AreTold g p stamps n old new) (sym e) c);
+  apart = told-lists flow p stamps n old new c;
   others = told-others flow p stamps n old new c;
 }
   where

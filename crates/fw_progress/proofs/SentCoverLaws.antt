@@ -1,8 +1,8 @@
 -- What the traces of a node cover inside a frontier.
-use Rattle.std.proofs.Common.{◌≡◌, ℕ, ◌+◌, ◌<◌, ◌≤◌, Bool, true, false, ◌==◌, cond, List, [], ◌∷◌, length, map, Result, refl, sym, ap, subst, ◌∙◌, arith}
+use Rattle.std.proofs.Common.{◌≡◌, ℕ, ◌+◌, ◌<◌, ◌≤◌, Bool, true, false, not, ◌==◌, cond, List, [], ◌∷◌, length, map, Result, refl, sym, ap, subst, ◌∙◌, arith}
 use Rattle.std.specs.Prelude.{filter, IfOk}
 use Rattle.std.specs.List.{AllByRecursion}
-use Rattle.std.proofs.lemmas.Bool.{and_parts, or_right, eq-eqb}
+use Rattle.std.proofs.lemmas.Bool.{and_parts, eq-eqb}
 use Rattle.fw_lemmas.proofs.Each.{each-weaker, each-both, each-map, each-kept}
 use Rattle.fw_lemmas.proofs.Filters.{filter-true}
 use Rattle.fw_time.specs.Stamp.{Stamp, in_domain}
@@ -16,26 +16,29 @@ use Rattle.fw_flow.specs.declared.event.Event.{Event}
 use Rattle.fw_flow.specs.declared.event.Message.{Message}
 use Rattle.fw_flow.specs.declared.kind.Kind.{Kind}
 use Rattle.fw_flow.specs.declared.kind.Kind.TheVariants.{Sequence}
+use Rattle.fw_flow.specs.declared.kind.Policy.{Policy}
+use Rattle.fw_flow.specs.declared.kind.Policy.TheVariants as policy
 use Rattle.fw_flow.specs.Dataflow.{System, Dataflow, kind_of, policy_of, sender, receiver, bounds_of, bounds_of_edge, bounds_of_domain, greatest_number, is_input_kind, is_sequence_kind, node_frontier, HasEpochs}
 use Rattle.fw_flow.specs.NodeFunction.{sequence_sent, sent_by}
 use Rattle.fw_flow.specs.Projection.{events_at, all_inside, count_from}
-use Rattle.fw_flow.specs.WellFormed.{IsWellFormed}
+use Rattle.fw_flow.specs.Restoring.{can_resend}
+use Rattle.fw_flow.specs.WellFormed.{IsPolicyAllowed, IsWellFormed}
 use Rattle.fw_model.specs.Covers.{stamps_from}
 use Rattle.fw_model.specs.Filtering.{AreFrontiers, kept_events, messages_from}
 use Rattle.fw_model.specs.History.{is_injection, injected_count, sent_messages, IsLegal}
-use Rattle.fw_model.specs.Thinned.{IsThinned}
+use Rattle.fw_model.specs.Thinned.{IsThinned, IsThinnedIf}
 use Rattle.fw_model.specs.Writes.{takes_checkpoints}
 use Rattle.fw_model.proofs.LegalLaws.{edge_domains, legal_events-in_domain, legal_messages-in_domain, only_inputs_inject}
 use Rattle.fw_model.proofs.LocalityLaws.{sent_by-same}
 use Rattle.fw_model.proofs.SequenceLaws.{no_inject, sent_by-sequence}
 use Rattle.fw_model.proofs.ThinnedLaws.{thinned-covers}
-use Rattle.fw_model.specs.EventStamps.{causes_in}
+use Rattle.fw_model.specs.EventStamps.{causes_in, tells_sent}
 use Rattle.fw_model.proofs.SentStandLaws.{sent-covers}
 use Rattle.fw_progress.specs.declared.traces.Traces.{Traces}
 use Rattle.fw_progress.specs.Covers.{last_number, send_stamps, sent_inside, CoversSent}
 use Rattle.fw_progress.specs.StampData.{messages_of}
 use Rattle.fw_progress.specs.Tally.{count_inside}
-use Rattle.fw_progress.specs.Trace.{stamps_where_sent, counted_of, IsTraceWithin}
+use Rattle.fw_progress.specs.Trace.{stamps_where_sent, counted_of, counts_sent, IsTraceWithin}
 use Rattle.fw_progress.specs.Traces.{AreOf}
 use Rattle.fw_progress.proofs.CutTraceLaws.{causes-of, sent-domain}
 use Rattle.fw_progress.proofs.NumberLaws.{sequence-numbers, numbers-thinned}
@@ -58,6 +61,17 @@ none-kept test keep (x ∷ xs) z = by (keep x) (test x) refl z (none-kept test k
     by b true e y f = absurd (omega (arith, y))
     by true false e y f = ap (λ c. cond c (how_many test (filter keep xs) + 1) (how_many test (filter keep xs))) e ∙ f y
     by false false e y f = f y
+
+-- a sequence that cannot send again takes checkpoints, so that its messages are counted
+pub counts-sequence : (flow : Dataflow) → IsWellFormed flow → (p : ℕ) → p < length flow.nodes → is_sequence_kind (kind_of flow p) ≡ true → tells_sent flow p ≡ true → counts_sent flow p ≡ true
+counts-sequence flow w p l s t = by (policy_of flow p) (subst (λ kind. IsPolicyAllowed kind (policy_of flow p)) (sequence-kind (kind_of flow p) s) (w.policies p l)) t
+  where
+    by : (x : Policy) → IsPolicyAllowed Sequence x → not (can_resend x) ≡ true → takes_checkpoints x ≡ true
+    by policy.None a n = absurd (cc)
+    by policy.Lazy a n = refl
+    by policy.Logged a n = refl
+    by policy.Eager a n = refl
+    by policy.Full a n = absurd (cc)
 
 -- a sequence injects nothing
 pub no_injection : (sys : System) (h : List Event) (p : ℕ) → IsLegal sys h → kind_of sys.flow p ≡ Sequence → injected_count p h ≡ 0
@@ -133,15 +147,14 @@ messages-receiver sys h w b l e =
     (legal_messages-in_domain sys h w b l e)
 
 pub sequence-covers : (sys : System) (h : List Event) (e : ℕ) (f : Front) (traces : Traces) → IsWellFormed sys.flow → HasEpochs sys → IsLegal sys h
-    → is_sequence_kind (kind_of sys.flow (sender sys.flow e)) ≡ true → IsTraceWithin true sys h (sender sys.flow e) f traces → (n : ℕ)
+    → is_sequence_kind (kind_of sys.flow (sender sys.flow e)) ≡ true → counts_sent sys.flow (sender sys.flow e) ≡ true → IsTraceWithin true sys h (sender sys.flow e) f traces → (n : ℕ)
     → n ≡ (counted_of traces (sender sys.flow e)).inside + count_inside (inside f) (counted_of traces (sender sys.flow e)).outside
     → CoverSent sys h e f (last_number n)
-sequence-covers sys h e f traces w b l k t n is =
+sequence-covers sys h e f traces w b l k counts t n is =
     let p = sender sys.flow e in
     let ms = sent_messages sys h e in
     let g = node_frontier sys.flow p f in
     let d = sent-domain sys h p (legal_events-in_domain sys h w b l p) in
-    let counts = or_right (takes_checkpoints (policy_of sys.flow p)) (is_sequence_kind (kind_of sys.flow p)) k in
     let count : n ≡ count_from g ms = is ∙ tally-count (bounds_of sys.flow p) t.base ms f (counted_of traces p) d t.within (t.trace.counted counts) in
     let thin = subst (λ m. IsThinned (λ s. true) (map (λ (x : Message). x.at) (messages_from g ms)) (last_number m)) (sym count)
     (from-sequence sys h p f w b l (sequence-kind (kind_of sys.flow p) k) (λ s. true) (λ x i. refl)) in
@@ -154,15 +167,15 @@ sequence-covers sys h e f traces w b l k t n is =
     }
 
 pub stamps-cover : (sys : System) (h : List Event) (e : ℕ) (f : Front) (traces : Traces) → e < length sys.flow.edges → IsWellFormed sys.flow → HasEpochs sys → IsLegal sys h
-    → is_sequence_kind (kind_of sys.flow (sender sys.flow e)) ≡ false → IsTraceWithin true sys h (sender sys.flow e) f traces
+    → is_sequence_kind (kind_of sys.flow (sender sys.flow e)) ≡ false → tells_sent sys.flow (sender sys.flow e) ≡ true → IsTraceWithin true sys h (sender sys.flow e) f traces
     → CoverSent sys h e f (send_stamps sys.flow (sender sys.flow e) (filter (inside f) (stamps_where_sent traces (sender sys.flow e))))
-stamps-cover sys h e f traces there w b l k t =
+stamps-cover sys h e f traces there w b l k told t =
     let p = sender sys.flow e in
     let kept = stamps_where_sent traces p in
     let g = node_frontier sys.flow p f in
     let all = causes_in (sent_by sys p (events_at sys.flow p h)) in
     let d = causes-of (bounds_of sys.flow p) (sent_by sys p (events_at sys.flow p h)) (sent-domain sys h p (legal_events-in_domain sys h w b l p)) in
-    let thin = t.trace.sent (e, there, refl) k in
+    let thin : IsThinnedIf true t.base all kept = subst (λ c. IsThinnedIf c (cond c t.base (λ s. true)) all kept) told (t.trace.sent (e, there, refl) k) in
     let send = kept-send sys h p kept k d thin.among in
     let ms = messages_of sys.flow p kept e in
     let B = bounds_of sys.flow (receiver sys.flow e) in
@@ -184,8 +197,8 @@ stamps-cover sys h e f traces there w b l k t =
 -- ---- by the traces
 
 inside-covers : (sys : System) (h : List Event) (e : ℕ) (f : Front) (traces : Traces) → e < length sys.flow.edges → IsWellFormed sys.flow → HasEpochs sys → IsLegal sys h
-    → IsTraceWithin true sys h (sender sys.flow e) f traces → CoverSent sys h e f (sent_inside sys.flow traces (sender sys.flow e) f)
-inside-covers sys h e f traces there w b l t = by (is_sequence_kind (kind_of sys.flow (sender sys.flow e))) refl
+    → tells_sent sys.flow (sender sys.flow e) ≡ true → IsTraceWithin true sys h (sender sys.flow e) f traces → CoverSent sys h e f (sent_inside sys.flow traces (sender sys.flow e) f)
+inside-covers sys h e f traces there w b l told t = by (is_sequence_kind (kind_of sys.flow (sender sys.flow e))) refl
   where
     p : ℕ
     p = sender sys.flow e
@@ -194,18 +207,20 @@ inside-covers sys h e f traces there w b l t = by (is_sequence_kind (kind_of sys
     n = (counted_of traces p).inside + count_inside (inside f) (counted_of traces p).outside
 
     by : (c : Bool) → is_sequence_kind (kind_of sys.flow p) ≡ c → CoverSent sys h e f (cond c (last_number n) (send_stamps sys.flow p (filter (inside f) (stamps_where_sent traces p))))
-    by true k = sequence-covers sys h e f traces w b l k t n refl
-    by false k = stamps-cover sys h e f traces there w b l k t
+    by true k = sequence-covers sys h e f traces w b l k (counts-sequence sys.flow w p (w.senders_declared e there) k told) t n refl
+    by false k = stamps-cover sys h e f traces there w b l k told t
 
 -- the cover of what stands for what a node sent is that of all that it sent
 pub sent-stand : {E : Type 0} (flow : Dataflow) (e : ℕ) (f : Front) (traces : Traces) (sent : List Stamp) (bounds : Bounds) (result : Result Front E) → IsWellFormed flow → e < length flow.edges
     → sent ≡ sent_inside flow traces (sender flow e) f → bounds ≡ bounds_of flow (receiver flow e) → (AreOf bounds sent → IfOk result (λ front. IsFrontOf bounds front (cover bounds sent)))
-    → (sys : System) (h : List Event) → sys.flow ≡ flow → HasEpochs sys → IsLegal sys h → IsTraceWithin true sys h (sender flow e) f traces → IfOk result (CoversSent sys h e f)
-sent-stand flow e f traces sent bounds result w there k i found sys h s b legal t =
+    → (sys : System) (h : List Event) → sys.flow ≡ flow → HasEpochs sys → IsLegal sys h
+    → tells_sent flow (sender flow e) ≡ true → IsTraceWithin true sys h (sender flow e) f traces → IfOk result (CoversSent sys h e f)
+sent-stand flow e f traces sent bounds result w there k i found sys h s b legal told t =
     let now : IsTraceWithin true sys h (sender sys.flow e) f traces = subst (λ g. IsTraceWithin true sys h (sender g e) f traces) (sym s) t in
     let same : sent ≡ sent_inside sys.flow traces (sender sys.flow e) f = k ∙ ap (λ g. sent_inside g traces (sender g e) f) (sym s) in
     let stand : CoverSent sys h e f sent = subst (CoverSent sys h e f) (sym same)
-    (inside-covers sys h e f traces (subst (λ g. e < length g.edges) (sym s) there) (subst IsWellFormed (sym s) w) b legal now) in
+    (inside-covers sys h e f traces (subst (λ g. e < length g.edges) (sym s) there) (subst IsWellFormed (sym s) w) b legal
+    (ap (λ g. tells_sent g (sender g e)) s ∙ told) now) in
     let is : bounds ≡ bounds_of sys.flow (receiver sys.flow e) = i ∙ ap (λ g. bounds_of g (receiver g e)) (sym s) in
     subst (λ x. IfOk result (λ front. IsFrontOf (bounds_of sys.flow (receiver sys.flow e)) front x)) stand.covers
     (subst (λ x. IfOk result (λ front. IsFrontOf x front (cover x sent))) is

@@ -1,8 +1,8 @@
 -- A node's traces as data stand for its events.
 use Rattle.std.proofs.Common.{◌≡◌, inl, inr, ℕ, suc, ◌+◌, ◌<◌, ◌≤◌, Bool, true, false, ◌&&◌, ◌==◌, nat_le, cond, List, [], ◌∷◌, ◌++◌, length, map, Result, Some, None, refl, sym, ap, subst, ◌∙◌, arith}
-use Rattle.std.specs.Prelude.{◌&&◌, filter, IfOk}
-use Rattle.std.specs.List.{AllByRecursion, flat_map}
-use Rattle.std.proofs.lemmas.Bool.{and_from, or_right, eq-eqb, cases_lt}
+use Rattle.std.specs.Prelude.{filter, IfOk}
+use Rattle.std.specs.List.{AllByRecursion, Contains, flat_map}
+use Rattle.std.proofs.lemmas.Bool.{and_from, eq-eqb, cases_lt}
 use Rattle.std.proofs.lemmas.Bool.Decides.{nat_tests}
 use Rattle.std.proofs.lemmas.List.{get_or_past}
 use Rattle.std.proofs.lemmas.Result.{IfOk-weaker}
@@ -20,7 +20,7 @@ use Rattle.fw_flow.specs.declared.event.Event.TheVariants.{Inject, Deliver, Noti
 use Rattle.fw_flow.specs.declared.event.Message.{Message}
 use Rattle.fw_flow.specs.declared.kind.Kind.TheVariants.{Sequence}
 use Rattle.fw_flow.specs.declared.node.Edge.{Edge}
-use Rattle.fw_flow.specs.Dataflow.{System, Dataflow, kind_of, policy_of, sender, receiver, bounds_of, bounds_of_domain, domain_of_kind, out_domain_of_kind, greatest_number, out_edges, is_sequence_kind, node_frontier, HasEpochs}
+use Rattle.fw_flow.specs.Dataflow.{System, Dataflow, kind_of, sender, receiver, bounds_of, bounds_of_domain, domain_of_kind, out_domain_of_kind, greatest_number, out_edges, is_sequence_kind, node_frontier, HasEpochs}
 use Rattle.fw_flow.specs.NodeFunction.{event_node, event_stamp, sequence_sent, sent_by}
 use Rattle.fw_flow.specs.Projection.{events_at, all_inside, count_from}
 use Rattle.fw_flow.specs.WellFormed.{IsWellFormed}
@@ -29,32 +29,31 @@ use Rattle.fw_model.specs.Covers.{stamp_of_notice}
 use Rattle.fw_model.specs.EventStamps.{causes_in, base_of_sent, tells_sent, StandForSent, StandForNumbered, AreStampsIf}
 use Rattle.fw_model.specs.Filtering.{AreFrontiers, events_inside, messages_inside, messages_from}
 use Rattle.fw_model.specs.History.{is_injection, injected_count, delivered_messages, AreEventsInDomain, IsLegal}
-use Rattle.fw_model.specs.Offers.{AreAtEdgeStamps, counted_on_edge, stamps_on_from}
+use Rattle.fw_model.specs.Offers.{AreAtEdgeStamps, counted_on_edge, stamps_on, stamps_on_from}
 use Rattle.fw_model.specs.Thinned.{IsThinned, IsThinnedIf}
-use Rattle.fw_model.specs.Writes.{takes_checkpoints}
 use Rattle.fw_model.proofs.LegalLaws.{edge_domains, legal_events-in_domain}
 use Rattle.fw_model.proofs.LocalityLaws.{events_at-kept, sent_by-same}
 use Rattle.fw_model.proofs.SequenceLaws.{no_inject, sent_by-sequence}
-use Rattle.fw_model.proofs.ThinnedLaws.{thinned-if, thinned-whole}
+use Rattle.fw_model.proofs.ThinnedLaws.{each-contained, thinned-if, thinned-whole}
 use Rattle.fw_progress.specs.declared.traces.Traces.{Traces}
 use Rattle.fw_progress.specs.Covers.{last_number}
-use Rattle.fw_progress.specs.StampData.{taken, count_taken, all_delivered, messages_of, messages_numbered, all_sent, stamps_by}
+use Rattle.fw_progress.specs.StampData.{taken, count_taken, all_delivered, messages_of, messages_numbered, all_sent, stamps_by, HasItsStamps}
 use Rattle.fw_progress.specs.Trace.{delivered_on, stamps_notified, stamps_where_sent, counted_of, counts_sent, HasOutEdge, IsTraceIf, IsTraceWithin}
 use Rattle.fw_progress.specs.Traces.{AreOf, thinned}
 use Rattle.fw_progress.proofs.CutTraceLaws.{delivered-domain, notices-domain, sent-domain, causes-of, causes-from, sent-one, map-filter, notices-inside}
 use Rattle.fw_progress.proofs.EventLaws.{how_often}
 use Rattle.fw_progress.proofs.NumberLaws.{IsNumber, sequence-numbers, numbers-thinned}
 use Rattle.fw_progress.proofs.OfferLaws.{Sends, each-joined, on-once, once-out, delivered-on, delivered-on_edges, kept-send, messages-on_edges, sent-on, stands-for_sent}
-use Rattle.fw_progress.proofs.SentCoverLaws.{from-length, none-kept, no_injection, sequence-kind}
+use Rattle.fw_progress.proofs.SentCoverLaws.{counts-sequence, from-length, none-kept, no_injection, sequence-kind}
 use Rattle.fw_progress.proofs.SentTallyLaws.{tally-count}
-use Rattle.fw_progress.proofs.TraceLaws.{among-domain, kept-domain, thinned-inside}
+use Rattle.fw_progress.proofs.TraceLaws.{among-domain, among-passed, kept-domain, thinned-inside, thinned-itself, untold-if}
 
--- Lists stand for the events of node p, thinned inside a base, as its traces do; of a sequence it is known how many messages it sent.
+-- Lists stand for the events of node p, thinned inside a base, as its traces do; of a sequence it is known how many messages it sent, if they are counted.
 record AreKept (whole : Bool) (sys : System) (h : List Event) (p : ℕ) (base : Frontier) (kept : ℕ → List Stamp) (notified sent : List Stamp) (n : ℕ) : Type 0 where
   on_edges : (d : ℕ) → d < length sys.flow.edges → receiver sys.flow d ≡ p → IsThinnedIf whole base (map (λ (m : Message). m.at) (delivered_messages h d)) (kept d)
   notices : IsThinnedIf whole base (flat_map (stamp_of_notice p) h) notified
   sends : HasOutEdge sys.flow p → is_sequence_kind (kind_of sys.flow p) ≡ false → IsThinnedIf (whole && tells_sent sys.flow p) (base_of_sent sys.flow p base) (causes_in (sent_by sys p (events_at sys.flow p h))) sent
-  count : is_sequence_kind (kind_of sys.flow p) ≡ true → n ≡ length (sent_by sys p (events_at sys.flow p h))
+  count : is_sequence_kind (kind_of sys.flow p) ≡ true → counts_sent sys.flow p ≡ true → n ≡ length (sent_by sys p (events_at sys.flow p h))
 
 -- The events of node p are of its domain, and it injects nothing if it is a sequence.
 record AreProper (sys : System) (h : List Event) (p : ℕ) : Type 0 where
@@ -141,11 +140,15 @@ numbered-on_edge flow e (s ∷ ss) a = (a.0, numbered-on_edge flow e ss a.1)
 
 -- ---- lists as data
 
-all-sequence : (flow : Dataflow) (p : ℕ) (ss : List Stamp) (n : ℕ) → is_sequence_kind (kind_of flow p) ≡ true → all_sent flow p ss n ≡ flat_map (messages_numbered (last_number n)) (out_edges flow p)
-all-sequence flow p ss n k = ap (λ b. cond b (flat_map (messages_numbered (last_number n)) (out_edges flow p)) (flat_map (messages_of flow p ss) (out_edges flow p))) k
+all-sequence : (flow : Dataflow) (p : ℕ) (ss : List Stamp) (n : ℕ) (counts : Bool) → is_sequence_kind (kind_of flow p) ≡ true → counts_sent flow p ≡ counts
+    → all_sent flow p ss n ≡ cond counts (flat_map (messages_numbered (last_number n)) (out_edges flow p)) []
+all-sequence flow p ss n counts k c =
+    let ms = flat_map (messages_numbered (last_number n)) (out_edges flow p) in
+    ap (λ b. cond b (cond (counts_sent flow p) ms []) (flat_map (messages_of flow p ss) (out_edges flow p))) k ∙ ap (λ b. cond b ms []) c
 
 all-others : (flow : Dataflow) (p : ℕ) (ss : List Stamp) (n : ℕ) → is_sequence_kind (kind_of flow p) ≡ false → all_sent flow p ss n ≡ flat_map (messages_of flow p ss) (out_edges flow p)
-all-others flow p ss n k = ap (λ b. cond b (flat_map (messages_numbered (last_number n)) (out_edges flow p)) (flat_map (messages_of flow p ss) (out_edges flow p))) k
+all-others flow p ss n k =
+    ap (λ b. cond b (cond (counts_sent flow p) (flat_map (messages_numbered (last_number n)) (out_edges flow p)) []) (flat_map (messages_of flow p ss) (out_edges flow p))) k
 
 past_receiver : (flow : Dataflow) (d : ℕ) → length flow.edges ≤ d → receiver flow d ≡ length flow.nodes
 unfolding receiver
@@ -175,7 +178,7 @@ kept-stand whole sys h p base kept notified sent n w l proper k = record {
   sent = λ s e i r.
       subst (StandForSent (whole && tells_sent sys.flow p) sys h p (base_of_sent sys.flow p base) e) (sym (ap (counted_on_edge e) (all-others sys.flow p sent n s) ∙ sent-on sys.flow p sent e i r))
       (stands-for_sent (whole && tells_sent sys.flow p) sys h p (base_of_sent sys.flow p base) sent e i r (sends s (e, i, r)) (k.sends (e, i, r) s));
-  numbered = λ s e i r. numbered s e i r;
+  numbered = λ s t e i r. numbered s (counts-sequence sys.flow w p l s t) e i r;
 }
   where
     causes : AreOf (bounds_of sys.flow p) (causes_in (sent_by sys p (events_at sys.flow p h)))
@@ -184,36 +187,41 @@ kept-stand whole sys h p base kept notified sent n w l proper k = record {
     sends : is_sequence_kind (kind_of sys.flow p) ≡ false → HasOutEdge sys.flow p → AllByRecursion (Sends sys.flow p) sent
     sends s o = kept-send sys h p sent s causes (k.sends o s).among
 
-    numbers : (s : is_sequence_kind (kind_of sys.flow p) ≡ true) (e : ℕ) → sender sys.flow e ≡ p
+    numbers : (s : is_sequence_kind (kind_of sys.flow p) ≡ true) → counts_sent sys.flow p ≡ true → (e : ℕ) → sender sys.flow e ≡ p
         → IsThinned (everything (bounds_of sys.flow (receiver sys.flow e))) (map (λ (m : Message). m.at) (sent_by sys p (events_at sys.flow p h))) (last_number n)
-    numbers s e r =
-        sequence-thinned sys h p n (sequence-kind (kind_of sys.flow p) s) (proper.no_batch s) (k.count s) (everything (bounds_of sys.flow (receiver sys.flow e)))
+    numbers s c e r =
+        sequence-thinned sys h p n (sequence-kind (kind_of sys.flow p) s) (proper.no_batch s) (k.count s c) (everything (bounds_of sys.flow (receiver sys.flow e)))
         (number-domain sys.flow w p e (sequence-kind (kind_of sys.flow p) s) r)
 
-    by : (b : Bool) → is_sequence_kind (kind_of sys.flow p) ≡ b → AreAtEdgeStamps sys.flow (all_sent sys.flow p sent n)
-    by true s =
-        subst (AreAtEdgeStamps sys.flow) (sym (all-sequence sys.flow p sent n s))
+    of_sequence : (c : Bool) → is_sequence_kind (kind_of sys.flow p) ≡ true → counts_sent sys.flow p ≡ c → AreAtEdgeStamps sys.flow (all_sent sys.flow p sent n)
+    of_sequence false s c = subst (AreAtEdgeStamps sys.flow) (sym (all-sequence sys.flow p sent n false s c)) tt
+    of_sequence true s c =
+        subst (AreAtEdgeStamps sys.flow) (sym (all-sequence sys.flow p sent n true s c))
         (each-joined (λ (m : Counted). in_domain (bounds_of sys.flow (receiver sys.flow m.edge)) m.at ≡ true) (messages_numbered (last_number n)) (out_edges sys.flow p)
         (out_edges-from (λ e. AreAtEdgeStamps sys.flow (messages_numbered (last_number n) e)) sys.flow p
         (λ e i r. numbered-on_edge sys.flow e (last_number n)
         (kept-domain (bounds_of sys.flow (receiver sys.flow e)) (everything (bounds_of sys.flow (receiver sys.flow e))) (map (λ (m : Message). m.at) (sent_by sys p (events_at sys.flow p h))) (last_number n)
         (sequence-inside sys h p (sequence-kind (kind_of sys.flow p) s) (proper.no_batch s) (everything (bounds_of sys.flow (receiver sys.flow e)))
         (number-domain sys.flow w p e (sequence-kind (kind_of sys.flow p) s) r))
-        (numbers s e r)))))
+        (numbers s c e r)))))
+
+    by : (b : Bool) → is_sequence_kind (kind_of sys.flow p) ≡ b → AreAtEdgeStamps sys.flow (all_sent sys.flow p sent n)
+    by true s = of_sequence (counts_sent sys.flow p) s refl
     by false s =
         subst (AreAtEdgeStamps sys.flow) (sym (all-others sys.flow p sent n s))
         (each-joined (λ (m : Counted). in_domain (bounds_of sys.flow (receiver sys.flow m.edge)) m.at ≡ true) (messages_of sys.flow p sent) (out_edges sys.flow p)
         (out_edges-from (λ e. AllByRecursion (λ (m : Counted). in_domain (bounds_of sys.flow (receiver sys.flow m.edge)) m.at ≡ true) (messages_of sys.flow p sent e)) sys.flow p
         (λ e i r. messages-on_edges sys.flow w p sent e r (sends s (e, i, r)))))
 
-    numbered : (s : is_sequence_kind (kind_of sys.flow p) ≡ true) (e : ℕ) → e < length sys.flow.edges → sender sys.flow e ≡ p → StandForNumbered sys h e (all_sent sys.flow p sent n)
-    numbered s e i r =
+    numbered : is_sequence_kind (kind_of sys.flow p) ≡ true → counts_sent sys.flow p ≡ true → (e : ℕ) → e < length sys.flow.edges → sender sys.flow e ≡ p
+        → StandForNumbered sys h e (all_sent sys.flow p sent n)
+    numbered s c e i r =
         let first = first-domain sys.flow p (sequence-kind (kind_of sys.flow p) s) in
         let B = everything (bounds_of sys.flow (receiver sys.flow e)) in
         let left : stamps_on_from e (everything (bounds_of sys.flow p)) (all_sent sys.flow p sent n) ≡ last_number n =
-        ap (stamps_on_from e (everything (bounds_of sys.flow p))) (all-sequence sys.flow p sent n s) ∙ numbered-on sys.flow p (everything (bounds_of sys.flow p)) first (last_number n) e i r in
+        ap (stamps_on_from e (everything (bounds_of sys.flow p))) (all-sequence sys.flow p sent n true s c) ∙ numbered-on sys.flow p (everything (bounds_of sys.flow p)) first (last_number n) e i r in
         subst (λ q. IsThinned B (map (λ (m : Message). m.at) (sent_by sys q (events_at sys.flow q h))) (stamps_on_from e (everything (bounds_of sys.flow q)) (all_sent sys.flow p sent n))) (sym r)
-        (subst (IsThinned B (map (λ (m : Message). m.at) (sent_by sys p (events_at sys.flow p h)))) (sym left) (numbers s e r))
+        (subst (IsThinned B (map (λ (m : Message). m.at) (sent_by sys p (events_at sys.flow p h)))) (sym left) (numbers s c e r))
 
 -- ---- of all events
 
@@ -234,17 +242,13 @@ proper-events sys h p w b l = record {
   no_batch = λ s. no_injection sys h p l (sequence-kind (kind_of sys.flow p) s);
 }
 
--- whether the messages of a sequence are counted
-counts-sequence : (flow : Dataflow) (p : ℕ) → is_sequence_kind (kind_of flow p) ≡ true → counts_sent flow p ≡ true
-counts-sequence flow p s = or_right (takes_checkpoints (policy_of flow p)) (is_sequence_kind (kind_of flow p)) s
-
 all-kept : (whole : Bool) (sys : System) (h : List Event) (p : ℕ) (base : Frontier) (traces : Traces) → IsTraceIf whole sys h p base traces
     → AreKept whole sys h p base (λ d. taken None (delivered_on traces d)) (taken None (stamps_notified traces p)) (taken None (stamps_where_sent traces p)) (count_taken None (counted_of traces p))
 all-kept whole sys h p base traces t = record {
   on_edges = t.delivered;
   notices = t.notified;
   sends = t.sent;
-  count = λ s. t.counted (counts-sequence sys.flow p s) (inside []) (λ x i. refl) ∙ count-everything (sent_by sys p (events_at sys.flow p h));
+  count = λ s c. t.counted c (inside []) (λ x i. refl) ∙ count-everything (sent_by sys p (events_at sys.flow p h));
 }
 
 -- ---- of the events inside a frontier
@@ -315,6 +319,19 @@ whole-inside bounds base all kept f d w h =
     thinned-if true (frontier_of bounds f) (filter (frontier_of bounds f) all) (thinned f (filter (inside f) kept))
     (thinned-inside bounds base all kept f d w (thinned-whole base all kept h))
 
+-- the same of where a node sent, if that is told
+sent_whole-inside : (told : Bool) (bounds : Bounds) (base : Frontier) (all kept : List Stamp) (f : Front) → AreOf bounds all → Within base (frontier_of bounds f)
+    → IsThinnedIf told (cond told base (λ t. true)) all kept
+    → IsThinnedIf told (cond told (frontier_of bounds f) (λ t. true)) (filter (frontier_of bounds f) all) (thinned f (filter (inside f) kept))
+sent_whole-inside true bounds base all kept f d w h = whole-inside bounds base all kept f d w h
+sent_whole-inside false bounds base all kept f d w h =
+    let g = frontier_of bounds f in
+    let own = among-domain bounds all kept d h.among in
+    untold-if false (filter g all) (thinned f (filter (inside f) kept))
+    (each-weaker (Contains (filter g kept)) (Contains (filter g all)) (thinned f (filter (inside f) kept))
+    (λ s c. each-contained (Contains (filter g all)) s (filter g kept) c (among-passed g all kept h.among))
+    (thinned-inside bounds base kept kept f own w (thinned-itself base kept)).among)
+
 inside-kept : (sys : System) (h : List Event) (p : ℕ) (f : Front) (traces : Traces) → IsWellFormed sys.flow → HasEpochs sys → IsLegal sys h → IsTraceWithin true sys h p f traces
     → AreKept true sys (events_inside (node_frontier sys.flow p f) h) p (node_frontier sys.flow p f) (λ d. taken (Some f) (delivered_on traces d)) (taken (Some f) (stamps_notified traces p))
     (taken (Some f) (stamps_where_sent traces p)) (count_taken (Some f) (counted_of traces p))
@@ -327,11 +344,12 @@ inside-kept sys h p f traces w b l t = record {
       (subst (λ q. AreEventsInDomain sys.flow h q → AreOf (bounds_of sys.flow q) all) r (delivered-domain sys h d) a) t.within (t.trace.delivered d i r));
   notices = subst (λ ss. IsThinnedIf true g ss (thinned f (filter (inside f) (stamps_notified traces p)))) (sym (notices-inside p g h))
       (whole-inside (bounds_of sys.flow p) t.base (flat_map (stamp_of_notice p) h) (stamps_notified traces p) f (notices-domain sys h p a) t.within t.trace.notified);
-  sends = λ o s. subst (λ ss. IsThinnedIf true g ss (thinned f (filter (inside f) (stamps_where_sent traces p))))
+  sends = λ o s. subst (λ ss. IsThinnedIf (tells_sent sys.flow p) (base_of_sent sys.flow p g) ss (thinned f (filter (inside f) (stamps_where_sent traces p))))
       (sym (ap causes_in (sent-inside sys h p f w b l) ∙ causes-from g ms (sent-one sys p (events_at sys.flow p h))))
-      (whole-inside (bounds_of sys.flow p) t.base (causes_in ms) (stamps_where_sent traces p) f (causes-of (bounds_of sys.flow p) ms (sent-domain sys h p a)) t.within (t.trace.sent o s));
-  count = λ s.
-      tally-count (bounds_of sys.flow p) t.base ms f (counted_of traces p) (sent-domain sys h p a) t.within (t.trace.counted (counts-sequence sys.flow p s))
+      (sent_whole-inside (tells_sent sys.flow p) (bounds_of sys.flow p) t.base (causes_in ms) (stamps_where_sent traces p) f (causes-of (bounds_of sys.flow p) ms (sent-domain sys h p a)) t.within
+      (t.trace.sent o s));
+  count = λ s c.
+      tally-count (bounds_of sys.flow p) t.base ms f (counted_of traces p) (sent-domain sys h p a) t.within (t.trace.counted c)
       ∙ sym (ap length (sent-inside sys h p f w b l) ∙ from-length g ms);
 }
   where
@@ -355,6 +373,16 @@ all-stand flow p traces result w there given whole sys h base s b l t =
     let stand = kept-stand whole sys h p base _ _ _ _ well (subst (λ g. p < length g.nodes) (sym s) there) (proper-events sys h p well b l) (all-kept whole sys h p base traces t) in
     IfOk-weaker result (λ stamps. stamps ≡ stamps_by flow p None traces) (AreStampsIf whole sys h p base)
     (λ stamps e. subst (AreStampsIf whole sys h p base) (sym (e ∙ ap (λ g. stamps_by g p None traces) (sym s))) stand) given
+
+-- they have its stamps
+pub has-stamps : {E : Type 0} (flow : Dataflow) (p : ℕ) (traces : Traces) (result : Result Stamps E) → p < length flow.nodes → IfOk result (λ stamps. stamps ≡ stamps_by flow p None traces)
+    → IfOk result (HasItsStamps flow p traces)
+has-stamps flow p traces result there given =
+    IfOk-weaker result (λ stamps. stamps ≡ stamps_by flow p None traces) (HasItsStamps flow p traces)
+    (λ stamps e. record {
+      delivered = λ d r. ap (λ (s : Stamps). stamps_on d s.delivered) e ∙ delivered-on flow p (delivered_on traces) d (edge-there flow p d there r) r;
+      notified = ap (λ (s : Stamps). s.notified) e;
+    }) given
 
 pub inside-stand : {E : Type 0} (flow : Dataflow) (p : ℕ) (f : Front) (traces : Traces) (result : Result Stamps E) → IsWellFormed flow → p < length flow.nodes
     → IfOk result (λ stamps. stamps ≡ stamps_by flow p (Some f) traces)

@@ -1,6 +1,6 @@
 -- Kept stamps: one more of them, thinned inside a larger base, and those inside a cut.
 use Rattle.std.proofs.Common.{◌≡◌, ◌⊎◌, inl, inr, ℕ, ◌<◌, Bool, true, false, not, ◌&&◌, ◌||◌, cond, List, [], ◌∷◌, ◌++◌, length, refl, sym, ap, subst, ◌∙◌, arith}
-use Rattle.std.specs.Prelude.{◌&&◌, filter}
+use Rattle.std.specs.Prelude.{filter}
 use Rattle.std.specs.List.{AllByRecursion, Contains, list_any}
 use Rattle.std.specs.BTreeMap.{is_at}
 use Rattle.std.specs.BTreeSet.{insert_key}
@@ -17,8 +17,7 @@ use Rattle.fw_time.proofs.StampLaws.{leq-refl, leq-trans}
 use Rattle.fw_frontier.specs.Frontier.{Frontier, Within, cover}
 use Rattle.fw_frontier.specs.Front.{Front, inside, frontier_of}
 use Rattle.fw_frontier.proofs.InsideLaws.{inside-closed}
-use Rattle.fw_flow.specs.Dataflow.{Dataflow, policy_of}
-use Rattle.fw_flow.specs.Restoring.{can_resend}
+use Rattle.fw_flow.specs.Dataflow.{Dataflow}
 use Rattle.fw_model.specs.EventStamps.{base_of_sent, tells_sent}
 use Rattle.fw_model.specs.Thinned.{IsBelowKept, IsThinned, IsThinnedIf}
 use Rattle.fw_model.proofs.CmpLaws.{stamp_cmp-equal}
@@ -346,8 +345,16 @@ changed-if whole base next all kept more less new f g among outside h = record {
 }
 
 -- of stamps that need not be told any may be missing
-untold-if : (all kept : List Stamp) → AllByRecursion (Contains all) kept → IsThinnedIf false (λ t. true) all kept
-untold-if all kept among = record { among = among; outside = each-had (λ t. true ≡ false → Contains kept t) all (λ t c o. absurd (cc)); inside = λ w. absurd (cc) }
+pub untold-if : (whole : Bool) (all kept : List Stamp) → AllByRecursion (Contains all) kept → IsThinnedIf (whole && false) (λ t. true) all kept
+untold-if whole all kept among = record {
+  among = among;
+  outside = each-had (λ t. true ≡ false → Contains kept t) all (λ t c o. absurd (cc));
+  inside = λ w. absurd (never whole w);
+}
+  where
+    never : (b : Bool) → (b && false) ≡ true → ⊥
+    never true e = absurd (cc)
+    never false e = absurd (cc)
 
 pub one_more-if : (whole : Bool) (at : Stamp) (old new : List Stamp) → StandForOneMore at old new → (base : Frontier) (all : List Stamp) → IsThinnedIf whole base all old
     → IsThinnedIf whole base (at ∷ all) new
@@ -360,7 +367,7 @@ one_more-if whole at old new f base all h =
     h
 
 -- those of a list that pass a test are among those of all that do
-among-passed : (g : Frontier) (all kept : List Stamp) → AllByRecursion (Contains all) kept → AllByRecursion (Contains (filter g all)) (filter g kept)
+pub among-passed : (g : Frontier) (all kept : List Stamp) → AllByRecursion (Contains all) kept → AllByRecursion (Contains (filter g all)) (filter g kept)
 among-passed g all kept among =
     each-filter (Contains (filter g all)) g kept (each-weaker (Contains all) (λ s. g s ≡ true → Contains (filter g all) s) kept (λ s c i. has-passed g all s c i) among)
 
@@ -385,30 +392,38 @@ inside-if whole bounds f old new k base all d w h =
     (each-weaker (λ t. base t ≡ false → Contains old t) (λ t. g t ≡ true → base t ≡ false → Contains (filter g old) t) all (λ t c i o. has-passed g old t (c o) i) h.outside))
     h
 
+-- what a cut leaves of stamps that are among all is among those inside
+pub among-inside : (bounds : Bounds) (f : Front) (all old new : List Stamp) → AreOf bounds all → AllByRecursion (Contains all) old → StandsInside f old new
+    → AllByRecursion (Contains (filter (frontier_of bounds f) all)) new
+among-inside bounds f all old new d among k =
+    let g = frontier_of bounds f in
+    each-weaker (Contains (filter g old)) (Contains (filter g all)) new (λ s c. each-contained (Contains (filter g all)) s (filter g old) c (among-passed g all old among))
+    (k bounds (λ t. false) old (among-domain bounds all old d among) (λ t i. absurd (cc)) (thinned-itself (λ t. false) old)).among
+
+-- and it has what is there of them inside
+pub left-inside : (bounds : Bounds) (f : Front) (old new : List Stamp) → AreOf bounds old → StandsInside f old new → AllByRecursion (Contains new) (filter (frontier_of bounds f) old)
+left-inside bounds f old new d k =
+    each-weaker (λ t. false ≡ false → Contains new t) (Contains new) (filter (frontier_of bounds f) old) (λ t c. c refl)
+    (k bounds (λ t. false) old d (λ t i. absurd (cc)) (thinned-itself (λ t. false) old)).outside
+
 -- where it sent, of a node that settles
 pub sent_settled-if : (whole : Bool) (flow : Dataflow) (p : ℕ) (bounds : Bounds) (f : Front) (old new : List Stamp) → IsSettledTo f old new → (base : Frontier) (all : List Stamp)
     → AreOf bounds all → Within base (frontier_of bounds f) → IsThinnedIf (whole && tells_sent flow p) (base_of_sent flow p base) all old
     → IsThinnedIf (whole && tells_sent flow p) (base_of_sent flow p (frontier_of bounds f)) all new
-sent_settled-if true flow p bounds f old new k base all d w h = settled-if true bounds f old new k base all d w h
-sent_settled-if false flow p bounds f old new k base all d w h = by (not (can_resend (policy_of flow p))) h
+sent_settled-if whole flow p bounds f old new k base all d w h = by (tells_sent flow p) h
   where
-    by : (told : Bool) → IsThinnedIf false (cond told base (λ t. true)) all old → IsThinnedIf false (cond told (frontier_of bounds f) (λ t. true)) all new
-    by true i = settled-if false bounds f old new k base all d w i
+    by : (told : Bool) → IsThinnedIf (whole && told) (cond told base (λ t. true)) all old → IsThinnedIf (whole && told) (cond told (frontier_of bounds f) (λ t. true)) all new
+    by true i = settled-if (whole && true) bounds f old new k base all d w i
     by false i =
-        untold-if all new (each-weaker (Contains old) (Contains all) new (λ s c. each-contained (Contains all) s old c i.among)
+        untold-if whole all new (each-weaker (Contains old) (Contains all) new (λ s c. each-contained (Contains all) s old c i.among)
         (k bounds base old (among-domain bounds all old d i.among) w (thinned-itself base old)).among)
 
 -- and of one that is cut
 pub sent_inside-if : (whole : Bool) (flow : Dataflow) (p : ℕ) (bounds : Bounds) (f : Front) (old new : List Stamp) → StandsInside f old new → (base : Frontier) (all : List Stamp)
     → AreOf bounds all → Within base (frontier_of bounds f) → IsThinnedIf (whole && tells_sent flow p) (base_of_sent flow p base) all old
     → IsThinnedIf (whole && tells_sent flow p) (base_of_sent flow p base) (filter (frontier_of bounds f) all) new
-sent_inside-if true flow p bounds f old new k base all d w h = inside-if true bounds f old new k base all d w h
-sent_inside-if false flow p bounds f old new k base all d w h = by (not (can_resend (policy_of flow p))) h
+sent_inside-if whole flow p bounds f old new k base all d w h = by (tells_sent flow p) h
   where
-    by : (told : Bool) → IsThinnedIf false (cond told base (λ t. true)) all old → IsThinnedIf false (cond told base (λ t. true)) (filter (frontier_of bounds f) all) new
-    by true i = inside-if false bounds f old new k base all d w i
-    by false i =
-        let g = frontier_of bounds f in
-        untold-if (filter g all) new (each-weaker (Contains (filter g old)) (Contains (filter g all)) new
-        (λ s c. each-contained (Contains (filter g all)) s (filter g old) c (among-passed g all old i.among))
-        (k bounds base old (among-domain bounds all old d i.among) w (thinned-itself base old)).among)
+    by : (told : Bool) → IsThinnedIf (whole && told) (cond told base (λ t. true)) all old → IsThinnedIf (whole && told) (cond told base (λ t. true)) (filter (frontier_of bounds f) all) new
+    by true i = inside-if (whole && true) bounds f old new k base all d w i
+    by false i = untold-if whole (filter (frontier_of bounds f) all) new (among-inside bounds f all old new d i.among k)

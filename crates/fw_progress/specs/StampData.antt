@@ -13,7 +13,7 @@ use Rattle.fw_progress.specs.declared.traces.Traces.{Traces}
 use Rattle.fw_progress.specs.Covers.{last_number, sent_stamp_at}
 use Rattle.fw_progress.specs.Progress.{ChangesAt}
 use Rattle.fw_progress.specs.Tally.{count_inside}
-use Rattle.fw_progress.specs.Trace.{delivered_on, stamps_notified, stamps_where_sent, counted_of, no_tally}
+use Rattle.fw_progress.specs.Trace.{delivered_on, stamps_notified, stamps_where_sent, counted_of, counts_sent, no_tally}
 use Rattle.fw_progress.specs.Traces.{thinned}
 
 -- what is taken of kept stamps: all, or those inside a frontier, thinned inside it
@@ -47,10 +47,11 @@ messages_of flow p ss e = flat_map (λ s. message_of e s (sent_stamp_at flow p s
 abbrev pub messages_numbered : List Stamp → ℕ → List Counted
 messages_numbered ss e = map (λ s. record { edge = e; at = s; causes = (0 ∷ []) ∷ []; count = 1 }) ss
 
--- on each out-edge of node p one message of each event at these stamps that sends; of a sequence that sent so many the last one
+-- on each out-edge of node p one message of each event at these stamps that sends; of a sequence that sent so many the last one, if
+-- they are counted
 abbrev pub all_sent : Dataflow → ℕ → List Stamp → ℕ → List Counted
 all_sent flow p ss n =
-    if is_sequence_kind (kind_of flow p) then flat_map (messages_numbered (last_number n)) (out_edges flow p)
+    if is_sequence_kind (kind_of flow p) then (if counts_sent flow p then flat_map (messages_numbered (last_number n)) (out_edges flow p) else [])
     else flat_map (messages_of flow p ss) (out_edges flow p)
 
 -- the traces of node p as data: in all, or of its events inside a frontier
@@ -60,6 +61,11 @@ stamps_by flow p part traces = record {
   notified = taken part (stamps_notified traces p);
   sent = all_sent flow p (taken part (stamps_where_sent traces p)) (count_taken part (counted_of traces p));
 }
+
+-- The data have the stamps that are kept of node p: of what was delivered on each in-edge, and of which it was notified.
+pub record HasItsStamps (flow : Dataflow) (p : ℕ) (traces : Traces) (stamps : Stamps) : Type 0 where
+  pub delivered : (d : ℕ) → receiver flow d ≡ p → stamps_on d stamps.delivered ≡ delivered_on traces d
+  pub notified : stamps.notified ≡ stamps_notified traces p
 
 -- ---- data as traces
 

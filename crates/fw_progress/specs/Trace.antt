@@ -20,8 +20,8 @@ use Rattle.fw_progress.specs.declared.sent_tally.SentTally.{SentTally}
 use Rattle.fw_progress.specs.declared.traces.Traces.{Traces}
 use Rattle.fw_progress.specs.History.{stamps_sent}
 use Rattle.fw_progress.specs.Progress.{ChangesAt}
-use Rattle.fw_progress.specs.SentTally.{IsSentTally, CountsMore, IsCountedInAll}
-use Rattle.fw_progress.specs.Traces.{ChangesInto, IsThinnedBy}
+use Rattle.fw_progress.specs.SentTally.{IsSentTally, CountsMore, IsCountedInAll, IsTallyCutTo}
+use Rattle.fw_progress.specs.Traces.{ChangesInto, HasAdded, IsThinnedBy, StandsInside}
 
 -- the stamps that are kept of what was delivered on an edge
 abbrev pub delivered_on : Traces → ℕ → List Stamp
@@ -70,7 +70,8 @@ pub record IsTraceIf (whole : Bool) (sys : System) (h : List Event) (p : ℕ) (b
       → IsThinnedIf whole base (map (λ (m : Message). m.at) (delivered_messages h d)) (delivered_on traces d)
   pub notified : IsThinnedIf whole base (flat_map (stamp_of_notice p) h) (stamps_notified traces p)
   pub sent : HasOutEdge sys.flow p → is_sequence_kind (kind_of sys.flow p) ≡ false
-      → IsThinnedIf (whole && tells_sent sys.flow p) (base_of_sent sys.flow p base) (causes_in (sent_by sys p (events_at sys.flow p h))) (stamps_where_sent traces p)
+      → IsThinnedIf (whole && tells_sent sys.flow p) (base_of_sent sys.flow p base) (causes_in (sent_by sys p (events_at sys.flow p h)))
+      (stamps_where_sent traces p)
   pub counted : counts_sent sys.flow p ≡ true → IsSentTally base (sent_by sys p (events_at sys.flow p h)) (counted_of traces p)
 
 -- the same, where the whole is asked of a node that takes checkpoints
@@ -111,6 +112,12 @@ KeepsOthers flow p old new =
     (whole : Bool) (sys : System) (h : List Event) → sys.flow ≡ flow → (q : ℕ) → q ≢ p → (base : Frontier)
     → IsTraceIf whole sys h q base old → IsTraceIf whole sys h q base new
 
+-- Of node p the lists of stamps are what they were.
+pub record KeepsLists (flow : Dataflow) (p : ℕ) (old new : Traces) : Type 0 where
+  pub delivered : (d : ℕ) → receiver flow d ≡ p → delivered_on new d ≡ delivered_on old d
+  pub notified : stamps_notified new p ≡ stamps_notified old p
+  pub sent : stamps_where_sent new p ≡ stamps_where_sent old p
+
 -- traces follow an event at which its node sends at these stamps: they are those of the history that goes on with the event, where
 -- they were those of the history before
 abbrev pub TracesFollow : Dataflow → Event → List Stamp → Traces → Traces → Type 0
@@ -135,12 +142,14 @@ pub record AreSettledTo (flow : Dataflow) (p : ℕ) (f : Front) (old new : Trace
       → IsTraceIf whole sys h p (node_frontier flow p f) new
   pub others : KeepsOthers flow p old new
 
--- A cut to a frontier that holds the base: the traces of node p are those of its events in a history of which each node keeps the
--- events inside a frontier, node p those inside this one.
+-- A cut to a frontier that holds the base: the lists of node p stand for what was inside, and its traces are those of its events in a
+-- history of which each node keeps the events inside a frontier, node p those inside this one.
 pub record AreCutTo (flow : Dataflow) (p : ℕ) (f : Front) (old new : Traces) : Type 0 where
   pub here : (whole : Bool) (sys : System) (h : List Event) (keep : ℕ → Frontier) → sys.flow ≡ flow → HasEpochs sys → IsLegal sys h
       → AreFrontiers flow keep → keep p ≡ node_frontier flow p f → (base : Frontier) → Within base (node_frontier flow p f)
       → IsTraceIf whole sys h p base old → IsTraceIf whole sys (kept_events flow keep h) p base new
+  pub lists : HaveChanged flow p (StandsInside f) (IsTallyCutTo f) old new
+  pub apart : (q : ℕ) → q ≢ p → KeepsLists flow q old new
   pub others : KeepsOthers flow p old new
 
 -- each event of node p is at a stamp inside
@@ -152,7 +161,29 @@ AreEventsInside flow h p f = AllByRecursion (λ v. f (event_stamp v) ≡ true) (
 pub record AreRestoredTo (flow : Dataflow) (p : ℕ) (stamps : Stamps) (count : ℕ) (old new : Traces) : Type 0 where
   pub here : (whole : Bool) (sys : System) (h : List Event) (base : Frontier) → sys.flow ≡ flow → AreStampsIf whole sys h p base stamps
       → count ≡ length (sent_by sys p (events_at sys.flow p h)) → AreEventsInside sys.flow h p base → IsTraceIf whole sys h p base new
+  pub apart : (q : ℕ) → q ≢ p → KeepsLists flow q old new
   pub others : KeepsOthers flow p old new
+
+-- One stamp more is kept of what was delivered on edge e.
+pub record HasDeliveredMore (e : ℕ) (at : Stamp) (old new : Traces) : Type 0 where
+  pub delivered : ChangesAt e [] (HasAdded at) old.delivered.items new.delivered.items
+  pub notified : new.notified.items ≡ old.notified.items
+  pub sent : new.sent.items ≡ old.sent.items
+  pub counted : new.counted.items ≡ old.counted.items
+
+-- One stamp more is kept of those of which node p was notified.
+pub record HasNotifiedMore (p : ℕ) (at : Stamp) (old new : Traces) : Type 0 where
+  pub delivered : new.delivered.items ≡ old.delivered.items
+  pub notified : ChangesAt p [] (HasAdded at) old.notified.items new.notified.items
+  pub sent : new.sent.items ≡ old.sent.items
+  pub counted : new.counted.items ≡ old.counted.items
+
+-- One stamp more is kept of those at which node p sent.
+pub record HasSentMore (p : ℕ) (at : Stamp) (old new : Traces) : Type 0 where
+  pub delivered : new.delivered.items ≡ old.delivered.items
+  pub notified : new.notified.items ≡ old.notified.items
+  pub sent : ChangesAt p [] (HasAdded at) old.sent.items new.sent.items
+  pub counted : new.counted.items ≡ old.counted.items
 
 -- ---- for the proofs
 

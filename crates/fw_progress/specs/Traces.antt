@@ -1,7 +1,8 @@
 -- Stamps that are kept thinned inside a base.
 use Rattle.std.specs.Prelude.{◌≡◌, ◌≢◌, ℕ, ◌<◌, Bool, true, false, not, ◌&&◌, List, [], ◌∷◌, length, slice_index_or, filter, Option, Some, None, option_and_then, if◌then◌else◌}
 use Rattle.std.specs.List.{AllByRecursion, list_any}
-use Rattle.fw_time.specs.Stamp.{Stamp, leq, lesser, in_domain}
+use Rattle.std.specs.BTreeSet.{insert_key}
+use Rattle.fw_time.specs.Stamp.{Stamp, leq, lesser, in_domain, stamp_cmp}
 use Rattle.fw_time.specs.declared.stamp.Bounds.{Bounds}
 use Rattle.fw_frontier.specs.Frontier.{Frontier, Within}
 use Rattle.fw_frontier.specs.Front.{Front, inside, frontier_of}
@@ -19,6 +20,10 @@ thinned f ss = filter (λ s. not (has_greater_inside f ss s)) ss
 -- the stamps are the domain's
 abbrev pub AreOf : Bounds → List Stamp → Type 0
 AreOf bounds ss = AllByRecursion (λ s. in_domain bounds s ≡ true) ss
+
+-- a stamp was added to the list, in its place, if it was not there
+abbrev pub HasAdded : Stamp → List Stamp → List Stamp → Type 0
+HasAdded at old new = new ≡ insert_key stamp_cmp old at
 
 -- what stood for a list, thinned inside a base, stands for it with one stamp more
 abbrev pub StandForOneMore : Stamp → List Stamp → List Stamp → Type 0

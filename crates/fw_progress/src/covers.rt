@@ -3,6 +3,7 @@ ghost use Rattle.std.specs.Prelude.{◌≡◌, ◌<◌, ◌++◌, ℕ, true, Lis
 ghost use Rattle.fw_flow.specs.declared.event.Event.{Event};
 ghost use Rattle.fw_flow.specs.Dataflow.{System, sender, receiver, bounds_of, node_frontier, HasEpochs};
 ghost use Rattle.fw_flow.specs.Projection.{sent_count};
+ghost use Rattle.fw_model.specs.EventStamps.{tells_sent};
 ghost use Rattle.fw_model.specs.History.{IsLegal};
 ghost use Rattle.fw_progress.specs.Covers as spec;
 ghost use Rattle.fw_progress.specs.Trace.{AreTraces, HaveLists, IsTraceWithin, counts_sent};
@@ -49,7 +50,8 @@ impl Traces {
 
     /// The cover of what was sent on an edge by the events of its sender inside a frontier, which holds its base;
     /// `Front::all` is that of a sender that stays as it is. Of a sender that cannot send again it is what counts as
-    /// discarded. The error is want of memory, or that the number of what a sequence sent would not fit its stamps.
+    /// discarded; of another one the answer has no use. The error is want of memory, or that the number of what a sequence
+    /// sent would not fit its stamps.
     pub fn sent_cover(
         &self,
         alloc: Global,
@@ -60,7 +62,8 @@ impl Traces {
         requires traces { AreTraces flow.now self.now }
         requires there { edge < length flow.now.edges }
         ensures cover { (sys : System) (h : List Event) → sys.flow ≡ flow.now → HasEpochs sys → IsLegal sys h
-            → IsTraceWithin true sys h (sender flow.now edge) f.now self.now → IfOk result (spec.CoversSent sys h edge f.now) }
+            → tells_sent flow.now (sender flow.now edge) ≡ true → IsTraceWithin true sys h (sender flow.now edge) f.now self.now
+            → IfOk result (spec.CoversSent sys h edge f.now) }
         ensures stays { IsTrue self.now.refused → IsErr result }
     {
         flow_is_well_formed(flow);
@@ -72,7 +75,7 @@ impl Traces {
     }
 
     /// How many messages a node sent by its events inside a frontier, which holds its base. It is counted where the node takes
-    /// checkpoints, and of a sequence; of other nodes the answer has no use. The error is that the number would not fit 64
+    /// checkpoints; of other nodes the answer has no use. The error is that the number would not fit 64
     /// bits.
     pub fn sent_count(&self, flow: &Flow, node: NodeId, f: &Front) -> Result<u64, AllocError>
         requires traces { AreTraces flow.now self.now }

@@ -18,6 +18,7 @@ pub mod laws;
 mod leap;
 mod notices;
 mod progress;
+mod recall;
 mod refresh;
 mod restore;
 mod sent_tally;

@@ -9,7 +9,7 @@ ghost use Rattle.fw_flow.specs.Dataflow.{System, receiver, bounds_of, node_ids, 
 ghost use Rattle.fw_model.specs.History.{IsComplete, IsLegal, IsNotifiable};
 ghost use Rattle.fw_model.specs.Machine.{front_of, family_of, no_stamps, AreCanonical};
 ghost use Rattle.fw_model.specs.Steps.{IsNextNotice};
-ghost use Rattle.fw_progress.specs.Counts.{owed_of, AreCounts};
+ghost use Rattle.fw_progress.specs.Counts.{owed_of, pending_of, AreCounts};
 ghost use Rattle.fw_progress.specs.Cut.{events_left, AreTallies, ArePendingAfter, AreTablesAfter};
 ghost use Rattle.fw_progress.specs.Growths.{AreGrowths, out_degrees, IsEnlisted};
 ghost use Rattle.fw_progress.specs.History.{IsCountOf, StandsForHistory, FollowsEvent, IsFresh};
@@ -94,6 +94,36 @@ impl Progress {
         Ok(Progress {
             counts,
             settled: no_stamps_each(alloc, flow)?,
+            kept,
+            work: Worklist::new(alloc),
+            refused: false,
+        })
+    }
+
+    /// Progress with these counts, and these frontiers as what is settled; the complete frontiers are found, and kept. The error
+    /// is want of memory.
+    pub fn of_counts(
+        alloc: Global,
+        flow: &Flow,
+        counts: Counts,
+        settled: Vec<Front>,
+    ) -> Result<Self, AllocError>
+        requires counts { AreCounts flow.now counts }
+        requires settled_each { length settled.items ≡ length flow.now.nodes }
+        requires settled { AreCanonical flow.now settled.items }
+        ensures progress { IfOk result (IsProgressOf flow.now) }
+        ensures counts { IfOk result (λ p. p.counts ≡ counts) }
+        ensures settled { IfOk result (λ p. p.settled ≡ settled.items) }
+        ensures none_waits { IfOk result (λ p. p.work ≡ []) }
+        ensures complete { (sys : System) (h : List Event) → sys.flow ≡ flow.now → IsCountOf sys h counts
+            → IfOk result (λ p. StandsForHistory sys h p × IsComplete sys h (family_of flow.now p.kept)) }
+        ensures ready { IfOk result (λ p. p.refused ≡ false) }
+    {
+        flow_is_well_formed(flow);
+        let kept = largest(alloc, flow, &counts)?;
+        Ok(Progress {
+            counts,
+            settled,
             kept,
             work: Worklist::new(alloc),
             refused: false,
@@ -470,6 +500,14 @@ impl Progress {
         ensures { result.now ≡ owed_of self.now.counts node }
     {
         &self.counts.owed[node.place() as usize]
+    }
+
+    /// How many messages are pending on an edge, by stamp. It takes no memory.
+    pub fn pending(&self, edge: EdgeId) -> &Tally
+        requires { edge < length self.now.counts.pending.items }
+        ensures { result.now ≡ pending_of self.now.counts edge }
+    {
+        &self.counts.pending[edge.place() as usize]
     }
 
     /// Whether a node keeps more than it settled, as it is now. It takes no memory.

@@ -14,7 +14,7 @@ ghost use Rattle.fw_progress.specs.Trace.{AreTraces, HaveLists, IsTraceIf, IsTra
 use crate::covers::{last_number, sends_within};
 use crate::kept_stamps::KeptStamps;
 use crate::sent_tally::SentTally;
-use crate::traces::Traces;
+use crate::traces::{Traces, counts_sent};
 use fw_flow::laws::flow_is_well_formed;
 use fw_flow::{Causes, Counted, CountedMessages, EdgeId, Flow, NodeId, Notices, Stamps};
 use fw_frontier::Front;
@@ -24,13 +24,14 @@ use std::alloc::{AllocError, Global};
 impl Traces {
     /// Where a node's events are and where they sent, as a recovery is offered it: for each in-edge one message at each stamp
     /// that is kept of what was delivered there, with that stamp in the place of its causes; for each out-edge one message
-    /// of each kept event that sends, and of a sequence the last one, as if the first epoch sent it. The error is want of
-    /// memory, or that the number of what a sequence sent would not fit its stamps.
+    /// of each kept event that sends, and of a sequence whose messages are counted the last one, as if the first epoch sent
+    /// it. The error is want of memory, or that the number of what a sequence sent would not fit its stamps.
     pub fn stamps(&self, alloc: Global, flow: &Flow, node: NodeId) -> Result<Stamps, AllocError>
         requires traces { AreTraces flow.now self.now }
         requires there { node < length flow.now.nodes }
         ensures stamps { (whole : Bool) (sys : System) (h : List Event) (base : Frontier) → sys.flow ≡ flow.now → HasEpochs sys → IsLegal sys h
             → IsTraceIf whole sys h node base self.now → IfOk result (AreStampsIf whole sys h node base) }
+        ensures kept { IfOk result (spec.HasItsStamps flow.now node self.now) }
         ensures stays { IsTrue self.now.refused → IsErr result }
     {
         flow_is_well_formed(flow);
@@ -175,7 +176,7 @@ fn message(edge: EdgeId, at: Stamp, cause: &Stamp) -> Counted
 }
 
 /// On each out-edge of a node one message of each event at these stamps that sends; of a sequence that sent so many the last
-/// one. The error is want of memory, or that the last number would not fit a stamp.
+/// one, if they are counted. The error is want of memory, or that the last number would not fit a stamp.
 fn all_sent(
     alloc: Global,
     flow: &Flow,
@@ -186,6 +187,9 @@ fn all_sent(
     ensures { IfOk result (λ ms. ms.items ≡ spec.all_sent flow.now node stamps.now count) }
 {
     if flow.kind(node).is_sequence() {
+        if !counts_sent(flow, node) {
+            return Ok(Vec::new(alloc));
+        }
         return numbered(alloc, flow, node, &last_number(alloc, count)?);
     }
     let mut messages = Vec::new(alloc);

@@ -218,6 +218,16 @@ impl Tally {
         Ok(Tally { alloc, few })
     }
 
+    /// Its stamps with their numbers, in order. The error is want of memory.
+    pub fn entries(&self, alloc: Global) -> Result<Vec<(Stamp, u64)>, AllocError>
+        ensures { IfOk result (λ entries. entries.items ≡ self.now) }
+    {
+        match &self.few {
+            Few::One(stamp, count) => one_entry(alloc, stamp, *count),
+            Few::Many(counts) => listed(alloc, counts),
+        }
+    }
+
     /// The first of its stamps inside a frontier, by the coordinates from the outermost on.
     pub fn first_inside(&self, f: &Front) -> Option<Stamp>
         ensures first { result ≡ find (inside f.now) (keys_of self.now) }
@@ -352,6 +362,26 @@ fn copied(alloc: Global, counts: &BTreeMap<Stamp, u64>) -> Result<BTreeMap<Stamp
         copy.insert(at.copy(), *count)?;
     }
     Ok(copy)
+}
+
+// One stamp with its number.
+fn one_entry(alloc: Global, stamp: &Stamp, count: u64) -> Result<Vec<(Stamp, u64)>, AllocError>
+    ensures { IfOk result (λ entries. entries.items ≡ (stamp.now, count) ∷ []) }
+{
+    let mut entries = Vec::new(alloc);
+    entries.push((stamp.copy(), count))?;
+    Ok(entries)
+}
+
+// The stamps with their numbers.
+fn listed(alloc: Global, counts: &BTreeMap<Stamp, u64>) -> Result<Vec<(Stamp, u64)>, AllocError>
+    ensures { IfOk result (λ entries. entries.items ≡ counts.now.entries) }
+{
+    let mut entries = Vec::new(alloc);
+    for (at, count) in counts.iter() {
+        entries.push((at.copy(), *count))?;
+    }
+    Ok(entries)
 }
 
 // The first of the stamps inside a frontier.

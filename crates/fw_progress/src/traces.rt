@@ -10,7 +10,7 @@ ghost use Rattle.fw_progress.specs.Progress.{ChangesAt};
 ghost use Rattle.fw_progress.specs.SentTally.{CountsMore, IsCountedInAll, IsTallyCutTo};
 ghost use Rattle.fw_progress.specs.Trace as spec;
 ghost use Rattle.fw_progress.specs.Trace.{AreTraces, IsTraceIf, TracesFollow, AreSettledTo, AreThinnedAt, AreCutTo, no_tally, SentMore, CountedMore};
-ghost use Rattle.fw_progress.specs.Traces.{StandForOneMore, IsThinnedBy, StandsInside, ChangesInto};
+ghost use Rattle.fw_progress.specs.Traces.{StandForOneMore, HasAdded, IsThinnedBy, StandsInside, ChangesInto};
 
 use crate::kept_stamps::KeptStamps;
 use crate::sent_tally::SentTally;
@@ -32,7 +32,7 @@ pub struct Traces {
     pub notified: Vec<KeptStamps>,
     /// For each node but a sequence at which stamps events of it sent something, if an edge leads from it.
     pub sent: Vec<KeptStamps>,
-    /// For each node that takes checkpoints, and each sequence, how many messages it sent.
+    /// For each node that takes checkpoints how many messages it sent.
     pub counted: Vec<SentTally>,
     /// Whether memory was refused.
     pub refused: bool,
@@ -216,17 +216,22 @@ fn takes_checkpoints(policy: Policy) -> bool
     matches!(policy, Policy::Lazy | Policy::Logged | Policy::Eager)
 }
 
-/// Whether it is counted how many messages a node sent: where it takes checkpoints, and of a sequence.
-fn counts_sent(flow: &Flow, node: NodeId) -> bool
+/// Whether it is counted how many messages a node sent: where it takes checkpoints.
+pub(crate) fn counts_sent(flow: &Flow, node: NodeId) -> bool
     ensures { result ≡ spec.counts_sent flow.now node }
 {
-    takes_checkpoints(flow.policy(node)) || flow.kind(node).is_sequence()
+    takes_checkpoints(flow.policy(node))
 }
 
 /// One stamp more in one of the lists. The error is want of memory.
-fn add_at(lists: &mut Vec<KeptStamps>, place: usize, at: &Stamp) -> Result<(), AllocError>
+pub(crate) fn add_at(
+    lists: &mut Vec<KeptStamps>,
+    place: usize,
+    at: &Stamp,
+) -> Result<(), AllocError>
     requires { place < length lists.old.items }
-    ensures { IfOk result (λ u. ChangesAt place [] (StandForOneMore at.now) lists.old.items lists.new.items) }
+    ensures thinned { IfOk result (λ u. ChangesAt place [] (StandForOneMore at.now) lists.old.items lists.new.items) }
+    ensures value { IfOk result (λ u. ChangesAt place [] (HasAdded at.now) lists.old.items lists.new.items) }
 {
     let kept = &mut lists[place];
     kept.add(at)?;

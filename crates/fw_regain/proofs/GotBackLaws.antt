@@ -1,5 +1,5 @@
 -- The stamps of a node's events inside a checkpoint, got back from covers.
-use Rattle.std.proofs.Common.{◌≡◌, ℕ, ◌<◌, Bool, true, false, cond, List, [], ◌∷◌, ◌++◌, length, map, filter, refl, sym, ap, subst, ◌⊎◌, ◌==◌, ◌∙◌, inl, inr, arith}
+use Rattle.std.proofs.Common.{◌≡◌, ℕ, ◌<◌, Bool, true, false, not, cond, List, [], ◌∷◌, ◌++◌, length, map, filter, refl, sym, ap, subst, ◌⊎◌, ◌==◌, ◌∙◌, inl, inr, arith}
 use Rattle.std.specs.List.{AllByRecursion, flat_map}
 use Rattle.std.proofs.lemmas.Bool.{cases_lt, cond_both}
 use Rattle.std.proofs.lemmas.List.{get_or_past}
@@ -26,7 +26,7 @@ use Rattle.fw_flow.specs.Projection.{events_at, all_inside}
 use Rattle.fw_flow.specs.Restoring.{can_resend, way_of}
 use Rattle.fw_flow.specs.WellFormed.{IsWellFormed, IsWellFormedSystem}
 use Rattle.fw_model.specs.Covers.{covers_in, stamps_inside, stamps_from, stamp_of_notice, notified_inside, takes_its_cut, takes_its_notices, discarded_at}
-use Rattle.fw_model.specs.EventStamps.{StandForSent, causes_in, causes_of}
+use Rattle.fw_model.specs.EventStamps.{StandForSent, base_of_sent, causes_in, causes_of, tells_sent}
 use Rattle.fw_model.specs.Filtering.{events_inside, messages_from, messages_inside}
 use Rattle.fw_model.specs.History.{AreEventsInDomain, delivered_messages, sent_messages}
 use Rattle.fw_model.specs.Machine.{Machine, events}
@@ -220,6 +220,11 @@ received-back sys state p f r stamps w l takes d n b =
           (λ t. ap (λ y. y t) (n ∙ notified-is sys state p f takes ∙ ap (cover (bounds_of flow p)) (sym (notices-inside p g h)))) b.notified;
     }
 
+-- what stands for what a node sent stands for what is told of it, where it cannot send again
+told-stand : (sys : System) (h : List Event) (p : ℕ) (base : Frontier) (e : ℕ) (ms : List Counted) → can_resend (policy_of sys.flow p) ≡ false → StandForSent true sys h p base e ms
+    → StandForSent (tells_sent sys.flow p) sys h p (base_of_sent sys.flow p base) e ms
+told-stand sys h p base e ms again stand = subst (λ c. StandForSent (not c) sys h p (cond (not c) base (λ t. true)) e ms) (sym again) stand
+
 pub got-back : StampsAreGotBack
 got-back sys state p f r stamps w reached l lazy d n s b =
     let flow = sys.flow in
@@ -242,7 +247,7 @@ got-back sys state p f r stamps w reached l lazy d n s b =
       in_domain = b.received.notified.of_domain;
       delivered = λ c q. whole g (map at (delivered_messages now c)) (stamps_on c stamps.delivered) (received.delivered c q);
       notified = whole g (flat_map (stamp_of_notice p) now) stamps.notified received.notified;
-      sent = λ no e there q. elim (merges-or_tells (kind_of flow p) no) [
+      sent = λ no e there q. told-stand sys now p g e (counted_on_edge e stamps.sent) (ap can_resend lazy) (elim (merges-or_tells (kind_of flow p) no) [
         | inl k ↦
             let one = merges-edge flow w.flow p l k in
             let c = one.edge in
@@ -262,8 +267,8 @@ got-back sys state p f r stamps w reached l lazy d n s b =
             (subst (AreEventsInDomain flow now) (sym q) of) (subst (λ x. AllByRecursion (λ v. g (event_stamp v) ≡ true) (events_at flow x now)) (sym q) inside)
             (read e there q) t.1 in
             subst (λ (ms : List Counted). StandForSent true sys now p g e ms) (sym t.2) (subst (λ x. StandForSent true sys now x g e (map (message_of_told flow e) t.0)) q stand)
-      ];
-      numbered = λ k e there q.
+      ]);
+      numbered = λ k told e there q.
           let bounds = bounds_of flow (receiver flow e) in
           let all = map at (sent_messages sys now e) in
           let legal = (reached-all sys w reached.0 reached.1 state reached.2).recover.holds.legal in

@@ -1,5 +1,5 @@
 -- A checkpoint that is made of what is kept of a node is one of the machine's, and has a spelling.
-use Rattle.std.proofs.Common.{◌≡◌, ℕ, Bool, true, false, List, refl, sym, ap, subst, ◌∙◌}
+use Rattle.std.proofs.Common.{◌≡◌, ℕ, Bool, true, false, not, List, refl, sym, ap, subst, ◌∙◌}
 use Rattle.std.specs.List.{AllByRecursion}
 use Rattle.std.proofs.lemmas.Bool.{cond-false, cond-true}
 use Rattle.fw_frontier.specs.Frontier.{Within, nothing}
@@ -93,7 +93,8 @@ discarded-counts sys state p f traces w r way t =
         (sym (cond-false (can_resend (policy_of sys.flow q)) nothing (discarded_at sys.flow e (way_of sys.flow q) sent f) (ap (λ n. can_resend (policy_of sys.flow n)) s ∙ k)
         ∙ ap (λ (way : Restoring). discarded_at sys.flow e way sent f) (ap (way_of sys.flow) s ∙ way)))
         (told sys (events state.history) refl (has_epochs sys w) (reached-legal sys state w r)
-        (subst (λ n. IsTraceWithin true sys (events state.history) n f traces) (sym s) t))
+        (subst (λ n. IsTraceWithin true sys (events state.history) n f traces) (sym s) t)
+        (ap (λ n. not (can_resend (policy_of sys.flow n))) s ∙ ap not k))
 
 pub recorded-at : (sys : System) (state : Machine) (p : ℕ) (f : Front) (traces : Traces) (r : Recorded) → IsWellFormedSystem sys → IsReached sys state
     → takes_checkpoints (policy_of sys.flow p) ≡ true → IsCanonical (bounds_of sys.flow p) f → IsTraceWithin true sys (events state.history) p f traces

@@ -1,5 +1,5 @@
 -- A checkpoint that is made of what is kept of a node at a front is the one for which the machine asks, and has a spelling.
-use Rattle.std.proofs.Common.{◌≡◌, ℕ, ◌<◌, ◌^◌, ◌||◌, Bool, true, false, cond, List, [], length, Option, Some, None, refl, sym, ap, subst, ◌∙◌, arith}
+use Rattle.std.proofs.Common.{◌≡◌, ℕ, ◌<◌, ◌^◌, Bool, true, false, cond, List, [], length, Option, Some, None, refl, sym, ap, subst, ◌∙◌, arith}
 use Rattle.fw_lemmas.proofs.Bools.{two_ways}
 use Rattle.std.specs.List.{Contains}
 use Rattle.fw_frontier.specs.Frontier.{Frontier}
@@ -80,7 +80,7 @@ made-so sys running state p since f c can made =
       recorded = subst (λ flow. IsRecordedAt flow running.traces p f c.recorded) can.flow made.recorded;
       totals = subst (λ flow. AreTotalsTold flow (table_of running p) p since f (totals_in c.state.entries)) can.flow made.state.totals;
       sent = told sys (events state.history) refl (has_epochs sys can.well_formed) (reached-legal sys state can.well_formed can.reached)
-          (within-front sys can.floor state p f running.traces can.takes can.settled can.traces) (ap (λ b. b || is_sequence_kind (kind_of sys.flow p)) can.takes);
+          (within-front sys can.floor state p f running.traces can.takes can.settled can.traces) can.takes;
       sends = subst (λ flow. AreSendsAt (is_sequence_kind (kind_of flow p)) since f (sent_of running.progress.counts p) c.state.sends) can.flow made.state.sends;
       log = subst (λ flow. IsLogOf flow (told_log running since f) p c.log) can.flow made.log;
     }

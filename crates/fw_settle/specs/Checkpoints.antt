@@ -20,7 +20,7 @@ use Rattle.fw_flow.specs.Projection.{all_inside, sent_count, table_count}
 use Rattle.fw_flow.specs.Restoring.{can_resend}
 use Rattle.fw_flow.specs.SentTable.{EpochsAscend}
 use Rattle.fw_flow.specs.WellFormed.{IsWellFormedSystem}
-use Rattle.fw_model.specs.EventStamps.{AreStampsIf}
+use Rattle.fw_model.specs.EventStamps.{AreStampsIf, tells_sent}
 use Rattle.fw_model.specs.Filtering.{events_inside, messages_from}
 use Rattle.fw_model.specs.History.{IsLegal}
 use Rattle.fw_model.specs.Machine.{Machine, events, family_of, front_of, is_failed, no_stamps}
@@ -68,10 +68,11 @@ IsSoInEachHistory flow traces p f IsSo =
 abbrev pub IsCoverDelivered : Dataflow → Traces → Front → ℕ → Front → Type 0
 IsCoverDelivered flow traces f d front = IsSoInEachHistory flow traces (receiver flow d) f (λ sys h. CoversDelivered sys h d f front)
 
--- the front is the cover of what was sent on edge e from inside a frontier, or none where it can be sent again
+-- the front is the cover of what was sent on edge e from inside a frontier, where its sender cannot send it again, or none
 abbrev pub IsDiscarded : Dataflow → Traces → Front → Bool → ℕ → Front → Type 0
 IsDiscarded flow traces f true e front = IsFrontOf (bounds_of flow (receiver flow e)) front nothing
-IsDiscarded flow traces f false e front = IsSoInEachHistory flow traces (sender flow e) f (λ sys h. CoversSent sys h e f front)
+IsDiscarded flow traces f false e front =
+    IsSoInEachHistory flow traces (sender flow e) f (λ sys h. tells_sent flow (sender flow e) ≡ true → CoversSent sys h e f front)
 
 -- The front is listed for edge e.
 pub record IsOfEdge (Is : ℕ → Front → Type 0) (e : ℕ) (x : OfEdge) : Type 0 where

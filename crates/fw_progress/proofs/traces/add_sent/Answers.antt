@@ -12,4 +12,4 @@ returns c =
     let old = c.args.sent.now.items in
     let new = c.add_at.new.lists.items in
     IfOk-weaker c.add_at.result _ _ (λ u d. sent-some c.args.flow.now c.args.node c.args.at.now c.args.count old new some d)
-    (subst (λ n. IfOk c.add_at.result (λ u. ChangesAt n [] (StandForOneMore c.args.at.now) old new)) c.place.ensures c.add_at.ensures)
+    (subst (λ n. IfOk c.add_at.result (λ u. ChangesAt n [] (StandForOneMore c.args.at.now) old new)) c.place.ensures c.add_at.ensures.thinned)

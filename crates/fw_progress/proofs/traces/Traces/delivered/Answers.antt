@@ -15,7 +15,7 @@ returns-clause-follows c = λ m e.
     let sent = c.args.sent.now in
     let old = c.args.self.now in
     let new : Traces = record { delivered = c.add_at.new.lists; notified = old.notified; sent = c.add_sent.new.sent; counted = c.count_sent.new.counted; refused = false } in
-    let came = subst (λ n. ChangesAt n [] (StandForOneMore at) old.delivered.items new.delivered.items) c.place.ensures c.in_ok-add_at.ensures in
+    let came = subst (λ n. ChangesAt n [] (StandForOneMore at) old.delivered.items new.delivered.items) c.place.ensures c.in_ok-add_at.ensures.thinned in
     let sends : HasSent flow c.dst-node.result at (length sent) old new = record { sent = c.in_ok-add_sent.ensures; counted = c.in_ok-count_sent.ensures } in
     tells-follow flow (Deliver c.args.edge m) sent old new
     (delivered-tells flow c.args.edge m (length sent) old new

@@ -13,6 +13,6 @@ returns-clause-follows c =
     let sent = c.args.sent.now in
     let old = c.args.self.now in
     let new : Traces = record { delivered = old.delivered; notified = c.add_at.new.lists; sent = c.add_sent.new.sent; counted = c.count_sent.new.counted; refused = false } in
-    let told = subst (λ n. ChangesAt n [] (StandForOneMore at) old.notified.items new.notified.items) c.place.ensures c.in_ok-add_at.ensures in
+    let told = subst (λ n. ChangesAt n [] (StandForOneMore at) old.notified.items new.notified.items) c.place.ensures c.in_ok-add_at.ensures.thinned in
     tells-follow flow (Notify c.args.node at) sent old new
     (notified-tells flow c.args.node at (length sent) old new refl told (record { sent = c.in_ok-add_sent.ensures; counted = c.in_ok-count_sent.ensures }))

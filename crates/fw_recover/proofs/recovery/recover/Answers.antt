@@ -20,7 +20,10 @@ pub returns-in_err-choice-clause-answers : goal.returns-in_err-choice-clause-ans
 returns-in_err-choice-clause-answers g c = recovery-refused c.from_residual.ensures.1 c.requires.stored refl refl (λ told. told)
 
 pub returns-in_err-choice-clause-held : goal.returns-in_err-choice-clause-held
-returns-in_err-choice-clause-held g c = unanswered-held _ _ _ _ _ c.from_residual.ensures.1
+returns-in_err-choice-clause-held g c =
+    let old = c.args.running.now in
+    let records = (g.K.Store.view c.args.store.now).records in
+    unanswered-held old old records records c.from_residual.result c.from_residual.ensures.1
 
 pub returns-in_err-restore-clause-answers : goal.returns-in_err-restore-clause-answers
 returns-in_err-restore-clause-answers g c =
@@ -62,7 +65,9 @@ returns-in_err-follow-clause-answers g c =
     c.follow.ensures.flow restored.faults (told-before _ _ c.restore.ensures.stays)
 
 pub returns-in_err-follow-clause-held : goal.returns-in_err-follow-clause-held
-returns-in_err-follow-clause-held g c = unanswered-held _ _ _ _ _ c.from_residual-in_err-follow.ensures.1
+returns-in_err-follow-clause-held g c =
+    unanswered-held c.args.running.now c.follow.new.running (g.K.Store.view c.args.store.now).records (g.K.Store.view c.restore.new.store).records
+    c.from_residual-in_err-follow.result c.from_residual-in_err-follow.ensures.1
 
 pub follow-requires-clause-queues : goal.follow-requires-clause-queues
 follow-requires-clause-queues g c =

@@ -1,7 +1,7 @@
 -- The traces of the running total follow its events.
 use Rattle.std.proofs.Common.{[], drop, lit<, refl, ℕ, Bool, true, ◌∷◌, ◌≡◌}
 use Rattle.fw_frontier.specs.Frontier.{Frontier, nothing}
-use Rattle.fw_flow.specs.Dataflow.{Dataflow, System, batches_of, bounds_of, kind_of, receiver, sender}
+use Rattle.fw_flow.specs.Dataflow.{Dataflow, System, batches_of, bounds_of, kind_of, policy_of, receiver, sender}
 use Rattle.fw_flow.specs.NodeFunction.{sends}
 use Rattle.fw_flow.specs.declared.event.Event.TheVariants.{Deliver as Delivered, Inject as Injected, Notify as Notified}
 use Rattle.fw_progress.specs.Trace.{IsTraceIf, TracesFollow}
@@ -24,7 +24,7 @@ two_traced flow none empty sent came told out same first a b c d e base =
 
 -- where they are its traces of two epochs, they tell epoch 1, and are its traces once the input sent more
 pub two_told : (traces : Traces) → ((base : Frontier) → IsTraceIf true totals two_epochs 1 base traces) → AreTracesOfTwo traces
-unfolding kind_of receiver sender sends batches_of bounds_of
+unfolding kind_of receiver sender sends batches_of bounds_of policy_of
 two_told traces two =
     let all = two nothing in
     record {

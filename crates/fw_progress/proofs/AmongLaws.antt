@@ -13,7 +13,7 @@ use Rattle.fw_flow.specs.declared.event.Event.TheVariants.{Inject, Deliver, Noti
 use Rattle.fw_flow.specs.declared.event.Message.{Message}
 use Rattle.fw_flow.specs.declared.kind.Kind.TheVariants.{Input}
 use Rattle.fw_flow.specs.declared.kind.Policy.TheVariants as policy
-use Rattle.fw_flow.specs.Dataflow.{System, Dataflow, kind_of, policy_of, receiver, in_edges, bounds_of, is_notified_kind, is_sequence_kind, node_frontier, HasEpochs}
+use Rattle.fw_flow.specs.Dataflow.{System, Dataflow, kind_of, policy_of, receiver, in_edges, bounds_of, is_notified_kind, node_frontier, HasEpochs}
 use Rattle.fw_flow.specs.NodeFunction.{event_node, event_stamp, sent_by}
 use Rattle.fw_flow.specs.Projection.{events_at}
 use Rattle.fw_flow.specs.Restoring.{can_resend}
@@ -29,8 +29,7 @@ use Rattle.fw_model.proofs.LegalLaws.{legal_events-in_domain}
 use Rattle.fw_model.proofs.ThinnedLaws.{each-contained}
 use Rattle.fw_progress.specs.declared.sent_tally.SentTally.{SentTally}
 use Rattle.fw_progress.specs.declared.traces.Traces.{Traces}
-use Rattle.fw_progress.specs.Progress.{ChangesAt}
-use Rattle.fw_progress.specs.Trace.{delivered_on, stamps_notified, stamps_where_sent, counts_sent, HasOutEdge, IsTraceIf, IsTraceAmong, HasOutside, HasTraceOutside, KeepsLists, HaveChanged, HasDeliveredMore, HasNotifiedMore, HasSentMore}
+use Rattle.fw_progress.specs.Trace.{delivered_on, stamps_notified, stamps_where_sent, counts_sent, IsTraceIf, IsTraceAmong, HasOutside, HasTraceOutside, KeepsLists, HaveChanged, HasDeliveredMore, HasNotifiedMore, HasSentMore}
 use Rattle.fw_progress.specs.Traces.{AreOf, HasAdded, StandsInside}
 use Rattle.fw_progress.proofs.CutTraceLaws.{delivered-at, notices-at, delivered-domain, notices-domain, sent-domain, causes-of, delivered-kept, notices-kept, sent-kept}
 use Rattle.fw_progress.proofs.TraceLaws.{among-domain, among-inside, each-itself, each_of-insert, has-passed, insert-each, left-inside, untold-if}

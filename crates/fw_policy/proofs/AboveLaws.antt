@@ -1,8 +1,8 @@
 -- What is offered by what is known above a floor is what the machine offers, but perhaps without what counts of the floor.
-use Rattle.std.proofs.Common.{◌≡◌, inl, inr, ℕ, ◌<◌, Bool, true, false, not, cond, List, length, map, refl, sym, ◌∙◌, ap, subst}
+use Rattle.std.proofs.Common.{◌≡◌, inl, inr, ℕ, ◌<◌, Bool, true, false, not, cond, ◌&&◌, List, length, map, refl, sym, ◌∙◌, ap, subst}
 use Rattle.std.specs.Prelude.{filter}
 use Rattle.std.specs.List.{flat_map}
-use Rattle.std.proofs.lemmas.Bool.{and_parts, cases_Bool, cond_both, or_cases, or_left, or_right}
+use Rattle.std.proofs.lemmas.Bool.{cases_Bool, cond_both, or_cases, or_left, or_right}
 use Rattle.fw_lemmas.proofs.Bools.{two_ways}
 use Rattle.fw_lemmas.proofs.Each.{each-map, each-filter}
 use Rattle.fw_time.specs.Stamp.{Stamp}
@@ -16,14 +16,14 @@ use Rattle.fw_flow.specs.declared.choice.Offer.{Offer}
 use Rattle.fw_flow.specs.declared.event.Message.{Message}
 use Rattle.fw_flow.specs.declared.restoring.Restoring.{Restoring}
 use Rattle.fw_flow.specs.declared.restoring.Restoring.TheVariants.{Batches, Bound, Anything, Checkpoints, Events}
-use Rattle.fw_flow.specs.Dataflow.{System, Dataflow, kind_of, policy_of, sender, receiver, bounds_of, bounds_of_edge, is_sequence_kind, node_frontier}
+use Rattle.fw_flow.specs.Dataflow.{System, Dataflow, kind_of, policy_of, sender, receiver, bounds_of, bounds_of_edge, is_notified_kind, is_sequence_kind, node_frontier}
 use Rattle.fw_flow.specs.Projection.{all_inside, psi}
 use Rattle.fw_flow.specs.Restoring.{can_resend, way_of}
 use Rattle.fw_flow.specs.WellFormed.{IsWellFormed}
-use Rattle.fw_model.specs.Choice.{cut_of}
+use Rattle.fw_model.specs.Choice.{kept, cut_of, logged_history, AllLogged, IsRestorable}
 use Rattle.fw_model.specs.Choosing.{choice_at}
 use Rattle.fw_model.specs.Covers.{takes_its_cut, takes_its_notices, covers_in, stamp_of_notice, stamps_from, stamps_inside, notified_inside, discarded_at}
-use Rattle.fw_model.specs.EventStamps.{base_of_sent, StandForSent, AreStampsIf}
+use Rattle.fw_model.specs.EventStamps.{tells_sent, StandForSent, AreStampsIf, AreStampsOf}
 use Rattle.fw_model.specs.History.{delivered_messages, sent_messages}
 use Rattle.fw_model.specs.Machine.{Machine, events, front_of}
 use Rattle.fw_model.specs.Offers.{notified_of, delivered_to, offered_sent, IsOffered, stamps_on, stamps_on_from, counted_on_edge, delivered_in, sent_in, notified_in, recorded_delivered, recorded_discarded, recorded_notified, covers_of, AreOffersAbove}
@@ -37,14 +37,15 @@ use Rattle.fw_model.proofs.FloorLaws.{floor_cut, floor-consistent}
 use Rattle.fw_model.proofs.FrontierLaws.{psi-frontier}
 use Rattle.fw_model.proofs.SendsLaws.{sent_from_inside-inside_psi}
 use Rattle.fw_model.proofs.SentStandLaws.{cover-from, sent_outside-covers}
-use Rattle.fw_model.proofs.ThinnedLaws.{thinned-less, outside-covers, cover-weaker, cover-inside, cover-each}
+use Rattle.fw_model.proofs.ThinnedLaws.{outside-covers, cover-weaker, cover-inside, cover-each}
 use Rattle.fw_model.proofs.WellFormedLaws.{senders_well_formed}
 use Rattle.fw_keep.specs.declared.entry.Entry.{Entry}
 use Rattle.fw_policy.specs.declared.view.NodeView.{NodeView}
 use Rattle.fw_policy.specs.Offering.{AreOffersBy}
 use Rattle.fw_policy.specs.View.{base_of, IsViewOf}
-use Rattle.fw_policy.proofs.OfferLaws.{AreOffersKnown, IsWholeView, are-there, delivered-is, notified-is, sent-is, base-domain, record-offered, delivered-thinned, notified-thinned, sent-everything, filter-split, output-no_sequence, arrived-same, offered-same, of_flow, offers-ascend}
-use Rattle.fw_policy.proofs.WayLaws.{bound-output, checkpoints-take, events-full}
+use Rattle.fw_policy.proofs.FailedLaws.{TellsEnough, known-there, known-batches, known-events, known-among, enough-thinned, enough-logged, enough-none, delivered-logged, notices-logged, no-notices}
+use Rattle.fw_policy.proofs.OfferLaws.{Offers, AreOffersKnown, IsWholeView, are-there, delivered-is, notified-is, sent-is, base-domain, record-offered, delivered-thinned, notified-thinned, told-base, sent-everything, filter-split, arrived-same, offered-same, of_flow, offers-ascend}
+use Rattle.fw_policy.proofs.WayLaws.{bound-output, output-not_notified, anything-not_notified, no-output, checkpoints-take, events-full}
 
 -- ---- poorer frontiers
 
@@ -142,41 +143,68 @@ discarded-floor sys state e f w l n r =
     ]
     by way = λ t i. i
 
--- of a node with checkpoints the whole is known
-whole-checkpoints : (sys : System) (state : Machine) (lost : ℕ → Bool) (floor : List Front) (entries : List Entry) (offers : List Offer) (a : AreOffersKnown sys state lost floor entries offers)
-    (p : ℕ) (l : p < length sys.flow.nodes) → way_of sys.flow p ≡ Checkpoints → IsWholeView sys state floor p (a.each p l).node
-whole-checkpoints sys state lost floor entries offers a p l e =
-    let o = a.each p l in
-    subst (λ w. AreStampsIf w sys (events state.history) p (base_of sys floor state p) o.node.stamps) (checkpoints-take (kind_of sys.flow p) (policy_of sys.flow p) e) o.known.stamps
+-- ---- what is known
 
--- where a node that cannot send again sent is told, perhaps without what lies inside its base
-told-base : (whole : Bool) (flow : Dataflow) (p : ℕ) (base : Frontier) → can_resend (policy_of flow p) ≡ false → base_of_sent whole flow p base ≡ base
-told-base true flow p base r = refl
-told-base false flow p base r = ap (λ c. cond (not c) base (λ t. true)) r
+-- of a node that offers its state as it is all is known, since it did not fail
+known-present : (sys : System) (state : Machine) (lost : ℕ → Bool) (floor : List Front) (entries : List Entry) (offers : List Offer) (a : AreOffersKnown sys state lost floor entries offers)
+    (p : ℕ) (l : p < length sys.flow.nodes) → IsOffered sys.flow offers p Present → AreStampsOf sys (events state.history) p (base_of sys floor state p) (a.each p l).node.stamps
+known-present sys state lost floor entries offers a p l i =
+    let o = a.each p l in
+    known-there sys floor state p o.node.stamps (lost p) o.known.stamps ((offered-same sys state lost floor entries offers a p l Present).0 i)
+
+-- of one with checkpoints the whole is
+whole-checkpoints : (sys : System) (state : Machine) (lost : ℕ → Bool) (floor : List Front) (entries : List Entry) (offers : List Offer) (a : AreOffersKnown sys state lost floor entries offers)
+    (p : ℕ) (l : p < length sys.flow.nodes) → IsOffered sys.flow offers p Present → way_of sys.flow p ≡ Checkpoints → IsWholeView sys state floor p (a.each p l).node
+whole-checkpoints sys state lost floor entries offers a p l i e =
+    subst (λ w. AreStampsIf w sys (events state.history) p (base_of sys floor state p) (a.each p l).node.stamps) (checkpoints-take (kind_of sys.flow p) (policy_of sys.flow p) e)
+    (known-present sys state lost floor entries offers a p l i)
+
+-- what a node that logs its events offers is logged
+offered-logged : (sys : System) (state : Machine) (lost : ℕ → Bool) (floor : List Front) (entries : List Entry) (offers : List Offer) → AreOffersKnown sys state lost floor entries offers
+    → (p : ℕ) → p < length sys.flow.nodes → (f : Front) → IsOffered sys.flow offers p (At f) → way_of sys.flow p ≡ Events
+    → AllLogged sys p (node_frontier sys.flow p f) state.writes state.history
+offered-logged sys state lost floor entries offers a p l f i e =
+    (subst (λ way. IsRestorable sys state kept p way f) e ((offered-same sys state lost floor entries offers a p l (At f)).0 i).1).1
 
 -- ---- the counts
 
-outside-delivered : (sys : System) (state : Machine) (lost : ℕ → Bool) (floor : List Front) (entries : List Entry) (offers : List Offer) → AreOffersKnown sys state lost floor entries offers
-    → (d : ℕ) → d < length sys.flow.edges → (way_of sys.flow (receiver sys.flow d) ≡ Checkpoints → ⊥) → (f : Frontier)
+-- what was delivered on edge d, as the machine has it
+abbrev delivered_in_all : Machine → ℕ → List Stamp
+delivered_in_all state d = map (λ (m : Message). m.at) (delivered_messages (events state.history) d)
+
+-- of what was delivered on edge d enough is known for a set f
+abbrev IsDeliveredEnough : System → Machine → List Front → ℕ → Frontier → NodeView → Type 0
+IsDeliveredEnough sys state floor d f node =
+    TellsEnough f (node_frontier sys.flow (receiver sys.flow d) (front_of floor (receiver sys.flow d))) (delivered_in_all state d) (stamps_on d node.stamps.delivered)
+
+delivered-enough : (sys : System) (state : Machine) (lost : ℕ → Bool) (floor : List Front) (entries : List Entry) (offers : List Offer) (a : AreOffersKnown sys state lost floor entries offers)
+    (d : ℕ) (l : d < length sys.flow.edges) → (way_of sys.flow (receiver sys.flow d) ≡ Checkpoints → ⊥) → (f : Frontier)
+    → AreStampsOf sys (events state.history) (receiver sys.flow d) (base_of sys floor state (receiver sys.flow d)) (a.each (receiver sys.flow d) (a.well_formed.flow.receivers_declared d l)).node.stamps
+    → IsDeliveredEnough sys state floor d f (a.each (receiver sys.flow d) (a.well_formed.flow.receivers_declared d l)).node
+delivered-enough sys state lost floor entries offers a d l n f k =
+    let p = receiver sys.flow d in
+    let there = a.well_formed.flow.receivers_declared d l in
+    enough-thinned (takes_checkpoints (policy_of sys.flow p)) f (node_frontier sys.flow p (front_of floor p)) (base_of sys floor state p) (delivered_in_all state d)
+    (stamps_on d (a.each p there).node.stamps.delivered) (k.delivered d refl) (base-floor sys floor state p a.well_formed.flow there n)
+
+outside-delivered : (sys : System) (state : Machine) (lost : ℕ → Bool) (floor : List Front) (entries : List Entry) (offers : List Offer) (a : AreOffersKnown sys state lost floor entries offers)
+    (d : ℕ) (l : d < length sys.flow.edges) (f : Frontier)
+    → IsDeliveredEnough sys state floor d f (a.each (receiver sys.flow d) (a.well_formed.flow.receivers_declared d l)).node
     → IsPoorer (cover (bounds_of sys.flow (receiver sys.flow d)) (filter f (stamps_on d (delivered_to offers (receiver sys.flow d)))))
     (cover (bounds_of sys.flow (receiver sys.flow d)) (stamps_inside f (delivered_messages (events state.history) d)))
     ((covers_in sys state).delivered d (At (front_of floor (receiver sys.flow d))))
-outside-delivered sys state lost floor entries offers a d l n f =
+outside-delivered sys state lost floor entries offers a d l f k =
     let p = receiver sys.flow d in
     let b = bounds_of sys.flow p in
-    let there = a.well_formed.flow.receivers_declared d l in
-    let o = a.each p there in
-    let base = base_of sys floor state p in
-    let all = map (λ (m : Message). m.at) (delivered_messages (events state.history) d) in
+    let o = a.each p (a.well_formed.flow.receivers_declared d l) in
+    let all = delivered_in_all state d in
     let mine = stamps_on d o.node.stamps.delivered in
-    let poorer = outside-covers b base all mine (thinned-less (takes_checkpoints (policy_of sys.flow p)) base all mine (o.known.stamps.delivered d refl)) f in
     let g = node_frontier sys.flow p (front_of floor p) in
-    subst (λ (ms : List Counted). IsPoorer (cover b (filter f (stamps_on d ms))) (cover b (filter f all)) ((covers_in sys state).delivered d (At (front_of floor p))))
-    (sym (delivered-is sys state lost floor entries offers p o))
-    (poorer-more (cover b (filter f mine)) (cover b (filter f all)) (cover b (filter (meet f base) all)) ((covers_in sys state).delivered d (At (front_of floor p)))
-    (λ t i. delivered-floor sys state d (front_of floor p) t
-    (cover-weaker b (meet f base) g all (λ s k. base-floor sys floor state p a.well_formed.flow there n s (and_parts (f s) (base s) k).1) t i))
-    poorer)
+    let below = (covers_in sys state).delivered d (At (front_of floor p)) in
+    subst (λ (ms : List Counted). IsPoorer (cover b (filter f (stamps_on d ms))) (cover b (filter f all)) below) (sym (delivered-is sys state lost floor entries offers p o))
+    (poorer-more (cover b (filter f mine)) (cover b (filter f all)) (cover b (filter (meet f k.base) all)) below
+    (λ t i. delivered-floor sys state d (front_of floor p) t (cover-weaker b (meet f k.base) g all k.within t i))
+    (outside-covers b k.base all mine k.thinned f))
 
 delivered-poorer : (sys : System) (state : Machine) (lost : ℕ → Bool) (floor : List Front) (entries : List Entry) (offers : List Offer) → AreOffersKnown sys state lost floor entries offers
     → (d : ℕ) → d < length sys.flow.edges → (cut : Cut) → IsOffered sys.flow offers (receiver sys.flow d) cut
@@ -189,14 +217,19 @@ delivered-poorer sys state lost floor entries offers a d l Present i = by (way_o
     all : Frontier
     all = everything (bounds_of sys.flow (receiver sys.flow d))
 
+    there : (way_of sys.flow (receiver sys.flow d) ≡ Checkpoints → ⊥)
+        → IsPoorer ((covers_of sys.flow offers).delivered d Present) ((covers_in sys state).delivered d Present) ((covers_in sys state).delivered d (At (front_of floor (receiver sys.flow d))))
+    there n = outside-delivered sys state lost floor entries offers a d l all
+        (delivered-enough sys state lost floor entries offers a d l n all (known-present sys state lost floor entries offers a p (a.well_formed.flow.receivers_declared d l) i))
+
     by : (way : Restoring) → way_of sys.flow (receiver sys.flow d) ≡ way
         → IsPoorer ((covers_of sys.flow offers).delivered d Present) ((covers_in sys state).delivered d Present) ((covers_in sys state).delivered d (At (front_of floor (receiver sys.flow d))))
     by Checkpoints e = poorer-equal ((covers_of sys.flow offers).delivered d Present) ((covers_in sys state).delivered d Present) ((covers_in sys state).delivered d (At (front_of floor p)))
-        (delivered-thinned sys state lost floor entries offers a d l (whole-checkpoints sys state lost floor entries offers a p (a.well_formed.flow.receivers_declared d l) e) all (λ t k. base-domain sys floor state p t k))
-    by Batches e = outside-delivered sys state lost floor entries offers a d l (λ c. let x : Batches ≡ Checkpoints = sym e ∙ c in cc) all
-    by Bound e = outside-delivered sys state lost floor entries offers a d l (λ c. let x : Bound ≡ Checkpoints = sym e ∙ c in cc) all
-    by Anything e = outside-delivered sys state lost floor entries offers a d l (λ c. let x : Anything ≡ Checkpoints = sym e ∙ c in cc) all
-    by Events e = outside-delivered sys state lost floor entries offers a d l (λ c. let x : Events ≡ Checkpoints = sym e ∙ c in cc) all
+        (delivered-thinned sys state lost floor entries offers a d l (whole-checkpoints sys state lost floor entries offers a p (a.well_formed.flow.receivers_declared d l) i e) all (λ t k. base-domain sys floor state p t k))
+    by Batches e = there (λ c. let x : Batches ≡ Checkpoints = sym e ∙ c in cc)
+    by Bound e = there (λ c. let x : Bound ≡ Checkpoints = sym e ∙ c in cc)
+    by Anything e = there (λ c. let x : Anything ≡ Checkpoints = sym e ∙ c in cc)
+    by Events e = there (λ c. let x : Events ≡ Checkpoints = sym e ∙ c in cc)
 delivered-poorer sys state lost floor entries offers a d l (At f) i = by (way_of sys.flow (receiver sys.flow d)) refl
   where
     p : ℕ
@@ -215,39 +248,77 @@ delivered-poorer sys state lost floor entries offers a d l (At f) i = by (way_of
     theirs way = cond (takes_its_cut way) (node_frontier sys.flow (receiver sys.flow d) f)
         (cover (bounds_of sys.flow (receiver sys.flow d)) (stamps_inside (node_frontier sys.flow (receiver sys.flow d) f) (delivered_messages (events state.history) d)))
 
+    ps : receiver sys.flow d < length sys.flow.nodes
+    ps = a.well_formed.flow.receivers_declared d l
+
+    o : Offers sys state lost floor entries offers (receiver sys.flow d)
+    o = a.each (receiver sys.flow d) (a.well_formed.flow.receivers_declared d l)
+
+    enough : (way_of sys.flow (receiver sys.flow d) ≡ Checkpoints → ⊥)
+        → AreStampsOf sys (events state.history) (receiver sys.flow d) (base_of sys floor state (receiver sys.flow d)) (a.each (receiver sys.flow d) (a.well_formed.flow.receivers_declared d l)).node.stamps
+        → IsPoorer (cover (bounds_of sys.flow (receiver sys.flow d)) (filter g (stamps_on d (delivered_to offers (receiver sys.flow d)))))
+        (cover (bounds_of sys.flow (receiver sys.flow d)) (stamps_inside g (delivered_messages (events state.history) d))) below
+    enough n k = outside-delivered sys state lost floor entries offers a d l g (delivered-enough sys state lost floor entries offers a d l n g k)
+
     along : (way : Restoring) → way_of sys.flow (receiver sys.flow d) ≡ way → IsPoorer (ours way) (theirs way) below
         → IsPoorer (ours (way_of sys.flow (receiver sys.flow d))) (theirs (way_of sys.flow (receiver sys.flow d))) below
     along way e k = subst (λ w. IsPoorer (ours w) (theirs w) below) (sym e) k
 
     by : (way : Restoring) → way_of sys.flow (receiver sys.flow d) ≡ way
         → IsPoorer (ours (way_of sys.flow (receiver sys.flow d))) (theirs (way_of sys.flow (receiver sys.flow d))) below
-    by Batches e = along Batches e (outside-delivered sys state lost floor entries offers a d l (λ c. let x : Batches ≡ Checkpoints = sym e ∙ c in cc) g)
+    by Batches e = along Batches e (enough (λ c. let x : Batches ≡ Checkpoints = sym e ∙ c in cc) (known-batches sys floor state p o.node.stamps (lost p) o.known.stamps e))
     by Bound e = along Bound e (poorer-equal g g below refl)
     by Anything e = along Anything e (poorer-equal g g below refl)
     by Checkpoints e =
         let k = record-offered sys state lost floor entries offers a p (a.well_formed.flow.receivers_declared d l) f i e in
         poorer-equal (ours (way_of sys.flow p)) (theirs (way_of sys.flow p)) below
         (ap ours e ∙ ap (recorded_delivered (bounds_of sys.flow p) d) k.at ∙ k.holds.delivered d l refl ∙ ap (λ (h : Front). (covers_in sys state).delivered d (At h)) k.front)
-    by Events e = along Events e (outside-delivered sys state lost floor entries offers a d l (λ c. let x : Events ≡ Checkpoints = sym e ∙ c in cc) g)
+    by Events e =
+        let n : way_of sys.flow p ≡ Checkpoints → ⊥ = λ c. let x : Events ≡ Checkpoints = sym e ∙ c in cc in
+        along Events e (elim (known-events sys floor state p o.node.stamps (lost p) o.known.stamps e) [
+          | inl k ↦ enough n k
+          | inr k ↦ outside-delivered sys state lost floor entries offers a d l g
+              (enough-logged g (node_frontier sys.flow p (front_of floor p)) (base_of sys floor state p) (delivered_in_all state d)
+              (map (λ (m : Message). m.at) (delivered_messages (logged_history sys state p) d)) (stamps_on d o.node.stamps.delivered) (k.delivered d refl)
+              (delivered-logged sys state d p refl g (offered-logged sys state lost floor entries offers a p ps f i e))
+              (base-floor sys floor state p a.well_formed.flow ps n))
+        ])
 
-outside-notified : (sys : System) (state : Machine) (lost : ℕ → Bool) (floor : List Front) (entries : List Entry) (offers : List Offer) → AreOffersKnown sys state lost floor entries offers
-    → (p : ℕ) → p < length sys.flow.nodes → (way_of sys.flow p ≡ Checkpoints → ⊥) → (f : Frontier)
+-- of what node p was notified enough is known for a set f
+abbrev IsNotifiedEnough : System → Machine → List Front → ℕ → Frontier → NodeView → Type 0
+IsNotifiedEnough sys state floor p f node =
+    TellsEnough f (node_frontier sys.flow p (front_of floor p)) (flat_map (stamp_of_notice p) (events state.history)) node.stamps.notified
+
+notified-enough : (sys : System) (state : Machine) (lost : ℕ → Bool) (floor : List Front) (entries : List Entry) (offers : List Offer) (a : AreOffersKnown sys state lost floor entries offers)
+    (p : ℕ) (l : p < length sys.flow.nodes) → (way_of sys.flow p ≡ Checkpoints → ⊥) → (f : Frontier)
+    → AreStampsOf sys (events state.history) p (base_of sys floor state p) (a.each p l).node.stamps → IsNotifiedEnough sys state floor p f (a.each p l).node
+notified-enough sys state lost floor entries offers a p l n f k =
+    enough-thinned (takes_checkpoints (policy_of sys.flow p)) f (node_frontier sys.flow p (front_of floor p)) (base_of sys floor state p) (flat_map (stamp_of_notice p) (events state.history))
+    (a.each p l).node.stamps.notified k.notified (base-floor sys floor state p a.well_formed.flow l n)
+
+-- and it is, where the node is of a kind that is not notified
+none-enough : (sys : System) (state : Machine) (lost : ℕ → Bool) (floor : List Front) (entries : List Entry) (offers : List Offer) (a : AreOffersKnown sys state lost floor entries offers)
+    (p : ℕ) (l : p < length sys.flow.nodes) → is_notified_kind (kind_of sys.flow p) ≡ false → (f : Frontier) → IsNotifiedEnough sys state floor p f (a.each p l).node
+none-enough sys state lost floor entries offers a p l n f =
+    let o = a.each p l in
+    enough-none f (node_frontier sys.flow p (front_of floor p)) (flat_map (stamp_of_notice p) (events state.history)) o.node.stamps.notified
+    (no-notices sys (events state.history) p a.legal n) (known-among sys floor state p o.node.stamps (lost p) o.known.stamps)
+
+outside-notified : (sys : System) (state : Machine) (lost : ℕ → Bool) (floor : List Front) (entries : List Entry) (offers : List Offer) (a : AreOffersKnown sys state lost floor entries offers)
+    (p : ℕ) (l : p < length sys.flow.nodes) (f : Frontier) → IsNotifiedEnough sys state floor p f (a.each p l).node
     → IsPoorer (cover (bounds_of sys.flow p) (filter f (notified_of offers p))) (cover (bounds_of sys.flow p) (notified_inside p f (events state.history)))
     ((covers_in sys state).notified p (At (front_of floor p)))
-outside-notified sys state lost floor entries offers a p l n f =
+outside-notified sys state lost floor entries offers a p l f k =
     let b = bounds_of sys.flow p in
     let o = a.each p l in
-    let base = base_of sys floor state p in
     let all = flat_map (stamp_of_notice p) (events state.history) in
     let mine = o.node.stamps.notified in
-    let poorer = outside-covers b base all mine (thinned-less (takes_checkpoints (policy_of sys.flow p)) base all mine o.known.stamps.notified) f in
     let g = node_frontier sys.flow p (front_of floor p) in
-    subst (λ (ts : List Stamp). IsPoorer (cover b (filter f ts)) (cover b (filter f all)) ((covers_in sys state).notified p (At (front_of floor p))))
-    (sym (notified-is sys state lost floor entries offers p o))
-    (poorer-more (cover b (filter f mine)) (cover b (filter f all)) (cover b (filter (meet f base) all)) ((covers_in sys state).notified p (At (front_of floor p)))
-    (λ t i. notified-floor sys state p (front_of floor p) t
-    (cover-weaker b (meet f base) g all (λ s k. base-floor sys floor state p a.well_formed.flow l n s (and_parts (f s) (base s) k).1) t i))
-    poorer)
+    let below = (covers_in sys state).notified p (At (front_of floor p)) in
+    subst (λ (ts : List Stamp). IsPoorer (cover b (filter f ts)) (cover b (filter f all)) below) (sym (notified-is sys state lost floor entries offers p o))
+    (poorer-more (cover b (filter f mine)) (cover b (filter f all)) (cover b (filter (meet f k.base) all)) below
+    (λ t i. notified-floor sys state p (front_of floor p) t (cover-weaker b (meet f k.base) g all k.within t i))
+    (outside-covers b k.base all mine k.thinned f))
 
 notified-poorer : (sys : System) (state : Machine) (lost : ℕ → Bool) (floor : List Front) (entries : List Entry) (offers : List Offer) → AreOffersKnown sys state lost floor entries offers
     → (p : ℕ) → p < length sys.flow.nodes → (cut : Cut) → IsOffered sys.flow offers p cut
@@ -257,14 +328,19 @@ notified-poorer sys state lost floor entries offers a p l Present i = by (way_of
     all : Frontier
     all = everything (bounds_of sys.flow p)
 
+    there : (way_of sys.flow p ≡ Checkpoints → ⊥)
+        → IsPoorer ((covers_of sys.flow offers).notified p Present) ((covers_in sys state).notified p Present) ((covers_in sys state).notified p (At (front_of floor p)))
+    there n = outside-notified sys state lost floor entries offers a p l all
+        (notified-enough sys state lost floor entries offers a p l n all (known-present sys state lost floor entries offers a p l i))
+
     by : (way : Restoring) → way_of sys.flow p ≡ way
         → IsPoorer ((covers_of sys.flow offers).notified p Present) ((covers_in sys state).notified p Present) ((covers_in sys state).notified p (At (front_of floor p)))
     by Checkpoints e = poorer-equal ((covers_of sys.flow offers).notified p Present) ((covers_in sys state).notified p Present) ((covers_in sys state).notified p (At (front_of floor p)))
-        (notified-thinned sys state lost floor entries offers a p l (whole-checkpoints sys state lost floor entries offers a p l e) all (λ t k. base-domain sys floor state p t k))
-    by Batches e = outside-notified sys state lost floor entries offers a p l (λ c. let x : Batches ≡ Checkpoints = sym e ∙ c in cc) all
-    by Bound e = outside-notified sys state lost floor entries offers a p l (λ c. let x : Bound ≡ Checkpoints = sym e ∙ c in cc) all
-    by Anything e = outside-notified sys state lost floor entries offers a p l (λ c. let x : Anything ≡ Checkpoints = sym e ∙ c in cc) all
-    by Events e = outside-notified sys state lost floor entries offers a p l (λ c. let x : Events ≡ Checkpoints = sym e ∙ c in cc) all
+        (notified-thinned sys state lost floor entries offers a p l (whole-checkpoints sys state lost floor entries offers a p l i e) all (λ t k. base-domain sys floor state p t k))
+    by Batches e = there (λ c. let x : Batches ≡ Checkpoints = sym e ∙ c in cc)
+    by Bound e = there (λ c. let x : Bound ≡ Checkpoints = sym e ∙ c in cc)
+    by Anything e = there (λ c. let x : Anything ≡ Checkpoints = sym e ∙ c in cc)
+    by Events e = there (λ c. let x : Events ≡ Checkpoints = sym e ∙ c in cc)
 notified-poorer sys state lost floor entries offers a p l (At f) i = elim (cases_Bool (takes_its_notices (kind_of sys.flow p) (policy_of sys.flow p))) [
   | inl e ↦ subst (λ c. IsPoorer (cond c g (ours (way_of sys.flow p))) (cond c g theirs) below) (sym e) (poorer-equal g g below refl)
   | inr e ↦ subst (λ c. IsPoorer (cond c g (ours (way_of sys.flow p))) (cond c g theirs) below) (sym e) (by (way_of sys.flow p) refl e)
@@ -282,28 +358,49 @@ notified-poorer sys state lost floor entries offers a p l (At f) i = elim (cases
     theirs : Frontier
     theirs = cover (bounds_of sys.flow p) (notified_inside p (node_frontier sys.flow p f) (events state.history))
 
+    o : Offers sys state lost floor entries offers p
+    o = a.each p l
+
+    enough : (way_of sys.flow p ≡ Checkpoints → ⊥) → AreStampsOf sys (events state.history) p (base_of sys floor state p) (a.each p l).node.stamps
+        → IsPoorer (cover (bounds_of sys.flow p) (filter g (notified_of offers p))) theirs below
+    enough n k = outside-notified sys state lost floor entries offers a p l g (notified-enough sys state lost floor entries offers a p l n g k)
+
+    none : is_notified_kind (kind_of sys.flow p) ≡ false → IsPoorer (cover (bounds_of sys.flow p) (filter g (notified_of offers p))) theirs below
+    none n = outside-notified sys state lost floor entries offers a p l g (none-enough sys state lost floor entries offers a p l n g)
+
     along : (way : Restoring) → way_of sys.flow p ≡ way → IsPoorer (ours way) theirs below → IsPoorer (ours (way_of sys.flow p)) theirs below
     along way e k = subst (λ w. IsPoorer (ours w) theirs below) (sym e) k
 
     by : (way : Restoring) → way_of sys.flow p ≡ way → takes_its_notices (kind_of sys.flow p) (policy_of sys.flow p) ≡ false → IsPoorer (ours (way_of sys.flow p)) theirs below
-    by Batches e n = along Batches e (outside-notified sys state lost floor entries offers a p l (λ c. let x : Batches ≡ Checkpoints = sym e ∙ c in cc) g)
-    by Bound e n = along Bound e (outside-notified sys state lost floor entries offers a p l (λ c. let x : Bound ≡ Checkpoints = sym e ∙ c in cc) g)
-    by Anything e n = along Anything e (outside-notified sys state lost floor entries offers a p l (λ c. let x : Anything ≡ Checkpoints = sym e ∙ c in cc) g)
+    by Batches e n = along Batches e (enough (λ c. let x : Batches ≡ Checkpoints = sym e ∙ c in cc) (known-batches sys floor state p o.node.stamps (lost p) o.known.stamps e))
+    by Bound e n = along Bound e (none (output-not_notified (kind_of sys.flow p) (bound-output (kind_of sys.flow p) (policy_of sys.flow p) e)))
+    by Anything e n = along Anything e (none (anything-not_notified (kind_of sys.flow p) (policy_of sys.flow p) e n))
     by Checkpoints e n =
         let k = record-offered sys state lost floor entries offers a p l f i e in
         poorer-equal (ours (way_of sys.flow p)) theirs below
         (ap ours e ∙ ap (recorded_notified (bounds_of sys.flow p)) k.at ∙ k.holds.notified
         ∙ ap (λ (h : Front). (covers_in sys state).notified p (At h)) k.front
         ∙ ap (λ c. cond c (node_frontier sys.flow p f) theirs) n)
-    by Events e n = along Events e (outside-notified sys state lost floor entries offers a p l (λ c. let x : Events ≡ Checkpoints = sym e ∙ c in cc) g)
+    by Events e n =
+        let apart : way_of sys.flow p ≡ Checkpoints → ⊥ = λ c. let x : Events ≡ Checkpoints = sym e ∙ c in cc in
+        along Events e (elim (known-events sys floor state p o.node.stamps (lost p) o.known.stamps e) [
+          | inl k ↦ enough apart k
+          | inr k ↦ outside-notified sys state lost floor entries offers a p l g
+              (enough-logged g (node_frontier sys.flow p (front_of floor p)) (base_of sys floor state p) (flat_map (stamp_of_notice p) (events state.history))
+              (flat_map (stamp_of_notice p) (logged_history sys state p)) o.node.stamps.notified k.notified
+              (notices-logged sys state p g (offered-logged sys state lost floor entries offers a p l f i e))
+              (base-floor sys floor state p a.well_formed.flow l apart))
+        ])
 
-outside-sent : (sys : System) (state : Machine) (lost : ℕ → Bool) (floor : List Front) (entries : List Entry) (offers : List Offer) → AreOffersKnown sys state lost floor entries offers
-    → (e : ℕ) → e < length sys.flow.edges → (way_of sys.flow (sender sys.flow e) ≡ Checkpoints → ⊥)
+outside-sent : (sys : System) (state : Machine) (lost : ℕ → Bool) (floor : List Front) (entries : List Entry) (offers : List Offer) (a : AreOffersKnown sys state lost floor entries offers)
+    (e : ℕ) (l : e < length sys.flow.edges)
+    → AreStampsOf sys (events state.history) (sender sys.flow e) (base_of sys floor state (sender sys.flow e)) (a.each (sender sys.flow e) (a.well_formed.flow.senders_declared e l)).node.stamps
+    → (way_of sys.flow (sender sys.flow e) ≡ Checkpoints → ⊥)
     → is_sequence_kind (kind_of sys.flow (sender sys.flow e)) ≡ false → can_resend (policy_of sys.flow (sender sys.flow e)) ≡ false → (f : Frontier)
     → IsPoorer (cover (bounds_of sys.flow (receiver sys.flow e)) (stamps_on_from e f (offered_sent offers (sender sys.flow e))))
     (cover (bounds_of sys.flow (receiver sys.flow e)) (stamps_from f (sent_messages sys (events state.history) e)))
     ((covers_in sys state).discarded e (At (front_of floor (sender sys.flow e))))
-outside-sent sys state lost floor entries offers a e l n s r f =
+outside-sent sys state lost floor entries offers a e l k n s r f =
     let p = sender sys.flow e in
     let b = bounds_of sys.flow (receiver sys.flow e) in
     let there = a.well_formed.flow.senders_declared e l in
@@ -313,9 +410,9 @@ outside-sent sys state lost floor entries offers a e l n s r f =
     let all = sent_messages sys (events state.history) e in
     let theirs = cover b (stamps_from f all) in
     let below = (covers_in sys state).discarded e (At (front_of floor p)) in
-    let takes = takes_checkpoints (policy_of sys.flow p) in
-    let stand = subst (λ g. StandForSent takes sys (events state.history) p g e (counted_on_edge e ms)) (told-base takes sys.flow p base r) (o.known.stamps.sent s e l refl) in
-    let poorer = sent_outside-covers takes sys (events state.history) e base (counted_on_edge e ms) s stand f b in
+    let whole = takes_checkpoints (policy_of sys.flow p) && tells_sent sys.flow p in
+    let stand = subst (λ g. StandForSent whole sys (events state.history) p g e (counted_on_edge e ms)) (told-base sys.flow p base r) (k.sent s e l refl) in
+    let poorer = sent_outside-covers whole sys (events state.history) e base (counted_on_edge e ms) s stand f b in
     subst (λ (xs : List Counted). IsPoorer (cover b (stamps_on_from e f xs)) theirs below) (sym (sent-is sys state lost floor entries offers p o))
     (subst (λ (xs : List Counted). IsPoorer (cover b (map (λ (m : Counted). m.at) xs)) theirs below) (sym (filter-split e f ms))
     (poorer-more _ theirs (cover b (stamps_from base all)) below
@@ -324,11 +421,11 @@ outside-sent sys state lost floor entries offers a e l n s r f =
     poorer))
 
 sent-poorer : (sys : System) (state : Machine) (lost : ℕ → Bool) (floor : List Front) (entries : List Entry) (offers : List Offer) → AreOffersKnown sys state lost floor entries offers
-    → (e : ℕ) → e < length sys.flow.edges → can_resend (policy_of sys.flow (sender sys.flow e)) ≡ false
+    → (e : ℕ) → e < length sys.flow.edges → IsOffered sys.flow offers (sender sys.flow e) Present → can_resend (policy_of sys.flow (sender sys.flow e)) ≡ false
     → IsPoorer (cover (bounds_of sys.flow (receiver sys.flow e)) (stamps_on_from e (everything (bounds_of sys.flow (sender sys.flow e))) (offered_sent offers (sender sys.flow e))))
     (cover (bounds_of sys.flow (receiver sys.flow e)) (stamps_from (everything (bounds_of sys.flow (sender sys.flow e))) (sent_messages sys (events state.history) e)))
     ((covers_in sys state).discarded e (At (front_of floor (sender sys.flow e))))
-sent-poorer sys state lost floor entries offers a e l r = by (way_of sys.flow (sender sys.flow e)) refl
+sent-poorer sys state lost floor entries offers a e l i r = by (way_of sys.flow (sender sys.flow e)) refl
   where
     all : Frontier
     all = everything (bounds_of sys.flow (sender sys.flow e))
@@ -342,18 +439,21 @@ sent-poorer sys state lost floor entries offers a e l r = by (way_of sys.flow (s
     below : Frontier
     below = (covers_in sys state).discarded e (At (front_of floor (sender sys.flow e)))
 
+    known : AreStampsOf sys (events state.history) (sender sys.flow e) (base_of sys floor state (sender sys.flow e)) (a.each (sender sys.flow e) (a.well_formed.flow.senders_declared e l)).node.stamps
+    known = known-present sys state lost floor entries offers a (sender sys.flow e) (a.well_formed.flow.senders_declared e l) i
+
     exact : (is_sequence_kind (kind_of sys.flow (sender sys.flow e)) ≡ false
         → IsWholeView sys state floor (sender sys.flow e) (a.each (sender sys.flow e) (a.well_formed.flow.senders_declared e l)).node) → IsPoorer ours theirs below
-    exact whole = poorer-equal ours theirs below (sent-everything sys state lost floor entries offers a e l whole)
+    exact whole = poorer-equal ours theirs below (sent-everything sys state lost floor entries offers a e l r (λ s. known.numbered s (ap not r) e l refl) whole)
 
     outside : (way_of sys.flow (sender sys.flow e) ≡ Checkpoints → ⊥) → IsPoorer ours theirs below
     outside n = elim (cases_Bool (is_sequence_kind (kind_of sys.flow (sender sys.flow e)))) [
       | inl s ↦ exact (λ n. absurd (two_ways (is_sequence_kind (kind_of sys.flow (sender sys.flow e))) s n))
-      | inr s ↦ outside-sent sys state lost floor entries offers a e l n s r all
+      | inr s ↦ outside-sent sys state lost floor entries offers a e l known n s r all
     ]
 
     by : (way : Restoring) → way_of sys.flow (sender sys.flow e) ≡ way → IsPoorer ours theirs below
-    by Checkpoints k = exact (λ s. whole-checkpoints sys state lost floor entries offers a (sender sys.flow e) (a.well_formed.flow.senders_declared e l) k)
+    by Checkpoints k = exact (λ s. whole-checkpoints sys state lost floor entries offers a (sender sys.flow e) (a.well_formed.flow.senders_declared e l) i k)
     by Batches k = outside (λ c. let x : Batches ≡ Checkpoints = sym k ∙ c in cc)
     by Bound k = outside (λ c. let x : Bound ≡ Checkpoints = sym k ∙ c in cc)
     by Anything k = outside (λ c. let x : Anything ≡ Checkpoints = sym k ∙ c in cc)
@@ -364,7 +464,7 @@ discarded-poorer : (sys : System) (state : Machine) (lost : ℕ → Bool) (floor
     → IsPoorer ((covers_of sys.flow offers).discarded e cut) ((covers_in sys state).discarded e cut) ((covers_in sys state).discarded e (At (front_of floor (sender sys.flow e))))
 discarded-poorer sys state lost floor entries offers a e l Present i = elim (cases_Bool (can_resend (policy_of sys.flow (sender sys.flow e)))) [
   | inl r ↦ subst (λ c. IsPoorer (cond c nothing ours) (cond c nothing theirs) below) (sym r) (poorer-equal nothing nothing below refl)
-  | inr r ↦ subst (λ c. IsPoorer (cond c nothing ours) (cond c nothing theirs) below) (sym r) (sent-poorer sys state lost floor entries offers a e l r)
+  | inr r ↦ subst (λ c. IsPoorer (cond c nothing ours) (cond c nothing theirs) below) (sym r) (sent-poorer sys state lost floor entries offers a e l i r)
 ]
   where
     ours : Frontier
@@ -404,10 +504,11 @@ discarded-poorer sys state lost floor entries offers a e l (At f) i = elim (case
 
     by : (way : Restoring) → way_of sys.flow (sender sys.flow e) ≡ way → can_resend (policy_of sys.flow (sender sys.flow e)) ≡ false
         → IsPoorer (ours (way_of sys.flow (sender sys.flow e))) (theirs (way_of sys.flow (sender sys.flow e))) below
-    by Batches k r = along Batches k (outside-sent sys state lost floor entries offers a e l (λ c. let x : Batches ≡ Checkpoints = sym k ∙ c in cc)
-        (ap is_sequence_kind (by_batches-input (kind_of sys.flow p) (policy_of sys.flow p) k)) r g)
-    by Bound k r = along Bound k (outside-sent sys state lost floor entries offers a e l (λ c. let x : Bound ≡ Checkpoints = sym k ∙ c in cc)
-        (output-no_sequence (kind_of sys.flow p) (bound-output (kind_of sys.flow p) (policy_of sys.flow p) k)) r g)
+    by Batches k r =
+        let o = a.each p (a.well_formed.flow.senders_declared e l) in
+        along Batches k (outside-sent sys state lost floor entries offers a e l (known-batches sys floor state p o.node.stamps (lost p) o.known.stamps k)
+        (λ c. let x : Batches ≡ Checkpoints = sym k ∙ c in cc) (ap is_sequence_kind (by_batches-input (kind_of sys.flow p) (policy_of sys.flow p) k)) r g)
+    by Bound k r = absurd (no-output sys.flow (kind_of sys.flow p) (bound-output (kind_of sys.flow p) (policy_of sys.flow p) k) (senders_well_formed sys.flow a.well_formed.flow e l))
     by Anything k r = along Anything k (poorer-equal (psi sys.flow e g) (psi sys.flow e g) below refl)
     by Checkpoints k r =
         let c = record-offered sys state lost floor entries offers a p (a.well_formed.flow.senders_declared e l) f i k in

@@ -2,8 +2,9 @@
 use Rattle.std.proofs.Common.{◌≡◌, inl, inr, ℕ, zero, suc, ◌+◌, ◌<◌, ◌≤◌, Bool, true, List, [], ◌∷◌, ◌++◌, length, get_or, take, refl, sym, ◌∙◌, ap, subst, arith}
 use Rattle.std.specs.List.{AllByRecursion}
 use Rattle.std.proofs.lemmas.List.{take_more}
+use Rattle.fw_lemmas.proofs.Each.{each-append}
 use Rattle.fw_time.specs.Stamp.{Stamp, in_domain}
-use Rattle.fw_frontier.specs.Front.{Front, IsCanonical}
+use Rattle.fw_frontier.specs.Front.{Front}
 use Rattle.fw_flow.specs.declared.event.Event.{Event}
 use Rattle.fw_flow.specs.declared.choice.Offer.{Offer}
 use Rattle.fw_flow.specs.declared.choice.Offered.{Offered}
@@ -27,10 +28,10 @@ use Rattle.fw_policy.specs.declared.view.Border.TheVariants.{Inner, Source, Outp
 use Rattle.fw_keep.specs.declared.entry.Entry.{Entry}
 use Rattle.fw_policy.specs.declared.view.NodeView.{NodeView}
 use Rattle.fw_policy.specs.View.{IsBorderOf, IsNodeViewOf, AreNodeViewsFrom, IsViewOf}
-use Rattle.fw_policy.specs.Offering.{unlogged_stamps, OffersBy, IsOfferBy, AreOffersBy}
+use Rattle.fw_policy.specs.Offering.{stamps_in_flight, OffersBy, IsOfferBy, AreOffersBy}
 use Rattle.fw_policy.specs.Known.{FitsWay, IsKnown, AreNodesKnown}
 use Rattle.fw_model.proofs.SentStandLaws.{IsOne}
-use Rattle.fw_policy.proofs.UnloggedLaws.{IsOfEntries, unlogged-is}
+use Rattle.fw_policy.proofs.UnloggedLaws.{IsOfEntries, flying-unlogged}
 use Rattle.fw_model.proofs.ThinnedLaws.{each-contained}
 use Rattle.fw_policy.proofs.WayLaws.{events-full}
 
@@ -77,21 +78,22 @@ are-known sys state lost floor view entries v =
     let inside = each-numbered (λ u. in_domain (bounds_of sys.flow (event_node sys.flow u)) (event_stamp u) ≡ true) state.history
     (legal-in_domain sys (events state.history) w.flow (has_epochs sys w) legal) in
     known-from sys state lost floor entries 0 view v.nodes (λ p node l i. record {
-      settled = subst (λ (f : Front). IsCanonical (bounds_of sys.flow p) f) (sym i.settled) (all.restore.settled p (omega (arith, l, v.one_each)));
+      settled = i.fits.settled;
       border = border-fits sys state p (kind_of sys.flow p) (policy_of sys.flow p) node.border (omega (arith, injected-few sys (events state.history) legal p, w.few p)) i.border;
       unlogged = λ way.
           let full = events-full (kind_of sys.flow p) (policy_of sys.flow p) way in
-          let o : IsOfEntries sys state p entries node.lost = record {
+          let o : IsOfEntries sys state p entries = record {
             written = v.written;
             apart = all.restore.apart;
             serials = all.restore.serials;
             live = live-logged sys w r.0 r.1 state r.2 p full;
-            lost = i.losses full;
           } in
-          each-of (λ t. in_domain (bounds_of sys.flow p) t ≡ true) (unlogged_stamps p entries node.lost) (λ t j.
-          let u = unlogged-is sys state p entries node.lost o t j in
+          each-append (λ t. in_domain (bounds_of sys.flow p) t ≡ true) (stamps_in_flight p entries) node.lost
+          (each-of (λ t. in_domain (bounds_of sys.flow p) t ≡ true) (stamps_in_flight p entries) (λ t j.
+          let u = flying-unlogged sys state p entries o t j in
           subst (λ s. in_domain (bounds_of sys.flow p) s ≡ true) u.is.stamp (subst (λ q. in_domain (bounds_of sys.flow q) (event_stamp u.event.event) ≡ true) u.is.node
-          (each-contained (λ (x : SerialEvent). in_domain (bounds_of sys.flow (event_node sys.flow x.event)) (event_stamp x.event) ≡ true) u.event state.history u.there inside)));
+          (each-contained (λ (x : SerialEvent). in_domain (bounds_of sys.flow (event_node sys.flow x.event)) (event_stamp x.event) ≡ true) u.event state.history u.there inside))))
+          i.fits.lost;
     })
 
 -- ---- one more offer

@@ -1,6 +1,7 @@
 pub mod AboveLaws
 pub mod BatchLaws
 pub mod CodeLaws
+pub mod FailedLaws
 pub mod KnownLaws
 pub mod NumberLaws
 pub mod OfferLaws
@@ -8,6 +9,7 @@ pub mod RangeLaws
 pub mod ReadLaws
 pub mod RecordLaws
 pub mod RecordedLaws
+pub mod SerialLaws
 pub mod ShapedLaws
 pub mod UnloggedLaws
 pub mod WayLaws

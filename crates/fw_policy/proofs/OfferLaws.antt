@@ -1,15 +1,16 @@
 -- What is offered by what is known of a state is what the machine offers there.
 use Rattle.std.proofs.Common.{◌≡◌, ◌≢◌, ◌⊎◌, ◌↔◌, inl, inr, ℕ, zero, suc, ◌+◌, ◌<◌, ◌≤◌, Bool, true, false, not, cond, ◌&&◌, ◌==◌, List, [], ◌∷◌, length, map, slice_index_or, refl, sym, ◌∙◌, ap, subst, arith}
 use Rattle.std.specs.Prelude.{filter}
-use Rattle.std.specs.List.{AllByRecursion, Contains, flat_map}
+use Rattle.std.specs.List.{AllByRecursion, flat_map}
 use Rattle.std.proofs.lemmas.Bool.{cond_both, cases_Bool, and_parts}
 use Rattle.fw_lemmas.proofs.Bools.{two_ways}
 use Rattle.fw_lemmas.proofs.Each.{each-weaker, each-kept}
-use Rattle.fw_time.specs.Stamp.{Stamp, in_domain}
+use Rattle.fw_time.specs.Stamp.{Stamp, leq, in_domain}
+use Rattle.fw_time.proofs.StampLaws.{leq-trans}
 use Rattle.fw_time.specs.declared.stamp.Bounds.{Bounds}
 use Rattle.fw_frontier.specs.Frontier.{Frontier, Within, nothing, everything, cover, meet}
 use Rattle.fw_frontier.specs.Front.{Front, inside, frontier_of, IsCanonical, IsFrontOf, is_within}
-use Rattle.fw_frontier.proofs.NamesLaws.{is_within-holds, within-is}
+use Rattle.fw_frontier.proofs.NamesLaws.{frontier-closed, is_within-holds, within-is}
 use Rattle.fw_model.proofs.ThinnedLaws.{thinned-covers, thinned-whole}
 use Rattle.fw_flow.specs.declared.choice.Counted.{Counted}
 use Rattle.fw_flow.specs.declared.choice.Cut.{Cut}
@@ -32,7 +33,7 @@ use Rattle.fw_flow.specs.Restoring.{can_resend, way_of}
 use Rattle.fw_flow.specs.WellFormed.{IsWellFormed, IsWellFormedSystem}
 use Rattle.fw_model.specs.Choice.{kept, IsCandidate, IsRestorable, until}
 use Rattle.fw_model.specs.Covers.{takes_its_cut, takes_its_notices, covers_in, stamp_of_notice, stamps_from, stamps_inside, notified_inside, discarded_at}
-use Rattle.fw_model.specs.History.{delivered_messages, sent_messages, injected_count}
+use Rattle.fw_model.specs.History.{delivered_messages, sent_messages, injected_count, IsLegal}
 use Rattle.fw_model.specs.Machine.{Machine, events, no_stamps, front_of, ack_count_of}
 use Rattle.fw_model.specs.Offers.{can_stay, offered_by, listed_records, records_of, offered_range, delivered_to, notified_of, offered_sent, counts_offered, IsOfferedFront, IsOffered, IsListed, counted_on_edge, stamps_on, stamps_on_from, delivered_in, sent_in, notified_in, recorded_delivered, recorded_discarded, recorded_notified, covers_of, Ascend, RecordsAscend, IsRecordOf, IsRangeOf, is_by_range, IsFormOf, HasOneCause, AreOfBatches, AreAtEdgeStamps, AreOffersOf, AreOffersIn}
 use Rattle.fw_model.specs.Writes.{takes_checkpoints, is_collected, not_collected}
@@ -52,9 +53,9 @@ use Rattle.fw_policy.specs.declared.view.Border.{Border}
 use Rattle.fw_policy.specs.declared.view.Border.TheVariants.{Inner, Source, Output}
 use Rattle.fw_keep.specs.declared.entry.Entry.{Entry}
 use Rattle.fw_policy.specs.declared.view.NodeView.{NodeView}
-use Rattle.fw_model.specs.EventStamps.{IsOfCause, AreStampsIf}
+use Rattle.fw_model.specs.EventStamps.{base_of_sent, StandForSent, StandForNumbered, AreStampsIf}
 use Rattle.fw_policy.specs.Entries.{IsRecorded}
-use Rattle.fw_policy.specs.View.{base_of, AreWholeFrom, IsLostAt, IsBorderOf, IsNodeViewOf, AreNodeViewsFrom, IsViewOf, AreReadAs}
+use Rattle.fw_policy.specs.View.{base_of, AreWholeFrom, KnowsLosses, IsBorderOf, IsNodeViewOf, AreNodeViewsFrom, IsViewOf, AreReadAs}
 use Rattle.fw_policy.specs.Offering.{records_by, empty_record, holding, unlogged_stamps, below_all, IsRange, IsOfBatches, IsOfBound, OffersBy, IsOfferBy, AreOffersBy}
 use Rattle.fw_policy.proofs.BatchLaws.{batches-offered}
 use Rattle.fw_policy.proofs.NumberLaws.{numbered-covers, counted-arrive}
@@ -120,8 +121,9 @@ pub record AreOffersKnown (sys : System) (state : Machine) (lost : ℕ → Bool)
   pub under : ArePairs (IsUnder sys) (filter not_collected state.writes)
   pub low : (p : ℕ) → p < length sys.flow.nodes → IsCandidate sys state (λ q. true) kept p (At (front_of state.low p))
   pub settled : (p : ℕ) → p < length sys.flow.nodes → IsCanonical (bounds_of sys.flow p) (front_of state.settled p)
-  pub unlogged : (p : ℕ) → policy_of sys.flow p ≡ policy.Full → (gone : List Stamp) → ((t : Stamp) → Contains gone t ↔ IsLostAt sys state p t) → IsOfEntries sys state p entries gone
+  pub unlogged : (p : ℕ) → policy_of sys.flow p ≡ policy.Full → IsOfEntries sys state p entries
   pub few : (p : ℕ) → injected_count p (events state.history) ≤ greatest_number
+  pub legal : IsLegal sys (events state.history)
   pub in_domain : (p : ℕ) → AllByRecursion (λ v. in_domain (bounds_of sys.flow p) (event_stamp v) ≡ true) (events_at sys.flow p (events state.history))
   pub apart : (p : ℕ) → p < length sys.flow.nodes → AllByRecursion (λ (r : Recorded). r.front ≢ no_stamps (bounds_of sys.flow p)) (records_by p entries)
 
@@ -154,14 +156,14 @@ are-there sys state lost floor view entries offers v o =
       under = pairs-passed (IsUnder sys) not_collected state.writes (pairs-both (LiesBelow sys) IsApart state.writes all.recover.ascend all.restore.apart);
       low = λ p l. low-offered sys state all.recover.notices all.recover.watermark p l;
       settled = all.restore.settled;
-      unlogged = λ p full lost h. record {
+      unlogged = λ p full. record {
         written = v.written;
         apart = all.restore.apart;
         serials = all.restore.serials;
         live = live-logged sys w r.0 r.1 state r.2 p full;
-        lost = h;
       };
       few = λ p. omega (arith, injected-few sys (events state.history) legal p, w.few p);
+      legal = legal;
       in_domain = legal_events-in_domain sys (events state.history) w.flow (has_epochs sys w) legal;
       apart = λ p l. entries-stamps sys state p entries (filter not_collected state.writes) v.written
           (each-kept _ not_collected state.writes (checkpoints-have_stamps sys w r.0 r.1 state r.2));
@@ -306,22 +308,28 @@ anything-right sys state p low settled (form.Between least greatest) e d a = λ 
     range-between b (frontier_of b (front_of state.settled p)) (front_of state.low p) least greatest f (a.0 ∙ e)
     (subst (λ (s : Front). IsFrontOf b greatest (frontier_of b s)) d a.1)
 
+lesser-inside : (flow : Dataflow) (p : ℕ) (f : Front) (s t : Stamp) → leq s t ≡ true → frontier_of (bounds_of flow p) f t ≡ true → frontier_of (bounds_of flow p) f s ≡ true
+unfolding bounds_of
+lesser-inside flow p f s t l i =
+    let closed = frontier-closed (bounds_of flow p) f in
+    closed.closed s t (leq-trans s t (bounds_of flow p).greatest l (closed.inside_domain t i)) l i
+
 events-right : (sys : System) (state : Machine) (p : ℕ) (entries : List Entry) (lost : List Stamp) (low settled : Front) (o : Offered) → low ≡ front_of state.low p → settled ≡ front_of state.settled p
-    → IsOfEntries sys state p entries lost
+    → IsOfEntries sys state p entries → KnowsLosses sys state p lost
     → IsRange (bounds_of sys.flow p) low (below_all (unlogged_stamps p entries lost) (frontier_of (bounds_of sys.flow p) settled)) o
     → IsOfferedRight sys state p Events o
 unfolding IsOfferedRight
-events-right sys state p entries lost low settled (form.Listed records) e d u a = absurd a
-events-right sys state p entries lost low settled (form.Batches least greatest exhausted) e d u a = absurd a
-events-right sys state p entries lost low settled (form.Between least greatest) e d u a = λ f c.
+events-right sys state p entries lost low settled (form.Listed records) e d u known a = absurd a
+events-right sys state p entries lost low settled (form.Batches least greatest exhausted) e d u known a = absurd a
+events-right sys state p entries lost low settled (form.Between least greatest) e d u known a = λ f c.
     let b = bounds_of sys.flow p in
     let g = frontier_of b (front_of state.settled p) in
     let ss = unlogged_stamps p entries lost in
     let r = range-between b (below_all ss g) (front_of state.low p) least greatest f (a.0 ∙ e)
     (subst (λ (s : Front). IsFrontOf b greatest (below_all ss (frontier_of b s))) d a.1) in
     let w = within-below b f g ss (bounds-plain sys.flow p) in
-    let m = logged-outside sys state p entries lost u (frontier_of b f) in
-    ((λ i. let j = r.0 i in let v = w.0 j.0 in ((v.0, m.1 v.1), j.1)), (λ i. r.1 (w.1 ((i.0).0, m.0 (i.0).1), i.1)))
+    let m = logged-outside sys state p entries lost u known (frontier_of b f) (lesser-inside sys.flow p f) in
+    ((λ i. let j = r.0 i in let v = w.0 j.0 in ((v.0, (m v.0).1 v.1), j.1)), (λ i. r.1 (w.1 ((i.0).0, (m (i.0).0).0 (i.0).1), i.1)))
 
 -- a node with checkpoints lists those that hold the machine's low watermark
 listed-low : (sys : System) (state : Machine) (lost : ℕ → Bool) (floor : List Front) (entries : List Entry) (offers : List Offer) (p : ℕ) (o : Offers sys state lost floor entries offers p) (offered : Offered)
@@ -351,7 +359,7 @@ offered-right sys state lost floor entries offers a p l o Checkpoints e offered 
 offered-right sys state lost floor entries offers a p l o Events e offered k =
     let full = events-full (kind_of sys.flow p) (policy_of sys.flow p) e in
     events-right sys state p entries o.node.lost o.node.low o.node.settled offered o.known.low o.known.settled
-    (a.unlogged p full o.node.lost (o.known.losses full)) k
+    (a.unlogged p full) (o.known.losses full) k
 
 flips : (c d : Bool) → c ≡ not d → (c ≡ true) ↔ (d ≡ false)
 flips c true e = ((λ i. let x : false ≡ true = sym e ∙ i in cc), (λ i. cc))
@@ -466,7 +474,7 @@ sent-of_batches sys state lost floor entries offers a e l =
         let p = sender sys.flow e in
         let is = by_batches-input (kind_of sys.flow p) (policy_of sys.flow p) fits in
         subst (λ ms. AllByRecursion HasOneCause (counted_on_edge e ms)) (sym (sent-is sys state lost floor entries offers p o))
-        (each-weaker (IsOfCause sys.flow p) HasOneCause (counted_on_edge e o.node.stamps.sent) (λ m c. (c.0, c.2)) (o.known.stamps.sent (ap is_sequence_kind is) e l refl).of_cause)
+        (each-kept HasOneCause (λ (m : Counted). m.edge == e) o.node.stamps.sent (o.known.fits.of_batches is))
 
 -- ---- the base of a node
 
@@ -616,31 +624,44 @@ filter-split e f (m ∷ ms) = by (m.edge == e) (filter-split e f ms)
     by true r = ap (λ xs. cond (all_inside f m.causes) (m ∷ xs) xs) r
     by false r = r
 
+-- where a node cannot send again, it is told where it sent
+pub told-base : (flow : Dataflow) (p : ℕ) (base : Frontier) → can_resend (policy_of flow p) ≡ false → base_of_sent flow p base ≡ base
+told-base flow p base r = ap (λ c. cond (not c) base (λ t. true)) r
+
 pub sent-thinned : (sys : System) (state : Machine) (lost : ℕ → Bool) (floor : List Front) (entries : List Entry) (offers : List Offer) (a : AreOffersKnown sys state lost floor entries offers) (e : ℕ) (l : e < length sys.flow.edges)
-    → IsWholeView sys state floor (sender sys.flow e) (a.each (sender sys.flow e) (a.well_formed.flow.senders_declared e l)).node → is_sequence_kind (kind_of sys.flow (sender sys.flow e)) ≡ false → (f : Frontier) → Within (base_of sys floor state (sender sys.flow e)) f
+    → IsWholeView sys state floor (sender sys.flow e) (a.each (sender sys.flow e) (a.well_formed.flow.senders_declared e l)).node → is_sequence_kind (kind_of sys.flow (sender sys.flow e)) ≡ false
+    → can_resend (policy_of sys.flow (sender sys.flow e)) ≡ false → (f : Frontier) → Within (base_of sys floor state (sender sys.flow e)) f
     → cover (bounds_of sys.flow (receiver sys.flow e)) (stamps_on_from e f (offered_sent offers (sender sys.flow e)))
     ≡ cover (bounds_of sys.flow (receiver sys.flow e)) (stamps_from f (sent_messages sys (events state.history) e))
-sent-thinned sys state lost floor entries offers a e l k n f w =
+sent-thinned sys state lost floor entries offers a e l k n r f w =
     let p = sender sys.flow e in
     let b = bounds_of sys.flow (receiver sys.flow e) in
     let o = a.each p (a.well_formed.flow.senders_declared e l) in
+    let base = base_of sys floor state p in
     let ms = o.node.stamps.sent in
+    let stand : StandForSent true sys (events state.history) p base e (counted_on_edge e ms) =
+    subst (λ g. StandForSent true sys (events state.history) p g e (counted_on_edge e ms)) (told-base sys.flow p base r)
+    (subst (λ c. StandForSent (true && not c) sys (events state.history) p (base_of_sent sys.flow p base) e (counted_on_edge e ms)) r (k.sent n e l refl)) in
     ap (λ (xs : List Counted). cover b (stamps_on_from e f xs)) (sent-is sys state lost floor entries offers p o)
     ∙ ap (λ (xs : List Counted). cover b (map (λ (m : Counted). m.at) xs)) (filter-split e f ms)
-    ∙ sent-covers sys (events state.history) e (base_of sys floor state p) (counted_on_edge e ms) n (k.sent n e l refl) (λ t i. base-domain sys floor state p t i) f w b
+    ∙ sent-covers sys (events state.history) e base (counted_on_edge e ms) n stand (λ t i. base-domain sys floor state p t i) f w b
 
+-- all that a node sent that cannot send it again: of a sequence by its numbers, and else by the whole of where it sent
 pub sent-everything : (sys : System) (state : Machine) (lost : ℕ → Bool) (floor : List Front) (entries : List Entry) (offers : List Offer) (a : AreOffersKnown sys state lost floor entries offers) (e : ℕ) (l : e < length sys.flow.edges)
+    → can_resend (policy_of sys.flow (sender sys.flow e)) ≡ false
+    → (is_sequence_kind (kind_of sys.flow (sender sys.flow e)) ≡ true
+    → StandForNumbered sys (events state.history) e (a.each (sender sys.flow e) (a.well_formed.flow.senders_declared e l)).node.stamps.sent)
     → (is_sequence_kind (kind_of sys.flow (sender sys.flow e)) ≡ false → IsWholeView sys state floor (sender sys.flow e) (a.each (sender sys.flow e) (a.well_formed.flow.senders_declared e l)).node)
     → cover (bounds_of sys.flow (receiver sys.flow e)) (stamps_on_from e (everything (bounds_of sys.flow (sender sys.flow e))) (offered_sent offers (sender sys.flow e)))
     ≡ cover (bounds_of sys.flow (receiver sys.flow e)) (stamps_from (everything (bounds_of sys.flow (sender sys.flow e))) (sent_messages sys (events state.history) e))
-sent-everything sys state lost floor entries offers a e l k = elim (cases_Bool (is_sequence_kind (kind_of sys.flow (sender sys.flow e)))) [
+sent-everything sys state lost floor entries offers a e l r numbered whole = elim (cases_Bool (is_sequence_kind (kind_of sys.flow (sender sys.flow e)))) [
   | inl s ↦
       let p = sender sys.flow e in
       let o = a.each p (a.well_formed.flow.senders_declared e l) in
       let b = bounds_of sys.flow (receiver sys.flow e) in
       ap (λ (xs : List Counted). cover b (stamps_on_from e (everything (bounds_of sys.flow p)) xs)) (sent-is sys state lost floor entries offers p o)
-      ∙ numbered-covers sys (events state.history) e o.node.stamps.sent (o.known.stamps.numbered s e l refl) (a.in_domain p)
-  | inr n ↦ sent-thinned sys state lost floor entries offers a e l (k n) n (everything (bounds_of sys.flow (sender sys.flow e))) (λ t i. base-domain sys floor state (sender sys.flow e) t i)
+      ∙ numbered-covers sys (events state.history) e o.node.stamps.sent (numbered s) (a.in_domain p)
+  | inr n ↦ sent-thinned sys state lost floor entries offers a e l (whole n) n r (everything (bounds_of sys.flow (sender sys.flow e))) (λ t i. base-domain sys floor state (sender sys.flow e) t i)
 ]
 
 pub output-no_sequence : (kind : Kind) → (kind ≡ OutputEpoch) ⊎ (kind ≡ OutputNumber) → is_sequence_kind kind ≡ false
@@ -650,9 +671,17 @@ output-no_sequence kind (inr e) = ap is_sequence_kind e
 discarded-same : (sys : System) (state : Machine) (lost : ℕ → Bool) (entries : List Entry) (offers : List Offer) (a : AreOffersKnown sys state lost state.low entries offers)
     → AreWholeFrom sys state state.low 0 a.view → (e : ℕ) → e < length sys.flow.edges → (cut : Cut)
     → IsOffered sys.flow offers (sender sys.flow e) cut → (covers_of sys.flow offers).discarded e cut ≡ (covers_in sys state).discarded e cut
-discarded-same sys state lost entries offers a whole e l Present i =
-    ap (λ (g : Frontier). cond (can_resend (policy_of sys.flow (sender sys.flow e))) nothing g) (sent-everything sys state lost state.low entries offers a e l
-    (λ s. a.each_whole (sender sys.flow e) (a.well_formed.flow.senders_declared e l) whole))
+discarded-same sys state lost entries offers a whole e l Present i = elim (cases_Bool (can_resend (policy_of sys.flow (sender sys.flow e)))) [
+  | inl r ↦
+      let b = bounds_of sys.flow (receiver sys.flow e) in
+      let every = everything (bounds_of sys.flow (sender sys.flow e)) in
+      ap (λ c. cond c nothing (cover b (stamps_on_from e every (offered_sent offers (sender sys.flow e))))) r
+      ∙ sym (ap (λ c. cond c nothing (cover b (stamps_from every (sent_messages sys (events state.history) e)))) r)
+  | inr r ↦
+      let known = a.each_whole (sender sys.flow e) (a.well_formed.flow.senders_declared e l) whole in
+      ap (λ (g : Frontier). cond (can_resend (policy_of sys.flow (sender sys.flow e))) nothing g)
+      (sent-everything sys state lost state.low entries offers a e l r (λ s. known.numbered s (ap not r) e l refl) (λ s. known))
+]
 discarded-same sys state lost entries offers a whole e l (At f) i = elim (cases_Bool (can_resend (policy_of sys.flow (sender sys.flow e)))) [
   | inl r ↦
       ap (λ c. cond c nothing (ours (way_of sys.flow (sender sys.flow e)))) r
@@ -677,19 +706,20 @@ discarded-same sys state lost entries offers a whole e l (At f) i = elim (cases_
         (cover (bounds_of sys.flow (receiver sys.flow e)) (stamps_from (node_frontier sys.flow (sender sys.flow e) f) (sent_messages sys (events state.history) e))) f
 
     thin : (way_of sys.flow (sender sys.flow e) ≡ Checkpoints → ⊥) → is_sequence_kind (kind_of sys.flow (sender sys.flow e)) ≡ false
+        → can_resend (policy_of sys.flow (sender sys.flow e)) ≡ false
         → cover (bounds_of sys.flow (receiver sys.flow e)) (stamps_on_from e (node_frontier sys.flow (sender sys.flow e) f) (offered_sent offers (sender sys.flow e)))
         ≡ cover (bounds_of sys.flow (receiver sys.flow e)) (stamps_from (node_frontier sys.flow (sender sys.flow e) f) (sent_messages sys (events state.history) e))
-    thin n s = sent-thinned sys state lost state.low entries offers a e l (a.each_whole (sender sys.flow e) ps whole) s (node_frontier sys.flow (sender sys.flow e) f) (base-offered sys state lost entries offers a (sender sys.flow e) ps f i n)
+    thin n s r = sent-thinned sys state lost state.low entries offers a e l (a.each_whole (sender sys.flow e) ps whole) s r (node_frontier sys.flow (sender sys.flow e) f) (base-offered sys state lost entries offers a (sender sys.flow e) ps f i n)
 
     by : (way : Restoring) → way_of sys.flow (sender sys.flow e) ≡ way → can_resend (policy_of sys.flow (sender sys.flow e)) ≡ false
         → ours (way_of sys.flow (sender sys.flow e)) ≡ theirs (way_of sys.flow (sender sys.flow e))
     by Batches k r =
         ap ours k
-        ∙ thin (λ c. let x : Batches ≡ Checkpoints = sym k ∙ c in cc) (ap is_sequence_kind (by_batches-input (kind_of sys.flow p) (policy_of sys.flow p) k))
+        ∙ thin (λ c. let x : Batches ≡ Checkpoints = sym k ∙ c in cc) (ap is_sequence_kind (by_batches-input (kind_of sys.flow p) (policy_of sys.flow p) k)) r
         ∙ sym (ap theirs k)
     by Bound k r =
         ap ours k
-        ∙ thin (λ c. let x : Bound ≡ Checkpoints = sym k ∙ c in cc) (output-no_sequence (kind_of sys.flow p) (bound-output (kind_of sys.flow p) (policy_of sys.flow p) k))
+        ∙ thin (λ c. let x : Bound ≡ Checkpoints = sym k ∙ c in cc) (output-no_sequence (kind_of sys.flow p) (bound-output (kind_of sys.flow p) (policy_of sys.flow p) k)) r
         ∙ sym (ap theirs k)
     by Anything k r = ap ours k ∙ sym (ap theirs k)
     by Checkpoints k r =
@@ -728,13 +758,13 @@ of_flow sys state lost floor entries offers a = record {
       (records-right sys state lost floor entries offers a p l o (way_of sys.flow p) refl o.offer.offered o.is.offered).2;
   delivered = λ p l.
       let o = a.each p l in
-      subst (λ (ms : List Counted). AreAtEdgeStamps sys.flow ms) (sym (delivered-is sys state lost floor entries offers p o)) o.known.stamps.on_edges.0;
+      subst (λ (ms : List Counted). AreAtEdgeStamps sys.flow ms) (sym (delivered-is sys state lost floor entries offers p o)) o.known.fits.delivered;
   notified = λ p l.
       let o = a.each p l in
-      subst (λ (ts : List Stamp). AllByRecursion (λ t. in_domain (bounds_of sys.flow p) t ≡ true) ts) (sym (notified-is sys state lost floor entries offers p o)) o.known.stamps.in_domain;
+      subst (λ (ts : List Stamp). AllByRecursion (λ t. in_domain (bounds_of sys.flow p) t ≡ true) ts) (sym (notified-is sys state lost floor entries offers p o)) o.known.fits.notified;
   sent = λ p l.
       let o = a.each p l in
-      subst (λ (ms : List Counted). AreAtEdgeStamps sys.flow ms) (sym (sent-is sys state lost floor entries offers p o)) o.known.stamps.on_edges.1;
+      subst (λ (ms : List Counted). AreAtEdgeStamps sys.flow ms) (sym (sent-is sys state lost floor entries offers p o)) o.known.fits.sent;
   batches = sent-of_batches sys state lost floor entries offers a;
 }
 

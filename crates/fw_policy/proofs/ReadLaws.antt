@@ -1,5 +1,5 @@
 -- Entries that stand for writes are read as these.
-use Rattle.std.proofs.Common.{◌≡◌, ◌⊎◌, inl, inr, Some, ℕ, List, [], ◌∷◌, sym, ap}
+use Rattle.std.proofs.Common.{◌≡◌, inl, inr, Some, ℕ, List, [], ◌∷◌, sym, ap}
 use Rattle.fw_flow.specs.declared.event.Event.{Event as Happened}
 use Rattle.fw_flow.specs.declared.event.Event.TheVariants as happened
 use Rattle.fw_flow.specs.Dataflow.{System, Dataflow}
@@ -11,8 +11,8 @@ use Rattle.fw_record.specs.Event.{stamp_of_event}
 use Rattle.fw_keep.specs.declared.entry.Entry.{Entry}
 use Rattle.fw_keep.specs.declared.entry.Written.{Written}
 use Rattle.fw_keep.specs.declared.entry.Written.TheVariants as written
-use Rattle.fw_policy.specs.Entries.{HasEventTold, HoldsWhatIsWritten, IsEntryOf, AreEntriesOf, told_of}
-use Rattle.fw_policy.specs.View.{HasEventAt, ReadsAsWrite, IsReadAs, AreReadAs}
+use Rattle.fw_policy.specs.Entries.{HasEventTold, HoldsWhatIsWritten, AreEntriesOf, told_of}
+use Rattle.fw_policy.specs.View.{HasEventAt, ReadsAsWrite, AreReadAs}
 
 -- an event is told with its stamp
 pub told-stamp : (v : Happened) (event : Event) → told_of v ≡ Some event → stamp_of_event event ≡ event_stamp v

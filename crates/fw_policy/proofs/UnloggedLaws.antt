@@ -5,35 +5,35 @@ use Rattle.std.specs.List.{AllByRecursion, Contains, flat_map}
 use Rattle.std.proofs.lemmas.Bool.{cond_both, cases_Bool, and_parts, and_from, eqb-true, eq-eqb, false_from_ne_true}
 use Rattle.fw_lemmas.proofs.Bools.{two_ways}
 use Rattle.fw_lemmas.proofs.Each.{each-weaker, each-both, each-there}
-use Rattle.fw_time.specs.Stamp.{Stamp}
-use Rattle.fw_frontier.specs.Frontier.{Frontier}
-use Rattle.fw_flow.specs.Dataflow.{System}
+use Rattle.fw_time.specs.Stamp.{Stamp, leq}
+use Rattle.fw_time.proofs.StampLaws.{leq-refl}
+use Rattle.fw_frontier.specs.Frontier.{Frontier, Within}
+use Rattle.fw_flow.specs.Dataflow.{System, node_frontier}
 use Rattle.fw_flow.specs.NodeFunction.{event_node, event_stamp}
 use Rattle.fw_model.specs.Choice.{ever, kept, is_counted, IsLogged, AllLogged}
 use Rattle.fw_model.specs.Writes.{HasOne, LogsSerial, not_collected}
-use Rattle.fw_model.specs.Machine.{Machine, SerialEvent, Write, Stage, in_flight, acknowledged, collected, checkpoint, logged_event, is_failed, Written as WrittenBy}
+use Rattle.fw_model.specs.Machine.{Machine, SerialEvent, Write, Stage, in_flight, acknowledged, collected, checkpoint, logged_event, front_of, is_failed, Written as WrittenBy}
 use Rattle.fw_model.proofs.AskedLaws.{IsApart, AreSerialsBelow, serials-each}
 use Rattle.fw_model.proofs.RestoringLaws.{apart-events, all-logged}
 use Rattle.fw_model.proofs.WriteLaws.{HoldsOfOne, some-passed, NamesEvent, LogsEvent, some-logged, logged-some, ArePairs}
 use Rattle.fw_model.specs.LawsOfWrites.{IsLoggedFor}
-use Rattle.fw_record.specs.declared.record.Event.{Event}
 use Rattle.fw_record.specs.Event.{stamp_of_event}
 use Rattle.fw_keep.specs.declared.entry.Entry.{Entry}
 use Rattle.fw_keep.specs.declared.entry.Written.{Written}
 use Rattle.fw_keep.specs.declared.entry.Written.TheVariants as written
-use Rattle.fw_policy.specs.View.{HasEventAt, IsEventAt, IsUnlogged, IsLostAt, ReadsAsWrite, IsReadAs, AreReadAs}
-use Rattle.fw_policy.specs.Offering.{stamp_of_written, unlogged_by, unlogged_stamps}
+use Rattle.fw_policy.specs.View.{HasEventAt, IsEventAt, IsUnlogged, IsLostAt, KnowsLosses, ReadsAsWrite, IsReadAs, AreReadAs}
+use Rattle.fw_policy.specs.Offering.{stamp_of_written, unlogged_by, stamps_in_flight, unlogged_stamps}
 use Rattle.fw_model.proofs.SentStandLaws.{IsOne, one-contained, contained-one}
 use Rattle.fw_model.proofs.ThinnedLaws.{each-contained}
 
 -- ---- lists
 
-one-first : (t : Stamp) (ss ts : List Stamp) → IsOne t ss → IsOne t (ss ++ ts)
+pub one-first : (t : Stamp) (ss ts : List Stamp) → IsOne t ss → IsOne t (ss ++ ts)
 one-first t [] ts i = absurd i
 one-first t (s ∷ ss) ts (inl e) = inl e
 one-first t (s ∷ ss) ts (inr i) = inr (one-first t ss ts i)
 
-one-last : (t : Stamp) (ss ts : List Stamp) → IsOne t ts → IsOne t (ss ++ ts)
+pub one-last : (t : Stamp) (ss ts : List Stamp) → IsOne t ts → IsOne t (ss ++ ts)
 one-last t [] ts i = i
 one-last t (s ∷ ss) ts i = inr (one-last t ss ts i)
 
@@ -222,12 +222,11 @@ one-serial sys p serial t n (v ∷ h) b (inr k) = (
 -- ---- what is not logged
 
 -- what of a state the laws rest on
-pub record IsOfEntries (sys : System) (state : Machine) (p : ℕ) (entries : List Entry) (gone : List Stamp) : Type 0 where
+pub record IsOfEntries (sys : System) (state : Machine) (p : ℕ) (entries : List Entry) : Type 0 where
   pub written : AreReadAs sys state entries (filter not_collected state.writes)
   pub apart : ArePairs IsApart state.writes
   pub serials : AreSerialsBelow state.next state.history
   pub live : is_failed state p ≡ false → AllByRecursion (λ (v : SerialEvent). event_node sys.flow v.event ≡ p → IsLoggedFor p v.serial state.writes) state.history
-  pub lost : (t : Stamp) → Contains gone t ↔ IsLostAt sys state p t
 
 not-collected : (x : Write) → not_collected x ≡ true → x.stage ≡ collected → ⊥
 not-collected x k e = let c : false ≡ true = sym (ap (λ far. not_collected (record x { stage = far })) e) ∙ k in cc
@@ -256,23 +255,19 @@ has-flying sys state p t [] k = absurd k
 has-flying sys state p t (x ∷ xs) (inl k) = record { serial = k.serial; flying = inl k.flying; event = k.event }
 has-flying sys state p t (x ∷ xs) (inr k) = let r = has-flying sys state p t xs k in record { serial = r.serial; flying = inr r.flying; event = r.event }
 
--- each of the stamps is that of an event that is not logged
-pub unlogged-is : (sys : System) (state : Machine) (p : ℕ) (entries : List Entry) (lost : List Stamp) → IsOfEntries sys state p entries lost
-    → (t : Stamp) → IsOne t (unlogged_stamps p entries lost) → IsUnlogged sys state p t
-unlogged-is sys state p entries lost o t i = elim (one-either t (flat_map (unlogged_by p) entries) lost i) [
-  | inl k ↦
-      let f = has-flying sys state p t state.writes (some-filtered (FliesAt sys state p t) not_collected state.writes
-      (entries-fly sys state p t entries (filter not_collected state.writes) o.written (each-uncollected state.writes) k)) in
-      let r = has-there sys p f.serial t state.history f.event in
-      record {
-        event = r.event;
-        there = r.there;
-        is = record { same_serial = refl; node = r.is.node; stamp = r.is.stamp };
-        not_logged = λ l. flying-alone f.serial state.writes o.apart f.flying (some-logged f.serial state.writes (subst (λ n. IsLogged n state.writes) r.is.same_serial l));
-      }
-  | inr k ↦
-      ((o.lost t).0 (one-contained t lost k)).1
-]
+-- each stamp of an entry in flight is that of an event that is not logged
+pub flying-unlogged : (sys : System) (state : Machine) (p : ℕ) (entries : List Entry) → IsOfEntries sys state p entries
+    → (t : Stamp) → IsOne t (stamps_in_flight p entries) → IsUnlogged sys state p t
+flying-unlogged sys state p entries o t i =
+    let f = has-flying sys state p t state.writes (some-filtered (FliesAt sys state p t) not_collected state.writes
+    (entries-fly sys state p t entries (filter not_collected state.writes) o.written (each-uncollected state.writes) i)) in
+    let r = has-there sys p f.serial t state.history f.event in
+    record {
+      event = r.event;
+      there = r.there;
+      is = record { same_serial = refl; node = r.is.node; stamp = r.is.stamp };
+      not_logged = λ l. flying-alone f.serial state.writes o.apart f.flying (some-logged f.serial state.writes (subst (λ n. IsLogged n state.writes) r.is.same_serial l));
+    }
 
 some-here : {A : Type 0} (P : A → Type 0) (xs : List A) (x : A) (ys : List A) → P x → HoldsOfOne P (xs ++ x ∷ ys)
 some-here P [] x ys k = inl k
@@ -301,22 +296,20 @@ one-write sys p serial writes only n = by only.one.stage refl
         (subst (λ (xs : List Write). HoldsOfOne (LogsEvent serial) xs) (sym only.there)
         (some-here (LogsEvent serial) only.earlier only.one only.later (logs-counts serial only.one.written only.one.stage only.is_such (ap (is_counted ever) e)))))
 
--- each event of the node is logged, or its stamp is one of these
-pub unlogged-has : (sys : System) (state : Machine) (p : ℕ) (entries : List Entry) (lost : List Stamp) → IsOfEntries sys state p entries lost
-    → AllByRecursion (λ (v : SerialEvent). event_node sys.flow v.event ≡ p → IsLogged v.serial state.writes ⊎ IsOne (event_stamp v.event) (unlogged_stamps p entries lost)) state.history
-unlogged-has sys state p entries lost o = elim (cases_Bool (is_failed state p)) [
+-- each event of the node is logged, or an entry of it is in flight, or it was lost
+pub unlogged-has : (sys : System) (state : Machine) (p : ℕ) (entries : List Entry) → IsOfEntries sys state p entries
+    → AllByRecursion (λ (v : SerialEvent). event_node sys.flow v.event ≡ p
+    → IsLogged v.serial state.writes ⊎ (IsOne (event_stamp v.event) (stamps_in_flight p entries) ⊎ IsLostAt sys state p (event_stamp v.event))) state.history
+unlogged-has sys state p entries o = elim (cases_Bool (is_failed state p)) [
   | inl f ↦
-      each-weaker (Contains state.history)
-      (λ (v : SerialEvent). event_node sys.flow v.event ≡ p → IsLogged v.serial state.writes ⊎ IsOne (event_stamp v.event) (unlogged_stamps p entries lost)) state.history
+      each-weaker (Contains state.history) Has state.history
       (λ v c e. elim (logged-or_not v.serial state.writes) [
         | inl l ↦ inl l
-        | inr n ↦ inr (one-last (event_stamp v.event) (flat_map (unlogged_by p) entries) lost
-            (contained-one (event_stamp v.event) lost ((o.lost (event_stamp v.event)).1 (f, record { event = v; there = c; is = record { same_serial = refl; node = e; stamp = refl }; not_logged = n }))))
+        | inr n ↦ inr (inr (f, record { event = v; there = c; is = record { same_serial = refl; node = e; stamp = refl }; not_logged = n }))
       ])
       (each-there state.history)
   | inr f ↦
-      each-weaker (λ (v : SerialEvent). Contains state.history v × (event_node sys.flow v.event ≡ p → IsLoggedFor p v.serial state.writes))
-      (λ (v : SerialEvent). event_node sys.flow v.event ≡ p → IsLogged v.serial state.writes ⊎ IsOne (event_stamp v.event) (unlogged_stamps p entries lost)) state.history
+      each-weaker (λ (v : SerialEvent). Contains state.history v × (event_node sys.flow v.event ≡ p → IsLoggedFor p v.serial state.writes)) Has state.history
       (λ v k e. let m = k.1 e in elim (one-write sys p v.serial state.writes m.0 m.1) [
         | inl l ↦ inl l
         | inr q ↦
@@ -325,10 +318,14 @@ unlogged-has sys state p entries lost o = elim (cases_Bool (is_failed state p)) 
             let s : event_stamp v.event ≡ r.at =
             each-contained (λ (u : SerialEvent). u.serial ≡ v.serial → event_stamp u.event ≡ r.at) v state.history c
             (one-serial sys p v.serial r.at state.next state.history o.serials r.event) refl in
-            inr (one-first (event_stamp v.event) (flat_map (unlogged_by p) entries) lost (subst (λ (x : Stamp). IsOne x (flat_map (unlogged_by p) entries)) (sym s) r.there))
+            inr (inl (subst (λ (x : Stamp). IsOne x (stamps_in_flight p entries)) (sym s) r.there))
       ])
       (each-both (Contains state.history) (λ (v : SerialEvent). event_node sys.flow v.event ≡ p → IsLoggedFor p v.serial state.writes) state.history (each-there state.history) (o.live f))
 ]
+  where
+    Has : SerialEvent → Type 0
+    Has v = event_node sys.flow v.event ≡ p
+        → IsLogged v.serial state.writes ⊎ (IsOne (event_stamp v.event) (stamps_in_flight p entries) ⊎ IsLostAt sys state p (event_stamp v.event))
 
 from-each : (sys : System) (p : ℕ) (f : Frontier) (writes : List Write) (h : List SerialEvent)
     → AllByRecursion (λ (v : SerialEvent). event_node sys.flow v.event ≡ p → f (event_stamp v.event) ≡ true → IsLogged v.serial writes) h → AllLogged sys p f writes h
@@ -344,21 +341,33 @@ one-of-each P t [] a i = absurd i
 one-of-each P t (s ∷ ss) a (inl e) = subst P e a.0
 one-of-each P t (s ∷ ss) a (inr i) = one-of-each P t ss a.1 i
 
--- all events inside are logged exactly where none of these stamps is inside
-pub logged-outside : (sys : System) (state : Machine) (p : ℕ) (entries : List Entry) (lost : List Stamp) → IsOfEntries sys state p entries lost → (f : Frontier)
+-- where f lies within what is settled, all events inside are logged exactly where none of these stamps is inside
+pub logged-outside : (sys : System) (state : Machine) (p : ℕ) (entries : List Entry) (lost : List Stamp) → IsOfEntries sys state p entries → KnowsLosses sys state p lost → (f : Frontier)
+    → ((s t : Stamp) → leq s t ≡ true → f t ≡ true → f s ≡ true) → Within f (node_frontier sys.flow p (front_of state.settled p))
     → AllLogged sys p f state.writes state.history ↔ AllByRecursion (λ s. f s ≡ false) (unlogged_stamps p entries lost)
-logged-outside sys state p entries lost o f = (
+logged-outside sys state p entries lost o known f closed within = (
   λ a. each-one-of (λ s. f s ≡ false) (unlogged_stamps p entries lost) (λ t i.
-      let u = unlogged-is sys state p entries lost o t i in
-      let c = u.there in
-      false_from_ne_true (f t) (λ k. u.not_logged (each-contained (λ (v : SerialEvent). event_node sys.flow v.event ≡ p → f (event_stamp v.event) ≡ true → IsLogged v.serial state.writes) u.event state.history c
-      (all-logged sys p f state.writes state.history a) u.is.node (ap f u.is.stamp ∙ k)))),
+      false_from_ne_true (f t) (λ k. elim (one-either t (stamps_in_flight p entries) lost i) [
+        | inl j ↦ not-inside a t (flying-unlogged sys state p entries o t j) k
+        | inr j ↦ let h = (known t (within t k)).0 (t, one-contained t lost j, leq-refl t) in not-inside a h.0 (h.1).1 (closed h.0 t h.2 k)
+      ])),
   λ a. from-each sys p f state.writes state.history
-      (each-weaker (λ (v : SerialEvent). event_node sys.flow v.event ≡ p → IsLogged v.serial state.writes ⊎ IsOne (event_stamp v.event) (unlogged_stamps p entries lost))
+      (each-weaker (λ (v : SerialEvent). event_node sys.flow v.event ≡ p
+      → IsLogged v.serial state.writes ⊎ (IsOne (event_stamp v.event) (stamps_in_flight p entries) ⊎ IsLostAt sys state p (event_stamp v.event)))
       (λ v. event_node sys.flow v.event ≡ p → f (event_stamp v.event) ≡ true → IsLogged v.serial state.writes) state.history
-      (λ v k e i. elim (k e) [
-        | inl l ↦ l
-        | inr j ↦ absurd (two_ways (f (event_stamp v.event)) i (one-of-each (λ s. f s ≡ false) (event_stamp v.event) (unlogged_stamps p entries lost) a j))
-      ])
-      (unlogged-has sys state p entries lost o)),
+      (λ v k e i. elim (k e) [ inl l ↦ l | inr out ↦ absurd (none-inside a (event_stamp v.event) i out) ])
+      (unlogged-has sys state p entries o)),
 )
+  where
+    not-inside : AllLogged sys p f state.writes state.history → (t : Stamp) → IsUnlogged sys state p t → f t ≡ true → ⊥
+    not-inside a t u k =
+        u.not_logged (each-contained (λ (v : SerialEvent). event_node sys.flow v.event ≡ p → f (event_stamp v.event) ≡ true → IsLogged v.serial state.writes) u.event state.history u.there
+        (all-logged sys p f state.writes state.history a) u.is.node (ap f u.is.stamp ∙ k))
+
+    none-inside : AllByRecursion (λ s. f s ≡ false) (unlogged_stamps p entries lost) → (t : Stamp) → f t ≡ true
+        → IsOne t (stamps_in_flight p entries) ⊎ IsLostAt sys state p t → ⊥
+    none-inside a t k (inl j) = two_ways (f t) k (one-of-each (λ s. f s ≡ false) t (unlogged_stamps p entries lost) a (one-first t (stamps_in_flight p entries) lost j))
+    none-inside a t k (inr j) =
+        let h = (known t (within t k)).1 (t, j, leq-refl t) in
+        two_ways (f h.0) (closed h.0 t h.2 k)
+        (one-of-each (λ s. f s ≡ false) h.0 (unlogged_stamps p entries lost) a (one-last h.0 (stamps_in_flight p entries) lost (contained-one h.0 lost h.1)))

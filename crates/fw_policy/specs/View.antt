@@ -10,7 +10,7 @@ use Rattle.fw_flow.specs.declared.kind.Kind.{Kind}
 use Rattle.fw_flow.specs.declared.kind.Kind.TheVariants.{Input, OutputEpoch, OutputNumber}
 use Rattle.fw_flow.specs.declared.kind.Policy.TheVariants as policy
 use Rattle.fw_flow.specs.declared.restoring.Restoring.{Restoring}
-use Rattle.fw_flow.specs.declared.restoring.Restoring.TheVariants.{Batches, Bound, Anything, Checkpoints, Events}
+use Rattle.fw_flow.specs.declared.restoring.Restoring.TheVariants.{Batches, Events}
 use Rattle.fw_flow.specs.Dataflow.{System, Dataflow, kind_of, policy_of, receiver, node_frontier, is_sequence_kind}
 use Rattle.fw_flow.specs.NodeFunction.{event_node, event_stamp}
 use Rattle.fw_flow.specs.Projection.{IsSentTable}
@@ -27,6 +27,7 @@ use Rattle.fw_model.specs.Offers.{stamps_on}
 use Rattle.fw_model.specs.Reached.{IsReached}
 use Rattle.fw_model.specs.Writes.{takes_checkpoints}
 use Rattle.fw_policy.specs.Entries.{IsRecorded, uncollected}
+use Rattle.fw_policy.specs.Shaped.{IsViewFor}
 use Rattle.fw_policy.specs.declared.view.Border.{Border}
 use Rattle.fw_policy.specs.declared.view.Border.TheVariants.{Inner, Source, Output}
 use Rattle.fw_record.specs.Event.{stamp_of_event}
@@ -59,9 +60,9 @@ pub record IsUnlogged (sys : System) (state : Machine) (p : ℕ) (t : Stamp) : T
 abbrev pub IsLostAt : System → Machine → ℕ → Stamp → Type 0
 IsLostAt sys state p t = (is_failed state p ≡ true) × IsUnlogged sys state p t
 
--- what is kept of stamps is among all of them, and has each that was logged and is outside a base
+-- what is told of stamps is among all of them, and has each that was logged and is outside a base
 abbrev pub AreLogged : Frontier → List Stamp → List Stamp → List Stamp → Type 0
-AreLogged base all logged own = AllByRecursion (Contains all) own × AllByRecursion (λ t. base t ≡ false → Contains own t) logged
+AreLogged base all logged told = AllByRecursion (Contains all) told × AllByRecursion (λ t. base t ≡ false → Contains told t) logged
 
 -- The stamps are some at which something was delivered to node p, or it was notified: of those outside a base each that an acknowledged
 -- write logs.
@@ -126,8 +127,9 @@ pub record IsReadAs (sys : System) (state : Machine) (entry : Entry) (write : Wr
 abbrev pub AreReadAs : System → Machine → List Entry → List Write → Type 0
 AreReadAs sys state entries writes = AllZip (IsReadAs sys state) entries writes
 
--- what is known of node p is so in the state above a floor, where these nodes count as failed
+-- what is known of node p fits the dataflow, and is so in the state above a floor, where these nodes count as failed
 pub record IsNodeViewOf (sys : System) (state : Machine) (lost : ℕ → Bool) (floor : List Front) (p : ℕ) (node : NodeView) : Type 0 where
+  pub fits : IsViewFor sys.flow p node
   pub stamps : IsKnownOf sys floor state p node.stamps (lost p)
   pub table : is_sequence_kind (kind_of sys.flow p) ≡ true → IsSentTable sys (events state.history) p node.table
   pub settled : node.settled ≡ front_of state.settled p

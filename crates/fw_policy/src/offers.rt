@@ -18,29 +18,9 @@ use fw_keep::Entry;
 use std::alloc::{AllocError, Global};
 
 /// What each node offers to a recovery, by its kind and policy, where so much is known of the nodes and these writes were not
-/// collected. It takes a view of each node. Where the views lack what lies below a floor, so do the offers, and a largest
-/// choice of them is the same. Of a source the offer holds two frontiers, whatever its batches. The error is
-/// want of memory.
-pub fn candidates(
-    alloc: Global,
-    flow: &Flow,
-    view: &[NodeView],
-    entries: &[Entry],
-) -> Result<Vec<Offer>, AllocError>
-    requires { length view.now ≡ length flow.now.nodes }
-    ensures exact { (sys : System) (state : Machine) (lost : ℕ → Bool) → sys.flow ≡ flow.now → IsViewOf sys state lost state.low view.now entries.now
-        → AreWholeFrom sys state state.low 0 view.now → IfOk result (λ offers. AreOffersIn sys state lost offers.items) }
-    ensures above { (sys : System) (state : Machine) (lost : ℕ → Bool) (floor : List Front) → sys.flow ≡ flow.now
-        → (known : IsViewOf sys state lost floor view.now entries.now)
-        → IfOk result (λ offers. AreOffersAbove sys state lost (choice_at floor known.above.notices) offers.items) }
-    ensures of_flow { FitsFlow flow.now view.now entries.now → IfOk result (λ offers. AreOffersOf flow.now offers.items) }
-{
-    let views = copies(alloc, view)?;
-    offers_of(alloc, flow, views, entries)
-}
-
-/// The same of views that are handed over: what they tell of stamps is moved into the offers, and not copied. The error is want
-/// of memory.
+/// collected. It takes a view of each node: what the views tell of stamps is moved into the offers, and not copied. Where the
+/// views lack what lies below a floor, so do the offers, and a largest choice of them is the same. Of a source the offer holds
+/// two frontiers, whatever its batches. The error is want of memory.
 pub fn offers_of(
     alloc: Global,
     flow: &Flow,
@@ -81,15 +61,4 @@ fn offer(
         stamps: known.stamps,
         table: known.table,
     })
-}
-
-/// The same views once more. The error is want of memory.
-fn copies(alloc: Global, views: &[NodeView]) -> Result<Vec<NodeView>, AllocError>
-    ensures { IfOk result (λ copies. copies.items ≡ views.now) }
-{
-    let mut copies = Vec::with_capacity(alloc, views.len())?;
-    for view in views {
-        copies.push(view.copy()?)?;
-    }
-    Ok(copies)
 }

@@ -2,7 +2,6 @@
 use Rattle.std.proofs.Common.{◌≡◌, ◌↔◌, ℕ, Bool, true, false, cond, not, ◌&&◌, ◌||◌, ◌==◌, List, [], ◌∷◌, ◌++◌, length, option_to_list, refl, sym, ap, subst, ◌∙◌, inl, inr, ◌⊎◌, arith, ◌≢◌}
 use Rattle.std.specs.List.{Contains}
 use Rattle.std.proofs.lemmas.Bool.{or_right}
-use Rattle.std.proofs.lemmas.List.{append-nil}
 use Rattle.std.proofs.lemmas.List.FromFn.{get_or-map-range_with_len}
 use Rattle.fw_lemmas.proofs.Bools.{two_ways}
 use Rattle.fw_time.specs.Stamp.{Stamp}
@@ -26,11 +25,11 @@ use Rattle.fw_keep.specs.Entry.{written_front}
 use Rattle.fw_keep.specs.declared.entry.Written.{Written}
 use Rattle.fw_keep.specs.declared.entry.Written.TheVariants as written
 use Rattle.fw_policy.specs.View.{IsLostAt}
-use Rattle.fw_policy.specs.Offering.{stamps_in_flight, unlogged_stamps}
+use Rattle.fw_policy.specs.Offering.{stamps_in_flight}
 use Rattle.fw_model.proofs.SentStandLaws.{IsOne, one-contained, contained-one}
 use Rattle.fw_model.specs.Reached.{IsReached}
 use Rattle.fw_policy.proofs.ReadLaws.{entries-read}
-use Rattle.fw_policy.proofs.UnloggedLaws.{IsOfEntries, unlogged-is, unlogged-has, some-filtered}
+use Rattle.fw_policy.proofs.UnloggedLaws.{IsOfEntries, flying-unlogged, unlogged-has, some-filtered}
 use Rattle.fw_stands.specs.Written.{HoldsWhatIsWritten, AreEntriesOf, uncollected}
 use Rattle.fw_stands.specs.Entries.{entry_fronts}
 use Rattle.fw_frontier.specs.Front.{Front}
@@ -111,9 +110,6 @@ fails-now sys state next effect ps t p full k =
     ∙ get_or-map-range_with_len (λ q. is_failed state q || is_one_of q ps) 0 (length sys.flow.nodes) p p false (full-declared sys.flow p full) (omega arith)
     ∙ or_right (is_failed state p) (is_one_of p ps) k
 
-none-lost : (sys : System) (state : Machine) (p : ℕ) → is_failed state p ≡ false → (t : Stamp) → Contains [] t ↔ IsLostAt sys state p t
-none-lost sys state p live t = ((λ c. let l = c.1 in absurd (omega arith)), λ i. absurd (two_ways (is_failed state p) i.0 live))
-
 -- the stamps at which a node that logs each event loses events as it fails are those of its events in flight
 pub loses_what_is_in_flight : (sys : System) → IsWellFormedSystem sys → (state : Machine) → IsReached sys state
     → (ps : List ℕ) (next : Machine) (effect : Effect) → LeadsTo sys state (Fail ps) next effect
@@ -122,27 +118,29 @@ pub loses_what_is_in_flight : (sys : System) → IsWellFormedSystem sys → (sta
     → (t : Stamp) → IsLostAt sys next p t ↔ Contains (stamps_in_flight p entries) t
 loses_what_is_in_flight sys w state r ps next effect t es a p full live one at =
     let f = reached-all sys w r.0 r.1 state r.2 in
-    let o : IsOfEntries sys state p es [] = record {
+    let o : IsOfEntries sys state p es = record {
       written = entries-read sys state es (uncollected state) a;
       apart = f.restore.apart;
       serials = f.restore.serials;
       live = λ l. live-logged sys w r.0 r.1 state r.2 p full l;
-      lost = none-lost sys state p live;
     } in
-    let all : unlogged_stamps p es [] ≡ stamps_in_flight p es = append-nil (stamps_in_flight p es) in
     let writes : next.writes ≡ without_lost ps state.writes = ap (λ (m : Machine). m.writes) t.4 in
     let history : next.history ≡ state.history = ap (λ (m : Machine). m.history) t.4 in (
       λ i.
           let u = i.1 in
           let v = u.event in
-          let Has : SerialEvent → Type 0 = λ x. event_node sys.flow x.event ≡ p → IsLogged x.serial state.writes ⊎ IsOne (event_stamp x.event) (unlogged_stamps p es []) in
-          let has = each-contained Has v state.history (subst (λ h. Contains h v) history u.there) (unlogged-has sys state p es [] o) u.is.node in
+          let Has : SerialEvent → Type 0 = λ x. event_node sys.flow x.event ≡ p
+          → IsLogged x.serial state.writes ⊎ (IsOne (event_stamp x.event) (stamps_in_flight p es) ⊎ IsLostAt sys state p (event_stamp x.event)) in
+          let has = each-contained Has v state.history (subst (λ h. Contains h v) history u.there) (unlogged-has sys state p es o) u.is.node in
           elim has [
             | inl l ↦ absurd (u.not_logged (subst (IsLogged v.serial) (sym writes) (logged-left ps v.serial state.writes l)))
-            | inr k ↦ one-contained at (stamps_in_flight p es) (subst (IsOne at) all (subst (λ s. IsOne s (unlogged_stamps p es [])) u.is.stamp k))
+            | inr out ↦ elim out [
+              | inl k ↦ one-contained at (stamps_in_flight p es) (subst (λ s. IsOne s (stamps_in_flight p es)) u.is.stamp k)
+              | inr k ↦ absurd (two_ways (is_failed state p) k.0 live)
+            ]
           ],
       λ c.
-          let u = unlogged-is sys state p es [] o at (subst (IsOne at) (sym all) (contained-one at (stamps_in_flight p es) c)) in (
+          let u = flying-unlogged sys state p es o at (contained-one at (stamps_in_flight p es) c) in (
             fails-now sys state next effect ps t p full one,
             record {
               event = u.event;

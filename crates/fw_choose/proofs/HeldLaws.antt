@@ -1,5 +1,5 @@
 -- What an engine that holds what is left of a state knows of its nodes is as much as a recovery asks.
-use Rattle.std.proofs.Common.{◌≡◌, ℕ, ◌<◌, Bool, true, false, ◌==◌, List, length, map, filter, Option, refl, sym, ◌∙◌, ap, subst}
+use Rattle.std.proofs.Common.{◌≡◌, ℕ, ◌<◌, Bool, true, false, ◌==◌, List, length, map, filter, refl, sym, ◌∙◌, ap, subst}
 use Rattle.std.specs.List.{AllByRecursion, Contains, flat_map}
 use Rattle.std.proofs.lemmas.Bool.{and_from, eqb-true}
 use Rattle.fw_lemmas.proofs.Each.{each-both, each-filter, each-one, each-weaker, each_of-map}
@@ -26,7 +26,6 @@ use Rattle.fw_model.specs.Writes.{takes_checkpoints}
 use Rattle.fw_model.proofs.DomainLaws.{has_epochs}
 use Rattle.fw_model.proofs.LegalLaws.{legal_events-in_domain}
 use Rattle.fw_model.proofs.LesserLaws.{lesser-in_domain}
-use Rattle.fw_keep.specs.Stored.{Records}
 use Rattle.fw_policy.specs.declared.view.NodeView.{NodeView}
 use Rattle.fw_policy.specs.Shaped.{IsViewFor}
 use Rattle.fw_policy.specs.View.{AreLogged, IsKnownOf, IsKnownOfFailed, KnowsLosses, base_of}
@@ -40,11 +39,11 @@ use Rattle.fw_progress.proofs.StampsLaws.{edge-there}
 use Rattle.fw_progress.proofs.TraceLaws.{among-domain}
 use Rattle.fw_stands.specs.Parts.{IsTraceIn}
 use Rattle.fw_running.specs.declared.running.Running.{Running}
-use Rattle.fw_running.specs.Held.{KnowsTracesHeld, StandsHeld}
+use Rattle.fw_running.specs.Held.{KnowsTracesHeld}
 use Rattle.fw_running.specs.Kept.{source_of, output_of, lost_at, is_down}
 use Rattle.fw_choose.specs.declared.viewing.Lost.{Lost}
 use Rattle.fw_choose.specs.declared.viewing.Lost.TheVariants.{Failed, All}
-use Rattle.fw_choose.specs.Chosen.{is_lost, counts_as_failed, IsBorderBy, IsViewByHeld, is_on_its_edge, of_domains}
+use Rattle.fw_choose.specs.Chosen.{counts_as_failed, IsBorderBy, IsViewByHeld, is_on_its_edge, of_domains}
 use Rattle.fw_choose.proofs.ViewLaws.{contains-filtered, filtered-contains, legal-of, same-on_edge, stamps-stay, view-apart}
 
 -- ---- what is of the domains

@@ -1,5 +1,5 @@
 -- Where all stamps of a node are known, what is to be known of them is, also if the node counts as failed.
-use Rattle.std.proofs.Common.{◌≡◌, ◌↔◌, ℕ, Bool, true, false, cond, not, ◌||◌, ◌==◌, List, [], ◌∷◌, map, filter}
+use Rattle.std.proofs.Common.{◌≡◌, ◌↔◌, ℕ, Bool, true, false, cond, not, ◌||◌, ◌==◌, List, [], ◌∷◌, filter}
 use Rattle.std.specs.List.{AllByRecursion, Contains, flat_map}
 use Rattle.fw_lemmas.proofs.Each.{each-append, each-map, each-prefix, each-suffix, each_of-map}
 use Rattle.fw_time.specs.Stamp.{Stamp}

@@ -65,7 +65,7 @@ use Rattle.fw_choose.specs.Chosen.{is_lost, counts_as_failed, IsChosen, IsViewBy
 use Rattle.fw_choose.proofs.KnownLaws.{losses-known, stamps-known}
 use Rattle.fw_running.specs.Kept.{source_of, output_of, lost_at, is_down}
 use Rattle.fw_running.specs.Shaped.{IsShaped}
-use Rattle.fw_running.specs.Stands.{Stands, StandsApart}
+use Rattle.fw_running.specs.Stands.{StandsApart}
 use Rattle.fw_model.specs.Writes.{takes_checkpoints}
 use Rattle.fw_model.specs.Thinned.{IsThinnedIf}
 

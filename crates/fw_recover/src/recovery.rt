@@ -20,6 +20,7 @@ use std::alloc::AllocError;
 
 /// The failed nodes are restored, and others as far as they have to be: what is outside its node's cut is undone, also of
 /// what is settled and written, and no node is failed any more. A fault of the store leaves all as it was.
+/// An engine that held what is left of a state in which every node is failed stands in full then.
 pub fn recover<K: Store>(running: &mut Running, store: &mut K) -> Result<Stepped, EngineFault>
     requires shaped { IsShaped running.old }
     requires stored { IsStored running.old.parts.keep (K.view store.old).records }

@@ -1,5 +1,5 @@
 -- The bytes of entries: which calls leave them, and which record they give back.
-use Rattle.std.proofs.Common.{◌≡◌, ℕ, ◌<◌, Bool, true, false, cond, ◌||◌, ◌==◌, List, [], ◌∷◌, ◌++◌, Option, Some, None, option_map, IsSome, Result, Ok, Err, refl, sym, ap, subst, ◌∙◌, arith}
+use Rattle.std.proofs.Common.{◌≡◌, inl, inr, ℕ, ◌<◌, Bool, true, false, cond, ◌||◌, ◌==◌, List, [], ◌∷◌, ◌++◌, Option, Some, None, option_map, IsSome, Result, Ok, Err, refl, sym, ap, subst, ◌∙◌, arith}
 use Rattle.std.specs.Prelude.{Contains, IfSome}
 use Rattle.std.specs.List.{AllByRecursion}
 use Rattle.std.specs.FinMap as records
@@ -21,7 +21,7 @@ use Rattle.fw_keep.specs.declared.fault.KeepFault.{KeepFault}
 use Rattle.fw_keep.specs.declared.fault.KeepFault.TheVariants as fault
 use Rattle.fw_keep.specs.Entry.{IsRecordOfEntry}
 use Rattle.fw_keep.specs.Catalogue.{KeepState, IsCatalogue, IsOnly, ids_of, is_id_among, has_entry}
-use Rattle.fw_keep.specs.Stored.{Records, bytes_under, KeepsBytes, HoldsAs, GivesOnly, ReadsAs, without_ids, Sweeps}
+use Rattle.fw_keep.specs.Stored.{Records, bytes_under, without_id, IsFreed, KeepsBytes, HoldsAs, GivesOnly, ReadsAs, without_ids, Sweeps}
 use Rattle.fw_keep.proofs.IdLaws.{among-self, each-among}
 
 -- ---- what stays
@@ -58,6 +58,17 @@ pub bytes-put : (keep : KeepState) (bytes : List ℕ) (old new : Option Records)
 bytes-put keep bytes old new well is = λ e there.
     let below : e.id < keep.next = each-id (λ id. id < keep.next) keep.entries e well.drawn there in
     ap (bytes_under e.id) is ∙ under-inserted old keep.next bytes e.id (ne_eqb keep.next e.id (λ same. absurd (omega arith)))
+
+under-removed : (all : Option Records) (k q : ℕ) → (k == q) ≡ false → bytes_under q (without_id k all) ≡ bytes_under q all
+under-removed None k q apart = refl
+under-removed (Some held) k q apart = kept-remove held k q apart
+
+-- after a refusal those of the entries are there
+pub bytes-freed : (keep : KeepState) (old new : Option Records) → IsCatalogue keep → IsFreed keep.shared keep.next old new → KeepsBytes keep.entries old new
+bytes-freed keep old new well (inl same) = bytes-same keep.entries old new same
+bytes-freed keep old new well (inr less) = λ e there.
+    let below : e.id < keep.next = each-id (λ id. id < keep.next) keep.entries e well.drawn there in
+    ap (bytes_under e.id) less.1 ∙ under-removed old keep.next e.id (ne_eqb keep.next e.id (λ same. absurd (omega arith)))
 
 kept-one : (held less : Records) (x q : ℕ) (others : Bool) (b : Bool) → (x == q) ≡ b → (others ≡ false → records.get less q ≡ records.get held q) → (b || others) ≡ false
     → records.get (records.remove less x) q ≡ records.get held q
@@ -114,7 +125,7 @@ held_put flow old new e r told sound of is = record {
 -- ---- what is given back
 
 -- of two that have their bytes under one id one is the other
-same-bytes : (all : Option Records) (id : ℕ) (some others : List ℕ) → IfSome all (λ held. records.get held id ≡ Some some) → bytes_under id all ≡ Some others
+pub same-bytes : (all : Option Records) (id : ℕ) (some others : List ℕ) → IfSome all (λ held. records.get held id ≡ Some some) → bytes_under id all ≡ Some others
     → others ≡ some
 same-bytes None id some others a b = absurd cc
 same-bytes (Some held) id some others a b = some_is (sym b ∙ a)

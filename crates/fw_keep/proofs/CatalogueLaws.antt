@@ -1,19 +1,20 @@
 -- What each call keeps of a catalogue.
-use Rattle.std.proofs.Common.{◌≡◌, ℕ, ◌<◌, ◌≤◌, Bool, false, not, List, [], ◌∷◌, ◌++◌, filter, refl, sym, ap, subst, ◌∙◌, arith}
+use Rattle.std.proofs.Common.{◌≡◌, ℕ, ◌<◌, ◌≤◌, Bool, false, not, ◌==◌, List, [], ◌∷◌, ◌++◌, filter, refl, sym, ap, subst, ◌∙◌, arith}
 use Rattle.std.specs.List.{AllByRecursion}
 use Rattle.fw_keep.specs.declared.entry.Entry.{Entry}
 use Rattle.fw_keep.specs.Catalogue.{KeepState, IsCatalogue, ids_of, is_id_among, has_entry, AreDistinct, persisted, without}
-use Rattle.std.proofs.lemmas.Bool.{ne_eqb}
+use Rattle.std.proofs.lemmas.Bool.{both_ways, eq-eqb, ne_eqb}
 use Rattle.fw_lemmas.proofs.Each.{each-weaker, each-append, each-prefix, each-kept}
-use Rattle.fw_keep.proofs.IdLaws.{among-append, distinct-prefix, ids-more, ascending-distinct, ascending-more, distinct-append, ascending-kept, ids-kept, none_kept, none_goes, gone-apart, ids-persisted, depths-persisted}
+use Rattle.fw_keep.proofs.IdLaws.{or_left, or_right, among-append, distinct-prefix, ids-more, ascending-distinct, ascending-more, distinct-append, ascending-kept, ids-kept, none_kept, none_goes, gone-apart, ids-persisted, depths-persisted}
 
 -- states with the same parts are one
-pub same-state : (a b : KeepState) → a.entries ≡ b.entries → a.next ≡ b.next → a.waiting ≡ b.waiting → a.refused ≡ b.refused → a ≡ b
-same-state a b entries next waiting refused =
-    ap (λ (x : List Entry). let k : KeepState = record { entries = x; next = a.next; waiting = a.waiting; refused = a.refused } in k) entries
-    ∙ ap (λ (x : ℕ). let k : KeepState = record { entries = b.entries; next = x; waiting = a.waiting; refused = a.refused } in k) next
-    ∙ ap (λ (x : List ℕ). let k : KeepState = record { entries = b.entries; next = b.next; waiting = x; refused = a.refused } in k) waiting
-    ∙ ap (λ (x : Bool). let k : KeepState = record { entries = b.entries; next = b.next; waiting = b.waiting; refused = x } in k) refused
+pub same-state : (a b : KeepState) → a.entries ≡ b.entries → a.next ≡ b.next → a.waiting ≡ b.waiting → a.refused ≡ b.refused → a.shared ≡ b.shared → a ≡ b
+same-state a b entries next waiting refused shared =
+    ap (λ (x : List Entry). let k : KeepState = record { entries = x; next = a.next; waiting = a.waiting; refused = a.refused; shared = a.shared } in k) entries
+    ∙ ap (λ (x : ℕ). let k : KeepState = record { entries = b.entries; next = x; waiting = a.waiting; refused = a.refused; shared = a.shared } in k) next
+    ∙ ap (λ (x : List ℕ). let k : KeepState = record { entries = b.entries; next = b.next; waiting = x; refused = a.refused; shared = a.shared } in k) waiting
+    ∙ ap (λ (x : Bool). let k : KeepState = record { entries = b.entries; next = b.next; waiting = b.waiting; refused = x; shared = a.shared } in k) refused
+    ∙ ap (λ (x : Bool). let k : KeepState = record { entries = b.entries; next = b.next; waiting = b.waiting; refused = b.refused; shared = x } in k) shared
 
 -- ids are drawn, and memory may be refused
 pub catalogue-drawn : (keep : KeepState) (next : ℕ) (refused : Bool) → keep.next ≤ next → IsCatalogue keep → IsCatalogue (record keep { next = next; refused = refused })
@@ -43,6 +44,27 @@ catalogue-added keep e next same depths le h = record {
     apart_of [] a b = tt
     apart_of (id ∷ ids) a b =
         (rw (ids-more keep.entries e) (among-append id (ids_of keep.entries) (e.id ∷ []) a.0 (rw (ne_eqb e.id id (λ equal. absurd (omega arith))) refl)), apart_of ids a.1 b.1)
+
+-- the entry of a record that was read is added
+pub catalogue-read : (keep : KeepState) (e : Entry) → AllByRecursion (λ id. id < e.id) (ids_of keep.entries) → e.id < keep.next → is_id_among e.id keep.waiting ≡ false
+    → e.depth ≤ e.id → IsCatalogue keep → IsCatalogue (record keep { entries = keep.entries ++ e ∷ [] })
+catalogue-read keep e above drawn free depths h = record {
+  ascending = rw (ids-more keep.entries e) (ascending-more (ids_of keep.entries) e.id h.ascending above);
+  distinct = h.distinct;
+  apart = apart_of keep.waiting h.apart free;
+  drawn = rw (ids-more keep.entries e) (each-append _ (ids_of keep.entries) (e.id ∷ []) h.drawn (drawn, tt));
+  waiting_drawn = h.waiting_drawn;
+  depths = each-append _ keep.entries (e ∷ []) h.depths (depths, tt);
+}
+  where
+    other : (id : ℕ) → (id == e.id) ≡ false → (e.id == id) ≡ false
+    other id apart = ne_eqb e.id id (λ same. absurd (both_ways (id == e.id) apart (eq-eqb id e.id (sym same))))
+
+    apart_of : (ids : List ℕ) → AllByRecursion (λ id. has_entry id keep.entries ≡ false) ids → is_id_among e.id ids ≡ false
+        → AllByRecursion (λ id. has_entry id (keep.entries ++ e ∷ []) ≡ false) ids
+    apart_of [] a b = tt
+    apart_of (id ∷ ids) a b =
+        (rw (ids-more keep.entries e) (among-append id (ids_of keep.entries) (e.id ∷ []) a.0 (rw (other id (or_left (id == e.id) (is_id_among e.id ids) b)) refl)), apart_of ids a.1 (or_right (id == e.id) (is_id_among e.id ids) b))
 
 -- entries go
 pub catalogue-without : (goes : Entry → Bool) (keep : KeepState) → IsCatalogue keep → IsCatalogue (without goes keep)

@@ -69,7 +69,7 @@ with-id-in es (e ∷ some) id h all = by (e.id == id) refl (λ later. with-id-in
     by false is rest = rest (subst (λ (b : Bool). (b || has_entry id some) ≡ true) is h)
 
 -- an id that some entry has is that of an entry
-with-id : (es : List Entry) (id : ℕ) → has_entry id es ≡ true → (e : Entry) × Contains es e × (e.id ≡ id)
+pub with-id : (es : List Entry) (id : ℕ) → has_entry id es ≡ true → (e : Entry) × Contains es e × (e.id ≡ id)
 with-id es id h = with-id-in es es id h (each-there es)
 
 -- the first whose bytes are wrong

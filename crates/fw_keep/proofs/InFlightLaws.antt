@@ -87,6 +87,19 @@ added n es e is h = record {
   others = drop-more n es e h.there h.others is;
 }
 
+-- where all are acknowledged, they are so up to the last
+pub all_acknowledged : (n : ℕ) (es : List Entry) → n ≡ length es → AreAcknowledged es → IsAcknowledgedUpTo n es
+all_acknowledged n es is all =
+    subst (λ k. IsAcknowledgedUpTo k es) (sym is) (record { there = omega arith; first = first es all; others = others es })
+  where
+    first : (es : List Entry) → AreAcknowledged es → AreAcknowledged (take (length es) es)
+    first [] a = tt
+    first (e ∷ es) a = (a.0, first es a.1)
+
+    others : (es : List Entry) → AreInFlight (drop (length es) es)
+    others [] = tt
+    others (e ∷ es) = others es
+
 -- ---- entries are taken out
 
 -- those that are kept are parted too

@@ -11,3 +11,4 @@ pub mod NewestLaws
 pub mod JoinedLaws
 pub mod ChainLaws
 pub mod FetchLaws
+pub mod NamedLaws

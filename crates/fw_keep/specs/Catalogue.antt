@@ -4,12 +4,13 @@ use Rattle.std.specs.List.{AllByRecursion, Contains, list_any}
 use Rattle.fw_keep.specs.declared.entry.Entry.{Entry}
 
 -- The writes in order of asking, the next id, the ids of earlier writes whose bytes wait for a sweep, in order of their
--- going, and whether memory was refused.
+-- going, whether memory was refused, and whether the store may hold records that others put.
 pub record KeepState : Type 0 where
   pub entries : List Entry
   pub next : ℕ
   pub waiting : List ℕ
   pub refused : Bool
+  pub shared : Bool
 
 -- the ids of entries, in order
 abbrev pub ids_of : List Entry → List ℕ

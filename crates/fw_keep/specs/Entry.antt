@@ -70,6 +70,10 @@ asked_beside es id r stamps = record {
 abbrev pub asked : ℕ → Record → Stamps → Entry
 asked id r stamps = asked_beside [] id r stamps
 
+-- the entry of a record that was read under an id, acknowledged, beside these earlier ones
+abbrev pub read_beside : List Entry → ℕ → Record → Stamps → Entry
+read_beside es id r stamps = record (asked_beside es id r stamps) { acknowledged = true }
+
 -- One of these entries has this id, and is a checkpoint of node p.
 pub record IsBase (es : List Entry) (id p : ℕ) : Type 0 where
   pub entry : Entry

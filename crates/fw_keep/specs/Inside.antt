@@ -11,6 +11,7 @@ keep_state_of keep = record {
   next = keep.next;
   waiting = keep.waiting.items;
   refused = keep.refused;
+  shared = keep.shared;
 }
 
 -- ---- for the proofs

@@ -3,6 +3,7 @@ pub mod Catalogue
 pub mod Chains
 pub mod Newest
 pub mod Stored
+pub mod Named
 pub mod Joined
 pub mod Inside
 pub mod Faults

@@ -1,5 +1,5 @@
 -- What a store holds of a catalogue, and what its calls leave.
-use Rattle.std.specs.Prelude.{◌≡◌, ℕ, Bool, ◌||◌, List, [], ◌∷◌, ◌++◌, Option, Some, option_map, is_some, IsSome, Result, Ok, Err}
+use Rattle.std.specs.Prelude.{◌≡◌, ◌⊎◌, ℕ, Bool, true, false, ◌||◌, List, [], ◌∷◌, ◌++◌, Option, Some, None, option_map, is_some, IsSome, Result, Ok, Err}
 use Rattle.std.specs.Option.{ForSome, option_and_then}
 use Rattle.std.specs.List.{AllByRecursion, Contains}
 use Rattle.std.specs.Ordering.{nat_cmp}
@@ -26,9 +26,34 @@ is_held keep id = has_entry id keep.entries || is_id_among id keep.waiting
 abbrev pub IsEmptyStore : Option Records → Type 0
 IsEmptyStore records = ForSome records (λ held. held ≡ map.empty)
 
--- Where the store tells its records, there is one under exactly the ids of the entries and those that wait for a sweep.
+-- there is a record under the id of each entry
+abbrev pub HasEntries : KeepState → Records → Type 0
+HasEntries keep held = (id : ℕ) → has_entry id keep.entries ≡ true → IsSome (map.get held id)
+
+-- there is a record under exactly the ids of the entries and those that wait for a sweep
+abbrev pub HasJustHeld : KeepState → Records → Type 0
+HasJustHeld keep held = (id : ℕ) → is_some (map.get held id) ≡ is_held keep id
+
+-- Where the store tells its records, there is one under the id of each entry; where no others put any, under exactly the ids of the entries
+-- and those that wait for a sweep.
 abbrev pub IsStored : KeepState → Option Records → Type 0
-IsStored keep records = ForSome records (λ held. (id : ℕ) → is_some (map.get held id) ≡ is_held keep id)
+IsStored keep records = ForSome records (λ held. HasEntries keep held × (keep.shared ≡ false → HasJustHeld keep held))
+
+-- where the store tells its records, there is one under the id
+abbrev pub IsThereUnder : ℕ → Option Records → Type 0
+IsThereUnder id records = ForSome records (λ held. IsSome (map.get held id))
+
+-- where the store tells its records, there is none under the id
+abbrev pub IsNoneUnder : ℕ → Option Records → Type 0
+IsNoneUnder id records = ForSome records (λ held. map.get held id ≡ None)
+
+-- the records without the one under the id, if there is one
+abbrev pub without_id : ℕ → Option Records → Option Records
+without_id id records = option_map (λ held. map.remove held id) records
+
+-- The records are as they were; where others may put some, all but the one under the id are.
+abbrev pub IsFreed : Bool → ℕ → Option Records → Option Records → Type 0
+IsFreed shared id old new = (new ≡ old) ⊎ ((shared ≡ true) × (new ≡ without_id id old))
 
 -- the bytes under an id, where the store tells its records and there are some
 abbrev pub bytes_under : ℕ → Option Records → Option (List ℕ)

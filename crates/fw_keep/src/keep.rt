@@ -1,6 +1,6 @@
 //! The catalogue.
 ghost use Rattle.std.specs.Prelude.{◌≡◌, ◌↔◌, ◌+◌, ◌^◌, ◌<◌, ◌++◌, [], ◌∷◌, Option, true, false, IsTrue, IsErrOf, IfOk, OnOk, OnErr, option_map, Contains, List};
-ghost use Rattle.std.specs.List.{AllZip};
+ghost use Rattle.std.specs.List.{AllZip, AllByRecursion};
 ghost use Rattle.std.specs.Option.{option_copied};
 ghost use Rattle.std.specs.FinMap as map;
 ghost use Rattle.fw_outside.specs.Outside.{StayIfTold};
@@ -8,11 +8,13 @@ ghost use Rattle.fw_keep.specs.Faults.{keep_faults_after};
 ghost use Rattle.fw_record.specs.Spelling.{spelling, FitsItsCounts};
 ghost use Rattle.fw_record.specs.declared.record.Record.{Record as Spelled};
 ghost use Rattle.fw_keep.specs.declared.entry.Entry.{Entry as Write};
-ghost use Rattle.fw_keep.specs.Entry.{asked_beside, IsBased, is_in_flight_of, is_withdrawn, is_above, is_at};
-ghost use Rattle.fw_keep.specs.Catalogue.{IsCatalogue, has_entry, oldest, persisted, without};
+ghost use Rattle.fw_flow.specs.declared.choice.Stamps.{Stamps as TheStamps};
+ghost use Rattle.fw_keep.specs.Entry.{asked_beside, read_beside, IsBased, IsRecordOfEntry, is_in_flight_of, is_withdrawn, is_above, is_at};
+ghost use Rattle.fw_keep.specs.Catalogue.{IsCatalogue, AreDistinct, AreAcknowledged, ids_of, is_id_among, has_entry, oldest, persisted, without};
 ghost use Rattle.fw_keep.specs.Newest.{is_forgotten_below, newest_by};
 ghost use Rattle.fw_keep.specs.Joined.{FetchesOver, GivesJoined, bases_of};
-ghost use Rattle.fw_keep.specs.Stored.{Records, IsEmptyStore, IsStored, Sweeps, Fetches, IsToldUnder, GivesNoDamage, KeepsBytes, HoldsAs, GivesOnly};
+ghost use Rattle.fw_keep.specs.Named.{FetchesNamed, HoldsNamed, with_read};
+ghost use Rattle.fw_keep.specs.Stored.{Records, IsEmptyStore, IsStored, IsThereUnder, IsFreed, Sweeps, Fetches, IsToldUnder, GivesNoDamage, KeepsBytes, HoldsAs, GivesOnly};
 
 use crate::chain::chain_to;
 use crate::fetch::{entry_at, fetch_each, read};
@@ -20,8 +22,9 @@ use crate::going::{
     Above, Below, EventsAt, Going, Lost, Withdrawn, first_from, stay_from, take_out,
 };
 use crate::joined::joined;
+use crate::named::read_as;
 use crate::persist::{acknowledged, persist_first};
-use crate::put::put_new;
+use crate::put::{Target, add, entry_of, put_new};
 use crate::sweep::remove_waiting;
 use crate::{Entry, KeepFault, newest};
 use fw_flow::{Flow, NodeId, Stamps};
@@ -29,7 +32,7 @@ use fw_frontier::Front;
 use fw_outside::{OutFault, Store};
 use fw_record::Record;
 use fw_time::Stamp;
-use std::alloc::Global;
+use std::alloc::{AllocError, Global};
 use std::marker::Model;
 
 /// The writes of nodes in order of asking, and which bytes of the store are without an entry and wait for a sweep.
@@ -46,6 +49,8 @@ pub struct Keep {
     // It has room for the ids of the entries.
     waiting: Vec<u64>,
     refused: bool,
+    // The store may hold what others put.
+    shared: bool,
 }
 
 impl Model for Keep {
@@ -63,7 +68,7 @@ impl Model for Keep {
 impl Keep {
     /// No write yet.
     pub fn new(alloc: Global) -> Self
-        ensures nothing { result ≡ record { entries = []; next = 0; waiting = []; refused = false } }
+        ensures nothing { result ≡ record { entries = []; next = 0; waiting = []; refused = false; shared = false } }
         ensures stored { (records : Option Records) → IsEmptyStore records → IsStored result records }
     {
         Keep {
@@ -73,7 +78,35 @@ impl Keep {
             next: 0,
             waiting: Vec::new(alloc),
             refused: false,
+            shared: false,
         }
+    }
+
+    /// No write yet, of an engine that starts again: the ids of its earlier writes are below the next one, and these of them wait for
+    /// a sweep, where bytes are there. The store may hold what others put.
+    pub fn resumed(alloc: Global, next: u64, waiting: Vec<u64>) -> Self
+        requires distinct { AreDistinct waiting.items }
+        requires drawn { AllByRecursion (λ id. id < next) waiting.items }
+        ensures begun { result ≡ record { entries = []; next = next; waiting = waiting.items; refused = false; shared = true } }
+        ensures stored { (records : Option Records) → IsStored result records }
+    {
+        Keep {
+            alloc,
+            entries: Vec::new(alloc),
+            persisted: 0,
+            next,
+            waiting,
+            refused: false,
+            shared: true,
+        }
+    }
+
+    /// From now on the store may hold what others put: each call asks it before it puts or removes anything.
+    pub fn share(&mut self)
+        ensures shared { self.new ≡ record self.old { shared = true } }
+        ensures stored { (records : Option Records) → IsStored self.old records → IsStored self.new records }
+    {
+        self.shared = true;
     }
 
     /// The writes, in order of asking. Their ids ascend.
@@ -89,6 +122,13 @@ impl Keep {
         ensures { result ≡ self.now.next }
     {
         self.next
+    }
+
+    /// The ids of earlier writes whose bytes wait for a sweep, in order of their going.
+    pub fn waiting(&self) -> &[u64]
+        ensures { result.now ≡ self.now.waiting }
+    {
+        &self.waiting
     }
 
     /// Whether a write has this id.
@@ -109,7 +149,8 @@ impl Keep {
     /// Puts a record under the next id, as a write in flight. One of changes stands on the entry of its base, which must be there
     /// and a checkpoint of the same node, and is one deeper than that; any other stands on none. The stamps say where the node's
     /// events are and where they sent: the entry of a checkpoint keeps them, that of an event does not. The next id must be below
-    /// 2^63: `next_id` tells it, and each call of `ask` raises it by one.
+    /// 2^63: `next_id` tells it, and each call of `ask` raises it by one. Where the store may hold what others put, what is there under
+    /// the id is removed first.
     ///
     /// # Errors
     ///
@@ -134,15 +175,18 @@ impl Keep {
             ≡ option_map (λ held. map.insert held self.old.next (spelling what.now)) (K.view store.old).records) }
         ensures counted { OnOk result (FitsItsCounts what.now) }
 
-        // After a refusal entries and records are as they were.
+        // After a refusal entries are as they were, and so are the records; where the store may hold what others put, all but the one
+        // under the next id.
         ensures kept { OnErr result (self.new.entries ≡ self.old.entries) }
-        ensures stays { OnErr result ((K.view store.new).records ≡ (K.view store.old).records) }
+        ensures stays { self.old.shared ≡ false → OnErr result ((K.view store.new).records ≡ (K.view store.old).records) }
+        ensures freed { OnErr result (IsFreed self.old.shared self.old.next (K.view store.old).records (K.view store.new).records) }
 
         // In each case the bytes of the other entries stay.
         ensures bytes { KeepsBytes self.old.entries (K.view store.old).records (K.view store.new).records }
 
         ensures drawn { self.new.next ≡ self.old.next + 1 }
         ensures waiting { self.new.waiting ≡ self.old.waiting }
+        ensures shared { self.new.shared ≡ self.old.shared }
         ensures stored { IsStored self.new (K.view store.new).records }
         ensures given { (K.view store.new).given ≡ (K.view store.old).given }
 
@@ -156,12 +200,16 @@ impl Keep {
         if self.refused {
             return Err(KeepFault::NoMemory);
         }
+        let target = Target {
+            id,
+            shared: self.shared,
+        };
         let put = put_new(
             self.alloc,
             &mut self.entries,
             &mut self.waiting,
             store,
-            id,
+            target,
             what,
             stamps,
         );
@@ -316,7 +364,72 @@ impl Keep {
         Ok(joined(self.alloc, &under, own)?)
     }
 
-    /// Removes from the store the bytes that are without an entry, the last that came to wait first.
+    /// The record of a write that a root names, by its node and by a tag: 1 a whole checkpoint, 2 an event, 3 changes. The entries are
+    /// those of the writes that are named before it.
+    ///
+    /// # Errors
+    ///
+    /// `StoreFault` where the store fails, `Damaged` where the bytes that it gives spell no record of such a write in this flow, and
+    /// `NoMemory` where memory is refused, or was refused to a call that changes the catalogue. The store's records stay, where
+    /// it still tells them.
+    pub fn read_named<K: Store>(
+        &self,
+        flow: &Flow,
+        store: &mut K,
+        id: u64,
+        node: NodeId,
+        tag: u8,
+    ) -> Result<Record, KeepFault>
+        requires there { IsThereUnder id (K.view store.old).records }
+        ensures fetched { FetchesNamed flow.now self.now.entries id node tag (K.view store.new).given result }
+        ensures told { IsToldUnder id (K.view store.new).records result }
+        ensures put { (what : Spelled) → HoldsNamed flow.now self.now.entries (K.view store.new).records id node tag what
+            → GivesOnly what result }
+        ensures of_entry { (stamps : TheStamps) → IfOk result (λ what. IsRecordOfEntry flow.now
+            (read_beside self.now.entries id what stamps) what) }
+        ensures stays { StayIfTold (K.view store.old).records (K.view store.new).records }
+        ensures given_stays { IsErrOf result KeepFault.StoreFault → (K.view store.new).given ≡ (K.view store.old).given }
+        ensures faults { (K.view store.new).faults ≡ keep_faults_after result (K.view store.old).faults }
+        ensures refused { IsTrue self.now.refused → IsErrOf result KeepFault.NoMemory }
+    {
+        if self.refused {
+            return Err(KeepFault::NoMemory);
+        }
+        let mut bytes = Vec::new(self.alloc);
+        match store.get(id, &mut bytes) {
+            Ok(()) => read_as(self.alloc, flow, &self.entries, id, node, tag, bytes),
+            Err(OutFault::Failed) => Err(KeepFault::StoreFault),
+            Err(OutFault::NoMemory) => Err(KeepFault::NoMemory),
+        }
+    }
+
+    /// Adds the write of a record that was read, as the last one, acknowledged. The stamps are those of `ask`. Its id must be above those
+    /// of the writes, drawn, and not wait; all writes must be acknowledged.
+    ///
+    /// # Errors
+    ///
+    /// Memory is refused. Then all is as it was.
+    pub fn add_read(&mut self, id: u64, what: &Record, stamps: Stamps) -> Result<(), AllocError>
+        requires above { AllByRecursion (λ other. other < id) (ids_of self.old.entries) }
+        requires drawn { id < self.old.next }
+        requires few { self.old.next < 2 ^ 63 }
+        requires apart { is_id_among id self.old.waiting ≡ false }
+        requires based { IsBased self.old.entries what.now }
+        requires acknowledged { AreAcknowledged self.old.entries }
+        ensures added { OnOk result (self.new ≡ with_read id what.now stamps self.old) }
+        ensures kept { OnErr result (self.new ≡ self.old) }
+        ensures stored { (records : Option Records) → IsThereUnder id records → IsStored self.old records
+            → OnOk result (IsStored self.new records) }
+    {
+        let mut entry = entry_of(&self.entries, id, what, stamps)?;
+        entry.acknowledged = true;
+        add(&mut self.entries, &mut self.waiting, entry)?;
+        self.persisted = self.entries.len();
+        Ok(())
+    }
+
+    /// Removes from the store the bytes that are without an entry, the last that came to wait first. Where the store may hold what others
+    /// put, it is asked first whether they are there.
     ///
     /// # Errors
     ///
@@ -329,6 +442,7 @@ impl Keep {
         ensures kept { self.new.entries ≡ self.old.entries }
         ensures bytes { KeepsBytes self.old.entries (K.view store.old).records (K.view store.new).records }
         ensures drawn { self.new.next ≡ self.old.next }
+        ensures shared { self.new.shared ≡ self.old.shared }
         ensures stored { IsStored self.new (K.view store.new).records }
         ensures given { (K.view store.new).given ≡ (K.view store.old).given }
         ensures faults { (K.view store.new).faults ≡ keep_faults_after result (K.view store.old).faults }
@@ -339,7 +453,7 @@ impl Keep {
         if self.refused {
             return Err(KeepFault::NoMemory);
         }
-        match remove_waiting(&mut self.waiting, store) {
+        match remove_waiting(&mut self.waiting, store, self.shared) {
             Ok(()) => Ok(()),
             Err(OutFault::Failed) => Err(KeepFault::StoreFault),
             Err(OutFault::NoMemory) => {

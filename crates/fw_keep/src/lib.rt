@@ -2,7 +2,8 @@
 //! the store wait to be removed.
 //!
 //! The store is lent to each call that needs it. What it holds of a catalogue is said by `IsStored`: where it tells its
-//! records, there is one under exactly the ids of the entries and those that wait. Each call keeps that.
+//! records, there is one under exactly the ids of the entries and those that wait. Where the store may hold what others put
+//! (`Keep::share`, `Keep::resumed`), there is one under the id of each entry at least. Each call keeps that.
 #![tactic(auto)]
 
 mod chain;
@@ -13,9 +14,11 @@ mod fetch;
 mod going;
 mod joined;
 mod keep;
+mod named;
 mod newest;
 mod persist;
 mod put;
+mod remove;
 mod same;
 mod sweep;
 

@@ -1,18 +1,19 @@
 //! A record is put into a store, with its entry.
-ghost use Rattle.std.specs.Prelude.{◌≡◌, ◌+◌, ◌≤◌, ◌<◌, ◌^◌, ◌++◌, [], ◌∷◌, None, vec_len, IfOk, OnOk, OnErr, option_map};
+ghost use Rattle.std.specs.Prelude.{◌≡◌, ◌+◌, ◌≤◌, ◌<◌, ◌^◌, ◌++◌, [], ◌∷◌, false, vec_len, IfOk, OnOk, OnErr, option_map};
 ghost use Rattle.std.specs.Vec.{vec_capacity};
-ghost use Rattle.std.specs.Option.{ForSome};
 ghost use Rattle.std.specs.List.{AllByRecursion};
 ghost use Rattle.std.specs.FinMap as map;
 ghost use Rattle.fw_outside.specs.Outside.{faults_after};
 ghost use Rattle.fw_record.specs.Spelling.{spelling, FitsItsCounts};
 ghost use Rattle.fw_keep.specs.Catalogue.{AreAscending, AreNoDeeperThanIds, ids_of};
+ghost use Rattle.fw_keep.specs.Stored.{IsNoneUnder, IsFreed};
 ghost use Rattle.fw_keep.specs.Entry as spec;
 ghost use Rattle.fw_keep.specs.Entry.{asked_beside};
 
 use crate::Entry;
 use crate::copies::{base_of, node_of, written_of};
 use crate::fetch::entry_at;
+use crate::remove::remove_if_there;
 use fw_flow::Stamps;
 use fw_outside::{OutFault, Store};
 use fw_record::{Record, encode};
@@ -43,7 +44,12 @@ fn depth_on(entries: &[Entry], base: Option<u64>) -> u64
 }
 
 /// The entry of a record under an id, beside these earlier ones. The error is want of memory.
-fn entry_of(entries: &[Entry], id: u64, what: &Record, stamps: Stamps) -> Result<Entry, AllocError>
+pub(crate) fn entry_of(
+    entries: &[Entry],
+    id: u64,
+    what: &Record,
+    stamps: Stamps,
+) -> Result<Entry, AllocError>
     requires ascending { AreAscending (ids_of entries.now) }
     requires depths { AreNoDeeperThanIds entries.now }
     requires few { AllByRecursion (λ e. e.id < 2 ^ 63) entries.now }
@@ -61,7 +67,11 @@ fn entry_of(entries: &[Entry], id: u64, what: &Record, stamps: Stamps) -> Result
 }
 
 /// Adds an entry, and makes room for its id among those that wait. The error is want of memory.
-fn add(entries: &mut Vec<Entry>, waiting: &mut Vec<u64>, entry: Entry) -> Result<(), AllocError>
+pub(crate) fn add(
+    entries: &mut Vec<Entry>,
+    waiting: &mut Vec<u64>,
+    entry: Entry,
+) -> Result<(), AllocError>
     requires room { vec_len waiting.old + vec_len entries.old ≤ vec_capacity waiting.old }
     ensures added { OnOk result (entries.new.items ≡ entries.old.items ++ entry ∷ []) }
     ensures kept { OnErr result (entries.new.items ≡ entries.old.items) }
@@ -73,13 +83,35 @@ fn add(entries: &mut Vec<Entry>, waiting: &mut Vec<u64>, entry: Entry) -> Result
     Ok(())
 }
 
+/// The id under which a record is put, and whether others may have put one there.
+#[derive(Clone, Copy)]
+pub(crate) struct Target {
+    pub(crate) id: u64,
+    pub(crate) shared: bool,
+}
+
+/// Puts the bytes of a record under an id; where others may have put one there, that one is removed before.
+fn put_at<K: Store>(store: &mut K, target: Target, bytes: Vec<u8>) -> Result<(), OutFault>
+    requires fresh { target.shared ≡ false → IsNoneUnder target.id (K.view store.old).records }
+    ensures put { OnOk result ((K.view store.new).records
+        ≡ option_map (λ held. map.insert held target.id bytes.items) (K.view store.old).records) }
+    ensures freed { OnErr result (IsFreed target.shared target.id (K.view store.old).records (K.view store.new).records) }
+    ensures given { (K.view store.new).given ≡ (K.view store.old).given }
+    ensures faults { (K.view store.new).faults ≡ faults_after result (K.view store.old).faults }
+{
+    if target.shared {
+        remove_if_there(store, target.id)?;
+    }
+    store.put_vec(target.id, bytes)
+}
+
 /// Puts a record under an id, with its entry.
 pub(crate) fn put_new<K: Store>(
     alloc: Global,
     entries: &mut Vec<Entry>,
     waiting: &mut Vec<u64>,
     store: &mut K,
-    id: u64,
+    target: Target,
     what: &Record,
     stamps: Stamps,
 ) -> Result<(), OutFault>
@@ -87,22 +119,22 @@ pub(crate) fn put_new<K: Store>(
     requires ascending { AreAscending (ids_of entries.old.items) }
     requires depths { AreNoDeeperThanIds entries.old.items }
     requires few { AllByRecursion (λ e. e.id < 2 ^ 63) entries.old.items }
-    requires fresh { ForSome (K.view store.old).records (λ held. map.get held id ≡ None) }
-    ensures added { OnOk result (entries.new.items ≡ entries.old.items ++ asked_beside entries.old.items id what.now stamps ∷ []) }
+    requires fresh { target.shared ≡ false → IsNoneUnder target.id (K.view store.old).records }
+    ensures added { OnOk result (entries.new.items ≡ entries.old.items ++ asked_beside entries.old.items target.id what.now stamps ∷ []) }
     ensures kept { OnErr result (entries.new.items ≡ entries.old.items) }
     ensures waiting { waiting.new.items ≡ waiting.old.items }
     ensures room { vec_len waiting.new + vec_len entries.new ≤ vec_capacity waiting.new }
     ensures put { OnOk result ((K.view store.new).records
-        ≡ option_map (λ held. map.insert held id (spelling what.now)) (K.view store.old).records) }
+        ≡ option_map (λ held. map.insert held target.id (spelling what.now)) (K.view store.old).records) }
     ensures counted { OnOk result (FitsItsCounts what.now) }
-    ensures stays { OnErr result ((K.view store.new).records ≡ (K.view store.old).records) }
+    ensures freed { OnErr result (IsFreed target.shared target.id (K.view store.old).records (K.view store.new).records) }
     ensures given { (K.view store.new).given ≡ (K.view store.old).given }
     ensures faults { (K.view store.new).faults ≡ faults_after result (K.view store.old).faults }
 {
     let bytes = encode(alloc, what)?;
-    let entry = entry_of(entries, id, what, stamps)?;
+    let entry = entry_of(entries, target.id, what, stamps)?;
     add(entries, waiting, entry)?;
-    let put = store.put_vec(id, bytes);
+    let put = put_at(store, target, bytes);
     if put.is_err() {
         entries.pop();
     }

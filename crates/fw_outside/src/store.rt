@@ -63,7 +63,7 @@ pub trait Store {
     /// The store failed. The records stay, and a later call may succeed.
     fn has(&mut self, id: u64) -> Result<bool, Failed>
         ensures there { IfOk result (λ there. IfSome (view self.new).records (λ held. there ≡ is_some (map.get held id))) }
-        ensures records_stay { StayIfTold (view self.old).records (view self.new).records }
+        ensures records_stay { (view self.new).records ≡ (view self.old).records }
         ensures given_stays { (view self.new).given ≡ (view self.old).given }
         ensures faults { (view self.new).faults ≡ has_faults_after result (view self.old).faults };
 

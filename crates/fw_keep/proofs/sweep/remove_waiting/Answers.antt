@@ -5,18 +5,21 @@ use Rattle.fw_keep.proofs.IdLaws.{distinct-prefix}
 use Rattle.fw_keep.proofs.StoredLaws.{at-end, there-at, there-more, last-out, sweeps-more}
 use Rattle.fw_keep.proofs.sweep.remove_waiting.Goals as goal
 
-pub remove-requires : goal.remove-requires
-remove-requires g c =
+pub remove_one-requires : goal.remove_one-requires
+remove_one-requires g c =
     let at : slice_get c.loop-id.waiting.items (vec_len c.loop-id.waiting - 1) ≡ Some c.in-Some.id.now =
     at-end c.loop-id.waiting.items c.deref.result.now (vec_len c.loop-id.waiting) c.in-Some.id.now c.deref.ensures.value c.deref.ensures.len c.in-Some.ensures.value in
-    there-at c.loop-id.waiting.items (vec_len c.loop-id.waiting - 1) c.in-Some.id.now (g.K.Store.view c.loop-id.store).records at c.loop-id.invariant.there
+    record {
+      there = λ alone.
+          there-at c.loop-id.waiting.items (vec_len c.loop-id.waiting - 1) c.in-Some.id.now (g.K.Store.view c.loop-id.store).records at (c.loop-id.invariant.there alone);
+    }
 
 pub loop-id-preserved : goal.loop-id-preserved
 loop-id-preserved g c =
     let id = c.in-Some.id.now in
     let rest = c.pop.new.self.items in
     let before = (g.K.Store.view c.loop-id.store).records in
-    let after = (g.K.Store.view c.remove.new.self).records in
+    let after = (g.K.Store.view c.remove_one.new.store).records in
     let at : slice_get c.loop-id.waiting.items (vec_len c.loop-id.waiting - 1) ≡ Some c.in-Some.id.now =
     at-end c.loop-id.waiting.items c.deref.result.now (vec_len c.loop-id.waiting) c.in-Some.id.now c.deref.ensures.value c.deref.ensures.len c.in-Some.ensures.value in
     let parts : c.loop-id.waiting.items ≡ c.pop.new.self.items ++ c.in-Some.id.now ∷ [] =
@@ -24,10 +27,10 @@ loop-id-preserved g c =
     let distinct : AreDistinct (c.pop.new.self.items ++ c.in-Some.id.now ∷ []) = subst AreDistinct parts c.loop-id.invariant.distinct in
     record {
       distinct = distinct-prefix rest (id ∷ []) distinct;
-      there = there-more rest id before after distinct (subst (λ (ids : List ℕ). AreThere ids before) parts c.loop-id.invariant.there) c.in_ok-remove.ensures.removed;
+      there = λ alone. there-more rest id before after distinct (subst (λ (ids : List ℕ). AreThere ids before) parts (c.loop-id.invariant.there alone)) c.in_ok-remove_one.ensures.removed;
       swept = sweeps-more c.args.waiting.now.items (g.K.Store.view c.args.store.now).records rest id before after
-          (subst (λ (ids : List ℕ). Sweeps c.args.waiting.now.items (g.K.Store.view c.args.store.now).records ids before) parts c.loop-id.invariant.swept) c.in_ok-remove.ensures.removed;
+          (subst (λ (ids : List ℕ). Sweeps c.args.waiting.now.items (g.K.Store.view c.args.store.now).records ids before) parts c.loop-id.invariant.swept) c.in_ok-remove_one.ensures.removed;
       capacity = c.pop.ensures.capacity ∙ c.loop-id.invariant.capacity;
-      given = c.remove.ensures.given_stays ∙ c.loop-id.invariant.given;
-      faults = c.in_ok-remove.ensures.faults ∙ c.loop-id.invariant.faults;
+      given = c.remove_one.ensures.given ∙ c.loop-id.invariant.given;
+      faults = c.in_ok-remove_one.ensures.faults ∙ c.loop-id.invariant.faults;
     }

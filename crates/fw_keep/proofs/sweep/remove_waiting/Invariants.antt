@@ -1,4 +1,4 @@
-use Rattle.std.proofs.Common.{◌≡◌, vec_len}
+use Rattle.std.proofs.Common.{◌≡◌, false, vec_len}
 use Rattle.std.specs.Vec.{vec_capacity}
 use Rattle.fw_keep.specs.Catalogue.{AreDistinct}
 use Rattle.fw_keep.specs.Stored.{AreThere, Sweeps}
@@ -7,7 +7,7 @@ use Rattle.fw_keep.proofs.sweep.remove_waiting.Given as goal
 abbrev pub invariant-loop-id : goal.invariant-loop-id
 invariant-loop-id g l = record {
   distinct : AreDistinct l.waiting.items;
-  there : AreThere l.waiting.items (g.K.Store.view l.store).records;
+  there : l.shared ≡ false → AreThere l.waiting.items (g.K.Store.view l.store).records;
   swept : Sweeps l.initial.waiting.items (g.K.Store.view l.initial.store).records l.waiting.items (g.K.Store.view l.store).records;
   capacity : vec_capacity l.waiting ≡ vec_capacity l.initial.waiting;
   given : (g.K.Store.view l.store).given ≡ (g.K.Store.view l.initial.store).given;

@@ -20,7 +20,7 @@ invariant_of-self g c =
     let goes = g.G.Going.goes c.args.going.now in
     let old = keep_state_of c.self.inside in
     record {
-      catalogue = subst IsCatalogue (sym (same-state _ (without goes old) c.take_out.ensures.entries refl c.take_out.ensures.waiting refl)) (catalogue-without goes old c.self.invariant.catalogue);
+      catalogue = subst IsCatalogue (sym (same-state _ (without goes old) c.take_out.ensures.entries refl c.take_out.ensures.waiting refl refl)) (catalogue-without goes old c.self.invariant.catalogue);
       persisted = subst (λ (es : List Entry). IsAcknowledgedUpTo c.acknowledged-self-inside.result es) c.deref.ensures.value c.acknowledged-self-inside.ensures;
       room = c.take_out.ensures.room;
     }
@@ -29,5 +29,5 @@ pub returns-clause-stored : goal.returns-clause-stored
 returns-clause-stored g c =
     let goes = g.G.Going.goes c.args.going.now in
     let old = keep_state_of c.self.inside in
-    λ all stored. subst (λ (k : KeepState). IsStored k all) (sym (same-state _ (without goes old) c.take_out.ensures.entries refl c.take_out.ensures.waiting refl))
+    λ all stored. subst (λ (k : KeepState). IsStored k all) (sym (same-state _ (without goes old) c.take_out.ensures.entries refl c.take_out.ensures.waiting refl refl))
     (stored-without goes old all (subst (λ (k : KeepState). IsStored k all) (sym c.self.view_is) stored))

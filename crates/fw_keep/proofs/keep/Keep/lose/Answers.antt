@@ -19,7 +19,7 @@ invariant_of-self c =
     let old = keep_state_of c.self.inside in
     let none : AllByRecursion (λ (e : Entry). is_in_flight_of c.args.node e ≡ false) (take c.self.inside.persisted c.self.inside.entries.items) = none_lost c.args.node (take c.self.inside.persisted c.self.inside.entries.items) c.self.invariant.persisted.first in
     record {
-      catalogue = subst IsCatalogue (sym (same-state _ (without goes old) c.take_out.ensures.entries refl c.take_out.ensures.waiting refl)) (catalogue-without goes old c.self.invariant.catalogue);
+      catalogue = subst IsCatalogue (sym (same-state _ (without goes old) c.take_out.ensures.entries refl c.take_out.ensures.waiting refl refl)) (catalogue-without goes old c.self.invariant.catalogue);
       persisted = subst (λ (es : List Entry). IsAcknowledgedUpTo c.self.inside.persisted es) (sym c.take_out.ensures.entries)
           (left_parted goes c.self.inside.persisted c.self.inside.persisted c.self.inside.entries.items (omega arith) none c.self.invariant.persisted);
       room = c.take_out.ensures.room;
@@ -29,5 +29,5 @@ pub returns-clause-stored : goal.returns-clause-stored
 returns-clause-stored c =
     let goes = is_in_flight_of c.args.node in
     let old = keep_state_of c.self.inside in
-    λ all stored. subst (λ (k : KeepState). IsStored k all) (sym (same-state _ (without goes old) c.take_out.ensures.entries refl c.take_out.ensures.waiting refl))
+    λ all stored. subst (λ (k : KeepState). IsStored k all) (sym (same-state _ (without goes old) c.take_out.ensures.entries refl c.take_out.ensures.waiting refl refl))
     (stored-without goes old all (subst (λ (k : KeepState). IsStored k all) (sym c.self.view_is) stored))

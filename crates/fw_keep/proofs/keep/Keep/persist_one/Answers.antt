@@ -11,7 +11,7 @@ pub invariant_of-self : goal.invariant_of-self
 invariant_of-self c =
     let old = keep_state_of c.self.inside in
     record {
-      catalogue = subst IsCatalogue (sym (same-state _ (record old { entries = persisted old.entries }) c.persist_first.ensures.acknowledged refl refl refl)) (catalogue-persisted old c.self.invariant.catalogue);
+      catalogue = subst IsCatalogue (sym (same-state _ (record old { entries = persisted old.entries }) c.persist_first.ensures.acknowledged refl refl refl refl)) (catalogue-persisted old c.self.invariant.catalogue);
       persisted = c.persist_first.ensures.known;
       room = omega (arith, length-persisted old.entries c.persist_first.new.entries.items c.persist_first.ensures.acknowledged, c.persist_first.new.entries.ok.0, c.self.inside.entries.ok.0, c.self.invariant.room);
     }
@@ -19,5 +19,5 @@ invariant_of-self c =
 pub returns-clause-stored : goal.returns-clause-stored
 returns-clause-stored c =
     let old = keep_state_of c.self.inside in
-    λ all stored. subst (λ (k : KeepState). IsStored k all) (sym (same-state _ (record old { entries = persisted old.entries }) c.persist_first.ensures.acknowledged refl refl refl))
+    λ all stored. subst (λ (k : KeepState). IsStored k all) (sym (same-state _ (record old { entries = persisted old.entries }) c.persist_first.ensures.acknowledged refl refl refl refl))
     (stored-persisted old all (subst (λ (k : KeepState). IsStored k all) (sym c.self.view_is) stored))

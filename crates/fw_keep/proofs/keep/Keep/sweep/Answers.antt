@@ -8,17 +8,17 @@ use Rattle.fw_keep.proofs.StoredLaws.{stored-waiting, stored-swept}
 use Rattle.fw_keep.proofs.keep.Keep.sweep.Goals as goal
 
 pub remove_waiting-requires-clause-there : goal.remove_waiting-requires-clause-there
-remove_waiting-requires-clause-there g c =
+remove_waiting-requires-clause-there g c = λ alone.
     let all = (g.K.Store.view c.args.store.now).records in
-    stored-waiting (keep_state_of c.self.inside) all (subst (λ (k : KeepState). IsStored k all) (sym c.self.view_is) c.requires.stored)
+    stored-waiting (keep_state_of c.self.inside) all (subst (λ (k : KeepState). IsStored k all) (sym c.self.view_is) c.requires.stored) alone
 
 pub invariant_of-self-in-Err-Failed : goal.invariant_of-self-in-Err-Failed
 invariant_of-self-in-Err-Failed g c =
-    sound-swept c.self.inside _ _ _ c.self.invariant c.remove_waiting.ensures.swept refl refl refl c.remove_waiting.ensures.capacity
+    sound-swept c.self.inside _ _ _ c.self.invariant c.remove_waiting.ensures.swept refl refl refl refl c.remove_waiting.ensures.capacity
 
 pub invariant_of-self-in-Err-NoMemory : goal.invariant_of-self-in-Err-NoMemory
 invariant_of-self-in-Err-NoMemory g c =
-    sound-swept c.self.inside _ _ _ c.self.invariant c.remove_waiting.ensures.swept refl refl refl c.remove_waiting.ensures.capacity
+    sound-swept c.self.inside _ _ _ c.self.invariant c.remove_waiting.ensures.swept refl refl refl refl c.remove_waiting.ensures.capacity
 
 pub returns-in-Ok-clause-stored : goal.returns-in-Ok-clause-stored
 returns-in-Ok-clause-stored g c =

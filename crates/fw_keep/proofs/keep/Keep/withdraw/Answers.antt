@@ -21,7 +21,7 @@ invariant_of-self c =
     let old = keep_state_of c.self.inside in
     let none : AllByRecursion (λ (e : Entry). is_withdrawn c.args.id e ≡ false) (take (max c.self.inside.persisted c.first_from.result) c.self.inside.entries.items) = none_withdrawn c.args.id c.self.inside.persisted c.first_from.result c.self.inside.entries.items c.self.invariant.persisted.first (rw c.deref.ensures.value at c.first_from.ensures.below) in
     record {
-      catalogue = subst IsCatalogue (sym (same-state _ (without goes old) c.take_out.ensures.entries refl c.take_out.ensures.waiting refl)) (catalogue-without goes old c.self.invariant.catalogue);
+      catalogue = subst IsCatalogue (sym (same-state _ (without goes old) c.take_out.ensures.entries refl c.take_out.ensures.waiting refl refl)) (catalogue-without goes old c.self.invariant.catalogue);
       persisted = subst (λ (es : List Entry). IsAcknowledgedUpTo c.self.inside.persisted es) (sym c.take_out.ensures.entries)
           (left_parted goes c.self.inside.persisted (max c.self.inside.persisted c.first_from.result) c.self.inside.entries.items (omega arith) none c.self.invariant.persisted);
       room = c.take_out.ensures.room;
@@ -31,5 +31,5 @@ pub returns-clause-stored : goal.returns-clause-stored
 returns-clause-stored c =
     let goes = is_withdrawn c.args.id in
     let old = keep_state_of c.self.inside in
-    λ all stored. subst (λ (k : KeepState). IsStored k all) (sym (same-state _ (without goes old) c.take_out.ensures.entries refl c.take_out.ensures.waiting refl))
+    λ all stored. subst (λ (k : KeepState). IsStored k all) (sym (same-state _ (without goes old) c.take_out.ensures.entries refl c.take_out.ensures.waiting refl refl))
     (stored-without goes old all (subst (λ (k : KeepState). IsStored k all) (sym c.self.view_is) stored))

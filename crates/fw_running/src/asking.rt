@@ -4,7 +4,7 @@ ghost use Rattle.fw_running.specs.Faults.{faults_after_step};
 ghost use Rattle.fw_keep.specs.Entry.{IsBased};
 ghost use Rattle.fw_keep.specs.Stored.{IsStored};
 ghost use Rattle.fw_running.specs.Steps.{IsUndamaged};
-ghost use Rattle.fw_running.specs.Logging.{ChangesKeep, IsAsked, IsNotAsked};
+ghost use Rattle.fw_running.specs.Logging.{ChangesKeep, IsAsked, IsAskRefused};
 
 use crate::{EngineFault, Running};
 use fw_flow::Stamps;
@@ -29,7 +29,7 @@ impl Running {
         ensures stored { IsStored self.new.parts.keep (K.view store.new).records }
         ensures asked { OnOk result (IsAsked what.now stamps self.old.parts.keep.entries self.new.parts.keep.entries
             (K.view store.old).records (K.view store.new).records) }
-        ensures stays { OnErr result (IsNotAsked self.old.parts.keep.entries self.new.parts.keep.entries
+        ensures stays { OnErr result (IsAskRefused self.old.parts.keep self.new.parts.keep
             (K.view store.old).records (K.view store.new).records) }
         ensures given { (K.view store.new).given ≡ (K.view store.old).given }
         ensures faults { (K.view store.new).faults ≡ faults_after_step result (K.view store.old).faults }

@@ -1,5 +1,5 @@
 -- What follows from what a step answers.
-use Rattle.std.proofs.Common.{◌≡◌, ℕ, Bool, true, false, Option, Some, None, Result, Ok, Err, refl, subst, sym, ap, ◌∙◌}
+use Rattle.std.proofs.Common.{◌≡◌, inl, ℕ, Bool, true, false, Option, Some, None, Result, Ok, Err, refl, subst, sym, ap, ◌∙◌}
 use Rattle.std.specs.FinMap as map_of
 use Rattle.std.specs.Prelude.{IfOk, IsErrOf, OnOk, OnErr, is_some, option_map}
 use Rattle.fw_flow.specs.declared.choice.Stamps.{Stamps}
@@ -101,6 +101,10 @@ no_damage {T} result id u e = subst (λ (r : Result T EngineFault). IsUndamaged 
 pub mapped-tells : (change : Records → Records) (before after : Option Records) → after ≡ option_map change before → is_some after ≡ is_some before
 mapped-tells change None after e = ap (λ (r : Option Records). is_some r) e
 mapped-tells change (Some held) after e = ap (λ (r : Option Records). is_some r) e
+
+-- where nothing is done at all, the asking may have been refused
+pub refused_none : (keep : KeepState) (records : Option Records) → IsAskRefused keep keep records records
+refused_none keep records = record { entries = refl; records = inl refl; bytes = λ e c. refl }
 
 pub asking-tells : {T : Type 0} (result : Result T EngineFault) (what : Record) (stamps : Stamps) (old new : KeepState) (before after : Option Records)
     → OnOk result (IsAsked what stamps old.entries new.entries before after) → OnErr result (IsAskRefused old new before after) → is_some after ≡ is_some before

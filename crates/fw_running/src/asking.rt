@@ -17,6 +17,7 @@ const IDS: u64 = 1 << 63;
 impl Running {
     /// A write is asked; one of changes on the entry of its base, which must be there (`Keep::ask`). That no id is left is
     /// answered as want of memory.
+    #[tactic(auto, using(crate::proofs::AnswerLaws::refused_none))]
     pub fn ask<K: Store>(
         &mut self,
         what: &Record,

@@ -29,7 +29,7 @@ use Rattle.fw_stands.proofs.EventTableLaws.{failed-idle, notices-can_be_taken}
 use Rattle.fw_running.specs.declared.running.Running.{Running}
 use Rattle.fw_running.specs.BroughtUp.{IsBroughtUp}
 use Rattle.fw_running.specs.Kept.{table_of, is_down}
-use Rattle.fw_running.specs.Logging.{ChangesKeep, IsNotAsked, LogsEvent}
+use Rattle.fw_running.specs.Logging.{ChangesKeep, IsAskRefused, LogsEvent}
 use Rattle.fw_running.specs.Stands.{Stands}
 use Rattle.fw_running.specs.declared.fault.EngineFault.{EngineFault}
 use Rattle.fw_running.specs.declared.fault.EngineFault.TheVariants as fault
@@ -181,7 +181,7 @@ notice_follows sys state p at t old up new before after s live found stands = re
 
 -- a fault of the store while the write of a notification is asked leaves the state
 pub notice-leaves : (T : Type 0) (sys : System) (old new : Running) (before after : Option Records) (state : Machine) (p : ℕ) (t : Stamp) (e : EngineFault)
-    → Stands sys old before state → ChangesKeep old new → IsNotAsked old.parts.keep.entries new.parts.keep.entries before after
+    → Stands sys old before state → ChangesKeep old new → IsAskRefused old.parts.keep new.parts.keep before after
     → IsUndamaged {T = T} (Err e) → AnswersNotice {T = T} sys state p t (Err e) new after
 notice-leaves T sys old new before after state p t fault.StoreFault s c n u = unasked-stands sys old new before after state s c n
 notice-leaves T sys old new before after state p t (fault.Damaged id) s c n u = absurd u

@@ -33,7 +33,7 @@ use Rattle.fw_progress.specs.Progress.{DeliversOne, IsInjected, IsNotified, Stan
 use Rattle.fw_progress.specs.Tally.{times_in, HasNoMore}
 use Rattle.fw_progress.proofs.TallyLaws.{is_eq-same}
 use Rattle.fw_rollback.specs.Edges.{on_edge}
-use Rattle.fw_running.specs.Logging.{ChangesKeep, IsAsked, IsNotAsked}
+use Rattle.fw_running.specs.Logging.{ChangesKeep, IsAsked, IsAskRefused}
 use Rattle.fw_running.specs.declared.running.Running.{Running}
 use Rattle.fw_running.specs.Kept.{queue_at, table_of, source_of, output_of, with_tables}
 use Rattle.fw_running.specs.Places.{IsPut}
@@ -200,7 +200,7 @@ owing-notified old traces progress p at sent s t q c =
 pub shaped-asked : {T E : Type 0} (result : Result T E) (old new : Running) (p : ℕ) (event : Logged) (stamps : Stamps) (before after : Option Records)
     → IsShaped old → ChangesKeep old new → in_domain (bounds_of old.flow p) (stamp_of_event event) ≡ true
     → OnOk result (IsAsked (tagged.Event p event) stamps old.parts.keep.entries new.parts.keep.entries before after)
-    → OnErr result (IsNotAsked old.parts.keep.entries new.parts.keep.entries before after) → IsShaped new
+    → OnErr result (IsAskRefused old.parts.keep new.parts.keep before after) → IsShaped new
 shaped-asked (Ok x) old new p event stamps before after s c at a n =
     subst IsShaped (sym c) (shaped-keep old new.parts.keep s
     (subst (AllByRecursion (λ (e : Entry). IsWrittenOf old.flow e.node e.written)) (sym a.entries)

@@ -22,7 +22,7 @@ ghost use Rattle.fw_rollback.specs.Tables.{table_at};
 ghost use Rattle.fw_rollback.specs.Edges.{on_edge};
 ghost use Rattle.fw_stands.specs.Events.{asked_of_queue, next_queued};
 ghost use Rattle.fw_running.specs.Kept.{queue_at, table_of, is_down, with_tables};
-ghost use Rattle.fw_running.specs.Logging.{ChangesKeep, IsNotAsked, LogsEvent};
+ghost use Rattle.fw_running.specs.Logging.{ChangesKeep, IsAskRefused, LogsEvent};
 ghost use Rattle.fw_running.specs.Shaped.{IsShaped};
 ghost use Rattle.fw_running.specs.Steps.{PartAnswers, StepAnswers};
 ghost use Rattle.fw_running.specs.Ready.{CanDeliver};
@@ -131,7 +131,7 @@ fn log_delivery<K: Store>(
     ensures shaped { IsShaped running.new }
     ensures logged { OnOk result (LogsEvent running.old.flow node (logged.Deliver edge at.now rec)
         running.old.parts.keep.entries running.new.parts.keep.entries (K.view store.old).records (K.view store.new).records) }
-    ensures stays { OnErr result (IsNotAsked running.old.parts.keep.entries running.new.parts.keep.entries
+    ensures stays { OnErr result (IsAskRefused running.old.parts.keep running.new.parts.keep
         (K.view store.old).records (K.view store.new).records) }
     ensures part { PartAnswers K.view (policy_of running.old.flow node ≡ policy.Full) running.old store.old result running.new store.new }
 {

@@ -9,7 +9,7 @@ ghost use Rattle.fw_keep.specs.Stored.{IsStored};
 ghost use Rattle.fw_stands.specs.Entries.{HasRecOf64Bits};
 ghost use Rattle.fw_running.specs.Shaped.{IsShaped};
 ghost use Rattle.fw_running.specs.Steps.{IsUndamaged};
-ghost use Rattle.fw_running.specs.Logging.{ChangesKeep, IsNotAsked, IsEventAsked};
+ghost use Rattle.fw_running.specs.Logging.{ChangesKeep, IsAskRefused, IsEventAsked};
 
 use fw_flow::{NodeId, Policy};
 use fw_keep::no_stamps;
@@ -39,7 +39,7 @@ pub(crate) fn log_event<K: Store>(
     ensures stored { IsStored running.new.parts.keep (K.view store.new).records }
     ensures logged { OnOk result (IsEventAsked node event running.old.parts.keep.entries running.new.parts.keep.entries
         (K.view store.old).records (K.view store.new).records) }
-    ensures stays { OnErr result (IsNotAsked running.old.parts.keep.entries running.new.parts.keep.entries
+    ensures stays { OnErr result (IsAskRefused running.old.parts.keep running.new.parts.keep
         (K.view store.old).records (K.view store.new).records) }
     ensures given { (K.view store.new).given ≡ (K.view store.old).given }
     ensures faults { (K.view store.new).faults ≡ faults_after_step result (K.view store.old).faults }

@@ -15,7 +15,7 @@ ghost use Rattle.fw_progress.specs.Progress.{CanSend};
 ghost use Rattle.fw_rollback.specs.Tables.{table_at};
 ghost use Rattle.fw_running.specs.BroughtUp.{IsBroughtUp};
 ghost use Rattle.fw_running.specs.Kept.{table_of, with_tables};
-ghost use Rattle.fw_running.specs.Logging.{ChangesKeep, IsNotAsked, LogsEvent};
+ghost use Rattle.fw_running.specs.Logging.{ChangesKeep, IsAskRefused, LogsEvent};
 ghost use Rattle.fw_running.specs.Shaped.{IsShaped};
 ghost use Rattle.fw_running.specs.Steps.{PartAnswers, StaysShaped, StepAnswers};
 ghost use Rattle.fw_events.specs.AfterEvent.{TakesEvent};
@@ -150,7 +150,7 @@ fn log_notice<K: Store>(
     ensures shaped { IsShaped running.new }
     ensures logged { OnOk result (LogsEvent running.old.flow node (logged.Notify at.now)
         running.old.parts.keep.entries running.new.parts.keep.entries (K.view store.old).records (K.view store.new).records) }
-    ensures stays { OnErr result (IsNotAsked running.old.parts.keep.entries running.new.parts.keep.entries
+    ensures stays { OnErr result (IsAskRefused running.old.parts.keep running.new.parts.keep
         (K.view store.old).records (K.view store.new).records) }
     ensures part { PartAnswers K.view (policy_of running.old.flow node ≡ policy.Full) running.old store.old result running.new store.new }
 {

@@ -32,7 +32,7 @@ use Rattle.fw_examples.specs.RunningTotal.{alike, come_back, total_node, total_f
 
 -- the state of a catalogue of two writes, of which no bytes wait
 abbrev pub catalogue_of : List Entry → KeepState
-catalogue_of entries = record { entries = entries; next = 2; waiting = []; refused = false }
+catalogue_of entries = record { entries = entries; next = 2; waiting = []; refused = false; shared = false }
 
 -- ---- a select that logged two events
 

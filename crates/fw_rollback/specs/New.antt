@@ -29,7 +29,7 @@ pub record AreNew (flow : Dataflow) (batches : List (ℕ × List (List Rec))) (w
   pub tables : AreFirstTables flow (length flow.nodes) parts.tables
   pub queues : parts.queues ≡ replicate (length flow.edges) nothing_there
   pub logs : parts.logs ≡ replicate (length flow.edges) nothing_there
-  pub keep : parts.keep ≡ record { entries = []; next = 0; waiting = []; refused = false }
+  pub keep : parts.keep ≡ record { entries = []; next = 0; waiting = []; refused = false; shared = false }
   pub sources : parts.sources ≡ map unused_source (batches_of_nodes flow batches)
   pub outputs : parts.outputs ≡ record { outputs = replicate (length flow.nodes) new_output; refused = false }
   pub low : parts.low ≡ watermarks

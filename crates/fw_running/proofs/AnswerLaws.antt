@@ -1,5 +1,5 @@
 -- What follows from what a step answers.
-use Rattle.std.proofs.Common.{◌≡◌, ℕ, Bool, true, false, List, Option, Some, None, Result, Ok, Err, refl, subst, sym, ap, ◌∙◌}
+use Rattle.std.proofs.Common.{◌≡◌, inl, ℕ, Bool, true, false, Option, Some, None, Result, Ok, Err, refl, subst, sym, ap, ◌∙◌}
 use Rattle.std.specs.FinMap as map_of
 use Rattle.std.specs.Prelude.{IfOk, IsErrOf, OnOk, OnErr, is_some, option_map}
 use Rattle.fw_flow.specs.declared.choice.Stamps.{Stamps}
@@ -7,8 +7,9 @@ use Rattle.fw_flow.specs.declared.step.Step.{Step}
 use Rattle.fw_flow.specs.declared.step.Step.TheVariants.{Inject, Deliver, Notify, Progress as ProgressStep, Checkpoint, Persist, Fail, Recover, Collect, Ack}
 use Rattle.fw_flow.specs.Dataflow.{System}
 use Rattle.fw_model.specs.Machine.{Machine}
-use Rattle.fw_keep.specs.declared.entry.Entry.{Entry}
+use Rattle.fw_keep.specs.Catalogue.{KeepState}
 use Rattle.fw_keep.specs.Stored.{Records}
+use Rattle.fw_keep.proofs.StoredLaws.{freed-mapped}
 use Rattle.fw_record.specs.declared.record.Record.{Record}
 use Rattle.fw_record.specs.Spelling.{spelling}
 use Rattle.fw_running.specs.declared.fault.EngineFault.{EngineFault}
@@ -16,7 +17,7 @@ use Rattle.fw_running.specs.declared.fault.EngineFault.TheVariants as fault
 use Rattle.fw_running.specs.declared.running.Running.{Running}
 use Rattle.fw_running.specs.declared.stepped.Stepped.{Stepped}
 use Rattle.fw_running.specs.Faults.{is_refusal}
-use Rattle.fw_running.specs.Logging.{IsAsked, IsNotAsked}
+use Rattle.fw_running.specs.Logging.{IsAsked, IsAskRefused}
 use Rattle.fw_running.specs.Shaped.{IsShaped}
 use Rattle.fw_running.specs.Stands.{Stands}
 use Rattle.fw_running.specs.Steps.{Follows, FollowsFirst, FirstMayCall, Trusts, HasOutcome, IsLeftBy, IsStepEnabled, ShowsOutcome, Answers, AnswersFirst, TakesStep, TakesFirstStep, StaysShaped, IsUndamaged, outcome_of}
@@ -101,7 +102,13 @@ pub mapped-tells : (change : Records → Records) (before after : Option Records
 mapped-tells change None after e = ap (λ (r : Option Records). is_some r) e
 mapped-tells change (Some held) after e = ap (λ (r : Option Records). is_some r) e
 
-pub asking-tells : {T : Type 0} (result : Result T EngineFault) (what : Record) (stamps : Stamps) (old new : List Entry) (before after : Option Records)
-    → OnOk result (IsAsked what stamps old new before after) → OnErr result (IsNotAsked old new before after) → is_some after ≡ is_some before
+-- where nothing is done at all, the asking may have been refused
+pub refused_none : (keep : KeepState) (records : Option Records) → IsAskRefused keep keep records records
+refused_none keep records = record { entries = refl; records = inl refl; bytes = λ e c. refl }
+
+pub asking-tells : {T : Type 0} (result : Result T EngineFault) (what : Record) (stamps : Stamps) (old new : KeepState) (before after : Option Records)
+    → OnOk result (IsAsked what stamps old.entries new.entries before after) → OnErr result (IsAskRefused old new before after) → is_some after ≡ is_some before
 asking-tells (Ok x) what stamps old new before after a n = mapped-tells (λ held. map_of.insert held a.id (spelling what)) before after a.records
-asking-tells (Err e) what stamps old new before after a n = ap (λ (r : Option Records). is_some r) n.records
+asking-tells (Err e) what stamps old new before after a n =
+    let freed = freed-mapped old.shared old.next before after n.records in
+    mapped-tells freed.0 before after freed.1

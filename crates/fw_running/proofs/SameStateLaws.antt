@@ -8,16 +8,18 @@ use Rattle.fw_model.specs.Machine.{Machine, events, is_failed}
 use Rattle.fw_model.specs.Steps.{StepsTo, idle}
 use Rattle.fw_keep.specs.Catalogue.{KeepState}
 use Rattle.fw_keep.specs.Stored.{Records}
+use Rattle.fw_keep.proofs.StoredLaws.{freed-mapped}
 use Rattle.fw_progress.specs.History.{StandsForHistory}
 use Rattle.fw_progress.specs.Progress.{Standing}
 use Rattle.fw_stands.specs.Entries.{AreBasesOf}
 use Rattle.fw_stands.specs.Written.{AreEntriesOf, AreStored, uncollected}
+use Rattle.fw_stands.proofs.EntrySteps.{kept_bytes_are_stored}
 use Rattle.fw_running.specs.declared.fault.EngineFault.{EngineFault}
 use Rattle.fw_running.specs.declared.running.Running.{Running}
 use Rattle.fw_running.specs.declared.stepped.Stepped.{Stepped}
 use Rattle.fw_running.specs.Held.{RecoversHeld, StandsHeld}
 use Rattle.fw_running.specs.Kept.{is_down}
-use Rattle.fw_running.specs.Logging.{with_keep, ChangesKeep, IsNotAsked}
+use Rattle.fw_running.specs.Logging.{with_keep, ChangesKeep, IsAskRefused}
 use Rattle.fw_running.specs.ReadyState.{ReadyState}
 use Rattle.fw_running.specs.Stands.{Stands, StandsApart}
 use Rattle.fw_running.specs.Steps.{Follows, ShowsOutcome, TakesStep}
@@ -117,12 +119,13 @@ pub told-recovers : (old new : Running) (before after : Option Records) (result 
     → RecoversHeld old after result new after → RecoversHeld old before result new after
 told-recovers old new before after result stay t sys state s = t sys state (told-held sys old before after state stay s)
 
--- where nothing is asked and nothing but the catalogue is changed, the engine stands for the same state
+-- where the asking of a write is refused and nothing but the catalogue is changed, the engine stands for the same state
 pub unasked-stands : (sys : System) (old new : Running) (before after : Option Records) (state : Machine) → Stands sys old before state → ChangesKeep old new
-    → IsNotAsked old.parts.keep.entries new.parts.keep.entries before after → Stands sys new after state
+    → IsAskRefused old.parts.keep new.parts.keep before after → Stands sys new after state
 unasked-stands sys old new before after state s c n =
+    let freed = freed-mapped old.parts.keep.shared old.parts.keep.next before after n.records in
     subst (λ (r : Running). Stands sys r after state) (sym c) (keep-stands sys old new.parts.keep before after state s n.entries
-    (subst (λ all. AreStored sys state all old.parts.keep.entries (uncollected state)) (sym n.records) s.apart.stored))
+    (kept_bytes_are_stored sys state old.parts.keep.entries (uncollected state) before after freed.0 freed.1 n.bytes s.apart.stored))
 
 -- a step that is not enabled leaves all
 pub idle-follows : (sys : System) (running : Running) (records : Option Records) (state : Machine) (step : Step) → Stands sys running records state

@@ -11,7 +11,7 @@ use Rattle.fw_record.specs.Spelling.{spelling}
 use Rattle.fw_keep.specs.declared.entry.Entry.{Entry}
 use Rattle.fw_keep.specs.Catalogue.{KeepState}
 use Rattle.fw_keep.specs.Entry.{asked_beside}
-use Rattle.fw_keep.specs.Stored.{Records, KeepsBytes}
+use Rattle.fw_keep.specs.Stored.{Records, IsFreed, KeepsBytes}
 use Rattle.fw_stands.specs.Entries.{HasRecOf64Bits}
 use Rattle.fw_running.specs.declared.running.Running.{Running}
 
@@ -35,6 +35,13 @@ pub record IsAsked (what : Record) (stamps : Stamps) (old new : List Entry) (bef
 pub record IsNotAsked (old new : List Entry) (before after : Option Records) : Type 0 where
   pub entries : new ≡ old
   pub records : after ≡ before
+
+-- The asking of a write is refused: no entry is added, the bytes of the entries stay, and the records are as they were; where the store may
+-- hold what others put, all but the one under the next id are.
+pub record IsAskRefused (old new : KeepState) (before after : Option Records) : Type 0 where
+  pub entries : new.entries ≡ old.entries
+  pub records : IsFreed old.shared old.next before after
+  pub bytes : KeepsBytes old.entries before after
 
 -- The write of this event of node p is asked.
 pub record IsEventAsked (p : ℕ) (event : Event) (old new : List Entry) (before after : Option Records) : Type 0 where

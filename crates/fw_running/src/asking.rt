@@ -4,7 +4,7 @@ ghost use Rattle.fw_running.specs.Faults.{faults_after_step};
 ghost use Rattle.fw_keep.specs.Entry.{IsBased};
 ghost use Rattle.fw_keep.specs.Stored.{IsStored};
 ghost use Rattle.fw_running.specs.Steps.{IsUndamaged};
-ghost use Rattle.fw_running.specs.Logging.{ChangesKeep, IsAsked, IsNotAsked};
+ghost use Rattle.fw_running.specs.Logging.{ChangesKeep, IsAsked, IsAskRefused};
 
 use crate::{EngineFault, Running};
 use fw_flow::Stamps;
@@ -17,6 +17,7 @@ const IDS: u64 = 1 << 63;
 impl Running {
     /// A write is asked; one of changes on the entry of its base, which must be there (`Keep::ask`). That no id is left is
     /// answered as want of memory.
+    #[tactic(auto, using(crate::proofs::AnswerLaws::refused_none))]
     pub fn ask<K: Store>(
         &mut self,
         what: &Record,
@@ -29,7 +30,7 @@ impl Running {
         ensures stored { IsStored self.new.parts.keep (K.view store.new).records }
         ensures asked { OnOk result (IsAsked what.now stamps self.old.parts.keep.entries self.new.parts.keep.entries
             (K.view store.old).records (K.view store.new).records) }
-        ensures stays { OnErr result (IsNotAsked self.old.parts.keep.entries self.new.parts.keep.entries
+        ensures stays { OnErr result (IsAskRefused self.old.parts.keep self.new.parts.keep
             (K.view store.old).records (K.view store.new).records) }
         ensures given { (K.view store.new).given ≡ (K.view store.old).given }
         ensures faults { (K.view store.new).faults ≡ faults_after_step result (K.view store.old).faults }

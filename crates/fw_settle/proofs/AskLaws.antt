@@ -27,6 +27,7 @@ use Rattle.fw_record.specs.declared.record.Record.{Record}
 use Rattle.fw_record.specs.Spelling.{spelling}
 use Rattle.fw_keep.specs.declared.entry.Entry.{Entry}
 use Rattle.fw_keep.specs.Catalogue.{KeepState, AreInFlight}
+use Rattle.fw_keep.proofs.StoredLaws.{freed-mapped}
 use Rattle.fw_keep.specs.Entry.{asked_beside, base_of_record}
 use Rattle.fw_keep.specs.Stored.{Records, IsStored, KeepsBytes}
 use Rattle.fw_progress.specs.Settle.{has_more, is_growing, IsGrownAt}
@@ -38,7 +39,7 @@ use Rattle.fw_stands.proofs.NodeCheckpoints.{asks_at_progress}
 use Rattle.fw_running.specs.declared.fault.EngineFault.{EngineFault}
 use Rattle.fw_running.specs.declared.running.Running.{Running}
 use Rattle.fw_running.specs.Faults.{faults_after_step}
-use Rattle.fw_running.specs.Logging.{with_keep, ChangesKeep, IsAsked, IsNotAsked}
+use Rattle.fw_running.specs.Logging.{with_keep, ChangesKeep, IsAsked, IsNotAsked, IsAskRefused}
 use Rattle.fw_running.specs.Stands.{Stands}
 use Rattle.fw_running.specs.Steps.{IsUndamaged, PartAnswers}
 use Rattle.fw_outside.specs.Outside.{StoreView}
@@ -86,6 +87,20 @@ adds-more old mid new before between after a what stamps is = record {
       ∙ map-both a.change (λ held. map_of.insert held is.id (spelling what)) before;
   bytes = λ e c. is.bytes e (subst (λ es. Contains es e) (sym a.entries) (Contains-append_left old a.more e c)) ∙ a.bytes e c;
 }
+
+-- the asking of one write more is refused
+pub adds-refused : (old : List Entry) (mid new : KeepState) (before between after : Option Records) → AddsEntries old mid.entries before between
+    → IsAskRefused mid new between after → AddsEntries old new.entries before after
+adds-refused old mid new before between after a n =
+    let freed = freed-mapped mid.shared mid.next between after n.records in
+    record {
+      more = a.more;
+      entries = n.entries ∙ a.entries;
+      in_flight = a.in_flight;
+      change = λ held. freed.0 (a.change held);
+      records = freed.1 ∙ ap (option_map freed.0) a.records ∙ map-both a.change freed.0 before;
+      bytes = λ e c. n.bytes e (subst (λ es. Contains es e) (sym a.entries) (Contains-append_left old a.more e c)) ∙ a.bytes e c;
+    }
 
 -- where what was added is withdrawn, the entries are kept
 pub kept-withdrawn : (old mid new : List Entry) (before after : Option Records) → AddsEntries old mid before after

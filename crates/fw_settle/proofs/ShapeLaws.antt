@@ -23,7 +23,7 @@ use Rattle.fw_rollback.specs.Tables.{table_at}
 use Rattle.fw_running.specs.declared.fault.EngineFault.{EngineFault}
 use Rattle.fw_running.specs.declared.running.Running.{Running}
 use Rattle.fw_running.specs.Kept.{is_down, output_of, with_tables}
-use Rattle.fw_running.specs.Logging.{ChangesKeep, IsAsked, IsNotAsked}
+use Rattle.fw_running.specs.Logging.{ChangesKeep, IsAsked, IsAskRefused}
 use Rattle.fw_running.specs.Places.{IsPut, IsTakenOut}
 use Rattle.fw_running.specs.Ready.{CanAcknowledgeBy, HasGrownBy}
 use Rattle.fw_running.specs.ReadyState.{ReadyState}
@@ -68,7 +68,7 @@ shaped-asked old new (Some e) checkpoint stamps before after s c a r =
 pub shaped-answer : (result : Result (Unit {0}) EngineFault) (old new : Running) (base : Option Entry) (checkpoint : Checkpoint) (stamps : Stamps) (before after : Option Records)
     → IsShaped old → ChangesKeep old new
     → OnOk result (IsAsked (record_on base checkpoint) stamps old.parts.keep.entries new.parts.keep.entries before after)
-    → OnErr result (IsNotAsked old.parts.keep.entries new.parts.keep.entries before after) → IsRecordOf old.flow checkpoint.node checkpoint.recorded → IsShaped new
+    → OnErr result (IsAskRefused old.parts.keep new.parts.keep before after) → IsRecordOf old.flow checkpoint.node checkpoint.recorded → IsShaped new
 shaped-answer (Ok x) old new base checkpoint stamps before after s c a n r = shaped-asked old new base checkpoint stamps before after s c a r
 shaped-answer (Err e) old new base checkpoint stamps before after s c a n r = shaped-same old new s c n.entries
 

@@ -10,7 +10,7 @@ ghost use Rattle.fw_keep.specs.Stored.{Records, IsStored};
 ghost use Rattle.fw_settle.specs.Checkpoints.{AsksCheckpoint, IsNextRecord};
 ghost use Rattle.fw_running.specs.Shaped.{IsShaped};
 ghost use Rattle.fw_running.specs.Steps.{IsUndamaged};
-ghost use Rattle.fw_running.specs.Logging.{ChangesKeep, IsNotAsked};
+ghost use Rattle.fw_running.specs.Logging.{ChangesKeep, IsAskRefused};
 
 use crate::base::{front_of_entry, next_base, record_on};
 use crate::checking::{is_countable, is_of_domains};
@@ -39,7 +39,7 @@ pub(crate) fn ask_checkpoint<K: Store>(
     ensures shaped { IsShaped running.new }
     ensures stored { IsStored running.new.parts.keep (K.view store.new).records }
     ensures asked { OnOk result (AsksCheckpoint node front.now running.old running.new (K.view store.old).records (K.view store.new).records) }
-    ensures stays { OnErr result (IsNotAsked running.old.parts.keep.entries running.new.parts.keep.entries
+    ensures stays { OnErr result (IsAskRefused running.old.parts.keep running.new.parts.keep
         (K.view store.old).records (K.view store.new).records) }
     ensures faults { (K.view store.new).faults ≡ faults_after_step result (K.view store.old).faults }
     ensures undamaged { IsUndamaged result }

@@ -6,7 +6,7 @@ ghost use Rattle.fw_model.specs.Machine.{front_of};
 ghost use Rattle.fw_model.specs.Steps as steps_of;
 ghost use Rattle.fw_keep.specs.Stored.{IsStored};
 ghost use Rattle.fw_progress.specs.Settle.{IsGrownAt, has_more};
-ghost use Rattle.fw_running.specs.Logging.{ChangesKeep, IsNotAsked};
+ghost use Rattle.fw_running.specs.Logging.{ChangesKeep, IsAskRefused};
 ghost use Rattle.fw_running.specs.Places.{IsTakenOut};
 ghost use Rattle.fw_running.specs.Shaped.{IsShaped};
 ghost use Rattle.fw_running.specs.Steps.{HasEager, PartAnswers, StepAnswers};
@@ -118,7 +118,7 @@ fn ask_if_eager<K: Store>(
     ensures others { ChangesKeep running.old running.new }
     ensures shaped { IsShaped running.new }
     ensures asked { OnOk result (AsksIfEager node running.old running.new (K.view store.old).records (K.view store.new).records) }
-    ensures stays { OnErr result (IsNotAsked running.old.parts.keep.entries running.new.parts.keep.entries
+    ensures stays { OnErr result (IsAskRefused running.old.parts.keep running.new.parts.keep
         (K.view store.old).records (K.view store.new).records) }
     ensures part { PartAnswers K.view (steps_of.is_eager (policy_of running.old.flow node) ≡ true) running.old store.old result running.new store.new }
 {

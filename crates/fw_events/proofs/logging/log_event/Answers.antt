@@ -11,5 +11,5 @@ returns-clause-shaped g c =
 
 pub returns-clause-tells : goal.returns-clause-tells
 returns-clause-tells g c =
-    asking-tells c.ask.result (tagged.Event c.args.node c.args.event) c.no_stamps.result c.args.running.now.parts.keep.entries c.ask.new.self.parts.keep.entries
+    asking-tells c.ask.result (tagged.Event c.args.node c.args.event) c.no_stamps.result c.args.running.now.parts.keep c.ask.new.self.parts.keep
     (g.K.Store.view c.args.store.now).records (g.K.Store.view c.ask.new.store).records c.ask.ensures.asked c.ask.ensures.stays

@@ -34,5 +34,5 @@ returns-clause-asked g c =
 
 pub returns-clause-tells : goal.returns-clause-tells
 returns-clause-tells g c =
-    asking-tells c.ask.result c.in_ok-what.what c.in_ok-stamps.stamps c.args.running.now.parts.keep.entries
-    c.ask.new.self.parts.keep.entries (g.K.Store.view c.args.store.now).records (g.K.Store.view c.ask.new.store).records c.ask.ensures.asked c.ask.ensures.stays
+    asking-tells c.ask.result c.in_ok-what.what c.in_ok-stamps.stamps c.args.running.now.parts.keep
+    c.ask.new.self.parts.keep (g.K.Store.view c.args.store.now).records (g.K.Store.view c.ask.new.store).records c.ask.ensures.asked c.ask.ensures.stays

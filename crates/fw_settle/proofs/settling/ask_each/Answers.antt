@@ -4,6 +4,7 @@ use Rattle.fw_running.specs.Faults.{faults_after_step}
 use Rattle.fw_running.specs.Steps.{HasEager, PartAnswers}
 use Rattle.fw_running.proofs.StepLaws.{part-err}
 use Rattle.fw_settle.specs.Settling.{IsFoundToSettle}
+use Rattle.fw_settle.proofs.AskLaws.{adds-refused}
 use Rattle.fw_settle.proofs.SearchLaws.{HaveAskedUpTo, asking-first, asking-next, asking-all, has_eager, keep-both}
 use Rattle.fw_settle.proofs.settling.ask_each.Goals as goal
 
@@ -48,6 +49,12 @@ returns-clause-asked g c =
     let next : c.loop-next.next ≡ None = search rules in
     asking-all old c.loop-next.running before after c.loop-next.invariant.others
     (subst (HaveAskedUpTo old c.loop-next.running before after) next c.loop-next.invariant.asked)
+
+pub returns-in_err-ask_if_eager-clause-adds : goal.returns-in_err-ask_if_eager-clause-adds
+returns-in_err-ask_if_eager-clause-adds g c =
+    adds-refused c.args.running.now.parts.keep.entries c.loop-next.running.parts.keep c.ask_if_eager.new.running.parts.keep
+    (g.K.Store.view c.args.store.now).records (g.K.Store.view c.loop-next.store).records (g.K.Store.view c.ask_if_eager.new.store).records
+    c.loop-next.invariant.asked.asked.adds c.in_err-ask_if_eager.ensures.stays
 
 pub returns-in_err-ask_if_eager-clause-part : goal.returns-in_err-ask_if_eager-clause-part
 returns-in_err-ask_if_eager-clause-part g c =

@@ -10,12 +10,32 @@ use Rattle.fw_keep.specs.declared.entry.Entry.{Entry}
 use Rattle.fw_keep.specs.declared.fault.KeepFault.{KeepFault}
 use Rattle.fw_keep.specs.declared.fault.KeepFault.TheVariants as fault
 use Rattle.fw_keep.specs.declared.keep.Keep.TheInside.{Inside}
-use Rattle.fw_keep.specs.Catalogue.{IsCatalogue, AreAcknowledged, IsAcknowledgedUpTo, IsOnly, ids_of, is_id_among}
+use Rattle.fw_keep.specs.Catalogue.{IsCatalogue, AreAscending, AreDistinct, AreNoDeeperThanIds, has_entry, AreAcknowledged, IsAcknowledgedUpTo, IsOnly, ids_of, is_id_among}
 use Rattle.fw_keep.specs.Faults.{keep_faults_after}
 use Rattle.fw_keep.specs.Inside.{keep_state_of, IsSoundInside}
 use Rattle.fw_keep.specs.Stored.{Records, Sweeps, ReadsAs, Fetches}
 use Rattle.fw_keep.proofs.InFlightLaws.{added, all_acknowledged}
 use Rattle.fw_keep.proofs.CatalogueLaws.{same-state, catalogue-drawn, catalogue-added, catalogue-read, catalogue-swept}
+
+-- no entry yet, and some ids wait
+pub sound-begun : (new : Inside) → new.entries.items ≡ [] → new.persisted ≡ 0 → AreDistinct new.waiting.items → AllByRecursion (λ id. id < new.next) new.waiting.items
+    → IsSoundInside new
+sound-begun new none persisted distinct drawn = record {
+  catalogue = record {
+    ascending = subst (λ (es : List Entry). AreAscending (ids_of es)) (sym none) tt;
+    distinct = distinct;
+    apart = subst (λ (es : List Entry). AllByRecursion (λ id. has_entry id es ≡ false) new.waiting.items) (sym none) (apart new.waiting.items);
+    drawn = subst (λ (es : List Entry). AllByRecursion (λ id. id < new.next) (ids_of es)) (sym none) tt;
+    waiting_drawn = drawn;
+    depths = subst AreNoDeeperThanIds (sym none) tt;
+  };
+  persisted = all_acknowledged new.persisted new.entries.items (persisted ∙ sym (ap (λ (es : List Entry). length es) none)) (subst AreAcknowledged (sym none) tt);
+  room = omega (arith, new.entries.ok.0, ap (λ (es : List Entry). length es) none, new.waiting.ok.1);
+}
+  where
+    apart : (ids : List ℕ) → AllByRecursion (λ id. has_entry id [] ≡ false) ids
+    apart [] = tt
+    apart (id ∷ ids) = (refl, apart ids)
 
 -- from now on the store may hold what others put
 pub sound-shared : (old : Inside) → IsSoundInside old → IsSoundInside (record old { shared = true })

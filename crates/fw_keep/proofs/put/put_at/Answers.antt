@@ -1,7 +1,7 @@
-use Rattle.std.proofs.Common.{◌≡◌, Option, option_map, sym, ap, subst, ◌∙◌}
+use Rattle.std.proofs.Common.{◌≡◌, List, ℕ, Option, option_map, sym, ap, subst, ◌∙◌}
 use Rattle.std.specs.Prelude.{OnOk}
 use Rattle.std.specs.FinMap as records
-use Rattle.fw_keep.specs.Stored.{Records, IsNoneUnder}
+use Rattle.fw_keep.specs.Stored.{Records, IsNoneUnder, without_id}
 use Rattle.fw_keep.proofs.StoredLaws.{none-after, put-over}
 use Rattle.fw_keep.proofs.put.put_at.Goals as goal
 use Rattle.fw_keep.proofs.put.put_at.Goals.{then-target+in_ok-remove_if_there, else-target}

@@ -1,3 +1,4 @@
+pub mod Causes
 pub mod Messages
 pub mod Piles
 pub mod Stamps

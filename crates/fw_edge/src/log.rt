@@ -4,8 +4,9 @@ ghost use Rattle.fw_frontier.specs.Front.{inside};
 ghost use Rattle.fw_flow.specs.Projection.{all_inside};
 ghost use Rattle.fw_model.specs.Filtering.{messages_from, messages_outside};
 ghost use Rattle.fw_model.specs.SortedMessages.{with_message, sorted_messages};
+ghost use Rattle.fw_edge.specs.Causes.{ComeInTurn};
 
-use crate::message::comes_from;
+use crate::message::{comes_from, comes_no_later};
 use fw_flow::Message;
 use fw_frontier::Front;
 use std::alloc::{AllocError, Global};
@@ -21,19 +22,23 @@ pub struct MsgLog {
     messages: Vec<Message>,
     // Whether the messages are known to ascend.
     ascends: bool,
+    // Whether none of them is known to come later than one behind it.
+    in_turn: bool,
     refused: bool,
 }
 
 impl Model for MsgLog {
     ghost use Rattle.std.specs.Prelude.{◌≡◌, IsTrue};
     ghost use Rattle.fw_model.specs.SortedMessages.{sorted_messages};
+    ghost use Rattle.fw_edge.specs.Causes.{ComeInTurn};
     ghost use Rattle.fw_edge.specs.Messages.{MessagesState};
 
     ghost Value = { MessagesState };
 
     ghost view = { λ log. record { messages = sorted_messages log.messages.items; refused = log.refused } };
 
-    ghost invariant = { λ log. IsTrue log.ascends → sorted_messages log.messages.items ≡ log.messages.items };
+    ghost invariant = { λ log. (IsTrue log.ascends → sorted_messages log.messages.items ≡ log.messages.items)
+        × (IsTrue log.in_turn → ComeInTurn log.messages.items) };
 }
 
 impl MsgLog {
@@ -44,6 +49,7 @@ impl MsgLog {
         MsgLog {
             messages: Vec::new(alloc),
             ascends: true,
+            in_turn: true,
             refused: false,
         }
     }
@@ -58,11 +64,13 @@ impl MsgLog {
             return Err(AllocError);
         }
         let ascends = ascend_with(&self.messages, self.ascends, &message);
+        let in_turn = come_in_turn_with(&self.messages, self.in_turn, &message);
         if self.messages.push(message).is_err() {
             self.refused = true;
             return Err(AllocError);
         }
         self.ascends = ascends;
+        self.in_turn = in_turn;
         Ok(())
     }
 
@@ -93,17 +101,14 @@ impl MsgLog {
     }
 
     /// Copies of the messages all of whose causes are inside, but not all inside an earlier frontier, in order. Of what came before
-    /// nothing is copied, and room is asked for as messages are. The only error is want of memory.
+    /// nothing is copied, and where each message came no later than the next one nothing of it is looked at. Room is asked for as
+    /// messages are copied. The only error is want of memory.
     pub fn caused_since(&self, earlier: &Front, f: &Front) -> Result<Vec<Message>, AllocError>
         ensures { IfOk result (λ ms. ms.items
             ≡ filter (λ m. not (all_inside (inside earlier.now) m.causes)) (messages_from (inside f.now) self.now.messages)) }
     {
-        let mut copies = Vec::new(*self.messages.allocator());
-        for message in &self.messages {
-            if comes_since(message, earlier, f) {
-                copies.push(message.copy())?;
-            }
-        }
+        let messages = messages_since(&self.messages, self.in_turn, earlier);
+        let copies = copies_since(*self.messages.allocator(), messages, earlier, f)?;
         Ok(in_order(copies, self.ascends))
     }
 
@@ -137,8 +142,41 @@ impl MsgLog {
     }
 }
 
-// Whether all causes of a message are inside, but not all inside an earlier frontier. That is asked first: most of a long log is
-// from before.
+// Messages among which are all that do not come from inside an earlier frontier: from the first of these on, found by halves, where
+// they are known to come in turn, and else all.
+fn messages_since<'a>(messages: &'a [Message], in_turn: bool, earlier: &Front) -> &'a [Message]
+    requires { IsTrue in_turn → ComeInTurn messages.now }
+    ensures { filter (λ m. not (all_inside (inside earlier.now) m.causes)) result.now
+        ≡ filter (λ m. not (all_inside (inside earlier.now) m.causes)) messages.now }
+{
+    if !in_turn {
+        return messages;
+    }
+    let first = messages.partition_point(|message| comes_from(message, earlier));
+    &messages[first..]
+}
+
+// Copies of the messages all of whose causes are inside, but not all inside an earlier frontier.
+fn copies_since(
+    alloc: Global,
+    messages: &[Message],
+    earlier: &Front,
+    f: &Front,
+) -> Result<Vec<Message>, AllocError>
+    ensures { IfOk result (λ ms. ms.items
+        ≡ filter (λ m. not (all_inside (inside earlier.now) m.causes) && all_inside (inside f.now) m.causes) messages.now) }
+{
+    let mut copies = Vec::new(alloc);
+    for message in messages {
+        if comes_since(message, earlier, f) {
+            copies.push(message.copy())?;
+        }
+    }
+    Ok(copies)
+}
+
+// Whether all causes of a message are inside, but not all inside an earlier frontier. That is asked first: of a log that is looked
+// at from its first message on most is from before.
 fn comes_since(message: &Message, earlier: &Front, f: &Front) -> bool
     ensures { result ≡ (not (all_inside (inside earlier.now) message.now.causes) && all_inside (inside f.now) message.now.causes) }
 {
@@ -154,6 +192,17 @@ fn ascend_with(messages: &[Message], ascend: bool, message: &Message) -> bool
 {
     match messages.last() {
         Some(last) => ascend && last.cmp(message).is_le(),
+        None => true,
+    }
+}
+
+// Whether messages are known to come in turn with one more behind them, where `in_turn` tells whether they are known to.
+fn come_in_turn_with(messages: &[Message], in_turn: bool, message: &Message) -> bool
+    requires { IsTrue in_turn → ComeInTurn messages.now }
+    ensures { IsTrue result → ComeInTurn (messages.now ++ message.now ∷ []) }
+{
+    match messages.last() {
+        Some(last) => in_turn && comes_no_later(last, message),
         None => true,
     }
 }

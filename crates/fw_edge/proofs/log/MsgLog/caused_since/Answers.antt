@@ -5,16 +5,18 @@ use Rattle.fw_flow.specs.Projection.{all_inside}
 use Rattle.fw_model.specs.SortedMessages.{sorted_messages}
 use Rattle.fw_model.proofs.SortedLaws.{sorted_messages-filter}
 use Rattle.fw_edge.specs.Messages.{MessagesState}
-use Rattle.fw_edge.proofs.LogLaws.{in_order-filter, copied-all, filter-both}
+use Rattle.fw_edge.proofs.LogLaws.{in_order-filter, copied-since, filter-both}
 use Rattle.fw_edge.proofs.log.MsgLog.caused_since.Goals as goal
 
 pub in_order-requires : goal.in_order-requires
 in_order-requires c = λ t.
-    let test = λ (m : Message). not (all_inside (inside c.args.earlier.now) m.causes) && all_inside (inside c.args.f.now) m.causes in
+    let since : Message → Bool = λ m. not (all_inside (inside c.args.earlier.now) m.causes) in
+    let from : Message → Bool = λ m. all_inside (inside c.args.f.now) m.causes in
+    let old = c.self.inside.messages.items in
     let all =
-    copied-all test c.loop-message.message-index c.deref-message-items.result.now c.self.inside.messages.items c.loop-message.copies.items
-    c.deref-message-items.ensures.value c.loop-message-test.false c.loop-message.invariant in
-    in_order-filter test c.self.inside.messages.items c.loop-message.copies.items all (c.self.invariant t)
+    copied-since since from c.messages_since-messages.result.now c.deref.result.now old c.in_ok-copies.copies.items c.in_ok-copies.ensures c.messages_since-messages.ensures
+    c.deref.ensures.value in
+    in_order-filter (λ m. since m && from m) old c.in_ok-copies.copies.items all (c.self.invariant.0 t)
 
 pub returns : goal.returns
 returns c =
@@ -23,7 +25,7 @@ returns c =
     let test = λ (m : Message). since m && from m in
     let old = c.self.inside.messages.items in
     let all =
-    copied-all test c.loop-message.message-index c.deref-message-items.result.now old c.loop-message.copies.items
-    c.deref-message-items.ensures.value c.loop-message-test.false c.loop-message.invariant in
-    c.in_order.ensures ∙ ap sorted_messages all ∙ sorted_messages-filter test old
-    ∙ ap (λ (s : MessagesState). filter test s.messages) c.self.view_is ∙ filter-both since from c.args.self.now.messages
+    copied-since since from c.messages_since-messages.result.now c.deref.result.now old c.in_ok-copies.copies.items c.in_ok-copies.ensures c.messages_since-messages.ensures
+    c.deref.ensures.value in
+    c.in_order.ensures ∙ ap sorted_messages all ∙ sorted_messages-filter test old ∙ ap (λ (s : MessagesState). filter test s.messages) c.self.view_is
+    ∙ filter-both since from c.args.self.now.messages

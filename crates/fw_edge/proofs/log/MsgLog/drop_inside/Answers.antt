@@ -5,14 +5,17 @@ use Rattle.fw_flow.specs.declared.event.Message.{Message}
 use Rattle.fw_model.specs.SortedMessages.{sorted_messages}
 use Rattle.fw_model.proofs.SortedLaws.{sorted_messages-filter}
 use Rattle.fw_edge.specs.Messages.{MessagesState}
-use Rattle.fw_edge.proofs.LogLaws.{in_order-filter}
+use Rattle.fw_edge.proofs.LogLaws.{in_order-filter, in_turn-filter}
 use Rattle.fw_edge.proofs.log.MsgLog.drop_inside.Goals as goal
 
 pub invariant_of-self : goal.invariant_of-self
-invariant_of-self c = λ t.
+invariant_of-self c =
     let test = λ (m : Message). not (inside c.args.f.now m.at) in
-    let left = filter_same _ test _ (λ x b g k. search rules) _ _ c.retain.ensures.filtered in
-    in_order-filter test c.self.inside.messages.items c.retain.new.self.items left (c.self.invariant t)
+    let old = c.self.inside.messages.items in
+    let left : c.retain.new.self.items ≡ filter test old = filter_same _ test _ (λ x b g k. search rules) _ _ c.retain.ensures.filtered in (
+      λ t. in_order-filter test old c.retain.new.self.items left (c.self.invariant.0 t),
+      λ t. in_turn-filter test old c.retain.new.self.items left (c.self.invariant.1 t),
+    )
 
 pub returns : goal.returns
 returns c =

@@ -13,7 +13,7 @@ in_order-requires c = λ t.
     let all =
     copied-all test c.loop-message.message-index c.deref-message-items.result.now c.self.inside.messages.items c.loop-message.copies.items
     c.deref-message-items.ensures.value c.loop-message-test.false c.loop-message.invariant in
-    in_order-filter test c.self.inside.messages.items c.loop-message.copies.items all (c.self.invariant t)
+    in_order-filter test c.self.inside.messages.items c.loop-message.copies.items all (c.self.invariant.0 t)
 
 pub returns : goal.returns
 returns c =

@@ -1,6 +1,6 @@
 -- The stamps of a node's events inside a checkpoint, got back from covers.
-use Rattle.std.proofs.Common.{◌≡◌, ℕ, ◌<◌, Bool, true, false, not, cond, List, [], ◌∷◌, ◌++◌, length, map, filter, refl, sym, ap, subst, ◌⊎◌, ◌==◌, ◌∙◌, inl, inr, arith}
-use Rattle.std.specs.List.{AllByRecursion, flat_map}
+use Rattle.std.proofs.Common.{◌≡◌, ℕ, ◌<◌, Bool, true, false, not, ◌&&◌, cond, List, [], ◌∷◌, ◌++◌, length, map, filter, refl, sym, ap, subst, ◌⊎◌, ◌==◌, ◌∙◌, inl, inr, arith}
+use Rattle.std.specs.List.{AllByRecursion, Contains, flat_map}
 use Rattle.std.proofs.lemmas.Bool.{cases_lt, cond_both}
 use Rattle.std.proofs.lemmas.List.{get_or_past}
 use Rattle.std.proofs.lemmas.List.Elements.{filter-append}
@@ -11,6 +11,8 @@ use Rattle.fw_frontier.specs.Front.{Front}
 use Rattle.fw_frontier.proofs.NamesLaws.{frontier-closed}
 use Rattle.fw_flow.specs.declared.choice.Counted.{Counted}
 use Rattle.fw_flow.specs.declared.choice.Cut.TheVariants.{At}
+use Rattle.fw_flow.specs.declared.choice.Recorded.{Recorded}
+use Rattle.fw_flow.specs.declared.choice.Stamps.{Stamps}
 use Rattle.fw_flow.specs.declared.node.Edge.{Edge}
 use Rattle.fw_flow.specs.declared.event.Event.{Event}
 use Rattle.fw_flow.specs.declared.event.Event.TheVariants.{Inject, Deliver, Notify}
@@ -26,7 +28,7 @@ use Rattle.fw_flow.specs.Projection.{events_at, all_inside}
 use Rattle.fw_flow.specs.Restoring.{can_resend, way_of}
 use Rattle.fw_flow.specs.WellFormed.{IsWellFormed, IsWellFormedSystem}
 use Rattle.fw_model.specs.Covers.{covers_in, stamps_inside, stamps_from, stamp_of_notice, notified_inside, takes_its_cut, takes_its_notices, discarded_at}
-use Rattle.fw_model.specs.EventStamps.{StandForSent, base_of_sent, causes_in, causes_of, tells_sent}
+use Rattle.fw_model.specs.EventStamps.{StandForSent, StandForNumbered, causes_in, causes_of, tells_sent}
 use Rattle.fw_model.specs.Filtering.{events_inside, messages_from, messages_inside}
 use Rattle.fw_model.specs.History.{AreEventsInDomain, delivered_messages, sent_messages}
 use Rattle.fw_model.specs.Machine.{Machine, events}
@@ -41,7 +43,7 @@ use Rattle.fw_model.proofs.LegalLaws.{edge-receiver, legal_messages-in_domain}
 use Rattle.fw_model.proofs.LocalityLaws.{delivers-same, events_at-kept}
 use Rattle.fw_model.proofs.SendPartLaws.{part-sends}
 use Rattle.fw_regain.specs.Causes.{merges_stamps, message_of_told, tells_cause}
-use Rattle.fw_regain.specs.GotBack.{ReceivedStampsAreGotBack, StampsAreGotBack}
+use Rattle.fw_regain.specs.GotBack.{IsSentGotBack, StandForReceived, ReceivedStampsAreGotBack, StampsAreGotBack}
 use Rattle.fw_regain.specs.Greatest.{AreGreatestIn}
 use Rattle.fw_regain.proofs.CauseLaws.{greatest_sent-stand, delivered-send, merges-one_edge, the_edge}
 use Rattle.fw_regain.proofs.GreatestLaws.{greatest-stand}
@@ -220,20 +222,48 @@ received-back sys state p f r stamps w l takes d n b =
           (λ t. ap (λ y. y t) (n ∙ notified-is sys state p f takes ∙ ap (cover (bounds_of flow p)) (sym (notices-inside p g h)))) b.notified;
     }
 
--- what stands for what a node sent stands for what is told of it, where it cannot send again
-told-stand : (sys : System) (h : List Event) (p : ℕ) (base : Frontier) (e : ℕ) (ms : List Counted) → can_resend (policy_of sys.flow p) ≡ false → StandForSent true sys h p base e ms
-    → StandForSent (tells_sent sys.flow p) sys h p (base_of_sent sys.flow p base) e ms
-told-stand sys h p base e ms again stand = subst (λ c. StandForSent (not c) sys h p (cond (not c) base (λ t. true)) e ms) (sym again) stand
+-- The stamps stand for where a node sent.
+record IsSentBack (sys : System) (now : List Event) (p : ℕ) (base : Frontier) (stamps : Stamps) : Type 0 where
+  sent : is_sequence_kind (kind_of sys.flow p) ≡ false → (e : ℕ) → e < length sys.flow.edges → sender sys.flow e ≡ p
+      → StandForSent true sys now p base e (counted_on_edge e stamps.sent)
+  numbered : is_sequence_kind (kind_of sys.flow p) ≡ true → (e : ℕ) → e < length sys.flow.edges → sender sys.flow e ≡ p → StandForNumbered sys now e stamps.sent
 
-pub got-back : StampsAreGotBack
-got-back sys state p f r stamps w reached l lazy d n s b =
+either : (b : Bool) → (b ≡ true) ⊎ (b ≡ false)
+either true = inl refl
+either false = inr refl
+
+lazy-of : (q : Policy) → takes_checkpoints q ≡ true → not (can_resend q) ≡ true → q ≡ policy.Lazy
+lazy-of policy.None takes tells = absurd (cc)
+lazy-of policy.Lazy takes tells = refl
+lazy-of q takes tells = absurd (cc)
+
+-- of what need not be told any may be missing
+none-told : (sys : System) (now : List Event) (p e : ℕ) (sent : List Counted) → sent ≡ [] → StandForSent false sys now p (λ t. true) e (counted_on_edge e sent)
+none-told sys now p e sent is =
+    subst (λ (ms : List Counted). StandForSent false sys now p (λ t. true) e (counted_on_edge e ms)) (sym is)
+    (record {
+      of_cause = tt;
+      thinned = record {
+        among = tt;
+        outside = each-one (λ t. true ≡ false → Contains [] t) (causes_in (sent_messages sys now e)) (λ t f. absurd (cc));
+        inside = λ w. absurd (cc);
+      };
+    })
+
+-- what a node sent that cannot send it again
+sent-back : (sys : System) (state : Machine) (p : ℕ) (f : Front) (r : Recorded) (stamps : Stamps) → IsWellFormedSystem sys → IsReached sys state
+    → p < length sys.flow.nodes → policy_of sys.flow p ≡ policy.Lazy → StandForReceived sys.flow (events_inside (node_frontier sys.flow p f) (events state.history)) p (node_frontier sys.flow p f) stamps
+    → ((e : ℕ) → e < length sys.flow.edges → sender sys.flow e ≡ p
+    → front_of_edge (bounds_of sys.flow (receiver sys.flow e)) e r.discarded ≡ (covers_in sys state).discarded e (At f))
+    → ((e : ℕ) → e < length sys.flow.edges → sender sys.flow e ≡ p → IsSentGotBack sys.flow p r stamps e)
+    → IsSentBack sys (events_inside (node_frontier sys.flow p f) (events state.history)) p (node_frontier sys.flow p f) stamps
+sent-back sys state p f r stamps w reached l lazy received s b =
     let flow = sys.flow in
     let h = events state.history in
     let g = node_frontier flow p f in
     let now = events_inside g h in
     let takes : takes_checkpoints (policy_of flow p) ≡ true = ap takes_checkpoints lazy in
     let way = checkpoint-way sys p w l takes in
-    let received = received-back sys state p f r stamps w l takes d n b.received in
     let at : Message → Stamp = λ m. m.at in
     let inside = at-inside flow p g h in
     let of : AreEventsInDomain flow now p =
@@ -243,15 +273,11 @@ got-back sys state p f r stamps w reached l lazy d n s b =
     → front_of_edge (bounds_of flow (receiver flow e)) e r.discarded t ≡ cover (bounds_of flow (receiver flow e)) (map at (sent_messages sys now e)) t =
     λ e there q. sent-read sys state p e f (front_of_edge (bounds_of flow (receiver flow e)) e r.discarded) w reached lazy way q (s e there q) in
     record {
-      on_edges = b.on_edges;
-      in_domain = b.received.notified.of_domain;
-      delivered = λ c q. whole g (map at (delivered_messages now c)) (stamps_on c stamps.delivered) (received.delivered c q);
-      notified = whole g (flat_map (stamp_of_notice p) now) stamps.notified received.notified;
-      sent = λ no e there q. told-stand sys now p g e (counted_on_edge e stamps.sent) (ap can_resend lazy) (elim (merges-or_tells (kind_of flow p) no) [
+      sent = λ no e there q. elim (merges-or_tells (kind_of flow p) no) [
         | inl k ↦
             let one = merges-edge flow w.flow p l k in
             let c = one.edge in
-            let m = (b.sent e there q).merged k c one.there one.received in
+            let m = (b e there q).merged k c one.there one.received in
             let causes : causes_in (sent_messages sys now e) ≡ map at (delivered_messages now c) =
             delivered-send sys now c e w.flow one.there (one.received ∙ sym q) (ap (λ x. merges_stamps (kind_of flow x)) q ∙ k)
             (subst (AreEventsInDomain flow now) (sym q) of) in
@@ -262,13 +288,13 @@ got-back sys state p f r stamps w reached l lazy d n s b =
                   (subst (λ all. IsThinned g all (stamps_on c stamps.delivered)) (sym causes) (received.delivered c one.received)));
             }
         | inr k ↦
-            let t = (b.sent e there q).told k in
+            let t = (b e there q).told k in
             let stand = greatest_sent-stand sys now e g (front_of_edge (bounds_of flow (receiver flow e)) e r.discarded) t.0 w.flow (ap (λ x. tells_cause (kind_of flow x)) q ∙ k)
             (subst (AreEventsInDomain flow now) (sym q) of) (subst (λ x. AllByRecursion (λ v. g (event_stamp v) ≡ true) (events_at flow x now)) (sym q) inside)
             (read e there q) t.1 in
             subst (λ (ms : List Counted). StandForSent true sys now p g e ms) (sym t.2) (subst (λ x. StandForSent true sys now x g e (map (message_of_told flow e) t.0)) q stand)
-      ]);
-      numbered = λ k told e there q.
+      ];
+      numbered = λ k e there q.
           let bounds = bounds_of flow (receiver flow e) in
           let all = map at (sent_messages sys now e) in
           let legal = (reached-all sys w reached.0 reached.1 state reached.2).recover.holds.legal in
@@ -281,5 +307,31 @@ got-back sys state p f r stamps w reached l lazy d n s b =
           (each-weaker (λ (m : Message). in_domain (bounds_of_edge flow e) m.at ≡ true) (λ m. in_domain bounds m.at ≡ true) (sent_messages sys h e)
           (λ m i. edge-receiver flow w.flow e m.at i) (legal_messages-in_domain sys h w.flow (has_epochs sys w) legal e)))) in
           greatest-stand bounds (everything bounds) (front_of_edge bounds e r.discarded) all (stamps_on_from e (everything (bounds_of flow (sender flow e))) stamps.sent)
-          there_all there_all (read e there q) ((b.sent e there q).numbered k);
+          there_all there_all (read e there q) ((b e there q).numbered k);
+    }
+
+pub got-back : StampsAreGotBack
+got-back sys state p f r stamps w reached l takes d n s b =
+    let flow = sys.flow in
+    let h = events state.history in
+    let g = node_frontier flow p f in
+    let now = events_inside g h in
+    let received = received-back sys state p f r stamps w l takes d n b.received in
+    let at : Message → Stamp = λ m. m.at in
+    let lazy : tells_sent flow p ≡ true → policy_of flow p ≡ policy.Lazy = λ t. lazy-of (policy_of flow p) takes t in
+    let back = λ (t : tells_sent flow p ≡ true). sent-back sys state p f r stamps w reached l (lazy t) received s (b.sent t) in
+    record {
+      on_edges = b.on_edges;
+      in_domain = b.received.notified.of_domain;
+      delivered = λ c q. whole g (map at (delivered_messages now c)) (stamps_on c stamps.delivered) (received.delivered c q);
+      notified = whole g (flat_map (stamp_of_notice p) now) stamps.notified received.notified;
+      sent = λ no e there q. elim (either (tells_sent flow p)) [
+        | inl t ↦
+            subst (λ (tells : Bool). StandForSent (true && tells) sys now p (cond tells g (λ t. true)) e (counted_on_edge e stamps.sent)) (sym t)
+            ((back t).sent no e there q)
+        | inr t ↦
+            subst (λ (tells : Bool). StandForSent (true && tells) sys now p (cond tells g (λ t. true)) e (counted_on_edge e stamps.sent)) (sym t)
+            (none-told sys now p e stamps.sent (b.none_sent t))
+      ];
+      numbered = λ k t e there q. (back t).numbered k e there q;
     }

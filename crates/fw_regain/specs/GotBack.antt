@@ -1,5 +1,5 @@
 -- The stamps of a node's events inside a checkpoint are got back from the covers that its record holds.
-use Rattle.std.specs.Prelude.{◌≡◌, ℕ, ◌<◌, true, List, map, length}
+use Rattle.std.specs.Prelude.{◌≡◌, ℕ, ◌<◌, true, false, List, [], map, length}
 use Rattle.std.specs.List.{AllByRecursion, flat_map}
 use Rattle.fw_time.specs.Stamp.{Stamp}
 use Rattle.fw_frontier.specs.Frontier.{Frontier, everything}
@@ -9,11 +9,10 @@ use Rattle.fw_flow.specs.declared.choice.Recorded.{Recorded}
 use Rattle.fw_flow.specs.declared.choice.Stamps.{Stamps}
 use Rattle.fw_flow.specs.declared.event.Event.{Event}
 use Rattle.fw_flow.specs.declared.event.Message.{Message}
-use Rattle.fw_flow.specs.declared.kind.Policy.TheVariants as policy
 use Rattle.fw_flow.specs.Dataflow.{System, Dataflow, bounds_of, is_sequence_kind, kind_of, node_frontier, policy_of, receiver, sender}
 use Rattle.fw_flow.specs.WellFormed.{IsWellFormedSystem}
 use Rattle.fw_model.specs.Covers.{covers_in, stamp_of_notice}
-use Rattle.fw_model.specs.EventStamps.{AreStampsIf, IsOfCause, causes_of}
+use Rattle.fw_model.specs.EventStamps.{AreStampsIf, IsOfCause, causes_of, tells_sent}
 use Rattle.fw_model.specs.Filtering.{events_inside}
 use Rattle.fw_model.specs.History.{delivered_messages}
 use Rattle.fw_model.specs.Machine.{Machine, events}
@@ -42,11 +41,12 @@ pub record AreReceivedBack (flow : Dataflow) (p : ℕ) (r : Recorded) (stamps : 
       → AreGreatestIn (bounds_of flow p) (front_of_edge (bounds_of flow p) d r.delivered) (stamps_on d stamps.delivered)
   pub notified : AreGreatestIn (bounds_of flow p) (node_frontier flow p r.notified) stamps.notified
 
--- So is what it sent.
+-- So is what it sent, where it cannot send that again; where it can, nothing is told of it.
 pub record AreGotBack (flow : Dataflow) (p : ℕ) (r : Recorded) (stamps : Stamps) : Type 0 where
   pub received : AreReceivedBack flow p r stamps
   pub on_edges : AreAtEdgeStamps flow stamps.delivered × AreAtEdgeStamps flow stamps.sent
-  pub sent : (e : ℕ) → e < length flow.edges → sender flow e ≡ p → IsSentGotBack flow p r stamps e
+  pub sent : tells_sent flow p ≡ true → (e : ℕ) → e < length flow.edges → sender flow e ≡ p → IsSentGotBack flow p r stamps e
+  pub none_sent : tells_sent flow p ≡ false → stamps.sent ≡ []
 
 -- The stamps stand for what was delivered to node p in a history, and for what it was notified of, thinned inside a base.
 pub record StandForReceived (flow : Dataflow) (h : List Event) (p : ℕ) (base : Frontier) (stamps : Stamps) : Type 0 where
@@ -66,10 +66,10 @@ ReceivedStampsAreGotBack = (sys : System) (state : Machine) (p : ℕ) (f : Front
     → StandForReceived sys.flow (events_inside (node_frontier sys.flow p f) (events state.history)) p (node_frontier sys.flow p f) stamps
 
 -- In each state to which steps of a well-formed system lead from the first one, where a record holds the covers of the events of a node
--- inside a front, and the node cannot send again: stamps that are got back from it stand for these events.
+-- that takes checkpoints inside a front: stamps that are got back from it stand for these events.
 abbrev pub StampsAreGotBack : Type 0
 StampsAreGotBack = (sys : System) (state : Machine) (p : ℕ) (f : Front) (r : Recorded) (stamps : Stamps) → IsWellFormedSystem sys
-    → IsReached sys state → p < length sys.flow.nodes → policy_of sys.flow p ≡ policy.Lazy
+    → IsReached sys state → p < length sys.flow.nodes → takes_checkpoints (policy_of sys.flow p) ≡ true
     → ((d : ℕ) → d < length sys.flow.edges → receiver sys.flow d ≡ p
     → front_of_edge (bounds_of sys.flow p) d r.delivered ≡ (covers_in sys state).delivered d (At f))
     → node_frontier sys.flow p r.notified ≡ (covers_in sys state).notified p (At f)

@@ -50,7 +50,7 @@ pub fn received_stamps_are_got_back()
     ensures { ReceivedStampsAreGotBack }
 {}
 
-/// So is where it sent, if it cannot send again: the stamps stand for its events inside the checkpoint.
+/// So is where it sent, if it cannot send that again: the stamps stand for its events inside the checkpoint.
 pub fn stamps_are_got_back()
     ensures { StampsAreGotBack }
 {}

@@ -13,8 +13,13 @@ use Rattle.fw_running.proofs.AnswerLaws.{no_damage}
 use Rattle.fw_running.proofs.SameStateLaws.{told-recovers, told-shows, told-takes}
 use Rattle.fw_running.proofs.StepLaws.{busy, fault-counts, recovery-answers, recovery-fails, recovery-refused}
 use Rattle.fw_recover.proofs.FollowedLaws.{followed-recovered, followed-shaped, queues-at_receivers}
-use Rattle.fw_recover.proofs.RecoverStepLaws.{held-done, recovery-done, recovery-shows, refused-damage, refused-held, refused-stands, some-down, unanswered-held}
+use Rattle.fw_recover.proofs.RecoverStepLaws.{held-done, held-idle, recovery-done, recovery-shows, refused-damage, refused-held, refused-stands, some-down, unanswered-held}
 use Rattle.fw_recover.proofs.recovery.recover.Goals as goal
+
+pub returns-then-not-any_of-clause-held : goal.returns-then-not-any_of-clause-held
+returns-then-not-any_of-clause-held g c =
+    held-idle c.args.running.now (g.K.Store.view c.args.store.now).records
+    (sym (c.any_of.ensures ∙ ap (list_any (λ down. down)) c.deref.ensures.value) ∙ c.if-not-any_of.true)
 
 pub returns-in_err-choice-clause-answers : goal.returns-in_err-choice-clause-answers
 returns-in_err-choice-clause-answers g c = recovery-refused c.from_residual.ensures.1 c.requires.stored refl refl (λ told. told)

@@ -1,3 +1,4 @@
+use Rattle.fw_keep.proofs.StoredLaws.{stored-told}
 use Rattle.fw_rollback.proofs.GivenLaws.{fetched-serve}
 use Rattle.fw_rollback.proofs.OfNodeLaws.{of_nodes-restored}
 use Rattle.fw_rollback.proofs.cutting.restore.Goals as goal
@@ -17,3 +18,9 @@ pub returns-clause-nodes : goal.returns-clause-nodes
 returns-clause-nodes g c =
     of_nodes-restored c.args.flow.now c.args.choice.now c.args.parts.now c.swap.new.parts c.in_ok-given.given
     (c.swap.ensures.restored c.in_ok-given.given c.in_ok-built.ensures.built)
+
+pub returns-clause-stored : goal.returns-clause-stored
+returns-clause-stored g c =
+    c.swap.ensures.stored (g.K.Store.view c.read.new.store).records
+    (stored-told c.args.parts.now.keep (g.K.Store.view c.args.store.now).records (g.K.Store.view c.read.new.store).records c.read.ensures.stays
+    c.requires.stored)

@@ -28,3 +28,6 @@ returns-clause-first c =
       lost = c.in_ok-lost.ensures ∙ ap (λ n. replicate {A = List Stamp} n []) c.nodes-2.ensures.count;
       ready = c.in_ok-put_all.ensures;
     }
+
+pub returns-clause-stored : goal.returns-clause-stored
+returns-clause-stored c = c.in_ok-parts.ensures.stored

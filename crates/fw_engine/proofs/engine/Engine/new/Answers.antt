@@ -11,3 +11,6 @@ returns-clause-stands c = λ records.
 
 pub returns-clause-flow : goal.returns-clause-flow
 returns-clause-flow c = c.in_ok-running.ensures.first.runs
+
+pub returns-clause-stored : goal.returns-clause-stored
+returns-clause-stored c = c.in_ok-running.ensures.stored

@@ -36,3 +36,6 @@ returns g c =
     (swept-follows c.args.running.now mid c.sweep.new.self before after c.in_ok-stepped.stepped (c.in_ok-stepped.ensures.takes before) swept.kept swept.swept
     swept.bytes)
     swept.faults tt (swept-tells mid.parts.keep.waiting c.sweep.new.self.waiting before after swept.swept) swept.clean
+
+pub sweep-requires : goal.sweep-requires
+sweep-requires g c = c.raise_low.ensures.stored (g.K.Store.view c.args.store.now).records c.requires.stored

@@ -38,4 +38,4 @@ returns g c =
     swept.faults tt (swept-tells mid.parts.keep.waiting c.sweep.new.self.waiting before after swept.swept) swept.clean
 
 pub sweep-requires : goal.sweep-requires
-sweep-requires g c = c.raise_low.ensures.stored (g.K.Store.view c.args.store.now).records c.requires.stored
+sweep-requires g c = record { stored = c.raise_low.ensures.stored (g.K.Store.view c.args.store.now).records c.requires.stored }

@@ -1,4 +1,5 @@
-use Rattle.std.proofs.Common.{Option, ap, refl, subst, ℕ}
+use Rattle.std.proofs.Common.{Option, ap, refl, subst, sym, ℕ}
+use Rattle.fw_keep.specs.Stored.{IsStored}
 use Rattle.fw_running.specs.declared.running.Running.{Running}
 use Rattle.fw_running.specs.Places.{IsFirstWhere}
 use Rattle.fw_running.specs.Ready.{CanDeliver}
@@ -37,3 +38,11 @@ returns-in-Some-clause-part g c =
 pub returns-in-None-clause-part : goal.returns-in-None-clause-part
 returns-in-None-clause-part g c =
     part-of MayCallByItself (ap (λ (r : Running). r.flow) c.first_deliverable.ensures.others) c.notify_first.ensures.part
+
+pub deliver-requires-clause-stored : goal.deliver-requires-clause-stored
+deliver-requires-clause-stored g c =
+    subst (λ (r : Running). IsStored r.parts.keep (g.K.Store.view c.args.store.now).records) (sym c.first_deliverable.ensures.others) c.requires.stored
+
+pub notify_first-requires-clause-stored : goal.notify_first-requires-clause-stored
+notify_first-requires-clause-stored g c =
+    subst (λ (r : Running). IsStored r.parts.keep (g.K.Store.view c.args.store.now).records) (sym c.first_deliverable.ensures.others) c.requires.stored

@@ -1,4 +1,5 @@
-use Rattle.std.proofs.Common.{Option, Result, ap, refl, subst}
+use Rattle.std.proofs.Common.{Option, Result, ap, refl, subst, sym}
+use Rattle.fw_keep.specs.Stored.{IsStored}
 use Rattle.fw_rollback.specs.declared.parts.Parts.{Parts}
 use Rattle.fw_running.specs.declared.fault.EngineFault.{EngineFault}
 use Rattle.fw_running.specs.declared.stepped.Stepped.{Stepped}
@@ -59,3 +60,11 @@ returns-clause-part g c =
     (part-may (notification-may_call_later old.flow c.first_notice.new.running.flow c.in-Some.notice.node c.first_notice.ensures.flow first.0.owing.there)
     c.in_ok-notify_of.ensures.part))
     refl refl tt ok-unfaulted
+
+pub settle_first-requires-clause-stored : goal.settle_first-requires-clause-stored
+settle_first-requires-clause-stored g c =
+    subst (λ (parts : Parts). IsStored parts.keep (g.K.Store.view c.args.store.now).records) (sym c.first_notice.ensures.parts) c.requires.stored
+
+pub notify_of-requires-clause-stored : goal.notify_of-requires-clause-stored
+notify_of-requires-clause-stored g c =
+    subst (λ (parts : Parts). IsStored parts.keep (g.K.Store.view c.args.store.now).records) (sym c.first_notice.ensures.parts) c.requires.stored

@@ -92,7 +92,7 @@ parts-recovered sys records state choice settled old new r leads trust s made =
     let gone : new.keep.entries ≡ filter (λ e. not (is_undone choice e)) old.keep.entries = ap (λ (keep : KeepState). keep.entries) made.restored.entries in
     let given : (p : ℕ) → p < length sys.flow.nodes → IsGiven sys state choice settled records p (given_of made.given p) =
     λ p l. record {
-      recovery = r;
+      recovers = r;
       trusts = trust;
       entries = old.keep.entries;
       of_writes = s.entries;

@@ -26,4 +26,4 @@ returns-clause-enabled c =
     let running = c.args.self.now.running in
     let shaped = shaped-stable running c.flow_is_well_formed.ensures (∥∥₁_map c.args.self.now.shaped (λ shaped. shaped c.if-self.false)) in
     let some = some-down running.failed.items c.any_of.result (c.any_of.ensures ∙ ap (list_any (λ down. down)) c.deref.ensures.value) c.if-not-any_of.false in
-    λ records. recovery-enabled running records shaped some
+    λ records sys state stands. recovery-enabled running records shaped some sys state stands.apart

@@ -51,3 +51,6 @@ pub returns-clause-nothing_told : goal.returns-clause-nothing_told
 returns-clause-nothing_told g c engine e off =
     stays_last c.args.manner.is_seen (last_line (last_in c.args.manner.last) c.take.new.tally) c.take.new.tally.faults c.end.result (g.O.Sink.view c.take.new.out) (g.O.Sink.view c.end.new.out) c.args.out.now c.end.new.out engine
     (c.take.ensures.none off) c.end.ensures e
+
+pub take-requires-clause-stored : goal.take-requires-clause-stored
+take-requires-clause-stored g c = c.in_ok-engine.ensures.stored (g.K.Store.view c.args.store.now).records c.requires.store

@@ -8,7 +8,6 @@ mod nodes;
 mod outside;
 mod progress;
 mod restored;
-mod writes;
 
 use crate::families::PartFamilies;
 use fw_outside::{Sink, StreamSink};

@@ -279,6 +279,7 @@ sending_applies = record {
   psi_back_by_send_stamps = λ law. law loop_counts_up fed_back_edge counted (lit≤ tt) counted_is_frontier (round 0 1) refl;
   psi_back_is_largest = λ law. law loop_counts_up fed_back_edge counted (lit≤ tt) counted_is_frontier;
   sends_at = λ law. law two_batches 4 refl [] (Deliver 3 (message (round 0 0) (pair 1 1) (round 0 0)));
+  from_causes = λ law. law two_batches 4 refl [] (Deliver 3 (message (round 0 0) (pair 1 1) (round 0 0)));
   sends_inside = λ law. law two_batches fed_back_edge counted (lit≤ tt) counted_is_frontier [] (Deliver 3 (message (round 0 0) (pair 1 1) (round 0 0))) refl;
   sent_inside = λ law. law two_batches under_way fed_back_edge counted (lit≤ tt) counted_is_frontier;
   from_inside = λ law. law two_batches under_way fed_back_edge counted (lit≤ tt) counted_is_frontier fed_back_in_domain;

@@ -336,6 +336,9 @@ pub record SendingApplies : Type 0 where
   pub sends_at : sending.SendsAtSendStamp
       → AllByRecursion (λ (m : Message). (send_stamp loop_counts_up 4 (round 0 0) ≡ Some m.at) × (m.causes ≡ round 0 0 ∷ []))
       (sends two_batches 4 [] (Deliver 3 (message (round 0 0) (pair 1 1) (round 0 0))))
+  pub from_causes : sending.SendsComeFromCauses
+      → AllByRecursion (sending.IsFromCauses loop_counts_up 4 (Deliver 3 (message (round 0 0) (pair 1 1) (round 0 0))))
+      (sends two_batches 4 [] (Deliver 3 (message (round 0 0) (pair 1 1) (round 0 0))))
   pub sends_inside : sending.SendsAreInsidePsi
       → AllByRecursion (λ (m : Message). psi two_batches.flow fed_back_edge counted m.at ≡ true)
       (sends two_batches (sender loop_counts_up fed_back_edge) [] (Deliver 3 (message (round 0 0) (pair 1 1) (round 0 0))))

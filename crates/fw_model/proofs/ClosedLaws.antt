@@ -12,9 +12,10 @@ use Rattle.fw_flow.specs.declared.event.Event.TheVariants.{Inject, Deliver, Noti
 use Rattle.fw_flow.specs.declared.event.Message.{Message}
 use Rattle.fw_flow.specs.declared.kind.Kind.{Kind}
 use Rattle.fw_flow.specs.declared.kind.Kind.TheVariants.{Input}
-use Rattle.fw_flow.specs.Dataflow.{System, kind_of, sender, receiver, is_input_kind, is_notified_kind, is_numbered, bounds_of_edge, HasEpochs}
+use Rattle.fw_flow.specs.Dataflow.{System, kind_of, sender, receiver, is_input_kind, is_notified_kind, is_numbered, HasEpochs}
 use Rattle.fw_flow.specs.NodeFunction.{event_node, event_stamp}
 use Rattle.fw_flow.specs.WellFormed.{IsWellFormed}
+use Rattle.fw_model.proofs.LesserLaws.{lesser-on_edge}
 use Rattle.fw_model.specs.History.{sent_messages, delivered_messages, pending_messages, was_delivered_to, was_notified, is_owed_notice, IsAdmissible, IsEnabled, IsLegal, IsNotifiable, IsClosedFor, recs_at}
 use Rattle.fw_model.specs.LawsOfDeliveries.{ClosedStampsStayClosed, DeliveredUpToClosedIsFinal, NotificationsComeLast, NumberedDeliveriesAscend, DeliveredInsideCompleteIsFinal}
 use Rattle.fw_model.proofs.PhiLaws.{phi-longer}
@@ -41,7 +42,7 @@ closed-step sys h w b l p t c v k =
           let q = sender sys.flow e in
           let top = c.complete.2 e r in
           let fr = phi-frontier sys h e (done q) (a.frontier q) in
-          let inside = fr.closed s t (leq-trans s t (bounds_of_edge sys.flow e).greatest below (fr.inside_domain t top)) below top in
+          let inside = fr.closed s t (lesser-on_edge sys.flow e s t below (fr.inside_domain t top)) below top in
           quiet-event v h e s (sent_messages sys (v ∷ h) e) (quiet-sent sys h w b l done a v k e s inside (c.quiet s below e r));
       complete = (done, admissible-stays sys h w b l done a v k, λ d r. phi-longer sys h (v ∷ []) d (done (sender sys.flow d)) t (c.complete.2 d r));
     }

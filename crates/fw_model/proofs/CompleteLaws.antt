@@ -7,17 +7,17 @@ use Rattle.std.proofs.lemmas.List.{get_or_past}
 use Rattle.fw_lemmas.proofs.Bools.{two_ways}
 use Rattle.fw_lemmas.proofs.Each.{each-weaker}
 use Rattle.fw_time.specs.Stamp.{Stamp, leq, same, in_domain}
-use Rattle.fw_time.proofs.StampLaws.{leq-refl, leq-trans}
+use Rattle.fw_time.proofs.StampLaws.{leq-refl}
 use Rattle.fw_frontier.specs.Frontier.{Frontier, Within}
 use Rattle.fw_flow.specs.declared.event.Event.{Event}
 use Rattle.fw_flow.specs.declared.event.Event.TheVariants.{Inject, Deliver, Notify}
 use Rattle.fw_flow.specs.declared.event.Message.{Message}
 use Rattle.fw_flow.specs.declared.kind.Kind.TheVariants.{OutputEpoch, Sequence}
-use Rattle.fw_flow.specs.Dataflow.{System, Dataflow, idle_node, kind_of, sender, receiver, greatest_number, bounds_of, is_input_kind, is_notified_kind, batches_of, send_stamp, send_stamp_of_kind, is_sequence_kind, bounds_of_edge, HasEpochs}
+use Rattle.fw_flow.specs.Dataflow.{System, Dataflow, idle_node, kind_of, sender, receiver, greatest_number, bounds_of, is_input_kind, is_notified_kind, batches_of, send_stamp, send_stamp_of_kind, is_sequence_kind, HasEpochs}
 use Rattle.fw_flow.specs.NodeFunction.{event_node, event_stamp, recs_on, numbered_messages, sequence_sent, sends_of_kind, sends, sent_by}
 use Rattle.fw_flow.specs.Projection.{events_at, count_from, first_coordinate, phi, IsSenderFrontier}
 use Rattle.fw_flow.specs.WellFormed.{IsWellFormed}
-use Rattle.fw_model.proofs.LesserLaws.{lesser-in_domain}
+use Rattle.fw_model.proofs.LesserLaws.{lesser-in_domain, lesser-on_edge}
 use Rattle.fw_model.specs.History.{some_at, sent_messages, delivered_messages, pending_messages, was_delivered_to, was_notified, is_owed_notice, injected_count, is_exhausted, injected_epochs, IsAdmissible, IsEnabled, IsLegal}
 use Rattle.fw_flow.specs.Message.{messages_less}
 use Rattle.fw_model.specs.LawsOfCompleteFrontiers.{EnabledIsOutside, AdmissibleStaysAdmissible}
@@ -128,7 +128,7 @@ outside-other sys h e f t fr i ms o =
     each-weaker (λ (m : Message). phi sys h e f m.at ≡ true → ⊥) (λ m. same t m.at ≡ false) ms
     (λ m a. false_from_ne_true (same t m.at) (λ k.
     let b = and_parts (leq t m.at) (leq m.at t) k in
-    a (p.closed m.at t (leq-trans m.at t (bounds_of_edge sys.flow e).greatest b.1 (p.inside_domain t i)) b.1 i))) o
+    a (p.closed m.at t (lesser-on_edge sys.flow e m.at t b.1 (p.inside_domain t i)) b.1 i))) o
 
 pub quiet-sent : (sys : System) (h : List Event) → IsWellFormed sys.flow → HasEpochs sys → IsLegal sys h
     → (done : ℕ → Frontier) → IsAdmissible sys h done → (v : Event) → IsEnabled sys h v

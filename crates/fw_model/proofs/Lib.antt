@@ -7,6 +7,7 @@ pub mod AskedLaws
 pub mod AskedStateLaws
 pub mod BelowLaws
 pub mod BothLaws
+pub mod CauseLaws
 pub mod ChainLaws
 pub mod SpanLaws
 pub mod StandingLaws
@@ -77,6 +78,8 @@ pub mod PrefixLaws
 pub mod ProgressLaws
 pub mod PsiBackLaws
 pub mod PsiLaws
+pub mod ReadLaws
+pub mod ReadOrderLaws
 pub mod RecoveryLaws
 pub mod ReplayLaws
 pub mod RestoringLaws

@@ -12,17 +12,19 @@ use Rattle.fw_flow.specs.declared.event.Event.{Event}
 use Rattle.fw_flow.specs.declared.event.Event.TheVariants.{Inject, Deliver, Notify}
 use Rattle.fw_flow.specs.declared.kind.Domain.TheVariants.{Epoch, Number}
 use Rattle.fw_flow.specs.declared.kind.Kind.TheVariants.{OutputEpoch, Sequence}
-use Rattle.fw_flow.specs.Dataflow.{System, Dataflow, kind_of, sender, receiver, greatest_number, domain_of_kind, out_domain_of_kind, bounds_of, is_input_kind, is_notified_kind, send_stamp_of_kind, is_sequence_kind, bounds_of_edge, HasEpochs}
+use Rattle.fw_flow.specs.Dataflow.{System, Dataflow, kind_of, sender, receiver, greatest_number, domain_of_kind, out_domain_of_kind, bounds_of, is_input_kind, is_notified_kind, send_stamp_of_kind, is_sequence_kind, HasEpochs}
 use Rattle.fw_flow.specs.NodeFunction.{sent_by}
 use Rattle.fw_flow.specs.Projection.{events_at, all_inside, phi}
 use Rattle.fw_flow.specs.WellFormed.{IsWellFormed}
+use Rattle.fw_model.proofs.LesserLaws.{lesser-on_edge}
 use Rattle.fw_model.specs.History.{some_at, delivered_messages, was_delivered_to, was_notified, is_owed_notice, IsAdmissible, IsNotifiable, IsEnabled, IsLegal}
 use Rattle.fw_flow.specs.Message.{messages_less}
 use Rattle.fw_model.specs.LawsOfCompleteFrontiers.{SequencesAreNotifiedInOrder, LegalInsidePhiComesFromInside}
 use Rattle.fw_model.proofs.StampLaws.{in_line, line-leq, leq_from, leq_to}
 use Rattle.fw_model.proofs.PhiLaws.{phi-monotone, phi-longer}
 use Rattle.fw_model.proofs.FrontierLaws.{phi-frontier}
-use Rattle.fw_model.proofs.SendsLaws.{IsOfCause, sent_by-of_cause, inside_phi-from_inside}
+use Rattle.fw_model.proofs.SendsLaws.{IsOfCause, sent_by-of_cause}
+use Rattle.fw_model.proofs.CauseLaws.{inside_phi-from_inside}
 use Rattle.fw_model.proofs.SequenceLaws.{bounds-sequence, notified_in_domain, inside_phi_of_sequence-from_inside}
 use Rattle.fw_model.proofs.LegalLaws.{enabled-in_domain, legal-in_domain, legal_events-in_domain, only_inputs_inject, edge_domains}
 use Rattle.fw_model.proofs.CompleteLaws.{admissible-stays, sender_sorts, not_owed-notified}
@@ -135,7 +137,7 @@ raise-admissible sys h w b l p t is k done a c =
                 let top = c e x.node in
                 phi-monotone sys (v ∷ h) e (done q) (family q) (wider q) u
                 (phi-longer sys h (v ∷ []) e (done q) u
-                (fr.closed u t (leq-trans u t (bounds_of_edge flow e).greatest x.below (fr.inside_domain t top)) x.below top))
+                (fr.closed u t (lesser-on_edge flow e u t x.below (fr.inside_domain t top)) x.below top))
           ];
       source = λ s j u i. elim (or_cases (done s u) (raised flow p t s u) i) [
         | inl y ↦ now.source s j u y

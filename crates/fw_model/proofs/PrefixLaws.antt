@@ -7,17 +7,18 @@ use Rattle.std.proofs.lemmas.List.{get_or_past}
 use Rattle.fw_lemmas.proofs.Bools.{two_ways}
 use Rattle.fw_lemmas.proofs.Filters.{filter-none}
 use Rattle.fw_time.specs.Stamp.{Stamp, leq, same}
-use Rattle.fw_time.proofs.StampLaws.{leq-refl, leq-trans}
+use Rattle.fw_time.proofs.StampLaws.{leq-refl}
 use Rattle.fw_bag.specs.declared.rec.Rec.{Rec}
 use Rattle.fw_frontier.specs.Frontier.{Frontier}
 use Rattle.fw_flow.specs.declared.event.Event.{Event}
 use Rattle.fw_flow.specs.declared.event.Event.TheVariants.{Inject, Deliver, Notify}
 use Rattle.fw_flow.specs.declared.kind.Kind.TheVariants.{OutputEpoch, Sequence}
-use Rattle.fw_flow.specs.Dataflow.{System, Dataflow, idle_node, kind_of, sender, receiver, is_notified_kind, bounds_of_edge}
+use Rattle.fw_flow.specs.Dataflow.{System, Dataflow, idle_node, kind_of, sender, receiver, is_notified_kind}
 use Rattle.fw_flow.specs.NodeFunction.{sequence_sent, numbered_messages, recs_on_notification}
 use Rattle.fw_flow.specs.Projection.{events_at}
 use Rattle.fw_flow.specs.WellFormed.{IsWellFormedSystem}
 use Rattle.fw_flow.specs.WholeBags.{Timed, in_order, numbered_recs}
+use Rattle.fw_model.proofs.LesserLaws.{lesser-on_edge}
 use Rattle.fw_model.specs.Denotation.{Family, IsDenotation, bag_at}
 use Rattle.fw_model.specs.History.{was_notified, sent_messages, delivered_messages, IsAdmissible, IsEnabled, IsNotifiable, IsLegal, IsClosedFor, recs_at}
 use Rattle.fw_model.specs.LawsOfDeliveries.{SentInsidePhiIsDenoted, DeliveredInsideCompleteIsDenoted, DeliveredUpToClosedIsDenoted}
@@ -49,7 +50,7 @@ closed-denoted sys h family l all p t c u below d at q =
     let n = sender sys.flow d in
     let top = c.complete.2 d at in
     let fr = phi-frontier sys h d (done n) (a.frontier n) in
-    let inside = fr.closed u t (leq-trans u t (bounds_of_edge sys.flow d).greatest below (fr.inside_domain t top)) below top in
+    let inside = fr.closed u t (lesser-on_edge sys.flow d u t below (fr.inside_domain t top)) below top in
     quiet-delivered sys h l d u (c.quiet u below d at) q ∙ all done a d u inside q
 
 -- a sequence is a node of the dataflow

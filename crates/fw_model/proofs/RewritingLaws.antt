@@ -3,18 +3,17 @@ use Rattle.std.proofs.Common.{◌≡◌, ℕ, ◌+◌, ◌<◌, Bool, true, fals
 use Rattle.std.specs.List.{AllByRecursion, flat_map}
 use Rattle.std.proofs.lemmas.Bool.{and_parts, and_from, or_right, cond_both, cases_Bool, cases_lt, eqb-true, eq-eqb, lt-ltb, false_from_ne_true}
 use Rattle.fw_lemmas.proofs.Bools.{two_ways}
-use Rattle.fw_lemmas.proofs.Each.{each-weaker, each-suffix}
+use Rattle.fw_lemmas.proofs.Each.{each-suffix}
 use Rattle.fw_time.specs.Stamp.{Stamp, leq, in_domain}
 use Rattle.fw_time.specs.declared.stamp.Bounds.{Bounds}
 use Rattle.fw_frontier.specs.Frontier.{Frontier, IsFrontier, Within, meet}
 use Rattle.fw_flow.specs.declared.event.Event.{Event}
 use Rattle.fw_flow.specs.declared.event.Event.TheVariants.{Inject, Deliver, Notify}
-use Rattle.fw_flow.specs.declared.event.Message.{Message}
 use Rattle.fw_flow.specs.declared.kind.Kind.{Kind}
 use Rattle.fw_flow.specs.declared.kind.Kind.TheVariants.{Input}
 use Rattle.fw_flow.specs.Dataflow.{greatest_of_kind, System, Dataflow, kind_of, sender, receiver, greatest_number, domain_of_kind, out_domain_of_kind, bounds_of, bounds_of_domain, batches_of, is_input_kind, is_sequence_kind}
 use Rattle.fw_flow.specs.NodeFunction.{event_node, event_stamp, sends, sent_by}
-use Rattle.fw_flow.specs.Projection.{events_at, all_inside, first_coordinate, count_from, sent_count, phi_of_kind, phi}
+use Rattle.fw_flow.specs.Projection.{events_at, first_coordinate, count_from, sent_count, phi_of_kind, phi}
 use Rattle.fw_model.proofs.LesserLaws.{lesser-in_domain, line-in_domain}
 use Rattle.fw_model.specs.History.{injected_count, injected_epochs, IsAdmissible, IsEnabled, IsLegal}
 use Rattle.fw_model.specs.LawsOfFiltering.{KeptEventsAreLegal}
@@ -23,9 +22,10 @@ use Rattle.fw_model.proofs.StampLaws.{leq_to, in_line, line-leq}
 use Rattle.fw_model.proofs.PhiLaws.{phi-monotone, count-append}
 use Rattle.fw_model.proofs.FrontierLaws.{phi-ignores_history}
 use Rattle.fw_model.proofs.MeetLaws.{one_within, phi-meet}
-use Rattle.fw_model.proofs.SequenceLaws.{bounds-sequence, count-none, one_inside}
+use Rattle.fw_model.proofs.SequenceLaws.{bounds-sequence, count-none}
 use Rattle.fw_model.proofs.CompleteLaws.{enabled-outside, admissible-stays}
-use Rattle.fw_model.proofs.LocalityLaws.{sends-causes, phi-same}
+use Rattle.fw_model.proofs.CauseLaws.{outside-sends}
+use Rattle.fw_model.proofs.LocalityLaws.{phi-same}
 use Rattle.fw_model.proofs.KeptLaws.{IsFiltering, filtering-before, kept-causes, kept-quiet, kept-owed, inject-enabled, deliver-enabled, causes-now, legal-with}
 use Rattle.fw_model.proofs.SettleLaws.{meet-frontier}
 use Rattle.fw_model.specs.Filtering.{AreFrontiers, kept_events, HaveKeptCauses}
@@ -119,8 +119,7 @@ phi-final sys h done a v k e g i u =
     (λ c.
     let outside : g (event_stamp v) ≡ false = false_from_ne_true (g (event_stamp v)) (λ j.
     two_ways (done q (event_stamp v)) (i (event_stamp v) j) (sym (ap (λ n. done n (event_stamp v)) (eqb-true (event_node sys.flow v) q c)) ∙ enabled-outside sys h done a v k)) in
-    let none = count-none g (sends sys q vs v)
-    (each-weaker (λ (m : Message). m.causes ≡ event_stamp v ∷ []) (λ m. all_inside g m.causes ≡ false) (sends sys q vs v) (λ m r. one_inside g (event_stamp v) m false outside r) (sends-causes sys q vs v)) in
+    let none = count-none g (sends sys q vs v) (outside-sends sys q g vs v outside) in
     omega (arith, count-append g (sends sys q vs v) (sent_by sys q vs)))
     (λ c. refl) in
     ap (λ n. in_domain (bounds_of_domain sys.flow (out_domain_of_kind sys.flow kind)) u && phi_of_kind (greatest_of_kind sys.flow kind) kind n g u) same

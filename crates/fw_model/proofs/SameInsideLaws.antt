@@ -5,7 +5,6 @@ use Rattle.std.proofs.lemmas.Bool.{and_parts, and_from, cond_both, cases_Bool, e
 use Rattle.std.proofs.lemmas.List.{get_or-map, length-map}
 use Rattle.std.proofs.lemmas.List.Elements.{filter-append}
 use Rattle.fw_lemmas.proofs.Bools.{two_ways, passes-not}
-use Rattle.fw_lemmas.proofs.Each.{each-weaker}
 use Rattle.fw_lemmas.proofs.Filters.{filter-in, filter-out, filter-none}
 use Rattle.fw_time.specs.Stamp.{Stamp, leq, in_domain}
 use Rattle.fw_time.specs.declared.stamp.Bounds.{Bounds}
@@ -30,8 +29,8 @@ use Rattle.fw_flow.specs.Restoring.{way_of}
 use Rattle.fw_model.specs.Covers.{set_of, stamps_inside, stamps_from, stamp_of_notice, notified_inside, covers_in, tallies_in}
 use Rattle.fw_model.proofs.StampLaws.{line-leq}
 use Rattle.fw_model.proofs.PhiLaws.{phi-longer}
-use Rattle.fw_model.proofs.LocalityLaws.{sends-causes, delivers-same, sends-same_within, phi-same}
-use Rattle.fw_model.proofs.SequenceLaws.{one_inside}
+use Rattle.fw_model.proofs.CauseLaws.{outside-sends}
+use Rattle.fw_model.proofs.LocalityLaws.{delivers-same, sends-same_within, phi-same}
 use Rattle.fw_model.specs.Filtering.{AreFrontiers, kept_events, messages_from, messages_inside}
 use Rattle.fw_model.specs.Choosing.{low_choice}
 use Rattle.fw_model.proofs.TallyLaws.{delivered_cover-same, discarded_cover-same, notified_cover-same}
@@ -72,8 +71,7 @@ sent-outside sys h v e f out =
     let now = sends sys q vs v in
     filter-append (λ (m : Message). all_inside f m.causes) now (sent_by sys q vs)
     ∙ ap (λ ms. ms ++ messages_from f (sent_by sys q vs))
-    (filter-none (λ (m : Message). all_inside f m.causes) now
-    (each-weaker (λ (m : Message). m.causes ≡ event_stamp v ∷ []) (λ m. all_inside f m.causes ≡ false) now (λ m a. one_inside f (event_stamp v) m false o a) (sends-causes sys q vs v))))
+    (filter-none (λ (m : Message). all_inside f m.causes) now (outside-sends sys q f vs v o)))
     (λ c. refl)
 
 pub inside-event : (sys : System) (h : List Event) (v : Event) (low : List Front) → IsWellFormed sys.flow

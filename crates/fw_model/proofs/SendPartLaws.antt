@@ -1,27 +1,27 @@
 -- What a part of a node's events sends.
-use Rattle.std.proofs.Common.{◌≡◌, ℕ, true, false, cond, not, ◌&&◌, ◌==◌, List, [], ◌∷◌, ◌++◌, refl, sym, ap, subst, ◌∙◌, inl, inr}
-use Rattle.std.proofs.lemmas.Bool.{and_parts, cond_both, cases_Bool, eqb-true, eq-eqb}
+use Rattle.std.proofs.Common.{◌≡◌, ℕ, true, false, cond, ◌&&◌, ◌==◌, List, [], ◌∷◌, ◌++◌, refl, sym, ap, subst, ◌∙◌, inl, inr}
+use Rattle.std.proofs.lemmas.Bool.{cond_both, cases_Bool, eqb-true, eq-eqb}
 use Rattle.std.proofs.lemmas.List.Elements.{filter-append}
 use Rattle.fw_lemmas.proofs.Bools.{two_ways}
-use Rattle.fw_lemmas.proofs.Each.{each-weaker}
+use Rattle.fw_lemmas.proofs.Each.{each-weaker, each-one}
 use Rattle.fw_lemmas.proofs.Filters.{filter-in, filter-out, filter-all, filter-none}
 use Rattle.fw_time.specs.Stamp.{Stamp, same}
-use Rattle.fw_bag.specs.Keyed.{joined_rec, distinct_keys, sums_of, is_among}
 use Rattle.fw_frontier.specs.Frontier.{Frontier, IsFrontier, everything}
 use Rattle.fw_flow.specs.declared.choice.Cut.TheVariants.{Present}
 use Rattle.fw_flow.specs.declared.event.Event.{Event}
-use Rattle.fw_flow.specs.declared.event.Event.TheVariants.{Inject, Deliver, Notify}
 use Rattle.fw_flow.specs.declared.event.Message.{Message}
 use Rattle.fw_flow.specs.declared.kind.Kind.{Kind}
-use Rattle.fw_flow.specs.declared.kind.Kind.TheVariants.{Distinct, Join, Sum, Total, Sequence, Ledger}
-use Rattle.fw_flow.specs.Dataflow.{System, Dataflow, kind_of, bounds_of, send_stamp_of_kind, HasEpochs}
-use Rattle.fw_flow.specs.NodeFunction.{event_stamp, recs_on_delivery, recs_on_notification, recs_on, messages_at_some, sends_of_kind, sends, sent_by}
+use Rattle.fw_flow.specs.Dataflow.{System, Dataflow, kind_of, bounds_of, HasEpochs}
+use Rattle.fw_flow.specs.NodeFunction.{event_stamp, sends_of_kind, sends, sent_by}
 use Rattle.fw_flow.specs.Projection.{events_at, all_inside}
 use Rattle.fw_flow.specs.WellFormed.{IsWellFormed, may_keep_nothing}
 use Rattle.fw_model.specs.History.{IsLegal}
 use Rattle.fw_model.specs.Filtering.{AreFrontiers, events_inside, messages_from}
 use Rattle.fw_model.proofs.FilteredLaws.{set-frontier}
-use Rattle.fw_model.proofs.LocalityLaws.{sends-causes, events_at-kept, sent_by-same, reads-inside, reads-at}
+use Rattle.fw_model.proofs.CauseLaws.{IsCausedBy, outside-sends, sends-one_cause}
+use Rattle.fw_model.proofs.LocalityLaws.{events_at-kept, sent_by-same}
+use Rattle.fw_model.specs.Reads.{Reads, nothing_before, its_time, up_to_its_time, all_in_order, reads_of, reads_at, reads_its_time_alone}
+use Rattle.fw_model.proofs.ReadLaws.{kept-reads, alone-follows, free-alone}
 use Rattle.fw_model.proofs.SequenceLaws.{one_inside}
 use Rattle.fw_time.proofs.StampLaws.{same-is}
 use Rattle.fw_model.specs.LawsOfReplay.{SamePartSendsTheSame, PassingEventsSendTheirPart}
@@ -50,35 +50,30 @@ parts-send sys h k w b l m p f fr same =
 
 -- ---- of any events, at a node whose kind may keep nothing
 
-delivery-passing : (kind : Kind) → may_keep_nothing kind ≡ true → (f : Frontier) (vs : List Event) (e : ℕ) (m : Message) → f m.at ≡ true
-    → recs_on_delivery kind (events_inside f vs) e m.at m.rec ≡ recs_on_delivery kind vs e m.at m.rec
-delivery-passing (Distinct within) n f vs e m i = ap (λ rs. cond (is_among m.rec rs) [] (m.rec ∷ [])) (reads-at f m.at vs i)
-delivery-passing (Join within) n f vs e m i =
-    ap (joined_rec m.rec) (reads-inside f (λ d s. not (d == e) && same s m.at) vs (λ d s k. ap f (same-is s m.at (and_parts (not (d == e)) (same s m.at) k).1) ∙ i))
-delivery-passing Ledger n f vs e m i = absurd (two_ways false n refl)
-delivery-passing kind n f vs e m i = refl
-
-notification-passing : (kind : Kind) → may_keep_nothing kind ≡ true → (f : Frontier) (vs : List Event) (t : Stamp) → f t ≡ true
-    → recs_on_notification kind (events_inside f vs) t ≡ recs_on_notification kind vs t
-notification-passing (Sum within) n f vs t i = ap (λ rs. sums_of (distinct_keys rs) rs) (reads-at f t vs i)
-notification-passing Total n f vs t i = absurd (two_ways false n refl)
-notification-passing Sequence n f vs t i = absurd (two_ways false n refl)
-notification-passing kind n f vs t i = refl
-
-recs-passing : (sys : System) (kind : Kind) → may_keep_nothing kind ≡ true → (f : Frontier) (vs : List Event) (v : Event) → f (event_stamp v) ≡ true
-    → recs_on sys kind (events_inside f vs) v ≡ recs_on sys kind vs v
-recs-passing sys kind n f vs (Inject s x) i = refl
-recs-passing sys kind n f vs (Deliver e m) i = delivery-passing kind n f vs e m i
-recs-passing sys kind n f vs (Notify p t) i = notification-passing kind n f vs t i
+reads-passing : (r : Reads) → reads_its_time_alone r ≡ true → (f : Frontier) (t : Stamp) → f t ≡ true → (s : Stamp) → reads_at r t s ≡ true → f s ≡ true
+reads-passing nothing_before n f t i s k = absurd (two_ways false k refl)
+reads-passing its_time n f t i s k = ap f (same-is s t k) ∙ i
+reads-passing up_to_its_time n f t i s k = absurd (two_ways false n refl)
+reads-passing all_in_order n f t i s k = absurd (two_ways false n refl)
 
 sends_of_kind-passing : (sys : System) (kind : Kind) → may_keep_nothing kind ≡ true → (f : Frontier) (vs : List Event) (v : Event) → f (event_stamp v) ≡ true
     → sends_of_kind sys kind (events_inside f vs) v ≡ sends_of_kind sys kind vs v
-sends_of_kind-passing sys Sequence n f vs v i = absurd (two_ways false n refl)
 sends_of_kind-passing sys kind n f vs v i =
-    ap (messages_at_some (send_stamp_of_kind sys.flow kind (event_stamp v)) (event_stamp v)) (recs-passing sys kind n f vs v i)
+    let alone = free-alone kind n in
+    kept-reads sys kind f vs v (alone-follows kind alone vs v)
+    (each-one (λ w. reads_at (reads_of kind) (event_stamp v) (event_stamp w) ≡ true → f (event_stamp w) ≡ true) vs
+    (λ w k. reads-passing (reads_of kind) alone f (event_stamp v) i (event_stamp w) k))
+
+-- an event inside sends after those inside what has all its causes inside of what it sends after all
+sends-passing : (sys : System) (p : ℕ) → may_keep_nothing (kind_of sys.flow p) ≡ true → (f : Frontier) (vs : List Event) (v : Event) → f (event_stamp v) ≡ true
+    → sends sys p (events_inside f vs) v ≡ messages_from f (sends sys p vs v)
+unfolding sends
+sends-passing sys p n f vs v i =
+    sends_of_kind-passing sys (kind_of sys.flow p) n f vs v i
+    ∙ sym (filter-all (λ (m : Message). all_inside f m.causes) (sends sys p vs v)
+    (each-weaker (IsCausedBy (event_stamp v)) (λ m. all_inside f m.causes ≡ true) (sends sys p vs v) (λ m e. one_inside f (event_stamp v) m true i e) (sends-one_cause sys p vs v)))
 
 pub passing-send : PassingEventsSendTheirPart
-unfolding sends
 passing-send sys p n f [] = refl
 passing-send sys p n f (v ∷ vs) =
     let rest = passing-send sys p n f vs in
@@ -86,14 +81,11 @@ passing-send sys p n f (v ∷ vs) =
     let parts = filter-append (λ (m : Message). all_inside f m.causes) now (sent_by sys p vs) in
     elim (cases_Bool (f (event_stamp v))) [
       | inl i ↦
-          let all = filter-all (λ (m : Message). all_inside f m.causes) now
-          (each-weaker (λ (m : Message). m.causes ≡ event_stamp v ∷ []) (λ m. all_inside f m.causes ≡ true) now (λ m e. one_inside f (event_stamp v) m true i e) (sends-causes sys p vs v)) in
           ap (sent_by sys p) (filter-in (λ w. f (event_stamp w)) v vs i)
-          ∙ ap (λ ms. ms ++ sent_by sys p (events_inside f vs)) (sends_of_kind-passing sys (kind_of sys.flow p) n f vs v i)
-          ∙ ap (λ ms. now ++ ms) rest
-          ∙ sym (parts ∙ ap (λ ms. ms ++ messages_from f (sent_by sys p vs)) all)
+          ∙ ap (λ ms. ms ++ sent_by sys p (events_inside f vs)) (sends-passing sys p n f vs v i)
+          ∙ ap (λ ms. messages_from f now ++ ms) rest
+          ∙ sym parts
       | inr i ↦
-          let none = filter-none (λ (m : Message). all_inside f m.causes) now
-          (each-weaker (λ (m : Message). m.causes ≡ event_stamp v ∷ []) (λ m. all_inside f m.causes ≡ false) now (λ m e. one_inside f (event_stamp v) m false i e) (sends-causes sys p vs v)) in
+          let none = filter-none (λ (m : Message). all_inside f m.causes) now (outside-sends sys p f vs v i) in
           ap (sent_by sys p) (filter-out (λ w. f (event_stamp w)) v vs i) ∙ rest ∙ sym (parts ∙ ap (λ ms. ms ++ messages_from f (sent_by sys p vs)) none)
     ]

@@ -1,20 +1,20 @@
--- At which stamps events send, and from where the messages inside phi come.
+-- At which stamps events send.
 use Rattle.std.proofs.Common.{◌≡◌, ℕ, true, false, List, [], ◌∷◌, Option, Some, None, refl, sym, ap, ◌∙◌}
 use Rattle.std.specs.List.{AllByRecursion}
-use Rattle.std.proofs.lemmas.Bool.{and_parts, and_from}
+use Rattle.std.proofs.lemmas.Bool.{and_parts}
 use Rattle.fw_lemmas.proofs.Each.{each-weaker, each-append}
 use Rattle.fw_bag.specs.declared.rec.Rec.{Rec}
-use Rattle.fw_time.specs.Stamp.{Stamp, in_domain}
+use Rattle.fw_time.specs.Stamp.{Stamp}
 use Rattle.fw_time.proofs.StampLaws.{leq-refl}
 use Rattle.fw_flow.specs.declared.event.Event.{Event}
 use Rattle.fw_flow.specs.declared.event.Message.{Message}
 use Rattle.fw_flow.specs.declared.kind.Kind.{Kind}
 use Rattle.fw_flow.specs.declared.kind.Kind.TheVariants.{Sequence}
-use Rattle.fw_flow.specs.Dataflow.{System, Dataflow, kind_of, sender, bounds_of, send_stamp, send_stamp_of_kind, is_sequence_kind}
+use Rattle.fw_flow.specs.Dataflow.{System, Dataflow, kind_of, sender, send_stamp, send_stamp_of_kind, is_sequence_kind}
 use Rattle.fw_flow.specs.NodeFunction.{event_stamp, recs_on, messages_at, messages_at_some, sends_of_kind, sends, sent_by}
-use Rattle.fw_flow.specs.Projection.{events_at, all_inside, phi, psi}
-use Rattle.fw_model.specs.LawsOfSending.{SendsAtSendStamp, SendsAreInsidePsi, SentFromInsideIsInsidePsi, InsidePhiComesFromInside}
-use Rattle.fw_model.proofs.SendingLaws.{phi-by_stamp, psi-by_stamp, phi-in_domain, send_stamp-in_domain}
+use Rattle.fw_flow.specs.Projection.{events_at, all_inside, psi}
+use Rattle.fw_model.specs.LawsOfSending.{SendsAtSendStamp, SendsAreInsidePsi, SentFromInsideIsInsidePsi}
+use Rattle.fw_model.proofs.SendingLaws.{psi-by_stamp, send_stamp-in_domain}
 use Rattle.fw_model.specs.Sending.{SendsByStamp}
 
 -- the message is at this stamp, if there is one, and has one cause
@@ -50,29 +50,6 @@ sends-inside_psi sys e f p fr before v k =
     (λ m a. (psi-by_stamp sys.flow e f p fr m.at (send_stamp-in_domain sys.flow q (event_stamp v) m.at (fr.inside_domain (event_stamp v) k) a.0)).1
     (event_stamp v, m.at, k, a.0, leq-refl m.at))
     (sends-each sys q (by_stamp-no_sequence sys.flow (kind_of sys.flow q) p) before v)
-
--- the message is at the send stamp of its one cause, which is of the node's domain
-IsFrom : Dataflow → ℕ → Message → Type 0
-IsFrom flow p m = (t : Stamp) × (in_domain (bounds_of flow p) t ≡ true) × (send_stamp flow p t ≡ Some m.at) × (m.causes ≡ t ∷ [])
-
-sent_by-each : (sys : System) (p : ℕ) → is_sequence_kind (kind_of sys.flow p) ≡ false → (vs : List Event)
-    → AllByRecursion (λ v. in_domain (bounds_of sys.flow p) (event_stamp v) ≡ true) vs → AllByRecursion (IsFrom sys.flow p) (sent_by sys p vs)
-unfolding IsFrom
-sent_by-each sys p n [] d = tt
-sent_by-each sys p n (v ∷ vs) d =
-    each-append (IsFrom sys.flow p) (sends sys p vs v) (sent_by sys p vs)
-    (each-weaker (IsAt (send_stamp sys.flow p (event_stamp v)) (event_stamp v)) (IsFrom sys.flow p) (sends sys p vs v) (λ m a. (event_stamp v, d.0, a.0, a.1)) (sends-each sys p n vs v))
-    (sent_by-each sys p n vs d.1)
-
-pub inside_phi-from_inside : InsidePhiComesFromInside
-unfolding IsFrom
-inside_phi-from_inside sys h e f p fr d =
-    let q = sender sys.flow e in
-    each-weaker (IsFrom sys.flow q) (λ m. phi sys h e f m.at ≡ true → all_inside f m.causes ≡ true) (sent_by sys q (events_at sys.flow q h))
-    (λ m w k.
-    let all = (phi-by_stamp sys h e f p fr m.at (phi-in_domain sys h e f m.at k)).0 k in
-    ap (all_inside f) w.3 ∙ and_from (f w.0) true (all w.0 m.at w.1 w.2 (leq-refl m.at)) refl)
-    (sent_by-each sys q (by_stamp-no_sequence sys.flow (kind_of sys.flow q) p) (events_at sys.flow q h) d)
 
 -- the message is at the send stamp of its one cause
 unfoldable pub IsOfCause : Dataflow → ℕ → Message → Type 0

@@ -1,6 +1,6 @@
 -- Laws of sending: at which stamps events send, and from which events the messages inside a projection come.
 use Rattle.std.specs.Prelude.{◌≡◌, ◌↔◌, ◌⊎◌, ℕ, ◌<◌, true, false, List, [], ◌∷◌, length, Some}
-use Rattle.std.specs.List.{AllByRecursion}
+use Rattle.std.specs.List.{AllByRecursion, Contains}
 use Rattle.fw_time.specs.Stamp.{Stamp, leq, in_domain}
 use Rattle.fw_frontier.specs.Frontier.{Frontier, IsFrontier, Within}
 use Rattle.fw_flow.specs.declared.event.Event.{Event}
@@ -65,6 +65,21 @@ SendsAtSendStamp = (sys : System) (p : ℕ) → is_sequence_kind (kind_of sys.fl
     → (before : List Event) (v : Event)
     → AllByRecursion (λ (m : Message). (send_stamp sys.flow p (event_stamp v) ≡ Some m.at) × (m.causes ≡ event_stamp v ∷ []))
     (sends sys p before v)
+
+-- the stamp sends at u or below
+abbrev pub SendsAtMost : Dataflow → ℕ → Stamp → Stamp → Type 0
+SendsAtMost flow p u t = (s : Stamp) × (send_stamp flow p t ≡ Some s) × (leq s u ≡ true)
+
+-- Of a message that an event of node p makes it send, the event's stamp is a cause, and each cause sends at the message's stamp or
+-- below.
+pub record IsFromCauses (flow : Dataflow) (p : ℕ) (v : Event) (m : Message) : Type 0 where
+  pub some : Contains m.causes (event_stamp v)
+  pub each : AllByRecursion (SendsAtMost flow p m.at) m.causes
+
+-- each message that an event makes a node send that is no sequence is so
+abbrev pub SendsComeFromCauses : Type 0
+SendsComeFromCauses = (sys : System) (p : ℕ) → is_sequence_kind (kind_of sys.flow p) ≡ false
+    → (before : List Event) (v : Event) → AllByRecursion (IsFromCauses sys.flow p v) (sends sys p before v)
 
 -- where the sender sends at the send stamps of its events, what an event inside a frontier of the sender makes it send is
 -- inside psi

@@ -44,6 +44,7 @@ pub mod Measure
 pub mod Offers
 pub mod Order
 pub mod Poorer
+pub mod Reads
 pub mod Reached
 pub mod Resending
 pub mod Sending

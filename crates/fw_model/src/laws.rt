@@ -27,7 +27,7 @@ ghost use Rattle.fw_model.specs.LawsOfRecoveries.{AcknowledgementsShowDenotation
 ghost use Rattle.fw_model.specs.LawsOfRestoring.{BatchesOutsideCutsLieOutsideLow, BatchesToComeLieOutsideLow, CheckpointLogsHoldWhatIsSentAgain, CheckpointsAreAsTheyWereAsked, CheckpointsAscend, CheckpointsAtCutsAreKept, CheckpointsStayTrue, CollectedIsWhatLiesBelow, EventsInsideCutsAreLogged, EventsThatMustBeKeptAreNeverCollected, KeptWatermarksLieWithinToday, LogsHoldWhatIsSentAgain, NothingComesInsideCheckpoints, WhatIsForgottenWasAcknowledged};
 ghost use Rattle.fw_model.specs.LawsOfReplay.{PassingEventsSendTheirPart, ReplayedEventsAreThoseNotGivenUp, ReplayedEventsSendTheSame, SamePartSendsTheSame};
 ghost use Rattle.fw_model.specs.LawsOfRuns.{AcknowledgementsAreInOrder, RunsGoOn, RunsStayLegal};
-ghost use Rattle.fw_model.specs.LawsOfSending.{InsidePhiComesFromInside, InsidePhiOfSequenceComesFromInside, PhiBySendStamps, PsiBackBySendStamps, PsiBackIsLargest, PsiBySendStamps, SendStampIsMonotone, SendersOfWellFormed, SendsAreInsidePsi, SendsAtSendStamp, SentFromInsideIsInsidePsi, SentTableFollowsHistory};
+ghost use Rattle.fw_model.specs.LawsOfSending.{InsidePhiComesFromInside, InsidePhiOfSequenceComesFromInside, PhiBySendStamps, PsiBackBySendStamps, PsiBackIsLargest, PsiBySendStamps, SendStampIsMonotone, SendersOfWellFormed, SendsAreInsidePsi, SendsAtSendStamp, SendsComeFromCauses, SentFromInsideIsInsidePsi, SentTableFollowsHistory};
 ghost use Rattle.fw_model.specs.LawsOfSettled.{NothingComesInsideSettled};
 ghost use Rattle.fw_model.specs.LawsOfSteps.{ExactlyOneNextState, OneNextState, SomeNextState};
 ghost use Rattle.fw_model.specs.LawsOfTables.{DeliveriesLieInside, NothingComesAfterItsNotice, SettledIsTold, TotalsSumWhatWasTold};
@@ -123,6 +123,12 @@ pub fn psi_of_nothing()
 /// the event's stamp.
 pub fn sends_at_send_stamp()
     ensures { SendsAtSendStamp }
+{}
+
+/// Of each message that an event makes a node send that is no sequence, the event's stamp is a cause, and each cause sends at
+/// the message's stamp or below.
+pub fn sends_come_from_causes()
+    ensures { SendsComeFromCauses }
 {}
 
 /// Where the sender sends at the send stamps of its events, what an event inside a frontier of the sender makes it

@@ -1,4 +1,4 @@
-use Rattle.fw_model.proofs.SendsLaws.{inside_phi-from_inside}
+use Rattle.fw_model.proofs.CauseLaws.{inside_phi-from_inside}
 use Rattle.fw_model.proofs.laws.inside_phi_comes_from_inside.Goals as goal
 
 pub returns : goal.returns

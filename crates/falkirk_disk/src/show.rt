@@ -110,15 +110,20 @@ fn tell_checkpoint(
     checkpoint: &Checkpoint,
     told: &mut String,
 ) -> Result<(), AllocError> {
-    match base {
-        None => told.push_str("checkpoint node ")?,
-        Some(base) => told.push_str(&format!(in alloc; "changes on {base} node ")?)?,
-    }
+    tell_base(alloc, base, told)?;
     tell_node(alloc, flow, checkpoint.node, told)?;
     let Entries::Totals(totals) = &checkpoint.state.entries;
     let (sent, totals) = (checkpoint.state.sent, totals.as_slice().len());
     let (front, logged) = (&checkpoint.recorded.front, checkpoint.log.as_slice().len());
     told.push_str(&format!(in alloc; " {front} sent {sent} totals {totals} logged {logged}")?)
+}
+
+// Tells whether it is a whole checkpoint or holds changes, and since which record.
+fn tell_base(alloc: Global, base: Option<u64>, told: &mut String) -> Result<(), AllocError> {
+    match base {
+        None => told.push_str("checkpoint node "),
+        Some(base) => told.push_str(&format!(in alloc; "changes on {base} node ")?),
+    }
 }
 
 // Tells an event.

@@ -3,7 +3,7 @@ use Rattle.std.proofs.Common.{◌≡◌, ◌≢◌, ℕ, Bool, true, false, ◌&
 use Rattle.std.specs.Prelude.{filter}
 use Rattle.std.specs.List.{AllByRecursion, flat_map}
 use Rattle.std.proofs.lemmas.Bool.{eq-eqb, eqb-true, false_from_ne_true}
-use Rattle.fw_lemmas.proofs.Each.{each-weaker, each-append}
+use Rattle.fw_lemmas.proofs.Each.{each-append}
 use Rattle.fw_lemmas.proofs.Filters.{flat_map-filter}
 use Rattle.fw_time.specs.Stamp.{Stamp, in_domain}
 use Rattle.fw_time.specs.declared.stamp.Bounds.{Bounds}
@@ -13,7 +13,7 @@ use Rattle.fw_flow.specs.declared.event.Event.{Event}
 use Rattle.fw_flow.specs.declared.event.Event.TheVariants.{Inject, Deliver, Notify}
 use Rattle.fw_flow.specs.declared.event.Message.{Message}
 use Rattle.fw_flow.specs.Dataflow.{System, Dataflow, receiver, bounds_of, node_frontier, HasEpochs}
-use Rattle.fw_flow.specs.NodeFunction.{event_node, event_stamp, sends, sent_by}
+use Rattle.fw_flow.specs.NodeFunction.{event_node, event_stamp, sent_by}
 use Rattle.fw_flow.specs.Projection.{events_at}
 use Rattle.fw_flow.specs.WellFormed.{IsWellFormed}
 use Rattle.fw_model.specs.Covers.{stamp_of_notice}
@@ -21,7 +21,8 @@ use Rattle.fw_model.specs.Filtering.{AreFrontiers, kept_events, messages_inside,
 use Rattle.fw_model.specs.History.{message_on, delivered_messages, AreEventsInDomain, IsLegal}
 use Rattle.fw_model.specs.Thinned.{IsThinned, IsThinnedIf}
 use Rattle.fw_model.proofs.LegalLaws.{legal_events-in_domain}
-use Rattle.fw_model.proofs.LocalityLaws.{sends-causes, events_at-kept, sent_by-same, delivers-same}
+use Rattle.fw_model.proofs.CauseLaws.{sent_by-each_cause, sent_by-one_cause}
+use Rattle.fw_model.proofs.LocalityLaws.{events_at-kept, sent_by-same, delivers-same}
 use Rattle.fw_model.proofs.SequenceLaws.{one_inside}
 use Rattle.fw_progress.specs.declared.sent_tally.SentTally.{SentTally}
 use Rattle.fw_progress.specs.declared.traces.Traces.{Traces}
@@ -94,14 +95,6 @@ notices-of p b (Notify q t ∷ vs) a = by (q == p) (notices-of p b vs a.1)
     by true r = (a.0, r)
     by false r = r
 
-pub come-of : (sys : System) (p : ℕ) (b : Bounds) (vs : List Event) → AllByRecursion (λ v. in_domain b (event_stamp v) ≡ true) vs → ComeFromDomain b (sent_by sys p vs)
-come-of sys p b [] a = tt
-come-of sys p b (v ∷ vs) a =
-    let P : Message → Type 0 = λ m. AllByRecursion (λ t. in_domain b t ≡ true) m.causes in
-    each-append P (sends sys p vs v) (sent_by sys p vs)
-    (each-weaker (λ (m : Message). m.causes ≡ event_stamp v ∷ []) P (sends sys p vs v) (λ m e. subst (AllByRecursion (λ t. in_domain b t ≡ true)) (sym e) (a.0, tt)) (sends-causes sys p vs v))
-    (come-of sys p b vs a.1)
-
 pub causes-of : (b : Bounds) (ms : List Message) → ComeFromDomain b ms → AreOf b (causes_in ms)
 causes-of b [] a = tt
 causes-of b (m ∷ ms) a = each-append (λ t. in_domain b t ≡ true) m.causes (causes_in ms) a.0 (causes-of b ms a.1)
@@ -116,7 +109,7 @@ pub notices-domain : (sys : System) (h : List Event) (p : ℕ) → AreEventsInDo
 notices-domain sys h p a = subst (AreOf (bounds_of sys.flow p)) (notices-at sys.flow h p) (notices-of p (bounds_of sys.flow p) (events_at sys.flow p h) a)
 
 pub sent-domain : (sys : System) (h : List Event) (p : ℕ) → AreEventsInDomain sys.flow h p → ComeFromDomain (bounds_of sys.flow p) (sent_by sys p (events_at sys.flow p h))
-sent-domain sys h p a = come-of sys p (bounds_of sys.flow p) (events_at sys.flow p h) a
+sent-domain sys h p a = sent_by-each_cause sys p (λ t. in_domain (bounds_of sys.flow p) t ≡ true) (events_at sys.flow p h) a
 
 -- ---- lists that change together
 
@@ -233,14 +226,6 @@ causes-from f (m ∷ ms) a =
     by t e true k = ap (λ cs. cs ++ causes_in (messages_from f ms)) e ∙ ap (λ ss. t ∷ ss) k
     by t e false k = k
 
--- each message that a node sends has one cause
-pub sent-one : (sys : System) (p : ℕ) (vs : List Event) → AllByRecursion (λ (m : Message). (t : Stamp) × (m.causes ≡ t ∷ [])) (sent_by sys p vs)
-sent-one sys p [] = tt
-sent-one sys p (v ∷ vs) =
-    let P : Message → Type 0 = λ m. (t : Stamp) × (m.causes ≡ t ∷ []) in
-    each-append P (sends sys p vs v) (sent_by sys p vs) (each-weaker (λ (m : Message). m.causes ≡ event_stamp v ∷ []) P (sends sys p vs v) (λ m e. (event_stamp v, e)) (sends-causes sys p vs v))
-    (sent-one sys p vs)
-
 pub notices-kept : (flow : Dataflow) (keep : ℕ → Frontier) (h : List Event) (p : ℕ) → flat_map (stamp_of_notice p) (kept_events flow keep h) ≡ filter (keep p) (flat_map (stamp_of_notice p) h)
 notices-kept flow keep h p =
     sym (notices-at flow (kept_events flow keep h) p) ∙ ap (flat_map (stamp_of_notice p)) (events_at-kept flow keep p h)
@@ -258,7 +243,7 @@ pub sent-kept : (sys : System) (h : List Event) (keep : ℕ → Frontier) → Is
     → causes_in (sent_by sys p (events_at sys.flow p (kept_events sys.flow keep h))) ≡ filter g (causes_in (sent_by sys p (events_at sys.flow p h)))
 sent-kept sys h keep well epochs legal fr p g is =
     ap causes_in (sent_by-same sys h keep well epochs legal fr p ∙ ap (λ f. messages_from f (sent_by sys p (events_at sys.flow p h))) is)
-    ∙ causes-from g (sent_by sys p (events_at sys.flow p h)) (sent-one sys p (events_at sys.flow p h))
+    ∙ causes-from g (sent_by sys p (events_at sys.flow p h)) (sent_by-one_cause sys p (events_at sys.flow p h))
 
 pub cut-traces : (flow : Dataflow) (p : ℕ) (f : Front) (old new : Traces) → IsWellFormed flow → HaveChanged flow p (StandsInside f) (IsTallyCutTo f) old new → AreCutTo flow p f old new
 cut-traces flow p f old new well change = record {

@@ -17,7 +17,7 @@ use Rattle.fw_flow.specs.Projection.{events_at}
 use Rattle.fw_model.specs.Covers.{stamp_of_notice}
 use Rattle.fw_model.specs.History.{message_on, delivered_messages}
 use Rattle.fw_model.specs.Thinned.{IsBelowKept, IsThinned, IsThinnedIf}
-use Rattle.fw_model.proofs.LocalityLaws.{sends-causes}
+use Rattle.fw_model.proofs.CauseLaws.{sends-one_cause}
 use Rattle.fw_model.proofs.ThinnedLaws.{each-contained}
 use Rattle.fw_progress.specs.declared.sent_tally.SentTally.{SentTally}
 use Rattle.fw_progress.specs.declared.traces.Traces.{Traces}
@@ -125,7 +125,7 @@ tells-follow flow v sent old new tells whole sys h e is p base t =
     many = sym (length-map now (λ (m : Message). m.at)) ∙ ap length is
 
     one : AllByRecursion (λ (m : Message). m.causes ≡ event_stamp v ∷ []) now
-    one = sends-causes sys q (events_at sys.flow q h) v
+    one = sends-one_cause sys q (events_at sys.flow q h) v
 
     base_at : ℕ → Frontier
     base_at n = base_of_sent sys.flow n base

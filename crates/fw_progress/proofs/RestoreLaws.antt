@@ -13,7 +13,7 @@ use Rattle.fw_flow.specs.declared.choice.Stamps.{Stamps}
 use Rattle.fw_flow.specs.declared.event.Event.{Event}
 use Rattle.fw_flow.specs.declared.event.Message.{Message}
 use Rattle.fw_flow.specs.Dataflow.{System, Dataflow, kind_of, receiver, out_edges, is_sequence_kind}
-use Rattle.fw_flow.specs.NodeFunction.{event_stamp, sends, sent_by}
+use Rattle.fw_flow.specs.NodeFunction.{event_stamp, sent_by}
 use Rattle.fw_flow.specs.Projection.{events_at, all_inside, count_from}
 use Rattle.fw_flow.proofs.OutEdgeLaws.{out_edges-from}
 use Rattle.fw_model.specs.Covers.{stamp_of_notice}
@@ -21,8 +21,7 @@ use Rattle.fw_model.specs.EventStamps.{causes_of, causes_in, base_of_sent, tells
 use Rattle.fw_model.specs.History.{delivered_messages}
 use Rattle.fw_model.specs.Offers.{counted_on_edge, stamps_on}
 use Rattle.fw_model.specs.Thinned.{IsBelowKept, IsThinnedIf}
-use Rattle.fw_model.proofs.LocalityLaws.{sends-causes}
-use Rattle.fw_model.proofs.SequenceLaws.{one_inside}
+use Rattle.fw_model.proofs.CauseLaws.{inside-sent}
 use Rattle.fw_model.proofs.ThinnedLaws.{each-contained}
 use Rattle.fw_progress.specs.declared.sent_tally.SentTally.{SentTally}
 use Rattle.fw_progress.specs.declared.traces.Traces.{Traces}
@@ -120,15 +119,8 @@ taken-delivered flow p ms old mid new a b = record {
 
 -- all that a node sent comes from a set that has its events
 from-inside : (sys : System) (p : ℕ) (f : Frontier) (vs : List Event) → AllByRecursion (λ v. f (event_stamp v) ≡ true) vs → count_from f (sent_by sys p vs) ≡ length (sent_by sys p vs)
-from-inside sys p f vs a = count (sent_by sys p vs) (each vs a)
+from-inside sys p f vs a = count (sent_by sys p vs) (inside-sent sys p f vs a)
   where
-    each : (ws : List Event) → AllByRecursion (λ v. f (event_stamp v) ≡ true) ws → AllByRecursion (λ (m : Message). all_inside f m.causes ≡ true) (sent_by sys p ws)
-    each [] b = tt
-    each (v ∷ ws) b =
-        each-append (λ (m : Message). all_inside f m.causes ≡ true) (sends sys p ws v) (sent_by sys p ws)
-        (each-weaker (λ (m : Message). m.causes ≡ event_stamp v ∷ []) (λ m. all_inside f m.causes ≡ true) (sends sys p ws v) (λ m e. one_inside f (event_stamp v) m true b.0 e) (sends-causes sys p ws v))
-        (each ws b.1)
-
     count : (ms : List Message) → AllByRecursion (λ (m : Message). all_inside f m.causes ≡ true) ms → count_from f ms ≡ length ms
     count [] b = refl
     count (m ∷ ms) b = ap (λ c. cond c (count_from f ms + 1) (count_from f ms)) b.0 ∙ more (count_from f ms) (length ms) (count ms b.1)

@@ -40,7 +40,8 @@ use Rattle.fw_progress.specs.Covers.{last_number}
 use Rattle.fw_progress.specs.StampData.{taken, count_taken, all_delivered, messages_of, messages_numbered, all_sent, stamps_by, HasItsStamps}
 use Rattle.fw_progress.specs.Trace.{delivered_on, stamps_notified, stamps_where_sent, counted_of, counts_sent, HasOutEdge, IsTraceIf, IsTraceWithin}
 use Rattle.fw_progress.specs.Traces.{AreOf, thinned}
-use Rattle.fw_progress.proofs.CutTraceLaws.{delivered-domain, notices-domain, sent-domain, causes-of, causes-from, sent-one, map-filter, notices-inside}
+use Rattle.fw_model.proofs.CauseLaws.{sent_by-one_cause}
+use Rattle.fw_progress.proofs.CutTraceLaws.{delivered-domain, notices-domain, sent-domain, causes-of, causes-from, map-filter, notices-inside}
 use Rattle.fw_progress.proofs.EventLaws.{how_often}
 use Rattle.fw_progress.proofs.NumberLaws.{IsNumber, sequence-numbers, numbers-thinned}
 use Rattle.fw_progress.proofs.OfferLaws.{Sends, each-joined, on-once, once-out, delivered-on, delivered-on_edges, kept-send, messages-on_edges, sent-on, stands-for_sent}
@@ -345,7 +346,7 @@ inside-kept sys h p f traces w b l t = record {
   notices = subst (λ ss. IsThinnedIf true g ss (thinned f (filter (inside f) (stamps_notified traces p)))) (sym (notices-inside p g h))
       (whole-inside (bounds_of sys.flow p) t.base (flat_map (stamp_of_notice p) h) (stamps_notified traces p) f (notices-domain sys h p a) t.within t.trace.notified);
   sends = λ o s. subst (λ ss. IsThinnedIf (tells_sent sys.flow p) (base_of_sent sys.flow p g) ss (thinned f (filter (inside f) (stamps_where_sent traces p))))
-      (sym (ap causes_in (sent-inside sys h p f w b l) ∙ causes-from g ms (sent-one sys p (events_at sys.flow p h))))
+      (sym (ap causes_in (sent-inside sys h p f w b l) ∙ causes-from g ms (sent_by-one_cause sys p (events_at sys.flow p h))))
       (sent_whole-inside (tells_sent sys.flow p) (bounds_of sys.flow p) t.base (causes_in ms) (stamps_where_sent traces p) f (causes-of (bounds_of sys.flow p) ms (sent-domain sys h p a)) t.within
       (t.trace.sent o s));
   count = λ s c.

@@ -135,36 +135,34 @@ fn send_stamps(
 ) -> Result<Vec<Stamp>, AllocError>
     ensures { IfOk result (λ sent. sent.items ≡ spec.send_stamps flow.now node stamps.now) }
 {
+    let bounds = flow.domain(node);
     let mut sent = Vec::new(alloc);
     for stamp in stamps {
-        push_sent(&mut sent, flow, node, stamp)?;
+        push_sent(&mut sent, flow, node, &bounds, stamp)?;
     }
     Ok(sent)
 }
 
-/// Adds at which stamp an event of a node at a stamp sends, if it does. The error is want of memory.
+/// Adds at which stamp an event of a node at a stamp sends, if it does; the bounds of the node's domain are at hand. The error
+/// is want of memory.
 fn push_sent(
     sent: &mut Vec<Stamp>,
     flow: &Flow,
     node: NodeId,
+    bounds: &Bounds,
     stamp: &Stamp,
 ) -> Result<(), AllocError>
+    requires { bounds.now ≡ bounds_of flow.now node }
     ensures { OnOk result (sent.new.items ≡ sent.old.items ++ option_to_list (spec.sent_stamp_at flow.now node stamp.now)) }
 {
-    if let Some(at) = sends_at(flow, node, stamp) {
+    if let Some(at) = sends_within(flow, node, bounds, stamp) {
         sent.push(at)?;
     }
     Ok(())
 }
 
-/// At which stamp an event of a node at a stamp sends; none where it sends nothing, as at a stamp that is not of its domain.
-pub(crate) fn sends_at(flow: &Flow, node: NodeId, at: &Stamp) -> Option<Stamp>
-    ensures { result ≡ spec.sent_stamp_at flow.now node at.now }
-{
-    sends_within(flow, node, &flow.domain(node), at)
-}
-
-/// The same where the bounds of the node's domain are at hand.
+/// At which stamp an event of a node at a stamp sends, where the bounds of the node's domain are at hand; none where it sends
+/// nothing, as at a stamp that is not of the domain.
 pub(crate) fn sends_within(flow: &Flow, node: NodeId, bounds: &Bounds, at: &Stamp) -> Option<Stamp>
     requires { bounds.now ≡ bounds_of flow.now node }
     ensures { result ≡ spec.sent_stamp_at flow.now node at.now }

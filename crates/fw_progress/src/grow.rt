@@ -1,8 +1,8 @@
 //! A node's frontier grows.
-ghost use Rattle.std.specs.Prelude.{◌≡◌, ◌<◌, ◌++◌, ◌∷◌, [], true, false, length, set, IsTrue, IfSome, IfNone, IfOk};
+ghost use Rattle.std.specs.Prelude.{◌≡◌, ◌<◌, false, length, IsTrue, IfSome, IfNone, IfOk};
 ghost use Rattle.fw_frontier.specs.Frontier.{Within};
 ghost use Rattle.fw_frontier.specs.Front.{IsCanonical, IsFrontOf};
-ghost use Rattle.fw_flow.specs.Dataflow.{bounds_of, node_frontier, out_edges};
+ghost use Rattle.fw_flow.specs.Dataflow.{bounds_of, node_frontier};
 ghost use Rattle.fw_model.specs.Machine.{family_of, AreCanonical};
 ghost use Rattle.fw_progress.specs.Counts.{target_by, AreCounts};
 ghost use Rattle.fw_progress.specs.Growths.{IsMore, IsNoMore, IsGrown, IsTakenUp};
@@ -67,7 +67,8 @@ pub(crate) fn larger(
     Ok(Some(left))
 }
 
-/// For how many growths there is room from the first one on.
+/// For how many growths there is room from the first one on: for more than a small flow has nodes, so that the list of a refresh does
+/// not move as it gets longer. What is more takes room as in any list.
 const ROOM: usize = 16;
 
 /// Gives a node a larger frontier: it is listed, and the receivers of its out-edges wait. The error is want of memory.

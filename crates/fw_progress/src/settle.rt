@@ -1,12 +1,12 @@
 //! What becomes settled.
 ghost use Rattle.std.specs.Prelude.{◌≡◌, ◌<◌, ◌↔◌, ◌&&◌, not, false, length, slice_index_or, IsTrue, IfOk};
+ghost use Rattle.fw_flow.specs.Dataflow.{bounds_of};
 ghost use Rattle.fw_model.specs.Machine.{front_of, AreCanonical};
 ghost use Rattle.fw_progress.specs.Settle as spec;
 ghost use Rattle.fw_progress.specs.Settle.{HasMore, AreGrown, IsGrownAt, IsJoined};
 
 use fw_flow::{Flow, NodeId};
 use fw_frontier::Front;
-use fw_time::Bounds;
 use std::alloc::{AllocError, Global};
 
 /// Whether a frontier has a stamp that another lacks.
@@ -43,15 +43,21 @@ pub(crate) fn any_has_more(failed: &[bool], kept: &[Front], settled: &[Front]) -
 
 /// What is settled of a node once it settles what it keeps, unless it is failed: what it keeps, where that holds what is settled.
 /// The error is want of memory.
-fn joined(failed: bool, settled: &Front, kept: &Front, bounds: &Bounds) -> Result<Front, AllocError>
-    ensures { IfOk result (λ both. IsJoined bounds.now failed settled.now kept.now both) }
+fn joined(
+    flow: &Flow,
+    node: NodeId,
+    failed: bool,
+    settled: &Front,
+    kept: &Front,
+) -> Result<Front, AllocError>
+    ensures { IfOk result (λ both. IsJoined (bounds_of flow.now node) failed settled.now kept.now both) }
 {
     if failed {
         settled.copy()
     } else if settled.subset(kept) {
         kept.copy()
     } else {
-        settled.join(kept, bounds)
+        settled.join(kept, &flow.domain(node))
     }
 }
 
@@ -70,8 +76,8 @@ pub(crate) fn grown(
 {
     let mut both = Vec::with_capacity(alloc, failed.len())?;
     for place in 0..flow.nodes() {
-        let bounds = flow.domain(NodeId::at(place as u32));
-        both.push(joined(failed[place], &settled[place], &kept[place], &bounds)?)?;
+        let node = NodeId::at(place as u32);
+        both.push(joined(flow, node, failed[place], &settled[place], &kept[place])?)?;
     }
     Ok(both)
 }
@@ -95,6 +101,6 @@ pub(crate) fn grown_at(
     if !has_more(now, before) {
         return Ok(None);
     }
-    let both = joined(false, before, now, &flow.domain(node))?;
+    let both = joined(flow, node, false, before, now)?;
     Ok(Some(both))
 }

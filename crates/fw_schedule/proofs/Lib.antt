@@ -1,4 +1,5 @@
 pub mod CoordinateLaws
+pub mod LineNumberLaws
 pub mod MakingLaws
 pub mod NameLaws
 pub mod NumberLaws

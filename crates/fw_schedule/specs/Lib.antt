@@ -1,5 +1,6 @@
 pub mod Grammar
 pub mod ItemText
+pub mod LineNumbers
 pub mod Making
 pub mod Names
 pub mod Schedule

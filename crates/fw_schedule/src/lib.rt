@@ -4,6 +4,7 @@
 mod coordinates;
 mod item;
 pub mod laws;
+mod lines;
 mod making;
 mod names;
 mod reader;
@@ -12,6 +13,7 @@ mod shown;
 mod step;
 
 pub use item::{Item, STEP_LIMIT};
+pub use lines::line_numbers;
 pub use making::ItemFault;
 pub use reader::{SCHEDULE_LIMIT, one_answer, read_schedule};
 pub use schedule::Schedule;

@@ -1,5 +1,5 @@
 //! What answers the rows of a file, by its ending.
-use crate::{disk, nodes, outside, progress, restored};
+use crate::{disk, nodes, outside, progress, restored, writes};
 use fw_flow::Flow;
 use row_words::{Families, Row, flow_of};
 use std::alloc::{AllocError, Global};
@@ -49,6 +49,7 @@ fn tell_of_flow(
     match ending {
         "nodes" => nodes::tell(alloc, flow, row, told),
         "progress" => progress::tell(alloc, flow, row, told),
+        "writes" => writes::tell(alloc, flow, row, told),
         _ => restored::tell(alloc, flow, row, told),
     }
 }

@@ -8,6 +8,7 @@ mod nodes;
 mod outside;
 mod progress;
 mod restored;
+mod writes;
 
 use crate::families::PartFamilies;
 use fw_outside::{Sink, StreamSink};

@@ -174,7 +174,7 @@ fn write_one(
 }
 
 /// Whether what the record stands on, if it holds changes, is one of the writes, and of a checkpoint of its node.
-fn is_based(keep: &Keep, what: &Record) -> bool
+pub(crate) fn is_based(keep: &Keep, what: &Record) -> bool
     ensures { IsTrue result → IsBased keep.now.entries what.now }
 {
     match what {
@@ -203,7 +203,7 @@ fn damage(alloc: Global, lines: &str, store: &mut FoulStore, words: &str) -> Res
 }
 
 /// What becomes of a call of the store.
-fn done(became: Result<(), OutFault>) -> Result<(), NoAnswer> {
+pub(crate) fn done(became: Result<(), OutFault>) -> Result<(), NoAnswer> {
     match became {
         Ok(()) => Ok(()),
         Err(OutFault::Failed) => Err(NoAnswer::NotSpelled),
@@ -212,14 +212,18 @@ fn done(became: Result<(), OutFault>) -> Result<(), NoAnswer> {
 }
 
 /// Says the bytes of a record.
-fn say_record(alloc: Global, record: &Record, said: &mut String) -> Result<(), NoAnswer> {
+pub(crate) fn say_record(
+    alloc: Global,
+    record: &Record,
+    said: &mut String,
+) -> Result<(), NoAnswer> {
     let bytes = encode(alloc, record)?;
     show_digits(&bytes, said)?;
     Ok(())
 }
 
 /// Says why no record was fetched: the id whose bytes are wrong, and these, or that the store failed.
-fn say_fault(fault: &KeepFault, said: &mut String) -> Result<(), NoAnswer> {
+pub(crate) fn say_fault(fault: &KeepFault, said: &mut String) -> Result<(), NoAnswer> {
     match fault {
         KeepFault::Damaged { id, bytes } => {
             write!(said, "damaged {id} ")?;
@@ -243,7 +247,7 @@ fn answer_of(restored: Result<(), KeepFault>) -> Result<(), NoAnswer> {
 }
 
 /// Why a call of the catalogue has no answer.
-fn fault_of(fault: KeepFault) -> NoAnswer {
+pub(crate) fn fault_of(fault: KeepFault) -> NoAnswer {
     match fault {
         KeepFault::NoMemory => NoAnswer::NoMemory,
         KeepFault::StoreFault | KeepFault::Damaged { .. } => NoAnswer::NotSpelled,

@@ -35,14 +35,16 @@ pub fn collect<K: Store>(running: &mut Running, store: &mut K) -> Result<Stepped
     Ok(stepped)
 }
 
-// The low watermark is taken anew, and what lies below it is given up. Nothing changes where it stays.
-fn raise_low(running: &mut Running) -> Result<Stepped, AllocError>
+/// The low watermark is taken anew, and what lies below it is given up. Nothing changes where it stays. What is given up stays in the
+/// store. The error is want of memory.
+pub fn raise_low(running: &mut Running) -> Result<Stepped, AllocError>
     requires shaped { IsShaped running.old }
     ensures shaped { OnOk result (IsShaped running.new) }
     ensures stored { (records : Option Records) → IsStored running.old.parts.keep records → IsStored running.new.parts.keep records }
     ensures flow { running.new.flow ≡ running.old.flow }
     ensures takes { IfOk result (λ stepped. (records : Option Records)
         → TakesStep running.old records steps.Collect (Ok stepped) running.new records) }
+    ensures draws { running.new.parts.keep.next ≡ running.old.parts.keep.next }
 {
     let choice = choose(running, Lost::All)?;
     let low = fronts_of(running.alloc, &choice)?;
@@ -63,6 +65,7 @@ fn give_up(running: &mut Running, choice: &Choice, low: Vec<Front>) -> Result<()
     ensures collected { IfOk result (λ u. RaisesLow (watermark choice.now) running.old running.new) }
     ensures flow { running.new.flow ≡ running.old.flow }
     ensures stored { (records : Option Records) → IsStored running.old.parts.keep records → IsStored running.new.parts.keep records }
+    ensures draws { running.new.parts.keep.next ≡ running.old.parts.keep.next }
 {
     let drops = plan(
         running.alloc,

@@ -5,6 +5,6 @@ mod collection;
 mod outlook;
 mod viewing;
 
-pub use collection::collect;
+pub use collection::{collect, raise_low};
 pub use outlook::{Outlook, choose, outlook_of};
 pub use viewing::Lost;

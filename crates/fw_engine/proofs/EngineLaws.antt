@@ -1,6 +1,7 @@
 -- What an engine answers, from what its step does.
-use Rattle.std.proofs.Common.{◌≡◌, true, false, Result, Ok, Err, refl, subst}
+use Rattle.std.proofs.Common.{◌≡◌, ◌≢◌, true, false, Result, Ok, Err, refl, subst}
 use Rattle.fw_flow.specs.declared.step.Step.{Step}
+use Rattle.fw_flow.specs.declared.step.Step.TheVariants.{Collect}
 use Rattle.fw_keep.specs.Catalogue.{AreAscending, ids_of}
 use Rattle.fw_keep.specs.Stored.{IsStored}
 use Rattle.fw_outside.specs.Outside.{StoreView}
@@ -12,14 +13,16 @@ use Rattle.fw_running.specs.Faults.{is_refusal}
 use Rattle.fw_running.specs.Steps.{IsStepEnabled, MayCallByItself, PartAnswers, StepAnswers, TakesFirstStep}
 use Rattle.fw_running.proofs.AnswerLaws.{refused-after, taken, shown, left, unharmed, first-taken, first-left, no_damage}
 use Rattle.fw_engine.specs.declared.engine.Engine.{Engine}
-use Rattle.fw_engine.specs.Engine.{keep_of, was_refused, EngineAnswers, FirstAnswers}
+use Rattle.fw_engine.specs.Engine.{keep_of, was_refused, StepDraws, EngineAnswers, FirstAnswers}
+use Rattle.fw_engine.proofs.DrawnLaws.{draws-none}
 
 -- ---- a step
 
 pub step-answered : {K : Type 0} {view : K → StoreView} {old new : Engine} {before after : K} {step : Step} {result : Result Stepped EngineFault}
     → was_refused old ≡ false → AreAscending (ids_of (keep_of new).entries) → was_refused new ≡ is_refusal result
-    → StepAnswers view old.running before step result new.running after → EngineAnswers view old before step result new after
-step-answered {K} {view} {old} {new} {before} {after} {step} {result} live ascending told a =
+    → StepAnswers view old.running before step result new.running after
+    → (step ≢ Collect → StepDraws old.running (view before).records result new.running (view after).records) → EngineAnswers view old before step result new after
+step-answered {K} {view} {old} {new} {before} {after} {step} {result} live ascending told a draws =
     let records = (view before).records in
     let left_over = (view after).records in
     record {
@@ -33,6 +36,7 @@ step-answered {K} {view} {old} {new} {before} {after} {step} {result} live ascen
       told_before = a.told_before;
       quiet = a.quiet;
       idle = a.idle;
+      draws = draws;
       faults = a.faults;
       calls = a.calls;
       faulted = left old.running records step result new.running left_over a.takes;
@@ -50,7 +54,7 @@ step-answered {K} {view} {old} {new} {before} {after} {step} {result} live ascen
 pub step-refused : {K : Type 0} {view : K → StoreView} {engine : Engine} {store : K} {step : Step} → was_refused engine ≡ true
     → IsStored (keep_of engine) (view store).records → AreAscending (ids_of (keep_of engine).entries)
     → EngineAnswers view engine store step (Err fault.NoMemory) engine store
-step-refused refused stored ascending = record {
+step-refused {K} {view} {engine} {store} refused stored ascending = record {
   stored = stored;
   flow = refl;
   in_order = ascending;
@@ -61,6 +65,7 @@ step-refused refused stored ascending = record {
   told_before = λ told. told;
   quiet = λ none. refl;
   idle = λ other is. refl;
+  draws = λ other. draws-none engine.running engine.running (view store).records (Err fault.NoMemory) refl;
   faults = refl;
   calls = λ e. absurd (cc);
   faulted = λ sys state s e. absurd (cc);
@@ -78,8 +83,8 @@ pub first-answered : {K : Type 0} {view : K → StoreView} {old new : Engine} {b
     → was_refused old ≡ false → AreAscending (ids_of (keep_of new).entries) → was_refused new ≡ is_refusal result
     → TakesFirstStep old.running (view before).records result new.running (view after).records
     → PartAnswers view (MayCallByItself old.running.flow) old.running before result new.running after → (result ≡ Ok Idle → after ≡ before)
-    → FirstAnswers view old before result new after
-first-answered {K} {view} {old} {new} {before} {after} {result} live ascending told takes part idle =
+    → StepDraws old.running (view before).records result new.running (view after).records → FirstAnswers view old before result new after
+first-answered {K} {view} {old} {new} {before} {after} {result} live ascending told takes part idle draws =
     let records = (view before).records in
     let left_over = (view after).records in
     record {
@@ -90,6 +95,7 @@ first-answered {K} {view} {old} {new} {before} {after} {result} live ascending t
       tells = part.tells;
       quiet = part.quiet;
       idle = idle;
+      draws = draws;
       faults = part.faults;
       calls = λ sys state s e. (first-left old.running records result new.running left_over takes sys state s e).0;
       faulted = λ sys state s e. (first-left old.running records result new.running left_over takes sys state s e).1;
@@ -102,7 +108,7 @@ first-answered {K} {view} {old} {new} {before} {after} {result} live ascending t
 pub first-refused : {K : Type 0} {view : K → StoreView} {engine : Engine} {store : K} → was_refused engine ≡ true
     → IsStored (keep_of engine) (view store).records → AreAscending (ids_of (keep_of engine).entries)
     → FirstAnswers view engine store (Err fault.NoMemory) engine store
-first-refused refused stored ascending = record {
+first-refused {K} {view} {engine} {store} refused stored ascending = record {
   stored = stored;
   flow = refl;
   in_order = ascending;
@@ -110,6 +116,7 @@ first-refused refused stored ascending = record {
   tells = refl;
   quiet = λ none. refl;
   idle = λ is. refl;
+  draws = draws-none engine.running engine.running (view store).records (Err fault.NoMemory) refl;
   faults = refl;
   calls = λ sys state s e. absurd (cc);
   faulted = λ sys state s e. absurd (cc);

@@ -1,7 +1,9 @@
 pub mod AckLaws
+pub mod DrawnLaws
 pub mod EngineLaws
 pub mod FirstCallLaws
 pub mod FirstStepLaws
+pub mod HeldLaws
 pub mod LookLaws
 pub mod OutlookLaws
 pub mod QuietLaws

@@ -15,7 +15,8 @@ use fw_time::Stamp;
 /// The output acknowledges its next stamp.
 pub(crate) fn acknowledge(running: &mut Running, output: NodeId) -> Result<Stepped, EngineFault>
     requires shaped { IsShaped running.old }
-    ensures { InnerAnswers running.old (steps.Ack output) result running.new }
+    ensures answers { InnerAnswers running.old (steps.Ack output) result running.new }
+    ensures draws { running.new.parts.keep.next ≡ running.old.parts.keep.next }
 {
     let Some(at) = next_acknowledged(running, output) else {
         return Ok(Stepped::Idle);

@@ -6,6 +6,7 @@ ghost use Rattle.fw_stands.specs.FirstSteps.{NoneToDeliver, NoneToNotify, NoneTo
 ghost use Rattle.fw_running.specs.Kept.{output_of};
 ghost use Rattle.fw_running.specs.Places.{IsFirstWhere, IsTakenOut};
 ghost use Rattle.fw_running.specs.Ready.{CanAcknowledge, CanDeliver, CanInject, IsOwing};
+ghost use Rattle.fw_engine.specs.Engine.{StepDraws};
 ghost use Rattle.fw_engine.specs.Searching.{with_ready_edges, with_ready_outputs, with_ready_inputs, IsSearched, IsNoticeOf, IsFirstNotified, NoneToPersist, TakesFirstAfter};
 ghost use Rattle.fw_running.specs.declared.stepped.Stepped.TheVariants.{Idle};
 ghost use Rattle.fw_running.specs.Shaped.{IsShaped};
@@ -38,6 +39,7 @@ pub(crate) fn take_first<K: Store>(
     ensures takes { TakesFirstStep running.old (K.view store.old).records result running.new (K.view store.new).records }
     ensures part { PartAnswers K.view (MayCallByItself running.old.flow) running.old store.old result running.new store.new }
     ensures idle { result ≡ Ok Idle → store.new ≡ store.old }
+    ensures draws { StepDraws running.old (K.view store.old).records result running.new (K.view store.new).records }
 {
     match persist(running) {
         Stepped::Did(effect) => Ok(Stepped::Did(effect)),
@@ -53,6 +55,7 @@ fn deliver_first<K: Store>(running: &mut Running, store: &mut K) -> Result<Stepp
     ensures takes { TakesFirstAfter NoneToPersist running.old (K.view store.old).records result running.new (K.view store.new).records }
     ensures part { PartAnswers K.view (MayCallByItself running.old.flow) running.old store.old result running.new store.new }
     ensures idle { result ≡ Ok Idle → store.new ≡ store.old }
+    ensures draws { StepDraws running.old (K.view store.old).records result running.new (K.view store.new).records }
 {
     match first_deliverable(running) {
         Some(edge) => deliver(running, edge, None, store),
@@ -68,6 +71,7 @@ fn notify_first<K: Store>(running: &mut Running, store: &mut K) -> Result<Steppe
     ensures takes { TakesFirstAfter NoneToDeliver running.old (K.view store.old).records result running.new (K.view store.new).records }
     ensures part { PartAnswers K.view (MayCallByItself running.old.flow) running.old store.old result running.new store.new }
     ensures idle { result ≡ Ok Idle → store.new ≡ store.old }
+    ensures draws { StepDraws running.old (K.view store.old).records result running.new (K.view store.new).records }
 {
     let Some(notice) = first_notice(running)? else {
         return settle_first(running, store);
@@ -84,6 +88,7 @@ fn settle_first<K: Store>(running: &mut Running, store: &mut K) -> Result<Steppe
     ensures takes { TakesFirstAfter NoneToNotify running.old (K.view store.old).records result running.new (K.view store.new).records }
     ensures part { PartAnswers K.view (MayCallByItself running.old.flow) running.old store.old result running.new store.new }
     ensures idle { result ≡ Ok Idle → store.new ≡ store.old }
+    ensures draws { StepDraws running.old (K.view store.old).records result running.new (K.view store.new).records }
 {
     match progress(running, store)? {
         Stepped::Did(effect) => Ok(Stepped::Did(effect)),
@@ -100,6 +105,7 @@ fn acknowledge_first(running: &mut Running) -> Result<Stepped, EngineFault>
     ensures takes { (records : Option Records) → TakesFirstAfter NoneToSettle running.old records result running.new records }
     ensures unfaulted { IsErrOf result EngineFault.StoreFault → ⊥ }
     ensures undamaged { IsUndamaged result }
+    ensures draws { running.new.parts.keep.next ≡ running.old.parts.keep.next }
 {
     match first_acknowledging(running) {
         Some(output) => acknowledge(running, output),
@@ -116,6 +122,7 @@ fn inject_first(running: &mut Running) -> Result<Stepped, EngineFault>
     ensures takes { (records : Option Records) → TakesFirstAfter NoneToAcknowledge running.old records result running.new records }
     ensures unfaulted { IsErrOf result EngineFault.StoreFault → ⊥ }
     ensures undamaged { IsUndamaged result }
+    ensures draws { running.new.parts.keep.next ≡ running.old.parts.keep.next }
 {
     match first_injecting(running) {
         Some(source) => inject(running, source),

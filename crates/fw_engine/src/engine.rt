@@ -28,7 +28,7 @@ pub struct Engine {
 }
 
 impl Engine {
-    ghost use Rattle.fw_engine.specs.Engine.{flow_of, keep_of, was_refused, StandsFor, EngineAnswers, FirstAnswers};
+    ghost use Rattle.fw_engine.specs.Engine.{flow_of, keep_of, no_writes, was_refused, StandsFor, EngineAnswers, FirstAnswers};
 
     /// An engine to which nothing has happened. The error is want of memory.
     pub fn new(alloc: Global, flow: Flow, batches: &Batches) -> Result<Self, AllocError>
@@ -37,6 +37,7 @@ impl Engine {
             IfOk result (λ engine. StandsFor sys engine records (first_state sys)) }
         ensures stored { (records : Option Records) → IsEmptyStore records → IfOk result (λ engine. IsStored (keep_of engine) records) }
         ensures flow { IfOk result (λ engine. flow_of engine ≡ flow) }
+        ensures writes { IfOk result (λ engine. keep_of engine ≡ no_writes) }
         ensures told { IfOk result (λ engine. was_refused engine ≡ false) }
         ensures in_order { IfOk result (λ engine. AreAscending (ids_of (keep_of engine).entries)) }
     {
@@ -101,7 +102,7 @@ impl Engine {
 }
 
 // The ids of what is written ascend.
-fn ids_ascend(running: &Running)
+pub(crate) fn ids_ascend(running: &Running)
     ensures { AreAscending (ids_of running.now.parts.keep.entries) }
 {
     let _entries = running.parts.keep.entries();

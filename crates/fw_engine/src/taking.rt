@@ -1,7 +1,10 @@
 //! A step is taken.
+ghost use Rattle.std.specs.Prelude.{◌≢◌};
+ghost use Rattle.fw_flow.specs.declared.step.Step.TheVariants.{Collect};
 ghost use Rattle.fw_keep.specs.Stored.{IsStored};
 ghost use Rattle.fw_running.specs.Shaped.{IsShaped};
 ghost use Rattle.fw_running.specs.Steps.{StepAnswers};
+ghost use Rattle.fw_engine.specs.Engine.{StepDraws};
 
 use crate::acknowledgement::acknowledge;
 use fw_choose::collect;
@@ -21,7 +24,8 @@ pub(crate) fn take<K: Store>(
 ) -> Result<Stepped, EngineFault>
     requires shaped { IsShaped running.old }
     requires stored { IsStored running.old.parts.keep (K.view store.old).records }
-    ensures { StepAnswers K.view running.old store.old step.now result running.new store.new }
+    ensures answers { StepAnswers K.view running.old store.old step.now result running.new store.new }
+    ensures draws { step.now ≢ Collect → StepDraws running.old (K.view store.old).records result running.new (K.view store.new).records }
 {
     match step {
         Step::Inject(source) => inject(running, *source),

@@ -21,6 +21,7 @@ ghost use Rattle.fw_progress.specs.Progress.{CanSend};
 ghost use Rattle.fw_rollback.specs.Tables.{table_at};
 ghost use Rattle.fw_rollback.specs.Edges.{on_edge};
 ghost use Rattle.fw_stands.specs.Events.{asked_of_queue, next_queued};
+ghost use Rattle.fw_running.specs.Drawn.{DrawsAtMost, may_draw};
 ghost use Rattle.fw_running.specs.Kept.{queue_at, table_of, is_down, with_tables};
 ghost use Rattle.fw_running.specs.Logging.{ChangesKeep, IsAskRefused, LogsEvent};
 ghost use Rattle.fw_running.specs.Shaped.{IsShaped};
@@ -59,7 +60,8 @@ pub fn deliver<K: Store>(
 ) -> Result<Stepped, EngineFault>
     requires shaped { IsShaped running.old }
     requires stored { IsStored running.old.parts.keep (K.view store.old).records }
-    ensures { StepAnswers K.view running.old store.old (steps.Deliver edge (option_copied at.entry)) result running.new store.new }
+    ensures answers { StepAnswers K.view running.old store.old (steps.Deliver edge (option_copied at.entry)) result running.new store.new }
+    ensures draws { DrawsAtMost (may_draw 1 result) running.old.parts.keep running.new.parts.keep (K.view store.old).records (K.view store.new).records }
 {
     let node = running.flow.dst(edge);
     if running.is_failed(node) {
@@ -134,6 +136,7 @@ fn log_delivery<K: Store>(
     ensures stays { OnErr result (IsAskRefused running.old.parts.keep running.new.parts.keep
         (K.view store.old).records (K.view store.new).records) }
     ensures part { PartAnswers K.view (policy_of running.old.flow node ≡ policy.Full) running.old store.old result running.new store.new }
+    ensures draws { DrawsAtMost 1 running.old.parts.keep running.new.parts.keep (K.view store.old).records (K.view store.new).records }
 {
     if !logs_events(running, node) {
         return Ok(());

@@ -23,7 +23,8 @@ use std::alloc::{AllocError, Global};
 /// The input sends its next batch.
 pub fn inject(running: &mut Running, source: NodeId) -> Result<Stepped, EngineFault>
     requires shaped { IsShaped running.old }
-    ensures { InnerAnswers running.old (steps.Inject source) result running.new }
+    ensures answers { InnerAnswers running.old (steps.Inject source) result running.new }
+    ensures draws { running.new.parts.keep.next ≡ running.old.parts.keep.next }
 {
     if running.is_failed(source) || !running.flow.kind(source).is_input() {
         return Ok(Stepped::Idle);

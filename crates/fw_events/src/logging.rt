@@ -1,5 +1,6 @@
 //! Events are logged.
 ghost use Rattle.std.specs.Prelude.{◌≡◌, ◌↔◌, ◌<◌, ◌^◌, true, IsTrue, OnOk, OnErr, is_some};
+ghost use Rattle.fw_running.specs.Drawn.{DrawsAtMost};
 ghost use Rattle.fw_running.specs.Faults.{faults_after_step};
 ghost use Rattle.fw_time.specs.Stamp.{in_domain};
 ghost use Rattle.fw_flow.specs.declared.kind.Policy.TheVariants as policy;
@@ -45,6 +46,7 @@ pub(crate) fn log_event<K: Store>(
     ensures faults { (K.view store.new).faults ≡ faults_after_step result (K.view store.old).faults }
     ensures undamaged { IsUndamaged result }
     ensures tells { is_some (K.view store.new).records ≡ is_some (K.view store.old).records }
+    ensures draws { DrawsAtMost 1 running.old.parts.keep running.new.parts.keep (K.view store.old).records (K.view store.new).records }
 {
     rec_has_64_bits(&event);
     let what = Record::Event { node, event };

@@ -14,6 +14,7 @@ ghost use Rattle.fw_node.specs.Sends.{sends_list};
 ghost use Rattle.fw_progress.specs.Progress.{CanSend};
 ghost use Rattle.fw_rollback.specs.Tables.{table_at};
 ghost use Rattle.fw_running.specs.BroughtUp.{IsBroughtUp};
+ghost use Rattle.fw_running.specs.Drawn.{DrawsAtMost, may_draw};
 ghost use Rattle.fw_running.specs.Kept.{table_of, with_tables};
 ghost use Rattle.fw_running.specs.Logging.{ChangesKeep, IsAskRefused, LogsEvent};
 ghost use Rattle.fw_running.specs.Shaped.{IsShaped};
@@ -43,7 +44,8 @@ pub fn notify<K: Store>(
 ) -> Result<Stepped, EngineFault>
     requires shaped { IsShaped running.old }
     requires stored { IsStored running.old.parts.keep (K.view store.old).records }
-    ensures { StepAnswers K.view running.old store.old (steps.Notify node (option_copied at.entry)) result running.new store.new }
+    ensures answers { StepAnswers K.view running.old store.old (steps.Notify node (option_copied at.entry)) result running.new store.new }
+    ensures draws { DrawsAtMost (may_draw 1 result) running.old.parts.keep running.new.parts.keep (K.view store.old).records (K.view store.new).records }
 {
     if running.is_failed(node) || !running.flow.kind(node).is_notified() {
         return Ok(Stepped::Idle);
@@ -130,6 +132,7 @@ pub fn notify_of<K: Store>(
     ensures shaped { StaysShaped result running.new }
     ensures takes { TakesNotice running.old (K.view store.old).records node at.now result running.new (K.view store.new).records }
     ensures part { PartAnswers K.view (policy_of running.old.flow node ≡ policy.Full) running.old store.old result running.new store.new }
+    ensures draws { DrawsAtMost 1 running.old.parts.keep running.new.parts.keep (K.view store.old).records (K.view store.new).records }
 {
     log_notice(running, node, at, store)?;
     hear(running, node, at)?;
@@ -153,6 +156,7 @@ fn log_notice<K: Store>(
     ensures stays { OnErr result (IsAskRefused running.old.parts.keep running.new.parts.keep
         (K.view store.old).records (K.view store.new).records) }
     ensures part { PartAnswers K.view (policy_of running.old.flow node ≡ policy.Full) running.old store.old result running.new store.new }
+    ensures draws { DrawsAtMost 1 running.old.parts.keep running.new.parts.keep (K.view store.old).records (K.view store.new).records }
 {
     if !logs_events(running, node) {
         return Ok(());

@@ -392,6 +392,7 @@ pub record HaveFailed (ps : List ℕ) (any : Bool) (old now : Running) : Type 0 
   pub flow : now.flow ≡ old.flow
   pub shaped : IsShaped now
   pub stored : (records : Option Records) → IsStored old.parts.keep records → IsStored now.parts.keep records
+  pub drawn : now.parts.keep.next ≡ old.parts.keep.next
   pub none : any ≡ false → (now ≡ old) × AreDown old ps
   pub some : any ≡ true → HasLive old ps × StandsFailed ps old now
 
@@ -400,6 +401,7 @@ failed_none old s = record {
   flow = refl;
   shaped = s;
   stored = λ records h. h;
+  drawn = refl;
   none = λ e. (refl, λ q l k. absurd (both_ways (is_one_of q []) refl k));
   some = λ e. absurd (both_ways false refl e);
 }
@@ -424,6 +426,7 @@ down_more ps any old now p h down = record {
   flow = h.flow;
   shaped = h.shaped;
   stored = h.stored;
+  drawn = h.drawn;
   none = λ e. let x = h.none e in (
     x.0,
     λ q l k. elim (or_cases (is_one_of q ps) (p == q) (sym (one_of-more q ps p) ∙ k)) [
@@ -534,6 +537,7 @@ live_more ps any old now next p h there live g = record {
   flow = ap (λ (r : Running). r.flow) g.rest ∙ h.flow;
   shaped = fails-shaped now next p there g h.shaped;
   stored = λ records k. g.parts.stored records (h.stored records k);
+  drawn = ap (λ (k : KeepState). k.next) g.parts.keep ∙ h.drawn;
   none = λ e. absurd (both_ways true e refl);
   some = λ e. by any refl;
 }

@@ -20,7 +20,8 @@ use std::alloc::{AllocError, Global};
 /// flight.
 pub fn fail(running: &mut Running, nodes: &[NodeId]) -> Result<Stepped, EngineFault>
     requires shaped { IsShaped running.old }
-    ensures { InnerAnswers running.old (steps.Fail nodes.now) result running.new }
+    ensures answers { InnerAnswers running.old (steps.Fail nodes.now) result running.new }
+    ensures draws { running.new.parts.keep.next ≡ running.old.parts.keep.next }
 {
     let mut any = false;
     for node in nodes {

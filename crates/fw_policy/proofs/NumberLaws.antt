@@ -1,12 +1,10 @@
 -- What counts of a sequence: the last of its numbers covers all of them, and its table says what comes from a frontier.
 use Rattle.std.proofs.Common.{◌≡◌, ℕ, true, false, ◌&&◌, List, [], ◌∷◌, map, refl, sym, ◌∙◌, ap}
 use Rattle.std.specs.List.{AllByRecursion}
-use Rattle.std.proofs.lemmas.Bool.{and_from, cases_Bool}
+use Rattle.std.proofs.lemmas.Bool.{cases_Bool}
 use Rattle.std.proofs.Common.{inl, inr}
-use Rattle.fw_lemmas.proofs.Each.{each-weaker, each-append}
 use Rattle.fw_lemmas.proofs.Filters.{filter-all, filter-true}
 use Rattle.fw_time.specs.Stamp.{Stamp, in_domain}
-use Rattle.fw_time.specs.declared.stamp.Bounds.{Bounds}
 use Rattle.fw_frontier.specs.Frontier.{Frontier, everything, cover}
 use Rattle.fw_model.proofs.ThinnedLaws.{thinned-covers}
 use Rattle.fw_flow.specs.declared.choice.Counted.{Counted}
@@ -15,27 +13,15 @@ use Rattle.fw_flow.specs.declared.event.Message.{Message}
 use Rattle.fw_flow.specs.declared.kind.Kind.{Kind}
 use Rattle.fw_flow.specs.declared.kind.Kind.TheVariants.{Sequence}
 use Rattle.fw_flow.specs.Dataflow.{System, kind_of, sender, receiver, bounds_of, is_sequence_kind, bounds_of_domain, out_domain_of_kind, greatest_of_kind}
-use Rattle.fw_flow.specs.NodeFunction.{event_stamp, sent_by, sends}
+use Rattle.fw_flow.specs.NodeFunction.{event_stamp}
 use Rattle.fw_flow.specs.Projection.{all_inside, events_at, phi_of_kind, phi, phi_by_count, sent_count}
 use Rattle.fw_model.specs.Covers.{stamps_from}
 use Rattle.fw_model.specs.History.{sent_messages}
 use Rattle.fw_model.specs.Offers.{stamps_on_from}
-use Rattle.fw_model.proofs.LocalityLaws.{sends-causes}
+use Rattle.fw_model.proofs.CauseLaws.{inside-sent}
 use Rattle.fw_model.specs.EventStamps.{StandForNumbered}
 
 -- ---- all of it
-
-inside-one : (f : Frontier) (t : Stamp) (cs : List Stamp) → f t ≡ true → cs ≡ t ∷ [] → all_inside f cs ≡ true
-inside-one f t cs k e = ap (all_inside f) e ∙ and_from (f t) true k refl
-
-causes-everything : (sys : System) (p : ℕ) (b : Bounds) (vs : List Event) → AllByRecursion (λ v. in_domain b (event_stamp v) ≡ true) vs
-    → AllByRecursion (λ (m : Message). all_inside (everything b) m.causes ≡ true) (sent_by sys p vs)
-causes-everything sys p b [] d = tt
-causes-everything sys p b (v ∷ vs) d =
-    each-append _ (sends sys p vs v) (sent_by sys p vs)
-    (each-weaker (λ (m : Message). m.causes ≡ event_stamp v ∷ []) (λ m. all_inside (everything b) m.causes ≡ true) (sends sys p vs v)
-    (λ m e. inside-one (everything b) (event_stamp v) m.causes d.0 e) (sends-causes sys p vs v))
-    (causes-everything sys p b vs d.1)
 
 -- what stands for a sequence covers all that it sent
 pub numbered-covers : (sys : System) (h : List Event) (e : ℕ) (ms : List Counted) → StandForNumbered sys h e ms
@@ -52,7 +38,7 @@ numbered-covers sys h e ms s d =
     ∙ thinned-covers b (everything b) all kept s (λ t. true) (λ t i. refl)
     ∙ ap (λ (ts : List Stamp). cover b ts) (filter-true all)
     ∙ ap (λ (xs : List Message). cover b (map (λ (m : Message). m.at) xs))
-    (sym (filter-all (λ (m : Message). all_inside every m.causes) (sent_messages sys h e) (causes-everything sys p (bounds_of sys.flow p) (events_at sys.flow p h) d)))
+    (sym (filter-all (λ (m : Message). all_inside every m.causes) (sent_messages sys h e) (inside-sent sys p every (events_at sys.flow p h) d)))
 
 -- ---- what comes from a frontier
 

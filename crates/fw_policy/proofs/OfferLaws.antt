@@ -6,11 +6,11 @@ use Rattle.std.proofs.lemmas.Bool.{cond_both, cases_Bool, and_parts}
 use Rattle.fw_lemmas.proofs.Bools.{two_ways}
 use Rattle.fw_lemmas.proofs.Each.{each-weaker, each-kept}
 use Rattle.fw_time.specs.Stamp.{Stamp, leq, in_domain}
-use Rattle.fw_time.proofs.StampLaws.{leq-trans}
 use Rattle.fw_time.specs.declared.stamp.Bounds.{Bounds}
 use Rattle.fw_frontier.specs.Frontier.{Frontier, Within, nothing, everything, cover, meet}
 use Rattle.fw_frontier.specs.Front.{Front, inside, frontier_of, IsCanonical, IsFrontOf, is_within}
 use Rattle.fw_frontier.proofs.NamesLaws.{frontier-closed, is_within-holds, within-is}
+use Rattle.fw_model.proofs.LesserLaws.{lesser-in_domain}
 use Rattle.fw_model.proofs.ThinnedLaws.{thinned-covers, thinned-whole}
 use Rattle.fw_flow.specs.declared.choice.Counted.{Counted}
 use Rattle.fw_flow.specs.declared.choice.Cut.{Cut}
@@ -309,10 +309,9 @@ anything-right sys state p low settled (form.Between least greatest) e d a = λ 
     (subst (λ (s : Front). IsFrontOf b greatest (frontier_of b s)) d a.1)
 
 lesser-inside : (flow : Dataflow) (p : ℕ) (f : Front) (s t : Stamp) → leq s t ≡ true → frontier_of (bounds_of flow p) f t ≡ true → frontier_of (bounds_of flow p) f s ≡ true
-unfolding bounds_of
 lesser-inside flow p f s t l i =
     let closed = frontier-closed (bounds_of flow p) f in
-    closed.closed s t (leq-trans s t (bounds_of flow p).greatest l (closed.inside_domain t i)) l i
+    closed.closed s t (lesser-in_domain flow p s t l (closed.inside_domain t i)) l i
 
 events-right : (sys : System) (state : Machine) (p : ℕ) (entries : List Entry) (lost : List Stamp) (low settled : Front) (o : Offered) → low ≡ front_of state.low p → settled ≡ front_of state.settled p
     → IsOfEntries sys state p entries → KnowsLosses sys state p lost

@@ -2,26 +2,25 @@
 use Rattle.std.proofs.Common.{◌≡◌, inl, inr, ℕ, Bool, true, false, cond, ◌&&◌, List, [], ◌∷◌, map, Some, refl, sym, ◌∙◌, ap, subst}
 use Rattle.std.specs.Prelude.{filter}
 use Rattle.std.specs.List.{AllByRecursion, flat_map}
-use Rattle.std.proofs.lemmas.Bool.{cases_Bool, and_left}
+use Rattle.std.proofs.lemmas.Bool.{cases_Bool}
 use Rattle.fw_lemmas.proofs.Bools.{two_ways}
-use Rattle.fw_lemmas.proofs.Each.{each-weaker, each-one, each-append}
+use Rattle.fw_lemmas.proofs.Each.{each-one}
 use Rattle.fw_lemmas.proofs.Filters.{filter-none}
 use Rattle.fw_time.specs.Stamp.{Stamp, in_domain}
 use Rattle.fw_time.specs.declared.stamp.Bounds.{Bounds}
 use Rattle.fw_frontier.specs.Frontier.{Frontier, nothing, cover, some_above}
 use Rattle.fw_frontier.specs.Front.{Front, frontier_of, same_front}
 use Rattle.fw_flow.specs.declared.choice.Recorded.{Recorded}
-use Rattle.fw_flow.specs.declared.event.Event.{Event}
 use Rattle.fw_flow.specs.declared.event.Message.{Message}
 use Rattle.fw_flow.specs.Dataflow.{System, kind_of, policy_of, sender, receiver, bounds_of, node_frontier}
-use Rattle.fw_flow.specs.NodeFunction.{event_stamp, sends, sent_by}
+use Rattle.fw_flow.specs.NodeFunction.{event_stamp}
 use Rattle.fw_flow.specs.Projection.{all_inside, events_at}
 use Rattle.fw_flow.specs.declared.restoring.Restoring.TheVariants.{Checkpoints}
 use Rattle.fw_flow.specs.Restoring.{way_of, can_resend}
 use Rattle.fw_model.specs.Covers.{takes_its_cut, takes_its_notices, discarded_at, stamps_from, stamp_of_notice}
 use Rattle.fw_model.specs.History.{delivered_messages, sent_messages}
 use Rattle.fw_model.specs.Machine.{Machine, events, no_stamps}
-use Rattle.fw_model.proofs.LocalityLaws.{sends-causes}
+use Rattle.fw_model.proofs.CauseLaws.{outside-sent}
 use Rattle.fw_model.proofs.LowLaws.{none-within, none-canonical}
 use Rattle.fw_model.specs.Offers.{IsListed, record_at}
 use Rattle.fw_policy.specs.Entries.{IsRecorded}
@@ -69,19 +68,6 @@ covers-none b ss e = λ i t. at t i
         last true = refl
         last false = refl
 
-causes-none : (b : Bounds) (ms : List Message) → AllByRecursion (λ (m : Message). (t : Stamp) × (m.causes ≡ t ∷ [])) ms
-    → AllByRecursion (λ (m : Message). all_inside (frontier_of b (no_stamps b)) m.causes ≡ false) ms
-causes-none b ms a =
-    each-weaker (λ (m : Message). (t : Stamp) × (m.causes ≡ t ∷ [])) (λ m. all_inside (frontier_of b (no_stamps b)) m.causes ≡ false) ms
-    (λ m k. ap (all_inside (frontier_of b (no_stamps b))) k.1 ∙ and_left (frontier_of b (no_stamps b) k.0) true (outside-none b k.0)) a
-
-pub one-cause : (sys : System) (p : ℕ) (vs : List Event) → AllByRecursion (λ (m : Message). (t : Stamp) × (m.causes ≡ t ∷ [])) (sent_by sys p vs)
-one-cause sys p [] = tt
-one-cause sys p (v ∷ vs) =
-    each-append _ (sends sys p vs v) (sent_by sys p vs)
-    (each-weaker (λ (m : Message). m.causes ≡ event_stamp v ∷ []) (λ m. (t : Stamp) × (m.causes ≡ t ∷ [])) (sends sys p vs v) (λ m e. (event_stamp v, e)) (sends-causes sys p vs v))
-    (one-cause sys p vs)
-
 either-nothing : (c : Bool) (g : Frontier) → nothing ≡ g → nothing ≡ cond c nothing g
 either-nothing true g e = refl
 either-nothing false g e = e
@@ -119,7 +105,8 @@ empty-recorded sys state p way notices =
           (covers-none c (stamps_from none went)
           (ap (λ (ms : List Message). map (λ (m : Message). m.at) ms)
           (filter-none (λ (m : Message). all_inside none m.causes) went
-          (causes-none b went (one-cause sys (sender sys.flow e) (events_at sys.flow (sender sys.flow e) h)))))
+          (outside-sent sys (sender sys.flow e) none (events_at sys.flow (sender sys.flow e) h)
+          (each-one (λ v. none (event_stamp v) ≡ false) (events_at sys.flow (sender sys.flow e) h) (λ v. outside-none b (event_stamp v))))))
           ∙ sym (ap (λ w. discarded_at sys.flow e w (cover c (stamps_from none went)) f) way))
           );
     }

@@ -5,10 +5,11 @@
 //! `largest` of `fw_monitor` chooses.
 #![tactic(auto)]
 
+mod below;
 mod offering;
 mod offers;
-mod unlogged;
 mod view;
 
+pub use below::{cut_below, unlogged};
 pub use offers::offers_of;
 pub use view::{Border, NodeView};

@@ -12,7 +12,7 @@ ghost use Rattle.fw_model.specs.Choice as choices;
 ghost use Rattle.fw_policy.specs.Offering as spec;
 ghost use Rattle.fw_policy.specs.Known.{FitsWay, IsKnown};
 
-use crate::unlogged::{cut_below, unlogged};
+use crate::below::{cut_below, unlogged};
 use crate::view::{Border, NodeView};
 use fw_flow::{Flow, NodeId, OfEdges, Offered, Recorded, Records, Restoring};
 use fw_frontier::Front;

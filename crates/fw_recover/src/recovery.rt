@@ -6,6 +6,7 @@ ghost use Rattle.fw_keep.specs.Stored.{IsStored};
 ghost use Rattle.fw_model.specs.Choice.{IsChoiceOf};
 ghost use Rattle.fw_recover.specs.CutProgress.{AreAtReceivers};
 ghost use Rattle.fw_recover.specs.Recovered.{KeepsFit, IsFollowed};
+ghost use Rattle.fw_running.specs.Drawn.{DrawsAtMost};
 ghost use Rattle.fw_running.specs.Held.{RecoversHeld};
 ghost use Rattle.fw_running.specs.Shaped.{IsShaped};
 ghost use Rattle.fw_running.specs.Steps.{StepAnswers};
@@ -26,6 +27,7 @@ pub fn recover<K: Store>(running: &mut Running, store: &mut K) -> Result<Stepped
     requires stored { IsStored running.old.parts.keep (K.view store.old).records }
     ensures answers { StepAnswers K.view running.old store.old steps.Recover result running.new store.new }
     ensures held { RecoversHeld running.old (K.view store.old).records result running.new (K.view store.new).records }
+    ensures draws { DrawsAtMost 0 running.old.parts.keep running.new.parts.keep (K.view store.old).records (K.view store.new).records }
 {
     if !any_of(&running.failed) {
         return Ok(Stepped::Idle);

@@ -1,6 +1,7 @@
 pub mod AnswerLaws
 pub mod BroughtUpLaws
 pub mod CountLaws
+pub mod DrawnLaws
 pub mod EffectTextLaws
 pub mod FirstLaws
 pub mod KeptShapes

@@ -1,4 +1,5 @@
 pub mod BroughtUp
+pub mod Drawn
 pub mod EffectText
 pub mod Faults
 pub mod Held

@@ -1,5 +1,6 @@
 //! A write is asked.
 ghost use Rattle.std.specs.Prelude.{◌≡◌, OnOk, OnErr};
+ghost use Rattle.fw_running.specs.Drawn.{DrawsAtMost};
 ghost use Rattle.fw_running.specs.Faults.{faults_after_step};
 ghost use Rattle.fw_keep.specs.Entry.{IsBased};
 ghost use Rattle.fw_keep.specs.Stored.{IsStored};
@@ -16,7 +17,7 @@ const IDS: u64 = 1 << 63;
 
 impl Running {
     /// A write is asked; one of changes on the entry of its base, which must be there (`Keep::ask`). That no id is left is
-    /// answered as want of memory.
+    /// answered as want of memory. It draws one id at most.
     #[tactic(auto, using(crate::proofs::AnswerLaws::refused_none))]
     pub fn ask<K: Store>(
         &mut self,
@@ -35,6 +36,7 @@ impl Running {
         ensures given { (K.view store.new).given ≡ (K.view store.old).given }
         ensures faults { (K.view store.new).faults ≡ faults_after_step result (K.view store.old).faults }
         ensures undamaged { IsUndamaged result }
+        ensures draws { DrawsAtMost 1 self.old.parts.keep self.new.parts.keep (K.view store.old).records (K.view store.new).records }
     {
         if self.parts.keep.next_id() >= IDS {
             return Err(EngineFault::NoMemory);

@@ -27,7 +27,7 @@ use Rattle.fw_model.proofs.DomainLaws.{has_epochs}
 use Rattle.fw_model.proofs.SentLaws.{copy}
 use Rattle.fw_model.proofs.SortedLaws.{same_sorted_messages, sorted_messages-filter, sorted_messages-twice, each-sorted_messages}
 use Rattle.fw_model.proofs.WeightLaws.{weigh, weigh-flat_map, weigh-map, weigh-same}
-use Rattle.fw_policy.proofs.RecordedLaws.{one-cause}
+use Rattle.fw_model.proofs.CauseLaws.{sent_by-one_cause}
 use Rattle.fw_record.specs.declared.logged.Logged.{Logged}
 use Rattle.fw_bytes.specs.Sound.{IsStamp}
 use Rattle.fw_record.specs.Sound.{IsOneStamp, IsLoggedMessage, IsLog}
@@ -304,7 +304,7 @@ sent-spelled sys w state r e =
     each-weaker (λ m. D m × (C m × IsCausedIn sys.flow p m)) (IsSentOn sys e) ms
     (λ m a. ((stamps_have_spellings sys.flow w.flow (receiver sys.flow e)).1 m.at a.0, one-stamp sys.flow w.flow p m.causes a.1.0.0 a.1.0.1 a.1.1))
     (each-both D (λ m. C m × IsCausedIn sys.flow p m) ms (legal-at sys h w.flow (has_epochs sys w) legal e)
-    (each-both C (IsCausedIn sys.flow p) ms (one-cause sys p (events_at sys.flow p h)) (legal-caused sys h w.flow (has_epochs sys w) legal p)))
+    (each-both C (IsCausedIn sys.flow p) ms (sent_by-one_cause sys p (events_at sys.flow p h)) (legal-caused sys h w.flow (has_epochs sys w) legal p)))
 
 logged-spelled : (sys : System) → IsWellFormedSystem sys → (state : Machine) → IsReached sys state → (e : ℕ) → AllByRecursion (IsSentOn sys e) (logged sys state e)
 logged-spelled sys w state r e =

@@ -9,12 +9,14 @@ use Rattle.fw_model.specs.Steps.{is_eager}
 use Rattle.fw_keep.specs.Stored.{Records}
 use Rattle.fw_progress.specs.Settle.{has_more}
 use Rattle.fw_running.specs.declared.running.Running.{Running}
+use Rattle.fw_running.specs.Drawn.{DrawsAtMost}
 use Rattle.fw_running.specs.Kept.{is_down}
 use Rattle.fw_running.specs.Logging.{with_keep, ChangesKeep}
 use Rattle.fw_running.specs.Places.{IsFirstPlaceFrom, place_limit}
 use Rattle.fw_running.specs.Shaped.{IsShaped}
 use Rattle.fw_running.specs.Steps.{HasEager}
 use Rattle.fw_settle.specs.Settling.{grows, NoneGrowsIn, IsNextToSettle, IsFoundToSettle, IsNextLive, IsFoundLive, AsksIfEager, HaveAsked, ChangesSettled, SettlesKept, HaveSettled}
+use Rattle.fw_running.proofs.DrawnLaws.{draws_more, draws_on}
 use Rattle.fw_settle.proofs.AskLaws.{asked-none, asked-past, asked-next}
 use Rattle.fw_settle.proofs.SettleLaws.{none-joined, none-more, past-grows, settled-none, settled-past, settled-next}
 
@@ -145,6 +147,39 @@ pub asking-all : (old new : Running) (before after : Option Records) → Changes
 asking-all old new before after c h =
     asked-past old new before after h.place (length old.flow.nodes) h.asked h.there (omega arith)
     (subst (λ (r : Running). NoneGrowsIn r h.place (length r.flow.nodes)) c h.found)
+
+-- ---- node after node: how many ids are drawn
+
+-- at most so many, of so many nodes in all, where this is the next that is to settle
+abbrev pub drawn_up_to : ℕ → Option ℕ → ℕ
+drawn_up_to count None = count
+drawn_up_to count (Some p) = p
+
+next-there : (old mid : Running) (before between : Option Records) (p : ℕ) → ChangesKeep old mid → HaveAskedUpTo old mid before between (Some p)
+    → p < length old.flow.nodes
+next-there old mid before between p c h = let at = h.found in subst (λ (r : Running). p < length r.flow.nodes) c at.there
+
+pub drawing-next : (old mid new : Running) (before between after : Option Records) (p : ℕ) (next : Option ℕ) → ChangesKeep old mid
+    → HaveAskedUpTo old mid before between (Some p) → IsFoundToSettle new (p + 1) next → DrawsAtMost p old.parts.keep mid.parts.keep before between
+    → DrawsAtMost 1 mid.parts.keep new.parts.keep between after
+    → DrawsAtMost (drawn_up_to (length old.flow.nodes) next) old.parts.keep new.parts.keep before after
+drawing-next old mid new before between after p None c h f a b =
+    let there = next-there old mid before between p c h in
+    let both = draws_on a b in
+    draws_more both (omega (arith, there))
+drawing-next old mid new before between after p (Some q) c h f a b =
+    let from = f.from in
+    let both = draws_on a b in
+    draws_more both (omega (arith, from))
+
+-- the last of them is refused
+pub drawing-last : (old mid new : Running) (before between after : Option Records) (p : ℕ) → ChangesKeep old mid → HaveAskedUpTo old mid before between (Some p)
+    → DrawsAtMost p old.parts.keep mid.parts.keep before between → DrawsAtMost 1 mid.parts.keep new.parts.keep between after
+    → DrawsAtMost (length old.flow.nodes) old.parts.keep new.parts.keep before after
+drawing-last old mid new before between after p c h a b =
+    let there = next-there old mid before between p c h in
+    let both = draws_on a b in
+    draws_more both (omega (arith, there))
 
 -- ---- node after node: what is settled
 

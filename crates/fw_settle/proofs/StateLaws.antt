@@ -39,7 +39,7 @@ use Rattle.fw_node.specs.Past.{totals_kept, totals_changed}
 use Rattle.fw_progress.specs.declared.counts.Counts.{Counts}
 use Rattle.fw_progress.specs.Counts.{sent_of}
 use Rattle.fw_progress.specs.History.{IsCountOf}
-use Rattle.fw_policy.proofs.RecordedLaws.{one-cause}
+use Rattle.fw_model.proofs.CauseLaws.{sent_by-one_cause}
 use Rattle.fw_policy.specs.Entries.{sent_by_node}
 use Rattle.fw_stands.specs.Parts.{has_table, sums_up, table_base, table_front, IsTableIn}
 use Rattle.fw_stands.specs.Written.{events_within, count_within, told_inside}
@@ -246,5 +246,5 @@ sends-are sys state w r p l is since f counts k sends a g =
     ∙ k.sent p l is (λ t. told_epochs since f t && g t)
     ∙ count-both (told_epochs since f) g ms
     ∙ count-length g (messages_from (told_epochs since f) ms)
-    ∙ ap (λ xs. length (messages_from g xs)) (epochs-told since f ms (one-cause sys p (events_at sys.flow p h)))
+    ∙ ap (λ xs. length (messages_from g xs)) (epochs-told since f ms (sent_by-one_cause sys p (events_at sys.flow p h)))
     ∙ ap (λ xs. length (messages_from g xs)) (told-due sys.flow p since f ms (legal-caused sys h w.flow (has_epochs sys w) (reached-legal sys state w r) p))

@@ -1,5 +1,6 @@
 //! Writes are asked.
 ghost use Rattle.std.specs.Prelude.{◌≡◌, ◌<◌, ◌++◌, List, Option, length, IfOk, OnOk, OnErr, is_some};
+ghost use Rattle.fw_running.specs.Drawn.{DrawsAtMost};
 ghost use Rattle.fw_running.specs.Faults.{faults_after_step};
 ghost use Rattle.fw_frontier.specs.Front.{IsCanonical};
 ghost use Rattle.fw_flow.specs.Dataflow.{bounds_of};
@@ -44,6 +45,7 @@ pub(crate) fn ask_checkpoint<K: Store>(
     ensures faults { (K.view store.new).faults ≡ faults_after_step result (K.view store.old).faults }
     ensures undamaged { IsUndamaged result }
     ensures tells { is_some (K.view store.new).records ≡ is_some (K.view store.old).records }
+    ensures draws { DrawsAtMost 1 running.old.parts.keep running.new.parts.keep (K.view store.old).records (K.view store.new).records }
 {
     let what = next_record(running, node, front)?;
     let stamps = running
@@ -74,6 +76,7 @@ pub(crate) fn withdraw_from(running: &mut Running, count: usize)
     ensures stored { (records : Option Records) → IsStored running.old.parts.keep records → IsStored running.new.parts.keep records }
     ensures withdrawn { (before more : List Write) → running.old.parts.keep.entries ≡ before ++ more → length before ≡ count → AreInFlight more
         → running.new.parts.keep.entries ≡ before }
+    ensures draws { running.new.parts.keep.next ≡ running.old.parts.keep.next }
 {
     let entries = running.parts.keep.entries();
     if count >= entries.len() {

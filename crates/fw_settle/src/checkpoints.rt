@@ -8,6 +8,7 @@ ghost use Rattle.fw_model.specs.Steps.{last_or};
 ghost use Rattle.fw_flow.specs.declared.step.Step.TheVariants as steps;
 ghost use Rattle.fw_keep.specs.Stored.{IsStored};
 ghost use Rattle.fw_stands.specs.Entries.{entry_fronts};
+ghost use Rattle.fw_running.specs.Drawn.{DrawsAtMost, may_draw};
 ghost use Rattle.fw_running.specs.Shaped.{IsShaped};
 ghost use Rattle.fw_settle.specs.Checkpoints.{MayTakeCheckpoint};
 ghost use Rattle.fw_running.specs.Steps.{InnerAnswers, StepAnswers};
@@ -29,7 +30,8 @@ pub fn checkpoint<K: Store>(
 ) -> Result<Stepped, EngineFault>
     requires shaped { IsShaped running.old }
     requires stored { IsStored running.old.parts.keep (K.view store.old).records }
-    ensures { StepAnswers K.view running.old store.old (steps.Checkpoint node) result running.new store.new }
+    ensures answers { StepAnswers K.view running.old store.old (steps.Checkpoint node) result running.new store.new }
+    ensures draws { DrawsAtMost (may_draw 1 result) running.old.parts.keep running.new.parts.keep (K.view store.old).records (K.view store.new).records }
 {
     if !may_take(running, node) {
         return Ok(Stepped::Idle);
@@ -71,7 +73,8 @@ fn is_newest_settled(running: &Running, node: NodeId) -> bool
 /// The oldest write in flight is acknowledged.
 pub fn persist(running: &mut Running) -> Stepped
     requires shaped { IsShaped running.old }
-    ensures { InnerAnswers running.old steps.Persist (Ok result) running.new }
+    ensures answers { InnerAnswers running.old steps.Persist (Ok result) running.new }
+    ensures draws { running.new.parts.keep.next ≡ running.old.parts.keep.next }
 {
     match running.parts.keep.persist_one() {
         Some(_id) => Stepped::Did(Effect::Quiet),

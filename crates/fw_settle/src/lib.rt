@@ -10,4 +10,5 @@ mod settling;
 mod tables;
 
 pub use checkpoints::{checkpoint, persist};
+pub use record::sends_inside;
 pub use settling::progress;

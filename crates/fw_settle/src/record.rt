@@ -218,9 +218,9 @@ fn messages_told(
     }
 }
 
-// What a sequence sent in each epoch of its table that is inside, and outside an earlier front. The fronts are looked at once; of
-// each epoch numbers are compared alone. The error is want of memory, or that a sum would not fit 64 bits.
-fn sends_inside(
+/// What a sequence sent in each epoch of its table that is inside, and outside an earlier front. The fronts are looked at once; of
+/// each epoch numbers are compared alone. The error is want of memory, or that a sum would not fit 64 bits.
+pub fn sends_inside(
     alloc: Global,
     table: &SentTable,
     since: Option<&Front>,

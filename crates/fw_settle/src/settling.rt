@@ -6,6 +6,7 @@ ghost use Rattle.fw_model.specs.Machine.{front_of};
 ghost use Rattle.fw_model.specs.Steps as steps_of;
 ghost use Rattle.fw_keep.specs.Stored.{IsStored};
 ghost use Rattle.fw_progress.specs.Settle.{IsGrownAt, has_more};
+ghost use Rattle.fw_running.specs.Drawn.{DrawsAtMost, may_draw};
 ghost use Rattle.fw_running.specs.Logging.{ChangesKeep, IsAskRefused};
 ghost use Rattle.fw_running.specs.Places.{IsTakenOut};
 ghost use Rattle.fw_running.specs.Shaped.{IsShaped};
@@ -24,7 +25,9 @@ use std::alloc::AllocError;
 pub fn progress<K: Store>(running: &mut Running, store: &mut K) -> Result<Stepped, EngineFault>
     requires shaped { IsShaped running.old }
     requires stored { IsStored running.old.parts.keep (K.view store.old).records }
-    ensures { StepAnswers K.view running.old store.old steps.Progress result running.new store.new }
+    ensures answers { StepAnswers K.view running.old store.old steps.Progress result running.new store.new }
+    ensures draws { DrawsAtMost (may_draw (length running.old.flow.nodes) result) running.old.parts.keep running.new.parts.keep
+        (K.view store.old).records (K.view store.new).records }
 {
     running.refresh()?;
     let Some(_first) = grown_from(running, 0) else {
@@ -76,6 +79,8 @@ fn ask_eager<K: Store>(running: &mut Running, store: &mut K) -> Result<(), Engin
     ensures stays { OnErr result (KeepsEntries running.old.parts.keep.entries running.new.parts.keep.entries
         (K.view store.old).records (K.view store.new).records) }
     ensures part { PartAnswers K.view (HasEager running.old.flow) running.old store.old result running.new store.new }
+    ensures draws { DrawsAtMost (length running.old.flow.nodes) running.old.parts.keep running.new.parts.keep
+        (K.view store.old).records (K.view store.new).records }
 {
     let count = running.parts.keep.entries().len();
     match ask_each(running, store) {
@@ -96,6 +101,8 @@ fn ask_each<K: Store>(running: &mut Running, store: &mut K) -> Result<(), Engine
     ensures asked { OnOk result (HaveAsked (length running.old.flow.nodes) running.old running.new (K.view store.old).records (K.view store.new).records) }
     ensures adds { AddsEntries running.old.parts.keep.entries running.new.parts.keep.entries (K.view store.old).records (K.view store.new).records }
     ensures part { PartAnswers K.view (HasEager running.old.flow) running.old store.old result running.new store.new }
+    ensures draws { DrawsAtMost (length running.old.flow.nodes) running.old.parts.keep running.new.parts.keep
+        (K.view store.old).records (K.view store.new).records }
 {
     let mut next = grown_from(running, 0);
     while let Some(node) = next {
@@ -121,6 +128,7 @@ fn ask_if_eager<K: Store>(
     ensures stays { OnErr result (IsAskRefused running.old.parts.keep running.new.parts.keep
         (K.view store.old).records (K.view store.new).records) }
     ensures part { PartAnswers K.view (steps_of.is_eager (policy_of running.old.flow node) ≡ true) running.old store.old result running.new store.new }
+    ensures draws { DrawsAtMost 1 running.old.parts.keep running.new.parts.keep (K.view store.old).records (K.view store.new).records }
 {
     if !is_eager(running.flow.policy(node)) {
         return Ok(());

@@ -2,7 +2,7 @@
 use Rattle.std.proofs.Common.{◌≡◌, ℕ, ◌<◌, true, false, cond, ◌&&◌, not, List, [], ◌∷◌, length, refl, sym, ap, subst, ◌∙◌, arith}
 use Rattle.std.specs.List.{AllByRecursion, Contains, list_all}
 use Rattle.std.proofs.lemmas.Bool.{and_left, eq-eqb, false_from_ne_true}
-use Rattle.fw_lemmas.proofs.Each.{each-weaker, each-one, each-at, each-append}
+use Rattle.fw_lemmas.proofs.Each.{each-weaker, each-one, each-at}
 use Rattle.fw_lemmas.proofs.Filters.{filter-all, filter-same_on}
 use Rattle.fw_lemmas.proofs.Lists.{none-mapped}
 use Rattle.fw_time.specs.Stamp.{Stamp, in_domain}
@@ -14,7 +14,7 @@ use Rattle.fw_flow.specs.declared.choice.Cut.TheVariants.{Present, At}
 use Rattle.fw_flow.specs.declared.event.Event.{Event}
 use Rattle.fw_flow.specs.declared.event.Message.{Message}
 use Rattle.fw_flow.specs.Dataflow.{System, Dataflow, kind_of, in_edges, is_input_kind, node_frontier, sender, receiver, bounds_of, bounds_of_edge, node_ids, HasEpochs}
-use Rattle.fw_flow.specs.NodeFunction.{event_stamp, sends, sent_by}
+use Rattle.fw_flow.specs.NodeFunction.{event_stamp, sent_by}
 use Rattle.fw_flow.specs.Projection.{events_at, all_inside}
 use Rattle.fw_flow.specs.WellFormed.{IsWellFormed, IsInDegree, may_keep_nothing}
 use Rattle.fw_model.specs.LawsOfReplay.{not_given_up}
@@ -33,7 +33,8 @@ use Rattle.fw_model.proofs.AskedLaws.{CanRecoverAndRestore, reached-all}
 use Rattle.fw_model.proofs.DomainLaws.{has_epochs, edge-bounds}
 use Rattle.fw_model.proofs.FilteredLaws.{filtered-events, consistent-meets, choice-consistent}
 use Rattle.fw_model.proofs.LegalLaws.{legal_events-in_domain, legal_messages-in_domain}
-use Rattle.fw_model.proofs.LocalityLaws.{sends-causes, sends-same}
+use Rattle.fw_model.proofs.CauseLaws.{sent_by-each_cause}
+use Rattle.fw_model.proofs.LocalityLaws.{sends-same}
 use Rattle.fw_model.proofs.RestoringLaws.{full-reached}
 use Rattle.fw_stands.specs.Recovered.{Recovers}
 
@@ -90,19 +91,10 @@ all_inside-as f g (c ∷ cs) a = ap (λ b. b && list_all f cs) a.0 ∙ ap (λ b.
 abbrev pub IsCausedIn : Dataflow → ℕ → Message → Type 0
 IsCausedIn flow p m = AllByRecursion (λ t. in_domain (bounds_of flow p) t ≡ true) m.causes
 
-sent_by-caused : (sys : System) (p : ℕ) (vs : List Event) → AllByRecursion (λ v. in_domain (bounds_of sys.flow p) (event_stamp v) ≡ true) vs
-    → AllByRecursion (IsCausedIn sys.flow p) (sent_by sys p vs)
-sent_by-caused sys p [] a = tt
-sent_by-caused sys p (v ∷ vs) a =
-    each-append (IsCausedIn sys.flow p) (sends sys p vs v) (sent_by sys p vs)
-    (each-weaker (λ (m : Message). m.causes ≡ event_stamp v ∷ []) (IsCausedIn sys.flow p) (sends sys p vs v)
-    (λ m e. subst (AllByRecursion (λ t. in_domain (bounds_of sys.flow p) t ≡ true)) (sym e) (a.0, tt)) (sends-causes sys p vs v))
-    (sent_by-caused sys p vs a.1)
-
 -- in a legal history what a node sent has causes of its domain
 pub legal-caused : (sys : System) (h : List Event) → IsWellFormed sys.flow → HasEpochs sys → IsLegal sys h → (p : ℕ)
     → AllByRecursion (IsCausedIn sys.flow p) (sent_by sys p (events_at sys.flow p h))
-legal-caused sys h w b l p = sent_by-caused sys p (events_at sys.flow p h) (legal_events-in_domain sys h w b l p)
+legal-caused sys h w b l p = sent_by-each_cause sys p (λ t. in_domain (bounds_of sys.flow p) t ≡ true) (events_at sys.flow p h) (legal_events-in_domain sys h w b l p)
 
 -- it is at stamps of the receiver
 pub legal-at : (sys : System) (h : List Event) → IsWellFormed sys.flow → HasEpochs sys → IsLegal sys h → (e : ℕ)

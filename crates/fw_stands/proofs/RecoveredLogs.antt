@@ -2,7 +2,6 @@
 use Rattle.std.proofs.Common.{◌≡◌, ◌≢◌, ℕ, Bool, true, false, not, List, [], ◌∷◌, ◌++◌, refl, sym, ap, subst, ◌∙◌, inl, inr, ◌<◌, length}
 use Rattle.std.proofs.lemmas.Bool.{cases_Bool, cond-false, cond-true, and_from, and_left, false_from_ne_true}
 use Rattle.std.specs.List.{AllByRecursion}
-use Rattle.std.proofs.lemmas.List.Elements.{filter-append}
 use Rattle.fw_lemmas.proofs.Bools.{two_ways}
 use Rattle.fw_lemmas.proofs.Each.{each-weaker, each-one, each-kept, all-of_each}
 use Rattle.fw_lemmas.proofs.Filters.{filter-all, filter-none, filter-inner}
@@ -19,7 +18,7 @@ use Rattle.fw_flow.specs.declared.kind.Kind.TheVariants.{Input, OutputEpoch, Out
 use Rattle.fw_flow.specs.declared.kind.Policy.{Policy}
 use Rattle.fw_flow.specs.declared.kind.Policy.TheVariants as policy
 use Rattle.fw_flow.specs.Dataflow.{System, Dataflow, kind_of, policy_of, sender, receiver, bounds_of, node_frontier}
-use Rattle.fw_flow.specs.NodeFunction.{event_stamp, sends, sent_by}
+use Rattle.fw_flow.specs.NodeFunction.{event_stamp, sent_by}
 use Rattle.fw_flow.specs.Projection.{events_at, all_inside}
 use Rattle.fw_flow.specs.declared.restoring.Restoring.TheVariants.{Checkpoints, Events}
 use Rattle.fw_flow.specs.Restoring.{can_resend, restoring, way_of}
@@ -33,11 +32,10 @@ use Rattle.fw_model.specs.Machine.{Machine, events, family_of, front_of, is_fail
 use Rattle.fw_model.specs.Resending.{at_receiver, logged_messages}
 use Rattle.fw_model.specs.SortedMessages.{sorted_messages}
 use Rattle.fw_model.specs.Steps.{recovered_state}
-use Rattle.fw_model.proofs.LocalityLaws.{sends-causes}
+use Rattle.fw_model.proofs.CauseLaws.{outside-sent}
 use Rattle.fw_model.proofs.LowLaws.{none-within}
 use Rattle.fw_model.proofs.ReplayLaws.{replayed-send, replayed-those}
 use Rattle.fw_model.proofs.SendPartLaws.{part-sends, passing-send}
-use Rattle.fw_model.proofs.SequenceLaws.{one_inside}
 use Rattle.fw_stands.specs.Recovered.{Recovers}
 use Rattle.fw_stands.specs.Parts.{is_logging, logged}
 use Rattle.fw_stands.proofs.RecoveredFacts.{knows, none_failed, present_lives, IsCausedIn, legal-caused, legal-at, sent-now, outside-front, none_given-up}
@@ -106,17 +104,12 @@ logged-cut sys state choice settled r e can f is =
 
 -- what has a cause does not come from inside no stamps
 none-from : (sys : System) (p : ℕ) (vs : List Event) → messages_from (node_frontier sys.flow p (no_stamps (bounds_of sys.flow p))) (sent_by sys p vs) ≡ []
-none-from sys p [] = refl
-none-from sys p (v ∷ vs) =
+none-from sys p vs =
     let b = bounds_of sys.flow p in
     let f = node_frontier sys.flow p (no_stamps b) in
-    let from : Message → Bool = λ m. all_inside f m.causes in
-    let none = false_from_ne_true (f (event_stamp v)) (λ i. two_ways false (none-within b nothing (event_stamp v) i) refl) in
-    filter-append from (sends sys p vs v) (sent_by sys p vs)
-    ∙ ap (λ ms. ms ++ messages_from f (sent_by sys p vs))
-    (filter-none from (sends sys p vs v)
-    (each-weaker (λ (m : Message). m.causes ≡ event_stamp v ∷ []) (λ m. from m ≡ false) (sends sys p vs v) (λ m e. one_inside f (event_stamp v) m false none e) (sends-causes sys p vs v)))
-    ∙ none-from sys p vs
+    filter-none (λ (m : Message). all_inside f m.causes) (sent_by sys p vs)
+    (outside-sent sys p f vs
+    (each-one (λ v. f (event_stamp v) ≡ false) vs (λ v. false_from_ne_true (f (event_stamp v)) (λ i. two_ways false (none-within b nothing (event_stamp v) i) refl))))
 
 -- the log of a sender that is cut to no stamps is empty
 pub logs-of_nothing : (sys : System) (state : Machine) (choice : Choice) (settled : List Front) → Recovers sys state choice settled

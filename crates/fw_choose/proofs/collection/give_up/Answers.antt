@@ -4,6 +4,7 @@ use Rattle.fw_frontier.specs.Front.{Front}
 use Rattle.fw_keep.specs.declared.entry.Entry.{Entry}
 use Rattle.fw_rollback.specs.declared.parts.Parts.{Parts}
 use Rattle.fw_choose.specs.Collecting.{AreRaised}
+use Rattle.fw_keep.specs.Catalogue.{KeepState}
 use Rattle.fw_choose.proofs.collection.give_up.Goals as goal
 
 pub returns-clause-collected : goal.returns-clause-collected
@@ -22,3 +23,6 @@ returns-clause-collected c =
       traces = subst (λ (fs : List Front). AreRaised old.flow (length old.flow.nodes) fs old.traces c.raise_bases.new.traces) (c.deref.ensures.value ∙ c.requires.low)
           c.in_ok-raise_bases.ensures;
     }
+
+pub returns-clause-draws : goal.returns-clause-draws
+returns-clause-draws c = ap (λ (k : KeepState). k.next) c.drop_from.ensures.entries.left

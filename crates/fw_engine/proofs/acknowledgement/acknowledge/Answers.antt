@@ -8,15 +8,15 @@ use Rattle.fw_running.proofs.StepLaws.{inner-ok, inner-refused}
 use Rattle.fw_engine.proofs.AckLaws.{idle-acknowledges, acknowledges, ack-shaped, ack-stands}
 use Rattle.fw_engine.proofs.acknowledgement.acknowledge.Goals as goal
 
-pub returns-in_default : goal.returns-in_default
-returns-in_default c = inner-ok c.requires.shaped refl refl (λ records sys state s u.
+pub returns-in_default-clause-answers : goal.returns-in_default-clause-answers
+returns-in_default-clause-answers c = inner-ok c.requires.shaped refl refl (λ records sys state s u.
     record { next = state; steps = (idle-acknowledges sys state c.args.running.now records c.args.output s c.in_default.ensures.none, refl); stands = s })
 
-pub returns-in_err-put_output : goal.returns-in_err-put_output
-returns-in_err-put_output c = inner-refused (λ records held. held) refl c.from_residual.ensures.1
+pub returns-in_err-put_output-clause-answers : goal.returns-in_err-put_output-clause-answers
+returns-in_err-put_output-clause-answers c = inner-refused (λ records held. held) refl c.from_residual.ensures.1
 
-pub returns : goal.returns
-returns c =
+pub returns-clause-answers : goal.returns-clause-answers
+returns-clause-answers c =
     let running = c.args.running.now in
     let o = c.args.output in
     let out = output_of running o in

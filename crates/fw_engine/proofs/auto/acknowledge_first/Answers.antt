@@ -1,4 +1,4 @@
-use Rattle.std.proofs.Common.{Option, subst, sym, ℕ}
+use Rattle.std.proofs.Common.{Option, ap, subst, sym, ◌∙◌, ℕ}
 use Rattle.fw_border.specs.Outputs.{AreByNumber}
 use Rattle.std.specs.Prelude.{IfSome}
 use Rattle.fw_keep.specs.Stored.{IsStored}
@@ -17,7 +17,7 @@ returns-in-Some-clause-takes c = λ records.
     c.first_acknowledging.ensures.others
     (subst (λ (found : Option ℕ). IsFirstWhere (CanAcknowledge old) found) c.in-Some.is c.first_acknowledging.ensures.first)
     (subst (λ (found : Option ℕ). IfSome found (λ o. AreByNumber (output_of old o).recs)) c.in-Some.is c.first_acknowledging.ensures.by_number)
-    c.acknowledge.ensures.undamaged c.acknowledge.ensures.unfaulted (c.acknowledge.ensures.takes records)
+    c.acknowledge.ensures.answers.undamaged c.acknowledge.ensures.answers.unfaulted (c.acknowledge.ensures.answers.takes records)
 
 pub returns-in-None-clause-takes : goal.returns-in-None-clause-takes
 returns-in-None-clause-takes c = λ records.
@@ -29,8 +29,14 @@ returns-in-None-clause-takes c = λ records.
 
 pub returns-in-Some-clause-stored : goal.returns-in-Some-clause-stored
 returns-in-Some-clause-stored c = λ records stored.
-    c.acknowledge.ensures.stored records (subst (λ (r : Running). IsStored r.parts.keep records) (sym c.first_acknowledging.ensures.others) stored)
+    c.acknowledge.ensures.answers.stored records (subst (λ (r : Running). IsStored r.parts.keep records) (sym c.first_acknowledging.ensures.others) stored)
 
 pub returns-in-None-clause-stored : goal.returns-in-None-clause-stored
 returns-in-None-clause-stored c = λ records stored.
     c.inject_first.ensures.stored records (subst (λ (r : Running). IsStored r.parts.keep records) (sym c.first_acknowledging.ensures.others) stored)
+
+pub returns-in-Some-clause-draws : goal.returns-in-Some-clause-draws
+returns-in-Some-clause-draws c = c.acknowledge.ensures.draws ∙ ap (λ (r : Running). r.parts.keep.next) c.first_acknowledging.ensures.others
+
+pub returns-in-None-clause-draws : goal.returns-in-None-clause-draws
+returns-in-None-clause-draws c = c.inject_first.ensures.draws ∙ ap (λ (r : Running). r.parts.keep.next) c.first_acknowledging.ensures.others

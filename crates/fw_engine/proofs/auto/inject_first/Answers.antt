@@ -1,4 +1,4 @@
-use Rattle.std.proofs.Common.{Option, subst, sym, ℕ}
+use Rattle.std.proofs.Common.{Option, ap, subst, sym, ◌∙◌, ℕ}
 use Rattle.fw_keep.specs.Stored.{IsStored}
 use Rattle.fw_running.specs.declared.running.Running.{Running}
 use Rattle.fw_running.specs.Places.{IsFirstWhere}
@@ -13,7 +13,7 @@ returns-in-Some-clause-takes c = λ records.
     inject-first old mid (record old.ready { inputs = mid.ready.inputs }) c.inject.new.running records c.in-Some.source c.inject.result
     c.first_injecting.ensures.others
     (subst (λ (found : Option ℕ). IsFirstWhere (CanInject old) found) c.in-Some.is c.first_injecting.ensures.first)
-    c.inject.ensures.undamaged c.inject.ensures.unfaulted (c.inject.ensures.takes records)
+    c.inject.ensures.answers.undamaged c.inject.ensures.answers.unfaulted (c.inject.ensures.answers.takes records)
 
 pub returns-in-None-clause-takes : goal.returns-in-None-clause-takes
 returns-in-None-clause-takes c = λ records.
@@ -24,4 +24,10 @@ returns-in-None-clause-takes c = λ records.
 
 pub returns-in-Some-clause-stored : goal.returns-in-Some-clause-stored
 returns-in-Some-clause-stored c = λ records stored.
-    c.inject.ensures.stored records (subst (λ (r : Running). IsStored r.parts.keep records) (sym c.first_injecting.ensures.others) stored)
+    c.inject.ensures.answers.stored records (subst (λ (r : Running). IsStored r.parts.keep records) (sym c.first_injecting.ensures.others) stored)
+
+pub returns-in-Some-clause-draws : goal.returns-in-Some-clause-draws
+returns-in-Some-clause-draws c = c.inject.ensures.draws ∙ ap (λ (r : Running). r.parts.keep.next) c.first_injecting.ensures.others
+
+pub returns-in-None-clause-draws : goal.returns-in-None-clause-draws
+returns-in-None-clause-draws c = ap (λ (r : Running). r.parts.keep.next) c.first_injecting.ensures.others

@@ -6,7 +6,9 @@ use Rattle.fw_running.specs.declared.stepped.Stepped.{Stepped}
 use Rattle.fw_running.specs.Steps.{AnswersFirst, MayCallByItself}
 use Rattle.fw_running.proofs.StepLaws.{ok-unfaulted, part-err, part-later, part-may, part-of, part-refused_first}
 use Rattle.fw_engine.specs.declared.auto.Notice.{Notice}
+use Rattle.fw_engine.specs.Engine.{StepDraws}
 use Rattle.fw_engine.specs.Searching.{IsFirstNotified}
+use Rattle.fw_engine.proofs.DrawnLaws.{draws-behind, draws-none, draws-notified}
 use Rattle.fw_engine.proofs.QuietLaws.{notification-may_call_later}
 use Rattle.fw_engine.proofs.TakenFirstLaws.{from-err, notify-err, notify-first, notify-later}
 use Rattle.fw_engine.proofs.auto.notify_first.Goals as goal
@@ -68,3 +70,31 @@ settle_first-requires-clause-stored g c =
 pub notify_of-requires-clause-stored : goal.notify_of-requires-clause-stored
 notify_of-requires-clause-stored g c =
     subst (λ (parts : Parts). IsStored parts.keep (g.K.Store.view c.args.store.now).records) (sym c.first_notice.ensures.parts) c.requires.stored
+
+pub returns-in_err-notice-clause-draws : goal.returns-in_err-notice-clause-draws
+returns-in_err-notice-clause-draws g c =
+    draws-none c.args.running.now c.first_notice.new.running (g.K.Store.view c.args.store.now).records _
+    (ap (λ (parts : Parts). parts.keep.next) c.first_notice.ensures.parts)
+
+pub returns-in_default-clause-draws : goal.returns-in_default-clause-draws
+returns-in_default-clause-draws g c =
+    draws-behind c.args.running.now c.first_notice.new.running c.settle_first.new.running (g.K.Store.view c.args.store.now).records
+    (g.K.Store.view c.settle_first.new.store).records c.settle_first.result c.first_notice.ensures.flow
+    (ap (λ (parts : Parts). parts.keep.next) c.first_notice.ensures.parts) c.settle_first.ensures.draws
+
+pub returns-in_err-notify_of-clause-draws : goal.returns-in_err-notify_of-clause-draws
+returns-in_err-notify_of-clause-draws g c =
+    let old = c.args.running.now in
+    let new = c.notify_of.new.running in
+    let before = (g.K.Store.view c.args.store.now).records in
+    let after = (g.K.Store.view c.notify_of.new.store).records in
+    from-err c.from_residual-in_err-notify_of.result c.in_err-notify_of.field-0.0 (λ (r : Result Stepped EngineFault). StepDraws old before r new after)
+    c.from_residual-in_err-notify_of.ensures.1
+    (draws-notified old c.first_notice.new.running new before after c.requires.shaped.well_formed
+    (ap (λ (parts : Parts). parts.keep.next) c.first_notice.ensures.parts) c.in_err-notify_of.ensures.draws)
+
+pub returns-clause-draws : goal.returns-clause-draws
+returns-clause-draws g c =
+    draws-notified c.args.running.now c.first_notice.new.running c.notify_of.new.running (g.K.Store.view c.args.store.now).records
+    (g.K.Store.view c.notify_of.new.store).records c.requires.shaped.well_formed (ap (λ (parts : Parts). parts.keep.next) c.first_notice.ensures.parts)
+    c.in_ok-notify_of.ensures.draws

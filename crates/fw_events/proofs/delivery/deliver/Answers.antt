@@ -8,10 +8,11 @@ use Rattle.fw_running.proofs.SameStateLaws.{unasked-stands}
 use Rattle.fw_running.proofs.StepLaws.{stays-shaped, step-did, step-fails, step-idle, step-refused}
 use Rattle.fw_events.proofs.AskedLaws.{next-at, none_next}
 use Rattle.fw_events.proofs.DeliverLaws.{at-receiver, delivery-done, found-enabled, none-delivers}
+use Rattle.fw_running.proofs.DrawnLaws.{draws_failed, draws_kept}
 use Rattle.fw_events.proofs.delivery.deliver.Goals as goal
 
-pub returns-in_default : goal.returns-in_default
-returns-in_default g c =
+pub returns-in_default-clause-answers : goal.returns-in_default-clause-answers
+returns-in_default-clause-answers g c =
     let old = c.args.running.now in
     step-idle refl c.requires.stored refl refl c.requires.shaped (λ sys state s trust.
     none-delivers sys old (g.K.Store.view c.args.store.now).records state c.args.edge (option_copied c.args.at) s c.requires.shaped.one_each.parts.queues
@@ -27,8 +28,8 @@ take_in-requires-clause-at g c =
     next-at c.args.running.now c.log_delivery.new.running c.args.edge c.dst-node.result (option_copied c.args.at) c.in-Some.field-0 c.requires.shaped
     (ap (λ (r : Running). r.flow) c.log_delivery.ensures.others) c.dst-node.ensures c.in-Some.ensures
 
-pub returns-in_err-log_delivery : goal.returns-in_err-log_delivery
-returns-in_err-log_delivery g c =
+pub returns-in_err-log_delivery-clause-answers : goal.returns-in_err-log_delivery-clause-answers
+returns-in_err-log_delivery-clause-answers g c =
     let old = c.args.running.now in
     let new = c.log_delivery.new.running in
     let before = (g.K.Store.view c.args.store.now).records in
@@ -42,13 +43,13 @@ returns-in_err-log_delivery g c =
       unasked-stands sys old new before after state s log.others log.stays,
     ))
 
-pub returns-in_err-take_in : goal.returns-in_err-take_in
-returns-in_err-take_in g c =
+pub returns-in_err-take_in-clause-answers : goal.returns-in_err-take_in-clause-answers
+returns-in_err-take_in-clause-answers g c =
     step-refused refl refl (at-receiver c.args.running.now.flow c.args.edge c.dst-node.ensures c.in_ok-log_delivery.ensures.part) c.take_in.ensures.keep c.take_in.ensures.flow
     c.from_residual-in_err-take_in.ensures.1
 
-pub returns : goal.returns
-returns g c =
+pub returns-clause-answers : goal.returns-clause-answers
+returns-clause-answers g c =
     let old = c.args.running.now in
     let log = c.in_ok-log_delivery.ensures in
     let live : is_down old c.dst-node.result ≡ false = sym c.is_failed.ensures ∙ c.if-is_failed.false in
@@ -56,3 +57,12 @@ returns g c =
     delivery-done sys state c.args.edge c.dst-node.result (option_copied c.args.at) c.in-Some.field-0 old c.log_delivery.new.running c.take_in.new.running
     (g.K.Store.view c.args.store.now).records (g.K.Store.view c.log_delivery.new.store).records s c.requires.shaped c.dst-node.ensures live c.in-Some.ensures
     log.others log.logged c.take_in.ensures.keep c.in_ok-take_in.ensures.takes)
+
+pub returns-in_err-take_in-clause-draws : goal.returns-in_err-take_in-clause-draws
+returns-in_err-take_in-clause-draws g c = draws_failed _ _ c.from_residual-in_err-take_in.ensures.1 (draws_kept c.log_delivery.ensures.draws c.take_in.ensures.keep)
+
+pub returns-clause-draws : goal.returns-clause-draws
+returns-clause-draws g c = draws_kept c.log_delivery.ensures.draws c.take_in.ensures.keep
+
+pub returns-in_err-log_delivery-clause-draws : goal.returns-in_err-log_delivery-clause-draws
+returns-in_err-log_delivery-clause-draws g c = draws_failed _ _ c.from_residual.ensures.1 c.log_delivery.ensures.draws

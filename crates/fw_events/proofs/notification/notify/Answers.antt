@@ -8,6 +8,7 @@ use Rattle.fw_running.proofs.BroughtUpLaws.{brought_up_shaped}
 use Rattle.fw_running.proofs.StepLaws.{step-did, step-fails, step-idle, step-refused_first}
 use Rattle.fw_events.specs.Noticing.{FindsNotice}
 use Rattle.fw_events.proofs.NoticingLaws.{fault-answers, none_notified, notice_follows, notice-taken_up, notified_declared}
+use Rattle.fw_running.proofs.DrawnLaws.{draws_failed, draws_from, draws_same}
 use Rattle.fw_events.proofs.notification.notify.Goals as goal
 
 pub find_notice-requires-clause-there : goal.find_notice-requires-clause-there
@@ -16,12 +17,12 @@ find_notice-requires-clause-there g c =
     let kind : is_notified_kind (kind_of old.flow c.args.node) ≡ true = ap is_notified_kind (sym c.kind.ensures) ∙ sym c.is_notified.ensures ∙ c.if-not-is_notified.false in
     notified_declared old.flow c.args.node kind
 
-pub returns-in_err-at : goal.returns-in_err-at
-returns-in_err-at g c =
+pub returns-in_err-at-clause-answers : goal.returns-in_err-at-clause-answers
+returns-in_err-at-clause-answers g c =
     step-refused_first refl c.requires.stored (ap (λ (parts : Parts). parts.keep) c.find_notice.ensures.parts) c.find_notice.ensures.flow c.from_residual.ensures.1
 
-pub returns-in_default : goal.returns-in_default
-returns-in_default g c =
+pub returns-in_default-clause-answers : goal.returns-in_default-clause-answers
+returns-in_default-clause-answers g c =
     let old = c.args.running.now in
     let up = c.find_notice.new.running in
     step-idle refl c.requires.stored (ap (λ (parts : Parts). parts.keep) c.find_notice.ensures.parts) c.find_notice.ensures.flow
@@ -38,8 +39,8 @@ notify_of-requires-clause-there g c =
     let kind : is_notified_kind (kind_of old.flow c.args.node) ≡ true = ap is_notified_kind (sym c.kind.ensures) ∙ sym c.is_notified.ensures ∙ c.if-not-is_notified.false in
     subst (λ (f : Dataflow). c.args.node < length f.nodes) (sym c.find_notice.ensures.flow) (notified_declared old.flow c.args.node kind)
 
-pub returns-in_err-notify_of : goal.returns-in_err-notify_of
-returns-in_err-notify_of g c =
+pub returns-in_err-notify_of-clause-answers : goal.returns-in_err-notify_of-clause-answers
+returns-in_err-notify_of-clause-answers g c =
     let old = c.args.running.now in
     let up = c.find_notice.new.running in
     let new = c.notify_of.new.running in
@@ -55,8 +56,8 @@ returns-in_err-notify_of g c =
     fault-answers (Unit {0}) sys state c.args.node t at e old new before after s live found
     (notice-taken_up {T = Unit {0}} sys state c.args.node at t old up new before after (Err e) s live c.in_ok-at.ensures.up found heard.takes))
 
-pub returns : goal.returns
-returns g c =
+pub returns-clause-answers : goal.returns-clause-answers
+returns-clause-answers g c =
     let old = c.args.running.now in
     let up = c.find_notice.new.running in
     let new = c.notify_of.new.running in
@@ -71,3 +72,16 @@ returns g c =
     notice_follows sys state c.args.node at t old up new before after s live found
     (notice-taken_up {T = Unit {0}} sys state c.args.node at t old up new before after (Ok c.in_ok-notify_of.field-0) s live c.in_ok-at.ensures.up found
     heard.takes))
+
+pub returns-in_err-at-clause-draws : goal.returns-in_err-at-clause-draws
+returns-in_err-at-clause-draws g c = draws_same (ap (λ (parts : Parts). parts.keep.next) c.find_notice.ensures.parts)
+
+pub returns-in_default-clause-draws : goal.returns-in_default-clause-draws
+returns-in_default-clause-draws g c = draws_same (ap (λ (parts : Parts). parts.keep.next) c.find_notice.ensures.parts)
+
+pub returns-in_err-notify_of-clause-draws : goal.returns-in_err-notify_of-clause-draws
+returns-in_err-notify_of-clause-draws g c =
+    draws_failed _ _ c.from_residual-in_err-notify_of.ensures.1 (draws_from c.notify_of.ensures.draws (ap (λ (parts : Parts). parts.keep.next) c.find_notice.ensures.parts))
+
+pub returns-clause-draws : goal.returns-clause-draws
+returns-clause-draws g c = draws_from c.notify_of.ensures.draws (ap (λ (parts : Parts). parts.keep.next) c.find_notice.ensures.parts)

@@ -1,6 +1,7 @@
 use Rattle.std.proofs.lemmas.Result.{err_from_is_err_and}
 use Rattle.fw_running.proofs.StepLaws.{ok-unfaulted, part-err, part-later, part-refused}
 use Rattle.fw_events.proofs.NoticingLaws.{notice-done, notice-leaves}
+use Rattle.fw_running.proofs.DrawnLaws.{draws_kept}
 use Rattle.fw_events.proofs.notification.notify_of.Goals as goal
 
 pub returns-in_err-log_notice-clause-takes : goal.returns-in_err-log_notice-clause-takes
@@ -23,3 +24,12 @@ pub returns-clause-takes : goal.returns-clause-takes
 returns-clause-takes g c =
     notice-done c.args.running.now c.log_notice.new.running c.hear.new.running (g.K.Store.view c.args.store.now).records (g.K.Store.view c.log_notice.new.store).records
     c.args.node c.args.at.now c.log_notice.ensures.others c.in_ok-log_notice.ensures.logged c.hear.ensures.keep c.in_ok-hear.ensures.takes
+
+pub returns-in_err-hear-clause-draws : goal.returns-in_err-hear-clause-draws
+returns-in_err-hear-clause-draws g c = draws_kept c.log_notice.ensures.draws c.hear.ensures.keep
+
+pub returns-clause-draws : goal.returns-clause-draws
+returns-clause-draws g c = draws_kept c.log_notice.ensures.draws c.hear.ensures.keep
+
+pub returns-in_err-log_notice-clause-draws : goal.returns-in_err-log_notice-clause-draws
+returns-in_err-log_notice-clause-draws g c = c.log_notice.ensures.draws

@@ -17,14 +17,14 @@ loop-node-preserved c =
     next_more c.args.nodes.now c.loop-node.node-index c.node-item.result c.loop-node.any c.in_ok-any.field-0 c.args.running.now c.loop-node.running c.fail_if_live.new.running
     c.loop-node-test.true c.node-item.is c.loop-node.invariant c.in_ok-any.ensures.ok
 
-pub returns-in_err-any : goal.returns-in_err-any
-returns-in_err-any c =
+pub returns-in_err-any-clause-answers : goal.returns-in_err-any-clause-answers
+returns-in_err-any-clause-answers c =
     let h = c.loop-node.invariant in
     inner-refused (λ records held. subst (λ (r : Running). IsStored r.parts.keep records) (sym c.in_err-any.ensures.err) (h.stored records held))
     (ap (λ (r : Running). r.flow) c.in_err-any.ensures.err ∙ h.flow) c.from_residual.ensures.1
 
-pub returns : goal.returns
-returns c =
+pub returns-clause-answers : goal.returns-clause-answers
+returns-clause-answers c =
     let nodes = c.args.nodes.now in
     let failed = subst (λ ps. HaveFailed ps c.loop-node.any c.args.running.now c.loop-node.running) (take_all c.loop-node.node-index nodes c.loop-node-test.false) c.loop-node.invariant in
     record {
@@ -35,3 +35,9 @@ returns c =
       unfaulted = ok-unfaulted;
       undamaged = tt;
     }
+
+pub returns-in_err-any-clause-draws : goal.returns-in_err-any-clause-draws
+returns-in_err-any-clause-draws c = ap (λ (r : Running). r.parts.keep.next) c.in_err-any.ensures.err ∙ c.loop-node.invariant.drawn
+
+pub returns-clause-draws : goal.returns-clause-draws
+returns-clause-draws c = c.loop-node.invariant.drawn

@@ -14,6 +14,8 @@ use Rattle.fw_running.proofs.SameStateLaws.{told-recovers, told-shows, told-take
 use Rattle.fw_running.proofs.StepLaws.{busy, fault-counts, recovery-answers, recovery-fails, recovery-refused}
 use Rattle.fw_recover.proofs.FollowedLaws.{followed-recovered, followed-shaped, queues-at_receivers}
 use Rattle.fw_recover.proofs.RecoverStepLaws.{held-done, held-idle, recovery-done, recovery-shows, refused-damage, refused-held, refused-stands, some-down, unanswered-held}
+use Rattle.fw_running.proofs.DrawnLaws.{draws_none}
+use Rattle.fw_keep.specs.Catalogue.{KeepState}
 use Rattle.fw_recover.proofs.recovery.recover.Goals as goal
 
 pub returns-then-not-any_of-clause-held : goal.returns-then-not-any_of-clause-held
@@ -113,3 +115,16 @@ returns-clause-held g c =
     let some = some-down old.failed.items c.any_of.result (c.any_of.ensures ∙ ap (list_any (λ down. down)) c.deref.ensures.value) c.if-not-any_of.false in
     told-recovers old c.follow.new.running before records (Ok (Did (Cuts choice))) c.restore.ensures.stays
     (held-done old c.follow.new.running records choice c.requires.shaped some c.in_ok-choice.ensures.of_held made)
+
+pub returns-in_err-restore-clause-draws : goal.returns-in_err-restore-clause-draws
+returns-in_err-restore-clause-draws g c = draws_none (ap (λ (parts : Parts). parts.keep.next) c.in_err-restore.ensures.kept) c.restore.ensures.stays
+
+pub returns-in_err-follow-clause-draws : goal.returns-in_err-follow-clause-draws
+returns-in_err-follow-clause-draws g c =
+    draws_none (ap (λ (parts : Parts). parts.keep.next) c.follow.ensures.parts ∙ ap (λ (k : KeepState). k.next) c.in_ok-restore.ensures.restored.restored.entries)
+    c.restore.ensures.stays
+
+pub returns-clause-draws : goal.returns-clause-draws
+returns-clause-draws g c =
+    draws_none (ap (λ (parts : Parts). parts.keep.next) c.follow.ensures.parts ∙ ap (λ (k : KeepState). k.next) c.in_ok-restore.ensures.restored.restored.entries)
+    c.restore.ensures.stays

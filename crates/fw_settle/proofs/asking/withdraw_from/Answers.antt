@@ -13,3 +13,6 @@ returns-clause-withdrawn c = λ before more is long fly.
     ap (λ (k : KeepState). k.entries) c.withdraw.ensures.gone
     ∙ withdrawn-some entries c.args.count first c.entries-entries.ensures.catalogue.ascending there
     (subst (λ es. first ≡ get_or es c.args.count first) c.entries-entries.ensures.all got) before more is long fly
+
+pub returns-clause-draws : goal.returns-clause-draws
+returns-clause-draws c = ap (λ (k : KeepState). k.next) c.withdraw.ensures.gone

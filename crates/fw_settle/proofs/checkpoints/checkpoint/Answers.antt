@@ -13,16 +13,17 @@ use Rattle.fw_running.specs.declared.running.Running.{Running}
 use Rattle.fw_settle.specs.Checkpoints.{AsksCheckpoint}
 use Rattle.fw_settle.specs.Settling.{settles_when_asked, SettlesTableIf}
 use Rattle.fw_settle.proofs.WritesLaws.{checkpoint-enabled, may-follows, may_not-idle, may-there}
+use Rattle.fw_running.proofs.DrawnLaws.{draws_failed, draws_next}
 use Rattle.fw_settle.proofs.checkpoints.checkpoint.Goals as goal
 
-pub returns-then-not-may_take : goal.returns-then-not-may_take
-returns-then-not-may_take g c =
+pub returns-then-not-may_take-clause-answers : goal.returns-then-not-may_take-clause-answers
+returns-then-not-may_take-clause-answers g c =
     step-idle refl c.requires.stored refl refl c.requires.shaped (λ sys state s trust.
     may_not-idle sys state c.args.running.now (g.K.Store.view c.args.store.now).records s c.args.node
     (λ m. both_ways c.may_take.result c.if-not-may_take.true (c.may_take.ensures.1 m)))
 
-pub returns-in_err-front : goal.returns-in_err-front
-returns-in_err-front g c = step-refused_first refl c.requires.stored refl refl c.from_residual.ensures.1
+pub returns-in_err-front-clause-answers : goal.returns-in_err-front-clause-answers
+returns-in_err-front-clause-answers g c = step-refused_first refl c.requires.stored refl refl c.from_residual.ensures.1
 
 pub bounds-settled-place : goal.bounds-settled-place
 bounds-settled-place g c =
@@ -45,8 +46,8 @@ ask_checkpoint-requires-clause-front g c =
     (read_at c.settled.result.now c.args.node c.place.result c.index-settled-place.result [] c.place.ensures (omega (arith, there, each, long, c.place.ensures)) c.index-settled-place.is) in
     subst (IsCanonical (bounds_of running.flow c.args.node)) (sym (c.in_ok-front.ensures ∙ here)) (c.requires.shaped.progress.settled c.args.node)
 
-pub returns-in_err-ask_checkpoint : goal.returns-in_err-ask_checkpoint
-returns-in_err-ask_checkpoint g c =
+pub returns-in_err-ask_checkpoint-clause-answers : goal.returns-in_err-ask_checkpoint-clause-answers
+returns-in_err-ask_checkpoint-clause-answers g c =
     let old = c.args.running.now in
     let new = c.ask_checkpoint.new.running in
     let before = (g.K.Store.view c.args.store.now).records in
@@ -80,8 +81,8 @@ settle_when_asked-requires-clause-front g c =
     (subst (λ (f : Dataflow). IsCanonical (bounds_of f c.args.node) (front_of running.progress.settled c.args.node))
     (sym (ap (λ (r : Running). r.flow) c.in_ok-ask_checkpoint.ensures.others)) (c.requires.shaped.progress.settled c.args.node))
 
-pub returns-in_err-settle_when_asked : goal.returns-in_err-settle_when_asked
-returns-in_err-settle_when_asked g c =
+pub returns-in_err-settle_when_asked-clause-answers : goal.returns-in_err-settle_when_asked-clause-answers
+returns-in_err-settle_when_asked-clause-answers g c =
     let old = c.args.running.now in
     let may = c.may_take.ensures.0 c.if-not-may_take.false in
     let asked = c.in_ok-ask_checkpoint.ensures in
@@ -90,8 +91,8 @@ returns-in_err-settle_when_asked g c =
     (asking-part {old = old} may.asks asked.others asked.stored asked.faults asked.undamaged asked.tells)
     (ap (λ (r : Running). r.parts.keep) others) (ap (λ (r : Running). r.flow) others) c.from_residual-in_err-settle_when_asked.ensures.1
 
-pub returns : goal.returns
-returns g c =
+pub returns-clause-answers : goal.returns-clause-answers
+returns-clause-answers g c =
     let old = c.args.running.now in
     let mid = c.ask_checkpoint.new.running in
     let new = c.settle_when_asked.new.running in
@@ -113,3 +114,14 @@ returns g c =
     may-follows sys state old mid new before after s asked.others c.args.node may
     (subst (λ (f : Front). AsksCheckpoint c.args.node f old mid before after) (c.in_ok-front.ensures ∙ here) asked.asked) others
     (subst (λ (f : Front). SettlesTableIf (settles_when_asked mid.flow c.args.node) c.args.node f mid new) (c.in_ok-front.ensures ∙ here) settled.settled))
+
+pub returns-in_err-settle_when_asked-clause-draws : goal.returns-in_err-settle_when_asked-clause-draws
+returns-in_err-settle_when_asked-clause-draws g c =
+    draws_failed _ _ c.from_residual-in_err-settle_when_asked.ensures.1
+    (draws_next c.ask_checkpoint.ensures.draws (ap (λ (r : Running). r.parts.keep.next) c.settle_when_asked.ensures.others))
+
+pub returns-clause-draws : goal.returns-clause-draws
+returns-clause-draws g c = draws_next c.ask_checkpoint.ensures.draws (ap (λ (r : Running). r.parts.keep.next) c.settle_when_asked.ensures.others)
+
+pub returns-in_err-ask_checkpoint-clause-draws : goal.returns-in_err-ask_checkpoint-clause-draws
+returns-in_err-ask_checkpoint-clause-draws g c = draws_failed _ _ c.from_residual-in_err-ask_checkpoint.ensures.1 c.ask_checkpoint.ensures.draws

@@ -1,4 +1,4 @@
-use Rattle.std.proofs.Common.{◌≡◌, rules, Some, None, refl, sym, subst}
+use Rattle.std.proofs.Common.{◌≡◌, rules, Some, None, refl, sym, subst, ap}
 use Rattle.fw_flow.specs.declared.step.Step.TheVariants.{Persist}
 use Rattle.fw_keep.specs.Catalogue.{KeepState, oldest}
 use Rattle.fw_model.specs.Steps.{did, idle, silent}
@@ -8,8 +8,8 @@ use Rattle.fw_running.proofs.StepLaws.{ok-unfaulted}
 use Rattle.fw_settle.proofs.WritesLaws.{persist-some, persist-none, persisted-shaped}
 use Rattle.fw_settle.proofs.checkpoints.persist.Goals as goal
 
-pub returns-in-Some : goal.returns-in-Some
-returns-in-Some c =
+pub returns-in-Some-clause-answers : goal.returns-in-Some-clause-answers
+returns-in-Some-clause-answers c =
     let old = c.args.running.now in
     let first : oldest old.parts.keep.entries ≡ Some c.in-Some._id = search rules in
     record {
@@ -23,8 +23,8 @@ returns-in-Some c =
       undamaged = tt;
     }
 
-pub returns-in-None : goal.returns-in-None
-returns-in-None c =
+pub returns-in-None-clause-answers : goal.returns-in-None-clause-answers
+returns-in-None-clause-answers c =
     let old = c.args.running.now in
     let none : oldest old.parts.keep.entries ≡ None = search rules in
     record {
@@ -37,3 +37,9 @@ returns-in-None c =
       unfaulted = ok-unfaulted;
       undamaged = tt;
     }
+
+pub returns-in-Some-clause-draws : goal.returns-in-Some-clause-draws
+returns-in-Some-clause-draws c = ap (λ (k : KeepState). k.next) c.persist_one.ensures.acknowledged
+
+pub returns-in-None-clause-draws : goal.returns-in-None-clause-draws
+returns-in-None-clause-draws c = ap (λ (k : KeepState). k.next) c.persist_one.ensures.acknowledged

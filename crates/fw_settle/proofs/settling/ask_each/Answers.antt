@@ -1,11 +1,13 @@
-use Rattle.std.proofs.Common.{◌≡◌, ◌+◌, rules, Some, None, Err, ap, refl, subst, ◌∙◌}
+use Rattle.std.proofs.Common.{◌≡◌, ◌+◌, rules, Some, None, Err, ap, refl, subst, ◌∙◌, length}
 use Rattle.fw_running.specs.declared.running.Running.{Running}
 use Rattle.fw_running.specs.Faults.{faults_after_step}
 use Rattle.fw_running.specs.Steps.{HasEager, PartAnswers}
 use Rattle.fw_running.proofs.StepLaws.{part-err}
 use Rattle.fw_settle.specs.Settling.{IsFoundToSettle}
 use Rattle.fw_settle.proofs.AskLaws.{adds-refused}
-use Rattle.fw_settle.proofs.SearchLaws.{HaveAskedUpTo, asking-first, asking-next, asking-all, has_eager, keep-both}
+use Rattle.fw_settle.proofs.SearchLaws.{HaveAskedUpTo, asking-first, asking-next, asking-all, has_eager, keep-both, drawn_up_to, drawing-next, drawing-last}
+use Rattle.fw_running.proofs.DrawnLaws.{draws_nothing}
+use Rattle.fw_running.specs.Drawn.{DrawsAtMost}
 use Rattle.fw_settle.proofs.settling.ask_each.Goals as goal
 
 pub loop-next-init : goal.loop-next-init
@@ -17,6 +19,7 @@ loop-next-init g c = record {
   tells = refl;
   quiet = λ none. refl;
   faults = refl;
+  draws = draws_nothing _ _ _;
 }
 
 pub loop-next-preserved : goal.loop-next-preserved
@@ -39,6 +42,11 @@ loop-next-preserved g c =
       tells = c.ask_if_eager.ensures.part.tells ∙ c.loop-next.invariant.tells;
       quiet = λ none. c.ask_if_eager.ensures.part.quiet (λ is. none (has_eager old mid node c.loop-next.invariant.others is)) ∙ c.loop-next.invariant.quiet none;
       faults = c.in_ok-ask_if_eager.ensures.part.faults ∙ c.loop-next.invariant.faults;
+      draws = drawing-next old mid new before between after node c.grown_from-next-in-Some.result c.loop-next.invariant.others
+          (subst (HaveAskedUpTo old mid before between) next c.loop-next.invariant.asked)
+          (subst (λ n. IsFoundToSettle new (n + 1) c.grown_from-next-in-Some.result) c.place.ensures c.grown_from-next-in-Some.ensures)
+          (subst (λ n. DrawsAtMost (drawn_up_to (length old.flow.nodes) n) old.parts.keep mid.parts.keep before between) next c.loop-next.invariant.draws)
+          c.ask_if_eager.ensures.draws;
     }
 
 pub returns-clause-asked : goal.returns-clause-asked
@@ -72,3 +80,23 @@ returns-in_err-ask_if_eager-clause-part g c =
       quiet = λ none. part.quiet (λ is. none (eager is)) ∙ h.quiet none;
     } in
     part-err all c.from_residual.ensures.1
+
+pub returns-in_err-ask_if_eager-clause-draws : goal.returns-in_err-ask_if_eager-clause-draws
+returns-in_err-ask_if_eager-clause-draws g c =
+    let old = c.args.running.now in
+    let mid = c.loop-next.running in
+    let before = (g.K.Store.view c.args.store.now).records in
+    let between = (g.K.Store.view c.loop-next.store).records in
+    let next : c.loop-next.next ≡ Some c.in-Some.node = search rules in
+    drawing-last old mid c.ask_if_eager.new.running before between (g.K.Store.view c.ask_if_eager.new.store).records c.in-Some.node c.loop-next.invariant.others
+    (subst (HaveAskedUpTo old mid before between) next c.loop-next.invariant.asked)
+    (subst (λ n. DrawsAtMost (drawn_up_to (length old.flow.nodes) n) old.parts.keep mid.parts.keep before between) next c.loop-next.invariant.draws)
+    c.ask_if_eager.ensures.draws
+
+pub returns-clause-draws : goal.returns-clause-draws
+returns-clause-draws g c =
+    let old = c.args.running.now in
+    let now = c.loop-next.running in
+    let next : c.loop-next.next ≡ None = search rules in
+    subst (λ n. DrawsAtMost (drawn_up_to (length old.flow.nodes) n) old.parts.keep now.parts.keep (g.K.Store.view c.args.store.now).records
+    (g.K.Store.view c.loop-next.store).records) next c.loop-next.invariant.draws

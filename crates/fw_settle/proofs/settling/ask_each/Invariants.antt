@@ -1,9 +1,10 @@
-use Rattle.std.proofs.Common.{◌≡◌, is_some}
+use Rattle.std.proofs.Common.{◌≡◌, is_some, length}
 use Rattle.fw_keep.specs.Stored.{IsStored}
+use Rattle.fw_running.specs.Drawn.{DrawsAtMost}
 use Rattle.fw_running.specs.Logging.{ChangesKeep}
 use Rattle.fw_running.specs.Shaped.{IsShaped}
 use Rattle.fw_running.specs.Steps.{HasEager}
-use Rattle.fw_settle.proofs.SearchLaws.{HaveAskedUpTo, left}
+use Rattle.fw_settle.proofs.SearchLaws.{HaveAskedUpTo, drawn_up_to, left}
 use Rattle.fw_settle.proofs.settling.ask_each.Given as goal
 
 abbrev pub invariant-loop-next : goal.invariant-loop-next
@@ -15,6 +16,8 @@ invariant-loop-next g l = record {
   tells : is_some (g.K.Store.view l.store).records ≡ is_some (g.K.Store.view l.fn.store).records;
   quiet : (HasEager l.fn.running.flow → ⊥) → l.store ≡ l.fn.store;
   faults : (g.K.Store.view l.store).faults ≡ (g.K.Store.view l.fn.store).faults;
+  draws : DrawsAtMost (drawn_up_to (length l.fn.running.flow.nodes) l.next) l.fn.running.parts.keep l.running.parts.keep
+      (g.K.Store.view l.fn.store).records (g.K.Store.view l.store).records;
 }
 
 abbrev pub decreases-loop-next : goal.decreases-loop-next

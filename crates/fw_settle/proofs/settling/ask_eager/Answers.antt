@@ -4,6 +4,7 @@ use Rattle.fw_settle.specs.Settling.{KeepsEntries}
 use Rattle.fw_settle.proofs.AskLaws.{kept-withdrawn}
 use Rattle.fw_settle.proofs.SearchLaws.{keep-both}
 use Rattle.fw_settle.proofs.ShapeLaws.{shaped-same}
+use Rattle.fw_running.proofs.DrawnLaws.{draws_next}
 use Rattle.fw_settle.proofs.settling.ask_eager.Goals as goal
 
 pub returns-in-Err-clause-stays : goal.returns-in-Err-clause-stays
@@ -35,3 +36,6 @@ returns-in-Err-clause-part g c =
       tells = part.tells;
       quiet = part.quiet;
     }
+
+pub returns-in-Err-clause-draws : goal.returns-in-Err-clause-draws
+returns-in-Err-clause-draws g c = draws_next c.ask_each.ensures.draws c.withdraw_from.ensures.draws

@@ -1,23 +1,26 @@
-use Rattle.std.proofs.Common.{◌≡◌, rules, None, Some, ap, refl, subst, Err}
+use Rattle.std.proofs.Common.{◌≡◌, rules, None, Some, ap, refl, subst, Err, length}
 use Rattle.fw_rollback.specs.declared.parts.Parts.{Parts}
 use Rattle.fw_running.proofs.StepLaws.{stays-shaped, step-did, step-fails, step-idle, step-refused, step-refused_first}
 use Rattle.fw_settle.specs.Settling.{IsFoundToSettle}
 use Rattle.fw_settle.proofs.ProgressLaws.{idle-takes, did-takes, fault-takes, progresses}
+use Rattle.fw_flow.specs.Dataflow.{Dataflow}
+use Rattle.fw_running.specs.Drawn.{DrawsAtMost}
+use Rattle.fw_running.proofs.DrawnLaws.{draws_failed, draws_from, draws_kept, draws_same}
 use Rattle.fw_settle.proofs.settling.progress.Goals as goal
 
-pub returns-in_err-refresh : goal.returns-in_err-refresh
-returns-in_err-refresh g c =
+pub returns-in_err-refresh-clause-answers : goal.returns-in_err-refresh-clause-answers
+returns-in_err-refresh-clause-answers g c =
     step-refused_first refl c.requires.stored (ap (λ (parts : Parts). parts.keep) c.refresh.ensures.parts) c.refresh.ensures.flow c.from_residual.ensures.1
 
-pub returns-in_default : goal.returns-in_default
-returns-in_default g c =
+pub returns-in_default-clause-answers : goal.returns-in_default-clause-answers
+returns-in_default-clause-answers g c =
     let mid = c.refresh.new.self in
     let none : c.grown_from.result ≡ None = search rules in
     step-idle refl c.requires.stored (ap (λ (parts : Parts). parts.keep) c.refresh.ensures.parts) c.refresh.ensures.flow c.in_ok-refresh.ensures.shaped
     (idle-takes c.args.running.now mid (g.K.Store.view c.args.store.now).records c.in_ok-refresh.ensures.up (subst (IsFoundToSettle mid 0) none c.grown_from.ensures))
 
-pub returns-in_err-ask_eager : goal.returns-in_err-ask_eager
-returns-in_err-ask_eager g c =
+pub returns-in_err-ask_eager-clause-answers : goal.returns-in_err-ask_eager-clause-answers
+returns-in_err-ask_eager-clause-answers g c =
     let mid = c.refresh.new.self in
     let new = c.ask_eager.new.running in
     let e = c.in_err-ask_eager.field-0.0 in
@@ -28,13 +31,13 @@ returns-in_err-ask_eager g c =
     (fault-takes c.args.running.now mid new (g.K.Store.view c.args.store.now).records (g.K.Store.view c.ask_eager.new.store).records first e
     c.in_ok-refresh.ensures.up c.in_ok-refresh.ensures.shaped (subst (IsFoundToSettle mid 0) found c.grown_from.ensures) asked.others asked.stays asked.part.undamaged)
 
-pub returns-in_err-settle_grown : goal.returns-in_err-settle_grown
-returns-in_err-settle_grown g c =
+pub returns-in_err-settle_grown-clause-answers : goal.returns-in_err-settle_grown-clause-answers
+returns-in_err-settle_grown-clause-answers g c =
     step-refused refl c.refresh.ensures.flow c.in_ok-ask_eager.ensures.part c.settle_grown.ensures.keep c.settle_grown.ensures.flow
     c.from_residual-in_err-settle_grown.ensures.1
 
-pub returns : goal.returns
-returns g c =
+pub returns-clause-answers : goal.returns-clause-answers
+returns-clause-answers g c =
     let mid = c.refresh.new.self in
     let new = c.settle_grown.new.running in
     let before = (g.K.Store.view c.args.store.now).records in
@@ -47,3 +50,28 @@ returns g c =
     (did-takes c.args.running.now mid new before after first c.in_ok-refresh.ensures.up c.in_ok-refresh.ensures.shaped
     (subst (IsFoundToSettle mid 0) found c.grown_from.ensures)
     (progresses mid c.ask_eager.new.running new before after asked.others asked.asked settled.others settled.settled))
+
+pub returns-in_err-refresh-clause-draws : goal.returns-in_err-refresh-clause-draws
+returns-in_err-refresh-clause-draws g c = draws_same (ap (λ (parts : Parts). parts.keep.next) c.refresh.ensures.parts)
+
+pub returns-in_default-clause-draws : goal.returns-in_default-clause-draws
+returns-in_default-clause-draws g c = draws_same (ap (λ (parts : Parts). parts.keep.next) c.refresh.ensures.parts)
+
+pub returns-in_err-ask_eager-clause-draws : goal.returns-in_err-ask_eager-clause-draws
+returns-in_err-ask_eager-clause-draws g c =
+    let few = subst (λ (f : Dataflow). DrawsAtMost (length f.nodes) c.refresh.new.self.parts.keep c.ask_eager.new.running.parts.keep
+    (g.K.Store.view c.args.store.now).records (g.K.Store.view c.ask_eager.new.store).records) c.refresh.ensures.flow c.ask_eager.ensures.draws in
+    draws_failed _ _ c.from_residual-in_err-ask_eager.ensures.1 (draws_from few (ap (λ (parts : Parts). parts.keep.next) c.refresh.ensures.parts))
+
+pub returns-in_err-settle_grown-clause-draws : goal.returns-in_err-settle_grown-clause-draws
+returns-in_err-settle_grown-clause-draws g c =
+    let few = subst (λ (f : Dataflow). DrawsAtMost (length f.nodes) c.refresh.new.self.parts.keep c.ask_eager.new.running.parts.keep
+    (g.K.Store.view c.args.store.now).records (g.K.Store.view c.ask_eager.new.store).records) c.refresh.ensures.flow c.ask_eager.ensures.draws in
+    draws_failed _ _ c.from_residual-in_err-settle_grown.ensures.1
+    (draws_kept (draws_from few (ap (λ (parts : Parts). parts.keep.next) c.refresh.ensures.parts)) c.settle_grown.ensures.keep)
+
+pub returns-clause-draws : goal.returns-clause-draws
+returns-clause-draws g c =
+    let few = subst (λ (f : Dataflow). DrawsAtMost (length f.nodes) c.refresh.new.self.parts.keep c.ask_eager.new.running.parts.keep
+    (g.K.Store.view c.args.store.now).records (g.K.Store.view c.ask_eager.new.store).records) c.refresh.ensures.flow c.ask_eager.ensures.draws in
+    draws_kept (draws_from few (ap (λ (parts : Parts). parts.keep.next) c.refresh.ensures.parts)) c.settle_grown.ensures.keep

@@ -18,4 +18,4 @@ returns-then-self g c = first-refused c.if-self.true c.requires.stored c.ids_asc
 pub returns : goal.returns
 returns g c =
     let stepped = c.take_first-stepped.ensures in
-    first-answered c.if-self.false c.ids_ascend-2.ensures c.is_refusal-self.ensures stepped.takes stepped.part stepped.idle
+    first-answered c.if-self.false c.ids_ascend-2.ensures c.is_refusal-self.ensures stepped.takes stepped.part stepped.idle stepped.draws

@@ -14,3 +14,6 @@ returns-clause-flow c = c.in_ok-running.ensures.first.runs
 
 pub returns-clause-stored : goal.returns-clause-stored
 returns-clause-stored c = c.in_ok-running.ensures.stored
+
+pub returns-clause-writes : goal.returns-clause-writes
+returns-clause-writes c = c.in_ok-running.ensures.first.parts.keep

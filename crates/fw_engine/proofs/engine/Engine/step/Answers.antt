@@ -10,10 +10,12 @@ take-stepped-requires-clause-shaped g c =
 
 pub invariant_of-self : goal.invariant_of-self
 invariant_of-self g c =
-    record { shaped = ∣ (λ live. sound-after c.take-stepped.result c.take-stepped.new.running c.is_refusal-self.result c.take-stepped.ensures.shaped c.is_refusal-self.ensures live) ∣₁ }
+    record { shaped = ∣ (λ live. sound-after c.take-stepped.result c.take-stepped.new.running c.is_refusal-self.result c.take-stepped.ensures.answers.shaped c.is_refusal-self.ensures live) ∣₁ }
 
 pub returns-then-self : goal.returns-then-self
 returns-then-self g c = step-refused c.if-self.true c.requires.stored c.ids_ascend.ensures
 
 pub returns : goal.returns
-returns g c = step-answered c.if-self.false c.ids_ascend-2.ensures c.is_refusal-self.ensures c.take-stepped.ensures
+returns g c =
+    let stepped = c.take-stepped.ensures in
+    step-answered c.if-self.false c.ids_ascend-2.ensures c.is_refusal-self.ensures stepped.answers stepped.draws

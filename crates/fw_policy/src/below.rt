@@ -13,7 +13,7 @@ use fw_time::Stamp;
 use std::alloc::{AllocError, Global};
 
 /// At which stamps events of the node are not logged. The error is want of memory.
-pub(crate) fn unlogged(
+pub fn unlogged(
     alloc: Global,
     entries: &[Entry],
     node: NodeId,
@@ -44,7 +44,7 @@ fn add_unlogged(stamps: &mut Vec<Stamp>, entry: &Entry, node: NodeId) -> Result<
 }
 
 /// What is inside, and at none of the stamps or above. The error is want of memory.
-pub(crate) fn cut_below(front: &Front, stamps: &[Stamp]) -> Result<Front, AllocError>
+pub fn cut_below(front: &Front, stamps: &[Stamp]) -> Result<Front, AllocError>
     ensures { (bounds : Domain) → IsCanonical bounds front.now → AllByRecursion (λ s. in_domain bounds s ≡ true) stamps.now
         → IfOk result (λ f. IsFrontOf bounds f (spec.below_all stamps.now (frontier_of bounds front.now))) }
 {

@@ -398,7 +398,7 @@ injected-causes sys s i (Notify p t ∷ h) l =
     (λ e. same-causes sys s (Notify p t) old (injected_count s h) (input-notified sys (kind_of sys.flow s) old p t i) rest) (λ e. rest)
 
 pub injected-send : InjectedBatchesSend
-injected-send sys h e l i t =
-    let causes = causes_in (sent_messages sys h e) in
-    let k = injected-causes sys (sender sys.flow e) i h l t in
+injected-send sys h s l i t =
+    let causes = causes_in (sent_by sys s (events_at sys.flow s h)) in
+    let k = injected-causes sys s i h l t in
     (λ c. k.0 (contained-one t causes c), λ c. one-contained t causes (k.1 c))

@@ -6,12 +6,13 @@ use Rattle.fw_lemmas.proofs.Bools.{two_ways, same_tests}
 use Rattle.fw_lemmas.proofs.Each.{each-one}
 use Rattle.fw_lemmas.proofs.Filters.{filter-same_on}
 use Rattle.fw_time.specs.Stamp.{Stamp, leq}
-use Rattle.fw_time.proofs.StampLaws.{leq-refl, leq-trans}
+use Rattle.fw_time.proofs.StampLaws.{leq-refl}
 use Rattle.fw_frontier.specs.Frontier.{Frontier}
 use Rattle.fw_frontier.specs.Front.{Front}
 use Rattle.fw_frontier.proofs.NamesLaws.{frontier-closed}
 use Rattle.fw_flow.specs.Dataflow.{System, Dataflow, bounds_of, node_frontier}
 use Rattle.fw_flow.specs.NodeFunction.{event_node, event_stamp}
+use Rattle.fw_model.proofs.LesserLaws.{lesser-in_domain}
 use Rattle.fw_model.specs.Choice.{ever, kept, is_counted, IsLogged, AllLogged, IsRestorable, IsCandidate, logs_serial, is_serial_logged}
 use Rattle.fw_model.specs.Machine.{Machine, SerialEvent, Write, Written, checkpoint, logged_event, Stage, in_flight, acknowledged, collected, front_of}
 use Rattle.fw_model.specs.Steps.{is_given_up}
@@ -73,10 +74,9 @@ third-stays sys state p t =
     ap (λ ss. node_frontier sys.flow p (front_of state.settled p) t && not (list_any (λ s. leq s t) ss)) (same-stamps sys state p)
 
 lesser-inside : (flow : Dataflow) (p : ℕ) (f : Front) (s t : Stamp) → leq s t ≡ true → node_frontier flow p f t ≡ true → node_frontier flow p f s ≡ true
-unfolding bounds_of
 lesser-inside flow p f s t l i =
     let fr = frontier-closed (bounds_of flow p) f in
-    fr.closed s t (leq-trans s t (bounds_of flow p).greatest l (fr.inside_domain t i)) l i
+    fr.closed s t (lesser-in_domain flow p s t l (fr.inside_domain t i)) l i
 
 -- the stamps of those of the events that none of the writes logs
 loose : System → ℕ → List Write → List SerialEvent → List Stamp

@@ -9,7 +9,7 @@ use Rattle.fw_flow.specs.declared.event.Message.{Message}
 use Rattle.fw_flow.specs.declared.kind.Kind.{Kind}
 use Rattle.fw_flow.specs.declared.kind.Kind.TheVariants.{Enter, Feedback, Leave, Sequence, Regroup}
 use Rattle.fw_flow.specs.Dataflow.{System, Dataflow, kind_of, sender, receiver, bounds_of, batches_of, send_stamp, is_input_kind}
-use Rattle.fw_flow.specs.NodeFunction.{event_stamp}
+use Rattle.fw_flow.specs.NodeFunction.{event_stamp, sent_by}
 use Rattle.fw_flow.specs.Projection.{events_at}
 use Rattle.fw_flow.specs.WellFormed.{IsWellFormed}
 use Rattle.fw_model.specs.EventStamps.{causes_in, StandForSent}
@@ -64,7 +64,6 @@ DeliveredStampsSend = (sys : System) (h : List Event) (d e : ℕ) → IsWellForm
 
 -- in a legal history the causes of what an input sent are the epochs that were injected and have a rec
 abbrev pub InjectedBatchesSend : Type 0
-InjectedBatchesSend = (sys : System) (h : List Event) (e : ℕ) → IsLegal sys h → is_input_kind (kind_of sys.flow (sender sys.flow e)) ≡ true
-    → (t : Stamp) → Contains (causes_in (sent_messages sys h e)) t
-    ↔ ((x : ℕ) × (t ≡ x ∷ []) × (x < injected_count (sender sys.flow e) h)
-    × (0 < length (slice_index_or (batches_of sys (sender sys.flow e)) x [])))
+InjectedBatchesSend = (sys : System) (h : List Event) (s : ℕ) → IsLegal sys h → is_input_kind (kind_of sys.flow s) ≡ true
+    → (t : Stamp) → Contains (causes_in (sent_by sys s (events_at sys.flow s h))) t
+    ↔ ((x : ℕ) × (t ≡ x ∷ []) × (x < injected_count s h) × (0 < length (slice_index_or (batches_of sys s) x [])))

@@ -5,7 +5,7 @@ ghost use Rattle.fw_root.specs.declared.root.Root.{Root as Spelled};
 ghost use Rattle.fw_root.specs.OfFlow.{Given};
 ghost use Rattle.fw_root.specs.Spelling.{root_spelling};
 ghost use Rattle.fw_root.specs.Sound.{IsRootFor};
-ghost use Rattle.fw_root.specs.Reading.{root_reading};
+ghost use Rattle.fw_root.specs.Reading.{read_root_head, root_reading};
 
 /// Reading gives a root of a dataflow and its batches exactly of its spelling, and no two of them have one spelling.
 pub fn roots_have_one_spelling()
@@ -13,6 +13,13 @@ pub fn roots_have_one_spelling()
         → root_reading flow batches (root_spelling r) ≡ Ok r }
     ensures same { (flow : Dataflow) (batches : Given) (q r : Spelled) → IsRootFor flow batches q → IsRootFor flow batches r
         → root_spelling q ≡ root_spelling r → q ≡ r }
+{}
+
+/// The bytes of a root begin with its head, so that it is known of which texts and which turn it is before the rest is read.
+#[tactic(auto, using(crate::proofs::HeadLaws::head_of_root))]
+pub fn roots_begin_with_their_heads()
+    ensures { (flow : Dataflow) (batches : Given) (r : Spelled) → IsRootFor flow batches r
+        → (rest : List ℕ) × (read_root_head (root_spelling r) ≡ Ok (record { digests = r.mark.digests; turn = r.mark.turn }, rest)) }
 {}
 
 /// The first broken field of a root begins in the bytes, or at their end.

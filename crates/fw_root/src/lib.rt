@@ -24,6 +24,7 @@ pub use head::root_head;
 pub use lists::{
     FrontsOfNodes, NamedWrites, Numbers, OwedStamps, PendingCounts, Printed, SentTables,
 };
+pub use of_flow::{Role, nodes_as, number_of, place_in};
 pub use reading::decode_root;
 pub use root::{Digests, Head, Mark, NamedWrite, NodeFronts, OwedAt, PendingAt, Root};
 pub use writing::encode_root;

@@ -69,7 +69,7 @@ pub fn limit_for(flow: &Flow, batches: &Batches, node: NodeId) -> u64
 }
 
 /// The place of a node among these; past them, where it is none of them.
-fn place_in(nodes: &[NodeId], node: NodeId) -> usize
+pub fn place_in(nodes: &[NodeId], node: NodeId) -> usize
     ensures { result ≡ spec.place_among_nodes nodes.now node }
 {
     for (i, other) in nodes.iter().enumerate() {
@@ -81,7 +81,7 @@ fn place_in(nodes: &[NodeId], node: NodeId) -> usize
 }
 
 /// Which of these numbers stands for a node, the numbers being those of these nodes.
-fn number_of(nodes: &[NodeId], numbers: &[u64], node: NodeId) -> Option<u64>
+pub fn number_of(nodes: &[NodeId], numbers: &[u64], node: NodeId) -> Option<u64>
     ensures { result ≡ spec.number_standing_for nodes.now numbers.now node }
 {
     match numbers.get(place_in(nodes, node)) {

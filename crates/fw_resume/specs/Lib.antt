@@ -1,0 +1,15 @@
+pub mod Borders
+pub mod Catalogue
+pub mod Counted
+pub mod Fronts
+pub mod Lost
+pub mod Named
+pub mod Names
+pub mod Parts
+pub mod Recalled
+pub mod Resumed
+pub mod Resumable
+pub mod RootTold
+pub mod Sends
+pub mod Stamps
+pub mod Told

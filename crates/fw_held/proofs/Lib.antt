@@ -1,0 +1,4 @@
+pub mod HeldStepLaws
+pub mod ResumedLaws
+pub mod RootLaws
+pub mod StoreLaws

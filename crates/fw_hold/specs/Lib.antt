@@ -1,0 +1,10 @@
+pub mod Chain
+pub mod Engine
+pub mod Faults
+pub mod Found
+pub mod Going
+pub mod Hold
+pub mod Kept
+pub mod Moves
+pub mod Standing
+pub mod Starting

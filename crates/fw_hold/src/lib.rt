@@ -1,0 +1,20 @@
+//! A run that starts again from a store: after each step that is done it puts a root there, and a later start goes on behind it.
+#![tactic(auto)]
+
+mod engine;
+mod fault;
+mod found;
+pub mod laws;
+mod moving;
+mod plan;
+mod run;
+mod standing;
+mod start;
+mod turn;
+mod types;
+
+pub use engine::HeldEngine;
+pub use fault::HoldFault;
+pub use plan::HeldPlan;
+pub use run::hold;
+pub use standing::HeldCounts;

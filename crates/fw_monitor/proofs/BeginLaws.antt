@@ -75,13 +75,13 @@ begins_next flow n begins more ys b e is =
 
 -- ---- going back to a node
 
--- An inclusion is at a place and not of a node before p. None before that place waits: then none does before the place where
--- those of p begin, if none waits anew of a node before p.
-pub back_to : (flow : Dataflow) (waiting left : List Bool) (i : Inclusion) (place p : ℕ) → p ≤ length flow.nodes → place < length (inclusions flow) → i ≡ get_or (inclusions flow) place i → p ≤ node_of flow i
-    → ((j : Inclusion) → IsInclusionOf flow j → node_of flow j < p → waits flow waiting j ≡ false → waits flow left j ≡ false)
-    → AllByRecursion (λ j. waits flow waiting j ≡ false) (take place (inclusions flow))
-    → (length (inclusions_to flow p) ≤ length (inclusions flow)) × AllByRecursion (λ j. waits flow left j ≡ false) (take (length (inclusions_to flow p)) (inclusions flow))
-back_to flow waiting left i place p within there is back none_before done =
+-- An inclusion is at a place and not of a node before p. One thing is true of each before that place: then another is of each before the
+-- place where those of p begin, if it is true of each of a node before p of which the one is.
+pub back_by : (flow : Dataflow) (P Q : Inclusion → Type 0) (i : Inclusion) (place p : ℕ) → p ≤ length flow.nodes → place < length (inclusions flow) → i ≡ get_or (inclusions flow) place i → p ≤ node_of flow i
+    → ((j : Inclusion) → IsInclusionOf flow j → node_of flow j < p → P j → Q j)
+    → AllByRecursion P (take place (inclusions flow))
+    → (length (inclusions_to flow p) ≤ length (inclusions flow)) × AllByRecursion Q (take (length (inclusions_to flow p)) (inclusions flow))
+back_by flow P Q i place p within there is back before_p done =
     let first = inclusions_to flow p in
     let more = to-more flow p (length flow.nodes) within in
     let rest = more.0 in
@@ -99,12 +99,20 @@ back_to flow waiting left i place p within there is back none_before done =
     let begin : take place (inclusions flow) ≡ first ++ take (place - length first) rest =
     ap (take place) whole ∙ ap (λ k. take k (first ++ rest)) place_is ∙ take-append-add first rest (place - length first) in
     let of_flow = each-prefix (IsInclusionOf flow) first rest (subst (AllByRecursion (IsInclusionOf flow)) whole (inclusions-there flow)) in
-    let none = each-prefix (λ j. waits flow waiting j ≡ false) first (take (place - length first) rest) (subst (AllByRecursion (λ j. waits flow waiting j ≡ false)) begin done) in
-    let R : Inclusion → Type 0 = λ j. (IsInclusionOf flow j × (node_of flow j < p)) × (waits flow waiting j ≡ false) in
-    let all = each-both (λ j. IsInclusionOf flow j × (node_of flow j < p)) (λ j. waits flow waiting j ≡ false) first
+    let none = each-prefix P first (take (place - length first) rest) (subst (AllByRecursion P) begin done) in
+    let R : Inclusion → Type 0 = λ j. (IsInclusionOf flow j × (node_of flow j < p)) × P j in
+    let all = each-both (λ j. IsInclusionOf flow j × (node_of flow j < p)) P first
     (each-both (IsInclusionOf flow) (λ j. node_of flow j < p) first of_flow nodes) none in
-    let now = each-weaker R (λ j. waits flow left j ≡ false) first (λ j k. none_before j k.0.0 k.0.1 k.1) all in
-    (omega arith, subst (AllByRecursion (λ j. waits flow left j ≡ false)) (sym (ap (take (length first)) whole ∙ take-append_seam first rest)) now)
+    let now = each-weaker R Q first (λ j k. before_p j k.0.0 k.0.1 k.1) all in
+    (omega arith, subst (AllByRecursion Q) (sym (ap (take (length first)) whole ∙ take-append_seam first rest)) now)
+
+-- so with what waits
+pub back_to : (flow : Dataflow) (waiting left : List Bool) (i : Inclusion) (place p : ℕ) → p ≤ length flow.nodes → place < length (inclusions flow) → i ≡ get_or (inclusions flow) place i → p ≤ node_of flow i
+    → ((j : Inclusion) → IsInclusionOf flow j → node_of flow j < p → waits flow waiting j ≡ false → waits flow left j ≡ false)
+    → AllByRecursion (λ j. waits flow waiting j ≡ false) (take place (inclusions flow))
+    → (length (inclusions_to flow p) ≤ length (inclusions flow)) × AllByRecursion (λ j. waits flow left j ≡ false) (take (length (inclusions_to flow p)) (inclusions flow))
+back_to flow waiting left i place p within there is back none_before done =
+    back_by flow (λ j. waits flow waiting j ≡ false) (λ j. waits flow left j ≡ false) i place p within there is back none_before done
 
 -- the list says where those of a node begin
 pub begin_read : (flow : Dataflow) (begins : List ℕ) (p k r : ℕ) → AreBegins flow (length flow.nodes) begins → p < length flow.nodes → k ≡ p → r ≡ get_or begins k r → r ≡ length (inclusions_to flow p)

@@ -3,11 +3,13 @@ pub mod BreakLaws
 pub mod CutDownLaws
 pub mod DescentLaws
 pub mod EventLaws
+pub mod FindingLaws
 pub mod FitLaws
 pub mod HeldLaws
 pub mod LastLaws
 pub mod LowerLaws
 pub mod LoweringLaws
+pub mod OfferedOneLaws
 pub mod OneTrailLaws
 pub mod SentKeptLaws
 pub mod StartLaws

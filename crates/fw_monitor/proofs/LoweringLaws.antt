@@ -25,7 +25,7 @@ use Rattle.fw_model.specs.Offers.{IsOffered, covers_of}
 -- ---- cuts
 
 -- what is left, by the front of the right side
-left_by : (flow : Dataflow) (offers : List Offer) (side : Side) (choice : Choice) (bound : Front) (x : Cut) → IsFrontOf (side_bounds flow side) bound (right_of flow (covers_of flow offers) side choice)
+pub left_by : (flow : Dataflow) (offers : List Offer) (side : Side) (choice : Choice) (bound : Front) (x : Cut) → IsFrontOf (side_bounds flow side) bound (right_of flow (covers_of flow offers) side choice)
     → IsCutLeft flow (covers_of flow offers) (IsOffered flow offers) choice side x → IsLeft flow offers side (cut_of choice (owner flow side)) bound x
 left_by flow offers side choice bound x n k = record { offered = k.offered; within = k.within; passes = λ t i. n.same t ∙ k.meets t i }
 
@@ -80,7 +80,7 @@ cut_stays flow offers side cuts notices bound p well there r n e none = (
 
 -- ---- notification frontiers
 
-note_greatest : (flow : Dataflow) (offers : List Offer) (limit : Limit) (choice : Choice) (bound f : Front) → IsFrontOf (bounds_of flow (note_node flow limit)) bound (limit_of flow (covers_of flow offers) limit choice)
+pub note_greatest : (flow : Dataflow) (offers : List Offer) (limit : Limit) (choice : Choice) (bound f : Front) → IsFrontOf (bounds_of flow (note_node flow limit)) bound (limit_of flow (covers_of flow offers) limit choice)
     → IsFrontOf (bounds_of flow (note_node flow limit)) f (meet (notice_of flow choice (note_node flow limit)) (frontier_of (bounds_of flow (note_node flow limit)) bound))
     → IsGreatestLeft flow (covers_of flow offers) (IsOffered flow offers) choice (OfNote limit) (At f)
 note_greatest flow offers limit choice bound f n m = record {

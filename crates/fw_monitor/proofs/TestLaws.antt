@@ -182,7 +182,7 @@ further_falls flow offers all i old new trail more waiting left steps next place
     let k = ap (λ c. weight flow c * suc (length (inclusions flow))) (t.same e) in
     omega arith
 
-take_all : {A : Type 0} (xs : List A) (n : ℕ) → length xs ≤ n → take n xs ≡ xs
+pub take_all : {A : Type 0} (xs : List A) (n : ℕ) → length xs ≤ n → take n xs ≡ xs
 take_all [] zero l = refl
 take_all [] (suc n) l = refl
 take_all (x ∷ xs) zero l = absurd (omega arith)

@@ -1,5 +1,5 @@
 -- What one test of a descent keeps: what does not wait holds, and the trail leads to the choice.
-use Rattle.std.proofs.Common.{◌≡◌, ℕ, ◌+◌, ◌*◌, ◌<◌, ◌≤◌, Bool, true, false, ◌||◌, ◌==◌, List, [], ◌∷◌, ◌++◌, length, set, refl, sym, ap, subst, ◌∙◌, inl, inr, arith}
+use Rattle.std.proofs.Common.{◌≡◌, ℕ, ◌+◌, ◌*◌, ◌<◌, Bool, true, false, ◌||◌, ◌==◌, List, [], ◌∷◌, ◌++◌, length, set, refl, sym, ap, subst, ◌∙◌, inl, inr, arith}
 use Rattle.std.specs.List.{AllByRecursion}
 use Rattle.std.proofs.lemmas.Bool.{eqb-false, eq-eqb, both_ways, cases_Bool}
 use Rattle.std.proofs.lemmas.List.{get_or-set_same, get_or-set_other, length-set}
@@ -31,7 +31,7 @@ use Rattle.fw_monitor.proofs.WorklistLaws.{number-below, count-cleared, cleared-
 
 -- ---- lists that lead to a choice
 
-leads_more : (flow : Dataflow) (offers : List Offer) (start choice next : Choice) (trail : List Lowering) (l : Lowering) → Leads flow (covers_of flow offers) (IsOffered flow offers) start trail choice
+pub leads_more : (flow : Dataflow) (offers : List Offer) (start choice next : Choice) (trail : List Lowering) (l : Lowering) → Leads flow (covers_of flow offers) (IsOffered flow offers) start trail choice
     → IsLoweredBy flow (covers_of flow offers) (IsOffered flow offers) choice l next → Leads flow (covers_of flow offers) (IsOffered flow offers) start (trail ++ l ∷ []) next
 leads_more flow offers start choice next [] l same low = subst (λ c. Leads flow (covers_of flow offers) (IsOffered flow offers) c (l ∷ []) next) (sym same) (next, low, refl)
 leads_more flow offers start choice next (m ∷ trail) l (mid, step, rest) low = (mid, step, leads_more flow offers mid choice next trail l rest low)
@@ -43,7 +43,7 @@ tests_after-more flow (m ∷ trail) l = let h = tests_after-more flow trail l in
 -- ---- what a lowering leaves
 
 -- what it does not break holds as before
-spared : (flow : Dataflow) (offers : List Offer) (choice : Choice) (i j : Inclusion) (to : Cut) → node_of flow i < length choice.notices → IsValueLeft flow (covers_of flow offers) (IsOffered flow offers) choice i to
+pub spared : (flow : Dataflow) (offers : List Offer) (choice : Choice) (i j : Inclusion) (to : Cut) → node_of flow i < length choice.notices → IsValueLeft flow (covers_of flow offers) (IsOffered flow offers) choice i to
     → may_break flow i j ≡ false → Holds flow (covers_of flow offers) choice j → Holds flow (covers_of flow offers) (with_value flow choice i to) j
 spared flow offers choice (OfCut side) j to l left k h = cut_spares flow offers choice (owner flow side) to j k h
 spared flow offers choice (OfNote limit) j Present l left k h = absurd left

@@ -4,3 +4,4 @@ pub mod Descent
 pub mod Worklist
 pub mod Trail
 pub mod Tests
+pub mod Finding

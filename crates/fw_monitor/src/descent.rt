@@ -268,7 +268,7 @@ fn lower_note(
 
 /// Takes from the notification frontier of a node what does not lie within a bound; the new one, if there was any. The error is
 /// want of memory.
-fn lower_notice(
+pub(crate) fn lower_notice(
     notices: &mut Vec<Front>,
     node: NodeId,
     bound: &Front,

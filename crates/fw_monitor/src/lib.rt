@@ -2,6 +2,7 @@
 #![tactic(auto)]
 
 mod descent;
+mod finding;
 pub mod laws;
 mod lower;
 mod start;
@@ -9,3 +10,4 @@ mod trail;
 mod worklist;
 
 pub use descent::{Descent, descend, descent_to_largest, largest};
+pub use finding::{Finding, find};

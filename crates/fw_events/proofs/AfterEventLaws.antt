@@ -3,8 +3,6 @@ use Rattle.std.proofs.Common.{◌≡◌, ℕ, ◌<◌, Bool, true, false, not, �
 use Rattle.std.specs.Prelude.{◌↔◌, ◌⊎◌, slice_index_or}
 use Rattle.std.specs.List.{Contains}
 use Rattle.std.proofs.lemmas.Bool.{cases_Bool, cond-true, cond-false, eqb-true, false_from_ne_true, false≢true}
-use Rattle.fw_time.specs.Stamp.{Stamp}
-use Rattle.fw_bag.specs.declared.rec.Rec.{Rec}
 use Rattle.fw_frontier.specs.Front.{inside}
 use Rattle.fw_flow.specs.declared.event.Event.{Event}
 use Rattle.fw_flow.specs.declared.event.Event.TheVariants.{Inject, Deliver, Notify}
@@ -15,7 +13,7 @@ use Rattle.fw_flow.specs.declared.step.Step.{Step}
 use Rattle.fw_flow.specs.declared.step.Step.TheVariants.{Inject as InjectStep}
 use Rattle.fw_flow.specs.Dataflow.{System, Dataflow, kind_of, policy_of, sender, receiver, is_input_kind, is_output_kind}
 use Rattle.fw_flow.specs.Message.{messages_less}
-use Rattle.fw_flow.specs.NodeFunction.{event_node, event_stamp}
+use Rattle.fw_flow.specs.NodeFunction.{event_node}
 use Rattle.fw_flow.specs.Restoring.{can_resend}
 use Rattle.fw_flow.specs.WellFormed.{IsWellFormedSystem}
 use Rattle.fw_model.specs.Filtering.{messages_outside}
@@ -30,7 +28,6 @@ use Rattle.fw_record.specs.declared.record.Record.TheVariants as tagged
 use Rattle.fw_keep.specs.declared.entry.Entry.{Entry}
 use Rattle.fw_keep.specs.Entry.{asked}
 use Rattle.fw_keep.specs.Stored.{Records}
-use Rattle.fw_node.specs.Answers.{caused_by}
 use Rattle.fw_policy.specs.View.{IsLostAt}
 use Rattle.fw_progress.specs.History.{FollowsEvent}
 use Rattle.fw_progress.specs.Trace.{TracesFollow}
@@ -57,7 +54,7 @@ use Rattle.fw_events.specs.AfterEvent.{stamps_in, EdgesFollow, LeavesOthers, Wri
 -- ---- edges
 
 -- a queue that follows an event is the one of the state with the event
-queue-after : (sys : System) (state : Machine) (v : Event) (sent : List (Stamp × Rec)) (e : ℕ) (old new : List Message) → QueueFollows sys state v sent e
+queue-after : (sys : System) (state : Machine) (v : Event) (sent : List Message) (e : ℕ) (old new : List Message) → QueueFollows sys state v sent e
     → old ≡ queued sys state e
     → (is_failed state (receiver sys.flow e) ≡ false → new ≡ with_messages (put_on sys.flow e v sent) (messages_less old (message_on e v)))
     → (is_failed state (receiver sys.flow e) ≡ true → new ≡ old) → new ≡ queued sys (with_event sys state v) e
@@ -78,10 +75,10 @@ logging-live sys state p e live here =
     and-true false = refl
 
 -- nothing is put on an edge that its sender logs not as it would
-none-put : (sys : System) (state : Machine) (v : Event) (sent : List (Stamp × Rec)) (e : ℕ) → is_failed state (event_node sys.flow v) ≡ false
+none-put : (sys : System) (state : Machine) (v : Event) (sent : List Message) (e : ℕ) → is_failed state (event_node sys.flow v) ≡ false
     → (logs : Bool) → can_resend (policy_of sys.flow (event_node sys.flow v)) ≡ logs → is_logging sys state e ≡ not logs → put_on sys.flow e v sent ≡ []
 none-put sys state v sent e live logs c k =
-    cond-false (event_node sys.flow v == sender sys.flow e) (caused_by (event_stamp v) sent) []
+    cond-false (event_node sys.flow v == sender sys.flow e) sent []
     (false_from_ne_true (event_node sys.flow v == sender sys.flow e) (λ here.
     differ logs (sym c ∙ sym (logging-live sys state (event_node sys.flow v) e live here) ∙ k)))
   where
@@ -90,7 +87,7 @@ none-put sys state v sent e live logs c k =
     differ false e = false≢true e
 
 -- a log that follows an event is the one of the state with the event
-log-after : (sys : System) (state : Machine) (v : Event) (sent : List (Stamp × Rec)) (e : ℕ) (old new : List Message) → LogFollows sys state v sent e
+log-after : (sys : System) (state : Machine) (v : Event) (sent : List Message) (e : ℕ) (old new : List Message) → LogFollows sys state v sent e
     → is_failed state (event_node sys.flow v) ≡ false → old ≡ logged sys state e
     → (can_resend (policy_of sys.flow (event_node sys.flow v)) ≡ true → new
     ≡ with_messages (messages_outside (inside (front_of state.low (receiver sys.flow e))) (put_on sys.flow e v sent)) old)

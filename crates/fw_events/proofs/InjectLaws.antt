@@ -7,6 +7,7 @@ use Rattle.fw_time.specs.Stamp.{Stamp}
 use Rattle.fw_bag.specs.declared.rec.Rec.{Rec}
 use Rattle.fw_frontier.specs.Front.{Front}
 use Rattle.fw_flow.specs.declared.event.Event.TheVariants.{Inject as Injected}
+use Rattle.fw_flow.specs.declared.event.Message.{Message}
 use Rattle.fw_flow.specs.declared.kind.Kind.{Kind}
 use Rattle.fw_flow.specs.declared.kind.Kind.TheVariants.{Input}
 use Rattle.fw_flow.specs.declared.step.Step.TheVariants.{Inject}
@@ -21,11 +22,11 @@ use Rattle.fw_table.specs.declared.sent.Sent.{Sent}
 use Rattle.fw_border.specs.Outputs.{OutputState}
 use Rattle.fw_border.specs.Sources.{SourceState, advanced, next_batch, source_at, unused_source, with_source}
 use Rattle.fw_keep.specs.Stored.{Records}
-use Rattle.fw_node.specs.Answers.{caused_by}
 use Rattle.fw_node.specs.declared.node.Node.{Node}
 use Rattle.fw_node.specs.declared.sends.Sends.{Sends}
 use Rattle.fw_node.specs.NodeOf.{CanBeSent, stamps_of}
-use Rattle.fw_node.specs.Sends.{sends_list}
+use Rattle.fw_node.specs.Sends.{messages_of}
+use Rattle.fw_node.proofs.MessageLaws.{caused-at, messages-at}
 use Rattle.fw_node.proofs.NodeOfLaws.{input-can_send}
 use Rattle.fw_progress.specs.declared.traces.Traces.{Traces}
 use Rattle.fw_progress.specs.History.{FollowsEvent as ProgressFollows}
@@ -52,11 +53,11 @@ use Rattle.fw_events.proofs.SendingLaws.{edges-follow}
 
 -- what the calls for an input make of what is kept, one after the other: it goes on by one, its batch is sent, and progress and traces
 -- are told
-pub record TakenFromSource (s x : ℕ) (sent : List (Stamp × Rec)) (old a b new : Running) : Type 0 where
+pub record TakenFromSource (s x : ℕ) (sent : List Message) (old a b new : Running) : Type 0 where
   pub changing : a ≡ with_sources a.parts.sources old
   pub source : a.parts.sources ≡ with_source advanced old.parts.sources s
   pub sending : ChangesEdges a b
-  pub sends : SendsOn (out_edges old.flow s) (can_resend (policy_of old.flow s)) (caused_by (x ∷ []) sent) a b
+  pub sends : SendsOn (out_edges old.flow s) (can_resend (policy_of old.flow s)) sent a b
   pub telling : new ≡ with_told new.traces new.progress b
   pub told : TellsOf (Injected s x) (stamps_in sent) b new
 
@@ -71,7 +72,7 @@ no-output k i = absurd cc
 no-table : (sys : System) (state : Machine) (p : ℕ) → is_input_kind (kind_of sys.flow p) ≡ true → has_table sys state p ≡ false
 no-table sys state p k = ap (λ b. not (b || (is_output_kind (kind_of sys.flow p) || is_failed state p))) k
 
-pub taken_from_source : (s x : ℕ) (batch : List Rec) (sent : List (Stamp × Rec)) (old a b new : Running) → TakenFromSource s x sent old a b new
+pub taken_from_source : (s x : ℕ) (batch : List Rec) (sent : List Message) (old a b new : Running) → TakenFromSource s x sent old a b new
     → is_input_kind (kind_of old.flow s) ≡ true → s < length old.parts.sources
     → next_batch (source_of old s) ≡ Some batch → (source_of old s).injected ≡ x → sent ≡ at_epoch x batch → TakesEvent (Injected s x) old new
 taken_from_source s x batch sent old a b new t input there next injected sent_is = record {
@@ -140,20 +141,20 @@ taken_from_source s x batch sent old a b new t input there next injected sent_is
 
 -- so an input takes the injection of its next batch, which it sends
 pub injected-takes : (s x : ℕ) (cause : Stamp) (stamps : List Stamp) (sends : Sends) (old a b new : Running) → IsNextSent (source_of old s) x sends
-    → is_input_kind (kind_of old.flow s) ≡ true → s < length old.parts.sources → cause ≡ x ∷ [] → stamps ≡ stamps_in (sends_list sends)
+    → is_input_kind (kind_of old.flow s) ≡ true → s < length old.parts.sources → cause ≡ x ∷ [] → stamps ≡ stamps_of sends
     → a ≡ with_sources a.parts.sources old → a.parts.sources ≡ with_source advanced old.parts.sources s → ChangesEdges a b
-    → SendsOn (out_edges a.flow s) (can_resend (policy_of a.flow s)) (caused_by cause (sends_list sends)) a b
+    → SendsOn (out_edges a.flow s) (can_resend (policy_of a.flow s)) (messages_of cause sends) a b
     → new ≡ with_told new.traces new.progress b → TellsOf (Injected s x) stamps b new → TakesEvent (Injected s x) old new
 injected-takes s x cause stamps sends old a b new n input there at is changing source sending sent telling told =
-    taken_from_source s x n.batch (sends_list sends) old a b new (record {
+    taken_from_source s x n.batch (messages_of (x ∷ []) sends) old a b new (record {
       changing = changing;
       source = source;
       sending = sending;
-      sends = subst (λ t. SendsOn (out_edges old.flow s) (can_resend (policy_of old.flow s)) (caused_by t (sends_list sends)) a b) at
-          (subst (λ (f : Dataflow). SendsOn (out_edges f s) (can_resend (policy_of f s)) (caused_by cause (sends_list sends)) a b)
+      sends = subst (λ t. SendsOn (out_edges old.flow s) (can_resend (policy_of old.flow s)) (messages_of t sends) a b) at
+          (subst (λ (f : Dataflow). SendsOn (out_edges f s) (can_resend (policy_of f s)) (messages_of cause sends) a b)
           (ap (λ (r : Running). r.flow) changing) sent);
       telling = telling;
-      told = subst (λ ts. TellsOf (Injected s x) ts b new) is told;
+      told = subst (λ ts. TellsOf (Injected s x) ts b new) (is ∙ sym (messages-at (x ∷ []) sends)) told;
     }) input there n.next n.injected n.sent
 
 -- what an input injects next can be sent
@@ -161,7 +162,8 @@ pub next-can_be_sent : (flow : Dataflow) (s x : ℕ) (source : SourceState) (sen
     → IsNextSent source x sends → CanBeSent flow s (stamps_of sends)
 next-can_be_sent flow s x source sends w input l n =
     let sent : Sent Stamp = record { at = x ∷ []; recs = n.batch } in
-    subst (λ (xs : List (Stamp × Rec)). CanBeSent flow s (map (λ (y : Stamp × Rec). y.0) xs)) (sym n.sent) (input-can_send flow s x sent w input l refl)
+    subst (CanBeSent flow s) (sym (caused-at (x ∷ []) (map (λ (r : Rec). (x ∷ [], r)) n.batch)) ∙ sym (ap (map (λ (m : Message). m.at)) n.sent) ∙ messages-at (x ∷ []) sends)
+    (input-can_send flow s x sent w input l refl)
 
 -- ---- steps
 

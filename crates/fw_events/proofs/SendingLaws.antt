@@ -4,21 +4,18 @@ use Rattle.std.specs.Prelude.{◌⊎◌, OnOk, slice_index_or}
 use Rattle.std.specs.List.{Contains}
 use Rattle.std.proofs.lemmas.Bool.{cases_eq, cond-true, cond-false, eq-eqb, eqb-true, false_from_ne_true, false≢true}
 use Rattle.fw_lemmas.proofs.Numbers.{eqb-sym}
-use Rattle.fw_time.specs.Stamp.{Stamp}
-use Rattle.fw_bag.specs.declared.rec.Rec.{Rec}
 use Rattle.fw_frontier.specs.Front.{inside}
 use Rattle.fw_flow.specs.declared.event.Message.{Message}
 use Rattle.fw_flow.specs.declared.event.Event.{Event}
 use Rattle.fw_flow.specs.Dataflow.{Dataflow, is_one_of, out_edges, policy_of, receiver, sender}
 use Rattle.fw_flow.specs.Message.{messages_less}
-use Rattle.fw_flow.specs.NodeFunction.{event_node, event_stamp}
+use Rattle.fw_flow.specs.NodeFunction.{event_node}
 use Rattle.fw_flow.specs.Restoring.{can_resend}
 use Rattle.fw_model.specs.History.{message_on}
 use Rattle.fw_model.specs.Filtering.{messages_outside}
 use Rattle.fw_model.specs.Machine.{front_of}
 use Rattle.fw_model.specs.SortedMessages.{with_messages}
 use Rattle.fw_edge.specs.Messages.{MessagesState}
-use Rattle.fw_node.specs.Answers.{caused_by}
 use Rattle.fw_rollback.specs.Edges.{on_edge}
 use Rattle.fw_stands.specs.Events.{put_on}
 use Rattle.fw_stands.proofs.EventPutLaws.{out_edge-all, out_edge-more, out_edge-new}
@@ -290,18 +287,18 @@ sends-next flow p i d again ms old mid new l is c a b =
     (out_edge-new flow p i d l is) c a b
 
 -- what is sent on the out-edges of an event's node is what is put on each edge
-sent-put : (flow : Dataflow) (v : Event) (sent : List (Stamp × Rec)) (e : ℕ) → e < length flow.edges
-    → sent_to (out_edges flow (event_node flow v)) e (caused_by (event_stamp v) sent) ≡ put_on flow e v sent
+sent-put : (flow : Dataflow) (v : Event) (sent : List Message) (e : ℕ) → e < length flow.edges
+    → sent_to (out_edges flow (event_node flow v)) e sent ≡ put_on flow e v sent
 sent-put flow v sent e l =
-    ap (λ b. cond b (caused_by (event_stamp v) sent) []) (out_edge-all flow (event_node flow v) e l ∙ eqb-sym (sender flow e) (event_node flow v))
+    ap (λ b. cond b sent []) (out_edge-all flow (event_node flow v) e l ∙ eqb-sym (sender flow e) (event_node flow v))
 
 -- the edges follow an event whose message is pending no more, and at which its node then sends these
-pub edges-follow : (v : Event) (sent : List (Stamp × Rec)) (old mid new : Running) → mid.flow ≡ old.flow → mid.parts.low ≡ old.parts.low
+pub edges-follow : (v : Event) (sent : List Message) (old mid new : Running) → mid.flow ≡ old.flow → mid.parts.low ≡ old.parts.low
     → mid.failed.items ≡ old.failed.items
     → ((e : ℕ) → is_down old (receiver old.flow e) ≡ false → queue_at mid e ≡ messages_less (queue_at old e) (message_on e v))
     → ((e : ℕ) → is_down old (receiver old.flow e) ≡ true → queue_at mid e ≡ queue_at old e)
     → ((e : ℕ) → log_at mid e ≡ log_at old e)
-    → SendsOn (out_edges old.flow (event_node old.flow v)) (can_resend (policy_of old.flow (event_node old.flow v))) (caused_by (event_stamp v) sent) mid new
+    → SendsOn (out_edges old.flow (event_node old.flow v)) (can_resend (policy_of old.flow (event_node old.flow v))) sent mid new
     → EdgesFollow old.flow v sent old new
 edges-follow v sent old mid new flow low failed live idle logs s =
     let down : (e : ℕ) → is_down mid (receiver mid.flow e) ≡ is_down old (receiver old.flow e) = λ e.
@@ -312,7 +309,7 @@ edges-follow v sent old mid new flow low failed live idle logs s =
           ∙ ap (with_messages (put_on old.flow e v sent)) (live e k);
       down = λ e k. s.down e (down e ∙ k) ∙ idle e k;
       logs = λ k e l. s.logs k e
-          ∙ ap (λ f. with_messages (messages_outside (inside f) (sent_to (out_edges old.flow (event_node old.flow v)) e (caused_by (event_stamp v) sent))) (log_at mid e))
+          ∙ ap (λ f. with_messages (messages_outside (inside f) (sent_to (out_edges old.flow (event_node old.flow v)) e sent)) (log_at mid e))
           (ap (λ fs. front_of fs (receiver mid.flow e)) low ∙ ap (λ f. front_of old.parts.low (receiver f e)) flow)
           ∙ ap (λ ms. with_messages (outside e ms) (log_at mid e)) (sent-put old.flow v sent e l)
           ∙ ap (with_messages (outside e (put_on old.flow e v sent))) (logs e);

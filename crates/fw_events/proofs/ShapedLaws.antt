@@ -4,8 +4,7 @@ use Rattle.std.specs.Prelude.{Option, IfSome}
 use Rattle.std.specs.List.{AllByRecursion, Contains}
 use Rattle.std.proofs.lemmas.Bool.{cases_Bool, cond_both, eqb-true}
 use Rattle.fw_lemmas.proofs.Each.{each-kept}
-use Rattle.fw_time.specs.Stamp.{Stamp, in_domain}
-use Rattle.fw_bag.specs.declared.rec.Rec.{Rec}
+use Rattle.fw_time.specs.Stamp.{in_domain}
 use Rattle.fw_frontier.specs.Front.{inside}
 use Rattle.fw_flow.specs.declared.event.Message.{Message}
 use Rattle.fw_flow.specs.Dataflow.{Dataflow, bounds_of, is_one_of, out_edges, receiver, sender}
@@ -17,7 +16,6 @@ use Rattle.fw_model.proofs.SortedLaws.{each-with_message}
 use Rattle.fw_border.specs.Outputs.{OutputsState}
 use Rattle.fw_border.specs.Sources.{SourceState}
 use Rattle.fw_edge.specs.Messages.{MessagesState}
-use Rattle.fw_node.specs.Answers.{caused_by}
 use Rattle.fw_node.specs.declared.node.Node.{Node}
 use Rattle.fw_node.specs.NodeOf.{CanBeSent, IsNodeOf}
 use Rattle.fw_progress.specs.declared.traces.Traces.{Traces}
@@ -74,12 +72,13 @@ shaped-sent old new es again ms s c d fits = subst IsShaped (sym c) (shaped-edge
         (each-kept (IsOnEdge old.flow e) _ (sent_to es e ms) (here e)) (s.logs e))
     logged e false k = subst (AllByRecursion (IsOnEdge old.flow e)) (sym (d.logs_stay k e)) (s.logs e)
 
--- recs at stamps of an edge's domain are on the edge, as messages of one cause
-caused-fit : (flow : Dataflow) (e : ℕ) (cause : Stamp) (sent : List (Stamp × Rec)) → in_domain (bounds_of flow (sender flow e)) cause ≡ true
-    → AllByRecursion (λ t. in_domain (bounds_of flow (receiver flow e)) t ≡ true) (map (λ (x : Stamp × Rec). x.0) sent)
-    → AllByRecursion (IsOnEdge flow e) (caused_by cause sent)
-caused-fit flow e cause [] c a = tt
-caused-fit flow e cause (x ∷ sent) c a = (record { at = a.0; causes = (c, tt) }, caused-fit flow e cause sent c a.1)
+-- messages at stamps of an edge's domain, whose causes are of its sender's, are on the edge
+messages-fit : (flow : Dataflow) (e : ℕ) (ms : List Message)
+    → AllByRecursion (λ (m : Message). AllByRecursion (λ t. in_domain (bounds_of flow (sender flow e)) t ≡ true) m.causes) ms
+    → AllByRecursion (λ t. in_domain (bounds_of flow (receiver flow e)) t ≡ true) (map (λ (m : Message). m.at) ms)
+    → AllByRecursion (IsOnEdge flow e) ms
+messages-fit flow e [] c a = tt
+messages-fit flow e (m ∷ ms) c a = (record { at = a.0; causes = c.0 }, messages-fit flow e ms c.1 a.1)
 
 among-holds : (P : ℕ → Type 0) (es : List ℕ) (e : ℕ) → is_one_of e es ≡ true → AllByRecursion P es → P e
 among-holds P [] e k a = absurd (cc)
@@ -89,13 +88,15 @@ among-holds P (x ∷ es) e k a = elim (cases_Bool (x == e)) [
 ]
 
 -- what a node can send fits each of its out-edges
-pub sent-fit : (flow : Dataflow) (p : ℕ) (cause : Stamp) (sent : List (Stamp × Rec)) → in_domain (bounds_of flow p) cause ≡ true
-    → CanBeSent flow p (map (λ (x : Stamp × Rec). x.0) sent)
-    → (e : ℕ) → is_one_of e (out_edges flow p) ≡ true → AllByRecursion (IsOnEdge flow e) (caused_by cause sent)
-sent-fit flow p cause sent c k e among =
+pub sent-fit : (flow : Dataflow) (p : ℕ) (ms : List Message)
+    → AllByRecursion (λ (m : Message). AllByRecursion (λ t. in_domain (bounds_of flow p) t ≡ true) m.causes) ms
+    → CanBeSent flow p (map (λ (m : Message). m.at) ms)
+    → (e : ℕ) → is_one_of e (out_edges flow p) ≡ true → AllByRecursion (IsOnEdge flow e) ms
+sent-fit flow p ms c k e among =
     let both = among-holds (λ d. (d < length flow.edges) × (sender flow d ≡ p)) (out_edges flow p) e among
     (out_edges-from (λ d. (d < length flow.edges) × (sender flow d ≡ p)) flow p (λ d l s. (l, s))) in
-    caused-fit flow e cause sent (subst (λ q. in_domain (bounds_of flow q) cause ≡ true) (sym both.1) c) (k e both.0 both.1)
+    messages-fit flow e ms (subst (λ q. AllByRecursion (λ (m : Message). AllByRecursion (λ t. in_domain (bounds_of flow q) t ≡ true) m.causes) ms) (sym both.1) c)
+    (k e both.0 both.1)
 
 -- ---- other parts
 

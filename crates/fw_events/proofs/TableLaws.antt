@@ -14,7 +14,7 @@ use Rattle.fw_flow.specs.NodeFunction.{sends}
 use Rattle.fw_flow.specs.Projection.{events_at}
 use Rattle.fw_model.specs.Machine.{events}
 use Rattle.fw_model.specs.Told.{is_told, IsSumOfTold}
-use Rattle.fw_node.specs.Answers.{without_causes}
+use Rattle.fw_node.specs.Answers.{caused_by}
 use Rattle.fw_node.specs.Arrived.{IsOneOf}
 use Rattle.fw_node.specs.declared.node.Node.{Node}
 use Rattle.fw_node.specs.Sends.{notice_sends}
@@ -60,7 +60,7 @@ pub changed-held : (P : Node → Type 0) (p : ℕ) (before after : Node) (old ne
     → IfSome (table_at old p) P → P before
 changed-held P p before after old new c some = subst (λ (t : Option Node). IfSome t P) c.was some
 
-pub changed-takes : (flow : Dataflow) (v : Event) (sent : List (Stamp × Rec)) (p : ℕ) (before after : Node) (old new : List (Option Node))
+pub changed-takes : (flow : Dataflow) (v : Event) (sent : List Message) (p : ℕ) (before after : Node) (old new : List (Option Node))
     → IsChanged p before after old new → TableTakes flow v sent (Some before) (Some after) → TableTakes flow v sent (table_at old p) (table_at new p)
 changed-takes flow v sent p before after old new c t =
     subst (λ (x : Option Node). TableTakes flow v sent x (table_at new p)) (sym c.was)
@@ -69,13 +69,13 @@ changed-takes flow v sent p before after old new c t =
 -- ---- events
 
 -- a table that takes a rec in takes the delivery
-pub delivery-taken : (flow : Dataflow) (d : ℕ) (m : Message) (sent : List (Stamp × Rec)) (old new : Node) (at : Stamp) (rec : Rec)
+pub delivery-taken : (flow : Dataflow) (d : ℕ) (m : Message) (sent : List Message) (old new : Node) (at : Stamp) (rec : Rec)
     → ((f : Dataflow) (p : ℕ) (settled : Stamp → Bool) (before : List Event) (x : Message) → x.at ≡ at → x.rec ≡ rec
     → IsOneOf (in_edges f p) d → settled at ≡ false → (is_notified_kind (kind_of f p) ≡ true → is_told before at ≡ false)
     → IsTableOf f p settled old before → IsTableOf f p settled new (Deliver d x ∷ before))
     → ((sys : System) (p : ℕ) (settled : Stamp → Bool) (before : List Event) (x : Message) → x.at ≡ at → x.rec ≡ rec
     → IsOneOf (in_edges sys.flow p) d → settled at ≡ false → IsTableOf sys.flow p settled old before
-    → sent ≡ without_causes (sends sys p before (Deliver d x)))
+    → sent ≡ sends sys p before (Deliver d x))
     → m.at ≡ at → m.rec ≡ rec → TableTakes flow (Deliver d m) sent (Some old) (Some new)
 delivery-taken flow d m sent old new at rec ok answers at_is rec_is = λ sys state is w r enabled table.
     let p = receiver sys.flow d in
@@ -90,11 +90,11 @@ delivery-taken flow d m sent old new at rec ok answers at_is rec_is = λ sys sta
     )
 
 -- a table that hears of a stamp takes the notification
-pub notice-taken : (flow : Dataflow) (p : ℕ) (sent : List (Stamp × Rec)) (old new : Node) (at : Stamp)
+pub notice-taken : (flow : Dataflow) (p : ℕ) (sent : List Message) (old new : Node) (at : Stamp)
     → ((f : Dataflow) (q : ℕ) (settled : Stamp → Bool) (before : List Event) → settled at ≡ false → is_told before at ≡ false
     → IsTableOf f q settled old before → IsTableOf f q settled new (Notify q at ∷ before))
     → ((f : Dataflow) (q : ℕ) (settled : Stamp → Bool) (before : List Event) → settled at ≡ false → is_told before at ≡ false
-    → (kind_of f q ≡ Total → IsSumOfTold settled before at) → IsTableOf f q settled old before → sent ≡ notice_sends (kind_of f q) before at)
+    → (kind_of f q ≡ Total → IsSumOfTold settled before at) → IsTableOf f q settled old before → sent ≡ caused_by at (notice_sends (kind_of f q) before at))
     → TableTakes flow (Notify p at) sent (Some old) (Some new)
 notice-taken flow p sent old new at ok answers = λ sys state is w r enabled table.
     let h = events state.history in

@@ -12,7 +12,7 @@ use Rattle.fw_flow.specs.declared.event.Event.TheVariants.{Deliver, Notify}
 use Rattle.fw_flow.specs.declared.event.Message.{Message}
 use Rattle.fw_flow.specs.Dataflow.{System, Dataflow, kind_of, out_edges, policy_of, receiver, is_input_kind, is_notified_kind, is_output_kind}
 use Rattle.fw_flow.specs.Message.{messages_less}
-use Rattle.fw_flow.specs.NodeFunction.{event_node, event_stamp}
+use Rattle.fw_flow.specs.NodeFunction.{event_node}
 use Rattle.fw_flow.specs.Projection.{first_coordinate}
 use Rattle.fw_flow.specs.Restoring.{can_resend}
 use Rattle.fw_flow.specs.WellFormed.{IsWellFormedSystem}
@@ -22,7 +22,6 @@ use Rattle.fw_model.specs.Reached.{IsReached}
 use Rattle.fw_model.specs.Steps.{with_event}
 use Rattle.fw_border.specs.Outputs.{OutputState, output_at, new_output, with_output, with_rec_at}
 use Rattle.fw_border.specs.Sources.{SourceState}
-use Rattle.fw_node.specs.Answers.{caused_by}
 use Rattle.fw_node.specs.declared.node.Node.{Node}
 use Rattle.fw_node.specs.NodeOf.{CanBeSent}
 use Rattle.fw_progress.specs.declared.traces.Traces.{Traces}
@@ -60,15 +59,15 @@ taken-down d m old a t live e k = t.others e (λ is. false≢true (sym live ∙ 
 -- ---- a node with a table
 
 -- what the calls for a node with a table make of what is kept, one after the other
-pub hears-of : (v : Event) (p : ℕ) (t : Stamp) (stamps : List Stamp) (sent : List (Stamp × Rec)) (old noted taken put new : Running)
-    → p ≡ event_node old.flow v → t ≡ event_stamp v → stamps ≡ stamps_in sent
+pub hears-of : (v : Event) (p : ℕ) (stamps : List Stamp) (sent : List Message) (old noted taken put new : Running)
+    → p ≡ event_node old.flow v → stamps ≡ stamps_in sent
     → noted ≡ with_owing noted.ready.owing old → taken ≡ with_tables taken.parts.tables noted
     → ((q : ℕ) → q ≢ p → table_of taken q ≡ table_of noted q)
     → TableTakes noted.flow v sent (table_of noted p) (table_of taken p)
     → ChangesEdges taken put
-    → SendsOn (out_edges taken.flow p) (can_resend (policy_of taken.flow p)) (caused_by t sent) taken put
+    → SendsOn (out_edges taken.flow p) (can_resend (policy_of taken.flow p)) sent taken put
     → new ≡ with_told new.traces new.progress put → TellsOf v stamps put new → HearsOf v old new
-hears-of v p t stamps sent old noted taken put new here at is note take others table changes sends tell told =
+hears-of v p stamps sent old noted taken put new here is note take others table changes sends tell told =
     let n = event_node old.flow v in
     let flow : noted.flow ≡ old.flow = ap (λ (r : Running). r.flow) note in
     let flows : taken.flow ≡ old.flow = ap (λ (r : Running). r.flow) take ∙ flow in
@@ -84,9 +83,8 @@ hears-of v p t stamps sent old noted taken put new here at is note take others t
           (subst (λ (b : Option Node). TableTakes old.flow v sent b (table_of taken p)) (tables p)
           (subst (λ f. TableTakes f v sent (table_of noted p) (table_of taken p)) flow table));
       sending = changes;
-      sends = subst (λ c. SendsOn (out_edges old.flow n) (can_resend (policy_of old.flow n)) (caused_by c sent) taken put) at
-          (subst (λ q. SendsOn (out_edges old.flow q) (can_resend (policy_of old.flow q)) (caused_by t sent) taken put) here
-          (subst (λ f. SendsOn (out_edges f p) (can_resend (policy_of f p)) (caused_by t sent) taken put) flows sends));
+      sends = subst (λ q. SendsOn (out_edges old.flow q) (can_resend (policy_of old.flow q)) sent taken put) here
+          (subst (λ f. SendsOn (out_edges f p) (can_resend (policy_of f p)) sent taken put) flows sends);
       telling = tell;
       told = subst (λ ts. TellsOf v ts put new) is told;
     }
@@ -145,8 +143,8 @@ heard-is_taken v old a new taking live idle t no_output no_injection = record {
     queue_b : (e : ℕ) → queue_at t.taken e ≡ queue_at a e
     queue_b e = ap (λ (r : Running). queue_at r e) t.changing
 
-    sends : SendsOn (out_edges old.flow (event_node old.flow v)) (can_resend (policy_of old.flow (event_node old.flow v))) (caused_by (event_stamp v) t.sent) t.taken t.put
-    sends = subst (λ (f : Dataflow). SendsOn (out_edges f (event_node f v)) (can_resend (policy_of f (event_node f v))) (caused_by (event_stamp v) t.sent) t.taken t.put)
+    sends : SendsOn (out_edges old.flow (event_node old.flow v)) (can_resend (policy_of old.flow (event_node old.flow v))) t.sent t.taken t.put
+    sends = subst (λ (f : Dataflow). SendsOn (out_edges f (event_node f v)) (can_resend (policy_of f (event_node f v))) t.sent t.taken t.put)
         (ap (λ (r : Running). r.flow) taking) t.sends
 
     edges : EdgesFollow old.flow v t.sent old t.put

@@ -1,9 +1,9 @@
 -- What an event makes of what an engine keeps: its node injects a batch, takes a message in or is notified.
 use Rattle.std.specs.Prelude.{◌≡◌, ℕ, ◌<◌, true, false, ◌==◌, List, length, map, Option, Some}
 use Rattle.fw_time.specs.Stamp.{Stamp}
-use Rattle.fw_bag.specs.declared.rec.Rec.{Rec}
 use Rattle.fw_frontier.specs.Front.{inside}
 use Rattle.fw_flow.specs.declared.event.Event.{Event}
+use Rattle.fw_flow.specs.declared.event.Message.{Message}
 use Rattle.fw_flow.specs.declared.step.Step.{Step}
 use Rattle.fw_flow.specs.Dataflow.{System, Dataflow, kind_of, policy_of, receiver, is_output_kind}
 use Rattle.fw_flow.specs.Message.{messages_less}
@@ -30,13 +30,13 @@ use Rattle.fw_running.specs.Logging.{LogsEvent}
 use Rattle.fw_running.specs.Stands.{Stands}
 
 -- the stamps of what is sent
-abbrev pub stamps_in : List (Stamp × Rec) → List Stamp
-stamps_in sent = map (λ (x : Stamp × Rec). x.0) sent
+abbrev pub stamps_in : List Message → List Stamp
+stamps_in sent = map (λ (m : Message). m.at) sent
 
 -- What an event at which its node sends these makes of the edges: the message that it delivers is pending no more, what it sends is
 -- pending where the receiver is not failed, and where the node can send it again what lies outside the receiver's low watermark is
 -- logged.
-pub record EdgesFollow (flow : Dataflow) (v : Event) (sent : List (Stamp × Rec)) (old new : Running) : Type 0 where
+pub record EdgesFollow (flow : Dataflow) (v : Event) (sent : List Message) (old new : Running) : Type 0 where
   pub queues : (e : ℕ) → e < length flow.edges → is_down old (receiver flow e) ≡ false
       → queue_at new e ≡ with_messages (put_on flow e v sent) (messages_less (queue_at old e) (message_on e v))
   pub down : (e : ℕ) → is_down old (receiver flow e) ≡ true → queue_at new e ≡ queue_at old e
@@ -64,7 +64,7 @@ pub record OwnStand (sys : System) (state : Machine) (p : ℕ) (running : Runnin
 
 -- What an event at which its node sends these makes of the node's own parts: in each reached state in which the event may come
 -- next and for which they stand, these are sent, and the parts then stand for the state with the event.
-abbrev pub OwnFollow : Event → List (Stamp × Rec) → Running → Running → Type 0
+abbrev pub OwnFollow : Event → List Message → Running → Running → Type 0
 OwnFollow v sent old new =
     (sys : System) (state : Machine) → sys.flow ≡ old.flow → IsWellFormedSystem sys → IsReached sys state
     → IsEnabled sys (events state.history) v → is_failed state (event_node sys.flow v) ≡ false
@@ -73,7 +73,7 @@ OwnFollow v sent old new =
 
 -- What an event makes of all that is kept, but for the catalogue and the places that are ready.
 pub record TakesEvent (v : Event) (old new : Running) : Type 0 where
-  pub sent : List (Stamp × Rec)
+  pub sent : List Message
   pub others : LeavesOthers old.flow v old new
   pub edges : EdgesFollow old.flow v sent old new
   pub own : OwnFollow v sent old new

@@ -1,5 +1,5 @@
 -- What becomes of the parts where a node takes an event in.
-use Rattle.std.specs.Prelude.{◌≡◌, ◌≢◌, ℕ, ◌≤◌, ◌^◌, List, [], Option, Some, None}
+use Rattle.std.specs.Prelude.{◌≡◌, ◌≢◌, ℕ, ◌≤◌, ◌^◌, List, [], ◌∷◌, Option, Some, None}
 use Rattle.fw_time.specs.Stamp.{Stamp}
 use Rattle.fw_bag.specs.declared.rec.Rec.{Rec}
 use Rattle.fw_flow.specs.declared.event.Event.{Event}
@@ -7,7 +7,7 @@ use Rattle.fw_flow.specs.declared.event.Event.TheVariants.{Deliver}
 use Rattle.fw_flow.specs.declared.event.Message.{Message}
 use Rattle.fw_flow.specs.Dataflow.{System, Dataflow, out_edges, policy_of, receiver}
 use Rattle.fw_flow.specs.Message.{messages_without}
-use Rattle.fw_flow.specs.NodeFunction.{event_node, event_stamp}
+use Rattle.fw_flow.specs.NodeFunction.{event_node}
 use Rattle.fw_flow.specs.Projection.{first_coordinate}
 use Rattle.fw_flow.specs.Restoring.{can_resend}
 use Rattle.fw_flow.specs.WellFormed.{IsWellFormedSystem}
@@ -17,10 +17,9 @@ use Rattle.fw_model.specs.Reached.{IsReached}
 use Rattle.fw_model.specs.Steps.{with_event}
 use Rattle.fw_border.specs.Outputs.{OutputsState, with_output, with_rec_at}
 use Rattle.fw_border.specs.Sources.{SourceState, next_batch}
-use Rattle.fw_node.specs.Answers.{caused_by}
 use Rattle.fw_node.specs.declared.node.Node.{Node}
 use Rattle.fw_node.specs.declared.sends.Sends.{Sends}
-use Rattle.fw_node.specs.Sends.{sends_list}
+use Rattle.fw_node.specs.Sends.{messages_of}
 use Rattle.fw_progress.specs.declared.traces.Traces.{Traces}
 use Rattle.fw_progress.specs.History.{FollowsEvent}
 use Rattle.fw_progress.specs.Progress.{Standing}
@@ -61,7 +60,7 @@ pub record TakesOff (d : ℕ) (m : Message) (old new : Running) : Type 0 where
 
 -- A table takes an event in, and these are sent: in each reached state in which the event may come next and whose table it is, these
 -- are what the event makes its node send, and it is then the table of the state with the event.
-abbrev pub TableTakes : Dataflow → Event → List (Stamp × Rec) → Option Node → Option Node → Type 0
+abbrev pub TableTakes : Dataflow → Event → List Message → Option Node → Option Node → Type 0
 TableTakes flow v sent old new =
     (sys : System) (state : Machine) → sys.flow ≡ flow → IsWellFormedSystem sys → IsReached sys state → IsEnabled sys (events state.history) v
     → IsTableIn sys state (event_node sys.flow v) old
@@ -76,15 +75,14 @@ pub record TellsOf (v : Event) (stamps : List Stamp) (old new : Running) : Type 
 
 -- The node of an event takes it in: its table does, what it sends is sent on its out-edges, and traces and progress are told of it.
 pub record HearsOf (v : Event) (old new : Running) : Type 0 where
-  pub sent : List (Stamp × Rec)
+  pub sent : List Message
   pub taken : Running
   pub put : Running
   pub changing : taken ≡ with_tables taken.parts.tables (with_owing taken.ready.owing old)
   pub tables : (p : ℕ) → p ≢ event_node old.flow v → table_of taken p ≡ table_of old p
   pub table : TableTakes old.flow v sent (table_of old (event_node old.flow v)) (table_of taken (event_node old.flow v))
   pub sending : ChangesEdges taken put
-  pub sends : SendsOn (out_edges old.flow (event_node old.flow v)) (can_resend (policy_of old.flow (event_node old.flow v)))
-      (caused_by (event_stamp v) sent) taken put
+  pub sends : SendsOn (out_edges old.flow (event_node old.flow v)) (can_resend (policy_of old.flow (event_node old.flow v))) sent taken put
   pub telling : new ≡ with_told new.traces new.progress put
   pub told : TellsOf v (stamps_in sent) put new
 
@@ -102,7 +100,7 @@ pub record IsNextSent (source : SourceState) (epoch : ℕ) (sends : Sends) : Typ
   pub batch : List Rec
   pub next : next_batch source ≡ Some batch
   pub injected : source.injected ≡ epoch
-  pub sent : sends_list sends ≡ at_epoch epoch batch
+  pub sent : messages_of (epoch ∷ []) sends ≡ at_epoch epoch batch
 
 -- the batch that is found is the one that is next; where there is none, none is next of at most 2^20
 abbrev pub FindsBatch : SourceState → Option (ℕ × Sends) → Type 0

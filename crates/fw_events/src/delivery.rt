@@ -16,7 +16,7 @@ ghost use Rattle.fw_border.specs.Outputs.{with_output, with_rec_at};
 ghost use Rattle.fw_record.specs.declared.record.Event.TheVariants as logged;
 ghost use Rattle.fw_keep.specs.Stored.{IsStored};
 ghost use Rattle.fw_node.specs.NodeOf.{CanBeSent, IsNodeOf, stamps_of};
-ghost use Rattle.fw_node.specs.Sends.{sends_list};
+ghost use Rattle.fw_node.specs.Sends.{messages_of};
 ghost use Rattle.fw_progress.specs.Progress.{CanSend};
 ghost use Rattle.fw_rollback.specs.Tables.{table_at};
 ghost use Rattle.fw_rollback.specs.Edges.{on_edge};
@@ -252,7 +252,7 @@ fn table_takes(
     ensures none { IfOk result (λ found. IfNone found (table_of running.old node ≡ None)) }
     ensures other_tables { (p : ℕ) → p ≢ node → table_of running.new p ≡ table_of running.old p }
     ensures takes { (m : Sent) → m.at ≡ at.now → m.rec ≡ rec → IfOk result (λ found. IfSome found
-        (λ sends. TableTakes running.old.flow (events.Deliver edge m) (sends_list sends) (table_of running.old node) (table_of running.new node))) }
+        (λ sends. TableTakes running.old.flow (events.Deliver edge m) (messages_of at.now sends) (table_of running.old node) (table_of running.new node))) }
 {
     flow_is_well_formed(&running.flow);
     take_rec(&mut running.parts.tables, edge, node, at, rec)
@@ -275,7 +275,7 @@ fn take_rec(
     ensures can_be_sent { (flow : Dataflow) → IsWellFormed flow → IfSome (table_at tables.old node) (IsNodeOf flow node)
         → IfOk result (λ found. IfSome found (λ sends. CanBeSent flow node (stamps_of sends))) }
     ensures takes { (flow : Dataflow) (m : Sent) → m.at ≡ at.now → m.rec ≡ rec → IfOk result (λ found. IfSome found
-        (λ sends. TableTakes flow (events.Deliver edge m) (sends_list sends) (table_at tables.old node) (table_at tables.new node))) }
+        (λ sends. TableTakes flow (events.Deliver edge m) (messages_of at.now sends) (table_at tables.old node) (table_at tables.new node))) }
 {
     let Some(table) = tables.get_mut(node) else {
         return Ok(None);

@@ -10,7 +10,7 @@ ghost use Rattle.fw_flow.specs.Dataflow.{Dataflow, bounds_of, policy_of};
 ghost use Rattle.fw_record.specs.declared.record.Event.TheVariants as logged;
 ghost use Rattle.fw_keep.specs.Stored.{IsStored};
 ghost use Rattle.fw_node.specs.NodeOf.{CanBeSent, IsNodeOf, stamps_of};
-ghost use Rattle.fw_node.specs.Sends.{sends_list};
+ghost use Rattle.fw_node.specs.Sends.{messages_of};
 ghost use Rattle.fw_progress.specs.Progress.{CanSend};
 ghost use Rattle.fw_rollback.specs.Tables.{table_at};
 ghost use Rattle.fw_running.specs.BroughtUp.{IsBroughtUp};
@@ -192,7 +192,7 @@ fn table_hears(running: &mut Running, node: NodeId, at: &Stamp) -> Result<Option
     ensures none { IfOk result (λ found. IfNone found (table_of running.old node ≡ None)) }
     ensures other_tables { (p : ℕ) → p ≢ node → table_of running.new p ≡ table_of running.old p }
     ensures takes { IfOk result (λ found. IfSome found
-        (λ sends. TableTakes running.old.flow (events.Notify node at.now) (sends_list sends) (table_of running.old node) (table_of running.new node))) }
+        (λ sends. TableTakes running.old.flow (events.Notify node at.now) (messages_of at.now sends) (table_of running.old node) (table_of running.new node))) }
 {
     flow_is_well_formed(&running.flow);
     take_notice(&mut running.parts.tables, node, at)
@@ -209,7 +209,7 @@ fn take_notice(tables: &mut Tables, node: NodeId, at: &Stamp) -> Result<Option<S
     ensures can_be_sent { (flow : Dataflow) → IsWellFormed flow → IfSome (table_at tables.old node) (IsNodeOf flow node)
         → IfOk result (λ found. IfSome found (λ sends. CanBeSent flow node (stamps_of sends))) }
     ensures takes { (flow : Dataflow) → IfOk result (λ found. IfSome found
-        (λ sends. TableTakes flow (events.Notify node at.now) (sends_list sends) (table_at tables.old node) (table_at tables.new node))) }
+        (λ sends. TableTakes flow (events.Notify node at.now) (messages_of at.now sends) (table_at tables.old node) (table_at tables.new node))) }
 {
     let Some(table) = tables.get_mut(node) else {
         return Ok(None);

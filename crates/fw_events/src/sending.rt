@@ -1,14 +1,13 @@
 //! What an event makes a node send goes to its out-edges.
-ghost use Rattle.std.specs.Prelude.{◌≡◌, ◌≢◌, ◌<◌, ◌↔◌, ◌∷◌, ℕ, [], true, false, length, slice_get, IsTrue, IfOk, OnOk};
+ghost use Rattle.std.specs.Prelude.{◌≡◌, ◌≢◌, ◌<◌, ◌↔◌, ◌∷◌, ℕ, [], true, false, length, IsTrue, IfOk, OnOk};
 ghost use Rattle.fw_time.specs.Stamp.{in_domain};
 ghost use Rattle.fw_frontier.specs.Front.{inside};
 ghost use Rattle.fw_flow.specs.Dataflow.{bounds_of, out_edges, policy_of, receiver};
 ghost use Rattle.fw_flow.specs.Restoring as restoring;
 ghost use Rattle.fw_model.specs.Filtering.{messages_outside};
 ghost use Rattle.fw_model.specs.SortedMessages.{with_messages};
-ghost use Rattle.fw_node.specs.Answers.{caused_by};
 ghost use Rattle.fw_node.specs.NodeOf.{CanBeSent, stamps_of};
-ghost use Rattle.fw_node.specs.Sends.{sends_list};
+ghost use Rattle.fw_node.specs.Sends.{messages_of};
 ghost use Rattle.fw_rollback.specs.Edges.{on_edge};
 ghost use Rattle.fw_running.specs.Kept.{queue_at, is_down};
 ghost use Rattle.fw_running.specs.Places.{IsPut};
@@ -18,7 +17,7 @@ ghost use Rattle.fw_events.specs.SentStamps.{stamps_in_order};
 
 use crate::stamps::SentStamps;
 use fw_edge::{MsgLog, Queue};
-use fw_flow::{Causes, EdgeId, Message, NodeId};
+use fw_flow::{EdgeId, NodeId};
 use fw_frontier::Front;
 use fw_node::Sends;
 use fw_rollback::{Logs, Queues};
@@ -42,7 +41,7 @@ pub(crate) fn send(
     ensures stamps { IfOk result (λ stamps. stamps_in_order stamps ≡ stamps_of sends.now) }
     ensures others { ChangesEdges running.old running.new }
     ensures sent { OnOk result (SendsOn (out_edges running.old.flow node) (restoring.can_resend (policy_of running.old.flow node))
-        (caused_by cause.now (sends_list sends.now)) running.old running.new) }
+        (messages_of cause.now sends.now) running.old running.new) }
     ensures shaped { OnOk result (IsShaped running.new) }
 {
     send_each(running, node, cause, sends)?;
@@ -62,7 +61,7 @@ fn send_each(
     requires can_be_sent { CanBeSent running.old.flow node (stamps_of sends.now) }
     ensures others { ChangesEdges running.old running.new }
     ensures sent { OnOk result (SendsOn (out_edges running.old.flow node) (restoring.can_resend (policy_of running.old.flow node))
-        (caused_by cause.now (sends_list sends.now)) running.old running.new) }
+        (messages_of cause.now sends.now) running.old running.new) }
     ensures shaped { OnOk result (IsShaped running.new) }
 {
     if sends.len() == 0 {
@@ -87,7 +86,7 @@ fn send_on(
     requires there { edge < length running.old.flow.edges }
     ensures others { ChangesEdges running.old running.new }
     ensures sent { OnOk result (SendsOn (edge ∷ []) (restoring.can_resend (policy_of running.old.flow node))
-        (caused_by cause.now (sends_list sends.now)) running.old running.new) }
+        (messages_of cause.now sends.now) running.old running.new) }
 {
     put_live(running, edge, cause, sends)?;
     log_sent(running, node, edge, cause, sends)
@@ -104,7 +103,7 @@ fn put_live(
     ensures others { running.new ≡ with_queues running.new.parts.queues running.new.ready.edges running.old }
     ensures down { is_down running.old (receiver running.old.flow edge) ≡ true → running.new ≡ running.old }
     ensures live { is_down running.old (receiver running.old.flow edge) ≡ false
-        → OnOk result (PutsOn edge (caused_by cause.now (sends_list sends.now)) running.old running.new) }
+        → OnOk result (PutsOn edge (messages_of cause.now sends.now) running.old running.new) }
 {
     if running.is_failed(running.flow.dst(edge)) {
         return Ok(());
@@ -121,7 +120,7 @@ fn put_on(
 ) -> Result<(), AllocError>
     requires there { edge < length running.old.parts.queues }
     ensures others { running.new ≡ with_queues running.new.parts.queues running.new.ready.edges running.old }
-    ensures put { OnOk result (PutsOn edge (caused_by cause.now (sends_list sends.now)) running.old running.new) }
+    ensures put { OnOk result (PutsOn edge (messages_of cause.now sends.now) running.old running.new) }
 {
     note_pending(running, edge)?;
     put_in(&mut running.parts.queues, edge, cause, sends)
@@ -154,7 +153,7 @@ fn put_in(queues: &mut Queues, edge: EdgeId, cause: &Stamp, sends: &Sends) -> Re
     requires { edge < length queues.old }
     ensures each { length queues.new ≡ length queues.old }
     ensures here { OnOk result ((on_edge queues.new edge).messages
-        ≡ with_messages (caused_by cause.now (sends_list sends.now)) (on_edge queues.old edge).messages) }
+        ≡ with_messages (messages_of cause.now sends.now) (on_edge queues.old edge).messages) }
     ensures others { (e : ℕ) → e ≢ edge → on_edge queues.new e ≡ on_edge queues.old e }
 {
     match queues.get_mut(edge) {
@@ -175,7 +174,7 @@ fn log_sent(
     requires low { receiver running.old.flow edge < length running.old.parts.low }
     ensures others { running.new ≡ with_logs running.new.parts.logs running.old }
     ensures again { restoring.can_resend (policy_of running.old.flow node) ≡ true
-        → OnOk result (LogsOn edge (caused_by cause.now (sends_list sends.now)) running.old running.new) }
+        → OnOk result (LogsOn edge (messages_of cause.now sends.now) running.old running.new) }
     ensures never { restoring.can_resend (policy_of running.old.flow node) ≡ false → running.new ≡ running.old }
 {
     if !running.flow.policy(node).can_resend() {
@@ -194,7 +193,7 @@ fn log_on(
     requires there { edge < length running.old.parts.logs }
     requires low { receiver running.old.flow edge < length running.old.parts.low }
     ensures others { running.new ≡ with_logs running.new.parts.logs running.old }
-    ensures logged { OnOk result (LogsOn edge (caused_by cause.now (sends_list sends.now)) running.old running.new) }
+    ensures logged { OnOk result (LogsOn edge (messages_of cause.now sends.now) running.old running.new) }
 {
     let receiver = running.flow.dst(edge);
     let low = &running.parts.low.as_slice()[receiver.place() as usize];
@@ -212,7 +211,7 @@ fn log_in(
     requires { edge < length logs.old }
     ensures each { length logs.new ≡ length logs.old }
     ensures here { OnOk result ((on_edge logs.new edge).messages
-        ≡ with_messages (messages_outside (inside low.now) (caused_by cause.now (sends_list sends.now))) (on_edge logs.old edge).messages) }
+        ≡ with_messages (messages_outside (inside low.now) (messages_of cause.now sends.now)) (on_edge logs.old edge).messages) }
     ensures others { (e : ℕ) → e ≢ edge → on_edge logs.new e ≡ on_edge logs.old e }
 {
     match logs.get_mut(edge) {
@@ -223,12 +222,12 @@ fn log_in(
 
 /// What is sent is pending. The error is want of memory.
 fn put_each(queue: &mut Queue, cause: &Stamp, sends: &Sends) -> Result<(), AllocError>
-    ensures { OnOk result (queue.new.messages ≡ with_messages (caused_by cause.now (sends_list sends.now)) queue.old.messages) }
+    ensures { OnOk result (queue.new.messages ≡ with_messages (messages_of cause.now sends.now) queue.old.messages) }
 {
     // This call tells that the messages of the queue are in order.
     let _none = queue.is_empty();
     for place in 0..sends.len() {
-        if let Some(message) = message_at(cause, sends, place) {
+        if let Some(message) = sends.message(place, cause) {
             queue.put(message)?;
         }
     }
@@ -238,28 +237,16 @@ fn put_each(queue: &mut Queue, cause: &Stamp, sends: &Sends) -> Result<(), Alloc
 /// What is sent outside the receiver's low watermark is kept in the log. The error is want of memory.
 fn log_each(log: &mut MsgLog, low: &Front, cause: &Stamp, sends: &Sends) -> Result<(), AllocError>
     ensures { OnOk result (log.new.messages
-        ≡ with_messages (messages_outside (inside low.now) (caused_by cause.now (sends_list sends.now))) log.old.messages) }
+        ≡ with_messages (messages_outside (inside low.now) (messages_of cause.now sends.now)) log.old.messages) }
 {
     // This call tells that the messages of the log are in order.
     let _none = log.is_empty();
     for place in 0..sends.len() {
-        if let Some(message) = message_at(cause, sends, place) {
+        if let Some(message) = sends.message(place, cause) {
             if !low.contains(&message.at) {
                 log.append(message)?;
             }
         }
     }
     Ok(())
-}
-
-/// The message at a place of what an event at a stamp sends.
-fn message_at(cause: &Stamp, sends: &Sends, place: usize) -> Option<Message>
-    ensures { result ≡ slice_get (caused_by cause.now (sends_list sends.now)) place }
-{
-    let (at, rec) = sends.get(place)?;
-    Some(Message {
-        at,
-        rec,
-        causes: Causes::of(cause.copy()),
-    })
 }

@@ -4,6 +4,7 @@ pub mod InsideLaws
 pub mod KindCases
 pub mod LoopCases
 pub mod MakingLaws
+pub mod MessageLaws
 pub mod NodeLaws
 pub mod NodeOfLaws
 pub mod NoticeLaws

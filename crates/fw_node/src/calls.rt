@@ -13,11 +13,11 @@ ghost use Rattle.fw_model.specs.Filtering.{events_inside};
 ghost use Rattle.fw_model.specs.Order.{notified_stamps};
 ghost use Rattle.fw_model.specs.Told.{is_told, AreToldInside, EachDelivery, IsSumOfTold};
 ghost use Rattle.fw_frontier.specs.Frontier.{Within};
-ghost use Rattle.fw_node.specs.Answers.{without_causes};
+ghost use Rattle.fw_node.specs.Answers.{caused_by};
 ghost use Rattle.fw_node.specs.Arrived.{place_in, AreOnEdges, IsOneOf};
 ghost use Rattle.fw_node.specs.NodeOf.{stamps_of, CanBeSent, IsNodeOf};
 ghost use Rattle.fw_node.specs.Past.{totals_kept, totals_changed};
-ghost use Rattle.fw_node.specs.Sends.{sends_list, notice_sends};
+ghost use Rattle.fw_node.specs.Sends.{messages_of, notice_sends};
 ghost use Rattle.fw_node.specs.StateOf.{IsStateOf, IsStateSince};
 ghost use Rattle.fw_node.specs.TableOf.{IsTableOf};
 
@@ -116,7 +116,7 @@ impl Node {
         ensures sent { (sys : System) (p : ℕ) (settled : List ℕ → Bool) (before : List Event) (m : Message)
             → m.at ≡ at.now → m.rec ≡ rec → IsOneOf (in_edges sys.flow p) edge → settled at.now ≡ false
             → IsTableOf sys.flow p settled self.old before
-            → IfOk result (λ sent. sends_list sent ≡ without_causes (sends sys p before (Deliver edge m))) }
+            → IfOk result (λ sent. messages_of at.now sent ≡ sends sys p before (Deliver edge m)) }
         ensures err { (flow : Dataflow) (p : ℕ) (settled : List ℕ → Bool) (before : List Event)
             → IsTableOf flow p settled self.old before → OnErr result (IsTableOf flow p settled self.new before) }
         ensures live { OnOk result (self.new.refused ≡ false) }
@@ -152,7 +152,7 @@ impl Node {
         ensures sent { (flow : Dataflow) (p : ℕ) (settled : List ℕ → Bool) (before : List Event)
             → settled at.now ≡ false → is_told before at.now ≡ false
             → (kind_of flow p ≡ kind.Total → IsSumOfTold settled before at.now) → IsTableOf flow p settled self.old before
-            → IfOk result (λ sent. sends_list sent ≡ notice_sends (kind_of flow p) before at.now) }
+            → IfOk result (λ sent. messages_of at.now sent ≡ caused_by at.now (notice_sends (kind_of flow p) before at.now)) }
         ensures err { (flow : Dataflow) (p : ℕ) (settled : List ℕ → Bool) (before : List Event)
             → IsTableOf flow p settled self.old before → OnErr result (IsTableOf flow p settled self.new before) }
         ensures live { OnOk result (self.new.refused ≡ false) }
@@ -180,7 +180,7 @@ impl Node {
             → OnOk result (IsTableOf flow p settled self.new (Inject p epoch ∷ before)) }
         ensures sent { (sys : System) (p : ℕ) (before : List Event) → is_input_kind (kind_of sys.flow p) ≡ true
             → slice_index_or (batches_of sys p) epoch [] ≡ batch.now
-            → IfOk result (λ sent. sends_list sent ≡ without_causes (sends sys p before (Inject p epoch))) }
+            → IfOk result (λ sent. messages_of (epoch ∷ []) sent ≡ sends sys p before (Inject p epoch)) }
         ensures err { (flow : Dataflow) (p : ℕ) (settled : List ℕ → Bool) (before : List Event)
             → IsTableOf flow p settled self.old before → OnErr result (IsTableOf flow p settled self.new before) }
         ensures live { OnOk result (self.new.refused ≡ false) }

@@ -1,8 +1,9 @@
 //! What an event makes a node send.
 ghost use Rattle.std.specs.Prelude.{◌≡◌, length, slice_get};
-ghost use Rattle.fw_node.specs.Sends.{sends_list};
+ghost use Rattle.fw_node.specs.Sends.{messages_of, sends_list};
 
 use fw_bag::Rec;
+use fw_flow::{Causes, Message};
 use fw_numbered::Numbered;
 use fw_table::Sent;
 use fw_time::Stamp;
@@ -25,6 +26,18 @@ impl Sends {
             Sends::AtOneStamp(sent) => sent.recs.len(),
             Sends::Numbered(sent) => sent.recs.len(),
         }
+    }
+
+    /// A message by its place, counted from 0, as an event at this stamp sends it; none past the last one. It takes no memory.
+    pub fn message(&self, place: usize, cause: &Stamp) -> Option<Message>
+        ensures { result ≡ slice_get (messages_of cause.now self.now) place }
+    {
+        let (at, rec) = self.get(place)?;
+        Some(Message {
+            at,
+            rec,
+            causes: Causes::of(cause.copy()),
+        })
     }
 
     /// A rec with its stamp, by its place, counted from 0; none past the last one. It takes no memory.

@@ -25,7 +25,7 @@ use Rattle.fw_model.proofs.ThinnedLaws.{each-contained}
 use Rattle.fw_model.specs.EventStamps.{causes_of, causes_in, StandForSent}
 use Rattle.fw_model.specs.EventStamps.{IsOfCause as IsCounted}
 use Rattle.fw_progress.specs.Covers.{sent_stamp_at, send_stamps}
-use Rattle.fw_progress.specs.StampData.{message_at, message_of, messages_of, all_delivered}
+use Rattle.fw_progress.specs.StampData.{message_at, message_of, counted_at_stamps, all_delivered}
 use Rattle.fw_progress.specs.Traces.{AreOf}
 use Rattle.fw_progress.proofs.EventLaws.{ArePicked, how_often, once, once-picked}
 
@@ -123,19 +123,19 @@ message-own : (e : ℕ) (cause : Stamp) (at : Option Stamp) → AreAllOn e (mess
 message-own e cause None = tt
 message-own e cause (Some at) = (refl, tt)
 
-pub messages-own : (flow : Dataflow) (p : ℕ) (ss : List Stamp) (e : ℕ) → AreAllOn e (messages_of flow p ss e)
+pub messages-own : (flow : Dataflow) (p : ℕ) (ss : List Stamp) (e : ℕ) → AreAllOn e (counted_at_stamps flow p ss e)
 messages-own flow p [] e = tt
-messages-own flow p (s ∷ ss) e = each-append (λ (m : Counted). m.edge ≡ e) (message_of e s (sent_stamp_at flow p s)) (messages_of flow p ss e) (message-own e s (sent_stamp_at flow p s)) (messages-own flow p ss e)
+messages-own flow p (s ∷ ss) e = each-append (λ (m : Counted). m.edge ≡ e) (message_of e s (sent_stamp_at flow p s)) (counted_at_stamps flow p ss e) (message-own e s (sent_stamp_at flow p s)) (messages-own flow p ss e)
 
-pub messages-causes : (flow : Dataflow) (p : ℕ) (ss : List Stamp) (e : ℕ) → AllByRecursion (Sends flow p) ss → causes_of (messages_of flow p ss e) ≡ ss
+pub messages-causes : (flow : Dataflow) (p : ℕ) (ss : List Stamp) (e : ℕ) → AllByRecursion (Sends flow p) ss → causes_of (counted_at_stamps flow p ss e) ≡ ss
 messages-causes flow p [] e a = refl
 messages-causes flow p (s ∷ ss) e a =
-    ap (λ w. causes_of (message_of e s w ++ messages_of flow p ss e)) (sends-some flow p s a.0) ∙ ap (λ ts. s ∷ ts) (messages-causes flow p ss e a.1)
+    ap (λ w. causes_of (message_of e s w ++ counted_at_stamps flow p ss e)) (sends-some flow p s a.0) ∙ ap (λ ts. s ∷ ts) (messages-causes flow p ss e a.1)
 
-pub messages-of_cause : (flow : Dataflow) (p : ℕ) (ss : List Stamp) (e : ℕ) → AllByRecursion (Sends flow p) ss → AllByRecursion (IsCounted flow p) (messages_of flow p ss e)
+pub messages-of_cause : (flow : Dataflow) (p : ℕ) (ss : List Stamp) (e : ℕ) → AllByRecursion (Sends flow p) ss → AllByRecursion (IsCounted flow p) (counted_at_stamps flow p ss e)
 messages-of_cause flow p [] e a = tt
 messages-of_cause flow p (s ∷ ss) e a =
-    subst (λ w. AllByRecursion (IsCounted flow p) (message_of e s w ++ messages_of flow p ss e)) (sym (sends-some flow p s a.0)) ((s, a.0.2, refl), messages-of_cause flow p ss e a.1)
+    subst (λ w. AllByRecursion (IsCounted flow p) (message_of e s w ++ counted_at_stamps flow p ss e)) (sym (sends-some flow p s a.0)) ((s, a.0.2, refl), messages-of_cause flow p ss e a.1)
 
 -- the stamp at which a node sends is one of each receiver's domain
 sent-receiver : (flow : Dataflow) → IsWellFormed flow → (p e : ℕ) → sender flow e ≡ p → (s w : Stamp) → in_domain (bounds_of flow p) s ≡ true → send_stamp flow p s ≡ Some w
@@ -146,10 +146,10 @@ sent-receiver flow well p e r s w d i =
     ∙ subst (λ q. in_domain (bounds_of flow q) s ≡ true → send_stamp flow q s ≡ Some w → in_domain (bounds_of_edge flow e) w ≡ true) r (send_stamp-in_domain flow (sender flow e) s w) d i
 
 pub messages-on_edges : (flow : Dataflow) → IsWellFormed flow → (p : ℕ) (ss : List Stamp) (e : ℕ) → sender flow e ≡ p → AllByRecursion (Sends flow p) ss
-    → AllByRecursion (λ (m : Counted). in_domain (bounds_of flow (receiver flow m.edge)) m.at ≡ true) (messages_of flow p ss e)
+    → AllByRecursion (λ (m : Counted). in_domain (bounds_of flow (receiver flow m.edge)) m.at ≡ true) (counted_at_stamps flow p ss e)
 messages-on_edges flow well p [] e r a = tt
 messages-on_edges flow well p (s ∷ ss) e r a =
-    subst (λ w. AllByRecursion (λ (m : Counted). in_domain (bounds_of flow (receiver flow m.edge)) m.at ≡ true) (message_of e s w ++ messages_of flow p ss e)) (sym (sends-some flow p s a.0))
+    subst (λ w. AllByRecursion (λ (m : Counted). in_domain (bounds_of flow (receiver flow m.edge)) m.at ≡ true) (message_of e s w ++ counted_at_stamps flow p ss e)) (sym (sends-some flow p s a.0))
     (sent-receiver flow well p e r s a.0.1 a.0.0 a.0.2, messages-on_edges flow well p ss e r a.1)
 
 -- each cause of what was sent sends
@@ -175,7 +175,7 @@ kept-send sys h p kept n d among =
 
 -- at which stamps messages of these causes are that come from inside a set
 pub messages-inside : (flow : Dataflow) (p : ℕ) (ss : List Stamp) (e : ℕ) (f : Frontier)
-    → map (λ (m : Counted). m.at) (filter (λ (m : Counted). all_inside f m.causes) (messages_of flow p ss e)) ≡ send_stamps flow p (filter f ss)
+    → map (λ (m : Counted). m.at) (filter (λ (m : Counted). all_inside f m.causes) (counted_at_stamps flow p ss e)) ≡ send_stamps flow p (filter f ss)
 messages-inside flow p [] e f = refl
 messages-inside flow p (s ∷ ss) e f = by (f s) refl (messages-inside flow p ss e f)
   where
@@ -186,32 +186,32 @@ messages-inside flow p (s ∷ ss) e f = by (f s) refl (messages-inside flow p ss
     one w = record { edge = e; at = w; causes = s ∷ []; count = 1 }
 
     rest : List Counted
-    rest = filter (λ (m : Counted). all_inside f m.causes) (messages_of flow p ss e)
+    rest = filter (λ (m : Counted). all_inside f m.causes) (counted_at_stamps flow p ss e)
 
     kept : (w : Option Stamp) → f s ≡ true → map at rest ≡ send_stamps flow p (filter f ss)
-        → map at (filter (λ (m : Counted). all_inside f m.causes) (message_of e s w ++ messages_of flow p ss e)) ≡ option_to_list w ++ send_stamps flow p (filter f ss)
+        → map at (filter (λ (m : Counted). all_inside f m.causes) (message_of e s w ++ counted_at_stamps flow p ss e)) ≡ option_to_list w ++ send_stamps flow p (filter f ss)
     kept None k ih = ih
     kept (Some w) k ih = ap (λ b. map at (cond (b && true) (one w ∷ rest) rest)) k ∙ ap (λ ts. w ∷ ts) ih
 
     gone : (w : Option Stamp) → f s ≡ false → map at rest ≡ send_stamps flow p (filter f ss)
-        → map at (filter (λ (m : Counted). all_inside f m.causes) (message_of e s w ++ messages_of flow p ss e)) ≡ send_stamps flow p (filter f ss)
+        → map at (filter (λ (m : Counted). all_inside f m.causes) (message_of e s w ++ counted_at_stamps flow p ss e)) ≡ send_stamps flow p (filter f ss)
     gone None k ih = ih
     gone (Some w) k ih = ap (λ b. map at (cond (b && true) (one w ∷ rest) rest)) k ∙ ih
 
     by : (b : Bool) → f s ≡ b → map at rest ≡ send_stamps flow p (filter f ss)
-        → map at (filter (λ (m : Counted). all_inside f m.causes) (messages_of flow p (s ∷ ss) e)) ≡ send_stamps flow p (cond b (s ∷ filter f ss) (filter f ss))
+        → map at (filter (λ (m : Counted). all_inside f m.causes) (counted_at_stamps flow p (s ∷ ss) e)) ≡ send_stamps flow p (cond b (s ∷ filter f ss) (filter f ss))
     by true k ih = kept (sent_stamp_at flow p s) k ih
     by false k ih = gone (sent_stamp_at flow p s) k ih
 
 -- ---- all of it
 
-pub sent-on : (flow : Dataflow) (p : ℕ) (ss : List Stamp) (e : ℕ) → e < length flow.edges → sender flow e ≡ p → counted_on_edge e (flat_map (messages_of flow p ss) (out_edges flow p)) ≡ messages_of flow p ss e
-sent-on flow p ss e l r = on-once (messages_of flow p ss) (messages-own flow p ss) (out_edges flow p) e (subst (λ q. how_often (out_edges flow q) e ≡ 1) r (once-out flow e l))
+pub sent-on : (flow : Dataflow) (p : ℕ) (ss : List Stamp) (e : ℕ) → e < length flow.edges → sender flow e ≡ p → counted_on_edge e (flat_map (counted_at_stamps flow p ss) (out_edges flow p)) ≡ counted_at_stamps flow p ss e
+sent-on flow p ss e l r = on-once (counted_at_stamps flow p ss) (messages-own flow p ss) (out_edges flow p) e (subst (λ q. how_often (out_edges flow q) e ≡ 1) r (once-out flow e l))
 
 -- what stands for what a node sent on an edge
 pub stands-for_sent : (whole : Bool) (sys : System) (h : List Event) (p : ℕ) (base : Frontier) (ss : List Stamp) (e : ℕ) → e < length sys.flow.edges → sender sys.flow e ≡ p
     → AllByRecursion (Sends sys.flow p) ss → IsThinnedIf whole base (causes_in (sent_by sys p (events_at sys.flow p h))) ss
-    → StandForSent whole sys h p base e (messages_of sys.flow p ss e)
+    → StandForSent whole sys h p base e (counted_at_stamps sys.flow p ss e)
 stands-for_sent whole sys h p base ss e l r a t = record {
   of_cause = messages-of_cause sys.flow p ss e a;
   thinned = subst (IsThinnedIf whole base (causes_in (sent_by sys (sender sys.flow e) (events_at sys.flow (sender sys.flow e) h)))) (sym (messages-causes sys.flow p ss e a))

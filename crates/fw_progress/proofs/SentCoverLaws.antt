@@ -36,7 +36,7 @@ use Rattle.fw_model.specs.EventStamps.{causes_in, tells_sent}
 use Rattle.fw_model.proofs.SentStandLaws.{sent-covers}
 use Rattle.fw_progress.specs.declared.traces.Traces.{Traces}
 use Rattle.fw_progress.specs.Covers.{last_number, send_stamps, sent_inside, CoversSent}
-use Rattle.fw_progress.specs.StampData.{messages_of}
+use Rattle.fw_progress.specs.StampData.{counted_at_stamps}
 use Rattle.fw_progress.specs.Tally.{count_inside}
 use Rattle.fw_progress.specs.Trace.{stamps_where_sent, counted_of, counts_sent, IsTraceWithin}
 use Rattle.fw_progress.specs.Traces.{AreOf}
@@ -177,7 +177,7 @@ stamps-cover sys h e f traces there w b l k told t =
     let d = causes-of (bounds_of sys.flow p) (sent_by sys p (events_at sys.flow p h)) (sent-domain sys h p (legal_events-in_domain sys h w b l p)) in
     let thin : IsThinnedIf true t.base all kept = subst (λ c. IsThinnedIf c (cond c t.base (λ s. true)) all kept) told (t.trace.sent (e, there, refl) k) in
     let send = kept-send sys h p kept k d thin.among in
-    let ms = messages_of sys.flow p kept e in
+    let ms = counted_at_stamps sys.flow p kept e in
     let B = bounds_of sys.flow (receiver sys.flow e) in
     let left : map (λ (m : Counted). m.at) (filter (λ (m : Counted). all_inside g m.causes) ms) ≡ send_stamps sys.flow p (filter (inside f) kept) =
     messages-inside sys.flow p kept e g ∙ ap (send_stamps sys.flow p) (sym (filter-domain (bounds_of sys.flow p) f kept (among-domain (bounds_of sys.flow p) all kept d thin.among))) in

@@ -37,7 +37,7 @@ use Rattle.fw_model.proofs.SequenceLaws.{no_inject, sent_by-sequence}
 use Rattle.fw_model.proofs.ThinnedLaws.{each-contained, thinned-if, thinned-whole}
 use Rattle.fw_progress.specs.declared.traces.Traces.{Traces}
 use Rattle.fw_progress.specs.Covers.{last_number}
-use Rattle.fw_progress.specs.StampData.{taken, count_taken, all_delivered, messages_of, messages_numbered, all_sent, stamps_by, HasItsStamps}
+use Rattle.fw_progress.specs.StampData.{taken, count_taken, all_delivered, counted_at_stamps, messages_numbered, all_sent, stamps_by, HasItsStamps}
 use Rattle.fw_progress.specs.Trace.{delivered_on, stamps_notified, stamps_where_sent, counted_of, counts_sent, HasOutEdge, IsTraceIf, IsTraceWithin}
 use Rattle.fw_progress.specs.Traces.{AreOf, thinned}
 use Rattle.fw_model.proofs.CauseLaws.{sent_by-one_cause}
@@ -145,11 +145,11 @@ all-sequence : (flow : Dataflow) (p : ℕ) (ss : List Stamp) (n : ℕ) (counts :
     → all_sent flow p ss n ≡ cond counts (flat_map (messages_numbered (last_number n)) (out_edges flow p)) []
 all-sequence flow p ss n counts k c =
     let ms = flat_map (messages_numbered (last_number n)) (out_edges flow p) in
-    ap (λ b. cond b (cond (counts_sent flow p) ms []) (flat_map (messages_of flow p ss) (out_edges flow p))) k ∙ ap (λ b. cond b ms []) c
+    ap (λ b. cond b (cond (counts_sent flow p) ms []) (flat_map (counted_at_stamps flow p ss) (out_edges flow p))) k ∙ ap (λ b. cond b ms []) c
 
-all-others : (flow : Dataflow) (p : ℕ) (ss : List Stamp) (n : ℕ) → is_sequence_kind (kind_of flow p) ≡ false → all_sent flow p ss n ≡ flat_map (messages_of flow p ss) (out_edges flow p)
+all-others : (flow : Dataflow) (p : ℕ) (ss : List Stamp) (n : ℕ) → is_sequence_kind (kind_of flow p) ≡ false → all_sent flow p ss n ≡ flat_map (counted_at_stamps flow p ss) (out_edges flow p)
 all-others flow p ss n k =
-    ap (λ b. cond b (cond (counts_sent flow p) (flat_map (messages_numbered (last_number n)) (out_edges flow p)) []) (flat_map (messages_of flow p ss) (out_edges flow p))) k
+    ap (λ b. cond b (cond (counts_sent flow p) (flat_map (messages_numbered (last_number n)) (out_edges flow p)) []) (flat_map (counted_at_stamps flow p ss) (out_edges flow p))) k
 
 past_receiver : (flow : Dataflow) (d : ℕ) → length flow.edges ≤ d → receiver flow d ≡ length flow.nodes
 unfolding receiver
@@ -210,8 +210,8 @@ kept-stand whole sys h p base kept notified sent n w l proper k = record {
     by true s = of_sequence (counts_sent sys.flow p) s refl
     by false s =
         subst (AreAtEdgeStamps sys.flow) (sym (all-others sys.flow p sent n s))
-        (each-joined (λ (m : Counted). in_domain (bounds_of sys.flow (receiver sys.flow m.edge)) m.at ≡ true) (messages_of sys.flow p sent) (out_edges sys.flow p)
-        (out_edges-from (λ e. AllByRecursion (λ (m : Counted). in_domain (bounds_of sys.flow (receiver sys.flow m.edge)) m.at ≡ true) (messages_of sys.flow p sent e)) sys.flow p
+        (each-joined (λ (m : Counted). in_domain (bounds_of sys.flow (receiver sys.flow m.edge)) m.at ≡ true) (counted_at_stamps sys.flow p sent) (out_edges sys.flow p)
+        (out_edges-from (λ e. AllByRecursion (λ (m : Counted). in_domain (bounds_of sys.flow (receiver sys.flow m.edge)) m.at ≡ true) (counted_at_stamps sys.flow p sent e)) sys.flow p
         (λ e i r. messages-on_edges sys.flow w p sent e r (sends s (e, i, r)))))
 
     numbered : is_sequence_kind (kind_of sys.flow p) ≡ true → counts_sent sys.flow p ≡ true → (e : ℕ) → e < length sys.flow.edges → sender sys.flow e ≡ p

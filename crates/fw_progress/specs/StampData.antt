@@ -40,8 +40,8 @@ message_of e cause None = []
 message_of e cause (Some at) = record { edge = e; at = at; causes = cause ∷ []; count = 1 } ∷ []
 
 -- one message on an edge of each event at these stamps that sends
-abbrev pub messages_of : Dataflow → ℕ → List Stamp → ℕ → List Counted
-messages_of flow p ss e = flat_map (λ s. message_of e s (sent_stamp_at flow p s)) ss
+abbrev pub counted_at_stamps : Dataflow → ℕ → List Stamp → ℕ → List Counted
+counted_at_stamps flow p ss e = flat_map (λ s. message_of e s (sent_stamp_at flow p s)) ss
 
 -- one message on an edge at each of these numbers, of the first epoch
 abbrev pub messages_numbered : List Stamp → ℕ → List Counted
@@ -52,7 +52,7 @@ messages_numbered ss e = map (λ s. record { edge = e; at = s; causes = (0 ∷ [
 abbrev pub all_sent : Dataflow → ℕ → List Stamp → ℕ → List Counted
 all_sent flow p ss n =
     if is_sequence_kind (kind_of flow p) then (if counts_sent flow p then flat_map (messages_numbered (last_number n)) (out_edges flow p) else [])
-    else flat_map (messages_of flow p ss) (out_edges flow p)
+    else flat_map (counted_at_stamps flow p ss) (out_edges flow p)
 
 -- the traces of node p as data: in all, or of its events inside a frontier
 abbrev pub stamps_by : Dataflow → ℕ → Option Front → Traces → Stamps

@@ -208,7 +208,7 @@ fn push_sent(
     edge: EdgeId,
     stamps: &[Stamp],
 ) -> Result<(), AllocError>
-    ensures { OnOk result (messages.new.items ≡ messages.old.items ++ spec.messages_of flow.now node stamps.now edge) }
+    ensures { OnOk result (messages.new.items ≡ messages.old.items ++ spec.counted_at_stamps flow.now node stamps.now edge) }
 {
     messages.reserve(stamps.len())?;
     let bounds = flow.domain(node);

@@ -7,8 +7,6 @@ use Rattle.std.proofs.lemmas.List.Folds.{list_any_more}
 use Rattle.std.specs.List.{AllByRecursion}
 use Rattle.fw_lemmas.proofs.Each.{each-at}
 use Rattle.fw_lemmas.proofs.Filters.{filter-in, filter-out}
-use Rattle.fw_time.specs.Stamp.{Stamp}
-use Rattle.fw_bag.specs.declared.rec.Rec.{Rec}
 use Rattle.fw_frontier.specs.Front.{Front, inside}
 use Rattle.fw_flow.specs.declared.event.Message.{Message}
 use Rattle.fw_flow.specs.Dataflow.{Dataflow, receiver}
@@ -20,7 +18,6 @@ use Rattle.fw_model.proofs.WeightLaws.{weigh, weigh-append}
 use Rattle.fw_edge.specs.Messages.{MessagesState}
 use Rattle.fw_keep.specs.Catalogue.{AreAscending, is_id_among}
 use Rattle.fw_record.specs.declared.logged.Logged.{Logged}
-use Rattle.fw_node.specs.Answers.{caused_by}
 use Rattle.fw_rollback.specs.Edges.{on_edge}
 use Rattle.fw_record.specs.Log.{logged_on}
 use Rattle.fw_rollback.specs.Restored.{log_of}
@@ -125,17 +122,15 @@ recorded-others rs i d first now next l at before others e a =
 -- ---- what an event sends
 
 -- one more of what it sends is logged
-pub sent-more : (flow : Dataflow) (low : List Front) (edge : ℕ) (cause : Stamp) (sent : List (Stamp × Rec)) (i : ℕ) (d : Stamp × Rec) (first now next : List MessagesState)
+pub sent-more : (flow : Dataflow) (low : List Front) (edge : ℕ) (sent : List Message) (i : ℕ) (d : Message) (first now next : List MessagesState)
     → i < length sent
-    → ((ms : List Message) → on_edge first edge ≡ log_of flow low edge ms → on_edge now edge ≡ log_of flow low edge (caused_by cause (take i sent) ++ ms))
-    → ((ms : List Message) → on_edge now edge ≡ log_of flow low edge ms → on_edge next edge ≡ log_of flow low edge (caused_by cause (get_or sent i d ∷ []) ++ ms))
-    → (ms : List Message) → on_edge first edge ≡ log_of flow low edge ms → on_edge next edge ≡ log_of flow low edge (caused_by cause (take (i + 1) sent) ++ ms)
-sent-more flow low edge cause sent i d first now next l before here ms h =
-    let earlier = caused_by cause (take i sent) in
-    let one : Message = record { at = (get_or sent i d).0; rec = (get_or sent i d).1; causes = cause ∷ [] } in
-    let all : caused_by cause (take (i + 1) sent) ≡ earlier ++ one ∷ [] =
-    ap (caused_by cause) (take_more sent i d l) ∙ map-append (λ (x : Stamp × Rec). let m : Message = record { at = x.0; rec = x.1; causes = cause ∷ [] } in m) (take i sent) (get_or sent i d ∷ []) in
-    here (earlier ++ ms) (before ms h) ∙ log_of-middle flow low edge earlier one ms ∙ ap (λ (xs : List Message). log_of flow low edge (xs ++ ms)) (sym all)
+    → ((ms : List Message) → on_edge first edge ≡ log_of flow low edge ms → on_edge now edge ≡ log_of flow low edge (take i sent ++ ms))
+    → ((ms : List Message) → on_edge now edge ≡ log_of flow low edge ms → on_edge next edge ≡ log_of flow low edge (get_or sent i d ∷ ms))
+    → (ms : List Message) → on_edge first edge ≡ log_of flow low edge ms → on_edge next edge ≡ log_of flow low edge (take (i + 1) sent ++ ms)
+sent-more flow low edge sent i d first now next l before here ms h =
+    let earlier = take i sent in
+    here (earlier ++ ms) (before ms h) ∙ log_of-middle flow low edge earlier (get_or sent i d) ms
+    ∙ ap (λ (xs : List Message). log_of flow low edge (xs ++ ms)) (sym (take_more sent i d l))
 
 -- an edge more of a node has what it sends
 pub edges-more : (flow : Dataflow) (low : List Front) (sent : List Message) (ds : List ℕ) (i d : ℕ) (first now next : List MessagesState)

@@ -1,22 +1,20 @@
 -- Events that are done again, one after the other.
-use Rattle.std.proofs.Common.{◌≡◌, ℕ, ◌+◌, ◌<◌, true, false, nat_le, List, [], ◌∷◌, ◌++◌, length, take, get_or, Option, Some, None, Result, Ok, Err, refl, sym, ap, subst, ◌∙◌}
+use Rattle.std.proofs.Common.{◌≡◌, ℕ, ◌+◌, ◌<◌, true, false, List, [], ◌∷◌, ◌++◌, length, take, get_or, Result, Ok, Err, refl, sym, ap, subst, ◌∙◌}
 use Rattle.std.specs.Prelude.{OnOk}
 use Rattle.std.proofs.lemmas.List.{append-nil, take_more}
 use Rattle.std.proofs.lemmas.Grind.{flat_map-append}
-use Rattle.std.proofs.lemmas.Bool.{cond_both}
 use Rattle.fw_time.specs.Stamp.{Stamp}
 use Rattle.fw_bag.specs.declared.rec.Rec.{Rec}
 use Rattle.fw_flow.specs.declared.event.Event.{Event}
 use Rattle.fw_flow.specs.declared.event.Event.TheVariants.{Inject, Deliver, Notify}
 use Rattle.fw_flow.specs.declared.event.Message.{Message}
-use Rattle.fw_flow.specs.declared.kind.Kind.{Kind}
 use Rattle.fw_flow.specs.declared.kind.Kind.TheVariants as kind
-use Rattle.fw_flow.specs.Dataflow.{Dataflow, System, sender, kind_of, in_edges, is_notified_kind, send_stamp_of_kind, greatest_number}
-use Rattle.fw_flow.specs.NodeFunction.{event_stamp, messages_at, messages_at_some, numbered_messages, recs_on, sends, sends_of_kind, sequence_sent, sent_by}
+use Rattle.fw_flow.specs.Dataflow.{Dataflow, System, sender, kind_of, in_edges, is_notified_kind}
+use Rattle.fw_flow.specs.NodeFunction.{sends, sent_by}
 use Rattle.fw_record.specs.declared.record.Event.{Event as LoggedEvent}
 use Rattle.fw_record.specs.declared.record.Event.TheVariants as logged
 use Rattle.fw_model.specs.Told.{is_told, IsSumOfTold}
-use Rattle.fw_node.specs.Answers.{caused_by, without_causes}
+use Rattle.fw_node.specs.Answers.{caused_by}
 use Rattle.fw_node.specs.Arrived.{IsOneOf}
 use Rattle.fw_node.specs.Sends.{notice_sends}
 use Rattle.fw_node.proofs.NoticeLaws.{notices_are_sends}
@@ -104,49 +102,15 @@ of_notice G flow p before at (Notify q t) l can f =
     let g : G (Notify p at) = f (ap (is_told before) (sym stamp) ∙ can.1) (λ k. subst (IsSumOfTold (λ s. false) before) stamp (can.2 k)) in
     subst (λ r. G (Notify r t)) (sym can.0) (subst (λ u. G (Notify p u)) (sym stamp) g)
 
--- ---- causes
-
--- what is sent at a stamp comes from the stamp
-at_one : (at cause : Stamp) (rs : List Rec) → messages_at at cause rs ≡ caused_by cause (without_causes (messages_at at cause rs))
-at_one at cause [] = refl
-at_one at cause (r ∷ rs) = ap (λ (ms : List Message). record { at = at; rec = r; causes = cause ∷ [] } ∷ ms) (at_one at cause rs)
-
-at_some : (o : Option Stamp) (cause : Stamp) (rs : List Rec) → messages_at_some o cause rs ≡ caused_by cause (without_causes (messages_at_some o cause rs))
-at_some None cause rs = refl
-at_some (Some at) cause rs = at_one at cause rs
-
-at_numbers : (n : ℕ) (t : Stamp) (rs : List Rec) → numbered_messages n t rs ≡ caused_by t (without_causes (numbered_messages n t rs))
-at_numbers n t [] = refl
-at_numbers n t (r ∷ rs) =
-    cond_both (nat_le n greatest_number) (record { at = n ∷ []; rec = r; causes = t ∷ [] } ∷ numbered_messages (n + 1) t rs) []
-    (λ (ms : List Message). ms ≡ caused_by t (without_causes ms))
-    (λ e. ap (λ (ms : List Message). record { at = n ∷ []; rec = r; causes = t ∷ [] } ∷ ms) (at_numbers (n + 1) t rs)) (λ e. refl)
-
-of_kind : (sys : System) (k : Kind) (before : List Event) (v : Event) → sends_of_kind sys k before v ≡ caused_by (event_stamp v) (without_causes (sends_of_kind sys k before v))
-of_kind sys kind.Sequence before v = at_numbers (length (sequence_sent before)) (event_stamp v) (recs_on sys kind.Sequence before v)
-of_kind sys k before v = at_some (send_stamp_of_kind sys.flow k (event_stamp v)) (event_stamp v) (recs_on sys k before v)
-
--- what an event sends comes from the event
-pub sends-caused : (sys : System) (p : ℕ) (before : List Event) (v : Event) → sends sys p before v ≡ caused_by (event_stamp v) (without_causes (sends sys p before v))
-unfolding sends
-sends-caused sys p before v = of_kind sys (kind_of sys.flow p) before v
-
 -- ---- what is logged of an event
 
--- what a delivery is said to send is what it sends
-pub delivery-logged : (sys : System) (p : ℕ) (before : List Event) (edge : ℕ) (at : Stamp) (m : Message) (sent : List (Stamp × Rec)) → m.at ≡ at
-    → sent ≡ without_causes (sends sys p before (Deliver edge m)) → caused_by at sent ≡ sends sys p before (Deliver edge m)
-delivery-logged sys p before edge at m sent stamp e =
-    ap (caused_by at) e ∙ ap (λ t. caused_by t (without_causes (sends sys p before (Deliver edge m)))) (sym stamp) ∙ sym (sends-caused sys p before (Deliver edge m))
-
 -- what a notification is said to send is logged as what it sends
-pub notice-logged : (sys : System) (low : List Front) (e p : ℕ) (before : List Event) (at : Stamp) (sent : List (Stamp × Rec)) (ms : List Message)
-    → sent ≡ notice_sends (kind_of sys.flow p) before at
-    → log_of sys.flow low e (caused_by at sent ++ ms) ≡ log_of sys.flow low e (sends sys p before (Notify p at) ++ ms)
+pub notice-logged : (sys : System) (low : List Front) (e p : ℕ) (before : List Event) (at : Stamp) (sent ms : List Message)
+    → sent ≡ caused_by at (notice_sends (kind_of sys.flow p) before at)
+    → log_of sys.flow low e (sent ++ ms) ≡ log_of sys.flow low e (sends sys p before (Notify p at) ++ ms)
 notice-logged sys low e p before at sent ms is =
-    log_of-same sys.flow low e (caused_by at sent ++ ms) (sends sys p before (Notify p at) ++ ms)
-    (sorted_messages-before (caused_by at sent) (sends sys p before (Notify p at)) ms
-    (ap (λ (xs : List (Stamp × Rec)). sorted_messages (caused_by at xs)) is ∙ sym (notices_are_sends sys p before at)))
+    log_of-same sys.flow low e (sent ++ ms) (sends sys p before (Notify p at) ++ ms)
+    (sorted_messages-before sent (sends sys p before (Notify p at)) ms (ap sorted_messages is ∙ sym (notices_are_sends sys p before at)))
 
 -- ---- one event more
 

@@ -2,16 +2,14 @@
 ghost use Rattle.std.specs.Prelude.{◌≡◌, ◌≢◌, ◌<◌, ◌++◌, ◌∷◌, [], ℕ, List, true, false, length, slice_index_or, IfOk, OnOk};
 ghost use Rattle.std.specs.List.{AllByRecursion};
 ghost use Rattle.fw_time.specs.Stamp.{in_domain};
-ghost use Rattle.fw_bag.specs.declared.rec.Rec.{Rec as OneRec};
 ghost use Rattle.fw_flow.specs.declared.event.Event.{Event as Done};
 ghost use Rattle.fw_flow.specs.declared.event.Message.{Message as Sent};
 ghost use Rattle.fw_flow.specs.Dataflow.{Dataflow, bounds_of, kind_of, sender, is_notified_kind, node_frontier};
 ghost use Rattle.fw_flow.specs.WellFormed.{IsWellFormed};
 ghost use Rattle.fw_model.specs.Told.{AreToldInside};
 ghost use Rattle.fw_rollback.specs.Edges.{on_edge, nothing_there};
-ghost use Rattle.fw_node.specs.Answers.{caused_by};
 ghost use Rattle.fw_node.specs.NodeOf.{IsNodeOf};
-ghost use Rattle.fw_node.specs.Sends.{sends_list};
+ghost use Rattle.fw_node.specs.Sends.{messages_of};
 ghost use Rattle.fw_node.specs.TableOf.{IsTableOf};
 ghost use Rattle.fw_record.specs.Event.{stamp_of_event, event_of};
 ghost use Rattle.fw_record.specs.declared.record.Event.{Event as Logged};
@@ -20,9 +18,8 @@ ghost use Rattle.fw_rollback.specs.Restored.{log_of, AreLogsOfOwn, HasLogs, HasD
 
 use crate::Logs;
 use crate::logging::log_outside;
-use fw_bag::Rec;
 use fw_flow::laws::flow_is_well_formed;
-use fw_flow::{Causes, EdgeId, Flow, Fronts, Message, NodeId};
+use fw_flow::{EdgeId, Flow, Fronts, NodeId};
 use fw_frontier::Front;
 use fw_node::{Node, Sends};
 use fw_record::{Event, Record};
@@ -174,7 +171,7 @@ fn log_sends(
     requires each { length logs.old ≡ length flow.now.edges }
     ensures logged { (e : ℕ) → e < length flow.now.edges → sender flow.now e ≡ node
         → (ms : List Sent) → on_edge logs.old e ≡ log_of flow.now low.now e ms
-        → OnOk result (on_edge logs.new e ≡ log_of flow.now low.now e (caused_by cause.now (sends_list sends.now) ++ ms)) }
+        → OnOk result (on_edge logs.new e ≡ log_of flow.now low.now e (messages_of cause.now sends.now ++ ms)) }
     ensures others { (e : ℕ) → sender flow.now e ≢ node → on_edge logs.new e ≡ on_edge logs.old e }
     ensures each { length logs.new ≡ length logs.old }
 {
@@ -196,7 +193,7 @@ fn log_each(
 ) -> Result<(), AllocError>
     requires { edge < length logs.old }
     ensures logged { (ms : List Sent) → on_edge logs.old edge ≡ log_of flow.now low.now edge ms
-        → OnOk result (on_edge logs.new edge ≡ log_of flow.now low.now edge (caused_by cause.now (sends_list sends.now) ++ ms)) }
+        → OnOk result (on_edge logs.new edge ≡ log_of flow.now low.now edge (messages_of cause.now sends.now ++ ms)) }
     ensures others { (e : ℕ) → e ≢ edge → on_edge logs.new e ≡ on_edge logs.old e }
     ensures each { length logs.new ≡ length logs.old }
 {
@@ -217,26 +214,15 @@ fn log_at(
     logs: &mut Logs,
 ) -> Result<(), AllocError>
     requires edge { edge < length logs.old }
-    requires place { place < length (sends_list sends.now) }
-    ensures logged { (ms : List Sent) (d : List ℕ × OneRec) → on_edge logs.old edge ≡ log_of flow.now low.now edge ms
+    requires place { place < length (messages_of cause.now sends.now) }
+    ensures logged { (ms : List Sent) (d : Sent) → on_edge logs.old edge ≡ log_of flow.now low.now edge ms
         → OnOk result (on_edge logs.new edge
-        ≡ log_of flow.now low.now edge (caused_by cause.now (slice_index_or (sends_list sends.now) place d ∷ []) ++ ms)) }
+        ≡ log_of flow.now low.now edge (slice_index_or (messages_of cause.now sends.now) place d ∷ ms)) }
     ensures others { (e : ℕ) → e ≢ edge → on_edge logs.new e ≡ on_edge logs.old e }
     ensures each { length logs.new ≡ length logs.old }
 {
-    let Some((at, rec)) = sends.get(place) else {
+    let Some(message) = sends.message(place, cause) else {
         unreachable!()
     };
-    log_outside(flow, low, edge, message(at, rec, cause), logs)
-}
-
-/// A message of one cause.
-fn message(at: Stamp, rec: Rec, cause: &Stamp) -> Message
-    ensures { result ≡ record { at = at; rec = rec; causes = cause.now ∷ [] } }
-{
-    Message {
-        at,
-        rec,
-        causes: Causes::of(cause.copy()),
-    }
+    log_outside(flow, low, edge, message, logs)
 }

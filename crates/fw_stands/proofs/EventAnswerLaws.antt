@@ -1,6 +1,6 @@
 -- What a node answers is what it sends.
-use Rattle.std.proofs.Common.{◌≡◌, ℕ, zero, suc, ◌+◌, ◌==◌, true, List, [], ◌∷◌, length, map, get_or, Option, Some, None, nat_le, refl, sym, ap, ◌∙◌, inl, inr, arith, slice_index_or}
-use Rattle.std.proofs.lemmas.Bool.{cases_Bool, cond_both, cond-false, cond-true, eqb-true}
+use Rattle.std.proofs.Common.{◌≡◌, ℕ, zero, suc, ◌+◌, ◌==◌, true, List, [], ◌∷◌, length, map, get_or, Option, Some, None, refl, sym, ap, ◌∙◌, inl, inr, arith, slice_index_or}
+use Rattle.std.proofs.lemmas.Bool.{cases_Bool, cond-false, cond-true, eqb-true}
 use Rattle.fw_time.specs.Stamp.{Stamp}
 use Rattle.fw_bag.specs.declared.rec.Rec.{Rec}
 use Rattle.fw_bag.specs.Keyed.{sorted_recs}
@@ -10,73 +10,38 @@ use Rattle.fw_flow.specs.declared.event.Event.TheVariants.{Inject, Notify}
 use Rattle.fw_flow.specs.declared.event.Message.{Message}
 use Rattle.fw_flow.specs.declared.kind.Kind.{Kind}
 use Rattle.fw_flow.specs.declared.kind.Kind.TheVariants as kind
-use Rattle.fw_flow.specs.Dataflow.{System, batches_of, sender, kind_of, greatest_number, send_stamp_of_kind, is_input_kind, is_output_kind}
-use Rattle.fw_flow.specs.NodeFunction.{event_node, event_stamp, messages_at, messages_at_some, numbered_messages, recs_on, recs_on_notification, sends, sends_of_kind, sequence_sent}
+use Rattle.fw_flow.specs.Dataflow.{System, batches_of, sender, kind_of, send_stamp_of_kind, is_input_kind, is_output_kind}
+use Rattle.fw_flow.specs.NodeFunction.{event_node, messages_at, messages_at_some, numbered_messages, recs_on_notification, sends, sends_of_kind, sequence_sent}
 use Rattle.fw_flow.specs.Projection.{events_at}
 use Rattle.fw_model.proofs.LowLaws.{input-is}
 use Rattle.fw_model.specs.SortedMessages.{sorted_messages}
 use Rattle.fw_model.specs.LawsOfPending.{sent_on}
 use Rattle.fw_node.specs.Answers.{caused_by, without_causes}
 use Rattle.fw_node.specs.Sends.{notice_sends}
+use Rattle.fw_node.proofs.MessageLaws.{caused-at as caused-stamps}
 use Rattle.fw_node.proofs.NoticeLaws.{notices_are_sends}
 use Rattle.fw_stands.specs.Events.{sends_at, AreSent, at_epoch, put_on}
 
--- ---- messages of one cause
-
--- a rec at a stamp as a message of one cause
-abbrev message : Stamp → Stamp → Rec → Message
-message at cause r = record { at = at; rec = r; causes = cause ∷ [] }
-
--- messages of one cause are known by their stamps and recs
-abbrev IsOfCause : Stamp → List Message → Type 0
-IsOfCause cause ms = caused_by cause (without_causes ms) ≡ ms
-
-at-cause : (at cause : Stamp) (rs : List Rec) → IsOfCause cause (messages_at at cause rs)
-at-cause at cause [] = refl
-at-cause at cause (r ∷ rs) = ap (λ (ms : List Message). message at cause r ∷ ms) (at-cause at cause rs)
-
-at_some-cause : (at : Option Stamp) (cause : Stamp) (rs : List Rec) → IsOfCause cause (messages_at_some at cause rs)
-at_some-cause None cause rs = refl
-at_some-cause (Some at) cause rs = at-cause at cause rs
-
-numbered-cause : (n : ℕ) (cause : Stamp) (rs : List Rec) → IsOfCause cause (numbered_messages n cause rs)
-numbered-cause n cause [] = refl
-numbered-cause n cause (r ∷ rs) =
-    cond_both (nat_le n greatest_number) (message (n ∷ []) cause r ∷ numbered_messages (n + 1) cause rs) [] (IsOfCause cause)
-    (λ e. ap (λ (ms : List Message). message (n ∷ []) cause r ∷ ms) (numbered-cause (n + 1) cause rs)) (λ e. refl)
-
--- whatever a node sends at an event has the event's stamp as its one cause
-kind-cause : (sys : System) (k : Kind) (before : List Event) (v : Event) → IsOfCause (event_stamp v) (sends_of_kind sys k before v)
-kind-cause sys kind.Sequence before v = numbered-cause (length (sequence_sent before)) (event_stamp v) (recs_on sys kind.Sequence before v)
-kind-cause sys k before v = at_some-cause (send_stamp_of_kind sys.flow k (event_stamp v)) (event_stamp v) (recs_on sys k before v)
-
-pub sends-cause : (sys : System) (p : ℕ) (before : List Event) (v : Event) → IsOfCause (event_stamp v) (sends sys p before v)
-unfolding sends
-sends-cause sys p before v = kind-cause sys (kind_of sys.flow p) before v
+-- ---- what is sent
 
 -- the stamps of messages stay where the causes are left out
 stamps-without : (ms : List Message) → map (λ (x : Stamp × Rec). x.0) (without_causes ms) ≡ map (λ (m : Message). m.at) ms
 stamps-without [] = refl
 stamps-without (m ∷ ms) = ap (λ (ts : List Stamp). m.at ∷ ts) (stamps-without ms)
 
--- an event's messages without their causes are sent: each has the event's stamp as its one cause
-pub events-send : (sys : System) (h : List Event) (v : Event) → AreSent sys h v (without_causes (sends_at sys h v))
-events-send sys h v = record {
-  messages = ap sorted_messages (sends-cause sys (event_node sys.flow v) (events_at sys.flow (event_node sys.flow v) h) v);
-  stamps = stamps-without (sends_at sys h v);
-}
+-- what the node function gives is sent
+pub events-send : (sys : System) (h : List Event) (v : Event) → AreSent sys h v (sends_at sys h v)
+events-send sys h v = record { messages = refl; stamps = refl }
 
 -- what an event sends on an edge is what comes to it
-pub sent_on-put_on : (sys : System) (h : List Event) (v : Event) (e : ℕ) → sent_on sys h e v ≡ put_on sys.flow e v (without_causes (sends_at sys h v))
+pub sent_on-put_on : (sys : System) (h : List Event) (v : Event) (e : ℕ) → sent_on sys h e v ≡ put_on sys.flow e v (sends_at sys h v)
 sent_on-put_on sys h v e =
     let p = event_node sys.flow v in
     let q = sender sys.flow e in
     let S : ℕ → List Message = λ n. sends sys n (events_at sys.flow n h) v in
     elim (cases_Bool (p == q)) [
-      | inl k ↦
-          cond-true (p == q) (S q) [] k ∙ sym (ap S (eqb-true p q k)) ∙ sym (sends-cause sys p (events_at sys.flow p h) v)
-          ∙ sym (cond-true (p == q) (caused_by (event_stamp v) (without_causes (S p))) [] k)
-      | inr k ↦ cond-false (p == q) (S q) [] k ∙ sym (cond-false (p == q) (caused_by (event_stamp v) (without_causes (S p))) [] k)
+      | inl k ↦ cond-true (p == q) (S q) [] k ∙ sym (ap S (eqb-true p q k)) ∙ sym (cond-true (p == q) (S p) [] k)
+      | inr k ↦ cond-false (p == q) (S q) [] k ∙ sym (cond-false (p == q) (S p) [] k)
     ]
 
 -- ---- notifications
@@ -119,10 +84,10 @@ notice-stamps sys p before t = kind-stamps sys p (kind_of sys.flow p) before t
 
 -- what a node answers to a notification is sent
 pub notices-send : (sys : System) (h : List Event) (p : ℕ) (t : Stamp)
-    → AreSent sys h (Notify p t) (notice_sends (kind_of sys.flow p) (events_at sys.flow p h) t)
+    → AreSent sys h (Notify p t) (caused_by t (notice_sends (kind_of sys.flow p) (events_at sys.flow p h) t))
 notices-send sys h p t = record {
   messages = sym (notices_are_sends sys p (events_at sys.flow p h) t);
-  stamps = notice-stamps sys p (events_at sys.flow p h) t;
+  stamps = caused-stamps t (notice_sends (kind_of sys.flow p) (events_at sys.flow p h) t) ∙ notice-stamps sys p (events_at sys.flow p h) t;
 }
 
 -- ---- injections
@@ -137,9 +102,9 @@ batch-sends : (sys : System) (s x : ℕ) (before : List Event) → is_input_kind
 unfolding sends
 batch-sends sys s x before k = batch-sent sys s x (kind_of sys.flow s) before (input-is (kind_of sys.flow s) k)
 
-caused-at : (t : Stamp) (rs : List Rec) → caused_by t (map (λ (r : Rec). (t, r)) rs) ≡ messages_at t t rs
-caused-at t [] = refl
-caused-at t (r ∷ rs) = ap (λ (ms : List Message). message t t r ∷ ms) (caused-at t rs)
+one_cause-at : (t : Stamp) (rs : List Rec) → caused_by t (map (λ (r : Rec). (t, r)) rs) ≡ messages_at t t rs
+one_cause-at t [] = refl
+one_cause-at t (r ∷ rs) = ap (λ (ms : List Message). record { at = t; rec = r; causes = t ∷ [] } ∷ ms) (one_cause-at t rs)
 
 -- the batch that an input injects is sent
 pub injections-send : (sys : System) (h : List Event) (s x : ℕ) → is_input_kind (kind_of sys.flow s) ≡ true
@@ -148,8 +113,8 @@ injections-send sys h s x k =
     let rs = get_or (batches_of sys s) x [] in
     let is = batch-sends sys s x (events_at sys.flow s h) k in
     record {
-      messages = ap sorted_messages (caused-at (x ∷ []) rs ∙ sym is);
-      stamps = stamps-together (x ∷ []) rs ∙ sym (stamps-at (x ∷ []) rs) ∙ sym (ap (λ ms. map (λ (m : Message). m.at) ms) is);
+      messages = ap sorted_messages (one_cause-at (x ∷ []) rs ∙ sym is);
+      stamps = ap (λ ms. map (λ (m : Message). m.at) ms) (one_cause-at (x ∷ []) rs ∙ sym is);
     }
 
 -- ---- outputs

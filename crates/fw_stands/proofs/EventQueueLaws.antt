@@ -6,14 +6,13 @@ use Rattle.std.proofs.lemmas.Bool.{cases_Bool, cond-true, cond-false, cond_both,
 use Rattle.std.proofs.lemmas.List.Elements.{filter-append}
 use Rattle.fw_lemmas.proofs.Each.{each-weaker}
 use Rattle.fw_lemmas.proofs.Filters.{filter-same_on}
-use Rattle.fw_time.specs.Stamp.{Stamp, in_domain}
-use Rattle.fw_bag.specs.declared.rec.Rec.{Rec}
+use Rattle.fw_time.specs.Stamp.{in_domain}
 use Rattle.fw_frontier.specs.Front.{Front, inside, frontier_of}
 use Rattle.fw_flow.specs.declared.event.Event.{Event}
 use Rattle.fw_flow.specs.declared.event.Message.{Message}
 use Rattle.fw_flow.specs.Dataflow.{System, Dataflow, sender, receiver, bounds_of, bounds_of_domain, bounds_of_edge, HasEpochs}
 use Rattle.fw_flow.specs.Message.{messages_less}
-use Rattle.fw_flow.specs.NodeFunction.{event_node, event_stamp, sends}
+use Rattle.fw_flow.specs.NodeFunction.{event_node, sends}
 use Rattle.fw_flow.specs.Projection.{events_at}
 use Rattle.fw_flow.specs.WellFormed.{IsWellFormed, IsWellFormedSystem}
 use Rattle.fw_flow.proofs.MessageLaws.{less-none}
@@ -31,7 +30,6 @@ use Rattle.fw_model.proofs.SortedLaws.{IsAscendingMessages, ascending-sorted_mes
 use Rattle.fw_model.proofs.WeightLaws.{weigh, weigh-append}
 use Rattle.fw_model.proofs.NothingInsideLaws.{idle-sent}
 use Rattle.fw_model.specs.Reached.{IsReached}
-use Rattle.fw_node.specs.Answers.{caused_by}
 use Rattle.fw_stands.specs.Events.{AreSent, put_on, LogFollows, QueueFollows}
 use Rattle.fw_stands.specs.Parts.{is_logging, queued}
 use Rattle.fw_stands.proofs.EventNextLaws.{legal-reached}
@@ -70,25 +68,25 @@ last-put_in ms m old e = put-same (ms ++ m ∷ []) (m ∷ ms) old (append-one ms
 -- ---- queues
 
 -- what comes to an edge is what is sent there
-put_on-sent : (sys : System) (h : List Event) (v : Event) (sent : List (Stamp × Rec)) → AreSent sys h v sent → (e : ℕ)
+put_on-sent : (sys : System) (h : List Event) (v : Event) (sent : List Message) → AreSent sys h v sent → (e : ℕ)
     → sorted_messages (put_on sys.flow e v sent) ≡ sorted_messages (sent_on sys h e v)
 put_on-sent sys h v sent s e = elim (cases_Bool (event_node sys.flow v == sender sys.flow e)) [
   | inl k ↦
       let q = sender sys.flow e in
       let p = event_node sys.flow v in
-      ap sorted_messages (cond-true (p == q) (caused_by (event_stamp v) sent) [] k) ∙ s.messages
+      ap sorted_messages (cond-true (p == q) sent [] k) ∙ s.messages
       ∙ ap (λ n. sorted_messages (sends sys n (events_at sys.flow n h) v)) (eqb-true p q k)
       ∙ sym (ap sorted_messages (cond-true (p == q) (sends sys q (events_at sys.flow q h) v) [] k))
   | inr k ↦
       let q = sender sys.flow e in
       let p = event_node sys.flow v in
-      ap sorted_messages (cond-false (p == q) (caused_by (event_stamp v) sent) [] k)
+      ap sorted_messages (cond-false (p == q) sent [] k)
       ∙ sym (ap sorted_messages (cond-false (p == q) (sends sys q (events_at sys.flow q h) v) [] k))
 ]
 
 -- in each reached state the queues follow each event that may come next
 pub queues-follow : (sys : System) (state : Machine) → IsWellFormedSystem sys → IsReached sys state
-    → (v : Event) → IsEnabled sys (events state.history) v → (sent : List (Stamp × Rec)) → AreSent sys (events state.history) v sent
+    → (v : Event) → IsEnabled sys (events state.history) v → (sent : List Message) → AreSent sys (events state.history) v sent
     → (e : ℕ) → QueueFollows sys state v sent e
 queues-follow sys state w r v k sent s e =
     let h = events state.history in
@@ -143,7 +141,7 @@ outside-alike flow p f ms a =
     (λ m i. ap (λ b. not (b && inside f m.at)) i) a)
 
 -- what is sent outside, put into what was sent outside before
-outside-more : (sys : System) (h : List Event) (v : Event) → IsWellFormed sys.flow → HasEpochs sys → IsLegal sys (v ∷ h) → (sent : List (Stamp × Rec)) → AreSent sys h v sent
+outside-more : (sys : System) (h : List Event) (v : Event) → IsWellFormed sys.flow → HasEpochs sys → IsLegal sys (v ∷ h) → (sent : List Message) → AreSent sys h v sent
     → (e : ℕ) (f : Front) → sorted_messages (messages_outside (frontier_of (bounds_of sys.flow (receiver sys.flow e)) f) (sent_messages sys (v ∷ h) e))
     ≡ with_messages (messages_outside (inside f) (put_on sys.flow e v sent))
     (sorted_messages (messages_outside (frontier_of (bounds_of sys.flow (receiver sys.flow e)) f) (sent_messages sys h e)))
@@ -164,7 +162,7 @@ outside-more sys h v w b l sent s e f =
 
 -- in each reached state the logs follow each event that may come next
 pub logs-follow : (sys : System) (state : Machine) → IsWellFormedSystem sys → IsReached sys state
-    → (v : Event) → IsEnabled sys (events state.history) v → (sent : List (Stamp × Rec)) → AreSent sys (events state.history) v sent
+    → (v : Event) → IsEnabled sys (events state.history) v → (sent : List Message) → AreSent sys (events state.history) v sent
     → (e : ℕ) → LogFollows sys state v sent e
 logs-follow sys state w r v k sent s e =
     let h = events state.history in

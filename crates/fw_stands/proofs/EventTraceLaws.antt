@@ -12,9 +12,8 @@ use Rattle.fw_stands.specs.Parts.{IsTraceIn}
 use Rattle.fw_flow.specs.Dataflow.{System, policy_of}
 use Rattle.fw_flow.specs.WellFormed.{IsWellFormedSystem}
 use Rattle.fw_flow.specs.declared.event.Event.{Event}
-use Rattle.fw_time.specs.Stamp.{Stamp}
+use Rattle.fw_flow.specs.declared.event.Message.{Message}
 use Rattle.fw_frontier.specs.Front.{Front}
-use Rattle.fw_bag.specs.declared.rec.Rec.{Rec}
 use Rattle.fw_progress.specs.Progress.{Standing}
 use Rattle.fw_progress.specs.History.{FollowsEvent, StandsForHistory}
 use Rattle.fw_progress.specs.declared.traces.Traces.{Traces}
@@ -26,15 +25,15 @@ pub reached-legal : (sys : System) (state : Machine) → IsWellFormedSystem sys 
 reached-legal = legal-reached
 
 -- traces that follow an event are those of each node after it
-pub traces-follow : (sys : System) (floor : List Front) (state : Machine) (v : Event) (sent : List (Stamp × Rec)) → AreSent sys (events state.history) v sent
-    → (old new : Traces) → TracesFollow sys.flow v (map (λ (x : Stamp × Rec). x.0) sent) old new
+pub traces-follow : (sys : System) (floor : List Front) (state : Machine) (v : Event) (sent : List Message) → AreSent sys (events state.history) v sent
+    → (old new : Traces) → TracesFollow sys.flow v (map (λ (m : Message). m.at) sent) old new
     → (p : ℕ) → IsTraceIn sys floor state p old → IsTraceIn sys floor (with_event sys state v) p new
 traces-follow sys floor state v sent s old new f p i = f (takes_checkpoints (policy_of sys.flow p)) sys (events state.history) refl (sym s.stamps) p (base_of sys floor state p) i
 
 -- in each reached state progress that follows an event that may come next stands for the history after it
 pub progress-follows : (sys : System) (state : Machine) → IsWellFormedSystem sys → IsReached sys state
-    → (v : Event) → IsEnabled sys (events state.history) v → (sent : List (Stamp × Rec)) → AreSent sys (events state.history) v sent
-    → (old new : Standing) → FollowsEvent sys.flow v (map (λ (x : Stamp × Rec). x.0) sent) old new
+    → (v : Event) → IsEnabled sys (events state.history) v → (sent : List Message) → AreSent sys (events state.history) v sent
+    → (old new : Standing) → FollowsEvent sys.flow v (map (λ (m : Message). m.at) sent) old new
     → StandsForHistory sys (events state.history) old → StandsForHistory sys (events (with_event sys state v).history) new
 progress-follows sys state w r v k sent s old new f o =
     let h = events state.history in

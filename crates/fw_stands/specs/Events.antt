@@ -10,7 +10,7 @@ use Rattle.fw_flow.specs.declared.kind.Kind.TheVariants.{Total}
 use Rattle.fw_flow.specs.declared.step.Step.TheVariants.{Inject, Deliver}
 use Rattle.fw_flow.specs.Dataflow.{System, Dataflow, batches_of, bounds_of, in_edges, kind_of, sender, receiver, is_input_kind, is_notified_kind, is_numbered, is_output_kind}
 use Rattle.fw_flow.specs.Message.{messages_less}
-use Rattle.fw_flow.specs.NodeFunction.{event_node, event_stamp, sends}
+use Rattle.fw_flow.specs.NodeFunction.{event_node, sends}
 use Rattle.fw_flow.specs.Projection.{events_at}
 use Rattle.fw_model.specs.Filtering.{messages_outside}
 use Rattle.fw_model.specs.History.{message_on, IsEnabled}
@@ -50,32 +50,31 @@ IsDeliveryOf sys state e at (Some m) = StepsTo sys state (Deliver e at) (with_ev
 abbrev pub sends_at : System → List Event → Event → List Message
 sends_at sys h v = sends sys (event_node sys.flow v) (events_at sys.flow (event_node sys.flow v) h) v
 
--- These recs at stamps are what an event makes its node send: with the event's stamp as the one cause they are its messages, in
--- whatever order, and their stamps are those of its messages, in order.
-pub record AreSent (sys : System) (h : List Event) (v : Event) (sent : List (Stamp × Rec)) : Type 0 where
-  pub messages : sorted_messages (caused_by (event_stamp v) sent) ≡ sorted_messages (sends_at sys h v)
-  pub stamps : map (λ (x : Stamp × Rec). x.0) sent ≡ stamps_sent sys h v
+-- These messages are what an event makes its node send, in whatever order, and their stamps are those of what it sends, in order.
+pub record AreSent (sys : System) (h : List Event) (v : Event) (sent : List Message) : Type 0 where
+  pub messages : sorted_messages sent ≡ sorted_messages (sends_at sys h v)
+  pub stamps : map (λ (m : Message). m.at) sent ≡ stamps_sent sys h v
 
--- the recs of a batch at their epoch
-abbrev pub at_epoch : ℕ → List Rec → List (Stamp × Rec)
-at_epoch x rs = map (λ r. (x ∷ [], r)) rs
+-- the recs of a batch as messages at their epoch
+abbrev pub at_epoch : ℕ → List Rec → List Message
+at_epoch x rs = caused_by (x ∷ []) (map (λ r. (x ∷ [], r)) rs)
 
 -- ---- queues and logs
 
 -- what comes to edge e from an event at which its node sends these
-abbrev pub put_on : Dataflow → ℕ → Event → List (Stamp × Rec) → List Message
-put_on flow e v sent = if event_node flow v == sender flow e then caused_by (event_stamp v) sent else []
+abbrev pub put_on : Dataflow → ℕ → Event → List Message → List Message
+put_on flow e v sent = if event_node flow v == sender flow e then sent else []
 
 -- The queue of edge e after an event at which its node sends these: without the message that the event delivered there, and with
 -- those that it sends there; empty where the receiver is failed.
-pub record QueueFollows (sys : System) (state : Machine) (v : Event) (sent : List (Stamp × Rec)) (e : ℕ) : Type 0 where
+pub record QueueFollows (sys : System) (state : Machine) (v : Event) (sent : List Message) (e : ℕ) : Type 0 where
   pub live : is_failed state (receiver sys.flow e) ≡ false → queued sys (with_event sys state v) e
       ≡ with_messages (put_on sys.flow e v sent) (messages_less (queued sys state e) (message_on e v))
   pub failed : is_failed state (receiver sys.flow e) ≡ true → queued sys (with_event sys state v) e ≡ []
 
 -- The log of edge e after an event at which its node sends these: with those of them that lie outside the receiver's low
 -- watermark, where the sender logs; empty where it does not.
-pub record LogFollows (sys : System) (state : Machine) (v : Event) (sent : List (Stamp × Rec)) (e : ℕ) : Type 0 where
+pub record LogFollows (sys : System) (state : Machine) (v : Event) (sent : List Message) (e : ℕ) : Type 0 where
   pub logging : is_logging sys state e ≡ true → logged sys (with_event sys state v) e
       ≡ with_messages (messages_outside (inside (front_of state.low (receiver sys.flow e))) (put_on sys.flow e v sent)) (logged sys state e)
   pub not_logging : is_logging sys state e ≡ false → logged sys (with_event sys state v) e ≡ []

@@ -5,7 +5,8 @@ use Rattle.fw_flow.specs.declared.event.Event.TheVariants.{Deliver}
 use Rattle.fw_flow.specs.Dataflow.{Dataflow, receiver}
 use Rattle.fw_node.specs.declared.sends.Sends.{Sends}
 use Rattle.fw_node.specs.NodeOf.{CanBeSent, stamps_of}
-use Rattle.fw_node.specs.Sends.{sends_list}
+use Rattle.fw_node.specs.Sends.{messages_of}
+use Rattle.fw_node.proofs.MessageLaws.{messages-at}
 use Rattle.fw_running.specs.declared.running.Running.{Running}
 use Rattle.fw_running.specs.Kept.{table_of}
 use Rattle.fw_events.specs.Taking.{TableTakes}
@@ -40,11 +41,11 @@ returns-clause-takes c = λ m at rec there.
     let taken = c.table_takes.new.running in
     let put = c.send.new.running in
     let v = Deliver c.args.edge m in
-    let sent = sends_list c.in-Some.sends in
+    let sent = messages_of c.args.at.now c.in-Some.sends in
     let table : TableTakes noted.flow v sent (table_of noted c.args.node) (table_of taken c.args.node) =
-    subst (λ (o : Option Sends). IfSome o (λ sends. TableTakes noted.flow v (sends_list sends) (table_of noted c.args.node) (table_of taken c.args.node)))
+    subst (λ (o : Option Sends). IfSome o (λ sends. TableTakes noted.flow v (messages_of c.args.at.now sends) (table_of noted c.args.node) (table_of taken c.args.node)))
     c.in-Some.is (c.in_ok-sends.ensures.takes m at rec) in
     on_ok_weaker c.tell_delivered.result (λ told.
-    hears-of v c.args.node c.args.at.now c.as_slice.result.now sent old noted taken put c.tell_delivered.new.running
-    c.requires.receiver (sym at) (c.as_slice.ensures ∙ c.in_ok-stamps.ensures.stamps) c.note_owing.ensures.others c.table_takes.ensures.others
+    hears-of v c.args.node c.as_slice.result.now sent old noted taken put c.tell_delivered.new.running
+    c.requires.receiver (c.as_slice.ensures ∙ c.in_ok-stamps.ensures.stamps ∙ sym (messages-at c.args.at.now c.in-Some.sends)) c.note_owing.ensures.others c.table_takes.ensures.others
     c.table_takes.ensures.other_tables table c.send.ensures.others c.in_ok-stamps.ensures.sent c.tell_delivered.ensures.others told) (c.tell_delivered.ensures.told m at)

@@ -5,7 +5,8 @@ use Rattle.fw_flow.specs.declared.event.Event.TheVariants.{Notify}
 use Rattle.fw_flow.specs.Dataflow.{Dataflow}
 use Rattle.fw_node.specs.declared.sends.Sends.{Sends}
 use Rattle.fw_node.specs.NodeOf.{CanBeSent, stamps_of}
-use Rattle.fw_node.specs.Sends.{sends_list}
+use Rattle.fw_node.specs.Sends.{messages_of}
+use Rattle.fw_node.proofs.MessageLaws.{messages-at}
 use Rattle.fw_running.specs.declared.running.Running.{Running}
 use Rattle.fw_running.specs.Kept.{table_of}
 use Rattle.fw_events.specs.Taking.{TableTakes}
@@ -33,12 +34,12 @@ returns-clause-takes c = λ there.
     let taken = c.table_hears.new.running in
     let put = c.send.new.running in
     let v = Notify c.args.node c.args.at.now in
-    let sent = sends_list c.in-Some.sends in
+    let sent = messages_of c.args.at.now c.in-Some.sends in
     let table : TableTakes old.flow v sent (table_of old c.args.node) (table_of taken c.args.node) =
-    subst (λ (o : Option Sends). IfSome o (λ sends. TableTakes old.flow v (sends_list sends) (table_of old c.args.node) (table_of taken c.args.node)))
+    subst (λ (o : Option Sends). IfSome o (λ sends. TableTakes old.flow v (messages_of c.args.at.now sends) (table_of old c.args.node) (table_of taken c.args.node)))
     c.in-Some.is c.in_ok-sends.ensures.takes in
     on_ok_weaker c.tell_notified.result (λ told.
     taken_by_notice c.args.node c.args.at.now old c.tell_notified.new.running
-    (hears-of v c.args.node c.args.at.now c.as_slice.result.now sent old old taken put c.tell_notified.new.running
-    refl refl (c.as_slice.ensures ∙ c.in_ok-stamps.ensures.stamps) refl c.table_hears.ensures.others
+    (hears-of v c.args.node c.as_slice.result.now sent old old taken put c.tell_notified.new.running
+    refl (c.as_slice.ensures ∙ c.in_ok-stamps.ensures.stamps ∙ sym (messages-at c.args.at.now c.in-Some.sends)) refl c.table_hears.ensures.others
     c.table_hears.ensures.other_tables table c.send.ensures.others c.in_ok-stamps.ensures.sent c.tell_notified.ensures.others told)) c.tell_notified.ensures.told

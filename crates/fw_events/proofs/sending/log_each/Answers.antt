@@ -3,8 +3,7 @@ use Rattle.std.specs.Prelude.{slice_get}
 use Rattle.fw_frontier.specs.Front.{inside}
 use Rattle.fw_model.specs.SortedMessages.{with_message}
 use Rattle.fw_edge.specs.Messages.{MessagesState}
-use Rattle.fw_node.specs.Answers.{caused_by}
-use Rattle.fw_node.specs.Sends.{sends_list}
+use Rattle.fw_node.specs.Sends.{messages_of}
 use Rattle.fw_stands.proofs.EventPutLaws.{log-step, log-inside, log-past}
 use Rattle.fw_events.proofs.sending.log_each.Goals.{in-Some+then-not-contains+in_ok-append, in-Some+else-not-contains, in_default}
 use Rattle.fw_events.proofs.sending.log_each.Goals as goal
@@ -12,12 +11,12 @@ use Rattle.fw_events.proofs.sending.log_each.Goals as goal
 pub loop-place-preserved : goal.loop-place-preserved
 loop-place-preserved c =
     let f = c.args.low.now in
-    let ms = caused_by c.args.cause.now (sends_list c.args.sends.now) in
+    let ms = messages_of c.args.cause.now c.args.sends.now in
     let i = c.loop-place.place in
     let now = c.loop-place.log.messages in
-    let new = c.match-message_at.log.messages in
+    let new = c.match-message.log.messages in
     let old = c.args.log.now.messages in
-    elim c.match-message_at.branch [
+    elim c.match-message.branch [
       | in-Some+then-not-contains+in_ok-append w ↦
           let m = w.in-Some.message in
           let at : Some m ≡ slice_get ms i = w.in-Some.ensures in

@@ -1,7 +1,6 @@
 use Rattle.std.proofs.Common.{ap}
 use Rattle.std.proofs.lemmas.Result.{on_ok_weaker}
-use Rattle.fw_node.specs.Answers.{caused_by}
-use Rattle.fw_node.specs.Sends.{sends_list}
+use Rattle.fw_node.specs.Sends.{messages_of}
 use Rattle.fw_events.specs.Sending.{with_queues}
 use Rattle.fw_events.proofs.SendingLaws.{puts-after}
 use Rattle.fw_events.proofs.sending.put_on.Goals as goal
@@ -11,5 +10,5 @@ returns-clause-others c = ap (with_queues c.put_in.new.queues c.note_pending.new
 
 pub returns-clause-put : goal.returns-clause-put
 returns-clause-put c = on_ok_weaker c.put_in.result (λ here.
-    puts-after c.args.running.now c.note_pending.new.running c.args.edge (caused_by c.args.cause.now (sends_list c.args.sends.now)) c.put_in.new.queues
+    puts-after c.args.running.now c.note_pending.new.running c.args.edge (messages_of c.args.cause.now c.args.sends.now) c.put_in.new.queues
     c.note_pending.ensures.others c.put_in.ensures.each here c.put_in.ensures.others c.in_ok-note_pending.ensures.none c.note_pending.ensures.some) c.put_in.ensures.here

@@ -1,5 +1,9 @@
-use Rattle.std.proofs.Common.{◌<◌, length, arith}
-use Rattle.fw_node.specs.Sends.{sends_list}
+use Rattle.std.proofs.Common.{◌≡◌, ◌<◌, true, length, sym, subst, arith}
+use Rattle.fw_time.specs.Stamp.{in_domain}
+use Rattle.fw_flow.specs.Dataflow.{bounds_of}
+use Rattle.fw_node.specs.NodeOf.{CanBeSent}
+use Rattle.fw_node.proofs.MessageLaws.{messages-at, messages-each_cause}
+use Rattle.fw_node.specs.Sends.{messages_of}
 use Rattle.fw_events.proofs.SendLaws.{edge-read, out_edge-there, place-there, sent-step}
 use Rattle.fw_events.proofs.sending.send_each.Goals as goal
 
@@ -17,8 +21,11 @@ loop-place-preserved c =
     let mid = c.loop-place.running in
     let i = c.loop-place.place in
     let l : i < length c.out_edges-place-end.result.now = omega arith in
-    sent-step c.args.running.now mid c.send_on.new.running c.args.node c.args.cause.now (sends_list c.args.sends.now) i c.index-out_edges-place.result
-    c.requires.shaped c.requires.cause c.requires.can_be_sent c.loop-place.invariant
+    let old = c.args.running.now in
+    let ms = messages_of c.args.cause.now c.args.sends.now in
+    sent-step old mid c.send_on.new.running c.args.node ms i c.index-out_edges-place.result c.requires.shaped
+    (messages-each_cause (λ t. in_domain (bounds_of old.flow c.args.node) t ≡ true) c.args.cause.now c.args.sends.now c.requires.cause)
+    (subst (CanBeSent old.flow c.args.node) (sym (messages-at c.args.cause.now c.args.sends.now)) c.requires.can_be_sent) c.loop-place.invariant
     (place-there c.args.running.now mid c.args.node i c.out_edges-place-end.result.now c.loop-place.invariant.changes c.out_edges-place-end.ensures l)
     (edge-read mid.flow c.args.node i c.index-out_edges-place.result c.out_edges.result.now c.out_edges.ensures c.index-out_edges-place.is)
     c.send_on.ensures.others c.in_ok-send_on.ensures.sent

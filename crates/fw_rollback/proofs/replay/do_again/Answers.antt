@@ -7,12 +7,11 @@ use Rattle.fw_flow.specs.Dataflow.{System}
 use Rattle.fw_flow.specs.NodeFunction.{sends}
 use Rattle.fw_record.specs.Event.{stamp_of_event}
 use Rattle.fw_record.specs.declared.record.Event.{Event as LoggedEvent}
-use Rattle.fw_node.specs.Answers.{caused_by}
-use Rattle.fw_node.specs.Sends.{sends_list}
+use Rattle.fw_node.specs.Sends.{messages_of}
 use Rattle.fw_node.specs.TableOf.{IsTableOf}
 use Rattle.fw_node.proofs.NodeOfLaws.{of_node}
 use Rattle.fw_rollback.specs.Restored.{log_of, StandsForRedone}
-use Rattle.fw_rollback.proofs.ReplayLaws.{of_delivery, of_notice, delivery-logged, notice-logged, stands-more, have_sent-more}
+use Rattle.fw_rollback.proofs.ReplayLaws.{of_delivery, of_notice, notice-logged, stands-more, have_sent-more}
 use Rattle.fw_rollback.proofs.OwnLaws.{own-more}
 use Rattle.fw_rollback.proofs.replay.do_again.Goals as goal
 
@@ -32,13 +31,12 @@ returns-in_ok-sends-in-Deliver-clause-logs c = λ logged st sent.
     let flow = c.args.flow.now in
     let p = c.args.node in
     let at = c.in-Deliver.at in
-    have_sent-more flow c.args.low.now p logged c.args.event.now c.args.table.now c.args.logs.now c.log_sends.new.logs c.log_sends.result (caused_by at (sends_list c.in_ok-sends-in-Deliver.sends)) st sent
+    have_sent-more flow c.args.low.now p logged c.args.event.now c.args.table.now c.args.logs.now c.log_sends.new.logs c.log_sends.result (messages_of at c.in_ok-sends-in-Deliver.sends) st sent
     (λ batches before v is can t e ms.
     let sys : System = record { flow = flow; batches = batches } in
-    let P : Event → Type 0 = λ x. caused_by at (sends_list c.in_ok-sends-in-Deliver.sends) ≡ sends sys p before x in
+    let P : Event → Type 0 = λ x. messages_of at c.in_ok-sends-in-Deliver.sends ≡ sends sys p before x in
     let same : P v = of_delivery P flow p before c.in-Deliver.edge at c.in-Deliver.rec v (is ∙ ap (λ (x : LoggedEvent). x ∷ []) c.in-Deliver.is) can
-    (λ m stamp rec one told. delivery-logged sys p before c.in-Deliver.edge at m (sends_list c.in_ok-sends-in-Deliver.sends) stamp
-    (c.in_ok-sends-in-Deliver.ensures.sent sys p (λ x. false) before m stamp rec one refl t)) in
+    (λ m stamp rec one told. c.in_ok-sends-in-Deliver.ensures.sent sys p (λ x. false) before m stamp rec one refl t) in
     ap (λ (xs : List Message). log_of flow c.args.low.now e (xs ++ ms)) same)
     c.log_sends.ensures.logged
 
@@ -58,12 +56,12 @@ returns-in_ok-sends-in-Notify-clause-logs c = λ logged st sent.
     let flow = c.args.flow.now in
     let p = c.args.node in
     let at = c.in-Notify.at in
-    have_sent-more flow c.args.low.now p logged c.args.event.now c.args.table.now c.args.logs.now c.log_sends-in-Notify.new.logs c.log_sends-in-Notify.result (caused_by at (sends_list c.in_ok-sends-in-Notify.sends)) st sent
+    have_sent-more flow c.args.low.now p logged c.args.event.now c.args.table.now c.args.logs.now c.log_sends-in-Notify.new.logs c.log_sends-in-Notify.result (messages_of at c.in_ok-sends-in-Notify.sends) st sent
     (λ batches before v is can t e ms.
     let sys : System = record { flow = flow; batches = batches } in
-    let P : Event → Type 0 = λ x. log_of flow c.args.low.now e (caused_by at (sends_list c.in_ok-sends-in-Notify.sends) ++ ms) ≡ log_of flow c.args.low.now e (sends sys p before x ++ ms) in
+    let P : Event → Type 0 = λ x. log_of flow c.args.low.now e (messages_of at c.in_ok-sends-in-Notify.sends ++ ms) ≡ log_of flow c.args.low.now e (sends sys p before x ++ ms) in
     of_notice P flow p before at v (is ∙ ap (λ (x : LoggedEvent). x ∷ []) c.in-Notify.is) can
-    (λ told sum. notice-logged sys c.args.low.now e p before at (sends_list c.in_ok-sends-in-Notify.sends) ms
+    (λ told sum. notice-logged sys c.args.low.now e p before at (messages_of at c.in_ok-sends-in-Notify.sends) ms
     (c.in_ok-sends-in-Notify.ensures.sent flow p (λ x. false) before refl told sum t)))
     c.log_sends-in-Notify.ensures.logged
 

@@ -1,8 +1,7 @@
 use Rattle.std.proofs.Common.{◌+◌, sym, ap, subst, ◌∙◌, arith}
 use Rattle.std.proofs.lemmas.List.{take_all}
 use Rattle.fw_keep.specs.Catalogue.{AreAscending, is_id_among}
-use Rattle.fw_node.specs.Answers.{caused_by}
-use Rattle.fw_node.specs.Sends.{sends_list}
+use Rattle.fw_node.specs.Sends.{messages_of}
 use Rattle.fw_rollback.proofs.ListLaws.{out_edges-ascend, out_edge-there, among_out_edges, not_among_out_edges, not_among_first}
 use Rattle.fw_rollback.proofs.LogLaws.{edges-more, edges-others}
 use Rattle.fw_rollback.proofs.replay.log_sends.Goals as goal
@@ -19,7 +18,7 @@ loop-edge-preserved c =
     let rises : AreAscending edges = subst AreAscending (sym c.out_edges-edges.ensures) (out_edges-ascend flow c.args.node) in
     let i = c.loop-edge.edge-index in
     record {
-      logged = edges-more flow c.args.low.now (caused_by c.args.cause.now (sends_list c.args.sends.now)) edges i c.edge-item.result c.args.logs.now c.loop-edge.logs c.log_each.new.logs
+      logged = edges-more flow c.args.low.now (messages_of c.args.cause.now c.args.sends.now) edges i c.edge-item.result c.args.logs.now c.loop-edge.logs c.log_each.new.logs
           c.loop-edge-test.true c.edge-item.is rises c.loop-edge.invariant.logged c.loop-edge.invariant.others c.in_ok-log_each.ensures.logged c.log_each.ensures.others;
       others = edges-others edges i c.edge-item.result c.args.logs.now c.loop-edge.logs c.log_each.new.logs c.loop-edge-test.true c.edge-item.is
           c.loop-edge.invariant.others c.log_each.ensures.others;

@@ -3,10 +3,13 @@ use Rattle.fw_bag.specs.Arrivals.{Arrival, arrival}
 use Rattle.fw_flow.specs.declared.kind.Kind.{Kind}
 use Rattle.fw_flow.specs.Dataflow.{kind_of, in_edges, send_stamp_of_kind}
 use Rattle.fw_table.specs.Sent.{sent_if_at}
-use Rattle.fw_node.specs.Answers.{recs_for}
+use Rattle.fw_flow.specs.declared.event.Event.TheVariants.{Deliver}
+use Rattle.fw_flow.specs.NodeFunction.{sends}
+use Rattle.fw_node.specs.Answers.{caused_by, recs_for, without_causes}
 use Rattle.fw_node.specs.Arrived.{arrived, place_in}
 use Rattle.fw_node.specs.Past.{past_of}
 use Rattle.fw_node.specs.TimedTable.{IsSideOf}
+use Rattle.fw_node.proofs.MessageLaws.{sends-cause}
 use Rattle.fw_node.proofs.NodeLaws.{delivery_sends}
 use Rattle.fw_node.specs.declared.sends.Sends.TheVariants.{AtOneStamp}
 use Rattle.fw_node.proofs.NodeOfLaws.{can-send, of_node}
@@ -23,9 +26,11 @@ returns-in-Ok-clause-sent c = λ sys p settled before m at_is rec_is edge out no
     let same_arrival : arrival c.side_of-side.result c.args.at.now c.args.rec ≡ arrival (place_in ins c.args.edge) m.at m.rec =
     ap (λ n. arrival n c.args.at.now c.args.rec) side ∙ ap (λ t. arrival (place_in ins c.args.edge) t c.args.rec) (sym at_is)
     ∙ ap (λ r. arrival (place_in ins c.args.edge) m.at r) (sym rec_is) in
-    c.in-Ok.ensures.sent sys.flow k (past_of ins settled before) node.table (subst P (sym side) (node.places c.args.edge edge)) out
+    let recs = c.in-Ok.ensures.sent sys.flow k (past_of ins settled before) node.table (subst P (sym side) (node.places c.args.edge edge)) out
     ∙ ap (λ (a : Arrival). sent_if_at (send_stamp_of_kind sys.flow k a.at) (recs_for k came a)) same_arrival
-    ∙ sym (delivery_sends sys p before c.args.edge m edge node.on_edges)
+    ∙ sym (delivery_sends sys p before c.args.edge m edge node.on_edges) in
+    ap (caused_by c.args.at.now) recs ∙ ap (λ t. caused_by t (without_causes (sends sys p before (Deliver c.args.edge m)))) (sym at_is)
+    ∙ sends-cause sys p before (Deliver c.args.edge m)
 
 pub returns-in-Ok-clause-domain : goal.returns-in-Ok-clause-domain
 returns-in-Ok-clause-domain c = λ flow p w n.

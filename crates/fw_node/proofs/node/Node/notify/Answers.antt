@@ -1,4 +1,4 @@
-use Rattle.std.proofs.Common.{◌||◌, ℕ, List, ◌∙◌, subst}
+use Rattle.std.proofs.Common.{◌||◌, ℕ, List, ap, ◌∙◌, subst}
 use Rattle.std.proofs.lemmas.Result.{IfOk-weaker, on_ok_weaker}
 use Rattle.fw_time.specs.Stamp.{same}
 use Rattle.fw_flow.specs.declared.kind.Kind.{Kind}
@@ -7,6 +7,8 @@ use Rattle.fw_model.specs.Told.{is_told}
 use Rattle.fw_node.specs.Arrived.{arrived}
 use Rattle.fw_node.specs.NodeTable.{IsNodeTable}
 use Rattle.fw_node.specs.Past.{past_of}
+use Rattle.fw_node.specs.Answers.{caused_by}
+use Rattle.fw_node.proofs.MessageLaws.{messages-caused}
 use Rattle.fw_node.proofs.NodeLaws.{notice_same, numbered_after, sum_of_taken}
 use Rattle.fw_node.proofs.NodeOfLaws.{can-send, of_node}
 use Rattle.fw_node.proofs.node.Node.notify.Goals as goal
@@ -36,7 +38,7 @@ pub returns-clause-sent : goal.returns-clause-sent
 returns-clause-sent c = λ flow p settled before out untold sum node.
     let ins : List ℕ = in_edges flow p in
     let k : Kind = kind_of flow p in
-    IfOk-weaker c.notify-sent.result _ _ (λ sent e. e ∙ notice_same k ins settled before c.args.at.now)
+    IfOk-weaker c.notify-sent.result _ _ (λ sent e. messages-caused c.args.at.now sent ∙ ap (caused_by c.args.at.now) (e ∙ notice_same k ins settled before c.args.at.now))
     (c.notify-sent.ensures.sent flow k (past_of ins settled before) node.table out untold (sum_of_taken k ins settled before c.args.at.now sum))
 
 pub returns-clause-node : goal.returns-clause-node

@@ -1,23 +1,20 @@
 -- What the two parts of a collection answer.
-use Rattle.std.proofs.Common.{◌≡◌, ◌⊎◌, inl, inr, ℕ, ◌≤◌, Bool, true, false, cond, ◌||◌, ◌==◌, List, [], ◌∷◌, ◌++◌, Option, Some, None, option_map, Result, Ok, Err, refl, sym, ap, subst, ◌∙◌, arith}
+use Rattle.std.proofs.Common.{◌≡◌, ◌⊎◌, inl, inr, ℕ, ◌≤◌, Bool, true, false, ◌==◌, List, [], ◌++◌, Option, Result, Ok, Err, refl, sym, ap, subst, ◌∙◌, arith}
 use Rattle.std.specs.Prelude.{◌↔◌, IfOk, IsErrOf, IsTrue, OnOk, is_err}
-use Rattle.std.specs.FinMap as records
-use Rattle.std.specs.FinMap.{get-remove}
-use Rattle.std.specs.Cmp.{nat_cmp_total}
 use Rattle.std.specs.Option.{ForSome}
 use Rattle.std.proofs.lemmas.Bool.{both_ways}
 use Rattle.std.proofs.lemmas.List.Folds.{list_any-append}
 use Rattle.std.proofs.Math.Bool.{or-true}
-use Rattle.fw_lemmas.proofs.Orderings.{equal_by_cmp}
 use Rattle.fw_flow.specs.Dataflow.{System}
 use Rattle.fw_flow.specs.declared.step.Step.TheVariants.{Collect}
 use Rattle.fw_model.specs.Machine.{Machine}
 use Rattle.fw_choose.proofs.CollectLaws.{swept-stands, swept-tells}
 use Rattle.fw_keep.specs.Catalogue.{KeepState, AreAscending, IsCatalogue, has_entry, ids_of, is_id_among}
 use Rattle.fw_keep.specs.Faults.{keep_faults_after}
-use Rattle.fw_keep.specs.Stored.{Records, GivesNoDamage, HasEntries, IsStored, KeepsBytes, Sweeps, bytes_under, without_ids}
+use Rattle.fw_keep.specs.Stored.{Records, GivesNoDamage, HasEntries, IsStored, KeepsBytes, Sweeps, bytes_under}
 use Rattle.fw_keep.specs.declared.fault.KeepFault.{KeepFault}
 use Rattle.fw_keep.specs.declared.fault.KeepFault.TheVariants as keep_fault
+use Rattle.fw_keep.proofs.BytesLaws.{under-without_ids}
 use Rattle.fw_keep.proofs.IdLaws.{each-among}
 use Rattle.fw_outside.specs.Outside.{StoreView}
 use Rattle.fw_running.specs.declared.fault.EngineFault.{EngineFault}
@@ -93,26 +90,6 @@ raise-refused refused ascending = record {
 }
 
 -- ---- the second part
-
-kept-remove : (held : Records) (k q : ℕ) → (k == q) ≡ false → records.get (records.remove held k) q ≡ records.get held q
-kept-remove held k q apart =
-    get-remove nat_cmp_total held k q ∙ ap (λ b. cond b None (records.get held q)) (equal_by_cmp q k ∙ apart)
-
-kept-one : (held less : Records) (x q : ℕ) (others : Bool) (b : Bool) → (x == q) ≡ b → (others ≡ false → records.get less q ≡ records.get held q) → (b || others) ≡ false
-    → records.get (records.remove less x) q ≡ records.get held q
-kept-one held less x q others true e rest none = absurd cc
-kept-one held less x q others false e rest none = kept-remove less x q e ∙ rest none
-
-kept-without_ids : (held : Records) (removed : List ℕ) (q : ℕ) → is_id_among q removed ≡ false → records.get (without_ids removed held) q ≡ records.get held q
-kept-without_ids held [] q apart = refl
-kept-without_ids held (x ∷ removed) q apart =
-    kept-one held (without_ids removed held) x q (is_id_among q removed) (x == q) refl (λ none. kept-without_ids held removed q none) apart
-
--- under an id that was not removed is what was there
-under-without_ids : (all : Option Records) (removed : List ℕ) (q : ℕ) → is_id_among q removed ≡ false
-    → bytes_under q (option_map (without_ids removed) all) ≡ bytes_under q all
-under-without_ids None removed q apart = refl
-under-without_ids (Some held) removed q apart = kept-without_ids held removed q apart
 
 -- the id of an entry does not wait, nor does one that was not drawn
 none-waits : (keep : KeepState) (id : ℕ) → IsCatalogue keep → (has_entry id keep.entries ≡ true) ⊎ (keep.next ≤ id) → is_id_among id keep.waiting ≡ true → ⊥

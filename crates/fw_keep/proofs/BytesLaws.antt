@@ -80,7 +80,7 @@ kept-without_ids held [] q apart = refl
 kept-without_ids held (x ∷ removed) q apart =
     kept-one held (without_ids removed held) x q (is_id_among q removed) (x == q) refl (λ none. kept-without_ids held removed q none) apart
 
-under-without_ids : (all : Option Records) (removed : List ℕ) (q : ℕ) → is_id_among q removed ≡ false → bytes_under q (option_map (without_ids removed) all) ≡ bytes_under q all
+pub under-without_ids : (all : Option Records) (removed : List ℕ) (q : ℕ) → is_id_among q removed ≡ false → bytes_under q (option_map (without_ids removed) all) ≡ bytes_under q all
 under-without_ids None removed q apart = refl
 under-without_ids (Some held) removed q apart = kept-without_ids held removed q apart
 

@@ -19,7 +19,7 @@ pub struct Digests {
 #[derive(Clone, Copy, Debug)]
 pub struct Head {
     pub digests: Digests,
-    /// How many roots were put before it.
+    /// The number of its turn, the first being 1.
     pub turn: u64,
 }
 
@@ -27,13 +27,13 @@ pub struct Head {
 #[derive(Debug, Drop)]
 pub struct Mark {
     pub digests: Digests,
-    /// How many roots were put before this one.
+    /// The number of its turn, the first being 1.
     pub turn: u64,
     /// The line of the schedule that is done next, or of which some is done.
     pub line: u64,
     /// How many single steps of that line are done.
     pub singles: u64,
-    /// How many steps were done in all.
+    /// How many steps were counted in all.
     pub steps: u64,
     /// How many of the steps that were tried did nothing.
     pub idle: u64,

@@ -25,7 +25,7 @@ pub use fw_bag::{
     Assignment, Bag, Comparison, Condition, Field, NewValue, Rec, Recs, Selection, Term,
 };
 pub use fw_certify::{Certificate, Verdict, explain, verify};
-pub use fw_disk::DiskStore;
+pub use fw_disk::{DiskStore, Empty, Start, Unknown};
 pub use fw_edge::{MsgLog, Queue};
 pub use fw_engine::{Effect, Engine, EngineFault, Outlook, Shown, Stepped};
 pub use fw_flow::{

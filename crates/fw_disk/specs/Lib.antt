@@ -1,3 +1,4 @@
 pub mod Contents
 pub mod RunLines
 pub mod Paths
+pub mod Told

@@ -39,6 +39,8 @@ pub enum Trouble {
     Differs(Difference),
     /// The file is that of another record than this run put there.
     Foreign,
+    /// A file is there, and no record of this run.
+    Stray,
 }
 
 /// Why a call of the system was of no use.
@@ -125,6 +127,14 @@ impl Trouble {
             _ => false,
         }
     }
+
+    /// Whether the bytes of a file are not those of the record that it should have.
+    pub(crate) fn is_of_bytes(&self) -> bool {
+        match self {
+            Trouble::Differs(_) | Trouble::Foreign => true,
+            _ => false,
+        }
+    }
 }
 
 impl From<AllocError> for DiskRefusal {
@@ -184,6 +194,7 @@ impl fmt::Display for Trouble {
             Trouble::Foreign => f.write_str(
                 "not the record that this run wrote there, by its digest",
             ),
+            Trouble::Stray => f.write_str("a file that no record of this run has"),
         }
     }
 }

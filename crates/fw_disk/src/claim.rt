@@ -1,12 +1,14 @@
 //! The folder as one run has it.
-ghost use Rattle.std.specs.Prelude.{◌≡◌, ℕ, [], ◌∷◌, Some, IfOk, OnOk, IsSome};
+ghost use Rattle.std.specs.Prelude.{◌≡◌, ℕ, [], ◌∷◌, None, IfOk, OnOk, OnErr};
 ghost use Rattle.sha2.specs.Sha256.{sha256};
-ghost use Rattle.fw_disk.specs.RunLines.{digests_of, digests_in, MayStand};
+ghost use Rattle.fw_disk.specs.RunLines.{digests_of, digests_under, are_any, MayStand};
+ghost use Rattle.fw_disk.specs.Told.{HasDigestsNoted, IsClaimFor};
 
 use crate::cause::{DiskPlace, DiskRefusal, Trouble};
 use crate::contents::record_in;
 use crate::folder::{Folder, place_named};
-use crate::lines::{Digest, RunLines, line_of};
+use crate::heard::{FOUND, Heard};
+use crate::lines::{Digest, RunLines, line_of, lines_in};
 use sha2::{Digest as _, Sha256};
 use std::alloc::Global;
 use std::fs::File;
@@ -21,25 +23,129 @@ pub(crate) struct Claim {
     is_cut: bool,
 }
 
-/// Sees to it that a run has a claim on its folder: that which it has, or one that it makes now. Its lines are the same.
+/// Which folder a run wants.
+#[derive(Clone, Copy)]
+pub(crate) enum Wanted {
+    /// One without a record.
+    Empty,
+    /// One that may hold the records of an earlier run.
+    AsLeft,
+}
+
+/// A claim on such a folder.
 pub(crate) fn claim_folder<R: Files<File = File>>(
     folder: &Folder<'_, R>,
-    claim: &mut Option<Claim>,
-) -> Result<(), DiskRefusal>
-    ensures claimed { OnOk result (IsSome claim.new) }
-    ensures stay { (id : ℕ) → digests_in claim.new id ≡ digests_in claim.old id }
+    wanted: Wanted,
+) -> Result<Claim, DiskRefusal>
+    ensures { IfOk result (IsClaimFor wanted) }
 {
-    if let Some(claim) = claim {
-        return claim.check(folder);
+    match wanted {
+        Wanted::Empty => claim_empty(folder),
+        Wanted::AsLeft => claim_left(folder, &mut Heard::new()),
     }
+}
+
+// A claim on a folder that holds no record.
+fn claim_empty<R: Files<File = File>>(folder: &Folder<'_, R>) -> Result<Claim, DiskRefusal>
+    ensures { IfOk result (λ claim. (id : ℕ) → digests_of claim.lines.told id ≡ None) }
+{
     let locked = locked_empty(folder)?;
     write_run(folder, &[])?;
-    *claim = Some(Claim {
+    Ok(Claim {
         locked,
         lines: RunLines::new(folder.alloc()),
         is_cut: false,
-    });
+    })
+}
+
+/// A claim on a folder as an earlier run left it. Each record that stands there is noted, with its digest.
+pub(crate) fn claim_left<R: Files<File = File>>(
+    folder: &Folder<'_, R>,
+    heard: &mut Heard,
+) -> Result<Claim, DiskRefusal>
+    requires { heard.old.notes ≡ [] }
+    ensures { IfOk result (λ claim. HasDigestsNoted heard.new.notes claim.lines.told) }
+{
+    let locked = folder.lock()?;
+    let text = run_text(folder)?;
+    let lines = found(folder, &lines_in(folder.alloc(), &text)?, heard)?;
+    if text.is_empty() {
+        write_run(folder, &[])?;
+    }
+    Ok(Claim {
+        locked,
+        lines,
+        is_cut: !matches!(text.last(), None | Some(b'\n')),
+    })
+}
+
+// The records that stand in a folder whose file `run` has these lines, each with its digest, which is noted.
+fn found<R: Files>(
+    folder: &Folder<'_, R>,
+    lines: &RunLines,
+    heard: &mut Heard,
+) -> Result<RunLines, DiskRefusal>
+    requires { heard.old.notes ≡ [] }
+    ensures { IfOk result (λ found. HasDigestsNoted heard.new.notes found.told) }
+{
+    let mut found = RunLines::new(folder.alloc());
+    for name in &folder.record_names()? {
+        add_found(folder, lines, name, &mut found, heard)?;
+    }
+    found.add_gone(lines)?;
+    Ok(found)
+}
+
+// Adds the record that stands in the file of this name, if one does. A file without bytes that has the name of a record was to get
+// one and did not: it goes.
+fn add_found<R: Files>(
+    folder: &Folder<'_, R>,
+    lines: &RunLines,
+    name: &str,
+    found: &mut RunLines,
+    heard: &mut Heard,
+) -> Result<(), DiskRefusal>
+    requires { HasDigestsNoted heard.old.notes found.old.told }
+    ensures { OnOk result (HasDigestsNoted heard.new.notes found.new.told) }
+{
+    let place = place_named(folder.alloc(), name)?;
+    let DiskPlace::Record(id) = place else {
+        return Ok(());
+    };
+    if folder.is_empty(place)? {
+        return folder.remove(place);
+    }
+    if let Some(digest) = digest_found(folder, lines, id)? {
+        found.add(id, digest)?;
+        heard.note(&[FOUND, id], &digest);
+    }
     Ok(())
+}
+
+// The digest of the record in the file of an id: that of its line; where it has no line, or more than one, that of the bytes. None,
+// where these are of no record that may stand there.
+fn digest_found<R: Files>(
+    folder: &Folder<'_, R>,
+    lines: &RunLines,
+    id: u64,
+) -> Result<Option<Digest>, DiskRefusal> {
+    if let Some(digest) = lines.only(id) {
+        return Ok(Some(digest));
+    }
+    match record_of(folder, lines, id) {
+        Ok(bytes) => Ok(Some(Sha256::digest(&bytes))),
+        Err(DiskRefusal::Failed(cause)) if cause.trouble.is_of_bytes() => Ok(None),
+        Err(refusal) => Err(refusal),
+    }
+}
+
+/// The bytes of the file `run`; none, where it is not there.
+pub(crate) fn run_text<R: Files>(folder: &Folder<'_, R>) -> Result<Vec<u8>, DiskRefusal> {
+    match folder.read(DiskPlace::Run) {
+        Ok(text) => Ok(text),
+        Err(DiskRefusal::Failed(cause)) if cause.trouble.is_gone() => Ok(Vec::new(folder.alloc())),
+        Err(refusal) => Err(refusal),
+    }
 }
 
 /// The folder, locked, where it holds no record.
@@ -71,8 +177,11 @@ fn write_beside<R: Files>(folder: &Folder<'_, R>, text: &[u8]) -> Result<(), Dis
 }
 
 impl Claim {
-    // Whether the folder is still the locked one.
-    fn check<R: Files<File = File>>(&self, folder: &Folder<'_, R>) -> Result<(), DiskRefusal> {
+    /// Whether the folder is still the locked one.
+    pub(crate) fn check<R: Files<File = File>>(
+        &self,
+        folder: &Folder<'_, R>,
+    ) -> Result<(), DiskRefusal> {
         if folder.is_that_of(&self.locked)? {
             Ok(())
         } else {
@@ -89,12 +198,12 @@ impl Claim {
         digest: Digest,
         contents: &[u8],
     ) -> Result<(), DiskRefusal>
-        ensures stands { OnOk result (digests_of self.new.lines.told id ≡ Some (digest ∷ [])) }
+        ensures stands { OnOk result (digests_under self.new.lines.told id ≡ digest ∷ []) }
+        ensures refused { OnErr result (digests_under self.new.lines.told id ≡ digests_under self.old.lines.told id) }
+        ensures others { (other : ℕ) → (other ≡ id → ⊥) → digests_under self.new.lines.told other ≡ digests_under self.old.lines.told other }
     {
         if self.lines.are_mostly_gone() {
-            write_run(folder, self.lines.text()?.as_bytes())?;
-            self.lines.forget_gone();
-            self.is_cut = false;
+            self.write_anew(folder)?;
         }
         let has_line = self.lines.has(id);
         self.lines.add(id, digest)?;
@@ -105,6 +214,16 @@ impl Claim {
             Err(_) => self.lines.last_is_refused(id),
         }
         put
+    }
+
+    // Writes the file `run` anew, without the lines of ids that are gone.
+    fn write_anew<R: Files>(&mut self, folder: &Folder<'_, R>) -> Result<(), DiskRefusal>
+        ensures { (id : ℕ) → digests_under self.new.lines.told id ≡ digests_under self.old.lines.told id }
+    {
+        write_run(folder, self.lines.text()?.as_bytes())?;
+        self.lines.forget_gone();
+        self.is_cut = false;
+        Ok(())
     }
 
     // Writes the line of a record, and then the record.
@@ -162,13 +281,27 @@ impl Claim {
         record_of(folder, &self.lines, id)
     }
 
+    /// Whether a record stands under an id. Where there is a file and no record stands, or the other way round, that is a fault.
+    pub(crate) fn has<R: Files>(&self, folder: &Folder<'_, R>, id: u64) -> Result<bool, DiskRefusal>
+        ensures { IfOk result (λ there. there ≡ are_any (digests_under self.now.lines.told id)) }
+    {
+        let place = DiskPlace::Record(id);
+        let stands = self.lines.stands(id);
+        match (folder.has(place)?, stands) {
+            (true, false) => Err(DiskRefusal::at(place, Trouble::Stray)),
+            (false, true) => Err(DiskRefusal::at(place, Trouble::Gone)),
+            _ => Ok(stands),
+        }
+    }
+
     /// Takes the record under an id away.
     pub(crate) fn remove<R: Files>(
         &mut self,
         folder: &Folder<'_, R>,
         id: u64,
     ) -> Result<(), DiskRefusal>
-        ensures none { OnOk result (IsSome (digests_of self.old.lines.told id) → digests_of self.new.lines.told id ≡ Some []) }
+        ensures none { OnOk result (digests_under self.new.lines.told id ≡ []) }
+        ensures refused { OnErr result (self.new.lines ≡ self.old.lines) }
         ensures others { (other : ℕ) → (other ≡ id → ⊥) → digests_of self.new.lines.told other ≡ digests_of self.old.lines.told other }
     {
         folder.remove(DiskPlace::Record(id))?;

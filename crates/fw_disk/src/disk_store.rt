@@ -1,67 +1,120 @@
 //! The store.
-ghost use Rattle.std.specs.Prelude.{◌≡◌, ℕ, List, [], ◌∷◌, None, Some, IsOk, IsErr, IsSome, IfOk, OnOk, OnErr, option_map};
-ghost use Rattle.sha2.specs.Sha256.{sha256};
-ghost use Rattle.fw_disk.specs.RunLines.{digests_in, MayStandIn};
-ghost use Rattle.fw_outside.specs.Outside.{faults_after, one_more};
+ghost use Rattle.std.specs.Prelude.{◌≡◌, [], None, Some, IsOk, IsErr, IsSome, IfOk, IfSome, OnOk, OnErr, is_some, option_map};
+ghost use Rattle.std.specs.Option.{ForSome};
+ghost use Rattle.std.specs.FinMap as map;
+ghost use Rattle.fw_disk.specs.declared.claim.Wanted.TheVariants.{AsLeft};
+ghost use Rattle.fw_disk.specs.Told.{told_by, last_given, HasDigestsOf};
+ghost use Rattle.fw_outside.specs.Outside.{StayIfTold, faults_after, one_more};
 
 use crate::DiskPlace;
 use crate::cause::{DiskCall, DiskCause, DiskRefusal, Fault};
-use crate::claim::{Claim, claim_folder, locked_empty, record_of};
+use crate::claim::{Claim, Wanted, claim_folder, claim_left, locked_empty, record_of, run_text};
 use crate::contents::contents_of;
 use crate::folder::{Folder, place_named};
+use crate::heard::{GAVE, Heard, OPENED, PUT, REMOVED};
 use crate::lines::{RunLines, lines_in};
+use crate::start::{Empty, Start};
 use fw_outside::{Failed, OutFault, Store};
 use sha2::{Digest, Sha256};
 use std::alloc::{AllocError, Global};
 use std::fs::File;
+use std::marker::PhantomData;
 use std::rt::Files;
 
 /// How many faults a store notes.
 const MOST_NOTED: usize = 1000;
 
-/// The last record that a store gave.
-#[derive(Debug, Drop)]
-struct Given {
-    id: u64,
-    bytes: Vec<u8>,
-}
-
-/// A store of records in a folder of real files: that of an id is named by its decimal digits. It does not tell what it holds.
+/// A store of records in a folder of real files: that of an id is named by its decimal digits.
 ///
-/// It works for one run in one folder: the first call locks the folder, for as long as the store is there. A folder that is not
-/// there, that another process has locked, or that holds a record is a fault of each call until that is mended.
+/// It works for one run in one folder, which it locks for as long as it is there. A folder that is not there, that another process
+/// has locked, or that holds a record is a fault of each call until that is mended. A store that is reopened takes the records
+/// that are there.
 ///
 /// A record is written into a file `ID.new` and flushed to the disk before the file gets its name, by a link that never takes
 /// the place of another file; then the folder is flushed. So a loss of power between any two of these leaves under an id
 /// nothing, the whole record, or what no call takes for a record. Before a record gets its name the file `run` has a line of
 /// its id and its digest. A record that is not the one which was put under its id last, by the digest, is given by no call.
+///
+/// `S` names what the folder held when the store was opened; it is there for clauses alone. What the store tells is what its calls
+/// made of that. It keeps the digest of each record: a file that is not there, is torn or is another one's is a fault of the call,
+/// and so is a file under an id of no record. So it tells a fault, or the right thing; and it ceases to tell where a file had
+/// other bytes than were put, with the same SHA-256, and at no other call. A store that was reopened tells where the records that
+/// it found are those that `S` names, by their digests, and else nothing. That the folder held what `S` names is supposed and
+/// not looked at, beyond the digests; what the system does with files is trusted.
 #[derive(Drop)]
-pub struct DiskStore<'a, R: Files> {
+pub struct DiskStore<'a, R: Files, S: Start = Empty> {
     alloc: Global,
     folder: Folder<'a, R>,
+    wanted: Wanted,
     claim: Option<Claim>,
     noted: Vec<Fault>,
     faults: u64,
-    given: Option<Given>,
+    heard: Heard,
+    start: PhantomData<S>,
+    ghost has_digests: { ForSome (told_by S.held heard.notes) (HasDigestsOf claim wanted) },
 }
 
-impl<'a, R: Files<File = File>> DiskStore<'a, R> {
-    /// The store of a folder, which no call has reached yet.
+impl<'a, R: Files<File = File>, S: Start> DiskStore<'a, R, S> {
+    /// The store of a folder without records, which no call has reached yet.
     pub fn new(alloc: Global, files: &'a R, folder: String) -> Self
-        ensures { ⟦<DiskStore<'a, R> as Store>⟧.view result ≡ record { records = None; given = None; faults = 0 } }
+        requires { IfSome S.held (λ held. held ≡ map.empty) }
+        ensures { ⟦<DiskStore<'a, R, S> as Store>⟧.view result ≡ record { records = S.held; given = None; faults = 0 } }
     {
+        let mut heard = Heard::new();
+        heard.note(&[OPENED], &[]);
         DiskStore {
             alloc,
             folder: Folder::new(alloc, files, folder),
+            wanted: Wanted::Empty,
             claim: None,
             noted: Vec::new(alloc),
             faults: 0,
-            given: None,
+            heard,
+            start: PhantomData,
+        }
+    }
+
+    /// The store of a folder as an earlier run left it, whose records are looked at. Those of another run are found out by the file
+    /// `run`. Where the folder can't be opened now, the store tells nothing.
+    pub fn reopen(alloc: Global, files: &'a R, folder: String) -> Self
+        ensures records { StayIfTold S.held (⟦<DiskStore<'a, R, S> as Store>⟧.view result).records }
+        // Where it was opened, and what stands there is what `S` names, by the digests, it tells that.
+        ensures opened { IsSome result.claim → IfSome S.held (λ held. HasDigestsOf result.claim result.wanted held → (⟦<DiskStore<'a, R, S> as Store>⟧.view result).records ≡ Some held) }
+        ensures given { (⟦<DiskStore<'a, R, S> as Store>⟧.view result).given ≡ None }
+        ensures faults { (⟦<DiskStore<'a, R, S> as Store>⟧.view result).faults ≡ 0 }
+    {
+        let folder = Folder::new(alloc, files, folder);
+        let mut heard = Heard::new();
+        match claim_left(&folder, &mut heard) {
+            Ok(claim) => {
+                heard.note(&[OPENED], &[]);
+                DiskStore::left(alloc, folder, Some(claim), heard)
+            }
+            Err(_) => DiskStore::left(alloc, folder, None, Heard::new()),
+        }
+    }
+
+    // The store of a folder as an earlier run left it, with this claim on it.
+    fn left(alloc: Global, folder: Folder<'a, R>, claim: Option<Claim>, heard: Heard) -> Self
+        requires { ForSome (told_by S.held heard.notes) (HasDigestsOf claim AsLeft) }
+        ensures notes { result.heard.notes ≡ heard.notes }
+        ensures claim { (result.claim ≡ claim) × (result.wanted ≡ AsLeft) }
+        ensures faults { result.faults ≡ 0 }
+    {
+        DiskStore {
+            alloc,
+            folder,
+            wanted: Wanted::AsLeft,
+            claim,
+            noted: Vec::new(alloc),
+            faults: 0,
+            heard,
+            start: PhantomData,
         }
     }
 }
 
-impl<R: Files> DiskStore<'_, R> {
+impl<R: Files, S: Start> DiskStore<'_, R, S> {
     /// A line for each fault, up to a thousand, with its place and its cause, and one that tells how many more there were.
     pub fn told(&self) -> Result<String, AllocError> {
         let mut told = String::new(self.alloc);
@@ -95,13 +148,7 @@ impl<R: Files> DiskStore<'_, R> {
 
     /// The lines of `run`; none, where it is not there. Nothing is locked.
     pub fn lines(&self) -> Result<RunLines, DiskRefusal> {
-        match self.folder.read(DiskPlace::Run) {
-            Ok(text) => Ok(lines_in(self.alloc, &text)?),
-            Err(DiskRefusal::Failed(cause)) if cause.trouble.is_gone() => Ok(RunLines::new(
-                self.alloc,
-            )),
-            Err(refusal) => Err(refusal),
-        }
+        Ok(lines_in(self.alloc, &run_text(&self.folder)?)?)
     }
 
     /// The record in the file of this name, which may stand there by these lines; none, where no id has the name. Nothing is
@@ -117,19 +164,6 @@ impl<R: Files> DiskStore<'_, R> {
         }
     }
 
-    // Puts a record into an empty list, and notes that it was given.
-    fn give(&mut self, id: u64, bytes: Vec<u8>, into: &mut Vec<u8>) -> Result<(), DiskRefusal>
-        requires { into.old.items ≡ [] }
-        ensures given { OnOk result (option_map {U = ℕ × List ℕ} (λ given. (given.id, given.bytes.items)) self.new.given ≡ Some (id, into.new.items)) }
-        ensures given_stays { OnErr result (option_map {U = ℕ × List ℕ} (λ given. (given.id, given.bytes.items)) self.new.given ≡ option_map {U = ℕ × List ℕ} (λ given. (given.id, given.bytes.items)) self.old.given) }
-        ensures empty { OnErr result (into.new.items ≡ []) }
-        ensures faults { self.new.faults ≡ self.old.faults }
-    {
-        into.extend_from_slice(&bytes)?;
-        self.given = Some(Given { id, bytes });
-        Ok(())
-    }
-
     // The answer of a call; a failure is counted, and noted.
     fn answer(
         &mut self,
@@ -138,7 +172,7 @@ impl<R: Files> DiskStore<'_, R> {
         done: Result<(), DiskRefusal>,
     ) -> Result<(), OutFault>
         ensures faults { self.new.faults ≡ faults_after result self.old.faults }
-        ensures given_stays { option_map {U = ℕ × List ℕ} (λ given. (given.id, given.bytes.items)) self.new.given ≡ option_map {U = ℕ × List ℕ} (λ given. (given.id, given.bytes.items)) self.old.given }
+        ensures notes { self.new.heard.notes ≡ self.old.heard.notes }
         ensures ok { IsOk result → IsOk done }
         ensures err { IsErr result → IsErr done }
     {
@@ -155,7 +189,7 @@ impl<R: Files> DiskStore<'_, R> {
     // Counts a call that failed, and notes it.
     fn note(&mut self, call: DiskCall, id: u64, cause: DiskCause)
         ensures faults { self.new.faults ≡ one_more self.old.faults }
-        ensures given_stays { option_map {U = ℕ × List ℕ} (λ given. (given.id, given.bytes.items)) self.new.given ≡ option_map {U = ℕ × List ℕ} (λ given. (given.id, given.bytes.items)) self.old.given }
+        ensures notes { self.new.heard.notes ≡ self.old.heard.notes }
     {
         self.faults = self.faults.saturating_add(1);
         if self.noted.len() < MOST_NOTED {
@@ -164,90 +198,116 @@ impl<R: Files> DiskStore<'_, R> {
     }
 }
 
-impl<R: Files<File = File>> DiskStore<'_, R> {
+impl<R: Files<File = File>, S: Start> DiskStore<'_, R, S> {
     /// What stands in the way of a run in this folder; nothing is changed. The error is want of memory.
     pub fn obstacle(&self) -> Result<Option<DiskCause>, AllocError> {
-        match locked_empty(&self.folder) {
-            Ok(_) => Ok(None),
+        match self.stands_clear() {
+            Ok(()) => Ok(None),
             Err(DiskRefusal::Failed(cause)) => Ok(Some(cause)),
             Err(DiskRefusal::NoMemory) => Err(AllocError),
         }
     }
 
+    // Whether the folder is the one that is locked; where none is yet, whether it can be locked as it is wanted.
+    fn stands_clear(&self) -> Result<(), DiskRefusal> {
+        match (&self.claim, self.wanted) {
+            (Some(claim), _) => claim.check(&self.folder),
+            (None, Wanted::Empty) => locked_empty(&self.folder).map(|_| ()),
+            (None, Wanted::AsLeft) => self.folder.lock().map(|_| ()),
+        }
+    }
+
+    // Sees to it that this run has a claim on its folder: that which it has, or one that it makes now.
+    fn see_claim(&mut self) -> Result<(), DiskRefusal>
+        ensures claimed { OnOk result (IsSome self.new.claim) }
+        ensures notes { self.new.heard.notes ≡ self.old.heard.notes }
+        ensures faults { self.new.faults ≡ self.old.faults }
+    {
+        if let Some(claim) = &self.claim {
+            return claim.check(&self.folder);
+        }
+        self.claim = Some(claim_folder(&self.folder, self.wanted)?);
+        Ok(())
+    }
+
     // Puts a record under a new id.
     fn put_new(&mut self, id: u64, bytes: &[u8]) -> Result<(), DiskRefusal>
-        ensures stands { OnOk result (digests_in self.new.claim id ≡ Some (sha256 bytes.now ∷ [])) }
+        ensures added { OnOk result (told_by S.held self.new.heard.notes ≡ option_map (λ held. map.insert held id bytes.now) (told_by S.held self.old.heard.notes)) }
+        ensures refused { OnErr result (self.new.heard.notes ≡ self.old.heard.notes) }
+        ensures given { last_given self.new.heard.notes ≡ last_given self.old.heard.notes }
         ensures faults { self.new.faults ≡ self.old.faults }
-        ensures given { self.new.given ≡ self.old.given }
     {
         let contents = contents_of(self.alloc, bytes)?;
-        claim_folder(&self.folder, &mut self.claim)?;
+        self.see_claim()?;
         match &mut self.claim {
-            Some(claim) => claim.put(&self.folder, id, Sha256::digest(bytes), &contents),
+            Some(claim) => claim.put(&self.folder, id, Sha256::digest(bytes), &contents)?,
             None => unreachable!(),
         }
+        self.heard.note(&[PUT, id], bytes);
+        Ok(())
     }
 
-    // The record under an id.
-    fn read(&mut self, id: u64) -> Result<Vec<u8>, DiskRefusal>
-        ensures may_stand { IfOk result (λ bytes. MayStandIn self.old.claim id (sha256 bytes.items)) }
-        ensures stay { (other : ℕ) → digests_in self.new.claim other ≡ digests_in self.old.claim other }
-        ensures faults { self.new.faults ≡ self.old.faults }
-        ensures given { self.new.given ≡ self.old.given }
-    {
-        claim_folder(&self.folder, &mut self.claim)?;
-        match &self.claim {
-            Some(claim) => claim.get(&self.folder, id),
-            None => unreachable!(),
-        }
-    }
-
-    // Puts the record under an id into an empty list, and notes that it was given.
+    // Puts the record under an id into an empty list.
     fn read_into(&mut self, id: u64, into: &mut Vec<u8>) -> Result<(), DiskRefusal>
-        requires { into.old.items ≡ [] }
-        ensures given { OnOk result (option_map {U = ℕ × List ℕ} (λ given. (given.id, given.bytes.items)) self.new.given ≡ Some (id, into.new.items)) }
-        ensures given_stays { OnErr result (option_map {U = ℕ × List ℕ} (λ given. (given.id, given.bytes.items)) self.new.given ≡ option_map {U = ℕ × List ℕ} (λ given. (given.id, given.bytes.items)) self.old.given) }
+        requires empty { into.old.items ≡ [] }
+        requires there { ForSome (told_by S.held self.old.heard.notes) (λ held. IsSome (map.get held id)) }
+        ensures bytes { OnOk result (IfSome (told_by S.held self.new.heard.notes) (λ held. map.get held id ≡ Some into.new.items)) }
+        ensures given { OnOk result (last_given self.new.heard.notes ≡ Some (id, into.new.items)) }
+        ensures refused { OnErr result (self.new.heard.notes ≡ self.old.heard.notes) }
         ensures empty { OnErr result (into.new.items ≡ []) }
+        ensures stay { StayIfTold (told_by S.held self.old.heard.notes) (told_by S.held self.new.heard.notes) }
         ensures faults { self.new.faults ≡ self.old.faults }
     {
-        let bytes = self.read(id)?;
-        self.give(id, bytes, into)
+        self.see_claim()?;
+        let bytes = match &self.claim {
+            Some(claim) => claim.get(&self.folder, id)?,
+            None => unreachable!(),
+        };
+        into.extend_from_slice(&bytes)?;
+        self.heard.note(&[GAVE, id], &bytes);
+        Ok(())
     }
 
-    // Whether a file is there under an id.
+    // Whether a record is under an id.
     fn is_there(&mut self, id: u64) -> Result<bool, DiskRefusal>
-        ensures stay { (other : ℕ) → digests_in self.new.claim other ≡ digests_in self.old.claim other }
+        ensures there { IfOk result (λ there. IfSome (told_by S.held self.new.heard.notes) (λ held. there ≡ is_some (map.get held id))) }
+        ensures notes { self.new.heard.notes ≡ self.old.heard.notes }
         ensures faults { self.new.faults ≡ self.old.faults }
-        ensures given { self.new.given ≡ self.old.given }
     {
-        claim_folder(&self.folder, &mut self.claim)?;
-        self.folder.has(DiskPlace::Record(id))
+        self.see_claim()?;
+        match &self.claim {
+            Some(claim) => claim.has(&self.folder, id),
+            None => unreachable!(),
+        }
     }
 
     // Takes the record under an id out.
     fn take_out(&mut self, id: u64) -> Result<(), DiskRefusal>
-        ensures none { OnOk result (IsSome (digests_in self.old.claim id) → digests_in self.new.claim id ≡ Some []) }
-        ensures others { (other : ℕ) → (other ≡ id → ⊥) → digests_in self.new.claim other ≡ digests_in self.old.claim other }
+        ensures removed { OnOk result (told_by S.held self.new.heard.notes ≡ option_map (λ held. map.remove held id) (told_by S.held self.old.heard.notes)) }
+        ensures refused { OnErr result (self.new.heard.notes ≡ self.old.heard.notes) }
+        ensures given { last_given self.new.heard.notes ≡ last_given self.old.heard.notes }
         ensures faults { self.new.faults ≡ self.old.faults }
-        ensures given { self.new.given ≡ self.old.given }
     {
-        claim_folder(&self.folder, &mut self.claim)?;
+        self.see_claim()?;
         match &mut self.claim {
-            Some(claim) => claim.remove(&self.folder, id),
+            Some(claim) => claim.remove(&self.folder, id)?,
             None => unreachable!(),
         }
+        self.heard.note(&[REMOVED, id], &[]);
+        Ok(())
     }
 }
 
-impl<R: Files<File = File>> Store for DiskStore<'_, R> {
+impl<R: Files<File = File>, S: Start> Store for DiskStore<'_, R, S> {
     ghost view = { λ store. record {
-      records = None;
-      given = option_map (λ given. (given.id, given.bytes.items)) store.given;
+      records = told_by S.held store.heard.notes;
+      given = last_given store.heard.notes;
       faults = store.faults;
     } };
 
     /// Writes the record into a new file, and its line into `run` first. A file that is there under the id is a fault. After
-    /// a refusal what stood under the id stands there still, and else nothing, unless the new file can't be removed again.
+    /// a refusal what stood under the id stands there still, and else nothing, unless the new file can't be removed again: then
+    /// it is a fault of each call for the id.
     fn put(&mut self, id: u64, bytes: &[u8]) -> Result<(), OutFault> {
         let put = self.put_new(id, bytes);
         self.answer(DiskCall::Put, id, put)
@@ -261,7 +321,8 @@ impl<R: Files<File = File>> Store for DiskStore<'_, R> {
         self.answer(DiskCall::Get, id, got)
     }
 
-    /// Whether there is a file, which opens. One that does not is a fault, and so is want of memory.
+    /// Whether a record is there, and its file, which opens. One without the other is a fault, as is a file that does not open,
+    /// and want of memory.
     fn has(&mut self, id: u64) -> Result<bool, Failed> {
         match self.is_there(id) {
             Ok(there) => Ok(there),

@@ -132,6 +132,15 @@ impl<'a, R: Files> Folder<'a, R> {
         }
     }
 
+    /// Whether a file has no bytes.
+    pub(crate) fn is_empty(&self, place: DiskPlace) -> Result<bool, DiskRefusal> {
+        let path = self.path(place)?;
+        let there = fs::metadata(self.files, path.as_str()).map_err(|error| DiskRefusal::of(
+            place, error,
+        ))?;
+        Ok(there.is_file() && there.len() == 0)
+    }
+
     /// The bytes of a file.
     pub(crate) fn read(&self, place: DiskPlace) -> Result<Vec<u8>, DiskRefusal> {
         let path = self.path(place)?;

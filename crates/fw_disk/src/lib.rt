@@ -6,9 +6,12 @@ mod claim;
 mod contents;
 mod disk_store;
 mod folder;
+mod heard;
 mod lines;
+mod start;
 
 pub use cause::{DiskCall, DiskCause, DiskPlace, DiskRefusal, Fault, Trouble};
 pub use contents::Difference;
 pub use disk_store::DiskStore;
 pub use lines::RunLines;
+pub use start::{Empty, Start, Unknown};

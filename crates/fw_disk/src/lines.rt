@@ -1,6 +1,6 @@
 //! The lines of the file `run`: of each record its id and its digest.
 ghost use Rattle.std.specs.Prelude.{◌≡◌, ◌↔◌, ℕ, List, [], ◌∷◌, Some, None, IsTrue, IsSome, IfOk, OnOk, OnErr, unwrap_or, string_bytes};
-ghost use Rattle.fw_disk.specs.RunLines.{digest_line, digests_of, MayStand};
+ghost use Rattle.fw_disk.specs.RunLines.{digest_line, digests_of, digests_under, are_any, MayStand};
 
 use hex::FromHex;
 use std::alloc::{AllocError, Global};
@@ -39,6 +39,24 @@ impl RunLines {
         self.told.contains_key(&id)
     }
 
+    /// Whether a record stands under an id.
+    pub(crate) fn stands(&self, id: u64) -> bool
+        ensures { result ≡ are_any (digests_under self.now.told id) }
+    {
+        match self.told.get(&id) {
+            Some(digests) => !digests.is_empty(),
+            None => false,
+        }
+    }
+
+    /// The digest of an id that has one alone.
+    pub(crate) fn only(&self, id: u64) -> Option<Digest> {
+        match self.told.get(&id)?.as_slice() {
+            [digest] => Some(*digest),
+            _ => None,
+        }
+    }
+
     /// Whether a record with this digest may stand under an id: it has no line, or this one.
     pub(crate) fn may_stand(&self, id: u64, digest: &Digest) -> bool
         ensures { IsTrue result ↔ MayStand self.now.told id digest.now }
@@ -62,6 +80,28 @@ impl RunLines {
         let mut digests = Vec::new(self.alloc);
         digests.push(digest)?;
         self.told.insert(id, digests)?;
+        Ok(())
+    }
+
+    /// Gives a line to each id that has one in others and none here. No record stands under it.
+    pub(crate) fn add_gone(&mut self, others: &RunLines) -> Result<(), AllocError>
+        ensures { OnOk result ((id : ℕ) → digests_under self.new.told id ≡ digests_under self.old.told id) }
+    {
+        for id in others.told.keys() {
+            self.add_line(*id)?;
+        }
+        Ok(())
+    }
+
+    // Gives a line to an id that has none.
+    fn add_line(&mut self, id: u64) -> Result<(), AllocError>
+        ensures { OnOk result ((other : ℕ) → digests_under self.new.told other ≡ digests_under self.old.told other) }
+    {
+        if self.has(id) {
+            return Ok(());
+        }
+        self.told.insert(id, Vec::new(self.alloc))?;
+        self.gone = self.gone.saturating_add(1);
         Ok(())
     }
 
@@ -92,7 +132,7 @@ impl RunLines {
 
     /// No record stands under an id any more.
     pub(crate) fn is_removed(&mut self, id: u64)
-        ensures none { IsSome (digests_of self.old.told id) → digests_of self.new.told id ≡ Some [] }
+        ensures none { digests_under self.new.told id ≡ [] }
         ensures others { (other : ℕ) → (other ≡ id → ⊥) → digests_of self.new.told other ≡ digests_of self.old.told other }
     {
         self.gone = self.gone.saturating_add(1);
@@ -107,7 +147,9 @@ impl RunLines {
     }
 
     /// Takes out the ids that are gone.
-    pub(crate) fn forget_gone(&mut self) {
+    pub(crate) fn forget_gone(&mut self)
+        ensures { (id : ℕ) → digests_under self.new.told id ≡ digests_under self.old.told id }
+    {
         self.told.retain(|_, digests| !digests.is_empty());
         self.gone = 0;
     }

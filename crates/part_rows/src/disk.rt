@@ -1,5 +1,5 @@
 //! A store on disk, and the files under it.
-use fw_disk::DiskStore;
+use fw_disk::{DiskStore, Unknown};
 use fw_outside::{Failed, OutFault, Store};
 use row_words::{Answers, NoAnswer, Row, bytes_of, part, tell_row};
 use std::alloc::{AllocError, Global};
@@ -14,7 +14,7 @@ struct OnDisk<'a, R: Files> {
     alloc: Global,
     files: &'a R,
     folder: &'a str,
-    store: DiskStore<'a, R>,
+    store: DiskStore<'a, R, Unknown>,
 }
 
 /// Tells what became of each call. The name of the row is that of the folder of its store.
@@ -47,10 +47,24 @@ impl<R: Files<File = File>> Answers for OnDisk<'_, R> {
             "remove" => remove(&mut self.store, first, said),
             "many" => many(&mut self.store, first, words, said),
             "other" => other(self.alloc, self.files, self.folder, first, said),
+            "again" => self.reopen(said),
             "told" => say_told(&self.store, said),
             "file" => say_file(self.alloc, self.files, first, said),
             _ => beside(self.alloc, self.files, word, first, words, said),
         }
+    }
+}
+
+impl<R: Files<File = File>> OnDisk<'_, R> {
+    /// Another store over the folder takes the place of the one that is there, and finds what it left.
+    fn reopen(&mut self, said: &mut String) -> Result<(), NoAnswer> {
+        // the lock goes with the store that has it
+        let folder = String::from_str(self.alloc, self.folder)?;
+        self.store = DiskStore::new(self.alloc, self.files, folder);
+        let folder = String::from_str(self.alloc, self.folder)?;
+        self.store = DiskStore::reopen(self.alloc, self.files, folder);
+        said.push_str("done")?;
+        Ok(())
     }
 }
 
@@ -72,7 +86,7 @@ fn say_became(
 /// A record is put.
 fn put<R: Files<File = File>>(
     alloc: Global,
-    store: &mut DiskStore<'_, R>,
+    store: &mut DiskStore<'_, R, Unknown>,
     id: &str,
     words: &str,
     said: &mut String,
@@ -85,7 +99,7 @@ fn put<R: Files<File = File>>(
 /// A record is got, with the bytes that the store gives.
 fn get<R: Files<File = File>>(
     alloc: Global,
-    store: &mut DiskStore<'_, R>,
+    store: &mut DiskStore<'_, R, Unknown>,
     id: &str,
     said: &mut String,
 ) -> Result<(), NoAnswer> {
@@ -98,7 +112,7 @@ fn get<R: Files<File = File>>(
 
 /// Whether a record is there.
 fn has<R: Files<File = File>>(
-    store: &mut DiskStore<'_, R>,
+    store: &mut DiskStore<'_, R, Unknown>,
     id: &str,
     said: &mut String,
 ) -> Result<(), NoAnswer> {
@@ -113,7 +127,7 @@ fn has<R: Files<File = File>>(
 
 /// A record is removed.
 fn remove<R: Files<File = File>>(
-    store: &mut DiskStore<'_, R>,
+    store: &mut DiskStore<'_, R, Unknown>,
     id: &str,
     said: &mut String,
 ) -> Result<(), NoAnswer> {
@@ -123,7 +137,7 @@ fn remove<R: Files<File = File>>(
 
 /// Records without bytes are put and removed under so many ids, up to the first refusal.
 fn many<R: Files<File = File>>(
-    store: &mut DiskStore<'_, R>,
+    store: &mut DiskStore<'_, R, Unknown>,
     first: &str,
     count: &str,
     said: &mut String,
@@ -150,14 +164,15 @@ fn other<R: Files<File = File>>(
     id: &str,
     said: &mut String,
 ) -> Result<(), NoAnswer> {
-    let mut other = DiskStore::new(alloc, files, String::from_str(alloc, folder)?);
+    let folder = String::from_str(alloc, folder)?;
+    let mut other: DiskStore<'_, R, Unknown> = DiskStore::new(alloc, files, folder);
     let became = other.put(id.parse::<u64>()?, &[]);
     say_became(became, other.faults(), said)
 }
 
 /// The lines of the faults so far, with a bar between them.
 fn say_told<R: Files<File = File>>(
-    store: &DiskStore<'_, R>,
+    store: &DiskStore<'_, R, Unknown>,
     said: &mut String,
 ) -> Result<(), NoAnswer> {
     let mut is_first = true;

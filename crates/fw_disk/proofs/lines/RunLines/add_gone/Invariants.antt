@@ -1,0 +1,6 @@
+use Rattle.std.proofs.Common.{◌≡◌, ℕ}
+use Rattle.fw_disk.specs.RunLines.{digests_under}
+use Rattle.fw_disk.proofs.lines.RunLines.add_gone.Given as goal
+
+abbrev pub invariant-loop-id : goal.invariant-loop-id
+invariant-loop-id l = (other : ℕ) → digests_under l.self.told other ≡ digests_under l.fn.self.told other

@@ -23,7 +23,7 @@ use Rattle.fw_engine.specs.Engine as engine
 use Rattle.fw_engine.specs.Engine.{StandsFor, EngineAnswers, FirstAnswers, RaiseAnswers, SweepAnswers}
 use Rattle.fw_hold.specs.Engine.{Standings, LeavesHeld, StepsHeld, StepsFirstHeld, SweepsHeld}
 use Rattle.fw_held.specs.declared.restartable.RestartableEngine.{RestartableEngine}
-use Rattle.fw_held.proofs.StoreLaws.{drawn-few, few-outside, idle-next, none-told, stored-there}
+use Rattle.fw_held.proofs.StoreLaws.{drawn-few, drawn-outside, idle-next, none-told, stored-there}
 
 -- what is told of one
 abbrev pub stand_of : Standings RestartableEngine
@@ -55,7 +55,7 @@ module _ {K : Type 0} {view : K → StoreView} {old new : RestartableEngine} {mi
       record {
         flow = flow ∙ shared.flow;
         stored = stored-there (keep_of new) (view after).records stored;
-        outside = few-outside few d;
+        outside = drawn-outside d;
         drawn = omega (arith, few, drawn);
         never_back = d.never_back;
         faults = faults;
@@ -74,6 +74,7 @@ module _ {K : Type 0} {view : K → StoreView} {old new : RestartableEngine} {mi
         shows = λ sys state s. a.shows sys state (stands sys state s);
         idle = a.idle other;
         none_drawn = λ e. idle-next (length (engine.flow_of mid).nodes) result draws e ∙ shared-next shared;
+        damaged = λ id e. let d = a.damaged id e in (d.bytes, d.gave);
         in_recovery = a.in_recovery;
         unharmed = λ id sys state s e told. none-told (view after).records (a.unharmed id sys state (stands sys state s) e).0 told;
       }
@@ -100,6 +101,7 @@ module _ {K : Type 0} {view : K → StoreView} {old new : RestartableEngine} {mi
     stored = stored-there (keep_of new) (view after).records a.stored;
     next = a.next ∙ shared-next shared;
     stands = λ sys state s. anyway result (a.stands sys state (shared.stands (view before).records sys state s));
+    swept = a.swept;
     told_before = λ told. sym a.tells ∙ told;
     others = λ told id held. a.others id (subst (λ (k : KeepState). (has_entry id k.entries ≡ true) ⊎ (k.next ≤ id)) (sym shared.keep) held);
     faults = a.faults;
@@ -127,6 +129,7 @@ module _ {K : Type 0} {view : K → StoreView} {old new : RestartableEngine} {mi
             (λ stepped f. (f.next, f.steps)) (ok sys state (shared.stands records sys state s));
         idle = λ e. refl;
         none_drawn = λ e. a.next ∙ shared-next shared;
+        damaged = λ id e. absurd (no_damage result id undamaged e);
         in_recovery = λ id e. absurd (no_damage result id undamaged e);
         unharmed = λ id sys state s e told. no_damage result id undamaged e;
       }

@@ -1,5 +1,5 @@
 -- What an engine answers that starts again, by what it is made of.
-use Rattle.std.proofs.Common.{◌≡◌, ℕ, Option, Some, None, IsSome, Ok, Err, refl, sym, ap, subst, ◌∙◌}
+use Rattle.std.proofs.Common.{◌≡◌, ℕ, List, Option, Some, None, IsSome, Ok, Err, refl, sym, ap, subst, ◌∙◌}
 use Rattle.fw_outside.specs.Outside.{StoreView, StayIfTold}
 use Rattle.fw_flow.specs.declared.choice.Choice.{Choice}
 use Rattle.fw_flow.specs.declared.step.Step.TheVariants.{Recover}
@@ -25,10 +25,9 @@ use Rattle.fw_running.specs.Held.{AnswersHeld, RecoversHeld}
 use Rattle.fw_running.specs.Stands.{Stands}
 use Rattle.fw_running.specs.Steps.{Follows, StepAnswers, Trusts, outcome_of}
 use Rattle.fw_resume.proofs.StayLaws.{down_has_the_same_writes}
-use Rattle.fw_resume.specs.Named as resumed
-use Rattle.fw_resume.specs.Resumed.{Resumes}
+use Rattle.fw_resume.specs.Resumed.{Resumes, TellsDamaged}
 use Rattle.fw_engine.specs.Engine as engine
-use Rattle.fw_hold.specs.Engine.{HasEntries, KeepsOutside, ResumesHeld, Restores}
+use Rattle.fw_hold.specs.Engine.{EntriesAreThere, GaveBytes, KeepsOutside, ResumesHeld, RestoresAll}
 use Rattle.fw_held.specs.declared.restartable.RestartableEngine.{RestartableEngine}
 use Rattle.fw_held.proofs.HeldStepLaws.{stand_of, keep_of, flow_of}
 use Rattle.fw_held.proofs.StoreLaws.{none-outside, none-told, same-next, stays-outside, stored-there}
@@ -52,7 +51,7 @@ restored sys state next (did effect) well reached leads =
 -- so does the engine
 restores : (sys : System) (state : Machine) (stepped : Stepped) (running : Running) (made : RestartableEngine) (records : Option Records)
     → engine.running_of made.engine ≡ running → IsWellFormedSystem sys → IsReached sys state
-    → Follows sys (down sys state) Recover (outcome_of stepped) running records → Restores stand_of sys state (outcome_of stepped) made records
+    → Follows sys (down sys state) Recover (outcome_of stepped) running records → RestoresAll stand_of sys state (outcome_of stepped) made records
 restores sys state stepped running made records runs well reached f =
     let r = restored sys state f.next (outcome_of stepped) well reached f.steps in
     (f.next, r.0, r.1, r.2, subst (λ (x : Running). Stands sys x records f.next) (sym runs) f.stands)
@@ -60,45 +59,52 @@ restores sys state stepped running made records runs well reached f =
 -- what is told of the states of which the root is one, and whose writes the records hold
 abbrev FromRoot : Dataflow → Given → Root → Option Records → (Machine → Type 0) → Type 0
 FromRoot flow batches root records P = (state : Machine) → IsReached (system_of flow batches) state → IsRootOf (system_of flow batches) state root
-    → resumed.AreNamed (system_of flow batches) (down (system_of flow batches) state) root records → P state
+    → AreNamed (system_of flow batches) (down (system_of flow batches) state) root records → P state
 
 -- they hold those of the state in which every node is failed
 left : (sys : System) (state : Machine) (root : Root) (records : Option Records) → AreNamed sys state root records
-    → resumed.AreNamed sys (down sys state) root records
-left sys state root records n =
-    (down_has_the_same_writes sys state root records).0 (record { entries = n.entries; ids = n.ids; stand = n.stand; bases = n.bases; stored = n.stored })
+    → AreNamed sys (down sys state) root records
+left sys state root records n = (down_has_the_same_writes sys state root records).0 n
 
 -- ---- where a fault is answered
 
 module _ {K : Type 0} {view : K → StoreView} {flow : Dataflow} {batches : Given} {root : Root} where
   failed : {before after : K} (e : EngineFault) → KeepsOutside 0 0 (view before).records (view after).records
       → (view after).faults ≡ faults_after_step {T = RestartableEngine × Stepped} (Err e) (view before).faults
+      → ((id : ℕ) → e ≡ fault.Damaged id → GaveBytes id (view after).given)
       → FromRoot flow batches root (view before).records (λ state. IsSome (view after).records → (id : ℕ) → e ≡ fault.Damaged id → ⊥)
       → ResumesHeld view stand_of keep_of flow_of flow batches root before (Err e) after
-  failed {before} {after} e stays faults unharmed = record {
+  failed {before} {after} e stays faults gave unharmed = record {
     runs = tt;
     stored = tt;
     next = tt;
     stays = stays;
     restores = λ state reached of named told. tt;
+    damaged = λ id is. gave id (cc);
     unharmed = λ id state reached of named told is. unharmed state reached of (left (system_of flow batches) state root (view before).records named) told id (cc);
     faults = faults;
   }
 
   -- by the root and its records
   pub resume-failed : {before after : K} (e : EngineFault) → StayIfTold (view before).records (view after).records
-      → (view after).faults ≡ faults_after_step {T = Running} (Err e) (view before).faults
+      → (view after).faults ≡ faults_after_step {T = Running} (Err e) (view before).faults → TellsDamaged flow root (view after).given (Err e)
       → FromRoot flow batches root (view before).records (λ state. IsSome (view after).records
       → Resumes (system_of flow batches) (down (system_of flow batches) state) (view after).records (Err e))
       → ResumesHeld view stand_of keep_of flow_of flow batches root before (Err e) after
-  resume-failed {before} {after} e stay faults held =
+  resume-failed {before} {after} e stay faults gave held =
       failed e (stays-outside (view before).records (view after).records stay) (faults ∙ same-count e (view before).faults)
+      (gave-bytes e (view after).given gave)
       (λ state reached of named told. undamaged e state (held state reached of named told))
     where
       same-count : (e : EngineFault) (n : ℕ) → faults_after_step {T = Running} (Err e) n ≡ faults_after_step {T = RestartableEngine × Stepped} (Err e) n
       same-count fault.StoreFault n = refl
       same-count (fault.Damaged id) n = refl
       same-count fault.NoMemory n = refl
+
+      gave-bytes : (e : EngineFault) (given : Option (ℕ × List ℕ)) → TellsDamaged flow root given (Err e) → (id : ℕ) → e ≡ fault.Damaged id → GaveBytes id given
+      gave-bytes fault.StoreFault given t id is = absurd (cc)
+      gave-bytes (fault.Damaged at) given t id is = let same : at ≡ id = cc in (t.bytes, t.gave ∙ ap (λ n. Some (n, t.bytes)) same)
+      gave-bytes fault.NoMemory given t id is = absurd (cc)
 
       undamaged : (e : EngineFault) (state : Machine)
           → Resumes (system_of flow batches) (down (system_of flow batches) state) (view after).records (Err e) → (id : ℕ) → e ≡ fault.Damaged id → ⊥
@@ -116,6 +122,7 @@ module _ {K : Type 0} {view : K → StoreView} {flow : Dataflow} {batches : Give
       → ResumesHeld view stand_of keep_of flow_of flow batches root before (Err e) after
   recover-failed {before} {mid} {after} running new e stay same held a recovers draws =
       failed e (none-outside stay draws) (a.faults ∙ ap (faults_after_step {T = Stepped} (Err e)) same ∙ same-count e (view before).faults)
+      (λ id is. let d = a.damaged id (ap Err is) in (d.bytes, d.gave))
       (λ state reached of named told. undamaged e state told
       (recovers (system_of flow batches) (down (system_of flow batches) state) (held state reached of named (a.told_before told))))
     where
@@ -144,12 +151,13 @@ module _ {K : Type 0} {view : K → StoreView} {flow : Dataflow} {batches : Give
       let sys = system_of flow batches in
       record {
         runs = ap (λ (r : Running). r.flow) is ∙ a.flow ∙ runs;
-        stored = subst (λ (r : Running). HasEntries r.parts.keep (view after).records) (sym is) (stored-there new.parts.keep (view after).records a.stored);
+        stored = subst (λ (r : Running). EntriesAreThere r.parts.keep (view after).records) (sym is) (stored-there new.parts.keep (view after).records a.stored);
         next = ap (λ (r : Running). r.parts.keep.next) is ∙ same-next draws ∙ next;
         stays = none-outside stay draws;
         restores = λ state reached of named told.
             restores sys state stepped new made (view after).records is well reached
             (recovers sys (down sys state) (held state reached of (left (system_of flow batches) state root (view before).records named) (a.told_before told)) (trusts-told sys (down sys state) (view after).records told));
+        damaged = λ id e. absurd (cc);
         unharmed = λ id state reached of named told e. absurd (cc);
         faults = a.faults ∙ same;
       }

@@ -1,20 +1,20 @@
 -- What a root says of an engine from which a run can start again.
-use Rattle.std.proofs.Common.{◌≡◌, ℕ, ◌<◌, ◌^◌, Bool, true, false, cond, List, [], ◌∷◌, map, filter, Option, Result, Ok, Err, sym, subst}
+use Rattle.std.proofs.Common.{◌≡◌, ℕ, ◌<◌, ◌^◌, Bool, true, false, cond, not, List, [], ◌∷◌, map, filter, Option, Result, Ok, Err, sym, subst}
 use Rattle.std.specs.Prelude.{IfOk}
 use Rattle.std.specs.List.{AllByRecursion, Contains}
-use Rattle.std.proofs.lemmas.List.Elements.{All-contains, All-from_recursion}
+use Rattle.std.proofs.lemmas.List.Elements.{All-contains, All-from_recursion, Contains-append_right}
+use Rattle.std.proofs.lemmas.List.Sorted.{Contains-permutation}
 use Rattle.fw_flow.specs.Dataflow.{System, system_of}
 use Rattle.fw_model.specs.Machine.{Machine}
 use Rattle.fw_keep.specs.Catalogue.{IsCatalogue, has_entry, ids_of}
 use Rattle.fw_keep.specs.Stored.{Records}
 use Rattle.fw_keep.specs.declared.entry.Entry.{Entry}
 use Rattle.fw_keep.proofs.IdLaws.{among-self}
-use Rattle.fw_named.specs.Named.{named_ids}
+use Rattle.fw_named.specs.Named.{AreNamed, named_ids}
 use Rattle.fw_regain.specs.Down.{down}
 use Rattle.fw_regain.specs.RootOf.{IsRootOf}
 use Rattle.fw_resume.proofs.StayLaws.{down_has_the_same_writes}
-use Rattle.fw_resume.specs.Named as resumed
-use Rattle.fw_resume.specs.Names.{name_of}
+use Rattle.fw_resume.specs.Names.{name_of, other_ids}
 use Rattle.fw_resume.specs.RootTold.{IsToldBy}
 use Rattle.fw_root.specs.OfFlow.{Given}
 use Rattle.fw_root.specs.Sound.{IsMark, IsRootFor}
@@ -54,11 +54,17 @@ named-entry running root id told there =
     name-there running.parts.keep.entries (λ (e : Entry). e.acknowledged) id
     (subst (λ (ws : List NamedWrite). Contains (map (λ (w : NamedWrite). w.id) ws) id) told.ids.writes there)
 
+-- an id that waits is one of its others
+waits-there : (running : Running) (root : Root) (id : ℕ) → IsToldBy running root → Contains running.parts.keep.waiting id → Contains root.others id
+waits-there running root id told there =
+    Contains-permutation (other_ids running.parts.keep) root.others id told.ids.others.same
+    (Contains-append_right (ids_of (filter (λ (e : Entry). not e.acknowledged) running.parts.keep.entries)) running.parts.keep.waiting id there)
+
 root-told : {E : Type 0} (made : RestartableEngine) (mark : Mark) (result : Result Root E) → IsCatalogue (keep_of made)
     → IfOk result (λ root. root.mark ≡ mark) → IfOk result (IsToldBy (engine.running_of made.engine))
     → ((sys : System) (records : Option Records) (state : Machine) → stand_of sys made records state → IfOk result (IsRootOf sys state))
     → ((sys : System) (records : Option Records) (state : Machine) → stand_of sys made records state
-    → IfOk result (λ root. resumed.AreNamed sys (down sys state) root records))
+    → IfOk result (λ root. AreNamed sys (down sys state) root records))
     → ((batches : Given) (records : Option Records) (state : Machine) → stand_of (system_of (flow_of made) batches) made records state → IsMark mark
     → (keep_of made).next < 2 ^ 62 → IfOk result (IsRootFor (flow_of made) batches))
     → IfOk result (IsRootIn stand_of keep_of flow_of made mark)
@@ -68,10 +74,9 @@ root-told made mark (Ok root) well marked told of named sound = record {
   next = told.ids.next;
   entries = λ id there. named-entry (engine.running_of made.engine) root id told there;
   drawn = λ id there. entry-drawn (keep_of made) id well (named-entry (engine.running_of made.engine) root id told there);
+  waits = λ id there. waits-there (engine.running_of made.engine) root id told there;
   of_state = of;
-  named = λ sys records state s.
-      let n = (down_has_the_same_writes sys state root records).1 (named sys records state s) in
-      record { entries = n.entries; ids = n.ids; stand = n.stand; bases = n.bases; stored = n.stored };
+  named = λ sys records state s. (down_has_the_same_writes sys state root records).1 (named sys records state s);
   of_flow = sound;
 }
 
@@ -80,7 +85,7 @@ pub root-held : {E : Type 0} (made : RestartableEngine) (mark : Mark) (result : 
     → IsCatalogue running.parts.keep → IfOk result (λ root. root.mark ≡ mark) → IfOk result (IsToldBy running)
     → ((sys : System) (records : Option Records) (state : Machine) → Stands sys running records state → IfOk result (IsRootOf sys state))
     → ((sys : System) (records : Option Records) (state : Machine) → Stands sys running records state
-    → IfOk result (λ root. resumed.AreNamed sys (down sys state) root records))
+    → IfOk result (λ root. AreNamed sys (down sys state) root records))
     → ((batches : Given) (records : Option Records) (state : Machine) → Stands (system_of running.flow batches) running records state → IsMark mark
     → running.parts.keep.next < 2 ^ 62 → IfOk result (IsRootFor running.flow batches))
     → IfOk result (IsRootIn stand_of keep_of flow_of made mark)

@@ -1,5 +1,5 @@
 -- What a store has of the writes of an engine, and what stays of it.
-use Rattle.std.proofs.Common.{◌≡◌, ◌⊎◌, inl, inr, ℕ, ◌+◌, ◌<◌, ◌≤◌, true, List, [], ◌∷◌, map, Option, Some, None, IsSome, Result, Ok, Err, length, refl, sym, ap, subst, ◌∙◌, arith}
+use Rattle.std.proofs.Common.{◌≡◌, ◌⊎◌, inl, inr, ℕ, ◌<◌, ◌≤◌, true, List, [], ◌∷◌, map, Option, Some, None, IsSome, Result, Ok, Err, length, refl, sym, ap, subst, ◌∙◌, arith}
 use Rattle.std.specs.FinMap as map_of
 use Rattle.std.specs.List.{AllByRecursion}
 use Rattle.std.specs.Option.{ForSome}
@@ -26,20 +26,20 @@ use Rattle.fw_running.specs.declared.stepped.Stepped.TheVariants.{Did, Idle}
 use Rattle.fw_running.specs.Drawn.{DrawsAtMost, may_draw}
 use Rattle.fw_running.specs.Stands.{Stands}
 use Rattle.fw_running.proofs.SameStateLaws.{keep-stands}
-use Rattle.fw_hold.specs.Engine.{HasEntries, KeepsEntries, KeepsOutside}
+use Rattle.fw_hold.specs.Engine.{EntriesAreThere, KeepsEntryBytes, KeepsOutside}
 
 -- ---- a record under each entry's id
 
-pub stored-there : (keep : KeepState) (records : Option Records) → IsStored keep records → HasEntries keep records
+pub stored-there : (keep : KeepState) (records : Option Records) → IsStored keep records → EntriesAreThere keep records
 stored-there keep records stored = λ held told.
     each-weaker (λ id. has_entry id keep.entries ≡ true) (λ id. IsSome (map_of.get held id)) (ids_of keep.entries) (λ id there. (stored held told).0 id there)
     (among-self (ids_of keep.entries))
 
-pub there-stored : (keep : KeepState) (records : Option Records) → HasEntries keep records → ForSome records (stored.HasEntries keep)
+pub there-stored : (keep : KeepState) (records : Option Records) → EntriesAreThere keep records → ForSome records (stored.HasEntries keep)
 there-stored keep records there = λ held told id has. each-among (λ id. IsSome (map_of.get held id)) (ids_of keep.entries) id (there held told) has
 
 -- where there is no entry, nothing need be there
-pub none-there : (keep : KeepState) (records : Option Records) → keep.entries ≡ [] → HasEntries keep records
+pub none-there : (keep : KeepState) (records : Option Records) → keep.entries ≡ [] → EntriesAreThere keep records
 none-there keep records none = subst (λ (es : List Entry). AreThere (ids_of es) records) (sym none) (λ held told. tt)
 
 -- there is one under the id of each write
@@ -81,18 +81,10 @@ none-outside {old} {new} {before} {mid} {after} stay d = record {
 pub same-next : {old new : KeepState} {before after : Option Records} → DrawsAtMost 0 old new before after → new.next ≡ old.next
 same-next d = let few = d.few in let back = d.never_back in omega (arith, few, back)
 
--- where a few ids were drawn
-pub few-outside : {n : ℕ} {old new : KeepState} {before after : Option Records} → n ≤ 256 → DrawsAtMost n old new before after
-    → KeepsOutside old.next (old.next + 256) before after
-few-outside {n} {old} {new} {before} {after} most d =
-    let few = d.few in
-    record {
-      told_before = d.told_before;
-      others = λ told id apart. d.others told id (elim apart as (λ side. (id < old.next) ⊎ (new.next ≤ id)) [
-        | inl l ↦ inl l
-        | inr past ↦ inr (omega (arith, most, few, past))
-      ]);
-    }
+-- where ids were drawn
+pub drawn-outside : {n : ℕ} {old new : KeepState} {before after : Option Records} → DrawsAtMost n old new before after
+    → KeepsOutside old.next new.next before after
+drawn-outside d = record { told_before = d.told_before; others = d.others }
 
 -- a step draws no more than there may be nodes
 pub drawn-few : (flow : Dataflow) (result : Result Stepped EngineFault) → IsWellFormed flow → may_draw (length flow.nodes) result ≤ 256
@@ -107,10 +99,10 @@ idle-next {old} {new} {before} {after} n result d e =
 
 -- ---- whatever others put or remove
 
-entry-bytes : (keep : KeepState) (old new : Records) → KeepsEntries keep (Some old) (Some new) → KeepsBytes keep.entries (Some old) (Some new)
+entry-bytes : (keep : KeepState) (old new : Records) → KeepsEntryBytes keep (Some old) (Some new) → KeepsBytes keep.entries (Some old) (Some new)
 entry-bytes keep old new k = λ e there. k.entries refl e.id (entry-there keep.entries e there)
 
-over-stored : (sys : System) (state : Machine) (keep : KeepState) (old new : Option Records) → KeepsEntries keep old new
+over-stored : (sys : System) (state : Machine) (keep : KeepState) (old new : Option Records) → KeepsEntryBytes keep old new
     → AreStored sys state old keep.entries (uncollected state) → AreStored sys state new keep.entries (uncollected state)
 over-stored sys state keep old None k stored = λ held told. absurd (cc)
 over-stored sys state keep None (Some new) k stored = let no = k.told_before refl in absurd (cc)
@@ -118,7 +110,7 @@ over-stored sys state keep (Some old) (Some new) k stored =
     kept_bytes_are_stored sys state keep.entries (uncollected state) (Some old) (Some new) (λ held. new) refl (entry-bytes keep old new k) stored
 
 -- it stands where it stood
-pub over-stands : (sys : System) (state : Machine) (running : Running) (old new : Option Records) → KeepsEntries running.parts.keep old new
+pub over-stands : (sys : System) (state : Machine) (running : Running) (old new : Option Records) → KeepsEntryBytes running.parts.keep old new
     → Stands sys running old state → Stands sys running new state
 over-stands sys state running old new k s =
     keep-stands sys running running.parts.keep old new state s refl (over-stored sys state running.parts.keep old new k s.apart.stored)
@@ -127,13 +119,13 @@ over-stands sys state running old new k s =
 over-some : (id : ℕ) (old new : Records) → bytes_under id (Some new) ≡ bytes_under id (Some old) → IsSome (map_of.get old id) → IsSome (map_of.get new id)
 over-some id old new same there = subst (λ (o : Option (List ℕ)). IsSome o) (sym same) there
 
-pub over-there : (keep : KeepState) (old new : Option Records) → KeepsEntries keep old new → HasEntries keep old → HasEntries keep new
+pub over-there : (keep : KeepState) (old new : Option Records) → KeepsEntryBytes keep old new → EntriesAreThere keep old → EntriesAreThere keep new
 over-there keep old None k there = λ held told. absurd (cc)
 over-there keep None (Some new) k there = let no = k.told_before refl in absurd (cc)
 over-there keep (Some old) (Some new) k there =
     stored-some keep new (λ id has. over-some id old new (k.entries refl id has) (there-stored keep (Some old) there old refl id has))
   where
-    stored-some : (keep : KeepState) (new : Records) → ((id : ℕ) → has_entry id keep.entries ≡ true → IsSome (map_of.get new id)) → HasEntries keep (Some new)
+    stored-some : (keep : KeepState) (new : Records) → ((id : ℕ) → has_entry id keep.entries ≡ true → IsSome (map_of.get new id)) → EntriesAreThere keep (Some new)
     stored-some keep new each = λ held told.
         let same : new ≡ held = cc in
         each-weaker (λ id. has_entry id keep.entries ≡ true) (λ id. IsSome (map_of.get held id)) (ids_of keep.entries)

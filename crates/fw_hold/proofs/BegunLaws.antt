@@ -14,14 +14,14 @@ use Rattle.fw_command.proofs.WritingLaws.{written_more, written_nothing}
 use Rattle.fw_command.specs.Writing.{IsWritten}
 use Rattle.fw_hold.specs.declared.fault.HoldFault.{HoldFault}
 use Rattle.fw_hold.specs.declared.fault.HoldFault.TheVariants.{Out, Engine, DamagedRoot, ForeignRoot}
-use Rattle.fw_hold.specs.declared.standing.HeldCounts.{HeldCounts}
-use Rattle.fw_hold.specs.declared.standing.Standing.{Standing}
+use Rattle.fw_hold.specs.declared.place.HeldCounts.{HeldCounts}
+use Rattle.fw_hold.specs.declared.place.SchedulePlace.{SchedulePlace}
 use Rattle.fw_hold.specs.Engine.{Standings}
-use Rattle.fw_hold.specs.Going.{AreForward, IsOneTurn, IsUnderWay, HoldsFound, HoldsKeptIn, MakesMoves, WritesUpTo}
+use Rattle.fw_hold.specs.Going.{AreForward, IsOneTurn, IsRunAt, HoldsFound, HoldsKeptIn, MakesMoves, WritesUpTo}
 use Rattle.fw_hold.specs.Hold.{IsAtEnd}
-use Rattle.fw_hold.specs.Kept.{HeldTexts, Found, no_root, a_root, HoldsKept, IsKeptBy, system_in}
+use Rattle.fw_hold.specs.Kept.{HeldTexts, Found, no_root, a_root, HoldsKeptPoint, IsKeptBy, system_in}
 use Rattle.fw_hold.specs.Moves.{Move, restored, turned, passed, ended_early, SchedulePoint, KeptPoint, moves_text}
-use Rattle.fw_hold.specs.Starting.{EndsStart, HasBegun, RestoresAsFound, last_lines, opening_text}
+use Rattle.fw_hold.specs.Starting.{EndsStart, HasBegun, RestoresAsFound, lines_written_last, opening_text}
 use Rattle.fw_hold.proofs.EndLaws.{IsOfPut}
 use Rattle.fw_hold.proofs.MoveLaws.{forward_both, makes_both, makes_none, text_both, writes_behind}
 use Rattle.fw_hold.proofs.TurnLaws.{holds_last, kept_in}
@@ -31,7 +31,7 @@ use Rattle.fw_hold.proofs.TurnLaws.{holds_last, kept_in}
 pub kept_later : (texts : HeldTexts) (starts : ℕ) (held : Records) (kept : KeptPoint) (root : Root) → IsKeptBy texts starts held kept root → IsKeptBy texts (starts + 1) held kept root
 kept_later texts starts held kept root by = kept_in texts starts (starts + 1) held held kept root (omega arith) by.counted by.named by
 
-holds_later : (texts : HeldTexts) (starts : ℕ) (held : Records) (found : Found) (kept : KeptPoint) → HoldsKept texts starts held found kept → HoldsKept texts (starts + 1) held found kept
+holds_later : (texts : HeldTexts) (starts : ℕ) (held : Records) (found : Found) (kept : KeptPoint) → HoldsKeptPoint texts starts held found kept → HoldsKeptPoint texts (starts + 1) held found kept
 holds_later texts starts held no_root kept h = h
 holds_later texts starts held a_root kept (root, by) = (root, kept_later texts starts held kept root by)
 
@@ -55,11 +55,12 @@ ends_unopened T texts starts found kept fault records view IsSo is holds = recor
   holds = holds;
   text = [];
   told = inr (refl, refl);
+  opened = tt;
   wrote = by fault is;
   so = tt;
 }
   where
-    by : (f : HoldFault) → IsOfPut f → WritesUpTo {T = T} [] (last_lines found kept [] kept) (Err f) view view
+    by : (f : HoldFault) → IsOfPut f → WritesUpTo {T = T} [] (lines_written_last found kept [] kept) (Err f) view view
     by (Out f) is = absurd is
     by (Engine engine.StoreFault) is = written_nothing view
     by (Engine (engine.Damaged id)) is = absurd is
@@ -80,6 +81,7 @@ ends_opened T texts starts found kept fault records before after IsSo wrote hold
   holds = holds;
   text = opening_text found kept;
   told = inl (sym (append-nil (opening_text found kept)));
+  opened = tt;
   wrote = wrote;
   so = tt;
 }
@@ -99,7 +101,7 @@ writes_alike S T text lines ForeignRoot before after w = w
 -- the lines in which a text may be cut off are those of the last turn, where a move was made; and else it was not cut off
 lines_alike : (T : Type 0) (texts : HeldTexts) (found : Found) (kept : KeptPoint) (moves : List Move) (now : KeptPoint) (text : List ℕ) (fault : HoldFault) (before after : SinkView)
     → ((f : OutFault) → fault ≡ Out f → moves ≡ [] → ⊥) → WritesUpTo {T = T} text now.lines (Err fault) before after
-    → WritesUpTo {T = T} text (last_lines found kept moves now) (Err fault) before after
+    → WritesUpTo {T = T} text (lines_written_last found kept moves now) (Err fault) before after
 lines_alike T texts found kept [] now text (Out fault) before after cut w = absurd (cut fault refl refl)
 lines_alike T texts found kept [] now text (Engine engine.StoreFault) before after cut w = w
 lines_alike T texts found kept [] now text (Engine (engine.Damaged id)) before after cut w = w
@@ -129,12 +131,12 @@ text_on flow opening moves others = append_assoc opening (moves_text flow moves)
 
 -- a run that has begun makes moves, and goes on
 pub begun_on : {E : Type 0} (Stand : Standings E) (keep_of : E → KeepState) (flow_of : E → Dataflow) (T : Type 0) (value : T) (texts : HeldTexts) (starts : ℕ) (found : Found)
-    (kept : KeptPoint) (old new : Option Records) (before mid after : SinkView) (engine later : E) (standing then_standing : Standing)
-    → (begun : HasBegun Stand keep_of flow_of texts starts found kept old before mid engine standing)
+    (kept : KeptPoint) (old new : Option Records) (before mid after : SinkView) (engine later : E) (place then_place : SchedulePlace)
+    → (begun : HasBegun Stand keep_of flow_of texts starts found kept old before mid engine place)
     → MakesMoves {T = T} AreForward texts (starts + 1) begun.now begun.last (Ok value) new mid after
-    (IsUnderWay Stand keep_of flow_of texts (starts + 1) new later then_standing)
-    → HasBegun Stand keep_of flow_of texts starts found kept new before after later then_standing
-begun_on Stand keep_of flow_of T value texts starts found kept old new before mid after engine later standing then_standing begun m = record {
+    (IsRunAt Stand keep_of flow_of texts (starts + 1) new later then_place)
+    → HasBegun Stand keep_of flow_of texts starts found kept new before after later then_place
+begun_on Stand keep_of flow_of T value texts starts found kept old new before mid after engine later place then_place begun m = record {
   moves = begun.moves ++ m.moves;
   now = m.now;
   last = m.last;
@@ -147,11 +149,11 @@ begun_on Stand keep_of flow_of T value texts starts found kept old new before mi
 
 -- a run that has begun makes moves, and ends
 pub ends_on : {E : Type 0} (Stand : Standings E) (keep_of : E → KeepState) (flow_of : E → Dataflow) (S T : Type 0) (texts : HeldTexts) (starts : ℕ) (found : Found)
-    (kept : KeptPoint) (old new : Option Records) (before mid after : SinkView) (engine : E) (standing : Standing) (fault : HoldFault) (IsLater : KeptPoint → SchedulePoint → Type 0)
-    (IsSo : T → KeptPoint → SchedulePoint → Type 0) → (begun : HasBegun Stand keep_of flow_of texts starts found kept old before mid engine standing)
+    (kept : KeptPoint) (old new : Option Records) (before mid after : SinkView) (engine : E) (place : SchedulePlace) (fault : HoldFault) (IsLater : KeptPoint → SchedulePoint → Type 0)
+    (IsSo : T → KeptPoint → SchedulePoint → Type 0) → (begun : HasBegun Stand keep_of flow_of texts starts found kept old before mid engine place)
     → MakesMoves {T = S} AreForward texts (starts + 1) begun.now begun.last (Err fault) new mid after IsLater
     → EndsStart {T = T} texts starts found kept (Err fault) new before after IsSo
-ends_on Stand keep_of flow_of S T texts starts found kept old new before mid after engine standing fault IsLater IsSo begun m = record {
+ends_on Stand keep_of flow_of S T texts starts found kept old new before mid after engine place fault IsLater IsSo begun m = record {
   moves = begun.moves ++ m.moves;
   now = m.now;
   last = m.last;
@@ -160,6 +162,7 @@ ends_on Stand keep_of flow_of S T texts starts found kept old new before mid aft
   holds = m.holds;
   text = opening_text found kept ++ moves_text texts.flow (begun.moves ++ m.moves);
   told = inl refl;
+  opened = tt;
   wrote = lines_alike T texts found kept (begun.moves ++ m.moves) m.now (opening_text found kept ++ moves_text texts.flow (begun.moves ++ m.moves)) fault before after
       (λ f e none. m.cut f (err_is S fault f e) (none_left begun.moves m.moves none))
       (writes_alike S T (opening_text found kept ++ moves_text texts.flow (begun.moves ++ m.moves)) m.now.lines fault before after
@@ -170,20 +173,21 @@ ends_on Stand keep_of flow_of S T texts starts found kept old new before mid aft
 
 -- no item is left
 pub ends_well : {E : Type 0} (Stand : Standings E) (keep_of : E → KeepState) (flow_of : E → Dataflow) (texts : HeldTexts) (starts : ℕ) (found : Found) (kept : KeptPoint)
-    (records : Option Records) (before after : SinkView) (engine : E) (standing : Standing) → length texts.items ≤ standing.ended
-    → HasBegun Stand keep_of flow_of texts starts found kept records before after engine standing
-    → EndsStart {T = HeldCounts} texts starts found kept (Ok (record { steps = standing.steps; idle = standing.idle })) records before after (IsAtEnd texts)
-ends_well Stand keep_of flow_of texts starts found kept records before after engine standing end begun = let u = begun.under_way in record {
+    (records : Option Records) (before after : SinkView) (engine : E) (place : SchedulePlace) → length texts.items ≤ place.ended
+    → HasBegun Stand keep_of flow_of texts starts found kept records before after engine place
+    → EndsStart {T = HeldCounts} texts starts found kept (Ok (record { steps = place.steps; idle = place.idle })) records before after (IsAtEnd texts)
+ends_well Stand keep_of flow_of texts starts found kept records before after engine place end begun = let u = begun.under_way in record {
   moves = begun.moves;
   now = begun.now;
   last = begun.last;
   made = begun.made;
   begins = inr begun.begins;
   holds =
-      let h = holds_last texts (starts + 1) u.held begun.now standing.turn (keep_of engine).next u.turn in
+      let h = holds_last texts (starts + 1) u.held begun.now place.turn (keep_of engine).next u.turn in
       (h.0, (u.held, u.told, h.1));
   text = opening_text found kept ++ moves_text texts.flow begun.moves;
   told = inl refl;
+  opened = (refl, begun.begins);
   wrote = begun.wrote;
   so = record { none_left = omega (arith, end, u.counts.ended, u.of_items.ended); steps = u.counts.steps; idle = u.counts.idle };
 }
@@ -192,11 +196,11 @@ ends_well Stand keep_of flow_of texts starts found kept records before after eng
 
 -- every node was restored: the run has begun
 pub begun_turn : {E : Type 0} (Stand : Standings E) (keep_of : E → KeepState) (flow_of : E → Dataflow) (T : Type 0) (value : T) (texts : HeldTexts) (starts : ℕ) (kept : KeptPoint)
-    (choice : Choice) (records : Option Records) (before mid after : SinkView) (engine : E) (standing : Standing) → IsWritten (opening_text a_root kept) before mid
+    (choice : Choice) (records : Option Records) (before mid after : SinkView) (engine : E) (place : SchedulePlace) → IsWritten (opening_text a_root kept) before mid
     → MakesMoves {T = T} (IsOneTurn {T = T} (restored choice) (Ok value)) texts (starts + 1) kept kept.point (Ok value) records mid after
-    (IsUnderWay Stand keep_of flow_of texts (starts + 1) records engine standing)
-    → HasBegun Stand keep_of flow_of texts starts a_root kept records before after engine standing
-begun_turn Stand keep_of flow_of T value texts starts kept choice records before mid after engine standing opened m = record {
+    (IsRunAt Stand keep_of flow_of texts (starts + 1) records engine place)
+    → HasBegun Stand keep_of flow_of texts starts a_root kept records before after engine place
+begun_turn Stand keep_of flow_of T value texts starts kept choice records before mid after engine place opened m = record {
   moves = m.moves;
   now = m.now;
   last = m.last;
@@ -223,6 +227,7 @@ ends_turn S T texts starts kept choice fault records before mid after IsLater Is
   holds = m.holds;
   text = opening_text a_root kept ++ moves_text texts.flow m.moves;
   told = inl refl;
+  opened = tt;
   wrote = lines_alike T texts a_root kept m.moves m.now (opening_text a_root kept ++ moves_text texts.flow m.moves) fault before after (λ f e none. m.cut f (err_is S fault f e) none)
       (writes_alike S T (opening_text a_root kept ++ moves_text texts.flow m.moves) m.now.lines fault before after
       (writes_behind S (opening_text a_root kept) (moves_text texts.flow m.moves) m.now.lines (Err fault) before mid after opened m.wrote));

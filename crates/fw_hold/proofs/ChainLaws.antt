@@ -17,7 +17,7 @@ use Rattle.fw_regain.specs.Down.{down}
 use Rattle.fw_regain.proofs.DownLaws.{go-down}
 use Rattle.fw_running.specs.EffectText.{effect_text, outcome_text}
 use Rattle.fw_hold.specs.Chain.{Started, StartsLead, starts_text, HasRunTo, StartsAreOneRun}
-use Rattle.fw_hold.specs.Kept.{nothing_kept}
+use Rattle.fw_hold.specs.Kept.{kept_at_first}
 use Rattle.fw_hold.specs.Moves.{Move, restored, turned, passed, ended_early, SchedulePoint, KeptPoint, past_item, with_step, after_single, DoesSingle, PassesItem, Makes, MakesAll, kept_after, move_text, moves_text}
 
 -- ---- runs
@@ -109,4 +109,4 @@ starts-run sys items kept (start ∷ starts) last r (point, made, rest) =
     (starts-run sys items start.now starts last (reached-on sys kept.point.state start.now.point.state (moves_text sys.flow start.moves) r one) rest)
 
 pub starts-one_run : StartsAreOneRun
-starts-one_run sys items starts last lead = starts-run sys items (nothing_kept sys) starts last ([], [], refl) lead
+starts-one_run sys items starts last lead = starts-run sys items (kept_at_first sys) starts last ([], [], refl) lead

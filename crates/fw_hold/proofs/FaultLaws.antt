@@ -1,5 +1,5 @@
 -- Faults that are passed on.
-use Rattle.std.proofs.Common.{◌≡◌, inl, inr, ℕ, List, [], Result, Ok, Err, refl, ap, subst, ◌∙◌}
+use Rattle.std.proofs.Common.{◌≡◌, inl, inr, ℕ, List, [], Result, Ok, Err, refl, sym, ap, subst, ◌∙◌}
 use Rattle.std.specs.Prelude.{IsErrOf}
 use Rattle.fw_outside.specs.Outside.{SinkView}
 use Rattle.fw_command.specs.Writing.{IsRefusedBy, IsWritten, faults_by}
@@ -10,7 +10,7 @@ use Rattle.fw_hold.specs.declared.fault.HoldFault.{HoldFault}
 use Rattle.fw_hold.specs.declared.fault.HoldFault.TheVariants.{Out, Engine, DamagedRoot, ForeignRoot}
 use Rattle.fw_hold.specs.Faults.{IsNotOut, IsOfRoot, IsOfStore, faults_after_hold}
 use Rattle.fw_hold.specs.Going.{CountsOut, HaveSameCounts, TellsLines, WritesUpTo}
-use Rattle.fw_hold.specs.Starting.{IsToldForeign}
+use Rattle.fw_hold.specs.Starting.{IsToldForeign, TellsOpening}
 use Rattle.fw_hold.proofs.EndLaws.{IsOfPut}
 use Rattle.fw_hold.proofs.MakingLaws.{IsUndamaged, cut_lines}
 
@@ -59,6 +59,51 @@ pub wrote_all : (T : Type 0) (text lines : List ℕ) (fault : EngineFault) (befo
 wrote_all T text lines engine.StoreFault before after is w = w
 wrote_all T text lines (engine.Damaged id) before after is w = is
 wrote_all T text lines engine.NoMemory before after is w = w
+
+-- ---- damage
+
+-- of the engine's fault
+pub damage_in : (S T : Type 0) (fault : EngineFault) (id : ℕ) → IsErrOf {T = T} (Err (Engine fault)) (Engine (engine.Damaged id)) → IsErrOf {T = S} (Err fault) (engine.Damaged id)
+damage_in S T engine.StoreFault id e = absurd (cc)
+damage_in S T (engine.Damaged at) id e = let same : at ≡ id = cc in ap (λ n. Err (engine.Damaged n)) same
+damage_in S T engine.NoMemory id e = absurd (cc)
+
+-- want of memory is none, nor a root's fault
+pub memory_undamaged : (T : Type 0) (id : ℕ) → IsErrOf {T = T} (Err (Engine engine.NoMemory)) (Engine (engine.Damaged id)) → ⊥
+memory_undamaged T id e = absurd (cc)
+
+pub memory_no_root : (T : Type 0) (id : ℕ) → IsErrOf {T = T} (Err (Engine engine.NoMemory)) (DamagedRoot id) → ⊥
+memory_no_root T id e = absurd (cc)
+
+pub memory_not_foreign : (T : Type 0) → IsErrOf {T = T} (Err (Engine engine.NoMemory)) ForeignRoot → ⊥
+memory_not_foreign T e = absurd (cc)
+
+-- a fault of the store or of a root there is no damage of a record, nor a root of other texts
+pub store_undamaged : (S T : Type 0) (fault : HoldFault) → IsOfStore {T = S} (Err fault) → (id : ℕ) → IsErrOf {T = T} (Err fault) (Engine (engine.Damaged id)) → ⊥
+store_undamaged S T fault only id e = subst (λ f. IsOfStore {T = S} (Err f)) (ap (fault_in fault) e) only
+
+pub store_not_foreign : (S T : Type 0) (fault : HoldFault) → IsOfStore {T = S} (Err fault) → IsErrOf {T = T} (Err fault) ForeignRoot → ⊥
+store_not_foreign S T fault only e = subst (λ f. IsOfStore {T = S} (Err f)) (ap (fault_in fault) e) only
+
+-- nor is one of the output
+pub tells_undamaged : (S T : Type 0) (lines : List ℕ) (fault : HoldFault) (before after : SinkView) → TellsLines {T = S} lines (Err fault) before after → (id : ℕ)
+    → IsErrOf {T = T} (Err fault) (Engine (engine.Damaged id)) → ⊥
+tells_undamaged S T lines fault before after t id e = subst (λ f. TellsLines {T = S} lines (Err f) before after) (ap (fault_in fault) e) t
+
+pub opening_undamaged : (S T : Type 0) (text : List ℕ) (fault : HoldFault) (before after : SinkView) → TellsOpening {T = S} text (Err fault) before after → (id : ℕ)
+    → IsErrOf {T = T} (Err fault) (Engine (engine.Damaged id)) → ⊥
+opening_undamaged S T text fault before after t id e = subst (λ f. TellsOpening {T = S} text (Err f) before after) (ap (fault_in fault) e) t
+
+-- a root's fault is one of a root
+pub of_damaged_root : (T : Type 0) (result : Result T HoldFault) (id : ℕ) → IsErrOf result (DamagedRoot id) → IsOfRoot result
+of_damaged_root T result id e = subst (λ (r : Result T HoldFault). IsOfRoot r) (sym e) tt
+
+pub of_foreign_root : (T : Type 0) (result : Result T HoldFault) → IsErrOf result ForeignRoot → IsOfRoot result
+of_foreign_root T result e = subst (λ (r : Result T HoldFault). IsOfRoot r) (sym e) tt
+
+-- want of memory is answered of a root that is spelled: so one that is damaged is the spelling of none
+pub damaged_no_root : (T : Type 0) (fault : HoldFault) (id : ℕ) → fault ≡ Engine engine.NoMemory → IsErrOf {T = T} (Err fault) (DamagedRoot id) → ⊥
+damaged_no_root T fault id memory e = let is : fault ≡ DamagedRoot id = ap (fault_in fault) e in absurd (cc)
 
 -- ---- the output
 

@@ -1,5 +1,5 @@
 -- What is kept stays kept in a step, and where a step leads.
-use Rattle.std.proofs.Common.{◌≡◌, ◌⊎◌, inl, inr, ℕ, zero, suc, ◌+◌, ◌^◌, ◌<◌, ◌≤◌, cond, List, [], ◌∷◌, length, take, drop, slice_get, Some, None, refl, sym, ◌∙◌, ap, subst, arith}
+use Rattle.std.proofs.Common.{◌≡◌, ◌⊎◌, inl, inr, ℕ, zero, suc, ◌+◌, ◌^◌, ◌<◌, ◌≤◌, cond, List, [], ◌∷◌, length, take, drop, slice_get, Option, Some, None, refl, sym, ◌∙◌, ap, subst, arith}
 use Rattle.std.specs.FinMap as map_of
 use Rattle.std.specs.List.{Contains}
 use Rattle.std.proofs.lemmas.Bool.{cases_lt, lt-ltb, le-ltb}
@@ -20,6 +20,16 @@ use Rattle.fw_named.specs.Named.{named_ids}
 use Rattle.fw_hold.proofs.TurnLaws.{kept_on, named_below}
 
 -- ---- what is kept
+
+-- what is kept outside of some ids is kept outside of more
+pub outside_more : (from to more : ℕ) (old new : Option Records) → to ≤ more → KeepsOutside from to old new → KeepsOutside from more old new
+outside_more from to more old new few k = record {
+  told_before = k.told_before;
+  others = λ told id apart. k.others told id (elim apart as (λ side. (id < from) ⊎ (to ≤ id)) [
+    | inl below ↦ inl below
+    | inr past ↦ inr (omega (arith, few, past))
+  ]);
+}
 
 -- under an id that a step may not have drawn is what was there
 same_under : (from to id : ℕ) (held new : Records) → KeepsOutside from to (Some held) (Some new) → (id < from) ⊎ (to ≤ id) → map_of.get new id ≡ map_of.get held id

@@ -12,7 +12,7 @@ use Rattle.fw_command.specs.Writing.{IsWritten, IsCutOff}
 use Rattle.fw_hold.specs.declared.fault.HoldFault.{HoldFault}
 use Rattle.fw_hold.specs.declared.fault.HoldFault.TheVariants.{Engine}
 use Rattle.fw_hold.specs.Going.{IsCutIn, WritesUpTo, HoldsKeptIn, MakesMoves}
-use Rattle.fw_hold.specs.Kept.{HeldTexts, Found, HoldsKept, system_in}
+use Rattle.fw_hold.specs.Kept.{HeldTexts, Found, HoldsKeptPoint, system_in}
 use Rattle.fw_hold.specs.Moves.{Move, SchedulePoint, KeptPoint, Makes, kept_after, move_text}
 use Rattle.fw_hold.proofs.MoveLaws.{makes_one, makes_none}
 
@@ -31,7 +31,7 @@ nothing_wrote T engine.NoMemory is lines view = written_nothing view
 
 -- no move was made: what was kept is kept, and nothing was written
 pub no_move : (T : Type 0) (AreSo : List Move → Type 0) (texts : HeldTexts) (starts : ℕ) (kept : KeptPoint) (point : SchedulePoint) (f : EngineFault) (is : IsUndamaged f) (held : Records) (view : SinkView)
-    (IsSo : KeptPoint → SchedulePoint → Type 0) → AreSo [] → (found : Found) × HoldsKept texts starts held found kept
+    (IsSo : KeptPoint → SchedulePoint → Type 0) → AreSo [] → (found : Found) × HoldsKeptPoint texts starts held found kept
     → MakesMoves {T = T} AreSo texts starts kept point (Err (Engine f)) (Some held) view view IsSo
 no_move T AreSo texts starts kept point f is held view IsSo none holds = record {
   moves = [];
@@ -50,7 +50,7 @@ no_move T AreSo texts starts kept point f is held view IsSo none holds = record 
 -- a move was made that says nothing and is no turn
 pub quiet_move : (T : Type 0) (value : T) (AreSo : List Move → Type 0) (texts : HeldTexts) (starts : ℕ) (kept : KeptPoint) (point : SchedulePoint) (move : Move) (to : SchedulePoint) (held : Records)
     (view : SinkView) (IsSo : KeptPoint → SchedulePoint → Type 0) → Makes (system_in texts) texts.items point move to → AreSo (move ∷ []) → move_text texts.flow move ≡ []
-    → kept_after texts.flow kept move to ≡ kept → (found : Found) × HoldsKept texts starts held found kept → IsSo kept to
+    → kept_after texts.flow kept move to ≡ kept → (found : Found) × HoldsKeptPoint texts starts held found kept → IsSo kept to
     → MakesMoves {T = T} AreSo texts starts kept point (Ok value) (Some held) view view IsSo
 quiet_move T value AreSo texts starts kept point move to held view IsSo makes is silent same holds so = record {
   moves = move ∷ [];
@@ -84,7 +84,7 @@ cut_lines lines f before after c = record {
 pub turn_move : (T : Type 0) (AreSo : List Move → Type 0) (texts : HeldTexts) (starts : ℕ) (kept : KeptPoint) (point : SchedulePoint) (move : Move) (to : SchedulePoint) (lines : List ℕ)
     (answer : Result T HoldFault) (held : Records) (before after : SinkView) (IsSo : KeptPoint → SchedulePoint → Type 0) → Makes (system_in texts) texts.items point move to → AreSo (move ∷ [])
     → move_text texts.flow move ≡ lines → kept_after texts.flow kept move to ≡ record { point = to; lines = lines }
-    → (found : Found) × HoldsKept texts starts held found (record { point = to; lines = lines }) → WritesUpTo lines lines answer before after
+    → (found : Found) × HoldsKeptPoint texts starts held found (record { point = to; lines = lines }) → WritesUpTo lines lines answer before after
     → OnOk answer (IsSo (record { point = to; lines = lines }) to) → MakesMoves {T = T} AreSo texts starts kept point answer (Some held) before after IsSo
 turn_move T AreSo texts starts kept point move to lines answer held before after IsSo makes is text keeps holds wrote so = record {
   moves = move ∷ [];

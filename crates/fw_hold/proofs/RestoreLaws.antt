@@ -14,10 +14,10 @@ use Rattle.fw_regain.proofs.DownLaws.{go-down}
 use Rattle.fw_root.specs.declared.root.Root.{Root}
 use Rattle.fw_running.specs.EffectText.{outcome_text}
 use Rattle.fw_hold.specs.declared.plan.HeldPlan.{HeldPlan}
-use Rattle.fw_hold.specs.declared.standing.Standing.{Standing}
-use Rattle.fw_hold.specs.Engine.{Standings, KeepsOutside, Restores}
+use Rattle.fw_hold.specs.declared.place.SchedulePlace.{SchedulePlace}
+use Rattle.fw_hold.specs.Engine.{Standings, KeepsOutside, RestoresAll}
 use Rattle.fw_hold.specs.Going.{AreCountsAt, IsTurnMade}
-use Rattle.fw_hold.specs.Kept.{HeldTexts, AreSinglesOf, IsKeptBy, IsPlanOf, ended_before, singles_of, standing_of, system_in}
+use Rattle.fw_hold.specs.Kept.{HeldTexts, AreSinglesOf, IsKeptBy, IsPlanOf, ended_before, singles_of, place_behind_root, system_in}
 use Rattle.fw_hold.specs.Starting.{IsKeptIn}
 use Rattle.fw_hold.specs.Moves.{restored, KeptPoint, SchedulePoint}
 use Rattle.fw_hold.proofs.BegunLaws.{kept_later}
@@ -40,7 +40,7 @@ singles_again (item ∷ items) n (inr lt) = ap (λ b. cond b n 0) (lt-ltb n (ste
 
 -- behind a root a run stands at the point that is kept
 pub counts_found : (texts : HeldTexts) (starts : ℕ) (held : Records) (kept : KeptPoint) (root : Root) (plan : HeldPlan) → IsPlanOf texts plan → IsKeptBy texts starts held kept root
-    → AreCountsAt (standing_of plan.items.now plan.numbers.now root) kept.point
+    → AreCountsAt (place_behind_root plan.items.now plan.numbers.now root) kept.point
 counts_found texts starts held kept root plan p by =
     let again : ended_before texts.numbers root.mark.line ≡ kept.point.ended =
     ap (ended_before texts.numbers) by.line ∙ found_again texts.numbers kept.point.ended p.ascending (omega (arith, p.one_each, by.point.ended)) in
@@ -67,8 +67,8 @@ all_kept texts starts held new kept root k by =
 pub restored_turn : {E : Type 0} (Stand : Standings E) (keep_of : E → KeepState) (flow_of : E → Dataflow) (texts : HeldTexts) (starts : ℕ) (held new : Records) (engine : E)
     (plan : HeldPlan) (kept : KeptPoint) (root : Root) (outcome : Outcome) → IsPlanOf texts plan → starts < 2 ^ 61 → IsKeptBy texts starts held kept root
     → KeepsOutside 0 0 (Some held) (Some new) → flow_of engine ≡ texts.flow → (keep_of engine).next ≡ root.next_id
-    → (r : Restores Stand (system_in texts) kept.point.state outcome engine (Some new))
-    → IsTurnMade Stand keep_of flow_of texts (starts + 1) (Some new) engine (standing_of plan.items.now plan.numbers.now root) kept kept.point (restored r.1)
+    → (r : RestoresAll Stand (system_in texts) kept.point.state outcome engine (Some new))
+    → IsTurnMade Stand keep_of flow_of texts (starts + 1) (Some new) engine (place_behind_root plan.items.now plan.numbers.now root) kept kept.point (restored r.1)
     (record kept.point { state = r.0 }) outcome
 restored_turn Stand keep_of flow_of texts starts held new engine plan kept root outcome p few by k flow next (state, choice, leads, is, stands) =
     let sys = system_in texts in
@@ -102,17 +102,17 @@ kept_through texts starts old new kept root (held, told, by) k now =
 
 -- so is the turn, but for its root
 pub restored_in : {E : Type 0} (Stand : Standings E) (keep_of : E → KeepState) (flow_of : E → Dataflow) (texts : HeldTexts) (starts : ℕ) (old new : Option Records) (engine : E)
-    (plan : HeldPlan) (standing : Standing) (kept : KeptPoint) (root : Root) (outcome : Outcome) → IsPlanOf texts plan → starts < 2 ^ 61 → IsKeptIn texts starts old kept root
-    → KeepsOutside 0 0 old new → IsSome new → flow_of engine ≡ texts.flow → (keep_of engine).next ≡ root.next_id → standing ≡ standing_of plan.items.now plan.numbers.now root
-    → Restores Stand (system_in texts) kept.point.state outcome engine new
-    → (choice : Choice) × (to : SchedulePoint) × IsTurnMade Stand keep_of flow_of texts (starts + 1) new engine standing kept kept.point (restored choice) to outcome
-restored_in Stand keep_of flow_of texts starts old new engine plan standing kept root outcome p few (held, told, by) k now flow next is r =
+    (plan : HeldPlan) (place : SchedulePlace) (kept : KeptPoint) (root : Root) (outcome : Outcome) → IsPlanOf texts plan → starts < 2 ^ 61 → IsKeptIn texts starts old kept root
+    → KeepsOutside 0 0 old new → IsSome new → flow_of engine ≡ texts.flow → (keep_of engine).next ≡ root.next_id → place ≡ place_behind_root plan.items.now plan.numbers.now root
+    → RestoresAll Stand (system_in texts) kept.point.state outcome engine new
+    → (choice : Choice) × (to : SchedulePoint) × IsTurnMade Stand keep_of flow_of texts (starts + 1) new engine place kept kept.point (restored choice) to outcome
+restored_in Stand keep_of flow_of texts starts old new engine plan place kept root outcome p few (held, told, by) k now flow next is r =
     let some = told_are new now in
-    let here = subst (λ x. Restores Stand (system_in texts) kept.point.state outcome engine x) some.1 r in (
+    let here = subst (λ x. RestoresAll Stand (system_in texts) kept.point.state outcome engine x) some.1 r in (
       here.1,
       record kept.point { state = here.0 },
       subst (λ s. IsTurnMade Stand keep_of flow_of texts (starts + 1) new engine s kept kept.point (restored here.1) (record kept.point { state = here.0 }) outcome) (sym is)
-          (subst (λ x. IsTurnMade Stand keep_of flow_of texts (starts + 1) x engine (standing_of plan.items.now plan.numbers.now root) kept kept.point (restored here.1) (record kept.point { state = here.0 })
+          (subst (λ x. IsTurnMade Stand keep_of flow_of texts (starts + 1) x engine (place_behind_root plan.items.now plan.numbers.now root) kept kept.point (restored here.1) (record kept.point { state = here.0 })
           outcome) (sym some.1)
           (restored_turn Stand keep_of flow_of texts starts held some.0 engine plan kept root outcome p few by
           (subst (λ x. KeepsOutside 0 0 (Some held) x) some.1 (subst (λ x. KeepsOutside 0 0 x new) told k)) flow next here)),

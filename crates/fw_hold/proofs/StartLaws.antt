@@ -23,11 +23,11 @@ use Rattle.fw_hold.specs.declared.fault.HoldFault.TheVariants.{Out, Engine, Dama
 use Rattle.fw_hold.specs.declared.found.FoundRoot.{FoundRoot}
 use Rattle.fw_hold.specs.Engine.{Standings}
 use Rattle.fw_hold.specs.Faults.{IsOfRoot, faults_after_hold}
-use Rattle.fw_hold.specs.Found.{BeginAs, GaveNoHead, HasNamed, IsFoundRoot, IsRootId, HasGreatestTurn, HasNoneFound}
+use Rattle.fw_hold.specs.Found.{BeginAs, GaveForeign, GaveNoHead, GaveNoRoot, HasNamed, IsFoundRoot, IsRootId, HasGreatestTurn, HasNoneFound}
 use Rattle.fw_hold.specs.Going.{CountsOut, HoldsFound, TellsLines}
-use Rattle.fw_hold.specs.Kept.{HeldTexts, Found, no_root, a_root, HaveNoRoot, HoldsKept, IsKeptBy, nothing_kept, root_id, system_in}
+use Rattle.fw_hold.specs.Kept.{HeldTexts, Found, no_root, a_root, HaveNoRoot, HoldsKeptPoint, IsKeptBy, kept_at_first, root_id, system_in}
 use Rattle.fw_hold.specs.Moves.{KeptPoint, SchedulePoint, point_at_first}
-use Rattle.fw_hold.specs.Standing.{first}
+use Rattle.fw_hold.specs.Place.{place_at_first}
 use Rattle.fw_hold.specs.Starting.{EndsStart, HasBegun, IsCountedHead, IsForeignIn, IsKeptIn, MayStart, TellsOpening, lines_of_root, opening_text, resumed_text}
 use Rattle.fw_hold.proofs.BegunLaws.{ends_opened, ends_unopened, found_later}
 use Rattle.fw_hold.proofs.GoingLaws.{none_done}
@@ -160,7 +160,7 @@ heads_counted held head counted = λ id bytes is there. elim (root_id-either hea
   | inr other ↦ (let e = counted.other bytes (ap (map_of.get held) (sym other) ∙ there) in (e.0, e.1))
 ]
 
-heads_kept : (texts : HeldTexts) (starts : ℕ) (held : Records) (found : Found) (kept : KeptPoint) → HoldsKept texts starts held found kept → HaveHeads held
+heads_kept : (texts : HeldTexts) (starts : ℕ) (held : Records) (found : Found) (kept : KeptPoint) → HoldsKeptPoint texts starts held found kept → HaveHeads held
 heads_kept texts starts held no_root kept h = λ id bytes is there. elim is [
   | inl e ↦ absurd (let no : Some bytes ≡ None = sym there ∙ ap (map_of.get held) e ∙ h.0.even in cc)
   | inr e ↦ absurd (let no : Some bytes ≡ None = sym there ∙ ap (map_of.get held) e ∙ h.0.odd in cc)
@@ -171,8 +171,29 @@ heads_kept texts starts held a_root kept (root, by) =
 no_damage : (held : Records) (id : ℕ) (given : Option (ℕ × List ℕ)) → HaveHeads held → GaveNoHead (Some held) id given → ⊥
 no_damage held id given heads g =
     let h = heads id g.bytes g.of_root (g.there held refl) in
-    let no : Ok (h.0, h.1.0) ≡ Err g.left = sym h.1.1 ∙ g.broken in
+    let no : Ok (h.0, h.1.0) ≡ Err g.broken.0 = sym h.1.1 ∙ g.broken.1 in
     absurd (cc)
+
+-- bytes that begin with no head are no root
+pub none_given : (texts : HeldTexts) (records : Option Records) (id : ℕ) (given : Option (ℕ × List ℕ)) → GaveNoHead records id given → GaveNoRoot texts id given
+none_given texts records id given g = record { of_root = g.of_root; bytes = g.bytes; gave = g.gave; broken = inl g.broken }
+
+-- nor are bytes that were found, begin as a root of the texts, and are the spelling of none
+pub broken_given : (texts : HeldTexts) (records : Option Records) (found : FoundRoot) (id : ℕ) (given : Option (ℕ × List ℕ)) → IsFoundRoot records found
+    → given ≡ Some (found.id, found.bytes.items) → id ≡ found.id → found.head.digests ≡ texts.digests
+    → ((root : Root) → IsRootFor texts.flow texts.batches root → found.bytes.items ≡ root_spelling root → ⊥) → GaveNoRoot texts id given
+broken_given texts records found id given is gave same digests none = record {
+  of_root = subst (λ n. IsRootId n) (sym same) is.id;
+  bytes = found.bytes.items;
+  gave = gave ∙ ap (λ n. Some (n, found.bytes.items)) (sym same);
+  broken = inr (record { head = found.head; begins = is.begins; of_texts = digests; none = none });
+}
+
+-- bytes that were found, and begin as a root of other texts
+pub foreign_given : (digests : Digests) (records : Option Records) (found : FoundRoot) (given : Option (ℕ × List ℕ)) → IsFoundRoot records found
+    → given ≡ Some (found.id, found.bytes.items) → (found.head.digests ≡ digests → ⊥) → GaveForeign digests given
+foreign_given digests records found given is gave other =
+    record { id = found.id; of_root = is.id; bytes = found.bytes.items; gave = gave; head = found.head; begins = is.begins; other = other }
 
 -- no damaged root is told where the records hold what was kept
 pub kept_undamaged : (texts : HeldTexts) (starts : ℕ) (old new : Option Records) (found : Found) (kept : KeptPoint) (id : ℕ) (given : Option (ℕ × List ℕ)) → HoldsFound texts starts old found kept
@@ -237,13 +258,13 @@ found_named texts old new found root may stay is greatest digests only = λ held
 pub begun_first : {E : Type 0} (Stand : Standings E) (keep_of : E → KeepState) (flow_of : E → Dataflow) (texts : HeldTexts) (starts : ℕ) (found : Found) (kept : KeptPoint)
     (old new : Option Records) (view : SinkView) (engine : E) → HoldsFound texts starts old found kept → StayIfTold old new → IsSome new → HasNoneFound new
     → Stand (system_in texts) engine new (first_state (system_in texts)) → flow_of engine ≡ texts.flow → (keep_of engine).next ≡ 0
-    → HasBegun Stand keep_of flow_of texts starts found kept new view view engine first
+    → HasBegun Stand keep_of flow_of texts starts found kept new view view engine place_at_first
 begun_first Stand keep_of flow_of texts starts a_root kept old new view engine h stay now none stands flow next = absurd (kept_there texts starts old new kept h stay now none)
 begun_first Stand keep_of flow_of texts starts no_root kept old new view engine (held, told, (empty, is)) stay now none stands flow next =
     let here = told_still old new held stay now told in
-    subst (λ (k : KeptPoint). HasBegun Stand keep_of flow_of texts starts no_root k new view view engine first) (sym is) (record {
+    subst (λ (k : KeptPoint). HasBegun Stand keep_of flow_of texts starts no_root k new view view engine place_at_first) (sym is) (record {
       moves = [];
-      now = nothing_kept (system_in texts);
+      now = kept_at_first (system_in texts);
       last = point_at_first (system_in texts);
       made = (refl, refl);
       begins = tt;

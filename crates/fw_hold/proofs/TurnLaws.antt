@@ -23,15 +23,15 @@ use Rattle.fw_root.specs.Sound.{may_follow_writes, AreDigests, AreLines, IsMark,
 use Rattle.fw_root.specs.Spelling.{root_spelling}
 use Rattle.fw_root.proofs.HeadLaws.{head_of_root}
 use Rattle.fw_hold.specs.declared.plan.HeldPlan.{HeldPlan}
-use Rattle.fw_hold.specs.declared.standing.Standing.{Standing}
+use Rattle.fw_hold.specs.declared.place.SchedulePlace.{SchedulePlace}
 use Rattle.fw_hold.specs.Engine.{Standings, IsRootIn}
 use Rattle.fw_hold.specs.Found.{IsRootId, ChangesOnly, IsLeftOrGone}
 use Rattle.fw_hold.specs.Going.{AreCountsAt, IsTurnMade, IsLastTurn}
-use Rattle.fw_hold.specs.Kept.{HeldTexts, Found, no_root, a_root, HoldsKept, system_in, AreSinglesOf, IsPointOf, IsPlanOf, AreOfEarlierTurn, IsCounted, IsKeptBy, line_at, mark_of, root_id}
+use Rattle.fw_hold.specs.Kept.{HeldTexts, Found, no_root, a_root, HoldsKeptPoint, system_in, AreSinglesOf, IsPointOf, IsPlanOf, AreOfEarlierTurn, IsCounted, IsKeptBy, line_at, mark_of, root_id}
 use Rattle.fw_hold.specs.Moves.{Move, SchedulePoint, KeptPoint}
 use Rattle.fw_named.specs.Named.{AreNamed, named_ids}
 use Rattle.fw_named.proofs.NamedLaws.{named-stay}
-use Rattle.fw_hold.specs.Standing.{with_turn}
+use Rattle.fw_hold.specs.Place.{place_with_turn}
 use Rattle.fw_hold.proofs.RootIdLaws.{root_id-again, root_id-either, root_id-other, root_id-large}
 
 -- ---- counts
@@ -50,10 +50,10 @@ point_few items point p =
     (omega (arith, all, some, p.steps), omega (arith, all, some))
 
 -- the mark of a point is one
-pub marks_point : (texts : HeldTexts) (starts : ℕ) (plan : HeldPlan) (standing : Standing) (point : SchedulePoint) (lines : List ℕ) → IsPlanOf texts plan → IsPointOf texts.items point
-    → AreCountsAt standing point → standing.turn ≤ point.steps + starts → starts ≤ 2 ^ 61 → AreDigests (mark_of plan standing lines).digests → line_at plan.numbers.now standing.ended < 2 ^ 33
-    → AreLines lines → IsMark (mark_of plan standing lines)
-marks_point texts starts plan standing point lines p at counts turns few digests line bytes =
+pub marks_point : (texts : HeldTexts) (starts : ℕ) (plan : HeldPlan) (place : SchedulePlace) (point : SchedulePoint) (lines : List ℕ) → IsPlanOf texts plan → IsPointOf texts.items point
+    → AreCountsAt place point → place.turn ≤ point.steps + starts → starts ≤ 2 ^ 61 → AreDigests (mark_of plan place lines).digests → line_at plan.numbers.now place.ended < 2 ^ 33
+    → AreLines lines → IsMark (mark_of plan place lines)
+marks_point texts starts plan place point lines p at counts turns few digests line bytes =
     let most = point_few texts.items point at in
     let limit : step_limit ≡ 2 ^ 32 - 1 = refl in
     record {
@@ -140,20 +140,20 @@ kept_in texts starts later held new kept root more counted named by = record {
 -- ---- a turn
 
 -- The root of a turn was put: so much is kept.
-pub turn_kept : {E : Type 0} (Stand : Standings E) (keep_of : E → KeepState) (flow_of : E → Dataflow) (texts : HeldTexts) (starts : ℕ) (plan : HeldPlan) (standing : Standing)
+pub turn_kept : {E : Type 0} (Stand : Standings E) (keep_of : E → KeepState) (flow_of : E → Dataflow) (texts : HeldTexts) (starts : ℕ) (plan : HeldPlan) (place : SchedulePlace)
     (kept : KeptPoint) (from : SchedulePoint) (move : Move) (to : SchedulePoint) (outcome : Outcome) (engine : E) (held new : Records) (lines : List ℕ) (root : Root)
-    → IsPlanOf texts plan → IsTurnMade Stand keep_of flow_of texts starts (Some held) engine standing kept from move to outcome
-    → IsRootIn Stand keep_of flow_of engine (mark_of plan (with_turn standing) lines) root → AreDigests (mark_of plan (with_turn standing) lines).digests
-    → line_at plan.numbers.now standing.ended < 2 ^ 33 → AreLines lines → map_of.get new (root_id (standing.turn + 1)) ≡ Some (root_spelling root)
-    → ChangesOnly (root_id (standing.turn + 1)) (Some held) (Some new) → IsKeptBy texts starts new (record { point = to; lines = lines }) root
-turn_kept {E} Stand keep_of flow_of texts starts plan standing kept from move to outcome engine held new lines root is_plan made r digests line bytes put others =
+    → IsPlanOf texts plan → IsTurnMade Stand keep_of flow_of texts starts (Some held) engine place kept from move to outcome
+    → IsRootIn Stand keep_of flow_of engine (mark_of plan (place_with_turn place) lines) root → AreDigests (mark_of plan (place_with_turn place) lines).digests
+    → line_at plan.numbers.now place.ended < 2 ^ 33 → AreLines lines → map_of.get new (root_id (place.turn + 1)) ≡ Some (root_spelling root)
+    → ChangesOnly (root_id (place.turn + 1)) (Some held) (Some new) → IsKeptBy texts starts new (record { point = to; lines = lines }) root
+turn_kept {E} Stand keep_of flow_of texts starts plan place kept from move to outcome engine held new lines root is_plan made r digests line bytes put others =
     let same : made.held ≡ held = sym (same_Some held made.held made.told) in
     let most = point_few texts.items to made.of_items in
-    let counts : AreCountsAt (with_turn standing) to =
+    let counts : AreCountsAt (place_with_turn place) to =
     record { ended = made.counts.ended; singles = made.counts.singles; steps = made.counts.steps; idle = made.counts.idle } in
-    let mark = marks_point texts starts plan (with_turn standing) to lines is_plan made.of_items counts made.turns made.few digests line bytes in
+    let mark = marks_point texts starts plan (place_with_turn place) to lines is_plan made.of_items counts made.turns made.few digests line bytes in
     let small : (keep_of engine).next < 2 ^ 62 = omega (arith, made.ids, most.0, is_plan.few) in
-    let turn : root.mark.turn ≡ standing.turn + 1 = ap (λ (m : Mark). m.turn) r.marked in
+    let turn : root.mark.turn ≡ place.turn + 1 = ap (λ (m : Mark). m.turn) r.marked in
     let stand : Stand (system_of (flow_of engine) texts.batches) engine (Some held) to.state =
     subst (λ f. Stand (system_of f texts.batches) engine (Some held) to.state) (sym made.flow) made.stands in
     let of_flow : IsRootFor texts.flow texts.batches root =
@@ -163,8 +163,8 @@ turn_kept {E} Stand keep_of flow_of texts starts plan standing kept from move to
         there = ap (λ t. map_of.get new (root_id t)) turn ∙ put;
         other = λ older there.
             subst (λ t. AreOfEarlierTurn root.mark.digests t older) (sym turn)
-            (subst (λ d. AreOfEarlierTurn d (standing.turn + 1) older) (sym (ap (λ (m : Mark). m.digests) r.marked ∙ is_plan.digests))
-            (earlier_there texts starts held new kept standing.turn (keep_of engine).next (subst (λ h. IsLastTurn texts starts h kept standing.turn (keep_of engine).next) same made.turn) others older
+            (subst (λ d. AreOfEarlierTurn d (place.turn + 1) older) (sym (ap (λ (m : Mark). m.digests) r.marked ∙ is_plan.digests))
+            (earlier_there texts starts held new kept place.turn (keep_of engine).next (subst (λ h. IsLastTurn texts starts h kept place.turn (keep_of engine).next) same made.turn) others older
             (sym (ap (λ t. map_of.get new (root_id (t + 1))) turn) ∙ there)));
       };
       digests = ap (λ (m : Mark). m.digests) r.marked ∙ is_plan.digests;
@@ -172,10 +172,10 @@ turn_kept {E} Stand keep_of flow_of texts starts plan standing kept from move to
       reached = made.reached;
       of_state = r.of_state (system_in texts) (Some held) to.state made.stands;
       named = named-stay (system_in texts) to.state root held new
-          (λ id at. stays (root_id (standing.turn + 1)) id held new others (λ e. omega (arith, e, r.drawn id at, small, root_id-large (standing.turn + 1))))
+          (λ id at. stays (root_id (place.turn + 1)) id held new others (λ e. omega (arith, e, r.drawn id at, small, root_id-large (place.turn + 1))))
           (r.named (system_in texts) (Some held) to.state made.stands);
       point = made.of_items;
-      line = ap (λ (m : Mark). m.line) r.marked ∙ ap (λ ns. line_at ns standing.ended) is_plan.numbers ∙ ap (line_at texts.numbers) made.counts.ended;
+      line = ap (λ (m : Mark). m.line) r.marked ∙ ap (λ ns. line_at ns place.ended) is_plan.numbers ∙ ap (line_at texts.numbers) made.counts.ended;
       singles = ap (λ (m : Mark). m.singles) r.marked ∙ made.counts.singles;
       steps = ap (λ (m : Mark). m.steps) r.marked ∙ made.counts.steps;
       idle = ap (λ (m : Mark). m.idle) r.marked ∙ made.counts.idle;
@@ -188,7 +188,7 @@ turn_kept {E} Stand keep_of flow_of texts starts plan standing kept from move to
 
 -- what the last turn kept is kept
 pub holds_last : (texts : HeldTexts) (starts : ℕ) (held : Records) (kept : KeptPoint) (turn next : ℕ) → IsLastTurn texts starts held kept turn next
-    → (found : Found) × HoldsKept texts starts held found kept
+    → (found : Found) × HoldsKeptPoint texts starts held found kept
 holds_last texts starts held kept turn next (inl none) = (no_root, none.0)
 holds_last texts starts held kept turn next (inr some) = (a_root, (some.0, some.1))
 

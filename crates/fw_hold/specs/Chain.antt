@@ -7,7 +7,7 @@ use Rattle.fw_schedule.specs.declared.item.Item.{Item}
 use Rattle.fw_model.specs.Machine.{Machine, first_state}
 use Rattle.fw_model.specs.Steps.{Outcome, Run}
 use Rattle.fw_running.specs.EffectText.{outcome_text}
-use Rattle.fw_hold.specs.Kept.{nothing_kept}
+use Rattle.fw_hold.specs.Kept.{kept_at_first}
 use Rattle.fw_hold.specs.Moves.{Move, SchedulePoint, KeptPoint, MakesAll, moves_text}
 
 -- a start, by its moves and by what is kept behind them
@@ -36,4 +36,4 @@ pub record HasRunTo (sys : System) (from : Machine) (text : List ℕ) (to : Mach
 -- takes the failure of every node and a recovery. What comes of its steps are the lines of the moves.
 abbrev pub StartsAreOneRun : Type 0
 StartsAreOneRun = (sys : System) (items : List Item) (starts : List Started) (last : KeptPoint)
-    → StartsLead sys items (nothing_kept sys) starts last → HasRunTo sys (first_state sys) (starts_text sys.flow starts) last.point.state
+    → StartsLead sys items (kept_at_first sys) starts last → HasRunTo sys (first_state sys) (starts_text sys.flow starts) last.point.state

@@ -3,12 +3,15 @@ use Rattle.std.specs.Prelude.{◌≡◌, ◌⊎◌, ℕ, ◌≤◌, List, Option
 use Rattle.std.specs.FinMap as map
 use Rattle.std.specs.Option.{ForSome}
 use Rattle.fw_keep.specs.Stored.{Records, AreThere, bytes_under}
+use Rattle.fw_root.specs.declared.root.Digests.{Digests}
 use Rattle.fw_root.specs.declared.root.Head.{Head}
 use Rattle.fw_root.specs.declared.root.Root.{Root}
 use Rattle.fw_root.specs.Reading.{read_root_head}
+use Rattle.fw_root.specs.Sound.{IsRootFor}
+use Rattle.fw_root.specs.Spelling.{root_spelling}
 use Rattle.fw_named.specs.Named.{named_ids}
 use Rattle.fw_hold.specs.declared.found.FoundRoot.{FoundRoot}
-use Rattle.fw_hold.specs.Kept.{root_id}
+use Rattle.fw_hold.specs.Kept.{HeldTexts, root_id}
 
 -- the id is one under which roots stand
 abbrev pub IsRootId : ℕ → Type 0
@@ -33,13 +36,40 @@ HasGreatestTurn records greatest = ForSome records (λ held. (id : ℕ) (bytes :
 abbrev pub HasNoneFound : Option Records → Type 0
 HasNoneFound records = ForSome records (λ held. (id : ℕ) → IsRootId id → map.get held id ≡ None)
 
+-- the bytes begin with no head
+abbrev pub BeginAsNone : List ℕ → Type 0
+BeginAsNone bytes = (left : ℕ) × (read_root_head bytes ≡ Err left)
+
+-- the bytes begin as a root of the texts, and are the spelling of none
+pub record AreNoRoot (texts : HeldTexts) (bytes : List ℕ) : Type 0 where
+  pub head : Head
+  pub begins : BeginAs bytes head
+  pub of_texts : head.digests ≡ texts.digests
+  pub none : (root : Root) → IsRootFor texts.flow texts.batches root → bytes ≡ root_spelling root → ⊥
+
+-- The store gave last, under this id, which is one of a root, bytes that begin with no head; or with one of these texts, and are no root.
+pub record GaveNoRoot (texts : HeldTexts) (id : ℕ) (given : Option (ℕ × List ℕ)) : Type 0 where
+  pub of_root : IsRootId id
+  pub bytes : List ℕ
+  pub gave : given ≡ Some (id, bytes)
+  pub broken : BeginAsNone bytes ⊎ AreNoRoot texts bytes
+
+-- The store gave last, under the id of a root, bytes that begin as a root of other texts.
+pub record GaveForeign (digests : Digests) (given : Option (ℕ × List ℕ)) : Type 0 where
+  pub id : ℕ
+  pub of_root : IsRootId id
+  pub bytes : List ℕ
+  pub gave : given ≡ Some (id, bytes)
+  pub head : Head
+  pub begins : BeginAs bytes head
+  pub other : head.digests ≡ digests → ⊥
+
 -- The store gave under this id, which is one of a root, bytes that begin with no head; where it tells its records, it has them there.
 pub record GaveNoHead (records : Option Records) (id : ℕ) (given : Option (ℕ × List ℕ)) : Type 0 where
   pub of_root : IsRootId id
   pub bytes : List ℕ
   pub gave : given ≡ Some (id, bytes)
-  pub left : ℕ
-  pub broken : read_root_head bytes ≡ Err left
+  pub broken : BeginAsNone bytes
   pub there : ForSome records (λ held. map.get held id ≡ Some bytes)
 
 -- where the store tells its records at the end it told them before, and under any other id there is what was there

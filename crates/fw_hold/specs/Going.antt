@@ -15,9 +15,9 @@ use Rattle.fw_running.specs.declared.fault.EngineFault.TheVariants as engine
 use Rattle.fw_running.specs.EffectText.{outcome_text}
 use Rattle.fw_hold.specs.declared.fault.HoldFault.{HoldFault}
 use Rattle.fw_hold.specs.declared.fault.HoldFault.TheVariants.{Out, Engine, DamagedRoot, ForeignRoot}
-use Rattle.fw_hold.specs.declared.standing.Standing.{Standing}
+use Rattle.fw_hold.specs.declared.place.SchedulePlace.{SchedulePlace}
 use Rattle.fw_hold.specs.Engine.{Standings}
-use Rattle.fw_hold.specs.Kept.{HeldTexts, Found, no_root, AreSinglesOf, IsPointOf, IsKeptBy, HoldsKept, system_in}
+use Rattle.fw_hold.specs.Kept.{HeldTexts, Found, no_root, AreSinglesOf, IsPointOf, IsKeptBy, HoldsKeptPoint, system_in}
 use Rattle.fw_hold.specs.Moves.{Move, restored, turned, passed, ended_early, SchedulePoint, KeptPoint, Makes, MakesAll, kept_after, move_text, moves_text}
 use Rattle.fw_command.specs.Writing.{faults_by, IsRefusedBy, IsWritten, IsCutOff}
 
@@ -60,36 +60,36 @@ CountsOut (Err ForeignRoot) before after = HaveSameCounts before after
 -- ---- where a run is
 
 -- the numbers are those of the point
-pub record AreCountsAt (standing : Standing) (point : SchedulePoint) : Type 0 where
-  pub ended : standing.ended ≡ point.ended
-  pub singles : standing.singles ≡ point.singles
-  pub steps : standing.steps ≡ point.steps
-  pub idle : standing.idle ≡ point.idle
+pub record AreCountsAt (place : SchedulePlace) (point : SchedulePoint) : Type 0 where
+  pub ended : place.ended ≡ point.ended
+  pub singles : place.singles ≡ point.singles
+  pub steps : place.steps ≡ point.steps
+  pub idle : place.idle ≡ point.idle
 
 -- the turn is that of the root that counts, and its ids were drawn; 0 where there is no root
 abbrev pub IsLastTurn : HeldTexts → ℕ → Records → KeptPoint → ℕ → ℕ → Type 0
 IsLastTurn texts starts held kept turn next =
-    (HoldsKept texts starts held no_root kept × (turn ≡ 0))
+    (HoldsKeptPoint texts starts held no_root kept × (turn ≡ 0))
     ⊎ ((root : Root) × IsKeptBy texts starts held kept root × (turn ≡ root.mark.turn) × (root.next_id ≤ next))
 
 -- The run is at a point, and this is kept: the engine stands for the point's state, the numbers are the point's, and there are few turns
 -- and ids.
-pub record IsUnderWay {E : Type 0} (Stand : Standings E) (keep_of : E → KeepState) (flow_of : E → Dataflow) (texts : HeldTexts) (starts : ℕ)
-    (records : Option Records) (engine : E) (standing : Standing) (kept : KeptPoint) (point : SchedulePoint) : Type 0 where
+pub record IsRunAt {E : Type 0} (Stand : Standings E) (keep_of : E → KeepState) (flow_of : E → Dataflow) (texts : HeldTexts) (starts : ℕ)
+    (records : Option Records) (engine : E) (place : SchedulePlace) (kept : KeptPoint) (point : SchedulePoint) : Type 0 where
   pub held : Records
   pub told : records ≡ Some held
   pub flow : flow_of engine ≡ texts.flow
   pub stands : Stand (system_in texts) engine records point.state
   pub reached : IsReached (system_in texts) point.state
   pub of_items : IsPointOf texts.items point
-  pub counts : AreCountsAt standing point
-  pub turn : IsLastTurn texts starts held kept standing.turn (keep_of engine).next
-  pub turns : standing.turn ≤ point.steps + starts
+  pub counts : AreCountsAt place point
+  pub turn : IsLastTurn texts starts held kept place.turn (keep_of engine).next
+  pub turns : place.turn ≤ point.steps + starts
   pub ids : (keep_of engine).next ≤ 256 * point.steps
 
 -- the records are told, and a start finds this, and this kept
 abbrev pub HoldsFound : HeldTexts → ℕ → Option Records → Found → KeptPoint → Type 0
-HoldsFound texts starts records found kept = (held : Records) × (records ≡ Some held) × HoldsKept texts starts held found kept
+HoldsFound texts starts records found kept = (held : Records) × (records ≡ Some held) × HoldsKeptPoint texts starts held found kept
 
 -- the records are told, and hold what is kept
 abbrev pub HoldsKeptIn : HeldTexts → ℕ → Option Records → KeptPoint → Type 0
@@ -130,7 +130,7 @@ pub record MakesMoves {T : Type 0} (AreSo : List Move → Type 0) (texts : HeldT
 -- A turn was made up to its root: the engine stands for the state of the point to which the move leads, the numbers are those of that
 -- point, but for the turn; what was kept before is still kept, and what came of the step is told by the move.
 pub record IsTurnMade {E : Type 0} (Stand : Standings E) (keep_of : E → KeepState) (flow_of : E → Dataflow) (texts : HeldTexts) (starts : ℕ)
-    (records : Option Records) (engine : E) (standing : Standing) (kept : KeptPoint) (from : SchedulePoint) (move : Move) (to : SchedulePoint)
+    (records : Option Records) (engine : E) (place : SchedulePlace) (kept : KeptPoint) (from : SchedulePoint) (move : Move) (to : SchedulePoint)
     (outcome : Outcome) : Type 0 where
   pub held : Records
   pub told : records ≡ Some held
@@ -141,9 +141,9 @@ pub record IsTurnMade {E : Type 0} (Stand : Standings E) (keep_of : E → KeepSt
   pub stands : Stand (system_in texts) engine records to.state
   pub reached : IsReached (system_in texts) to.state
   pub of_items : IsPointOf texts.items to
-  pub counts : AreCountsAt standing to
-  pub turn : IsLastTurn texts starts held kept standing.turn (keep_of engine).next
-  pub turns : standing.turn + 1 ≤ to.steps + starts
+  pub counts : AreCountsAt place to
+  pub turn : IsLastTurn texts starts held kept place.turn (keep_of engine).next
+  pub turns : place.turn + 1 ≤ to.steps + starts
   pub ids : (keep_of engine).next ≤ 256 * to.steps
   pub few : starts ≤ 2 ^ 61
 
@@ -158,21 +158,21 @@ TellsLines lines (Err ForeignRoot) before after = ⊥
 -- ---- numbers
 
 -- how many moves may come at most: of the items that are left each has its steps, and its end
-abbrev pub moves_left : List Item → Standing → ℕ
-moves_left items standing =
-    step_count (drop standing.ended items) + length (drop standing.ended items) - standing.singles
+abbrev pub moves_left : List Item → SchedulePlace → ℕ
+moves_left items place =
+    step_count (drop place.ended items) + length (drop place.ended items) - place.singles
 
 -- The numbers are those of a place of the items, and there is room for what may come: for turns, steps, and the ids of records.
-pub record HasRoomIn (items : List Item) (standing : Standing) (next : ℕ) : Type 0 where
+pub record HasRoomIn (items : List Item) (place : SchedulePlace) (next : ℕ) : Type 0 where
   pub many : length items < 2 ^ 64
-  pub ended : standing.ended ≤ length items
-  pub singles : AreSinglesOf (drop standing.ended items) standing.singles
-  pub turn : standing.turn + moves_left items standing < 2 ^ 64
-  pub steps : standing.steps + moves_left items standing < 2 ^ 64
-  pub idle : standing.idle + moves_left items standing < 2 ^ 64
-  pub ids : next + 256 * moves_left items standing ≤ 2 ^ 63
+  pub ended : place.ended ≤ length items
+  pub singles : AreSinglesOf (drop place.ended items) place.singles
+  pub turn : place.turn + moves_left items place < 2 ^ 64
+  pub steps : place.steps + moves_left items place < 2 ^ 64
+  pub idle : place.idle + moves_left items place < 2 ^ 64
+  pub ids : next + 256 * moves_left items place ≤ 2 ^ 63
 
 -- a move was made: fewer are left, and there is room for them
-pub record HasMoved (items : List Item) (old new : Standing) (next : ℕ) : Type 0 where
+pub record HasMoved (items : List Item) (old new : SchedulePlace) (next : ℕ) : Type 0 where
   pub room : HasRoomIn items new next
   pub fewer : moves_left items new < moves_left items old

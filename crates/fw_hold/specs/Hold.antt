@@ -1,6 +1,6 @@
 -- Where a held run ends.
 use Rattle.std.specs.Prelude.{◌≡◌, length}
-use Rattle.fw_hold.specs.declared.standing.HeldCounts.{HeldCounts}
+use Rattle.fw_hold.specs.declared.place.HeldCounts.{HeldCounts}
 use Rattle.fw_hold.specs.Kept.{HeldTexts}
 use Rattle.fw_hold.specs.Moves.{SchedulePoint, KeptPoint}
 

@@ -17,7 +17,7 @@ use Rattle.fw_root.specs.Reading.{read_root_head}
 use Rattle.fw_root.specs.Sound.{IsRootFor}
 use Rattle.fw_root.specs.Spelling.{root_spelling}
 use Rattle.fw_hold.specs.declared.plan.HeldPlan.{HeldPlan}
-use Rattle.fw_hold.specs.declared.standing.Standing.{Standing}
+use Rattle.fw_hold.specs.declared.place.SchedulePlace.{SchedulePlace}
 use Rattle.fw_hold.specs.Moves.{SchedulePoint, KeptPoint, point_at_first}
 use Rattle.fw_named.specs.Named.{AreNamed}
 
@@ -70,8 +70,8 @@ singles_of [] said = 0
 singles_of (item ∷ items) said = if nat_lt said (steps_in item) then said else 0
 
 -- where a run stands behind a root
-abbrev pub standing_of : List Item → List ℕ → Root → Standing
-standing_of items numbers root = record {
+abbrev pub place_behind_root : List Item → List ℕ → Root → SchedulePlace
+place_behind_root items numbers root = record {
   turn = root.mark.turn;
   ended = ended_before numbers root.mark.line;
   singles = singles_of (drop (ended_before numbers root.mark.line) items) root.mark.singles;
@@ -80,14 +80,14 @@ standing_of items numbers root = record {
 }
 
 -- the mark of a root: where a run stands, with these lines
-abbrev pub mark_of : HeldPlan → Standing → List ℕ → Mark
-mark_of plan standing lines = record {
+abbrev pub mark_of : HeldPlan → SchedulePlace → List ℕ → Mark
+mark_of plan place lines = record {
   digests = plan.digests;
-  turn = standing.turn;
-  line = line_at plan.numbers.now standing.ended;
-  singles = standing.singles;
-  steps = standing.steps;
-  idle = standing.idle;
+  turn = place.turn;
+  line = line_at plan.numbers.now place.ended;
+  singles = place.singles;
+  steps = place.steps;
+  idle = place.idle;
   lines = lines;
 }
 
@@ -141,8 +141,8 @@ pub record IsKeptBy (texts : HeldTexts) (starts : ℕ) (held : Records) (kept : 
   pub ids : root.next_id ≤ 256 * kept.point.steps
 
 -- nothing is kept yet
-abbrev pub nothing_kept : System → KeptPoint
-nothing_kept sys = record { point = point_at_first sys; lines = [] }
+abbrev pub kept_at_first : System → KeptPoint
+kept_at_first sys = record { point = point_at_first sys; lines = [] }
 
 -- whether a start finds a root
 pub data Found : Type 0 where
@@ -150,6 +150,6 @@ pub data Found : Type 0 where
   a_root : Found
 
 -- After so many starts the records hold what is kept: no root, where nothing is kept yet; or a root that counts, of what is kept.
-abbrev pub HoldsKept : HeldTexts → ℕ → Records → Found → KeptPoint → Type 0
-HoldsKept texts starts held no_root kept = HaveNoRoot held × (kept ≡ nothing_kept (system_in texts))
-HoldsKept texts starts held a_root kept = (root : Root) × IsKeptBy texts starts held kept root
+abbrev pub HoldsKeptPoint : HeldTexts → ℕ → Records → Found → KeptPoint → Type 0
+HoldsKeptPoint texts starts held no_root kept = HaveNoRoot held × (kept ≡ kept_at_first (system_in texts))
+HoldsKeptPoint texts starts held a_root kept = (root : Root) × IsKeptBy texts starts held kept root

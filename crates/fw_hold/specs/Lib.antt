@@ -6,5 +6,5 @@ pub mod Going
 pub mod Hold
 pub mod Kept
 pub mod Moves
-pub mod Standing
+pub mod Place
 pub mod Starting

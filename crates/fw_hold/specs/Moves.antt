@@ -83,9 +83,9 @@ Makes sys items from passed to = OfNextItem items from (λ item. PassesItem sys 
 Makes sys items from ended_early to = OfNextItem items from (λ item. EndsEarly sys item from × (to ≡ past_item from))
 
 -- whether a step was not enabled
-abbrev pub is_idle : Outcome → Bool
-is_idle (did effect) = false
-is_idle idle = true
+abbrev pub is_idle_outcome : Outcome → Bool
+is_idle_outcome (did effect) = false
+is_idle_outcome idle = true
 
 -- ---- what is printed
 

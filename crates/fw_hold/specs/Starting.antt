@@ -16,11 +16,11 @@ use Rattle.fw_command.specs.Writing.{IsWritten, IsCutOff}
 use Rattle.fw_hold.specs.declared.fault.HoldFault.{HoldFault}
 use Rattle.fw_hold.specs.declared.fault.HoldFault.TheVariants.{Out, Engine, DamagedRoot, ForeignRoot}
 use Rattle.fw_hold.specs.declared.plan.HeldPlan.{HeldPlan}
-use Rattle.fw_hold.specs.declared.standing.Standing.{Standing}
+use Rattle.fw_hold.specs.declared.place.SchedulePlace.{SchedulePlace}
 use Rattle.fw_hold.specs.Engine.{Standings}
 use Rattle.fw_hold.specs.Found.{BeginAs}
-use Rattle.fw_hold.specs.Going.{HoldsKeptIn, AreForward, IsUnderWay, WritesUpTo}
-use Rattle.fw_hold.specs.Kept.{HeldTexts, Found, no_root, a_root, root_id, HoldsKept, IsKeptBy, system_in}
+use Rattle.fw_hold.specs.Going.{HoldsKeptIn, AreForward, IsRunAt, WritesUpTo}
+use Rattle.fw_hold.specs.Kept.{HeldTexts, Found, no_root, a_root, root_id, HoldsKeptPoint, IsKeptBy, system_in}
 use Rattle.fw_hold.specs.Moves.{Move, restored, turned, passed, ended_early, SchedulePoint, KeptPoint, MakesAll, moves_text}
 
 -- ---- what a start finds
@@ -48,7 +48,7 @@ pub record HoldsStarts (texts : HeldTexts) (held : Records) : Type 0 where
   pub few : starts < 2 ^ 61
   pub found : Found
   pub kept : KeptPoint
-  pub holds : HoldsKept texts starts held found kept
+  pub holds : HoldsKeptPoint texts starts held found kept
 
 -- a start may begin over the records, where they are told: they hold what starts kept, or the root that counts is one of other texts
 abbrev pub MayStart : HeldTexts → Option Records → Type 0
@@ -59,8 +59,8 @@ abbrev pub IsKeptIn : HeldTexts → ℕ → Option Records → KeptPoint → Roo
 IsKeptIn texts starts records kept root = (held : Records) × (records ≡ Some held) × IsKeptBy texts starts held kept root
 
 -- what a plan, a dataflow and its batches are of texts
-abbrev pub texts_of : Dataflow → Given → HeldPlan → HeldTexts
-texts_of flow batches plan =
+abbrev pub held_texts_of : Dataflow → Given → HeldPlan → HeldTexts
+held_texts_of flow batches plan =
     record { flow = flow; batches = batches; items = plan.items.now; numbers = plan.numbers.now; digests = plan.digests }
 
 -- ---- what it tells and does
@@ -102,9 +102,9 @@ abbrev pub BeginsAsFound : Found → List Move → Type 0
 BeginsAsFound found moves = (moves ≡ []) ⊎ RestoresAsFound found moves
 
 -- the lines that were to be written last: those of the last turn, and of the opening where no move was made
-abbrev pub last_lines : Found → KeptPoint → List Move → KeptPoint → List ℕ
-last_lines found kept [] now = opening_text found kept
-last_lines found kept (move ∷ moves) now = now.lines
+abbrev pub lines_written_last : Found → KeptPoint → List Move → KeptPoint → List ℕ
+lines_written_last found kept [] now = opening_text found kept
+lines_written_last found kept (move ∷ moves) now = now.lines
 
 -- of what is answered this is true, where all went well
 abbrev pub IfWell : {T : Type 0} → Result T HoldFault → (T → Type 0) → Type 0
@@ -112,8 +112,8 @@ IfWell (Ok value) P = P value
 IfWell (Err fault) P = Unit {0}
 
 -- A start found this kept, and made moves from there, perhaps none; the records hold what is kept behind them. Its text is what it opens
--- with and the lines of its moves; or nothing, where it did not come so far as to open. The answer says what was written of it; where all
--- went well this is true of the value, of what is kept and of the last point.
+-- with and the lines of its moves; or nothing, where it ended before it came to open. The answer says what was written of it. Where all went
+-- well it opened, and this is true of the value, of what is kept and of the last point.
 pub record EndsStart {T : Type 0} (texts : HeldTexts) (starts : ℕ) (found : Found) (kept : KeptPoint) (answer : Result T HoldFault)
     (records : Option Records) (before after : SinkView) (IsSo : T → KeptPoint → SchedulePoint → Type 0) : Type 0 where
   pub moves : List Move
@@ -124,19 +124,20 @@ pub record EndsStart {T : Type 0} (texts : HeldTexts) (starts : ℕ) (found : Fo
   pub holds : HoldsKeptIn texts (starts + 1) records now
   pub text : List ℕ
   pub told : (text ≡ opening_text found kept ++ moves_text texts.flow moves) ⊎ ((text ≡ []) × (moves ≡ []))
-  pub wrote : WritesUpTo text (last_lines found kept moves now) answer before after
+  pub opened : IfWell answer (λ value. (text ≡ opening_text found kept ++ moves_text texts.flow moves) × RestoresAsFound found moves)
+  pub wrote : WritesUpTo text (lines_written_last found kept moves now) answer before after
   pub so : IfWell answer (λ value. IsSo value now last)
 
 -- A start found this kept, and is under way: it has told what it opens with, and the lines of the moves that it made from there.
 pub record HasBegun {E : Type 0} (Stand : Standings E) (keep_of : E → KeepState) (flow_of : E → Dataflow) (texts : HeldTexts) (starts : ℕ)
-    (found : Found) (kept : KeptPoint) (records : Option Records) (before after : SinkView) (engine : E) (standing : Standing) : Type 0 where
+    (found : Found) (kept : KeptPoint) (records : Option Records) (before after : SinkView) (engine : E) (place : SchedulePlace) : Type 0 where
   pub moves : List Move
   pub now : KeptPoint
   pub last : SchedulePoint
   pub made : MakesAll (system_in texts) texts.items kept kept.point moves now last
   pub begins : RestoresAsFound found moves
   pub wrote : IsWritten (opening_text found kept ++ moves_text texts.flow moves) before after
-  pub under_way : IsUnderWay Stand keep_of flow_of texts (starts + 1) records engine standing now last
+  pub under_way : IsRunAt Stand keep_of flow_of texts (starts + 1) records engine place now last
 
 -- A root of other texts is answered, unless the store fails or memory is refused before it is known.
 abbrev pub IsToldForeign : {T : Type 0} → Result T HoldFault → Type 0

@@ -6,7 +6,7 @@ ghost use Rattle.fw_keep.specs.Catalogue.{KeepState};
 ghost use Rattle.fw_keep.specs.Stored.{Records};
 ghost use Rattle.fw_model.specs.Machine.{Machine, first_state};
 ghost use Rattle.fw_root.specs.Sound.{IsRootFor};
-ghost use Rattle.fw_hold.specs.Engine.{HasEntries, StepsHeld, StepsFirstHeld, SweepsHeld, IsRootIn, ResumesHeld, StandsOverOthers};
+ghost use Rattle.fw_hold.specs.Engine.{EntriesAreThere, StepsHeld, StepsFirstHeld, SweepsHeld, IsRootIn, ResumesHeld, StandsOverOthers};
 ghost use Rattle.fw_hold.specs.Found.{HasNamed};
 
 use fw_flow::{Flow, Step};
@@ -32,7 +32,7 @@ pub trait HeldEngine: Drop + Sized {
         requires { IsWellFormedSystem (system_of flow batches.now) }
         ensures stands { (records : Option Records) → let sys = system_of flow batches.now in
             IfOk result (λ engine. stand sys engine records (first_state sys)) }
-        ensures stored { (records : Option Records) → IfOk result (λ engine. HasEntries (keep_of engine) records) }
+        ensures stored { (records : Option Records) → IfOk result (λ engine. EntriesAreThere (keep_of engine) records) }
         ensures flow { IfOk result (λ engine. flow_of engine ≡ flow) }
         ensures next { IfOk result (λ engine. (keep_of engine).next ≡ 0) };
 
@@ -60,17 +60,17 @@ pub trait HeldEngine: Drop + Sized {
 
     /// Takes a step, and sweeps nothing.
     fn step_held<K: Store>(&mut self, step: &Step, store: &mut K) -> Result<Stepped, EngineFault>
-        requires stored { HasEntries (keep_of self.old) (K.view store.old).records }
+        requires stored { EntriesAreThere (keep_of self.old) (K.view store.old).records }
         ensures { StepsHeld K.view stand keep_of flow_of self.old store.old step.now result self.new store.new };
 
     /// Takes the first step that is enabled, and sweeps nothing.
     fn auto_step_held<K: Store>(&mut self, store: &mut K) -> Result<Stepped, EngineFault>
-        requires stored { HasEntries (keep_of self.old) (K.view store.old).records }
+        requires stored { EntriesAreThere (keep_of self.old) (K.view store.old).records }
         ensures { StepsFirstHeld K.view stand keep_of flow_of self.old store.old result self.new store.new };
 
     /// Removes the records that wait.
     fn sweep<K: Store>(&mut self, store: &mut K) -> Result<(), EngineFault>
-        requires stored { HasEntries (keep_of self.old) (K.view store.old).records }
+        requires stored { EntriesAreThere (keep_of self.old) (K.view store.old).records }
         ensures { SweepsHeld K.view stand keep_of flow_of self.old store.old result self.new store.new };
 
     /// What others put into its store, or remove there, is nothing to it.

@@ -96,7 +96,8 @@ fn read_root<K: Store>(alloc: Global, id: u64, store: &mut K) -> Result<FoundRoo
 
 /// Puts a root in the place of the one before the last.
 pub fn put_root<K: Store>(alloc: Global, root: &Root, store: &mut K) -> Result<(), HoldFault>
-    ensures put { OnOk result (ForSome (K.view store.new).records (λ held. map.get held (spec.root_id root.now.mark.turn) ≡ Some (root_spelling root.now))) }
+    ensures put { OnOk result (ForSome (K.view store.new).records (λ held.
+        map.get held (spec.root_id root.now.mark.turn) ≡ Some (root_spelling root.now))) }
     ensures others { ChangesOnly (spec.root_id root.now.mark.turn) (K.view store.old).records (K.view store.new).records }
     // Where the store fails, there is what was there, or nothing.
     ensures refused { OnErr result (IsLeftOrGone (spec.root_id root.now.mark.turn) (K.view store.old).records (K.view store.new).records) }

@@ -6,15 +6,15 @@ mod fault;
 mod found;
 pub mod laws;
 mod moving;
+mod place;
 mod plan;
 mod run;
-mod standing;
 mod start;
 mod turn;
 mod types;
 
 pub use engine::HeldEngine;
 pub use fault::HoldFault;
+pub use place::HeldCounts;
 pub use plan::HeldPlan;
 pub use run::hold;
-pub use standing::HeldCounts;

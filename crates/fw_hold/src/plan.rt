@@ -2,7 +2,7 @@
 ghost use Rattle.std.specs.Prelude.{◌≡◌, ◌<◌, ◌^◌};
 ghost use Rattle.fw_hold.specs.Kept as spec;
 
-use crate::standing::Standing;
+use crate::place::SchedulePlace;
 use fw_flow::Flow;
 use fw_lines::Batches;
 use fw_root::{Digests, Root};
@@ -36,15 +36,15 @@ impl<'a> HeldPlan<'a> {
     }
 
     /// Where a run stands behind a root. A place that is none of the schedule is taken for one of it.
-    pub fn standing_of(&self, root: &Root) -> Standing
-        ensures { result ≡ spec.standing_of self.now.items.now self.now.numbers.now root.now }
+    pub fn place_behind_root(&self, root: &Root) -> SchedulePlace
+        ensures { result ≡ spec.place_behind_root self.now.items.now self.now.numbers.now root.now }
     {
         let ended = self.ended_before(root.mark.line);
         let singles = match self.items.get(ended) {
             Some(item) if root.mark.singles < item.steps() => root.mark.singles,
             _ => 0,
         };
-        Standing {
+        SchedulePlace {
             turn: root.mark.turn,
             ended,
             singles,

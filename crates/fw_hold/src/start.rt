@@ -5,18 +5,20 @@ ghost use Rattle.fw_flow.specs.WellFormed.{IsWellFormedSystem};
 ghost use Rattle.fw_root.specs.declared.root.Root.{Root as Spelled};
 ghost use Rattle.fw_root.specs.Sound.{IsRootFor};
 ghost use Rattle.fw_root.specs.Spelling.{root_spelling};
-ghost use Rattle.fw_hold.specs.Engine.{HasEntries};
+ghost use Rattle.fw_outside.specs.Outside.{StayIfTold};
+ghost use Rattle.fw_running.specs.declared.fault.EngineFault.TheVariants as engine;
+ghost use Rattle.fw_hold.specs.Engine.{EntriesAreThere, GaveBytes};
 ghost use Rattle.fw_hold.specs.Faults.{faults_after_hold, IsNotOut, IsOfRoot};
-ghost use Rattle.fw_hold.specs.Found.{HasNamed};
+ghost use Rattle.fw_hold.specs.Found.{GaveForeign, GaveNoRoot, HasNamed};
 ghost use Rattle.fw_hold.specs.Going.{CountsOut, HasRoomIn, HoldsFound};
 ghost use Rattle.fw_hold.specs.Hold.{IsAtEnd};
 ghost use Rattle.fw_hold.specs.Kept.{Found, a_root, IsPlanOf};
 ghost use Rattle.fw_hold.specs.Moves.{KeptPoint};
-ghost use Rattle.fw_hold.specs.Starting.{EndsStart, HasBegun, IsForeignIn, IsKeptIn, IsThisOrNoMemory, IsToldForeign, MayStart, TellsOpening, lines_of_root, texts_of};
-ghost use Rattle.fw_hold.specs.declared.fault.HoldFault.TheVariants.{ForeignRoot};
+ghost use Rattle.fw_hold.specs.Starting.{EndsStart, HasBegun, IsForeignIn, IsKeptIn, IsThisOrNoMemory, IsToldForeign, MayStart, TellsOpening, lines_of_root, held_texts_of};
+ghost use Rattle.fw_hold.specs.declared.fault.HoldFault.TheVariants.{DamagedRoot, Engine as EngineThere, ForeignRoot};
 
 use crate::found::{FoundRoot, counted_root};
-use crate::standing::Standing;
+use crate::place::SchedulePlace;
 use crate::turn::{end_turn, tell};
 use crate::types::are_small;
 use crate::{HeldEngine, HeldPlan, HoldFault};
@@ -35,31 +37,36 @@ pub fn begin<E: HeldEngine, K: Store, O: Sink>(
     batches: &Batches,
     store: &mut K,
     out: &mut O,
-) -> Result<(E, Standing), HoldFault>
+) -> Result<(E, SchedulePlace), HoldFault>
     requires well_formed { IsWellFormedSystem (system_of flow batches.now) }
-    requires plan { IsPlanOf (texts_of flow batches.now plan.now) plan.now }
-    requires store { MayStart (texts_of flow batches.now plan.now) (K.view store.old).records }
-    ensures stored { IfOk result (λ begun. HasEntries (E.keep_of begun.0) (K.view store.new).records) }
+    requires plan { IsPlanOf (held_texts_of flow batches.now plan.now) plan.now }
+    requires store { MayStart (held_texts_of flow batches.now plan.now) (K.view store.old).records }
+    ensures stored { IfOk result (λ begun. EntriesAreThere (E.keep_of begun.0) (K.view store.new).records) }
     ensures room { IfOk result (λ begun. HasRoomIn plan.now.items.now begun.1 (E.keep_of begun.0).next) }
     ensures begun { (starts : ℕ) (found : Found) (kept : KeptPoint) → starts < 2 ^ 61
-        → HoldsFound (texts_of flow batches.now plan.now) starts (K.view store.old).records found kept → IsSome (K.view store.new).records
-        → IfOk result (λ begun. HasBegun E.stand E.keep_of E.flow_of (texts_of flow batches.now plan.now) starts found kept (K.view store.new).records
-        (O.view out.old) (O.view out.new) begun.0 begun.1) }
+        → HoldsFound (held_texts_of flow batches.now plan.now) starts (K.view store.old).records found kept → IsSome (K.view store.new).records
+        → IfOk result (λ begun. HasBegun E.stand E.keep_of E.flow_of (held_texts_of flow batches.now plan.now) starts found kept
+        (K.view store.new).records (O.view out.old) (O.view out.new) begun.0 begun.1) }
     ensures ended { (starts : ℕ) (found : Found) (kept : KeptPoint) → starts < 2 ^ 61
-        → HoldsFound (texts_of flow batches.now plan.now) starts (K.view store.old).records found kept → IsSome (K.view store.new).records
-        → IfErr result (λ fault. EndsStart (texts_of flow batches.now plan.now) starts found kept (Err fault) (K.view store.new).records
-        (O.view out.old) (O.view out.new) (IsAtEnd (texts_of flow batches.now plan.now))) }
-    ensures foreign { IsForeignIn plan.now.digests (K.view store.old).records → IsSome (K.view store.new).records → IsToldForeign result × (out.new ≡ out.old) }
+        → HoldsFound (held_texts_of flow batches.now plan.now) starts (K.view store.old).records found kept → IsSome (K.view store.new).records
+        → IfErr result (λ fault. EndsStart (held_texts_of flow batches.now plan.now) starts found kept (Err fault) (K.view store.new).records
+        (O.view out.old) (O.view out.new) (IsAtEnd (held_texts_of flow batches.now plan.now))) }
+    ensures foreign { IsForeignIn plan.now.digests (K.view store.old).records → IsSome (K.view store.new).records
+        → IsToldForeign result × (out.new ≡ out.old) × ((K.view store.new).records ≡ (K.view store.old).records) }
+    ensures of_root { IsOfRoot result → (out.new ≡ out.old) × StayIfTold (K.view store.old).records (K.view store.new).records }
+    ensures damaged_root { (id : ℕ) → IsErrOf result (DamagedRoot id)
+        → GaveNoRoot (held_texts_of flow batches.now plan.now) id (K.view store.new).given }
+    ensures foreign_root { IsErrOf result ForeignRoot → GaveForeign plan.now.digests (K.view store.new).given }
+    ensures damaged { (id : ℕ) → IsErrOf result (EngineThere (engine.Damaged id)) → GaveBytes id (K.view store.new).given }
     ensures output { CountsOut result (O.view out.old) (O.view out.new) }
-    ensures of_root { IsOfRoot result → out.new ≡ out.old }
     ensures told_before { IsSome (K.view store.new).records → IsSome (K.view store.old).records }
     ensures faults { (K.view store.new).faults ≡ faults_after_hold result (K.view store.old).faults }
 {
     are_small(plan.numbers);
     let Some(found) = counted_root(alloc, store)? else {
-        return Ok((E::fresh(alloc, flow, batches)?, Standing::first()));
+        return Ok((E::fresh(alloc, flow, batches)?, SchedulePlace::first()));
     };
-    let root = root_of(alloc, &plan.digests, &flow, batches, &found)?;
+    let root = decoded_root(alloc, &plan.digests, &flow, batches, &found)?;
     resume_from(alloc, plan, flow, batches, &root, store, out)
 }
 
@@ -73,36 +80,37 @@ fn resume_from<E: HeldEngine, K: Store, O: Sink>(
     root: &Root,
     store: &mut K,
     out: &mut O,
-) -> Result<(E, Standing), HoldFault>
+) -> Result<(E, SchedulePlace), HoldFault>
     requires well_formed { IsWellFormedSystem (system_of flow batches.now) }
-    requires plan { IsPlanOf (texts_of flow batches.now plan.now) plan.now }
+    requires plan { IsPlanOf (held_texts_of flow batches.now plan.now) plan.now }
     requires sound { IsRootFor flow batches.now root.now }
     requires there { HasNamed root.now (K.view store.old).records }
-    ensures stored { IfOk result (λ begun. HasEntries (E.keep_of begun.0) (K.view store.new).records) }
+    ensures stored { IfOk result (λ begun. EntriesAreThere (E.keep_of begun.0) (K.view store.new).records) }
     ensures room { IfOk result (λ begun. HasRoomIn plan.now.items.now begun.1 (E.keep_of begun.0).next) }
     ensures begun { (starts : ℕ) (kept : KeptPoint) → starts < 2 ^ 61
-        → IsKeptIn (texts_of flow batches.now plan.now) starts (K.view store.old).records kept root.now → IsSome (K.view store.new).records
-        → IfOk result (λ begun. HasBegun E.stand E.keep_of E.flow_of (texts_of flow batches.now plan.now) starts a_root kept (K.view store.new).records
-        (O.view out.old) (O.view out.new) begun.0 begun.1) }
+        → IsKeptIn (held_texts_of flow batches.now plan.now) starts (K.view store.old).records kept root.now → IsSome (K.view store.new).records
+        → IfOk result (λ begun. HasBegun E.stand E.keep_of E.flow_of (held_texts_of flow batches.now plan.now) starts a_root kept
+        (K.view store.new).records (O.view out.old) (O.view out.new) begun.0 begun.1) }
     ensures ended { (starts : ℕ) (kept : KeptPoint) → starts < 2 ^ 61
-        → IsKeptIn (texts_of flow batches.now plan.now) starts (K.view store.old).records kept root.now → IsSome (K.view store.new).records
-        → IfErr result (λ fault. EndsStart (texts_of flow batches.now plan.now) starts a_root kept (Err fault) (K.view store.new).records
-        (O.view out.old) (O.view out.new) (IsAtEnd (texts_of flow batches.now plan.now))) }
+        → IsKeptIn (held_texts_of flow batches.now plan.now) starts (K.view store.old).records kept root.now → IsSome (K.view store.new).records
+        → IfErr result (λ fault. EndsStart (held_texts_of flow batches.now plan.now) starts a_root kept (Err fault) (K.view store.new).records
+        (O.view out.old) (O.view out.new) (IsAtEnd (held_texts_of flow batches.now plan.now))) }
     ensures output { CountsOut result (O.view out.old) (O.view out.new) }
     ensures of_root { IsOfRoot result → ⊥ }
+    ensures damaged { (id : ℕ) → IsErrOf result (EngineThere (engine.Damaged id)) → GaveBytes id (K.view store.new).given }
     ensures told_before { IsSome (K.view store.new).records → IsSome (K.view store.old).records }
     ensures faults { (K.view store.new).faults ≡ faults_after_hold result (K.view store.old).faults }
 {
     tell_opening(alloc, root, out)?;
     are_small(plan.numbers);
-    let mut standing = plan.standing_of(root);
+    let mut place = plan.place_behind_root(root);
     let (mut engine, stepped) = E::resume(alloc, flow, batches, root, store)?;
-    end_turn(alloc, plan, &mut engine, &mut standing, stepped, store, out)?;
-    Ok((engine, standing))
+    end_turn(alloc, plan, &mut engine, &mut place, stepped, store, out)?;
+    Ok((engine, place))
 }
 
 /// What the bytes of a root spell, if it is one of these texts.
-fn root_of(
+fn decoded_root(
     alloc: Global,
     digests: &Digests,
     flow: &Flow,
@@ -111,9 +119,12 @@ fn root_of(
 ) -> Result<Root, HoldFault>
     ensures root { IfOk result (λ root. IsRootFor flow.now batches.now root × (found.now.bytes.items ≡ root_spelling root)) }
     ensures of_texts { IfOk result (λ root. found.now.head.digests ≡ digests.now) }
-    ensures only { (root : Spelled) → IsRootFor flow.now batches.now root → found.now.bytes.items ≡ root_spelling root → found.now.head.digests ≡ digests.now
-        → IsThisOrNoMemory root result }
+    ensures only { (root : Spelled) → IsRootFor flow.now batches.now root → found.now.bytes.items ≡ root_spelling root
+        → found.now.head.digests ≡ digests.now → IsThisOrNoMemory root result }
     ensures foreign { (found.now.head.digests ≡ digests.now → ⊥) → IsErrOf result ForeignRoot }
+    ensures damaged { (id : ℕ) → IsErrOf result (DamagedRoot id) → (id ≡ found.now.id) × (found.now.head.digests ≡ digests.now) }
+    ensures other { IsErrOf result ForeignRoot → found.now.head.digests ≡ digests.now → ⊥ }
+    ensures undamaged { (id : ℕ) → IsErrOf result (EngineThere (engine.Damaged id)) → ⊥ }
     ensures not_out { IsNotOut result }
     ensures faults { (count : ℕ) → faults_after_hold result count ≡ count }
 {

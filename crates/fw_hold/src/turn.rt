@@ -1,18 +1,20 @@
 //! What follows a step that is done.
-ghost use Rattle.std.specs.Prelude.{◌≡◌, ◌+◌, ◌<◌, ◌≤◌, ◌^◌, ℕ, IfOk, OnOk, IsSome};
+ghost use Rattle.std.specs.Prelude.{◌≡◌, ◌+◌, ◌<◌, ◌≤◌, ◌^◌, ℕ, IfOk, OnOk, IsErrOf, IsSome};
 ghost use Rattle.fw_root.specs.Sound.{AreLines, AreDigests};
+ghost use Rattle.fw_running.specs.declared.fault.EngineFault.TheVariants as fault;
 ghost use Rattle.fw_running.specs.EffectText.{outcome_text};
 ghost use Rattle.fw_running.specs.Steps.{outcome_of};
-ghost use Rattle.fw_hold.specs.Engine.{HasEntries};
+ghost use Rattle.fw_hold.specs.declared.fault.HoldFault.TheVariants.{Engine as EngineThere};
+ghost use Rattle.fw_hold.specs.Engine.{EntriesAreThere};
 ghost use Rattle.fw_hold.specs.Faults.{faults_after_hold, IsOfRoot};
-ghost use Rattle.fw_hold.specs.Going.{CountsOut, IsOneTurn, IsUnderWay, MakesMoves, IsTurnMade, TellsLines};
+ghost use Rattle.fw_hold.specs.Going.{CountsOut, IsOneTurn, IsRunAt, MakesMoves, IsTurnMade, TellsLines};
 ghost use Rattle.fw_hold.specs.Kept as spec;
 ghost use Rattle.fw_hold.specs.Kept.{HeldTexts, IsPlanOf};
 ghost use Rattle.fw_hold.specs.Moves.{KeptPoint, SchedulePoint, Move};
-ghost use Rattle.fw_hold.specs.Standing.{with_turn};
+ghost use Rattle.fw_hold.specs.Place.{place_with_turn};
 
 use crate::found::put_root;
-use crate::standing::Standing;
+use crate::place::SchedulePlace;
 use crate::types::{are_bytes, is_digest};
 use crate::{HeldEngine, HeldPlan, HoldFault};
 use fw_flow::Flow;
@@ -26,31 +28,32 @@ pub fn end_turn<E: HeldEngine, K: Store, O: Sink>(
     alloc: Global,
     plan: &HeldPlan,
     engine: &mut E,
-    standing: &mut Standing,
+    place: &mut SchedulePlace,
     stepped: Stepped,
     store: &mut K,
     out: &mut O,
 ) -> Result<(), HoldFault>
-    requires stored { HasEntries (E.keep_of engine.old) (K.view store.old).records }
-    requires room { standing.old.turn + 1 < 2 ^ 64 }
+    requires stored { EntriesAreThere (E.keep_of engine.old) (K.view store.old).records }
+    requires room { place.old.turn + 1 < 2 ^ 64 }
     requires ids { (E.keep_of engine.old).next ≤ 2 ^ 63 }
-    ensures stored { OnOk result (HasEntries (E.keep_of engine.new) (K.view store.new).records) }
+    ensures stored { OnOk result (EntriesAreThere (E.keep_of engine.new) (K.view store.new).records) }
     ensures next { OnOk result ((E.keep_of engine.new).next ≡ (E.keep_of engine.old).next) }
-    ensures counts { OnOk result (standing.new ≡ with_turn standing.old) }
+    ensures counts { OnOk result (place.new ≡ place_with_turn place.old) }
     ensures turned { (texts : HeldTexts) (starts : ℕ) (kept : KeptPoint) (from to : SchedulePoint) (move : Move)
-        → IsPlanOf texts plan.now → IsTurnMade E.stand E.keep_of E.flow_of texts starts (K.view store.old).records engine.old standing.old kept from move to
+        → IsPlanOf texts plan.now → IsTurnMade E.stand E.keep_of E.flow_of texts starts (K.view store.old).records engine.old place.old kept from move to
         (outcome_of stepped)
         → IsSome (K.view store.new).records → MakesMoves (IsOneTurn move result) texts starts kept from result (K.view store.new).records (O.view out.old) (O.view out.new)
-        (IsUnderWay E.stand E.keep_of E.flow_of texts starts (K.view store.new).records engine.new standing.new) }
+        (IsRunAt E.stand E.keep_of E.flow_of texts starts (K.view store.new).records engine.new place.new) }
     ensures output { CountsOut result (O.view out.old) (O.view out.new) }
     ensures of_root { IsOfRoot result → ⊥ }
+    ensures undamaged { (id : ℕ) → IsErrOf result (EngineThere (fault.Damaged id)) → ⊥ }
     ensures told_before { IsSome (K.view store.new).records → IsSome (K.view store.old).records }
     ensures faults { (K.view store.new).faults ≡ faults_after_hold result (K.view store.old).faults }
 {
     let collects = is_collection(&stepped);
     let lines = lines_of(alloc, engine.flow(), stepped)?;
-    standing.turn += 1;
-    let root = engine.root(mark_of(plan, standing, lines))?;
+    place.turn += 1;
+    let root = engine.root(mark_of(plan, place, lines))?;
     engine.stands_over_others();
     put_root(alloc, &root, store)?;
     tell(root.mark.lines.as_slice(), out)?;
@@ -77,18 +80,18 @@ fn lines_of(alloc: Global, flow: &Flow, stepped: Stepped) -> Result<Printed, All
 }
 
 /// Where a run stands, with these lines.
-fn mark_of(plan: &HeldPlan, standing: &Standing, lines: Printed) -> Mark
-    ensures exact { result ≡ spec.mark_of plan.now standing.now lines }
+fn mark_of(plan: &HeldPlan, place: &SchedulePlace, lines: Printed) -> Mark
+    ensures exact { result ≡ spec.mark_of plan.now place.now lines }
     ensures digests { AreDigests result.digests }
     ensures line { result.line < 2 ^ 33 }
 {
-    let Standing {
+    let SchedulePlace {
         turn,
         ended,
         singles,
         steps,
         idle,
-    } = *standing;
+    } = *place;
     let Digests {
         flow,
         inputs,

@@ -3,14 +3,14 @@ use Rattle.std.proofs.lemmas.Result.{err_from_is_err_and}
 use Rattle.fw_schedule.specs.declared.item.Item.TheVariants.{One}
 use Rattle.fw_running.specs.declared.stepped.Stepped.{Stepped}
 use Rattle.fw_running.specs.Steps.{outcome_of}
-use Rattle.fw_hold.specs.declared.standing.Standing.{Standing}
+use Rattle.fw_hold.specs.declared.place.SchedulePlace.{SchedulePlace}
 use Rattle.fw_hold.specs.Engine.{FollowsIn}
 use Rattle.fw_hold.specs.Faults.{faults_after_hold}
-use Rattle.fw_hold.specs.Going.{HasMoved, IsTurnMade, IsUnderWay}
+use Rattle.fw_hold.specs.Going.{HasMoved, IsTurnMade, IsRunAt}
 use Rattle.fw_hold.specs.Kept.{system_in}
 use Rattle.fw_hold.specs.Moves.{turned}
-use Rattle.fw_hold.specs.Standing as numbers
-use Rattle.fw_hold.proofs.FaultLaws.{step_faults, undamaged_is}
+use Rattle.fw_hold.specs.Place.{place_past_item, place_with_turn}
+use Rattle.fw_hold.proofs.FaultLaws.{damage_in, step_faults, undamaged_is}
 use Rattle.fw_hold.proofs.MovingLaws.{idle_is, item_here, passes, step_failed, step_turn, trusts, turn_forward}
 use Rattle.fw_hold.proofs.RoomLaws.{can_end, moved_idle, moved_on, moved_single, none_of_one, some_left, turn_counted}
 use Rattle.fw_hold.proofs.moving.take_step.Goals as goal
@@ -27,13 +27,18 @@ returns-in_err-stepped-clause-made g c =
     let keep = g.E.HeldEngine.keep_of in
     let flow = g.E.HeldEngine.flow_of in
     let engine = c.args.engine.now in
-    let standing = c.args.standing.now in
+    let place = c.args.place.now in
     let out = g.O.Sink.view c.args.out.now in
     let step = c.args.step.now in
     let fault = c.in_err-stepped.field-0.0 in
     rw (p.1, p.2) (λ texts starts kept point is_plan few u told.
-    step_failed view stand keep flow (Unit {0}) texts starts c.args.store.now c.step_held.new.store (Err fault) engine c.step_held.new.self standing kept point fault out _ is_plan.few u
+    step_failed view stand keep flow (Unit {0}) texts starts c.args.store.now c.step_held.new.store (Err fault) engine c.step_held.new.self place kept point fault out _ is_plan.few u
     c.in_err-stepped.ensures.leaves told (undamaged_is Stepped fault (λ id e. c.in_err-stepped.ensures.unharmed id (system_in texts) point.state u.stands e told)))
+
+pub returns-in_err-stepped-clause-damaged : goal.returns-in_err-stepped-clause-damaged
+returns-in_err-stepped-clause-damaged g c =
+    let p = err_from_is_err_and c.from_residual.result c.from_residual.ensures.1 in
+    rw (p.1, p.2) (λ id e. c.in_err-stepped.ensures.damaged id (damage_in Stepped (Unit {0}) c.in_err-stepped.field-0.0 id e))
 
 pub returns-in_err-stepped-clause-faults : goal.returns-in_err-stepped-clause-faults
 returns-in_err-stepped-clause-faults g c =
@@ -47,29 +52,29 @@ returns-in_err-stepped-clause-told_before g c =
 pub count_idle-requires-clause-steps : goal.count_idle-requires-clause-steps
 count_idle-requires-clause-steps g c =
     let items = c.args.plan.now.items.now in
-    let standing = c.args.standing.now in
+    let place = c.args.place.now in
     let before = (g.E.HeldEngine.keep_of c.args.engine.now).next in
     let room = c.requires.room in
-    let some = some_left items standing before (One c.args.step.now) c.requires.next room in
+    let some = some_left items place before (One c.args.step.now) c.requires.next room in
     omega (arith, some, room.steps)
 
 pub count_idle-requires-clause-idle : goal.count_idle-requires-clause-idle
 count_idle-requires-clause-idle g c =
     let items = c.args.plan.now.items.now in
-    let standing = c.args.standing.now in
+    let place = c.args.place.now in
     let before = (g.E.HeldEngine.keep_of c.args.engine.now).next in
     let room = c.requires.room in
-    let some = some_left items standing before (One c.args.step.now) c.requires.next room in
+    let some = some_left items place before (One c.args.step.now) c.requires.next room in
     omega (arith, some, room.idle)
 
 pub end_item-requires : goal.end_item-requires
 end_item-requires g c =
     let items = c.args.plan.now.items.now in
-    let standing = c.args.standing.now in
+    let place = c.args.place.now in
     let before = (g.E.HeldEngine.keep_of c.args.engine.now).next in
     let room = c.requires.room in
-    let some = some_left items standing before (One c.args.step.now) c.requires.next room in
-    omega (arith, can_end items standing before (One c.args.step.now) c.requires.next room, ap (λ (s : Standing). s.ended) c.count_idle.ensures)
+    let some = some_left items place before (One c.args.step.now) c.requires.next room in
+    omega (arith, can_end items place before (One c.args.step.now) c.requires.next room, ap (λ (s : SchedulePlace). s.ended) c.count_idle.ensures)
 
 pub returns-then-is_idle-clause-stored : goal.returns-then-is_idle-clause-stored
 returns-then-is_idle-clause-stored g c =
@@ -78,13 +83,13 @@ returns-then-is_idle-clause-stored g c =
 pub returns-then-is_idle-clause-moved : goal.returns-then-is_idle-clause-moved
 returns-then-is_idle-clause-moved g c =
     let items = c.args.plan.now.items.now in
-    let standing = c.args.standing.now in
+    let place = c.args.place.now in
     let before = (g.E.HeldEngine.keep_of c.args.engine.now).next in
     let room = c.requires.room in
-    let some = some_left items standing before (One c.args.step.now) c.requires.next room in
-    let past = c.end_item.ensures ∙ ap numbers.past_item c.count_idle.ensures in
+    let some = some_left items place before (One c.args.step.now) c.requires.next room in
+    let past = c.end_item.ensures ∙ ap place_past_item c.count_idle.ensures in
     let after = (g.E.HeldEngine.keep_of c.step_held.new.self).next in
-    subst (λ s. HasMoved items standing s after) (sym past) (moved_idle items standing before after (One c.args.step.now) c.requires.next room c.in_ok-stepped.ensures.leaves.drawn)
+    subst (λ s. HasMoved items place s after) (sym past) (moved_idle items place before after (One c.args.step.now) c.requires.next room c.in_ok-stepped.ensures.leaves.drawn)
 
 pub returns-then-is_idle-clause-made : goal.returns-then-is_idle-clause-made
 returns-then-is_idle-clause-made g c =
@@ -93,10 +98,10 @@ returns-then-is_idle-clause-made g c =
     let keep = g.E.HeldEngine.keep_of in
     let flow = g.E.HeldEngine.flow_of in
     let engine = c.args.engine.now in
-    let standing = c.args.standing.now in
+    let place = c.args.place.now in
     let out = g.O.Sink.view c.args.out.now in
     let step = c.args.step.now in
-    let past = c.end_item.ensures ∙ ap numbers.past_item c.count_idle.ensures in
+    let past = c.end_item.ensures ∙ ap place_past_item c.count_idle.ensures in
     let stepped = c.in_ok-stepped.stepped in
     let new = c.step_held.new.self in
     let records = (view c.step_held.new.store).records in
@@ -105,10 +110,10 @@ returns-then-is_idle-clause-made g c =
     let next = c.in_ok-stepped.ensures.none_drawn (ap Ok idle) in
     λ texts starts kept point is_plan few u told.
     let sys = system_in texts in
-    let at = item_here c.args.plan.now.items.now texts.items standing.ended point.ended (One step) c.requires.next is_plan.items u.counts.ended in
-    let later = subst (λ s. IsUnderWay stand keep flow texts starts (view s).records engine standing kept point) (sym stays) u in
+    let at = item_here c.args.plan.now.items.now texts.items place.ended point.ended (One step) c.requires.next is_plan.items u.counts.ended in
+    let later = subst (λ s. IsRunAt stand keep flow texts starts (view s).records engine place kept point) (sym stays) u in
     let follows = subst (λ o. FollowsIn stand sys point.state step o new records) (ap outcome_of idle) (c.in_ok-stepped.ensures.ok sys point.state u.stands (trusts sys point.state step records told)) in
-    passes stand keep flow (Unit {0}) (tt {0}) texts starts records engine new standing c.end_item.new.self kept point step out later at follows past c.in_ok-stepped.ensures.leaves.flow next
+    passes stand keep flow (Unit {0}) (tt {0}) texts starts records engine new place c.end_item.new.self kept point step out later at follows past c.in_ok-stepped.ensures.leaves.flow next
 
 pub returns-then-is_idle-clause-told_before : goal.returns-then-is_idle-clause-told_before
 returns-then-is_idle-clause-told_before g c =
@@ -121,29 +126,29 @@ returns-then-is_idle-clause-faults g c =
 pub count_single-requires-clause-steps : goal.count_single-requires-clause-steps
 count_single-requires-clause-steps g c =
     let items = c.args.plan.now.items.now in
-    let standing = c.args.standing.now in
+    let place = c.args.place.now in
     let before = (g.E.HeldEngine.keep_of c.args.engine.now).next in
     let room = c.requires.room in
-    let some = some_left items standing before (One c.args.step.now) c.requires.next room in
+    let some = some_left items place before (One c.args.step.now) c.requires.next room in
     omega (arith, some, room.steps)
 
 pub count_single-requires-clause-singles : goal.count_single-requires-clause-singles
 count_single-requires-clause-singles g c =
     let items = c.args.plan.now.items.now in
-    let standing = c.args.standing.now in
+    let place = c.args.place.now in
     let before = (g.E.HeldEngine.keep_of c.args.engine.now).next in
     let room = c.requires.room in
-    let some = some_left items standing before (One c.args.step.now) c.requires.next room in
-    omega (arith, none_of_one items standing before c.args.step.now c.requires.next room)
+    let some = some_left items place before (One c.args.step.now) c.requires.next room in
+    omega (arith, none_of_one items place before c.args.step.now c.requires.next room)
 
 pub count_single-requires-clause-ended : goal.count_single-requires-clause-ended
 count_single-requires-clause-ended g c =
     let items = c.args.plan.now.items.now in
-    let standing = c.args.standing.now in
+    let place = c.args.place.now in
     let before = (g.E.HeldEngine.keep_of c.args.engine.now).next in
     let room = c.requires.room in
-    let some = some_left items standing before (One c.args.step.now) c.requires.next room in
-    can_end items standing before (One c.args.step.now) c.requires.next room
+    let some = some_left items place before (One c.args.step.now) c.requires.next room in
+    can_end items place before (One c.args.step.now) c.requires.next room
 
 pub end_turn-requires-clause-stored : goal.end_turn-requires-clause-stored
 end_turn-requires-clause-stored g c =
@@ -152,19 +157,19 @@ end_turn-requires-clause-stored g c =
 pub end_turn-requires-clause-room : goal.end_turn-requires-clause-room
 end_turn-requires-clause-room g c =
     let items = c.args.plan.now.items.now in
-    let standing = c.args.standing.now in
+    let place = c.args.place.now in
     let before = (g.E.HeldEngine.keep_of c.args.engine.now).next in
     let room = c.requires.room in
-    let some = some_left items standing before (One c.args.step.now) c.requires.next room in
-    omega (arith, some, room.turn, ap (λ (s : Standing). s.turn) c.count_single.ensures, turn_counted 1 standing)
+    let some = some_left items place before (One c.args.step.now) c.requires.next room in
+    omega (arith, some, room.turn, ap (λ (s : SchedulePlace). s.turn) c.count_single.ensures, turn_counted 1 place)
 
 pub end_turn-requires-clause-ids : goal.end_turn-requires-clause-ids
 end_turn-requires-clause-ids g c =
     let items = c.args.plan.now.items.now in
-    let standing = c.args.standing.now in
+    let place = c.args.place.now in
     let before = (g.E.HeldEngine.keep_of c.args.engine.now).next in
     let room = c.requires.room in
-    let some = some_left items standing before (One c.args.step.now) c.requires.next room in
+    let some = some_left items place before (One c.args.step.now) c.requires.next room in
     omega (arith, some, room.ids, c.in_ok-stepped.ensures.leaves.drawn)
 
 pub returns-clause-stored : goal.returns-clause-stored
@@ -174,14 +179,14 @@ returns-clause-stored g c =
 pub returns-clause-moved : goal.returns-clause-moved
 returns-clause-moved g c =
     let items = c.args.plan.now.items.now in
-    let standing = c.args.standing.now in
+    let place = c.args.place.now in
     let before = (g.E.HeldEngine.keep_of c.args.engine.now).next in
     let room = c.requires.room in
-    let some = some_left items standing before (One c.args.step.now) c.requires.next room in
+    let some = some_left items place before (One c.args.step.now) c.requires.next room in
     let after = (g.E.HeldEngine.keep_of c.step_held.new.self).next in
-    moved_on c.end_turn.result items standing c.count_single.new.self c.end_turn.new.standing after (g.E.HeldEngine.keep_of c.end_turn.new.engine).next
-    (subst (λ s. HasMoved items standing (numbers.with_turn s) after) (sym c.count_single.ensures)
-    (moved_single items standing before after (One c.args.step.now) c.requires.next room (none_of_one items standing before c.args.step.now c.requires.next room) c.in_ok-stepped.ensures.leaves.drawn)) c.end_turn.ensures.counts c.end_turn.ensures.next
+    moved_on c.end_turn.result items place c.count_single.new.self c.end_turn.new.place after (g.E.HeldEngine.keep_of c.end_turn.new.engine).next
+    (subst (λ s. HasMoved items place (place_with_turn s) after) (sym c.count_single.ensures)
+    (moved_single items place before after (One c.args.step.now) c.requires.next room (none_of_one items place before c.args.step.now c.requires.next room) c.in_ok-stepped.ensures.leaves.drawn)) c.end_turn.ensures.counts c.end_turn.ensures.next
 
 pub returns-clause-made : goal.returns-clause-made
 returns-clause-made g c =
@@ -190,7 +195,7 @@ returns-clause-made g c =
     let keep = g.E.HeldEngine.keep_of in
     let flow = g.E.HeldEngine.flow_of in
     let engine = c.args.engine.now in
-    let standing = c.args.standing.now in
+    let place = c.args.place.now in
     let out = g.O.Sink.view c.args.out.now in
     let step = c.args.step.now in
     let stepped = c.in_ok-stepped.stepped in
@@ -200,8 +205,8 @@ returns-clause-made g c =
     λ texts starts kept point is_plan few u told.
     let sys = system_in texts in
     let told_mid = c.end_turn.ensures.told_before told in
-    let at = item_here c.args.plan.now.items.now texts.items standing.ended point.ended (One step) c.requires.next is_plan.items u.counts.ended in
-    let turn = step_turn view stand keep flow texts starts c.args.store.now c.step_held.new.store (Ok stepped) engine new standing kept point step (outcome_of stepped) is_plan.few few u at
+    let at = item_here c.args.plan.now.items.now texts.items place.ended point.ended (One step) c.requires.next is_plan.items u.counts.ended in
+    let turn = step_turn view stand keep flow texts starts c.args.store.now c.step_held.new.store (Ok stepped) engine new place kept point step (outcome_of stepped) is_plan.few few u at
     c.in_ok-stepped.ensures.leaves told_mid (c.in_ok-stepped.ensures.ok sys point.state u.stands (trusts sys point.state step records told_mid)) busy in
     turn_forward texts starts kept point turn.0 c.end_turn.result (view c.end_turn.new.store).records out (g.O.Sink.view c.end_turn.new.out) _
     (c.end_turn.ensures.turned texts starts kept point turn.1 (turned turn.0) is_plan
@@ -214,6 +219,10 @@ returns-clause-output g c =
 pub returns-clause-of_root : goal.returns-clause-of_root
 returns-clause-of_root g c =
     c.end_turn.ensures.of_root
+
+pub returns-clause-damaged : goal.returns-clause-damaged
+returns-clause-damaged g c =
+    λ id e. absurd (c.end_turn.ensures.undamaged id e)
 
 pub returns-clause-told_before : goal.returns-clause-told_before
 returns-clause-told_before g c =

@@ -1,14 +1,16 @@
 use Rattle.std.proofs.Common.{◌+◌, length, Ok, Err, refl, sym, ◌∙◌, ap, subst, arith}
 use Rattle.std.proofs.lemmas.Bool.{ltb-false}
 use Rattle.std.proofs.lemmas.Result.{err_from_is_err_and}
-use Rattle.fw_hold.specs.declared.standing.HeldCounts.{HeldCounts}
-use Rattle.fw_hold.specs.declared.standing.Standing.{Standing}
+use Rattle.fw_running.specs.declared.fault.EngineFault.TheVariants.{Damaged}
+use Rattle.fw_hold.specs.declared.fault.HoldFault.TheVariants.{Engine, DamagedRoot, ForeignRoot}
+use Rattle.fw_hold.specs.declared.place.HeldCounts.{HeldCounts}
+use Rattle.fw_hold.specs.declared.place.SchedulePlace.{SchedulePlace}
 use Rattle.fw_hold.specs.Faults.{faults_after_hold}
 use Rattle.fw_hold.specs.Hold.{IsAtEnd}
-use Rattle.fw_hold.specs.Starting.{EndsStart, texts_of}
+use Rattle.fw_hold.specs.Starting.{EndsStart, held_texts_of}
 use Rattle.fw_hold.proofs.BegunLaws.{begun_on, ends_on, ends_well}
-use Rattle.fw_hold.proofs.FaultLaws.{counts_on, counts_well, hold_faults, no_root_passed}
-use Rattle.fw_hold.proofs.RunLaws.{foreign_alike, not_told, root_alike}
+use Rattle.fw_hold.proofs.FaultLaws.{counts_on, counts_well, hold_faults, no_root_passed, of_damaged_root, of_foreign_root}
+use Rattle.fw_hold.proofs.RunLaws.{err_alike, foreign_alike, not_told, root_alike}
 use Rattle.fw_hold.proofs.run.hold.Goals as goal
 
 pub returns-in_err-engine-clause-ends : goal.returns-in_err-engine-clause-ends
@@ -20,18 +22,33 @@ pub returns-in_err-engine-clause-foreign : goal.returns-in_err-engine-clause-for
 returns-in_err-engine-clause-foreign g c =
     let p = err_from_is_err_and c.from_residual.result c.from_residual.ensures.1 in
     let k = c.in_err-engine.ensures.foreign in
-    rw (p.1, p.2) (λ f told. (foreign_alike (g.row.E.Denot × Standing) HeldCounts c.in_err-engine.field-0.0 (k f told).0, (k f told).1))
+    rw (p.1, p.2) (λ f told. (foreign_alike (g.row.E.Denot × SchedulePlace) HeldCounts c.in_err-engine.field-0.0 (k f told).0, (k f told).1, (k f told).2))
 
 pub returns-in_err-engine-clause-output : goal.returns-in_err-engine-clause-output
 returns-in_err-engine-clause-output g c =
     let p = err_from_is_err_and c.from_residual.result c.from_residual.ensures.1 in
     let before = g.O.Sink.view c.args.out.now in
-    rw (p.1, p.2) (counts_on (g.row.E.Denot × Standing) HeldCounts c.in_err-engine.field-0.0 before before (g.O.Sink.view c.begin.new.out) (record { faults = refl; refusals = refl }) c.in_err-engine.ensures.output)
+    rw (p.1, p.2) (counts_on (g.row.E.Denot × SchedulePlace) HeldCounts c.in_err-engine.field-0.0 before before (g.O.Sink.view c.begin.new.out) (record { faults = refl; refusals = refl }) c.in_err-engine.ensures.output)
 
 pub returns-in_err-engine-clause-of_root : goal.returns-in_err-engine-clause-of_root
 returns-in_err-engine-clause-of_root g c =
     let p = err_from_is_err_and c.from_residual.result c.from_residual.ensures.1 in
-    rw (p.1, p.2) (λ r. c.in_err-engine.ensures.of_root (root_alike (g.row.E.Denot × Standing) HeldCounts c.in_err-engine.field-0.0 r))
+    rw (p.1, p.2) (λ r. c.in_err-engine.ensures.of_root (root_alike (g.row.E.Denot × SchedulePlace) HeldCounts c.in_err-engine.field-0.0 r))
+
+pub returns-in_err-engine-clause-damaged_root : goal.returns-in_err-engine-clause-damaged_root
+returns-in_err-engine-clause-damaged_root g c =
+    let p = err_from_is_err_and c.from_residual.result c.from_residual.ensures.1 in
+    rw (p.1, p.2) (λ id e. c.in_err-engine.ensures.damaged_root id (err_alike HeldCounts (g.row.E.Denot × SchedulePlace) c.in_err-engine.field-0.0 (DamagedRoot id) e))
+
+pub returns-in_err-engine-clause-foreign_root : goal.returns-in_err-engine-clause-foreign_root
+returns-in_err-engine-clause-foreign_root g c =
+    let p = err_from_is_err_and c.from_residual.result c.from_residual.ensures.1 in
+    rw (p.1, p.2) (λ e. c.in_err-engine.ensures.foreign_root (err_alike HeldCounts (g.row.E.Denot × SchedulePlace) c.in_err-engine.field-0.0 ForeignRoot e))
+
+pub returns-in_err-engine-clause-damaged : goal.returns-in_err-engine-clause-damaged
+returns-in_err-engine-clause-damaged g c =
+    let p = err_from_is_err_and c.from_residual.result c.from_residual.ensures.1 in
+    rw (p.1, p.2) (λ id e. c.in_err-engine.ensures.damaged id (err_alike HeldCounts (g.row.E.Denot × SchedulePlace) c.in_err-engine.field-0.0 (Engine (Damaged id)) e))
 
 pub loop-item-init : goal.loop-item-init
 loop-item-init g c =
@@ -56,7 +73,7 @@ loop-item-preserved g c =
     let stand = g.E.HeldEngine.stand in
     let keep = g.E.HeldEngine.keep_of in
     let flow = g.E.HeldEngine.flow_of in
-    let texts = texts_of c.args.flow c.args.batches.now c.args.plan.now in
+    let texts = held_texts_of c.args.flow c.args.batches.now c.args.plan.now in
     let before = sink c.args.out.now in
     let so_far = c.loop-item.invariant in
     let k = c.in_ok-advance.ensures in
@@ -69,7 +86,7 @@ loop-item-preserved g c =
       room = k.moved.room;
       begun = λ starts found kept few h told.
           let b = so_far.begun starts found kept few h (k.told_before told) in
-          begun_on stand keep flow (Unit {0}) (tt {0}) texts starts found kept old new before mid after c.loop-item.engine c.advance.new.engine c.loop-item.standing c.advance.new.standing b
+          begun_on stand keep flow (Unit {0}) (tt {0}) texts starts found kept old new before mid after c.loop-item.engine c.advance.new.engine c.loop-item.place c.advance.new.place b
           (k.made texts (starts + 1) b.now b.last c.requires.plan (omega (arith, few)) b.under_way told);
       not_foreign = λ f told. so_far.not_foreign f (k.told_before told);
       counts = counts_well before mid after so_far.counts k.output;
@@ -85,7 +102,7 @@ returns-in_err-advance-clause-ends g c =
     let stand = g.E.HeldEngine.stand in
     let keep = g.E.HeldEngine.keep_of in
     let flow = g.E.HeldEngine.flow_of in
-    let texts = texts_of c.args.flow c.args.batches.now c.args.plan.now in
+    let texts = held_texts_of c.args.flow c.args.batches.now c.args.plan.now in
     let before = sink c.args.out.now in
     let so_far = c.loop-item.invariant in
     let k = c.in_err-advance.ensures in
@@ -95,7 +112,7 @@ returns-in_err-advance-clause-ends g c =
     let new = (view c.advance.new.store).records in
     rw (p.1, p.2) (λ starts found kept few h told.
     let b = so_far.begun starts found kept few h (k.told_before told) in
-    ends_on stand keep flow (Unit {0}) HeldCounts texts starts found kept old new before mid after c.loop-item.engine c.loop-item.standing c.in_err-advance.field-0.0 _ (IsAtEnd texts) b
+    ends_on stand keep flow (Unit {0}) HeldCounts texts starts found kept old new before mid after c.loop-item.engine c.loop-item.place c.in_err-advance.field-0.0 _ (IsAtEnd texts) b
     (k.made texts (starts + 1) b.now b.last c.requires.plan (omega (arith, few)) b.under_way told))
 
 pub returns-in_err-advance-clause-foreign : goal.returns-in_err-advance-clause-foreign
@@ -112,6 +129,24 @@ pub returns-in_err-advance-clause-of_root : goal.returns-in_err-advance-clause-o
 returns-in_err-advance-clause-of_root g c =
     let p = err_from_is_err_and c.from_residual-in_err-advance.result c.from_residual-in_err-advance.ensures.1 in
     rw (p.1, p.2) (λ r. absurd (no_root_passed (Unit {0}) HeldCounts c.in_err-advance.field-0.0 c.in_err-advance.ensures.of_root r))
+
+pub returns-in_err-advance-clause-damaged_root : goal.returns-in_err-advance-clause-damaged_root
+returns-in_err-advance-clause-damaged_root g c =
+    let p = err_from_is_err_and c.from_residual-in_err-advance.result c.from_residual-in_err-advance.ensures.1 in
+    let fault = c.in_err-advance.field-0.0 in
+    rw (p.1, p.2) (λ id e. absurd (no_root_passed (Unit {0}) HeldCounts fault c.in_err-advance.ensures.of_root (of_damaged_root HeldCounts (Err fault) id e)))
+
+pub returns-in_err-advance-clause-foreign_root : goal.returns-in_err-advance-clause-foreign_root
+returns-in_err-advance-clause-foreign_root g c =
+    let p = err_from_is_err_and c.from_residual-in_err-advance.result c.from_residual-in_err-advance.ensures.1 in
+    let fault = c.in_err-advance.field-0.0 in
+    rw (p.1, p.2) (λ e. absurd (no_root_passed (Unit {0}) HeldCounts fault c.in_err-advance.ensures.of_root (of_foreign_root HeldCounts (Err fault) e)))
+
+pub returns-in_err-advance-clause-damaged : goal.returns-in_err-advance-clause-damaged
+returns-in_err-advance-clause-damaged g c =
+    let p = err_from_is_err_and c.from_residual-in_err-advance.result c.from_residual-in_err-advance.ensures.1 in
+    let fault = c.in_err-advance.field-0.0 in
+    rw (p.1, p.2) (λ id e. c.in_err-advance.ensures.damaged id (err_alike HeldCounts (Unit {0}) fault (Engine (Damaged id)) e))
 
 pub returns-in_err-advance-clause-told_before : goal.returns-in_err-advance-clause-told_before
 returns-in_err-advance-clause-told_before g c = λ told. c.loop-item.invariant.told_before (c.in_err-advance.ensures.told_before told)
@@ -130,22 +165,26 @@ returns-clause-ends g c =
     let stand = g.E.HeldEngine.stand in
     let keep = g.E.HeldEngine.keep_of in
     let flow = g.E.HeldEngine.flow_of in
-    let texts = texts_of c.args.flow c.args.batches.now c.args.plan.now in
+    let texts = held_texts_of c.args.flow c.args.batches.now c.args.plan.now in
     let before = sink c.args.out.now in
     let so_far = c.loop-item.invariant in
-    let standing = c.loop-item.standing in
+    let place = c.loop-item.place in
     let now = (view c.loop-item.store).records in
     let after = sink c.loop-item.out in
-    let end = ltb-false standing.ended (length c.args.plan.now.items.now) (sym c.in_default.ensures.lookup.0) in
+    let end = ltb-false place.ended (length c.args.plan.now.items.now) (sym c.in_default.ensures.lookup.0) in
     λ starts found kept few h told.
     subst (λ (counts : HeldCounts). EndsStart {T = HeldCounts} texts starts found kept (Ok counts) now before after (IsAtEnd texts)) (sym c.counts.ensures)
-    (ends_well stand keep flow texts starts found kept now before after c.loop-item.engine standing end (so_far.begun starts found kept few h told))
+    (ends_well stand keep flow texts starts found kept now before after c.loop-item.engine place end (so_far.begun starts found kept few h told))
 
 pub returns-clause-foreign : goal.returns-clause-foreign
 returns-clause-foreign g c = λ f told. absurd (c.loop-item.invariant.not_foreign f told)
 
 pub returns-clause-output : goal.returns-clause-output
 returns-clause-output g c = c.loop-item.invariant.counts
+
+pub returns-clause-of_root : goal.returns-clause-of_root
+returns-clause-of_root g c =
+    λ r. absurd r
 
 pub returns-clause-told_before : goal.returns-clause-told_before
 returns-clause-told_before g c = c.loop-item.invariant.told_before

@@ -9,7 +9,7 @@ resume-requires-clause-there g c = each-there (g.K.Store.view c.args.store.now).
 pub returns-in_err-running : goal.returns-in_err-running
 returns-in_err-running g c =
     let p = err_from_is_err_and c.from_residual.result c.from_residual.ensures.1 in
-    rw (p.1, p.2) (resume-failed c.in_err-running.field-0.0 c.resume.ensures.stays c.in_err-running.ensures.faults
+    rw (p.1, p.2) (resume-failed c.in_err-running.field-0.0 c.resume.ensures.stays c.in_err-running.ensures.faults c.in_err-running.ensures.damaged
     (λ state reached of named told. c.in_err-running.ensures.held state reached of named told))
 
 pub returns-in_err-stepped : goal.returns-in_err-stepped

@@ -1,10 +1,10 @@
 //! Where a held run stands, in numbers.
 ghost use Rattle.std.specs.Prelude.{◌≡◌, ◌+◌, ◌<◌, ◌^◌, nat_lt, if◌then◌else◌};
-ghost use Rattle.fw_hold.specs.Standing as spec;
+ghost use Rattle.fw_hold.specs.Place as spec;
 
 /// Where a held run stands in its schedule, and what was counted.
 #[derive(Clone, Copy, Debug)]
-pub struct Standing {
+pub struct SchedulePlace {
     /// How many roots were put, over all starts.
     pub turn: u64,
     /// How many items of the schedule have ended.
@@ -24,12 +24,12 @@ pub struct HeldCounts {
     pub idle: u64,
 }
 
-impl Standing {
+impl SchedulePlace {
     /// Nothing was done.
     pub fn first() -> Self
-        ensures { result ≡ spec.first }
+        ensures { result ≡ spec.place_at_first }
     {
-        Standing {
+        SchedulePlace {
             turn: 0,
             ended: 0,
             singles: 0,
@@ -41,7 +41,7 @@ impl Standing {
     /// The item that comes next has ended.
     pub fn end_item(&mut self)
         requires { self.old.ended + 1 < 2 ^ 64 }
-        ensures { self.new ≡ spec.past_item self.old }
+        ensures { self.new ≡ spec.place_past_item self.old }
     {
         self.ended += 1;
         self.singles = 0;
@@ -51,7 +51,7 @@ impl Standing {
     pub fn count_idle(&mut self)
         requires steps { self.old.steps + 1 < 2 ^ 64 }
         requires idle { self.old.idle + 1 < 2 ^ 64 }
-        ensures { self.new ≡ spec.with_idle_step self.old }
+        ensures { self.new ≡ spec.place_with_idle_step self.old }
     {
         self.steps += 1;
         self.idle += 1;
@@ -62,7 +62,7 @@ impl Standing {
         requires steps { self.old.steps + 1 < 2 ^ 64 }
         requires singles { self.old.singles + 1 < 2 ^ 64 }
         requires ended { self.old.ended + 1 < 2 ^ 64 }
-        ensures { self.new ≡ spec.after_single most self.old }
+        ensures { self.new ≡ spec.place_after_single most self.old }
     {
         self.steps += 1;
         self.singles += 1;

@@ -1,6 +1,7 @@
 -- What accepted texts spell is a well-formed system, and texts have one answer.
 use Rattle.std.proofs.Common.{◌≡◌, inl, inr, ℕ, ◌≤◌, List, [], ◌∷◌, map, Option, Some, refl, sym, ◌∙◌, ap, subst}
 use Rattle.std.proofs.lemmas.Option.{same_Some}
+use Rattle.sha2.specs.Sha256.{sha256}
 use Rattle.fw_outside.specs.Outside.{IsText, one_more}
 use Rattle.fw_bag.specs.declared.rec.Rec.{Rec}
 use Rattle.fw_lines.specs.declared.fault.ReadFault.{ReadFault}
@@ -20,12 +21,16 @@ use Rattle.fw_flow.specs.WellFormed.{IsWellFormed, IsWellFormedSystem}
 use Rattle.fw_flow_text.specs.Grammar as flows
 use Rattle.fw_flow_text.proofs.ReadLaws as flow_texts
 use Rattle.fw_schedule.specs.Grammar as schedules
+use Rattle.fw_schedule.specs.LineNumbers.{line_numbers}
 use Rattle.fw_schedule.proofs.ReadLaws as schedule_texts
+use Rattle.fw_root.specs.declared.root.Digests.{Digests}
+use Rattle.fw_command.specs.declared.held.HeldJob.{HeldJob}
 use Rattle.fw_command.specs.declared.reading.Fed.{Fed}
 use Rattle.fw_command.specs.declared.reading.Job.{Job}
 use Rattle.fw_command.specs.declared.reading.JobFault.{JobFault}
 use Rattle.fw_command.specs.declared.reading.JobFault.TheVariants.{Failed, Refused, NoMemory}
 use Rattle.fw_command.specs.Reading.{IfJobRefused, IsJob, IsGenerated, IsFed, job_fault}
+use Rattle.fw_command.specs.Held.{IsHeldJob}
 use Rattle.fw_generate.specs.Draws.{words_from}
 use Rattle.fw_generate.specs.Laws.{AreAccepted, GeneratedTextsAreAccepted, accepted_size_limit}
 use Rattle.fw_generate.specs.Texts.{Texts, batch_lines, texts_of}
@@ -84,6 +89,30 @@ job_read_in_turn told second third names job e h f i s =
     job_read told names job f
     (subst (λ t. HasText t names.inputs (λ text. inputs.AreAcceptedInputs text (sources_of job.flow) job.batches)) e i)
     (subst (λ t. HasText t names.schedule (λ text. schedules.IsAcceptedSchedule text job.flow job.items)) (h ∙ e) s)
+
+-- of a text that is there the first of two things that are true of it is true
+pub has-first : {A B : List ℕ → Type 0} (told : Option (List ℕ → Option (List ℕ))) (name : List ℕ) → HasText told name (λ text. A text × B text) → HasText told name A
+has-first told name h = record { text = h.text; there = h.there; so = h.so.0 }
+
+-- what three accepted texts spell with their digests, and the lines of the last, where the folder told its texts anew before each, is a
+-- held job
+pub held_read : (told second third : Option (List ℕ → Option (List ℕ))) (names : TextNames) (held : HeldJob) → second ≡ told → third ≡ second
+    → HasText told names.flow (λ text. flows.IsAcceptedFlow text held.job.flow × (held.digests.flow ≡ sha256 text))
+    → HasText second names.inputs (λ text. inputs.AreAcceptedInputs text (sources_of held.job.flow) held.job.batches × (held.digests.inputs ≡ sha256 text))
+    → HasText third names.schedule (λ text. schedules.IsAcceptedSchedule text held.job.flow held.job.items × (held.numbers.items ≡ line_numbers text) × (held.digests.schedule ≡ sha256 text))
+    → IsHeldJob told names held
+held_read told second third names held e h f i s =
+    let digest : List ℕ → List ℕ → List ℕ → Digests = λ one two three. record { flow = one; inputs = two; schedule = three } in
+    record {
+      texts = record { flow = f.text; inputs = i.text; schedule = s.text };
+      there = (f.there, (subst (λ t. IsText t names.inputs i.text) e i.there, (subst (λ t. IsText t names.schedule s.text) (h ∙ e) s.there, tt)));
+      accepted = record { declared = f.so.0; inputs = i.so.0.sound; schedule = record { sound = s.so.0.sound; value = refl } };
+      system = system_read i.text held.job.flow held.job.batches i.so.0;
+      items = s.so.0.value;
+      numbers = s.so.1;
+      digests = ap (λ d. digest d held.digests.inputs held.digests.schedule) f.so.1 ∙ ap (λ d. digest (sha256 f.text) d held.digests.schedule) i.so.1
+          ∙ ap (digest (sha256 f.text) (sha256 i.text)) s.so.2;
+    }
 
 -- and so is what generated texts spell
 pub generated_read : (seeded : Seeded) (texts : Texts) (job : Job) → texts ≡ texts_of seeded.size (words_from seeded.seed)

@@ -1,6 +1,7 @@
 pub mod Command
 pub mod DenotationText
 pub mod Forms
+pub mod Held
 pub mod Listing
 pub mod Manner
 pub mod Reading

@@ -60,6 +60,14 @@ run_of words = None
 abbrev pub command_of : List (List ℕ) → Option Command
 command_of words = option_or (check_of words) (option_or (denote_of words) (option_or (gen_of words) (run_of words)))
 
+-- the names of the texts of a held run, if the words are `hold` and three operands
+abbrev pub held_of : List (List ℕ) → Option TextNames
+held_of (word ∷ flow ∷ inputs ∷ schedule ∷ []) =
+    if bytes_eq word (codes "hold") && is_operand flow && is_operand inputs && is_operand schedule
+    then Some (record { flow = flow; inputs = inputs; schedule = schedule })
+    else None
+held_of words = None
+
 -- the names that parsed words give
 abbrev pub text_names_in : RunWords → TextNames
 text_names_in words = record { flow = words.flow.now; inputs = words.inputs.now; schedule = words.schedule.now }

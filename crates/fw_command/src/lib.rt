@@ -2,13 +2,15 @@
 #![tactic(auto)]
 
 mod denoting;
+mod held;
 mod listing;
 mod manner;
 mod reading;
 mod words;
 
 pub use denoting::print_denotation;
+pub use held::{HeldJob, read_held};
 pub use listing::list;
 pub use manner::{Course, LastLine, Manner, Showing};
 pub use reading::{Fed, Job, JobFault, fetch_flow, read_fed, read_generated, read_job};
-pub use words::{CommandWords, DenoteWords, GenerateWords, RunWords, parse};
+pub use words::{CommandWords, DenoteWords, GenerateWords, RunWords, held_words, parse};

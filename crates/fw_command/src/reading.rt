@@ -185,8 +185,8 @@ fn fetch_schedule<F: Folder>(
     Ok(read_schedule(alloc, &text, flow)?)
 }
 
-// The text under a name, of at most `limit` bytes; a longer one is refused as a whole by this rule.
-fn fetch<F: Folder>(
+/// The text under a name, of at most `limit` bytes; a longer one is refused as a whole by this rule.
+pub(crate) fn fetch<F: Folder>(
     alloc: Global,
     folder: &mut F,
     name: &str,

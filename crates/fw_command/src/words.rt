@@ -7,7 +7,7 @@ ghost use Rattle.clap.specs.Walk.{rule_of, rows_of, first_of};
 ghost use Rattle.fw_command.specs.Command.{generate};
 ghost use Rattle.fw_command.specs.Forms as spec;
 ghost use Rattle.fw_command.specs.Forms.{forms, matched_command};
-ghost use Rattle.fw_command.specs.Words.{IsOfSize, is_operand, check_of, denote_of, gen_of, run_of, command_of, command_in, generate_by, text_names_in, system_names_in, words_in};
+ghost use Rattle.fw_command.specs.Words.{IsOfSize, is_operand, check_of, denote_of, gen_of, held_of, run_of, command_of, command_in, generate_by, text_names_in, system_names_in, words_in};
 ghost use Rattle.fw_command.specs.Manner.{seeded_in};
 ghost use Rattle.fw_lines.specs.Spelling.{number_of};
 ghost use Rattle.fw_generate.specs.Laws.{accepted_size_limit as greatest_size};
@@ -71,6 +71,24 @@ pub fn parse<'a>(
     match forms.try_get_matches_from(words) {
         Ok(matches) => Ok(named(&matches)),
         Err(error) => refused(&error),
+    }
+}
+
+/// The names of the three texts of a held run, if the words are `hold` and three operands.
+pub fn held_words<'a>(words: &'a [&'a str]) -> Option<RunWords<'a>>
+    ensures { option_map text_names_in result ≡ held_of (words_in words.now) }
+{
+    let [command, flow, inputs, schedule] = words else {
+        return None;
+    };
+    if *command == "hold" && is_operand(flow) && is_operand(inputs) && is_operand(schedule) {
+        Some(RunWords {
+            flow,
+            inputs,
+            schedule,
+        })
+    } else {
+        None
     }
 }
 

@@ -14,13 +14,13 @@ use Rattle.fw_run.proofs.Numbers.{refusal_numbers}
 use Rattle.fw_run.specs.declared.fault.RunFault.{RunFault}
 use Rattle.fw_run.specs.declared.fault.RunFault.TheVariants.{Out, Engine}
 use Rattle.fw_run.specs.declared.status.Status.{Status}
-use Rattle.fw_run.specs.declared.status.Status.TheVariants.{Done, BadWords, Refused, ReadFault, WriteFault, StoreFault, Damaged, NoMemory}
+use Rattle.fw_run.specs.declared.status.Status.TheVariants.{Done, BadWords, Refused, ReadFault, WriteFault, StoreFault, Damaged, DamagedRoot, NoMemory, ForeignRoot}
 use Rattle.fw_run.specs.declared.work.Work.{Work}
 use Rattle.fw_run.specs.Answers.{Outside, Known, outside_of, TellsRecords, RunAnswers}
 use Rattle.fw_run.specs.Call.{Call, CountsWrites, HasRefused, KeepsFolder, PrintsPart}
 use Rattle.fw_run.specs.Ends.{IsDamageIn, IsStoreFault, IsWholeRun, NoFaults, NoneLeft}
 use Rattle.fw_run.specs.Fault.{status_of}
-use Rattle.fw_run.specs.Status.{HasWord, IsTellingOf, read_faults_told, status_number}
+use Rattle.fw_run.specs.Status.{HasWord, IsTellingOf, TellsOfRoot, read_faults_told, status_number}
 use Rattle.fw_run.specs.Work.{EndsWork, IsWork, StaysIfUnseen, StaysUnlessRun}
 use Rattle.fw_command.specs.declared.reading.JobFault.{JobFault}
 use Rattle.fw_command.specs.declared.reading.JobFault.TheVariants as job
@@ -40,7 +40,14 @@ IsEarly ReadFault = Unit {0}
 IsEarly WriteFault = ⊥
 IsEarly StoreFault = ⊥
 IsEarly (Damaged id) = ⊥
+IsEarly (DamagedRoot id) = ⊥
 IsEarly NoMemory = Unit {0}
+IsEarly ForeignRoot = ⊥
+
+-- and of no root
+early_no_root : (status : Status) → IsEarly status → TellsOfRoot status → ⊥
+early_no_root status early (inl (id, e)) = subst IsEarly e early
+early_no_root status early (inr e) = subst IsEarly e early
 
 early_number : (status : Status) → IsEarly status → 8 ≤ status_number status → status_number status ≤ 9 → ⊥
 early_number Done early least most = early
@@ -50,7 +57,9 @@ early_number ReadFault early least most = absurd (omega (arith, least))
 early_number WriteFault early least most = early
 early_number StoreFault early least most = early
 early_number (Damaged id) early least most = early
+early_number (DamagedRoot id) early least most = early
 early_number NoMemory early least most = absurd (omega (arith, most))
+early_number ForeignRoot early least most = early
 
 early_writes : (status : Status) (view : SinkView) → IsEarly status → CountsWrites status view view
 early_writes Done view early = absurd early
@@ -60,6 +69,8 @@ early_writes ReadFault view early = record { faults = refl; refusals = λ m. ref
 early_writes WriteFault view early = absurd early
 early_writes StoreFault view early = absurd early
 early_writes (Damaged id) view early = absurd early
+early_writes (DamagedRoot id) view early = absurd early
+early_writes ForeignRoot view early = absurd early
 early_writes NoMemory view early = record { faults = refl; refusals = λ m. refl; no_memory = λ m. inl refl }
 
 pub answers-early : {F K O : Type 0} (known : Known F K O) (call : Call) (status : Status) (folder now : F) (store : K) (out : O) → IsEarly status → (status ≡ BadWords) ↔ (call.command ≡ None)
@@ -74,6 +85,7 @@ answers-early known call status folder now store out early bad refused read kept
   write_fault = λ e. absurd (subst IsEarly e early);
   store_fault = λ e. absurd (subst IsEarly e early);
   damaged = λ id e. absurd (subst IsEarly e early);
+  no_root = early_no_root status early;
   store_part = λ least most. absurd (early_number status early least most);
   no_memory = λ e. inl refl;
   nothing_out = λ least most. refl;
@@ -95,6 +107,7 @@ answers-early known call status folder now store out early bad refused read kept
     cut_off = λ e. absurd (subst IsEarly e early);
     store = λ e. absurd (subst IsEarly e early);
     damaged = λ id e. absurd (subst IsEarly e early);
+    no_root = early_no_root status early;
   });
 }
 
@@ -136,6 +149,10 @@ answers-not_read known call command job.NoMemory folder now store out e first re
 
 -- ---- the work was printed
 
+done_no_root : TellsOfRoot Done → ⊥
+done_no_root (inl (id, e)) = absurd (cc)
+done_no_root (inr e) = absurd (cc)
+
 pub answers-done : {F K O : Type 0} (known : Known F K O) (call : Call) (command : Command) (work : Work) (folder now : F) (store left : K) (out wrote : O) → call.command ≡ Some command
     → IsWork call.told command work → EndsWork {T = Unit {0}} (IsSome (known.store left).records) work (Ok tt) (known.store store) (known.store left) (known.out out) (known.out wrote)
     → (IsSome (known.store left).records → IsSome (known.store store).records) → StaysUnlessRun work store left → known.read_faults now ≡ known.read_faults folder → KeepsFolder known.texts known.fetches call.command Done folder now
@@ -154,6 +171,7 @@ answers-done known call command work folder now store left out wrote e j ends te
       write_fault = λ is. absurd (cc);
       store_fault = λ is. absurd (cc);
       damaged = λ id is. absurd (cc);
+      no_root = done_no_root;
       store_part = λ least most. absurd (omega (arith, least));
       no_memory = λ is. absurd (cc);
       nothing_out = λ least most. absurd (omega (arith, least));
@@ -175,6 +193,7 @@ answers-done known call command work folder now store left out wrote e j ends te
         cut_off = λ is. absurd (cc);
         store = λ is. absurd (cc);
         damaged = λ id is. absurd (cc);
+        no_root = done_no_root;
       });
     }
 
@@ -185,6 +204,18 @@ no_bad_words (Out output.NoMemory) e = absurd (cc)
 no_bad_words (Engine engine.StoreFault) e = absurd (cc)
 no_bad_words (Engine (engine.Damaged id)) e = absurd (cc)
 no_bad_words (Engine engine.NoMemory) e = absurd (cc)
+
+fault_no_root : (f : RunFault) → TellsOfRoot (status_of f) → ⊥
+fault_no_root (Out output.Failed) (inl (id, e)) = absurd (cc)
+fault_no_root (Out output.Failed) (inr e) = absurd (cc)
+fault_no_root (Out output.NoMemory) (inl (id, e)) = absurd (cc)
+fault_no_root (Out output.NoMemory) (inr e) = absurd (cc)
+fault_no_root (Engine engine.StoreFault) (inl (id, e)) = absurd (cc)
+fault_no_root (Engine engine.StoreFault) (inr e) = absurd (cc)
+fault_no_root (Engine (engine.Damaged n)) (inl (id, e)) = absurd (cc)
+fault_no_root (Engine (engine.Damaged n)) (inr e) = absurd (cc)
+fault_no_root (Engine engine.NoMemory) (inl (id, e)) = absurd (cc)
+fault_no_root (Engine engine.NoMemory) (inr e) = absurd (cc)
 
 no_refusal : (f : RunFault) (refusal : Refusal) → status_of f ≡ Refused refusal → ⊥
 no_refusal (Out output.Failed) refusal e = absurd (cc)
@@ -225,6 +256,7 @@ answers-fault known call command work f folder now store left out wrote e j ends
       write_fault = part;
       store_fault = stopped;
       damaged = broken;
+      no_root = fault_no_root f;
       store_part = λ least most. prints_first (Unit {0}) tells call command work count last f first final e j least most ends.cut_off;
       no_memory = λ is. inr (prints_no_memory (Unit {0}) tells call command work count last f first final e j is ends.cut_off);
       nothing_out = λ least most. absurd (omega (arith, most, late_fault f));
@@ -248,6 +280,7 @@ answers-fault known call command work f folder now store left out wrote e j ends
         damaged = λ id is.
             let r = broken id is in
             (accepted_of-run call (IsDamageIn tells count last id (known.store left).given first final) r, untold_of-damage tells count last id (known.store left).given first final r.manner _ _ r.so);
+        no_root = fault_no_root f;
       });
     }
   where
@@ -262,9 +295,13 @@ word_not_bad status (inl (refusal, e)) b = bad (sym e ∙ b)
   where
     bad : Refused refusal ≡ BadWords → ⊥
     bad h = absurd (cc)
-word_not_bad status (inr (id, e)) b = bad (sym e ∙ b)
+word_not_bad status (inr (inl (id, e))) b = bad (sym e ∙ b)
   where
     bad : Damaged id ≡ BadWords → ⊥
+    bad h = absurd (cc)
+word_not_bad status (inr (inr (id, e))) b = bad (sym e ∙ b)
+  where
+    bad : DamagedRoot id ≡ BadWords → ⊥
     bad h = absurd (cc)
 
 -- where there was no memory for the line, nothing was written or first bytes
@@ -273,9 +310,14 @@ word_part : {F K O : Type 0} (known : Known F K O) (call : Call) (before : Outsi
 word_part known call before status after (inl (refusal, e)) a =
     let among = refusal_numbers refusal.code in
     inl (a.nothing_out (subst (λ (s : Status). 2 ≤ status_number s) (sym e) among.0) (subst (λ (s : Status). status_number s ≤ 6) (sym e) (omega (arith, among.1))))
-word_part known call before status after (inr (id, e)) a =
+word_part known call before status after (inr (inr root)) a = absurd (a.no_root (inl root))
+word_part known call before status after (inr (inl (id, e))) a =
     inr (part_of-first (TellsRecords known after) call (known.store before.store).faults (known.store after.store).faults (known.out before.out) (known.out after.out)
     (a.store_part (subst (λ (s : Status). 8 ≤ status_number s) (sym e) (omega arith)) (subst (λ (s : Status). status_number s ≤ 9) (sym e) (omega arith))))
+
+memory_no_root : TellsOfRoot NoMemory → ⊥
+memory_no_root (inl (id, e)) = absurd (cc)
+memory_no_root (inr e) = absurd (cc)
 
 told_no_memory : {F K O : Type 0} (known : Known F K O) (call : Call) (before : Outside F K O) (status : Status) (after : Outside F K O) → HasWord status → RunAnswers known call before status after
     → RunAnswers known call before NoMemory after
@@ -290,6 +332,7 @@ told_no_memory known call before status after word a =
       write_fault = λ is. absurd (cc);
       store_fault = λ is. absurd (cc);
       damaged = λ id is. absurd (cc);
+      no_root = memory_no_root;
       store_part = λ least most. absurd (omega (arith, most));
       no_memory = λ is. word_part known call before status after word a;
       nothing_out = λ least most. absurd (omega (arith, most));

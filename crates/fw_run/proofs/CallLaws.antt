@@ -22,7 +22,7 @@ use Rattle.fw_command.proofs.WritingLaws.{cut_of-part}
 use Rattle.fw_run.specs.declared.fault.RunFault.{RunFault}
 use Rattle.fw_run.specs.declared.fault.RunFault.TheVariants.{Out, Engine}
 use Rattle.fw_run.specs.declared.status.Status.{Status}
-use Rattle.fw_run.specs.declared.status.Status.TheVariants.{Done, BadWords, Refused, ReadFault, WriteFault, StoreFault, Damaged, NoMemory}
+use Rattle.fw_run.specs.declared.status.Status.TheVariants.{Done, BadWords, Refused, ReadFault, WriteFault, StoreFault, Damaged, DamagedRoot, NoMemory, ForeignRoot}
 use Rattle.fw_run.specs.declared.work.Work.{Work}
 use Rattle.fw_run.specs.declared.work.Work.TheVariants.{Run, Denote, Check}
 use Rattle.fw_run.specs.Call.{Call, CountsFaults, Prints, HasAccepted, HasRefused, IsPrintout, PrintsPart, PrintsFirst, IsRunOf, KeepsFolder, KeepsStore, AnswersTexts, IsRunEnd, IsRefusalEnd}
@@ -31,7 +31,7 @@ use Rattle.fw_run.specs.Ends.{PrintsOfRun, SomeLeft, IsDamageIn, StaysUnseen}
 use Rattle.fw_run.specs.Enduring.{RoseIfOn, RoseByFaults, StaysOrRose}
 use Rattle.fw_run.specs.Fault.{faults_after_run, status_of}
 use Rattle.fw_command.specs.Manner.{told_in}
-use Rattle.fw_run.specs.Status.{HasWord, IsTellingOf, store_faults_told, status_number}
+use Rattle.fw_run.specs.Status.{HasWord, IsTellingOf, TellsOfRoot, store_faults_told, status_number}
 use Rattle.fw_command.specs.Texts.{HasFlow, HasTexts, Accepts, Refuses, AsksNoMore, spelled_system, spelled_items}
 use Rattle.fw_command.specs.Command.{Command, check, Origin, in_folder, generated, Task, tells_denotation, lists_nodes, Manner, manner_in, manner_of, are_in_folder, IsUnseen, GoesOnThrough, asks_folder}
 use Rattle.fw_run.specs.Work.{IsWork, IsStoreFor, task_of, flow_in, Spells, EndsAtFault, IsRun, IfRun, IsTextOfWork, PrintsWork, StaysUnlessRun, StaysIfUnseen}
@@ -215,13 +215,13 @@ refuses_once None origin one other s f g = absurd (false≢true s)
 refuses_once (Some folder) origin one other s f g = one_first_refusal folder origin one other f g
 
 -- no call has texts that are accepted and one that is refused
-accepted_and_refused : (call : Call) (texts : Texts) (refusal : Refusal) → (a : HasAccepted call texts) → (asks_folder a.command ≡ true → IsSome call.told) → HasRefused call refusal → ⊥
+pub accepted_and_refused : (call : Call) (texts : Texts) (refusal : Refusal) → (a : HasAccepted call texts) → (asks_folder a.command ≡ true → IsSome call.told) → HasRefused call refusal → ⊥
 accepted_and_refused call texts refusal a tells f =
     accepts_and_refuses call.told a.command.texts texts a.flow refusal tells a.there a.accepted
     (subst (λ (command : Command). Refuses call.told command.texts refusal) (same_command call.command f.command a.command f.words a.words) f.first)
 
 -- and it has one refusal
-one_refusal : (call : Call) (one other : Refusal) → IsSome call.told → HasRefused call one → HasRefused call other → one ≡ other
+pub one_refusal : (call : Call) (one other : Refusal) → IsSome call.told → HasRefused call one → HasRefused call other → one ≡ other
 one_refusal call one other tells p q =
     refuses_once call.told q.command.texts one other tells
     (subst (λ (command : Command). Refuses call.told command.texts one) (same_command call.command p.command q.command p.words q.words) p.first) q.first
@@ -256,6 +256,7 @@ pub record IsToldOf (Tells : Type 0) (call : Call) (status : Status) : Type 0 wh
   pub cut_off : status ≡ WriteFault → (texts : Texts) × HasAccepted call texts
   pub store : status ≡ StoreFault → (texts : Texts) × HasAccepted call texts
   pub damaged : (id : ℕ) → status ≡ Damaged id → ((texts : Texts) × HasAccepted call texts) × (Tells → ⊥)
+  pub no_root : TellsOfRoot status → ⊥
 
 -- a run has accepted texts
 pub accepted_of-run : (call : Call) (P : Manner → System → List Item → Type 0) → IsRunOf call P → (texts : Texts) × HasAccepted call texts
@@ -275,6 +276,8 @@ refuses Tells call ReadFault s refusal tells first = inr (inl refl)
 refuses Tells call WriteFault s refusal tells first = let p = s.cut_off refl in absurd (accepted_and_refused call p.0 refusal p.1 (λ asks. tells) first)
 refuses Tells call StoreFault s refusal tells first = let p = s.store refl in absurd (accepted_and_refused call p.0 refusal p.1 (λ asks. tells) first)
 refuses Tells call (Damaged id) s refusal tells first = let p = (s.damaged id refl).0 in absurd (accepted_and_refused call p.0 refusal p.1 (λ asks. tells) first)
+refuses Tells call (DamagedRoot id) s refusal tells first = absurd (s.no_root (inl (id, refl)))
+refuses Tells call ForeignRoot s refusal tells first = absurd (s.no_root (inr refl))
 refuses Tells call NoMemory s refusal tells first = inr (inr refl)
 
 completes : (Tells : Type 0) (call : Call) (status : Status) → IsToldOf Tells call status → (texts : Texts) → (a : HasAccepted call texts)
@@ -286,6 +289,8 @@ completes Tells call ReadFault s texts a tells = inr (inl refl)
 completes Tells call WriteFault s texts a tells = inr (inr (inl refl))
 completes Tells call StoreFault s texts a tells = inr (inr (inr (inl refl)))
 completes Tells call (Damaged id) s texts a tells = inr (inr (inr (inr (inl ((id, refl), (s.damaged id refl).1)))))
+completes Tells call (DamagedRoot id) s texts a tells = absurd (s.no_root (inl (id, refl)))
+completes Tells call ForeignRoot s texts a tells = absurd (s.no_root (inr refl))
 completes Tells call NoMemory s texts a tells = inr (inr (inr (inr (inr refl))))
 
 -- what the texts bring about
@@ -307,6 +312,10 @@ store_told command status result before after (inr t) k = record {
 pub damaged_not_done : (id : ℕ) → Damaged id ≡ Done → ⊥
 damaged_not_done id e = absurd (cc)
 
+-- nor is that of a root
+pub damaged_root_not_done : (id : ℕ) → DamagedRoot id ≡ Done → ⊥
+damaged_root_not_done id e = absurd (cc)
+
 -- ---- how often the store failed
 
 -- it did not
@@ -327,7 +336,9 @@ counts_none command status before after same other = record {
     none WriteFault o = refl
     none StoreFault o = absurd (o refl)
     none (Damaged id) o = refl
+    none (DamagedRoot id) o = refl
     none NoMemory o = refl
+    none ForeignRoot o = refl
 
 -- the status tells what the answer does
 count_told : (T : Type 0) (f : RunFault) (before after : ℕ) → after ≡ faults_after_run {T = T} (Err f) before → after ≡ store_faults_told (status_of f) before
@@ -385,7 +396,8 @@ counts_told command status result before after (inr t) k = record {
 
     quiet : HasWord status → store_faults_told status before ≡ before
     quiet (inl (refusal, e)) = ap (λ (s : Status). store_faults_told s before) e
-    quiet (inr (id, e)) = ap (λ (s : Status). store_faults_told s before) e
+    quiet (inr (inl (id, e))) = ap (λ (s : Status). store_faults_told s before) e
+    quiet (inr (inr (id, e))) = ap (λ (s : Status). store_faults_told s before) e
 
 -- ---- a run whose steps are not seen
 

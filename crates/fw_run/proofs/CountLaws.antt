@@ -8,7 +8,7 @@ use Rattle.fw_run.proofs.FaultCounts.{never_falls-one}
 use Rattle.fw_run.specs.declared.fault.RunFault.{RunFault}
 use Rattle.fw_run.specs.declared.fault.RunFault.TheVariants.{Out, Engine}
 use Rattle.fw_run.specs.declared.status.Status.{Status}
-use Rattle.fw_run.specs.declared.status.Status.TheVariants.{Done, BadWords, Refused, ReadFault, WriteFault, StoreFault, Damaged, NoMemory}
+use Rattle.fw_run.specs.declared.status.Status.TheVariants.{Done, BadWords, Refused, ReadFault, WriteFault, StoreFault, Damaged, DamagedRoot, NoMemory, ForeignRoot}
 use Rattle.fw_run.specs.Call.{CountsWrites}
 use Rattle.fw_run.specs.Fault.{status_of}
 use Rattle.fw_run.specs.Performing.{WritesUntil}
@@ -29,7 +29,8 @@ read_told-none (Engine engine.NoMemory) count = refl
 pub read_told : (status result : Status) (before after : ℕ) → IsTellingOf status result → after ≡ read_faults_told status before → after ≡ read_faults_told result before
 read_told status result before after (inl e) k = subst (λ (s : Status). after ≡ read_faults_told s before) (sym e) k
 read_told status result before after (inr (inl (refusal, e), m)) k = k ∙ ap (λ (s : Status). read_faults_told s before) e ∙ sym (ap (λ (s : Status). read_faults_told s before) m)
-read_told status result before after (inr (inr (id, e), m)) k = k ∙ ap (λ (s : Status). read_faults_told s before) e ∙ sym (ap (λ (s : Status). read_faults_told s before) m)
+read_told status result before after (inr (inr (inl (id, e)), m)) k = k ∙ ap (λ (s : Status). read_faults_told s before) e ∙ sym (ap (λ (s : Status). read_faults_told s before) m)
+read_told status result before after (inr (inr (inr (id, e)), m)) k = k ∙ ap (λ (s : Status). read_faults_told s before) e ∙ sym (ap (λ (s : Status). read_faults_told s before) m)
 
 -- ---- how often the output failed
 
@@ -66,9 +67,13 @@ writes_told status result before after (inr t) k = subst (λ (s : Status). Count
     damaged_not_memory : (id : ℕ) → Damaged id ≡ NoMemory → ⊥
     damaged_not_memory id m = absurd (cc)
 
+    root_not_memory : (id : ℕ) → DamagedRoot id ≡ NoMemory → ⊥
+    root_not_memory id m = absurd (cc)
+
     at : HasWord status → CountsWrites NoMemory before after
     at (inl (refusal, e)) = of_word (Refused refusal) (refused_not_memory refusal) (λ count. refl) (subst (λ (s : Status). CountsWrites s before after) e k)
-    at (inr (id, e)) = of_word (Damaged id) (damaged_not_memory id) (λ count. refl) (subst (λ (s : Status). CountsWrites s before after) e k)
+    at (inr (inl (id, e))) = of_word (Damaged id) (damaged_not_memory id) (λ count. refl) (subst (λ (s : Status). CountsWrites s before after) e k)
+    at (inr (inr (id, e))) = of_word (DamagedRoot id) (root_not_memory id) (λ count. refl) (subst (λ (s : Status). CountsWrites s before after) e k)
 
 -- ---- no count falls
 
@@ -80,7 +85,9 @@ never_falls-read ReadFault before after e = subst (λ (n : ℕ). before ≤ n) (
 never_falls-read WriteFault before after e = omega (arith, e)
 never_falls-read StoreFault before after e = omega (arith, e)
 never_falls-read (Damaged id) before after e = omega (arith, e)
+never_falls-read (DamagedRoot id) before after e = omega (arith, e)
 never_falls-read NoMemory before after e = omega (arith, e)
+never_falls-read ForeignRoot before after e = omega (arith, e)
 
 -- nor one of the output
 same_or_more : (before after : ℕ) → (after ≡ before) ⊎ (after ≡ one_more before) → before ≤ after
@@ -95,7 +102,9 @@ write_told-more ReadFault before after e = inl e
 write_told-more WriteFault before after e = inr e
 write_told-more StoreFault before after e = inl e
 write_told-more (Damaged id) before after e = inl e
+write_told-more (DamagedRoot id) before after e = inl e
 write_told-more NoMemory before after e = inl e
+write_told-more ForeignRoot before after e = inl e
 
 refusals_more : (status : Status) (before after : SinkView) → CountsWrites status before after → (after.refusals ≡ before.refusals) ⊎ (after.refusals ≡ one_more before.refusals)
 refusals_more Done before after k = write_told-more Done before.refusals after.refusals (k.refusals (λ m. absurd (cc)))
@@ -105,7 +114,9 @@ refusals_more ReadFault before after k = write_told-more ReadFault before.refusa
 refusals_more WriteFault before after k = write_told-more WriteFault before.refusals after.refusals (k.refusals (λ m. absurd (cc)))
 refusals_more StoreFault before after k = write_told-more StoreFault before.refusals after.refusals (k.refusals (λ m. absurd (cc)))
 refusals_more (Damaged id) before after k = write_told-more (Damaged id) before.refusals after.refusals (k.refusals (λ m. absurd (cc)))
+refusals_more (DamagedRoot id) before after k = write_told-more (DamagedRoot id) before.refusals after.refusals (k.refusals (λ m. absurd (cc)))
 refusals_more NoMemory before after k = k.no_memory refl
+refusals_more ForeignRoot before after k = write_told-more ForeignRoot before.refusals after.refusals (k.refusals (λ m. absurd (cc)))
 
 pub never_fall-out : (status : Status) (before after : SinkView) → CountsWrites status before after → NeverFall before after
 never_fall-out status before after k = record {

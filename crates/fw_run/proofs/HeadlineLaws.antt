@@ -15,6 +15,7 @@ use Rattle.fw_rest.proofs.FinishLaws.{enough-acknowledged}
 use Rattle.fw_rest.specs.Rest.{AreAllLive}
 use Rattle.fw_headline.proofs.RightLaws.{runs-right}
 use Rattle.fw_headline.proofs.RunLaws.{the-run}
+use Rattle.fw_hold.proofs.ChainLaws.{starts-one_run}
 use Rattle.fw_run.proofs.ItemLaws.{comes-on, items-run, items-one, items-few, items-live, autos-one}
 use Rattle.fw_command.proofs.TextLaws.{well_formed_system}
 use Rattle.fw_run.specs.Headline.{HasOneRun, EndInAuto, IsAllAcknowledged, Headline}
@@ -69,4 +70,12 @@ texts-headline texts flow items a =
     let sys = spelled_system flow texts in
     let w = well_formed_system texts flow a in
     let one = items-one_run sys w items in
-    record { one_run = one; right = runs-right sys w; acknowledged = λ family den end. ended-acknowledged sys w family den items one end }
+    let right = runs-right sys w in
+    record {
+      one_run = one;
+      right = right;
+      acknowledged = λ family den end. ended-acknowledged sys w family den items one end;
+      held = λ starts last lead.
+          let run = starts-one_run sys items starts last lead in
+          record { run = run; right = right.right run.steps run.outcomes last.point.state run.run };
+    }

@@ -6,7 +6,7 @@ use Rattle.fw_lines.specs.declared.refusal.Refusal.{Refusal}
 use Rattle.fw_run.specs.declared.status.Status.{Status}
 use Rattle.fw_run.specs.declared.status.Status.TheVariants.{Done, BadWords, Refused, WriteFault, StoreFault, Damaged, NoMemory}
 use Rattle.fw_run.specs.Call.{Call, AnswersTexts, CountsFaults, CountsWrites, PrintsAll, PrintsPart, PrintsFirst, LeavesStore, StopsAtStore, StopsAtDamage, HasRefused, KeepsFolder, KeepsStore}
-use Rattle.fw_run.specs.Status.{read_faults_told, status_number}
+use Rattle.fw_run.specs.Status.{TellsOfRoot, read_faults_told, status_number}
 use Rattle.fw_command.specs.Command.{IsUnseen}
 use Rattle.fw_command.specs.Writing.{NeverFall}
 
@@ -71,6 +71,8 @@ pub record RunAnswers {F K O : Type 0} (known : Known F K O) (call : Call) (befo
   -- known.
   pub store_part : 8 ≤ status_number status → status_number status ≤ 9 → PrintsFirst (TellsRecords known after) call
       (known.store before.store).faults (known.store after.store).faults (known.out before.out) (known.out after.out)
+  -- 9 `damaged root` and 11: of `hold` alone.
+  pub no_root : TellsOfRoot status → ⊥
   -- 10: at any time; nothing was written, or first bytes.
   pub no_memory : status ≡ NoMemory → (after.out ≡ before.out) ⊎ PrintsPart (TellsRecords known after) call (known.store before.store).faults
       (known.store after.store).faults output.NoMemory (known.out before.out) (known.out after.out)

@@ -10,7 +10,10 @@ use Rattle.fw_model.specs.Machine.{Machine, first_state}
 use Rattle.fw_model.specs.Steps.{Outcome, Run}
 use Rattle.fw_rest.specs.Rest.{HasAcknowledgedAll, HasShownAll}
 use Rattle.fw_rest.specs.StepsToRest.{steps_enough}
-use Rattle.fw_headline.specs.Right.{IsTheRun, RunsRight}
+use Rattle.fw_headline.specs.Right.{IsRight, IsTheRun, RunsRight}
+use Rattle.fw_hold.specs.Chain.{HasRunTo, Started, StartsLead, starts_text}
+use Rattle.fw_hold.specs.Kept.{kept_at_first}
+use Rattle.fw_hold.specs.Moves.{KeptPoint}
 use Rattle.fw_run.specs.Items.{all_live_after, ComesTo}
 use Rattle.fw_run.specs.Printed.{run_text}
 
@@ -45,6 +48,12 @@ abbrev pub IsAllAcknowledged : System → Family → List Outcome → Machine �
 IsAllAcknowledged sys family outcomes last = (o : ℕ) → o < length sys.flow.nodes → is_output_kind (kind_of sys.flow o) ≡ true
     → HasAcknowledgedAll sys family last o × HasShownAll sys family outcomes o
 
+-- The starts are one run of the machine, to the state of what is kept last, and all is right where it ends; what comes of its steps are the
+-- lines of the moves of the starts.
+pub record AreOneRightRun (sys : System) (starts : List Started) (last : KeptPoint) : Type 0 where
+  pub run : HasRunTo sys (first_state sys) (starts_text sys.flow starts) last.point.state
+  pub right : IsRight sys run.outcomes last.point.state
+
 -- what is true of the system that accepted texts spell, and of these items
 pub record Headline (sys : System) (items : List Item) : Type 0 where
   -- the items come to one list of steps, and this has one run, so one text can be printed
@@ -54,3 +63,6 @@ pub record Headline (sys : System) (items : List Item) : Type 0 where
   -- where the items end in enough `auto`, their run has acknowledged all that is denoted, whatever failed before
   pub acknowledged : (family : Family) → IsDenotation sys family → EndInAuto sys family items
       → IsAllAcknowledged sys family one_run.outcomes one_run.last
+  -- starts of a held run, each from what the one before kept, are one run all together: each output has acknowledged its first epochs or
+  -- numbers in order, each once over all starts, with the recs that are denoted
+  pub held : (starts : List Started) (last : KeptPoint) → StartsLead sys items (kept_at_first sys) starts last → AreOneRightRun sys starts last

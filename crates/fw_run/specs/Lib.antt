@@ -5,6 +5,9 @@ pub mod Ends
 pub mod Explained
 pub mod Fault
 pub mod Headline
+pub mod Held
+pub mod HeldCalls
+pub mod HeldTexts
 pub mod Items
 pub mod Performing
 pub mod Printed
@@ -14,4 +17,5 @@ pub mod Stopping
 pub mod Tallies
 pub mod TellingMore
 pub mod Through
+pub mod Unbroken
 pub mod Work

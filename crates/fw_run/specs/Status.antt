@@ -7,7 +7,7 @@ use Rattle.fw_lines.specs.declared.refusal.Code.TheVariants.{F1, F2, F3, F4, F5,
 use Rattle.fw_lines.specs.declared.refusal.Refusal.{Refusal}
 use Rattle.fw_lines.specs.Refusal.{refusal_text}
 use Rattle.fw_run.specs.declared.status.Status.{Status}
-use Rattle.fw_run.specs.declared.status.Status.TheVariants.{Done, BadWords, Refused, ReadFault, WriteFault, StoreFault, Damaged, NoMemory}
+use Rattle.fw_run.specs.declared.status.Status.TheVariants.{Done, BadWords, Refused, ReadFault, WriteFault, StoreFault, Damaged, DamagedRoot, NoMemory, ForeignRoot}
 use Rattle.fw_command.specs.Writing.{IsWritten}
 
 -- 3 for a flow that is refused, 4 for inputs, 5 for a schedule
@@ -43,7 +43,9 @@ status_number ReadFault = 6
 status_number WriteFault = 7
 status_number StoreFault = 8
 status_number (Damaged id) = 9
+status_number (DamagedRoot id) = 9
 status_number NoMemory = 10
+status_number ForeignRoot = 11
 
 -- the refusal that a status tells, if it tells one
 abbrev pub refusal_of : Status → Option Refusal
@@ -74,7 +76,9 @@ note_line ReadFault = codes "read fault\n"
 note_line WriteFault = codes "write fault\n"
 note_line StoreFault = codes "store fault\n"
 note_line (Damaged id) = codes "damaged record " ++ decimal id ++ codes "\n"
+note_line (DamagedRoot id) = codes "damaged root " ++ decimal id ++ codes "\n"
 note_line NoMemory = codes "no memory\n"
+note_line ForeignRoot = codes "foreign root\n"
 
 -- The line was written, or cut off by one refusal: the sink took first bytes of it, refused once more, and failed once more too or
 -- refused for want of memory.
@@ -85,11 +89,15 @@ IsTold line before after = IsWritten line before after
 
 -- the numbers that a status may have
 abbrev pub status_numbers : List ℕ
-status_numbers = 0 ∷ 2 ∷ 3 ∷ 4 ∷ 5 ∷ 6 ∷ 7 ∷ 8 ∷ 9 ∷ 10 ∷ []
+status_numbers = 0 ∷ 2 ∷ 3 ∷ 4 ∷ 5 ∷ 6 ∷ 7 ∷ 8 ∷ 9 ∷ 10 ∷ 11 ∷ []
 
 -- the line of the status has a word of its own, so that it takes memory
 abbrev pub HasWord : Status → Type 0
-HasWord status = ((refusal : Refusal) × (status ≡ Refused refusal)) ⊎ ((id : ℕ) × (status ≡ Damaged id))
+HasWord status = ((refusal : Refusal) × (status ≡ Refused refusal)) ⊎ (((id : ℕ) × (status ≡ Damaged id)) ⊎ ((id : ℕ) × (status ≡ DamagedRoot id)))
+
+-- the status tells of a root: it is one of `hold` alone
+abbrev pub TellsOfRoot : Status → Type 0
+TellsOfRoot status = ((id : ℕ) × (status ≡ DamagedRoot id)) ⊎ (status ≡ ForeignRoot)
 
 -- the status that is answered is the one that was, or that of want of memory where its line takes memory
 abbrev pub IsTellingOf : Status → Status → Type 0

@@ -4,6 +4,7 @@
 mod command;
 mod explain;
 mod fault;
+mod held;
 pub mod laws;
 mod perform;
 mod run;

@@ -22,12 +22,16 @@ pub enum Status {
     StoreFault,
     /// The bytes that the store gave under this id spell no record of what was written under it.
     Damaged { id: u64 },
+    /// The bytes that the store gave under this id spell no root, as a held run puts one there.
+    DamagedRoot { id: u64 },
     /// Memory was refused.
     NoMemory,
+    /// The store holds the root of a held run of other texts.
+    ForeignRoot,
 }
 
 impl Status {
-    /// The number that a program ends with: 0 or 2 to 10.
+    /// The number that a program ends with: 0 or 2 to 11.
     pub fn number(&self) -> u8
         ensures value { result ≡ status_number self.now }
         ensures among { Contains status_numbers result }
@@ -39,8 +43,9 @@ impl Status {
             Status::ReadFault => 6,
             Status::WriteFault => 7,
             Status::StoreFault => 8,
-            Status::Damaged { .. } => 9,
+            Status::Damaged { .. } | Status::DamagedRoot { .. } => 9,
             Status::NoMemory => 10,
+            Status::ForeignRoot => 11,
         }
     }
 
@@ -56,7 +61,9 @@ impl Status {
             | Status::WriteFault
             | Status::StoreFault
             | Status::Damaged { .. }
-            | Status::NoMemory => None,
+            | Status::DamagedRoot { .. }
+            | Status::NoMemory
+            | Status::ForeignRoot => None,
         }
     }
 }

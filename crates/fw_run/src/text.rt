@@ -101,3 +101,10 @@ pub fn damaged_line(alloc: Global, id: u64) -> Result<String, AllocError>
 {
     format!(in alloc; "damaged record {id}\n")
 }
+
+/// The line `damaged root ID`, ended by LF.
+pub fn damaged_root_line(alloc: Global, id: u64) -> Result<String, AllocError>
+    ensures { IfOk result (λ text. string_bytes text ≡ note_line (Status.DamagedRoot id)) }
+{
+    format!(in alloc; "damaged root {id}\n")
+}

@@ -18,5 +18,11 @@ returns-in-StoreFault-clause-among c = (7, lit< tt, refl)
 pub returns-in-Damaged-clause-among : goal.returns-in-Damaged-clause-among
 returns-in-Damaged-clause-among c = (8, lit< tt, refl)
 
+pub returns-in-Damaged-2-clause-among : goal.returns-in-Damaged-2-clause-among
+returns-in-Damaged-2-clause-among c = (8, lit< tt, refl)
+
 pub returns-in-NoMemory-clause-among : goal.returns-in-NoMemory-clause-among
 returns-in-NoMemory-clause-among c = (9, lit< tt, refl)
+
+pub returns-in-ForeignRoot-clause-among : goal.returns-in-ForeignRoot-clause-among
+returns-in-ForeignRoot-clause-among c = (10, lit< tt, refl)

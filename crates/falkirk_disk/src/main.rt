@@ -3,12 +3,16 @@
 //! terminal the causes of the store's faults are told behind the line of the status.
 #![tactic(auto)]
 
+ghost use Rattle.std.specs.Prelude.{◌≡◌};
+ghost use Rattle.std.specs.FinMap as map;
+ghost use Rattle.std.specs.Option.{ForSome};
+
 mod show;
 
 use fw_advice::{AckSink, Call, Ended, Program, tell_after, warn_before};
 use fw_command::{JobFault, fetch_flow};
 use fw_disk::{DiskCause, DiskStore};
-use fw_outside::{FileFolder, Sink, StreamSink};
+use fw_outside::{FileFolder, Sink, Store, StreamSink};
 use fw_run::{Status, falkirk};
 use show::{ShowFault, show};
 use std::alloc::{AllocError, Global};
@@ -62,7 +66,7 @@ fn run_over<N: Sink>(rt: &HostRuntime, name: &str, words: &[String], notes: &mut
     let (Ok(words), Ok(name)) = (words, String::from_str(alloc, name)) else {
         return out_of_memory(notes);
     };
-    let mut store = DiskStore::new(alloc, rt, name);
+    let mut store = store_for(rt, name, &words);
     match words.as_slice() {
         ["show"] => show_folder(rt, &store, None, notes),
         ["show", flow] if is_name(flow) => show_folder(rt, &store, Some(flow), notes),
@@ -70,13 +74,25 @@ fn run_over<N: Sink>(rt: &HostRuntime, name: &str, words: &[String], notes: &mut
     }
 }
 
+// The store of a folder: a held run takes the records that are there. Where it tells its records, there are none.
+fn store_for<'a>(rt: &'a HostRuntime, name: String, words: &[&str]) -> DiskStore<'a, HostRuntime>
+    ensures { ForSome (⟦<DiskStore<'a, HostRuntime> as Store>⟧.view result).records (λ held. held ≡ map.empty) }
+{
+    match words {
+        ["hold", ..] => DiskStore::reopen(rt.alloc(), rt, name),
+        _ => DiskStore::new(rt.alloc(), rt, name),
+    }
+}
+
 // Runs a command over the store; a terminal is told what stands in its way before, and the causes of its faults behind.
-fn run_command<N: Sink>(
+fn run_command<'a, N: Sink>(
     rt: &HostRuntime,
     words: &[&str],
-    store: &mut DiskStore<'_, HostRuntime>,
+    store: &mut DiskStore<'a, HostRuntime>,
     notes: &mut N,
-) -> Status {
+) -> Status
+    requires { ForSome (⟦<DiskStore<'a, HostRuntime> as Store>⟧.view store.old).records (λ held. held ≡ map.empty) }
+{
     let alloc = rt.alloc();
     let call = Call {
         program: Program::FalkirkDisk,
@@ -108,7 +124,7 @@ fn run_command<N: Sink>(
 // Whether these are the words of a command that runs a flow.
 fn may_call_store(words: &[&str]) -> bool {
     match words.first() {
-        Some(word) => ["run", "endure", "explain", "gen"].contains(word),
+        Some(word) => ["run", "endure", "explain", "hold", "gen"].contains(word),
         None => false,
     }
 }

@@ -4,6 +4,7 @@ use fw_flow::{Flow, NodeId};
 use fw_frontier::Entries;
 use fw_outside::{OutFault, Sink};
 use fw_record::{Checkpoint, Event, Record, RecordFault, decode};
+use fw_root::root_head;
 use std::alloc::{AllocError, Global};
 use std::fmt;
 use std::rt::Files;
@@ -43,8 +44,8 @@ impl From<DiskRefusal> for ShowFault {
     }
 }
 
-/// Shows what each file is that is named by digits alone, a line for each. Nodes are told by the names that the flow has, and
-/// without one by their numbers. Whether all are records.
+/// Shows what each file is that is named by digits alone, a line for each: a record, or the root of a held run. Nodes are told by the
+/// names that the flow has, and without one by their numbers. Whether each file is one of these.
 pub fn show<R: Files, O: Sink>(
     alloc: Global,
     store: &DiskStore<'_, R>,
@@ -75,13 +76,18 @@ pub fn show<R: Files, O: Sink>(
     Ok(are_all)
 }
 
-// Tells what record these bytes spell, and whether they spell one.
+// Tells what record or root these bytes spell, and whether they spell one.
 fn tell_bytes(
     alloc: Global,
     flow: Option<&Flow>,
     bytes: &[u8],
     told: &mut String,
 ) -> Result<bool, AllocError> {
+    if let Ok(head) = root_head(bytes) {
+        let (turn, bytes) = (head.turn, bytes.len());
+        told.push_str(&format!(in alloc; "root turn {turn} bytes {bytes}")?)?;
+        return Ok(true);
+    }
     let record = match decode(alloc, bytes) {
         Ok(record) => record,
         Err(RecordFault::BadRecord { at }) => {

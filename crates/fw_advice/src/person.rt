@@ -12,6 +12,10 @@ use std::io::{ErrorKind, Read};
 use std::rt::Files;
 use std::{fs, io};
 
+/// What is told of a held run over a store in memory.
+const NOTHING_KEPT: &str =
+    "hold: nothing is kept when this program ends; falkirk_disk FOLDER hold keeps it in a folder\n";
+
 /// At most so many bytes of a text are looked at.
 const LOOKED_AT: u64 = 16_777_217;
 
@@ -44,6 +48,9 @@ pub fn warn_before<R: Files, N: Sink>(alloc: Global, files: &R, call: Call<'_>, 
     if !call.is_person || *verb == "gen" {
         return;
     }
+    if *verb == "hold" && call.program == Program::Falkirk {
+        tell(alloc, NOTHING_KEPT, notes);
+    }
     if let Ok(text) = fetched(alloc, files, flow)
         && read_flow(alloc, text.as_slice()).is_ok()
         && let Ok(told) = flow_warnings(alloc, flow, text.as_slice())
@@ -72,7 +79,7 @@ pub fn tell_after<R: Files, N: Sink, S: Sink>(
         0 => unacknowledged(alloc, files, call, out),
         2 => usage(alloc, call.program, call.words),
         6 => unread(alloc, files, call),
-        number => String::from_str(alloc, why(number)),
+        number => String::from_str(alloc, why(number, is_held(call))),
     };
     if let Ok(told) = told {
         tell(alloc, told.as_str(), notes);
@@ -171,9 +178,22 @@ fn hint_of(kind: ErrorKind) -> &'static str {
     }
 }
 
-// Why a program ended with one of the other statuses, and what to do.
-fn why(number: u8) -> &'static str {
+// Whether these are the words of a held run.
+fn is_held(call: Call<'_>) -> bool {
+    matches!(call.words, ["hold", ..])
+}
+
+// Why a program ended with one of the other statuses, and what to do; of a held run, or of another command.
+fn why(number: u8, is_held: bool) -> &'static str {
     match number {
+        7 if is_held =>
+            "  standard output took no more: what reads it has ended, or its disk is full. Start again with the same words: the last lines come once more\n",
+        8 if is_held =>
+            "  the store failed: is its folder there? Is there room on its disk? May you write there? Mend it, and start again with the same words\n",
+        9 if is_held =>
+            "  a record or a root was changed in the store's folder: no start can go on from it; begin with an empty folder\n",
+        11 =>
+            "  the folder holds a run of other texts: name the texts that it began with, or another folder, or empty this one to begin anew\n",
         7 =>
             "  standard output took no more: what reads it has ended, or its disk is full. What it took is the beginning of the text\n",
         8 =>

@@ -24,7 +24,7 @@ impl Program {
 }
 
 /// The commands.
-const COMMANDS: [Command; 6] = [
+const COMMANDS: [Command; 7] = [
     Command {
         word: "run",
         operands: "FLOW INPUTS SCHEDULE",
@@ -42,6 +42,12 @@ const COMMANDS: [Command; 6] = [
         operands: "FLOW INPUTS SCHEDULE",
         count: 3,
         does: "as run, and tell of each recovery why its cuts are the largest",
+    },
+    Command {
+        word: "hold",
+        operands: "FLOW INPUTS SCHEDULE",
+        count: 3,
+        does: "as run, and go on where an earlier start of the same texts was stopped",
     },
     Command {
         word: "gen",
@@ -116,7 +122,7 @@ fn add_reason(
             nearest_of(
                 alloc,
                 first.as_bytes(),
-                b"run endure explain gen denote check".as_slice(),
+                b"run endure explain hold gen denote check".as_slice(),
             )?,
             told,
         )?;

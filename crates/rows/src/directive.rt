@@ -24,6 +24,11 @@ pub enum Directive<'a> {
     /// The row stands for runs in which the first call of the store fails, then the second, and so on up to one in which none
     /// does.
     FailingEach,
+    /// The row stands for runs that are stopped at the first call of the store, at the second, and so on, each started again over what
+    /// the store holds then, up to one that is not stopped.
+    StoppedEach,
+    /// The commands run over one store, each as the next start.
+    OneStore,
     /// The store tells nothing, and gives these bytes at this call of `get`, counted from 1.
     Foul { call: u64, bytes: &'a str },
     /// The records that are left in the store are told too.
@@ -45,6 +50,8 @@ pub fn said(line: &str) -> Option<Directive<'_>> {
         "words" => Some(Directive::Words(rest)),
         "failing" if rest == "store each" => Some(Directive::FailingEach),
         "failing" => failing(rest),
+        "stopped" if rest == "each" => Some(Directive::StoppedEach),
+        "one" if rest == "store" => Some(Directive::OneStore),
         "foul" => foul(rest),
         "records" => Some(Directive::Records),
         "repeat" => repeat(rest),

@@ -7,6 +7,7 @@ mod noted;
 mod outcome;
 mod reading;
 mod run;
+mod stopped;
 
 use crate::reading::Reader;
 use std::{env, fs, io};

@@ -3,6 +3,7 @@ ghost use Rattle.fw_keep.specs.Stored.{IsEmptyStore};
 
 use crate::noted::NotedStore;
 use crate::run::{Run, with_line};
+use crate::stopped::StoppedStore;
 use fw_outside::{
     Folder, FoulBytes, FoulStore, MemFolder, MemSink, MemStore, MemText, Sink, Store,
 };
@@ -49,6 +50,12 @@ pub fn tell_row(alloc: Global, run: &Run, told: &mut String) -> Result<(), Alloc
     if run.fails_each {
         return tell_each_failure(alloc, run, told);
     }
+    if run.stops_each {
+        return tell_each_stop(alloc, run, told);
+    }
+    if run.has_one_store {
+        return tell_starts(alloc, run, told);
+    }
     tell_name(&run.name, told)?;
     let texts = copies(alloc, run)?;
     tell_runs(alloc, run, texts, &run.failing.store, told)?;
@@ -63,6 +70,61 @@ fn tell_each_failure(alloc: Global, run: &Run, told: &mut String) -> Result<(), 
         if !tell_runs(alloc, run, texts, &[call], told)? {
             break;
         }
+    }
+    Ok(())
+}
+
+/// Tells the runs that are stopped at the first call of the store, at the second, and so on, each with the next start; and last
+/// the run that is not stopped.
+fn tell_each_stop(alloc: Global, run: &Run, told: &mut String) -> Result<(), AllocError> {
+    for call in 1..=MOST_CALLS {
+        let mut starts = String::new(alloc);
+        if !tell_stop(alloc, run, call, &mut starts)? {
+            writeln!(told, "== {}, not stopped", run.name)?;
+            told.push_str(&starts)?;
+            break;
+        }
+        writeln!(told, "== {}, stopped at call {call}", run.name)?;
+        told.push_str(&starts)?;
+    }
+    Ok(())
+}
+
+/// Tells a run that is stopped at a call of the store, and the next start over what the store holds; whether it was stopped.
+fn tell_stop(alloc: Global, run: &Run, call: u64, told: &mut String) -> Result<bool, AllocError> {
+    let mut outside = Outside::new(alloc, run, copies(alloc, run)?)?;
+    let words = match run.commands.first() {
+        Some(words) => words.as_str(),
+        None => RUN,
+    };
+    let mut store = StoppedStore::new(alloc, call);
+    if !tell_status(alloc, words, &mut outside, &mut store, told)? {
+        return Ok(false);
+    }
+    let mut store = store.start_again(Vec::new(alloc));
+    tell_status(alloc, words, &mut outside, &mut store, told)?;
+    if run.tells_records {
+        store.tell(told)?;
+    }
+    Ok(true)
+}
+
+/// Tells the commands of a row over one store, each as the next start; the store of the last one may give foul bytes.
+fn tell_starts(alloc: Global, run: &Run, told: &mut String) -> Result<(), AllocError> {
+    tell_name(&run.name, told)?;
+    let [others @ .., last] = run.commands.as_slice() else {
+        return Ok(());
+    };
+    let mut outside = Outside::new(alloc, run, copies(alloc, run)?)?;
+    let mut store = StoppedStore::new(alloc, u64::MAX);
+    for words in others {
+        tell_status(alloc, words, &mut outside, &mut store, told)?;
+        store = store.start_again(Vec::new(alloc));
+    }
+    let mut store = store.start_again(foul_of(alloc, run)?);
+    tell_status(alloc, last, &mut outside, &mut store, told)?;
+    if run.tells_records {
+        store.tell(told)?;
     }
     Ok(())
 }
@@ -177,8 +239,7 @@ fn tell_over<K: Store + Drop>(
     tell_noted(alloc, run, words, outside, &mut store, told)
 }
 
-/// Runs a command over a store, and tells its status, what the notes and the output took of it, all faults so far, and the
-/// records if they are asked for; whether the store failed.
+/// Runs a command over a store, and tells what came of it, and the records if they are asked for; whether the store failed.
 fn tell_noted<K: Store>(
     alloc: Global,
     run: &Run,
@@ -189,6 +250,24 @@ fn tell_noted<K: Store>(
 ) -> Result<bool, AllocError>
     requires { IsEmptyStore (⟦<NotedStore<K> as Store>⟧.view store.old).records }
 {
+    let failed = tell_status(alloc, words, outside, store, told)?;
+    if run.tells_records {
+        store.tell(told)?;
+    }
+    Ok(failed)
+}
+
+/// Runs a command over a store, and tells its status, what the notes and the output took of it, and all faults so far; whether the
+/// store failed.
+fn tell_status<K: Store>(
+    alloc: Global,
+    words: &str,
+    outside: &mut Outside,
+    store: &mut K,
+    told: &mut String,
+) -> Result<bool, AllocError>
+    requires { IsEmptyStore (K.view store.old).records }
+{
     let printed = outside.out.taken().len();
     let noted = outside.notes.taken().len();
     let number = run_over(alloc, words, outside, store)?;
@@ -197,13 +276,10 @@ fn tell_noted<K: Store>(
     tell_faults(outside, store.faults(), told)?;
     told.push('\n')?;
     show_lines(after(outside.out.taken(), printed), told)?;
-    if run.tells_records {
-        store.tell(told)?;
-    }
     Ok(store.faults() > 0)
 }
 
-/// Runs a command over a store; the number of its status.
+/// Runs a command over a store that is empty, where it tells that; the number of its status.
 fn run_over<K: Store>(
     alloc: Global,
     words: &str,

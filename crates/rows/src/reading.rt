@@ -102,6 +102,14 @@ impl Reader {
                 run.fail_each();
                 Ok(true)
             }
+            Directive::StoppedEach => {
+                run.stop_each();
+                Ok(true)
+            }
+            Directive::OneStore => {
+                run.keep_store();
+                Ok(true)
+            }
             Directive::Foul { call, bytes } => run.add_foul(alloc, call, bytes),
             Directive::Records => {
                 run.tell_records();

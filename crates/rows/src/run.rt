@@ -23,6 +23,10 @@ pub struct Run {
     pub failing: Failing,
     /// Whether the row stands for a run with each call of the store failing.
     pub fails_each: bool,
+    /// Whether the row stands for a run that is stopped at each call of the store, and started again.
+    pub stops_each: bool,
+    /// Whether the commands run over one store, which tells nothing.
+    pub has_one_store: bool,
     /// What a store gives that tells nothing; with none the store tells its records.
     pub foul: Vec<FoulBytes>,
     /// Whether the records are told that are left in the store.
@@ -49,6 +53,8 @@ impl Run {
                 notes: Vec::new(alloc),
             },
             fails_each: false,
+            stops_each: false,
+            has_one_store: false,
             foul: Vec::new(alloc),
             tells_records: false,
             before_each: None,
@@ -182,6 +188,18 @@ impl Run {
     pub fn fail_each(&mut self) {
         self.is_open = false;
         self.fails_each = true;
+    }
+
+    /// Notes that the run is to be stopped at each call of the store, and started again.
+    pub fn stop_each(&mut self) {
+        self.is_open = false;
+        self.stops_each = true;
+    }
+
+    /// Notes that the commands run over one store.
+    pub fn keep_store(&mut self) {
+        self.is_open = false;
+        self.has_one_store = true;
     }
 
     /// Notes that the records are told that are left.

@@ -1,0 +1,10 @@
+pub mod CertificateGrammar
+pub mod ClaimDraft
+pub mod Code
+pub mod Draft
+pub mod Faults
+pub mod Forms
+pub mod Laws
+pub mod OffersGrammar
+pub mod Statements
+pub mod Words

@@ -1,5 +1,5 @@
 -- The causes of what a node sends, and from where the messages inside phi come.
-use Rattle.std.proofs.Common.{◌≡◌, ℕ, true, false, List, [], ◌∷◌, length, refl, sym, ap, subst, ◌∙◌, arith}
+use Rattle.std.proofs.Common.{◌≡◌, ℕ, true, false, List, [], ◌∷◌, length, refl, sym, ap, subst, ◌∙◌, arith, inl, inr}
 use Rattle.std.specs.List.{AllByRecursion, Contains}
 use Rattle.std.proofs.lemmas.List.Folds.{list_all_at}
 use Rattle.fw_lemmas.proofs.Each.{each-weaker, each-both, each-append, all-of_each}
@@ -9,14 +9,14 @@ use Rattle.fw_frontier.specs.Frontier.{Frontier}
 use Rattle.fw_flow.specs.declared.event.Event.{Event}
 use Rattle.fw_flow.specs.declared.event.Message.{Message}
 use Rattle.fw_flow.specs.declared.kind.Kind.{Kind}
-use Rattle.fw_flow.specs.declared.kind.Kind.TheVariants.{Sequence}
 use Rattle.fw_flow.specs.Dataflow.{System, Dataflow, kind_of, sender, bounds_of, send_stamp, send_stamp_of_kind, is_sequence_kind}
-use Rattle.fw_flow.specs.NodeFunction.{event_stamp, recs_on, sequence_sent, sends_of_kind, sends, sent_by}
+use Rattle.fw_flow.specs.NodeFunction.{event_stamp, sequence_sent, sends_of_kind, sends, sent_by, numbered_messages}
 use Rattle.fw_flow.specs.Projection.{events_at, all_inside, phi}
 use Rattle.fw_model.specs.LawsOfSending.{InsidePhiComesFromInside, IsFromCauses, SendsAtMost, SendsComeFromCauses}
-use Rattle.fw_model.specs.Sending.{IsSentFrom}
+use Rattle.fw_model.specs.Sending.{IsSentFrom, recs_by_count_on}
+use Rattle.fw_model.proofs.KindSorts.{by_stamp-no_sequence, sends_by}
 use Rattle.fw_model.proofs.SendingLaws.{phi-by_stamp, phi-in_domain}
-use Rattle.fw_model.proofs.SendsLaws.{IsAt, by_stamp-no_sequence, sends_of_kind-each, sends-each}
+use Rattle.fw_model.proofs.SendsLaws.{IsAt, sends_of_kind-each, sends-each}
 use Rattle.fw_model.proofs.SequenceLaws.{IsNumbered, numbered-each}
 
 -- ---- of each kind that there is, a message has one cause
@@ -26,12 +26,16 @@ abbrev pub IsCausedBy : Stamp → Message → Type 0
 IsCausedBy t m = m.causes ≡ t ∷ []
 
 pub kinds-one_cause : (sys : System) (kind : Kind) (vs : List Event) (v : Event) → AllByRecursion (IsCausedBy (event_stamp v)) (sends_of_kind sys kind vs v)
-kinds-one_cause sys Sequence vs v =
-    each-weaker (IsNumbered (length (sequence_sent vs)) (event_stamp v)) (IsCausedBy (event_stamp v)) (sends_of_kind sys Sequence vs v) (λ m a. a.1)
-    (numbered-each (length (sequence_sent vs)) (event_stamp v) (recs_on sys Sequence vs v))
-kinds-one_cause sys kind vs v =
-    each-weaker (IsAt (send_stamp_of_kind sys.flow kind (event_stamp v)) (event_stamp v)) (IsCausedBy (event_stamp v)) (sends_of_kind sys kind vs v) (λ m a. a.1)
-    (sends_of_kind-each sys kind vs v refl)
+kinds-one_cause sys kind vs v = elim (sends_by kind) [
+  | inl is ↦
+      let n = length (sequence_sent vs) in
+      subst (λ k. AllByRecursion (IsCausedBy (event_stamp v)) (sends_of_kind sys k vs v)) (sym is)
+      (each-weaker (IsNumbered n (event_stamp v)) (IsCausedBy (event_stamp v)) (numbered_messages n (event_stamp v) (recs_by_count_on sys vs v)) (λ m a. a.1)
+      (numbered-each n (event_stamp v) (recs_by_count_on sys vs v)))
+  | inr n ↦
+      each-weaker (IsAt (send_stamp_of_kind sys.flow kind (event_stamp v)) (event_stamp v)) (IsCausedBy (event_stamp v)) (sends_of_kind sys kind vs v) (λ m a. a.1)
+      (sends_of_kind-each sys kind vs v n)
+]
 
 pub sends-one_cause : (sys : System) (p : ℕ) (vs : List Event) (v : Event) → AllByRecursion (IsCausedBy (event_stamp v)) (sends sys p vs v)
 unfolding sends

@@ -18,7 +18,7 @@ use Rattle.fw_flow.specs.WellFormed.{IsWellFormedSystem}
 use Rattle.fw_model.specs.Machine.{Machine, SerialEvent, Write, Written, checkpoint, logged_event, Stage, acknowledged, first_state, front_of, is_failed}
 use Rattle.fw_model.specs.Choice.{kept, IsCandidate, cut_of, filtered_history}
 use Rattle.fw_model.specs.Steps.{Effect, Outcome, did, idle, LeadsTo, Run, write_of_event, checkpoint_of, checkpoint_front, checkpoints_of, checkpoint_depth, depths_of, depth_after, next_depth, base_of_depth, is_eager, is_in_flight, is_kept_write, front_of_cut, is_forgotten, after_collection}
-use Rattle.fw_model.specs.LawsOfChains.{Link, link_of, links_of, IsWholeLink, StandsOnLast, IsChain, EachStandsOnTheOneBefore}
+use Rattle.fw_model.specs.LawsOfChains.{Link, link_of, links_of, StandsOnLast, IsChain, EachStandsOnTheOneBefore}
 use Rattle.fw_model.proofs.WriteLaws.{LiesBelow, IsWriteBelow, AreAscending}
 use Rattle.fw_model.proofs.ChoosingLaws.{settled_writes}
 use Rattle.fw_model.proofs.AskedLaws.{AreOthers, others-passed, range-others, CanRecoverAndRestore, took-reached, first-reached}

@@ -19,7 +19,7 @@ use Rattle.fw_flow.specs.declared.choice.Cut.{Cut}
 use Rattle.fw_flow.specs.declared.choice.Cut.TheVariants.{Present, At}
 use Rattle.fw_flow.specs.declared.event.Message.{Message}
 use Rattle.fw_flow.specs.declared.kind.Kind.{Kind}
-use Rattle.fw_flow.specs.declared.kind.Kind.TheVariants.{Input, OutputEpoch, OutputNumber, Sequence}
+use Rattle.fw_flow.specs.declared.kind.Kind.TheVariants.{Input, OutputEpoch, OutputNumber}
 use Rattle.fw_flow.specs.declared.kind.Policy.{Policy}
 use Rattle.fw_flow.specs.declared.kind.Policy.TheVariants as policy
 use Rattle.fw_flow.specs.Dataflow.{System, Dataflow, kind_of, policy_of, sender, receiver, domain_of_kind, bounds_of, bounds_of_domain, greatest_number, is_sequence_kind}
@@ -33,10 +33,11 @@ use Rattle.fw_model.specs.LawsOfChoices.{ConsistentChoicesHaveUnion, EachLiesWit
 use Rattle.fw_flow.specs.declared.restoring.Restoring.{Restoring}
 use Rattle.fw_flow.specs.declared.restoring.Restoring.TheVariants.{Batches, Bound, Anything, Checkpoints, Events}
 use Rattle.fw_flow.specs.Restoring.{restoring_of_policy, restoring, can_resend, way_of}
-use Rattle.fw_model.specs.Covers.{stamp_of_notice, stamps_from, set_of, takes_its_cut, takes_its_notices, discarded_at, covers_in, tallies_in}
+use Rattle.fw_model.specs.Covers.{stamp_of_notice, set_of, takes_its_cut, takes_its_notices, discarded_at, covers_in, tallies_in}
+use Rattle.fw_model.proofs.KindSorts.{is_sequence}
 use Rattle.fw_model.proofs.PhiLaws.{phi-monotone, all_inside-monotone}
 use Rattle.fw_model.proofs.PsiLaws.{psi-monotone, psi-join}
-use Rattle.fw_model.proofs.MeetLaws.{one_within}
+use Rattle.fw_model.proofs.LineLaws.{one_within}
 use Rattle.fw_model.proofs.SendsLaws.{IsOfCause, sent_by-of_cause}
 use Rattle.fw_model.proofs.SequenceLaws.{bounds-sequence}
 use Rattle.fw_model.specs.Unions.{IsUnionOfCuts, IsUnionOfChoices}
@@ -180,10 +181,6 @@ notified-union sys state p =
     flag-divides (takes_its_notices (kind_of sys.flow p) (policy_of sys.flow p)) (frontier_of b u) (frontier_of b f) (frontier_of b g)
     (cover b (filter (frontier_of b u) ss)) (cover b (filter (frontier_of b f) ss)) (cover b (filter (frontier_of b g) ss))
     v (cover-divides b (frontier_of b u) (frontier_of b f) (frontier_of b g) ss v))
-
-pub is_sequence : (kind : Kind) → is_sequence_kind kind ≡ true → kind ≡ Sequence
-is_sequence Sequence e = refl
-is_sequence kind e = absurd (cc)
 
 within_or : (a b : Bool) → (a ≡ true → b ≡ true) → (a || b) ≡ true → b ≡ true
 within_or true b p k = p refl

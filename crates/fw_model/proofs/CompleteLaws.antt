@@ -12,11 +12,12 @@ use Rattle.fw_frontier.specs.Frontier.{Frontier, Within}
 use Rattle.fw_flow.specs.declared.event.Event.{Event}
 use Rattle.fw_flow.specs.declared.event.Event.TheVariants.{Inject, Deliver, Notify}
 use Rattle.fw_flow.specs.declared.event.Message.{Message}
-use Rattle.fw_flow.specs.declared.kind.Kind.TheVariants.{OutputEpoch, Sequence}
+use Rattle.fw_flow.specs.declared.kind.Kind.TheVariants.{OutputEpoch}
 use Rattle.fw_flow.specs.Dataflow.{System, Dataflow, idle_node, kind_of, sender, receiver, greatest_number, bounds_of, is_input_kind, is_notified_kind, batches_of, send_stamp, send_stamp_of_kind, is_sequence_kind, HasEpochs}
-use Rattle.fw_flow.specs.NodeFunction.{event_node, event_stamp, recs_on, numbered_messages, sequence_sent, sends_of_kind, sends, sent_by}
+use Rattle.fw_flow.specs.NodeFunction.{event_node, event_stamp, numbered_messages, sequence_sent, sends_of_kind, sends, sent_by}
 use Rattle.fw_flow.specs.Projection.{events_at, count_from, first_coordinate, phi, IsSenderFrontier}
 use Rattle.fw_flow.specs.WellFormed.{IsWellFormed}
+use Rattle.fw_model.proofs.KindSorts.{by_stamp-no_sequence}
 use Rattle.fw_model.proofs.LesserLaws.{lesser-in_domain, lesser-on_edge}
 use Rattle.fw_model.specs.History.{some_at, sent_messages, delivered_messages, pending_messages, was_delivered_to, was_notified, is_owed_notice, injected_count, is_exhausted, injected_epochs, IsAdmissible, IsEnabled, IsLegal}
 use Rattle.fw_flow.specs.Message.{messages_less}
@@ -24,12 +25,12 @@ use Rattle.fw_model.specs.LawsOfCompleteFrontiers.{EnabledIsOutside, AdmissibleS
 use Rattle.fw_model.proofs.PhiLaws.{phi-longer}
 use Rattle.fw_model.proofs.FrontierLaws.{phi-frontier}
 use Rattle.fw_model.proofs.SendingLaws.{phi-by_stamp, phi-in_domain}
-use Rattle.fw_model.proofs.SendsLaws.{IsAt, by_stamp-no_sequence, sends-each}
+use Rattle.fw_model.proofs.SendsLaws.{IsAt, sends-each}
 use Rattle.fw_model.proofs.SequenceLaws.{IsNumbered, numbered-each, count-le_length, no_inject, sent_by-sequence, phi-sequence, bounds-sequence}
 use Rattle.fw_model.proofs.WellFormedLaws.{senders_well_formed}
 use Rattle.fw_model.proofs.LegalLaws.{enabled-in_domain, legal-in_domain, only_inputs_inject}
 use Rattle.fw_model.proofs.PendingLaws.{quiet-new, quiet-without, is_among-some_at}
-use Rattle.fw_model.specs.Sending.{SendsByStamp}
+use Rattle.fw_model.specs.Sending.{SendsByStamp, SendsByCount, recs_by_count_on}
 
 -- ---- an enabled event is outside
 
@@ -62,7 +63,7 @@ past_edges-idle flow e l =
 
 -- the sender of any edge is a sequence, sends by stamp, or sends nothing
 pub sender_sorts : (flow : Dataflow) → IsWellFormed flow → (e : ℕ)
-    → ((kind_of flow (sender flow e) ≡ Sequence) ⊎ SendsByStamp flow (kind_of flow (sender flow e))) ⊎ (kind_of flow (sender flow e) ≡ OutputEpoch)
+    → (SendsByCount (kind_of flow (sender flow e)) ⊎ SendsByStamp flow (kind_of flow (sender flow e))) ⊎ (kind_of flow (sender flow e) ≡ OutputEpoch)
 sender_sorts flow w e = elim (cases_lt e (length flow.edges)) [ inl l ↦ inl (senders_well_formed flow w e l) | inr l ↦ inr (past_edges-idle flow e l) ]
 
 -- each of these messages on the edge is outside phi
@@ -88,7 +89,7 @@ idle-outside sys h e f v is =
     (λ m a k. let r : None ≡ Some m.at = sym (ap (λ kind. send_stamp_of_kind sys.flow kind (event_stamp v)) is) ∙ a.0 in cc r)
     (sends-each sys q (ap is_sequence_kind is) (events_at sys.flow q h) v)
 
-sequence-outside : (sys : System) (h : List Event) (e : ℕ) (f : Frontier) (v : Event) → kind_of sys.flow (sender sys.flow e) ≡ Sequence
+sequence-outside : (sys : System) (h : List Event) (e : ℕ) (f : Frontier) (v : Event) → SendsByCount (kind_of sys.flow (sender sys.flow e))
     → IsSenderFrontier sys.flow e f → in_domain (bounds_of sys.flow (sender sys.flow e)) (event_stamp v) ≡ true → f (event_stamp v) ≡ false
     → injected_count (sender sys.flow e) h ≡ 0
     → AreOutsidePhi sys h e f (sends sys (sender sys.flow e) (events_at sys.flow (sender sys.flow e) h) v)
@@ -97,7 +98,7 @@ sequence-outside sys h e f v is fr d o n =
     let q = sender sys.flow e in
     let vs = events_at sys.flow q h in
     let before = sequence_sent vs in
-    let rs = recs_on sys Sequence vs v in
+    let rs = recs_by_count_on sys vs v in
     let P : List Message → Type 0 = λ ms. AreOutsidePhi sys h e f ms in
     let sent_is = ap (count_from f) (sent_by-sequence sys q is vs (no_inject sys.flow q h n)) in
     let fewer = count-le_length f before in

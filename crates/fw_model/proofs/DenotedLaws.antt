@@ -16,7 +16,7 @@ use Rattle.fw_frontier.specs.Frontier.{Frontier}
 use Rattle.fw_flow.specs.declared.event.Event.{Event}
 use Rattle.fw_flow.specs.declared.kind.Domain.TheVariants.{Number}
 use Rattle.fw_flow.specs.declared.kind.Kind.{Kind}
-use Rattle.fw_flow.specs.declared.kind.Kind.TheVariants.{Input, Sum, Total, Sequence}
+use Rattle.fw_flow.specs.declared.kind.Kind.TheVariants.{Input, Sum, Total}
 use Rattle.fw_flow.specs.Dataflow.{greatest_of_kind, is_loop, System, kind_of, sender, receiver, in_edges, domain_of, out_domain_of, out_domain_of_kind, greatest_number, bounds_of, batches_of, is_input_kind, is_notified_kind, send_stamp}
 use Rattle.fw_flow.specs.NodeFunction.{sequence_sent, sent_by}
 use Rattle.fw_flow.specs.Projection.{events_at, phi, phi_of_kind, sent_count}
@@ -25,6 +25,7 @@ use Rattle.fw_flow.specs.WellFormed.{IsWellFormed, IsWellFormedSystem}
 use Rattle.fw_flow.specs.WholeBags.{Timed, timed_cmp, outputs_of_kind, in_order, numbered_recs, joint_bag}
 use Rattle.fw_model.specs.Denotation.{Family, IsDenotation}
 use Rattle.fw_model.specs.History.{was_delivered_to, was_notified, is_owed_notice, sent_messages, delivered_messages, IsAdmissible, IsLegal}
+use Rattle.fw_model.proofs.KindSorts.{is_inner, sort_of}
 use Rattle.fw_model.proofs.SendingLaws.{phi-by_stamp, phi-in_domain}
 use Rattle.fw_model.proofs.SequenceLaws.{bounds-sequence, count-le_length, no_inject, sent_by-sequence, phi-sequence}
 use Rattle.fw_model.proofs.LegalLaws.{edge_domains, only_inputs_inject}
@@ -39,10 +40,10 @@ use Rattle.fw_model.proofs.StampMeasures.{IsEarlier, earlier-unlooped}
 use Rattle.fw_model.proofs.ArrivalLaws.{deliveries, deliveries-weigh, together-weigh}
 use Rattle.fw_model.proofs.InputLaws.{input-equal}
 use Rattle.fw_model.proofs.NotifiedLaws.{none_came}
-use Rattle.fw_model.proofs.KindLaws.{is_inner, AgreeFor, outputs-same, arrives, delivered_bag}
+use Rattle.fw_model.proofs.KindLaws.{AgreeFor, outputs-same, arrives, delivered_bag}
 use Rattle.fw_model.proofs.SequencedLaws.{IsMember, each_member, filter-parts, Precedes, numbered-append, numbered-from, length-weigh, length-messages}
-use Rattle.fw_model.proofs.DomainLaws.{sort_of, inner_edge, sequence_edge, output-sent, output-outputs, edge-bounds, EdgeStamp, along, from_earlier, each_in_edge, denoted-in_domain, delivered-in_domain, has_epochs}
-use Rattle.fw_model.specs.Sending.{SendsByStamp}
+use Rattle.fw_model.proofs.DomainLaws.{inner_edge, sequence_edge, output-sent, output-outputs, edge-bounds, EdgeStamp, along, from_earlier, each_in_edge, denoted-in_domain, delivered-in_domain, has_epochs}
+use Rattle.fw_model.specs.Sending.{SendsByStamp, SendsByCount}
 
 -- what was sent on the edge at the stamp is what the family has there
 abbrev pub IsDenotedAt : System → List Event → Family → (ℕ → Frontier) → EdgeStamp → Type 0
@@ -100,7 +101,7 @@ comes_after r q l o =
     gt_then (stamp_cmp q.at r.at) _ (ap is_gt (nat_list_cmp_total.antisymm q.at r.at) ∙ lt_reverse (stamp_cmp r.at q.at) (before-from_leq r.at q.at l o))
 
 -- epochs are comparable
-pub epochs_compare : (sys : System) (p : ℕ) → kind_of sys.flow p ≡ Sequence → (s t : Stamp) → in_domain (bounds_of sys.flow p) s ≡ true
+pub epochs_compare : (sys : System) (p : ℕ) → SendsByCount (kind_of sys.flow p) → (s t : Stamp) → in_domain (bounds_of sys.flow p) s ≡ true
     → in_domain (bounds_of sys.flow p) t ≡ true → (leq s t ≡ true) ⊎ (leq t s ≡ true)
 epochs_compare sys p is s t i j =
     let line : (u : Stamp) → in_domain (bounds_of sys.flow p) u ≡ true → leq u (greatest_number ∷ []) ≡ true =
@@ -113,7 +114,7 @@ epochs_compare sys p is s t i j =
 not_numbered : List Event → ℕ → Timed → Bool
 not_numbered h p r = not (was_notified p r.at h)
 
-numbered_first : (sys : System) (h : List Event) (family : Family) → IsWellFormedSystem sys → IsDenotation sys family → (p : ℕ) → kind_of sys.flow p ≡ Sequence
+numbered_first : (sys : System) (h : List Event) (family : Family) → IsWellFormedSystem sys → IsDenotation sys family → (p : ℕ) → SendsByCount (kind_of sys.flow p)
     → IsSequenced sys h family p → Precedes (is_numbered_in h p) (not_numbered h p) (in_order (whole sys family p))
 unfolding not_numbered
 numbered_first sys h family w den p is s r q i j k l =
@@ -133,7 +134,7 @@ either : (b : Bool) → (not b || b) ≡ true
 either true = refl
 either false = refl
 
-numbered_parts : (sys : System) (h : List Event) (family : Family) → IsWellFormedSystem sys → IsDenotation sys family → (p : ℕ) → kind_of sys.flow p ≡ Sequence
+numbered_parts : (sys : System) (h : List Event) (family : Family) → IsWellFormedSystem sys → IsDenotation sys family → (p : ℕ) → SendsByCount (kind_of sys.flow p)
     → IsSequenced sys h family p
     → let xs = in_order (whole sys family p) in xs ≡ filter (is_numbered_in h p) xs ++ filter (not_numbered h p) xs
 unfolding not_numbered
@@ -142,7 +143,7 @@ numbered_parts sys h family w den p is s =
     sym (filter-all (λ r. not_numbered h p r || is_numbered_in h p r) xs (each_member (λ r. (not_numbered h p r || is_numbered_in h p r) ≡ true) xs (λ r i. either (was_notified p r.at h))))
     ∙ filter-parts (is_numbered_in h p) (not_numbered h p) xs (ascending-in_order (whole sys family p)) (numbered_first sys h family w den p is s)
 
-sequence-sent_by : (sys : System) (h : List Event) → IsLegal sys h → (p : ℕ) → kind_of sys.flow p ≡ Sequence
+sequence-sent_by : (sys : System) (h : List Event) → IsLegal sys h → (p : ℕ) → SendsByCount (kind_of sys.flow p)
     → sent_by sys p (events_at sys.flow p h) ≡ sequence_sent (events_at sys.flow p h)
 sequence-sent_by sys h l p is =
     sent_by-sequence sys p is (events_at sys.flow p h) (no_inject sys.flow p h (only_inputs_inject sys h l p (ap is_input_kind is)))
@@ -160,7 +161,7 @@ record SequenceParts (sys : System) (h : List Event) (family : Family) (e : ℕ)
   pub parts : weigh w (family e) ≡ weigh w (timed_of (sent_messages sys h e)) + rest
 
 sequence-parts : (sys : System) (h : List Event) (family : Family) → IsWellFormedSystem sys → IsLegal sys h → IsDenotation sys family
-    → (e : ℕ) → kind_of sys.flow (sender sys.flow e) ≡ Sequence → IsSequenced sys h family (sender sys.flow e) → (w : Timed → ℕ) → SequenceParts sys h family e w
+    → (e : ℕ) → SendsByCount (kind_of sys.flow (sender sys.flow e)) → IsSequenced sys h family (sender sys.flow e) → (w : Timed → ℕ) → SequenceParts sys h family e w
 unfolding rest_of not_numbered
 sequence-parts sys h family w l den e is s f =
     let flow = sys.flow in
@@ -184,7 +185,7 @@ sequence-parts sys h family w l den e is s f =
 
 -- what a sequence sent is a part of what the family has
 pub sequence-fewer : (sys : System) (h : List Event) (family : Family) → IsWellFormedSystem sys → IsLegal sys h → IsDenotation sys family
-    → (e : ℕ) → kind_of sys.flow (sender sys.flow e) ≡ Sequence → IsSequenced sys h family (sender sys.flow e) → (w : Timed → ℕ)
+    → (e : ℕ) → SendsByCount (kind_of sys.flow (sender sys.flow e)) → IsSequenced sys h family (sender sys.flow e) → (w : Timed → ℕ)
     → weigh w (timed_of (sent_messages sys h e)) ≤ weigh w (family e)
 sequence-fewer sys h family w l den e is s f = let a = (sequence-parts sys h family w l den e is s f).parts in omega arith
 
@@ -215,7 +216,7 @@ paid-notified sys h p u q n o l = elim (cases_Bool (was_delivered_to sys.flow p 
 
 -- inside phi a sequence sent what the family has
 sequence-step : (sys : System) (h : List Event) (family : Family) → IsWellFormedSystem sys → IsLegal sys h → IsDenotation sys family
-    → (done : ℕ → Frontier) → IsAdmissible sys h done → (e : ℕ) → kind_of sys.flow (sender sys.flow e) ≡ Sequence → IsSequenced sys h family (sender sys.flow e)
+    → (done : ℕ → Frontier) → IsAdmissible sys h done → (e : ℕ) → SendsByCount (kind_of sys.flow (sender sys.flow e)) → IsSequenced sys h family (sender sys.flow e)
     → ((d : ℕ) (u : Stamp) → receiver sys.flow d ≡ sender sys.flow e → IsDenotedAt sys h family done (d, u))
     → (t : Stamp) → phi sys h e (done (sender sys.flow e)) t ≡ true
     → (q : Rec) → weigh (one t q) (timed_of (sent_messages sys h e)) ≡ weigh (one t q) (family e)
@@ -308,7 +309,7 @@ inner-paid sys h done a e t is i =
     ]
 
 sent-step : (sys : System) (h : List Event) (family : Family) → IsWellFormedSystem sys → IsLegal sys h → IsDenotation sys family
-    → ((p : ℕ) → kind_of sys.flow p ≡ Sequence → IsSequenced sys h family p)
+    → ((p : ℕ) → SendsByCount (kind_of sys.flow p) → IsSequenced sys h family p)
     → (done : ℕ → Frontier) → IsAdmissible sys h done
     → (r : Measure sys.flow) (e : ℕ) (t : Stamp) → ((d : ℕ) (u : Stamp) → IsEarlier sys.flow r (receiver sys.flow d) u (receiver sys.flow e) t → IsDenotedAt sys h family done (d, u))
     → IsDenotedAt sys h family done (e, t)
@@ -343,6 +344,6 @@ sent-step sys h family w l den seq done a r e t ih i q =
     ]
 
 pub sent-denoted : (sys : System) (h : List Event) (family : Family) → IsWellFormedSystem sys → IsLegal sys h → IsDenotation sys family
-    → ((p : ℕ) → kind_of sys.flow p ≡ Sequence → IsSequenced sys h family p)
+    → ((p : ℕ) → SendsByCount (kind_of sys.flow p) → IsSequenced sys h family p)
     → (done : ℕ → Frontier) → IsAdmissible sys h done → (e : ℕ) (t : Stamp) → IsDenotedAt sys h family done (e, t)
 sent-denoted sys h family w l den seq done a e t = along sys.flow w.flow (IsDenotedAt sys h family done) (sent-step sys h family w l den seq done a) e t

@@ -12,9 +12,10 @@ use Rattle.fw_flow.specs.Ranks.{is_looped}
 use Rattle.fw_flow.specs.WholeBags.{Timed, timed_recs, timed_where, in_order, outputs_of_kind, outputs_of}
 use Rattle.fw_model.specs.Denotation.{Family}
 use Rattle.fw_model.specs.LawsOfDenotation.{RecsAtStampsDecideBag, OutBagsDependOnLesserMeasure}
+use Rattle.fw_model.proofs.KindSorts.{local-from_loop}
 use Rattle.fw_model.proofs.TimedLaws.{IsAscendingTimed, ascending-in_order, ascending-filter, how_often_timed, how_often-in_order, same_from_how_often, how_often-filter_in, how_often-filter_out}
 use Rattle.fw_model.proofs.OutputLaws.{part, is_stamp, sends_to, outputs-part}
-use Rattle.fw_model.proofs.MeasureLaws.{sends_to_loop, local-from_loop}
+use Rattle.fw_model.proofs.MeasureLaws.{sends_to_loop}
 use Rattle.fw_model.proofs.StampLaws.{same-is, same-refl}
 use Rattle.fw_model.specs.Measure.{Measure}
 

@@ -1,5 +1,5 @@
 -- The bags of the denotation, and what was delivered, are in the domains of their edges.
-use Rattle.std.proofs.Common.{◌≡◌, ◌⊎◌, ℕ, ◌<◌, true, false, ◌&&◌, List, [], ◌∷◌, length, Some, refl, sym, ap, subst, ◌∙◌, inl, inr, arith}
+use Rattle.std.proofs.Common.{◌≡◌, ℕ, ◌<◌, true, false, ◌&&◌, List, [], ◌∷◌, length, Some, refl, sym, ap, subst, ◌∙◌, inl, inr, arith}
 use Rattle.std.specs.List.{AllByRecursion}
 use Rattle.std.specs.Ordering.{is_eq}
 use Rattle.std.proofs.lemmas.Bool.{cases_Bool, cases_lt}
@@ -12,43 +12,28 @@ use Rattle.fw_bag.specs.Rec.{rec_cmp}
 use Rattle.fw_flow.specs.declared.event.Event.{Event}
 use Rattle.fw_flow.specs.declared.event.Message.{Message}
 use Rattle.fw_flow.specs.declared.kind.Kind.{Kind}
-use Rattle.fw_flow.specs.declared.kind.Kind.TheVariants.{Input, OutputEpoch, OutputNumber, Sequence}
+use Rattle.fw_flow.specs.declared.kind.Kind.TheVariants.{OutputEpoch, OutputNumber}
 use Rattle.fw_flow.specs.Dataflow.{System, Dataflow, kind_of, sender, receiver, in_edges, bounds_of, bounds_of_domain, is_output_kind, send_stamp, bounds_of_edge, HasEpochs}
 use Rattle.fw_flow.specs.NodeFunction.{sends, sends_of_kind, sent_by}
 use Rattle.fw_flow.specs.WellFormed.{IsWellFormed, IsWellFormedSystem}
 use Rattle.fw_flow.specs.WholeBags.{Timed, outputs_of_kind}
 use Rattle.fw_model.specs.Denotation.{Family, IsDenotation}
 use Rattle.fw_model.specs.History.{sent_messages, delivered_messages, IsLegal}
+use Rattle.fw_model.proofs.KindSorts.{is_inner, inner-not_output}
 use Rattle.fw_model.proofs.LegalLaws.{edge_domains, legal_messages-in_domain}
 use Rattle.fw_model.proofs.CompleteLaws.{past_edges-idle}
 use Rattle.fw_model.proofs.WeightLaws.{weigh, one, one-out}
 use Rattle.fw_model.proofs.SentLaws.{timed_of, timed_message, delivered-lighter}
 use Rattle.fw_model.specs.Measure.{Measure}
+use Rattle.fw_model.specs.Sending.{SendsByCount}
 use Rattle.fw_model.proofs.MeasureLaws.{measure-exists}
 use Rattle.fw_model.proofs.StampMeasures.{IsEarlier, earlier-sends}
 use Rattle.fw_model.proofs.DenotationDomainLaws.{denotation-in_domain}
 use Rattle.fw_model.proofs.ArrivalLaws.{in_edges-receive}
 use Rattle.fw_model.proofs.InputLaws.{sent-weigh}
-use Rattle.fw_model.proofs.KindLaws.{is_inner}
 use Rattle.fw_model.proofs.StampLaws.{same-is}
 
 -- ---- sorts of kinds
-
--- the kind is an input's, an output's, a sequence's, or of the others
-abbrev pub Sort : Kind → Type 0
-Sort kind = (kind ≡ Input) ⊎ ((is_output_kind kind ≡ true) ⊎ ((kind ≡ Sequence) ⊎ (is_inner kind ≡ true)))
-
-pub sort_of : (kind : Kind) → Sort kind
-sort_of Input = inl refl
-sort_of OutputEpoch = inr (inl refl)
-sort_of OutputNumber = inr (inl refl)
-sort_of Sequence = inr (inr (inl refl))
-sort_of kind = inr (inr (inr refl))
-
-inner-not_output : (kind : Kind) → is_inner kind ≡ true → is_output_kind kind ≡ false
-inner-not_output OutputEpoch k = cc
-inner-not_output OutputNumber k = cc
-inner-not_output kind k = refl
 
 -- an edge whose sender is no output is one of the dataflow
 real_edge : (flow : Dataflow) (e : ℕ) → is_output_kind (kind_of flow (sender flow e)) ≡ false → e < length flow.edges
@@ -60,7 +45,7 @@ real_edge flow e k = elim (cases_lt e (length flow.edges)) [
 pub inner_edge : (flow : Dataflow) (e : ℕ) → is_inner (kind_of flow (sender flow e)) ≡ true → e < length flow.edges
 inner_edge flow e k = real_edge flow e (inner-not_output (kind_of flow (sender flow e)) k)
 
-pub sequence_edge : (flow : Dataflow) (e : ℕ) → kind_of flow (sender flow e) ≡ Sequence → e < length flow.edges
+pub sequence_edge : (flow : Dataflow) (e : ℕ) → SendsByCount (kind_of flow (sender flow e)) → e < length flow.edges
 sequence_edge flow e is = real_edge flow e (ap is_output_kind is)
 
 -- ---- outputs

@@ -13,37 +13,24 @@ use Rattle.fw_bag.specs.Keyed.{distinct_keys, sums_of}
 use Rattle.fw_flow.specs.declared.event.Event.{Event}
 use Rattle.fw_flow.specs.declared.event.Event.TheVariants.{Inject, Deliver, Notify}
 use Rattle.fw_flow.specs.declared.kind.Kind.{Kind}
-use Rattle.fw_flow.specs.declared.kind.Kind.TheVariants.{Input, OutputEpoch, OutputNumber, Select, Concat, Distinct, Join, Sum, Enter, Feedback, Leave, Total, Sequence, Ledger, Regroup}
+use Rattle.fw_flow.specs.declared.kind.Kind.TheVariants.{Distinct, Join, Sum, Total, Ledger}
 use Rattle.fw_flow.specs.Dataflow.{System, Dataflow, kind_of, receiver, in_edges, domain_of_kind, is_of_numbers, is_numbered, is_notified_kind, send_stamp_of_kind, HasEpochs}
 use Rattle.fw_flow.specs.NodeFunction.{delivered_recs, recs_on_notification, sent_by}
 use Rattle.fw_flow.specs.Projection.{events_at}
 use Rattle.fw_flow.specs.WellFormed.{IsWellFormed, IsInDegree}
 use Rattle.fw_flow.specs.WholeBags.{Timed, timed_where, outputs_of_kind, joint_bag}
 use Rattle.fw_model.specs.History.{was_delivered_to, was_notified, is_owed_notice, delivered_messages, IsLegal}
+use Rattle.fw_model.proofs.KindSorts.{is_inner, sends_one_by_one, sends_at_once, sends_sums}
 use Rattle.fw_model.proofs.WeightLaws.{weigh, weigh-same, weigh-lighter, weigh-equal, how_often-where, one, at_stamp}
 use Rattle.fw_model.proofs.SentLaws.{timed_of, timed_message}
 use Rattle.fw_model.proofs.ArrivalLaws.{at_edge, in_edges-once, in_edges-receive, deliveries, deliveries-weigh, together-weigh}
-use Rattle.fw_model.proofs.OneByOneLaws.{sends_one_by_one, one_weight, one-sent, one-outputs, one-fewer, IsFewerAt}
+use Rattle.fw_model.proofs.OneByOneLaws.{one_weight, one-sent, one-outputs, one-fewer, IsFewerAt}
 use Rattle.fw_model.proofs.DistinctLaws.{sign, sign-less, passing, distinct-sent, distinct-outputs, how_often-delivered, how_often-delivered_at}
 use Rattle.fw_model.proofs.JoinLaws.{pairs, pairs-fewer, join-outputs, join-sent, two_edges, on_one, delivered_at}
 use Rattle.fw_model.proofs.SumLaws.{AreSameBags, sums-same, sum-outputs, total-outputs, how_often-passing}
-use Rattle.fw_model.proofs.NotifiedLaws.{sends_sums, sums-sent, none_came}
+use Rattle.fw_model.proofs.NotifiedLaws.{sums-sent, none_came}
 use Rattle.fw_model.proofs.LedgerLaws.{AreNumbered, numbered-timed, ledger-sent, totals-same}
 use Rattle.fw_model.proofs.ClosedLaws.{numbered-ascend}
-
--- whether a node of the kind sends at the deliveries, and more where more came
-abbrev pub sends_at_once : Kind → Bool
-sends_at_once (Distinct within) = true
-sends_at_once (Join within) = true
-sends_at_once kind = sends_one_by_one kind
-
--- whether a node of the kind is no input, no output and no sequence
-abbrev pub is_inner : Kind → Bool
-is_inner Input = false
-is_inner OutputEpoch = false
-is_inner OutputNumber = false
-is_inner Sequence = false
-is_inner kind = true
 
 -- ---- kinds that send at once
 
@@ -79,13 +66,7 @@ outputs-fewer flow (Join n) is t x batches bag cag (a ∷ b ∷ ds) f =
     let d = join-outputs t x (cag a) (cag b) in
     let e = pairs-fewer t x (bag a) (cag a) (bag b) (cag b) (λ r. f.0 t r refl) (λ r. f.1.0 t r refl) in
     omega arith
-outputs-fewer flow (Select s n) is t x batches bag cag ds f = one-outputs_fewer flow (Select s n) refl t x batches bag cag ds f
-outputs-fewer flow (Concat n) is t x batches bag cag ds f = one-outputs_fewer flow (Concat n) refl t x batches bag cag ds f
-outputs-fewer flow (Enter l) is t x batches bag cag ds f = one-outputs_fewer flow (Enter l) refl t x batches bag cag ds f
-outputs-fewer flow (Feedback l) is t x batches bag cag ds f = one-outputs_fewer flow (Feedback l) refl t x batches bag cag ds f
-outputs-fewer flow (Leave l) is t x batches bag cag ds f = one-outputs_fewer flow (Leave l) refl t x batches bag cag ds f
-outputs-fewer flow (Regroup k) is t x batches bag cag ds f = one-outputs_fewer flow (Regroup k) refl t x batches bag cag ds f
-outputs-fewer flow kind is t x batches bag cag ds f = absurd (cc)
+outputs-fewer flow kind is t x batches bag cag ds f = one-outputs_fewer flow kind is t x batches bag cag ds f
 
 -- ---- bags that agree at what is read
 
@@ -160,15 +141,7 @@ outputs-same flow Ledger is t x batches bag cag ds k =
     let a = agree_together t bag cag ds
     (each-weaker (λ d. AgreeFor flow Ledger t (bag d) (cag d)) (λ d. (u : Stamp) (r : Rec) → leq u t ≡ true → weigh (one u r) (bag d) ≡ weigh (one u r) (cag d)) ds (λ d g u r l. g u u r refl l) k) in
     totals-same t x (joint_bag (map bag ds)) (joint_bag (map cag ds)) a.same_upto a.now
-outputs-same flow (Distinct n) is t x batches bag cag ds k = once-same flow (Distinct n) refl t x batches bag cag ds k
-outputs-same flow (Join n) is t x batches bag cag ds k = once-same flow (Join n) refl t x batches bag cag ds k
-outputs-same flow (Select s n) is t x batches bag cag ds k = once-same flow (Select s n) refl t x batches bag cag ds k
-outputs-same flow (Concat n) is t x batches bag cag ds k = once-same flow (Concat n) refl t x batches bag cag ds k
-outputs-same flow (Enter l) is t x batches bag cag ds k = once-same flow (Enter l) refl t x batches bag cag ds k
-outputs-same flow (Feedback l) is t x batches bag cag ds k = once-same flow (Feedback l) refl t x batches bag cag ds k
-outputs-same flow (Leave l) is t x batches bag cag ds k = once-same flow (Leave l) refl t x batches bag cag ds k
-outputs-same flow (Regroup m) is t x batches bag cag ds k = once-same flow (Regroup m) refl t x batches bag cag ds k
-outputs-same flow kind is t x batches bag cag ds k = absurd (cc)
+outputs-same flow kind is t x batches bag cag ds k = once-same flow kind is t x batches bag cag ds k
 
 -- ---- what was sent for what was delivered
 
@@ -343,10 +316,4 @@ arrives sys h w b l p n Ledger is k batches t x o =
     let a = agree_up_to t xs ys (λ u r i. deliveries_together flow p n (one u r) h) in
     ledger-sent sys p is (one t x) (events_at flow p h) (ledger-numbered sys h l p n (ledger_edge flow w p n is))
     ∙ totals-same t x xs ys a.same_upto a.now
-arrives sys h w b l p n (Select s m) is k batches t x o = one-arrives sys h p n (ap sends_one_by_one is) (Select s m) is batches t x
-arrives sys h w b l p n (Concat m) is k batches t x o = one-arrives sys h p n (ap sends_one_by_one is) (Concat m) is batches t x
-arrives sys h w b l p n (Enter r) is k batches t x o = one-arrives sys h p n (ap sends_one_by_one is) (Enter r) is batches t x
-arrives sys h w b l p n (Feedback r) is k batches t x o = one-arrives sys h p n (ap sends_one_by_one is) (Feedback r) is batches t x
-arrives sys h w b l p n (Leave r) is k batches t x o = one-arrives sys h p n (ap sends_one_by_one is) (Leave r) is batches t x
-arrives sys h w b l p n (Regroup m) is k batches t x o = one-arrives sys h p n (ap sends_one_by_one is) (Regroup m) is batches t x
-arrives sys h w b l p n kind is k batches t x o = absurd (cc)
+arrives sys h w b l p n kind is k batches t x o = one-arrives sys h p n (ap sends_one_by_one is ∙ k) kind is batches t x

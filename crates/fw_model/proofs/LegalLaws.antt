@@ -1,5 +1,5 @@
 -- At which stamps the events and messages of a legal history are.
-use Rattle.std.proofs.Common.{◌≡◌, ℕ, ◌+◌, ◌≤◌, Bool, true, false, not, ◌==◌, ◌&&◌, nat_le, List, [], ◌∷◌, length, get_or, refl, sym, ap, ◌∙◌, inl, inr, arith}
+use Rattle.std.proofs.Common.{◌≡◌, ℕ, ◌+◌, ◌≤◌, Bool, true, false, not, ◌==◌, ◌&&◌, nat_le, List, [], ◌∷◌, length, get_or, refl, sym, ap, ◌∙◌, inl, inr, arith, subst}
 use Rattle.std.specs.List.{AllByRecursion}
 use Rattle.std.proofs.lemmas.Bool.{and_parts, and_from, or_cases, cond_both, eqb-true, cases_lt, both_ways}
 use Rattle.std.proofs.lemmas.List.{get_or_past}
@@ -10,9 +10,9 @@ use Rattle.fw_flow.specs.declared.event.Event.{Event}
 use Rattle.fw_flow.specs.declared.event.Event.TheVariants.{Inject, Deliver, Notify}
 use Rattle.fw_flow.specs.declared.event.Message.{Message}
 use Rattle.fw_flow.specs.declared.kind.Kind.{Kind}
-use Rattle.fw_flow.specs.declared.kind.Kind.TheVariants.{Input, Sequence}
+use Rattle.fw_flow.specs.declared.kind.Kind.TheVariants.{Input}
 use Rattle.fw_flow.specs.Dataflow.{System, Dataflow, idle_node, kind_of, sender, receiver, greatest_number, domain_of, domain_of_kind, out_domain_of, out_domain_of_kind, bounds_of, bounds_of_domain, is_input_kind, is_notified_kind, send_stamp_of_kind, is_sequence_kind, bounds_of_edge, HasEpochs}
-use Rattle.fw_flow.specs.NodeFunction.{event_node, event_stamp, recs_on, numbered_messages, sequence_sent, sends_of_kind, sends, sent_by}
+use Rattle.fw_flow.specs.NodeFunction.{event_node, event_stamp, numbered_messages, sequence_sent, sends_of_kind, sends, sent_by}
 use Rattle.fw_flow.specs.Projection.{events_at}
 use Rattle.fw_flow.specs.WellFormed.{IsWellFormed}
 use Rattle.fw_model.proofs.LesserLaws.{lesser-in_domain}
@@ -22,6 +22,8 @@ use Rattle.fw_flow.proofs.MessageLaws.{less-each, among-each}
 use Rattle.fw_model.proofs.StampLaws.{line-leq}
 use Rattle.fw_model.proofs.SendingLaws.{send_stamp_of_kind-in_domain}
 use Rattle.fw_model.proofs.SendsLaws.{IsAt, sends_of_kind-each}
+use Rattle.fw_model.specs.Sending.{recs_by_count_on}
+use Rattle.fw_model.proofs.KindSorts.{sends_by}
 
 -- ---- what is sent
 
@@ -44,8 +46,12 @@ sends_by_stamp-in_domain sys kind before v n i =
 sends_of_kind-in_domain : (sys : System) (kind : Kind) (before : List Event) (v : Event)
     → in_domain (bounds_of_domain sys.flow (domain_of_kind sys.flow kind)) (event_stamp v) ≡ true
     → AllByRecursion (λ (m : Message). in_domain (bounds_of_domain sys.flow (out_domain_of_kind sys.flow kind)) m.at ≡ true) (sends_of_kind sys kind before v)
-sends_of_kind-in_domain sys Sequence before v i = numbered-in_domain (length (sequence_sent before)) (event_stamp v) (recs_on sys Sequence before v)
-sends_of_kind-in_domain sys kind before v i = sends_by_stamp-in_domain sys kind before v refl i
+sends_of_kind-in_domain sys kind before v i = elim (sends_by kind) [
+  | inl is ↦
+      subst (λ k. AllByRecursion (λ (m : Message). in_domain (bounds_of_domain sys.flow (out_domain_of_kind sys.flow k)) m.at ≡ true) (sends_of_kind sys k before v)) (sym is)
+      (numbered-in_domain (length (sequence_sent before)) (event_stamp v) (recs_by_count_on sys before v))
+  | inr n ↦ sends_by_stamp-in_domain sys kind before v n i
+]
 
 -- what a node sends at
 abbrev out_bounds : Dataflow → ℕ → Stamp → Bool

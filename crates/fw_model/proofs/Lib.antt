@@ -47,6 +47,7 @@ pub mod InputLaws
 pub mod JoinLaws
 pub mod KeptLaws
 pub mod KindLaws
+pub mod KindSorts
 pub mod LargestLaws
 pub mod LedgerLaws
 pub mod LegalLaws
@@ -113,3 +114,12 @@ pub mod UntilLaws
 pub mod WeightLaws
 pub mod WellFormedLaws
 pub mod WriteLaws
+pub mod CounterLaws
+pub mod LineLaws
+pub mod OwnStampLaws
+pub mod EnterLaws
+pub mod FeedbackLaws
+pub mod LeaveLaws
+pub mod RegroupLaws
+pub mod CountLaws
+pub mod SenderLaws

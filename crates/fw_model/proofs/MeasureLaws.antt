@@ -8,7 +8,7 @@ use Rattle.fw_time.proofs.StampLaws.{outer-nest, counter-nest}
 use Rattle.fw_flow.specs.declared.kind.Domain.{Domain}
 use Rattle.fw_flow.specs.declared.kind.Domain.TheVariants.{Epoch, Number, Loop as InLoop}
 use Rattle.fw_flow.specs.declared.kind.Kind.{Kind}
-use Rattle.fw_flow.specs.declared.kind.Kind.TheVariants.{OutputEpoch, OutputNumber, Enter, Feedback, Leave, Total, Sequence, Ledger, Regroup}
+use Rattle.fw_flow.specs.declared.kind.Kind.TheVariants.{OutputEpoch, OutputNumber, Enter, Feedback, Leave, Sequence, Regroup}
 use Rattle.fw_flow.specs.Dataflow.{Dataflow, kind_of, sender, receiver, max_of, send_stamp, send_stamp_of_kind, parent_of, loops_of, domain_of, domain_of_kind, out_domain_of, out_domain_of_kind, is_loop, is_one_of}
 use Rattle.fw_flow.specs.Ranks.{is_looped, IsWithinRound, Ranks}
 use Rattle.fw_flow.specs.WellFormed.{IsLoopDeclared, IsWellFormed, is_feedback_of}
@@ -16,9 +16,8 @@ use Rattle.fw_flow.proofs.Chains.{loops-unfold, loops-few, not_own_parent}
 use Rattle.fw_flow.proofs.RankLaws.{ranks-exist}
 use Rattle.fw_model.specs.LawsOfDenotation.{MeasureExists}
 use Rattle.fw_model.specs.Measure.{rounds_in_loop, enough_rounds}
-use Rattle.fw_model.proofs.OutputLaws.{is_local_kind}
-use Rattle.fw_model.proofs.StampLaws.{counter-leq}
-use Rattle.fw_model.proofs.SendingLaws.{some_is, fed_back-some}
+use Rattle.fw_model.proofs.StampLaws.{counter-leq, some_is}
+use Rattle.fw_model.proofs.FeedbackLaws.{fed_back-some}
 
 -- ---- stamps without their counters
 
@@ -378,13 +377,6 @@ measure-below flow r p h t =
     omega arith
 
 -- ---- the law
-
--- a node whose messages are at a loop's times is of a local kind
-pub local-from_loop : (flow : Dataflow) (kind : Kind) → is_loop (out_domain_of_kind flow kind) ≡ true → is_local_kind kind ≡ true
-local-from_loop flow Total k = cc
-local-from_loop flow Sequence k = cc
-local-from_loop flow Ledger k = cc
-local-from_loop flow kind k = refl
 
 pub sends_to_loop : (flow : Dataflow) → IsWellFormed flow → (e : ℕ) → e < length flow.edges → is_looped flow (receiver flow e) ≡ true
     → is_loop (out_domain_of flow (sender flow e)) ≡ true

@@ -1,14 +1,14 @@
 -- The newest checkpoint of a node is the last link of its chain, with what was collected and without.
-use Rattle.std.proofs.Common.{◌≡◌, ◌⊎◌, ℕ, ◌+◌, ◌<◌, Bool, true, false, not, ◌&&◌, ◌==◌, cond, nat_lt, List, [], ◌∷◌, ◌++◌, length, filter, map, refl, sym, ap, subst, ◌∙◌, inl, inr, zero, suc, Option, Some, None, append_assoc}
+use Rattle.std.proofs.Common.{◌≡◌, ℕ, ◌+◌, ◌<◌, true, ◌==◌, cond, nat_lt, List, [], ◌∷◌, ◌++◌, length, filter, map, refl, sym, ap, subst, ◌∙◌, inl, inr, zero, suc, Option, Some, None, append_assoc}
 use Rattle.std.specs.List.{AllByRecursion}
 use Rattle.std.proofs.lemmas.Bool.{cases_Bool, and_from, cond_both, eqb-true}
 use Rattle.fw_frontier.specs.Front.{Front}
 use Rattle.fw_flow.specs.Dataflow.{System}
 use Rattle.fw_flow.specs.WellFormed.{IsWellFormedSystem}
 use Rattle.fw_flow.specs.declared.step.Step.{Step}
-use Rattle.fw_model.specs.LawsOfChains.{Link, link_of, links_of, TheNextStandsOnWhatIsLeft}
+use Rattle.fw_model.specs.LawsOfChains.{Link, links_of, TheNextStandsOnWhatIsLeft}
 use Rattle.fw_model.specs.Machine.{Machine, SerialEvent, Write, Written, checkpoint, logged_event, first_state}
-use Rattle.fw_model.specs.Steps.{Outcome, Run, checkpoints_of, last_or, depths_of, depth_after, next_depth, base_of_depth}
+use Rattle.fw_model.specs.Steps.{Outcome, Run, checkpoints_of, last_or, depth_after, next_depth, base_of_depth}
 use Rattle.fw_model.specs.Writes.{not_collected}
 use Rattle.fw_model.proofs.WriteLaws.{LiesBelow, AreAscending}
 use Rattle.fw_model.proofs.AskedLaws.{IsWriteAskedWell}

@@ -1,5 +1,5 @@
 -- Sum and total send, once they are notified of a stamp, what they send for all that came.
-use Rattle.std.proofs.Common.{◌≡◌, ℕ, Bool, true, false, cond, ◌&&◌, ◌||◌, ◌==◌, List, [], ◌∷◌, ◌++◌, Some, refl, sym, ap, subst, ◌∙◌, inl, inr, arith}
+use Rattle.std.proofs.Common.{◌≡◌, ℕ, true, false, cond, ◌&&◌, ◌||◌, ◌==◌, List, [], ◌∷◌, ◌++◌, Some, refl, sym, ap, subst, ◌∙◌, inl, inr, arith}
 use Rattle.std.proofs.Math.Bool.{and-false}
 use Rattle.std.proofs.lemmas.Bool.{and_parts, and_from, or_cases, or_parts, cond_both, cases_Bool, eqb-true}
 use Rattle.fw_time.specs.Stamp.{Stamp, leq, same}
@@ -21,6 +21,7 @@ use Rattle.fw_flow.specs.Projection.{events_at}
 use Rattle.fw_flow.specs.WellFormed.{IsWellFormed}
 use Rattle.fw_flow.specs.WholeBags.{Timed}
 use Rattle.fw_model.specs.History.{is_notification, was_delivered_to, was_notified, IsEnabled, IsLegal}
+use Rattle.fw_model.proofs.KindSorts.{sends_sums}
 use Rattle.fw_model.proofs.WeightLaws.{weigh, one, one-out}
 use Rattle.fw_model.proofs.SentLaws.{timed_of, timed_message}
 use Rattle.fw_model.proofs.ArrivalLaws.{deliveries}
@@ -29,12 +30,6 @@ use Rattle.fw_model.proofs.DistinctLaws.{same-swap}
 use Rattle.fw_model.proofs.JoinLaws.{weigh-timed}
 use Rattle.fw_model.proofs.ClosedLaws.{IsSettled, settled-outside, settled-step, settled-now}
 use Rattle.fw_model.proofs.StampLaws.{same-is}
-
--- whether a node of the kind sends sums of what came, once it is notified
-abbrev pub sends_sums : Kind → Bool
-sends_sums (Sum within) = true
-sends_sums Total = true
-sends_sums kind = false
 
 -- ---- a notified stamp is settled
 

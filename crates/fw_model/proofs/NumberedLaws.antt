@@ -1,6 +1,6 @@
 -- On numbered edges the denotation has one rec at each number, without a gap.
-use Rattle.std.proofs.Common.{◌≡◌, ◌&&◌, ◌⊎◌, ℕ, zero, suc, ◌+◌, ◌<◌, nat_le, true, false, List, [], ◌∷◌, length, Option, Some, None, map, refl, sym, ap, subst, ◌∙◌, inl, inr, append-nil, arith}
-use Rattle.std.proofs.lemmas.Bool.{cond_both, cases_lt, true≢false}
+use Rattle.std.proofs.Common.{◌≡◌, ◌&&◌, ℕ, zero, suc, ◌+◌, ◌<◌, nat_le, true, false, List, [], ◌∷◌, length, map, refl, sym, ap, subst, ◌∙◌, inl, inr, append-nil, arith}
+use Rattle.std.proofs.lemmas.Bool.{cond_both, cases_lt}
 use Rattle.std.specs.List.{AllByRecursion}
 use Rattle.std.specs.Ordering.{ordering_then, is_gt}
 use Rattle.std.specs.declared.cmp.Ordering.TheVariants.{Less, Equal}
@@ -11,13 +11,13 @@ use Rattle.fw_time.specs.Stamp.{stamp_cmp}
 use Rattle.fw_flow.specs.declared.kind.Domain.{Domain}
 use Rattle.fw_flow.specs.declared.kind.Domain.TheVariants.{Epoch, Number, Loop as InLoop}
 use Rattle.fw_flow.specs.declared.kind.Kind.{Kind}
-use Rattle.fw_flow.specs.declared.kind.Kind.TheVariants.{Input, OutputEpoch, OutputNumber, Select, Concat, Distinct, Join, Sum, Enter, Feedback, Leave, Total, Sequence, Ledger, Regroup}
-use Rattle.fw_flow.specs.Dataflow.{System, Dataflow, is_loop, kind_of, sender, receiver, in_edges, batches_of, greatest_number, domain_within, domain_of, out_domain_of, domain_of_kind, out_domain_of_kind, is_of_numbers, is_numbered}
+use Rattle.fw_flow.specs.declared.kind.Kind.TheVariants.{OutputNumber, Ledger}
+use Rattle.fw_flow.specs.Dataflow.{System, is_loop, kind_of, sender, receiver, in_edges, batches_of, greatest_number, domain_of, out_domain_of, domain_of_kind, is_of_numbers, is_numbered}
 use Rattle.fw_flow.specs.WellFormed.{IsWellFormed, IsInDegree}
 use Rattle.fw_flow.specs.WholeBags.{Timed, timed_cmp, in_order, numbered_recs, running_totals, joint_bag, outputs_of_kind}
-use Rattle.fw_flow.proofs.Chains.{parent-no_number}
 use Rattle.fw_model.specs.Denotation.{Family, IsDenotation, AreNumberedFrom}
 use Rattle.fw_model.specs.LawsOfDenotation.{DenotationIsNumbered}
+use Rattle.fw_model.proofs.KindSorts.{sends_numbers}
 use Rattle.fw_model.proofs.LegalLaws.{edge_domains}
 use Rattle.fw_model.proofs.TimedLaws.{IsAscendingTimed, ascending-cons, ascending-nil, in_order-ascending}
 use Rattle.fw_model.proofs.MeasureLaws.{measure-exists}
@@ -57,27 +57,6 @@ numbered-map n g (r ∷ rs) a = (a.0, numbered-map (n + 1) g rs a.1)
 
 -- ---- the senders of numbered edges
 
-not_number : (within : Option ℕ) → is_of_numbers (domain_within within) ≡ true → ⊥
-not_number None k = cc
-not_number (Some l) k = cc
-
-pub sends_numbers : (flow : Dataflow) (kind : Kind) → is_of_numbers (out_domain_of_kind flow kind) ≡ true → ((kind ≡ Sequence) ⊎ (kind ≡ Ledger)) ⊎ (kind ≡ OutputNumber)
-sends_numbers flow Input k = absurd (cc)
-sends_numbers flow OutputEpoch k = absurd (cc)
-sends_numbers flow OutputNumber k = inr refl
-sends_numbers flow (Select selection within) k = absurd (not_number within k)
-sends_numbers flow (Concat within) k = absurd (not_number within k)
-sends_numbers flow (Distinct within) k = absurd (not_number within k)
-sends_numbers flow (Join within) k = absurd (not_number within k)
-sends_numbers flow (Sum within) k = absurd (not_number within k)
-sends_numbers flow (Enter l) k = absurd (cc)
-sends_numbers flow (Feedback l) k = absurd (cc)
-sends_numbers flow (Leave l) k = absurd (true≢false (sym k ∙ parent-no_number flow l))
-sends_numbers flow Total k = absurd (cc)
-sends_numbers flow Sequence k = inl (inl refl)
-sends_numbers flow Ledger k = inl (inr refl)
-sends_numbers flow (Regroup n) k = absurd (cc)
-
 number-no_loop : (d e : Domain) → is_of_numbers d ≡ true → (is_loop d && is_loop e) ≡ false
 number-no_loop Epoch e k = refl
 number-no_loop Number e k = refl
@@ -101,7 +80,7 @@ numbered-by_measure sys family w by d (suc m) e l k h =
     let whose : (kind : Kind) → kind_of flow q ≡ kind → AreNumberedFrom 0 (out kind (map family (in_edges flow q))) → AreNumberedFrom 0 (family e) =
     λ kind is a. subst (AreNumberedFrom 0) (sym (here ∙ ap (λ kd. out kd (map family (in_edges flow q))) is)) a in
     elim (sends_numbers flow (kind_of flow q) (ap is_of_numbers (edge_domains flow w e) ∙ k)) [
-      | inl (inl is) ↦ whose Sequence is (numbered-in_order 0 _ (numbered-are 0 (in_order (joint_bag (map family (in_edges flow q))))))
+      | inl (inl is) ↦ whose _ is (numbered-in_order 0 _ (numbered-are 0 (in_order (joint_bag (map family (in_edges flow q))))))
       | inl (inr is) ↦
           let one : length (in_edges flow q) ≡ 1 = subst (λ kind. IsInDegree kind (length (in_edges flow q))) is (w.in_degrees q (w.senders_declared e l)) in
           let c = the_one (λ i. (i < length flow.edges) × (receiver flow i ≡ q)) (in_edges flow q) one (in_edges-each flow q) in

@@ -1,5 +1,5 @@
 -- The kinds that send for each rec alone: what they send for what was delivered, in any order, is what they send in all.
-use Rattle.std.proofs.Common.{Bool, false, ◌≡◌, ℕ, ◌+◌, ◌<◌, ◌≤◌, true, ◌&&◌, List, [], ◌∷◌, Option, Some, None, refl, sym, ap, ◌∙◌, inl, inr, arith}
+use Rattle.std.proofs.Common.{◌≡◌, ℕ, ◌+◌, ◌<◌, ◌≤◌, true, ◌&&◌, List, [], ◌∷◌, Option, Some, None, refl, sym, ap, ◌∙◌, inl, inr, arith}
 use Rattle.std.proofs.lemmas.Bool.{cases_Bool}
 use Rattle.fw_time.specs.Stamp.{Stamp, same}
 use Rattle.std.specs.Ordering.{is_eq}
@@ -8,25 +8,15 @@ use Rattle.fw_bag.specs.Rec.{rec_cmp}
 use Rattle.fw_flow.specs.declared.event.Event.{Event}
 use Rattle.fw_flow.specs.declared.event.Event.TheVariants.{Inject, Deliver, Notify}
 use Rattle.fw_flow.specs.declared.kind.Kind.{Kind}
-use Rattle.fw_flow.specs.declared.kind.Kind.TheVariants.{Select, Concat, Enter, Feedback, Leave, Regroup}
 use Rattle.fw_flow.specs.Dataflow.{System, Dataflow, kind_of, send_stamp_of_kind}
 use Rattle.fw_flow.specs.NodeFunction.{sends_of_kind, sends, sent_by}
 use Rattle.fw_flow.specs.WholeBags.{Timed, timed_recs, timed_at_some, recs_for_one, outputs_of_kind, joint_bag}
+use Rattle.fw_model.proofs.KindSorts.{sends_one_by_one, one_by_one_kind}
 use Rattle.fw_model.proofs.WeightLaws.{weigh, weigh-flat_map, weigh-less, one, one-out, at_stamp}
 use Rattle.fw_model.proofs.SentLaws.{timed_of}
 use Rattle.fw_model.proofs.ArrivalLaws.{deliveries}
 use Rattle.fw_model.proofs.InputLaws.{timed_of-messages_at_some, sent-weigh}
 use Rattle.fw_model.proofs.StampLaws.{same-is}
-
--- whether a node of the kind sends for each rec alone, as it comes
-abbrev pub sends_one_by_one : Kind → Bool
-sends_one_by_one (Select selection within) = true
-sends_one_by_one (Concat within) = true
-sends_one_by_one (Enter l) = true
-sends_one_by_one (Feedback l) = true
-sends_one_by_one (Leave l) = true
-sends_one_by_one (Regroup n) = true
-sends_one_by_one kind = false
 
 -- the weight of what is sent for a timed rec
 abbrev pub one_weight : Dataflow → Kind → (Timed → ℕ) → Timed → ℕ
@@ -41,25 +31,15 @@ one-nothing w (Some at) cause = refl
 one-sends : (sys : System) (kind : Kind) (w : Timed → ℕ) → sends_one_by_one kind ≡ true → (before : List Event) (v : Event)
     → weigh w (timed_of (sends_of_kind sys kind before v)) ≡ weigh (one_weight sys.flow kind w) (deliveries (v ∷ []))
 unfolding weigh deliveries
-one-sends sys (Select s n) w k before (Inject p x) = refl
-one-sends sys (Concat n) w k before (Inject p x) = refl
-one-sends sys (Enter l) w k before (Inject p x) = refl
-one-sends sys (Feedback l) w k before (Inject p x) = ap (weigh w) (timed_of-messages_at_some _ (x ∷ []) []) ∙ one-nothing w _ (x ∷ [])
-one-sends sys (Leave l) w k before (Inject p x) = refl
-one-sends sys (Regroup n) w k before (Inject p x) = refl
-one-sends sys (Select s n) w k before (Notify p t) = refl
-one-sends sys (Concat n) w k before (Notify p t) = refl
-one-sends sys (Enter l) w k before (Notify p t) = refl
-one-sends sys (Feedback l) w k before (Notify p t) = ap (weigh w) (timed_of-messages_at_some _ t []) ∙ one-nothing w _ t
-one-sends sys (Leave l) w k before (Notify p t) = refl
-one-sends sys (Regroup n) w k before (Notify p t) = ap (weigh w) (timed_of-messages_at_some _ t []) ∙ one-nothing w _ t
-one-sends sys (Select s n) w k before (Deliver e m) = ap (weigh w) (timed_of-messages_at_some (Some m.at) m.at (recs_for_one (Select s n) m.rec)) ∙ omega arith
-one-sends sys (Concat n) w k before (Deliver e m) = ap (weigh w) (timed_of-messages_at_some (Some m.at) m.at (m.rec ∷ [])) ∙ omega arith
-one-sends sys (Enter l) w k before (Deliver e m) = ap (weigh w) (timed_of-messages_at_some (send_stamp_of_kind sys.flow (Enter l) m.at) m.at (m.rec ∷ [])) ∙ omega arith
-one-sends sys (Feedback l) w k before (Deliver e m) = ap (weigh w) (timed_of-messages_at_some (send_stamp_of_kind sys.flow (Feedback l) m.at) m.at (m.rec ∷ [])) ∙ omega arith
-one-sends sys (Leave l) w k before (Deliver e m) = ap (weigh w) (timed_of-messages_at_some (send_stamp_of_kind sys.flow (Leave l) m.at) m.at (m.rec ∷ [])) ∙ omega arith
-one-sends sys (Regroup n) w k before (Deliver e m) = ap (weigh w) (timed_of-messages_at_some (send_stamp_of_kind sys.flow (Regroup n) m.at) m.at (m.rec ∷ [])) ∙ omega arith
-one-sends sys kind w k before v = absurd (cc)
+one-sends sys kind w k before (Inject p x) =
+    ap (λ ms. weigh w (timed_of ms)) ((one_by_one_kind kind k).injected sys before p x)
+    ∙ ap (weigh w) (timed_of-messages_at_some (send_stamp_of_kind sys.flow kind (x ∷ [])) (x ∷ []) []) ∙ one-nothing w (send_stamp_of_kind sys.flow kind (x ∷ [])) (x ∷ [])
+one-sends sys kind w k before (Notify p t) =
+    ap (λ ms. weigh w (timed_of ms)) ((one_by_one_kind kind k).notified sys before p t)
+    ∙ ap (weigh w) (timed_of-messages_at_some (send_stamp_of_kind sys.flow kind t) t []) ∙ one-nothing w (send_stamp_of_kind sys.flow kind t) t
+one-sends sys kind w k before (Deliver e m) =
+    ap (λ ms. weigh w (timed_of ms)) ((one_by_one_kind kind k).delivered sys before e m)
+    ∙ ap (weigh w) (timed_of-messages_at_some (send_stamp_of_kind sys.flow kind m.at) m.at (recs_for_one kind m.rec)) ∙ omega arith
 
 deliveries-cons : (u : Timed → ℕ) (v : Event) (vs : List Event) → weigh u (deliveries (v ∷ vs)) ≡ weigh u (deliveries (v ∷ [])) + weigh u (deliveries vs)
 unfolding weigh deliveries
@@ -83,13 +63,7 @@ one-sent sys p k w (v ∷ vs) =
 -- what a node of such a kind sends in all
 pub one-outputs : (flow : Dataflow) (kind : Kind) → sends_one_by_one kind ≡ true → (w : Timed → ℕ) (batches : List (List Rec)) (bags : List (List Timed))
     → weigh w (outputs_of_kind flow kind batches bags) ≡ weigh (one_weight flow kind w) (joint_bag bags)
-one-outputs flow (Select s n) k w batches bags = weigh-flat_map w _ (joint_bag bags)
-one-outputs flow (Concat n) k w batches bags = weigh-flat_map w _ (joint_bag bags)
-one-outputs flow (Enter l) k w batches bags = weigh-flat_map w _ (joint_bag bags)
-one-outputs flow (Feedback l) k w batches bags = weigh-flat_map w _ (joint_bag bags)
-one-outputs flow (Leave l) k w batches bags = weigh-flat_map w _ (joint_bag bags)
-one-outputs flow (Regroup n) k w batches bags = weigh-flat_map w _ (joint_bag bags)
-one-outputs flow kind k w batches bags = absurd (cc)
+one-outputs flow kind k w batches bags = ap (weigh w) ((one_by_one_kind kind k).outputs flow batches bags) ∙ weigh-flat_map w _ (joint_bag bags)
 
 pub timed-at : (t at : Stamp) (q : Rec) (rs : List Rec) → 0 < weigh (one t q) (timed_recs at rs) → t ≡ at
 unfolding weigh

@@ -11,7 +11,7 @@ use Rattle.fw_frontier.specs.Frontier.{Frontier, IsFrontier, Within, join}
 use Rattle.fw_flow.specs.declared.event.Event.{Event}
 use Rattle.fw_flow.specs.declared.event.Event.TheVariants.{Inject, Deliver, Notify}
 use Rattle.fw_flow.specs.declared.kind.Domain.TheVariants.{Epoch, Number}
-use Rattle.fw_flow.specs.declared.kind.Kind.TheVariants.{OutputEpoch, Sequence}
+use Rattle.fw_flow.specs.declared.kind.Kind.TheVariants.{OutputEpoch}
 use Rattle.fw_flow.specs.Dataflow.{System, Dataflow, kind_of, sender, receiver, greatest_number, domain_of_kind, out_domain_of_kind, bounds_of, is_input_kind, is_notified_kind, send_stamp_of_kind, is_sequence_kind, HasEpochs}
 use Rattle.fw_flow.specs.NodeFunction.{sent_by}
 use Rattle.fw_flow.specs.Projection.{events_at, all_inside, phi}
@@ -28,7 +28,7 @@ use Rattle.fw_model.proofs.CauseLaws.{inside_phi-from_inside}
 use Rattle.fw_model.proofs.SequenceLaws.{bounds-sequence, notified_in_domain, inside_phi_of_sequence-from_inside}
 use Rattle.fw_model.proofs.LegalLaws.{enabled-in_domain, legal-in_domain, legal_events-in_domain, only_inputs_inject, edge_domains}
 use Rattle.fw_model.proofs.CompleteLaws.{admissible-stays, sender_sorts, not_owed-notified}
-use Rattle.fw_model.specs.Sending.{ComesFromInside}
+use Rattle.fw_model.specs.Sending.{ComesFromInside, SendsByCount}
 use Rattle.fw_model.specs.Order.{notified_stamps, AreDescending}
 
 -- ---- a family with a notified stamp in it
@@ -74,7 +74,7 @@ raise-frontier flow done p t fr q = record {
 }
 
 -- no edge leads from a sequence to itself
-no_loop : (flow : Dataflow) → IsWellFormed flow → (e p : ℕ) → kind_of flow p ≡ Sequence → sender flow e ≡ p → receiver flow e ≡ p → ⊥
+no_loop : (flow : Dataflow) → IsWellFormed flow → (e p : ℕ) → SendsByCount (kind_of flow p) → sender flow e ≡ p → receiver flow e ≡ p → ⊥
 no_loop flow w e p is s r =
     let d : Number ≡ Epoch =
     sym (ap (λ q. out_domain_of_kind flow (kind_of flow q)) s ∙ ap (λ k. out_domain_of_kind flow k) is)
@@ -96,7 +96,7 @@ raised-paid sys h p t s k l =
       | inr i ↦ not_owed-notified kind came now (was_notified p s h) (k.none_lesser s (and_from (leq s t) (not (leq t s)) l (ap not i)))
     ]
 
-raised-quiet : (sys : System) (h : List Event) → IsWellFormed sys.flow → (p : ℕ) (t s : Stamp) → kind_of sys.flow p ≡ Sequence → IsNotifiable sys h p t
+raised-quiet : (sys : System) (h : List Event) → IsWellFormed sys.flow → (p : ℕ) (t s : Stamp) → SendsByCount (kind_of sys.flow p) → IsNotifiable sys h p t
     → leq s t ≡ true → (e : ℕ) → receiver sys.flow e ≡ p
     → some_at (same s) (messages_less (sent_by sys (sender sys.flow e) (events_at sys.flow (sender sys.flow e) (Notify p t ∷ h))) (delivered_messages h e)) ≡ false
 raised-quiet sys h w p t s is k l e r =
@@ -106,7 +106,7 @@ raised-quiet sys h w p t s is k l e r =
     (λ c. absurd (no_loop sys.flow w e p is (sym (eqb-true p q c)) r)) (λ c. k.quiet s l e r)
 
 raise-admissible : (sys : System) (h : List Event) → IsWellFormed sys.flow → HasEpochs sys → IsLegal sys h
-    → (p : ℕ) (t : Stamp) → kind_of sys.flow p ≡ Sequence → IsNotifiable sys h p t
+    → (p : ℕ) (t : Stamp) → SendsByCount (kind_of sys.flow p) → IsNotifiable sys h p t
     → (done : ℕ → Frontier) → IsAdmissible sys h done → ((d : ℕ) → receiver sys.flow d ≡ p → phi sys h d (done (sender sys.flow d)) t ≡ true)
     → IsAdmissible sys (Notify p t ∷ h) (raise sys.flow done p t)
 unfolding raise
@@ -154,7 +154,7 @@ abbrev IsInside : System → List Event → ℕ → Stamp → Type 0
 IsInside sys h p s = (done : ℕ → Frontier) × IsAdmissible sys h done × (done p s ≡ true)
 
 notified-now : (sys : System) (h : List Event) → IsWellFormed sys.flow → HasEpochs sys → IsLegal sys h
-    → (p : ℕ) (t : Stamp) → kind_of sys.flow p ≡ Sequence → IsNotifiable sys h p t → IsInside sys (Notify p t ∷ h) p t
+    → (p : ℕ) (t : Stamp) → SendsByCount (kind_of sys.flow p) → IsNotifiable sys h p t → IsInside sys (Notify p t ∷ h) p t
 unfolding raise
 notified-now sys h w b l p t is k =
     let c = k.complete in
@@ -188,7 +188,7 @@ each-notified sys p P step now (v ∷ h) l =
         (λ e. a)
 
 notified-inside : (sys : System) (h : List Event) → IsWellFormed sys.flow → HasEpochs sys → IsLegal sys h
-    → (p : ℕ) → kind_of sys.flow p ≡ Sequence → AllByRecursion (IsInside sys h p) (notified_stamps (events_at sys.flow p h))
+    → (p : ℕ) → SendsByCount (kind_of sys.flow p) → AllByRecursion (IsInside sys h p) (notified_stamps (events_at sys.flow p h))
 notified-inside sys h w b l p is =
     each-notified sys p (λ g. IsInside sys g p) (λ g v m k s x. (x.0, admissible-stays sys g w b m x.0 x.1 v k, x.2)) (λ g t m k. notified-now sys g w b m p t is k) h l
 
@@ -204,7 +204,7 @@ either_way g s t i j =
       | inr l ↦ inl (leq_to s _ t (sym y.1) (leq_from (x.0 ∷ []) s _ (sym x.1) (line-leq x.0 y.0 l)))
     ]
 
-notified-below : (sys : System) (h : List Event) (p : ℕ) (t : Stamp) → kind_of sys.flow p ≡ Sequence → is_owed_notice sys h p t ≡ true
+notified-below : (sys : System) (h : List Event) (p : ℕ) (t : Stamp) → SendsByCount (kind_of sys.flow p) → is_owed_notice sys h p t ≡ true
     → in_domain (bounds_of sys.flow p) t ≡ true → (s : Stamp) → in_domain (bounds_of sys.flow p) s ≡ true → IsInside sys h p s → leq s t ≡ true
 notified-below sys h p t is o i s j x =
     let line : (u : Stamp) → in_domain (bounds_of sys.flow p) u ≡ true → leq u (greatest_number ∷ []) ≡ true =
@@ -215,7 +215,7 @@ notified-below sys h p t is o i s j x =
     ]
 
 descending : (sys : System) (h : List Event) → IsWellFormed sys.flow → HasEpochs sys → IsLegal sys h
-    → (p : ℕ) → kind_of sys.flow p ≡ Sequence → AreDescending (notified_stamps (events_at sys.flow p h))
+    → (p : ℕ) → SendsByCount (kind_of sys.flow p) → AreDescending (notified_stamps (events_at sys.flow p h))
 descending sys [] w b l p is = tt
 descending sys (v ∷ h) w b l p is = after v l.0 (descending sys h w b l.1 p is)
   where

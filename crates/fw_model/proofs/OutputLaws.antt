@@ -12,6 +12,7 @@ use Rattle.fw_flow.specs.declared.kind.Kind.{Kind}
 use Rattle.fw_flow.specs.declared.kind.Kind.TheVariants.{Input, OutputEpoch, OutputNumber, Distinct, Join, Sum, Total, Sequence, Ledger}
 use Rattle.fw_flow.specs.Dataflow.{Dataflow, send_stamp_of_kind}
 use Rattle.fw_flow.specs.WholeBags.{Timed, timed_cmp, timed_where, timed_recs, timed_at_some, recs_for_one, one_by_one, is_among_timed, distinct_timed, joined_timed, has_stamp, distinct_stamps, sums_at, joint_bag, outputs_of_kind}
+use Rattle.fw_model.proofs.KindSorts.{is_local_kind}
 use Rattle.fw_model.proofs.TimedLaws.{timed-same}
 use Rattle.fw_model.proofs.StampLaws.{same-is}
 
@@ -190,13 +191,6 @@ distinct-part t (r ∷ rs) =
           ∙ ih
           ∙ sym (ap distinct_timed (cond-false (same t r.at) (r ∷ part (same t) rs) (part (same t) rs) e))
     ]
-
--- whether what a node of the kind sends at a stamp is made of what came at the stamps that send there
-abbrev pub is_local_kind : Kind → Bool
-is_local_kind Total = false
-is_local_kind Sequence = false
-is_local_kind Ledger = false
-is_local_kind kind = true
 
 -- what a node of a local kind sends at a stamp is what it makes of the parts that send there
 pub outputs-part : (flow : Dataflow) (kind : Kind) (batches : List (List Rec)) (bags : List (List Timed)) (t : Stamp) → is_local_kind kind ≡ true

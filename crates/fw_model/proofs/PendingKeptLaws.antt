@@ -14,9 +14,6 @@ use Rattle.fw_flow.specs.declared.choice.Cut.{Cut}
 use Rattle.fw_flow.specs.declared.choice.Cut.TheVariants.{Present, At}
 use Rattle.fw_flow.specs.declared.event.Event.{Event}
 use Rattle.fw_flow.specs.declared.event.Message.{Message}
-use Rattle.fw_flow.specs.declared.kind.Kind.TheVariants.{OutputEpoch, Sequence}
-use Rattle.fw_flow.specs.declared.kind.Policy.{Policy}
-use Rattle.fw_flow.specs.declared.kind.Policy.TheVariants as policy
 use Rattle.fw_flow.specs.Dataflow.{System, Dataflow, kind_of, policy_of, sender, receiver, bounds_of, bounds_of_domain, bounds_of_edge, HasEpochs}
 use Rattle.fw_flow.specs.Projection.{all_inside}
 use Rattle.fw_flow.specs.WellFormed.{IsWellFormed, IsPolicyAllowed}
@@ -28,9 +25,10 @@ use Rattle.fw_model.specs.Choice.{cut_of, kept_of}
 use Rattle.fw_model.specs.LawsOfFiltering.{PendingAtKeptStamps, PendingAtOtherStamps, PendingForPresent, PendingForCut, NothingPendingWithoutLog}
 use Rattle.fw_flow.specs.declared.restoring.Restoring.{Restoring}
 use Rattle.fw_flow.specs.declared.restoring.Restoring.TheVariants.{Bound, Anything}
-use Rattle.fw_flow.specs.Restoring.{restoring_of_policy, restoring, can_resend, way_of}
+use Rattle.fw_flow.specs.Restoring.{restoring, can_resend, way_of}
 use Rattle.fw_model.specs.Covers.{stamps_from, set_of, discarded_at, covers_in, tallies_in}
 use Rattle.fw_flow.proofs.MessageLaws.{less-each, filter-less}
+use Rattle.fw_model.proofs.KindSorts.{keeps_something}
 use Rattle.fw_model.proofs.LegalLaws.{edge_domains, legal_messages-in_domain}
 use Rattle.fw_model.proofs.CompleteLaws.{past_edges-idle, sender_sorts}
 use Rattle.fw_model.proofs.SendsLaws.{sent_from_inside-inside_psi}
@@ -163,14 +161,6 @@ sent-covered sys state w b l e cut =
     (each-both (λ (m : Message). in_domain bounds m.at ≡ true) (λ m. all_inside f m.causes ≡ true → some_above ss m.at ≡ true) (sent_messages sys h e)
     (sent-in_domain sys h w b l e) (above-from (λ (m : Message). all_inside f m.causes) (sent_messages sys h e)))
 
--- a sequence keeps something
-keeps_something : (p : Policy) → IsPolicyAllowed Sequence p → restoring_of_policy p ≡ Anything → ⊥
-keeps_something policy.None a e = cc
-keeps_something policy.Lazy a e = cc
-keeps_something policy.Logged a e = cc
-keeps_something policy.Eager a e = cc
-keeps_something policy.Full a e = cc
-
 -- a sender that is restored by anything settled sends by stamp
 restored-by_stamp : (flow : Dataflow) → IsWellFormed flow → (e : ℕ) → way_of flow (sender flow e) ≡ Anything
     → SendsByStamp flow (kind_of flow (sender flow e))
@@ -182,7 +172,7 @@ restored-by_stamp flow w e way =
       | inr is ↦ let no_way : Bound ≡ Anything = sym (ap (λ kind. restoring kind p) is) ∙ way in absurd (cc no_way)
       | inl (inl is) ↦ elim (cases_lt e (length flow.edges)) [
         | inl l ↦ absurd (keeps_something p (subst (λ kind. IsPolicyAllowed kind p) is (w.policies q (w.senders_declared e l))) (sym (ap (λ kind. restoring kind p) is) ∙ way))
-        | inr l ↦ let no_kind : Sequence ≡ OutputEpoch = sym is ∙ past_edges-idle flow e l in absurd (cc no_kind)
+        | inr l ↦ let no_kind = sym (past_edges-idle flow e l) ∙ is in absurd (cc no_kind)
       ]
     ]
 

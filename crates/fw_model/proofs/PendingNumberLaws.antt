@@ -13,15 +13,16 @@ use Rattle.fw_flow.specs.declared.event.Event.{Event}
 use Rattle.fw_flow.specs.declared.event.Event.TheVariants.{Inject, Deliver, Notify}
 use Rattle.fw_flow.specs.declared.event.Message.{Message}
 use Rattle.fw_flow.specs.declared.kind.Kind.{Kind}
-use Rattle.fw_flow.specs.declared.kind.Kind.TheVariants.{Sequence, Ledger}
+use Rattle.fw_flow.specs.declared.kind.Kind.TheVariants.{Ledger}
 use Rattle.fw_flow.specs.Dataflow.{System, kind_of, sender, greatest_number, is_of_numbers, is_numbered, is_input_kind, is_output_kind}
-use Rattle.fw_flow.specs.NodeFunction.{recs_on_notification, numbered_messages, sequence_sent, sent_by}
+use Rattle.fw_flow.specs.NodeFunction.{numbered_messages, sequence_sent, sent_by}
 use Rattle.fw_flow.specs.Projection.{events_at, first_coordinate}
 use Rattle.fw_flow.specs.WellFormed.{IsWellFormed}
 use Rattle.fw_flow.specs.WholeBags.{Timed, timed_where, running_totals}
 use Rattle.fw_bag.specs.Keyed.{value_sum}
 use Rattle.fw_flow.specs.Message.{message_cmp, is_message_among}
 use Rattle.fw_model.specs.History.{some_at, sent_messages, delivered_messages, pending_messages, IsLegal}
+use Rattle.fw_model.proofs.KindSorts.{sends_numbers}
 use Rattle.fw_model.proofs.ArrivalLaws.{deliveries}
 use Rattle.fw_flow.proofs.MessageLaws.{among-each, message_cmp-equal}
 use Rattle.fw_model.proofs.ClosedLaws.{numbered-ascend}
@@ -36,8 +37,8 @@ use Rattle.fw_model.proofs.SequenceLaws.{no_inject, sent_by-sequence}
 use Rattle.fw_time.proofs.StampLaws.{same-is, same-from}
 use Rattle.fw_model.proofs.WeightLaws.{weigh, weigh-append, weigh-map, weigh-lighter}
 use Rattle.fw_model.specs.LawsOfPending.{IsNumberedFrom, PendingNumbersGoOn}
+use Rattle.fw_model.specs.Sending.{recs_by_count}
 use Rattle.fw_model.proofs.NothingInsideLaws.{kind-declared}
-use Rattle.fw_model.proofs.NumberedLaws.{sends_numbers}
 
 -- ---- numbers
 
@@ -155,14 +156,14 @@ sequence-to (Deliver e m ∷ vs) = sequence-to vs
 sequence-to (Notify p t ∷ vs) =
     let old = sequence_sent vs in
     let n = length old in
-    let new = numbered_messages n t (recs_on_notification Sequence vs t) in
+    let new = numbered_messages n t (recs_by_count vs t) in
     let h = sequence-to vs in
     let weighs : (w : Timed → ℕ) → weigh w (timed_of (new ++ old)) ≡ weigh w (timed_of new) + weigh w (timed_of old) =
     λ w. ap (weigh w) (timed_of-append new old) ∙ weigh-append w (timed_of new) (timed_of old) in
     record {
       at_each = λ k.
           let a = weighs (any_at (k ∷ [])) in
-          let b = messages-numbered n t (recs_on_notification Sequence vs t) k in
+          let b = messages-numbered n t (recs_by_count vs t) k in
           let c = h.at_each k in
           let l = length-append new old in
           let s : n + length new ≡ length (new ++ old) = omega arith in
@@ -170,7 +171,7 @@ sequence-to (Notify p t ∷ vs) =
           omega arith;
       none_off =
           let a = weighs off_number in
-          let b = messages-on n t (recs_on_notification Sequence vs t) in
+          let b = messages-on n t (recs_by_count vs t) in
           let c = h.none_off in
           omega arith;
     }

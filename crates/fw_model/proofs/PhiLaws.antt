@@ -1,16 +1,15 @@
 -- Phi in its frontier and in the history.
-use Rattle.std.proofs.Common.{◌≡◌, ℕ, zero, suc, ◌+◌, ◌-◌, ◌≤◌, Bool, true, false, cond, ◌||◌, ◌==◌, nat_lt, List, [], ◌∷◌, ◌++◌, refl, arith}
-use Rattle.std.proofs.lemmas.Bool.{and_parts, and_from, or_left, or_right, ltb-true, lt-ltb, cond_both}
-use Rattle.fw_time.specs.Stamp.{Stamp, nest, outer, counter, in_domain}
+use Rattle.std.proofs.Common.{◌≡◌, ℕ, ◌+◌, ◌≤◌, Bool, true, false, cond, ◌==◌, List, [], ◌∷◌, ◌++◌, refl, arith}
+use Rattle.std.proofs.lemmas.Bool.{and_parts, and_from, cond_both}
+use Rattle.fw_time.specs.Stamp.{Stamp, in_domain}
 use Rattle.fw_frontier.specs.Frontier.{Frontier, Within}
 use Rattle.fw_flow.specs.declared.event.Event.{Event}
 use Rattle.fw_flow.specs.declared.event.Message.{Message}
-use Rattle.fw_flow.specs.declared.kind.Kind.{Kind}
-use Rattle.fw_flow.specs.declared.kind.Kind.TheVariants.{Enter, Feedback, Leave, Sequence, Regroup}
 use Rattle.fw_flow.specs.Dataflow.{greatest_of_kind, System, kind_of, sender, out_domain_of_kind, bounds_of_domain}
 use Rattle.fw_flow.specs.NodeFunction.{event_node, sent_by, sends}
-use Rattle.fw_flow.specs.Projection.{events_at, all_inside, count_from, sent_count, first_coordinate, each_counter, phi_of_kind, phi, phi_by_count}
+use Rattle.fw_flow.specs.Projection.{events_at, all_inside, count_from, sent_count, phi_of_kind, phi, phi_by_count}
 use Rattle.fw_model.specs.LawsOfProjections.{PhiByCountIsMonotone, PhiIsMonotone, PhiGrowsWithHistory}
+use Rattle.fw_model.proofs.SenderLaws.{sends_lawfully}
 
 -- ---- counts of messages
 
@@ -51,28 +50,6 @@ sent_count-longer sys h (v ∷ more) p f =
 
 -- ---- phi grows
 
-pub or_monotone : (a b c : Bool) → (b ≡ true → c ≡ true) → (a || b) ≡ true → (a || c) ≡ true
-or_monotone true b c k h = refl
-or_monotone false b c k h = k h
-
-pub each_counter-monotone : (f g : Frontier) → Within f g → (x : Stamp) (m : ℕ) → each_counter f x m ≡ true → each_counter g x m ≡ true
-each_counter-monotone f g w x zero k = w (nest x 0) k
-each_counter-monotone f g w x (suc m) k =
-    let a = and_parts (f (nest x (suc m))) (each_counter f x m) k in
-    and_from (g (nest x (suc m))) (each_counter g x m) (w (nest x (suc m)) a.0) (each_counter-monotone f g w x m a.1)
-
-sequence_phi-monotone : (a b : Bool) (u m n : ℕ) → (a ≡ true → b ≡ true) → m ≤ n → (a || nat_lt u m) ≡ true → (b || nat_lt u n) ≡ true
-sequence_phi-monotone true b u m n w l k = or_left b (nat_lt u n) (w refl)
-sequence_phi-monotone false b u m n w l k = let a = ltb-true u m k in or_right b (nat_lt u n) (lt-ltb u n (omega arith))
-
-pub phi_of_kind-monotone : (greatest : Stamp) (kind : Kind) (m n : ℕ) (f g : Frontier) → Within f g → m ≤ n → (u : Stamp) → phi_of_kind greatest kind m f u ≡ true → phi_of_kind greatest kind n g u ≡ true
-phi_of_kind-monotone greatest (Enter l) m n f g w c u k = w (outer u) k
-phi_of_kind-monotone greatest (Feedback l) m n f g w c u k = or_monotone (counter u == 0) _ _ (w (nest (outer u) (counter u - 1))) k
-phi_of_kind-monotone greatest (Leave l) m n f g w c u k = each_counter-monotone f g w u (counter greatest) k
-phi_of_kind-monotone greatest Sequence m n f g w c u k = sequence_phi-monotone _ _ (first_coordinate u) m n (w greatest) c k
-phi_of_kind-monotone greatest (Regroup r) m n f g w c u k = w _ k
-phi_of_kind-monotone greatest kind m n f g w c u k = w u k
-
 pub phi_by_count-monotone : PhiByCountIsMonotone
 unfolding phi_by_count
 phi_by_count-monotone flow m n e f g w l u k =
@@ -80,7 +57,7 @@ phi_by_count-monotone flow m n e f g w l u k =
     let i = in_domain (bounds_of_domain flow (out_domain_of_kind flow kind)) u in
     let a = and_parts i (phi_of_kind (greatest_of_kind flow kind) kind m f u) k in
     and_from i (phi_of_kind (greatest_of_kind flow kind) kind n g u) a.0
-    (phi_of_kind-monotone (greatest_of_kind flow kind) kind m n f g w l u a.1)
+    ((sends_lawfully flow kind).of_phi.grows m n f g w l u a.1)
 
 pub phi-monotone : PhiIsMonotone
 unfolding phi phi_by_count

@@ -12,9 +12,9 @@ use Rattle.fw_bag.specs.declared.rec.Rec.{Rec}
 use Rattle.fw_frontier.specs.Frontier.{Frontier}
 use Rattle.fw_flow.specs.declared.event.Event.{Event}
 use Rattle.fw_flow.specs.declared.event.Event.TheVariants.{Inject, Deliver, Notify}
-use Rattle.fw_flow.specs.declared.kind.Kind.TheVariants.{OutputEpoch, Sequence}
+use Rattle.fw_flow.specs.declared.kind.Kind.TheVariants.{OutputEpoch}
 use Rattle.fw_flow.specs.Dataflow.{System, Dataflow, idle_node, kind_of, sender, receiver, is_notified_kind}
-use Rattle.fw_flow.specs.NodeFunction.{sequence_sent, numbered_messages, recs_on_notification}
+use Rattle.fw_flow.specs.NodeFunction.{sequence_sent, numbered_messages}
 use Rattle.fw_flow.specs.Projection.{events_at}
 use Rattle.fw_flow.specs.WellFormed.{IsWellFormedSystem}
 use Rattle.fw_flow.specs.WholeBags.{Timed, in_order, numbered_recs}
@@ -22,6 +22,7 @@ use Rattle.fw_model.proofs.LesserLaws.{lesser-on_edge}
 use Rattle.fw_model.specs.Denotation.{Family, IsDenotation, bag_at}
 use Rattle.fw_model.specs.History.{was_notified, sent_messages, delivered_messages, IsAdmissible, IsEnabled, IsNotifiable, IsLegal, IsClosedFor, recs_at}
 use Rattle.fw_model.specs.LawsOfDeliveries.{SentInsidePhiIsDenoted, DeliveredInsideCompleteIsDenoted, DeliveredUpToClosedIsDenoted}
+use Rattle.fw_model.specs.Sending.{SendsByCount, recs_by_count}
 use Rattle.fw_model.proofs.FrontierLaws.{phi-frontier}
 use Rattle.fw_model.proofs.LegalLaws.{enabled-in_domain, legal-in_domain}
 use Rattle.fw_model.proofs.WeightLaws.{weigh, weigh-append, how_often-where, one}
@@ -54,11 +55,11 @@ closed-denoted sys h family l all p t c u below d at q =
     quiet-delivered sys h l d u (c.quiet u below d at) q ∙ all done a d u inside q
 
 -- a sequence is a node of the dataflow
-sequence_node : (flow : Dataflow) (p : ℕ) → kind_of flow p ≡ Sequence → p < length flow.nodes
+sequence_node : (flow : Dataflow) (p : ℕ) → SendsByCount (kind_of flow p) → p < length flow.nodes
 unfolding kind_of
 sequence_node flow p is = elim (cases_lt p (length flow.nodes)) [
   | inl l ↦ l
-  | inr l ↦ let k : OutputEpoch ≡ Sequence = sym (ap (λ n. n.kind) (get_or_past flow.nodes p idle_node l)) ∙ is in absurd (cc k)
+  | inr l ↦ let idle : OutputEpoch ≡ kind_of flow p = sym (ap (λ n. n.kind) (get_or_past flow.nodes p idle_node l)) in let k = idle ∙ is in absurd (cc k)
 ]
 
 -- ---- a notification of a sequence
@@ -68,7 +69,7 @@ record Notifying (sys : System) (h : List Event) (family : Family) (p : ℕ) (t 
   pub well_formed : IsWellFormedSystem sys
   pub legal : IsLegal sys h
   pub denotation : IsDenotation sys family
-  pub sequence : kind_of sys.flow p ≡ Sequence
+  pub sequence : SendsByCount (kind_of sys.flow p)
   pub before : IsSequenced sys h family p
   pub all : AllDenoted sys h family
   pub enabled : IsNotifiable sys h p t
@@ -125,7 +126,7 @@ sent-now sys h family p t n w =
     let now : Timed → Bool = λ r. p == p && same t r.at in
     let first = filter (is_numbered_in h p) xs in
     let block = filter now xs in
-    let rs = recs_on_notification Sequence vs t in
+    let rs = recs_by_count vs t in
     let m = length (sequence_sent vs) in
     let counted : m ≡ length (numbered_recs 0 first) = sym (length-messages (sequence_sent vs)) ∙ n.before.sent (λ r. 1) ∙ length-weigh (numbered_recs 0 first) in
     let zero_more : 0 + length (numbered_recs 0 first) ≡ m = omega arith in
@@ -145,7 +146,7 @@ sent-now sys h family p t n w =
 -- ---- each event
 
 sequenced-step : (sys : System) (h : List Event) (family : Family) → IsWellFormedSystem sys → IsLegal sys h → IsDenotation sys family → AllDenoted sys h family
-    → (p : ℕ) → kind_of sys.flow p ≡ Sequence → IsSequenced sys h family p → (v : Event) → IsEnabled sys h v → IsSequenced sys (v ∷ h) family p
+    → (p : ℕ) → SendsByCount (kind_of sys.flow p) → IsSequenced sys h family p → (v : Event) → IsEnabled sys h v → IsSequenced sys (v ∷ h) family p
 sequenced-step sys h family w l den all p is s (Inject q x) k =
     let vs = events_at sys.flow p h in
     let xs = in_order (whole sys family p) in
@@ -187,7 +188,7 @@ sequenced-step sys h family w l den all p is s (Notify q t) k = elim (cases_Bool
 
 -- in a legal history each sequence sent a first part of what it sends in all
 pub sequenced : (sys : System) (h : List Event) (family : Family) → IsWellFormedSystem sys → IsLegal sys h → IsDenotation sys family
-    → (p : ℕ) → kind_of sys.flow p ≡ Sequence → IsSequenced sys h family p
+    → (p : ℕ) → SendsByCount (kind_of sys.flow p) → IsSequenced sys h family p
 unfolding weigh
 sequenced sys [] family w l den p is =
     let xs = in_order (whole sys family p) in

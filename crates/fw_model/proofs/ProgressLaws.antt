@@ -7,26 +7,26 @@ use Rattle.fw_frontier.specs.Frontier.{Frontier, IsFrontier}
 use Rattle.fw_flow.specs.declared.event.Event.{Event}
 use Rattle.fw_flow.specs.declared.event.Event.TheVariants.{Inject, Deliver, Notify}
 use Rattle.fw_flow.specs.declared.event.Message.{Message}
-use Rattle.fw_flow.specs.declared.kind.Kind.{Kind}
-use Rattle.fw_flow.specs.declared.kind.Kind.TheVariants.{Sequence}
-use Rattle.fw_flow.specs.Dataflow.{System, Dataflow, kind_of, sender, receiver, bounds_of, bounds_of_domain, out_domain_of_kind, greatest_of_kind, is_notified_kind, batches_of}
-use Rattle.fw_flow.specs.NodeFunction.{event_node, event_stamp, recs_on, numbered_messages, sequence_sent, sends_of_kind, sends, sent_by}
-use Rattle.fw_flow.specs.Projection.{events_at, all_inside, count_from, sent_count, first_coordinate, phi, phi_of_kind}
+use Rattle.fw_flow.specs.Dataflow.{System, Dataflow, kind_of, sender, receiver, bounds_of, bounds_of_domain, out_domain_of_kind, is_notified_kind, batches_of}
+use Rattle.fw_flow.specs.NodeFunction.{event_node, event_stamp, numbered_messages, sequence_sent, sends_of_kind, sends, sent_by}
+use Rattle.fw_flow.specs.Projection.{events_at, all_inside, count_from, sent_count, first_coordinate, phi}
 use Rattle.fw_flow.specs.WellFormed.{IsWellFormed}
 use Rattle.fw_flow.specs.Ranks.{is_looped}
+use Rattle.fw_model.proofs.KindSorts.{is_local_kind, local-from_loop}
 use Rattle.fw_model.proofs.LesserLaws.{lesser-in_domain}
 use Rattle.fw_model.specs.History.{some_at, sent_messages, message_on, delivered_messages, pending_messages, is_delivery_to, is_notification, was_delivered_to, was_notified, is_owed_notice, is_injection, injected_count, injected_epochs, IsQuiet, IsAdmissible, IsLegal}
 use Rattle.fw_model.specs.Measure.{Measure}
 use Rattle.fw_model.specs.LawsOfProgress.{IsOpen, IsStuck, StuckIsComplete, EventsLeaveOthersStuck, NotifiableByComplete}
+use Rattle.fw_model.specs.Sending.{SendsByCount, recs_by_count_on}
 use Rattle.fw_model.proofs.CompleteLaws.{enabled-outside}
-use Rattle.fw_model.proofs.MeasureLaws.{sends_to_loop, local-from_loop, measure-exists}
-use Rattle.fw_model.proofs.OutputLaws.{is_local_kind}
+use Rattle.fw_model.proofs.MeasureLaws.{sends_to_loop, measure-exists}
 use Rattle.fw_model.proofs.PhiLaws.{phi-monotone, count-append}
 use Rattle.fw_model.proofs.SendingLaws.{phi-by_stamp, phi-in_domain}
 use Rattle.fw_model.proofs.SentLaws.{less-weigh, delivered-was_sent, sent-grows}
 use Rattle.fw_model.proofs.SequenceLaws.{IsNumbered, numbered-each, one_inside, count-none}
 use Rattle.fw_model.proofs.WeightLaws.{weigh}
 use Rattle.fw_model.proofs.WellFormedLaws.{senders_well_formed}
+use Rattle.fw_model.proofs.SenderLaws.{sends_lawfully}
 
 -- ---- a family that no node alone can widen
 
@@ -169,18 +169,18 @@ injected-before sys h v p n t =
     (no-injection sys.flow v p n)
 
 -- what a sequence sends at a stamp outside does not count
-outside-count : (sys : System) (p : ℕ) (f : Frontier) (vs : List Event) (v : Event) → kind_of sys.flow p ≡ Sequence → f (event_stamp v) ≡ false
+outside-count : (sys : System) (p : ℕ) (f : Frontier) (vs : List Event) (v : Event) → SendsByCount (kind_of sys.flow p) → f (event_stamp v) ≡ false
     → count_from f (sends sys p vs v) ≡ 0
 unfolding sends
 outside-count sys p f vs v k o =
     let n = length (sequence_sent vs) in
     let t = event_stamp v in
-    let rs = recs_on sys Sequence vs v in
+    let rs = recs_by_count_on sys vs v in
     ap (λ kind. count_from f (sends_of_kind sys kind vs v)) k
     ∙ count-none f (numbered_messages n t rs)
     (each-weaker (IsNumbered n t) (λ (m : Message). all_inside f m.causes ≡ false) (numbered_messages n t rs) (λ m a. one_inside f t m false o a.1) (numbered-each n t rs))
 
-count-before : (sys : System) (h : List Event) (v : Event) (p : ℕ) (f : Frontier) → kind_of sys.flow p ≡ Sequence
+count-before : (sys : System) (h : List Event) (v : Event) (p : ℕ) (f : Frontier) → SendsByCount (kind_of sys.flow p)
     → (event_node sys.flow v ≡ p → f (event_stamp v) ≡ false) → sent_count sys (v ∷ h) p f ≡ sent_count sys h p f
 count-before sys h v p f k o =
     let vs = events_at sys.flow p h in
@@ -191,10 +191,6 @@ count-before sys h v p f k o =
     omega arith)
     (λ other. refl)
 
-count-decides : (greatest : Stamp) (kind : Kind) (m n : ℕ) (f : Frontier) (u : Stamp) → (kind ≡ Sequence → m ≡ n) → phi_of_kind greatest kind m f u ≡ phi_of_kind greatest kind n f u
-count-decides greatest Sequence m n f u e = ap (λ c. f greatest || nat_lt (first_coordinate u) c) (e refl)
-count-decides greatest kind m n f u e = refl
-
 -- phi of a frontier without the event is as it was
 pub phi-before : (sys : System) (h : List Event) (v : Event) (e : ℕ) (f : Frontier) → (event_node sys.flow v ≡ sender sys.flow e → f (event_stamp v) ≡ false)
     → (u : Stamp) → phi sys (v ∷ h) e f u ≡ phi sys h e f u
@@ -203,7 +199,7 @@ phi-before sys h v e f o u =
     let q = sender sys.flow e in
     let kind = kind_of sys.flow q in
     ap (λ c. in_domain (bounds_of_domain sys.flow (out_domain_of_kind sys.flow kind)) u && c)
-    (count-decides (greatest_of_kind sys.flow kind) kind (sent_count sys (v ∷ h) q f) (sent_count sys h q f) f u (λ k. count-before sys h v q f k o))
+    ((sends_lawfully sys.flow kind).of_phi.counts (sent_count sys (v ∷ h) q f) (sent_count sys h q f) f u (λ k. count-before sys h v q f k o))
 
 pub leave-stuck : EventsLeaveOthersStuck
 leave-stuck sys h v done l a p n stuck t is =

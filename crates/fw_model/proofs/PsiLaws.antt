@@ -1,33 +1,16 @@
 -- Psi in its frontier.
-use Rattle.std.proofs.Common.{◌≡◌, ℕ, zero, suc, true, false, ◌==◌, refl, inl, inr, ◌⊎◌}
+use Rattle.std.proofs.Common.{◌≡◌, ℕ, zero, suc, true, inl, inr, ◌⊎◌}
 use Rattle.std.proofs.lemmas.Bool.{and_parts, and_from, and_right, or_cases, or_left, or_right}
 use Rattle.fw_lemmas.proofs.Bools.{same_tests}
-use Rattle.fw_time.specs.Stamp.{Stamp, nest, outer, counter, in_domain}
-use Rattle.fw_frontier.specs.Frontier.{Frontier, Within, nothing, join}
-use Rattle.fw_flow.specs.declared.kind.Kind.{Kind}
-use Rattle.fw_flow.specs.declared.kind.Kind.TheVariants.{Enter, Feedback, Leave, Regroup}
+use Rattle.fw_time.specs.Stamp.{Stamp, in_domain}
+use Rattle.fw_frontier.specs.Frontier.{Frontier, Within, join}
 use Rattle.fw_flow.specs.Dataflow.{greatest_of_kind, Dataflow, kind_of, sender, out_domain_of_kind, bounds_of_domain}
-use Rattle.fw_flow.specs.Projection.{some_counter, psi_of_kind, psi}
+use Rattle.fw_flow.specs.Projection.{psi_of_kind, psi}
 use Rattle.fw_model.specs.LawsOfProjections.{PsiIsMonotone, PsiOfJoin, PsiOfNothing, PsiOfUnion}
 use Rattle.fw_model.specs.Unions.{IsUnion}
+use Rattle.fw_model.proofs.SenderLaws.{sends_lawfully}
 
 -- ---- monotone
-
-some_counter-monotone : (f g : Frontier) → Within f g → (x : Stamp) (m : ℕ) → some_counter f x m ≡ true → some_counter g x m ≡ true
-some_counter-monotone f g w x zero k = w (nest x 0) k
-some_counter-monotone f g w x (suc m) k = elim (or_cases (f (nest x (suc m))) (some_counter f x m) k) [
-  | inl a ↦ or_left (g (nest x (suc m))) (some_counter g x m) (w (nest x (suc m)) a)
-  | inr a ↦ or_right (g (nest x (suc m))) (some_counter g x m) (some_counter-monotone f g w x m a)
-]
-
-psi_of_kind-monotone : (flow : Dataflow) (kind : Kind) (f g : Frontier) → Within f g → (u : Stamp) → psi_of_kind (greatest_of_kind flow kind) kind f u ≡ true → psi_of_kind (greatest_of_kind flow kind) kind g u ≡ true
-psi_of_kind-monotone flow (Enter l) f g w u k =
-    let a = and_parts (counter u == 0) (f (outer u)) k in
-    and_from (counter u == 0) (g (outer u)) a.0 (w (outer u) a.1)
-psi_of_kind-monotone flow (Feedback l) f g w u k = w _ k
-psi_of_kind-monotone flow (Leave l) f g w u k = some_counter-monotone f g w u (counter (greatest_of_kind flow (Leave l))) k
-psi_of_kind-monotone flow (Regroup n) f g w u k = w _ k
-psi_of_kind-monotone flow kind f g w u k = w u k
 
 pub psi-monotone : PsiIsMonotone
 unfolding psi
@@ -35,27 +18,9 @@ psi-monotone flow e f g w u k =
     let kind = kind_of flow (sender flow e) in
     let i = in_domain (bounds_of_domain flow (out_domain_of_kind flow kind)) u in
     let a = and_parts i (psi_of_kind (greatest_of_kind flow kind) kind f u) k in
-    and_from i (psi_of_kind (greatest_of_kind flow kind) kind g u) a.0 (psi_of_kind-monotone flow kind f g w u a.1)
+    and_from i (psi_of_kind (greatest_of_kind flow kind) kind g u) a.0 ((sends_lawfully flow kind).of_psi.grows f g w u a.1)
 
 -- ---- unions
-
-some_counter-one : (family : ℕ → Frontier) (f : Frontier) → IsUnion family f → (x : Stamp) (m : ℕ) → some_counter f x m ≡ true → (i : ℕ) × (some_counter (family i) x m ≡ true)
-some_counter-one family f w x zero k = w.from_one (nest x 0) k
-some_counter-one family f w x (suc m) k = elim (or_cases (f (nest x (suc m))) (some_counter f x m) k) [
-  | inl a ↦ let y = w.from_one (nest x (suc m)) a in (y.0, or_left (family y.0 (nest x (suc m))) (some_counter (family y.0) x m) y.1)
-  | inr a ↦ let y = some_counter-one family f w x m a in (y.0, or_right (family y.0 (nest x (suc m))) (some_counter (family y.0) x m) y.1)
-]
-
-psi_of_kind-one : (flow : Dataflow) (kind : Kind) (family : ℕ → Frontier) (f : Frontier) → IsUnion family f → (u : Stamp)
-    → psi_of_kind (greatest_of_kind flow kind) kind f u ≡ true → (i : ℕ) × (psi_of_kind (greatest_of_kind flow kind) kind (family i) u ≡ true)
-psi_of_kind-one flow (Enter l) family f w u k =
-    let a = and_parts (counter u == 0) (f (outer u)) k in
-    let y = w.from_one (outer u) a.1 in
-    (y.0, and_from (counter u == 0) (family y.0 (outer u)) a.0 y.1)
-psi_of_kind-one flow (Feedback l) family f w u k = w.from_one _ k
-psi_of_kind-one flow (Leave l) family f w u k = some_counter-one family f w u (counter (greatest_of_kind flow (Leave l))) k
-psi_of_kind-one flow (Regroup n) family f w u k = w.from_one _ k
-psi_of_kind-one flow kind family f w u k = w.from_one u k
 
 pub psi-union : PsiOfUnion
 unfolding psi
@@ -65,7 +30,7 @@ psi-union flow e family f w = record {
       let kind = kind_of flow (sender flow e) in
       let i = in_domain (bounds_of_domain flow (out_domain_of_kind flow kind)) u in
       let a = and_parts i (psi_of_kind (greatest_of_kind flow kind) kind f u) k in
-      let y = psi_of_kind-one flow kind family f w u a.1 in
+      let y = (sends_lawfully flow kind).of_psi.from_one family f w u a.1 in
       (y.0, and_from i (psi_of_kind (greatest_of_kind flow kind) kind (family y.0) u) a.0 y.1);
 }
 
@@ -98,17 +63,6 @@ psi-join flow e f g u =
 
 -- ---- nothing
 
-some_counter-nothing : (x : Stamp) (m : ℕ) → some_counter nothing x m ≡ false
-some_counter-nothing x zero = refl
-some_counter-nothing x (suc m) = some_counter-nothing x m
-
-psi_of_kind-nothing : (flow : Dataflow) (kind : Kind) (u : Stamp) → psi_of_kind (greatest_of_kind flow kind) kind nothing u ≡ false
-psi_of_kind-nothing flow (Enter l) u = and_right (counter u == 0) false refl
-psi_of_kind-nothing flow (Feedback l) u = refl
-psi_of_kind-nothing flow (Leave l) u = some_counter-nothing u (counter (greatest_of_kind flow (Leave l)))
-psi_of_kind-nothing flow (Regroup n) u = refl
-psi_of_kind-nothing flow kind u = refl
-
 pub psi-nothing : PsiOfNothing
 unfolding psi
-psi-nothing flow e u = and_right _ _ (psi_of_kind-nothing flow (kind_of flow (sender flow e)) u)
+psi-nothing flow e u = and_right _ _ ((sends_lawfully flow (kind_of flow (sender flow e))).of_psi.of_nothing u)

@@ -11,10 +11,8 @@ use Rattle.fw_frontier.specs.Front.{Front, frontier_of}
 use Rattle.fw_flow.specs.declared.choice.Cut.TheVariants.{At}
 use Rattle.fw_flow.specs.declared.event.Event.{Event}
 use Rattle.fw_flow.specs.declared.event.Message.{Message}
-use Rattle.fw_flow.specs.declared.kind.Kind.{Kind}
-use Rattle.fw_flow.specs.declared.kind.Kind.TheVariants.{Sequence}
 use Rattle.fw_flow.specs.declared.node.Edge.{Edge}
-use Rattle.fw_flow.specs.Dataflow.{System, Dataflow, kind_of, sender, edges_from, out_edges, bounds_of, send_stamp, is_sequence_kind}
+use Rattle.fw_flow.specs.Dataflow.{System, Dataflow, kind_of, sender, edges_from, out_edges, bounds_of, send_stamp}
 use Rattle.fw_flow.specs.NodeFunction.{event_node, event_stamp, sent_by}
 use Rattle.fw_flow.specs.Projection.{events_at, all_inside}
 use Rattle.fw_flow.specs.WellFormed.{may_keep_nothing}
@@ -24,6 +22,7 @@ use Rattle.fw_model.specs.Steps.{inside_if_some, sends_inside, is_given_up, is_s
 use Rattle.fw_model.specs.Filtering.{events_inside, messages_from, messages_outside}
 use Rattle.fw_model.specs.Resending.{at_receiver}
 use Rattle.fw_model.specs.Writes.{IsLoggedOnce}
+use Rattle.fw_model.proofs.KindSorts.{kept-no_sequence}
 use Rattle.fw_model.proofs.DomainLaws.{has_epochs}
 use Rattle.fw_model.proofs.FilteredLaws.{set-frontier}
 use Rattle.fw_model.proofs.SendsLaws.{IsOfCause, sent_by-of_cause}
@@ -159,10 +158,6 @@ given-inside sys low p t u e l s g at =
   where
     front_at : ℕ → Front
     front_at q = front_of low q
-
-kept-no_sequence : (kind : Kind) → may_keep_nothing kind ≡ true → is_sequence_kind kind ≡ false
-kept-no_sequence Sequence k = absurd (two_ways false k refl)
-kept-no_sequence kind k = refl
 
 -- outside the low watermark of a receiver what is not given up is all
 given-adds_nothing : (sys : System) (low : List Front) (p e : ℕ) → may_keep_nothing (kind_of sys.flow p) ≡ true → e < length sys.flow.edges → sender sys.flow e ≡ p → (f : Frontier)

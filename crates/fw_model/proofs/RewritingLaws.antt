@@ -14,6 +14,7 @@ use Rattle.fw_flow.specs.declared.kind.Kind.TheVariants.{Input}
 use Rattle.fw_flow.specs.Dataflow.{greatest_of_kind, System, Dataflow, kind_of, sender, receiver, greatest_number, domain_of_kind, out_domain_of_kind, bounds_of, bounds_of_domain, batches_of, is_input_kind, is_sequence_kind}
 use Rattle.fw_flow.specs.NodeFunction.{event_node, event_stamp, sends, sent_by}
 use Rattle.fw_flow.specs.Projection.{events_at, first_coordinate, count_from, sent_count, phi_of_kind, phi}
+use Rattle.fw_model.proofs.KindSorts.{is_sequence}
 use Rattle.fw_model.proofs.LesserLaws.{lesser-in_domain, line-in_domain}
 use Rattle.fw_model.specs.History.{injected_count, injected_epochs, IsAdmissible, IsEnabled, IsLegal}
 use Rattle.fw_model.specs.LawsOfFiltering.{KeptEventsAreLegal}
@@ -21,7 +22,8 @@ use Rattle.fw_model.specs.Covers.{stamp_of_notice}
 use Rattle.fw_model.proofs.StampLaws.{leq_to, in_line, line-leq}
 use Rattle.fw_model.proofs.PhiLaws.{phi-monotone, count-append}
 use Rattle.fw_model.proofs.FrontierLaws.{phi-ignores_history}
-use Rattle.fw_model.proofs.MeetLaws.{one_within, phi-meet}
+use Rattle.fw_model.proofs.LineLaws.{one_within}
+use Rattle.fw_model.proofs.MeetLaws.{phi-meet}
 use Rattle.fw_model.proofs.SequenceLaws.{bounds-sequence, count-none}
 use Rattle.fw_model.proofs.CompleteLaws.{enabled-outside, admissible-stays}
 use Rattle.fw_model.proofs.CauseLaws.{outside-sends}
@@ -29,7 +31,6 @@ use Rattle.fw_model.proofs.LocalityLaws.{phi-same}
 use Rattle.fw_model.proofs.KeptLaws.{IsFiltering, filtering-before, kept-causes, kept-quiet, kept-owed, inject-enabled, deliver-enabled, causes-now, legal-with}
 use Rattle.fw_model.proofs.SettleLaws.{meet-frontier}
 use Rattle.fw_model.specs.Filtering.{AreFrontiers, kept_events, HaveKeptCauses}
-use Rattle.fw_model.proofs.ChoiceLaws.{is_sequence}
 
 -- ---- which injections are kept
 

@@ -1,5 +1,5 @@
 -- At which stamps events send.
-use Rattle.std.proofs.Common.{◌≡◌, ℕ, true, false, List, [], ◌∷◌, Option, Some, None, refl, sym, ap, ◌∙◌}
+use Rattle.std.proofs.Common.{◌≡◌, ℕ, true, false, List, [], ◌∷◌, Option, Some, None, refl, sym, ap, ◌∙◌, subst}
 use Rattle.std.specs.List.{AllByRecursion}
 use Rattle.std.proofs.lemmas.Bool.{and_parts}
 use Rattle.fw_lemmas.proofs.Each.{each-weaker, each-append}
@@ -9,13 +9,12 @@ use Rattle.fw_time.proofs.StampLaws.{leq-refl}
 use Rattle.fw_flow.specs.declared.event.Event.{Event}
 use Rattle.fw_flow.specs.declared.event.Message.{Message}
 use Rattle.fw_flow.specs.declared.kind.Kind.{Kind}
-use Rattle.fw_flow.specs.declared.kind.Kind.TheVariants.{Sequence}
 use Rattle.fw_flow.specs.Dataflow.{System, Dataflow, kind_of, sender, send_stamp, send_stamp_of_kind, is_sequence_kind}
 use Rattle.fw_flow.specs.NodeFunction.{event_stamp, recs_on, messages_at, messages_at_some, sends_of_kind, sends, sent_by}
 use Rattle.fw_flow.specs.Projection.{events_at, all_inside, psi}
 use Rattle.fw_model.specs.LawsOfSending.{SendsAtSendStamp, SendsAreInsidePsi, SentFromInsideIsInsidePsi}
+use Rattle.fw_model.proofs.KindSorts.{by_stamp-no_sequence, at_send_stamp}
 use Rattle.fw_model.proofs.SendingLaws.{psi-by_stamp, send_stamp-in_domain}
-use Rattle.fw_model.specs.Sending.{SendsByStamp}
 
 -- the message is at this stamp, if there is one, and has one cause
 abbrev pub IsAt : Option Stamp → Stamp → Message → Type 0
@@ -31,17 +30,13 @@ messages_at_some-each (Some at) cause rs = messages_at-each at cause rs
 
 pub sends_of_kind-each : (sys : System) (kind : Kind) (before : List Event) (v : Event) → is_sequence_kind kind ≡ false
     → AllByRecursion (IsAt (send_stamp_of_kind sys.flow kind (event_stamp v)) (event_stamp v)) (sends_of_kind sys kind before v)
-sends_of_kind-each sys Sequence before v p = absurd (cc)
 sends_of_kind-each sys kind before v p =
-    messages_at_some-each (send_stamp_of_kind sys.flow kind (event_stamp v)) (event_stamp v) (recs_on sys kind before v)
+    let at = send_stamp_of_kind sys.flow kind (event_stamp v) in
+    subst (AllByRecursion (IsAt at (event_stamp v))) (sym (at_send_stamp sys kind before v p)) (messages_at_some-each at (event_stamp v) (recs_on sys kind before v))
 
 pub sends-each : SendsAtSendStamp
 unfolding sends
 sends-each sys p n before v = sends_of_kind-each sys (kind_of sys.flow p) before v n
-
-pub by_stamp-no_sequence : (flow : Dataflow) (kind : Kind) → SendsByStamp flow kind → is_sequence_kind kind ≡ false
-by_stamp-no_sequence flow Sequence p = absurd p
-by_stamp-no_sequence flow kind p = refl
 
 pub sends-inside_psi : SendsAreInsidePsi
 sends-inside_psi sys e f p fr before v k =

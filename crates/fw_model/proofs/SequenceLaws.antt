@@ -1,5 +1,5 @@
 -- A sequence numbers in the order of its notifications, so what is inside phi comes from events inside.
-use Rattle.std.proofs.Common.{◌≡◌, ℕ, ◌+◌, ◌<◌, ◌≤◌, Bool, true, false, cond, ◌==◌, nat_lt, nat_le, List, [], ◌∷◌, ◌++◌, length, refl, sym, ap, subst, ◌∙◌, inl, inr, ◌⊎◌, arith}
+use Rattle.std.proofs.Common.{◌≡◌, ℕ, ◌+◌, ◌<◌, ◌≤◌, Bool, true, false, cond, ◌==◌, ◌||◌, nat_lt, nat_le, List, [], ◌∷◌, ◌++◌, length, refl, sym, ap, subst, ◌∙◌, inl, inr, ◌⊎◌, arith}
 use Rattle.std.specs.List.{AllByRecursion}
 use Rattle.std.proofs.lemmas.Bool.{and_parts, and_from, and_left, or_cases, ltb-true, cases_Bool, cond_both, both_ways}
 use Rattle.fw_lemmas.proofs.Each.{each-weaker, each-both, each-append}
@@ -10,14 +10,14 @@ use Rattle.fw_frontier.specs.Frontier.{Frontier, IsFrontier}
 use Rattle.fw_flow.specs.declared.event.Event.{Event}
 use Rattle.fw_flow.specs.declared.event.Event.TheVariants.{Inject, Deliver, Notify}
 use Rattle.fw_flow.specs.declared.event.Message.{Message}
-use Rattle.fw_flow.specs.declared.kind.Kind.TheVariants.{Sequence}
 use Rattle.fw_flow.specs.Dataflow.{greatest_of_kind, System, Dataflow, kind_of, sender, receiver, greatest_number, domain_of_kind, bounds_of, bounds_of_domain}
-use Rattle.fw_flow.specs.NodeFunction.{event_stamp, recs_on_notification, numbered_messages, sequence_sent, sends_of_kind, sends, sent_by}
+use Rattle.fw_flow.specs.NodeFunction.{event_stamp, numbered_messages, sequence_sent, sends_of_kind, sends, sent_by}
 use Rattle.fw_flow.specs.Projection.{events_at, all_inside, count_from, sent_count, first_coordinate, phi_of_kind, phi}
 use Rattle.fw_model.specs.History.{injected_count}
 use Rattle.fw_model.specs.LawsOfSending.{InsidePhiOfSequenceComesFromInside}
 use Rattle.fw_model.proofs.PhiLaws.{count-append}
 use Rattle.fw_model.specs.Order.{notified_stamps, AreDescending}
+use Rattle.fw_model.specs.Sending.{SendsByCount, recs_by_count}
 
 -- ---- counts
 
@@ -60,7 +60,7 @@ causes-inside f (Inject s x ∷ vs) a = causes-inside f vs a
 causes-inside f (Deliver e m ∷ vs) a = causes-inside f vs a
 causes-inside f (Notify p t ∷ vs) a =
     let n = length (sequence_sent vs) in
-    let rs = recs_on_notification Sequence vs t in
+    let rs = recs_by_count vs t in
     each-append _ (numbered_messages n t rs) (sequence_sent vs)
     (each-weaker (IsNumbered n t) (λ m. all_inside f m.causes ≡ true) (numbered_messages n t rs) (λ m b. one_inside f t m true a.0 b.1) (numbered-each n t rs))
     (causes-inside f vs a.1)
@@ -74,7 +74,7 @@ numbers-inside bounds f fr (Inject s x ∷ vs) d o = numbers-inside bounds f fr 
 numbers-inside bounds f fr (Deliver e m ∷ vs) d o = numbers-inside bounds f fr vs d o
 numbers-inside bounds f fr (Notify p t ∷ vs) d o =
     let n = length (sequence_sent vs) in
-    let rs = recs_on_notification Sequence vs t in
+    let rs = recs_by_count vs t in
     let now = numbered_messages n t rs in
     let all = sequence_sent (Notify p t ∷ vs) in
     elim (cases_Bool (f t)) [
@@ -128,7 +128,7 @@ no_inject flow p (Inject s x ∷ h) n = no_inject-injection (s == p) s x (inject
 no_inject flow p (Deliver e m ∷ h) n = no_inject-delivery (receiver flow e == p) e m (events_at flow p h) (no_inject flow p h n)
 no_inject flow p (Notify q t ∷ h) n = no_inject-notification (q == p) q t (events_at flow p h) (no_inject flow p h n)
 
-pub sent_by-sequence : (sys : System) (p : ℕ) → kind_of sys.flow p ≡ Sequence → (vs : List Event) → HasNoInject vs → sent_by sys p vs ≡ sequence_sent vs
+pub sent_by-sequence : (sys : System) (p : ℕ) → SendsByCount (kind_of sys.flow p) → (vs : List Event) → HasNoInject vs → sent_by sys p vs ≡ sequence_sent vs
 unfolding sends HasNoInject
 sent_by-sequence sys p is [] n = refl
 sent_by-sequence sys p is (Inject s x ∷ vs) n = absurd n
@@ -136,7 +136,7 @@ sent_by-sequence sys p is (Deliver e m ∷ vs) n =
     ap (λ k. sends_of_kind sys k vs (Deliver e m) ++ sent_by sys p vs) is ∙ sent_by-sequence sys p is vs n
 sent_by-sequence sys p is (Notify q t ∷ vs) n =
     ap (λ k. sends_of_kind sys k vs (Notify q t) ++ sent_by sys p vs) is
-    ∙ ap (λ ms. numbered_messages (length (sequence_sent vs)) t (recs_on_notification Sequence vs t) ++ ms) (sent_by-sequence sys p is vs n)
+    ∙ ap (λ ms. numbered_messages (length (sequence_sent vs)) t (recs_by_count vs t) ++ ms) (sent_by-sequence sys p is vs n)
 
 pub notified_in_domain : (bounds : Bounds) (vs : List Event) → AllByRecursion (λ v. in_domain bounds (event_stamp v) ≡ true) vs
     → AllByRecursion (λ s. in_domain bounds s ≡ true) (notified_stamps vs)
@@ -145,17 +145,17 @@ notified_in_domain bounds (Inject s x ∷ vs) d = notified_in_domain bounds vs d
 notified_in_domain bounds (Deliver e m ∷ vs) d = notified_in_domain bounds vs d.1
 notified_in_domain bounds (Notify p t ∷ vs) d = (d.0, notified_in_domain bounds vs d.1)
 
-pub bounds-sequence : (flow : Dataflow) (p : ℕ) → kind_of flow p ≡ Sequence → bounds_of flow p ≡ record { greatest = greatest_number ∷ []; sides = false }
+pub bounds-sequence : (flow : Dataflow) (p : ℕ) → SendsByCount (kind_of flow p) → bounds_of flow p ≡ record { greatest = greatest_number ∷ []; sides = false }
 unfolding bounds_of
 bounds-sequence flow p is = ap (λ k. bounds_of_domain flow (domain_of_kind flow k)) is
 
-pub phi-sequence : (sys : System) (h : List Event) (e : ℕ) (f : Frontier) (u : Stamp) → kind_of sys.flow (sender sys.flow e) ≡ Sequence → phi sys h e f u ≡ true
+pub phi-sequence : (sys : System) (h : List Event) (e : ℕ) (f : Frontier) (u : Stamp) → SendsByCount (kind_of sys.flow (sender sys.flow e)) → phi sys h e f u ≡ true
     → (f (greatest_number ∷ []) ≡ true) ⊎ (first_coordinate u < sent_count sys h (sender sys.flow e) f)
 unfolding phi
 phi-sequence sys h e f u is k =
     let count = sent_count sys h (sender sys.flow e) f in
     let a = and_parts _ (phi_of_kind (greatest_of_kind sys.flow (kind_of sys.flow (sender sys.flow e))) (kind_of sys.flow (sender sys.flow e)) count f u) k in
-    let b : phi_of_kind (greatest_of_kind sys.flow Sequence) Sequence count f u ≡ true = sym (ap (λ kind. phi_of_kind (greatest_of_kind sys.flow kind) kind count f u) is) ∙ a.1 in
+    let b : (f (greatest_number ∷ []) || nat_lt (first_coordinate u) count) ≡ true = sym (ap (λ kind. phi_of_kind (greatest_of_kind sys.flow kind) kind count f u) is) ∙ a.1 in
     elim (or_cases (f (greatest_number ∷ [])) (nat_lt (first_coordinate u) count) b) [ inl i ↦ inl i | inr i ↦ inr (ltb-true (first_coordinate u) count i) ]
 
 pub inside_phi_of_sequence-from_inside : InsidePhiOfSequenceComesFromInside

@@ -1,5 +1,5 @@
 -- No write stands on more than seven others.
-use Rattle.std.proofs.Common.{◌≡◌, ℕ, ◌+◌, ◌≤◌, Bool, true, false, not, ◌&&◌, nat_lt, List, [], ◌∷◌, filter, map, refl, sym, ap, subst, arith}
+use Rattle.std.proofs.Common.{ℕ, ◌+◌, ◌≤◌, not, ◌&&◌, nat_lt, List, [], ◌∷◌, filter, map, sym, subst, arith}
 use Rattle.std.specs.List.{AllByRecursion}
 use Rattle.std.proofs.lemmas.Bool.{cond_both, ltb-true}
 use Rattle.fw_lemmas.proofs.Each.{each-one, each-append, each-map, each-passed, each-replaced}

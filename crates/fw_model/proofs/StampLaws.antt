@@ -1,5 +1,5 @@
 -- The order of stamps, and the stamps of a loop.
-use Rattle.std.proofs.Common.{◌≡◌, ℕ, ◌≤◌, true, false, nat_le, [], ◌∷◌, refl, sym, ap, ◌∙◌, arith}
+use Rattle.std.proofs.Common.{◌≡◌, ℕ, ◌≤◌, true, false, nat_le, [], ◌∷◌, Some, refl, sym, ap, ◌∙◌, arith}
 use Rattle.std.proofs.lemmas.Bool.{and_parts, and_from, leb-true, le-leb}
 use Rattle.fw_time.specs.Stamp.{Stamp, leq, nest, outer, counter}
 pub use Rattle.fw_time.proofs.StampLaws.{same-is, same-refl, same-from}
@@ -77,3 +77,6 @@ counter-leq (x ∷ []) (y ∷ []) k = leb-true x y (and_parts (nat_le x y) true 
 counter-leq (x ∷ []) (y ∷ z ∷ t) k = let a = and_parts (nat_le x y) false k in absurd (cc)
 counter-leq (x ∷ z ∷ s) (y ∷ []) k = let a = and_parts (nat_le x y) false k in absurd (cc)
 counter-leq (x ∷ w ∷ s) (y ∷ z ∷ t) k = counter-leq (w ∷ s) (z ∷ t) (and_parts (nat_le x y) (leq (w ∷ s) (z ∷ t)) k).1
+
+pub some_is : (s t : Stamp) → Some s ≡ Some t → s ≡ t
+some_is s t e = cc

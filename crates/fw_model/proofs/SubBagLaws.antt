@@ -1,5 +1,5 @@
 -- In a legal history what was sent is a part of the denotation.
-use Rattle.std.proofs.Common.{◌+◌, ◌≡◌, ◌⊎◌, ℕ, ◌≤◌, true, false, cond, not, ◌&&◌, List, [], ◌∷◌, map, Some, refl, sym, ap, subst, ◌∙◌, inl, inr, arith}
+use Rattle.std.proofs.Common.{◌+◌, ◌≡◌, ℕ, ◌≤◌, true, false, cond, not, ◌&&◌, List, [], ◌∷◌, map, Some, refl, sym, ap, subst, ◌∙◌, inl, inr, arith}
 use Rattle.std.specs.List.{AllByRecursion}
 use Rattle.std.proofs.lemmas.Bool.{cases_Bool, cases_lt}
 use Rattle.fw_time.specs.Stamp.{Stamp, leq}
@@ -7,8 +7,7 @@ use Rattle.fw_time.proofs.StampLaws.{leq-refl}
 use Rattle.fw_bag.specs.declared.rec.Rec.{Rec}
 use Rattle.fw_bag.specs.Bag.{how_often}
 use Rattle.fw_flow.specs.declared.event.Event.{Event}
-use Rattle.fw_flow.specs.declared.kind.Kind.{Kind}
-use Rattle.fw_flow.specs.declared.kind.Kind.TheVariants.{Select, Concat, Distinct, Join, Sum, Enter, Feedback, Leave, Total, Sequence, Ledger, Regroup}
+use Rattle.fw_flow.specs.declared.kind.Kind.TheVariants.{Ledger}
 use Rattle.fw_flow.specs.Dataflow.{System, kind_of, sender, in_edges, batches_of, is_notified_kind, send_stamp_of_kind}
 use Rattle.fw_flow.specs.NodeFunction.{recs_on_notification}
 use Rattle.fw_flow.specs.Projection.{events_at}
@@ -17,16 +16,17 @@ use Rattle.fw_flow.specs.WholeBags.{outputs_of_kind, joint_bag}
 use Rattle.fw_model.specs.Denotation.{Family, IsDenotation}
 use Rattle.fw_model.specs.History.{was_delivered_to, was_notified, is_owed_notice, sent_messages, delivered_messages, IsLegal}
 use Rattle.fw_model.specs.LawsOfDeliveries.{SentIsSubBagOfDenotation, DeliveredIsSubBagOfDenotation}
+use Rattle.fw_model.proofs.KindSorts.{is_inner, sort_of, sends_at_once, sends_sums, inner_sort, once-not_notified, sums-stamp, sums-notified}
 use Rattle.fw_model.proofs.WeightLaws.{weigh, how_often-where, one}
 use Rattle.fw_model.proofs.SentLaws.{timed_of, next_delivered-lighter}
 use Rattle.fw_model.proofs.ArrivalLaws.{together-weigh}
 use Rattle.fw_model.proofs.TimedCounts.{family-weigh, how_often-recs_at}
 use Rattle.fw_model.proofs.InputLaws.{input-lighter}
 use Rattle.fw_model.proofs.OneByOneLaws.{IsFewerAt}
-use Rattle.fw_model.proofs.NotifiedLaws.{sends_sums, sums-sent, notified-settled}
+use Rattle.fw_model.proofs.NotifiedLaws.{sums-sent, notified-settled}
 use Rattle.fw_model.proofs.LedgerLaws.{AreNumbered, totals-none}
-use Rattle.fw_model.proofs.KindLaws.{sends_at_once, is_inner, AgreeFor, delivered_bag, outputs-fewer, outputs-same, arrives, deliveries-one, ledger_edge, ledger-numbered}
-use Rattle.fw_model.proofs.DomainLaws.{sort_of, inner_edge, output-sent, each_in_edge, has_epochs}
+use Rattle.fw_model.proofs.KindLaws.{AgreeFor, delivered_bag, outputs-fewer, outputs-same, arrives, deliveries-one, ledger_edge, ledger-numbered}
+use Rattle.fw_model.proofs.DomainLaws.{inner_edge, output-sent, each_in_edge, has_epochs}
 use Rattle.fw_model.proofs.DenotedLaws.{sequence-fewer}
 use Rattle.fw_model.proofs.PrefixLaws.{closed-denoted, all_denoted, sequenced}
 use Rattle.fw_model.proofs.OncePerNumberLaws.{any_at, one-any, some_at_stamp, denoted-once, agree-below}
@@ -46,33 +46,9 @@ record Known (sys : System) (h : List Event) (family : Family) : Type 0 where
 abbrev IsSentWithin : System → List Event → Family → ℕ → Stamp → Rec → Type 0
 IsSentWithin sys h family e t q = weigh (one t q) (timed_of (sent_messages sys h e)) ≤ weigh (one t q) (family e)
 
--- the sorts of the kinds that are no input, no output and no sequence
-abbrev InnerSort : Kind → Type 0
-InnerSort kind = (sends_at_once kind ≡ true) ⊎ ((sends_sums kind ≡ true) ⊎ (kind ≡ Ledger))
-
-inner_sort : (kind : Kind) → is_inner kind ≡ true → InnerSort kind
-inner_sort (Sum n) k = inr (inl refl)
-inner_sort Total k = inr (inl refl)
-inner_sort Ledger k = inr (inr refl)
-inner_sort (Distinct n) k = inl refl
-inner_sort (Join n) k = inl refl
-inner_sort (Select s n) k = inl refl
-inner_sort (Concat n) k = inl refl
-inner_sort (Enter l) k = inl refl
-inner_sort (Feedback l) k = inl refl
-inner_sort (Leave l) k = inl refl
-inner_sort (Regroup n) k = inl refl
-inner_sort kind k = absurd (cc)
-
 -- a node that waits for no notification is owed none
 not_owed : (sys : System) (h : List Event) (p : ℕ) (t : Stamp) → is_notified_kind (kind_of sys.flow p) ≡ false → is_owed_notice sys h p t ≡ false
 not_owed sys h p t n = ap (λ b. b && was_delivered_to sys.flow p t h && not (was_notified p t h)) n
-
-once-not_notified : (kind : Kind) → sends_at_once kind ≡ true → is_notified_kind kind ≡ false
-once-not_notified (Sum n) k = absurd (cc)
-once-not_notified Total k = absurd (cc)
-once-not_notified Sequence k = absurd (cc)
-once-not_notified kind k = refl
 
 -- what was sent is what the node sends in all for what was delivered
 sent_for : (sys : System) (h : List Event) (family : Family) → Known sys h family → (e : ℕ) → is_inner (kind_of sys.flow (sender sys.flow e)) ≡ true
@@ -96,16 +72,6 @@ once-within sys h family k e is once t q =
     (each_in_edge flow p (λ d. IsFewerAt flow kind t (delivered_bag h d) (family d)) (λ d at u r i. k.within d u r)) in
     let c = family-weigh sys family k.denotation e (one t q) in
     omega arith
-
-sums-stamp : (sys : System) (kind : Kind) → sends_sums kind ≡ true → (u s : Stamp) → send_stamp_of_kind sys.flow kind u ≡ Some s → u ≡ s
-sums-stamp sys (Sum n) k u s e = cc
-sums-stamp sys Total k u s e = cc
-sums-stamp sys kind k u s e = absurd (cc)
-
-sums-notified : (kind : Kind) → sends_sums kind ≡ true → is_notified_kind kind ≡ true
-sums-notified (Sum n) k = refl
-sums-notified Total k = refl
-sums-notified kind k = absurd (cc)
 
 sums-within : (sys : System) (h : List Event) (family : Family) → Known sys h family → (e : ℕ) → is_inner (kind_of sys.flow (sender sys.flow e)) ≡ true
     → sends_sums (kind_of sys.flow (sender sys.flow e)) ≡ true → (t : Stamp) (q : Rec) → IsSentWithin sys h family e t q

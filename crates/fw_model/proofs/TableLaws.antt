@@ -9,14 +9,14 @@ use Rattle.fw_frontier.specs.Frontier.{Frontier}
 use Rattle.fw_flow.specs.declared.event.Event.{Event}
 use Rattle.fw_flow.specs.declared.event.Event.TheVariants.{Inject, Deliver, Notify}
 use Rattle.fw_flow.specs.declared.event.Message.{Message}
-use Rattle.fw_flow.specs.declared.kind.Kind.TheVariants.{Sequence}
 use Rattle.fw_flow.specs.Dataflow.{System, kind_of}
-use Rattle.fw_flow.specs.NodeFunction.{event_node, event_stamp, recs_on, numbered_messages, sequence_sent, sends_of_kind, sends, sent_by}
+use Rattle.fw_flow.specs.NodeFunction.{event_node, event_stamp, numbered_messages, sequence_sent, sends_of_kind, sends, sent_by}
 use Rattle.fw_flow.specs.Projection.{events_at, all_inside, count_from, table_count}
 use Rattle.fw_model.specs.LawsOfSending.{SentTableFollowsHistory}
 use Rattle.fw_model.proofs.PhiLaws.{count-append}
 use Rattle.fw_model.proofs.SequenceLaws.{IsNumbered, numbered-each, one_inside, count-none}
 use Rattle.fw_model.specs.Order.{is_notification_of}
+use Rattle.fw_model.specs.Sending.{SendsByCount, recs_by_count_on}
 
 count-all : (f : Frontier) (ms : List Message) → AllByRecursion (λ (m : Message). all_inside f m.causes ≡ true) ms → count_from f ms ≡ length ms
 count-all f [] a = refl
@@ -49,8 +49,8 @@ table-append f (e ∷ table) x c = by (f (e.0 ∷ [])) (table-append f table x c
     by false k = k
 
 -- what an event makes a sequence send
-sends-numbered : (sys : System) (p : ℕ) (vs : List Event) (v : Event) → kind_of sys.flow p ≡ Sequence
-    → sends sys p vs v ≡ numbered_messages (length (sequence_sent vs)) (event_stamp v) (recs_on sys Sequence vs v)
+sends-numbered : (sys : System) (p : ℕ) (vs : List Event) (v : Event) → SendsByCount (kind_of sys.flow p)
+    → sends sys p vs v ≡ numbered_messages (length (sequence_sent vs)) (event_stamp v) (recs_by_count_on sys vs v)
 unfolding sends
 sends-numbered sys p vs v k = ap (λ kind. sends_of_kind sys kind vs v) k
 
@@ -58,12 +58,12 @@ sends-numbered sys p vs v k = ap (λ kind. sends_of_kind sys kind vs v) k
 count-more : (sys : System) (p : ℕ) (f : Frontier) (v : Event) (vs : List Event) → count_from f (sent_by sys p (v ∷ vs)) ≡ count_from f (sends sys p vs v) + count_from f (sent_by sys p vs)
 count-more sys p f v vs = count-append f (sends sys p vs v) (sent_by sys p vs)
 
-quiet : (sys : System) (p : ℕ) (f : Frontier) (v : Event) (vs : List Event) → kind_of sys.flow p ≡ Sequence → recs_on sys Sequence vs v ≡ [] → count_from f (sent_by sys p (v ∷ vs)) ≡ count_from f (sent_by sys p vs)
+quiet : (sys : System) (p : ℕ) (f : Frontier) (v : Event) (vs : List Event) → SendsByCount (kind_of sys.flow p) → recs_by_count_on sys vs v ≡ [] → count_from f (sent_by sys p (v ∷ vs)) ≡ count_from f (sent_by sys p vs)
 quiet sys p f v vs k e =
     let none : count_from f (sends sys p vs v) ≡ 0 = ap (count_from f) (sends-numbered sys p vs v k ∙ ap (numbered_messages (length (sequence_sent vs)) (event_stamp v)) e) in
     omega (arith, count-more sys p f v vs, none)
 
-stays-at : (sys : System) (p : ℕ) (f : Frontier) (vs : List Event) (v : Event) (b : Bool) → kind_of sys.flow p ≡ Sequence → event_node sys.flow v == p ≡ b → is_notification_of p v ≡ false
+stays-at : (sys : System) (p : ℕ) (f : Frontier) (vs : List Event) (v : Event) (b : Bool) → SendsByCount (kind_of sys.flow p) → event_node sys.flow v == p ≡ b → is_notification_of p v ≡ false
     → count_from f (sent_by sys p (cond b (v ∷ vs) vs)) ≡ count_from f (sent_by sys p vs)
 stays-at sys p f vs v false k e n = refl
 stays-at sys p f vs (Inject s x) true k e n = quiet sys p f (Inject s x) vs k refl
@@ -80,7 +80,7 @@ table-follows sys p k = record {
       let here : events_at sys.flow p (v ∷ h) ≡ v ∷ vs = ap (λ b. cond b (v ∷ vs) vs) (eq-eqb p p refl) in
       let now : count_from f (sends sys p vs v) ≡ cond (f (x ∷ [])) c 0 =
       ap (count_from f) (sends-numbered sys p vs v k)
-      ∙ numbered-count f (length (sequence_sent vs)) (x ∷ []) (recs_on sys Sequence vs v)
+      ∙ numbered-count f (length (sequence_sent vs)) (x ∷ []) (recs_by_count_on sys vs v)
       ∙ ap (λ ms. cond (f (x ∷ [])) (length ms) 0) (sym (sends-numbered sys p vs v k)) in
       let old : table_count f table ≡ count_from f (sent_by sys p vs) = is f in
       let more : count_from f (sent_by sys p (events_at sys.flow p (v ∷ h))) ≡ count_from f (sends sys p vs v) + count_from f (sent_by sys p vs) =

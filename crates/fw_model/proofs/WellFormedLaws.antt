@@ -7,7 +7,7 @@ use Rattle.fw_flow.specs.declared.node.Edge.{Edge}
 use Rattle.fw_flow.specs.Dataflow.{Dataflow, kind_of, sender, max_of, edges_from, out_edges}
 use Rattle.fw_flow.specs.WellFormed.{IsLoopDeclared, IsOutDegree, IsGroupSize}
 use Rattle.fw_model.specs.LawsOfSending.{SendersOfWellFormed}
-use Rattle.fw_model.specs.Sending.{SendsByStamp}
+use Rattle.fw_model.specs.Sending.{SendsByStamp, SendsByCount}
 
 edges_from-some : (es : List Edge) (n e p : ℕ) (d : Edge) → e < length es → (get_or es e d).sender ≡ p → 1 ≤ length (edges_from n es p)
 edges_from-some [] n e p d l k = absurd (omega arith)
@@ -23,7 +23,7 @@ unfolding out_edges sender
 out_edges-some flow e l = edges_from-some flow.edges 0 e _ _ l refl
 
 sender_kind : (flow : Dataflow) (kind : Kind) (n : ℕ) → IsLoopDeclared flow kind → ((l : ℕ) → l < length flow.loops → 1 ≤ max_of flow l)
-    → IsGroupSize kind → 1 ≤ n → IsOutDegree kind n → (kind ≡ Sequence) ⊎ SendsByStamp flow kind
+    → IsGroupSize kind → 1 ≤ n → IsOutDegree kind n → SendsByCount kind ⊎ SendsByStamp flow kind
 sender_kind flow OutputEpoch n l m g k d = absurd (omega arith)
 sender_kind flow OutputNumber n l m g k d = absurd (omega arith)
 sender_kind flow Sequence n l m g k d = inl refl

@@ -2,13 +2,12 @@
 use Rattle.std.specs.Prelude.{◌≡◌, ℕ, false, List, ◌∷◌}
 use Rattle.fw_frontier.specs.Frontier.{Frontier}
 use Rattle.fw_flow.specs.declared.event.Event.{Event}
-use Rattle.fw_flow.specs.declared.kind.Kind.TheVariants.{Sequence}
 use Rattle.fw_flow.specs.Dataflow.{System, kind_of, HasEpochs}
 use Rattle.fw_flow.specs.NodeFunction.{event_node, event_stamp}
 use Rattle.fw_flow.specs.WellFormed.{IsWellFormed}
 use Rattle.fw_model.specs.History.{IsAdmissible, IsEnabled, IsLegal}
 use Rattle.fw_flow.specs.Projection.{IsSenderFrontier}
-use Rattle.fw_model.specs.Sending.{ComesFromInside}
+use Rattle.fw_model.specs.Sending.{ComesFromInside, SendsByCount}
 use Rattle.fw_model.specs.Order.{IsNotifiedInOrder}
 
 -- after any history, legal or not, an enabled event is outside each admissible family: nothing comes where all has come
@@ -26,7 +25,7 @@ AdmissibleStaysAdmissible = (sys : System) (h : List Event) → IsWellFormed sys
 -- the lesser ones
 abbrev pub SequencesAreNotifiedInOrder : Type 0
 SequencesAreNotifiedInOrder = (sys : System) (h : List Event) → IsWellFormed sys.flow → HasEpochs sys → IsLegal sys h
-    → (p : ℕ) → kind_of sys.flow p ≡ Sequence → IsNotifiedInOrder sys.flow h p
+    → (p : ℕ) → SendsByCount (kind_of sys.flow p) → IsNotifiedInOrder sys.flow h p
 
 -- in a legal history of a well-formed flow with epochs each message on an edge at a stamp inside phi of a frontier of the
 -- sender comes from events inside

@@ -1,8 +1,6 @@
 -- Laws of poorer covers: where they lack nothing outside a consistent choice, they lead to the same choices, and lower the same.
-use Rattle.std.specs.Prelude.{◌↔◌, ℕ, Bool, List}
+use Rattle.std.specs.Prelude.{ℕ, Bool}
 use Rattle.fw_flow.specs.declared.choice.Choice.{Choice}
-use Rattle.fw_flow.specs.declared.trail.Lowering.{Lowering}
-use Rattle.fw_flow.specs.declared.choice.Offer.{Offer}
 use Rattle.fw_flow.specs.Dataflow.{System}
 use Rattle.fw_flow.specs.WellFormed.{IsWellFormed}
 use Rattle.fw_model.specs.Choice.{kept, IsCandidate, IsConsistent, IsLargest, IsLargestBy}

@@ -5,19 +5,18 @@ use Rattle.fw_time.specs.Stamp.{Stamp, leq, in_domain}
 use Rattle.fw_frontier.specs.Frontier.{Frontier, IsFrontier, Within}
 use Rattle.fw_flow.specs.declared.event.Event.{Event}
 use Rattle.fw_flow.specs.declared.event.Message.{Message}
-use Rattle.fw_flow.specs.declared.kind.Kind.TheVariants.{Sequence}
 use Rattle.fw_flow.specs.Dataflow.{System, Dataflow, kind_of, sender, bounds_of, send_stamp, is_sequence_kind, bounds_of_edge}
 use Rattle.fw_flow.specs.NodeFunction.{event_stamp, sends}
 use Rattle.fw_flow.specs.Projection.{all_inside, phi, psi, psi_back, IsSenderFrontier}
 use Rattle.fw_flow.specs.WellFormed.{IsWellFormed}
 use Rattle.fw_model.specs.History.{sent_messages, AreEventsInDomain}
 use Rattle.fw_model.specs.Order.{IsNotifiedInOrder}
-use Rattle.fw_model.specs.Sending.{SendsByStamp, IsSentFrom, SendsAbove, SendsWithin, ComesFromInside, FollowsHistory}
+use Rattle.fw_model.specs.Sending.{SendsByStamp, IsSentFrom, SendsAbove, SendsWithin, ComesFromInside, FollowsHistory, SendsByCount}
 
 -- in a well-formed dataflow the sender of each edge is a sequence, or sends at the send stamps of its events
 abbrev pub SendersOfWellFormed : Type 0
 SendersOfWellFormed = (flow : Dataflow) → IsWellFormed flow → (e : ℕ) → e < length flow.edges
-    → (kind_of flow (sender flow e) ≡ Sequence) ⊎ SendsByStamp flow (kind_of flow (sender flow e))
+    → SendsByCount (kind_of flow (sender flow e)) ⊎ SendsByStamp flow (kind_of flow (sender flow e))
 
 -- a lesser stamp sends where a greater one of the node's domain does, and at the same stamp or a lesser one
 abbrev pub SendStampIsMonotone : Type 0
@@ -108,10 +107,10 @@ InsidePhiComesFromInside = (sys : System) (h : List Event) (e : ℕ) (f : Fronti
 -- inside
 abbrev pub InsidePhiOfSequenceComesFromInside : Type 0
 InsidePhiOfSequenceComesFromInside = (sys : System) (h : List Event) (e : ℕ) (f : Frontier)
-    → kind_of sys.flow (sender sys.flow e) ≡ Sequence → IsSenderFrontier sys.flow e f
+    → SendsByCount (kind_of sys.flow (sender sys.flow e)) → IsSenderFrontier sys.flow e f
     → AreEventsInDomain sys.flow h (sender sys.flow e) → IsNotifiedInOrder sys.flow h (sender sys.flow e)
     → ComesFromInside sys h e f
 
 -- the table of what a sequence sent follows the history
 abbrev pub SentTableFollowsHistory : Type 0
-SentTableFollowsHistory = (sys : System) (p : ℕ) → kind_of sys.flow p ≡ Sequence → FollowsHistory sys p
+SentTableFollowsHistory = (sys : System) (p : ℕ) → SendsByCount (kind_of sys.flow p) → FollowsHistory sys p

@@ -47,6 +47,7 @@ pub mod Poorer
 pub mod Reads
 pub mod Reached
 pub mod Resending
+pub mod Senders
 pub mod Sending
 pub mod Settled
 pub mod SortedMessages

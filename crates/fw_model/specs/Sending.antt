@@ -4,13 +4,14 @@ use Rattle.std.specs.List.{AllByRecursion}
 use Rattle.fw_time.specs.declared.stamp.Bounds.{Bounds}
 use Rattle.fw_time.specs.Stamp.{leq, in_domain, Stamp}
 use Rattle.fw_frontier.specs.Frontier.{Frontier}
+use Rattle.fw_bag.specs.declared.rec.Rec.{Rec}
 use Rattle.fw_flow.specs.declared.event.Event.{Event}
 use Rattle.fw_flow.specs.declared.event.Event.TheVariants.{Notify}
 use Rattle.fw_flow.specs.declared.event.Message.{Message}
 use Rattle.fw_flow.specs.declared.kind.Kind.{Kind}
 use Rattle.fw_flow.specs.declared.kind.Kind.TheVariants.{Sequence, OutputNumber, Regroup, OutputEpoch, Feedback}
 use Rattle.fw_flow.specs.Dataflow.{Dataflow, max_of, System}
-use Rattle.fw_flow.specs.NodeFunction.{sends}
+use Rattle.fw_flow.specs.NodeFunction.{recs_on_notification, recs_on, sends}
 use Rattle.fw_flow.specs.Projection.{all_inside, phi, IsSentTable, events_at}
 use Rattle.fw_model.specs.History.{sent_messages}
 use Rattle.fw_model.specs.Order.{is_notification_of}
@@ -24,6 +25,19 @@ SendsByStamp flow Sequence = ⊥
 SendsByStamp flow (Feedback l) = 1 ≤ max_of flow l
 SendsByStamp flow (Regroup n) = 1 ≤ n
 SendsByStamp flow kind = Unit {0}
+
+-- A node of the kind sends by count: it numbers what it sends, from how much it sent before. Every kind but those of
+-- outputs sends by stamp or by count.
+abbrev pub SendsByCount : Kind → Type 0
+SendsByCount kind = kind ≡ Sequence
+
+-- what a node that sends by count numbers at a notification of t, where these are its earlier events
+abbrev pub recs_by_count : List Event → Stamp → List Rec
+recs_by_count before t = recs_on_notification Sequence before t
+
+-- the same at any event: nothing where it is no notification
+abbrev pub recs_by_count_on : System → List Event → Event → List Rec
+recs_by_count_on sys before v = recs_on sys Sequence before v
 
 -- each stamp of the domain that sends at u or below is inside
 abbrev pub IsSentFrom : Bounds → (Stamp → Option Stamp) → Frontier → Stamp → Type 0

@@ -27,10 +27,11 @@ use Rattle.fw_model.specs.Thinned.{IsBelowKept, IsThinnedIf}
 use Rattle.fw_model.proofs.ArrivalLaws.{at_edge, in_edges-once}
 use Rattle.fw_model.proofs.DomainLaws.{edge-bounds}
 use Rattle.fw_model.proofs.JoinLaws.{delivered_at}
-use Rattle.fw_model.proofs.SendingLaws.{some_is, fed_back-some, send_stamp-in_domain}
+use Rattle.fw_model.proofs.FeedbackLaws.{fed_back-some}
+use Rattle.fw_model.proofs.SendingLaws.{send_stamp-in_domain}
 use Rattle.fw_model.proofs.SendsLaws.{IsAt, sends-each}
 use Rattle.fw_model.proofs.SentStandLaws.{IsOne, one-contained, contained-one}
-use Rattle.fw_model.proofs.StampLaws.{in_loop, nest-leq, leq-nest, in_line, leq_from, leq_to}
+use Rattle.fw_model.proofs.StampLaws.{in_loop, nest-leq, leq-nest, in_line, leq_from, leq_to, some_is}
 use Rattle.fw_model.proofs.WeightLaws.{weigh}
 use Rattle.fw_model.proofs.ThinnedLaws.{each-contained}
 use Rattle.fw_regain.specs.Causes.{merges_stamps, tells_cause, cause_told, message_of_told, SendStampsTellCauses, GreatestSentStampsStandForSent, DeliveredStampsSend, InjectedBatchesSend}

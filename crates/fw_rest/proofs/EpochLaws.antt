@@ -18,9 +18,9 @@ use Rattle.fw_flow.specs.WellFormed.{IsWellFormed}
 use Rattle.fw_flow.proofs.MessageLaws.{less-each, among-each}
 use Rattle.fw_model.specs.History.{sent_messages, delivered_messages, pending_messages, was_delivered_to, was_notified, IsLegal, IsEnabled}
 use Rattle.fw_model.proofs.LegalLaws.{edge_domains, AreAllInDomain, legal-in_domain}
-use Rattle.fw_model.proofs.SendingLaws.{some_is, fed_back-some}
+use Rattle.fw_model.proofs.FeedbackLaws.{fed_back-some}
 use Rattle.fw_model.proofs.SendsLaws.{sends-each}
-use Rattle.fw_model.proofs.StampLaws.{IsInLoop, in_loop, same-is}
+use Rattle.fw_model.proofs.StampLaws.{IsInLoop, in_loop, same-is, some_is}
 use Rattle.fw_rest.specs.Left.{HasNoRegroup}
 use Rattle.fw_rest.specs.StepsToRest.{epochs_of}
 

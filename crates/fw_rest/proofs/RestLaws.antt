@@ -19,13 +19,13 @@ use Rattle.fw_flow.specs.WellFormed.{IsWellFormed}
 use Rattle.fw_flow.specs.Ranks.{is_looped}
 use Rattle.fw_model.specs.History.{some_at, delivered_messages, pending_messages, is_owed_notice, injected_count, is_exhausted, injected_epochs, IsAdmissible, IsComplete, IsLegal}
 use Rattle.fw_model.specs.Measure.{Measure}
+use Rattle.fw_model.proofs.KindSorts.{is_local_kind, local-from_loop}
 use Rattle.fw_model.proofs.FrontierLaws.{phi-frontier}
 use Rattle.fw_model.proofs.InputLaws.{injected-few}
 use Rattle.fw_model.proofs.LegalLaws.{edge_domains}
 use Rattle.fw_model.proofs.LesserLaws.{lesser-in_domain}
-use Rattle.fw_model.proofs.MeasureLaws.{sends_to_loop, local-from_loop, measure-exists}
+use Rattle.fw_model.proofs.MeasureLaws.{sends_to_loop, measure-exists}
 use Rattle.fw_model.proofs.MeetLaws.{phi-everything}
-use Rattle.fw_model.proofs.OutputLaws.{is_local_kind}
 use Rattle.fw_model.proofs.PendingNumberLaws.{numbers-go_on}
 use Rattle.fw_model.proofs.PhiLaws.{phi-monotone}
 use Rattle.fw_model.proofs.SendingLaws.{phi-by_stamp, phi-in_domain}

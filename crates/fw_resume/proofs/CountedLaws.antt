@@ -24,6 +24,11 @@ use Rattle.fw_root.specs.declared.root.OwedAt.{OwedAt}
 use Rattle.fw_root.specs.declared.root.PendingAt.{PendingAt}
 use Rattle.fw_resume.specs.Counted.{ArePendingOf, AreOwedOf, owed_to, pending_on}
 
+-- no stamp is in order
+pub in_order-none : (es : List (Stamp × ℕ)) → es ≡ [] → IsStrictlySortedBy stamp_cmp (keys_of es)
+unfolding IsStrictlySortedBy
+in_order-none es e = subst (λ (xs : List (Stamp × ℕ)). IsStrictlySortedBy stamp_cmp (keys_of xs)) (sym e) tt
+
 -- ---- lists edge by edge
 
 pub pending_none : (counts : Counts) (all : List PendingAt) → all ≡ [] → ArePendingOf counts 0 all

@@ -88,6 +88,9 @@ fn listed(alloc: Global, tally: &Tally) -> Result<Vec<(Stamp, u64)>, AllocError>
     ensures all { IfOk result (λ entries. entries.items ≡ tally.now) }
     ensures in_order { IsStrictlySortedBy stamp_cmp (keys_of tally.now) }
 {
+    if tally.is_empty() {
+        return Ok(Vec::new(alloc));
+    }
     // It says that they ascend.
     let _first = tally.first_inside(&Front::all(alloc));
     tally.entries(alloc)

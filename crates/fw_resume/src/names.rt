@@ -12,7 +12,7 @@ use std::alloc::{AllocError, Global};
 pub(crate) fn names_of(alloc: Global, entries: &[Entry]) -> Result<Vec<NamedWrite>, AllocError>
     ensures { IfOk result (λ names. names.items ≡ map spec.name_of (filter (λ (e : Write). e.acknowledged) entries.now)) }
 {
-    let mut names = Vec::new(alloc);
+    let mut names = Vec::with_capacity(alloc, entries.len())?;
     for entry in entries {
         if entry.acknowledged {
             names.push(name_of(entry))?;

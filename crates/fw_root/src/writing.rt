@@ -10,6 +10,9 @@ use fw_bytes::{put_counts, put_front, put_stamp, put_u32, put_u64};
 use fw_frontier::SentCounts;
 use std::alloc::{AllocError, Global};
 
+/// How many bytes a small root has at most: for so many there is room from the start.
+const SMALL_ROOT: usize = 512;
+
 /// The letters FR, the version and the digests.
 #[tactic(auto, unfolding(crate::specs::Spelling::digests_bytes))]
 fn put_digests(out: &mut Vec<u8>, digests: &Digests) -> Result<(), AllocError>
@@ -160,7 +163,7 @@ fn put_sends(out: &mut Vec<u8>, tables: &[SentCounts]) -> Result<(), AllocError>
 pub fn encode_root(alloc: Global, root: &Root) -> Result<Vec<u8>, AllocError>
     ensures { IfOk result (λ bytes. bytes.items ≡ root_spelling root.now) }
 {
-    let mut out = Vec::new(alloc);
+    let mut out = Vec::with_capacity(alloc, SMALL_ROOT)?;
     put_mark(&mut out, &root.mark, root.next_id)?;
     put_numbers(&mut out, root.injected.as_slice())?;
     put_numbers(&mut out, root.bounds.as_slice())?;

@@ -75,7 +75,7 @@ impl<'a, R: Files<File = File>, S: Start> DiskStore<'a, R, S> {
     }
 
     /// The store of a folder as an earlier run left it, whose records are looked at. Those of another run are found out by the file
-    /// `run`. Where the folder can't be opened now, the store tells nothing.
+    /// `run`. Where the folder can't be opened now, the store tells nothing; `is_open` says whether it was.
     pub fn reopen(alloc: Global, files: &'a R, folder: String) -> Self
         ensures records { StayIfTold S.held (⟦<DiskStore<'a, R, S> as Store>⟧.view result).records }
         // Where it was opened, and what stands there is what `S` names, by the digests, it tells that.
@@ -115,6 +115,14 @@ impl<'a, R: Files<File = File>, S: Start> DiskStore<'a, R, S> {
 }
 
 impl<R: Files, S: Start> DiskStore<'_, R, S> {
+    /// Whether the folder is open by now: locked, its records known. A store that was not open when it was reopened tells nothing, also
+    /// when it is open later.
+    pub fn is_open(&self) -> bool
+        ensures { result ≡ is_some self.now.claim }
+    {
+        self.claim.is_some()
+    }
+
     /// A line for each fault, up to a thousand, with its place and its cause, and one that tells how many more there were.
     pub fn told(&self) -> Result<String, AllocError> {
         let mut told = String::new(self.alloc);

@@ -1,4 +1,4 @@
-use Rattle.std.proofs.Common.{◌≡◌, [], ◌∷◌, Some, IfSome, refl, sym, ap, ◌∙◌, subst}
+use Rattle.std.proofs.Common.{◌≡◌, Some, IfSome, refl, sym, ap, ◌∙◌, subst}
 use Rattle.std.specs.Option.{ForSome}
 use Rattle.fw_disk.specs.Told.{told_by, digests_in, HasDigestsOf}
 use Rattle.fw_disk.specs.declared.claim.Wanted.TheVariants.{AsLeft}

@@ -9,7 +9,7 @@ use Rattle.fw_flow_text.specs.Grammar as flows
 use Rattle.fw_flow_text.proofs.ReadLaws.{one_flow}
 use Rattle.fw_keep.specs.Stored.{Records, IsEmptyStore}
 use Rattle.fw_generate.specs.Texts.{Texts}
-use Rattle.fw_command.specs.Command.{TextNames}
+use Rattle.fw_command.specs.Command.{Command, TextNames, by_lines, run}
 use Rattle.fw_command.specs.Texts.{spelled_items, spelled_system}
 use Rattle.fw_hold.specs.Chain.{Started, StartsLead}
 use Rattle.fw_hold.specs.Going.{HoldsFound}
@@ -17,9 +17,11 @@ use Rattle.fw_hold.specs.Kept.{Found, HoldsKeptPoint, kept_at_first, system_in}
 use Rattle.fw_hold.specs.Moves.{KeptPoint}
 use Rattle.fw_hold.specs.Starting.{MayStart}
 use Rattle.fw_run.specs.Answers.{Outside, Known}
+use Rattle.fw_run.specs.Call.{KeepsFolder}
+use Rattle.fw_run.specs.declared.status.Status.{Status}
 use Rattle.fw_run.specs.Headline.{AreOneRightRun}
-use Rattle.fw_run.specs.Held.{EndsHeld, GoesOnFrom, HasStarted, IsNoStart}
-use Rattle.fw_run.specs.HeldCalls.{AreCallsOver, AreStartsOf, CallsAreOneRun, DoOneRun, EmptyHoldsNoStart, HeldCall, IsCallOf, IsCallOver, LaterCallMayBegin, no_starts}
+use Rattle.fw_run.specs.Held.{EndsHeld, GoesOnFrom, HasStarted, HeldAnswers, IsNoStart}
+use Rattle.fw_run.specs.HeldCalls.{AnswersAreOfViews, AreCallsOver, AreStartsOf, CallsAreOneRun, DoOneRun, EmptyHoldsNoStart, HeldCall, IsCallOf, IsCallOver, LaterCallMayBegin, folder_view_of, known_of_views, no_starts, view_of}
 use Rattle.fw_run.specs.HeldTexts.{AreHeldTexts, HoldsEarlier, EarlierStarts, held_texts}
 use Rattle.fw_run.proofs.HeadlineLaws.{texts-headline}
 use Rattle.fw_run.proofs.HeldLaws.{earlier-empty}
@@ -103,7 +105,7 @@ did {F} {K} {O} known names flow texts records earlier (call ∷ calls) few left
         → Did known flow texts earlier (call ∷ calls)
     by (inl n) others =
         let d = others earlier (omega (arith, few)) (no_start-left known flow texts earlier call n here) in
-        record { starts = d.starts; last = d.last; made = inl (n.out, d.made); lead = d.lead }
+        record { starts = d.starts; last = d.last; made = inl (n, d.made); lead = d.lead }
     by (inr s) others =
         let ends = went_on known names flow texts earlier call c.told c.read s in
         let goes = ends.goes_on earlier here c.tells in
@@ -129,3 +131,56 @@ calls-one_run known names flow texts calls a few made =
       lead = d.lead;
       one = (texts-headline texts flow (spelled_items flow texts) a).held d.starts d.last lead;
     }
+
+-- ---- what is known of calls
+
+folder-view : {F K O : Type 0} (known : Known F K O) (before after : Outside F K O) → after.folder ≡ before.folder → (view_of known after).folder ≡ (view_of known before).folder
+folder-view known before after e = ap (folder_view_of known) e
+
+ends-views : {F K O : Type 0} (known : Known F K O) (flow : Dataflow) (texts : Texts) (before : Outside F K O) (status : Status) (after : Outside F K O)
+    → EndsHeld known flow texts before status after → EndsHeld known_of_views flow texts (view_of known before) status (view_of known after)
+ends-views known flow texts before status after e = record {
+  goes_on = e.goes_on;
+  foreign = λ is tells. let f = e.foreign is tells in (f.0, ap known.out f.1, f.2);
+  foreign_root = e.foreign_root;
+  damaged_root = e.damaged_root;
+  damaged = e.damaged;
+  of_root = λ of. let r = e.of_root of in (ap known.out r.0, r.1);
+}
+
+start-views : {F K O : Type 0} (known : Known F K O) (names : TextNames) (before : Outside F K O) (status : Status) (after : Outside F K O)
+    → IsNoStart before status after ⊎ HasStarted known names before status after
+    → IsNoStart (view_of known before) status (view_of known after) ⊎ HasStarted known_of_views names (view_of known before) status (view_of known after)
+start-views known names before status after (inl n) = inl (record { unread = n.unread; out = ap known.out n.out; store = ap known.store n.store })
+start-views known names before status after (inr s) = inr (record {
+  flow = s.flow;
+  texts = s.texts;
+  read = s.read;
+  is_end = s.is_end;
+  ends = ends-views known s.flow s.texts before status after s.ends;
+})
+
+keeps-views : {F K O : Type 0} (known : Known F K O) (command : Option Command) (before : Outside F K O) (status : Status) (after : Outside F K O)
+    → KeepsFolder known.texts known.fetches command status before.folder after.folder
+    → KeepsFolder known_of_views.texts known_of_views.fetches command status (view_of known before).folder (view_of known after).folder
+keeps-views known command before status after k = record {
+  texts_stay = k.texts_stay;
+  nothing_read = λ none. folder-view known before after (k.nothing_read none);
+  asked_no_more = λ asked is. elim (k.asked_no_more asked is) [
+    | inl same ↦ inl (same.0, folder-view known before after same.1)
+    | inr more ↦ inr more
+  ];
+}
+
+pub answers-views : {F K O : Type 0} (known : Known F K O) → AnswersAreOfViews known
+answers-views known names before status after a = record {
+  start = start-views known names before status after a.start;
+  refused = a.refused;
+  read_fault = a.read_fault;
+  folder = keeps-views known (Some (run by_lines names)) before status after a.folder;
+  store_count = a.store_count;
+  out_count = a.out_count;
+  never_fall = a.never_fall;
+  told_before = a.told_before;
+  answer = a.answer;
+}

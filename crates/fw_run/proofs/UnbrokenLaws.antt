@@ -9,13 +9,16 @@ use Rattle.fw_model.specs.Auto.{auto_steps, AreIdle, IsAutoRun, IsFirstEnabled}
 use Rattle.fw_model.specs.Machine.{Machine, first_state}
 use Rattle.fw_model.specs.Steps.{Effect, Outcome, did, idle, LeadsTo, Run, StepsTo}
 use Rattle.fw_running.specs.EffectText.{effect_text}
+use Rattle.fw_command.specs.Texts.{spelled_items, spelled_system}
 use Rattle.fw_hold.specs.Going.{AreForward}
 use Rattle.fw_hold.specs.Kept.{kept_at_first, system_in}
 use Rattle.fw_hold.specs.Moves.{Move, restored, turned, passed, ended_early, SchedulePoint, KeptPoint, past_item, with_step, with_idle_step, after_single, DoesSingle, EndsEarly, PassesItem, MakesAll, kept_after, moves_text, point_at_first}
 use Rattle.fw_hold.proofs.GoingLaws.{drop_next, next_item}
+use Rattle.fw_run.specs.HeldTexts.{held_texts}
 use Rattle.fw_run.specs.Items.{ComesTo}
 use Rattle.fw_run.specs.Printed.{done_line, idle_count, outcomes_text}
-use Rattle.fw_run.specs.Unbroken.{UnbrokenIsRun}
+use Rattle.fw_run.specs.Unbroken.{FirstHoldIsRun, UnbrokenIsRun}
+use Rattle.fw_run.proofs.HeldTextLaws.{held-spelled}
 
 -- ---- what is left of items
 
@@ -225,6 +228,34 @@ unbroken_is_run texts starts counts records before after s =
         run = r.run;
         text = ap (λ t. t ++ done_line counts.steps counts.idle) (s.opened.0 ∙ sym r.lines)
             ∙ ap (λ n. outcomes_text sys.flow r.outcomes ++ done_line n counts.idle) (sym steps)
+            ∙ ap (λ n. outcomes_text sys.flow r.outcomes ++ done_line (length r.outcomes) n) (sym idles);
+      },
+    )
+
+-- ---- the call
+
+pub first_hold-run : FirstHoldIsRun
+first_hold-run flow texts records before after goes =
+    let sys = spelled_system flow texts in
+    let items = spelled_items flow texts in
+    let on = goes.on in
+    let all = goes.wrote.0 in
+    let same : system_in (held_texts flow texts) ≡ sys = held-spelled flow texts in
+    let made : MakesAll sys items (kept_at_first sys) (point_at_first sys) on.moves on.now on.last =
+    subst (λ (s : System). MakesAll sys items (kept_at_first s) (point_at_first s) on.moves on.now on.last) same on.made in
+    let r = left-runs sys items (kept_at_first sys) (point_at_first sys) on.moves on.now on.last all.restored made all.none_left in
+    let steps : length r.outcomes ≡ on.last.steps = omega (arith, r.counted) in
+    let idles : idle_count r.outcomes ≡ on.last.idle = omega (arith, r.idles) in (
+      on.text ++ done_line on.last.steps on.last.idle,
+      goes.wrote.1,
+      record {
+        steps = r.steps;
+        last = on.last.state;
+        comes = left-all sys (first_state sys) items r.steps on.last.state r.comes;
+        outcomes = r.outcomes;
+        run = r.run;
+        text = ap (λ t. t ++ done_line on.last.steps on.last.idle) (all.opened ∙ sym r.lines)
+            ∙ ap (λ n. outcomes_text sys.flow r.outcomes ++ done_line n on.last.idle) (sym steps)
             ∙ ap (λ n. outcomes_text sys.flow r.outcomes ++ done_line (length r.outcomes) n) (sym idles);
       },
     )

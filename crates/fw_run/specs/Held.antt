@@ -112,7 +112,8 @@ pub record EndsHeld {F K O : Type 0} (known : Known F K O) (flow : Dataflow) (te
   -- 9 `damaged root`: the store, which does not tell its records, gave under the id, which is one of a root, bytes that are none.
   pub damaged_root : (id : ℕ) → status ≡ DamagedRoot id
       → GaveNoRoot (held_texts flow texts) id (known.store after.store).given × (TellsRecords known after → ⊥)
-  -- 9 `damaged record`: the store, which does not tell its records, gave bytes under the id, and they spell no record of what is there.
+  -- 9 `damaged record`: the store, which does not tell its records, gave bytes under the id last. That these spell no record of a write is not
+  -- said here.
   pub damaged : (id : ℕ) → status ≡ Damaged id → GaveBytes id (known.store after.store).given × (TellsRecords known after → ⊥)
   -- 9 `damaged root` and 11, whatever the store tells: nothing was written, and the store has what it had.
   pub of_root : TellsOfRoot status

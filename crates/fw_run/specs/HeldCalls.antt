@@ -1,6 +1,7 @@
 -- Calls of `hold` with the same texts, one after another over one store that tells its records.
 use Rattle.std.specs.Prelude.{◌≡◌, ◌⊎◌, ℕ, ◌+◌, ◌^◌, ◌<◌, List, [], ◌∷◌, length, Option, Some, IsSome}
 use Rattle.std.specs.FinMap as map
+use Rattle.fw_outside.specs.Outside.{SinkView, StoreView}
 use Rattle.fw_flow.specs.Dataflow.{Dataflow}
 use Rattle.fw_keep.specs.Stored.{Records, IsEmptyStore}
 use Rattle.fw_generate.specs.Laws.{AreAccepted}
@@ -12,9 +13,9 @@ use Rattle.fw_hold.specs.Chain.{Started, StartsLead}
 use Rattle.fw_hold.specs.Kept.{Found, no_root, kept_at_first, system_in}
 use Rattle.fw_hold.specs.Moves.{KeptPoint}
 use Rattle.fw_run.specs.declared.status.Status.{Status}
-use Rattle.fw_run.specs.Answers.{Outside, Known, TellsRecords}
+use Rattle.fw_run.specs.Answers.{Outside, Known, TellsRecords, outside_of}
 use Rattle.fw_run.specs.Headline.{AreOneRightRun}
-use Rattle.fw_run.specs.Held.{GoesOnFrom, HeldAnswers}
+use Rattle.fw_run.specs.Held.{GoesOnFrom, HeldAnswers, IsNoStart}
 use Rattle.fw_run.specs.HeldTexts.{AreHeldTexts, HoldsEarlier, EarlierStarts, MayBegin, held_texts}
 
 -- ---- over which stores a start may begin
@@ -65,11 +66,11 @@ pub record IsCallOf {F K O : Type 0} (known : Known F K O) (flow : Dataflow) (te
   pub moves : goes.on.moves ≡ start.moves
   pub now : goes.on.now ≡ start.now
 
--- These are the starts that the calls made: each call made the next one, or none, and wrote nothing.
+-- These are the starts that the calls made: each call made the next one, or no start was made.
 abbrev pub AreStartsOf : {F K O : Type 0} → Known F K O → Dataflow → Texts → EarlierStarts → List (HeldCall F K O) → List Started → Type 0
 AreStartsOf known flow texts earlier [] starts = starts ≡ []
 AreStartsOf known flow texts earlier (call ∷ calls) starts =
-    ((call.after.out ≡ call.before.out) × AreStartsOf known flow texts earlier calls starts)
+    (IsNoStart call.before call.status call.after × AreStartsOf known flow texts earlier calls starts)
     ⊎ ((start : Started) × (others : List Started) × (found : Found) × (starts ≡ start ∷ others) × IsCallOf known flow texts earlier start call
     × AreStartsOf known flow texts (record { many = earlier.many + 1; found = found; kept = start.now }) calls others)
 
@@ -86,3 +87,35 @@ pub record DoOneRun {F K O : Type 0} (known : Known F K O) (flow : Dataflow) (te
 abbrev pub CallsAreOneRun : {F K O : Type 0} → Known F K O → Type 0
 CallsAreOneRun {F} {K} {O} known = (names : TextNames) (flow : Dataflow) (texts : Texts) (calls : List (HeldCall F K O)) → AreAccepted texts flow
     → length calls < 2 ^ 61 → AreCallsOver known names flow texts (Some map.empty) calls → DoOneRun known flow texts (no_starts flow texts) calls
+
+-- ---- calls over folders, stores and outputs of any types
+
+-- what is known of a folder: its texts, where it tells them, how often it was asked and how often it failed
+pub record FolderView : Type 0 where
+  pub texts : Option (List ℕ → Option (List ℕ))
+  pub fetches : ℕ
+  pub read_faults : ℕ
+
+abbrev pub folder_view_of : {F K O : Type 0} → Known F K O → F → FolderView
+folder_view_of known folder =
+    record { texts = known.texts folder; fetches = known.fetches folder; read_faults = known.read_faults folder }
+
+-- what is known of what is outside of a call
+abbrev pub view_of : {F K O : Type 0} → Known F K O → Outside F K O → Outside FolderView StoreView SinkView
+view_of known outside = outside_of (folder_view_of known outside.folder) (known.store outside.store) (known.out outside.out)
+
+-- of views all is known
+abbrev pub known_of_views : Known FolderView StoreView SinkView
+known_of_views = record {
+  texts = λ (folder : FolderView). folder.texts;
+  fetches = λ (folder : FolderView). folder.fetches;
+  read_faults = λ (folder : FolderView). folder.read_faults;
+  store = λ (store : StoreView). store;
+  out = λ (out : SinkView). out;
+}
+
+-- What is promised of a call of `hold` is promised of what is known of it. So calls over folders, stores and outputs of different types can
+-- stand in one list, where each store holds what the one before it told at the end.
+abbrev pub AnswersAreOfViews : {F K O : Type 0} → Known F K O → Type 0
+AnswersAreOfViews {F} {K} {O} known = (names : TextNames) (before : Outside F K O) (status : Status) (after : Outside F K O)
+    → HeldAnswers known names before status after → HeldAnswers known_of_views names (view_of known before) status (view_of known after)

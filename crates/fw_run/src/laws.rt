@@ -1,8 +1,8 @@
 //! The laws of what is printed: each function's `ensures` is one law, and its body is empty.
 ghost use Rattle.fw_run.specs.Answers.{known_by};
-ghost use Rattle.fw_run.specs.HeldCalls.{CallsAreOneRun, EmptyHoldsNoStart, LaterCallMayBegin};
+ghost use Rattle.fw_run.specs.HeldCalls.{AnswersAreOfViews, CallsAreOneRun, EmptyHoldsNoStart, LaterCallMayBegin, known_of_views};
 ghost use Rattle.fw_run.specs.TellingMore.{ExplainIsRun, ExplainPrintsReasons, LinesAreOne, RunPrintsMachine};
-ghost use Rattle.fw_run.specs.Unbroken.{UnbrokenIsRun};
+ghost use Rattle.fw_run.specs.Unbroken.{FirstHoldIsRun, UnbrokenIsRun};
 
 use fw_outside::{Folder, Sink, Store};
 
@@ -42,7 +42,23 @@ pub fn calls_are_one_run<F: Folder, K: Store, O: Sink>()
     ensures { CallsAreOneRun (known_by F.texts F.fetch_count F.fault_count K.view O.view) }
 {}
 
+/// What is promised of a call of `hold` is promised of what is known of its folder, its store and its output.
+pub fn answers_are_of_views<F: Folder, K: Store, O: Sink>()
+    ensures { AnswersAreOfViews (known_by F.texts F.fetch_count F.fault_count K.view O.view) }
+{}
+
+/// Calls of `hold` with the same texts are one run of the machine also where their folders, stores and outputs are of different types, as
+/// stores on disk are that were opened over what others left: where each call's store holds what the one before told at its end.
+pub fn calls_of_any_are_one_run()
+    ensures { CallsAreOneRun known_of_views }
+{}
+
 /// What a start of a held run prints that finds no root, and is taken to its end, is what `run` prints of the same texts.
 pub fn unbroken_hold_is_run()
     ensures { UnbrokenIsRun }
+{}
+
+/// What a call of `hold` prints that finds nothing kept, and ends at 0, is what `run` prints of the same texts.
+pub fn first_hold_is_run()
+    ensures { FirstHoldIsRun }
 {}

@@ -1,7 +1,7 @@
 use Rattle.std.proofs.Common.{◌≡◌, Some, None, sym, ◌∙◌, subst}
 use Rattle.std.proofs.lemmas.Option.{same_Some}
 use Rattle.fw_command.specs.Command.{TextNames}
-use Rattle.fw_command.specs.Words.{held_of, text_names_in, words_in}
+use Rattle.fw_command.specs.Words.{text_names_in, words_in}
 use Rattle.fw_run.proofs.HeldLaws.{empty_of-begin, may_hold-begin}
 use Rattle.fw_run.specs.Answers.{known_by, outside_of}
 use Rattle.fw_run.specs.Held.{HeldAnswers}

@@ -1,4 +1,4 @@
-use Rattle.std.proofs.Common.{rules, ◌≡◌, Ok, Err, refl, sym, ap, subst}
+use Rattle.std.proofs.Common.{rules, refl, sym, subst}
 use Rattle.fw_command.specs.declared.reading.JobFault.TheVariants as job
 use Rattle.fw_command.specs.Command.{by_lines, run}
 use Rattle.fw_command.specs.Words.{text_names_in}

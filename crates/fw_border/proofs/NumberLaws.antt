@@ -1,9 +1,11 @@
 -- Frontiers of epochs and numbers, and what is listed by epoch.
-use Rattle.std.proofs.Common.{◌≡◌, ℕ, zero, suc, ◌+◌, ◌-◌, ◌<◌, Bool, true, false, not, nat_lt, nat_le, List, [], ◌∷◌, length, filter, map, min, Option, Some, None, refl, sym, ap, ◌∙◌, inl, inr, arith}
+use Rattle.std.proofs.Common.{◌≡◌, ℕ, zero, suc, ◌+◌, ◌-◌, ◌<◌, ◌^◌, if◌then◌else◌, Bool, true, false, not, nat_lt, nat_le, List, [], ◌∷◌, ◌++◌, length, filter, map, set, min, Option, Some, None, refl, sym, ap, ◌∙◌, inl, inr, arith}
 use Rattle.std.specs.List.{enumerate_from, range_with_len}
 use Rattle.std.specs.Map.{lookup}
 use Rattle.std.specs.Prelude.{slice_get, ◌==◌}
-use Rattle.std.proofs.lemmas.Bool.{cond-true, cond-false, cases_Bool, ltb-true, ltb-false, eqb-true, eqb-false}
+use Rattle.std.proofs.lemmas.Bool.{and_from, cond-true, cond-false, cases_Bool, lt-ltb, ltb-true, ltb-false, eqb-true, eqb-false}
+use Rattle.std.proofs.lemmas.List.{length-map}
+use Rattle.std.proofs.lemmas.List.FromFn.{length-enumerate_from}
 use Rattle.std.proofs.Math.Bool.{and-false}
 use Rattle.std.proofs.lemmas.Simd.{map-map}
 use Rattle.fw_time.specs.Stamp.{Stamp, leq}
@@ -14,7 +16,7 @@ use Rattle.fw_bag.specs.declared.rec.Rec.{Rec}
 use Rattle.fw_flow.specs.Dataflow.{Dataflow, node_ids, batches_of_nodes}
 use Rattle.fw_lines.specs.Batches.{batches_at, recs_of_bags}
 use Rattle.fw_border.specs.Numbers.{is_number_below}
-use Rattle.fw_border.specs.Sources.{epochs_inside, unused_source}
+use Rattle.fw_border.specs.Sources.{SourceState, epochs_inside, unused_source, without_last, fed_source, can_be_fed, fed_batch}
 
 -- a stamp of another number of coordinates is not at most a number
 pub leq_other : (o : Stamp) (x : ℕ) → (length o ≡ 1 → ⊥) → leq o (x ∷ []) ≡ false
@@ -94,6 +96,43 @@ held_at x n (suc i) (b ∷ bs) e = elim (cases_Bool (x == n)) [
   | inl t ↦ let s = eqb-true x n t in absurd (omega arith)
   | inr f ↦ cond-false (x == n) (Some b) (lookup (λ y. x == y) (enumerate_from (n + 1) bs)) f ∙ held_at x (n + 1) i bs (omega arith)
 ]
+
+-- a batch is put in the place of the last one, with another one behind it
+pub last-replaced : (n i : ℕ) (bags : List BagState) (batch behind : BagState) → length bags ≡ suc i
+    → enumerate_from n (recs_of_bags (set (bags ++ behind ∷ []) i batch))
+    ≡ without_last (enumerate_from n (recs_of_bags bags)) ++ enumerate_from (n + i) (batch.recs ∷ behind.recs ∷ [])
+last-replaced n i [] batch behind e = absurd (omega arith)
+last-replaced n zero (b ∷ []) batch behind e =
+    let k : n ≡ n + 0 = omega arith in ap (λ k. enumerate_from k (batch.recs ∷ behind.recs ∷ [])) k
+last-replaced n zero (b ∷ c ∷ bs) batch behind e = absurd (omega arith)
+last-replaced n (suc i) (b ∷ []) batch behind e = absurd (omega arith)
+last-replaced n (suc i) (b ∷ c ∷ bs) batch behind e =
+    let k : n + 1 + i ≡ n + suc i = omega arith in
+    ap (λ es. (n, b.recs) ∷ es) (last-replaced (n + 1) i (c ∷ bs) batch behind (omega arith)
+    ∙ ap (λ k. without_last (enumerate_from (n + 1) (recs_of_bags (c ∷ bs))) ++ enumerate_from k (batch.recs ∷ behind.recs ∷ [])) k)
+
+abbrev view_of : ℕ → ℕ → ℕ → List (List Rec) → SourceState
+view_of given injected first batches = record { given = given; injected = injected; held = enumerate_from first batches }
+
+-- so a source is fed
+pub fed-view : (given injected first i : ℕ) (bags : List BagState) (batch behind : BagState) → behind.recs ≡ [] → length bags ≡ suc i
+    → given ≡ first + length bags → given < 2 ^ 64 - 1 → (source : SourceState)
+    → view_of given injected first (recs_of_bags bags) ≡ source
+    → view_of (given + 1) injected first (recs_of_bags (set (bags ++ behind ∷ []) i batch)) ≡ fed_batch batch.recs source
+fed-view given injected first i bags batch behind none some all room source is =
+    let batches = recs_of_bags bags in
+    let kept = without_last (enumerate_from first batches) in
+    let old : SourceState = record { given = given; injected = injected; held = enumerate_from first batches } in
+    let last : first + i ≡ given - 1 = omega arith in
+    let many : length (enumerate_from first batches) ≡ suc i = length-enumerate_from first batches ∙ length-map bags (λ (b : BagState). b.recs) ∙ some in
+    let can : can_be_fed old ≡ true =
+    and_from (nat_lt 0 (length (enumerate_from first batches))) (nat_lt given (2 ^ 64 - 1)) (lt-ltb 0 (length (enumerate_from first batches)) (omega arith)) (lt-ltb given (2 ^ 64 - 1) room) in
+    let new : List (ℕ × List Rec) → SourceState = λ es. record { given = given + 1; injected = injected; held = es } in
+    ap new (last-replaced first i bags batch behind some
+    ∙ ap (λ recs. kept ++ enumerate_from (first + i) (batch.recs ∷ recs ∷ [])) none
+    ∙ ap (λ n. kept ++ enumerate_from n (batch.recs ∷ [] ∷ [])) last)
+    ∙ sym (ap (λ (b : Bool). if b then fed_source batch.recs ([] ∷ []) old else old) can)
+    ∙ ap (fed_batch batch.recs) is
 
 -- ---- the inputs of a flow
 

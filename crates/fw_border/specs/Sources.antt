@@ -1,5 +1,5 @@
 -- What is kept of the inputs of a dataflow.
-use Rattle.std.specs.Prelude.{ℕ, ◌+◌, not, nat_lt, ◌==◌, if◌then◌else◌, List, [], ◌∷◌, length, filter, Option, slice_index_or, slice_set}
+use Rattle.std.specs.Prelude.{ℕ, ◌+◌, ◌-◌, ◌^◌, Bool, not, ◌&&◌, nat_lt, ◌==◌, if◌then◌else◌, List, [], ◌∷◌, ◌++◌, length, filter, Option, slice_index_or, slice_set}
 use Rattle.std.specs.List.{enumerate_from, range_with_len}
 use Rattle.std.specs.Map.{lookup}
 use Rattle.fw_bag.specs.declared.rec.Rec.{Rec}
@@ -46,3 +46,25 @@ rolled_source (At f) source = record source { injected = epochs_inside f source.
 -- without the batches of the epochs inside
 abbrev pub given_up : Front → SourceState → SourceState
 given_up f source = record source { held = filter (λ batch. not (inside f (batch.0 ∷ []))) source.held }
+
+-- all but the last
+abbrev pub without_last : {X : Type 0} → List X → List X
+without_last [] = []
+without_last (x ∷ []) = []
+without_last (x ∷ y ∷ xs) = x ∷ without_last (y ∷ xs)
+
+-- what is kept of a source that is fed a batch, which takes the place of its last one, with these behind it
+abbrev pub fed_source : List Rec → List (List Rec) → SourceState → SourceState
+fed_source recs behind source = record {
+  given = source.given + length behind;
+  injected = source.injected;
+  held = without_last source.held ++ enumerate_from (source.given - 1) (recs ∷ behind);
+}
+
+-- whether another batch can take the place of the last one: it is held, and there can be one more
+abbrev pub can_be_fed : SourceState → Bool
+can_be_fed source = nat_lt 0 (length source.held) && nat_lt source.given (2 ^ 64 - 1)
+
+-- with this batch in the place of the last one, and an empty one behind it, where that can be
+abbrev pub fed_batch : List Rec → SourceState → SourceState
+fed_batch recs source = if can_be_fed source then fed_source recs ([] ∷ []) source else source

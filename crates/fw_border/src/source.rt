@@ -1,10 +1,10 @@
 //! The batches of one input.
-ghost use Rattle.std.specs.Prelude.{◌≡◌, ◌+◌, ◌^◌, ◌<◌, ◌≤◌, not, length, filter, IfOk};
+ghost use Rattle.std.specs.Prelude.{◌≡◌, ◌+◌, ◌^◌, ◌<◌, ◌≤◌, not, length, filter, IfOk, IsErr, OnOk};
 ghost use Rattle.std.specs.Option.{option_map};
 ghost use Rattle.std.specs.List.{enumerate_from};
 ghost use Rattle.fw_lines.specs.Batches.{recs_of_bags};
 ghost use Rattle.fw_border.specs.Numbers as numbers;
-ghost use Rattle.fw_border.specs.Sources.{epochs_inside, unused_source, next_batch, advanced, rolled_source, given_up};
+ghost use Rattle.fw_border.specs.Sources.{epochs_inside, unused_source, next_batch, advanced, rolled_source, given_up, can_be_fed, fed_batch};
 
 use crate::number::{first_outside, is_below};
 use fw_bag::Bag;
@@ -65,6 +65,23 @@ impl Source {
         if self.injected < self.given {
             self.injected += 1;
         }
+    }
+
+    /// The batch takes the place of the last one, and an empty one is behind it, if the last one is held and there can be one more: whether
+    /// that is so is told. The error is want of memory; then nothing changes.
+    pub fn feed(&mut self, alloc: Global, batch: Bag) -> Result<bool, AllocError>
+        ensures told { IfOk result (λ was_fed. was_fed ≡ can_be_fed self.old) }
+        ensures fed { OnOk result (self.new ≡ fed_batch batch.recs self.old) }
+        ensures stays { IsErr result → self.new ≡ self.old }
+    {
+        if self.held.is_empty() || self.given == u64::MAX {
+            return Ok(false);
+        }
+        let last = self.held.len() - 1;
+        self.held.push_back(Bag::new(alloc))?;
+        self.held[last] = batch;
+        self.given += 1;
+        Ok(true)
     }
 
     /// How many batches were injected.

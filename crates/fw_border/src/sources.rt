@@ -1,8 +1,8 @@
 //! The batches of the inputs.
-ghost use Rattle.std.specs.Prelude.{◌≡◌, ◌≤◌, IfOk, map};
+ghost use Rattle.std.specs.Prelude.{◌≡◌, ◌≤◌, IfOk, IsErr, OnOk, map};
 ghost use Rattle.std.specs.Option.{option_map};
 ghost use Rattle.fw_flow.specs.Dataflow.{batches_of_nodes};
-ghost use Rattle.fw_border.specs.Sources.{unused_source, source_at, with_source, next_batch, advanced, rolled_source, given_up};
+ghost use Rattle.fw_border.specs.Sources.{unused_source, source_at, with_source, next_batch, advanced, rolled_source, given_up, can_be_fed, fed_batch};
 
 use crate::source::Source;
 use fw_bag::Bag;
@@ -15,7 +15,7 @@ use std::marker::Model;
 /// The batches of the inputs of a dataflow: those that are not given up, and how many of each input were injected.
 ///
 /// Contracts see for each node how many batches it was given, how many were injected, and those held by epoch. A node that
-/// has no batches is as an input without any, and past the last node a call changes nothing. No call but `new` takes memory.
+/// has no batches is as an input without any, and past the last node a call changes nothing. No call but `new` and `feed` takes memory.
 #[derive(Debug, Drop)]
 pub struct Sources {
     sources: Vec<Source>,
@@ -56,6 +56,19 @@ impl Sources {
     {
         if let Some(source) = self.sources.get_mut(source.place() as usize) {
             source.advance();
+        }
+    }
+
+    /// An input's last batch gives its place to this one, and an empty one is behind it, if the last one is held and there can be one more:
+    /// whether that is so is told. The error is want of memory; then nothing changes.
+    pub fn feed(&mut self, alloc: Global, source: NodeId, batch: Bag) -> Result<bool, AllocError>
+        ensures told { IfOk result (λ was_fed. was_fed ≡ can_be_fed (source_at self.old source)) }
+        ensures fed { OnOk result (self.new ≡ with_source (fed_batch batch.recs) self.old source) }
+        ensures stays { IsErr result → self.new ≡ self.old }
+    {
+        match self.sources.get_mut(source.place() as usize) {
+            Some(source) => source.feed(alloc, batch),
+            None => Ok(false),
         }
     }
 

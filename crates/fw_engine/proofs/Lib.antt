@@ -1,6 +1,7 @@
 pub mod AckLaws
 pub mod DrawnLaws
 pub mod EngineLaws
+pub mod FeedLaws
 pub mod FirstCallLaws
 pub mod FirstStepLaws
 pub mod HeldLaws
@@ -10,3 +11,4 @@ pub mod QuietLaws
 pub mod SearchLaws
 pub mod StableLaws
 pub mod TakenFirstLaws
+pub mod WithinLaws

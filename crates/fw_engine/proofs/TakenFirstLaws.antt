@@ -31,12 +31,12 @@ use Rattle.fw_running.specs.Places.{IsFirstWhere}
 use Rattle.fw_running.specs.Ready.{CanAcknowledge, CanDeliver, CanInject, IsOwing}
 use Rattle.fw_running.specs.ReadyState.{ReadyState}
 use Rattle.fw_running.specs.Stands.{Stands}
-use Rattle.fw_running.specs.Steps.{AnswersFirst, FirstMayCall, HasEager, IsUndamaged, TakesStep, Trusts, effect_of}
+use Rattle.fw_running.specs.Steps.{AnswersFirst, FirstMayCall, HasEager, IsUndamaged, TakesFirstStep, TakesStep, Trusts, effect_of}
 use Rattle.fw_events.specs.Noticing.{AnswersNotice, TakesNotice}
-use Rattle.fw_engine.specs.Searching.{with_ready, HasNoNotice, HasNotice, IsFirstNotified, IsSearched, NoneToPersist, TakesFirstAfter}
+use Rattle.fw_engine.specs.Searching.{with_ready, HasNoNotice, HasNotice, IsFirstNotified, IsSearched, NoneToPersist, IsAny, InjectsFirst, TakesFirstAfter}
 use Rattle.fw_engine.proofs.AckLaws.{acknowledges, idle-acknowledges}
 use Rattle.fw_engine.proofs.FirstCallLaws.{delivery-calls, notification-calls, progress-calls}
-use Rattle.fw_engine.proofs.FirstStepLaws.{first_answers, ready_stands}
+use Rattle.fw_engine.proofs.FirstStepLaws.{earlier_answers, first_answers, ready_stands}
 
 -- ---- any step
 
@@ -49,12 +49,19 @@ abbrev pub ComesNext : (System → Machine → Type 0) → Step → Type 0
 ComesNext Earlier step = (sys : System) (state next : Machine) (effect : Effect) → Earlier sys state → LeadsTo sys state step next effect
     → TakesFirst sys state (auto_steps sys.flow) next (did effect)
 
+-- where the step is enabled, something comes before the injections
+abbrev pub ComesEarlier : Step → Type 0
+ComesEarlier step = (sys : System) (state next : Machine) (effect : Effect) → LeadsTo sys state step next effect → NoneToAcknowledge sys state → ⊥
+
 -- what a step shows is what the first one shows
 pub did-first : (Earlier : System → Machine → Type 0) (step : Step) (old new : Running) (before after : Option Records) (shown : Shown)
-    → ComesNext Earlier step → IsTrusted step → TakesStep old before step (Ok (Did shown)) new after → TakesFirstAfter Earlier old before (Ok (Did shown)) new after
-did-first Earlier step old new before after shown order trusted t = λ sys state s earlier.
-    let f = t sys state s (trusted sys state after) in
-    record { next = f.next; takes = order sys state f.next (effect_of shown) earlier f.steps; stands = f.stands }
+    → ComesNext Earlier step → ComesEarlier step → IsTrusted step → TakesStep old before step (Ok (Did shown)) new after
+    → TakesFirstAfter Earlier old before (Ok (Did shown)) new after
+did-first Earlier step old new before after shown order comes trusted t = λ sys state s earlier.
+    let f = t sys state s (trusted sys state after) in (
+      comes sys state f.next (effect_of shown) f.steps,
+      record { next = f.next; takes = order sys state f.next (effect_of shown) earlier f.steps; stands = f.stands },
+    )
 
 -- where a step is idle, a later one is the first
 pub idle-later : (Earlier Later : System → Machine → Type 0) (step : Step) (old mid new : Running) (before between after : Option Records)
@@ -83,7 +90,7 @@ from-err (Err x) e P i p = subst (λ (y : EngineFault). P (Err y)) (sym i) p
 -- ---- deliveries
 
 -- with other places an engine stands for the same states
-with_ready_stands : (sys : System) (state : Machine) (old new : Running) (records : Option Records) (ready : ReadyState) → new ≡ with_ready ready old
+pub with_ready_stands : (sys : System) (state : Machine) (old new : Running) (records : Option Records) (ready : ReadyState) → new ≡ with_ready ready old
     → Stands sys old records state → Stands sys new records state
 with_ready_stands sys state old new records ready is s =
     subst (λ (r : Running). Stands sys r records state) (sym is) (ready_stands sys state old records ready s)
@@ -119,8 +126,9 @@ deliver-first old mid ready new before after e result is first sound full t = λ
     let l : e < length sys.flow.edges = subst (λ (flow : Dataflow). e < length flow.edges) s.apart.flow can.there in
     let d = delivered sys old before state s e l (queued sys state e) refl (λ nothing. can.some (s.apart.queues e l ∙ nothing)) in
     let below : AreIdleBelow sys state delivery e = λ i k. no_delivery sys old before state s i (omega (arith, k, l)) (first.1 i k) in
-    first_answers sys state d.0 (Deliver e None) d.1 result new after d.2
-    (λ next shown leads. deliveries-next sys state none e l below next shown leads) tt (λ P left. left.1) sound
+    earlier_answers sys state d.0 (Deliver e None) d.1 result new after d.2
+    (λ next shown leads. deliveries-next sys state none e l below next shown leads)
+    (λ all. all.earlier.earlier.earlier.edges e l d.0 d.1 d.2) tt (λ P left. left.1) sound
     (λ failed. delivery-calls sys state none e l below d.0 d.1 d.2
     (subst (λ (flow : Dataflow). policy_of flow (receiver flow e) ≡ policy.Full) (ap (λ (r : Running). r.flow) is ∙ s.apart.flow) (full failed)))
     (t sys state (with_ready_stands sys state old mid before ready is s))
@@ -172,12 +180,14 @@ unfolding notified
 notify-first T old mid new before after p t x found n earlier taken = λ sys state s none.
     let leads = notified sys old before state s p t n in
     let l : p < length sys.flow.nodes = subst (λ (flow : Dataflow). p < length flow.nodes) s.apart.flow n.owing.there in
-    let below : AreIdleBelow sys state notification p = λ i k. no_notification sys old before state s i (omega (arith, k, l)) (earlier i k) in
-    record {
-      next = with_event sys state (Notified p t);
-      takes = notifications-next sys state none p l below (with_event sys state (Notified p t)) silent leads;
-      stands = taken sys state (searched_stands sys state old mid before found s) leads.2 leads.1.enabled;
-    }
+    let below : AreIdleBelow sys state notification p = λ i k. no_notification sys old before state s i (omega (arith, k, l)) (earlier i k) in (
+      λ all. all.earlier.earlier.nodes p l (with_event sys state (Notified p t)) silent leads,
+      record {
+        next = with_event sys state (Notified p t);
+        takes = notifications-next sys state none p l below (with_event sys state (Notified p t)) silent leads;
+        stands = taken sys state (searched_stands sys state old mid before found s) leads.2 leads.1.enabled;
+      },
+    )
 
 pub notify-err : (T : Type 0) (old mid new : Running) (before after : Option Records) (p : ℕ) (t : Stamp) (e : EngineFault) → IsSearched old mid
     → HasNotice old p t → ((q : ℕ) → q < p → HasNoNotice old q) → (IsErrOf {T = T} (Err e) fault.StoreFault → policy_of mid.flow p ≡ policy.Full)
@@ -207,22 +217,25 @@ acknowledge-first old mid ready new records o result is first numbered sound unf
     let can = first.0 in
     let l : o < length sys.flow.nodes = subst (λ (flow : Dataflow). o < length flow.nodes) s.apart.flow can.there in
     let below : AreIdleBelow sys state Ack o = λ i k. idle-acknowledges sys state old records i s (first.1 i k) in
-    first_answers sys state _ (Ack o) _ result new records (acknowledges sys state old records o s numbered can)
-    (λ next shown leads. acknowledgements-next sys state none o l below next shown leads) tt (λ P left. left.1) sound
+    let a = acknowledges sys state old records o s numbered can in
+    earlier_answers sys state _ (Ack o) _ result new records a
+    (λ next shown leads. acknowledgements-next sys state none o l below next shown leads)
+    (λ all. all.outputs o l _ _ a) tt (λ P left. left.1) sound
     (λ failed. absurd (unfaulted failed))
     (t sys state (with_ready_stands sys state old mid records ready is s))
 
-pub acknowledge-later : (old mid : Running) (ready : ReadyState) (new : Running) (records : Option Records) (result : Result Stepped EngineFault)
-    → mid ≡ with_ready ready old → IsFirstWhere (CanAcknowledge old) None → TakesFirstAfter NoneToAcknowledge mid records result new records
-    → TakesFirstAfter NoneToSettle old records result new records
-acknowledge-later old mid ready new records result is first later = λ sys state s none.
-    later sys state (with_ready_stands sys state old mid records ready is s)
-    (record { earlier = none; outputs = λ i k. idle-acknowledges sys state old records i s (first i) })
+-- where no output acknowledges, nothing comes before the injections
+pub acknowledge-none : (old new : Running) (ready : ReadyState) (records : Option Records) → new ≡ with_ready ready old
+    → IsFirstWhere (CanAcknowledge old) None → TakesFirstAfter NoneToSettle old records (Ok Idle) new records
+acknowledge-none old new ready records is first = λ sys state s none. (
+  record { earlier = none; outputs = λ i k. idle-acknowledges sys state old records i s (first i) },
+  with_ready_stands sys state old new records ready is s,
+)
 
 -- ---- injections
 
 -- an input that cannot inject is idle
-no_injection : (sys : System) (running : Running) (records : Option Records) (state : Machine) → Stands sys running records state
+pub no_injection : (sys : System) (running : Running) (records : Option Records) (state : Machine) → Stands sys running records state
     → (p : ℕ) → p < length sys.flow.nodes → (CanInject running p → ⊥) → IsIdle sys state (Inject p)
 no_injection sys running records state s p l none =
     injects-only sys s.apart.well_formed state s.apart.reached p (source_of running p) (λ input. s.apart.sources p l)
@@ -233,7 +246,7 @@ no_injection sys running records state s p l none =
       some = some;
     }))
 
-injected : (sys : System) (running : Running) (records : Option Records) (state : Machine) → Stands sys running records state
+pub injected : (sys : System) (running : Running) (records : Option Records) (state : Machine) → Stands sys running records state
     → (p : ℕ) → p < length sys.flow.nodes → is_input_kind (kind_of sys.flow p) ≡ true → is_failed state p ≡ false
     → (batch : Option (List Rec)) → next_batch (source_of running p) ≡ batch → batch ≢ None
     → (next : Machine) × (effect : Effect) × LeadsTo sys state (Inject p) next effect
@@ -244,7 +257,7 @@ injected sys running records state s p l input live (Some batch) is some =
 pub inject-first : (old mid : Running) (ready : ReadyState) (new : Running) (records : Option Records) (p : ℕ) (result : Result Stepped EngineFault)
     → mid ≡ with_ready ready old → IsFirstWhere (CanInject old) (Some p) → IsUndamaged result → (IsErrOf result fault.StoreFault → ⊥)
     → TakesStep mid records (Inject p) result new records
-    → TakesFirstAfter NoneToAcknowledge old records result new records
+    → InjectsFirst old records result new records
 inject-first old mid ready new records p result is first sound unfaulted t = λ sys state s none.
     let can = first.0 in
     let l : p < length sys.flow.nodes = subst (λ (flow : Dataflow). p < length flow.nodes) s.apart.flow can.there in
@@ -258,9 +271,26 @@ inject-first old mid ready new records p result is first sound unfaulted t = λ 
     (t sys state (with_ready_stands sys state old mid records ready is s))
 
 pub nothing-first : (old new : Running) (ready : ReadyState) (records : Option Records) → new ≡ with_ready ready old → IsFirstWhere (CanInject old) None
-    → TakesFirstAfter NoneToAcknowledge old records (Ok Idle) new records
+    → InjectsFirst old records (Ok Idle) new records
 nothing-first old new ready records is first = λ sys state s none. record {
   next = state;
   takes = nothing-taken sys state none (λ i k. no_injection sys old records state s i k (first i));
   stands = with_ready_stands sys state old new records ready is s;
 }
+
+-- ---- after what comes before the injections
+
+-- something that comes before the injections is the first step
+pub earlier-did : (old new : Running) (before after : Option Records) (shown : Shown) → TakesFirstAfter IsAny old before (Ok (Did shown)) new after
+    → TakesFirstStep old before (Ok (Did shown)) new after
+earlier-did old new before after shown t = λ sys state s. (t sys state s tt).1
+
+pub earlier-err : (old new : Running) (before after : Option Records) (e : EngineFault) → TakesFirstAfter IsAny old before (Err e) new after
+    → TakesFirstStep old before (Err e) new after
+earlier-err old new before after e t = λ sys state s. t sys state s tt
+
+-- where nothing does, the first injection is
+pub earlier-idle : (old mid new : Running) (before between after : Option Records) (result : Result Stepped EngineFault)
+    → TakesFirstAfter IsAny old before (Ok Idle) mid between → InjectsFirst mid between result new after → TakesFirstStep old before result new after
+earlier-idle old mid new before between after result t injects = λ sys state s.
+    let none = t sys state s tt in injects sys state none.1 none.0

@@ -15,6 +15,7 @@ use Rattle.fw_running.specs.declared.stepped.Stepped.{Stepped}
 use Rattle.fw_running.specs.declared.stepped.Stepped.TheVariants.{Idle}
 use Rattle.fw_running.specs.Drawn.{DrawsAtMost, may_draw}
 use Rattle.fw_running.specs.Faults.{faults_after_step, is_refusal}
+use Rattle.fw_running.specs.Fed.{FollowsFirstWithin}
 use Rattle.fw_running.specs.Stands.{Stands}
 use Rattle.fw_running.specs.Steps.{Follows, FollowsFirst, FirstMayCall, HasOutcome, IsDamage, IsLeftBy, IsStepEnabled, MayCallByItself, MayCallStore, Trusts, outcome_of}
 
@@ -126,6 +127,30 @@ pub record FirstAnswers {K : Type 0} (view : K → StoreView) (old : Engine) (be
   -- the first step that is enabled may call the store. Then the engine stands where it stood.
   pub faults : (view after).faults ≡ faults_after_step result (view before).faults
   pub calls : ForEachState old (view before).records (λ sys state. IsErrOf result fault.StoreFault → FirstMayCall sys state)
+  pub faulted : ForEachState old (view before).records (λ sys state. IsErrOf result fault.StoreFault → StandsFor sys new (view after).records state)
+  -- no record is damaged
+  pub unharmed : (id : ℕ) → IsErrOf result (fault.Damaged id) → ⊥
+  -- once memory is refused, each later step answers that
+  pub refused : IsErrOf result fault.NoMemory → was_refused new ≡ true
+  pub told : was_refused new ≡ is_refusal result
+  pub stays : IsTrue (was_refused old) → IsErrOf result fault.NoMemory
+
+-- What the first step that is enabled answers, where no input injects more batches than these.
+pub record WithinAnswers {K : Type 0} (view : K → StoreView) (old : Engine) (before : K) (came : ℕ → ℕ) (result : Result Stepped EngineFault)
+    (new : Engine) (after : K) : Type 0 where
+  pub stored : IsStored (keep_of new) (view after).records
+  pub flow : flow_of new ≡ flow_of old
+  pub in_order : AreAscending (ids_of (keep_of new).entries)
+  -- it goes from each state for which it stood as the machine does
+  pub ok : ForEachState old (view before).records (λ sys state.
+      IfOk result (λ stepped. FollowsFirstWithin sys came state (outcome_of stepped) new.running (view after).records))
+  pub tells : is_some (view after).records ≡ is_some (view before).records
+  pub quiet : (MayCallByItself (flow_of old) → ⊥) → after ≡ before
+  pub idle : result ≡ Ok Idle → after ≡ before
+  -- the store's count of faults rises by one at StoreFault, which comes only where a step that is taken by itself may call the store; then
+  -- the engine stands where it stood
+  pub faults : (view after).faults ≡ faults_after_step result (view before).faults
+  pub calls : IsErrOf result fault.StoreFault → MayCallByItself (flow_of old)
   pub faulted : ForEachState old (view before).records (λ sys state. IsErrOf result fault.StoreFault → StandsFor sys new (view after).records state)
   -- no record is damaged
   pub unharmed : (id : ℕ) → IsErrOf result (fault.Damaged id) → ⊥

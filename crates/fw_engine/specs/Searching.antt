@@ -1,5 +1,5 @@
 -- What a search of the places that are kept answers, and what the first step that is enabled makes of what an engine keeps.
-use Rattle.std.specs.Prelude.{◌≡◌, ℕ, ◌<◌, true, List, Option, Some, None, Result}
+use Rattle.std.specs.Prelude.{◌≡◌, ℕ, ◌<◌, true, List, Option, Some, None, Result, Ok, Err, slice_index_or}
 use Rattle.fw_time.specs.Stamp.{Stamp, in_domain}
 use Rattle.fw_flow.specs.declared.event.Event.{Event}
 use Rattle.fw_flow.specs.declared.step.Step.TheVariants.{Persist}
@@ -8,14 +8,19 @@ use Rattle.fw_model.specs.Auto.{IsIdle}
 use Rattle.fw_model.specs.Machine.{Machine}
 use Rattle.fw_keep.specs.Stored.{Records}
 use Rattle.fw_progress.specs.History.{StandsForHistory}
+use Rattle.fw_stands.specs.FirstSteps.{NoneToAcknowledge}
 use Rattle.fw_running.specs.declared.fault.EngineFault.{EngineFault}
+use Rattle.fw_running.specs.declared.fault.EngineFault.TheVariants as fault
 use Rattle.fw_running.specs.declared.running.Running.{Running}
 use Rattle.fw_running.specs.declared.stepped.Stepped.{Stepped}
+use Rattle.fw_running.specs.declared.stepped.Stepped.TheVariants.{Did, Idle}
+use Rattle.fw_running.specs.Fed.{FollowsFirstWithin}
+use Rattle.fw_running.specs.Kept.{source_of}
 use Rattle.fw_running.specs.Places.{place_limit}
-use Rattle.fw_running.specs.Ready.{IsOwing}
+use Rattle.fw_running.specs.Ready.{CanInject, IsOwing}
 use Rattle.fw_running.specs.ReadyState.{ReadyState}
 use Rattle.fw_running.specs.Stands.{Stands}
-use Rattle.fw_running.specs.Steps.{AnswersFirst}
+use Rattle.fw_running.specs.Steps.{AnswersFirst, outcome_of}
 use Rattle.fw_events.specs.Noticing.{FindsNotice}
 use Rattle.fw_engine.specs.declared.auto.Notice.{Notice}
 
@@ -79,11 +84,49 @@ IsFirstNotified running (Some first) = HasNotice running first.node first.at × 
 
 -- ---- what the first step answers
 
+-- of any system and state
+abbrev pub IsAny : System → Machine → Type 0
+IsAny sys state = Unit {0}
+
 -- no write can be acknowledged
 abbrev pub NoneToPersist : System → Machine → Type 0
 NoneToPersist sys state = IsIdle sys state Persist
 
--- the answer is that of the first step that is enabled, from each state for which the engine stood and in which nothing earlier is
+-- The answer is that of the first step that is enabled, but that no input injects: something comes before the injections where a step is
+-- taken, and where none is, nothing does.
+abbrev pub AnswersEarlier : System → Machine → Result Stepped EngineFault → Running → Option Records → Type 0
+AnswersEarlier sys state (Ok (Did shown)) new after = (NoneToAcknowledge sys state → ⊥) × AnswersFirst sys state (Ok (Did shown)) new after
+AnswersEarlier sys state (Ok Idle) new after = NoneToAcknowledge sys state × Stands sys new after state
+AnswersEarlier sys state (Err e) new after = AnswersFirst sys state (Err e) new after
+
+-- so it is from each state for which the engine stood and in which nothing earlier is enabled
 abbrev pub TakesFirstAfter : (System → Machine → Type 0) → Running → Option Records → Result Stepped EngineFault → Running → Option Records → Type 0
 TakesFirstAfter Earlier old before result new after =
-    (sys : System) (state : Machine) → Stands sys old before state → Earlier sys state → AnswersFirst sys state result new after
+    (sys : System) (state : Machine) → Stands sys old before state → Earlier sys state → AnswersEarlier sys state result new after
+
+-- where nothing comes before the injections, the answer is that of the first step that is enabled
+abbrev pub InjectsFirst : Running → Option Records → Result Stepped EngineFault → Running → Option Records → Type 0
+InjectsFirst old before result new after =
+    (sys : System) (state : Machine) → Stands sys old before state → NoneToAcknowledge sys state → AnswersFirst sys state result new after
+
+-- ---- where no input injects more batches than these
+
+-- node s is an input that is not failed, has a batch to inject, and injected fewer than these
+abbrev pub CanInjectWithin : List ℕ → Running → ℕ → Type 0
+CanInjectWithin came running s = CanInject running s × ((source_of running s).injected < slice_index_or came s 0)
+
+-- the answer is that of the first step that is enabled then; where the store fails, the engine stands where it stood
+abbrev pub AnswersWithin : List ℕ → System → Machine → Result Stepped EngineFault → Running → Option Records → Type 0
+AnswersWithin came sys state (Ok stepped) new after = FollowsFirstWithin sys (λ s. slice_index_or came s 0) state (outcome_of stepped) new after
+AnswersWithin came sys state (Err fault.StoreFault) new after = Stands sys new after state
+AnswersWithin came sys state (Err (fault.Damaged id)) new after = ⊥
+AnswersWithin came sys state (Err fault.NoMemory) new after = Unit {0}
+
+abbrev pub TakesFirstWithin : List ℕ → Running → Option Records → Result Stepped EngineFault → Running → Option Records → Type 0
+TakesFirstWithin came old before result new after =
+    (sys : System) (state : Machine) → Stands sys old before state → AnswersWithin came sys state result new after
+
+-- so it is where nothing comes before the injections
+abbrev pub InjectsWithin : List ℕ → Running → Option Records → Result Stepped EngineFault → Running → Option Records → Type 0
+InjectsWithin came old before result new after =
+    (sys : System) (state : Machine) → Stands sys old before state → NoneToAcknowledge sys state → AnswersWithin came sys state result new after

@@ -2,12 +2,12 @@
 ghost use Rattle.std.specs.Prelude.{◌≡◌, ◌↔◌, Option, Ok, IsErrOf, IsTrue, IfOk, IfSome, OnOk};
 ghost use Rattle.fw_border.specs.Outputs.{AreByNumber};
 ghost use Rattle.fw_keep.specs.Stored.{Records, IsStored};
-ghost use Rattle.fw_stands.specs.FirstSteps.{NoneToDeliver, NoneToNotify, NoneToSettle, NoneToAcknowledge};
+ghost use Rattle.fw_stands.specs.FirstSteps.{NoneToDeliver, NoneToNotify, NoneToSettle};
 ghost use Rattle.fw_running.specs.Kept.{output_of};
 ghost use Rattle.fw_running.specs.Places.{IsFirstWhere, IsTakenOut};
 ghost use Rattle.fw_running.specs.Ready.{CanAcknowledge, CanDeliver, CanInject, IsOwing};
 ghost use Rattle.fw_engine.specs.Engine.{StepDraws};
-ghost use Rattle.fw_engine.specs.Searching.{with_ready_edges, with_ready_outputs, with_ready_inputs, IsSearched, IsNoticeOf, IsFirstNotified, NoneToPersist, TakesFirstAfter};
+ghost use Rattle.fw_engine.specs.Searching.{with_ready_edges, with_ready_outputs, with_ready_inputs, IsSearched, IsNoticeOf, IsFirstNotified, IsAny, NoneToPersist, TakesFirstAfter, CanInjectWithin, InjectsFirst, InjectsWithin, TakesFirstWithin};
 ghost use Rattle.fw_running.specs.declared.stepped.Stepped.TheVariants.{Idle};
 ghost use Rattle.fw_running.specs.Shaped.{IsShaped};
 ghost use Rattle.fw_running.specs.Steps.{IsUndamaged, MayCallByItself, PartAnswers, StaysShaped, TakesFirstStep};
@@ -37,6 +37,41 @@ pub(crate) fn take_first<K: Store>(
     requires stored { IsStored running.old.parts.keep (K.view store.old).records }
     ensures shaped { StaysShaped result running.new }
     ensures takes { TakesFirstStep running.old (K.view store.old).records result running.new (K.view store.new).records }
+    ensures part { PartAnswers K.view (MayCallByItself running.old.flow) running.old store.old result running.new store.new }
+    ensures idle { result ≡ Ok Idle → store.new ≡ store.old }
+    ensures draws { StepDraws running.old (K.view store.old).records result running.new (K.view store.new).records }
+{
+    match take_earlier(running, store)? {
+        Stepped::Did(effect) => Ok(Stepped::Did(effect)),
+        Stepped::Idle => inject_first(running),
+    }
+}
+
+/// The same where no input injects more batches than these, by its place.
+pub(crate) fn take_first_within<K: Store>(
+    running: &mut Running,
+    came: &[u64],
+    store: &mut K,
+) -> Result<Stepped, EngineFault>
+    requires shaped { IsShaped running.old }
+    requires stored { IsStored running.old.parts.keep (K.view store.old).records }
+    ensures shaped { StaysShaped result running.new }
+    ensures takes { TakesFirstWithin came.now running.old (K.view store.old).records result running.new (K.view store.new).records }
+    ensures part { PartAnswers K.view (MayCallByItself running.old.flow) running.old store.old result running.new store.new }
+    ensures idle { result ≡ Ok Idle → store.new ≡ store.old }
+{
+    match take_earlier(running, store)? {
+        Stepped::Did(effect) => Ok(Stepped::Did(effect)),
+        Stepped::Idle => inject_within(running, came),
+    }
+}
+
+// The same, but that no input injects: Idle where nothing comes before the injections.
+fn take_earlier<K: Store>(running: &mut Running, store: &mut K) -> Result<Stepped, EngineFault>
+    requires shaped { IsShaped running.old }
+    requires stored { IsStored running.old.parts.keep (K.view store.old).records }
+    ensures shaped { StaysShaped result running.new }
+    ensures takes { TakesFirstAfter IsAny running.old (K.view store.old).records result running.new (K.view store.new).records }
     ensures part { PartAnswers K.view (MayCallByItself running.old.flow) running.old store.old result running.new store.new }
     ensures idle { result ≡ Ok Idle → store.new ≡ store.old }
     ensures draws { StepDraws running.old (K.view store.old).records result running.new (K.view store.new).records }
@@ -96,7 +131,7 @@ fn settle_first<K: Store>(running: &mut Running, store: &mut K) -> Result<Steppe
     }
 }
 
-// The same where besides no more can be settled: the first output acknowledges, or what comes later.
+// The same where besides no more can be settled: the first output acknowledges, or nothing is taken.
 fn acknowledge_first(running: &mut Running) -> Result<Stepped, EngineFault>
     requires shaped { IsShaped running.old }
     ensures shaped { StaysShaped result running.new }
@@ -109,22 +144,38 @@ fn acknowledge_first(running: &mut Running) -> Result<Stepped, EngineFault>
 {
     match first_acknowledging(running) {
         Some(output) => acknowledge(running, output),
-        None => inject_first(running),
+        None => Ok(Stepped::Idle),
     }
 }
 
-// The same where besides no output can acknowledge: the first input injects, or nothing is taken.
+// The first input injects, or nothing is taken, where nothing else is enabled.
 fn inject_first(running: &mut Running) -> Result<Stepped, EngineFault>
     requires shaped { IsShaped running.old }
     ensures shaped { StaysShaped result running.new }
     ensures stored { (records : Option Records) → IsStored running.old.parts.keep records → IsStored running.new.parts.keep records }
     ensures flow { running.new.flow ≡ running.old.flow }
-    ensures takes { (records : Option Records) → TakesFirstAfter NoneToAcknowledge running.old records result running.new records }
+    ensures takes { (records : Option Records) → InjectsFirst running.old records result running.new records }
     ensures unfaulted { IsErrOf result EngineFault.StoreFault → ⊥ }
     ensures undamaged { IsUndamaged result }
     ensures draws { running.new.parts.keep.next ≡ running.old.parts.keep.next }
 {
     match first_injecting(running) {
+        Some(source) => inject(running, source),
+        None => Ok(Stepped::Idle),
+    }
+}
+
+// The same where no input injects more batches than these.
+fn inject_within(running: &mut Running, came: &[u64]) -> Result<Stepped, EngineFault>
+    requires shaped { IsShaped running.old }
+    ensures shaped { StaysShaped result running.new }
+    ensures stored { (records : Option Records) → IsStored running.old.parts.keep records → IsStored running.new.parts.keep records }
+    ensures flow { running.new.flow ≡ running.old.flow }
+    ensures takes { (records : Option Records) → InjectsWithin came.now running.old records result running.new records }
+    ensures unfaulted { IsErrOf result EngineFault.StoreFault → ⊥ }
+    ensures undamaged { IsUndamaged result }
+{
+    match first_within(running, came) {
         Some(source) => inject(running, source),
         None => Ok(Stepped::Idle),
     }
@@ -215,6 +266,29 @@ fn first_injecting(running: &mut Running) -> Option<NodeId>
         running.ready.take_input(node);
     }
     None
+}
+
+// The first input that has a batch to inject, and injected fewer than these.
+fn first_within(running: &Running, came: &[u64]) -> Option<NodeId>
+    requires { IsShaped running.now }
+    ensures { IsFirstWhere (CanInjectWithin came.now running.now) result }
+{
+    for place in 0..running.flow.nodes() as u32 {
+        let node = NodeId::at(place);
+        if may_inject_within(running, came, node) {
+            return Some(node);
+        }
+    }
+    None
+}
+
+// Whether an input has a batch to inject, and injected fewer than these.
+fn may_inject_within(running: &Running, came: &[u64], node: NodeId) -> bool
+    requires { IsShaped running.now }
+    ensures { IsTrue result ↔ CanInjectWithin came.now running.now node }
+{
+    let most = came.get(node.place() as usize).copied().unwrap_or(0);
+    may_inject(running, node) && running.parts.sources.injected(node) < most
 }
 
 // Whether a node is not failed and is owed a notification.

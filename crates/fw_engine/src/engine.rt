@@ -1,5 +1,5 @@
 //! The engine.
-ghost use Rattle.std.specs.Prelude.{◌≡◌, Option, false, IfOk};
+ghost use Rattle.std.specs.Prelude.{◌≡◌, Option, false, slice_index_or, IfOk};
 ghost use Rattle.fw_flow.specs.Dataflow.{system_of};
 ghost use Rattle.fw_flow.specs.WellFormed.{IsWellFormedSystem};
 ghost use Rattle.fw_model.specs.Machine.{first_state};
@@ -8,7 +8,7 @@ ghost use Rattle.fw_keep.specs.Stored.{Records, IsEmptyStore, IsStored};
 ghost use Rattle.fw_running.specs.Faults as faults;
 ghost use Rattle.fw_running.specs.Shaped.{IsShaped};
 
-use crate::auto::take_first;
+use crate::auto::{take_first, take_first_within};
 use crate::taking::take;
 use fw_flow::laws::flow_is_well_formed;
 use fw_flow::{Flow, Step};
@@ -28,7 +28,7 @@ pub struct Engine {
 }
 
 impl Engine {
-    ghost use Rattle.fw_engine.specs.Engine.{flow_of, keep_of, no_writes, was_refused, StandsFor, EngineAnswers, FirstAnswers};
+    ghost use Rattle.fw_engine.specs.Engine.{flow_of, keep_of, no_writes, was_refused, StandsFor, EngineAnswers, FirstAnswers, WithinAnswers};
 
     /// An engine to which nothing has happened. The error is want of memory.
     pub fn new(alloc: Global, flow: Flow, batches: &Batches) -> Result<Self, AllocError>
@@ -95,6 +95,26 @@ impl Engine {
         }
         flow_is_well_formed(&self.running.flow);
         let stepped = take_first(&mut self.running, store);
+        ids_ascend(&self.running);
+        self.refused = is_refusal(&stepped);
+        stepped
+    }
+
+    /// The same where no input injects more batches than these, by its place: inputs that injected as many are passed over.
+    pub fn auto_step_within<K: Store>(
+        &mut self,
+        came: &[u64],
+        store: &mut K,
+    ) -> Result<Stepped, EngineFault>
+        requires stored { IsStored (keep_of self.old) (K.view store.old).records }
+        ensures { WithinAnswers K.view self.old store.old (λ s. slice_index_or came.now s 0) result self.new store.new }
+    {
+        ids_ascend(&self.running);
+        if self.refused {
+            return Err(EngineFault::NoMemory);
+        }
+        flow_is_well_formed(&self.running.flow);
+        let stepped = take_first_within(&mut self.running, came, store);
         ids_ascend(&self.running);
         self.refused = is_refusal(&stepped);
         stepped

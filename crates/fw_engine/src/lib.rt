@@ -10,6 +10,7 @@
 mod acknowledgement;
 mod auto;
 mod engine;
+mod feeding;
 mod held;
 mod looks;
 mod outlook;

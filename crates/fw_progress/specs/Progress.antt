@@ -1,5 +1,5 @@
 -- What contracts see of progress.
-use Rattle.std.specs.Prelude.{◌≡◌, ◌≢◌, ℕ, ◌+◌, ◌<◌, ◌^◌, Bool, true, false, ◌==◌, List, [], ◌∷◌, ◌++◌, length, slice_index_or, if◌then◌else◌}
+use Rattle.std.specs.Prelude.{◌≡◌, ◌≢◌, ℕ, ◌+◌, ◌-◌, ◌<◌, ◌^◌, Bool, true, false, ◌&&◌, nat_lt, ◌==◌, List, [], ◌∷◌, ◌++◌, length, slice_index_or, slice_set, if◌then◌else◌}
 use Rattle.std.specs.List.{AllByRecursion}
 use Rattle.fw_time.specs.Stamp.{Stamp, same, in_domain}
 use Rattle.fw_frontier.specs.Front.{Front}
@@ -9,7 +9,7 @@ use Rattle.fw_flow.specs.Dataflow.{Dataflow, kind_of, sender, receiver, bounds_o
 use Rattle.fw_flow.specs.SentTable.{EpochsAscend}
 use Rattle.fw_model.specs.Machine.{AreCanonical}
 use Rattle.fw_progress.specs.declared.counts.Counts.{Counts}
-use Rattle.fw_progress.specs.Counts.{AreCounts, AreNodes}
+use Rattle.fw_progress.specs.Counts.{AreCounts, AreNodes, batches_in, injected_in}
 use Rattle.fw_progress.specs.Tally.{times_in, IsTallyOf, HasOneMore, HasOneLess, HasNoMore}
 
 -- The counts; for each node what is settled and its kept frontier; the nodes that wait to be widened; and whether memory was
@@ -96,3 +96,23 @@ pub record IsInjected (flow : Dataflow) (p : ℕ) (sent : List Stamp) (old new :
   pub owed : new.owed.items ≡ old.owed.items
   pub batches : new.batches.items ≡ old.batches.items
   pub counted : new.sent.items ≡ old.sent.items
+
+-- whether one batch more of a node can be counted: it injected fewer than it has, and there can be one more
+abbrev pub can_have_more : Counts → ℕ → Bool
+can_have_more counts p = nat_lt (injected_in counts p) (batches_in counts p) && nat_lt (batches_in counts p) (2 ^ 64 - 1)
+
+-- A node has one batch more.
+pub record HasBatchMore (p : ℕ) (old new : Counts) : Type 0 where
+  pub batches : new.batches.items ≡ slice_set old.batches.items p (batches_in old p + 1)
+  pub injected : new.injected.items ≡ old.injected.items
+  pub pending : new.pending.items ≡ old.pending.items
+  pub owed : new.owed.items ≡ old.owed.items
+  pub counted : new.sent.items ≡ old.sent.items
+
+-- A node has one batch more, and the rest is as it was.
+pub record CountsBatch (p : ℕ) (old new : Standing) : Type 0 where
+  pub counts : HasBatchMore p old.counts new.counts
+  pub settled : new.settled ≡ old.settled
+  pub kept : new.kept ≡ old.kept
+  pub work : new.work ≡ old.work
+  pub refused : new.refused ≡ old.refused

@@ -5,7 +5,7 @@ ghost use Rattle.fw_frontier.specs.Front.{IsCanonical};
 ghost use Rattle.fw_flow.specs.declared.event.Event.{Event};
 ghost use Rattle.fw_flow.specs.declared.event.Event.TheVariants as events;
 ghost use Rattle.fw_flow.specs.declared.event.Message.{Message};
-ghost use Rattle.fw_flow.specs.Dataflow.{System, receiver, bounds_of, node_ids, system_of, HasEpochs};
+ghost use Rattle.fw_flow.specs.Dataflow.{Dataflow, System, receiver, bounds_of, node_ids, system_of, HasEpochs};
 ghost use Rattle.fw_model.specs.History.{IsComplete, IsLegal, IsNotifiable};
 ghost use Rattle.fw_model.specs.Machine.{front_of, family_of, no_stamps, AreCanonical};
 ghost use Rattle.fw_model.specs.Steps.{IsNextNotice};
@@ -17,7 +17,7 @@ ghost use Rattle.fw_progress.specs.Notices.{IsFirstNotice};
 ghost use Rattle.fw_progress.specs.Settle as settling;
 ghost use Rattle.fw_progress.specs.Settle.{SettlesMore, IsGrownAt};
 ghost use Rattle.fw_model.specs.Machine.{Machine, SerialEvent, events as machine_events};
-ghost use Rattle.fw_progress.specs.Progress.{Standing, IsProgressOf, AreFrontsOf, CanSend, DeliversOne, IsNotified, IsInjected};
+ghost use Rattle.fw_progress.specs.Progress.{Standing, IsProgressOf, AreFrontsOf, CanSend, CountsBatch, DeliversOne, HasBatchMore, IsNotified, IsInjected, can_have_more};
 
 use crate::counts::Counts;
 use crate::cut::cut_counts;
@@ -546,6 +546,28 @@ impl Progress {
         self.settled[node.place() as usize] = front;
     }
 
+    /// Counts one batch more of a node, if that can be: whether it can is told. What is complete stays, and so what is kept. It takes no
+    /// memory.
+    pub fn count_batch(&mut self, node: NodeId) -> bool
+        ensures progress { (flow : Dataflow) → IsProgressOf flow self.old → IsProgressOf flow self.new }
+        ensures told { result ≡ can_have_more self.old.counts node }
+        ensures counted { IsTrue result → CountsBatch node self.old self.new }
+        ensures stays { result ≡ false → self.new ≡ self.old }
+    {
+        let can = has_room(&self.counts, node);
+        if can {
+            count_one(&mut self.counts, node);
+        }
+        can
+    }
+
+    /// Whether one batch more of a node can be counted: it did not inject all that it has, and there can be one more. It takes no memory.
+    pub fn can_count_batch(&self, node: NodeId) -> bool
+        ensures { result ≡ can_have_more self.now.counts node }
+    {
+        has_room(&self.counts, node)
+    }
+
     /// These frontiers are settled from now on. It takes no memory.
     pub fn settle(&mut self, flow: &Flow, settled: Vec<Front>)
         requires progress { IsProgressOf flow.now self.old }
@@ -557,6 +579,24 @@ impl Progress {
         let _ = flow;
         self.settled = settled;
     }
+}
+
+/// Whether one batch more of a node can be counted.
+fn has_room(counts: &Counts, node: NodeId) -> bool
+    ensures { result ≡ can_have_more counts.now node }
+{
+    let place = node.place() as usize;
+    let injected = counts.injected.get(place).copied().unwrap_or(0);
+    let batches = counts.batches.get(place).copied().unwrap_or(0);
+    injected < batches && batches < u64::MAX
+}
+
+/// Counts one batch more of a node.
+fn count_one(counts: &mut Counts, node: NodeId)
+    requires { can_have_more counts.old node ≡ true }
+    ensures { HasBatchMore node counts.old counts.new }
+{
+    counts.batches[node.place() as usize] += 1;
 }
 
 /// Counts the delivery, after which the receiver waits. The error is want of memory.

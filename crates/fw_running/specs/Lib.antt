@@ -2,6 +2,7 @@ pub mod BroughtUp
 pub mod Drawn
 pub mod EffectText
 pub mod Faults
+pub mod Fed
 pub mod Held
 pub mod Kept
 pub mod Logging

@@ -6,7 +6,7 @@ use Rattle.fw_running.specs.declared.running.Running.{Running}
 use Rattle.fw_running.specs.Kept.{output_of}
 use Rattle.fw_running.specs.Places.{IsFirstWhere}
 use Rattle.fw_running.specs.Ready.{CanAcknowledge}
-use Rattle.fw_engine.proofs.TakenFirstLaws.{acknowledge-first, acknowledge-later}
+use Rattle.fw_engine.proofs.TakenFirstLaws.{acknowledge-first, acknowledge-none}
 use Rattle.fw_engine.proofs.auto.acknowledge_first.Goals as goal
 
 pub returns-in-Some-clause-takes : goal.returns-in-Some-clause-takes
@@ -23,9 +23,8 @@ pub returns-in-None-clause-takes : goal.returns-in-None-clause-takes
 returns-in-None-clause-takes c = λ records.
     let old = c.args.running.now in
     let mid = c.first_acknowledging.new.running in
-    acknowledge-later old mid (record old.ready { outputs = mid.ready.outputs }) c.inject_first.new.running records c.inject_first.result
-    c.first_acknowledging.ensures.others
-    (subst (λ (found : Option ℕ). IsFirstWhere (CanAcknowledge old) found) c.in-None.is c.first_acknowledging.ensures.first) (c.inject_first.ensures.takes records)
+    acknowledge-none old mid (record old.ready { outputs = mid.ready.outputs }) records c.first_acknowledging.ensures.others
+    (subst (λ (found : Option ℕ). IsFirstWhere (CanAcknowledge old) found) c.in-None.is c.first_acknowledging.ensures.first)
 
 pub returns-in-Some-clause-stored : goal.returns-in-Some-clause-stored
 returns-in-Some-clause-stored c = λ records stored.
@@ -33,10 +32,10 @@ returns-in-Some-clause-stored c = λ records stored.
 
 pub returns-in-None-clause-stored : goal.returns-in-None-clause-stored
 returns-in-None-clause-stored c = λ records stored.
-    c.inject_first.ensures.stored records (subst (λ (r : Running). IsStored r.parts.keep records) (sym c.first_acknowledging.ensures.others) stored)
+    subst (λ (r : Running). IsStored r.parts.keep records) (sym c.first_acknowledging.ensures.others) stored
 
 pub returns-in-Some-clause-draws : goal.returns-in-Some-clause-draws
 returns-in-Some-clause-draws c = c.acknowledge.ensures.draws ∙ ap (λ (r : Running). r.parts.keep.next) c.first_acknowledging.ensures.others
 
 pub returns-in-None-clause-draws : goal.returns-in-None-clause-draws
-returns-in-None-clause-draws c = c.inject_first.ensures.draws ∙ ap (λ (r : Running). r.parts.keep.next) c.first_acknowledging.ensures.others
+returns-in-None-clause-draws c = ap (λ (r : Running). r.parts.keep.next) c.first_acknowledging.ensures.others

@@ -3,11 +3,11 @@ use Rattle.fw_keep.specs.Stored.{IsStored}
 use Rattle.fw_rollback.specs.declared.parts.Parts.{Parts}
 use Rattle.fw_running.specs.declared.fault.EngineFault.{EngineFault}
 use Rattle.fw_running.specs.declared.stepped.Stepped.{Stepped}
-use Rattle.fw_running.specs.Steps.{AnswersFirst, MayCallByItself}
+use Rattle.fw_running.specs.Steps.{MayCallByItself}
 use Rattle.fw_running.proofs.StepLaws.{ok-unfaulted, part-err, part-later, part-may, part-of, part-refused_first}
 use Rattle.fw_engine.specs.declared.auto.Notice.{Notice}
 use Rattle.fw_engine.specs.Engine.{StepDraws}
-use Rattle.fw_engine.specs.Searching.{IsFirstNotified}
+use Rattle.fw_engine.specs.Searching.{AnswersEarlier, IsFirstNotified}
 use Rattle.fw_engine.proofs.DrawnLaws.{draws-behind, draws-none, draws-notified}
 use Rattle.fw_engine.proofs.QuietLaws.{notification-may_call_later}
 use Rattle.fw_engine.proofs.TakenFirstLaws.{from-err, notify-err, notify-first, notify-later}
@@ -30,7 +30,7 @@ returns-in_err-notify_of-clause-takes g c = λ sys state s none.
     let new = c.notify_of.new.running in
     let after = (g.K.Store.view c.notify_of.new.store).records in
     let first = subst (λ (found : Option Notice). IsFirstNotified old found) c.in-Some.is c.in_ok-notice.ensures.first in
-    from-err c.from_residual-in_err-notify_of.result c.in_err-notify_of.field-0.0 (λ (r : Result Stepped EngineFault). AnswersFirst sys state r new after)
+    from-err c.from_residual-in_err-notify_of.result c.in_err-notify_of.field-0.0 (λ (r : Result Stepped EngineFault). AnswersEarlier sys state r new after)
     c.from_residual-in_err-notify_of.ensures.1
     (notify-err (Unit {0}) old c.first_notice.new.running new (g.K.Store.view c.args.store.now).records after c.in-Some.notice.node c.in-Some.notice.at
     c.in_err-notify_of.field-0.0 c.in_ok-notice.ensures.searched first.0 first.1 c.in_err-notify_of.ensures.part.calls c.in_err-notify_of.ensures.takes sys state s none)

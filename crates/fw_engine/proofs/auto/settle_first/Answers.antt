@@ -20,7 +20,8 @@ returns-in-Did-clause-takes g c =
     let before = (g.K.Store.view c.args.store.now).records in
     let after = (g.K.Store.view c.progress.new.store).records in
     did-first NoneToNotify Progress old new before after c.in-Did.effect
-    (λ sys state next effect none leads. progress-next sys state none next effect leads) (λ sys state records. tt)
+    (λ sys state next effect none leads. progress-next sys state none next effect leads)
+    (λ sys state next effect leads none. none.earlier.progress next effect leads) (λ sys state records. tt)
     (subst (λ (stepped : Stepped). TakesStep old before Progress (Ok stepped) new after) c.in-Did.is c.in_ok-effect.ensures.answers.takes)
 
 pub returns-in-Idle-clause-takes : goal.returns-in-Idle-clause-takes

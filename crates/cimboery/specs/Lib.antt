@@ -64,6 +64,12 @@ pub use Rattle.fw_certify.specs.CertificateText
 pub use Rattle.fw_certify.specs.Checked
 pub use Rattle.fw_choose.specs.Outlooks
 pub use Rattle.fw_engine.specs.Engine
+pub use Rattle.fw_feeding.specs.Feeding
+pub use Rattle.fw_feeding.specs.FedRuns
+pub use Rattle.fw_feeding.specs.OpenRuns
+pub use Rattle.fw_session.specs.Session
+pub use Rattle.fw_session.specs.Story
+pub use Rattle.fw_session.specs.LawsOfStories
 pub use Rattle.fw_generate.specs.Laws as GenerateLaws
 pub use Rattle.fw_generate.specs.Texts
 pub use Rattle.fw_command.specs.Command

@@ -15,6 +15,9 @@
 //!   the catalogue, `writes`, of which each `Entry` tells what is `Written`, and whether it is in flight.
 //! - Why a recovery cuts no less: `Engine::outlook` has what the nodes offer and the `Descent` to the largest choice; `explain` makes a
 //!   `Certificate` of its `Trail`, and `verify` says what a checker of its own finds.
+//! - A run that is fed: a `Session` owns an engine and its store, and takes batches while it runs; `Session::feed` and `close` answer a
+//!   `FeedFault` where a source is not open or has no room. Its steps are a run over the batches that came in the end
+//!   (`fw_session::laws::stories_are_runs`), and what it acknowledges is what the dataflow means of them.
 //! - Times: `Stamp`; `Front`, a frontier; `Cut` and `Choice`, to what a recovery restores the nodes.
 //! - What is true of every run, whoever takes its steps: the law `every_run_is_right`.
 //! - The command over texts: `falkirk`, with its `Folder`, `Store` and `Sink` in memory, over files (`FileFolder`, `DiskStore`,
@@ -50,4 +53,5 @@ pub use fw_schedule::{
     Item, ItemFault, ItemText, SCHEDULE_LIMIT, STEP_LIMIT, Schedule, ScheduleText, StepText,
     read_schedule,
 };
+pub use fw_session::{FeedFault, Session};
 pub use fw_time::{Bounds, Stamp};

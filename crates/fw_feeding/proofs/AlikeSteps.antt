@@ -25,17 +25,17 @@ AreMore flow now later = (s : ℕ) → length (batches_of (with_batches flow now
 
 -- ---- epochs
 
-has-at : (bs : List (List (List Rec))) (x : ℕ) → HasEpoch bs x → (s : ℕ) × (x < length (get_or bs s []))
+pub has-at : (bs : List (List (List Rec))) (x : ℕ) → HasEpoch bs x → (s : ℕ) × (x < length (get_or bs s []))
 has-at [] x e = absurd e
 has-at (b ∷ bs) x (inl l) = (0, l)
 has-at (b ∷ bs) x (inr e) = let k = has-at bs x e in (suc k.0, k.1)
 
-at-has : (bs : List (List (List Rec))) (s x : ℕ) → x < length (get_or bs s []) → HasEpoch bs x
+pub at-has : (bs : List (List (List Rec))) (s x : ℕ) → x < length (get_or bs s []) → HasEpoch bs x
 at-has [] s x l = absurd (omega arith)
 at-has (b ∷ bs) zero x l = inl l
 at-has (b ∷ bs) (suc s) x l = inr (at-has bs s x l)
 
-epochs-more : (flow : Dataflow) (now later : List (List (List Rec))) → AreMore flow now later → (x : ℕ) → HasEpoch now x → HasEpoch later x
+pub epochs-more : (flow : Dataflow) (now later : List (List (List Rec))) → AreMore flow now later → (x : ℕ) → HasEpoch now x → HasEpoch later x
 unfolding batches_of
 epochs-more flow now later more x e =
     let k = has-at now x e in

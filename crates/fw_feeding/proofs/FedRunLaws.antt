@@ -34,7 +34,7 @@ place-on recs behind now next t =
     )
 
 -- and so do those of each node
-feeds-on : (flow : Dataflow) (opened : ℕ → Bool) (now next : List (List (List Rec))) (s : ℕ) (recs : List Rec) (behind : List (List Rec))
+pub feeds-on : (flow : Dataflow) (opened : ℕ → Bool) (now next : List (List (List Rec))) (s : ℕ) (recs : List Rec) (behind : List (List Rec))
     → HaveLast flow opened now → opened s ≡ true → Feeds flow s recs behind now next → GoOnEach opened flow now next
 feeds-on flow opened now next s recs behind has is f = λ q. elim (cases_eq q s) [
   | inl e ↦ subst (λ p. GoOn (opened p) (batches_of (with_batches flow now) p) (batches_of (with_batches flow next) p)) (sym e)
@@ -105,6 +105,13 @@ fed-after flow now has before shown r (do_step step ∷ actions) (effect ∷ eff
     let all = fed-after flow (record now { state = k.0 }) has (before ++ step ∷ []) (shown ++ effect ∷ []) more actions effects last k.3 in
     subst (λ ss. IsAfter flow ss (shown ++ effect ∷ effects) last) (append_assoc before (step ∷ []) (steps_among actions))
     (subst (λ es. IsAfter flow ((before ++ step ∷ []) ++ steps_among actions) es last) (append_assoc shown (effect ∷ []) effects) all)
+
+-- so what was done from a first state on is an open run over the batches of now
+pub fed-run : (flow : Dataflow) (now : FedMachine) → HaveLast flow now.opened now.batches → now.state ≡ first_state (with_batches flow now.batches)
+    → (actions : List Action) (effects : List Effect) (last : FedMachine) → FedRun flow now actions effects last
+    → OpenRun last.opened (with_batches flow last.batches) (first_state (with_batches flow last.batches)) (steps_among actions) effects last.state
+unfolding IsAfter
+fed-run flow now has first actions effects last k = fed-after flow now has [] [] first actions effects last k
 
 pub fed-runs_are_runs : FedRunsAreRuns
 unfolding IsAfter

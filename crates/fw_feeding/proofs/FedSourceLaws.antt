@@ -1,5 +1,5 @@
 -- What is kept of a source that is fed.
-use Rattle.std.proofs.Common.{◌≡◌, ℕ, ◌+◌, ◌-◌, ◌≤◌, false, Bool, not, List, [], ◌∷◌, ◌++◌, length, filter, refl, ap, sym, ◌∙◌, arith}
+use Rattle.std.proofs.Common.{◌<◌, ◌≡◌, ℕ, ◌+◌, ◌-◌, ◌≤◌, false, Bool, not, List, [], ◌∷◌, ◌++◌, length, filter, refl, ap, sym, ◌∙◌, arith}
 use Rattle.std.specs.List.{enumerate_from}
 use Rattle.std.proofs.lemmas.List.{length-append}
 use Rattle.std.proofs.lemmas.List.Elements.{filter-append}
@@ -11,7 +11,7 @@ use Rattle.fw_flow.specs.Dataflow.{batches_of}
 use Rattle.fw_model.specs.Machine.{front_of}
 use Rattle.fw_model.proofs.StampLaws.{line-leq}
 use Rattle.fw_feeding.specs.Feeding.{with_batches}
-use Rattle.fw_feeding.specs.FedEngines.{without_last}
+use Rattle.fw_border.specs.Sources.{without_last}
 use Rattle.fw_feeding.specs.LawsOfFeeding.{FedSourcesStand}
 
 enumerate-append : {X : Type 0} (n : ℕ) (xs ys : List X) → enumerate_from n (xs ++ ys) ≡ enumerate_from n xs ++ enumerate_from (n + length xs) ys
@@ -44,6 +44,17 @@ all-out f n out m [] l = refl
 all-out f n out m (b ∷ bs) l =
     filter-in (is_out f) (m, b) (enumerate_from (m + 1) bs) (ap not (inside-above f (n ∷ []) (m ∷ []) out (line-leq n m l)))
     ∙ ap (λ xs. (m, b) ∷ xs) (all-out f n out (m + 1) bs (omega arith))
+
+-- the last batch is held where it lies outside
+pub last-held : (f : Front) (came : List (List Rec)) (last : List Rec) → inside f (length came ∷ []) ≡ false → (held : List (ℕ × List Rec))
+    → held ≡ filter (λ batch. not (inside f (batch.0 ∷ []))) (enumerate_from 0 (came ++ last ∷ [])) → 0 < length held
+unfolding is_out
+last-held f came last out held e =
+    let before = filter (is_out f) (enumerate_from 0 came) in
+    let all : held ≡ before ++ (length came, last) ∷ [] =
+    e ∙ held-more f came (last ∷ []) ∙ ap (λ xs. before ++ xs) (all-out f (length came) out (length came) (last ∷ []) (omega arith)) in
+    let count = ap length all ∙ length-append before ((length came, last) ∷ []) in
+    omega arith
 
 pub fed-sources_stand : FedSourcesStand
 unfolding is_out

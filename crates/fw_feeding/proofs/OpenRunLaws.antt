@@ -43,7 +43,7 @@ more-one : (b : Bool) (now later : List (List Rec)) → GoOn b now later → len
 more-one false now later g = let same : length later ≡ length now = ap length g in omega arith
 more-one true now later g = g.1
 
-goes-more : (opened : ℕ → Bool) (flow : Dataflow) (now later : List (List (List Rec))) → GoOnEach opened flow now later → AreMore flow now later
+pub goes-more : (opened : ℕ → Bool) (flow : Dataflow) (now later : List (List (List Rec))) → GoOnEach opened flow now later → AreMore flow now later
 goes-more opened flow now later g = λ s. more-one (opened s) (batches_of (with_batches flow now) s) (batches_of (with_batches flow later) s) (g s)
 
 same-batch : (b : Bool) (now later : List (List Rec)) (x : ℕ) → GoOn b now later → (b ≡ true → x + 1 < length now) → get_or now x [] ≡ get_or later x []
@@ -210,3 +210,10 @@ run-alike opened flow now later g steps effects last r =
     (run-held opened (with_batches flow now) (first_state (with_batches flow now))
     (record { few = λ s o. first-few (opened s) (batches_of (with_batches flow now) s) (batches_of (with_batches flow later) s) (g s) o; came = tt })
     steps effects last r)
+
+-- nor did an open source inject all of its batches
+pub run-few : (opened : ℕ → Bool) (sys : System) → ((s : ℕ) → opened s ≡ true → 0 < length (batches_of sys s)) → (steps : List Step)
+    (effects : List Effect) (last : Machine) → OpenRun opened sys (first_state sys) steps effects last
+    → (s : ℕ) → opened s ≡ true → injected_count s (events last.history) < length (batches_of sys s)
+run-few opened sys has steps effects last r =
+    (run-held opened sys (first_state sys) (record { few = has; came = tt }) steps effects last r).few

@@ -1,8 +1,6 @@
 -- What an engine keeps that is fed.
-use Rattle.std.specs.Prelude.{◌≡◌, ◌↔◌, ℕ, ◌+◌, ◌-◌, ◌<◌, List, [], ◌∷◌, ◌++◌, length}
-use Rattle.std.specs.List.{enumerate_from}
+use Rattle.std.specs.Prelude.{◌≡◌, ◌↔◌, ℕ, ◌<◌, List, length}
 use Rattle.fw_bag.specs.declared.rec.Rec.{Rec}
-use Rattle.fw_border.specs.Sources.{SourceState}
 use Rattle.fw_flow.specs.Dataflow.{Dataflow, batches_of}
 use Rattle.fw_model.specs.Machine.{Machine}
 use Rattle.fw_model.specs.Steps.{HasEpoch}
@@ -11,20 +9,6 @@ use Rattle.fw_stands.specs.Parts.{IsSourceOf}
 use Rattle.fw_running.specs.declared.running.Running.{Running}
 use Rattle.fw_running.specs.Kept.{queue_at, log_at, table_of, source_of, output_of, lost_at}
 use Rattle.fw_feeding.specs.Feeding.{with_batches}
-
--- all but the last
-abbrev pub without_last : {X : Type 0} → List X → List X
-without_last [] = []
-without_last (x ∷ []) = []
-without_last (x ∷ y ∷ xs) = x ∷ without_last (y ∷ xs)
-
--- what is kept of a source that is fed a batch, which takes the place of its last one, with these behind it
-abbrev pub fed_source : List Rec → List (List Rec) → SourceState → SourceState
-fed_source recs behind source = record {
-  given = source.given + length behind;
-  injected = source.injected;
-  held = without_last source.held ++ enumerate_from (source.given - 1) (recs ∷ behind);
-}
 
 -- An engine is fed with the later batches: it keeps what it kept, but its sources are those of the later ones, and so are the counts of
 -- batches and epochs.

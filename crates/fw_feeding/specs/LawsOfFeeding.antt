@@ -6,7 +6,7 @@ use Rattle.fw_frontier.specs.Front.{inside}
 use Rattle.fw_flow.specs.declared.step.Step.{Step}
 use Rattle.fw_flow.specs.Dataflow.{System, Dataflow, batches_of}
 use Rattle.fw_flow.specs.WellFormed.{IsWellFormedSystem}
-use Rattle.fw_border.specs.Sources.{SourceState}
+use Rattle.fw_border.specs.Sources.{SourceState, fed_source}
 use Rattle.fw_keep.specs.Stored.{Records}
 use Rattle.fw_model.specs.Acknowledgements.{IsDenotedEffect}
 use Rattle.fw_model.specs.Denotation.{Family, IsDenotation}
@@ -16,7 +16,7 @@ use Rattle.fw_stands.specs.Parts.{IsSourceOf}
 use Rattle.fw_running.specs.declared.running.Running.{Running}
 use Rattle.fw_running.specs.Stands.{Stands}
 use Rattle.fw_feeding.specs.Feeding.{with_batches, GoOnEach, HaveLast, TakesLastPlace}
-use Rattle.fw_feeding.specs.FedEngines.{fed_source, IsFedWith}
+use Rattle.fw_feeding.specs.FedEngines.{IsFedWith}
 use Rattle.fw_feeding.specs.FedRuns.{Action, steps_among, FedMachine, FedRun}
 use Rattle.fw_feeding.specs.OpenRuns.{OpenRun}
 

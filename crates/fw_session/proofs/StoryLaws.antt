@@ -17,7 +17,7 @@ use Rattle.fw_model.specs.Machine.{Machine}
 use Rattle.fw_model.specs.Steps.{Effect, did, LeadsTo}
 use Rattle.fw_model.proofs.RecoveryLaws.{acknowledged-denoted}
 use Rattle.fw_feeding.specs.Feeding.{with_batches, HaveLast, TakesLastPlace, Feeds, Closes}
-use Rattle.fw_feeding.specs.FedEngines.{without_last}
+use Rattle.fw_border.specs.Sources.{without_last}
 use Rattle.fw_feeding.specs.FedRuns.{Action, feed, close, close_with, do_step, steps_among, FedMachine, FedRun}
 use Rattle.fw_feeding.specs.OpenRuns.{HoldsBack}
 use Rattle.fw_feeding.proofs.FedRunLaws.{fed-runs_are_runs}

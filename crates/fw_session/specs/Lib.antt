@@ -1,2 +1,5 @@
 pub mod Story
+pub mod Opening
+pub mod Session
+pub mod FedRunning
 pub mod LawsOfStories

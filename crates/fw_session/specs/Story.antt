@@ -7,7 +7,7 @@ use Rattle.fw_flow.specs.WellFormed.{IsWellFormedSystem}
 use Rattle.fw_model.specs.Machine.{Machine, first_state}
 use Rattle.fw_model.specs.Steps.{Effect}
 use Rattle.fw_feeding.specs.Feeding.{with_batches}
-use Rattle.fw_feeding.specs.FedEngines.{without_last}
+use Rattle.fw_border.specs.Sources.{without_last}
 use Rattle.fw_feeding.specs.FedRuns.{Action, feed, close, close_with, do_step, FedMachine, FedRun}
 
 -- what was done, in order; what the steps among it showed; and which sources are open now, the batches, and the state

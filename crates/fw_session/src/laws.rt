@@ -1,4 +1,5 @@
 //! The laws of what is done in a session: each function's `ensures` is one law, and its body is empty.
+ghost use Rattle.fw_session.specs.FedRunning.{FedBatchesStand, OpenSourcesCanBeFed};
 ghost use Rattle.fw_session.specs.LawsOfStories.{StoriesAreRuns, StoriesGoOn, StoriesHaveWhatCame, StoriesShowWhatIsDenoted};
 
 /// A session opens with a story, and each story goes on by a batch that a source is fed, by a source that is closed, and by a step that is
@@ -21,4 +22,15 @@ pub fn stories_show_what_is_denoted()
 /// To each source came what the actions of a story gave it, in order, and an empty batch where it was closed.
 pub fn stories_have_what_came()
     ensures { StoriesHaveWhatCame }
+{}
+
+/// What an engine keeps, where it stands for the state of a story and is fed a batch of an open source, stands for that state over the
+/// batches with that one.
+pub fn fed_batches_stand()
+    ensures { FedBatchesStand }
+{}
+
+/// What an engine keeps, where it stands for the state of a story, can be fed a batch of an open source, if there is room for one.
+pub fn open_sources_can_be_fed()
+    ensures { OpenSourcesCanBeFed }
 {}

@@ -91,10 +91,8 @@ impl Kept<'_> {
         if !self.parts.keep.has(id) {
             return Err(NoAnswer::NotSpelled);
         }
-        match self.parts.keep.fetch(self.flow, &mut self.store, id) {
-            Ok(record) => say_record(self.alloc, &record, said),
-            Err(fault) => say_fault(&fault, said),
-        }
+        let fetched = self.parts.keep.fetch(self.flow, &mut self.store, id);
+        say_read(self.alloc, &fetched, said)
     }
 
     /// These messages are pending on an edge, and no others: `EDGE MESSAGE ..`.
@@ -211,12 +209,20 @@ pub(crate) fn done(became: Result<(), OutFault>) -> Result<(), NoAnswer> {
     }
 }
 
-/// Says the bytes of a record.
-pub(crate) fn say_record(
+/// Says the bytes of the record that was read, or why there is none.
+pub(crate) fn say_read(
     alloc: Global,
-    record: &Record,
+    read: &Result<Record, KeepFault>,
     said: &mut String,
 ) -> Result<(), NoAnswer> {
+    match read {
+        Ok(record) => say_record(alloc, record, said),
+        Err(fault) => say_fault(fault, said),
+    }
+}
+
+/// Says the bytes of a record.
+fn say_record(alloc: Global, record: &Record, said: &mut String) -> Result<(), NoAnswer> {
     let bytes = encode(alloc, record)?;
     show_digits(&bytes, said)?;
     Ok(())

@@ -2,10 +2,11 @@
 ghost use Rattle.std.specs.Prelude.{◌≡◌, IsTrue};
 ghost use Rattle.fw_keep.specs.Entry.{IsBased};
 
-use crate::restored::{done, fault_of, is_based, say_fault, say_record};
+use crate::restored::{done, fault_of, is_based, say_fault, say_read};
 use fw_flow::Flow;
-use fw_keep::{Keep, KeepFault, no_stamps};
+use fw_keep::{Keep, no_stamps};
 use fw_outside::{Failed, FoulStore, OutFault, Store};
+use fw_record::Record;
 use row_words::{Answers, NoAnswer, Row, bytes_named, mark, node_of, part, record_named, tell_row};
 use std::alloc::{AllocError, Global};
 use std::fmt::Write;
@@ -134,12 +135,17 @@ impl Shared<'_> {
     /// The write of the record of a name is asked.
     fn ask(&mut self, name: &str, said: &mut String) -> Result<(), NoAnswer> {
         let record = record_named(self.alloc, self.lines, name)?;
-        if self.keep.next_id() > WRITES || !is_based(&self.keep, &record) {
+        self.ask_record(&record, said)
+    }
+
+    /// The write of a record is asked.
+    fn ask_record(&mut self, record: &Record, said: &mut String) -> Result<(), NoAnswer> {
+        if self.keep.next_id() > WRITES || !is_based(&self.keep, record) {
             return Err(NoAnswer::NotSpelled);
         }
         let asked = self
             .keep
-            .ask(&mut self.store, &record, no_stamps(self.alloc));
+            .ask(&mut self.store, record, no_stamps(self.alloc));
         self.say_calls(said)?;
         match asked {
             Ok(id) => {
@@ -172,10 +178,7 @@ impl Shared<'_> {
             .keep
             .read_named(self.flow, &mut self.store, id, node, tag);
         self.say_calls(said)?;
-        match read {
-            Ok(record) => say_record(self.alloc, &record, said),
-            Err(fault) => say_fault(&fault, said),
-        }
+        say_read(self.alloc, &read, said)
     }
 
     /// Says the calls of the store that were made since this was asked last.

@@ -2,6 +2,7 @@
 #![tactic(auto)]
 
 use fw_advice::{AckSink, Call, Ended, Program, tell_after, warn_before};
+use fw_choosing::{falkirk_choose, is_choosing};
 use fw_outside::{FaultlessStore, FileFolder, Sink, StreamSink};
 use fw_run::{Status, falkirk};
 use std::io::{ErrorKind, IsTerminal};
@@ -9,11 +10,11 @@ use std::process::ExitCode;
 use std::{env, io};
 
 fn main(rt: HostRuntime) -> ExitCode {
-    ExitCode::from(run(&rt).number())
+    ExitCode::from(run(&rt))
 }
 
-// Words that are not UTF-8 are bad words, as no words are.
-fn run(rt: &HostRuntime) -> Status {
+// The number of the status. Words that are not UTF-8 are bad words, as no words are.
+fn run(rt: &HostRuntime) -> u8 {
     let mut notes = StreamSink::new(rt.stderr());
     match arguments(rt) {
         Ok(words) => run_words(rt, &words, &mut notes),
@@ -27,9 +28,10 @@ fn arguments(rt: &HostRuntime) -> io::Result<Vec<String>> {
     Ok(env::args(rt)?.skip(1).collect(rt.alloc())?)
 }
 
-// Runs the words. Where standard error is a terminal, a person is told more: warnings before the run, and behind the line of its
-// status what is wrong, where, and what to do. The line itself, and what else programs read, are those of `falkirk`.
-fn run_words<N: Sink>(rt: &HostRuntime, words: &[String], notes: &mut N) -> Status {
+// Runs the words. Where standard error is a terminal, a person is told more: warnings before a run, and behind the line of its
+// status what is wrong, where, and what to do. The line itself, and what else programs read, are those of `falkirk` and of
+// `falkirk_choose`.
+fn run_words<N: Sink>(rt: &HostRuntime, words: &[String], notes: &mut N) -> u8 {
     let alloc = rt.alloc();
     let words: Result<Vec<&str>, _> = words.iter().map(|word| word.as_str()).collect(alloc);
     let Ok(words) = words else {
@@ -40,20 +42,39 @@ fn run_words<N: Sink>(rt: &HostRuntime, words: &[String], notes: &mut N) -> Stat
         words: words.as_slice(),
         is_person: rt.stderr().is_terminal(),
     };
-    warn_before(alloc, rt, call, notes);
-    let mut folder = FileFolder::new(rt);
-    let mut store = FaultlessStore::new(alloc);
     let mut out = AckSink::new(alloc, StreamSink::new(rt.stdout()));
-    let status = falkirk(alloc, &words, &mut folder, &mut store, &mut out, notes);
-    let ended = Ended {
-        number: status.number(),
-        refusal: status.refusal(),
+    let ended = if is_choosing(&words) {
+        choose(rt, &words, &mut out, notes)
+    } else {
+        warn_before(alloc, rt, call, notes);
+        answer(rt, &words, &mut out, notes)
     };
     tell_after(alloc, rt, call, ended, &out, notes);
-    status
+    ended.number
 }
 
-fn out_of_memory<N: Sink>(notes: &mut N) -> Status {
+// What the call of the commands over texts of choices answers to the words.
+fn choose<O: Sink, N: Sink>(rt: &HostRuntime, words: &[&str], out: &mut O, notes: &mut N) -> Ended {
+    let mut folder = FileFolder::new(rt);
+    let status = falkirk_choose(rt.alloc(), words, &mut folder, out, notes);
+    Ended {
+        number: status.number(),
+        refusal: status.flow_refusal(),
+    }
+}
+
+// What the top call answers to the words, over a store in memory.
+fn answer<O: Sink, N: Sink>(rt: &HostRuntime, words: &[&str], out: &mut O, notes: &mut N) -> Ended {
+    let mut folder = FileFolder::new(rt);
+    let mut store = FaultlessStore::new(rt.alloc());
+    let status = falkirk(rt.alloc(), words, &mut folder, &mut store, out, notes);
+    Ended {
+        number: status.number(),
+        refusal: status.refusal(),
+    }
+}
+
+fn out_of_memory<N: Sink>(notes: &mut N) -> u8 {
     let _ = notes.write(b"no memory\n");
-    Status::NoMemory
+    Status::NoMemory.number()
 }

@@ -7,14 +7,14 @@ ghost use Rattle.std.specs.Prelude.{◌≡◌};
 ghost use Rattle.std.specs.FinMap as map;
 ghost use Rattle.std.specs.Option.{ForSome};
 
-mod show;
-
 use fw_advice::{AckSink, Call, Ended, Program, tell_after, warn_before};
+use fw_choosing::{falkirk_choose, is_choosing};
 use fw_command::{JobFault, fetch_flow};
 use fw_disk::{DiskCause, DiskStore};
+use fw_flow::Flow;
 use fw_outside::{FileFolder, Sink, Store, StreamSink};
 use fw_run::{Status, falkirk};
-use show::{ShowFault, show};
+use fw_show::{ShowFault, show};
 use std::alloc::{AllocError, Global};
 use std::io::{ErrorKind, IsTerminal};
 use std::process::ExitCode;
@@ -25,15 +25,15 @@ use std::{env, io};
 const AHEAD: &str = "each call of the store will fail: ";
 
 fn main(rt: HostRuntime) -> ExitCode {
-    ExitCode::from(run(&rt).number())
+    ExitCode::from(run(&rt))
 }
 
-// Words that are not UTF-8 are bad words, as no words are.
-fn run(rt: &HostRuntime) -> Status {
+// The number of the status. Words that are not UTF-8 are bad words, as no words are.
+fn run(rt: &HostRuntime) -> u8 {
     let mut notes = StreamSink::new(rt.stderr());
     match arguments(rt) {
         Ok(words) => run_words(rt, &words, &mut notes),
-        Err(error) if error.kind() == ErrorKind::OutOfMemory => out_of_memory(&mut notes),
+        Err(error) if error.kind() == ErrorKind::OutOfMemory => out_of_memory(&mut notes).number(),
         Err(_) => run_words(rt, &[], &mut notes),
     }
 }
@@ -44,7 +44,7 @@ fn arguments(rt: &HostRuntime) -> io::Result<Vec<String>> {
 }
 
 // Runs the words behind the first one, which names the store's folder; none, where that is no name.
-fn run_words<N: Sink>(rt: &HostRuntime, words: &[String], notes: &mut N) -> Status {
+fn run_words<N: Sink>(rt: &HostRuntime, words: &[String], notes: &mut N) -> u8 {
     match words {
         [folder, others @ ..] if is_name(folder) => run_over(rt, folder, others, notes),
         _ => run_over(rt, ".", &[], notes),
@@ -59,19 +59,49 @@ fn is_name(word: &str) -> bool {
     }
 }
 
-// Runs the words over the store of a folder, or shows the folder.
-fn run_over<N: Sink>(rt: &HostRuntime, name: &str, words: &[String], notes: &mut N) -> Status {
+// Runs the words over the store of a folder, or shows the folder, or runs a choice over texts.
+fn run_over<N: Sink>(rt: &HostRuntime, name: &str, words: &[String], notes: &mut N) -> u8 {
     let alloc = rt.alloc();
     let words: Result<Vec<&str>, _> = words.iter().map(|word| word.as_str()).collect(alloc);
-    let (Ok(words), Ok(name)) = (words, String::from_str(alloc, name)) else {
-        return out_of_memory(notes);
+    let Ok(words) = words else {
+        return out_of_memory(notes).number();
     };
-    let mut store = store_for(rt, name, &words);
-    match words.as_slice() {
-        ["show"] => show_folder(rt, &store, None, notes),
-        ["show", flow] if is_name(flow) => show_folder(rt, &store, Some(flow), notes),
+    if is_choosing(&words) {
+        return run_choice(rt, &words, notes);
+    }
+    match String::from_str(alloc, name) {
+        Ok(name) => run_in(rt, name, &words, notes).number(),
+        Err(_) => out_of_memory(notes).number(),
+    }
+}
+
+// Runs the words over the store of the folder of this name, or shows the folder.
+fn run_in<N: Sink>(rt: &HostRuntime, name: String, words: &[&str], notes: &mut N) -> Status {
+    let mut store = store_for(rt, name, words);
+    match words {
+        ["show"] => show_files(rt, &store, None, notes),
+        ["show", flow] if is_name(flow) => show_by(rt, &store, flow, notes),
         words => run_command(rt, words, &mut store, notes),
     }
+}
+
+// Runs a choice over texts, which wants no store.
+fn run_choice<N: Sink>(rt: &HostRuntime, words: &[&str], notes: &mut N) -> u8 {
+    let alloc = rt.alloc();
+    let call = Call {
+        program: Program::FalkirkDisk,
+        words,
+        is_person: rt.stderr().is_terminal(),
+    };
+    let mut folder = FileFolder::new(rt);
+    let mut out = AckSink::new(alloc, StreamSink::new(rt.stdout()));
+    let status = falkirk_choose(alloc, words, &mut folder, &mut out, notes);
+    let ended = Ended {
+        number: status.number(),
+        refusal: status.flow_refusal(),
+    };
+    tell_after(alloc, rt, call, ended, &out, notes);
+    ended.number
 }
 
 // The store of a folder: a held run takes the records that are there. Where it tells its records, there are none.
@@ -105,9 +135,8 @@ fn run_command<'a, N: Sink>(
             let _ = tell_cause(alloc, store, &cause, AHEAD, notes);
         }
     }
-    let mut folder = FileFolder::new(rt);
     let mut out = AckSink::new(alloc, StreamSink::new(rt.stdout()));
-    let status = falkirk(alloc, words, &mut folder, store, &mut out, notes);
+    let status = answer(rt, words, store, &mut out, notes);
     if call.is_person {
         if let Ok(told) = store.told() {
             let _ = notes.write(told.as_bytes());
@@ -119,6 +148,20 @@ fn run_command<'a, N: Sink>(
     };
     tell_after(alloc, rt, call, ended, &out, notes);
     status
+}
+
+// What the top call answers to the words.
+fn answer<'a, O: Sink, N: Sink>(
+    rt: &HostRuntime,
+    words: &[&str],
+    store: &mut DiskStore<'a, HostRuntime>,
+    out: &mut O,
+    notes: &mut N,
+) -> Status
+    requires { ForSome (⟦<DiskStore<'a, HostRuntime> as Store>⟧.view store.old).records (λ held. held ≡ map.empty) }
+{
+    let mut folder = FileFolder::new(rt);
+    falkirk(rt.alloc(), words, &mut folder, store, out, notes)
 }
 
 // Whether these are the words of a command that runs a flow.
@@ -144,22 +187,29 @@ fn tell_cause<R: Files, N: Sink>(
 }
 
 // Shows what each file of the folder is, with the names of the flow in this file.
-fn show_folder<N: Sink>(
+fn show_by<N: Sink>(
     rt: &HostRuntime,
     store: &DiskStore<'_, HostRuntime>,
-    flow: Option<&str>,
+    name: &str,
     notes: &mut N,
 ) -> Status {
     let alloc = rt.alloc();
-    let flow = match flow {
-        None => None,
-        Some(name) => match fetch_flow(alloc, &mut FileFolder::new(rt), name) {
-            Ok(flow) => Some(flow),
-            Err(fault) => return tell_status(alloc, status_of_job(fault), notes),
-        },
-    };
+    match fetch_flow(alloc, &mut FileFolder::new(rt), name) {
+        Ok(flow) => show_files(rt, store, Some(&flow), notes),
+        Err(fault) => tell_status(alloc, status_of_job(fault), notes),
+    }
+}
+
+// Shows what each file of the folder is.
+fn show_files<N: Sink>(
+    rt: &HostRuntime,
+    store: &DiskStore<'_, HostRuntime>,
+    flow: Option<&Flow>,
+    notes: &mut N,
+) -> Status {
+    let alloc = rt.alloc();
     let mut out = StreamSink::new(rt.stdout());
-    match show(alloc, store, flow.as_ref(), &mut out) {
+    match show(alloc, store, flow, &mut out) {
         Ok(true) => Status::Done,
         Ok(false) => tell_status(alloc, Status::StoreFault, notes),
         Err(ShowFault::Out) => tell_status(alloc, Status::WriteFault, notes),

@@ -12,7 +12,7 @@ pub struct AckSink<S: Sink> {
 }
 
 /// How many epochs each output has acknowledged.
-#[derive(Debug, Drop)]
+#[derive(Drop)]
 pub(crate) struct Acks {
     alloc: Global,
     counts: Vec<Count>,
@@ -21,7 +21,7 @@ pub(crate) struct Acks {
 }
 
 /// How many epochs an output has acknowledged.
-#[derive(Debug, Drop)]
+#[derive(Drop)]
 struct Count {
     output: Vec<u8>,
     epochs: u64,

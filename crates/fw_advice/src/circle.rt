@@ -10,7 +10,7 @@ const MOST_NODES: usize = 256;
 const MOST_EDGES: usize = 512;
 
 /// The edges of a flow, by the places of their nodes.
-#[derive(Debug, Drop)]
+#[derive(Drop)]
 pub(crate) struct Walks {
     nodes: usize,
     edges: Vec<(usize, usize)>,
@@ -92,26 +92,51 @@ fn place_of(all: &Declarations<'_>, name: &[u8]) -> Option<usize> {
 /// Which nodes go round where they may not (F6), in words.
 pub(crate) fn circle(alloc: Global, all: &Declarations<'_>) -> Result<String, AllocError> {
     let walks = Walks::of(alloc, all)?;
-    let every = vec![in alloc; true; walks.nodes]?;
-    for (place, node) in all.nodes.iter().enumerate() {
-        if is_outside(all, *node) {
-            let round = round_of(alloc, &walks, place, every.as_slice())?;
-            if !round.is_empty() {
-                let mut said = format!(in alloc;
-                    "a node outside loops stands in a circle; round go:"
-                )?;
-                add_names(all, round.as_slice(), &mut said)?;
-                return Ok(said);
-            }
-        }
+    circle_by(alloc, all, &walks)
+}
+
+// The same by the walks of the flow.
+fn circle_by(alloc: Global, all: &Declarations<'_>, walks: &Walks) -> Result<String, AllocError> {
+    let said = circle_outside(alloc, all, walks)?;
+    if !said.is_empty() {
+        return Ok(said);
     }
     for it in all.loops.iter() {
-        let said = circle_in(alloc, all, &walks, it.name.bytes)?;
+        let said = circle_in(alloc, all, walks, it.name.bytes)?;
         if !said.is_empty() {
             return Ok(said);
         }
     }
     format!(in alloc; "nodes stand in a circle without a `feedback`")
+}
+
+// Which nodes go round with one outside loops, in words; nothing where none do.
+fn circle_outside(
+    alloc: Global,
+    all: &Declarations<'_>,
+    walks: &Walks,
+) -> Result<String, AllocError> {
+    let every = vec![in alloc; true; walks.nodes]?;
+    for (place, node) in all.nodes.iter().enumerate() {
+        if is_outside(all, *node) {
+            let round = round_of(alloc, walks, place, every.as_slice())?;
+            if !round.is_empty() {
+                return outside_told(alloc, all, round.as_slice());
+            }
+        }
+    }
+    Ok(String::new(alloc))
+}
+
+// A circle through nodes outside loops, in words.
+fn outside_told(
+    alloc: Global,
+    all: &Declarations<'_>,
+    round: &[usize],
+) -> Result<String, AllocError> {
+    let mut said = format!(in alloc; "a node outside loops stands in a circle; round go:")?;
+    add_names(all, round, &mut said)?;
+    Ok(said)
 }
 
 // Whether a node stands outside loops.
@@ -135,15 +160,25 @@ fn circle_in(
         if begins && is_in(allowed.as_slice(), place) {
             let round = round_of(alloc, walks, place, allowed.as_slice())?;
             if !round.is_empty() {
-                let mut said = format!(in alloc; "a circle in the loop `")?;
-                add_shown(&mut said, name)?;
-                said.push_str("` passes no `feedback` of it; round go:")?;
-                add_names(all, round.as_slice(), &mut said)?;
-                return Ok(said);
+                return inside_told(alloc, all, name, round.as_slice());
             }
         }
     }
     Ok(String::new(alloc))
+}
+
+// A circle in a loop, in words.
+fn inside_told(
+    alloc: Global,
+    all: &Declarations<'_>,
+    name: &[u8],
+    round: &[usize],
+) -> Result<String, AllocError> {
+    let mut said = format!(in alloc; "a circle in the loop `")?;
+    add_shown(&mut said, name)?;
+    said.push_str("` passes no `feedback` of it; round go:")?;
+    add_names(all, round, &mut said)?;
+    Ok(said)
 }
 
 // Whether a node stands in a loop or in one within it, and is not its feedback.

@@ -1,9 +1,9 @@
 //! What the lines of a flow declare, as far as they can be read.
-use crate::word::{Row, Word};
+use crate::word::{Row, Word, str_of};
 use std::alloc::{AllocError, Global};
 
 /// The domain of a node, or that in which it sends.
-#[derive(Clone, Copy, Debug)]
+#[derive(Clone, Copy)]
 pub(crate) enum Domain<'a> {
     Epoch,
     Number,
@@ -12,7 +12,7 @@ pub(crate) enum Domain<'a> {
 }
 
 /// A line that declares a loop.
-#[derive(Clone, Copy, Debug)]
+#[derive(Clone, Copy)]
 pub(crate) struct LoopLine<'a> {
     pub(crate) number: u32,
     pub(crate) name: Word<'a>,
@@ -23,7 +23,7 @@ pub(crate) struct LoopLine<'a> {
 }
 
 /// A line that declares a node.
-#[derive(Clone, Copy, Debug)]
+#[derive(Clone, Copy)]
 pub(crate) struct NodeLine<'a> {
     pub(crate) number: u32,
     pub(crate) name: Word<'a>,
@@ -38,7 +38,7 @@ pub(crate) struct NodeLine<'a> {
 }
 
 /// A line that declares an edge.
-#[derive(Clone, Copy, Debug)]
+#[derive(Clone, Copy)]
 pub(crate) struct EdgeLine<'a> {
     pub(crate) number: u32,
     pub(crate) name: Word<'a>,
@@ -47,7 +47,7 @@ pub(crate) struct EdgeLine<'a> {
 }
 
 /// What a line declares.
-#[derive(Clone, Copy, Debug)]
+#[derive(Clone, Copy)]
 enum Line<'a> {
     Loop(LoopLine<'a>),
     Node(NodeLine<'a>),
@@ -56,7 +56,7 @@ enum Line<'a> {
 }
 
 /// What a flow declares, in the order of the lines.
-#[derive(Debug, Drop)]
+#[derive(Drop)]
 pub(crate) struct Declarations<'a> {
     pub(crate) loops: Vec<LoopLine<'a>>,
     pub(crate) nodes: Vec<NodeLine<'a>>,
@@ -191,10 +191,10 @@ fn declared_on<'a>(row: &Row<'a>) -> Line<'a> {
     let [first, ..] = words else {
         return Line::Nothing;
     };
-    match first.bytes {
-        b"loop" => loop_line(row.number, words),
-        b"node" => node_line(row.number, words),
-        b"edge" => edge_line(row.number, words),
+    match str_of(first.bytes) {
+        "loop" => loop_line(row.number, words),
+        "node" => node_line(row.number, words),
+        "edge" => edge_line(row.number, words),
         _ => Line::Nothing,
     }
 }
@@ -237,8 +237,8 @@ fn node_line<'a>(number: u32, words: &[Word<'a>]) -> Line<'a> {
 
 // The loop that a node's line names.
 fn loop_of<'a>(kind: &[u8], operand: Option<Word<'a>>, words: &[Word<'a>]) -> Option<Word<'a>> {
-    match kind {
-        b"enter" | b"feedback" | b"leave" => operand,
+    match str_of(kind) {
+        "enter" | "feedback" | "leave" => operand,
         _ => match words {
             [_, _, _, .., before, name, _, _] if before.bytes == b"loop".as_slice() => Some(*name),
             _ => None,

@@ -3,7 +3,7 @@ use crate::declared::{Declarations, Domain, EdgeLine, LoopLine, NodeLine, is_sam
 use crate::shown::Shown;
 use crate::slip::{Slip, add_near_name};
 use crate::slot::{is_large, is_one_of};
-use crate::word::Word;
+use crate::word::{Word, str_of};
 use fw_lines::{Number, number};
 use std::alloc::{AllocError, Global};
 use std::fmt;
@@ -50,9 +50,9 @@ pub(crate) fn twice_slip<'a>(
     let [first, name, ..] = words else {
         return Ok(None);
     };
-    let earlier = match first.bytes {
-        b"node" => all.node(name.bytes).map(|node| node.number),
-        b"edge" => all.edge(name.bytes).map(|edge| edge.number),
+    let earlier = match str_of(first.bytes) {
+        "node" => all.node(name.bytes).map(|node| node.number),
+        "edge" => all.edge(name.bytes).map(|edge| edge.number),
         _ => all.a_loop(name.bytes).map(|it| it.number),
     };
     let Some(line) = earlier else {
@@ -178,11 +178,11 @@ pub(crate) fn edges_slip<'a>(alloc: Global, all: &Declarations<'a>, line: u32) -
 
 // How many edges a kind takes.
 fn wanted_edges(kind: &[u8]) -> &'static str {
-    match kind {
-        b"input" => "no edge into it",
-        b"concat" => "at least two edges into it",
-        b"join" => "two edges into it",
-        b"output" => "one edge into it, and none out of it",
+    match str_of(kind) {
+        "input" => "no edge into it",
+        "concat" => "at least two edges into it",
+        "join" => "two edges into it",
+        "output" => "one edge into it, and none out of it",
         _ => "one edge into it; a `concat` before it makes one of several",
     }
 }

@@ -1,9 +1,9 @@
 //! Where a line leaves the forms of its text.
 use crate::slot::Slot;
-use crate::word::Word;
+use crate::word::{Word, str_of};
 
 /// The first place of a line at which it leaves its form.
-#[derive(Clone, Copy, Debug)]
+#[derive(Clone, Copy)]
 pub(crate) struct Wrong<'a> {
     /// The word there; none where the line ends too early.
     pub(crate) word: Option<Word<'a>>,
@@ -98,18 +98,18 @@ fn node_form<'a>(words: &[Word<'a>]) -> Result<(), Wrong<'a>> {
     let [kind, ..] = rest else {
         return Ok(());
     };
-    match kind.bytes {
-        b"input" => end(behind, "the end of the line: an input has no policy"),
-        b"output" => output_form(behind),
-        b"select" => select_form(behind),
-        b"concat" | b"distinct" | b"join" | b"sum" => standing_form(behind, Slot::PolicyOrLoop),
-        b"enter" | b"feedback" | b"leave" => {
+    match str_of(kind.bytes) {
+        "input" => end(behind, "the end of the line: an input has no policy"),
+        "output" => output_form(behind),
+        "select" => select_form(behind),
+        "concat" | "distinct" | "join" | "sum" => standing_form(behind, Slot::PolicyOrLoop),
+        "enter" | "feedback" | "leave" => {
             policy_form(take(
                 behind,
                 Slot::Name("the loop's name, without the word `loop`"),
             )?)
         }
-        b"regroup" => {
+        "regroup" => {
             policy_form(take(
                 behind,
                 Slot::Number("how many numbers make an epoch, a number"),
@@ -189,14 +189,14 @@ pub(crate) fn schedule_form<'a>(words: &[Word<'a>]) -> Result<(), Wrong<'a>> {
     let [verb, ..] = words else {
         return Ok(());
     };
-    match verb.bytes {
-        b"inject" => named(rest, Slot::Name("the name of an input")),
-        b"ack" => named(rest, Slot::Name("the name of an output")),
-        b"checkpoint" => named(rest, Slot::Name("the name of a node")),
-        b"deliver" => stamped(rest, Slot::Name("the name of an edge")),
-        b"notify" => stamped(rest, Slot::Name("the name of a node")),
-        b"fail" => failing(rest),
-        b"auto" => named(rest, Slot::Number("at most how many steps, a number")),
+    match str_of(verb.bytes) {
+        "inject" => named(rest, Slot::Name("the name of an input")),
+        "ack" => named(rest, Slot::Name("the name of an output")),
+        "checkpoint" => named(rest, Slot::Name("the name of a node")),
+        "deliver" => stamped(rest, Slot::Name("the name of an edge")),
+        "notify" => stamped(rest, Slot::Name("the name of a node")),
+        "fail" => failing(rest),
+        "auto" => named(rest, Slot::Number("at most how many steps, a number")),
         _ => end(rest, "the end of the line: this step has no operand"),
     }
 }

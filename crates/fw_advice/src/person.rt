@@ -200,6 +200,7 @@ fn why(number: u8, is_held: bool) -> &'static str {
             "  the store failed: is its folder there, and empty at first? Is there room on its disk? May you write there? (docs/guide.md, \"When the store fails\")\n",
         9 =>
             "  a record was changed in the store's folder: no run can restore it; begin with an empty folder\n",
+        12 | 13 => "  docs/choosing.md has the rule of this code\n",
         10 => "  memory was refused: take smaller texts, or raise the limit (ulimit -v)\n",
         _ => "",
     }

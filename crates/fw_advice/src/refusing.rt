@@ -45,15 +45,26 @@ pub fn advice(alloc: Global, refused: &Refused<'_>) -> Result<Vec<u8>, AllocErro
 }
 
 fn told<'a>(alloc: Global, refused: &Refused<'a>) -> Result<String, AllocError> {
-    let code = refused.refusal.code;
     let flow_rows = rows(alloc, refused.flow)?;
     let all = Declarations::of(alloc, flow_rows.as_slice())?;
     let mut told = String::new(alloc);
+    add_all(alloc, refused, &all, &mut told)?;
+    Ok(told)
+}
+
+// Adds what is wrong, the rule, and how to mend it.
+fn add_all<'a>(
+    alloc: Global,
+    refused: &Refused<'a>,
+    all: &Declarations<'a>,
+    told: &mut String,
+) -> Result<(), AllocError> {
+    let code = refused.refusal.code;
     let is_cured = if refused.refusal.line == 0 {
-        add_whole(alloc, refused, &all, &mut told)?;
+        add_whole(alloc, refused, all, told)?;
         false
     } else {
-        add_line(alloc, refused, &all, &mut told)?
+        add_line(alloc, refused, all, told)?
     };
     let rule = rule(code);
     let word = code.as_str();
@@ -62,7 +73,7 @@ fn told<'a>(alloc: Global, refused: &Refused<'a>) -> Result<String, AllocError> 
         let cure = cure(code);
         write!(told, "  to mend it: {cure}\n")?;
     }
-    Ok(told)
+    Ok(())
 }
 
 // Adds what is wrong with a text as a whole.
@@ -110,6 +121,11 @@ fn add_line<'a>(
     let words = words_of(alloc, line)?;
     let slip = slip_of(alloc, refused, all, line, words.as_slice())?;
     write!(told, "{name}:{number}: ")?;
+    add_slip(line, slip.as_ref(), told)
+}
+
+// Adds what is wrong on this line, and says whether that says how to mend it too.
+fn add_slip(line: &[u8], slip: Option<&Slip<'_>>, told: &mut String) -> Result<bool, AllocError> {
     let Some(slip) = slip else {
         told.push_str("this line breaks the rule\n")?;
         add_text(line, None, told)?;

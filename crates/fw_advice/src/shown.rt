@@ -9,7 +9,7 @@ use std::fmt;
 const SHOWN: usize = 60;
 
 /// Bytes as they are shown: those that are printed stand for themselves, each other one is told by its number.
-#[derive(Clone, Copy, Debug)]
+#[derive(Clone, Copy)]
 pub(crate) struct Shown<'a>(pub(crate) &'a [u8]);
 
 impl fmt::Display for Shown<'_> {

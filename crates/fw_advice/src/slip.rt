@@ -7,7 +7,7 @@ use crate::word::Word;
 use std::alloc::{AllocError, Global};
 
 /// What is wrong on a line.
-#[derive(Debug, Drop)]
+#[derive(Drop)]
 pub(crate) struct Slip<'a> {
     /// The word that is wrong; none for the line's end or all of it.
     pub(crate) word: Option<Word<'a>>,

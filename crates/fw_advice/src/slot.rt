@@ -2,7 +2,7 @@
 use fw_lines::{Number, is_name, number};
 
 /// What the form of a line wants at a place.
-#[derive(Clone, Copy, Debug)]
+#[derive(Clone, Copy)]
 pub(crate) enum Slot {
     /// `loop`, `node` or `edge`.
     Declaration,

@@ -2,13 +2,13 @@
 use crate::declared::{Declarations, Domain, NodeLine};
 use crate::shown::Shown;
 use crate::slip::{Slip, add_near_name};
-use crate::word::Word;
+use crate::word::{Word, str_of};
 use std::alloc::{AllocError, Global};
 
 type Found<'a> = Result<Option<Slip<'a>>, AllocError>;
 
 /// What a name of a line is to be.
-#[derive(Clone, Copy, Debug)]
+#[derive(Clone, Copy)]
 enum Sort {
     Input,
     Output,
@@ -19,10 +19,10 @@ enum Sort {
 impl Sort {
     // What a step wants that begins with this verb.
     fn of(verb: &[u8]) -> Self {
-        match verb {
-            b"inject" | b"batch" => Sort::Input,
-            b"ack" => Sort::Output,
-            b"deliver" => Sort::Edge,
+        match str_of(verb) {
+            "inject" | "batch" => Sort::Input,
+            "ack" => Sort::Output,
+            "deliver" => Sort::Edge,
             _ => Sort::Node,
         }
     }
@@ -165,8 +165,8 @@ pub(crate) fn stamp_slip<'a>(
 
 // The node whose domain a stamp has to lie in.
 fn receiver<'a>(all: &Declarations<'a>, verb: &[u8], name: &[u8]) -> Option<NodeLine<'a>> {
-    match verb {
-        b"deliver" => all.node(all.edge(name)?.dst.bytes),
+    match str_of(verb) {
+        "deliver" => all.node(all.edge(name)?.dst.bytes),
         _ => all.node(name),
     }
 }

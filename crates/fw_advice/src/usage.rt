@@ -24,7 +24,7 @@ impl Program {
 }
 
 /// The commands.
-const COMMANDS: [Command; 7] = [
+const COMMANDS: [Command; 9] = [
     Command {
         word: "run",
         operands: "FLOW INPUTS SCHEDULE",
@@ -67,10 +67,22 @@ const COMMANDS: [Command; 7] = [
         count: 1,
         does: "print the nodes of a flow",
     },
+    Command {
+        word: "choose",
+        operands: "FLOW OFFERS",
+        count: 2,
+        does: "print the largest choice of what the nodes of any engine offer",
+    },
+    Command {
+        word: "verify",
+        operands: "FLOW OFFERS CERTIFICATE",
+        count: 3,
+        does: "tell whether such an answer is right",
+    },
 ];
 
 /// A command.
-#[derive(Clone, Copy, Debug)]
+#[derive(Clone, Copy)]
 struct Command {
     word: &'static str,
     operands: &'static str,
@@ -122,7 +134,7 @@ fn add_reason(
             nearest_of(
                 alloc,
                 first.as_bytes(),
-                b"run endure explain hold gen denote check".as_slice(),
+                b"run endure explain hold gen denote check choose verify".as_slice(),
             )?,
             told,
         )?;

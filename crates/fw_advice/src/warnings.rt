@@ -12,22 +12,46 @@ pub(crate) fn flow_warnings(alloc: Global, name: &str, text: &[u8]) -> Result<St
     let rows = rows(alloc, text)?;
     let all = Declarations::of(alloc, rows.as_slice())?;
     let walks = Walks::of(alloc, &all)?;
-    let every = vec![in alloc; true; all.nodes.len()]?;
     let mut told = String::new(alloc);
-    let mut fed = vec![in alloc; false; all.nodes.len()]?;
-    for (place, node) in all.nodes.iter().enumerate() {
-        if node.kind == b"input".as_slice() && walks.is_whole() {
-            let reached = walks.from(alloc, place, every.as_slice())?;
-            if !reaches_output(&all, reached.as_slice()) {
-                add_nowhere(name, *node, &mut told)?;
-            }
-            join(&mut fed, reached.as_slice());
-        }
-    }
     if walks.is_whole() {
-        add_unentered(name, &all, fed.as_slice(), &mut told)?;
+        add_astray(alloc, name, &all, &walks, &mut told)?;
     }
     Ok(told)
+}
+
+// Adds the inputs that lead to no output, and the loops that nothing enters which comes from an input.
+fn add_astray(
+    alloc: Global,
+    name: &str,
+    all: &Declarations<'_>,
+    walks: &Walks,
+    told: &mut String,
+) -> Result<(), AllocError> {
+    let mut fed = vec![in alloc; false; all.nodes.len()]?;
+    feed(alloc, name, all, walks, &mut fed, told)?;
+    add_unentered(name, all, fed.as_slice(), told)
+}
+
+// Joins the places that inputs reach, and adds the inputs that lead to no output.
+fn feed(
+    alloc: Global,
+    name: &str,
+    all: &Declarations<'_>,
+    walks: &Walks,
+    fed: &mut Vec<bool>,
+    told: &mut String,
+) -> Result<(), AllocError> {
+    let every = vec![in alloc; true; all.nodes.len()]?;
+    for (place, node) in all.nodes.iter().enumerate() {
+        if node.kind == b"input".as_slice() {
+            let reached = walks.from(alloc, place, every.as_slice())?;
+            join(fed, reached.as_slice());
+            if !reaches_output(all, reached.as_slice()) {
+                add_nowhere(name, *node, told)?;
+            }
+        }
+    }
+    Ok(())
 }
 
 // Whether an output is among these places.
@@ -82,7 +106,7 @@ fn is_entered(all: &Declarations<'_>, fed: &[bool], name: &[u8]) -> bool {
 }
 
 /// The texts of a run, with their names.
-#[derive(Clone, Copy, Debug)]
+#[derive(Clone, Copy)]
 pub(crate) struct RunTexts<'a> {
     pub(crate) flow: &'a [u8],
     pub(crate) inputs: &'a [u8],
@@ -101,31 +125,48 @@ pub(crate) fn run_warnings(
     let all = Declarations::of(alloc, flow_rows.as_slice())?;
     let batches = rows(alloc, texts.inputs)?;
     let steps = rows(alloc, texts.schedule)?;
-    let epochs = most_batches(&all, batches.as_slice());
     let mut told = String::new(alloc);
+    add_left(&all, batches.as_slice(), steps.as_slice(), acks, &mut told)?;
+    if !told.is_empty() {
+        add_end(texts.name, steps.as_slice(), &mut told)?;
+    }
+    Ok(told)
+}
+
+// Adds which outputs have not acknowledged all epochs, and why.
+fn add_left(
+    all: &Declarations<'_>,
+    batches: &[Row<'_>],
+    steps: &[Row<'_>],
+    acks: &Acks,
+    told: &mut String,
+) -> Result<(), AllocError> {
+    let epochs = most_batches(all, batches);
     for node in all.nodes.iter() {
         let is_of_epochs = node.last.bytes == b"epoch".as_slice();
         if node.kind == b"output".as_slice() && is_of_epochs {
             let acked = acks.epochs(node.name.bytes).unwrap_or(epochs);
             if acked < epochs {
-                add_unacknowledged(*node, acked, epochs, &mut told)?;
-                add_why(&all, batches.as_slice(), steps.as_slice(), *node, &mut told)?;
+                add_unacknowledged(*node, acked, epochs, told)?;
+                add_why(all, batches, steps, *node, told)?;
             }
         }
     }
-    if !told.is_empty() {
-        let name = Shown(texts.name.as_bytes());
-        let recover = if ends_failed(steps.as_slice()) {
-            "`recover` and "
-        } else {
-            ""
-        };
-        write!(
-            told,
-            "  to have all acknowledged, end {name} with {recover}`auto 1000000`\n"
-        )?;
-    }
-    Ok(told)
+    Ok(())
+}
+
+// Adds how the schedule of this name is to end.
+fn add_end(name: &str, steps: &[Row<'_>], told: &mut String) -> Result<(), AllocError> {
+    let name = Shown(name.as_bytes());
+    let recover = if ends_failed(steps) {
+        "`recover` and "
+    } else {
+        ""
+    };
+    write!(
+        told,
+        "  to have all acknowledged, end {name} with {recover}`auto 1000000`\n"
+    )
 }
 
 fn add_unacknowledged(

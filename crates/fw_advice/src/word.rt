@@ -6,7 +6,7 @@ use std::alloc::{AllocError, Global};
 const LINE_LIMIT: usize = 1 << 25;
 
 /// A word of a line.
-#[derive(Clone, Copy, Debug)]
+#[derive(Clone, Copy)]
 pub(crate) struct Word<'a> {
     /// Its bytes.
     pub(crate) bytes: &'a [u8],
@@ -14,8 +14,13 @@ pub(crate) struct Word<'a> {
     pub(crate) from: usize,
 }
 
+/// A word as a text; the empty one, where it is none.
+pub(crate) fn str_of(word: &[u8]) -> &str {
+    str::from_utf8(word).unwrap_or("")
+}
+
 /// A line that says something.
-#[derive(Debug, Drop)]
+#[derive(Drop)]
 pub(crate) struct Row<'a> {
     /// Lines are counted from 1.
     pub(crate) number: u32,

@@ -4,6 +4,7 @@ ghost use Rattle.fw_keep.specs.Stored.{IsEmptyStore};
 use crate::noted::NotedStore;
 use crate::run::{Run, with_line};
 use crate::stopped::StoppedStore;
+use fw_choosing::{falkirk_choose, is_choosing};
 use fw_outside::{
     Folder, FoulBytes, FoulStore, MemFolder, MemSink, MemStore, MemText, Sink, Store,
 };
@@ -288,19 +289,34 @@ fn run_over<K: Store>(
 ) -> Result<u8, AllocError>
     requires { IsEmptyStore (K.view store.old).records }
 {
+    let words = words_of(alloc, words)?;
+    if is_choosing(&words) {
+        return Ok(choose_over(alloc, &words, outside));
+    }
+    Ok(answer_over(alloc, &words, outside, store))
+}
+
+/// The words of a command; `""` is an empty one.
+fn words_of(alloc: Global, words: &str) -> Result<Vec<&str>, AllocError> {
     let mut list = Vec::new(alloc);
     for word in words.split_whitespace() {
         list.push(if word == "\"\"" { "" } else { word })?;
     }
-    let status = falkirk(
-        alloc,
-        &list,
-        &mut outside.folder,
-        store,
-        &mut outside.out,
-        &mut outside.notes,
-    );
-    Ok(status.number())
+    Ok(list)
+}
+
+/// Runs a command over texts of choices, which wants no store; the number of its status.
+fn choose_over(alloc: Global, words: &[&str], outside: &mut Outside) -> u8 {
+    let Outside { folder, out, notes } = outside;
+    falkirk_choose(alloc, words, folder, out, notes).number()
+}
+
+/// Runs any other command; the number of its status.
+fn answer_over<K: Store>(alloc: Global, words: &[&str], outside: &mut Outside, store: &mut K) -> u8
+    requires { IsEmptyStore (K.view store.old).records }
+{
+    let Outside { folder, out, notes } = outside;
+    falkirk(alloc, words, folder, store, out, notes).number()
 }
 
 /// What a sink took after so many bytes.

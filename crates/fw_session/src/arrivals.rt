@@ -83,6 +83,7 @@ impl Arrivals {
         ensures opened { IfOk result (λ epoch. self.new.opened.items ≡ slice_set self.old.opened.items source false) }
         ensures came { IfOk result (λ epoch.
             self.new.came.items ≡ slice_set self.old.came.items source (min (came_in self.old source + 1) (2 ^ 64 - 1))) }
+        ensures only { IsErr result → IsErrOf result (FeedFault.Closed source) }
         ensures stays { IsErr result → self.new ≡ self.old }
         ensures closed { IsErrOf result (FeedFault.Closed source) ↔ is_open_in self.old source ≡ false }
     {

@@ -67,6 +67,7 @@ impl<K: Store + Drop> Session<K> {
         ensures closed { IsErrOf result (FeedFault.Closed source) ↔ is_open_in self.old.arrivals source ≡ false }
         ensures full { (story : Story) → IsAt self.old.engine (K.view self.old.store).records self.old.arrivals story
             → IsErrOf result (FeedFault.Full source) → 2 ^ 20 - 1 ≤ came_in self.old.arrivals source }
+        ensures flow { flow_of self.new.engine ≡ flow_of self.old.engine }
         ensures store { self.new.store ≡ self.old.store }
         ensures told { was_refused self.new.engine ≡ was_refused self.old.engine }
     {
@@ -83,6 +84,7 @@ impl<K: Store + Drop> Session<K> {
         ensures closes { (story : Story) → IsAt self.old.engine (K.view self.old.store).records self.old.arrivals story
             → IfOk result (λ epoch. IsAt self.new.engine (K.view self.new.store).records self.new.arrivals (after_close source story)) }
         ensures came { IsErr result → self.new.arrivals ≡ self.old.arrivals }
+        ensures only { IsErr result → IsErrOf result (FeedFault.Closed source) }
         ensures closed { IsErrOf result (FeedFault.Closed source) ↔ is_open_in self.old.arrivals source ≡ false }
         ensures engine { self.new.engine ≡ self.old.engine }
         ensures store { self.new.store ≡ self.old.store }
@@ -198,6 +200,7 @@ fn feed_engine(
     ensures full { (records : Option Records) (story : Story) → IsAt engine.old records arrivals.old story
         → IsErrOf result (FeedFault.Full source) → 2 ^ 20 - 1 ≤ came_in arrivals.old source }
     ensures told { was_refused engine.new ≡ was_refused engine.old }
+    ensures flow { flow_of engine.new ≡ flow_of engine.old }
     ensures keep { keep_of engine.new ≡ keep_of engine.old }
 {
     let epoch = arrivals.next_epoch(source)?;

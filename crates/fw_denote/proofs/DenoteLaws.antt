@@ -8,9 +8,11 @@ use Rattle.std.proofs.lemmas.Bool.{cases_lt}
 use Rattle.fw_flow.specs.declared.node.Edge.{Edge}
 use Rattle.fw_flow.specs.Dataflow.{Dataflow, System, kind_of, sender}
 use Rattle.fw_flow.specs.WellFormed.{IsWellFormed}
-use Rattle.fw_flow.specs.WholeBags.{Timed, in_order}
+use Rattle.fw_flow.specs.WholeBags.{Timed, in_order, outputs_of}
+use Rattle.fw_model.specs.Carried.{carried_timed}
 use Rattle.fw_model.specs.Denotation.{Family, IsDenotation, rounds}
 use Rattle.fw_model.specs.Measure.{Measure, enough_rounds}
+use Rattle.fw_model.proofs.CarriedLaws.{carried_timed-none, carried_timed-all}
 use Rattle.fw_model.proofs.MeasureLaws.{measure-exists}
 use Rattle.fw_model.proofs.DependenceLaws.{recs_decide}
 use Rattle.fw_model.proofs.DenotationLaws.{denotation-exists, denotation-in_order, outputs_of-same, past-outputs}
@@ -32,8 +34,8 @@ past-held flow bags h e l =
 pub solved-denotes : (sys : System) → IsWellFormed sys.flow → (bags : List (List Timed)) → AreBagsHeld sys.flow bags → IsSolved sys bags
     → IsDenotation sys (family_held sys.flow bags)
 solved-denotes sys w bags h s e = elim (cases_lt e (length sys.flow.edges)) [
-  | inl l ↦ s (sender sys.flow e) (w.senders_declared e l)
-  | inr l ↦ past-held sys.flow bags h e l ∙ sym (past-outputs sys (family_held sys.flow bags) e l)
+  | inl l ↦ s (sender sys.flow e) (w.senders_declared e l) ∙ sym (carried_timed-all sys.flow e (outputs_of sys (family_held sys.flow bags) (sender sys.flow e)))
+  | inr l ↦ past-held sys.flow bags h e l ∙ sym (ap (carried_timed sys.flow e) (past-outputs sys (family_held sys.flow bags) e l) ∙ carried_timed-none sys.flow e)
 ]
 
 -- so are bags that are right at each measure
@@ -50,9 +52,9 @@ right-denotes sys w bags h m l f =
     λ e. elim (cases_lt e (length flow.edges)) [
       | inl k ↦ recs_decide (family_held flow bags e) (family e) (h.in_order (sender flow e)) (denotation-in_order sys family d e)
           (λ t. a.each e k t (let b = by.bound _ (w.receivers_declared e k) t in omega arith))
-      | inr k ↦ past-held flow bags h e k ∙ sym (d e ∙ past-outputs sys family e k)
+      | inr k ↦ past-held flow bags h e k ∙ sym (d e ∙ ap (carried_timed flow e) (past-outputs sys family e k) ∙ carried_timed-none flow e)
     ] in
-    λ e. agree e ∙ d e ∙ sym (outputs_of-same sys (family_held flow bags) family agree (sender flow e))
+    λ e. agree e ∙ d e ∙ sym (ap (carried_timed flow e) (outputs_of-same sys (family_held flow bags) family agree (sender flow e)))
 
 -- ---- no bags
 
@@ -107,4 +109,4 @@ pub denotes_on : (sys : System) (bags on : List (List Timed)) → AreBagsHeld sy
     → on ≡ map (bag_sent_by bags) (map (sender sys.flow) (range_with_len 0 (length sys.flow.edges))) → IsDenotation sys (family_on on)
 denotes_on sys bags on h d i =
     let same : (e : ℕ) → family_on on e ≡ family_held sys.flow bags e = λ e. ap (λ xs. family_on xs e) i ∙ on_edges sys.flow bags h e in
-    λ e. same e ∙ d e ∙ sym (outputs_of-same sys (family_on on) (family_held sys.flow bags) same (sender sys.flow e))
+    λ e. same e ∙ d e ∙ sym (ap (carried_timed sys.flow e) (outputs_of-same sys (family_on on) (family_held sys.flow bags) same (sender sys.flow e)))

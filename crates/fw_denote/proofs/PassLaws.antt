@@ -14,6 +14,7 @@ use Rattle.fw_flow.specs.WellFormed.{IsWellFormed, IsWellFormedSystem}
 use Rattle.fw_flow.specs.WholeBags.{Timed, timed_cmp, in_order, outputs_of, outputs_of_kind, timed_where}
 use Rattle.fw_model.specs.Denotation.{Family, IsDenotation, bag_at}
 use Rattle.fw_model.specs.Measure.{Measure}
+use Rattle.fw_model.proofs.CarriedLaws.{carried_timed-all}
 use Rattle.fw_model.proofs.TimedLaws.{each-in_order, in_order-twice, timed_cmp-same}
 use Rattle.fw_model.proofs.DependenceLaws.{out_bags-depend}
 use Rattle.fw_model.proofs.DenotationLaws.{denotation-in_order}
@@ -105,7 +106,7 @@ right-sent sys w by family d bags h p m a e l i t k =
     ap (λ q. timed_where (same t) (outputs_of sys (family_held sys.flow bags) q)) (sym i)
     ∙ out_bags-depend sys (family_held sys.flow bags) family w by (λ x. h.in_order (sender sys.flow x)) (λ x. denotation-in_order sys family d x) e l t
     (λ x xl r s j. a.each x xl s (let z : by.measure (receiver sys.flow x) s ≡ by.measure (sender sys.flow e) s = ap (λ q. by.measure q s) r in omega arith))
-    ∙ sym (ap (timed_where (same t)) (d e))
+    ∙ sym (ap (timed_where (same t)) (d e ∙ carried_timed-all sys.flow e (outputs_of sys family (sender sys.flow e))))
 
 pub right_more : (sys : System) → IsWellFormed sys.flow → (by : Measure sys.flow) (family : Family) → IsDenotation sys family → (bags : List (List Timed)) → AreBagsHeld sys.flow bags
     → (p m : ℕ) → p < length sys.flow.nodes → AreRight sys.flow by family p m bags

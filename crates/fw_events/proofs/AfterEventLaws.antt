@@ -16,6 +16,7 @@ use Rattle.fw_flow.specs.Message.{messages_less}
 use Rattle.fw_flow.specs.NodeFunction.{event_node}
 use Rattle.fw_flow.specs.Restoring.{can_resend}
 use Rattle.fw_flow.specs.WellFormed.{IsWellFormedSystem}
+use Rattle.fw_model.specs.Carried.{carried}
 use Rattle.fw_model.specs.Filtering.{messages_outside}
 use Rattle.fw_model.specs.History.{is_injection, message_on, IsEnabled}
 use Rattle.fw_model.specs.Machine.{Machine, Write, events, front_of, is_failed}
@@ -78,7 +79,7 @@ logging-live sys state p e live here =
 none-put : (sys : System) (state : Machine) (v : Event) (sent : List Message) (e : ℕ) → is_failed state (event_node sys.flow v) ≡ false
     → (logs : Bool) → can_resend (policy_of sys.flow (event_node sys.flow v)) ≡ logs → is_logging sys state e ≡ not logs → put_on sys.flow e v sent ≡ []
 none-put sys state v sent e live logs c k =
-    cond-false (event_node sys.flow v == sender sys.flow e) sent []
+    cond-false (event_node sys.flow v == sender sys.flow e) (carried sys.flow e sent) []
     (false_from_ne_true (event_node sys.flow v == sender sys.flow e) (λ here.
     differ logs (sym c ∙ sym (logging-live sys state (event_node sys.flow v) e live here) ∙ k)))
   where

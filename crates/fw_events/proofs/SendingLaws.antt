@@ -15,10 +15,12 @@ use Rattle.fw_model.specs.History.{message_on}
 use Rattle.fw_model.specs.Filtering.{messages_outside}
 use Rattle.fw_model.specs.Machine.{front_of}
 use Rattle.fw_model.specs.SortedMessages.{with_messages}
+use Rattle.fw_model.proofs.CarriedLaws.{carried-all}
 use Rattle.fw_edge.specs.Messages.{MessagesState}
 use Rattle.fw_rollback.specs.Edges.{on_edge}
 use Rattle.fw_stands.specs.Events.{put_on}
-use Rattle.fw_stands.proofs.EventPutLaws.{out_edge-all, out_edge-more, out_edge-new}
+use Rattle.fw_progress.proofs.OutLaws.{out_edge-new}
+use Rattle.fw_stands.proofs.EventPutLaws.{out_edge-all, out_edge-more}
 use Rattle.fw_running.specs.declared.running.Running.{Running}
 use Rattle.fw_running.specs.Kept.{queue_at, log_at, is_down}
 use Rattle.fw_running.specs.Places.{IsPut}
@@ -291,6 +293,7 @@ sent-put : (flow : Dataflow) (v : Event) (sent : List Message) (e : ℕ) → e <
     → sent_to (out_edges flow (event_node flow v)) e sent ≡ put_on flow e v sent
 sent-put flow v sent e l =
     ap (λ b. cond b sent []) (out_edge-all flow (event_node flow v) e l ∙ eqb-sym (sender flow e) (event_node flow v))
+    ∙ ap (λ ms. cond (event_node flow v == sender flow e) ms []) (sym (carried-all flow e sent))
 
 -- the edges follow an event whose message is pending no more, and at which its node then sends these
 pub edges-follow : (v : Event) (sent : List Message) (old mid new : Running) → mid.flow ≡ old.flow → mid.parts.low ≡ old.parts.low

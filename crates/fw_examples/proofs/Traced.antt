@@ -8,6 +8,7 @@ use Rattle.fw_progress.specs.Trace.{IsTraceIf, TracesFollow}
 use Rattle.fw_progress.specs.declared.traces.Traces.{Traces}
 use Rattle.fw_examples.specs.RunningTotal.{valued_at_epoch, totals, two_epochs}
 use Rattle.fw_examples.specs.Traced.{AreTracesOfTwo, two_more_sent}
+use Rattle.fw_model.specs.Carried.{carried, is_carried}
 
 two_traced : (flow : Dataflow) (none empty sent came told out : Traces) → totals.flow ≡ flow → ((whole : Bool) (sys : System) (p : ℕ) (base : Frontier) → IsTraceIf whole sys [] p base none)
     → TracesFollow flow (Injected 0 0) [] none empty
@@ -16,7 +17,7 @@ two_traced : (flow : Dataflow) (none empty sent came told out : Traces) → tota
     → TracesFollow flow (Notified 1 (1 ∷ [])) ((1 ∷ []) ∷ []) came told
     → TracesFollow flow (Delivered 1 (valued_at_epoch 1 10)) [] told out
     → (base : Frontier) → IsTraceIf true totals two_epochs 1 base out
-unfolding kind_of receiver sender sends batches_of bounds_of
+unfolding kind_of receiver sender sends batches_of bounds_of carried is_carried
 two_traced flow none empty sent came told out same first a b c d e base =
     e true totals (drop 1 two_epochs) same refl 1 base
     (d true totals (drop 2 two_epochs) same refl 1 base (c true totals (drop 3 two_epochs) same refl 1 base (b true totals (drop 4 two_epochs) same refl 1 base
@@ -24,14 +25,14 @@ two_traced flow none empty sent came told out same first a b c d e base =
 
 -- where they are its traces of two epochs, they tell epoch 1, and are its traces once the input sent more
 pub two_told : (traces : Traces) → ((base : Frontier) → IsTraceIf true totals two_epochs 1 base traces) → AreTracesOfTwo traces
-unfolding kind_of receiver sender sends batches_of bounds_of policy_of
+unfolding kind_of receiver sender sends batches_of bounds_of policy_of carried is_carried
 two_told traces two =
     let all = two nothing in
     record {
       two = two;
       came = (all.delivered 0 (lit< tt) refl).outside.0 refl;
       told = all.notified.outside.0 refl;
-      sent = (all.sent (1, lit< tt, refl) refl).outside.0 refl;
+      sent = (all.sent 1 (lit< tt) refl refl).outside.0 refl;
       same = refl;
       two_more = λ law base. law true totals two_epochs two_more_sent 1 base traces refl (two base);
     }

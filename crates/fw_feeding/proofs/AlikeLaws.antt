@@ -14,6 +14,7 @@ use Rattle.fw_flow.specs.Dataflow.{Dataflow, kind_of, sender, bounds_of, bounds_
 use Rattle.fw_flow.specs.NodeFunction.{recs_on, numbered_messages, sequence_sent, messages_at_some, event_stamp, event_node, sends_of_kind, sends, sent_by}
 use Rattle.fw_flow.specs.Message.{messages_less, is_message_among}
 use Rattle.fw_flow.specs.Projection.{events_at, sent_count, count_from, phi_of_kind, phi, first_coordinate}
+use Rattle.fw_model.specs.Carried.{carried}
 use Rattle.fw_model.specs.History.{some_at, sent_messages, delivered_messages, pending_messages, injected_count, is_exhausted, injected_epochs, IsQuiet, IsAdmissible, IsComplete, IsNotifiable, IsDeliverable}
 use Rattle.fw_feeding.specs.Feeding.{with_batches}
 
@@ -70,7 +71,7 @@ node-alike flow now later h a p =
 
 pub messages-alike : (flow : Dataflow) (now later : List (List (List Rec))) (h : List Event) → AllByRecursion (InjectsAlike flow now later) h → (e : ℕ)
     → sent_messages (with_batches flow now) h e ≡ sent_messages (with_batches flow later) h e
-messages-alike flow now later h a e = node-alike flow now later h a (sender flow e)
+messages-alike flow now later h a e = ap (carried flow e) (node-alike flow now later h a (sender flow e))
 
 pub pending-alike : (flow : Dataflow) (now later : List (List (List Rec))) (h : List Event) → AreAlikeIn flow now later h → (e : ℕ)
     → pending_messages (with_batches flow now) h e ≡ pending_messages (with_batches flow later) h e

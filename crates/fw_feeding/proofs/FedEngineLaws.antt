@@ -86,7 +86,8 @@ trace-alike flow now later state a floor p traces t =
     record {
       delivered = t.delivered;
       notified = t.notified;
-      sent = λ o k. subst (λ ms. IsThinnedIf (takes && tells_sent flow p) (base_of_sent flow p base) (causes_in ms) (stamps_where_sent traces p)) same (t.sent o k);
+      sent = λ d l r k. subst (λ ms. IsThinnedIf (takes && tells_sent flow p) (base_of_sent flow p base) (causes_in ms) (stamps_where_sent traces d))
+          (messages-alike flow now later (events state.history) a.injected d) (t.sent d l r k);
       counted = λ k. subst (λ ms. IsSentTally base ms (counted_of traces p)) same (t.counted k);
     }
 

@@ -5,12 +5,11 @@ use Rattle.std.proofs.lemmas.Bool.{cases_Bool, cond_both, eqb-true}
 use Rattle.fw_flow.specs.declared.event.Event.{Event}
 use Rattle.fw_flow.specs.declared.event.Event.TheVariants.{Inject, Deliver, Notify}
 use Rattle.fw_flow.specs.declared.event.Message.{Message}
-use Rattle.fw_flow.specs.Dataflow.{System, sender}
-use Rattle.fw_flow.specs.NodeFunction.{event_node, sends, sent_by}
-use Rattle.fw_flow.specs.Projection.{events_at}
+use Rattle.fw_flow.specs.Dataflow.{System}
 use Rattle.fw_flow.specs.Message.{message_cmp, is_message_among, messages_less}
 use Rattle.fw_model.specs.History.{sent_messages, message_on, delivered_messages, pending_messages, IsEnabled, IsLegal}
 use Rattle.fw_flow.proofs.MessageLaws.{message_cmp-equal}
+use Rattle.fw_model.proofs.CarriedLaws.{sent-more}
 use Rattle.fw_model.proofs.SentLaws.{copy, IsSub, is_among-copies, less-weigh, delivered-was_sent}
 use Rattle.fw_model.proofs.WeightLaws.{weigh, weigh-append}
 use Rattle.fw_model.specs.SortedMessages.{sorted_messages, with_messages}
@@ -32,22 +31,8 @@ sent-both sys h l e =
 -- ---- one event more
 
 -- what was sent with one event more
-sent-more : (sys : System) (h : List Event) (v : Event) (e : ℕ) (w : Message → ℕ) → weigh w (sent_messages sys (v ∷ h) e) ≡ weigh w (sent_on sys h e v) + weigh w (sent_messages sys h e)
-unfolding weigh
-sent-more sys h v e w =
-    let q = sender sys.flow e in
-    let vs = events_at sys.flow q h in
-    elim (cases_Bool (event_node sys.flow v == q)) [
-      | inl c ↦
-          let a : weigh w (sent_messages sys (v ∷ h) e) ≡ weigh w (sends sys q vs v ++ sent_by sys q vs) = ap (λ b. weigh w (sent_by sys q (cond b (v ∷ vs) vs))) c in
-          let b : weigh w (sent_on sys h e v) ≡ weigh w (sends sys q vs v) = ap (λ b. weigh w (cond b (sends sys q vs v) [])) c in
-          let d = weigh-append w (sends sys q vs v) (sent_by sys q vs) in
-          omega arith
-      | inr c ↦
-          let a : weigh w (sent_messages sys (v ∷ h) e) ≡ weigh w (sent_by sys q vs) = ap (λ b. weigh w (sent_by sys q (cond b (v ∷ vs) vs))) c in
-          let b : weigh w (sent_on sys h e v) ≡ 0 = ap (λ b. weigh w (cond b (sends sys q vs v) [])) c in
-          omega arith
-    ]
+sent_more-weigh : (sys : System) (h : List Event) (v : Event) (e : ℕ) (w : Message → ℕ) → weigh w (sent_messages sys (v ∷ h) e) ≡ weigh w (sent_on sys h e v) + weigh w (sent_messages sys h e)
+sent_more-weigh sys h v e w = ap (weigh w) (sent-more sys h v e) ∙ weigh-append w (sent_on sys h e v) (sent_messages sys h e)
 
 copy-most : (q m : Message) (ms : List Message) → 0 < weigh (copy m) ms → copy q m ≤ weigh (copy q) ms
 copy-most q m ms l = elim (cases_Bool (is_eq (message_cmp q m))) [
@@ -84,7 +69,7 @@ pending-follows sys h v l e =
     let a = sorted_messages-weigh w now in
     let b = pending-weigh sys (v ∷ h) l e w in
     let c = weigh-append w on (delivered_messages h e) in
-    let d = sent-more sys h v e w in
+    let d = sent_more-weigh sys h v e w in
     let f = pending-weigh sys h l.1 e w in
     let g = with_messages-weigh w new (messages_less (sorted_messages old) on) in
     let i = less-weigh w (sorted_messages old) on (λ x. let y = sorted_messages-weigh (copy x) old in let z = message-sub sys h v l.0 e x in omega arith) in

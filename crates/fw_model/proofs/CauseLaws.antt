@@ -15,6 +15,7 @@ use Rattle.fw_flow.specs.Projection.{events_at, all_inside, phi}
 use Rattle.fw_model.specs.LawsOfSending.{InsidePhiComesFromInside, IsFromCauses, SendsAtMost, SendsComeFromCauses}
 use Rattle.fw_model.specs.Sending.{IsSentFrom, recs_by_count_on}
 use Rattle.fw_model.proofs.KindSorts.{by_stamp-no_sequence, sends_by}
+use Rattle.fw_model.proofs.CarriedLaws.{carried-each}
 use Rattle.fw_model.proofs.SendingLaws.{phi-by_stamp, phi-in_domain}
 use Rattle.fw_model.proofs.SendsLaws.{IsAt, sends_of_kind-each, sends-each}
 use Rattle.fw_model.proofs.SequenceLaws.{IsNumbered, numbered-each}
@@ -127,10 +128,11 @@ inside_phi-from_inside sys h e f p fr d =
     let q = sender sys.flow e in
     let vs = events_at sys.flow q h in
     let In : Stamp → Type 0 = λ t. in_domain (bounds_of sys.flow q) t ≡ true in
-    each-weaker (λ (m : Message). CausesSend sys.flow q m × AllByRecursion In m.causes) (λ m. phi sys h e f m.at ≡ true → all_inside f m.causes ≡ true) (sent_by sys q vs)
+    carried-each sys.flow e (λ (m : Message). phi sys h e f m.at ≡ true → all_inside f m.causes ≡ true) (sent_by sys q vs)
+    (each-weaker (λ (m : Message). CausesSend sys.flow q m × AllByRecursion In m.causes) (λ m. phi sys h e f m.at ≡ true → all_inside f m.causes ≡ true) (sent_by sys q vs)
     (λ m w k.
     let all : IsSentFrom (bounds_of sys.flow q) (send_stamp sys.flow q) f m.at = (phi-by_stamp sys h e f p fr m.at (phi-in_domain sys h e f m.at k)).0 k in
     all-of_each f m.causes
     (each-weaker (λ t. SendsAtMost sys.flow q m.at t × In t) (λ t. f t ≡ true) m.causes (λ t b. all t b.0.0 b.1 b.0.1 b.0.2) (each-both (SendsAtMost sys.flow q m.at) In m.causes w.0 w.1)))
     (each-both (CausesSend sys.flow q) (λ (m : Message). AllByRecursion In m.causes) (sent_by sys q vs)
-    (sent_by-causes_send sys q (by_stamp-no_sequence sys.flow (kind_of sys.flow q) p) vs) (sent_by-each_cause sys q In vs d))
+    (sent_by-causes_send sys q (by_stamp-no_sequence sys.flow (kind_of sys.flow q) p) vs) (sent_by-each_cause sys q In vs d)))

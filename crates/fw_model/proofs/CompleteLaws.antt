@@ -14,11 +14,13 @@ use Rattle.fw_flow.specs.declared.event.Event.TheVariants.{Inject, Deliver, Noti
 use Rattle.fw_flow.specs.declared.event.Message.{Message}
 use Rattle.fw_flow.specs.declared.kind.Kind.TheVariants.{OutputEpoch}
 use Rattle.fw_flow.specs.Dataflow.{System, Dataflow, idle_node, kind_of, sender, receiver, greatest_number, bounds_of, is_input_kind, is_notified_kind, batches_of, send_stamp, send_stamp_of_kind, is_sequence_kind, HasEpochs}
-use Rattle.fw_flow.specs.NodeFunction.{event_node, event_stamp, numbered_messages, sequence_sent, sends_of_kind, sends, sent_by}
+use Rattle.fw_flow.specs.NodeFunction.{event_node, event_stamp, numbered_messages, sequence_sent, sends_of_kind, sends}
 use Rattle.fw_flow.specs.Projection.{events_at, count_from, first_coordinate, phi, IsSenderFrontier}
 use Rattle.fw_flow.specs.WellFormed.{IsWellFormed}
 use Rattle.fw_model.proofs.KindSorts.{by_stamp-no_sequence}
 use Rattle.fw_model.proofs.LesserLaws.{lesser-in_domain, lesser-on_edge}
+use Rattle.fw_model.specs.Carried.{carried}
+use Rattle.fw_model.specs.LawsOfPending.{sent_on}
 use Rattle.fw_model.specs.History.{some_at, sent_messages, delivered_messages, pending_messages, was_delivered_to, was_notified, is_owed_notice, injected_count, is_exhausted, injected_epochs, IsAdmissible, IsEnabled, IsLegal}
 use Rattle.fw_flow.specs.Message.{messages_less}
 use Rattle.fw_model.specs.LawsOfCompleteFrontiers.{EnabledIsOutside, AdmissibleStaysAdmissible}
@@ -29,6 +31,7 @@ use Rattle.fw_model.proofs.SendsLaws.{IsAt, sends-each}
 use Rattle.fw_model.proofs.SequenceLaws.{IsNumbered, numbered-each, count-le_length, no_inject, sent_by-sequence, phi-sequence, bounds-sequence}
 use Rattle.fw_model.proofs.WellFormedLaws.{senders_well_formed}
 use Rattle.fw_model.proofs.LegalLaws.{enabled-in_domain, legal-in_domain, only_inputs_inject}
+use Rattle.fw_model.proofs.CarriedLaws.{carried-each, sent-more}
 use Rattle.fw_model.proofs.PendingLaws.{quiet-new, quiet-without, is_among-some_at}
 use Rattle.fw_model.specs.Sending.{SendsByStamp, SendsByCount, recs_by_count_on}
 
@@ -137,18 +140,20 @@ pub quiet-sent : (sys : System) (h : List Event) → IsWellFormed sys.flow → H
     → some_at (same t) (messages_less (sent_messages sys (v ∷ h) e) (delivered_messages h e)) ≡ false
 quiet-sent sys h w b l done a v k e t i quiet =
     let q = sender sys.flow e in
-    let vs = events_at sys.flow q h in
-    cond_both (event_node sys.flow v == q) (v ∷ vs) vs (λ ws. some_at (same t) (messages_less (sent_by sys q ws) (delivered_messages h e)) ≡ false)
+    let new = sends sys q (events_at sys.flow q h) v in
+    let fresh : AllByRecursion (λ (m : Message). same t m.at ≡ false) (sent_on sys h e v) =
+    cond_both (event_node sys.flow v == q) (carried sys.flow e new) [] (AllByRecursion (λ (m : Message). same t m.at ≡ false))
     (λ c.
     let here = eqb-true (event_node sys.flow v) q c in
     let d = enabled-in_domain sys h w b (legal-in_domain sys h w b l) v k in
     let o = enabled-outside sys h done a v k in
-    quiet-new t (sends sys q vs v) (sent_by sys q vs) (delivered_messages h e)
-    (outside-other sys h e (done q) t (a.frontier q) i (sends sys q vs v)
+    carried-each sys.flow e (λ (m : Message). same t m.at ≡ false) new
+    (outside-other sys h e (done q) t (a.frontier q) i new
     (fresh-outside sys h w l e (done q) v (a.frontier q)
-    (sym (ap (λ n. in_domain (bounds_of sys.flow n) (event_stamp v)) here) ∙ d) (sym (ap (λ n. done n (event_stamp v)) here) ∙ o)))
-    quiet)
-    (λ c. quiet)
+    (sym (ap (λ n. in_domain (bounds_of sys.flow n) (event_stamp v)) here) ∙ d) (sym (ap (λ n. done n (event_stamp v)) here) ∙ o))))
+    (λ c. tt) in
+    subst (λ (ms : List Message). some_at (same t) (messages_less ms (delivered_messages h e)) ≡ false) (sym (sent-more sys h v e))
+    (quiet-new t (sent_on sys h e v) (sent_messages sys h e) (delivered_messages h e) fresh quiet)
 
 pub quiet-event : (v : Event) (h : List Event) (e : ℕ) (t : Stamp) (ms : List Message)
     → some_at (same t) (messages_less ms (delivered_messages h e)) ≡ false → some_at (same t) (messages_less ms (delivered_messages (v ∷ h) e)) ≡ false

@@ -9,9 +9,10 @@ use Rattle.fw_flow.specs.declared.kind.Kind.{Kind}
 use Rattle.fw_flow.specs.declared.kind.Kind.TheVariants.{Input, OutputEpoch, OutputNumber, Distinct, Join, Sum, Total, Sequence, Ledger}
 use Rattle.fw_flow.specs.Dataflow.{System, Dataflow, kind_of, sender, receiver, in_edges, batches_of, greatest_number, domain_of_kind, out_domain_of_kind, bounds_of, bounds_of_domain, send_stamp_of_kind, HasEpochs}
 use Rattle.fw_flow.specs.WellFormed.{IsWellFormed}
-use Rattle.fw_flow.specs.WholeBags.{Timed, in_order, timed_recs, timed_at_some, timed_batches, recs_for_one, one_by_one, is_among_timed, distinct_timed, joined_timed, has_stamp, distinct_stamps, numbered_recs, joint_bag, outputs_of_kind}
+use Rattle.fw_flow.specs.WholeBags.{Timed, in_order, timed_recs, timed_at_some, timed_batches, recs_for_one, one_by_one, is_among_timed, distinct_timed, joined_timed, has_stamp, distinct_stamps, numbered_recs, joint_bag, outputs_of, outputs_of_kind}
 use Rattle.fw_model.specs.Denotation.{Family, rounds}
 use Rattle.fw_model.specs.LawsOfDenotation.{DenotationIsInDomain}
+use Rattle.fw_model.proofs.CarriedLaws.{carried_timed-each}
 use Rattle.fw_model.proofs.StampLaws.{line-leq}
 use Rattle.fw_model.proofs.SendingLaws.{send_stamp_of_kind-in_domain}
 use Rattle.fw_model.proofs.LegalLaws.{edge_domains}
@@ -134,7 +135,9 @@ outputs_of-in_domain sys w h family a e =
 
 pub rounds-in_domain : (sys : System) → IsWellFormed sys.flow → HasEpochs sys → (n e : ℕ) → IsEdgeInDomain sys (rounds sys n) e
 rounds-in_domain sys w h zero e = tt
-rounds-in_domain sys w h (suc n) e = outputs_of-in_domain sys w h (rounds sys n) (λ d. rounds-in_domain sys w h n d) e
+rounds-in_domain sys w h (suc n) e =
+    carried_timed-each sys.flow e (λ (r : Timed). in_domain (bounds_of sys.flow (receiver sys.flow e)) r.at ≡ true) (outputs_of sys (rounds sys n) (sender sys.flow e))
+    (outputs_of-in_domain sys w h (rounds sys n) (λ d. rounds-in_domain sys w h n d) e)
 
 pub denotation-in_domain : DenotationIsInDomain
 denotation-in_domain sys family w h d e =

@@ -8,9 +8,11 @@ use Rattle.fw_flow.specs.declared.node.Edge.{Edge}
 use Rattle.fw_flow.specs.Dataflow.{System, Dataflow, idle_node, kind_of, sender, receiver, in_edges, batches_of}
 use Rattle.fw_flow.specs.WellFormed.{IsWellFormed}
 use Rattle.fw_flow.specs.WholeBags.{Timed, in_order, outputs_of_kind, outputs_of}
+use Rattle.fw_model.specs.Carried.{carried_timed}
 use Rattle.fw_model.specs.Denotation.{Family, IsDenotation, rounds}
 use Rattle.fw_model.specs.LawsOfDenotation.{DenotationIsTheOnlyOne, DenotationExists, UnchangedRoundIsDenotation, LaterRoundsAreTheSame, DenotationIsInOrder}
-use Rattle.fw_model.proofs.TimedLaws.{IsAscendingTimed, ascending-in_order, how_often_timed, same_from_how_often, in_order-twice}
+use Rattle.fw_model.proofs.TimedLaws.{IsAscendingTimed, ascending-in_order, how_often_timed, same_from_how_often, in_order-ascending}
+use Rattle.fw_model.proofs.CarriedLaws.{carried_timed-none, carried_timed-ascending, carried_timed-how_often}
 use Rattle.fw_model.proofs.MeasureLaws.{measure-exists}
 use Rattle.fw_model.proofs.DependenceLaws.{AreAscending, map-agree, outputs-agree}
 use Rattle.fw_model.specs.Measure.{Measure, enough_rounds}
@@ -37,7 +39,8 @@ pub denotation-ascending : (sys : System) (family : Family) → IsDenotation sys
 denotation-ascending sys family d e =
     let q = sender sys.flow e in
     subst IsAscendingTimed (sym (d e))
-    (ascending-in_order (outputs_of_kind sys.flow (kind_of sys.flow q) (batches_of sys q) (map family (in_edges sys.flow q))))
+    (carried_timed-ascending sys.flow e (outputs_of sys family q)
+    (ascending-in_order (outputs_of_kind sys.flow (kind_of sys.flow q) (batches_of sys q) (map family (in_edges sys.flow q)))))
 
 solutions-agree : (sys : System) → IsWellFormed sys.flow → (by : Measure sys.flow) (f g : Family) → IsDenotation sys f → IsDenotation sys g
     → (m e : ℕ) → e < length sys.flow.edges → (x : Timed) → by.measure (receiver sys.flow e) x.at < m
@@ -45,9 +48,10 @@ solutions-agree : (sys : System) → IsWellFormed sys.flow → (by : Measure sys
 solutions-agree sys w by f g a b zero e l x h = absurd (omega arith)
 solutions-agree sys w by f g a b (suc m) e l x h =
     ap (how_often_timed x) (a e)
-    ∙ outputs-agree sys w by f g (denotation-ascending sys f a) (denotation-ascending sys g b) e l x
+    ∙ carried_timed-how_often sys.flow e x (outputs_of sys f (sender sys.flow e)) (outputs_of sys g (sender sys.flow e))
+    (outputs-agree sys w by f g (denotation-ascending sys f a) (denotation-ascending sys g b) e l x
     (λ d i r y k. solutions-agree sys w by f g a b m d i y
-    (let s : by.measure (receiver sys.flow d) y.at ≡ by.measure (sender sys.flow e) y.at = ap (λ p. by.measure p y.at) r in omega arith))
+    (let s : by.measure (receiver sys.flow d) y.at ≡ by.measure (sender sys.flow e) y.at = ap (λ p. by.measure p y.at) r in omega arith)))
     ∙ sym (ap (how_often_timed x) (b e))
 
 pub denotation-only : DenotationIsTheOnlyOne
@@ -56,7 +60,7 @@ denotation-only sys f g w a b e = elim (cases_lt e (length sys.flow.edges)) [
       let by = measure-exists sys.flow w in
       same_from_how_often (f e) (g e) (denotation-ascending sys f a e) (denotation-ascending sys g b e)
       (λ x. solutions-agree sys w by f g a b (suc (by.measure (receiver sys.flow e) x.at)) e l x (omega arith))
-  | inr l ↦ a e ∙ past-outputs sys f e l ∙ sym (past-outputs sys g e l) ∙ sym (b e)
+  | inr l ↦ a e ∙ ap (carried_timed sys.flow e) (past-outputs sys f e l ∙ sym (past-outputs sys g e l)) ∙ sym (b e)
 ]
 
 -- ---- rounds
@@ -65,7 +69,8 @@ pub rounds-ascending : (sys : System) (n : ℕ) → AreAscending (rounds sys n)
 rounds-ascending sys zero e = ascending-in_order []
 rounds-ascending sys (suc n) e =
     let q = sender sys.flow e in
-    ascending-in_order (outputs_of_kind sys.flow (kind_of sys.flow q) (batches_of sys q) (map (rounds sys n) (in_edges sys.flow q)))
+    carried_timed-ascending sys.flow e (outputs_of sys (rounds sys n) q)
+    (ascending-in_order (outputs_of_kind sys.flow (kind_of sys.flow q) (batches_of sys q) (map (rounds sys n) (in_edges sys.flow q))))
 
 rounds-agree : (sys : System) → IsWellFormed sys.flow → (by : Measure sys.flow) (m k : ℕ) → m ≤ k → (e : ℕ) → e < length sys.flow.edges
     → (x : Timed) → by.measure (receiver sys.flow e) x.at < m
@@ -73,13 +78,14 @@ rounds-agree : (sys : System) → IsWellFormed sys.flow → (by : Measure sys.fl
 rounds-agree sys w by zero k i e l x h = absurd (omega arith)
 rounds-agree sys w by (suc m) zero i e l x h = absurd (omega arith)
 rounds-agree sys w by (suc m) (suc k) i e l x h =
-    outputs-agree sys w by (rounds sys k) (rounds sys (suc k)) (rounds-ascending sys k) (rounds-ascending sys (suc k)) e l x
+    carried_timed-how_often sys.flow e x (outputs_of sys (rounds sys k) (sender sys.flow e)) (outputs_of sys (rounds sys (suc k)) (sender sys.flow e))
+    (outputs-agree sys w by (rounds sys k) (rounds sys (suc k)) (rounds-ascending sys k) (rounds-ascending sys (suc k)) e l x
     (λ d j r y v. rounds-agree sys w by m k (omega arith) d j y
-    (let s : by.measure (receiver sys.flow d) y.at ≡ by.measure (sender sys.flow e) y.at = ap (λ p. by.measure p y.at) r in omega arith))
+    (let s : by.measure (receiver sys.flow d) y.at ≡ by.measure (sender sys.flow e) y.at = ap (λ p. by.measure p y.at) r in omega arith)))
 
 past-rounds : (sys : System) (n e : ℕ) → length sys.flow.edges ≤ e → rounds sys n e ≡ []
 past-rounds sys zero e l = refl
-past-rounds sys (suc n) e l = past-outputs sys (rounds sys n) e l
+past-rounds sys (suc n) e l = ap (carried_timed sys.flow e) (past-outputs sys (rounds sys n) e l) ∙ carried_timed-none sys.flow e
 
 pub denotation-exists : DenotationExists
 denotation-exists sys w e =
@@ -90,7 +96,7 @@ denotation-exists sys w e =
           let by = measure-exists flow w in
           same_from_how_often (rounds sys n e) (rounds sys (suc n) e) (rounds-ascending sys n e) (rounds-ascending sys (suc n) e)
           (λ x. rounds-agree sys w by n n (omega arith) e l x (by.bound (receiver flow e) (w.receivers_declared e l) x.at))
-      | inr l ↦ past-rounds sys n e l ∙ sym (past-outputs sys (rounds sys n) e l)
+      | inr l ↦ past-rounds sys n e l ∙ sym (past-rounds sys (suc n) e l)
     ]
 
 pub unchanged_round : UnchangedRoundIsDenotation
@@ -109,12 +115,8 @@ pub later_rounds : LaterRoundsAreTheSame
 later_rounds sys n zero d l e = let z : zero ≡ n = omega arith in ap (λ k. rounds sys k e) z
 later_rounds sys n (suc m) d l e = elim (cases_last n m l) [
   | inl z ↦ ap (λ k. rounds sys k e) (sym z)
-  | inr i ↦ outputs_of-same sys (rounds sys m) (rounds sys n) (λ x. later_rounds sys n m d i x) (sender sys.flow e) ∙ sym (d e)
+  | inr i ↦ ap (carried_timed sys.flow e) (outputs_of-same sys (rounds sys m) (rounds sys n) (λ x. later_rounds sys n m d i x) (sender sys.flow e)) ∙ sym (d e)
 ]
 
 pub denotation-in_order : DenotationIsInOrder
-denotation-in_order sys family d e =
-    let q = sender sys.flow e in
-    ap in_order (d e)
-    ∙ in_order-twice (outputs_of_kind sys.flow (kind_of sys.flow q) (batches_of sys q) (map family (in_edges sys.flow q)))
-    ∙ sym (d e)
+denotation-in_order sys family d e = in_order-ascending (family e) (denotation-ascending sys family d e)

@@ -34,7 +34,7 @@ use Rattle.fw_model.proofs.OrderLaws.{either_way}
 use Rattle.fw_model.proofs.WeightLaws.{weigh, weigh-append, weigh-same, weigh-none, one}
 use Rattle.fw_model.proofs.SentLaws.{timed_of, quiet-delivered}
 use Rattle.fw_model.proofs.TimedLaws.{ascending-in_order}
-use Rattle.fw_model.proofs.TimedCounts.{in_order-weigh, family-weigh}
+use Rattle.fw_model.proofs.TimedCounts.{in_order-weigh, sender_bag, sender_sent, sent-as_denoted}
 use Rattle.fw_model.specs.Measure.{Measure}
 use Rattle.fw_model.proofs.StampMeasures.{IsEarlier, earlier-unlooped}
 use Rattle.fw_model.proofs.ArrivalLaws.{deliveries, deliveries-weigh, together-weigh}
@@ -152,13 +152,13 @@ sequence-sent_by sys h l p is =
 rest_of : System → List Event → Family → ℕ → List Timed
 rest_of sys h family p = filter (not_numbered h p) (in_order (whole sys family p))
 
--- what the family has on an out-edge of a sequence: what was sent, and the rest at the numbers that follow
+-- what the sender of an edge, a sequence, sends in all: what it sent, and the rest at the numbers that follow
 record SequenceParts (sys : System) (h : List Event) (family : Family) (e : ℕ) (w : Timed → ℕ) : Type 0 where
   pub next : ℕ
   pub rest : ℕ
-  pub counted : next ≡ length (sent_by sys (sender sys.flow e) (events_at sys.flow (sender sys.flow e) h))
+  pub counted : next ≡ length (sender_sent sys h e)
   pub rested : rest ≡ weigh w (numbered_recs next (rest_of sys h family (sender sys.flow e)))
-  pub parts : weigh w (family e) ≡ weigh w (timed_of (sent_messages sys h e)) + rest
+  pub parts : weigh w (sender_bag sys family e) ≡ weigh w (timed_of (sender_sent sys h e)) + rest
 
 sequence-parts : (sys : System) (h : List Event) (family : Family) → IsWellFormedSystem sys → IsLegal sys h → IsDenotation sys family
     → (e : ℕ) → SendsByCount (kind_of sys.flow (sender sys.flow e)) → IsSequenced sys h family (sender sys.flow e) → (w : Timed → ℕ) → SequenceParts sys h family e w
@@ -172,8 +172,7 @@ sequence-parts sys h family w l den e is s f =
     let n = length (numbered_recs 0 first) in
     let z : 0 + n ≡ n = omega arith in
     let as_sent = sequence-sent_by sys h l p is in
-    let a = family-weigh sys family den e f
-    ∙ ap (λ k. weigh f (outputs_of_kind flow k (batches_of sys p) (map family (in_edges flow p)))) is
+    let a = ap (λ k. weigh f (outputs_of_kind flow k (batches_of sys p) (map family (in_edges flow p)))) is
     ∙ ap (λ ys. weigh f (numbered_recs 0 ys)) (numbered_parts sys h family w den p is s)
     ∙ ap (weigh f) (numbered-append 0 first rest)
     ∙ weigh-append f (numbered_recs 0 first) (numbered_recs (0 + n) rest) in
@@ -183,10 +182,10 @@ sequence-parts sys h family w l den e is s f =
     sym (length-weigh (numbered_recs 0 first)) ∙ sym (s.sent (λ r. 1)) ∙ length-messages (sequence_sent (events_at flow p h)) ∙ sym (ap (λ ms. length ms) as_sent) in
     record { next = n; rest = weigh f (numbered_recs n rest); counted = counted; rested = refl; parts = omega arith }
 
--- what a sequence sent is a part of what the family has
+-- what a sequence sent is a part of what it sends in all
 pub sequence-fewer : (sys : System) (h : List Event) (family : Family) → IsWellFormedSystem sys → IsLegal sys h → IsDenotation sys family
     → (e : ℕ) → SendsByCount (kind_of sys.flow (sender sys.flow e)) → IsSequenced sys h family (sender sys.flow e) → (w : Timed → ℕ)
-    → weigh w (timed_of (sent_messages sys h e)) ≤ weigh w (family e)
+    → weigh w (timed_of (sender_sent sys h e)) ≤ weigh w (sender_bag sys family e)
 sequence-fewer sys h family w l den e is s f = let a = (sequence-parts sys h family w l den e is s f).parts in omega arith
 
 -- what was delivered to a node, and its whole bag
@@ -214,12 +213,12 @@ paid-notified sys h p u q n o l = elim (cases_Bool (was_delivered_to sys.flow p 
     cases true false c i j k = cc
     cases false b c i j k = cc
 
--- inside phi a sequence sent what the family has
+-- inside phi a sequence sent what it sends in all
 sequence-step : (sys : System) (h : List Event) (family : Family) → IsWellFormedSystem sys → IsLegal sys h → IsDenotation sys family
     → (done : ℕ → Frontier) → IsAdmissible sys h done → (e : ℕ) → SendsByCount (kind_of sys.flow (sender sys.flow e)) → IsSequenced sys h family (sender sys.flow e)
     → ((d : ℕ) (u : Stamp) → receiver sys.flow d ≡ sender sys.flow e → IsDenotedAt sys h family done (d, u))
     → (t : Stamp) → phi sys h e (done (sender sys.flow e)) t ≡ true
-    → (q : Rec) → weigh (one t q) (timed_of (sent_messages sys h e)) ≡ weigh (one t q) (family e)
+    → (q : Rec) → weigh (one t q) (timed_of (sender_sent sys h e)) ≡ weigh (one t q) (sender_bag sys family e)
 unfolding rest_of not_numbered weigh
 sequence-step sys h family w l den done a e is s ih t i q =
     let flow = sys.flow in
@@ -319,14 +318,12 @@ sent-step sys h family w l den seq done a r e t ih i q =
     let kind = kind_of flow p in
     let batches = batches_of sys p in
     let ds = in_edges flow p in
-    elim (sort_of kind) [
+    sent-as_denoted sys h family den e t q (elim (sort_of kind) [
       | inl is ↦
           input-equal sys p is h l t (a.source p (ap is_input_kind is) t (input-phi sys h e (done p) t is i)) q
           ∙ sym (ap (λ z. weigh (one t q) (outputs_of_kind flow z batches (map family ds))) is)
-          ∙ sym (family-weigh sys family den e (one t q))
       | inr (inl is) ↦
           output-sent sys p is (one t q) (events_at flow p h) ∙ sym (output-outputs flow kind is (one t q) batches (map family ds))
-          ∙ sym (family-weigh sys family den e (one t q))
       | inr (inr (inl is)) ↦
           let real = sequence_edge flow e is in
           let domain : domain_of flow (receiver flow e) ≡ Number = sym (edge_domains flow w.flow e) ∙ ap (λ k. out_domain_of_kind flow k) is in
@@ -340,8 +337,7 @@ sent-step sys h family w l den seq done a r e t ih i q =
           ∙ outputs-same flow kind is t q batches (delivered_bag h) family ds (each_in_edge flow p (λ d. AgreeFor flow kind t (delivered_bag h d) (family d))
           (λ d at u s x sends_at below. delivered-read sys h family w l den done a e t by i d u s
           (from_earlier flow w.flow r (IsDenotedAt sys h family done) e t real ih d u s at sends_at below) at sends_at below x))
-          ∙ sym (family-weigh sys family den e (one t q))
-    ]
+    ])
 
 pub sent-denoted : (sys : System) (h : List Event) (family : Family) → IsWellFormedSystem sys → IsLegal sys h → IsDenotation sys family
     → ((p : ℕ) → SendsByCount (kind_of sys.flow p) → IsSequenced sys h family p)

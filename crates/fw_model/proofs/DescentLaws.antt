@@ -18,7 +18,9 @@ use Rattle.fw_flow.specs.Projection.{events_at, sent_count, phi_of_kind, phi}
 use Rattle.fw_flow.specs.WellFormed.{IsWellFormed}
 use Rattle.fw_flow.specs.Message.{messages_less}
 use Rattle.fw_flow.proofs.MessageLaws.{less-none}
+use Rattle.fw_model.proofs.CarriedLaws.{carried-none}
 use Rattle.fw_model.proofs.LesserLaws.{lesser-in_domain}
+use Rattle.fw_model.specs.Carried.{carried}
 use Rattle.fw_model.specs.History.{some_at, delivered_messages, pending_messages, is_owed_notice, injected_epochs, IsQuiet, IsAdmissible}
 use Rattle.fw_model.specs.LawsOfExistence.{CompleteExists, CompleteIsTheOnlyOne}
 use Rattle.fw_model.proofs.CompleteLaws.{past_edges-idle}
@@ -141,7 +143,8 @@ idle-sends_none sys p is (v ∷ vs) = ap (λ k. sends_of_kind sys k vs v ++ sent
 pub past_edges-quiet : (sys : System) (h : List Event) (e : ℕ) (t : Stamp) → length sys.flow.edges ≤ e → some_at (same t) (pending_messages sys h e) ≡ false
 past_edges-quiet sys h e t l =
     let q = sender sys.flow e in
-    ap (λ ms. some_at (same t) (messages_less ms (delivered_messages h e))) (idle-sends_none sys q (past_edges-idle sys.flow e l) (events_at sys.flow q h))
+    ap (λ ms. some_at (same t) (messages_less (carried sys.flow e ms) (delivered_messages h e))) (idle-sends_none sys q (past_edges-idle sys.flow e l) (events_at sys.flow q h))
+    ∙ ap (λ ms. some_at (same t) (messages_less ms (delivered_messages h e))) (carried-none sys.flow e)
     ∙ ap (λ ms. some_at (same t) ms) (less-none (delivered_messages h e))
 
 pub past_edges-phi : (sys : System) (h : List Event) (e : ℕ) (f : Frontier) (t : Stamp) → length sys.flow.edges ≤ e

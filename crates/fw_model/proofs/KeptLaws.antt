@@ -12,10 +12,12 @@ use Rattle.fw_flow.specs.declared.event.Event.{Event}
 use Rattle.fw_flow.specs.declared.event.Event.TheVariants.{Inject, Deliver, Notify}
 use Rattle.fw_flow.specs.declared.event.Message.{Message}
 use Rattle.fw_flow.specs.Dataflow.{System, Dataflow, kind_of, sender, receiver, is_notified_kind, HasEpochs}
-use Rattle.fw_flow.specs.NodeFunction.{event_node, event_stamp, sends, sent_by}
-use Rattle.fw_flow.specs.Projection.{events_at, all_inside, phi}
+use Rattle.fw_flow.specs.NodeFunction.{event_node, event_stamp}
+use Rattle.fw_flow.specs.Projection.{all_inside, phi}
 use Rattle.fw_flow.specs.WellFormed.{IsWellFormed}
+use Rattle.fw_model.proofs.CarriedLaws.{sent-more}
 use Rattle.fw_model.proofs.LesserLaws.{lesser-in_domain}
+use Rattle.fw_model.specs.LawsOfPending.{sent_on}
 use Rattle.fw_model.specs.History.{sent_messages, message_on, delivered_messages, pending_messages, is_delivery_to, is_notification, was_delivered_to, was_notified, is_owed_notice, is_injection, injected_count, IsQuiet, IsEnabled, IsLegal}
 use Rattle.fw_model.specs.LawsOfFiltering.{KeptDeliveriesHaveKeptCauses}
 use Rattle.fw_flow.specs.Message.{message_cmp, is_message_among, messages_less}
@@ -32,17 +34,7 @@ use Rattle.fw_model.specs.Filtering.{AreFrontiers, kept_events, messages_from, m
 
 -- what was sent before was sent
 sent-each_before : (sys : System) (P : Message → Type 0) (v : Event) (h : List Event) (e : ℕ) → AllByRecursion P (sent_messages sys (v ∷ h) e) → AllByRecursion P (sent_messages sys h e)
-sent-each_before sys P v h e a = before (event_node sys.flow v == q) a
-  where
-    q : ℕ
-    q = sender sys.flow e
-
-    vs : List Event
-    vs = events_at sys.flow q h
-
-    before : (b : Bool) → AllByRecursion P (sent_by sys q (cond b (v ∷ vs) vs)) → AllByRecursion P (sent_by sys q vs)
-    before true a = each-suffix P (sends sys q vs v) (sent_by sys q vs) a
-    before false a = a
+sent-each_before sys P v h e a = each-suffix P (sent_on sys h e v) (sent_messages sys h e) (subst (AllByRecursion P) (sent-more sys h v e) a)
 
 -- what was delivered was sent
 delivered-each : (sys : System) (P : Message → Type 0) (h : List Event) → IsLegal sys h → (e : ℕ) → AllByRecursion P (sent_messages sys h e) → AllByRecursion P (delivered_messages h e)

@@ -19,6 +19,7 @@ use Rattle.fw_model.proofs.LesserLaws.{lesser-in_domain}
 use Rattle.fw_model.specs.History.{sent_messages, delivered_messages, pending_messages, was_delivered_to, was_notified, injected_count, IsLegal, IsEnabled, AreEventsInDomain}
 use Rattle.fw_model.specs.LawsOfLegalHistories.{LegalEventsAreInDomain, LegalMessagesAreInDomain, OnlyInputsInject}
 use Rattle.fw_flow.proofs.MessageLaws.{less-each, among-each}
+use Rattle.fw_model.proofs.CarriedLaws.{carried-each}
 use Rattle.fw_model.proofs.StampLaws.{line-leq}
 use Rattle.fw_model.proofs.SendingLaws.{send_stamp_of_kind-in_domain}
 use Rattle.fw_model.proofs.SendsLaws.{IsAt, sends_of_kind-each}
@@ -135,7 +136,8 @@ enabled-in_domain sys h w b d (Deliver e m) k =
     edge-receiver sys.flow w e m.at
     (among-each (λ x. out_bounds sys.flow p x.at ≡ true) m (pending_messages sys h e) k.is_pending
     (less-each (λ x. out_bounds sys.flow p x.at ≡ true) (sent_messages sys h e) (delivered_messages h e)
-    (sent_by-in_domain sys p (events_at sys.flow p h) (events_at-in_domain sys.flow p h d))))
+    (carried-each sys.flow e (λ x. out_bounds sys.flow p x.at ≡ true) (sent_by sys p (events_at sys.flow p h))
+    (sent_by-in_domain sys p (events_at sys.flow p h) (events_at-in_domain sys.flow p h d)))))
 enabled-in_domain sys h w b d (Notify p t) k =
     let a = and_parts (is_notified_kind (kind_of sys.flow p) && was_delivered_to sys.flow p t h) (not (was_notified p t h)) k.is_owed in
     delivered_to-in_domain sys.flow p t h d (and_parts (is_notified_kind (kind_of sys.flow p)) (was_delivered_to sys.flow p t h) a.0).1
@@ -154,7 +156,8 @@ legal_events-in_domain sys h w b l p = events_at-in_domain sys.flow p h (legal-i
 pub legal_messages-in_domain : LegalMessagesAreInDomain
 legal_messages-in_domain sys h w b l e =
     let p = sender sys.flow e in
-    sent_by-in_domain sys p (events_at sys.flow p h) (legal_events-in_domain sys h w b l p)
+    carried-each sys.flow e (λ (m : Message). out_bounds sys.flow p m.at ≡ true) (sent_by sys p (events_at sys.flow p h))
+    (sent_by-in_domain sys p (events_at sys.flow p h) (legal_events-in_domain sys h w b l p))
 
 pub only_inputs_inject : OnlyInputsInject
 only_inputs_inject sys [] l p k = refl

@@ -7,6 +7,7 @@ pub mod AskedLaws
 pub mod AskedStateLaws
 pub mod BelowLaws
 pub mod BothLaws
+pub mod CarriedLaws
 pub mod CauseLaws
 pub mod ChainLaws
 pub mod SpanLaws

@@ -15,7 +15,9 @@ use Rattle.fw_flow.specs.Dataflow.{greatest_of_kind, System, Dataflow, kind_of, 
 use Rattle.fw_flow.specs.NodeFunction.{event_node, event_stamp, sends_of_kind, sends, sent_by}
 use Rattle.fw_flow.specs.Projection.{events_at, all_inside, count_from, sent_count, phi_of_kind, phi}
 use Rattle.fw_flow.specs.WellFormed.{IsWellFormed}
+use Rattle.fw_model.proofs.CarriedLaws.{carried-from}
 use Rattle.fw_model.proofs.LesserLaws.{lesser-in_domain}
+use Rattle.fw_model.specs.Carried.{carried}
 use Rattle.fw_model.specs.History.{message_on, sent_messages, delivered_messages, IsLegal}
 use Rattle.fw_model.specs.LawsOfFiltering.{KeptEventsSendTheSame, KeptEventsSendTheSameFromWithin, KeptEventsDeliverTheSame, PhiOfKeptEvents}
 use Rattle.fw_model.proofs.StampLaws.{same-is}
@@ -94,7 +96,9 @@ sent_by-same sys h keep w b l fr p =
     ∙ sent_by-kept sys p (keep p) (fr p) (events_at sys.flow p h) (read-in_order sys h w b l p)
 
 pub sends-same : KeptEventsSendTheSame
-sends-same sys h keep w b l fr e = sent_by-same sys h keep w b l fr (sender sys.flow e)
+sends-same sys h keep w b l fr e =
+    let p = sender sys.flow e in
+    ap (carried sys.flow e) (sent_by-same sys h keep w b l fr p) ∙ sym (carried-from sys.flow e (keep p) (sent_by sys p (events_at sys.flow p h)))
 
 pub delivers-same : KeptEventsDeliverTheSame
 delivers-same flow [] keep e = refl

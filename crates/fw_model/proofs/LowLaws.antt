@@ -31,7 +31,8 @@ use Rattle.fw_model.specs.Steps.{write_of_event, with_event, AcknowledgesOldest,
 use Rattle.fw_flow.specs.declared.restoring.Restoring.{Restoring}
 use Rattle.fw_flow.specs.declared.restoring.Restoring.TheVariants.{Batches, Bound, Anything, Checkpoints, Events}
 use Rattle.fw_flow.specs.Restoring.{restoring, can_resend, way_of}
-use Rattle.fw_model.specs.Covers.{takes_its_cut, takes_its_notices, set_of, discarded_at, covers_in, tallies_in}
+use Rattle.fw_model.specs.Covers.{takes_its_cut, takes_its_notices, set_of, discarded_at, covers_in, tallies_in, stamps_from}
+use Rattle.fw_model.proofs.CarriedLaws.{carried-none}
 use Rattle.fw_model.proofs.StampLaws.{line-leq, leq-line, same-refl}
 use Rattle.fw_model.proofs.WeightLaws.{weigh}
 use Rattle.fw_flow.proofs.MessageLaws.{among-each}
@@ -633,7 +634,10 @@ nothing-discarded : (sys : System) (e : ℕ) (way : Restoring) (g : Frontier) (t
 nothing-discarded sys e Anything g t i =
     let b = bounds_of sys.flow (sender sys.flow e) in
     absurd (two_ways false (sym (psi-nothing sys.flow e t) ∙ psi-monotone sys.flow e (frontier_of b (no_stamps b)) nothing (none-within b nothing) t i) refl)
-nothing-discarded sys e way g t i = nothing-covered false (bounds_of sys.flow (receiver sys.flow e)) g t i
+nothing-discarded sys e way g t i =
+    let b = bounds_of sys.flow (receiver sys.flow e) in
+    let f = set_of sys.flow (sender sys.flow e) (At (no_stamps (bounds_of sys.flow (sender sys.flow e)))) in
+    nothing-covered false b g t (subst (λ (ms : List Message). cover b (stamps_from f ms) t ≡ true) (carried-none sys.flow e) i)
 
 nothing-lost : (sys : System) (e : ℕ) (flag : Bool) (way : Restoring) (g : Frontier) (t : Stamp)
     → cond flag nothing (discarded_at sys.flow e way ((tallies_in sys (first_state sys)).sent e (At (no_stamps (bounds_of sys.flow (sender sys.flow e))))) (no_stamps (bounds_of sys.flow (sender sys.flow e)))) t ≡ true → g t ≡ true

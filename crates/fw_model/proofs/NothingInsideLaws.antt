@@ -14,7 +14,9 @@ use Rattle.fw_flow.specs.NodeFunction.{event_node, sends, sends_of_kind, sent_by
 use Rattle.fw_flow.specs.Projection.{events_at}
 use Rattle.fw_flow.specs.WellFormed.{IsWellFormed}
 use Rattle.fw_flow.specs.Message.{is_message_among, messages_without, messages_less}
+use Rattle.fw_model.specs.Carried.{carried}
 use Rattle.fw_model.specs.History.{delivered_messages, pending_messages, was_delivered_to, was_notified, IsEnabled}
+use Rattle.fw_model.proofs.CarriedLaws.{carried-none}
 use Rattle.fw_model.proofs.CompleteLaws.{past_edges-idle}
 use Rattle.fw_model.proofs.LowLaws.{settled-outside, event-outside}
 use Rattle.fw_model.proofs.RestoringLaws.{full-reached}
@@ -48,7 +50,8 @@ pending-declared sys h e m k = elim (cases_lt e (length sys.flow.edges)) [
   | inr past ↦
       let q = sender sys.flow e in
       let none : pending_messages sys h e ≡ [] =
-      ap (λ ms. messages_less ms (delivered_messages h e)) (idle-sent sys q (past_edges-idle sys.flow e past) (events_at sys.flow q h)) ∙ less-none (delivered_messages h e) in
+      ap (λ ms. messages_less (carried sys.flow e ms) (delivered_messages h e)) (idle-sent sys q (past_edges-idle sys.flow e past) (events_at sys.flow q h))
+      ∙ ap (λ ms. messages_less ms (delivered_messages h e)) (carried-none sys.flow e) ∙ less-none (delivered_messages h e) in
       absurd (two_ways (is_message_among m (pending_messages sys h e)) k (ap (is_message_among m) none))
 ]
 

@@ -14,7 +14,8 @@ use Rattle.fw_flow.specs.declared.kind.Kind.{Kind}
 use Rattle.fw_flow.specs.declared.kind.Kind.TheVariants.{OutputNumber, Ledger}
 use Rattle.fw_flow.specs.Dataflow.{System, is_loop, kind_of, sender, receiver, in_edges, batches_of, greatest_number, domain_of, out_domain_of, domain_of_kind, is_of_numbers, is_numbered}
 use Rattle.fw_flow.specs.WellFormed.{IsWellFormed, IsInDegree}
-use Rattle.fw_flow.specs.WholeBags.{Timed, timed_cmp, in_order, numbered_recs, running_totals, joint_bag, outputs_of_kind}
+use Rattle.fw_flow.specs.WholeBags.{Timed, timed_cmp, in_order, numbered_recs, running_totals, joint_bag, outputs_of, outputs_of_kind}
+use Rattle.fw_model.specs.Carried.{carried_timed}
 use Rattle.fw_model.specs.Denotation.{Family, IsDenotation, AreNumberedFrom}
 use Rattle.fw_model.specs.LawsOfDenotation.{DenotationIsNumbered}
 use Rattle.fw_model.proofs.KindSorts.{sends_numbers}
@@ -22,6 +23,7 @@ use Rattle.fw_model.proofs.LegalLaws.{edge_domains}
 use Rattle.fw_model.proofs.TimedLaws.{IsAscendingTimed, ascending-cons, ascending-nil, in_order-ascending}
 use Rattle.fw_model.proofs.MeasureLaws.{measure-exists}
 use Rattle.fw_model.proofs.DependenceLaws.{in_edges-each}
+use Rattle.fw_model.proofs.CarriedLaws.{carried_timed-none, carried_timed-numbered}
 use Rattle.fw_model.proofs.DenotationLaws.{past-outputs}
 use Rattle.fw_model.specs.Measure.{Measure}
 
@@ -76,7 +78,7 @@ numbered-by_measure sys family w by d (suc m) e l k h =
     let flow = sys.flow in
     let q = sender flow e in
     let out : Kind → List (List Timed) → List Timed = λ kind bags. in_order (outputs_of_kind flow kind (batches_of sys q) bags) in
-    let here : family e ≡ out (kind_of flow q) (map family (in_edges flow q)) = d e in
+    let here : family e ≡ out (kind_of flow q) (map family (in_edges flow q)) = d e ∙ carried_timed-numbered flow e k (outputs_of sys family q) in
     let whose : (kind : Kind) → kind_of flow q ≡ kind → AreNumberedFrom 0 (out kind (map family (in_edges flow q))) → AreNumberedFrom 0 (family e) =
     λ kind is a. subst (AreNumberedFrom 0) (sym (here ∙ ap (λ kd. out kd (map family (in_edges flow q))) is)) a in
     elim (sends_numbers flow (kind_of flow q) (ap is_of_numbers (edge_domains flow w e) ∙ k)) [
@@ -101,5 +103,5 @@ denotation-numbered sys family w d e k = elim (cases_lt e (length sys.flow.edges
   | inl l ↦
       let by = measure-exists sys.flow w in
       numbered-by_measure sys family w by d (suc (by.measure (receiver sys.flow e) [])) e l k (omega arith)
-  | inr l ↦ subst (AreNumberedFrom 0) (sym (d e ∙ past-outputs sys family e l)) tt
+  | inr l ↦ subst (AreNumberedFrom 0) (sym (d e ∙ ap (carried_timed sys.flow e) (past-outputs sys family e l) ∙ carried_timed-none sys.flow e)) tt
 ]

@@ -10,6 +10,7 @@ use Rattle.fw_time.proofs.StampLaws.{leq-refl, leq-trans}
 use Rattle.fw_frontier.specs.Frontier.{Frontier, IsFrontier, Within, join}
 use Rattle.fw_flow.specs.declared.event.Event.{Event}
 use Rattle.fw_flow.specs.declared.event.Event.TheVariants.{Inject, Deliver, Notify}
+use Rattle.fw_flow.specs.declared.event.Message.{Message}
 use Rattle.fw_flow.specs.declared.kind.Domain.TheVariants.{Epoch, Number}
 use Rattle.fw_flow.specs.declared.kind.Kind.TheVariants.{OutputEpoch}
 use Rattle.fw_flow.specs.Dataflow.{System, Dataflow, kind_of, sender, receiver, greatest_number, domain_of_kind, out_domain_of_kind, bounds_of, is_input_kind, is_notified_kind, send_stamp_of_kind, is_sequence_kind, HasEpochs}
@@ -17,9 +18,11 @@ use Rattle.fw_flow.specs.NodeFunction.{sent_by}
 use Rattle.fw_flow.specs.Projection.{events_at, all_inside, phi}
 use Rattle.fw_flow.specs.WellFormed.{IsWellFormed}
 use Rattle.fw_model.proofs.LesserLaws.{lesser-on_edge}
-use Rattle.fw_model.specs.History.{some_at, delivered_messages, was_delivered_to, was_notified, is_owed_notice, IsAdmissible, IsNotifiable, IsEnabled, IsLegal}
+use Rattle.fw_model.specs.Carried.{carried}
+use Rattle.fw_model.specs.History.{some_at, sent_messages, delivered_messages, was_delivered_to, was_notified, is_owed_notice, IsAdmissible, IsNotifiable, IsEnabled, IsLegal}
 use Rattle.fw_flow.specs.Message.{messages_less}
 use Rattle.fw_model.specs.LawsOfCompleteFrontiers.{SequencesAreNotifiedInOrder, LegalInsidePhiComesFromInside}
+use Rattle.fw_model.proofs.CarriedLaws.{carried-each}
 use Rattle.fw_model.proofs.StampLaws.{in_line, line-leq, leq_from, leq_to}
 use Rattle.fw_model.proofs.PhiLaws.{phi-monotone, phi-longer}
 use Rattle.fw_model.proofs.FrontierLaws.{phi-frontier}
@@ -98,11 +101,11 @@ raised-paid sys h p t s k l =
 
 raised-quiet : (sys : System) (h : List Event) → IsWellFormed sys.flow → (p : ℕ) (t s : Stamp) → SendsByCount (kind_of sys.flow p) → IsNotifiable sys h p t
     → leq s t ≡ true → (e : ℕ) → receiver sys.flow e ≡ p
-    → some_at (same s) (messages_less (sent_by sys (sender sys.flow e) (events_at sys.flow (sender sys.flow e) (Notify p t ∷ h))) (delivered_messages h e)) ≡ false
+    → some_at (same s) (messages_less (sent_messages sys (Notify p t ∷ h) e) (delivered_messages h e)) ≡ false
 raised-quiet sys h w p t s is k l e r =
     let q = sender sys.flow e in
     let vs = events_at sys.flow q h in
-    cond_both (p == q) (Notify p t ∷ vs) vs (λ ws. some_at (same s) (messages_less (sent_by sys q ws) (delivered_messages h e)) ≡ false)
+    cond_both (p == q) (Notify p t ∷ vs) vs (λ ws. some_at (same s) (messages_less (carried sys.flow e (sent_by sys q ws)) (delivered_messages h e)) ≡ false)
     (λ c. absurd (no_loop sys.flow w e p is (sym (eqb-true p q c)) r)) (λ c. k.quiet s l e r)
 
 raise-admissible : (sys : System) (h : List Event) → IsWellFormed sys.flow → HasEpochs sys → IsLegal sys h
@@ -256,9 +259,10 @@ idle-comes_from_inside : (sys : System) (h : List Event) (e : ℕ) (f : Frontier
 unfolding IsOfCause
 idle-comes_from_inside sys h e f is =
     let p = sender sys.flow e in
-    each-weaker (IsOfCause sys.flow p) (λ m. phi sys h e f m.at ≡ true → all_inside f m.causes ≡ true) (sent_by sys p (events_at sys.flow p h))
+    carried-each sys.flow e (λ (m : Message). phi sys h e f m.at ≡ true → all_inside f m.causes ≡ true) (sent_by sys p (events_at sys.flow p h))
+    (each-weaker (IsOfCause sys.flow p) (λ m. phi sys h e f m.at ≡ true → all_inside f m.causes ≡ true) (sent_by sys p (events_at sys.flow p h))
     (λ m a k. let r : None ≡ Some m.at = sym (ap (λ kind. send_stamp_of_kind sys.flow kind a.0) is) ∙ a.1 in absurd (cc r))
-    (sent_by-of_cause sys p (ap is_sequence_kind is) (events_at sys.flow p h))
+    (sent_by-of_cause sys p (ap is_sequence_kind is) (events_at sys.flow p h)))
 
 pub legal-inside_phi : LegalInsidePhiComesFromInside
 legal-inside_phi sys h w b l e f fr =

@@ -23,6 +23,7 @@ use Rattle.fw_bag.specs.Keyed.{value_sum}
 use Rattle.fw_flow.specs.Message.{message_cmp, is_message_among}
 use Rattle.fw_model.specs.History.{some_at, sent_messages, delivered_messages, pending_messages, IsLegal}
 use Rattle.fw_model.proofs.KindSorts.{sends_numbers}
+use Rattle.fw_model.proofs.CarriedLaws.{carried-numbered}
 use Rattle.fw_model.proofs.ArrivalLaws.{deliveries}
 use Rattle.fw_flow.proofs.MessageLaws.{among-each, message_cmp-equal}
 use Rattle.fw_model.proofs.ClosedLaws.{numbered-ascend}
@@ -205,7 +206,7 @@ sent-to sys h w l e k =
     let flow = sys.flow in
     let q = sender flow e in
     let vs = events_at flow q h in
-    elim (sends_numbers flow (kind_of flow q) (ap is_of_numbers (edge_domains flow w e) ∙ k)) [
+    let sent : (n : ℕ) × HasNumbersTo n (timed_of (sent_by sys q vs)) = elim (sends_numbers flow (kind_of flow q) (ap is_of_numbers (edge_domains flow w e) ∙ k)) [
       | inl (inl is) ↦
           let none = no_inject flow q h (only_inputs_inject sys h l q (ap is_input_kind is)) in
           (length (sequence_sent vs), subst (λ ms. HasNumbersTo (length (sequence_sent vs)) (timed_of ms)) (sym (sent_by-sequence sys q is vs none)) (sequence-to vs))
@@ -222,7 +223,8 @@ sent-to sys h w l e k =
             0,
             record { at_each = λ j. output-sent sys q out (any_at (j ∷ [])) vs ∙ sym (below-le j 0 (omega arith)); none_off = output-sent sys q out off_number vs },
           )
-    ]
+    ] in
+    (sent.0, subst (λ ms. HasNumbersTo sent.0 (timed_of ms)) (sym (carried-numbered flow e k (sent_by sys q vs))) sent.1)
 
 -- ---- what is pending
 

@@ -17,6 +17,7 @@ use Rattle.fw_bag.proofs.RecLaws.{rec_cmp-refl}
 use Rattle.fw_bag.proofs.BagLaws.{how_often-bag_sum}
 use Rattle.fw_frontier.specs.Frontier.{Frontier}
 use Rattle.fw_frontier.specs.Front.{Front, inside, frontier_of}
+use Rattle.fw_flow.specs.NodeFunction.{sent_by}
 use Rattle.fw_flow.specs.declared.choice.Cut.{Cut}
 use Rattle.fw_flow.specs.declared.choice.Cut.TheVariants.{Present, At}
 use Rattle.fw_flow.specs.declared.event.Event.{Event}
@@ -36,6 +37,7 @@ use Rattle.fw_model.specs.Choice.{kept, cut_of, kept_of, filtered_history}
 use Rattle.fw_model.specs.Covers.{set_of}
 use Rattle.fw_model.specs.Steps.{Effect, Outcome, did, idle, LeadsTo, StepsTo, Run, with_event, GrowsTo, IsSettledCut, CutsTo, recovered_state}
 use Rattle.fw_model.specs.LawsOfRecoveries.{StepsKeepHistoriesLegal, RunsStayLegalThroughRecoveries, SettledStaysDenoted, DenotedIsFull, AcknowledgementsShowDenotationThroughRecoveries}
+use Rattle.fw_model.proofs.CarriedLaws.{carried-each}
 use Rattle.fw_model.proofs.CompleteLaws.{past_edges-idle, not_owed-notified, not_owed-delivered}
 use Rattle.fw_flow.proofs.MessageLaws.{less-each}
 use Rattle.fw_model.proofs.SendsLaws.{IsOfCause, sent_by-of_cause}
@@ -357,7 +359,7 @@ past-nothing sys h e past =
     let is = past_edges-idle sys.flow e past in
     each-weaker (IsOfCause sys.flow q) (λ m. ⊥) (sent_messages sys h e)
     (λ m a. let none : None ≡ Some m.at = sym (ap (λ kind. send_stamp_of_kind sys.flow kind a.0) is) ∙ a.1 in cc none)
-    (sent_by-of_cause sys q (ap is_sequence_kind is) (events_at sys.flow q h))
+    (carried-each sys.flow e (IsOfCause sys.flow q) (sent_by sys q (events_at sys.flow q h)) (sent_by-of_cause sys q (ap is_sequence_kind is) (events_at sys.flow q h)))
 
 -- where as much was delivered as can be sent, nothing is pending
 denoted-quiet : (sys : System) (family : Family) (h : List Event) → IsWellFormedSystem sys → IsDenotation sys family → IsLegal sys h

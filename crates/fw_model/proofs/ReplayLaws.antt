@@ -16,6 +16,7 @@ use Rattle.fw_flow.specs.Dataflow.{System, Dataflow, kind_of, sender, edges_from
 use Rattle.fw_flow.specs.NodeFunction.{event_node, event_stamp, sent_by}
 use Rattle.fw_flow.specs.Projection.{events_at, all_inside}
 use Rattle.fw_flow.specs.WellFormed.{may_keep_nothing}
+use Rattle.fw_model.specs.Carried.{carried}
 use Rattle.fw_model.specs.Machine.{SerialEvent, Write, Written, checkpoint, logged_event, Stage, in_flight, acknowledged, collected, events, front_of}
 use Rattle.fw_model.specs.Choice.{ever, is_counted}
 use Rattle.fw_model.specs.Steps.{inside_if_some, sends_inside, is_given_up, is_serial_given_up}
@@ -23,13 +24,14 @@ use Rattle.fw_model.specs.Filtering.{events_inside, messages_from, messages_outs
 use Rattle.fw_model.specs.Resending.{at_receiver}
 use Rattle.fw_model.specs.Writes.{IsLoggedOnce}
 use Rattle.fw_model.proofs.KindSorts.{kept-no_sequence}
+use Rattle.fw_model.proofs.CarriedLaws.{carried-from, carried-outside}
 use Rattle.fw_model.proofs.DomainLaws.{has_epochs}
 use Rattle.fw_model.proofs.FilteredLaws.{set-frontier}
 use Rattle.fw_model.proofs.SendsLaws.{IsOfCause, sent_by-of_cause}
 use Rattle.fw_model.proofs.AskedLaws.{reached-all}
 use Rattle.fw_model.proofs.RestoringLaws.{events-logged}
 use Rattle.fw_model.proofs.CollectedLaws.{IsLoggedExact, collected-logged}
-use Rattle.fw_model.specs.LawsOfReplay.{is_its_log, has_log, not_given_up, ReplayedEventsAreThoseNotGivenUp, ReplayedEventsSendTheSame}
+use Rattle.fw_model.specs.LawsOfReplay.{is_its_log, has_log, not_given_up, ReplayedEventsAreThoseNotGivenUp, ReplayedEventsSendTheSame, replayed_events}
 use Rattle.fw_model.proofs.SendPartLaws.{part-sends, passing-send}
 
 -- ---- which events are replayed
@@ -214,5 +216,12 @@ replayed-send sys w steps outcomes last r lost choice m p f full cut e l s =
           (each-one (λ v. g (event_stamp v) ≡ true) (events_inside b vs) (λ v. ap not (and_left _ _ (and_left _ _ must)))))
           ∙ ap (messages_outside out) inside
     ] in
-    ap (λ ws. messages_outside out (sent_by sys p ws)) (replayed-those sys w steps outcomes last r lost choice m p f full cut) ∙ same
-    ∙ ap (λ q. messages_outside out (messages_from b (sent_by sys q (events_at sys.flow q h)))) (sym s)
+    let those = sent_by sys p (replayed_events sys last p b) in
+    let all : ℕ → List Message = λ q. sent_by sys q (events_at sys.flow q h) in
+    let sent : messages_outside out those ≡ messages_outside out (messages_from b (all p)) =
+    ap (λ ws. messages_outside out (sent_by sys p ws)) (replayed-those sys w steps outcomes last r lost choice m p f full cut) ∙ same in
+    carried-outside sys.flow e out those
+    ∙ ap (carried sys.flow e) sent
+    ∙ sym (carried-outside sys.flow e out (messages_from b (all p)))
+    ∙ sym (ap (messages_outside out) (carried-from sys.flow e b (all p)))
+    ∙ ap (λ q. messages_outside out (messages_from b (carried sys.flow e (all q)))) (sym s)

@@ -1,6 +1,6 @@
 -- The inclusions of the low watermark see only the events inside it.
-use Rattle.std.proofs.Common.{◌≡◌, ℕ, ◌<◌, ◌≤◌, true, false, cond, not, ◌&&◌, ◌==◌, List, [], ◌∷◌, ◌++◌, length, filter, map, refl, sym, ap, subst, ◌∙◌, inl, inr, arith}
-use Rattle.std.specs.List.{flat_map}
+use Rattle.std.proofs.Common.{◌≡◌, ℕ, ◌<◌, ◌≤◌, Bool, true, false, cond, not, ◌&&◌, ◌==◌, List, [], ◌∷◌, ◌++◌, length, filter, map, refl, sym, ap, subst, ◌∙◌, inl, inr, arith}
+use Rattle.std.specs.List.{flat_map, AllByRecursion}
 use Rattle.std.proofs.lemmas.Bool.{and_parts, and_from, cond_both, cases_Bool, eqb-true, false_from_ne_true}
 use Rattle.std.proofs.lemmas.List.{get_or-map, length-map}
 use Rattle.std.proofs.lemmas.List.Elements.{filter-append}
@@ -17,9 +17,11 @@ use Rattle.fw_flow.specs.declared.event.Event.{Event}
 use Rattle.fw_flow.specs.declared.event.Event.TheVariants.{Inject, Deliver, Notify}
 use Rattle.fw_flow.specs.declared.event.Message.{Message}
 use Rattle.fw_flow.specs.Dataflow.{System, Dataflow, sender, receiver, bounds_of, HasEpochs}
-use Rattle.fw_flow.specs.NodeFunction.{event_node, event_stamp, sends, sent_by}
+use Rattle.fw_flow.specs.NodeFunction.{event_node, event_stamp, sends}
 use Rattle.fw_flow.specs.Projection.{events_at, all_inside, phi}
 use Rattle.fw_flow.specs.WellFormed.{IsWellFormed}
+use Rattle.fw_model.specs.LawsOfPending.{sent_on}
+use Rattle.fw_model.specs.Carried.{carried}
 use Rattle.fw_model.specs.History.{sent_messages, delivered_messages, IsLegal}
 use Rattle.fw_model.specs.Machine.{Machine, events, front_of, ack_count_of}
 use Rattle.fw_model.specs.Choice.{kept, until, HasCheckpoint, AllLogged, IsRestorable, IsCandidate, cut_of, kept_of, IsConsistent}
@@ -27,6 +29,7 @@ use Rattle.fw_flow.specs.declared.restoring.Restoring.{Restoring}
 use Rattle.fw_flow.specs.declared.restoring.Restoring.TheVariants.{Batches, Bound, Anything, Checkpoints, Events}
 use Rattle.fw_flow.specs.Restoring.{way_of}
 use Rattle.fw_model.specs.Covers.{set_of, stamps_inside, stamps_from, stamp_of_notice, notified_inside, covers_in, tallies_in}
+use Rattle.fw_model.proofs.CarriedLaws.{carried-each, sent-more}
 use Rattle.fw_model.proofs.StampLaws.{line-leq}
 use Rattle.fw_model.proofs.PhiLaws.{phi-longer}
 use Rattle.fw_model.proofs.CauseLaws.{outside-sends}
@@ -65,14 +68,14 @@ pub sent-outside : (sys : System) (h : List Event) (v : Event) (e : ℕ) (f : Fr
 sent-outside sys h v e f out =
     let q = sender sys.flow e in
     let vs = events_at sys.flow q h in
-    cond_both (event_node sys.flow v == q) (v ∷ vs) vs (λ ws. messages_from f (sent_by sys q ws) ≡ messages_from f (sent_by sys q vs))
-    (λ c.
-    let o = out (eqb-true (event_node sys.flow v) q c) in
-    let now = sends sys q vs v in
-    filter-append (λ (m : Message). all_inside f m.causes) now (sent_by sys q vs)
-    ∙ ap (λ ms. ms ++ messages_from f (sent_by sys q vs))
-    (filter-none (λ (m : Message). all_inside f m.causes) now (outside-sends sys q f vs v o)))
-    (λ c. refl)
+    let from : Message → Bool = λ m. all_inside f m.causes in
+    ap (messages_from f) (sent-more sys h v e)
+    ∙ filter-append from (sent_on sys h e v) (sent_messages sys h e)
+    ∙ ap (λ ms. ms ++ messages_from f (sent_messages sys h e))
+    (filter-none from (sent_on sys h e v)
+    (cond_both (event_node sys.flow v == q) (carried sys.flow e (sends sys q vs v)) [] (AllByRecursion (λ (m : Message). all_inside f m.causes ≡ false))
+    (λ c. carried-each sys.flow e (λ (m : Message). all_inside f m.causes ≡ false) (sends sys q vs v) (outside-sends sys q f vs v (out (eqb-true (event_node sys.flow v) q c))))
+    (λ c. tt)))
 
 pub inside-event : (sys : System) (h : List Event) (v : Event) (low : List Front) → IsWellFormed sys.flow
     → ((p : ℕ) → p < length sys.flow.nodes → event_node sys.flow v ≡ p → at_node sys low p (event_stamp v) ≡ false) → IsSameInside sys h (v ∷ h) low

@@ -14,6 +14,7 @@ use Rattle.fw_flow.specs.NodeFunction.{event_stamp, recs_on, messages_at, messag
 use Rattle.fw_flow.specs.Projection.{events_at, all_inside, psi}
 use Rattle.fw_model.specs.LawsOfSending.{SendsAtSendStamp, SendsAreInsidePsi, SentFromInsideIsInsidePsi}
 use Rattle.fw_model.proofs.KindSorts.{by_stamp-no_sequence, at_send_stamp}
+use Rattle.fw_model.proofs.CarriedLaws.{carried-each}
 use Rattle.fw_model.proofs.SendingLaws.{psi-by_stamp, send_stamp-in_domain}
 
 -- the message is at this stamp, if there is one, and has one cause
@@ -62,9 +63,10 @@ pub sent_from_inside-inside_psi : SentFromInsideIsInsidePsi
 unfolding IsOfCause
 sent_from_inside-inside_psi sys h e f p fr =
     let q = sender sys.flow e in
-    each-weaker (IsOfCause sys.flow q) (λ m. all_inside f m.causes ≡ true → psi sys.flow e f m.at ≡ true) (sent_by sys q (events_at sys.flow q h))
+    carried-each sys.flow e (λ (m : Message). all_inside f m.causes ≡ true → psi sys.flow e f m.at ≡ true) (sent_by sys q (events_at sys.flow q h))
+    (each-weaker (IsOfCause sys.flow q) (λ m. all_inside f m.causes ≡ true → psi sys.flow e f m.at ≡ true) (sent_by sys q (events_at sys.flow q h))
     (λ m w k.
     let i = (and_parts (f w.0) true (sym (ap (all_inside f) w.2) ∙ k)).0 in
     (psi-by_stamp sys.flow e f p fr m.at (send_stamp-in_domain sys.flow q w.0 m.at (fr.inside_domain w.0 i) w.1)).1
     (w.0, m.at, i, w.1, leq-refl m.at))
-    (sent_by-of_cause sys q (by_stamp-no_sequence sys.flow (kind_of sys.flow q) p) (events_at sys.flow q h))
+    (sent_by-of_cause sys q (by_stamp-no_sequence sys.flow (kind_of sys.flow q) p) (events_at sys.flow q h)))

@@ -1,7 +1,8 @@
 -- In a legal history each message is delivered at most as often as it was sent.
-use Rattle.std.proofs.Common.{◌≡◌, ℕ, ◌+◌, ◌<◌, ◌≤◌, true, false, cond, ◌&&◌, ◌==◌, List, [], ◌∷◌, ◌++◌, map, refl, sym, ap, ◌∙◌, inl, inr, arith}
+use Rattle.std.proofs.Common.{◌≡◌, ℕ, ◌+◌, ◌<◌, ◌≤◌, Bool, true, false, cond, ◌&&◌, ◌==◌, List, [], ◌∷◌, ◌++◌, map, refl, sym, ap, ◌∙◌, inl, inr, arith}
 use Rattle.std.specs.Ordering.{is_eq}
-use Rattle.std.proofs.lemmas.Bool.{or_cases, or_parts, cond_both, eqb-true}
+use Rattle.std.proofs.lemmas.Bool.{cases_Bool, or_cases, or_parts, cond_both, eqb-true}
+use Rattle.fw_lemmas.proofs.Filters.{filter-in, filter-out}
 use Rattle.fw_time.specs.Stamp.{Stamp, same}
 use Rattle.fw_bag.specs.declared.rec.Rec.{Rec}
 use Rattle.fw_bag.specs.Rec.{rec_cmp}
@@ -9,11 +10,12 @@ use Rattle.fw_flow.specs.declared.event.Event.{Event}
 use Rattle.fw_flow.specs.declared.event.Event.TheVariants.{Inject, Deliver, Notify}
 use Rattle.fw_flow.specs.declared.event.Message.{Message}
 use Rattle.fw_flow.specs.WholeBags.{Timed}
-use Rattle.fw_flow.specs.Dataflow.{System, sender}
-use Rattle.fw_flow.specs.NodeFunction.{event_node, sends, sent_by}
-use Rattle.fw_flow.specs.Projection.{events_at}
+use Rattle.fw_flow.specs.Dataflow.{System, Dataflow}
 use Rattle.fw_flow.specs.Message.{message_cmp, is_message_among, messages_without, messages_less}
+use Rattle.fw_model.specs.Carried.{carried, carried_timed, is_carried}
 use Rattle.fw_model.specs.History.{some_at, sent_messages, delivered_messages, pending_messages, IsEnabled, IsLegal}
+use Rattle.fw_model.specs.LawsOfPending.{sent_on}
+use Rattle.fw_model.proofs.CarriedLaws.{sent-more}
 use Rattle.fw_flow.proofs.MessageLaws.{message_cmp-equal, message_cmp-self}
 use Rattle.fw_model.proofs.WeightLaws.{weigh, weigh-append, one, one-out}
 
@@ -65,10 +67,9 @@ less-weigh w ms (d ∷ ds) s =
 
 pub sent-grows : (sys : System) (h : List Event) (v : Event) (e : ℕ) (w : Message → ℕ) → weigh w (sent_messages sys h e) ≤ weigh w (sent_messages sys (v ∷ h) e)
 sent-grows sys h v e w =
-    let q = sender sys.flow e in
-    let vs = events_at sys.flow q h in
-    cond_both (event_node sys.flow v == q) (v ∷ vs) vs (λ ws. weigh w (sent_messages sys h e) ≤ weigh w (sent_by sys q ws))
-    (λ c. omega (arith, weigh-append w (sends sys q vs v) (sent_by sys q vs))) (λ c. omega arith)
+    let more = ap (weigh w) (sent-more sys h v e) in
+    let parts = weigh-append w (sent_on sys h e v) (sent_messages sys h e) in
+    omega arith
 
 delivered-sub : (sys : System) (h : List Event) (v : Event) → IsEnabled sys h v → (e : ℕ) → IsSub (delivered_messages h e) (sent_messages sys h e)
     → IsSub (delivered_messages (v ∷ h) e) (sent_messages sys h e)
@@ -108,6 +109,19 @@ timed_message m = record { at = m.at; rec = m.rec }
 -- messages without their causes
 abbrev pub timed_of : List Message → List Timed
 timed_of ms = map timed_message ms
+
+-- an edge carries the same of both
+pub timed_of-carried : (flow : Dataflow) (e : ℕ) (ms : List Message) → timed_of (carried flow e ms) ≡ carried_timed flow e (timed_of ms)
+unfolding carried carried_timed
+timed_of-carried flow e [] = refl
+timed_of-carried flow e (m ∷ ms) =
+    let k : Message → Bool = λ x. is_carried flow e x.rec in
+    let l : Timed → Bool = λ x. is_carried flow e x.rec in
+    let rest = timed_of-carried flow e ms in
+    elim (cases_Bool (is_carried flow e m.rec)) [
+      | inl i ↦ ap timed_of (filter-in k m ms i) ∙ ap (λ xs. timed_message m ∷ xs) rest ∙ sym (filter-in l (timed_message m) (timed_of ms) i)
+      | inr i ↦ ap timed_of (filter-out k m ms i) ∙ rest ∙ sym (filter-out l (timed_message m) (timed_of ms) i)
+    ]
 
 pub timed_of-weigh : (w : Timed → ℕ) (ms : List Message) → weigh w (timed_of ms) ≡ weigh (λ m. w (timed_message m)) ms
 unfolding weigh

@@ -8,6 +8,7 @@ use Rattle.fw_time.specs.Stamp.{Stamp, leq, in_domain}
 use Rattle.fw_time.specs.declared.stamp.Bounds.{Bounds}
 use Rattle.fw_time.proofs.StampLaws.{leq-trans}
 use Rattle.fw_frontier.specs.Frontier.{Frontier, Within, some_above, cover}
+use Rattle.fw_flow.specs.NodeFunction.{sent_by}
 use Rattle.fw_flow.specs.declared.choice.Counted.{Counted}
 use Rattle.fw_flow.specs.declared.event.Event.{Event}
 use Rattle.fw_flow.specs.declared.event.Message.{Message}
@@ -15,6 +16,7 @@ use Rattle.fw_flow.specs.Dataflow.{System, kind_of, sender, bounds_of, send_stam
 use Rattle.fw_flow.specs.Projection.{all_inside, events_at}
 use Rattle.fw_model.specs.Covers as machine
 use Rattle.fw_model.specs.History.{sent_messages}
+use Rattle.fw_model.proofs.CarriedLaws.{carried-each}
 use Rattle.fw_model.proofs.PhiLaws.{all_inside-monotone}
 use Rattle.fw_model.proofs.SendsLaws.{IsOfCause as IsOfItsCause, sent_by-of_cause}
 use Rattle.fw_model.proofs.SendingLaws.{send_stamp-monotone}
@@ -198,7 +200,9 @@ sent-covers sys h e base ms n s d f w b = λ i t. at t i
     send t = send_stamp sys.flow (sender sys.flow e) t
 
     theirs : AllByRecursion (λ (m : Message). OfCause send m.at m.causes) (sent_messages sys h e)
-    theirs = sent_by-of_cause sys (sender sys.flow e) n (events_at sys.flow (sender sys.flow e) h)
+    theirs =
+        carried-each sys.flow e (λ m. OfCause send m.at m.causes) (sent_by sys (sender sys.flow e) (events_at sys.flow (sender sys.flow e) h))
+        (sent_by-of_cause sys (sender sys.flow e) n (events_at sys.flow (sender sys.flow e) h))
 
     order : SendsInOrder base send
     order s t v i l k = send_stamp-monotone sys.flow (sender sys.flow e) s t v (d t i) l k
@@ -248,7 +252,9 @@ sent_outside-covers whole sys h e base ms n s f b = record {
     send t = send_stamp sys.flow (sender sys.flow e) t
 
     theirs : AllByRecursion (λ (m : Message). OfCause send m.at m.causes) (sent_messages sys h e)
-    theirs = sent_by-of_cause sys (sender sys.flow e) n (events_at sys.flow (sender sys.flow e) h)
+    theirs =
+        carried-each sys.flow e (λ m. OfCause send m.at m.causes) (sent_by sys (sender sys.flow e) (events_at sys.flow (sender sys.flow e) h))
+        (sent_by-of_cause sys (sender sys.flow e) n (events_at sys.flow (sender sys.flow e) h))
 
     ours : Stamp → Bool
     ours t = some_above (map (λ (m : Counted). m.at) (filter (λ (m : Counted). all_inside f m.causes) ms)) t

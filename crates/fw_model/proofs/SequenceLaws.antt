@@ -15,6 +15,7 @@ use Rattle.fw_flow.specs.NodeFunction.{event_stamp, numbered_messages, sequence_
 use Rattle.fw_flow.specs.Projection.{events_at, all_inside, count_from, sent_count, first_coordinate, phi_of_kind, phi}
 use Rattle.fw_model.specs.History.{injected_count}
 use Rattle.fw_model.specs.LawsOfSending.{InsidePhiOfSequenceComesFromInside}
+use Rattle.fw_model.proofs.CarriedLaws.{carried-each}
 use Rattle.fw_model.proofs.PhiLaws.{count-append}
 use Rattle.fw_model.specs.Order.{notified_stamps, AreDescending}
 use Rattle.fw_model.specs.Sending.{SendsByCount, recs_by_count}
@@ -168,7 +169,7 @@ inside_phi_of_sequence-from_inside sys h e f is fr d o =
     let sent_is = sent_by-sequence sys p is vs (no_inject sys.flow p h o.injects_nothing) in
     let Q : Message → Type 0 = λ m. phi sys h e f m.at ≡ true → all_inside f m.causes ≡ true in
     let P : List Message → Type 0 = λ ms. AllByRecursion Q ms in
-    subst P (sym sent_is) (elim (cases_Bool (f top)) [
+    carried-each sys.flow e Q (sent_by sys p vs) (subst P (sym sent_is) (elim (cases_Bool (f top)) [
       | inl k ↦
           each-weaker (λ (m : Message). all_inside f m.causes ≡ true) Q (sequence_sent vs) (λ m i l. i)
           (causes-inside f vs (each-weaker (λ s. in_domain bounds s ≡ true) (λ s. f s ≡ true) (notified_stamps vs)
@@ -180,4 +181,4 @@ inside_phi_of_sequence-from_inside sys h e f is fr d o =
             | inr j ↦ let same = ap (count_from f) sent_is in i (omega arith)
           ])
           (numbers-inside bounds f fr vs notified o.in_order)
-    ])
+    ]))

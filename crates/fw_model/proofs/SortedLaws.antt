@@ -5,12 +5,14 @@ use Rattle.std.specs.List.{AllByRecursion}
 use Rattle.std.specs.Ordering.{is_eq, is_gt}
 use Rattle.std.proofs.lemmas.Bool.{cond_both, cases_Bool}
 use Rattle.fw_lemmas.proofs.Each.{each-kept}
+use Rattle.fw_flow.specs.Dataflow.{Dataflow}
 use Rattle.fw_flow.specs.declared.event.Message.{Message}
 use Rattle.fw_flow.specs.Message.{message_cmp, messages_without, messages_less}
 use Rattle.fw_flow.proofs.MessageLaws.{message_total, message_cmp-same, message_cmp-equal}
 use Rattle.fw_model.proofs.AscentLaws.{IsAscentOf, ascending-put, each-put, put-weigh, same_by_copies}
 use Rattle.fw_model.proofs.WeightLaws.{weigh}
 use Rattle.fw_model.proofs.SentLaws.{copy}
+use Rattle.fw_model.specs.Carried.{carried, is_carried}
 use Rattle.fw_model.specs.SortedMessages.{with_message, sorted_messages, with_messages}
 
 -- ---- ascending lists
@@ -162,3 +164,8 @@ sorted_messages-filter test xs =
     (λ q.
     sorted_messages-weigh (copy q) (filter test xs) ∙ filter-copies test q xs ∙ ap (λ n. cond (test q) n 0) (sym (sorted_messages-weigh (copy q) xs))
     ∙ sym (filter-copies test q (sorted_messages xs)))
+
+-- so is what an edge carries
+pub sorted_messages-carried : (flow : Dataflow) (e : ℕ) (xs : List Message) → sorted_messages (carried flow e xs) ≡ carried flow e (sorted_messages xs)
+unfolding carried
+sorted_messages-carried flow e xs = sorted_messages-filter (λ m. is_carried flow e m.rec) xs

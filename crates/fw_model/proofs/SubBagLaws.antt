@@ -20,7 +20,7 @@ use Rattle.fw_model.proofs.KindSorts.{is_inner, sort_of, sends_at_once, sends_su
 use Rattle.fw_model.proofs.WeightLaws.{weigh, how_often-where, one}
 use Rattle.fw_model.proofs.SentLaws.{timed_of, next_delivered-lighter}
 use Rattle.fw_model.proofs.ArrivalLaws.{together-weigh}
-use Rattle.fw_model.proofs.TimedCounts.{family-weigh, how_often-recs_at}
+use Rattle.fw_model.proofs.TimedCounts.{how_often-recs_at, sender_bag, sender_sent, sent-fewer}
 use Rattle.fw_model.proofs.InputLaws.{input-lighter}
 use Rattle.fw_model.proofs.OneByOneLaws.{IsFewerAt}
 use Rattle.fw_model.proofs.NotifiedLaws.{sums-sent, notified-settled}
@@ -42,9 +42,9 @@ record Known (sys : System) (h : List Event) (family : Family) : Type 0 where
   pub denotation : IsDenotation sys family
   pub within : IsDeliveredWithin family h
 
--- the rec was sent on the edge at the stamp at most as often as the family has it there
+-- the sender of the edge sent the rec at the stamp at most as often as it sends it in all
 abbrev IsSentWithin : System → List Event → Family → ℕ → Stamp → Rec → Type 0
-IsSentWithin sys h family e t q = weigh (one t q) (timed_of (sent_messages sys h e)) ≤ weigh (one t q) (family e)
+IsSentWithin sys h family e t q = weigh (one t q) (timed_of (sender_sent sys h e)) ≤ weigh (one t q) (sender_bag sys family e)
 
 -- a node that waits for no notification is owed none
 not_owed : (sys : System) (h : List Event) (p : ℕ) (t : Stamp) → is_notified_kind (kind_of sys.flow p) ≡ false → is_owed_notice sys h p t ≡ false
@@ -53,7 +53,7 @@ not_owed sys h p t n = ap (λ b. b && was_delivered_to sys.flow p t h && not (wa
 -- what was sent is what the node sends in all for what was delivered
 sent_for : (sys : System) (h : List Event) (family : Family) → Known sys h family → (e : ℕ) → is_inner (kind_of sys.flow (sender sys.flow e)) ≡ true
     → (t : Stamp) (q : Rec) → is_owed_notice sys h (sender sys.flow e) t ≡ false
-    → weigh (one t q) (timed_of (sent_messages sys h e))
+    → weigh (one t q) (timed_of (sender_sent sys h e))
     ≡ weigh (one t q) (outputs_of_kind sys.flow (kind_of sys.flow (sender sys.flow e)) (batches_of sys (sender sys.flow e)) (map (delivered_bag h) (in_edges sys.flow (sender sys.flow e))))
 sent_for sys h family k e is t q o =
     let flow = sys.flow in
@@ -70,7 +70,6 @@ once-within sys h family k e is once t q =
     let a = sent_for sys h family k e is t q (not_owed sys h p t (once-not_notified kind once)) in
     let b = outputs-fewer flow kind once t q (batches_of sys p) (delivered_bag h) family (in_edges flow p)
     (each_in_edge flow p (λ d. IsFewerAt flow kind t (delivered_bag h d) (family d)) (λ d at u r i. k.within d u r)) in
-    let c = family-weigh sys family k.denotation e (one t q) in
     omega arith
 
 sums-within : (sys : System) (h : List Event) (family : Family) → Known sys h family → (e : ℕ) → is_inner (kind_of sys.flow (sender sys.flow e)) ≡ true
@@ -90,7 +89,6 @@ sums-within sys h family k e is sums t q =
           (each_in_edge flow p (λ d. AgreeFor flow kind t (delivered_bag h d) (family d)) (λ d at u s r j below.
           closed-denoted sys h family k.legal (all_denoted sys h family w k.legal k.denotation) p t settled.closed u
           (ap (λ z. leq z t) (sums-stamp sys kind sums u s j) ∙ below) d at r)) in
-          let c = family-weigh sys family k.denotation e (one t q) in
           omega arith
       | inr i ↦
           let a = sums-sent sys h w.flow epochs k.legal p sums n t q
@@ -113,7 +111,6 @@ ledger-within sys h family k e ledger t q =
     let came = delivered_bag h d in
     let numbered = subst AreNumbered (deliveries-one flow p d node edge.only h) (ledger-numbered sys h k.legal p node edge) in
     let a = sent_for sys h family k e is t q (not_owed sys h p t (ap is_notified_kind ledger)) in
-    let c = family-weigh sys family k.denotation e (one t q) in
     elim (cases_lt 0 (weigh (any_at t) came)) [
       | inl some ↦
           let r = some_at_stamp t came some in
@@ -149,7 +146,6 @@ sent_within sys h family k e t q =
     elim (sort_of kind) [
       | inl is ↦
           let a = input-lighter sys p is (one t q) h k.legal in
-          let b = family-weigh sys family k.denotation e (one t q) in
           let c = ap (λ z. weigh (one t q) (outputs_of_kind flow z (batches_of sys p) (map family (in_edges flow p)))) is in
           omega arith
       | inr (inl is) ↦ let a = output-sent sys p is (one t q) (events_at flow p h) in omega arith
@@ -169,7 +165,7 @@ delivered_within sys [] family w l den d t q = omega arith
 delivered_within sys (v ∷ h) family w l den d t q =
     let a = next_delivered-lighter sys h v l.1 l.0 d (one t q) in
     let k : Known sys h family = record { well_formed = w; legal = l.1; denotation = den; within = delivered_within sys h family w l.1 den } in
-    let b = sent_within sys h family k d t q in
+    let b = sent-fewer sys h family den d t q (sent_within sys h family k d t q) in
     omega arith
 
 pub sent-is_sub : SentIsSubBagOfDenotation
@@ -177,7 +173,7 @@ sent-is_sub sys h family w l den e t r =
     let a = how_often-recs_at t r (sent_messages sys h e) in
     let b = how_often-where t r (family e) in
     let k : Known sys h family = record { well_formed = w; legal = l; denotation = den; within = delivered_within sys h family w l den } in
-    let c = sent_within sys h family k e t r in
+    let c = sent-fewer sys h family den e t r (sent_within sys h family k e t r) in
     omega arith
 
 pub delivered-is_sub : DeliveredIsSubBagOfDenotation

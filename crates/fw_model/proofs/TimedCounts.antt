@@ -1,5 +1,5 @@
 -- Bags of timed recs as their ascending lists.
-use Rattle.std.proofs.Common.{◌≡◌, ℕ, true, false, cond, List, [], ◌∷◌, map, refl, sym, ap, subst, ◌∙◌, inl, inr, arith}
+use Rattle.std.proofs.Common.{◌≡◌, ℕ, ◌≤◌, true, false, cond, List, [], ◌∷◌, map, refl, sym, ap, subst, ◌∙◌, inl, inr, arith}
 use Rattle.std.specs.List.{AllByRecursion}
 use Rattle.std.specs.Prelude.{filter}
 use Rattle.std.specs.Ordering.{is_gt, ordering_then}
@@ -14,15 +14,20 @@ use Rattle.fw_bag.specs.Bag.{how_often}
 use Rattle.fw_bag.specs.Keyed.{sorted_recs}
 use Rattle.fw_bag.proofs.BagLaws.{how_often-bag_sum, IsAscending-bag_sum, same_from_how_often}
 use Rattle.fw_flow.specs.WholeBags.{Timed, timed_cmp, in_order, timed_where, outputs_of, outputs_of_kind}
+use Rattle.fw_flow.specs.declared.event.Event.{Event}
 use Rattle.fw_flow.specs.declared.event.Message.{Message}
 use Rattle.fw_flow.specs.Dataflow.{System, sender, kind_of, in_edges, batches_of}
+use Rattle.fw_flow.specs.NodeFunction.{sent_by}
+use Rattle.fw_flow.specs.Projection.{events_at}
+use Rattle.fw_model.specs.Carried.{carried_timed}
 use Rattle.fw_model.specs.Denotation.{Family, IsDenotation, bag_at}
 use Rattle.fw_model.proofs.AscentLaws.{put-weigh}
+use Rattle.fw_model.proofs.CarriedLaws.{carried_timed-ascending, carried_timed-equal, carried_timed-fewer}
 use Rattle.fw_model.proofs.TimedLaws.{IsAscendingTimed, ascending-in_order, timed_ascent}
 use Rattle.fw_model.proofs.WeightLaws.{weigh, one, how_often-where}
-use Rattle.fw_model.proofs.SentLaws.{timed_message, timed_of}
+use Rattle.fw_model.proofs.SentLaws.{timed_message, timed_of, timed_of-carried}
 use Rattle.fw_model.proofs.StampLaws.{same-is}
-use Rattle.fw_model.specs.History.{recs_at}
+use Rattle.fw_model.specs.History.{recs_at, sent_messages}
 
 -- ---- the same recs
 
@@ -59,15 +64,47 @@ ascending-where t (x ∷ xs) s =
 
 -- ---- the bags of a denotation
 
-pub family-weigh : (sys : System) (family : Family) → IsDenotation sys family → (e : ℕ) (w : Timed → ℕ)
-    → let q = sender sys.flow e in
-    weigh w (family e) ≡ weigh w (outputs_of_kind sys.flow (kind_of sys.flow q) (batches_of sys q) (map family (in_edges sys.flow q)))
-family-weigh sys family d e w = ap (weigh w) (d e) ∙ in_order-weigh w _
+-- the whole bag that the sender of an edge sends
+abbrev pub sender_bag : System → Family → ℕ → List Timed
+sender_bag sys family e =
+    outputs_of_kind sys.flow (kind_of sys.flow (sender sys.flow e)) (batches_of sys (sender sys.flow e)) (map family (in_edges sys.flow (sender sys.flow e)))
+
+-- what the sender of an edge sent
+abbrev pub sender_sent : System → List Event → ℕ → List Message
+sender_sent sys h e = sent_by sys (sender sys.flow e) (events_at sys.flow (sender sys.flow e) h)
+
+-- the family has on an edge what it carries of the sender's bag
+family-carried : (sys : System) (family : Family) → IsDenotation sys family → (e : ℕ) (t : Stamp) (q : Rec)
+    → weigh (one t q) (family e) ≡ weigh (one t q) (carried_timed sys.flow e (sender_bag sys family e))
+family-carried sys family d e t q =
+    ap (weigh (one t q)) (d e)
+    ∙ carried_timed-equal sys.flow e t q (in_order (sender_bag sys family e)) (sender_bag sys family e) (in_order-weigh (one t q) (sender_bag sys family e))
+
+-- where the sender of an edge sent a rec as often as it is in its whole bag, the edge carried it as often as the family has it there
+pub sent-as_denoted : (sys : System) (h : List Event) (family : Family) → IsDenotation sys family → (e : ℕ) (t : Stamp) (q : Rec)
+    → weigh (one t q) (timed_of (sender_sent sys h e)) ≡ weigh (one t q) (sender_bag sys family e)
+    → weigh (one t q) (timed_of (sent_messages sys h e)) ≡ weigh (one t q) (family e)
+sent-as_denoted sys h family d e t q k =
+    ap (weigh (one t q)) (timed_of-carried sys.flow e (sender_sent sys h e))
+    ∙ carried_timed-equal sys.flow e t q (timed_of (sender_sent sys h e)) (sender_bag sys family e) k
+    ∙ sym (family-carried sys family d e t q)
+
+-- and where it sent it at most as often
+pub sent-fewer : (sys : System) (h : List Event) (family : Family) → IsDenotation sys family → (e : ℕ) (t : Stamp) (q : Rec)
+    → weigh (one t q) (timed_of (sender_sent sys h e)) ≤ weigh (one t q) (sender_bag sys family e)
+    → weigh (one t q) (timed_of (sent_messages sys h e)) ≤ weigh (one t q) (family e)
+sent-fewer sys h family d e t q k =
+    let a = ap (weigh (one t q)) (timed_of-carried sys.flow e (sender_sent sys h e)) in
+    let b = carried_timed-fewer sys.flow e t q (timed_of (sender_sent sys h e)) (sender_bag sys family e) k in
+    let c = family-carried sys family d e t q in
+    omega arith
 
 pub bag-ascending : (sys : System) (family : Family) → IsDenotation sys family → (e : ℕ) (t : Stamp) → IsAscending (bag_at family e t)
 bag-ascending sys family d e t =
     let q = sender sys.flow e in
-    subst (λ xs. IsAscending (timed_where (same t) xs)) (sym (d e)) (ascending-where t (outputs_of sys family q) (ascending-in_order (outputs_of_kind sys.flow (kind_of sys.flow q) (batches_of sys q) (map family (in_edges sys.flow q)))))
+    subst (λ xs. IsAscending (timed_where (same t) xs)) (sym (d e))
+    (ascending-where t (carried_timed sys.flow e (outputs_of sys family q))
+    (carried_timed-ascending sys.flow e (outputs_of sys family q) (ascending-in_order (sender_bag sys family e))))
 
 recs_at-timed : (t : Stamp) (ms : List Message) → recs_at t ms ≡ timed_where (same t) (timed_of ms)
 recs_at-timed t [] = refl

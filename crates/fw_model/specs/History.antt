@@ -12,14 +12,15 @@ use Rattle.fw_flow.specs.NodeFunction.{sent_by, event_node, event_stamp}
 use Rattle.fw_flow.specs.Message.{is_message_among, messages_less}
 use Rattle.fw_flow.specs.Projection.{events_at, phi, first_coordinate}
 use Rattle.fw_bag.specs.declared.rec.Rec.{Rec}
+use Rattle.fw_model.specs.Carried.{carried}
 
 -- whether one of the messages is at a stamp that passes the test
 abbrev pub some_at : (Stamp → Bool) → List Message → Bool
 some_at test ms = list_any (λ m. test m.at) ms
 
--- what the events of a history sent on an edge
+-- what the events of a history sent on an edge: what it carries of what its sender sent
 abbrev pub sent_messages : System → List Event → ℕ → List Message
-sent_messages sys h e = sent_by sys (sender sys.flow e) (events_at sys.flow (sender sys.flow e) h)
+sent_messages sys h e = carried sys.flow e (sent_by sys (sender sys.flow e) (events_at sys.flow (sender sys.flow e) h))
 
 -- the message that an event delivered on edge e, if it did
 abbrev pub message_on : ℕ → Event → List Message

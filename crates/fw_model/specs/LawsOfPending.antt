@@ -9,6 +9,7 @@ use Rattle.fw_flow.specs.Dataflow.{System, sender, is_numbered}
 use Rattle.fw_flow.specs.NodeFunction.{event_node, sends}
 use Rattle.fw_flow.specs.Projection.{events_at}
 use Rattle.fw_flow.specs.WellFormed.{IsWellFormed}
+use Rattle.fw_model.specs.Carried.{carried}
 use Rattle.fw_model.specs.History.{IsDeliverable, IsLegal, some_at, sent_messages, message_on, delivered_messages, pending_messages}
 use Rattle.fw_flow.specs.Message.{is_message_among, messages_less}
 use Rattle.fw_model.specs.SortedMessages.{sorted_messages, with_messages}
@@ -21,7 +22,7 @@ SentIsDeliveredAndPending = (sys : System) (h : List Event) → IsLegal sys h
 -- what an event sends on an edge, after these
 abbrev pub sent_on : System → List Event → ℕ → Event → List Message
 sent_on sys h e v =
-    if event_node sys.flow v == sender sys.flow e then sends sys (sender sys.flow e) (events_at sys.flow (sender sys.flow e) h) v else []
+    if event_node sys.flow v == sender sys.flow e then carried sys.flow e (sends sys (sender sys.flow e) (events_at sys.flow (sender sys.flow e) h) v) else []
 
 -- as the history goes on legally, what is pending on an edge, in order, loses the message that the event delivered there, and
 -- gets those that it sent there

@@ -12,6 +12,7 @@ use Rattle.fw_flow.specs.Dataflow.{System, kind_of, policy_of, sender, bounds_of
 use Rattle.fw_flow.specs.NodeFunction.{event_node, event_stamp, sent_by}
 use Rattle.fw_flow.specs.Projection.{events_at}
 use Rattle.fw_flow.specs.WellFormed.{IsWellFormed, IsWellFormedSystem, may_keep_nothing}
+use Rattle.fw_model.specs.Carried.{carried}
 use Rattle.fw_model.specs.History.{IsLegal, sent_messages}
 use Rattle.fw_model.specs.Machine.{Machine, SerialEvent, Write, Written, logged_event, Stage, acknowledged, events, first_state}
 use Rattle.fw_model.specs.Choice.{kept, cut_of, IsCandidate, IsLargest}
@@ -68,5 +69,5 @@ abbrev pub ReplayedEventsSendTheSame : Type 0
 ReplayedEventsSendTheSame = (sys : System) → IsWellFormedSystem sys → (steps : List Step) (outcomes : List Outcome) (last : Machine)
     → Run sys (first_state sys) steps outcomes last → (lost : ℕ → Bool) (choice : Choice) → IsLargest sys last (IsCandidate sys last lost kept) choice
     → (p : ℕ) (f : Front) → policy_of sys.flow p ≡ policy.Full → cut_of choice p ≡ At f → (e : ℕ) → e < length sys.flow.edges → sender sys.flow e ≡ p
-    → messages_outside (at_receiver sys last.low e) (sent_by sys p (replayed_events sys last p (node_frontier sys.flow p f)))
+    → messages_outside (at_receiver sys last.low e) (carried sys.flow e (sent_by sys p (replayed_events sys last p (node_frontier sys.flow p f))))
     ≡ messages_outside (at_receiver sys last.low e) (messages_from (node_frontier sys.flow p f) (sent_messages sys (events last.history) e))

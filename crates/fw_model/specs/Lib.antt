@@ -1,5 +1,6 @@
 pub mod Acknowledgements
 pub mod Auto
+pub mod Carried
 pub mod Certificates
 pub mod Choice
 pub mod Choosing

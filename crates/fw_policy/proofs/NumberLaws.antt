@@ -6,6 +6,7 @@ use Rattle.std.proofs.Common.{inl, inr}
 use Rattle.fw_lemmas.proofs.Filters.{filter-all, filter-true}
 use Rattle.fw_time.specs.Stamp.{Stamp, in_domain}
 use Rattle.fw_frontier.specs.Frontier.{Frontier, everything, cover}
+use Rattle.fw_model.proofs.CarriedLaws.{carried-each}
 use Rattle.fw_model.proofs.ThinnedLaws.{thinned-covers}
 use Rattle.fw_flow.specs.declared.choice.Counted.{Counted}
 use Rattle.fw_flow.specs.declared.event.Event.{Event}
@@ -13,7 +14,7 @@ use Rattle.fw_flow.specs.declared.event.Message.{Message}
 use Rattle.fw_flow.specs.declared.kind.Kind.{Kind}
 use Rattle.fw_flow.specs.declared.kind.Kind.TheVariants.{Sequence}
 use Rattle.fw_flow.specs.Dataflow.{System, kind_of, sender, receiver, bounds_of, is_sequence_kind, bounds_of_domain, out_domain_of_kind, greatest_of_kind}
-use Rattle.fw_flow.specs.NodeFunction.{event_stamp}
+use Rattle.fw_flow.specs.NodeFunction.{event_stamp, sent_by}
 use Rattle.fw_flow.specs.Projection.{all_inside, events_at, phi_of_kind, phi, phi_by_count, sent_count}
 use Rattle.fw_model.specs.Covers.{stamps_from}
 use Rattle.fw_model.specs.History.{sent_messages}
@@ -38,7 +39,8 @@ numbered-covers sys h e ms s d =
     ∙ thinned-covers b (everything b) all kept s (λ t. true) (λ t i. refl)
     ∙ ap (λ (ts : List Stamp). cover b ts) (filter-true all)
     ∙ ap (λ (xs : List Message). cover b (map (λ (m : Message). m.at) xs))
-    (sym (filter-all (λ (m : Message). all_inside every m.causes) (sent_messages sys h e) (inside-sent sys p every (events_at sys.flow p h) d)))
+    (sym (filter-all (λ (m : Message). all_inside every m.causes) (sent_messages sys h e)
+    (carried-each sys.flow e (λ (m : Message). all_inside every m.causes ≡ true) (sent_by sys p (events_at sys.flow p h)) (inside-sent sys p every (events_at sys.flow p h) d))))
 
 -- ---- what comes from a frontier
 

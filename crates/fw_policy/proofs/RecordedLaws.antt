@@ -13,13 +13,14 @@ use Rattle.fw_frontier.specs.Front.{Front, frontier_of, same_front}
 use Rattle.fw_flow.specs.declared.choice.Recorded.{Recorded}
 use Rattle.fw_flow.specs.declared.event.Message.{Message}
 use Rattle.fw_flow.specs.Dataflow.{System, kind_of, policy_of, sender, receiver, bounds_of, node_frontier}
-use Rattle.fw_flow.specs.NodeFunction.{event_stamp}
+use Rattle.fw_flow.specs.NodeFunction.{event_stamp, sent_by}
 use Rattle.fw_flow.specs.Projection.{all_inside, events_at}
 use Rattle.fw_flow.specs.declared.restoring.Restoring.TheVariants.{Checkpoints}
 use Rattle.fw_flow.specs.Restoring.{way_of, can_resend}
 use Rattle.fw_model.specs.Covers.{takes_its_cut, takes_its_notices, discarded_at, stamps_from, stamp_of_notice}
 use Rattle.fw_model.specs.History.{delivered_messages, sent_messages}
 use Rattle.fw_model.specs.Machine.{Machine, events, no_stamps}
+use Rattle.fw_model.proofs.CarriedLaws.{carried-each}
 use Rattle.fw_model.proofs.CauseLaws.{outside-sent}
 use Rattle.fw_model.proofs.LowLaws.{none-within, none-canonical}
 use Rattle.fw_model.specs.Offers.{IsListed, record_at}
@@ -105,8 +106,9 @@ empty-recorded sys state p way notices =
           (covers-none c (stamps_from none went)
           (ap (λ (ms : List Message). map (λ (m : Message). m.at) ms)
           (filter-none (λ (m : Message). all_inside none m.causes) went
+          (carried-each sys.flow e (λ (m : Message). all_inside none m.causes ≡ false) (sent_by sys (sender sys.flow e) (events_at sys.flow (sender sys.flow e) h))
           (outside-sent sys (sender sys.flow e) none (events_at sys.flow (sender sys.flow e) h)
-          (each-one (λ v. none (event_stamp v) ≡ false) (events_at sys.flow (sender sys.flow e) h) (λ v. outside-none b (event_stamp v))))))
+          (each-one (λ v. none (event_stamp v) ≡ false) (events_at sys.flow (sender sys.flow e) h) (λ v. outside-none b (event_stamp v)))))))
           ∙ sym (ap (λ w. discarded_at sys.flow e w (cover c (stamps_from none went)) f) way))
           );
     }

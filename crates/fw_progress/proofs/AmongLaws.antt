@@ -1,5 +1,5 @@
 -- Traces of which only some is known: what is kept of them is of what happened.
-use Rattle.std.proofs.Common.{◌≡◌, inl, inr, ℕ, ◌<◌, Bool, true, false, not, ◌&&◌, ◌==◌, cond, List, [], ◌∷◌, ◌++◌, length, get_or, map, filter, refl, sym, ap, subst, ◌∙◌, arith}
+use Rattle.std.proofs.Common.{◌≡◌, inl, inr, ℕ, zero, suc, ◌<◌, Bool, true, false, not, ◌&&◌, ◌==◌, cond, List, [], ◌∷◌, ◌++◌, length, get_or, map, filter, refl, sym, ap, subst, ◌∙◌, arith}
 use Rattle.std.specs.List.{AllByRecursion, Contains, flat_map}
 use Rattle.std.specs.BTreeSet.{insert_key}
 use Rattle.std.proofs.lemmas.Bool.{and_parts, cases_eq, eq-eqb, eqb-true, false_from_ne_true}
@@ -13,26 +13,27 @@ use Rattle.fw_flow.specs.declared.event.Event.TheVariants.{Inject, Deliver, Noti
 use Rattle.fw_flow.specs.declared.event.Message.{Message}
 use Rattle.fw_flow.specs.declared.kind.Kind.TheVariants.{Input}
 use Rattle.fw_flow.specs.declared.kind.Policy.TheVariants as policy
-use Rattle.fw_flow.specs.Dataflow.{System, Dataflow, kind_of, policy_of, receiver, in_edges, bounds_of, is_notified_kind, is_sequence_kind, node_frontier, HasEpochs}
-use Rattle.fw_flow.specs.NodeFunction.{event_node, event_stamp, sent_by}
+use Rattle.fw_flow.specs.Dataflow.{System, Dataflow, kind_of, policy_of, receiver, in_edges, bounds_of, is_notified_kind, node_frontier, HasEpochs, sender}
+use Rattle.fw_flow.specs.NodeFunction.{event_node, event_stamp}
 use Rattle.fw_flow.specs.Projection.{events_at}
 use Rattle.fw_flow.specs.Restoring.{can_resend}
 use Rattle.fw_flow.specs.WellFormed.{IsInDegree, IsPolicyAllowed, IsWellFormed}
 use Rattle.fw_flow.proofs.EdgeLaws.{in_edges-at}
 use Rattle.fw_model.specs.Covers.{stamp_of_notice}
-use Rattle.fw_model.specs.EventStamps.{causes_in, tells_sent}
+use Rattle.fw_model.specs.EventStamps.{causes_in, base_of_sent, tells_sent}
 use Rattle.fw_model.specs.Filtering.{AreFrontiers, kept_events}
-use Rattle.fw_model.specs.History.{delivered_messages, was_delivered_to, was_notified, AreEventsInDomain, IsLegal}
+use Rattle.fw_model.specs.History.{delivered_messages, was_delivered_to, was_notified, AreEventsInDomain, IsLegal, sent_messages}
 use Rattle.fw_model.specs.Thinned.{IsThinnedIf}
 use Rattle.fw_model.specs.Writes.{takes_checkpoints}
+use Rattle.fw_model.proofs.CarriedLaws.{carried-none}
 use Rattle.fw_model.proofs.LegalLaws.{legal_events-in_domain}
 use Rattle.fw_model.proofs.ThinnedLaws.{each-contained}
 use Rattle.fw_progress.specs.declared.sent_tally.SentTally.{SentTally}
 use Rattle.fw_progress.specs.declared.traces.Traces.{Traces}
-use Rattle.fw_progress.specs.Progress.{ChangesAt}
-use Rattle.fw_progress.specs.Trace.{delivered_on, stamps_notified, stamps_where_sent, counts_sent, HasOutEdge, IsTraceIf, IsTraceAmong, HasOutside, HasTraceOutside, KeepsLists, HaveChanged, HasDeliveredMore, HasNotifiedMore, HasSentMore}
+use Rattle.fw_progress.specs.SentTally.{IsSentTally}
+use Rattle.fw_progress.specs.Trace.{delivered_on, stamps_notified, stamps_where_sent, no_tally, counts_sent, IsTraceIf, IsTraceAmong, HasOutside, HasTraceOutside, KeepsLists, HaveChanged, HasDeliveredMore, HasNotifiedMore, HasSentMore}
 use Rattle.fw_progress.specs.Traces.{AreOf, HasAdded, StandsInside}
-use Rattle.fw_progress.proofs.CutTraceLaws.{delivered-at, notices-at, delivered-domain, notices-domain, sent-domain, causes-of, delivered-kept, notices-kept, sent-kept}
+use Rattle.fw_progress.proofs.CutTraceLaws.{delivered-at, notices-at, delivered-domain, notices-domain, delivered-kept, notices-kept, sent-kept, edge-domain}
 use Rattle.fw_progress.proofs.TraceLaws.{among-domain, among-inside, each-itself, each_of-insert, has-passed, insert-each, left-inside, untold-if}
 
 -- ---- lists that are what they were
@@ -41,7 +42,7 @@ pub lists-among : (flow : Dataflow) (p : ℕ) (old new : Traces) → KeepsLists 
 lists-among flow p old new k sys h e t = record {
   delivered = λ d l r. subst (AllByRecursion (Contains (map (λ (m : Message). m.at) (delivered_messages h d)))) (sym (k.delivered d (sym (ap (λ f. receiver f d) e) ∙ r))) (t.delivered d l r);
   notified = subst (AllByRecursion (Contains (flat_map (stamp_of_notice p) h))) (sym k.notified) t.notified;
-  sent = λ o s. subst (AllByRecursion (Contains (causes_in (sent_by sys p (events_at sys.flow p h))))) (sym k.sent) (t.sent o s);
+  sent = λ d l r s. subst (AllByRecursion (Contains (causes_in (sent_messages sys h d)))) (sym (k.sent d (sym (ap (λ f. sender f d) e) ∙ r))) (t.sent d l r s);
 }
 
 pub lists-outside : (flow : Dataflow) (p : ℕ) (old new : Traces) → KeepsLists flow p old new → (these : List Event) (base : Frontier) → HasTraceOutside flow these p base old
@@ -82,8 +83,8 @@ cut-among flow p f T old new well change sys h keep e epochs legal fr is t =
               (subst (λ q. AreEventsInDomain sys.flow h q → AreOf (bounds_of sys.flow q) all) r (delivered-domain sys h d) a) (t.delivered d l r) (c.delivered.here d l r));
           notified = subst (λ ss. AllByRecursion (Contains ss) (stamps_notified new p)) (sym (notices-kept sys.flow keep h p ∙ ap (λ x. filter x (flat_map (stamp_of_notice p) h)) i))
               (among-inside b f (flat_map (stamp_of_notice p) h) (stamps_notified old p) (stamps_notified new p) (notices-domain sys h p a) t.notified c.notified.here);
-          sent = λ o s. subst (λ ss. AllByRecursion (Contains ss) (stamps_where_sent new p)) (sym (sent-kept sys h keep w epochs legal k p g i))
-              (among-inside b f (causes_in (sent_by sys p (events_at sys.flow p h))) (stamps_where_sent old p) (stamps_where_sent new p) (causes-of b _ (sent-domain sys h p a)) (t.sent o s) c.sent.here);
+          sent = λ d l r s. subst (λ ss. AllByRecursion (Contains ss) (stamps_where_sent new d)) (sym (sent-kept sys h keep w epochs legal k p g i d r))
+              (among-inside b f (causes_in (sent_messages sys h d)) (stamps_where_sent old d) (stamps_where_sent new d) (edge-domain sys h p d r a) (t.sent d l r s) (c.sent.here d l r));
         }
 
 -- it has what it had of events outside a base, so far as each node keeps them
@@ -133,9 +134,9 @@ known-trace sys h these p base traces same told counts t o = record {
         (sym (notices-at sys.flow these p) ∙ ap (flat_map (stamp_of_notice p)) same ∙ notices-at sys.flow h p) o.notified;
     inside = λ w. absurd (cc);
   };
-  sent = λ e s.
-      let all = causes_in (sent_by sys p (events_at sys.flow p h)) in
-      subst (λ c. IsThinnedIf false (cond c base (λ t. true)) all (stamps_where_sent traces p)) (sym told) (untold-if false all (stamps_where_sent traces p) (t.sent e s));
+  sent = λ d l r s.
+      let all = causes_in (sent_messages sys h d) in
+      subst (λ c. IsThinnedIf false (cond c base (λ t. true)) all (stamps_where_sent traces d)) (sym told) (untold-if false all (stamps_where_sent traces d) (t.sent d l r s));
   counted = λ c. absurd (two_ways (counts_sent sys.flow p) c counts);
 }
 
@@ -163,11 +164,11 @@ no-edges flow w p l is = in_edges-at (λ d. ⊥) flow p (subst (AllByRecursion (
 
 -- where each stamp outside a base is known at which an input sent, this is its trace
 pub input-trace : (sys : System) (h : List Event) (p : ℕ) (base : Frontier) (traces : Traces) → IsWellFormed sys.flow → IsLegal sys h → p < length sys.flow.nodes
-    → kind_of sys.flow p ≡ Input → IsTraceAmong sys h p traces → HasOutside base (causes_in (sent_by sys p (events_at sys.flow p h))) (stamps_where_sent traces p)
+    → kind_of sys.flow p ≡ Input → IsTraceAmong sys h p traces
+    → ((e : ℕ) → e < length sys.flow.edges → sender sys.flow e ≡ p → HasOutside base (causes_in (sent_messages sys h e)) (stamps_where_sent traces e))
     → IsTraceIf false sys h p base traces
 input-trace sys h p base traces w legal l is t o =
     let none : policy_of sys.flow p ≡ policy.None = subst (λ k. IsPolicyAllowed k (policy_of sys.flow p)) is (w.policies p l) in
-    let all = causes_in (sent_by sys p (events_at sys.flow p h)) in
     record {
       delivered = λ d i r. absurd (no-edges sys.flow w p l is d i r);
       notified = record {
@@ -175,17 +176,42 @@ input-trace sys h p base traces w legal l is t o =
         outside = subst (λ ss. HasOutside base ss (stamps_notified traces p)) (sym (no-notices sys h p legal (ap is_notified_kind is))) tt;
         inside = λ k. absurd (cc);
       };
-      sent = λ e s. subst (λ x. IsThinnedIf false (cond (not (can_resend x)) base (λ t. true)) all (stamps_where_sent traces p)) (sym none)
-          (record { among = t.sent e s; outside = o; inside = λ k. absurd (cc) });
+      sent = λ d i r s. subst (λ x. IsThinnedIf false (cond (not (can_resend x)) base (λ t. true)) (causes_in (sent_messages sys h d)) (stamps_where_sent traces d)) (sym none)
+          (record { among = t.sent d i r s; outside = o d i r; inside = λ k. absurd (cc) });
       counted = λ c. absurd (two_ways (takes_checkpoints (policy_of sys.flow p)) c (ap takes_checkpoints none));
     }
+
+-- what is kept where nothing is kept anywhere
+nothing-at : {A : Type 0} (none : A) (xs : List A) → AllByRecursion (λ x. x ≡ none) xs → (i : ℕ) → get_or xs i none ≡ none
+nothing-at none [] a i = refl
+nothing-at none (x ∷ xs) a zero = a.0
+nothing-at none (x ∷ xs) a (suc i) = nothing-at none xs a.1 i
+
+thinned-none : (whole : Bool) (base : Frontier) → IsThinnedIf whole base [] []
+thinned-none whole base = record { among = tt; outside = tt; inside = λ k. tt }
+
+-- lists of nothing are the traces of no event
+pub none-trace : (whole : Bool) (sys : System) (p : ℕ) (base : Frontier) (traces : Traces) → AllByRecursion (λ kept. kept ≡ []) traces.delivered.items
+    → AllByRecursion (λ kept. kept ≡ []) traces.notified.items → AllByRecursion (λ kept. kept ≡ []) traces.sent.items → AllByRecursion (λ tally. tally ≡ no_tally) traces.counted.items
+    → IsTraceIf whole sys [] p base traces
+none-trace whole sys p base traces delivered notified sent counted = record {
+  delivered = λ d l r. subst (IsThinnedIf whole base []) (sym (nothing-at [] traces.delivered.items delivered d)) (thinned-none whole base);
+  notified = subst (IsThinnedIf whole base []) (sym (nothing-at [] traces.notified.items notified p)) (thinned-none whole base);
+  sent = λ d l r s.
+      let told = whole && tells_sent sys.flow p in
+      let inside = base_of_sent sys.flow p base in
+      subst (IsThinnedIf told inside (causes_in (sent_messages sys [] d))) (sym (nothing-at [] traces.sent.items sent d))
+      (subst (λ ms. IsThinnedIf told inside (causes_in ms) []) (sym (carried-none sys.flow d)) (thinned-none told inside));
+  counted = λ c. subst (IsSentTally base []) (sym (nothing-at no_tally traces.counted.items counted p)) (λ f w. refl);
+}
 
 -- traces of no event are of each history
 pub none-among : (sys : System) (p : ℕ) (traces : Traces) → ((base : Frontier) → IsTraceIf false sys [] p base traces) → (h : List Event) → IsTraceAmong sys h p traces
 none-among sys p traces f h = record {
   delivered = λ d l r. each-weaker (Contains []) (Contains (map (λ (m : Message). m.at) (delivered_messages h d))) (delivered_on traces d) (λ s c. absurd (nothing-in s c)) (t.delivered d l r).among;
   notified = each-weaker (Contains []) (Contains (flat_map (stamp_of_notice p) h)) (stamps_notified traces p) (λ s c. absurd (nothing-in s c)) t.notified.among;
-  sent = λ o s. each-weaker (Contains []) (Contains (causes_in (sent_by sys p (events_at sys.flow p h)))) (stamps_where_sent traces p) (λ u c. absurd (nothing-in u c)) (t.sent o s).among;
+  sent = λ d l r s. each-weaker (Contains []) (Contains (causes_in (sent_messages sys h d))) (stamps_where_sent traces d) (λ u c. absurd (nothing-in u c))
+      (subst (λ ms. AllByRecursion (Contains (causes_in ms)) (stamps_where_sent traces d)) (carried-none sys.flow d) (t.sent d l r s).among);
 }
   where
     t : IsTraceIf false sys [] p (λ s. true) traces
@@ -221,7 +247,7 @@ delivered_more-among e at old new c sys h p has t = record {
     | inr n ↦ subst (AllByRecursion (Contains (map (λ (m : Message). m.at) (delivered_messages h d)))) (sym (c.delivered.others d n)) (t.delivered d l r)
   ];
   notified = subst (AllByRecursion (Contains (flat_map (stamp_of_notice p) h))) (sym (ap (λ xs. get_or xs p []) c.notified)) t.notified;
-  sent = λ o s. subst (AllByRecursion (Contains (causes_in (sent_by sys p (events_at sys.flow p h))))) (sym (ap (λ xs. get_or xs p []) c.sent)) (t.sent o s);
+  sent = λ d l r s. subst (AllByRecursion (Contains (causes_in (sent_messages sys h d)))) (sym (ap (λ xs. get_or xs d []) c.sent)) (t.sent d l r s);
 }
 
 pub delivered_more-outside : (e : ℕ) (m : Message) (old new : Traces) → HasDeliveredMore e m.at old new → (flow : Dataflow) (these : List Event) (p : ℕ) (base : Frontier)
@@ -252,7 +278,7 @@ notified_more-among q at old new c sys h p has t = record {
         (subst (λ x. HasAdded at (stamps_notified old x) (stamps_notified new x)) (sym i) c.notified.here) (has (sym i)) t.notified
     | inr n ↦ subst (AllByRecursion (Contains (flat_map (stamp_of_notice p) h))) (sym (c.notified.others p n)) t.notified
   ];
-  sent = λ o s. subst (AllByRecursion (Contains (causes_in (sent_by sys p (events_at sys.flow p h))))) (sym (ap (λ xs. get_or xs p []) c.sent)) (t.sent o s);
+  sent = λ d l r s. subst (AllByRecursion (Contains (causes_in (sent_messages sys h d)))) (sym (ap (λ xs. get_or xs d []) c.sent)) (t.sent d l r s);
 }
 
 pub notified_more-outside : (q : ℕ) (at : Stamp) (old new : Traces) → HasNotifiedMore q at old new → (flow : Dataflow) (these : List Event) (p : ℕ) (base : Frontier)
@@ -273,30 +299,31 @@ notified_more-outside q at old new c flow these p base t = record {
 }
 
 -- one at which a node sent
-pub sent_more-among : (q : ℕ) (at : Stamp) (old new : Traces) → HasSentMore q at old new → (sys : System) (h : List Event) (p : ℕ)
-    → (q ≡ p → Contains (causes_in (sent_by sys p (events_at sys.flow p h))) at) → IsTraceAmong sys h p old → IsTraceAmong sys h p new
-sent_more-among q at old new c sys h p has t = record {
-  delivered = λ d l r. subst (AllByRecursion (Contains (map (λ (m : Message). m.at) (delivered_messages h d)))) (sym (ap (λ xs. get_or xs d []) c.delivered)) (t.delivered d l r);
-  notified = subst (AllByRecursion (Contains (flat_map (stamp_of_notice p) h))) (sym (ap (λ xs. get_or xs p []) c.notified)) t.notified;
-  sent = λ o s. elim (cases_eq p q) [
-    | inl i ↦ added-among at (causes_in (sent_by sys p (events_at sys.flow p h))) (stamps_where_sent old p) (stamps_where_sent new p)
-        (subst (λ x. HasAdded at (stamps_where_sent old x) (stamps_where_sent new x)) (sym i) c.sent.here) (has (sym i)) (t.sent o s)
-    | inr n ↦ subst (AllByRecursion (Contains (causes_in (sent_by sys p (events_at sys.flow p h))))) (sym (c.sent.others p n)) (t.sent o s)
-  ];
-}
+pub sent_more-among : (flow : Dataflow) (q : ℕ) (at : Stamp) (old new : Traces) → HasSentMore flow q at old new → (sys : System) (h : List Event) (p : ℕ) → sys.flow ≡ flow
+    → ((e : ℕ) → e < length sys.flow.edges → sender sys.flow e ≡ q → Contains (causes_in (sent_messages sys h e)) at) → IsTraceAmong sys h p old → IsTraceAmong sys h p new
+sent_more-among flow q at old new more sys h p e has t =
+    let c : HasSentMore sys.flow q at old new = subst (λ f. HasSentMore f q at old new) (sym e) more in
+    record {
+      delivered = λ d l r. subst (AllByRecursion (Contains (map (λ (m : Message). m.at) (delivered_messages h d)))) (sym (ap (λ xs. get_or xs d []) c.delivered)) (t.delivered d l r);
+      notified = subst (AllByRecursion (Contains (flat_map (stamp_of_notice p) h))) (sym (ap (λ xs. get_or xs p []) c.notified)) t.notified;
+      sent = λ d l r s. elim (cases_eq (sender sys.flow d) q) [
+        | inl i ↦ added-among at (causes_in (sent_messages sys h d)) (stamps_where_sent old d) (stamps_where_sent new d) (c.sent.here d l i) (has d l i) (t.sent d l r s)
+        | inr n ↦ subst (AllByRecursion (Contains (causes_in (sent_messages sys h d)))) (sym (c.sent.others d n)) (t.sent d l r s)
+      ];
+    }
 
-pub sent_more-outside : (q : ℕ) (at : Stamp) (old new : Traces) → HasSentMore q at old new → (flow : Dataflow) (these : List Event) (p : ℕ) (base : Frontier)
-    → HasTraceOutside flow these p base old → HasTraceOutside flow these p base new
-sent_more-outside q at old new c flow these p base t = record {
+pub sent_more-outside : (flow : Dataflow) (q : ℕ) (at : Stamp) (old new : Traces) → HasSentMore flow q at old new → (of : Dataflow) (these : List Event) (p : ℕ) (base : Frontier)
+    → HasTraceOutside of these p base old → HasTraceOutside of these p base new
+sent_more-outside flow q at old new c of these p base t = record {
   delivered = λ d l r. subst (HasOutside base (map (λ (z : Message). z.at) (delivered_messages these d))) (sym (ap (λ xs. get_or xs d []) c.delivered)) (t.delivered d l r);
   notified = subst (HasOutside base (flat_map (stamp_of_notice p) these)) (sym (ap (λ xs. get_or xs p []) c.notified)) t.notified;
 }
 
-pub sent_more-has : (q : ℕ) (at : Stamp) (old new : Traces) → HasSentMore q at old new → (stamps : List Stamp) (base : Frontier) → HasOutside base stamps (stamps_where_sent old q)
-    → HasOutside base (at ∷ stamps) (stamps_where_sent new q)
-sent_more-has q at old new c stamps base o = (
-  (λ k. (added-has at (stamps_where_sent old q) (stamps_where_sent new q) c.sent.here).0),
-  added-outside at base stamps (stamps_where_sent old q) (stamps_where_sent new q) c.sent.here o,
+pub sent_more-has : (flow : Dataflow) (q : ℕ) (at : Stamp) (old new : Traces) → HasSentMore flow q at old new → (e : ℕ) → e < length flow.edges → sender flow e ≡ q
+    → (stamps : List Stamp) (base : Frontier) → HasOutside base stamps (stamps_where_sent old e) → HasOutside base (at ∷ stamps) (stamps_where_sent new e)
+sent_more-has flow q at old new c e l r stamps base o = (
+  (λ k. (added-has at (stamps_where_sent old e) (stamps_where_sent new e) (c.sent.here e l r)).0),
+  added-outside at base stamps (stamps_where_sent old e) (stamps_where_sent new e) (c.sent.here e l r) o,
 )
 
 -- an event inside the base needs not be there

@@ -12,17 +12,19 @@ use Rattle.fw_frontier.specs.Front.{Front, frontier_of}
 use Rattle.fw_flow.specs.declared.event.Event.{Event}
 use Rattle.fw_flow.specs.declared.event.Event.TheVariants.{Inject, Deliver, Notify}
 use Rattle.fw_flow.specs.declared.event.Message.{Message}
-use Rattle.fw_flow.specs.Dataflow.{System, Dataflow, receiver, bounds_of, node_frontier, HasEpochs}
+use Rattle.fw_flow.specs.Dataflow.{System, Dataflow, receiver, bounds_of, node_frontier, HasEpochs, sender}
 use Rattle.fw_flow.specs.NodeFunction.{event_node, event_stamp, sent_by}
 use Rattle.fw_flow.specs.Projection.{events_at}
 use Rattle.fw_flow.specs.WellFormed.{IsWellFormed}
+use Rattle.fw_model.specs.Carried.{carried}
 use Rattle.fw_model.specs.Covers.{stamp_of_notice}
 use Rattle.fw_model.specs.Filtering.{AreFrontiers, kept_events, messages_inside, messages_from, events_inside}
-use Rattle.fw_model.specs.History.{message_on, delivered_messages, AreEventsInDomain, IsLegal}
+use Rattle.fw_model.specs.History.{message_on, delivered_messages, AreEventsInDomain, IsLegal, sent_messages}
 use Rattle.fw_model.specs.Thinned.{IsThinned, IsThinnedIf}
+use Rattle.fw_model.proofs.CarriedLaws.{carried-each}
 use Rattle.fw_model.proofs.LegalLaws.{legal_events-in_domain}
 use Rattle.fw_model.proofs.CauseLaws.{sent_by-each_cause, sent_by-one_cause}
-use Rattle.fw_model.proofs.LocalityLaws.{events_at-kept, sent_by-same, delivers-same}
+use Rattle.fw_model.proofs.LocalityLaws.{events_at-kept, sent_by-same, delivers-same, sends-same}
 use Rattle.fw_model.proofs.SequenceLaws.{one_inside}
 use Rattle.fw_progress.specs.declared.sent_tally.SentTally.{SentTally}
 use Rattle.fw_progress.specs.declared.traces.Traces.{Traces}
@@ -58,13 +60,18 @@ notices-at flow h p = flat_map-filter (stamp_of_notice p) (λ v. event_node flow
     each (Deliver e m ∷ vs) = ((λ k. refl), each vs)
     each (Notify q t ∷ vs) = ((λ k. ap (λ b. cond b (t ∷ []) []) k), each vs)
 
+-- what was sent on an edge, by its sender's events alone
+pub sent-own : (sys : System) (h k : List Event) (e : ℕ) → events_at sys.flow (sender sys.flow e) k ≡ events_at sys.flow (sender sys.flow e) h → sent_messages sys h e ≡ sent_messages sys k e
+sent-own sys h k e i = ap (λ vs. carried sys.flow e (sent_by sys (sender sys.flow e) vs)) (sym i)
+
 -- traces are those of each history in which the node has the same events
 pub same-trace : (whole : Bool) (sys : System) (h k : List Event) (p : ℕ) (base : Frontier) (traces : Traces) → events_at sys.flow p k ≡ events_at sys.flow p h
     → IsTraceIf whole sys h p base traces → IsTraceIf whole sys k p base traces
 same-trace whole sys h k p base traces e t = record {
   delivered = λ d l r. subst (λ ms. IsThinnedIf whole base (map (λ (m : Message). m.at) ms) (delivered_on traces d)) (same d r) (t.delivered d l r);
   notified = subst (λ ss. IsThinnedIf whole base ss (stamps_notified traces p)) (sym (notices-at sys.flow h p) ∙ ap (flat_map (stamp_of_notice p)) (sym e) ∙ notices-at sys.flow k p) t.notified;
-  sent = λ o n. subst (λ vs. IsThinnedIf (whole && tells_sent sys.flow p) (base_of_sent sys.flow p base) (causes_in (sent_by sys p vs)) (stamps_where_sent traces p)) (sym e) (t.sent o n);
+  sent = λ d l r n. subst (λ ms. IsThinnedIf (whole && tells_sent sys.flow p) (base_of_sent sys.flow p base) (causes_in ms) (stamps_where_sent traces d))
+      (sent-own sys h k d (subst (λ q. events_at sys.flow q k ≡ events_at sys.flow q h) (sym r) e)) (t.sent d l r n);
   counted = λ c. subst (λ vs. IsSentTally base (sent_by sys p vs) (counted_of traces p)) (sym e) (t.counted c);
 }
   where
@@ -111,6 +118,14 @@ notices-domain sys h p a = subst (AreOf (bounds_of sys.flow p)) (notices-at sys.
 pub sent-domain : (sys : System) (h : List Event) (p : ℕ) → AreEventsInDomain sys.flow h p → ComeFromDomain (bounds_of sys.flow p) (sent_by sys p (events_at sys.flow p h))
 sent-domain sys h p a = sent_by-each_cause sys p (λ t. in_domain (bounds_of sys.flow p) t ≡ true) (events_at sys.flow p h) a
 
+-- so are the causes of what was sent on an edge
+pub edge-domain : (sys : System) (h : List Event) (p e : ℕ) → sender sys.flow e ≡ p → AreEventsInDomain sys.flow h p → AreOf (bounds_of sys.flow p) (causes_in (sent_messages sys h e))
+edge-domain sys h p e r =
+    subst (λ q. AreEventsInDomain sys.flow h q → AreOf (bounds_of sys.flow q) (causes_in (sent_messages sys h e))) r
+    (λ a. causes-of (bounds_of sys.flow (sender sys.flow e)) (sent_messages sys h e)
+    (carried-each sys.flow e (λ (m : Message). AllByRecursion (λ t. in_domain (bounds_of sys.flow (sender sys.flow e)) t ≡ true) m.causes)
+    (sent_by sys (sender sys.flow e) (events_at sys.flow (sender sys.flow e) h)) (sent-domain sys h (sender sys.flow e) a)))
+
 -- ---- lists that change together
 
 changed-lists : (flow : Dataflow) (p : ℕ) (R : List Stamp → List Stamp → Type 0) (T : SentTally → SentTally → Type 0) (old new : Traces) → HaveChanged flow p R T old new
@@ -118,14 +133,15 @@ changed-lists : (flow : Dataflow) (p : ℕ) (R : List Stamp → List Stamp → T
 changed-lists flow p R T old new c q n = record {
   delivered = λ d r. c.delivered.others d (λ i. n (sym r ∙ i));
   notified = c.notified.others q n;
-  sent = c.sent.others q n;
+  sent = λ e s. c.sent.others e (λ i. n (sym s ∙ i));
 }
 
 changed-others : (flow : Dataflow) (p : ℕ) (R : List Stamp → List Stamp → Type 0) (T : SentTally → SentTally → Type 0) (old new : Traces) → HaveChanged flow p R T old new → KeepsOthers flow p old new
 changed-others flow p R T old new c whole sys h e q n base t = record {
   delivered = λ d l r. subst (IsThinnedIf whole base (map (λ (m : Message). m.at) (delivered_messages h d))) (sym (c.delivered.others d (λ i. n (sym r ∙ ap (λ f. receiver f d) e ∙ i)))) (t.delivered d l r);
   notified = subst (IsThinnedIf whole base (flat_map (stamp_of_notice q) h)) (sym (c.notified.others q n)) t.notified;
-  sent = λ o k. subst (IsThinnedIf (whole && tells_sent sys.flow q) (base_of_sent sys.flow q base) (causes_in (sent_by sys q (events_at sys.flow q h)))) (sym (c.sent.others q n)) (t.sent o k);
+  sent = λ d l r k. subst (IsThinnedIf (whole && tells_sent sys.flow q) (base_of_sent sys.flow q base) (causes_in (sent_messages sys h d)))
+      (sym (c.sent.others d (λ i. n (sym r ∙ ap (λ f. sender f d) e ∙ i)))) (t.sent d l r k);
   counted = λ k. subst (IsSentTally base (sent_by sys q (events_at sys.flow q h))) (sym (c.counted.others q n)) (t.counted k);
 }
 
@@ -146,8 +162,8 @@ settled-traces flow p f old new change = record {
           delivered = λ d l r. settled-if whole b f (delivered_on old d) (delivered_on new d) (c.delivered.here d l r) w.base (map (λ (m : Message). m.at) (delivered_messages h d))
               (subst (λ q. AreEventsInDomain sys.flow h q → AreOf (bounds_of sys.flow q) (map (λ (m : Message). m.at) (delivered_messages h d))) r (delivered-domain sys h d) a) w.within (t.delivered d l r);
           notified = settled-if whole b f (stamps_notified old p) (stamps_notified new p) c.notified.here w.base (flat_map (stamp_of_notice p) h) (notices-domain sys h p a) w.within t.notified;
-          sent = λ o k. sent_settled-if whole sys.flow p b f (stamps_where_sent old p) (stamps_where_sent new p) c.sent.here w.base (causes_in (sent_by sys p (events_at sys.flow p h)))
-              (causes-of b _ (sent-domain sys h p a)) w.within (t.sent o k);
+          sent = λ d l r k. sent_settled-if whole sys.flow p b f (stamps_where_sent old d) (stamps_where_sent new d) (c.sent.here d l r) w.base (causes_in (sent_messages sys h d))
+              (edge-domain sys h p d r a) w.within (t.sent d l r k);
           counted = λ k. c.counted.here b w.base (sent_by sys p (events_at sys.flow p h)) (sent-domain sys h p a) w.within (t.counted k);
         }
 
@@ -156,7 +172,7 @@ changed-weaker : (flow : Dataflow) (p : ℕ) (R S : List Stamp → List Stamp �
 changed-weaker flow p R S T U old new r t c = record {
   delivered = record { one_each = c.delivered.one_each; here = λ d l e. r _ _ (c.delivered.here d l e); others = c.delivered.others };
   notified = record { one_each = c.notified.one_each; here = r _ _ c.notified.here; others = c.notified.others };
-  sent = record { one_each = c.sent.one_each; here = r _ _ c.sent.here; others = c.sent.others };
+  sent = record { one_each = c.sent.one_each; here = λ d l e. r _ _ (c.sent.here d l e); others = c.sent.others };
   counted = record { one_each = c.counted.one_each; here = t _ _ c.counted.here; others = c.counted.others };
 }
 
@@ -238,12 +254,18 @@ delivered-kept sys h keep p g is d r =
     ap (map (λ (m : Message). m.at)) (delivers-same sys.flow h keep d) ∙ map-filter (keep (receiver sys.flow d)) (delivered_messages h d)
     ∙ ap (λ f. filter f (map (λ (m : Message). m.at) (delivered_messages h d))) (ap keep r ∙ is)
 
--- and where it sent
+-- what was sent on an edge has one cause each
+pub edge-one_cause : (sys : System) (h : List Event) (e : ℕ) → AllByRecursion (λ (m : Message). (t : Stamp) × (m.causes ≡ t ∷ [])) (sent_messages sys h e)
+edge-one_cause sys h e =
+    let vs = events_at sys.flow (sender sys.flow e) h in
+    carried-each sys.flow e (λ (m : Message). (t : Stamp) × (m.causes ≡ t ∷ [])) (sent_by sys (sender sys.flow e) vs) (sent_by-one_cause sys (sender sys.flow e) vs)
+
+-- and where it sent, on an out-edge
 pub sent-kept : (sys : System) (h : List Event) (keep : ℕ → Frontier) → IsWellFormed sys.flow → HasEpochs sys → IsLegal sys h → AreFrontiers sys.flow keep → (p : ℕ) (g : Frontier) → keep p ≡ g
-    → causes_in (sent_by sys p (events_at sys.flow p (kept_events sys.flow keep h))) ≡ filter g (causes_in (sent_by sys p (events_at sys.flow p h)))
-sent-kept sys h keep well epochs legal fr p g is =
-    ap causes_in (sent_by-same sys h keep well epochs legal fr p ∙ ap (λ f. messages_from f (sent_by sys p (events_at sys.flow p h))) is)
-    ∙ causes-from g (sent_by sys p (events_at sys.flow p h)) (sent_by-one_cause sys p (events_at sys.flow p h))
+    → (e : ℕ) → sender sys.flow e ≡ p → causes_in (sent_messages sys (kept_events sys.flow keep h) e) ≡ filter g (causes_in (sent_messages sys h e))
+sent-kept sys h keep well epochs legal fr p g is e r =
+    ap causes_in (sends-same sys h keep well epochs legal fr e ∙ ap (λ f. messages_from f (sent_messages sys h e)) (ap keep r ∙ is))
+    ∙ causes-from g (sent_messages sys h e) (edge-one_cause sys h e)
 
 pub cut-traces : (flow : Dataflow) (p : ℕ) (f : Front) (old new : Traces) → IsWellFormed flow → HaveChanged flow p (StandsInside f) (IsTallyCutTo f) old new → AreCutTo flow p f old new
 cut-traces flow p f old new well change = record {
@@ -273,9 +295,9 @@ cut-traces flow p f old new well change = record {
               (subst (λ q. AreEventsInDomain sys.flow h q → AreOf (bounds_of sys.flow q) all) r (delivered-domain sys h d) a) w (t.delivered d l r));
           notified = subst (λ ss. IsThinnedIf whole base ss (stamps_notified new p)) (sym (notices-kept sys.flow keep h p ∙ ap (λ g. filter g (flat_map (stamp_of_notice p) h)) is))
               (inside-if whole b f (stamps_notified old p) (stamps_notified new p) c.notified.here base (flat_map (stamp_of_notice p) h) (notices-domain sys h p a) w t.notified);
-          sent = λ o k. subst (λ ss. IsThinnedIf (whole && tells_sent sys.flow p) (base_of_sent sys.flow p base) ss (stamps_where_sent new p))
-              (sym (sent-kept sys h keep well epochs legal fr p (node_frontier sys.flow p f) is))
-              (sent_inside-if whole sys.flow p b f (stamps_where_sent old p) (stamps_where_sent new p) c.sent.here base (causes_in (sent_by sys p (events_at sys.flow p h))) (causes-of b _ (sent-domain sys h p a)) w (t.sent o k));
+          sent = λ d l r k. subst (λ ss. IsThinnedIf (whole && tells_sent sys.flow p) (base_of_sent sys.flow p base) ss (stamps_where_sent new d))
+              (sym (sent-kept sys h keep well epochs legal fr p (node_frontier sys.flow p f) is d r))
+              (sent_inside-if whole sys.flow p b f (stamps_where_sent old d) (stamps_where_sent new d) (c.sent.here d l r) base (causes_in (sent_messages sys h d)) (edge-domain sys h p d r a) w (t.sent d l r k));
           counted = λ k. subst (λ ms. IsSentTally base ms (counted_of new p)) (sym sent)
               (c.counted.here b base (sent_by sys p (events_at sys.flow p h)) (sent-domain sys h p a) w (t.counted k));
         }

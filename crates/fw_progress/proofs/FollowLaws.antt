@@ -16,15 +16,17 @@ use Rattle.fw_flow.specs.declared.event.Message.{Message}
 use Rattle.fw_flow.specs.declared.kind.Kind.{Kind}
 use Rattle.fw_flow.specs.declared.kind.Kind.TheVariants.{Sequence}
 use Rattle.fw_flow.specs.Dataflow.{System, Dataflow, kind_of, sender, receiver, greatest_number, is_notified_kind, is_sequence_kind, HasEpochs}
-use Rattle.fw_flow.specs.NodeFunction.{event_node, sends, sent_by}
+use Rattle.fw_flow.specs.NodeFunction.{event_node, sends}
 use Rattle.fw_flow.specs.Projection.{events_at, IsSentTable}
 use Rattle.fw_flow.specs.SentTable.{EpochsAscend}
 use Rattle.fw_flow.specs.WellFormed.{IsWellFormed}
+use Rattle.fw_model.specs.Carried.{carried}
 use Rattle.fw_model.specs.History.{sent_messages, message_on, delivered_messages, pending_messages, is_delivery_to, was_delivered_to, was_notified, is_owed_notice, injected_count, some_at, IsLegal}
 use Rattle.fw_model.specs.LawsOfPending.{sent_on}
 use Rattle.fw_frontier.specs.Front.{Front}
 use Rattle.fw_model.specs.Machine.{family_of}
 use Rattle.fw_model.specs.Order.{notified_stamps, AreDescending}
+use Rattle.fw_model.proofs.CarriedLaws.{carried-all, sent-more}
 use Rattle.fw_model.proofs.ClosedLaws.{settled-outside}
 use Rattle.fw_model.proofs.CompleteLaws.{admissible-stays}
 use Rattle.fw_model.proofs.LegalLaws.{enabled-in_domain, legal-in_domain}
@@ -68,17 +70,6 @@ pending-balance sys h l e t =
     let z = many-weigh t (sent_messages sys h e) in
     omega arith
 
-pub sent-more : (sys : System) (h : List Event) (v : Event) (e : ℕ) → sent_messages sys (v ∷ h) e ≡ sent_on sys h e v ++ sent_messages sys h e
-sent-more sys h v e = by (event_node sys.flow v == sender sys.flow e)
-  where
-    q : ℕ
-    q = sender sys.flow e
-
-    by : (b : Bool) → sent_by sys q (cond b (v ∷ events_at sys.flow q h) (events_at sys.flow q h))
-        ≡ cond b (sends sys q (events_at sys.flow q h) v) [] ++ sent_by sys q (events_at sys.flow q h)
-    by true = refl
-    by false = refl
-
 event-balance : (sys : System) (h : List Event) (v : Event) → IsLegal sys (v ∷ h) → (e : ℕ) (t : Stamp)
     → count_at t (pending_messages sys (v ∷ h) e) + count_at t (message_on e v) ≡ count_at t (pending_messages sys h e) + count_at t (sent_on sys h e v)
 event-balance sys h v l e t =
@@ -100,10 +91,10 @@ sent_on-count sys h v e t =
     let S : ℕ → List Message = λ n. sends sys n (events_at sys.flow n h) v in
     elim (cases_eq p q) [
       | inl k ↦
-          ap (λ b. count_at t (cond b (S q) [])) (eq-eqb p q k) ∙ ap (λ n. count_at t (S n)) (sym k) ∙ sym (many-map t (S p))
+          ap (λ b. count_at t (cond b (carried sys.flow e (S q)) [])) (eq-eqb p q k) ∙ ap (count_at t) (carried-all sys.flow e (S q)) ∙ ap (λ n. count_at t (S n)) (sym k) ∙ sym (many-map t (S p))
           ∙ sym (ap (λ b. cond b (how_many (same t) (stamps_sent sys h v)) 0) (eq-eqb q p (sym k)))
       | inr n ↦
-          ap (λ b. count_at t (cond b (S q) [])) (false_from_ne_true (p == q) (λ k. n (eqb-true p q k)))
+          ap (λ b. count_at t (cond b (carried sys.flow e (S q)) [])) (false_from_ne_true (p == q) (λ k. n (eqb-true p q k)))
           ∙ sym (ap (λ b. cond b (how_many (same t) (stamps_sent sys h v)) 0) (false_from_ne_true (q == p) (λ k. n (sym (eqb-true q p k)))))
     ]
 

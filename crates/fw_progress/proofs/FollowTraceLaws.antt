@@ -11,12 +11,14 @@ use Rattle.fw_frontier.specs.Frontier.{Frontier}
 use Rattle.fw_flow.specs.declared.event.Event.{Event}
 use Rattle.fw_flow.specs.declared.event.Event.TheVariants.{Inject, Deliver, Notify}
 use Rattle.fw_flow.specs.declared.event.Message.{Message}
-use Rattle.fw_flow.specs.Dataflow.{System, Dataflow, kind_of, receiver, is_sequence_kind}
+use Rattle.fw_flow.specs.Dataflow.{System, Dataflow, kind_of, receiver, is_sequence_kind, sender}
 use Rattle.fw_flow.specs.NodeFunction.{event_node, event_stamp, sends, sent_by}
 use Rattle.fw_flow.specs.Projection.{events_at}
+use Rattle.fw_model.specs.Carried.{carried}
 use Rattle.fw_model.specs.Covers.{stamp_of_notice}
-use Rattle.fw_model.specs.History.{message_on, delivered_messages}
+use Rattle.fw_model.specs.History.{message_on, delivered_messages, sent_messages}
 use Rattle.fw_model.specs.Thinned.{IsBelowKept, IsThinned, IsThinnedIf}
+use Rattle.fw_model.proofs.CarriedLaws.{carried-all, sent-more}
 use Rattle.fw_model.proofs.CauseLaws.{sends-one_cause}
 use Rattle.fw_model.proofs.ThinnedLaws.{each-contained}
 use Rattle.fw_progress.specs.declared.sent_tally.SentTally.{SentTally}
@@ -25,7 +27,7 @@ use Rattle.fw_progress.specs.Progress.{ChangesAt}
 use Rattle.fw_model.specs.EventStamps.{causes_in, base_of_sent, tells_sent}
 use Rattle.fw_progress.specs.SentTally.{IsSentTally, CountsMore}
 use Rattle.fw_progress.specs.Trace.{delivered_on, stamps_notified, stamps_where_sent, counted_of, no_tally, counts_sent, TracesFollow, StandForManyMore, SentMore, CountedMore, HasSent}
-use Rattle.fw_progress.specs.Traces.{StandForOneMore}
+use Rattle.fw_progress.specs.Traces.{StandForOneMore, ChangesOut}
 use Rattle.fw_progress.proofs.TraceLaws.{contains-head, contains-tail, each-had, changed-if, thinned-itself, one_more-if}
 
 -- ---- the same stamps, however often
@@ -105,7 +107,9 @@ tells-follow flow v sent old new tells whole sys h e is p base t =
       delivered = λ d l r. subst (λ ss. IsThinnedIf whole base ss (delivered_on new d)) (sym (map-append (λ (m : Message). m.at) (message_on d v) (delivered_messages h d)))
           (told.delivered whole d base (map (λ (m : Message). m.at) (delivered_messages h d)) (t.delivered d l r));
       notified = told.notified whole p base (flat_map (stamp_of_notice p) h) t.notified;
-      sent = λ o k. sends_after told p k (t.sent o k);
+      sent = λ d l r k.
+          subst (λ n. is_sequence_kind (kind_of sys.flow n) ≡ false → IsThinnedIf (whole_at n) (base_at n) (causes_in (sent_messages sys h d)) (stamps_where_sent old d)
+          → IsThinnedIf (whole_at n) (base_at n) (causes_in (sent_messages sys (v ∷ h) d)) (stamps_where_sent new d)) r (sends_after told d l) k (t.sent d l r k);
       counted = λ k. counts_after told p k (t.counted k);
     }
   where
@@ -133,21 +137,36 @@ tells-follow flow v sent old new tells whole sys h e is p base t =
     whole_at : ℕ → Bool
     whole_at n = whole && tells_sent sys.flow n
 
-    sends_after : Tells sys.flow v (length sent) old new → (n : ℕ) → is_sequence_kind (kind_of sys.flow n) ≡ false
-        → IsThinnedIf (whole_at n) (base_at n) (causes_in (before n)) (stamps_where_sent old n)
-        → IsThinnedIf (whole_at n) (base_at n) (causes_in (after n)) (stamps_where_sent new n)
-    sends_after told n k i = elim (cases_eq n q) [
-      | inl j ↦ subst (λ x. is_sequence_kind (kind_of sys.flow x) ≡ false → IsThinnedIf (whole_at x) (base_at x) (causes_in (before x)) (stamps_where_sent old x)
-          → IsThinnedIf (whole_at x) (base_at x) (causes_in (after x)) (stamps_where_sent new x)) (sym j)
-          (λ c u.
-          let parts = one_cause (event_stamp v) now one in
-          subst (λ ss. IsThinnedIf (whole_at q) (base_at q) ss (stamps_where_sent new q)) (sym (ap causes_in (sent_by-event sys h v q refl) ∙ flat_map-append (λ (m : Message). m.causes) now (before q)))
-          (many-if (whole_at q) (event_stamp v) (length sent) (stamps_where_sent old q) (stamps_where_sent new q) (told.sends.sent.here c) (base_at q) (causes_in (before q)) (causes_in now)
-          (parts.0 ∙ many) parts.1 u)) k i
-      | inr j ↦
-          subst (λ ms. IsThinnedIf (whole_at n) (base_at n) (causes_in ms) (stamps_where_sent new n)) (sym (sent_by-other sys h v n (λ x. j (sym x))))
-          (subst (IsThinnedIf (whole_at n) (base_at n) (causes_in (before n))) (sym (told.sends.sent.others n j)) i)
-    ]
+    on : ℕ → List Message
+    on n = sends sys n (events_at sys.flow n h) v
+
+    -- what the event sends on an out-edge of its node, and on other edges
+    sent_here : (d : ℕ) → sender sys.flow d ≡ q → sent_messages sys (v ∷ h) d ≡ now ++ sent_messages sys h d
+    sent_here d j =
+        sent-more sys h v d ∙ ap (λ ms. ms ++ sent_messages sys h d) (ap (λ b. cond b (carried sys.flow d (on (sender sys.flow d))) []) (eq-eqb q (sender sys.flow d) (sym j))
+        ∙ carried-all sys.flow d (on (sender sys.flow d)) ∙ ap on j)
+
+    sent_else : (d : ℕ) → sender sys.flow d ≢ q → sent_messages sys (v ∷ h) d ≡ sent_messages sys h d
+    sent_else d n =
+        sent-more sys h v d
+        ∙ ap (λ b. cond b (carried sys.flow d (on (sender sys.flow d))) [] ++ sent_messages sys h d) (false_from_ne_true (q == sender sys.flow d) (λ k. n (sym (eqb-true q (sender sys.flow d) k))))
+
+    sends_after : Tells sys.flow v (length sent) old new → (d : ℕ) → d < length sys.flow.edges → is_sequence_kind (kind_of sys.flow (sender sys.flow d)) ≡ false
+        → IsThinnedIf (whole_at (sender sys.flow d)) (base_at (sender sys.flow d)) (causes_in (sent_messages sys h d)) (stamps_where_sent old d)
+        → IsThinnedIf (whole_at (sender sys.flow d)) (base_at (sender sys.flow d)) (causes_in (sent_messages sys (v ∷ h) d)) (stamps_where_sent new d)
+    sends_after told d l k i =
+        let n = sender sys.flow d in
+        elim (cases_eq n q) [
+          | inl j ↦
+              let parts = one_cause (event_stamp v) now one in
+              subst (λ ss. IsThinnedIf (whole_at n) (base_at n) ss (stamps_where_sent new d))
+              (sym (ap causes_in (sent_here d j) ∙ flat_map-append (λ (m : Message). m.causes) now (sent_messages sys h d)))
+              (many-if (whole_at n) (event_stamp v) (length sent) (stamps_where_sent old d) (stamps_where_sent new d)
+              (told.sends.sent.here d l j (sym (ap (λ x. is_sequence_kind (kind_of sys.flow x)) j) ∙ k)) (base_at n) (causes_in (sent_messages sys h d)) (causes_in now) (parts.0 ∙ many) parts.1 i)
+          | inr j ↦
+              subst (λ ms. IsThinnedIf (whole_at n) (base_at n) (causes_in ms) (stamps_where_sent new d)) (sym (sent_else d j))
+              (subst (IsThinnedIf (whole_at n) (base_at n) (causes_in (sent_messages sys h d))) (sym (told.sends.sent.others d j)) i)
+        ]
 
     counts_after : Tells sys.flow v (length sent) old new → (n : ℕ) → counts_sent sys.flow n ≡ true → IsSentTally base (before n) (counted_of old n) → IsSentTally base (after n) (counted_of new n)
     counts_after told n k i = elim (cases_eq n q) [
@@ -197,12 +216,12 @@ injected-tells flow p x count old new d n s = record {
 -- ---- what the lists become
 
 -- nothing is kept of an event that sends nothing, or of a sequence's
-pub sent-none : (flow : Dataflow) (p : ℕ) (at : Stamp) (count : ℕ) (old : List (List Stamp)) → (is_sequence_kind (kind_of flow p) ≡ false → count ≡ 0) → ChangesAt p [] (SentMore flow p at count) old old
-sent-none flow p at count old none = record { one_each = refl; here = λ k. many-none at count (get_or old p []) (none k); others = λ q n. refl }
+pub sent-none : (flow : Dataflow) (p : ℕ) (at : Stamp) (count : ℕ) (old : List (List Stamp)) → (is_sequence_kind (kind_of flow p) ≡ false → count ≡ 0) → ChangesOut flow p (SentMore flow p at count) old old
+sent-none flow p at count old none = record { one_each = refl; here = λ e l s k. many-none at count (get_or old e []) (none k); others = λ e n. refl }
 
-pub sent-some : (flow : Dataflow) (p : ℕ) (at : Stamp) (count : ℕ) (old new : List (List Stamp)) → 0 < count → ChangesAt p [] (StandForOneMore at) old new
-    → ChangesAt p [] (SentMore flow p at count) old new
-sent-some flow p at count old new some c = record { one_each = c.one_each; here = λ k. many-some at count (get_or old p []) (get_or new p []) some c.here; others = c.others }
+pub sent-some : (flow : Dataflow) (p : ℕ) (at : Stamp) (count : ℕ) (old new : List (List Stamp)) → 0 < count → ChangesOut flow p (StandForOneMore at) old new
+    → ChangesOut flow p (SentMore flow p at count) old new
+sent-some flow p at count old new some c = record { one_each = c.one_each; here = λ e l s k. many-some at count (get_or old e []) (get_or new e []) some (c.here e l s); others = c.others }
 
 -- what is not counted stays
 pub counted-none : (flow : Dataflow) (p : ℕ) (at : Stamp) (count : ℕ) (old : List SentTally) → counts_sent flow p ≡ false → ChangesAt p no_tally (CountedMore flow p at count) old old

@@ -7,6 +7,7 @@ pub mod EventLaws
 pub mod WorkLaws
 pub mod HistoryLaws
 pub mod FollowLaws
+pub mod OutLaws
 pub mod ProgressLaws
 pub mod StartLaws
 pub mod CutCountLaws

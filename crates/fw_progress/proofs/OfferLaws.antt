@@ -15,8 +15,10 @@ use Rattle.fw_flow.specs.Dataflow.{System, Dataflow, kind_of, sender, receiver, 
 use Rattle.fw_flow.specs.NodeFunction.{sent_by}
 use Rattle.fw_flow.specs.Projection.{events_at, all_inside}
 use Rattle.fw_flow.specs.WellFormed.{IsWellFormed}
+use Rattle.fw_model.specs.History.{sent_messages}
 use Rattle.fw_model.specs.Offers.{AreAtEdgeStamps, counted_on_edge, stamps_on}
 use Rattle.fw_model.specs.Thinned.{IsThinnedIf}
+use Rattle.fw_model.proofs.CarriedLaws.{carried-each}
 use Rattle.fw_model.proofs.DependenceLaws.{in_edges-each}
 use Rattle.fw_model.proofs.LegalLaws.{edge_domains}
 use Rattle.fw_model.proofs.SendingLaws.{send_stamp-in_domain}
@@ -161,16 +163,18 @@ causes-send flow p (m ∷ ms) a =
     let Q : Stamp → Type 0 = λ t. (w : Stamp) × (send_stamp flow p t ≡ Some w) in
     subst (λ (cs : List Stamp). AllByRecursion Q (cs ++ causes_in ms)) (sym c.2) ((m.at, c.1), causes-send flow p ms a.1)
 
--- each stamp that is among the causes of what a node sent sends
-pub kept-send : (sys : System) (h : List Event) (p : ℕ) (kept : List Stamp) → is_sequence_kind (kind_of sys.flow p) ≡ false
-    → AreOf (bounds_of sys.flow p) (causes_in (sent_by sys p (events_at sys.flow p h))) → AllByRecursion (Contains (causes_in (sent_by sys p (events_at sys.flow p h)))) kept
-    → AllByRecursion (Sends sys.flow p) kept
-kept-send sys h p kept n d among =
-    let all = causes_in (sent_by sys p (events_at sys.flow p h)) in
+-- each stamp that is among the causes of what was sent on an edge sends
+pub kept-send : (sys : System) (h : List Event) (e : ℕ) (kept : List Stamp) → is_sequence_kind (kind_of sys.flow (sender sys.flow e)) ≡ false
+    → AreOf (bounds_of sys.flow (sender sys.flow e)) (causes_in (sent_messages sys h e)) → AllByRecursion (Contains (causes_in (sent_messages sys h e))) kept
+    → AllByRecursion (Sends sys.flow (sender sys.flow e)) kept
+kept-send sys h e kept n d among =
+    let p = sender sys.flow e in
+    let all = causes_in (sent_messages sys h e) in
     let both : AllByRecursion (Sends sys.flow p) all =
     each-weaker (λ s. (in_domain (bounds_of sys.flow p) s ≡ true) × ((w : Stamp) × (send_stamp sys.flow p s ≡ Some w))) (Sends sys.flow p) all (λ s k. (k.0, k.1.0, k.1.1))
     (each-both (λ s. in_domain (bounds_of sys.flow p) s ≡ true) (λ s. (w : Stamp) × (send_stamp sys.flow p s ≡ Some w)) all d
-    (causes-send sys.flow p (sent_by sys p (events_at sys.flow p h)) (sent_by-of_cause sys p n (events_at sys.flow p h)))) in
+    (causes-send sys.flow p (sent_messages sys h e)
+    (carried-each sys.flow e (IsOfCause sys.flow p) (sent_by sys p (events_at sys.flow p h)) (sent_by-of_cause sys p n (events_at sys.flow p h))))) in
     each-weaker (Contains all) (Sends sys.flow p) kept (λ s c. each-contained (Sends sys.flow p) s all c both) among
 
 -- at which stamps messages of these causes are that come from inside a set
@@ -205,15 +209,16 @@ messages-inside flow p (s ∷ ss) e f = by (f s) refl (messages-inside flow p ss
 
 -- ---- all of it
 
-pub sent-on : (flow : Dataflow) (p : ℕ) (ss : List Stamp) (e : ℕ) → e < length flow.edges → sender flow e ≡ p → counted_on_edge e (flat_map (counted_at_stamps flow p ss) (out_edges flow p)) ≡ counted_at_stamps flow p ss e
-sent-on flow p ss e l r = on-once (counted_at_stamps flow p ss) (messages-own flow p ss) (out_edges flow p) e (subst (λ q. how_often (out_edges flow q) e ≡ 1) r (once-out flow e l))
+pub sent-on : (flow : Dataflow) (p : ℕ) (kept : ℕ → List Stamp) (e : ℕ) → e < length flow.edges → sender flow e ≡ p
+    → counted_on_edge e (flat_map (λ d. counted_at_stamps flow p (kept d) d) (out_edges flow p)) ≡ counted_at_stamps flow p (kept e) e
+sent-on flow p kept e l r =
+    on-once (λ d. counted_at_stamps flow p (kept d) d) (λ d. messages-own flow p (kept d) d) (out_edges flow p) e (subst (λ q. how_often (out_edges flow q) e ≡ 1) r (once-out flow e l))
 
 -- what stands for what a node sent on an edge
 pub stands-for_sent : (whole : Bool) (sys : System) (h : List Event) (p : ℕ) (base : Frontier) (ss : List Stamp) (e : ℕ) → e < length sys.flow.edges → sender sys.flow e ≡ p
-    → AllByRecursion (Sends sys.flow p) ss → IsThinnedIf whole base (causes_in (sent_by sys p (events_at sys.flow p h))) ss
+    → AllByRecursion (Sends sys.flow p) ss → IsThinnedIf whole base (causes_in (sent_messages sys h e)) ss
     → StandForSent whole sys h p base e (counted_at_stamps sys.flow p ss e)
 stands-for_sent whole sys h p base ss e l r a t = record {
   of_cause = messages-of_cause sys.flow p ss e a;
-  thinned = subst (IsThinnedIf whole base (causes_in (sent_by sys (sender sys.flow e) (events_at sys.flow (sender sys.flow e) h)))) (sym (messages-causes sys.flow p ss e a))
-      (subst (λ q. IsThinnedIf whole base (causes_in (sent_by sys q (events_at sys.flow q h))) ss) (sym r) t);
+  thinned = subst (IsThinnedIf whole base (causes_in (sent_messages sys h e))) (sym (messages-causes sys.flow p ss e a)) t;
 }

@@ -5,6 +5,7 @@ use Rattle.std.specs.BTreeSet.{insert_key}
 use Rattle.std.proofs.lemmas.Bool.{cases_eq, eq-eqb, eqb-true, false_from_ne_true}
 use Rattle.std.proofs.lemmas.List.{take_more, append_assoc}
 use Rattle.std.proofs.lemmas.List.Elements.{Contains-append_left, Contains-append_right}
+use Rattle.fw_lemmas.proofs.Bools.{two_ways}
 use Rattle.fw_lemmas.proofs.Each.{each-weaker, each-append}
 use Rattle.fw_time.specs.Stamp.{Stamp, stamp_cmp}
 use Rattle.fw_frontier.specs.Frontier.{Frontier}
@@ -12,13 +13,12 @@ use Rattle.fw_flow.specs.declared.choice.Counted.{Counted}
 use Rattle.fw_flow.specs.declared.choice.Stamps.{Stamps}
 use Rattle.fw_flow.specs.declared.event.Event.{Event}
 use Rattle.fw_flow.specs.declared.event.Message.{Message}
-use Rattle.fw_flow.specs.Dataflow.{System, Dataflow, kind_of, receiver, out_edges, is_sequence_kind}
+use Rattle.fw_flow.specs.Dataflow.{System, Dataflow, kind_of, receiver, out_edges, is_sequence_kind, sender}
 use Rattle.fw_flow.specs.NodeFunction.{event_stamp, sent_by}
 use Rattle.fw_flow.specs.Projection.{events_at, all_inside, count_from}
-use Rattle.fw_flow.proofs.OutEdgeLaws.{out_edges-from}
 use Rattle.fw_model.specs.Covers.{stamp_of_notice}
 use Rattle.fw_model.specs.EventStamps.{causes_of, causes_in, base_of_sent, tells_sent, AreStampsIf}
-use Rattle.fw_model.specs.History.{delivered_messages}
+use Rattle.fw_model.specs.History.{delivered_messages, sent_messages}
 use Rattle.fw_model.specs.Offers.{counted_on_edge, stamps_on}
 use Rattle.fw_model.specs.Thinned.{IsBelowKept, IsThinnedIf}
 use Rattle.fw_model.proofs.CauseLaws.{inside-sent}
@@ -28,11 +28,10 @@ use Rattle.fw_progress.specs.declared.traces.Traces.{Traces}
 use Rattle.fw_progress.specs.Progress.{ChangesAt}
 use Rattle.fw_progress.specs.SentTally.{IsSentTally}
 use Rattle.fw_progress.specs.Tally.{count_inside}
-use Rattle.fw_progress.specs.StampData.{AreTheSame, HaveAdded, TakeUp, AreDelivered, causes_on_first, AreTold}
-use Rattle.fw_progress.specs.Trace.{delivered_on, stamps_notified, stamps_where_sent, HasOutEdge, IsTraceIf, KeepsLists, KeepsOthers, AreEventsInside, AreRestoredTo}
+use Rattle.fw_progress.specs.StampData.{AreTheSame, HaveAdded, TakeUp, AreDelivered, AreTold, AreCausesOnEdges}
+use Rattle.fw_progress.specs.Trace.{delivered_on, stamps_notified, stamps_where_sent, IsTraceIf, KeepsLists, KeepsOthers, AreEventsInside, AreRestoredTo}
 use Rattle.fw_progress.specs.Traces.{ChangesInto}
-use Rattle.fw_progress.proofs.EventLaws.{how_often}
-use Rattle.fw_progress.proofs.OfferLaws.{once-out}
+use Rattle.fw_progress.proofs.OutLaws.{AreChanging, all-changed_out}
 use Rattle.fw_progress.proofs.TraceLaws.{contains-head, each-itself, insert-each, each_of-insert}
 
 abbrev Lists : Type 0
@@ -128,31 +127,32 @@ from-inside sys p f vs a = count (sent_by sys p vs) (inside-sent sys p f vs a)
         more : (x y : ℕ) → x ≡ y → x + 1 ≡ suc y
         more x y e = omega (arith, e)
 
--- the messages on the first out-edge of a node stand for what it sent
-first-thinned : (whole : Bool) (sys : System) (h : List Event) (p : ℕ) (base : Frontier) (stamps : Stamps) → is_sequence_kind (kind_of sys.flow p) ≡ false → AreStampsIf whole sys h p base stamps → HasOutEdge sys.flow p
-    → IsThinnedIf (whole && tells_sent sys.flow p) (base_of_sent sys.flow p base) (causes_in (sent_by sys p (events_at sys.flow p h))) (causes_on_first (out_edges sys.flow p) stamps.sent)
-first-thinned whole sys h p base stamps s a o =
-    first (out_edges sys.flow p) (subst (λ q. how_often (out_edges sys.flow q) o.0 ≡ 1) o.2 (once-out sys.flow o.0 o.1))
-    (out_edges-from (λ e. IsThinnedIf (whole && tells_sent sys.flow p) (base_of_sent sys.flow p base) (causes_in (sent_by sys p (events_at sys.flow p h))) (causes_of (counted_on_edge e stamps.sent))) sys.flow p
-    (λ e l r. subst (λ q. IsThinnedIf (whole && tells_sent sys.flow p) (base_of_sent sys.flow p base) (causes_in (sent_by sys q (events_at sys.flow q h))) (causes_of (counted_on_edge e stamps.sent))) r (a.sent s e l r).thinned))
-  where
-    first : (edges : List ℕ) → how_often edges o.0 ≡ 1 → AllByRecursion (λ e. IsThinnedIf (whole && tells_sent sys.flow p) (base_of_sent sys.flow p base) (causes_in (sent_by sys p (events_at sys.flow p h))) (causes_of (counted_on_edge e stamps.sent))) edges
-        → IsThinnedIf (whole && tells_sent sys.flow p) (base_of_sent sys.flow p base) (causes_in (sent_by sys p (events_at sys.flow p h))) (causes_on_first edges stamps.sent)
-    first [] z b = absurd (omega (arith, z))
-    first (e ∷ edges) z b = b.0
+-- how the list of an edge becomes the causes of these messages on it
+abbrev pub are_causes : List Counted → ℕ → List Stamp → List Stamp → Type 0
+are_causes ms e old new = AreTheSame (causes_of (counted_on_edge e ms)) new
+
+pub causes-on : (flow : Dataflow) (p : ℕ) (ms : List Counted) (edges : List ℕ) (old new : Lists) → edges ≡ out_edges flow p → AreChanging (are_causes ms) edges old new → AreCausesOnEdges flow p ms old new
+causes-on flow p ms edges old new is a =
+    let c = all-changed_out flow p (are_causes ms) edges old new is a in
+    record { one_each = c.one_each; here = λ e l s n. c.here e l s; others = c.others }
+
+-- nothing is kept of where a sequence sent
+pub causes-none : (flow : Dataflow) (p : ℕ) (ms : List Counted) (old : Lists) → is_sequence_kind (kind_of flow p) ≡ true → AreCausesOnEdges flow p ms old old
+causes-none flow p ms old k = record { one_each = refl; here = λ e l s n. absurd (two_ways (is_sequence_kind (kind_of flow p)) k n); others = λ e n. refl }
 
 told-lists : (flow : Dataflow) (p : ℕ) (stamps : Stamps) (n : ℕ) (old new : Traces) → AreTold flow p stamps n old new → (q : ℕ) → q ≢ p → KeepsLists flow q old new
 told-lists flow p stamps n old new c q k = record {
   delivered = λ d r. c.delivered.others d (λ i. k (sym r ∙ i));
   notified = c.notified.others q k;
-  sent = c.sent.others q k;
+  sent = λ e s. c.sent.others e (λ i. k (sym s ∙ i));
 }
 
 told-others : (flow : Dataflow) (p : ℕ) (stamps : Stamps) (n : ℕ) (old new : Traces) → AreTold flow p stamps n old new → KeepsOthers flow p old new
 told-others flow p stamps n old new c whole sys h e q k base t = record {
   delivered = λ d l r. subst (IsThinnedIf whole base (map (λ (m : Message). m.at) (delivered_messages h d))) (sym (c.delivered.others d (λ i. k (sym r ∙ ap (λ f. receiver f d) e ∙ i)))) (t.delivered d l r);
   notified = subst (IsThinnedIf whole base (flat_map (stamp_of_notice q) h)) (sym (c.notified.others q k)) t.notified;
-  sent = λ o s. subst (IsThinnedIf (whole && tells_sent sys.flow q) (base_of_sent sys.flow q base) (causes_in (sent_by sys q (events_at sys.flow q h)))) (sym (c.sent.others q k)) (t.sent o s);
+  sent = λ d l r s. subst (IsThinnedIf (whole && tells_sent sys.flow q) (base_of_sent sys.flow q base) (causes_in (sent_messages sys h d)))
+      (sym (c.sent.others d (λ i. k (sym r ∙ ap (λ f. sender f d) e ∙ i)))) (t.sent d l r s);
   counted = λ s. subst (IsSentTally base (sent_by sys q (events_at sys.flow q h))) (sym (c.counted.others q k)) (t.counted s);
 }
 
@@ -168,8 +168,8 @@ told-restored flow p stamps n old new c = record {
     here whole sys h base t a is inside = record {
       delivered = λ d l r. same-thinned whole base (map (λ (m : Message). m.at) (delivered_messages h d)) (stamps_on d stamps.delivered) (delivered_on new d) (t.delivered.here d l r) (a.delivered d r);
       notified = same-thinned whole base (flat_map (stamp_of_notice p) h) stamps.notified (stamps_notified new p) t.notified.here a.notified;
-      sent = λ o s. same-thinned (whole && tells_sent sys.flow p) (base_of_sent sys.flow p base) (causes_in (sent_by sys p (events_at sys.flow p h))) (causes_on_first (out_edges sys.flow p) stamps.sent) (stamps_where_sent new p) (t.sent.here s)
-          (first-thinned whole sys h p base stamps s a o);
+      sent = λ d l r s. same-thinned (whole && tells_sent sys.flow p) (base_of_sent sys.flow p base) (causes_in (sent_messages sys h d)) (causes_of (counted_on_edge d stamps.sent))
+          (stamps_where_sent new d) (t.sent.here d l r s) (a.sent s d l r).thinned;
       counted = λ s f w.
           let tally = t.counted.here in
           let all = from-inside sys p f (events_at sys.flow p h) (each-weaker (λ v. base (event_stamp v) ≡ true) (λ v. f (event_stamp v) ≡ true) (events_at sys.flow p h) (λ v i. w (event_stamp v) i) inside) in

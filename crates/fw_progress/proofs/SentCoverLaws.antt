@@ -28,6 +28,7 @@ use Rattle.fw_model.specs.Filtering.{AreFrontiers, kept_events, messages_from}
 use Rattle.fw_model.specs.History.{is_injection, injected_count, sent_messages, IsLegal}
 use Rattle.fw_model.specs.Thinned.{IsThinned, IsThinnedIf}
 use Rattle.fw_model.specs.Writes.{takes_checkpoints}
+use Rattle.fw_model.proofs.CarriedLaws.{carried-all}
 use Rattle.fw_model.proofs.LegalLaws.{edge_domains, legal_events-in_domain, legal_messages-in_domain, only_inputs_inject}
 use Rattle.fw_model.proofs.LocalityLaws.{sent_by-same}
 use Rattle.fw_model.proofs.SequenceLaws.{no_inject, sent_by-sequence}
@@ -40,7 +41,7 @@ use Rattle.fw_progress.specs.StampData.{counted_at_stamps}
 use Rattle.fw_progress.specs.Tally.{count_inside}
 use Rattle.fw_progress.specs.Trace.{stamps_where_sent, counted_of, counts_sent, IsTraceWithin}
 use Rattle.fw_progress.specs.Traces.{AreOf}
-use Rattle.fw_progress.proofs.CutTraceLaws.{causes-of, sent-domain}
+use Rattle.fw_progress.proofs.CutTraceLaws.{sent-domain, edge-domain}
 use Rattle.fw_progress.proofs.NumberLaws.{sequence-numbers, numbers-thinned}
 use Rattle.fw_progress.proofs.OfferLaws.{kept-send, messages-own, messages-on_edges, messages-inside, stands-for_sent}
 use Rattle.fw_progress.proofs.SentTallyLaws.{tally-count}
@@ -152,7 +153,8 @@ pub sequence-covers : (sys : System) (h : List Event) (e : ℕ) (f : Front) (tra
     → CoverSent sys h e f (last_number n)
 sequence-covers sys h e f traces w b l k counts t n is =
     let p = sender sys.flow e in
-    let ms = sent_messages sys h e in
+    let ms = sent_by sys p (events_at sys.flow p h) in
+    let all : sent_messages sys h e ≡ ms = carried-all sys.flow e ms in
     let g = node_frontier sys.flow p f in
     let d = sent-domain sys h p (legal_events-in_domain sys h w b l p) in
     let count : n ≡ count_from g ms = is ∙ tally-count (bounds_of sys.flow p) t.base ms f (counted_of traces p) d t.within (t.trace.counted counts) in
@@ -162,21 +164,22 @@ sequence-covers sys h e f traces w b l k counts t n is =
     record {
       in_the_domain = kept-domain B (λ s. true) (map (λ (x : Message). x.at) (messages_from g ms)) (last_number n)
           (each-map (λ s. in_domain B s ≡ true) (λ (x : Message). x.at) (messages_from g ms)
-          (each-kept (λ (x : Message). in_domain B x.at ≡ true) (λ (x : Message). all_inside g x.causes) ms (messages-receiver sys h w b l e))) thin;
-      covers = thinned-cover B (λ s. true) (map (λ (x : Message). x.at) (messages_from g ms)) (last_number n) thin;
+          (each-kept (λ (x : Message). in_domain B x.at ≡ true) (λ (x : Message). all_inside g x.causes) ms
+          (subst (AllByRecursion (λ (x : Message). in_domain B x.at ≡ true)) all (messages-receiver sys h w b l e)))) thin;
+      covers = thinned-cover B (λ s. true) (map (λ (x : Message). x.at) (messages_from g ms)) (last_number n) thin ∙ sym (ap (λ (xs : List Message). cover B (stamps_from g xs)) all);
     }
 
 pub stamps-cover : (sys : System) (h : List Event) (e : ℕ) (f : Front) (traces : Traces) → e < length sys.flow.edges → IsWellFormed sys.flow → HasEpochs sys → IsLegal sys h
     → is_sequence_kind (kind_of sys.flow (sender sys.flow e)) ≡ false → tells_sent sys.flow (sender sys.flow e) ≡ true → IsTraceWithin true sys h (sender sys.flow e) f traces
-    → CoverSent sys h e f (send_stamps sys.flow (sender sys.flow e) (filter (inside f) (stamps_where_sent traces (sender sys.flow e))))
+    → CoverSent sys h e f (send_stamps sys.flow (sender sys.flow e) (filter (inside f) (stamps_where_sent traces e)))
 stamps-cover sys h e f traces there w b l k told t =
     let p = sender sys.flow e in
-    let kept = stamps_where_sent traces p in
+    let kept = stamps_where_sent traces e in
     let g = node_frontier sys.flow p f in
-    let all = causes_in (sent_by sys p (events_at sys.flow p h)) in
-    let d = causes-of (bounds_of sys.flow p) (sent_by sys p (events_at sys.flow p h)) (sent-domain sys h p (legal_events-in_domain sys h w b l p)) in
-    let thin : IsThinnedIf true t.base all kept = subst (λ c. IsThinnedIf c (cond c t.base (λ s. true)) all kept) told (t.trace.sent (e, there, refl) k) in
-    let send = kept-send sys h p kept k d thin.among in
+    let all = causes_in (sent_messages sys h e) in
+    let d = edge-domain sys h p e refl (legal_events-in_domain sys h w b l p) in
+    let thin : IsThinnedIf true t.base all kept = subst (λ c. IsThinnedIf c (cond c t.base (λ s. true)) all kept) told (t.trace.sent e there refl k) in
+    let send = kept-send sys h e kept k d thin.among in
     let ms = counted_at_stamps sys.flow p kept e in
     let B = bounds_of sys.flow (receiver sys.flow e) in
     let left : map (λ (m : Counted). m.at) (filter (λ (m : Counted). all_inside g m.causes) ms) ≡ send_stamps sys.flow p (filter (inside f) kept) =
@@ -197,7 +200,7 @@ stamps-cover sys h e f traces there w b l k told t =
 -- ---- by the traces
 
 inside-covers : (sys : System) (h : List Event) (e : ℕ) (f : Front) (traces : Traces) → e < length sys.flow.edges → IsWellFormed sys.flow → HasEpochs sys → IsLegal sys h
-    → tells_sent sys.flow (sender sys.flow e) ≡ true → IsTraceWithin true sys h (sender sys.flow e) f traces → CoverSent sys h e f (sent_inside sys.flow traces (sender sys.flow e) f)
+    → tells_sent sys.flow (sender sys.flow e) ≡ true → IsTraceWithin true sys h (sender sys.flow e) f traces → CoverSent sys h e f (sent_inside sys.flow traces e f)
 inside-covers sys h e f traces there w b l told t = by (is_sequence_kind (kind_of sys.flow (sender sys.flow e))) refl
   where
     p : ℕ
@@ -206,18 +209,18 @@ inside-covers sys h e f traces there w b l told t = by (is_sequence_kind (kind_o
     n : ℕ
     n = (counted_of traces p).inside + count_inside (inside f) (counted_of traces p).outside
 
-    by : (c : Bool) → is_sequence_kind (kind_of sys.flow p) ≡ c → CoverSent sys h e f (cond c (last_number n) (send_stamps sys.flow p (filter (inside f) (stamps_where_sent traces p))))
+    by : (c : Bool) → is_sequence_kind (kind_of sys.flow p) ≡ c → CoverSent sys h e f (cond c (last_number n) (send_stamps sys.flow p (filter (inside f) (stamps_where_sent traces e))))
     by true k = sequence-covers sys h e f traces w b l k (counts-sequence sys.flow w p (w.senders_declared e there) k told) t n refl
     by false k = stamps-cover sys h e f traces there w b l k told t
 
 -- the cover of what stands for what a node sent is that of all that it sent
 pub sent-stand : {E : Type 0} (flow : Dataflow) (e : ℕ) (f : Front) (traces : Traces) (sent : List Stamp) (bounds : Bounds) (result : Result Front E) → IsWellFormed flow → e < length flow.edges
-    → sent ≡ sent_inside flow traces (sender flow e) f → bounds ≡ bounds_of flow (receiver flow e) → (AreOf bounds sent → IfOk result (λ front. IsFrontOf bounds front (cover bounds sent)))
+    → sent ≡ sent_inside flow traces e f → bounds ≡ bounds_of flow (receiver flow e) → (AreOf bounds sent → IfOk result (λ front. IsFrontOf bounds front (cover bounds sent)))
     → (sys : System) (h : List Event) → sys.flow ≡ flow → HasEpochs sys → IsLegal sys h
     → tells_sent flow (sender flow e) ≡ true → IsTraceWithin true sys h (sender flow e) f traces → IfOk result (CoversSent sys h e f)
 sent-stand flow e f traces sent bounds result w there k i found sys h s b legal told t =
     let now : IsTraceWithin true sys h (sender sys.flow e) f traces = subst (λ g. IsTraceWithin true sys h (sender g e) f traces) (sym s) t in
-    let same : sent ≡ sent_inside sys.flow traces (sender sys.flow e) f = k ∙ ap (λ g. sent_inside g traces (sender g e) f) (sym s) in
+    let same : sent ≡ sent_inside sys.flow traces e f = k ∙ ap (λ g. sent_inside g traces e f) (sym s) in
     let stand : CoverSent sys h e f sent = subst (CoverSent sys h e f) (sym same)
     (inside-covers sys h e f traces (subst (λ g. e < length g.edges) (sym s) there) (subst IsWellFormed (sym s) w) b legal
     (ap (λ g. tells_sent g (sender g e)) s ∙ told) now) in

@@ -27,21 +27,21 @@ use Rattle.fw_flow.specs.WellFormed.{IsWellFormed}
 use Rattle.fw_flow.proofs.OutEdgeLaws.{out_edges-from}
 use Rattle.fw_model.specs.Covers.{stamp_of_notice}
 use Rattle.fw_model.specs.EventStamps.{causes_in, base_of_sent, tells_sent, StandForSent, StandForNumbered, AreStampsIf}
-use Rattle.fw_model.specs.Filtering.{AreFrontiers, events_inside, messages_inside, messages_from}
-use Rattle.fw_model.specs.History.{is_injection, injected_count, delivered_messages, AreEventsInDomain, IsLegal}
+use Rattle.fw_model.specs.Filtering.{events_inside, messages_inside, messages_from, kept_events}
+use Rattle.fw_model.specs.History.{is_injection, injected_count, delivered_messages, AreEventsInDomain, IsLegal, sent_messages}
 use Rattle.fw_model.specs.Offers.{AreAtEdgeStamps, counted_on_edge, stamps_on, stamps_on_from}
 use Rattle.fw_model.specs.Thinned.{IsThinned, IsThinnedIf}
+use Rattle.fw_model.proofs.CarriedLaws.{carried-all}
 use Rattle.fw_model.proofs.LegalLaws.{edge_domains, legal_events-in_domain}
-use Rattle.fw_model.proofs.LocalityLaws.{events_at-kept, sent_by-same}
+use Rattle.fw_model.proofs.LocalityLaws.{events_at-kept, sent_by-same, sends-same}
 use Rattle.fw_model.proofs.SequenceLaws.{no_inject, sent_by-sequence}
 use Rattle.fw_model.proofs.ThinnedLaws.{each-contained, thinned-if, thinned-whole}
 use Rattle.fw_progress.specs.declared.traces.Traces.{Traces}
 use Rattle.fw_progress.specs.Covers.{last_number}
 use Rattle.fw_progress.specs.StampData.{taken, count_taken, all_delivered, counted_at_stamps, messages_numbered, all_sent, stamps_by, HasItsStamps}
-use Rattle.fw_progress.specs.Trace.{delivered_on, stamps_notified, stamps_where_sent, counted_of, counts_sent, HasOutEdge, IsTraceIf, IsTraceWithin}
+use Rattle.fw_progress.specs.Trace.{delivered_on, stamps_notified, stamps_where_sent, counted_of, counts_sent, IsTraceIf, IsTraceWithin}
 use Rattle.fw_progress.specs.Traces.{AreOf, thinned}
-use Rattle.fw_model.proofs.CauseLaws.{sent_by-one_cause}
-use Rattle.fw_progress.proofs.CutTraceLaws.{delivered-domain, notices-domain, sent-domain, causes-of, causes-from, map-filter, notices-inside}
+use Rattle.fw_progress.proofs.CutTraceLaws.{delivered-domain, notices-domain, sent-domain, causes-from, map-filter, notices-inside, edge-domain, edge-one_cause, sent-own}
 use Rattle.fw_progress.proofs.EventLaws.{how_often}
 use Rattle.fw_progress.proofs.NumberLaws.{IsNumber, sequence-numbers, numbers-thinned}
 use Rattle.fw_progress.proofs.OfferLaws.{Sends, each-joined, on-once, once-out, delivered-on, delivered-on_edges, kept-send, messages-on_edges, sent-on, stands-for_sent}
@@ -50,10 +50,11 @@ use Rattle.fw_progress.proofs.SentTallyLaws.{tally-count}
 use Rattle.fw_progress.proofs.TraceLaws.{among-domain, among-passed, kept-domain, thinned-inside, thinned-itself, untold-if}
 
 -- Lists stand for the events of node p, thinned inside a base, as its traces do; of a sequence it is known how many messages it sent, if they are counted.
-record AreKept (whole : Bool) (sys : System) (h : List Event) (p : ℕ) (base : Frontier) (kept : ℕ → List Stamp) (notified sent : List Stamp) (n : ℕ) : Type 0 where
+record AreKept (whole : Bool) (sys : System) (h : List Event) (p : ℕ) (base : Frontier) (kept : ℕ → List Stamp) (notified : List Stamp) (sent : ℕ → List Stamp) (n : ℕ) : Type 0 where
   on_edges : (d : ℕ) → d < length sys.flow.edges → receiver sys.flow d ≡ p → IsThinnedIf whole base (map (λ (m : Message). m.at) (delivered_messages h d)) (kept d)
   notices : IsThinnedIf whole base (flat_map (stamp_of_notice p) h) notified
-  sends : HasOutEdge sys.flow p → is_sequence_kind (kind_of sys.flow p) ≡ false → IsThinnedIf (whole && tells_sent sys.flow p) (base_of_sent sys.flow p base) (causes_in (sent_by sys p (events_at sys.flow p h))) sent
+  sends : (e : ℕ) → e < length sys.flow.edges → sender sys.flow e ≡ p → is_sequence_kind (kind_of sys.flow p) ≡ false
+      → IsThinnedIf (whole && tells_sent sys.flow p) (base_of_sent sys.flow p base) (causes_in (sent_messages sys h e)) (sent e)
   count : is_sequence_kind (kind_of sys.flow p) ≡ true → counts_sent sys.flow p ≡ true → n ≡ length (sent_by sys p (events_at sys.flow p h))
 
 -- The events of node p are of its domain, and it injects nothing if it is a sequence.
@@ -141,15 +142,16 @@ numbered-on_edge flow e (s ∷ ss) a = (a.0, numbered-on_edge flow e ss a.1)
 
 -- ---- lists as data
 
-all-sequence : (flow : Dataflow) (p : ℕ) (ss : List Stamp) (n : ℕ) (counts : Bool) → is_sequence_kind (kind_of flow p) ≡ true → counts_sent flow p ≡ counts
-    → all_sent flow p ss n ≡ cond counts (flat_map (messages_numbered (last_number n)) (out_edges flow p)) []
-all-sequence flow p ss n counts k c =
+all-sequence : (flow : Dataflow) (p : ℕ) (kept : ℕ → List Stamp) (n : ℕ) (counts : Bool) → is_sequence_kind (kind_of flow p) ≡ true → counts_sent flow p ≡ counts
+    → all_sent flow p kept n ≡ cond counts (flat_map (messages_numbered (last_number n)) (out_edges flow p)) []
+all-sequence flow p kept n counts k c =
     let ms = flat_map (messages_numbered (last_number n)) (out_edges flow p) in
-    ap (λ b. cond b (cond (counts_sent flow p) ms []) (flat_map (counted_at_stamps flow p ss) (out_edges flow p))) k ∙ ap (λ b. cond b ms []) c
+    ap (λ b. cond b (cond (counts_sent flow p) ms []) (flat_map (λ e. counted_at_stamps flow p (kept e) e) (out_edges flow p))) k ∙ ap (λ b. cond b ms []) c
 
-all-others : (flow : Dataflow) (p : ℕ) (ss : List Stamp) (n : ℕ) → is_sequence_kind (kind_of flow p) ≡ false → all_sent flow p ss n ≡ flat_map (counted_at_stamps flow p ss) (out_edges flow p)
-all-others flow p ss n k =
-    ap (λ b. cond b (cond (counts_sent flow p) (flat_map (messages_numbered (last_number n)) (out_edges flow p)) []) (flat_map (counted_at_stamps flow p ss) (out_edges flow p))) k
+all-others : (flow : Dataflow) (p : ℕ) (kept : ℕ → List Stamp) (n : ℕ) → is_sequence_kind (kind_of flow p) ≡ false
+    → all_sent flow p kept n ≡ flat_map (λ e. counted_at_stamps flow p (kept e) e) (out_edges flow p)
+all-others flow p kept n k =
+    ap (λ b. cond b (cond (counts_sent flow p) (flat_map (messages_numbered (last_number n)) (out_edges flow p)) []) (flat_map (λ e. counted_at_stamps flow p (kept e) e) (out_edges flow p))) k
 
 past_receiver : (flow : Dataflow) (d : ℕ) → length flow.edges ≤ d → receiver flow d ≡ length flow.nodes
 unfolding receiver
@@ -162,7 +164,7 @@ edge-there flow p d l r = elim (cases_lt d (length flow.edges)) [
   | inr i ↦ let z : length flow.nodes ≡ p = sym (past_receiver flow d i) ∙ r in absurd (omega (arith, l, z))
 ]
 
-kept-stand : (whole : Bool) (sys : System) (h : List Event) (p : ℕ) (base : Frontier) (kept : ℕ → List Stamp) (notified sent : List Stamp) (n : ℕ) → IsWellFormed sys.flow → p < length sys.flow.nodes
+kept-stand : (whole : Bool) (sys : System) (h : List Event) (p : ℕ) (base : Frontier) (kept : ℕ → List Stamp) (notified : List Stamp) (sent : ℕ → List Stamp) (n : ℕ) → IsWellFormed sys.flow → p < length sys.flow.nodes
     → AreProper sys h p → AreKept whole sys h p base kept notified sent n
     → AreStampsIf whole sys h p base (record { delivered = all_delivered sys.flow p kept; notified = notified; sent = all_sent sys.flow p sent n })
 kept-stand whole sys h p base kept notified sent n w l proper k = record {
@@ -178,15 +180,14 @@ kept-stand whole sys h p base kept notified sent n w l proper k = record {
   notified = k.notices;
   sent = λ s e i r.
       subst (StandForSent (whole && tells_sent sys.flow p) sys h p (base_of_sent sys.flow p base) e) (sym (ap (counted_on_edge e) (all-others sys.flow p sent n s) ∙ sent-on sys.flow p sent e i r))
-      (stands-for_sent (whole && tells_sent sys.flow p) sys h p (base_of_sent sys.flow p base) sent e i r (sends s (e, i, r)) (k.sends (e, i, r) s));
+      (stands-for_sent (whole && tells_sent sys.flow p) sys h p (base_of_sent sys.flow p base) (sent e) e i r (sends s e i r) (k.sends e i r s));
   numbered = λ s t e i r. numbered s (counts-sequence sys.flow w p l s t) e i r;
 }
   where
-    causes : AreOf (bounds_of sys.flow p) (causes_in (sent_by sys p (events_at sys.flow p h)))
-    causes = causes-of (bounds_of sys.flow p) (sent_by sys p (events_at sys.flow p h)) (sent-domain sys h p proper.in_the_domain)
-
-    sends : is_sequence_kind (kind_of sys.flow p) ≡ false → HasOutEdge sys.flow p → AllByRecursion (Sends sys.flow p) sent
-    sends s o = kept-send sys h p sent s causes (k.sends o s).among
+    sends : is_sequence_kind (kind_of sys.flow p) ≡ false → (e : ℕ) → e < length sys.flow.edges → sender sys.flow e ≡ p → AllByRecursion (Sends sys.flow p) (sent e)
+    sends s e i r =
+        subst (λ q. is_sequence_kind (kind_of sys.flow q) ≡ false → AreOf (bounds_of sys.flow q) (causes_in (sent_messages sys h e)) → AllByRecursion (Sends sys.flow q) (sent e)) r
+        (λ c d. kept-send sys h e (sent e) c d (k.sends e i r s).among) s (edge-domain sys h p e r proper.in_the_domain)
 
     numbers : (s : is_sequence_kind (kind_of sys.flow p) ≡ true) → counts_sent sys.flow p ≡ true → (e : ℕ) → sender sys.flow e ≡ p
         → IsThinned (everything (bounds_of sys.flow (receiver sys.flow e))) (map (λ (m : Message). m.at) (sent_by sys p (events_at sys.flow p h))) (last_number n)
@@ -210,9 +211,9 @@ kept-stand whole sys h p base kept notified sent n w l proper k = record {
     by true s = of_sequence (counts_sent sys.flow p) s refl
     by false s =
         subst (AreAtEdgeStamps sys.flow) (sym (all-others sys.flow p sent n s))
-        (each-joined (λ (m : Counted). in_domain (bounds_of sys.flow (receiver sys.flow m.edge)) m.at ≡ true) (counted_at_stamps sys.flow p sent) (out_edges sys.flow p)
-        (out_edges-from (λ e. AllByRecursion (λ (m : Counted). in_domain (bounds_of sys.flow (receiver sys.flow m.edge)) m.at ≡ true) (counted_at_stamps sys.flow p sent e)) sys.flow p
-        (λ e i r. messages-on_edges sys.flow w p sent e r (sends s (e, i, r)))))
+        (each-joined (λ (m : Counted). in_domain (bounds_of sys.flow (receiver sys.flow m.edge)) m.at ≡ true) (λ e. counted_at_stamps sys.flow p (sent e) e) (out_edges sys.flow p)
+        (out_edges-from (λ e. AllByRecursion (λ (m : Counted). in_domain (bounds_of sys.flow (receiver sys.flow m.edge)) m.at ≡ true) (counted_at_stamps sys.flow p (sent e) e)) sys.flow p
+        (λ e i r. messages-on_edges sys.flow w p (sent e) e r (sends s e i r))))
 
     numbered : is_sequence_kind (kind_of sys.flow p) ≡ true → counts_sent sys.flow p ≡ true → (e : ℕ) → e < length sys.flow.edges → sender sys.flow e ≡ p
         → StandForNumbered sys h e (all_sent sys.flow p sent n)
@@ -221,8 +222,10 @@ kept-stand whole sys h p base kept notified sent n w l proper k = record {
         let B = everything (bounds_of sys.flow (receiver sys.flow e)) in
         let left : stamps_on_from e (everything (bounds_of sys.flow p)) (all_sent sys.flow p sent n) ≡ last_number n =
         ap (stamps_on_from e (everything (bounds_of sys.flow p))) (all-sequence sys.flow p sent n true s c) ∙ numbered-on sys.flow p (everything (bounds_of sys.flow p)) first (last_number n) e i r in
-        subst (λ q. IsThinned B (map (λ (m : Message). m.at) (sent_by sys q (events_at sys.flow q h))) (stamps_on_from e (everything (bounds_of sys.flow q)) (all_sent sys.flow p sent n))) (sym r)
-        (subst (IsThinned B (map (λ (m : Message). m.at) (sent_by sys p (events_at sys.flow p h)))) (sym left) (numbers s c e r))
+        subst (λ ms. IsThinned B (map (λ (m : Message). m.at) ms) (stamps_on_from e (everything (bounds_of sys.flow (sender sys.flow e))) (all_sent sys.flow p sent n)))
+        (sym (carried-all sys.flow e (sent_by sys (sender sys.flow e) (events_at sys.flow (sender sys.flow e) h))))
+        (subst (λ q. IsThinned B (map (λ (m : Message). m.at) (sent_by sys q (events_at sys.flow q h))) (stamps_on_from e (everything (bounds_of sys.flow q)) (all_sent sys.flow p sent n))) (sym r)
+        (subst (IsThinned B (map (λ (m : Message). m.at) (sent_by sys p (events_at sys.flow p h)))) (sym left) (numbers s c e r)))
 
 -- ---- of all events
 
@@ -244,7 +247,7 @@ proper-events sys h p w b l = record {
 }
 
 all-kept : (whole : Bool) (sys : System) (h : List Event) (p : ℕ) (base : Frontier) (traces : Traces) → IsTraceIf whole sys h p base traces
-    → AreKept whole sys h p base (λ d. taken None (delivered_on traces d)) (taken None (stamps_notified traces p)) (taken None (stamps_where_sent traces p)) (count_taken None (counted_of traces p))
+    → AreKept whole sys h p base (λ d. taken None (delivered_on traces d)) (taken None (stamps_notified traces p)) (λ e. taken None (stamps_where_sent traces e)) (count_taken None (counted_of traces p))
 all-kept whole sys h p base traces t = record {
   on_edges = t.delivered;
   notices = t.notified;
@@ -293,19 +296,33 @@ at-inside : (flow : Dataflow) (p : ℕ) (f : Frontier) (h : List Event) → even
 at-inside flow p f h =
     filter-swap (λ v. event_node flow v == p) (λ v. f (event_stamp v)) (λ v. f (event_stamp v)) h (each-one (λ v. (event_node flow v == p) ≡ true → f (event_stamp v) ≡ f (event_stamp v)) h (λ v c. refl))
 
+-- where one node keeps the events inside a frontier, it has these
+kept-inside : (flow : Dataflow) (h : List Event) (p : ℕ) (f : Front)
+    → events_at flow p (events_inside (node_frontier flow p f) h) ≡ events_at flow p (kept_events flow (λ q. node_frontier flow q (cond (q == p) f [])) h)
+kept-inside flow h p f =
+    at-inside flow p (node_frontier flow p f) h ∙ ap (λ c. events_inside (node_frontier flow p (cond c f [])) (events_at flow p h)) (sym (eq-eqb p p refl))
+    ∙ sym (events_at-kept flow (λ q. node_frontier flow q (cond (q == p) f [])) p h)
+
 -- what a node sent by its events inside a frontier
 sent-inside : (sys : System) (h : List Event) (p : ℕ) (f : Front) → IsWellFormed sys.flow → HasEpochs sys → IsLegal sys h
     → sent_by sys p (events_at sys.flow p (events_inside (node_frontier sys.flow p f) h)) ≡ messages_from (node_frontier sys.flow p f) (sent_by sys p (events_at sys.flow p h))
 sent-inside sys h p f w b l =
-    ap (sent_by sys p) (at-inside sys.flow p (node_frontier sys.flow p f) h ∙ ap (λ c. events_inside (node_frontier sys.flow p (cond c f [])) (events_at sys.flow p h)) (sym (eq-eqb p p refl)) ∙ sym (events_at-kept sys.flow keep p h))
-    ∙ sent_by-same sys h keep w b l fr p
+    ap (sent_by sys p) (kept-inside sys.flow h p f)
+    ∙ sent_by-same sys h (λ q. node_frontier sys.flow q (cond (q == p) f [])) w b l (λ q. frontier-closed (bounds_of sys.flow q) (cond (q == p) f [])) p
     ∙ ap (λ c. messages_from (node_frontier sys.flow p (cond c f [])) (sent_by sys p (events_at sys.flow p h))) (eq-eqb p p refl)
+
+-- and on an out-edge
+edge-inside : (sys : System) (h : List Event) (p : ℕ) (f : Front) → IsWellFormed sys.flow → HasEpochs sys → IsLegal sys h → (e : ℕ) → sender sys.flow e ≡ p
+    → sent_messages sys (events_inside (node_frontier sys.flow p f) h) e ≡ messages_from (node_frontier sys.flow p f) (sent_messages sys h e)
+edge-inside sys h p f w b l e r =
+    sent-own sys (events_inside (node_frontier sys.flow p f) h) (kept_events sys.flow keep h) e
+    (subst (λ q. events_at sys.flow q (kept_events sys.flow keep h) ≡ events_at sys.flow q (events_inside (node_frontier sys.flow p f) h)) (sym r) (sym (kept-inside sys.flow h p f)))
+    ∙ sends-same sys h keep w b l (λ q. frontier-closed (bounds_of sys.flow q) (cond (q == p) f [])) e
+    ∙ ap (λ q. messages_from (keep q) (sent_messages sys h e)) r
+    ∙ ap (λ c. messages_from (node_frontier sys.flow p (cond c f [])) (sent_messages sys h e)) (eq-eqb p p refl)
   where
     keep : ℕ → Frontier
     keep q = node_frontier sys.flow q (cond (q == p) f [])
-
-    fr : AreFrontiers sys.flow keep
-    fr q = frontier-closed (bounds_of sys.flow q) (cond (q == p) f [])
 
 proper-inside : (sys : System) (h : List Event) (p : ℕ) (f : Frontier) → AreProper sys h p → AreProper sys (events_inside f h) p
 proper-inside sys h p f proper = record {
@@ -335,7 +352,7 @@ sent_whole-inside false bounds base all kept f d w h =
 
 inside-kept : (sys : System) (h : List Event) (p : ℕ) (f : Front) (traces : Traces) → IsWellFormed sys.flow → HasEpochs sys → IsLegal sys h → IsTraceWithin true sys h p f traces
     → AreKept true sys (events_inside (node_frontier sys.flow p f) h) p (node_frontier sys.flow p f) (λ d. taken (Some f) (delivered_on traces d)) (taken (Some f) (stamps_notified traces p))
-    (taken (Some f) (stamps_where_sent traces p)) (count_taken (Some f) (counted_of traces p))
+    (λ e. taken (Some f) (stamps_where_sent traces e)) (count_taken (Some f) (counted_of traces p))
 inside-kept sys h p f traces w b l t = record {
   on_edges = λ d i r.
       let all = map (λ (m : Message). m.at) (delivered_messages h d) in
@@ -345,10 +362,10 @@ inside-kept sys h p f traces w b l t = record {
       (subst (λ q. AreEventsInDomain sys.flow h q → AreOf (bounds_of sys.flow q) all) r (delivered-domain sys h d) a) t.within (t.trace.delivered d i r));
   notices = subst (λ ss. IsThinnedIf true g ss (thinned f (filter (inside f) (stamps_notified traces p)))) (sym (notices-inside p g h))
       (whole-inside (bounds_of sys.flow p) t.base (flat_map (stamp_of_notice p) h) (stamps_notified traces p) f (notices-domain sys h p a) t.within t.trace.notified);
-  sends = λ o s. subst (λ ss. IsThinnedIf (tells_sent sys.flow p) (base_of_sent sys.flow p g) ss (thinned f (filter (inside f) (stamps_where_sent traces p))))
-      (sym (ap causes_in (sent-inside sys h p f w b l) ∙ causes-from g ms (sent_by-one_cause sys p (events_at sys.flow p h))))
-      (sent_whole-inside (tells_sent sys.flow p) (bounds_of sys.flow p) t.base (causes_in ms) (stamps_where_sent traces p) f (causes-of (bounds_of sys.flow p) ms (sent-domain sys h p a)) t.within
-      (t.trace.sent o s));
+  sends = λ e i r s. subst (λ ss. IsThinnedIf (tells_sent sys.flow p) (base_of_sent sys.flow p g) ss (thinned f (filter (inside f) (stamps_where_sent traces e))))
+      (sym (ap causes_in (edge-inside sys h p f w b l e r) ∙ causes-from g (sent_messages sys h e) (edge-one_cause sys h e)))
+      (sent_whole-inside (tells_sent sys.flow p) (bounds_of sys.flow p) t.base (causes_in (sent_messages sys h e)) (stamps_where_sent traces e) f (edge-domain sys h p e r a) t.within
+      (t.trace.sent e i r s));
   count = λ s c.
       tally-count (bounds_of sys.flow p) t.base ms f (counted_of traces p) (sent-domain sys h p a) t.within (t.trace.counted c)
       ∙ sym (ap length (sent-inside sys h p f w b l) ∙ from-length g ms);

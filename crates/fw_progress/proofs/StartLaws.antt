@@ -22,12 +22,13 @@ use Rattle.fw_flow.specs.WellFormed.{IsWellFormed}
 use Rattle.fw_lines.specs.Batches.{batches_at}
 use Rattle.fw_model.specs.History.{is_owed_notice, was_notified, IsComplete}
 use Rattle.fw_model.specs.Machine.{front_of, family_of, no_stamps, AreCanonical}
+use Rattle.fw_model.proofs.CarriedLaws.{carried-none}
 use Rattle.fw_model.proofs.DescentLaws.{total, total-less, covers-at}
 use Rattle.fw_model.proofs.TableLaws.{table-follows}
 use Rattle.fw_progress.specs.declared.counts.Counts.{Counts}
 use Rattle.fw_progress.specs.Counts.{batches_in, injected_in, owed_of, given_by, clear_by, come_by, target_by, is_in, AreCounts, AreNodes, IsStuckBy}
 use Rattle.fw_progress.specs.Growths.{IsEnlisted, ArePut}
-use Rattle.fw_progress.specs.History.{IsCountOf, AreKeptAdmissible}
+use Rattle.fw_progress.specs.History.{count_at, IsCountOf, AreKeptAdmissible}
 use Rattle.fw_progress.specs.Tally.{times_in}
 use Rattle.fw_progress.specs.Start.{AreLargest, AreOfNothing, HasFallen, IsShrunk}
 use Rattle.fw_progress.proofs.GrowLaws.{degrees-few, family_new, family_old, front_old, no_sender, receivers-nodes, set_canonical}
@@ -267,7 +268,7 @@ pub first-counts : (flow : Dataflow) (given : List (ℕ × List (List Rec))) (co
 first-counts flow given counts a =
     let sys = system_of flow given in
     record {
-      pending = λ e l t. ap (times_in t) (a.pending e) ∙ none-times t;
+      pending = λ e l t. ap (times_in t) (a.pending e) ∙ none-times t ∙ sym (ap (count_at t) (carried-none sys.flow e));
       owed = λ p l t. ap (λ xs. nat_lt 0 (times_in t xs)) (a.owed p) ∙ ap (nat_lt 0) (none-times t) ∙ sym (none-owed sys p t);
       batches = λ p l. a.batches p l ∙ ap length (sym (batches-are flow given p l));
       injected = λ p l. a.injected p;

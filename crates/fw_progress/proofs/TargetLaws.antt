@@ -23,7 +23,7 @@ use Rattle.fw_model.proofs.InputLaws.{input-bounds}
 use Rattle.fw_model.proofs.PhiLaws.{phi_by_count-monotone}
 use Rattle.fw_model.proofs.StampLaws.{in_line}
 use Rattle.fw_progress.specs.declared.counts.Counts.{Counts}
-use Rattle.fw_progress.specs.Counts.{AreCounts, pending_of, sent_of, batches_in, injected_in, given_by, clear_by, unpending_by, moves_stamps, carried_by, come_by, quiet_by, target_by}
+use Rattle.fw_progress.specs.Counts.{AreCounts, pending_of, sent_of, batches_in, injected_in, given_by, clear_by, unpending_by, moves_stamps, projected_by, come_by, quiet_by, target_by}
 use Rattle.fw_progress.specs.Tally.{IsTallyOf}
 
 -- ---- what an input gave
@@ -104,12 +104,12 @@ pub met-before : (b : Bounds) (x quiet f : Front) (entries counted : List (Stamp
 met-before b x quiet f entries counted e k q n = met b x quiet f (frontier_of b x) (frontier_of b (keys_of entries)) (named b x k) (subst (λ es. IsFrontOf b quiet (frontier_of b (keys_of es))) e q) n
 
 -- what comes on an edge, by what it carries
-pub come-carried : (flow : Dataflow) (counts : Counts) (e : ℕ) (g : Frontier) (carried f : Front) → IsFrontOf (bounds_of flow (receiver flow e)) carried (carried_by flow counts e g)
-    → IsFrontOf (bounds_of flow (receiver flow e)) f (meet (node_frontier flow (receiver flow e) carried) (unpending_by flow counts e))
+pub come-projected : (flow : Dataflow) (counts : Counts) (e : ℕ) (g : Frontier) (projected f : Front) → IsFrontOf (bounds_of flow (receiver flow e)) projected (projected_by flow counts e g)
+    → IsFrontOf (bounds_of flow (receiver flow e)) f (meet (node_frontier flow (receiver flow e) projected) (unpending_by flow counts e))
     → IsFrontOf (bounds_of flow (receiver flow e)) f (come_by flow counts e g)
-come-carried flow counts e g carried f a n = record {
+come-projected flow counts e g projected f a n = record {
   canonical = n.canonical;
-  same = λ t. n.same t ∙ ap (λ c. c && unpending_by flow counts e t) (a.same t) ∙ turned (carried_by flow counts e g t) (unpending_by flow counts e t);
+  same = λ t. n.same t ∙ ap (λ c. c && unpending_by flow counts e t) (a.same t) ∙ turned (projected_by flow counts e g t) (unpending_by flow counts e t);
 }
   where
     turned : (a b : Bool) → (a && b) ≡ (b && a)
@@ -210,13 +210,13 @@ pub left_come : (flow : Dataflow) (counts : Counts) (fronts : List Front) (p : �
 left_come flow counts fronts p f = left_by flow p f (λ d. come_by flow counts d (family_of flow fronts (sender flow d)))
 
 -- one in-edge more, by what it carries
-pub left_carried : (flow : Dataflow) (counts : Counts) (fronts : List Front) (p : ℕ) (old carried new : Front) (edges : List ℕ) (i e : ℕ)
+pub left_projected : (flow : Dataflow) (counts : Counts) (fronts : List Front) (p : ℕ) (old projected new : Front) (edges : List ℕ) (i e : ℕ)
     → edges ≡ in_edges flow p → i < length edges → e ≡ get_or edges i e
-    → IsFrontOf (bounds_of flow p) old (λ t. quiet_by flow counts p t && list_all (λ d. carried_by flow counts d (family_of flow fronts (sender flow d)) t) (take i edges))
-    → IsFrontOf (bounds_of flow (receiver flow e)) carried (carried_by flow counts e (family_of flow fronts (sender flow e)))
-    → (IsCanonical (bounds_of flow p) carried → IsFrontOf (bounds_of flow p) new (meet (frontier_of (bounds_of flow p) old) (frontier_of (bounds_of flow p) carried)))
-    → IsFrontOf (bounds_of flow p) new (λ t. quiet_by flow counts p t && list_all (λ d. carried_by flow counts d (family_of flow fronts (sender flow d)) t) (take (i + 1) edges))
-left_carried flow counts fronts p = left_by flow p (quiet_by flow counts p) (λ d. carried_by flow counts d (family_of flow fronts (sender flow d)))
+    → IsFrontOf (bounds_of flow p) old (λ t. quiet_by flow counts p t && list_all (λ d. projected_by flow counts d (family_of flow fronts (sender flow d)) t) (take i edges))
+    → IsFrontOf (bounds_of flow (receiver flow e)) projected (projected_by flow counts e (family_of flow fronts (sender flow e)))
+    → (IsCanonical (bounds_of flow p) projected → IsFrontOf (bounds_of flow p) new (meet (frontier_of (bounds_of flow p) old) (frontier_of (bounds_of flow p) projected)))
+    → IsFrontOf (bounds_of flow p) new (λ t. quiet_by flow counts p t && list_all (λ d. projected_by flow counts d (family_of flow fronts (sender flow d)) t) (take (i + 1) edges))
+left_projected flow counts fronts p = left_by flow p (quiet_by flow counts p) (λ d. projected_by flow counts d (family_of flow fronts (sender flow d)))
 
 -- one in-edge more, by what is pending on it
 pub left_quiet : (flow : Dataflow) (counts : Counts) (p : ℕ) (old new : Front) (edges : List ℕ) (i e : ℕ) → AreCounts flow counts
@@ -249,33 +249,33 @@ all-taken test (suc i) (e ∷ es) k =
     and_from (test e) (list_all test (take i es)) both.0 (all-taken test i es both.1)
 
 target-quiet : (flow : Dataflow) (counts : Counts) (fronts : List Front) (p : ℕ) (t : Stamp)
-    → target_by flow counts (family_of flow fronts) p t ≡ (quiet_by flow counts p t && list_all (λ e. carried_by flow counts e (family_of flow fronts (sender flow e)) t) (in_edges flow p))
+    → target_by flow counts (family_of flow fronts) p t ≡ (quiet_by flow counts p t && list_all (λ e. projected_by flow counts e (family_of flow fronts (sender flow e)) t) (in_edges flow p))
 target-quiet flow counts fronts p t =
     let quiet : ℕ → Bool = λ e. unpending_by flow counts e t in
-    let carried : ℕ → Bool = λ e. carried_by flow counts e (family_of flow fronts (sender flow e)) t in
-    ap (λ b. clear_by flow counts p t && b) (all-both quiet carried (in_edges flow p))
-    ∙ sym (and_assoc (clear_by flow counts p t) (list_all quiet (in_edges flow p)) (list_all carried (in_edges flow p)))
+    let projected : ℕ → Bool = λ e. projected_by flow counts e (family_of flow fronts (sender flow e)) t in
+    ap (λ b. clear_by flow counts p t && b) (all-both quiet projected (in_edges flow p))
+    ∙ sym (and_assoc (clear_by flow counts p t) (list_all quiet (in_edges flow p)) (list_all projected (in_edges flow p)))
 
 -- after all in-edges it is what the node can have
 pub left_all : (flow : Dataflow) (counts : Counts) (fronts : List Front) (p : ℕ) (left : Front) (edges : List ℕ) (i : ℕ) → edges ≡ in_edges flow p → length edges ≤ i
-    → IsFrontOf (bounds_of flow p) left (λ t. quiet_by flow counts p t && list_all (λ e. carried_by flow counts e (family_of flow fronts (sender flow e)) t) (take i edges))
+    → IsFrontOf (bounds_of flow p) left (λ t. quiet_by flow counts p t && list_all (λ e. projected_by flow counts e (family_of flow fronts (sender flow e)) t) (take i edges))
     → IsFrontOf (bounds_of flow p) left (target_by flow counts (family_of flow fronts) p)
 left_all flow counts fronts p left edges i es l n = record {
   canonical = n.canonical;
   same = λ t.
-      let carried : ℕ → Bool = λ e. carried_by flow counts e (family_of flow fronts (sender flow e)) t in
-      n.same t ∙ ap (λ ds. quiet_by flow counts p t && list_all carried ds) (take_all i edges l ∙ es) ∙ sym (target-quiet flow counts fronts p t);
+      let projected : ℕ → Bool = λ e. projected_by flow counts e (family_of flow fronts (sender flow e)) t in
+      n.same t ∙ ap (λ ds. quiet_by flow counts p t && list_all projected ds) (take_all i edges l ∙ es) ∙ sym (target-quiet flow counts fronts p t);
 }
 
 -- before, the node can have no more than that
 pub left_within : (flow : Dataflow) (counts : Counts) (fronts : List Front) (p : ℕ) (left : Front) (edges : List ℕ) (i : ℕ) → edges ≡ in_edges flow p
-    → IsFrontOf (bounds_of flow p) left (λ t. quiet_by flow counts p t && list_all (λ e. carried_by flow counts e (family_of flow fronts (sender flow e)) t) (take i edges))
+    → IsFrontOf (bounds_of flow p) left (λ t. quiet_by flow counts p t && list_all (λ e. projected_by flow counts e (family_of flow fronts (sender flow e)) t) (take i edges))
     → Within (target_by flow counts (family_of flow fronts) p) (node_frontier flow p left)
 left_within flow counts fronts p left edges i es n t k =
-    let carried : ℕ → Bool = λ e. carried_by flow counts e (family_of flow fronts (sender flow e)) t in
-    let both = and_parts (quiet_by flow counts p t) (list_all carried (in_edges flow p)) (sym (target-quiet flow counts fronts p t) ∙ k) in
-    n.same t ∙ and_from (quiet_by flow counts p t) (list_all carried (take i edges)) both.0
-    (all-taken carried i edges (ap (list_all carried) es ∙ both.1))
+    let projected : ℕ → Bool = λ e. projected_by flow counts e (family_of flow fronts (sender flow e)) t in
+    let both = and_parts (quiet_by flow counts p t) (list_all projected (in_edges flow p)) (sym (target-quiet flow counts fronts p t) ∙ k) in
+    n.same t ∙ and_from (quiet_by flow counts p t) (list_all projected (take i edges)) both.0
+    (all-taken projected i edges (ap (list_all projected) es ∙ both.1))
 
 -- ---- larger families
 

@@ -77,12 +77,12 @@ moves_stamps (Regroup n) = true
 moves_stamps kind = false
 
 -- all that can come on an edge by a frontier of its sender
-abbrev pub carried_by : Dataflow → Counts → ℕ → Frontier → Frontier
-carried_by flow counts e f = phi_by_count flow (table_count f (sent_of counts (sender flow e))) e f
+abbrev pub projected_by : Dataflow → Counts → ℕ → Frontier → Frontier
+projected_by flow counts e f = phi_by_count flow (table_count f (sent_of counts (sender flow e))) e f
 
 -- up to where nothing is pending on an edge, and all came that can come by a frontier of its sender
 abbrev pub come_by : Dataflow → Counts → ℕ → Frontier → Frontier
-come_by flow counts e f = meet (unpending_by flow counts e) (carried_by flow counts e f)
+come_by flow counts e f = meet (unpending_by flow counts e) (projected_by flow counts e f)
 
 -- up to where nothing is owed to a node and nothing is pending on its in-edges, and an input injected all
 abbrev pub quiet_by : Dataflow → Counts → ℕ → Frontier

@@ -43,8 +43,9 @@ sent_stamp_at flow p s = if in_domain (bounds_of flow p) s then send_stamp flow 
 abbrev pub send_stamps : Dataflow → ℕ → List Stamp → List Stamp
 send_stamps flow p ss = flat_map (λ s. option_to_list (sent_stamp_at flow p s)) ss
 
--- the stamps that stand for those at which node p sends by its events inside a frontier
+-- the stamps that stand for those at which the sender of edge e sends there by its events inside a frontier
 abbrev pub sent_inside : Dataflow → Traces → ℕ → Front → List Stamp
-sent_inside flow traces p f =
-    if is_sequence_kind (kind_of flow p) then last_number ((counted_of traces p).inside + count_inside (inside f) (counted_of traces p).outside)
-    else send_stamps flow p (filter (inside f) (stamps_where_sent traces p))
+sent_inside flow traces e f =
+    if is_sequence_kind (kind_of flow (sender flow e))
+    then last_number ((counted_of traces (sender flow e)).inside + count_inside (inside f) (counted_of traces (sender flow e)).outside)
+    else send_stamps flow (sender flow e) (filter (inside f) (stamps_where_sent traces e))

@@ -8,14 +8,14 @@ use Rattle.fw_flow.specs.declared.event.Event.{Event}
 use Rattle.fw_flow.specs.declared.event.Event.TheVariants.{Deliver, Notify}
 use Rattle.fw_flow.specs.declared.event.Message.{Message}
 use Rattle.fw_flow.specs.declared.kind.Kind.TheVariants.{Input}
-use Rattle.fw_flow.specs.Dataflow.{Dataflow, System, kind_of, receiver, node_frontier, HasEpochs}
-use Rattle.fw_flow.specs.NodeFunction.{event_node, event_stamp, sent_by}
+use Rattle.fw_flow.specs.Dataflow.{Dataflow, System, kind_of, sender, receiver, node_frontier, HasEpochs}
+use Rattle.fw_flow.specs.NodeFunction.{event_node, event_stamp}
 use Rattle.fw_flow.specs.Projection.{events_at}
 use Rattle.fw_flow.specs.WellFormed.{IsWellFormed}
 use Rattle.fw_model.specs.Covers.{stamp_of_notice}
 use Rattle.fw_model.specs.EventStamps.{causes_in, tells_sent}
 use Rattle.fw_model.specs.Filtering.{AreFrontiers, kept_events}
-use Rattle.fw_model.specs.History.{delivered_messages, is_owed_notice, IsComplete, IsLegal}
+use Rattle.fw_model.specs.History.{delivered_messages, sent_messages, is_owed_notice, IsComplete, IsLegal}
 use Rattle.fw_model.specs.Machine.{Machine, events, family_of, AreCanonical}
 use Rattle.fw_model.specs.Steps.{GrowsTo}
 use Rattle.fw_progress.specs.declared.traces.Traces.{Traces}
@@ -48,12 +48,13 @@ KnownIsTheTrace = (sys : System) (h these : List Event) (p : ℕ) (base : Fronti
     → events_at sys.flow p these ≡ events_at sys.flow p h → tells_sent sys.flow p ≡ false → counts_sent sys.flow p ≡ false
     → IsTraceAmong sys h p traces → HasTraceOutside sys.flow these p base traces → IsTraceIf false sys h p base traces
 
--- In a legal history, where what is kept of an input is of what happened, and has each stamp outside a base at which it sent, it is its
--- trace.
+-- In a legal history, where what is kept of an input is of what happened, and has of each out-edge each stamp outside a base at which it
+-- sent there, it is its trace.
 abbrev pub InputsAreKnown : Type 0
 InputsAreKnown = (sys : System) (h : List Event) (p : ℕ) (base : Frontier) (traces : Traces) → IsWellFormed sys.flow → IsLegal sys h
     → p < length sys.flow.nodes → kind_of sys.flow p ≡ Input → IsTraceAmong sys h p traces
-    → HasOutside base (causes_in (sent_by sys p (events_at sys.flow p h))) (stamps_where_sent traces p) → IsTraceIf false sys h p base traces
+    → ((e : ℕ) → e < length sys.flow.edges → sender sys.flow e ≡ p → HasOutside base (causes_in (sent_messages sys h e)) (stamps_where_sent traces e))
+    → IsTraceIf false sys h p base traces
 
 -- Traces of no event are of each history. Where they are told of an event of a history, what is known of them is of that history, and they have of some events with this
 -- one what they had of these; where they are not, they have it too, if it is inside the base.
@@ -66,10 +67,12 @@ pub record ToldIsKnown : Type 0 where
   pub notified : (q : ℕ) (t : Stamp) (old new : Traces) → HasNotifiedMore q t old new → (sys : System) (p : ℕ)
       → ((h : List Event) → (q ≡ p → Contains (flat_map (stamp_of_notice p) h) t) → IsTraceAmong sys h p old → IsTraceAmong sys h p new)
       × ((these : List Event) (base : Frontier) → HasTraceOutside sys.flow these p base old → HasTraceOutside sys.flow (Notify q t ∷ these) p base new)
-  pub sent : (q : ℕ) (t : Stamp) (old new : Traces) → HasSentMore q t old new → (sys : System) (p : ℕ)
-      → ((h : List Event) → (q ≡ p → Contains (causes_in (sent_by sys p (events_at sys.flow p h))) t) → IsTraceAmong sys h p old → IsTraceAmong sys h p new)
+  pub sent : (flow : Dataflow) (q : ℕ) (t : Stamp) (old new : Traces) → HasSentMore flow q t old new → (sys : System) (p : ℕ) → sys.flow ≡ flow
+      → ((h : List Event) → ((e : ℕ) → e < length sys.flow.edges → sender sys.flow e ≡ q → Contains (causes_in (sent_messages sys h e)) t)
+      → IsTraceAmong sys h p old → IsTraceAmong sys h p new)
       × ((these : List Event) (base : Frontier) → HasTraceOutside sys.flow these p base old → HasTraceOutside sys.flow these p base new)
-      × ((stamps : List Stamp) (base : Frontier) → HasOutside base stamps (stamps_where_sent old q) → HasOutside base (t ∷ stamps) (stamps_where_sent new q))
+      × ((e : ℕ) → e < length flow.edges → sender flow e ≡ q → (stamps : List Stamp) (base : Frontier)
+      → HasOutside base stamps (stamps_where_sent old e) → HasOutside base (t ∷ stamps) (stamps_where_sent new e))
   pub passes : (flow : Dataflow) (v : Event) (these : List Event) (p : ℕ) (base : Frontier) (traces : Traces)
       → (event_node flow v ≡ p → base (event_stamp v) ≡ true) → HasTraceOutside flow these p base traces → HasTraceOutside flow (v ∷ these) p base traces
 

@@ -5,7 +5,7 @@ use Rattle.fw_time.specs.Stamp.{Stamp}
 use Rattle.fw_frontier.specs.Front.{Front, inside}
 use Rattle.fw_flow.specs.declared.choice.Counted.{Counted}
 use Rattle.fw_flow.specs.declared.choice.Stamps.{Stamps}
-use Rattle.fw_flow.specs.Dataflow.{Dataflow, kind_of, receiver, in_edges, out_edges, is_sequence_kind}
+use Rattle.fw_flow.specs.Dataflow.{Dataflow, kind_of, sender, receiver, in_edges, out_edges, is_sequence_kind}
 use Rattle.fw_model.specs.EventStamps.{causes_of}
 use Rattle.fw_model.specs.Offers.{counted_on_edge, stamps_on}
 use Rattle.fw_progress.specs.declared.sent_tally.SentTally.{SentTally}
@@ -47,19 +47,19 @@ counted_at_stamps flow p ss e = flat_map (λ s. message_of e s (sent_stamp_at fl
 abbrev pub messages_numbered : List Stamp → ℕ → List Counted
 messages_numbered ss e = map (λ s. record { edge = e; at = s; causes = (0 ∷ []) ∷ []; count = 1 }) ss
 
--- on each out-edge of node p one message of each event at these stamps that sends; of a sequence that sent so many the last one, if
--- they are counted
-abbrev pub all_sent : Dataflow → ℕ → List Stamp → ℕ → List Counted
-all_sent flow p ss n =
+-- on each out-edge of node p one message of each event that sends, at the stamps that are kept of the edge; of a sequence that sent so
+-- many the last one, if they are counted
+abbrev pub all_sent : Dataflow → ℕ → (ℕ → List Stamp) → ℕ → List Counted
+all_sent flow p kept n =
     if is_sequence_kind (kind_of flow p) then (if counts_sent flow p then flat_map (messages_numbered (last_number n)) (out_edges flow p) else [])
-    else flat_map (counted_at_stamps flow p ss) (out_edges flow p)
+    else flat_map (λ e. counted_at_stamps flow p (kept e) e) (out_edges flow p)
 
 -- the traces of node p as data: in all, or of its events inside a frontier
 abbrev pub stamps_by : Dataflow → ℕ → Option Front → Traces → Stamps
 stamps_by flow p part traces = record {
   delivered = all_delivered flow p (λ d. taken part (delivered_on traces d));
   notified = taken part (stamps_notified traces p);
-  sent = all_sent flow p (taken part (stamps_where_sent traces p)) (count_taken part (counted_of traces p));
+  sent = all_sent flow p (λ e. taken part (stamps_where_sent traces e)) (count_taken part (counted_of traces p));
 }
 
 -- The data have the stamps that are kept of node p: of what was delivered on each in-edge, and of which it was notified.
@@ -90,18 +90,17 @@ pub record AreDelivered (flow : Dataflow) (p : ℕ) (ms : List Counted) (old new
   pub here : (d : ℕ) → d < length flow.edges → receiver flow d ≡ p → AreTheSame (stamps_on d ms) (slice_index_or new d [])
   pub others : (d : ℕ) → receiver flow d ≢ p → slice_index_or new d [] ≡ slice_index_or old d []
 
--- the causes of the messages on the first of these edges, if there is one
-abbrev pub causes_on_first : List ℕ → List Counted → List Stamp
-causes_on_first [] ms = []
-causes_on_first (e ∷ es) ms = causes_of (counted_on_edge e ms)
-
--- what is kept of where node p sent is the causes of these messages on its first out-edge, unless it is a sequence
-abbrev pub AreCausesOnFirst : Dataflow → ℕ → List Counted → List Stamp → List Stamp → Type 0
-AreCausesOnFirst flow p ms old new = is_sequence_kind (kind_of flow p) ≡ false → AreTheSame (causes_on_first (out_edges flow p) ms) new
+-- The lists of the out-edges of node p are the causes of these messages, each of its edge, unless it is a sequence, and the others are
+-- as they were.
+pub record AreCausesOnEdges (flow : Dataflow) (p : ℕ) (ms : List Counted) (old new : List (List Stamp)) : Type 0 where
+  pub one_each : length new ≡ length old
+  pub here : (e : ℕ) → e < length flow.edges → sender flow e ≡ p → is_sequence_kind (kind_of flow p) ≡ false
+      → AreTheSame (causes_of (counted_on_edge e ms)) (slice_index_or new e [])
+  pub others : (e : ℕ) → sender flow e ≢ p → slice_index_or new e [] ≡ slice_index_or old e []
 
 -- The traces of node p have what the data tell, and those of the others are as they were.
 pub record AreTold (flow : Dataflow) (p : ℕ) (stamps : Stamps) (count : ℕ) (old new : Traces) : Type 0 where
   pub delivered : AreDelivered flow p stamps.delivered old.delivered.items new.delivered.items
   pub notified : ChangesAt p [] (λ old new. AreTheSame stamps.notified new) old.notified.items new.notified.items
-  pub sent : ChangesAt p [] (AreCausesOnFirst flow p stamps.sent) old.sent.items new.sent.items
+  pub sent : AreCausesOnEdges flow p stamps.sent old.sent.items new.sent.items
   pub counted : ChangesAt p no_tally (λ old new. new ≡ record { inside = count; outside = [] }) old.counted.items new.counted.items

@@ -13,7 +13,7 @@ use Rattle.fw_flow.specs.Projection.{events_at}
 use Rattle.fw_model.specs.Covers.{stamp_of_notice}
 use Rattle.fw_model.specs.EventStamps.{causes_in, base_of_sent, tells_sent, AreStampsIf}
 use Rattle.fw_model.specs.Filtering.{AreFrontiers, kept_events}
-use Rattle.fw_model.specs.History.{delivered_messages, AreEventsInDomain, IsLegal}
+use Rattle.fw_model.specs.History.{delivered_messages, sent_messages, AreEventsInDomain, IsLegal}
 use Rattle.fw_model.specs.Thinned.{IsThinned, IsThinnedIf}
 use Rattle.fw_model.specs.Writes.{takes_checkpoints}
 use Rattle.fw_progress.specs.declared.sent_tally.SentTally.{SentTally}
@@ -21,7 +21,7 @@ use Rattle.fw_progress.specs.declared.traces.Traces.{Traces}
 use Rattle.fw_progress.specs.History.{stamps_sent}
 use Rattle.fw_progress.specs.Progress.{ChangesAt}
 use Rattle.fw_progress.specs.SentTally.{IsSentTally, CountsMore, IsCountedInAll, IsTallyCutTo}
-use Rattle.fw_progress.specs.Traces.{ChangesInto, HasAdded, IsThinnedBy, StandsInside}
+use Rattle.fw_progress.specs.Traces.{ChangesInto, ChangesOut, HasAdded, IsThinnedBy, StandsInside}
 
 -- the stamps that are kept of what was delivered on an edge
 abbrev pub delivered_on : Traces → ℕ → List Stamp
@@ -31,9 +31,9 @@ delivered_on traces d = slice_index_or traces.delivered.items d []
 abbrev pub stamps_notified : Traces → ℕ → List Stamp
 stamps_notified traces p = slice_index_or traces.notified.items p []
 
--- those at which events of a node sent something
+-- those at which events of its sender sent something on an edge
 abbrev pub stamps_where_sent : Traces → ℕ → List Stamp
-stamps_where_sent traces p = slice_index_or traces.sent.items p []
+stamps_where_sent traces e = slice_index_or traces.sent.items e []
 
 -- a tally of nothing
 abbrev pub no_tally : SentTally
@@ -51,27 +51,22 @@ counts_sent flow p = takes_checkpoints (policy_of flow p)
 pub record HaveLists (flow : Dataflow) (traces : Traces) : Type 0 where
   pub delivered_each : length traces.delivered.items ≡ length flow.edges
   pub notified_each : length traces.notified.items ≡ length flow.nodes
-  pub sent_each : length traces.sent.items ≡ length flow.nodes
+  pub sent_each : length traces.sent.items ≡ length flow.edges
   pub counted_each : length traces.counted.items ≡ length flow.nodes
 
 -- the same, unless memory was refused
 abbrev pub AreTraces : Dataflow → Traces → Type 0
 AreTraces flow traces = traces.refused ≡ false → HaveLists flow traces
 
--- an edge leads from node p
-abbrev pub HasOutEdge : Dataflow → ℕ → Type 0
-HasOutEdge flow p = (e : ℕ) × (e < length flow.edges) × (sender flow e ≡ p)
-
 -- The traces of node p are those of its events in a history, thinned inside a base: where something was delivered on its in-edges,
--- of what it was notified, where its events sent something, if an edge leads from it, and how many messages they sent. Where perhaps
+-- of what it was notified, where its events sent something on its out-edges, and how many messages they sent. Where perhaps
 -- not the whole is asked, of the stamps inside the base some may be missing. Where a node sent that can send it again need not be told.
 pub record IsTraceIf (whole : Bool) (sys : System) (h : List Event) (p : ℕ) (base : Frontier) (traces : Traces) : Type 0 where
   pub delivered : (d : ℕ) → d < length sys.flow.edges → receiver sys.flow d ≡ p
       → IsThinnedIf whole base (map (λ (m : Message). m.at) (delivered_messages h d)) (delivered_on traces d)
   pub notified : IsThinnedIf whole base (flat_map (stamp_of_notice p) h) (stamps_notified traces p)
-  pub sent : HasOutEdge sys.flow p → is_sequence_kind (kind_of sys.flow p) ≡ false
-      → IsThinnedIf (whole && tells_sent sys.flow p) (base_of_sent sys.flow p base) (causes_in (sent_by sys p (events_at sys.flow p h)))
-      (stamps_where_sent traces p)
+  pub sent : (e : ℕ) → e < length sys.flow.edges → sender sys.flow e ≡ p → is_sequence_kind (kind_of sys.flow p) ≡ false
+      → IsThinnedIf (whole && tells_sent sys.flow p) (base_of_sent sys.flow p base) (causes_in (sent_messages sys h e)) (stamps_where_sent traces e)
   pub counted : counts_sent sys.flow p ≡ true → IsSentTally base (sent_by sys p (events_at sys.flow p h)) (counted_of traces p)
 
 -- the same, where the whole is asked of a node that takes checkpoints
@@ -83,8 +78,8 @@ pub record IsTraceAmong (sys : System) (h : List Event) (p : ℕ) (traces : Trac
   pub delivered : (d : ℕ) → d < length sys.flow.edges → receiver sys.flow d ≡ p
       → AllByRecursion (Contains (map (λ (m : Message). m.at) (delivered_messages h d))) (delivered_on traces d)
   pub notified : AllByRecursion (Contains (flat_map (stamp_of_notice p) h)) (stamps_notified traces p)
-  pub sent : HasOutEdge sys.flow p → is_sequence_kind (kind_of sys.flow p) ≡ false
-      → AllByRecursion (Contains (causes_in (sent_by sys p (events_at sys.flow p h)))) (stamps_where_sent traces p)
+  pub sent : (e : ℕ) → e < length sys.flow.edges → sender sys.flow e ≡ p → is_sequence_kind (kind_of sys.flow p) ≡ false
+      → AllByRecursion (Contains (causes_in (sent_messages sys h e))) (stamps_where_sent traces e)
 
 -- the stamps outside a base are among these
 abbrev pub HasOutside : Frontier → List Stamp → List Stamp → Type 0
@@ -116,7 +111,7 @@ KeepsOthers flow p old new =
 pub record KeepsLists (flow : Dataflow) (p : ℕ) (old new : Traces) : Type 0 where
   pub delivered : (d : ℕ) → receiver flow d ≡ p → delivered_on new d ≡ delivered_on old d
   pub notified : stamps_notified new p ≡ stamps_notified old p
-  pub sent : stamps_where_sent new p ≡ stamps_where_sent old p
+  pub sent : (e : ℕ) → sender flow e ≡ p → stamps_where_sent new e ≡ stamps_where_sent old e
 
 -- traces follow an event at which its node sends at these stamps: they are those of the history that goes on with the event, where
 -- they were those of the history before
@@ -129,7 +124,7 @@ TracesFollow flow v sent old new =
 pub record HaveChanged (flow : Dataflow) (p : ℕ) (R : List Stamp → List Stamp → Type 0) (T : SentTally → SentTally → Type 0) (old new : Traces) : Type 0 where
   pub delivered : ChangesInto flow p R old.delivered.items new.delivered.items
   pub notified : ChangesAt p [] R old.notified.items new.notified.items
-  pub sent : ChangesAt p [] R old.sent.items new.sent.items
+  pub sent : ChangesOut flow p R old.sent.items new.sent.items
   pub counted : ChangesAt p no_tally T old.counted.items new.counted.items
 
 -- the stamps that are kept of node p are thinned inside a frontier, and its messages inside are counted in all
@@ -178,11 +173,11 @@ pub record HasNotifiedMore (p : ℕ) (at : Stamp) (old new : Traces) : Type 0 wh
   pub sent : new.sent.items ≡ old.sent.items
   pub counted : new.counted.items ≡ old.counted.items
 
--- One stamp more is kept of those at which node p sent.
-pub record HasSentMore (p : ℕ) (at : Stamp) (old new : Traces) : Type 0 where
+-- One stamp more is kept of those at which node p sent, on each of its out-edges.
+pub record HasSentMore (flow : Dataflow) (p : ℕ) (at : Stamp) (old new : Traces) : Type 0 where
   pub delivered : new.delivered.items ≡ old.delivered.items
   pub notified : new.notified.items ≡ old.notified.items
-  pub sent : ChangesAt p [] (HasAdded at) old.sent.items new.sent.items
+  pub sent : ChangesOut flow p (HasAdded at) old.sent.items new.sent.items
   pub counted : new.counted.items ≡ old.counted.items
 
 -- ---- for the proofs
@@ -201,7 +196,7 @@ SentMore flow p at count old new = is_sequence_kind (kind_of flow p) ≡ false �
 abbrev pub CountedMore : Dataflow → ℕ → Stamp → ℕ → SentTally → SentTally → Type 0
 CountedMore flow p at count old new = counts_sent flow p ≡ true → CountsMore at count old new
 
--- An event of node p at a stamp sends so many messages.
+-- An event of node p at a stamp sends so many messages, on each of its out-edges.
 pub record HasSent (flow : Dataflow) (p : ℕ) (at : Stamp) (count : ℕ) (old new : Traces) : Type 0 where
-  pub sent : ChangesAt p [] (SentMore flow p at count) old.sent.items new.sent.items
+  pub sent : ChangesOut flow p (SentMore flow p at count) old.sent.items new.sent.items
   pub counted : ChangesAt p no_tally (CountedMore flow p at count) old.counted.items new.counted.items

@@ -6,7 +6,7 @@ use Rattle.fw_time.specs.Stamp.{Stamp, leq, lesser, in_domain, stamp_cmp}
 use Rattle.fw_time.specs.declared.stamp.Bounds.{Bounds}
 use Rattle.fw_frontier.specs.Frontier.{Frontier, Within}
 use Rattle.fw_frontier.specs.Front.{Front, inside, frontier_of}
-use Rattle.fw_flow.specs.Dataflow.{Dataflow, receiver}
+use Rattle.fw_flow.specs.Dataflow.{Dataflow, sender, receiver}
 use Rattle.fw_model.specs.Thinned.{IsThinned}
 
 -- whether one of these stamps is inside and greater
@@ -56,6 +56,12 @@ pub record ChangesInto (flow : Dataflow) (p : ℕ) (R : List Stamp → List Stam
   pub one_each : length new ≡ length old
   pub here : (d : ℕ) → d < length flow.edges → receiver flow d ≡ p → R (slice_index_or old d []) (slice_index_or new d [])
   pub others : (d : ℕ) → receiver flow d ≢ p → slice_index_or new d [] ≡ slice_index_or old d []
+
+-- the lists of a node's out-edges are changed so, and those of the other edges are as they were
+pub record ChangesOut (flow : Dataflow) (p : ℕ) (R : List Stamp → List Stamp → Type 0) (old new : List (List Stamp)) : Type 0 where
+  pub one_each : length new ≡ length old
+  pub here : (e : ℕ) → e < length flow.edges → sender flow e ≡ p → R (slice_index_or old e []) (slice_index_or new e [])
+  pub others : (e : ℕ) → sender flow e ≢ p → slice_index_or new e [] ≡ slice_index_or old e []
 
 -- ---- for the proofs
 

@@ -70,7 +70,7 @@ impl Traces {
         if self.refused {
             return Err(AllocError);
         }
-        let sent = self.sent_inside(alloc, flow, flow.src(edge), f)?;
+        let sent = self.sent_inside(alloc, flow, edge, f)?;
         Front::cover_of(alloc, &sent, &flow.domain(flow.dst(edge)))
     }
 
@@ -92,24 +92,26 @@ impl Traces {
         self.counted[node.place() as usize].count(f)
     }
 
-    /// Stamps that stand for those at which a node sends by its events inside a frontier: of a sequence the last one. The
-    /// error is want of memory, or that the number of what a sequence sent would not fit its stamps.
+    /// Stamps that stand for those at which the sender of an edge sends there by its events inside a frontier: of a sequence
+    /// the last one. The error is want of memory, or that the number of what a sequence sent would not fit its stamps.
     fn sent_inside(
         &self,
         alloc: Global,
         flow: &Flow,
-        node: NodeId,
+        edge: EdgeId,
         f: &Front,
     ) -> Result<Vec<Stamp>, AllocError>
         requires lists { HaveLists flow.now self.now }
-        requires there { node < length flow.now.nodes }
-        ensures { IfOk result (λ sent. sent.items ≡ spec.sent_inside flow.now self.now node f.now) }
+        requires there { edge < length flow.now.edges }
+        requires node { sender flow.now edge < length flow.now.nodes }
+        ensures { IfOk result (λ sent. sent.items ≡ spec.sent_inside flow.now self.now edge f.now) }
     {
-        let place = node.place() as usize;
+        let node = flow.src(edge);
         if flow.kind(node).is_sequence() {
-            last_number(alloc, self.counted[place].count(f)?)
+            last_number(alloc, self.counted[node.place() as usize].count(f)?)
         } else {
-            send_stamps(alloc, flow, node, &self.sent[place].stamps_inside(f)?)
+            let kept = self.sent[edge.place() as usize].stamps_inside(f)?;
+            send_stamps(alloc, flow, node, &kept)
         }
     }
 }

@@ -10,7 +10,7 @@ ghost use Rattle.fw_progress.specs.Growths.{IsMore, IsNoMore, IsGrown, IsTakenUp
 use crate::counts::Counts;
 use crate::growth::{Growth, Growths};
 use crate::leap::leap;
-use crate::target::{carried, narrow, quiet};
+use crate::target::{narrow, projected, quiet};
 use crate::worklist::Worklist;
 use fw_flow::laws::flow_is_well_formed;
 use fw_flow::{Flow, NodeId};
@@ -58,8 +58,8 @@ pub(crate) fn larger(
         if left.subset(kept) {
             return Ok(None);
         }
-        let carried = carried(alloc, flow, counts, fronts, *edge)?;
-        narrow(&mut left, carried)?;
+        let projected = projected(alloc, flow, counts, fronts, *edge)?;
+        narrow(&mut left, projected)?;
     }
     if !is_more(flow, fronts, node, &left) {
         return Ok(None);

@@ -2,7 +2,7 @@
 ghost use Rattle.std.specs.Prelude.{◌≡◌, ◌<◌, ◌∷◌, [], false, length, IsTrue, IsErr, IfOk};
 ghost use Rattle.fw_progress.specs.Trace.{AreTraces, HasDeliveredMore, HasNotifiedMore, HasSentMore};
 
-use crate::traces::{Traces, add_at};
+use crate::traces::{Traces, add_at, add_out};
 use fw_flow::{EdgeId, Flow, NodeId};
 use fw_time::Stamp;
 use std::alloc::AllocError;
@@ -59,12 +59,12 @@ impl Traces {
     }
 
     /// The inputs tell that the node injected its batch of the epoch, and that this is not empty: the epoch is kept as one at
-    /// which the node sent. The error is want of memory.
+    /// which the node sent, on each of its out-edges. The error is want of memory.
     pub fn recall_batch(&mut self, flow: &Flow, node: NodeId, epoch: u32) -> Result<(), AllocError>
         requires traces { AreTraces flow.now self.old }
         requires there { node < length flow.now.nodes }
         ensures traces { AreTraces flow.now self.new }
-        ensures recalled { IfOk result (λ u. HasSentMore node (epoch ∷ []) self.old self.new) }
+        ensures recalled { IfOk result (λ u. HasSentMore flow.now node (epoch ∷ []) self.old self.new) }
         ensures ready { IfOk result (λ u. self.new.refused ≡ false) }
         ensures refused { IsErr result → IsTrue self.new.refused }
         ensures stays { IsTrue self.old.refused → IsErr result }
@@ -73,7 +73,7 @@ impl Traces {
             return Err(AllocError);
         }
         self.refused = true;
-        add_at(&mut self.sent, node.place() as usize, &Stamp::new(&[epoch]))?;
+        add_out(flow, &mut self.sent, node, &Stamp::new(&[epoch]))?;
         self.refused = false;
         Ok(())
     }

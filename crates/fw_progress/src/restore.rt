@@ -3,7 +3,7 @@ ghost use Rattle.std.specs.Prelude.{◌≡◌, ◌<◌, ◌∷◌, [], ℕ, fals
 ghost use Rattle.fw_model.specs.EventStamps.{causes_of};
 ghost use Rattle.fw_model.specs.Offers.{counted_on_edge};
 ghost use Rattle.fw_progress.specs.Progress.{ChangesAt};
-ghost use Rattle.fw_progress.specs.StampData.{AreTheSame, TakeUp, AreDelivered, AreCausesOnFirst};
+ghost use Rattle.fw_progress.specs.StampData.{AreTheSame, TakeUp, AreDelivered, AreCausesOnEdges};
 ghost use Rattle.fw_progress.specs.Traces.{ChangesInto};
 ghost use Rattle.fw_progress.specs.Trace.{AreTraces, AreRestoredTo, no_tally};
 
@@ -134,26 +134,39 @@ fn restore_notified(
     Ok(())
 }
 
-/// The list of a node that is no sequence becomes the causes of these messages on its first out-edge; they stand for the same
-/// on each. The error is want of memory.
+/// The lists of a node's out-edges become the causes of these messages, each of its edge, unless the node is a sequence. The
+/// error is want of memory.
 fn restore_sent(
     flow: &Flow,
     lists: &mut Vec<KeptStamps>,
     node: NodeId,
     messages: &[Counted],
 ) -> Result<(), AllocError>
-    requires { node < length lists.old.items }
-    ensures { IfOk result (λ u. ChangesAt node [] (AreCausesOnFirst flow.now node messages.now) lists.old.items lists.new.items) }
+    requires { length lists.old.items ≡ length flow.now.edges }
+    ensures { IfOk result (λ u. AreCausesOnEdges flow.now node messages.now lists.old.items lists.new.items) }
 {
     if flow.kind(node).is_sequence() {
         return Ok(());
     }
+    let edges = flow.out_edges(node);
+    for edge in edges {
+        restore_on(lists, *edge, messages)?;
+    }
+    Ok(())
+}
+
+/// The list of an edge becomes the causes of these messages on it. The error is want of memory.
+fn restore_on(
+    lists: &mut Vec<KeptStamps>,
+    edge: EdgeId,
+    messages: &[Counted],
+) -> Result<(), AllocError>
+    requires { edge < length lists.old.items }
+    ensures { IfOk result (λ u. ChangesAt edge [] (λ old new. AreTheSame (causes_of (counted_on_edge edge messages.now)) new)
+        lists.old.items lists.new.items) }
+{
     let alloc = *lists.allocator();
-    let kept = match flow.out_edges(node).first() {
-        Some(edge) => causes_on(alloc, *edge, messages)?,
-        None => KeptStamps::new(alloc),
-    };
-    lists[node.place() as usize] = kept;
+    lists[edge.place() as usize] = causes_on(alloc, edge, messages)?;
     Ok(())
 }
 

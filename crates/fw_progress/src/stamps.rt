@@ -79,9 +79,8 @@ impl Traces {
         let place = node.place() as usize;
         let delivered = all_delivered(alloc, flow, node, &self.delivered, f)?;
         let notified = taken(&self.notified[place], f)?;
-        let kept = taken(&self.sent[place], f)?;
         let count = count_taken(alloc, &self.counted[place], f)?;
-        let sent = all_sent(alloc, flow, node, &kept, count)?;
+        let sent = all_sent(alloc, flow, node, &self.sent, f, count)?;
         Ok(Stamps {
             delivered: CountedMessages::of(delivered),
             notified: Notices::of(notified),
@@ -175,16 +174,20 @@ fn message(edge: EdgeId, at: Stamp, cause: &Stamp) -> Counted
     }
 }
 
-/// On each out-edge of a node one message of each event at these stamps that sends; of a sequence that sent so many the last
-/// one, if they are counted. The error is want of memory, or that the last number would not fit a stamp.
+/// On each out-edge of a node one message of each event that sends, at each stamp that is taken of the edge; of a sequence
+/// that sent so many the last one, if they are counted. The error is want of memory, or that the last number would not fit a
+/// stamp.
 fn all_sent(
     alloc: Global,
     flow: &Flow,
     node: NodeId,
-    stamps: &[Stamp],
+    lists: &[KeptStamps],
+    f: Option<&Front>,
     count: u64,
 ) -> Result<Vec<Counted>, AllocError>
-    ensures { IfOk result (λ ms. ms.items ≡ spec.all_sent flow.now node stamps.now count) }
+    requires { length lists.now ≡ length flow.now.edges }
+    ensures { IfOk result (λ ms. ms.items ≡ spec.all_sent flow.now node
+        (λ e. spec.taken (option_copied f.entry) (slice_index_or lists.now e [])) count) }
 {
     if flow.kind(node).is_sequence() {
         if !counts_sent(flow, node) {
@@ -195,9 +198,27 @@ fn all_sent(
     let mut messages = Vec::new(alloc);
     let edges = flow.out_edges(node);
     for edge in edges {
-        push_sent(&mut messages, flow, node, *edge, stamps)?;
+        push_taken(&mut messages, flow, node, *edge, lists, f)?;
     }
     Ok(messages)
+}
+
+/// Adds one message on an out-edge of each event that sends, at each stamp that is taken of the edge. The error is want of
+/// memory.
+fn push_taken(
+    messages: &mut Vec<Counted>,
+    flow: &Flow,
+    node: NodeId,
+    edge: EdgeId,
+    lists: &[KeptStamps],
+    f: Option<&Front>,
+) -> Result<(), AllocError>
+    requires { edge < length lists.now }
+    ensures { OnOk result (messages.new.items ≡ messages.old.items
+        ++ spec.counted_at_stamps flow.now node (spec.taken (option_copied f.entry) (slice_index_or lists.now edge [])) edge) }
+{
+    let kept = taken(&lists[edge.place() as usize], f)?;
+    push_sent(messages, flow, node, edge, &kept)
 }
 
 /// Adds one message on an out-edge of each event at these stamps that sends. The error is want of memory.

@@ -97,7 +97,7 @@ fn moves_stamps(kind: Kind) -> bool
 }
 
 /// All that can come on an edge by the frontier of its sender. The error is want of memory.
-pub(crate) fn carried(
+pub(crate) fn projected(
     alloc: Global,
     flow: &Flow,
     counts: &Counts,
@@ -110,7 +110,7 @@ pub(crate) fn carried(
     requires one_each { length fronts.now ≡ length flow.now.nodes }
     requires canonical { AreCanonical flow.now fronts.now }
     ensures { IfOk result (λ g. IsFrontOf (bounds_of flow.now (receiver flow.now edge)) g
-        (spec.carried_by flow.now counts.now edge (family_of flow.now fronts.now (sender flow.now edge)))) }
+        (spec.projected_by flow.now counts.now edge (family_of flow.now fronts.now (sender flow.now edge)))) }
 {
     flow_is_well_formed(flow);
     let src = flow.src(edge);
@@ -139,7 +139,7 @@ pub(crate) fn come(
     ensures { IfOk result (λ g. IsFrontOf (bounds_of flow.now (receiver flow.now edge)) g
         (spec.come_by flow.now counts.now edge (family_of flow.now fronts.now (sender flow.now edge)))) }
 {
-    let mut come = carried(alloc, flow, counts, fronts, edge)?;
+    let mut come = projected(alloc, flow, counts, fronts, edge)?;
     narrow_to_pending(alloc, counts, edge, &mut come)?;
     Ok(come)
 }
@@ -183,8 +183,8 @@ pub(crate) fn target(
     let mut left = quiet(alloc, flow, counts, node)?;
     let edges = flow.in_edges(node);
     for edge in edges {
-        let carried = carried(alloc, flow, counts, fronts, *edge)?;
-        narrow(&mut left, carried)?;
+        let projected = projected(alloc, flow, counts, fronts, *edge)?;
+        narrow(&mut left, projected)?;
     }
     Ok(left)
 }

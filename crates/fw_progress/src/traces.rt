@@ -10,7 +10,7 @@ ghost use Rattle.fw_progress.specs.Progress.{ChangesAt};
 ghost use Rattle.fw_progress.specs.SentTally.{CountsMore, IsCountedInAll, IsTallyCutTo};
 ghost use Rattle.fw_progress.specs.Trace as spec;
 ghost use Rattle.fw_progress.specs.Trace.{AreTraces, IsTraceIf, TracesFollow, AreSettledTo, AreThinnedAt, AreCutTo, no_tally, SentMore, CountedMore};
-ghost use Rattle.fw_progress.specs.Traces.{StandForOneMore, HasAdded, IsThinnedBy, StandsInside, ChangesInto};
+ghost use Rattle.fw_progress.specs.Traces.{StandForOneMore, HasAdded, IsThinnedBy, StandsInside, ChangesInto, ChangesOut};
 
 use crate::kept_stamps::KeptStamps;
 use crate::sent_tally::SentTally;
@@ -30,7 +30,7 @@ pub struct Traces {
     pub delivered: Vec<KeptStamps>,
     /// For each node of which stamps it was notified.
     pub notified: Vec<KeptStamps>,
-    /// For each node but a sequence at which stamps events of it sent something, if an edge leads from it.
+    /// For each edge, but of a sequence, at which stamps events of its sender sent something on it.
     pub sent: Vec<KeptStamps>,
     /// For each node that takes checkpoints how many messages it sent.
     pub counted: Vec<SentTally>,
@@ -48,7 +48,7 @@ impl Traces {
         Ok(Traces {
             delivered: no_stamps(alloc, flow.edges())?,
             notified: no_stamps(alloc, flow.nodes())?,
-            sent: no_stamps(alloc, flow.nodes())?,
+            sent: no_stamps(alloc, flow.edges())?,
             counted: no_tallies(alloc, flow.nodes())?,
             refused: false,
         })
@@ -159,7 +159,7 @@ impl Traces {
         self.refused = true;
         settle_into(flow, &mut self.delivered, node, base)?;
         settle_at(&mut self.notified, node.place() as usize, base)?;
-        settle_at(&mut self.sent, node.place() as usize, base)?;
+        settle_out(flow, &mut self.sent, node, base)?;
         settle_tally(&mut self.counted, node.place() as usize, base)?;
         self.refused = false;
         Ok(())
@@ -180,7 +180,7 @@ impl Traces {
         }
         cut_into(flow, &mut self.delivered, node, f);
         cut_at(&mut self.notified, node.place() as usize, f);
-        cut_at(&mut self.sent, node.place() as usize, f);
+        cut_out(flow, &mut self.sent, node, f);
         cut_tally(&mut self.counted, node.place() as usize, f);
     }
 }
@@ -238,8 +238,8 @@ pub(crate) fn add_at(
     Ok(())
 }
 
-/// An event of a node sends so many messages: its stamp is kept, unless there are none or the node is a sequence. The error
-/// is want of memory.
+/// An event of a node sends so many messages: its stamp is kept of each out-edge, unless there are none or the node is a
+/// sequence. The error is want of memory.
 fn add_sent(
     flow: &Flow,
     sent: &mut Vec<KeptStamps>,
@@ -247,8 +247,8 @@ fn add_sent(
     at: &Stamp,
     count: u64,
 ) -> Result<(), AllocError>
-    requires { node < length sent.old.items }
-    ensures { IfOk result (λ u. ChangesAt node [] (SentMore flow.now node at.now count) sent.old.items sent.new.items) }
+    requires { length sent.old.items ≡ length flow.now.edges }
+    ensures { IfOk result (λ u. ChangesOut flow.now node (SentMore flow.now node at.now count) sent.old.items sent.new.items) }
 {
     if count == 0 {
         return Ok(());
@@ -256,7 +256,34 @@ fn add_sent(
     if flow.kind(node).is_sequence() {
         return Ok(());
     }
-    add_at(sent, node.place() as usize, at)
+    add_out(flow, sent, node, at)
+}
+
+/// One stamp more in the list of each out-edge of a node. The error is want of memory.
+pub(crate) fn add_out(
+    flow: &Flow,
+    lists: &mut Vec<KeptStamps>,
+    node: NodeId,
+    at: &Stamp,
+) -> Result<(), AllocError>
+    requires { length lists.old.items ≡ length flow.now.edges }
+    ensures thinned { IfOk result (λ u. ChangesOut flow.now node (StandForOneMore at.now) lists.old.items lists.new.items) }
+    ensures value { IfOk result (λ u. ChangesOut flow.now node (HasAdded at.now) lists.old.items lists.new.items) }
+{
+    let edges = flow.out_edges(node);
+    for edge in edges {
+        add_on(lists, *edge, at)?;
+    }
+    Ok(())
+}
+
+/// One stamp more in the list of an edge. The error is want of memory.
+fn add_on(lists: &mut Vec<KeptStamps>, edge: EdgeId, at: &Stamp) -> Result<(), AllocError>
+    requires { edge < length lists.old.items }
+    ensures thinned { IfOk result (λ u. ChangesAt edge [] (StandForOneMore at.now) lists.old.items lists.new.items) }
+    ensures value { IfOk result (λ u. ChangesAt edge [] (HasAdded at.now) lists.old.items lists.new.items) }
+{
+    add_at(lists, edge.place() as usize, at)
 }
 
 /// So many messages are counted more, where they are counted. The error is want of memory, or that their number would not
@@ -329,6 +356,23 @@ fn settle_into(
     Ok(())
 }
 
+/// The same of each out-edge of a node. The error is want of memory.
+fn settle_out(
+    flow: &Flow,
+    lists: &mut Vec<KeptStamps>,
+    node: NodeId,
+    base: &Front,
+) -> Result<(), AllocError>
+    requires { length lists.old.items ≡ length flow.now.edges }
+    ensures { IfOk result (λ u. ChangesOut flow.now node (IsThinnedBy base.now) lists.old.items lists.new.items) }
+{
+    let edges = flow.out_edges(node);
+    for edge in edges {
+        settle_on(lists, *edge, base)?;
+    }
+    Ok(())
+}
+
 /// One of the tallies is settled. The error is that a number would not fit 64 bits.
 fn settle_tally(tallies: &mut Vec<SentTally>, place: usize, base: &Front) -> Result<(), AllocError>
     requires { place < length tallies.old.items }
@@ -362,6 +406,17 @@ fn cut_into(flow: &Flow, lists: &mut Vec<KeptStamps>, node: NodeId, f: &Front)
     ensures { ChangesInto flow.now node (StandsInside f.now) lists.old.items lists.new.items }
 {
     let edges = flow.in_edges(node);
+    for edge in edges {
+        cut_on(lists, *edge, f);
+    }
+}
+
+/// The same of each out-edge of a node.
+fn cut_out(flow: &Flow, lists: &mut Vec<KeptStamps>, node: NodeId, f: &Front)
+    requires { length lists.old.items ≡ length flow.now.edges }
+    ensures { ChangesOut flow.now node (StandsInside f.now) lists.old.items lists.new.items }
+{
+    let edges = flow.out_edges(node);
     for edge in edges {
         cut_on(lists, *edge, f);
     }

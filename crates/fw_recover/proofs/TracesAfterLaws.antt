@@ -17,13 +17,11 @@ use Rattle.fw_flow.specs.declared.choice.Cut.TheVariants.{Present, At}
 use Rattle.fw_flow.specs.declared.event.Event.{Event}
 use Rattle.fw_flow.specs.declared.event.Message.{Message}
 use Rattle.fw_flow.specs.Dataflow.{System, policy_of, bounds_of}
-use Rattle.fw_flow.specs.NodeFunction.{sent_by}
-use Rattle.fw_flow.specs.Projection.{events_at}
 use Rattle.fw_model.specs.Floors.{IsFloor}
 use Rattle.fw_model.specs.Choice.{cut_of}
 use Rattle.fw_model.specs.Covers.{stamp_of_notice}
 use Rattle.fw_model.specs.EventStamps.{causes_in}
-use Rattle.fw_model.specs.History.{delivered_messages}
+use Rattle.fw_model.specs.History.{delivered_messages, sent_messages}
 use Rattle.fw_model.specs.Machine.{Machine, Write, checkpoint, logged_event, events, front_of, no_stamps}
 use Rattle.fw_model.specs.Machine.{Written as WrittenBy}
 use Rattle.fw_model.specs.Steps.{recovered_state}
@@ -189,13 +187,13 @@ among-above : (sys : System) (h : List Event) (p : ℕ) (traces : Traces) → ta
 among-above sys h p traces takes a =
     let each : (ts : List Stamp) → AllByRecursion (λ t. true ≡ true) ts = λ ts. each-one (λ t. true ≡ true) ts (λ t. refl) in
     some-trace sys h p (λ t. true) traces takes (λ d r. each (map (λ (m : Message). m.at) (delivered_messages h d))) (each (flat_map (stamp_of_notice p) h))
-    (each (causes_in (sent_by sys p (events_at sys.flow p h)))) a
+    (λ d r. each (causes_in (sent_messages sys h d))) a
 
 above-among : (sys : System) (h : List Event) (p : ℕ) (base : Frontier) (traces : Traces) → IsTraceIf false sys h p base traces → IsTraceAmong sys h p traces
 above-among sys h p base traces t = record {
   delivered = λ d l r. (t.delivered d l r).among;
   notified = t.notified.among;
-  sent = λ o k. (t.sent o k).among;
+  sent = λ d l r k. (t.sent d l r k).among;
 }
 
 -- the traces of a node that was cut, where the front of its cut is that of the floor: those of its checkpoint, or what is left of some

@@ -24,6 +24,7 @@ use Rattle.fw_flow.proofs.Chains.{outer_greatest}
 use Rattle.fw_model.specs.EventStamps.{causes_in, causes_of, IsOfCause}
 use Rattle.fw_model.specs.History.{IsLegal, delivered_messages, injected_count, message_on, sent_messages}
 use Rattle.fw_model.specs.Thinned.{IsBelowKept, IsThinnedIf}
+use Rattle.fw_model.proofs.CarriedLaws.{carried-all, carried-each}
 use Rattle.fw_model.proofs.ArrivalLaws.{at_edge, in_edges-once}
 use Rattle.fw_model.proofs.DomainLaws.{edge-bounds}
 use Rattle.fw_model.proofs.JoinLaws.{delivered_at}
@@ -168,7 +169,7 @@ greatest_sent-stand sys h e base f tops w k d b same g =
     let ms = sent_messages sys h e in
     let ats = map (λ (m : Message). m.at) ms in
     let told = cause_told (kind_of flow p) in
-    let sent = each-sent sys p base (tells-no_sequence (kind_of flow p) k) (events_at flow p h) b d in
+    let sent = carried-each flow e (IsSentBy flow p base) (sent_by sys p (events_at flow p h)) (each-sent sys p base (tells-no_sequence (kind_of flow p) k) (events_at flow p h) b d) in
     let of : AllByRecursion (λ s. in_domain bounds s ≡ true) ats =
     each-map (λ s. in_domain bounds s ≡ true) (λ (m : Message). m.at) ms
     (each-weaker (IsSentBy flow p base) (λ m. in_domain bounds m.at ≡ true) ms
@@ -294,7 +295,8 @@ delivered-send sys h d e w l r k i =
     let mine : d ≡ one.0 = received-on flow p one.0 there one.1 d (eq-eqb (receiver flow d) p r) in
     let all : (c : ℕ) → (receiver flow c == p) ≡ true → (c == d) ≡ true =
     λ c q. eq-eqb c d (received-on flow p one.0 there one.1 c q ∙ sym mine) in
-    merged-causes sys p d k (events_at flow p h) (each-on flow p d all h) i
+    ap causes_in (carried-all flow e (sent_by sys p (events_at flow p h)))
+    ∙ merged-causes sys p d k (events_at flow p h) (each-on flow p d all h) i
     ∙ ap (map (λ (m : Message). m.at)) (delivered_at flow p d r h)
 
 -- ---- inputs

@@ -27,6 +27,7 @@ use Rattle.fw_flow.specs.NodeFunction.{event_stamp, sent_by}
 use Rattle.fw_flow.specs.Projection.{events_at, all_inside}
 use Rattle.fw_flow.specs.Restoring.{can_resend, way_of}
 use Rattle.fw_flow.specs.WellFormed.{IsWellFormed, IsWellFormedSystem}
+use Rattle.fw_model.specs.Carried.{carried}
 use Rattle.fw_model.specs.Covers.{covers_in, stamps_inside, stamps_from, stamp_of_notice, notified_inside, takes_its_cut, takes_its_notices, discarded_at}
 use Rattle.fw_model.specs.EventStamps.{StandForSent, StandForNumbered, causes_in, causes_of, tells_sent}
 use Rattle.fw_model.specs.Filtering.{events_inside, messages_from, messages_inside}
@@ -36,6 +37,7 @@ use Rattle.fw_model.specs.Offers.{counted_on_edge, front_of_edge, stamps_on, sta
 use Rattle.fw_model.specs.Reached.{IsReached}
 use Rattle.fw_model.specs.Thinned.{IsThinned, IsThinnedIf}
 use Rattle.fw_model.specs.Writes.{takes_checkpoints}
+use Rattle.fw_model.proofs.CarriedLaws.{carried-from}
 use Rattle.fw_model.proofs.ArrivalLaws.{in_edges-receive}
 use Rattle.fw_model.proofs.AskedLaws.{reached-all, takes-restoring}
 use Rattle.fw_model.proofs.DomainLaws.{has_epochs}
@@ -125,8 +127,9 @@ sent-inside sys state e f w r =
     let p = sender sys.flow e in
     let g = node_frontier sys.flow p f in
     let h = events state.history in
-    ap (sent_by sys p) (events_at-kept sys.flow (λ q. g) p h)
-    ∙ part-sends sys h w.flow (has_epochs sys w) (reached-all sys w r.0 r.1 state r.2).recover.holds.legal p g (frontier-closed (bounds_of sys.flow p) f)
+    ap (carried sys.flow e) (ap (sent_by sys p) (events_at-kept sys.flow (λ q. g) p h)
+    ∙ part-sends sys h w.flow (has_epochs sys w) (reached-all sys w r.0 r.1 state r.2).recover.holds.legal p g (frontier-closed (bounds_of sys.flow p) f))
+    ∙ sym (carried-from sys.flow e g (sent_by sys p (events_at sys.flow p h)))
 
 -- ---- the law
 

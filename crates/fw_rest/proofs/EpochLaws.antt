@@ -17,6 +17,7 @@ use Rattle.fw_flow.specs.Projection.{events_at, first_coordinate}
 use Rattle.fw_flow.specs.WellFormed.{IsWellFormed}
 use Rattle.fw_flow.proofs.MessageLaws.{less-each, among-each}
 use Rattle.fw_model.specs.History.{sent_messages, delivered_messages, pending_messages, was_delivered_to, was_notified, IsLegal, IsEnabled}
+use Rattle.fw_model.proofs.CarriedLaws.{carried-each}
 use Rattle.fw_model.proofs.LegalLaws.{edge_domains, AreAllInDomain, legal-in_domain}
 use Rattle.fw_model.proofs.FeedbackLaws.{fed_back-some}
 use Rattle.fw_model.proofs.SendsLaws.{sends-each}
@@ -153,7 +154,8 @@ sent-from sys k h w ungrouped d a e out =
     let p = sender sys.flow e in
     let here : is_of_numbers (out_domain_of sys.flow p) ≡ false = ap is_of_numbers (edge_domains sys.flow w e) ∙ out in
     let b = no_numbers-before sys.flow (kind_of sys.flow p) (ungrouped p) here in
-    sent-before sys k p ungrouped here (events_at sys.flow p h) (in_domain-at sys.flow p h d) (at-before sys.flow k p b.0 h a)
+    carried-each sys.flow e (λ (m : Message). first_coordinate m.at < k) (sent_by sys p (events_at sys.flow p h))
+    (sent-before sys k p ungrouped here (events_at sys.flow p h) (in_domain-at sys.flow p h d) (at-before sys.flow k p b.0 h a))
 
 delivered-before : (flow : Dataflow) (k p : ℕ) (t : Stamp) → is_of_numbers (domain_of flow p) ≡ false → (h : List Event) → AllByRecursion (IsBefore flow k) h
     → was_delivered_to flow p t h ≡ true → first_coordinate t < k

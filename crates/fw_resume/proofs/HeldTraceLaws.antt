@@ -4,7 +4,7 @@ use Rattle.std.specs.List.{AllByRecursion, AllZip, Contains, flat_map, range_wit
 use Rattle.std.proofs.lemmas.Bool.{and_from, and_parts, cases_Bool, cases_eq, cond_both, eq-eqb, eqb-true, lt-ltb, ltb-true}
 use Rattle.std.proofs.lemmas.List.{map-append}
 use Rattle.std.proofs.lemmas.List.Elements.{Contains-append_left, Contains-append_right}
-use Rattle.fw_lemmas.proofs.Each.{each-append, each-filter, each_of-filter, each-there, each-weaker}
+use Rattle.fw_lemmas.proofs.Each.{each-append, each-filter, each_of-filter, each-there, each-weaker, each-map}
 use Rattle.fw_time.specs.Stamp.{Stamp, in_domain}
 use Rattle.fw_bag.specs.declared.rec.Rec.{Rec}
 use Rattle.fw_frontier.specs.Frontier.{Frontier}
@@ -14,18 +14,20 @@ use Rattle.fw_flow.specs.declared.event.Event.{Event as Happened}
 use Rattle.fw_flow.specs.declared.event.Event.TheVariants as happened
 use Rattle.fw_flow.specs.declared.event.Message.{Message}
 use Rattle.fw_flow.specs.declared.kind.Policy.TheVariants as policy
-use Rattle.fw_flow.specs.Dataflow.{System, Dataflow, batches_of, bounds_of, greatest_number, is_input_kind, kind_of, node_frontier, policy_of, receiver, system_of, HasEpochs}
+use Rattle.fw_flow.specs.Dataflow.{System, Dataflow, batches_of, bounds_of, greatest_number, is_input_kind, kind_of, node_frontier, policy_of, receiver, system_of, HasEpochs, sender, out_edges, is_one_of}
 use Rattle.fw_flow.specs.NodeFunction.{event_node, event_stamp, sent_by}
 use Rattle.fw_flow.specs.Projection.{events_at}
 use Rattle.fw_flow.specs.WellFormed.{IsPolicyAllowed, IsWellFormedSystem}
+use Rattle.fw_flow.proofs.OutEdgeLaws.{out_edges-from}
 use Rattle.fw_model.specs.Choice.{is_serial_logged, logged_history}
 use Rattle.fw_model.specs.Covers.{stamp_of_notice}
 use Rattle.fw_model.specs.EventStamps.{causes_in}
-use Rattle.fw_model.specs.History.{delivered_messages, injected_count, message_on, IsLegal}
+use Rattle.fw_model.specs.History.{delivered_messages, injected_count, message_on, IsLegal, sent_messages}
 use Rattle.fw_model.specs.Machine.{Machine, SerialEvent, Write, Stage, acknowledged, checkpoint, logged_event, events, front_of}
 use Rattle.fw_model.specs.Machine.{Written as WrittenBy}
 use Rattle.fw_model.specs.Reached.{IsReached}
 use Rattle.fw_model.specs.Writes.{not_collected, takes_checkpoints}
+use Rattle.fw_model.proofs.CarriedLaws.{carried-all, carried-none}
 use Rattle.fw_model.proofs.AskedLaws.{AreSerialsBelow, reached-all, serials-each}
 use Rattle.fw_model.proofs.ChoiceLaws.{by_batches-input}
 use Rattle.fw_model.proofs.DomainLaws.{has_epochs}
@@ -41,6 +43,7 @@ use Rattle.fw_policy.specs.Entries.{AreEntriesOf, HasEventTold, HoldsWhatIsWritt
 use Rattle.fw_policy.proofs.WayLaws.{events-full}
 use Rattle.fw_progress.specs.declared.traces.Traces.{Traces}
 use Rattle.fw_progress.specs.Trace.{HasOutside, HasTraceOutside, IsTraceAmong, IsTraceIf, delivered_on, stamps_notified, stamps_where_sent}
+use Rattle.fw_progress.proofs.OutLaws.{out-among}
 use Rattle.fw_progress.proofs.AmongLaws.{input-trace}
 use Rattle.fw_progress.proofs.CutTraceLaws.{causes-of, sent-domain}
 use Rattle.fw_progress.proofs.TraceLaws.{each-had}
@@ -50,9 +53,9 @@ use Rattle.fw_regain.proofs.ThirdLaws.{nothing-collected}
 use Rattle.fw_progress.proofs.OfferLaws.{each-joined}
 use Rattle.fw_regain.proofs.GreatestLaws.{each-from}
 use Rattle.fw_running.proofs.CountLaws.{batches_there}
-use Rattle.fw_resume.proofs.RecallLaws.{contains-itself, contains-nothing, recalled-append}
+use Rattle.fw_resume.proofs.RecallLaws.{contains-itself, contains-nothing, recalled-append, told-there}
 use Rattle.fw_running.specs.Held.{KnowsTracesHeld}
-use Rattle.fw_resume.specs.Recalled.{Recall, RecallsAreOf, of_sending, of_delivery, of_notice, HaveRecalled, recalls_of, recalls_of_batch, recalls_of_entry, recalls_of_event, recalls_of_input, recalls_of_inputs, recalls_of_written}
+use Rattle.fw_resume.specs.Recalled.{Recall, RecallsAreOf, of_sending, of_delivery, of_notice, HaveRecalled, recalls_of, recalls_of_batch, recalls_of_entry, recalls_of_event, recalls_of_input, recalls_of_inputs, recalls_of_written, sendings}
 
 -- ---- lists
 
@@ -107,7 +110,7 @@ zip-left R P f (x ∷ xs) (y ∷ ys) a = (f x y a.0, zip-left R P f xs ys a.1)
 
 -- it is of what happened
 abbrev Happens : System → List Happened → Recall → Type 0
-Happens sys h (of_sending p t) = Contains (causes_in (sent_by sys p (events_at sys.flow p h))) t
+Happens sys h (of_sending e t) = Contains (causes_in (sent_messages sys h e)) t
 Happens sys h (of_delivery e t) = Contains (map (λ (m : Message). m.at) (delivered_messages h e)) t
 Happens sys h (of_notice p t) = Contains (flat_map (stamp_of_notice p) h) t
 
@@ -118,16 +121,21 @@ InputsSend sys h = (s : ℕ) → is_input_kind (kind_of sys.flow s) ≡ true →
 
 batch-happens : (flow : Dataflow) (given : List (ℕ × List (List Rec))) (h : List Happened) (low : Front) (p x : ℕ) → InputsSend (system_of flow given) h
     → IsLegal (system_of flow given) h → p < length flow.nodes → x < injected_count p h
-    → AllByRecursion (Happens (system_of flow given) h) (recalls_of_batch p low (batches_at given p) x)
+    → AllByRecursion (Happens (system_of flow given) h) (recalls_of_batch flow p low (batches_at given p) x)
 batch-happens flow given h low p x sends legal l m =
     let sys = system_of flow given in
     let batch = get_or (batches_at given p) x [] in
-    cond_both (nat_lt 0 (length batch) && not (inside low (x ∷ []))) (of_sending p (x ∷ []) ∷ []) [] (AllByRecursion (Happens sys h))
+    cond_both (nat_lt 0 (length batch) && not (inside low (x ∷ []))) (sendings (out_edges flow p) (x ∷ [])) [] (AllByRecursion (Happens sys h))
     (λ k.
     let some : 0 < length (get_or (batches_of sys p) x []) =
     subst (λ bs. 0 < length (get_or bs x [])) (sym (batches_there flow given p l)) (ltb-true 0 (length batch) (and_parts (nat_lt 0 (length batch)) (not (inside low (x ∷ []))) k).0) in
     elim (cases_Bool (is_input_kind (kind_of flow p))) [
-      | inl i ↦ ((sends p i (x ∷ [])).1 (x, refl, m, some), tt)
+      | inl i ↦
+          let sent = (sends p i (x ∷ [])).1 (x, refl, m, some) in
+          each-map (Happens sys h) (λ e. of_sending e (x ∷ [])) (out_edges flow p)
+          (out_edges-from (λ e. Contains (causes_in (sent_messages sys h e)) (x ∷ [])) flow p
+          (λ e there r. subst (λ ms. Contains (causes_in ms) (x ∷ [])) (sym (carried-all flow e (sent_by sys (sender flow e) (events_at flow (sender flow e) h))))
+          (subst (λ q. Contains (causes_in (sent_by sys q (events_at flow q h))) (x ∷ [])) (sym r) sent)))
       | inr n ↦ let none = only_inputs_inject sys h legal p n in absurd (omega (arith, m, none))
     ])
     (λ k. tt)
@@ -189,13 +197,13 @@ all-happens : (flow : Dataflow) (given : List (ℕ × List (List Rec))) (state :
 all-happens flow given state injected low entries sends legal counts of =
     let sys = system_of flow given in
     let h = events state.history in
-    let batches : ℕ → List Recall = λ p. recalls_of_input p (front_of low p) (batches_at given p) (get_or injected p 0) in
-    each-append (Happens sys h) (recalls_of_inputs given injected low (length flow.nodes)) (flat_map (recalls_of_entry flow) entries)
+    let batches : ℕ → List Recall = λ p. recalls_of_input flow p (front_of low p) (batches_at given p) (get_or injected p 0) in
+    each-append (Happens sys h) (recalls_of_inputs flow given injected low (length flow.nodes)) (flat_map (recalls_of_entry flow) entries)
     (each-joined (Happens sys h) batches (range_with_len 0 (length flow.nodes)) (each-number (λ p. AllByRecursion (Happens sys h) (batches p)) 0 (length flow.nodes) (λ p a b.
     let there : p < length flow.nodes = omega (arith, b) in
     let count = counts p there in
-    each-joined (Happens sys h) (recalls_of_batch p (front_of low p) (batches_at given p)) (range_with_len 0 (get_or injected p 0))
-    (each-number (λ x. AllByRecursion (Happens sys h) (recalls_of_batch p (front_of low p) (batches_at given p) x)) 0 (get_or injected p 0)
+    each-joined (Happens sys h) (recalls_of_batch flow p (front_of low p) (batches_at given p)) (range_with_len 0 (get_or injected p 0))
+    (each-number (λ x. AllByRecursion (Happens sys h) (recalls_of_batch flow p (front_of low p) (batches_at given p) x)) 0 (get_or injected p 0)
     (λ x c d. batch-happens flow given h (front_of low p) p x sends legal there (omega (arith, d, count)))))))
     (each-joined (Happens sys h) (recalls_of_entry flow) entries
     (zip-left (IsEntryOf sys state) (λ e. AllByRecursion (Happens sys h) (recalls_of_entry flow e)) (entry-happens sys state) entries (uncollected state) of))
@@ -216,9 +224,10 @@ recalled-among sys h these old new first m all p = record {
     | inl was ↦ absurd (contains-nothing s (each-contained (Contains []) s (stamps_notified old p) was none.notified.among))
     | inr now ↦ each-contained (Happens sys h) (of_notice p s) these now all
   ]);
-  sent = λ o k. each-had (Contains (causes_in (sent_by sys p (events_at sys.flow p h)))) (stamps_where_sent new p) (λ s c. elim ((m.is (of_sending p s)).0 c) [
-    | inl was ↦ absurd (contains-nothing s (each-contained (Contains []) s (stamps_where_sent old p) was (none.sent o k).among))
-    | inr now ↦ each-contained (Happens sys h) (of_sending p s) these now all
+  sent = λ d l r k. each-had (Contains (causes_in (sent_messages sys h d))) (stamps_where_sent new d) (λ s c. elim ((m.is (of_sending d s)).0 c) [
+    | inl was ↦ absurd (contains-nothing s (each-contained (Contains []) s (stamps_where_sent old d) was
+        (subst (λ ms. AllByRecursion (Contains (causes_in ms)) (stamps_where_sent old d)) (carried-none sys.flow d) (none.sent d l r k).among)))
+    | inr now ↦ each-contained (Happens sys h) (of_sending d s) these now all
   ]);
 }
   where
@@ -227,19 +236,19 @@ recalled-among sys h these old new first m all p = record {
 
 -- ---- inputs
 
-sent-told : (flow : Dataflow) (given : List (ℕ × List (List Rec))) (injected : List ℕ) (low : List Front) (entries : List Entry) (p x : ℕ) → p < length flow.nodes
+sent-told : (flow : Dataflow) (given : List (ℕ × List (List Rec))) (injected : List ℕ) (low : List Front) (entries : List Entry) (p x : ℕ) → p < length flow.nodes → (e : ℕ) → is_one_of e (out_edges flow p) ≡ true
     → x < get_or injected p 0 → 0 < length (get_or (batches_at given p) x []) → inside (front_of low p) (x ∷ []) ≡ false
-    → Contains (recalls_of flow given injected low entries) (of_sending p (x ∷ []))
-sent-told flow given injected low entries p x l m some out =
+    → Contains (recalls_of flow given injected low entries) (of_sending e (x ∷ []))
+sent-told flow given injected low entries p x l e on m some out =
     let batch = get_or (batches_at given p) x [] in
-    let of : ℕ → List Recall = λ q. recalls_of_input q (front_of low q) (batches_at given q) (get_or injected q 0) in
+    let of : ℕ → List Recall = λ q. recalls_of_input flow q (front_of low q) (batches_at given q) (get_or injected q 0) in
     let test : (nat_lt 0 (length batch) && not (inside (front_of low p) (x ∷ []))) ≡ true =
     and_from (nat_lt 0 (length batch)) (not (inside (front_of low p) (x ∷ []))) (lt-ltb 0 (length batch) some) (ap not out) in
-    let one : Contains (recalls_of_batch p (front_of low p) (batches_at given p) x) (of_sending p (x ∷ [])) =
-    subst (λ b. Contains (cond b (of_sending p (x ∷ []) ∷ []) []) (of_sending p (x ∷ []))) (sym test) (contains-itself (of_sending p (x ∷ []))) in
-    Contains-append_left (recalls_of_inputs given injected low (length flow.nodes)) (flat_map (recalls_of_entry flow) entries) (of_sending p (x ∷ []))
-    (flat-has of (range_with_len 0 (length flow.nodes)) p (of_sending p (x ∷ [])) (number-there 0 (length flow.nodes) p (omega arith) (omega (arith, l)))
-    (flat-has (recalls_of_batch p (front_of low p) (batches_at given p)) (range_with_len 0 (get_or injected p 0)) x (of_sending p (x ∷ []))
+    let one : Contains (recalls_of_batch flow p (front_of low p) (batches_at given p) x) (of_sending e (x ∷ [])) =
+    subst (λ b. Contains (cond b (sendings (out_edges flow p) (x ∷ [])) []) (of_sending e (x ∷ []))) (sym test) (told-there (out_edges flow p) (x ∷ []) e on) in
+    Contains-append_left (recalls_of_inputs flow given injected low (length flow.nodes)) (flat_map (recalls_of_entry flow) entries) (of_sending e (x ∷ []))
+    (flat-has of (range_with_len 0 (length flow.nodes)) p (of_sending e (x ∷ [])) (number-there 0 (length flow.nodes) p (omega arith) (omega (arith, l)))
+    (flat-has (recalls_of_batch flow p (front_of low p) (batches_at given p)) (range_with_len 0 (get_or injected p 0)) x (of_sending e (x ∷ []))
     (number-there 0 (get_or injected p 0) x (omega arith) (omega (arith, m))) one))
 
 -- ---- events that are logged
@@ -311,7 +320,7 @@ entered sys state entries v serials there of logged =
 entered-delivered : (flow : Dataflow) (given : List (ℕ × List (List Rec))) (injected : List ℕ) (low : List Front) (entries : List Entry) (v : SerialEvent) (d : ℕ) (m : Message)
     → v.event ≡ happened.Deliver d m → IsEntered flow entries v → Contains (recalls_of flow given injected low entries) (of_delivery d m.at)
 entered-delivered flow given injected low entries v d m is e =
-    Contains-append_right (recalls_of_inputs given injected low (length flow.nodes)) (flat_map (recalls_of_entry flow) entries) (of_delivery d m.at)
+    Contains-append_right (recalls_of_inputs flow given injected low (length flow.nodes)) (flat_map (recalls_of_entry flow) entries) (of_delivery d m.at)
     (flat-has (recalls_of_entry flow) entries e.entry (of_delivery d m.at) e.there
     (delivered-recall flow e.entry.node e.entry.written e.event d m e.is (sym (ap (event_node flow) is) ∙ e.node) (sym (ap told_of is) ∙ e.told)))
 
@@ -319,7 +328,7 @@ entered-noticed : (flow : Dataflow) (given : List (ℕ × List (List Rec))) (inj
     → v.event ≡ happened.Notify p t → IsEntered flow entries v → Contains (recalls_of flow given injected low entries) (of_notice p t)
 entered-noticed flow given injected low entries v p t is e =
     let mine : p ≡ e.entry.node = sym (ap (event_node flow) is) ∙ e.node in
-    Contains-append_right (recalls_of_inputs given injected low (length flow.nodes)) (flat_map (recalls_of_entry flow) entries) (of_notice p t)
+    Contains-append_right (recalls_of_inputs flow given injected low (length flow.nodes)) (flat_map (recalls_of_entry flow) entries) (of_notice p t)
     (flat-has (recalls_of_entry flow) entries e.entry (of_notice p t) e.there
     (subst (λ q. Contains (recalls_of_written flow e.entry.node e.entry.written) (of_notice q t)) (sym mine)
     (noticed-recall flow e.entry.node e.entry.written e.event t e.is (ap (λ q. told_of (happened.Notify q t)) (sym mine) ∙ sym (ap told_of is) ∙ e.told))))
@@ -426,11 +435,12 @@ recalled-held flow given injected low entries old new state w r counts lows of f
         → IsKeptLogged u.serial state.writes) v state.history c (nothing-collected sys state p w r) n out logged in
         entered sys state entries v (reached-all sys w r.0 r.1 state r.2).restore.serials c of kept
 
-    outside : (p : ℕ) → p < length flow.nodes → is_input_kind (kind_of flow p) ≡ true → HasOutside (base p) (causes_in (sent_by sys p (events_at flow p h))) (stamps_where_sent new p)
-    outside p l input =
+    outside_by : (p : ℕ) → p < length flow.nodes → is_input_kind (kind_of flow p) ≡ true → (e : ℕ) → is_one_of e (out_edges flow p) ≡ true
+        → HasOutside (base p) (causes_in (sent_by sys p (events_at flow p h))) (stamps_where_sent new e)
+    outside_by p l input e on =
         let ms = sent_by sys p (events_at flow p h) in
         let of_domain = causes-of (bounds_of flow p) ms (sent-domain sys h p (legal_events-in_domain sys h w.flow (has_epochs sys w) legal p)) in
-        each-had (λ t. base p t ≡ false → Contains (stamps_where_sent new p) t) (causes_in ms) (λ t c out.
+        each-had (λ t. base p t ≡ false → Contains (stamps_where_sent new e) t) (causes_in ms) (λ t c out.
         let s = (sends p input t).0 c in
         let x = s.0 in
         let in_it : in_domain (bounds_of flow p) t ≡ true = each-contained (λ u. in_domain (bounds_of flow p) u ≡ true) t (causes_in ms) c of_domain in
@@ -438,14 +448,20 @@ recalled-held flow given injected low entries old new state w r counts lows of f
         ∙ second-fails (in_domain (bounds_of flow p) t) (inside (front_of state.low p) t) in_it out in
         let less : x < get_or injected p 0 = let count = counts p l in let k = s.2 in omega (arith, count, k) in
         let some : 0 < length (get_or (batches_at given p) x []) = subst (λ bs. 0 < length (get_or bs x [])) (batches_there flow given p l) s.3 in
-        subst (Contains (stamps_where_sent new p)) (sym s.1) ((m.is (of_sending p (x ∷ []))).1 (inr (sent-told flow given injected low entries p x l less some out_it))))
+        subst (Contains (stamps_where_sent new e)) (sym s.1) ((m.is (of_sending e (x ∷ []))).1 (inr (sent-told flow given injected low entries p x l e on less some out_it))))
+
+    outside : (p : ℕ) → p < length flow.nodes → is_input_kind (kind_of flow p) ≡ true
+        → (e : ℕ) → e < length flow.edges → sender flow e ≡ p → HasOutside (base p) (causes_in (sent_messages sys h e)) (stamps_where_sent new e)
+    outside p l input e there r =
+        subst (λ ms. HasOutside (base p) (causes_in ms) (stamps_where_sent new e)) (sym (carried-all flow e (sent_by sys (sender flow e) (events_at flow (sender flow e) h))))
+        (subst (λ q. HasOutside (base p) (causes_in (sent_by sys q (events_at flow q h))) (stamps_where_sent new e)) (sym r) (outside_by p l input e (out-among flow p e there r)))
 
 pub recalls-held : (flow : Dataflow) (given : List (ℕ × List (List Rec))) (injected : List ℕ) (low : List Front) (entries : List Entry) (old mid new : Traces) (state : Machine)
-    → RecallsAreOf flow given injected low entries old state → HaveRecalled (recalls_of_inputs given injected low (length flow.nodes)) old mid
+    → RecallsAreOf flow given injected low entries old state → HaveRecalled (recalls_of_inputs flow given injected low (length flow.nodes)) old mid
     → HaveRecalled (flat_map (recalls_of_entry flow) entries) mid new → KnowsTracesHeld (system_of flow given) state new
 recalls-held flow given injected low entries old mid new state a b c =
     recalled-held flow given injected low entries old new state a.well_formed a.reached a.counts a.lows a.written a.first
-    (recalled-append (recalls_of_inputs given injected low (length flow.nodes)) (flat_map (recalls_of_entry flow) entries) old mid new b c)
+    (recalled-append (recalls_of_inputs flow given injected low (length flow.nodes)) (flat_map (recalls_of_entry flow) entries) old mid new b c)
 
 -- of a well-formed system no node has more batches than there are epochs
 pub batches-few : (flow : Dataflow) (given : List (ℕ × List (List Rec))) → HasEpochs (system_of flow given) → (p : ℕ) → p < length flow.nodes → length (batches_at given p) ≤ 2 ^ 32

@@ -1,8 +1,8 @@
 -- What traces have that are told of stamps, one after the other.
-use Rattle.std.proofs.Common.{◌≡◌, ◌↔◌, ◌⊎◌, ℕ, zero, suc, ◌+◌, ◌<◌, true, false, not, ◌&&◌, ◌==◌, cond, nat_lt, List, [], ◌∷◌, ◌++◌, length, get_or, map, take, refl, sym, ap, subst, ◌∙◌, inl, inr, arith}
-use Rattle.std.specs.List.{Contains, flat_map, range_with_len}
+use Rattle.std.proofs.Common.{◌≡◌, ◌↔◌, ◌⊎◌, ℕ, zero, suc, ◌+◌, ◌<◌, true, false, not, ◌&&◌, ◌==◌, cond, ◌||◌, nat_lt, List, [], ◌∷◌, ◌++◌, length, get_or, map, take, refl, sym, ap, subst, ◌∙◌, inl, inr, arith}
+use Rattle.std.specs.List.{Contains, flat_map, range_with_len, AllByRecursion}
 use Rattle.std.specs.BTreeSet.{insert_key}
-use Rattle.std.proofs.lemmas.Bool.{and_from, cases_eq, eq-eqb, lt-ltb}
+use Rattle.std.proofs.lemmas.Bool.{and_from, cases_eq, eq-eqb, lt-ltb, eqb-true, or_cases, or_left, or_right}
 use Rattle.std.proofs.lemmas.Grind.{flat_map-append}
 use Rattle.std.proofs.lemmas.List.{append-nil, take_more}
 use Rattle.std.proofs.Math.Seq.{take-length}
@@ -12,15 +12,16 @@ use Rattle.fw_time.specs.Stamp.{Stamp, stamp_cmp}
 use Rattle.fw_bag.specs.declared.rec.Rec.{Rec}
 use Rattle.fw_frontier.specs.Front.{Front, inside}
 use Rattle.fw_lines.specs.Batches.{batches_at}
-use Rattle.fw_flow.specs.Dataflow.{Dataflow, receiver}
+use Rattle.fw_flow.specs.Dataflow.{Dataflow, receiver, sender, out_edges, is_one_of}
 use Rattle.fw_model.specs.Machine.{front_of}
 use Rattle.fw_model.proofs.ThinnedLaws.{each-contained}
 use Rattle.fw_progress.specs.declared.traces.Traces.{Traces}
 use Rattle.fw_progress.specs.Progress.{ChangesAt}
 use Rattle.fw_progress.specs.Trace.{HasDeliveredMore, HasNotifiedMore, HasSentMore}
-use Rattle.fw_progress.specs.Traces.{HasAdded}
+use Rattle.fw_progress.specs.Traces.{HasAdded, ChangesOut}
+use Rattle.fw_progress.proofs.OutLaws.{among-out, out-among, sender-there}
 use Rattle.fw_progress.proofs.TraceLaws.{each-itself, each_of-insert, insert-each}
-use Rattle.fw_resume.specs.Recalled.{Recall, of_sending, of_delivery, of_notice, HasRecalled, HaveRecalled, recalls_of_batch, recalls_of_input, recalls_of_inputs}
+use Rattle.fw_resume.specs.Recalled.{Recall, of_sending, of_delivery, of_notice, HasRecalled, HaveRecalled, recalls_of_batch, recalls_of_input, recalls_of_inputs, sendings}
 
 -- ---- one after the other
 
@@ -149,23 +150,62 @@ one-notified q t old new m (of_notice p s) =
     parts : (p : ℕ) (s : Stamp) → of_notice p s ≡ of_notice q t → (p ≡ q) × (s ≡ t)
     parts p s k = (cc, cc)
 
-one-sending : (q : ℕ) (t : Stamp) (old new : Traces) → HasSentMore q t old new → HasOneMore (of_sending q t) old new
-one-sending q t old new m (of_sending p s) =
-    let is = changed-is q t old.sent.items new.sent.items m.sent p s in (
+-- in the lists of a node's out-edges, and in no other
+out-is : (flow : Dataflow) (q : ℕ) (at : Stamp) (old new : List (List Stamp)) → q < length flow.nodes → ChangesOut flow q (HasAdded at) old new → (e : ℕ) (s : Stamp)
+    → Contains (get_or new e []) s ↔ (Contains (get_or old e []) s ⊎ ((is_one_of e (out_edges flow q) ≡ true) × (s ≡ at)))
+out-is flow q at old new l c e s = elim (cases_eq (sender flow e) q) [
+  | inl i ↦
+      let there = sender-there flow q e l i in
+      let is = added-is at s (get_or old e []) (get_or new e []) (c.here e there i) in (
+        λ x. elim (is.0 x) [ inl a ↦ inl a | inr b ↦ inr (out-among flow q e there i, b) ],
+        λ x. is.1 (elim x [ inl a ↦ inl a | inr b ↦ inr b.1 ]),
+      )
+  | inr n ↦
+      let same = c.others e n in (
+        λ x. inl (subst (λ ss. Contains ss s) same x),
+        λ x. subst (λ ss. Contains ss s) (sym same) (elim x [ inl a ↦ a | inr b ↦ absurd (n (among-out flow q e b.0)) ]),
+      )
+]
+
+-- what is told of a stamp on these edges
+IsToldOn : List ℕ → Stamp → Recall → Type 0
+IsToldOn es t (of_sending e s) = (is_one_of e es ≡ true) × (s ≡ t)
+IsToldOn es t (of_delivery e s) = ⊥
+IsToldOn es t (of_notice p s) = ⊥
+
+each-told : (es all : List ℕ) (t : Stamp) → ((e : ℕ) → is_one_of e es ≡ true → is_one_of e all ≡ true) → AllByRecursion (IsToldOn all t) (sendings es t)
+unfolding IsToldOn
+each-told [] all t k = tt
+each-told (e ∷ es) all t k = (
+  (k e (or_left (e == e) (is_one_of e es) (eq-eqb e e refl)), refl),
+  each-told es all t (λ d i. k d (or_right (e == d) (is_one_of d es) i)),
+)
+
+told-on : (es : List ℕ) (t : Stamp) (x : Recall) → Contains (sendings es t) x → IsToldOn es t x
+told-on es t x c = each-contained (IsToldOn es t) x (sendings es t) c (each-told es es t (λ e i. i))
+
+pub told-there : (es : List ℕ) (t : Stamp) (e : ℕ) → is_one_of e es ≡ true → Contains (sendings es t) (of_sending e t)
+told-there [] t e k = absurd (cc)
+told-there (d ∷ es) t e k = elim (or_cases (d == e) (is_one_of e es) k) [
+  | inl i ↦ Contains-append_left (of_sending d t ∷ []) (sendings es t) (of_sending e t) (subst (λ x. Contains (of_sending d t ∷ []) (of_sending x t)) (eqb-true d e i) (contains-itself (of_sending d t)))
+  | inr i ↦ Contains-append_right (of_sending d t ∷ []) (sendings es t) (of_sending e t) (told-there es t e i)
+]
+
+all-sendings : (flow : Dataflow) (q : ℕ) (t : Stamp) (old new : Traces) → q < length flow.nodes → HasSentMore flow q t old new → (x : Recall)
+    → HasRecalled new x ↔ (HasRecalled old x ⊎ Contains (sendings (out_edges flow q) t) x)
+unfolding IsToldOn
+all-sendings flow q t old new l m (of_sending e s) =
+    let is = out-is flow q t old.sent.items new.sent.items l m.sent e s in (
       λ k. elim (is.0 k) [
         | inl a ↦ inl a
-        | inr b ↦ inr (subst (λ x. Contains (of_sending q t ∷ []) (of_sending x s)) (sym b.0)
-            (subst (λ x. Contains (of_sending q t ∷ []) (of_sending q x)) (sym b.1) (contains-itself (of_sending q t))))
+        | inr b ↦ inr (subst (λ x. Contains (sendings (out_edges flow q) t) (of_sending e x)) (sym b.1) (told-there (out_edges flow q) t e b.0))
       ],
-      λ k. is.1 (elim k [ inl a ↦ inl a | inr c ↦ inr (parts p s (contains-one (of_sending q t) (of_sending p s) c)) ]),
+      λ k. is.1 (elim k [ inl a ↦ inl a | inr c ↦ inr (told-on (out_edges flow q) t (of_sending e s) c) ]),
     )
-  where
-    parts : (p : ℕ) (s : Stamp) → of_sending p s ≡ of_sending q t → (p ≡ q) × (s ≡ t)
-    parts p s k = (cc, cc)
-one-sending q t old new m (of_delivery d s) =
-    same-is_had d s old.delivered.items new.delivered.items (Contains (of_sending q t ∷ []) (of_delivery d s)) m.delivered (λ c. let k = contains-one (of_sending q t) (of_delivery d s) c in cc)
-one-sending q t old new m (of_notice p s) =
-    same-is_had p s old.notified.items new.notified.items (Contains (of_sending q t ∷ []) (of_notice p s)) m.notified (λ c. let k = contains-one (of_sending q t) (of_notice p s) c in cc)
+all-sendings flow q t old new l m (of_delivery d s) =
+    same-is_had d s old.delivered.items new.delivered.items (Contains (sendings (out_edges flow q) t) (of_delivery d s)) m.delivered (told-on (out_edges flow q) t (of_delivery d s))
+all-sendings flow q t old new l m (of_notice p s) =
+    same-is_had p s old.notified.items new.notified.items (Contains (sendings (out_edges flow q) t) (of_notice p s)) m.notified (told-on (out_edges flow q) t (of_notice p s))
 
 pub delivered-recalled : (e : ℕ) (t : Stamp) (old new : Traces) → HasDeliveredMore e t old new → HaveRecalled (of_delivery e t ∷ []) old new
 delivered-recalled e t old new m = record { is = one-delivered e t old new m }
@@ -173,17 +213,18 @@ delivered-recalled e t old new m = record { is = one-delivered e t old new m }
 pub notified-recalled : (q : ℕ) (t : Stamp) (old new : Traces) → HasNotifiedMore q t old new → HaveRecalled (of_notice q t ∷ []) old new
 notified-recalled q t old new m = record { is = one-notified q t old new m }
 
-pub sending-recalled : (q : ℕ) (t : Stamp) (old new : Traces) → HasSentMore q t old new → HaveRecalled (of_sending q t ∷ []) old new
-sending-recalled q t old new m = record { is = one-sending q t old new m }
+pub sending-recalled : (flow : Dataflow) (q : ℕ) (t : Stamp) (old new : Traces) → q < length flow.nodes → HasSentMore flow q t old new
+    → HaveRecalled (sendings (out_edges flow q) t) old new
+sending-recalled flow q t old new l m = record { is = all-sendings flow q t old new l m }
 
 -- ---- what is told of a batch, and of an event
 
-pub batch-recalled : (p : ℕ) (low : Front) (batches : List (List Rec)) (x : ℕ) (old new : Traces) → 0 < length (get_or batches x []) → inside low (x ∷ []) ≡ false
-    → HasSentMore p (x ∷ []) old new → HaveRecalled (recalls_of_batch p low batches x) old new
-batch-recalled p low batches x old new some out m =
+pub batch-recalled : (flow : Dataflow) (p : ℕ) (low : Front) (batches : List (List Rec)) (x : ℕ) (old new : Traces) → p < length flow.nodes → 0 < length (get_or batches x []) → inside low (x ∷ []) ≡ false
+    → HasSentMore flow p (x ∷ []) old new → HaveRecalled (recalls_of_batch flow p low batches x) old new
+batch-recalled flow p low batches x old new there some out m =
     let test : (nat_lt 0 (length (get_or batches x [])) && not (inside low (x ∷ []))) ≡ true =
     and_from (nat_lt 0 (length (get_or batches x []))) (not (inside low (x ∷ []))) (lt-ltb 0 (length (get_or batches x [])) some) (ap not out) in
-    subst (λ b. HaveRecalled (cond b (of_sending p (x ∷ []) ∷ []) []) old new) (sym test) (sending-recalled p (x ∷ []) old new m)
+    subst (λ b. HaveRecalled (cond b (sendings (out_edges flow p) (x ∷ [])) []) old new) (sym test) (sending-recalled flow p (x ∷ []) old new there m)
 
 pub event-recalled : (flow : Dataflow) (p e : ℕ) (t : Stamp) (old new : Traces) → receiver flow e ≡ p → HasDeliveredMore e t old new
     → HaveRecalled (cond (receiver flow e == p) (of_delivery e t ∷ []) []) old new
@@ -207,13 +248,13 @@ some-rec [] n = absurd (n refl)
 some-rec (r ∷ rs) n = omega arith
 
 -- what one more node tells
-pub input-next : (given : List (ℕ × List (List Rec))) (injected : List ℕ) (low : List Front) (n node : ℕ) (front : Front) (batches : List (List Rec)) (count : ℕ) (old mid new : Traces)
-    → node ≡ n → batches ≡ batches_at given n → front ≡ front_of low n → count ≡ get_or injected n 0 → HaveRecalled (recalls_of_inputs given injected low n) old mid
-    → HaveRecalled (recalls_of_input node front batches count) mid new → HaveRecalled (recalls_of_inputs given injected low (n + 1)) old new
-input-next given injected low n node front batches count old mid new e b f c a m =
-    let of : ℕ → List Recall = λ p. recalls_of_input p (front_of low p) (batches_at given p) (get_or injected p 0) in
+pub input-next : (flow : Dataflow) (given : List (ℕ × List (List Rec))) (injected : List ℕ) (low : List Front) (n node : ℕ) (front : Front) (batches : List (List Rec)) (count : ℕ) (old mid new : Traces)
+    → node ≡ n → batches ≡ batches_at given n → front ≡ front_of low n → count ≡ get_or injected n 0 → HaveRecalled (recalls_of_inputs flow given injected low n) old mid
+    → HaveRecalled (recalls_of_input flow node front batches count) mid new → HaveRecalled (recalls_of_inputs flow given injected low (n + 1)) old new
+input-next flow given injected low n node front batches count old mid new e b f c a m =
+    let of : ℕ → List Recall = λ p. recalls_of_input flow p (front_of low p) (batches_at given p) (get_or injected p 0) in
     recalled-number of n old mid new a
-    (subst (λ x. HaveRecalled (recalls_of_input n (front_of low n) (batches_at given n) x) mid new) c
-    (subst (λ x. HaveRecalled (recalls_of_input n x (batches_at given n) count) mid new) f
-    (subst (λ x. HaveRecalled (recalls_of_input n front x count) mid new) b
-    (subst (λ x. HaveRecalled (recalls_of_input x front batches count) mid new) e m))))
+    (subst (λ x. HaveRecalled (recalls_of_input flow n (front_of low n) (batches_at given n) x) mid new) c
+    (subst (λ x. HaveRecalled (recalls_of_input flow n x (batches_at given n) count) mid new) f
+    (subst (λ x. HaveRecalled (recalls_of_input flow n front x count) mid new) b
+    (subst (λ x. HaveRecalled (recalls_of_input flow x front batches count) mid new) e m))))

@@ -1,12 +1,12 @@
 -- What is told to traces that start again: where inputs sent, and at which stamps the events are that writes log.
-use Rattle.std.specs.Prelude.{◌≡◌, ◌↔◌, ◌⊎◌, ℕ, ◌<◌, false, not, ◌&&◌, ◌==◌, nat_lt, if◌then◌else◌, List, [], ◌∷◌, ◌++◌, length, slice_index_or}
+use Rattle.std.specs.Prelude.{◌≡◌, ◌↔◌, ◌⊎◌, ℕ, ◌<◌, false, not, ◌&&◌, ◌==◌, nat_lt, if◌then◌else◌, List, [], ◌∷◌, ◌++◌, length, slice_index_or, map}
 use Rattle.std.specs.List.{Contains, flat_map, range_with_len}
 use Rattle.fw_time.specs.Stamp.{Stamp}
 use Rattle.fw_bag.specs.declared.rec.Rec.{Rec}
 use Rattle.fw_frontier.specs.Frontier.{Frontier}
 use Rattle.fw_frontier.specs.Front.{Front, inside}
 use Rattle.fw_lines.specs.Batches.{batches_at}
-use Rattle.fw_flow.specs.Dataflow.{Dataflow, receiver, system_of}
+use Rattle.fw_flow.specs.Dataflow.{Dataflow, receiver, system_of, out_edges}
 use Rattle.fw_flow.specs.WellFormed.{IsWellFormedSystem}
 use Rattle.fw_model.specs.History.{injected_count}
 use Rattle.fw_model.specs.Machine.{Machine, events, front_of}
@@ -20,7 +20,8 @@ use Rattle.fw_policy.specs.Entries.{AreEntriesOf, uncollected}
 use Rattle.fw_progress.specs.declared.traces.Traces.{Traces}
 use Rattle.fw_progress.specs.Trace.{HaveLists, IsTraceIf, delivered_on, stamps_notified, stamps_where_sent}
 
--- what is told: a stamp at which a node sent, one at which something was delivered on an edge, or one of which a node was notified
+-- what is told: a stamp at which an edge's sender sent on it, one at which something was delivered on an edge, or one of which a node was
+-- notified
 pub data Recall : Type 0 where
   of_sending : ℕ → Stamp → Recall
   of_delivery : ℕ → Stamp → Recall
@@ -28,7 +29,7 @@ pub data Recall : Type 0 where
 
 -- the traces have it
 abbrev pub HasRecalled : Traces → Recall → Type 0
-HasRecalled traces (of_sending p t) = Contains (stamps_where_sent traces p) t
+HasRecalled traces (of_sending e t) = Contains (stamps_where_sent traces e) t
 HasRecalled traces (of_delivery e t) = Contains (delivered_on traces e) t
 HasRecalled traces (of_notice p t) = Contains (stamps_notified traces p) t
 
@@ -41,19 +42,23 @@ pub record AreReady (flow : Dataflow) (traces : Traces) : Type 0 where
   pub lists : HaveLists flow traces
   pub ready : traces.refused ≡ false
 
--- what a batch of input p tells: its epoch, if it has a rec and the epoch lies outside the low watermark
-abbrev pub recalls_of_batch : ℕ → Front → List (List Rec) → ℕ → List Recall
-recalls_of_batch p low batches x =
-    if nat_lt 0 (length (slice_index_or batches x [])) && not (inside low (x ∷ [])) then of_sending p (x ∷ []) ∷ [] else []
+-- what is told of a stamp at which the sender of these edges sent on each
+abbrev pub sendings : List ℕ → Stamp → List Recall
+sendings es t = map (λ e. of_sending e t) es
+
+-- what a batch of input p tells: its epoch on each of its out-edges, if it has a rec and the epoch lies outside the low watermark
+abbrev pub recalls_of_batch : Dataflow → ℕ → Front → List (List Rec) → ℕ → List Recall
+recalls_of_batch flow p low batches x =
+    if nat_lt 0 (length (slice_index_or batches x [])) && not (inside low (x ∷ [])) then sendings (out_edges flow p) (x ∷ []) else []
 
 -- what the first n batches of input p tell
-abbrev pub recalls_of_input : ℕ → Front → List (List Rec) → ℕ → List Recall
-recalls_of_input p low batches n = flat_map (recalls_of_batch p low batches) (range_with_len 0 n)
+abbrev pub recalls_of_input : Dataflow → ℕ → Front → List (List Rec) → ℕ → List Recall
+recalls_of_input flow p low batches n = flat_map (recalls_of_batch flow p low batches) (range_with_len 0 n)
 
 -- what the first n nodes tell, of which so many batches were injected
-abbrev pub recalls_of_inputs : List (ℕ × List (List Rec)) → List ℕ → List Front → ℕ → List Recall
-recalls_of_inputs given injected low n =
-    flat_map (λ p. recalls_of_input p (front_of low p) (batches_at given p) (slice_index_or injected p 0)) (range_with_len 0 n)
+abbrev pub recalls_of_inputs : Dataflow → List (ℕ × List (List Rec)) → List ℕ → List Front → ℕ → List Recall
+recalls_of_inputs flow given injected low n =
+    flat_map (λ p. recalls_of_input flow p (front_of low p) (batches_at given p) (slice_index_or injected p 0)) (range_with_len 0 n)
 
 -- what an event of node p tells: of a delivery the stamp, if it is on an in-edge of the node
 abbrev pub recalls_of_event : Dataflow → ℕ → Event → List Recall
@@ -70,7 +75,7 @@ recalls_of_entry flow entry = recalls_of_written flow entry.node entry.written
 
 -- what is told of inputs, and of the events that these writes log
 abbrev pub recalls_of : Dataflow → List (ℕ × List (List Rec)) → List ℕ → List Front → List Entry → List Recall
-recalls_of flow given injected low entries = recalls_of_inputs given injected low (length flow.nodes) ++ flat_map (recalls_of_entry flow) entries
+recalls_of flow given injected low entries = recalls_of_inputs flow given injected low (length flow.nodes) ++ flat_map (recalls_of_entry flow) entries
 
 -- The numbers, the low watermarks and the writes are those of a state to which steps of a well-formed system lead, and the traces are of no
 -- event.

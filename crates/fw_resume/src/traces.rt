@@ -93,7 +93,7 @@ fn recall_inputs(
     requires few { (p : ℕ) → p < length flow.now.nodes → length (batches_at batches.now p) ≤ 2 ^ 32 }
     ensures ready { OnOk result (AreReady flow.now traces.new) }
     ensures recalled { OnOk result
-        (HaveRecalled (recalls_of_inputs batches.now injected.now low.now (length flow.now.nodes)) traces.old traces.new) }
+        (HaveRecalled (recalls_of_inputs flow.now batches.now injected.now low.now (length flow.now.nodes)) traces.old traces.new) }
 {
     for place in 0..flow.nodes() {
         let node = NodeId::at(place as u32);
@@ -122,7 +122,7 @@ fn recall_input(
     requires there { node < length flow.now.nodes }
     requires few { length batches.now ≤ 2 ^ 32 }
     ensures ready { OnOk result (AreReady flow.now traces.new) }
-    ensures recalled { OnOk result (HaveRecalled (recalls_of_input node low.now (map (λ b. b.recs) batches.now) injected) traces.old traces.new) }
+    ensures recalled { OnOk result (HaveRecalled (recalls_of_input flow.now node low.now (map (λ b. b.recs) batches.now) injected) traces.old traces.new) }
 {
     for epoch in 0..injected {
         recall_batch(traces, flow, node, batches, epoch, low)?;
@@ -143,7 +143,7 @@ fn recall_batch(
     requires there { node < length flow.now.nodes }
     requires few { length batches.now ≤ 2 ^ 32 }
     ensures ready { OnOk result (AreReady flow.now traces.new) }
-    ensures recalled { OnOk result (HaveRecalled (recalls_of_batch node low.now (map (λ b. b.recs) batches.now) epoch) traces.old traces.new) }
+    ensures recalled { OnOk result (HaveRecalled (recalls_of_batch flow.now node low.now (map (λ b. b.recs) batches.now) epoch) traces.old traces.new) }
 {
     let Some(batch) = batches.get(epoch as usize) else {
         return Ok(());

@@ -9,6 +9,7 @@ use Rattle.fw_lemmas.proofs.Filters.{filter-all, filter-swap, filter-same_on}
 use Rattle.fw_time.specs.Stamp.{Stamp, in_domain}
 use Rattle.fw_frontier.specs.Frontier.{Frontier}
 use Rattle.fw_frontier.specs.Front.{Front, inside}
+use Rattle.fw_flow.specs.NodeFunction.{sent_by}
 use Rattle.fw_flow.specs.declared.choice.Cut.TheVariants.{At}
 use Rattle.fw_flow.specs.declared.event.Message.{Message}
 use Rattle.fw_flow.specs.declared.node.Edge.{Edge}
@@ -22,6 +23,7 @@ use Rattle.fw_model.specs.History.{sent_messages}
 use Rattle.fw_model.specs.Machine.{Machine, events, family_of, is_failed}
 use Rattle.fw_model.specs.Reached.{IsReached}
 use Rattle.fw_model.specs.SortedMessages.{sorted_messages}
+use Rattle.fw_model.proofs.CarriedLaws.{carried-each}
 use Rattle.fw_model.proofs.ArrivalLaws.{at_edge}
 use Rattle.fw_model.proofs.DomainLaws.{has_epochs}
 use Rattle.fw_model.proofs.SentLaws.{copy}
@@ -36,8 +38,8 @@ use Rattle.fw_stands.specs.Parts.{is_logging, logged}
 use Rattle.fw_record.specs.Log.{logged_on}
 use Rattle.fw_stands.specs.Written.{messages_since}
 use Rattle.fw_stands.proofs.AtReached.{reached-legal}
-use Rattle.fw_stands.proofs.NumberLaws.{sender-there}
-use Rattle.fw_stands.proofs.RecoveredFacts.{all_inside-as, IsCausedIn, set-inside, legal-caused, legal-at, each-contained}
+use Rattle.fw_progress.proofs.OutLaws.{sender-there}
+use Rattle.fw_stands.proofs.RecoveredFacts.{all_inside-as, IsCausedIn, set-inside, edge-caused, legal-at, each-contained}
 use Rattle.fw_stands.proofs.RecoveredLogs.{logged-live}
 use Rattle.fw_stands.proofs.SpellingLaws.{stamps_have_spellings}
 use Rattle.fw_settle.specs.Checkpoints.{logged_from, logged_at, IsLogOf, is_sent_since, messages_told}
@@ -238,7 +240,7 @@ log-is sys state w r p l live since f logs log are i e s =
       | inr cannot ↦ log-none sys.flow told p log e i.same cannot ∙ sym (ap sorted_messages (cond-false can due [] cannot))
       | inl sends_again ↦
           let caused : AllByRecursion (IsCausedIn sys.flow p) sent =
-          subst (λ n. AllByRecursion (IsCausedIn sys.flow n) sent) s (legal-caused sys h w.flow (has_epochs sys w) legal (sender sys.flow e)) in
+          subst (λ n. AllByRecursion (IsCausedIn sys.flow n) sent) s (edge-caused sys h w.flow (has_epochs sys w) legal e) in
           log-on sys.flow told p log e i.same sends_again (sender-there sys.flow p e l s) s
           ∙ ap (λ ms. sorted_messages (messages_told since f ms))
           (are e s ∙ logged-live sys state e (ap (λ n. can_resend (policy_of sys.flow n)) s ∙ sends_again) (ap (is_failed state) s ∙ live))
@@ -304,7 +306,8 @@ sent-spelled sys w state r e =
     each-weaker (λ m. D m × (C m × IsCausedIn sys.flow p m)) (IsSentOn sys e) ms
     (λ m a. ((stamps_have_spellings sys.flow w.flow (receiver sys.flow e)).1 m.at a.0, one-stamp sys.flow w.flow p m.causes a.1.0.0 a.1.0.1 a.1.1))
     (each-both D (λ m. C m × IsCausedIn sys.flow p m) ms (legal-at sys h w.flow (has_epochs sys w) legal e)
-    (each-both C (IsCausedIn sys.flow p) ms (sent_by-one_cause sys p (events_at sys.flow p h)) (legal-caused sys h w.flow (has_epochs sys w) legal p)))
+    (each-both C (IsCausedIn sys.flow p) ms (carried-each sys.flow e C (sent_by sys p (events_at sys.flow p h)) (sent_by-one_cause sys p (events_at sys.flow p h)))
+    (edge-caused sys h w.flow (has_epochs sys w) legal e)))
 
 logged-spelled : (sys : System) → IsWellFormedSystem sys → (state : Machine) → IsReached sys state → (e : ℕ) → AllByRecursion (IsSentOn sys e) (logged sys state e)
 logged-spelled sys w state r e =

@@ -37,7 +37,7 @@ use Rattle.fw_stands.proofs.BaseSteps.{bases_after_asking, bases_after_persist}
 use Rattle.fw_stands.proofs.EntryViews.{takes_checkpoints_by_last_entry}
 use Rattle.fw_stands.proofs.FitLaws.{records_can_be_of_entries}
 use Rattle.fw_stands.proofs.LossLaws.{losses_stay}
-use Rattle.fw_stands.proofs.NumberLaws.{sender-there}
+use Rattle.fw_progress.proofs.OutLaws.{sender-there}
 use Rattle.fw_stands.proofs.NodeCheckpoints.{checkpoints-acknowledged}
 use Rattle.fw_stands.proofs.SettlingLaws.{asked_tables-settle, unasked_tables-stay}
 use Rattle.fw_stands.proofs.StayingLaws.{writes-keep_parts, writes-keep_tables}

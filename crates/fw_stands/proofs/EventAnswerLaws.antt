@@ -14,6 +14,7 @@ use Rattle.fw_flow.specs.Dataflow.{System, batches_of, sender, kind_of, send_sta
 use Rattle.fw_flow.specs.NodeFunction.{event_node, messages_at, messages_at_some, numbered_messages, recs_on_notification, sends, sends_of_kind, sequence_sent}
 use Rattle.fw_flow.specs.Projection.{events_at}
 use Rattle.fw_model.proofs.LowLaws.{input-is}
+use Rattle.fw_model.specs.Carried.{carried}
 use Rattle.fw_model.specs.SortedMessages.{sorted_messages}
 use Rattle.fw_model.specs.LawsOfPending.{sent_on}
 use Rattle.fw_node.specs.Answers.{caused_by, without_causes}
@@ -38,7 +39,7 @@ pub sent_on-put_on : (sys : System) (h : List Event) (v : Event) (e : ℕ) → s
 sent_on-put_on sys h v e =
     let p = event_node sys.flow v in
     let q = sender sys.flow e in
-    let S : ℕ → List Message = λ n. sends sys n (events_at sys.flow n h) v in
+    let S : ℕ → List Message = λ n. carried sys.flow e (sends sys n (events_at sys.flow n h) v) in
     elim (cases_Bool (p == q)) [
       | inl k ↦ cond-true (p == q) (S q) [] k ∙ sym (ap S (eqb-true p q k)) ∙ sym (cond-true (p == q) (S p) [] k)
       | inr k ↦ cond-false (p == q) (S q) [] k ∙ sym (cond-false (p == q) (S p) [] k)

@@ -16,24 +16,25 @@ use Rattle.fw_flow.specs.NodeFunction.{event_node, sends}
 use Rattle.fw_flow.specs.Projection.{events_at}
 use Rattle.fw_flow.specs.WellFormed.{IsWellFormed, IsWellFormedSystem}
 use Rattle.fw_flow.proofs.MessageLaws.{less-none}
+use Rattle.fw_model.specs.Carried.{carried}
 use Rattle.fw_model.specs.Filtering.{messages_outside}
 use Rattle.fw_model.specs.History.{delivered_messages, message_on, pending_messages, sent_messages, IsLegal, IsEnabled}
 use Rattle.fw_model.specs.LawsOfPending.{sent_on}
 use Rattle.fw_model.specs.Machine.{events, family_of, front_of, is_failed, Machine}
 use Rattle.fw_model.specs.SortedMessages.{sorted_messages, with_messages, with_message}
+use Rattle.fw_model.proofs.CarriedLaws.{carried-none, sent-more}
 use Rattle.fw_model.proofs.BothLaws.{pending-follows}
 use Rattle.fw_model.proofs.CompleteLaws.{past_edges-idle}
 use Rattle.fw_model.proofs.DomainLaws.{has_epochs}
 use Rattle.fw_model.proofs.LegalLaws.{edge_domains, legal_messages-in_domain}
 use Rattle.fw_model.proofs.SentLaws.{copy}
-use Rattle.fw_model.proofs.SortedLaws.{IsAscendingMessages, ascending-sorted_messages, ascending-less, ascending-with_messages, same_from_copies, sorted_messages-append, sorted_messages-filter, sorted_messages-weigh, with_messages-weigh}
+use Rattle.fw_model.proofs.SortedLaws.{IsAscendingMessages, ascending-sorted_messages, ascending-less, ascending-with_messages, same_from_copies, sorted_messages-append, sorted_messages-filter, sorted_messages-weigh, with_messages-weigh, sorted_messages-carried}
 use Rattle.fw_model.proofs.WeightLaws.{weigh, weigh-append}
 use Rattle.fw_model.proofs.NothingInsideLaws.{idle-sent}
 use Rattle.fw_model.specs.Reached.{IsReached}
 use Rattle.fw_stands.specs.Events.{AreSent, put_on, LogFollows, QueueFollows}
 use Rattle.fw_stands.specs.Parts.{is_logging, queued}
 use Rattle.fw_stands.proofs.EventNextLaws.{legal-reached}
-use Rattle.fw_progress.proofs.FollowLaws.{sent-more}
 
 -- ---- in whatever order messages are put in
 
@@ -74,14 +75,18 @@ put_on-sent sys h v sent s e = elim (cases_Bool (event_node sys.flow v == sender
   | inl k ↦
       let q = sender sys.flow e in
       let p = event_node sys.flow v in
-      ap sorted_messages (cond-true (p == q) sent [] k) ∙ s.messages
-      ∙ ap (λ n. sorted_messages (sends sys n (events_at sys.flow n h) v)) (eqb-true p q k)
-      ∙ sym (ap sorted_messages (cond-true (p == q) (sends sys q (events_at sys.flow q h) v) [] k))
+      let new : ℕ → List Message = λ n. sends sys n (events_at sys.flow n h) v in
+      ap sorted_messages (cond-true (p == q) (carried sys.flow e sent) [] k)
+      ∙ sorted_messages-carried sys.flow e sent
+      ∙ ap (carried sys.flow e) s.messages
+      ∙ sym (sorted_messages-carried sys.flow e (new p))
+      ∙ ap (λ n. sorted_messages (carried sys.flow e (new n))) (eqb-true p q k)
+      ∙ sym (ap sorted_messages (cond-true (p == q) (carried sys.flow e (new q)) [] k))
   | inr k ↦
       let q = sender sys.flow e in
       let p = event_node sys.flow v in
-      ap sorted_messages (cond-false (p == q) sent [] k)
-      ∙ sym (ap sorted_messages (cond-false (p == q) (sends sys q (events_at sys.flow q h) v) [] k))
+      ap sorted_messages (cond-false (p == q) (carried sys.flow e sent) [] k)
+      ∙ sym (ap sorted_messages (cond-false (p == q) (carried sys.flow e (sends sys q (events_at sys.flow q h) v)) [] k))
 ]
 
 -- in each reached state the queues follow each event that may come next
@@ -108,7 +113,8 @@ queues-follow sys state w r v k sent s e =
 pub none-pending_past : (sys : System) (h : List Event) (e : ℕ) → length sys.flow.edges ≤ e → pending_messages sys h e ≡ []
 none-pending_past sys h e past =
     let q = sender sys.flow e in
-    ap (λ ms. messages_less ms (delivered_messages h e)) (idle-sent sys q (past_edges-idle sys.flow e past) (events_at sys.flow q h)) ∙ less-none (delivered_messages h e)
+    ap (λ ms. messages_less (carried sys.flow e ms) (delivered_messages h e)) (idle-sent sys q (past_edges-idle sys.flow e past) (events_at sys.flow q h))
+    ∙ ap (λ ms. messages_less ms (delivered_messages h e)) (carried-none sys.flow e) ∙ less-none (delivered_messages h e)
 
 -- nothing is queued where no edge is declared
 pub nothing-queued_past : (sys : System) (state : Machine) (e : ℕ) → length sys.flow.edges ≤ e → queued sys state e ≡ []

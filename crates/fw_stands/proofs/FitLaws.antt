@@ -56,7 +56,8 @@ use Rattle.fw_record.specs.Log.{logged_on}
 use Rattle.fw_record.specs.declared.record.Record.{Record}
 use Rattle.fw_record.specs.declared.record.Record.TheVariants as tagged
 use Rattle.fw_stands.specs.Written.{events_within, edges_of, messages_since, to_log, to_log_since, told_inside, IsChangesFor, IsCheckpointFor, IsRecordFor}
-use Rattle.fw_stands.proofs.NumberLaws.{sender-there, ledger-few}
+use Rattle.fw_progress.proofs.OutLaws.{sender-there}
+use Rattle.fw_stands.proofs.NumberLaws.{ledger-few}
 use Rattle.fw_keep.specs.declared.entry.Entry.{Entry}
 use Rattle.fw_keep.specs.Entry.{IsRecordOfEntry, asked_beside}
 

@@ -23,21 +23,11 @@ use Rattle.fw_model.proofs.LegalLaws.{AreAllInDomain, legal-in_domain}
 
 -- ---- past the last edge
 
-pub sender-past : (flow : Dataflow) (e : ℕ) → length flow.edges ≤ e → sender flow e ≡ length flow.nodes
-unfolding sender
-sender-past flow e l = ap (λ (x : Edge). x.sender) (get_or_past flow.edges e (record { name = []; sender = length flow.nodes; receiver = length flow.nodes }) l)
-
 pub receiver-past : (flow : Dataflow) (e : ℕ) → length flow.edges ≤ e → receiver flow e ≡ length flow.nodes
 unfolding receiver
 receiver-past flow e l = ap (λ (x : Edge). x.receiver) (get_or_past flow.edges e (record { name = []; sender = length flow.nodes; receiver = length flow.nodes }) l)
 
--- an edge from a node that is there is there
-pub sender-there : (flow : Dataflow) (p e : ℕ) → p < length flow.nodes → sender flow e ≡ p → e < length flow.edges
-sender-there flow p e l s = elim (cases_lt e (length flow.edges)) [
-  | inl k ↦ k
-  | inr past ↦ let past_is = sender-past flow e past in absurd (omega arith)
-]
-
+-- an edge to a node that is there is there
 pub receiver-there : (flow : Dataflow) (p e : ℕ) → p < length flow.nodes → receiver flow e ≡ p → e < length flow.edges
 receiver-there flow p e l s = elim (cases_lt e (length flow.edges)) [
   | inl k ↦ k

@@ -25,6 +25,7 @@ use Rattle.fw_model.specs.History.{IsLegal, sent_messages}
 use Rattle.fw_model.specs.Machine.{Machine, events, front_of, is_failed}
 use Rattle.fw_model.specs.Settled.{IsFull}
 use Rattle.fw_model.specs.Steps.{recovered_state, front_of_cut}
+use Rattle.fw_model.proofs.CarriedLaws.{carried-each}
 use Rattle.fw_model.proofs.ArrivalLaws.{at_edge, in_edges-once}
 use Rattle.fw_model.proofs.CheckpointLaws.{candidates-within_settled}
 use Rattle.fw_model.proofs.LowLaws.{input-is, no_weight}
@@ -95,6 +96,13 @@ IsCausedIn flow p m = AllByRecursion (λ t. in_domain (bounds_of flow p) t ≡ t
 pub legal-caused : (sys : System) (h : List Event) → IsWellFormed sys.flow → HasEpochs sys → IsLegal sys h → (p : ℕ)
     → AllByRecursion (IsCausedIn sys.flow p) (sent_by sys p (events_at sys.flow p h))
 legal-caused sys h w b l p = sent_by-each_cause sys p (λ t. in_domain (bounds_of sys.flow p) t ≡ true) (events_at sys.flow p h) (legal_events-in_domain sys h w b l p)
+
+-- so has what it sent on an edge
+pub edge-caused : (sys : System) (h : List Event) → IsWellFormed sys.flow → HasEpochs sys → IsLegal sys h → (e : ℕ)
+    → AllByRecursion (IsCausedIn sys.flow (sender sys.flow e)) (sent_messages sys h e)
+edge-caused sys h w b l e =
+    let p = sender sys.flow e in
+    carried-each sys.flow e (IsCausedIn sys.flow p) (sent_by sys p (events_at sys.flow p h)) (legal-caused sys h w b l p)
 
 -- it is at stamps of the receiver
 pub legal-at : (sys : System) (h : List Event) → IsWellFormed sys.flow → HasEpochs sys → IsLegal sys h → (e : ℕ)

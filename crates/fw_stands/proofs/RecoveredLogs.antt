@@ -23,6 +23,7 @@ use Rattle.fw_flow.specs.Projection.{events_at, all_inside}
 use Rattle.fw_flow.specs.declared.restoring.Restoring.TheVariants.{Checkpoints, Events}
 use Rattle.fw_flow.specs.Restoring.{can_resend, restoring, way_of}
 use Rattle.fw_flow.specs.WellFormed.{IsPolicyAllowed, may_keep_nothing, IsWellFormed}
+use Rattle.fw_model.specs.Carried.{carried}
 use Rattle.fw_model.specs.Choice.{cut_of, kept_of}
 use Rattle.fw_model.specs.Covers.{set_of}
 use Rattle.fw_model.specs.Filtering.{events_inside, messages_from, messages_outside}
@@ -32,13 +33,14 @@ use Rattle.fw_model.specs.Machine.{Machine, events, family_of, front_of, is_fail
 use Rattle.fw_model.specs.Resending.{at_receiver, logged_messages}
 use Rattle.fw_model.specs.SortedMessages.{sorted_messages}
 use Rattle.fw_model.specs.Steps.{recovered_state}
+use Rattle.fw_model.proofs.CarriedLaws.{carried-all, carried-from, carried-none}
 use Rattle.fw_model.proofs.CauseLaws.{outside-sent}
 use Rattle.fw_model.proofs.LowLaws.{none-within}
 use Rattle.fw_model.proofs.ReplayLaws.{replayed-send, replayed-those}
 use Rattle.fw_model.proofs.SendPartLaws.{part-sends, passing-send}
 use Rattle.fw_stands.specs.Recovered.{Recovers}
 use Rattle.fw_stands.specs.Parts.{is_logging, logged}
-use Rattle.fw_stands.proofs.RecoveredFacts.{knows, none_failed, present_lives, IsCausedIn, legal-caused, legal-at, sent-now, outside-front, none_given-up}
+use Rattle.fw_stands.proofs.RecoveredFacts.{knows, none_failed, present_lives, IsCausedIn, edge-caused, legal-at, sent-now, outside-front, none_given-up}
 
 -- ---- after any recovery
 
@@ -88,7 +90,7 @@ logs-present sys state choice settled r e l is =
       | inl can ↦
           logged-now sys state choice settled r e can
           ∙ ap (λ ms. sorted_messages (messages_outside (family_of sys.flow state.low (receiver sys.flow e)) ms))
-          (present-keeps sys.flow choice p is sent (legal-caused sys (events state.history) w k.epochs k.legal p))
+          (present-keeps sys.flow choice p is sent (edge-caused sys (events state.history) w k.epochs k.legal e))
           ∙ sym (logged-live sys state e can (present_lives sys state choice settled r p (w.senders_declared e l) is))
     ]
 
@@ -121,7 +123,9 @@ logs-of_nothing sys state choice settled r e l is =
       | inr cannot ↦ logged-none sys (recovered_state sys state choice settled) e cannot
       | inl can ↦
           logged-cut sys state choice settled r e can (no_stamps (bounds_of sys.flow p)) is
-          ∙ ap (λ ms. sorted_messages (messages_outside (at_receiver sys state.low e) ms)) (none-from sys p (events_at sys.flow p (events state.history)))
+          ∙ ap (λ ms. sorted_messages (messages_outside (at_receiver sys state.low e) ms))
+          (carried-from sys.flow e (node_frontier sys.flow p (no_stamps (bounds_of sys.flow p))) (sent_by sys p (events_at sys.flow p (events state.history)))
+          ∙ ap (carried sys.flow e) (none-from sys p (events_at sys.flow p (events state.history))) ∙ carried-none sys.flow e)
     ]
 
 -- ---- two watermarks
@@ -155,7 +159,7 @@ replayed-at sys state choice settled r e full f is =
     let g = not_given_up sys state.low p in
     let vs = events_at sys.flow p h in
     let P : Message → Type 0 = λ m. in_domain (bounds_of sys.flow (receiver sys.flow e)) m.at ≡ true in
-    let sent = legal-at sys h w k.epochs k.legal e in
+    let sent = subst (AllByRecursion P) (carried-all sys.flow e (sent_by sys p vs)) (legal-at sys h w k.epochs k.legal e) in
     let inside_cut : sent_by sys p (events_inside b vs) ≡ messages_from b (sent_by sys p vs) = part-sends sys h w k.epochs k.legal p b (frontier-closed (bounds_of sys.flow p) f) in
     let cut_sent : AllByRecursion P (sent_by sys p (events_inside b vs)) =
     subst (AllByRecursion P) (sym inside_cut) (each-kept P (λ m. all_inside b m.causes) (sent_by sys p vs) sent) in
@@ -181,6 +185,7 @@ logs-from_replay sys state choice settled r e l full f is =
     logged-cut sys state choice settled r e (full-resends (policy_of sys.flow p) full) f is
     ∙ ap sorted_messages
     (sym (replayed-send sys r.well_formed r.reached.0 r.reached.1 state r.reached.2 (is_failed state) choice r.largest p f full is e l refl)
+    ∙ ap (messages_outside (at_receiver sys state.low e)) (carried-all sys.flow e (sent_by sys p (replayed_events sys state p b)))
     ∙ outside-front sys.flow q (front_of state.low q) (sent_by sys p (replayed_events sys state p b)) (replayed-at sys state choice settled r e full f is))
 
 -- ---- which nodes can send again

@@ -26,7 +26,7 @@ use Rattle.fw_model.proofs.SortedLaws.{sorted_messages-filter, sorted_messages-t
 use Rattle.fw_stands.specs.Recovered.{Recovers}
 use Rattle.fw_stands.specs.Parts.{queued, logged}
 use Rattle.fw_stands.proofs.RecoveredLogs.{logged-none, logged-now}
-use Rattle.fw_stands.proofs.RecoveredFacts.{knows, no_input-receives, cut_within-settled, none_failed, present_lives, IsCausedIn, legal-caused, legal-at, from-cut, outside-cut}
+use Rattle.fw_stands.proofs.RecoveredFacts.{knows, no_input-receives, cut_within-settled, none_failed, present_lives, IsCausedIn, edge-caused, legal-at, from-cut, outside-cut}
 
 -- what is queued after a recovery is what is pending
 pub queued-now : (sys : System) (state : Machine) (choice : Choice) (settled : List Front) (e : ℕ)
@@ -52,7 +52,7 @@ queues-present sys state choice settled r e l is =
     let f = kept_of sys.flow choice p in
     let g = inside (front_of_cut (cut_of choice p)) in
     let pending = pending_messages sys h e in
-    let caused = less-each (IsCausedIn sys.flow p) (sent_messages sys h e) (delivered_messages h e) (legal-caused sys h w k.epochs k.legal p) in
+    let caused = less-each (IsCausedIn sys.flow p) (sent_messages sys h e) (delivered_messages h e) (edge-caused sys h w k.epochs k.legal e) in
     queued-now sys state choice settled e
     ∙ ap sorted_messages (pending-present sys state choice w k.epochs k.legal k.meets e is ∙ from-cut sys choice p pending caused)
     ∙ sorted_messages-filter (λ (m : Message). all_inside g m.causes) pending

@@ -6,7 +6,7 @@ use Rattle.fw_lemmas.proofs.Bools.{two_ways}
 use Rattle.fw_lemmas.proofs.Each.{each-one, each-filter, each-weaker}
 use Rattle.fw_lemmas.proofs.Filters.{filter-none}
 use Rattle.fw_time.specs.Stamp.{Stamp, in_domain}
-use Rattle.fw_frontier.specs.Frontier.{Frontier, Within, nothing}
+use Rattle.fw_frontier.specs.Frontier.{Frontier, Within, everything, nothing}
 use Rattle.fw_frontier.specs.Front.{Front}
 use Rattle.fw_frontier.proofs.NamesLaws.{frontier-closed}
 use Rattle.fw_flow.specs.declared.choice.Choice.{Choice}
@@ -14,7 +14,7 @@ use Rattle.fw_flow.specs.declared.choice.Cut.TheVariants.{At, Present}
 use Rattle.fw_flow.specs.declared.choice.Stamps.{Stamps}
 use Rattle.fw_flow.specs.declared.event.Event.{Event}
 use Rattle.fw_flow.specs.declared.event.Message.{Message}
-use Rattle.fw_flow.specs.Dataflow.{System, Dataflow, kind_of, policy_of, receiver, bounds_of, node_frontier, is_input_kind}
+use Rattle.fw_flow.specs.Dataflow.{System, Dataflow, kind_of, policy_of, receiver, bounds_of, node_frontier, is_input_kind, sender}
 use Rattle.fw_flow.specs.NodeFunction.{event_stamp, sent_by}
 use Rattle.fw_flow.specs.Projection.{events_at}
 use Rattle.fw_model.specs.Choice.{IsCutWithin, cut_of, kept_of}
@@ -22,13 +22,14 @@ use Rattle.fw_model.specs.Floors.{IsFloor}
 use Rattle.fw_model.specs.Covers.{set_of, stamp_of_notice}
 use Rattle.fw_model.specs.EventStamps.{AreStampsIf, StandForNumbered, StandForSent, base_of_sent, causes_in, tells_sent}
 use Rattle.fw_model.specs.Filtering.{kept_events, messages_from}
-use Rattle.fw_model.specs.History.{delivered_messages}
+use Rattle.fw_model.specs.History.{delivered_messages, sent_messages}
 use Rattle.fw_model.specs.Machine.{Machine, events, front_of, is_failed, no_stamps}
 use Rattle.fw_model.specs.Offers.{AreAtEdgeStamps, counted_on_edge, stamps_on}
 use Rattle.fw_model.specs.Steps.{IsSettledCut, recovered_state}
 use Rattle.fw_model.specs.Thinned.{IsThinned, IsThinnedIf}
 use Rattle.fw_model.specs.Writes.{takes_checkpoints}
 use Rattle.fw_model.proofs.AskedLaws.{takes-not_input}
+use Rattle.fw_model.proofs.CarriedLaws.{carried-none}
 use Rattle.fw_model.proofs.LowLaws.{input-is, none-within}
 use Rattle.fw_model.proofs.FloorLaws.{holds-floors}
 use Rattle.fw_model.proofs.SendPartLaws.{part-sends}
@@ -104,12 +105,13 @@ some-sent flow p base all kept inside among = by (tells_sent flow p)
 -- So are traces of a node of which it is not counted how much it sent, where the base has all of its events.
 pub some-trace : (sys : System) (h : List Event) (p : ℕ) (base : Frontier) (traces : Traces) → takes_checkpoints (policy_of sys.flow p) ≡ false
     → ((d : ℕ) → receiver sys.flow d ≡ p → AllByRecursion (λ t. base t ≡ true) (map (λ (m : Message). m.at) (delivered_messages h d)))
-    → AllByRecursion (λ t. base t ≡ true) (flat_map (stamp_of_notice p) h) → AllByRecursion (λ t. base t ≡ true) (causes_in (sent_by sys p (events_at sys.flow p h)))
+    → AllByRecursion (λ t. base t ≡ true) (flat_map (stamp_of_notice p) h)
+    → ((e : ℕ) → sender sys.flow e ≡ p → AllByRecursion (λ t. base t ≡ true) (causes_in (sent_messages sys h e)))
     → IsTraceAmong sys h p traces → IsTraceIf false sys h p base traces
 some-trace sys h p base traces takes delivered notified sent t = record {
   delivered = λ d l r. some-thinned base (map (λ (m : Message). m.at) (delivered_messages h d)) (delivered_on traces d) (delivered d r) (t.delivered d l r);
   notified = some-thinned base (flat_map (stamp_of_notice p) h) (stamps_notified traces p) notified t.notified;
-  sent = λ o k. some-sent sys.flow p base (causes_in (sent_by sys p (events_at sys.flow p h))) (stamps_where_sent traces p) sent (t.sent o k);
+  sent = λ d l r k. some-sent sys.flow p base (causes_in (sent_messages sys h d)) (stamps_where_sent traces d) (sent d r) (t.sent d l r k);
   counted = λ c. absurd (two_ways (takes_checkpoints (policy_of sys.flow p)) c takes);
 }
 
@@ -138,7 +140,7 @@ traces-cut_among sys floor state choice settled r p takes f is same old new cut 
     some-trace sys vs p base new takes
     (λ d e. subst Inside (sym (delivered-kept sys h keep p base at d e)) (each-inside base (map (λ (m : Message). m.at) (delivered_messages h d))))
     (subst Inside (sym (notices-kept sys.flow keep h p ∙ ap (λ g. filter g (flat_map (stamp_of_notice p) h)) at)) (each-inside base (flat_map (stamp_of_notice p) h)))
-    (subst Inside (sym (sent-kept sys h keep w k.epochs k.legal k.keeps.kept p base at)) (each-inside base (causes_in (sent_by sys p (events_at sys.flow p h)))))
+    (λ d e. subst Inside (sym (sent-kept sys h keep w k.epochs k.legal k.keeps.kept p base at d e)) (each-inside base (causes_in (sent_messages sys h d))))
     (cut-among sys.flow p f (IsTallyCutTo f) old new w cut.lists sys h keep refl k.epochs k.legal k.keeps.kept at t) in
     subst (λ b. IsTraceOf sys (events next.history) p b new) (sym base_now)
     (subst (λ whole. IsTraceIf whole sys (events next.history) p base new) (sym takes)
@@ -207,8 +209,14 @@ no-stamps whole sys p base stamps a = record {
   delivered = λ d at. none-if whole base (stamps_on d stamps.delivered) (ap (stamps_on d) a.delivered);
   notified = none-if whole base stamps.notified a.notified;
   sent = λ n e l s. subst (λ ms. StandForSent (whole && tells_sent sys.flow p) sys [] p (base_of_sent sys.flow p base) e (counted_on_edge e ms)) (sym a.sent)
-      (record { of_cause = tt; thinned = none-if (whole && tells_sent sys.flow p) (base_of_sent sys.flow p base) [] refl });
-  numbered = λ n t e l s. subst (StandForNumbered sys [] e) (sym a.sent) (none-thinned _ [] refl);
+      (record {
+        of_cause = tt;
+        thinned = subst (λ ms. IsThinnedIf (whole && tells_sent sys.flow p) (base_of_sent sys.flow p base) (causes_in ms) []) (sym (carried-none sys.flow e))
+            (none-if (whole && tells_sent sys.flow p) (base_of_sent sys.flow p base) [] refl);
+      });
+  numbered = λ n t e l s. subst (StandForNumbered sys [] e) (sym a.sent)
+      (subst (λ ms. IsThinned (everything (bounds_of sys.flow (receiver sys.flow e))) (map (λ (m : Message). m.at) ms) []) (sym (carried-none sys.flow e))
+      (none-thinned (everything (bounds_of sys.flow (receiver sys.flow e))) [] refl));
 }
 
 -- those of a node that is cut to no stamps are restored by none

@@ -9,9 +9,15 @@ use Rattle.fw_time.specs.Stamp.{Stamp}
 use Rattle.fw_bag.specs.declared.rec.Rec.{Rec}
 use Rattle.fw_frontier.specs.Front.{Front, inside}
 use Rattle.fw_frontier.specs.Frontier.{Frontier}
+use Rattle.fw_flow.specs.declared.event.Message.{Message}
+use Rattle.fw_flow.specs.Message.{messages_less}
 use Rattle.fw_flow.specs.Dataflow.{System, kind_of, batches_of, bounds_of, receiver, node_ids, is_input_kind, is_output_kind, policy_of}
 use Rattle.fw_flow.proofs.EdgeLaws.{kind-past}
-use Rattle.fw_model.specs.Machine.{first_state, no_stamps, front_of, is_failed, ack_count_of}
+use Rattle.fw_model.specs.Filtering.{messages_outside}
+use Rattle.fw_model.specs.History.{pending_messages, sent_messages}
+use Rattle.fw_model.specs.SortedMessages.{sorted_messages}
+use Rattle.fw_model.proofs.CarriedLaws.{carried-none}
+use Rattle.fw_model.specs.Machine.{family_of, first_state, no_stamps, front_of, is_failed, ack_count_of}
 use Rattle.fw_model.proofs.ChoiceLaws.{bounds-input}
 use Rattle.fw_model.proofs.LowLaws.{input-is}
 use Rattle.fw_model.specs.Reached.{IsReached}
@@ -67,19 +73,22 @@ borders-have_none sys p b = record {
     none false true c e = refl
     none false false c e = absurd (cc)
 
-nothing-either : {A : Type 0} (b : Bool) (none : List A) → none ≡ [] → cond b none none ≡ []
-nothing-either true none e = e
-nothing-either false none e = e
+nothing-either : {A : Type 0} (b : Bool) (xs ys : List A) → xs ≡ [] → ys ≡ [] → cond b xs ys ≡ []
+nothing-either true xs ys x y = x
+nothing-either false xs ys x y = y
 
 -- it is so of each system
 pub first-holds_nothing : (sys : System) → HoldsNothing sys
 unfolding zeros
 first-holds_nothing sys = record {
-  queues = λ e. nothing-either (is_failed (first_state sys) (receiver sys.flow e)) [] refl;
-  logs = λ e. nothing-either (is_logging sys (first_state sys) e) [] refl;
+  queues = λ e. nothing-either (is_failed (first_state sys) (receiver sys.flow e)) [] (sorted_messages (pending_messages sys [] e)) refl
+      (ap (λ ms. sorted_messages (messages_less ms [])) (carried-none sys.flow e));
+  logs = λ e.
+      let kept : List Message → List Message = λ ms. sorted_messages (messages_outside (family_of sys.flow (first_state sys).low (receiver sys.flow e)) ms) in
+      nothing-either (is_logging sys (first_state sys) e) (kept (sent_messages sys [] e)) [] (ap kept (carried-none sys.flow e)) refl;
   outputs = λ o. record {
     bound = sym (none-acknowledged (node_ids sys.flow) o);
-    recs = λ x. sym (nothing-either (is_failed (first_state sys) o || nat_lt x (ack_count_of (first_state sys) o)) [] refl);
+    recs = λ x. sym (nothing-either (is_failed (first_state sys) o || nat_lt x (ack_count_of (first_state sys) o)) [] [] refl refl);
   };
   lost = λ p t l. two_ways (is_failed (first_state sys) p) l.0 (first-live sys p);
 }

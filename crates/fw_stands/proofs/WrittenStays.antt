@@ -21,6 +21,7 @@ use Rattle.fw_flow.specs.NodeFunction.{event_node, event_stamp, sent_by, sequenc
 use Rattle.fw_flow.specs.Projection.{all_inside, events_at}
 use Rattle.fw_flow.specs.Restoring.{can_resend}
 use Rattle.fw_flow.specs.WellFormed.{IsWellFormedSystem}
+use Rattle.fw_model.specs.Carried.{carried}
 use Rattle.fw_model.specs.Choice.{kept_of}
 use Rattle.fw_model.specs.Covers.{stamp_of_notice}
 use Rattle.fw_model.specs.EventStamps.{AreStampsIf, base_of_sent, tells_sent, causes_in, causes_of}
@@ -80,7 +81,7 @@ pub stamps-own : (whole : Bool) (sys : System) (h k : List Happened) (p : ℕ) (
     → AreStampsIf whole sys h p base stamps → AreStampsIf whole sys k p base stamps
 stamps-own whole sys h k p base stamps same a =
     let own : (e : ℕ) → sender sys.flow e ≡ p → sent_messages sys h e ≡ sent_messages sys k e =
-    λ e s. subst (λ q. sent_by sys q (events_at sys.flow q h) ≡ sent_by sys q (events_at sys.flow q k)) (sym s) (ap (sent_by sys p) (sym same)) in
+    λ e s. ap (carried sys.flow e) (subst (λ q. sent_by sys q (events_at sys.flow q h) ≡ sent_by sys q (events_at sys.flow q k)) (sym s) (ap (sent_by sys p) (sym same))) in
     record {
       on_edges = a.on_edges;
       in_domain = a.in_domain;

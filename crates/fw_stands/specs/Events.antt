@@ -12,6 +12,7 @@ use Rattle.fw_flow.specs.Dataflow.{System, Dataflow, batches_of, bounds_of, in_e
 use Rattle.fw_flow.specs.Message.{messages_less}
 use Rattle.fw_flow.specs.NodeFunction.{event_node, sends}
 use Rattle.fw_flow.specs.Projection.{events_at}
+use Rattle.fw_model.specs.Carried.{carried}
 use Rattle.fw_model.specs.Filtering.{messages_outside}
 use Rattle.fw_model.specs.History.{message_on, IsEnabled}
 use Rattle.fw_model.specs.Machine.{Machine, events, front_of, is_failed}
@@ -61,9 +62,9 @@ at_epoch x rs = caused_by (x ∷ []) (map (λ r. (x ∷ [], r)) rs)
 
 -- ---- queues and logs
 
--- what comes to edge e from an event at which its node sends these
+-- what comes to edge e from an event at which its node sends these: what it carries of them
 abbrev pub put_on : Dataflow → ℕ → Event → List Message → List Message
-put_on flow e v sent = if event_node flow v == sender flow e then sent else []
+put_on flow e v sent = if event_node flow v == sender flow e then carried flow e sent else []
 
 -- The queue of edge e after an event at which its node sends these: without the message that the event delivered there, and with
 -- those that it sends there; empty where the receiver is failed.

@@ -1,23 +1,23 @@
 use Rattle.fw_flow.specs.Dataflow.{bounds_of}
 use Rattle.fw_progress.specs.Counts.{quiet_by}
-use Rattle.fw_progress.proofs.TargetLaws.{in_edge, left_none, left_carried, left_all}
+use Rattle.fw_progress.proofs.TargetLaws.{in_edge, left_none, left_projected, left_all}
 use Rattle.fw_progress.proofs.target.target.Goals as goal
 
 pub loop-edge-init : goal.loop-edge-init
 loop-edge-init c = left_none (bounds_of c.args.flow.now c.args.node) c.in_ok-left.left (quiet_by c.args.flow.now c.args.counts.now c.args.node) c.in_ok-left.ensures
 
-pub carried-requires-clause-there : goal.carried-requires-clause-there
-carried-requires-clause-there c = (in_edge c.args.flow.now c.args.node c.in_edges-edges.result.now c.loop-edge.edge-index c.edge-item.result c.in_edges-edges.ensures c.loop-edge-test.true c.edge-item.is).0
+pub projected-requires-clause-there : goal.projected-requires-clause-there
+projected-requires-clause-there c = (in_edge c.args.flow.now c.args.node c.in_edges-edges.result.now c.loop-edge.edge-index c.edge-item.result c.in_edges-edges.ensures c.loop-edge-test.true c.edge-item.is).0
 
-pub carried-requires-clause-sender : goal.carried-requires-clause-sender
-carried-requires-clause-sender c =
+pub projected-requires-clause-sender : goal.projected-requires-clause-sender
+projected-requires-clause-sender c =
     c.flow_is_well_formed.ensures.senders_declared c.edge-item.result
     (in_edge c.args.flow.now c.args.node c.in_edges-edges.result.now c.loop-edge.edge-index c.edge-item.result c.in_edges-edges.ensures c.loop-edge-test.true c.edge-item.is).0
 
 pub loop-edge-preserved : goal.loop-edge-preserved
 loop-edge-preserved c =
-    left_carried c.args.flow.now c.args.counts.now c.args.fronts.now c.args.node c.loop-edge.left c.in_ok-carried.carried c.narrow.new.left
-    c.in_edges-edges.result.now c.loop-edge.edge-index c.edge-item.result c.in_edges-edges.ensures c.loop-edge-test.true c.edge-item.is c.loop-edge.invariant c.in_ok-carried.ensures
+    left_projected c.args.flow.now c.args.counts.now c.args.fronts.now c.args.node c.loop-edge.left c.in_ok-projected.projected c.narrow.new.left
+    c.in_edges-edges.result.now c.loop-edge.edge-index c.edge-item.result c.in_edges-edges.ensures c.loop-edge-test.true c.edge-item.is c.loop-edge.invariant c.in_ok-projected.ensures
     (c.in_ok-narrow.ensures (bounds_of c.args.flow.now c.args.node) c.loop-edge.invariant.canonical)
 
 pub returns : goal.returns

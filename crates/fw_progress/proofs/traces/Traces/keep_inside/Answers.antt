@@ -11,11 +11,11 @@ returns-clause-cut c = λ k.
     let f = c.args.f.now in
     let old = c.args.self.now in
     cut-traces c.args.flow.now c.args.node f old
-    (record { delivered = c.cut_into.new.lists; notified = c.cut_at.new.lists; sent = c.cut_at-2.new.lists; counted = c.cut_tally.new.tallies; refused = old.refused })
+    (record { delivered = c.cut_into.new.lists; notified = c.cut_at.new.lists; sent = c.cut_out.new.lists; counted = c.cut_tally.new.tallies; refused = old.refused })
     c.flow_is_well_formed.ensures
     (record {
       delivered = c.cut_into.ensures;
       notified = subst (λ n. ChangesAt n [] (StandsInside f) old.notified.items c.cut_at.new.lists.items) c.place.ensures c.cut_at.ensures;
-      sent = subst (λ n. ChangesAt n [] (StandsInside f) old.sent.items c.cut_at-2.new.lists.items) c.place-2.ensures c.cut_at-2.ensures;
-      counted = subst (λ n. ChangesAt n no_tally (IsTallyCutTo f) old.counted.items c.cut_tally.new.tallies.items) c.place-3.ensures c.cut_tally.ensures;
+      sent = c.cut_out.ensures;
+      counted = subst (λ n. ChangesAt n no_tally (IsTallyCutTo f) old.counted.items c.cut_tally.new.tallies.items) c.place-2.ensures c.cut_tally.ensures;
     })

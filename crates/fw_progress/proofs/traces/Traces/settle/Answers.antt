@@ -13,12 +13,12 @@ returns-clause-thinned c =
     record {
       delivered = c.in_ok-settle_into.ensures;
       notified = subst (λ n. ChangesAt n [] (IsThinnedBy f) old.notified.items c.settle_at.new.lists.items) c.place.ensures c.in_ok-settle_at.ensures;
-      sent = subst (λ n. ChangesAt n [] (IsThinnedBy f) old.sent.items c.settle_at-2.new.lists.items) c.place-2.ensures c.in_ok-settle_at-2.ensures;
-      counted = subst (λ n. ChangesAt n no_tally (IsCountedInAll f) old.counted.items c.settle_tally.new.tallies.items) c.place-3.ensures c.in_ok-settle_tally.ensures;
+      sent = c.in_ok-settle_out.ensures;
+      counted = subst (λ n. ChangesAt n no_tally (IsCountedInAll f) old.counted.items c.settle_tally.new.tallies.items) c.place-2.ensures c.in_ok-settle_tally.ensures;
     }
 
 pub returns-clause-settled : goal.returns-clause-settled
 returns-clause-settled c =
     thinned-traces c.args.flow.now c.args.node c.args.base.now c.args.self.now
-    (record { delivered = c.settle_into.new.lists; notified = c.settle_at.new.lists; sent = c.settle_at-2.new.lists; counted = c.settle_tally.new.tallies; refused = false })
+    (record { delivered = c.settle_into.new.lists; notified = c.settle_at.new.lists; sent = c.settle_out.new.lists; counted = c.settle_tally.new.tallies; refused = false })
     (returns-clause-thinned c)

@@ -1,9 +1,10 @@
 -- Where a session stands, and what its calls answer.
-use Rattle.std.specs.Prelude.{◌≡◌, ℕ, Bool, false, length, slice_index_or, Option, None, Result, IfOk, IsErrOf, IsSome}
+use Rattle.std.specs.Prelude.{◌≡◌, ◌≢◌, ℕ, ◌+◌, ◌-◌, ◌^◌, min, Bool, false, length, slice_index_or, slice_set, is_some, Option, None, Result, Ok, IfOk, IsErrOf, IsSome}
 use Rattle.fw_flow.specs.declared.step.Step.{Step}
-use Rattle.fw_flow.specs.declared.step.Step.TheVariants.{Collect}
+use Rattle.fw_flow.specs.declared.step.Step.TheVariants.{Collect, Recover}
 use Rattle.fw_flow.specs.Dataflow.{Dataflow}
 use Rattle.fw_flow.specs.WellFormed.{IsWellFormed}
+use Rattle.fw_outside.specs.Outside.{StoreView}
 use Rattle.fw_keep.specs.Stored.{Records}
 use Rattle.fw_model.specs.Auto.{AreIdle, IsFirstEnabled, IsIdle}
 use Rattle.fw_model.specs.Machine.{Machine}
@@ -11,8 +12,9 @@ use Rattle.fw_model.specs.Steps.{Outcome, did, idle}
 use Rattle.fw_running.specs.declared.fault.EngineFault.{EngineFault}
 use Rattle.fw_running.specs.declared.fault.EngineFault.TheVariants as fault
 use Rattle.fw_running.specs.declared.stepped.Stepped.{Stepped}
+use Rattle.fw_running.specs.declared.stepped.Stepped.TheVariants.{Idle}
 use Rattle.fw_running.specs.Fed.{auto_steps_within}
-use Rattle.fw_running.specs.Steps.{Trusts, outcome_of}
+use Rattle.fw_running.specs.Steps.{MayCallByItself, MayCallStore, Trusts, outcome_of}
 use Rattle.fw_feeding.specs.OpenRuns.{HoldsBack}
 use Rattle.fw_engine.specs.declared.engine.Engine.{Engine}
 use Rattle.fw_engine.specs.Engine.{flow_of, was_refused, StandsFor}
@@ -26,6 +28,14 @@ is_open_in arrivals s = slice_index_or arrivals.opened.items s false
 -- how many batches came to a node
 abbrev pub came_in : Arrivals → ℕ → ℕ
 came_in arrivals s = slice_index_or arrivals.came.items s 0
+
+-- one batch more is counted of a node
+abbrev pub IsCounted : ℕ → Arrivals → Arrivals → Type 0
+IsCounted s old new = new.came.items ≡ slice_set old.came.items s (min (came_in old s + 1) (2 ^ 64 - 1))
+
+-- a node is no source any more that is open
+abbrev pub IsShut : ℕ → Arrivals → Arrivals → Type 0
+IsShut s old new = new.opened.items ≡ slice_set old.opened.items s false
 
 -- A session is at a story: its engine stands for the state of the story in the system of now, over the records of its store, and what is
 -- kept of each node is whether this is a source that is open, and how many batches came.
@@ -88,3 +98,24 @@ pub record FirstGoesOn (flow : Dataflow) (arrivals : Arrivals) (result : Result 
   pub ok : (story : Story) → Before story → IfOk result (λ stepped. GoesOnFirst flow arrivals (outcome_of stepped) story After)
   pub faulted : (story : Story) → Before story → IsErrOf result fault.StoreFault → After story
   pub unharmed : (id : ℕ) → IsErrOf result (fault.Damaged id) → ⊥
+
+-- ---- what a step leaves of the store, whatever the session stands for
+
+-- When a step calls the store, and what it leaves of it.
+pub record StepLeaves {K : Type 0} (view : K → StoreView) (flow : Dataflow) (step : Step) (result : Result Stepped EngineFault) (before after : K)
+    : Type 0 where
+  -- a store that tells its records goes on telling them, unless it ceases in a recovery, which reads
+  pub tells : step ≢ Recover → is_some (view after).records ≡ is_some (view before).records
+  -- a step that by the flow's policies never calls it leaves it as it is, and so does an idle one that is no collection
+  pub quiet : (MayCallStore flow step → ⊥) → after ≡ before
+  pub idle : step ≢ Collect → result ≡ Ok Idle → after ≡ before
+  -- it fails in a step alone that may call it, and a record is damaged in a recovery alone
+  pub calls : IsErrOf result fault.StoreFault → MayCallStore flow step
+  pub in_recovery : (id : ℕ) → IsErrOf result (fault.Damaged id) → step ≡ Recover
+
+-- The same of a step that is taken by itself.
+pub record FirstLeaves {K : Type 0} (view : K → StoreView) (flow : Dataflow) (result : Result Stepped EngineFault) (before after : K) : Type 0 where
+  pub tells : is_some (view after).records ≡ is_some (view before).records
+  pub quiet : (MayCallByItself flow → ⊥) → after ≡ before
+  pub idle : result ≡ Ok Idle → after ≡ before
+  pub calls : IsErrOf result fault.StoreFault → MayCallByItself flow

@@ -1,5 +1,5 @@
 //! What came to the sources of a session.
-ghost use Rattle.std.specs.Prelude.{◌≡◌, ◌↔◌, ◌+◌, ◌-◌, ◌^◌, ◌≤◌, ◌<◌, false, true, map, min, replicate, slice_set, IfOk, IsErr, IsErrOf, length};
+ghost use Rattle.std.specs.Prelude.{◌≡◌, ◌↔◌, ◌⊎◌, ◌+◌, ◌-◌, ◌^◌, ◌≤◌, ◌<◌, false, true, map, min, replicate, slice_set, IfOk, IsErr, IsErrOf, length};
 ghost use Rattle.fw_flow.specs.Dataflow.{kind_of, is_input_kind, node_ids};
 
 use crate::FeedFault;
@@ -53,7 +53,9 @@ impl Arrivals {
         ensures room { IfOk result (λ epoch. epoch < 2 ^ 20 - 1) }
         ensures open { IfOk result (λ epoch. is_open_in self.now source ≡ true) }
         ensures closed { IsErrOf result (FeedFault.Closed source) ↔ is_open_in self.now source ≡ false }
-        ensures full { IsErrOf result (FeedFault.Full source) → 2 ^ 20 - 1 ≤ came_in self.now source }
+        ensures full { IsErrOf result (FeedFault.Full source)
+            ↔ (is_open_in self.now source ≡ true) × (2 ^ 20 - 1 ≤ came_in self.now source) }
+        ensures only { IsErr result → IsErrOf result (FeedFault.Closed source) ⊎ IsErrOf result (FeedFault.Full source) }
         ensures memory { IsErrOf result FeedFault.NoMemory → ⊥ }
     {
         if !self.is_open(source) {

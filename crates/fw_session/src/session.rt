@@ -1,5 +1,5 @@
 //! A session.
-ghost use Rattle.std.specs.Prelude.{◌≡◌, ◌↔◌, ◌-◌, ◌^◌, ◌≤◌, ◌<◌, Option, true, false, length, IfOk, IsErr, IsErrOf, IsSome, IsTrue};
+ghost use Rattle.std.specs.Prelude.{◌≡◌, ◌↔◌, ◌⊎◌, ◌-◌, ◌^◌, ◌≤◌, ◌<◌, Option, true, false, length, IfOk, IsErr, IsErrOf, IsSome, IsTrue};
 ghost use Rattle.fw_bag.specs.Keyed.{sorted_recs};
 ghost use Rattle.fw_flow.specs.Dataflow.{kind_of, is_input_kind};
 ghost use Rattle.fw_keep.specs.Stored.{Records, IsEmptyStore, IsStored};
@@ -9,7 +9,7 @@ ghost use Rattle.fw_running.specs.Faults.{faults_after_step, is_refusal};
 ghost use Rattle.fw_feeding.specs.OpenRuns.{HoldsBack};
 ghost use Rattle.fw_engine.specs.Engine.{flow_of, keep_of, was_refused, ForEachState};
 ghost use Rattle.fw_session.specs.Story.{Story, system_now, opening, after_feed, after_close};
-ghost use Rattle.fw_session.specs.Session.{is_open_in, came_in, IsAt, IsAtSome, FirstGoesOn, IsOpened, StepGoesOn};
+ghost use Rattle.fw_session.specs.Session.{is_open_in, came_in, FirstGoesOn, FirstLeaves, IsAt, IsAtSome, IsCounted, IsOpened, IsShut, StepGoesOn, StepLeaves};
 
 use crate::opening::opening_batches;
 use crate::{Arrivals, FeedFault};
@@ -66,7 +66,13 @@ impl<K: Store + Drop> Session<K> {
         ensures came { IsErr result → self.new.arrivals ≡ self.old.arrivals }
         ensures closed { IsErrOf result (FeedFault.Closed source) ↔ is_open_in self.old.arrivals source ≡ false }
         ensures full { (story : Story) → IsAt self.old.engine (K.view self.old.store).records self.old.arrivals story
-            → IsErrOf result (FeedFault.Full source) → 2 ^ 20 - 1 ≤ came_in self.old.arrivals source }
+            → (IsErrOf result (FeedFault.Full source)
+            ↔ (is_open_in self.old.arrivals source ≡ true) × (2 ^ 20 - 1 ≤ came_in self.old.arrivals source)) }
+        ensures only { IsErr result
+            → IsErrOf result (FeedFault.Closed source) ⊎ (IsErrOf result (FeedFault.Full source) ⊎ IsErrOf result FeedFault.NoMemory) }
+        ensures refused { IsTrue (was_refused self.old.engine) → IsErr result }
+        ensures counted { IfOk result (λ epoch. IsCounted source self.old.arrivals self.new.arrivals) }
+        ensures opened { self.new.arrivals.opened ≡ self.old.arrivals.opened }
         ensures flow { flow_of self.new.engine ≡ flow_of self.old.engine }
         ensures store { self.new.store ≡ self.old.store }
         ensures told { was_refused self.new.engine ≡ was_refused self.old.engine }
@@ -83,6 +89,8 @@ impl<K: Store + Drop> Session<K> {
         ensures epoch { IfOk result (λ epoch. epoch ≡ came_in self.old.arrivals source) }
         ensures closes { (story : Story) → IsAt self.old.engine (K.view self.old.store).records self.old.arrivals story
             → IfOk result (λ epoch. IsAt self.new.engine (K.view self.new.store).records self.new.arrivals (after_close source story)) }
+        ensures counted { IfOk result (λ epoch. IsCounted source self.old.arrivals self.new.arrivals) }
+        ensures shut { IfOk result (λ epoch. IsShut source self.old.arrivals self.new.arrivals) }
         ensures came { IsErr result → self.new.arrivals ≡ self.old.arrivals }
         ensures only { IsErr result → IsErrOf result (FeedFault.Closed source) }
         ensures closed { IsErrOf result (FeedFault.Closed source) ↔ is_open_in self.old.arrivals source ≡ false }
@@ -104,6 +112,7 @@ impl<K: Store + Drop> Session<K> {
         ensures goes_on { StepGoesOn (flow_of self.old.engine) step.now result (K.view self.new.store).records
             (IsAt self.old.engine (K.view self.old.store).records self.old.arrivals)
             (IsAt self.new.engine (K.view self.new.store).records self.new.arrivals) }
+        ensures leaves { StepLeaves K.view (flow_of self.old.engine) step.now result self.old.store self.new.store }
         ensures flow { flow_of self.new.engine ≡ flow_of self.old.engine }
         ensures came { self.new.arrivals ≡ self.old.arrivals }
         ensures told_before { IsSome (K.view self.new.store).records → IsSome (K.view self.old.store).records }
@@ -126,6 +135,7 @@ impl<K: Store + Drop> Session<K> {
         ensures goes_on { FirstGoesOn (flow_of self.old.engine) self.old.arrivals result
             (IsAt self.old.engine (K.view self.old.store).records self.old.arrivals)
             (IsAt self.new.engine (K.view self.new.store).records self.new.arrivals) }
+        ensures leaves { FirstLeaves K.view (flow_of self.old.engine) result self.old.store self.new.store }
         ensures flow { flow_of self.new.engine ≡ flow_of self.old.engine }
         ensures came { self.new.arrivals ≡ self.old.arrivals }
         ensures told_before { IsSome (K.view self.new.store).records → IsSome (K.view self.old.store).records }
@@ -198,7 +208,12 @@ fn feed_engine(
     ensures came { IsErr result → arrivals.new ≡ arrivals.old }
     ensures closed { IsErrOf result (FeedFault.Closed source) ↔ is_open_in arrivals.old source ≡ false }
     ensures full { (records : Option Records) (story : Story) → IsAt engine.old records arrivals.old story
-        → IsErrOf result (FeedFault.Full source) → 2 ^ 20 - 1 ≤ came_in arrivals.old source }
+        → (IsErrOf result (FeedFault.Full source) ↔ (is_open_in arrivals.old source ≡ true) × (2 ^ 20 - 1 ≤ came_in arrivals.old source)) }
+    ensures only { IsErr result
+        → IsErrOf result (FeedFault.Closed source) ⊎ (IsErrOf result (FeedFault.Full source) ⊎ IsErrOf result FeedFault.NoMemory) }
+    ensures refused { IsTrue (was_refused engine.old) → IsErr result }
+    ensures counted { IfOk result (λ epoch. IsCounted source arrivals.old arrivals.new) }
+    ensures opened { arrivals.new.opened ≡ arrivals.old.opened }
     ensures told { was_refused engine.new ≡ was_refused engine.old }
     ensures flow { flow_of engine.new ≡ flow_of engine.old }
     ensures keep { keep_of engine.new ≡ keep_of engine.old }

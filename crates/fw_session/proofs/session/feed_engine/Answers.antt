@@ -6,7 +6,7 @@ use Rattle.fw_session.proofs.SessionLaws.{fed-by, feeds-there, not-fed}
 use Rattle.fw_session.proofs.session.feed_engine.Goals as goal
 
 pub returns-then-not-branch-clause-full : goal.returns-then-not-branch-clause-full
-returns-then-not-branch-clause-full c = λ records story at e.
+returns-then-not-branch-clause-full c = λ records story at.
     let epoch = c.in_ok-epoch.ensures in
     let can = feeds-there c.args.engine.now records c.args.arrivals.now story c.args.source at epoch.open
     (subst (λ n. n < 2 ^ 20 - 1) epoch.epoch epoch.room) in

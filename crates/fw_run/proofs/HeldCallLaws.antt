@@ -21,7 +21,7 @@ use Rattle.fw_run.specs.Call.{KeepsFolder}
 use Rattle.fw_run.specs.declared.status.Status.{Status}
 use Rattle.fw_run.specs.Headline.{AreOneRightRun}
 use Rattle.fw_run.specs.Held.{EndsHeld, GoesOnFrom, HasStarted, HeldAnswers, IsNoStart}
-use Rattle.fw_run.specs.HeldCalls.{AnswersAreOfViews, AreCallsOver, AreStartsOf, CallsAreOneRun, DoOneRun, EmptyHoldsNoStart, HeldCall, IsCallOf, IsCallOver, LaterCallMayBegin, folder_view_of, known_of_views, no_starts, view_of}
+use Rattle.fw_run.specs.HeldCalls.{AnswersAreOfViews, AreCallsOver, AreStartsOf, CallsAreOneRun, DoOneRun, EmptyHoldsNoStart, HeldCall, IsCallOf, IsCallOver, LaterCallMayBegin, folder_view_of, known_of_views, no_starts, view_of, with_start}
 use Rattle.fw_run.specs.HeldTexts.{AreHeldTexts, HoldsEarlier, EarlierStarts, held_texts}
 use Rattle.fw_run.proofs.HeadlineLaws.{texts-headline}
 use Rattle.fw_run.proofs.HeldLaws.{earlier-empty}
@@ -111,12 +111,13 @@ did {F} {K} {O} known names flow texts records earlier (call ∷ calls) few left
         let goes = ends.goes_on earlier here c.tells in
         let start : Started = record { moves = goes.on.moves; now = goes.on.now } in
         let found : Found = goes.on.holds.0 in
-        let next : EarlierStarts = record { many = earlier.many + 1; found = found; kept = goes.on.now } in
-        let d = others next (omega (arith, few)) (record { few = omega (arith, few); holds = goes.on.holds.1 }) in
+        let next = with_start earlier found start in
+        let held : HoldsEarlier flow texts (known.store call.after.store).records next = record { few = omega (arith, few); holds = goes.on.holds.1 } in
+        let d = others next (omega (arith, few)) held in
         record {
           starts = start ∷ d.starts;
           last = d.last;
-          made = inr (start, d.starts, found, refl, record { goes = goes; moves = refl; now = refl }, d.made);
+          made = inr (start, d.starts, found, refl, record { goes = goes; moves = refl; now = refl }, held, d.made);
           lead = (goes.on.last, goes.on.made, d.lead);
         }
 

@@ -66,13 +66,18 @@ pub record IsCallOf {F K O : Type 0} (known : Known F K O) (flow : Dataflow) (te
   pub moves : goes.on.moves ≡ start.moves
   pub now : goes.on.now ≡ start.now
 
--- These are the starts that the calls made: each call made the next one, or no start was made.
+-- what earlier starts left, with one start more: this was found of it
+abbrev pub with_start : EarlierStarts → Found → Started → EarlierStarts
+with_start earlier found start = record { many = earlier.many + 1; found = found; kept = start.now }
+
+-- These are the starts that the calls made: each call made the next one, which the records behind it hold, or no start was made.
 abbrev pub AreStartsOf : {F K O : Type 0} → Known F K O → Dataflow → Texts → EarlierStarts → List (HeldCall F K O) → List Started → Type 0
 AreStartsOf known flow texts earlier [] starts = starts ≡ []
 AreStartsOf known flow texts earlier (call ∷ calls) starts =
     (IsNoStart call.before call.status call.after × AreStartsOf known flow texts earlier calls starts)
     ⊎ ((start : Started) × (others : List Started) × (found : Found) × (starts ≡ start ∷ others) × IsCallOf known flow texts earlier start call
-    × AreStartsOf known flow texts (record { many = earlier.many + 1; found = found; kept = start.now }) calls others)
+    × HoldsEarlier flow texts (known.store call.after.store).records (with_start earlier found start)
+    × AreStartsOf known flow texts (with_start earlier found start) calls others)
 
 -- what calls did together: the starts that they made are one run of the machine, and all is right where it ends
 pub record DoOneRun {F K O : Type 0} (known : Known F K O) (flow : Dataflow) (texts : Texts) (earlier : EarlierStarts) (calls : List (HeldCall F K O))

@@ -1,4 +1,5 @@
 //! The command `falkirk_disk`: the top call over real files, standard output, standard error and a store in a folder of real files.
+//! Each of them tells: the files what was read of them, the streams what they answered for, the store what it put and was given.
 //! The first word is the folder's name. `FOLDER show [FLOW]` prints what each of its files is, and is no word of the top call. On a
 //! terminal the causes of the store's faults are told behind the line of the status.
 #![tactic(auto)]
@@ -12,9 +13,11 @@ use fw_choosing::{falkirk_choose, is_choosing};
 use fw_command::{JobFault, fetch_flow};
 use fw_disk::{DiskCause, DiskStore};
 use fw_flow::Flow;
-use fw_outside::{FileFolder, Sink, Store, StreamSink};
+use fw_lines::INPUTS_LIMIT;
+use fw_outside::{Sink, Store};
 use fw_run::{Status, falkirk};
 use fw_show::{ShowFault, show};
+use fw_telling::{ReadFolder, TellingSink, read_texts};
 use std::alloc::{AllocError, Global};
 use std::io::{ErrorKind, IsTerminal};
 use std::process::ExitCode;
@@ -30,7 +33,7 @@ fn main(rt: HostRuntime) -> ExitCode {
 
 // The number of the status. Words that are not UTF-8 are bad words, as no words are.
 fn run(rt: &HostRuntime) -> u8 {
-    let mut notes = StreamSink::new(rt.stderr());
+    let mut notes = TellingSink::new(rt.stderr());
     match arguments(rt) {
         Ok(words) => run_words(rt, &words, &mut notes),
         Err(error) if error.kind() == ErrorKind::OutOfMemory => out_of_memory(&mut notes).number(),
@@ -93,8 +96,10 @@ fn run_choice<N: Sink>(rt: &HostRuntime, words: &[&str], notes: &mut N) -> u8 {
         words,
         is_person: rt.stderr().is_terminal(),
     };
-    let mut folder = FileFolder::new(rt);
-    let mut out = AckSink::new(alloc, StreamSink::new(rt.stdout()));
+    let Ok(mut folder) = read_texts(rt.alloc(), rt, words) else {
+        return out_of_memory(notes).number();
+    };
+    let mut out = AckSink::new(alloc, TellingSink::new(rt.stdout()));
     let status = falkirk_choose(alloc, words, &mut folder, &mut out, notes);
     let ended = Ended {
         number: status.number(),
@@ -135,7 +140,7 @@ fn run_command<'a, N: Sink>(
             let _ = tell_cause(alloc, store, &cause, AHEAD, notes);
         }
     }
-    let mut out = AckSink::new(alloc, StreamSink::new(rt.stdout()));
+    let mut out = AckSink::new(alloc, TellingSink::new(rt.stdout()));
     let status = answer(rt, words, store, &mut out, notes);
     if call.is_person {
         if let Ok(told) = store.told() {
@@ -160,7 +165,9 @@ fn answer<'a, O: Sink, N: Sink>(
 ) -> Status
     requires { ForSome (⟦<DiskStore<'a, HostRuntime> as Store>⟧.view store.old).records (λ held. held ≡ map.empty) }
 {
-    let mut folder = FileFolder::new(rt);
+    let Ok(mut folder) = read_texts(rt.alloc(), rt, words) else {
+        return out_of_memory(notes);
+    };
     falkirk(rt.alloc(), words, &mut folder, store, out, notes)
 }
 
@@ -194,7 +201,10 @@ fn show_by<N: Sink>(
     notes: &mut N,
 ) -> Status {
     let alloc = rt.alloc();
-    match fetch_flow(alloc, &mut FileFolder::new(rt), name) {
+    let Ok(mut folder) = ReadFolder::read(alloc, rt, &[name], INPUTS_LIMIT) else {
+        return out_of_memory(notes);
+    };
+    match fetch_flow(alloc, &mut folder, name) {
         Ok(flow) => show_files(rt, store, Some(&flow), notes),
         Err(fault) => tell_status(alloc, status_of_job(fault), notes),
     }
@@ -208,7 +218,7 @@ fn show_files<N: Sink>(
     notes: &mut N,
 ) -> Status {
     let alloc = rt.alloc();
-    let mut out = StreamSink::new(rt.stdout());
+    let mut out = TellingSink::new(rt.stdout());
     match show(alloc, store, flow, &mut out) {
         Ok(true) => Status::Done,
         Ok(false) => tell_status(alloc, Status::StoreFault, notes),

@@ -6,7 +6,7 @@ _falkirk() {
         if [[ $at == "$COMP_CWORD" && $word != -* ]]; then COMPREPLY=($(compgen -d -- "$word")); return; fi
         [[ $at == "$COMP_CWORD" ]] || at=$((at + 1))
     fi
-    if [[ $at == "$COMP_CWORD" ]]; then COMPREPLY=($(compgen -W "run endure explain hold gen denote check choose verify --help -h --version --quiet --verbose --json -" -- "$word"))
+    if [[ $at == "$COMP_CWORD" ]]; then COMPREPLY=($(compgen -W "run endure explain hold gen denote check live choose verify --help -h --version --quiet --verbose --json -" -- "$word"))
     else COMPREPLY=($(compgen -f -- "$word")); fi
 }
 complete -o filenames -F _falkirk falkirk falkirk_disk

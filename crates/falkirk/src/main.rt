@@ -1,10 +1,15 @@
-//! The command `falkirk`: the top call over real files, standard output, standard error and a store in memory.
+//! The command `falkirk`: the top call over real files, standard output, standard error and a store in memory. Each of them tells: the
+//! files what was read of them, the streams what they answered for.
 #![tactic(auto)]
 
+mod live;
+
+use crate::live::{is_live, live};
 use fw_advice::{AckSink, Call, Ended, Program, tell_after, warn_before};
 use fw_choosing::{falkirk_choose, is_choosing};
-use fw_outside::{FaultlessStore, FileFolder, Sink, StreamSink};
+use fw_outside::{FaultlessStore, Sink};
 use fw_run::{Status, falkirk};
+use fw_telling::{TellingSink, read_texts};
 use std::io::{ErrorKind, IsTerminal};
 use std::process::ExitCode;
 use std::{env, io};
@@ -15,7 +20,7 @@ fn main(rt: HostRuntime) -> ExitCode {
 
 // The number of the status. Words that are not UTF-8 are bad words, as no words are.
 fn run(rt: &HostRuntime) -> u8 {
-    let mut notes = StreamSink::new(rt.stderr());
+    let mut notes = TellingSink::new(rt.stderr());
     match arguments(rt) {
         Ok(words) => run_words(rt, &words, &mut notes),
         Err(error) if error.kind() == ErrorKind::OutOfMemory => out_of_memory(&mut notes),
@@ -42,9 +47,11 @@ fn run_words<N: Sink>(rt: &HostRuntime, words: &[String], notes: &mut N) -> u8 {
         words: words.as_slice(),
         is_person: rt.stderr().is_terminal(),
     };
-    let mut out = AckSink::new(alloc, StreamSink::new(rt.stdout()));
+    let mut out = AckSink::new(alloc, TellingSink::new(rt.stdout()));
     let ended = if is_choosing(&words) {
         choose(rt, &words, &mut out, notes)
+    } else if is_live(&words) {
+        answer_lines(rt, &words, &mut out, notes)
     } else {
         warn_before(alloc, rt, call, notes);
         answer(rt, &words, &mut out, notes)
@@ -55,7 +62,9 @@ fn run_words<N: Sink>(rt: &HostRuntime, words: &[String], notes: &mut N) -> u8 {
 
 // What the call of the commands over texts of choices answers to the words.
 fn choose<O: Sink, N: Sink>(rt: &HostRuntime, words: &[&str], out: &mut O, notes: &mut N) -> Ended {
-    let mut folder = FileFolder::new(rt);
+    let Ok(mut folder) = read_texts(rt.alloc(), rt, words) else {
+        return without_memory(notes);
+    };
     let status = falkirk_choose(rt.alloc(), words, &mut folder, out, notes);
     Ended {
         number: status.number(),
@@ -63,14 +72,38 @@ fn choose<O: Sink, N: Sink>(rt: &HostRuntime, words: &[&str], out: &mut O, notes
     }
 }
 
+// What a session over standard input comes to.
+fn answer_lines<O: Sink, N: Sink>(
+    rt: &HostRuntime,
+    words: &[&str],
+    out: &mut O,
+    notes: &mut N,
+) -> Ended {
+    let status = live(rt, words, out, notes);
+    Ended {
+        number: status.number(),
+        refusal: status.refusal(),
+    }
+}
+
 // What the top call answers to the words, over a store in memory.
 fn answer<O: Sink, N: Sink>(rt: &HostRuntime, words: &[&str], out: &mut O, notes: &mut N) -> Ended {
-    let mut folder = FileFolder::new(rt);
+    let Ok(mut folder) = read_texts(rt.alloc(), rt, words) else {
+        return without_memory(notes);
+    };
     let mut store = FaultlessStore::new(rt.alloc());
     let status = falkirk(rt.alloc(), words, &mut folder, &mut store, out, notes);
     Ended {
         number: status.number(),
         refusal: status.refusal(),
+    }
+}
+
+// How a call ends where there is no memory for its texts.
+fn without_memory<N: Sink>(notes: &mut N) -> Ended {
+    Ended {
+        number: out_of_memory(notes),
+        refusal: None,
     }
 }
 

@@ -1,0 +1,168 @@
+-- What a line came to, and its answer.
+use Rattle.std.proofs.Common.{◌≡◌, ℕ, ◌+◌, ◌-◌, Bool, List, [], ◌∷◌, ◌++◌, length, Option, Some, None, Result, Ok, Err, refl, sym, ap, subst, ◌∙◌, arith}
+use Rattle.std.proofs.Math.Path.{fun_ext}
+use Rattle.std.proofs.lemmas.Bool.{false≢true}
+use Rattle.std.proofs.lemmas.List.{append_assoc}
+use Rattle.std.specs.Prelude.{IfOk, OnOk, IsErr, IsErrOf}
+use Rattle.fw_flow.specs.Dataflow.{Dataflow}
+use Rattle.fw_keep.specs.Stored.{Records}
+use Rattle.fw_model.specs.Steps.{Outcome, did, idle}
+use Rattle.fw_running.specs.declared.fault.EngineFault.{EngineFault}
+use Rattle.fw_running.specs.declared.fault.EngineFault.TheVariants as fault
+use Rattle.fw_engine.specs.declared.engine.Engine.{Engine}
+use Rattle.fw_engine.specs.Engine.{flow_of}
+use Rattle.fw_run.specs.Printed.{outcomes_text, idle_count}
+use Rattle.fw_session.specs.declared.arrivals.Arrivals.{Arrivals}
+use Rattle.fw_session.specs.Session.{IsAt, is_open_in, came_in}
+use Rattle.fw_session.specs.Story.{Story}
+use Rattle.fw_live.specs.declared.rule.LineRule.{LineRule}
+use Rattle.fw_live.specs.declared.counts.LineCounts.{LineCounts}
+use Rattle.fw_live.specs.declared.counts.TurnCounts.{TurnCounts}
+use Rattle.fw_live.specs.Answered.{HasAnswered, HasTurned}
+use Rattle.fw_live.specs.Answers.{refused, turned, change_text, ending_text, refused_line, saturated, done_count, counts_ended, counts_stepped, counts_turned, with_line, after_change, rest_item, IsAnswerTo}
+use Rattle.fw_live.specs.Asked.{Asked, allowed, change_fault, unless_fault}
+use Rattle.fw_live.specs.Relies.{GoesOnPrinting, EndsSo, turn_counts, step_counted, IsAskedReliedOn, IsMaybeReliedOn}
+use Rattle.fw_live.specs.Taken.{Ending, all, failed, spoiled, EndsBoth, came_in_story}
+
+-- ---- counts
+
+abbrev pub no-turn : TurnCounts
+no-turn = record { done = 0; idle = 0 }
+
+count-turn : (xs : List Outcome) (a b : ℕ) (counts : TurnCounts) → counts.done ≡ saturated a → counts.idle ≡ saturated b
+    → ((turn_counts xs counts).done ≡ saturated (a + done_count xs)) × ((turn_counts xs counts).idle ≡ saturated (b + idle_count xs))
+count-turn [] a b counts d i = (omega (arith, d), omega (arith, i))
+count-turn (did e ∷ xs) a b counts d i =
+    let more = count-turn xs (a + 1) b (step_counted (did e) counts) (omega (arith, d)) i in
+    (omega (arith, more.0), omega (arith, more.1))
+count-turn (idle ∷ xs) a b counts d i =
+    let more = count-turn xs a (b + 1) (step_counted idle counts) d (omega (arith, i)) in
+    (omega (arith, more.0), omega (arith, more.1))
+
+length-counts : (xs : List Outcome) → length xs ≡ done_count xs + idle_count xs
+length-counts [] = refl
+length-counts (did e ∷ xs) = omega (arith, length-counts xs)
+length-counts (idle ∷ xs) = omega (arith, length-counts xs)
+
+-- the steps of a turn are counted
+abbrev with-turn : TurnCounts → LineCounts → LineCounts
+with-turn turn counts = record counts { steps = saturated (counts.steps + saturated (turn.done + turn.idle)); idle = saturated (counts.idle + turn.idle) }
+
+stepped-counts : (xs : List Outcome) (turn : TurnCounts) (counts : LineCounts) → turn ≡ turn_counts xs no-turn
+    → (turn.done ≡ saturated (done_count xs)) × (with-turn turn counts ≡ counts_stepped xs counts)
+stepped-counts xs turn counts e =
+    let c = count-turn xs 0 0 no-turn (omega arith) (omega arith) in
+    let d : turn.done ≡ saturated (done_count xs) = omega (arith, ap (λ (t : TurnCounts). t.done) e, c.0) in
+    let i : turn.idle ≡ saturated (idle_count xs) = omega (arith, ap (λ (t : TurnCounts). t.idle) e, c.1) in
+    let l = length-counts xs in
+    let steps : saturated (counts.steps + saturated (turn.done + turn.idle)) ≡ saturated (counts.steps + length xs) = omega (arith, d, i, l) in
+    let idles : saturated (counts.idle + turn.idle) ≡ saturated (counts.idle + idle_count xs) = omega (arith, i) in (
+      d,
+      ap (λ n. record counts { steps = n; idle = saturated (counts.idle + turn.idle) }) steps
+          ∙ ap (λ n. record counts { steps = saturated (counts.steps + length xs); idle = n }) idles,
+    )
+
+-- ---- a turn
+
+joined : (old told lines last between after new : List ℕ) → between ≡ old ++ told → after ≡ between ++ lines → new ≡ after ++ last
+    → new ≡ old ++ (told ++ (lines ++ last))
+joined old told lines last between after new t l e =
+    e ∙ ap (λ bytes. bytes ++ last) (l ∙ ap (λ bytes. bytes ++ lines) t) ∙ append_assoc (old ++ told) lines last ∙ append_assoc old told (lines ++ last)
+
+-- steps that ended so were written and counted
+turned-so : (rests : Bool) (flow : Dataflow) (story : Story) (asked : Asked) (ending : Ending) (counts between after : LineCounts)
+    (start turn : TurnCounts) (old told printed new : List ℕ) (At : Story → Type 0) → start ≡ no-turn
+    → told ≡ old ++ change_text flow (came_in_story flow story) asked.change
+    → GoesOnPrinting flow (EndsBoth flow (after_change asked.change story) asked.item (rest_item rests) ending)
+    (record { bytes = told; counts = start }) (record { bytes = printed; counts = turn }) At
+    → between ≡ with-turn turn counts → new ≡ printed ++ ending_text ending turn.done → after ≡ counts_ended ending between
+    → HasTurned rests flow story asked counts after old new At
+turned-so rests flow story asked ending counts between after start turn old told printed new At s t goes b n a =
+    let c = stepped-counts goes.outcomes turn counts (goes.counted ∙ ap (turn_counts goes.outcomes) s) in
+    record {
+      turn = record { told = change_text flow (came_in_story flow story) asked.change; outcomes = goes.outcomes; ending = ending };
+      next = goes.next;
+      turns = record { told = refl; ends = goes.goes_on };
+      written = joined old (change_text flow (came_in_story flow story) asked.change) (outcomes_text flow goes.outcomes)
+          (ending_text ending (saturated (done_count goes.outcomes))) told printed new t goes.printed (n ∙ ap (λ k. printed ++ ending_text ending k) c.0);
+      counted = a ∙ ap (counts_ended ending) (b ∙ c.1);
+      at = goes.at;
+    }
+
+pub has-turned : {E : Type 0} (rests : Bool) (flow : Dataflow) (story : Story) (asked : Asked) (taken : Result (Unit {0}) EngineFault)
+    (r : Result (Unit {0}) E) (counts between after : LineCounts) (start turn : TurnCounts) (old told printed new : List ℕ) (At : Story → Type 0)
+    → start ≡ no-turn → told ≡ old ++ change_text flow (came_in_story flow story) asked.change
+    → EndsSo (λ ending. GoesOnPrinting flow (EndsBoth flow (after_change asked.change story) asked.item (rest_item rests) ending)
+    (record { bytes = told; counts = start }) (record { bytes = printed; counts = turn }) At) taken
+    → between ≡ with-turn turn counts
+    → EndsSo (λ ending. IfOk r (λ _. new ≡ printed ++ ending_text ending turn.done)) taken
+    → EndsSo (λ ending. IfOk r (λ _. after ≡ counts_ended ending between)) taken
+    → (IsErrOf taken fault.NoMemory → IsErr r)
+    → IfOk r (λ _. HasTurned rests flow story asked counts after old new At)
+has-turned rests flow story asked taken (Err e) counts between after start turn old told printed new At s t goes b n a m = tt
+has-turned rests flow story asked (Ok x) (Ok y) counts between after start turn old told printed new At s t goes b n a m =
+    turned-so rests flow story asked all counts between after start turn old told printed new At s t goes b n a
+has-turned rests flow story asked (Err fault.StoreFault) (Ok y) counts between after start turn old told printed new At s t goes b n a m =
+    turned-so rests flow story asked failed counts between after start turn old told printed new At s t goes b n a
+has-turned rests flow story asked (Err (fault.Damaged id)) (Ok y) counts between after start turn old told printed new At s t goes b n a m =
+    turned-so rests flow story asked (spoiled id) counts between after start turn old told printed new At s t goes b n a
+has-turned rests flow story asked (Err fault.NoMemory) (Ok y) counts between after start turn old told printed new At s t goes b n a m =
+    absurd (false≢true (m refl))
+
+-- ---- an answer
+
+-- what is open and what came, by the session and by the story
+same-allowed : (engine : Engine) (records : Option Records) (arrivals : Arrivals) (story : Story) (h : Result Asked LineRule)
+    → IsAt engine records arrivals story
+    → allowed (is_open_in arrivals) (came_in arrivals) h ≡ allowed story.now.opened (came_in_story (flow_of engine) story) h
+same-allowed engine records arrivals story h at =
+    ap (λ opened. allowed opened (came_in arrivals) h) (fun_ext at.opens) ∙ ap (λ came. allowed story.now.opened came h) (fun_ext at.counts)
+
+pub answer-refused : (rests : Bool) (engine : Engine) (records : Option Records) (arrivals : Arrivals) (story : Story) (h : Result Asked LineRule)
+    (rule : LineRule) (before after : LineCounts) (old new : List ℕ) → IsAt engine records arrivals story
+    → Err rule ≡ allowed (is_open_in arrivals) (came_in arrivals) h → after ≡ with_line before → new ≡ old ++ refused_line rule after.lines
+    → HasAnswered rests (flow_of engine) story h before after old new (IsAt engine records arrivals)
+answer-refused rests engine records arrivals story h rule before after old new at e counted written = record {
+  answer = refused rule;
+  next = story;
+  answers = subst (λ a. IsAnswerTo rests (flow_of engine) story a (refused rule) story) (e ∙ same-allowed engine records arrivals story h at) (refl, refl);
+  written = written ∙ ap (λ (c : LineCounts). old ++ refused_line rule c.lines) counted;
+  counted = counted;
+  at = at;
+}
+
+pub answer-turned : (rests : Bool) (engine : Engine) (records : Option Records) (arrivals : Arrivals) (story : Story) (h : Result Asked LineRule)
+    (asked : Asked) (before between after : LineCounts) (old new : List ℕ) (After : Story → Type 0) → IsAt engine records arrivals story
+    → Ok asked ≡ allowed (is_open_in arrivals) (came_in arrivals) h → between ≡ with_line before
+    → HasTurned rests (flow_of engine) story asked between after old new After
+    → HasAnswered rests (flow_of engine) story h before after old new After
+answer-turned rests engine records arrivals story h asked before between after old new After at e counted has = record {
+  answer = turned has.turn;
+  next = has.next;
+  answers = subst (λ a. IsAnswerTo rests (flow_of engine) story a (turned has.turn) has.next) (e ∙ same-allowed engine records arrivals story h at)
+      (has.turn, refl, has.turns);
+  written = has.written;
+  counted = has.counted ∙ ap (counts_turned has.turn) counted;
+  at = has.at;
+}
+
+-- what is allowed is what was heard
+same-heard : (fault : Option LineRule) (a asked : Asked) → Ok asked ≡ unless_fault fault a → asked ≡ a
+same-heard None a asked e = cc
+same-heard (Some rule) a asked e = absurd cc
+
+pub allowed-relied : (opened : ℕ → Bool) (came : ℕ → ℕ) (h : Result Asked LineRule) (asked : Asked) (records : Option Records)
+    → Ok asked ≡ allowed opened came h → IsAskedReliedOn records h → IsMaybeReliedOn records asked.item
+allowed-relied opened came (Ok a) asked records e r =
+    subst (λ (x : Asked). IsMaybeReliedOn records x.item) (sym (same-heard (change_fault opened came a.change) a asked e)) r
+allowed-relied opened came (Err rule) asked records e r = absurd cc
+
+-- ---- where memory was not refused
+
+pub ok-if : {E : Type 0} (r : Result (Unit {0}) E) (P Q : Type 0) → OnOk r P → (P → Q) → IfOk r (λ _. Q)
+ok-if (Ok x) P Q p f = f p
+ok-if (Err e) P Q p f = tt
+
+pub if-if : {E : Type 0} (r : Result (Unit {0}) E) (P Q : Type 0) → IfOk r (λ _. P) → (P → Q) → IfOk r (λ _. Q)
+if-if (Ok x) P Q p f = f p
+if-if (Err e) P Q p f = tt

@@ -1,0 +1,4 @@
+pub mod ReadingLaws
+pub mod StoryTextLaws
+pub mod TakingLaws
+pub mod AnsweredLaws

@@ -1,0 +1,68 @@
+use Rattle.std.proofs.Common.{◌≡◌, ◌++◌, ◌∙◌, refl, sym, ap, arith}
+use Rattle.std.proofs.lemmas.Result.{err_from_is_err_and}
+use Rattle.fw_running.specs.EffectText.{outcome_text}
+use Rattle.fw_running.specs.Steps.{outcome_of}
+use Rattle.fw_engine.specs.Engine.{flow_of}
+use Rattle.fw_session.specs.Session.{IsAt}
+use Rattle.fw_live.proofs.TakingLaws.{auto-begun, auto-ends, auto-fails, auto-full, auto-more}
+use Rattle.fw_live.proofs.taking.take_auto.Goals as goal
+
+pub loop-init : goal.loop-init
+loop-init g c =
+    let old = c.args.session.now in
+    record {
+      flow = refl;
+      told_before = λ told. told;
+      taken = λ story at. auto-begun (flow_of old.engine) story (record { bytes = c.args.into.now.items; counts = c.args.counts.now })
+          (IsAt old.engine (g.K.Store.view old.store).records old.arrivals) at;
+    }
+
+pub loop-preserved : goal.loop-preserved
+loop-preserved g c =
+    let view = g.K.Store.view in
+    let old = c.args.session.now in
+    let now = c.loop.session in
+    let new = c.auto_step.new.self in
+    let inv = c.loop.invariant in
+    let o = outcome_of c.in_ok-stepped.stepped in
+    record {
+      flow = c.auto_step.ensures.flow ∙ inv.flow;
+      told_before = λ told. inv.told_before (c.auto_step.ensures.told_before told);
+      taken = λ story at. auto-more (flow_of old.engine) story c.loop.counter now.engine (view now.store).records now.arrivals o
+          (IsAt new.engine (view new.store).records new.arrivals) (record { bytes = c.args.into.now.items; counts = c.args.counts.now })
+          (record { bytes = c.loop.into.items; counts = c.loop.counts }) (record { bytes = c.write_outcome.new.into.items; counts = c.count.new.self })
+          inv.flow (inv.taken story at) (λ s there. c.in_ok-stepped.ensures.goes_on.ok s there) (sym c.is_idle.ensures ∙ c.if-is_idle.false)
+          (c.in_ok-write_outcome.ensures ∙ ap (λ d. c.loop.into.items ++ outcome_text d o) (c.flow.ensures ∙ c.auto_step.ensures.flow ∙ inv.flow)) c.count.ensures;
+    }
+
+pub returns-in_err-stepped-clause-ends : goal.returns-in_err-stepped-clause-ends
+returns-in_err-stepped-clause-ends g c = λ story at.
+    let p = err_from_is_err_and c.from_residual.result c.from_residual.ensures.1 in
+    let view = g.K.Store.view in
+    let old = c.args.session.now in
+    let now = c.loop.session in
+    let new = c.auto_step.new.self in
+    rw (p.1, p.2) (auto-fails (flow_of old.engine) (flow_of now.engine) story c.loop.counter c.args.most now.arrivals c.in_err-stepped.field-0.0
+    (IsAt now.engine (view now.store).records now.arrivals) (IsAt new.engine (view new.store).records new.arrivals)
+    (record { bytes = c.args.into.now.items; counts = c.args.counts.now }) (record { bytes = c.loop.into.items; counts = c.loop.counts })
+    (c.loop.invariant.taken story at) c.in_err-stepped.ensures.goes_on c.loop-test.true)
+
+pub returns-then-is_idle-clause-ends : goal.returns-then-is_idle-clause-ends
+returns-then-is_idle-clause-ends g c = λ story at.
+    let view = g.K.Store.view in
+    let old = c.args.session.now in
+    let now = c.loop.session in
+    let new = c.auto_step.new.self in
+    auto-ends (flow_of old.engine) story c.loop.counter c.args.most now.engine (view now.store).records now.arrivals (outcome_of c.in_ok-stepped.stepped)
+    (IsAt new.engine (view new.store).records new.arrivals) (record { bytes = c.args.into.now.items; counts = c.args.counts.now })
+    (record { bytes = c.loop.into.items; counts = c.loop.counts }) c.loop.invariant.flow (c.loop.invariant.taken story at)
+    (λ s there. c.in_ok-stepped.ensures.goes_on.ok s there) (sym c.is_idle.ensures ∙ c.if-is_idle.true) c.loop-test.true
+
+pub returns-clause-ends : goal.returns-clause-ends
+returns-clause-ends g c = λ story at.
+    let old = c.args.session.now in
+    let now = c.loop.session in
+    let whole : c.loop.counter ≡ c.args.most = omega (arith, c.loop-test.false, c.loop.auto.counter-end) in
+    auto-full (flow_of old.engine) story c.loop.counter c.args.most (IsAt now.engine (g.K.Store.view now.store).records now.arrivals)
+    (record { bytes = c.args.into.now.items; counts = c.args.counts.now }) (record { bytes = c.loop.into.items; counts = c.loop.counts })
+    (c.loop.invariant.taken story at) whole

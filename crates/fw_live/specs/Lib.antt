@@ -1,0 +1,9 @@
+pub mod Asked
+pub mod Reading
+pub mod Taken
+pub mod Answers
+pub mod Life
+pub mod Relies
+pub mod Answered
+pub mod StoryText
+pub mod Given

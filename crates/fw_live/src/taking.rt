@@ -1,0 +1,162 @@
+//! The steps of a line are taken, printed and counted.
+ghost use Rattle.std.specs.Prelude.{◌≡◌, IsSome};
+ghost use Rattle.fw_engine.specs.Engine.{flow_of};
+ghost use Rattle.fw_run.specs.Printed as spec;
+ghost use Rattle.fw_running.specs.Steps.{outcome_of};
+ghost use Rattle.fw_session.specs.Story.{Story};
+ghost use Rattle.fw_session.specs.Session.{IsAt};
+ghost use Rattle.fw_live.specs.Relies.{IsItemReliedOn, IsMaybeReliedOn, IsReliedOn, GoesOnPrinting, EndsSo};
+ghost use Rattle.fw_live.specs.Answers.{rest_item};
+ghost use Rattle.fw_live.specs.Reading.{first_item};
+ghost use Rattle.fw_live.specs.Taken.{EndsItem, EndsMaybe, EndsBoth};
+
+use crate::counts::TurnCounts;
+use crate::text::write_outcome;
+use fw_engine::{EngineFault, Stepped};
+use fw_flow::Step;
+use fw_outside::Store;
+use fw_schedule::{Item, STEP_LIMIT};
+use fw_session::Session;
+use std::alloc::Global;
+
+/// Takes the steps of the first of these items, if there is one, and those to rest behind it, where lines are to end so. It prints their
+/// lines and counts them, up to the first that the store ends.
+pub(crate) fn take_turn<K: Store + Drop>(
+    alloc: Global,
+    session: &mut Session<K>,
+    items: &[Item],
+    rests: bool,
+    counts: &mut TurnCounts,
+    into: &mut Vec<u8>,
+) -> Result<(), EngineFault>
+    ensures flow { flow_of session.new.engine ≡ flow_of session.old.engine }
+    ensures told_before { IsSome (K.view session.new.store).records → IsSome (K.view session.old.store).records }
+    ensures ends { (story : Story) → IsAt session.old.engine (K.view session.old.store).records session.old.arrivals story
+        → IsMaybeReliedOn (K.view session.new.store).records (first_item items.now)
+        → EndsSo (λ ending. GoesOnPrinting (flow_of session.old.engine) (EndsBoth (flow_of session.old.engine) story (first_item items.now) (rest_item rests) ending)
+        (record { bytes = into.old.items; counts = counts.old }) (record { bytes = into.new.items; counts = counts.new })
+        (IsAt session.new.engine (K.view session.new.store).records session.new.arrivals)) result }
+{
+    take_first(alloc, session, items, counts, into)?;
+    take_rest(alloc, session, rests, counts, into)
+}
+
+// Takes the steps to rest, where lines are to end so.
+fn take_rest<K: Store + Drop>(
+    alloc: Global,
+    session: &mut Session<K>,
+    rests: bool,
+    counts: &mut TurnCounts,
+    into: &mut Vec<u8>,
+) -> Result<(), EngineFault>
+    ensures flow { flow_of session.new.engine ≡ flow_of session.old.engine }
+    ensures told_before { IsSome (K.view session.new.store).records → IsSome (K.view session.old.store).records }
+    ensures ends { (story : Story) → IsAt session.old.engine (K.view session.old.store).records session.old.arrivals story
+        → EndsSo (λ ending. GoesOnPrinting (flow_of session.old.engine) (EndsMaybe (flow_of session.old.engine) story (rest_item rests) ending)
+        (record { bytes = into.old.items; counts = counts.old }) (record { bytes = into.new.items; counts = counts.new })
+        (IsAt session.new.engine (K.view session.new.store).records session.new.arrivals)) result }
+{
+    match rests {
+        true => take_auto(alloc, session, STEP_LIMIT, counts, into),
+        false => Ok(()),
+    }
+}
+
+// Takes the steps of the first of these items, if there is one.
+fn take_first<K: Store + Drop>(
+    alloc: Global,
+    session: &mut Session<K>,
+    items: &[Item],
+    counts: &mut TurnCounts,
+    into: &mut Vec<u8>,
+) -> Result<(), EngineFault>
+    ensures flow { flow_of session.new.engine ≡ flow_of session.old.engine }
+    ensures told_before { IsSome (K.view session.new.store).records → IsSome (K.view session.old.store).records }
+    ensures ends { (story : Story) → IsAt session.old.engine (K.view session.old.store).records session.old.arrivals story
+        → IsMaybeReliedOn (K.view session.new.store).records (first_item items.now)
+        → EndsSo (λ ending. GoesOnPrinting (flow_of session.old.engine) (EndsMaybe (flow_of session.old.engine) story (first_item items.now) ending)
+        (record { bytes = into.old.items; counts = counts.old }) (record { bytes = into.new.items; counts = counts.new })
+        (IsAt session.new.engine (K.view session.new.store).records session.new.arrivals)) result }
+{
+    match items {
+        [] => Ok(()),
+        [item, ..] => take_item(alloc, session, item, counts, into),
+    }
+}
+
+// Takes the steps of an item, prints their lines and counts them.
+fn take_item<K: Store + Drop>(
+    alloc: Global,
+    session: &mut Session<K>,
+    item: &Item,
+    counts: &mut TurnCounts,
+    into: &mut Vec<u8>,
+) -> Result<(), EngineFault>
+    ensures flow { flow_of session.new.engine ≡ flow_of session.old.engine }
+    ensures told_before { IsSome (K.view session.new.store).records → IsSome (K.view session.old.store).records }
+    ensures ends { (story : Story) → IsAt session.old.engine (K.view session.old.store).records session.old.arrivals story
+        → IsItemReliedOn (K.view session.new.store).records item.now
+        → EndsSo (λ ending. GoesOnPrinting (flow_of session.old.engine) (EndsItem (flow_of session.old.engine) story item.now ending)
+        (record { bytes = into.old.items; counts = counts.old }) (record { bytes = into.new.items; counts = counts.new })
+        (IsAt session.new.engine (K.view session.new.store).records session.new.arrivals)) result }
+{
+    match item {
+        Item::One(step) => take_step(alloc, session, step, counts, into),
+        Item::Auto(most) => take_auto(alloc, session, *most, counts, into),
+    }
+}
+
+// Takes a step, prints its lines and counts it.
+fn take_step<K: Store + Drop>(
+    alloc: Global,
+    session: &mut Session<K>,
+    step: &Step,
+    counts: &mut TurnCounts,
+    into: &mut Vec<u8>,
+) -> Result<(), EngineFault>
+    ensures flow { flow_of session.new.engine ≡ flow_of session.old.engine }
+    ensures told_before { IsSome (K.view session.new.store).records → IsSome (K.view session.old.store).records }
+    ensures ends { (story : Story) → IsAt session.old.engine (K.view session.old.store).records session.old.arrivals story
+        → IsReliedOn (K.view session.new.store).records step.now
+        → EndsSo (λ ending. GoesOnPrinting (flow_of session.old.engine) (EndsItem (flow_of session.old.engine) story (Item.One step.now) ending)
+        (record { bytes = into.old.items; counts = counts.old }) (record { bytes = into.new.items; counts = counts.new })
+        (IsAt session.new.engine (K.view session.new.store).records session.new.arrivals)) result }
+{
+    let stepped = session.step(step)?;
+    counts.count(&stepped);
+    write_outcome(alloc, session.flow(), &stepped, into)?;
+    Ok(())
+}
+
+// Takes the first step that is enabled, again and again, at most so many, prints their lines and counts them.
+fn take_auto<K: Store + Drop>(
+    alloc: Global,
+    session: &mut Session<K>,
+    most: u64,
+    counts: &mut TurnCounts,
+    into: &mut Vec<u8>,
+) -> Result<(), EngineFault>
+    ensures flow { flow_of session.new.engine ≡ flow_of session.old.engine }
+    ensures told_before { IsSome (K.view session.new.store).records → IsSome (K.view session.old.store).records }
+    ensures ends { (story : Story) → IsAt session.old.engine (K.view session.old.store).records session.old.arrivals story
+        → EndsSo (λ ending. GoesOnPrinting (flow_of session.old.engine) (EndsItem (flow_of session.old.engine) story (Item.Auto most) ending)
+        (record { bytes = into.old.items; counts = counts.old }) (record { bytes = into.new.items; counts = counts.new })
+        (IsAt session.new.engine (K.view session.new.store).records session.new.arrivals)) result }
+{
+    for _ in 0..most {
+        let stepped = session.auto_step()?;
+        if is_idle(&stepped) {
+            return Ok(());
+        }
+        counts.count(&stepped);
+        write_outcome(alloc, session.flow(), &stepped, into)?;
+    }
+    Ok(())
+}
+
+// Whether the step was not enabled.
+fn is_idle(stepped: &Stepped) -> bool
+    ensures { result ≡ spec.is_idle (outcome_of stepped.now) }
+{
+    matches!(stepped, Stepped::Idle)
+}

@@ -17,12 +17,14 @@
 //!   `Certificate` of its `Trail`, and `verify` says what a checker of its own finds.
 //! - A run that is fed: a `Session` owns an engine and its store, and takes batches while it runs; `Session::feed` and `close` answer a
 //!   `FeedFault` where a source is not open or has no room. Its steps are a run over the batches that came in the end
-//!   (`fw_session::laws::stories_are_runs`), and what it acknowledges is what the dataflow means of them.
+//!   (`laws::stories_are_runs`), and what it acknowledges is what the dataflow means of them.
 //! - Times: `Stamp`; `Front`, a frontier; `Cut` and `Choice`, to what a recovery restores the nodes.
 //! - What is true of every run, whoever takes its steps: the law `every_run_is_right`.
-//! - The command over texts: `falkirk`, with its `Folder`, `Store` and `Sink` in memory, over files (`FileFolder`, `DiskStore`,
-//!   `StreamSink`) or of your own.
+//! - The command over texts: `falkirk`, with its `Folder`, `Store` and `Sink` in memory, over files (`ReadFolder`, `DiskStore`,
+//!   `TellingSink`) or of your own.
 #![tactic(auto)]
+
+pub mod laws;
 
 pub use fw_bag::{
     Assignment, Bag, Comparison, Condition, Field, NewValue, Rec, Recs, Selection, Term,
@@ -36,22 +38,19 @@ pub use fw_flow::{
     FlowBuilder, Fronts, Kind, Loop, LoopId, Lowering, Message, Name, Node, NodeId, Nodes, Offer,
     Part, Policy, RawKind, Step, Trail,
 };
-pub use fw_flow_text::laws::{batches_are_read_back, flow_is_read_back};
 pub use fw_flow_text::{BatchesText, FLOW_LIMIT, FlowText, read_flow};
 pub use fw_frontier::Front;
-pub use fw_headline::laws::every_run_is_right;
 pub use fw_keep::{Entry, Written};
 pub use fw_lines::{Batches, Code, INPUTS_LIMIT, ReadFault, Refusal, SourceNames, read_batches};
 pub use fw_monitor::Descent;
 pub use fw_outside::{
-    Failed, FetchFault, FileFolder, Folder, MemFolder, MemSink, MemStore, MemText, OutFault, Sink,
-    Store, StreamSink,
+    Failed, FetchFault, Folder, MemFolder, MemSink, MemStore, MemText, OutFault, Sink, Store,
 };
 pub use fw_run::{Status, falkirk};
-pub use fw_schedule::laws::schedule_is_read_back;
 pub use fw_schedule::{
     Item, ItemFault, ItemText, SCHEDULE_LIMIT, STEP_LIMIT, Schedule, ScheduleText, StepText,
     read_schedule,
 };
-pub use fw_session::{FeedFault, Session};
+pub use fw_session::{Arrivals, FeedFault, Session};
+pub use fw_telling::{ReadFolder, TellingSink};
 pub use fw_time::{Bounds, Stamp};

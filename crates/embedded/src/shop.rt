@@ -1,10 +1,10 @@
 //! The flow and the batches of a shop, made in code.
 
-use crate::{Run, node};
+use crate::node;
+use crate::run::Run;
 use anyhow::Result;
 use cimboery::{
-    Batches, BuildFault, Comparison, Condition, Field, Flow, FlowBuilder, Policy, Rec, Selection,
-    Term,
+    BuildFault, Comparison, Condition, Field, Flow, FlowBuilder, Policy, Rec, Selection, Term,
 };
 use std::alloc::Global;
 
@@ -46,17 +46,22 @@ fn order(customer: u64, price: u64) -> Rec {
     }
 }
 
-fn two_batches(alloc: Global, flow: &Flow) -> Result<Batches> {
-    let orders = node(flow, "orders")?;
-    let mut batches = flow.no_batches(alloc);
-    flow.add_batch(&mut batches, orders, &[order(1, 20), order(2, 150)])?;
-    flow.add_batch(&mut batches, orders, &[order(1, 70), order(4, 300)])?;
-    Ok(batches)
+/// The orders that come first.
+pub(crate) fn first_orders(alloc: Global) -> Result<Vec<Rec>> {
+    let orders = vec![in alloc; order(1, 20), order(2, 150)]?;
+    Ok(orders)
+}
+
+/// The orders that come then.
+pub(crate) fn second_orders(alloc: Global) -> Result<Vec<Rec>> {
+    let orders = vec![in alloc; order(1, 70), order(4, 300)]?;
+    Ok(orders)
 }
 
 /// A run of the shop, at its beginning.
 pub(crate) fn shop(alloc: Global) -> Result<Run> {
     let flow = shop_flow(alloc)?;
-    let batches = two_batches(alloc, &flow)?;
-    Run::of(alloc, flow, &batches)
+    let orders = node(&flow, "orders")?;
+    let run = Run::open(alloc, flow, orders)?;
+    Ok(run)
 }

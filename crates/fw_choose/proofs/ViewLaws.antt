@@ -14,8 +14,8 @@ use Rattle.fw_flow.specs.declared.choice.Offer.{Offer}
 use Rattle.fw_flow.specs.declared.choice.Stamps.{Stamps}
 use Rattle.fw_flow.specs.declared.event.Event.{Event}
 use Rattle.fw_flow.specs.declared.event.Message.{Message}
-use Rattle.fw_flow.specs.declared.kind.Kind.{Kind}
-use Rattle.fw_flow.specs.declared.kind.Kind.TheVariants.{Input, OutputEpoch, OutputNumber, Sequence}
+use Rattle.fw_flow.specs.Kind.{Kind}
+use Rattle.fw_flow.specs.declared.kind.Kind.TheVariants.{Input, OutputEpoch, OutputNumber}
 use Rattle.fw_flow.specs.declared.kind.Policy.TheVariants as policy
 use Rattle.fw_flow.specs.Dataflow.{System, Dataflow, kind_of, sender, receiver, bounds_of, is_input_kind, is_output_kind, is_sequence_kind, greatest_number, HasEpochs, policy_of}
 use Rattle.fw_flow.specs.NodeFunction.{event_node, event_stamp}
@@ -34,6 +34,7 @@ use Rattle.fw_model.proofs.ChoosingLaws.{recovery-has_choice}
 use Rattle.fw_model.proofs.DomainLaws.{has_epochs}
 use Rattle.fw_model.proofs.FloorLaws.{low-floor}
 use Rattle.fw_model.proofs.InputLaws.{injected-few}
+use Rattle.fw_model.proofs.KindSorts.{is_sequence}
 use Rattle.fw_model.proofs.LegalLaws.{legal-in_domain}
 use Rattle.fw_model.proofs.PoorerLaws.{consistent-above, largest-above}
 use Rattle.fw_model.proofs.PoorerTrailLaws.{trail-above}
@@ -346,10 +347,6 @@ border-is sys state p source output OutputNumber (Source n y) k s o l = absurd k
 border-is sys state p source output OutputNumber (Output n) k s o l = k ∙ (o refl).bound
 border-is sys state p source output kind x k s o l = k
 
-is-sequence : (kind : Kind) → is_sequence_kind kind ≡ true → kind ≡ Sequence
-is-sequence Sequence k = refl
-is-sequence kind k = absurd (cc)
-
 contains-later : {A : Type 0} (x q : A) (xs : List A) → Contains xs q → Contains (x ∷ xs) q
 contains-later x q xs h = (suc h.0, omega (arith, h.1), h.2)
 
@@ -415,7 +412,7 @@ view-apart running lost p node there fits table settled low border failed sys re
     record {
       fits = subst (λ f. IsViewFor f p node) a.flow fits;
       stamps = stamps;
-      table = λ k. subst (λ t. IsSentTable sys h p t) (sym table) (a.progress.counts.sent p l (is-sequence (kind_of sys.flow p) k));
+      table = λ k. subst (λ t. IsSentTable sys h p t) (sym table) (a.progress.counts.sent p l (is_sequence (kind_of sys.flow p) k));
       settled = settled ∙ ap (λ fs. front_of fs p) a.settled;
       low = low ∙ ap (λ fs. front_of fs p) a.low;
       border = border-is sys state p (source_of running p) (output_of running p) (kind_of sys.flow p) node.border

@@ -18,7 +18,8 @@ use Rattle.fw_model.proofs.CarriedLaws.{carried_timed-all}
 use Rattle.fw_model.proofs.TimedLaws.{each-in_order, in_order-twice, timed_cmp-same}
 use Rattle.fw_model.proofs.DependenceLaws.{out_bags-depend}
 use Rattle.fw_model.proofs.DenotationLaws.{denotation-in_order}
-use Rattle.fw_model.proofs.DenotationDomainLaws.{At, IsIn, IsOut, outputs-in_domain}
+use Rattle.fw_model.proofs.DenotationDomainLaws.{IsIn, IsOut, outputs-in_domain}
+use Rattle.fw_model.proofs.OutputLaws.{At}
 use Rattle.fw_denote.specs.Domains.{AreIn, AreOut}
 use Rattle.fw_denote.specs.Holding.{AreBagsHeld, AreRight, AreSolvedUpTo, family_held, bag_sent_by}
 use Rattle.fw_denote.proofs.WholeLaws.{comes_in}

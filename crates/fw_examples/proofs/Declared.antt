@@ -11,7 +11,7 @@ use Rattle.fw_flow.specs.declared.kind.Policy.TheVariants as policy
 use Rattle.fw_flow.specs.declared.raw.Declaration.{Declaration}
 use Rattle.fw_flow.specs.declared.raw.Declaration.TheVariants.{Edge, Node}
 use Rattle.fw_flow.specs.declared.raw.Declared.{Declared}
-use Rattle.fw_flow.specs.declared.raw.RawKind.TheVariants.{Input, OutputEpoch, Total}
+use Rattle.fw_flow.specs.declared.kind.Kind.TheVariants.{Input, OutputEpoch, Total}
 use Rattle.fw_flow.proofs.Checks.{checked_or_refused}
 use Rattle.fw_examples.specs.RunningTotal.{total_flow}
 use Rattle.fw_examples.proofs.Witnesses.{totals_are_well_formed}

@@ -8,11 +8,11 @@ use Rattle.fw_time.specs.Stamp.{in_domain}
 use Rattle.fw_bag.specs.declared.rec.Rec.{Rec}
 use Rattle.fw_bytes.specs.Sound.{IsFront, IsStamp}
 use Rattle.fw_frontier.proofs.NamesLaws.{is_within-holds}
-use Rattle.fw_flow.specs.declared.kind.Kind.{Kind}
 use Rattle.fw_flow.specs.declared.kind.Kind.TheVariants as kind
 use Rattle.fw_flow.specs.Dataflow.{bounds_of, in_edges, kind_of, node_frontier, out_edges, policy_of, receiver}
 use Rattle.fw_model.specs.Choice.{until}
 use Rattle.fw_model.specs.Filtering.{events_inside}
+use Rattle.fw_model.specs.Sending.{SendsByCount}
 use Rattle.fw_record.specs.OfNode.{AreChangesOf, CanBeLogged, IsCheckpointRecordOf, IsRecordedOf}
 use Rattle.fw_record.specs.Sound.{AreTotals, IsCheckpoint, IsLog, IsLoggedMessage}
 use Rattle.fw_record.specs.Spelling.{spelling}
@@ -30,9 +30,9 @@ use Rattle.fw_examples.specs.RunningTotal.{run_to_out, total_node}
 
 -- ---- what the checkpoints are of
 
-no_sequence : {X : Type 0} → kind_of logging_flow total_node ≡ kind.Sequence → X
+no_sequence : {X : Type 0} → SendsByCount (kind_of logging_flow total_node) → X
 unfolding kind_of
-no_sequence k = absurd (let c : ◌≡◌ {A = Kind} kind.Total kind.Sequence = k in cc)
+no_sequence k = absurd (let c : SendsByCount kind.Total = k in cc)
 
 first_state : IsStateOf (kind_of logging_flow total_node) (events_inside (node_frontier logging_flow total_node (until 1)) three_epochs_came) first_saved.state
 unfolding kind_of bounds_of

@@ -13,7 +13,7 @@ use Rattle.fw_flow.specs.Dataflow.{System, batches_of, bounds_of, is_input_kind,
 use Rattle.fw_flow.specs.Message.{is_message_among, message_cmp}
 use Rattle.fw_flow.specs.declared.event.Event.TheVariants.{Deliver as Delivered, Inject as Injected}
 use Rattle.fw_flow.specs.declared.event.Message.{Message}
-use Rattle.fw_flow.specs.declared.kind.Kind.{Kind}
+use Rattle.fw_flow.specs.Kind.{Kind}
 use Rattle.fw_flow.specs.declared.kind.Kind.TheVariants.{OutputEpoch}
 use Rattle.fw_flow.specs.declared.step.Step.{Step}
 use Rattle.fw_flow.proofs.MessageLaws.{message_cmp-equal}

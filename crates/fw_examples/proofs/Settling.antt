@@ -18,8 +18,8 @@ use Rattle.fw_flow.specs.Projection.{first_coordinate, phi, phi_of_kind, psi, ps
 use Rattle.fw_flow.specs.WellFormed.{IsWellFormed}
 use Rattle.fw_flow.specs.declared.event.Event.{Event}
 use Rattle.fw_flow.specs.declared.event.Event.TheVariants.{Deliver, Inject, Notify, Notify as Notified}
-use Rattle.fw_flow.specs.declared.kind.Kind.{Kind}
-use Rattle.fw_flow.specs.declared.kind.Kind.TheVariants.{Enter, Feedback, Leave, Regroup, Sequence}
+use Rattle.fw_flow.specs.Kind.{Kind}
+use Rattle.fw_flow.specs.declared.kind.Kind.TheVariants.{Enter, Feedback, Leave, Regroup}
 use Rattle.fw_flow.specs.declared.node.Edge.{Edge}
 use Rattle.fw_flow.specs.declared.step.Step.TheVariants.{Progress}
 use Rattle.fw_flow.proofs.EdgeLaws.{kind-past}
@@ -30,33 +30,20 @@ use Rattle.fw_model.proofs.DescentLaws.{past_edges-joined, past_edges-phi, past_
 use Rattle.fw_model.proofs.LowLaws.{input-is, none-within}
 use Rattle.fw_model.proofs.MeetLaws.{phi-everything}
 use Rattle.fw_model.proofs.PhiLaws.{phi-monotone}
+use Rattle.fw_progress.specs.Counts.{moves_stamps}
+use Rattle.fw_progress.proofs.TargetLaws.{unmoved-domain, unmoved-phi}
 use Rattle.fw_examples.proofs.Fronts.{canonical_by, each_below, each_below-at, is_canonical, join_by, none_at, within_outside}
 use Rattle.fw_flow.specs.declared.step.Step.TheVariants as step
 
 -- a kind whose messages are at the stamps of its events, so that phi and psi of a frontier are the frontier
 abbrev pub is_plain : Kind → Bool
-is_plain (Enter l) = false
-is_plain (Feedback l) = false
-is_plain (Leave l) = false
-is_plain Sequence = false
-is_plain (Regroup n) = false
-is_plain kind = true
+is_plain kind = not (moves_stamps kind)
 
 plain_domain : (flow : Dataflow) (kind : Kind) → is_plain kind ≡ true → out_domain_of_kind flow kind ≡ domain_of_kind flow kind
-plain_domain flow (Enter l) k = absurd (false≢true k)
-plain_domain flow (Feedback l) k = absurd (false≢true k)
-plain_domain flow (Leave l) k = absurd (false≢true k)
-plain_domain flow Sequence k = absurd (false≢true k)
-plain_domain flow (Regroup n) k = absurd (false≢true k)
-plain_domain flow kind k = refl
+plain_domain flow kind k = unmoved-domain flow kind (not-true (moves_stamps kind) k)
 
 plain_phi : (greatest : Stamp) (kind : Kind) (count : ℕ) (f : Frontier) (u : Stamp) → is_plain kind ≡ true → phi_of_kind greatest kind count f u ≡ f u
-plain_phi greatest (Enter l) count f u k = absurd (false≢true k)
-plain_phi greatest (Feedback l) count f u k = absurd (false≢true k)
-plain_phi greatest (Leave l) count f u k = absurd (false≢true k)
-plain_phi greatest Sequence count f u k = absurd (false≢true k)
-plain_phi greatest (Regroup n) count f u k = absurd (false≢true k)
-plain_phi greatest kind count f u k = refl
+plain_phi greatest kind count f u k = unmoved-phi greatest kind count f u (not-true (moves_stamps kind) k)
 
 plain_psi : (greatest : Stamp) (kind : Kind) (f : Frontier) (u : Stamp) → is_plain kind ≡ true → psi_of_kind greatest kind f u ≡ f u
 plain_psi greatest (Enter l) f u k = absurd (false≢true k)

@@ -34,7 +34,7 @@ use Rattle.fw_model.specs.LawsOfSettled.{LiesOutside}
 use Rattle.fw_model.specs.LawsOfWrites.{AreLoggedInOrder, IsLoggedFor}
 use Rattle.fw_model.specs.Machine.{Machine, events, first_state, is_failed, SerialEvent, Write, acknowledged, checkpoint, collected, front_of, no_stamps}
 use Rattle.fw_model.specs.Order.{AreNumberedInOrder, IsNotifiedInOrder}
-use Rattle.fw_model.specs.Sending.{ComesFromInside, FollowsHistory, IsSentFrom, SendsAbove, SendsByStamp, SendsWithin}
+use Rattle.fw_model.specs.Sending.{ComesFromInside, FollowsHistory, IsSentFrom, SendsAbove, SendsByCount, SendsByStamp, SendsWithin}
 use Rattle.fw_model.specs.Settled.{IsDenotedInside, IsFull}
 use Rattle.fw_model.specs.SortedMessages.{sorted_messages, with_messages}
 use Rattle.fw_model.specs.Steps.{Effect, GrowsTo, IsTheNext, Outcome, Run, StepsTo, cuts, did, front_of_cut, is_in_flight, newest_checkpoint, is_forgotten}
@@ -48,7 +48,6 @@ use Rattle.fw_model.specs.Resending.{HoldsWhatIsSentAgain, LogHoldsWhatIsSentAga
 use Rattle.fw_model.specs.Writes.{Ascends, CountsWritten, HasOne, IsCheckpointOf, IsKeptWithin, IsLoggedOnce, IsWrittenAsAsked, MayKeepNothingIfCollected, NothingComesInside, not_collected}
 use Rattle.fw_examples.specs.Logs.{both_come_back, checkpoints_logged, event_collected, events_logged, log_kept, none_collected, one_came_through, second_message, total_logged}
 use Rattle.fw_flow.specs.WholeBags.{Timed, in_order, outputs_of, timed_where}
-use Rattle.fw_flow.specs.declared.kind.Kind.TheVariants.{Sequence}
 use Rattle.fw_model.specs.Measure.{Measure, enough_rounds}
 use Rattle.fw_model.specs.LawsOfAuto as auto
 use Rattle.fw_model.specs.LawsOfChains as chains
@@ -317,7 +316,7 @@ pub record ProjectionsApply : Type 0 where
 -- the laws of sending, of the same
 pub record SendingApplies : Type 0 where
   pub senders : sending.SendersOfWellFormed → (e : ℕ) → e < length loop_counts_up.edges
-      → (kind_of loop_counts_up (sender loop_counts_up e) ≡ Sequence) ⊎ SendsByStamp loop_counts_up (kind_of loop_counts_up (sender loop_counts_up e))
+      → SendsByCount (kind_of loop_counts_up (sender loop_counts_up e)) ⊎ SendsByStamp loop_counts_up (kind_of loop_counts_up (sender loop_counts_up e))
   pub monotone : sending.SendStampIsMonotone
       → (v : Stamp) × (send_stamp loop_counts_up 4 (round 0 0) ≡ Some v) × (leq v (round 0 2) ≡ true)
   pub phi_by_send_stamps : sending.PhiBySendStamps

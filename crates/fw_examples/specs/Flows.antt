@@ -5,7 +5,7 @@ use Rattle.fw_bag.specs.declared.select.Comparison.TheVariants.{Less, GreaterOrE
 use Rattle.fw_bag.specs.declared.select.Field.TheVariants.{Value}
 use Rattle.fw_bag.specs.declared.select.Selection.{Selection}
 use Rattle.fw_flow.specs.Dataflow.{Dataflow, System, receiver, sender}
-use Rattle.fw_flow.specs.declared.kind.Kind.{Kind}
+use Rattle.fw_flow.specs.Kind.{Kind}
 use Rattle.fw_flow.specs.declared.kind.Kind.TheVariants.{Concat, Enter, Feedback, Input, Leave, OutputEpoch, Regroup, Select, Sequence, Sum}
 use Rattle.fw_flow.specs.declared.kind.Policy.{Policy}
 use Rattle.fw_flow.specs.declared.node.Edge.{Edge}

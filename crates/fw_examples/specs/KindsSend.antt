@@ -7,7 +7,7 @@ use Rattle.fw_flow.specs.WholeBags.{Timed, in_order, outputs_of_kind}
 use Rattle.fw_flow.specs.declared.event.Event.{Event}
 use Rattle.fw_flow.specs.declared.event.Event.TheVariants.{Deliver, Notify}
 use Rattle.fw_flow.specs.declared.event.Message.{Message}
-use Rattle.fw_flow.specs.declared.kind.Kind.{Kind}
+use Rattle.fw_flow.specs.Kind.{Kind}
 use Rattle.fw_flow.specs.declared.kind.Kind.TheVariants.{Distinct, Join, Ledger, Regroup, Sequence, Sum, Total}
 use Rattle.fw_examples.specs.Flows.{no_batches, pair}
 use Rattle.fw_examples.specs.Inclusions.{all}

@@ -10,7 +10,6 @@ use Rattle.fw_flow.specs.Restoring.{can_resend, way_of}
 use Rattle.fw_flow.specs.WellFormed.{IsWellFormed, IsWellFormedSystem}
 use Rattle.fw_flow.specs.declared.choice.Cut.TheVariants.{At, Present}
 use Rattle.fw_flow.specs.declared.event.Event.TheVariants.{Deliver as Delivered, Inject as Injected, Notify as Notified}
-use Rattle.fw_flow.specs.declared.kind.Kind.TheVariants.{Sequence}
 use Rattle.fw_flow.specs.declared.restoring.Restoring.TheVariants.{Checkpoints}
 use Rattle.fw_flow.specs.declared.step.Step.{Step}
 use Rattle.fw_flow.specs.declared.step.Step.TheVariants.{Collect, Deliver, Fail, Persist, Recover}
@@ -23,6 +22,7 @@ use Rattle.fw_model.specs.Denotation.{IsDenotation, bag_at, rounds}
 use Rattle.fw_model.specs.Filtering.{AreFrontiers, ComeFromKept, IsConsistentlyKept, MeetsInclusions, kept_events, messages_from}
 use Rattle.fw_model.specs.History.{IsAdmissible, IsClosedFor, IsComplete, IsEnabled, IsLegal, delivered_messages, pending_messages, recs_at, sent_messages}
 use Rattle.fw_model.specs.Machine.{Machine, Write, acknowledged, checkpoint, events, first_state, front_of, in_flight, is_failed}
+use Rattle.fw_model.specs.Sending.{SendsByCount}
 use Rattle.fw_model.specs.Settled.{HasMoreToSettle, IsCutWithinSettled, IsDenotedInside, IsFull}
 use Rattle.fw_model.specs.Steps.{HaveNoRecovery, Run, StepsTo, cuts, did, lows, silent, with_event}
 use Rattle.fw_model.specs.Thinned.{IsThinned}
@@ -288,7 +288,7 @@ pub record SequenceIsFiltered : Type 0 where
 -- pending; before the two were delivered both were pending.
 pub record NumbersAreDelivered : Type 0 where
   pub legal : IsLegal numbers numbered_both
-  pub sequence : kind_of regroup_by_three 1 ≡ Sequence
+  pub sequence : SendsByCount (kind_of regroup_by_three 1)
   pub numbered : is_numbered regroup_by_three 1 ≡ true
   pub two : delivered_messages numbered_both 1 ≡ value_at 1 2 0 ∷ value_at 0 1 0 ∷ []
   pub third : pending_messages numbers numbered_both 1 ≡ value_at 2 3 1 ∷ []

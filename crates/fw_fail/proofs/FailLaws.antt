@@ -11,7 +11,7 @@ use Rattle.fw_lemmas.proofs.Each.{each-weaker, each-kept}
 use Rattle.fw_border.specs.Sources.{source_at, next_batch}
 use Rattle.fw_border.specs.Outputs.{OutputState, output_at, with_output, cleared, new_output}
 use Rattle.fw_edge.specs.Messages.{MessagesState}
-use Rattle.fw_flow.specs.declared.kind.Kind.{Kind}
+use Rattle.fw_flow.specs.Kind.{Kind}
 use Rattle.fw_flow.specs.declared.kind.Kind.TheVariants.{OutputNumber}
 use Rattle.fw_flow.specs.declared.kind.Policy.{Policy}
 use Rattle.fw_flow.specs.declared.kind.Policy.TheVariants as policy

@@ -8,7 +8,7 @@ use Rattle.fw_frontier.specs.Frontier.{Frontier}
 use Rattle.fw_flow.specs.declared.event.Event.{Event}
 use Rattle.fw_flow.specs.declared.event.Event.TheVariants.{Inject, Deliver, Notify}
 use Rattle.fw_flow.specs.declared.event.Message.{Message}
-use Rattle.fw_flow.specs.declared.kind.Kind.{Kind}
+use Rattle.fw_flow.specs.Kind.{Kind}
 use Rattle.fw_flow.specs.declared.kind.Kind.TheVariants.{Sequence}
 use Rattle.fw_flow.specs.Dataflow.{Dataflow, kind_of, sender, bounds_of, bounds_of_domain, out_domain_of_kind, greatest_of_kind, batches_of, is_input_kind, send_stamp_of_kind}
 use Rattle.fw_flow.specs.NodeFunction.{recs_on, numbered_messages, sequence_sent, messages_at_some, event_stamp, event_node, sends_of_kind, sends, sent_by}

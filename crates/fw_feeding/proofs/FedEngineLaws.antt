@@ -240,6 +240,7 @@ stored-alike flow now later state a records entries writes k = λ held e.
 
 pub fed-engines_stand : FedEnginesStand
 fed-engines_stand opened flow now later g well steps effects state run old new f records s =
+    let stays = f.stays in
     let sys = with_batches flow later in
     let h = events state.history in
     let a = run-alike opened flow now later g steps effects state run in
@@ -248,41 +249,41 @@ fed-engines_stand opened flow now later g well steps effects state run old new f
     let before = s.apart.progress.kept in
     record {
       apart = record {
-        flow = f.of_flow ∙ s.apart.flow;
+        flow = stays.of_flow ∙ s.apart.flow;
         well_formed = well;
         reached = (steps, map did effects, on);
-        settled = f.settled ∙ s.apart.settled;
-        failed = f.failed ∙ s.apart.failed;
-        low = f.low ∙ s.apart.low;
+        settled = stays.settled ∙ s.apart.settled;
+        failed = stays.failed ∙ s.apart.failed;
+        low = stays.low ∙ s.apart.low;
         epochs = f.epochs;
-        tables = λ p l. subst (λ t. IsTableIn sys state p t) (sym (f.tables p)) (table-alike flow now later state p _ (s.apart.tables p l));
-        queues = λ e l. f.queues e ∙ s.apart.queues e l ∙ queued-alike flow now later state a e;
-        logs = λ e l. f.logs e ∙ s.apart.logs e l ∙ logged-alike flow now later state a e;
-        outputs = λ o l is. subst (λ t. IsOutputOf sys state o t) (sym (f.outputs o)) (output-alike flow now later state o _ (s.apart.outputs o l is));
+        tables = λ p l. subst (λ t. IsTableIn sys state p t) (sym (stays.tables p)) (table-alike flow now later state p _ (s.apart.tables p l));
+        queues = λ e l. stays.queues e ∙ s.apart.queues e l ∙ queued-alike flow now later state a e;
+        logs = λ e l. stays.logs e ∙ s.apart.logs e l ∙ logged-alike flow now later state a e;
+        outputs = λ o l is. subst (λ t. IsOutputOf sys state o t) (sym (stays.outputs o)) (output-alike flow now later state o _ (s.apart.outputs o l is));
         sources = f.sources;
         progress = record {
           counts = record {
-            pending = λ e l t. ap (times_in t) (f.pending e) ∙ counts.pending e l t ∙ ap (count_at t) (pending-alike flow now later h a e);
-            owed = λ p l t. ap (has_one t) (f.owed p) ∙ counts.owed p l t;
+            pending = λ e l t. ap (times_in t) (stays.pending e) ∙ counts.pending e l t ∙ ap (count_at t) (pending-alike flow now later h a e);
+            owed = λ p l t. ap (has_one t) (stays.owed p) ∙ counts.owed p l t;
             batches = f.batches;
-            injected = λ p l. f.injected p ∙ counts.injected p l;
-            sent = λ p l k. subst (λ table. IsSentTable sys h p table) (sym (f.sent p))
+            injected = λ p l. stays.injected p ∙ counts.injected p l;
+            sent = λ p l k. subst (λ table. IsSentTable sys h p table) (sym (stays.sent p))
                 (λ i. counts.sent p l k i ∙ ap (count_from i) (node-alike flow now later h a.injected p));
-            in_order = λ p l k. subst EpochsAscend (sym (f.sent p)) (counts.in_order p l k);
-            epochs = λ p l k. subst (λ table. AllByRecursion (λ (entry : ℕ × ℕ). was_notified p (entry.0 ∷ []) h ≡ true) table) (sym (f.sent p)) (counts.epochs p l k);
+            in_order = λ p l k. subst EpochsAscend (sym (stays.sent p)) (counts.in_order p l k);
+            epochs = λ p l k. subst (λ table. AllByRecursion (λ (entry : ℕ × ℕ). was_notified p (entry.0 ∷ []) h ≡ true) table) (sym (stays.sent p)) (counts.epochs p l k);
           };
           kept = record {
-            admissible = subst (λ fronts. IsAdmissible sys h (family_of flow fronts)) (sym f.kept)
+            admissible = subst (λ fronts. IsAdmissible sys h (family_of flow fronts)) (sym stays.kept)
                 (admissible-alike flow now later h a (family_of flow old.progress.kept) before.admissible);
-            stuck = λ p l i. subst (λ fronts. IsStuck sys h (family_of flow fronts) p) (sym f.kept)
+            stuck = λ p l i. subst (λ fronts. IsStuck sys h (family_of flow fronts) p) (sym stays.kept)
                 (stuck-alike flow now later h a (family_of flow old.progress.kept) p
-                (before.stuck p l (ap (λ w. is_in w p) (sym f.work) ∙ i)));
+                (before.stuck p l (ap (λ w. is_in w p) (sym stays.work) ∙ i)));
           };
         };
-        entries = subst (λ es. AreEntriesOf sys state es (uncollected state)) (sym f.entries)
+        entries = subst (λ es. AreEntriesOf sys state es (uncollected state)) (sym stays.entries)
             (entries-alike flow now later state a old.parts.keep.entries (uncollected state) s.apart.entries);
-        bases = subst (λ es. AreBasesOf es es (uncollected state)) (sym f.entries) s.apart.bases;
-        stored = subst (λ es. AreStored sys state records es (uncollected state)) (sym f.entries)
+        bases = subst (λ es. AreBasesOf es es (uncollected state)) (sym stays.entries) s.apart.bases;
+        stored = subst (λ es. AreStored sys state records es (uncollected state)) (sym stays.entries)
             (stored-alike flow now later state a records old.parts.keep.entries (uncollected state) s.apart.stored);
       };
       traces = record {
@@ -291,9 +292,9 @@ fed-engines_stand opened flow now later g well steps effects state run old new f
           notices = s.traces.above.notices;
           consistent = consistent-alike flow now later state a (λ p. true) kept (choice_at s.traces.floor s.traces.above.notices) s.traces.above.consistent;
         };
-        each = λ p l. subst (λ t. IsTraceIn sys s.traces.floor state p t) (sym f.traces) (trace-alike flow now later state a s.traces.floor p old.traces (s.traces.each p l));
+        each = λ p l. subst (λ t. IsTraceIn sys s.traces.floor state p t) (sym stays.traces) (trace-alike flow now later state a s.traces.floor p old.traces (s.traces.each p l));
       };
-      lost = λ p is t. subst (λ ts. Contains ts t ↔ IsLostAt sys state p t) (sym (f.lost p))
+      lost = λ p is t. subst (λ ts. Contains ts t ↔ IsLostAt sys state p t) (sym (stays.lost p))
           (let both = s.lost p is t in
           (λ c. lost-alike flow now later state p t (both.0 c), λ l. both.1 (lost-alike flow later now state p t l)));
     }

@@ -36,7 +36,7 @@ use Rattle.fw_totals.proofs.RestoreLaws.{key-sums_at_keys, sums_are}
 use Rattle.fw_flow.specs.declared.choice.Recorded.{Recorded}
 use Rattle.fw_flow.specs.declared.event.Event.{Event}
 use Rattle.fw_flow.specs.declared.event.Message.{Message}
-use Rattle.fw_flow.specs.declared.kind.Kind.{Kind}
+use Rattle.fw_flow.specs.Kind.{Kind}
 use Rattle.fw_flow.specs.declared.kind.Kind.TheVariants as kind
 use Rattle.fw_flow.specs.Dataflow.{Dataflow, kind_of, in_edges, node_frontier}
 use Rattle.fw_flow.specs.NodeFunction.{delivered_recs}

@@ -2,7 +2,7 @@
 use Rattle.std.proofs.Common.{◌≡◌, ◌⊎◌, inl, inr, ℕ, suc, ◌<◌, ◌≤◌, Bool, true, false, ◌&&◌, ◌==◌, List, [], ◌∷◌, length, refl, sym, ap, ◌∙◌, arith}
 use Rattle.std.proofs.lemmas.Bool.{and_from, eqb-true, eqb-false, le-leb, cases_Bool, not-true, not_from_false}
 use Rattle.fw_flow.specs.declared.kind.Domain.TheVariants.{Loop as InLoop}
-use Rattle.fw_flow.specs.declared.kind.Kind.{Kind}
+use Rattle.fw_flow.specs.Kind.{Kind}
 use Rattle.fw_flow.specs.declared.kind.Kind.TheVariants.{Feedback}
 use Rattle.fw_flow.specs.Dataflow.{Dataflow, kind_of, sender, receiver, loops_of, domain_of, domain_of_kind, out_domain_of, is_loop, is_domain_within}
 use Rattle.fw_flow.specs.WellFormed.{IsWalk, IsClosedWalk, Passes, StaysWithin, is_feedback_kind, is_feedback_of, is_kind_in, is_outside_kind}

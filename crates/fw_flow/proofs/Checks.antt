@@ -16,15 +16,15 @@ use Rattle.fw_flow.specs.declared.node.Edge.{Edge}
 use Rattle.fw_flow.specs.declared.raw.Declaration.{Declaration}
 use Rattle.fw_flow.specs.declared.raw.Declaration.TheVariants.{Loop as ALoop, Node as ANode, Edge as AnEdge}
 use Rattle.fw_flow.specs.declared.raw.Declared.{Declared}
-use Rattle.fw_flow.specs.declared.raw.RawKind.{RawKind}
-use Rattle.fw_flow.specs.declared.raw.RawKind.TheVariants.{Select, Concat, Distinct, Join, Sum, Enter, Feedback, Leave, Regroup}
-use Rattle.fw_flow.specs.Check.{loop_named, are_names_declared, NamesTheDeclared, HasItsDegrees, JoinsDomains, HasAllowedPolicy, IsWithinLimitsAfter, StaysWithinLimits, all_lines, loop_lines, node_lines, edge_lines, HoldsBelow, IsFirstBreak, KeepsRule, IsBroken, rules, IsFirstBrokenOf, IsFirstBroken, IsRawGroupSize, IsChecked}
+use Rattle.fw_flow.specs.Kind.{RawKind, loop_of_kind}
+use Rattle.fw_flow.specs.Check.{are_names_declared, NamesTheDeclared, HasItsDegrees, JoinsDomains, HasAllowedPolicy, IsWithinLimitsAfter, StaysWithinLimits, all_lines, loop_lines, node_lines, edge_lines, HoldsBelow, IsFirstBreak, KeepsRule, IsBroken, rules, IsFirstBrokenOf, IsFirstBroken, IsChecked}
 use Rattle.fw_flow.specs.Dataflow.{Dataflow, idle_node, kind_of, sender, receiver, max_of, declared_parent}
 use Rattle.std.specs.Str.{bytes_eq}
 use Rattle.fw_lemmas.proofs.Numbers.{below_step}
 use Rattle.fw_flow.specs.Names.{has_name}
 use Rattle.fw_flow.specs.Raw.{names_of, loop_name, node_name, edge_name, loop_names, node_names, edge_names, place_or_end, resolved_kind, loop_in, node_in, edge_in, flow_of_declarations}
 use Rattle.fw_flow.specs.WellFormed.{IsWellFormed, IsWithinLimits, IsLoopDeclared, IsParentDeclared, HasShortChain, IsGroupSize}
+use Rattle.fw_flow.proofs.KindLaws.{loop_of_kind-map, IsGroupSize-map}
 use Rattle.fw_flow.proofs.Givers.{GivesOne, giver_of, slice_get-given, length-given}
 
 -- ---- what a declaration gives
@@ -116,24 +116,18 @@ place-below (x ∷ names) name h =
 named : (flow : Dataflow) (loops : List (List ℕ)) (l : List ℕ) → length flow.loops ≡ length loops → (place_or_end loops l < length flow.loops) ↔ (has_name l loops ≡ true)
 named flow loops l e = (λ h. has_name-from_below loops l (omega (arith, e, h)), λ h. omega (arith, e, place-below loops l h))
 
--- the kind's loop is declared exactly where its name is
-loop_declared : (flow : Dataflow) (loops : List (List ℕ)) (kind : RawKind) → length flow.loops ≡ length loops
-    → IsLoopDeclared flow (resolved_kind loops kind) ↔ (option_map_or (λ l. has_name l loops) (loop_named kind) true ≡ true)
-loop_declared flow loops (Select selection (Some l)) e = named flow loops l e
-loop_declared flow loops (Concat (Some l)) e = named flow loops l e
-loop_declared flow loops (Distinct (Some l)) e = named flow loops l e
-loop_declared flow loops (Join (Some l)) e = named flow loops l e
-loop_declared flow loops (Sum (Some l)) e = named flow loops l e
-loop_declared flow loops (Enter l) e = named flow loops l e
-loop_declared flow loops (Feedback l) e = named flow loops l e
-loop_declared flow loops (Leave l) e = named flow loops l e
-loop_declared flow loops kind e = (λ h. refl, λ h. tt)
+-- a loop by its place is declared exactly where its name is
+place_declared : (flow : Dataflow) (loops : List (List ℕ)) (name : Option (List ℕ)) → length flow.loops ≡ length loops
+    → IfSome (option_map (place_or_end loops) name) (λ l. l < length flow.loops) ↔ (option_map_or (λ l. has_name l loops) name true ≡ true)
+place_declared flow loops None e = (λ h. refl, λ h. tt)
+place_declared flow loops (Some l) e = named flow loops l e
 
--- so is the loop in which a loop is declared
-parent_declared : (flow : Dataflow) (loops : List (List ℕ)) (parent : Option (List ℕ)) → length flow.loops ≡ length loops
-    → IfSome (option_map (place_or_end loops) parent) (λ k. k < length flow.loops) ↔ (option_map_or (λ l. has_name l loops) parent true ≡ true)
-parent_declared flow loops None e = (λ h. refl, λ h. tt)
-parent_declared flow loops (Some l) e = named flow loops l e
+-- so is that of a kind
+loop_declared : (flow : Dataflow) (loops : List (List ℕ)) (kind : RawKind) → length flow.loops ≡ length loops
+    → IsLoopDeclared flow (resolved_kind loops kind) ↔ (option_map_or (λ l. has_name l loops) (loop_of_kind kind) true ≡ true)
+loop_declared flow loops kind e =
+    subst (λ o. IfSome o (λ l. l < length flow.loops) ↔ (option_map_or (λ l. has_name l loops) (loop_of_kind kind) true ≡ true))
+    (sym (loop_of_kind-map (place_or_end loops) kind)) (place_declared flow loops (loop_of_kind kind) e)
 
 -- ---- what stands at a place of the flow
 
@@ -225,7 +219,7 @@ names_declared : (raw : List Declared) → IsWellFormed (flow_of_declarations ra
     → slice_get raw i ≡ Some (record { line = line; declaration = d }) → are_names_declared (names_of raw) d ≡ true
 names_declared raw wf i line (ALoop name max parent) there =
     let at = loop_place raw i line name max parent there in
-    (parent_declared (flow_of_declarations raw) (loop_names raw) parent (length-loops (loop_names raw) raw)).0
+    (place_declared (flow_of_declarations raw) (loop_names raw) parent (length-loops (loop_names raw) raw)).0
     (subst (λ o. IfSome o (λ k. k < length (flow_of_declarations raw).loops)) at.is_parent (wf.parents_declared (length (loop_names (take i raw))) at.below))
 names_declared raw wf i line (ANode name kind policy) there =
     let at = node_place raw i line name kind policy there in
@@ -241,11 +235,6 @@ names_declared raw wf i line (AnEdge name s r) there =
     (has_name-from_below (node_names raw) s (omega (arith, count, from, at.is_sender)))
     (has_name-from_below (node_names raw) r (omega (arith, count, to, at.is_receiver)))
 
--- a size is one of groups as it is declared exactly where it is one in the flow
-group_size : (loops : List (List ℕ)) (kind : RawKind) → IsGroupSize (resolved_kind loops kind) ↔ IsRawGroupSize kind
-group_size loops (Regroup n) = (λ h. h, λ h. h)
-group_size loops kind = (λ h. tt, λ h. tt)
-
 within_limits : (raw : List Declared) → IsWithinLimits (flow_of_declarations raw) → (i line : ℕ) (d : Declaration)
     → slice_get raw i ≡ Some (record { line = line; declaration = d }) → IsWithinLimitsAfter (take i raw) d
 within_limits raw limits i line (ALoop name max parent) there =
@@ -254,7 +243,7 @@ within_limits raw limits i line (ALoop name max parent) there =
     (omega (arith, limits.loops, at.below), omega (arith, bounds.0, at.is_max), omega (arith, bounds.1, at.is_max))
 within_limits raw limits i line (ANode name kind policy) there =
     let at = node_place raw i line name kind policy there in
-    (omega (arith, limits.nodes, at.below), (group_size (loop_names raw) kind).0 (subst IsGroupSize at.is_kind (limits.groups (length (node_names (take i raw))) at.below)))
+    (omega (arith, limits.nodes, at.below), (IsGroupSize-map (place_or_end (loop_names raw)) kind).0 (subst IsGroupSize at.is_kind (limits.groups (length (node_names (take i raw))) at.below)))
 within_limits raw limits i line (AnEdge name s r) there =
     let at = edge_place raw i line name s r there in
     omega (arith, limits.edges, at.below)
@@ -272,7 +261,7 @@ loop_named_in : (raw : List Declared) (line : ℕ) (d : Declaration) (part : Loo
     → are_names_declared (names_of raw) d ≡ true → IfSome part.parent (λ k. k < length (flow_of_declarations raw).loops)
 loop_named_in raw line (ALoop name max parent) part gives h =
     let same : option_map (place_or_end (loop_names raw)) parent ≡ part.parent = cc in
-    subst (λ o. IfSome o (λ k. k < length (flow_of_declarations raw).loops)) same ((parent_declared (flow_of_declarations raw) (loop_names raw) parent (length-loops (loop_names raw) raw)).1 h)
+    subst (λ o. IfSome o (λ k. k < length (flow_of_declarations raw).loops)) same ((place_declared (flow_of_declarations raw) (loop_names raw) parent (length-loops (loop_names raw) raw)).1 h)
 loop_named_in raw line d part gives h = absurd (cc)
 
 edge_named : (raw : List Declared) (line : ℕ) (d : Declaration) (part : Edge) → edge_in (node_names raw) (record { line = line; declaration = d }) ≡ part ∷ []
@@ -289,7 +278,7 @@ node_within : (loops : List (List ℕ)) (before : List Declared) (line : ℕ) (d
     → IsWithinLimitsAfter before d → (length (flat_map (node_in loops) before) < 256) × IsGroupSize part.kind
 node_within loops before line (ANode name kind policy) part gives h =
     let same : resolved_kind loops kind ≡ part.kind = cc in
-    (omega (arith, length-nodes loops before, h.0), subst IsGroupSize same ((group_size loops kind).1 h.1))
+    (omega (arith, length-nodes loops before, h.0), subst IsGroupSize same ((IsGroupSize-map (place_or_end loops) kind).1 h.1))
 node_within loops before line d part gives h = absurd (cc)
 
 edge_within : (nodes : List (List ℕ)) (before : List Declared) (line : ℕ) (d : Declaration) (part : Edge) → edge_in nodes (record { line = line; declaration = d }) ≡ part ∷ []

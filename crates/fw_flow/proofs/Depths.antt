@@ -4,7 +4,7 @@ use Rattle.std.proofs.lemmas.Bool.{and_parts, and_from, or_cases, or_left, or_ri
 use Rattle.fw_lemmas.proofs.Numbers.{zero-le}
 use Rattle.fw_flow.specs.declared.kind.Domain.{Domain}
 use Rattle.fw_flow.specs.declared.kind.Domain.TheVariants.{Epoch, Number, Loop as InLoop}
-use Rattle.fw_flow.specs.declared.kind.Kind.{Kind}
+use Rattle.fw_flow.specs.Kind.{Kind}
 use Rattle.fw_flow.specs.declared.kind.Kind.TheVariants.{Enter, Feedback, Leave, Regroup, Sequence}
 use Rattle.fw_flow.specs.Dataflow.{Dataflow, kind_of, sender, receiver, parent_of, loops_of, domain_of, domain_of_kind, out_domain_of, out_domain_of_kind, is_loop, is_one_of, is_domain_within, is_domain_of}
 use Rattle.fw_flow.specs.WellFormed.{IsWalk, Passes, StaysWithin, is_feedback_of, is_kind_in, is_outside_kind}

@@ -14,7 +14,7 @@ use Rattle.fw_lines.specs.declared.refusal.Refusal.{Refusal}
 use Rattle.fw_lines.specs.Faults.{IfRefused}
 use Rattle.std.specs.declared.alloc.Global.{Global}
 use Rattle.std.specs.declared.vec.Vec.{Vec}
-use Rattle.fw_flow.specs.declared.kind.Kind.{Kind}
+use Rattle.fw_flow.specs.Kind.{Kind}
 use Rattle.fw_flow.specs.declared.node.Loop.{Loop}
 use Rattle.fw_flow.specs.declared.node.Node.{Node}
 use Rattle.fw_flow.specs.declared.node.Edge.{Edge}
@@ -29,11 +29,10 @@ use Rattle.fw_flow.specs.Check.{HoldsBelow, IsFirstBreak, IsFirstBreakIfAny, Has
 use Rattle.fw_flow.specs.Dataflow.{Dataflow, kind_of, in_edges, out_edges, edges_into, edges_from}
 use Rattle.fw_flow.specs.Draft.{IsDraftOf, LaterRulesHold}
 use Rattle.fw_flow.specs.Flow.{edges_at, IsIndexed}
-use Rattle.fw_flow.specs.Parts.{ArePartsOf, capped_kind, capped_loop, capped_node, capped_flow, places_from}
+use Rattle.fw_flow.specs.Parts.{ArePartsOf, places_from}
 use Rattle.fw_flow.specs.Raw.{names_of, loop_names, node_names, edge_names, loop_name, node_name, edge_name, loop_in, node_in, edge_in, flow_of_declarations}
 use Rattle.fw_flow.specs.Walks.{AreWithin, IsMadeOf, link_at, link_of, listed_kind}
 use Rattle.fw_flow.specs.WellFormed.{HasShortChain, IsInDegree, IsOutDegree, IsWellFormed}
-use Rattle.fw_flow.proofs.Capped.{from_capped, to_capped, kind_of-capped, HasShortChain-capped, JoinsDomains-capped, HasAllowedPolicy-capped, AreWalksRight-capped, IsWalkWrong-capped, HasBorders-capped, loops-capped, nodes-capped}
 use Rattle.fw_flow.proofs.Checks.{GivesOne-loop_in, GivesOne-node_in, GivesOne-edge_in, length-loops, length-nodes, length-loop_lines, length-node_lines, length-edge_lines, both_declared, IsWellFormed-from_rules}
 use Rattle.fw_flow.proofs.Ends.{places_from-receivers, places_from-senders}
 use Rattle.fw_flow.proofs.Flows.{sender-of_link, receiver-of_link, kinds_of}
@@ -67,7 +66,7 @@ pub record AreLinkedPartsOf (parts : Parts) (links : List Link) (raw : List Decl
   pub of_links : links ≡ map link_of parts.edges.items
 
 count_of_nodes : {parts : Parts} {links : List Link} {raw : List Declared} → AreLinkedPartsOf parts links raw → length parts.nodes.items ≡ length (flow_of_declarations raw).nodes
-count_of_nodes {raw = raw} linked = ap length linked.of_parts.all_nodes ∙ length-map (flow_of_declarations raw).nodes capped_node
+count_of_nodes linked = ap length linked.of_parts.all_nodes
 
 count_of_edges : {parts : Parts} {links : List Link} {raw : List Declared} → AreLinkedPartsOf parts links raw → length links ≡ length (flow_of_declarations raw).edges
 count_of_edges {parts} linked = ap length linked.of_links ∙ length-map {A = Edge} {B = Link} parts.edges.items link_of ∙ ap length linked.of_parts.all_edges
@@ -108,7 +107,7 @@ few_ends {links = links} {raw} linked few end ends are =
 
 pub lines_of_loops : {parts : Parts} {links : List Link} {raw : List Declared} → AreLinkedPartsOf parts links raw → length parts.loop_lines.items ≡ length parts.loops.items
 lines_of_loops {raw = raw} linked =
-    ap length linked.of_parts.lines_of_loops ∙ length-loop_lines raw ∙ sym (ap length linked.of_parts.all_loops ∙ length-map (flow_of_declarations raw).loops capped_loop)
+    ap length linked.of_parts.lines_of_loops ∙ length-loop_lines raw ∙ sym (ap length linked.of_parts.all_loops)
 
 pub lines_of_nodes : {parts : Parts} {links : List Link} {raw : List Declared} → AreLinkedPartsOf parts links raw → length parts.node_lines.items ≡ length parts.nodes.items
 lines_of_nodes {raw = raw} linked = ap length linked.of_parts.lines_of_nodes ∙ length-node_lines raw ∙ sym (count_of_nodes linked)
@@ -129,7 +128,7 @@ edges_out_of edges links ends is are p =
 -- ---- the tests
 
 pub made_of : (draft : Draft) (raw : List Declared) → IsDraftOf draft raw
-    → IsMadeOf (capped_flow (flow_of_declarations raw)) draft.parts.loops.items draft.parts.nodes.items draft.links.items
+    → IsMadeOf (flow_of_declarations raw) draft.parts.loops.items draft.parts.nodes.items draft.links.items
 made_of draft raw of_draft = record {
   of_loops = sym of_draft.of_parts.all_loops;
   of_nodes = sym of_draft.of_parts.all_nodes;
@@ -151,8 +150,8 @@ degrees_same : (draft : Draft) (raw : List Declared) → IsDraftOf draft raw →
 unfolding in_edges out_edges
 degrees_same draft raw of_draft p =
     let flow = flow_of_declarations raw in
-    let kind : listed_kind draft.parts.nodes.items p ≡ capped_kind (kind_of flow p) =
-    sym (kinds_of (capped_flow flow) draft.parts.loops.items draft.parts.nodes.items draft.links.items (made_of draft raw of_draft) p) ∙ kind_of-capped flow p in
+    let kind : listed_kind draft.parts.nodes.items p ≡ kind_of flow p =
+    sym (kinds_of flow draft.parts.loops.items draft.parts.nodes.items draft.links.items (made_of draft raw of_draft) p) in
     let into : edges_at draft.incoming.items p ≡ edges_into 0 flow.edges p = of_draft.edges_in p ∙ ap (λ (es : List Edge). edges_into 0 es p) of_draft.of_parts.all_edges in
     let from : edges_at draft.outgoing.items p ≡ edges_from 0 flow.edges p = of_draft.edges_out p ∙ ap (λ (es : List Edge). edges_from 0 es p) of_draft.of_parts.all_edges in
     let Degrees : Kind → List ℕ → List ℕ → Type 0 = λ k i o. IsInDegree k (length i) × IsOutDegree k (length o) in
@@ -160,8 +159,8 @@ degrees_same draft raw of_draft p =
     let ins = edges_at draft.incoming.items p in
     let outs = edges_at draft.outgoing.items p in
     let k = listed_kind draft.parts.nodes.items p in (
-      λ h. from_capped P (λ m n x. x) (kind_of flow p) (subst P kind (subst (λ i. Degrees k i (edges_from 0 flow.edges p)) into (subst (λ o. Degrees k ins o) from h))),
-      λ h. subst (λ o. Degrees k ins o) (sym from) (subst (λ i. Degrees k i (edges_from 0 flow.edges p)) (sym into) (subst P (sym kind) (to_capped P (λ m n x. x) (kind_of flow p) h))),
+      λ h. subst P kind (subst (λ i. Degrees k i (edges_from 0 flow.edges p)) into (subst (λ o. Degrees k ins o) from h)),
+      λ h. subst (λ o. Degrees k ins o) (sym from) (subst (λ i. Degrees k i (edges_from 0 flow.edges p)) (sym into) (subst P (sym kind) h)),
     )
 
 -- the rule of degrees over lists
@@ -187,7 +186,7 @@ pub record AreListsOf (draft : Draft) (loops : List Loop) (nodes : List Node) (l
   pub of_links : links ≡ draft.links.items
 
 made_of_lists : (draft : Draft) (raw : List Declared) → IsDraftOf draft raw → (loops : List Loop) (nodes : List Node) (links : List Link)
-    → AreListsOf draft loops nodes links → IsMadeOf (capped_flow (flow_of_declarations raw)) loops nodes links
+    → AreListsOf draft loops nodes links → IsMadeOf (flow_of_declarations raw) loops nodes links
 made_of_lists draft raw of_draft loops nodes links are =
     let made = made_of draft raw of_draft in
     record { of_loops = made.of_loops ∙ sym are.of_loops; of_nodes = made.of_nodes ∙ sym are.of_nodes; of_links = made.of_links ∙ sym are.of_links }
@@ -199,8 +198,7 @@ pub chains_first : (draft : Draft) (raw : List Declared) → IsDraftOf draft raw
 chains_first draft raw of_draft line loops lines are_loops are_lines first =
     let flow = flow_of_declarations raw in
     subst (λ ls. IsFirstBreakIfAny (HasShortChain flow) ls line) (are_lines ∙ of_draft.of_parts.lines_of_loops)
-    (first_break_same (HasShortChain (capped_flow flow)) (HasShortChain flow) (HasShortChain-capped flow) lines line
-    (first (capped_flow flow) ((made_of draft raw of_draft).of_loops ∙ sym are_loops)))
+    (first flow ((made_of draft raw of_draft).of_loops ∙ sym are_loops))
 
 pub domains_first : (draft : Draft) (raw : List Declared) → IsDraftOf draft raw → (line : Option ℕ) (loops : List Loop) (nodes : List Node) (links : List Link) (lines : List ℕ)
     → loops ≡ draft.parts.loops.items → nodes ≡ draft.parts.nodes.items → links ≡ draft.links.items → lines ≡ draft.parts.edge_lines.items
@@ -209,8 +207,7 @@ pub domains_first : (draft : Draft) (raw : List Declared) → IsDraftOf draft ra
 domains_first draft raw of_draft line loops nodes links lines are_loops are_nodes are_links are_lines first =
     let flow = flow_of_declarations raw in
     subst (λ ls. IsFirstBreakIfAny (JoinsDomains flow) ls line) (are_lines ∙ of_draft.of_parts.lines_of_edges)
-    (first_break_same (JoinsDomains (capped_flow flow)) (JoinsDomains flow) (JoinsDomains-capped flow) lines line
-    (first (capped_flow flow) (made_of_lists draft raw of_draft loops nodes links (record { of_loops = are_loops; of_nodes = are_nodes; of_links = are_links }))))
+    (first flow (made_of_lists draft raw of_draft loops nodes links (record { of_loops = are_loops; of_nodes = are_nodes; of_links = are_links })))
 
 pub policies_first : (draft : Draft) (raw : List Declared) → IsDraftOf draft raw → (line : Option ℕ) (nodes : List Node) (lines : List ℕ)
     → nodes ≡ draft.parts.nodes.items → lines ≡ draft.parts.node_lines.items
@@ -219,23 +216,22 @@ pub policies_first : (draft : Draft) (raw : List Declared) → IsDraftOf draft r
 policies_first draft raw of_draft line nodes lines are_nodes are_lines first =
     let flow = flow_of_declarations raw in
     subst (λ ls. IsFirstBreakIfAny (HasAllowedPolicy flow) ls line) (are_lines ∙ of_draft.of_parts.lines_of_nodes)
-    (first_break_same (HasAllowedPolicy (capped_flow flow)) (HasAllowedPolicy flow) (HasAllowedPolicy-capped flow) lines line
-    (first (capped_flow flow) ((made_of draft raw of_draft).of_nodes ∙ sym are_nodes)))
+    (first flow ((made_of draft raw of_draft).of_nodes ∙ sym are_nodes))
 
 pub walks_right : {E : Type 0} (draft : Draft) (raw : List Declared) → IsDraftOf draft raw → (r : Result Bool E) (loops : List Loop) (nodes : List Node) (links : List Link)
     → AreListsOf draft loops nodes links
     → ((flow : Dataflow) → IsMadeOf flow loops nodes links → IfOk r (λ b. OnTrue b (AreWalksRight flow))) → IfOk r (λ b. b ≡ true → AreWalksRight (flow_of_declarations raw))
 walks_right draft raw of_draft (Ok true) loops nodes links are right = λ e.
-    AreWalksRight-capped (flow_of_declarations raw) (right (capped_flow (flow_of_declarations raw)) (made_of_lists draft raw of_draft loops nodes links are))
+    right (flow_of_declarations raw) (made_of_lists draft raw of_draft loops nodes links are)
 walks_right draft raw of_draft (Ok false) loops nodes links are right = λ e. absurd (false≢true e)
 walks_right draft raw of_draft (Err fault) loops nodes links are right = tt
 
--- where the edges join domains, the links of the flow with its sizes capped do
-joins-capped : (draft : Draft) (raw : List Declared) → IsDraftOf draft raw → (links : List Link) → links ≡ draft.links.items → KeepsRule raw F5
-    → HoldsBelow (JoinsDomains (capped_flow (flow_of_declarations raw))) (length links)
-joins-capped draft raw of_draft links are joins = λ e lt.
+-- where the edges join domains, the links do
+links_join : (draft : Draft) (raw : List Declared) → IsDraftOf draft raw → (links : List Link) → links ≡ draft.links.items → KeepsRule raw F5
+    → HoldsBelow (JoinsDomains (flow_of_declarations raw)) (length links)
+links_join draft raw of_draft links are joins = λ e lt.
     let count = ap length are ∙ count_of_edges (record { of_parts = of_draft.of_parts; of_links = of_draft.of_links }) in
-    (JoinsDomains-capped (flow_of_declarations raw) e).1 (joins e (omega (arith, count, length-edge_lines raw, lt)))
+    joins e (omega (arith, count, length-edge_lines raw, lt))
 
 pub walk_wrong : {E : Type 0} (draft : Draft) (raw : List Declared) → IsDraftOf draft raw → (r : Result Bool E) (loops : List Loop) (nodes : List Node) (links : List Link)
     → AreListsOf draft loops nodes links → KeepsRule raw F5
@@ -243,16 +239,13 @@ pub walk_wrong : {E : Type 0} (draft : Draft) (raw : List Declared) → IsDraftO
     → IfOk r (λ b. b ≡ false → IsWalkWrong (flow_of_declarations raw))
 walk_wrong draft raw of_draft (Ok true) loops nodes links are joins wrong = λ e. absurd (true≢false e)
 walk_wrong draft raw of_draft (Ok false) loops nodes links are joins wrong = λ e.
-    IsWalkWrong-capped (flow_of_declarations raw)
-    (wrong (capped_flow (flow_of_declarations raw)) (made_of_lists draft raw of_draft loops nodes links are) (joins-capped draft raw of_draft links are.of_links joins))
+    wrong (flow_of_declarations raw) (made_of_lists draft raw of_draft loops nodes links are) (links_join draft raw of_draft links are.of_links joins)
 walk_wrong draft raw of_draft (Err fault) loops nodes links are joins wrong = tt
 
 pub borders_same : (draft : Draft) (raw : List Declared) → IsDraftOf draft raw → (b : Bool) (nodes : List Node) → nodes ≡ draft.parts.nodes.items
     → ((flow : Dataflow) → flow.nodes ≡ nodes → (b ≡ true) ↔ HasBorders flow) → (b ≡ true) ↔ HasBorders (flow_of_declarations raw)
 borders_same draft raw of_draft b nodes are_nodes same =
-    let here = same (capped_flow (flow_of_declarations raw)) ((made_of draft raw of_draft).of_nodes ∙ sym are_nodes) in
-    let capped = HasBorders-capped (flow_of_declarations raw) in
-    (λ e. capped.0 (here.0 e), λ h. here.1 (capped.1 h))
+    same (flow_of_declarations raw) ((made_of draft raw of_draft).of_nodes ∙ sym are_nodes)
 
 -- ---- refusals
 
@@ -283,19 +276,19 @@ IsFirstBroken-from_later raw NoMemory names first = tt
 abbrev pub drafted : Draft → Dataflow
 drafted draft = record { loops = draft.parts.loops.items; nodes = draft.parts.nodes.items; edges = draft.parts.edges.items }
 
-flow_of_draft : (draft : Draft) (raw : List Declared) → IsDraftOf draft raw → IsWellFormed (flow_of_declarations raw) → drafted draft ≡ flow_of_declarations raw
-flow_of_draft draft raw of_draft wf =
-    let flow = flow_of_declarations raw in
-    let parts = draft.parts in
-    let loops : parts.loops.items ≡ flow.loops = of_draft.of_parts.all_loops ∙ loops-capped flow wf.limits in
-    let nodes : parts.nodes.items ≡ flow.nodes = of_draft.of_parts.all_nodes ∙ nodes-capped flow wf.limits in
-    λ i. record { loops = loops i; nodes = nodes i; edges = of_draft.of_parts.all_edges i }
+-- it is the flow of the declarations
+flow_of_draft : (draft : Draft) (raw : List Declared) → IsDraftOf draft raw → drafted draft ≡ flow_of_declarations raw
+flow_of_draft draft raw of_draft = λ i. record {
+  loops = of_draft.of_parts.all_loops i;
+  nodes = of_draft.of_parts.all_nodes i;
+  edges = of_draft.of_parts.all_edges i;
+}
 
 -- the declarations of a draft that breaks no rule are those of its flow
 pub IsChecked-from_draft : (draft : Draft) (raw : List Declared) → IsDraftOf draft raw → KeepsRule raw F3 → LaterRulesHold raw → IsChecked raw (drafted draft)
 IsChecked-from_draft draft raw of_draft names all =
     let wf = IsWellFormed-from_rules raw names all.chains all.degrees all.domains all.walks all.policies all.limits all.borders in
-    record { well_formed = wf; value = flow_of_draft draft raw of_draft wf }
+    record { well_formed = wf; value = flow_of_draft draft raw of_draft }
 
 loop_named : (loops : List (List ℕ)) (line : ℕ) (d : Declaration)
     → map (λ (l : Loop). l.name) (loop_in loops (record { line = line; declaration = d })) ≡ loop_name (record { line = line; declaration = d })

@@ -12,7 +12,7 @@ use Rattle.fw_frontier.specs.Frontier.{Frontier}
 use Rattle.fw_frontier.specs.Front.{Front, frontier_of, IsFrontOf}
 use Rattle.fw_frontier.proofs.BelowLaws.{names-as}
 use Rattle.fw_flow.specs.declared.event.Event.{Event}
-use Rattle.fw_flow.specs.declared.kind.Kind.{Kind}
+use Rattle.fw_flow.specs.Kind.{Kind}
 use Rattle.fw_flow.specs.declared.kind.Kind.TheVariants.{OutputEpoch, Sequence}
 use Rattle.fw_flow.specs.declared.node.Edge.{Edge}
 use Rattle.fw_flow.specs.Dataflow.{System, Dataflow, idle_node, kind_of, sender, receiver, edges_into, in_edges, domain_of, domain_of_kind, out_domain_of, out_domain_of_kind, greatest_of_kind, bounds_of, bounds_of_domain, bounds_of_edge}

@@ -2,7 +2,6 @@ pub mod AnswerLaws
 pub mod BatchFaultLaws
 pub mod BuilderLaws
 pub mod ByRanks
-pub mod Capped
 pub mod Chains
 pub mod Checks
 pub mod Depths
@@ -13,6 +12,7 @@ pub mod FlowLaws
 pub mod Flows
 pub mod Givers
 pub mod Kept
+pub mod KindLaws
 pub mod Marks
 pub mod MessageLaws
 pub mod NameLaws

@@ -6,7 +6,7 @@ use Rattle.std.proofs.lemmas.List.FromFn.{get_or-map-range_with_len, length-map-
 use Rattle.std.specs.List.{AllByRecursion}
 use Rattle.fw_bag.specs.declared.rec.Rec.{Rec}
 use Rattle.fw_lines.specs.Batches.{batches_at, IsBatch, AreBatches}
-use Rattle.fw_flow.specs.declared.kind.Kind.{Kind}
+use Rattle.fw_flow.specs.Kind.{Kind}
 use Rattle.fw_flow.specs.Check.{HoldsBelow}
 use Rattle.fw_flow.specs.Dataflow.{Dataflow, kind_of, is_input_kind, node_ids, batches_of, batches_of_nodes, system_of}
 use Rattle.fw_flow.specs.Premises.{may_have}

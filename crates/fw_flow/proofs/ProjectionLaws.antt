@@ -28,7 +28,7 @@ use Rattle.fw_flow.specs.declared.projection.Way.TheVariants.{First, Next, NextA
 use Rattle.fw_flow.specs.Projection.{sent_count, phi, IsSentTable, first_coordinate, each_counter, some_counter, phi_of_kind, psi_of_kind, psi_back_of_kind, table_count}
 use Rattle.fw_flow.specs.ProjectedStamps.{AreDomainsOf, MayGo, image, images, entered_outside, front_until}
 use Rattle.fw_flow.specs.declared.event.Event.{Event}
-use Rattle.fw_flow.specs.declared.kind.Kind.{Kind}
+use Rattle.fw_flow.specs.Kind.{Kind}
 use Rattle.fw_flow.specs.declared.kind.Domain.{Domain}
 use Rattle.fw_flow.specs.Dataflow.{System, Dataflow, kind_of, sender, max_of, greatest_number, parent_of, domain_of_kind, out_domain_of_kind, greatest_of, greatest_of_kind, bounds_of_domain}
 use Rattle.fw_flow.proofs.Chains.{outer_greatest, greatest-unfold, greatest-length, parent-few}
@@ -641,7 +641,7 @@ below-ok {limit = limit} {b} {test} res m h =
     IfOk-weaker res (λ g. IsFrontOf b g (λ u. in_domain b u && nat_lt (first_coordinate u) limit)) (λ g. IsFrontOf b g (λ u. in_domain b u && test u))
     (λ g n. names-numbers_by b greatest_number g (λ k. nat_lt k limit) test m.line n m.same) (h m.plain)
 
-pub phi-regroup_ok : {n : ℕ} {s r : Bounds} → AreDomainsOf (Regroup n) s r → IsGroupSize (Regroup n) → (os : Front) → IsCanonical s os → (limit k : ℕ) → os ≡ front_until (Some limit)
+pub phi-regroup_ok : {n : ℕ} {s r : Bounds} → AreDomainsOf (Regroup n) s r → IsGroupSize {L = ℕ} (Regroup n) → (os : Front) → IsCanonical s os → (limit k : ℕ) → os ≡ front_until (Some limit)
     → k ≡ limit / n → IsBelow k r (λ u. frontier_of s os (min (first_coordinate u * n + n - 1) (first_coordinate s.greatest) ∷ []))
 phi-regroup_ok {n} {s} {r} d size os h limit k f is = record {
   plain = receiver-plain d;
@@ -655,7 +655,7 @@ phi-regroup_ok {n} {s} {r} d size os h limit k f is = record {
       ∙ (λ j. frontier_of s (sym f j) (x (sym e j) ∷ []));
 }
 
-pub psi-regroup_ok : {n : ℕ} {s r : Bounds} → AreDomainsOf (Regroup n) s r → IsGroupSize (Regroup n) → (os : Front) (end k : ℕ) → ((x : ℕ) → frontier_of s os (x ∷ []) ≡ nat_lt x end)
+pub psi-regroup_ok : {n : ℕ} {s r : Bounds} → AreDomainsOf (Regroup n) s r → IsGroupSize {L = ℕ} (Regroup n) → (os : Front) (end k : ℕ) → ((x : ℕ) → frontier_of s os (x ∷ []) ≡ nat_lt x end)
     → k ≡ end / n + min 1 (end % n) → IsBelow k r (psi_of_kind s.greatest (Regroup n) (frontier_of s os))
 psi-regroup_ok {n} d size os end k f is = record {
   plain = receiver-plain d;
@@ -683,7 +683,7 @@ end-all {s = s} d end os f k x =
     by : (x g end : ℕ) → end ≡ g + 1 → ((nat_le x g && true) && true) ≡ nat_lt x end
     by x g end e = grind (arith, nat_tests)
 
-pub psi_back-regroup_ok : {n : ℕ} {s r : Bounds} → AreDomainsOf (Regroup n) s r → IsGroupSize (Regroup n) → (os : Front) (limit k : ℕ) → os ≡ front_until (Some limit)
+pub psi_back-regroup_ok : {n : ℕ} {s r : Bounds} → AreDomainsOf (Regroup n) s r → IsGroupSize {L = ℕ} (Regroup n) → (os : Front) (limit k : ℕ) → os ≡ front_until (Some limit)
     → k ≡ limit * n → IsBelow k s (psi_back_of_kind s.greatest (Regroup n) (frontier_of r os))
 psi_back-regroup_ok {n} {s} {r} d size os limit k f is = record {
   plain = sender-plain d;

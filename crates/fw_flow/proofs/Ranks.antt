@@ -1,7 +1,7 @@
 -- Ranks of a graph's nodes by counting the nodes that reach them, and the ranks of a dataflow's nodes.
 use Rattle.std.proofs.Common.{◌≡◌, ℕ, zero, suc, ◌+◌, ◌<◌, ◌≤◌, ◌⊎◌, inl, inr, Bool, true, false, not, ◌&&◌, ◌||◌, ◌==◌, cond, List, [], ◌∷◌, length, refl, sym, ap, ◌∙◌, subst, arith}
 use Rattle.std.proofs.lemmas.Bool.{or_cases, or_left, or_right, and_parts, and_from, eqb-true, eq-eqb, cases_Bool, cases_lt, false_from_ne_true, true≢false, false≢true, not-true, not_from_false}
-use Rattle.fw_flow.specs.declared.kind.Kind.{Kind}
+use Rattle.fw_flow.specs.Kind.{Kind}
 use Rattle.fw_flow.specs.Dataflow.{Dataflow, kind_of, sender, receiver}
 use Rattle.fw_flow.specs.WellFormed.{IsWalk, IsClosedWalk, Passes}
 use Rattle.fw_flow.specs.Walks.{Graph, IsPath, Path}

@@ -3,7 +3,7 @@ use Rattle.std.proofs.Common.{◌≡◌, ℕ, ◌+◌, ◌/◌, ◌<◌, ◌≤�
 use Rattle.fw_time.specs.Stamp.{Stamp, in_domain}
 use Rattle.fw_time.specs.Sending.{regrouped_stamp}
 use Rattle.fw_time.proofs.StampLaws.{leq-length}
-use Rattle.fw_flow.specs.declared.kind.Kind.{Kind}
+use Rattle.fw_flow.specs.Kind.{Kind}
 use Rattle.fw_flow.specs.declared.kind.Kind.TheVariants.{Enter}
 use Rattle.fw_flow.specs.Dataflow.{Dataflow, bounds_of_domain, domain_of_kind, parent_of}
 use Rattle.fw_flow.proofs.Chains.{greatest-length, loops-few, parent-few}

@@ -10,7 +10,7 @@ use Rattle.fw_flow.specs.declared.builder.BuildFault.TheVariants.{BadName, NameT
 use Rattle.fw_flow.specs.declared.raw.Declaration.{Declaration}
 use Rattle.fw_flow.specs.declared.raw.Declaration.TheVariants.{Loop, Node, Edge}
 use Rattle.fw_flow.specs.declared.raw.Declared.{Declared}
-use Rattle.fw_flow.specs.Check.{loop_named}
+use Rattle.fw_flow.specs.Kind.{loop_of_kind}
 use Rattle.fw_flow.specs.Raw.{is_new}
 
 -- the declarations with one more, whose line is its number, counted from 1
@@ -21,7 +21,7 @@ with_declaration raw declaration = raw ++ record { line = length raw + 1; declar
 -- is, of a node that of the loop of its kind, of an edge those of its sender and its receiver
 abbrev pub has_names : Declaration → Bool
 has_names (Loop name max parent) = is_name name && option_map_or is_name parent true
-has_names (Node name kind policy) = is_name name && option_map_or is_name (loop_named kind) true
+has_names (Node name kind policy) = is_name name && option_map_or is_name (loop_of_kind kind) true
 has_names (Edge name sender receiver) = is_name name && is_name sender && is_name receiver
 
 -- The builder takes the declaration exactly where its names are names and its own is new, and then has it as its last; else it

@@ -1,53 +1,34 @@
 -- Which declarations are a well-formed dataflow, and which rule others break first.
-use Rattle.std.specs.Prelude.{◌≡◌, ◌⊎◌, ℕ, ◌^◌, ◌<◌, ◌≤◌, Bool, true, ◌&&◌, List, [], ◌∷◌, map, length, take, Option, Some, None, slice_get, IsTrue, IfSome, MatchOption}
+use Rattle.std.specs.Prelude.{◌≡◌, ◌⊎◌, ℕ, ◌^◌, ◌<◌, ◌≤◌, Bool, true, ◌&&◌, List, [], ◌∷◌, map, length, take, Option, Some, slice_get, IsTrue, IfSome, MatchOption}
 use Rattle.std.specs.List.{flat_map}
 use Rattle.std.specs.Option.{option_map_or}
 use Rattle.fw_lines.specs.declared.refusal.Code.{Code}
 use Rattle.fw_lines.specs.declared.refusal.Code.TheVariants.{F3, F4, F5, F6, F7, F8, F9, F12}
 use Rattle.fw_lines.specs.declared.refusal.Refusal.{Refusal}
-use Rattle.fw_flow.specs.declared.kind.Kind.{Kind}
+use Rattle.fw_flow.specs.Kind.{Kind, loop_of_kind}
 use Rattle.fw_flow.specs.declared.raw.Declaration.{Declaration}
 use Rattle.fw_flow.specs.declared.raw.Declaration.TheVariants.{Loop as ALoop, Node as ANode, Edge as AnEdge}
 use Rattle.fw_flow.specs.declared.raw.Declared.{Declared}
 use Rattle.fw_flow.specs.declared.raw.NameSpaces.{NameSpaces}
-use Rattle.fw_flow.specs.declared.raw.RawKind.{RawKind}
-use Rattle.fw_flow.specs.declared.raw.RawKind.TheVariants.{Select, Concat, Distinct, Join, Sum, Enter, Feedback, Leave, Regroup}
 use Rattle.fw_flow.specs.Dataflow.{Dataflow, kind_of, policy_of, sender, receiver, in_edges, out_edges, domain_of, out_domain_of, is_input_kind, is_output_kind}
 use Rattle.fw_flow.specs.Names.{has_name}
 use Rattle.fw_flow.specs.Raw.{names_of, loop_names, node_names, edge_names, loop_name, node_name, edge_name, flow_of_declarations}
 use Rattle.fw_flow.specs.Walks.{NoClosedWalkPasses, EachWalkWithinIsFedBack, SlippingWalk, PassingWalk}
-use Rattle.fw_flow.specs.WellFormed.{HasShortChain, IsInDegree, IsOutDegree, IsPolicyAllowed, IsWellFormed, is_outside_kind}
+use Rattle.fw_flow.specs.WellFormed.{HasShortChain, IsInDegree, IsOutDegree, IsPolicyAllowed, IsGroupSize, IsWellFormed, is_outside_kind}
 
 -- ---- what each rule asks
-
--- the loop that a kind names, if it names one
-abbrev pub loop_named : RawKind → Option (List ℕ)
-loop_named (Select selection within) = within
-loop_named (Concat within) = within
-loop_named (Distinct within) = within
-loop_named (Join within) = within
-loop_named (Sum within) = within
-loop_named (Enter name) = Some name
-loop_named (Feedback name) = Some name
-loop_named (Leave name) = Some name
-loop_named kind = None
 
 -- whether what the declaration names is declared: the loop in which a loop is, the loop of a node's kind, the sender and the
 -- receiver of an edge
 abbrev pub are_names_declared : NameSpaces → Declaration → Bool
 are_names_declared names (ALoop name max parent) = option_map_or (λ l. has_name l names.loops) parent true
-are_names_declared names (ANode name kind policy) = option_map_or (λ l. has_name l names.loops) (loop_named kind) true
+are_names_declared names (ANode name kind policy) = option_map_or (λ l. has_name l names.loops) (loop_of_kind kind) true
 are_names_declared names (AnEdge name sender receiver) = has_name sender names.nodes && has_name receiver names.nodes
-
--- so many numbers may be grouped into one epoch
-abbrev pub IsRawGroupSize : RawKind → Type 0
-IsRawGroupSize (Regroup n) = (1 ≤ n) × (n < 2 ^ 32)
-IsRawGroupSize kind = Unit {0}
 
 -- after these declarations there is room for one more, and its numbers are in range
 abbrev pub IsWithinLimitsAfter : List Declared → Declaration → Type 0
 IsWithinLimitsAfter before (ALoop name max parent) = (length (loop_names before) < 64) × (1 ≤ max) × (max ≤ 1024)
-IsWithinLimitsAfter before (ANode name kind policy) = (length (node_names before) < 256) × IsRawGroupSize kind
+IsWithinLimitsAfter before (ANode name kind policy) = (length (node_names before) < 256) × IsGroupSize kind
 IsWithinLimitsAfter before (AnEdge name sender receiver) = length (edge_names before) < 512
 
 -- F3, of the declaration at a place: what it names is declared

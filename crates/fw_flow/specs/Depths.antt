@@ -1,6 +1,6 @@
 -- How the rule on closed walks is decided: depth by depth, by the nodes to which a walk comes back.
 use Rattle.std.specs.Prelude.{◌≡◌, ℕ, ◌<◌, Bool, true, not, ◌&&◌, ◌==◌, nat_le, List, length, slice_index_or}
-use Rattle.fw_flow.specs.declared.kind.Kind.{Kind}
+use Rattle.fw_flow.specs.Kind.{Kind}
 use Rattle.fw_flow.specs.declared.node.Node.{Node}
 use Rattle.fw_flow.specs.declared.walks.Link.{Link}
 use Rattle.fw_flow.specs.Dataflow.{Dataflow, kind_of, sender, receiver, domain_of_kind, loops_of}

@@ -1,12 +1,12 @@
 -- How kinds and policies are printed.
 use Rattle.std.specs.Prelude.{ℕ, List, codes}
-use Rattle.fw_flow.specs.declared.kind.Kind.{Kind}
+use Rattle.fw_flow.specs.declared.kind.Kind.{Kind as KindBy}
 use Rattle.fw_flow.specs.declared.kind.Kind.TheVariants.{Input, OutputEpoch, OutputNumber, Select, Concat, Distinct, Join, Sum, Enter, Feedback, Leave, Total, Sequence, Ledger, Regroup}
 use Rattle.fw_flow.specs.declared.kind.Policy.{Policy}
 use Rattle.fw_flow.specs.declared.kind.Policy.TheVariants as policy
 
 -- the words for the kind in the line of a node, without the selection, loop or number behind them
-abbrev pub kind_text : Kind → List ℕ
+abbrev pub kind_text : {L : Type 0} → KindBy L → List ℕ
 kind_text Input = codes "input"
 kind_text OutputEpoch = codes "output epoch"
 kind_text OutputNumber = codes "output number"

@@ -8,6 +8,7 @@ pub mod Depths
 pub mod DomainText
 pub mod Draft
 pub mod Flow
+pub mod Kind
 pub mod KindText
 pub mod Message
 pub mod Names

@@ -8,7 +8,7 @@ use Rattle.fw_bag.specs.Keyed.{plus, sorted_recs, is_among, joined_rec, value_su
 use Rattle.fw_flow.specs.declared.event.Event.{Event}
 use Rattle.fw_flow.specs.declared.event.Event.TheVariants.{Inject, Deliver, Notify}
 use Rattle.fw_flow.specs.declared.event.Message.{Message}
-use Rattle.fw_flow.specs.declared.kind.Kind.{Kind}
+use Rattle.fw_flow.specs.Kind.{Kind}
 use Rattle.fw_flow.specs.declared.kind.Kind.TheVariants.{Select, Concat, Distinct, Join, Sum, Enter, Feedback, Leave, Total, Sequence, Ledger, Regroup}
 use Rattle.fw_flow.specs.Dataflow.{System, Dataflow, kind_of, receiver, batches_of, greatest_number, is_input_kind, send_stamp_of_kind}
 

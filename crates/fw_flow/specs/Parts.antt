@@ -1,43 +1,17 @@
 -- For the proofs of src/parts.rt and src/check.rt: the parts of a flow before its limits are tested.
-use Rattle.std.specs.Prelude.{◌≡◌, ℕ, nat_le, ◌==◌, ◌+◌, if◌then◌else◌, List, [], ◌∷◌, map, length}
+use Rattle.std.specs.Prelude.{◌≡◌, ℕ, ◌==◌, ◌+◌, if◌then◌else◌, List, [], ◌∷◌, length}
 use Rattle.std.specs.List.{flat_map}
 use Rattle.fw_flow.specs.declared.check.Counts.{Counts}
-use Rattle.fw_flow.specs.declared.kind.Kind.{Kind}
-use Rattle.fw_flow.specs.declared.kind.Kind.TheVariants.{Regroup}
-use Rattle.fw_flow.specs.declared.node.Loop.{Loop}
-use Rattle.fw_flow.specs.declared.node.Node.{Node}
 use Rattle.fw_flow.specs.declared.parts.Parts.{Parts}
 use Rattle.fw_flow.specs.declared.raw.Declared.{Declared}
 use Rattle.fw_flow.specs.declared.raw.NameSpaces.{NameSpaces}
 use Rattle.fw_flow.specs.Check.{loop_lines, node_lines, edge_lines}
-use Rattle.fw_flow.specs.Dataflow.{Dataflow, greatest_number}
 use Rattle.fw_flow.specs.Raw.{loop_names, node_names, edge_names, loop_in, node_in, edge_in}
-
--- the number, or the greatest one of 32 bits if it is past that
-abbrev pub capped_number : ℕ → ℕ
-capped_number n = if nat_le n greatest_number then n else greatest_number
-
--- the kind with its size capped
-abbrev pub capped_kind : Kind → Kind
-capped_kind (Regroup n) = Regroup (capped_number n)
-capped_kind kind = kind
-
--- the loop with its greatest counter capped
-abbrev pub capped_loop : Loop → Loop
-capped_loop l = record { name = l.name; max = capped_number l.max; parent = l.parent }
-
--- the node with its size capped
-abbrev pub capped_node : Node → Node
-capped_node node = record { name = node.name; kind = capped_kind node.kind; policy = node.policy }
-
--- the flow with its sizes and counters capped
-abbrev pub capped_flow : Dataflow → Dataflow
-capped_flow flow = record { loops = map capped_loop flow.loops; nodes = map capped_node flow.nodes; edges = flow.edges }
 
 -- these are the parts that the declarations give, with these names
 pub record ArePartsOf (parts : Parts) (names : NameSpaces) (raw : List Declared) : Type 0 where
-  pub all_loops : parts.loops.items ≡ map capped_loop (flat_map (loop_in names.loops) raw)
-  pub all_nodes : parts.nodes.items ≡ map capped_node (flat_map (node_in names.loops) raw)
+  pub all_loops : parts.loops.items ≡ flat_map (loop_in names.loops) raw
+  pub all_nodes : parts.nodes.items ≡ flat_map (node_in names.loops) raw
   pub all_edges : parts.edges.items ≡ flat_map (edge_in names.nodes) raw
   pub lines_of_loops : parts.loop_lines.items ≡ loop_lines raw
   pub lines_of_nodes : parts.node_lines.items ≡ node_lines raw

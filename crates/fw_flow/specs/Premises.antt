@@ -1,6 +1,6 @@
 -- For the proof of src/premises.rt: how many batches a node may have.
 use Rattle.std.specs.Prelude.{ℕ, ◌^◌, nat_le, ◌==◌, Bool, ◌&&◌, ◌||◌}
-use Rattle.fw_flow.specs.declared.kind.Kind.{Kind}
+use Rattle.fw_flow.specs.Kind.{Kind}
 use Rattle.fw_flow.specs.Dataflow.{is_input_kind}
 
 -- whether a node of the kind may have so many batches: an input 2^20, any other node none

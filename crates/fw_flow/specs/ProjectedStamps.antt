@@ -4,7 +4,7 @@ use Rattle.fw_time.specs.declared.stamp.Bounds.{Bounds}
 use Rattle.fw_time.specs.Stamp.{Stamp, nest, outer, counter, origin}
 use Rattle.fw_time.specs.Sending.{entered_stamp, fed_back_stamp, left_stamp}
 use Rattle.fw_frontier.specs.Front.{Front}
-use Rattle.fw_flow.specs.declared.kind.Kind.{Kind}
+use Rattle.fw_flow.specs.Kind.{Kind}
 use Rattle.fw_flow.specs.declared.projection.Way.{Way}
 use Rattle.fw_flow.specs.declared.projection.Way.TheVariants.{First, Next, NextAfterFirst, Before, Outer, OuterOfFirst}
 use Rattle.fw_flow.specs.Dataflow.{Dataflow, kind_of, sender, receiver, domain_of_kind, out_domain_of_kind, bounds_of, bounds_of_domain, bounds_of_edge}

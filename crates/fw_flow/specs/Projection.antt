@@ -6,7 +6,7 @@ use Rattle.fw_time.specs.Stamp.{Stamp, nest, outer, counter}
 use Rattle.fw_frontier.specs.Frontier.{Frontier, IsFrontier}
 use Rattle.fw_flow.specs.declared.event.Event.{Event}
 use Rattle.fw_flow.specs.declared.event.Message.{Message}
-use Rattle.fw_flow.specs.declared.kind.Kind.{Kind}
+use Rattle.fw_flow.specs.Kind.{Kind}
 use Rattle.fw_flow.specs.declared.kind.Kind.TheVariants.{Enter, Feedback, Leave, Sequence, Regroup}
 use Rattle.fw_flow.specs.Dataflow.{System, Dataflow, kind_of, sender, domain_of_kind, out_domain_of_kind, greatest_of_kind, bounds_of_domain, bounds_of}
 use Rattle.fw_time.specs.Stamp.{in_domain}

@@ -2,18 +2,15 @@
 use Rattle.std.specs.Prelude.{◌≡◌, ℕ, ◌<◌, ◌^◌, Bool, not, List, [], ◌∷◌, ◌++◌, length, option_map}
 use Rattle.std.specs.List.{flat_map, position_or_len}
 use Rattle.std.specs.Str.{bytes_eq}
-use Rattle.fw_flow.specs.declared.kind.Kind.{Kind}
-use Rattle.fw_flow.specs.declared.kind.Kind.TheVariants as kind
 use Rattle.fw_flow.specs.declared.node.Loop.{Loop}
 use Rattle.fw_flow.specs.declared.node.Node.{Node}
 use Rattle.fw_flow.specs.declared.node.Edge.{Edge}
-use Rattle.fw_flow.specs.declared.raw.RawKind.{RawKind}
-use Rattle.fw_flow.specs.declared.raw.RawKind.TheVariants.{Input, OutputEpoch, OutputNumber, Select, Concat, Distinct, Join, Sum, Enter, Feedback, Leave, Total, Sequence, Ledger, Regroup}
 use Rattle.fw_flow.specs.declared.raw.Declaration.{Declaration}
 use Rattle.fw_flow.specs.declared.raw.Declaration.TheVariants.{Loop as ALoop, Node as ANode, Edge as AnEdge}
 use Rattle.fw_flow.specs.declared.raw.Declared.{Declared}
 use Rattle.fw_flow.specs.declared.raw.NameSpaces.{NameSpaces}
 use Rattle.fw_flow.specs.Dataflow.{Dataflow}
+use Rattle.fw_flow.specs.Kind.{Kind, RawKind, kind_map}
 use Rattle.fw_flow.specs.Names.{has_name}
 
 -- the name of a loop that is declared
@@ -86,21 +83,7 @@ place_or_end names name = position_or_len (bytes_eq name) names
 
 -- the kind, with its loop by its place among these names
 abbrev pub resolved_kind : List (List ℕ) → RawKind → Kind
-resolved_kind loops Input = kind.Input
-resolved_kind loops OutputEpoch = kind.OutputEpoch
-resolved_kind loops OutputNumber = kind.OutputNumber
-resolved_kind loops (Select selection within) = kind.Select selection (option_map (place_or_end loops) within)
-resolved_kind loops (Concat within) = kind.Concat (option_map (place_or_end loops) within)
-resolved_kind loops (Distinct within) = kind.Distinct (option_map (place_or_end loops) within)
-resolved_kind loops (Join within) = kind.Join (option_map (place_or_end loops) within)
-resolved_kind loops (Sum within) = kind.Sum (option_map (place_or_end loops) within)
-resolved_kind loops (Enter name) = kind.Enter (place_or_end loops name)
-resolved_kind loops (Feedback name) = kind.Feedback (place_or_end loops name)
-resolved_kind loops (Leave name) = kind.Leave (place_or_end loops name)
-resolved_kind loops Total = kind.Total
-resolved_kind loops Sequence = kind.Sequence
-resolved_kind loops Ledger = kind.Ledger
-resolved_kind loops (Regroup size) = kind.Regroup size
+resolved_kind loops kind = kind_map (place_or_end loops) kind
 
 -- the loop that is declared, if one is, with these names of loops
 abbrev pub loop_in : List (List ℕ) → Declared → List Loop

@@ -1,7 +1,8 @@
 -- Which dataflows are well formed.
 use Rattle.std.specs.Prelude.{◌≡◌, ◌⊎◌, ℕ, ◌^◌, ◌<◌, ◌≤◌, Bool, true, false, not, ◌==◌, List, [], ◌∷◌, length, Some, IfSome}
-use Rattle.fw_flow.specs.declared.kind.Kind.{Kind}
-use Rattle.fw_flow.specs.declared.kind.Kind.TheVariants.{Input, OutputEpoch, OutputNumber, Select, Concat, Distinct, Join, Sum, Enter, Feedback, Leave, Total, Sequence, Ledger, Regroup}
+use Rattle.fw_flow.specs.declared.kind.Kind.{Kind as KindBy}
+use Rattle.fw_flow.specs.Kind.{Kind, loop_of_kind}
+use Rattle.fw_flow.specs.declared.kind.Kind.TheVariants.{Input, OutputEpoch, OutputNumber, Concat, Join, Feedback, Total, Sequence, Ledger, Regroup}
 use Rattle.fw_flow.specs.declared.kind.Policy.{Policy}
 use Rattle.fw_flow.specs.declared.kind.Policy.TheVariants as policy
 use Rattle.std.specs.List.{AllByRecursion}
@@ -10,15 +11,7 @@ use Rattle.fw_flow.specs.Dataflow.{System, batches_of, Dataflow, kind_of, policy
 
 -- the loop of a kind is declared, if it has one
 abbrev pub IsLoopDeclared : Dataflow → Kind → Type 0
-IsLoopDeclared flow (Select selection (Some l)) = l < length flow.loops
-IsLoopDeclared flow (Concat (Some l)) = l < length flow.loops
-IsLoopDeclared flow (Distinct (Some l)) = l < length flow.loops
-IsLoopDeclared flow (Join (Some l)) = l < length flow.loops
-IsLoopDeclared flow (Sum (Some l)) = l < length flow.loops
-IsLoopDeclared flow (Enter l) = l < length flow.loops
-IsLoopDeclared flow (Feedback l) = l < length flow.loops
-IsLoopDeclared flow (Leave l) = l < length flow.loops
-IsLoopDeclared flow kind = Unit {0}
+IsLoopDeclared flow kind = IfSome (loop_of_kind kind) (λ l. l < length flow.loops)
 
 -- the loop in which a loop is declared is declared itself, if there is one
 abbrev pub IsParentDeclared : Dataflow → ℕ → Type 0
@@ -102,7 +95,7 @@ StaysWithin flow l [] = Unit {0}
 StaysWithin flow l (e ∷ es) = (is_domain_within flow l (domain_of flow (sender flow e)) ≡ true) × StaysWithin flow l es
 
 -- so many numbers may be grouped into one epoch
-abbrev pub IsGroupSize : Kind → Type 0
+abbrev pub IsGroupSize : {L : Type 0} → KindBy L → Type 0
 IsGroupSize (Regroup n) = (1 ≤ n) × (n < 2 ^ 32)
 IsGroupSize kind = Unit {0}
 

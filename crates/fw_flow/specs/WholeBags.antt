@@ -8,7 +8,7 @@ use Rattle.fw_bag.specs.declared.rec.Rec.{Rec}
 use Rattle.fw_bag.specs.Rec.{rec_cmp}
 use Rattle.fw_bag.specs.Select.{selected_rec}
 use Rattle.fw_bag.specs.Keyed.{joined_rec, value_sum, distinct_keys, sums_of}
-use Rattle.fw_flow.specs.declared.kind.Kind.{Kind}
+use Rattle.fw_flow.specs.Kind.{Kind}
 use Rattle.fw_flow.specs.declared.kind.Kind.TheVariants.{Input, OutputEpoch, OutputNumber, Select, Distinct, Join, Sum, Total, Sequence, Ledger}
 use Rattle.fw_flow.specs.Dataflow.{System, Dataflow, kind_of, in_edges, batches_of, greatest_number, send_stamp_of_kind}
 

@@ -4,10 +4,10 @@ ghost use Rattle.std.specs.Option.{option_map_or};
 ghost use Rattle.fw_lines.specs.Spelling.{is_name};
 ghost use Rattle.fw_flow.specs.declared.raw.Declaration.TheVariants.{Loop, Node, Edge};
 ghost use Rattle.fw_flow.specs.Builder.{Declares, DeclaresNamed, IsNameOrFault, IfBroken};
-ghost use Rattle.fw_flow.specs.Check.{loop_named, IsChecked, IsFirstBroken};
+ghost use Rattle.fw_flow.specs.Check.{IsChecked, IsFirstBroken};
+ghost use Rattle.fw_flow.specs.Kind.{loop_of_kind};
 ghost use Rattle.fw_flow.specs.WellFormed.{IsWellFormed};
 
-use crate::check::loop_named;
 use crate::{Declaration, Declared, Flow, Name, Policy, RawFlow, RawKind};
 use fw_lines::{ReadFault, Refusal};
 use std::alloc::{AllocError, Global};
@@ -160,9 +160,9 @@ impl FlowBuilder {
 
 // The word of the loop that a kind names, if it names one, is a name.
 fn has_loop_named(kind: &RawKind)
-    ensures { option_map_or is_name (loop_named kind.now) true ≡ true }
+    ensures { option_map_or is_name (loop_of_kind kind.now) true ≡ true }
 {
-    if let Some(name) = loop_named(kind) {
+    if let Some(name) = kind.the_loop() {
         let _bytes = name.as_bytes();
     }
 }

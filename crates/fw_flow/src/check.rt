@@ -1,22 +1,21 @@
 //! Whether declarations are a well-formed flow, and which rule they break first.
 ghost use Rattle.std.specs.Prelude.{◌≡◌, ◌↔◌, ℕ, ◌^◌, ◌<◌, List, [], ◌∷◌, ◌++◌, map, length, slice_index, Some, IsTrue, IsNone, IfSome, IfNone, OnOk, IfOk, IfErr};
 ghost use Rattle.std.specs.List.{list_any};
-ghost use Rattle.std.specs.Option.{option_copied};
 ghost use Rattle.fw_lines.specs.Faults.{IfRefused};
 ghost use Rattle.fw_flow.specs.declared.raw.Declared.{Declared};
 ghost use Rattle.fw_flow.specs.Check as spec;
-ghost use Rattle.fw_flow.specs.Check.{loop_named, IsRawGroupSize, IsWithinLimitsAfter, HasBorders, all_lines, IsFirstBreakIfAny};
+ghost use Rattle.fw_flow.specs.Check.{IsWithinLimitsAfter, HasBorders, all_lines, IsFirstBreakIfAny};
 ghost use Rattle.fw_flow.specs.Dataflow.{Dataflow, domain_of_kind, out_domain_of_kind, is_input_kind, is_output_kind};
 ghost use Rattle.fw_flow.specs.Flow.{edges_at};
 ghost use Rattle.fw_flow.specs.Parts.{AreCountsDeclared, places_from};
 ghost use Rattle.fw_flow.specs.Raw.{names_of};
 ghost use Rattle.fw_flow.specs.Walks.{AreWithin, IsMadeOf, link_of, listed_kind};
-ghost use Rattle.fw_flow.specs.WellFormed.{IsInDegree, IsOutDegree, IsPolicyAllowed, HasShortChain};
+ghost use Rattle.fw_flow.specs.WellFormed.{IsGroupSize, IsInDegree, IsOutDegree, IsPolicyAllowed, HasShortChain};
 
 use crate::kind::is_chain_short;
 use crate::raw::NameSpaces;
 use crate::walks::Link;
-use crate::{Declaration, Declared, Edge, EdgeId, Kind, Loop, Name, Node, Policy, RawKind};
+use crate::{Declaration, Declared, Edge, EdgeId, Kind, Loop, Node, Policy, RawKind};
 use fw_lines::{Code, ReadFault, Refusal};
 use std::alloc::{AllocError, Global};
 
@@ -65,7 +64,7 @@ fn are_names_declared(names: &NameSpaces, declaration: &Declaration) -> bool
             Some(name) => names.loops.has(name.as_bytes()),
             None => true,
         },
-        Declaration::Node { kind, .. } => match loop_named(kind) {
+        Declaration::Node { kind, .. } => match kind.the_loop() {
             Some(name) => names.loops.has(name.as_bytes()),
             None => true,
         },
@@ -74,21 +73,6 @@ fn are_names_declared(names: &NameSpaces, declaration: &Declaration) -> bool
             receiver,
             ..
         } => names.nodes.has(sender.as_bytes()) && names.nodes.has(receiver.as_bytes()),
-    }
-}
-
-/// The loop that the kind names, if it names one.
-pub(crate) fn loop_named(kind: &RawKind) -> Option<&Name>
-    ensures { option_copied result ≡ loop_named kind.now }
-{
-    match kind {
-        RawKind::Select { within, .. }
-        | RawKind::Concat { within }
-        | RawKind::Distinct { within }
-        | RawKind::Join { within }
-        | RawKind::Sum { within } => within.as_ref(),
-        RawKind::Enter(name) | RawKind::Feedback(name) | RawKind::Leave(name) => Some(name),
-        _ => None,
     }
 }
 
@@ -284,10 +268,10 @@ impl Counts {
 
 // Whether so many numbers may be grouped into one epoch.
 fn is_group_size(kind: &RawKind) -> bool
-    ensures { IsTrue result ↔ IsRawGroupSize kind.now }
+    ensures { IsTrue result ↔ IsGroupSize kind.now }
 {
     match kind {
-        RawKind::Regroup(size) => 1 <= *size && *size <= MAX_GROUP,
+        Kind::Regroup(size) => 1 <= *size && *size <= MAX_GROUP,
         _ => true,
     }
 }

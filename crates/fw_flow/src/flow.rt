@@ -10,6 +10,7 @@ ghost use Rattle.fw_flow.specs.Check.{IsChecked, IsFirstBroken};
 use crate::check::{limit_line, refuse, undeclared_line};
 use crate::draft::Draft;
 use crate::kind::parent_of;
+use crate::laws::flow_is_well_formed;
 use crate::name::Names;
 use crate::{Domain, Edge, EdgeId, Kind, Loop, LoopId, Name, Node, NodeId, Policy, RawFlow};
 use fw_lines::{Code, ReadFault};
@@ -141,8 +142,9 @@ impl Flow {
     pub fn max(&self, id: LoopId) -> u32
         ensures { result ≡ max_of self.now id }
     {
+        flow_is_well_formed(self);
         match self.loops.get(id.place() as usize) {
-            Some(a_loop) => a_loop.max,
+            Some(a_loop) => a_loop.max as u32,
             None => 0,
         }
     }

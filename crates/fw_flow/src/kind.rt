@@ -1,10 +1,12 @@
 //! What a node does, at which times, and how it is restored.
-ghost use Rattle.std.specs.Prelude.{◌≡◌};
+ghost use Rattle.std.specs.Prelude.{◌≡◌, IfSome};
+ghost use Rattle.std.specs.Option.{option_copied};
 ghost use Rattle.fw_flow.specs.Dataflow.{Dataflow, domain_within, domain_of_kind, out_domain_of_kind, is_input_kind, is_output_kind, is_notified_kind, is_sequence_kind, declared_parent, ends_within, parent_of};
+ghost use Rattle.fw_flow.specs.Kind.{loop_of_kind, kind_map};
 ghost use Rattle.fw_flow.specs.KindText.{kind_text, policy_text};
 ghost use Rattle.fw_flow.specs.WellFormed.{is_feedback_kind};
 
-use crate::{Loop, LoopId};
+use crate::{Loop, LoopId, Name};
 use fw_bag::Selection;
 use std::fmt;
 
@@ -19,9 +21,10 @@ pub enum Domain {
     Loop(LoopId),
 }
 
-/// What a node does.
-#[derive(Clone, Copy, Debug, PartialEq, Eq)]
-pub enum Kind {
+/// What a node does, with loops of the type `L`: by their places, as in a flow, or by their names (`RawKind`). `within` is the
+/// loop that a node stands in; without one it stands outside loops.
+#[derive(Clone, Copy, Debug, PartialEq, Eq, Drop)]
+pub enum Kind<L = LoopId> {
     /// Injects its batches.
     Input,
     /// Keeps the recs of each epoch, and acknowledges them.
@@ -31,41 +34,44 @@ pub enum Kind {
     /// Sends a rec on where a condition holds, perhaps after an assignment; outside loops or within one.
     Select {
         selection: Selection,
-        within: Option<LoopId>,
+        within: Option<L>,
     },
     /// Sends each rec on, of any of its edges.
     Concat {
-        within: Option<LoopId>,
+        within: Option<L>,
     },
     /// Sends on the first of equal recs at a time.
     Distinct {
-        within: Option<LoopId>,
+        within: Option<L>,
     },
     /// Sends the sum of each pair of recs of its two edges with one key at a time.
     Join {
-        within: Option<LoopId>,
+        within: Option<L>,
     },
     /// Once a time is complete, sends the sum of the values of each of its keys.
     Sum {
-        within: Option<LoopId>,
+        within: Option<L>,
     },
     /// Leads from the loop's parent domain into the loop, at counter 0.
-    Enter(LoopId),
+    Enter(L),
     /// Leads to the next counter of the loop.
-    Feedback(LoopId),
+    Feedback(L),
     /// Leads out of the loop.
-    Leave(LoopId),
+    Leave(L),
     /// Once an epoch is complete, sends for each of its keys the sum of the values up to it.
     Total,
     /// Once an epoch is complete, sends its recs in order at the next numbers.
     Sequence,
     /// Sends for each rec the running total of its key.
     Ledger,
-    /// Sends the recs of so many numbers at one epoch.
-    Regroup(u32),
+    /// Sends the recs of so many numbers at one epoch: in a well-formed flow from 1 to 2^32 - 1.
+    Regroup(u64),
 }
 
-impl Kind {
+/// What a node does, as it is declared: with loops by their names.
+pub type RawKind = Kind<Name>;
+
+impl<L> Kind<L> {
     /// The words for the kind in the line of a node, as `output epoch` and `enter`. The selection, loop or number that stands
     /// behind them there is left out.
     pub fn as_str(&self) -> &'static str
@@ -90,6 +96,60 @@ impl Kind {
         }
     }
 
+    /// Its loop, if it has one: that in which a node of the kind stands, or that into which it leads, to whose next counter or
+    /// out of which.
+    pub fn the_loop(&self) -> Option<&L>
+        ensures { option_copied result ≡ loop_of_kind self.now }
+    {
+        match self {
+            Kind::Select { within, .. }
+            | Kind::Concat { within }
+            | Kind::Distinct { within }
+            | Kind::Join { within }
+            | Kind::Sum { within } => within.as_ref(),
+            Kind::Enter(id) | Kind::Feedback(id) | Kind::Leave(id) => Some(id),
+            _ => None,
+        }
+    }
+
+    /// The kind with the loop that `f` gives of its own.
+    pub fn map<M, F: FnOnce(L) -> M>(self, f: F) -> Kind<M>
+        requires { IfSome (loop_of_kind self) (F.pre f) }
+        ensures { (g : L → M) → IfSome (loop_of_kind self) (λ id. (other : M) → F.post f id other → other ≡ g id)
+            → result ≡ kind_map g self }
+    {
+        match self {
+            Kind::Input => Kind::Input,
+            Kind::OutputEpoch => Kind::OutputEpoch,
+            Kind::OutputNumber => Kind::OutputNumber,
+            Kind::Select { selection, within } => Kind::Select {
+                selection,
+                within: within.map(f),
+            },
+            Kind::Concat { within } => Kind::Concat {
+                within: within.map(f),
+            },
+            Kind::Distinct { within } => Kind::Distinct {
+                within: within.map(f),
+            },
+            Kind::Join { within } => Kind::Join {
+                within: within.map(f),
+            },
+            Kind::Sum { within } => Kind::Sum {
+                within: within.map(f),
+            },
+            Kind::Enter(id) => Kind::Enter(f(id)),
+            Kind::Feedback(id) => Kind::Feedback(f(id)),
+            Kind::Leave(id) => Kind::Leave(f(id)),
+            Kind::Total => Kind::Total,
+            Kind::Sequence => Kind::Sequence,
+            Kind::Ledger => Kind::Ledger,
+            Kind::Regroup(size) => Kind::Regroup(size),
+        }
+    }
+}
+
+impl Kind {
     /// The domain of its events.
     pub(crate) fn domain(self, loops: &[Loop]) -> Domain
         ensures { (flow : Dataflow) → flow.loops ≡ loops.now → result ≡ domain_of_kind flow self }
@@ -163,7 +223,7 @@ impl Kind {
     }
 }
 
-impl fmt::Display for Kind {
+impl<L> fmt::Display for Kind<L> {
     ghost use Rattle.std.specs.Prelude.{Some};
 
     ghost output = { λ kind. Some (kind_text kind) };

@@ -43,11 +43,11 @@ pub use choice::{Choice, Counted, Cut, OfEdge, Offer, Offered, Recorded, Stamps}
 pub use event::{Causes, Event, Message};
 pub use flow::Flow;
 pub use ids::{EdgeId, LoopId, NodeId};
-pub use kind::{Domain, Kind, Policy};
+pub use kind::{Domain, Kind, Policy, RawKind};
 pub use lists::{CountedMessages, Cuts, Fronts, Notices, OfEdges, Records};
 pub use name::Name;
 pub use node::{Edge, Loop, Node};
-pub use raw::{Declaration, Declared, RawFlow, RawKind};
+pub use raw::{Declaration, Declared, RawFlow};
 pub use restoring::Restoring;
 pub use sent_table::SentTable;
 pub use side::{Inclusion, Limit, Side};

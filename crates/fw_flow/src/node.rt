@@ -7,7 +7,7 @@ pub struct Loop {
     /// Its name. No other loop of a `Flow` has it, by `laws::names_are_distinct`.
     pub name: Name,
     /// The greatest counter of a stamp of the loop, from 1 to 1024 in a well-formed flow.
-    pub max: u32,
+    pub max: u64,
     /// The loop in which it is declared, if in any.
     pub parent: Option<LoopId>,
 }

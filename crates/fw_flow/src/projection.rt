@@ -233,7 +233,7 @@ pub(crate) fn phi(
         },
         Kind::Regroup(n) => match limit(f, sender) {
             None => Ok(Front::all(alloc)),
-            Some(limit) => below(alloc, u64::from(limit / n), receiver),
+            Some(limit) => below(alloc, u64::from(limit) / n, receiver),
         },
         _ => f.copy(),
     }
@@ -264,7 +264,7 @@ pub(crate) fn psi(
                 None => u64::from(sender.greatest.at(0)) + 1,
                 Some(limit) => u64::from(limit),
             };
-            below(alloc, end.div_ceil(u64::from(n)), receiver)
+            below(alloc, end.div_ceil(n), receiver)
         }
         _ => f.copy(),
     }
@@ -292,7 +292,7 @@ pub(crate) fn psi_back(
         Kind::Leave(_) => moved(alloc, g, Way::First),
         Kind::Regroup(n) => match limit(g, receiver) {
             None => Ok(Front::all(alloc)),
-            Some(limit) => below(alloc, u64::from(limit) * u64::from(n), sender),
+            Some(limit) => below(alloc, u64::from(limit) * n, sender),
         },
         _ => g.copy(),
     }

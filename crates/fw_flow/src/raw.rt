@@ -3,60 +3,12 @@ ghost use Rattle.std.specs.Prelude.{◌≡◌, [], ◌∷◌, ◌++◌, if◌the
 ghost use Rattle.fw_flow.specs.Raw.{names_of, is_new_among, with_name, is_new};
 
 use crate::name::Names;
-use crate::{Name, Policy};
-use fw_bag::Selection;
+use crate::{Name, Policy, RawKind};
 use std::alloc::{AllocError, Global};
 use std::marker::Model;
 
 /// How many declarations places of 32 bits can count.
 const LIMIT: usize = 4_294_967_295;
-
-/// What a node does, with loops by their names. `within` is the loop that a node stands in; without one it stands outside
-/// loops. `Kind` has the same with loops by their places.
-#[derive(Debug, Drop)]
-pub enum RawKind {
-    /// Injects its batches.
-    Input,
-    /// Keeps the recs of each epoch, and acknowledges them.
-    OutputEpoch,
-    /// Keeps the rec of each number, and acknowledges it.
-    OutputNumber,
-    /// Sends a rec on where a condition holds, perhaps after an assignment.
-    Select {
-        selection: Selection,
-        within: Option<Name>,
-    },
-    /// Sends each rec on, of any of its edges.
-    Concat {
-        within: Option<Name>,
-    },
-    /// Sends on the first of equal recs at a time.
-    Distinct {
-        within: Option<Name>,
-    },
-    /// Sends the sum of each pair of recs of its two edges with one key at a time.
-    Join {
-        within: Option<Name>,
-    },
-    /// Once a time is complete, sends the sum of the values of each of its keys.
-    Sum {
-        within: Option<Name>,
-    },
-    /// Leads into the loop of the name, at counter 0.
-    Enter(Name),
-    /// Leads to the next counter of the loop of the name.
-    Feedback(Name),
-    /// Leads out of the loop of the name.
-    Leave(Name),
-    /// Once an epoch is complete, sends for each of its keys the sum of the values up to it.
-    Total,
-    /// Once an epoch is complete, sends its recs in order at the next numbers.
-    Sequence,
-    /// Sends for each rec the running total of its key.
-    Ledger,
-    /// Sends the recs of so many numbers at one epoch. A flow is refused where it is 0 or past 2^32 - 1.
-    Regroup(u64),
-}
 
 /// What one line of a flow declares.
 #[derive(Debug, Drop)]
@@ -68,7 +20,8 @@ pub enum Declaration {
         max: u64,
         parent: Option<Name>,
     },
-    /// A node, with what it does and how it is restored.
+    /// A node, with what it does and how it is restored. A flow is refused where so many numbers as are regrouped are 0 or past
+    /// 2^32 - 1.
     Node {
         name: Name,
         kind: RawKind,

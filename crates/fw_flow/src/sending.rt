@@ -39,7 +39,7 @@ impl Flow {
                 }
             }
             Kind::Leave(_) => Some(t.outer()),
-            Kind::Regroup(n) => Some(Stamp::new(&[t.at(0) / n])),
+            Kind::Regroup(n) => Some(Stamp::new(&[t.at(0) / n as u32])),
             _ => Some(t.copy()),
         }
     }

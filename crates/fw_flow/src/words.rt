@@ -2,11 +2,11 @@
 ghost use Rattle.std.specs.Prelude.{Some, None};
 ghost use Rattle.fw_flow.specs.declared.kind.Policy.TheVariants.{None as NoPolicy};
 ghost use Rattle.fw_flow.specs.declared.raw.Declaration.TheVariants.{Node};
-ghost use Rattle.fw_flow.specs.declared.raw.RawKind.TheVariants.{Input, OutputEpoch, OutputNumber, Select, Concat, Distinct, Join, Sum, Enter, Feedback, Leave, Total, Sequence, Ledger, Regroup};
+ghost use Rattle.fw_flow.specs.declared.kind.Kind.TheVariants.{Input, OutputEpoch, OutputNumber, Select, Concat, Distinct, Join, Sum, Enter, Feedback, Leave, Total, Sequence, Ledger, Regroup};
 ghost use Rattle.fw_flow.specs.Builder.{Declares};
 
 use crate::builder::named;
-use crate::{BuildFault, Declaration, FlowBuilder, Policy, RawKind};
+use crate::{BuildFault, Declaration, FlowBuilder, Kind, Policy};
 use fw_bag::Selection;
 
 impl FlowBuilder {
@@ -14,21 +14,21 @@ impl FlowBuilder {
     pub fn input(self, name: &str) -> Result<Self, BuildFault>
         ensures { Declares self (Node name.now Input NoPolicy) result }
     {
-        self.node(name, RawKind::Input, Policy::None)
+        self.node(name, Kind::Input, Policy::None)
     }
 
     /// Declares an output of epochs: it acknowledges each epoch.
     pub fn output_epoch(self, name: &str) -> Result<Self, BuildFault>
         ensures { Declares self (Node name.now OutputEpoch NoPolicy) result }
     {
-        self.node(name, RawKind::OutputEpoch, Policy::None)
+        self.node(name, Kind::OutputEpoch, Policy::None)
     }
 
     /// Declares an output of numbers: it acknowledges each number of a numbered edge.
     pub fn output_number(self, name: &str) -> Result<Self, BuildFault>
         ensures { Declares self (Node name.now OutputNumber NoPolicy) result }
     {
-        self.node(name, RawKind::OutputNumber, Policy::None)
+        self.node(name, Kind::OutputNumber, Policy::None)
     }
 
     /// Declares a node outside loops that sends a rec on where a condition holds, perhaps after an assignment.
@@ -41,7 +41,7 @@ impl FlowBuilder {
         ensures { Declares self (Node name.now (Select selection None) policy) result }
     {
         let within = None;
-        self.node(name, RawKind::Select { selection, within }, policy)
+        self.node(name, Kind::Select { selection, within }, policy)
     }
 
     /// Declares such a node within a loop, by the loop's name. The loop may be declared later.
@@ -56,7 +56,7 @@ impl FlowBuilder {
     {
         let name = named(self.alloc, name)?;
         let within = Some(named(self.alloc, a_loop)?);
-        let kind = RawKind::Select { selection, within };
+        let kind = Kind::Select { selection, within };
         self.declare(Declaration::Node { name, kind, policy })
     }
 
@@ -65,7 +65,7 @@ impl FlowBuilder {
         ensures { Declares self (Node name.now (Concat None) policy) result }
     {
         let within = None;
-        self.node(name, RawKind::Concat { within }, policy)
+        self.node(name, Kind::Concat { within }, policy)
     }
 
     /// Declares such a node within a loop, by the loop's name. The loop may be declared later.
@@ -74,7 +74,7 @@ impl FlowBuilder {
     {
         let name = named(self.alloc, name)?;
         let within = Some(named(self.alloc, a_loop)?);
-        let kind = RawKind::Concat { within };
+        let kind = Kind::Concat { within };
         self.declare(Declaration::Node { name, kind, policy })
     }
 
@@ -83,7 +83,7 @@ impl FlowBuilder {
         ensures { Declares self (Node name.now (Distinct None) policy) result }
     {
         let within = None;
-        self.node(name, RawKind::Distinct { within }, policy)
+        self.node(name, Kind::Distinct { within }, policy)
     }
 
     /// Declares such a node within a loop, by the loop's name. The loop may be declared later.
@@ -97,7 +97,7 @@ impl FlowBuilder {
     {
         let name = named(self.alloc, name)?;
         let within = Some(named(self.alloc, a_loop)?);
-        let kind = RawKind::Distinct { within };
+        let kind = Kind::Distinct { within };
         self.declare(Declaration::Node { name, kind, policy })
     }
 
@@ -106,7 +106,7 @@ impl FlowBuilder {
         ensures { Declares self (Node name.now (Join None) policy) result }
     {
         let within = None;
-        self.node(name, RawKind::Join { within }, policy)
+        self.node(name, Kind::Join { within }, policy)
     }
 
     /// Declares such a node within a loop, by the loop's name. The loop may be declared later.
@@ -115,7 +115,7 @@ impl FlowBuilder {
     {
         let name = named(self.alloc, name)?;
         let within = Some(named(self.alloc, a_loop)?);
-        let kind = RawKind::Join { within };
+        let kind = Kind::Join { within };
         self.declare(Declaration::Node { name, kind, policy })
     }
 
@@ -124,7 +124,7 @@ impl FlowBuilder {
         ensures { Declares self (Node name.now (Sum None) policy) result }
     {
         let within = None;
-        self.node(name, RawKind::Sum { within }, policy)
+        self.node(name, Kind::Sum { within }, policy)
     }
 
     /// Declares such a node within a loop, by the loop's name. The loop may be declared later.
@@ -133,7 +133,7 @@ impl FlowBuilder {
     {
         let name = named(self.alloc, name)?;
         let within = Some(named(self.alloc, a_loop)?);
-        let kind = RawKind::Sum { within };
+        let kind = Kind::Sum { within };
         self.declare(Declaration::Node { name, kind, policy })
     }
 
@@ -142,7 +142,7 @@ impl FlowBuilder {
         ensures { Declares self (Node name.now (Enter a_loop.now) policy) result }
     {
         let name = named(self.alloc, name)?;
-        let kind = RawKind::Enter(named(self.alloc, a_loop)?);
+        let kind = Kind::Enter(named(self.alloc, a_loop)?);
         self.declare(Declaration::Node { name, kind, policy })
     }
 
@@ -151,7 +151,7 @@ impl FlowBuilder {
         ensures { Declares self (Node name.now (Feedback a_loop.now) policy) result }
     {
         let name = named(self.alloc, name)?;
-        let kind = RawKind::Feedback(named(self.alloc, a_loop)?);
+        let kind = Kind::Feedback(named(self.alloc, a_loop)?);
         self.declare(Declaration::Node { name, kind, policy })
     }
 
@@ -160,7 +160,7 @@ impl FlowBuilder {
         ensures { Declares self (Node name.now (Leave a_loop.now) policy) result }
     {
         let name = named(self.alloc, name)?;
-        let kind = RawKind::Leave(named(self.alloc, a_loop)?);
+        let kind = Kind::Leave(named(self.alloc, a_loop)?);
         self.declare(Declaration::Node { name, kind, policy })
     }
 
@@ -168,27 +168,27 @@ impl FlowBuilder {
     pub fn total(self, name: &str, policy: Policy) -> Result<Self, BuildFault>
         ensures { Declares self (Node name.now Total policy) result }
     {
-        self.node(name, RawKind::Total, policy)
+        self.node(name, Kind::Total, policy)
     }
 
     /// Declares a node that sends, once an epoch is complete, its recs in order at the next numbers.
     pub fn sequence(self, name: &str, policy: Policy) -> Result<Self, BuildFault>
         ensures { Declares self (Node name.now Sequence policy) result }
     {
-        self.node(name, RawKind::Sequence, policy)
+        self.node(name, Kind::Sequence, policy)
     }
 
     /// Declares a node that sends for each rec the running total of its key.
     pub fn ledger(self, name: &str, policy: Policy) -> Result<Self, BuildFault>
         ensures { Declares self (Node name.now Ledger policy) result }
     {
-        self.node(name, RawKind::Ledger, policy)
+        self.node(name, Kind::Ledger, policy)
     }
 
     /// Declares a node that sends the recs of so many numbers at one epoch. A flow is refused where that is 0 or past 2^32 - 1.
     pub fn regroup(self, name: &str, size: u64, policy: Policy) -> Result<Self, BuildFault>
         ensures { Declares self (Node name.now (Regroup size) policy) result }
     {
-        self.node(name, RawKind::Regroup(size), policy)
+        self.node(name, Kind::Regroup(size), policy)
     }
 }

@@ -26,9 +26,8 @@ use Rattle.fw_flow.specs.declared.kind.Policy.TheVariants.{None as NoPolicy}
 use Rattle.fw_flow.specs.declared.raw.Declaration.{Declaration}
 use Rattle.fw_flow.specs.declared.raw.Declaration.TheVariants.{Loop, Node, Edge}
 use Rattle.fw_flow.specs.declared.raw.Declared.{Declared}
-use Rattle.fw_flow.specs.declared.raw.RawKind.{RawKind}
-use Rattle.fw_flow.specs.declared.raw.RawKind.TheVariants.{Select}
-use Rattle.fw_flow.specs.Check.{loop_named}
+use Rattle.fw_flow.specs.Kind.{RawKind, loop_of_kind}
+use Rattle.fw_flow.specs.declared.kind.Kind.TheVariants.{Select}
 use Rattle.fw_flow.specs.Raw.{is_new}
 use Rattle.fw_flow_text.specs.declared.node.NodeForm.{NodeForm}
 use Rattle.fw_flow_text.specs.Grammar.{AreWordsOf, Declare, is_large_number, capped, capped_words, Finds, BreakAfter}
@@ -220,7 +219,7 @@ pub no_select : (word : List ℕ) (words rest : List (List ℕ)) (found : Select
     → (form : NodeForm) → AreNodeWords word words form → ⊥
 no_select word words rest found e only none form h = by form.kind h.same h.writable.loop_name h.writable.numbers
   where
-    by : (k : RawKind) → word ∷ words ≡ node_words k form.policy → IfSome (loop_named k) IsName → IsSmallKind k → ⊥
+    by : (k : RawKind) → word ∷ words ≡ node_words k form.policy → IfSome (loop_of_kind k) IsName → IsSmallKind k → ⊥
     by (Select s within) same name small =
         let ws : words ≡ selection_words s ++ ending_words within form.policy = cc in
         none (within, form.policy) ((only s within form.policy small ws).1, name)

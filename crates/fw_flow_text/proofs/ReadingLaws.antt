@@ -29,8 +29,8 @@ use Rattle.fw_flow.specs.declared.kind.Policy.{Policy}
 use Rattle.fw_flow.specs.declared.kind.Policy.TheVariants.{None as NoPolicy}
 use Rattle.fw_flow.specs.declared.raw.Declaration.{Declaration}
 use Rattle.fw_flow.specs.declared.raw.Declaration.TheVariants.{Loop, Node, Edge}
-use Rattle.fw_flow.specs.declared.raw.RawKind.{RawKind}
-use Rattle.fw_flow.specs.declared.raw.RawKind.TheVariants.{Select, Regroup}
+use Rattle.fw_flow.specs.Kind.{RawKind}
+use Rattle.fw_flow.specs.declared.kind.Kind.TheVariants.{Select, Regroup}
 use Rattle.fw_flow.specs.KindText.{policy_text}
 use Rattle.fw_flow_text.specs.declared.node.NodeForm.{NodeForm}
 use Rattle.fw_flow_text.specs.Grammar.{AreWordsOf}

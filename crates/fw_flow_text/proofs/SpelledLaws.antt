@@ -30,8 +30,8 @@ use Rattle.fw_flow.specs.declared.kind.Policy.{Policy}
 use Rattle.fw_flow.specs.declared.kind.Policy.TheVariants as policy
 use Rattle.fw_flow.specs.declared.raw.Declaration.{Declaration}
 use Rattle.fw_flow.specs.declared.raw.Declaration.TheVariants.{Loop, Node, Edge}
-use Rattle.fw_flow.specs.declared.raw.RawKind.{RawKind}
-use Rattle.fw_flow.specs.declared.raw.RawKind.TheVariants.{Input, OutputEpoch, OutputNumber, Select, Concat, Distinct, Join, Sum, Enter, Feedback, Leave, Total, Sequence, Ledger, Regroup}
+use Rattle.fw_flow.specs.Kind.{RawKind}
+use Rattle.fw_flow.specs.declared.kind.Kind.TheVariants.{Input, OutputEpoch, OutputNumber, Select, Concat, Distinct, Join, Sum, Enter, Feedback, Leave, Total, Sequence, Ledger, Regroup}
 use Rattle.fw_flow_text.specs.declared.node.NodeForm.{NodeForm}
 use Rattle.fw_flow_text.specs.Spelled.{field_word, comparison_word, term_word, value_words, assignment_words, selection_words, policy_words, ending_words, node_words, parent_words, declaration_words, IsSmallTerm, IsSmallValue, IsSmallAssignment, IsSmall, IsName, IsWritableNode, IsWritable}
 use Rattle.fw_flow_text.proofs.Reading.{value_in, numeral_of, field_of, comparison_of, term_of, term_from, value_from, name_of, policy_named, policy_at_end, ending_within, ending_outside, ending_of, parent_named, parent_at_end, condition_of, sum_value, plain_value, with_rest, value_part, assignment_part, selection_part, output_kind, within_kind, leading_kind, lone_kind, input_form, output_form, select_form, regroup_form, within_form, leading_form, lone_form, shape_form, node_form, node_declaration, edge_declaration, loop_of, loop_declaration, declaration_of}

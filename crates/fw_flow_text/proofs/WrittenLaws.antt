@@ -16,7 +16,7 @@ use Rattle.fw_lines.specs.Lines.{Said, said_lines}
 use Rattle.fw_lines.specs.Spelling.{is_name}
 use Rattle.fw_lines.specs.Written.{WordLine, is_plain_line, line_text, numbered, text_of}
 use Rattle.fw_lines.proofs.WrittenLaws.{said_lines-text_of}
-use Rattle.fw_flow.specs.declared.kind.Kind.{Kind}
+use Rattle.fw_flow.specs.Kind.{Kind, loop_of_kind}
 use Rattle.fw_flow.specs.declared.kind.Kind.TheVariants as kind
 use Rattle.fw_flow.specs.declared.kind.Policy.{Policy}
 use Rattle.fw_flow.specs.declared.kind.Policy.TheVariants as policy
@@ -26,12 +26,12 @@ use Rattle.fw_flow.specs.declared.node.Node.{Node}
 use Rattle.fw_flow.specs.declared.raw.Declaration.{Declaration}
 use Rattle.fw_flow.specs.declared.raw.Declaration.TheVariants as declares
 use Rattle.fw_flow.specs.declared.raw.Declared.{Declared}
-use Rattle.fw_flow.specs.declared.raw.RawKind.{RawKind}
 use Rattle.fw_flow.specs.Dataflow.{Dataflow, node_at, kind_of, policy_of, sender, receiver, max_of, declared_parent, idle_node}
 use Rattle.fw_flow.specs.DomainText.{name_of_edge, name_of_loop}
 use Rattle.fw_flow.specs.Names.{has_name}
 use Rattle.fw_flow.specs.Raw.{edge_in, edge_name, edge_names, flow_of_declarations, is_new, loop_in, loop_name, loop_names, node_in, node_name, node_names, place_or_end, resolved_kind}
 use Rattle.fw_flow.specs.WellFormed.{IsGroupSize, IsLoopDeclared, IsParentDeclared, IsPolicyAllowed, IsWellFormed}
+use Rattle.fw_flow.proofs.KindLaws.{kind_map-back, loop_of_kind-map}
 use Rattle.fw_flow_text.specs.FlowText.{declared_edge, declared_loop, declared_node, edge_line_of, edge_lines_text, loop_line_of, loop_lines_text, named_kind, node_line_of, node_lines_text, text_of_flow}
 use Rattle.fw_flow_text.specs.Grammar.{capped, flow_size_limit, is_large_number, IsAcceptedFlow}
 use Rattle.fw_flow_text.specs.Spelled.{declaration_words, IsName, IsPolicyWritten, IsSmall, IsSmallKind, IsWritable, IsWritableNode}
@@ -307,26 +307,7 @@ within_place flow h (Some l) lt = ap Some (loop_place flow h l lt)
 
 -- a kind with its loop by its name has its loop at its place
 kind_resolved : (flow : Dataflow) → CanBeWritten flow → (k : Kind) → IsLoopDeclared flow k → resolved_kind (loop_names_in flow) (named_kind flow k) ≡ k
-kind_resolved flow h kind.Input there = refl
-kind_resolved flow h kind.OutputEpoch there = refl
-kind_resolved flow h kind.OutputNumber there = refl
-kind_resolved flow h (kind.Select selection None) there = refl
-kind_resolved flow h (kind.Select selection (Some l)) there = ap (λ l. kind.Select selection (Some l)) (loop_place flow h l there)
-kind_resolved flow h (kind.Concat None) there = refl
-kind_resolved flow h (kind.Concat (Some l)) there = ap (λ l. kind.Concat (Some l)) (loop_place flow h l there)
-kind_resolved flow h (kind.Distinct None) there = refl
-kind_resolved flow h (kind.Distinct (Some l)) there = ap (λ l. kind.Distinct (Some l)) (loop_place flow h l there)
-kind_resolved flow h (kind.Join None) there = refl
-kind_resolved flow h (kind.Join (Some l)) there = ap (λ l. kind.Join (Some l)) (loop_place flow h l there)
-kind_resolved flow h (kind.Sum None) there = refl
-kind_resolved flow h (kind.Sum (Some l)) there = ap (λ l. kind.Sum (Some l)) (loop_place flow h l there)
-kind_resolved flow h (kind.Enter l) there = ap kind.Enter (loop_place flow h l there)
-kind_resolved flow h (kind.Feedback l) there = ap kind.Feedback (loop_place flow h l there)
-kind_resolved flow h (kind.Leave l) there = ap kind.Leave (loop_place flow h l there)
-kind_resolved flow h kind.Total there = refl
-kind_resolved flow h kind.Sequence there = refl
-kind_resolved flow h kind.Ledger there = refl
-kind_resolved flow h (kind.Regroup size) there = refl
+kind_resolved flow h k there = kind_map-back (name_of_loop flow) (place_or_end (loop_names_in flow)) k (within_place flow h (loop_of_kind k) there)
 
 abbrev given_loop : List (List ℕ) → Declaration → List Loop
 given_loop names (declares.Loop name max parent) = record { name = name; max = max; parent = option_map (place_or_end names) parent } ∷ []
@@ -423,27 +404,18 @@ within_named : (flow : Dataflow) → CanBeWritten flow → (within : Option ℕ)
 within_named flow h None there = tt
 within_named flow h (Some l) there = loop_named flow h l there
 
+policy_written : (flow : Dataflow) (k : Kind) (p : Policy) → IsPolicyAllowed k p → IsPolicyWritten (named_kind flow k) p
+policy_written flow kind.Input p allowed = allowed
+policy_written flow kind.OutputEpoch p allowed = allowed
+policy_written flow kind.OutputNumber p allowed = allowed
+policy_written flow k p allowed = tt
+
 node_writable : (flow : Dataflow) → CanBeWritten flow → (k : Kind) (p : Policy) → IsLoopDeclared flow k → IsPolicyAllowed k p → IsSmallKind (named_kind flow k) → IsWritableNode (named_kind flow k) p
-node_writable flow h kind.Input p there allowed small = record { loop_name = tt; numbers = small; written = allowed }
-node_writable flow h kind.OutputEpoch p there allowed small = record { loop_name = tt; numbers = small; written = allowed }
-node_writable flow h kind.OutputNumber p there allowed small = record { loop_name = tt; numbers = small; written = allowed }
-node_writable flow h (kind.Select selection None) p there allowed small = record { loop_name = tt; numbers = small; written = tt }
-node_writable flow h (kind.Select selection (Some l)) p there allowed small = record { loop_name = loop_named flow h l there; numbers = small; written = tt }
-node_writable flow h (kind.Concat None) p there allowed small = record { loop_name = tt; numbers = small; written = tt }
-node_writable flow h (kind.Concat (Some l)) p there allowed small = record { loop_name = loop_named flow h l there; numbers = small; written = tt }
-node_writable flow h (kind.Distinct None) p there allowed small = record { loop_name = tt; numbers = small; written = tt }
-node_writable flow h (kind.Distinct (Some l)) p there allowed small = record { loop_name = loop_named flow h l there; numbers = small; written = tt }
-node_writable flow h (kind.Join None) p there allowed small = record { loop_name = tt; numbers = small; written = tt }
-node_writable flow h (kind.Join (Some l)) p there allowed small = record { loop_name = loop_named flow h l there; numbers = small; written = tt }
-node_writable flow h (kind.Sum None) p there allowed small = record { loop_name = tt; numbers = small; written = tt }
-node_writable flow h (kind.Sum (Some l)) p there allowed small = record { loop_name = loop_named flow h l there; numbers = small; written = tt }
-node_writable flow h (kind.Enter l) p there allowed small = record { loop_name = loop_named flow h l there; numbers = small; written = tt }
-node_writable flow h (kind.Feedback l) p there allowed small = record { loop_name = loop_named flow h l there; numbers = small; written = tt }
-node_writable flow h (kind.Leave l) p there allowed small = record { loop_name = loop_named flow h l there; numbers = small; written = tt }
-node_writable flow h kind.Total p there allowed small = record { loop_name = tt; numbers = small; written = tt }
-node_writable flow h kind.Sequence p there allowed small = record { loop_name = tt; numbers = small; written = tt }
-node_writable flow h kind.Ledger p there allowed small = record { loop_name = tt; numbers = small; written = tt }
-node_writable flow h (kind.Regroup size) p there allowed small = record { loop_name = tt; numbers = small; written = tt }
+node_writable flow h k p there allowed small = record {
+  loop_name = subst (λ o. IfSome o IsName) (sym (loop_of_kind-map (name_of_loop flow) k)) (within_named flow h (loop_of_kind k) there);
+  numbers = small;
+  written = policy_written flow k p allowed;
+}
 
 each_mapped : {A : Type 0} (make : A → Declaration) (xs : List A) → AllByRecursion (λ x. IsWritable (make x)) xs → AllByRecursion IsWritable (map make xs)
 each_mapped make [] h = tt

@@ -2,33 +2,16 @@
 use Rattle.std.specs.Prelude.{ℕ, List, ◌++◌, length, option_map}
 use Rattle.std.specs.List.{flat_map, range_with_len}
 use Rattle.fw_lines.specs.Written.{line_text}
-use Rattle.fw_flow.specs.declared.kind.Kind.{Kind}
-use Rattle.fw_flow.specs.declared.kind.Kind.TheVariants as kind
 use Rattle.fw_flow.specs.declared.raw.Declaration.{Declaration}
 use Rattle.fw_flow.specs.declared.raw.Declaration.TheVariants.{Loop, Node, Edge}
-use Rattle.fw_flow.specs.declared.raw.RawKind.{RawKind}
-use Rattle.fw_flow.specs.declared.raw.RawKind.TheVariants.{Input, OutputEpoch, OutputNumber, Select, Concat, Distinct, Join, Sum, Enter, Feedback, Leave, Total, Sequence, Ledger, Regroup}
+use Rattle.fw_flow.specs.Kind.{Kind, RawKind, kind_map}
 use Rattle.fw_flow.specs.Dataflow.{Dataflow, node_at, kind_of, policy_of, sender, receiver, max_of, declared_parent, node_ids}
 use Rattle.fw_flow.specs.DomainText.{name_of_edge, name_of_loop}
 use Rattle.fw_flow_text.specs.Spelled.{declaration_words}
 
 -- the kind with its loop by its name
 abbrev pub named_kind : Dataflow → Kind → RawKind
-named_kind flow kind.Input = Input
-named_kind flow kind.OutputEpoch = OutputEpoch
-named_kind flow kind.OutputNumber = OutputNumber
-named_kind flow (kind.Select selection within) = Select selection (option_map (name_of_loop flow) within)
-named_kind flow (kind.Concat within) = Concat (option_map (name_of_loop flow) within)
-named_kind flow (kind.Distinct within) = Distinct (option_map (name_of_loop flow) within)
-named_kind flow (kind.Join within) = Join (option_map (name_of_loop flow) within)
-named_kind flow (kind.Sum within) = Sum (option_map (name_of_loop flow) within)
-named_kind flow (kind.Enter l) = Enter (name_of_loop flow l)
-named_kind flow (kind.Feedback l) = Feedback (name_of_loop flow l)
-named_kind flow (kind.Leave l) = Leave (name_of_loop flow l)
-named_kind flow kind.Total = Total
-named_kind flow kind.Sequence = Sequence
-named_kind flow kind.Ledger = Ledger
-named_kind flow (kind.Regroup size) = Regroup size
+named_kind flow kind = kind_map (name_of_loop flow) kind
 
 -- what declares the loop at a place
 abbrev pub declared_loop : Dataflow → ℕ → Declaration

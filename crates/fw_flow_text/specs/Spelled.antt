@@ -17,10 +17,9 @@ use Rattle.fw_flow.specs.declared.kind.Policy.{Policy}
 use Rattle.fw_flow.specs.declared.kind.Policy.TheVariants.{None as NoPolicy}
 use Rattle.fw_flow.specs.declared.raw.Declaration.{Declaration}
 use Rattle.fw_flow.specs.declared.raw.Declaration.TheVariants.{Loop, Node, Edge}
-use Rattle.fw_flow.specs.declared.raw.RawKind.{RawKind}
-use Rattle.fw_flow.specs.declared.raw.RawKind.TheVariants.{Input, OutputEpoch, OutputNumber, Select, Concat, Distinct, Join, Sum, Enter, Feedback, Leave, Total, Sequence, Ledger, Regroup}
+use Rattle.fw_flow.specs.Kind.{RawKind, loop_of_kind}
+use Rattle.fw_flow.specs.declared.kind.Kind.TheVariants.{Input, OutputEpoch, OutputNumber, Select, Concat, Distinct, Join, Sum, Enter, Feedback, Leave, Total, Sequence, Ledger, Regroup}
 use Rattle.fw_flow_text.specs.declared.node.NodeForm.{NodeForm}
-use Rattle.fw_flow.specs.Check.{loop_named}
 use Rattle.fw_flow.specs.KindText.{policy_text}
 
 -- the word of a field
@@ -141,7 +140,7 @@ IsName word = is_name word ≡ true
 
 -- a node of this kind and policy can be written
 pub record IsWritableNode (kind : RawKind) (policy : Policy) : Type 0 where
-  pub loop_name : IfSome (loop_named kind) IsName
+  pub loop_name : IfSome (loop_of_kind kind) IsName
   pub numbers : IsSmallKind kind
   pub written : IsPolicyWritten kind policy
 

@@ -6,7 +6,7 @@ ghost use Rattle.fw_flow_text.specs.Spelled.{AreNodeWords, policy_words, IsName}
 use crate::ending::{ending, policy};
 use crate::select::selection;
 use crate::words::{capped, numeral};
-use fw_flow::{Name, Policy, RawKind};
+use fw_flow::{Kind, Name, Policy, RawKind};
 use fw_lines::Span;
 use std::alloc::{AllocError, Global};
 
@@ -62,7 +62,7 @@ fn input(kind: &[u8]) -> Option<NodeForm>
     if kind != b"input".as_slice() {
         return None;
     }
-    form(RawKind::Input, Policy::None)
+    form(Kind::Input, Policy::None)
 }
 
 // The domain follows `output`.
@@ -73,9 +73,9 @@ fn output(kind: &[u8], domain: &[u8]) -> Option<NodeForm>
         return None;
     }
     if domain == b"epoch".as_slice() {
-        form(RawKind::OutputEpoch, Policy::None)
+        form(Kind::OutputEpoch, Policy::None)
     } else if domain == b"number".as_slice() {
-        form(RawKind::OutputNumber, Policy::None)
+        form(Kind::OutputNumber, Policy::None)
     } else {
         None
     }
@@ -94,19 +94,19 @@ fn bare_kind(word: &[u8], policy: Policy) -> Option<NodeForm>
     ensures { Finds (AreNodeWords word.now (policy_words policy)) result }
 {
     if word == b"concat".as_slice() {
-        form(RawKind::Concat { within: None }, policy)
+        form(Kind::Concat { within: None }, policy)
     } else if word == b"distinct".as_slice() {
-        form(RawKind::Distinct { within: None }, policy)
+        form(Kind::Distinct { within: None }, policy)
     } else if word == b"join".as_slice() {
-        form(RawKind::Join { within: None }, policy)
+        form(Kind::Join { within: None }, policy)
     } else if word == b"sum".as_slice() {
-        form(RawKind::Sum { within: None }, policy)
+        form(Kind::Sum { within: None }, policy)
     } else if word == b"total".as_slice() {
-        form(RawKind::Total, policy)
+        form(Kind::Total, policy)
     } else if word == b"sequence".as_slice() {
-        form(RawKind::Sequence, policy)
+        form(Kind::Sequence, policy)
     } else if word == b"ledger".as_slice() {
-        form(RawKind::Ledger, policy)
+        form(Kind::Ledger, policy)
     } else {
         None
     }
@@ -139,7 +139,7 @@ fn regroup(number: &[u8], policy: Policy) -> Option<NodeForm>
     ensures { Finds (AreNodeWords (codes "regroup") (number.now ∷ policy_words policy)) result }
 {
     let size = numeral(number)?;
-    form(RawKind::Regroup(size), policy)
+    form(Kind::Regroup(size), policy)
 }
 
 // A kind that leads into the loop of a name, to its next counter, or out of it.
@@ -149,11 +149,11 @@ fn leading(word: &[u8], name: Name, policy: Policy) -> Option<NodeForm>
     ensures { Finds (AreNodeWords word.now (name ∷ policy_words policy)) result }
 {
     if word == b"enter".as_slice() {
-        form(RawKind::Enter(name), policy)
+        form(Kind::Enter(name), policy)
     } else if word == b"feedback".as_slice() {
-        form(RawKind::Feedback(name), policy)
+        form(Kind::Feedback(name), policy)
     } else if word == b"leave".as_slice() {
-        form(RawKind::Leave(name), policy)
+        form(Kind::Leave(name), policy)
     } else {
         None
     }
@@ -190,13 +190,13 @@ fn standing(word: &[u8], name: Name, policy: Policy) -> Option<NodeForm>
 {
     let within = Some(name);
     if word == b"concat".as_slice() {
-        form(RawKind::Concat { within }, policy)
+        form(Kind::Concat { within }, policy)
     } else if word == b"distinct".as_slice() {
-        form(RawKind::Distinct { within }, policy)
+        form(Kind::Distinct { within }, policy)
     } else if word == b"join".as_slice() {
-        form(RawKind::Join { within }, policy)
+        form(Kind::Join { within }, policy)
     } else if word == b"sum".as_slice() {
-        form(RawKind::Sum { within }, policy)
+        form(Kind::Sum { within }, policy)
     } else {
         None
     }
@@ -222,7 +222,7 @@ fn select(
         return Ok(None);
     };
     Ok(Some(NodeForm {
-        kind: RawKind::Select { selection, within },
+        kind: Kind::Select { selection, within },
         policy,
     }))
 }

@@ -382,7 +382,7 @@ fn kind_is_small(flow: &Flow, kind: Kind)
             term_is_small(selection.condition.term);
             assignment_is_small(selection.assignment);
         }
-        Kind::Regroup(size) => number_is_small(u64::from(size)),
+        Kind::Regroup(size) => number_is_small(size),
         _ => {}
     }
 }

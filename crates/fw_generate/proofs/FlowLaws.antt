@@ -7,7 +7,7 @@ use Rattle.fw_bag.specs.declared.select.Selection.{Selection}
 use Rattle.fw_bag.specs.declared.select.Term.TheVariants as term
 use Rattle.fw_lines.specs.Lines.{said_by, said_lines}
 use Rattle.fw_lines.specs.Spelling.{number_of}
-use Rattle.fw_flow.specs.declared.kind.Kind.{Kind}
+use Rattle.fw_flow.specs.Kind.{Kind}
 use Rattle.fw_flow.specs.declared.kind.Kind.TheVariants.{Concat, Enter, Feedback, Input, Leave, Ledger, OutputEpoch, OutputNumber, Select, Sequence, Sum, Total}
 use Rattle.fw_flow.specs.declared.kind.Policy.{Policy}
 use Rattle.fw_flow.specs.declared.kind.Policy.TheVariants as policy

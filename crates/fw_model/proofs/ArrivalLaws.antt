@@ -8,13 +8,19 @@ use Rattle.fw_flow.specs.declared.event.Event.{Event}
 use Rattle.fw_flow.specs.declared.event.Event.TheVariants.{Inject, Deliver, Notify}
 use Rattle.fw_flow.specs.declared.event.Message.{Message}
 use Rattle.fw_flow.specs.declared.node.Edge.{Edge}
-use Rattle.fw_flow.specs.Dataflow.{Dataflow, receiver, edges_into, in_edges}
+use Rattle.fw_flow.specs.Dataflow.{Dataflow, receiver, edges_into, in_edges, System, kind_of, HasEpochs}
 use Rattle.fw_flow.specs.Projection.{events_at}
-use Rattle.fw_flow.specs.WholeBags.{Timed, joint_bag}
-use Rattle.fw_model.specs.History.{delivered_messages}
-use Rattle.fw_model.proofs.WeightLaws.{weigh, weigh-append, weigh-none, weigh-same}
+use Rattle.fw_flow.specs.WholeBags.{Timed, joint_bag, outputs_of_kind}
+use Rattle.fw_model.specs.History.{delivered_messages, is_owed_notice, IsLegal}
+use Rattle.fw_model.proofs.WeightLaws.{weigh, weigh-append, weigh-none, weigh-same, one, weigh-lighter}
 use Rattle.fw_model.proofs.SentLaws.{timed_message, timed_of}
 use Rattle.fw_flow.proofs.EdgeLaws.{into-from}
+use Rattle.fw_time.specs.Stamp.{Stamp}
+use Rattle.fw_bag.specs.declared.rec.Rec.{Rec}
+use Rattle.fw_flow.specs.Kind.{Kind}
+use Rattle.fw_flow.specs.NodeFunction.{sent_by}
+use Rattle.fw_flow.specs.WellFormed.{IsWellFormed}
+use Rattle.fw_model.specs.Wholes.{IsFewerWhere, AgreeWhere, MakesFewer, MakesTheSame}
 
 -- ---- sums over in-edges
 
@@ -129,3 +135,56 @@ pub together-weigh : (w : Timed → ℕ) (bag : ℕ → List Timed) (ds : List �
 unfolding weigh
 together-weigh w bag [] = refl
 together-weigh w bag (d ∷ ds) = let h = together-weigh w bag ds in weigh-append w (bag d) (joint_bag (map bag ds)) ∙ ap (λ n. weigh w (bag d) + n) h
+
+-- bags that have fewer each have fewer together
+pub together-fewer : (test : Stamp → Bool) (bag cag : ℕ → List Timed) (ds : List ℕ) → AllByRecursion (λ d. IsFewerWhere test (bag d) (cag d)) ds
+    → IsFewerWhere test (joint_bag (map bag ds)) (joint_bag (map cag ds))
+together-fewer test bag cag ds f u r i =
+    let a = together-weigh (one u r) bag ds in
+    let b = weigh-lighter (λ d. weigh (one u r) (bag d)) (λ d. weigh (one u r) (cag d)) ds
+    (each-weaker (λ d. IsFewerWhere test (bag d) (cag d)) (λ d. weigh (one u r) (bag d) ≤ weigh (one u r) (cag d)) ds (λ d g. g u r i) f) in
+    let c = together-weigh (one u r) cag ds in
+    omega arith
+
+-- bags that agree each agree together
+pub together-agrees : (test : Stamp → Bool) (bag cag : ℕ → List Timed) (ds : List ℕ) → AllByRecursion (λ d. AgreeWhere test (bag d) (cag d)) ds
+    → AgreeWhere test (joint_bag (map bag ds)) (joint_bag (map cag ds))
+together-agrees test bag cag ds k u r i =
+    together-weigh (one u r) bag ds
+    ∙ weigh-same (λ d. weigh (one u r) (bag d)) (λ d. weigh (one u r) (cag d)) ds
+    (each-weaker (λ d. AgreeWhere test (bag d) (cag d)) (λ d. weigh (one u r) (bag d) ≡ weigh (one u r) (cag d)) ds (λ d g. g u r i) k)
+    ∙ sym (together-weigh (one u r) cag ds)
+
+-- where fewer make fewer, as many make as many
+pub as_many : (takes : Stamp → Stamp → Bool) (make : List (List Timed) → List Timed) → MakesFewer takes make → MakesTheSame takes make
+as_many takes make f t x bag cag ds k =
+    let a = f t x bag cag ds
+    (each-weaker (λ d. AgreeWhere (takes t) (bag d) (cag d)) (λ d. IsFewerWhere (takes t) (bag d) (cag d)) ds (λ d g u r i. let z = g u r i in omega arith) k) in
+    let b = f t x cag bag ds
+    (each-weaker (λ d. AgreeWhere (takes t) (bag d) (cag d)) (λ d. IsFewerWhere (takes t) (cag d) (bag d)) ds (λ d g u r i. let z = g u r i in omega arith) k) in
+    omega arith
+
+-- ---- what was sent for what was delivered
+
+-- the bag that was delivered on an edge
+abbrev pub delivered_bag : List Event → ℕ → List Timed
+delivered_bag h d = timed_of (delivered_messages h d)
+
+-- a node of the kind, in a legal history, that is owed no notice of the stamp
+pub record IsPaidAt (sys : System) (h : List Event) (p : ℕ) (kind : Kind) (t : Stamp) : Type 0 where
+  pub well_formed : IsWellFormed sys.flow
+  pub epochs : HasEpochs sys
+  pub legal : IsLegal sys h
+  pub declared : p < length sys.flow.nodes
+  pub is_kind : kind_of sys.flow p ≡ kind
+  pub paid : is_owed_notice sys h p t ≡ false
+
+-- what such a node sent at the stamp is what a node of its kind makes of what was delivered
+abbrev pub SendsForDelivered : Kind → Type 0
+SendsForDelivered kind = (sys : System) (h : List Event) (p : ℕ) (t : Stamp) → IsPaidAt sys h p kind t → (batches : List (List Rec)) (x : Rec)
+    → weigh (one t x) (timed_of (sent_by sys p (events_at sys.flow p h)))
+    ≡ weigh (one t x) (outputs_of_kind sys.flow kind batches (map (delivered_bag h) (in_edges sys.flow p)))
+
+pub deliveries_together : (flow : Dataflow) (p : ℕ) → p < length flow.nodes → (w : Timed → ℕ) (h : List Event)
+    → weigh w (deliveries (events_at flow p h)) ≡ weigh w (joint_bag (map (delivered_bag h) (in_edges flow p)))
+deliveries_together flow p l w h = deliveries-weigh flow p l w h ∙ sym (together-weigh w (delivered_bag h) (in_edges flow p))

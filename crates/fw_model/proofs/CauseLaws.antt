@@ -8,7 +8,7 @@ use Rattle.fw_time.proofs.StampLaws.{leq-refl}
 use Rattle.fw_frontier.specs.Frontier.{Frontier}
 use Rattle.fw_flow.specs.declared.event.Event.{Event}
 use Rattle.fw_flow.specs.declared.event.Message.{Message}
-use Rattle.fw_flow.specs.declared.kind.Kind.{Kind}
+use Rattle.fw_flow.specs.Kind.{Kind}
 use Rattle.fw_flow.specs.Dataflow.{System, Dataflow, kind_of, sender, bounds_of, send_stamp, send_stamp_of_kind, is_sequence_kind}
 use Rattle.fw_flow.specs.NodeFunction.{event_stamp, sequence_sent, sends_of_kind, sends, sent_by, numbered_messages}
 use Rattle.fw_flow.specs.Projection.{events_at, all_inside, phi}

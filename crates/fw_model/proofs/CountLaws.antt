@@ -1,6 +1,6 @@
 -- Where a node sends that numbers what it sends: by how much it sent before.
-use Rattle.std.proofs.Common.{◌≡◌, ℕ, ◌≤◌, Bool, true, ◌||◌, nat_lt, [], ◌∷◌, refl, ap, inl, inr, arith, false}
-use Rattle.std.proofs.lemmas.Bool.{and_from, or_left, or_right, ltb-true, lt-ltb}
+use Rattle.std.proofs.Common.{◌≡◌, ℕ, ◌≤◌, Bool, true, ◌||◌, nat_lt, [], ◌∷◌, refl, ap, inl, inr, arith, false, ◌+◌, nat_le, List}
+use Rattle.std.proofs.lemmas.Bool.{and_from, or_left, or_right, ltb-true, lt-ltb, cond_both}
 use Rattle.fw_time.proofs.StampLaws.{leq-refl}
 use Rattle.fw_frontier.specs.Frontier.{Within, meet}
 use Rattle.fw_flow.specs.Dataflow.{Dataflow, greatest_number}
@@ -9,6 +9,12 @@ use Rattle.fw_flow.specs.declared.kind.Kind.TheVariants.{Sequence}
 use Rattle.fw_model.specs.Senders.{SendsLawfully}
 use Rattle.fw_model.proofs.LineLaws.{line-numbers, one_within}
 use Rattle.fw_model.proofs.StampLaws.{leq_from, leq_to, some_is}
+use Rattle.std.specs.List.{AllByRecursion}
+use Rattle.fw_time.specs.Stamp.{Stamp, up_to}
+use Rattle.fw_time.specs.declared.stamp.Bounds.{Bounds}
+use Rattle.fw_flow.specs.WholeBags.{Timed, in_order, numbered_recs, joint_bag}
+use Rattle.fw_model.specs.Wholes.{IsLawfulWhole}
+use Rattle.fw_model.proofs.OutputLaws.{At, IsNumber}
 
 sequence_phi-monotone : (a b : Bool) (u m n : ℕ) → (a ≡ true → b ≡ true) → m ≤ n → (a || nat_lt u m) ≡ true → (b || nat_lt u n) ≡ true
 sequence_phi-monotone true b u m n w l k = or_left b (nat_lt u n) (w refl)
@@ -46,4 +52,21 @@ counting flow = record {
     by_stamps = λ f p fr u i. absurd p;
   };
   of_back = λ g p fr t i. absurd p;
+}
+
+-- ---- what is asked of what it sends in all
+
+each-numbered : (n : ℕ) (rs : List Timed) → AllByRecursion (At IsNumber) (numbered_recs n rs)
+each-numbered n [] = tt
+each-numbered n (r ∷ rs) =
+    cond_both (nat_le n greatest_number) (record { at = n ∷ []; rec = r.rec } ∷ numbered_recs (n + 1) rs) [] (AllByRecursion (At IsNumber))
+    (λ e. (and_from (nat_le n greatest_number) true e refl, each-numbered (n + 1) rs)) (λ e. tt)
+
+pub each_numbered : (within : Bounds) (takes : Stamp → Stamp → Bool) (alone at_once inner : Type 0) → (alone → ⊥) → (at_once → ⊥) → (inner → ⊥)
+    → IsLawfulWhole within (up_to (greatest_number ∷ [])) takes alone at_once inner (λ batches bags. numbered_recs 0 (in_order (joint_bag bags)))
+each_numbered within takes alone at_once inner n m l = record {
+  lands = λ batches bags few a. each-numbered 0 (in_order (joint_bag bags));
+  by_parts = λ k batches bags t. absurd (n k);
+  fewer = λ k. absurd (m k);
+  agrees = λ k. absurd (l k);
 }

@@ -15,7 +15,7 @@ use Rattle.fw_bag.specs.declared.rec.Rec.{Rec}
 use Rattle.fw_frontier.specs.Frontier.{Frontier}
 use Rattle.fw_flow.specs.declared.event.Event.{Event}
 use Rattle.fw_flow.specs.declared.kind.Domain.TheVariants.{Number}
-use Rattle.fw_flow.specs.declared.kind.Kind.{Kind}
+use Rattle.fw_flow.specs.Kind.{Kind}
 use Rattle.fw_flow.specs.declared.kind.Kind.TheVariants.{Input, Sum, Total}
 use Rattle.fw_flow.specs.Dataflow.{greatest_of_kind, is_loop, System, kind_of, sender, receiver, in_edges, domain_of, out_domain_of, out_domain_of_kind, greatest_number, bounds_of, batches_of, is_input_kind, is_notified_kind, send_stamp}
 use Rattle.fw_flow.specs.NodeFunction.{sequence_sent, sent_by}
@@ -37,13 +37,14 @@ use Rattle.fw_model.proofs.TimedLaws.{ascending-in_order}
 use Rattle.fw_model.proofs.TimedCounts.{in_order-weigh, sender_bag, sender_sent, sent-as_denoted}
 use Rattle.fw_model.specs.Measure.{Measure}
 use Rattle.fw_model.proofs.StampMeasures.{IsEarlier, earlier-unlooped}
-use Rattle.fw_model.proofs.ArrivalLaws.{deliveries, deliveries-weigh, together-weigh}
+use Rattle.fw_model.proofs.ArrivalLaws.{deliveries, deliveries-weigh, together-weigh, delivered_bag}
 use Rattle.fw_model.proofs.InputLaws.{input-equal}
 use Rattle.fw_model.proofs.NotifiedLaws.{none_came}
-use Rattle.fw_model.proofs.KindLaws.{AgreeFor, outputs-same, arrives, delivered_bag}
 use Rattle.fw_model.proofs.SequencedLaws.{IsMember, each_member, filter-parts, Precedes, numbered-append, numbered-from, length-weigh, length-messages}
 use Rattle.fw_model.proofs.DomainLaws.{inner_edge, sequence_edge, output-sent, output-outputs, edge-bounds, EdgeStamp, along, from_earlier, each_in_edge, denoted-in_domain, delivered-in_domain, has_epochs}
 use Rattle.fw_model.specs.Sending.{SendsByStamp, SendsByCount}
+use Rattle.fw_model.specs.Wholes.{AgreeWhere, takes_part_of}
+use Rattle.fw_model.proofs.WholeLaws.{makes_lawfully, arrives, takes-sent}
 
 -- what was sent on the edge at the stamp is what the family has there
 abbrev pub IsDenotedAt : System → List Event → Family → (ℕ → Frontier) → EdgeStamp → Type 0
@@ -333,10 +334,20 @@ sent-step sys h family w l den seq done a r e t ih i q =
       | inr (inr (inr is)) ↦
           let real = inner_edge flow e is in
           let by = inner-sends_by_stamp sys w.flow e is in
-          arrives sys h w.flow (has_epochs sys w) l p (w.flow.senders_declared e real) kind refl is batches t q (inner-paid sys h done a e t is i)
-          ∙ outputs-same flow kind is t q batches (delivered_bag h) family ds (each_in_edge flow p (λ d. AgreeFor flow kind t (delivered_bag h d) (family d))
-          (λ d at u s x sends_at below. delivered-read sys h family w l den done a e t by i d u s
-          (from_earlier flow w.flow r (IsDenotedAt sys h family done) e t real ih d u s at sends_at below) at sends_at below x))
+          arrives kind is sys h p t
+          (record {
+            well_formed = w.flow;
+            epochs = has_epochs sys w;
+            legal = l;
+            declared = w.flow.senders_declared e real;
+            is_kind = refl;
+            paid = inner-paid sys h done a e t is i;
+          }) batches q
+          ∙ (makes_lawfully flow kind).agrees is batches t q (delivered_bag h) family ds (each_in_edge flow p (λ d. AgreeWhere (takes_part_of flow kind t) (delivered_bag h d) (family d))
+          (λ d at u x j.
+          let v = takes-sent flow kind is t u j in
+          delivered-read sys h family w l den done a e t by i d u v.0
+          (from_earlier flow w.flow r (IsDenotedAt sys h family done) e t real ih d u v.0 at v.1 v.2) at v.1 v.2 x))
     ])
 
 pub sent-denoted : (sys : System) (h : List Event) (family : Family) → IsWellFormedSystem sys → IsLegal sys h → IsDenotation sys family

@@ -1,5 +1,5 @@
 -- What an out bag at a stamp depends on: the bags on the sender's in-edges at stamps of lesser measure.
-use Rattle.std.proofs.Common.{◌≡◌, ℕ, suc, ◌+◌, ◌<◌, Bool, cond, true, false, ◌==◌, List, [], ◌∷◌, length, get_or, Option, Some, None, map, refl, sym, ap, subst, ◌∙◌, inl, inr, arith}
+use Rattle.std.proofs.Common.{◌≡◌, ℕ, suc, ◌+◌, ◌<◌, Bool, cond, true, false, ◌==◌, List, [], ◌∷◌, length, get_or, map, refl, sym, ap, subst, ◌∙◌, inl, inr, arith}
 use Rattle.std.proofs.lemmas.Bool.{cond_both, cases_Bool, eqb-true}
 use Rattle.std.specs.List.{AllByRecursion}
 use Rattle.fw_lemmas.proofs.Each.{each-weaker}
@@ -14,7 +14,10 @@ use Rattle.fw_model.specs.Denotation.{Family}
 use Rattle.fw_model.specs.LawsOfDenotation.{RecsAtStampsDecideBag, OutBagsDependOnLesserMeasure}
 use Rattle.fw_model.proofs.KindSorts.{local-from_loop}
 use Rattle.fw_model.proofs.TimedLaws.{IsAscendingTimed, ascending-in_order, ascending-filter, how_often_timed, how_often-in_order, same_from_how_often, how_often-filter_in, how_often-filter_out}
-use Rattle.fw_model.proofs.OutputLaws.{part, is_stamp, sends_to, outputs-part}
+use Rattle.fw_model.specs.Wholes.{part, takes_part_of}
+use Rattle.fw_model.specs.Reads.{reads_of}
+use Rattle.fw_model.proofs.OutputLaws.{alone-sent}
+use Rattle.fw_model.proofs.WholeLaws.{makes_lawfully}
 use Rattle.fw_model.proofs.MeasureLaws.{sends_to_loop}
 use Rattle.fw_model.proofs.StampLaws.{same-is, same-refl}
 use Rattle.fw_model.specs.Measure.{Measure}
@@ -61,10 +64,6 @@ abbrev pub AgreeBelow : (flow : Dataflow) → Measure flow → Family → Family
 AgreeBelow flow by f g p m =
     (d : ℕ) → d < length flow.edges → receiver flow d ≡ p → (y : Timed) → by.measure p y.at < m → how_often_timed y (f d) ≡ how_often_timed y (g d)
 
-is_stamp-some : (t : Stamp) (at : Option Stamp) → is_stamp t at ≡ true → at ≡ Some t
-is_stamp-some t None k = absurd (cc)
-is_stamp-some t (Some u) k = ap (λ v. Some v) (sym (same-is t u k))
-
 -- two bags in order, in which each timed rec that passes is equally often, have one part that passes
 parts-agree : (p : Stamp → Bool) (xs ys : List Timed) → IsAscendingTimed xs → IsAscendingTimed ys
     → ((y : Timed) → p y.at ≡ true → how_often_timed y xs ≡ how_often_timed y ys) → part p xs ≡ part p ys
@@ -110,19 +109,19 @@ looped-agree sys w by f g a b e l x h k =
     let t = x.at in
     let ds = in_edges flow q in
     let kind = kind_of flow q in
-    let pass : Stamp → Bool = sends_to flow kind t in
+    let pass : Stamp → Bool = takes_part_of flow kind t in
     let F : List (List Timed) → List Timed = outputs_of_kind flow kind (batches_of sys q) in
     let local = local-from_loop flow kind (sends_to_loop flow w e l k) in
     let bags = maps-agree (part pass) f g ds
     (each-weaker (λ d. (d < length flow.edges) × (receiver flow d ≡ q)) (λ d. part pass (f d) ≡ part pass (g d)) ds
     (λ d i. parts-agree pass (f d) (g d) (a d) (b d)
-    (λ y j. h d i.0 i.1 y (by.into_looped e l k y.at t t (is_stamp-some t (send_stamp_of_kind flow kind y.at) j) (leq-refl t))))
+    (λ y j. h d i.0 i.1 y (by.into_looped e l k y.at t t (alone-sent (reads_of kind) (send_stamp_of_kind flow kind) local t y.at j) (leq-refl t))))
     (in_edges-each flow q)) in
     how_often-in_order x (F (map f ds))
     ∙ how_often-part x (F (map f ds)) (F (map g ds))
-    (outputs-part flow kind (batches_of sys q) (map f ds) t local
+    ((makes_lawfully flow kind).by_parts local (batches_of sys q) (map f ds) t
     ∙ ap (λ bs. part (same t) (F bs)) bags
-    ∙ sym (outputs-part flow kind (batches_of sys q) (map g ds) t local))
+    ∙ sym ((makes_lawfully flow kind).by_parts local (batches_of sys q) (map g ds) t))
     ∙ sym (how_often-in_order x (F (map g ds)))
 
 -- Two families that agree on the sender's in-edges at each stamp of lesser measure give each timed rec of the measure

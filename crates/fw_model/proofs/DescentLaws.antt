@@ -10,7 +10,7 @@ use Rattle.fw_time.proofs.DomainLaws.{domain-leq}
 use Rattle.fw_frontier.specs.Frontier.{Frontier, IsFrontier, Within}
 use Rattle.fw_flow.specs.Counting.{how_many}
 use Rattle.fw_flow.specs.declared.event.Event.{Event}
-use Rattle.fw_flow.specs.declared.kind.Kind.{Kind}
+use Rattle.fw_flow.specs.Kind.{Kind}
 use Rattle.fw_flow.specs.declared.kind.Kind.TheVariants.{OutputEpoch}
 use Rattle.fw_flow.specs.Dataflow.{greatest_of_kind, System, Dataflow, kind_of, sender, receiver, bounds_of, bounds_of_domain, out_domain_of_kind, domain_of_kind, is_input_kind}
 use Rattle.fw_flow.specs.NodeFunction.{sends_of_kind, sends, sent_by}

@@ -1,12 +1,12 @@
 -- Distinct sends each rec once at each stamp, in whichever order the recs come.
-use Rattle.std.proofs.Common.{◌≡◌, ℕ, zero, suc, ◌+◌, ◌<◌, ◌≤◌, Bool, true, false, cond, ◌&&◌, List, [], ◌∷◌, ◌++◌, Some, refl, sym, ap, ◌∙◌, inl, inr, arith}
+use Rattle.std.proofs.Common.{◌≡◌, ℕ, zero, suc, ◌+◌, ◌<◌, ◌≤◌, Bool, true, false, cond, ◌&&◌, List, [], ◌∷◌, ◌++◌, Some, refl, sym, ap, ◌∙◌, inl, inr, arith, map}
 use Rattle.std.proofs.Math.Bool.{and_comm}
 use Rattle.std.specs.Ordering.{is_eq}
-use Rattle.std.proofs.lemmas.Bool.{or_cases, or_parts, cond_both, cond-false, cases_Bool}
+use Rattle.std.proofs.lemmas.Bool.{or_cases, or_parts, cond_both, cond-false, cases_Bool, cond-true}
 use Rattle.std.proofs.lemmas.Cmp.{tied_itself, nat_list_cmp_total}
 use Rattle.fw_lemmas.proofs.Bools.{two_ways}
 use Rattle.fw_lemmas.proofs.Orderings.{then_parts}
-use Rattle.fw_time.specs.Stamp.{Stamp, leq, same, stamp_cmp}
+use Rattle.fw_time.specs.Stamp.{Stamp, leq, same, stamp_cmp, in_domain}
 use Rattle.fw_bag.specs.declared.rec.Rec.{Rec}
 use Rattle.fw_bag.specs.Rec.{rec_cmp}
 use Rattle.fw_bag.specs.Bag.{how_often}
@@ -14,15 +14,21 @@ use Rattle.fw_bag.specs.Keyed.{is_among}
 use Rattle.fw_flow.specs.declared.event.Event.{Event}
 use Rattle.fw_flow.specs.declared.event.Event.TheVariants.{Inject, Deliver, Notify}
 use Rattle.fw_flow.specs.declared.kind.Kind.TheVariants.{Distinct}
-use Rattle.fw_flow.specs.Dataflow.{System, kind_of}
+use Rattle.fw_flow.specs.Dataflow.{System, kind_of, in_edges}
 use Rattle.fw_flow.specs.NodeFunction.{delivered_recs, rec_of_delivery, sends_of_kind, sends, sent_by}
-use Rattle.fw_flow.specs.WholeBags.{Timed, timed_recs, timed_cmp, is_among_timed, distinct_timed}
+use Rattle.fw_flow.specs.WholeBags.{Timed, timed_recs, timed_cmp, is_among_timed, distinct_timed, joint_bag}
 use Rattle.fw_model.proofs.WeightLaws.{weigh, one, one-in, one-out, is_at, is_at-is, at_stamp}
 use Rattle.fw_model.proofs.SentLaws.{timed_of, timed_message}
-use Rattle.fw_model.proofs.ArrivalLaws.{deliveries}
+use Rattle.fw_model.proofs.ArrivalLaws.{deliveries, delivered_bag, deliveries_together, together-fewer, as_many, SendsForDelivered}
 use Rattle.fw_model.proofs.InputLaws.{timed_of-messages_at_some, sent-weigh}
 use Rattle.fw_model.proofs.StampLaws.{same-is, same-refl}
 use Rattle.fw_model.proofs.CmpLaws.{stamp_cmp-equal}
+use Rattle.std.specs.List.{AllByRecursion}
+use Rattle.fw_time.specs.declared.stamp.Bounds.{Bounds}
+use Rattle.fw_model.specs.Wholes.{part, IsLawfulWhole, MakesFewer}
+use Rattle.fw_model.proofs.OutputLaws.{list_any-filter, part-part, together-part, each-together}
+use Rattle.fw_model.proofs.TimedLaws.{timed-same}
+use Rattle.fw_flow.specs.Projection.{events_at}
 
 -- 1 for each number but 0
 unfoldable pub sign : ℕ → ℕ
@@ -211,3 +217,73 @@ distinct-outputs t q (x ∷ xs) =
     cases : (b : Bool) → weigh (one t q) (cond b (distinct_timed xs) (x ∷ distinct_timed xs)) ≡ cond b 0 (one t q x) + weigh (one t q) (distinct_timed xs)
     cases true = omega arith
     cases false = refl
+
+-- ---- what is asked of what distinct sends in all
+
+each-distinct : (P : Timed → Type 0) (rs : List Timed) → AllByRecursion P rs → AllByRecursion P (distinct_timed rs)
+each-distinct P [] a = tt
+each-distinct P (r ∷ rs) a =
+    cond_both (is_among_timed r rs) (distinct_timed rs) (r ∷ distinct_timed rs) (AllByRecursion P)
+    (λ e. each-distinct P rs a.1) (λ e. (a.0, each-distinct P rs a.1))
+
+distinct-part : (t : Stamp) (rs : List Timed) → part (same t) (distinct_timed rs) ≡ distinct_timed (part (same t) rs)
+distinct-part t [] = refl
+distinct-part t (r ∷ rs) =
+    cond_both (is_among_timed r rs) (distinct_timed rs) (r ∷ distinct_timed rs) (λ ys. part (same t) ys ≡ distinct_timed (part (same t) (r ∷ rs)))
+    (λ a. step (distinct-part t rs) a)
+    (λ a. other (distinct-part t rs) a)
+  where
+    whole : same t r.at ≡ true → is_among_timed r (part (same t) rs) ≡ is_among_timed r rs
+    whole e = list_any-filter (λ (x : Timed). is_eq (timed_cmp r x)) (λ (x : Timed). same t x.at)
+        (λ x k. sym (ap (λ (y : Timed). same t y.at) (timed-same r x k)) ∙ e) rs
+
+    step : part (same t) (distinct_timed rs) ≡ distinct_timed (part (same t) rs) → is_among_timed r rs ≡ true
+        → part (same t) (distinct_timed rs) ≡ distinct_timed (part (same t) (r ∷ rs))
+    step ih a =
+        cond_both (same t r.at) (r ∷ part (same t) rs) (part (same t) rs) (λ ys. part (same t) (distinct_timed rs) ≡ distinct_timed ys)
+        (λ e. ih ∙ sym (cond-true (is_among_timed r (part (same t) rs)) (distinct_timed (part (same t) rs)) (r ∷ distinct_timed (part (same t) rs)) (whole e ∙ a)))
+        (λ e. ih)
+
+    other : part (same t) (distinct_timed rs) ≡ distinct_timed (part (same t) rs) → is_among_timed r rs ≡ false
+        → part (same t) (r ∷ distinct_timed rs) ≡ distinct_timed (part (same t) (r ∷ rs))
+    other ih a = elim (cases_Bool (same t r.at)) [
+      | inl e ↦
+          cond-true (same t r.at) (r ∷ part (same t) (distinct_timed rs)) (part (same t) (distinct_timed rs)) e
+          ∙ ap (λ ys. r ∷ ys) ih
+          ∙ sym (cond-false (is_among_timed r (part (same t) rs)) (distinct_timed (part (same t) rs)) (r ∷ distinct_timed (part (same t) rs)) (whole e ∙ a))
+          ∙ sym (ap distinct_timed (cond-true (same t r.at) (r ∷ part (same t) rs) (part (same t) rs) e))
+      | inr e ↦
+          cond-false (same t r.at) (r ∷ part (same t) (distinct_timed rs)) (part (same t) (distinct_timed rs)) e
+          ∙ ih
+          ∙ sym (ap distinct_timed (cond-false (same t r.at) (r ∷ part (same t) rs) (part (same t) rs) e))
+    ]
+
+distinct-fewer : MakesFewer (λ t s. same t s) (λ bags. distinct_timed (joint_bag bags))
+distinct-fewer t x bag cag ds f =
+    let xs = joint_bag (map bag ds) in
+    let ys = joint_bag (map cag ds) in
+    let a = distinct-outputs t x xs in
+    let b = distinct-outputs t x ys in
+    let c = sign-less (weigh (one t x) xs) (weigh (one t x) ys) (together-fewer (same t) bag cag ds f t x (same-refl t)) in
+    omega arith
+
+pub each_once : (bounds : Bounds) (alone at_once inner : Type 0)
+    → IsLawfulWhole bounds bounds (λ t s. same t s) alone at_once inner (λ batches bags. distinct_timed (joint_bag bags))
+each_once bounds alone at_once inner = record {
+  lands = λ batches bags l a. each-distinct (λ (r : Timed). in_domain bounds r.at ≡ true) (joint_bag bags) (each-together (λ (r : Timed). in_domain bounds r.at ≡ true) bags a);
+  by_parts = λ k batches bags t.
+      let rs = joint_bag bags in
+      distinct-part t rs
+      ∙ ap distinct_timed (sym (part-part (same t) (same t) (λ s e. e) rs))
+      ∙ sym (distinct-part t (part (same t) rs))
+      ∙ ap (λ qs. part (same t) (distinct_timed qs)) (sym (together-part (same t) bags));
+  fewer = λ k batches t x bag cag ds f. distinct-fewer t x bag cag ds f;
+  agrees = λ k batches t x bag cag ds f. as_many (λ t s. same t s) (λ bags. distinct_timed (joint_bag bags)) distinct-fewer t x bag cag ds f;
+}
+
+-- what distinct sent for what was delivered
+pub distinct-arrives : (within : _) → SendsForDelivered (Distinct within)
+distinct-arrives within sys h p t n batches x =
+    distinct-sent sys p within n.is_kind t x (events_at sys.flow p h)
+    ∙ ap sign (deliveries_together sys.flow p n.declared (one t x) h)
+    ∙ sym (distinct-outputs t x (joint_bag (map (delivered_bag h) (in_edges sys.flow p))))

@@ -1,15 +1,15 @@
 -- What an input sent is what its first batches hold.
-use Rattle.std.proofs.Common.{◌≡◌, ℕ, zero, suc, ◌+◌, ◌-◌, ◌<◌, ◌≤◌, true, cond, ◌&&◌, ◌||◌, ◌==◌, nat_lt, List, [], ◌∷◌, ◌++◌, length, Option, Some, None, refl, sym, ap, ◌∙◌, inl, inr, arith, false}
+use Rattle.std.proofs.Common.{◌≡◌, ℕ, zero, suc, ◌+◌, ◌-◌, ◌<◌, ◌≤◌, true, cond, ◌&&◌, ◌||◌, ◌==◌, nat_lt, List, [], ◌∷◌, ◌++◌, length, Option, Some, None, refl, sym, ap, ◌∙◌, inl, inr, arith, false, Bool}
 use Rattle.std.specs.Prelude.{slice_index_or}
 use Rattle.std.proofs.lemmas.Bool.{and_parts, or_cases, cond_both, cases_Bool, eqb-true, ltb-true}
-use Rattle.fw_time.specs.Stamp.{Stamp, same, in_domain}
+use Rattle.fw_time.specs.Stamp.{Stamp, same, in_domain, up_to}
 use Rattle.std.specs.Ordering.{is_eq}
 use Rattle.fw_bag.specs.declared.rec.Rec.{Rec}
 use Rattle.fw_bag.specs.Rec.{rec_cmp}
 use Rattle.fw_flow.specs.declared.event.Event.{Event}
 use Rattle.fw_flow.specs.declared.event.Event.TheVariants.{Inject, Deliver, Notify}
 use Rattle.fw_flow.specs.declared.event.Message.{Message}
-use Rattle.fw_flow.specs.declared.kind.Kind.{Kind}
+use Rattle.fw_flow.specs.Kind.{Kind}
 use Rattle.fw_flow.specs.declared.kind.Kind.TheVariants.{Input}
 use Rattle.fw_flow.specs.Dataflow.{System, kind_of, batches_of, bounds_of, Dataflow, bounds_of_domain, domain_of_kind, greatest_number, is_input_kind}
 use Rattle.fw_flow.specs.NodeFunction.{event_node, messages_at, messages_at_some, sends_of_kind, sends, sent_by}
@@ -18,7 +18,12 @@ use Rattle.fw_flow.specs.WholeBags.{Timed, timed_recs, timed_at_some, timed_batc
 use Rattle.fw_model.specs.History.{injected_count, is_exhausted, injected_epochs, IsLegal}
 use Rattle.fw_model.proofs.WeightLaws.{weigh, weigh-append, one, one-out}
 use Rattle.fw_model.proofs.SentLaws.{timed_of, timed_message}
-use Rattle.fw_model.proofs.StampLaws.{same-is}
+use Rattle.fw_model.proofs.StampLaws.{same-is, line-leq}
+use Rattle.fw_lemmas.proofs.Each.{each-append}
+use Rattle.std.specs.List.{AllByRecursion}
+use Rattle.fw_time.specs.declared.stamp.Bounds.{Bounds}
+use Rattle.fw_model.specs.Wholes.{IsLawfulWhole}
+use Rattle.fw_model.proofs.OutputLaws.{each-timed, At, IsNumber}
 
 -- ---- sums
 
@@ -215,3 +220,21 @@ input-epoch flow k e = absurd (cc)
 pub input-bounds : (flow : Dataflow) (p : ℕ) → is_input_kind (kind_of flow p) ≡ true → bounds_of flow p ≡ record { greatest = greatest_number ∷ []; sides = false }
 unfolding bounds_of
 input-bounds flow p e = input-epoch flow (kind_of flow p) e
+
+-- ---- what is asked of what an input sends in all
+
+each-batch : (x : ℕ) (batches : List (List Rec)) → x + length batches ≤ greatest_number + 1 → AllByRecursion (At IsNumber) (timed_batches x batches)
+each-batch x [] l = tt
+each-batch x (batch ∷ batches) l =
+    each-append (At IsNumber) (timed_recs (x ∷ []) batch) (timed_batches (x + 1) batches)
+    (each-timed IsNumber (x ∷ []) (line-leq x greatest_number (omega arith)) batch)
+    (each-batch (x + 1) batches (omega arith))
+
+pub each_injected : (within : Bounds) (takes : Stamp → Stamp → Bool) (alone at_once inner : Type 0)
+    → IsLawfulWhole within (up_to (greatest_number ∷ [])) takes alone at_once inner (λ batches bags. timed_batches 0 batches)
+each_injected within takes alone at_once inner = record {
+  lands = λ batches bags l a. each-batch 0 batches (omega arith);
+  by_parts = λ k batches bags t. refl;
+  fewer = λ k batches t x bag cag ds f. omega arith;
+  agrees = λ k batches t x bag cag ds f. refl;
+}

@@ -6,7 +6,7 @@ use Rattle.std.specs.Ordering.{is_eq}
 use Rattle.std.proofs.Math.Nat.{add_comm}
 use Rattle.std.proofs.lemmas.Bool.{cond_both, cases_Bool, eqb-true, eqb-false, eq-eqb, ne_eqb}
 use Rattle.fw_lemmas.proofs.Each.{each-one}
-use Rattle.fw_time.specs.Stamp.{Stamp, same}
+use Rattle.fw_time.specs.Stamp.{Stamp, same, in_domain}
 use Rattle.fw_bag.specs.declared.rec.Rec.{Rec}
 use Rattle.fw_bag.specs.Rec.{rec_cmp}
 use Rattle.fw_bag.specs.Bag.{how_often}
@@ -18,14 +18,18 @@ use Rattle.fw_flow.specs.declared.kind.Kind.TheVariants.{Join}
 use Rattle.fw_flow.specs.Dataflow.{System, Dataflow, kind_of, receiver, in_edges}
 use Rattle.fw_flow.specs.NodeFunction.{delivered_recs, recs_on_delivery, sends_of_kind, sends, sent_by}
 use Rattle.fw_flow.specs.Projection.{events_at}
-use Rattle.fw_flow.specs.WholeBags.{Timed, timed_recs, timed_where, joined_timed}
+use Rattle.fw_flow.specs.WholeBags.{Timed, timed_recs, timed_where, joined_timed, joined_bags, outputs_of_kind}
 use Rattle.fw_model.specs.History.{delivered_messages}
 use Rattle.fw_model.proofs.WeightLaws.{weigh, weigh-flat_map, weigh-same, weigh-none, weigh-lighter, weigh-less, one, at_stamp}
 use Rattle.fw_model.proofs.SentLaws.{timed_of, timed_message}
-use Rattle.fw_model.proofs.ArrivalLaws.{at_edge, in_edges-once}
+use Rattle.fw_model.proofs.ArrivalLaws.{at_edge, in_edges-once, in_edges-receive, delivered_bag, as_many, SendsForDelivered}
 use Rattle.fw_model.proofs.InputLaws.{timed_of-messages_at_some, sent-weigh}
 use Rattle.fw_model.proofs.DistinctLaws.{how_often-append, same-swap}
-use Rattle.fw_model.proofs.StampLaws.{same-is}
+use Rattle.fw_model.proofs.StampLaws.{same-is, same-refl}
+use Rattle.fw_time.specs.declared.stamp.Bounds.{Bounds}
+use Rattle.fw_model.specs.Wholes.{part, AreTimedWithin, IsLawfulWhole, MakesFewer}
+use Rattle.fw_model.proofs.OutputLaws.{part-flat_map, part-timed, recs_where-part, each-timed, each-flat_map, At}
+use Rattle.fw_flow.specs.WellFormed.{IsInDegree}
 
 -- ---- pairs
 
@@ -307,3 +311,58 @@ delivered_at flow p d r (Deliver e m ∷ h) =
       | inl j ↦ absurd (eqb-false (receiver flow e) p k (ap (receiver flow) (eqb-true e d j) ∙ r))
       | inr j ↦ rest ∙ sym (ap (λ c. cond c (m ∷ []) [] ++ delivered_messages h d) j)
     ])
+
+-- ---- what is asked of what join sends in all
+
+each-joined : (P : Stamp → Type 0) (xs ys : List Timed) → AllByRecursion (At P) xs → AllByRecursion (At P) (joined_timed xs ys)
+each-joined P xs ys a = each-flat_map (At P) (At P) _ (λ r i. each-timed P r.at i _) xs a
+
+joined-part : (t : Stamp) (xs ys : List Timed) → part (same t) (joined_timed xs ys) ≡ part (same t) (joined_timed (part (same t) xs) (part (same t) ys))
+joined-part t xs ys =
+    part-flat_map (same t) (λ (r : Timed). same t r.at)
+    (λ r. timed_recs r.at (joined_rec r.rec (timed_where (same r.at) ys))) (λ r. timed_recs r.at (joined_rec r.rec (timed_where (same r.at) (part (same t) ys))))
+    (λ r. part-timed t r.at (joined_rec r.rec (timed_where (same r.at) ys)) (joined_rec r.rec (timed_where (same r.at) (part (same t) ys)))
+    (λ e. ap (joined_rec r.rec) (recs_where-part t r.at e ys))) xs
+
+joins-in_domain : (bounds : Bounds) (bags : List (List Timed)) → AllByRecursion (AreTimedWithin bounds) bags → AreTimedWithin bounds (joined_bags bags)
+joins-in_domain bounds [] a = tt
+joins-in_domain bounds (xs ∷ []) a = tt
+joins-in_domain bounds (xs ∷ ys ∷ rest) a = each-joined (λ (s : Stamp). in_domain bounds s ≡ true) xs ys a.0
+
+joins-part : (t : Stamp) (bags : List (List Timed)) → part (same t) (joined_bags bags) ≡ part (same t) (joined_bags (map (part (same t)) bags))
+joins-part t [] = refl
+joins-part t (xs ∷ []) = refl
+joins-part t (xs ∷ ys ∷ rest) = joined-part t xs ys
+
+joins-fewer : MakesFewer (λ t s. same t s) (λ bags. joined_bags bags)
+joins-fewer t x bag cag [] f = omega arith
+joins-fewer t x bag cag (a ∷ []) f = omega arith
+joins-fewer t x bag cag (a ∷ b ∷ ds) f =
+    let c = join-outputs t x (bag a) (bag b) in
+    let d = join-outputs t x (cag a) (cag b) in
+    let e = pairs-fewer t x (bag a) (cag a) (bag b) (cag b) (λ r. f.0 t r (same-refl t)) (λ r. f.1.0 t r (same-refl t)) in
+    omega arith
+
+pub each_pair : (bounds : Bounds) (alone at_once inner : Type 0)
+    → IsLawfulWhole bounds bounds (λ t s. same t s) alone at_once inner (λ batches bags. joined_bags bags)
+each_pair bounds alone at_once inner = record {
+  lands = λ batches bags l a. joins-in_domain bounds bags a;
+  by_parts = λ k batches bags t. joins-part t bags;
+  fewer = λ k batches t x bag cag ds f. joins-fewer t x bag cag ds f;
+  agrees = λ k batches t x bag cag ds f. as_many (λ t s. same t s) (λ bags. joined_bags bags) joins-fewer t x bag cag ds f;
+}
+
+-- what join sent for what was delivered
+pub join-arrives : (within : _) → SendsForDelivered (Join within)
+join-arrives within sys h p t n batches x =
+    let flow = sys.flow in
+    let l = n.declared in
+    let e = two_edges (in_edges flow p) (subst (λ z. IsInDegree z (length (in_edges flow p))) n.is_kind (n.well_formed.in_degrees p l)) in
+    let c = e.0 in
+    let d = e.1 in
+    let a = subst (AllByRecursion (λ z. (z < length flow.edges) × (receiver flow z ≡ p))) e.2 (in_edges-receive flow p) in
+    join-sent sys p within n.is_kind c d t x (events_at flow p h) (on_one flow p c d l e.2 h)
+    ∙ ap (λ ms. pairs t x (timed_of ms) (timed_of (delivered_messages (events_at flow p h) d))) (delivered_at flow p c a.0.1 h)
+    ∙ ap (λ ms. pairs t x (timed_of (delivered_messages h c)) (timed_of ms)) (delivered_at flow p d a.1.0.1 h)
+    ∙ sym (join-outputs t x (timed_of (delivered_messages h c)) (timed_of (delivered_messages h d)))
+    ∙ sym (ap (λ ds. weigh (one t x) (outputs_of_kind flow (Join within) batches (map (delivered_bag h) ds))) e.2)

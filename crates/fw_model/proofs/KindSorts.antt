@@ -13,12 +13,13 @@ use Rattle.fw_flow.specs.declared.event.Event.TheVariants.{Inject, Deliver, Noti
 use Rattle.fw_flow.specs.declared.event.Event.{Event}
 use Rattle.fw_flow.specs.declared.event.Message.{Message}
 use Rattle.fw_flow.specs.declared.kind.Kind.TheVariants.{Input, OutputEpoch, OutputNumber, Select, Concat, Distinct, Join, Sum, Enter, Feedback, Leave, Total, Sequence, Ledger, Regroup}
-use Rattle.fw_flow.specs.declared.kind.Kind.{Kind}
+use Rattle.fw_flow.specs.Kind.{Kind}
 use Rattle.fw_flow.specs.declared.kind.Policy.{Policy}
 use Rattle.fw_flow.specs.declared.restoring.Restoring.TheVariants.{Anything}
 use Rattle.fw_flow.specs.declared.kind.Policy.TheVariants as policy
 use Rattle.fw_flow.proofs.Chains.{parent-no_number}
 use Rattle.fw_model.specs.Sending.{SendsByCount, SendsByStamp}
+use Rattle.fw_model.specs.Reads.{reads_of, reads_its_time_alone}
 
 -- ---- sorts
 
@@ -139,10 +140,7 @@ keeps_something policy.Full a e = cc
 
 -- whether what a node of the kind sends at a stamp is made of what came at the stamps that send there
 abbrev pub is_local_kind : Kind → Bool
-is_local_kind Total = false
-is_local_kind Sequence = false
-is_local_kind Ledger = false
-is_local_kind kind = true
+is_local_kind kind = reads_its_time_alone (reads_of kind)
 
 -- a node whose messages are at a loop's times is of a local kind
 pub local-from_loop : (flow : Dataflow) (kind : Kind) → is_loop (out_domain_of_kind flow kind) ≡ true → is_local_kind kind ≡ true

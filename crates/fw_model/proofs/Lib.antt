@@ -47,7 +47,6 @@ pub mod InjectionLaws
 pub mod InputLaws
 pub mod JoinLaws
 pub mod KeptLaws
-pub mod KindLaws
 pub mod KindSorts
 pub mod LargestLaws
 pub mod LedgerLaws
@@ -114,6 +113,7 @@ pub mod ToldLaws
 pub mod UntilLaws
 pub mod WeightLaws
 pub mod WellFormedLaws
+pub mod WholeLaws
 pub mod WriteLaws
 pub mod CounterLaws
 pub mod LineLaws

@@ -7,7 +7,7 @@ use Rattle.fw_time.specs.Stamp.{Stamp, leq, nest, outer, counter}
 use Rattle.fw_time.proofs.StampLaws.{outer-nest, counter-nest}
 use Rattle.fw_flow.specs.declared.kind.Domain.{Domain}
 use Rattle.fw_flow.specs.declared.kind.Domain.TheVariants.{Epoch, Number, Loop as InLoop}
-use Rattle.fw_flow.specs.declared.kind.Kind.{Kind}
+use Rattle.fw_flow.specs.Kind.{Kind}
 use Rattle.fw_flow.specs.declared.kind.Kind.TheVariants.{OutputEpoch, OutputNumber, Enter, Feedback, Leave, Sequence, Regroup}
 use Rattle.fw_flow.specs.Dataflow.{Dataflow, kind_of, sender, receiver, max_of, send_stamp, send_stamp_of_kind, parent_of, loops_of, domain_of, domain_of_kind, out_domain_of, out_domain_of_kind, is_loop, is_one_of}
 use Rattle.fw_flow.specs.Ranks.{is_looped, IsWithinRound, Ranks}

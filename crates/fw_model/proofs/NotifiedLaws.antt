@@ -1,5 +1,5 @@
 -- Sum and total send, once they are notified of a stamp, what they send for all that came.
-use Rattle.std.proofs.Common.{◌≡◌, ℕ, true, false, cond, ◌&&◌, ◌||◌, ◌==◌, List, [], ◌∷◌, ◌++◌, Some, refl, sym, ap, subst, ◌∙◌, inl, inr, arith}
+use Rattle.std.proofs.Common.{◌≡◌, ℕ, true, false, cond, ◌&&◌, ◌||◌, ◌==◌, List, [], ◌∷◌, ◌++◌, Some, refl, sym, ap, subst, ◌∙◌, inl, inr, arith, Bool, not, map}
 use Rattle.std.proofs.Math.Bool.{and-false}
 use Rattle.std.proofs.lemmas.Bool.{and_parts, and_from, or_cases, or_parts, cond_both, cases_Bool, eqb-true}
 use Rattle.fw_time.specs.Stamp.{Stamp, leq, same}
@@ -13,23 +13,24 @@ use Rattle.fw_bag.specs.Keyed.{distinct_keys, sums_of}
 use Rattle.fw_flow.specs.declared.event.Event.{Event}
 use Rattle.fw_flow.specs.declared.event.Event.TheVariants.{Inject, Deliver, Notify}
 use Rattle.fw_flow.specs.declared.event.Message.{Message}
-use Rattle.fw_flow.specs.declared.kind.Kind.{Kind}
+use Rattle.fw_flow.specs.Kind.{Kind}
 use Rattle.fw_flow.specs.declared.kind.Kind.TheVariants.{Sum, Total}
-use Rattle.fw_flow.specs.Dataflow.{System, Dataflow, kind_of, receiver, is_notified_kind, HasEpochs}
+use Rattle.fw_flow.specs.Dataflow.{System, Dataflow, kind_of, receiver, is_notified_kind, HasEpochs, in_edges}
 use Rattle.fw_flow.specs.NodeFunction.{event_node, delivered_recs, recs_on_notification, sends_of_kind, sends, sent_by}
 use Rattle.fw_flow.specs.Projection.{events_at}
 use Rattle.fw_flow.specs.WellFormed.{IsWellFormed}
-use Rattle.fw_flow.specs.WholeBags.{Timed}
-use Rattle.fw_model.specs.History.{is_notification, was_delivered_to, was_notified, IsEnabled, IsLegal}
+use Rattle.fw_flow.specs.WholeBags.{Timed, timed_where, joint_bag}
+use Rattle.fw_model.specs.History.{is_notification, was_delivered_to, was_notified, IsEnabled, IsLegal, is_owed_notice}
 use Rattle.fw_model.proofs.KindSorts.{sends_sums}
-use Rattle.fw_model.proofs.WeightLaws.{weigh, one, one-out}
+use Rattle.fw_model.proofs.WeightLaws.{weigh, one, one-out, how_often-where}
 use Rattle.fw_model.proofs.SentLaws.{timed_of, timed_message}
-use Rattle.fw_model.proofs.ArrivalLaws.{deliveries}
+use Rattle.fw_model.proofs.ArrivalLaws.{deliveries, delivered_bag, deliveries_together, SendsForDelivered}
 use Rattle.fw_model.proofs.InputLaws.{timed_of-messages_at_some, sent-weigh}
-use Rattle.fw_model.proofs.DistinctLaws.{same-swap}
+use Rattle.fw_model.proofs.DistinctLaws.{same-swap, passing, how_often-delivered, how_often-delivered_at}
 use Rattle.fw_model.proofs.JoinLaws.{weigh-timed}
 use Rattle.fw_model.proofs.ClosedLaws.{IsSettled, settled-outside, settled-step, settled-now}
 use Rattle.fw_model.proofs.StampLaws.{same-is}
+use Rattle.fw_model.proofs.SumLaws.{AreSameBags, sums-same, sum-outputs, total-outputs, how_often-passing}
 
 -- ---- a notified stamp is settled
 
@@ -210,3 +211,57 @@ none_came flow p t (Deliver e m ∷ h) k q =
     let z = one-out t q (timed_message m) (ap (λ b. b && is_eq (rec_cmp q m.rec)) o) in
     omega arith)
     (λ i. rest)
+
+-- ---- what was sent for what was delivered
+
+-- where nothing is owed, all sums were sent
+sums-arrived : (sys : System) (h : List Event) → IsWellFormed sys.flow → HasEpochs sys → IsLegal sys h → (p : ℕ) (kind : Kind) → kind_of sys.flow p ≡ kind → sends_sums kind ≡ true
+    → is_notified_kind kind ≡ true → (t : Stamp) (x : Rec) → is_owed_notice sys h p t ≡ false
+    → ((z : (q : Rec) → weigh (one t q) (deliveries (events_at sys.flow p h)) ≡ 0) → how_often x (recs_on_notification kind (events_at sys.flow p h) t) ≡ 0)
+    → weigh (one t x) (timed_of (sent_by sys p (events_at sys.flow p h))) ≡ how_often x (recs_on_notification kind (events_at sys.flow p h) t)
+sums-arrived sys h w b l p kind is k n t x o empty =
+    let flow = sys.flow in
+    let vs = events_at flow p h in
+    let a = sums-sent sys h w b l p (ap sends_sums is ∙ k) (ap is_notified_kind is ∙ n) t x
+    ∙ ap (λ z. cond (was_notified p t h) (how_often x (recs_on_notification z vs t)) 0) is in
+    elim (cases_Bool (was_notified p t h)) [
+      | inl i ↦ a ∙ ap (λ z. cond z (how_often x (recs_on_notification kind vs t)) 0) i
+      | inr i ↦
+          let came : was_delivered_to flow p t h ≡ false = not_came (is_notified_kind (kind_of flow p)) (was_delivered_to flow p t h) (was_notified p t h) (ap is_notified_kind is ∙ n) i o in
+          a ∙ ap (λ z. cond z (how_often x (recs_on_notification kind vs t)) 0) i ∙ sym (empty (none_came flow p t h came))
+    ]
+  where
+    not_came : (c d e : Bool) → c ≡ true → e ≡ false → (c && d && not e) ≡ false → d ≡ false
+    not_came true true true i j k = cc
+    not_came true true false i j k = cc
+    not_came true false e i j k = refl
+    not_came false d e i j k = cc
+
+no_sums_came : (t : Stamp) (x : Rec) (vs : List Event) (qs : List Rec) → ((q : Rec) → weigh (one t q) (deliveries vs) ≡ 0)
+    → how_often x (sums_of (distinct_keys (delivered_recs (λ d s. same s t) vs)) qs) ≡ 0
+no_sums_came t x vs qs z = sums-same x (delivered_recs (λ d s. same s t) vs) qs [] qs (λ q. how_often-delivered_at t q vs ∙ z q) (λ q. refl)
+
+pub sum-arrives : (within : _) → SendsForDelivered (Sum within)
+sum-arrives within sys h p t n batches x =
+    let flow = sys.flow in
+    let vs = events_at flow p h in
+    let rs = joint_bag (map (delivered_bag h) (in_edges flow p)) in
+    let now = delivered_recs (λ d s. same s t) vs in
+    let f : AreSameBags now (timed_where (same t) rs) = λ q. how_often-delivered_at t q vs ∙ deliveries_together flow p n.declared (one t q) h ∙ sym (how_often-where t q rs) in
+    sums-arrived sys h n.well_formed n.epochs n.legal p (Sum within) n.is_kind refl refl t x n.paid (λ z. no_sums_came t x vs now z)
+    ∙ sums-same x now now (timed_where (same t) rs) (timed_where (same t) rs) f f
+    ∙ sym (sum-outputs t x rs)
+
+pub total-arrives : SendsForDelivered Total
+total-arrives sys h p t n batches x =
+    let flow = sys.flow in
+    let vs = events_at flow p h in
+    let rs = joint_bag (map (delivered_bag h) (in_edges flow p)) in
+    let now = delivered_recs (λ d s. same s t) vs in
+    let upto = delivered_recs (λ d s. leq s t) vs in
+    let f : AreSameBags now (timed_where (same t) rs) = λ q. how_often-delivered_at t q vs ∙ deliveries_together flow p n.declared (one t q) h ∙ sym (how_often-where t q rs) in
+    let g : AreSameBags upto (timed_where (λ s. leq s t) rs) =
+    λ q. how_often-delivered (λ s. leq s t) q vs ∙ deliveries_together flow p n.declared (passing (λ s. leq s t) q) h ∙ sym (how_often-passing (λ s. leq s t) q rs) in
+    sums-arrived sys h n.well_formed n.epochs n.legal p Total n.is_kind refl refl t x n.paid (λ z. no_sums_came t x vs upto z)
+    ∙ sums-same x now upto (timed_where (same t) rs) (timed_where (λ s. leq s t) rs) f g
+    ∙ sym (total-outputs t x rs)

@@ -10,7 +10,7 @@ use Rattle.fw_bag.specs.Rec.{rec_cmp}
 use Rattle.fw_time.specs.Stamp.{stamp_cmp}
 use Rattle.fw_flow.specs.declared.kind.Domain.{Domain}
 use Rattle.fw_flow.specs.declared.kind.Domain.TheVariants.{Epoch, Number, Loop as InLoop}
-use Rattle.fw_flow.specs.declared.kind.Kind.{Kind}
+use Rattle.fw_flow.specs.Kind.{Kind}
 use Rattle.fw_flow.specs.declared.kind.Kind.TheVariants.{OutputNumber, Ledger}
 use Rattle.fw_flow.specs.Dataflow.{System, is_loop, kind_of, sender, receiver, in_edges, batches_of, greatest_number, domain_of, out_domain_of, domain_of_kind, is_of_numbers, is_numbered}
 use Rattle.fw_flow.specs.WellFormed.{IsWellFormed, IsInDegree}

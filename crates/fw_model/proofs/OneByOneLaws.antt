@@ -1,25 +1,30 @@
 -- The kinds that send for each rec alone: what they send for what was delivered, in any order, is what they send in all.
-use Rattle.std.proofs.Common.{◌≡◌, ℕ, ◌+◌, ◌<◌, ◌≤◌, true, ◌&&◌, List, [], ◌∷◌, Option, Some, None, refl, sym, ap, ◌∙◌, inl, inr, arith}
+use Rattle.std.proofs.Common.{◌≡◌, ℕ, ◌+◌, ◌<◌, true, ◌&&◌, List, [], ◌∷◌, Option, Some, None, refl, sym, ap, ◌∙◌, inl, inr, arith, map}
 use Rattle.std.proofs.lemmas.Bool.{cases_Bool}
-use Rattle.fw_time.specs.Stamp.{Stamp, same}
+use Rattle.fw_time.specs.Stamp.{Stamp, same, in_domain}
 use Rattle.std.specs.Ordering.{is_eq}
 use Rattle.fw_bag.specs.declared.rec.Rec.{Rec}
 use Rattle.fw_bag.specs.Rec.{rec_cmp}
 use Rattle.fw_flow.specs.declared.event.Event.{Event}
 use Rattle.fw_flow.specs.declared.event.Event.TheVariants.{Inject, Deliver, Notify}
-use Rattle.fw_flow.specs.declared.kind.Kind.{Kind}
-use Rattle.fw_flow.specs.Dataflow.{System, Dataflow, kind_of, send_stamp_of_kind}
+use Rattle.fw_flow.specs.Kind.{Kind}
+use Rattle.fw_flow.specs.Dataflow.{System, Dataflow, kind_of, send_stamp_of_kind, in_edges}
 use Rattle.fw_flow.specs.NodeFunction.{sends_of_kind, sends, sent_by}
 use Rattle.fw_flow.specs.WholeBags.{Timed, timed_recs, timed_at_some, recs_for_one, outputs_of_kind, joint_bag}
 use Rattle.fw_model.proofs.KindSorts.{sends_one_by_one, one_by_one_kind}
-use Rattle.fw_model.proofs.WeightLaws.{weigh, weigh-flat_map, weigh-less, one, one-out, at_stamp}
+use Rattle.fw_model.proofs.WeightLaws.{weigh, weigh-flat_map, weigh-less, one, one-out}
 use Rattle.fw_model.proofs.SentLaws.{timed_of}
-use Rattle.fw_model.proofs.ArrivalLaws.{deliveries}
+use Rattle.fw_model.proofs.ArrivalLaws.{deliveries, delivered_bag, deliveries_together, together-fewer, as_many, SendsForDelivered}
 use Rattle.fw_model.proofs.InputLaws.{timed_of-messages_at_some, sent-weigh}
-use Rattle.fw_model.proofs.StampLaws.{same-is}
+use Rattle.fw_model.proofs.StampLaws.{same-is, same-refl}
+use Rattle.std.specs.List.{flat_map}
+use Rattle.fw_time.specs.declared.stamp.Bounds.{Bounds}
+use Rattle.fw_model.specs.Wholes.{part, is_sent_at, IsLawfulWhole, MakesFewer}
+use Rattle.fw_model.proofs.OutputLaws.{part-flat_map, part-timed_at_some, together-part, each-timed_at_some, each-flat_map, each-together}
+use Rattle.fw_flow.specs.Projection.{events_at}
 
 -- the weight of what is sent for a timed rec
-abbrev pub one_weight : Dataflow → Kind → (Timed → ℕ) → Timed → ℕ
+abbrev one_weight : Dataflow → Kind → (Timed → ℕ) → Timed → ℕ
 one_weight flow kind w r = weigh w (timed_at_some (send_stamp_of_kind flow kind r.at) (recs_for_one kind r.rec))
 
 one-nothing : (w : Timed → ℕ) (at : Option Stamp) (cause : Stamp) → weigh w (timed_at_some at []) ≡ 0
@@ -48,7 +53,7 @@ deliveries-cons u (Deliver e m) vs = omega arith
 deliveries-cons u (Notify p t) vs = omega arith
 
 -- what a node of such a kind sent
-pub one-sent : (sys : System) (p : ℕ) → sends_one_by_one (kind_of sys.flow p) ≡ true → (w : Timed → ℕ) (vs : List Event)
+one-sent : (sys : System) (p : ℕ) → sends_one_by_one (kind_of sys.flow p) ≡ true → (w : Timed → ℕ) (vs : List Event)
     → weigh w (timed_of (sent_by sys p vs)) ≡ weigh (one_weight sys.flow (kind_of sys.flow p) w) (deliveries vs)
 unfolding weigh deliveries sends
 one-sent sys p k w [] = refl
@@ -61,7 +66,7 @@ one-sent sys p k w (v ∷ vs) =
     omega arith
 
 -- what a node of such a kind sends in all
-pub one-outputs : (flow : Dataflow) (kind : Kind) → sends_one_by_one kind ≡ true → (w : Timed → ℕ) (batches : List (List Rec)) (bags : List (List Timed))
+one-outputs : (flow : Dataflow) (kind : Kind) → sends_one_by_one kind ≡ true → (w : Timed → ℕ) (batches : List (List Rec)) (bags : List (List Timed))
     → weigh w (outputs_of_kind flow kind batches bags) ≡ weigh (one_weight flow kind w) (joint_bag bags)
 one-outputs flow kind k w batches bags = ap (weigh w) ((one_by_one_kind kind k).outputs flow batches bags) ∙ weigh-flat_map w _ (joint_bag bags)
 
@@ -76,19 +81,49 @@ timed-at t at q (r ∷ rs) l = elim (cases_Bool (same t at)) [
 ]
 
 -- what is sent at a stamp is sent for recs that send at it
-one-at : (flow : Dataflow) (kind : Kind) (t : Stamp) (q : Rec) (r : Timed) → 0 < one_weight flow kind (one t q) r → send_stamp_of_kind flow kind r.at ≡ Some t
+one-at : (t : Stamp) (q : Rec) (at : Option Stamp) (rs : List Rec) → 0 < weigh (one t q) (timed_at_some at rs) → is_sent_at t at ≡ true
 unfolding weigh
-one-at flow kind t q r l = cases (send_stamp_of_kind flow kind r.at) l
-  where
-    cases : (o : Option Stamp) → 0 < weigh (one t q) (timed_at_some o (recs_for_one kind r.rec)) → o ≡ Some t
-    cases None l = absurd (omega arith)
-    cases (Some at) l = ap (λ s. Some s) (sym (timed-at t at q (recs_for_one kind r.rec) l))
+one-at t q None rs l = absurd (omega arith)
+one-at t q (Some at) rs l = ap (same t) (sym (timed-at t at q rs l)) ∙ same-refl t
 
--- the first bag has each rec that sends at the stamp at most as often as the second
-abbrev pub IsFewerAt : Dataflow → Kind → Stamp → List Timed → List Timed → Type 0
-IsFewerAt flow kind t xs ys = (u : Stamp) (r : Rec) → send_stamp_of_kind flow kind u ≡ Some t → weigh (one u r) xs ≤ weigh (one u r) ys
+-- fewer recs make such a node send fewer
+alone-fewer : (send : Stamp → Option Stamp) (made : Rec → List Rec)
+    → MakesFewer (λ t s. is_sent_at t (send s)) (λ bags. flat_map (λ r. timed_at_some (send r.at) (made r.rec)) (joint_bag bags))
+alone-fewer send made t x bag cag ds f =
+    let each : Timed → List Timed = λ r. timed_at_some (send r.at) (made r.rec) in
+    let weight : Timed → ℕ = λ r. weigh (one t x) (each r) in
+    let xs = joint_bag (map bag ds) in
+    let ys = joint_bag (map cag ds) in
+    let a : weigh (one t x) (flat_map each xs) ≡ weigh weight xs = weigh-flat_map (one t x) each xs in
+    let b : weigh (one t x) (flat_map each ys) ≡ weigh weight ys = weigh-flat_map (one t x) each ys in
+    let c = weigh-less weight xs ys (λ u r l. together-fewer (λ s. is_sent_at t (send s)) bag cag ds f u r (one-at t x (send u) (made r) l)) in
+    omega arith
 
--- fewer recs make a node of such a kind send fewer
-pub one-fewer : (flow : Dataflow) (kind : Kind) (t : Stamp) (q : Rec) (xs ys : List Timed) → IsFewerAt flow kind t xs ys
-    → weigh (one_weight flow kind (one t q)) xs ≤ weigh (one_weight flow kind (one t q)) ys
-one-fewer flow kind t q xs ys f = weigh-less (one_weight flow kind (one t q)) xs ys (λ u r l. f u r (one-at flow kind t q (at_stamp u r) l))
+-- what is asked of what is sent for each rec alone
+pub each_alone : (within out : Bounds) (send : Stamp → Option Stamp) (made : Rec → List Rec)
+    → ((t s : Stamp) → in_domain within t ≡ true → send t ≡ Some s → in_domain out s ≡ true) → (alone at_once inner : Type 0)
+    → IsLawfulWhole within out (λ t s. is_sent_at t (send s)) alone at_once inner (λ batches bags. flat_map (λ r. timed_at_some (send r.at) (made r.rec)) (joint_bag bags))
+each_alone within out send made lands alone at_once inner = record {
+  lands = λ batches bags l a.
+      let P : Timed → Type 0 = λ r. in_domain within r.at ≡ true in
+      let Q : Timed → Type 0 = λ r. in_domain out r.at ≡ true in
+      each-flat_map P Q (λ (r : Timed). timed_at_some (send r.at) (made r.rec))
+      (λ r i. each-timed_at_some (λ s. in_domain out s ≡ true) (send r.at) (λ s e. lands r.at s i e) (made r.rec)) (joint_bag bags) (each-together P bags a);
+  by_parts = λ k batches bags t.
+      let each : Timed → List Timed = λ r. timed_at_some (send r.at) (made r.rec) in
+      part-flat_map (same t) (λ (r : Timed). is_sent_at t (send r.at)) each each (λ r. part-timed_at_some t (send r.at) (made r.rec)) (joint_bag bags)
+      ∙ ap (λ rs. part (same t) (flat_map each rs)) (sym (together-part (λ s. is_sent_at t (send s)) bags));
+  fewer = λ k batches t x bag cag ds f. alone-fewer send made t x bag cag ds f;
+  agrees = λ k batches t x bag cag ds f.
+      as_many (λ t s. is_sent_at t (send s)) (λ bags. flat_map (λ r. timed_at_some (send r.at) (made r.rec)) (joint_bag bags)) (alone-fewer send made) t x bag cag ds f;
+}
+
+-- what a node of such a kind sent for what was delivered
+pub one-arrives : (kind : Kind) → sends_one_by_one kind ≡ true → SendsForDelivered kind
+one-arrives kind k sys h p t n batches x =
+    let flow = sys.flow in
+    let is = ap sends_one_by_one n.is_kind ∙ k in
+    one-sent sys p is (one t x) (events_at flow p h)
+    ∙ deliveries_together flow p n.declared (one_weight flow (kind_of flow p) (one t x)) h
+    ∙ sym (one-outputs flow (kind_of flow p) is (one t x) batches (map (delivered_bag h) (in_edges flow p)))
+    ∙ ap (λ z. weigh (one t x) (outputs_of_kind flow z batches (map (delivered_bag h) (in_edges flow p)))) n.is_kind

@@ -1,5 +1,5 @@
 -- Where the nodes of most kinds send: at the stamp of the event; and outputs nowhere.
-use Rattle.std.proofs.Common.{◌≡◌, ◌↔◌, true, Some, None, refl, sym, Option}
+use Rattle.std.proofs.Common.{◌≡◌, ◌↔◌, true, Some, None, refl, sym, Option, Bool, [], arith}
 use Rattle.std.proofs.lemmas.Bool.{and_from}
 use Rattle.fw_time.specs.Stamp.{Stamp, leq, in_domain, up_to}
 use Rattle.fw_time.specs.declared.stamp.Bounds.{Bounds}
@@ -8,6 +8,7 @@ use Rattle.fw_frontier.specs.Frontier.{Frontier, IsFrontier}
 use Rattle.fw_model.specs.Senders.{IsLawfulSender}
 use Rattle.fw_model.specs.Sending.{IsSentFrom, SendsAbove, SendsWithin}
 use Rattle.fw_model.proofs.StampLaws.{leq_from, leq_to, some_is}
+use Rattle.fw_model.specs.Wholes.{IsLawfulWhole}
 
 same_phi : (bounds : Bounds) (f : Frontier) → IsFrontier bounds f → (u : Stamp) → in_domain bounds u ≡ true → (f u ≡ true) ↔ IsSentFrom bounds (λ t. Some t) f u
 same_phi bounds f fr u i =
@@ -76,3 +77,13 @@ nowhere b by_count =
   where
     none_some : (s : Stamp) → ◌≡◌ {A = Option Stamp} None (Some s) → ⊥
     none_some s e = cc
+
+-- what is asked of what it sends in all: nothing
+pub nothing_made : (within out : Bounds) (takes : Stamp → Stamp → Bool) (alone at_once inner : Type 0)
+    → IsLawfulWhole within out takes alone at_once inner (λ batches bags. [])
+nothing_made within out takes alone at_once inner = record {
+  lands = λ batches bags l a. tt;
+  by_parts = λ k batches bags t. refl;
+  fewer = λ k batches t x bag cag ds f. omega arith;
+  agrees = λ k batches t x bag cag ds f. refl;
+}

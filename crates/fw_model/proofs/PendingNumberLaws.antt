@@ -12,7 +12,7 @@ use Rattle.fw_flow.specs.Counting.{how_many}
 use Rattle.fw_flow.specs.declared.event.Event.{Event}
 use Rattle.fw_flow.specs.declared.event.Event.TheVariants.{Inject, Deliver, Notify}
 use Rattle.fw_flow.specs.declared.event.Message.{Message}
-use Rattle.fw_flow.specs.declared.kind.Kind.{Kind}
+use Rattle.fw_flow.specs.Kind.{Kind}
 use Rattle.fw_flow.specs.declared.kind.Kind.TheVariants.{Ledger}
 use Rattle.fw_flow.specs.Dataflow.{System, kind_of, sender, greatest_number, is_of_numbers, is_numbered, is_input_kind, is_output_kind}
 use Rattle.fw_flow.specs.NodeFunction.{numbered_messages, sequence_sent, sent_by}
@@ -29,8 +29,7 @@ use Rattle.fw_flow.proofs.MessageLaws.{among-each, message_cmp-equal}
 use Rattle.fw_model.proofs.ClosedLaws.{numbered-ascend}
 use Rattle.fw_model.proofs.DomainLaws.{output-sent}
 use Rattle.fw_model.proofs.InputLaws.{timed_of-append}
-use Rattle.fw_model.proofs.KindLaws.{ledger_edge, ledger-numbered}
-use Rattle.fw_model.proofs.LedgerLaws.{AreNumbered, numbered-timed, ledger-sent, length-timed_of}
+use Rattle.fw_model.proofs.LedgerLaws.{AreNumbered, numbered-timed, ledger-sent, length-timed_of, ledger_edge, ledger-numbered}
 use Rattle.fw_model.proofs.LegalLaws.{edge_domains, only_inputs_inject}
 use Rattle.fw_model.proofs.OncePerNumberLaws.{any_at}
 use Rattle.fw_model.proofs.SentLaws.{copy, is_among-copies, less-weigh, delivered-was_sent, timed_message, timed_of, timed_of-weigh}

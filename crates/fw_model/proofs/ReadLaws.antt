@@ -12,7 +12,7 @@ use Rattle.fw_frontier.specs.Frontier.{Frontier}
 use Rattle.fw_flow.specs.declared.event.Event.{Event}
 use Rattle.fw_flow.specs.declared.event.Event.TheVariants.{Inject, Deliver, Notify}
 use Rattle.fw_flow.specs.declared.event.Message.{Message}
-use Rattle.fw_flow.specs.declared.kind.Kind.{Kind}
+use Rattle.fw_flow.specs.Kind.{Kind}
 use Rattle.fw_flow.specs.declared.kind.Kind.TheVariants.{Distinct, Join, Sum, Total, Sequence, Ledger}
 use Rattle.fw_flow.specs.Dataflow.{System, send_stamp_of_kind}
 use Rattle.fw_flow.specs.NodeFunction.{event_stamp, rec_of_delivery, delivered_recs, recs_on_delivery, recs_on_notification, recs_on, numbered_messages, sequence_sent, messages_at_some, sends_of_kind}

@@ -9,7 +9,7 @@ use Rattle.fw_time.specs.declared.stamp.Bounds.{Bounds}
 use Rattle.fw_frontier.specs.Frontier.{Frontier, IsFrontier, Within, meet}
 use Rattle.fw_flow.specs.declared.event.Event.{Event}
 use Rattle.fw_flow.specs.declared.event.Event.TheVariants.{Inject, Deliver, Notify}
-use Rattle.fw_flow.specs.declared.kind.Kind.{Kind}
+use Rattle.fw_flow.specs.Kind.{Kind}
 use Rattle.fw_flow.specs.declared.kind.Kind.TheVariants.{Input}
 use Rattle.fw_flow.specs.Dataflow.{greatest_of_kind, System, Dataflow, kind_of, sender, receiver, greatest_number, domain_of_kind, out_domain_of_kind, bounds_of, bounds_of_domain, batches_of, is_input_kind, is_sequence_kind}
 use Rattle.fw_flow.specs.NodeFunction.{event_node, event_stamp, sends, sent_by}

@@ -10,7 +10,7 @@ use Rattle.fw_frontier.specs.Frontier.{Frontier, IsFrontier, everything}
 use Rattle.fw_flow.specs.declared.choice.Cut.TheVariants.{Present}
 use Rattle.fw_flow.specs.declared.event.Event.{Event}
 use Rattle.fw_flow.specs.declared.event.Message.{Message}
-use Rattle.fw_flow.specs.declared.kind.Kind.{Kind}
+use Rattle.fw_flow.specs.Kind.{Kind}
 use Rattle.fw_flow.specs.Dataflow.{System, Dataflow, kind_of, bounds_of, HasEpochs}
 use Rattle.fw_flow.specs.NodeFunction.{event_stamp, sends_of_kind, sends, sent_by}
 use Rattle.fw_flow.specs.Projection.{events_at, all_inside}

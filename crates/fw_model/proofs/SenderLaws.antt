@@ -1,5 +1,5 @@
 -- Where the nodes of each kind send is as the model asks: the one law of this with a case for each kind.
-use Rattle.fw_flow.specs.declared.kind.Kind.{Kind}
+use Rattle.fw_flow.specs.Kind.{Kind}
 use Rattle.fw_flow.specs.declared.kind.Kind.TheVariants.{OutputEpoch, OutputNumber, Enter, Feedback, Leave, Sequence, Regroup}
 use Rattle.fw_flow.specs.Dataflow.{Dataflow, greatest_of_kind}
 use Rattle.fw_model.specs.Sending.{SendsByStamp, SendsByCount}

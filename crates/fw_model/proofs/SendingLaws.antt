@@ -3,7 +3,7 @@ use Rattle.std.proofs.Common.{◌≡◌, ◌↔◌, ℕ, Bool, true, ◌&&◌, L
 use Rattle.std.proofs.lemmas.Bool.{and_parts, and_from}
 use Rattle.fw_time.specs.Stamp.{Stamp, in_domain}
 use Rattle.fw_frontier.specs.Frontier.{Frontier}
-use Rattle.fw_flow.specs.declared.kind.Kind.{Kind}
+use Rattle.fw_flow.specs.Kind.{Kind}
 use Rattle.fw_flow.specs.Dataflow.{greatest_of_kind, System, Dataflow, kind_of, sender, domain_of_kind, out_domain_of_kind, bounds_of, bounds_of_domain, send_stamp, send_stamp_of_kind, bounds_of_edge}
 use Rattle.fw_flow.specs.declared.event.Event.{Event}
 use Rattle.fw_flow.specs.Projection.{sent_count, phi_of_kind, phi, psi}

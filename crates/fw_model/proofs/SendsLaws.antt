@@ -8,7 +8,7 @@ use Rattle.fw_time.specs.Stamp.{Stamp}
 use Rattle.fw_time.proofs.StampLaws.{leq-refl}
 use Rattle.fw_flow.specs.declared.event.Event.{Event}
 use Rattle.fw_flow.specs.declared.event.Message.{Message}
-use Rattle.fw_flow.specs.declared.kind.Kind.{Kind}
+use Rattle.fw_flow.specs.Kind.{Kind}
 use Rattle.fw_flow.specs.Dataflow.{System, Dataflow, kind_of, sender, send_stamp, send_stamp_of_kind, is_sequence_kind}
 use Rattle.fw_flow.specs.NodeFunction.{event_stamp, recs_on, messages_at, messages_at_some, sends_of_kind, sends, sent_by}
 use Rattle.fw_flow.specs.Projection.{events_at, all_inside, psi}

@@ -1,5 +1,5 @@
 -- In a legal history what was sent is a part of the denotation.
-use Rattle.std.proofs.Common.{◌+◌, ◌≡◌, ℕ, ◌≤◌, true, false, cond, not, ◌&&◌, List, [], ◌∷◌, map, Some, refl, sym, ap, subst, ◌∙◌, inl, inr, arith}
+use Rattle.std.proofs.Common.{◌+◌, ◌≡◌, ℕ, ◌≤◌, true, false, cond, not, ◌&&◌, List, [], ◌∷◌, map, refl, sym, ap, subst, ◌∙◌, inl, inr, arith}
 use Rattle.std.specs.List.{AllByRecursion}
 use Rattle.std.proofs.lemmas.Bool.{cases_Bool, cases_lt}
 use Rattle.fw_time.specs.Stamp.{Stamp, leq}
@@ -8,7 +8,7 @@ use Rattle.fw_bag.specs.declared.rec.Rec.{Rec}
 use Rattle.fw_bag.specs.Bag.{how_often}
 use Rattle.fw_flow.specs.declared.event.Event.{Event}
 use Rattle.fw_flow.specs.declared.kind.Kind.TheVariants.{Ledger}
-use Rattle.fw_flow.specs.Dataflow.{System, kind_of, sender, in_edges, batches_of, is_notified_kind, send_stamp_of_kind}
+use Rattle.fw_flow.specs.Dataflow.{System, kind_of, sender, in_edges, batches_of, is_notified_kind}
 use Rattle.fw_flow.specs.NodeFunction.{recs_on_notification}
 use Rattle.fw_flow.specs.Projection.{events_at}
 use Rattle.fw_flow.specs.WellFormed.{IsWellFormedSystem}
@@ -19,17 +19,17 @@ use Rattle.fw_model.specs.LawsOfDeliveries.{SentIsSubBagOfDenotation, DeliveredI
 use Rattle.fw_model.proofs.KindSorts.{is_inner, sort_of, sends_at_once, sends_sums, inner_sort, once-not_notified, sums-stamp, sums-notified}
 use Rattle.fw_model.proofs.WeightLaws.{weigh, how_often-where, one}
 use Rattle.fw_model.proofs.SentLaws.{timed_of, next_delivered-lighter}
-use Rattle.fw_model.proofs.ArrivalLaws.{together-weigh}
+use Rattle.fw_model.proofs.ArrivalLaws.{together-weigh, delivered_bag}
 use Rattle.fw_model.proofs.TimedCounts.{how_often-recs_at, sender_bag, sender_sent, sent-fewer}
 use Rattle.fw_model.proofs.InputLaws.{input-lighter}
-use Rattle.fw_model.proofs.OneByOneLaws.{IsFewerAt}
 use Rattle.fw_model.proofs.NotifiedLaws.{sums-sent, notified-settled}
-use Rattle.fw_model.proofs.LedgerLaws.{AreNumbered, totals-none}
-use Rattle.fw_model.proofs.KindLaws.{AgreeFor, delivered_bag, outputs-fewer, outputs-same, arrives, deliveries-one, ledger_edge, ledger-numbered}
+use Rattle.fw_model.proofs.LedgerLaws.{AreNumbered, totals-none, deliveries-one, ledger_edge, ledger-numbered}
 use Rattle.fw_model.proofs.DomainLaws.{inner_edge, output-sent, each_in_edge, has_epochs}
 use Rattle.fw_model.proofs.DenotedLaws.{sequence-fewer}
 use Rattle.fw_model.proofs.PrefixLaws.{closed-denoted, all_denoted, sequenced}
 use Rattle.fw_model.proofs.OncePerNumberLaws.{any_at, one-any, some_at_stamp, denoted-once, agree-below}
+use Rattle.fw_model.specs.Wholes.{IsFewerWhere, AgreeWhere, takes_part_of}
+use Rattle.fw_model.proofs.WholeLaws.{makes_lawfully, arrives, takes-sent}
 
 -- each rec was delivered at most as often as it is in the family
 abbrev IsDeliveredWithin : Family → List Event → Type 0
@@ -59,7 +59,15 @@ sent_for sys h family k e is t q o =
     let flow = sys.flow in
     let w = k.well_formed in
     let p = sender flow e in
-    arrives sys h w.flow (has_epochs sys w) k.legal p (w.flow.senders_declared e (inner_edge flow e is)) (kind_of flow p) refl is (batches_of sys p) t q o
+    arrives (kind_of flow p) is sys h p t
+    (record {
+      well_formed = w.flow;
+      epochs = has_epochs sys w;
+      legal = k.legal;
+      declared = w.flow.senders_declared e (inner_edge flow e is);
+      is_kind = refl;
+      paid = o;
+    }) (batches_of sys p) q
 
 once-within : (sys : System) (h : List Event) (family : Family) → Known sys h family → (e : ℕ) → is_inner (kind_of sys.flow (sender sys.flow e)) ≡ true
     → sends_at_once (kind_of sys.flow (sender sys.flow e)) ≡ true → (t : Stamp) (q : Rec) → IsSentWithin sys h family e t q
@@ -68,8 +76,8 @@ once-within sys h family k e is once t q =
     let p = sender flow e in
     let kind = kind_of flow p in
     let a = sent_for sys h family k e is t q (not_owed sys h p t (once-not_notified kind once)) in
-    let b = outputs-fewer flow kind once t q (batches_of sys p) (delivered_bag h) family (in_edges flow p)
-    (each_in_edge flow p (λ d. IsFewerAt flow kind t (delivered_bag h d) (family d)) (λ d at u r i. k.within d u r)) in
+    let b = (makes_lawfully flow kind).fewer once (batches_of sys p) t q (delivered_bag h) family (in_edges flow p)
+    (each_in_edge flow p (λ d. IsFewerWhere (takes_part_of flow kind t) (delivered_bag h d) (family d)) (λ d at u r i. k.within d u r)) in
     omega arith
 
 sums-within : (sys : System) (h : List Event) (family : Family) → Known sys h family → (e : ℕ) → is_inner (kind_of sys.flow (sender sys.flow e)) ≡ true
@@ -85,10 +93,11 @@ sums-within sys h family k e is sums t q =
       | inl i ↦
           let settled = notified-settled sys h w.flow epochs k.legal p t i in
           let a = sent_for sys h family k e is t q (settled.paid t (leq-refl t)) in
-          let b = outputs-same flow kind is t q (batches_of sys p) (delivered_bag h) family (in_edges flow p)
-          (each_in_edge flow p (λ d. AgreeFor flow kind t (delivered_bag h d) (family d)) (λ d at u s r j below.
+          let b = (makes_lawfully flow kind).agrees is (batches_of sys p) t q (delivered_bag h) family (in_edges flow p)
+          (each_in_edge flow p (λ d. AgreeWhere (takes_part_of flow kind t) (delivered_bag h d) (family d)) (λ d at u r j.
+          let v = takes-sent flow kind is t u j in
           closed-denoted sys h family k.legal (all_denoted sys h family w k.legal k.denotation) p t settled.closed u
-          (ap (λ z. leq z t) (sums-stamp sys kind sums u s j) ∙ below) d at r)) in
+          (ap (λ z. leq z t) (sums-stamp sys kind sums u v.0 v.1) ∙ v.2) d at r)) in
           omega arith
       | inr i ↦
           let a = sums-sent sys h w.flow epochs k.legal p sums n t q
@@ -114,12 +123,11 @@ ledger-within sys h family k e ledger t q =
     elim (cases_lt 0 (weigh (any_at t) came)) [
       | inl some ↦
           let r = some_at_stamp t came some in
-          let b = outputs-same flow kind is t q (batches_of sys p) (delivered_bag h) family (in_edges flow p)
-          (subst (AllByRecursion (λ z. AgreeFor flow kind t (delivered_bag h z) (family z))) (sym edge.only) (
-            (λ u s x j below.
-                let i : u ≡ s = stamp_is u s (sym (ap (λ z. send_stamp_of_kind flow z u) ledger) ∙ j) in
+          let b = (makes_lawfully flow kind).agrees is (batches_of sys p) t q (delivered_bag h) family (in_edges flow p)
+          (subst (AllByRecursion (λ z. AgreeWhere (takes_part_of flow kind t) (delivered_bag h z) (family z))) (sym edge.only) (
+            (λ u x j.
                 agree-below came (family d) numbered (k.within d)
-                (λ y. denoted-once sys family w.flow k.denotation d edge.numbered y) t r.0 r.1 u x (ap (λ z. leq z t) i ∙ below)),
+                (λ y. denoted-once sys family w.flow k.denotation d edge.numbered y) t r.0 r.1 u x (sym (ap (λ z. takes_part_of flow z t u) ledger) ∙ j)),
             tt,
           )) in
           omega arith
@@ -133,9 +141,6 @@ ledger-within sys h family k e ledger t q =
           omega arith) in
           omega arith
     ]
-  where
-    stamp_is : (u s : Stamp) → Some u ≡ Some s → u ≡ s
-    stamp_is u s e = cc
 
 sent_within : (sys : System) (h : List Event) (family : Family) → Known sys h family → (e : ℕ) (t : Stamp) (q : Rec) → IsSentWithin sys h family e t q
 sent_within sys h family k e t q =

@@ -1,23 +1,27 @@
 -- Sums by key depend on how often each rec is there, and not on the order.
-use Rattle.std.proofs.Common.{◌≡◌, ℕ, ◌+◌, ◌*◌, ◌/◌, ◌%◌, ◌^◌, Bool, true, false, cond, ◌&&◌, ◌||◌, ◌==◌, nat_lt, List, [], ◌∷◌, map, refl, sym, ap, ◌∙◌, inl, inr, arith}
-use Rattle.std.specs.List.{flat_map}
+use Rattle.std.proofs.Common.{◌≡◌, ℕ, ◌+◌, ◌*◌, ◌/◌, ◌%◌, ◌^◌, Bool, true, false, cond, ◌&&◌, ◌||◌, ◌==◌, nat_lt, List, [], ◌∷◌, map, refl, sym, ap, ◌∙◌, inl, inr, arith, ◌<◌}
+use Rattle.std.specs.List.{flat_map, AllByRecursion}
 use Rattle.std.specs.Prelude.{filter}
 use Rattle.std.specs.Ordering.{is_eq, nat_cmp}
 use Rattle.std.proofs.Math.Nat.{div-add-mod, add-mul-mod_self_left}
-use Rattle.std.proofs.lemmas.Bool.{or_parts, cond-true, cond-false, cases_Bool, eqb-true, eqb-false, eq-eqb, ne_eqb, lt-ltb}
+use Rattle.std.proofs.lemmas.Bool.{or_parts, cond-true, cond-false, cases_Bool, eqb-true, eqb-false, eq-eqb, ne_eqb, lt-ltb, cond_both}
 use Rattle.fw_lemmas.proofs.Each.{each-one}
 use Rattle.fw_lemmas.proofs.Orderings.{then_parts, nat_cmp-test}
-use Rattle.fw_time.specs.Stamp.{Stamp, leq, same}
+use Rattle.fw_time.specs.Stamp.{Stamp, leq, same, in_domain}
 use Rattle.fw_bag.specs.declared.rec.Rec.{Rec}
 use Rattle.fw_bag.specs.Rec.{rec_cmp}
 use Rattle.fw_bag.specs.Bag.{how_often}
 use Rattle.fw_bag.specs.Keyed.{plus, value_sum, has_key, distinct_keys, sums_of}
-use Rattle.fw_flow.specs.WholeBags.{Timed, timed_recs, timed_where, has_stamp, distinct_stamps, sums_at, totals_at}
-use Rattle.fw_model.proofs.WeightLaws.{weigh, weigh-flat_map, weigh-map, weigh-same, weigh-equal, one}
-use Rattle.fw_model.proofs.ArrivalLaws.{at_edge}
+use Rattle.fw_flow.specs.WholeBags.{Timed, timed_recs, timed_where, has_stamp, distinct_stamps, sums_at, totals_at, joint_bag}
+use Rattle.fw_model.proofs.WeightLaws.{weigh, weigh-flat_map, weigh-map, weigh-same, weigh-equal, one, how_often-where, at_stamp}
+use Rattle.fw_model.proofs.ArrivalLaws.{at_edge, together-agrees}
 use Rattle.fw_model.proofs.DistinctLaws.{passing, same-swap}
 use Rattle.fw_model.proofs.JoinLaws.{weigh-timed}
 use Rattle.fw_model.proofs.StampLaws.{same-is, same-refl}
+use Rattle.fw_time.specs.declared.stamp.Bounds.{Bounds}
+use Rattle.fw_model.specs.Wholes.{part, IsLawfulWhole, AgreeWhere, MakesTheSame}
+use Rattle.fw_model.proofs.OutputLaws.{list_any-filter, part-flat_map, part-timed, recs_where-part, together-part, each-timed, each-flat_map, each-together, At}
+use Rattle.fw_time.proofs.StampLaws.{leq-refl}
 
 -- ---- weights of recs
 
@@ -227,3 +231,112 @@ how_often-passing test q (r ∷ rs) = cases (test r.at) (how_often-passing test 
         → how_often q (map (λ z. z.rec) (cond b (r ∷ filter (λ z. test z.at) rs) (filter (λ z. test z.at) rs))) ≡ cond (b && is_eq (rec_cmp q r.rec)) 1 0 + weigh (passing test q) rs
     cases true h = one_more (is_eq (rec_cmp q r.rec)) (how_often q (timed_where test rs)) ∙ ap (λ n. cond (is_eq (rec_cmp q r.rec)) 1 0 + n) h
     cases false h = h ∙ omega arith
+
+-- ---- bags that agree
+
+-- at the stamp the recs of both are the same
+pub same_now : (t : Stamp) (xs ys : List Timed) → ((q : Rec) → weigh (one t q) xs ≡ weigh (one t q) ys) → AreSameBags (timed_where (same t) xs) (timed_where (same t) ys)
+same_now t xs ys k q = how_often-where t q xs ∙ k q ∙ sym (how_often-where t q ys)
+
+passing-stamp : (t : Stamp) (q : Rec) (u : Stamp) (r : Rec) → 0 < passing (λ s. leq s t) q (at_stamp u r) → leq u t ≡ true
+passing-stamp t q u r l = elim (cases_Bool (leq u t)) [
+  | inl e ↦ e
+  | inr e ↦ let z : passing (λ s. leq s t) q (at_stamp u r) ≡ 0 = ap (λ b. cond (b && is_eq (rec_cmp q r)) 1 0) e in absurd (omega arith)
+]
+
+-- up to it
+pub same_upto : (t : Stamp) (xs ys : List Timed) → AgreeWhere (λ s. leq s t) xs ys → AreSameBags (timed_where (λ s. leq s t) xs) (timed_where (λ s. leq s t) ys)
+same_upto t xs ys k q =
+    how_often-passing (λ s. leq s t) q xs
+    ∙ weigh-equal (passing (λ s. leq s t) q) xs ys (λ u r l. k u r (passing-stamp t q u r l))
+    ∙ sym (how_often-passing (λ s. leq s t) q ys)
+
+-- ---- what is asked of what sums and totals send in all
+
+each-stamp : (P : Stamp → Type 0) (rs : List Timed) → AllByRecursion (At P) rs → AllByRecursion P (distinct_stamps rs)
+each-stamp P [] a = tt
+each-stamp P (r ∷ rs) a =
+    cond_both (has_stamp r.at rs) (distinct_stamps rs) (r.at ∷ distinct_stamps rs) (AllByRecursion P)
+    (λ e. each-stamp P rs a.1) (λ e. (a.0, each-stamp P rs a.1))
+
+sums-part : (t : Stamp) (ts : List Stamp) (rs : List Timed) → part (same t) (sums_at ts rs) ≡ part (same t) (sums_at (filter (same t) ts) (part (same t) rs))
+sums-part t ts rs =
+    let sums : List Rec → List Rec = λ qs. sums_of (distinct_keys qs) qs in
+    part-flat_map (same t) (same t) (λ u. timed_recs u (sums (timed_where (same u) rs))) (λ u. timed_recs u (sums (timed_where (same u) (part (same t) rs))))
+    (λ u. part-timed t u (sums (timed_where (same u) rs)) (sums (timed_where (same u) (part (same t) rs))) (λ e. ap sums (recs_where-part t u e rs))) ts
+
+distinct_stamps-part : (t : Stamp) (rs : List Timed) → filter (same t) (distinct_stamps rs) ≡ distinct_stamps (part (same t) rs)
+distinct_stamps-part t [] = refl
+distinct_stamps-part t (r ∷ rs) =
+    cond_both (has_stamp r.at rs) (distinct_stamps rs) (r.at ∷ distinct_stamps rs) (λ ts. filter (same t) ts ≡ distinct_stamps (part (same t) (r ∷ rs)))
+    (λ a. step (distinct_stamps-part t rs) a)
+    (λ a. other (distinct_stamps-part t rs) a)
+  where
+    whole : same t r.at ≡ true → has_stamp r.at (part (same t) rs) ≡ has_stamp r.at rs
+    whole e = list_any-filter (λ (x : Timed). same x.at r.at) (λ (x : Timed). same t x.at) (λ x k. ap (same t) (same-is x.at r.at k) ∙ e) rs
+
+    step : filter (same t) (distinct_stamps rs) ≡ distinct_stamps (part (same t) rs) → has_stamp r.at rs ≡ true
+        → filter (same t) (distinct_stamps rs) ≡ distinct_stamps (part (same t) (r ∷ rs))
+    step ih a =
+        cond_both (same t r.at) (r ∷ part (same t) rs) (part (same t) rs) (λ ys. filter (same t) (distinct_stamps rs) ≡ distinct_stamps ys)
+        (λ e. ih ∙ sym (cond-true (has_stamp r.at (part (same t) rs)) (distinct_stamps (part (same t) rs)) (r.at ∷ distinct_stamps (part (same t) rs)) (whole e ∙ a)))
+        (λ e. ih)
+
+    other : filter (same t) (distinct_stamps rs) ≡ distinct_stamps (part (same t) rs) → has_stamp r.at rs ≡ false
+        → filter (same t) (r.at ∷ distinct_stamps rs) ≡ distinct_stamps (part (same t) (r ∷ rs))
+    other ih a = elim (cases_Bool (same t r.at)) [
+      | inl e ↦
+          cond-true (same t r.at) (r.at ∷ filter (same t) (distinct_stamps rs)) (filter (same t) (distinct_stamps rs)) e
+          ∙ ap (λ ts. r.at ∷ ts) ih
+          ∙ sym (cond-false (has_stamp r.at (part (same t) rs)) (distinct_stamps (part (same t) rs)) (r.at ∷ distinct_stamps (part (same t) rs)) (whole e ∙ a))
+          ∙ sym (ap distinct_stamps (cond-true (same t r.at) (r ∷ part (same t) rs) (part (same t) rs) e))
+      | inr e ↦
+          cond-false (same t r.at) (r.at ∷ filter (same t) (distinct_stamps rs)) (filter (same t) (distinct_stamps rs)) e
+          ∙ ih
+          ∙ sym (ap distinct_stamps (cond-false (same t r.at) (r ∷ part (same t) rs) (part (same t) rs) e))
+    ]
+
+sum-agrees : MakesTheSame (λ t s. same t s) (λ bags. sums_at (distinct_stamps (joint_bag bags)) (joint_bag bags))
+sum-agrees t x bag cag ds k =
+    let xs = joint_bag (map bag ds) in
+    let ys = joint_bag (map cag ds) in
+    let now = same_now t xs ys (λ q. together-agrees (same t) bag cag ds k t q (same-refl t)) in
+    sum-outputs t x xs
+    ∙ sums-same x (timed_where (same t) xs) (timed_where (same t) xs) (timed_where (same t) ys) (timed_where (same t) ys) now now
+    ∙ sym (sum-outputs t x ys)
+
+total-agrees : MakesTheSame (λ t s. leq s t) (λ bags. totals_at (distinct_stamps (joint_bag bags)) (joint_bag bags))
+total-agrees t x bag cag ds k =
+    let xs = joint_bag (map bag ds) in
+    let ys = joint_bag (map cag ds) in
+    let a = together-agrees (λ s. leq s t) bag cag ds k in
+    total-outputs t x xs
+    ∙ sums-same x (timed_where (same t) xs) (timed_where (λ s. leq s t) xs) (timed_where (same t) ys) (timed_where (λ s. leq s t) ys)
+    (same_now t xs ys (λ q. a t q (leq-refl t))) (same_upto t xs ys a)
+    ∙ sym (total-outputs t x ys)
+
+pub each_sum : (bounds : Bounds) (alone at_once inner : Type 0) → (at_once → ⊥)
+    → IsLawfulWhole bounds bounds (λ t s. same t s) alone at_once inner (λ batches bags. sums_at (distinct_stamps (joint_bag bags)) (joint_bag bags))
+each_sum bounds alone at_once inner m = record {
+  lands = λ batches bags l a.
+      let P : Stamp → Type 0 = λ s. in_domain bounds s ≡ true in
+      each-flat_map P (At P) _ (λ t i. each-timed P t i _) (distinct_stamps (joint_bag bags)) (each-stamp P (joint_bag bags) (each-together (At P) bags a));
+  by_parts = λ k batches bags t.
+      let rs = joint_bag bags in
+      sums-part t (distinct_stamps rs) rs
+      ∙ ap (λ ts. part (same t) (sums_at ts (part (same t) rs))) (distinct_stamps-part t rs)
+      ∙ ap (λ qs. part (same t) (sums_at (distinct_stamps qs) qs)) (sym (together-part (same t) bags));
+  fewer = λ k. absurd (m k);
+  agrees = λ k batches t x bag cag ds f. sum-agrees t x bag cag ds f;
+}
+
+pub each_total : (bounds : Bounds) (alone at_once inner : Type 0) → (alone → ⊥) → (at_once → ⊥)
+    → IsLawfulWhole bounds bounds (λ t s. leq s t) alone at_once inner (λ batches bags. totals_at (distinct_stamps (joint_bag bags)) (joint_bag bags))
+each_total bounds alone at_once inner n m = record {
+  lands = λ batches bags l a.
+      let P : Stamp → Type 0 = λ s. in_domain bounds s ≡ true in
+      each-flat_map P (At P) _ (λ t i. each-timed P t i _) (distinct_stamps (joint_bag bags)) (each-stamp P (joint_bag bags) (each-together (At P) bags a));
+  by_parts = λ k batches bags t. absurd (n k);
+  fewer = λ k. absurd (m k);
+  agrees = λ k batches t x bag cag ds f. total-agrees t x bag cag ds f;
+}

@@ -1,4 +1,5 @@
 -- The weight of a list: the sum of a number of each element.
+unfoldable pub use Rattle.fw_model.specs.Weights.{weigh, one}
 use Rattle.std.proofs.Common.{◌≡◌, ℕ, zero, suc, ◌+◌, ◌<◌, ◌≤◌, Bool, true, false, cond, ◌&&◌, List, [], ◌∷◌, ◌++◌, map, refl, ap, ◌∙◌, inl, inr, arith}
 use Rattle.std.proofs.Math.Bool.{and-false}
 use Rattle.std.specs.List.{AllByRecursion, flat_map}
@@ -12,11 +13,6 @@ use Rattle.fw_bag.specs.Bag.{how_often}
 use Rattle.fw_bag.proofs.RecLaws.{is_eq-same, rec_cmp-refl}
 use Rattle.fw_flow.specs.WholeBags.{Timed, timed_where}
 use Rattle.fw_model.proofs.StampLaws.{same-is, same-refl}
-
--- the sum of the weights of the elements
-unfoldable pub weigh : {A : Type 0} → (A → ℕ) → List A → ℕ
-weigh w [] = 0
-weigh w (x ∷ xs) = w x + weigh w xs
 
 pub weigh-append : {A : Type 0} (w : A → ℕ) (xs ys : List A) → weigh w (xs ++ ys) ≡ weigh w xs + weigh w ys
 unfolding weigh
@@ -53,10 +49,6 @@ weigh-none w (x ∷ xs) a = let h = weigh-none w xs a.1 in let e = a.0 in omega 
 -- whether a timed rec is this rec at this stamp
 abbrev pub is_at : Stamp → Rec → Timed → Bool
 is_at t q x = same t x.at && is_eq (rec_cmp q x.rec)
-
--- 1 for this rec at this stamp, and else 0
-unfoldable pub one : Stamp → Rec → Timed → ℕ
-one t q x = cond (is_at t q x) 1 0
 
 -- a rec at a stamp
 abbrev pub at_stamp : Stamp → Rec → Timed

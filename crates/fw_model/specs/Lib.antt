@@ -56,4 +56,6 @@ pub mod Steps
 pub mod Thinned
 pub mod Told
 pub mod Unions
+pub mod Weights
+pub mod Wholes
 pub mod Writes

@@ -3,7 +3,7 @@ use Rattle.std.specs.Prelude.{◌≡◌, ◌↔◌, ℕ, ◌≤◌, true, false,
 use Rattle.fw_time.specs.declared.stamp.Bounds.{Bounds}
 use Rattle.fw_time.specs.Stamp.{Stamp, leq, in_domain}
 use Rattle.fw_frontier.specs.Frontier.{Frontier, IsFrontier, Within, everything, nothing, meet}
-use Rattle.fw_flow.specs.declared.kind.Kind.{Kind}
+use Rattle.fw_flow.specs.Kind.{Kind}
 use Rattle.fw_flow.specs.Dataflow.{Dataflow, domain_of_kind, out_domain_of_kind, bounds_of_domain, greatest_of_kind, send_stamp_of_kind}
 use Rattle.fw_flow.specs.Projection.{phi_of_kind, psi_of_kind, psi_back_of_kind}
 use Rattle.fw_model.specs.Sending.{SendsByStamp, SendsByCount, IsSentFrom, SendsAbove, SendsWithin}

@@ -8,7 +8,7 @@ use Rattle.fw_bag.specs.declared.rec.Rec.{Rec}
 use Rattle.fw_flow.specs.declared.event.Event.{Event}
 use Rattle.fw_flow.specs.declared.event.Event.TheVariants.{Notify}
 use Rattle.fw_flow.specs.declared.event.Message.{Message}
-use Rattle.fw_flow.specs.declared.kind.Kind.{Kind}
+use Rattle.fw_flow.specs.Kind.{Kind}
 use Rattle.fw_flow.specs.declared.kind.Kind.TheVariants.{Sequence, OutputNumber, Regroup, OutputEpoch, Feedback}
 use Rattle.fw_flow.specs.Dataflow.{Dataflow, max_of, System}
 use Rattle.fw_flow.specs.NodeFunction.{recs_on_notification, recs_on, sends}

@@ -11,7 +11,7 @@ use Rattle.fw_frontier.specs.declared.state.State.{State}
 use Rattle.fw_flow.specs.declared.event.Event.{Event}
 use Rattle.fw_flow.specs.declared.event.Event.TheVariants.{Inject, Deliver, Notify}
 use Rattle.fw_flow.specs.declared.event.Message.{Message}
-use Rattle.fw_flow.specs.declared.kind.Kind.{Kind}
+use Rattle.fw_flow.specs.Kind.{Kind}
 use Rattle.fw_flow.specs.Dataflow.{Dataflow, kind_of, in_edges, bounds_of, node_frontier}
 use Rattle.fw_flow.specs.NodeFunction.{delivered_recs, event_stamp}
 use Rattle.fw_model.specs.Filtering.{events_inside}

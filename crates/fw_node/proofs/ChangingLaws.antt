@@ -6,7 +6,7 @@ use Rattle.fw_bag.specs.declared.rec.Rec.{Rec}
 use Rattle.fw_bag.specs.Arrivals.{Arrival, arrivals_inside, recs_of, recs_inside, AreInside}
 use Rattle.fw_bag.proofs.ArrivalLaws.{none_outside, where-filter}
 use Rattle.fw_flow.specs.declared.event.Event.{Event}
-use Rattle.fw_flow.specs.declared.kind.Kind.{Kind}
+use Rattle.fw_flow.specs.Kind.{Kind}
 use Rattle.fw_flow.specs.declared.kind.Kind.TheVariants as kind
 use Rattle.fw_flow.specs.Dataflow.{Dataflow}
 use Rattle.fw_flow.specs.NodeFunction.{delivered_recs}

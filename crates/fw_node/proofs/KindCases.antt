@@ -3,7 +3,7 @@ use Rattle.std.proofs.Common.{◌≡◌, ◌<◌, Bool, true, false, cond, List,
 use Rattle.fw_flow.specs.Dataflow.{Dataflow, send_stamp_of_kind, is_sequence_kind}
 use Rattle.std.specs.declared.cmp.Ordering.{Ordering}
 use Rattle.fw_time.specs.Stamp.{Stamp}
-use Rattle.fw_flow.specs.declared.kind.Kind.{Kind}
+use Rattle.fw_flow.specs.Kind.{Kind}
 use Rattle.fw_flow.specs.declared.kind.Kind.TheVariants as kind
 use Rattle.fw_bag.specs.Arrivals.{Arrival, arrivals_inside}
 use Rattle.fw_keyed.specs.Tables.{IsJoin, IsSum}

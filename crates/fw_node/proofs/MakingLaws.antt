@@ -1,34 +1,32 @@
 -- What the tables of nodes need of a well-formed flow.
-use Rattle.std.proofs.Common.{◌≡◌, ℕ, ◌+◌, ◌<◌, ◌≤◌, Bool, true, false, ◌==◌, cond, List, [], ◌∷◌, length, refl, sym, ap, subst, inl, inr, arith}
+use Rattle.std.proofs.Common.{◌≡◌, ℕ, ◌+◌, ◌^◌, ◌<◌, ◌≤◌, Bool, true, false, ◌==◌, cond, List, [], ◌∷◌, length, refl, sym, ap, subst, inl, inr, arith}
 use Rattle.std.specs.Prelude.{◌||◌}
 use Rattle.std.specs.List.{list_any}
 use Rattle.std.proofs.lemmas.Bool.{cases_lt}
 use Rattle.fw_flow.specs.declared.kind.Domain.{Domain}
 use Rattle.fw_flow.specs.declared.kind.Domain.TheVariants.{Loop as InLoop}
-use Rattle.fw_flow.specs.declared.kind.Kind.{Kind}
+use Rattle.fw_flow.specs.Kind.{Kind}
 use Rattle.fw_flow.specs.declared.kind.Kind.TheVariants as kind
 use Rattle.fw_flow.specs.Dataflow.{Dataflow, kind_of, in_edges, bounds_of, domain_of_kind, greatest_of, parent_of, greatest_of_kind}
 use Rattle.fw_flow.specs.WellFormed.{IsWellFormed, IsGroupSize, IsInDegree}
 use Rattle.fw_flow.proofs.Chains.{greatest-length, loops-unfold, parent-few}
-use Rattle.fw_flow.proofs.EdgeLaws.{kind-past}
+use Rattle.fw_flow.proofs.EdgeLaws.{group_size, kind-past}
 use Rattle.fw_node.specs.Arrived.{place_in, IsOneOf}
 use Rattle.fw_node.specs.Kinds.{may_be_looped, is_timed}
 use Rattle.fw_node.specs.TimedTable.{IsSideOf}
 
 -- ---- groups
 
-group_at_least : (k : Kind) (n : ℕ) → IsGroupSize k → k ≡ kind.Regroup n → 0 < n
-group_at_least k n g e =
-    let P : Kind → Type 0 = λ x. IsGroupSize x in
-    let h = (subst P e g).0 in
+-- a node of a well-formed flow regroups by some numbers
+pub some_group : (flow : Dataflow) (p n : ℕ) → IsWellFormed flow → kind_of flow p ≡ kind.Regroup n → 0 < n
+some_group flow p n w e =
+    let P : Kind → Type 0 = λ k. IsGroupSize k in
+    let h = (subst P e (group_size flow w p)).0 in
     omega arith
 
--- a group of a well-formed flow has some numbers
-pub some_group : (flow : Dataflow) (p n : ℕ) → IsWellFormed flow → kind_of flow p ≡ kind.Regroup n → 0 < n
-some_group flow p n w e = elim (cases_lt p (length flow.nodes)) [
-  | inl l ↦ group_at_least (kind_of flow p) n (w.limits.groups p l) e
-  | inr l ↦ let x = kind-past flow p l in absurd (cc)
-]
+-- and by fewer than 2^32
+pub few_group : (flow : Dataflow) (p n : ℕ) → IsWellFormed flow → kind_of flow p ≡ kind.Regroup n → n < 2 ^ 32
+few_group flow p n w e = let P : Kind → Type 0 = λ k. IsGroupSize k in (subst P e (group_size flow w p)).1
 
 -- ---- places of in-edges
 

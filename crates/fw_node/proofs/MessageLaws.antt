@@ -6,7 +6,7 @@ use Rattle.fw_time.specs.Stamp.{Stamp}
 use Rattle.fw_bag.specs.declared.rec.Rec.{Rec}
 use Rattle.fw_flow.specs.declared.event.Event.{Event}
 use Rattle.fw_flow.specs.declared.event.Message.{Message}
-use Rattle.fw_flow.specs.declared.kind.Kind.{Kind}
+use Rattle.fw_flow.specs.Kind.{Kind}
 use Rattle.fw_flow.specs.declared.kind.Kind.TheVariants as kind
 use Rattle.fw_flow.specs.Dataflow.{System, greatest_number, kind_of, send_stamp_of_kind}
 use Rattle.fw_flow.specs.NodeFunction.{event_stamp, messages_at, messages_at_some, numbered_messages, recs_on, sends, sends_of_kind, sequence_sent}

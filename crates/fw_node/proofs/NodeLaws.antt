@@ -15,7 +15,7 @@ use Rattle.fw_frontier.specs.Frontier.{Within}
 use Rattle.fw_flow.specs.declared.event.Event.{Event}
 use Rattle.fw_flow.specs.declared.event.Event.TheVariants.{Inject, Deliver, Notify}
 use Rattle.fw_flow.specs.declared.event.Message.{Message}
-use Rattle.fw_flow.specs.declared.kind.Kind.{Kind}
+use Rattle.fw_flow.specs.Kind.{Kind}
 use Rattle.fw_flow.specs.declared.kind.Kind.TheVariants as kind
 use Rattle.fw_flow.specs.Dataflow.{Dataflow, System, batches_of, bounds_of, kind_of, in_edges, greatest_number, is_input_kind, is_notified_kind, is_sequence_kind, node_frontier, send_stamp, send_stamp_of_kind}
 use Rattle.fw_flow.specs.NodeFunction.{numbered_messages, recs_on_notification, sends, sends_of_kind, sequence_sent}

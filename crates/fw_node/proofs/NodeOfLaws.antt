@@ -9,7 +9,7 @@ use Rattle.fw_bag.specs.declared.rec.Rec.{Rec}
 use Rattle.fw_bag.specs.Arrivals.{Arrival}
 use Rattle.fw_flow.specs.declared.event.Event.{Event}
 use Rattle.fw_flow.specs.declared.kind.Domain.TheVariants.{Number}
-use Rattle.fw_flow.specs.declared.kind.Kind.{Kind}
+use Rattle.fw_flow.specs.Kind.{Kind}
 use Rattle.fw_flow.specs.declared.kind.Kind.TheVariants as kind
 use Rattle.fw_flow.specs.Dataflow.{Dataflow, kind_of, sender, greatest_number, domain_of_kind, out_domain_of_kind, bounds_of, bounds_of_domain, max_of, send_stamp_of_kind, is_input_kind, is_sequence_kind}
 use Rattle.fw_flow.specs.WellFormed.{IsWellFormed}

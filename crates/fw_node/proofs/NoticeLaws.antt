@@ -10,7 +10,7 @@ use Rattle.fw_bag.specs.Keyed.{sorted_recs}
 use Rattle.fw_flow.specs.declared.event.Event.{Event}
 use Rattle.fw_flow.specs.declared.event.Event.TheVariants.{Notify}
 use Rattle.fw_flow.specs.declared.event.Message.{Message}
-use Rattle.fw_flow.specs.declared.kind.Kind.{Kind}
+use Rattle.fw_flow.specs.Kind.{Kind}
 use Rattle.fw_flow.specs.declared.kind.Kind.TheVariants as kind
 use Rattle.fw_flow.specs.Dataflow.{System, kind_of, greatest_number, send_stamp_of_kind}
 use Rattle.fw_flow.specs.NodeFunction.{messages_at, messages_at_some, numbered_messages, recs_on_notification, sends, sends_of_kind, sequence_sent}

@@ -6,7 +6,7 @@ use Rattle.fw_time.specs.Stamp.{Stamp}
 use Rattle.fw_bag.specs.Arrivals.{Arrival, recs_inside}
 use Rattle.fw_bag.specs.Keyed.{sorted_recs}
 use Rattle.fw_bag.specs.declared.rec.Rec.{Rec}
-use Rattle.fw_flow.specs.declared.kind.Kind.{Kind}
+use Rattle.fw_flow.specs.Kind.{Kind}
 use Rattle.fw_flow.specs.declared.kind.Kind.TheVariants as kind
 use Rattle.fw_flow.specs.Dataflow.{is_sequence_kind}
 use Rattle.fw_frontier.specs.Frontier.{Within}

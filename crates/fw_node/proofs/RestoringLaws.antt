@@ -13,7 +13,7 @@ use Rattle.fw_bag.specs.Arrivals.{Arrival, recs_of, AreInside, AreTimes}
 use Rattle.fw_flow.specs.declared.event.Event.{Event}
 use Rattle.fw_flow.specs.declared.event.Event.TheVariants.{Inject, Deliver, Notify}
 use Rattle.fw_flow.specs.declared.event.Message.{Message}
-use Rattle.fw_flow.specs.declared.kind.Kind.{Kind}
+use Rattle.fw_flow.specs.Kind.{Kind}
 use Rattle.fw_flow.specs.declared.kind.Kind.TheVariants as kind
 use Rattle.fw_flow.specs.Dataflow.{Dataflow, greatest_number}
 use Rattle.fw_flow.specs.NodeFunction.{delivered_recs, numbered_messages, recs_on_notification, sequence_sent}

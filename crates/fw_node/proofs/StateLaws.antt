@@ -14,7 +14,7 @@ use Rattle.fw_frontier.specs.declared.state.Entries.TheVariants.{Totals}
 use Rattle.fw_frontier.specs.declared.state.State.{State}
 use Rattle.fw_frontier.proofs.NamesLaws.{all-outside, is_within-inside}
 use Rattle.fw_flow.specs.declared.event.Event.{Event}
-use Rattle.fw_flow.specs.declared.kind.Kind.{Kind}
+use Rattle.fw_flow.specs.Kind.{Kind}
 use Rattle.fw_flow.specs.declared.kind.Kind.TheVariants as kind
 use Rattle.fw_flow.specs.Dataflow.{Dataflow, is_input_kind, is_output_kind, is_sequence_kind}
 use Rattle.fw_flow.specs.NodeFunction.{delivered_recs}

@@ -1,6 +1,6 @@
 -- Of which kind the node of a table is, where the kind looks past one time.
 use Rattle.std.proofs.Common.{◌≡◌, subst}
-use Rattle.fw_flow.specs.declared.kind.Kind.{Kind}
+use Rattle.fw_flow.specs.Kind.{Kind}
 use Rattle.fw_flow.specs.declared.kind.Kind.TheVariants as kind
 use Rattle.fw_flow.specs.Dataflow.{Dataflow}
 use Rattle.fw_totals.specs.declared.total.Total.{Total}

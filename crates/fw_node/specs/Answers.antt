@@ -6,7 +6,7 @@ use Rattle.fw_bag.specs.Arrivals.{Arrival, recs_where, arrivals_at, recs_of}
 use Rattle.fw_bag.specs.Keyed.{plus, sorted_recs, is_among, joined_rec, value_sum, distinct_keys, sums_of}
 use Rattle.fw_bag.specs.Select.{selected_rec}
 use Rattle.fw_flow.specs.declared.event.Message.{Message}
-use Rattle.fw_flow.specs.declared.kind.Kind.{Kind}
+use Rattle.fw_flow.specs.Kind.{Kind}
 use Rattle.fw_flow.specs.declared.kind.Kind.TheVariants.{Select, Concat, Distinct, Join, Sum, Enter, Feedback, Leave, Total, Sequence, Ledger, Regroup}
 use Rattle.fw_table.specs.declared.sent.Sent.{Sent}
 

@@ -1,6 +1,6 @@
 -- At which times the kinds are.
 use Rattle.std.specs.Prelude.{Bool, true, false}
-use Rattle.fw_flow.specs.declared.kind.Kind.{Kind}
+use Rattle.fw_flow.specs.Kind.{Kind}
 use Rattle.fw_flow.specs.declared.kind.Kind.TheVariants.{Select, Concat, Distinct, Join, Sum, Feedback, Leave}
 
 -- whether a node of the kind may be anywhere, outside loops and in them

@@ -5,7 +5,7 @@ use Rattle.fw_bag.specs.Arrivals.{Arrival, arrivals_inside}
 use Rattle.fw_flow.specs.declared.event.Event.{Event}
 use Rattle.fw_flow.specs.declared.event.Event.TheVariants.{Deliver, Notify}
 use Rattle.fw_flow.specs.declared.event.Message.{Message}
-use Rattle.fw_flow.specs.declared.kind.Kind.{Kind}
+use Rattle.fw_flow.specs.Kind.{Kind}
 use Rattle.fw_flow.specs.declared.kind.Kind.TheVariants.{Total, Ledger}
 use Rattle.fw_flow.specs.Dataflow.{Dataflow, System, kind_of, in_edges, send_stamp, is_sequence_kind}
 use Rattle.fw_flow.specs.NodeFunction.{sends}

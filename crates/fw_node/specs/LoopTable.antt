@@ -4,7 +4,7 @@ use Rattle.std.specs.declared.cmp.Ordering.{Ordering}
 use Rattle.fw_time.specs.Stamp.{Stamp}
 use Rattle.fw_time.specs.declared.time.Nest.{Nest}
 use Rattle.fw_bag.specs.Arrivals.{Arrival}
-use Rattle.fw_flow.specs.declared.kind.Kind.{Kind}
+use Rattle.fw_flow.specs.Kind.{Kind}
 use Rattle.fw_flow.specs.declared.kind.Kind.TheVariants as kind
 use Rattle.fw_flow.specs.Dataflow.{Dataflow, max_of}
 use Rattle.fw_node.specs.declared.in_loop.InLoop.{InLoop}

@@ -5,7 +5,7 @@ use Rattle.std.specs.Ordering.{nat_cmp, ordering_then}
 use Rattle.fw_time.specs.Stamp.{Stamp, nest}
 use Rattle.fw_time.specs.declared.time.Epoch.{Epoch}
 use Rattle.fw_time.specs.declared.time.Nest.{Nest}
-use Rattle.fw_flow.specs.declared.kind.Kind.{Kind}
+use Rattle.fw_flow.specs.Kind.{Kind}
 use Rattle.fw_flow.specs.declared.kind.Kind.TheVariants as kind
 use Rattle.fw_flow.specs.Dataflow.{Dataflow, is_input_kind, is_output_kind}
 use Rattle.fw_totals.specs.Total.{IsTotal}

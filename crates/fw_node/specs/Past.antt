@@ -5,7 +5,7 @@ use Rattle.fw_time.specs.Stamp.{Stamp, leq, same}
 use Rattle.fw_bag.specs.declared.rec.Rec.{Rec}
 use Rattle.fw_bag.specs.Arrivals.{Arrival, arrivals_inside, recs_where, recs_inside}
 use Rattle.fw_bag.specs.Keyed.{sorted_recs}
-use Rattle.fw_flow.specs.declared.kind.Kind.{Kind}
+use Rattle.fw_flow.specs.Kind.{Kind}
 use Rattle.fw_flow.specs.declared.kind.Kind.TheVariants as kind
 use Rattle.fw_flow.specs.Dataflow.{is_notified_kind}
 use Rattle.fw_table.specs.Sent.{sent_if_at}

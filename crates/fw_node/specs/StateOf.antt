@@ -7,7 +7,7 @@ use Rattle.fw_frontier.specs.declared.state.Entries.{Entries}
 use Rattle.fw_frontier.specs.declared.state.Entries.TheVariants.{Totals}
 use Rattle.fw_frontier.specs.declared.state.State.{State}
 use Rattle.fw_flow.specs.declared.event.Event.{Event}
-use Rattle.fw_flow.specs.declared.kind.Kind.{Kind}
+use Rattle.fw_flow.specs.Kind.{Kind}
 use Rattle.fw_flow.specs.declared.kind.Kind.TheVariants as kind
 use Rattle.fw_flow.specs.NodeFunction.{delivered_recs, sequence_sent}
 use Rattle.fw_node.specs.Past.{Past, totals_kept, totals_changed}

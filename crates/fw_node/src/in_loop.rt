@@ -5,7 +5,7 @@ ghost use Rattle.fw_time.specs.Stamp.{in_domain};
 ghost use Rattle.fw_frontier.specs.Front.{inside};
 ghost use Rattle.fw_bag.specs.Arrivals.{Arrival, arrivals_inside, arrival};
 ghost use Rattle.fw_bag.specs.Keyed.{sorted_recs};
-ghost use Rattle.fw_flow.specs.declared.kind.Kind.{Kind};
+ghost use Rattle.fw_flow.specs.Kind.{Kind};
 ghost use Rattle.fw_flow.specs.Dataflow.{Dataflow, send_stamp_of_kind};
 ghost use Rattle.fw_table.specs.Sent.{sent_if_at};
 ghost use Rattle.fw_node.specs.Answers.{recs_for, recs_at_notice, sent_list};

@@ -2,7 +2,7 @@
 ghost use Rattle.std.specs.Prelude.{IfOk, ◌≡◌, ◌≤◌, ◌<◌, ◌^◌, ℕ, [], true, false, Bool, List, length};
 ghost use Rattle.fw_time.specs.Stamp.{in_domain};
 ghost use Rattle.fw_flow.specs.declared.event.Event.{Event};
-ghost use Rattle.fw_flow.specs.declared.kind.Kind.{Kind};
+ghost use Rattle.fw_flow.specs.Kind.{Kind};
 ghost use Rattle.fw_flow.specs.declared.kind.Kind.TheVariants as kind;
 ghost use Rattle.fw_flow.specs.Dataflow.{Dataflow, kind_of, bounds_of};
 ghost use Rattle.fw_bag.specs.Arrivals.{AreInside};
@@ -98,7 +98,7 @@ pub(crate) fn sent_of(state: &State) -> u64
 
 impl Table {
     /// The table of a node to which nothing came, whatever is settled.
-    #[tactic(auto, using(crate::proofs::MakingLaws::some_group))]
+    #[tactic(auto, using(crate::proofs::MakingLaws::some_group, crate::proofs::MakingLaws::few_group))]
     pub(crate) fn new(alloc: Global, flow: &Flow, id: NodeId) -> Self
         ensures table { (ins : List ℕ) (settled : List ℕ → Bool) → IsNodeTable flow.now result (kind_of flow.now id) (past_of ins settled []) }
         ensures shape { dimension_of result ≡ length (bounds_of flow.now id).greatest }
@@ -111,7 +111,7 @@ impl Table {
             Kind::Total => Table::Total(Total::new(alloc)),
             Kind::Sequence => Table::Sequence(Sequence::new(alloc)),
             Kind::Ledger => Table::Ledger(Ledger::new(alloc)),
-            Kind::Regroup(size) => Table::Regroup(Regroup::new(size)),
+            Kind::Regroup(size) => Table::Regroup(Regroup::new(size as u32)),
             kind => staying(alloc, flow, kind, dimension),
         }
     }

@@ -6,7 +6,7 @@ ghost use Rattle.fw_time.specs.Stamp.{in_domain};
 ghost use Rattle.fw_frontier.specs.Below.{is_below};
 ghost use Rattle.fw_frontier.specs.Front.{inside};
 ghost use Rattle.fw_flow.specs.declared.event.Event.{Event};
-ghost use Rattle.fw_flow.specs.declared.kind.Kind.{Kind};
+ghost use Rattle.fw_flow.specs.Kind.{Kind};
 ghost use Rattle.fw_flow.specs.Dataflow.{Dataflow, send_stamp_of_kind, is_notified_kind};
 ghost use Rattle.fw_bag.specs.Arrivals.{arrival, recs_inside, AreInside};
 ghost use Rattle.fw_frontier.specs.Frontier.{Within};

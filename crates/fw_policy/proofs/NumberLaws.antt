@@ -1,8 +1,6 @@
 -- What counts of a sequence: the last of its numbers covers all of them, and its table says what comes from a frontier.
-use Rattle.std.proofs.Common.{◌≡◌, ℕ, true, false, ◌&&◌, List, [], ◌∷◌, map, refl, sym, ◌∙◌, ap}
+use Rattle.std.proofs.Common.{◌≡◌, ℕ, true, ◌&&◌, List, map, refl, sym, ◌∙◌, ap}
 use Rattle.std.specs.List.{AllByRecursion}
-use Rattle.std.proofs.lemmas.Bool.{cases_Bool}
-use Rattle.std.proofs.Common.{inl, inr}
 use Rattle.fw_lemmas.proofs.Filters.{filter-all, filter-true}
 use Rattle.fw_time.specs.Stamp.{Stamp, in_domain}
 use Rattle.fw_frontier.specs.Frontier.{Frontier, everything, cover}
@@ -11,15 +9,14 @@ use Rattle.fw_model.proofs.ThinnedLaws.{thinned-covers}
 use Rattle.fw_flow.specs.declared.choice.Counted.{Counted}
 use Rattle.fw_flow.specs.declared.event.Event.{Event}
 use Rattle.fw_flow.specs.declared.event.Message.{Message}
-use Rattle.fw_flow.specs.declared.kind.Kind.{Kind}
-use Rattle.fw_flow.specs.declared.kind.Kind.TheVariants.{Sequence}
-use Rattle.fw_flow.specs.Dataflow.{System, kind_of, sender, receiver, bounds_of, is_sequence_kind, bounds_of_domain, out_domain_of_kind, greatest_of_kind}
+use Rattle.fw_flow.specs.Dataflow.{System, kind_of, sender, receiver, bounds_of, is_sequence_kind, bounds_of_domain, out_domain_of_kind}
 use Rattle.fw_flow.specs.NodeFunction.{event_stamp, sent_by}
-use Rattle.fw_flow.specs.Projection.{all_inside, events_at, phi_of_kind, phi, phi_by_count, sent_count}
+use Rattle.fw_flow.specs.Projection.{all_inside, events_at, phi, phi_by_count, sent_count}
 use Rattle.fw_model.specs.Covers.{stamps_from}
 use Rattle.fw_model.specs.History.{sent_messages}
 use Rattle.fw_model.specs.Offers.{stamps_on_from}
 use Rattle.fw_model.proofs.CauseLaws.{inside-sent}
+use Rattle.fw_model.proofs.SenderLaws.{sends_lawfully}
 use Rattle.fw_model.specs.EventStamps.{StandForNumbered}
 
 -- ---- all of it
@@ -44,18 +41,13 @@ numbered-covers sys h e ms s d =
 
 -- ---- what comes from a frontier
 
-count-idle : (greatest : Stamp) (kind : Kind) (c d : ℕ) (f : Frontier) → is_sequence_kind kind ≡ false → phi_of_kind greatest kind c f ≡ phi_of_kind greatest kind d f
-count-idle greatest Sequence c d f k = absurd (cc)
-count-idle greatest kind c d f k = refl
-
 -- it is a sequence's count that plays a part
 pub counted-arrive : (sys : System) (h : List Event) (e : ℕ) (c : ℕ) (f : Frontier)
     → (is_sequence_kind (kind_of sys.flow (sender sys.flow e)) ≡ true → c ≡ sent_count sys h (sender sys.flow e) f)
     → phi_by_count sys.flow c e f ≡ phi sys h e f
 unfolding phi phi_by_count
-counted-arrive sys h e c f k = elim (cases_Bool (is_sequence_kind (kind_of sys.flow (sender sys.flow e)))) [
-  | inl s ↦ ap (λ n. phi_by_count sys.flow n e f) (k s)
-  | inr n ↦ λ i u.
-      in_domain (bounds_of_domain sys.flow (out_domain_of_kind sys.flow (kind_of sys.flow (sender sys.flow e)))) u
-      && count-idle (greatest_of_kind sys.flow (kind_of sys.flow (sender sys.flow e))) (kind_of sys.flow (sender sys.flow e)) c (sent_count sys h (sender sys.flow e) f) f n i u
-]
+counted-arrive sys h e c f k =
+    let kind = kind_of sys.flow (sender sys.flow e) in
+    λ i u.
+    in_domain (bounds_of_domain sys.flow (out_domain_of_kind sys.flow kind)) u
+    && (sends_lawfully sys.flow kind).of_phi.counts c (sent_count sys h (sender sys.flow e) f) f u (λ s. k (ap is_sequence_kind s)) i

@@ -1,15 +1,15 @@
 -- By what nodes are restored, by their kinds and policies.
 use Rattle.std.proofs.Common.{◌≡◌, ◌⊎◌, inl, inr, ℕ, true, false, [], ◌∷◌, refl, sym, ◌∙◌, ap, subst}
 use Rattle.fw_time.specs.Stamp.{up_to}
-use Rattle.fw_flow.specs.declared.kind.Kind.{Kind}
-use Rattle.fw_flow.specs.declared.kind.Kind.TheVariants.{Input, OutputEpoch, OutputNumber, Sequence}
+use Rattle.fw_flow.specs.Kind.{Kind}
+use Rattle.fw_flow.specs.declared.kind.Kind.TheVariants.{Input, OutputEpoch, OutputNumber}
 use Rattle.fw_flow.specs.declared.kind.Policy.{Policy}
 use Rattle.fw_flow.specs.declared.kind.Policy.TheVariants as policy
 use Rattle.fw_flow.specs.declared.restoring.Restoring.TheVariants.{Bound, Anything, Checkpoints, Events}
 use Rattle.fw_flow.specs.Dataflow.{Dataflow, kind_of, policy_of, bounds_of, bounds_of_domain, domain_of_kind, greatest_number, is_notified_kind}
 use Rattle.fw_flow.specs.Restoring.{restoring_of_policy, restoring, way_of}
 use Rattle.fw_model.specs.Covers.{takes_its_notices}
-use Rattle.fw_model.specs.Sending.{SendsByStamp}
+use Rattle.fw_model.specs.Sending.{SendsByCount, SendsByStamp}
 use Rattle.fw_model.specs.Writes.{takes_checkpoints}
 
 -- what is restored to what it acknowledged is an output
@@ -98,8 +98,8 @@ anything-not_notified kind p e n = by p e n
     by policy.Full e n = cc
 
 -- an output sends nothing
-pub no-output : (flow : Dataflow) (kind : Kind) → (kind ≡ OutputEpoch) ⊎ (kind ≡ OutputNumber) → (kind ≡ Sequence) ⊎ SendsByStamp flow kind → ⊥
-no-output flow kind (inl e) (inl s) = let x : OutputEpoch ≡ Sequence = sym e ∙ s in cc
+pub no-output : (flow : Dataflow) (kind : Kind) → (kind ≡ OutputEpoch) ⊎ (kind ≡ OutputNumber) → SendsByCount kind ⊎ SendsByStamp flow kind → ⊥
+no-output flow kind (inl e) (inl s) = let x : SendsByCount OutputEpoch = sym e ∙ s in cc
 no-output flow kind (inl e) (inr s) = subst (SendsByStamp flow) e s
-no-output flow kind (inr e) (inl s) = let x : OutputNumber ≡ Sequence = sym e ∙ s in cc
+no-output flow kind (inr e) (inl s) = let x : SendsByCount OutputNumber = sym e ∙ s in cc
 no-output flow kind (inr e) (inr s) = subst (SendsByStamp flow) e s

@@ -3,7 +3,7 @@ use Rattle.std.specs.Prelude.{◌≡◌, ℕ, suc, ◌≤◌, true, List, [], �
 use Rattle.std.specs.List.{AllByRecursion}
 use Rattle.fw_time.specs.Stamp.{in_domain}
 use Rattle.fw_frontier.specs.Front.{IsCanonical}
-use Rattle.fw_flow.specs.declared.kind.Kind.{Kind}
+use Rattle.fw_flow.specs.Kind.{Kind}
 use Rattle.fw_flow.specs.declared.kind.Kind.TheVariants.{Input, OutputEpoch, OutputNumber}
 use Rattle.fw_flow.specs.Dataflow.{Dataflow, kind_of, bounds_of, greatest_number}
 use Rattle.fw_model.specs.Offers.{AreAtEdgeStamps, HasOneCause, IsRecordOf}

@@ -1,7 +1,7 @@
 -- What stands for a history stands for it as it goes on by an event.
 use Rattle.std.proofs.Common.{◌≡◌, ◌≢◌, ℕ, zero, suc, ◌+◌, ◌-◌, ◌<◌, ◌≤◌, Bool, true, false, not, ◌&&◌, ◌||◌, ◌==◌, nat_lt, cond, List, [], ◌∷◌, ◌++◌, length, get_or, map, refl, sym, ap, subst, ◌∙◌, inl, inr, arith}
 use Rattle.std.specs.List.{AllByRecursion}
-use Rattle.std.proofs.lemmas.Bool.{and_parts, and_from, cases_Bool, cases_eq, eq-eqb, eqb-true, false_from_ne_true, both_ways, false≢true, or_cases, or_left, or_right}
+use Rattle.std.proofs.lemmas.Bool.{and_parts, and_from, cases_Bool, cases_eq, eq-eqb, eqb-true, false_from_ne_true, both_ways, or_cases, or_left, or_right}
 use Rattle.std.proofs.lemmas.List.{length-map}
 use Rattle.std.proofs.Math.Bool.{and-false}
 use Rattle.std.proofs.lemmas.Bool.Decides.{nat_tests}
@@ -13,8 +13,6 @@ use Rattle.fw_flow.specs.Counting.{how_many}
 use Rattle.fw_flow.specs.declared.event.Event.{Event}
 use Rattle.fw_flow.specs.declared.event.Event.TheVariants.{Inject, Deliver, Notify}
 use Rattle.fw_flow.specs.declared.event.Message.{Message}
-use Rattle.fw_flow.specs.declared.kind.Kind.{Kind}
-use Rattle.fw_flow.specs.declared.kind.Kind.TheVariants.{Sequence}
 use Rattle.fw_flow.specs.Dataflow.{System, Dataflow, kind_of, sender, receiver, greatest_number, is_notified_kind, is_sequence_kind, HasEpochs}
 use Rattle.fw_flow.specs.NodeFunction.{event_node, sends}
 use Rattle.fw_flow.specs.Projection.{events_at, IsSentTable}
@@ -26,9 +24,11 @@ use Rattle.fw_model.specs.LawsOfPending.{sent_on}
 use Rattle.fw_frontier.specs.Front.{Front}
 use Rattle.fw_model.specs.Machine.{family_of}
 use Rattle.fw_model.specs.Order.{notified_stamps, AreDescending}
+use Rattle.fw_model.specs.Sending.{SendsByCount}
 use Rattle.fw_model.proofs.CarriedLaws.{carried-all, sent-more}
 use Rattle.fw_model.proofs.ClosedLaws.{settled-outside}
 use Rattle.fw_model.proofs.CompleteLaws.{admissible-stays}
+use Rattle.fw_model.proofs.KindSorts.{is_sequence}
 use Rattle.fw_model.proofs.LegalLaws.{enabled-in_domain, legal-in_domain}
 use Rattle.fw_model.proofs.NotifiedLaws.{notified-settled}
 use Rattle.fw_model.proofs.OrderLaws.{sequences-in_order}
@@ -268,7 +268,7 @@ notified-at flow p t P (Notify q s ∷ h) a k = by (q == p) a k (notified-at flo
     by false r j f = f r j
 
 -- an epoch of which a sequence is notified comes after those of its table
-takes-next : (sys : System) (h : List Event) (p x : ℕ) (counts : Counts) → IsWellFormed sys.flow → HasEpochs sys → IsLegal sys (Notify p (x ∷ []) ∷ h) → kind_of sys.flow p ≡ Sequence
+takes-next : (sys : System) (h : List Event) (p x : ℕ) (counts : Counts) → IsWellFormed sys.flow → HasEpochs sys → IsLegal sys (Notify p (x ∷ []) ∷ h) → SendsByCount (kind_of sys.flow p)
     → p < length sys.flow.nodes → IsCountOf sys h counts → (n : ℕ) → EpochsAscend (sent_of counts p ++ (x, n) ∷ [])
 takes-next sys h p x counts w b l k there c n =
     let table = sent_of counts p in
@@ -306,27 +306,23 @@ owed-notified sys h p t sent old new c d q there s =
           ∙ ap (λ x. k && wd && not (x || wn)) (sym (ap (λ x. x && same t s) (eq-eqb p q (sym i))))
     ]
 
-sequence-is : (kind : Kind) → is_sequence_kind kind ≡ true → kind ≡ Sequence
-sequence-is Sequence k = refl
-sequence-is kind k = absurd (false≢true k)
-
 -- the table of a sequence after a notification
 table-notified : (sys : System) (h : List Event) (p x : ℕ) (sent : List Stamp) (old new : Counts) → IsWellFormed sys.flow → HasEpochs sys → IsLegal sys (Notify p (x ∷ []) ∷ h)
-    → kind_of sys.flow p ≡ Sequence → p < length sys.flow.nodes → IsCountOf sys h old → IsNotified sys.flow p (x ∷ []) sent old new → sent_of new p ≡ sent_of old p ++ (x, length sent) ∷ []
+    → SendsByCount (kind_of sys.flow p) → p < length sys.flow.nodes → IsCountOf sys h old → IsNotified sys.flow p (x ∷ []) sent old new → sent_of new p ≡ sent_of old p ++ (x, length sent) ∷ []
 table-notified sys h p x sent old new w b l k there c d = (d.counted k x refl).here (takes-next sys h p x old w b l k there c)
 
-other-table : (sys : System) (p q : ℕ) (t : Stamp) (sent : List Stamp) (old new : Counts) → IsNotified sys.flow p t sent old new → q ≢ p → ((kind_of sys.flow p ≡ Sequence) → (x : ℕ) × (t ≡ x ∷ []))
+other-table : (sys : System) (p q : ℕ) (t : Stamp) (sent : List Stamp) (old new : Counts) → IsNotified sys.flow p t sent old new → q ≢ p → (SendsByCount (kind_of sys.flow p) → (x : ℕ) × (t ≡ x ∷ []))
     → sent_of new q ≡ sent_of old q
 other-table sys p q t sent old new d n line = elim (cases_Bool (is_sequence_kind (kind_of sys.flow p))) [
   | inr i ↦ ap (λ xs. get_or xs q []) (d.counted_none i)
   | inl i ↦
-      let k = sequence-is (kind_of sys.flow p) i in
+      let k = is_sequence (kind_of sys.flow p) i in
       let x = line k in
       (d.counted k x.0 x.1).others q n
 ]
 
 -- a sequence is notified of epochs
-epoch-of : (sys : System) (h : List Event) (p : ℕ) (t : Stamp) → IsWellFormed sys.flow → HasEpochs sys → IsLegal sys (Notify p t ∷ h) → kind_of sys.flow p ≡ Sequence → (x : ℕ) × (t ≡ x ∷ [])
+epoch-of : (sys : System) (h : List Event) (p : ℕ) (t : Stamp) → IsWellFormed sys.flow → HasEpochs sys → IsLegal sys (Notify p t ∷ h) → SendsByCount (kind_of sys.flow p) → (x : ℕ) × (t ≡ x ∷ [])
 epoch-of sys h p t w b l k =
     let d = enabled-in_domain sys h w b (legal-in_domain sys h w b l.1) (Notify p t) l.0 in
     let line = in_line t greatest_number (sym (ap (λ c. in_domain c t) (bounds-sequence sys.flow p k)) ∙ d) in
@@ -351,7 +347,7 @@ pub notified-counts : (sys : System) (h : List Event) (p : ℕ) (t : Stamp) (sen
 notified-counts sys h p t sent old new w b l there is c d =
     let v : Event = Notify p t in
     let line = epoch-of sys h p t w b l in
-    let table : kind_of sys.flow p ≡ Sequence → (x : ℕ) × (t ≡ x ∷ []) × (sent_of new p ≡ sent_of old p ++ (x, length sent) ∷ []) = λ k.
+    let table : SendsByCount (kind_of sys.flow p) → (x : ℕ) × (t ≡ x ∷ []) × (sent_of new p ≡ sent_of old p ++ (x, length sent) ∷ []) = λ k.
     let x = line k in
     let T : Stamp → Type 0 = λ s. IsLegal sys (Notify p s ∷ h) in
     let N : Stamp → Type 0 = λ s. IsNotified sys.flow p s sent old new in
@@ -366,7 +362,7 @@ notified-counts sys h p t sent old new w b l there is c d =
             subst (IsSentTable sys (v ∷ h) q) (sym (other-table sys p q t sent old new d n line))
             ((table-follows sys q k).stays h (sent_of old q) v (false_from_ne_true (p == q) (λ j. n (sym (eqb-true p q j)))) (c.sent q m k))
         | inl i ↦
-            let kp : kind_of sys.flow p ≡ Sequence = sym (ap (kind_of sys.flow) i) ∙ k in
+            let kp : SendsByCount (kind_of sys.flow p) = sym (ap (kind_of sys.flow) i) ∙ k in
             let x = table kp in
             let V : Stamp → Type 0 = λ s. IsSentTable sys (Notify p s ∷ h) p (sent_of old p ++ (x.0, length (sends sys p (events_at sys.flow p h) (Notify p s))) ∷ []) in
             let grown = subst V (sym x.1) ((table-follows sys p kp).grows h (sent_of old p) x.0 (c.sent p there kp)) in
@@ -376,7 +372,7 @@ notified-counts sys h p t sent old new w b l there is c d =
       in_order = λ q m k. elim (cases_eq q p) [
         | inr n ↦ subst EpochsAscend (sym (other-table sys p q t sent old new d n line)) (c.in_order q m k)
         | inl i ↦
-            let kp : kind_of sys.flow p ≡ Sequence = sym (ap (kind_of sys.flow) i) ∙ k in
+            let kp : SendsByCount (kind_of sys.flow p) = sym (ap (kind_of sys.flow) i) ∙ k in
             let x = table kp in
             let T : Stamp → Type 0 = λ s. IsLegal sys (Notify p s ∷ h) in
             subst (λ r. EpochsAscend (sent_of new r)) (sym i) (subst EpochsAscend (sym x.2) (takes-next sys h p x.0 old w b (subst T x.1 l) kp there c (length sent)))
@@ -387,7 +383,7 @@ notified-counts sys h p t sent old new w b l there is c d =
             (each-weaker (λ (entry : ℕ × ℕ). was_notified q (entry.0 ∷ []) h ≡ true) (λ entry. was_notified q (entry.0 ∷ []) (v ∷ h) ≡ true) (sent_of old q)
             (λ entry j. or_right (p == q && same t (entry.0 ∷ [])) (was_notified q (entry.0 ∷ []) h) j) (c.epochs q m k))
         | inl i ↦
-            let kp : kind_of sys.flow p ≡ Sequence = sym (ap (kind_of sys.flow) i) ∙ k in
+            let kp : SendsByCount (kind_of sys.flow p) = sym (ap (kind_of sys.flow) i) ∙ k in
             let x = table kp in
             let E : Stamp → Type 0 = λ s. AllByRecursion (λ (entry : ℕ × ℕ). was_notified p (entry.0 ∷ []) (Notify p s ∷ h) ≡ true) (sent_of old p ++ (x.0, length sent) ∷ []) in
             subst (λ r. AllByRecursion (λ (entry : ℕ × ℕ). was_notified r (entry.0 ∷ []) (v ∷ h) ≡ true) (sent_of new r)) (sym i)

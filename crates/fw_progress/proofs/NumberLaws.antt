@@ -12,9 +12,9 @@ use Rattle.fw_frontier.specs.Frontier.{Frontier}
 use Rattle.fw_flow.specs.declared.event.Event.{Event}
 use Rattle.fw_flow.specs.declared.event.Event.TheVariants.{Inject, Deliver, Notify}
 use Rattle.fw_flow.specs.declared.event.Message.{Message}
-use Rattle.fw_flow.specs.declared.kind.Kind.TheVariants.{Sequence}
 use Rattle.fw_flow.specs.Dataflow.{greatest_number}
-use Rattle.fw_flow.specs.NodeFunction.{recs_on_notification, numbered_messages, sequence_sent}
+use Rattle.fw_flow.specs.NodeFunction.{numbered_messages, sequence_sent}
+use Rattle.fw_model.specs.Sending.{recs_by_count}
 use Rattle.fw_model.specs.Thinned.{IsBelowKept, IsThinned}
 use Rattle.fw_model.proofs.ThinnedLaws.{each-contained}
 use Rattle.fw_progress.specs.Covers.{last_number}
@@ -76,8 +76,8 @@ sequence-numbers [] = record { each = tt; last = λ l. absurd (omega arith) }
 sequence-numbers (Inject s x ∷ vs) = sequence-numbers vs
 sequence-numbers (Deliver e m ∷ vs) = sequence-numbers vs
 sequence-numbers (Notify p t ∷ vs) =
-    joined (numbered_messages (length (sequence_sent vs)) t (recs_on_notification Sequence vs t)) (sequence_sent vs)
-    (numbered-from (length (sequence_sent vs)) t (recs_on_notification Sequence vs t)) (sequence-numbers vs)
+    joined (numbered_messages (length (sequence_sent vs)) t (recs_by_count vs t)) (sequence_sent vs)
+    (numbered-from (length (sequence_sent vs)) t (recs_by_count vs t)) (sequence-numbers vs)
   where
     at : Message → Stamp
     at m = m.at

@@ -14,21 +14,22 @@ use Rattle.fw_flow.specs.Counting.{how_many}
 use Rattle.fw_flow.specs.declared.choice.Counted.{Counted}
 use Rattle.fw_flow.specs.declared.event.Event.{Event}
 use Rattle.fw_flow.specs.declared.event.Message.{Message}
-use Rattle.fw_flow.specs.declared.kind.Kind.{Kind}
-use Rattle.fw_flow.specs.declared.kind.Kind.TheVariants.{Sequence}
 use Rattle.fw_flow.specs.declared.kind.Policy.{Policy}
 use Rattle.fw_flow.specs.declared.kind.Policy.TheVariants as policy
+use Rattle.fw_flow.specs.declared.restoring.Restoring.TheVariants.{Anything}
 use Rattle.fw_flow.specs.Dataflow.{System, Dataflow, kind_of, policy_of, sender, receiver, bounds_of, bounds_of_edge, bounds_of_domain, greatest_number, is_input_kind, is_sequence_kind, node_frontier, HasEpochs}
 use Rattle.fw_flow.specs.NodeFunction.{sequence_sent, sent_by}
 use Rattle.fw_flow.specs.Projection.{events_at, all_inside, count_from}
-use Rattle.fw_flow.specs.Restoring.{can_resend}
+use Rattle.fw_flow.specs.Restoring.{can_resend, restoring_of_policy}
 use Rattle.fw_flow.specs.WellFormed.{IsPolicyAllowed, IsWellFormed}
 use Rattle.fw_model.specs.Covers.{stamps_from}
 use Rattle.fw_model.specs.Filtering.{AreFrontiers, kept_events, messages_from}
 use Rattle.fw_model.specs.History.{is_injection, injected_count, sent_messages, IsLegal}
+use Rattle.fw_model.specs.Sending.{SendsByCount}
 use Rattle.fw_model.specs.Thinned.{IsThinned, IsThinnedIf}
 use Rattle.fw_model.specs.Writes.{takes_checkpoints}
 use Rattle.fw_model.proofs.CarriedLaws.{carried-all}
+use Rattle.fw_model.proofs.KindSorts.{is_sequence, keeps_something}
 use Rattle.fw_model.proofs.LegalLaws.{edge_domains, legal_events-in_domain, legal_messages-in_domain, only_inputs_inject}
 use Rattle.fw_model.proofs.LocalityLaws.{sent_by-same}
 use Rattle.fw_model.proofs.SequenceLaws.{no_inject, sent_by-sequence}
@@ -49,10 +50,6 @@ use Rattle.fw_progress.proofs.TraceLaws.{among-domain, filter-domain, kept-domai
 
 -- ---- sequences
 
-pub sequence-kind : (kind : Kind) → is_sequence_kind kind ≡ true → kind ≡ Sequence
-sequence-kind Sequence k = refl
-sequence-kind kind k = absurd (cc)
-
 pub none-kept : {X : Type 0} (test keep : X → Bool) (xs : List X) → how_many test xs ≡ 0 → how_many test (filter keep xs) ≡ 0
 none-kept test keep [] z = refl
 none-kept test keep (x ∷ xs) z = by (keep x) (test x) refl z (none-kept test keep xs)
@@ -65,17 +62,19 @@ none-kept test keep (x ∷ xs) z = by (keep x) (test x) refl z (none-kept test k
 
 -- a sequence that cannot send again takes checkpoints, so that its messages are counted
 pub counts-sequence : (flow : Dataflow) → IsWellFormed flow → (p : ℕ) → p < length flow.nodes → is_sequence_kind (kind_of flow p) ≡ true → tells_sent flow p ≡ true → counts_sent flow p ≡ true
-counts-sequence flow w p l s t = by (policy_of flow p) (subst (λ kind. IsPolicyAllowed kind (policy_of flow p)) (sequence-kind (kind_of flow p) s) (w.policies p l)) t
+counts-sequence flow w p l s t =
+    let allowed = subst (λ kind. IsPolicyAllowed kind (policy_of flow p)) (is_sequence (kind_of flow p) s) (w.policies p l) in
+    by (policy_of flow p) (keeps_something (policy_of flow p) allowed) t
   where
-    by : (x : Policy) → IsPolicyAllowed Sequence x → not (can_resend x) ≡ true → takes_checkpoints x ≡ true
-    by policy.None a n = absurd (cc)
-    by policy.Lazy a n = refl
-    by policy.Logged a n = refl
-    by policy.Eager a n = refl
-    by policy.Full a n = absurd (cc)
+    by : (x : Policy) → (restoring_of_policy x ≡ Anything → ⊥) → not (can_resend x) ≡ true → takes_checkpoints x ≡ true
+    by policy.None some n = absurd (some refl)
+    by policy.Lazy some n = refl
+    by policy.Logged some n = refl
+    by policy.Eager some n = refl
+    by policy.Full some n = absurd (cc)
 
 -- a sequence injects nothing
-pub no_injection : (sys : System) (h : List Event) (p : ℕ) → IsLegal sys h → kind_of sys.flow p ≡ Sequence → injected_count p h ≡ 0
+pub no_injection : (sys : System) (h : List Event) (p : ℕ) → IsLegal sys h → SendsByCount (kind_of sys.flow p) → injected_count p h ≡ 0
 no_injection sys h p l is = only_inputs_inject sys h l p (ap is_input_kind is)
 
 pub from-length : (f : Frontier) (ms : List Message) → length (messages_from f ms) ≡ count_from f ms
@@ -87,7 +86,7 @@ from-length f (m ∷ ms) = by (all_inside f m.causes) (from-length f ms)
     by false e = e
 
 -- the last number of what a sequence sent from inside a frontier stands for all of it
-from-sequence : (sys : System) (h : List Event) (p : ℕ) (f : Front) → IsWellFormed sys.flow → HasEpochs sys → IsLegal sys h → kind_of sys.flow p ≡ Sequence
+from-sequence : (sys : System) (h : List Event) (p : ℕ) (f : Front) → IsWellFormed sys.flow → HasEpochs sys → IsLegal sys h → SendsByCount (kind_of sys.flow p)
     → (base : Frontier) → ((x : ℕ) → x ≤ greatest_number → base (x ∷ []) ≡ true)
     → IsThinned base (map (λ (m : Message). m.at) (messages_from (node_frontier sys.flow p f) (sent_by sys p (events_at sys.flow p h))))
     (last_number (count_from (node_frontier sys.flow p f) (sent_by sys p (events_at sys.flow p h))))
@@ -118,7 +117,7 @@ from-sequence sys h p f w b l is base all =
         ∙ sent_by-sequence sys p is vs (no_inject sys.flow p k (none-kept (is_injection p) _ h (no_injection sys h p l is)))
 
 -- the same of all that it sent
-pub all-sequence : (sys : System) (h : List Event) (p : ℕ) → IsLegal sys h → kind_of sys.flow p ≡ Sequence
+pub all-sequence : (sys : System) (h : List Event) (p : ℕ) → IsLegal sys h → SendsByCount (kind_of sys.flow p)
     → (base : Frontier) → ((x : ℕ) → x ≤ greatest_number → base (x ∷ []) ≡ true)
     → IsThinned base (map (λ (m : Message). m.at) (sent_by sys p (events_at sys.flow p h))) (last_number (length (sent_by sys p (events_at sys.flow p h))))
 all-sequence sys h p l is base all =
@@ -159,7 +158,7 @@ sequence-covers sys h e f traces w b l k counts t n is =
     let d = sent-domain sys h p (legal_events-in_domain sys h w b l p) in
     let count : n ≡ count_from g ms = is ∙ tally-count (bounds_of sys.flow p) t.base ms f (counted_of traces p) d t.within (t.trace.counted counts) in
     let thin = subst (λ m. IsThinned (λ s. true) (map (λ (x : Message). x.at) (messages_from g ms)) (last_number m)) (sym count)
-    (from-sequence sys h p f w b l (sequence-kind (kind_of sys.flow p) k) (λ s. true) (λ x i. refl)) in
+    (from-sequence sys h p f w b l (is_sequence (kind_of sys.flow p) k) (λ s. true) (λ x i. refl)) in
     let B = bounds_of sys.flow (receiver sys.flow e) in
     record {
       in_the_domain = kept-domain B (λ s. true) (map (λ (x : Message). x.at) (messages_from g ms)) (last_number n)

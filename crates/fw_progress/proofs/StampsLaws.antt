@@ -18,7 +18,6 @@ use Rattle.fw_flow.specs.declared.choice.Stamps.{Stamps}
 use Rattle.fw_flow.specs.declared.event.Event.{Event}
 use Rattle.fw_flow.specs.declared.event.Event.TheVariants.{Inject, Deliver, Notify}
 use Rattle.fw_flow.specs.declared.event.Message.{Message}
-use Rattle.fw_flow.specs.declared.kind.Kind.TheVariants.{Sequence}
 use Rattle.fw_flow.specs.declared.node.Edge.{Edge}
 use Rattle.fw_flow.specs.Dataflow.{System, Dataflow, kind_of, sender, receiver, bounds_of, bounds_of_domain, domain_of_kind, out_domain_of_kind, greatest_number, out_edges, is_sequence_kind, node_frontier, HasEpochs}
 use Rattle.fw_flow.specs.NodeFunction.{event_node, event_stamp, sequence_sent, sent_by}
@@ -30,8 +29,10 @@ use Rattle.fw_model.specs.EventStamps.{causes_in, base_of_sent, tells_sent, Stan
 use Rattle.fw_model.specs.Filtering.{events_inside, messages_inside, messages_from, kept_events}
 use Rattle.fw_model.specs.History.{is_injection, injected_count, delivered_messages, AreEventsInDomain, IsLegal, sent_messages}
 use Rattle.fw_model.specs.Offers.{AreAtEdgeStamps, counted_on_edge, stamps_on, stamps_on_from}
+use Rattle.fw_model.specs.Sending.{SendsByCount}
 use Rattle.fw_model.specs.Thinned.{IsThinned, IsThinnedIf}
 use Rattle.fw_model.proofs.CarriedLaws.{carried-all}
+use Rattle.fw_model.proofs.KindSorts.{is_sequence}
 use Rattle.fw_model.proofs.LegalLaws.{edge_domains, legal_events-in_domain}
 use Rattle.fw_model.proofs.LocalityLaws.{events_at-kept, sent_by-same, sends-same}
 use Rattle.fw_model.proofs.SequenceLaws.{no_inject, sent_by-sequence}
@@ -45,7 +46,7 @@ use Rattle.fw_progress.proofs.CutTraceLaws.{delivered-domain, notices-domain, se
 use Rattle.fw_progress.proofs.EventLaws.{how_often}
 use Rattle.fw_progress.proofs.NumberLaws.{IsNumber, sequence-numbers, numbers-thinned}
 use Rattle.fw_progress.proofs.OfferLaws.{Sends, each-joined, on-once, once-out, delivered-on, delivered-on_edges, kept-send, messages-on_edges, sent-on, stands-for_sent}
-use Rattle.fw_progress.proofs.SentCoverLaws.{counts-sequence, from-length, none-kept, no_injection, sequence-kind}
+use Rattle.fw_progress.proofs.SentCoverLaws.{counts-sequence, from-length, none-kept, no_injection}
 use Rattle.fw_progress.proofs.SentTallyLaws.{tally-count}
 use Rattle.fw_progress.proofs.TraceLaws.{among-domain, among-passed, kept-domain, thinned-inside, thinned-itself, untold-if}
 
@@ -65,7 +66,7 @@ record AreProper (sys : System) (h : List Event) (p : ℕ) : Type 0 where
 -- ---- what a sequence sent
 
 -- numbers on an out-edge of a sequence are of the receiver's domain
-number-domain : (flow : Dataflow) → IsWellFormed flow → (p e : ℕ) → kind_of flow p ≡ Sequence → sender flow e ≡ p → (x : ℕ) → x ≤ greatest_number
+number-domain : (flow : Dataflow) → IsWellFormed flow → (p e : ℕ) → SendsByCount (kind_of flow p) → sender flow e ≡ p → (x : ℕ) → x ≤ greatest_number
     → in_domain (bounds_of flow (receiver flow e)) (x ∷ []) ≡ true
 unfolding bounds_of
 number-domain flow w p e is r x l =
@@ -77,12 +78,12 @@ number-domain flow w p e is r x l =
     few y l = grind (arith, nat_tests)
 
 -- the first epoch is of a sequence's domain
-first-domain : (flow : Dataflow) (p : ℕ) → kind_of flow p ≡ Sequence → in_domain (bounds_of flow p) (0 ∷ []) ≡ true
+first-domain : (flow : Dataflow) (p : ℕ) → SendsByCount (kind_of flow p) → in_domain (bounds_of flow p) (0 ∷ []) ≡ true
 unfolding bounds_of
 first-domain flow p is = ap (λ k. in_domain (bounds_of_domain flow (domain_of_kind flow k)) (0 ∷ [])) is
 
 -- the last number of what a sequence sent stands for all of it, inside a set that has each number
-sequence-thinned : (sys : System) (h : List Event) (p n : ℕ) → kind_of sys.flow p ≡ Sequence → injected_count p h ≡ 0 → n ≡ length (sent_by sys p (events_at sys.flow p h))
+sequence-thinned : (sys : System) (h : List Event) (p n : ℕ) → SendsByCount (kind_of sys.flow p) → injected_count p h ≡ 0 → n ≡ length (sent_by sys p (events_at sys.flow p h))
     → (base : Frontier) → ((x : ℕ) → x ≤ greatest_number → base (x ∷ []) ≡ true)
     → IsThinned base (map (λ (m : Message). m.at) (sent_by sys p (events_at sys.flow p h))) (last_number n)
 sequence-thinned sys h p n is none count base all =
@@ -94,7 +95,7 @@ sequence-thinned sys h p n is none count base all =
     (numbers-thinned base all (length (sequence_sent vs)) (sequence_sent vs) (sequence-numbers vs)))
 
 -- and each of its numbers is there
-sequence-inside : (sys : System) (h : List Event) (p : ℕ) → kind_of sys.flow p ≡ Sequence → injected_count p h ≡ 0
+sequence-inside : (sys : System) (h : List Event) (p : ℕ) → SendsByCount (kind_of sys.flow p) → injected_count p h ≡ 0
     → (base : Frontier) → ((x : ℕ) → x ≤ greatest_number → base (x ∷ []) ≡ true)
     → AllByRecursion (λ s. base s ≡ true) (map (λ (m : Message). m.at) (sent_by sys p (events_at sys.flow p h)))
 sequence-inside sys h p is none base all =
@@ -192,8 +193,8 @@ kept-stand whole sys h p base kept notified sent n w l proper k = record {
     numbers : (s : is_sequence_kind (kind_of sys.flow p) ≡ true) → counts_sent sys.flow p ≡ true → (e : ℕ) → sender sys.flow e ≡ p
         → IsThinned (everything (bounds_of sys.flow (receiver sys.flow e))) (map (λ (m : Message). m.at) (sent_by sys p (events_at sys.flow p h))) (last_number n)
     numbers s c e r =
-        sequence-thinned sys h p n (sequence-kind (kind_of sys.flow p) s) (proper.no_batch s) (k.count s c) (everything (bounds_of sys.flow (receiver sys.flow e)))
-        (number-domain sys.flow w p e (sequence-kind (kind_of sys.flow p) s) r)
+        sequence-thinned sys h p n (is_sequence (kind_of sys.flow p) s) (proper.no_batch s) (k.count s c) (everything (bounds_of sys.flow (receiver sys.flow e)))
+        (number-domain sys.flow w p e (is_sequence (kind_of sys.flow p) s) r)
 
     of_sequence : (c : Bool) → is_sequence_kind (kind_of sys.flow p) ≡ true → counts_sent sys.flow p ≡ c → AreAtEdgeStamps sys.flow (all_sent sys.flow p sent n)
     of_sequence false s c = subst (AreAtEdgeStamps sys.flow) (sym (all-sequence sys.flow p sent n false s c)) tt
@@ -203,8 +204,8 @@ kept-stand whole sys h p base kept notified sent n w l proper k = record {
         (out_edges-from (λ e. AreAtEdgeStamps sys.flow (messages_numbered (last_number n) e)) sys.flow p
         (λ e i r. numbered-on_edge sys.flow e (last_number n)
         (kept-domain (bounds_of sys.flow (receiver sys.flow e)) (everything (bounds_of sys.flow (receiver sys.flow e))) (map (λ (m : Message). m.at) (sent_by sys p (events_at sys.flow p h))) (last_number n)
-        (sequence-inside sys h p (sequence-kind (kind_of sys.flow p) s) (proper.no_batch s) (everything (bounds_of sys.flow (receiver sys.flow e)))
-        (number-domain sys.flow w p e (sequence-kind (kind_of sys.flow p) s) r))
+        (sequence-inside sys h p (is_sequence (kind_of sys.flow p) s) (proper.no_batch s) (everything (bounds_of sys.flow (receiver sys.flow e)))
+        (number-domain sys.flow w p e (is_sequence (kind_of sys.flow p) s) r))
         (numbers s c e r)))))
 
     by : (b : Bool) → is_sequence_kind (kind_of sys.flow p) ≡ b → AreAtEdgeStamps sys.flow (all_sent sys.flow p sent n)
@@ -218,7 +219,7 @@ kept-stand whole sys h p base kept notified sent n w l proper k = record {
     numbered : is_sequence_kind (kind_of sys.flow p) ≡ true → counts_sent sys.flow p ≡ true → (e : ℕ) → e < length sys.flow.edges → sender sys.flow e ≡ p
         → StandForNumbered sys h e (all_sent sys.flow p sent n)
     numbered s c e i r =
-        let first = first-domain sys.flow p (sequence-kind (kind_of sys.flow p) s) in
+        let first = first-domain sys.flow p (is_sequence (kind_of sys.flow p) s) in
         let B = everything (bounds_of sys.flow (receiver sys.flow e)) in
         let left : stamps_on_from e (everything (bounds_of sys.flow p)) (all_sent sys.flow p sent n) ≡ last_number n =
         ap (stamps_on_from e (everything (bounds_of sys.flow p))) (all-sequence sys.flow p sent n true s c) ∙ numbered-on sys.flow p (everything (bounds_of sys.flow p)) first (last_number n) e i r in
@@ -243,7 +244,7 @@ count-everything (m ∷ ms) = ap (λ b. cond b (count_from (inside []) ms + 1) (
 proper-events : (sys : System) (h : List Event) (p : ℕ) → IsWellFormed sys.flow → HasEpochs sys → IsLegal sys h → AreProper sys h p
 proper-events sys h p w b l = record {
   in_the_domain = legal_events-in_domain sys h w b l p;
-  no_batch = λ s. no_injection sys h p l (sequence-kind (kind_of sys.flow p) s);
+  no_batch = λ s. no_injection sys h p l (is_sequence (kind_of sys.flow p) s);
 }
 
 all-kept : (whole : Bool) (sys : System) (h : List Event) (p : ℕ) (base : Frontier) (traces : Traces) → IsTraceIf whole sys h p base traces

@@ -12,7 +12,7 @@ use Rattle.fw_time.specs.Stamp.{Stamp, in_domain}
 use Rattle.fw_time.specs.declared.stamp.Bounds.{Bounds}
 use Rattle.fw_frontier.specs.Frontier.{Frontier, Within, meet}
 use Rattle.fw_frontier.specs.Front.{Front, inside, frontier_of, IsCanonical, IsFrontOf}
-use Rattle.fw_flow.specs.declared.kind.Kind.{Kind}
+use Rattle.fw_flow.specs.Kind.{Kind}
 use Rattle.fw_flow.specs.declared.kind.Kind.TheVariants.{Enter, Feedback, Leave, Sequence, Regroup}
 use Rattle.fw_flow.specs.Dataflow.{Dataflow, kind_of, sender, receiver, in_edges, domain_of_kind, out_domain_of_kind, greatest_of_kind, bounds_of_domain, bounds_of, greatest_number, is_input_kind, node_frontier}
 use Rattle.fw_flow.specs.Projection.{first_coordinate, phi_of_kind, phi_by_count, table_count}
@@ -118,7 +118,7 @@ come-projected flow counts e g projected f a n = record {
 
 -- ---- what edges carry
 
-unmoved-domain : (flow : Dataflow) (kind : Kind) → moves_stamps kind ≡ false → out_domain_of_kind flow kind ≡ domain_of_kind flow kind
+pub unmoved-domain : (flow : Dataflow) (kind : Kind) → moves_stamps kind ≡ false → out_domain_of_kind flow kind ≡ domain_of_kind flow kind
 unmoved-domain flow (Enter l) e = absurd (false≢true (sym e))
 unmoved-domain flow (Feedback l) e = absurd (false≢true (sym e))
 unmoved-domain flow (Leave l) e = absurd (false≢true (sym e))
@@ -126,7 +126,7 @@ unmoved-domain flow Sequence e = absurd (false≢true (sym e))
 unmoved-domain flow (Regroup n) e = absurd (false≢true (sym e))
 unmoved-domain flow kind e = refl
 
-unmoved-phi : (greatest : Stamp) (kind : Kind) (count : ℕ) (f : Frontier) (u : Stamp) → moves_stamps kind ≡ false → phi_of_kind greatest kind count f u ≡ f u
+pub unmoved-phi : (greatest : Stamp) (kind : Kind) (count : ℕ) (f : Frontier) (u : Stamp) → moves_stamps kind ≡ false → phi_of_kind greatest kind count f u ≡ f u
 unmoved-phi greatest (Enter l) count f u e = absurd (false≢true (sym e))
 unmoved-phi greatest (Feedback l) count f u e = absurd (false≢true (sym e))
 unmoved-phi greatest (Leave l) count f u e = absurd (false≢true (sym e))

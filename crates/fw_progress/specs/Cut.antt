@@ -7,13 +7,13 @@ use Rattle.fw_flow.specs.declared.choice.Choice.{Choice}
 use Rattle.fw_flow.specs.declared.choice.Cut.{Cut}
 use Rattle.fw_flow.specs.declared.choice.Cut.TheVariants.{Present, At}
 use Rattle.fw_flow.specs.declared.event.Event.{Event}
-use Rattle.fw_flow.specs.declared.kind.Kind.TheVariants.{Sequence}
 use Rattle.fw_flow.specs.Dataflow.{System, Dataflow, kind_of, receiver, bounds_of}
 use Rattle.fw_flow.specs.Projection.{IsSentTable}
 use Rattle.fw_flow.specs.SentTable.{EpochsAscend}
 use Rattle.fw_model.specs.Choice.{cut_of, filtered_history}
 use Rattle.fw_model.specs.History.{pending_messages, was_notified}
 use Rattle.fw_model.specs.Machine.{SerialEvent, events}
+use Rattle.fw_model.specs.Sending.{SendsByCount}
 use Rattle.fw_progress.specs.declared.counts.Counts.{Counts}
 use Rattle.fw_progress.specs.Counts.{owed_of, injected_in}
 use Rattle.fw_progress.specs.History.{count_at}
@@ -42,7 +42,7 @@ pub record IsTableAfter (sys : System) (h : List Event) (p : ℕ) (table : List 
 -- the same of each sequence
 abbrev pub AreTablesAfter : System → List Event → List (List (ℕ × ℕ)) → Type 0
 AreTablesAfter sys h tables =
-    (p : ℕ) → p < length sys.flow.nodes → kind_of sys.flow p ≡ Sequence → IsTableAfter sys h p (slice_index_or tables p [])
+    (p : ℕ) → p < length sys.flow.nodes → SendsByCount (kind_of sys.flow p) → IsTableAfter sys h p (slice_index_or tables p [])
 
 -- ---- for the proofs
 

@@ -6,7 +6,6 @@ use Rattle.fw_frontier.specs.Front.{Front}
 use Rattle.fw_flow.specs.Counting.{how_many}
 use Rattle.fw_flow.specs.declared.event.Event.{Event}
 use Rattle.fw_flow.specs.declared.event.Message.{Message}
-use Rattle.fw_flow.specs.declared.kind.Kind.TheVariants.{Sequence}
 use Rattle.fw_flow.specs.Dataflow.{Dataflow, System, kind_of, batches_of, HasEpochs}
 use Rattle.fw_flow.specs.NodeFunction.{event_node, sends}
 use Rattle.fw_flow.specs.Projection.{events_at, IsSentTable}
@@ -14,6 +13,7 @@ use Rattle.fw_flow.specs.SentTable.{EpochsAscend}
 use Rattle.fw_model.specs.History.{pending_messages, is_owed_notice, was_notified, injected_count, IsAdmissible, IsComplete, IsLegal}
 use Rattle.fw_model.specs.LawsOfProgress.{IsStuck}
 use Rattle.fw_model.specs.Machine.{family_of}
+use Rattle.fw_model.specs.Sending.{SendsByCount}
 use Rattle.fw_progress.specs.declared.counts.Counts.{Counts}
 use Rattle.fw_progress.specs.declared.growth.Growth.{Growth}
 use Rattle.fw_progress.specs.Counts.{pending_of, owed_of, batches_in, injected_in, sent_of, is_in}
@@ -32,9 +32,9 @@ pub record IsCountOf (sys : System) (h : List Event) (counts : Counts) : Type 0 
   pub owed : (p : ℕ) → p < length sys.flow.nodes → (t : Stamp) → has_one t (owed_of counts p) ≡ is_owed_notice sys h p t
   pub batches : (p : ℕ) → p < length sys.flow.nodes → batches_in counts p ≡ length (batches_of sys p)
   pub injected : (p : ℕ) → p < length sys.flow.nodes → injected_in counts p ≡ injected_count p h
-  pub sent : (p : ℕ) → p < length sys.flow.nodes → kind_of sys.flow p ≡ Sequence → IsSentTable sys h p (sent_of counts p)
-  pub in_order : (p : ℕ) → p < length sys.flow.nodes → kind_of sys.flow p ≡ Sequence → EpochsAscend (sent_of counts p)
-  pub epochs : (p : ℕ) → p < length sys.flow.nodes → kind_of sys.flow p ≡ Sequence
+  pub sent : (p : ℕ) → p < length sys.flow.nodes → SendsByCount (kind_of sys.flow p) → IsSentTable sys h p (sent_of counts p)
+  pub in_order : (p : ℕ) → p < length sys.flow.nodes → SendsByCount (kind_of sys.flow p) → EpochsAscend (sent_of counts p)
+  pub epochs : (p : ℕ) → p < length sys.flow.nodes → SendsByCount (kind_of sys.flow p)
       → AllByRecursion (λ entry. was_notified p (entry.0 ∷ []) h ≡ true) (sent_of counts p)
 
 -- The kept frontiers are admissible after a history, and those of the nodes that do not wait can not be widened.

@@ -4,10 +4,10 @@ use Rattle.std.specs.List.{AllByRecursion}
 use Rattle.fw_time.specs.Stamp.{Stamp, same, in_domain}
 use Rattle.fw_frontier.specs.Front.{Front}
 use Rattle.fw_flow.specs.Counting.{how_many}
-use Rattle.fw_flow.specs.declared.kind.Kind.TheVariants.{Sequence}
 use Rattle.fw_flow.specs.Dataflow.{Dataflow, kind_of, sender, receiver, bounds_of, is_notified_kind, is_sequence_kind}
 use Rattle.fw_flow.specs.SentTable.{EpochsAscend}
 use Rattle.fw_model.specs.Machine.{AreCanonical}
+use Rattle.fw_model.specs.Sending.{SendsByCount}
 use Rattle.fw_progress.specs.declared.counts.Counts.{Counts}
 use Rattle.fw_progress.specs.Counts.{AreCounts, AreNodes, batches_in, injected_in}
 use Rattle.fw_progress.specs.Tally.{times_in, IsTallyOf, HasOneMore, HasOneLess, HasNoMore}
@@ -86,7 +86,7 @@ pub record IsNotified (flow : Dataflow) (p : ℕ) (at : Stamp) (sent : List Stam
   pub batches : new.batches.items ≡ old.batches.items
   pub injected : new.injected.items ≡ old.injected.items
   pub tables : length new.sent.items ≡ length old.sent.items
-  pub counted : kind_of flow p ≡ Sequence → (x : ℕ) → at ≡ x ∷ [] → ChangesAt p [] (IsSentMore x (length sent)) old.sent.items new.sent.items
+  pub counted : SendsByCount (kind_of flow p) → (x : ℕ) → at ≡ x ∷ [] → ChangesAt p [] (IsSentMore x (length sent)) old.sent.items new.sent.items
   pub counted_none : is_sequence_kind (kind_of flow p) ≡ false → new.sent.items ≡ old.sent.items
 
 -- A node injects its next batch, and sends at these stamps.

@@ -14,7 +14,7 @@ use Rattle.fw_frontier.specs.Frontier.{Frontier}
 use Rattle.fw_flow.specs.declared.event.Event.{Event}
 use Rattle.fw_flow.specs.declared.event.Event.TheVariants.{Inject, Deliver, Notify}
 use Rattle.fw_flow.specs.declared.event.Message.{Message}
-use Rattle.fw_flow.specs.declared.kind.Kind.{Kind}
+use Rattle.fw_flow.specs.Kind.{Kind}
 use Rattle.fw_flow.specs.declared.kind.Kind.TheVariants.{Input, OutputEpoch, OutputNumber, Enter, Feedback, Leave, Sequence, Regroup}
 use Rattle.fw_flow.specs.Dataflow.{System, Dataflow, kind_of, sender, receiver, in_edges, max_of, greatest_number, domain_of_kind, bounds_of, bounds_of_domain, batches_of, send_stamp, send_stamp_of_kind, is_input_kind, is_sequence_kind}
 use Rattle.fw_flow.specs.NodeFunction.{event_stamp, sends, sends_of_kind, sent_by, messages_at, messages_at_some}

@@ -65,7 +65,7 @@ pub record IsRootOf (sys : System) (state : Machine) (root : Root) : Type 0 wher
   pub pending : (e : ℕ) (t : Stamp) → pending_said root.pending e t
       ≡ how_many (λ (m : Message). same m.at t) (pending_messages sys (events state.history) e)
   pub owed : (p : ℕ) (t : Stamp) → is_said_owed root.owed p t ≡ is_owed_notice sys (events state.history) p t
-  pub sends : AllZip (λ ss p. IsSentTable sys (events state.history) p (table_said ss)) root.sends (nodes_as sys.flow role.Sequence)
+  pub sends : AllZip (λ ss p. IsSentTable sys (events state.history) p (table_said ss)) root.sends (nodes_as sys.flow role.ByCount)
 
 -- a root of a state is one of that in which every node is failed, and the other way round
 abbrev pub DownHasTheSameRoots : Type 0

@@ -9,7 +9,7 @@ use Rattle.fw_flow.specs.declared.event.Event.{Event}
 use Rattle.fw_flow.specs.declared.event.Event.TheVariants.{Inject, Deliver, Notify}
 use Rattle.fw_flow.specs.declared.event.Message.{Message}
 use Rattle.fw_flow.specs.declared.kind.Domain.TheVariants.{Epoch, Loop as InLoop}
-use Rattle.fw_flow.specs.declared.kind.Kind.{Kind}
+use Rattle.fw_flow.specs.Kind.{Kind}
 use Rattle.fw_flow.specs.declared.kind.Kind.TheVariants.{OutputNumber, Enter, Feedback, Leave, Total, Sequence, Regroup, OutputEpoch, Sum}
 use Rattle.fw_flow.specs.Dataflow.{System, Dataflow, kind_of, sender, receiver, max_of, parent_of, loops_of, greatest_in, domain_within, ends_within, declared_parent, domain_of, domain_of_kind, out_domain_of, out_domain_of_kind, bounds_of, bounds_of_domain, is_notified_kind, is_of_numbers, is_sequence_kind, send_stamp_of_kind, batches_of, greatest_number, HasEpochs}
 use Rattle.fw_flow.specs.NodeFunction.{event_node, event_stamp, sends, sent_by}

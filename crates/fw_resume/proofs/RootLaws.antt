@@ -13,8 +13,6 @@ use Rattle.fw_frontier.specs.declared.state.SentCount.{SentCount}
 use Rattle.fw_flow.specs.Counting.{how_many}
 use Rattle.fw_flow.specs.declared.event.Event.{Event as Happened}
 use Rattle.fw_flow.specs.declared.event.Message.{Message}
-use Rattle.fw_flow.specs.declared.kind.Kind.{Kind}
-use Rattle.fw_flow.specs.declared.kind.Kind.TheVariants.{Sequence}
 use Rattle.fw_flow.specs.declared.kind.Policy.TheVariants as policy
 use Rattle.fw_flow.specs.Dataflow.{Dataflow, System, bounds_of, idle_node, is_notified_kind, kind_of, node_ids, policy_of}
 use Rattle.fw_flow.specs.NodeFunction.{event_node, event_stamp}
@@ -28,6 +26,7 @@ use Rattle.fw_model.specs.Reached.{IsReached}
 use Rattle.fw_model.specs.Writes.{is_collected, not_collected}
 use Rattle.fw_model.proofs.AskedLaws.{reached-all}
 use Rattle.fw_model.proofs.DomainLaws.{has_epochs}
+use Rattle.fw_model.proofs.KindSorts.{is_sequence}
 use Rattle.fw_model.proofs.LegalLaws.{legal_events-in_domain}
 use Rattle.fw_model.proofs.ThinnedLaws.{each-contained}
 use Rattle.fw_keep.specs.declared.entry.Entry.{Entry}
@@ -230,10 +229,6 @@ zip-sends R S [] (x ∷ xs) k a = absurd a
 zip-sends R S (p ∷ ps) [] k a = absurd a
 zip-sends R S (p ∷ ps) (x ∷ xs) k a = (k.0 x a.0, zip-sends R S ps xs k.1 a.1)
 
-pub sequence-kind : (kind : Kind) → plays role.Sequence kind ≡ true → kind ≡ Sequence
-sequence-kind Sequence k = refl
-sequence-kind kind k = absurd (cc)
-
 -- ---- the root
 
 module _ (sys : System) (records : Option Records) (state : Machine) (running : Running) (root : Root) (shaped : IsShaped running) (s : Stands sys running records state) (t : IsToldBy running root) where
@@ -308,16 +303,16 @@ module _ (sys : System) (records : Option Records) (state : Machine) (running : 
     | inr l ↦ owed_beyond running.progress.counts (length running.flow.nodes) root.owed t.owed p (omega (arith, l, count)) at ∙ sym (none-owed sys (events state.history) p at l)
   ]
 
-  sends-said : AllZip (λ ss p. IsSentTable sys (events state.history) p (table_said ss)) root.sends (nodes_as sys.flow role.Sequence)
+  sends-said : AllZip (λ ss p. IsSentTable sys (events state.history) p (table_said ss)) root.sends (nodes_as sys.flow role.ByCount)
   sends-said =
-      zip-sends (AreSendsTold running.progress.counts) (λ ss p. IsSentTable sys (events state.history) p (table_said ss)) (nodes_as sys.flow role.Sequence) root.sends
-      (each-weaker (λ p. (p < length sys.flow.nodes) × (plays role.Sequence (kind_of sys.flow p) ≡ true))
-      (λ p. (ss : List SentCount) → AreSendsTold running.progress.counts p ss → IsSentTable sys (events state.history) p (table_said ss)) (nodes_as sys.flow role.Sequence)
+      zip-sends (AreSendsTold running.progress.counts) (λ ss p. IsSentTable sys (events state.history) p (table_said ss)) (nodes_as sys.flow role.ByCount) root.sends
+      (each-weaker (λ p. (p < length sys.flow.nodes) × (plays role.ByCount (kind_of sys.flow p) ≡ true))
+      (λ p. (ss : List SentCount) → AreSendsTold running.progress.counts p ss → IsSentTable sys (events state.history) p (table_said ss)) (nodes_as sys.flow role.ByCount)
       (λ p k ss a.
-      let kind = sequence-kind (kind_of sys.flow p) k.1 in
+      let kind = is_sequence (kind_of sys.flow p) k.1 in
       sends-told sys (events state.history) p (sent_of running.progress.counts p) ss a.each (s.apart.progress.counts.in_order p k.0 kind) (s.apart.progress.counts.sent p k.0 kind))
-      (each-as sys.flow role.Sequence))
-      (subst (λ f. AllZip (AreSendsTold running.progress.counts) (nodes_as f role.Sequence) root.sends) s.apart.flow t.sends)
+      (each-as sys.flow role.ByCount))
+      (subst (λ f. AllZip (AreSendsTold running.progress.counts) (nodes_as f role.ByCount) root.sends) s.apart.flow t.sends)
 
   pub is_root : IsRootOf sys state root
   is_root = record {

@@ -12,8 +12,8 @@ use Rattle.fw_bytes.specs.Sound.{IsList, IsSentCount, IsStamp, each_may_follow, 
 use Rattle.fw_frontier.specs.Front.{Front, IsCanonical}
 use Rattle.fw_frontier.specs.declared.state.SentCount.{SentCount}
 use Rattle.fw_frontier.proofs.BelowLaws.{in_domain-one}
-use Rattle.fw_flow.specs.declared.kind.Kind.{Kind}
-use Rattle.fw_flow.specs.declared.kind.Kind.TheVariants.{OutputEpoch, OutputNumber, Sequence}
+use Rattle.fw_flow.specs.Kind.{Kind}
+use Rattle.fw_flow.specs.declared.kind.Kind.TheVariants.{OutputEpoch, OutputNumber}
 use Rattle.fw_flow.specs.declared.kind.Policy.{Policy}
 use Rattle.fw_flow.specs.declared.kind.Policy.TheVariants as policy
 use Rattle.fw_flow.specs.declared.restoring.Restoring.TheVariants.{Batches}
@@ -26,9 +26,11 @@ use Rattle.fw_model.specs.Choice.{IsRestorable, kept, until}
 use Rattle.fw_model.specs.History.{injected_count}
 use Rattle.fw_model.specs.Machine.{Machine, SerialEvent, Stage, Write, Written, ack_count_of, checkpoint, events, front_of, logged_event, no_stamps}
 use Rattle.fw_model.specs.Reached.{IsReached}
+use Rattle.fw_model.specs.Sending.{SendsByCount}
 use Rattle.fw_model.specs.Writes.{not_collected}
 use Rattle.fw_model.proofs.AskedLaws.{IsAskedWell, IsWriteAskedWell, reached-all, takes-declared}
 use Rattle.fw_model.proofs.InputLaws.{injected-few}
+use Rattle.fw_model.proofs.KindSorts.{is_sequence}
 use Rattle.fw_model.proofs.LowLaws.{input-is, none-canonical}
 use Rattle.fw_model.proofs.RestoringLaws.{full-declared}
 use Rattle.fw_model.proofs.SameInsideLaws.{low-offered}
@@ -60,7 +62,7 @@ use Rattle.fw_resume.specs.Sends.{AreSendsTold}
 use Rattle.fw_resume.proofs.BoundLaws.{bounds-few}
 use Rattle.fw_keep.proofs.IdLaws.{ascending-kept}
 use Rattle.fw_resume.proofs.NamedLaws.{zip-each}
-use Rattle.fw_resume.proofs.RootLaws.{at-map, each-as, is-single, is_root, sequence-kind, singles-told}
+use Rattle.fw_resume.proofs.RootLaws.{at-map, each-as, is-single, is_root, singles-told}
 use Rattle.fw_resume.proofs.SoundLaws.{front_in}
 use Rattle.fw_resume.proofs.SoundListLaws.{kept_entries, others_sound, owed_sound, pending_sound, writes_sound}
 use Rattle.fw_resume.proofs.StartLaws.{number_none, number_there}
@@ -192,7 +194,7 @@ each-acknowledged P (x ∷ xs) a =
 
 -- ---- what sequences sent
 
-cause-inside : (flow : Dataflow) (p : ℕ) → kind_of flow p ≡ Sequence → (t : Stamp) → is-single t ≡ true → IsStamp t → in_domain (bounds_of flow p) t ≡ true
+cause-inside : (flow : Dataflow) (p : ℕ) → SendsByCount (kind_of flow p) → (t : Stamp) → is-single t ≡ true → IsStamp t → in_domain (bounds_of flow p) t ≡ true
 cause-inside flow p k [] s i = absurd (cc)
 cause-inside flow p k (x ∷ []) s i =
     let b = bounds-sequence flow p k in
@@ -213,7 +215,7 @@ counts-follow flow p before (s ∷ ss) e d =
     two true b k = (refl, k)
     two false b k = absurd (cc)
 
-sends_sound : (flow : Dataflow) (counts : Counts) (p : ℕ) (ss : List SentCount) → kind_of flow p ≡ Sequence → EpochsAscend (sent_of counts p) → AreSendsTold counts p ss
+sends_sound : (flow : Dataflow) (counts : Counts) (p : ℕ) (ss : List SentCount) → SendsByCount (kind_of flow p) → EpochsAscend (sent_of counts p) → AreSendsTold counts p ss
     → AreCountsOfSequence flow p ss
 sends_sound flow counts p ss k o a = record {
   few = a.few;
@@ -270,15 +272,15 @@ module _ (batches : Given) (records : Option Records) (state : Machine) (running
       (λ p. IsNumberFor running.flow batches p (ack_count_of state p)) (nodes_as running.flow role.Output)
       (λ p k. bound_sound running.flow batches state s.apart.well_formed s.apart.reached p k.1) (each-as running.flow role.Output)))
 
-  sends-sound : AllZip (AreCountsOfSequence running.flow) (nodes_as running.flow role.Sequence) root.sends
+  sends-sound : AllZip (AreCountsOfSequence running.flow) (nodes_as running.flow role.ByCount) root.sends
   sends-sound =
-      zip-weaker (AreSendsTold running.progress.counts) (AreCountsOfSequence running.flow) (nodes_as running.flow role.Sequence) root.sends
-      (each-weaker (λ p. (p < length running.flow.nodes) × (plays role.Sequence (kind_of running.flow p) ≡ true))
-      (λ p. (ss : List SentCount) → AreSendsTold running.progress.counts p ss → AreCountsOfSequence running.flow p ss) (nodes_as running.flow role.Sequence)
+      zip-weaker (AreSendsTold running.progress.counts) (AreCountsOfSequence running.flow) (nodes_as running.flow role.ByCount) root.sends
+      (each-weaker (λ p. (p < length running.flow.nodes) × (plays role.ByCount (kind_of running.flow p) ≡ true))
+      (λ p. (ss : List SentCount) → AreSendsTold running.progress.counts p ss → AreCountsOfSequence running.flow p ss) (nodes_as running.flow role.ByCount)
       (λ p k ss a.
-      let kind = sequence-kind (kind_of running.flow p) k.1 in
+      let kind = is_sequence (kind_of running.flow p) k.1 in
       sends_sound running.flow running.progress.counts p ss kind (s.apart.progress.counts.in_order p k.0 kind) a)
-      (each-as running.flow role.Sequence)) t.sends
+      (each-as running.flow role.ByCount)) t.sends
 
   pub root_sound : IsCatalogue running.parts.keep → AreSmall root.pending → length root.owed < 2 ^ 64 → IsMark root.mark → running.parts.keep.next < 2 ^ 62
       → IsRootFor running.flow batches root

@@ -13,10 +13,10 @@ use Rattle.fw_flow.specs.declared.choice.Counted.{Counted}
 use Rattle.fw_flow.specs.declared.choice.OfEdge.{OfEdge}
 use Rattle.fw_flow.specs.declared.choice.Recorded.{Recorded}
 use Rattle.fw_flow.specs.declared.choice.Stamps.{Stamps}
-use Rattle.fw_flow.specs.declared.kind.Kind.{Kind}
+use Rattle.fw_flow.specs.Kind.{Kind}
 use Rattle.fw_flow.specs.declared.kind.Kind.TheVariants.{Leave, Sequence, Regroup}
 use Rattle.fw_flow.specs.declared.node.Edge.{Edge}
-use Rattle.fw_flow.specs.Dataflow.{Dataflow, bounds_of, edges_into, edges_from, in_edges, out_edges, is_one_of, is_sequence_kind, kind_of, policy_of, receiver, sender, send_stamp, send_stamp_of_kind, bounds_of_domain, domain_of_kind, out_domain_of}
+use Rattle.fw_flow.specs.Dataflow.{Dataflow, bounds_of, edges_into, edges_from, in_edges, out_edges, is_one_of, kind_of, policy_of, receiver, sender, send_stamp, send_stamp_of_kind, bounds_of_domain, domain_of_kind, out_domain_of}
 use Rattle.fw_flow.specs.Projection.{all_inside}
 use Rattle.fw_flow.specs.Restoring.{can_resend}
 use Rattle.fw_flow.specs.WellFormed.{IsWellFormed}
@@ -25,7 +25,9 @@ use Rattle.fw_flow.proofs.OutEdgeLaws.{out_edges-at, out_edges-from}
 use Rattle.fw_flow.proofs.SendStampLaws.{domain_length, regrouped_first}
 use Rattle.fw_model.specs.EventStamps.{IsOfCause, causes_of, tells_sent}
 use Rattle.fw_model.specs.Offers.{AreAtEdgeStamps, counted_on_edge, front_of_edge, stamps_on, stamps_on_from}
+use Rattle.fw_model.specs.Sending.{SendsByCount}
 use Rattle.fw_model.proofs.ArrivalLaws.{in_edges-receive}
+use Rattle.fw_model.proofs.KindSorts.{is_sequence}
 use Rattle.fw_model.proofs.LegalLaws.{edge-receiver}
 use Rattle.fw_model.proofs.SendingLaws.{send_stamp-in_domain}
 use Rattle.fw_regain.specs.Causes.{cause_told, merges_stamps, message_of_told, tells_cause}
@@ -264,13 +266,9 @@ told-messages flow p e s k (u ∷ us) =
     ∙ ap (λ ms. message_of_told flow e u ∷ ms) (told-messages flow p e s k us)
 
 -- of a sequence each message is from its first epoch, which is a stamp of it
-first-inside : (flow : Dataflow) (p : ℕ) → kind_of flow p ≡ Sequence → in_domain (bounds_of flow p) (0 ∷ []) ≡ true
+first-inside : (flow : Dataflow) (p : ℕ) → SendsByCount (kind_of flow p) → in_domain (bounds_of flow p) (0 ∷ []) ≡ true
 unfolding bounds_of
 first-inside flow p k = ap (λ x. in_domain (bounds_of_domain flow (domain_of_kind flow x)) (0 ∷ [])) k
-
-sequence-is : (kind : Kind) → is_sequence_kind kind ≡ true → kind ≡ Sequence
-sequence-is Sequence k = refl
-sequence-is kind k = absurd (cc)
 
 filter-both : (a b : Counted → Bool) (ms : List Counted) → filter (λ m. a m && b m) ms ≡ filter b (filter a ms)
 filter-both a b [] = refl
@@ -281,7 +279,7 @@ filter-both a b (m ∷ ms) = by (a m) (filter-both a b ms)
     by true r = ap (λ ns. cond (b m) (m ∷ ns) ns) r
     by false r = r
 
-numbers-on : (g : Stamp → Bool) (e : ℕ) (kind : Kind) (tops : List Stamp) → kind ≡ Sequence → g (0 ∷ []) ≡ true → (ms : List Counted) → counted_on_edge e ms ≡ map (sent_at kind e) tops
+numbers-on : (g : Stamp → Bool) (e : ℕ) (kind : Kind) (tops : List Stamp) → SendsByCount kind → g (0 ∷ []) ≡ true → (ms : List Counted) → counted_on_edge e ms ≡ map (sent_at kind e) tops
     → stamps_on_from e g ms ≡ tops
 numbers-on g e kind tops k i ms is =
     apart ms ∙ ap (λ ns. map (λ (m : Counted). m.at) (filter (λ (m : Counted). all_inside g m.causes) ns)) (is ∙ ap (λ x. map (sent_at x e) tops) k) ∙ each tops
@@ -356,7 +354,7 @@ sent-back flow p r stamps w l a b e there is =
             ap causes_of i ∙ c.1 ∙ ap (map (λ (m : Counted). m.at)) (sym (all-on_edge flow p d r stamps.delivered w l k m q a)),
           );
       numbered = λ k.
-          let kind = sequence-is (kind_of flow p) k in
+          let kind = is_sequence (kind_of flow p) k in
           let t = s.told (ap merges_stamps kind) in
           let g = everything (bounds_of flow (sender flow e)) in
           subst (λ ss. AreGreatestOn flow e r.discarded ss)

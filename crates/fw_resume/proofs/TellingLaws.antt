@@ -35,17 +35,17 @@ told-named sys records state running root s t =
     named sys records state running.parts.keep.entries root s.apart.well_formed s.apart.reached s.apart.entries s.apart.bases s.apart.stored t.ids.writes
 
 -- each sequence has a table
-pub all_there : (flow : Dataflow) (kept counts : Counts) (ps : List ℕ) → AreCounts flow kept → counts ≡ kept → ps ≡ nodes_as flow role.Sequence
+pub all_there : (flow : Dataflow) (kept counts : Counts) (ps : List ℕ) → AreCounts flow kept → counts ≡ kept → ps ≡ nodes_as flow role.ByCount
     → AllByRecursion (λ p. p < length counts.sent.items) ps
 all_there flow kept counts ps a c e =
     let n : length counts.sent.items ≡ length flow.nodes = ap (λ (x : Counts). length x.sent.items) c ∙ a.sent_each in
     subst (AllByRecursion (λ p. p < length counts.sent.items)) (sym e)
-    (each-weaker (λ p. (p < length flow.nodes) × (plays role.Sequence (kind_of flow p) ≡ true)) (λ p. p < length counts.sent.items) (nodes_as flow role.Sequence)
-    (λ p k. let l = k.0 in omega (arith, l, n)) (each-as flow role.Sequence))
+    (each-weaker (λ p. (p < length flow.nodes) × (plays role.ByCount (kind_of flow p) ≡ true)) (λ p. p < length counts.sent.items) (nodes_as flow role.ByCount)
+    (λ p k. let l = k.0 in omega (arith, l, n)) (each-as flow role.ByCount))
 
 -- a root with these parts tells what the engine keeps
 pub told_by : (running : Running) (root : Root) (inputs outputs sequences : List ℕ) (entries : List Entry) (counts : Counts) → inputs ≡ nodes_as running.flow role.Input
-    → outputs ≡ nodes_as running.flow role.Output → sequences ≡ nodes_as running.flow role.Sequence → entries ≡ running.parts.keep.entries → counts ≡ running.progress.counts
+    → outputs ≡ nodes_as running.flow role.Output → sequences ≡ nodes_as running.flow role.ByCount → entries ≡ running.parts.keep.entries → counts ≡ running.progress.counts
     → root.next_id ≡ running.parts.keep.next → root.injected ≡ map (λ (s : ℕ). (source_of running s).injected) inputs
     → root.bounds ≡ map (λ (o : ℕ). (output_of running o).bound) outputs → AreFrontsTold running (length running.flow.nodes) root.fronts
     → root.writes ≡ map name_of (filter (λ (e : Entry). e.acknowledged) entries) → AreOthers running.parts.keep root.others
@@ -62,7 +62,7 @@ told_by running root inputs outputs sequences entries counts is os qs es cs next
   fronts = fronts;
   pending = pending;
   owed = owed;
-  sends = subst (λ (x : Counts). AllZip (AreSendsTold x) (nodes_as running.flow role.Sequence) root.sends) cs
+  sends = subst (λ (x : Counts). AllZip (AreSendsTold x) (nodes_as running.flow role.ByCount) root.sends) cs
       (subst (λ (ps : List ℕ). AllZip (AreSendsTold counts) ps root.sends) qs sends);
 }
 

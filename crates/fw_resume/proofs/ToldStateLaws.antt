@@ -14,15 +14,15 @@ use Rattle.fw_flow.specs.Counting.{how_many}
 use Rattle.fw_flow.specs.declared.event.Event.{Event}
 use Rattle.fw_flow.specs.declared.event.Event.TheVariants.{Inject, Deliver, Notify}
 use Rattle.fw_flow.specs.declared.event.Message.{Message}
-use Rattle.fw_flow.specs.declared.kind.Kind.TheVariants.{Sequence}
 use Rattle.fw_flow.specs.Dataflow.{System, Dataflow, is_input_kind, is_sequence_kind, kind_of, node_ids, system_of}
-use Rattle.fw_flow.specs.NodeFunction.{event_node, event_stamp, recs_on, numbered_messages, sequence_sent, sends_of_kind, sends, sent_by}
+use Rattle.fw_flow.specs.NodeFunction.{event_node, event_stamp, numbered_messages, sequence_sent, sends_of_kind, sends, sent_by}
 use Rattle.fw_flow.specs.Projection.{all_inside, count_from, events_at, sent_count, table_count, IsSentTable}
 use Rattle.fw_flow.specs.SentTable.{EpochsAscend}
 use Rattle.fw_flow.specs.WellFormed.{IsWellFormedSystem}
 use Rattle.fw_model.specs.History.{injected_count, pending_messages, was_notified, IsLegal}
 use Rattle.fw_model.specs.Machine.{Machine, events}
 use Rattle.fw_model.specs.Reached.{IsReached}
+use Rattle.fw_model.specs.Sending.{SendsByCount, recs_by_count_on}
 use Rattle.fw_model.proofs.DistinctLaws.{same-swap}
 use Rattle.fw_model.proofs.DomainLaws.{has_epochs}
 use Rattle.fw_model.proofs.LegalLaws.{only_inputs_inject}
@@ -130,10 +130,10 @@ injected-is flow f p l none =
     ]
 
 -- a sequence has its place
-sequence-placed : (flow : Dataflow) (p : ℕ) → p < length flow.nodes → kind_of flow p ≡ Sequence → IsPlaced (nodes_as flow role.Sequence) p
+sequence-placed : (flow : Dataflow) (p : ℕ) → p < length flow.nodes → SendsByCount (kind_of flow p) → IsPlaced (nodes_as flow role.ByCount) p
 unfolding nodes_as
 sequence-placed flow p l k =
-    placed (nodes_as flow role.Sequence) p
+    placed (nodes_as flow role.ByCount) p
     (among-passed (λ q. is_sequence_kind (kind_of flow q)) 0 (length flow.nodes) p (omega arith) (omega (arith, l)) (ap is_sequence_kind k))
 
 zip-at : {A B : Type 0} (R : A → B → Type 0) (xs : List A) (ys : List B) (i : ℕ) (d : A) (e : B) → AllZip R xs ys → i < length ys → R (get_or xs i d) (get_or ys i e)
@@ -145,8 +145,8 @@ zip-at R (x ∷ xs) (y ∷ ys) (suc i) d e a l = zip-at R xs ys i d e a.1 (omega
 
 -- the tables of a root ascend, whichever node they stand for
 pub standing-good : (flow : Dataflow) (given : List (ℕ × List (List Rec))) (root : Root) (p : ℕ) → IsRootFor flow given root
-    → AreGoodSends (sends_standing_for (nodes_as flow role.Sequence) root.sends p)
-standing-good flow given root p s = by (nodes_as flow role.Sequence) root.sends (place_among_nodes (nodes_as flow role.Sequence) p) s.sends
+    → AreGoodSends (sends_standing_for (nodes_as flow role.ByCount) root.sends p)
+standing-good flow given root p s = by (nodes_as flow role.ByCount) root.sends (place_among_nodes (nodes_as flow role.ByCount) p) s.sends
   where
     by : (qs : List ℕ) (tables : List (List SentCount)) (i : ℕ) → AllZip (AreCountsOfSequence flow) qs tables → AreGoodSends (get_or tables i [])
     by [] [] i a = sends-none
@@ -158,22 +158,22 @@ standing-good flow given root p s = by (nodes_as flow role.Sequence) root.sends 
 -- ---- of which epochs a sequence was notified
 
 -- an event that is no notification of an epoch sends nothing from there
-event-silent : (sys : System) (p : ℕ) (f : Frontier) (v : Event) (vs : List Event) → kind_of sys.flow p ≡ Sequence → f (event_stamp v) ≡ false ⊎ (recs_on sys Sequence vs v ≡ [])
+event-silent : (sys : System) (p : ℕ) (f : Frontier) (v : Event) (vs : List Event) → SendsByCount (kind_of sys.flow p) → f (event_stamp v) ≡ false ⊎ (recs_by_count_on sys vs v ≡ [])
     → count_from f (sends sys p vs v) ≡ 0
 unfolding sends
 event-silent sys p f v vs k quiet =
     let n = length (sequence_sent vs) in
-    let all : sends sys p vs v ≡ numbered_messages n (event_stamp v) (recs_on sys Sequence vs v) = ap (λ kind. sends_of_kind sys kind vs v) k in
+    let all : sends sys p vs v ≡ numbered_messages n (event_stamp v) (recs_by_count_on sys vs v) = ap (λ kind. sends_of_kind sys kind vs v) k in
     ap (count_from f) all ∙ elim quiet [
       | inl out ↦
-          let ms = numbered_messages n (event_stamp v) (recs_on sys Sequence vs v) in
+          let ms = numbered_messages n (event_stamp v) (recs_by_count_on sys vs v) in
           count-none f ms (each-weaker (IsNumbered n (event_stamp v)) (λ (m : Message). all_inside f m.causes ≡ false) ms (λ m a. one_inside f (event_stamp v) m false out a.1)
-          (numbered-each n (event_stamp v) (recs_on sys Sequence vs v)))
+          (numbered-each n (event_stamp v) (recs_by_count_on sys vs v)))
       | inr none ↦ ap (λ rs. count_from f (numbered_messages n (event_stamp v) rs)) none
     ]
 
 -- where it was not notified of an epoch, it sent nothing from there
-silent : (sys : System) (p x : ℕ) → kind_of sys.flow p ≡ Sequence → (h : List Event) → was_notified p (x ∷ []) h ≡ false → sent_count sys h p (λ t. same t (x ∷ [])) ≡ 0
+silent : (sys : System) (p x : ℕ) → SendsByCount (kind_of sys.flow p) → (h : List Event) → was_notified p (x ∷ []) h ≡ false → sent_count sys h p (λ t. same t (x ∷ [])) ≡ 0
 silent sys p x k [] n = refl
 silent sys p x k (v ∷ h) n = at v n (λ m. silent sys p x k h m)
   where
@@ -183,7 +183,7 @@ silent sys p x k (v ∷ h) n = at v n (λ m. silent sys p x k h m)
     vs : List Event
     vs = events_at sys.flow p h
 
-    by : (v : Event) (b : Bool) → sent_count sys h p f ≡ 0 → (b ≡ true → f (event_stamp v) ≡ false ⊎ (recs_on sys Sequence vs v ≡ [])) → count_from f (sent_by sys p (cond b (v ∷ vs) vs)) ≡ 0
+    by : (v : Event) (b : Bool) → sent_count sys h p f ≡ 0 → (b ≡ true → f (event_stamp v) ≡ false ⊎ (recs_by_count_on sys vs v ≡ [])) → count_from f (sent_by sys p (cond b (v ∷ vs) vs)) ≡ 0
     by v true rest quiet =
         let first = event-silent sys p f v vs k (quiet refl) in
         let both = count-append f (sends sys p vs v) (sent_by sys p vs) in
@@ -211,7 +211,7 @@ counts-at_least f (e ∷ es) = (
     more false n l = l
 
 -- each entry that counts some is of an epoch of which the sequence was notified
-entries-notified : (sys : System) (h : List Event) (p : ℕ) (table : List (ℕ × ℕ)) → kind_of sys.flow p ≡ Sequence → IsSentTable sys h p table
+entries-notified : (sys : System) (h : List Event) (p : ℕ) (table : List (ℕ × ℕ)) → SendsByCount (kind_of sys.flow p) → IsSentTable sys h p table
     → AllByRecursion (λ (e : ℕ × ℕ). 0 < e.1) table → AllByRecursion (λ entry. was_notified p (entry.0 ∷ []) h ≡ true) table
 entries-notified sys h p table k is some =
     each-all table table (λ e c. each-at_most e c) some (each-there table)
@@ -270,12 +270,12 @@ told-of_state flow given root counts state sound a w r of = record {
     h = events state.history
 
     sequences : List ℕ
-    sequences = nodes_as flow role.Sequence
+    sequences = nodes_as flow role.ByCount
 
     legal : IsLegal sys h
     legal = runs-legal sys r.0 r.1 state w.flow (has_epochs sys w) r.2
 
-    is_table : (p : ℕ) → p < length flow.nodes → kind_of flow p ≡ Sequence → IsSentTable sys h p (table_said (sends_standing_for sequences root.sends p))
+    is_table : (p : ℕ) → p < length flow.nodes → SendsByCount (kind_of flow p) → IsSentTable sys h p (table_said (sends_standing_for sequences root.sends p))
     is_table p l k =
         let i = place_among_nodes sequences p in
         let at = sequence-placed flow p l k in

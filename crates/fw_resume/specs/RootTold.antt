@@ -19,4 +19,4 @@ pub record IsToldBy (running : Running) (root : Root) : Type 0 where
   pub fronts : AreFrontsTold running (length running.flow.nodes) root.fronts
   pub pending : ArePendingOf running.progress.counts (length running.flow.edges) root.pending
   pub owed : AreOwedOf running.progress.counts (length running.flow.nodes) root.owed
-  pub sends : AllZip (AreSendsTold running.progress.counts) (nodes_as running.flow role.Sequence) root.sends
+  pub sends : AllZip (AreSendsTold running.progress.counts) (nodes_as running.flow role.ByCount) root.sends

@@ -5,7 +5,7 @@ use Rattle.fw_time.specs.Stamp.{Stamp}
 use Rattle.fw_flow.specs.declared.choice.Counted.{Counted}
 use Rattle.fw_flow.specs.declared.choice.OfEdge.{OfEdge}
 use Rattle.fw_flow.specs.declared.choice.Recorded.{Recorded}
-use Rattle.fw_flow.specs.declared.kind.Kind.{Kind}
+use Rattle.fw_flow.specs.Kind.{Kind}
 use Rattle.fw_flow.specs.declared.kind.Kind.TheVariants.{Sequence}
 use Rattle.fw_flow.specs.Dataflow.{Dataflow, bounds_of, is_one_of, kind_of, receiver, send_stamp}
 use Rattle.fw_model.specs.Offers.{counted_on_edge, front_of_edge}

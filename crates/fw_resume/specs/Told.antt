@@ -69,4 +69,4 @@ pub record AreCountsTold (flow : Dataflow) (given : List (ℕ × List (List Rec)
   pub owed : AreOwedTold flow root.owed counts.owed.items
   pub batches : AreBatchesTold given (length flow.nodes) counts.batches.items
   pub injected : AreInjectedTold (nodes_as flow role.Input) root.injected (length flow.nodes) counts.injected.items
-  pub sent : AreTablesTold (nodes_as flow role.Sequence) root.sends (length flow.nodes) counts.sent.items
+  pub sent : AreTablesTold (nodes_as flow role.ByCount) root.sends (length flow.nodes) counts.sent.items

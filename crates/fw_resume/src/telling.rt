@@ -52,7 +52,7 @@ pub fn root_of(running: &Running, mark: Mark) -> Result<Root, AllocError>
     let keep = &running.parts.keep;
     let inputs = nodes_as(alloc, flow, Role::Input)?;
     let outputs = nodes_as(alloc, flow, Role::Output)?;
-    let sequences = nodes_as(alloc, flow, Role::Sequence)?;
+    let sequences = nodes_as(alloc, flow, Role::ByCount)?;
     Ok(Root {
         mark,
         next_id: keep.next_id(),

@@ -12,7 +12,7 @@ ghost use Rattle.fw_progress.specs.Tally.{HasManyMore};
 ghost use Rattle.fw_regain.specs.RootOf.{table_said, IsRootOf};
 ghost use Rattle.fw_root.specs.OfFlow as of_flow;
 ghost use Rattle.fw_root.specs.Sound.{IsRootFor};
-ghost use Rattle.fw_root.specs.declared.of_flow.Role.TheVariants.{Input, Sequence};
+ghost use Rattle.fw_root.specs.declared.of_flow.Role.TheVariants.{Input, ByCount};
 ghost use Rattle.fw_resume.specs.Told.{AreBatchesTold, AreCountsTold, AreGoodSends, AreInjectedTold, AreOwedTold, ArePendingTold, AreTablesTold};
 ghost use Rattle.fw_resume.specs.Told.{IsOwedOf, IsPendingOf};
 
@@ -40,7 +40,7 @@ pub(crate) fn counts_of(
         → IfOk result (IsCountOf (system_of flow.now batches.now) (events state.history)) }
 {
     let inputs = nodes_as(alloc, flow, Role::Input)?;
-    let sequences = nodes_as(alloc, flow, Role::Sequence)?;
+    let sequences = nodes_as(alloc, flow, Role::ByCount)?;
     counts_told(alloc, flow, batches, root, &inputs, &sequences)
 }
 
@@ -55,7 +55,7 @@ fn counts_told(
 ) -> Result<Counts, AllocError>
     requires sound { IsRootFor flow.now batches.now root.now }
     requires inputs { inputs.now ≡ of_flow.nodes_as flow.now Input }
-    requires sequences { sequences.now ≡ of_flow.nodes_as flow.now Sequence }
+    requires sequences { sequences.now ≡ of_flow.nodes_as flow.now ByCount }
     ensures { IfOk result (AreCountsTold flow.now batches.now root.now) }
 {
     let pending = pending_told(alloc, flow, root.pending.as_slice())?;

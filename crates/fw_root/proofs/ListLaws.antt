@@ -93,8 +93,8 @@ sends_of flow p =
     counted_whole (number_field w32) u32_bytes (2 ^ 32) form32 (next_sent_of flow p) sent_count_bytes IsSentCount (may_follow_sends flow p)
     (one_field sent_count_of sent_count_bytes IsSentCount (may_follow_sends flow p) counts) (read_sends_of flow p) (λ bytes. refl)
 
-pub sends : (flow : Dataflow) → IsExactReading (read_sends flow) (flat_map sent_counts_bytes) (AllZip (AreCountsOfSequence flow) (nodes_as flow role.Sequence))
-sends flow = for_whole (read_sends_of flow) sent_counts_bytes (AreCountsOfSequence flow) (sends_of flow) (nodes_as flow role.Sequence)
+pub sends : (flow : Dataflow) → IsExactReading (read_sends flow) (flat_map sent_counts_bytes) (AllZip (AreCountsOfSequence flow) (nodes_as flow role.ByCount))
+sends flow = for_whole (read_sends_of flow) sent_counts_bytes (AreCountsOfSequence flow) (sends_of flow) (nodes_as flow role.ByCount)
 
 pub writes : (flow : Dataflow) (next_id : ℕ) → IsExactReading (read_writes flow next_id) writes_bytes (IsList (2 ^ 64) IsNamedWrite (may_follow_writes flow next_id))
 unfolding read_writes

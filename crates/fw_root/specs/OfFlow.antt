@@ -6,7 +6,7 @@ use Rattle.fw_time.specs.Stamp.{Stamp, origin, stamp_cmp}
 use Rattle.fw_time.specs.declared.stamp.Bounds.{Bounds}
 use Rattle.fw_bag.specs.declared.rec.Rec.{Rec}
 use Rattle.fw_lines.specs.Batches.{batches_at}
-use Rattle.fw_flow.specs.declared.kind.Kind.{Kind}
+use Rattle.fw_flow.specs.Kind.{Kind}
 use Rattle.fw_flow.specs.declared.kind.Policy.{Policy}
 use Rattle.fw_flow.specs.declared.kind.Policy.TheVariants as policy
 use Rattle.fw_flow.specs.Dataflow.{Dataflow, node_ids, kind_of, policy_of, is_input_kind, is_output_kind, is_sequence_kind}
@@ -23,7 +23,7 @@ Given = List (ℕ × List (List Rec))
 abbrev pub plays : Role → Kind → Bool
 plays role.Input kind = is_input_kind kind
 plays role.Output kind = is_output_kind kind
-plays role.Sequence kind = is_sequence_kind kind
+plays role.ByCount kind = is_sequence_kind kind
 
 -- the nodes that play a role, in order
 unfoldable pub nodes_as : Dataflow → Role → List ℕ

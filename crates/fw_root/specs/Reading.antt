@@ -134,7 +134,7 @@ read_sends_of flow p bytes = do
 
 -- those of each sequence
 abbrev pub read_sends : Dataflow → List ℕ → Reading (List (List SentCount))
-read_sends flow bytes = many_for (read_sends_of flow) (nodes_as flow role.Sequence) [] bytes
+read_sends flow bytes = many_for (read_sends_of flow) (nodes_as flow role.ByCount) [] bytes
 
 -- ---- lists with a count
 

@@ -146,4 +146,4 @@ pub record IsRootFor (flow : Dataflow) (batches : Given) (r : Root) : Type 0 whe
   pub others : IsList (2 ^ 64) IsId (may_follow_others r.next_id r.writes) r.others
   pub pending : IsList (2 ^ 64) IsPendingAt (may_follow_pending flow) r.pending
   pub owed : IsList (2 ^ 64) IsOwedAt (may_follow_owed flow) r.owed
-  pub sends : AllZip (AreCountsOfSequence flow) (nodes_as flow role.Sequence) r.sends
+  pub sends : AllZip (AreCountsOfSequence flow) (nodes_as flow role.ByCount) r.sends

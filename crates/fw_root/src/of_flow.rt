@@ -15,7 +15,8 @@ use std::alloc::{AllocError, Global};
 pub enum Role {
     Input,
     Output,
-    Sequence,
+    /// It numbers what it sends, from how much it sent before.
+    ByCount,
 }
 
 /// Whether a node of the kind plays the role.
@@ -25,7 +26,7 @@ fn plays(role: Role, kind: Kind) -> bool
     match role {
         Role::Input => kind.is_input(),
         Role::Output => kind.is_output(),
-        Role::Sequence => kind.is_sequence(),
+        Role::ByCount => kind.is_sequence(),
     }
 }
 

@@ -10,7 +10,7 @@ ghost use Rattle.fw_root.specs.Reading.{many_for, any_bytes, small_number, read_
 ghost use Rattle.fw_root.specs.Sound.{IsRootFor};
 ghost use Rattle.fw_root.specs.Spelling.{root_spelling};
 ghost use Rattle.fw_root.specs.Decoding.{DecodesRoot, IsRootOrNoMemory};
-ghost use Rattle.fw_root.specs.declared.of_flow.Role.TheVariants.{Input, Output, Sequence};
+ghost use Rattle.fw_root.specs.declared.of_flow.Role.TheVariants.{Input, Output, ByCount};
 ghost use Rattle.fw_root.specs.declared.root.Root.{Root as Spelled};
 
 use crate::codes::LIMIT;
@@ -321,7 +321,7 @@ fn all_sends_at<'a>(
 ) -> Result<(SentTables, &'a [u8]), ReadFault>
     ensures { Gives (λ x. (x.0, x.1.now)) result (read_sends flow.now bytes.now) }
 {
-    let sequences = nodes_as(alloc, flow, Role::Sequence)?;
+    let sequences = nodes_as(alloc, flow, Role::ByCount)?;
     let (tables, rest) = tables_at(alloc, flow, &sequences, bytes)?;
     Ok((SentTables::of(tables), rest))
 }

@@ -15,7 +15,7 @@ use Rattle.fw_bag.specs.Keyed.{sorted_recs}
 use Rattle.fw_frontier.specs.Front.{inside}
 use Rattle.fw_flow.specs.declared.event.Event.{Event}
 use Rattle.fw_flow.specs.declared.event.Event.TheVariants.{Inject, Deliver, Notify}
-use Rattle.fw_flow.specs.declared.kind.Kind.{Kind}
+use Rattle.fw_flow.specs.Kind.{Kind}
 use Rattle.fw_flow.specs.declared.kind.Kind.TheVariants.{OutputEpoch, OutputNumber}
 use Rattle.fw_flow.specs.Dataflow.{System, Dataflow, kind_of, receiver, is_output_kind, bounds_of, bounds_of_domain, domain_of_kind, greatest_number, batches_of}
 use Rattle.fw_flow.specs.NodeFunction.{delivered_recs}

@@ -8,7 +8,7 @@ use Rattle.fw_bag.proofs.BagLaws.{length-bag_sum}
 use Rattle.fw_flow.specs.declared.event.Event.{Event}
 use Rattle.fw_flow.specs.declared.event.Event.TheVariants.{Inject, Notify}
 use Rattle.fw_flow.specs.declared.event.Message.{Message}
-use Rattle.fw_flow.specs.declared.kind.Kind.{Kind}
+use Rattle.fw_flow.specs.Kind.{Kind}
 use Rattle.fw_flow.specs.declared.kind.Kind.TheVariants as kind
 use Rattle.fw_flow.specs.Dataflow.{System, batches_of, sender, kind_of, send_stamp_of_kind, is_input_kind, is_output_kind}
 use Rattle.fw_flow.specs.NodeFunction.{event_node, messages_at, messages_at_some, numbered_messages, recs_on_notification, sends, sends_of_kind, sequence_sent}

@@ -18,7 +18,7 @@ use Rattle.fw_frontier.specs.Front.{inside}
 use Rattle.fw_flow.specs.declared.event.Event.{Event}
 use Rattle.fw_flow.specs.declared.event.Event.TheVariants.{Inject, Deliver, Notify}
 use Rattle.fw_flow.specs.declared.event.Message.{Message}
-use Rattle.fw_flow.specs.declared.kind.Kind.{Kind}
+use Rattle.fw_flow.specs.Kind.{Kind}
 use Rattle.fw_flow.specs.declared.kind.Kind.TheVariants.{OutputEpoch, OutputNumber}
 use Rattle.fw_flow.specs.Dataflow.{System, Dataflow, batches_of, bounds_of, bounds_of_domain, domain_of_kind, greatest_number, kind_of, receiver, is_input_kind, is_output_kind}
 use Rattle.fw_flow.specs.NodeFunction.{delivered_recs, event_node, event_stamp}

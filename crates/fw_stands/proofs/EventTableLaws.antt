@@ -7,7 +7,7 @@ use Rattle.fw_time.specs.Stamp.{Stamp, stamp_cmp}
 use Rattle.fw_flow.specs.declared.event.Event.{Event}
 use Rattle.fw_flow.specs.declared.event.Event.TheVariants.{Deliver, Notify}
 use Rattle.fw_flow.specs.declared.event.Message.{Message}
-use Rattle.fw_flow.specs.declared.kind.Kind.{Kind}
+use Rattle.fw_flow.specs.Kind.{Kind}
 use Rattle.fw_flow.specs.declared.kind.Kind.TheVariants as kind
 use Rattle.fw_flow.specs.Dataflow.{System, Dataflow, in_edges, is_input_kind, is_notified_kind, is_one_of, is_output_kind, kind_of, node_frontier, receiver}
 use Rattle.fw_flow.specs.NodeFunction.{event_node}

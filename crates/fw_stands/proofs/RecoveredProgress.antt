@@ -18,11 +18,11 @@ use Rattle.fw_flow.specs.Counting.{how_many}
 use Rattle.fw_flow.specs.Dataflow.{System, bounds_of, node_frontier, kind_of}
 use Rattle.fw_flow.specs.NodeFunction.{event_stamp, sent_by}
 use Rattle.fw_flow.specs.Projection.{events_at, all_inside, count_from, table_count}
-use Rattle.fw_flow.specs.declared.kind.Kind.TheVariants.{Sequence}
 use Rattle.fw_model.specs.Choice.{cut_of, kept_of}
 use Rattle.fw_model.specs.Filtering.{messages_from}
 use Rattle.fw_model.specs.History.{pending_messages, was_notified}
 use Rattle.fw_model.specs.Machine.{Machine, events}
+use Rattle.fw_model.specs.Sending.{SendsByCount}
 use Rattle.fw_model.specs.SortedMessages.{sorted_messages}
 use Rattle.fw_model.specs.Steps.{front_of_cut, recovered_state}
 use Rattle.fw_model.specs.Told.{is_told}
@@ -185,7 +185,7 @@ tables-left sys state choice settled r p l table a = table-left sys state choice
 -- so where the tables are what the cuts leave of those that are counted, they are the tables after the recovery
 pub counted-left : (sys : System) (state : Machine) (choice : Choice) (settled : List Front) → Recovers sys state choice settled
     → (counts : Counts) → IsCountOf sys (events state.history) counts → (tables : List (List (ℕ × ℕ)))
-    → ((p : ℕ) → p < length sys.flow.nodes → kind_of sys.flow p ≡ Sequence
+    → ((p : ℕ) → p < length sys.flow.nodes → SendsByCount (kind_of sys.flow p)
     → slice_index_or tables p [] ≡ table_left (cut_of choice p) (sent_of counts p))
     → AreTablesAfter sys (events_left sys choice state.history) tables
 counted-left sys state choice settled r counts c tables same p l is =

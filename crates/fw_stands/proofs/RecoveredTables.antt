@@ -12,15 +12,15 @@ use Rattle.fw_flow.specs.declared.choice.Choice.{Choice}
 use Rattle.fw_flow.specs.declared.choice.Cut.{Cut}
 use Rattle.fw_flow.specs.declared.choice.Cut.TheVariants.{Present, At}
 use Rattle.fw_flow.specs.declared.event.Event.{Event}
-use Rattle.fw_flow.specs.declared.kind.Kind.{Kind}
-use Rattle.fw_flow.specs.declared.kind.Kind.TheVariants.{Input, OutputEpoch, OutputNumber, Total, Sequence, Ledger}
+use Rattle.fw_flow.specs.Kind.{Kind}
+use Rattle.fw_flow.specs.declared.kind.Kind.TheVariants.{Input, OutputEpoch, OutputNumber}
 use Rattle.fw_flow.specs.declared.kind.Policy.{Policy}
 use Rattle.fw_flow.specs.declared.kind.Policy.TheVariants as policy
 use Rattle.fw_flow.specs.declared.restoring.Restoring.TheVariants.{Batches, Bound, Anything, Checkpoints}
 use Rattle.fw_flow.specs.Dataflow.{System, Dataflow, kind_of, policy_of, in_edges, bounds_of, node_frontier, is_input_kind, is_output_kind, is_notified_kind}
 use Rattle.fw_flow.specs.NodeFunction.{event_node, event_stamp}
 use Rattle.fw_flow.specs.Projection.{events_at}
-use Rattle.fw_flow.specs.Restoring.{restoring, way_of}
+use Rattle.fw_flow.specs.Restoring.{restoring, restoring_of_policy, way_of}
 use Rattle.fw_flow.specs.WellFormed.{IsPolicyAllowed, may_keep_nothing}
 use Rattle.fw_model.specs.Choice.{kept, cut_of, kept_of, IsCandidate}
 use Rattle.fw_model.specs.Covers.{set_of}
@@ -142,22 +142,23 @@ not_input flow p n = by (is_input_kind (kind_of flow p)) (is_output_kind (kind_o
 
 -- where a node is restored to anything settled its kind may keep nothing
 anything-keeps : (kind : Kind) (p : Policy) → IsPolicyAllowed kind p → restoring kind p ≡ Anything → may_keep_nothing kind ≡ true
-anything-keeps Total policy.None a e = a
-anything-keeps Total policy.Lazy a e = absurd (cc e)
-anything-keeps Total policy.Logged a e = absurd (cc e)
-anything-keeps Total policy.Eager a e = absurd (cc e)
-anything-keeps Total policy.Full a e = absurd (cc e)
-anything-keeps Sequence policy.None a e = a
-anything-keeps Sequence policy.Lazy a e = absurd (cc e)
-anything-keeps Sequence policy.Logged a e = absurd (cc e)
-anything-keeps Sequence policy.Eager a e = absurd (cc e)
-anything-keeps Sequence policy.Full a e = absurd (cc e)
-anything-keeps Ledger policy.None a e = a
-anything-keeps Ledger policy.Lazy a e = absurd (cc e)
-anything-keeps Ledger policy.Logged a e = absurd (cc e)
-anything-keeps Ledger policy.Eager a e = absurd (cc e)
-anything-keeps Ledger policy.Full a e = absurd (cc e)
-anything-keeps kind p a e = refl
+anything-keeps kind p a e = by kind p a (as_policy kind e)
+  where
+    as_policy : (k : Kind) → restoring k p ≡ Anything → restoring_of_policy p ≡ Anything
+    as_policy Input e = absurd (cc e)
+    as_policy OutputEpoch e = absurd (cc e)
+    as_policy OutputNumber e = absurd (cc e)
+    as_policy k e = e
+
+    by : (k : Kind) (p : Policy) → IsPolicyAllowed k p → restoring_of_policy p ≡ Anything → may_keep_nothing k ≡ true
+    by Input p a e = refl
+    by OutputEpoch p a e = refl
+    by OutputNumber p a e = refl
+    by k policy.None a e = a
+    by k policy.Lazy a e = absurd (cc e)
+    by k policy.Logged a e = absurd (cc e)
+    by k policy.Eager a e = absurd (cc e)
+    by k policy.Full a e = absurd (cc e)
 
 -- ---- the tables
 

@@ -1,7 +1,7 @@
 -- When an output may acknowledge, what it shows, and what is kept of it then.
 use Rattle.std.specs.Prelude.{◌≡◌, ◌≢◌, ◌⊎◌, ◌↔◌, ℕ, ◌+◌, ◌<◌, ◌^◌, Bool, true, false, [], ◌∷◌, length, slice_set, ◌≤◌}
 use Rattle.fw_frontier.specs.Front.{Front, inside}
-use Rattle.fw_flow.specs.declared.kind.Kind.{Kind}
+use Rattle.fw_flow.specs.Kind.{Kind}
 use Rattle.fw_flow.specs.declared.kind.Kind.TheVariants.{OutputNumber}
 use Rattle.fw_flow.specs.Dataflow.{System, Dataflow, kind_of, batches_of, is_output_kind}
 use Rattle.fw_model.specs.Machine.{Machine, front_of, is_failed}

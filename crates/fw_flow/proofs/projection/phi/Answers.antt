@@ -1,3 +1,5 @@
+use Rattle.std.proofs.Common.{ap}
+use Rattle.std.specs.Prelude.{◌/◌}
 use Rattle.fw_flow.proofs.ProjectionLaws.{somes-sender, nests-enter, moved-ok, below-ok, phi-enter, phi-feedback, phi-leave, phi-sequence_ok, phi-regroup_ok}
 use Rattle.fw_flow.proofs.projection.phi.Goals as goal
 
@@ -29,9 +31,10 @@ pub returns-in-Some-limit : goal.returns-in-Some-limit
 returns-in-Some-limit c =
     let d = rw c.in-Regroup.is at c.requires.domains in
     let size = rw c.in-Regroup.is at c.requires.group in
+    let n = c.in-Regroup.n in
     rw c.in-Regroup.is
     (below-ok c.below-in-Some-limit.result
-    (phi-regroup_ok d size c.args.f.now c.requires.front c.in-Some-limit.limit c.from.result c.in-Some-limit.ensures c.from.ensures) c.below-in-Some-limit.ensures)
+    (phi-regroup_ok d size c.args.f.now c.requires.front c.in-Some-limit.limit (c.from.result / n) c.in-Some-limit.ensures (ap (λ m. m / n) c.from.ensures)) c.below-in-Some-limit.ensures)
 
 pub returns-in-Some : goal.returns-in-Some
 returns-in-Some c =

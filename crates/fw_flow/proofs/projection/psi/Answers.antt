@@ -39,7 +39,7 @@ returns-after-limit c =
     let end = c.match-limit.end in
     let d = rw c.in-Regroup.is at c.requires.domains in
     let size = rw c.in-Regroup.is at c.requires.group in
-    let e : c.div_ceil.result ≡ end / n + min 1 (end % n) = c.div_ceil.ensures ∙ (λ i. end / c.from-in-Regroup.ensures i + min 1 (end % c.from-in-Regroup.ensures i)) in
+    let e : c.div_ceil.result ≡ end / n + min 1 (end % n) = c.div_ceil.ensures in
     let inside : (x : ℕ) → frontier_of c.args.sender.now os (x ∷ []) ≡ nat_lt x end = elim c.match-limit.branch [
       | in-None w ↦ end-all d end os w.in-None.ensures (w.end-is ∙ ap (λ m. m + 1) (w.from.ensures ∙ w.at.ensures))
       | in-Some w ↦ λ x. end-limit d w.in-Some.limit os c.requires.front w.in-Some.ensures x ∙ ap (nat_lt x) (sym (w.end-is ∙ w.from-end.ensures))

@@ -1,4 +1,4 @@
-use Rattle.std.proofs.Common.{◌≡◌}
+use Rattle.std.proofs.Common.{ap}
 use Rattle.std.specs.Prelude.{◌*◌}
 use Rattle.fw_flow.proofs.ProjectionLaws.{somes-receiver, nests-leave, moved-ok, below-ok, psi_back-enter, psi_back-feedback, psi_back-leave, psi_back-regroup_ok}
 use Rattle.fw_flow.proofs.projection.psi_back.Goals as goal
@@ -32,5 +32,6 @@ returns-in-Some c =
     let d = rw c.in-Regroup.is at c.requires.domains in
     let size = rw c.in-Regroup.is at c.requires.group in
     let limit = c.in-Some.limit in
-    let e : c.from.result * c.from-in-Some.result ≡ limit * c.in-Regroup.n = λ i. c.from.ensures i * c.from-in-Some.ensures i in
-    rw c.in-Regroup.is (below-ok c.below.result (psi_back-regroup_ok d size c.args.g.now limit (c.from.result * c.from-in-Some.result) c.in-Some.ensures e) c.below.ensures)
+    let n = c.in-Regroup.n in
+    rw c.in-Regroup.is
+    (below-ok c.below.result (psi_back-regroup_ok d size c.args.g.now limit (c.from.result * n) c.in-Some.ensures (ap (λ m. m * n) c.from.ensures)) c.below.ensures)

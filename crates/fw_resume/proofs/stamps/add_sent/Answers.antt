@@ -2,7 +2,7 @@ use Rattle.std.proofs.Common.{◌<◌, ◌++◌, ◌∙◌, List, length, map, a
 use Rattle.std.specs.List.{AllByRecursion}
 use Rattle.fw_time.specs.Stamp.{Stamp}
 use Rattle.fw_flow.specs.declared.choice.OfEdge.{OfEdge}
-use Rattle.fw_flow.specs.declared.kind.Kind.{Kind}
+use Rattle.fw_flow.specs.Kind.{Kind}
 use Rattle.fw_regain.specs.Causes.{merges_stamps}
 use Rattle.fw_resume.specs.Stamps.{AreGreatestOn, sent_at}
 use Rattle.fw_resume.proofs.StampLaws.{more_merged, more_told, tops-short}

@@ -1,7 +1,7 @@
 use Rattle.std.proofs.Common.{sym, subst}
 use Rattle.std.specs.List.{AllByRecursion}
 use Rattle.fw_root.specs.OfFlow.{nodes_as}
-use Rattle.fw_root.specs.declared.of_flow.Role.TheVariants.{Sequence}
+use Rattle.fw_root.specs.declared.of_flow.Role.TheVariants.{ByCount}
 use Rattle.fw_resume.specs.Told.{AreGoodSends, IsOwedOf, IsPendingOf}
 use Rattle.fw_resume.proofs.ToldLaws.{all-good, owed-each, pending-each}
 use Rattle.fw_resume.proofs.told.counts_told.Goals as goal
@@ -17,4 +17,4 @@ owed_told-requires c =
 pub sent_told-requires : goal.sent_told-requires
 sent_told-requires c =
     subst (AllByRecursion AreGoodSends) (sym c.as_slice-4.ensures)
-    (all-good c.args.flow.now (nodes_as c.args.flow.now Sequence) c.args.root.now.sends c.requires.sound.sends)
+    (all-good c.args.flow.now (nodes_as c.args.flow.now ByCount) c.args.root.now.sends c.requires.sound.sends)

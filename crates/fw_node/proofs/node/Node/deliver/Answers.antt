@@ -1,6 +1,6 @@
 use Rattle.std.proofs.Common.{◌≡◌, ℕ, List, sym, ap, ◌∙◌, subst}
 use Rattle.fw_bag.specs.Arrivals.{Arrival, arrival}
-use Rattle.fw_flow.specs.declared.kind.Kind.{Kind}
+use Rattle.fw_flow.specs.Kind.{Kind}
 use Rattle.fw_flow.specs.Dataflow.{kind_of, in_edges, send_stamp_of_kind}
 use Rattle.fw_table.specs.Sent.{sent_if_at}
 use Rattle.fw_flow.specs.declared.event.Event.TheVariants.{Deliver}

@@ -1,7 +1,7 @@
 use Rattle.std.proofs.Common.{◌||◌, ℕ, List, ap, ◌∙◌, subst}
 use Rattle.std.proofs.lemmas.Result.{IfOk-weaker, on_ok_weaker}
 use Rattle.fw_time.specs.Stamp.{same}
-use Rattle.fw_flow.specs.declared.kind.Kind.{Kind}
+use Rattle.fw_flow.specs.Kind.{Kind}
 use Rattle.fw_flow.specs.Dataflow.{kind_of, in_edges}
 use Rattle.fw_model.specs.Told.{is_told}
 use Rattle.fw_node.specs.Arrived.{arrived}

@@ -2,7 +2,7 @@ use Rattle.std.proofs.Common.{◌∙◌, ◌&&◌, ℕ, Bool, List}
 use Rattle.std.proofs.lemmas.Result.{on_ok_weaker}
 use Rattle.fw_time.specs.Stamp.{Stamp as StampList, in_domain}
 use Rattle.fw_frontier.specs.Front.{Front, inside}
-use Rattle.fw_flow.specs.declared.kind.Kind.{Kind}
+use Rattle.fw_flow.specs.Kind.{Kind}
 use Rattle.fw_flow.specs.Dataflow.{bounds_of, kind_of, in_edges, node_frontier}
 use Rattle.fw_node.specs.NodeTable.{IsNodeTable}
 use Rattle.fw_node.specs.Past.{past_of}

@@ -2,7 +2,7 @@ use Rattle.std.proofs.Common.{◌≡◌, ◌∙◌, ℕ, Bool, true, List, lengt
 use Rattle.std.proofs.lemmas.Result.{on_ok_weaker}
 use Rattle.fw_time.specs.Stamp.{Stamp as StampList, in_domain}
 use Rattle.fw_bag.specs.Arrivals.{Arrival}
-use Rattle.fw_flow.specs.declared.kind.Kind.{Kind}
+use Rattle.fw_flow.specs.Kind.{Kind}
 use Rattle.fw_flow.specs.Dataflow.{bounds_of, kind_of, in_edges}
 use Rattle.fw_node.specs.Arrived.{arrived}
 use Rattle.fw_node.proofs.NodeLaws.{each_arrived, each_of, weaker_arrived}

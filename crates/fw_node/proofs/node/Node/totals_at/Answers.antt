@@ -2,7 +2,7 @@ use Rattle.std.proofs.Common.{◌&&◌, ℕ, Bool, List, sym, ap, ◌∙◌}
 use Rattle.std.proofs.lemmas.Result.{IfOk-weaker}
 use Rattle.fw_time.specs.Stamp.{Stamp as StampList, in_domain}
 use Rattle.fw_frontier.specs.Front.{Front, inside}
-use Rattle.fw_flow.specs.declared.kind.Kind.{Kind}
+use Rattle.fw_flow.specs.Kind.{Kind}
 use Rattle.fw_flow.specs.Dataflow.{bounds_of, kind_of, in_edges, node_frontier}
 use Rattle.fw_node.specs.Arrived.{arrived}
 use Rattle.fw_node.specs.NodeTable.{IsNodeTable}

@@ -1,7 +1,7 @@
 use Rattle.std.proofs.Common.{◌≡◌, ◌||◌, ◌≤◌, ◌^◌, ℕ, List, [], Bool, true, false, length, sym, ap, ◌∙◌, subst}
 use Rattle.fw_bag.specs.declared.rec.Rec.{Rec}
 use Rattle.fw_bag.specs.Arrivals.{Arrival, recs_of}
-use Rattle.fw_flow.specs.declared.kind.Kind.{Kind}
+use Rattle.fw_flow.specs.Kind.{Kind}
 use Rattle.fw_flow.specs.declared.kind.Kind.TheVariants as kind
 use Rattle.fw_flow.specs.Dataflow.{bounds_of, kind_of}
 use Rattle.fw_flow.specs.NodeFunction.{delivered_recs, sequence_sent}

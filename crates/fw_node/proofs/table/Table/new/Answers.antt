@@ -1,6 +1,6 @@
 use Rattle.std.proofs.Common.{⊎_elim, ◌≡◌, ◌||◌, [], ℕ, List, Bool, length, refl, sym, ap, ◌∙◌, subst, arith}
 use Rattle.fw_time.specs.declared.stamp.Bounds.{Bounds}
-use Rattle.fw_flow.specs.declared.kind.Kind.{Kind}
+use Rattle.fw_flow.specs.Kind.{Kind}
 use Rattle.fw_flow.specs.declared.kind.Kind.TheVariants as kind
 use Rattle.fw_flow.specs.Dataflow.{bounds_of, domain_of_kind, parent_of, greatest_of_kind}
 use Rattle.fw_node.specs.NodeTable.{IsNodeTable}

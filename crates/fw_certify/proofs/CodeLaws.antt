@@ -1,9 +1,9 @@
 -- What the checker's code finds, as it asks.
-use Rattle.std.proofs.Common.{◌≡◌, ◌↔◌, ℕ, zero, suc, ◌+◌, ◌<◌, ◌≤◌, Bool, true, false, not, ◌||◌, ◌==◌, List, [], ◌∷◌, ◌++◌, length, reverse, get_or, set, take, Some, None, refl, sym, ap, subst, ◌∙◌, inl, inr, arith}
+use Rattle.std.proofs.Common.{◌≡◌, ◌↔◌, ℕ, zero, suc, ◌+◌, ◌<◌, ◌≤◌, Bool, true, false, not, ◌||◌, ◌==◌, List, [], ◌∷◌, ◌++◌, length, reverse, get_or, set, take, Some, None, refl, sym, ap, subst, ◌∙◌, inr, arith}
 use Rattle.std.specs.List.{AllByRecursion, find, list_all}
 use Rattle.std.proofs.lemmas.Bool.{both_ways, eqb-false, eqb-true}
 use Rattle.std.specs.Prelude.{slice_get, IfSome, IsSome, MatchOption, Option}
-use Rattle.std.proofs.lemmas.List.{get_or_default, get_or_read, take_all, take_more}
+use Rattle.std.proofs.lemmas.List.{get_or_default, get_or_read, take_more}
 use Rattle.fw_lemmas.proofs.Each.{each-at}
 use Rattle.fw_time.specs.Stamp.{Stamp, in_domain}
 use Rattle.fw_time.specs.declared.stamp.Bounds.{Bounds}
@@ -30,9 +30,8 @@ use Rattle.fw_model.specs.Choice.{IsCanonicalCut, IsChoiceOf, IsCutWithin, IsLar
 use Rattle.fw_model.specs.Inclusions.{Holds, IsInclusionOf, IsSideOfFlow, inclusions, left_of, limit_of, node_of, note_node, owner, right_of, side_bounds}
 use Rattle.fw_model.specs.Certificates.{IsCertificate, IsDeadEnd, IsGreatestOffered}
 use Rattle.fw_model.specs.Lowerings.{IsGreatestLeft, choice_of, lowering_of, part_of}
-use Rattle.fw_model.specs.Offers.{AreOffersOf, IsBetween, IsListed, IsOffered, IsOfferedFront, can_stay, covers_of, offered_by}
+use Rattle.fw_model.specs.Offers.{AreOffersOf, IsListed, IsOffered, can_stay, covers_of, offered_by}
 use Rattle.fw_model.proofs.InclusionLaws.{owner-there, same_each}
-use Rattle.fw_model.proofs.OfferLaws.{not_listed}
 use Rattle.fw_offers.specs.Sides.{IsLeft}
 use Rattle.fw_certify.specs.Checked.{AreCanonicalFronts, HoldsEachLeft, IsAnyLeft, IsGreatestFront, IsGreatestOfLeft, IsHeld, IsMeetOf, IsToLower, IsValueJudged, IsVerdict, other_tests, said_inclusion, tests_of}
 use Rattle.fw_certify.specs.Followed.{IsFollowed, IsNoneLeft}
@@ -69,62 +68,6 @@ pub entry-told : (flow : Dataflow) (l : Lowering) (j : Inclusion) (n : ℕ) (r s
 entry-told flow l j n r s t is e k at test f g h = (k.0 e, said-told flow l j is (sym at ∙ eqb-true n l.node (sym test ∙ f)) (h.0 g))
 
 -- ---- cuts
-
-pub stay-offered : (flow : Dataflow) (offers : List Offer) (p : ℕ) (x : Cut) (r : Bool) → x ≡ Present → r ≡ can_stay offers p → (r ≡ true) ↔ IsOffered flow offers p x
-stay-offered flow offers p x r e is = (
-  λ h. subst (IsOffered flow offers p) (sym e) (sym is ∙ h),
-  λ o. let k : can_stay offers p ≡ true = subst (IsOffered flow offers p) e o in is ∙ k,
-)
-
-pub front-offered : (flow : Dataflow) (offers : List Offer) (p : ℕ) (x : Cut) (f : Front) (o : Offered) (r : Bool) → x ≡ At f → o ≡ offered_by offers p
-    → AreCanonicalFronts (bounds_of flow p) (offered_by offers p) → IsCanonicalCut (bounds_of flow p) x
-    → ((b : Bounds) → AreCanonicalFronts b o → IsCanonical b f → (r ≡ true) ↔ IsOfferedFront b o f) → (r ≡ true) ↔ IsOffered flow offers p x
-front-offered flow offers p x f o r e is fronts canonical k =
-    let b = bounds_of flow p in
-    let c : IsCanonical b f = subst (IsCanonicalCut b) e canonical in
-    let test = k b (subst (AreCanonicalFronts b) (sym is) fronts) c in (
-      λ h. subst (IsOffered flow offers p) (sym e) (c, subst (λ y. IsOfferedFront b y f) is (test.0 h)),
-      λ o. let y : IsOffered flow offers p (At f) = subst (IsOffered flow offers p) e o in test.1 (subst (λ y. IsOfferedFront b y f) (sym is) y.1),
-    )
-
-pub listed-one : (b : Bounds) (x : Offered) (f : Front) (rs s : List Recorded) (r : Bool) → x ≡ form.Listed rs → s ≡ rs → ((r ≡ true) ↔ IsListed f s) → (r ≡ true) ↔ IsOfferedFront b x f
-listed-one b x f rs s r e is k =
-    let same : IsListed f s ≡ IsOfferedFront b x f = ap (IsListed f) is ∙ ap (λ y. IsOfferedFront b y f) (sym e) in
-    subst (λ T. (r ≡ true) ↔ T) same k
-
-pub between-one : (b : Bounds) (x : Offered) (f least greatest : Front) (r : Bool) → x ≡ form.Between least greatest → AreCanonicalFronts b x → IsCanonical b f
-    → ((c : Bounds) → IsCanonical c f → IsCanonical c greatest → (r ≡ true) ↔ IsBetween c least greatest f) → (r ≡ true) ↔ IsOfferedFront b x f
-between-one b x f least greatest r e fronts canonical k =
-    let ends : AreCanonicalFronts b (form.Between least greatest) = subst (AreCanonicalFronts b) e fronts in
-    subst (λ y. (r ≡ true) ↔ IsOfferedFront b y f) (sym e) (k b canonical ends.1)
-
--- of batches, a frontier that is not all, or where the source is not exhausted
-pub batches-one : (b : Bounds) (x : Offered) (f least greatest : Front) (exhausted r : Bool) → x ≡ form.Batches least greatest exhausted → AreCanonicalFronts b x → IsCanonical b f
-    → (exhausted ≡ true → f ≡ [] → ⊥)
-    → ((c : Bounds) → IsCanonical c f → IsCanonical c greatest → (r ≡ true) ↔ IsBetween c least greatest f) → (r ≡ true) ↔ IsOfferedFront b x f
-batches-one b x f least greatest exhausted r e fronts canonical not_all k =
-    let ends : AreCanonicalFronts b (form.Batches least greatest exhausted) = subst (AreCanonicalFronts b) e fronts in
-    let test = k b canonical ends.1 in
-    subst (λ y. (r ≡ true) ↔ IsOfferedFront b y f) (sym e) ((λ h. inl (test.0 h)), (λ o. elim o [ inl m ↦ test.1 m | inr a ↦ absurd (not_all a.0 a.1) ]))
-
-pub batches-have_all : (b : Bounds) (x : Offered) (f least greatest : Front) (exhausted : Bool) → x ≡ form.Batches least greatest exhausted → exhausted ≡ true → f ≡ []
-    → (true ≡ true) ↔ IsOfferedFront b x f
-batches-have_all b x f least greatest exhausted e k is = (λ h. subst (λ y. IsOfferedFront b y f) (sym e) (inr (k, is)), λ o. refl)
-
-pub not_between : (b : Bounds) (least greatest f : Front) (r : Bool) → r ≡ false → ((r ≡ true) ↔ Within (frontier_of b least) (frontier_of b f)) → (false ≡ true) ↔ IsBetween b least greatest f
-not_between b least greatest f r e k = (λ h. absurd (cc), λ m. absurd (both_ways r e (k.1 m.0)))
-
-pub is_between : (b : Bounds) (least greatest f : Front) (r s : Bool) → r ≡ true → ((r ≡ true) ↔ Within (frontier_of b least) (frontier_of b f))
-    → ((s ≡ true) ↔ Within (frontier_of b f) (frontier_of b greatest)) → (s ≡ true) ↔ IsBetween b least greatest f
-is_between b least greatest f r s e k h = (λ m. (k.0 e, h.0 m), λ m. h.1 m.1)
-
-pub listed-here : (f : Front) (rs : List Recorded) (i : ℕ) (r : Recorded) → i < length rs → r ≡ get_or rs i r → r.front ≡ f → IsListed f rs
-listed-here f [] i r l is e = absurd (omega arith)
-listed-here f (x ∷ rs) zero r l is e = inl (ap (λ (y : Recorded). y.front) (sym is) ∙ e)
-listed-here f (x ∷ rs) (suc i) r l is e = inr (listed-here f rs i r (omega arith) is e)
-
-pub not_listed-all : (f : Front) (rs : List Recorded) (i : ℕ) → length rs ≤ i → AllByRecursion (λ r. r.front ≡ f → ⊥) (take i rs) → (false ≡ true) ↔ IsListed f rs
-not_listed-all f rs i l none = (λ h. absurd (cc), λ o. absurd (not_listed rs f o (subst (AllByRecursion (λ r. r.front ≡ f → ⊥)) (take_all i rs l) none)))
 
 -- whether a cut lies within another, by the variants
 pub present-within : (flow : Dataflow) (p : ℕ) (x y : Cut) → x ≡ Present → y ≡ Present → (true ≡ true) ↔ IsCutWithin flow p x y
@@ -296,11 +239,9 @@ node-offers flow offers side from bound p e well k =
 
 pub offered-is : (flow : Dataflow) (offers : List Offer) (side : Side) (from : Cut) (bound : Front) (x : Cut) (p : ℕ) (r : Bool) → p ≡ owner flow side → IsWellFormed flow → IsToLower flow offers side from bound
     → IsCanonicalCut (bounds_of flow (owner flow side)) x
-    → ((f : Dataflow) → AreCanonicalFronts (bounds_of f p) (offered_by offers p) → IsCanonicalCut (bounds_of f p) x → (r ≡ true) ↔ IsOffered f offers p x) → (r ≡ true) ↔ IsOffered flow offers p x
+    → ((f : Dataflow) → AreOffersOf f offers → p < length f.nodes → IsCanonicalCut (bounds_of f p) x → (r ≡ true) ↔ IsOffered f offers p x) → (r ≡ true) ↔ IsOffered flow offers p x
 offered-is flow offers side from bound x p r e well k c test =
-    test flow
-    (subst (λ q. AreCanonicalFronts (bounds_of flow q) (offered_by offers q)) (sym e) (offered-fronts flow offers (owner flow side) k.offers_fit (owner-there flow side well k.there)))
-    (subst (λ q. IsCanonicalCut (bounds_of flow q) x) (sym e) c)
+    test flow k.offers_fit (subst (λ q. q < length flow.nodes) (sym e) (owner-there flow side well k.there)) (subst (λ q. IsCanonicalCut (bounds_of flow q) x) (sym e) c)
 
 pub not_left-greatest : (flow : Dataflow) (offers : List Offer) (side : Side) (from : Cut) (bound : Front) (to : Cut) (r : Bool) → r ≡ false → ((r ≡ true) ↔ IsLeft flow offers side from bound to)
     → (false ≡ true) ↔ IsGreatestOfLeft flow offers side from bound to

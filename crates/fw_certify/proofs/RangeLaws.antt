@@ -8,8 +8,8 @@ use Rattle.fw_frontier.specs.Front.{Front}
 use Rattle.fw_flow.specs.declared.choice.Counted.{Counted}
 use Rattle.fw_flow.specs.declared.choice.Cut.TheVariants.{At}
 use Rattle.fw_flow.specs.declared.choice.Offer.{Offer}
-use Rattle.fw_flow.specs.declared.kind.Kind.{Kind}
-use Rattle.fw_flow.specs.declared.kind.Kind.TheVariants.{Input, OutputEpoch, OutputNumber, Sequence}
+use Rattle.fw_flow.specs.Kind.{Kind}
+use Rattle.fw_flow.specs.declared.kind.Kind.TheVariants.{Input, OutputEpoch, OutputNumber}
 use Rattle.fw_flow.specs.declared.kind.Policy.{Policy}
 use Rattle.fw_flow.specs.declared.kind.Policy.TheVariants as policy
 use Rattle.fw_flow.specs.declared.restoring.Restoring.{Restoring}
@@ -23,7 +23,7 @@ use Rattle.fw_flow.specs.WellFormed.{IsWellFormed}
 use Rattle.fw_model.specs.Covers.{discarded_at, takes_its_cut, takes_its_notices}
 use Rattle.fw_model.specs.Inclusions.{owner, left_of, IsSideOfFlow}
 use Rattle.fw_model.specs.Offers.{AreOffersOf, HasOneCause, counted_on_edge, covers_of, delivered_to, is_by_records, notified_of, offered_by, offered_sent, range_of, sent_in, stamps_on, stamps_on_from}
-use Rattle.fw_model.specs.Sending.{SendsByStamp}
+use Rattle.fw_model.specs.Sending.{SendsByCount, SendsByStamp}
 use Rattle.fw_model.proofs.ChoiceLaws.{Divides, cover-divides, covered-divides, flag-divides}
 use Rattle.fw_model.proofs.InclusionLaws.{owner-there}
 use Rattle.fw_model.proofs.PsiLaws.{psi-join, psi-monotone}
@@ -80,7 +80,7 @@ events-resend kind p e = by p e
     by policy.Eager e = refl
     by policy.Full e = refl
 
-bound-sends_none : (flow : Dataflow) (kind : Kind) (p : Policy) → restoring kind p ≡ Bound → (kind ≡ Sequence) ⊎ SendsByStamp flow kind → ⊥
+bound-sends_none : (flow : Dataflow) (kind : Kind) (p : Policy) → restoring kind p ≡ Bound → SendsByCount kind ⊎ SendsByStamp flow kind → ⊥
 bound-sends_none flow Input p e s = cc
 bound-sends_none flow OutputEpoch p e (inl s) = cc
 bound-sends_none flow OutputEpoch p e (inr s) = s

@@ -13,11 +13,11 @@ ghost use Rattle.fw_model.specs.Offers.{covers_of};
 ghost use Rattle.fw_offers.specs.Sides.{IsLeft};
 ghost use Rattle.fw_certify.specs.Checked.{HoldsEachLeft, IsAnyLeft, IsBroken, IsGreatestOfLeft, IsHeld, IsToLower, cut_inside, other_tests};
 
-use crate::cuts::{is_all, is_inside, is_offered, lies_within};
+use crate::cuts::{is_inside, lies_within};
 use fw_flow::laws::flow_is_well_formed;
 use fw_flow::{Cut, Flow, NodeId, Offer, Offered, Recorded, Side, Steps};
 use fw_frontier::Front;
-use fw_offers::{offered_by, owner, passes, passes_at};
+use fw_offers::{is_all, is_offered, offered_by, owner, passes, passes_at};
 use fw_time::Stamp;
 use std::alloc::{AllocError, Global};
 use std::sync::ledger::Ledger;

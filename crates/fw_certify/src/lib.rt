@@ -15,4 +15,4 @@ mod shown;
 
 pub use certificate::{Certificate, explain};
 pub use checker::{Verdict, is_dead_end, verify, verify_counted};
-pub use shown::DownLines;
+pub use shown::{CauseText, DownLines};

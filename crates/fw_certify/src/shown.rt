@@ -86,23 +86,39 @@ impl<'a> fmt::Display for DownLine<'a> {
         let name = name_of(self.flow, self.lowering.node);
         let part = part_word(self.lowering.part);
         let value = &self.lowering.to;
-        let cause = CauseText {
-            flow: self.flow,
-            cause: self.lowering.by,
-        };
+        let cause = CauseText::of(self.flow, self.lowering.by);
         writeln!(f, "down {name} {part} {value} by {cause}")
     }
 }
 
-// What did not hold.
+/// What did not hold where a value was lowered, or where no cut is left, with the flow whose edges it names. It prints
+/// `delivered EDGE`, `discarded EDGE`, `notified`, `own` or `note EDGE`. Contracts see this text.
 #[derive(Drop)]
-struct CauseText<'a> {
+pub struct CauseText<'a> {
     flow: &'a Flow,
     cause: Cause,
 }
 
+impl<'a> Model for CauseText<'a> {
+    ghost use Rattle.std.specs.Prelude.{ℕ, List};
+    ghost use Rattle.fw_certify.specs.CertificateText.{cause_text};
+
+    ghost Value = { List ℕ };
+
+    ghost view = { λ text. cause_text text.flow.now text.cause };
+}
+
+impl<'a> CauseText<'a> {
+    /// The text of a cause.
+    pub fn of(flow: &'a Flow, cause: Cause) -> CauseText<'a>
+        ensures { result ≡ cause_text flow.entry.now cause }
+    {
+        CauseText { flow, cause }
+    }
+}
+
 impl<'a> fmt::Display for CauseText<'a> {
-    ghost output = { λ text. Some (cause_text text.flow.now text.cause) };
+    ghost output = { λ text. Some text };
 
     fn fmt<W: fmt::Write>(&self, f: &mut fmt::Formatter<W>) -> fmt::Result {
         match self.cause {

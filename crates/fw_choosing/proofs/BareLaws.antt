@@ -1,5 +1,5 @@
 -- Whether a node offers a cut, as the code asks.
-use Rattle.std.proofs.Common.{◌≡◌, ◌↔◌, ℕ, ◌+◌, ◌<◌, ◌≤◌, Bool, true, false, not, ◌==◌, List, [], ◌∷◌, length, refl, sym, ap, subst, ◌∙◌, inl, inr, arith}
+use Rattle.std.proofs.Common.{◌≡◌, ◌↔◌, ℕ, ◌+◌, ◌<◌, Bool, true, false, not, ◌==◌, List, [], ◌∷◌, length, refl, sym, ap, subst, ◌∙◌, inl, inr, arith}
 use Rattle.std.specs.List.{AllByRecursion}
 use Rattle.std.proofs.lemmas.Bool.{both_ways, cases_lt}
 use Rattle.std.proofs.lemmas.Bool.Decides.{nat_tests}
@@ -109,3 +109,12 @@ some-more flow offers n q same before here p below = elim (cases_lt p n) [
   | inl l ↦ before p l
   | inr l ↦ let e : q ≡ p = omega (arith, same, l, below) in subst (λ x. (cut : Cut) × IsOffered flow offers x cut) e here
 ]
+
+-- the first node that is bare
+pub bare-first : (flow : Dataflow) (offers : List Offer) (n q : ℕ) → q ≡ n → n < length flow.nodes → ((p : ℕ) → p < n → (cut : Cut) × IsOffered flow offers p cut) → IsBare flow offers q
+    → (q < length flow.nodes) × IsBare flow offers q × ((p : ℕ) → p < q → IsBare flow offers p → ⊥)
+bare-first flow offers n q same there before bare = (
+  omega (arith, same, there),
+  bare,
+  λ p below none. let some = before p (omega (arith, same, below)) in none some.0 some.1,
+)

@@ -1,12 +1,12 @@
 -- What a call promises, by how it ended.
-use Rattle.std.proofs.Common.{◌≡◌, ℕ, ◌≤◌, List, [], Option, Some, None, refl, sym, ap, subst, ◌∙◌, ◌⊎◌, inl, inr, arith}
+use Rattle.std.proofs.Common.{◌≡◌, ℕ, ◌≤◌, List, Option, Some, None, refl, sym, ap, subst, ◌∙◌, ◌⊎◌, inl, inr, arith}
 use Rattle.fw_outside.specs.declared.fault.OutFault.{OutFault}
 use Rattle.fw_outside.specs.declared.fault.OutFault.TheVariants as output
 use Rattle.fw_outside.specs.Outside.{SinkView, one_more}
 use Rattle.fw_flow.specs.declared.choice.Offer.{Offer}
 use Rattle.fw_flow.specs.Dataflow.{Dataflow}
 use Rattle.fw_offers_text.specs.declared.claim.Claim.{Claim}
-use Rattle.fw_command.specs.Writing.{IsCutOff, IsRefusedBy, IsWritten, NeverFall, WritesText, faults_by}
+use Rattle.fw_command.specs.Writing.{IsCutOff, IsWritten, NeverFall, WritesText}
 use Rattle.fw_choosing.specs.Answers.{ChoosingAnswers, EndsBeforeOut, IsPartPrinted, KeepsTexts, RefusesText}
 use Rattle.fw_choosing.specs.Choices.{IsChoiceAnswer, IsVerifyAnswer}
 use Rattle.fw_choosing.specs.Status.{IsNoted, IsToldStatus, NamesRefusal, fault_status, fetch_faults_told}

@@ -1,8 +1,8 @@
 -- What `choose` and `verify` find, as their code finds it.
-use Rattle.std.proofs.Common.{◌≡◌, ◌↔◌, ℕ, zero, suc, ◌+◌, ◌<◌, ◌≤◌, ◌==◌, Bool, true, false, cond, List, [], ◌∷◌, ◌++◌, length, take, Option, Some, None, refl, sym, ap, subst, ◌∙◌, ◌⊎◌, inl, inr, arith, append_assoc, codes}
+use Rattle.std.proofs.Common.{◌≡◌, ◌↔◌, ℕ, ◌+◌, ◌<◌, ◌==◌, Bool, true, false, cond, List, [], ◌∷◌, ◌++◌, length, Option, Some, None, refl, sym, ap, subst, ◌∙◌, inl, inr, arith, append_assoc, codes}
 use Rattle.std.specs.Fmt.{decimal}
 use Rattle.std.specs.Prelude.{slice_get}
-use Rattle.std.proofs.lemmas.Bool.{both_ways, eqb-true}
+use Rattle.std.proofs.lemmas.Bool.{eqb-true}
 use Rattle.std.proofs.lemmas.List.{take_all}
 use Rattle.fw_lemmas.proofs.Numbers.{eqb-self}
 use Rattle.fw_frontier.specs.Front.{Front}
@@ -17,14 +17,15 @@ use Rattle.fw_flow.specs.declared.trail.Cause.TheVariants as cause
 use Rattle.fw_flow.specs.declared.trail.Lowering.{Lowering}
 use Rattle.fw_flow.specs.Dataflow.{Dataflow, receiver, sender}
 use Rattle.fw_flow.specs.WellFormed.{IsWellFormed}
-use Rattle.fw_model.specs.Certificates.{IsCertificate, IsDeadEnd, IsTrailBy}
+use Rattle.fw_model.specs.Certificates.{IsCertificate, IsDeadEnd}
 use Rattle.fw_model.specs.Choice.{cut_of}
 use Rattle.fw_model.specs.Inclusions.{owner}
-use Rattle.fw_model.specs.Lowerings.{IsRightLowering, LeadRight, cause_of, choice_of}
+use Rattle.fw_model.specs.Lowerings.{LeadRight, cause_of, choice_of}
 use Rattle.fw_model.specs.Offers.{IsOffered, RecordsAscend, covers_of}
 use Rattle.fw_monitor.specs.Descent.{HasConsistent}
-use Rattle.fw_monitor.specs.Finding.{IsLargestFound}
+use Rattle.fw_monitor.specs.Finding.{IsFirstDeadEnd, IsLargestFound}
 use Rattle.fw_monitor.specs.Trail.{IsTrail}
+use Rattle.fw_monitor.proofs.FindingLaws.{dead_end-of}
 use Rattle.fw_monitor.proofs.TrailEndLaws.{trail-by_offers}
 use Rattle.fw_certify.specs.CertificateText.{certificate_line, down_lines}
 use Rattle.fw_certify.specs.Checked.{IsVerdict}
@@ -141,15 +142,24 @@ pub largest-chosen : (flow : Dataflow) (offers : List Offer) (text : List ℕ) (
     → IsChosenText flow offers text
 largest-chosen flow offers text trail choice found printed = record { choice = choice; trail = trail; largest = found.largest; leads = found.leads; printed = printed }
 
-pub bare-no_choice : (flow : Dataflow) (offers : List Offer) (text : List ℕ) (p : ℕ) → p < length flow.nodes → IsBare flow offers p → text ≡ none_text flow [] p None → IsNoChoiceText flow offers text
-bare-no_choice flow offers text p there bare printed =
-    record { lowerings = []; node = p; by = None; none_left = (refl, there, bare); none = bare-none flow offers p there bare; printed = printed }
+pub bare-no_choice : (flow : Dataflow) (offers : List Offer) (text : List ℕ) (p : ℕ) → p < length flow.nodes → IsBare flow offers p → ((q : ℕ) → q < p → IsBare flow offers q → ⊥)
+    → text ≡ none_text flow [] p None → IsNoChoiceText flow offers text
+bare-no_choice flow offers text p there bare first printed =
+    record { lowerings = []; node = p; by = None; found = (refl, there, bare, first); none_left = (refl, there, bare); none = bare-none flow offers p there bare; printed = printed }
 
 pub dead_end-no_choice : (flow : Dataflow) (offers : List Offer) (text : List ℕ) (ls : List Lowering) (s : Side) (p : ℕ) (by : Cause) → IsWellFormed flow
-    → IsDeadEnd flow (covers_of flow offers) (IsOffered flow offers) ls s → p ≡ owner flow s → by ≡ cause_of (OfCut s) → text ≡ none_text flow ls p (Some by) → IsNoChoiceText flow offers text
+    → IsFirstDeadEnd flow (covers_of flow offers) (IsOffered flow offers) ls s → p ≡ owner flow s → by ≡ cause_of (OfCut s) → text ≡ none_text flow ls p (Some by) → IsNoChoiceText flow offers text
 dead_end-no_choice flow offers text ls s p by well d node cause printed =
-    let left : IsNoneLeftAt flow offers ls p (Some by) = record { side = s; node = node; cause = cause; dead_end = d } in
-    record { lowerings = ls; node = p; by = Some by; none_left = left; none = none_left-none flow offers ls p (Some by) well left; printed = printed }
+    let left : IsNoneLeftAt flow offers ls p (Some by) = record { side = s; node = node; cause = cause; dead_end = dead_end-of flow (covers_of flow offers) (IsOffered flow offers) ls s d } in
+    record {
+      lowerings = ls;
+      node = p;
+      by = Some by;
+      found = record { side = s; node = node; cause = cause; dead_end = d };
+      none_left = left;
+      none = none_left-none flow offers ls p (Some by) well left;
+      printed = printed;
+    }
 
 pub cuts-shown : (flow : Dataflow) (offers : List Offer) (ls : List Lowering) (cuts : List Cut) (notices : List Front) (text : List ℕ) → IsWellFormed flow
     → IsVerdict flow (covers_of flow offers) (IsOffered flow offers) ls (choice_of cuts notices) Yes → text ≡ certificate_line (length ls)

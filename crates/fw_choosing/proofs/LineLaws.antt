@@ -15,7 +15,7 @@ use Rattle.fw_frontier.specs.Front.{Front, IsCanonical}
 use Rattle.fw_frontier.specs.FrontText.{spaces_text}
 use Rattle.fw_lines.specs.declared.numeral.Number.{Number}
 use Rattle.fw_lines.specs.declared.numeral.Number.TheVariants.{Value, TooLarge, NotANumber}
-use Rattle.fw_lines.specs.Spelling.{is_name, is_numeral}
+use Rattle.fw_lines.specs.Spelling.{is_name}
 use Rattle.fw_lines.specs.Written.{WordLine, behind_space, is_plain, is_plain_line, line_text, spaced}
 use Rattle.fw_flow.specs.declared.choice.Cut.{Cut}
 use Rattle.fw_flow.specs.declared.choice.Cut.TheVariants.{Present, At}
@@ -31,7 +31,6 @@ use Rattle.fw_flow.specs.Dataflow.{Dataflow, bounds_of, idle_node, node_at}
 use Rattle.fw_flow.specs.DomainText.{name_of_edge}
 use Rattle.fw_flow.specs.WellFormed.{IsWellFormed}
 use Rattle.fw_model.specs.Choice.{IsCanonicalCut}
-use Rattle.fw_schedule.specs.Names.{node_with_name, edge_named}
 use Rattle.fw_schedule.specs.Stamps.{is_stamp}
 use Rattle.fw_schedule.proofs.NumberLaws.{decimal_numeral, number_of-decimal}
 use Rattle.fw_schedule.proofs.WordLaws.{IsSpelled, edge_found, node_found, plain-name, plain-number, plain-stamp, stamp-spelled, stamp_read}

@@ -1,5 +1,5 @@
 -- What `choose` prints is read by `verify` as the certificate that it is.
-use Rattle.std.proofs.Common.{◌≡◌, ℕ, zero, suc, ◌+◌, ◌<◌, ◌≤◌, ◌^◌, Bool, true, false, ◌&&◌, ◌||◌, ◌==◌, cond, List, [], ◌∷◌, ◌++◌, length, map, get_or, Option, Some, None, unwrap_or, refl, sym, ◌∙◌, ap, subst, append_assoc, arith, codes}
+use Rattle.std.proofs.Common.{◌≡◌, ℕ, zero, suc, ◌+◌, ◌<◌, ◌≤◌, ◌^◌, Bool, true, false, ◌||◌, ◌==◌, cond, List, [], ◌∷◌, ◌++◌, length, map, get_or, Option, Some, None, unwrap_or, refl, sym, ◌∙◌, ap, subst, append_assoc, arith, codes}
 use Rattle.std.proofs.Math.Bool.{or-true}
 use Rattle.std.specs.Prelude.{◌≢◌}
 use Rattle.std.proofs.lemmas.Bool.{and_from, both_ways, eqb-true}
@@ -30,7 +30,7 @@ use Rattle.fw_flow.specs.declared.trail.Lowering.{Lowering}
 use Rattle.fw_flow.specs.CutText.{cut_text}
 use Rattle.fw_flow.specs.Dataflow.{Dataflow, bounds_of, node_at, node_ids}
 use Rattle.fw_flow.specs.WellFormed.{IsWellFormed}
-use Rattle.fw_model.specs.Choice.{IsCanonicalCut, IsLargestBy, cut_of}
+use Rattle.fw_model.specs.Choice.{IsCanonicalCut, cut_of}
 use Rattle.fw_model.specs.Inclusions.{IsInclusionOf, IsLimitIn, IsSideOfFlow, node_of, note_node, owner}
 use Rattle.fw_model.specs.Lowerings.{IsRightLowering, IsValueLeft, LeadRight, cause_of, lowering_of}
 use Rattle.fw_model.specs.Offers.{IsOffered, covers_of}
@@ -44,7 +44,7 @@ use Rattle.fw_offers_text.specs.declared.claim.ClaimEntry.TheVariants as entry
 use Rattle.fw_offers_text.specs.declared.claim.Ending.{Ending}
 use Rattle.fw_offers_text.specs.declared.claim.Ending.TheVariants.{Largest, NoneLeft}
 use Rattle.fw_offers_text.specs.declared.code.ChoiceCode.TheVariants.{C3, C4, C5}
-use Rattle.fw_offers_text.specs.CertificateGrammar.{IsAcceptedCertificate, claim_of, cut_told, cuts_told, entry_fault, fits_the_end, is_cut_in_domain, is_end, lowering_told, none_told}
+use Rattle.fw_offers_text.specs.CertificateGrammar.{IsAcceptedCertificate, claim_of, cut_told, cuts_told, fits_the_end, is_cut_in_domain, is_end, lowering_told, none_told}
 use Rattle.fw_offers_text.specs.Faults.{choice_size_limit}
 use Rattle.fw_offers_text.specs.Statements.{first_told}
 use Rattle.fw_offers_text.proofs.ClaimLaws.{cut_more, end_kept}

@@ -1,5 +1,5 @@
 -- Why texts are not read, and what was asked of the folder, over several calls.
-use Rattle.std.proofs.Common.{◌≡◌, ℕ, ◌+◌, ◌<◌, List, length, take, Option, Some, None, Result, Ok, Err, refl, sym, ap, subst, ◌∙◌, ◌⊎◌, inl, inr, arith}
+use Rattle.std.proofs.Common.{◌≡◌, ℕ, ◌+◌, ◌<◌, List, length, take, Option, Some, None, Err, refl, sym, ap, subst, ◌∙◌, inl, inr, arith}
 use Rattle.std.specs.Prelude.{IsSomeAnd}
 use Rattle.fw_outside.specs.Outside.{IsCutText, one_more}
 use Rattle.fw_flow.specs.declared.choice.Offer.{Offer}
@@ -8,7 +8,6 @@ use Rattle.fw_offers_text.specs.declared.claim.Claim.{Claim}
 use Rattle.fw_offers_text.specs.CertificateGrammar.{IsAcceptedCertificate, IsRefusedCertificate}
 use Rattle.fw_offers_text.specs.OffersGrammar.{AreAcceptedOffers, AreRefusedOffers}
 use Rattle.fw_offers_text.specs.declared.code.ChoiceCode.TheVariants.{O8, C6}
-use Rattle.fw_offers_text.specs.declared.code.ChoiceRefusal.{ChoiceRefusal}
 use Rattle.fw_command.specs.declared.reading.JobFault.{JobFault}
 use Rattle.fw_command.specs.declared.reading.JobFault.TheVariants as job
 use Rattle.fw_command.specs.Reading.{IfJobRefused, read_faults_after}

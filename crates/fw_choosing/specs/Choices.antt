@@ -16,13 +16,14 @@ use Rattle.fw_model.specs.Choice.{IsConsistentBy, IsLargestBy}
 use Rattle.fw_model.specs.Inclusions.{owner}
 use Rattle.fw_model.specs.Lowerings.{IsRightLowering, LeadRight, cause_of}
 use Rattle.fw_model.specs.Offers.{IsOffered, covers_of}
+use Rattle.fw_monitor.specs.Finding.{IsFirstDeadEnd}
 use Rattle.fw_certify.specs.CertificateText.{cause_text, certificate_line, certificate_text, down_lines}
 use Rattle.fw_running.specs.EffectText.{cut_lines}
 use Rattle.fw_offers_text.specs.declared.claim.Claim.{Claim}
 use Rattle.fw_offers_text.specs.declared.claim.Ending.{Ending}
 use Rattle.fw_offers_text.specs.declared.claim.Ending.TheVariants.{Largest, NoneLeft}
 use Rattle.fw_choosing.specs.declared.status.ChoosingStatus.{ChoosingStatus}
-use Rattle.fw_choosing.specs.declared.status.ChoosingStatus.TheVariants.{Done, BadWords, FlowRefused, OffersRefused, CertificateRefused, ReadFault, WriteFault, NoMemory, NoChoice, NotShown}
+use Rattle.fw_choosing.specs.declared.status.ChoosingStatus.TheVariants.{Done, NoChoice, NotShown}
 
 -- ---- what is found
 
@@ -45,6 +46,19 @@ pub record IsDeadEndFor (flow : Dataflow) (offers : List Offer) (ls : List Lower
 abbrev pub IsNoneLeftAt : Dataflow → List Offer → List Lowering → ℕ → Option Cause → Type 0
 IsNoneLeftAt flow offers ls p None = (ls ≡ []) × (p < length flow.nodes) × IsBare flow offers p
 IsNoneLeftAt flow offers ls p (Some by) = IsDeadEndFor flow offers ls p by
+
+-- the descent ends at the node: what this cause says of its cut is the first inclusion that does not hold behind the lowerings, and no cut
+-- is left for it
+pub record IsFirstDeadEndFor (flow : Dataflow) (offers : List Offer) (ls : List Lowering) (p : ℕ) (by : Cause) : Type 0 where
+  pub side : Side
+  pub node : p ≡ owner flow side
+  pub cause : by ≡ cause_of (OfCut side)
+  pub dead_end : IsFirstDeadEnd flow (covers_of flow offers) (IsOffered flow offers) ls side
+
+-- Where no choice is found: at the end of the descent; or at the first node that offers no cut, and there are no lowerings.
+abbrev pub IsNoneFoundAt : Dataflow → List Offer → List Lowering → ℕ → Option Cause → Type 0
+IsNoneFoundAt flow offers ls p None = (ls ≡ []) × (p < length flow.nodes) × IsBare flow offers p × ((q : ℕ) → q < p → IsBare flow offers q → ⊥)
+IsNoneFoundAt flow offers ls p (Some by) = IsFirstDeadEndFor flow offers ls p by
 
 -- ---- what `choose` prints
 
@@ -73,11 +87,12 @@ pub record IsChosenText (flow : Dataflow) (offers : List Offer) (text : List ℕ
   pub leads : IsTrailBy flow (covers_of flow offers) (IsOffered flow offers) trail choice
   pub printed : text ≡ choice_text flow trail choice.cuts
 
--- no choice is consistent, and this text shows it
+-- no choice is consistent, and this text shows where none was found
 pub record IsNoChoiceText (flow : Dataflow) (offers : List Offer) (text : List ℕ) : Type 0 where
   pub lowerings : List Lowering
   pub node : ℕ
   pub by : Option Cause
+  pub found : IsNoneFoundAt flow offers lowerings node by
   pub none_left : IsNoneLeftAt flow offers lowerings node by
   pub none : IsNoneConsistent flow offers
   pub printed : text ≡ none_text flow lowerings node by

@@ -1,5 +1,5 @@
 -- What `choose` prints is a certificate that `verify` finds right.
-use Rattle.std.specs.Prelude.{ℕ, ◌≤◌, List, length}
+use Rattle.std.specs.Prelude.{ℕ, List}
 use Rattle.fw_flow.specs.declared.choice.Offer.{Offer}
 use Rattle.fw_flow.specs.Dataflow.{Dataflow}
 use Rattle.fw_offers_text.specs.declared.claim.Claim.{Claim}

@@ -6,7 +6,7 @@ use Rattle.fw_offers_text.specs.Faults.{choice_size_limit}
 use Rattle.fw_offers_text.specs.OffersGrammar.{AreRefusedOffers}
 use Rattle.fw_command.specs.Texts.{HasText}
 use Rattle.fw_choosing.specs.declared.status.ChoosingStatus.{ChoosingStatus}
-use Rattle.fw_choosing.specs.declared.status.ChoosingStatus.TheVariants.{Done, BadWords, FlowRefused, OffersRefused, CertificateRefused, ReadFault, WriteFault, NoMemory, NoChoice, NotShown}
+use Rattle.fw_choosing.specs.declared.status.ChoosingStatus.TheVariants.{OffersRefused, CertificateRefused, ReadFault, NoMemory}
 
 -- the folder failed, or memory was refused; or the text is too long, and this status tells it
 abbrev pub IsFetchFault : Option (List ℕ → Option (List ℕ)) → List ℕ → ChoosingStatus → ChoosingStatus → Type 0

@@ -10,7 +10,7 @@ use Rattle.fw_command.specs.Texts.{HasText, HasFlow, IsFlowRefused}
 use Rattle.fw_choosing.specs.Choices.{IsChoiceAnswer, IsVerifyAnswer}
 use Rattle.fw_choosing.specs.Words.{Choosing, choose, verify}
 use Rattle.fw_choosing.specs.declared.status.ChoosingStatus.{ChoosingStatus}
-use Rattle.fw_choosing.specs.declared.status.ChoosingStatus.TheVariants.{Done, BadWords, FlowRefused, OffersRefused, CertificateRefused, ReadFault, WriteFault, NoMemory, NoChoice, NotShown}
+use Rattle.fw_choosing.specs.declared.status.ChoosingStatus.TheVariants.{FlowRefused, OffersRefused, CertificateRefused, ReadFault, NoMemory}
 
 -- the folder's text under the name is accepted as offers over the flow, and spells these; where the folder tells its texts
 abbrev pub HasOffers : Option (List ℕ → Option (List ℕ)) → List ℕ → Dataflow → List Offer → Type 0

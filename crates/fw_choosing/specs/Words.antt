@@ -28,6 +28,11 @@ choosing_of (word ∷ flow ∷ offers ∷ []) = choose_by word flow offers
 choosing_of (word ∷ flow ∷ offers ∷ certificate ∷ []) = verify_by word flow offers certificate
 choosing_of words = None
 
+-- the names of the texts of a command, in the order in which they are read
+abbrev pub names_in : Choosing → List (List ℕ)
+names_in (choose flow offers) = flow ∷ offers ∷ []
+names_in (verify flow offers certificate) = flow ∷ offers ∷ certificate ∷ []
+
 -- whether words are for these commands: the first is `choose` or `verify`
 abbrev pub is_choosing : List (List ℕ) → Bool
 is_choosing [] = false

@@ -12,7 +12,7 @@ pub(crate) fn first_bare(flow: &Flow, offers: &[Offer]) -> Option<NodeId>
     requires { AreOffersOf flow.now offers.now }
     ensures { MatchOption result
         ((p : ℕ) → p < length flow.now.nodes → (cut : Cut) × IsOffered flow.now offers.now p cut)
-        (λ p. (p < length flow.now.nodes) × IsBare flow.now offers.now p) }
+        (λ p. (p < length flow.now.nodes) × IsBare flow.now offers.now p × ((q : ℕ) → q < p → IsBare flow.now offers.now q → ⊥)) }
 {
     for place in 0..flow.nodes() {
         let node = NodeId::at(place as u32);

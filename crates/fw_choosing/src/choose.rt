@@ -1,9 +1,9 @@
 //! The command `choose`: the largest choice of what the nodes of a flow offer, or why there is none.
-ghost use Rattle.std.specs.Prelude.{◌≡◌, ◌<◌, length, IfOk, None, string_bytes};
+ghost use Rattle.std.specs.Prelude.{◌≡◌, ◌<◌, ℕ, length, IfOk, None, string_bytes};
 ghost use Rattle.fw_flow.specs.declared.side.Inclusion.TheVariants as inclusions;
-ghost use Rattle.fw_model.specs.Certificates.{IsDeadEnd};
 ghost use Rattle.fw_model.specs.Lowerings as spec;
 ghost use Rattle.fw_model.specs.Offers.{AreOffersOf, IsOffered, RecordsAscend, covers_of};
+ghost use Rattle.fw_monitor.specs.Finding.{IsFirstDeadEnd};
 ghost use Rattle.fw_choosing.specs.Choices.{IsBare, IsChoiceAnswer};
 
 use crate::answer::Answer;
@@ -43,6 +43,7 @@ fn nothing_offered(
 ) -> Result<Answer, AllocError>
     requires there { node < length flow.now.nodes }
     requires bare { IsBare flow.now offers.now node }
+    requires first { (q : ℕ) → q < node → IsBare flow.now offers.now q → ⊥ }
     ensures { IfOk result (λ answer. IsChoiceAnswer flow.now offers.now (string_bytes answer.text) answer.status) }
 {
     let trail = Trail::of(Vec::new(alloc));
@@ -61,7 +62,7 @@ fn nothing_left(
     trail: &Trail,
     side: Side,
 ) -> Result<Answer, AllocError>
-    requires { IsDeadEnd flow.now (covers_of flow.now offers.now) (IsOffered flow.now offers.now) trail.now side }
+    requires { IsFirstDeadEnd flow.now (covers_of flow.now offers.now) (IsOffered flow.now offers.now) trail.now side }
     ensures { IfOk result (λ answer. IsChoiceAnswer flow.now offers.now (string_bytes answer.text) answer.status) }
 {
     flow_is_well_formed(flow);

@@ -15,4 +15,4 @@ mod words;
 pub use call::falkirk_choose;
 pub use fw_offers_text::{ChoiceCode, ChoiceRefusal};
 pub use status::ChoosingStatus;
-pub use words::is_choosing;
+pub use words::{is_choosing, names_of_texts};

@@ -1,13 +1,13 @@
 //! What the commands over texts of choices print.
 ghost use Rattle.std.specs.Prelude.{◌≡◌, IfOk, Some, None, string_bytes};
 ghost use Rattle.fw_flow.specs.Dataflow.{node_at};
-ghost use Rattle.fw_certify.specs.CertificateText.{cause_text, certificate_line};
+ghost use Rattle.fw_certify.specs.CertificateText.{certificate_line};
 ghost use Rattle.fw_choosing.specs.Choices as spec;
 ghost use Rattle.fw_choosing.specs.Choices.{none_line};
 ghost use Rattle.fw_choosing.specs.Status.{ending_line};
 ghost use Rattle.fw_choosing.specs.declared.status.ChoosingStatus.TheVariants as Status;
 
-use fw_certify::explain;
+use fw_certify::{CauseText, explain};
 use fw_flow::{Cause, Flow, NodeId, Trail};
 use fw_lines::Refusal;
 use fw_monitor::Descent;
@@ -100,33 +100,9 @@ impl<'a> fmt::Display for NoneLine<'a> {
         match self.by {
             None => writeln!(f, "none {name}"),
             Some(cause) => {
-                let by = CauseText {
-                    flow: self.flow,
-                    cause,
-                };
+                let by = CauseText::of(self.flow, cause);
                 writeln!(f, "none {name} by {by}")
             }
-        }
-    }
-}
-
-// What did not hold.
-#[derive(Drop)]
-struct CauseText<'a> {
-    flow: &'a Flow,
-    cause: Cause,
-}
-
-impl<'a> fmt::Display for CauseText<'a> {
-    ghost output = { λ text. Some (cause_text text.flow.now text.cause) };
-
-    fn fmt<W: fmt::Write>(&self, f: &mut fmt::Formatter<W>) -> fmt::Result {
-        match self.cause {
-            Cause::Delivered(edge) => write!(f, "delivered {}", self.flow.edge_name(edge)),
-            Cause::Discarded(edge) => write!(f, "discarded {}", self.flow.edge_name(edge)),
-            Cause::Notified => write!(f, "notified"),
-            Cause::Own => write!(f, "own"),
-            Cause::Note(edge) => write!(f, "note {}", self.flow.edge_name(edge)),
         }
     }
 }

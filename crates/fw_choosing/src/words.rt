@@ -1,8 +1,9 @@
 //! The words of the commands over texts of choices.
-ghost use Rattle.std.specs.Prelude.{◌≡◌, is_some, option_map};
+ghost use Rattle.std.specs.Prelude.{◌≡◌, [], is_some, option_map};
+ghost use Rattle.std.specs.Option.{option_map_or};
 ghost use Rattle.fw_command.specs.Words.{is_operand, words_in};
 ghost use Rattle.fw_choosing.specs.Words as spec;
-ghost use Rattle.fw_choosing.specs.Words.{choosing_in, choosing_of};
+ghost use Rattle.fw_choosing.specs.Words.{choosing_in, choosing_of, names_in};
 
 /// A command with the names of its texts.
 #[derive(Clone, Copy, Debug)]
@@ -43,6 +44,16 @@ pub(crate) fn parse<'a>(words: &'a [&'a str]) -> Option<ChoosingWords<'a>>
         [command, flow, offers] => choose_words(command, flow, offers),
         [command, flow, offers, certificate] => verify_words(command, flow, offers, certificate),
         _ => None,
+    }
+}
+
+/// The names of the texts of a command, in the order in which they are read; none where the words are no command.
+pub fn names_of_texts<'a>(words: &'a [&'a str]) -> &'a [&'a str]
+    ensures { words_in result.now ≡ option_map_or names_in (choosing_of (words_in words.now)) [] }
+{
+    match words {
+        [_, names @ ..] if parse(words).is_some() => names,
+        _ => &[],
     }
 }
 

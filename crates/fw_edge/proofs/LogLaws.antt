@@ -6,15 +6,17 @@ use Rattle.std.specs.List.Sorted.{IsPermutation, IsSorted, IsPartitionedBy}
 use Rattle.std.specs.declared.cmp.Ordering.{Ordering}
 use Rattle.std.specs.declared.cmp.Ordering.TheVariants.{Less, Equal, Greater}
 use Rattle.std.specs.Ordering.{ordering_reverse, is_lt, is_gt}
-use Rattle.std.proofs.lemmas.Bool.{false≢true, and_from, and_parts, cases_lt}
+use Rattle.std.proofs.lemmas.Bool.{false≢true, both_ways, not-true, and_from, and_parts, or_parts, true_from_ne_false, cases_lt}
+use Rattle.std.proofs.Math.Seq.{get_or-append_seam}
 use Rattle.std.proofs.lemmas.Cmp.{upto}
-use Rattle.std.proofs.lemmas.List.{length-drop}
+use Rattle.std.proofs.lemmas.List.{length-append, length-drop, get_or_append_left}
 use Rattle.std.proofs.lemmas.List.Kept.{AllPairs-filter}
 use Rattle.std.proofs.lemmas.List.Quantifiers.{all_pairs_push}
 use Rattle.std.proofs.lemmas.Option.{get_or_from_slice_get}
 use Rattle.std.proofs.lemmas.List.Sorted.{sum_by-IsPermutation}
 use Rattle.fw_lemmas.proofs.Each.{each-weaker}
 use Rattle.fw_time.specs.Stamp.{Stamp, leq}
+use Rattle.fw_time.proofs.StampLaws.{leq-refl}
 use Rattle.fw_frontier.specs.Front.{Front, inside}
 use Rattle.fw_frontier.proofs.InsideLaws.{inside-closed}
 use Rattle.fw_flow.specs.declared.event.Message.{Message}
@@ -159,6 +161,43 @@ pub no_later-read : (f : Front) (ss others cs ds : List Stamp) (b : Bool) → b 
 no_later-read f ss others cs ds b is causes later t i =
     subst (λ (xs : List Stamp). all_inside (inside f) xs ≡ true) causes
     (no_later f ss others (sym is ∙ t) (subst (λ (xs : List Stamp). all_inside (inside f) xs ≡ true) (sym later) i))
+
+-- stamps none of which a stamp is at most are inside the front that has the stamp alone outside
+apart-inside : (s : Stamp) (others : List Stamp) → list_any (leq s) others ≡ false → all_inside (inside (s ∷ [])) others ≡ true
+apart-inside s [] e = refl
+apart-inside s (o ∷ os) e = let k = or_parts (leq s o) (list_any (leq s) os) e in and_from _ _ (and_from _ _ (ap not k.0) refl) (apart-inside s os k.1)
+
+-- a stamp that is inside wherever others are is at most one of them
+below-known : (s : Stamp) (others : List Stamp) → (all_inside (inside (s ∷ [])) others ≡ true → inside (s ∷ []) s ≡ true) → list_any (leq s) others ≡ true
+below-known s others h = true_from_ne_false (list_any (leq s) others) (λ e.
+    both_ways (leq s s) (not-true (leq s s) (and_parts _ _ (h (apart-inside s others e))).0) (leq-refl s))
+
+-- causes that are inside wherever others are, are each at most one of them
+each-below : (ss others : List Stamp) → ((f : Front) → all_inside (inside f) others ≡ true → all_inside (inside f) ss ≡ true)
+    → list_all (λ s. list_any (leq s) others) ss ≡ true
+each-below [] others h = refl
+each-below (s ∷ ss) others h =
+    and_from _ _ (below-known s others (λ k. (and_parts _ _ (h (s ∷ []) k)).0)) (each-below ss others (λ f k. (and_parts _ _ (h f k)).1))
+
+-- the same of lists that are read
+pub no_later-known : (ss others cs ds : List Stamp) (b : Bool) → b ≡ list_all (λ s. list_any (leq s) others) ss → ss ≡ cs → others ≡ ds
+    → ((f : Front) → all_inside (inside f) ds ≡ true → all_inside (inside f) cs ≡ true) → b ≡ true
+no_later-known ss others cs ds b is causes later h =
+    is ∙ each-below ss others (λ f k.
+    subst (λ (xs : List Stamp). all_inside (inside f) xs ≡ true) (sym causes)
+    (h f (subst (λ (xs : List Stamp). all_inside (inside f) xs ≡ true) later k)))
+
+-- of messages in turn with one more the last one comes no later than it
+pub appended-in_turn : (l m : Message) (xs : List Message) → ComeInTurn (xs ++ m ∷ []) → slice_get xs (length xs - 1) ≡ Some l → ComesNoLater l m
+appended-in_turn l m [] t e = absurd (cc)
+appended-in_turn l m (x ∷ xs) t e =
+    let ys = x ∷ xs in
+    let low : get_or (ys ++ m ∷ []) (length ys - 1) l ≡ l =
+    get_or_append_left ys (m ∷ []) l (length ys - 1) (omega arith) ∙ get_or_from_slice_get ys (length ys - 1) l l e in
+    let high : get_or (ys ++ m ∷ []) (length ys) l ≡ m = get_or-append_seam ys m [] l in
+    let long = length-append ys (m ∷ []) in
+    subst (λ z. ComesNoLater z m) low
+    (subst (λ z. ComesNoLater (get_or (ys ++ m ∷ []) (length ys - 1) l) z) high (t (length ys - 1) (length ys) l (omega arith) (omega arith)))
 
 -- messages in turn stay so with one more, if their last one comes no later than it
 pub in_turn-appended : (l m : Message) (xs : List Message) → ComeInTurn xs → slice_get xs (length xs - 1) ≡ Some l → ComesNoLater l m → ComeInTurn (xs ++ m ∷ [])

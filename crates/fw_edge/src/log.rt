@@ -199,7 +199,8 @@ fn ascend_with(messages: &[Message], ascend: bool, message: &Message) -> bool
 // Whether messages are known to come in turn with one more behind them, where `in_turn` tells whether they are known to.
 fn come_in_turn_with(messages: &[Message], in_turn: bool, message: &Message) -> bool
     requires { IsTrue in_turn → ComeInTurn messages.now }
-    ensures { IsTrue result → ComeInTurn (messages.now ++ message.now ∷ []) }
+    ensures in_turn { IsTrue result → ComeInTurn (messages.now ++ message.now ∷ []) }
+    ensures known { IsTrue in_turn → ComeInTurn (messages.now ++ message.now ∷ []) → IsTrue result }
 {
     match messages.last() {
         Some(last) => in_turn && comes_no_later(last, message),

@@ -1,5 +1,5 @@
 //! Single messages.
-ghost use Rattle.std.specs.Prelude.{◌≡◌, IsTrue};
+ghost use Rattle.std.specs.Prelude.{◌≡◌, ◌↔◌, IsTrue};
 ghost use Rattle.std.specs.List.{list_all, list_any};
 ghost use Rattle.fw_time.specs.Stamp.{leq};
 ghost use Rattle.fw_frontier.specs.Front.{inside};
@@ -21,9 +21,9 @@ pub fn comes_from(message: &Message, f: &Front) -> bool
         .all(|cause| f.contains(cause))
 }
 
-/// Whether each of its causes is known to be at most one of another message's: it comes no later then.
+/// Whether each of its causes is at most one of another message's: where so, and nowhere else, it comes no later.
 pub fn comes_no_later(message: &Message, other: &Message) -> bool
-    ensures { IsTrue result → ComesNoLater message.now other.now }
+    ensures { IsTrue result ↔ ComesNoLater message.now other.now }
 {
     are_at_most(message.causes.stamps(), other.causes.stamps())
 }

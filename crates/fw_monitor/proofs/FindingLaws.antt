@@ -2,6 +2,7 @@
 use Rattle.std.proofs.Common.{◌≡◌, ℕ, suc, ◌+◌, ◌*◌, ◌<◌, ◌≤◌, List, [], ◌∷◌, ◌++◌, length, take, drop, set, get_or, Some, None, refl, sym, ap, subst, ◌∙◌, inl, inr, arith}
 use Rattle.std.specs.List.{AllByRecursion}
 use Rattle.std.proofs.lemmas.Bool.{cases_Bool}
+use Rattle.std.proofs.lemmas.List.{take_all}
 use Rattle.std.proofs.Math.Nat.{mul-le-mul_right, suc-mul}
 use Rattle.fw_lemmas.proofs.Each.{each-append}
 use Rattle.fw_lemmas.proofs.Lists.{split_at}
@@ -19,10 +20,10 @@ use Rattle.fw_flow.specs.declared.trail.Lowering.{Lowering}
 use Rattle.fw_flow.specs.Dataflow.{Dataflow, bounds_of}
 use Rattle.fw_flow.specs.WellFormed.{IsWellFormed}
 use Rattle.fw_model.specs.Certificates.{IsBeginning, IsDeadEnd}
-use Rattle.fw_model.specs.Choice.{cut_of}
-use Rattle.fw_model.specs.Covers.{set_of}
+use Rattle.fw_model.specs.Choice.{IsCutWithin, cut_of}
+use Rattle.fw_model.specs.Covers.{Covers, set_of}
 use Rattle.fw_model.specs.Inclusions.{Holds, IsInclusionOf, IsLimitIn, IsSideOfFlow, inclusions, left_of, limit_of, node_of, note_node, owner, right_of, side_bounds}
-use Rattle.fw_model.specs.Lowerings.{IsGreatestLeft, IsValueLeft, Leads, choice_of, lowering_of, with_value}
+use Rattle.fw_model.specs.Lowerings.{IsCutLeft, IsGreatestLeft, IsValueLeft, Leads, choice_of, lowering_of, with_value}
 use Rattle.fw_model.specs.Machine.{front_of}
 use Rattle.fw_model.specs.Offers.{IsOffered, RecordsAscend, covers_of}
 use Rattle.fw_model.proofs.EnclosesLaws.{leads-right}
@@ -30,12 +31,12 @@ use Rattle.fw_model.proofs.InclusionLaws.{each-inclusion, node-there, owner-ther
 use Rattle.fw_offers.specs.Sides.{IsLeft}
 use Rattle.fw_monitor.specs.Descent.{IsGreatest, IsLower, IsLowerCut, IsNoticeLowered, weight}
 use Rattle.fw_monitor.specs.Worklist.{AreBegins, after, may_break}
-use Rattle.fw_monitor.specs.Finding.{IsBackFrom, IsLargestFound, IsLoweredTo, IsNoneLeftFor, IsOfOffers}
+use Rattle.fw_monitor.specs.Finding.{IsBackFrom, IsFirstDeadEnd, IsLargestFound, IsLoweredTo, IsNoneLeftFor, IsOfOffers}
 use Rattle.fw_monitor.proofs.BeginLaws.{back_by, begin_read as read}
 use Rattle.fw_monitor.proofs.DescentLaws.{consistent_of, largest_of}
 use Rattle.fw_monitor.proofs.LoweringLaws.{cut_tested, left_by, note_greatest, note_tested}
 use Rattle.fw_monitor.proofs.StartLaws.{start_encloses}
-use Rattle.fw_monitor.proofs.TestLaws.{left_over, take_all}
+use Rattle.fw_monitor.proofs.TestLaws.{left_over}
 use Rattle.fw_monitor.proofs.TrailLaws.{leads_more, spared}
 use Rattle.fw_monitor.proofs.WorklistLaws.{after-each, take_next}
 
@@ -246,7 +247,7 @@ further_falls flow all old new place same l stays =
 pub found_largest : (flow : Dataflow) (offers : List Offer) (trail : List Lowering) (choice : Choice) (place : ℕ) → IsWellFormed flow → RecordsAscend flow offers → length (inclusions flow) ≤ place
     → IsOnWay flow offers trail choice place → IsLargestFound flow offers trail choice
 found_largest flow offers trail choice place well asc past w =
-    let all = subst (AllByRecursion (Holds flow (covers_of flow offers) choice)) (take_all (inclusions flow) place past) w.hold in
+    let all = subst (AllByRecursion (Holds flow (covers_of flow offers) choice)) (take_all place (inclusions flow) past) w.hold in
     let holds = each-inclusion flow (Holds flow (covers_of flow offers) choice) well all in
     let consistent = consistent_of flow offers choice w.of_offers.encloses w.of_offers.offered holds in
     record {
@@ -254,13 +255,47 @@ found_largest flow offers trail choice place well asc past w =
       leads = record { start = w.start; begins = w.begins; leads = w.leads; ends = all };
     }
 
-pub found_none : (flow : Dataflow) (offers : List Offer) (trail : List Lowering) (choice : Choice) (place : ℕ) (side : Side) → IsOnWay flow offers trail choice place → IsNoneLeftFor flow offers choice side
-    → IsDeadEnd flow (covers_of flow offers) (IsOffered flow offers) trail side
-found_none flow offers trail choice place side w none = record {
+-- a cut that is offered, and of which the side holds, is left
+itself-left : (flow : Dataflow) (offers : List Offer) (choice : Choice) (side : Side) (x : Cut) → x ≡ cut_of choice (owner flow side) → IsOffered flow offers (owner flow side) x
+    → Holds flow (covers_of flow offers) choice (OfCut side) → IsCutLeft flow (covers_of flow offers) (IsOffered flow offers) choice side x
+itself-left flow offers choice side x is offered holds = record {
+  offered = offered;
+  within = subst (IsCutWithin flow (owner flow side) x) is (same x);
+  meets = subst (λ y. Within (left_of (covers_of flow offers) side y) (right_of flow (covers_of flow offers) side choice)) (sym is) holds;
+}
+  where
+    same : (y : Cut) → IsCutWithin flow (owner flow side) y y
+    same Present = tt
+    same (At f) = λ t i. i
+
+pub found_none : (flow : Dataflow) (offers : List Offer) (all : List Inclusion) (i : Inclusion) (trail : List Lowering) (choice : Choice) (place : ℕ) (side : Side) → IsWellFormed flow → all ≡ inclusions flow
+    → place < length all → i ≡ get_or all place i → i ≡ OfCut side → IsOnWay flow offers trail choice place → IsNoneLeftFor flow offers choice side
+    → IsFirstDeadEnd flow (covers_of flow offers) (IsOffered flow offers) trail side
+found_none flow offers all i trail choice place side well same l is of w none = record {
   start = w.start;
   begins = w.begins;
   end = choice;
-  leads = leads-right flow (covers_of flow offers) (IsOffered flow offers) w.start trail choice w.leads;
+  leads = w.leads;
   of_flow = none.of_flow;
+  first = record {
+    fails = λ h. none.none (cut_of choice (owner flow side)) (itself-left flow offers choice side (cut_of choice (owner flow side)) refl
+        (w.of_offers.offered (owner flow side) (owner-there flow side well none.of_flow)) h);
+    earlier = take place (inclusions flow);
+    later = drop (place + 1) (inclusions flow);
+    place = subst (λ j. inclusions flow ≡ take place (inclusions flow) ++ j ∷ drop (place + 1) (inclusions flow)) of
+        (subst (λ xs. xs ≡ take place xs ++ i ∷ drop (place + 1) xs) same (split_at all place i l is));
+    hold = w.hold;
+  };
   none = none.none;
+}
+
+-- where the descent ends without a choice, its lowerings, which are right, show that there is none
+pub dead_end-of : (flow : Dataflow) (covers : Covers) (offers : ℕ → Cut → Type 0) (trail : List Lowering) (side : Side) → IsFirstDeadEnd flow covers offers trail side → IsDeadEnd flow covers offers trail side
+dead_end-of flow covers offers trail side d = record {
+  start = d.start;
+  begins = d.begins;
+  end = d.end;
+  leads = leads-right flow covers offers d.start trail d.end d.leads;
+  of_flow = d.of_flow;
+  none = d.none;
 }

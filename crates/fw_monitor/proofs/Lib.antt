@@ -9,7 +9,6 @@ pub mod HeldLaws
 pub mod LastLaws
 pub mod LowerLaws
 pub mod LoweringLaws
-pub mod OfferedOneLaws
 pub mod OneTrailLaws
 pub mod SentKeptLaws
 pub mod StartLaws

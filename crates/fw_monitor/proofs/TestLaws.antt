@@ -1,9 +1,9 @@
 -- One test of an inclusion, as the calls make it, and the descent from its start to its end.
-use Rattle.std.proofs.Common.{◌≡◌, ℕ, zero, suc, ◌+◌, ◌*◌, ◌-◌, ◌<◌, ◌≤◌, Bool, true, false, List, [], ◌∷◌, ◌++◌, length, take, drop, set, get_or, Option, Some, None, refl, sym, ap, subst, ◌∙◌, inl, inr, arith}
+use Rattle.std.proofs.Common.{◌≡◌, ℕ, suc, ◌+◌, ◌*◌, ◌-◌, ◌<◌, ◌≤◌, Bool, true, false, List, [], ◌∷◌, ◌++◌, length, take, drop, set, get_or, Option, Some, None, refl, sym, ap, subst, ◌∙◌, inl, inr, arith}
 use Rattle.std.specs.List.{AllByRecursion}
 use Rattle.std.proofs.Math.Nat.{mul-le-mul_right, suc-mul}
 use Rattle.std.proofs.lemmas.Bool.{both_ways, cases_eq}
-use Rattle.std.proofs.lemmas.List.{get_or-set_same, get_or-set_other, get_or_read}
+use Rattle.std.proofs.lemmas.List.{get_or-set_same, get_or-set_other, get_or_read, take_all}
 use Rattle.fw_lemmas.proofs.Each.{each-weaker, each-at, each-append}
 use Rattle.fw_lemmas.proofs.Lists.{split_at}
 use Rattle.fw_frontier.specs.Front.{Front, IsFrontOf}
@@ -182,17 +182,11 @@ further_falls flow offers all i old new trail more waiting left steps next place
     let k = ap (λ c. weight flow c * suc (length (inclusions flow))) (t.same e) in
     omega arith
 
-pub take_all : {A : Type 0} (xs : List A) (n : ℕ) → length xs ≤ n → take n xs ≡ xs
-take_all [] zero l = refl
-take_all [] (suc n) l = refl
-take_all (x ∷ xs) zero l = absurd (omega arith)
-take_all (x ∷ xs) (suc n) l = ap (λ ys. x ∷ ys) (take_all xs n (omega arith))
-
 -- at the end each inclusion holds
 pub each_holds : (flow : Dataflow) (offers : List Offer) (choice : Choice) (trail : List Lowering) (waiting : List Bool) (before steps place : ℕ) → IsWellFormed flow
     → IsAt flow offers choice trail waiting before steps place → length (inclusions flow) ≤ place → HasConsistent flow offers → (i : Inclusion) → IsInclusionOf flow i → Holds flow (covers_of flow offers) choice i
 each_holds flow offers choice trail waiting before steps place well a l has i m =
-    let none = subst (AllByRecursion (λ j. waits flow waiting j ≡ false)) (take_all (inclusions flow) place l) a.done in
+    let none = subst (AllByRecursion (λ j. waits flow waiting j ≡ false)) (take_all place (inclusions flow) l) a.done in
     a.going.settled has i m (each-inclusion flow (λ j. waits flow waiting j ≡ false) well none i m)
 
 pub trail_ends : (flow : Dataflow) (offers : List Offer) (choice : Choice) (trail : List Lowering) (waiting : List Bool) (before steps place : ℕ) → IsWellFormed flow
@@ -208,7 +202,7 @@ trail_ends flow offers choice trail waiting before steps place well a l has = re
 pub each_tested : (flow : Dataflow) (offers : List Offer) (choice : Choice) (trail : List Lowering) (waiting : List Bool) (before steps place : ℕ) → IsWellFormed flow
     → IsAt flow offers choice trail waiting before steps place → length (inclusions flow) ≤ place → before + inclusion_count flow ≤ steps
 each_tested flow offers choice trail waiting before steps place well a l =
-    let done = subst (AllByRecursion (λ j. waits flow waiting j ≡ false)) (take_all (inclusions flow) place l) a.done in
+    let done = subst (AllByRecursion (λ j. waits flow waiting j ≡ false)) (take_all place (inclusions flow) l) a.done in
     let tested = a.going.tested in
     let one = a.going.one_each in
     let none = count-none waiting (λ n m. each_number flow (λ k. get_or waiting k true ≡ false) (each-inclusion flow (λ j. waits flow waiting j ≡ false) well done) n (omega arith)) in

@@ -6,3 +6,4 @@ pub mod PassLaws
 pub mod WayLaws
 pub mod RightLaws
 pub mod OfferedLaws
+pub mod OfferedOneLaws

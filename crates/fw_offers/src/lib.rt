@@ -2,10 +2,12 @@
 #![tactic(auto)]
 
 mod arrived;
+mod offered;
 mod offers;
 mod rights;
 mod sides;
 
+pub use offered::{is_all, is_offered};
 pub use offers::{
     can_resend, can_stay, delivered_to, greatest, notified_of, offered_by, offers_all, records_of,
     sent_by, takes_its_notices,

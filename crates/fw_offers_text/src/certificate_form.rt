@@ -3,10 +3,10 @@ ghost use Rattle.std.specs.Prelude.{◌≡◌, ◌∷◌};
 ghost use Rattle.fw_offers_text.specs.Forms as spec;
 
 use crate::form::{CauseForm, CertificateForm, CutForm};
-use crate::stamp::is_numeral;
 use crate::words::{Word, Words, behind, front_at, is_word};
 use fw_flow::Part;
 use fw_lines::is_name;
+use fw_schedule::is_numeral;
 
 /// The form that the words of a line have.
 pub(crate) fn certificate_form<'a>(words: &Words<'a>) -> Option<CertificateForm<'a>>

@@ -1,40 +1,23 @@
 //! Numbers, stamps and frontiers as words spell them.
-ghost use Rattle.std.specs.Prelude.{◌≡◌, ◌<◌, true, Some, None, OnSome, IfOk, if◌then◌else◌};
+ghost use Rattle.std.specs.Prelude.{◌≡◌, true, Some, None, IfOk, if◌then◌else◌};
 ghost use Rattle.std.specs.Option.{option_map};
 ghost use Rattle.std.specs.List.{list_all};
-ghost use Rattle.std.specs.Str.Parse.{digits_value};
-ghost use Rattle.fw_lines.specs.Spelling as spelling;
 ghost use Rattle.fw_schedule.specs.Stamps as spec;
 ghost use Rattle.fw_schedule.specs.Stamps.{stamp_spelled};
 ghost use Rattle.fw_time.specs.declared.stamp.Bounds.{Bounds as Domain};
-ghost use Rattle.fw_time.specs.Stamp.{leq, in_domain};
+ghost use Rattle.fw_time.specs.Stamp.{in_domain};
 ghost use Rattle.fw_offers_text.specs.Statements.{are_least_in_order, is_canonical, is_count_small, count_spelled, counts_spelled, stamps_spelled};
 ghost use Rattle.fw_offers_text.specs.Words.{is_count};
 
 use crate::statement::EpochCounts;
 use crate::words::{CountWords, StampWords, colon_place};
-use arrayvec::ArrayVec;
 use fw_bag::{Bag, Rec};
 use fw_flow::Notices;
 use fw_frontier::Front;
 use fw_lines::{Number, number};
+use fw_schedule::{number_up_to, stamp_up_to};
 use fw_time::{Bounds, Stamp};
 use std::alloc::{AllocError, Global};
-
-/// Whether a word is a number, of any length.
-#[tactic(auto, unfolding(fw_lines::specs::Spelling::number_of))]
-pub(crate) fn is_numeral(word: &[u8]) -> bool
-    ensures { result ≡ spelling.is_numeral word.now }
-{
-    !matches!(number(word), Number::NotANumber)
-}
-
-/// Whether a word is a stamp: numbers joined by dots.
-pub(crate) fn is_stamp(word: &[u8]) -> bool
-    ensures { result ≡ spec.is_stamp word.now }
-{
-    word.split(|byte| *byte == b'.').all(is_numeral)
-}
 
 /// The stamps that words spell, if each of them is of the domain.
 pub(crate) fn stamps_in(
@@ -109,47 +92,6 @@ fn stamp_in(word: &[u8], bounds: &Bounds) -> Option<Stamp>
         Some(stamp)
     } else {
         None
-    }
-}
-
-// The stamp that a word spells, if it has as many coordinates as the greatest one and none of them is greater.
-fn stamp_up_to(word: &[u8], greatest: &Stamp) -> Option<Stamp>
-    requires { spec.is_stamp word.now ≡ true }
-    ensures { result
-        ≡ (if leq (stamp_spelled word.now) greatest.now then Some (stamp_spelled word.now) else None) }
-{
-    let mut coords = ArrayVec::<u32, 4>::new();
-    for part in word.split(|byte| *byte == b'.') {
-        coords.push(coord_up_to(part, greatest, coords.len())?);
-    }
-    if coords.len() < greatest.len() {
-        return None;
-    }
-    Some(Stamp::new(coords.as_slice()))
-}
-
-// The number of these digits, if the greatest stamp has a coordinate at the place that is not lesser.
-fn coord_up_to(digits: &[u8], greatest: &Stamp, place: usize) -> Option<u32>
-    requires { spelling.is_numeral digits.now ≡ true }
-    ensures value { result ≡ spec.coord_up_to greatest.now place (digits_value 10 digits.now) }
-    ensures few { OnSome result (place < 4) }
-{
-    if place < greatest.len() {
-        number_up_to(digits, greatest.at(place))
-    } else {
-        None
-    }
-}
-
-// The number of these digits, if it is at most the greatest one.
-#[tactic(auto, unfolding(fw_lines::specs::Spelling::number_of))]
-fn number_up_to(digits: &[u8], greatest: u32) -> Option<u32>
-    requires { spelling.is_numeral digits.now ≡ true }
-    ensures { result ≡ spec.if_at_most greatest (digits_value 10 digits.now) }
-{
-    match number(digits) {
-        Number::Value(value) if value <= u64::from(greatest) => Some(value as u32),
-        _ => None,
     }
 }
 

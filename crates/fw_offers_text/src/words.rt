@@ -8,8 +8,8 @@ ghost use Rattle.fw_schedule.specs.Stamps as stamps;
 ghost use Rattle.fw_offers_text.specs.Forms as spec;
 ghost use Rattle.fw_offers_text.specs.Words as spelled;
 
-use crate::stamp::{is_numeral, is_stamp};
 use fw_lines::{Span, is_name};
+use fw_schedule::{is_numeral, is_stamp};
 use std::marker::Model;
 
 /// The byte between an epoch and a number.

@@ -20,7 +20,7 @@ use Rattle.fw_lines.specs.Spelling.{is_name}
 use Rattle.fw_lines.specs.Written.{WordLine, is_plain, is_plain_line, line_text, numbered, spaced, text_of}
 use Rattle.fw_lines.proofs.FaultLaws.{Told, none_told, none_judged, IsSoundSoFar, none_left, sound_more}
 use Rattle.fw_lines.proofs.WrittenLaws.{said_lines-text_of}
-use Rattle.fw_flow.specs.declared.kind.Kind.{Kind}
+use Rattle.fw_flow.specs.Kind.{Kind}
 use Rattle.fw_flow.specs.declared.node.Edge.{Edge}
 use Rattle.fw_flow.specs.declared.node.Node.{Node}
 use Rattle.fw_flow.specs.declared.step.Step.{Step}

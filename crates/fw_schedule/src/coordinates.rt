@@ -46,16 +46,17 @@ fn coord_up_to(digits: &[u8], greatest: &Stamp, place: usize) -> Option<u32>
     }
 }
 
+/// Whether a word is a number, of any length.
 #[tactic(auto, unfolding(fw_lines::specs::Spelling::number_of))]
-fn is_numeral(word: &[u8]) -> bool
+pub fn is_numeral(word: &[u8]) -> bool
     ensures { result ≡ spelling.is_numeral word.now }
 {
     !matches!(number(word), Number::NotANumber)
 }
 
-// The number of these digits, if it is at most the greatest one.
+/// The number of these digits, if it is at most the greatest one.
 #[tactic(auto, unfolding(fw_lines::specs::Spelling::number_of))]
-fn number_up_to(digits: &[u8], greatest: u32) -> Option<u32>
+pub fn number_up_to(digits: &[u8], greatest: u32) -> Option<u32>
     requires { spelling.is_numeral digits.now ≡ true }
     ensures { result ≡ spec.if_at_most greatest (digits_value 10 digits.now) }
 {

@@ -12,6 +12,7 @@ mod schedule;
 mod shown;
 mod step;
 
+pub use coordinates::{is_numeral, is_stamp, number_up_to, stamp_up_to};
 pub use item::{Item, STEP_LIMIT};
 pub use lines::line_numbers;
 pub use making::ItemFault;

@@ -1,4 +1,3 @@
-use Rattle.fw_flow.specs.Dataflow.{Dataflow}
 use Rattle.fw_schedule.proofs.WrittenLaws.{IsNamed}
 use Rattle.fw_choosing.proofs.ReadBackLaws.{chosen-read_back, never-not_shown, none-read_back}
 use Rattle.fw_choosing.proofs.laws.what_is_chosen_is_shown.Goals as goal

@@ -1,14 +1,13 @@
 use Rattle.std.proofs.Common.{◌<◌, ◌≤◌, ℕ, [], length, ap, sym, subst, arith}
 use Rattle.fw_frontier.specs.Front.{IsFrontOf}
 use Rattle.fw_flow.specs.Dataflow.{bounds_of}
-use Rattle.fw_model.specs.Certificates.{IsDeadEnd}
 use Rattle.fw_model.specs.Choice.{cut_of}
 use Rattle.fw_model.specs.Covers.{set_of}
 use Rattle.fw_model.specs.Inclusions.{inclusions}
 use Rattle.fw_model.specs.Lowerings.{choice_of}
 use Rattle.fw_model.specs.Machine.{front_of}
 use Rattle.fw_model.specs.Offers.{IsOffered, covers_of}
-use Rattle.fw_monitor.specs.Finding.{IsLargestFound, IsMended}
+use Rattle.fw_monitor.specs.Finding.{IsFirstDeadEnd, IsLargestFound, IsMended}
 use Rattle.fw_monitor.proofs.FindingLaws.{again, again_falls, begun, found_largest, found_none, further, further_falls}
 use Rattle.fw_monitor.proofs.TestLaws.{there_at}
 use Rattle.fw_monitor.proofs.finding.find.Goals as goal
@@ -72,14 +71,17 @@ mend-preserved c =
 
 pub returns-in-NoneLeft : goal.returns-in-NoneLeft
 returns-in-NoneLeft c =
+    let t = c.mend-test.true in
+    let l : c.mend.place < length c.in_ok-inclusions.inclusions.all.items = omega arith in
     let flow = c.args.flow.now in
     let offers = c.args.offers.now in
     let old = choice_of c.mend.way.cuts.items c.mend.way.notices.items in
     let new = choice_of c.mend-in-mend.new.way.cuts.items c.mend-in-mend.new.way.notices.items in
     let none = subst (IsMended flow offers c.index-inclusion.result.now c.mend.way.trail.items c.mend-in-mend.new.way.trail.items old new) c.in-NoneLeft.is c.in_ok-mend.ensures in
-    subst (λ ls. IsDeadEnd flow (covers_of flow offers) (IsOffered flow offers) ls c.in-NoneLeft.side) (sym c.of.ensures)
-    (subst (λ ls. IsDeadEnd flow (covers_of flow offers) (IsOffered flow offers) ls c.in-NoneLeft.side) (sym none.0)
-    (found_none flow offers c.mend.way.trail.items old c.mend.place c.in-NoneLeft.side c.mend.invariant none.1))
+    subst (λ ls. IsFirstDeadEnd flow (covers_of flow offers) (IsOffered flow offers) ls c.in-NoneLeft.side) (sym c.of.ensures)
+    (subst (λ ls. IsFirstDeadEnd flow (covers_of flow offers) (IsOffered flow offers) ls c.in-NoneLeft.side) (sym none.0)
+    (found_none flow offers c.in_ok-inclusions.inclusions.all.items c.index-inclusion.result.now c.mend.way.trail.items old c.mend.place c.in-NoneLeft.side c.flow_is_well_formed.ensures
+    c.in_ok-inclusions.ensures.all l c.index-inclusion.ensures none.1 c.mend.invariant none.2))
 
 pub returns : goal.returns
 returns c =

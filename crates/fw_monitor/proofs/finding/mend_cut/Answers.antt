@@ -53,6 +53,7 @@ returns-in_default c =
     (subst (λ ys. IsFrontOf (side_bounds flow side) c.in_ok-bound.bound (right_of flow covers side (choice_of c.deref.result.now ys))) c.deref-2.ensures.value c.in_ok-bound.ensures) in
     let none = subst (λ x. IsLowerCut flow offers side x c.in_ok-bound.bound None) here (subst (IsLowerCut flow offers side c.cut_at-cut.result.now c.in_ok-bound.bound) c.in_default.is c.in_ok-to.ensures) in (
       refl,
+      refl,
       none_lower flow offers side cuts notices c.in_ok-bound.bound c.owner-node.result c.requires.ascend c.requires.there names c.owner-node.ensures
           (λ w. both_ways c.in_ok-passes.field-0 c.if-branch.false (c.in_ok-passes.ensures.1 (subst (λ x. Within (left_of covers side x) (frontier_of (side_bounds flow side) c.in_ok-bound.bound)) (sym here) w))) none,
     )
@@ -72,6 +73,7 @@ returns-then-not-is_offered c =
     let lower = subst (λ x. IsLower flow offers side x c.in_ok-bound.bound c.in-Some.to) here low in
     let there = subst (λ p. IsCanonicalCut (bounds_of flow p) c.in-Some.to) (sym c.owner-node.ensures) lower.canonical in
     let test = c.is_offered.ensures flow c.requires.offers (subst (λ p. p < length flow.nodes) (sym c.owner-node.ensures) (owner-there flow side c.flow_is_well_formed.ensures c.requires.there)) there in (
+      refl,
       refl,
       none_offered flow offers side cuts notices c.in_ok-bound.bound c.owner-node.result c.in-Some.to c.flow_is_well_formed.ensures c.requires.ascend c.requires.there c.requires.offered names c.owner-node.ensures
           (λ o. both_ways c.is_offered.result c.if-not-is_offered.true (test.1 o)) lower,

@@ -31,5 +31,5 @@ invariant_of-self-2 c =
           (subst (λ (xs : List Message). sorted_messages (xs ++ message ∷ []) ≡ xs ++ message ∷ []) c.deref.ensures.value (c.ascend_with-ascends.ensures.in_order t)),
       λ t.
           subst ComeInTurn (sym items)
-          (subst (λ (xs : List Message). ComeInTurn (xs ++ message ∷ [])) c.deref-2.ensures.value (c.come_in_turn_with-in_turn.ensures t)),
+          (subst (λ (xs : List Message). ComeInTurn (xs ++ message ∷ [])) c.deref-2.ensures.value (c.come_in_turn_with-in_turn.ensures.in_turn t)),
     )

@@ -2,6 +2,7 @@
 use Rattle.std.proofs.Common.{◌≡◌, ◌↔◌, ℕ, zero, suc, ◌<◌, ◌≤◌, Bool, true, false, List, [], ◌∷◌, length, get_or, take, refl, sym, ap, subst, ◌∙◌, inl, inr, arith}
 use Rattle.std.specs.List.{AllByRecursion}
 use Rattle.std.proofs.lemmas.Bool.{both_ways}
+use Rattle.std.proofs.lemmas.List.{take_all}
 use Rattle.fw_time.specs.declared.stamp.Bounds.{Bounds}
 use Rattle.fw_frontier.specs.Frontier.{Within}
 use Rattle.fw_frontier.specs.Front.{Front, frontier_of, IsCanonical}
@@ -10,7 +11,6 @@ use Rattle.fw_flow.specs.declared.choice.Offered.TheVariants as form
 use Rattle.fw_flow.specs.declared.choice.Recorded.{Recorded}
 use Rattle.fw_model.specs.Offers.{IsBetween, IsListed, IsOfferedFront, IsRangeOf, offered_range}
 use Rattle.fw_model.proofs.OfferLaws.{not_listed}
-use Rattle.fw_monitor.proofs.TestLaws.{take_all}
 
 pub listed-here : (f : Front) (rs : List Recorded) (i : ℕ) (r : Recorded) → i < length rs → r ≡ get_or rs i r → r.front ≡ f → IsListed f rs
 listed-here f [] i r l is e = absurd (omega arith)
@@ -18,7 +18,7 @@ listed-here f (x ∷ rs) zero r l is e = inl (ap (λ (y : Recorded). y.front) (s
 listed-here f (x ∷ rs) (suc i) r l is e = inr (listed-here f rs i r (omega arith) is e)
 
 pub not_listed-all : (f : Front) (rs : List Recorded) (i : ℕ) → length rs ≤ i → AllByRecursion (λ r. r.front ≡ f → ⊥) (take i rs) → (false ≡ true) ↔ IsListed f rs
-not_listed-all f rs i l none = (λ h. absurd (cc), λ o. absurd (not_listed rs f o (subst (AllByRecursion (λ r. r.front ≡ f → ⊥)) (take_all rs i l) none)))
+not_listed-all f rs i l none = (λ h. absurd (cc), λ o. absurd (not_listed rs f o (subst (AllByRecursion (λ r. r.front ≡ f → ⊥)) (take_all i rs l) none)))
 
 pub listed-one : (b : Bounds) (x : Offered) (f : Front) (rs s : List Recorded) (r : Bool) → x ≡ form.Listed rs → s ≡ rs → ((r ≡ true) ↔ IsListed f s) → (r ≡ true) ↔ IsOfferedFront b x f
 listed-one b x f rs s r e is k =

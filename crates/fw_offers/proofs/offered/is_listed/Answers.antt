@@ -1,8 +1,8 @@
 use Rattle.std.proofs.Common.{◌≡◌, refl}
 use Rattle.fw_lemmas.proofs.Each.{each-taken}
 use Rattle.std.proofs.lemmas.Bool.{both_ways}
-use Rattle.fw_certify.proofs.CodeLaws.{listed-here, not_listed-all}
-use Rattle.fw_certify.proofs.cuts.is_listed.Goals as goal
+use Rattle.fw_offers.proofs.OfferedOneLaws.{listed-here, not_listed-all}
+use Rattle.fw_offers.proofs.offered.is_listed.Goals as goal
 
 pub returns-then-same : goal.returns-then-same
 returns-then-same c = (λ h. listed-here c.args.front.now c.args.records.now c.loop-record.record-index c.record-item.result c.loop-record-test.true c.record-item.is (c.same.ensures.one.0 c.if-same.true), λ o. refl)

@@ -1,5 +1,5 @@
-use Rattle.fw_monitor.proofs.OfferedOneLaws.{is_between, not_between}
-use Rattle.fw_monitor.proofs.finding.is_between.Goals as goal
+use Rattle.fw_offers.proofs.OfferedOneLaws.{is_between, not_between}
+use Rattle.fw_offers.proofs.offered.is_between.Goals as goal
 
 pub returns-then-not-subset : goal.returns-then-not-subset
 returns-then-not-subset c = λ b canonical above. not_between b c.args.least.now c.args.greatest.now c.args.front.now c.subset.result c.if-not-subset.true (c.subset.ensures.domain b canonical)

@@ -1,6 +1,6 @@
 use Rattle.std.proofs.lemmas.Bool.{both_ways}
-use Rattle.fw_monitor.proofs.OfferedOneLaws.{batches-have_all, batches-one, between-one, listed-one}
-use Rattle.fw_monitor.proofs.finding.is_one_of.Goals as goal
+use Rattle.fw_offers.proofs.OfferedOneLaws.{batches-have_all, batches-one, between-one, listed-one}
+use Rattle.fw_offers.proofs.offered.is_one_of.Goals as goal
 
 pub returns-in-Listed : goal.returns-in-Listed
 returns-in-Listed c = λ b k canonical. listed-one b c.args.offered.now c.args.front.now c.in-Listed.records c.as_slice.result.now c.is_listed.result c.in-Listed.is c.as_slice.ensures c.is_listed.ensures

@@ -1,20 +1,51 @@
 -- What an engine answers, from what its step does.
-use Rattle.std.proofs.Common.{◌≡◌, ◌≢◌, true, false, Result, Ok, Err, refl, subst}
+use Rattle.std.proofs.Common.{◌≡◌, ◌≢◌, ◌<◌, ℕ, true, false, length, Option, Result, Ok, Err, refl, subst}
+use Rattle.std.specs.Prelude.{IfOk}
 use Rattle.fw_flow.specs.declared.step.Step.{Step}
-use Rattle.fw_flow.specs.declared.step.Step.TheVariants.{Collect}
+use Rattle.fw_flow.specs.declared.step.Step.TheVariants.{Collect, Recover}
+use Rattle.fw_flow.specs.Dataflow.{System}
+use Rattle.fw_flow.specs.WellFormed.{IsWellFormedSystem}
+use Rattle.fw_model.specs.Auto.{auto_steps}
+use Rattle.fw_model.specs.Machine.{Machine, is_failed}
+use Rattle.fw_model.specs.Reached.{IsReached}
 use Rattle.fw_keep.specs.Catalogue.{AreAscending, ids_of}
-use Rattle.fw_keep.specs.Stored.{IsStored}
+use Rattle.fw_keep.specs.Stored.{Records, IsStored}
 use Rattle.fw_outside.specs.Outside.{StoreView}
 use Rattle.fw_running.specs.declared.fault.EngineFault.{EngineFault}
 use Rattle.fw_running.specs.declared.fault.EngineFault.TheVariants as fault
+use Rattle.fw_running.specs.declared.running.Running.{Running}
 use Rattle.fw_running.specs.declared.stepped.Stepped.{Stepped}
 use Rattle.fw_running.specs.declared.stepped.Stepped.TheVariants.{Idle}
 use Rattle.fw_running.specs.Faults.{is_refusal}
-use Rattle.fw_running.specs.Steps.{IsStepEnabled, MayCallByItself, PartAnswers, StepAnswers, TakesFirstStep}
+use Rattle.fw_running.specs.Steps.{FollowsFirst, HasOutcome, IsStepEnabled, MayCallByItself, PartAnswers, StepAnswers, TakesFirstStep, outcome_of}
 use Rattle.fw_running.proofs.AnswerLaws.{refused-after, taken, shown, left, unharmed, first-taken, first-left, no_damage}
 use Rattle.fw_engine.specs.declared.engine.Engine.{Engine}
 use Rattle.fw_engine.specs.Engine.{keep_of, was_refused, StepDraws, EngineAnswers, FirstAnswers}
+use Rattle.fw_engine.specs.Right.{IsRightIn}
 use Rattle.fw_engine.proofs.DrawnLaws.{draws-none}
+use Rattle.fw_engine.proofs.RightLaws.{first-right, idle-recovery, outcome-right}
+
+-- ---- what is told is right
+
+shown-right : (sys : System) → IsWellFormedSystem sys → (state : Machine) → IsReached sys state → (step : Step) (result : Result Stepped EngineFault)
+    → IfOk result (λ stepped. HasOutcome sys state step (outcome_of stepped)) → IfOk result (λ stepped. IsRightIn sys state (outcome_of stepped))
+shown-right sys w state reached step (Ok stepped) h = outcome-right sys w state reached step h.0 (outcome_of stepped) h.1
+shown-right sys w state reached step (Err e) h = tt
+
+recovery-idle : (sys : System) → IsWellFormedSystem sys → (state : Machine) → IsReached sys state → (step : Step) (result : Result Stepped EngineFault)
+    → step ≡ Recover → result ≡ Ok Idle → IfOk result (λ stepped. HasOutcome sys state step (outcome_of stepped))
+    → (p : ℕ) → p < length sys.flow.nodes → is_failed state p ≡ false
+recovery-idle sys w state reached step result is e shows =
+    let of_idle : HasOutcome sys state step (outcome_of Idle) =
+    subst (λ (r : Result Stepped EngineFault). IfOk r (λ stepped. HasOutcome sys state step (outcome_of stepped))) e shows in
+    let h : HasOutcome sys state Recover (outcome_of Idle) = subst (λ (s : Step). HasOutcome sys state s (outcome_of Idle)) is of_idle in
+    idle-recovery sys w state reached h.0 h.1
+
+first-shown_right : (sys : System) → IsWellFormedSystem sys → (state : Machine) → IsReached sys state → (new : Running) (after : Option Records)
+    → (result : Result Stepped EngineFault) → IfOk result (λ stepped. FollowsFirst sys state (outcome_of stepped) new after)
+    → IfOk result (λ stepped. IsRightIn sys state (outcome_of stepped))
+first-shown_right sys w state reached new after (Ok stepped) f = first-right sys w state reached (auto_steps sys.flow) f.next (outcome_of stepped) f.takes
+first-shown_right sys w state reached new after (Err e) f = tt
 
 -- ---- a step
 
@@ -31,10 +62,17 @@ step-answered {K} {view} {old} {new} {before} {after} {step} {result} live ascen
       in_order = ascending;
       ok = taken old.running records step result new.running left_over a.takes;
       shows = shown old.running records step result new.running left_over a.takes a.shows;
+      right = λ sys state s.
+          shown-right sys s.apart.well_formed state s.apart.reached step result
+          (shown old.running records step result new.running left_over a.takes a.shows sys state s);
+      recovers = λ is e sys state s.
+          recovery-idle sys s.apart.well_formed state s.apart.reached step result is e
+          (shown old.running records step result new.running left_over a.takes a.shows sys state s);
       swept = a.swept;
       tells = a.tells;
       told_before = a.told_before;
       quiet = a.quiet;
+      unasked = a.unasked;
       idle = a.idle;
       draws = draws;
       faults = a.faults;
@@ -60,10 +98,13 @@ step-refused {K} {view} {engine} {store} refused stored ascending = record {
   in_order = ascending;
   ok = λ sys state s trust. tt;
   shows = λ sys state s. tt;
+  right = λ sys state s. tt;
+  recovers = λ is e. absurd (cc);
   swept = λ is. tt;
   tells = λ other. refl;
   told_before = λ told. told;
   quiet = λ none. refl;
+  unasked = λ is sys state s none. refl;
   idle = λ other is. refl;
   draws = λ other. draws-none engine.running engine.running (view store).records (Err fault.NoMemory) refl;
   faults = refl;
@@ -92,6 +133,9 @@ first-answered {K} {view} {old} {new} {before} {after} {result} live ascending t
       flow = part.flow;
       in_order = ascending;
       ok = first-taken old.running records result new.running left_over takes;
+      right = λ sys state s.
+          first-shown_right sys s.apart.well_formed state s.apart.reached new.running left_over result
+          (first-taken old.running records result new.running left_over takes sys state s);
       tells = part.tells;
       quiet = part.quiet;
       idle = idle;
@@ -113,6 +157,7 @@ first-refused {K} {view} {engine} {store} refused stored ascending = record {
   flow = refl;
   in_order = ascending;
   ok = λ sys state s. tt;
+  right = λ sys state s. tt;
   tells = refl;
   quiet = λ none. refl;
   idle = λ is. refl;

@@ -10,7 +10,8 @@ use Rattle.fw_model.specs.Machine.{Machine}
 use Rattle.fw_model.specs.Steps.{Effect, LeadsTo}
 use Rattle.fw_stands.specs.FirstSteps.{delivery, notification, AreIdleBelow, NoneToDeliver, NoneToNotify}
 use Rattle.fw_stands.proofs.FirstStepLaws.{first-behind, first-before, group-idle, group-first}
-use Rattle.fw_running.specs.Steps.{FirstMayCall, HasEager}
+use Rattle.fw_running.specs.Steps.{AsksAWrite, FirstMayCall, HasEager}
+use Rattle.fw_running.proofs.NeedsLaws.{delivery-more, notification-more}
 
 -- the steps of all places below n are idle
 all-idle : (sys : System) (state : Machine) (step : ℕ → Step) (n : ℕ) → AreIdleBelow sys state step n → AreIdle sys state (map step (range_with_len 0 n))
@@ -49,6 +50,7 @@ delivery-calls sys state i e l k next effect t full = record {
       (first-before sys state (deliveries sys.flow) (notifications sys.flow ++ (ProgressStep ∷ (acknowledgements sys.flow ++ injections sys.flow))) (delivery e) next effect
       (one-first sys state delivery (length sys.flow.edges) e l k next effect t));
   may_call = full;
+  asks = delivery-more sys state e None full next effect t;
 }
 
 -- so may a notification where its node does
@@ -62,12 +64,12 @@ notification-calls sys state n p l k next effect t full = record {
       (first-before sys state (notifications sys.flow) (ProgressStep ∷ (acknowledgements sys.flow ++ injections sys.flow)) (notification p) next effect
       (one-first sys state notification (length sys.flow.nodes) p l k next effect t));
   may_call = full;
+  asks = notification-more sys state p None full next effect t;
 }
 
--- and progress where some node is eager
-pub progress-calls : (sys : System) (state : Machine) → NoneToNotify sys state → (next : Machine) (effect : Effect) → LeadsTo sys state ProgressStep next effect
-    → HasEager sys.flow → FirstMayCall sys state
-progress-calls sys state n next effect t eager = record {
+-- and progress where some node is eager, and it asks for a write
+pub progress-calls : (sys : System) (state : Machine) → NoneToNotify sys state → AsksAWrite sys state ProgressStep → HasEager sys.flow → FirstMayCall sys state
+progress-calls sys state n (next, effect, t, more) eager = record {
   step = ProgressStep;
   next = next;
   effect = effect;
@@ -76,4 +78,5 @@ progress-calls sys state n next effect t eager = record {
       (all-idle sys state notification (length sys.flow.nodes) n.nodes)
       (record { earlier = []; later = acknowledgements sys.flow ++ injections sys.flow; among = refl; none_earlier = tt; leads = t }));
   may_call = eager;
+  asks = more;
 }

@@ -8,6 +8,7 @@ pub mod HeldLaws
 pub mod LookLaws
 pub mod OutlookLaws
 pub mod QuietLaws
+pub mod RightLaws
 pub mod SearchLaws
 pub mod StableLaws
 pub mod TakenFirstLaws

@@ -77,8 +77,7 @@ pub settle-err : (old new : Running) (before after : Option Records) (e : Engine
     → IsUndamaged {T = Stepped} (Err e) → TakesStep old before Progress (Err e) new after → TakesFirstAfter NoneToNotify old before (Err e) new after
 settle-err old new before after fault.StoreFault eager sound t = λ sys state s none.
     let left = t sys state s in
-    let enabled = left.0 in
-    (progress-calls sys state none enabled.0 enabled.1 enabled.2 (subst (λ (f : Dataflow). HasEager f) s.apart.flow (eager refl)), left.1)
+    (progress-calls sys state none left.0 (subst (λ (f : Dataflow). HasEager f) s.apart.flow (eager refl)), left.1)
 settle-err old new before after (fault.Damaged id) eager sound t = λ sys state s none. sound
 settle-err old new before after fault.NoMemory eager sound t = λ sys state s none. tt
 

@@ -7,6 +7,8 @@ use Rattle.fw_lemmas.proofs.Filters.{filter-in, filter-out}
 use Rattle.fw_flow.specs.declared.step.Step.{Step}
 use Rattle.fw_flow.specs.declared.step.Step.TheVariants.{Inject, Progress, Persist, Ack}
 use Rattle.fw_flow.specs.Dataflow.{Dataflow, System, kind_of, is_input_kind}
+use Rattle.fw_flow.specs.WellFormed.{IsWellFormedSystem}
+use Rattle.fw_model.specs.Reached.{IsReached}
 use Rattle.fw_model.specs.Auto.{deliveries, notifications, acknowledgements, injections, auto_steps, IsIdle, AreIdle, IsFirstEnabled, TakesFirst}
 use Rattle.fw_model.specs.History.{injected_count}
 use Rattle.fw_model.specs.Machine.{Machine, events, is_failed}
@@ -34,8 +36,11 @@ use Rattle.fw_running.specs.Steps.{IsUndamaged, MayCallByItself, PartAnswers, Ta
 use Rattle.fw_running.proofs.AnswerLaws.{no_damage, refused-after}
 use Rattle.fw_running.proofs.SameStateLaws.{down-failed}
 use Rattle.fw_engine.specs.declared.engine.Engine.{Engine}
-use Rattle.fw_engine.specs.Engine.{keep_of, was_refused, WithinAnswers}
+use Rattle.fw_engine.specs.Engine.{keep_of, was_refused, StepDraws, WithinAnswers}
+use Rattle.fw_engine.specs.Right.{IsRightIn}
 use Rattle.fw_engine.specs.Searching.{AnswersWithin, CanInjectWithin, InjectsWithin, IsAny, TakesFirstAfter, TakesFirstWithin}
+use Rattle.fw_engine.proofs.DrawnLaws.{draws-none}
+use Rattle.fw_engine.proofs.RightLaws.{first-right}
 use Rattle.fw_engine.proofs.TakenFirstLaws.{injected, no_injection}
 
 -- ---- what comes before the injections
@@ -254,7 +259,7 @@ within-earlier old new before after came shown t = λ sys state s.
 
 pub within-err : (old new : Running) (before after : Option Records) (came : List ℕ) (e : EngineFault) → TakesFirstAfter IsAny old before (Err e) new after
     → TakesFirstWithin came old before (Err e) new after
-within-err old new before after came fault.StoreFault t = λ sys state s. (t sys state s tt).1
+within-err old new before after came fault.StoreFault t = λ sys state s. t sys state s tt
 within-err old new before after came (fault.Damaged id) t = λ sys state s. t sys state s tt
 within-err old new before after came fault.NoMemory t = λ sys state s. tt
 
@@ -270,8 +275,9 @@ pub within-answered : {K : Type 0} {view : K → StoreView} {old new : Engine} {
     → was_refused old ≡ false → AreAscending (ids_of (keep_of new).entries) → was_refused new ≡ is_refusal result
     → TakesFirstWithin came old.running (view before).records result new.running (view after).records
     → PartAnswers view (MayCallByItself old.running.flow) old.running before result new.running after → (result ≡ Ok Idle → after ≡ before)
+    → StepDraws old.running (view before).records result new.running (view after).records
     → WithinAnswers view old before (λ s. get_or came s 0) result new after
-within-answered {K} {view} {old} {new} {before} {after} {result} came live ascending told takes part still =
+within-answered {K} {view} {old} {new} {before} {after} {result} came live ascending told takes part still draws =
     let records = (view before).records in
     let left_over = (view after).records in
     record {
@@ -279,12 +285,15 @@ within-answered {K} {view} {old} {new} {before} {after} {result} came live ascen
       flow = part.flow;
       in_order = ascending;
       ok = λ sys state s. within-taken sys came state result new.running left_over (takes sys state s);
+      right = λ sys state s. within-right sys came state result new.running left_over s.apart.well_formed s.apart.reached (takes sys state s);
       tells = part.tells;
       quiet = part.quiet;
       idle = still;
+      draws = draws;
       faults = part.faults;
       calls = part.calls;
-      faulted = λ sys state s e. subst (λ (r : Result Stepped EngineFault). AnswersWithin came sys state r new.running left_over) e (takes sys state s);
+      asks = λ sys state s e. (subst (λ (r : Result Stepped EngineFault). AnswersWithin came sys state r new.running left_over) e (takes sys state s)).0;
+      faulted = λ sys state s e. (subst (λ (r : Result Stepped EngineFault). AnswersWithin came sys state r new.running left_over) e (takes sys state s)).1;
       unharmed = λ id. no_damage result id part.undamaged;
       refused = refused-after result (was_refused new) told;
       told = told;
@@ -296,6 +305,13 @@ within-answered {K} {view} {old} {new} {before} {after} {result} came live ascen
     within-taken sys came state (Ok stepped) new after t = t
     within-taken sys came state (Err e) new after t = tt
 
+    within-right : (sys : System) (came : List ℕ) (state : Machine) (result : Result Stepped EngineFault) (new : Running) (after : Option Records)
+        → IsWellFormedSystem sys → IsReached sys state → AnswersWithin came sys state result new after
+        → IfOk result (λ stepped. IsRightIn sys state (outcome_of stepped))
+    within-right sys came state (Ok stepped) new after w reached t =
+        first-right sys w state reached (auto_steps_within sys.flow (λ s. get_or came s 0) state) t.next (outcome_of stepped) t.takes
+    within-right sys came state (Err e) new after w reached t = tt
+
 pub within-refused : {K : Type 0} {view : K → StoreView} {engine : Engine} {store : K} (came : List ℕ) → was_refused engine ≡ true
     → IsStored (keep_of engine) (view store).records → AreAscending (ids_of (keep_of engine).entries)
     → WithinAnswers view engine store (λ s. get_or came s 0) (Err fault.NoMemory) engine store
@@ -304,11 +320,14 @@ within-refused {K} {view} {engine} {store} came refused stored ascending = recor
   flow = refl;
   in_order = ascending;
   ok = λ sys state s. tt;
+  right = λ sys state s. tt;
   tells = refl;
   quiet = λ none. refl;
   idle = λ is. refl;
+  draws = draws-none engine.running engine.running (view store).records (Err fault.NoMemory) refl;
   faults = refl;
   calls = λ e. absurd (cc);
+  asks = λ sys state s e. absurd (cc);
   faulted = λ sys state s e. absurd (cc);
   unharmed = λ id e. cc;
   refused = λ e. refused;

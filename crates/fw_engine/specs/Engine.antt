@@ -1,13 +1,14 @@
 -- What contracts say of an engine.
-use Rattle.std.specs.Prelude.{◌≡◌, ◌≢◌, ◌⊎◌, ℕ, ◌≤◌, Bool, true, false, List, [], Option, None, Result, Ok, IfOk, IsErr, IsErrOf, IsTrue, IsSome, OnOk, is_err, is_some, length}
+use Rattle.std.specs.Prelude.{◌≡◌, ◌≢◌, ◌⊎◌, ℕ, ◌<◌, ◌≤◌, Bool, true, false, List, [], Option, None, Result, Ok, IfOk, IsErr, IsErrOf, IsTrue, IsSome, OnOk, is_err, is_some, length}
 use Rattle.fw_outside.specs.Outside.{StoreView}
 use Rattle.fw_flow.specs.declared.step.Step.{Step}
-use Rattle.fw_flow.specs.declared.step.Step.TheVariants.{Collect, Recover}
+use Rattle.fw_flow.specs.declared.step.Step.TheVariants.{Collect, Progress, Recover}
 use Rattle.fw_flow.specs.Dataflow.{Dataflow, System}
 use Rattle.fw_model.specs.Machine.{Machine, is_failed}
 use Rattle.fw_keep.specs.Catalogue.{KeepState, AreAscending, has_entry, ids_of}
 use Rattle.fw_keep.specs.Stored.{Records, IsStored, bytes_under}
 use Rattle.fw_engine.specs.declared.engine.Engine.{Engine}
+use Rattle.fw_engine.specs.Right.{IsRightIn}
 use Rattle.fw_running.specs.declared.fault.EngineFault.{EngineFault}
 use Rattle.fw_running.specs.declared.fault.EngineFault.TheVariants as fault
 use Rattle.fw_running.specs.declared.running.Running.{Running}
@@ -17,7 +18,7 @@ use Rattle.fw_running.specs.Drawn.{DrawsAtMost, may_draw}
 use Rattle.fw_running.specs.Faults.{faults_after_step, is_refusal}
 use Rattle.fw_running.specs.Fed.{FollowsFirstWithin}
 use Rattle.fw_running.specs.Stands.{Stands}
-use Rattle.fw_running.specs.Steps.{Follows, FollowsFirst, FirstMayCall, HasOutcome, IsDamage, IsLeftBy, IsStepEnabled, MayCallByItself, MayCallStore, Trusts, outcome_of}
+use Rattle.fw_running.specs.Steps.{AsksAWrite, Follows, FollowsFirst, FirstMayCall, HasOutcome, IsDamage, IsLeftBy, IsStepEnabled, MayCallByItself, MayCallStore, Trusts, outcome_of}
 
 -- what it keeps
 abbrev pub running_of : Engine → Running
@@ -80,19 +81,25 @@ pub record EngineAnswers {K : Type 0} (view : K → StoreView) (old : Engine) (b
   -- What is told is the machine's outcome, also of a recovery that can't trust what it reads. For which state the engine then stands
   -- is not said.
   pub shows : ForEachState old (view before).records (λ sys state. IfOk result (λ stepped. HasOutcome sys state step (outcome_of stepped)))
+  -- So it is right in that state; and a recovery is idle only where no declared node is failed.
+  pub right : ForEachState old (view before).records (λ sys state. IfOk result (λ stepped. IsRightIn sys state (outcome_of stepped)))
+  pub recovers : step ≡ Recover → result ≡ Ok Idle
+      → ForEachState old (view before).records (λ sys state. (p : ℕ) → p < length sys.flow.nodes → is_failed state p ≡ false)
   -- after a collection nothing waits for a sweep
   pub swept : step ≡ Collect → OnOk result ((keep_of new).waiting ≡ [])
   -- A store that tells its records goes on telling them, unless it ceases in a recovery, which reads; and what it tells then it told
-  -- before. A step that by the flow's policies never calls it leaves it as it is, and so does an idle one that is no collection.
+  -- before. A step that by the flow's policies never calls it leaves it as it is, and so does an idle one that is no collection, and a
+  -- progress that asks for no write.
   pub tells : step ≢ Recover → is_some (view after).records ≡ is_some (view before).records
   pub told_before : IsSome (view after).records → IsSome (view before).records
   pub quiet : (MayCallStore (flow_of old) step → ⊥) → after ≡ before
+  pub unasked : step ≡ Progress → ForEachState old (view before).records (λ sys state. (AsksAWrite sys state Progress → ⊥) → after ≡ before)
   pub idle : step ≢ Collect → result ≡ Ok Idle → after ≡ before
   -- a step that is no collection, which sweeps, changes nothing in the store but under the ids that it draws
   pub draws : step ≢ Collect → StepDraws (running_of old) (view before).records result (running_of new) (view after).records
   -- The store's count of faults rises by one at StoreFault (at 2^64 - 1 it stays), and at no other answer. StoreFault comes only in a
-  -- step that may call the store, and that is enabled or a collection. Then the engine stands where it stood, or where the collection
-  -- led.
+  -- step that may call the store: one that asks for a write in the state, a recovery that is enabled, or a collection. Then the engine
+  -- stands where it stood, or where the collection led.
   pub faults : (view after).faults ≡ faults_after_step result (view before).faults
   pub calls : IsErrOf result fault.StoreFault → MayCallStore (flow_of old) step
   pub faulted : ForEachState old (view before).records (λ sys state. IsErrOf result fault.StoreFault
@@ -116,6 +123,8 @@ pub record FirstAnswers {K : Type 0} (view : K → StoreView) (old : Engine) (be
   pub in_order : AreAscending (ids_of (keep_of new).entries)
   -- it goes from each state for which it stood as the machine does
   pub ok : ForEachState old (view before).records (λ sys state. IfOk result (λ stepped. FollowsFirstStep sys state stepped new (view after).records))
+  -- what is told is right in that state
+  pub right : ForEachState old (view before).records (λ sys state. IfOk result (λ stepped. IsRightIn sys state (outcome_of stepped)))
   -- A store that tells its records goes on telling them. Where no step that is taken by itself may call it, and where none is taken,
   -- it is left as it is.
   pub tells : is_some (view after).records ≡ is_some (view before).records
@@ -124,7 +133,7 @@ pub record FirstAnswers {K : Type 0} (view : K → StoreView) (old : Engine) (be
   -- nothing in the store is changed but under the ids that are drawn
   pub draws : StepDraws (running_of old) (view before).records result (running_of new) (view after).records
   -- The store's count of faults rises by one at StoreFault (at 2^64 - 1 it stays), and at no other answer. StoreFault comes only where
-  -- the first step that is enabled may call the store. Then the engine stands where it stood.
+  -- the first step that is enabled asks for a write. Then the engine stands where it stood.
   pub faults : (view after).faults ≡ faults_after_step result (view before).faults
   pub calls : ForEachState old (view before).records (λ sys state. IsErrOf result fault.StoreFault → FirstMayCall sys state)
   pub faulted : ForEachState old (view before).records (λ sys state. IsErrOf result fault.StoreFault → StandsFor sys new (view after).records state)
@@ -144,13 +153,18 @@ pub record WithinAnswers {K : Type 0} (view : K → StoreView) (old : Engine) (b
   -- it goes from each state for which it stood as the machine does
   pub ok : ForEachState old (view before).records (λ sys state.
       IfOk result (λ stepped. FollowsFirstWithin sys came state (outcome_of stepped) new.running (view after).records))
+  -- what is told is right in that state
+  pub right : ForEachState old (view before).records (λ sys state. IfOk result (λ stepped. IsRightIn sys state (outcome_of stepped)))
   pub tells : is_some (view after).records ≡ is_some (view before).records
   pub quiet : (MayCallByItself (flow_of old) → ⊥) → after ≡ before
   pub idle : result ≡ Ok Idle → after ≡ before
-  -- the store's count of faults rises by one at StoreFault, which comes only where a step that is taken by itself may call the store; then
-  -- the engine stands where it stood
+  -- nothing in the store is changed but under the ids that are drawn
+  pub draws : StepDraws (running_of old) (view before).records result (running_of new) (view after).records
+  -- the store's count of faults rises by one at StoreFault, which comes only where a step that is taken by itself may call the store, and
+  -- the first that is enabled asks for a write; then the engine stands where it stood
   pub faults : (view after).faults ≡ faults_after_step result (view before).faults
   pub calls : IsErrOf result fault.StoreFault → MayCallByItself (flow_of old)
+  pub asks : ForEachState old (view before).records (λ sys state. IsErrOf result fault.StoreFault → FirstMayCall sys state)
   pub faulted : ForEachState old (view before).records (λ sys state. IsErrOf result fault.StoreFault → StandsFor sys new (view after).records state)
   -- no record is damaged
   pub unharmed : (id : ℕ) → IsErrOf result (fault.Damaged id) → ⊥

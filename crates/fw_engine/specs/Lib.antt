@@ -1,3 +1,4 @@
 pub mod Engine
 pub mod Feeding
+pub mod Right
 pub mod Searching

@@ -20,7 +20,7 @@ use Rattle.fw_running.specs.Places.{place_limit}
 use Rattle.fw_running.specs.Ready.{CanInject, IsOwing}
 use Rattle.fw_running.specs.ReadyState.{ReadyState}
 use Rattle.fw_running.specs.Stands.{Stands}
-use Rattle.fw_running.specs.Steps.{AnswersFirst, outcome_of}
+use Rattle.fw_running.specs.Steps.{AnswersFirst, outcome_of, FirstMayCall}
 use Rattle.fw_events.specs.Noticing.{FindsNotice}
 use Rattle.fw_engine.specs.declared.auto.Notice.{Notice}
 
@@ -118,7 +118,7 @@ CanInjectWithin came running s = CanInject running s × ((source_of running s).i
 -- the answer is that of the first step that is enabled then; where the store fails, the engine stands where it stood
 abbrev pub AnswersWithin : List ℕ → System → Machine → Result Stepped EngineFault → Running → Option Records → Type 0
 AnswersWithin came sys state (Ok stepped) new after = FollowsFirstWithin sys (λ s. slice_index_or came s 0) state (outcome_of stepped) new after
-AnswersWithin came sys state (Err fault.StoreFault) new after = Stands sys new after state
+AnswersWithin came sys state (Err fault.StoreFault) new after = FirstMayCall sys state × Stands sys new after state
 AnswersWithin came sys state (Err (fault.Damaged id)) new after = ⊥
 AnswersWithin came sys state (Err fault.NoMemory) new after = Unit {0}
 

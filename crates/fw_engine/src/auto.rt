@@ -59,6 +59,7 @@ pub(crate) fn take_first_within<K: Store>(
     ensures takes { TakesFirstWithin came.now running.old (K.view store.old).records result running.new (K.view store.new).records }
     ensures part { PartAnswers K.view (MayCallByItself running.old.flow) running.old store.old result running.new store.new }
     ensures idle { result ≡ Ok Idle → store.new ≡ store.old }
+    ensures draws { StepDraws running.old (K.view store.old).records result running.new (K.view store.new).records }
 {
     match take_earlier(running, store)? {
         Stepped::Did(effect) => Ok(Stepped::Did(effect)),
@@ -174,6 +175,7 @@ fn inject_within(running: &mut Running, came: &[u64]) -> Result<Stepped, EngineF
     ensures takes { (records : Option Records) → InjectsWithin came.now running.old records result running.new records }
     ensures unfaulted { IsErrOf result EngineFault.StoreFault → ⊥ }
     ensures undamaged { IsUndamaged result }
+    ensures draws { running.new.parts.keep.next ≡ running.old.parts.keep.next }
 {
     match first_within(running, came) {
         Some(source) => inject(running, source),

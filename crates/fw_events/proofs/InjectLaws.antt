@@ -8,7 +8,7 @@ use Rattle.fw_bag.specs.declared.rec.Rec.{Rec}
 use Rattle.fw_frontier.specs.Front.{Front}
 use Rattle.fw_flow.specs.declared.event.Event.TheVariants.{Inject as Injected}
 use Rattle.fw_flow.specs.declared.event.Message.{Message}
-use Rattle.fw_flow.specs.declared.kind.Kind.{Kind}
+use Rattle.fw_flow.specs.Kind.{Kind}
 use Rattle.fw_flow.specs.declared.kind.Kind.TheVariants.{Input}
 use Rattle.fw_flow.specs.declared.step.Step.TheVariants.{Inject}
 use Rattle.fw_flow.specs.Dataflow.{System, Dataflow, batches_of, kind_of, out_edges, policy_of, is_input_kind, is_output_kind}

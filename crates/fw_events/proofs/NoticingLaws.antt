@@ -1,6 +1,6 @@
 -- Of what a node is notified.
 use Rattle.std.proofs.Common.{◌≡◌, ◌≢◌, ℕ, ◌<◌, Bool, true, false, not, ◌||◌, nat_lt, cond, List, [], ◌∷◌, length, Option, Some, None, Result, Err, unwrap_or, refl, sym, ap, subst, ◌∙◌, inl, inr}
-use Rattle.std.specs.Prelude.{IsTrue, ◌↔◌, is_some}
+use Rattle.std.specs.Prelude.{IsErrOf, IsTrue, ◌↔◌, is_some}
 use Rattle.std.specs.List.{AllByRecursion}
 use Rattle.std.specs.Map.{keys_of, lookup}
 use Rattle.std.specs.BTreeMap.{is_at}
@@ -8,7 +8,8 @@ use Rattle.std.proofs.lemmas.Bool.{cases_Bool, false≢true}
 use Rattle.fw_time.specs.Stamp.{Stamp, in_domain, stamp_cmp}
 use Rattle.fw_time.proofs.StampLaws.{same-is}
 use Rattle.fw_flow.specs.declared.event.Event.{Event}
-use Rattle.fw_flow.specs.Dataflow.{System, Dataflow, bounds_of, kind_of, is_notified_kind, is_output_kind}
+use Rattle.fw_flow.specs.declared.kind.Policy.TheVariants as policy
+use Rattle.fw_flow.specs.Dataflow.{System, Dataflow, bounds_of, kind_of, policy_of, is_notified_kind, is_output_kind}
 use Rattle.fw_flow.specs.declared.event.Event.TheVariants.{Notify as Notified}
 use Rattle.fw_flow.specs.declared.step.Step.TheVariants.{Notify}
 use Rattle.fw_model.specs.History.{IsEnabled, IsNotifiable}
@@ -34,6 +35,7 @@ use Rattle.fw_running.specs.Stands.{Stands}
 use Rattle.fw_running.specs.declared.fault.EngineFault.{EngineFault}
 use Rattle.fw_running.specs.declared.fault.EngineFault.TheVariants as fault
 use Rattle.fw_running.specs.Steps.{Follows, Answers, IsUndamaged}
+use Rattle.fw_running.proofs.NeedsLaws.{notification-asks}
 use Rattle.fw_running.proofs.BroughtUpLaws.{brought_up_stands}
 use Rattle.fw_running.proofs.SameStateLaws.{down-failed, idle-follows, unasked-stands}
 use Rattle.fw_events.specs.AfterEvent.{TakesEvent}
@@ -190,11 +192,15 @@ notice-leaves T sys old new before after state p t fault.NoMemory s c n u = tt
 -- what a notification answers at a fault the step answers, where it is enabled
 pub fault-answers : (T : Type 0) (sys : System) (state : Machine) (p : ℕ) (t : Stamp) (at : Option Stamp) (e : EngineFault) (old new : Running) (before after : Option Records)
     → Stands sys old before state → is_down old p ≡ false → FindsNotice old.flow old.progress p at (Some t)
+    → (IsErrOf {T = T} (Err e) fault.StoreFault → policy_of old.flow p ≡ policy.Full)
     → AnswersNotice {T = T} sys state p t (Err e) new after → Answers sys state (Notify p at) (Err e) new after
-fault-answers T sys state p t at fault.StoreFault old new before after s live found a =
-    ((with_event sys state (Notified p t), silent, notice-leads sys state p at t old before s live found), a)
-fault-answers T sys state p t at (fault.Damaged id) old new before after s live found a = absurd a
-fault-answers T sys state p t at fault.NoMemory old new before after s live found a = tt
+fault-answers T sys state p t at fault.StoreFault old new before after s live found full a = (
+  notification-asks sys state p at (subst (λ (flow : Dataflow). policy_of flow p ≡ policy.Full) s.apart.flow (full refl))
+      (with_event sys state (Notified p t), silent, notice-leads sys state p at t old before s live found),
+  a,
+)
+fault-answers T sys state p t at (fault.Damaged id) old new before after s live found full a = absurd a
+fault-answers T sys state p t at fault.NoMemory old new before after s live found full a = tt
 
 -- where the engine is asked of a stamp of which the node may be notified, after the kept frontiers are brought up
 pub notice-taken_up : {T : Type 0} (sys : System) (state : Machine) (p : ℕ) (at : Option Stamp) (t : Stamp) (old up new : Running) (before after : Option Records)

@@ -15,6 +15,7 @@ mod types;
 
 pub use engine::HeldEngine;
 pub use fault::HoldFault;
+pub use found::{FoundRoot, counted_root, put_root};
 pub use place::HeldCounts;
 pub use plan::HeldPlan;
 pub use run::hold;

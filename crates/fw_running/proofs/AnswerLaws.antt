@@ -68,8 +68,9 @@ left old before step result new after t sys state s e = subst (λ (r : Result St
 
 -- what a fault of the store leaves is answered at each fault that is no damage
 pub left-answers : (T : Type 0) (sys : System) (state : Machine) (step : Step) (e : EngineFault) (new : Running) (after : Option Records)
-    → IsUndamaged {T = T} (Err e) → IsLeftBy sys state step (λ next. Stands sys new after next) → Answers sys state step (Err e) new after
-left-answers T sys state step fault.StoreFault new after u l = l
+    → IsUndamaged {T = T} (Err e) → (IsErrOf {T = T} (Err e) fault.StoreFault → IsLeftBy sys state step (λ next. Stands sys new after next))
+    → Answers sys state step (Err e) new after
+left-answers T sys state step fault.StoreFault new after u l = l refl
 left-answers T sys state step (fault.Damaged id) new after u l = absurd u
 left-answers T sys state step fault.NoMemory new after u l = tt
 

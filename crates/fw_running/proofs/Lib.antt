@@ -6,6 +6,7 @@ pub mod EffectTextLaws
 pub mod FirstLaws
 pub mod KeptShapes
 pub mod KnownTraces
+pub mod NeedsLaws
 pub mod PlaceLaws
 pub mod SameStateLaws
 pub mod ShownLines

@@ -4,8 +4,9 @@ use Rattle.std.proofs.lemmas.Result.{err_from_is_err_and}
 use Rattle.std.specs.Prelude.{IsErrOf, OnOk, IsSome, is_some}
 use Rattle.std.specs.Result.{IsErrAnd}
 use Rattle.fw_flow.specs.declared.step.Step.{Step}
-use Rattle.fw_flow.specs.declared.step.Step.TheVariants.{Recover, Collect}
+use Rattle.fw_flow.specs.declared.step.Step.TheVariants.{Progress as ProgressStep, Recover, Collect}
 use Rattle.fw_flow.specs.Dataflow.{Dataflow}
+use Rattle.fw_model.specs.Steps.{is_recovery}
 use Rattle.fw_keep.specs.declared.fault.KeepFault.{KeepFault}
 use Rattle.fw_keep.specs.declared.fault.KeepFault.TheVariants as keep_fault
 use Rattle.fw_keep.specs.Catalogue.{KeepState}
@@ -20,7 +21,7 @@ use Rattle.fw_running.specs.declared.stepped.Stepped.{Stepped}
 use Rattle.fw_running.specs.declared.stepped.Stepped.TheVariants.{Did, Idle}
 use Rattle.fw_running.specs.Faults.{fault_of, faults_after_step}
 use Rattle.fw_running.specs.Shaped.{IsShaped}
-use Rattle.fw_running.specs.Steps.{InnerAnswers, IsDamage, IsUndamaged, MayCallStore, PartAnswers, ShowsOutcome, StaysShaped, StepAnswers, TakesStep}
+use Rattle.fw_running.specs.Steps.{HasEager, InnerAnswers, IsDamage, IsUndamaged, LeavesUnasked, MayCallStore, PartAnswers, ShowsOutcome, StaysShaped, StepAnswers, TakesStep}
 use Rattle.fw_running.proofs.AnswerLaws.{no_damage}
 
 -- ---- faults
@@ -35,7 +36,7 @@ unfaulted-counts (Err fault.NoMemory) count u = refl
 pub ok-unfaulted : {T : Type 0} {x : T} → IsErrOf (Ok x) fault.StoreFault → ⊥
 ok-unfaulted e = cc
 
-refused-unfaulted : {T : Type 0} → IsErrOf {T = T} (Err fault.NoMemory) fault.StoreFault → ⊥
+pub refused-unfaulted : {T : Type 0} → IsErrOf {T = T} (Err fault.NoMemory) fault.StoreFault → ⊥
 refused-unfaulted e = cc
 
 -- what did something is not idle
@@ -155,15 +156,19 @@ pub part-refused_first : {S K : Type 0} {view : K → StoreView} {MayCall : Type
     → PartAnswers view MayCall old store result new store
 part-refused_first stored keep flow is = part-refused (part-none stored) keep flow is
 
--- ---- a step that is neither a recovery nor a collection
+-- ---- a step that is no progress, no recovery and no collection
 
 abbrev pub is_plain : Step → Bool
+is_plain ProgressStep = false
 is_plain Recover = false
 is_plain Collect = false
 is_plain step = true
 
 not-plain : (step other : Step) → is_plain step ≡ true → is_plain other ≡ false → step ≡ other → ⊥
 not-plain step other p n e = let same = ap is_plain e in cc
+
+not-recovery : (step : Step) → is_recovery step ≡ false → step ≡ Recover → ⊥
+not-recovery step n e = let same = ap is_recovery e in cc
 
 module _ {K : Type 0} {view : K → StoreView} {old new : Running} {before after : K} {step : Step} where
   -- its answer is that of one part
@@ -185,18 +190,20 @@ module _ {K : Type 0} {view : K → StoreView} {old new : Running} {before after
     told_before = λ told. sym p.tells ∙ told;
     swept = λ is. absurd (not-plain step Collect plain refl is);
     quiet = p.quiet;
+    unasked = λ is. absurd (not-plain step ProgressStep plain refl is);
     idle = λ other. idle;
   }
 
-  pub step-part : {result : Result Stepped EngineFault} → is_plain step ≡ true → StepAnswers view old before step result new after
+  -- of a step that is no recovery
+  pub step-part : {result : Result Stepped EngineFault} → is_recovery step ≡ false → StepAnswers view old before step result new after
       → PartAnswers view (MayCallStore old.flow step) old before result new after
-  step-part {result} plain a = record {
+  step-part {result} other a = record {
     stored = a.stored;
     flow = a.flow;
     faults = a.faults;
     calls = a.calls;
-    undamaged = undamaged-by result (λ id e. not-plain step Recover plain refl (a.in_recovery id e));
-    tells = a.tells (not-plain step Recover plain refl);
+    undamaged = undamaged-by result (λ id e. not-recovery step other (a.in_recovery id e));
+    tells = a.tells (not-recovery step other);
     quiet = a.quiet;
   }
 
@@ -234,6 +241,40 @@ pub step-refused_first : {K : Type 0} {view : K → StoreView} {old new : Runnin
     → is_plain step ≡ true → IsStored old.parts.keep (view store).records → new.parts.keep ≡ old.parts.keep → new.flow ≡ old.flow
     → IsErrAnd result (λ e. e ≡ fault.NoMemory) → StepAnswers view old store step result new store
 step-refused_first {K} {view} {old} plain stored keep flow is = step-refused {mid = old} {part = old} plain refl (part-none stored) keep flow is
+
+-- ---- a progress
+
+module _ {K : Type 0} {view : K → StoreView} {old new : Running} {before after : K} where
+  -- its answer is that of one part
+  pub progress-answers : {result : Result Stepped EngineFault} → PartAnswers view (HasEager old.flow) old before result new after → StaysShaped result new
+      → TakesStep old (view before).records ProgressStep result new (view after).records → LeavesUnasked old (view before).records (after ≡ before)
+      → (result ≡ Ok Idle → after ≡ before) → StepAnswers view old before ProgressStep result new after
+  progress-answers {result} p shaped takes unasked idle = record {
+    shaped = shaped;
+    stored = p.stored;
+    flow = p.flow;
+    takes = takes;
+    shows = λ is. absurd (cc);
+    faults = p.faults;
+    calls = p.calls;
+    damaged = λ id e. absurd (no_damage result id p.undamaged e);
+    in_recovery = λ id e. absurd (no_damage result id p.undamaged e);
+    tells = λ other. p.tells;
+    told_before = λ told. sym p.tells ∙ told;
+    swept = λ is. absurd (cc);
+    quiet = p.quiet;
+    unasked = λ is. unasked;
+    idle = λ other. idle;
+  }
+
+  -- a part of it fails
+  pub progress-fails : {T : Type 0} {e : EngineFault} {result : Result Stepped EngineFault} → IsErrAnd result (λ x. x ≡ e)
+      → PartAnswers {T = T} view (HasEager old.flow) old before (Err e) new after → StaysShaped {T = T} (Err e) new
+      → TakesStep old (view before).records ProgressStep (Err e) new (view after).records → LeavesUnasked old (view before).records (after ≡ before)
+      → StepAnswers view old before ProgressStep result new after
+  progress-fails {T} {e} {result} is p shaped takes unasked =
+      subst (λ (r : Result Stepped EngineFault). StepAnswers view old before ProgressStep r new after) (sym (handed result e is))
+      (progress-answers (part-err {T = T} {e = e} p refl) shaped takes unasked (λ i. absurd (cc)))
 
 -- ---- a step that never calls the store
 
@@ -289,6 +330,7 @@ module _ {K : Type 0} {view : K → StoreView} {old new : Running} {before after
     told_before = λ told. sym tells ∙ told;
     swept = λ is. swept;
     quiet = λ none. absurd (none tt);
+    unasked = λ is. absurd (cc);
     idle = λ other. absurd (other refl);
   }
 
@@ -310,6 +352,7 @@ module _ {K : Type 0} {view : K → StoreView} {old new : Running} {before after
     told_before = told_before;
     swept = λ is. absurd (cc);
     quiet = λ none. absurd (none tt);
+    unasked = λ is. absurd (cc);
     idle = λ other. idle;
   }
 

@@ -8,7 +8,7 @@ use Rattle.fw_bag.specs.RecText.{rec_text}
 use Rattle.fw_frontier.specs.FrontText.{front_text}
 use Rattle.fw_flow.specs.declared.choice.Cut.{Cut}
 use Rattle.fw_flow.specs.declared.choice.Cut.TheVariants.{Present}
-use Rattle.fw_flow.specs.declared.kind.Kind.{Kind}
+use Rattle.fw_flow.specs.Kind.{Kind}
 use Rattle.fw_flow.specs.declared.kind.Kind.TheVariants.{OutputNumber}
 use Rattle.fw_flow.specs.CutText.{cut_text}
 use Rattle.fw_flow.specs.Dataflow.{Dataflow, node_at, kind_of, node_ids}

@@ -22,9 +22,9 @@ use Rattle.fw_running.specs.Stands.{Stands}
 abbrev pub can_feed : Running → ℕ → Bool
 can_feed running s = can_be_fed (source_of running s) && can_have_more running.progress.counts s
 
--- An engine keeps what it kept, but source s is fed a batch of these recs, and an empty one is behind it: so there is one batch more, and
--- where no other source has as many there is one epoch more. At which places something may be done is nothing to what it stands for.
-pub record IsFedBatch (s : ℕ) (recs : List Rec) (old new : Running) : Type 0 where
+-- What stays of an engine that is fed: all but its sources, and how many batches and epochs there are. At which places something may be
+-- done is nothing to what it stands for.
+pub record StaysWhenFed (old new : Running) : Type 0 where
   pub of_flow : new.flow ≡ old.flow
   pub settled : new.progress.settled ≡ old.progress.settled
   pub failed : new.failed.items ≡ old.failed.items
@@ -41,6 +41,12 @@ pub record IsFedBatch (s : ℕ) (recs : List Rec) (old new : Running) : Type 0 w
   pub sent : (p : ℕ) → sent_of new.progress.counts p ≡ sent_of old.progress.counts p
   pub traces : new.traces ≡ old.traces
   pub lost : (p : ℕ) → lost_at new p ≡ lost_at old p
+  pub entries : new.parts.keep.entries ≡ old.parts.keep.entries
+
+-- An engine keeps what it kept, but source s is fed a batch of these recs, and an empty one is behind it: so there is one batch more, and
+-- where no other source has as many there is one epoch more.
+pub record IsFedBatch (s : ℕ) (recs : List Rec) (old new : Running) : Type 0 where
+  pub stays : StaysWhenFed old new
   pub keep : new.parts.keep ≡ old.parts.keep
   -- what is fed
   pub source : source_of new s ≡ fed_source recs ([] ∷ []) (source_of old s)

@@ -1,5 +1,5 @@
 -- What the steps of an engine promise.
-use Rattle.std.specs.Prelude.{◌≡◌, ◌≢◌, ℕ, true, false, List, [], Option, Some, None, Result, Ok, Err, IfOk, IsErrOf, OnOk, IsSome, is_some}
+use Rattle.std.specs.Prelude.{◌≡◌, ◌≢◌, ℕ, ◌<◌, true, false, List, [], length, Option, Some, None, Result, Ok, Err, IfOk, IsErrOf, OnOk, IsSome, is_some}
 use Rattle.std.specs.List.{Contains}
 use Rattle.fw_outside.specs.Outside.{StoreView}
 use Rattle.fw_time.specs.Stamp.{Stamp}
@@ -96,11 +96,20 @@ IsStepEnabled sys state step = (next : Machine) × (effect : Effect) × LeadsTo 
 abbrev pub HasOutcome : System → Machine → Step → Outcome → Type 0
 HasOutcome sys state step outcome = (next : Machine) × StepsTo sys state step next outcome
 
--- What a fault of the store leaves: the state, in which the step is enabled, but that after a collection, which sweeps last, also where
--- it is idle.
+-- the step asks for a write in the state: it is enabled, and leads to a state with more writes
+abbrev pub AsksAWrite : System → Machine → Step → Type 0
+AsksAWrite sys state step = (next : Machine) × (effect : Effect) × LeadsTo sys state step next effect × (length state.writes < length next.writes)
+
+-- the step needs the store in the state: it is a recovery that is enabled, which reads, or it asks for a write
+abbrev pub NeedsStore : System → Machine → Step → Type 0
+NeedsStore sys state Recover = IsStepEnabled sys state Recover
+NeedsStore sys state step = AsksAWrite sys state step
+
+-- What a fault of the store leaves: the state, in which the step needs the store, but that after a collection, which sweeps last, also
+-- where it is idle.
 abbrev pub IsLeftBy : System → Machine → Step → (Machine → Type 0) → Type 0
 IsLeftBy sys state Collect P = (next : Machine) × (outcome : Outcome) × StepsTo sys state Collect next outcome × P next
-IsLeftBy sys state step P = IsStepEnabled sys state step × P state
+IsLeftBy sys state step P = NeedsStore sys state step × P state
 
 -- What a step answers, and what the engine stands for then, where it stood for a state: the machine's outcome and next state, if it
 -- read what was put, by what the store tells afterwards; after a fault of the store what that leaves; after damage, which no store
@@ -121,13 +130,19 @@ abbrev pub ShowsOutcome : Running → Option Records → Step → Result Stepped
 ShowsOutcome old before step result =
     (sys : System) (state : Machine) → Stands sys old before state → IfOk result (λ stepped. HasOutcome sys state step (outcome_of stepped))
 
--- Of the steps that are taken by themselves the first that is enabled may call the store.
+-- This is so if a progress asks for no write in some state for which the engine stood.
+abbrev pub LeavesUnasked : Running → Option Records → Type 0 → Type 0
+LeavesUnasked old before IsSo =
+    (sys : System) (state : Machine) → Stands sys old before state → (AsksAWrite sys state ProgressStep → ⊥) → IsSo
+
+-- Of the steps that are taken by themselves the first that is enabled may call the store: it asks for a write.
 pub record FirstMayCall (sys : System) (state : Machine) : Type 0 where
   pub step : Step
   pub next : Machine
   pub effect : Effect
   pub first : IsFirstEnabled sys state (auto_steps sys.flow) step next effect
   pub may_call : MayCallStore sys.flow step
+  pub asks : length state.writes < length next.writes
 
 -- the same of the first step that is enabled: it may call the store, where the store fails, and no record is damaged
 abbrev pub AnswersFirst : System → Machine → Result Stepped EngineFault → Running → Option Records → Type 0
@@ -195,8 +210,10 @@ pub record StepAnswers {K : Type 0} (view : K → StoreView) (old : Running) (be
   pub tells : step ≢ Recover → is_some (view after).records ≡ is_some (view before).records
   pub told_before : IsSome (view after).records → IsSome (view before).records
   pub swept : step ≡ Collect → OnOk result (new.parts.keep.waiting ≡ [])
-  -- a step that by the flow's policies never calls the store leaves it as it is, and so does an idle one that is no collection
+  -- a step that by the flow's policies never calls the store leaves it as it is, and so does an idle one that is no collection, and a
+  -- progress that asks for no write
   pub quiet : (MayCallStore old.flow step → ⊥) → after ≡ before
+  pub unasked : step ≡ ProgressStep → LeavesUnasked old (view before).records (after ≡ before)
   pub idle : step ≢ Collect → result ≡ Ok Idle → after ≡ before
 
 -- What a step answers that never calls the store, whatever that holds and tells.

@@ -20,7 +20,6 @@ use Rattle.fw_model.proofs.RestoringLaws.{batches-outside}
 use Rattle.fw_progress.specs.Counts.{batches_in, injected_in}
 use Rattle.fw_progress.specs.Progress.{can_have_more}
 use Rattle.fw_border.specs.Sources.{SourceState, without_last, can_be_fed}
-use Rattle.fw_keep.specs.Catalogue.{KeepState}
 use Rattle.fw_stands.specs.Parts.{IsSourceOf}
 use Rattle.fw_running.specs.Kept.{source_of}
 use Rattle.fw_feeding.specs.Feeding.{with_batches, GoOnEach, HaveLast}
@@ -136,23 +135,7 @@ fed-batches_stand flow story s recs old new records k o f well stands =
     let out = last-out flow story k apart.reached s o (length came) many in
     let given : (source_of old s).given ≡ length (batches_of sys s) = (apart.sources s there).given in
     fed-engines_stand opened flow now later on well (steps_among story.actions) story.effects state (story-run flow story k) old new (record {
-      of_flow = f.of_flow;
-      settled = f.settled;
-      failed = f.failed;
-      low = f.low;
-      tables = f.tables;
-      queues = f.queues;
-      logs = f.logs;
-      outputs = f.outputs;
-      kept = f.kept;
-      work = f.work;
-      pending = f.pending;
-      owed = f.owed;
-      injected = f.injected;
-      sent = f.sent;
-      traces = f.traces;
-      lost = f.lost;
-      entries = ap (λ (keep : KeepState). keep.entries) f.keep;
+      stays = f.stays;
       epochs = epochs-grow flow now later s old.epochs new.epochs (goes-more opened flow now later on) feeds.others (omega arith)
           (f.epochs ∙ ap (λ n. max old.epochs (n + 1)) given) apart.epochs;
       batches = λ q l. elim (cases_eq q s) [

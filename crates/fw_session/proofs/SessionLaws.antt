@@ -135,7 +135,7 @@ fed-by old new records before after story s recs at fed is_open room batch same 
     let here = at.counts s in
     let all = came-open flow story k s o in
     let well = feeds-well flow story k s recs o batch (omega arith) in
-    let there = sym fed.of_flow in
+    let there = sym fed.stays.of_flow in
     let counts = counted old records before story at s is_open after.came.items count (after_feed s recs story) (count-fed flow story k s recs o)
     (count-else flow story k s recs o) in
     record {

@@ -29,7 +29,7 @@ is_open_in arrivals s = slice_index_or arrivals.opened.items s false
 abbrev pub came_in : Arrivals → ℕ → ℕ
 came_in arrivals s = slice_index_or arrivals.came.items s 0
 
--- one batch more is counted of a node
+-- one batch more is counted of a node, if it is among those that are counted; at 2^64 - 1 it stays
 abbrev pub IsCounted : ℕ → Arrivals → Arrivals → Type 0
 IsCounted s old new = new.came.items ≡ slice_set old.came.items s (min (came_in old s + 1) (2 ^ 64 - 1))
 

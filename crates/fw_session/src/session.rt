@@ -56,7 +56,7 @@ impl<K: Store + Drop> Session<K> {
     /// # Errors
     ///
     /// `Closed` where the source is not open, `Full` where 2^20 - 1 batches came to it, or the engine, at no story any more, takes none;
-    /// `NoMemory` where memory is refused, now or in an earlier step. Then all is as it was.
+    /// `NoMemory` where memory is refused, now or in an earlier step, and the source is open and not full. Then all is as it was.
     pub fn feed(&mut self, source: NodeId, recs: &[Rec]) -> Result<u64, FeedFault>
         ensures epoch { IfOk result (λ epoch. epoch ≡ came_in self.old.arrivals source) }
         ensures fed { (story : Story) → IsAt self.old.engine (K.view self.old.store).records self.old.arrivals story
@@ -68,6 +68,8 @@ impl<K: Store + Drop> Session<K> {
         ensures full { (story : Story) → IsAt self.old.engine (K.view self.old.store).records self.old.arrivals story
             → (IsErrOf result (FeedFault.Full source)
             ↔ (is_open_in self.old.arrivals source ≡ true) × (2 ^ 20 - 1 ≤ came_in self.old.arrivals source)) }
+        ensures full_there { IsErrOf result (FeedFault.Full source) → IsTrue (was_refused self.old.engine)
+            → 2 ^ 20 - 1 ≤ came_in self.old.arrivals source }
         ensures only { IsErr result
             → IsErrOf result (FeedFault.Closed source) ⊎ (IsErrOf result (FeedFault.Full source) ⊎ IsErrOf result FeedFault.NoMemory) }
         ensures refused { IsTrue (was_refused self.old.engine) → IsErr result }
@@ -209,6 +211,7 @@ fn feed_engine(
     ensures closed { IsErrOf result (FeedFault.Closed source) ↔ is_open_in arrivals.old source ≡ false }
     ensures full { (records : Option Records) (story : Story) → IsAt engine.old records arrivals.old story
         → (IsErrOf result (FeedFault.Full source) ↔ (is_open_in arrivals.old source ≡ true) × (2 ^ 20 - 1 ≤ came_in arrivals.old source)) }
+    ensures full_there { IsErrOf result (FeedFault.Full source) → IsTrue (was_refused engine.old) → 2 ^ 20 - 1 ≤ came_in arrivals.old source }
     ensures only { IsErr result
         → IsErrOf result (FeedFault.Closed source) ⊎ (IsErrOf result (FeedFault.Full source) ⊎ IsErrOf result FeedFault.NoMemory) }
     ensures refused { IsTrue (was_refused engine.old) → IsErr result }

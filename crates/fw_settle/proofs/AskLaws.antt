@@ -41,10 +41,11 @@ use Rattle.fw_running.specs.declared.running.Running.{Running}
 use Rattle.fw_running.specs.Faults.{faults_after_step}
 use Rattle.fw_running.specs.Logging.{with_keep, ChangesKeep, IsAsked, IsNotAsked, IsAskRefused}
 use Rattle.fw_running.specs.Stands.{Stands}
-use Rattle.fw_running.specs.Steps.{IsUndamaged, PartAnswers}
+use Rattle.fw_running.specs.Steps.{HasEager, IsUndamaged, PartAnswers}
+use Rattle.fw_running.proofs.StepLaws.{part-may, part-of}
 use Rattle.fw_outside.specs.Outside.{StoreView}
 use Rattle.fw_settle.specs.Checkpoints.{IsSoInEachHistory, IsNextRecord, AsksCheckpoint, CanBeMadeAt, base_after, next_base}
-use Rattle.fw_settle.specs.Settling.{grows, NoneGrowsIn, AddsEntries, KeepsEntries, AsksIfEager, HaveAsked}
+use Rattle.fw_settle.specs.Settling.{grows, HasEagerToSettle, NoneGrowsIn, AddsEntries, KeepsEntries, AsksIfEager, HaveAsked}
 use Rattle.fw_settle.proofs.BaseLaws.{IsNextBase, newest-others, next-base}
 use Rattle.fw_settle.proofs.WritesLaws.{asked-base, asked-entry, asked-stored, base_then, can-be_made}
 
@@ -387,3 +388,8 @@ asking-part may others stored faults undamaged tells = record {
   tells = tells;
   quiet = λ none. absurd (none may);
 }
+
+-- what was asked of eager nodes that were to settle is asked of a flow that has such
+pub part-eager : {T K : Type 0} {view : K → StoreView} {old mid new : Running} {before after : K} {result : Result T EngineFault} → mid.flow ≡ old.flow
+    → PartAnswers view (HasEagerToSettle mid) mid before result new after → PartAnswers view (HasEager old.flow) old before result new after
+part-eager same p = part-of HasEager same (part-may (λ has. (has.0, has.1)) p)

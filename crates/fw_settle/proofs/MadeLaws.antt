@@ -7,8 +7,6 @@ use Rattle.fw_frontier.specs.Front.{Front}
 use Rattle.fw_frontier.specs.declared.state.Entries.{Entries}
 use Rattle.fw_frontier.specs.declared.state.Entries.TheVariants.{Totals}
 use Rattle.fw_frontier.specs.declared.state.SentCount.{SentCount}
-use Rattle.fw_flow.specs.declared.kind.Kind.{Kind}
-use Rattle.fw_flow.specs.declared.kind.Kind.TheVariants as kind
 use Rattle.fw_flow.specs.declared.restoring.Restoring.TheVariants.{Checkpoints}
 use Rattle.fw_flow.specs.Dataflow.{System, kind_of, policy_of, sender, receiver, in_edges, out_edges, bounds_of, node_frontier, is_sequence_kind}
 use Rattle.fw_flow.specs.Projection.{sent_count}
@@ -23,6 +21,7 @@ use Rattle.fw_model.specs.SortedMessages.{sorted_messages}
 use Rattle.fw_model.specs.Steps.{newest_checkpoint}
 use Rattle.fw_model.proofs.AskedLaws.{takes-declared, takes-restoring}
 use Rattle.fw_model.proofs.DomainLaws.{has_epochs}
+use Rattle.fw_model.proofs.KindSorts.{is_sequence}
 use Rattle.fw_node.specs.StateOf.{totals_in}
 use Rattle.fw_policy.specs.Entries.{IsRecorded, sent_by_node}
 use Rattle.fw_record.specs.declared.logged.Logged.{Logged}
@@ -43,13 +42,6 @@ use Rattle.fw_settle.proofs.EachEdgeLaws.{zip-edges, front-sound, in_edges-sound
 use Rattle.fw_settle.proofs.LogLaws.{messages_due, log-is, log-edges, log-sound}
 use Rattle.fw_settle.proofs.StateLaws.{totals-are, totals-since, sent-within, numbered-within, sends-are}
 use Rattle.fw_settle.proofs.TotalsLaws.{totals-follow, changed-follow}
-
-sequence-is : (k : Kind) → is_sequence_kind k ≡ true → k ≡ kind.Sequence
-sequence-is kind.Sequence e = refl
-sequence-is k e = absurd (two_ways false e refl)
-
-sequence-not : (k : Kind) → k ≡ kind.Sequence → is_sequence_kind k ≡ true
-sequence-not k e = ap is_sequence_kind e
 
 sends-of : (b : Bool) (since : Option Front) (f : Front) (table : List (ℕ × ℕ)) (sends : List SentCount) → AreSendsAt b since f table sends → b ≡ true
     → AreSendsOf (told_epochs since f) table sends
@@ -117,7 +109,7 @@ made-both sys running state p since f c so =
       way = takes-restoring (kind_of flow p) (policy_of flow p) (w.flow.policies p l) can.takes;
       sent = sent-within sys state p f c.state.sent so.sent;
       sends = λ is g.
-          sends-are sys state w can.reached p l (sequence-is k is) since f running.progress.counts can.counts c.state.sends
+          sends-are sys state w can.reached p l (is_sequence k is) since f running.progress.counts can.counts c.state.sends
           (sends-of (is_sequence_kind k) since f (sent_of running.progress.counts p) c.state.sends so.sends is) g;
       sends_none = λ is. sends-none (is_sequence_kind k) since f (sent_of running.progress.counts p) c.state.sends so.sends is;
       log = λ e s. log-is sys state w can.reached p l can.live since f (log_at running) c.log can.logs so.log e s;
@@ -213,7 +205,7 @@ made-sound sys running state p since f c can newest made few =
       state = record {
         sent = made.state.fits;
         sends = sends-sound (is_sequence_kind k) since f (sent_of running.progress.counts p) c.state.sends so.sends
-            (λ i. can.counts.in_order p l (sequence-is k i)) few.sends;
+            (λ i. can.counts.in_order p l (is_sequence k i)) few.sends;
         entries = entries-sound c.state.entries (record {
           few = made.state.few;
           parts = made.state.small;

@@ -1,9 +1,9 @@
 -- The step of progress: what it makes of what is kept stands for the next state.
-use Rattle.std.proofs.Common.{◌≡◌, ℕ, ◌<◌, Bool, true, false, not, cond, ◌&&◌, List, [], ◌++◌, filter, map, length, get_or, refl, sym, ap, subst, ◌∙◌, inl, inr, arith}
+use Rattle.std.proofs.Common.{◌≡◌, ℕ, zero, suc, ◌+◌, ◌<◌, ◌≤◌, Bool, true, false, not, cond, ◌&&◌, List, [], ◌∷◌, ◌++◌, filter, map, length, get_or, refl, sym, ap, subst, ◌∙◌, inl, inr, arith}
 use Rattle.std.specs.List.{AllByRecursion, range_with_len}
-use Rattle.std.specs.Prelude.{Option, Some, None, Ok, Err, nat_lt}
+use Rattle.std.specs.Prelude.{IsErrOf, Option, Some, None, Ok, Err, nat_lt}
 use Rattle.std.proofs.lemmas.Bool.{and_from, and_parts, and_right, both_ways, cases_Bool, cases_lt, lt-ltb, not-true, not-false}
-use Rattle.std.proofs.lemmas.List.{get_or_past}
+use Rattle.std.proofs.lemmas.List.{get_or_past, length-append}
 use Rattle.fw_lemmas.proofs.Bools.{first_holds, second_holds, two_ways}
 use Rattle.std.proofs.lemmas.List.FromFn.{get_or-map-range_with_len, length-map-range_with_len}
 use Rattle.fw_lemmas.proofs.Each.{each-weaker}
@@ -18,10 +18,10 @@ use Rattle.fw_frontier.proofs.NamesLaws.{names-join, names-join_sides}
 use Rattle.fw_flow.specs.declared.step.Step.TheVariants.{Progress as ProgressStep}
 use Rattle.fw_flow.specs.declared.kind.Policy.{Policy}
 use Rattle.fw_flow.specs.declared.kind.Policy.TheVariants as policy
-use Rattle.fw_flow.specs.Dataflow.{System, kind_of, policy_of, bounds_of, node_ids}
+use Rattle.fw_flow.specs.Dataflow.{Dataflow, System, kind_of, policy_of, bounds_of, node_ids}
 use Rattle.fw_model.specs.History.{IsComplete}
-use Rattle.fw_model.specs.Machine.{Machine, events, family_of, front_of, AreCanonical}
-use Rattle.fw_model.specs.Steps.{GrowsTo, LeadsTo, did, idle, silent, eager_writes, is_asked_for_checkpoints, is_eager}
+use Rattle.fw_model.specs.Machine.{Machine, Write, events, family_of, front_of, AreCanonical}
+use Rattle.fw_model.specs.Steps.{GrowsTo, LeadsTo, checkpoint_of, did, idle, silent, eager_writes, is_asked_for_checkpoints, is_eager}
 use Rattle.fw_model.specs.Writes.{takes_checkpoints}
 use Rattle.fw_node.specs.declared.node.Node.{Node}
 use Rattle.fw_keep.specs.Catalogue.{KeepState}
@@ -40,6 +40,7 @@ use Rattle.fw_stands.proofs.NodeCheckpoints.{asks_at_progress}
 use Rattle.fw_stands.proofs.SettlingLaws.{settled_tables-stand, unsettled_tables-stay, no_tables-stay, all_settled_traces-stand, progress-keeps}
 use Rattle.fw_running.proofs.KnownTraces.{knows-next}
 use Rattle.fw_running.specs.declared.fault.EngineFault.{EngineFault}
+use Rattle.fw_running.specs.declared.fault.EngineFault.TheVariants as fault
 use Rattle.fw_running.specs.declared.running.Running.{Running}
 use Rattle.fw_running.specs.declared.stepped.Effect.TheVariants.{Quiet}
 use Rattle.fw_running.specs.declared.stepped.Stepped.TheVariants.{Did, Idle}
@@ -50,12 +51,13 @@ use Rattle.fw_running.specs.Kept.{table_of, source_of}
 use Rattle.fw_running.specs.Logging.{with_keep, ChangesKeep}
 use Rattle.fw_running.specs.Shaped.{IsShaped}
 use Rattle.fw_running.specs.Stands.{Stands}
-use Rattle.fw_running.specs.Steps.{Follows, TakesStep, IsStepEnabled, IsUndamaged}
+use Rattle.fw_running.specs.Steps.{AsksAWrite, Follows, TakesStep, IsUndamaged}
 use Rattle.fw_settle.proofs.SettleLaws.{past-grows}
+use Rattle.fw_settle.proofs.SearchLaws.{grows-there}
 use Rattle.fw_settle.proofs.BaseLaws.{bases-left}
 use Rattle.fw_settle.proofs.AskLaws.{asks-grows}
 use Rattle.fw_settle.proofs.WritesLaws.{kept-stands, when_asked-with}
-use Rattle.fw_settle.specs.Settling.{grows, NoneGrowsIn, IsNextToSettle, KeepsEntries, HaveAsked, settled_into, ChangesSettled, IsTableSettled, settles_table, settles_traces, settles_when_asked, HaveSettled, Progresses}
+use Rattle.fw_settle.specs.Settling.{grows, HasEagerToSettle, NoneGrowsIn, IsNextToSettle, KeepsEntries, HaveAsked, settled_into, ChangesSettled, IsTableSettled, settles_table, settles_traces, settles_when_asked, HaveSettled, Progresses}
 
 -- ---- what is settled
 
@@ -304,7 +306,7 @@ progresses mid asked new before after c a d h = record {
   settles = subst (λ (r : Running). HaveSettled (length r.flow.nodes) asked new) c h;
 }
 
--- ---- where the step is enabled
+-- ---- where the step asks for a write
 
 -- the list of what is inside one of two frontiers of a domain
 abbrev joined : Bounds → Front → Front → Front
@@ -368,19 +370,50 @@ all-grown mid shaped = record {
   ];
 }
 
--- where some node is to settle, the step is enabled
-progress-enabled : (sys : System) (state : Machine) (mid : Running) (records : Option Records) (p : ℕ) → Stands sys mid records state → IsShaped mid
-    → IsComplete sys (events state.history) (family_of sys.flow mid.progress.kept) → IsNextToSettle mid 0 p → IsStepEnabled sys state ProgressStep
-progress-enabled sys state mid records p s shaped complete first =
-    let settled = all_settled mid in
-    let to = settled-to sys state mid records settled p s shaped complete first.there first.is (all-grown mid shaped) in
-    (settled_state sys state settled, silent, (family_of sys.flow mid.progress.kept, settled, to.grown, refl, refl))
+-- the writes of nodes of which one asks
+some-writes : (f : ℕ → Write) (test : ℕ → Bool) (from n p : ℕ) → from ≤ p → p < from + n → test p ≡ true
+    → 0 < length (map f (filter test (range_with_len from n)))
+some-writes f test from zero p l m is = absurd (omega (arith, l, m))
+some-writes f test from (suc n) p l m is =
+    by (λ less. some-writes f test (from + 1) n p (omega (arith, less)) (omega (arith, m)) is) (test from) refl
+  where
+    by : (from < p → 0 < length (map f (filter test (range_with_len (from + 1) n)))) → (b : Bool) → test from ≡ b
+        → 0 < length (map f (cond b (from ∷ filter test (range_with_len (from + 1) n)) (filter test (range_with_len (from + 1) n))))
+    by later true e = omega arith
+    by later false e = elim (cases_lt from p) [
+      | inl less ↦ later less
+      | inr past ↦ let same : from ≡ p = omega (arith, l, past) in absurd (both_ways (test p) (ap test (sym same) ∙ e) is)
+    ]
 
--- so it is where asking fails, and what was asked is withdrawn
-pub fault-takes : (old mid new : Running) (before after : Option Records) (p : ℕ) (e : EngineFault) → IsBroughtUp old mid → IsShaped mid → IsNextToSettle mid 0 p
+-- where some eager node is to settle, the step asks for a write
+eager-asks : (sys : System) (state : Machine) (mid : Running) (records : Option Records) → Stands sys mid records state → IsShaped mid
+    → IsComplete sys (events state.history) (family_of sys.flow mid.progress.kept) → HasEagerToSettle mid → AsksAWrite sys state ProgressStep
+eager-asks sys state mid records s shaped complete has =
+    let p = has.0 in
+    let there : p < length mid.flow.nodes = grows-there mid shaped p has.2 in
+    let l : p < length sys.flow.nodes = subst (λ (f : Dataflow). p < length f.nodes) s.apart.flow there in
+    let settled = all_settled mid in
+    let to = settled-to sys state mid records settled p s shaped complete there has.2 (all-grown mid shaped) in
+    let eager = ap (λ (f : Dataflow). is_eager (policy_of f p)) (sym s.apart.flow) ∙ has.1 in
+    let asks : asks_at_progress sys state settled p ≡ true =
+    asks-grows sys state settled mid records s to.grown p l ∙ ap (λ b. b && grows mid p) eager ∙ has.2 in
+    let some = some-writes (λ q. checkpoint_of state q (front_of settled q)) (asks_at_progress sys state settled) 0 (length sys.flow.nodes) p
+    (omega arith) (omega (arith, l)) asks in
+    let long = length-append state.writes (eager_writes sys state settled (node_ids sys.flow)) in
+    (settled_state sys state settled, silent, (family_of sys.flow mid.progress.kept, settled, to.grown, refl, refl), omega (arith, some, long))
+
+-- so it does after what is kept is brought up
+pub up-asks : (old mid : Running) (before : Option Records) → IsBroughtUp old mid → IsShaped mid → HasEagerToSettle mid
+    → (sys : System) (state : Machine) → Stands sys old before state → AsksAWrite sys state ProgressStep
+up-asks old mid before up shaped has = λ sys state s.
+    eager-asks sys state mid before (brought_up_stands sys state old mid before s up) shaped (up-complete sys state old mid before s up) has
+
+-- where asking fails, what was asked is withdrawn
+pub fault-takes : (old mid new : Running) (before after : Option Records) (e : EngineFault) → IsBroughtUp old mid → IsShaped mid
     → ChangesKeep mid new → KeepsEntries mid.parts.keep.entries new.parts.keep.entries before after → IsUndamaged {T = Unit {0}} (Err e)
-    → TakesStep old before ProgressStep (Err e) new after
-fault-takes old mid new before after p e up shaped first c k u = λ sys state s.
-    let stands = brought_up_stands sys state old mid before s up in
-    left-answers (Unit {0}) sys state ProgressStep e new after u
-    (progress-enabled sys state mid before p stands shaped (up-complete sys state old mid before s up) first, kept-stands sys mid new before after state stands c k)
+    → (IsErrOf {T = Unit {0}} (Err e) fault.StoreFault → HasEagerToSettle mid) → TakesStep old before ProgressStep (Err e) new after
+fault-takes old mid new before after e up shaped c k u has = λ sys state s.
+    left-answers (Unit {0}) sys state ProgressStep e new after u (λ failed. (
+      up-asks old mid before up shaped (has failed) sys state s,
+      kept-stands sys mid new before after state (brought_up_stands sys state old mid before s up) c k,
+    ))

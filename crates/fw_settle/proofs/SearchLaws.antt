@@ -14,8 +14,7 @@ use Rattle.fw_running.specs.Kept.{is_down}
 use Rattle.fw_running.specs.Logging.{with_keep, ChangesKeep}
 use Rattle.fw_running.specs.Places.{IsFirstPlaceFrom, place_limit}
 use Rattle.fw_running.specs.Shaped.{IsShaped}
-use Rattle.fw_running.specs.Steps.{HasEager}
-use Rattle.fw_settle.specs.Settling.{grows, NoneGrowsIn, IsNextToSettle, IsFoundToSettle, IsNextLive, IsFoundLive, AsksIfEager, HaveAsked, ChangesSettled, SettlesKept, HaveSettled}
+use Rattle.fw_settle.specs.Settling.{grows, HasEagerToSettle, NoneGrowsIn, IsNextToSettle, IsFoundToSettle, IsNextLive, IsFoundLive, AsksIfEager, HaveAsked, ChangesSettled, SettlesKept, HaveSettled}
 use Rattle.fw_running.proofs.DrawnLaws.{draws_more, draws_on}
 use Rattle.fw_settle.proofs.AskLaws.{asked-none, asked-past, asked-next}
 use Rattle.fw_settle.proofs.SettleLaws.{none-joined, none-more, past-grows, settled-none, settled-past, settled-next}
@@ -226,6 +225,9 @@ settling-all old new c h =
 
 -- ---- eager nodes
 
--- a node that is eager among what is kept, where the catalogue alone was changed, is one of the flow
-pub has_eager : (old mid : Running) (p : ℕ) → ChangesKeep old mid → is_eager (policy_of mid.flow p) ≡ true → HasEager old.flow
-has_eager old mid p c is = (p, ap (λ (r : Running). is_eager (policy_of r.flow p)) (sym c) ∙ is)
+-- where the catalogue alone was changed, an eager node that is the next to settle was to settle before
+pub has_eager : (old mid : Running) (before between : Option Records) (p : ℕ) → ChangesKeep old mid → HaveAskedUpTo old mid before between (Some p)
+    → is_eager (policy_of mid.flow p) ≡ true → HasEagerToSettle old
+has_eager old mid before between p c h is =
+    let at = h.found in
+    (p, ap (λ (r : Running). is_eager (policy_of r.flow p)) (sym c) ∙ is, subst (λ (r : Running). grows r p ≡ true) c at.is)

@@ -14,7 +14,7 @@ use Rattle.fw_frontier.specs.declared.state.SentCount.{SentCount}
 use Rattle.fw_flow.specs.declared.event.Event.{Event}
 use Rattle.fw_flow.specs.declared.event.Event.TheVariants.{Inject, Deliver, Notify}
 use Rattle.fw_flow.specs.declared.event.Message.{Message}
-use Rattle.fw_flow.specs.declared.kind.Kind.{Kind}
+use Rattle.fw_flow.specs.Kind.{Kind}
 use Rattle.fw_flow.specs.declared.kind.Kind.TheVariants as kind
 use Rattle.fw_flow.specs.declared.kind.Policy.{Policy}
 use Rattle.fw_flow.specs.declared.restoring.Restoring.TheVariants.{Checkpoints}
@@ -27,6 +27,7 @@ use Rattle.fw_model.specs.Filtering.{events_inside, messages_from}
 use Rattle.fw_model.specs.History.{injected_count}
 use Rattle.fw_model.specs.Machine.{Machine, events, family_of, front_of, is_failed, no_stamps}
 use Rattle.fw_model.specs.Reached.{IsReached}
+use Rattle.fw_model.specs.Sending.{SendsByCount}
 use Rattle.fw_model.specs.Steps.{newest_checkpoint}
 use Rattle.fw_model.specs.Writes.{takes_checkpoints}
 use Rattle.fw_model.proofs.DomainLaws.{has_epochs}
@@ -177,7 +178,7 @@ fewer-injected g p (Notify q t ∷ h) n =
     cond_both (g t) (Notify q t ∷ events_inside g h) (events_inside g h) (λ ws. injected_count p ws ≡ 0) (λ i. fewer-injected g p h n) (λ i. fewer-injected g p h n)
 
 -- a sequence numbered as many messages as it sent
-pub numbered-within : (sys : System) (state : Machine) → IsWellFormedSystem sys → IsReached sys state → (p : ℕ) (f : Front) → kind_of sys.flow p ≡ kind.Sequence
+pub numbered-within : (sys : System) (state : Machine) → IsWellFormedSystem sys → IsReached sys state → (p : ℕ) (f : Front) → SendsByCount (kind_of sys.flow p)
     → count_within sys state p f ≡ length (sequence_sent (events_at sys.flow p (events_within sys state p f)))
 numbered-within sys state w r p f is =
     let h = events state.history in
@@ -235,7 +236,7 @@ epochs-told since f ms one =
     ∙ filter-both after from ms
 
 -- what a sequence tells of what it sent since then, by its table
-pub sends-are : (sys : System) (state : Machine) → IsWellFormedSystem sys → IsReached sys state → (p : ℕ) → p < length sys.flow.nodes → kind_of sys.flow p ≡ kind.Sequence
+pub sends-are : (sys : System) (state : Machine) → IsWellFormedSystem sys → IsReached sys state → (p : ℕ) → p < length sys.flow.nodes → SendsByCount (kind_of sys.flow p)
     → (since : Option Front) (f : Front) (counts : Counts) → IsCountOf sys (events state.history) counts → (sends : List SentCount)
     → AreSendsOf (told_epochs since f) (sent_of counts p) sends
     → (g : Frontier) → told_inside g sends ≡ length (messages_from g (messages_due sys.flow p since f (sent_by_node sys (events state.history) p)))

@@ -15,7 +15,7 @@ use Rattle.fw_bag.specs.Bag.{bag_sum, how_often}
 use Rattle.fw_bag.specs.Keyed.{sorted_recs, value_sum, has_key, distinct_keys, sums_of}
 use Rattle.fw_bag.specs.Rec.{rec_cmp, IsAscending}
 use Rattle.fw_bag.proofs.BagLaws.{AllByRecursion-with_rec, IsAscending-bag_sum, how_often-bag_sum, how_often-here}
-use Rattle.fw_flow.specs.declared.kind.Kind.{Kind}
+use Rattle.fw_flow.specs.Kind.{Kind}
 use Rattle.fw_flow.specs.declared.kind.Kind.TheVariants as kind
 use Rattle.fw_model.proofs.SumLaws.{rec_cmp-test, sums-is}
 use Rattle.fw_node.specs.Past.{totals_kept, totals_changed}

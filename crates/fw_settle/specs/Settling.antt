@@ -41,6 +41,10 @@ pub record IsNextToSettle (running : Running) (place p : ℕ) : Type 0 where
   pub is : grows running p ≡ true
   pub others : NoneGrowsIn running place p
 
+-- some eager node is to settle
+abbrev pub HasEagerToSettle : Running → Type 0
+HasEagerToSettle running = (p : ℕ) × (is_eager (policy_of running.flow p) ≡ true) × (grows running p ≡ true)
+
 -- the answer is that node, and none where none from the place on is to settle
 abbrev pub IsFoundToSettle : Running → ℕ → Option ℕ → Type 0
 IsFoundToSettle running place None = NoneGrowsIn running place (length running.flow.nodes)

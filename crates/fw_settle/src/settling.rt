@@ -10,8 +10,8 @@ ghost use Rattle.fw_running.specs.Drawn.{DrawsAtMost, may_draw};
 ghost use Rattle.fw_running.specs.Logging.{ChangesKeep, IsAskRefused};
 ghost use Rattle.fw_running.specs.Places.{IsTakenOut};
 ghost use Rattle.fw_running.specs.Shaped.{IsShaped};
-ghost use Rattle.fw_running.specs.Steps.{HasEager, PartAnswers, StepAnswers};
-ghost use Rattle.fw_settle.specs.Settling.{grows, IsFoundToSettle, IsFoundLive, AddsEntries, KeepsEntries, AsksIfEager, HaveAsked, with_traces, ChangesSettled, SettlesTraces, SettlesTo, SettlesKept, HaveSettled};
+ghost use Rattle.fw_running.specs.Steps.{PartAnswers, StepAnswers};
+ghost use Rattle.fw_settle.specs.Settling.{grows, HasEagerToSettle, IsFoundToSettle, IsFoundLive, AddsEntries, KeepsEntries, AsksIfEager, HaveAsked, with_traces, ChangesSettled, SettlesTraces, SettlesTo, SettlesKept, HaveSettled};
 
 use crate::asking::{ask_checkpoint, withdraw_from};
 use crate::tables::settle_at_progress;
@@ -78,7 +78,7 @@ fn ask_eager<K: Store>(running: &mut Running, store: &mut K) -> Result<(), Engin
     ensures asked { OnOk result (HaveAsked (length running.old.flow.nodes) running.old running.new (K.view store.old).records (K.view store.new).records) }
     ensures stays { OnErr result (KeepsEntries running.old.parts.keep.entries running.new.parts.keep.entries
         (K.view store.old).records (K.view store.new).records) }
-    ensures part { PartAnswers K.view (HasEager running.old.flow) running.old store.old result running.new store.new }
+    ensures part { PartAnswers K.view (HasEagerToSettle running.old) running.old store.old result running.new store.new }
     ensures draws { DrawsAtMost (length running.old.flow.nodes) running.old.parts.keep running.new.parts.keep
         (K.view store.old).records (K.view store.new).records }
 {
@@ -100,7 +100,7 @@ fn ask_each<K: Store>(running: &mut Running, store: &mut K) -> Result<(), Engine
     ensures shaped { IsShaped running.new }
     ensures asked { OnOk result (HaveAsked (length running.old.flow.nodes) running.old running.new (K.view store.old).records (K.view store.new).records) }
     ensures adds { AddsEntries running.old.parts.keep.entries running.new.parts.keep.entries (K.view store.old).records (K.view store.new).records }
-    ensures part { PartAnswers K.view (HasEager running.old.flow) running.old store.old result running.new store.new }
+    ensures part { PartAnswers K.view (HasEagerToSettle running.old) running.old store.old result running.new store.new }
     ensures draws { DrawsAtMost (length running.old.flow.nodes) running.old.parts.keep running.new.parts.keep
         (K.view store.old).records (K.view store.new).records }
 {

@@ -17,3 +17,6 @@ returns-in-None-clause-takes c = λ records.
     let old = c.args.running.now in
     let came = c.args.came.now in
     nothing-within old records came (subst (λ (found : Option ℕ). IsFirstWhere (CanInjectWithin came old) found) c.in-None.is c.first_within.ensures)
+
+pub returns-in-Some-clause-draws : goal.returns-in-Some-clause-draws
+returns-in-Some-clause-draws c = c.inject.ensures.draws

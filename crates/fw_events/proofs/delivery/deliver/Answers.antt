@@ -1,9 +1,12 @@
-use Rattle.std.proofs.Common.{◌≡◌, false, Err, ap, refl, sym, ◌∙◌}
+use Rattle.std.proofs.Common.{◌≡◌, false, Err, ap, refl, subst, sym, ◌∙◌}
 use Rattle.std.specs.Option.{option_copied}
+use Rattle.fw_flow.specs.declared.kind.Policy.TheVariants as policy
 use Rattle.fw_flow.specs.declared.step.Step.TheVariants.{Deliver}
+use Rattle.fw_flow.specs.Dataflow.{Dataflow, policy_of, receiver}
 use Rattle.fw_running.specs.declared.running.Running.{Running}
 use Rattle.fw_running.specs.Kept.{is_down}
 use Rattle.fw_running.proofs.AnswerLaws.{left-answers}
+use Rattle.fw_running.proofs.NeedsLaws.{delivery-asks}
 use Rattle.fw_running.proofs.SameStateLaws.{unasked-stands}
 use Rattle.fw_running.proofs.StepLaws.{stays-shaped, step-did, step-fails, step-idle, step-refused}
 use Rattle.fw_events.proofs.AskedLaws.{next-at, none_next}
@@ -37,11 +40,14 @@ returns-in_err-log_delivery-clause-answers g c =
     let step = Deliver c.args.edge (option_copied c.args.at) in
     let e = c.in_err-log_delivery.field-0.0 in
     let log = c.in_err-log_delivery.ensures in
-    step-fails refl refl (at-receiver c.args.running.now.flow c.args.edge c.dst-node.ensures log.part) c.from_residual.ensures.1 (stays-shaped {T = Unit {0}} (Err e) new log.shaped)
-    (λ sys state s. left-answers (Unit {0}) sys state step e new after log.part.undamaged (
-      found-enabled sys state c.args.edge (option_copied c.args.at) c.in-Some.field-0 old before s c.requires.shaped c.in-Some.ensures,
+    let at = at-receiver c.args.running.now.flow c.args.edge c.dst-node.ensures log.part in
+    step-fails refl refl at c.from_residual.ensures.1 (stays-shaped {T = Unit {0}} (Err e) new log.shaped)
+    (λ sys state s. left-answers (Unit {0}) sys state step e new after log.part.undamaged (λ failed. (
+      delivery-asks sys state c.args.edge (option_copied c.args.at)
+          (subst (λ (flow : Dataflow). policy_of flow (receiver flow c.args.edge) ≡ policy.Full) s.apart.flow (at.calls failed))
+          (found-enabled sys state c.args.edge (option_copied c.args.at) c.in-Some.field-0 old before s c.requires.shaped c.in-Some.ensures),
       unasked-stands sys old new before after state s log.others log.stays,
-    ))
+    )))
 
 pub returns-in_err-take_in-clause-answers : goal.returns-in_err-take_in-clause-answers
 returns-in_err-take_in-clause-answers g c =

@@ -1,7 +1,8 @@
 use Rattle.std.proofs.Common.{◌≡◌, ◌<◌, true, false, Err, Ok, Option, ap, length, refl, subst, sym, ◌∙◌}
 use Rattle.std.specs.Option.{option_copied}
 use Rattle.fw_time.specs.Stamp.{Stamp}
-use Rattle.fw_flow.specs.Dataflow.{Dataflow, kind_of, is_notified_kind}
+use Rattle.fw_flow.specs.declared.kind.Policy.TheVariants as policy
+use Rattle.fw_flow.specs.Dataflow.{Dataflow, kind_of, policy_of, is_notified_kind}
 use Rattle.fw_rollback.specs.declared.parts.Parts.{Parts}
 use Rattle.fw_running.specs.Kept.{is_down}
 use Rattle.fw_running.proofs.BroughtUpLaws.{brought_up_shaped}
@@ -54,6 +55,7 @@ returns-in_err-notify_of-clause-answers g c =
     let found = subst (λ (o : Option Stamp). FindsNotice old.flow old.progress c.args.node at o) c.in-Some.is c.in_ok-at.ensures.found in
     step-fails refl c.find_notice.ensures.flow heard.part c.from_residual-in_err-notify_of.ensures.1 heard.shaped (λ sys state s.
     fault-answers (Unit {0}) sys state c.args.node t at e old new before after s live found
+    (λ failed. subst (λ (flow : Dataflow). policy_of flow c.args.node ≡ policy.Full) c.find_notice.ensures.flow (heard.part.calls failed))
     (notice-taken_up {T = Unit {0}} sys state c.args.node at t old up new before after (Err e) s live c.in_ok-at.ensures.up found heard.takes))
 
 pub returns-clause-answers : goal.returns-clause-answers

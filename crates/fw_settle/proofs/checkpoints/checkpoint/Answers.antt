@@ -6,6 +6,7 @@ use Rattle.fw_flow.specs.declared.step.Step.TheVariants.{Checkpoint}
 use Rattle.fw_flow.specs.Dataflow.{Dataflow, bounds_of}
 use Rattle.fw_model.specs.Machine.{front_of}
 use Rattle.fw_running.proofs.AnswerLaws.{left-answers}
+use Rattle.fw_running.proofs.NeedsLaws.{checkpoint-asks}
 use Rattle.fw_running.proofs.SameStateLaws.{unasked-stands}
 use Rattle.fw_running.proofs.StepLaws.{stays-shaped, step-did, step-fails, step-idle, step-refused, step-refused_first}
 use Rattle.fw_settle.proofs.AskLaws.{asking-part}
@@ -57,10 +58,10 @@ returns-in_err-ask_checkpoint-clause-answers g c =
     let e = c.in_err-ask_checkpoint.field-0.0 in
     step-fails {T = Unit {0}} {mid = old} refl refl (asking-part {old = old} may.asks asked.others asked.stored asked.faults asked.undamaged asked.tells) c.from_residual-in_err-ask_checkpoint.ensures.1
     (stays-shaped {T = Unit {0}} (Err e) new asked.shaped) (λ sys state s.
-    left-answers (Unit {0}) sys state (Checkpoint c.args.node) e new after asked.undamaged (
-      checkpoint-enabled sys state old before s c.args.node may,
+    left-answers (Unit {0}) sys state (Checkpoint c.args.node) e new after asked.undamaged (λ failed. (
+      checkpoint-asks sys state c.args.node (checkpoint-enabled sys state old before s c.args.node may),
       unasked-stands sys old new before after state s asked.others asked.stays,
-    ))
+    )))
 
 pub settle_when_asked-requires-clause-there : goal.settle_when_asked-requires-clause-there
 settle_when_asked-requires-clause-there g c =

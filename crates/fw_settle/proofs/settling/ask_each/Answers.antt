@@ -1,9 +1,9 @@
 use Rattle.std.proofs.Common.{◌≡◌, ◌+◌, rules, Some, None, Err, ap, refl, subst, ◌∙◌, length}
 use Rattle.fw_running.specs.declared.running.Running.{Running}
 use Rattle.fw_running.specs.Faults.{faults_after_step}
-use Rattle.fw_running.specs.Steps.{HasEager, PartAnswers}
+use Rattle.fw_running.specs.Steps.{PartAnswers}
 use Rattle.fw_running.proofs.StepLaws.{part-err}
-use Rattle.fw_settle.specs.Settling.{IsFoundToSettle}
+use Rattle.fw_settle.specs.Settling.{HasEagerToSettle, IsFoundToSettle}
 use Rattle.fw_settle.proofs.AskLaws.{adds-refused}
 use Rattle.fw_settle.proofs.SearchLaws.{HaveAskedUpTo, asking-first, asking-next, asking-all, has_eager, keep-both, drawn_up_to, drawing-next, drawing-last}
 use Rattle.fw_running.proofs.DrawnLaws.{draws_nothing}
@@ -40,7 +40,8 @@ loop-next-preserved g c =
           (subst (HaveAskedUpTo old mid before between) next c.loop-next.invariant.asked) c.in_ok-ask_if_eager.ensures.asked
           (subst (λ n. IsFoundToSettle new (n + 1) c.grown_from-next-in-Some.result) c.place.ensures c.grown_from-next-in-Some.ensures);
       tells = c.ask_if_eager.ensures.part.tells ∙ c.loop-next.invariant.tells;
-      quiet = λ none. c.ask_if_eager.ensures.part.quiet (λ is. none (has_eager old mid node c.loop-next.invariant.others is)) ∙ c.loop-next.invariant.quiet none;
+      quiet = λ none. c.ask_if_eager.ensures.part.quiet (λ is. none (has_eager old mid before between node c.loop-next.invariant.others
+          (subst (HaveAskedUpTo old mid before between) next c.loop-next.invariant.asked) is)) ∙ c.loop-next.invariant.quiet none;
       faults = c.in_ok-ask_if_eager.ensures.part.faults ∙ c.loop-next.invariant.faults;
       draws = drawing-next old mid new before between after node c.grown_from-next-in-Some.result c.loop-next.invariant.others
           (subst (HaveAskedUpTo old mid before between) next c.loop-next.invariant.asked)
@@ -68,8 +69,13 @@ pub returns-in_err-ask_if_eager-clause-part : goal.returns-in_err-ask_if_eager-c
 returns-in_err-ask_if_eager-clause-part g c =
     let h = c.loop-next.invariant in
     let part = c.in_err-ask_if_eager.ensures.part in
-    let eager = has_eager c.args.running.now c.loop-next.running c.in-Some.node h.others in
-    let all : PartAnswers {T = Unit {0}} g.K.Store.view (HasEager c.args.running.now.flow) c.args.running.now c.args.store.now (Err c.in_err-ask_if_eager.field-0.0)
+    let old = c.args.running.now in
+    let mid = c.loop-next.running in
+    let before = (g.K.Store.view c.args.store.now).records in
+    let between = (g.K.Store.view c.loop-next.store).records in
+    let next : c.loop-next.next ≡ Some c.in-Some.node = search rules in
+    let eager = has_eager old mid before between c.in-Some.node h.others (subst (HaveAskedUpTo old mid before between) next h.asked) in
+    let all : PartAnswers {T = Unit {0}} g.K.Store.view (HasEagerToSettle old) c.args.running.now c.args.store.now (Err c.in_err-ask_if_eager.field-0.0)
     c.ask_if_eager.new.running c.ask_if_eager.new.store = record {
       stored = part.stored;
       flow = part.flow ∙ ap (λ (r : Running). r.flow) h.others;

@@ -3,7 +3,7 @@ use Rattle.fw_keep.specs.Stored.{IsStored}
 use Rattle.fw_running.specs.Drawn.{DrawsAtMost}
 use Rattle.fw_running.specs.Logging.{ChangesKeep}
 use Rattle.fw_running.specs.Shaped.{IsShaped}
-use Rattle.fw_running.specs.Steps.{HasEager}
+use Rattle.fw_settle.specs.Settling.{HasEagerToSettle}
 use Rattle.fw_settle.proofs.SearchLaws.{HaveAskedUpTo, drawn_up_to, left}
 use Rattle.fw_settle.proofs.settling.ask_each.Given as goal
 
@@ -14,7 +14,7 @@ invariant-loop-next g l = record {
   stored : IsStored l.running.parts.keep (g.K.Store.view l.store).records;
   asked : HaveAskedUpTo l.fn.running l.running (g.K.Store.view l.fn.store).records (g.K.Store.view l.store).records l.next;
   tells : is_some (g.K.Store.view l.store).records ≡ is_some (g.K.Store.view l.fn.store).records;
-  quiet : (HasEager l.fn.running.flow → ⊥) → l.store ≡ l.fn.store;
+  quiet : (HasEagerToSettle l.fn.running → ⊥) → l.store ≡ l.fn.store;
   faults : (g.K.Store.view l.store).faults ≡ (g.K.Store.view l.fn.store).faults;
   draws : DrawsAtMost (drawn_up_to (length l.fn.running.flow.nodes) l.next) l.fn.running.parts.keep l.running.parts.keep
       (g.K.Store.view l.fn.store).records (g.K.Store.view l.store).records;

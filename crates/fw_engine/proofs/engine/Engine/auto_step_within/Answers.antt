@@ -18,4 +18,4 @@ returns-then-self g c = within-refused c.args.came.now c.if-self.true c.requires
 pub returns : goal.returns
 returns g c =
     let stepped = c.take_first_within-stepped.ensures in
-    within-answered c.args.came.now c.if-self.false c.ids_ascend-2.ensures c.is_refusal-self.ensures stepped.takes stepped.part stepped.idle
+    within-answered c.args.came.now c.if-self.false c.ids_ascend-2.ensures c.is_refusal-self.ensures stepped.takes stepped.part stepped.idle stepped.draws
